@@ -1,0 +1,5 @@
+pub mod Laws
+pub mod Places
+pub mod Sums
+pub mod UnitLemmas
+mod Ranges

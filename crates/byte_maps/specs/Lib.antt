@@ -1,0 +1,3 @@
+pub mod ByteMap
+pub mod Totals
+pub mod Units

@@ -1,0 +1,19 @@
+-- Sets of units as ascending lists.
+use Rattle.std.specs.Prelude.{◌≡◌, ℕ, ◌<◌, ◌≤◌, List, [], ◌∷◌, length, slice_index}
+use Rattle.std.specs.List.{AllByRecursion}
+
+-- each unit is below those behind it
+abbrev pub Ascends : List ℕ → Type 0
+Ascends [] = Unit {0}
+Ascends (u ∷ us) = AllByRecursion (λ v. u < v) us × Ascends us
+
+-- the unit stands at this place
+pub record IsPlaceOf (us : List ℕ) (u at : ℕ) : Type 0 where
+  pub within : at < length us
+  pub same : slice_index us at ≡ u
+
+-- the unit stands nowhere, and would go to this place
+pub record IsGapFor (us : List ℕ) (u at : ℕ) : Type 0 where
+  pub within : at ≤ length us
+  pub below : (k : ℕ) → k < at → slice_index us k < u
+  pub above : (k : ℕ) → at ≤ k → k < length us → u < slice_index us k

@@ -1,0 +1,4 @@
+pub mod Linear
+pub mod TableFacts
+pub mod Many
+pub mod Laws

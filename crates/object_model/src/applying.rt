@@ -1,0 +1,76 @@
+//! The effect of an operation on what stands under the name of its collection.
+ghost use Rattle.std.specs.Prelude.{Some};
+ghost use Rattle.object_model.specs.Effect.{effect, effect_on, effects};
+ghost use Rattle.object_model.specs.Gives.{Gives};
+
+use crate::collection::*;
+use crate::fault::ArgFault;
+use crate::op::{Op, Refusal};
+use byte_maps::ByteMap;
+use std::alloc::Global;
+
+// The operations on a collection that is there and stays.
+fn effect_on(alloc: Global, op: &Op, c: Collection) -> Result<Option<Collection>, ArgFault>
+    ensures { Gives result (effect_on op.now c) }
+{
+    Ok(Some(match op {
+        Op::MkColl => return Err(ArgFault::Refused(Refusal::CollectionExists)),
+        Op::RmColl if c.len() == 0 => return Ok(None),
+        Op::RmColl => return Err(ArgFault::Refused(Refusal::NotEmpty)),
+        Op::Touch { object } => touch(alloc, c, object)?,
+        Op::Write { object, off, bytes } => write(alloc, c, object, *off, bytes)?,
+        Op::Zero { object, off, len } => zero(alloc, c, object, *off, *len)?,
+        Op::Truncate { object, size } => truncate(alloc, c, object, *size)?,
+        Op::Remove { object } => remove(c, object),
+        Op::SetAttr {
+            object,
+            name,
+            value,
+        } => set_attr(alloc, c, object, name, value)?,
+        Op::RmAttr { object, name } => rm_attr(alloc, c, object, name)?,
+        Op::RmAttrs { object } => rm_attrs(alloc, c, object)?,
+        Op::Clone { object, to } => clone(alloc, c, object, to)?,
+        Op::CloneRange {
+            object,
+            to,
+            src,
+            len,
+            dst,
+        } => clone_range(alloc, c, object, to, *src, *len, *dst)?,
+        Op::OmapSet { object, pairs } => omap_set(alloc, c, object, pairs.as_slice())?,
+        Op::OmapRm { object, keys } => omap_rm(alloc, c, object, keys.as_slice())?,
+        Op::OmapRmRange {
+            object,
+            first,
+            last,
+        } => omap_rm_range(alloc, c, object, first, last)?,
+        Op::OmapClear { object } => omap_clear(alloc, c, object)?,
+        Op::OmapHeader { object, value } => omap_header(alloc, c, object, value)?,
+    }))
+}
+
+/// The effect of an operation. The collection is consumed: a refusal drops it.
+pub fn effect(alloc: Global, op: &Op, c: Option<Collection>) -> Result<Option<Collection>, ArgFault>
+    ensures { Gives result (effect op.now c) }
+{
+    match (c, op) {
+        (Some(c), op) => effect_on(alloc, op, c),
+        (None, Op::MkColl) => Ok(Some(ByteMap::new(alloc))),
+        (None, _) => Err(ArgFault::Refused(Refusal::NoCollection)),
+    }
+}
+
+/// The effects of operations, one after the other, up to the first refusal.
+pub fn effects(
+    alloc: Global,
+    ops: &[Op],
+    start: Option<Collection>,
+) -> Result<Option<Collection>, ArgFault>
+    ensures { Gives result (effects ops.now start) }
+{
+    let mut c = start;
+    for op in ops {
+        c = effect(alloc, op, c)?;
+    }
+    Ok(c)
+}

@@ -1,0 +1,39 @@
+//! Why a transaction was not applied.
+ghost use Rattle.std.specs.Prelude.{◌≡◌};
+ghost use Rattle.object_model.specs.declared.fault.ArgFault.TheVariants.{Memory, Refused};
+
+use crate::op::Refusal;
+use std::alloc::{AllocError, AllocFailed};
+
+/// A transaction was refused, or memory ran out before that was known.
+#[derive(Debug, Drop)]
+pub enum ArgFault {
+    /// Want of memory.
+    Memory,
+    /// The first refusal among its operations, or `TooBig` for the whole of it.
+    Refused(Refusal),
+}
+
+impl From<Refusal> for ArgFault {
+    ghost from_gives = { λ refusal e. e ≡ Refused refusal };
+
+    fn from(refusal: Refusal) -> ArgFault {
+        ArgFault::Refused(refusal)
+    }
+}
+
+impl From<AllocError> for ArgFault {
+    ghost from_gives = { λ _ e. e ≡ Memory };
+
+    fn from(_e: AllocError) -> ArgFault {
+        ArgFault::Memory
+    }
+}
+
+impl<T: Drop> From<AllocFailed<T>> for ArgFault {
+    ghost from_gives = { λ _ e. e ≡ Memory };
+
+    fn from(_e: AllocFailed<T>) -> ArgFault {
+        ArgFault::Memory
+    }
+}

@@ -1,0 +1,13 @@
+pub mod LogLemmas
+pub mod Pendings
+pub mod Told
+pub mod ImageLemmas
+pub mod FlightLemmas
+pub mod RangeLemmas
+pub mod ReadLemmas
+pub mod AnswerLemmas
+pub mod Places
+pub mod PutLemmas
+pub mod MemoryLemmas
+pub mod LawLemmas
+pub mod QuietLemmas

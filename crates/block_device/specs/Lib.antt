@@ -1,0 +1,11 @@
+pub mod Log
+pub mod Tests
+pub mod Disk
+pub mod Facts
+pub mod Image
+pub mod Laying
+pub mod Fails
+pub mod Pending
+pub mod Memory
+pub mod MemoryInside
+pub mod Laws

@@ -1,0 +1,22 @@
+//! What a store meets at its ends: where its text comes from and goes to, who hands it devices and
+//! scripts by name, and who is asked before each turn. Each as a trait, and in memory for tests.
+#![tactic(auto)]
+
+mod bay;
+mod gate;
+mod memory_bay;
+mod memory_sink;
+mod memory_source;
+mod sink;
+mod source;
+
+pub use bay::{Bay, How};
+pub use gate::{Gate, OpenGate, Pass, Role};
+pub use memory_bay::{Call, MemoryBay, Plan};
+pub use memory_sink::MemorySink;
+pub use memory_source::MemorySource;
+pub use sink::{Fault, Sink};
+pub use source::Source;
+
+#[cfg(test)]
+mod tests;

@@ -1,0 +1,65 @@
+-- Extents: runs of an object's pages, and where they stand.
+use Rattle.std.specs.Prelude.{◌≡◌, ℕ, ◌+◌, ◌-◌, ◌<◌, ◌≤◌, ◌^◌, nat_lt, nat_le, ◌&&◌, List, [], ◌∷◌, ◌++◌, length, Option, Some, None, if◌then◌else◌, slice_index}
+use Rattle.std.specs.List.{flat_map, AllByRecursion}
+use Rattle.std.specs.Int.{w16, w32, to_le_bytes}
+
+-- Where the pages of a run stand: on consecutive units of the object's own, from this one on, with one checksum for each page.
+-- (Slots of a shared blob are to be the other case.)
+pub data Body : Type 0 where
+  private : (unit : ℕ) (csums : List ℕ) → Body
+
+-- consecutive pages from `first` on
+pub record Extent : Type 0 where
+  pub first : ℕ
+  pub body : Body
+
+-- how many pages stand there
+abbrev pub page_count : Body → ℕ
+page_count (private unit csums) = length csums
+
+-- the page behind an extent's last
+abbrev pub page_end : Extent → ℕ
+page_end e = e.first + page_count e.body
+
+-- the kind, and what it wants
+abbrev pub body_bytes : Body → List ℕ
+body_bytes (private unit csums) = 0 ∷ (to_le_bytes w32 unit ++ flat_map (to_le_bytes w32) csums)
+
+-- the one spelling of an extent: its first page, the number of its pages, and where they stand
+abbrev pub extent_bytes : Extent → List ℕ
+extent_bytes e = to_le_bytes w32 e.first ++ (to_le_bytes w16 (page_count e.body) ++ body_bytes e.body)
+
+-- 1 to 256 pages, and numbers that fit their fields
+abbrev pub FitsBody : Body → Type 0
+FitsBody (private unit csums) = (unit < 2 ^ 32) × (0 < length csums) × (length csums ≤ 256) × AllByRecursion (λ csum. csum < 2 ^ 32) csums
+
+-- what has a spelling
+pub record FitsExtent (e : Extent) : Type 0 where
+  pub first : e.first < 2 ^ 32
+  pub body : FitsBody e.body
+
+-- the extents ascend, and none reaches into the next
+abbrev pub Ascend : List Extent → Type 0
+Ascend [] = Unit {0}
+Ascend (e ∷ es) = AllByRecursion (λ later. page_end e ≤ later.first) es × Ascend es
+
+-- the first extent begins at this page
+abbrev pub BeginsAt : ℕ → List Extent → Type 0
+BeginsAt page [] = ⊥
+BeginsAt page (e ∷ es) = e.first ≡ page
+
+-- where a page stands, and the checksum that is kept for it
+pub record Place : Type 0 where
+  pub unit : ℕ
+  pub csum : ℕ
+
+-- the place of the page number i of those that stand there
+abbrev pub place_in : Body → ℕ → Place
+place_in (private unit csums) i = record { unit = unit + i; csum = slice_index csums i }
+
+-- the place of a page, if one of the extents has it
+abbrev pub place_of : List Extent → ℕ → Option Place
+place_of [] page = None
+place_of (e ∷ es) page = if nat_le e.first page && nat_lt page (page_end e)
+    then Some (place_in e.body (page - e.first))
+    else place_of es page

@@ -1,0 +1,43 @@
+-- Rows as what they say. The kinds here are collections, onodes and shards of extents; the others of the keys' table are to be further cases.
+use Rattle.std.specs.Prelude.{◌≡◌, ℕ, ◌<◌, ◌^◌, List, []}
+use Rattle.std.specs.List.{flat_map, AllByRecursion}
+use Rattle.std.specs.Int.{w64, to_le_bytes}
+use Rattle.unit_fields.specs.Names.{IsName, IsCollName}
+use Rattle.row_format.specs.Keys.{coll_key, onode_key, shard_key}
+use Rattle.row_format.specs.Extents.{Extent, extent_bytes, FitsExtent, BeginsAt}
+
+pub data Row : Type 0 where
+  collection : (c : List ℕ) → Row
+  onode : (c o : List ℕ) (size : ℕ) → Row
+  shard : (c o : List ℕ) (page : ℕ) (extents : List Extent) → Row
+
+abbrev pub row_key : Row → List ℕ
+row_key (collection c) = coll_key c
+row_key (onode c o size) = onode_key c o
+row_key (shard c o page extents) = shard_key c o page
+
+abbrev pub row_value : Row → List ℕ
+row_value (collection c) = []
+row_value (onode c o size) = to_le_bytes w64 size
+row_value (shard c o page extents) = flat_map extent_bytes extents
+
+-- a shard has at least one extent, and the first is at the page of its key
+pub record FitsShard (c o : List ℕ) (page : ℕ) (extents : List Extent) : Type 0 where
+  pub coll_name : IsCollName c
+  pub object_name : IsName o
+  pub page_below : page < 2 ^ 32
+  pub begins : BeginsAt page extents
+  pub fit : AllByRecursion FitsExtent extents
+
+-- what the table has
+abbrev pub FitsRow : Row → Type 0
+FitsRow (collection c) = IsCollName c
+FitsRow (onode c o size) = IsCollName c × IsName o × (size < 2 ^ 64)
+FitsRow (shard c o page extents) = FitsShard c o page extents
+
+-- two rows say something of the same thing
+abbrev pub IsOfSameThing : Row → Row → Type 0
+IsOfSameThing (collection c) (collection d) = c ≡ d
+IsOfSameThing (onode c o size) (onode d u other) = (c ≡ d) × (o ≡ u)
+IsOfSameThing (shard c o page es) (shard d u other fs) = (c ≡ d) × (o ≡ u) × (page ≡ other)
+IsOfSameThing _ _ = ⊥

@@ -1,0 +1,9 @@
+//! The rows of the metadata store as definitions: their keys, and the spelling of onodes and extents.
+//!
+//! The codecs cite these definitions for what they read and write, and what an image stands for is said by them.
+//! In Ceph's BlueStore the same things are the keys of the `O`, `C`, `M`, `X`, `L` and `b` prefixes in RocksDB.
+#![tactic(auto)]
+
+mod laws;
+
+pub use laws::{different_things_have_different_keys, one_row_for_a_spelling};

@@ -1,0 +1,6 @@
+pub mod ByteLemmas
+pub mod OneObjects
+pub mod OwnedUnits
+pub mod PageMap
+pub mod ChanceLemmas
+pub mod StartLemmas

@@ -1,0 +1,49 @@
+-- Bad rows: those that the table doesn't have, and those that the rows around them contradict.
+use Rattle.std.specs.Prelude.{◌≡◌, ℕ, ◌+◌, ◌<◌, ◌≤◌, List, length, Some}
+use Rattle.std.specs.List.{AllByRecursion}
+use Rattle.std.specs.FinMap as map
+use Rattle.meta_rows.specs.Rows.{Rows}
+use Rattle.meta_log.specs.declared.slot.Super.{Super}
+use Rattle.meta_log.specs.Slots.{data_unit}
+use Rattle.row_format.specs.Keys.{coll_key, onode_key}
+use Rattle.row_format.specs.Extents.{Body, private, Extent, page_end, Ascend}
+use Rattle.row_format.specs.Row.{Row, collection, onode, shard, row_key, row_value, FitsRow}
+use Rattle.store_image.specs.Pages.{HasKey, HasRow, pages_of}
+
+-- the pages stand on data units
+abbrev pub IsOnData : Super → Body → Type 0
+IsOnData s (private unit csums) = (data_unit s ≤ unit) × (unit + length csums ≤ s.units)
+
+-- What a shard needs: its collection's and its object's rows, ascending extents that begin behind those of each earlier
+-- shard of the object and end within the object's size, all on data units. Of two shards that overlap the later is bad.
+pub record IsShardInPlace (s : Super) (rows : Rows) (c o : List ℕ) (page : ℕ) (extents : List Extent) : Type 0 where
+  pub has_collection : HasKey rows (coll_key c)
+  pub has_onode : HasKey rows (onode_key c o)
+  pub ascend : Ascend extents
+  pub behind : (earlier : ℕ) (es : List Extent) → earlier < page → HasRow rows (shard c o earlier es) → AllByRecursion (λ e. page_end e ≤ page) es
+  pub within : (size : ℕ) → HasRow rows (onode c o size) → AllByRecursion (λ e. page_end e ≤ pages_of size) extents
+  pub on_data : AllByRecursion (λ e. IsOnData s e.body) extents
+
+-- what a row of the table needs of the store and of the other rows
+abbrev pub IsInPlace : Super → Rows → Row → Type 0
+IsInPlace s rows (collection c) = Unit {0}
+IsInPlace s rows (onode c o size) = HasKey rows (coll_key c) × (size ≤ 134217728)
+IsInPlace s rows (shard c o page extents) = IsShardInPlace s rows c o page extents
+
+-- the key and the value are a row of the table, and in its place
+pub record IsGoodRow (s : Super) (rows : Rows) (key value : List ℕ) : Type 0 where
+  pub row : Row
+  pub fits : FitsRow row
+  pub key_is : key ≡ row_key row
+  pub value_is : value ≡ row_value row
+  pub in_place : IsInPlace s rows row
+
+-- the row under this key is bad
+pub record IsBadRow (s : Super) (rows : Rows) (key : List ℕ) : Type 0 where
+  pub value : List ℕ
+  pub stands : map.get rows key ≡ Some value
+  pub is_not_good : ¬ IsGoodRow s rows key value
+
+-- each row is good
+abbrev pub NoBadRow : Super → Rows → Type 0
+NoBadRow s rows = (key value : List ℕ) → map.get rows key ≡ Some value → IsGoodRow s rows key value

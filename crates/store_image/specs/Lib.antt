@@ -1,0 +1,6 @@
+pub mod Pages
+pub mod BadRows
+pub mod Owners
+pub mod Stands
+pub mod Chance
+pub mod Durability

@@ -1,0 +1,52 @@
+//! What the definitions come to.
+
+ghost use Rattle.std.specs.Prelude.{◌≡◌, ◌↔◌, ℕ, List, [], length};
+ghost use Rattle.byte_maps.specs.Units.{IsUnits};
+ghost use Rattle.block_device.specs.Log.{last, IsCrashImage};
+ghost use Rattle.block_device.specs.Disk.{History};
+ghost use Rattle.block_device.specs.declared.event.Event.{Event};
+ghost use Rattle.meta_rows.specs.Rows.{Rows};
+ghost use Rattle.object_model.specs.Objects.{Objects};
+ghost use Rattle.meta_log.specs.declared.slot.Super.{Super};
+ghost use Rattle.row_format.specs.Extents.{Place};
+ghost use Rattle.store_image.specs.Pages.{IsPageAt};
+ghost use Rattle.store_image.specs.BadRows.{IsBadRow, NoBadRow};
+ghost use Rattle.store_image.specs.Owners.{IsOwned};
+ghost use Rattle.store_image.specs.Chance.{NoChanceMatch, NoTornMatch};
+ghost use Rattle.store_image.specs.Durability.{IsStart, EachCutStands};
+ghost use Rattle.store_image.specs.Stands.{ObjectsStand, StandsFor};
+
+/// An image stands for at most one Objects.
+pub fn stands_for_one()
+    ensures { (image : List ℕ) (a b : Objects) → StandsFor image a → StandsFor image b → a ≡ b }
+{}
+
+/// What rows and units stand for depends on the rows and on the units that they own, and on no other unit.
+pub fn only_owned_units_matter()
+    ensures { (at at' : ℕ → List ℕ) (rows : Rows) (objects : Objects) →
+        ((unit : ℕ) → IsOwned rows unit → at unit ≡ at' unit) → ObjectsStand at rows objects → ObjectsStand at' rows objects }
+{}
+
+/// Where no row is bad, a page of an object stands at one place or at none: the page map is a function.
+pub fn one_place_for_a_page()
+    ensures { (s : Super) (rows : Rows) → NoBadRow s rows → (c o : List ℕ) (page : ℕ) (a b : Place) →
+        IsPageAt rows c o page a → IsPageAt rows c o page b → a ≡ b }
+{}
+
+/// Good rows have no bad one.
+pub fn good_rows_have_no_bad_one()
+    ensures { (s : Super) (rows : Rows) → NoBadRow s rows → (key : List ℕ) → ¬ IsBadRow s rows key }
+{}
+
+/// Of a crash image it is the same to ask of each record and slot, or of those with a dirty unit alone, that none is valid
+/// by chance: what is clean stands as it was last written.
+pub fn chance_concerns_torn_units_alone()
+    ensures { (start : List ℕ) (log : List Event) (image : List ℕ) → IsCrashImage start log image →
+        NoChanceMatch start log image ↔ NoTornMatch start log image }
+{}
+
+/// Prefix durability holds where nothing has happened since the start yet, for a book without entries.
+pub fn a_start_is_durable()
+    ensures { (units : ℕ) (h : History) (objects : Objects) → IsUnits units h.start → IsUnits units (last h.start h.log) →
+        IsStart (length h.log) h objects → EachCutStands (length h.log) h objects (record { entries = []; commits = [] }) }
+{}

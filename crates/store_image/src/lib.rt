@@ -1,0 +1,9 @@
+//! What an image of a device stands for, as definitions and the laws that they deserve: bad rows, the page map, owners of
+//! units, the objects that rows and units stand for, the premise on chance, and prefix durability.
+#![tactic(auto)]
+
+mod laws;
+
+pub use laws::{
+    good_rows_have_no_bad_one, one_place_for_a_page, only_owned_units_matter, stands_for_one,
+};

@@ -1,0 +1,5 @@
+pub mod CallLemmas
+pub mod ZeroLemmas
+pub mod StaleLemmas
+pub mod CleanLemmas
+pub mod MadeLemmas

@@ -1,0 +1,13 @@
+use Rattle.std.proofs.Common.{◌≡◌, sym, arith}
+use Rattle.mount_replay.proofs.MadeLemmas.{holds_empty_store}
+use Rattle.mount_replay.proofs.making.make.Goals as goal
+
+pub returns-clause-made : goal.returns-clause-made
+returns-clause-made g c quiet =
+    let disk = g.D.Device.disk in
+    let first = c.in_ok-clear.ensures in
+    let second = c.in_ok-write_slot.ensures in
+    let units = (disk c.clear.new.dev).units in
+    let same : units ≡ (disk c.write_slot.new.dev).units = sym second.later.units in
+    holds_empty_store c.args.half c.args.prefer units (disk c.args.dev.now) (disk c.clear.new.dev) (disk c.write_slot.new.dev) c.requires.least c.requires.most c.requires.prefer
+    (omega (arith, c.requires.room, first.later.units)) same second.later.idle c.units-2.ensures.sound first.cleared second.made quiet

@@ -1,0 +1,44 @@
+-- Calls of a device, made one at a time: each is submitted with nothing else in flight, and its end is awaited.
+use Rattle.std.specs.Prelude.{◌≡◌, ℕ, Bool, List, [], ◌∷◌, ◌++◌, length, map, Option, Some, None}
+use Rattle.block_device.specs.Disk.{Disk, History, Flight, grown}
+use Rattle.block_device.specs.declared.event.Event.{Event}
+use Rattle.block_device.specs.declared.event.Event.TheVariants.{Done}
+
+-- this ticket alone is in flight
+abbrev pub IsOnly : ℕ → List Flight → Type 0
+IsOnly ticket flights = map (λ f. f.ticket) flights ≡ ticket ∷ []
+
+-- the ticket in flight has ended
+abbrev pub Ended : Disk → ℕ → Bool → Disk → Type 0
+Ended old ticket ok new = new ≡ record old { flights = []; waits = 0; history = grown old.history (Done ticket ok) }
+
+-- the history with a submission and its end
+abbrev pub after_call : Event → Bool → History → History
+after_call event ok h = record { start = h.start; log = (h.log ++ event ∷ []) ++ Done (length h.log) ok ∷ [] }
+
+abbrev pub with_call : Event → Bool → Option History → Option History
+with_call event ok None = None
+with_call event ok (Some h) = Some (after_call event ok h)
+
+-- one call was made and has ended
+abbrev pub Called : Disk → Event → Bool → Disk → Type 0
+Called old event ok new = new ≡ record old { waits = 0; history = with_call event ok old.history }
+
+-- what is told before and after, if anything is
+abbrev pub Told : (History → History → Type 0) → Option History → Option History → Type 0
+Told P None None = Unit {0}
+Told P (Some old) (Some new) = P old new
+Told P old new = ⊥
+
+-- the history has gone on
+pub record GoesOn (old new : History) : Type 0 where
+  pub same_start : new.start ≡ old.start
+  pub events : List Event
+  pub more : new.log ≡ old.log ++ events
+
+-- the same device later, with nothing in flight
+pub record IsLater (old new : Disk) : Type 0 where
+  pub units : new.units ≡ old.units
+  pub depth : new.depth ≡ old.depth
+  pub idle : new.flights ≡ []
+  pub told : Told GoesOn old.history new.history

@@ -1,0 +1,6 @@
+pub mod Calls
+pub mod Zeroing
+pub mod Stale
+pub mod NewSuper
+pub mod Cleared
+pub mod Made

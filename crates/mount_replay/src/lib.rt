@@ -1,0 +1,14 @@
+//! Making a store and opening it: what is done to a device before and after the kernel works on it.
+//!
+//! In Ceph's BlueStore these are `mkfs`, and the part of `mount` that reads the superblock and replays the log.
+#![tactic(auto)]
+
+mod calls;
+mod making;
+mod stale;
+mod zeroing;
+
+pub use making::{MkfsFail, mkfs};
+
+#[cfg(test)]
+mod tests;

@@ -1,0 +1,30 @@
+-- The texts of runs, as they are formatted.
+use Rattle.std.proofs.Common.{◌≡◌, ℕ, ◌+◌, ◌-◌, ◌*◌, ◌<◌, List, [], ◌∷◌, ◌++◌, Result, Ok, Err, IfOk, String, codes, ap, ◌∙◌, append_assoc, sym, refl, arith}
+use Rattle.std.specs.Prelude.{string_bytes}
+use Rattle.std.specs.Fmt.{decimal}
+use Rattle.std.specs.declared.alloc.Global.{Global}
+use Rattle.std.proofs.lemmas.Fmt.{decimal_digit}
+use Rattle.bstore_top.specs.declared.status.Stop.{Stop}
+use Rattle.bstore_top.specs.declared.status.Stop.TheVariants.{Refused}
+use Rattle.bstore_top.specs.Status.{stop_number}
+use Rattle.bstore_top.specs.Texts.{as_text, made_line, too_small_line, stopped_line}
+
+-- a status has one digit
+pub stopped_is : (stop : Stop) (n : ℕ) → stop_number stop ≡ n → n < 10 → as_text (stopped_line stop ∷ []) ≡ codes "stopped " ++ ((48 + n) ∷ 10 ∷ [])
+stopped_is stop n is one = ap (λ (d : List ℕ). codes "stopped " ++ (d ++ (10 ∷ []))) (ap (λ (m : ℕ). decimal m) is ∙ decimal_digit n one)
+
+pub made_is : (half units : ℕ) → codes "mkfs units=" ++ (decimal units ++ (codes " half=" ++ (decimal half ++ (codes " data=" ++ (decimal (units - 2 * half - 2) ++ (10 ∷ [])))))) ≡ as_text (made_line half units ∷ [])
+made_is half units = simp append_assoc
+
+abbrev before : ℕ → ℕ → List ℕ → List ℕ
+before half units tail = codes "mkfs TooSmall units=" ++ (decimal units ++ (codes " need=" ++ (decimal (2 * half + 3) ++ tail)))
+
+nested : (half units : ℕ) (tail : List ℕ) → before half units (10 ∷ tail) ≡ too_small_line half units ++ (10 ∷ tail)
+nested half units tail = simp append_assoc
+
+pub too_small_is : (half units : ℕ) → before half units (codes "\nstopped 4\n") ≡ as_text (too_small_line half units ∷ stopped_line Refused ∷ [])
+too_small_is half units = ap (λ (tail : List ℕ). before half units (10 ∷ tail)) (sym (stopped_is Refused 4 refl (omega arith))) ∙ nested half units (as_text (stopped_line Refused ∷ []))
+
+pub as_lines : {E : Type 0} (r : Result (String Global) E) (a b : List ℕ) → a ≡ b → IfOk r (λ text. string_bytes text ≡ a) → IfOk r (λ text. string_bytes text ≡ b)
+as_lines (Ok text) a b same is = is ∙ same
+as_lines (Err e) a b same is = tt

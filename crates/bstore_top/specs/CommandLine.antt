@@ -1,0 +1,40 @@
+-- Command lines: which words are one, and what they say.
+use Rattle.std.specs.Prelude.{◌≡◌, ◌≢◌, ◌⊎◌, ℕ, ◌<◌, ◌≤◌, List, [], ◌∷◌, length, map, drop, slice_index, codes, decimal, Vec, String, string_bytes}
+use Rattle.std.specs.declared.alloc.Global.{Global}
+use Rattle.bstore_top.specs.declared.command_line.CommandLine.{CommandLine}
+use Rattle.bstore_top.specs.declared.command_line.CommandLine.TheVariants.{Mkfs}
+
+-- the words that a program was started with, as their bytes: the first is its own name
+abbrev pub words_of : Vec (String Global) Global → List (List ℕ)
+words_of words = map string_bytes words.items
+
+-- a zero alone, or another digit at the front
+abbrev pub IsPlain : List ℕ → Type 0
+IsPlain text = (text ≡ 0x30 ∷ []) ⊎ ((0x31 ≤ slice_index text 0) × (slice_index text 0 ≤ 0x39))
+
+-- a device's name isn't empty, and doesn't begin with a dash
+abbrev pub IsDeviceName : List ℕ → Type 0
+IsDeviceName name = (0 < length name) × (slice_index name 0 ≢ 0x2d)
+
+-- the units of a log half, and of a device
+abbrev pub IsHalf : ℕ → Type 0
+IsHalf half = (8 ≤ half) × (half ≤ 65536)
+
+abbrev pub IsUnitCount : ℕ → Type 0
+IsUnitCount units = (1 ≤ units) × (units ≤ 1048576)
+
+abbrev pub IsInRange : CommandLine → Type 0
+IsInRange (Mkfs dev half units) = IsDeviceName dev × IsHalf half × IsUnitCount units
+
+-- a command line's words, behind the program's name
+abbrev pub spelling : CommandLine → List (List ℕ)
+spelling (Mkfs dev half units) = codes "mkfs" ∷ dev ∷ codes "--half" ∷ decimal half ∷ codes "--units" ∷ decimal units ∷ []
+
+-- the words spell this command line
+pub record Spells (words : List (List ℕ)) (line : CommandLine) : Type 0 where
+  pub in_range : IsInRange line
+  pub spelled : drop 1 words ≡ spelling line
+
+-- the words spell none
+abbrev pub IsNoCommandLine : List (List ℕ) → Type 0
+IsNoCommandLine words = (line : CommandLine) → ¬ Spells words line

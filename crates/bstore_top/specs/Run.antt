@@ -1,0 +1,80 @@
+-- What a run does.
+use Rattle.std.specs.Prelude.{◌≡◌, ◌⊎◌, ℕ, ◌<◌, ◌≤◌, List, [], Option, Some, None, IsSomeAnd}
+use Rattle.block_device.specs.Disk.{Disk, Rose}
+use Rattle.end_points.specs.Bay.{BayView, HandedOut}
+use Rattle.end_points.specs.declared.bay.How.{How}
+use Rattle.end_points.specs.declared.bay.How.TheVariants.{Make}
+use Rattle.mount_replay.specs.Calls.{IsLater}
+use Rattle.mount_replay.specs.NewSuper.{units_needed}
+use Rattle.mount_replay.specs.Made.{HoldsEmptyStore}
+use Rattle.object_model.specs.declared.book.Book.{Book}
+use Rattle.bstore_top.specs.declared.command_line.CommandLine.{CommandLine}
+use Rattle.bstore_top.specs.declared.command_line.CommandLine.TheVariants.{Mkfs}
+use Rattle.bstore_top.specs.declared.status.Stop.{Stop}
+use Rattle.bstore_top.specs.declared.status.Stop.TheVariants.{DeviceFault, Refused, OutOfMemory, BayFault}
+use Rattle.bstore_top.specs.CommandLine.{Spells}
+use Rattle.bstore_top.specs.Status.{end_number}
+use Rattle.bstore_top.specs.Texts.{as_text, text_of}
+use Rattle.bstore_top.specs.Printed.{Output, Printed}
+
+-- the store has room on a device of the units that were asked for, or it has none
+abbrev pub HasUnits : CommandLine → Type 0
+HasUnits (Mkfs dev half units) = units_needed half ≤ units
+
+abbrev pub LacksUnits : CommandLine → Type 0
+LacksUnits (Mkfs dev half units) = units < units_needed half
+
+-- Each end of a run has its cause. The counts of faults are those of the device, where there is one, and of the bay before and after.
+abbrev pub HasCause : CommandLine → Option Stop → Option ℕ → ℕ → ℕ → Type 0
+HasCause line None dev_faults bay_before bay_after = HasUnits line
+HasCause line (Some DeviceFault) dev_faults bay_before bay_after = HasUnits line × IsSomeAnd dev_faults (λ n. 0 < n)
+HasCause line (Some Refused) dev_faults bay_before bay_after = LacksUnits line
+HasCause line (Some OutOfMemory) dev_faults bay_before bay_after = Unit {0}
+HasCause line (Some BayFault) dev_faults bay_before bay_after = Rose bay_before bay_after
+
+-- A run of a command line: its work was done or stopped for a cause, and the text of that was printed.
+pub record Ran (line : CommandLine) (status : ℕ) (dev_faults : Option ℕ) (bay_before bay_after : ℕ) (old new : Output) : Type 0 where
+  pub stop : Option Stop
+  pub cause : HasCause line stop dev_faults bay_before bay_after
+  pub printed : Printed (end_number stop) (text_of line stop) status old new
+
+-- The text was printed of a run that stopped so, or for want of memory.
+pub record ReportedAs (line : CommandLine) (stop : Option Stop) (status : ℕ) (old new : Output) : Type 0 where
+  pub ended : Option Stop
+  pub same : (ended ≡ stop) ⊎ (ended ≡ Some OutOfMemory)
+  pub printed : Printed (end_number ended) (text_of line ended) status old new
+
+-- Words that spell no command line: some lines were printed.
+pub record ShowedUsage (status : ℕ) (old new : Output) : Type 0 where
+  pub lines : List (List ℕ)
+  pub printed : Printed 1 (as_text lines) status old new
+
+-- the disk is a later state of the device that the bay gave under this name
+pub record IsOfGiven (name : List ℕ) (how : How) (old : BayView) (disk : Disk) (new : BayView) : Type 0 where
+  pub given : Disk
+  pub handed_out : HandedOut old name how given 0 new
+  pub later : IsLater given disk
+
+-- the bay gave no device, or the one that comes back
+abbrev pub ComesBack : CommandLine → BayView → Option Disk → BayView → Type 0
+ComesBack line old None new = new ≡ old
+ComesBack (Mkfs name half units) old (Some disk) new = IsOfGiven name (Make units) old disk new
+
+-- of a run with these words: the bay gave no device, or the one that comes back, for the command line that they spell
+abbrev pub CameBack : List (List ℕ) → BayView → Option Disk → BayView → Type 0
+CameBack words old None new = new ≡ old
+CameBack words old (Some disk) new = (line : CommandLine) × (Spells words line × ComesBack line old (Some disk) new)
+
+-- the disk holds an empty store with the numbers that were asked for
+abbrev pub HasStore : CommandLine → Disk → Type 0
+HasStore (Mkfs name half units) disk = (disk.units ≡ units) × HoldsEmptyStore half 32768 disk
+
+-- for the command line that the words spell, where they spell one
+abbrev pub ForLine : List (List ℕ) → (CommandLine → Type 0) → Type 0
+ForLine words P = (line : CommandLine) → Spells words line → P line
+
+-- nothing was mounted, no script was opened, no thread was started
+pub record IsBare {S : Type 0} (sources : List S) (book : Book) (turns : List ℕ) : Type 0 where
+  pub no_source : sources ≡ []
+  pub no_book : book ≡ record { entries = []; commits = [] }
+  pub no_turn : turns ≡ []

@@ -1,0 +1,35 @@
+-- The texts that runs print.
+use Rattle.std.specs.Prelude.{ℕ, ◌-◌, ◌*◌, List, [], ◌∷◌, ◌++◌, Option, Some, None, codes, decimal}
+use Rattle.mount_replay.specs.NewSuper.{units_needed}
+use Rattle.bstore_top.specs.declared.command_line.CommandLine.{CommandLine}
+use Rattle.bstore_top.specs.declared.command_line.CommandLine.TheVariants.{Mkfs}
+use Rattle.bstore_top.specs.declared.status.Stop.{Stop}
+use Rattle.bstore_top.specs.declared.status.Stop.TheVariants.{Refused}
+use Rattle.bstore_top.specs.Status.{stop_number}
+
+-- lines as a text: each ends with a line feed
+abbrev pub as_text : List (List ℕ) → List ℕ
+as_text [] = []
+as_text (line ∷ lines) = line ++ (0x0a ∷ as_text lines)
+
+-- a store of so many units was made; the units but for the slots and the halves hold data
+abbrev pub made_line : ℕ → ℕ → List ℕ
+made_line half units = codes "mkfs units=" ++ decimal units ++ codes " half=" ++ decimal half ++ codes " data=" ++ decimal (units - 2 * half - 2)
+
+-- the device has fewer units than a store with such halves needs
+abbrev pub too_small_line : ℕ → ℕ → List ℕ
+too_small_line half units = codes "mkfs TooSmall units=" ++ decimal units ++ codes " need=" ++ decimal (units_needed half)
+
+-- the last line of a run that stopped before its work was done
+abbrev pub stopped_line : Stop → List ℕ
+stopped_line stop = codes "stopped " ++ decimal (stop_number stop)
+
+-- the lines of a run whose work was done, or stopped for this
+abbrev pub lines_of : CommandLine → Option Stop → List (List ℕ)
+lines_of (Mkfs dev half units) None = made_line half units ∷ []
+lines_of (Mkfs dev half units) (Some Refused) = too_small_line half units ∷ stopped_line Refused ∷ []
+lines_of line (Some stop) = stopped_line stop ∷ []
+
+-- and its text
+abbrev pub text_of : CommandLine → Option Stop → List ℕ
+text_of line stop = as_text (lines_of line stop)

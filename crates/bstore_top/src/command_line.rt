@@ -1,0 +1,105 @@
+//! Command lines: which words are one, and what they say.
+ghost use Rattle.std.specs.Prelude.{◌≡◌, ◌≢◌, ◌↔◌, ◌≤◌, ◌<◌, ◌^◌, ℕ, IsTrue, Some, IfSome, MatchOption, decimal, string_bytes};
+ghost use Rattle.bstore_top.specs.CommandLine.{words_of, IsPlain, IsDeviceName, IsNoCommandLine, Spells};
+
+use std::marker::Model;
+use unit_fields::limits::{LEAST_HALF, MOST_HALF, MOST_UNITS};
+
+/// The name of a device, lent by the words: not empty, and without a dash at its front.
+#[derive(Drop)]
+pub struct DeviceName<'a> {
+    text: &'a str,
+}
+
+impl<'a> Model for DeviceName<'a> {
+    ghost use Rattle.std.specs.Prelude.{List, ℕ};
+
+    ghost Value = { List ℕ };
+
+    ghost view = { λ a. a.text.now };
+}
+
+impl<'a> DeviceName<'a> {
+    /// The name, lent.
+    pub fn as_str(&self) -> &str
+        ensures { result.now ≡ self.now }
+    {
+        self.text
+    }
+}
+
+/// A command line.
+#[derive(Drop)]
+pub enum CommandLine<'a> {
+    /// `mkfs DEV --half H --units N`: makes an empty store on a device of N units, with log halves of H units.
+    Mkfs {
+        dev: DeviceName<'a>,
+        half: u32,
+        units: u32,
+    },
+}
+
+/// Whether the first digit is as in a printed number: no sign, and no zero before others.
+fn is_plain(text: &str) -> bool
+    ensures { IsTrue result ↔ IsPlain text.now }
+{
+    matches!(text.as_bytes(), b"0" | [b'1'..=b'9', ..])
+}
+
+/// A number in decimal, without a sign or a leading zero.
+fn read_decimal(text: &str) -> Option<u32>
+    ensures read { (n : ℕ) → n < 2 ^ 32 → text.now ≡ decimal n → result ≡ Some n }
+    ensures number { IfSome result (λ n. text.now ≡ decimal n) }
+{
+    if !is_plain(text) {
+        return None;
+    }
+    text.parse::<u32>().ok()
+}
+
+/// Such a number in this range.
+fn read_number(text: &str, least: u32, most: u32) -> Option<u32>
+    ensures { MatchOption result ((n : ℕ) → least ≤ n → n ≤ most → text.now ≢ decimal n)
+        (λ n. (text.now ≡ decimal n) × (least ≤ n) × (n ≤ most)) }
+{
+    let n = read_decimal(text)?;
+    if n < least || most < n {
+        return None;
+    }
+    Some(n)
+}
+
+fn read_device_name(text: &str) -> Option<DeviceName<'_>>
+    ensures { MatchOption result (¬ (IsDeviceName text.now)) (λ name. (name ≡ text.now) × IsDeviceName text.now) }
+{
+    match text.as_bytes() {
+        [] | [b'-', ..] => None,
+        _ => Some(DeviceName { text }),
+    }
+}
+
+fn is_word(word: &String, text: &str) -> bool
+    ensures { IsTrue result ↔ (string_bytes word.now ≡ text.now) }
+{
+    word.as_str() == text
+}
+
+/// The command line that the words spell, of which the first is the program's name: exactly
+/// `mkfs DEV --half H --units N`, in that order, with H from 8 to 65536 and N from 1 to 1048576.
+pub fn read_words(words: &Vec<String>) -> Option<CommandLine<'_>>
+    ensures { MatchOption result (IsNoCommandLine (words_of words.now)) (Spells (words_of words.now)) }
+{
+    let [_program, command, dev, half_word, half, units_word, units] = words.as_slice() else {
+        return None;
+    };
+    if !is_word(command, "mkfs")
+        || !is_word(half_word, "--half")
+        || !is_word(units_word, "--units")
+    {
+        return None;
+    }
+    let dev = read_device_name(dev.as_str())?;
+    let half = read_number(half.as_str(), LEAST_HALF, MOST_HALF)?;
+    let units = read_number(units.as_str(), 1, MOST_UNITS)?;
+    Some(CommandLine::Mkfs { dev, half, units })
+}

@@ -1,0 +1,58 @@
+//! The work of the command `mkfs`.
+ghost use Rattle.std.specs.Prelude.{◌≡◌, ◌<◌, ◌≤◌, ◌+◌, ◌^◌, None, IsSomeAnd};
+ghost use Rattle.std.specs.Option.{option_map};
+ghost use Rattle.bstore_top.specs.CommandLine.{IsInRange};
+ghost use Rattle.bstore_top.specs.Run.{HasCause, ComesBack, HasStore};
+
+use crate::{CommandLine, Stop};
+use block_device::Failed;
+use end_points::{Bay, How};
+use mount_replay::{MkfsFail, mkfs};
+use std::alloc::Global;
+use unit_fields::limits::DEFAULT_PREFER;
+
+/// How the work of a command ended, before anything of it was printed, and the device that the bay gave for it.
+pub struct Work<D> {
+    pub stop: Option<Stop>,
+    pub dev: Option<D>,
+}
+
+/// Makes a device of the units that the command line asks for, and an empty store on it.
+pub fn make_store<B: Bay>(alloc: Global, line: &CommandLine<'_>, bay: &mut B) -> Work<B::Dev>
+    requires range { IsInRange line.now }
+    requires given { (B.bay bay.old).given + 1 < 2 ^ 32 }
+    ensures cause { HasCause line.now result.stop (option_map B.Dev.faults result.dev) (B.faults bay.old) (B.faults bay.new) }
+    ensures device { ComesBack line.now (B.bay bay.old) (option_map B.Dev.disk result.dev) (B.bay bay.new) }
+    ensures store { result.stop ≡ None → IsSomeAnd (option_map B.Dev.disk result.dev) (HasStore line.now) }
+{
+    let CommandLine::Mkfs { dev, half, units } = line;
+    let device = match bay.device(dev.as_str(), How::Make(*units)) {
+        Ok(device) => device,
+        Err(Failed::Memory) => return Work {
+            stop: Some(Stop::OutOfMemory),
+            dev: None,
+        },
+        Err(Failed::Fault) => return Work {
+            stop: Some(Stop::BayFault),
+            dev: None,
+        },
+    };
+    match mkfs(alloc, device, *half, DEFAULT_PREFER) {
+        Ok(device) => Work {
+            stop: None,
+            dev: Some(device),
+        },
+        Err((MkfsFail::Memory, device)) => Work {
+            stop: Some(Stop::OutOfMemory),
+            dev: Some(device),
+        },
+        Err((MkfsFail::TooSmall { .. }, device)) => Work {
+            stop: Some(Stop::Refused),
+            dev: Some(device),
+        },
+        Err((MkfsFail::Fault, device)) => Work {
+            stop: Some(Stop::DeviceFault),
+            dev: Some(device),
+        },
+    }
+}

@@ -1,0 +1,88 @@
+//! Printing: all of a text goes to the sink, or as much of it as the sink takes before it fails.
+ghost use Rattle.std.specs.Prelude.{◌≡◌, None, OnOk, OnErr, IfOk, string_bytes};
+ghost use Rattle.bstore_top.specs.Status.{number, end_number};
+ghost use Rattle.bstore_top.specs.Texts.{text_of};
+ghost use Rattle.bstore_top.specs.Printed.{output, TookAll, TookFront, Printed};
+ghost use Rattle.bstore_top.specs.CommandLine.{IsInRange};
+ghost use Rattle.bstore_top.specs.Run.{HasUnits, ReportedAs, ShowedUsage};
+
+use crate::texts::{USAGE, made_text, stopped_text, too_small_text};
+use crate::{CommandLine, Status, Stop};
+use end_points::{Fault, Sink};
+use std::alloc::{AllocError, Global};
+
+fn print<K: Sink>(out: &mut K, text: &[u8]) -> Result<(), Fault>
+    ensures ok { OnOk result (TookAll text.now (output (K.written out.old) (K.faults out.old)) (output (K.written out.new) (K.faults out.new))) }
+    ensures err { OnErr result (TookFront text.now (output (K.written out.old) (K.faults out.old)) (output (K.written out.new) (K.faults out.new))) }
+{
+    let mut at = 0;
+    while at < text.len() {
+        at += out.write(&text[at..])? as usize;
+    }
+    Ok(())
+}
+
+fn status_of(stop: Option<Stop>) -> Status
+    ensures { number result ≡ end_number stop }
+{
+    match stop {
+        None => Status::Done,
+        Some(stop) => Status::Stopped(stop),
+    }
+}
+
+/// Prints the text of a run that ends so.
+fn print_end<K: Sink>(out: &mut K, text: &str, stop: Option<Stop>) -> Status
+    ensures { Printed (end_number stop) text.now (number result)
+        (output (K.written out.old) (K.faults out.old)) (output (K.written out.new) (K.faults out.new)) }
+{
+    match print(out, text.as_bytes()) {
+        Ok(()) => status_of(stop),
+        Err(Fault) => Status::SinkFault,
+    }
+}
+
+/// The text of a run.
+fn text(alloc: Global, line: &CommandLine<'_>, stop: Option<Stop>) -> Result<String, AllocError>
+    requires range { IsInRange line.now }
+    requires units { stop ≡ None → HasUnits line.now }
+    ensures { IfOk result (λ text. string_bytes text ≡ text_of line.now stop) }
+{
+    let CommandLine::Mkfs { half, units, .. } = line;
+    match stop {
+        None => made_text(alloc, *half, *units),
+        Some(Stop::Refused) => too_small_text(alloc, *half, *units),
+        Some(stop) => String::from_str(alloc, stopped_text(stop)),
+    }
+}
+
+/// Prints what came of the work, and says how the run has ended: where there is no memory for the text, it has stopped for that.
+pub fn report<K: Sink>(
+    alloc: Global,
+    line: &CommandLine<'_>,
+    stop: Option<Stop>,
+    out: &mut K,
+) -> Status
+    requires range { IsInRange line.now }
+    requires units { stop ≡ None → HasUnits line.now }
+    ensures { ReportedAs line.now stop (number result) (output (K.written out.old) (K.faults out.old)) (output (K.written out.new) (K.faults out.new)) }
+{
+    match text(alloc, line, stop) {
+        Ok(text) => print_end(out, text.as_str(), stop),
+        Err(AllocError) => print_end(
+            out,
+            stopped_text(Stop::OutOfMemory),
+            Some(Stop::OutOfMemory),
+        ),
+    }
+}
+
+/// Prints how the program is called.
+pub fn show_usage<K: Sink>(out: &mut K) -> Status
+    ensures { ShowedUsage (number result) (output (K.written out.old) (K.faults out.old)) (output (K.written out.new) (K.faults out.new)) }
+{
+    match print(out, USAGE.as_bytes()) {
+        Ok(()) => Status::NotACommandLine,
+        Err(Fault) => Status::SinkFault,
+    }
+}

@@ -1,0 +1,94 @@
+//! Runs, from the words to the outcome.
+ghost use Rattle.std.specs.Prelude.{◌≡◌, ◌<◌, IsSomeAnd};
+ghost use Rattle.std.specs.Option.{option_map};
+ghost use Rattle.bstore_top.specs.CommandLine.{words_of, IsInRange, IsNoCommandLine};
+ghost use Rattle.bstore_top.specs.Status.{number};
+ghost use Rattle.bstore_top.specs.Printed.{output};
+ghost use Rattle.bstore_top.specs.Run.{Ran, ShowedUsage, ForLine, ComesBack, CameBack, HasStore, IsBare};
+
+use crate::making::{Work, make_store};
+use crate::printing::{report, show_usage};
+use crate::{CommandLine, Outcome, Status, read_words};
+use end_points::{Bay, Gate, Sink};
+use object_model::Book;
+use std::alloc::Global;
+
+/// An outcome of a run that mounts nothing.
+fn bare<D, S>(alloc: Global, status: Status, dev: Option<D>) -> Outcome<D, S>
+    ensures status { result.status ≡ number status }
+    ensures dev { result.dev ≡ dev }
+    ensures rest { IsBare result.sources.items result.book result.turns.items }
+{
+    Outcome {
+        status: status.number(),
+        dev,
+        sources: Vec::new(alloc),
+        book: Book::new(alloc),
+        turns: Vec::new(alloc),
+    }
+}
+
+fn run<B: Bay, K: Sink>(
+    alloc: Global,
+    line: &CommandLine<'_>,
+    bay: &mut B,
+    out: &mut K,
+) -> Outcome<B::Dev, B::Src>
+    requires range { IsInRange line.now }
+    requires given { (B.bay bay.old).given < 4294967294 }
+    ensures run { Ran line.now result.status (option_map B.Dev.faults result.dev) (B.faults bay.old) (B.faults bay.new)
+        (output (K.written out.old) (K.faults out.old)) (output (K.written out.new) (K.faults out.new)) }
+    ensures device { ComesBack line.now (B.bay bay.old) (option_map B.Dev.disk result.dev) (B.bay bay.new) }
+    ensures store { result.status ≡ 0 → IsSomeAnd (option_map B.Dev.disk result.dev) (HasStore line.now) }
+    ensures rest { IsBare result.sources.items result.book result.turns.items }
+{
+    let Work { stop, dev } = make_store(alloc, line, bay);
+    let status = report(alloc, line, stop, out);
+    bare(alloc, status, dev)
+}
+
+/// Runs any command but those that start threads: reads the words, of which the first is the program's name, does the work,
+/// and prints what came of it. All text goes to `out`. It returns on whatever a device, a bay and a sink answer, and gives the
+/// device back that the bay gave.
+pub fn solo<B: Bay, K: Sink>(
+    alloc: Global,
+    words: &Vec<String>,
+    bay: &mut B,
+    out: &mut K,
+) -> Outcome<B::Dev, B::Src>
+    requires { (B.bay bay.old).given < 4294967294 }
+    ensures usage { IsNoCommandLine (words_of words.now) →
+        ShowedUsage result.status (output (K.written out.old) (K.faults out.old)) (output (K.written out.new) (K.faults out.new)) }
+    ensures run { ForLine (words_of words.now) (λ line. Ran line result.status (option_map B.Dev.faults result.dev) (B.faults bay.old) (B.faults bay.new)
+        (output (K.written out.old) (K.faults out.old)) (output (K.written out.new) (K.faults out.new))) }
+    ensures device { CameBack (words_of words.now) (B.bay bay.old) (option_map B.Dev.disk result.dev) (B.bay bay.new) }
+    ensures store { result.status ≡ 0 → ForLine (words_of words.now) (λ line. IsSomeAnd (option_map B.Dev.disk result.dev) (HasStore line)) }
+    ensures rest { IsBare result.sources.items result.book result.turns.items }
+{
+    match read_words(words) {
+        Some(line) => run(alloc, &line, bay, out),
+        None => bare(alloc, show_usage(out), None),
+    }
+}
+
+/// Runs the command that the words spell, with the words, the clauses and the effects of `solo`; the gate is asked by the
+/// commands that start threads.
+pub fn top<B: Bay, K: Sink, G: Gate>(
+    alloc: Global,
+    words: &Vec<String>,
+    bay: &mut B,
+    out: &mut K,
+    gate: &G,
+) -> Outcome<B::Dev, B::Src>
+    requires { (B.bay bay.old).given < 4294967294 }
+    ensures usage { IsNoCommandLine (words_of words.now) →
+        ShowedUsage result.status (output (K.written out.old) (K.faults out.old)) (output (K.written out.new) (K.faults out.new)) }
+    ensures run { ForLine (words_of words.now) (λ line. Ran line result.status (option_map B.Dev.faults result.dev) (B.faults bay.old) (B.faults bay.new)
+        (output (K.written out.old) (K.faults out.old)) (output (K.written out.new) (K.faults out.new))) }
+    ensures device { CameBack (words_of words.now) (B.bay bay.old) (option_map B.Dev.disk result.dev) (B.bay bay.new) }
+    ensures store { result.status ≡ 0 → ForLine (words_of words.now) (λ line. IsSomeAnd (option_map B.Dev.disk result.dev) (HasStore line)) }
+    ensures rest { IsBare result.sources.items result.book result.turns.items }
+{
+    let _ = gate;
+    solo(alloc, words, bay, out)
+}

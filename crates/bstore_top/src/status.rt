@@ -1,0 +1,52 @@
+//! How a run ends, and the exit statuses.
+ghost use Rattle.std.specs.Prelude.{◌≡◌};
+ghost use Rattle.bstore_top.specs.Status.{number, stop_number};
+
+/// Why a run stopped before its work was done: the first cause in time.
+#[derive(Clone, Copy, Debug, PartialEq, Eq)]
+pub enum Stop {
+    /// The device failed.
+    DeviceFault = 3,
+    /// The store isn't made or mounted, for what the device is or holds.
+    Refused = 4,
+    /// Memory ran out.
+    OutOfMemory = 5,
+    /// The bay failed.
+    BayFault = 7,
+}
+
+impl Stop {
+    /// The exit status.
+    pub fn number(self) -> u8
+        ensures { result ≡ stop_number self }
+    {
+        self as u8
+    }
+}
+
+/// How a run ended.
+#[derive(Clone, Copy, Debug, PartialEq, Eq)]
+pub enum Status {
+    /// The work was done.
+    Done,
+    /// The words aren't a command line.
+    NotACommandLine,
+    /// The work wasn't done.
+    Stopped(Stop),
+    /// The sink failed, whatever became of the work.
+    SinkFault,
+}
+
+impl Status {
+    /// The exit status.
+    pub fn number(self) -> u8
+        ensures { result ≡ number self }
+    {
+        match self {
+            Status::Done => 0,
+            Status::NotACommandLine => 1,
+            Status::Stopped(stop) => stop.number(),
+            Status::SinkFault => 6,
+        }
+    }
+}

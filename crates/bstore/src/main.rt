@@ -1,0 +1,55 @@
+//! The program: it makes the ends of a store over files and standard output, lets `bstore_top` do the work, and ends with
+//! its status. All text goes to standard output, and none to standard error.
+//!
+//! Of a file or an output no clause can say what it gives or takes. So this edge is thin: what it promises is the counts
+//! that the crates below rest on, and the rest is what the system does.
+#![tactic(auto)]
+
+ghost use Rattle.std.specs.Prelude.{◌≡◌, ◌⊎◌};
+ghost use Rattle.block_device.specs.Disk.{Rose};
+ghost use Rattle.end_points.specs.Sink.{with_bytes};
+
+mod bay;
+mod sink;
+mod source;
+mod standard;
+mod words;
+
+use bay::FileBay;
+use bstore_top::top;
+use end_points::{OpenGate, Sink};
+use sink::OutSink;
+use std::alloc::AllocError;
+use std::process::ExitCode;
+use words::words;
+
+// What the last line of a run says that memory has ended.
+const STOPPED: &str = "stopped 5\n";
+
+// Ends a run for which there is no memory, not even for its words: the status is 5, or 6 where the output fails.
+fn stop_for_memory<K: Sink>(out: &mut K) -> u8
+    ensures status { (result ≡ 5) ⊎ ((result ≡ 6) × Rose (K.faults out.old) (K.faults out.new)) }
+    ensures text { result ≡ 5 → K.written out.new ≡ with_bytes (K.written out.old) STOPPED.now }
+{
+    let mut left = STOPPED.as_bytes();
+    while !left.is_empty() {
+        match out.write(left) {
+            Ok(n) => left = &left[n as usize..],
+            Err(_) => return 6,
+        }
+    }
+    5
+}
+
+fn main(rt: HostRuntime) -> ExitCode {
+    let mut bay = FileBay::new(rt, rt.alloc());
+    let mut out = OutSink::new(rt.stdout());
+    let status = match words(&rt) {
+        Ok(words) => top(rt.alloc(), &words, &mut bay, &mut out, &OpenGate).status,
+        Err(AllocError) => stop_for_memory(&mut out),
+    };
+    ExitCode::from(status)
+}
+
+#[cfg(test)]
+mod tests;

@@ -1,5 +1,6 @@
 -- Rows, and what row operations make of them.
-use Rattle.std.specs.Prelude.{ℕ, Bool, true, ◌&&◌, ◌==◌, List, [], ◌∷◌, unwrap_or, if◌then◌else◌, bit_xor}
+use Rattle.std.specs.Prelude.{◌≢◌, ℕ, Bool, true, ◌&&◌, ◌==◌, List, [], ◌∷◌, unwrap_or, if◌then◌else◌, bit_xor}
+use Rattle.std.specs.List.{AllByRecursion}
 use Rattle.std.specs.FinMap as map
 use Rattle.byte_maps.specs.ByteMap.{ByteMap}
 use Rattle.meta_rows.specs.declared.row_op.RowOp.{RowOp}
@@ -39,3 +40,13 @@ rows_after rows (op ∷ ops) = rows_after (row_after rows op) ops
 abbrev pub rows_of_records : Rows → List (List RowOp) → Rows
 rows_of_records rows [] = rows
 rows_of_records rows (ops ∷ more) = rows_of_records (rows_after rows ops) more
+
+-- the key of the row that an operation changes
+abbrev pub key_of : RowOp → List ℕ
+key_of (Set key value) = key
+key_of (Drop key) = key
+key_of (Flip key mask) = key
+
+-- no operation changes the row of this key
+abbrev pub LeaveAlone : List RowOp → List ℕ → Type 0
+LeaveAlone ops key = AllByRecursion (λ op. key_of op ≢ key) ops

@@ -1,9 +1,12 @@
 //! What the definitions of rows come to.
 
-ghost use Rattle.std.specs.Prelude.{◌≡◌, List, ◌++◌};
-ghost use Rattle.meta_rows.specs.Rows.{Rows, rows_after};
+ghost use Rattle.std.specs.Prelude.{◌≡◌, ◌≤◌, ◌+◌, ℕ, List, ◌++◌, length, Some};
+ghost use Rattle.std.specs.FinMap as map;
+ghost use Rattle.meta_rows.specs.Rows.{Rows, row_after, rows_after, LeaveAlone};
 ghost use Rattle.meta_rows.specs.Spelling.{ops_bytes, AllFit};
+ghost use Rattle.meta_rows.specs.Table.{rows_size};
 ghost use Rattle.meta_rows.specs.declared.row_op.RowOp.{RowOp};
+ghost use Rattle.meta_rows.specs.declared.row_op.RowOp.TheVariants.{Set};
 
 /// Operations in a row may be cut in two anywhere.
 pub fn operations_one_after_another()
@@ -13,4 +16,19 @@ pub fn operations_one_after_another()
 /// Bytes are the spelling of at most one list of operations.
 pub fn one_list_for_a_spelling()
     ensures { (a b : List RowOp) → AllFit a → AllFit b → ops_bytes a ≡ ops_bytes b → a ≡ b }
+{}
+
+/// A row that was set has the value.
+pub fn set_row_is_there()
+    ensures { (rows : Rows) (key value : List ℕ) → map.get (row_after rows (Set key value)) key ≡ Some value }
+{}
+
+/// Operations of other keys leave a row as it is.
+pub fn other_rows_stay()
+    ensures { (rows : Rows) (ops : List RowOp) (key : List ℕ) → LeaveAlone ops key → map.get (rows_after rows ops) key ≡ map.get rows key }
+{}
+
+/// The rows grow by the bytes of the operations at most: all of them fit one record no longer than the records that made them.
+pub fn rows_grow_by_their_operations()
+    ensures { (rows : Rows) (ops : List RowOp) → rows_size (rows_after rows ops) ≤ rows_size rows + length (ops_bytes ops) }
 {}

@@ -5,6 +5,16 @@
 
 mod laws;
 mod row_op;
+mod row_table;
+mod writing;
 
-pub use laws::{one_list_for_a_spelling, operations_one_after_another};
+pub use laws::{
+    one_list_for_a_spelling, operations_one_after_another, other_rows_stay,
+    rows_grow_by_their_operations, set_row_is_there,
+};
 pub use row_op::RowOp;
+pub use row_table::RowTable;
+pub use writing::encode;
+
+#[cfg(test)]
+mod tests;

@@ -1,0 +1,64 @@
+//! Row operations as bytes.
+ghost use Rattle.std.specs.Prelude.{◌≡◌, ◌<◌, ◌^◌, ◌++◌, ℕ, List, length, IfOk, OnOk};
+ghost use Rattle.meta_rows.specs.Spelling.{key_bytes, value_bytes, op_bytes, ops_bytes, IsKey, Fits, AllFit};
+
+use crate::row_op::RowOp;
+use byte_maps::Bytes;
+use std::alloc::{AllocError, Global};
+use unit_fields::{push_u16_le, push_u32_le};
+
+const SET: u8 = 1;
+
+const DROP: u8 = 2;
+
+const FLIP: u8 = 3;
+
+fn push_key(out: &mut Vec<u8>, key: &Bytes) -> Result<(), AllocError>
+    requires { IsKey key.now }
+    ensures { OnOk result (out.new.items ≡ out.old.items ++ key_bytes key.now) }
+{
+    push_u16_le(out, key.len() as u16)?;
+    out.extend_from_slice(key.as_slice())
+}
+
+fn push_value(out: &mut Vec<u8>, value: &Bytes) -> Result<(), AllocError>
+    requires { length value.now < 2 ^ 32 }
+    ensures { OnOk result (out.new.items ≡ out.old.items ++ value_bytes value.now) }
+{
+    push_u32_le(out, value.len() as u32)?;
+    out.extend_from_slice(value.as_slice())
+}
+
+fn push_op(out: &mut Vec<u8>, op: &RowOp) -> Result<(), AllocError>
+    requires { Fits op.now }
+    ensures { OnOk result (out.new.items ≡ out.old.items ++ op_bytes op.now) }
+{
+    match op {
+        RowOp::Set { key, value } => {
+            out.push(SET)?;
+            push_key(out, key)?;
+            push_value(out, value)
+        }
+        RowOp::Drop { key } => {
+            out.push(DROP)?;
+            push_key(out, key)
+        }
+        RowOp::Flip { key, mask } => {
+            out.push(FLIP)?;
+            push_key(out, key)?;
+            push_value(out, mask)
+        }
+    }
+}
+
+/// The operations as bytes, one behind the other: the body of a record of the log. (Ceph: the contents of a RocksDB write batch.)
+pub fn encode(alloc: Global, ops: &[RowOp]) -> Result<Vec<u8>, AllocError>
+    requires { AllFit ops.now }
+    ensures { IfOk result (λ bytes. bytes.items ≡ ops_bytes ops.now) }
+{
+    let mut out = Vec::new(alloc);
+    for op in ops {
+        push_op(&mut out, op)?;
+    }
+    Ok(out)
+}

@@ -1,3 +1,5 @@
 pub mod SlotLemmas
 pub mod SlotReading
 pub mod RecordLemmas
+pub mod PieceLemmas
+pub mod SealLemmas

@@ -11,7 +11,7 @@ use Rattle.meta_log.specs.Records.{head_bytes, record_bytes, record_units, Begin
 use Rattle.meta_rows.proofs.FieldLemmas.{same_front, number_front, wide32, wide64}
 use Rattle.meta_rows.proofs.Ops.{ops_front, length-op_bytes}
 
-count_below : (ops : List RowOp) → length ops ≤ length (ops_bytes ops)
+pub count_below : (ops : List RowOp) → length ops ≤ length (ops_bytes ops)
 count_below [] = omega arith
 count_below (op ∷ ops) = omega (arith, count_below ops, length-op_bytes op, ap length (flat_map-cons op_bytes op ops), length-append (op_bytes op) (ops_bytes ops))
 

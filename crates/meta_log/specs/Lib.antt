@@ -1,2 +1,4 @@
 pub mod Slots
 pub mod Records
+pub mod Pieces
+pub mod Sealed

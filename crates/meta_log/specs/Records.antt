@@ -11,9 +11,12 @@ use Rattle.meta_log.specs.declared.slot.Super.{Super}
 use Rattle.meta_log.specs.Slots.{active_unit}
 
 -- "BREC", the body's length, the record's number, and the count of its operations
+abbrev pub head_of : ℕ → ℕ → ℕ → List ℕ
+head_of number count body = 0x42 ∷ 0x52 ∷ 0x45 ∷ 0x43 ∷ to_le_bytes w32 body ++ to_le_bytes w64 number ++ to_le_bytes w32 count
+
+-- the head of the record of these operations
 abbrev pub head_bytes : ℕ → List RowOp → List ℕ
-head_bytes number ops =
-    0x42 ∷ 0x52 ∷ 0x45 ∷ 0x43 ∷ to_le_bytes w32 (length (ops_bytes ops)) ++ to_le_bytes w64 number ++ to_le_bytes w32 (length ops)
+head_bytes number ops = head_of number (length ops) (length (ops_bytes ops))
 
 -- the head, a checksum of head and body, and the body: the operations, one after another
 abbrev pub record_bytes : ℕ → List RowOp → List ℕ

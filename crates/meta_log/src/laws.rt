@@ -1,10 +1,12 @@
 //! What the definitions of slots and records come to.
 
-ghost use Rattle.std.specs.Prelude.{◌≡◌, ℕ, List, [], ◌∷◌, ◌++◌};
+ghost use Rattle.std.specs.Prelude.{◌≡◌, ℕ, ◌-◌, ◌<◌, ◌≤◌, List, [], ◌∷◌, ◌++◌};
 ghost use Rattle.meta_rows.specs.Rows.{Rows, rows_after, rows_of_records};
 ghost use Rattle.meta_rows.specs.declared.row_op.RowOp.{RowOp};
 ghost use Rattle.meta_log.specs.Slots.{IsValidSlot, IsActiveSlot};
-ghost use Rattle.meta_log.specs.Records.{AreRecords};
+ghost use Rattle.meta_log.specs.Records.{AreRecords, unit_count};
+ghost use Rattle.meta_log.specs.Pieces.{piece_count, given_from, piece_first, LiesInRecord, IsInPiece};
+ghost use Rattle.meta_log.specs.Sealed.{IsSealable};
 ghost use Rattle.meta_log.specs.declared.slot.Super.{Super};
 
 /// A slot of an image says at most one thing.
@@ -26,4 +28,28 @@ pub fn one_list_of_records()
 pub fn one_more_record()
     ensures { (rows : Rows) (records : List (List RowOp)) (ops : List RowOp) →
         rows_of_records rows (records ++ ops ∷ []) ≡ rows_after (rows_of_records rows records) ops }
+{}
+
+/// A record takes a unit at least, and no more than its body of fewer than 2^32 bytes asks for.
+pub fn units_of_a_record()
+    ensures some { (number : ℕ) (ops : List RowOp) → 0 < unit_count number ops }
+    ensures most { (number : ℕ) (ops : List RowOp) → IsSealable number ops → unit_count number ops ≤ 1048577 }
+{}
+
+/// The pieces of a record lie one before the other, from its end to its first unit.
+pub fn pieces_lie_in_a_row()
+    ensures each { (units k : ℕ) → k < piece_count units → LiesInRecord units k }
+    ensures begin { (units : ℕ) → given_from units 0 ≡ units }
+    ensures last { (units : ℕ) → given_from units (piece_count units) ≡ 0 }
+{}
+
+/// Each unit of a record is in exactly one of its pieces.
+pub fn each_unit_in_one_piece()
+    ensures some { (units unit : ℕ) → unit < units → (k : ℕ) × IsInPiece units unit k }
+    ensures one { (units unit k l : ℕ) → IsInPiece units unit k → IsInPiece units unit l → k ≡ l }
+{}
+
+/// The piece that is written last has the head of the record.
+pub fn last_piece_has_the_head()
+    ensures { (units : ℕ) → piece_first units (piece_count units - 1) ≡ 0 }
 {}

@@ -4,10 +4,17 @@
 #![tactic(auto)]
 
 mod laws;
+mod sealed;
 mod slot;
 
-pub use laws::{one_active_slot, one_list_of_records, one_more_record, one_super_in_a_slot};
+pub use laws::{
+    each_unit_in_one_piece, last_piece_has_the_head, one_active_slot, one_list_of_records,
+    one_more_record, one_super_in_a_slot, pieces_lie_in_a_row, units_of_a_record,
+};
+pub use sealed::SealedRecord;
 pub use slot::Super;
 
+#[cfg(test)]
+mod record_tests;
 #[cfg(test)]
 mod tests;

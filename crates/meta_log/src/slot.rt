@@ -27,7 +27,8 @@ pub struct Super {
     pub units: u32,
     /// The units of each of the two halves of the log.
     pub half: u32,
-    /// A write of fewer bytes than these to mapped pages is deferred (Ceph's `bluestore_prefer_deferred_size`).
+    /// A write of fewer bytes than these is deferred on the pages of the object's own that it covers wholly (Ceph's
+    /// `bluestore_prefer_deferred_size`). A page that it covers in part is deferred whatever this number is. So far nothing is.
     pub prefer: u32,
     /// How often the halves were switched.
     pub epoch: u64,

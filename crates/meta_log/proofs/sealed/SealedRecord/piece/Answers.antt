@@ -1,0 +1,35 @@
+use Rattle.std.proofs.Common.{◌≡◌, ◌-◌, ◌*◌, length, ap, ◌∙◌, arith}
+use Rattle.meta_log.specs.Pieces.{piece_first, piece_units}
+use Rattle.meta_log.specs.Records.{record_units}
+use Rattle.meta_log.specs.Sealed.{sealed_units}
+use Rattle.meta_log.proofs.PieceLemmas.{lies}
+use Rattle.meta_log.proofs.SealLemmas.{length-record_units, piece_is}
+use Rattle.meta_log.proofs.sealed.SealedRecord.piece.Goals as goal
+
+pub units_at-bytes-requires : goal.units_at-bytes-requires
+units_at-bytes-requires c =
+    let made = c.args.self.now in
+    let bytes = c.deref.ensures.value ∙ c.self.invariant.spelled ∙ ap (λ m. record_units m.number m.ops) c.self.view_is in
+    omega (
+      arith,
+      c.pieces.ensures,
+      c.units-units.ensures.units,
+      c.min-count.ensures,
+      (lies (sealed_units made) c.args.k c.requires).within,
+      ap length
+          bytes,
+      length-record_units made.number made.ops,
+    )
+
+pub returns-clause-bytes : goal.returns-clause-bytes
+returns-clause-bytes c =
+    let made = c.args.self.now in
+    let bytes = c.deref.ensures.value ∙ c.self.invariant.spelled ∙ ap (λ m. record_units m.number m.ops) c.self.view_is in
+    let first : (c.pieces.result - 1 - c.args.k) * 64 ≡ piece_first (sealed_units made) c.args.k = omega (arith, c.pieces.ensures) in
+    let count : c.min-count.result ≡ piece_units (sealed_units made) c.args.k = omega (
+      arith,
+      c.pieces.ensures,
+      c.units-units.ensures.units,
+      c.min-count.ensures,
+    ) in
+    c.in_ok-from_slice.ensures.items ∙ c.units_at-bytes.ensures ∙ piece_is made c.args.k _ _ c.deref.result.now first count bytes

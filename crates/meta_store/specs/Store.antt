@@ -1,0 +1,110 @@
+-- The rows and where the log stands, as one value.
+use Rattle.std.specs.Prelude.{◌≡◌, ℕ, ◌+◌, ◌-◌, ◌*◌, ◌%◌, ◌<◌, ◌≤◌, List, length, Option, Some, None, IfSome, MatchOption}
+use Rattle.std.specs.Option.{option_map}
+use Rattle.std.specs.FinMap as map
+use Rattle.std.specs.Coded.{Coded, coded_ℕ, coded_list}
+use Rattle.meta_rows.specs.declared.row_op.RowOp.{RowOp}
+use Rattle.meta_rows.specs.Rows.{Rows, rows_after}
+use Rattle.meta_log.specs.declared.slot.Super.{Super}
+use Rattle.meta_log.specs.Slots.{IsSuper, active_unit, data_unit}
+use Rattle.meta_log.specs.Records.{unit_count}
+use Rattle.meta_log.specs.Pieces.{piece_count, piece_first}
+use Rattle.meta_log.specs.Sealed.{IsSealable, piece_bytes}
+
+-- a record that is being written: its operations, and how many of its pieces were given and how many of these are written
+pub record Begun : Type 0 where
+  pub ops : List RowOp
+  pub given : ℕ
+  pub written : ℕ
+
+-- the store: the committed rows, the units of the records in the active half, the next record's number, the units set aside for
+-- transactions to come, and the record that is being written
+pub record Meta : Type 0 where
+  pub sup : Super
+  pub rows : Rows
+  pub tail : ℕ
+  pub number : ℕ
+  pub reserved : ℕ
+  pub begun : Option Begun
+
+abbrev pub coded_rows : Coded Rows
+coded_rows = map.code (coded_list coded_ℕ) (coded_list coded_ℕ)
+
+-- how many pieces the record has that is being written
+abbrev pub piece_count_of : Meta → Begun → ℕ
+piece_count_of m b = piece_count (unit_count m.number b.ops)
+
+-- what is known of a record that is being written behind this tail
+pub record IsBegun (half tail number : ℕ) (b : Begun) : Type 0 where
+  pub sealable : IsSealable number b.ops
+  pub fits : tail + unit_count number b.ops ≤ half
+  pub given_most : b.given ≤ piece_count (unit_count number b.ops)
+  pub written_most : b.written ≤ b.given
+
+-- what is known of every store
+pub record IsMeta (m : Meta) : Type 0 where
+  pub limits : IsSuper m.sup
+  pub tail_most : m.tail ≤ m.sup.half
+  pub begun_fits : IfSome m.begun (IsBegun m.sup.half m.tail m.number)
+
+-- a store whose active half has no record
+abbrev pub empty_meta : Super → Meta
+empty_meta s = record { sup = s; rows = map.empty; tail = 0; number = s.first; reserved = 0; begun = None }
+
+-- the units that are neither taken nor set aside
+abbrev pub room_of : Meta → ℕ
+room_of m = m.sup.half - m.tail - m.reserved
+
+-- the store with a record begun, of which nothing is given
+abbrev pub with_begun : Meta → List RowOp → Meta
+with_begun m ops = record m { begun = Some (record { ops = ops; given = 0; written = 0 }) }
+
+-- nothing is begun, or each piece was given
+abbrev pub IsAllGiven : Meta → Type 0
+IsAllGiven m = MatchOption m.begun (Unit {0}) (λ b. b.given ≡ piece_count_of m b)
+
+-- a record is begun, and not each piece was given
+abbrev pub IsPieceLeft : Meta → Type 0
+IsPieceLeft m = MatchOption m.begun ⊥ (λ b. b.given < piece_count_of m b)
+
+-- a record is begun, and not each piece that was given is written
+abbrev pub IsPieceOut : Meta → Type 0
+IsPieceOut m = MatchOption m.begun ⊥ (λ b. b.written < b.given)
+
+-- a record is begun, and each of its pieces is written
+abbrev pub IsAllWritten : Meta → Type 0
+IsAllWritten m = MatchOption m.begun ⊥ (λ b. b.written ≡ piece_count_of m b)
+
+-- these bytes, to be written from this unit of the device on, are the next piece
+pub record IsNextPiece (m : Meta) (unit : ℕ) (bytes : List ℕ) : Type 0 where
+  pub now : Begun
+  pub is_begun : m.begun ≡ Some now
+  pub left : now.given < piece_count_of m now
+  pub unit_is : unit ≡ active_unit m.sup + m.tail + piece_first (unit_count m.number now.ops) now.given
+  pub bytes_are : bytes ≡ piece_bytes (record { number = m.number; ops = now.ops }) now.given
+
+-- where these bytes lie when they are written from this unit on: whole units, at most 64 of them, behind the tail and in the active half
+pub record LiesBehindTail (m : Meta) (unit : ℕ) (bytes : List ℕ) : Type 0 where
+  pub some : 0 < length bytes
+  pub few : length bytes ≤ 4096 * 64
+  pub whole : length bytes % 4096 ≡ 0
+  pub behind : active_unit m.sup + m.tail ≤ unit
+  pub in_half : 4096 * unit + length bytes ≤ 4096 * (active_unit m.sup + m.sup.half)
+  pub in_log : 4096 * unit + length bytes ≤ 4096 * data_unit m.sup
+
+-- one more piece was given
+abbrev pub with_given : Meta → Meta
+with_given m = record m { begun = option_map (λ (b : Begun). record b { given = b.given + 1 }) m.begun }
+
+-- one more piece is written
+abbrev pub with_written : Meta → Meta
+with_written m = record m { begun = option_map (λ (b : Begun). record b { written = b.written + 1 }) m.begun }
+
+-- the record's operations are committed
+abbrev pub committed : Meta → Begun → Meta
+committed m b = record m { rows = rows_after m.rows b.ops; tail = m.tail + unit_count m.number b.ops; number = m.number + 1; begun = None }
+
+-- the store once the record that was begun is stable
+abbrev pub after_flush : Meta → Option Begun → Meta
+after_flush m None = m
+after_flush m (Some b) = committed m b

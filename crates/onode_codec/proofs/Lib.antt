@@ -1,0 +1,3 @@
+pub mod KeyLengths
+pub mod ExtentReading
+pub mod Again

@@ -1,0 +1,146 @@
+//! An object's extents, and their one spelling.
+ghost use Rattle.std.specs.Prelude.{◌≡◌, ◌<◌, ◌*◌, ◌++◌, ℕ, List, length, IfOk, OnOk, MatchOption};
+ghost use Rattle.std.specs.Int.{w32, to_le_bytes};
+ghost use Rattle.std.specs.List.{flat_map, AllByRecursion};
+ghost use Rattle.row_format.specs.Extents.{Extent, extent_bytes, FitsExtent};
+ghost use Rattle.onode_codec.specs.Reading.{BeginsWithNoExtent, ReadsHead, ReadsNumbers, ReadsExtent, SpellExtents};
+
+use byte_maps::{Bytes, Items};
+use std::alloc::{AllocError, Global};
+use std::marker::Model;
+use unit_fields::limits::EXTENT_PAGES;
+use unit_fields::{Fields, UnitNo, push_u16_le, push_u32_le};
+
+// The kind of an extent whose units are the object's own.
+const PRIVATE: u8 = 0;
+
+/// Where the pages of an extent stand (Ceph's blob).
+#[derive(Debug, Drop)]
+pub enum Body {
+    /// On consecutive units of the object's own, from `unit` on. There is one CRC-32C for each page, in the pages' order.
+    Private { unit: UnitNo, csums: Items<u32> },
+}
+
+/// Consecutive pages of an object, and where they stand. There are as many pages as the body says.
+#[derive(Debug, Drop)]
+pub struct Extent {
+    /// The first page: page p is the bytes from 4096 times p on.
+    pub first: u32,
+    /// Where they stand.
+    pub body: Body,
+}
+
+impl Model for Extent {
+    ghost use Rattle.row_format.specs.Extents.{Extent};
+    ghost use Rattle.onode_codec.specs.Bodies.{body_of};
+
+    ghost Value = { Extent };
+
+    ghost view = { λ a. record { first = a.first; body = body_of a.body } };
+}
+
+// The fields of an extent before its checksums.
+#[derive(Clone, Copy)]
+struct Head {
+    first: u32,
+    count: u16,
+    unit: u32,
+}
+
+fn push_numbers(out: &mut Vec<u8>, numbers: &[u32]) -> Result<(), AllocError>
+    ensures { OnOk result (out.new.items ≡ out.old.items ++ flat_map (to_le_bytes w32) numbers.now) }
+{
+    for number in numbers {
+        push_u32_le(out, *number)?;
+    }
+    Ok(())
+}
+
+fn push_extent(out: &mut Vec<u8>, extent: &Extent) -> Result<(), AllocError>
+    requires { FitsExtent extent.now }
+    ensures { OnOk result (out.new.items ≡ out.old.items ++ extent_bytes extent.now) }
+{
+    let Body::Private { unit, csums } = &extent.body;
+    push_u32_le(out, extent.first)?;
+    push_u16_le(out, csums.len() as u16)?;
+    out.push(PRIVATE)?;
+    push_u32_le(out, unit.number())?;
+    push_numbers(out, csums.as_slice())
+}
+
+/// The value of a shard's row: its extents, one behind the other. Each has 1 to 256 pages.
+pub fn encode_extents(alloc: Global, extents: &[Extent]) -> Result<Bytes, AllocError>
+    requires { AllByRecursion FitsExtent extents.now }
+    ensures { IfOk result (λ bytes. bytes ≡ flat_map extent_bytes extents.now) }
+{
+    let mut out = Vec::new(alloc);
+    for extent in extents {
+        push_extent(&mut out, extent)?;
+    }
+    Ok(Bytes::from_vec(out))
+}
+
+fn read_head(fields: &mut Fields) -> Option<Head>
+    ensures { MatchOption result (BeginsWithNoExtent fields.old) (ReadsHead fields.old fields.new) }
+{
+    let first = fields.u32()?;
+    let count = fields.u16()?;
+    let kind = fields.u8()?;
+    let unit = fields.u32()?;
+    if kind == PRIVATE && count > 0 && count <= EXTENT_PAGES {
+        Some(Head { first, count, unit })
+    } else {
+        None
+    }
+}
+
+fn read_numbers(
+    alloc: Global,
+    fields: &mut Fields,
+    count: u16,
+) -> Result<Option<Items<u32>>, AllocError>
+    ensures { IfOk result (λ found. MatchOption found (length fields.old < 4 * count) (ReadsNumbers count fields.old fields.new)) }
+{
+    let mut numbers = Vec::with_capacity(alloc, usize::from(count))?;
+    'numbers: for _i in 0..count {
+        let Some(number) = fields.u32() else {
+            return Ok(None);
+        };
+        numbers.push(number)?;
+    }
+    Ok(Some(Items::from_vec(numbers)))
+}
+
+fn read_extent(alloc: Global, fields: &mut Fields) -> Result<Option<Extent>, AllocError>
+    ensures { IfOk result (λ found. MatchOption found (BeginsWithNoExtent fields.old) (ReadsExtent fields.old fields.new)) }
+{
+    let Some(head) = read_head(fields) else {
+        return Ok(None);
+    };
+    let Some(csums) = read_numbers(alloc, fields, head.count)? else {
+        return Ok(None);
+    };
+    let unit = UnitNo::new(head.unit);
+    let body = Body::Private { unit, csums };
+    Ok(Some(Extent {
+        first: head.first,
+        body,
+    }))
+}
+
+/// The extents that a shard's value spells. None: it is no spelling of any extents of 1 to 256 pages each. Whether the extents
+/// ascend, and whether there is one at all, is for the caller to see.
+pub fn decode_extents(alloc: Global, bytes: &[u8]) -> Result<Option<Vec<Extent>>, AllocError>
+    ensures { IfOk result (λ found. MatchOption found ((es : List Extent) → ¬ (SpellExtents bytes.now es))
+        (λ extents. SpellExtents bytes.now extents.items)) }
+{
+    let mut fields = Fields::new(bytes);
+    let mut extents = Vec::new(alloc);
+    'extents: while !fields.is_empty() {
+        let Some(extent) = read_extent(alloc, &mut fields)? else {
+            return Ok(None);
+        };
+        extents.push(extent)?;
+    }
+    Ok(Some(extents))
+}

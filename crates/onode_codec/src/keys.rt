@@ -1,0 +1,177 @@
+//! Keys of rows, each made in memory of its own.
+ghost use Rattle.std.specs.Prelude.{◌≡◌, ◌≤◌, [], ◌∷◌, ◌++◌, length, IfOk, OnOk};
+ghost use Rattle.std.specs.Int.{w64, to_be_bytes};
+ghost use Rattle.meta_rows.specs.Spelling.{IsKey};
+ghost use Rattle.row_format.specs.Keys.{
+  of_object,
+  coll_key,
+  onode_key,
+  shard_key,
+  attr_key,
+  header_key,
+  omap_key,
+  deferred_key,
+  shared_key,
+  bitmap_key,
+};
+
+use byte_maps::Bytes;
+use std::alloc::{AllocError, Global};
+use unit_fields::{CollName, Name, push_u32_be, push_u64_be};
+
+// The first byte of a key: the kind of its row.
+const COLLECTION: u8 = b'C';
+
+const OBJECT: u8 = b'O';
+
+const ATTRIBUTE: u8 = b'A';
+
+const OMAP: u8 = b'M';
+
+const DEFERRED: u8 = b'L';
+
+const SHARED: u8 = b'X';
+
+const BITMAP: u8 = b'b';
+
+// It ends a name within a key. No name has it.
+const END: u8 = 0;
+
+// Writes a name, and what ends it.
+fn push_name(key: &mut Vec<u8>, name: &[u8]) -> Result<(), AllocError>
+    ensures { OnOk result (key.new.items ≡ key.old.items ++ (name.now ++ 0 ∷ [])) }
+{
+    key.extend_from_slice(name)?;
+    Ok(key.push(END)?)
+}
+
+// A kind, the names of a collection and of an object in it, and what stands behind.
+fn of_object(
+    alloc: Global,
+    kind: u8,
+    coll: &CollName,
+    object: &Name,
+    rest: &[u8],
+) -> Result<Bytes, AllocError>
+    requires { length rest.now ≤ 256 }
+    ensures key { IfOk result (λ key. key ≡ of_object kind coll.now object.now rest.now) }
+    ensures size { IfOk result IsKey }
+{
+    let mut key = Vec::new(alloc);
+    key.push(kind)?;
+    push_name(&mut key, coll.as_slice())?;
+    push_name(&mut key, object.as_slice())?;
+    key.extend_from_slice(rest)?;
+    Ok(Bytes::from_vec(key))
+}
+
+// A kind and one number.
+fn of_number(alloc: Global, kind: u8, number: u64) -> Result<Bytes, AllocError>
+    ensures key { IfOk result (λ key. key ≡ kind ∷ to_be_bytes w64 number) }
+    ensures size { IfOk result IsKey }
+{
+    let mut key = Vec::new(alloc);
+    key.push(kind)?;
+    push_u64_be(&mut key, number)?;
+    Ok(Bytes::from_vec(key))
+}
+
+/// The key of a collection's row. The row is there exactly where the collection is, and its value is empty.
+pub fn coll_key(alloc: Global, coll: &CollName) -> Result<Bytes, AllocError>
+    ensures key { IfOk result (λ key. key ≡ coll_key coll.now) }
+    ensures size { IfOk result IsKey }
+{
+    let mut key = Vec::new(alloc);
+    key.push(COLLECTION)?;
+    key.extend_from_slice(coll.as_slice())?;
+    Ok(Bytes::from_vec(key))
+}
+
+/// The key of an object's onode.
+pub fn onode_key(alloc: Global, coll: &CollName, object: &Name) -> Result<Bytes, AllocError>
+    ensures key { IfOk result (λ key. key ≡ onode_key coll.now object.now) }
+    ensures size { IfOk result IsKey }
+{
+    of_object(alloc, OBJECT, coll, object, b"o")
+}
+
+/// The key of the shard of an object's extents that begins at this page.
+pub fn shard_key(
+    alloc: Global,
+    coll: &CollName,
+    object: &Name,
+    page: u32,
+) -> Result<Bytes, AllocError>
+    ensures key { IfOk result (λ key. key ≡ shard_key coll.now object.now page) }
+    ensures size { IfOk result IsKey }
+{
+    let mut rest = Vec::new(alloc);
+    rest.push(b'o')?;
+    push_u32_be(&mut rest, page)?;
+    rest.push(b'x')?;
+    of_object(alloc, OBJECT, coll, object, &rest)
+}
+
+/// The key of an attribute.
+pub fn attr_key(
+    alloc: Global,
+    coll: &CollName,
+    object: &Name,
+    attr: &Name,
+) -> Result<Bytes, AllocError>
+    ensures key { IfOk result (λ key. key ≡ attr_key coll.now object.now attr.now) }
+    ensures size { IfOk result IsKey }
+{
+    of_object(alloc, ATTRIBUTE, coll, object, attr.as_slice())
+}
+
+/// The key of an object's omap header.
+pub fn header_key(alloc: Global, coll: &CollName, object: &Name) -> Result<Bytes, AllocError>
+    ensures key { IfOk result (λ key. key ≡ header_key coll.now object.now) }
+    ensures size { IfOk result IsKey }
+{
+    of_object(alloc, OMAP, coll, object, b"-")
+}
+
+/// The key of a pair of an object's omap. It stands behind the key of the omap's header.
+pub fn omap_key(
+    alloc: Global,
+    coll: &CollName,
+    object: &Name,
+    key: &Name,
+) -> Result<Bytes, AllocError>
+    ensures key { IfOk result (λ made. made ≡ omap_key coll.now object.now key.now) }
+    ensures size { IfOk result IsKey }
+{
+    let mut rest = Vec::new(alloc);
+    rest.push(b'.')?;
+    rest.extend_from_slice(key.as_slice())?;
+    of_object(alloc, OMAP, coll, object, &rest)
+}
+
+/// The key of a deferred write, by its sequence number.
+pub fn deferred_key(alloc: Global, seq: u64) -> Result<Bytes, AllocError>
+    ensures key { IfOk result (λ key. key ≡ deferred_key seq) }
+    ensures size { IfOk result IsKey }
+{
+    of_number(alloc, DEFERRED, seq)
+}
+
+/// The key of a shared blob, by its number (Ceph's sbid).
+pub fn shared_key(alloc: Global, sbid: u64) -> Result<Bytes, AllocError>
+    ensures key { IfOk result (λ key. key ≡ shared_key sbid) }
+    ensures size { IfOk result IsKey }
+{
+    of_number(alloc, SHARED, sbid)
+}
+
+/// The key of a row of the freelist: the bits of the 128 units from 128 times `row` on.
+pub fn bitmap_key(alloc: Global, row: u32) -> Result<Bytes, AllocError>
+    ensures key { IfOk result (λ key. key ≡ bitmap_key row) }
+    ensures size { IfOk result IsKey }
+{
+    let mut key = Vec::new(alloc);
+    key.push(BITMAP)?;
+    push_u32_be(&mut key, row)?;
+    Ok(Bytes::from_vec(key))
+}

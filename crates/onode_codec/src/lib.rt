@@ -1,0 +1,20 @@
+//! Keys and values of metadata rows in memory: the keys of all rows, an object's onode, and its extents.
+//!
+//! In Ceph's BlueStore these are `get_object_key` and its kin, `bluestore_onode_t`, and the blobs and extents of a shard.
+#![tactic(auto)]
+
+mod extent;
+mod keys;
+mod laws;
+mod onode;
+
+pub use extent::{Body, Extent, decode_extents, encode_extents};
+pub use keys::{
+    attr_key, bitmap_key, coll_key, deferred_key, header_key, omap_key, onode_key, shard_key,
+    shared_key,
+};
+pub use laws::{one_list_of_extents_for_a_spelling, one_onode_for_a_spelling};
+pub use onode::Onode;
+
+#[cfg(test)]
+mod tests;

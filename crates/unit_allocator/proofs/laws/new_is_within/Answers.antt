@@ -1,0 +1,5 @@
+use Rattle.unit_allocator.proofs.Fresh.{new_is_within}
+use Rattle.unit_allocator.proofs.laws.new_is_within.Goals as goal
+
+pub returns : goal.returns
+returns c = new_is_within

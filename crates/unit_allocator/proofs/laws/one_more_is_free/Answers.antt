@@ -1,0 +1,5 @@
+use Rattle.unit_allocator.proofs.FreeUnits.{one_more_is_free}
+use Rattle.unit_allocator.proofs.laws.one_more_is_free.Goals as goal
+
+pub returns : goal.returns
+returns c = one_more_is_free

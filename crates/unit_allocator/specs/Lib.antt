@@ -1,0 +1,4 @@
+pub mod Words
+pub mod Units
+pub mod Sound
+pub mod Fails

@@ -1,0 +1,19 @@
+//! Which units of a range are free: those that nobody was given and nobody holds.
+//!
+//! It stands in the place of Ceph's `Allocator` over the free space of BlueStore's device, and gives the lowest free units first.
+#![tactic(auto)]
+
+mod allocator;
+mod bits;
+mod laws;
+
+pub use allocator::{Allocator, Run, TakeFail};
+pub use laws::{
+    free_after_giving, free_after_taking, free_is_listed, free_units_ascend, given_is_free,
+    given_while_held, held_is_not_free, last_hold_ends, listed_is_within, lowest_is_free,
+    new_is_free, new_is_unheld, new_is_within, one_less_is_free, one_more_is_free, range_stays,
+    taken_is_not_free, taken_of_one,
+};
+
+#[cfg(test)]
+mod tests;

@@ -1,0 +1,8 @@
+use Rattle.script_text.proofs.Readers.{taken_more}
+use Rattle.script_text.proofs.reader.Reader.take.Goals as goal
+
+pub lines-preserved : goal.lines-preserved
+lines-preserved c =
+    taken_more c.args.piece.now c.lines.rest.now c.in-Some.front.now c.in-Some.behind.now c.args.self.now c.lines.self c.take_bytes.new.self
+    c.take_feed.new.self c.lines.invariant c.in-Some.ensures.1
+    c.in_ok-take_bytes.ensures.count c.in_ok-take_bytes.ensures.takes c.in_ok-take_feed.ensures.count c.in_ok-take_feed.ensures.takes

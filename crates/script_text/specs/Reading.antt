@@ -1,0 +1,117 @@
+-- What is known of a reader of a script that has taken some of it.
+use Rattle.std.specs.Prelude.{◌≡◌, ◌⊎◌, ℕ, ◌+◌, ◌≤◌, Bool, true, false, List, [], ◌∷◌, ◌++◌, length, Option, Some, None, MatchOption, IfSome}
+use Rattle.std.specs.List.{AllByRecursion}
+use Rattle.script_text.specs.Grammar.{HasNo, IsLineOf, IsPassedOver}
+use Rattle.script_text.specs.Script.{script_limit, line_limit, command_limit, ended, commands, numbered}
+use Rattle.script_text.specs.Script.{AreGood, IsOutside, IsOneTooMany, IsScript, IsBadAt, IsTextOf}
+use Rattle.script_text.specs.declared.fail.ScriptFail.{ScriptFail}
+use Rattle.script_text.specs.declared.fail.ScriptFail.TheVariants as fail
+use Rattle.script_text.specs.declared.grammar.Reading.{Reading}
+use Rattle.script_text.specs.declared.grammar.Reading.TheVariants as reading
+use Rattle.script_text.specs.declared.line.Line.{Line}
+use Rattle.script_text.specs.declared.line.What.{What}
+use Rattle.script_text.specs.declared.reader.Reader.{Reader}
+use Rattle.block_device.specs.declared.device.Failed.{Failed}
+use Rattle.block_device.specs.declared.device.Failed.TheVariants as failed
+use Rattle.end_points.specs.Source.{without_first}
+
+-- what a line was found to be
+abbrev pub IsReading : List ℕ → Reading → Type 0
+IsReading text reading.PassedOver = IsPassedOver text
+IsReading text (reading.Says what) = IsLineOf text what
+IsReading text reading.Outside = IsOutside text
+
+-- the texts are good, give these lines, and leave room for so many commands
+pub record HasSaid (texts : List (List ℕ)) (lines : List Line) (room : ℕ) : Type 0 where
+  pub said : List (Option What)
+  pub good : AreGood texts said
+  pub numbers : lines ≡ numbered 1 said
+  pub left : room + commands said ≡ command_limit
+
+-- the text behind these is the first bad line, by itself or as a command
+pub record IsBadBehind (texts : List (List ℕ)) (text : List ℕ) (n : ℕ) : Type 0 where
+  pub said : List (Option What)
+  pub good : AreGood texts said
+  pub number : n ≡ length texts + 1
+  pub bad : IsOutside text ⊎ IsOneTooMany said text
+
+-- where the texts so far were good, one more that has P is kept, or is the bad one
+abbrev pub Ends : (List ℕ → Type 0) → Reader → Reader → Type 0
+Ends P old new = (texts : List (List ℕ)) (text : List ℕ) → HasSaid texts old.lines.items old.commands_left
+    → old.count ≡ length texts → old.bad ≡ None
+    → length text ≤ line_limit → P text
+    → MatchOption new.bad (HasSaid (texts ++ (text ∷ [])) new.lines.items new.commands_left) (IsBadBehind texts text)
+
+-- the bytes are good lines, and a last one that isn't ended
+pub record IsWithin (bytes : List ℕ) (r : Reader) : Type 0 where
+  pub texts : List (List ℕ)
+  pub has_said : HasSaid texts r.lines.items r.commands_left
+  pub count : r.count ≡ length texts
+  pub whole : bytes ≡ ended texts ++ r.text.items
+  pub no_feeds : AllByRecursion (λ text. HasNo 10 text) texts
+  pub unended : HasNo 10 r.text.items
+  pub short : length r.text.items ≤ line_limit
+  pub small : length bytes ≤ script_limit
+
+-- what a reader is that has taken these bytes: its bad line is bad however the script goes on
+abbrev pub IsAfter : List ℕ → Reader → Type 0
+IsAfter bytes r = MatchOption r.bad (IsWithin bytes r) (λ n. (more : List ℕ) → IsBadAt (bytes ++ more) n)
+
+-- the reader takes a piece
+abbrev pub Takes : List ℕ → Reader → Reader → Type 0
+Takes piece old new = (bytes : List ℕ) → length (bytes ++ piece) ≤ script_limit → IsAfter bytes old → IsAfter (bytes ++ piece) new
+
+-- the reader has taken a piece up to this rest of it
+pub record HasTaken (piece rest : List ℕ) (old new : Reader) : Type 0 where
+  pub front : List ℕ
+  pub whole : piece ≡ front ++ rest
+  pub count : new.count ≤ old.count + length front
+  pub takes : Takes front old new
+
+-- these bytes were taken of a source
+abbrev pub IsReadFrom : Option (List ℕ) → List ℕ → Option (List ℕ) → Type 0
+IsReadFrom None bytes new = new ≡ None
+IsReadFrom (Some whole) bytes new = (rest : List ℕ) × (new ≡ Some rest) × (whole ≡ bytes ++ rest)
+
+-- how reading ended: at the end of the source, or at the limit
+abbrev pub EndsBy : Bool → Option (List ℕ) → List ℕ → Type 0
+EndsBy true new bytes = IfSome new (λ left. left ≡ [])
+EndsBy false new bytes = length bytes ≡ script_limit
+
+-- these bytes were taken of a source, and a reader has them
+pub record WasReadUpTo (old new : Option (List ℕ)) (r : Reader) (end : Bool) : Type 0 where
+  pub bytes : List ℕ
+  pub from : IsReadFrom old bytes new
+  pub after : IsAfter bytes r
+  pub small : length bytes ≤ script_limit
+  pub count : r.count ≤ script_limit
+  pub ends : EndsBy end new bytes
+
+-- with so many bytes left to the limit
+pub record IsReadingOn (old new : Option (List ℕ)) (r : Reader) (left : ℕ) : Type 0 where
+  pub bytes : List ℕ
+  pub from : IsReadFrom old bytes new
+  pub after : IsAfter bytes r
+  pub size : length bytes + left ≡ script_limit
+  pub count : r.count ≤ length bytes
+
+-- a source was read to its end, or past the limit by one byte
+pub record WasRead (old new : Option (List ℕ)) (r : Reader) : Type 0 where
+  pub text : List ℕ
+  pub of : IsTextOf old text
+  pub after : IsAfter text r
+  pub through : new ≡ without_first 1073741825 old
+
+-- where the failure names a line
+abbrev pub IfLine : ScriptFail → (ℕ → Type 0) → Type 0
+IfLine (fail.Line n) P = P n
+IfLine f P = Unit {0}
+
+-- what a failed read of a source becomes
+abbrev pub of_source : Failed → ScriptFail
+of_source failed.Memory = fail.Memory
+of_source failed.Fault = fail.ReadFault
+
+-- the lines and the first bad line, where there is one, of a script of these bytes
+abbrev pub IsDone : List ℕ → List Line → Option ℕ → Type 0
+IsDone bytes lines bad = MatchOption bad (IsScript bytes lines) (IsBadAt bytes)

@@ -1,0 +1,101 @@
+//! Names and bytes as they are spelled.
+ghost use Rattle.std.specs.Prelude.{◌≡◌, ◌≢◌, ◌+◌, ◌++◌, ◌∷◌, [], ◌<◌, ◌≤◌, ℕ, List, IfOk, MatchOption};
+ghost use Rattle.unit_fields.specs.Names.{IsName};
+ghost use Rattle.script_text.specs.Grammar.{AreBytes, is_plain, hex_digit, hex_pair, escape, escaped};
+
+use crate::split::split_first;
+use std::alloc::{AllocError, Global};
+use unit_fields::Name;
+
+/// Whether a byte of a name stands for itself.
+fn is_plain_byte(byte: u8) -> bool
+    ensures { result ≡ is_plain byte }
+{
+    matches!(byte, b'0'..=b'9' | b'A'..=b'Z' | b'a'..=b'z' | b'.' | b'_' | b'-')
+}
+
+/// The value of a hexadecimal digit, where the letter for ten is `A` or `a`.
+fn digit_of(ten: u8, byte: u8) -> Option<u8>
+    requires { 0x41 ≤ ten }
+    ensures { MatchOption result ((d : ℕ) → d < 16 → byte ≢ hex_digit ten d) (λ d. (d < 16) × (byte ≡ hex_digit ten d)) }
+{
+    if byte.is_ascii_digit() {
+        Some(byte - b'0')
+    } else if ten <= byte && byte - ten < 6 {
+        Some(byte - ten + 10)
+    } else {
+        None
+    }
+}
+
+/// The byte that two hexadecimal digits spell, at the front of a text, and what stands behind them.
+pub fn split_pair(ten: u8, text: &[u8]) -> Option<(u8, &[u8])>
+    requires { 0x41 ≤ ten }
+    ensures { MatchOption result ((b : ℕ) (rest : List ℕ) → b < 256 → text.now ≢ hex_pair ten b ++ rest)
+        (λ x. (x.0 < 256) × (text.now ≡ hex_pair ten x.0 ++ x.1.now)) }
+{
+    let Some((high, rest)) = split_first(text) else {
+        return None;
+    };
+    let Some((low, rest)) = split_first(rest) else {
+        return None;
+    };
+    let Some(high) = digit_of(ten, high) else {
+        return None;
+    };
+    let Some(low) = digit_of(ten, low) else {
+        return None;
+    };
+    Some((16 * high + low, rest))
+}
+
+/// The byte of a name that stands at the front of a text, and what stands behind it.
+fn split_byte(text: &[u8]) -> Option<(u8, &[u8])>
+    ensures { MatchOption result ((b : ℕ) (rest : List ℕ) → b < 256 → text.now ≢ escape b ++ rest)
+        (λ x. (x.0 < 256) × (text.now ≡ escape x.0 ++ x.1.now)) }
+{
+    let Some((first, rest)) = split_first(text) else {
+        return None;
+    };
+    if is_plain_byte(first) {
+        return Some((first, rest));
+    }
+    if first != b'%' {
+        return None;
+    }
+    let Some((byte, rest)) = split_pair(b'A', rest) else {
+        return None;
+    };
+    if is_plain_byte(byte) {
+        return None;
+    }
+    Some((byte, rest))
+}
+
+/// The bytes that a word spells.
+fn unescaped(alloc: Global, word: &[u8]) -> Result<Option<Vec<u8>>, AllocError>
+    ensures { IfOk result (λ found. MatchOption found ((bytes : List ℕ) → AreBytes bytes → word.now ≢ escaped bytes)
+        (λ bytes. AreBytes bytes.items × (word.now ≡ escaped bytes.items))) }
+{
+    let mut bytes = Vec::new(alloc);
+    let mut rest = word;
+    'bytes: while let Some((byte, behind)) = split_byte(rest) {
+        bytes.push(byte)?;
+        rest = behind;
+    }
+    if !rest.is_empty() {
+        return Ok(None);
+    }
+    Ok(Some(bytes))
+}
+
+/// The name that a word spells.
+pub fn read_name(alloc: Global, word: &[u8]) -> Result<Option<Name>, AllocError>
+    ensures { IfOk result (λ found. MatchOption found ((name : List ℕ) → IsName name → AreBytes name → word.now ≢ escaped name)
+        (λ name. IsName name × AreBytes name × (word.now ≡ escaped name))) }
+{
+    let Some(bytes) = unescaped(alloc, word)? else {
+        return Ok(None);
+    };
+    Name::read(alloc, bytes.as_slice())
+}

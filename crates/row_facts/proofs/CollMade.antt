@@ -1,0 +1,136 @@
+-- Rows after a collection is made.
+use Rattle.std.proofs.Common.{◌≡◌, ◌≢◌, inl, inr, ℕ, List, [], ◌∷◌, length, Option, Some, None, Ok, is_some, option_and_then, refl, sym, ap, subst, ◌∙◌, ◌↔◌}
+use Rattle.std.specs.FinMap as map
+use Rattle.meta_rows.specs.Rows.{Rows, rows_after}
+use Rattle.meta_log.specs.declared.slot.Super.{Super}
+use Rattle.object_model.specs.Objects.{Collection, Objects}
+use Rattle.object_model.specs.Effect.{effects, with_collection, transaction_effect, object_under, ◌>>=◌}
+use Rattle.object_model.specs.declared.op.Op.TheVariants.{MkColl}
+use Rattle.unit_fields.specs.Names.{IsCollName}
+use Rattle.byte_maps.specs.ByteMap.{byte_order}
+use Rattle.row_format.specs.Keys.{coll_key, onode_key}
+use Rattle.row_format.specs.Extents.{Extent}
+use Rattle.row_format.specs.Row.{Row, collection, onode, shard}
+use Rattle.row_format.proofs.KeyLemmas.{same_coll, coll_no_object}
+use Rattle.store_image.specs.Pages.{HasRow}
+use Rattle.store_image.specs.BadRows.{IsInPlace, NoBadRow}
+use Rattle.store_image.specs.Owners.{Owner, page_of, Owns, IsOwned}
+use Rattle.store_image.specs.Stands.{IsShape, ObjectsStand}
+use Rattle.store_image.proofs.ByteLemmas.{equal_or_not}
+use Rattle.row_facts.specs.SinglePages.{HasSinglePages, HasSoleOwners}
+use Rattle.row_facts.specs.Operations.{coll_ops, coll_change}
+use Rattle.row_facts.proofs.Maps.{get_same, get_other}
+use Rattle.row_facts.proofs.PutRow.{put_row, kind_kept, key_kept, row_kept, row_cases, single_after, good_after, IsApart, page_kept, page_was}
+use Rattle.row_facts.proofs.Shapes.{shape_kept, bytes_kept}
+
+-- the effect of the transaction
+pub coll_effect : (objects : Objects) (c : List ℕ) → map.get objects c ≡ None → transaction_effect (coll_change c) objects ≡ Ok (map.insert objects c map.empty)
+coll_effect objects c none = ap (λ x. effects (MkColl ∷ []) x >>= λ y. Ok (with_collection objects c y)) none
+
+module _ (rows : Rows) (c : List ℕ) where
+  abbrev r : Row
+  r = collection c
+
+  -- an onode or a shard stays as it is
+  key_apart : (d u rest : List ℕ) → onode_key d u ≢ coll_key c
+  key_apart d u rest e = coll_no_object c d u _ (sym e)
+
+  shard_apart : (d u : List ℕ) → IsApart rows r d u
+  shard_apart d u page es fits e = coll_no_object c d u _ (sym e)
+
+  was_onode : IsCollName c → (d u : List ℕ) (size : ℕ) → HasRow (put_row rows r) (onode d u size) → HasRow rows (onode d u size)
+  was_onode name d u size has = elim (row_cases rows r name (onode d u size) has) [ inl e ↦ absurd cc | inr old ↦ old.0 ]
+
+  was_shard : IsCollName c → (d u : List ℕ) (page : ℕ) (es : List Extent) → HasRow (put_row rows r) (shard d u page es) → HasRow rows (shard d u page es)
+  was_shard name d u page es has = elim (row_cases rows r name (shard d u page es) has) [ inl e ↦ absurd cc | inr old ↦ old.0 ]
+
+  kept_in_place : IsCollName c → (s : Super) (x : Row) → IsInPlace s rows x → IsInPlace s (put_row rows r) x
+  kept_in_place name s (collection d) is = tt
+  kept_in_place name s (onode d u size) is = (key_kept rows r (coll_key d) is.0, is.1)
+  kept_in_place name s (shard d u page es) is = record {
+    has_collection = key_kept rows r (coll_key d) is.has_collection;
+    has_onode = key_kept rows r (onode_key d u) is.has_onode;
+    ascend = is.ascend;
+    behind = λ earlier fs below has. is.behind earlier fs below (was_shard name d u earlier fs has);
+    within = λ size has. is.within size (was_onode name d u size has);
+    on_data = is.on_data;
+  }
+
+  pub coll_good : (s : Super) → IsCollName c → NoBadRow s rows → NoBadRow s (rows_after rows (coll_ops c))
+  coll_good s name good = good_after rows r s name good tt (λ x has apart is. kept_in_place name s x is)
+
+  pub coll_single : IsCollName c → HasSinglePages rows → HasSinglePages (rows_after rows (coll_ops c))
+  coll_single name all = single_after rows r name tt all
+
+  pub coll_owners : (owner : Owner) (unit : ℕ) → Owns (rows_after rows (coll_ops c)) owner unit ↔ Owns rows owner unit
+  coll_owners (page_of d u page) unit = (
+    λ owns. (owns.0, page_was rows r d u (shard_apart d u) page owns.0 owns.1, owns.2),
+    λ owns. (owns.0, page_kept rows r d u (shard_apart d u) page owns.0 owns.1, owns.2),
+  )
+
+  pub coll_owned : (unit : ℕ) → IsOwned (rows_after rows (coll_ops c)) unit ↔ IsOwned rows unit
+  coll_owned unit = (
+    λ owned. (owned.0, (coll_owners owned.0 unit).0 owned.1),
+    λ owned. (owned.0, (coll_owners owned.0 unit).1 owned.1),
+  )
+
+  pub coll_sole : HasSoleOwners rows → HasSoleOwners (rows_after rows (coll_ops c))
+  coll_sole sole unit a b p q = sole unit a b ((coll_owners a unit).0 p) ((coll_owners b unit).0 q)
+
+  module _ (objects : Objects) (none : map.get objects c ≡ None) where
+    -- the objects are the same, each under its name
+    same_under : (d u : List ℕ) → object_under (map.insert objects c map.empty) d u ≡ object_under objects d u
+    same_under d u = elim (equal_or_not d c) [
+      | inl e ↦ ap (λ x. object_under (map.insert objects c map.empty) x u) e
+          ∙ ap (λ (x : Option Collection). option_and_then (λ (found : Collection). map.get found u) x) (get_same objects c map.empty)
+          ∙ map.get-empty byte_order u
+          ∙ ap (λ (x : Option Collection). option_and_then (λ (found : Collection). map.get found u) x) (sym none) ∙ ap (λ x. object_under objects x u) (sym e)
+      | inr apart ↦ ap (λ (x : Option Collection). option_and_then (λ (found : Collection). map.get found u) x) (get_other objects c map.empty d apart)
+    ]
+
+    same_colls : (d : List ℕ) → map.contains_key objects d ≡ map.contains_key rows (coll_key d)
+        → map.contains_key (map.insert objects c map.empty) d ≡ map.contains_key (put_row rows r) (coll_key d)
+    same_colls d is = elim (equal_or_not d c) [
+      | inl e ↦ ap (λ x. map.contains_key (map.insert objects c map.empty) x) e ∙ ap is_some (get_same objects c map.empty)
+          ∙ sym (ap is_some (get_same rows (coll_key c) [])) ∙ ap (λ x. map.contains_key (put_row rows r) (coll_key x)) (sym e)
+      | inr apart ↦ ap is_some (get_other objects c map.empty d apart) ∙ is
+          ∙ sym (ap is_some (get_other rows (coll_key c) [] (coll_key d) (λ e. apart (same_coll d c e))))
+    ]
+
+    same_onode : (d u : List ℕ) → map.get (put_row rows r) (onode_key d u) ≡ map.get rows (onode_key d u)
+    same_onode d u = get_other rows (coll_key c) [] (onode_key d u) (key_apart d u [])
+
+    onode_kept : (d u : List ℕ) (size : ℕ) → HasRow rows (onode d u size) → HasRow (put_row rows r) (onode d u size)
+    onode_kept d u size has = row_kept rows r (onode d u size) has (key_apart d u [])
+
+    pub coll_shape : IsShape rows objects → IsShape (rows_after rows (coll_ops c)) (map.insert objects c map.empty)
+    coll_shape shape = record {
+      collections = λ d. same_colls d (shape.collections d);
+      present = λ d u object is.
+          let old = shape.present d u object (sym (same_under d u) ∙ is) in
+          shape_kept rows (put_row rows r) d u object (kind_kept rows r) (onode_kept d u (length object.bytes) old.size) old;
+      missing = λ d u coll name is. same_onode d u ∙ shape.missing d u coll name (sym (same_under d u) ∙ is);
+    }
+
+    pub coll_stand : (at : ℕ → List ℕ) → ObjectsStand at rows objects → ObjectsStand at (rows_after rows (coll_ops c)) (map.insert objects c map.empty)
+    coll_stand at p = record {
+      shape = coll_shape p.shape;
+      bytes = λ d u object is. bytes_kept at at rows r d u object.bytes (shard_apart d u) (λ unit owned. refl) (p.bytes d u object (sym (same_under d u) ∙ is));
+    }
+
+-- what the transaction makes, where it is not refused
+pub coll_after : (objects after : Objects) (c : List ℕ) → transaction_effect (coll_change c) objects ≡ Ok after
+    → (map.get objects c ≡ None) × (after ≡ map.insert objects c map.empty)
+coll_after objects after c is = elim (map.get objects c) as (λ x. map.get objects c ≡ x → (x ≡ None) × (after ≡ map.insert objects c map.empty)) [
+  | None ↦ λ p. (refl, (let e : Ok after ≡ Ok (map.insert objects c map.empty) = sym is ∙ coll_effect objects c p in cc))
+  | Some found ↦ λ p. absurd (let e = sym (ap (λ x. effects (MkColl ∷ []) x >>= λ y. Ok (with_collection objects c y)) p) ∙ is in cc)
+] refl
+
+pub coll_stands : (at : ℕ → List ℕ) (rows : Rows) (objects after : Objects) (c : List ℕ) → ObjectsStand at rows objects
+    → transaction_effect (coll_change c) objects ≡ Ok after → ObjectsStand at (rows_after rows (coll_ops c)) after
+coll_stands at rows objects after c p is =
+    let e = coll_after objects after c is in
+    subst (ObjectsStand at (rows_after rows (coll_ops c))) (sym e.1) (coll_stand rows c objects e.0 at p)
+
+-- what the laws cite
+pub ruleset coll_laws = (coll_good, coll_single, coll_sole)

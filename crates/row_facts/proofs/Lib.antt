@@ -1,0 +1,13 @@
+pub mod Maps
+pub mod PutRow
+pub mod Shapes
+pub mod CollMade
+pub mod SinglePage
+pub mod PagePut
+pub mod PageWritten
+pub mod PageOwners
+pub mod Replies
+pub mod NoRows
+pub mod Lengths
+pub mod ByRow
+pub mod Plans

@@ -1,0 +1,53 @@
+-- No rows, and no objects.
+use Rattle.std.proofs.Common.{◌≡◌, ℕ, List, Option, None, sym, ap, ◌∙◌}
+use Rattle.std.specs.FinMap as map
+use Rattle.byte_maps.specs.ByteMap.{byte_order}
+use Rattle.meta_rows.specs.Rows.{Rows}
+use Rattle.meta_log.specs.declared.slot.Super.{Super}
+use Rattle.object_model.specs.Objects.{Collection}
+use Rattle.object_model.specs.Effect.{object_under}
+use Rattle.row_format.specs.Keys.{coll_key, onode_key}
+use Rattle.row_format.specs.Row.{Row, row_key, shard}
+use Rattle.store_image.specs.Pages.{HasRow}
+use Rattle.store_image.specs.BadRows.{NoBadRow}
+use Rattle.store_image.specs.Owners.{Owner, page_of, Owns, IsOwned}
+use Rattle.store_image.specs.Stands.{ObjectsStand}
+use Rattle.row_facts.specs.SinglePages.{HasSinglePages, HasSoleOwners}
+use Rattle.std.specs.Prelude.{option_and_then, is_some}
+
+abbrev none : Rows
+none = map.empty
+
+no_row : (row : Row) → HasRow none row → ⊥
+no_row row has = let e = sym (map.get-empty byte_order (row_key row)) ∙ has.stands in absurd cc
+
+nobody : (owner : Owner) (unit : ℕ) → Owns none owner unit → ⊥
+nobody (page_of c o page) unit owns = no_row (shard c o owns.1.first owns.1.extents) owns.1.has_shard
+
+no_object : (c o : List ℕ) → object_under map.empty c o ≡ None
+no_object c o = ap (λ (x : Option Collection). option_and_then (λ (found : Collection). map.get found o) x) (map.get-empty byte_order c)
+
+pub none_good : (s : Super) → NoBadRow s none
+none_good s key value stands = absurd (let e = sym (map.get-empty byte_order key) ∙ stands in cc)
+
+pub none_single : HasSinglePages none
+none_single row has = absurd (no_row row has)
+
+pub none_stand : (at : ℕ → List ℕ) → ObjectsStand at none map.empty
+none_stand at = record {
+  shape = record {
+    collections = λ c. ap is_some (map.get-empty byte_order c) ∙ sym (ap is_some (map.get-empty byte_order (coll_key c)));
+    present = λ c o object is. absurd (let e = sym (no_object c o) ∙ is in cc);
+    missing = λ c o coll name is. map.get-empty byte_order (onode_key c o);
+  };
+  bytes = λ c o object is. absurd (let e = sym (no_object c o) ∙ is in cc);
+}
+
+pub none_owned : (unit : ℕ) → ¬ IsOwned none unit
+none_owned unit owned = nobody owned.0 unit owned.1
+
+pub none_sole : HasSoleOwners none
+none_sole unit a b p q = absurd (nobody a unit p)
+
+-- what the laws cite
+pub ruleset none_laws = (none_good, none_single, none_sole)

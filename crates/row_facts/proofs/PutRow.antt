@@ -1,0 +1,97 @@
+-- Rows after one row is put in.
+use Rattle.std.proofs.Common.{◌≡◌, ◌≢◌, ◌⊎◌, inl, inr, ℕ, List, ◌∷◌, Some, None, refl, sym, ap, subst, ◌∙◌}
+use Rattle.std.specs.FinMap as map
+use Rattle.meta_rows.specs.Rows.{Rows}
+use Rattle.meta_log.specs.declared.slot.Super.{Super}
+use Rattle.row_format.specs.Extents.{Extent, Place}
+use Rattle.row_format.specs.Row.{Row, collection, onode, shard, row_key, row_value, FitsRow}
+use Rattle.row_format.proofs.RowLemmas.{same_row}
+use Rattle.row_format.proofs.KeyLemmas.{same_head}
+use Rattle.store_image.specs.Pages.{HasKey, HasRow, IsPageAt}
+use Rattle.store_image.specs.BadRows.{IsInPlace, NoBadRow}
+use Rattle.store_image.proofs.ByteLemmas.{equal_or_not}
+use Rattle.row_facts.specs.SinglePages.{IsOfSinglePage, HasSinglePages}
+use Rattle.row_facts.proofs.Maps.{get_same, get_other, some_after}
+
+abbrev pub put_row : Rows → Row → Rows
+put_row rows r = map.insert rows (row_key r) (row_value r)
+
+-- the heads of the keys of all rows
+key_begins : (r : Row) (k : ℕ) (rest : List ℕ) → k ∷ rest ≡ row_key r → (k ≡ 0x43) ⊎ (k ≡ 0x4f)
+key_begins (collection c) k rest e = inl (same_head _ _ _ _ e)
+key_begins (onode c o size) k rest e = inr (same_head _ _ _ _ e)
+key_begins (shard c o page es) k rest e = inr (same_head _ _ _ _ e)
+
+-- no row has a key of another kind
+pub no_other_kind : (s : Super) (rows : Rows) → NoBadRow s rows → (k : ℕ) (rest : List ℕ) → k ≢ 0x43 → k ≢ 0x4f → map.get rows (k ∷ rest) ≡ None
+no_other_kind s rows good k rest c o = elim (map.get rows (k ∷ rest)) as (λ x. map.get rows (k ∷ rest) ≡ x → x ≡ None) [
+  | None ↦ λ p. refl
+  | Some v ↦ λ p. absurd (let g = good (k ∷ rest) v p in elim (key_begins g.row k rest g.key_is) [ inl e ↦ c e | inr e ↦ o e ])
+] refl
+
+module _ (rows : Rows) (r : Row) where
+  pub kind_kept : (k : ℕ) (rest : List ℕ) → k ≢ 0x43 → k ≢ 0x4f → map.get (put_row rows r) (k ∷ rest) ≡ map.get rows (k ∷ rest)
+  kind_kept k rest c o = get_other rows (row_key r) (row_value r) (k ∷ rest) (λ e. elim (key_begins r k rest e) [ inl is ↦ c is | inr is ↦ o is ])
+
+  pub key_kept : (key : List ℕ) → HasKey rows key → HasKey (put_row rows r) key
+  key_kept key there = some_after rows (row_key r) (row_value r) key there
+
+  pub new_row : FitsRow r → HasRow (put_row rows r) r
+  new_row fits = record { fits = fits; stands = get_same rows (row_key r) (row_value r) }
+
+  pub row_kept : (x : Row) → HasRow rows x → row_key x ≢ row_key r → HasRow (put_row rows r) x
+  row_kept x has apart = record { fits = has.fits; stands = get_other rows (row_key r) (row_value r) (row_key x) apart ∙ has.stands }
+
+  -- a row is the new one, or was there
+  pub row_cases : FitsRow r → (x : Row) → HasRow (put_row rows r) x → (x ≡ r) ⊎ (HasRow rows x × (row_key x ≢ row_key r))
+  row_cases fits x has = elim (equal_or_not (row_key x) (row_key r)) [
+    | inl e ↦
+        let value : Some (row_value x) ≡ Some (row_value r) = sym has.stands ∙ ap (λ k. map.get (put_row rows r) k) e
+        ∙ get_same rows (row_key r) (row_value r) in
+        inl (same_row x r has.fits fits e cc)
+    | inr apart ↦ inr (record { fits = has.fits; stands = sym (get_other rows (row_key r) (row_value r) (row_key x) apart) ∙ has.stands }, apart)
+  ]
+
+  pub single_after : FitsRow r → IsOfSinglePage r → HasSinglePages rows → HasSinglePages (put_row rows r)
+  single_after fits is all x has = elim (row_cases fits x has) [
+    | inl e ↦ subst IsOfSinglePage (sym e) is
+    | inr old ↦ all x old.0
+  ]
+
+  -- no row is bad after, if the new one is in its place, and those that stay are in theirs
+  pub good_after : (s : Super) → FitsRow r → NoBadRow s rows → IsInPlace s (put_row rows r) r
+      → ((x : Row) → HasRow rows x → row_key x ≢ row_key r → IsInPlace s rows x → IsInPlace s (put_row rows r) x) → NoBadRow s (put_row rows r)
+  good_after s fits good new old key value stands = elim (equal_or_not key (row_key r)) [
+    | inl e ↦
+        let same : Some value ≡ Some (row_value r) = sym stands ∙ ap (λ k. map.get (put_row rows r) k) e ∙ get_same rows (row_key r) (row_value r) in
+        record { row = r; fits = fits; key_is = e; value_is = cc; in_place = new }
+    | inr apart ↦
+        let found : map.get rows key ≡ Some value = sym (get_other rows (row_key r) (row_value r) key apart) ∙ stands in
+        let g = good key value found in
+        let has : HasRow rows g.row = record { fits = g.fits; stands = ap (λ k. map.get rows k) (sym g.key_is) ∙ found ∙ ap Some g.value_is } in
+        record { row = g.row; fits = g.fits; key_is = g.key_is; value_is = g.value_is; in_place = old g.row has (λ e. apart (g.key_is ∙ e)) g.in_place }
+  ]
+
+  -- the row is no shard of the object
+  abbrev pub IsApart : List ℕ → List ℕ → Type 0
+  IsApart d u = (page : ℕ) (es : List Extent) → FitsRow (shard d u page es) → row_key (shard d u page es) ≢ row_key r
+
+  module _ (d u : List ℕ) (apart : IsApart d u) (page : ℕ) (place : Place) where
+    pub page_kept : IsPageAt rows d u page place → IsPageAt (put_row rows r) d u page place
+    page_kept is = record {
+      first = is.first;
+      extents = is.extents;
+      has_shard = row_kept (shard d u is.first is.extents) is.has_shard (apart is.first is.extents is.has_shard.fits);
+      has_page = is.has_page;
+    }
+
+    pub page_was : IsPageAt (put_row rows r) d u page place → IsPageAt rows d u page place
+    page_was is = record {
+      first = is.first;
+      extents = is.extents;
+      has_shard = record {
+        fits = is.has_shard.fits;
+        stands = sym (get_other rows (row_key r) (row_value r) _ (apart is.first is.extents is.has_shard.fits)) ∙ is.has_shard.stands;
+      };
+      has_page = is.has_page;
+    }

@@ -1,0 +1,37 @@
+-- The shape and the bytes of an object that a row put in leaves as it was.
+use Rattle.std.proofs.Common.{◌≡◌, ◌≢◌, ℕ, List, ◌∷◌, length, unwrap_or, [], refl, sym, ap, ◌∙◌, arith}
+use Rattle.std.specs.FinMap as map
+use Rattle.meta_rows.specs.Rows.{Rows}
+use Rattle.object_model.specs.Objects.{Object}
+use Rattle.row_format.specs.Row.{Row, onode}
+use Rattle.store_image.specs.Pages.{HasRow}
+use Rattle.store_image.specs.Owners.{page_of, IsOwned}
+use Rattle.store_image.specs.Stands.{IsObjectShape, AreObjectBytes}
+use Rattle.row_facts.proofs.PutRow.{put_row, IsApart, page_kept, page_was}
+
+-- rows of other kinds than collections, onodes and shards are the same
+abbrev pub SameOthers : Rows → Rows → Type 0
+SameOthers rows after = (k : ℕ) (rest : List ℕ) → k ≢ 0x43 → k ≢ 0x4f → map.get after (k ∷ rest) ≡ map.get rows (k ∷ rest)
+
+pub shape_kept : (rows after : Rows) (c o : List ℕ) (object : Object) → SameOthers rows after → HasRow after (onode c o (length object.bytes))
+    → IsObjectShape rows c o object → IsObjectShape after c o object
+shape_kept rows after c o object same size shape = record {
+  size = size;
+  size_most = shape.size_most;
+  attr_names = shape.attr_names;
+  attrs = λ name is. shape.attrs name is ∙ sym (same 0x41 _ (λ e. omega (arith, e)) (λ e. omega (arith, e)));
+  header = shape.header ∙ ap (λ x. unwrap_or x []) (sym (same 0x4d _ (λ e. omega (arith, e)) (λ e. omega (arith, e))));
+  omap_keys = shape.omap_keys;
+  omap = λ key is. shape.omap key is ∙ sym (same 0x4d _ (λ e. omega (arith, e)) (λ e. omega (arith, e)));
+}
+
+-- the object's pages are seen as before, where its units are
+pub bytes_kept : (at after : ℕ → List ℕ) (rows : Rows) (r : Row) (d u : List ℕ) (bytes : List ℕ) → IsApart rows r d u
+    → ((unit : ℕ) → IsOwned rows unit → after unit ≡ at unit) → AreObjectBytes at rows d u bytes → AreObjectBytes after (put_row rows r) d u bytes
+bytes_kept at after rows r d u bytes apart same all = record {
+  mapped = λ page place is.
+      let was = page_was rows r d u apart page place is in
+      let seen = all.mapped page place was in
+      record { seen = seen.seen ∙ sym (same place.unit (page_of d u page, (place, was, refl))); kept = seen.kept };
+  holes = λ page hole. all.holes page (λ place is. hole place (page_kept rows r d u apart page place is));
+}

@@ -1,0 +1,8 @@
+use Rattle.row_facts.proofs.NoRows.{none_stand, none_owned}
+use Rattle.row_facts.proofs.laws.no_rows.Goals as goal
+
+pub returns-clause-stand : goal.returns-clause-stand
+returns-clause-stand c = none_stand
+
+pub returns-clause-owned : goal.returns-clause-owned
+returns-clause-owned c = none_owned

@@ -1,0 +1,3 @@
+pub mod SinglePages
+pub mod Operations
+pub mod Plans

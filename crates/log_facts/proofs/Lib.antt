@@ -1,0 +1,7 @@
+pub mod Keeping
+pub mod Joins
+pub mod Writing
+pub mod Reading
+pub mod Crashes
+pub mod Mounting
+pub mod Cuts

@@ -1,0 +1,5 @@
+pub mod Flushing
+pub mod SlotFacts
+pub mod HalfFacts
+pub mod CrashRows
+pub mod Soundness

@@ -1,0 +1,17 @@
+-- Rows and units that stand for objects in whatever a crash leaves.
+use Rattle.std.specs.Prelude.{ℕ}
+use Rattle.block_device.specs.Log.{IsClean}
+use Rattle.block_device.specs.Disk.{History}
+use Rattle.block_device.specs.Facts.{last_at}
+use Rattle.object_model.specs.Objects.{Objects}
+use Rattle.meta_rows.specs.Rows.{Rows}
+use Rattle.meta_log.specs.declared.slot.Super.{Super}
+use Rattle.store_image.specs.BadRows.{NoBadRow}
+use Rattle.store_image.specs.Owners.{IsOwned}
+use Rattle.store_image.specs.Stands.{ObjectsStand}
+
+-- The rows are good, they and the bytes last written stand for the objects, and no owned unit is dirty.
+pub record SoundFor (h : History) (s : Super) (rows : Rows) (objects : Objects) : Type 0 where
+  pub good : NoBadRow s rows
+  pub stand : ObjectsStand (last_at h) rows objects
+  pub clean : (unit : ℕ) → IsOwned rows unit → IsClean h.log unit

@@ -1,0 +1,154 @@
+//! How the facts of slots and log go on from one event to the next, and what they come to.
+
+ghost use Rattle.std.specs.Prelude.{◌≡◌, ℕ, ◌+◌, ◌-◌, ◌*◌, ◌<◌, ◌≤◌, true, List, [], ◌∷◌, ◌++◌, length, take, Option, Some, None};
+ghost use Rattle.std.specs.FinMap as map;
+ghost use Rattle.byte_maps.specs.Units.{units_from, zeros, IsUnits};
+ghost use Rattle.block_device.specs.Log.{last, WritesUnit, IsClean, IsCrashImage};
+ghost use Rattle.block_device.specs.Disk.{History, Flight};
+ghost use Rattle.block_device.specs.Facts.{with_event, last_at, Fits, EachWriteIsAnswered, QuietAt, IsUnflown};
+ghost use Rattle.block_device.specs.declared.event.Event.{Event};
+ghost use Rattle.block_device.specs.declared.event.Event.TheVariants.{Write, Flush, Done};
+ghost use Rattle.object_model.specs.Objects.{Objects};
+ghost use Rattle.object_model.specs.Effect.{replay};
+ghost use Rattle.object_model.specs.Book.{committed, HasAcked};
+ghost use Rattle.object_model.specs.declared.book.Book.{Book};
+ghost use Rattle.meta_rows.specs.declared.row_op.RowOp.{RowOp};
+ghost use Rattle.meta_rows.specs.Rows.{Rows, rows_after, rows_of_records};
+ghost use Rattle.meta_log.specs.declared.slot.Super.{Super};
+ghost use Rattle.meta_log.specs.Slots.{active_unit, IsSuper, IsActiveSlot};
+ghost use Rattle.meta_log.specs.Records.{record_units, unit_count, AreRecords, active_half, AreRowsOf};
+ghost use Rattle.store_image.specs.BadRows.{NoBadRow};
+ghost use Rattle.store_image.specs.Stands.{ObjectsStand, StandsFor};
+ghost use Rattle.store_image.specs.Chance.{NoChanceMatch};
+ghost use Rattle.store_image.specs.Durability.{LeavesPrefix};
+ghost use Rattle.log_facts.specs.Flushing.{FlushState, not_sent, sent, flushed, IsFlushed, WritesNoneOf};
+ghost use Rattle.log_facts.specs.SlotFacts.{SlotsStand};
+ghost use Rattle.log_facts.specs.HalfFacts.{records_units, IsSpellable, ActiveHalfStands};
+ghost use Rattle.log_facts.specs.CrashRows.{LeavesRows};
+ghost use Rattle.log_facts.specs.Soundness.{SoundFor};
+
+/// What is known of the slots stays known over an event that writes neither.
+pub fn an_event_elsewhere_keeps_the_slots()
+    ensures { (h : History) (s : Super) (event : Event) → Fits (length (last h.start h.log)) event → WritesNoneOf 0 2 event →
+        SlotsStand h s → SlotsStand (with_event h event) s }
+{}
+
+/// What is known of the active half stays known over an event that writes none of its units.
+pub fn an_event_elsewhere_keeps_the_half()
+    ensures { (h : History) (s : Super) (rows : Rows) (tail number : ℕ) (begun : Option (List RowOp)) (given_from : ℕ)
+        (second : FlushState) (recs : List (List RowOp)) (event : Event) →
+        Fits (length (last h.start h.log)) event → WritesNoneOf (active_unit s) s.half event →
+        ActiveHalfStands h s rows tail number begun given_from second recs →
+        ActiveHalfStands (with_event h event) s rows tail number begun given_from second recs }
+{}
+
+/// On a device without a dirty unit the slots are known by the active one, and of a half that is all zeros it is known that it has
+/// no record.
+pub fn a_fresh_log()
+    ensures slots { (h : History) (s : Super) → ((unit : ℕ) → IsClean h.log unit) → IsActiveSlot (last h.start h.log) s →
+        SlotsStand h s }
+    ensures half { (h : History) (s : Super) → ((unit : ℕ) → IsClean h.log unit) →
+        ((k : ℕ) → k < s.half → last_at h (active_unit s + k) ≡ zeros 4096) →
+        ActiveHalfStands h s map.empty 0 s.first None 0 not_sent [] }
+{}
+
+/// On a device without a dirty unit what is known of the half follows from the records that are read there, where the units behind
+/// them are zeros.
+pub fn a_log_that_is_read()
+    ensures { (h : History) (s : Super) (recs : List (List RowOp)) (tail : ℕ) → ((unit : ℕ) → IsClean h.log unit) →
+        IsSuper s → IsUnits s.units (last h.start h.log) → AreRecords recs s.first (active_half (last h.start h.log) s) →
+        IsUnits tail (records_units s.first recs) →
+        ((k : ℕ) → tail ≤ k → k < s.half → last_at h (active_unit s + k) ≡ zeros 4096) →
+        ActiveHalfStands h s (rows_of_records map.empty recs) tail (s.first + length recs) None 0 not_sent recs }
+{}
+
+/// A flush covers a unit where no write of it is in flight at the submission, keeps it covered while it is not written again, and
+/// has cleaned it at the good end.
+pub fn a_flush_of_a_unit()
+    ensures elsewhere { (h : History) (event : Event) (state : FlushState) (unit : ℕ) → ¬ WritesUnit unit event →
+        IsFlushed h.log state unit → IsFlushed (with_event h event).log state unit }
+    ensures submitted { (h : History) (base : ℕ) (flights : List Flight) (unit : ℕ) → QuietAt base h → EachWriteIsAnswered base h flights →
+        IsUnflown flights unit → IsFlushed (with_event h Flush).log (sent (length h.log)) unit }
+    ensures ended { (h : History) (flush unit : ℕ) → IsFlushed h.log (sent flush) unit →
+        IsFlushed (with_event h (Done flush true)).log flushed unit }
+{}
+
+/// A record may begin where it has a spelling and room; none of its units is given to the device yet.
+pub fn a_record_begins()
+    ensures { (h : History) (s : Super) (rows : Rows) (tail number : ℕ) (ops : List RowOp) (recs : List (List RowOp))
+        (given_from : ℕ) (second : FlushState) → IsSpellable number ops → tail + unit_count number ops ≤ s.half →
+        ActiveHalfStands h s rows tail number None given_from second recs →
+        ActiveHalfStands h s rows tail number (Some ops) (unit_count number ops) not_sent recs }
+{}
+
+/// The piece before those that were given is given to the device.
+pub fn a_piece_is_given()
+    ensures { (h : History) (s : Super) (rows : Rows) (tail number : ℕ) (ops : List RowOp) (recs : List (List RowOp))
+        (given_from from : ℕ) → from ≤ given_from →
+        ActiveHalfStands h s rows tail number (Some ops) given_from not_sent recs →
+        (at : ℕ) (piece : List ℕ) → at ≡ active_unit s + tail + from →
+        piece ≡ units_from from (given_from - from) (record_units number ops) →
+        4096 * at + length piece ≤ length (last h.start h.log) →
+        ActiveHalfStands (with_event h (Write at piece)) s rows tail number (Some ops) from not_sent recs }
+{}
+
+/// A flush is submitted while no write of the units that were given is in flight: it covers them.
+pub fn the_flush_of_a_record()
+    ensures { (h : History) (s : Super) (rows : Rows) (tail number : ℕ) (ops : List RowOp) (recs : List (List RowOp))
+        (base : ℕ) (flights : List Flight) (given_from : ℕ) → QuietAt base h → EachWriteIsAnswered base h flights →
+        ((j : ℕ) → given_from ≤ j → j < unit_count number ops → IsUnflown flights (active_unit s + (tail + j))) →
+        ActiveHalfStands h s rows tail number (Some ops) given_from not_sent recs →
+        ActiveHalfStands (with_event h Flush) s rows tail number (Some ops) given_from (sent (length h.log)) recs }
+{}
+
+/// Its good end makes them clean.
+pub fn the_flush_has_ended()
+    ensures { (h : History) (s : Super) (rows : Rows) (tail number : ℕ) (ops : List RowOp) (recs : List (List RowOp))
+        (flush given_from : ℕ) → ActiveHalfStands h s rows tail number (Some ops) given_from (sent flush) recs →
+        ActiveHalfStands (with_event h (Done flush true)) s rows tail number (Some ops) given_from flushed recs }
+{}
+
+/// A record that was wholly given and flushed is the last one of the log.
+pub fn a_record_is_committed()
+    ensures { (h : History) (s : Super) (rows : Rows) (tail number : ℕ) (ops : List RowOp) (recs : List (List RowOp)) →
+        ActiveHalfStands h s rows tail number (Some ops) 0 flushed recs →
+        ActiveHalfStands h s (rows_after rows ops) (tail + unit_count number ops) (number + 1) None 0 not_sent (recs ++ ops ∷ []) }
+{}
+
+/// While no record is begun, what the device holds stands for the objects that the rows and its units stand for.
+pub fn a_log_stands_for_its_objects()
+    ensures { (h : History) (s : Super) (rows : Rows) (tail number given_from : ℕ) (second : FlushState) (recs : List (List RowOp))
+        (objects : Objects) → IsUnits s.units (last h.start h.log) → SlotsStand h s →
+        ActiveHalfStands h s rows tail number None given_from second recs →
+        NoBadRow s rows → ObjectsStand (last_at h) rows objects → StandsFor (last h.start h.log) objects }
+{}
+
+/// What a crash leaves has the super, and the rows as the log has them; or, once a begun record was wholly given to the device,
+/// perhaps the rows after its operations.
+pub fn a_crash_leaves_the_rows()
+    ensures { (h : History) (s : Super) (rows : Rows) (tail number : ℕ) (begun : Option (List RowOp)) (given_from : ℕ)
+        (second : FlushState) (recs : List (List RowOp)) (image : List ℕ) →
+        IsUnits s.units h.start → IsUnits s.units (last h.start h.log) → SlotsStand h s →
+        ActiveHalfStands h s rows tail number begun given_from second recs →
+        IsCrashImage h.start h.log image → NoChanceMatch h.start h.log image → LeavesRows image s rows begun given_from }
+{}
+
+/// Rows that are sound for objects stand for them in whatever a crash leaves that has these rows.
+pub fn sound_rows_survive_a_crash()
+    ensures { (h : History) (s : Super) (rows : Rows) (objects : Objects) (image : List ℕ) → SoundFor h s rows objects →
+        IsCrashImage h.start h.log image → IsActiveSlot image s → AreRowsOf image s rows → StandsFor image objects }
+{}
+
+/// A crash now leaves a front of the commits: where the log's rows are sound for the objects after the first `count` of them, among
+/// which is each acknowledged one, and, once the begun record was wholly given, the rows after it are for those after all commits.
+pub fn a_crash_now_leaves_a_prefix()
+    ensures { (h : History) (s : Super) (rows : Rows) (tail number : ℕ) (begun : Option (List RowOp)) (given_from : ℕ)
+        (second : FlushState) (recs : List (List RowOp)) (base : ℕ) (objects : Objects) (book : Book) (count : ℕ) →
+        IsUnits s.units h.start → IsUnits s.units (last h.start h.log) → SlotsStand h s →
+        ActiveHalfStands h s rows tail number begun given_from second recs →
+        count ≤ length book.commits → HasAcked base (length h.log) book.commits count →
+        SoundFor h s rows (replay objects (committed book.entries (take count book.commits))) →
+        ((ops : List RowOp) → begun ≡ Some ops → given_from ≡ 0 →
+        SoundFor h s (rows_after rows ops) (replay objects (committed book.entries book.commits))) →
+        LeavesPrefix base h.start objects book h.log }
+{}

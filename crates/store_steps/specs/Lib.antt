@@ -1,0 +1,9 @@
+pub mod State
+pub mod Contexts
+pub mod Changes
+pub mod Ready
+pub mod Steps
+pub mod Planning
+pub mod Submit
+pub mod Opened
+pub mod Runs

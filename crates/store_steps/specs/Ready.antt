@@ -1,0 +1,74 @@
+-- The table of steps: when each is ready.
+use Rattle.std.specs.Prelude.{ℕ, ◌-◌, ◌==◌, nat_lt, ◌&&◌, not, Bool, true, false, List, [], ◌∷◌, length, filter, is_some, is_none}
+use Rattle.std.specs.Option.{option_map_or}
+use Rattle.meta_log.specs.Records.{unit_count}
+use Rattle.meta_log.specs.Pieces.{piece_count}
+use Rattle.store_steps.specs.declared.step.Step.{Step}
+use Rattle.store_steps.specs.declared.step.Step.TheVariants.{Data, Reap, Take, Flush, Seal, Record, Sync, Commit, Finish}
+use Rattle.store_steps.specs.declared.flight.FlushState.{FlushState}
+use Rattle.store_steps.specs.declared.flight.FlushState.TheVariants as flush
+use Rattle.store_steps.specs.State.{Begun, Batch, State}
+use Rattle.store_steps.specs.Contexts.{next_unsent, chosen}
+
+abbrev pub is_empty : {A : Type 0} → List A → Bool
+is_empty [] = true
+is_empty (x ∷ xs) = false
+
+abbrev pub is_not_sent : FlushState → Bool
+is_not_sent flush.NotSent = true
+is_not_sent (flush.Sent ticket) = false
+is_not_sent flush.Flushed = false
+
+abbrev pub is_flushed : FlushState → Bool
+is_flushed flush.NotSent = false
+is_flushed (flush.Sent ticket) = false
+is_flushed flush.Flushed = true
+
+-- the pieces of the record that is being written
+abbrev pub pieces_of : ℕ → Begun → ℕ
+pieces_of number r = piece_count (unit_count number r.ops)
+
+-- there is a batch of which this holds
+abbrev pub batch_is : (Batch → Bool) → State → Bool
+batch_is test s = option_map_or test s.batch false
+
+-- there is a record that is being written, of which this holds
+abbrev pub begun_is : (Begun → Bool) → State → Bool
+begun_is test s = option_map_or test s.log.begun false
+
+-- how many commits have been applied to the committed rows: all but those of the open batch
+abbrev pub applied_count : State → ℕ
+applied_count s = length s.book.commits - option_map_or (λ b. length b.contexts) s.batch 0
+
+-- whether a step is ready while the kernel isn't down, where so many submissions may be in flight
+abbrev pub is_ready_up : Step → ℕ → State → Bool
+is_ready_up Data depth s = is_some (next_unsent s.pending) && nat_lt (length s.flying) depth
+is_ready_up Reap depth s = not (is_empty s.flying)
+is_ready_up Take depth s = is_none s.batch && is_some (chosen s.pending)
+is_ready_up Flush depth s = batch_is (λ b. is_not_sent b.first) s && nat_lt (length s.flying) depth
+is_ready_up Seal depth s = is_some s.batch && is_none s.log.begun
+is_ready_up Record depth s = batch_is (λ b. is_flushed b.first) s && begun_is (λ r. nat_lt r.given (pieces_of s.log.number r)) s
+    && nat_lt (length s.flying) depth
+is_ready_up Sync depth s = batch_is (λ b. is_not_sent b.second) s && begun_is (λ r. r.written == pieces_of s.log.number r) s && nat_lt (length s.flying) depth
+is_ready_up Commit depth s = batch_is (λ b. is_flushed b.second) s
+is_ready_up Finish depth s = nat_lt s.acked (applied_count s)
+
+-- while it is down only Reap is ready
+abbrev pub is_ready_down : Step → State → Bool
+is_ready_down Reap s = not (is_empty s.flying)
+is_ready_down step s = false
+
+abbrev pub is_ready : Step → ℕ → State → Bool
+is_ready step depth s = option_map_or (λ ticket. is_ready_down step s) s.down (is_ready_up step depth s)
+
+-- the steps in the order of the table
+abbrev pub all_steps : List Step
+all_steps = Data ∷ Reap ∷ Take ∷ Flush ∷ Seal ∷ Record ∷ Sync ∷ Commit ∷ Finish ∷ []
+
+-- the ready ones
+abbrev pub ready_steps : ℕ → State → List Step
+ready_steps depth s = filter (λ step. is_ready step depth s) all_steps
+
+-- no step is ready
+abbrev pub is_drained : ℕ → State → Bool
+is_drained depth s = is_empty (ready_steps depth s)

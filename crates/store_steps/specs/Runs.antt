@@ -1,0 +1,42 @@
+-- Runs: lists of calls, each of which does what its relation says.
+use Rattle.std.specs.Prelude.{◌≡◌, ◌⊎◌, ℕ, ◌<◌, true, false, List, [], ◌∷◌, length, None}
+use Rattle.block_device.specs.Disk.{Disk, IsSound}
+use Rattle.object_model.specs.Effect.{Change}
+use Rattle.object_model.specs.declared.command.Answer.{Answer}
+use Rattle.store_steps.specs.declared.step.Step.{Step}
+use Rattle.store_steps.specs.declared.step.Step.TheVariants.{Reap}
+use Rattle.store_steps.specs.State.{State}
+use Rattle.store_steps.specs.Ready.{is_ready, is_drained}
+use Rattle.store_steps.specs.Steps.{Does, Takes}
+use Rattle.store_steps.specs.Submit.{IsKnown, Accepts, Refuses}
+
+-- a call of the kernel that changes it
+pub data Call : Type 0 where
+  submitting : (client line : ℕ) (change : Change) → Call
+  stepping : (step : Step) → Call
+
+-- A transaction may be submitted where the kernel is drained and not down, and its book has room.
+pub record MaySubmit (change : Change) (s : State) (d : Disk) : Type 0 where
+  pub up : s.down ≡ None
+  pub drained : is_drained d.depth s ≡ true
+  pub room : length s.book.entries < 1048576
+  pub known : IsKnown change.ops
+
+-- it is accepted, or refused with an answer
+abbrev pub Submits : ℕ → ℕ → Change → State → State → Type 0
+Submits client line change s s' = Accepts client line change s s' ⊎ ((a : Answer) × Refuses client line change a s s')
+
+-- a step, but for one that takes the end of a submission that ended badly
+abbrev pub DoesOrFails : Step → State → Disk → State → Disk → Type 0
+DoesOrFails Reap s d s' d' = Does Reap s d s' d' ⊎ Takes s d false s' d'
+DoesOrFails step s d s' d' = Does step s d s' d'
+
+-- what a call that is made does
+abbrev pub Calls : Call → State → Disk → State → Disk → Type 0
+Calls (submitting client line change) s d s' d' = MaySubmit change s d × Submits client line change s s' × (d' ≡ d)
+Calls (stepping step) s d s' d' = (is_ready step d.depth s ≡ true) × DoesOrFails step s d s' d'
+
+-- Calls, one after another, lead from one state of kernel and device to another. Behind each of them holds of the device what holds of every device.
+abbrev pub IsRun : State → Disk → List Call → State → Disk → Type 0
+IsRun s d [] s' d' = (s' ≡ s) × (d' ≡ d)
+IsRun s d (call ∷ calls) s' d' = (t : State) × ((e : Disk) × (Calls call s d t e × (IsSound e × IsRun t e calls s' d')))

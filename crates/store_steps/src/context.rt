@@ -1,0 +1,34 @@
+//! Contexts: accepted transactions on their way to the log.
+
+use byte_maps::{Bytes, Items};
+use meta_rows::RowOp;
+use unit_fields::{CollName, UnitNo};
+
+/// A unit that a transaction took, and the bytes that are written to it.
+#[derive(Drop)]
+pub struct FreshUnit {
+    pub unit: UnitNo,
+    /// 4096 bytes.
+    pub bytes: Bytes,
+}
+
+/// An accepted transaction that isn't committed. (Ceph's `TransContext`.)
+#[derive(Drop)]
+pub struct Context {
+    /// The place of its entry in the book.
+    pub place: u32,
+    /// The collection that it changes.
+    pub coll: CollName,
+    /// The row operations that its commit applies.
+    pub ops: Items<RowOp>,
+    /// The units of a record that holds these operations alone.
+    pub need: u32,
+    /// The units that it took, ascending. Each is written before the record is.
+    pub fresh: Items<FreshUnit>,
+    /// The units that come back to the free ones at its commit.
+    pub released: Items<UnitNo>,
+    /// How many of its data writes were submitted: the first ones of `fresh`.
+    pub given: u32,
+    /// How many of these have ended well.
+    pub done: u32,
+}

@@ -1,0 +1,16 @@
+//! What the kernel of the store is made of, and what each of its calls does, as plain data: contexts, the open batch, what
+//! is in flight; the table of steps; the answer to a transaction. The kernel's contracts and the facts that it keeps are said
+//! in these words.
+//!
+//! In Ceph's BlueStore a context is a `TransContext`, and the steps are the parts of its state machine.
+#![tactic(auto)]
+
+mod context;
+mod flight;
+mod plan;
+mod step;
+
+pub use context::{Context, FreshUnit};
+pub use flight::{FlushState, Flying, Job};
+pub use plan::Plan;
+pub use step::Step;

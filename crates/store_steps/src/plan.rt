@@ -1,0 +1,17 @@
+//! What a transaction is turned into before it is accepted.
+
+use crate::context::FreshUnit;
+use byte_maps::Items;
+use meta_rows::RowOp;
+use unit_fields::UnitNo;
+
+/// What accepting a transaction takes: the rows that it changes, the units that it writes, and those that it frees.
+#[derive(Drop)]
+pub struct Plan {
+    /// The row operations that its commit applies.
+    pub ops: Items<RowOp>,
+    /// The units that it takes, each with the bytes that are written there before the commit.
+    pub fresh: Items<FreshUnit>,
+    /// The units that come back to the free ones at its commit.
+    pub released: Items<UnitNo>,
+}

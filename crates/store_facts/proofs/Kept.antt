@@ -1,0 +1,111 @@
+-- Each call of the kernel keeps what it keeps.
+use Rattle.std.proofs.Common.{◌≡◌, inl, inr, ℕ, ◌^◌, ◌<◌, ◌≤◌, true, [], Option, Some, None, refl, sym, ap, subst, ◌∙◌}
+use Rattle.block_device.specs.Disk.{Disk, IsSound}
+use Rattle.block_device.specs.declared.device.Ticket.{Ticket}
+use Rattle.meta_log.specs.declared.slot.Super.{Super}
+use Rattle.meta_log.specs.Slots.{IsSuper}
+use Rattle.object_model.specs.Effect.{Change}
+use Rattle.object_model.specs.declared.command.Answer.{Answer}
+use Rattle.unit_allocator.specs.Units.{Space}
+use Rattle.store_steps.specs.declared.step.Step.{Step}
+use Rattle.store_steps.specs.declared.step.Step.TheVariants.{Data, Reap, Take, Flush, Seal, Record, Sync, Commit, Finish}
+use Rattle.store_steps.specs.State.{State}
+use Rattle.store_steps.specs.Changes.{down_by}
+use Rattle.store_steps.specs.Ready.{is_ready}
+use Rattle.store_steps.specs.Submit.{Accepts, Refuses}
+use Rattle.store_steps.specs.Opened.{opened, IsAllFree}
+use Rattle.store_steps.specs.Runs.{DoesOrFails, MaySubmit}
+use Rattle.store_facts.specs.Space.{IsSpaceOf, uncommitted}
+use Rattle.store_facts.specs.Work.{measure}
+use Rattle.store_facts.specs.Kept.{IsKept, IsKeptUp}
+use Rattle.store_facts.proofs.Conditions.{ready_not_down, IsIdle, drained_is_idle}
+use Rattle.store_facts.proofs.Submitting.{accepts_keeps, refuses_keeps, opened_keeps}
+use Rattle.store_facts.proofs.Keeping.{Leaves, step_leaves, stepped_kept, admitted_kept, opened_kept, fallen_kept, waited_kept, work_falls}
+use Rattle.store_facts.proofs.RowsKept.{AreRowsKept, rows_of_kept, HaveSameRows, rows_stay, like_itself}
+use Rattle.store_facts.proofs.RowsSteps.{data_same, reap_same, flush_same, sync_same, seal_same, record_same, finish_same, take_same}
+use Rattle.store_facts.proofs.RowsCommitted.{commit_rows}
+use Rattle.store_facts.proofs.RowsAccepted.{accepted_rows}
+use Rattle.store_facts.proofs.RowsOpened.{opened_rows}
+
+-- ---- steps
+
+-- a bad end leaves the kernel down
+stays_down : (o : Option Ticket) (ticket : Ticket) → down_by o ticket ≡ None → ⊥
+stays_down None ticket e = cc
+stays_down (Some first) ticket e = cc
+
+-- the rows and the free units after a step that has stepped; one that ended badly has fallen, and the rows don't matter
+stepped_rows : (step : Step) (s : State) (d : Disk) (s' : State) (d' : Disk) → AreRowsKept s → IsKeptUp s → s'.down ≡ None → DoesOrFails step s d s' d'
+    → AreRowsKept s'
+stepped_rows Data s d s' d' rows up standing does = rows_stay s s' (data_same s d s' d' does) rows
+stepped_rows Reap s d s' d' rows up standing (inl does) = rows_stay s s' (reap_same s d s' d' does) rows
+stepped_rows Reap s d s' d' rows up standing (inr ended) = absurd (stays_down s.down ended.ticket (sym (ap (λ (t : State). t.down) ended.after) ∙ standing))
+stepped_rows Take s d s' d' rows up standing does = rows_stay s s' (take_same s d s' d' up.far does) rows
+stepped_rows Flush s d s' d' rows up standing does = rows_stay s s' (flush_same s d s' d' does) rows
+stepped_rows Seal s d s' d' rows up standing does = rows_stay s s' (seal_same s d s' d' does) rows
+stepped_rows Record s d s' d' rows up standing does = rows_stay s s' (record_same s d s' d' does) rows
+stepped_rows Sync s d s' d' rows up standing does = rows_stay s s' (sync_same s d s' d' does) rows
+stepped_rows Commit s d s' d' rows up standing does = commit_rows s d s' d' rows up.far does
+stepped_rows Finish s d s' d' rows up standing does = rows_stay s s' (finish_same s d s' d' does) rows
+
+pub kept_step : (step : Step) (s s' : State) (d d' : Disk) → IsKept s d → is_ready step d.depth s ≡ true → DoesOrFails step s d s' d' → IsSound d'
+    → IsKept s' d'
+kept_step step s s' d d' kept ready does sound = of_leaves (step_leaves step s d s' d' kept ready sound does)
+  where
+    standing : s.down ≡ None
+    standing = ready_not_down s d step kept ready
+
+    of_leaves : Leaves s d s' d' → IsKept s' d'
+    of_leaves (inl stepped) = stepped_kept s s' d' standing stepped
+        (stepped_rows step s d s' d' (rows_of_kept s d kept standing) (kept.up standing) (stepped.up ∙ standing) does)
+    of_leaves (inr (inl none)) = subst (λ (t : State). IsKept t d') (sym none.1) (waited_kept s d d' sound kept none.0)
+    of_leaves (inr (inr fallen)) = fallen_kept s s' d' fallen
+
+-- ---- submitting
+
+pub idle_of : (s : State) (d : Disk) (change : Change) → IsKept s d → MaySubmit change s d → IsIdle s
+idle_of s d change kept may =
+    let up = kept.up may.up in drained_is_idle s d up.far kept.always up.room may.up may.drained
+
+pub kept_accept : (s s' : State) (d : Disk) (client line : ℕ) (change : Change) → IsKept s d → MaySubmit change s d → Accepts client line change s s'
+    → IsKept s' d
+kept_accept s s' d client line change kept may does =
+    let up = kept.up may.up in
+    let idle = idle_of s d change kept may in
+    admitted_kept s s' d may.up
+    (accepts_keeps s d client line change s' up.far kept.always up.room may.up may.drained may.room may.known does)
+    (accepted_rows s client line change s' kept.always.limits (rows_of_kept s d kept may.up) idle.pending idle.batch may.known does)
+
+pub kept_refuse : (s s' : State) (d : Disk) (client line : ℕ) (change : Change) (a : Answer) → IsKept s d → MaySubmit change s d
+    → Refuses client line change a s s' → IsKept s' d
+kept_refuse s s' d client line change a kept may does =
+    let up = kept.up may.up in
+    admitted_kept s s' d may.up (refuses_keeps s d client line change a s' up.far kept.always up.room may.room does)
+    (rows_stay s s' same (rows_of_kept s d kept may.up))
+  where
+    same : HaveSameRows s s'
+    same = subst (HaveSameRows s) (sym does.after) (record { sup = refl; rows = refl; view = refl; space = refl; contexts = like_itself (uncommitted s) })
+
+-- ---- opening
+
+pub kept_open : (sup : Super) (space : Space) (events : ℕ) (d : Disk) → IsSound d → d.flights ≡ [] → IsSuper sup → sup.units ≡ d.units
+    → sup.first ≤ 2 ^ 61 → events < 2 ^ 61
+    → IsSpaceOf sup space → IsAllFree sup space → IsKept (opened sup space events) d
+kept_open sup space events d sound idle limits units first few is free =
+    opened_kept (opened sup space events) d (opened_keeps sup space events d sound idle limits units first few is) (opened_rows sup space events is free)
+
+-- ---- for the laws
+
+pub step_less : (step : Step) (s s' : State) (d d' : Disk) → IsKept s d → is_ready step d.depth s ≡ true → DoesOrFails step s d s' d' → IsSound d'
+    → measure s' d'.waits < measure s d.waits
+step_less step s s' d d' kept ready does sound = work_falls step s d s' d' kept ready sound does
+
+pub law_accept : (client line : ℕ) (change : Change) (s s' : State) (d : Disk) → IsKept s d → MaySubmit change s d → Accepts client line change s s'
+    → IsKept s' d
+law_accept client line change s s' d = kept_accept s s' d client line change
+
+pub law_refuse : (client line : ℕ) (change : Change) (a : Answer) (s s' : State) (d : Disk) → IsKept s d → MaySubmit change s d
+    → Refuses client line change a s s' → IsKept s' d
+law_refuse client line change a s s' d = kept_refuse s s' d client line change a
+
+pub ruleset step_laws = (kept_step, step_less)

@@ -1,0 +1,5 @@
+use Rattle.store_facts.proofs.Kept.{law_accept}
+use Rattle.store_facts.proofs.laws.transactions_keep.Goals as goal
+
+pub returns-clause-accepted : goal.returns-clause-accepted
+returns-clause-accepted c = law_accept

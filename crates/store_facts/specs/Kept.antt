@@ -1,0 +1,36 @@
+-- What the kernel keeps, whatever its device tells.
+use Rattle.std.specs.Prelude.{◌≡◌, ◌+◌, ◌*◌, ◌≤◌, ◌^◌, [], length, None, is_some, true}
+use Rattle.block_device.specs.Disk.{Disk, IsSound}
+use Rattle.meta_log.specs.Slots.{IsSuper}
+use Rattle.store_steps.specs.State.{State}
+use Rattle.store_facts.specs.Flights.{AreFlights, IsOneAtATime}
+use Rattle.store_facts.specs.Space.{uncommitted, rows_with, AreGoodRows, IsSpaceOf, IsFreeExactly, ReleasesExactly}
+use Rattle.store_facts.specs.Room.{HasRoomFor, AreNumbersLow, IsBookKept}
+use Rattle.store_facts.specs.Work.{work_left}
+
+-- what it keeps always, also while it is down
+pub record IsAlwaysKept (s : State) (d : Disk) : Type 0 where
+  pub device : IsSound d
+  pub limits : IsSuper s.log.sup
+  pub units : s.log.sup.units ≡ d.units
+  pub space : IsSpaceOf s.log.sup s.space
+  pub flights : AreFlights s.flying d.flights
+  pub few : length s.flying ≤ 1
+  pub numbers : AreNumbersLow s
+  pub book : IsBookKept s
+  pub events : s.events + work_left s ≤ 2 ^ 61 + 64 * length s.book.entries
+
+-- what it keeps while it isn't
+pub record IsKeptUp (s : State) : Type 0 where
+  pub far : IsOneAtATime s.pending s.batch s.log.begun s.flying
+  pub view : s.view ≡ rows_with s.log.rows (uncommitted s)
+  pub committed : AreGoodRows s.log.sup s.log.rows
+  pub good : AreGoodRows s.log.sup s.view
+  pub free : IsFreeExactly s.log.sup s.log.rows s.view s.space
+  pub releases : ReleasesExactly s.log.rows s.view (uncommitted s)
+  pub room : HasRoomFor s.log (uncommitted s)
+
+pub record IsKept (s : State) (d : Disk) : Type 0 where
+  pub always : IsAlwaysKept s d
+  pub up : s.down ≡ None → IsKeptUp s
+  pub down : is_some s.down ≡ true → s.flying ≡ []

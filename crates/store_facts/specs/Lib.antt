@@ -1,0 +1,5 @@
+pub mod Flights
+pub mod Space
+pub mod Room
+pub mod Work
+pub mod Kept

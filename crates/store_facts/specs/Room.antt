@@ -1,0 +1,38 @@
+-- Room in the log and numbers.
+use Rattle.std.specs.Prelude.{◌≡◌, ℕ, ◌+◌, ◌≤◌, ◌^◌, List, All, length, slice_get, IfSome, is_some, nat_lt}
+use Rattle.std.specs.Option.{option_map_or}
+use Rattle.meta_rows.specs.Spelling.{AllFit}
+use Rattle.meta_log.specs.Records.{unit_count}
+use Rattle.object_model.specs.declared.book.Commit.{Commit}
+use Rattle.store_steps.specs.declared.context.Context.{Context}
+use Rattle.store_steps.specs.State.{Log, State}
+use Rattle.store_steps.specs.Contexts.{sum_needs}
+use Rattle.store_steps.specs.Ready.{applied_count}
+
+-- the operations of a context have a spelling, its record takes one unit whatever its number is, and what it writes are whole units
+pub record FitsRecord (x : Context) : Type 0 where
+  pub fit : AllFit x.ops
+  pub one : (number : ℕ) → unit_count number x.ops ≡ 1
+  pub need : x.need ≡ 1
+  pub whole : All (λ f. length f.bytes ≡ 4096) x.fresh
+
+-- what is reserved is what the contexts need, and it fits behind the tail
+pub record HasRoomFor (m : Log) (contexts : List Context) : Type 0 where
+  pub fits : All FitsRecord contexts
+  pub reserved : m.reserved ≡ sum_needs contexts
+  pub room : m.tail + m.reserved ≤ m.sup.half
+
+-- Numbers stay far below 2^62: a record has a commit, and so has each context of the open batch; a commit has an entry, and entries are at most 1048576.
+pub record AreNumbersLow (s : State) : Type 0 where
+  pub first : s.log.sup.first ≤ 2 ^ 61
+  pub number : s.log.number + option_map_or (λ b. length b.contexts) s.batch 0 ≤ s.log.sup.first + length s.book.commits
+  pub commits : length s.book.commits + length s.pending ≤ length s.book.entries
+  pub entries : length s.book.entries ≤ 1048576
+
+-- the first commits are acknowledged, those up to a number, and no others
+abbrev pub AcksAre : ℕ → List Commit → Type 0
+AcksAre acked commits = (i : ℕ) → IfSome (slice_get commits i) (λ c. is_some c.acked_at ≡ nat_lt i acked)
+
+pub record IsBookKept (s : State) : Type 0 where
+  pub acks : AcksAre s.acked s.book.commits
+  pub within : s.acked ≤ applied_count s

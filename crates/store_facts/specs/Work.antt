@@ -1,0 +1,38 @@
+-- How much is left to do: a number that each step lowers, so that a run of steps ends.
+use Rattle.std.specs.Prelude.{ℕ, ◌+◌, ◌-◌, ◌*◌, List, [], ◌∷◌, length, if◌then◌else◌}
+use Rattle.std.specs.Option.{option_map_or}
+use Rattle.meta_log.specs.Records.{unit_count}
+use Rattle.meta_log.specs.Pieces.{piece_count}
+use Rattle.store_steps.specs.declared.context.Context.{Context}
+use Rattle.store_steps.specs.State.{Log, Batch, State}
+use Rattle.store_steps.specs.Contexts.{batch_ops}
+use Rattle.store_steps.specs.Ready.{is_not_sent, applied_count}
+
+-- a data write is submitted and ends; Take, two flushes that end, Seal, the pieces of a record that end, Commit and Finish
+abbrev pub work_of : Context → ℕ
+work_of x = 2 * (length x.fresh - x.given) + 8 + 2 * piece_count x.need
+
+abbrev pub sum_work : List Context → ℕ
+sum_work [] = 0
+sum_work (x ∷ xs) = work_of x + sum_work xs
+
+-- a flush that isn't submitted yet, and ends
+abbrev pub flush_work : Batch → ℕ
+flush_work b = (if is_not_sent b.first then 2 else 0) + (if is_not_sent b.second then 2 else 0)
+
+-- Seal, and the pieces of the record that aren't submitted yet, and end
+abbrev pub record_work : Log → Batch → ℕ
+record_work m b = option_map_or (λ r. 2 * (piece_count (unit_count m.number r.ops) - r.given)) m.begun
+    (1 + 2 * piece_count (unit_count m.number (batch_ops b)))
+
+-- Commit, and a Finish for each context
+abbrev pub batch_work : Log → Batch → ℕ
+batch_work m b = flush_work b + record_work m b + 1 + length b.contexts
+
+-- with what is in flight, and the commits that aren't acknowledged
+abbrev pub work_left : State → ℕ
+work_left s = length s.flying + sum_work s.pending + option_map_or (batch_work s.log) s.batch 0 + (applied_count s - s.acked)
+
+-- what a run of steps lowers: work, or the answers None that a device may still give in a row
+abbrev pub measure : State → ℕ → ℕ
+measure s waits = 65 * work_left s + (64 - waits)

@@ -1,0 +1,10 @@
+//! What the kernel keeps from call to call, whatever its device is: facts of the state as plain data, and a law for each
+//! step that says that it keeps them.
+#![tactic(auto)]
+
+mod laws;
+
+pub use laws::{
+    drained_is_idle, opened_keeps, steps_have_room, steps_keep, submissions_are_alone,
+    transactions_keep,
+};

@@ -1,0 +1,231 @@
+-- How the book goes on at a submission: an entry more, and where it is accepted a context more.
+use Rattle.std.proofs.Common.{◌≡◌, ◌⊎◌, inl, inr, ℕ, Bool, cond, not, List, [], ◌∷◌, ◌++◌, length, Option, None, Ok}
+use Rattle.std.proofs.Common.{Err, refl, sym, ap, subst, ◌∙◌, append-nil, append_assoc, arith}
+use Rattle.std.specs.Prelude.{IsOk, Result, IsTrue}
+use Rattle.std.specs.List.{AllByRecursion, cons_option}
+use Rattle.std.proofs.lemmas.Bool.{eq-eqb, ne_eqb}
+use Rattle.block_device.specs.Disk.{Disk}
+use Rattle.object_model.specs.declared.command.Answer.{Answer}
+use Rattle.object_model.specs.declared.command.Answer.TheVariants as answer
+use Rattle.object_model.specs.declared.command.Command.TheVariants as ask
+use Rattle.object_model.specs.declared.op.Op.{Op}
+use Rattle.object_model.specs.declared.op.Op.TheVariants.{MkColl, Write}
+use Rattle.object_model.specs.declared.op.Refusal.{Refusal}
+use Rattle.object_model.specs.declared.book.Entry.{Entry}
+use Rattle.object_model.specs.Objects.{Objects}
+use Rattle.object_model.specs.Effect.{Change, replay, ok_or, transaction_effect}
+use Rattle.object_model.specs.Reply.{reply_of}
+use Rattle.object_model.specs.Book.{accepted, is_refused, IsAnswered}
+use Rattle.object_model.proofs.Replays.{replay-append}
+use Rattle.meta_rows.specs.Rows.{Rows, rows_after}
+use Rattle.meta_log.specs.declared.slot.Super.{Super}
+use Rattle.store_image.specs.Owners.{IsOwned, IsDataUnit}
+use Rattle.store_image.specs.Stands.{ObjectsStand}
+use Rattle.row_facts.specs.Plans as rows_plan
+use Rattle.row_facts.proofs.Plans.{planned_stand, planned_fresh}
+use Rattle.unit_allocator.specs.Units.{Space}
+use Rattle.store_steps.specs.declared.context.Context.{Context}
+use Rattle.store_steps.specs.declared.context.FreshUnit.{FreshUnit}
+use Rattle.store_steps.specs.declared.plan.Plan.{Plan}
+use Rattle.store_steps.specs.State.{Batch, State}
+use Rattle.store_steps.specs.Submit.{IsKnown, refusal_of, context_of, noted, accepted_with, IsCause, Accepts}
+use Rattle.store_steps.specs.Planning.{Plans}
+use Rattle.store_steps.specs.Runs.{MaySubmit}
+use Rattle.store_facts.specs.Space.{uncommitted, rows_with, IsFreeExactly}
+use Rattle.store_facts.specs.Kept.{IsKept, IsKeptUp}
+use Rattle.store_facts.proofs.RowsPlans.{rows_plan_of, planned}
+use Rattle.store_facts.proofs.Conditions.{IsIdle}
+use Rattle.store_facts.proofs.Kept.{idle_of}
+use Rattle.book_facts.specs.BookFacts.{batched, IsOfEntry, KnownOfBook, StandSomehow}
+use Rattle.book_facts.specs.FreshBytes.{bytes_with}
+use Rattle.book_facts.proofs.Entries.{own_change, accepted_push, answers_push, counts_push, change_last, of_entries_push}
+use Rattle.book_facts.proofs.Commits.{all_behind, all_append}
+use Rattle.book_facts.proofs.Answers.{not_refused, reply_accepted, reply_refused}
+use Rattle.book_facts.proofs.Queues.{entry_push, queued_noted, queued_accepted}
+
+-- ---- the plan of an accepted transaction
+
+-- what a submission knows of the plan
+pub record TakesPlan (s : State) (change : Change) (plan : Plan) : Type 0 where
+  pub is_planned : rows_plan.IsPlanned s.log.sup s.view change (rows_plan_of plan)
+  pub takes : (plan.fresh ≡ []) ⊎ ((f : FreshUnit) × (plan.fresh ≡ f ∷ []))
+
+plan_takes : (c : List ℕ) (ops : List Op) (rows : Rows) (space : Space) (plan : Plan) → IsKnown ops → Plans c ops rows space plan
+    → (plan.fresh ≡ []) ⊎ ((f : FreshUnit) × (plan.fresh ≡ f ∷ []))
+plan_takes c (MkColl ∷ []) rows space plan known plans = inl (ap (λ (p : Plan). p.fresh) plans)
+plan_takes c (Write o off bytes ∷ []) rows space plan known plans = inr (record { unit = plans.unit; bytes = bytes }, plans.fresh)
+plan_takes c ops rows space plan known plans = absurd known
+
+pub takes_plan : (s : State) (d : Disk) (client line : ℕ) (change : Change) (s' : State) → IsKept s d → MaySubmit change s d
+    → (does : Accepts client line change s s')
+    → TakesPlan s change does.plan
+takes_plan s d client line change s' kept may does = record {
+  is_planned =
+      planned s.log.sup s.view s.space kept.always.limits up.good kept.always.space free change.coll change.ops does.plan
+      may.known does.names does.not_refused does.plans;
+  takes = plan_takes change.coll change.ops s.view s.space does.plan may.known does.plans;
+}
+  where
+    up : IsKeptUp s
+    up = kept.up may.up
+
+    idle : IsIdle s
+    idle = idle_of s d change kept may
+
+    -- nothing is under way, so that the submitted rows are the committed ones
+    same : s.view ≡ s.log.rows
+    same = up.view ∙ ap (λ (xs : List Context). rows_with s.log.rows xs) (ap (λ (xs : List Context). batched s.batch ++ xs) idle.pending
+        ∙ ap (λ (b : Option Batch). batched b ++ []) idle.batch)
+
+    free : IsFreeExactly s.log.sup s.view s.view s.space
+    free = subst (λ (rows : Rows). IsFreeExactly s.log.sup rows s.view s.space) (sym same) up.free
+
+-- ---- fresh units have their bytes
+
+holds_one : (f : FreshUnit) (at : ℕ → List ℕ) → bytes_with (f ∷ []) at f.unit ≡ f.bytes
+holds_one f at = ap (λ (b : Bool). cond b f.bytes (at f.unit)) (eq-eqb f.unit f.unit refl)
+
+other_one : (f : FreshUnit) (at : ℕ → List ℕ) (unit : ℕ) → (f.unit ≡ unit → ⊥) → bytes_with (f ∷ []) at unit ≡ at unit
+other_one f at unit other = ap (λ (b : Bool). cond b f.bytes (at unit)) (ne_eqb f.unit unit other)
+
+module _ (sup : Super) (rows : Rows) (change : Change) (plan : Plan) (is : rows_plan.IsPlanned sup rows change (rows_plan_of plan))
+    (takes : (plan.fresh ≡ []) ⊎ ((f : FreshUnit) × (plan.fresh ≡ f ∷ []))) (at : ℕ → List ℕ) where
+  abbrev IsFreshOf : List FreshUnit → Type 0
+  IsFreshOf fresh = AllByRecursion (λ f. IsDataUnit sup f.0 × ¬ IsOwned rows f.0 × (length f.1 ≡ 4096)) (rows_plan_of (record plan { fresh = fresh })).fresh
+
+  pub plan_holds : rows_plan.HoldsFresh (bytes_with plan.fresh at) (rows_plan_of plan)
+  plan_holds = elim takes [
+    | inl none ↦ subst (λ (fresh : List FreshUnit). rows_plan.HoldsFresh (bytes_with fresh at) (rows_plan_of (record plan { fresh = fresh }))) (sym none) tt
+    | inr one ↦ subst (λ (fresh : List FreshUnit). rows_plan.HoldsFresh (bytes_with fresh at) (rows_plan_of (record plan {
+      fresh =
+          fresh;
+    }))) (sym one.1) (holds_one one.0 at, tt)
+  ]
+
+  -- and no owned unit is fresh
+  pub plan_spares : (unit : ℕ) → IsOwned rows unit → bytes_with plan.fresh at unit ≡ at unit
+  plan_spares unit owned = elim takes [
+    | inl none ↦ ap (λ (fresh : List FreshUnit). bytes_with fresh at unit) none
+    | inr one ↦
+        let all : IsFreshOf (one.0 ∷ []) = subst IsFreshOf one.1 (planned_fresh sup rows is) in
+        ap (λ (fresh : List FreshUnit). bytes_with fresh at unit) one.1
+        ∙ other_one one.0 at unit (λ e. all.0.1 (subst (IsOwned rows) (sym e) owned))
+  ]
+
+-- ---- the objects after the transaction
+
+after_of : (r : Result Objects Refusal) → IsOk r → (after : Objects) × (r ≡ Ok after)
+after_of (Ok after) is = (after, refl)
+after_of (Err refusal) is = absurd cc
+
+-- the replay of one more accepted transaction
+pub replay_one : (opening : Objects) (changes : List Change) (change : Change) (after : Objects) → transaction_effect change (replay opening changes) ≡ Ok after
+    → replay opening (changes ++ change ∷ []) ≡ after
+replay_one opening changes change after is = replay-append opening changes (change ∷ []) ∙ ap (λ r. ok_or r (replay opening changes)) is
+
+pub record GoesOn (opening : Objects) (s : State) (change : Change) : Type 0 where
+  pub after : Objects
+  pub effect : transaction_effect change (replay opening (accepted s.book.entries)) ≡ Ok after
+  pub replays : replay opening (accepted s.book.entries ++ change ∷ []) ≡ after
+
+pub goes_on : (opening : Objects) (s : State) (change : Change) → KnownOfBook opening s → IsKnown change.ops
+    → refusal_of s.view change.coll change.ops ≡ None → GoesOn opening s change
+goes_on opening s change book known is =
+    let objects = replay opening (accepted s.book.entries) in
+    let found = after_of (transaction_effect change objects) (not_refused s.view objects book.stand.1.shape change.coll change.ops known is) in
+    record { after = found.0; effect = found.1; replays = replay_one opening (accepted s.book.entries) change found.0 found.1 }
+
+-- ---- it is accepted
+
+module _ (opening : Objects) (s : State) (client line : ℕ) (change : Change) (plan : Plan) (known : IsKnown change.ops)
+    (none : refusal_of s.view change.coll change.ops ≡ None) (takes : TakesPlan s change plan) (book : KnownOfBook opening s) where
+  abbrev entry : Entry
+  entry = record { client = client; line = line; command = ask.Change change; answer = answer.Accepted; acks = s.acked }
+
+  abbrev one : Context
+  one = context_of (length s.book.entries) change s.log plan
+
+  of_entry : IsOfEntry (s.book.entries ++ entry ∷ []) one
+  of_entry = record { change = change; accepted = change_last s.book.entries entry; same_coll = refl }
+
+  pub book_accepts : KnownOfBook opening (accepted_with client line change plan s)
+  book_accepts = record {
+    answers = answers_push opening s.book.entries entry book.answers
+        (inl (sym (reply_accepted s.view (replay opening (accepted s.book.entries)) change book.stand.1.shape known none)));
+    counts = counts_push 0 s.acked s.book.entries entry (omega arith) book.counts refl;
+    commits = record {
+      of_accepted = of_entries_push s.book.entries entry s.book.commits book.commits.of_accepted;
+      acked_first = book.commits.acked_first;
+      counted = book.commits.counted;
+      by_now = book.commits.by_now;
+    };
+    queued = queued_accepted s.book.entries entry s.book.commits s.pending book.commits.of_accepted book.queued one change refl refl refl
+        (all_behind (IsOfEntry s.book.entries) (batched s.batch) s.pending book.contexts);
+    contexts = subst (AllByRecursion (IsOfEntry (s.book.entries ++ entry ∷ []))) (append_assoc (batched s.batch) s.pending (one ∷ []))
+        (all_append (IsOfEntry (s.book.entries ++ entry ∷ [])) (uncommitted s) (one ∷ []) (entry_push s.book.entries entry (uncommitted s) book.contexts)
+        (of_entry, tt));
+    last_committed = book.last_committed;
+    stand = stand;
+  }
+    where
+      on : GoesOn opening s change
+      on = goes_on opening s change book known none
+
+      objects_are : replay opening (accepted (s.book.entries ++ entry ∷ [])) ≡ on.after
+      objects_are = ap (replay opening) (accepted_push s.book.entries entry) ∙ on.replays
+
+      now : ℕ → List ℕ
+      now = bytes_with plan.fresh book.stand.0
+
+      stand : StandSomehow (rows_after s.view plan.ops) (replay opening (accepted (s.book.entries ++ entry ∷ [])))
+      stand = (
+        now,
+        subst (ObjectsStand now (rows_after s.view plan.ops)) (sym objects_are)
+            (planned_stand s.log.sup s.view book.stand.0 now (replay opening (accepted s.book.entries)) on.after takes.is_planned
+            (plan_holds s.log.sup s.view change plan takes.is_planned takes.takes book.stand.0)
+            (plan_spares s.log.sup s.view change plan takes.is_planned takes.takes book.stand.0) book.stand.1 on.effect),
+      )
+
+-- ---- it is refused
+
+module _ (opening : Objects) (s : State) (client line : ℕ) (change : Change) (known : IsKnown change.ops) (book : KnownOfBook opening s) where
+  abbrev noting : Answer → Entry
+  noting a = record { client = client; line = line; command = ask.Change change; answer = a; acks = s.acked }
+
+  abbrev objects_now : Objects
+  objects_now = replay opening (accepted s.book.entries)
+
+  not_refused_now : refusal_of s.view change.coll change.ops ≡ None → IsTrue (not (is_refused (reply_of (ask.Change change) objects_now)))
+  not_refused_now none = ap (λ (a : Answer). not (is_refused a)) (reply_accepted s.view objects_now change book.stand.1.shape known none)
+
+  cause_answers : (a : Answer) → IsCause a change s → IsAnswered objects_now (noting a)
+  cause_answers (answer.Refused refusal) cause = inl (sym (reply_refused s.view objects_now change refusal book.stand.1.shape known cause))
+  cause_answers (answer.NoSpace need free) cause = inr (refl, not_refused_now cause.0)
+  cause_answers (answer.MetaFull need room) cause = inr (refl, not_refused_now cause.0)
+  cause_answers a cause = absurd cause
+
+  cause_refuses : (a : Answer) → IsCause a change s → own_change (noting a) ≡ None
+  cause_refuses (answer.Refused refusal) cause = refl
+  cause_refuses (answer.NoSpace need free) cause = refl
+  cause_refuses (answer.MetaFull need room) cause = refl
+  cause_refuses a cause = absurd cause
+
+  pub book_notes : (a : Answer) → IsCause a change s → KnownOfBook opening (noted client line change a s)
+  book_notes a cause = record {
+    answers = answers_push opening s.book.entries (noting a) book.answers (cause_answers a cause);
+    counts = counts_push 0 s.acked s.book.entries (noting a) (omega arith) book.counts refl;
+    commits = record {
+      of_accepted = of_entries_push s.book.entries (noting a) s.book.commits book.commits.of_accepted;
+      acked_first = book.commits.acked_first;
+      counted = book.commits.counted;
+      by_now = book.commits.by_now;
+    };
+    queued = queued_noted s.book.entries (noting a) s.book.commits s.pending book.commits.of_accepted book.queued (cause_refuses a cause);
+    contexts = entry_push s.book.entries (noting a) (uncommitted s) book.contexts;
+    last_committed = book.last_committed;
+    stand = (book.stand.0, subst (λ (l : List Change). ObjectsStand book.stand.0 s.view (replay opening l)) (sym same) book.stand.1);
+  }
+    where
+      same : accepted (s.book.entries ++ noting a ∷ []) ≡ accepted s.book.entries
+      same = accepted_push s.book.entries (noting a) ∙ ap (λ (o : Option Change). accepted s.book.entries ++ cons_option o []) (cause_refuses a cause)
+          ∙ append-nil (accepted s.book.entries)

@@ -1,0 +1,161 @@
+-- The transactions of the applied commits, and how far they are all that were accepted.
+use Rattle.std.proofs.Common.{◌≡◌, ℕ, zero, suc, ◌+◌, ◌-◌, ◌≤◌, Bool, true, false, cond, List, [], ◌∷◌, ◌++◌, length, take, drop, filter, Option}
+use Rattle.std.proofs.Common.{Some, None, refl, sym, ap, ◌∙◌, append-nil, append_assoc, length-append, arith}
+use Rattle.std.specs.Prelude.{IsSome, slice_get, option_and_then}
+use Rattle.std.specs.List.{AllByRecursion, cons_option}
+use Rattle.std.specs.Option.{option_map_or}
+use Rattle.std.proofs.lemmas.List.{take-map, take_at, take_all, take-append-drop, length-map, map-append}
+use Rattle.std.proofs.lemmas.List.Elements.{filter_map-append}
+use Rattle.object_model.specs.declared.book.Entry.{Entry}
+use Rattle.object_model.specs.declared.book.Commit.{Commit}
+use Rattle.object_model.specs.Objects.{Objects}
+use Rattle.object_model.specs.Effect.{Change, replay, is_same}
+use Rattle.object_model.specs.Book.{accepted, change_at, committed, is_on, places_from, committed_places}
+use Rattle.object_model.proofs.Replays.{replay-append, replay-by_collections}
+use Rattle.store_steps.specs.declared.context.Context.{Context}
+use Rattle.store_steps.specs.State.{Batch, State}
+use Rattle.store_steps.specs.Changes.{commit_of, taken_up, acknowledged, finished, committed_batch}
+use Rattle.store_steps.specs.Ready.{applied_count}
+use Rattle.book_facts.specs.BookFacts.{commit_places, AreQueued}
+use Rattle.book_facts.specs.Selections.{applied_changes, changes_of}
+use Rattle.book_facts.proofs.Entries.{own_change, committed_kept}
+use Rattle.book_facts.proofs.Commits.{places_acknowledged, length_acknowledged, places_on, places_by_places, changes_at, committed_by_places}
+
+-- ---- by places
+
+pub applied_by_places : (es : List Entry) (cs : List Commit) (n : ℕ) → committed es (take n cs) ≡ changes_at es (take n (commit_places cs))
+applied_by_places es cs n = committed_by_places es (take n cs) ∙ ap (changes_at es) (sym (take-map (λ (c : Commit). c.place) n cs))
+
+count_places : (cs : List Commit) → length (commit_places cs) ≡ length cs
+count_places cs = length-map cs (λ (c : Commit). c.place)
+
+-- ---- an acknowledgement
+
+pub applied_finished : (s : State) → applied_changes (finished s) ≡ applied_changes s
+applied_finished s =
+    let n : ℕ = option_map_or (λ (b : Batch). length b.contexts) s.batch 0 in
+    applied_by_places s.book.entries (acknowledged s.events s.book.commits) (length (acknowledged s.events s.book.commits) - n)
+    ∙ ap (λ (ps : List ℕ). changes_at s.book.entries (take (length (acknowledged s.events s.book.commits) - n) ps))
+    (places_acknowledged s.events s.book.commits)
+    ∙ ap (λ (k : ℕ). changes_at s.book.entries (take (k - n) (commit_places s.book.commits))) (length_acknowledged s.events s.book.commits)
+    ∙ sym (applied_by_places s.book.entries s.book.commits (applied_count s))
+
+-- ---- a batch is opened
+
+pub applied_taken : (s : State) (x : Context) → s.batch ≡ None → applied_changes (taken_up x s) ≡ applied_changes s
+applied_taken s x none =
+    let cs : List Commit = s.book.commits in
+    let one : List Commit = commit_of x ∷ [] in
+    let count : length (cs ++ one) - 1 ≡ length cs = (let more = length-append cs one in omega (arith, more)) in
+    applied_by_places s.book.entries (cs ++ one) (length (cs ++ one) - 1)
+    ∙ ap (λ (n : ℕ). changes_at s.book.entries (take n (commit_places (cs ++ one)))) count
+    ∙ ap (λ (ps : List ℕ). changes_at s.book.entries (take (length cs) ps)) (map-append (λ (c : Commit). c.place) cs one)
+    ∙ ap (changes_at s.book.entries) (take_at (commit_places cs) (commit_places one) (length cs) (count_places cs))
+    ∙ sym (ap (changes_at s.book.entries) (take_all (applied_count s) (commit_places cs) (all_applied none)))
+    ∙ sym (applied_by_places s.book.entries cs (applied_count s))
+  where
+    all_applied : s.batch ≡ None → length (commit_places s.book.commits) ≤ applied_count s
+    all_applied is =
+        let all : applied_count s ≡ length s.book.commits - 0 =
+        ap (λ (b : Option Batch). length s.book.commits - option_map_or (λ (c : Batch). length c.contexts) b 0) is in
+        let count = count_places s.book.commits in
+        omega (arith, all, count)
+
+-- ---- a batch of one is committed
+
+pub applied_committed : (opening : Objects) (s : State) (b : Batch) (x : Context) → drop (applied_count s) (commit_places s.book.commits) ≡ x.place ∷ []
+    → replay opening (applied_changes (committed_batch b s)) ≡ replay (replay opening (applied_changes s)) (changes_of s.book.entries (x ∷ []))
+applied_committed opening s b x last =
+    let cs : List Commit = s.book.commits in
+    let es : List Entry = s.book.entries in
+    let n : ℕ = applied_count s in
+    let ps : List ℕ = commit_places cs in
+    let all : take (length cs - 0) ps ≡ ps = take_all (length cs - 0) ps (let count = count_places cs in omega (arith, count)) in
+    ap (replay opening) (applied_by_places es cs (length cs - 0)
+    ∙ ap (changes_at es) (all ∙ sym (take-append-drop n ps) ∙ ap (λ (l : List ℕ). take n ps ++ l) last)
+    ∙ filter_map-append (change_at es) (take n ps) (x.place ∷ [])
+    ∙ ap (λ (l : List Change). l ++ changes_at es (x.place ∷ [])) (sym (applied_by_places es cs n)))
+    ∙ replay-append opening (applied_changes s) (changes_at es (x.place ∷ []))
+
+-- ---- one more entry
+
+all_taken : {A : Type 0} (P : A → Type 0) (n : ℕ) (xs : List A) → AllByRecursion P xs → AllByRecursion P (take n xs)
+all_taken P zero xs all = tt
+all_taken P (suc n) [] all = tt
+all_taken P (suc n) (x ∷ xs) all = (all.0, all_taken P n xs all.1)
+
+pub applied_entry : (es : List Entry) (e : Entry) (cs : List Commit) (n : ℕ) → AllByRecursion (λ c. IsSome (change_at es c.place)) cs
+    → committed (es ++ e ∷ []) (take n cs) ≡ committed es (take n cs)
+applied_entry es e cs n all = committed_kept es e (take n cs) (all_taken (λ c. IsSome (change_at es c.place)) n cs all)
+
+-- ---- a collection's transactions, by their places
+
+on_coll : (coll : List ℕ) (es : List Entry) (ps : List ℕ) → filter (λ t. is_same coll t.coll) (changes_at es ps) ≡ changes_at es (places_on coll es ps)
+on_coll coll es [] = refl
+on_coll coll es (p ∷ ps) = by_change (change_at es p) refl (on_coll coll es ps)
+  where
+    by_change : (o : Option Change) → change_at es p ≡ o → filter (λ t. is_same coll t.coll) (changes_at es ps) ≡ changes_at es (places_on coll es ps)
+        → filter (λ t. is_same coll t.coll) (cons_option (change_at es p) (changes_at es ps)) ≡ changes_at es
+        (cond (is_on coll (change_at es p)) (p ∷ places_on coll es ps) (places_on coll es ps))
+    by_change None e more =
+        ap (λ (o : Option Change). filter (λ t. is_same coll t.coll) (cons_option o (changes_at es ps))) e ∙ more
+        ∙ sym (ap (λ (o : Option Change). changes_at es (cond (is_on coll o) (p ∷ places_on coll es ps) (places_on coll es ps))) e)
+    by_change (Some t) e more =
+        ap (λ (o : Option Change). filter (λ c. is_same coll c.coll) (cons_option o (changes_at es ps))) e
+        ∙ by_test (is_same coll t.coll)
+        ∙ sym (ap (λ (o : Option Change). changes_at es (cond (is_on coll o) (p ∷ places_on coll es ps) (places_on coll es ps))) e)
+      where
+        by_test : (b : Bool) → cond b (t ∷ filter (λ c. is_same coll c.coll) (changes_at es ps)) (filter (λ c. is_same coll c.coll) (changes_at es ps))
+            ≡ changes_at es (cond b (p ∷ places_on coll es ps) (places_on coll es ps))
+        by_test true = ap (λ (l : List Change). t ∷ l) more ∙ sym (ap (λ (o : Option Change). cons_option o (changes_at es (places_on coll es ps))) e)
+        by_test false = more
+
+get_behind : {A : Type 0} (front : List A) (x : A) (back : List A) → slice_get (front ++ x ∷ back) (length front) ≡ Some x
+get_behind [] x back = refl
+get_behind (y ∷ front) x back = get_behind front x back
+
+-- the accepted ones of a collection, behind other entries
+accepted_on : (coll : List ℕ) (front back : List Entry)
+    → filter (λ t. is_same coll t.coll) (accepted back) ≡ changes_at (front ++ back) (places_from coll (length front) back)
+accepted_on coll front [] = refl
+accepted_on coll front (e ∷ back) = by_change (own_change e) refl (more (accepted_on coll (front ++ e ∷ []) back))
+  where
+    es : List Entry
+    es = front ++ e ∷ back
+
+    here : change_at (front ++ e ∷ back) (length front) ≡ own_change e
+    here = ap (λ (o : Option Entry). option_and_then own_change o) (get_behind front e back)
+
+    rest : List ℕ
+    rest = places_from coll (length front + 1) back
+
+    more : filter (λ t. is_same coll t.coll) (accepted back) ≡ changes_at ((front ++ e ∷ []) ++ back) (places_from coll (length (front ++ e ∷ [])) back)
+        → filter (λ t. is_same coll t.coll) (accepted back) ≡ changes_at (front ++ e ∷ back) (places_from coll (length front + 1) back)
+    more behind = behind
+        ∙ ap (λ (l : List Entry). changes_at l (places_from coll (length (front ++ e ∷ [])) back)) (append_assoc front (e ∷ []) back)
+        ∙ ap (λ (n : ℕ). changes_at (front ++ e ∷ back) (places_from coll n back)) (let all = length-append front (e ∷ []) in omega (arith, all))
+
+    by_change : (o : Option Change) → own_change e ≡ o → filter (λ t. is_same coll t.coll) (accepted back) ≡ changes_at es rest
+        → filter (λ t. is_same coll t.coll) (cons_option (own_change e) (accepted back)) ≡ changes_at es
+        (cond (is_on coll (own_change e)) (length front ∷ rest) rest)
+    by_change None is same =
+        ap (λ (o : Option Change). filter (λ t. is_same coll t.coll) (cons_option o (accepted back))) is ∙ same
+        ∙ sym (ap (λ (o : Option Change). changes_at es (cond (is_on coll o) (length front ∷ rest) rest)) is)
+    by_change (Some t) is same =
+        ap (λ (o : Option Change). filter (λ c. is_same coll c.coll) (cons_option o (accepted back))) is
+        ∙ by_test (is_same coll t.coll)
+        ∙ sym (ap (λ (o : Option Change). changes_at es (cond (is_on coll o) (length front ∷ rest) rest)) is)
+      where
+        by_test : (b : Bool) → cond b (t ∷ filter (λ c. is_same coll c.coll) (accepted back)) (filter (λ c. is_same coll c.coll) (accepted back))
+            ≡ changes_at es (cond b (length front ∷ rest) rest)
+        by_test true = ap (λ (l : List Change). t ∷ l) same ∙ sym (ap (λ (o : Option Change). cons_option o (changes_at es rest)) (here ∙ is))
+        by_test false = same
+
+-- where nothing waits the commits are all that was accepted
+pub all_committed : (opening : Objects) (es : List Entry) (cs : List Commit) → AreQueued (record { entries = es; commits = cs }) []
+    → replay opening (committed es cs) ≡ replay opening (accepted es)
+all_committed opening es cs queued = replay-by_collections opening (committed es cs) (accepted es) (λ coll.
+    ap (filter (λ t. is_same coll t.coll)) (committed_by_places es cs)
+    ∙ on_coll coll es (commit_places cs)
+    ∙ ap (changes_at es) (sym (places_by_places coll es cs) ∙ sym (append-nil (committed_places coll es cs)) ∙ sym (queued.in_order coll))
+    ∙ sym (accepted_on coll [] es))

@@ -1,0 +1,19 @@
+-- Each call keeps what the kernel keeps, and so does a run.
+use Rattle.std.proofs.Common.{inl, inr, List, [], ◌∷◌, sym, subst}
+use Rattle.block_device.specs.Disk.{Disk, IsSound}
+use Rattle.store_steps.specs.State.{State}
+use Rattle.store_steps.specs.Runs.{Call, submitting, stepping, Calls, IsRun}
+use Rattle.store_facts.specs.Kept.{IsKept}
+use Rattle.store_facts.proofs.Kept.{kept_step, kept_accept, kept_refuse}
+
+pub kept_call : (call : Call) (s s' : State) (d d' : Disk) → IsKept s d → Calls call s d s' d' → IsSound d' → IsKept s' d'
+kept_call (submitting client line change) s s' d d' kept made sound = subst (IsKept s') (sym made.2) (elim made.1 [
+  | inl accepted ↦ kept_accept s s' d client line change kept made.0 accepted
+  | inr refused ↦ kept_refuse s s' d client line change refused.0 kept made.0 refused.1
+])
+kept_call (stepping step) s s' d d' kept made sound = kept_step step s s' d d' kept made.0 made.1 sound
+
+pub kept_run : (calls : List Call) (s s' : State) (d d' : Disk) → IsKept s d → IsRun s d calls s' d' → IsKept s' d'
+kept_run [] s s' d d' kept run = subst (λ (t : State). IsKept t d') (sym run.0) (subst (IsKept s) (sym run.1) kept)
+kept_run (call ∷ calls) s s' d d' kept run =
+    kept_run calls run.0 s' run.1.0 d' (kept_call call s run.0 d run.1.0 kept run.1.1.0 run.1.1.1.0) run.1.1.1.1

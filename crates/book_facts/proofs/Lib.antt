@@ -1,0 +1,11 @@
+pub mod Entries
+pub mod Commits
+pub mod Contexts
+pub mod Answers
+pub mod Queues
+pub mod Books
+pub mod Accepted
+pub mod KeptCalls
+pub mod BookCalls
+pub mod Selecting
+pub mod Applied

@@ -1,0 +1,147 @@
+-- How the queues of collections go on.
+use Rattle.std.proofs.Common.{◌≡◌, ℕ, ◌<◌, Bool, true, false, cond, List, [], ◌∷◌, ◌++◌, length, Option, Some, None}
+use Rattle.std.proofs.Common.{refl, sym, ap, subst, ◌∙◌, append-nil, append_assoc}
+use Rattle.std.specs.Prelude.{is_some, IsSome, nat_eq}
+use Rattle.std.specs.List.{AllByRecursion, IsDistinct}
+use Rattle.std.specs.Cmp.{nat_eq_equiv}
+use Rattle.std.proofs.lemmas.List.{map-append}
+use Rattle.std.proofs.lemmas.List.Elements.{filter-append}
+use Rattle.std.proofs.lemmas.Map.Keys.{IsDistinct-push}
+use Rattle.object_model.specs.declared.book.Entry.{Entry}
+use Rattle.object_model.specs.declared.book.Commit.{Commit}
+use Rattle.object_model.specs.declared.book.Book.{Book}
+use Rattle.object_model.specs.Effect.{Change, is_same}
+use Rattle.object_model.specs.Book.{change_at, is_on, places_of, committed_places, IsPrefixOf}
+use Rattle.store_steps.specs.declared.context.Context.{Context}
+use Rattle.book_facts.specs.BookFacts.{places, commit_places, contexts_on, IsOfEntry, AreQueued}
+use Rattle.book_facts.proofs.Entries.{own_change, change_below, change_push, places_kept, place_if, places_push}
+use Rattle.book_facts.proofs.Commits.{all_then, all_append, AreAtPlaces, at_places, places_on, places_by_places, distinct_front, none_above}
+use Rattle.book_facts.proofs.Contexts.{AreLike, on_like, places_like}
+
+-- ---- contexts of entries
+
+some_is : {A : Type 0} (o : Option A) → IsSome o → (x : A) × (o ≡ Some x)
+some_is None is = absurd cc
+some_is (Some x) is = (x, refl)
+
+pub entry_push : (es : List Entry) (e : Entry) (xs : List Context) → AllByRecursion (IsOfEntry es) xs → AllByRecursion (IsOfEntry (es ++ e ∷ [])) xs
+entry_push es e xs all =
+    all_then (IsOfEntry es) (IsOfEntry (es ++ e ∷ [])) xs
+    (λ x is. record { change = is.change; accepted = change_push es e x.place is.change is.accepted; same_coll = is.same_coll }) all
+
+below_all : (es : List Entry) (ps : List ℕ) → AreAtPlaces es ps → AllByRecursion (λ p. p < length es) ps
+below_all es ps all =
+    all_then (λ p. IsSome (change_at es p)) (λ p. p < length es) ps (λ p is. let found = some_is (change_at es p) is in change_below es p found.0 found.1) all
+
+context_places : (es : List Entry) (xs : List Context) → AllByRecursion (IsOfEntry es) xs → AreAtPlaces es (places xs)
+context_places es [] all = tt
+context_places es (x ∷ xs) all = (ap is_some all.0.accepted, context_places es xs all.1)
+
+-- the place of one context, if it is on the collection
+on_one : (coll : List ℕ) (x : Context) → places (contexts_on coll (x ∷ [])) ≡ place_if (is_same coll x.coll) x.place
+on_one coll x = by_test (is_same coll x.coll)
+  where
+    by_test : (b : Bool) → places (cond b (x ∷ []) []) ≡ place_if b x.place
+    by_test true = refl
+    by_test false = refl
+
+on_push : (coll : List ℕ) (xs : List Context) (x : Context)
+    → places (contexts_on coll (xs ++ x ∷ [])) ≡ places (contexts_on coll xs) ++ place_if (is_same coll x.coll) x.place
+on_push coll xs x =
+    ap places (filter-append (λ y. is_same coll y.coll) xs (x ∷ []))
+    ∙ map-append (λ y. y.place) (contexts_on coll xs) (contexts_on coll (x ∷ []))
+    ∙ ap (λ (l : List ℕ). places (contexts_on coll xs) ++ l) (on_one coll x)
+
+-- ---- one more entry
+
+module _ (es : List Entry) (e : Entry) (commits : List Commit) (pending : List Context)
+    (of_accepted : AllByRecursion (λ c. IsSome (change_at es c.place)) commits) (queued : AreQueued (record { entries = es; commits = commits }) pending) where
+  -- that isn't accepted
+  pub queued_noted : own_change e ≡ None → AreQueued (record { entries = es ++ e ∷ []; commits = commits }) pending
+  queued_noted is = record {
+    once = queued.once;
+    in_order = λ coll. places_push coll es e ∙ ap (λ (o : Option Change). places_of coll es ++ place_if (is_on coll o) (length es)) is
+        ∙ append-nil (places_of coll es) ∙ queued.in_order coll
+        ∙ ap (λ (l : List ℕ). l ++ places (contexts_on coll pending)) (sym (places_kept coll es e commits of_accepted));
+  }
+
+  -- that is, with its context
+  pub queued_accepted : (x : Context) (change : Change) → own_change e ≡ Some change → change.coll ≡ x.coll → x.place ≡ length es
+      → AllByRecursion (IsOfEntry es) pending → AreQueued (record { entries = es ++ e ∷ []; commits = commits }) (pending ++ x ∷ [])
+  queued_accepted x change is same_coll here all = record { once = once; in_order = in_order }
+    where
+      apart : AllByRecursion (λ p. p < length es) (commit_places commits ++ places pending)
+      apart = all_append (λ p. p < length es) (commit_places commits) (places pending)
+          (below_all es (commit_places commits) (at_places es commits of_accepted)) (below_all es (places pending) (context_places es pending all))
+
+      one_more : commit_places commits ++ places (pending ++ x ∷ []) ≡ (commit_places commits ++ places pending) ++ length es ∷ []
+      one_more = ap (λ (l : List ℕ). commit_places commits ++ l) (map-append (λ y. y.place) pending (x ∷ []))
+          ∙ sym (append_assoc (commit_places commits) (places pending) (x.place ∷ []))
+          ∙ ap (λ (n : ℕ). (commit_places commits ++ places pending) ++ n ∷ []) here
+
+      once : IsDistinct nat_eq (commit_places commits ++ places (pending ++ x ∷ []))
+      once = subst (IsDistinct nat_eq) (sym one_more)
+          (IsDistinct-push nat_eq_equiv (commit_places commits ++ places pending) (length es) queued.once
+          (none_above (length es) (commit_places commits ++ places pending) apart))
+
+      in_order : (coll : List ℕ) → places_of coll (es ++ e ∷ []) ≡ committed_places coll (es ++ e ∷ []) commits ++ places (contexts_on coll (pending ++ x ∷ []))
+      in_order coll =
+          places_push coll es e
+          ∙ ap (λ (o : Option Change). places_of coll es ++ place_if (is_on coll o) (length es)) is
+          ∙ ap (λ (l : List ℕ). l ++ place_if (is_same coll change.coll) (length es)) (queued.in_order coll)
+          ∙ append_assoc (committed_places coll es commits) (places (contexts_on coll pending)) (place_if (is_same coll change.coll) (length es))
+          ∙ ap (λ (c : List ℕ). committed_places coll es commits ++ (places (contexts_on coll pending) ++ place_if (is_same coll c) (length es))) same_coll
+          ∙ ap (λ (n : ℕ). committed_places coll es commits ++ (places (contexts_on coll pending) ++ place_if (is_same coll x.coll) n)) (sym here)
+          ∙ ap (λ (l : List ℕ). committed_places coll es commits ++ l) (sym (on_push coll pending x))
+          ∙ ap (λ (l : List ℕ). l ++ places (contexts_on coll (pending ++ x ∷ []))) (sym (places_kept coll es e commits of_accepted))
+
+-- ---- one context is committed, the only one that waits
+
+pub queued_taken : (es : List Entry) (commits : List Commit) (c : Commit) (x : Context) → c.place ≡ x.place → IsOfEntry es x
+    → AreQueued (record { entries = es; commits = commits }) (x ∷ []) → AreQueued (record { entries = es; commits = commits ++ c ∷ [] }) []
+queued_taken es commits c x same is queued = record { once = once; in_order = in_order }
+  where
+    one_more : commit_places (commits ++ c ∷ []) ≡ commit_places commits ++ x.place ∷ []
+    one_more = map-append (λ d. d.place) commits (c ∷ []) ∙ ap (λ (n : ℕ). commit_places commits ++ n ∷ []) same
+
+    once : IsDistinct nat_eq (commit_places (commits ++ c ∷ []) ++ [])
+    once = subst (IsDistinct nat_eq) (sym (append-nil (commit_places (commits ++ c ∷ [])) ∙ one_more)) queued.once
+
+    on_it : (coll : List ℕ) → is_on coll (change_at es x.place) ≡ is_same coll x.coll
+    on_it coll = ap (is_on coll) is.accepted ∙ ap (is_same coll) is.same_coll
+
+    in_order : (coll : List ℕ) → places_of coll es ≡ committed_places coll es (commits ++ c ∷ []) ++ []
+    in_order coll =
+        queued.in_order coll
+        ∙ ap (λ (l : List ℕ). committed_places coll es commits ++ l) (on_one coll x ∙ ap (λ (b : Bool). place_if b x.place) (sym (on_it coll)))
+        ∙ ap (λ (l : List ℕ). l ++ places_on coll es (x.place ∷ [])) (places_by_places coll es commits)
+        ∙ sym (filter-append (λ p. is_on coll (change_at es p)) (commit_places commits) (x.place ∷ []))
+        ∙ ap (places_on coll es) (sym one_more)
+        ∙ sym (places_by_places coll es (commits ++ c ∷ []))
+        ∙ sym (append-nil (committed_places coll es (commits ++ c ∷ [])))
+
+-- ---- commits of the same places, and contexts that are alike
+
+pub queued_places : (es : List Entry) (commits commits' : List Commit) (pending : List Context) → commit_places commits' ≡ commit_places commits
+    → AreQueued (record { entries = es; commits = commits }) pending → AreQueued (record { entries = es; commits = commits' }) pending
+queued_places es commits commits' pending same queued = record {
+  once = subst (λ (l : List ℕ). IsDistinct nat_eq (l ++ places pending)) (sym same) queued.once;
+  in_order = λ coll. queued.in_order coll
+      ∙ ap (λ (l : List ℕ). l ++ places (contexts_on coll pending))
+      (places_by_places coll es commits ∙ ap (places_on coll es) (sym same) ∙ sym (places_by_places coll es commits'));
+}
+
+pub queued_like : (book : Book) (xs ys : List Context) → AreLike xs ys → AreQueued book ys → AreQueued book xs
+queued_like book xs ys like queued = record {
+  once = subst (λ (l : List ℕ). IsDistinct nat_eq (commit_places book.commits ++ l)) (sym (places_like xs ys like)) queued.once;
+  in_order = λ coll. queued.in_order coll ∙ ap (λ (l : List ℕ). committed_places coll book.entries book.commits ++ l) (sym (on_like coll xs ys like));
+}
+
+-- ---- what the book needs
+
+pub once_committed : (book : Book) (pending : List Context) → AreQueued book pending → IsDistinct nat_eq (commit_places book.commits)
+once_committed book pending queued = distinct_front (commit_places book.commits) (places pending) queued.once
+
+pub committed_in_order : (book : Book) (pending : List Context) → AreQueued book pending → (coll : List ℕ)
+    → IsPrefixOf (committed_places coll book.entries book.commits) (places_of coll book.entries)
+committed_in_order book pending queued coll = (places (contexts_on coll pending), queued.in_order coll)

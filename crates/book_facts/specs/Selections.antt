@@ -1,0 +1,30 @@
+-- Fair selections of contexts, and what rows and units stand for when just these are committed.
+use Rattle.std.specs.Prelude.{ℕ, List, take, filter_map}
+use Rattle.object_model.specs.declared.book.Entry.{Entry}
+use Rattle.object_model.specs.Objects.{Objects}
+use Rattle.object_model.specs.Effect.{Change, replay}
+use Rattle.object_model.specs.Book.{change_at, committed, IsPrefixOf}
+use Rattle.meta_rows.specs.Rows.{Rows}
+use Rattle.store_image.specs.Stands.{ObjectsStand}
+use Rattle.store_steps.specs.declared.context.Context.{Context}
+use Rattle.store_steps.specs.State.{State}
+use Rattle.store_steps.specs.Ready.{applied_count}
+use Rattle.store_facts.specs.Space.{rows_with}
+use Rattle.book_facts.specs.BookFacts.{contexts_on}
+
+-- of each collection the first ones are selected, in order
+abbrev pub IsFairSelection : List Context → List Context → Type 0
+IsFairSelection all some = (coll : List ℕ) → IsPrefixOf (contexts_on coll some) (contexts_on coll all)
+
+-- the transactions of contexts
+abbrev pub changes_of : List Entry → List Context → List Change
+changes_of entries contexts = filter_map (λ x. change_at entries x.place) contexts
+
+-- the transactions whose commits are applied to the committed rows
+abbrev pub applied_changes : State → List Change
+applied_changes s = committed s.book.entries (take (applied_count s) s.book.commits)
+
+-- With the operations of a fair selection the rows stand, over these bytes of units, for the objects after its transactions.
+abbrev pub SelectionsStand : (ℕ → List ℕ) → Rows → List Context → Objects → List Entry → Type 0
+SelectionsStand at rows contexts objects entries = (some : List Context) → IsFairSelection contexts some
+    → ObjectsStand at (rows_with rows some) (replay objects (changes_of entries some))

@@ -1,0 +1,9 @@
+//! What is known of the book from call to call and along a run, whatever the device is: at each end the book is legal.
+#![tactic(auto)]
+
+mod laws;
+
+pub use laws::{
+    a_call_keeps_the_book, a_known_book_is_legal, a_new_book_is_known,
+    a_run_keeps_what_the_kernel_keeps, a_run_makes_a_legal_book,
+};

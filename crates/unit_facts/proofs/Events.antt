@@ -1,0 +1,54 @@
+-- One event more: what the device tells then, and that each submission since is in flight or has ended well.
+use Rattle.std.proofs.Common.{◌≡◌, ℕ, ◌+◌, ◌≤◌, true, [], ◌∷◌, ◌++◌, length, Option, Some, None, sym, ap, subst, ◌∙◌, arith}
+use Rattle.std.specs.Prelude.{IfSome}
+use Rattle.std.proofs.lemmas.List.{length-append}
+use Rattle.block_device.specs.Disk.{Disk, History, grown, flight_of, find_flight, without, Submitted, Reaped}
+use Rattle.block_device.specs.Facts.{with_event, EachWriteIsAnswered}
+use Rattle.block_device.specs.declared.event.Event.{Event}
+use Rattle.block_device.specs.declared.event.Event.TheVariants.{Done}
+use Rattle.block_device.proofs.QuietLemmas.{quiet_push, answered_submit, answered_done}
+use Rattle.unit_facts.specs.Known.{IsAnsweredSince}
+
+module _ (base events : ℕ) (h : History) (d d' : Disk) (told : d.history ≡ Some h) (answered : IsAnsweredSince base h d.flights events) where
+  -- one event more
+  more : (e : Event) → length (h.log ++ e ∷ []) ≡ base + (events + 1)
+  more e = omega (arith, length-append h.log (e ∷ []), answered.counted)
+
+  reached : base ≤ length h.log
+  reached = omega (arith, answered.counted)
+
+  -- ---- a submission
+
+  module _ (ticket : ℕ) (e : Event) (sent : Submitted d ticket e d') where
+    pub told_sent : d'.history ≡ Some (with_event h e)
+    told_sent = ap (λ (x : Disk). x.history) sent.after ∙ ap (λ (o : Option History). grown o e) told
+
+    pub place_sent : ticket ≡ length h.log
+    place_sent = subst (λ (o : Option History). IfSome o (λ k. ticket ≡ length k.log)) told sent.place
+
+    pub answered_sent : IsAnsweredSince base (with_event h e) d'.flights (events + 1)
+    answered_sent =
+        let new : find_flight (length h.log) d.flights ≡ None = subst (λ (n : ℕ). find_flight n d.flights ≡ None) place_sent sent.is_new in
+        let flights : d'.flights ≡ d.flights ++ flight_of (length h.log) e ∷ [] =
+        ap (λ (x : Disk). x.flights) sent.after ∙ ap (λ (n : ℕ). d.flights ++ flight_of n e ∷ []) place_sent in
+        record {
+          quiet = quiet_push base h e answered.quiet reached;
+          each = subst (EachWriteIsAnswered base (with_event h e)) (sym flights) (answered_submit base h e d.flights answered.each new);
+          counted = more e;
+        }
+
+  -- ---- a good end
+
+  module _ (ticket : ℕ) (ended : Reaped d ticket true d') where
+    pub told_ended : d'.history ≡ Some (with_event h (Done ticket true))
+    told_ended = ap (λ (x : Disk). x.history) ended.after ∙ ap (λ (o : Option History). grown o (Done ticket true)) told
+
+    pub answered_ended : IsAnsweredSince base (with_event h (Done ticket true)) d'.flights (events + 1)
+    answered_ended =
+        let flights : d'.flights ≡ without ticket d.flights = ap (λ (x : Disk). x.flights) ended.after in
+        record {
+          quiet = quiet_push base h (Done ticket true) answered.quiet reached;
+          each = subst (EachWriteIsAnswered base (with_event h (Done ticket true))) (sym flights)
+              (answered_done base h ticket d.flights answered.each);
+          counted = more (Done ticket true);
+        }

@@ -1,0 +1,103 @@
+-- Runs of calls from a store that was just opened, and what is known when they are over.
+use Rattle.std.proofs.Common.{◌≡◌, inl, inr, ℕ, ◌+◌, ◌-◌, ◌<◌, List, [], ◌∷◌, true, Option, None, sym, ap, subst, ◌∙◌, arith}
+use Rattle.std.proofs.lemmas.Bool.{cases_lt}
+use Rattle.block_device.specs.Log.{IsClean}
+use Rattle.block_device.specs.Disk.{Disk, History, IsSound}
+use Rattle.meta_rows.specs.declared.row_op.RowOp.{RowOp}
+use Rattle.meta_rows.specs.Rows.{Rows}
+use Rattle.meta_log.specs.declared.slot.Super.{Super}
+use Rattle.meta_log.specs.Slots.{active_unit}
+use Rattle.store_steps.specs.declared.context.Context.{Context}
+use Rattle.store_steps.specs.State.{Begun, State}
+use Rattle.store_steps.specs.Ready.{is_drained}
+use Rattle.store_steps.specs.Runs.{Call, submitting, stepping, Calls, Submits, IsRun}
+use Rattle.store_facts.specs.Space.{uncommitted}
+use Rattle.store_facts.specs.Kept.{IsKept}
+use Rattle.store_facts.proofs.Kept.{kept_step, kept_accept, kept_refuse}
+use Rattle.store_facts.proofs.Known.{known_idle}
+use Rattle.store_facts.proofs.Conditions.{ready_not_down, IsIdle}
+use Rattle.log_facts.specs.Flushing.{FlushState}
+use Rattle.log_facts.specs.HalfFacts.{ActiveHalfStands}
+use Rattle.unit_facts.specs.DataUnits.{IsElsewhere, given_fresh, OtherUnitsAreClean}
+use Rattle.unit_facts.specs.Known.{begun_ops, submitted_from, second_flush, KnownOfUnits, Knows}
+use Rattle.unit_facts.proofs.Calls.{call_knows}
+
+-- ---- each call keeps what the kernel keeps, and is made while it is up
+
+pub kept_call : (call : Call) (s s' : State) (d d' : Disk) → IsKept s d → Calls call s d s' d' → IsSound d' → IsKept s' d'
+kept_call (submitting client line change) s s' d d' kept made sound = subst (IsKept s') (sym made.2) (of_answer made.1)
+  where
+    of_answer : Submits client line change s s' → IsKept s' d
+    of_answer (inl accepts) = kept_accept s s' d client line change kept made.0 accepts
+    of_answer (inr refused) = kept_refuse s s' d client line change refused.0 kept made.0 refused.1
+kept_call (stepping step) s s' d d' kept made sound = kept_step step s s' d d' kept made.0 made.1 sound
+
+pub called_up : (call : Call) (s s' : State) (d d' : Disk) → IsKept s d → Calls call s d s' d' → s.down ≡ None
+called_up (submitting client line change) s s' d d' kept made = made.0.up
+called_up (stepping step) s s' d d' kept made = ready_not_down s d step kept made.0
+
+-- so a run that is not over is up
+pub run_up : (calls : List Call) (s s' : State) (d d' : Disk) → IsKept s d → IsRun s d calls s' d' → s'.down ≡ None → s.down ≡ None
+run_up [] s s' d d' kept run up = ap (λ (t : State). t.down) (sym run.0) ∙ up
+run_up (call ∷ calls) s s' d d' kept run up = called_up call s run.0 d run.1.0 kept run.1.1.0
+
+pub run_kept : (calls : List Call) (s s' : State) (d d' : Disk) → IsKept s d → IsRun s d calls s' d' → IsKept s' d'
+run_kept [] s s' d d' kept run = subst (λ (t : State). IsKept t d') (sym run.0) (subst (IsKept s) (sym run.1) kept)
+run_kept (call ∷ calls) s s' d d' kept run =
+    run_kept calls run.0 s' run.1.0 d' (kept_call call s run.0 d run.1.0 kept run.1.1.0 run.1.1.1.0) run.1.1.1.1
+
+-- ---- a run keeps what is known
+
+pub run_knows : (calls : List Call) (base : ℕ) (s s' : State) (d d' : Disk) (h : History) → IsKept s d → KnownOfUnits base s d h
+    → IsRun s d calls s' d' → s'.down ≡ None → Knows base s' d'
+run_knows [] base s s' d d' h kept known run up =
+    let same : KnownOfUnits base s d' h = subst (λ (e : Disk). KnownOfUnits base s e h) (sym run.1) known in
+    record { history = h; known = subst (λ (t : State). KnownOfUnits base t d' h) (sym run.0) same }
+run_knows (call ∷ calls) base s s' d d' h kept known run up =
+    let t : State = run.0 in
+    let e : Disk = run.1.0 in
+    let after : IsKept t e = kept_call call s t d e kept run.1.1.0 run.1.1.1.0 in
+    let mid : Knows base t e = call_knows call base s t d e h kept (run_up calls t s' e d' after run.1.1.1.1 up) known run.1.1.0 in
+    run_knows calls base t s' e d' mid.history after mid.known run.1.1.1.1 up
+
+-- ---- once the kernel is drained no unit is dirty
+
+-- no record is being written
+pub idle_half : (base : ℕ) (s : State) (d : Disk) (h : History) → KnownOfUnits base s d h → s.log.begun ≡ None
+    → (recs : List (List RowOp)) × ActiveHalfStands h s.log.sup s.log.rows s.log.tail s.log.number None 0 (second_flush s.batch) recs
+idle_half base s d h known none = (
+  known.half.recs,
+  subst (λ (b : Option Begun). ActiveHalfStands h s.log.sup s.log.rows s.log.tail s.log.number (begun_ops b)
+      (submitted_from s.log.number b) (second_flush s.batch) known.half.recs) none known.half.stands,
+)
+
+half_clean : (h : History) (s : Super) (rows : Rows) (tail number k : ℕ) (second : FlushState) (recs : List (List RowOp))
+    → ActiveHalfStands h s rows tail number None 0 second recs → k < s.half → IsClean h.log (active_unit s + k)
+half_clean h s rows tail number k second recs stands below = elim (cases_lt k tail) [
+  | inl front ↦ (stands.front k front).clean
+  | inr behind ↦ (stands.zero_behind k (omega (arith, behind)) below).clean
+]
+
+pub idle_clean : (base : ℕ) (s : State) (d : Disk) (h : History) → KnownOfUnits base s d h → s.log.begun ≡ None → uncommitted s ≡ []
+    → (unit : ℕ) → IsClean h.log unit
+idle_clean base s d h known none idle unit = elim (cases_lt unit (active_unit s.log.sup)) [
+  | inl before ↦ elsewhere (inl before)
+  | inr from ↦
+      elim (cases_lt unit (active_unit s.log.sup + s.log.sup.half)) [
+        | inl inside ↦
+            let half = idle_half base s d h known none in
+            subst (IsClean h.log) (omega (arith, from))
+            (half_clean h s.log.sup s.log.rows s.log.tail s.log.number (unit - active_unit s.log.sup) (second_flush s.batch) half.0 half.1
+            (omega (arith, from, inside)))
+        | inr behind ↦ elsewhere (inr behind)
+      ]
+]
+  where
+    elsewhere : IsElsewhere s.log.sup unit → IsClean h.log unit
+    elsewhere is = subst (λ (xs : List Context). OtherUnitsAreClean h s.log.sup (given_fresh xs)) idle known.clean unit is tt
+
+pub drained_clean : (base : ℕ) (s : State) (d : Disk) (h : History) → IsKept s d → KnownOfUnits base s d h → s.down ≡ None
+    → is_drained d.depth s ≡ true → (unit : ℕ) → IsClean h.log unit
+drained_clean base s d h kept known up drained =
+    let idle : IsIdle s = known_idle s d kept up drained in
+    idle_clean base s d h known idle.begun idle.uncommitted

@@ -1,0 +1,169 @@
+-- What is known of the data units, over an event that writes none of them, and as a batch is flushed and committed.
+use Rattle.std.proofs.Common.{◌≢◌, ◌⊎◌, inl, inr, true, ℕ, zero, suc, ◌+◌, ◌*◌, ◌≤◌, List, [], ◌∷◌, ◌++◌, length, take, Contains, Option, Some, None, subst}
+use Rattle.std.proofs.Common.{◌∙◌, arith}
+use Rattle.std.specs.List.{flat_map, AllByRecursion}
+use Rattle.std.proofs.lemmas.Bool.{cases_eq}
+use Rattle.std.proofs.lemmas.List.Elements.{Contains-append_left, Contains-append_right}
+use Rattle.block_device.specs.Log.{last, WritesUnit, WritesNothing, IsClean}
+use Rattle.block_device.specs.Disk.{History, Flight}
+use Rattle.block_device.specs.Facts.{with_event, Fits, EachWriteIsAnswered, QuietAt, IsUnflown}
+use Rattle.block_device.specs.declared.event.Event.{Event}
+use Rattle.block_device.specs.declared.event.Event.TheVariants.{Write, Flush, Done}
+use Rattle.block_device.proofs.LogLemmas.{clean_push}
+use Rattle.meta_log.specs.declared.slot.Super.{Super}
+use Rattle.meta_log.specs.Slots.{active_unit}
+use Rattle.store_image.specs.Owners.{IsDataUnit}
+use Rattle.log_facts.specs.Flushing.{FlushState, not_sent, sent, flushed}
+use Rattle.log_facts.proofs.Keeping.{last_push, flushed_push, flush_sent, flush_ended, nothing_written, half_before_data}
+use Rattle.unit_allocator.proofs.Lists.{Contains-head, Contains-tail}
+use Rattle.store_steps.specs.declared.context.Context.{Context}
+use Rattle.store_steps.specs.declared.context.FreshUnit.{FreshUnit}
+use Rattle.store_steps.specs.State.{Batch}
+use Rattle.store_facts.proofs.SpaceUnits.{AreData}
+use Rattle.store_facts.proofs.RowsPlans.{units_of}
+use Rattle.unit_facts.specs.DataUnits.{flush_of, IsElsewhere, all_fresh, given_fresh, OtherUnitsAreClean, HeldBytesAreLast, UnitsAreFlushed}
+use Rattle.unit_facts.specs.DataUnits.{BatchUnitsAreFlushed}
+
+-- ---- lists
+
+pub all_join : {A : Type 0} (P : A → Type 0) (xs ys : List A) → AllByRecursion P xs → AllByRecursion P ys → AllByRecursion P (xs ++ ys)
+all_join P [] ys these those = those
+all_join P (x ∷ xs) ys these those = (these.0, all_join P xs ys these.1 those)
+
+pub all_front : {A : Type 0} (P : A → Type 0) (xs ys : List A) → AllByRecursion P (xs ++ ys) → AllByRecursion P xs
+all_front P [] ys all = tt
+all_front P (x ∷ xs) ys all = (all.0, all_front P xs ys all.1)
+
+pub all_rest : {A : Type 0} (P : A → Type 0) (xs ys : List A) → AllByRecursion P (xs ++ ys) → AllByRecursion P ys
+all_rest P [] ys all = all
+all_rest P (x ∷ xs) ys all = all_rest P xs ys all.1
+
+all_taken : {A : Type 0} (P : A → Type 0) (n : ℕ) (xs : List A) → AllByRecursion P xs → AllByRecursion P (take n xs)
+all_taken P zero xs all = tt
+all_taken P (suc n) [] all = tt
+all_taken P (suc n) (x ∷ xs) all = (all.0, all_taken P n xs all.1)
+
+-- what holds of the fresh units of contexts holds of those whose writes were submitted
+pub all_given : (P : FreshUnit → Type 0) (xs : List Context) → AllByRecursion P (all_fresh xs) → AllByRecursion P (given_fresh xs)
+all_given P [] all = tt
+all_given P (x ∷ xs) all =
+    all_join P (take x.given x.fresh) (given_fresh xs) (all_taken P x.given x.fresh (all_front P x.fresh (all_fresh xs) all))
+    (all_given P xs (all_rest P x.fresh (all_fresh xs) all))
+
+-- ---- the fresh units are data units
+
+abbrev pub AreOnData : Super → List FreshUnit → Type 0
+AreOnData s fresh = AllByRecursion (λ f. IsDataUnit s f.unit) fresh
+
+-- the units that contexts took
+abbrev pub taken_by : List Context → List ℕ
+taken_by xs = flat_map (λ x. units_of x.fresh) xs
+
+each_unit : (P : ℕ → Type 0) (fresh : List FreshUnit) → ((u : ℕ) → Contains (units_of fresh) u → P u) → AllByRecursion (λ f. P f.unit) fresh
+each_unit P [] are = tt
+each_unit P (f ∷ fresh) are =
+    (are f.unit (Contains-head f.unit (units_of fresh)), each_unit P fresh (λ u c. are u (Contains-tail f.unit u (units_of fresh) c)))
+
+-- what holds of these units holds of each fresh one
+pub all_units : (P : ℕ → Type 0) (xs : List Context) → ((u : ℕ) → Contains (taken_by xs) u → P u) → AllByRecursion (λ f. P f.unit) (all_fresh xs)
+all_units P [] are = tt
+all_units P (x ∷ xs) are = all_join (λ f. P f.unit) x.fresh (all_fresh xs)
+    (each_unit P x.fresh (λ u c. are u (Contains-append_left (units_of x.fresh) (taken_by xs) u c)))
+    (all_units P xs (λ u c. are u (Contains-append_right (units_of x.fresh) (taken_by xs) u c)))
+
+pub fresh_on_data : (s : Super) (xs : List Context) → AreData s (taken_by xs) → AreOnData s (all_fresh xs)
+fresh_on_data s xs are = all_units (IsDataUnit s) xs are
+
+-- ---- an event that writes none of the data units
+
+-- it writes none of these
+abbrev pub Spares : Event → List FreshUnit → Type 0
+Spares e fresh = AllByRecursion (λ f. ¬ WritesUnit f.unit e) fresh
+
+pub spares_data : (s : Super) (e : Event) (fresh : List FreshUnit) → ((unit : ℕ) → IsDataUnit s unit → ¬ WritesUnit unit e)
+    → AreOnData s fresh → Spares e fresh
+spares_data s e [] spared are = tt
+spares_data s e (f ∷ fresh) spared are = (spared f.unit are.0, spares_data s e fresh spared are.1)
+
+pub none_written : (e : Event) (unit : ℕ) → WritesNothing e → ¬ WritesUnit unit e
+none_written e unit none = nothing_written unit 1 e none unit (omega arith) (omega arith)
+
+pub spares_all : (e : Event) (fresh : List FreshUnit) → WritesNothing e → Spares e fresh
+spares_all e [] none = tt
+spares_all e (f ∷ fresh) none = (none_written e f.unit none, spares_all e fresh none)
+
+pub fits_quiet : (size : ℕ) (e : Event) → WritesNothing e → Fits size e
+fits_quiet size (Write at bytes) none = absurd none
+fits_quiet size Flush none = tt
+fits_quiet size (Done ticket ok) none = tt
+
+pub clean_on : (h : History) (s : Super) (e : Event) (given : List FreshUnit) → ((unit : ℕ) → IsElsewhere s unit → ¬ WritesUnit unit e)
+    → OtherUnitsAreClean h s given → OtherUnitsAreClean (with_event h e) s given
+clean_on h s e given spared clean unit is other = clean_push h.log e unit (clean unit is other) (spared unit is)
+
+pub held_on : (h : History) (e : Event) (given : List FreshUnit) → Fits (length (last h.start h.log)) e → Spares e given
+    → HeldBytesAreLast h given → HeldBytesAreLast (with_event h e) given
+held_on h e [] fits spared held = tt
+held_on h e (f ∷ given) fits spared held = (last_push h e f.unit fits spared.0 ∙ held.0, held_on h e given fits spared.1 held.1)
+
+pub flushed_on : (h : History) (e : Event) (state : FlushState) (fresh : List FreshUnit) → Spares e fresh
+    → UnitsAreFlushed h state fresh → UnitsAreFlushed (with_event h e) state fresh
+flushed_on h e state [] spared are = tt
+flushed_on h e state (f ∷ fresh) spared are = (flushed_push h e state f.unit spared.0 are.0, flushed_on h e state fresh spared.1 are.1)
+
+-- an event that writes nothing keeps what is known of the batch's units
+pub batch_quiet : (h : History) (e : Event) (batch : Option Batch) → WritesNothing e
+    → BatchUnitsAreFlushed h batch → BatchUnitsAreFlushed (with_event h e) batch
+batch_quiet h e None none are = tt
+batch_quiet h e (Some b) none are = flushed_on h e (flush_of b.first) (all_fresh b.contexts) (spares_all e (all_fresh b.contexts) none) are
+
+-- ---- a flush of these units
+
+pub none_flushed : (h : History) (fresh : List FreshUnit) → UnitsAreFlushed h not_sent fresh
+none_flushed h [] = tt
+none_flushed h (f ∷ fresh) = (tt, none_flushed h fresh)
+
+-- it is submitted while nothing is in flight
+pub units_covered : (h : History) (base : ℕ) (flights : List Flight) (fresh : List FreshUnit) → QuietAt base h → EachWriteIsAnswered base h flights
+    → ((unit : ℕ) → IsUnflown flights unit) → UnitsAreFlushed (with_event h Flush) (sent (length h.log)) fresh
+units_covered h base flights [] quiet each unflown = tt
+units_covered h base flights (f ∷ fresh) quiet each unflown =
+    (flush_sent h base flights f.unit quiet each (unflown f.unit), units_covered h base flights fresh quiet each unflown)
+
+-- it has ended well
+pub units_cleaned : (h : History) (flush : ℕ) (fresh : List FreshUnit) → UnitsAreFlushed h (sent flush) fresh
+    → UnitsAreFlushed (with_event h (Done flush true)) flushed fresh
+units_cleaned h flush [] are = tt
+units_cleaned h flush (f ∷ fresh) are = (flush_ended h flush f.unit are.0, units_cleaned h flush fresh are.1)
+
+-- ---- once its flush has ended a batch leaves all units outside the half clean
+
+-- the unit is none of these, or clean as they are
+other_or_clean : (h : History) (fresh : List FreshUnit) (unit : ℕ) → UnitsAreFlushed h flushed fresh
+    → AllByRecursion (λ f. f.unit ≢ unit) fresh ⊎ IsClean h.log unit
+other_or_clean h [] unit are = inl tt
+other_or_clean h (f ∷ fresh) unit are = elim (cases_eq f.unit unit) [
+  | inl same ↦ inr (subst (IsClean h.log) same are.0)
+  | inr other ↦
+      elim (other_or_clean h fresh unit are.1) [
+        | inl others ↦ inl (other, others)
+        | inr clean ↦ inr clean
+      ]
+]
+
+pub all_clean : (h : History) (s : Super) (fresh : List FreshUnit) → OtherUnitsAreClean h s fresh → UnitsAreFlushed h flushed fresh
+    → OtherUnitsAreClean h s []
+all_clean h s fresh clean are unit is none = elim (other_or_clean h fresh unit are) [
+  | inl other ↦ clean unit is other
+  | inr is_clean ↦ is_clean
+]
+
+-- a data unit is outside the active half
+pub data_elsewhere : (s : Super) (unit : ℕ) → IsDataUnit s unit → IsElsewhere s unit
+data_elsewhere s unit is = inr (omega (arith, is.0, half_before_data s))
+
+-- a write inside the half spares all else
+pub half_spares_others : (s : Super) (at unit : ℕ) (bytes : List ℕ) → active_unit s ≤ at
+    → 4096 * at + length bytes ≤ 4096 * (active_unit s + s.half) → IsElsewhere s unit → ¬ WritesUnit unit (Write at bytes)
+half_spares_others s at unit bytes low inside (inl before) covers = omega (arith, covers.0, low, before)
+half_spares_others s at unit bytes low inside (inr behind) covers = omega (arith, covers.1, inside, behind)

@@ -1,0 +1,5 @@
+use Rattle.unit_facts.proofs.Steps.{opened_known}
+use Rattle.unit_facts.proofs.laws.a_found_device_is_known.Goals as goal
+
+pub returns : goal.returns
+returns c = opened_known

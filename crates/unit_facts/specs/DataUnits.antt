@@ -1,0 +1,49 @@
+-- What is known of the units outside the log, by those that the contexts under way have taken.
+use Rattle.std.specs.Prelude.{◌≡◌, ◌≢◌, ◌⊎◌, ℕ, ◌+◌, ◌<◌, ◌≤◌, List, take, Option, Some, None}
+use Rattle.std.specs.List.{flat_map, AllByRecursion}
+use Rattle.block_device.specs.Log.{IsClean}
+use Rattle.block_device.specs.Disk.{History}
+use Rattle.block_device.specs.Facts.{last_at}
+use Rattle.meta_log.specs.declared.slot.Super.{Super}
+use Rattle.meta_log.specs.Slots.{active_unit}
+use Rattle.log_facts.specs.Flushing.{FlushState, not_sent, sent, flushed, IsFlushed}
+use Rattle.store_steps.specs.declared.context.Context.{Context}
+use Rattle.store_steps.specs.declared.context.FreshUnit.{FreshUnit}
+use Rattle.store_steps.specs.declared.flight.FlushState.{FlushState as StepFlush}
+use Rattle.store_steps.specs.declared.flight.FlushState.TheVariants as flush
+use Rattle.store_steps.specs.State.{Batch}
+
+-- a flush of the kernel, by the place of its submission
+abbrev pub flush_of : StepFlush → FlushState
+flush_of flush.NotSent = not_sent
+flush_of (flush.Sent ticket) = sent ticket.place
+flush_of flush.Flushed = flushed
+
+-- the fresh units of contexts
+abbrev pub all_fresh : List Context → List FreshUnit
+all_fresh contexts = flat_map (λ x. x.fresh) contexts
+
+-- those whose writes were submitted
+abbrev pub given_fresh : List Context → List FreshUnit
+given_fresh contexts = flat_map (λ x. take x.given x.fresh) contexts
+
+-- the unit is none of the active half of the log
+abbrev pub IsElsewhere : Super → ℕ → Type 0
+IsElsewhere s unit = (unit < active_unit s) ⊎ (active_unit s + s.half ≤ unit)
+
+-- each unit outside the active half but for these, whose writes were submitted, is clean
+abbrev pub OtherUnitsAreClean : History → Super → List FreshUnit → Type 0
+OtherUnitsAreClean h s given = (unit : ℕ) → IsElsewhere s unit → AllByRecursion (λ f. f.unit ≢ unit) given → IsClean h.log unit
+
+-- the bytes last written to these are theirs
+abbrev pub HeldBytesAreLast : History → List FreshUnit → Type 0
+HeldBytesAreLast h given = AllByRecursion (λ f. last_at h f.unit ≡ f.bytes) given
+
+-- what a flush says of these units
+abbrev pub UnitsAreFlushed : History → FlushState → List FreshUnit → Type 0
+UnitsAreFlushed h state fresh = AllByRecursion (λ f. IsFlushed h.log state f.unit) fresh
+
+-- what the first flush of the open batch says of its fresh units
+abbrev pub BatchUnitsAreFlushed : History → Option Batch → Type 0
+BatchUnitsAreFlushed h None = Unit {0}
+BatchUnitsAreFlushed h (Some b) = UnitsAreFlushed h (flush_of b.first) (all_fresh b.contexts)

@@ -1,0 +1,2 @@
+pub mod DataUnits
+pub mod Known

@@ -1,0 +1,82 @@
+//! Prefix durability along the calls of a kernel, and what its device stands for once it is drained.
+ghost use Rattle.std.specs.Prelude.{◌≡◌, ℕ, ◌+◌, ◌<◌, true, List, [], length, Some, None};
+ghost use Rattle.std.specs.FinMap as map;
+ghost use Rattle.byte_maps.specs.Units.{zeros};
+ghost use Rattle.block_device.specs.Log.{last, IsClean};
+ghost use Rattle.block_device.specs.Disk.{Disk, History, IsSound};
+ghost use Rattle.block_device.specs.Facts.{last_at};
+ghost use Rattle.object_model.specs.Objects.{Objects};
+ghost use Rattle.object_model.specs.Effect.{replay};
+ghost use Rattle.object_model.specs.Book.{accepted};
+ghost use Rattle.meta_log.specs.declared.slot.Super.{Super};
+ghost use Rattle.meta_log.specs.Slots.{active_unit, IsActiveSlot};
+ghost use Rattle.store_image.specs.Stands.{StandsFor};
+ghost use Rattle.store_image.specs.Durability.{EachCutStands};
+ghost use Rattle.unit_allocator.specs.Units.{Space};
+ghost use Rattle.store_steps.specs.State.{State};
+ghost use Rattle.store_steps.specs.Ready.{is_drained};
+ghost use Rattle.store_steps.specs.Opened.{opened};
+ghost use Rattle.store_steps.specs.Runs.{Call, Calls, IsRun};
+ghost use Rattle.store_facts.specs.Kept.{IsKept};
+ghost use Rattle.crash_facts.specs.Store.{KnownOfStore, IsDurable};
+
+/// A store without records on a device that is quiet and tells its log is durable from the start: its active slot is known, and its
+/// active half is all zeros.
+#[tactic(auto, using(crate::proofs::Runs::opened_durable))]
+pub fn a_fresh_store_is_durable()
+    ensures { (sup : Super) (space : Space) (d : Disk) (h : History) → IsKept (opened sup space 0) d → d.history ≡ Some h →
+        d.flights ≡ [] → ((unit : ℕ) → IsClean h.log unit) → IsActiveSlot (last h.start h.log) sup →
+        ((k : ℕ) → k < sup.half → last_at h (active_unit sup + k) ≡ zeros 4096) →
+        IsDurable (length h.log) map.empty (opened sup space 0) d }
+{}
+
+/// Each call leaves it durable, also one that takes the end of a submission that ended badly.
+#[tactic(auto, using(crate::proofs::Runs::call_durable))]
+pub fn a_call_keeps_a_store_durable()
+    ensures { (base : ℕ) (opening : Objects) (call : Call) (s s' : State) (d d' : Disk) → IsKept s d → IsSound d' →
+        IsDurable base opening s d → Calls call s d s' d' → IsDurable base opening s' d' }
+{}
+
+/// So does a run of calls.
+#[tactic(auto, using(crate::proofs::Runs::run_durable))]
+pub fn a_run_keeps_a_store_durable()
+    ensures { (base : ℕ) (opening : Objects) (calls : List Call) (s s' : State) (d d' : Disk) → IsKept s d →
+        IsDurable base opening s d → IsRun s d calls s' d' → IsDurable base opening s' d' }
+{}
+
+/// Once the kernel is drained, and not down, the device stands for the objects after all accepted transactions.
+pub fn a_drained_store_stands()
+    ensures { (base : ℕ) (opening : Objects) (s : State) (d : Disk) (h : History) → IsKept s d → s.down ≡ None →
+        is_drained d.depth s ≡ true → KnownOfStore base opening s d h →
+        StandsFor (last h.start h.log) (replay opening (accepted s.book.entries)) }
+{}
+
+/// Prefix durability of runs from a store without records: whatever a crash at any cut of the log leaves stands for the objects after
+/// the first commits of the book, among which is each one acknowledged by then, unless something torn is valid by chance.
+#[tactic(auto, using(crate::proofs::Runs::each_cut))]
+pub fn each_crash_leaves_a_prefix()
+    ensures { (sup : Super) (space : Space) (calls : List Call) (s' : State) (d d' : Disk) (h h' : History) →
+        IsKept (opened sup space 0) d → d.history ≡ Some h → d.flights ≡ [] → ((unit : ℕ) → IsClean h.log unit) →
+        IsActiveSlot (last h.start h.log) sup →
+        ((k : ℕ) → k < sup.half → last_at h (active_unit sup + k) ≡ zeros 4096) →
+        IsRun (opened sup space 0) d calls s' d' → d'.history ≡ Some h' →
+        EachCutStands (length h.log) h' map.empty s'.book }
+{}
+
+/// And where such a run ends drained and not down, the device stands for the objects after all accepted transactions, and no unit
+/// is dirty.
+#[tactic(auto, using(crate::proofs::Runs::end_laws))]
+pub fn a_drained_run_stands()
+    ensures stands { (sup : Super) (space : Space) (calls : List Call) (s' : State) (d d' : Disk) (h h' : History) →
+        IsKept (opened sup space 0) d → d.history ≡ Some h → d.flights ≡ [] → ((unit : ℕ) → IsClean h.log unit) →
+        IsActiveSlot (last h.start h.log) sup →
+        ((k : ℕ) → k < sup.half → last_at h (active_unit sup + k) ≡ zeros 4096) →
+        IsRun (opened sup space 0) d calls s' d' → d'.history ≡ Some h' → s'.down ≡ None → is_drained d'.depth s' ≡ true →
+        StandsFor (last h'.start h'.log) (replay map.empty (accepted s'.book.entries)) }
+    ensures clean { (sup : Super) (space : Space) (calls : List Call) (s' : State) (d d' : Disk) (h h' : History) →
+        IsKept (opened sup space 0) d → d.history ≡ Some h → d.flights ≡ [] → ((unit : ℕ) → IsClean h.log unit) →
+        IsActiveSlot (last h.start h.log) sup →
+        ((k : ℕ) → k < sup.half → last_at h (active_unit sup + k) ≡ zeros 4096) →
+        IsRun (opened sup space 0) d calls s' d' → d'.history ≡ Some h' → s'.down ≡ None → is_drained d'.depth s' ≡ true →
+        (unit : ℕ) → IsClean h'.log unit }
+{}

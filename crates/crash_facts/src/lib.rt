@@ -1,0 +1,10 @@
+//! What a device holds while the kernel runs, and what a crash at each moment leaves of it: the objects after a front of the commits,
+//! among which is each that was acknowledged. What is known is kept by each call, so it holds at the end of each run, up or down.
+#![tactic(auto)]
+
+mod laws;
+
+pub use laws::{
+    a_call_keeps_a_store_durable, a_drained_run_stands, a_drained_store_stands,
+    a_fresh_store_is_durable, a_run_keeps_a_store_durable, each_crash_leaves_a_prefix,
+};

@@ -1,0 +1,204 @@
+-- What the steps that the device has no part in do to the state.
+use Rattle.std.proofs.Common.{◌≡◌, inl, inr, ℕ, zero, suc, ◌+◌, ◌-◌, ◌<◌, ◌≤◌, nat_lt, not, Bool, true, cond, List, [], ◌∷◌, ◌++◌, length, Option, Some, None, is_some, is_none, slice_get, get_or, set, refl, sym, ap, subst, ◌∙◌, append-nil, arith}
+use Rattle.std.specs.Prelude.{MatchOption, Contains}
+use Rattle.std.specs.Option.{option_map}
+use Rattle.std.specs.List.{AllByRecursion}
+use Rattle.unit_allocator.proofs.Lists.{Contains-head, Contains-tail}
+use Rattle.std.proofs.lemmas.Bool.{eq-eqb, lt-ltb, le-ltb, and_parts, cases_lt}
+use Rattle.std.proofs.lemmas.Option.{IfSome_then}
+use Rattle.block_device.specs.Disk.{Disk}
+use Rattle.object_model.specs.declared.book.Commit.{Commit}
+use Rattle.meta_rows.specs.declared.row_op.RowOp.{RowOp}
+use Rattle.meta_rows.specs.Rows.{rows_after}
+use Rattle.meta_log.specs.Records.{unit_count}
+use Rattle.meta_log.specs.Pieces.{piece_count}
+use Rattle.meta_store.specs.Store as meta
+use Rattle.unit_allocator.specs.Units.{given}
+use Rattle.store_steps.specs.declared.context.Context.{Context}
+use Rattle.store_steps.specs.declared.flight.FlushState.TheVariants as flush
+use Rattle.store_steps.specs.State.{Begun, Log, State}
+use Rattle.store_steps.specs.Contexts.{chosen, without_context, batch_ops, batch_released}
+use Rattle.store_steps.specs.Changes.{commit_of, log_after, committed_batch, acknowledged}
+use Rattle.store_steps.specs.Ready.{is_ready}
+use Rattle.store_steps.specs.Steps.{DoesTake, DoesCommit, DoesFinish}
+use Rattle.store_facts.specs.Room.{AcksAre}
+use Rattle.store_facts.specs.Kept.{IsKept}
+use Rattle.store_facts.proofs.Readiness.{some_is, chosen_is}
+use Rattle.store_facts.proofs.Conditions.{ready_not_down, ready_by_table, ReadyCommit, commit_ready, finish_ready}
+use Rattle.store_facts.proofs.RowsFacts.{few_come_back, back_within, back_taken}
+use Rattle.store_kernel.specs.declared.batch.OpenBatch.{OpenBatch}
+use Rattle.store_kernel.specs.Seen.{batch_of, begun_of, log_of}
+use Rattle.store_kernel.specs.Units.{IsTakenUnit, CanBeGiven}
+use Rattle.store_kernel.proofs.Sending.{up_at}
+use Rattle.store_steps.specs.declared.step.Step.TheVariants as step
+
+-- ---- Take
+
+is_the_chosen : (s : State) (d : Disk) (x : Context) → IsKept s d → is_ready step.Take d.depth s ≡ true → s.pending ≡ x ∷ [] → chosen s.pending ≡ Some x
+is_the_chosen s d x kept ready pending =
+    let found = some_is (chosen s.pending) (and_parts (is_none s.batch) (is_some (chosen s.pending)) (ready_by_table s d step.Take kept ready)).1 in
+    let here : chosen (x ∷ []) ≡ Some found.0 = subst (λ (l : List Context). chosen l ≡ Some found.0) pending found.1 in
+    found.1 ∙ ap Some (sym (chosen_is x found.0 here).0)
+
+none_left : (x : Context) → without_context x.place (x ∷ []) ≡ []
+none_left x = ap (λ (b : Bool). cond (not b) (x ∷ []) []) (eq-eqb x.place x.place refl)
+
+pub take_does : (s : State) (d : Disk) (x : Context) → IsKept s d → is_ready step.Take d.depth s ≡ true → s.pending ≡ x ∷ []
+    → DoesTake s d (record s {
+      pending = [];
+      batch = Some (record { contexts = x ∷ []; first = flush.NotSent; second = flush.NotSent });
+      book = record s.book { commits = s.book.commits ++ record { place = x.place; acked_at = None } ∷ [] };
+    }) d
+take_does s d x kept ready pending = record {
+  context = x;
+  is_chosen = is_the_chosen s d x kept ready pending;
+  same = refl;
+  after = ap (λ (l : List Context). let after : State = record s {
+    pending = l;
+    batch = Some (record { contexts = x ∷ []; first = flush.NotSent; second = flush.NotSent });
+    book = record s.book { commits = s.book.commits ++ commit_of x ∷ [] };
+  } in after)
+      (sym (ap (without_context x.place) pending ∙ none_left x));
+}
+
+-- ---- Commit
+
+commit_facts : (s : State) (d : Disk) (b : OpenBatch) → IsKept s d → is_ready step.Commit d.depth s ≡ true → s.batch ≡ Some (batch_of b) → ReadyCommit s (batch_of b)
+commit_facts s d b kept ready batch =
+    let up = up_at step.Commit s d kept ready in commit_ready s d.depth (batch_of b) up.far up.room (ready_by_table s d step.Commit kept ready) batch
+
+-- the record that is being written, as the metadata store has it
+pub record Written (m : meta.Meta) (b : OpenBatch) : Type 0 where
+  pub now : meta.Begun
+  pub begun : m.begun ≡ Some now
+  pub ops : now.ops ≡ b.context.ops
+  pub all : now.written ≡ meta.piece_count_of m now
+
+written_of : (m : meta.Meta) (b : OpenBatch) (r : Begun) (o : Option meta.Begun) → m.begun ≡ o → option_map begun_of o ≡ Some r → r.ops ≡ batch_ops (batch_of b) → r.written ≡ 1
+    → unit_count m.number (batch_ops (batch_of b)) ≡ 1 → Written m b
+written_of m b r None is found ops written units = absurd cc
+written_of m b r (Some w) is found ops written units =
+    let same_ops : w.ops ≡ batch_ops (batch_of b) = cc in
+    let same_written : w.written ≡ 1 = cc in
+    let count : unit_count m.number w.ops ≡ 1 = ap (unit_count m.number) same_ops ∙ units in
+    record {
+      now = w;
+      begun = is;
+      ops = same_ops ∙ append-nil b.context.ops;
+      all = same_written ∙ sym (ap piece_count count);
+    }
+
+pub is_written : (s : State) (d : Disk) (m : meta.Meta) (b : OpenBatch) → IsKept s d → is_ready step.Commit d.depth s ≡ true → s.batch ≡ Some (batch_of b) → s.log ≡ log_of m → Written m b
+is_written s d m b kept ready batch log =
+    let facts = commit_facts s d b kept ready batch in
+    written_of m b facts.writing m.begun refl (ap (λ (l : Log). l.begun) (sym log) ∙ facts.begun) facts.ops facts.written
+    (subst (λ (l : Log). unit_count l.number (batch_ops (batch_of b)) ≡ 1) log facts.units)
+
+pub can_flush : (m : meta.Meta) (b : OpenBatch) → Written m b → meta.IsAllWritten m
+can_flush m b w = subst (λ (o : Option meta.Begun). MatchOption o ⊥ (λ (r : meta.Begun). r.written ≡ meta.piece_count_of m r)) (sym w.begun) w.all
+
+-- what the contexts had reserved is reserved
+pub can_release : (s : State) (d : Disk) (m : meta.Meta) (b : OpenBatch) → IsKept s d → is_ready step.Commit d.depth s ≡ true → s.batch ≡ Some (batch_of b) → s.log ≡ log_of m
+    → b.context.need ≤ (meta.after_flush m m.begun).reserved
+can_release s d m b kept ready batch log =
+    let facts = commit_facts s d b kept ready batch in
+    let w = is_written s d m b kept ready batch log in
+    let same : (meta.after_flush m m.begun).reserved ≡ s.log.reserved = ap (λ (o : Option meta.Begun). (meta.after_flush m o).reserved) w.begun ∙ ap (λ (l : Log). l.reserved) (sym log) in
+    omega (arith, facts.needs, same)
+
+-- the released units can come back
+pub come_back : (s : State) (d : Disk) (b : OpenBatch) → IsKept s d → is_ready step.Commit d.depth s ≡ true → s.batch ≡ Some (batch_of b)
+    → (length b.context.released ≤ 1) × CanBeGiven b.context.released s.space
+come_back s d b kept ready batch = (few, all_listed b.context.released each)
+  where
+    up : s.down ≡ None
+    up = ready_not_down s d step.Commit kept ready
+
+    few : length b.context.released ≤ 1
+    few = subst (λ (l : List ℕ). length l ≤ 1) (append-nil b.context.released) (few_come_back s d kept up (batch_of b) batch)
+
+    there : (u : ℕ) → Contains b.context.released u → Contains (batch_released (batch_of b)) u
+    there u c = subst (λ (l : List ℕ). Contains l u) (sym (append-nil b.context.released)) c
+
+    each : (u : ℕ) → Contains b.context.released u → IsTakenUnit s.space u
+    each u c =
+        let within = back_within s d kept up (batch_of b) batch u (there u c) in
+        record {
+          within = within;
+          taken = back_taken s d kept up (batch_of b) batch u (there u c);
+          fits = omega (arith, within.to, kept.always.space.first, kept.always.space.count, kept.always.limits.units_most);
+        }
+
+    all_listed : (units : List ℕ) → ((u : ℕ) → Contains units u → IsTakenUnit s.space u) → AllByRecursion (IsTakenUnit s.space) units
+    all_listed [] f = tt
+    all_listed (u ∷ us) f = (f u (Contains-head u us), all_listed us (λ v c. f v (Contains-tail u v us c)))
+
+pub commit_does : (s : State) (d : Disk) (m : meta.Meta) (b : OpenBatch) → IsKept s d → is_ready step.Commit d.depth s ≡ true → s.batch ≡ Some (batch_of b) → s.log ≡ log_of m
+    → DoesCommit s d (record s {
+      log = (let flushed : meta.Meta = meta.after_flush m m.begun in log_of (record flushed { reserved = flushed.reserved - b.context.need }));
+      batch = None;
+      space = given s.space b.context.released;
+    }) d
+commit_does s d m b kept ready batch log = record { batch = batch_of b; begun = batch; same = refl; after = after }
+  where
+    w : Written m b
+    w = is_written s d m b kept ready batch log
+
+    ops_same : w.now.ops ≡ batch_ops (batch_of b)
+    ops_same = w.ops ∙ sym (append-nil b.context.ops)
+
+    none_more : (n : ℕ) → n ≡ n + 0
+    none_more n = omega arith
+
+    log_same : (let flushed : meta.Meta = meta.after_flush m m.begun in log_of (record flushed { reserved = flushed.reserved - b.context.need })) ≡ log_after (batch_of b) s.log
+    log_same =
+        ap (λ (o : Option meta.Begun). let flushed : meta.Meta = meta.after_flush m o in log_of (record flushed { reserved = flushed.reserved - b.context.need })) w.begun
+        ∙ ap (λ (ops : List RowOp). let l : Log = record (log_of m) {
+          rows = rows_after m.rows ops;
+          tail = m.tail + unit_count m.number ops;
+          number = m.number + 1;
+          reserved = m.reserved - b.context.need;
+          begun = None;
+        } in l) ops_same
+        ∙ ap (λ (need : ℕ). let l : Log = record (log_after (batch_of b) (log_of m)) { reserved = m.reserved - need } in l) (none_more b.context.need)
+        ∙ ap (log_after (batch_of b)) (sym log)
+
+    after : (let later : State = record s {
+      log = (let flushed : meta.Meta = meta.after_flush m m.begun in log_of (record flushed { reserved = flushed.reserved - b.context.need }));
+      batch = None;
+      space = given s.space b.context.released;
+    } in later) ≡ committed_batch (batch_of b) s
+    after =
+        ap (λ (l : Log). let later : State = record s { log = l; batch = None; space = given s.space b.context.released } in later) log_same
+        ∙ ap (λ (units : List ℕ). let later : State = record s { log = log_after (batch_of b) s.log; batch = None; space = given s.space units } in later) (sym (append-nil b.context.released))
+
+-- ---- Finish
+
+pub next_commit : (s : State) (d : Disk) → IsKept s d → is_ready step.Finish d.depth s ≡ true → s.acked < length s.book.commits
+next_commit s d kept ready = (finish_ready s d d.depth kept.always (ready_by_table s d step.Finish kept ready)).0
+
+lt_suc : (i n : ℕ) → nat_lt (suc i) (suc n) ≡ nat_lt i n
+lt_suc i n = elim (cases_lt i n) [
+  | inl lt ↦ lt-ltb (suc i) (suc n) (omega (arith, lt)) ∙ sym (lt-ltb i n lt)
+  | inr le ↦ le-ltb (suc i) (suc n) (omega (arith, le)) ∙ sym (le-ltb i n le)
+]
+
+-- the commit of the number of those acknowledged is the first that isn't
+set_is_acknowledged : (events acked : ℕ) (cs : List Commit) (x : Commit) → AcksAre acked cs → acked < length cs → x ≡ get_or cs acked x
+    → set cs acked (record { place = x.place; acked_at = Some events }) ≡ acknowledged events cs
+set_is_acknowledged events acked [] x acks below is = absurd (omega arith)
+set_is_acknowledged events zero (c ∷ cs) x acks below is =
+    ap (λ (y : Commit). let later : Commit = record { place = y.place; acked_at = Some events } in later ∷ cs) is
+    ∙ ap (λ (b : Bool). cond b (c ∷ acknowledged events cs) (record c { acked_at = Some events } ∷ cs)) (sym (acks 0))
+set_is_acknowledged events (suc n) (c ∷ cs) x acks below is =
+    ap (λ (l : List Commit). c ∷ l)
+    (set_is_acknowledged events n cs x (λ j. IfSome_then (slice_get cs j) (acks (suc j)) (λ (y : Commit) p. p ∙ lt_suc j n)) (omega arith) is)
+    ∙ ap (λ (b : Bool). cond b (c ∷ acknowledged events cs) (record c { acked_at = Some events } ∷ cs)) (sym (acks 0 ∙ lt-ltb 0 (suc n) (omega arith)))
+
+pub finish_does : (s : State) (d : Disk) (x : Commit) → IsKept s d → is_ready step.Finish d.depth s ≡ true → x ≡ get_or s.book.commits s.acked x
+    → DoesFinish s d (record s { book = record s.book { commits = set s.book.commits s.acked (record { place = x.place; acked_at = Some s.events }) }; acked = s.acked + 1 }) d
+finish_does s d x kept ready is = record {
+  same = refl;
+  after = ap (λ (cs : List Commit). let later : State = record s { book = record s.book { commits = cs }; acked = s.acked + 1 } in later)
+      (set_is_acknowledged s.events s.acked s.book.commits x kept.always.book.acks (next_commit s d kept ready) is);
+}

@@ -1,0 +1,6 @@
+pub mod PlanLemmas
+pub mod Admitting
+pub mod Sending
+pub mod Batches
+pub mod Ending
+pub mod Opening

@@ -1,0 +1,7 @@
+pub mod Seen
+pub mod Ends
+pub mod Units
+pub mod Steps
+pub mod PlanFails
+pub mod Prepared
+pub mod Submitting

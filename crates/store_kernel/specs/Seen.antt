@@ -1,0 +1,58 @@
+-- What clauses see of a kernel: its device, and its state as plain data.
+use Rattle.std.specs.Prelude.{ℕ, List, [], ◌∷◌, Option, Some, None}
+use Rattle.std.specs.Option.{option_map}
+use Rattle.std.specs.Coded.{Coded, coded_ℕ, coded_list}
+use Rattle.std.specs.FinMap as map
+use Rattle.block_device.specs.declared.device.Ticket.{Ticket}
+use Rattle.object_model.specs.declared.book.Entry.{Entry}
+use Rattle.object_model.specs.declared.book.Commit.{Commit}
+use Rattle.meta_rows.specs.Rows.{Rows}
+use Rattle.meta_store.specs.Store as meta
+use Rattle.unit_allocator.specs.Units.{Space}
+use Rattle.store_steps.specs.declared.context.Context.{Context}
+use Rattle.store_steps.specs.declared.flight.Flying.{Flying}
+use Rattle.store_steps.specs.State.{Begun, Log, Batch, State}
+use Rattle.store_kernel.specs.declared.batch.OpenBatch.{OpenBatch}
+
+-- at most one, as a list
+abbrev pub listed : {A : Type 0} → Option A → List A
+listed None = []
+listed (Some x) = x ∷ []
+
+-- an open batch has one context
+abbrev pub batch_of : OpenBatch → Batch
+batch_of b = record { contexts = b.context ∷ []; first = b.first; second = b.second }
+
+-- the record that is being written, and the log, as the metadata store has them
+abbrev pub begun_of : meta.Begun → Begun
+begun_of r = record { ops = r.ops; given = r.given; written = r.written }
+
+abbrev pub log_of : meta.Meta → Log
+log_of m = record {
+  sup = m.sup;
+  rows = m.rows;
+  tail = m.tail;
+  number = m.number;
+  reserved = m.reserved;
+  begun = option_map begun_of m.begun;
+}
+
+-- the state, of the kernel's fields
+abbrev pub state_of : meta.Meta → Rows → Option Context → Option OpenBatch → Option Flying → Option Ticket → ℕ → Space
+    → List Entry → List Commit → ℕ → State
+state_of m view pending batch flying down events space entries commits acked = record {
+  log = log_of m;
+  view = view;
+  pending = listed pending;
+  batch = option_map batch_of batch;
+  flying = listed flying;
+  down = down;
+  events = events;
+  space = space;
+  book = record { entries = entries; commits = commits };
+  acked = acked;
+}
+
+-- rows as a value by which a proof tells maps apart
+abbrev pub rows_code : Coded Rows
+rows_code = map.code (coded_list coded_ℕ) (coded_list coded_ℕ)

@@ -1,0 +1,57 @@
+//! The open batch, and how far its flushes are.
+ghost use Rattle.std.specs.Prelude.{◌≡◌};
+ghost use Rattle.std.specs.Option.{option_map};
+ghost use Rattle.store_steps.specs.Ready.{is_not_sent, is_flushed};
+ghost use Rattle.store_kernel.specs.Ends.{with_first, with_second};
+
+use store_steps::{Context, FlushState};
+
+/// A batch of one context, on its way to the log. (In Ceph it is what one round of the thread that syncs the log takes.)
+#[derive(Drop)]
+pub struct OpenBatch {
+    pub context: Context,
+    /// The flush of the data writes, before the record is written.
+    pub first: FlushState,
+    /// The flush of the record.
+    pub second: FlushState,
+}
+
+/// Whether a flush isn't submitted yet.
+pub fn not_sent(flush: FlushState) -> bool
+    ensures { result ≡ is_not_sent flush }
+{
+    match flush {
+        FlushState::NotSent => true,
+        FlushState::Sent(_) | FlushState::Flushed => false,
+    }
+}
+
+/// Whether a flush has ended well.
+pub fn flushed(flush: FlushState) -> bool
+    ensures { result ≡ is_flushed flush }
+{
+    match flush {
+        FlushState::Flushed => true,
+        FlushState::NotSent | FlushState::Sent(_) => false,
+    }
+}
+
+/// The first flush of the batch, if one is open, is so far.
+pub fn set_first(batch: &mut Option<OpenBatch>, state: FlushState)
+    ensures { batch.new ≡ option_map (with_first state) batch.old }
+{
+    match batch {
+        Some(open) => open.first = state,
+        None => {}
+    }
+}
+
+/// The second one is.
+pub fn set_second(batch: &mut Option<OpenBatch>, state: FlushState)
+    ensures { batch.new ≡ option_map (with_second state) batch.old }
+{
+    match batch {
+        Some(open) => open.second = state,
+        None => {}
+    }
+}

@@ -1,0 +1,341 @@
+//! The kernel: its fields, how it begins and ends, and its steps.
+ghost use Rattle.std.specs.Prelude.{◌≡◌, ◌≢◌, ℕ, ◌≤◌, ◌<◌, ◌^◌, ◌==◌, ◌&&◌, nat_lt, [], true, false, None, is_some, length, OnOk, OnErr, IfOk, IfErr, IsErrOf, MatchResult};
+ghost use Rattle.std.specs.List.{list_any};
+ghost use Rattle.block_device.specs.Disk.{Rose};
+ghost use Rattle.meta_log.specs.Slots.{IsSuper};
+ghost use Rattle.unit_allocator.specs.Units.{Space};
+ghost use Rattle.store_steps.specs.Opened.{opened, IsAllFree};
+ghost use Rattle.store_steps.specs.Ready.{is_ready, is_ready_up, all_steps, is_drained, is_not_sent, is_flushed, batch_is, applied_count};
+ghost use Rattle.store_steps.specs.Steps.{Takes, Does};
+ghost use Rattle.store_steps.specs.Submit.{free_count};
+ghost use Rattle.store_steps.specs.declared.step.Step.TheVariants.{Reap};
+ghost use Rattle.store_facts.specs.Space.{IsSpaceOf};
+ghost use Rattle.store_facts.specs.Kept.{IsKept};
+ghost use Rattle.store_kernel.specs.Steps.{TakesMemory};
+
+mod steps;
+mod submitting;
+
+use crate::batch::{OpenBatch, flushed, not_sent};
+use crate::pending::{has_done, has_unsent};
+use crate::space::all_free;
+use crate::step_fail::StepFail;
+use block_device::{Device, Ticket};
+use byte_maps::Items;
+use meta_log::Super;
+use meta_rows::RowTable;
+use meta_store::MetaStore;
+use object_model::{Book, Commit, Entry};
+use std::alloc::Global;
+use std::marker::Model;
+use store_steps::{Context, Flying, Step};
+use unit_allocator::Allocator;
+
+const STEPS: [Step; 9] = [
+    Step::Data,
+    Step::Reap,
+    Step::Take,
+    Step::Flush,
+    Step::Seal,
+    Step::Record,
+    Step::Sync,
+    Step::Commit,
+    Step::Finish,
+];
+
+/// A store at work on its device: committed and submitted rows, what is under way, free units, and the book of the mount.
+///
+/// One transaction is under way at a time, and one submission in flight.
+pub struct Kernel<D: Device> {
+    device: D,
+    // the committed rows, and the log
+    meta: MetaStore,
+    // the rows with the operations of all accepted transactions
+    view: RowTable,
+    // accepted, and in no batch
+    pending: Option<Context>,
+    batch: Option<OpenBatch>,
+    flying: Option<Flying>,
+    // the first submission that ended badly
+    down: Option<Ticket>,
+    // submissions and ends since the mount began
+    events: u64,
+    space: Allocator,
+    entries: Vec<Entry>,
+    commits: Vec<Commit>,
+    // how many commits are acknowledged
+    acked: u32,
+}
+
+impl<D: Device> Model for Kernel<D> {
+    ghost use Rattle.std.specs.Coded.{codes};
+    ghost use Rattle.store_steps.specs.State.{Machine};
+    ghost use Rattle.store_kernel.specs.Seen.{state_of, rows_code};
+    ghost use Rattle.store_facts.specs.Kept.{IsKept};
+
+    ghost Value = { Machine D };
+
+    ghost coded = { Prim.hlevel (codes, rows_code) };
+
+    ghost view = { λ k. record {
+      device = k.device;
+      state = state_of k.meta k.view.rows k.pending k.batch k.flying k.down k.events k.space k.entries.items k.commits.items k.acked;
+    } };
+
+    ghost invariant = { λ k. IsKept
+        (state_of k.meta k.view.rows k.pending k.batch k.flying k.down k.events k.space k.entries.items k.commits.items k.acked) (D.disk k.device) };
+}
+
+// Tests let a kernel go at any moment; a mounted one is closed.
+#[cfg(test)]
+impl<D: Device + Drop> Drop for Kernel<D> {
+    fn drop(self) {
+        let Kernel {
+            device: _,
+            meta: _,
+            view: _,
+            pending: _,
+            batch: _,
+            flying: _,
+            down: _,
+            events: _,
+            space: _,
+            entries: _,
+            commits: _,
+            acked: _,
+        } = self;
+    }
+}
+
+impl<D: Device> Kernel<D> {
+    /// The kernel of a store without records, over a device on which nothing is in flight. `events` is how many events the
+    /// device has had since the mount began.
+    pub fn open(alloc: Global, device: D, sup: Super, events: u64) -> Result<Kernel<D>, D>
+        requires idle { (D.disk device).flights ≡ [] }
+        requires limits { IsSuper sup }
+        requires units { sup.units ≡ (D.disk device).units }
+        requires first { sup.first ≤ 2 ^ 61 }
+        requires events { events < 2 ^ 61 }
+        ensures ok { IfOk result (λ k. (space : Space) × (IsSpaceOf sup space × IsAllFree sup space × (k.state ≡ opened sup space events))) }
+        ensures disk { MatchResult result (λ k. D.disk k.device ≡ D.disk device) (λ back. D.disk back ≡ D.disk device) }
+        ensures faults { MatchResult result (λ k. D.faults k.device ≡ D.faults device) (λ back. D.faults back ≡ D.faults device) }
+    {
+        let Ok(space) = all_free(alloc, &sup) else {
+            return Err(device);
+        };
+        let _ = device.units();
+        Ok(Kernel {
+            device,
+            meta: MetaStore::empty(alloc, &sup),
+            view: RowTable::new(alloc),
+            pending: None,
+            batch: None,
+            flying: None,
+            down: None,
+            events,
+            space,
+            entries: Vec::new(alloc),
+            commits: Vec::new(alloc),
+            acked: 0,
+        })
+    }
+
+    /// The device and the book. Nothing may be in flight.
+    pub fn close(self) -> (D, Book)
+        requires { (D.disk self.device).flights ≡ [] }
+        ensures disk { D.disk result.0 ≡ D.disk self.device }
+        ensures faults { D.faults result.0 ≡ D.faults self.device }
+        ensures book { result.1 ≡ self.state.book }
+    {
+        let Kernel {
+            device,
+            meta: _,
+            view: _,
+            pending: _,
+            batch: _,
+            flying: _,
+            down: _,
+            events: _,
+            space: _,
+            entries,
+            commits,
+            acked: _,
+        } = self;
+        let book = Book {
+            entries: Items::from_vec(entries),
+            commits: Items::from_vec(commits),
+        };
+        (device, book)
+    }
+
+    /// What the kernel keeps from call to call. It does nothing.
+    pub fn facts(&self)
+        ensures { IsKept self.now.state (D.disk self.now.device) }
+    {
+        let _ = &self.events;
+    }
+
+    /// The first submission that ended badly. From then on no step is ready but for `Reap` while something is in flight.
+    pub fn down(&self) -> Option<Ticket>
+        ensures { result ≡ self.now.state.down }
+    {
+        self.down
+    }
+
+    /// How many data units are free.
+    pub fn free_units(&self) -> u32
+        ensures { result ≡ free_count self.now.state.space }
+    {
+        self.space.free_count()
+    }
+
+    /// The commands so far, each with its answer.
+    pub fn entries(&self) -> &[Entry]
+        ensures { result.now ≡ self.now.state.book.entries }
+    {
+        self.entries.as_slice()
+    }
+
+    /// The commits so far.
+    pub fn commits(&self) -> &[Commit]
+        ensures { result.now ≡ self.now.state.book.commits }
+    {
+        self.commits.as_slice()
+    }
+
+    /// Whether the transaction at this place of the book is acknowledged.
+    pub fn acked(&self, place: u32) -> bool
+        ensures { result ≡ list_any (λ c. (c.place == place) && is_some c.acked_at) self.now.state.book.commits }
+    {
+        self.commits
+            .iter()
+            .any(|c| c.place == place && c.acked_at.is_some())
+    }
+
+    // Whether one more submission may be in flight.
+    fn has_room(&self) -> bool
+        ensures { result ≡ nat_lt (length self.now.state.flying) (D.disk self.now.device).depth }
+    {
+        match self.flying {
+            Some(_) => 1 < self.device.depth(),
+            None => 0 < self.device.depth(),
+        }
+    }
+
+    // Whether a step is ready where the kernel isn't down.
+    fn ready_up(&self, step: Step) -> bool
+        ensures { result ≡ is_ready_up step (D.disk self.now.device).depth self.now.state }
+    {
+        match step {
+            Step::Data => has_unsent(&self.pending) && self.has_room(),
+            Step::Reap => self.flying.is_some(),
+            Step::Take => self.batch.is_none() && has_done(&self.pending),
+            Step::Flush => self.first_not_sent() && self.has_room(),
+            Step::Seal => self.batch.is_some() && self.meta.is_idle(),
+            Step::Record => self.first_flushed() && self.meta.has_piece_left() && self.has_room(),
+            Step::Sync => self.second_not_sent() && self.meta.is_written() && self.has_room(),
+            Step::Commit => self.second_flushed(),
+            Step::Finish => (self.acked as usize) < self.applied(),
+        }
+    }
+
+    /// Whether a step is ready: what the table of steps says.
+    pub fn ready(&self, step: Step) -> bool
+        ensures { result ≡ is_ready step (D.disk self.now.device).depth self.now.state }
+    {
+        match self.down {
+            Some(_) => step == Step::Reap && self.flying.is_some(),
+            None => self.ready_up(step),
+        }
+    }
+
+    // Whether a step is ready.
+    fn any_ready(&self) -> bool
+        ensures { result ≡ list_any (λ step. is_ready step (D.disk self.now.device).depth self.now.state) all_steps }
+    {
+        STEPS.iter().any(|step| self.ready(*step))
+    }
+
+    /// Whether no step is ready.
+    pub fn drained(&self) -> bool
+        ensures { result ≡ is_drained (D.disk self.now.device).depth self.now.state }
+    {
+        !self.any_ready()
+    }
+
+    fn first_not_sent(&self) -> bool
+        ensures { result ≡ batch_is (λ b. is_not_sent b.first) self.now.state }
+    {
+        match &self.batch {
+            Some(open) => not_sent(open.first),
+            None => false,
+        }
+    }
+
+    fn first_flushed(&self) -> bool
+        ensures { result ≡ batch_is (λ b. is_flushed b.first) self.now.state }
+    {
+        match &self.batch {
+            Some(open) => flushed(open.first),
+            None => false,
+        }
+    }
+
+    fn second_not_sent(&self) -> bool
+        ensures { result ≡ batch_is (λ b. is_not_sent b.second) self.now.state }
+    {
+        match &self.batch {
+            Some(open) => not_sent(open.second),
+            None => false,
+        }
+    }
+
+    fn second_flushed(&self) -> bool
+        ensures { result ≡ batch_is (λ b. is_flushed b.second) self.now.state }
+    {
+        match &self.batch {
+            Some(open) => flushed(open.second),
+            None => false,
+        }
+    }
+
+    // How many commits are applied to the committed rows.
+    fn applied(&self) -> usize
+        ensures { result ≡ applied_count self.now.state }
+    {
+        match &self.batch {
+            Some(_) => self.commits.len().saturating_sub(1),
+            None => self.commits.len(),
+        }
+    }
+
+    /// Does a ready step. Those that submit, and `Take` and `Seal`, take memory; where it runs out nothing is done.
+    pub fn step(&mut self, alloc: Global, step: Step) -> Result<(), StepFail>
+        requires { is_ready step (D.disk self.old.device).depth self.old.state ≡ true }
+        ensures ok { OnOk result (Does step self.old.state (D.disk self.old.device) self.new.state (D.disk self.new.device)) }
+        ensures fault { IsErrOf result StepFail.Fault → (step ≡ Reap)
+            × Takes self.old.state (D.disk self.old.device) false self.new.state (D.disk self.new.device)
+            × Rose (D.faults self.old.device) (D.faults self.new.device) }
+        ensures memory { IsErrOf result StepFail.Memory → TakesMemory step × (self.new.state ≡ self.old.state)
+            × (D.disk self.new.device ≡ D.disk self.old.device) }
+        ensures later { D.faults self.old.device ≤ D.faults self.new.device }
+    {
+        match step {
+            Step::Data => self.send_data(alloc),
+            Step::Reap => self.take_end(),
+            Step::Take => self.take_batch(),
+            Step::Flush => self.send_flush(),
+            Step::Seal => self.seal(alloc),
+            Step::Record => self.send_record(alloc),
+            Step::Sync => self.send_sync(),
+            Step::Commit => {
+                self.commit();
+                Ok(())
+            }
+            Step::Finish => {
+                self.finish();
+                Ok(())
+            }
+        }
+    }
+}

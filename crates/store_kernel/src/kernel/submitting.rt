@@ -1,0 +1,189 @@
+//! Submitting a transaction: it is accepted, or refused for a cause.
+ghost use Rattle.std.specs.Prelude.{◌≡◌, length, OnOk, OnErr, IfOk, IfErr};
+ghost use Rattle.store_steps.specs.Submit.{IsCause, Accepts, Refuses};
+ghost use Rattle.store_steps.specs.Runs.{MaySubmit};
+ghost use Rattle.store_kernel.specs.PlanFails.{IsPlanFor};
+ghost use Rattle.store_kernel.specs.Prepared.{IsPrepared};
+ghost use Rattle.store_kernel.specs.Submitting.{IsCauseOf, RefusesBy};
+
+use super::Kernel;
+use crate::plan::{PlanFail, plan};
+use crate::prepared::{Prepared, units_needed};
+use crate::refused::{Cause, Refused};
+use crate::space::take_fresh;
+use block_device::Device;
+use byte_maps::Duplicate;
+use object_model::{Answer, Command, Entry, Transaction};
+use std::alloc::Global;
+use store_steps::Plan;
+
+impl<D: Device> Kernel<D> {
+    /// Accepts a transaction, or refuses it for a cause. Either makes an entry of the book, into which the transaction is moved;
+    /// an accepted one is committed by the steps that follow. For now the store knows two: one makes a collection, the other
+    /// writes page 0 of an object, a whole page.
+    pub fn submit(
+        &mut self,
+        alloc: Global,
+        client: u32,
+        line: u32,
+        txn: Transaction,
+    ) -> Result<u32, Refused>
+        requires { MaySubmit txn self.old.state (D.disk self.old.device) }
+        ensures place { IfOk result (λ place. place ≡ length self.old.state.book.entries) }
+        ensures accepted { OnOk result (Accepts client line txn self.old.state self.new.state) }
+        ensures refused { IfErr result (λ why. RefusesBy why client line txn self.old.state self.new.state) }
+        ensures disk { D.disk self.new.device ≡ D.disk self.old.device }
+        ensures faults { D.faults self.new.device ≡ D.faults self.old.device }
+    {
+        match self.prepare(alloc, &txn) {
+            Ok(ready) => match self.accept(client, line, txn, ready) {
+                Ok(place) => Ok(place),
+                Err(back) => Err(Refused::Memory(back)),
+            },
+            Err(cause) => Err(self.refuse(client, line, txn, cause)),
+        }
+    }
+
+    // The plan of a transaction, and all that accepting it takes memory for but for room in lists.
+    fn prepare(&self, alloc: Global, txn: &Transaction) -> Result<Prepared, Cause>
+        requires { MaySubmit txn.now self.now.state (D.disk self.now.device) }
+        ensures ok { IfOk result (λ ready. IsPrepared ready txn.now self.now.state) }
+        ensures err { IfErr result (λ cause. IsCauseOf cause txn.now self.now.state) }
+    {
+        let plan = self.planned(alloc, txn)?;
+        let Ok(need) = units_needed(alloc, plan.ops.as_slice()) else {
+            return Err(Cause::Memory);
+        };
+        let room = self.meta.room();
+        if room < need {
+            return Err(Cause::MetaFull { need, room });
+        }
+        let Ok(copy) = plan.ops.duplicate(alloc) else {
+            return Err(Cause::Memory);
+        };
+        let Ok(coll) = txn.coll().copy(alloc) else {
+            return Err(Cause::Memory);
+        };
+        Ok(Prepared {
+            plan,
+            need,
+            copy,
+            coll,
+        })
+    }
+
+    // The plan over the submitted rows and the free units.
+    fn planned(&self, alloc: Global, txn: &Transaction) -> Result<Plan, Cause>
+        requires { MaySubmit txn.now self.now.state (D.disk self.now.device) }
+        ensures ok { IfOk result (IsPlanFor txn.now.coll txn.now.ops self.now.state.view self.now.state.space) }
+        ensures err { IfErr result (λ cause. IsCauseOf cause txn.now self.now.state) }
+    {
+        match plan(alloc, &self.view, &self.space, txn) {
+            Ok(plan) => Ok(plan),
+            Err(PlanFail::Refusal(refusal)) => Err(Cause::Refusal(refusal)),
+            Err(PlanFail::NoSpace { need, free }) => Err(Cause::NoSpace { need, free }),
+            Err(PlanFail::Memory) => Err(Cause::Memory),
+        }
+    }
+
+    // Makes room in the lists, and then the context and the entry. The transaction comes back where there is no room.
+    fn accept(
+        &mut self,
+        client: u32,
+        line: u32,
+        txn: Transaction,
+        ready: Prepared,
+    ) -> Result<u32, Transaction>
+        requires may { MaySubmit txn self.old.state (D.disk self.old.device) }
+        requires prepared { IsPrepared ready txn self.old.state }
+        ensures place { IfOk result (λ place. place ≡ length self.old.state.book.entries) }
+        ensures accepted { OnOk result (Accepts client line txn self.old.state self.new.state) }
+        ensures err { OnErr result (self.new.state ≡ self.old.state) }
+        ensures back { IfErr result (λ back. back ≡ txn) }
+        ensures disk { D.disk self.new.device ≡ D.disk self.old.device }
+        ensures faults { D.faults self.new.device ≡ D.faults self.old.device }
+    {
+        if self.entries.reserve(1).is_err() {
+            return Err(txn);
+        }
+        if self.view.reserve(ready.copy.len()).is_err() {
+            return Err(txn);
+        }
+        let place = self.entries.len() as u32;
+        let Ok(()) = self.meta.reserve(ready.need) else {
+            unreachable!();
+        };
+        let (context, copy) = ready.split(place);
+        self.view.apply(copy);
+        take_fresh(&mut self.space, context.fresh.as_slice());
+        self.pending = Some(context);
+        self.entries.push_reserved(Entry {
+            client,
+            line,
+            command: Command::Change(txn),
+            answer: Answer::Accepted,
+            acks: self.acked,
+        });
+        Ok(place)
+    }
+
+    // Refuses a transaction.
+    fn refuse(&mut self, client: u32, line: u32, txn: Transaction, cause: Cause) -> Refused
+        requires may { MaySubmit txn self.old.state (D.disk self.old.device) }
+        requires cause { IsCauseOf cause txn self.old.state }
+        ensures refused { RefusesBy result client line txn self.old.state self.new.state }
+        ensures disk { D.disk self.new.device ≡ D.disk self.old.device }
+        ensures faults { D.faults self.new.device ≡ D.faults self.old.device }
+    {
+        match cause {
+            Cause::Refusal(refusal) => {
+                match self.note(client, line, txn, Answer::Refused(refusal)) {
+                    Ok(()) => Refused::Refusal(refusal),
+                    Err(back) => Refused::Memory(back),
+                }
+            }
+            Cause::NoSpace { need, free } => {
+                match self.note(client, line, txn, Answer::NoSpace { need, free }) {
+                    Ok(()) => Refused::NoSpace { need, free },
+                    Err(back) => Refused::Memory(back),
+                }
+            }
+            Cause::MetaFull { need, room } => {
+                match self.note(client, line, txn, Answer::MetaFull { need, room }) {
+                    Ok(()) => Refused::MetaFull { need, room },
+                    Err(back) => Refused::Memory(back),
+                }
+            }
+            Cause::Memory => Refused::Memory(txn),
+        }
+    }
+
+    // Makes an entry of the book for a transaction that is refused.
+    fn note(
+        &mut self,
+        client: u32,
+        line: u32,
+        txn: Transaction,
+        answer: Answer,
+    ) -> Result<(), Transaction>
+        requires may { MaySubmit txn self.old.state (D.disk self.old.device) }
+        requires cause { IsCause answer txn self.old.state }
+        ensures ok { OnOk result (Refuses client line txn answer self.old.state self.new.state) }
+        ensures err { OnErr result (self.new.state ≡ self.old.state) }
+        ensures back { IfErr result (λ back. back ≡ txn) }
+        ensures disk { D.disk self.new.device ≡ D.disk self.old.device }
+        ensures faults { D.faults self.new.device ≡ D.faults self.old.device }
+    {
+        if self.entries.reserve(1).is_err() {
+            return Err(txn);
+        }
+        self.entries.push_reserved(Entry {
+            client,
+            line,
+            command: Command::Change(txn),
+            answer,
+            acks: self.acked,
+        });
+        Ok(())
+    }
+}

@@ -1,0 +1,23 @@
+//! The kernel of the store: it takes transactions, and drives the device, one event a call, until they are committed and
+//! acknowledged. Who calls it chooses the step; each step does one thing, and says what.
+//!
+//! It stands in the place of the transaction state machine of Ceph's BlueStore (`_txc_state_proc` and the threads behind it).
+//! For now it has one transaction under way at a time.
+#![tactic(auto)]
+
+mod batch;
+mod ends;
+mod kernel;
+mod pending;
+mod plan;
+mod prepared;
+mod refused;
+mod space;
+mod step_fail;
+
+pub use kernel::Kernel;
+pub use refused::Refused;
+pub use step_fail::StepFail;
+
+#[cfg(test)]
+mod tests;

@@ -3,3 +3,5 @@ pub mod ZeroLemmas
 pub mod StaleLemmas
 pub mod CleanLemmas
 pub mod MadeLemmas
+pub mod OpeningLemmas
+pub mod MountingLemmas

@@ -152,6 +152,7 @@ module _ (units half prefer : ℕ) (contents : List ℕ) (limits : IsSuper (new_
   pub empty_store : IsEmptyStore units half prefer contents
   empty_store = record {
     slot = active;
+    empty = λ unit from below. rest unit (omega (arith, from)) (omega (arith, below));
     stands = record {
       super = new_super units half prefer;
       active = active;

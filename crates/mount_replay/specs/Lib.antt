@@ -4,3 +4,5 @@ pub mod Stale
 pub mod NewSuper
 pub mod Cleared
 pub mod Made
+pub mod Opening
+pub mod Mounting

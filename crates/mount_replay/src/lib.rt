@@ -5,10 +5,16 @@
 
 mod calls;
 mod making;
+mod mounting;
+mod opening;
 mod stale;
 mod zeroing;
 
 pub use making::{MkfsFail, mkfs};
+pub use mounting::{mount, unmount};
+pub use opening::MountFail;
 
+#[cfg(test)]
+mod mount_tests;
 #[cfg(test)]
 mod tests;

@@ -10,7 +10,7 @@ use std::alloc::{AllocError, Global};
 /// The most units of one read.
 const MOST_UNITS: u32 = 64;
 
-fn is_zero(bytes: &[u8]) -> bool
+pub fn is_zero(bytes: &[u8]) -> bool
     ensures { IsTrue result ↔ All (λ b. b ≡ 0) bytes.now }
 {
     bytes.iter().all(|b| *b == 0)

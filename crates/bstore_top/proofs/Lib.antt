@@ -2,3 +2,9 @@ pub mod Numbers
 pub mod Words
 pub mod Taking
 pub mod TextLemmas
+pub mod ReplyLemmas
+pub mod DrawLemmas
+pub mod RunLemmas
+pub mod WorkLemmas
+pub mod FreeLemmas
+pub mod RunLaws

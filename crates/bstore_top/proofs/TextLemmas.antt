@@ -5,7 +5,8 @@ use Rattle.std.specs.Fmt.{decimal}
 use Rattle.std.specs.declared.alloc.Global.{Global}
 use Rattle.std.proofs.lemmas.Fmt.{decimal_digit}
 use Rattle.bstore_top.specs.declared.status.Stop.{Stop}
-use Rattle.bstore_top.specs.declared.status.Stop.TheVariants.{Refused}
+use Rattle.bstore_top.specs.declared.status.Stop.TheVariants.{BadScript, Refused}
+use Rattle.bstore_top.specs.StepTexts.{script_line}
 use Rattle.bstore_top.specs.Status.{stop_number}
 use Rattle.bstore_top.specs.Texts.{as_text, made_line, too_small_line, stopped_line}
 
@@ -28,3 +29,13 @@ too_small_is half units = ap (λ (tail : List ℕ). before half units (10 ∷ ta
 pub as_lines : {E : Type 0} (r : Result (String Global) E) (a b : List ℕ) → a ≡ b → IfOk r (λ text. string_bytes text ≡ a) → IfOk r (λ text. string_bytes text ≡ b)
 as_lines (Ok text) a b same is = is ∙ same
 as_lines (Err e) a b same is = tt
+
+-- a mount's refusal, as it is written in the code
+pub mount_is : (name : List ℕ) → name ++ (10 ∷ codes "stopped 4\n") ≡ as_text (name ∷ stopped_line Refused ∷ [])
+mount_is name = ap (λ (t : List ℕ). name ++ (10 ∷ t)) (sym (stopped_is Refused 4 refl (omega arith)))
+
+-- the first bad line of a script
+pub bad_line_is : (n : ℕ) → codes "script 0 line " ++ (decimal n ++ codes "\nstopped 2\n") ≡ as_text (script_line n ∷ stopped_line BadScript ∷ [])
+bad_line_is n =
+    ap (λ (t : List ℕ). codes "script 0 line " ++ (decimal n ++ (10 ∷ t))) (sym (stopped_is BadScript 2 refl (omega arith)))
+    ∙ sym (append_assoc (codes "script 0 line ") (decimal n) (10 ∷ as_text (stopped_line BadScript ∷ [])))

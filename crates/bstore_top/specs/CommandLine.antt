@@ -1,8 +1,8 @@
 -- Command lines: which words are one, and what they say.
-use Rattle.std.specs.Prelude.{◌≡◌, ◌≢◌, ◌⊎◌, ℕ, ◌<◌, ◌≤◌, List, [], ◌∷◌, length, map, drop, slice_index, codes, decimal, Vec, String, string_bytes}
+use Rattle.std.specs.Prelude.{◌≡◌, ◌≢◌, ◌⊎◌, ℕ, ◌<◌, ◌≤◌, ◌^◌, List, [], ◌∷◌, length, map, drop, slice_index, codes, decimal, Vec, String, string_bytes}
 use Rattle.std.specs.declared.alloc.Global.{Global}
 use Rattle.bstore_top.specs.declared.command_line.CommandLine.{CommandLine}
-use Rattle.bstore_top.specs.declared.command_line.CommandLine.TheVariants.{Mkfs}
+use Rattle.bstore_top.specs.declared.command_line.CommandLine.TheVariants.{Mkfs, Step}
 
 -- the words that a program was started with, as their bytes: the first is its own name
 abbrev pub words_of : Vec (String Global) Global → List (List ℕ)
@@ -12,9 +12,9 @@ words_of words = map string_bytes words.items
 abbrev pub IsPlain : List ℕ → Type 0
 IsPlain text = (text ≡ 0x30 ∷ []) ⊎ ((0x31 ≤ slice_index text 0) × (slice_index text 0 ≤ 0x39))
 
--- a device's name isn't empty, and doesn't begin with a dash
-abbrev pub IsDeviceName : List ℕ → Type 0
-IsDeviceName name = (0 < length name) × (slice_index name 0 ≢ 0x2d)
+-- the name of a device or of a script isn't empty, and doesn't begin with a dash
+abbrev pub IsFileName : List ℕ → Type 0
+IsFileName name = (0 < length name) × (slice_index name 0 ≢ 0x2d)
 
 -- the units of a log half, and of a device
 abbrev pub IsHalf : ℕ → Type 0
@@ -24,11 +24,13 @@ abbrev pub IsUnitCount : ℕ → Type 0
 IsUnitCount units = (1 ≤ units) × (units ≤ 1048576)
 
 abbrev pub IsInRange : CommandLine → Type 0
-IsInRange (Mkfs dev half units) = IsDeviceName dev × IsHalf half × IsUnitCount units
+IsInRange (Mkfs dev half units) = IsFileName dev × IsHalf half × IsUnitCount units
+IsInRange (Step dev seed script) = IsFileName dev × (seed < 2 ^ 32) × IsFileName script
 
 -- a command line's words, behind the program's name
 abbrev pub spelling : CommandLine → List (List ℕ)
 spelling (Mkfs dev half units) = codes "mkfs" ∷ dev ∷ codes "--half" ∷ decimal half ∷ codes "--units" ∷ decimal units ∷ []
+spelling (Step dev seed script) = codes "step" ∷ dev ∷ codes "--seed" ∷ decimal seed ∷ script ∷ []
 
 -- the words spell this command line
 pub record Spells (words : List (List ℕ)) (line : CommandLine) : Type 0 where
@@ -38,3 +40,10 @@ pub record Spells (words : List (List ℕ)) (line : CommandLine) : Type 0 where
 -- the words spell none
 abbrev pub IsNoCommandLine : List (List ℕ) → Type 0
 IsNoCommandLine words = (line : CommandLine) → ¬ Spells words line
+
+-- the words spell no `mkfs`, or no `step`
+abbrev pub IsNoMkfs : List (List ℕ) → Type 0
+IsNoMkfs words = (dev : List ℕ) (half units : ℕ) → ¬ Spells words (Mkfs dev half units)
+
+abbrev pub IsNoStep : List (List ℕ) → Type 0
+IsNoStep words = (dev : List ℕ) (seed : ℕ) (script : List ℕ) → ¬ Spells words (Step dev seed script)

@@ -1,5 +1,11 @@
 pub mod Status
 pub mod CommandLine
 pub mod Texts
+pub mod Replies
+pub mod StepTexts
 pub mod Printed
+pub mod Choice
+pub mod StepRun
+pub mod Finished
+pub mod Stepping
 pub mod Run

@@ -3,46 +3,50 @@ use Rattle.std.specs.Prelude.{◌≡◌, ◌⊎◌, ℕ, ◌<◌, ◌≤◌, Lis
 use Rattle.block_device.specs.Disk.{Disk, Rose}
 use Rattle.end_points.specs.Bay.{BayView, HandedOut}
 use Rattle.end_points.specs.declared.bay.How.{How}
-use Rattle.end_points.specs.declared.bay.How.TheVariants.{Make}
+use Rattle.end_points.specs.declared.bay.How.TheVariants.{Make, Plain}
 use Rattle.mount_replay.specs.Calls.{IsLater}
 use Rattle.mount_replay.specs.NewSuper.{units_needed}
 use Rattle.mount_replay.specs.Made.{HoldsEmptyStore}
 use Rattle.object_model.specs.declared.book.Book.{Book}
 use Rattle.bstore_top.specs.declared.command_line.CommandLine.{CommandLine}
-use Rattle.bstore_top.specs.declared.command_line.CommandLine.TheVariants.{Mkfs}
+use Rattle.bstore_top.specs.declared.command_line.CommandLine.TheVariants.{Mkfs, Step}
 use Rattle.bstore_top.specs.declared.status.Stop.{Stop}
-use Rattle.bstore_top.specs.declared.status.Stop.TheVariants.{DeviceFault, Refused, OutOfMemory, BayFault}
-use Rattle.bstore_top.specs.CommandLine.{Spells}
+use Rattle.bstore_top.specs.declared.status.Stop.TheVariants.{BadScript, DeviceFault, Refused, OutOfMemory, BayFault}
+use Rattle.bstore_top.specs.CommandLine.{Spells, IsNoStep}
 use Rattle.bstore_top.specs.Status.{end_number}
-use Rattle.bstore_top.specs.Texts.{as_text, text_of}
+use Rattle.bstore_top.specs.Texts.{as_text, mkfs_text}
 use Rattle.bstore_top.specs.Printed.{Output, Printed}
+use Rattle.bstore_top.specs.StepRun.{Seen, RanStep}
 
--- the store has room on a device of the units that were asked for, or it has none
-abbrev pub HasUnits : CommandLine → Type 0
-HasUnits (Mkfs dev half units) = units_needed half ≤ units
+-- ---- mkfs
 
-abbrev pub LacksUnits : CommandLine → Type 0
-LacksUnits (Mkfs dev half units) = units < units_needed half
+-- Each end of a run of `mkfs` has its cause. The counts of faults are those of the device, where there is one, and of the bay before and after.
+abbrev pub HasCause : ℕ → ℕ → Option Stop → Option ℕ → ℕ → ℕ → Type 0
+HasCause half units None dev_faults bay_before bay_after = units_needed half ≤ units
+HasCause half units (Some BadScript) dev_faults bay_before bay_after = ⊥
+HasCause half units (Some DeviceFault) dev_faults bay_before bay_after = (units_needed half ≤ units) × IsSomeAnd dev_faults (λ n. 0 < n)
+HasCause half units (Some Refused) dev_faults bay_before bay_after = units < units_needed half
+HasCause half units (Some OutOfMemory) dev_faults bay_before bay_after = Unit {0}
+HasCause half units (Some BayFault) dev_faults bay_before bay_after = Rose bay_before bay_after
 
--- Each end of a run has its cause. The counts of faults are those of the device, where there is one, and of the bay before and after.
-abbrev pub HasCause : CommandLine → Option Stop → Option ℕ → ℕ → ℕ → Type 0
-HasCause line None dev_faults bay_before bay_after = HasUnits line
-HasCause line (Some DeviceFault) dev_faults bay_before bay_after = HasUnits line × IsSomeAnd dev_faults (λ n. 0 < n)
-HasCause line (Some Refused) dev_faults bay_before bay_after = LacksUnits line
-HasCause line (Some OutOfMemory) dev_faults bay_before bay_after = Unit {0}
-HasCause line (Some BayFault) dev_faults bay_before bay_after = Rose bay_before bay_after
-
--- A run of a command line: its work was done or stopped for a cause, and the text of that was printed.
-pub record Ran (line : CommandLine) (status : ℕ) (dev_faults : Option ℕ) (bay_before bay_after : ℕ) (old new : Output) : Type 0 where
+-- A run of `mkfs`: its work was done or stopped for a cause, and the text of that was printed.
+pub record RanMkfs (half units : ℕ) (status : ℕ) (dev_faults : Option ℕ) (bay_before bay_after : ℕ) (old new : Output) : Type 0 where
   pub stop : Option Stop
-  pub cause : HasCause line stop dev_faults bay_before bay_after
-  pub printed : Printed (end_number stop) (text_of line stop) status old new
+  pub cause : HasCause half units stop dev_faults bay_before bay_after
+  pub printed : Printed (end_number stop) (mkfs_text half units stop) status old new
 
 -- The text was printed of a run that stopped so, or for want of memory.
-pub record ReportedAs (line : CommandLine) (stop : Option Stop) (status : ℕ) (old new : Output) : Type 0 where
+pub record ReportedAs (half units : ℕ) (stop : Option Stop) (status : ℕ) (old new : Output) : Type 0 where
   pub ended : Option Stop
   pub same : (ended ≡ stop) ⊎ (ended ≡ Some OutOfMemory)
-  pub printed : Printed (end_number ended) (text_of line ended) status old new
+  pub printed : Printed (end_number ended) (mkfs_text half units ended) status old new
+
+-- ---- any command
+
+-- a run of a command line
+abbrev pub Ran : CommandLine → ℕ → Seen → BayView → BayView → ℕ → ℕ → Output → Output → Type 0
+Ran (Mkfs dev half units) status seen bay_old bay_new before now old new = RanMkfs half units status seen.dev_faults before now old new
+Ran (Step dev seed script) status seen bay_old bay_new before now old new = RanStep dev script seed status seen bay_old bay_new before now old new
 
 -- Words that spell no command line: some lines were printed.
 pub record ShowedUsage (status : ℕ) (old new : Output) : Type 0 where
@@ -59,22 +63,32 @@ pub record IsOfGiven (name : List ℕ) (how : How) (old : BayView) (disk : Disk)
 abbrev pub ComesBack : CommandLine → BayView → Option Disk → BayView → Type 0
 ComesBack line old None new = new ≡ old
 ComesBack (Mkfs name half units) old (Some disk) new = IsOfGiven name (Make units) old disk new
+ComesBack (Step name seed script) old (Some disk) new = IsOfGiven name Plain old disk new
 
 -- of a run with these words: the bay gave no device, or the one that comes back, for the command line that they spell
 abbrev pub CameBack : List (List ℕ) → BayView → Option Disk → BayView → Type 0
 CameBack words old None new = new ≡ old
 CameBack words old (Some disk) new = (line : CommandLine) × (Spells words line × ComesBack line old (Some disk) new)
 
--- the disk holds an empty store with the numbers that were asked for
+-- `mkfs` leaves an empty store with the numbers that were asked for
 abbrev pub HasStore : CommandLine → Disk → Type 0
 HasStore (Mkfs name half units) disk = (disk.units ≡ units) × HoldsEmptyStore half 32768 disk
+HasStore (Step name seed script) disk = Unit {0}
 
 -- for the command line that the words spell, where they spell one
 abbrev pub ForLine : List (List ℕ) → (CommandLine → Type 0) → Type 0
 ForLine words P = (line : CommandLine) → Spells words line → P line
 
--- nothing was mounted, no script was opened, no thread was started
-pub record IsBare {S : Type 0} (sources : List S) (book : Book) (turns : List ℕ) : Type 0 where
+-- nothing was mounted, no script was opened
+pub record IsBare {S : Type 0} (sources : List S) (book : Book) : Type 0 where
   pub no_source : sources ≡ []
   pub no_book : book ≡ record { entries = []; commits = [] }
-  pub no_turn : turns ≡ []
+
+-- only `step` mounts and opens a script
+abbrev pub LeavesBook : {S : Type 0} → CommandLine → List S → Book → Type 0
+LeavesBook (Mkfs dev half units) sources book = IsBare sources book
+LeavesBook (Step dev seed script) sources book = Unit {0}
+
+-- words that spell no `step` mount nothing and open no script
+abbrev pub IsBareUnlessStep : {S : Type 0} → List (List ℕ) → List S → Book → Type 0
+IsBareUnlessStep words sources book = IsNoStep words → IsBare sources book

@@ -1,11 +1,12 @@
 -- The exit statuses.
 use Rattle.std.specs.Prelude.{ℕ, Option, Some, None}
 use Rattle.bstore_top.specs.declared.status.Stop.{Stop}
-use Rattle.bstore_top.specs.declared.status.Stop.TheVariants.{DeviceFault, Refused, OutOfMemory, BayFault}
+use Rattle.bstore_top.specs.declared.status.Stop.TheVariants.{BadScript, DeviceFault, Refused, OutOfMemory, BayFault}
 use Rattle.bstore_top.specs.declared.status.Status.{Status}
 use Rattle.bstore_top.specs.declared.status.Status.TheVariants.{Done, NotACommandLine, Stopped, SinkFault}
 
 abbrev pub stop_number : Stop → ℕ
+stop_number BadScript = 2
 stop_number DeviceFault = 3
 stop_number Refused = 4
 stop_number OutOfMemory = 5

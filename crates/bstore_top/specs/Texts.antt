@@ -1,8 +1,6 @@
--- The texts that runs print.
+-- The texts that runs print, but for the replies.
 use Rattle.std.specs.Prelude.{ℕ, ◌-◌, ◌*◌, List, [], ◌∷◌, ◌++◌, Option, Some, None, codes, decimal}
 use Rattle.mount_replay.specs.NewSuper.{units_needed}
-use Rattle.bstore_top.specs.declared.command_line.CommandLine.{CommandLine}
-use Rattle.bstore_top.specs.declared.command_line.CommandLine.TheVariants.{Mkfs}
 use Rattle.bstore_top.specs.declared.status.Stop.{Stop}
 use Rattle.bstore_top.specs.declared.status.Stop.TheVariants.{Refused}
 use Rattle.bstore_top.specs.Status.{stop_number}
@@ -24,12 +22,12 @@ too_small_line half units = codes "mkfs TooSmall units=" ++ decimal units ++ cod
 abbrev pub stopped_line : Stop → List ℕ
 stopped_line stop = codes "stopped " ++ decimal (stop_number stop)
 
--- the lines of a run whose work was done, or stopped for this
-abbrev pub lines_of : CommandLine → Option Stop → List (List ℕ)
-lines_of (Mkfs dev half units) None = made_line half units ∷ []
-lines_of (Mkfs dev half units) (Some Refused) = too_small_line half units ∷ stopped_line Refused ∷ []
-lines_of line (Some stop) = stopped_line stop ∷ []
+-- the lines of a run of `mkfs` whose work was done, or stopped for this
+abbrev pub mkfs_lines : ℕ → ℕ → Option Stop → List (List ℕ)
+mkfs_lines half units None = made_line half units ∷ []
+mkfs_lines half units (Some Refused) = too_small_line half units ∷ stopped_line Refused ∷ []
+mkfs_lines half units (Some stop) = stopped_line stop ∷ []
 
 -- and its text
-abbrev pub text_of : CommandLine → Option Stop → List ℕ
-text_of line stop = as_text (lines_of line stop)
+abbrev pub mkfs_text : ℕ → ℕ → Option Stop → List ℕ
+mkfs_text half units stop = as_text (mkfs_lines half units stop)

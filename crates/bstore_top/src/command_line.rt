@@ -1,17 +1,17 @@
 //! Command lines: which words are one, and what they say.
 ghost use Rattle.std.specs.Prelude.{◌≡◌, ◌≢◌, ◌↔◌, ◌≤◌, ◌<◌, ◌^◌, ℕ, IsTrue, Some, IfSome, MatchOption, decimal, string_bytes};
-ghost use Rattle.bstore_top.specs.CommandLine.{words_of, IsPlain, IsDeviceName, IsNoCommandLine, Spells};
+ghost use Rattle.bstore_top.specs.CommandLine.{words_of, IsPlain, IsFileName, IsNoCommandLine, IsNoMkfs, IsNoStep, Spells};
 
 use std::marker::Model;
 use unit_fields::limits::{LEAST_HALF, MOST_HALF, MOST_UNITS};
 
-/// The name of a device, lent by the words: not empty, and without a dash at its front.
+/// The name of a device or of a script, lent by the words: not empty, and without a dash at its front.
 #[derive(Drop)]
-pub struct DeviceName<'a> {
+pub struct FileName<'a> {
     text: &'a str,
 }
 
-impl<'a> Model for DeviceName<'a> {
+impl<'a> Model for FileName<'a> {
     ghost use Rattle.std.specs.Prelude.{List, ℕ};
 
     ghost Value = { List ℕ };
@@ -19,7 +19,7 @@ impl<'a> Model for DeviceName<'a> {
     ghost view = { λ a. a.text.now };
 }
 
-impl<'a> DeviceName<'a> {
+impl<'a> FileName<'a> {
     /// The name, lent.
     pub fn as_str(&self) -> &str
         ensures { result.now ≡ self.now }
@@ -33,9 +33,16 @@ impl<'a> DeviceName<'a> {
 pub enum CommandLine<'a> {
     /// `mkfs DEV --half H --units N`: makes an empty store on a device of N units, with log halves of H units.
     Mkfs {
-        dev: DeviceName<'a>,
+        dev: FileName<'a>,
         half: u32,
         units: u32,
+    },
+    /// `step DEV --seed S SCRIPT`: mounts the store on a device and runs a script on it, in one thread. Which step comes next is
+    /// drawn from S.
+    Step {
+        dev: FileName<'a>,
+        seed: u32,
+        script: FileName<'a>,
     },
 }
 
@@ -69,12 +76,12 @@ fn read_number(text: &str, least: u32, most: u32) -> Option<u32>
     Some(n)
 }
 
-fn read_device_name(text: &str) -> Option<DeviceName<'_>>
-    ensures { MatchOption result (¬ (IsDeviceName text.now)) (λ name. (name ≡ text.now) × IsDeviceName text.now) }
+fn read_file_name(text: &str) -> Option<FileName<'_>>
+    ensures { MatchOption result (¬ (IsFileName text.now)) (λ name. (name ≡ text.now) × IsFileName text.now) }
 {
     match text.as_bytes() {
         [] | [b'-', ..] => None,
-        _ => Some(DeviceName { text }),
+        _ => Some(FileName { text }),
     }
 }
 
@@ -84,10 +91,9 @@ fn is_word(word: &String, text: &str) -> bool
     word.as_str() == text
 }
 
-/// The command line that the words spell, of which the first is the program's name: exactly
-/// `mkfs DEV --half H --units N`, in that order, with H from 8 to 65536 and N from 1 to 1048576.
-pub fn read_words(words: &Vec<String>) -> Option<CommandLine<'_>>
-    ensures { MatchOption result (IsNoCommandLine (words_of words.now)) (Spells (words_of words.now)) }
+/// `mkfs DEV --half H --units N`.
+fn read_mkfs(words: &Vec<String>) -> Option<CommandLine<'_>>
+    ensures { MatchOption result (IsNoMkfs (words_of words.now)) (Spells (words_of words.now)) }
 {
     let [_program, command, dev, half_word, half, units_word, units] = words.as_slice() else {
         return None;
@@ -98,8 +104,35 @@ pub fn read_words(words: &Vec<String>) -> Option<CommandLine<'_>>
     {
         return None;
     }
-    let dev = read_device_name(dev.as_str())?;
+    let dev = read_file_name(dev.as_str())?;
     let half = read_number(half.as_str(), LEAST_HALF, MOST_HALF)?;
     let units = read_number(units.as_str(), 1, MOST_UNITS)?;
     Some(CommandLine::Mkfs { dev, half, units })
+}
+
+/// `step DEV --seed S SCRIPT`.
+fn read_step(words: &Vec<String>) -> Option<CommandLine<'_>>
+    ensures { MatchOption result (IsNoStep (words_of words.now)) (Spells (words_of words.now)) }
+{
+    let [_program, command, dev, seed_word, seed, script] = words.as_slice() else {
+        return None;
+    };
+    if !is_word(command, "step") || !is_word(seed_word, "--seed") {
+        return None;
+    }
+    let dev = read_file_name(dev.as_str())?;
+    let seed = read_decimal(seed.as_str())?;
+    let script = read_file_name(script.as_str())?;
+    Some(CommandLine::Step { dev, seed, script })
+}
+
+/// The command line that the words spell, of which the first is the program's name: exactly `mkfs DEV --half H --units N` with H
+/// from 8 to 65536 and N from 1 to 1048576, or `step DEV --seed S SCRIPT` with S from 0 to 4294967295, in that order.
+pub fn read_words(words: &Vec<String>) -> Option<CommandLine<'_>>
+    ensures { MatchOption result (IsNoCommandLine (words_of words.now)) (Spells (words_of words.now)) }
+{
+    match read_mkfs(words) {
+        Some(line) => Some(line),
+        None => read_step(words),
+    }
 }

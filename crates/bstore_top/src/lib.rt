@@ -3,17 +3,29 @@
 #![tactic(auto)]
 
 mod command_line;
+mod generator;
+mod laws;
 mod making;
 mod outcome;
 mod printing;
+mod replies;
 mod running;
+mod script_work;
 mod status;
+mod step_end;
+mod step_texts;
+mod stepping;
 mod texts;
 
-pub use command_line::{CommandLine, DeviceName, read_words};
+pub use command_line::{CommandLine, FileName, read_words};
+pub use laws::{
+    a_drawn_run_is_a_run, a_finished_run_stands, a_run_has_a_legal_book, a_run_is_durable,
+    a_run_that_returns_0_has_succeeded,
+};
 pub use outcome::Outcome;
 pub use running::{solo, top};
 pub use status::{Status, Stop};
+pub use step_end::StepEnd;
 
 #[cfg(test)]
 mod tests;

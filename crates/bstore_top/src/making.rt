@@ -1,10 +1,11 @@
 //! The work of the command `mkfs`.
 ghost use Rattle.std.specs.Prelude.{◌≡◌, ◌<◌, ◌≤◌, ◌+◌, ◌^◌, None, IsSomeAnd};
 ghost use Rattle.std.specs.Option.{option_map};
-ghost use Rattle.bstore_top.specs.CommandLine.{IsInRange};
+ghost use Rattle.bstore_top.specs.declared.command_line.CommandLine.TheVariants.{Mkfs};
+ghost use Rattle.bstore_top.specs.CommandLine.{IsHalf, IsUnitCount};
 ghost use Rattle.bstore_top.specs.Run.{HasCause, ComesBack, HasStore};
 
-use crate::{CommandLine, Stop};
+use crate::{FileName, Stop};
 use block_device::Failed;
 use end_points::{Bay, How};
 use mount_replay::{MkfsFail, mkfs};
@@ -17,16 +18,22 @@ pub struct Work<D> {
     pub dev: Option<D>,
 }
 
-/// Makes a device of the units that the command line asks for, and an empty store on it.
-pub fn make_store<B: Bay>(alloc: Global, line: &CommandLine<'_>, bay: &mut B) -> Work<B::Dev>
-    requires range { IsInRange line.now }
+/// Makes a device of so many units, and an empty store on it.
+pub fn make_store<B: Bay>(
+    alloc: Global,
+    dev: &FileName<'_>,
+    half: u32,
+    units: u32,
+    bay: &mut B,
+) -> Work<B::Dev>
+    requires half { IsHalf half }
+    requires units { IsUnitCount units }
     requires given { (B.bay bay.old).given + 1 < 2 ^ 32 }
-    ensures cause { HasCause line.now result.stop (option_map B.Dev.faults result.dev) (B.faults bay.old) (B.faults bay.new) }
-    ensures device { ComesBack line.now (B.bay bay.old) (option_map B.Dev.disk result.dev) (B.bay bay.new) }
-    ensures store { result.stop ≡ None → IsSomeAnd (option_map B.Dev.disk result.dev) (HasStore line.now) }
+    ensures cause { HasCause half units result.stop (option_map B.Dev.faults result.dev) (B.faults bay.old) (B.faults bay.new) }
+    ensures device { ComesBack (Mkfs dev.now half units) (B.bay bay.old) (option_map B.Dev.disk result.dev) (B.bay bay.new) }
+    ensures store { result.stop ≡ None → IsSomeAnd (option_map B.Dev.disk result.dev) (HasStore (Mkfs dev.now half units)) }
 {
-    let CommandLine::Mkfs { dev, half, units } = line;
-    let device = match bay.device(dev.as_str(), How::Make(*units)) {
+    let device = match bay.device(dev.as_str(), How::Make(units)) {
         Ok(device) => device,
         Err(Failed::Memory) => return Work {
             stop: Some(Stop::OutOfMemory),
@@ -37,7 +44,7 @@ pub fn make_store<B: Bay>(alloc: Global, line: &CommandLine<'_>, bay: &mut B) ->
             dev: None,
         },
     };
-    match mkfs(alloc, device, *half, DEFAULT_PREFER) {
+    match mkfs(alloc, device, half, DEFAULT_PREFER) {
         Ok(device) => Work {
             stop: None,
             dev: Some(device),

@@ -1,14 +1,17 @@
 //! Printing: all of a text goes to the sink, or as much of it as the sink takes before it fails.
-ghost use Rattle.std.specs.Prelude.{◌≡◌, None, OnOk, OnErr, IfOk, string_bytes};
+ghost use Rattle.std.specs.Prelude.{◌≡◌, ◌≤◌, None, OnOk, OnErr, IfOk, string_bytes};
+ghost use Rattle.mount_replay.specs.NewSuper.{units_needed};
 ghost use Rattle.bstore_top.specs.Status.{number, end_number};
-ghost use Rattle.bstore_top.specs.Texts.{text_of};
+ghost use Rattle.bstore_top.specs.Texts.{mkfs_text};
 ghost use Rattle.bstore_top.specs.Printed.{output, TookAll, TookFront, Printed};
-ghost use Rattle.bstore_top.specs.CommandLine.{IsInRange};
-ghost use Rattle.bstore_top.specs.Run.{HasUnits, ReportedAs, ShowedUsage};
+ghost use Rattle.bstore_top.specs.StepRun.{ReportsStep};
+ghost use Rattle.bstore_top.specs.Run.{ReportedAs, ShowedUsage};
 
+use crate::step_texts::step_text;
 use crate::texts::{USAGE, made_text, stopped_text, too_small_text};
-use crate::{CommandLine, Status, Stop};
+use crate::{Status, StepEnd, Stop};
 use end_points::{Fault, Sink};
+use object_model::Book;
 use std::alloc::{AllocError, Global};
 
 fn print<K: Sink>(out: &mut K, text: &[u8]) -> Result<(), Fault>
@@ -42,33 +45,48 @@ fn print_end<K: Sink>(out: &mut K, text: &str, stop: Option<Stop>) -> Status
     }
 }
 
-/// The text of a run.
-fn text(alloc: Global, line: &CommandLine<'_>, stop: Option<Stop>) -> Result<String, AllocError>
-    requires range { IsInRange line.now }
-    requires units { stop ≡ None → HasUnits line.now }
-    ensures { IfOk result (λ text. string_bytes text ≡ text_of line.now stop) }
+/// The text of a run of `mkfs`.
+fn mkfs_text(alloc: Global, half: u32, units: u32, stop: Option<Stop>) -> Result<String, AllocError>
+    requires half { half ≤ 65536 }
+    requires units { stop ≡ None → units_needed half ≤ units }
+    ensures { IfOk result (λ text. string_bytes text ≡ mkfs_text half units stop) }
 {
-    let CommandLine::Mkfs { half, units, .. } = line;
     match stop {
-        None => made_text(alloc, *half, *units),
-        Some(Stop::Refused) => too_small_text(alloc, *half, *units),
+        None => made_text(alloc, half, units),
+        Some(Stop::Refused) => too_small_text(alloc, half, units),
         Some(stop) => String::from_str(alloc, stopped_text(stop)),
     }
 }
 
-/// Prints what came of the work, and says how the run has ended: where there is no memory for the text, it has stopped for that.
-pub fn report<K: Sink>(
+/// Prints what came of the work of `mkfs`, and says how the run has ended: where there is no memory for the text, it has stopped
+/// for that.
+pub fn report_mkfs<K: Sink>(
     alloc: Global,
-    line: &CommandLine<'_>,
+    half: u32,
+    units: u32,
     stop: Option<Stop>,
     out: &mut K,
 ) -> Status
-    requires range { IsInRange line.now }
-    requires units { stop ≡ None → HasUnits line.now }
-    ensures { ReportedAs line.now stop (number result) (output (K.written out.old) (K.faults out.old)) (output (K.written out.new) (K.faults out.new)) }
+    requires half { half ≤ 65536 }
+    requires units { stop ≡ None → units_needed half ≤ units }
+    ensures { ReportedAs half units stop (number result) (output (K.written out.old) (K.faults out.old)) (output (K.written out.new) (K.faults out.new)) }
 {
-    match text(alloc, line, stop) {
+    match mkfs_text(alloc, half, units, stop) {
         Ok(text) => print_end(out, text.as_str(), stop),
+        Err(AllocError) => print_end(
+            out,
+            stopped_text(Stop::OutOfMemory),
+            Some(Stop::OutOfMemory),
+        ),
+    }
+}
+
+/// Prints what came of a run of `step`, and says how the run has ended, as `report_mkfs` does.
+pub fn report_step<K: Sink>(alloc: Global, book: &Book, end: StepEnd, out: &mut K) -> Status
+    ensures { ReportsStep book.now end (number result) (output (K.written out.old) (K.faults out.old)) (output (K.written out.new) (K.faults out.new)) }
+{
+    match step_text(alloc, book, end) {
+        Ok(text) => print_end(out, text.as_str(), end.stop()),
         Err(AllocError) => print_end(
             out,
             stopped_text(Stop::OutOfMemory),

@@ -1,14 +1,17 @@
 //! Runs, from the words to the outcome.
-ghost use Rattle.std.specs.Prelude.{◌≡◌, ◌<◌, IsSomeAnd};
+ghost use Rattle.std.specs.Prelude.{◌≡◌, ◌<◌, [], map, IsSomeAnd};
 ghost use Rattle.std.specs.Option.{option_map};
-ghost use Rattle.bstore_top.specs.CommandLine.{words_of, IsInRange, IsNoCommandLine};
+ghost use Rattle.bstore_top.specs.declared.command_line.CommandLine.TheVariants.{Mkfs, Step};
+ghost use Rattle.bstore_top.specs.CommandLine.{words_of, IsInRange, IsHalf, IsUnitCount, IsNoCommandLine};
 ghost use Rattle.bstore_top.specs.Status.{number};
 ghost use Rattle.bstore_top.specs.Printed.{output};
-ghost use Rattle.bstore_top.specs.Run.{Ran, ShowedUsage, ForLine, ComesBack, CameBack, HasStore, IsBare};
+ghost use Rattle.bstore_top.specs.StepRun.{seen, RanStep};
+ghost use Rattle.bstore_top.specs.Run.{Ran, RanMkfs, ShowedUsage, ForLine, ComesBack, CameBack, HasStore, IsBare, IsBareUnlessStep, LeavesBook};
 
 use crate::making::{Work, make_store};
-use crate::printing::{report, show_usage};
-use crate::{CommandLine, Outcome, Status, read_words};
+use crate::printing::{report_mkfs, report_step, show_usage};
+use crate::script_work::{StepWork, run_store};
+use crate::{CommandLine, FileName, Outcome, Status, read_words};
 use end_points::{Bay, Gate, Sink};
 use object_model::Book;
 use std::alloc::Global;
@@ -17,13 +20,71 @@ use std::alloc::Global;
 fn bare<D, S>(alloc: Global, status: Status, dev: Option<D>) -> Outcome<D, S>
     ensures status { result.status ≡ number status }
     ensures dev { result.dev ≡ dev }
-    ensures rest { IsBare result.sources.items result.book result.turns.items }
+    ensures rest { IsBare result.sources.items result.book }
+    ensures turns { result.turns.items ≡ [] }
 {
     Outcome {
         status: status.number(),
         dev,
         sources: Vec::new(alloc),
         book: Book::new(alloc),
+        turns: Vec::new(alloc),
+    }
+}
+
+/// Runs `mkfs`.
+fn run_mkfs<B: Bay, K: Sink>(
+    alloc: Global,
+    dev: &FileName<'_>,
+    half: u32,
+    units: u32,
+    bay: &mut B,
+    out: &mut K,
+) -> Outcome<B::Dev, B::Src>
+    requires half { IsHalf half }
+    requires units { IsUnitCount units }
+    requires given { (B.bay bay.old).given < 4294967294 }
+    ensures run { RanMkfs half units result.status (option_map B.Dev.faults result.dev) (B.faults bay.old) (B.faults bay.new)
+        (output (K.written out.old) (K.faults out.old)) (output (K.written out.new) (K.faults out.new)) }
+    ensures device { ComesBack (Mkfs dev.now half units) (B.bay bay.old) (option_map B.Dev.disk result.dev) (B.bay bay.new) }
+    ensures store { result.status ≡ 0 → IsSomeAnd (option_map B.Dev.disk result.dev) (HasStore (Mkfs dev.now half units)) }
+    ensures rest { IsBare result.sources.items result.book }
+    ensures turns { result.turns.items ≡ [] }
+{
+    let Work { stop, dev } = make_store(alloc, dev, half, units, bay);
+    let status = report_mkfs(alloc, half, units, stop, out);
+    bare(alloc, status, dev)
+}
+
+/// Runs `step`.
+fn run_step<B: Bay, K: Sink>(
+    alloc: Global,
+    dev: &FileName<'_>,
+    seed: u32,
+    script: &FileName<'_>,
+    bay: &mut B,
+    out: &mut K,
+) -> Outcome<B::Dev, B::Src>
+    requires given { (B.bay bay.old).given < 4294967294 }
+    ensures run { RanStep dev.now script.now seed result.status
+        (seen (option_map B.Dev.disk result.dev) (option_map B.Dev.faults result.dev) (map B.Src.faults result.sources.items) result.book)
+        (B.bay bay.old) (B.bay bay.new) (B.faults bay.old) (B.faults bay.new)
+        (output (K.written out.old) (K.faults out.old)) (output (K.written out.new) (K.faults out.new)) }
+    ensures device { ComesBack (Step dev.now seed script.now) (B.bay bay.old) (option_map B.Dev.disk result.dev) (B.bay bay.new) }
+    ensures turns { result.turns.items ≡ [] }
+{
+    let StepWork {
+        end,
+        dev,
+        sources,
+        book,
+    } = run_store(alloc, dev, seed, script, bay);
+    let status = report_step(alloc, &book, end, out);
+    Outcome {
+        status: status.number(),
+        dev,
+        sources,
+        book,
         turns: Vec::new(alloc),
     }
 }
@@ -36,15 +97,19 @@ fn run<B: Bay, K: Sink>(
 ) -> Outcome<B::Dev, B::Src>
     requires range { IsInRange line.now }
     requires given { (B.bay bay.old).given < 4294967294 }
-    ensures run { Ran line.now result.status (option_map B.Dev.faults result.dev) (B.faults bay.old) (B.faults bay.new)
+    ensures run { Ran line.now result.status
+        (seen (option_map B.Dev.disk result.dev) (option_map B.Dev.faults result.dev) (map B.Src.faults result.sources.items) result.book)
+        (B.bay bay.old) (B.bay bay.new) (B.faults bay.old) (B.faults bay.new)
         (output (K.written out.old) (K.faults out.old)) (output (K.written out.new) (K.faults out.new)) }
     ensures device { ComesBack line.now (B.bay bay.old) (option_map B.Dev.disk result.dev) (B.bay bay.new) }
     ensures store { result.status ≡ 0 → IsSomeAnd (option_map B.Dev.disk result.dev) (HasStore line.now) }
-    ensures rest { IsBare result.sources.items result.book result.turns.items }
+    ensures rest { LeavesBook line.now result.sources.items result.book }
+    ensures turns { result.turns.items ≡ [] }
 {
-    let Work { stop, dev } = make_store(alloc, line, bay);
-    let status = report(alloc, line, stop, out);
-    bare(alloc, status, dev)
+    match line {
+        CommandLine::Mkfs { dev, half, units } => run_mkfs(alloc, dev, *half, *units, bay, out),
+        CommandLine::Step { dev, seed, script } => run_step(alloc, dev, *seed, script, bay, out),
+    }
 }
 
 /// Runs any command but those that start threads: reads the words, of which the first is the program's name, does the work,
@@ -59,11 +124,14 @@ pub fn solo<B: Bay, K: Sink>(
     requires { (B.bay bay.old).given < 4294967294 }
     ensures usage { IsNoCommandLine (words_of words.now) →
         ShowedUsage result.status (output (K.written out.old) (K.faults out.old)) (output (K.written out.new) (K.faults out.new)) }
-    ensures run { ForLine (words_of words.now) (λ line. Ran line result.status (option_map B.Dev.faults result.dev) (B.faults bay.old) (B.faults bay.new)
+    ensures run { ForLine (words_of words.now) (λ line. Ran line result.status
+        (seen (option_map B.Dev.disk result.dev) (option_map B.Dev.faults result.dev) (map B.Src.faults result.sources.items) result.book)
+        (B.bay bay.old) (B.bay bay.new) (B.faults bay.old) (B.faults bay.new)
         (output (K.written out.old) (K.faults out.old)) (output (K.written out.new) (K.faults out.new))) }
     ensures device { CameBack (words_of words.now) (B.bay bay.old) (option_map B.Dev.disk result.dev) (B.bay bay.new) }
     ensures store { result.status ≡ 0 → ForLine (words_of words.now) (λ line. IsSomeAnd (option_map B.Dev.disk result.dev) (HasStore line)) }
-    ensures rest { IsBare result.sources.items result.book result.turns.items }
+    ensures rest { IsBareUnlessStep (words_of words.now) result.sources.items result.book }
+    ensures turns { result.turns.items ≡ [] }
 {
     match read_words(words) {
         Some(line) => run(alloc, &line, bay, out),
@@ -83,11 +151,14 @@ pub fn top<B: Bay, K: Sink, G: Gate>(
     requires { (B.bay bay.old).given < 4294967294 }
     ensures usage { IsNoCommandLine (words_of words.now) →
         ShowedUsage result.status (output (K.written out.old) (K.faults out.old)) (output (K.written out.new) (K.faults out.new)) }
-    ensures run { ForLine (words_of words.now) (λ line. Ran line result.status (option_map B.Dev.faults result.dev) (B.faults bay.old) (B.faults bay.new)
+    ensures run { ForLine (words_of words.now) (λ line. Ran line result.status
+        (seen (option_map B.Dev.disk result.dev) (option_map B.Dev.faults result.dev) (map B.Src.faults result.sources.items) result.book)
+        (B.bay bay.old) (B.bay bay.new) (B.faults bay.old) (B.faults bay.new)
         (output (K.written out.old) (K.faults out.old)) (output (K.written out.new) (K.faults out.new))) }
     ensures device { CameBack (words_of words.now) (B.bay bay.old) (option_map B.Dev.disk result.dev) (B.bay bay.new) }
     ensures store { result.status ≡ 0 → ForLine (words_of words.now) (λ line. IsSomeAnd (option_map B.Dev.disk result.dev) (HasStore line)) }
-    ensures rest { IsBare result.sources.items result.book result.turns.items }
+    ensures rest { IsBareUnlessStep (words_of words.now) result.sources.items result.book }
+    ensures turns { result.turns.items ≡ [] }
 {
     let _ = gate;
     solo(alloc, words, bay, out)

@@ -5,13 +5,15 @@ ghost use Rattle.bstore_top.specs.Status.{number, stop_number};
 /// Why a run stopped before its work was done: the first cause in time.
 #[derive(Clone, Copy, Debug, PartialEq, Eq)]
 pub enum Stop {
+    /// A script has a line outside the grammar.
+    BadScript = 2,
     /// The device failed.
     DeviceFault = 3,
     /// The store isn't made or mounted, for what the device is or holds.
     Refused = 4,
     /// Memory ran out.
     OutOfMemory = 5,
-    /// The bay failed.
+    /// The bay or a source failed.
     BayFault = 7,
 }
 

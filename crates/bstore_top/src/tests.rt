@@ -1,5 +1,7 @@
 // Runs over a bay in memory: what they print, what they end with, and whether a device comes back.
 
+mod step_runs;
+
 use super::*;
 use block_device::{Device, Kind, MemoryDevice};
 use end_points::{Bay, Call, MemoryBay, MemorySink, MemorySource, OpenGate, Plan};
@@ -148,6 +150,16 @@ fn no_command_lines(rt: HostRuntime) -> Result<(), Fail> {
         "bstore mkfs old --half 8 --units 1048577",
         "bstore mkfs old --half 8 --units 4294967360",
         "bstore mkfs old --half 8 --units -64",
+        "bstore step old --seed 1",
+        "bstore step old --seed 1 script script",
+        "bstore step old --seed 4294967296 script",
+        "bstore step old --seed 01 script",
+        "bstore step old --seed -1 script",
+        "bstore step --seed 1 old script",
+        "bstore step -old --seed 1 script",
+        "bstore step old --seed 1 -script",
+        "bstore step old --seed 1 ",
+        "bstore Step old --seed 1 script",
     ] {
         let run = finish(rt.alloc(), line, no_fails(rt.alloc()))?;
         assert_eq!(rt; run.outcome.status, 1, "{line}");

@@ -8,7 +8,8 @@ use crate::Stop;
 use std::alloc::{AllocError, Global};
 
 /// A line for each command.
-pub const USAGE: &str = "usage: bstore mkfs DEV --half H --units N\n";
+pub const USAGE: &str =
+    "usage: bstore mkfs DEV --half H --units N\nusage: bstore step DEV --seed S SCRIPT\n";
 
 /// What a run prints that has made a store.
 pub fn made_text(alloc: Global, half: u32, units: u32) -> Result<String, AllocError>
@@ -34,6 +35,7 @@ pub fn stopped_text(stop: Stop) -> &'static str
     ensures { result.now ≡ as_text (stopped_line stop ∷ []) }
 {
     match stop {
+        Stop::BadScript => "stopped 2\n",
         Stop::DeviceFault => "stopped 3\n",
         Stop::Refused => "stopped 4\n",
         Stop::OutOfMemory => "stopped 5\n",

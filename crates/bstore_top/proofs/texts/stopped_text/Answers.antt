@@ -3,6 +3,9 @@ use Rattle.bstore_top.specs.Status.{stop_number}
 use Rattle.bstore_top.proofs.TextLemmas.{stopped_is}
 use Rattle.bstore_top.proofs.texts.stopped_text.Goals as goal
 
+pub returns-in-BadScript : goal.returns-in-BadScript
+returns-in-BadScript c = sym (stopped_is c.args.stop 2 (ap stop_number c.in-BadScript.is) (omega arith))
+
 pub returns-in-DeviceFault : goal.returns-in-DeviceFault
 returns-in-DeviceFault c = sym (stopped_is c.args.stop 3 (ap stop_number c.in-DeviceFault.is) (omega arith))
 

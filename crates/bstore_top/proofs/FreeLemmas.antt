@@ -1,0 +1,70 @@
+-- The free units of a drained kernel are the data units that nobody owns, by what its device holds.
+use Rattle.std.proofs.Common.{◌≡◌, ℕ, ◌+◌, ◌≤◌, true, List, length, None, refl, ap, subst, ◌∙◌, arith}
+use Rattle.byte_maps.specs.Units.{IsUnits}
+use Rattle.block_device.specs.Log.{last}
+use Rattle.block_device.specs.Disk.{Disk, History}
+use Rattle.meta_rows.specs.Rows.{Rows}
+use Rattle.meta_log.specs.declared.slot.Super.{Super}
+use Rattle.store_image.specs.Owners.{IsDataUnit}
+use Rattle.log_facts.specs.HalfFacts.{records_units}
+use Rattle.log_facts.proofs.Reading.{behind_units, half_inside, slots_read, half_parts, no_record_behind, rows_read}
+use Rattle.unit_allocator.specs.Units.{Space, free_units, IsWithin}
+use Rattle.unit_allocator.proofs.FreeUnits.{free_units_ascend, listed_is_free, free_is_listed}
+use Rattle.store_steps.specs.declared.context.Context.{Context}
+use Rattle.store_steps.specs.State.{State}
+use Rattle.store_steps.specs.Submit.{free_count}
+use Rattle.store_steps.specs.Ready.{is_drained}
+use Rattle.store_facts.specs.Space.{rows_with, IsSpaceOf, IsFreeExactly}
+use Rattle.store_facts.specs.Kept.{IsKept}
+use Rattle.store_facts.proofs.Conditions.{IsIdle}
+use Rattle.store_facts.proofs.Known.{known_idle}
+use Rattle.unit_facts.specs.Known.{KnownOfUnits}
+use Rattle.unit_facts.proofs.Runs.{idle_half}
+use Rattle.crash_facts.proofs.Now.{size_now}
+use Rattle.bstore_top.specs.Finished.{AreUnowned, HasFree}
+
+-- a free unit is a data unit that nobody owns, and the other way round
+module _ (sup : Super) (rows : Rows) (space : Space) (is : IsSpaceOf sup space) (exact : IsFreeExactly sup rows rows space) where
+  data_of : (unit : ℕ) → IsWithin space unit → IsDataUnit sup unit
+  data_of unit w = (omega (arith, w.from, is.first), omega (arith, w.to, is.first, is.count))
+
+  within_of : (unit : ℕ) → IsDataUnit sup unit → IsWithin space unit
+  within_of unit on = record { from = omega (arith, on.0, is.first); to = omega (arith, on.1, is.first, is.count) }
+
+  pub free_unowned : AreUnowned sup rows (free_units space)
+  free_unowned = record {
+    ascend = free_units_ascend space;
+    each = λ unit. (
+      λ listed. let free = listed_is_free space unit listed in
+          let on : IsDataUnit sup unit = data_of unit free.within in
+          (on, ((exact unit on).0 free.free).0),
+      λ unowned. (free_is_listed space unit (within_of unit unowned.0)).0 ((exact unit unowned.0).1 (unowned.1, unowned.1)),
+    );
+  }
+
+-- what the device of a drained kernel holds says which units are free
+pub drained_free : (base : ℕ) (s : State) (d : Disk) (h : History) → IsKept s d → KnownOfUnits base s d h → s.down ≡ None
+    → is_drained d.depth s ≡ true → HasFree (last h.start h.log) (free_count s.space)
+drained_free base s d h kept known up drained =
+    let contents : List ℕ = last h.start h.log in
+    let sup : Super = s.log.sup in
+    let tail : ℕ = s.log.tail in
+    let idle : IsIdle s = known_idle s d kept up drained in
+    let found = idle_half base s d h known idle.begun in
+    let half = found.1 in
+    let whole : IsUnits sup.units contents = size_now s d h kept known.told in
+    let inside = half_inside sup contents known.slots.limits whole in
+    let within : tail ≤ sup.half = omega (arith, half.room) in
+    let parts = half_parts contents sup tail (records_units sup.first found.0) half.whole within inside (λ k below. (half.front k below).last) in
+    let view : s.view ≡ s.log.rows = (kept.up up).view ∙ ap (λ (xs : List Context). rows_with s.log.rows xs) idle.uncommitted in
+    record {
+      sup = sup;
+      active = slots_read contents sup known.slots.limits whole known.slots.active.last known.slots.other.last;
+      rows = s.log.rows;
+      read = rows_read contents sup s.log.rows found.0 (behind_units contents sup tail) half.made half.spellable parts
+          (no_record_behind contents sup tail within inside (λ some. (half.zero_behind tail (omega arith) some).last) (sup.first + length found.0));
+      units = free_units s.space;
+      unowned = free_unowned sup s.log.rows s.space kept.always.space
+          (subst (λ (rows : Rows). IsFreeExactly sup s.log.rows rows s.space) view (kept.up up).free);
+      count = refl;
+    }

@@ -1,0 +1,77 @@
+-- The replies: a line for each entry of the book.
+use Rattle.std.specs.Prelude.{ℕ, ◌+◌, ◌==◌, ◌&&◌, Bool, true, false, List, [], ◌∷◌, ◌++◌, length, count_by, is_some, if◌then◌else◌, codes, decimal}
+use Rattle.std.specs.List.{list_any}
+use Rattle.object_model.specs.declared.op.Refusal.{Refusal}
+use Rattle.object_model.specs.declared.op.Refusal.TheVariants.{NoCollection, CollectionExists, NotEmpty, NoObject, NoAttr, SameObject, BadRange, TooBig}
+use Rattle.object_model.specs.declared.command.Answer.{Answer}
+use Rattle.object_model.specs.declared.command.Answer.TheVariants as answer
+use Rattle.object_model.specs.declared.book.Entry.{Entry}
+use Rattle.bstore_top.specs.declared.replies.Kind.{Kind}
+use Rattle.bstore_top.specs.declared.replies.Kind.TheVariants.{Accepted, Refused, Read}
+use Rattle.object_model.specs.declared.book.Commit.{Commit}
+use Rattle.object_model.specs.declared.book.Book.{Book}
+
+abbrev pub refusal_text : Refusal → List ℕ
+refusal_text NoCollection = codes "E1 NoCollection"
+refusal_text CollectionExists = codes "E2 CollectionExists"
+refusal_text NotEmpty = codes "E3 NotEmpty"
+refusal_text NoObject = codes "E4 NoObject"
+refusal_text NoAttr = codes "E5 NoAttr"
+refusal_text SameObject = codes "E6 SameObject"
+refusal_text BadRange = codes "E7 BadRange"
+refusal_text TooBig = codes "E8 TooBig"
+
+-- the commit of the entry at this place is acknowledged
+abbrev pub is_acked : List Commit → ℕ → Bool
+is_acked commits place = list_any (λ c. (c.place == place) && is_some c.acked_at) commits
+
+-- The reply to the command at this place of the book. Scripts have no command yet that reads, so that no read is answered.
+abbrev pub reply_of : List Commit → ℕ → Answer → List ℕ
+reply_of commits place answer.Accepted = if is_acked commits place then codes "ok" else codes "sent"
+reply_of commits place (answer.Refused refusal) = refusal_text refusal
+reply_of commits place (answer.NoSpace need free) = codes "E9 NoSpace need=" ++ decimal need ++ codes " free=" ++ decimal free
+reply_of commits place (answer.MetaFull need room) = codes "E10 MetaFull need=" ++ decimal need ++ codes " room=" ++ decimal room
+reply_of commits place answer = []
+
+-- the client's number, the line of the command in its script, and the reply
+abbrev pub entry_line : List Commit → ℕ → Entry → List ℕ
+entry_line commits place e = decimal e.client ++ codes ":" ++ decimal e.line ++ codes " " ++ reply_of commits place e.answer
+
+-- the lines of entries, of which the first is at this place
+abbrev pub entry_lines : List Commit → ℕ → List Entry → List (List ℕ)
+entry_lines commits place [] = []
+entry_lines commits place (e ∷ es) = entry_line commits place e ∷ entry_lines commits (place + 1) es
+
+-- a transaction was accepted, a command was refused, a read was answered
+abbrev pub is_accepted : Answer → Bool
+is_accepted answer.Accepted = true
+is_accepted a = false
+
+abbrev pub is_refused : Answer → Bool
+is_refused (answer.Refused refusal) = true
+is_refused (answer.NoSpace need free) = true
+is_refused (answer.MetaFull need room) = true
+is_refused (answer.Csum unit kept found) = true
+is_refused a = false
+
+abbrev pub is_read : Answer → Bool
+is_read (answer.Bytes bytes) = true
+is_read (answer.Size size) = true
+is_read (answer.Sum size crc) = true
+is_read (answer.Names names) = true
+is_read a = false
+
+abbrev pub is_of : Kind → Answer → Bool
+is_of Accepted a = is_accepted a
+is_of Refused a = is_refused a
+is_of Read a = is_read a
+
+-- how many answers of a kind there are
+abbrev pub answers_of : Kind → List Entry → ℕ
+answers_of kind entries = count_by (λ e. is_of kind e.answer) entries
+
+-- the last line of a run whose work was done, with so many units free at its end
+abbrev pub done_line : Book → ℕ → List ℕ
+done_line book free =
+    codes "done accepted=" ++ decimal (answers_of Accepted book.entries) ++ codes " refused=" ++ decimal (answers_of Refused book.entries)
+    ++ codes " reads=" ++ decimal (answers_of Read book.entries) ++ codes " commits=" ++ decimal (length book.commits) ++ codes " free=" ++ decimal free

@@ -1,0 +1,195 @@
+-- What a run of `step` does: it reads a script, mounts a store, and runs the script on it.
+use Rattle.std.specs.Prelude.{◌≡◌, ◌⊎◌, ℕ, ◌<◌, List, [], ◌∷◌, ◌++◌, map, Any, Option, Some, None, Result, Ok, Err, is_some, true, IfSome}
+use Rattle.std.specs.FinMap as finite
+use Rattle.block_device.specs.Disk.{Disk, IsSound, Rose}
+use Rattle.end_points.specs.Bay.{BayView, Names, HandedOut}
+use Rattle.end_points.specs.declared.bay.How.TheVariants.{Plain}
+use Rattle.object_model.specs.declared.book.Book.{Book}
+use Rattle.object_model.specs.declared.book.Entry.{Entry}
+use Rattle.object_model.specs.declared.command.Command.{Command}
+use Rattle.object_model.specs.declared.command.Command.TheVariants as command
+use Rattle.meta_log.specs.declared.slot.Super.{Super}
+use Rattle.unit_allocator.specs.Units.{Space}
+use Rattle.script_text.specs.Script.{IsScript, IsBadAt}
+use Rattle.script_text.specs.declared.fail.ScriptFail.{ScriptFail}
+use Rattle.script_text.specs.declared.fail.ScriptFail.TheVariants as script
+use Rattle.script_text.specs.declared.line.Line.{Line}
+use Rattle.store_steps.specs.State.{State}
+use Rattle.store_steps.specs.Submit.{free_count}
+use Rattle.store_steps.specs.Runs.{Call}
+use Rattle.mount_replay.specs.Opening.{FailsMount}
+use Rattle.mount_replay.specs.Mounting.{IsOpenedOn, IsReapedTo}
+use Rattle.store_kernel.specs.declared.step_fail.StepFail.{StepFail}
+use Rattle.store_kernel.specs.declared.step_fail.StepFail.TheVariants as run
+use Rattle.mount_replay.specs.declared.opening.MountFail.{MountFail}
+use Rattle.mount_replay.specs.declared.opening.MountFail.TheVariants as fail
+use Rattle.block_device.specs.declared.device.Failed.{Failed}
+use Rattle.block_device.specs.declared.device.Failed.TheVariants as failed
+use Rattle.bstore_top.specs.declared.step_end.StepEnd.{StepEnd}
+use Rattle.bstore_top.specs.declared.step_end.StepEnd.TheVariants.{Done, BadLine, NoSuper, NotNew, WornOut, DeviceFault, OutOfMemory, BayFault}
+use Rattle.bstore_top.specs.declared.status.Stop.TheVariants as stop
+use Rattle.bstore_top.specs.Texts.{as_text, stopped_line}
+use Rattle.bstore_top.specs.StepTexts.{step_number, step_text}
+use Rattle.bstore_top.specs.Printed.{Output, Printed}
+use Rattle.bstore_top.specs.Choice.{Ask, asks_of, ready_list, Position, at_position, IsDrawnRun}
+
+-- ---- the script
+
+-- the bay has this text under this name, where it tells
+abbrev pub IsTextUnder : Option Names → List ℕ → List ℕ → Type 0
+IsTextUnder names name text = IfSome names (λ n. finite.get n.texts name ≡ Some text)
+
+-- the script under a name has these lines
+pub record HasScript (names : Option Names) (name : List ℕ) (lines : List Line) : Type 0 where
+  pub text : List ℕ
+  pub under : IsTextUnder names name text
+  pub script : IsScript text lines
+
+-- this line of it is the first that is outside the grammar or the limits
+pub record HasBadLine (names : Option Names) (name : List ℕ) (n : ℕ) : Type 0 where
+  pub text : List ℕ
+  pub under : IsTextUnder names name text
+  pub bad : IsBadAt text n
+
+-- ---- the run
+
+-- what an entry of the book says of a command: the client, the line, and the command
+pub record Asked : Type 0 where
+  pub client : ℕ
+  pub line : ℕ
+  pub command : Command
+
+abbrev pub asked_in : Entry → Asked
+asked_in e = record { client = e.client; line = e.line; command = e.command }
+
+-- a transaction of the script of client 0
+abbrev pub asked_by : Ask → Asked
+asked_by a = record { client = 0; line = a.line; command = command.Change a.change }
+
+-- the entries are the first commands of the script, in order, each with its line, and these are left
+abbrev pub AskedUpTo : List Line → List Entry → List Ask → Type 0
+AskedUpTo lines entries left = map asked_by (asks_of lines) ≡ map asked_in entries ++ map asked_by left
+
+-- where a run ended: with all transactions in the book and nothing left to do, at a bad end of a submission, or for want of memory
+abbrev pub EndsAt : StepEnd → Position → Type 0
+EndsAt (Done free) p = (p.asks ≡ []) × (ready_list p.disk.depth p.state ≡ []) × (p.state.down ≡ None) × (free ≡ free_count p.state.space)
+EndsAt DeviceFault p = is_some p.state.down ≡ true
+EndsAt OutOfMemory p = p.state.down ≡ None
+EndsAt end p = ⊥
+
+-- A script was run on a store: the calls that were drawn lead from the mounted kernel to the last one, whose book it is.
+pub record RunsScript (seed : ℕ) (lines : List Line) (given : Disk) (end : StepEnd) (book : Book) (disk : Disk) : Type 0 where
+  pub sup : Super
+  pub space : Space
+  pub first : State
+  pub mounted : IsOpenedOn given sup space first
+  pub calls : List Call
+  pub last : Position
+  pub drawn : IsDrawnRun (at_position seed (asks_of lines) first given) calls last
+  pub ended : EndsAt end last
+  pub entries : AskedUpTo lines book.entries last.asks
+  pub closed : State
+  pub reaped : IsReapedTo last.state last.disk closed disk
+  pub book_is : book ≡ closed.book
+
+-- ---- the whole
+
+-- what is seen at the end: of the device where the bay gave one, and the counts of faults of the sources
+pub record Seen : Type 0 where
+  pub disk : Option Disk
+  pub dev_faults : Option ℕ
+  pub source_faults : List ℕ
+  pub book : Book
+
+abbrev pub seen : Option Disk → Option ℕ → List ℕ → Book → Seen
+seen disk dev_faults source_faults book = record { disk = disk; dev_faults = dev_faults; source_faults = source_faults; book = book }
+
+abbrev pub empty_book : Book
+empty_book = record { entries = []; commits = [] }
+
+-- Why no device was opened: memory ran out, the script has a bad line, or the count of a source rose or that of the bay. The bay opened
+-- no script then, or the script has lines.
+abbrev pub FailsBefore : StepEnd → Option Names → List ℕ → List ℕ → ℕ → ℕ → Type 0
+FailsBefore (BadLine n) names script source_faults before now = HasBadLine names script n
+FailsBefore OutOfMemory names script source_faults before now = Unit {0}
+FailsBefore BayFault names script source_faults before now =
+    Any (λ n. 0 < n) source_faults ⊎ (Rose before now × ((source_faults ≡ []) ⊎ ((lines : List Line) × HasScript names script lines)))
+FailsBefore end names script source_faults before now = ⊥
+
+-- how a run ends that mounted nothing, that ran the script, or for which the bay gave no device
+abbrev pub end_of_mount : MountFail → StepEnd
+end_of_mount fail.Memory = OutOfMemory
+end_of_mount fail.NoSuper = NoSuper
+end_of_mount fail.NotNew = NotNew
+end_of_mount (fail.WornOut value) = WornOut
+end_of_mount fail.Fault = DeviceFault
+
+abbrev pub end_of_run : Result (Unit {0}) StepFail → ℕ → StepEnd
+end_of_run (Ok done) free = Done free
+end_of_run (Err run.Memory) free = OutOfMemory
+end_of_run (Err run.Fault) free = DeviceFault
+
+abbrev pub end_of_bay : Failed → StepEnd
+end_of_bay failed.Memory = OutOfMemory
+end_of_bay failed.Fault = BayFault
+
+-- how a run ends whose script wasn't read
+abbrev pub end_of_script : ScriptFail → StepEnd
+end_of_script script.Memory = OutOfMemory
+end_of_script (script.Line n) = BadLine n
+end_of_script script.ReadFault = BayFault
+
+-- Why the device that was opened wasn't mounted. The counts are those of its faults.
+abbrev pub FailsToMount : StepEnd → Disk → ℕ → ℕ → Type 0
+FailsToMount NoSuper given before now = FailsMount fail.NoSuper given before now
+FailsToMount NotNew given before now = FailsMount fail.NotNew given before now
+FailsToMount WornOut given before now = (value : ℕ) × FailsMount (fail.WornOut value) given before now
+FailsToMount DeviceFault given before now = Rose before now
+FailsToMount OutOfMemory given before now = Unit {0}
+FailsToMount end given before now = ⊥
+
+-- a device fault is counted
+abbrev pub HasCounted : StepEnd → ℕ → ℕ → Type 0
+HasCounted DeviceFault before now = Rose before now
+HasCounted end before now = Unit {0}
+
+-- the device wasn't mounted, is as it was given, and the book is empty; or the script was run on it
+abbrev pub WorksOn : ℕ → List Line → Disk → ℕ → StepEnd → Book → Disk → ℕ → Type 0
+WorksOn seed lines given before end book disk now =
+    (FailsToMount end given before now × (book ≡ empty_book) × (disk ≡ given))
+    ⊎ (HasCounted end before now × RunsScript seed lines given end book disk)
+
+-- no device was opened
+pub record EndsUnopened (script : List ℕ) (end : StepEnd) (seen : Seen) (names : Option Names) (before now : ℕ) : Type 0 where
+  pub no_disk : seen.disk ≡ None
+  pub no_book : seen.book ≡ empty_book
+  pub cause : FailsBefore end names script seen.source_faults before now
+
+-- the script was read and the device opened, and it comes back
+pub record EndsOpened (dev script : List ℕ) (seed : ℕ) (end : StepEnd) (seen : Seen) (old new : BayView) : Type 0 where
+  pub lines : List Line
+  pub has_script : HasScript old.names script lines
+  pub given : Disk
+  pub handed_out : HandedOut old dev Plain given 0 new
+  pub sound : IsSound given
+  pub disk : Disk
+  pub is_disk : seen.disk ≡ Some disk
+  pub faults : ℕ
+  pub are_faults : seen.dev_faults ≡ Some faults
+  pub works : WorksOn seed lines given 0 end seen.book disk faults
+
+-- how far a run came
+abbrev pub IsStepDone : List ℕ → List ℕ → ℕ → StepEnd → Seen → BayView → BayView → ℕ → ℕ → Type 0
+IsStepDone dev script seed end seen bay_old bay_new before now =
+    EndsUnopened script end seen bay_old.names before now ⊎ EndsOpened dev script seed end seen bay_old bay_new
+
+-- its text was printed, or there was no memory for that
+abbrev pub ReportsStep : Book → StepEnd → ℕ → Output → Output → Type 0
+ReportsStep book end status old new =
+    Printed (step_number end) (step_text book end) status old new ⊎ Printed 5 (as_text (stopped_line stop.OutOfMemory ∷ [])) status old new
+
+-- A run of `step`: how far it came, and the text of that.
+pub record RanStep (dev script : List ℕ) (seed status : ℕ) (seen : Seen) (bay_old bay_new : BayView) (before now : ℕ) (old new : Output) : Type 0 where
+  pub end : StepEnd
+  pub course : IsStepDone dev script seed end seen bay_old bay_new before now
+  pub printed : ReportsStep seen.book end status old new

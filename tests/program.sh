@@ -141,5 +141,75 @@ for units in 0 1048577 064 +64 -64 64k '' 4294967360 18446744073709551680; do
     says "units '$units'" is_refused mkfs DEV --half 8 --units "$units"
 done
 
+# ---- step
+
+# unit K FILE: unit K of a file.
+unit() {
+    tail -c +$((4096 * $1 + 1)) "$2" | head -c 4096
+}
+
+run mkfs T "${small[@]}"
+printf 'mkcoll 1.0_head\nwrite 1.0_head a 0 fill:5a:4096\nwait\n' >script
+run step T --seed 1 script
+says 'step: a collection and a page' ended 0 '0:1 ok' '0:2 ok' 'done accepted=2 refused=0 reads=0 commits=2 free=45'
+head -c 4096 /dev/zero | tr '\0' '\132' >page
+unit 18 T >found
+says 'step: the page stands on unit 18' cmp -s found page
+says 'step: the record of the collection stands in unit 2' test "$(unit 2 T | head -c 4)" = BREC
+says 'step: 64 units still' is_long T 262144
+
+cp T BEFORE
+run step T --seed 1 script
+says 'step: a store with records' ended 4 'mount NotNew' 'stopped 4'
+says 'step: it is left as it was' cmp -s T BEFORE
+head -c 262144 /dev/zero >ZEROS
+run step ZEROS --seed 1 script
+says 'step: no store' ended 4 'mount NoSuper' 'stopped 4'
+
+# The same replies for each seed; the store differs at most in nothing, since one client runs alone.
+same=yes
+for seed in 0 2 3 7 50 4294967295; do
+    run mkfs SEED "${small[@]}"
+    run step SEED --seed "$seed" script
+    ended 0 '0:1 ok' '0:2 ok' 'done accepted=2 refused=0 reads=0 commits=2 free=45' && cmp -s SEED BEFORE || same=no
+done
+says 'step: other seeds' test "$same" = yes
+
+# Each refusal: a full store, and a full log.
+run mkfs SMALL --half 8 --units 19
+printf '# a store with one data unit\nmkcoll 1.0_head\nmkcoll 1.0_head\nwrite 2.0_head a 0 fill:41:4096\nwrite 1.0_head a 0 fill:41:4096\n\nwrite 1.0_head b 0 fill:42:4096\n' >full
+run step SMALL --seed 5 full
+says 'step: refusals' ended 0 '0:2 ok' '0:3 E2 CollectionExists' '0:4 E1 NoCollection' '0:5 ok' '0:7 E9 NoSpace need=1 free=0' \
+    'done accepted=2 refused=3 reads=0 commits=2 free=0'
+run mkfs LOG "${small[@]}"
+{ echo 'mkcoll 1.0_head'; for n in 1 2 3 4 5 6 7 8; do echo "write 1.0_head o$n 0 fill:0$n:4096"; done; } >many
+run step LOG --seed 9 many
+says 'step: the log is full' ended 0 '0:1 ok' '0:2 ok' '0:3 ok' '0:4 ok' '0:5 ok' '0:6 ok' '0:7 ok' '0:8 ok' '0:9 E10 MetaFull need=1 room=0' \
+    'done accepted=8 refused=1 reads=0 commits=8 free=39'
+
+# A bad line: the device isn't opened, so none is made or looked for.
+printf 'mkcoll 1.0_head\n\n#\n\n\n\nwriet 1.0_head a 0 fill:41:4096\n' >bad
+run step ABSENT --seed 1 bad
+says 'step: a bad line' ended 2 'script 0 line 7' 'stopped 2'
+says 'step: no device was made' test ! -e ABSENT
+run step ABSENT --seed 1 script
+says 'step: no device' ended 7 'stopped 7'
+run step T --seed 1 nowhere
+says 'step: no script' ended 7 'stopped 7'
+
+run mkfs OUT "${small[@]}"
+"$program" step OUT --seed 1 script >/dev/full 2>complaints </dev/null
+status=$?
+says 'step: a full output' is_one_of 6
+says 'step: a full output: the same store' cmp -s OUT BEFORE
+
+says 'step: no script named' is_refused step DEV --seed 1
+says 'step: two scripts' is_refused step DEV --seed 1 script full
+says 'step: no seed' is_refused step DEV script
+says 'step: another order' is_refused step --seed 1 DEV script
+for seed in 4294967296 01 -1 '' x; do
+    says "step: seed '$seed'" is_refused step DEV --seed "$seed" script
+done
+
 echo "$passed passed, $failed failed"
 [ "$failed" = 0 ]

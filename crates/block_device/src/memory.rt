@@ -137,6 +137,13 @@ impl MemoryDevice {
         })
     }
 
+    /// How many events the log has.
+    pub fn events(&self) -> u64
+        ensures { result ≡ length self.now.log }
+    {
+        self.log.len() as u64
+    }
+
     /// What a crash after the first `cut` events of the log may leave, with its dirty units torn in
     /// this way: just the bytes of that tear.
     pub fn image(&self, cut: u64, tear: Tear) -> Result<Vec<u8>, AllocError>

@@ -71,6 +71,7 @@ fn each_tear(rt: HostRuntime) -> Result<(), Fail> {
     end(&mut device)?;
     write(&mut device, alloc, 1, 0x20, 3)?;
     end(&mut device)?;
+    assert_eq!(rt; device.events(), 6);
     for (tear, want) in [
         (Tear::Old, [0x10, 0x10, 0x10, 1]),
         (Tear::New, [0x10, 0x20, 0x20, 0x20]),

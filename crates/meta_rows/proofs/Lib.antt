@@ -3,3 +3,8 @@ pub mod Ops
 pub mod Folds
 pub mod XorLemmas
 pub mod RowLemmas
+pub mod RangeLemmas
+pub mod GapLemmas
+pub mod OrderLemmas
+pub mod SortLemmas
+pub mod OpReading

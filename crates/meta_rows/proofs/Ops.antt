@@ -11,7 +11,7 @@ use Rattle.meta_rows.proofs.FieldLemmas.{text_front, wide16, wide32}
 rest_of : (a b : ℕ) (x y : List ℕ) → a ∷ x ≡ b ∷ y → x ≡ y
 rest_of a b x y e = ap (λ l. drop 1 l) e
 
-key_front : (a b x y : List ℕ) → IsKey a → IsKey b → key_bytes a ++ x ≡ key_bytes b ++ y → (a ≡ b) × (x ≡ y)
+pub key_front : (a b x y : List ℕ) → IsKey a → IsKey b → key_bytes a ++ x ≡ key_bytes b ++ y → (a ≡ b) × (x ≡ y)
 key_front a b x y fa fb e = text_front w16 (2 ^ 16) wide16 a b x y (omega (arith, fa.short)) (omega (arith, fb.short)) e
 
 both_front : (a b v w x y : List ℕ) → IsKey a → IsKey b → length v < 2 ^ 32 → length w < 2 ^ 32 → (key_bytes a ++ value_bytes v) ++ x ≡ (key_bytes b ++ value_bytes w) ++ y → (a ≡ b) × (v ≡ w) × (x ≡ y)

@@ -1,13 +1,12 @@
 -- Rows after operations: what a row is then, and how many bytes the rows have.
-use Rattle.std.proofs.Common.{◌≡◌, ◌≢◌, ℕ, ◌+◌, ◌<◌, ◌≤◌, Bool, true, false, cond, T, List, [], ◌∷◌, length, get_or, drop, Option, Some, None, refl}
-use Rattle.std.proofs.Common.{sym, ap, subst, ◌∙◌, arith}
-use Rattle.std.specs.Prelude.{All, IsTrue, ◌↔◌, unwrap_or}
+use Rattle.std.proofs.Common.{◌≡◌, ◌≢◌, ℕ, ◌+◌, ◌<◌, ◌≤◌, true, false, cond, T, List, [], ◌∷◌, length, get_or, drop, Option, Some, None, refl}
+use Rattle.std.proofs.Common.{sym, ap, ◌∙◌, arith}
+use Rattle.std.specs.Prelude.{unwrap_or}
 use Rattle.std.specs.Ordering.{is_eq, eq_by_cmp, ordering_reverse}
 use Rattle.std.specs.declared.cmp.Ordering.{Ordering}
 use Rattle.std.specs.declared.cmp.Ordering.TheVariants.{Less, Equal, Greater}
 use Rattle.std.specs.Cmp.Lexicographic.{nat_list_cmp_total}
 use Rattle.std.specs.FinMap.{empty, get, insert, remove, is_sorted, from_sorted, entries-from_sorted}
-use Rattle.std.proofs.lemmas.Bool.{false≢true}
 use Rattle.std.proofs.lemmas.List.{length-append, at_drop_more}
 use Rattle.std.proofs.lemmas.List.Concat.{flat_map-cons}
 use Rattle.byte_maps.specs.ByteMap.{byte_order}
@@ -20,7 +19,7 @@ use Rattle.meta_rows.specs.declared.row_op.RowOp.TheVariants.{Set, Drop, Flip}
 use Rattle.meta_rows.specs.Rows.{Rows, xor_bytes, all_zero, row, with_row, row_after, rows_after, key_of, LeaveAlone}
 use Rattle.meta_rows.specs.Spelling.{key_bytes, value_bytes, op_bytes, ops_bytes}
 use Rattle.meta_rows.specs.Table.{rows_size}
-use Rattle.meta_rows.proofs.XorLemmas.{length-xor_bytes, all_zero-from_All, All-from_all_zero}
+use Rattle.meta_rows.proofs.XorLemmas.{length-xor_bytes}
 
 -- ---- one key
 
@@ -71,20 +70,6 @@ get-row_after_other rows (Flip key mask) other differ = get-with_row_other rows 
 pub get-rows_after_other : (rows : Rows) (ops : List RowOp) (key : List ℕ) → LeaveAlone ops key → get (rows_after rows ops) key ≡ get rows key
 get-rows_after_other rows [] key alone = refl
 get-rows_after_other rows (op ∷ ops) key alone = get-rows_after_other (row_after rows op) ops key alone.1 ∙ get-row_after_other rows op key alone.0
-
--- ---- a row taken out, and put back where it has a byte other than zero
-
-pub flipped_to_none : (rows : Rows) (key value : List ℕ) (is : Bool) → (IsTrue is ↔ All (λ b. b ≡ 0) value) → is ≡ true
-    → remove rows key ≡ with_row rows key value
-flipped_to_none rows key value is test so = sym (ap (λ b. cond b (remove rows key) (insert rows key value)) (all_zero-from_All value (test.0 so)))
-
-pub flipped_to_some : (rows : Rows) (key value : List ℕ) (is : Bool) → (IsTrue is ↔ All (λ b. b ≡ 0) value) → is ≡ false
-    → insert (remove rows key) key value ≡ with_row rows key value
-flipped_to_some rows key value is test not_so =
-    elim (all_zero value) as (λ b. all_zero value ≡ b → insert (remove rows key) key value ≡ cond b (remove rows key) (insert rows key value)) [
-      | true ↦ λ e. absurd (false≢true (sym not_so ∙ test.1 (All-from_all_zero value e)))
-      | false ↦ λ e. insert-remove rows key value
-    ] refl
 
 -- ---- bytes
 
@@ -141,26 +126,6 @@ size-rows_after rows (op ∷ ops) =
       length-append (op_bytes op)
           (ops_bytes ops),
     )
-
--- ---- a flip's two ends
-
-pub row_put_back : (rows left after : Rows) (key k value held mask : List ℕ) (is : Bool) → k ≡ key → value ≡ xor_bytes (row rows k) mask
-    → left ≡ remove rows k → held ≡ value
-    → (IsTrue is ↔ All (λ b. b ≡ 0) held) → is ≡ false → after ≡ insert left key value → after ≡ with_row rows key (xor_bytes (row rows key) mask)
-row_put_back rows left after key k value held mask is same_key made taken same_value test not_so put =
-    put
-    ∙ ap (λ (l : Rows). insert l key value) (taken ∙ ap (remove rows) same_key)
-    ∙ flipped_to_some rows key value is (subst (λ (v : List ℕ). IsTrue is ↔ All (λ b. b ≡ 0) v) same_value test) not_so
-    ∙ ap (with_row rows key) (made ∙ ap (λ (q : List ℕ). xor_bytes (row rows q) mask) same_key)
-
-pub row_left_out : (rows left : Rows) (key k value held mask : List ℕ) (is : Bool) → k ≡ key → value ≡ xor_bytes (row rows k) mask → left ≡ remove rows k
-    → held ≡ value
-    → (IsTrue is ↔ All (λ b. b ≡ 0) held) → is ≡ true → left ≡ with_row rows key (xor_bytes (row rows key) mask)
-row_left_out rows left key k value held mask is same_key made taken same_value test so =
-    taken
-    ∙ ap (remove rows) same_key
-    ∙ flipped_to_none rows key value is (subst (λ (v : List ℕ). IsTrue is ↔ All (λ b. b ≡ 0) v) same_value test) so
-    ∙ ap (with_row rows key) (made ∙ ap (λ (q : List ℕ). xor_bytes (row rows q) mask) same_key)
 
 -- ---- adding up
 

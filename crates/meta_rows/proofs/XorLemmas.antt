@@ -1,6 +1,6 @@
 -- The exclusive-or of byte strings, byte by byte.
 use Rattle.std.proofs.Common.{◌≡◌, ℕ, zero, suc, ◌+◌, ◌<◌, ◌≤◌, Bool, true, false, List, [], ◌∷◌, length, get_or, take, set, refl, sym, ap, ap₂, ◌∙◌, arith}
-use Rattle.std.specs.Prelude.{All, bit_xor, ◌==◌, ◌&&◌}
+use Rattle.std.specs.Prelude.{All, IsTrue, ◌↔◌, bit_xor, ◌==◌, ◌&&◌}
 use Rattle.std.specs.List.{AllByRecursion}
 use Rattle.std.proofs.lemmas.List.Elements.{All-from_recursion, recursion_from_All}
 use Rattle.std.proofs.lemmas.Nat.{xor_comm}
@@ -69,3 +69,12 @@ all_zero-from_All bs is = test_of_zeros bs (recursion_from_All (λ b. b ≡ 0) b
 
 pub All-from_all_zero : (bs : List ℕ) → all_zero bs ≡ true → All (λ b. b ≡ 0) bs
 All-from_all_zero bs is = All-from_recursion (λ b. b ≡ 0) bs (zeros_of_test bs is)
+
+-- the two tests answer alike
+pub zeros_or_not : (bs held : List ℕ) (is : Bool) → held ≡ bs → (IsTrue is ↔ All (λ b. b ≡ 0) held) → is ≡ all_zero bs
+zeros_or_not bs held is same test = alike is (all_zero bs) (λ t. ap all_zero (sym same) ∙ all_zero-from_All held (test.0 t)) (λ t. test.1 (All-from_all_zero held (ap all_zero same ∙ t)))
+  where
+    alike : (a b : Bool) → (a ≡ true → b ≡ true) → (b ≡ true → a ≡ true) → a ≡ b
+    alike true b on back = sym (on refl)
+    alike false true on back = back refl
+    alike false false on back = refl

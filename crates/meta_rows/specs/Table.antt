@@ -1,9 +1,14 @@
 -- The rows in memory.
-use Rattle.std.specs.Prelude.{ℕ, ◌+◌, length, refl}
+use Rattle.std.specs.Prelude.{◌≡◌, ℕ, ◌+◌, ◌≤◌, Bool, true, false, not, Option, Some, None, List, [], unwrap_or, if◌then◌else◌, length, take, drop, refl}
+use Rattle.std.specs.List.{AllByRecursion, filter}
+use Rattle.std.specs.Ordering.{is_lt}
 use Rattle.std.specs.FinMap as map
 use Rattle.std.specs.Coded.{Coded, code_by, coded×, coded_ℕ, coded_list}
+use Rattle.byte_maps.specs.ByteMap.{byte_order, in_range}
 use Rattle.byte_maps.specs.Totals.{total}
-use Rattle.meta_rows.specs.Rows.{Rows}
+use Rattle.meta_rows.specs.Rows.{Rows, xor_bytes, all_zero}
+use Rattle.meta_rows.specs.declared.row_op.RowOp.{RowOp}
+use Rattle.meta_rows.specs.declared.row_op.RowOp.TheVariants.{Set, Drop, Flip}
 
 -- the rows, and how many more operations they take without memory
 pub record RowsWithRoom : Type 0 where
@@ -20,3 +25,39 @@ rows_with_room_code =
 -- the bytes of the rows, each spelled as an operation that sets it: a code, two lengths, the key and the value
 abbrev pub rows_size : Rows → ℕ
 rows_size rows = total (λ key value. 7 + length key + length value) rows
+
+-- first ≤ key < end in byte order; without an end, first ≤ key
+abbrev pub is_from_to : List ℕ → Option (List ℕ) → List ℕ → Bool
+is_from_to first None key = not (is_lt (byte_order key first))
+is_from_to first (Some end) key = in_range first end key
+
+-- the rows of a range of keys, in the order of their keys
+abbrev pub rows_from_to : Rows → List ℕ → Option (List ℕ) → List (List ℕ × List ℕ)
+rows_from_to rows first end = filter (λ row. is_from_to first end row.0) (map.entries rows)
+
+-- each of these keys is below `key`; none is
+abbrev pub AllBelow : List ℕ → List (List ℕ × List ℕ) → Type 0
+AllBelow key rows = AllByRecursion (λ row. is_lt (byte_order row.0 key) ≡ true) rows
+
+abbrev pub NoneBelow : List ℕ → List (List ℕ × List ℕ) → Type 0
+NoneBelow key rows = AllByRecursion (λ row. is_lt (byte_order row.0 key) ≡ false) rows
+
+-- in rows in order, those from this place on are those whose keys are at least `key`
+abbrev pub StartsAt : List ℕ → List (List ℕ × List ℕ) → ℕ → Type 0
+StartsAt key es at = (at ≤ length es) × AllBelow key (take at es) × NoneBelow key (drop at es)
+
+-- those whose keys are below `end` are those before this place; without an end all are
+abbrev pub EndsAt : Option (List ℕ) → List (List ℕ × List ℕ) → ℕ → Type 0
+EndsAt None es at = at ≡ length es
+EndsAt (Some end) es at = StartsAt end es at
+
+-- the value that an operation leaves of what its key had
+abbrev pub value_left : Option (List ℕ) → RowOp → Option (List ℕ)
+value_left held (Set key value) = Some value
+value_left held (Drop key) = None
+value_left held (Flip key mask) = let value = xor_bytes (unwrap_or held []) mask in if all_zero value then None else Some value
+
+-- the rows with a value, if there is one, under a key that they lack
+abbrev pub with_left : Rows → List ℕ → Option (List ℕ) → Rows
+with_left rows key None = rows
+with_left rows key (Some value) = map.insert rows key value

@@ -4,6 +4,9 @@
 #![tactic(auto)]
 
 mod laws;
+mod reading;
+mod row_change;
+mod row_gap;
 mod row_op;
 mod row_table;
 mod writing;
@@ -12,9 +15,12 @@ pub use laws::{
     one_list_for_a_spelling, operations_one_after_another, other_rows_stay,
     rows_grow_by_their_operations, set_row_is_there,
 };
+pub use reading::decode;
 pub use row_op::RowOp;
 pub use row_table::RowTable;
 pub use writing::encode;
 
+#[cfg(test)]
+mod reading_tests;
 #[cfg(test)]
 mod tests;

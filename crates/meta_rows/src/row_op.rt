@@ -1,4 +1,6 @@
 //! One change of one row.
+ghost use Rattle.std.specs.Prelude.{◌≡◌};
+ghost use Rattle.meta_rows.specs.Rows.{key_of};
 
 use byte_maps::{Bytes, Duplicate};
 use std::alloc::{AllocError, Global};
@@ -13,6 +15,19 @@ pub enum RowOp {
     /// The row becomes the exclusive-or of its value and the mask, the shorter of the two filled up with zeros, a missing
     /// row being empty. It goes where no byte other than zero is left. (Ceph's `XorMergeOperator` of the freelist.)
     Flip { key: Bytes, mask: Bytes },
+}
+
+impl RowOp {
+    /// The key of the row that it changes.
+    pub fn key(&self) -> &[u8]
+        ensures { result.now ≡ key_of self.now }
+    {
+        match self {
+            RowOp::Set { key, .. } | RowOp::Drop { key } | RowOp::Flip { key, .. } => {
+                key.as_slice()
+            }
+        }
+    }
 }
 
 impl Duplicate for RowOp {

@@ -1,22 +1,32 @@
 //! The rows in memory, in the order of their keys.
-ghost use Rattle.std.specs.Prelude.{◌≡◌, ◌↔◌, ◌+◌, ◌^◌, ◌<◌, ◌≤◌, length, All, IsTrue, OnOk, OnErr, option_copied};
+ghost use Rattle.std.specs.Prelude.{◌≡◌, ◌↔◌, ◌+◌, ◌^◌, ◌<◌, ◌≤◌, length, All, T, IsTrue, OnOk, OnErr, option_copied};
 ghost use Rattle.std.specs.FinMap as map;
+ghost use Rattle.std.specs.Vec.{vec_len, vec_capacity};
 ghost use Rattle.std.specs.List.Sorted.{IsSearchInRange, IsBinarySearchResult};
 ghost use Rattle.byte_maps.specs.ByteMap.{byte_order};
-ghost use Rattle.meta_rows.specs.Rows.{xor_bytes, with_row, row, row_after, rows_after};
-ghost use Rattle.meta_rows.specs.Table.{rows_size};
+ghost use Rattle.meta_rows.specs.Order.{numbered, unnumbered};
+ghost use Rattle.meta_rows.specs.Rows.{Rows, row_after, rows_after};
+ghost use Rattle.meta_rows.specs.Table.{rows_size, rows_from_to, StartsAt, EndsAt};
 
+use crate::row_change::left_by;
+use crate::row_gap::RowGap;
 use crate::row_op::RowOp;
 use byte_maps::Bytes;
 use std::alloc::{AllocError, Global};
 use std::marker::Model;
+use std::mem::replace;
 
 /// The rows of the store in memory, seen as the finite map and how many more operations it takes without memory.
 ///
 /// It is a list of keys and values sorted by key, so that a look-up bisects. In Ceph it is RocksDB that holds the rows.
+/// Once `reserve` was asked for a large batch, there is a second buffer for as many rows; between two calls it is empty.
 #[derive(Debug, Drop)]
 pub struct RowTable {
     entries: Vec<(Bytes, Bytes)>,
+    // The rows behind the gap, while a large batch is applied.
+    spare: Vec<(Bytes, Bytes)>,
+    // A large batch, while it is sorted.
+    sorting: Vec<(usize, RowOp)>,
 }
 
 impl Model for RowTable {
@@ -35,6 +45,9 @@ impl Model for RowTable {
     ghost invariant = { λ a. T (map.is_sorted byte_order a.entries.items) };
 }
 
+// A batch of at most so many operations is small: each bisects, and moves the rows behind it as one block.
+const FEW: usize = 16;
+
 // Where a key stands among entries in order, or where it would go.
 fn place_of(entries: &[(Bytes, Bytes)], key: &[u8]) -> Result<usize, usize>
     ensures bound { IsSearchInRange result (length entries.now) }
@@ -43,32 +56,73 @@ fn place_of(entries: &[(Bytes, Bytes)], key: &[u8]) -> Result<usize, usize>
     entries.binary_search_by(|entry| entry.0.as_slice().cmp(key))
 }
 
-fn is_all_zero(bytes: &[u8]) -> bool
-    ensures { IsTrue result ↔ All (λ byte. byte ≡ 0) bytes.now }
+// Where the keys begin that are at least this one.
+fn start_of(entries: &[(Bytes, Bytes)], key: &[u8]) -> usize
+    requires { T (map.is_sorted byte_order entries.now) }
+    ensures { StartsAt key.now entries.now result }
 {
-    bytes.iter().all(|byte| *byte == 0)
+    match place_of(entries, key) {
+        Ok(at) => at,
+        Err(at) => at,
+    }
 }
 
-// The longer buffer takes the exclusive-or.
-fn xored_into(long: Bytes, short: &Bytes) -> Bytes
-    requires { length short.now ≤ length long }
-    ensures { result ≡ xor_bytes long short.now }
+// Where the keys end that are below this one; all are where there is none.
+fn end_of(entries: &[(Bytes, Bytes)], end: Option<&[u8]>) -> usize
+    requires { T (map.is_sorted byte_order entries.now) }
+    ensures { EndsAt (option_copied end.entry) entries.now result }
 {
-    let mut bytes = long.into_vec();
-    for (i, byte) in short.as_slice().iter().enumerate() {
-        bytes[i] ^= *byte;
+    match end {
+        Some(key) => start_of(entries, key),
+        None => entries.len(),
     }
-    Bytes::from_vec(bytes)
 }
 
-fn xored(value: Bytes, mask: Bytes) -> Bytes
-    ensures { result ≡ xor_bytes value mask }
+// The operations with their places in the batch.
+fn with_numbers(ops: Vec<RowOp>, mut buffer: Vec<(usize, RowOp)>) -> Vec<(usize, RowOp)>
+    requires { length ops.items ≤ vec_capacity buffer }
+    ensures { result.items ≡ numbered 0 ops.items }
 {
-    if value.len() < mask.len() {
-        xored_into(mask, &value)
-    } else {
-        xored_into(value, &mask)
+    buffer.clear();
+    for op in ops {
+        let number = buffer.len();
+        buffer.push_reserved((number, op));
     }
+    buffer
+}
+
+// The operations in the order of their keys, those of one key in the order in which they came.
+fn in_order(ops: Vec<RowOp>, buffer: Vec<(usize, RowOp)>) -> Vec<(usize, RowOp)>
+    requires { length ops.items ≤ vec_capacity buffer }
+    ensures same { (rows : Rows) → rows_after rows (unnumbered result.items) ≡ rows_after rows ops.items }
+    ensures len { length result.items ≡ length ops.items }
+{
+    let mut sorted = with_numbers(ops, buffer);
+    sorted.sort_unstable_by(|a, b| a.1.key().cmp(b.1.key()).then(a.0.cmp(&b.0)));
+    sorted
+}
+
+// The rows after these operations, in one pass over those behind the least of their keys.
+fn merged(
+    entries: Vec<(Bytes, Bytes)>,
+    mut spare: Vec<(Bytes, Bytes)>,
+    ops: Vec<(usize, RowOp)>,
+) -> RowGap
+    requires order { T (map.is_sorted byte_order entries.items) }
+    requires room { vec_len entries + length ops.items ≤ vec_capacity entries }
+    requires spare { vec_len entries + length ops.items ≤ vec_capacity spare }
+    ensures rows { map.from_sorted {R = byte_order} result.before.items ≡ rows_after (map.from_sorted entries.items) (unnumbered ops.items) }
+    ensures order { T (map.is_sorted byte_order result.before.items) }
+    ensures many { vec_len result.before ≤ vec_len entries + length ops.items }
+    ensures capacity { vec_capacity result.before ≡ vec_capacity entries }
+{
+    spare.clear();
+    let mut gap = RowGap {
+        before: entries,
+        behind: spare,
+    };
+    gap.apply(ops);
+    gap
 }
 
 impl RowTable {
@@ -78,6 +132,8 @@ impl RowTable {
     {
         RowTable {
             entries: Vec::new(alloc),
+            spare: Vec::new(alloc),
+            sorting: Vec::new(alloc),
         }
     }
 
@@ -99,6 +155,17 @@ impl RowTable {
         entries.is_empty()
     }
 
+    /// The rows whose keys are at least `first` and below `end`, in the order of their keys; up to the last one where there is no
+    /// end. It bisects twice, and lends them. (Ceph: a RocksDB iterator, from its lower bound up to its upper bound.)
+    pub fn range(&self, first: &[u8], end: Option<&[u8]>) -> &[(Bytes, Bytes)]
+        ensures { result.now ≡ rows_from_to self.now.rows first.now (option_copied end.entry) }
+    {
+        let entries: &[(Bytes, Bytes)] = &self.entries;
+        let from = start_of(entries, first);
+        let to = end_of(entries, end);
+        if from < to { &entries[from..to] } else { &[] }
+    }
+
     /// How many bytes the rows have, each spelled as an operation that sets it: the body of the record that a switch of the log's
     /// halves writes. It looks at each row.
     pub fn size(&self) -> u64
@@ -112,12 +179,17 @@ impl RowTable {
         size
     }
 
-    /// Makes room for so many operations, so that `apply` takes no memory.
+    /// Makes room for so many operations, so that `apply` takes no memory. For a large batch it also makes the second buffer, 48 bytes
+    /// a row, and 64 bytes for each operation, which `apply` gives back.
     pub fn reserve(&mut self, ops: usize) -> Result<(), AllocError>
         ensures rows { self.new.rows ≡ self.old.rows }
         ensures ok { OnOk result (ops ≤ self.new.room) }
         ensures err { OnErr result (self.new ≡ self.old) }
     {
+        if FEW < ops {
+            self.sorting.reserve(ops)?;
+            self.spare.reserve(self.entries.len().saturating_add(ops))?;
+        }
         self.entries.reserve(ops)
     }
 
@@ -154,25 +226,15 @@ impl RowTable {
         }
     }
 
-    // The row's value under a mask, in the longer of the two buffers; the row itself goes.
-    fn flipped(&mut self, key: &[u8], mask: Bytes) -> Bytes
-        ensures value { result ≡ xor_bytes (row self.old.rows key.now) mask }
-        ensures rows { self.new.rows ≡ map.remove self.old.rows key.now }
-        ensures room { self.old.room ≤ self.new.room }
-    {
-        match self.take(key) {
-            Some(value) => xored(value, mask),
-            None => mask,
-        }
-    }
-
-    fn flip(&mut self, key: Bytes, mask: Bytes)
+    // Applies an operation to what its row has.
+    fn change(&mut self, op: RowOp)
         requires { 0 < self.old.room }
-        ensures rows { self.new.rows ≡ with_row self.old.rows key (xor_bytes (row self.old.rows key) mask) }
+        ensures rows { self.new.rows ≡ row_after self.old.rows op }
         ensures room { self.old.room ≤ self.new.room + 1 }
     {
-        let value = self.flipped(key.as_slice(), mask);
-        if !is_all_zero(value.as_slice()) {
+        let held = self.take(op.key());
+        let (key, left) = left_by(held, op);
+        if let Some(value) = left {
             self.put(key, value);
         }
     }
@@ -184,22 +246,43 @@ impl RowTable {
     {
         match op {
             RowOp::Set { key, value } => self.put(key, value),
-            RowOp::Drop { key } => {
-                let _ = self.take(key.as_slice());
-            }
-            RowOp::Flip { key, mask } => self.flip(key, mask),
+            other => self.change(other),
         }
     }
 
-    /// The rows after these operations, one after the other, by room that `reserve` made. It takes no memory: a set row keeps the
-    /// buffers that are moved in, and a flipped one the longer of its value and its mask. (Ceph: the memtable after a write batch.)
-    pub fn apply(&mut self, ops: Vec<RowOp>)
+    // Operations one by one, each by bisection.
+    fn apply_each(&mut self, ops: Vec<RowOp>)
         requires { length ops.items ≤ self.old.room }
         ensures rows { self.new.rows ≡ rows_after self.old.rows ops.items }
         ensures room { self.old.room ≤ self.new.room + length ops.items }
     {
         for op in ops {
             self.apply_one(op);
+        }
+    }
+
+    /// The rows after these operations, one after the other, by room that `reserve` made. It takes no memory: a set row keeps the
+    /// buffers that are moved in, and a flipped one the longer of its value and its mask. (Ceph: the memtable after a write batch.)
+    ///
+    /// Up to 16 operations are applied one by one. A larger batch is sorted by key, which takes k log k comparisons, or k where it is
+    /// in order already; then it is merged with the rows behind the least of its keys, each of which moves twice and is compared twice.
+    /// Where `reserve` was asked for smaller batches only, a larger one too is applied one by one.
+    pub fn apply(&mut self, ops: Vec<RowOp>)
+        requires { length ops.items ≤ self.old.room }
+        ensures rows { self.new.rows ≡ rows_after self.old.rows ops.items }
+        ensures room { self.old.room ≤ self.new.room + length ops.items }
+    {
+        let rows = self.entries.len().saturating_add(ops.len());
+        if ops.len() <= FEW || self.spare.capacity() < rows || self.sorting.capacity() < ops.len() {
+            self.apply_each(ops);
+        } else {
+            let alloc = *self.entries.allocator();
+            let ops = in_order(ops, replace(&mut self.sorting, Vec::new(alloc)));
+            let entries = replace(&mut self.entries, Vec::new(alloc));
+            let spare = replace(&mut self.spare, Vec::new(alloc));
+            let gap = merged(entries, spare, ops);
+            self.entries = gap.before;
+            self.spare = gap.behind;
         }
     }
 }

@@ -106,3 +106,160 @@ fn none_have_no_bytes(rt: HostRuntime) -> Result<(), Fail> {
     assert_eq!(rt; rows.size(), 0);
     Ok(())
 }
+
+fn has_rows(rows: &[(Bytes, Bytes)], keys: &[&[u8]]) -> bool {
+    rows.len() == keys.len()
+        && rows
+            .iter()
+            .zip(keys)
+            .all(|(row, key)| row.0.as_slice() == *key)
+}
+
+#[test]
+fn ranges_of_rows(rt: HostRuntime) -> Result<(), Fail> {
+    let alloc = rt.alloc();
+    let mut rows = RowTable::new(alloc);
+    assert!(rt; rows.range(b"", None).is_empty());
+    for key in [b"Ca".as_slice(), b"Oa", b"Oa\x00x", b"Ob", b"b"] {
+        applied(alloc, &mut rows, set(alloc, key, b"1")?)?;
+    }
+    assert!(rt; has_rows(rows.range(b"O", Some(b"P")), &[b"Oa", b"Oa\x00x", b"Ob"]));
+    assert!(rt; has_rows(rows.range(b"Oa", Some(b"Ob")), &[b"Oa", b"Oa\x00x"]));
+    assert!(rt; has_rows(rows.range(b"Ob", None), &[b"Ob", b"b"]));
+    assert!(rt; rows.range(b"P", Some(b"O")).is_empty());
+    assert!(rt; rows.range(b"Oc", Some(b"a")).is_empty());
+    assert!(rt; rows.range(b"", None).len() == 5);
+    Ok(())
+}
+
+#[derive(Clone, Copy)]
+enum Kind {
+    Set,
+    Drop,
+    Flip,
+}
+
+type Step<'a> = (Kind, &'a [u8], &'a [u8]);
+
+fn made(alloc: Global, step: &Step) -> Result<RowOp, AllocError> {
+    let key = Bytes::from_slice(alloc, step.1)?;
+    let value = Bytes::from_slice(alloc, step.2)?;
+    Ok(match step.0 {
+        Kind::Set => RowOp::Set { key, value },
+        Kind::Drop => RowOp::Drop { key },
+        Kind::Flip => RowOp::Flip { key, mask: value },
+    })
+}
+
+fn apply_steps(alloc: Global, rows: &mut RowTable, steps: &[Step]) -> Result<(), AllocError> {
+    let mut ops = Vec::new(alloc);
+    for step in steps {
+        ops.push(made(alloc, step)?)?;
+    }
+    rows.reserve(ops.len())?;
+    rows.apply(ops);
+    Ok(())
+}
+
+fn are_rows(rows: &RowTable, wanted: &[(&[u8], &[u8])]) -> bool {
+    let held = rows.range(b"", None);
+    held.len() == wanted.len()
+        && held.iter().zip(wanted).all(|(row, want)| row.0.as_slice() == want.0
+            && row.1.as_slice() == want.1)
+}
+
+const EARLIER: &[Step] = &[
+    (Kind::Set, b"f", b"\x0f"),
+    (Kind::Set, b"c", b"\x01\x02"),
+    (Kind::Set, b"x", b"old"),
+];
+
+// Out of order, with keys that come up to four times.
+const BATCH: &[Step] = &[
+    (Kind::Set, b"m", b"\x01"),
+    (Kind::Flip, b"c", b"\x01"),
+    (Kind::Set, b"a", b"first"),
+    (Kind::Drop, b"a", b""),
+    (Kind::Set, b"z", b"last"),
+    (Kind::Flip, b"f", b"\x0f"),
+    (Kind::Set, b"m", b"\x04"),
+    (Kind::Flip, b"q", b"\x05"),
+    (Kind::Flip, b"q", b"\x05"),
+    (Kind::Set, b"b", b""),
+    (Kind::Drop, b"y", b""),
+    (Kind::Set, b"a", b"second"),
+    (Kind::Flip, b"m", b"\x04\x80"),
+    (Kind::Set, b"k", b"1"),
+    (Kind::Set, b"k", b"2"),
+    (Kind::Set, b"k", b"3"),
+    (Kind::Drop, b"x", b""),
+    (Kind::Flip, b"r", b"\x00\x00"),
+    (Kind::Flip, b"s", b"\x07"),
+    (Kind::Drop, b"k", b""),
+    (Kind::Set, b"ab", b"between"),
+];
+
+const LATER: &[(&[u8], &[u8])] = &[
+    (b"a", b"second"),
+    (b"ab", b"between"),
+    (b"b", b""),
+    (b"c", b"\x00\x02"),
+    (b"m", b"\x00\x80"),
+    (b"s", b"\x07"),
+    (b"z", b"last"),
+];
+
+#[test]
+fn a_large_batch(rt: HostRuntime) -> Result<(), Fail> {
+    let alloc = rt.alloc();
+    let mut rows = RowTable::new(alloc);
+    apply_steps(alloc, &mut rows, EARLIER)?;
+    apply_steps(alloc, &mut rows, BATCH)?;
+    assert!(rt; are_rows(&rows, LATER));
+    Ok(())
+}
+
+#[test]
+fn one_by_one(rt: HostRuntime) -> Result<(), Fail> {
+    let alloc = rt.alloc();
+    let mut rows = RowTable::new(alloc);
+    apply_steps(alloc, &mut rows, EARLIER)?;
+    for step in BATCH {
+        apply_steps(alloc, &mut rows, &[*step])?;
+    }
+    assert!(rt; are_rows(&rows, LATER));
+    Ok(())
+}
+
+// The keys are two bytes, most significant first, so that each byte string is its number.
+fn apply_to_each(
+    alloc: Global,
+    rows: &mut RowTable,
+    kind: Kind,
+    keys: &[u16],
+) -> Result<(), AllocError> {
+    let mut ops = Vec::new(alloc);
+    for key in keys {
+        ops.push(made(alloc, &(kind, &key.to_be_bytes(), b"v"))?)?;
+    }
+    rows.reserve(ops.len())?;
+    rows.apply(ops);
+    Ok(())
+}
+
+#[test]
+fn batches_of_hundreds(rt: HostRuntime) -> Result<(), Fail> {
+    let alloc = rt.alloc();
+    let mut rows = RowTable::new(alloc);
+    let all: Vec<u16> = (0..600).collect(alloc)?;
+    let falling: Vec<u16> = (0..600).rev().filter(|n| n % 3 == 0).collect(alloc)?;
+    apply_to_each(alloc, &mut rows, Kind::Set, &all)?;
+    assert_eq!(rt; rows.range(b"", None).len(), 600);
+    apply_to_each(alloc, &mut rows, Kind::Drop, &falling)?;
+    assert_eq!(rt; rows.range(b"", None).len(), 400);
+    assert!(rt; rows.get(b"\x01\x02").is_none() && has(&rows, b"\x01\x03", b"v"));
+    assert_eq!(rt; rows.range(b"\x01", Some(b"\x02")).len(), 171);
+    apply_to_each(alloc, &mut rows, Kind::Flip, &all)?;
+    assert_eq!(rt; rows.range(b"", None).len(), 200);
+    Ok(())
+}

@@ -7,11 +7,11 @@ use byte_maps::Bytes;
 use std::alloc::{AllocError, Global};
 use unit_fields::{push_u16_le, push_u32_le};
 
-const SET: u8 = 1;
+pub(crate) const SET: u8 = 1;
 
-const DROP: u8 = 2;
+pub(crate) const DROP: u8 = 2;
 
-const FLIP: u8 = 3;
+pub(crate) const FLIP: u8 = 3;
 
 fn push_key(out: &mut Vec<u8>, key: &Bytes) -> Result<(), AllocError>
     requires { IsKey key.now }

@@ -1,5 +1,5 @@
 use Rattle.meta_rows.proofs.XorLemmas.{xor_bytes-take_more}
-use Rattle.meta_rows.proofs.row_table.xored_into.Goals as goal
+use Rattle.meta_rows.proofs.row_change.xored_into.Goals as goal
 
 pub loop-i-preserved : goal.loop-i-preserved
 loop-i-preserved c =

@@ -1,7 +1,7 @@
 use Rattle.std.proofs.Common.{◌≡◌, ◌+◌, ◌≤◌, length}
 use Rattle.std.specs.Vec.Iter.{into_iter_items, into_iter_len}
 use Rattle.meta_rows.specs.Rows.{rows_after}
-use Rattle.meta_rows.proofs.row_table.RowTable.apply.Given as goal
+use Rattle.meta_rows.proofs.row_table.RowTable.apply_each.Given as goal
 
 abbrev pub invariant-loop-op : goal.invariant-loop-op
 invariant-loop-op l = record {

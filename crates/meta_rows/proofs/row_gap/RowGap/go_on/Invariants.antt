@@ -1,0 +1,13 @@
+use Rattle.std.specs.Vec.{vec_len}
+use Rattle.meta_rows.specs.Gap.{IsMoved}
+use Rattle.meta_rows.specs.Table.{AllBelow}
+use Rattle.meta_rows.proofs.row_gap.RowGap.go_on.Given as goal
+
+abbrev pub invariant-loop-self : goal.invariant-loop-self
+invariant-loop-self l = record {
+  moved : IsMoved l.initial.self l.self;
+  before : AllBelow l.key l.self.before.items;
+}
+
+abbrev pub decreases-loop-self : goal.decreases-loop-self
+decreases-loop-self l = vec_len l.self.behind

@@ -3,3 +3,5 @@ pub mod SlotReading
 pub mod RecordLemmas
 pub mod PieceLemmas
 pub mod SealLemmas
+pub mod PartLemmas
+pub mod ScanLemmas

@@ -14,7 +14,7 @@ use Rattle.meta_log.proofs.SlotLemmas.{HasWidths, widths, same_front_of, length-
 
 -- ---- zeros
 
-zeros_of_all : (n : ℕ) (xs : List ℕ) → length xs ≡ n → All (λ b. b ≡ 0) xs → xs ≡ zeros n
+pub zeros_of_all : (n : ℕ) (xs : List ℕ) → length xs ≡ n → All (λ b. b ≡ 0) xs → xs ≡ zeros n
 unfolding zeros
 zeros_of_all n xs size all = ext_get_or 0 xs (replicate n 0) (size ∙ sym (length-replicate n 0)) (λ i lt. All-get_or (λ b. b ≡ 0) xs i 0 lt all ∙ sym (get_or-replicate n i 0 0 (omega (arith, lt, size))))
 

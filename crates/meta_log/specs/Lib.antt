@@ -2,3 +2,4 @@ pub mod Slots
 pub mod Records
 pub mod Pieces
 pub mod Sealed
+pub mod Scanning

@@ -1,12 +1,15 @@
 //! What the definitions of slots and records come to.
 
 ghost use Rattle.std.specs.Prelude.{◌≡◌, ℕ, ◌-◌, ◌<◌, ◌≤◌, List, [], ◌∷◌, ◌++◌};
+ghost use Rattle.std.specs.FinMap as map;
 ghost use Rattle.meta_rows.specs.Rows.{Rows, rows_after, rows_of_records};
 ghost use Rattle.meta_rows.specs.declared.row_op.RowOp.{RowOp};
 ghost use Rattle.meta_log.specs.Slots.{IsValidSlot, IsActiveSlot};
-ghost use Rattle.meta_log.specs.Records.{AreRecords, unit_count};
+ghost use Rattle.meta_log.specs.Records.{AreRecords, AreRowsOf, active_half, unit_count};
 ghost use Rattle.meta_log.specs.Pieces.{piece_count, given_from, piece_first, LiesInRecord, IsInPiece};
 ghost use Rattle.meta_log.specs.Sealed.{IsSealable};
+ghost use Rattle.meta_log.specs.Scanning.{IsLogOf};
+ghost use Rattle.meta_log.specs.declared.scanning.FoundLog.{FoundLog};
 ghost use Rattle.meta_log.specs.declared.slot.Super.{Super};
 
 /// A slot of an image says at most one thing.
@@ -28,6 +31,12 @@ pub fn one_list_of_records()
 pub fn one_more_record()
     ensures { (rows : Rows) (records : List (List RowOp)) (ops : List RowOp) →
         rows_of_records rows (records ++ ops ∷ []) ≡ rows_after (rows_of_records rows records) ops }
+{}
+
+/// The records that were found in the active half of an image make its rows.
+pub fn found_records_make_the_rows()
+    ensures { (image : List ℕ) (s : Super) (found : FoundLog) → IsLogOf (active_half image s) s.first found →
+        AreRowsOf image s (rows_of_records map.empty found.records) }
 {}
 
 /// A record takes a unit at least, and no more than its body of fewer than 2^32 bytes asks for.

@@ -4,17 +4,22 @@
 #![tactic(auto)]
 
 mod laws;
+mod scanning;
 mod sealed;
 mod slot;
 
 pub use laws::{
-    each_unit_in_one_piece, last_piece_has_the_head, one_active_slot, one_list_of_records,
-    one_more_record, one_super_in_a_slot, pieces_lie_in_a_row, units_of_a_record,
+    each_unit_in_one_piece, found_records_make_the_rows, last_piece_has_the_head, one_active_slot,
+    one_list_of_records, one_more_record, one_super_in_a_slot, pieces_lie_in_a_row,
+    units_of_a_record,
 };
+pub use scanning::{FoundLog, FoundRecord, read_record, scan};
 pub use sealed::SealedRecord;
 pub use slot::Super;
 
 #[cfg(test)]
 mod record_tests;
+#[cfg(test)]
+mod scan_tests;
 #[cfg(test)]
 mod tests;

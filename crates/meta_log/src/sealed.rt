@@ -14,10 +14,10 @@ use std::marker::Model;
 use unit_fields::limits::{PIECE_UNITS, UNIT_BYTES};
 use unit_fields::{push_u32_le, push_u64_le};
 
-const MAGIC: [u8; 4] = *b"BREC";
+pub(crate) const MAGIC: [u8; 4] = *b"BREC";
 
 // The bytes of a record before its body.
-const HEAD_BYTES: usize = 24;
+pub(crate) const HEAD_BYTES: usize = 24;
 
 /// A record of the log, ready to be written: its number, its operations and its bytes. It is seen as the number and the operations.
 ///
@@ -40,7 +40,7 @@ impl Model for SealedRecord {
 }
 
 // How many units hold so many bytes.
-fn units_of(bytes: usize) -> usize
+pub(crate) fn units_of(bytes: usize) -> usize
     requires { bytes < 2 ^ 33 }
     ensures { result ≡ units_for bytes }
 {
@@ -62,7 +62,7 @@ fn head(alloc: Global, number: u64, ops: &[RowOp], body: &[u8]) -> Result<Vec<u8
 }
 
 // The checksum of two parts, one behind the other.
-fn sum_of(head: &[u8], body: &[u8]) -> u32
+pub(crate) fn sum_of(head: &[u8], body: &[u8]) -> u32
     ensures { result ≡ crc32c (head.now ++ body.now) }
 {
     let mut digest = Digest::new();

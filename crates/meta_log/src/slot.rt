@@ -17,7 +17,7 @@ const VERSION: u32 = 1;
 const SUM_AT: usize = 4092;
 
 // The epoch and the number of the first record are below it.
-const NUMBER_LIMIT: u64 = 1 << 62;
+pub(crate) const NUMBER_LIMIT: u64 = 1 << 62;
 
 /// The fields of a superblock slot. Slot 0 is unit 0 of the device, slot 1 is unit 1; a super of epoch e is written to slot
 /// e modulo 2, and its records are in half e modulo 2.
@@ -87,7 +87,7 @@ fn read_front(fields: &mut Fields) -> Option<Super>
     read_numbers(fields)
 }
 
-fn is_zero(bytes: &[u8]) -> bool
+pub(crate) fn is_zero(bytes: &[u8]) -> bool
     ensures { IsTrue result ↔ All (λ byte. byte ≡ 0) bytes.now }
 {
     bytes.iter().all(|byte| *byte == 0)

@@ -1,245 +1,355 @@
--- The forms of a line.
-use Rattle.std.proofs.Common.{◌≡◌, ◌≢◌, ◌⊎◌, inl, inr, ℕ, ◌<◌, ◌≤◌, false, List, [], ◌∷◌, ◌++◌, get_or}
-use Rattle.std.proofs.Common.{Option, Some, None, MatchOption, Result, Ok, Err, refl, sym, ap, subst, ◌∙◌, arith}
-use Rattle.std.specs.Prelude.{codes, IfOk}
-use Rattle.std.specs.Char.{digit_value}
-use Rattle.std.specs.Fmt.{decimal, digits}
-use Rattle.std.specs.Str.Parse.{AllDigits}
+-- What the words of a line say.
+use Rattle.std.proofs.Common.{◌≡◌, ◌≢◌, ℕ, ◌≤◌, false, List, [], ◌∷◌, ◌++◌, length, Option, Some, None, Result, Ok, Err}
+use Rattle.std.proofs.Common.{refl, sym, ap, subst, ◌∙◌, arith}
+use Rattle.std.specs.Prelude.{codes, IfOk, decimal}
+use Rattle.std.specs.Fmt.{digits}
 use Rattle.std.proofs.lemmas.Fmt.{digits_is_IsNumeral, decimal_is_IsNumeral}
-use Rattle.std.proofs.lemmas.List.{get_or-replicate}
-use Rattle.unit_fields.specs.Names.{IsCollName, IsName, head_bytes}
+use Rattle.unit_fields.specs.Names.{IsCollName, head_bytes}
+use Rattle.object_model.specs.Effect.{Change}
 use Rattle.object_model.specs.declared.op.Op.{Op}
 use Rattle.object_model.specs.declared.op.Op.TheVariants.{MkColl, Write}
 use Rattle.object_model.specs.declared.command.Command.TheVariants as command
-use Rattle.script_text.specs.Grammar.{HasNo, AreBytes, escaped, filled, fill_word, in_words, change_words, FitsOps, op_line, WriteRest, IsLineOf, IsPassedOver}
+use Rattle.script_text.specs.Grammar.{HasNo, AreWords, in_words, IsNameWord, IsNumber, IsDataWord, op_word, AreWriteArgs, AreArgs, AreChangeWords}
+use Rattle.script_text.specs.Grammar.{AreWordsOf, HasSinglePage, Fits, IsLineOf, op_line, IsPassedOver}
+use Rattle.script_text.specs.Reading.{Reads, ReadsWords}
 use Rattle.script_text.specs.declared.line.What.{What}
 use Rattle.script_text.specs.declared.line.What.TheVariants.{Command, Wait}
-use Rattle.script_text.proofs.Splits.{parts, no_part, has_no-append}
-use Rattle.script_text.proofs.Spelled.{escaped_no_space, escaped_same}
-use Rattle.script_text.proofs.Words.{write_same, fill_same}
-
-no_space_digits : (radix : ℕ) → radix ≤ 36 → (ds : List ℕ) → AllDigits radix ds → HasNo 0x20 ds
-no_space_digits radix most [] all = tt
-no_space_digits radix most (d ∷ ds) all = ((λ is. absurd (omega (arith, all.0, ap digit_value is))), no_space_digits radix most ds all.1)
-
-apart : (a b : ℕ) → b < a → a ≢ b
-apart a b lt is = absurd (omega arith)
-
-head_no_space : HasNo 0x20 head_bytes
-head_no_space = (apart _ _ (omega arith), (apart _ _ (omega arith), (apart _ _ (omega arith), (apart _ _ (omega arith), (apart _ _ (omega arith), tt)))))
-
-pub coll_no_space : (name : List ℕ) → IsCollName name → HasNo 0x20 name
-coll_no_space name is =
-    let pool = no_space_digits 10 (omega arith) (decimal is.pool) (decimal_is_IsNumeral is.pool is.pool_fits).0.1 in
-    let seed = no_space_digits 16 (omega arith) (digits 16 false is.seed)
-    (digits_is_IsNumeral 16 false (omega arith) (omega arith) is.seed (let fits = is.seed_fits in omega arith)).0.1 in
-    let back = has_no-append 0x20 (digits 16 false is.seed) head_bytes seed head_no_space in
-    subst (λ (l : List ℕ). HasNo 0x20 l) (sym is.spelled) (has_no-append 0x20 (decimal is.pool) (0x2e ∷ (digits 16 false is.seed ++ head_bytes)) pool
-    (apart _ _ (omega arith), back))
-
-pub record IsWait (text : List ℕ) (what : What) : Type 0 where
-  pub spelled : text ≡ codes "wait"
-  pub says : what ≡ Wait
-
-pub record IsMkcoll (text : List ℕ) (what : What) : Type 0 where
-  pub coll : List ℕ
-  pub is_coll : IsCollName coll
-  pub spelled : text ≡ codes "mkcoll" ++ (0x20 ∷ coll)
-  pub says : what ≡ op_line coll MkColl
-
-pub record IsWrite (text : List ℕ) (what : What) : Type 0 where
-  pub coll : List ℕ
-  pub object : List ℕ
-  pub byte : ℕ
-  pub is_coll : IsCollName coll
-  pub is_name : IsName object
-  pub are_bytes : AreBytes object
-  pub fits : byte < 256
-  pub spelled : text ≡ codes "write" ++ (0x20 ∷ in_words (coll ∷ escaped object ∷ codes "0" ∷ fill_word byte ∷ []))
-  pub says : what ≡ op_line coll (Write object 0 (filled byte))
-
-abbrev pub Forms : List ℕ → What → Type 0
-Forms text what = IsWait text what ⊎ (IsMkcoll text what ⊎ IsWrite text what)
-
-pub filled-first : (b : ℕ) → get_or (filled b) 0 0 ≡ b
-unfolding filled
-filled-first b = get_or-replicate 4096 0 b 0 (omega arith)
-
-write_form : (text coll object : List ℕ) (off b : ℕ) (bytes : List ℕ) → text ≡ in_words (change_words coll (Write object off bytes ∷ [])) → IsCollName coll
-    → FitsOps (Write object off bytes ∷ []) → IsWrite text (op_line coll (Write object off bytes))
-write_form text coll object off b bytes is named fits =
-    let byte = fits.3.0 in
-    let first : get_or bytes 0 0 ≡ byte = ap (λ (l : List ℕ). get_or l 0 0) fits.3.2 ∙ filled-first byte in
-    record {
-      coll = coll;
-      object = object;
-      byte = byte;
-      is_coll = named;
-      is_name = fits.0;
-      are_bytes = fits.1;
-      fits = fits.3.1;
-      spelled = is ∙ ap (λ (b : ℕ). codes "write" ++ (0x20 ∷ in_words (coll ∷ escaped object ∷ codes "0" ∷ fill_word b ∷ []))) first;
-      says = ap (λ (o : ℕ). op_line coll (Write object o bytes)) fits.2 ∙ ap (λ (l : List ℕ). op_line coll (Write object 0 l)) fits.3.2;
-    }
-
-by_ops : (text coll : List ℕ) (ops : List Op) → text ≡ in_words (change_words coll ops) → IsCollName coll → FitsOps ops
-    → Forms text (Command (command.Change (record { coll = coll; ops = ops })))
-by_ops text coll (MkColl ∷ []) is named fits = inr (inl (record { coll = coll; is_coll = named; spelled = is; says = refl }))
-by_ops text coll (Write object off bytes ∷ []) is named fits = inr (inr (write_form text coll object off 0 bytes is named fits))
-by_ops text coll ops is named fits = absurd fits
-
-pub forms : (text : List ℕ) (what : What) → IsLineOf text what → Forms text what
-forms text (Command (command.Change change)) line = by_ops text change.coll change.ops line.0 line.1.0 line.1.1
-forms text Wait line = inl (record { spelled = line.0; says = refl })
-forms text what line = absurd line.1
-
-wait_no_space : HasNo 0x20 (codes "wait")
-wait_no_space = (apart _ _ (omega arith), (apart _ _ (omega arith), (apart _ _ (omega arith), (apart _ _ (omega arith), tt))))
-
-mkcoll_no_space : HasNo 0x20 (codes "mkcoll")
-mkcoll_no_space = (
-  apart _ _ (omega arith),
-  (
-    apart _ _ (omega arith),
-    (apart _ _ (omega arith), (apart _ _ (omega arith), (apart _ _ (omega arith), (apart _ _ (omega arith), tt)))),
-  ),
-)
-
-write_no_space : HasNo 0x20 (codes "write")
-write_no_space = (apart _ _ (omega arith), (apart _ _ (omega arith), (apart _ _ (omega arith), (apart _ _ (omega arith), (apart _ _ (omega arith), tt)))))
-
--- a line of one word is `wait`
-pub one_word : (text : List ℕ) (what : What) → HasNo 0x20 text → IsLineOf text what → text ≡ codes "wait"
-one_word text what none line = elim (forms text what line) [
-  | inl wait ↦ wait.spelled
-  | inr other ↦ elim other [
-    | inl mkcoll ↦ absurd (no_part 0x20 text (codes "mkcoll") mkcoll.coll none mkcoll.spelled)
-    | inr write ↦ absurd (no_part 0x20 text (codes "write") (in_words (write.coll ∷ escaped write.object ∷ codes "0" ∷ fill_word write.byte ∷ [])) none
-        write.spelled)
-  ]
-]
-
--- a line of several words
-pub more_words : (word rest : List ℕ) (what : What) → HasNo 0x20 word → IsLineOf (word ++ (0x20 ∷ rest)) what
-    → ((word ≡ codes "mkcoll") × IsCollName rest) ⊎ ((word ≡ codes "write") × WriteRest rest)
-more_words word rest what none line = elim (forms (word ++ (0x20 ∷ rest)) what line) [
-  | inl wait ↦ absurd (no_part 0x20 (codes "wait") word rest wait_no_space (sym wait.spelled))
-  | inr other ↦ elim other [
-    | inl mkcoll ↦
-        let same = parts 0x20 word (codes "mkcoll") rest mkcoll.coll none mkcoll_no_space mkcoll.spelled in
-        inl (same.0, subst IsCollName (sym same.1) mkcoll.is_coll)
-    | inr write ↦
-        let same = parts 0x20 word (codes "write") rest (in_words (write.coll ∷ escaped write.object ∷ codes "0" ∷ fill_word write.byte ∷ [])) none
-        write_no_space write.spelled in
-        inr (
-          same.0,
-          record {
-            coll = write.coll;
-            object = write.object;
-            byte = write.byte;
-            is_coll = write.is_coll;
-            is_name = write.is_name;
-            are_bytes = write.are_bytes;
-            fits = write.fits;
-            spelled = same.1;
-          },
-        )
-  ]
-]
+use Rattle.script_text.proofs.Splits.{parts, no_part, has_no-append, has_none, differ}
+use Rattle.script_text.proofs.Numbers.{no_space_digits, number_no_space, same_number}
+use Rattle.script_text.proofs.Names.{name_no_space, same_name}
+use Rattle.script_text.proofs.DataWords.{data_no_space, same_data}
+use Rattle.script_text.proofs.Words.{same_words}
 
 -- what is known of a result that is Ok
 pub if_ok : {X E : Type 0} (P Q : X → Type 0) (r : Result X E) → ((x : X) → P x → Q x) → IfOk r P → IfOk r Q
 if_ok P Q (Ok x) more p = more x p
 if_ok P Q (Err e) more p = p
 
-pub option_more : {X : Type 0} (A B : Type 0) (P Q : X → Type 0) (o : Option X) → (A → B) → ((x : X) → P x → Q x) → MatchOption o A P → MatchOption o B Q
-option_more A B P Q None none some p = none p
-option_more A B P Q (Some x) none some p = some x p
+pub coll_no_space : (name : List ℕ) → IsCollName name → HasNo 0x20 name
+coll_no_space name is =
+    let pool = no_space_digits 10 (omega arith) (decimal is.pool) (decimal_is_IsNumeral is.pool is.pool_fits).0.1 in
+    let seed = no_space_digits 16 (omega arith) (digits 16 false is.seed)
+    (digits_is_IsNumeral 16 false (omega arith) (omega arith) is.seed (let fits = is.seed_fits in omega arith)).0.1 in
+    let back = has_no-append 0x20 (digits 16 false is.seed) head_bytes seed (has_none 0x20 head_bytes refl) in
+    subst (λ (l : List ℕ). HasNo 0x20 l) (sym is.spelled) (has_no-append 0x20 (decimal is.pool) (0x2e ∷ (digits 16 false is.seed ++ head_bytes)) pool
+    ((λ same. absurd (omega (arith, same))), back))
 
--- behind `mkcoll`, and behind `write`
-pub mkcoll_words : (word rest : List ℕ) (o : Option What) → HasNo 0x20 word → word ≡ codes "mkcoll"
-    → MatchOption o (¬ (IsCollName rest)) (IsLineOf (codes "mkcoll" ++ (0x20 ∷ rest)))
-    → MatchOption o ((what : What) → ¬ (IsLineOf (word ++ (0x20 ∷ rest)) what)) (IsLineOf (word ++ (0x20 ∷ rest)))
-mkcoll_words word rest None none is found = λ what line. elim (more_words word rest what none line)
-    [ inl mkcoll ↦ found mkcoll.1 | inr write ↦ let e = sym is ∙ write.0 in absurd (cc) ]
-mkcoll_words word rest (Some what) none is found = subst (λ (l : List ℕ). IsLineOf (l ++ (0x20 ∷ rest)) what) (sym is) found
+-- ---- each line begins with a word, which begins with a letter
 
-pub write_words : (word rest : List ℕ) (o : Option What) → HasNo 0x20 word → word ≡ codes "write"
-    → MatchOption o (¬ (WriteRest rest)) (IsLineOf (codes "write" ++ (0x20 ∷ rest)))
-    → MatchOption o ((what : What) → ¬ (IsLineOf (word ++ (0x20 ∷ rest)) what)) (IsLineOf (word ++ (0x20 ∷ rest)))
-write_words word rest None none is found = λ what line. elim (more_words word rest what none line)
-    [ inl mkcoll ↦ let e = sym is ∙ mkcoll.0 in absurd (cc) | inr write ↦ found write.1 ]
-write_words word rest (Some what) none is found = subst (λ (l : List ℕ). IsLineOf (l ++ (0x20 ∷ rest)) what) (sym is) found
+pub record IsWorded (words : List (List ℕ)) : Type 0 where
+  pub first : ℕ
+  pub word : List ℕ
+  pub behind : List (List ℕ)
+  pub letter : 0x61 ≤ first
+  pub whole : words ≡ (first ∷ word) ∷ behind
+  pub no_spaces : AreWords ((first ∷ word) ∷ behind)
 
--- the write that these words spell
-pub write_line : (rest coll object word : List ℕ) (b : ℕ) (what : What) → rest ≡ in_words (coll ∷ word ∷ codes "0" ∷ fill_word b ∷ []) → IsCollName coll
-    → IsName object → AreBytes object → b < 256
-    → word ≡ escaped object → what ≡ op_line coll (Write object 0 (filled b)) → IsLineOf (codes "write" ++ (0x20 ∷ rest)) what
-write_line rest coll object word b what is named name bytes fits spelled says =
-    let whole : rest ≡ in_words (coll ∷ escaped object ∷ codes "0" ∷ fill_word b ∷ []) = is
-    ∙ ap (λ (l : List ℕ). in_words (coll ∷ l ∷ codes "0" ∷ fill_word b ∷ [])) spelled in
-    let first : in_words (coll ∷ escaped object ∷ codes "0" ∷ fill_word b ∷ []) ≡ in_words
-    (coll ∷ escaped object ∷ codes "0" ∷ fill_word (get_or (filled b) 0 0) ∷ [])
-    = ap (λ (n : ℕ). in_words (coll ∷ escaped object ∷ codes "0" ∷ fill_word n ∷ [])) (sym (filled-first b)) in
-    subst (λ (w : What). IsLineOf (codes "write" ++ (0x20 ∷ rest)) w) (sym says)
-    (ap (λ (l : List ℕ). codes "write" ++ (0x20 ∷ l)) (whole ∙ first), (named, (name, bytes, refl, (b, fits, refl))))
+write_args_words : (args : List (List ℕ)) (object : List ℕ) (off : ℕ) (bytes : List ℕ) → AreWriteArgs args object off bytes → AreWords args
+write_args_words args object off bytes is = subst AreWords (sym is.words) (
+  name_no_space is.object_word object is.names,
+  (number_no_space is.off_word off is.offset, (data_no_space is.data_word bytes is.holds, tt)),
+)
+
+op_worded : (op : Op) (coll : List ℕ) (args : List (List ℕ)) → HasNo 0x20 coll → AreArgs args op → IsWorded (op_word op ∷ coll ∷ args)
+op_worded MkColl coll args none is = record {
+  first = 0x6d;
+  word = codes "kcoll";
+  behind = coll ∷ args;
+  letter = omega arith;
+  whole = refl;
+  no_spaces = (has_none 0x20 (codes "mkcoll") refl, (none, subst AreWords (sym is) tt));
+}
+op_worded (Write object off bytes) coll args none is = record {
+  first = 0x77;
+  word = codes "rite";
+  behind = coll ∷ args;
+  letter = omega arith;
+  whole = refl;
+  no_spaces = (has_none 0x20 (codes "write") refl, (none, write_args_words args object off bytes is));
+}
+op_worded op coll args none is = absurd is
+
+worded : (words : List (List ℕ)) (what : What) → AreWordsOf words what → IsWorded words
+worded words (Command (command.Change change)) say =
+    subst IsWorded (sym say.whole) (op_worded say.op change.coll say.args (coll_no_space change.coll say.named) say.about)
+worded words Wait say = record {
+  first = 0x77;
+  word = codes "ait";
+  behind = [];
+  letter = omega arith;
+  whole = say;
+  no_spaces = (has_none 0x20 (codes "wait") refl, tt);
+}
+worded words what say = absurd say
+
+-- the words of a line are the only ones
+pub line_words : (w : List ℕ) (ws : List (List ℕ)) (text : List ℕ) (what : What) → AreWords (w ∷ ws) → text ≡ in_words (w ∷ ws) → IsLineOf text what
+    → AreWordsOf (w ∷ ws) what
+line_words w ws text what are is line =
+    let of = worded line.words what line.say in
+    let same = same_words (of.first ∷ of.word) w of.behind ws of.no_spaces are (ap in_words (sym of.whole) ∙ sym line.whole ∙ is) in
+    subst (λ (l : List (List ℕ)). AreWordsOf l what) (of.whole ∙ same) line.say
+
+-- the words of a line that is cut behind its first one
+pub record IsBehind (word rest : List ℕ) (what : What) : Type 0 where
+  pub next : List ℕ
+  pub words : List (List ℕ)
+  pub whole : rest ≡ in_words (next ∷ words)
+  pub no_spaces : AreWords (next ∷ words)
+  pub say : AreWordsOf (word ∷ next ∷ words) what
+
+behind_of : (word rest v : List ℕ) (vs : List (List ℕ)) (what : What) → HasNo 0x20 word → AreWords (v ∷ vs) → word ++ (0x20 ∷ rest) ≡ in_words (v ∷ vs)
+    → AreWordsOf (v ∷ vs) what → IsBehind word rest what
+behind_of word rest v [] what none are is say = absurd (no_part 0x20 v word rest are.0 (sym is))
+behind_of word rest v (n ∷ vs) what none are is say =
+    let both = parts 0x20 word v rest (in_words (n ∷ vs)) none are.0 is in
+    record {
+      next = n;
+      words = vs;
+      whole = both.1;
+      no_spaces = are.1;
+      say = subst (λ (l : List ℕ). AreWordsOf (l ∷ n ∷ vs) what) (sym both.0) say;
+    }
+
+pub behind_first : (word rest : List ℕ) (what : What) → HasNo 0x20 word → IsLineOf (word ++ (0x20 ∷ rest)) what → IsBehind word rest what
+behind_first word rest what none line =
+    let of = worded line.words what line.say in
+    behind_of word rest (of.first ∷ of.word) of.behind what none of.no_spaces (line.whole ∙ ap in_words of.whole)
+    (subst (λ (l : List (List ℕ)). AreWordsOf l what) of.whole line.say)
 
 -- a passed over line says nothing
+starts : (b : ℕ) (bs : List ℕ) (ws : List (List ℕ)) → (tail : List ℕ) × (in_words ((b ∷ bs) ∷ ws) ≡ b ∷ tail)
+starts b bs [] = (bs, refl)
+starts b bs (w ∷ ws) = (bs ++ (0x20 ∷ in_words (w ∷ ws)), refl)
+
 pub passed_or_line : (text : List ℕ) (what : What) → IsPassedOver text → IsLineOf text what → ⊥
-passed_or_line [] what passed line = elim (forms [] what line) [
-  | inl wait ↦ let e = wait.spelled in cc
-  | inr other ↦ elim other [ inl mkcoll ↦ (let e = mkcoll.spelled in cc) | inr write ↦ (let e = write.spelled in cc) ]
-]
-passed_or_line (b ∷ bs) what passed line = elim (forms (b ∷ bs) what line) [
-  | inl wait ↦ let head : b ≡ 0x77 = (let e = wait.spelled in cc) in absurd (omega (arith, passed, head))
-  | inr other ↦ elim other [
-    | inl mkcoll ↦ let head : b ≡ 0x6d = (let e = mkcoll.spelled in cc) in absurd (omega (arith, passed, head))
-    | inr write ↦ let head : b ≡ 0x77 = (let e = write.spelled in cc) in absurd (omega (arith, passed, head))
-  ]
-]
+passed_or_line text what passed line =
+    let of = worded line.words what line.say in
+    let begin = starts of.first of.word of.behind in
+    by text of.first begin.0 of.letter (line.whole ∙ ap in_words of.whole ∙ begin.1) passed
+  where
+    by : (text : List ℕ) (b : ℕ) (tail : List ℕ) → 0x61 ≤ b → text ≡ b ∷ tail → IsPassedOver text → ⊥
+    by [] b tail letter is passed = cc
+    by (c ∷ cs) b tail letter is passed = let head : c ≡ b = cc in absurd (omega (arith, head, letter, passed))
 
-mkcoll_same : (text : List ℕ) (a b : What) → IsMkcoll text a → IsMkcoll text b → a ≡ b
-mkcoll_same text a b x y =
-    let colls : x.coll ≡ y.coll = (let e = sym x.spelled ∙ y.spelled in cc) in
-    x.says ∙ ap (λ (c : List ℕ). op_line c MkColl) colls ∙ sym y.says
+-- ---- a line says one thing
 
-write_same_what : (text : List ℕ) (a b : What) → IsWrite text a → IsWrite text b → a ≡ b
-write_same_what text a b x y =
-    let rest = in_words (x.coll ∷ escaped x.object ∷ codes "0" ∷ fill_word x.byte ∷ []) in
-    let rests : rest ≡ in_words (y.coll ∷ escaped y.object ∷ codes "0" ∷ fill_word y.byte ∷ []) = (let e = sym x.spelled ∙ y.spelled in cc) in
-    let same = write_same rest x.coll (escaped x.object) y.coll (escaped y.object) x.byte y.byte (coll_no_space x.coll x.is_coll) (escaped_no_space x.object)
-    (coll_no_space y.coll y.is_coll) (escaped_no_space y.object) refl rests in
-    let bytes = fill_same x.byte y.byte same.2 in
-    let objects = escaped_same x.object y.object same.1 in
-    x.says ∙ ap (λ (c : List ℕ). op_line c (Write x.object 0 (filled x.byte))) same.0 ∙ ap (λ (o : List ℕ). op_line y.coll (Write o 0 (filled x.byte))) objects
-    ∙ ap (λ (n : ℕ). op_line y.coll (Write y.object 0 (filled n))) bytes ∙ sym y.says
+write_args_same : (args : List (List ℕ)) (o p : List ℕ) (n m : ℕ) (b c : List ℕ) → AreWriteArgs args o n b → AreWriteArgs args p m c
+    → Write o n b ≡ Write p m c
+write_args_same args o p n m b c x y =
+    let words : x.object_word ∷ x.off_word ∷ x.data_word ∷ [] ≡ y.object_word ∷ y.off_word ∷ y.data_word ∷ [] = sym x.words ∙ y.words in
+    let object_words : y.object_word ≡ x.object_word = cc in
+    let off_words : y.off_word ≡ x.off_word = cc in
+    let data_words : y.data_word ≡ x.data_word = cc in
+    let objects : o ≡ p = same_name x.object_word o p x.names (subst (λ (l : List ℕ). IsNameWord l p) object_words y.names) in
+    let offs : n ≡ m = same_number x.off_word n m x.offset (subst (λ (l : List ℕ). IsNumber l m) off_words y.offset) in
+    let datas : b ≡ c = same_data x.data_word b c x.holds (subst (λ (l : List ℕ). IsDataWord l c) data_words y.holds) in
+    cc
 
-mkcoll_not_write : (x y : List ℕ) → codes "mkcoll" ++ (0x20 ∷ x) ≡ codes "write" ++ (0x20 ∷ y) → ⊥
-mkcoll_not_write x y is = let head : 0x6d ≡ 0x77 = ap (λ (l : List ℕ). get_or l 0 0) is in absurd (omega (arith, head))
+op_same : (args : List (List ℕ)) (a b : Op) → op_word a ≡ op_word b → AreArgs args a → AreArgs args b → a ≡ b
+op_same args MkColl MkColl word x y = refl
+op_same args MkColl (Write p m c) word x y = absurd (differ (codes "mkcoll") (codes "write") refl word)
+op_same args (Write o n b) MkColl word x y = absurd (differ (codes "write") (codes "mkcoll") refl word)
+op_same args (Write o n b) (Write p m c) word x y = write_args_same args o p n m b c x y
+op_same args MkColl b word x y = absurd y
+op_same args (Write o n bytes) b word x y = absurd y
+op_same args a b word x y = absurd x
 
--- a line says one thing
+change_is : (a b : Change) → a.coll ≡ b.coll → a.ops ≡ b.ops → a ≡ b
+change_is a b colls lists =
+    let first : a ≡ record { coll = b.coll; ops = a.ops } = ap (λ (l : List ℕ). record { coll = l; ops = a.ops }) colls in
+    let second : ◌≡◌ {A = Change} (record { coll = b.coll; ops = a.ops }) b = ap (λ (l : List Op). record { coll = b.coll; ops = l }) lists in
+    first ∙ second
+
+change_same : (words : List (List ℕ)) (a b : Change) → AreChangeWords words a → AreChangeWords words b → a ≡ b
+change_same words a b x y =
+    let both : op_word x.op ∷ a.coll ∷ x.args ≡ op_word y.op ∷ b.coll ∷ y.args = sym x.whole ∙ y.whole in
+    let word : op_word x.op ≡ op_word y.op = cc in
+    let args : y.args ≡ x.args = cc in
+    let colls : a.coll ≡ b.coll = cc in
+    let ops : x.op ≡ y.op = op_same x.args x.op y.op word x.about (subst (λ (l : List (List ℕ)). AreArgs l y.op) args y.about) in
+    change_is a b colls (x.alone ∙ ap (λ (o : Op). o ∷ []) ops ∙ sym y.alone)
+
+words_say_one : (words : List (List ℕ)) (a b : What) → AreWordsOf words a → AreWordsOf words b → a ≡ b
+words_say_one words (Command (command.Change c)) (Command (command.Change d)) x y =
+    ap (λ (z : Change). Command (command.Change z)) (change_same words c d x y)
+words_say_one words (Command (command.Change c)) Wait x y =
+    let two : op_word x.op ∷ c.coll ∷ x.args ≡ codes "wait" ∷ [] = sym x.whole ∙ y in absurd cc
+words_say_one words Wait (Command (command.Change d)) x y =
+    let two : op_word y.op ∷ d.coll ∷ y.args ≡ codes "wait" ∷ [] = sym y.whole ∙ x in absurd cc
+words_say_one words Wait Wait x y = refl
+words_say_one words (Command (command.Change c)) b x y = absurd y
+words_say_one words Wait b x y = absurd y
+words_say_one words a b x y = absurd x
+
 pub line_says_one : (text : List ℕ) (a b : What) → IsLineOf text a → IsLineOf text b → a ≡ b
-line_says_one text a b first second = elim (forms text a first) [
-  | inl wait ↦ elim (forms text b second) [
-    | inl also ↦ wait.says ∙ sym also.says
-    | inr other ↦ elim other [
-      | inl mkcoll ↦ absurd (let e = sym wait.spelled ∙ mkcoll.spelled in cc)
-      | inr write ↦ absurd
-          (let e = sym wait.spelled ∙ write.spelled in cc)
-    ]
-  ]
-  | inr other ↦ elim other [
-    | inl mkcoll ↦ elim (forms text b second) [
-      | inl wait ↦ absurd (let e = sym wait.spelled ∙ mkcoll.spelled in cc)
-      | inr more ↦ elim more [ inl also ↦ mkcoll_same text a b mkcoll also | inr write ↦ absurd (mkcoll_not_write _ _ (sym mkcoll.spelled ∙ write.spelled)) ]
-    ]
-    | inr write ↦ elim (forms text b second) [
-      | inl wait ↦ absurd (let e = sym wait.spelled ∙ write.spelled in cc)
-      | inr more ↦ elim more [
-        | inl mkcoll ↦ absurd (mkcoll_not_write _ _ (sym mkcoll.spelled ∙ write.spelled))
-        | inr also ↦ write_same_what text a b write
-            also
-      ]
-    ]
-  ]
-]
+line_says_one text a b x y =
+    let of = worded x.words a x.say in
+    let also = line_words (of.first ∷ of.word) of.behind text b of.no_spaces (x.whole ∙ ap in_words of.whole) y in
+    words_say_one ((of.first ∷ of.word) ∷ of.behind) a b (subst (λ (l : List (List ℕ)). AreWordsOf l a) of.whole x.say) also
+
+-- ---- one word, and one word's lines
+
+pub one_word : (text : List ℕ) (what : What) → HasNo 0x20 text → IsLineOf text what → text ≡ codes "wait"
+one_word text what none line = by what (line_words text [] text what (none, tt) refl line)
+  where
+    by : (what : What) → AreWordsOf (text ∷ []) what → text ≡ codes "wait"
+    by (Command (command.Change change)) say = let two : text ∷ [] ≡ op_word say.op ∷ change.coll ∷ say.args = say.whole in absurd cc
+    by Wait say = let one : text ∷ [] ≡ codes "wait" ∷ [] = say in cc
+    by what say = absurd say
+
+pub wait_line : (text : List ℕ) → text ≡ codes "wait" → IsLineOf text Wait
+wait_line text is = record { words = codes "wait" ∷ []; whole = is; say = refl; fits = tt }
+
+-- the first word of a line of several is that of an operation
+pub op_word_first : (word : List ℕ) (n : List ℕ) (ws : List (List ℕ)) (what : What) → word ≢ codes "mkcoll" → word ≢ codes "write" → AreWordsOf (word ∷ n ∷ ws) what → ⊥
+op_word_first word n ws (Command (command.Change change)) no_mkcoll no_write say =
+    let both : word ∷ n ∷ ws ≡ op_word say.op ∷ change.coll ∷ say.args = say.whole in
+    let first : word ≡ op_word say.op = cc in
+    by say.op say.args first say.about
+  where
+    by : (op : Op) (args : List (List ℕ)) → word ≡ op_word op → AreArgs args op → ⊥
+    by MkColl args first about = no_mkcoll first
+    by (Write object off bytes) args first about = no_write first
+    by op args first about = about
+op_word_first word n ws Wait no_mkcoll no_write say = let both : word ∷ n ∷ ws ≡ codes "wait" ∷ [] = say in cc
+op_word_first word n ws what no_mkcoll no_write say = say
+
+-- ---- `mkcoll`
+
+mkcoll_args : (op : Op) (args : List (List ℕ)) → codes "mkcoll" ≡ op_word op → AreArgs args op → args ≡ []
+mkcoll_args MkColl args word about = about
+mkcoll_args (Write object off bytes) args word about = absurd (differ (codes "mkcoll") (codes "write") refl word)
+mkcoll_args op args word about = absurd about
+
+mkcoll_words : (n : List ℕ) (ws : List (List ℕ)) (what : What) → AreWordsOf (codes "mkcoll" ∷ n ∷ ws) what → IsCollName n × (ws ≡ [])
+mkcoll_words n ws (Command (command.Change change)) say =
+    let both : codes "mkcoll" ∷ n ∷ ws ≡ op_word say.op ∷ change.coll ∷ say.args = say.whole in
+    let word : codes "mkcoll" ≡ op_word say.op = cc in
+    let coll : change.coll ≡ n = cc in
+    let args : ws ≡ say.args = cc in
+    (subst IsCollName coll say.named, args ∙ mkcoll_args say.op say.args word say.about)
+mkcoll_words n ws Wait say = let both : codes "mkcoll" ∷ n ∷ ws ≡ codes "wait" ∷ [] = say in absurd cc
+mkcoll_words n ws what say = absurd say
+
+pub mkcoll_says : (rest : List ℕ) (what : What) → IsLineOf (codes "mkcoll" ++ (0x20 ∷ rest)) what → IsCollName rest
+mkcoll_says rest what line =
+    let behind = behind_first (codes "mkcoll") rest what (has_none 0x20 (codes "mkcoll") refl) line in
+    let both = mkcoll_words behind.next behind.words what behind.say in
+    subst IsCollName (sym (behind.whole ∙ ap (λ (l : List (List ℕ)). in_words (behind.next ∷ l)) both.1)) both.0
+
+pub mkcoll_line : (rest coll : List ℕ) (what : What) → coll ≡ rest → IsCollName rest → what ≡ op_line coll MkColl → IsLineOf (codes "mkcoll" ++ (0x20 ∷ rest)) what
+mkcoll_line rest coll what is named says =
+    subst (λ (w : What). IsLineOf (codes "mkcoll" ++ (0x20 ∷ rest)) w) (sym (says ∙ ap (λ (l : List ℕ). op_line l MkColl) is)) (record {
+      words = codes "mkcoll" ∷ rest ∷ [];
+      whole = refl;
+      say = record { op = MkColl; args = []; alone = refl; named = named; whole = refl; about = refl };
+      fits = tt;
+    })
+
+-- ---- `write`
+
+-- the words behind `write` say this
+pub record IsWrite (coll object off holds : List ℕ) : Type 0 where
+  pub name : List ℕ
+  pub bytes : List ℕ
+  pub is_coll : IsCollName coll
+  pub names : IsNameWord object name
+  pub offset : IsNumber off 0
+  pub spelled : IsDataWord holds bytes
+  pub size : length bytes ≡ 4096
+
+-- four words, and what they hold
+record AreFour (n : List ℕ) (ws : List (List ℕ)) : Type 0 where
+  object : List ℕ
+  off : List ℕ
+  holds : List ℕ
+  four : ws ≡ object ∷ off ∷ holds ∷ []
+  write : IsWrite n object off holds
+
+four_args : (n coll : List ℕ) (args : List (List ℕ)) (op : Op) → codes "write" ≡ op_word op → AreArgs args op → HasSinglePage (op ∷ []) → coll ≡ n
+    → IsCollName coll → AreFour n args
+four_args n coll args MkColl word about page is named = absurd (differ (codes "write") (codes "mkcoll") refl word)
+four_args n coll args (Write object off bytes) word about page is named = record {
+  object = about.object_word;
+  off = about.off_word;
+  holds = about.data_word;
+  four = about.words;
+  write = record {
+    name = object;
+    bytes = bytes;
+    is_coll = subst IsCollName is named;
+    names = about.names;
+    offset = subst (λ (k : ℕ). IsNumber about.off_word k) page.0 about.offset;
+    spelled = about.holds;
+    size = page.1;
+  };
+}
+four_args n coll args op word about page is named = absurd about
+
+four_words : (n : List ℕ) (ws : List (List ℕ)) (what : What) → AreWordsOf (codes "write" ∷ n ∷ ws) what → Fits what → AreFour n ws
+four_words n ws (Command (command.Change change)) say fits =
+    let both : codes "write" ∷ n ∷ ws ≡ op_word say.op ∷ change.coll ∷ say.args = say.whole in
+    let word : codes "write" ≡ op_word say.op = cc in
+    let coll : change.coll ≡ n = cc in
+    let args : say.args ≡ ws = cc in
+    subst (λ (l : List (List ℕ)). AreFour n l) args
+    (four_args n change.coll say.args say.op word say.about (subst HasSinglePage say.alone fits) coll say.named)
+four_words n ws Wait say fits = let both : codes "write" ∷ n ∷ ws ≡ codes "wait" ∷ [] = say in absurd cc
+four_words n ws what say fits = absurd say
+
+pub write_words : (coll object off holds : List ℕ) (what : What) → AreWordsOf (codes "write" ∷ coll ∷ object ∷ off ∷ holds ∷ []) what → Fits what
+    → IsWrite coll object off holds
+write_words coll object off holds what say fits =
+    let of = four_words coll (object ∷ off ∷ holds ∷ []) what say fits in
+    let both : of.object ∷ of.off ∷ of.holds ∷ [] ≡ object ∷ off ∷ holds ∷ [] = sym of.four in
+    let objects : of.object ≡ object = cc in
+    let offs : of.off ≡ off = cc in
+    let data_words : of.holds ≡ holds = cc in
+    subst (λ (l : List ℕ). IsWrite coll object off l) data_words (subst (λ (l : List ℕ). IsWrite coll object l of.holds) offs
+    (subst (λ (l : List ℕ). IsWrite coll l of.off of.holds) objects of.write))
+
+pub write_say : (coll object off holds c o : List ℕ) (n : ℕ) (bytes : List ℕ) (what : What) → c ≡ coll → IsCollName coll → IsNameWord object o → IsNumber off n
+    → IsDataWord holds bytes → (n ≡ 0) × (length bytes ≡ 4096) → what ≡ op_line c (Write o n bytes)
+    → AreWordsOf (codes "write" ∷ coll ∷ object ∷ off ∷ holds ∷ []) what × Fits what
+write_say coll object off holds c o n bytes what is named names offset spelled page says =
+    subst (λ (w : What). AreWordsOf (codes "write" ∷ coll ∷ object ∷ off ∷ holds ∷ []) w × Fits w)
+    (sym (says ∙ ap (λ (l : List ℕ). op_line l (Write o n bytes)) is)) (
+      record {
+        op = Write o n bytes;
+        args = object ∷ off ∷ holds ∷ [];
+        alone = refl;
+        named = named;
+        whole = refl;
+        about = record { object_word = object; off_word = off; data_word = holds; words = refl; names = names; offset = offset; holds = spelled };
+      },
+      page,
+    )
+
+-- a line of `write` has four words behind it
+pub no_four : (rest : List ℕ) (what : What) → ((a b c d : List ℕ) → AreWords (a ∷ b ∷ c ∷ d ∷ []) → rest ≢ in_words (a ∷ b ∷ c ∷ d ∷ []))
+    → ¬ (IsLineOf (codes "write" ++ (0x20 ∷ rest)) what)
+no_four rest what none line =
+    let behind = behind_first (codes "write") rest what (has_none 0x20 (codes "write") refl) line in
+    let of = four_words behind.next behind.words what behind.say line.fits in
+    none behind.next of.object of.off of.holds
+    (subst (λ (l : List (List ℕ)). AreWords (behind.next ∷ l)) of.four behind.no_spaces)
+    (behind.whole ∙ ap (λ (l : List (List ℕ)). in_words (behind.next ∷ l)) of.four)
+
+-- from words to the text
+pub words_read : (w : List ℕ) (ws : List (List ℕ)) (text : List ℕ) (o : Option What) → AreWords (w ∷ ws) → text ≡ in_words (w ∷ ws) → ReadsWords (w ∷ ws) o
+    → Reads text o
+words_read w ws text None are is none = λ what line. none what (line_words w ws text what are is line) line.fits
+words_read w ws text (Some what) are is say = record { words = w ∷ ws; whole = is; say = say.0; fits = say.1 }
+
+pub write_reads : (rest a b c d : List ℕ) (o : Option What) → AreWords (a ∷ b ∷ c ∷ d ∷ []) → rest ≡ in_words (a ∷ b ∷ c ∷ d ∷ [])
+    → ReadsWords (codes "write" ∷ a ∷ b ∷ c ∷ d ∷ []) o → Reads (codes "write" ++ (0x20 ∷ rest)) o
+write_reads rest a b c d o are is found =
+    words_read (codes "write") (a ∷ b ∷ c ∷ d ∷ []) (codes "write" ++ (0x20 ∷ rest)) o (has_none 0x20 (codes "write") refl, are)
+    (ap (λ (l : List ℕ). codes "write" ++ (0x20 ∷ l)) is) found
+
+-- a line of several words begins with the word of an operation
+pub no_line : (word rest : List ℕ) (what : What) → HasNo 0x20 word → word ≢ codes "mkcoll" → word ≢ codes "write" → ¬ (IsLineOf (word ++ (0x20 ∷ rest)) what)
+no_line word rest what none no_mkcoll no_write line =
+    let behind = behind_first word rest what none line in
+    op_word_first word behind.next behind.words what no_mkcoll no_write behind.say

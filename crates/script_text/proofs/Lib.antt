@@ -1,5 +1,9 @@
 pub mod Splits
 pub mod Spelled
+pub mod Digits
+pub mod Names
+pub mod Numbers
+pub mod DataWords
 pub mod Words
 pub mod Forms
 pub mod Scripts

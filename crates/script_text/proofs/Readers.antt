@@ -1,7 +1,7 @@
 -- What a reader keeps.
 use Rattle.std.proofs.Common.{◌≡◌, ◌≢◌, inl, inr, ℕ, ◌+◌, ◌<◌, ◌≤◌, Bool, true, false, List, [], ◌∷◌, ◌++◌}
 use Rattle.std.proofs.Common.{length, Option, Some, None, MatchOption, refl, sym, ap, subst, ◌∙◌, arith, append_assoc, append-nil, length-append}
-use Rattle.std.specs.Prelude.{is_some}
+use Rattle.std.specs.Prelude.{is_some, OnOk, Result, Ok, Err}
 use Rattle.script_text.specs.Grammar.{HasNo, IsLineOf, IsPassedOver, command_count}
 use Rattle.script_text.specs.Script.{script_limit, line_limit, lines_of, ended, AreGood, IsScript, IsOutside, IsBadAt}
 use Rattle.script_text.specs.Reading.{HasSaid, IsBadBehind, Ends, IsWithin, IsAfter, Takes, HasTaken, IsDone}
@@ -172,6 +172,15 @@ taken_more piece rest front behind old r s t so_far cut same takes one feed =
       count = omega (arith, so_far.count, same, one, length-append so_far.front line, length-append front (10 ∷ []));
       takes = takes_both so_far.front line old r t so_far.takes (takes_both front (10 ∷ []) r s t takes feed);
     }
+
+pub if_taken : {X E : Type 0} (P Q : Type 0) (r : Result X E) → (P → Q) → OnOk r P → OnOk r Q
+if_taken P Q (Ok x) more p = more p
+if_taken P Q (Err e) more p = p
+
+-- the last part of a piece
+pub taken_all : (piece rest : List ℕ) (old r s : Reader) → HasTaken piece rest old r → Takes rest r s → Takes piece old s
+taken_all piece rest old r s so_far takes =
+    subst (λ (l : List ℕ). Takes l old s) (sym so_far.whole) (takes_both so_far.front rest old r s so_far.takes takes)
 
 -- ---- the end of a script
 

@@ -1,6 +1,7 @@
--- Bytes cut at a byte.
-use Rattle.std.proofs.Common.{◌≡◌, ◌≢◌, ℕ, zero, suc, ◌+◌, ◌-◌, ◌<◌, ◌≤◌, List, [], ◌∷◌, ◌++◌, length, get_or, take, drop, refl, sym, ap, ◌∙◌, arith}
+-- Texts cut in parts.
+use Rattle.std.proofs.Common.{◌≡◌, ◌≢◌, ℕ, zero, suc, ◌+◌, ◌-◌, ◌<◌, ◌≤◌, ◌==◌, Bool, true, false, cond, List, [], ◌∷◌, ◌++◌, length, get_or, take, drop, refl, sym, ap, ◌∙◌, arith}
 use Rattle.std.proofs.lemmas.List.{take-append-drop, drop_more, take_rest}
+use Rattle.std.proofs.lemmas.Bool.Decides.{nat_tests}
 use Rattle.script_text.specs.Grammar.{HasNo}
 
 has_no_take : (c n : ℕ) (xs : List ℕ) → n ≤ length xs → ((k : ℕ) → k < n → get_or xs k 0 ≢ c) → HasNo c (take n xs)
@@ -36,3 +37,34 @@ no_part c [] [] x none is = cc
 no_part c [] (a ∷ rest) x none is = cc
 no_part c (b ∷ bs) [] x none is = let head : b ≡ c = cc in none.0 head
 no_part c (b ∷ bs) (a ∷ rest) x none is = let tails : bs ≡ rest ++ (c ∷ x) = cc in no_part c bs rest x none.1 tails
+
+-- ---- bytes that are known
+
+abbrev pub lacks : ℕ → List ℕ → Bool
+lacks c [] = true
+lacks c (b ∷ bs) = cond (b == c) false (lacks c bs)
+
+lacks_first : (c b : ℕ) (rest : Bool) → cond (b == c) false rest ≡ true → (b ≢ c) × (rest ≡ true)
+lacks_first c b rest is = grind (arith, nat_tests)
+
+-- known bytes have no such byte: the test computes
+pub has_none : (c : ℕ) (bytes : List ℕ) → lacks c bytes ≡ true → HasNo c bytes
+has_none c [] is = tt
+has_none c (b ∷ bs) is = let here = lacks_first c b (lacks c bs) is in (here.0, has_none c bs here.1)
+
+abbrev pub same_bytes : List ℕ → List ℕ → Bool
+same_bytes [] [] = true
+same_bytes [] (b ∷ bs) = false
+same_bytes (a ∷ xs) [] = false
+same_bytes (a ∷ xs) (b ∷ bs) = cond (a == b) (same_bytes xs bs) false
+
+same_first : (a : ℕ) (rest : Bool) → rest ≡ true → cond (a == a) rest false ≡ true
+same_first a rest is = grind (arith, nat_tests)
+
+same_itself : (a : List ℕ) → same_bytes a a ≡ true
+same_itself [] = refl
+same_itself (a ∷ xs) = same_first a (same_bytes xs xs) (same_itself xs)
+
+-- known bytes differ
+pub differ : (a b : List ℕ) → same_bytes a b ≡ false → a ≢ b
+differ a b differs is = let never : true ≡ false = sym (same_itself a) ∙ ap (λ (l : List ℕ). same_bytes a l) is ∙ differs in cc

@@ -1,13 +1,16 @@
--- How a line is spelled: each thing that a line can say has one spelling.
-use Rattle.std.specs.Prelude.{◌≡◌, ◌≢◌, ℕ, ◌+◌, ◌-◌, ◌/◌, ◌%◌, ◌<◌, nat_lt, nat_le, ◌==◌}
-use Rattle.std.specs.Prelude.{Bool, ◌&&◌, ◌||◌, if◌then◌else◌, List, [], ◌∷◌, ◌++◌, slice_index, replicate, codes}
+-- How a line is spelled. A line says at most one thing, and data may have two spellings.
+use Rattle.std.specs.Prelude.{◌≡◌, ◌≢◌, ◌⊎◌, ℕ, ◌+◌, ◌-◌, ◌/◌, ◌%◌, ◌^◌, ◌<◌, ◌≤◌, nat_lt, nat_le, ◌==◌}
+use Rattle.std.specs.Prelude.{Bool, ◌&&◌, ◌||◌, if◌then◌else◌, List, [], ◌∷◌, ◌++◌, length, replicate, codes, decimal}
 use Rattle.std.specs.List.{AllByRecursion}
 use Rattle.unit_fields.specs.Names.{IsCollName, IsName}
 use Rattle.object_model.specs.declared.op.Op.{Op}
 use Rattle.object_model.specs.declared.op.Op.TheVariants.{MkColl, Write}
+use Rattle.object_model.specs.Effect.{Change}
 use Rattle.object_model.specs.declared.command.Command.TheVariants as command
 use Rattle.script_text.specs.declared.line.What.{What}
 use Rattle.script_text.specs.declared.line.What.TheVariants.{Command, Wait}
+
+-- ---- words and bytes
 
 -- no byte is this one
 abbrev pub HasNo : ℕ → List ℕ → Type 0
@@ -17,13 +20,20 @@ HasNo c bytes = AllByRecursion (λ b. b ≢ c) bytes
 abbrev pub AreBytes : List ℕ → Type 0
 AreBytes bytes = AllByRecursion (λ b. b < 256) bytes
 
--- from the one byte to the other
-abbrev pub is_from_to : ℕ → ℕ → ℕ → Bool
-is_from_to first last b = nat_le first b && nat_le b last
+-- none has a space in it
+abbrev pub AreWords : List (List ℕ) → Type 0
+AreWords words = AllByRecursion (HasNo 0x20) words
 
--- digits, capital and small letters, `.`, `_` and `-`
-abbrev pub is_plain : ℕ → Bool
-is_plain b = is_from_to 0x30 0x39 b || is_from_to 0x41 0x5a b || is_from_to 0x61 0x7a b || b == 0x2e || b == 0x5f || b == 0x2d
+-- words with one space between them
+abbrev pub in_words : List (List ℕ) → List ℕ
+in_words [] = []
+in_words (word ∷ []) = word
+in_words (word ∷ next ∷ words) = word ++ (0x20 ∷ in_words (next ∷ words))
+
+-- each byte by its code, one behind another
+unfoldable pub spelled_by : (ℕ → List ℕ) → List ℕ → List ℕ
+spelled_by code [] = []
+spelled_by code (b ∷ bs) = code b ++ spelled_by code bs
 
 -- a hexadecimal digit, where the letter for ten is `A` or `a`
 abbrev pub hex_digit : ℕ → ℕ → ℕ
@@ -33,75 +43,121 @@ hex_digit ten d = if nat_lt d 10 then 0x30 + d else ten + (d - 10)
 unfoldable pub hex_pair : ℕ → ℕ → List ℕ
 hex_pair ten b = hex_digit ten (b / 16) ∷ hex_digit ten (b % 16) ∷ []
 
+-- ---- numbers and names
+
+-- a number below 2^64 in decimal, without leading zeros
+abbrev pub IsNumber : List ℕ → ℕ → Type 0
+IsNumber word n = (n < 2 ^ 64) × (word ≡ decimal n)
+
+-- from the one byte to the other
+abbrev pub is_from_to : ℕ → ℕ → ℕ → Bool
+is_from_to first last b = nat_le first b && nat_le b last
+
+-- digits, capital and small letters, `.`, `_` and `-`
+abbrev pub is_plain : ℕ → Bool
+is_plain b = is_from_to 0x30 0x39 b || is_from_to 0x41 0x5a b || is_from_to 0x61 0x7a b || b == 0x2e || b == 0x5f || b == 0x2d
+
 -- a byte of a name: itself, or `%` and two digits with capital letters
 unfoldable pub escape : ℕ → List ℕ
 escape b = if is_plain b then b ∷ [] else 0x25 ∷ hex_pair 0x41 b
 
 -- how a name is spelled
-unfoldable pub escaped : List ℕ → List ℕ
-escaped [] = []
-escaped (b ∷ bs) = escape b ++ escaped bs
+abbrev pub escaped : List ℕ → List ℕ
+escaped name = spelled_by escape name
 
--- words with one space between them
-abbrev pub in_words : List (List ℕ) → List ℕ
-in_words [] = []
-in_words (word ∷ []) = word
-in_words (word ∷ next ∷ words) = word ++ (0x20 ∷ in_words (next ∷ words))
+-- the word spells this name
+pub record IsNameWord (word name : List ℕ) : Type 0 where
+  pub named : IsName name
+  pub are_bytes : AreBytes name
+  pub spelled : word ≡ escaped name
 
--- 4096 times this byte
-unfoldable pub filled : ℕ → List ℕ
-filled b = replicate 4096 b
+-- ---- data
 
--- how these are spelled: `fill:XX:4096`, with small letters
-unfoldable pub fill_word : ℕ → List ℕ
-fill_word b = codes "fill" ++ (0x3a ∷ (hex_pair 0x61 b ++ (0x3a ∷ codes "4096")))
+-- `hex:` and two digits with small letters for each byte
+pub record IsHexWord (word bytes : List ℕ) : Type 0 where
+  pub are_bytes : AreBytes bytes
+  pub spelled : word ≡ codes "hex:" ++ spelled_by (hex_pair 0x61) bytes
 
--- the words of a transaction of one operation
-abbrev pub change_words : List ℕ → List Op → List (List ℕ)
-change_words coll (MkColl ∷ []) = codes "mkcoll" ∷ coll ∷ []
-change_words coll (Write object off bytes ∷ []) = codes "write" ∷ coll ∷ escaped object ∷ codes "0" ∷ fill_word (slice_index bytes 0) ∷ []
-change_words coll ops = []
+-- a byte, as two such digits, and how often it stands
+pub record IsFill (text : List ℕ) (byte count : ℕ) : Type 0 where
+  pub fits : byte < 256
+  pub few : count ≤ 2097152
+  pub spelled : text ≡ hex_pair 0x61 byte ++ (0x3a ∷ decimal count)
 
--- the words of a line
-abbrev pub words_of : What → List (List ℕ)
-words_of (Command (command.Change change)) = change_words change.coll change.ops
-words_of Wait = codes "wait" ∷ []
-words_of what = []
+-- `fill:XX:NUM`
+pub record IsFillWord (word bytes : List ℕ) : Type 0 where
+  pub text : List ℕ
+  pub byte : ℕ
+  pub count : ℕ
+  pub fill : IsFill text byte count
+  pub spelled : word ≡ codes "fill:" ++ text
+  pub filled : bytes ≡ replicate count byte
 
--- how a line is spelled
-abbrev pub spelling : What → List ℕ
-spelling what = in_words (words_of what)
+-- the word spells this data
+abbrev pub IsDataWord : List ℕ → List ℕ → Type 0
+IsDataWord word bytes = IsHexWord word bytes ⊎ IsFillWord word bytes
 
--- which operation has a spelling: a write of 4096 equal bytes at the front of an object
-abbrev pub FitsOps : List Op → Type 0
-FitsOps (MkColl ∷ []) = Unit {0}
-FitsOps (Write object off bytes ∷ []) = IsName object × AreBytes object × (off ≡ 0) × ((b : ℕ) × (b < 256) × (bytes ≡ filled b))
-FitsOps ops = ⊥
+-- ---- lines
 
--- what has a spelling
+-- the word of an operation, where scripts have one so far
+abbrev pub op_word : Op → List ℕ
+op_word MkColl = codes "mkcoll"
+op_word (Write object off bytes) = codes "write"
+op_word op = []
+
+-- `O NUM DATA`
+pub record AreWriteArgs (args : List (List ℕ)) (object : List ℕ) (off : ℕ) (bytes : List ℕ) : Type 0 where
+  pub object_word : List ℕ
+  pub off_word : List ℕ
+  pub data_word : List ℕ
+  pub words : args ≡ object_word ∷ off_word ∷ data_word ∷ []
+  pub names : IsNameWord object_word object
+  pub offset : IsNumber off_word off
+  pub holds : IsDataWord data_word bytes
+
+-- the words behind the collection's
+abbrev pub AreArgs : List (List ℕ) → Op → Type 0
+AreArgs args MkColl = args ≡ []
+AreArgs args (Write object off bytes) = AreWriteArgs args object off bytes
+AreArgs args op = ⊥
+
+-- the words of a transaction of one operation: the operation's, the collection, and what they are about
+pub record AreChangeWords (words : List (List ℕ)) (change : Change) : Type 0 where
+  pub op : Op
+  pub args : List (List ℕ)
+  pub alone : change.ops ≡ op ∷ []
+  pub named : IsCollName change.coll
+  pub whole : words ≡ op_word op ∷ change.coll ∷ args
+  pub about : AreArgs args op
+
+-- the words say this
+abbrev pub AreWordsOf : List (List ℕ) → What → Type 0
+AreWordsOf words (Command (command.Change change)) = AreChangeWords words change
+AreWordsOf words Wait = words ≡ codes "wait" ∷ []
+AreWordsOf words what = ⊥
+
+-- a transaction that the kernel can do so far: a write is of page 0, whole
+abbrev pub HasSinglePage : List Op → Type 0
+HasSinglePage (MkColl ∷ []) = Unit {0}
+HasSinglePage (Write object off bytes ∷ []) = (off ≡ 0) × (length bytes ≡ 4096)
+HasSinglePage ops = ⊥
+
+-- what the kernel can do so far: any other line is a bad one
 abbrev pub Fits : What → Type 0
-Fits (Command (command.Change change)) = IsCollName change.coll × FitsOps change.ops
+Fits (Command (command.Change change)) = HasSinglePage change.ops
 Fits Wait = Unit {0}
 Fits what = ⊥
+
+-- the text of a line says this
+pub record IsLineOf (text : List ℕ) (what : What) : Type 0 where
+  pub words : List (List ℕ)
+  pub whole : text ≡ in_words words
+  pub say : AreWordsOf words what
+  pub fits : Fits what
 
 -- a transaction of this operation
 abbrev pub op_line : List ℕ → Op → What
 op_line coll op = Command (command.Change (record { coll = coll; ops = op ∷ [] }))
-
--- the text of a line spells this
-abbrev pub IsLineOf : List ℕ → What → Type 0
-IsLineOf text what = (text ≡ spelling what) × Fits what
-
--- the words behind `write`
-pub record WriteRest (rest : List ℕ) : Type 0 where
-  pub coll : List ℕ
-  pub object : List ℕ
-  pub byte : ℕ
-  pub is_coll : IsCollName coll
-  pub is_name : IsName object
-  pub are_bytes : AreBytes object
-  pub fits : byte < 256
-  pub spelled : rest ≡ in_words (coll ∷ escaped object ∷ codes "0" ∷ fill_word byte ∷ [])
 
 -- a command counts as one, and `wait` doesn't count
 abbrev pub command_count : What → ℕ

@@ -1,7 +1,7 @@
 -- What is known of a reader of a script that has taken some of it.
-use Rattle.std.specs.Prelude.{◌≡◌, ◌⊎◌, ℕ, ◌+◌, ◌≤◌, Bool, true, false, List, [], ◌∷◌, ◌++◌, length, Option, Some, None, MatchOption, IfSome}
+use Rattle.std.specs.Prelude.{◌≡◌, ◌⊎◌, slice_index, ℕ, ◌+◌, ◌≤◌, Bool, true, false, List, [], ◌∷◌, ◌++◌, length, Option, Some, None, MatchOption, IfSome}
 use Rattle.std.specs.List.{AllByRecursion}
-use Rattle.script_text.specs.Grammar.{HasNo, IsLineOf, IsPassedOver}
+use Rattle.script_text.specs.Grammar.{HasNo, AreWordsOf, Fits, IsLineOf, IsPassedOver}
 use Rattle.script_text.specs.Script.{script_limit, line_limit, command_limit, ended, commands, numbered}
 use Rattle.script_text.specs.Script.{AreGood, IsOutside, IsOneTooMany, IsScript, IsBadAt, IsTextOf}
 use Rattle.script_text.specs.declared.fail.ScriptFail.{ScriptFail}
@@ -14,6 +14,18 @@ use Rattle.script_text.specs.declared.reader.Reader.{Reader}
 use Rattle.block_device.specs.declared.device.Failed.{Failed}
 use Rattle.block_device.specs.declared.device.Failed.TheVariants as failed
 use Rattle.end_points.specs.Source.{without_first}
+
+-- a zero alone, or another digit at the front
+abbrev pub IsPlainNumber : List ℕ → Type 0
+IsPlainNumber word = (word ≡ 0x30 ∷ []) ⊎ ((0x31 ≤ slice_index word 0) × (slice_index word 0 ≤ 0x39))
+
+-- what a text was found to say; None where it says nothing
+abbrev pub Reads : List ℕ → Option What → Type 0
+Reads text found = MatchOption found ((what : What) → ¬ (IsLineOf text what)) (IsLineOf text)
+
+-- what words were found to say
+abbrev pub ReadsWords : List (List ℕ) → Option What → Type 0
+ReadsWords words found = MatchOption found ((what : What) → AreWordsOf words what → ¬ (Fits what)) (λ what. AreWordsOf words what × Fits what)
 
 -- what a line was found to be
 abbrev pub IsReading : List ℕ → Reading → Type 0

@@ -1,52 +1,21 @@
-//! Names and bytes as they are spelled.
-ghost use Rattle.std.specs.Prelude.{◌≡◌, ◌≢◌, ◌+◌, ◌++◌, ◌∷◌, [], ◌<◌, ◌≤◌, ℕ, List, IfOk, MatchOption};
-ghost use Rattle.unit_fields.specs.Names.{IsName};
-ghost use Rattle.script_text.specs.Grammar.{AreBytes, is_plain, hex_digit, hex_pair, escape, escaped};
+//! Names as they are spelled.
+ghost use Rattle.std.specs.Prelude.{◌≡◌, ◌≢◌, ◌++◌, ◌<◌, ℕ, List, IfOk, MatchOption};
+ghost use Rattle.script_text.specs.Grammar.{AreBytes, IsNameWord, is_plain, escape, escaped};
 
+use crate::hex::split_pair;
 use crate::split::split_first;
 use std::alloc::{AllocError, Global};
 use unit_fields::Name;
+use unit_fields::limits::NAME_LIMIT;
+
+/// The most bytes of a name as a word.
+const WORD_LIMIT: usize = 3 * NAME_LIMIT;
 
 /// Whether a byte of a name stands for itself.
 fn is_plain_byte(byte: u8) -> bool
     ensures { result ≡ is_plain byte }
 {
     matches!(byte, b'0'..=b'9' | b'A'..=b'Z' | b'a'..=b'z' | b'.' | b'_' | b'-')
-}
-
-/// The value of a hexadecimal digit, where the letter for ten is `A` or `a`.
-fn digit_of(ten: u8, byte: u8) -> Option<u8>
-    requires { 0x41 ≤ ten }
-    ensures { MatchOption result ((d : ℕ) → d < 16 → byte ≢ hex_digit ten d) (λ d. (d < 16) × (byte ≡ hex_digit ten d)) }
-{
-    if byte.is_ascii_digit() {
-        Some(byte - b'0')
-    } else if ten <= byte && byte - ten < 6 {
-        Some(byte - ten + 10)
-    } else {
-        None
-    }
-}
-
-/// The byte that two hexadecimal digits spell, at the front of a text, and what stands behind them.
-pub fn split_pair(ten: u8, text: &[u8]) -> Option<(u8, &[u8])>
-    requires { 0x41 ≤ ten }
-    ensures { MatchOption result ((b : ℕ) (rest : List ℕ) → b < 256 → text.now ≢ hex_pair ten b ++ rest)
-        (λ x. (x.0 < 256) × (text.now ≡ hex_pair ten x.0 ++ x.1.now)) }
-{
-    let Some((high, rest)) = split_first(text) else {
-        return None;
-    };
-    let Some((low, rest)) = split_first(rest) else {
-        return None;
-    };
-    let Some(high) = digit_of(ten, high) else {
-        return None;
-    };
-    let Some(low) = digit_of(ten, low) else {
-        return None;
-    };
-    Some((16 * high + low, rest))
 }
 
 /// The byte of a name that stands at the front of a text, and what stands behind it.
@@ -91,9 +60,11 @@ fn unescaped(alloc: Global, word: &[u8]) -> Result<Option<Vec<u8>>, AllocError>
 
 /// The name that a word spells.
 pub fn read_name(alloc: Global, word: &[u8]) -> Result<Option<Name>, AllocError>
-    ensures { IfOk result (λ found. MatchOption found ((name : List ℕ) → IsName name → AreBytes name → word.now ≢ escaped name)
-        (λ name. IsName name × AreBytes name × (word.now ≡ escaped name))) }
+    ensures { IfOk result (λ found. MatchOption found ((name : List ℕ) → ¬ (IsNameWord word.now name)) (IsNameWord word.now)) }
 {
+    if WORD_LIMIT < word.len() {
+        return Ok(None);
+    }
     let Some(bytes) = unescaped(alloc, word)? else {
         return Ok(None);
     };

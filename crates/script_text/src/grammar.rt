@@ -1,18 +1,16 @@
 //! What a line says.
-ghost use Rattle.std.specs.Prelude.{◌≡◌, ◌≢◌, ◌↔◌, ◌++◌, ◌∷◌, [], ◌<◌, ℕ, List, IfOk, IsTrue, MatchOption, codes};
-ghost use Rattle.unit_fields.specs.Names.{IsCollName, IsName};
-ghost use Rattle.script_text.specs.Grammar.{AreBytes, HasNo, filled, fill_word, in_words, escaped, IsLineOf, IsPassedOver, WriteRest, op_line};
-ghost use Rattle.script_text.specs.Reading.{IsReading};
-ghost use Rattle.script_text.specs.declared.line.What.{What};
-ghost use Rattle.object_model.specs.declared.op.Op.TheVariants.{MkColl, Write};
+ghost use Rattle.std.specs.Prelude.{◌≡◌, ◌↔◌, ◌++◌, ◌∷◌, [], IfOk, IsTrue, codes};
+ghost use Rattle.script_text.specs.Grammar.{HasNo, IsPassedOver, op_line};
+ghost use Rattle.script_text.specs.Reading.{IsReading, Reads, ReadsWords};
 
 use crate::What;
-use crate::escape::{read_name, split_pair};
-use crate::split::split_once;
-use byte_maps::Bytes;
+use crate::data::{data_size, read_data};
+use crate::escape::read_name;
+use crate::number::read_number;
+use crate::split::{four_words, split_once};
 use object_model::{Command, Op, Transaction};
 use std::alloc::{AllocError, Global};
-use unit_fields::{CollName, Name};
+use unit_fields::CollName;
 
 /// What a line is.
 #[derive(Drop)]
@@ -22,51 +20,6 @@ pub enum Reading {
     Says(What),
     /// It is outside the grammar.
     Outside,
-}
-
-/// The byte of a word `fill:XX:4096`.
-fn fill_byte(word: &[u8]) -> Option<u8>
-    ensures { MatchOption result ((b : ℕ) → b < 256 → word.now ≢ fill_word b) (λ b. word.now ≡ fill_word b) }
-{
-    let Some((kind, rest)) = split_once(word, b':') else {
-        return None;
-    };
-    let Some((digits, size)) = split_once(rest, b':') else {
-        return None;
-    };
-    let Some((byte, more)) = split_pair(b'a', digits) else {
-        return None;
-    };
-    if kind != b"fill".as_slice() || size != b"4096".as_slice() || !more.is_empty() {
-        return None;
-    }
-    Some(byte)
-}
-
-/// The words behind `write`: the collection's and the object's, and the byte of the data.
-fn write_words(rest: &[u8]) -> Option<(&[u8], &[u8], u8)>
-    ensures { MatchOption result
-        ((coll object : List ℕ) (b : ℕ) → HasNo 0x20 coll → HasNo 0x20 object → b < 256
-        → rest.now ≢ in_words (coll ∷ object ∷ codes "0" ∷ fill_word b ∷ []))
-        (λ x. HasNo 0x20 x.0.now × HasNo 0x20 x.1.now × (x.2 < 256)
-        × (rest.now ≡ in_words (x.0.now ∷ x.1.now ∷ codes "0" ∷ fill_word x.2 ∷ []))) }
-{
-    let Some((coll, rest)) = split_once(rest, b' ') else {
-        return None;
-    };
-    let Some((object, rest)) = split_once(rest, b' ') else {
-        return None;
-    };
-    let Some((off, word)) = split_once(rest, b' ') else {
-        return None;
-    };
-    let Some(byte) = fill_byte(word) else {
-        return None;
-    };
-    if off != b"0".as_slice() {
-        return None;
-    }
-    Some((coll, object, byte))
 }
 
 /// A transaction of one operation.
@@ -79,9 +32,9 @@ fn change(alloc: Global, coll: CollName, op: Op) -> Result<What, AllocError>
     }
 }
 
-/// What a line says that has this behind `mkcoll`.
+/// `mkcoll C`: what a line says that has this behind its first word.
 fn read_mkcoll(alloc: Global, rest: &[u8]) -> Result<Option<What>, AllocError>
-    ensures { IfOk result (λ found. MatchOption found (¬ (IsCollName rest.now)) (IsLineOf (in_words (codes "mkcoll" ∷ rest.now ∷ [])))) }
+    ensures { IfOk result (Reads (codes "mkcoll" ++ (0x20 ∷ rest.now))) }
 {
     let Some(coll) = CollName::read(alloc, rest)? else {
         return Ok(None);
@@ -90,38 +43,59 @@ fn read_mkcoll(alloc: Global, rest: &[u8]) -> Result<Option<What>, AllocError>
     Ok(Some(what))
 }
 
-/// A write of 4096 times this byte at the front of an object.
-#[tactic(auto, unfolding(crate::specs::Grammar::filled))]
-fn fill(alloc: Global, coll: CollName, object: Name, byte: u8) -> Result<What, AllocError>
-    ensures { IfOk result (λ what. what ≡ op_line coll (Write object 0 (filled byte))) }
+/// Whether a write of so many bytes at this offset is of page 0, whole, which is all that the kernel can do so far.
+fn is_single_page(off: u64, size: u64) -> bool
+    ensures { IsTrue result ↔ ((off ≡ 0) × (size ≡ 4096)) }
 {
-    let bytes = Bytes::from_vec(vec![in alloc; byte; 4096]?);
-    let off = 0;
-    change(alloc, coll, Op::Write { object, off, bytes })
+    off == 0 && size == 4096
 }
 
-/// What a line says that has this behind `write`.
-fn read_write(alloc: Global, rest: &[u8]) -> Result<Option<What>, AllocError>
-    ensures { IfOk result (λ found. MatchOption found (¬ (WriteRest rest.now)) (IsLineOf (codes "write" ++ (0x20 ∷ rest.now)))) }
+/// What the words of a write say. The data are made last, once all else is known to be good.
+fn write_of(
+    alloc: Global,
+    coll: &[u8],
+    object: &[u8],
+    off: &[u8],
+    data_word: &[u8],
+) -> Result<Option<What>, AllocError>
+    ensures { IfOk result (ReadsWords (codes "write" ∷ coll.now ∷ object.now ∷ off.now ∷ data_word.now ∷ [])) }
 {
-    let Some((coll, object, byte)) = write_words(rest) else {
+    let Some(off) = read_number(off) else {
         return Ok(None);
     };
+    let Some(size) = data_size(data_word) else {
+        return Ok(None);
+    };
+    if !is_single_page(off, size) {
+        return Ok(None);
+    }
     let Some(coll) = CollName::read(alloc, coll)? else {
         return Ok(None);
     };
     let Some(object) = read_name(alloc, object)? else {
         return Ok(None);
     };
-    let what = fill(alloc, coll, object, byte)?;
+    let Some(bytes) = read_data(alloc, data_word)? else {
+        return Ok(None);
+    };
+    let what = change(alloc, coll, Op::Write { object, off, bytes })?;
     Ok(Some(what))
+}
+
+/// `write C O NUM DATA`: what a line says that has this behind its first word.
+fn read_write(alloc: Global, rest: &[u8]) -> Result<Option<What>, AllocError>
+    ensures { IfOk result (Reads (codes "write" ++ (0x20 ∷ rest.now))) }
+{
+    let Some((coll, object, off, data)) = four_words(rest) else {
+        return Ok(None);
+    };
+    write_of(alloc, coll, object, off, data)
 }
 
 /// What a line of several words says.
 fn read_words(alloc: Global, word: &[u8], rest: &[u8]) -> Result<Option<What>, AllocError>
     requires { HasNo 0x20 word.now }
-    ensures { IfOk result (λ found. MatchOption found ((what : What) → ¬ (IsLineOf (word.now ++ (0x20 ∷ rest.now)) what))
-        (IsLineOf (word.now ++ (0x20 ∷ rest.now)))) }
+    ensures { IfOk result (Reads (word.now ++ (0x20 ∷ rest.now))) }
 {
     if word == b"mkcoll".as_slice() {
         read_mkcoll(alloc, rest)
@@ -134,7 +108,7 @@ fn read_words(alloc: Global, word: &[u8], rest: &[u8]) -> Result<Option<What>, A
 
 /// What a line says.
 fn read_line(alloc: Global, text: &[u8]) -> Result<Option<What>, AllocError>
-    ensures { IfOk result (λ found. MatchOption found ((what : What) → ¬ (IsLineOf text.now what)) (IsLineOf text.now)) }
+    ensures { IfOk result (Reads text.now) }
 {
     match split_once(text, b' ') {
         Some((word, rest)) => read_words(alloc, word, rest),

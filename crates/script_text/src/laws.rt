@@ -1,12 +1,32 @@
 //! Laws of the grammar. Their bodies are empty: the clause is the law.
 ghost use Rattle.std.specs.Prelude.{◌≡◌, ℕ, List};
-ghost use Rattle.script_text.specs.Grammar.{IsLineOf};
+ghost use Rattle.script_text.specs.Grammar.{IsDataWord, IsLineOf, IsNameWord, IsNumber};
 ghost use Rattle.script_text.specs.Script.{IsScript, IsBadAt};
 ghost use Rattle.script_text.specs.declared.line.Line.{Line};
 ghost use Rattle.script_text.specs.declared.line.What.{What};
 
-/// A line says one thing.
-pub fn one_spelling()
+/// A word spells one number.
+pub fn one_number()
+    ensures { (word : List ℕ) (n m : ℕ) → IsNumber word n → IsNumber word m → n ≡ m }
+{}
+
+/// A word spells one name.
+pub fn one_name()
+    ensures { (word name other : List ℕ) → IsNameWord word name → IsNameWord word other → name ≡ other }
+{}
+
+/// A name has one spelling.
+pub fn one_word_for_a_name()
+    ensures { (word other name : List ℕ) → IsNameWord word name → IsNameWord other name → word ≡ other }
+{}
+
+/// A word spells one list of bytes, though most lists have more than one spelling.
+pub fn one_data()
+    ensures { (word bytes other : List ℕ) → IsDataWord word bytes → IsDataWord word other → bytes ≡ other }
+{}
+
+/// A line says at most one thing.
+pub fn one_meaning()
     ensures { (text : List ℕ) (a b : What) → IsLineOf text a → IsLineOf text b → a ≡ b }
 {}
 

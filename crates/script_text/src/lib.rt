@@ -1,17 +1,23 @@
 //! Scripts: the lines of one client, as commands with their line numbers.
 #![tactic(auto)]
 
+mod data;
 mod escape;
 mod fail;
 mod grammar;
+mod hex;
 mod laws;
 mod line;
+mod number;
 mod reader;
 mod script;
 mod split;
 
 pub use fail::ScriptFail;
-pub use laws::{one_bad_line, one_script, one_spelling, script_or_bad};
+pub use laws::{
+    one_bad_line, one_data, one_meaning, one_name, one_number, one_script, one_word_for_a_name,
+    script_or_bad,
+};
 pub use line::{Line, What};
 pub use script::read_script;
 

@@ -12,7 +12,7 @@ pub struct Line {
     pub what: What,
 }
 
-/// What a line says. Its one spelling is `spelling` of `specs/Grammar.antt`.
+/// What a line says, as `IsLineOf` of `specs/Grammar.antt` has it.
 #[derive(Drop)]
 pub enum What {
     /// A transaction or a read of one collection.

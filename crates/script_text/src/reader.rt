@@ -128,6 +128,9 @@ impl Reader {
         ensures count { OnOk result (self.new.count ≤ self.old.count + length piece.now) }
         ensures takes { OnOk result (Takes piece.now self.old self.new) }
     {
+        if self.bad.is_some() {
+            return Ok(());
+        }
         let mut rest = piece;
         'lines: while let Some((front, behind)) = split_once(rest, b'\n') {
             self.take_bytes(front)?;

@@ -1,9 +1,9 @@
-use Rattle.std.proofs.Common.{◌≡◌, ◌∷◌, sym, ap, ◌∙◌}
-use Rattle.script_text.proofs.Spelled.{escape_some, plain_text, other_text, pair_text, plain_pair}
+use Rattle.std.proofs.Common.{◌≡◌, ◌∷◌, ap, ◌∙◌}
+use Rattle.script_text.proofs.Names.{no_escape, plain_text, other_text, pair_text, plain_pair}
 use Rattle.script_text.proofs.escape.split_byte.Goals as goal
 
 pub returns-in_default : goal.returns-in_default
-returns-in_default c b rest lt is = escape_some b rest (sym is ∙ c.in_default.ensures)
+returns-in_default c b rest lt is = no_escape b rest c.args.text.now c.in_default.ensures is
 
 pub returns-then-is_plain_byte : goal.returns-then-is_plain_byte
 returns-then-is_plain_byte c = (

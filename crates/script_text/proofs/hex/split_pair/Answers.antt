@@ -1,7 +1,7 @@
 use Rattle.std.proofs.Common.{◌≡◌, ◌/◌, ◌%◌, List, [], ◌∷◌, ◌++◌, ℕ, ap, ◌∙◌, arith}
 use Rattle.script_text.specs.Grammar.{hex_pair, hex_digit}
-use Rattle.script_text.proofs.Spelled.{pair_of_digits}
-use Rattle.script_text.proofs.escape.split_pair.Goals as goal
+use Rattle.script_text.proofs.Digits.{pair_of_digits}
+use Rattle.script_text.proofs.hex.split_pair.Goals as goal
 
 pub returns-in_default : goal.returns-in_default
 unfolding hex_pair

@@ -5,3 +5,4 @@ pub mod Moving
 pub mod Now
 pub mod Cuts
 pub mod Runs
+pub mod Keeping

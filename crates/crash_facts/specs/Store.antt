@@ -3,7 +3,7 @@ use Rattle.std.specs.Prelude.{◌≡◌, ℕ, ◌+◌, length, Some, None}
 use Rattle.block_device.specs.Disk.{Disk, History}
 use Rattle.object_model.specs.Objects.{Objects}
 use Rattle.object_model.specs.Effect.{replay}
-use Rattle.store_image.specs.Durability.{EachCutStands}
+use Rattle.store_image.specs.Durability.{IsStart, EachCutStands}
 use Rattle.store_steps.specs.State.{State}
 use Rattle.store_facts.specs.Space.{uncommitted}
 use Rattle.book_facts.specs.BookFacts.{KnownOfBook}
@@ -31,3 +31,9 @@ pub record IsDurable (base : ℕ) (opening : Objects) (s : State) (d : Disk) : T
   pub book : KnownOfBook opening s
   pub cuts : EachCutStands base history opening s.book
   pub up : s.down ≡ None → KnownOfStore base opening s d history
+
+-- What a kernel keeps of its device: whatever objects the contents stood for when the mount began, which was so many events ago, each crash
+-- since then leaves those after a front of the commits. Of a device that doesn't tell its log it says nothing.
+abbrev pub KeepsDurable : State → Disk → Type 0
+KeepsDurable s d = (h : History) (base : ℕ) (opening : Objects) → d.history ≡ Some h → length h.log ≡ base + s.events → IsStart base h opening
+    → IsDurable base opening s d

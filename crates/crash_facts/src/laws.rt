@@ -11,14 +11,14 @@ ghost use Rattle.object_model.specs.Book.{accepted};
 ghost use Rattle.meta_log.specs.declared.slot.Super.{Super};
 ghost use Rattle.meta_log.specs.Slots.{active_unit, IsActiveSlot};
 ghost use Rattle.store_image.specs.Stands.{StandsFor};
-ghost use Rattle.store_image.specs.Durability.{EachCutStands};
+ghost use Rattle.store_image.specs.Durability.{IsStart, EachCutStands};
 ghost use Rattle.unit_allocator.specs.Units.{Space};
 ghost use Rattle.store_steps.specs.State.{State};
 ghost use Rattle.store_steps.specs.Ready.{is_drained};
 ghost use Rattle.store_steps.specs.Opened.{opened};
 ghost use Rattle.store_steps.specs.Runs.{Call, Calls, IsRun};
 ghost use Rattle.store_facts.specs.Kept.{IsKept};
-ghost use Rattle.crash_facts.specs.Store.{KnownOfStore, IsDurable};
+ghost use Rattle.crash_facts.specs.Store.{KnownOfStore, IsDurable, KeepsDurable};
 
 /// A store without records on a device that is quiet and tells its log is durable from the start: its active slot is known, and its
 /// active half is all zeros.
@@ -79,4 +79,30 @@ pub fn a_drained_run_stands()
         ((k : ℕ) → k < sup.half → last_at h (active_unit sup + k) ≡ zeros 4096) →
         IsRun (opened sup space 0) d calls s' d' → d'.history ≡ Some h' → s'.down ≡ None → is_drained d'.depth s' ≡ true →
         (unit : ℕ) → IsClean h'.log unit }
+{}
+
+/// A kernel keeps its device durable over each of its calls: from the start that lies behind as many events as the kernel has counted,
+/// whatever the objects were then. The kernel's type says this of every kernel.
+#[tactic(auto, using(crate::proofs::Keeping::call_keeps))]
+pub fn a_call_keeps_durability()
+    ensures { (call : Call) (s s' : State) (d d' : Disk) → IsKept s d → IsSound d' → KeepsDurable s d → Calls call s d s' d' →
+        KeepsDurable s' d' }
+{}
+
+/// A kernel that was opened on a store without records keeps it from the start: over a device where nothing is in flight, and where the
+/// store is known if the device tells its log and no unit is dirty.
+#[tactic(auto, using(crate::proofs::Keeping::new_store_keeps))]
+pub fn a_new_store_keeps_durability()
+    ensures { (sup : Super) (space : Space) (d : Disk) → IsKept (opened sup space 0) d → d.flights ≡ [] →
+        ((h : History) → d.history ≡ Some h → ((unit : ℕ) → IsClean h.log unit) →
+        IsActiveSlot (last h.start h.log) sup × ((k : ℕ) → k < sup.half → last_at h (active_unit sup + k) ≡ zeros 4096)) →
+        KeepsDurable (opened sup space 0) d }
+{}
+
+/// So whoever has a kernel, over a device that tells its log, has prefix durability: whatever a crash at any cut since the start leaves
+/// stands for the objects after the first commits of the kernel's book, among which is each one acknowledged by then, unless something torn
+/// is valid by chance.
+pub fn a_kernel_is_durable()
+    ensures { (base : ℕ) (opening : Objects) (s : State) (d : Disk) (h : History) → KeepsDurable s d → d.history ≡ Some h →
+        length h.log ≡ base + s.events → IsStart base h opening → EachCutStands base h opening s.book }
 {}

@@ -1,0 +1,179 @@
+-- What a kernel keeps of its device: a start lies in the log before each call that came after it, so each call goes on from what was known there.
+use Rattle.std.proofs.Common.{◌≡◌, ◌⊎◌, inl, inr, ℕ, ◌+◌, ◌<◌, ◌≤◌, true, false, List, [], ◌∷◌, ◌++◌, length, take, Option, Some, None, refl, sym, ap, subst, ◌∙◌, arith, length-append}
+use Rattle.std.specs.FinMap as map
+use Rattle.std.proofs.lemmas.Option.{same_Some}
+use Rattle.std.proofs.lemmas.List.{take_all, take-append-le}
+use Rattle.byte_maps.specs.Units.{zeros}
+use Rattle.block_device.specs.Log.{last, IsClean}
+use Rattle.block_device.specs.Disk.{Disk, History, IsSound, Waited, grown}
+use Rattle.block_device.specs.Facts.{with_event, last_at}
+use Rattle.block_device.specs.declared.event.Event.{Event}
+use Rattle.block_device.specs.declared.event.Event.TheVariants.{Write, Flush as FlushEvent, Done}
+use Rattle.object_model.specs.Objects.{Objects}
+use Rattle.meta_log.specs.declared.slot.Super.{Super}
+use Rattle.meta_log.specs.Slots.{active_unit, IsActiveSlot}
+use Rattle.store_image.specs.Stands.{StandsFor}
+use Rattle.store_image.specs.Durability.{IsStart, EachCutStands}
+use Rattle.store_image.proofs.OneObjects.{stands_for_one}
+use Rattle.unit_allocator.specs.Units.{Space}
+use Rattle.store_steps.specs.declared.flight.Flying.{Flying}
+use Rattle.store_steps.specs.declared.flight.Job.{Job}
+use Rattle.store_steps.specs.declared.flight.Job.TheVariants as job
+use Rattle.store_steps.specs.declared.step.Step.{Step}
+use Rattle.store_steps.specs.declared.step.Step.TheVariants.{Data, Reap, Take, Flush, Seal, Record, Sync, Commit, Finish}
+use Rattle.store_steps.specs.State.{State}
+use Rattle.store_steps.specs.Changes.{after_done, after_good, flying_of, landed}
+use Rattle.store_steps.specs.Steps.{piece_unit, piece_bytes}
+use Rattle.store_steps.specs.Opened.{opened}
+use Rattle.store_steps.specs.Runs.{Call, submitting, stepping, Calls, DoesOrFails, Submits}
+use Rattle.store_facts.specs.Kept.{IsKept}
+use Rattle.crash_facts.specs.Store.{KnownOfStore, IsDurable, KeepsDurable}
+use Rattle.crash_facts.proofs.Runs.{call_durable, opened_durable, drained_stands}
+
+-- ---- a call is no event, or one that is counted
+
+record IsNoEvent (s s' : State) (d d' : Disk) : Type 0 where
+  same : d'.history ≡ d.history
+  counted : s'.events ≡ s.events
+
+record IsOneEvent (s s' : State) (d d' : Disk) : Type 0 where
+  event : Event
+  more : d'.history ≡ grown d.history event
+  counted : s'.events ≡ s.events + 1
+
+abbrev IsAtMostOne : State → State → Disk → Disk → Type 0
+IsAtMostOne s s' d d' = IsNoEvent s s' d d' ⊎ IsOneEvent s s' d d'
+
+-- the device had no part in it
+no_event : (s s' : State) (d d' : Disk) → s'.events ≡ s.events → d' ≡ d → IsAtMostOne s s' d d'
+no_event s s' d d' counted same = inl (record { same = ap (λ (e : Disk). e.history) same; counted = counted })
+
+done_events : (j : Job) (s : State) → (after_done j s).events ≡ s.events
+done_events (job.Data place) s = refl
+done_events job.DataFlush s = refl
+done_events job.Record s = refl
+done_events job.RecordFlush s = refl
+
+good_events : (f : Option Flying) (s : State) → (after_good f s).events ≡ s.events
+good_events None s = refl
+good_events (Some f) s = done_events f.job s
+
+waited_same : (d d' : Disk) → Waited d d' → d'.history ≡ d.history
+waited_same d d' (inl idle) = ap (λ (e : Disk). e.history) idle.1
+waited_same d d' (inr busy) = ap (λ (e : Disk). e.history) busy.2
+
+step_events : (step : Step) (s s' : State) (d d' : Disk) → DoesOrFails step s d s' d' → IsAtMostOne s s' d d'
+step_events Data s s' d d' does = inr (record {
+  event = Write does.next.fresh.unit does.next.fresh.bytes;
+  more = ap (λ (e : Disk). e.history) does.submitted.after;
+  counted = ap (λ (t : State). t.events) does.after;
+})
+step_events Reap s s' d d' (inl (inl ended)) = inr (record {
+  event = Done ended.ticket.place true;
+  more = ap (λ (e : Disk). e.history) ended.ended.after;
+  counted = ap (λ (t : State). t.events) ended.after ∙ good_events (flying_of ended.ticket s.flying) (landed ended.ticket s);
+})
+step_events Reap s s' d d' (inl (inr none)) =
+    inl (record { same = waited_same d d' none.0; counted = ap (λ (t : State). t.events) none.1 })
+step_events Reap s s' d d' (inr ended) = inr (record {
+  event = Done ended.ticket.place false;
+  more = ap (λ (e : Disk). e.history) ended.ended.after;
+  counted = ap (λ (t : State). t.events) ended.after;
+})
+step_events Take s s' d d' does = no_event s s' d d' (ap (λ (t : State). t.events) does.after) does.same
+step_events Flush s s' d d' does = inr (record {
+  event = FlushEvent;
+  more = ap (λ (e : Disk). e.history) does.submitted.after;
+  counted = ap (λ (t : State). t.events) does.after;
+})
+step_events Seal s s' d d' does = no_event s s' d d' (ap (λ (t : State). t.events) does.after) does.same
+step_events Record s s' d d' does = inr (record {
+  event = Write (piece_unit s.log does.writing) (piece_bytes s.log.number does.writing);
+  more = ap (λ (e : Disk). e.history) does.submitted.after;
+  counted = ap (λ (t : State). t.events) does.after;
+})
+step_events Sync s s' d d' does = inr (record {
+  event = FlushEvent;
+  more = ap (λ (e : Disk). e.history) does.submitted.after;
+  counted = ap (λ (t : State). t.events) does.after;
+})
+step_events Commit s s' d d' does = no_event s s' d d' (ap (λ (t : State). t.events) does.after) does.same
+step_events Finish s s' d d' does = no_event s s' d d' (ap (λ (t : State). t.events) does.after) does.same
+
+call_events : (call : Call) (s s' : State) (d d' : Disk) → Calls call s d s' d' → IsAtMostOne s s' d d'
+call_events (submitting client line change) s s' d d' made = no_event s s' d d' (of_answer made.1) made.2
+  where
+    of_answer : Submits client line change s s' → s'.events ≡ s.events
+    of_answer (inl accepts) = ap (λ (t : State). t.events) accepts.after
+    of_answer (inr refused) = ap (λ (t : State). t.events) refused.1.after
+call_events (stepping step) s s' d d' made = step_events step s s' d d' made.1
+
+-- ---- each call
+
+-- a start lies in the log without its last event
+earlier_start : (base : ℕ) (g : History) (e : Event) (opening : Objects) → base ≤ length g.log → IsStart base (with_event g e) opening
+    → IsStart base g opening
+earlier_start base g e opening reached start =
+    let same : take base (g.log ++ e ∷ []) ≡ take base g.log = take-append-le base g.log (e ∷ []) reached in
+    record {
+      reached = reached;
+      clean = λ unit. subst (λ (log : List Event). IsClean log unit) same (start.clean unit);
+      stands = subst (λ (log : List Event). StandsFor (last g.start log) opening) same start.stands;
+    }
+
+module _ (base : ℕ) (opening : Objects) (s s' : State) (d d' : Disk) (h : History) (keeps : KeepsDurable s d) (told : d'.history ≡ Some h)
+    (counted : length h.log ≡ base + s'.events) (start : IsStart base h opening) where
+  -- so it was durable before
+  before_none : IsNoEvent s s' d d' → IsDurable base opening s d
+  before_none none = keeps h base opening (sym none.same ∙ told) (counted ∙ ap (λ (n : ℕ). base + n) none.counted) start
+
+  before_one : IsOneEvent s s' d d' → IsDurable base opening s d
+  before_one one = of_history d.history refl
+    where
+      of_told : (g : History) → d.history ≡ Some g → with_event g one.event ≡ h → IsDurable base opening s d
+      of_told g was grew =
+          let size : length (g.log ++ one.event ∷ []) ≡ base + s'.events = ap (λ (k : History). length k.log) grew ∙ counted in
+          let before : length g.log ≡ base + s.events = omega (arith, size, one.counted, length-append g.log (one.event ∷ [])) in
+          keeps g base opening was before
+          (earlier_start base g one.event opening (omega (arith, before)) (subst (λ (k : History). IsStart base k opening) (sym grew) start))
+
+      of_history : (o : Option History) → d.history ≡ o → IsDurable base opening s d
+      of_history None was = let never : None ≡ Some h = sym (one.more ∙ ap (λ (x : Option History). grown x one.event) was) ∙ told in absurd (cc)
+      of_history (Some g) was =
+          of_told g was (same_Some (with_event g one.event) h (sym (one.more ∙ ap (λ (x : Option History). grown x one.event) was) ∙ told))
+
+pub call_keeps : (call : Call) (s s' : State) (d d' : Disk) → IsKept s d → IsSound d' → KeepsDurable s d → Calls call s d s' d' → KeepsDurable s' d'
+call_keeps call s s' d d' kept sound keeps made h base opening told counted start =
+    call_durable base opening call s s' d d' kept sound (elim (call_events call s s' d d' made) [
+      | inl none ↦ before_none base opening s s' d d' h keeps told counted start none
+      | inr one ↦ before_one base opening s s' d d' h keeps told counted start one
+    ]) made
+
+-- ---- a new store
+
+pub new_store_keeps : (sup : Super) (space : Space) (d : Disk) → IsKept (opened sup space 0) d → d.flights ≡ []
+    → ((h : History) → d.history ≡ Some h → ((unit : ℕ) → IsClean h.log unit)
+    → IsActiveSlot (last h.start h.log) sup × ((k : ℕ) → k < sup.half → last_at h (active_unit sup + k) ≡ zeros 4096))
+    → KeepsDurable (opened sup space 0) d
+new_store_keeps sup space d kept none found h base opening told counted start =
+    let s : State = opened sup space 0 in
+    let here : base ≡ length h.log = omega (arith, counted) in
+    let all : take base h.log ≡ h.log = take_all base h.log (omega (arith, here)) in
+    let clean : (unit : ℕ) → IsClean h.log unit = λ unit. subst (λ (log : List Event). IsClean log unit) all (start.clean unit) in
+    let holds = found h told clean in
+    let durable : IsDurable (length h.log) map.empty s d = opened_durable sup space d h kept told none clean holds.0 holds.1 in
+    let known : KnownOfStore (length h.log) map.empty s d h =
+    subst (KnownOfStore (length h.log) map.empty s d) (same_Some durable.history h (sym durable.told ∙ told)) (durable.up refl) in
+    let stands : StandsFor (last h.start h.log) map.empty = drained_stands (length h.log) map.empty s d h kept refl refl known in
+    let same : map.empty ≡ opening =
+    stands_for_one (last h.start h.log) map.empty opening stands
+    (subst (λ (log : List Event). StandsFor (last h.start log) opening) all start.stands) in
+    subst (λ (n : ℕ). IsDurable n opening s d) (sym here) (subst (λ (o : Objects). IsDurable (length h.log) o s d) same durable)
+
+-- ---- what it comes to
+
+pub kernel_durable : (base : ℕ) (opening : Objects) (s : State) (d : Disk) (h : History) → KeepsDurable s d → d.history ≡ Some h
+    → length h.log ≡ base + s.events → IsStart base h opening → EachCutStands base h opening s.book
+kernel_durable base opening s d h keeps told counted start =
+    let durable : IsDurable base opening s d = keeps h base opening told counted start in
+    subst (λ (k : History). EachCutStands base k opening s.book) (same_Some durable.history h (sym durable.told ∙ told)) durable.cuts

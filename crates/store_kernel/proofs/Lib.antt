@@ -4,3 +4,5 @@ pub mod Sending
 pub mod Batches
 pub mod Ending
 pub mod Opening
+pub mod Keeping
+pub mod ZeroDevice

@@ -33,7 +33,7 @@ same_range s busy (u ∷ us) =
     by true = (refl, refl)
     by false = (refl, length-set s.idle (u - s.first) true)
 
-all_alike : (n i x : ℕ) → get_or (replicate n x) i x ≡ x
+pub all_alike : (n i x : ℕ) → get_or (replicate n x) i x ≡ x
 all_alike zero i x = refl
 all_alike (suc n) zero x = refl
 all_alike (suc n) (suc i) x = all_alike n i x

@@ -5,3 +5,4 @@ pub mod Steps
 pub mod PlanFails
 pub mod Prepared
 pub mod Submitting
+pub mod Known

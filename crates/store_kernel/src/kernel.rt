@@ -11,6 +11,7 @@ ghost use Rattle.store_steps.specs.Submit.{free_count};
 ghost use Rattle.store_steps.specs.declared.step.Step.TheVariants.{Reap};
 ghost use Rattle.store_facts.specs.Space.{IsSpaceOf};
 ghost use Rattle.store_facts.specs.Kept.{IsKept};
+ghost use Rattle.crash_facts.specs.Store.{KeepsDurable};
 ghost use Rattle.store_kernel.specs.Steps.{TakesMemory};
 
 mod steps;
@@ -71,7 +72,7 @@ impl<D: Device> Model for Kernel<D> {
     ghost use Rattle.std.specs.Coded.{codes};
     ghost use Rattle.store_steps.specs.State.{Machine};
     ghost use Rattle.store_kernel.specs.Seen.{state_of, rows_code};
-    ghost use Rattle.store_facts.specs.Kept.{IsKept};
+    ghost use Rattle.store_kernel.specs.Known.{KnownOfKernel};
 
     ghost Value = { Machine D };
 
@@ -82,7 +83,7 @@ impl<D: Device> Model for Kernel<D> {
       state = state_of k.meta k.view.rows k.pending k.batch k.flying k.down k.events k.space k.entries.items k.commits.items k.acked;
     } };
 
-    ghost invariant = { λ k. IsKept
+    ghost invariant = { λ k. KnownOfKernel
         (state_of k.meta k.view.rows k.pending k.batch k.flying k.down k.events k.space k.entries.items k.commits.items k.acked) (D.disk k.device) };
 }
 
@@ -109,13 +110,14 @@ impl<D: Device + Drop> Drop for Kernel<D> {
 
 impl<D: Device> Kernel<D> {
     /// The kernel of a store without records, over a device on which nothing is in flight. `events` is how many events the
-    /// device has had since the mount began.
+    /// device has had since the mount began. `mount` calls it, and shows that the kernel is durable from its start.
     pub fn open(alloc: Global, device: D, sup: Super, events: u64) -> Result<Kernel<D>, D>
         requires idle { (D.disk device).flights ≡ [] }
         requires limits { IsSuper sup }
         requires units { sup.units ≡ (D.disk device).units }
         requires first { sup.first ≤ 2 ^ 61 }
         requires events { events < 2 ^ 61 }
+        requires durable { (space : Space) → IsKept (opened sup space events) (D.disk device) → KeepsDurable (opened sup space events) (D.disk device) }
         ensures ok { IfOk result (λ k. (space : Space) × (IsSpaceOf sup space × IsAllFree sup space × (k.state ≡ opened sup space events))) }
         ensures disk { MatchResult result (λ k. D.disk k.device ≡ D.disk device) (λ back. D.disk back ≡ D.disk device) }
         ensures faults { MatchResult result (λ k. D.faults k.device ≡ D.faults device) (λ back. D.faults back ≡ D.faults device) }
@@ -168,9 +170,10 @@ impl<D: Device> Kernel<D> {
         (device, book)
     }
 
-    /// What the kernel keeps from call to call. It does nothing.
+    /// What the kernel keeps from call to call, also while it is down: its own facts, and prefix durability. It does nothing.
     pub fn facts(&self)
-        ensures { IsKept self.now.state (D.disk self.now.device) }
+        ensures kept { IsKept self.now.state (D.disk self.now.device) }
+        ensures durable { KeepsDurable self.now.state (D.disk self.now.device) }
     {
         let _ = &self.events;
     }

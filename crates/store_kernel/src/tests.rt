@@ -1,5 +1,5 @@
 //! Kernels over devices in memory.
-ghost use Rattle.std.specs.Prelude.{◌≡◌, ◌≤◌, [], ◌∷◌, true, length, IfOk, IfSome};
+ghost use Rattle.std.specs.Prelude.{◌≡◌, ◌≤◌, ◌*◌, [], ◌∷◌, true, length, replicate, IfOk, IfSome};
 ghost use Rattle.block_device.specs.Memory.{disk_of};
 ghost use Rattle.store_steps.specs.Ready.{is_ready};
 ghost use Rattle.store_steps.specs.Submit.{IsKnown};
@@ -14,10 +14,11 @@ use std::test::Fail;
 use store_steps::Step;
 use unit_fields::{CollName, Name};
 
-// A device of so many units, on which one flush fails, or none.
+// A device of so many units, all of them zeros, on which one flush fails, or none.
 fn device(alloc: Global, units: usize, failing: Option<u64>) -> Result<MemoryDevice, Fail>
     requires { units ≤ 64 }
-    ensures { IfOk result (λ d. (disk_of d).flights ≡ []) }
+    ensures idle { IfOk result (λ d. (disk_of d).flights ≡ []) }
+    ensures zeros { IfOk result (λ d. (d.start ≡ replicate (4096 * units) 0) × (d.log ≡ [])) }
 {
     let contents = vec![in alloc; 0u8; 4096 * units]?;
     let mut fails = Vec::new(alloc);

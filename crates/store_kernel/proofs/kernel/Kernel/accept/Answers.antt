@@ -1,4 +1,4 @@
-use Rattle.store_facts.proofs.Kept.{kept_accept}
+use Rattle.store_kernel.proofs.Keeping.{known_accept}
 use Rattle.store_kernel.proofs.Admitting.{fresh_is_free, accepted}
 use Rattle.store_kernel.proofs.kernel.Kernel.accept.Goals as goal
 
@@ -13,9 +13,9 @@ invariant_of-self-2 g c =
     let k = c.self.inside in
     let may = rw (← c.self.view_is) at c.requires.may in
     let prepared = rw (← c.self.view_is) at c.requires.prepared in
-    kept_accept _ _ _ c.args.client c.args.line c.args.txn c.self.invariant may
+    known_accept _ _ _ c.args.client c.args.line c.args.txn c.self.invariant may
     (accepted k.meta k.view.rows k.pending k.batch k.flying k.down k.events k.space k.entries.items k.commits.items k.acked
-    _ c.args.client c.args.line c.args.txn c.args.ready _ _ _ _ _ _ c.self.invariant may prepared
+    _ c.args.client c.args.line c.args.txn c.args.ready _ _ _ _ _ _ c.self.invariant.kept may prepared
     c.in-Ok.ensures.set_aside (cc) c.split-context.ensures.context (cc) (cc) (cc))
 
 pub returns-clause-accepted : goal.returns-clause-accepted
@@ -25,5 +25,5 @@ returns-clause-accepted g c =
     let prepared = rw (← c.self.view_is) at c.requires.prepared in
     rw (← c.self.view_is)
     (accepted k.meta k.view.rows k.pending k.batch k.flying k.down k.events k.space k.entries.items k.commits.items k.acked
-    _ c.args.client c.args.line c.args.txn c.args.ready _ _ _ _ _ _ c.self.invariant may prepared
+    _ c.args.client c.args.line c.args.txn c.args.ready _ _ _ _ _ _ c.self.invariant.kept may prepared
     c.in-Ok.ensures.set_aside (cc) c.split-context.ensures.context (cc) (cc) (cc))

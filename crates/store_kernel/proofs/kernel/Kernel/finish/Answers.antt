@@ -1,14 +1,14 @@
 use Rattle.store_steps.specs.declared.step.Step.TheVariants.{Finish}
-use Rattle.store_facts.proofs.Kept.{kept_step}
+use Rattle.store_kernel.proofs.Keeping.{known_step}
 use Rattle.store_kernel.proofs.Batches.{finish_does}
 use Rattle.store_kernel.proofs.kernel.Kernel.finish.Goals as goal
 
 pub invariant_of-self : goal.invariant_of-self
 invariant_of-self g c =
     let ready = rw (← c.self.view_is) at c.requires in
-    kept_step Finish _ _ _ _ c.self.invariant ready (finish_does _ _ c.index_mut-commit.result.now c.self.invariant ready c.index_mut-commit.ensures.value) c.self.invariant.always.device
+    known_step Finish _ _ _ _ c.self.invariant ready (finish_does _ _ c.index_mut-commit.result.now c.self.invariant.kept ready c.index_mut-commit.ensures.value) c.self.invariant.kept.always.device
 
 pub returns-clause-does : goal.returns-clause-does
 returns-clause-does g c =
     let ready = rw (← c.self.view_is) at c.requires in
-    rw (← c.self.view_is) (finish_does _ _ c.index_mut-commit.result.now c.self.invariant ready c.index_mut-commit.ensures.value)
+    rw (← c.self.view_is) (finish_does _ _ c.index_mut-commit.result.now c.self.invariant.kept ready c.index_mut-commit.ensures.value)

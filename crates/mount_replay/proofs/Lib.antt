@@ -5,3 +5,4 @@ pub mod CleanLemmas
 pub mod MadeLemmas
 pub mod OpeningLemmas
 pub mod MountingLemmas
+pub mod NewStore

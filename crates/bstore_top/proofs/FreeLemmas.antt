@@ -21,7 +21,7 @@ use Rattle.store_facts.proofs.Known.{known_idle}
 use Rattle.unit_facts.specs.Known.{KnownOfUnits}
 use Rattle.unit_facts.proofs.Runs.{idle_half}
 use Rattle.crash_facts.proofs.Now.{size_now}
-use Rattle.bstore_top.specs.Finished.{AreUnowned, HasFree}
+use Rattle.bstore_top.specs.Standing.{AreUnowned, HasFree}
 
 -- a free unit is a data unit that nobody owns, and the other way round
 module _ (sup : Super) (rows : Rows) (space : Space) (is : IsSpaceOf sup space) (exact : IsFreeExactly sup rows rows space) where

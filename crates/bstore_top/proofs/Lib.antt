@@ -8,3 +8,4 @@ pub mod RunLemmas
 pub mod WorkLemmas
 pub mod FreeLemmas
 pub mod RunLaws
+pub mod Keeping

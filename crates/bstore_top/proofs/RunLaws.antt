@@ -48,7 +48,8 @@ use Rattle.bstore_top.specs.Choice.{ready_list, Position, IsDrawnRun}
 use Rattle.bstore_top.specs.Printed.{Output, TookAll}
 use Rattle.bstore_top.specs.StepTexts.{step_number, step_text}
 use Rattle.bstore_top.specs.StepRun.{Seen, AskedUpTo, RunsScript, WorksOn, EndsOpened, IsStepDone, ReportsStep, RanStep}
-use Rattle.bstore_top.specs.Finished.{HasFree, IsFinished, IsComplete, TellsFinished, Succeeded}
+use Rattle.bstore_top.specs.Standing.{HasFree, IsFinished, IsComplete}
+use Rattle.bstore_top.specs.Finished.{TellsFinished, Succeeded}
 use Rattle.bstore_top.proofs.FreeLemmas.{drained_free}
 
 -- ---- runs
@@ -79,11 +80,11 @@ opened_book : (given : Disk) (sup : Super) (space : Space) (s : State) → IsOpe
 opened_book given sup space s mounted = subst (KnownOfBook finite.empty) (sym mounted.state) (book_opened sup space 0)
 
 -- in a log without events nothing is dirty
-clean_of_none : (log : List Event) → log ≡ [] → (unit : ℕ) → IsClean log unit
+pub clean_of_none : (log : List Event) → log ≡ [] → (unit : ℕ) → IsClean log unit
 clean_of_none log none unit place event there writes = absurd (omega (arith, slice_get-lt log event place there, ap (λ (l : List Event). length l) none))
 
 module _ (given : Disk) (h : History) (sound : IsSound given) (fresh : IsFresh given) (told : given.history ≡ Some h) where
-  log_empty : h.log ≡ []
+  pub log_empty : h.log ≡ []
   log_empty = subst (λ (o : Option History). IfSome o (λ g. g.log ≡ [])) told fresh.log
 
   store_durable : (sup : Super) (space : Space) (s : State) → IsOpenedOn given sup space s → IsDurable 0 finite.empty s given
@@ -99,6 +100,20 @@ module _ (given : Disk) (h : History) (sound : IsSound given) (fresh : IsFresh g
       subst (λ (n : ℕ). IsDurable n finite.empty s given) (ap (λ (l : List Event). length l) log_empty)
       (subst (λ (t : State). IsDurable (length h.log) finite.empty t given) (sym mounted.state)
       (opened_durable sup space given h kept told fresh.idle clean store.active zeroed))
+
+  -- an opened store stands for no collection
+  pub opened_stands : (sup : Super) (space : Space) (s : State) → IsOpenedOn given sup space s → StandsFor h.start finite.empty
+  opened_stands sup space s mounted =
+      let after : IsDurable 0 finite.empty (opened sup space 0) given =
+      subst (λ (t : State). IsDurable 0 finite.empty t given) mounted.state (store_durable sup space s mounted) in
+      let kept : IsKept (opened sup space 0) given =
+      subst (λ (t : State). IsKept t given) mounted.state (opened_kept given sup space s sound fresh.idle mounted) in
+      let both : Some after.history ≡ Some h = sym after.told ∙ told in
+      let same : after.history ≡ h = cc in
+      let stands : StandsFor (last after.history.start after.history.log) finite.empty =
+      drained_stands 0 finite.empty (opened sup space 0) given after.history kept refl refl (after.up refl) in
+      let here : StandsFor (last h.start h.log) finite.empty = subst (λ (k : History). StandsFor (last k.start k.log) finite.empty) same stands in
+      subst (λ (l : List Event). StandsFor (last h.start l) finite.empty) log_empty here
 
 -- ---- a run of a script, however it ended
 

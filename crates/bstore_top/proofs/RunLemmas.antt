@@ -1,10 +1,9 @@
 -- Drawn runs, call by call.
 use Rattle.std.proofs.Common.{◌≡◌, inl, inr, ℕ, ◌+◌, ◌<◌, ◌≤◌, ◌/◌, ◌%◌, ◌^◌, true, false, List, [], ◌∷◌, ◌++◌, map, length, Option, Some, None, Result, Ok, Err, OnOk, IfErr, MatchResult, ap, ◌∙◌, sym, refl, subst, suc, arith, append_assoc, length-append}
 use Rattle.std.specs.List.{AllByRecursion}
-use Rattle.std.proofs.lemmas.List.{length-replicate}
 use Rattle.object_model.specs.declared.op.Op.{Op}
 use Rattle.object_model.specs.declared.op.Op.TheVariants as op
-use Rattle.script_text.specs.Grammar.{filled, Fits, FitsOps}
+use Rattle.script_text.specs.Grammar.{Fits, HasSinglePage}
 use Rattle.script_text.specs.declared.line.Line.{Line}
 use Rattle.script_text.specs.declared.line.What.{What}
 use Rattle.script_text.specs.declared.line.What.TheVariants as what
@@ -268,17 +267,13 @@ pub record IsRunning (x0 : ℕ) (lines : List Line) (s0 : State) (d0 : Disk) (x 
 pub script_begins : (x : ℕ) (lines : List Line) (s : State) (d : Disk) → s.down ≡ None → AllByRecursion FitsLine lines → length s.book.entries + length (asks_of lines) ≤ 1048576 → IsRunning x lines s d x lines s d
 script_begins x lines s d up fits room = record { leads = stays (at_position x (asks_of lines) s d); up = up; entries = refl; fits = fits; room = room }
 
-length_filled : (b : ℕ) → length (filled b) ≡ 4096
-unfolding filled
-length_filled b = length-replicate 4096 b
-
-known_ops : (ops : List Op) → FitsOps ops → IsKnown ops
-known_ops (op.MkColl ∷ []) f = tt
-known_ops (op.Write o off bytes ∷ []) f = (f.2, ap (λ (l : List ℕ). length l) f.3.2 ∙ length_filled f.3.0)
-known_ops ops f = absurd f
+known_ops : (ops : List Op) → HasSinglePage ops → IsKnown ops
+known_ops (op.MkColl ∷ []) page = tt
+known_ops (op.Write o off bytes ∷ []) page = page
+known_ops ops page = absurd page
 
 fits_known : (change : Change) → Fits (what.Command (command.Change change)) → IsKnown change.ops
-fits_known change fits = known_ops change.ops fits.1
+fits_known change fits = known_ops change.ops fits
 
 -- a `wait` is passed over
 pub wait_passed : (x0 : ℕ) (lines : List Line) (s0 : State) (d0 : Disk) (x : ℕ) (items left : List Line) (next : Line) (s : State) (d : Disk) → IsRunning x0 lines s0 d0 x items s d → items ≡ next ∷ left → next.what ≡ what.Wait

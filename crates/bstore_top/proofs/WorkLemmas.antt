@@ -58,7 +58,7 @@ few_asked n (Some w ∷ more) = omega (arith, length-append (asked n w) (asks_of
 all_fit : (texts : List (List ℕ)) (n : ℕ) (said : List (Option What)) → EachSays texts said → AllByRecursion FitsLine (numbered n said)
 all_fit [] n [] says = tt
 all_fit (text ∷ texts) n (None ∷ more) says = all_fit texts (n + 1) more says.1
-all_fit (text ∷ texts) n (Some w ∷ more) says = (says.0.1, all_fit texts (n + 1) more says.1)
+all_fit (text ∷ texts) n (Some w ∷ more) says = (says.0.fits, all_fit texts (n + 1) more says.1)
 all_fit [] n (s ∷ more) says = absurd says
 all_fit (text ∷ texts) n [] says = absurd says
 

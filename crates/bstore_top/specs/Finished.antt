@@ -1,50 +1,16 @@
--- What a device holds where a run on it has done all that there was to do.
-use Rattle.std.specs.Prelude.{◌≡◌, ◌↔◌, ℕ, List, [], length, Some, IfSome, Contains}
+-- What a run of `step` has done that returns 0.
+use Rattle.std.specs.Prelude.{◌≡◌, ℕ, List, [], Some, IfSome}
 use Rattle.std.specs.FinMap as map
-use Rattle.unit_fields.specs.UnitSet.{Ascends}
-use Rattle.block_device.specs.Log.{last, IsClean}
 use Rattle.block_device.specs.Disk.{Disk, History}
 use Rattle.end_points.specs.Bay.{BayView}
-use Rattle.object_model.specs.Effect.{replay}
-use Rattle.object_model.specs.Book.{accepted, acked_count, places_of, committed_places, IsLegal}
+use Rattle.object_model.specs.Book.{IsLegal}
 use Rattle.object_model.specs.declared.book.Book.{Book}
-use Rattle.meta_rows.specs.Rows.{Rows}
-use Rattle.meta_log.specs.declared.slot.Super.{Super}
-use Rattle.meta_log.specs.Slots.{IsActiveSlot}
-use Rattle.meta_log.specs.Records.{AreRowsOf}
-use Rattle.store_image.specs.Owners.{IsOwned, IsDataUnit}
-use Rattle.store_image.specs.Stands.{StandsFor}
 use Rattle.script_text.specs.declared.line.Line.{Line}
 use Rattle.bstore_top.specs.declared.step_end.StepEnd.TheVariants.{Done}
 use Rattle.bstore_top.specs.Printed.{Output, TookAll}
+use Rattle.bstore_top.specs.Standing.{IsFinished, IsComplete}
 use Rattle.bstore_top.specs.StepTexts.{step_text}
 use Rattle.bstore_top.specs.StepRun.{HasScript, AskedUpTo, Seen}
-
--- these are the data units that nobody owns
-pub record AreUnowned (sup : Super) (rows : Rows) (units : List ℕ) : Type 0 where
-  pub ascend : Ascends units
-  pub each : (unit : ℕ) → Contains units unit ↔ (IsDataUnit sup unit × (¬ IsOwned rows unit))
-
--- nobody owns so many data units, by the rows that the records of the active half make
-pub record HasFree (contents : List ℕ) (free : ℕ) : Type 0 where
-  pub sup : Super
-  pub active : IsActiveSlot contents sup
-  pub rows : Rows
-  pub read : AreRowsOf contents sup rows
-  pub units : List ℕ
-  pub unowned : AreUnowned sup rows units
-  pub count : free ≡ length units
-
--- The device stands for the objects after all transactions of the book that were accepted, no unit is dirty, and so many are free.
-pub record IsFinished (free : ℕ) (book : Book) (h : History) : Type 0 where
-  pub stands : StandsFor (last h.start h.log) (replay map.empty (accepted book.entries))
-  pub clean : (unit : ℕ) → IsClean h.log unit
-  pub has_free : HasFree (last h.start h.log) free
-
--- each accepted transaction is committed, those of a collection in their order, and each commit is acknowledged
-pub record IsComplete (book : Book) : Type 0 where
-  pub in_order : (coll : List ℕ) → places_of coll book.entries ≡ committed_places coll book.entries book.commits
-  pub acked : acked_count book.commits ≡ length book.commits
 
 -- the device tells a history, and the run has finished on it
 pub record TellsFinished (free : ℕ) (book : Book) (disk : Disk) : Type 0 where

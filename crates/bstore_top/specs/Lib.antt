@@ -5,6 +5,8 @@ pub mod Replies
 pub mod StepTexts
 pub mod Printed
 pub mod Choice
+pub mod Standing
+pub mod Keeping
 pub mod StepRun
 pub mod Finished
 pub mod Stepping

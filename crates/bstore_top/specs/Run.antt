@@ -1,5 +1,6 @@
 -- What a run does.
-use Rattle.std.specs.Prelude.{◌≡◌, ◌⊎◌, ℕ, ◌<◌, ◌≤◌, List, [], Option, Some, None, IsSomeAnd}
+use Rattle.std.specs.Prelude.{◌≡◌, ◌⊎◌, ℕ, ◌<◌, ◌≤◌, List, [], Option, Some, None, IsSomeAnd, IfSome}
+use Rattle.std.specs.FinMap as map
 use Rattle.block_device.specs.Disk.{Disk, Rose}
 use Rattle.end_points.specs.Bay.{BayView, HandedOut}
 use Rattle.end_points.specs.declared.bay.How.{How}
@@ -7,7 +8,9 @@ use Rattle.end_points.specs.declared.bay.How.TheVariants.{Make, Plain}
 use Rattle.mount_replay.specs.Calls.{IsLater}
 use Rattle.mount_replay.specs.NewSuper.{units_needed}
 use Rattle.mount_replay.specs.Made.{HoldsEmptyStore}
+use Rattle.object_model.specs.Objects.{Objects}
 use Rattle.object_model.specs.declared.book.Book.{Book}
+use Rattle.store_image.specs.Stands.{StandsFor}
 use Rattle.bstore_top.specs.declared.command_line.CommandLine.{CommandLine}
 use Rattle.bstore_top.specs.declared.command_line.CommandLine.TheVariants.{Mkfs, Step}
 use Rattle.bstore_top.specs.declared.status.Stop.{Stop}
@@ -16,6 +19,7 @@ use Rattle.bstore_top.specs.CommandLine.{Spells, IsNoStep}
 use Rattle.bstore_top.specs.Status.{end_number}
 use Rattle.bstore_top.specs.Texts.{as_text, mkfs_text}
 use Rattle.bstore_top.specs.Printed.{Output, Printed}
+use Rattle.bstore_top.specs.Keeping.{IsDurableFrom}
 use Rattle.bstore_top.specs.StepRun.{Seen, RanStep}
 
 -- ---- mkfs
@@ -69,6 +73,13 @@ ComesBack (Step name seed script) old (Some disk) new = IsOfGiven name Plain old
 abbrev pub CameBack : List (List ℕ) → BayView → Option Disk → BayView → Type 0
 CameBack words old None new = new ≡ old
 CameBack words old (Some disk) new = (line : CommandLine) × (Spells words line × ComesBack line old (Some disk) new)
+
+-- Prefix durability, of the device that `step` names: where the bay tells its contents, and these stand for some objects, each crash since
+-- leaves the objects after a front of the commits of the book that comes back.
+abbrev pub EachCrashLeavesPrefix : CommandLine → BayView → Option Disk → Book → Type 0
+EachCrashLeavesPrefix (Step name seed script) bay (Some disk) book = IfSome bay.names (λ names. (contents : List ℕ) (objects : Objects)
+    → map.get names.devices name ≡ Some contents → StandsFor contents objects → IsDurableFrom contents objects book disk)
+EachCrashLeavesPrefix line bay disk book = Unit {0}
 
 -- `mkfs` leaves an empty store with the numbers that were asked for
 abbrev pub HasStore : CommandLine → Disk → Type 0

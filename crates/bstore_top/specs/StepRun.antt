@@ -31,6 +31,7 @@ use Rattle.bstore_top.specs.declared.status.Stop.TheVariants as stop
 use Rattle.bstore_top.specs.Texts.{as_text, stopped_line}
 use Rattle.bstore_top.specs.StepTexts.{step_number, step_text}
 use Rattle.bstore_top.specs.Printed.{Output, Printed}
+use Rattle.bstore_top.specs.Keeping.{KeepsStore}
 use Rattle.bstore_top.specs.Choice.{Ask, asks_of, ready_list, Position, at_position, IsDrawnRun}
 
 -- ---- the script
@@ -177,6 +178,7 @@ pub record EndsOpened (dev script : List ℕ) (seed : ℕ) (end : StepEnd) (seen
   pub faults : ℕ
   pub are_faults : seen.dev_faults ≡ Some faults
   pub works : WorksOn seed lines given 0 end seen.book disk faults
+  pub keeps : KeepsStore given end seen.book disk
 
 -- how far a run came
 abbrev pub IsStepDone : List ℕ → List ℕ → ℕ → StepEnd → Seen → BayView → BayView → ℕ → ℕ → Type 0

@@ -18,10 +18,7 @@ mod stepping;
 mod texts;
 
 pub use command_line::{CommandLine, FileName, read_words};
-pub use laws::{
-    a_drawn_run_is_a_run, a_finished_run_stands, a_run_has_a_legal_book, a_run_is_durable,
-    a_run_that_returns_0_has_succeeded,
-};
+pub use laws::{a_drawn_run_is_a_run, a_run_that_returns_0_has_succeeded};
 pub use outcome::Outcome;
 pub use running::{solo, top};
 pub use status::{Status, Stop};

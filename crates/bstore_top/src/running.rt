@@ -6,7 +6,7 @@ ghost use Rattle.bstore_top.specs.CommandLine.{words_of, IsInRange, IsHalf, IsUn
 ghost use Rattle.bstore_top.specs.Status.{number};
 ghost use Rattle.bstore_top.specs.Printed.{output};
 ghost use Rattle.bstore_top.specs.StepRun.{seen, RanStep};
-ghost use Rattle.bstore_top.specs.Run.{Ran, RanMkfs, ShowedUsage, ForLine, ComesBack, CameBack, HasStore, IsBare, IsBareUnlessStep, LeavesBook};
+ghost use Rattle.bstore_top.specs.Run.{Ran, RanMkfs, ShowedUsage, ForLine, ComesBack, CameBack, EachCrashLeavesPrefix, HasStore, IsBare, IsBareUnlessStep, LeavesBook};
 
 use crate::making::{Work, make_store};
 use crate::printing::{report_mkfs, report_step, show_usage};
@@ -57,6 +57,7 @@ fn run_mkfs<B: Bay, K: Sink>(
 }
 
 /// Runs `step`.
+#[tactic(auto, using(crate::proofs::Keeping::done_durable))]
 fn run_step<B: Bay, K: Sink>(
     alloc: Global,
     dev: &FileName<'_>,
@@ -71,6 +72,7 @@ fn run_step<B: Bay, K: Sink>(
         (B.bay bay.old) (B.bay bay.new) (B.faults bay.old) (B.faults bay.new)
         (output (K.written out.old) (K.faults out.old)) (output (K.written out.new) (K.faults out.new)) }
     ensures device { ComesBack (Step dev.now seed script.now) (B.bay bay.old) (option_map B.Dev.disk result.dev) (B.bay bay.new) }
+    ensures durable { EachCrashLeavesPrefix (Step dev.now seed script.now) (B.bay bay.old) (option_map B.Dev.disk result.dev) result.book }
     ensures turns { result.turns.items ≡ [] }
 {
     let StepWork {
@@ -102,6 +104,7 @@ fn run<B: Bay, K: Sink>(
         (B.bay bay.old) (B.bay bay.new) (B.faults bay.old) (B.faults bay.new)
         (output (K.written out.old) (K.faults out.old)) (output (K.written out.new) (K.faults out.new)) }
     ensures device { ComesBack line.now (B.bay bay.old) (option_map B.Dev.disk result.dev) (B.bay bay.new) }
+    ensures durable { EachCrashLeavesPrefix line.now (B.bay bay.old) (option_map B.Dev.disk result.dev) result.book }
     ensures store { result.status ≡ 0 → IsSomeAnd (option_map B.Dev.disk result.dev) (HasStore line.now) }
     ensures rest { LeavesBook line.now result.sources.items result.book }
     ensures turns { result.turns.items ≡ [] }
@@ -129,6 +132,7 @@ pub fn solo<B: Bay, K: Sink>(
         (B.bay bay.old) (B.bay bay.new) (B.faults bay.old) (B.faults bay.new)
         (output (K.written out.old) (K.faults out.old)) (output (K.written out.new) (K.faults out.new))) }
     ensures device { CameBack (words_of words.now) (B.bay bay.old) (option_map B.Dev.disk result.dev) (B.bay bay.new) }
+    ensures durable { ForLine (words_of words.now) (λ line. EachCrashLeavesPrefix line (B.bay bay.old) (option_map B.Dev.disk result.dev) result.book) }
     ensures store { result.status ≡ 0 → ForLine (words_of words.now) (λ line. IsSomeAnd (option_map B.Dev.disk result.dev) (HasStore line)) }
     ensures rest { IsBareUnlessStep (words_of words.now) result.sources.items result.book }
     ensures turns { result.turns.items ≡ [] }
@@ -156,6 +160,7 @@ pub fn top<B: Bay, K: Sink, G: Gate>(
         (B.bay bay.old) (B.bay bay.new) (B.faults bay.old) (B.faults bay.new)
         (output (K.written out.old) (K.faults out.old)) (output (K.written out.new) (K.faults out.new))) }
     ensures device { CameBack (words_of words.now) (B.bay bay.old) (option_map B.Dev.disk result.dev) (B.bay bay.new) }
+    ensures durable { ForLine (words_of words.now) (λ line. EachCrashLeavesPrefix line (B.bay bay.old) (option_map B.Dev.disk result.dev) result.book) }
     ensures store { result.status ≡ 0 → ForLine (words_of words.now) (λ line. IsSomeAnd (option_map B.Dev.disk result.dev) (HasStore line)) }
     ensures rest { IsBareUnlessStep (words_of words.now) result.sources.items result.book }
     ensures turns { result.turns.items ≡ [] }

@@ -3,7 +3,9 @@ ghost use Rattle.std.specs.Prelude.{◌≡◌, ◌<◌, ◌≤◌, ◌+◌, ◌^
 ghost use Rattle.std.specs.List.{AllByRecursion};
 ghost use Rattle.std.specs.Option.{option_map};
 ghost use Rattle.bstore_top.specs.declared.command_line.CommandLine.TheVariants.{Step};
+ghost use Rattle.block_device.specs.Disk.{IsSound, IsFresh};
 ghost use Rattle.bstore_top.specs.Choice.{asks_of};
+ghost use Rattle.bstore_top.specs.Keeping.{KeepsStore};
 ghost use Rattle.bstore_top.specs.Stepping.{FitsLine};
 ghost use Rattle.bstore_top.specs.StepRun.{HasScript, FailsBefore, WorksOn, IsStepDone, seen, end_of_mount, end_of_run, end_of_bay, end_of_script};
 ghost use Rattle.mount_replay.specs.Calls.{IsLater};
@@ -77,6 +79,7 @@ fn work_on<D: Device>(alloc: Global, dev: D, seed: u32, lines: Vec<Line>) -> (St
     requires fits { AllByRecursion FitsLine lines.items }
     requires room { length (asks_of lines.items) ≤ 1048576 }
     ensures works { WorksOn seed lines.items (D.disk dev) (D.faults dev) result.0 result.2 (D.disk result.1) (D.faults result.1) }
+    ensures keeps { IsSound (D.disk dev) → IsFresh (D.disk dev) → KeepsStore (D.disk dev) result.0 result.2 (D.disk result.1) }
     ensures later { IsLater (D.disk dev) (D.disk result.1) }
 {
     let mut kernel = match mount(alloc, dev) {

@@ -158,8 +158,18 @@ const NINE: &str =
     write 1.0_head b 0 fill:03:4096\nwrite 1.0_head a 0 fill:04:4096\nwrite 1.0_head a 0 fill:05:4096\nwait\n\
     write 1.0_head a 0 fill:06:4096\nwrite 1.0_head a 0 fill:07:4096\nwrite 1.0_head a 0 fill:08:4096";
 
+/// A page of 0a and ff in turn, as digits.
+fn page_in_digits(alloc: Global) -> Result<String, Fail> {
+    let mut script = String::from_str(alloc, "mkcoll 1.0_head\nwrite 1.0_head a 0 hex:")?;
+    for _ in 0..2048 {
+        script.push_str("0aff")?;
+    }
+    Ok(script)
+}
+
 #[test]
 fn scripts(rt: HostRuntime) -> Result<(), Fail> {
+    let digits = page_in_digits(rt.alloc())?;
     for (units, script, status, text, back) in [
         (
             64,
@@ -188,6 +198,13 @@ fn scripts(rt: HostRuntime) -> Result<(), Fail> {
             0,
             "0:1 ok\n0:2 ok\n0:3 ok\n0:6 ok\n0:7 ok\n0:8 ok\n0:10 ok\n0:11 ok\n0:12 E10 MetaFull need=1 room=0\n\
             done accepted=8 refused=1 reads=0 commits=8 free=44\n",
+            Some(64),
+        ),
+        (
+            64,
+            digits.as_str(),
+            0,
+            "0:1 ok\n0:2 ok\ndone accepted=2 refused=0 reads=0 commits=2 free=45\n",
             Some(64),
         ),
         (

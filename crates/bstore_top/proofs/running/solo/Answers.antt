@@ -6,3 +6,6 @@ returns-in-Some-clause-run g c line spelled = rw (← one_line _ _ line c.in-Som
 
 pub returns-in-Some-clause-store : goal.returns-in-Some-clause-store
 returns-in-Some-clause-store g c done line spelled = rw (← one_line _ _ line c.in-Some.ensures spelled) (c.run.ensures.store done)
+
+pub returns-in-Some-clause-durable : goal.returns-in-Some-clause-durable
+returns-in-Some-clause-durable g c line spelled = rw (← one_line _ _ line c.in-Some.ensures spelled) c.run.ensures.durable

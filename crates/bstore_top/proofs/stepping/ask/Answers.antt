@@ -8,4 +8,4 @@ pub returns-clause-ran : goal.returns-clause-ran
 returns-clause-ran g c =
     submitted_ends (record { line = c.args.line; change = c.args.txn }) c.submit-submitted.result c.noted.result _ _ _ _ _ _ _ _ _ c.in_ok-drain.ensures.ran
     (may_submit c.args.txn _ _ _ _ _ _ c.in_ok-drain.ensures.ran c.requires.known c.requires.room)
-    c.submit-submitted.ensures.accepted c.submit-submitted.ensures.refused c.noted.ensures c.turn.ensures c.submit-submitted.ensures.disk c.facts.ensures.always.device
+    c.submit-submitted.ensures.accepted c.submit-submitted.ensures.refused c.noted.ensures c.turn.ensures c.submit-submitted.ensures.disk c.facts.ensures.kept.always.device

@@ -1,0 +1,37 @@
+-- What a run on a store leaves of its device and of its book, whatever happened on the way.
+use Rattle.std.specs.Prelude.{◌≡◌, ℕ, List, Some}
+use Rattle.std.specs.FinMap as map
+use Rattle.block_device.specs.Disk.{Disk, History}
+use Rattle.object_model.specs.Book.{IsLegal}
+use Rattle.object_model.specs.Objects.{Objects}
+use Rattle.object_model.specs.declared.book.Book.{Book}
+use Rattle.store_image.specs.Stands.{StandsFor}
+use Rattle.store_image.specs.Durability.{EachCutStands}
+use Rattle.bstore_top.specs.declared.step_end.StepEnd.{StepEnd}
+use Rattle.bstore_top.specs.declared.step_end.StepEnd.TheVariants.{Done}
+use Rattle.bstore_top.specs.Standing.{IsFinished}
+
+-- Prefix durability of a run. The device tells a log that began with these contents. At every cut of it, whatever image the crash allows
+-- stands for the objects after the first commits of the book, among which is each one acknowledged by then, unless something torn is
+-- valid by chance.
+pub record IsDurableFrom (contents : List ℕ) (objects : Objects) (book : Book) (disk : Disk) : Type 0 where
+  pub history : History
+  pub told : disk.history ≡ Some history
+  pub started : history.start ≡ contents
+  pub cuts : EachCutStands 0 history objects book
+
+-- so it is for whatever objects the contents of the given device stood for, where it tells them
+abbrev pub StaysDurable : Disk → Book → Disk → Type 0
+StaysDurable given book disk = (h : History) (objects : Objects) → given.history ≡ Some h → StandsFor h.start objects
+    → IsDurableFrom h.start objects book disk
+
+-- where the run has done all that there was to do, the device stands for just that
+abbrev pub StandsAtEnd : Disk → StepEnd → Book → Disk → Type 0
+StandsAtEnd given end book disk = (free : ℕ) (h : History) → end ≡ Done free → given.history ≡ Some h
+    → (after : History) × (disk.history ≡ Some after) × IsFinished free book after
+
+-- Each transaction has the answer that plain objects give, each collection's were committed in their order, and the device keeps them.
+pub record KeepsStore (given : Disk) (end : StepEnd) (book : Book) (disk : Disk) : Type 0 where
+  pub legal : IsLegal map.empty book
+  pub durable : StaysDurable given book disk
+  pub at_end : StandsAtEnd given end book disk

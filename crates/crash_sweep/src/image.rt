@@ -1,0 +1,136 @@
+//! What an image of a device holds.
+
+use crate::object::{Object, read_object};
+use crate::record::{Rows, make_all, read_record};
+use byte_maps::Bytes;
+use crc32c_csum::crc32c;
+use std::alloc::{AllocError, Global};
+use unit_fields::Fields;
+
+/// The rows of a store in an image.
+#[derive(Drop)]
+pub struct Found {
+    rows: Rows,
+}
+
+/// A valid superblock slot.
+#[derive(Drop)]
+struct Slot {
+    half: u32,
+    epoch: u64,
+    first: u64,
+}
+
+/// The bytes of a unit.
+pub fn unit(image: &[u8], at: u32) -> Option<&[u8]> {
+    let from = 4096 * at as usize;
+    image.get(from..from + 4096)
+}
+
+/// The slot of this number, where it is valid.
+fn read_slot(image: &[u8], at: u32) -> Option<Slot> {
+    let (body, sum) = unit(image, at)?.split_at_checked(4092)?;
+    let kept = Fields::new(sum).u32()?;
+    let mut fields = Fields::new(body);
+    let magic = fields.bytes(8)?;
+    let version = fields.u32()?;
+    let units = fields.u32()?;
+    let half = fields.u32()?;
+    let _prefer = fields.u32()?;
+    let epoch = fields.u64()?;
+    let first = fields.u64()?;
+    let valid = magic == b"BSTORE01".as_slice()
+        && version == 1
+        && kept == crc32c(body)
+        && fields.rest().iter().all(|byte| *byte == 0)
+        && image.len() == 4096 * units as usize
+        && 2 * half as usize + 3 <= units as usize
+        && epoch % 2 == at as u64;
+    if valid {
+        Some(Slot { half, epoch, first })
+    } else {
+        None
+    }
+}
+
+/// The valid slot of greatest epoch.
+fn active_slot(image: &[u8]) -> Option<Slot> {
+    match (read_slot(image, 0), read_slot(image, 1)) {
+        (Some(a), Some(b)) => Some(if a.epoch < b.epoch { b } else { a }),
+        (Some(a), None) => Some(a),
+        (None, b) => b,
+    }
+}
+
+/// The rows that the records of the active half make.
+fn read_rows(alloc: Global, image: &[u8], slot: &Slot) -> Result<Rows, AllocError> {
+    let mut rows = Vec::new(alloc);
+    let half = slot.half as usize;
+    let start = 2 + half * (slot.epoch % 2) as usize;
+    let mut left = image
+        .get(4096 * start..4096 * (start + half))
+        .unwrap_or(&[]);
+    let mut number = slot.first;
+    for _ in 0..slot.half {
+        let Some(record) = read_record(left, number) else {
+            break;
+        };
+        make_all(alloc, &mut rows, &record)?;
+        left = record.rest;
+        number = number.wrapping_add(1);
+    }
+    Ok(rows)
+}
+
+/// Whether the row is one of a collection, of an object, or of a shard.
+fn is_known(row: &(Bytes, Bytes)) -> bool {
+    match row.0.as_slice() {
+        [b'C', ..] => row.1.is_empty(),
+        [b'O', ..] => !row.1.is_empty(),
+        _ => false,
+    }
+}
+
+impl Found {
+    /// What the image holds; None where neither slot is valid, or a row is of no kind that there is.
+    pub fn read(alloc: Global, image: &[u8]) -> Result<Option<Found>, AllocError> {
+        let Some(slot) = active_slot(image) else {
+            return Ok(None);
+        };
+        let rows = read_rows(alloc, image, &slot)?;
+        if rows.iter().all(is_known) {
+            Ok(Some(Found { rows }))
+        } else {
+            Ok(None)
+        }
+    }
+
+    /// How many rows there are of collections, of objects and of shards together.
+    pub fn len(&self) -> usize {
+        self.rows.len()
+    }
+
+    /// Whether there is no row.
+    pub fn is_empty(&self) -> bool {
+        self.rows.is_empty()
+    }
+
+    /// Whether there is this collection.
+    pub fn has_collection(&self, coll: &[u8]) -> bool {
+        self.rows.iter().any(|row| match row.0.as_slice() {
+            [b'C', name @ ..] => name == coll,
+            _ => false,
+        })
+    }
+
+    /// What stands under two names.
+    pub fn object(
+        &self,
+        alloc: Global,
+        image: &[u8],
+        coll: &[u8],
+        name: &[u8],
+    ) -> Result<Object, AllocError> {
+        read_object(alloc, image, self.rows.as_slice(), coll, name)
+    }
+}

@@ -1,0 +1,114 @@
+//! The bytes of an object, of its rows and its pages.
+
+use crate::image::unit;
+use crate::record::value_of;
+use byte_maps::Bytes;
+use crc32c_csum::crc32c;
+use std::alloc::{AllocError, Global};
+use unit_fields::Fields;
+
+/// What stands under two names.
+#[derive(Debug, Drop)]
+pub enum Object {
+    /// There is no such object.
+    Missing,
+    /// A row says what no row says, or a page has another checksum than its row keeps.
+    Damaged,
+    /// Its bytes, zeros where it has no page, and how many shards it has.
+    Whole(Vec<u8>, usize),
+}
+
+/// `O`, both names, and `o`: the key of the onode, and the front of those of its shards.
+fn onode_key(alloc: Global, coll: &[u8], name: &[u8]) -> Result<Vec<u8>, AllocError> {
+    let mut key = Vec::new(alloc);
+    key.push(b'O')?;
+    key.extend_from_slice(coll)?;
+    key.push(0)?;
+    key.extend_from_slice(name)?;
+    key.push(0)?;
+    key.push(b'o')?;
+    Ok(key)
+}
+
+/// Whether the row is a shard of the onode of this key.
+fn is_shard(row: &(Bytes, Bytes), onode: &[u8]) -> bool {
+    match row.0.as_slice().strip_prefix(onode) {
+        Some([_, _, _, _, b'x']) => true,
+        _ => false,
+    }
+}
+
+/// Lays a page over the bytes, cut at their end.
+fn lay(bytes: &mut [u8], page: u32, unit: &[u8]) -> Option<()> {
+    let (_, rest) = bytes.split_at_mut_checked(4096 * page as usize)?;
+    let count = rest.len().min(unit.len());
+    rest[..count].copy_from_slice(&unit[..count]);
+    Some(())
+}
+
+/// Lays the pages of an extent over the bytes: its head, and a checksum for each page.
+fn lay_extent(image: &[u8], fields: &mut Fields<'_>, bytes: &mut [u8]) -> Option<()> {
+    let page = fields.u32()?;
+    let count = fields.u16()?;
+    let kind = fields.u8()?;
+    let first = fields.u32()?;
+    if kind != 0 || count == 0 || 256 < count {
+        return None;
+    }
+    for i in 0..count {
+        let found = unit(image, first.checked_add(i as u32)?)?;
+        if fields.u32()? != crc32c(found) {
+            return None;
+        }
+        lay(bytes, page.checked_add(i as u32)?, found)?;
+    }
+    Some(())
+}
+
+/// Lays the pages of a shard over the bytes.
+fn lay_shard(image: &[u8], shard: &[u8], bytes: &mut [u8]) -> Option<()> {
+    let mut fields = Fields::new(shard);
+    for _ in 0..shard.len() {
+        if fields.is_empty() {
+            break;
+        }
+        lay_extent(image, &mut fields, bytes)?;
+    }
+    if fields.is_empty() { Some(()) } else { None }
+}
+
+/// The size in an onode.
+fn size_of(onode: &[u8]) -> Option<usize> {
+    let mut fields = Fields::new(onode);
+    let size = fields.u64()?;
+    if fields.is_empty() && size <= 134_217_728 {
+        Some(size as usize)
+    } else {
+        None
+    }
+}
+
+/// What stands under two names.
+pub fn read_object(
+    alloc: Global,
+    image: &[u8],
+    rows: &[(Bytes, Bytes)],
+    coll: &[u8],
+    name: &[u8],
+) -> Result<Object, AllocError> {
+    let key = onode_key(alloc, coll, name)?;
+    let Some(onode) = value_of(rows, &key) else {
+        return Ok(Object::Missing);
+    };
+    let Some(size) = size_of(onode) else {
+        return Ok(Object::Damaged);
+    };
+    let mut bytes = vec![in alloc; 0u8; size]?;
+    for row in rows {
+        if is_shard(row, &key) && lay_shard(image, row.1.as_slice(), &mut bytes).is_none() {
+            return Ok(Object::Damaged);
+        }
+    }
+    let shards = rows.iter().filter(|row| is_shard(row, &key)).count();
+    Ok(Object::Whole(bytes, shards))
+}

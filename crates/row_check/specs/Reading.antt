@@ -1,0 +1,65 @@
+-- Keys and rows, read from bytes.
+use Rattle.std.specs.Prelude.{◌≡◌, ℕ, ◌<◌, ◌^◌, List, [], ◌∷◌, ◌++◌}
+use Rattle.std.specs.Int.{w32, to_be_bytes}
+use Rattle.unit_fields.specs.Names.{IsName, IsCollName}
+use Rattle.row_format.specs.Keys.{coll_key, of_object}
+use Rattle.row_format.specs.Row as format
+use Rattle.row_check.specs.declared.key.Part.{Part}
+use Rattle.row_check.specs.declared.key.Part.TheVariants.{Onode, Shard}
+use Rattle.row_check.specs.declared.key.RowKey.{RowKey}
+use Rattle.row_check.specs.declared.key.RowKey.TheVariants.{Collection, Object}
+use Rattle.row_check.specs.declared.row.Row as row
+use Rattle.row_check.specs.declared.row.Row.TheVariants as rows
+
+-- what stands behind the names in the key of an onode, and of a shard
+abbrev pub part_bytes : Part → List ℕ
+part_bytes Onode = 0x6f ∷ []
+part_bytes (Shard page) = 0x6f ∷ (to_be_bytes w32 page ++ 0x78 ∷ [])
+
+abbrev pub FitsPart : Part → Type 0
+FitsPart Onode = Unit {0}
+FitsPart (Shard page) = page < 2 ^ 32
+
+-- the bytes are the one spelling of this part
+pub record IsPart (bytes : List ℕ) (part : Part) : Type 0 where
+  pub fits : FitsPart part
+  pub spelled : bytes ≡ part_bytes part
+
+-- the key of what is named
+abbrev pub key_bytes : RowKey → List ℕ
+key_bytes (Collection c) = coll_key c
+key_bytes (Object c o part) = of_object 0x4f c o (part_bytes part)
+
+abbrev pub FitsKey : RowKey → Type 0
+FitsKey (Collection c) = IsCollName c
+FitsKey (Object c o part) = IsCollName c × IsName o × FitsPart part
+
+-- the bytes are the key of this
+pub record SpellsKey (bytes : List ℕ) (key : RowKey) : Type 0 where
+  pub fits : FitsKey key
+  pub spelled : bytes ≡ key_bytes key
+
+-- the same of what stands behind the first byte of an object's key
+abbrev pub SpellsObject : List ℕ → RowKey → Type 0
+SpellsObject bytes key = SpellsKey (0x4f ∷ bytes) key
+
+abbrev pub IsNoKey : List ℕ → Type 0
+IsNoKey bytes = (key : RowKey) → ¬ SpellsKey bytes key
+
+abbrev pub IsNoObject : List ℕ → Type 0
+IsNoObject bytes = (key : RowKey) → ¬ SpellsObject bytes key
+
+-- a row that was read, as the formats name it
+abbrev pub row_of : row.Row → format.Row
+row_of (rows.Collection c) = format.collection c
+row_of (rows.Onode c o size) = format.onode c o size
+row_of (rows.Shard c o page extents) = format.shard c o page extents
+
+-- the key and the value are the one spelling of this row
+pub record SpellsRow (key value : List ℕ) (r : format.Row) : Type 0 where
+  pub fits : format.FitsRow r
+  pub key_is : key ≡ format.row_key r
+  pub value_is : value ≡ format.row_value r
+
+abbrev pub IsNoRow : List ℕ → List ℕ → Type 0
+IsNoRow key value = (r : format.Row) → ¬ SpellsRow key value r

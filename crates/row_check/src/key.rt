@@ -1,0 +1,120 @@
+//! Keys read as what they name.
+ghost use Rattle.std.specs.Prelude.{◌≡◌, ◌≢◌, ◌<◌, ◌++◌, ◌∷◌, ℕ, List, length, slice_index, IfOk, IfNone, IfSome, MatchOption};
+ghost use Rattle.std.specs.List.{AllByRecursion};
+ghost use Rattle.row_check.specs.Reading.{IsPart, part_bytes, IsNoObject, IsNoKey, SpellsObject, SpellsKey};
+ghost use Rattle.row_check.specs.declared.key.Part.{Part};
+
+use std::alloc::{AllocError, Global};
+use unit_fields::{CollName, Fields, Name};
+
+// The first byte of a key: the kind of its row.
+const COLLECTION: u8 = b'C';
+
+const OBJECT: u8 = b'O';
+
+// What follows an object's names in the keys of its onode and its shards, and what ends the key of a shard.
+const ONODE: u8 = b'o';
+
+const SHARD: u8 = b'x';
+
+/// Which row of an object's own a key names.
+#[derive(Clone, Copy, Debug, PartialEq, Eq)]
+pub enum Part {
+    /// The onode.
+    Onode,
+    /// The shard of its extents that begins at this page.
+    Shard { page: u32 },
+}
+
+/// What the key of a row names.
+#[derive(Debug, Drop)]
+pub enum RowKey {
+    /// A collection.
+    Collection {
+        coll: CollName,
+    },
+    /// An object's onode, or one of its shards.
+    Object {
+        coll: CollName,
+        object: Name,
+        part: Part,
+    },
+}
+
+// Where the first zero stands.
+fn place_of_zero(bytes: &[u8]) -> Option<usize>
+    ensures none { IfNone result (AllByRecursion (λ b. b ≢ 0) bytes.now) }
+    ensures found { IfSome result (λ i. (i < length bytes.now) × (slice_index bytes.now i ≡ 0)) }
+    ensures before { IfSome result (λ i. (k : ℕ) → k < i → slice_index bytes.now k ≢ 0) }
+{
+    bytes.iter().position(|byte| *byte == 0)
+}
+
+// What stands before the first zero, and what behind it.
+fn until_zero(bytes: &[u8]) -> Option<(&[u8], &[u8])>
+    ensures { MatchOption result (AllByRecursion (λ b. b ≢ 0) bytes.now)
+        (λ x. AllByRecursion (λ b. b ≢ 0) x.0.now × (bytes.now ≡ x.0.now ++ (0 ∷ x.1.now))) }
+{
+    let Some(place) = place_of_zero(bytes) else {
+        return None;
+    };
+    Some((&bytes[..place], &bytes[place + 1..]))
+}
+
+// What stands behind an object's names.
+fn read_part(bytes: &[u8]) -> Option<Part>
+    ensures { MatchOption result ((part : Part) → bytes.now ≢ part_bytes part) (IsPart bytes.now) }
+{
+    let mut fields = Fields::new(bytes);
+    if fields.u8()? != ONODE {
+        return None;
+    }
+    if fields.is_empty() {
+        return Some(Part::Onode);
+    }
+    let page = fields.u32_be()?;
+    if fields.u8()? == SHARD && fields.is_empty() {
+        Some(Part::Shard { page })
+    } else {
+        None
+    }
+}
+
+// The key of an object's row behind its first byte.
+fn read_object(alloc: Global, bytes: &[u8]) -> Result<Option<RowKey>, AllocError>
+    ensures { IfOk result (λ found. MatchOption found (IsNoObject bytes.now) (SpellsObject bytes.now)) }
+{
+    let Some((coll, rest)) = until_zero(bytes) else {
+        return Ok(None);
+    };
+    let Some((object, rest)) = until_zero(rest) else {
+        return Ok(None);
+    };
+    let Some(part) = read_part(rest) else {
+        return Ok(None);
+    };
+    let Some(coll) = CollName::read(alloc, coll)? else {
+        return Ok(None);
+    };
+    let Some(object) = Name::read(alloc, object)? else {
+        return Ok(None);
+    };
+    Ok(Some(RowKey::Object { coll, object, part }))
+}
+
+/// What these bytes name as the key of a row. None: they are the key of no row that a store has.
+pub fn read_key(alloc: Global, key: &[u8]) -> Result<Option<RowKey>, AllocError>
+    ensures { IfOk result (λ found. MatchOption found (IsNoKey key.now) (SpellsKey key.now)) }
+{
+    let Some((kind, rest)) = key.split_first() else {
+        return Ok(None);
+    };
+    match *kind {
+        COLLECTION => match CollName::read(alloc, rest)? {
+            Some(coll) => Ok(Some(RowKey::Collection { coll })),
+            None => Ok(None),
+        },
+        OBJECT => read_object(alloc, rest),
+        _ => Ok(None),
+    }
+}

@@ -1,0 +1,104 @@
+//! Keys and values read as rows.
+ghost use Rattle.std.specs.Prelude.{◌↔◌, IsTrue, IfOk, MatchOption};
+ghost use Rattle.unit_fields.specs.Names.{IsName, IsCollName};
+ghost use Rattle.row_format.specs.Keys.{onode_key, shard_key};
+ghost use Rattle.row_format.specs.Extents.{BeginsAt};
+ghost use Rattle.row_check.specs.Reading.{row_of, SpellsRow, IsNoRow};
+
+use crate::key::{Part, RowKey, read_key};
+use byte_maps::Items;
+use onode_codec::{Extent, Onode, decode_extents};
+use std::alloc::{AllocError, Global};
+use unit_fields::{CollName, Name};
+
+/// A row by what it says.
+#[derive(Debug, Drop)]
+pub enum Row {
+    /// There is a collection.
+    Collection {
+        coll: CollName,
+    },
+    /// There is an object, of so many bytes.
+    Onode {
+        coll: CollName,
+        object: Name,
+        size: u64,
+    },
+    /// These are an object's extents from a page on, up to its next shard.
+    Shard {
+        coll: CollName,
+        object: Name,
+        page: u32,
+        extents: Items<Extent>,
+    },
+}
+
+// The row of an onode with this value.
+fn read_onode(coll: CollName, object: Name, value: &[u8]) -> Option<Row>
+    requires coll { IsCollName coll }
+    requires object { IsName object }
+    ensures { MatchOption result (IsNoRow (onode_key coll object) value.now) (λ row. SpellsRow (onode_key coll object) value.now (row_of row)) }
+{
+    match Onode::decode(value) {
+        Some(onode) => Some(Row::Onode {
+            coll,
+            object,
+            size: onode.size,
+        }),
+        None => None,
+    }
+}
+
+// Whether the first extent begins at this page.
+fn begins_at(extents: &[Extent], page: u32) -> bool
+    ensures { IsTrue result ↔ BeginsAt page extents.now }
+{
+    match extents {
+        [first, ..] => first.first == page,
+        [] => false,
+    }
+}
+
+// The row of a shard with this value.
+fn read_shard(
+    alloc: Global,
+    coll: CollName,
+    object: Name,
+    page: u32,
+    value: &[u8],
+) -> Result<Option<Row>, AllocError>
+    requires coll { IsCollName coll }
+    requires object { IsName object }
+    ensures { IfOk result (λ found. MatchOption found (IsNoRow (shard_key coll object page) value.now)
+        (λ row. SpellsRow (shard_key coll object page) value.now (row_of row))) }
+{
+    let Some(extents) = decode_extents(alloc, value)? else {
+        return Ok(None);
+    };
+    if !begins_at(&extents, page) {
+        return Ok(None);
+    }
+    let extents = Items::from_vec(extents);
+    Ok(Some(Row::Shard {
+        coll,
+        object,
+        page,
+        extents,
+    }))
+}
+
+/// The row that a key and a value spell. None: they spell none that a store has. Whether the row fits the rows around it is not
+/// looked at.
+pub fn read_row(alloc: Global, key: &[u8], value: &[u8]) -> Result<Option<Row>, AllocError>
+    ensures { IfOk result (λ found. MatchOption found (IsNoRow key.now value.now) (λ row. SpellsRow key.now value.now (row_of row))) }
+{
+    match read_key(alloc, key)? {
+        None => Ok(None),
+        Some(RowKey::Collection { coll }) if value.is_empty() => Ok(Some(Row::Collection { coll })),
+        Some(RowKey::Collection { .. }) => Ok(None),
+        Some(RowKey::Object { coll, object, part }) => match part {
+            Part::Onode => Ok(read_onode(coll, object, value)),
+            Part::Shard { page } => read_shard(alloc, coll, object, page, value),
+        },
+    }
+}

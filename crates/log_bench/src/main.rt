@@ -1,0 +1,138 @@
+//! Times the two long calls of opening a store. `log_bench scan UNITS ROWS` reads a full half of the log, whose records have a unit
+//! each and set so many rows; `log_bench apply ROWS ascending` and `log_bench apply ROWS scrambled` apply that many sets to no
+//! rows. Each prints the nanoseconds that the call took, the records that were found or whether the last row is there, and the
+//! bytes that went in. With no arguments it does nothing.
+#![tactic(auto)]
+
+use byte_maps::Bytes;
+use crc32c_csum::Digest;
+use meta_log::scan;
+use meta_rows::{RowOp, RowTable};
+use std::alloc::{AllocError, Global};
+use std::time::Instant;
+use std::{env, io};
+
+const UNIT_BYTES: usize = 4096;
+
+// The bytes of a record before its body.
+const HEAD_BYTES: usize = 24;
+
+const KEY_BYTES: usize = 24;
+
+// The bytes of a set beside its key and its value.
+const SET_BYTES: usize = 7;
+
+// The bytes of a value, where not the record's size sets it.
+const VALUE_BYTES: usize = 100;
+
+// The number in an argument, if there is one and it is a number.
+fn number(word: Option<String>) -> Option<u32> {
+    word?.parse::<u32>().ok()
+}
+
+// A key; keys are in the order of their numbers.
+fn key(alloc: Global, number: u64) -> Result<Vec<u8>, AllocError> {
+    let mut key = Vec::with_capacity(alloc, KEY_BYTES)?;
+    key.extend_from_slice(b"Olog_bench_row__")?;
+    key.extend_from_slice(&number.to_be_bytes())?;
+    Ok(key)
+}
+
+// The spelling of so many sets, which together have a unit less a record's head, but for what the division leaves.
+fn body(alloc: Global, record: u64, rows: u32) -> Result<Vec<u8>, AllocError> {
+    let share = (UNIT_BYTES - HEAD_BYTES) / rows.max(1) as usize;
+    let value = vec![in alloc; 0x5au8; share.saturating_sub(SET_BYTES + KEY_BYTES)]?;
+    let mut body = Vec::with_capacity(alloc, UNIT_BYTES)?;
+    for i in 0..rows {
+        body.extend_from_slice(b"\x01\x18\x00")?;
+        body.extend_from_slice(&key(alloc, record.wrapping_mul(64).wrapping_add(u64::from(i)))?)?;
+        body.extend_from_slice(&(value.len() as u32).to_le_bytes())?;
+        body.extend_from_slice(&value)?;
+    }
+    Ok(body)
+}
+
+// The record of this number, one unit.
+fn record(alloc: Global, number: u64, rows: u32) -> Result<Vec<u8>, AllocError> {
+    let body = body(alloc, number, rows)?;
+    let mut record = Vec::with_capacity(alloc, UNIT_BYTES)?;
+    record.extend_from_slice(b"BREC")?;
+    record.extend_from_slice(&((body.len() % UNIT_BYTES) as u32).to_le_bytes())?;
+    record.extend_from_slice(&number.to_le_bytes())?;
+    record.extend_from_slice(&rows.to_le_bytes())?;
+    let mut digest = Digest::new();
+    digest.update(&record);
+    digest.update(&body);
+    record.extend_from_slice(&digest.finish().to_le_bytes())?;
+    record.extend_from_slice(&body)?;
+    record.resize(UNIT_BYTES, 0)?;
+    Ok(record)
+}
+
+// A half of so many units, full of records.
+fn full_half(alloc: Global, units: u32, rows: u32) -> Result<Vec<u8>, AllocError> {
+    let mut half = Vec::with_capacity(alloc, units as usize * UNIT_BYTES)?;
+    for number in 0..units {
+        half.extend_from_slice(&record(alloc, u64::from(number), rows)?)?;
+    }
+    Ok(half)
+}
+
+// Sets of so many rows, in the order of their keys or in another one in which each comes once.
+fn sets(alloc: Global, rows: u32, is_scrambled: bool) -> Result<Vec<RowOp>, AllocError> {
+    let mut ops = Vec::with_capacity(alloc, rows as usize)?;
+    for i in 0..rows {
+        let place = u64::from(i);
+        let number = if is_scrambled {
+            place.wrapping_mul(7919) % u64::from(rows)
+        } else {
+            place
+        };
+        let key = Bytes::from_vec(key(alloc, number)?);
+        let value = Bytes::from_vec(vec![in alloc; 0x5au8; VALUE_BYTES]?);
+        ops.push(RowOp::Set { key, value })?;
+    }
+    Ok(ops)
+}
+
+fn time_scan(rt: HostRuntime, units: u32, rows: u32) -> io::Result<()> {
+    let half = full_half(rt.alloc(), units, rows)?;
+    let start = Instant::now(&rt)?;
+    let log = scan(rt.alloc(), &half, 0)?;
+    let taken = start.elapsed(&rt)?;
+    println!(rt; "{} {} {}", taken.as_nanos(), log.records.len(), half.len())
+}
+
+fn time_apply(rt: HostRuntime, rows: u32, is_scrambled: bool) -> io::Result<()> {
+    let ops = sets(rt.alloc(), rows, is_scrambled)?;
+    let mut table = RowTable::new(rt.alloc());
+    table.reserve(ops.len())?;
+    let start = Instant::now(&rt)?;
+    table.apply(ops);
+    let taken = start.elapsed(&rt)?;
+    let last = key(rt.alloc(), u64::from(rows.saturating_sub(1)))?;
+    let bytes = u64::from(rows) * (KEY_BYTES + VALUE_BYTES) as u64;
+    println!(rt;
+        "{} {} {bytes}",
+        taken.as_nanos(),
+        table.get(&last).is_some()
+    )
+}
+
+fn main(rt: HostRuntime) -> io::Result<()> {
+    let mut words = env::args(&rt)?;
+    let _program = words.next();
+    let (Some(what), Some(count)) = (words.next(), number(words.next())) else {
+        return Ok(());
+    };
+    let how = words.next();
+    match what.as_str() {
+        "scan" => time_scan(rt, count, number(how).unwrap_or(1)),
+        "apply" => time_apply(
+            rt,
+            count,
+            how.is_some_and(|how| how.as_str() == "scrambled"),
+        ),
+        _ => Ok(()),
+    }
+}

@@ -158,6 +158,15 @@ says 'step: the page stands on unit 18' cmp -s found page
 says 'step: the record of the collection stands in unit 2' test "$(unit 2 T | head -c 4)" = BREC
 says 'step: 64 units still' is_long T 262144
 
+# A page whose bytes differ, in digits.
+run mkfs DIGITS "${small[@]}"
+seq 1 2000 | head -c 4096 >page
+{ echo 'mkcoll 1.0_head'; printf 'write 1.0_head a%%20b 0 hex:'; od -An -v -tx1 page | tr -d ' \n'; echo; } >digits
+run step DIGITS --seed 1 digits
+says 'step: a page in digits' ended 0 '0:1 ok' '0:2 ok' 'done accepted=2 refused=0 reads=0 commits=2 free=45'
+unit 18 DIGITS >found
+says 'step: each of its bytes stands on unit 18' cmp -s found page
+
 cp T BEFORE
 run step T --seed 1 script
 says 'step: a store with records' ended 4 'mount NotNew' 'stopped 4'

@@ -1,5 +1,5 @@
 //! The rows in memory, in the order of their keys.
-ghost use Rattle.std.specs.Prelude.{◌≡◌, ◌↔◌, ◌+◌, ◌^◌, ◌<◌, ◌≤◌, length, All, T, IsTrue, OnOk, OnErr, option_copied};
+ghost use Rattle.std.specs.Prelude.{◌≡◌, ◌↔◌, ◌+◌, ◌^◌, ◌<◌, ◌≤◌, length, All, T, IsTrue, IfOk, OnOk, OnErr, option_copied};
 ghost use Rattle.std.specs.FinMap as map;
 ghost use Rattle.std.specs.Vec.{vec_len, vec_capacity};
 ghost use Rattle.std.specs.List.Sorted.{IsSearchInRange, IsBinarySearchResult};
@@ -11,7 +11,7 @@ ghost use Rattle.meta_rows.specs.Table.{rows_size, rows_from_to, StartsAt, EndsA
 use crate::row_change::left_by;
 use crate::row_gap::RowGap;
 use crate::row_op::RowOp;
-use byte_maps::Bytes;
+use byte_maps::{Bytes, Duplicate};
 use std::alloc::{AllocError, Global};
 use std::marker::Model;
 use std::mem::replace;
@@ -135,6 +135,23 @@ impl RowTable {
             spare: Vec::new(alloc),
             sorting: Vec::new(alloc),
         }
+    }
+
+    /// The same rows once more. It looks at each row once, and makes one buffer for all rows and one for each key and each value.
+    pub fn copy(&self, alloc: Global) -> Result<RowTable, AllocError>
+        ensures { IfOk result (λ t. t.rows ≡ self.now.rows) }
+    {
+        let mut entries = Vec::with_capacity(alloc, self.entries.len())?;
+        for row in &self.entries {
+            let key = row.0.duplicate(alloc)?;
+            let value = row.1.duplicate(alloc)?;
+            entries.push((key, value))?;
+        }
+        Ok(RowTable {
+            entries,
+            spare: Vec::new(alloc),
+            sorting: Vec::new(alloc),
+        })
     }
 
     /// The value of a row, lent. The look-up takes as many comparisons as the number of rows has bits.

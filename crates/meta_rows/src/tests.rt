@@ -95,8 +95,10 @@ fn rows_after_operations(rt: HostRuntime) -> Result<(), Fail> {
     applied(alloc, &mut rows, flip(alloc, b"b", b"\x01\x01\x08")?)?;
     assert!(rt; rows.get(b"b").is_none());
     assert!(rt; has(&rows, b"a", b"two") && has(&rows, b"c", b"\x02"));
+    let copy = rows.copy(alloc)?;
     applied(alloc, &mut rows, drop_row(alloc, b"a")?)?;
     assert!(rt; rows.get(b"a").is_none());
+    assert!(rt; has(&copy, b"a", b"two") && has(&copy, b"c", b"\x02"));
     Ok(())
 }
 

@@ -47,9 +47,9 @@ pub record IsMeta (m : Meta) : Type 0 where
   pub tail_most : m.tail ≤ m.sup.half
   pub begun_fits : IfSome m.begun (IsBegun m.sup.half m.tail m.number)
 
--- a store whose active half has no record
-abbrev pub empty_meta : Super → Meta
-empty_meta s = record { sup = s; rows = map.empty; tail = 0; number = s.first; reserved = 0; begun = None }
+-- a store with these rows and units of records, where nothing is set aside and no record is begun
+abbrev pub found_meta : Super → Rows → ℕ → ℕ → Meta
+found_meta s rows tail number = record { sup = s; rows = rows; tail = tail; number = number; reserved = 0; begun = None }
 
 -- the units that are neither taken nor set aside
 abbrev pub room_of : Meta → ℕ

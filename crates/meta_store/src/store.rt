@@ -2,7 +2,7 @@
 ghost use Rattle.std.specs.Prelude.{◌≡◌, ◌↔◌, ◌+◌, ◌-◌, ◌<◌, ◌≤◌, None, IsTrue, IfOk, IfErr, IfSome, OnOk, OnErr, OnSome, MatchOption};
 ghost use Rattle.meta_log.specs.Slots.{IsSuper, active_unit};
 ghost use Rattle.meta_log.specs.Sealed.{sealed_units};
-ghost use Rattle.meta_store.specs.Store.{IsMeta, empty_meta, room_of, with_begun, with_given, with_written, after_flush};
+ghost use Rattle.meta_store.specs.Store.{IsMeta, found_meta, room_of, with_begun, with_given, with_written, after_flush};
 ghost use Rattle.meta_store.specs.Store.{IsAllGiven, IsPieceLeft, IsPieceOut, IsAllWritten, IsNextPiece, LiesBehindTail};
 
 use crate::full::MetaFull;
@@ -48,16 +48,18 @@ impl Model for MetaStore {
 }
 
 impl MetaStore {
-    /// The store of this superblock, whose active half has no record.
-    pub fn empty(alloc: Global, sup: &Super) -> MetaStore
-        requires { IsSuper sup.now }
-        ensures { result ≡ empty_meta sup.now }
+    /// The store of this superblock with the rows that its log was found to make, the units that its records take, and the number of
+    /// the next one. Nothing is set aside, and no record is begun.
+    pub fn open(sup: &Super, rows: RowTable, tail: u32, number: u64) -> MetaStore
+        requires limits { IsSuper sup.now }
+        requires tail { tail ≤ sup.now.half }
+        ensures { result ≡ found_meta sup.now rows.rows tail number }
     {
         MetaStore {
             sup: *sup,
-            rows: RowTable::new(alloc),
-            tail: 0,
-            number: sup.first,
+            rows,
+            tail,
+            number,
             reserved: 0,
             begun: None,
         }

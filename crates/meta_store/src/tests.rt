@@ -6,7 +6,7 @@ ghost use Rattle.meta_rows.specs.Spelling.{IsKey};
 use super::*;
 use byte_maps::Bytes;
 use meta_log::{SealedRecord, Super};
-use meta_rows::RowOp;
+use meta_rows::{RowOp, RowTable};
 use std::alloc::{AllocError, Global};
 use std::test::*;
 
@@ -25,6 +25,13 @@ const ODD: Super = Super {
     epoch: 5,
     first: 12,
 };
+
+// The store of this superblock whose log has no record.
+fn empty(alloc: Global, sup: &Super) -> MetaStore
+    requires { IsSuper sup.now }
+{
+    MetaStore::open(sup, RowTable::new(alloc), 0, sup.first)
+}
 
 // The record of this number that sets one row.
 fn sealed(alloc: Global, number: u64, key: &[u8], value: &[u8]) -> Result<SealedRecord, AllocError>
@@ -88,7 +95,7 @@ fn has(store: &MetaStore, key: &[u8], value: &[u8]) -> bool {
 #[test]
 fn records_one_behind_the_other(rt: HostRuntime) -> Result<(), Fail> {
     let alloc = rt.alloc();
-    let mut store = MetaStore::empty(alloc, &ODD);
+    let mut store = empty(alloc, &ODD);
     assert!(rt; begun(&mut store, sealed(alloc, 12, b"C1.0_head", b"")?)?);
     assert!(rt; store.rows().is_empty() && !store.is_written());
     assert_eq!(rt; committed(alloc, &mut store)?.as_slice(), [10].as_slice());
@@ -104,7 +111,7 @@ fn records_one_behind_the_other(rt: HostRuntime) -> Result<(), Fail> {
 #[test]
 fn a_record_of_three_pieces(rt: HostRuntime) -> Result<(), Fail> {
     let alloc = rt.alloc();
-    let mut store = MetaStore::empty(alloc, &EVEN);
+    let mut store = empty(alloc, &EVEN);
     let value = vec![in alloc; 7u8; 129 * 4096]?;
     assert!(rt; begun(&mut store, sealed(alloc, 0, b"k", &value)?)?);
     assert_eq!(rt;
@@ -118,7 +125,7 @@ fn a_record_of_three_pieces(rt: HostRuntime) -> Result<(), Fail> {
 
 #[test]
 fn room_in_the_log(rt: HostRuntime) -> Result<(), Fail> {
-    let mut store = MetaStore::empty(rt.alloc(), &ODD);
+    let mut store = empty(rt.alloc(), &ODD);
     assert_eq!(rt; store.reserve(9), Err(MetaFull { need: 9, room: 8 }));
     assert_eq!(rt; store.reserve(7), Ok(()));
     assert_eq!(rt; store.reserve(2), Err(MetaFull { need: 2, room: 1 }));

@@ -1,0 +1,105 @@
+-- The pages of the extents of pages are these pages.
+use Rattle.std.proofs.Common.{◌≡◌, inl, inr, ℕ, zero, suc, ◌+◌, ◌<◌, ◌≤◌, ◌==◌, Bool, true, false, cond, List, [], ◌∷◌, ◌++◌, length, map, refl, sym, ap, ◌∙◌, arith, append_assoc}
+use Rattle.std.specs.Prelude.{◌&&◌, nat_lt}
+use Rattle.std.specs.List.{range_with_len, flat_map}
+use Rattle.std.proofs.lemmas.Bool.{cases_Bool}
+use Rattle.std.proofs.lemmas.Bool.Decides.{nat_tests}
+use Rattle.std.proofs.lemmas.List.{length_push, get_or_append_left, get_or_at, map-append}
+use Rattle.row_format.specs.Extents.{Extent, Body, private, Place, place_in, page_count, page_end}
+use Rattle.blob_map.specs.Pages.{first_unit, extent_pages}
+use Rattle.blob_map.specs.Normal.{single, follows, longer, more, grown, extents_of}
+
+same_number : (a b : ℕ) → (a == b) ≡ true → a ≡ b
+same_number a b is = grind (arith, nat_tests, is)
+
+below : (a b : ℕ) → nat_lt a b ≡ true → a < b
+below a b is = grind (arith, nat_tests, is)
+
+both_first : (a b : Bool) → (a && b) ≡ true → a ≡ true
+both_first true b is = refl
+both_first false b is = is
+
+both_second : (a b : Bool) → (a && b) ≡ true → b ≡ true
+both_second true b is = is
+both_second false b is = cc
+
+-- what it is to follow
+pub record IsNext (e : Extent) (p : ℕ × Place) : Type 0 where
+  pub few : page_count e.body < 256
+  pub page : p.0 ≡ page_end e
+  pub unit : p.1.unit ≡ first_unit e.body + page_count e.body
+
+pub follows_means : (e : Extent) (p : ℕ × Place) → follows e p ≡ true → IsNext e p
+follows_means e p is =
+    let rest = both_second (nat_lt (page_count e.body) 256) _ is in
+    record {
+      few = below (page_count e.body) 256 (both_first _ (p.0 == page_end e && p.1.unit == first_unit e.body + page_count e.body) is);
+      page = same_number p.0 (page_end e) (both_first _ (p.1.unit == first_unit e.body + page_count e.body) rest);
+      unit = same_number p.1.unit (first_unit e.body + page_count e.body) (both_second (p.0 == page_end e) _ rest);
+    }
+
+tests_hold : (n m a b c d : ℕ) → n < m → a ≡ b → c ≡ d → (nat_lt n m && (a == b && c == d)) ≡ true
+tests_hold n m a b c d p q r = grind (arith, nat_tests)
+
+pub next_follows : (e : Extent) (p : ℕ × Place) → IsNext e p → follows e p ≡ true
+next_follows e p is = tests_hold (page_count e.body) 256 p.0 (page_end e) p.1.unit (first_unit e.body + page_count e.body) is.few is.page is.unit
+
+pub longer_by_one : (body : Body) (p : Place) → page_count (longer body p) ≡ page_count body + 1
+longer_by_one (private unit csums) p = length_push csums p.csum
+
+-- the places before stay
+place_kept : (body : Body) (p : Place) (k : ℕ) → k < page_count body → place_in (longer body p) k ≡ place_in body k
+place_kept (private unit csums) p k lt = ap (λ c. record { unit = unit + k; csum = c }) (get_or_append_left csums (p.csum ∷ []) 0 k lt)
+
+-- and the new one is last
+place_new : (body : Body) (p : Place) → p.unit ≡ first_unit body + page_count body → place_in (longer body p) (page_count body) ≡ p
+place_new (private unit csums) p is =
+    ap (λ c. record { unit = unit + length csums; csum = c }) (get_or_at csums p.csum [] 0 (length csums) refl)
+    ∙ ap (λ u. record { unit = u; csum = p.csum }) (sym is)
+
+range_push : (a n : ℕ) → range_with_len a (n + 1) ≡ range_with_len a n ++ (a + n) ∷ []
+range_push a n = let e : n + 1 ≡ suc n = omega arith in ap (range_with_len a) e ∙ pushed a n
+  where
+    pushed : (a n : ℕ) → range_with_len a (suc n) ≡ range_with_len a n ++ (a + n) ∷ []
+    pushed a zero = let e : a ≡ a + 0 = omega arith in ap (λ k. k ∷ []) e
+    pushed a (suc n) = let e : (a + 1) + n ≡ a + suc n = omega arith in ap (λ xs. a ∷ xs) (pushed (a + 1) n ∙ ap (λ k. range_with_len (a + 1) n ++ k ∷ []) e)
+
+map_range_same : {X : Type 0} (f g : ℕ → X) (a n : ℕ) → ((k : ℕ) → a ≤ k → k < a + n → f k ≡ g k) → map f (range_with_len a n) ≡ map g (range_with_len a n)
+map_range_same f g a zero same = refl
+map_range_same f g a (suc n) same = ap (λ x. x ∷ map f (range_with_len (a + 1) n)) (same a (omega arith) (omega arith))
+    ∙ ap (λ xs. g a ∷ xs) (map_range_same f g (a + 1) n (λ k le lt. same k (omega (arith, le)) (omega (arith, lt))))
+
+pages_more : (e : Extent) (p : ℕ × Place) → IsNext e p → extent_pages (more e p) ≡ extent_pages e ++ p ∷ []
+pages_more e p next =
+    let count : ℕ = page_count e.body in
+    let f : ℕ → ℕ × Place = λ k. (e.first + k, place_in (longer e.body p.1) k) in
+    ap (λ n. map f (range_with_len 0 n)) (longer_by_one e.body p.1)
+    ∙ ap (map f) (range_push 0 count)
+    ∙ map-append f (range_with_len 0 count) ((0 + count) ∷ [])
+    ∙ ap (λ xs. xs ++ f (0 + count) ∷ []) (map_range_same f (λ k. (e.first + k, place_in e.body k)) 0 count
+    (λ k _ lt. ap (λ q. (e.first + k, q)) (place_kept e.body p.1 k (omega (arith, lt)))))
+    ∙ ap (λ n. extent_pages e ++ (e.first + n, place_in (longer e.body p.1) n) ∷ []) (let none : 0 + count ≡ count = omega arith in none)
+    ∙ ap (λ q. extent_pages e ++ (e.first + count, q) ∷ []) (place_new e.body p.1 next.unit)
+    ∙ ap (λ n. extent_pages e ++ (n, p.1) ∷ []) (sym next.page)
+
+pages_single : (p : ℕ × Place) → extent_pages (single p) ≡ p ∷ []
+pages_single p =
+    let page : p.0 + 0 ≡ p.0 = omega arith in
+    let unit : p.1.unit + 0 ≡ p.1.unit = omega arith in
+    ap (λ n. (n, record { unit = p.1.unit + 0; csum = p.1.csum }) ∷ []) page ∙ ap (λ u. (p.0, record { unit = u; csum = p.1.csum }) ∷ []) unit
+
+pub grown_back : (ps : List (ℕ × Place)) (e : Extent) → flat_map extent_pages (grown e ps) ≡ extent_pages e ++ ps
+grown_back [] e = refl
+grown_back (p ∷ ps) e = elim (cases_Bool (follows e p)) [
+  | inl is ↦
+      ap (λ t. flat_map extent_pages (cond t (grown (more e p) ps) (e ∷ grown (single p) ps))) is ∙ grown_back ps (more e p)
+      ∙ ap (λ xs. xs ++ ps) (pages_more e p (follows_means e p is)) ∙ append_assoc (extent_pages e) (p ∷ []) ps
+  | inr is ↦
+      ap (λ t. flat_map extent_pages (cond t (grown (more e p) ps) (e ∷ grown (single p) ps))) is
+      ∙ ap (λ xs. extent_pages e ++ xs) (grown_back ps (single p) ∙ ap (λ xs. xs ++ ps) (pages_single p))
+]
+
+-- the extents have exactly the pages
+pub extents_back : (ps : List (ℕ × Place)) → flat_map extent_pages (extents_of ps) ≡ ps
+extents_back [] = refl
+extents_back (p ∷ ps) = grown_back ps (single p) ∙ ap (λ xs. xs ++ ps) (pages_single p)

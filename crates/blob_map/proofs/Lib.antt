@@ -1,0 +1,4 @@
+pub mod Lay
+pub mod Places
+pub mod Back
+pub mod Forms

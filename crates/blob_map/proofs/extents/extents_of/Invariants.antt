@@ -1,0 +1,10 @@
+use Rattle.std.proofs.Common.{◌≡◌, ◌++◌, drop}
+use Rattle.std.specs.Prelude.{IfSome}
+use Rattle.std.specs.List.{AllByRecursion}
+use Rattle.row_format.specs.Extents.{FitsExtent}
+use Rattle.blob_map.specs.Normal.{finished, extents_of}
+use Rattle.blob_map.proofs.extents.extents_of.Given as goal
+
+abbrev pub invariant-loop-entry : goal.invariant-loop-entry
+invariant-loop-entry l = (l.done.items ++ finished l.last (drop l.entry-index l.pages) ≡ extents_of l.pages)
+    × AllByRecursion FitsExtent l.done.items × IfSome l.last FitsExtent

@@ -1,0 +1,47 @@
+-- Extents in normal form: the longest runs of consecutive pages on consecutive units, cut at 256 pages.
+use Rattle.std.specs.Prelude.{◌≡◌, ℕ, ◌+◌, ◌<◌, ◌==◌, ◌&&◌, nat_lt, Bool, if◌then◌else◌, List, [], ◌∷◌, ◌++◌, Option, Some, None}
+use Rattle.row_format.specs.Extents.{Extent, Body, private, Place, page_count, page_end}
+use Rattle.blob_map.specs.Pages.{first_unit}
+
+-- the extent of one page
+abbrev pub single : ℕ × Place → Extent
+single p = record { first = p.0; body = private p.1.unit (p.1.csum ∷ []) }
+
+-- whether a page may be an extent's next
+abbrev pub follows : Extent → ℕ × Place → Bool
+follows e p = nat_lt (page_count e.body) 256 && (p.0 == page_end e && p.1.unit == first_unit e.body + page_count e.body)
+
+-- a body with one page more
+abbrev pub longer : Body → Place → Body
+longer (private unit csums) place = private unit (csums ++ place.csum ∷ [])
+
+-- an extent with one page more
+abbrev pub more : Extent → ℕ × Place → Extent
+more e p = record { first = e.first; body = longer e.body p.1 }
+
+-- the extents of pages that come after an extent, with that extent
+abbrev pub grown : Extent → List (ℕ × Place) → List Extent
+grown e [] = e ∷ []
+grown e (p ∷ ps) = if follows e p then grown (more e p) ps else e ∷ grown (single p) ps
+
+-- the extents of pages
+abbrev pub extents_of : List (ℕ × Place) → List Extent
+extents_of [] = []
+extents_of (p ∷ ps) = grown (single p) ps
+
+-- the same where there may be an extent already that the first page follows
+abbrev pub finished : Option Extent → List (ℕ × Place) → List Extent
+finished None ps = extents_of ps
+finished (Some e) ps = grown e ps
+
+-- the second extent begins where the first ends, on the next unit, and the first has fewer than 256 pages
+pub record Joins (e f : Extent) : Type 0 where
+  pub few : page_count e.body < 256
+  pub page : f.first ≡ page_end e
+  pub unit : first_unit f.body ≡ first_unit e.body + page_count e.body
+
+-- no extent could take a page of its neighbour
+abbrev pub NoneJoins : List Extent → Type 0
+NoneJoins [] = Unit {0}
+NoneJoins (e ∷ []) = Unit {0}
+NoneJoins (e ∷ f ∷ es) = ¬ Joins e f × NoneJoins (f ∷ es)

@@ -1,0 +1,39 @@
+-- The page map of an object.
+use Rattle.std.specs.Prelude.{ℕ, ◌+◌, ◌<◌, ◌≤◌, ◌^◌, List, [], ◌∷◌, map, refl}
+use Rattle.std.specs.List.{range_with_len}
+use Rattle.std.specs.Coded.{Coded, code_by, coded×, coded_ℕ}
+use Rattle.std.specs.FinMap as finite
+use Rattle.number_map.specs.NumberMap.{NumberMap}
+use Rattle.row_format.specs.Extents.{Extent, Body, private, Place, place_in, page_count, page_end}
+
+-- where each page stands that stands anywhere
+abbrev pub PageMap : Type 0
+PageMap = NumberMap Place
+
+-- the code by which places are told apart
+abbrev pub coded_place : Coded Place
+coded_place = code_by (ℕ × ℕ) (coded× coded_ℕ coded_ℕ) (λ p. (p.unit, p.csum)) (λ p. record { unit = p.0; csum = p.1 }) (λ _. refl)
+
+-- the unit of a run's first page
+abbrev pub first_unit : Body → ℕ
+first_unit (private unit csums) = unit
+
+-- the pages of an extent, each with its place
+abbrev pub extent_pages : Extent → List (ℕ × Place)
+extent_pages e = map (λ i. (e.first + i, place_in e.body i)) (range_with_len 0 (page_count e.body))
+
+-- a map after pages are put in their places, one after the other
+abbrev pub laid : PageMap → List (ℕ × Place) → PageMap
+laid pages [] = pages
+laid pages (p ∷ ps) = laid (finite.insert pages p.0 p.1) ps
+
+-- the pages and the units of an extent have numbers below 2^32
+pub record HasNumbers (e : Extent) : Type 0 where
+  pub pages : page_end e ≤ 2 ^ 32
+  pub units : first_unit e.body + page_count e.body ≤ 2 ^ 32
+
+-- a page whose number, unit and checksum fit the fields of an extent
+pub record FitsPage (p : ℕ × Place) : Type 0 where
+  pub page : p.0 < 2 ^ 32
+  pub unit : p.1.unit < 2 ^ 32
+  pub csum : p.1.csum < 2 ^ 32

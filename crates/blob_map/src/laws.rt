@@ -1,0 +1,34 @@
+//! What page maps and their extents come to. Each function has laws for its contract and does nothing.
+ghost use Rattle.std.specs.Prelude.{Some, ◌≡◌, ◌<◌, ◌≤◌, ◌+◌, ℕ, List};
+ghost use Rattle.std.specs.List.{flat_map, AllByRecursion};
+ghost use Rattle.std.specs.FinMap as map;
+ghost use Rattle.row_format.specs.Extents.{Extent, Place, place_of, page_count, page_end, Ascend, FitsExtent};
+ghost use Rattle.blob_map.specs.Pages.{PageMap, FitsPage, first_unit, extent_pages};
+ghost use Rattle.blob_map.specs.Normal.{extents_of, NoneJoins};
+
+/// The extents of a map have exactly its pages, each in its place. They have spellings where the map's numbers fit their fields, they
+/// ascend, and no two neighbours could be one extent.
+pub fn normal_form()
+    ensures back { (ps : List (ℕ × Place)) → flat_map extent_pages (extents_of ps) ≡ ps }
+    ensures places { (pages : PageMap) (page : ℕ) → place_of (extents_of (map.entries pages)) page ≡ map.get pages page }
+    ensures fit { (ps : List (ℕ × Place)) → AllByRecursion FitsPage ps → AllByRecursion FitsExtent (extents_of ps) }
+    ensures ascend { (pages : PageMap) → Ascend (extents_of (map.entries pages)) }
+    ensures longest { (ps : List (ℕ × Place)) → NoneJoins (extents_of ps) }
+{}
+
+/// The extents of a map have spellings where its numbers fit their fields, reach no further than its pages, and stand in the range that
+/// their units are in.
+pub fn bounds_of_extents()
+    ensures fit { (pages : PageMap) → ((page : ℕ) (place : Place) → map.get pages page ≡ Some place → FitsPage (page, place))
+        → AllByRecursion FitsExtent (extents_of (map.entries pages)) }
+    ensures pages { (pages : PageMap) (limit : ℕ) → ((page : ℕ) (place : Place) → map.get pages page ≡ Some place → page < limit)
+        → AllByRecursion (λ e. page_end e ≤ limit) (extents_of (map.entries pages)) }
+    ensures units { (pages : PageMap) (low high : ℕ)
+        → ((page : ℕ) (place : Place) → map.get pages page ≡ Some place → (low ≤ place.unit) × (place.unit < high))
+        → AllByRecursion (λ e. (low ≤ first_unit e.body) × (first_unit e.body + page_count e.body ≤ high)) (extents_of (map.entries pages)) }
+{}
+
+/// Maps with the same extents are the same.
+pub fn one_map_for_extents()
+    ensures { (a b : PageMap) → extents_of (map.entries a) ≡ extents_of (map.entries b) → a ≡ b }
+{}

@@ -1,0 +1,18 @@
+//! The page map of an object: where each of its pages stands, and the extents that say so in rows.
+//!
+//! In Ceph's BlueStore this is `ExtentMap` with its blobs. Here the map goes from page to place, and extents are made from it when rows
+//! are written: there is one list of extents for a map, so that nothing has to be kept in order meanwhile.
+#![tactic(auto)]
+
+mod extents;
+mod laws;
+mod page_map;
+mod place;
+mod put_pages;
+
+pub use laws::{bounds_of_extents, normal_form, one_map_for_extents};
+pub use page_map::PageMap;
+pub use place::Place;
+
+#[cfg(test)]
+mod tests;

@@ -1,0 +1,131 @@
+//! The page map of an object.
+ghost use Rattle.std.specs.Prelude.{◌≡◌, ◌<◌, ◌≤◌, ◌+◌, ◌^◌, ◌⊎◌, ℕ, Some, length, slice_index_or, not, OnOk, OnErr, IfOk};
+ghost use Rattle.std.specs.Ordering.{nat_cmp};
+ghost use Rattle.std.specs.List.{AllByRecursion};
+ghost use Rattle.std.specs.FinMap as map;
+ghost use Rattle.std.specs.FinMap.Entries.{where_key};
+ghost use Rattle.number_map.specs.NumberMap.{is_in};
+ghost use Rattle.row_format.specs.Extents.{Place, place_of, Ascend, FitsExtent};
+ghost use Rattle.blob_map.specs.Pages.{HasNumbers};
+ghost use Rattle.blob_map.specs.Normal.{extents_of};
+
+use crate::extents::extents_of;
+use crate::place::Place;
+use crate::put_pages::{put_extent, put_places};
+use number_map::NumberMap;
+use onode_codec::Extent;
+use std::alloc::{AllocError, Global};
+use std::marker::Model;
+
+/// Where each page of an object stands that stands anywhere, seen as a finite map from pages to places. The other pages are holes.
+#[derive(Debug, Drop)]
+pub struct PageMap {
+    pages: NumberMap<Place>,
+}
+
+impl Model for PageMap {
+    ghost use Rattle.std.specs.FinMap as map;
+    ghost use Rattle.std.specs.Ordering.{nat_cmp};
+    ghost use Rattle.std.specs.Coded.{coded_ℕ};
+    ghost use Rattle.row_format.specs.Extents.{Place};
+    ghost use Rattle.blob_map.specs.Pages.{coded_place};
+
+    ghost Value = { map.FinMap nat_cmp Place };
+
+    ghost coded = { map.code coded_ℕ coded_place };
+
+    ghost view = { λ a. a.pages };
+}
+
+impl PageMap {
+    /// The map of an object that has holes alone. It takes no memory.
+    pub fn new(alloc: Global) -> PageMap
+        ensures { result ≡ map.empty }
+    {
+        PageMap {
+            pages: NumberMap::new(alloc),
+        }
+    }
+
+    /// The page map that these extents say. They ascend, as the extents of an object's shards do.
+    pub fn from_extents(alloc: Global, extents: &[Extent]) -> Result<PageMap, AllocError>
+        requires ascend { Ascend extents.now }
+        requires numbers { AllByRecursion HasNumbers extents.now }
+        ensures { IfOk result (λ pages. (page : ℕ) → map.get pages page ≡ place_of extents.now page) }
+    {
+        let mut pages = NumberMap::new(alloc);
+        for extent in extents {
+            put_extent(&mut pages, extent)?;
+        }
+        Ok(PageMap { pages })
+    }
+
+    /// Where a page stands. None: it is a hole.
+    pub fn find(&self, page: u32) -> Option<Place>
+        ensures { result ≡ map.get self.now page }
+    {
+        self.pages.get(page).copied()
+    }
+
+    /// Puts a page in its place, wherever it stood. Memory can run out only at a page that was a hole.
+    pub fn set(&mut self, page: u32, place: Place) -> Result<(), AllocError>
+        ensures ok { OnOk result (self.new ≡ map.insert self.old page place) }
+        ensures err { OnErr result (self.new ≡ self.old) }
+    {
+        self.pages.insert(page, place)
+    }
+
+    /// Puts consecutive pages from the first on in these places, wherever they stood. Where memory runs out the map is as it was.
+    pub fn put(&mut self, alloc: Global, first: u32, places: &[Place]) -> Result<(), AllocError>
+        requires { first + length places.now ≤ 2 ^ 32 }
+        ensures inside { OnOk result ((i : ℕ) (d : Place) → i < length places.now →
+            map.get self.new (first + i) ≡ Some (slice_index_or places.now i d)) }
+        ensures outside { OnOk result ((page : ℕ) → (page < first) ⊎ (first + length places.now ≤ page) →
+            map.get self.new page ≡ map.get self.old page) }
+        ensures err { OnErr result (self.new ≡ self.old) }
+    {
+        let mut pages = self.pages.copy(alloc)?;
+        put_places(&mut pages, first, places)?;
+        self.pages = pages;
+        Ok(())
+    }
+
+    /// Makes a hole of so many pages from the first on, and gives where those stood that weren't holes, ascending. Where memory runs
+    /// out the map is as it was.
+    pub fn punch(
+        &mut self,
+        alloc: Global,
+        first: u32,
+        count: u32,
+    ) -> Result<Vec<(u32, Place)>, AllocError>
+        requires { first + count < 2 ^ 32 }
+        ensures ok { OnOk result (self.new ≡ map.retain_keys self.old (λ k. not (is_in first (first + count) k))) }
+        ensures was { IfOk result (λ v. v.items ≡ where_key nat_cmp (is_in first (first + count)) (map.entries self.old)) }
+        ensures err { OnErr result (self.new ≡ self.old) }
+    {
+        self.pages.cut(alloc, first, first + count)
+    }
+
+    /// A copy of the map.
+    pub fn copy(&self, alloc: Global) -> Result<PageMap, AllocError>
+        ensures { IfOk result (λ copy. copy ≡ self.now) }
+    {
+        let pages = self.pages.copy(alloc)?;
+        Ok(PageMap { pages })
+    }
+
+    /// The pages that aren't holes, ascending, and where each stands.
+    pub fn pages(&self) -> &[(u32, Place)]
+        ensures { result.now ≡ map.entries self.now }
+    {
+        self.pages.entries()
+    }
+
+    /// The extents that say this map: runs as long as they get of consecutive pages on consecutive units, cut at 256 pages.
+    pub fn extents(&self, alloc: Global) -> Result<Vec<Extent>, AllocError>
+        ensures extents { IfOk result (λ es. es.items ≡ extents_of (map.entries self.now)) }
+        ensures fit { IfOk result (λ es. AllByRecursion FitsExtent es.items) }
+    {
+        extents_of(alloc, self.pages.entries())
+    }
+}

@@ -1,0 +1,304 @@
+-- Rows after an object's are replaced: which there are, that none is bad, and where pages stand.
+use Rattle.std.proofs.Common.{◌≡◌, ◌⊎◌, ◌↔◌, inl, inr, ℕ, ◌<◌, ◌≤◌, ◌^◌, List, [], ◌∷◌, Some, is_some, refl, sym, ap, subst, ◌∙◌, arith}
+use Rattle.std.specs.List.{AllByRecursion}
+use Rattle.std.specs.FinMap as map
+use Rattle.std.proofs.lemmas.Bool.{cases_lt}
+use Rattle.meta_rows.specs.Rows.{Rows}
+use Rattle.meta_log.specs.declared.slot.Super.{Super}
+use Rattle.object_model.specs.Effect.{object_limit}
+use Rattle.unit_fields.specs.Names.{IsName, IsCollName}
+use Rattle.row_format.specs.Keys.{coll_key, onode_key, shard_key}
+use Rattle.row_format.specs.Extents.{Extent, FitsExtent, BeginsAt, Ascend, Place, place_of, page_end}
+use Rattle.row_format.specs.Row.{Row, collection, onode, shard, row_key, row_value, FitsRow, FitsShard}
+use Rattle.row_format.proofs.KeyLemmas.{same_head, same_onode, same_shard, coll_no_object, onode_no_shard}
+use Rattle.row_format.proofs.RowLemmas.{same_row}
+use Rattle.store_image.specs.Pages.{HasKey, HasRow, IsPageAt, pages_of}
+use Rattle.store_image.specs.BadRows.{IsOnData, IsShardInPlace, IsInPlace, IsGoodRow, NoBadRow}
+use Rattle.store_image.specs.Owners.{Owner, page_of, Owns, IsOwned}
+use Rattle.store_image.proofs.PageMap.{in_place}
+use Rattle.row_facts.proofs.PageWritten.{object_cases}
+use Rattle.row_facts.proofs.Shapes.{SameOthers}
+use Rattle.object_rows.specs.Operations.{CanReplace, replaced, IsKeyOf, IsOther, HasUnit, IsOwnedElsewhere}
+use Rattle.object_rows.proofs.Ops.{AreReplaced, are_replaced}
+
+-- the first extent begins at the page, or not
+begins_or_not : (page : ℕ) (es : List Extent) → BeginsAt page es ⊎ (BeginsAt page es → ⊥)
+begins_or_not page [] = inr (λ b. b)
+begins_or_not page (e ∷ es) = elim (cases_lt e.first page) [
+  | inl lt ↦ inr (λ same. omega (arith, lt, same))
+  | inr ge ↦ elim (cases_lt page e.first) [
+    | inl lt ↦ inr (λ same. omega (arith, lt, same))
+    | inr le ↦ inl (omega (arith, ge, le))
+  ]
+]
+
+one_begin : (page other : ℕ) (es : List Extent) → BeginsAt page es → BeginsAt other es → page ≡ other
+one_begin page other [] p q = absurd p
+one_begin page other (e ∷ es) p q = sym p ∙ q
+
+module _ (rows after : Rows) (c o : List ℕ) (size : ℕ) (extents : List Extent) (coll : IsCollName c) (name : IsName o) (most : size ≤ object_limit)
+    (fit : AllByRecursion FitsExtent extents) (are : AreReplaced rows after c o size extents) where
+  abbrev new_onode : Row
+  new_onode = onode c o size
+
+  onode_fits : FitsRow new_onode
+  onode_fits = (coll, name, omega (arith, most))
+
+  pub has_onode : HasRow after new_onode
+  has_onode = record { fits = onode_fits; stands = are.onode }
+
+  first_fits : (page : ℕ) (es : List Extent) → AllByRecursion FitsExtent es → BeginsAt page es → page < 2 ^ 32
+  first_fits page [] all begins = absurd begins
+  first_fits page (e ∷ es) all begins = subst (λ n. n < 2 ^ 32) begins all.0.first
+
+  shard_fits : (page : ℕ) → BeginsAt page extents → FitsShard c o page extents
+  shard_fits page begins = record { coll_name = coll; object_name = name; page_below = first_fits page extents fit begins; begins = begins; fit = fit }
+
+  pub has_shard : (page : ℕ) → BeginsAt page extents → HasRow after (shard c o page extents)
+  has_shard page begins = record { fits = shard_fits page begins; stands = are.shard page begins }
+
+  -- ---- keys that aren't the object's
+
+  pub key_same : (key : List ℕ) → (IsKeyOf c o key → ⊥) → map.get after key ≡ map.get rows key
+  key_same key other = elim (are.others key) [ inl own ↦ absurd (other own) | inr same ↦ same ]
+
+  pub kind_same : SameOthers rows after
+  kind_same k rest a b = key_same (k ∷ rest) (λ own. elim own [ inl e ↦ b (same_head _ _ _ _ e) | inr p ↦ b (same_head _ _ _ _ p.2) ])
+
+  pub coll_same : (d : List ℕ) → map.get after (coll_key d) ≡ map.get rows (coll_key d)
+  coll_same d = key_same (coll_key d) (λ own. elim own [ inl e ↦ coll_no_object d c o _ e | inr p ↦ coll_no_object d c o _ p.2 ])
+
+  module _ (d u : List ℕ) (coll_is : IsCollName d) (name_is : IsName u) (other : IsOther c o d u) where
+    pub onode_same : map.get after (onode_key d u) ≡ map.get rows (onode_key d u)
+    onode_same = key_same (onode_key d u) (λ own. elim own [
+      | inl e ↦ let is = same_onode d u c o coll_is name_is coll name e in other is.0 is.1
+      | inr p ↦ onode_no_shard d u c o p.0 coll_is name_is coll name p.2
+    ])
+
+    shard_same : (page : ℕ) → page < 2 ^ 32 → map.get after (shard_key d u page) ≡ map.get rows (shard_key d u page)
+    shard_same page lt = key_same (shard_key d u page) (λ own. elim own [
+      | inl e ↦ onode_no_shard c o d u page coll name coll_is name_is (sym e)
+      | inr p ↦ let is = same_shard d u c o page p.0 coll_is name_is coll name lt p.1 p.2 in other is.0 is.1
+    ])
+
+  -- ---- rows that are there
+
+  own_onode : (n : ℕ) → HasRow after (onode c o n) → n ≡ size
+  own_onode n has =
+      let value : Some (row_value (onode c o n)) ≡ Some (row_value new_onode) = sym has.stands ∙ are.onode in
+      let same : onode c o n ≡ new_onode = same_row (onode c o n) new_onode has.fits onode_fits refl cc in cc
+
+  own_shard : (page : ℕ) (es : List Extent) → HasRow after (shard c o page es) → BeginsAt page extents × (es ≡ extents)
+  own_shard page es has = elim (begins_or_not page extents) [
+    | inl begins ↦
+        let value : Some (row_value (shard c o page es)) ≡ Some (row_value (shard c o page extents)) = sym has.stands ∙ are.shard page begins in
+        let same : shard c o page es ≡ shard c o page extents =
+        same_row (shard c o page es) (shard c o page extents) has.fits (shard_fits page begins) refl cc in
+        (begins, cc)
+    | inr not ↦ absurd (let e = sym has.stands ∙ are.no_other page has.fits.page_below not in cc)
+  ]
+
+  -- a row of an onode or a shard is the object's, or another object's that was there
+  onode_cases : (d u : List ℕ) (n : ℕ) → HasRow after (onode d u n)
+      → ((d ≡ c) × (u ≡ o) × (n ≡ size)) ⊎ (IsOther c o d u × HasRow rows (onode d u n))
+  onode_cases d u n has = elim (object_cases c o d u) [
+    | inl e ↦ inl (e.0, e.1, own_onode n (subst (λ x. HasRow after (onode x o n)) e.0 (subst (λ x. HasRow after (onode d x n)) e.1 has)))
+    | inr other ↦ inr (other, record { fits = has.fits; stands = sym (onode_same d u has.fits.0 has.fits.1 other) ∙ has.stands })
+  ]
+
+  shard_cases : (d u : List ℕ) (page : ℕ) (es : List Extent) → HasRow after (shard d u page es)
+      → ((d ≡ c) × (u ≡ o) × BeginsAt page extents × (es ≡ extents)) ⊎ (IsOther c o d u × HasRow rows (shard d u page es))
+  shard_cases d u page es has = elim (object_cases c o d u) [
+    | inl e ↦
+        let own = own_shard page es (subst (λ x. HasRow after (shard x o page es)) e.0 (subst (λ x. HasRow after (shard d x page es)) e.1 has)) in
+        inl (e.0, e.1, own.0, own.1)
+    | inr other ↦ inr (
+      other,
+      record {
+        fits = has.fits;
+        stands = sym (shard_same d u has.fits.coll_name has.fits.object_name other page has.fits.page_below) ∙ has.stands;
+      },
+    )
+  ]
+
+  shard_kept : (d u : List ℕ) (page : ℕ) (es : List Extent) → IsOther c o d u → HasRow rows (shard d u page es) → HasRow after (shard d u page es)
+  shard_kept d u page es other has = record {
+    fits = has.fits;
+    stands = shard_same d u has.fits.coll_name has.fits.object_name other page has.fits.page_below ∙ has.stands;
+  }
+
+  -- ---- where pages stand
+
+  module _ (page : ℕ) (place : Place) where
+    own_was : IsPageAt after c o page place → place_of extents page ≡ Some place
+    own_was is = sym (ap (λ es. place_of es page) (own_shard is.first is.extents is.has_shard).1) ∙ is.has_page
+
+    own_is : place_of extents page ≡ Some place → IsPageAt after c o page place
+    own_is is = elim extents as (λ es. extents ≡ es → IsPageAt after c o page place) [
+      | [] ↦ λ p. absurd (let e = sym (ap (λ es. place_of es page) p) ∙ is in cc)
+      | e ∷ es ↦ λ p. record {
+        first = e.first;
+        extents = extents;
+        has_shard = has_shard e.first (subst (BeginsAt e.first) (sym p) refl);
+        has_page = is;
+      }
+    ] refl
+
+    pub own_pages : IsPageAt after c o page place ↔ (place_of extents page ≡ Some place)
+    own_pages = (own_was, own_is)
+
+    module _ (d u : List ℕ) (other : IsOther c o d u) where
+      pub page_was : IsPageAt after d u page place → IsPageAt rows d u page place
+      page_was is = elim (shard_cases d u is.first is.extents is.has_shard) [
+        | inl own ↦ absurd (other own.0 own.1)
+        | inr old ↦ record { first = is.first; extents = is.extents; has_shard = old.1; has_page = is.has_page }
+      ]
+
+      pub page_kept : IsPageAt rows d u page place → IsPageAt after d u page place
+      page_kept is = record {
+        first = is.first;
+        extents = is.extents;
+        has_shard = shard_kept d u is.first is.extents other is.has_shard;
+        has_page = is.has_page;
+      }
+
+  -- ---- who owns a unit
+
+  pub owned_after : (unit : ℕ) → IsOwned after unit ↔ (HasUnit extents unit ⊎ IsOwnedElsewhere rows c o unit)
+  owned_after unit = (
+    λ owned. by owned.0 owned.1,
+    λ either. elim either [
+      | inl has ↦ (page_of c o has.page, (has.place, own_is has.page has.place has.there, has.is))
+      | inr old ↦ (
+        page_of old.coll old.object old.page,
+        (old.owns.0, page_kept old.page old.owns.0 old.coll old.object old.other old.owns.1, old.owns.2),
+      )
+    ],
+  )
+    where
+      by : (owner : Owner) → Owns after owner unit → HasUnit extents unit ⊎ IsOwnedElsewhere rows c o unit
+      by (page_of d u page) owns = elim (object_cases c o d u) [
+        | inl e ↦ inl (record {
+          page = page;
+          place = owns.0;
+          there = own_was page owns.0 (subst (λ x. IsPageAt after x o page owns.0) e.0 (subst (λ x. IsPageAt after d x page owns.0) e.1 owns.1));
+          is = owns.2;
+        })
+        | inr other ↦ inr (record {
+          coll = d;
+          object = u;
+          page = page;
+          other = other;
+          owns = (owns.0, page_was page owns.0 d u other owns.1, owns.2);
+        })
+      ]
+
+  -- ---- no row is bad
+
+  module _ (s : Super) (good : NoBadRow s rows) (has_collection : HasKey rows (coll_key c)) (ascend : Ascend extents)
+      (within : AllByRecursion (λ e. page_end e ≤ pages_of size) extents) (on_data : AllByRecursion (λ e. IsOnData s e.body) extents) where
+    coll_there : HasKey after (coll_key c)
+    coll_there = ap is_some (coll_same c) ∙ has_collection
+
+    new_in_place : (page : ℕ) → BeginsAt page extents → IsShardInPlace s after c o page extents
+    new_in_place page begins = record {
+      has_collection = coll_there;
+      has_onode = ap is_some are.onode;
+      ascend = ascend;
+      behind = λ earlier es below has. absurd (omega (arith, below, one_begin earlier page extents (own_shard earlier es has).0 begins));
+      within = λ n has. subst (λ m. AllByRecursion (λ e. page_end e ≤ pages_of m) extents) (sym (own_onode n has)) within;
+      on_data = on_data;
+    }
+
+    old_in_place : (d u : List ℕ) (page : ℕ) (es : List Extent) → IsOther c o d u → HasRow rows (shard d u page es) → IsShardInPlace s after d u page es
+    old_in_place d u page es other has =
+        let was : IsShardInPlace s rows d u page es = in_place s rows (shard d u page es) good has in
+        record {
+          has_collection = ap is_some (coll_same d) ∙ was.has_collection;
+          has_onode = ap is_some (onode_same d u has.fits.coll_name has.fits.object_name other) ∙ was.has_onode;
+          ascend = was.ascend;
+          behind = λ earlier fs below h. elim (shard_cases d u earlier fs h) [
+            | inl own ↦ absurd (other own.0 own.1)
+            | inr old ↦ was.behind earlier fs below old.1
+          ];
+          within = λ n h. elim (onode_cases d u n h) [ inl own ↦ absurd (other own.0 own.1) | inr old ↦ was.within n old.1 ];
+          on_data = was.on_data;
+        }
+
+    placed : (x : Row) → HasRow after x → IsInPlace s after x
+    placed (collection d) has = tt
+    placed (onode d u n) has = elim (onode_cases d u n has) [
+      | inl own ↦ (subst (λ x. HasKey after (coll_key x)) (sym own.0) coll_there, subst (λ m. m ≤ object_limit) (sym own.2) most)
+      | inr old ↦ let was = in_place s rows (onode d u n) good old.1 in (ap is_some (coll_same d) ∙ was.0, was.1)
+    ]
+    placed (shard d u page es) has = elim (shard_cases d u page es has) [
+      | inl own ↦ subst (λ x. IsShardInPlace s after x u page es) (sym own.0) (subst (λ x. IsShardInPlace s after c x page es) (sym own.1)
+          (subst (IsShardInPlace s after c o page) (sym own.3) (new_in_place page own.2)))
+      | inr old ↦ old_in_place d u page es old.0 old.1
+    ]
+
+    -- a row by its key and its value
+    good_row : (key value : List ℕ) (x : Row) → map.get after key ≡ Some value → FitsRow x → key ≡ row_key x → value ≡ row_value x
+        → IsGoodRow s after key value
+    good_row key value x stands fits key_is value_is = record {
+      row = x;
+      fits = fits;
+      key_is = key_is;
+      value_is = value_is;
+      in_place = placed x (record { fits = fits; stands = ap (λ k. map.get after k) (sym key_is) ∙ stands ∙ ap Some value_is });
+    }
+
+    own_good : (key value : List ℕ) (x : Row) → map.get after key ≡ Some value → HasRow after x → key ≡ row_key x → IsGoodRow s after key value
+    own_good key value x stands has key_is =
+        let e : Some value ≡ Some (row_value x) = sym stands ∙ ap (λ k. map.get after k) key_is ∙ has.stands in
+        good_row key value x stands has.fits key_is cc
+
+    pub after_good : NoBadRow s after
+    after_good key value stands = elim (are.others key) [
+      | inl own ↦ elim own [
+        | inl e ↦ own_good key value new_onode stands has_onode e
+        | inr p ↦ elim (begins_or_not p.0 extents) [
+          | inl begins ↦ own_good key value (shard c o p.0 extents) stands (has_shard p.0 begins) p.2
+          | inr not ↦ absurd (let e = sym stands ∙ ap (λ k. map.get after k) p.2 ∙ are.no_other p.0 p.1 not in cc)
+        ]
+      ]
+      | inr same ↦ let g = good key value (sym same ∙ stands) in good_row key value g.row stands g.fits g.key_is g.value_is
+    ]
+
+-- ---- for the operations
+
+module _ (s : Super) (rows : Rows) (c o : List ℕ) (size : ℕ) (extents : List Extent) (present : List ℕ) (can : CanReplace s rows c o size extents present) where
+  abbrev then : Rows
+  then = replaced rows c o size extents present
+
+  pub are_then : AreReplaced rows then c o size extents
+  are_then = are_replaced s rows c o size extents present can
+
+  pub then_good : NoBadRow s then
+  then_good = after_good rows then c o size extents can.coll_name can.object_name can.size_most can.fit are_then s can.good can.has_collection can.ascend
+      can.within can.on_data
+
+  pub then_sized : HasRow then (onode c o size)
+  then_sized = has_onode rows then c o size extents can.coll_name can.object_name can.size_most can.fit are_then
+
+  module _ (page : ℕ) (place : Place) where
+    pub then_pages : IsPageAt then c o page place ↔ (place_of extents page ≡ Some place)
+    then_pages = own_pages rows then c o size extents can.coll_name can.object_name can.size_most can.fit are_then page place
+
+    pub then_others : (d u : List ℕ) → IsOther c o d u → IsPageAt then d u page place ↔ IsPageAt rows d u page place
+    then_others d u other = (
+      page_was rows then c o size extents can.coll_name can.object_name can.size_most can.fit are_then page place d u other,
+      page_kept rows then c o size extents can.coll_name can.object_name can.size_most can.fit are_then page place d u other,
+    )
+
+  pub then_owned : (unit : ℕ) → IsOwned then unit ↔ (HasUnit extents unit ⊎ IsOwnedElsewhere rows c o unit)
+  then_owned = owned_after rows then c o size extents can.coll_name can.object_name can.size_most can.fit are_then
+
+  pub then_kinds : SameOthers rows then
+  then_kinds = kind_same rows then c o size extents can.coll_name can.object_name can.size_most can.fit are_then
+
+  pub then_colls : (d : List ℕ) → map.get then (coll_key d) ≡ map.get rows (coll_key d)
+  then_colls = coll_same rows then c o size extents can.coll_name can.object_name can.size_most can.fit are_then
+
+  pub then_onodes : (d u : List ℕ) → IsCollName d → IsName u → IsOther c o d u → map.get then (onode_key d u) ≡ map.get rows (onode_key d u)
+  then_onodes = onode_same rows then c o size extents can.coll_name can.object_name can.size_most can.fit are_then

@@ -1,0 +1,203 @@
+-- The units of the pages of a range.
+use Rattle.std.proofs.Common.{◌≡◌, ◌⊎◌, ◌↔◌, inl, inr, ℕ, zero, suc, ◌+◌, ◌<◌, ◌≤◌, Bool, true, false, cond, T, List, [], ◌∷◌, length, get_or, map, Contains, Option, Some, refl, sym, ap, subst, ◌∙◌, arith}
+use Rattle.std.specs.Prelude.{slice_index}
+use Rattle.std.specs.Ordering.{nat_cmp, is_eq}
+use Rattle.std.specs.FinMap as finite
+use Rattle.std.specs.FinMap.{find, is_sorted, entries, entries_sorted, get-entries}
+use Rattle.std.specs.FinMap.Entries.{where_key, below_all}
+use Rattle.std.proofs.lemmas.Bool.{cases_Bool, cases_lt}
+use Rattle.std.proofs.lemmas.Bool.Decides.{nat_tests}
+use Rattle.number_map.specs.NumberMap.{is_in}
+use Rattle.number_map.proofs.Places.{both_first, both_second}
+use Rattle.number_map.proofs.Search.{cmp_equal, cmp_less, cmp_greater, less_is}
+use Rattle.meta_rows.specs.Rows.{Rows}
+use Rattle.row_format.specs.Extents.{Place}
+use Rattle.store_image.specs.Pages.{IsPageAt}
+use Rattle.store_image.specs.Owners.{page_of, Owns}
+use Rattle.row_facts.specs.SinglePages.{HasSoleOwners}
+use Rattle.blob_map.specs.Pages.{PageMap}
+use Rattle.object_rows.specs.Maps.{IsMapOf}
+use Rattle.object_rows.specs.Plans.{units_between}
+use Rattle.object_rows.specs.Writes.{AreDistinct, StoodWritten}
+use Rattle.object_rows.proofs.Wrote.{written_or_not}
+
+-- ---- elements
+
+-- the list has the element
+abbrev In : {X : Type 0} → List X → X → Type 0
+In [] x = ⊥
+In (e ∷ es) x = (e ≡ x) ⊎ In es x
+
+at_in : (us : List ℕ) (v k : ℕ) → k < length us → get_or us k v ≡ v → In us v
+at_in [] v k lt is = absurd (omega (arith, lt))
+at_in (u ∷ us) v zero lt is = inl is
+at_in (u ∷ us) v (suc k) lt is = inr (at_in us v k (omega (arith, lt)) is)
+
+in_at : (us : List ℕ) (v : ℕ) → In us v → Contains us v
+in_at [] v h = absurd h
+in_at (u ∷ us) v (inl is) = (0, omega arith, is)
+in_at (u ∷ us) v (inr later) = let c = in_at us v later in (suc c.0, omega (arith, c.1), c.2)
+
+index_in : (us : List ℕ) (j : ℕ) → j < length us → In us (slice_index us j)
+index_in [] j lt = absurd (omega (arith, lt))
+index_in (u ∷ us) zero lt = inl refl
+index_in (u ∷ us) (suc j) lt = inr (index_in us j (omega (arith, lt)))
+
+-- none comes twice
+abbrev NoTwice : List ℕ → Type 0
+NoTwice [] = Unit {0}
+NoTwice (u ∷ us) = (In us u → ⊥) × NoTwice us
+
+distinct_of : (us : List ℕ) → NoTwice us → AreDistinct us
+distinct_of [] once i j in_i in_j same = absurd (omega (arith, in_i))
+distinct_of (u ∷ us) once zero zero in_i in_j same = refl
+distinct_of (u ∷ us) once zero (suc j) in_i in_j same = absurd (once.0 (subst (In us) (sym same) (index_in us j (omega (arith, in_j)))))
+distinct_of (u ∷ us) once (suc i) zero in_i in_j same = absurd (once.0 (subst (In us) same (index_in us i (omega (arith, in_i)))))
+distinct_of (u ∷ us) once (suc i) (suc j) in_i in_j same = ap suc (distinct_of us once.1 i j (omega (arith, in_i)) (omega (arith, in_j)) same)
+
+-- ---- entries in order
+
+find_step : (page : ℕ) (p : ℕ × Place) (ps : List (ℕ × Place)) → (page < p.0) ⊎ (p.0 < page) → find nat_cmp page (p ∷ ps) ≡ find nat_cmp page ps
+find_step page p ps apart = elim apart [
+  | inl lt ↦ ap (λ r. cond (is_eq r) (Some p.1) (find nat_cmp page ps)) (cmp_less page p.0 lt)
+  | inr lt ↦ ap (λ r. cond (is_eq r) (Some p.1) (find nat_cmp page ps)) (cmp_greater page p.0 lt)
+]
+
+find_here : (page : ℕ) (p : ℕ × Place) (ps : List (ℕ × Place)) → page ≡ p.0 → find nat_cmp page (p ∷ ps) ≡ Some p.1
+find_here page p ps is = ap (λ r. cond (is_eq r) (Some p.1) (find nat_cmp page ps)) (cmp_equal page p.0 is)
+
+same_pair : (p : ℕ × Place) (page : ℕ) (place : Place) → p.0 ≡ page → p.1 ≡ place → p ≡ (page, place)
+same_pair p page place a b = λ i. (a i, b i)
+
+found_in : (es : List (ℕ × Place)) (page : ℕ) (place : Place) → find nat_cmp page es ≡ Some place → In es (page, place)
+found_in [] page place is = absurd cc
+found_in (e ∷ es) page place is = elim (cases_lt page e.0) [
+  | inl lt ↦ inr (found_in es page place (sym (find_step page e es (inl lt)) ∙ is))
+  | inr ge ↦ elim (cases_lt e.0 page) [
+    | inl lt ↦ inr (found_in es page place (sym (find_step page e es (inr lt)) ∙ is))
+    | inr le ↦
+        let here : e.0 ≡ page = omega (arith, ge, le) in
+        let two : Some e.1 ≡ Some place = sym (find_here page e es (sym here)) ∙ is in
+        inl (same_pair e page place here cc)
+  ]
+]
+
+below_in : (x : ℕ) (es : List (ℕ × Place)) (page : ℕ) (place : Place) → T (below_all nat_cmp x es) → In es (page, place) → x < page
+below_in x [] page place h is = absurd is
+below_in x (e ∷ es) page place h (inl is) = omega (arith, less_is x e.0 (both_first _ _ h), ap (λ (p : ℕ × Place). p.0) is)
+below_in x (e ∷ es) page place h (inr later) = below_in x es page place (both_second _ _ h) later
+
+in_found : (es : List (ℕ × Place)) (page : ℕ) (place : Place) → T (is_sorted nat_cmp es) → In es (page, place) → find nat_cmp page es ≡ Some place
+in_found [] page place sorted is = absurd is
+in_found (e ∷ es) page place sorted (inl is) =
+    find_here page e es (sym (ap (λ (p : ℕ × Place). p.0) is)) ∙ ap (λ (p : ℕ × Place). Some p.1) is
+in_found (e ∷ es) page place sorted (inr later) =
+    let above : e.0 < page = below_in e.0 es page place (both_first _ (is_sorted nat_cmp es) sorted) later in
+    find_step page e es (inr above) ∙ in_found es page place (both_second (below_all nat_cmp e.0 es) _ sorted) later
+
+-- ---- the pages of a range
+
+inside_is : (from end page : ℕ) → from ≤ page → page < end → is_in from end page ≡ true
+inside_is from end page le lt = grind (arith, nat_tests)
+
+low_is : (from end page : ℕ) → page < from → is_in from end page ≡ false
+low_is from end page lt = grind (arith, nat_tests)
+
+high_is : (from end page : ℕ) → end ≤ page → is_in from end page ≡ false
+high_is from end page le = grind (arith, nat_tests)
+
+module _ (first count : ℕ) where
+  abbrev units_in : List (ℕ × Place) → List ℕ
+  units_in es = map (λ p. p.1.unit) (where_key nat_cmp (is_in first (first + count)) es)
+
+  -- an entry of the range has the unit
+  record Stands (es : List (ℕ × Place)) (v : ℕ) : Type 0 where
+    pub page : ℕ
+    pub place : Place
+    pub there : In es (page, place)
+    pub inside : is_in first (first + count) page ≡ true
+    pub is_unit : place.unit ≡ v
+
+  -- the units with an entry in front
+  abbrev front : ℕ × Place → List (ℕ × Place) → Bool → List ℕ
+  front e es b = map (λ p. p.1.unit) (cond b (e ∷ where_key nat_cmp (is_in first (first + count)) es) (where_key nat_cmp (is_in first (first + count)) es))
+
+  unit_stands : (es : List (ℕ × Place)) (v : ℕ) → In (units_in es) v → Stands es v
+  unit_stands [] v h = absurd h
+  unit_stands (e ∷ es) v h = elim (cases_Bool (is_in first (first + count) e.0)) [
+    | inl is ↦
+        let either : (e.1.unit ≡ v) ⊎ In (units_in es) v = subst (λ b. In (front e es b) v) is h in
+        elim either [
+          | inl same ↦ record { page = e.0; place = e.1; there = inl refl; inside = is; is_unit = same }
+          | inr later ↦ behind (unit_stands es v later)
+        ]
+    | inr is ↦ behind (unit_stands es v (subst (λ b. In (front e es b) v) is h))
+  ]
+    where
+      behind : Stands es v → Stands (e ∷ es) v
+      behind x = record { page = x.page; place = x.place; there = inr x.there; inside = x.inside; is_unit = x.is_unit }
+
+  stands_unit : (es : List (ℕ × Place)) (v page : ℕ) (place : Place) → In es (page, place) → is_in first (first + count) page ≡ true → place.unit ≡ v
+      → In (units_in es) v
+  stands_unit [] v page place h is same = absurd h
+  stands_unit (e ∷ es) v page place (inl here) is same =
+      let test : is_in first (first + count) e.0 ≡ true = ap (λ (p : ℕ × Place). is_in first (first + count) p.0) here ∙ is in
+      subst (λ b. In (front e es b) v) (sym test) (inl (ap (λ (p : ℕ × Place). p.1.unit) here ∙ same))
+  stands_unit (e ∷ es) v page place (inr later) is same =
+      let rest = stands_unit es v page place later is same in
+      elim (cases_Bool (is_in first (first + count) e.0)) [
+        | inl test ↦ subst (λ b. In (front e es b) v) (sym test) (inr rest)
+        | inr test ↦ subst (λ b. In (front e es b) v) (sym test) rest
+      ]
+
+  -- where no two entries have one unit, none comes twice
+  units_differ : (es : List (ℕ × Place)) → T (is_sorted nat_cmp es)
+      → ((p q : ℕ) (a b : Place) → In es (p, a) → In es (q, b) → a.unit ≡ b.unit → p ≡ q) → NoTwice (units_in es)
+  units_differ [] sorted one = tt
+  units_differ (e ∷ es) sorted one =
+      let rest = units_differ es (both_second (below_all nat_cmp e.0 es) _ sorted) (λ p q a b x y. one p q a b (inr x) (inr y)) in
+      elim (cases_Bool (is_in first (first + count) e.0)) [
+        | inl is ↦ subst (λ b. NoTwice (front e es b)) (sym is) (not_again, rest)
+        | inr is ↦ subst (λ b. NoTwice (front e es b)) (sym is) rest
+      ]
+    where
+      not_again : In (units_in es) e.1.unit → ⊥
+      not_again h =
+          let x = unit_stands es e.1.unit h in
+          let above : e.0 < x.page = below_in e.0 es x.page x.place (both_first _ (is_sorted nat_cmp es) sorted) x.there in
+          let same : e.0 ≡ x.page = one e.0 x.page e.1 x.place (inl refl) (inr x.there) (sym x.is_unit) in
+          omega (arith, above, same)
+
+  module _ (rows : Rows) (c o : List ℕ) (pages : PageMap) (are : IsMapOf rows c o pages) where
+    page_in : (page : ℕ) (place : Place) → In (entries pages) (page, place) → IsPageAt rows c o page place
+    page_in page place h = (are page place).0 (get-entries pages page ∙ in_found (entries pages) page place (entries_sorted pages) h)
+
+    -- the units of the range are those where its pages stand
+    pub between_stood : (v : ℕ) → Contains (units_between pages first count) v ↔ StoodWritten rows c o first count v
+    between_stood v = (
+      λ k. stood (unit_stands (entries pages) v (at_in (units_between pages first count) v k.0 k.1 k.2)),
+      λ w.
+          let found = found_in (entries pages) (first + w.index) w.owns.0 (sym (get-entries pages (first + w.index)) ∙ (are (first + w.index) w.owns.0).1 w.owns.1) in
+          in_at (units_between pages first count) v
+          (stands_unit (entries pages) v (first + w.index) w.owns.0 found (inside_is first (first + count) (first + w.index) (omega arith) (omega (arith, w.small))) w.owns.2),
+    )
+      where
+        stood : Stands (entries pages) v → StoodWritten rows c o first count v
+        stood x = elim (written_or_not first count x.page) [
+          | inl p ↦ record {
+            index = p.0;
+            small = p.1;
+            owns = (x.place, subst (λ n. IsPageAt rows c o n x.place) p.2 (page_in x.page x.place x.there), x.is_unit);
+          }
+          | inr out ↦ elim out [
+            | inl lt ↦ absurd (let t = sym x.inside ∙ low_is first (first + count) x.page lt in cc)
+            | inr le ↦ absurd (let t = sym x.inside ∙ high_is first (first + count) x.page le in cc)
+          ]
+        ]
+
+    pub between_distinct : HasSoleOwners rows → AreDistinct (units_between pages first count)
+    between_distinct sole = distinct_of (units_between pages first count) (units_differ (entries pages) (entries_sorted pages) one)
+      where
+        one : (p q : ℕ) (a b : Place) → In (entries pages) (p, a) → In (entries pages) (q, b) → a.unit ≡ b.unit → p ≡ q
+        one p q a b x y same =
+            let owner : page_of c o p ≡ page_of c o q = sole b.unit (page_of c o p) (page_of c o q) (a, page_in p a x, same) (b, page_in q b y, refl) in cc

@@ -1,0 +1,170 @@
+-- The operations are in the order of their keys.
+use Rattle.std.proofs.Common.{◌≡◌, inl, inr, ℕ, ◌+◌, ◌*◌, ◌/◌, ◌%◌, ◌<◌, ◌^◌, Bool, cond, List, [], ◌∷◌, ◌++◌, refl, sym, ap, subst, ◌∙◌, arith}
+use Rattle.std.specs.Prelude.{nat_lt, filter}
+use Rattle.std.specs.List.{AllByRecursion}
+use Rattle.std.specs.Int.{w32, to_be_bytes}
+use Rattle.std.specs.Ordering.{ordering_then}
+use Rattle.std.specs.declared.cmp.Ordering.TheVariants.{Less}
+use Rattle.std.proofs.lemmas.Bool.{cases_Bool, cases_lt}
+use Rattle.std.proofs.lemmas.Nat.{from_be_bytes-to_be_bytes_4}
+use Rattle.byte_maps.specs.ByteMap.{byte_order}
+use Rattle.number_map.proofs.Search.{cmp_less, cmp_equal}
+use Rattle.meta_rows.specs.Rows.{Rows, key_of}
+use Rattle.meta_rows.specs.declared.row_op.RowOp.{RowOp}
+use Rattle.meta_rows.specs.declared.row_op.RowOp.TheVariants.{Drop}
+use Rattle.meta_log.specs.declared.slot.Super.{Super}
+use Rattle.row_format.specs.Keys.{of_object, onode_key, shard_key}
+use Rattle.row_format.specs.Extents.{Extent, FitsExtent}
+use Rattle.row_format.specs.Row.{onode, shard}
+use Rattle.row_facts.specs.Operations.{set_row}
+use Rattle.object_rows.specs.Operations.{says, drops, shard_ops, object_ops, CanReplace, Climb, KeysAscend}
+use Rattle.object_rows.proofs.Ops.{all_append, all_kept, all_pass, lower}
+use Rattle.object_rows.proofs.Shards.{both_all}
+
+-- ---- keys
+
+head_less : (x y : ℕ) (xs ys : List ℕ) → x < y → byte_order (x ∷ xs) (y ∷ ys) ≡ Less
+head_less x y xs ys lt = ap (λ r. ordering_then r (byte_order xs ys)) (cmp_less x y lt)
+
+head_same : (x y : ℕ) (xs ys : List ℕ) → x ≡ y → byte_order xs ys ≡ Less → byte_order (x ∷ xs) (y ∷ ys) ≡ Less
+head_same x y xs ys is less = ap (λ r. ordering_then r (byte_order xs ys)) (cmp_equal x y is) ∙ less
+
+behind : (front xs ys : List ℕ) → byte_order xs ys ≡ Less → byte_order (front ++ xs) (front ++ ys) ≡ Less
+behind [] xs ys less = less
+behind (n ∷ front) xs ys less = head_same n n (front ++ xs) (front ++ ys) refl (behind front xs ys less)
+
+-- two numbers of four digits to the base 256
+four_less : (a b c d e f g h : ℕ) (xs ys : List ℕ) → b < 256 → c < 256 → d < 256 → f < 256 → g < 256 → h < 256
+    → a * 16777216 + b * 65536 + c * 256 + d < e * 16777216 + f * 65536 + g * 256 + h
+    → byte_order (a ∷ b ∷ c ∷ d ∷ xs) (e ∷ f ∷ g ∷ h ∷ ys) ≡ Less
+four_less a b c d e f g h xs ys b' c' d' f' g' h' lt = elim (cases_lt a e) [
+  | inl less ↦ head_less a e (b ∷ c ∷ d ∷ xs) (f ∷ g ∷ h ∷ ys) less
+  | inr ge ↦
+      let one : a ≡ e = omega (arith, lt, ge, b', c', d', f', g', h') in
+      head_same a e (b ∷ c ∷ d ∷ xs) (f ∷ g ∷ h ∷ ys) one (elim (cases_lt b f) [
+        | inl less ↦ head_less b f (c ∷ d ∷ xs) (g ∷ h ∷ ys) less
+        | inr ge2 ↦
+            let two : b ≡ f = omega (arith, lt, one, ge2, c', d', g', h') in
+            head_same b f (c ∷ d ∷ xs) (g ∷ h ∷ ys) two (elim (cases_lt c g) [
+              | inl less ↦ head_less c g (d ∷ xs) (h ∷ ys) less
+              | inr ge3 ↦
+                  let three : c ≡ g = omega (arith, lt, one, two, ge3, d', h') in
+                  head_same c g (d ∷ xs) (h ∷ ys) three (head_less d h xs ys (omega (arith, lt, one, two, three)))
+            ])
+      ])
+]
+
+-- a number by its digits
+digits : (n : ℕ) → n < 2 ^ 32 → n / 16777216 % 256 * 16777216 + n / 65536 % 256 * 65536 + n / 256 % 256 * 256 + n % 256 ≡ n
+digits n fits = omega (arith, from_be_bytes-to_be_bytes_4 n fits)
+
+-- two numbers, with bytes behind them
+number_less : (a b : ℕ) (xs ys : List ℕ) → a < b → b < 2 ^ 32 → byte_order (to_be_bytes w32 a ++ xs) (to_be_bytes w32 b ++ ys) ≡ Less
+number_less a b xs ys lt fits =
+    four_less (a / 16777216 % 256) (a / 65536 % 256) (a / 256 % 256) (a % 256) (b / 16777216 % 256) (b / 65536 % 256) (b / 256 % 256) (b % 256) xs ys
+    (omega arith) (omega arith) (omega arith) (omega arith) (omega arith) (omega arith)
+    (omega (arith, digits a (omega (arith, lt, fits)), digits b fits, lt))
+
+module _ (c o : List ℕ) where
+  -- keys of one object, by what stands behind its names
+  names_same : (xs ys : List ℕ) → byte_order xs ys ≡ Less → byte_order (of_object 0x4f c o xs) (of_object 0x4f c o ys) ≡ Less
+  names_same xs ys less =
+      head_same 0x4f 0x4f (c ++ 0 ∷ (o ++ 0 ∷ xs)) (c ++ 0 ∷ (o ++ 0 ∷ ys)) refl
+      (behind c (0 ∷ (o ++ 0 ∷ xs)) (0 ∷ (o ++ 0 ∷ ys))
+      (head_same 0 0 (o ++ 0 ∷ xs) (o ++ 0 ∷ ys) refl (behind o (0 ∷ xs) (0 ∷ ys) (head_same 0 0 xs ys refl less))))
+
+  shard_before : (a b : ℕ) → a < b → b < 2 ^ 32 → byte_order (shard_key c o a) (shard_key c o b) ≡ Less
+  shard_before a b lt fits = names_same (0x6f ∷ to_be_bytes w32 a ++ 0x78 ∷ []) (0x6f ∷ to_be_bytes w32 b ++ 0x78 ∷ [])
+      (head_same 0x6f 0x6f (to_be_bytes w32 a ++ 0x78 ∷ []) (to_be_bytes w32 b ++ 0x78 ∷ []) refl (number_less a b (0x78 ∷ []) (0x78 ∷ []) lt fits))
+
+  onode_before : (page : ℕ) → byte_order (onode_key c o) (shard_key c o page) ≡ Less
+  onode_before page = names_same (0x6f ∷ []) (0x6f ∷ to_be_bytes w32 page ++ 0x78 ∷ [])
+      (head_same 0x6f 0x6f [] (to_be_bytes w32 page ++ 0x78 ∷ []) refl refl)
+
+  -- ---- operations
+
+  abbrev Before : RowOp → RowOp → Type 0
+  Before a b = byte_order (key_of a) (key_of b) ≡ Less
+
+  drops_all : (P : RowOp → Type 0) (Q : ℕ → Type 0) → ((page : ℕ) → Q page → P (Drop (shard_key c o page))) → (ps : List ℕ)
+      → AllByRecursion Q ps → AllByRecursion P (drops c o ps)
+  drops_all P Q f [] all = tt
+  drops_all P Q f (p ∷ ps) all = (f p all.0, drops_all P Q f ps all.1)
+
+  later_drops : (first : ℕ) (ps : List ℕ) → AllByRecursion (λ p. first < p) ps → AllByRecursion (λ p. p < 2 ^ 32) ps
+      → AllByRecursion (λ op. byte_order (shard_key c o first) (key_of op) ≡ Less) (drops c o ps)
+  later_drops first ps from below = drops_all (λ op. byte_order (shard_key c o first) (key_of op) ≡ Less) (λ p. (first < p) × (p < 2 ^ 32))
+      (λ p is. shard_before first p is.0 is.1) ps
+      (both_all (λ p. first < p) (λ p. p < 2 ^ 32) (λ p. (first < p) × (p < 2 ^ 32)) (λ p a b. (a, b)) ps from below)
+
+  drops_ascend : (ps : List ℕ) → Climb ps → AllByRecursion (λ p. p < 2 ^ 32) ps → KeysAscend (drops c o ps)
+  drops_ascend [] climb below = tt
+  drops_ascend (p ∷ ps) climb below = (later_drops p ps climb.0 below.1, drops_ascend ps climb.1 below.1)
+
+  joined : (xs ys : List RowOp) → KeysAscend xs → KeysAscend ys → AllByRecursion (λ x. AllByRecursion (Before x) ys) xs → KeysAscend (xs ++ ys)
+  joined [] ys p q below = q
+  joined (x ∷ xs) ys p q below = (all_append (Before x) xs ys p.0 below.0, joined xs ys p.1 q below.1)
+
+  still_climb : (test : ℕ → Bool) (ps : List ℕ) → Climb ps → Climb (filter test ps)
+  still_climb test [] climb = tt
+  still_climb test (p ∷ ps) climb = elim (cases_Bool (test p)) [
+    | inl t ↦ subst (λ b. Climb (cond b (p ∷ filter test ps) (filter test ps))) (sym t)
+        (all_kept test (λ q. p < q) ps climb.0, still_climb test ps climb.1)
+    | inr f ↦ subst (λ b. Climb (cond b (p ∷ filter test ps) (filter test ps))) (sym f) (still_climb test ps climb.1)
+  ]
+
+  module _ (present : List ℕ) (climb : Climb present) (below : AllByRecursion (λ p. p < 2 ^ 32) present) where
+    module _ (e : Extent) (es : List Extent) (first_below : e.first < 2 ^ 32) where
+      abbrev low : List ℕ
+      low = filter (λ page. nat_lt page e.first) present
+
+      abbrev high : List ℕ
+      high = filter (nat_lt e.first) present
+
+      abbrev upper : List RowOp
+      upper = set_row (shard c o e.first (e ∷ es)) ∷ drops c o high
+
+      high_from : AllByRecursion (λ p. e.first < p) high
+      high_from = all_pass (nat_lt e.first) (λ p. e.first < p) (λ p is. lower e.first p is) present
+
+      high_below : AllByRecursion (λ p. p < 2 ^ 32) high
+      high_below = all_kept (nat_lt e.first) (λ p. p < 2 ^ 32) present below
+
+      upper_ascend : KeysAscend upper
+      upper_ascend = (later_drops e.first high high_from high_below, drops_ascend high (still_climb (nat_lt e.first) present climb) high_below)
+
+      low_first : AllByRecursion (λ x. AllByRecursion (Before x) upper) (drops c o low)
+      low_first = drops_all (λ x. AllByRecursion (Before x) upper) (λ p. p < e.first) (λ p lt. (
+        shard_before p e.first lt first_below,
+        later_drops p high (all_pass (nat_lt e.first) (λ q. p < q) (λ q is. omega (arith, lt, lower e.first q is)) present) high_below,
+      )) low (all_pass (λ page. nat_lt page e.first) (λ p. p < e.first) (λ p is. lower p e.first is) present)
+
+      parts_ascend : KeysAscend (shard_ops c o (e ∷ es) present)
+      parts_ascend = joined (drops c o low) upper
+          (drops_ascend low (still_climb (λ page. nat_lt page e.first) present climb) (all_kept (λ page. nat_lt page e.first) (λ p. p < 2 ^ 32) present below))
+          upper_ascend low_first
+
+    shards_ascend : (extents : List Extent) → AllByRecursion FitsExtent extents → KeysAscend (shard_ops c o extents present)
+    shards_ascend [] fit = drops_ascend present climb below
+    shards_ascend (e ∷ es) fit = parts_ascend e es fit.0.first
+
+    -- the onode's key is before all of them
+    drops_behind : (ps : List ℕ) → AllByRecursion (λ op. byte_order (onode_key c o) (key_of op) ≡ Less) (drops c o ps)
+    drops_behind [] = tt
+    drops_behind (p ∷ ps) = (onode_before p, drops_behind ps)
+
+    shards_behind : (extents : List Extent) → AllByRecursion (λ op. byte_order (onode_key c o) (key_of op) ≡ Less) (shard_ops c o extents present)
+    shards_behind [] = drops_behind present
+    shards_behind (e ∷ es) = all_append (λ op. byte_order (onode_key c o) (key_of op) ≡ Less) (drops c o (filter (λ page. nat_lt page e.first) present)) _
+        (drops_behind _) (onode_before e.first, drops_behind _)
+
+    all_ascend : (rows : Rows) (size : ℕ) (extents : List Extent) → AllByRecursion FitsExtent extents → KeysAscend (object_ops rows c o size extents present)
+    all_ascend rows size extents fit = elim (cases_Bool (says rows (onode c o size))) [
+      | inl is ↦ subst (λ b. KeysAscend (cond b [] (set_row (onode c o size) ∷ []) ++ shard_ops c o extents present)) (sym is) (shards_ascend extents fit)
+      | inr is ↦ subst (λ b. KeysAscend (cond b [] (set_row (onode c o size) ∷ []) ++ shard_ops c o extents present)) (sym is)
+          (shards_behind extents, shards_ascend extents fit)
+    ]
+
+pub ops_ascend : (s : Super) (rows : Rows) (c o : List ℕ) (size : ℕ) (extents : List Extent) (present : List ℕ)
+    → CanReplace s rows c o size extents present → Climb present → KeysAscend (object_ops rows c o size extents present)
+ops_ascend s rows c o size extents present can climb = all_ascend c o present climb can.shards.below rows size extents can.fit

@@ -1,0 +1,94 @@
+-- An object is touched: it is made where it is missing.
+use Rattle.std.proofs.Common.{◌≡◌, ◌⊎◌, ◌↔◌, inl, inr, ℕ, true, false, cond, List, [], ◌∷◌, Option, Some, None, Ok, is_some, refl, sym, ap, subst, ◌∙◌}
+use Rattle.std.specs.FinMap as map
+use Rattle.meta_rows.specs.Rows.{Rows, rows_after}
+use Rattle.meta_rows.specs.Spelling.{AllFit}
+use Rattle.meta_rows.specs.declared.row_op.RowOp.{RowOp}
+use Rattle.meta_log.specs.declared.slot.Super.{Super}
+use Rattle.object_model.specs.Objects.{Objects}
+use Rattle.object_model.specs.Effect.{transaction_effect}
+use Rattle.unit_fields.specs.Names.{IsName, IsCollName}
+use Rattle.row_format.specs.Keys.{coll_key, onode_key}
+use Rattle.row_format.specs.Extents.{Place}
+use Rattle.row_format.specs.Row.{shard}
+use Rattle.store_image.specs.Pages.{HasKey, IsPageAt}
+use Rattle.store_image.specs.BadRows.{NoBadRow}
+use Rattle.store_image.specs.Owners.{Owner, page_of, Owns, IsOwned}
+use Rattle.store_image.specs.Stands.{ObjectsStand}
+use Rattle.store_image.proofs.OwnedUnits.{objects_stand}
+use Rattle.store_image.proofs.PageMap.{in_place}
+use Rattle.row_facts.specs.SinglePages.{HasSoleOwners}
+use Rattle.row_facts.proofs.PageWritten.{object_cases}
+use Rattle.object_rows.specs.Operations.{CanReplace, object_ops, replaced, HasUnit, IsOwnedElsewhere}
+use Rattle.object_rows.specs.Plans.{touch_ops}
+use Rattle.object_rows.specs.Writes.{touch_change}
+use Rattle.object_rows.proofs.After.{then_good, then_owned}
+use Rattle.object_rows.proofs.Lengths.{object_ops_fit}
+use Rattle.object_rows.proofs.Makes.{can_make}
+use Rattle.object_rows.proofs.Units.{then_sole}
+use Rattle.object_rows.proofs.Wrote.{made_stand, touched_same}
+
+none_of : (x : Option (List ℕ)) → is_some x ≡ false → x ≡ None
+none_of None e = refl
+none_of (Some x) e = absurd cc
+
+none_has : (v : ℕ) → HasUnit [] v → ⊥
+none_has v h = let t = h.there in cc
+
+module _ (s : Super) (rows : Rows) (c o : List ℕ) (coll : IsCollName c) (name : IsName o) (has_coll : HasKey rows (coll_key c)) where
+  -- the operations are none, or those that make the object
+  by_test : (P : List RowOp → Type 0) → (HasKey rows (onode_key c o) → P [])
+      → (map.get rows (onode_key c o) ≡ None → P (object_ops rows c o 0 [] [])) → P (touch_ops rows c o)
+  by_test P there missing = elim (map.contains_key rows (onode_key c o)) as
+      (λ b. map.contains_key rows (onode_key c o) ≡ b → P (cond b [] (object_ops rows c o 0 [] []))) [
+        | true ↦ λ e. there e
+        | false ↦ λ e. missing (none_of (map.get rows (onode_key c o)) e)
+      ] refl
+
+  module _ (good : NoBadRow s rows) where
+    can : map.get rows (onode_key c o) ≡ None → CanReplace s rows c o 0 [] []
+    can none = can_make s rows c o good coll name has_coll none
+
+    pub touch_good : NoBadRow s (rows_after rows (touch_ops rows c o))
+    touch_good = by_test (λ ops. NoBadRow s (rows_after rows ops)) (λ there. good) (λ none. then_good s rows c o 0 [] [] (can none))
+
+    pub touch_fits : AllFit (touch_ops rows c o)
+    touch_fits = by_test AllFit (λ there. tt) (λ none. object_ops_fit s rows c o 0 [] [] (can none))
+
+    -- an object that is missing owns nothing
+    owned_elsewhere : map.get rows (onode_key c o) ≡ None → (v : ℕ) (owner : Owner) → Owns rows owner v → IsOwnedElsewhere rows c o v
+    owned_elsewhere none v (page_of d u page) owns = elim (object_cases c o d u) [
+      | inl e ↦ absurd (no_page
+          (subst (λ x. IsPageAt rows x o page owns.0) e.0 (subst (λ x. IsPageAt rows d x page owns.0) e.1 owns.1)))
+      | inr other ↦ record { coll = d; object = u; page = page; other = other; owns = owns }
+    ]
+      where
+        no_page : IsPageAt rows c o page owns.0 → ⊥
+        no_page is =
+            let t = sym (in_place s rows (shard c o is.first is.extents) good is.has_shard).has_onode ∙ ap is_some none in cc
+
+    made_owned : (none : map.get rows (onode_key c o) ≡ None) (v : ℕ) → IsOwned (replaced rows c o 0 [] []) v ↔ IsOwned rows v
+    made_owned none v =
+        let after = then_owned s rows c o 0 [] [] (can none) v in (
+          λ owned. elim (after.0 owned) [
+            | inl h ↦ absurd (none_has v h)
+            | inr e ↦ (page_of e.coll e.object e.page, e.owns)
+          ],
+          λ owned. after.1 (inr (owned_elsewhere none v owned.0 owned.1)),
+        )
+
+    pub touch_owned : (v : ℕ) → IsOwned (rows_after rows (touch_ops rows c o)) v ↔ IsOwned rows v
+    touch_owned v = by_test (λ ops. IsOwned (rows_after rows ops) v ↔ IsOwned rows v) (λ there. (λ x. x, λ x. x)) (λ none. made_owned none v)
+
+    pub touch_sole : HasSoleOwners rows → HasSoleOwners (rows_after rows (touch_ops rows c o))
+    touch_sole sole = by_test (λ ops. HasSoleOwners (rows_after rows ops)) (λ there. sole)
+        (λ none. then_sole s rows c o 0 [] [] (can none) sole (λ p q a b found too same. absurd cc) (λ v h e. none_has v h))
+
+    pub touch_stand : (at later_at : ℕ → List ℕ) (objects after : Objects) → ((v : ℕ) → IsOwned rows v → later_at v ≡ at v)
+        → ObjectsStand at rows objects → transaction_effect (touch_change c o) objects ≡ Ok after
+        → ObjectsStand later_at (rows_after rows (touch_ops rows c o)) after
+    touch_stand at later_at objects after same stand is =
+        let later = objects_stand at later_at rows (λ v owned. sym (same v owned)) objects stand in
+        by_test (λ ops. ObjectsStand later_at (rows_after rows ops) after)
+        (λ there. subst (ObjectsStand later_at rows) (sym (touched_same later_at rows objects after c o coll name there later is)) later)
+        (λ none. made_stand s rows c o [] (can none) later_at objects after none later is)

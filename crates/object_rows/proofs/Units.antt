@@ -1,0 +1,205 @@
+-- Which units have owners after an object's rows are replaced, and after whole pages are written.
+use Rattle.std.proofs.Common.{◌≡◌, ◌⊎◌, ◌↔◌, inl, inr, ℕ, ◌+◌, ◌<◌, ◌≤◌, List, length, Some, refl, sym, ap, subst, ◌∙◌, arith}
+use Rattle.std.specs.Prelude.{slice_index}
+use Rattle.byte_maps.specs.Units.{unit_at}
+use Rattle.crc32c_csum.specs.Crc32c.{crc32c}
+use Rattle.meta_rows.specs.Rows.{Rows}
+use Rattle.meta_log.specs.declared.slot.Super.{Super}
+use Rattle.row_format.specs.Extents.{Extent, Place, place_of}
+use Rattle.store_image.specs.Pages.{IsPageAt}
+use Rattle.store_image.specs.Owners.{Owner, page_of, Owns, IsOwned}
+use Rattle.row_facts.specs.SinglePages.{HasSoleOwners}
+use Rattle.row_facts.proofs.PageWritten.{object_cases}
+use Rattle.object_rows.specs.Operations.{CanReplace, replaced, IsOther, HasUnit, IsOwnedElsewhere, StandAlone}
+use Rattle.object_rows.specs.Writes.{IsWritten, AreDistinct, IsLeft, IsOwnedBesidesWritten, StoodWritten}
+use Rattle.object_rows.proofs.After.{then_pages, then_others}
+use Rattle.object_rows.proofs.Wrote.{written_or_not}
+
+module _ (s : Super) (rows : Rows) (c o : List ℕ) (size : ℕ) (extents : List Extent) (present : List ℕ) (can : CanReplace s rows c o size extents present) where
+  abbrev then : Rows
+  then = replaced rows c o size extents present
+
+  -- an owner after is a page of the extents, or of another object
+  record IsOwn (owner : Owner) (v : ℕ) : Type 0 where
+    pub page : ℕ
+    pub place : Place
+    pub is_page : owner ≡ page_of c o page
+    pub found : place_of extents page ≡ Some place
+    pub is_unit : place.unit ≡ v
+
+  record IsOld (owner : Owner) (v : ℕ) : Type 0 where
+    pub elsewhere : IsOwnedElsewhere rows c o v
+    pub owner_is : owner ≡ page_of elsewhere.coll elsewhere.object elsewhere.page
+    pub owned : Owns rows owner v
+
+  owner_cases : (owner : Owner) (v : ℕ) → Owns then owner v → IsOwn owner v ⊎ IsOld owner v
+  owner_cases (page_of d u page) v owns = elim (object_cases c o d u) [
+    | inl e ↦ inl (record {
+      page = page;
+      place = owns.0;
+      is_page = λ i. page_of (e.0 i) (e.1 i) page;
+      found = (then_pages s rows c o size extents present can page owns.0).0
+          (subst (λ x. IsPageAt then x o page owns.0) e.0 (subst (λ x. IsPageAt then d x page owns.0) e.1 owns.1));
+      is_unit = owns.2;
+    })
+    | inr other ↦
+        let was : Owns rows (page_of d u page) v = (owns.0, (then_others s rows c o size extents present can page owns.0 d u other).0 owns.1, owns.2) in
+        inr (record {
+          elsewhere = record { coll = d; object = u; page = page; other = other; owns = was };
+          owner_is = refl;
+          owned = was;
+        })
+  ]
+
+  own_owns : (page : ℕ) (place : Place) → place_of extents page ≡ Some place → Owns then (page_of c o page) place.unit
+  own_owns page place is = (place, (then_pages s rows c o size extents present can page place).1 is, refl)
+
+  other_owns : (d u : List ℕ) (page v : ℕ) → IsOther c o d u → Owns rows (page_of d u page) v → Owns then (page_of d u page) v
+  other_owns d u page v other owns = (owns.0, (then_others s rows c o size extents present can page owns.0 d u other).1 owns.1, owns.2)
+
+  pub then_sole : HasSoleOwners rows → StandAlone extents → ((v : ℕ) → HasUnit extents v → IsOwnedElsewhere rows c o v → ⊥) → HasSoleOwners then
+  then_sole sole alone apart v a b p q = elim (owner_cases a v p) [
+    | inl x ↦ elim (owner_cases b v q) [
+      | inl y ↦
+          let same : x.page ≡ y.page = alone x.page y.page x.place y.place x.found y.found (x.is_unit ∙ sym y.is_unit) in
+          x.is_page ∙ ap (page_of c o) same ∙ sym y.is_page
+      | inr y ↦ absurd (apart v (record { page = x.page; place = x.place; there = x.found; is = x.is_unit }) y.elsewhere)
+    ]
+    | inr x ↦ elim (owner_cases b v q) [
+      | inl y ↦ absurd (apart v (record { page = y.page; place = y.place; there = y.found; is = y.is_unit }) x.elsewhere)
+      | inr y ↦ sole v a b x.owned y.owned
+    ]
+  ]
+
+  -- ---- whole pages are written
+
+  module _ (first : ℕ) (bytes units : List ℕ) (w : IsWritten rows c o first bytes units size extents) where
+    abbrev IsFreshUnit : ℕ → Type 0
+    IsFreshUnit v = (i : ℕ) × (i < length units) × (slice_index units i ≡ v)
+
+    -- a page of the extents is one that was written, or stands where it did
+    page_of_extents : (page : ℕ) (place : Place) → place_of extents page ≡ Some place
+        → ((i : ℕ) × (i < length units) × (page ≡ first + i) × (slice_index units i ≡ place.unit))
+        ⊎ (((page < first) ⊎ (first + length units ≤ page)) × IsPageAt rows c o page place)
+    page_of_extents page place found = elim (written_or_not first (length units) page) [
+      | inl p ↦
+          let two : Some place ≡ Some (record { unit = slice_index units p.0; csum = crc32c (unit_at p.0 bytes) }) =
+          sym found ∙ ap (place_of extents) p.2 ∙ w.inside p.0 p.1 in
+          let same : place ≡ record { unit = slice_index units p.0; csum = crc32c (unit_at p.0 bytes) } = cc in
+          inl (p.0, p.1, p.2, sym (ap (λ x. x.unit) same))
+      | inr out ↦ inr (out, (w.outside page place out).0 found)
+    ]
+
+    fresh_owns : (i : ℕ) → i < length units → Owns then (page_of c o (first + i)) (slice_index units i)
+    fresh_owns i lt = own_owns (first + i) (record { unit = slice_index units i; csum = crc32c (unit_at i bytes) }) (w.inside i lt)
+
+    left_owns : (owner : Owner) (v : ℕ) → IsLeft c o first (length units) owner → Owns rows owner v → Owns then owner v
+    left_owns (page_of d u page) v left owns = elim (object_cases c o d u) [
+      | inl e ↦ elim left [
+        | inl other ↦ absurd (other e.0 e.1)
+        | inr out ↦
+            let here : IsPageAt rows c o page owns.0 =
+            subst (λ x. IsPageAt rows x o page owns.0) e.0 (subst (λ x. IsPageAt rows d x page owns.0) e.1 owns.1) in
+            let there : Owns then (page_of c o page) v =
+            (owns.0, (then_pages s rows c o size extents present can page owns.0).1 ((w.outside page owns.0 out).1 here), owns.2) in
+            subst (λ x. Owns then x v) (λ i. page_of (sym e.0 i) (sym e.1 i) page) there
+      ]
+      | inr other ↦ other_owns d u page v other owns
+    ]
+
+    then_owned_cases : (v : ℕ) → IsOwned then v → IsFreshUnit v ⊎ IsOwnedBesidesWritten rows c o first (length units) v
+    then_owned_cases v owned = elim (owner_cases owned.0 v owned.1) [
+      | inl x ↦ elim (page_of_extents x.page x.place x.found) [
+        | inl p ↦ inl (p.0, p.1, p.3 ∙ x.is_unit)
+        | inr p ↦ inr (record { owner = page_of c o x.page; left = inr p.0; owns = (x.place, p.1, x.is_unit) })
+      ]
+      | inr x ↦ inr (record {
+        owner = page_of x.elsewhere.coll x.elsewhere.object x.elsewhere.page;
+        left = inl x.elsewhere.other;
+        owns = x.elsewhere.owns;
+      })
+    ]
+
+    pub written_owned : (v : ℕ) → IsOwned then v ↔ (IsFreshUnit v ⊎ IsOwnedBesidesWritten rows c o first (length units) v)
+    written_owned v = (
+      then_owned_cases v,
+      λ either. elim either [
+        | inl p ↦ (page_of c o (first + p.0), subst (Owns then (page_of c o (first + p.0))) p.2 (fresh_owns p.0 p.1))
+        | inr b ↦ (b.owner, left_owns b.owner v b.left b.owns)
+      ],
+    )
+
+    module _ (distinct : AreDistinct units) (free : (i : ℕ) → i < length units → ¬ IsOwned rows (slice_index units i)) where
+      fresh_free : (v : ℕ) → IsFreshUnit v → ¬ IsOwned rows v
+      fresh_free v p owned = free p.0 p.1 (subst (IsOwned rows) (sym p.2) owned)
+
+      elsewhere_owned : (v : ℕ) → IsOwnedElsewhere rows c o v → IsOwned rows v
+      elsewhere_owned v e = (page_of e.coll e.object e.page, e.owns)
+
+      alone : HasSoleOwners rows → StandAlone extents
+      alone sole p q a b found too same = elim (page_of_extents p a found) [
+        | inl x ↦ elim (page_of_extents q b too) [
+          | inl y ↦
+              let one : x.0 ≡ y.0 = distinct x.0 y.0 x.1 y.1 (x.3 ∙ same ∙ sym y.3) in
+              x.2 ∙ ap (λ i. first + i) one ∙ sym y.2
+          | inr y ↦ absurd (fresh_free b.unit (x.0, x.1, x.3 ∙ same) (page_of c o q, (b, y.1, refl)))
+        ]
+        | inr x ↦ elim (page_of_extents q b too) [
+          | inl y ↦ absurd (fresh_free a.unit (y.0, y.1, y.3 ∙ sym same) (page_of c o p, (a, x.1, refl)))
+          | inr y ↦
+              let one : page_of c o p ≡ page_of c o q = sole a.unit (page_of c o p) (page_of c o q) (a, x.1, refl) (b, y.1, sym same) in cc
+        ]
+      ]
+
+      apart : HasSoleOwners rows → (v : ℕ) → HasUnit extents v → IsOwnedElsewhere rows c o v → ⊥
+      apart sole v has e = elim (page_of_extents has.page has.place has.there) [
+        | inl x ↦ fresh_free v (x.0, x.1, x.3 ∙ has.is) (elsewhere_owned v e)
+        | inr x ↦
+            let one : page_of c o has.page ≡ page_of e.coll e.object e.page =
+            sole v (page_of c o has.page) (page_of e.coll e.object e.page) (has.place, x.1, has.is) e.owns in
+            e.other (sym (coll_of c e.coll o e.object has.page e.page one)) (sym (object_of c e.coll o e.object has.page e.page one))
+      ]
+        where
+          coll_of : (c d o u : List ℕ) (page other : ℕ) → page_of c o page ≡ page_of d u other → c ≡ d
+          coll_of c d o u page other e = cc
+
+          object_of : (c d o u : List ℕ) (page other : ℕ) → page_of c o page ≡ page_of d u other → o ≡ u
+          object_of c d o u page other e = cc
+
+      pub written_sole : HasSoleOwners rows → HasSoleOwners then
+      written_sole sole = then_sole sole (alone sole) (apart sole)
+
+      -- an owner is left, or a page that was written
+      pub left_or_written : (owner : Owner) → IsLeft c o first (length units) owner
+          ⊎ ((i : ℕ) × (i < length units) × (owner ≡ page_of c o (first + i)))
+      left_or_written (page_of d u page) = elim (object_cases c o d u) [
+        | inl e ↦ elim (written_or_not first (length units) page) [
+          | inl p ↦ inr (p.0, p.1, λ i. page_of (e.0 i) (e.1 i) (p.2 i))
+          | inr out ↦ inl (inr out)
+        ]
+        | inr other ↦ inl (inl other)
+      ]
+
+      not_left : (i : ℕ) → i < length units → IsLeft c o first (length units) (page_of c o (first + i)) → ⊥
+      not_left i lt left = elim left [
+        | inl other ↦ other refl refl
+        | inr out ↦ elim out [ inl before ↦ omega (arith, before) | inr after ↦ omega (arith, after, lt) ]
+      ]
+
+      -- the units that lose their owner are those where the pages stood that were written
+      pub written_released : HasSoleOwners rows → (v : ℕ)
+          → (IsOwned rows v × (IsOwned then v → ⊥)) ↔ StoodWritten rows c o first (length units) v
+      written_released sole v = (
+        λ p. elim (left_or_written p.0.0) [
+          | inl left ↦ absurd (p.1 (p.0.0, left_owns p.0.0 v left p.0.1))
+          | inr w ↦ record { index = w.0; small = w.1; owns = subst (λ x. Owns rows x v) w.2 p.0.1 }
+        ],
+        λ stood. (
+          (page_of c o (first + stood.index), stood.owns),
+          λ owned. elim (then_owned_cases v owned) [
+            | inl fresh ↦ fresh_free v fresh (page_of c o (first + stood.index), stood.owns)
+            | inr b ↦ not_left stood.index stood.small (subst (IsLeft c o first (length units))
+                (sole v b.owner (page_of c o (first + stood.index)) b.owns stood.owns) b.left)
+          ],
+        ),
+      )

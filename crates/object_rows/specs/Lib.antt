@@ -1,0 +1,5 @@
+pub mod Operations
+pub mod Writes
+pub mod Maps
+pub mod Plans
+pub mod Planned

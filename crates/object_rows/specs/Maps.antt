@@ -1,0 +1,70 @@
+-- The page map of an object as its rows say it, and as a write changes it.
+use Rattle.std.specs.Prelude.{◌≡◌, ◌⊎◌, ◌↔◌, ℕ, ◌+◌, ◌*◌, ◌<◌, ◌≤◌, ◌^◌, max, List, [], ◌∷◌, length, map, Some, Contains, slice_index}
+use Rattle.std.specs.List.{flat_map, AllByRecursion}
+use Rattle.std.specs.FinMap as finite
+use Rattle.byte_maps.specs.Units.{unit_at}
+use Rattle.crc32c_csum.specs.Crc32c.{crc32c}
+use Rattle.meta_rows.specs.Rows.{Rows}
+use Rattle.meta_log.specs.declared.slot.Super.{Super}
+use Rattle.object_model.specs.Effect.{object_limit}
+use Rattle.unit_fields.specs.Names.{IsName, IsCollName}
+use Rattle.row_format.specs.Keys.{coll_key}
+use Rattle.row_format.specs.Extents.{Extent, Place}
+use Rattle.row_format.specs.Row.{shard}
+use Rattle.store_image.specs.Pages.{HasKey, HasRow, IsPageAt}
+use Rattle.store_image.specs.BadRows.{NoBadRow}
+use Rattle.store_image.specs.Owners.{IsDataUnit}
+use Rattle.blob_map.specs.Pages.{PageMap}
+use Rattle.object_rows.specs.Operations.{AreShards}
+use Rattle.object_rows.specs.Writes.{IsSizeOf}
+
+-- ---- shards
+
+-- each begins behind the one before
+abbrev pub Rise : List (ℕ × List Extent) → Type 0
+Rise [] = Unit {0}
+Rise (x ∷ xs) = AllByRecursion (λ later. x.0 < later.0) xs × Rise xs
+
+-- the object's shards, all of them: the first page of each, and its extents
+pub record AreShardsOf (rows : Rows) (c o : List ℕ) (shards : List (ℕ × List Extent)) : Type 0 where
+  pub there : AllByRecursion (λ x. HasRow rows (shard c o x.0 x.1)) shards
+  pub all : (page : ℕ) (es : List Extent) → HasRow rows (shard c o page es) → Contains shards (page, es)
+  pub rise : Rise shards
+
+-- their extents, one shard's behind the other's
+abbrev pub extents_in : List (ℕ × List Extent) → List Extent
+extents_in shards = flat_map (λ x. x.1) shards
+
+-- their first pages
+abbrev pub first_pages : List (ℕ × List Extent) → List ℕ
+first_pages shards = map (λ x. x.0) shards
+
+-- ---- maps
+
+-- the map has the object's pages, each in its place
+abbrev pub IsMapOf : Rows → List ℕ → List ℕ → PageMap → Type 0
+IsMapOf rows c o pages = (page : ℕ) (place : Place) → (finite.get pages page ≡ Some place) ↔ IsPageAt rows c o page place
+
+-- the map after whole pages are written from the first on, each on its unit
+pub record IsMapWritten (old new : PageMap) (first : ℕ) (bytes units : List ℕ) : Type 0 where
+  pub inside : (i : ℕ) → i < length units
+      → finite.get new (first + i) ≡ Some (record { unit = slice_index units i; csum = crc32c (unit_at i bytes) })
+  pub outside : (page : ℕ) → (page < first) ⊎ (first + length units ≤ page) → finite.get new page ≡ finite.get old page
+
+-- Rows of which none is bad, a collection that they have, an object no longer than it may be, and data units: the bytes can be written
+-- from the first page on.
+pub record CanWrite (s : Super) (rows : Rows) (c o : List ℕ) (first : ℕ) (bytes units : List ℕ) (size : ℕ) (present : List ℕ) : Type 0 where
+  pub good : NoBadRow s rows
+  pub coll_name : IsCollName c
+  pub object_name : IsName o
+  pub has_collection : HasKey rows (coll_key c)
+  pub shards : AreShards rows c o present
+  pub some : 0 < length units
+  pub whole : length bytes ≡ 4096 * length units
+  pub before : ℕ
+  pub was_long : IsSizeOf rows c o before
+  pub size_is : size ≡ max before (4096 * (first + length units))
+  pub size_most : size ≤ object_limit
+  pub units_most : s.units ≤ 2 ^ 32
+  pub data_units : (i : ℕ) → i < length units → IsDataUnit s (slice_index units i)
+  pub csums_fit : (i : ℕ) → i < length units → crc32c (unit_at i bytes) < 2 ^ 32

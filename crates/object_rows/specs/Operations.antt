@@ -1,0 +1,103 @@
+-- The row operations that replace an object's onode and extents.
+use Rattle.std.specs.Prelude.{◌≡◌, ◌⊎◌, ℕ, ◌<◌, ◌≤◌, ◌^◌, nat_lt, Bool, false, List, [], ◌∷◌, ◌++◌, map, filter, Contains, Some, if◌then◌else◌}
+use Rattle.std.specs.List.{AllByRecursion}
+use Rattle.std.specs.Option.{option_map_or}
+use Rattle.std.specs.FinMap as finite
+use Rattle.std.specs.declared.cmp.Ordering.TheVariants.{Less}
+use Rattle.byte_maps.specs.ByteMap.{byte_order}
+use Rattle.meta_rows.specs.Rows.{Rows, rows_after, key_of}
+use Rattle.meta_rows.specs.declared.row_op.RowOp.{RowOp}
+use Rattle.meta_rows.specs.declared.row_op.RowOp.TheVariants.{Drop}
+use Rattle.meta_log.specs.declared.slot.Super.{Super}
+use Rattle.object_model.specs.Effect.{object_limit, is_same}
+use Rattle.unit_fields.specs.Names.{IsName, IsCollName}
+use Rattle.row_format.specs.Keys.{coll_key, onode_key, shard_key}
+use Rattle.row_format.specs.Extents.{Extent, FitsExtent, Ascend, Place, place_of, page_end}
+use Rattle.row_format.specs.Row.{Row, onode, shard, row_key, row_value}
+use Rattle.store_image.specs.Pages.{HasKey, pages_of}
+use Rattle.store_image.specs.BadRows.{NoBadRow, IsOnData}
+use Rattle.store_image.specs.Owners.{page_of, Owns}
+use Rattle.row_facts.specs.Operations.{set_row}
+
+-- whether the rows say this
+abbrev pub says : Rows → Row → Bool
+says rows row = option_map_or (λ value. is_same value (row_value row)) (finite.get rows (row_key row)) false
+
+-- these shards of an object go
+abbrev pub drops : List ℕ → List ℕ → List ℕ → List RowOp
+drops c o pages = map (λ page. Drop (shard_key c o page)) pages
+
+-- the object's onode, where there is none, or one of another size
+abbrev pub onode_ops : Rows → List ℕ → List ℕ → ℕ → List RowOp
+onode_ops rows c o size = if says rows (onode c o size) then [] else set_row (onode c o size) ∷ []
+
+-- The one shard with all extents, if there are any, in the place of the present ones: the operations are in the order of their keys
+-- where the present ones are.
+abbrev pub shard_ops : List ℕ → List ℕ → List Extent → List ℕ → List RowOp
+shard_ops c o [] present = drops c o present
+shard_ops c o (e ∷ es) present = drops c o (filter (λ page. nat_lt page e.first) present)
+    ++ (set_row (shard c o e.first (e ∷ es)) ∷ drops c o (filter (nat_lt e.first) present))
+
+-- an object with this size and these extents, in the place of what the rows have of it: `present` are the first pages of its shards
+abbrev pub object_ops : Rows → List ℕ → List ℕ → ℕ → List Extent → List ℕ → List RowOp
+object_ops rows c o size extents present = onode_ops rows c o size ++ shard_ops c o extents present
+
+-- the first pages of the object's shards
+pub record AreShards (rows : Rows) (c o : List ℕ) (present : List ℕ) : Type 0 where
+  pub below : AllByRecursion (λ page. page < 2 ^ 32) present
+  pub all : (page : ℕ) → page < 2 ^ 32 → HasKey rows (shard_key c o page) → Contains present page
+
+-- Rows of which none is bad, a collection that they have, a size within the limit, and extents that are a good shard's: the object can
+-- have them.
+pub record CanReplace (s : Super) (rows : Rows) (c o : List ℕ) (size : ℕ) (extents : List Extent) (present : List ℕ) : Type 0 where
+  pub good : NoBadRow s rows
+  pub coll_name : IsCollName c
+  pub object_name : IsName o
+  pub has_collection : HasKey rows (coll_key c)
+  pub size_most : size ≤ object_limit
+  pub fit : AllByRecursion FitsExtent extents
+  pub ascend : Ascend extents
+  pub within : AllByRecursion (λ e. page_end e ≤ pages_of size) extents
+  pub on_data : AllByRecursion (λ e. IsOnData s e.body) extents
+  pub shards : AreShards rows c o present
+
+-- the rows then
+abbrev pub replaced : Rows → List ℕ → List ℕ → ℕ → List Extent → List ℕ → Rows
+replaced rows c o size extents present = rows_after rows (object_ops rows c o size extents present)
+
+-- the key is that of the object's onode, or of one of its shards
+abbrev pub IsKeyOf : List ℕ → List ℕ → List ℕ → Type 0
+IsKeyOf c o key = (key ≡ onode_key c o) ⊎ ((page : ℕ) × (page < 2 ^ 32) × (key ≡ shard_key c o page))
+
+-- another object
+abbrev pub IsOther : List ℕ → List ℕ → List ℕ → List ℕ → Type 0
+IsOther c o d u = d ≡ c → u ≡ o → ⊥
+
+-- a page of these extents stands on the unit
+pub record HasUnit (extents : List Extent) (unit : ℕ) : Type 0 where
+  pub page : ℕ
+  pub place : Place
+  pub there : place_of extents page ≡ Some place
+  pub is : place.unit ≡ unit
+
+-- an object other than this one owns the unit
+pub record IsOwnedElsewhere (rows : Rows) (c o : List ℕ) (unit : ℕ) : Type 0 where
+  pub coll : List ℕ
+  pub object : List ℕ
+  pub page : ℕ
+  pub other : IsOther c o coll object
+  pub owns : Owns rows (page_of coll object page) unit
+
+-- no two pages of these extents stand on one unit
+abbrev pub StandAlone : List Extent → Type 0
+StandAlone extents = (p q : ℕ) (a b : Place) → place_of extents p ≡ Some a → place_of extents q ≡ Some b → a.unit ≡ b.unit → p ≡ q
+
+-- each page is above those before it
+abbrev pub Climb : List ℕ → Type 0
+Climb [] = Unit {0}
+Climb (p ∷ ps) = AllByRecursion (λ later. p < later) ps × Climb ps
+
+-- each operation's key is above those before it
+abbrev pub KeysAscend : List RowOp → Type 0
+KeysAscend [] = Unit {0}
+KeysAscend (op ∷ ops) = AllByRecursion (λ later. byte_order (key_of op) (key_of later) ≡ Less) ops × KeysAscend ops

@@ -1,0 +1,73 @@
+-- What a transaction is turned into before it is committed.
+use Rattle.std.specs.Prelude.{◌≡◌, ℕ, ◌+◌, ◌*◌, ◌<◌, ◌≤◌, ◌^◌, List, [], ◌∷◌, length, map, None, Any, slice_index}
+use Rattle.std.specs.List.{AllByRecursion}
+use Rattle.std.specs.FinMap as finite
+use Rattle.byte_maps.specs.Units.{unit_at}
+use Rattle.crc32c_csum.specs.Crc32c.{crc32c}
+use Rattle.meta_rows.specs.Rows.{Rows}
+use Rattle.meta_rows.specs.declared.row_op.RowOp.{RowOp}
+use Rattle.meta_log.specs.declared.slot.Super.{Super}
+use Rattle.object_model.specs.Effect.{Change, object_limit}
+use Rattle.object_model.specs.Limits.{payload_limit}
+use Rattle.unit_fields.specs.Names.{IsName, IsCollName}
+use Rattle.unit_fields.specs.UnitSet.{Ascends}
+use Rattle.row_format.specs.Keys.{coll_key}
+use Rattle.store_image.specs.Pages.{HasKey}
+use Rattle.store_image.specs.Owners.{IsDataUnit, IsOwned}
+use Rattle.row_facts.specs.Operations.{coll_change, coll_ops}
+use Rattle.object_rows.specs.Writes.{write_change, touch_change}
+use Rattle.object_rows.specs.Plans.{WritesPages, touch_ops}
+
+-- Row operations, fresh units with the bytes that must be written there before the operations are committed, and units that have no owner after.
+pub record Plan : Type 0 where
+  pub ops : List RowOp
+  pub fresh : List (ℕ × List ℕ)
+  pub released : List ℕ
+
+-- the units, each with its page of the bytes, from one on
+abbrev pub pages_on : List ℕ → ℕ → List ℕ → List (ℕ × List ℕ)
+pages_on [] i bytes = []
+pages_on (u ∷ us) i bytes = (u, unit_at i bytes) ∷ pages_on us (i + 1) bytes
+
+-- data units that nobody owns, ascending, whose numbers fit their fields
+pub record AreFresh (s : Super) (rows : Rows) (units : List ℕ) : Type 0 where
+  pub ascend : Ascends units
+  pub on_data : AllByRecursion (λ u. IsDataUnit s u) units
+  pub free : AllByRecursion (λ u. ¬ IsOwned rows u) units
+  pub fit : AllByRecursion (λ u. u < 2 ^ 32) units
+
+-- Whole pages within the limits of a transaction and of an object, a fresh unit for each, and a collection that the rows have: the write
+-- can be planned.
+pub record CanPlanWrite (s : Super) (rows : Rows) (c o : List ℕ) (first : ℕ) (bytes units : List ℕ) : Type 0 where
+  pub coll_name : IsCollName c
+  pub object_name : IsName o
+  pub has_collection : HasKey rows (coll_key c)
+  pub units_most : s.units ≤ 2 ^ 32
+  pub fresh : AreFresh s rows units
+  pub some : 0 < length units
+  pub whole : length bytes ≡ 4096 * length units
+  pub short : length bytes ≤ payload_limit
+  pub within : 4096 * first + length bytes ≤ object_limit
+  pub csums_fit : (i : ℕ) → i < length units → crc32c (unit_at i bytes) < 2 ^ 32
+
+-- Over these rows the transaction may be turned into this.
+pub data IsPlanned (s : Super) (rows : Rows) : Change → Plan → Type 0 where
+  makes_coll : (c : List ℕ) → IsCollName c → finite.get rows (coll_key c) ≡ None
+      → IsPlanned s rows (coll_change c) (record { ops = coll_ops c; fresh = []; released = [] })
+  touches : (c o : List ℕ) → IsCollName c → IsName o → HasKey rows (coll_key c)
+      → IsPlanned s rows (touch_change c o) (record { ops = touch_ops rows c o; fresh = []; released = [] })
+  writes : (c o : List ℕ) (first : ℕ) (bytes units : List ℕ) (ops : List RowOp) (released : List ℕ)
+      → CanPlanWrite s rows c o first bytes units → WritesPages rows c o first bytes units ops released
+      → IsPlanned s rows (write_change c o first bytes) (record { ops = ops; fresh = pages_on units 0 bytes; released = released })
+
+-- the fresh units hold their bytes
+abbrev pub HoldsFresh : (ℕ → List ℕ) → Plan → Type 0
+HoldsFresh at plan = AllByRecursion (λ f. at f.0 ≡ f.1) plan.fresh
+
+-- the unit is one of the fresh ones
+abbrev pub IsFresh : Plan → ℕ → Type 0
+IsFresh plan unit = Any (λ f. f.0 ≡ unit) plan.fresh
+
+-- the fresh units alone
+abbrev pub fresh_units : Plan → List ℕ
+fresh_units plan = map (λ f. f.0) plan.fresh

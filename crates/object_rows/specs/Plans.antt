@@ -1,0 +1,46 @@
+-- What transactions are turned into before they are committed.
+use Rattle.std.specs.Prelude.{◌≡◌, ℕ, ◌+◌, ◌*◌, max, List, [], ◌∷◌, map, length, if◌then◌else◌}
+use Rattle.std.specs.Ordering.{nat_cmp}
+use Rattle.std.specs.FinMap as finite
+use Rattle.std.specs.FinMap.Entries.{where_key}
+use Rattle.byte_maps.specs.Units.{unit_at}
+use Rattle.crc32c_csum.specs.Crc32c.{crc32c}
+use Rattle.number_map.specs.NumberMap.{is_in}
+use Rattle.meta_rows.specs.Rows.{Rows}
+use Rattle.meta_rows.specs.declared.row_op.RowOp.{RowOp}
+use Rattle.unit_fields.specs.UnitSet.{Ascends}
+use Rattle.row_format.specs.Keys.{onode_key}
+use Rattle.row_format.specs.Extents.{Place}
+use Rattle.blob_map.specs.Pages.{PageMap, laid}
+use Rattle.blob_map.specs.Normal.{extents_of}
+use Rattle.object_rows.specs.Operations.{object_ops, AreShards}
+use Rattle.object_rows.specs.Maps.{IsMapOf}
+use Rattle.object_rows.specs.Writes.{IsSizeOf}
+
+-- pages from one on, each on its unit: the bytes are those of all pages, one behind the other
+abbrev pub new_pages : ℕ → ℕ → List ℕ → List ℕ → List (ℕ × Place)
+new_pages first i [] bytes = []
+new_pages first i (u ∷ us) bytes = (first + i, record { unit = u; csum = crc32c (unit_at i bytes) }) ∷ new_pages first (i + 1) us bytes
+
+-- the units of the pages from one on, so many
+abbrev pub units_between : PageMap → ℕ → ℕ → List ℕ
+units_between pages first count = map (λ p. p.1.unit) (where_key nat_cmp (is_in first (first + count)) (finite.entries pages))
+
+-- What the writing of whole pages from one on is turned into: the pages stand on these units, one each, and the units that they stood on are
+-- released. The other pages stay where they are, and all are in one shard.
+pub record WritesPages (rows : Rows) (c o : List ℕ) (first : ℕ) (bytes units : List ℕ) (ops : List RowOp) (released : List ℕ)
+    : Type 0 where
+  pub pages : PageMap
+  pub are_pages : IsMapOf rows c o pages
+  pub present : List ℕ
+  pub are_shards : AreShards rows c o present
+  pub in_order : Ascends present
+  pub before : ℕ
+  pub was_long : IsSizeOf rows c o before
+  pub ops_are : ops ≡ object_ops rows c o (max before (4096 * (first + length units)))
+      (extents_of (finite.entries (laid pages (new_pages first 0 units bytes)))) present
+  pub released_are : released ≡ units_between pages first (length units)
+
+-- what touching an object is turned into: nothing where it is there, and an onode of no bytes where it isn't
+abbrev pub touch_ops : Rows → List ℕ → List ℕ → List RowOp
+touch_ops rows c o = if finite.contains_key rows (onode_key c o) then [] else object_ops rows c o 0 [] []

@@ -1,0 +1,143 @@
+//! What the operations come to. Each function has laws for its contract and does nothing.
+ghost use Rattle.std.specs.Prelude.{Some, None, Ok, ◌≡◌, ◌<◌, ◌≤◌, ◌+◌, ◌*◌, ◌^◌, ◌⊎◌, ◌↔◌, ℕ, [], List, length, slice_index};
+ghost use Rattle.std.specs.List.{AllByRecursion};
+ghost use Rattle.std.specs.FinMap as map;
+ghost use Rattle.meta_log.specs.declared.slot.Super.{Super};
+ghost use Rattle.meta_rows.specs.Rows.{Rows};
+ghost use Rattle.meta_rows.specs.Spelling.{ops_bytes, AllFit};
+ghost use Rattle.object_model.specs.Objects.{Objects};
+ghost use Rattle.object_model.specs.Effect.{transaction_effect};
+ghost use Rattle.unit_fields.specs.Names.{IsName, IsCollName};
+ghost use Rattle.row_format.specs.Keys.{coll_key, onode_key};
+ghost use Rattle.row_format.specs.Extents.{Extent, Place, place_of, page_end, Ascend, FitsExtent};
+ghost use Rattle.row_format.specs.Row.{onode};
+ghost use Rattle.store_image.specs.Pages.{HasKey, HasRow, IsPageAt, pages_of};
+ghost use Rattle.store_image.specs.BadRows.{IsOnData, NoBadRow};
+ghost use Rattle.store_image.specs.Owners.{IsOwned};
+ghost use Rattle.store_image.specs.Stands.{ObjectsStand};
+ghost use Rattle.row_facts.specs.SinglePages.{HasSoleOwners};
+ghost use Rattle.object_rows.specs.Operations.{AreShards, CanReplace, Climb, KeysAscend, object_ops, replaced, IsKeyOf, IsOther, HasUnit, IsOwnedElsewhere, StandAlone};
+ghost use Rattle.blob_map.specs.Pages.{PageMap, HasNumbers};
+ghost use Rattle.blob_map.specs.Normal.{extents_of};
+ghost use Rattle.object_rows.specs.Maps.{AreShardsOf, extents_in, first_pages, IsMapOf, IsMapWritten, CanWrite};
+ghost use Rattle.object_rows.specs.Writes.{write_change, touch_change, IsWritten, HoldPages, AreDistinct, IsOwnedBesidesWritten, StoodWritten};
+
+/// Replacing an object's onode and extents leaves no bad row. The object has this size then, its pages are the extents', those of the
+/// other objects stand where they did, and no row changes but the object's.
+pub fn replaced_rows()
+    ensures good { (s : Super) (rows : Rows) (c o : List ℕ) (size : ℕ) (extents : List Extent) (present : List ℕ)
+        → CanReplace s rows c o size extents present → NoBadRow s (replaced rows c o size extents present) }
+    ensures sized { (s : Super) (rows : Rows) (c o : List ℕ) (size : ℕ) (extents : List Extent) (present : List ℕ)
+        → CanReplace s rows c o size extents present → HasRow (replaced rows c o size extents present) (onode c o size) }
+    ensures pages { (s : Super) (rows : Rows) (c o : List ℕ) (size : ℕ) (extents : List Extent) (present : List ℕ) (page : ℕ) (place : Place)
+        → CanReplace s rows c o size extents present
+        → IsPageAt (replaced rows c o size extents present) c o page place ↔ (place_of extents page ≡ Some place) }
+    ensures other_pages { (s : Super) (rows : Rows) (c o d u : List ℕ) (size : ℕ) (extents : List Extent) (present : List ℕ) (page : ℕ) (place : Place)
+        → CanReplace s rows c o size extents present → IsOther c o d u
+        → IsPageAt (replaced rows c o size extents present) d u page place ↔ IsPageAt rows d u page place }
+    ensures other_rows { (s : Super) (rows : Rows) (c o : List ℕ) (size : ℕ) (extents : List Extent) (present key : List ℕ)
+        → CanReplace s rows c o size extents present
+        → IsKeyOf c o key ⊎ (map.get (replaced rows c o size extents present) key ≡ map.get rows key) }
+{}
+
+/// A unit is owned then exactly where a page of the extents stands on it, or another object owned it. No unit has two owners then if
+/// none had before, and the extents' units are their pages' alone.
+pub fn replaced_units()
+    ensures owned { (s : Super) (rows : Rows) (c o : List ℕ) (size : ℕ) (extents : List Extent) (present : List ℕ) (unit : ℕ)
+        → CanReplace s rows c o size extents present
+        → IsOwned (replaced rows c o size extents present) unit ↔ (HasUnit extents unit ⊎ IsOwnedElsewhere rows c o unit) }
+    ensures sole { (s : Super) (rows : Rows) (c o : List ℕ) (size : ℕ) (extents : List Extent) (present : List ℕ)
+        → CanReplace s rows c o size extents present → HasSoleOwners rows → StandAlone extents
+        → ((unit : ℕ) → HasUnit extents unit → IsOwnedElsewhere rows c o unit → ⊥) → HasSoleOwners (replaced rows c o size extents present) }
+{}
+
+/// The operations have spellings, and are in the order of their keys where the present shards are. Their record has at most fifteen
+/// bytes for each page of the object, and 401 for each shard that there was.
+pub fn record_of_an_object()
+    ensures fit { (s : Super) (rows : Rows) (c o : List ℕ) (size : ℕ) (extents : List Extent) (present : List ℕ)
+        → CanReplace s rows c o size extents present → AllFit (object_ops rows c o size extents present) }
+    ensures ascend { (s : Super) (rows : Rows) (c o : List ℕ) (size : ℕ) (extents : List Extent) (present : List ℕ)
+        → CanReplace s rows c o size extents present → Climb present → KeysAscend (object_ops rows c o size extents present) }
+    ensures short { (s : Super) (rows : Rows) (c o : List ℕ) (size : ℕ) (extents : List Extent) (present : List ℕ)
+        → CanReplace s rows c o size extents present
+        → length (ops_bytes (object_ops rows c o size extents present)) ≤ 813 + 15 * pages_of size + 401 * length present }
+{}
+
+/// Writing whole pages of an object leaves rows that stand for the objects after it, over any units where the fresh ones hold the pages
+/// and those that had an owner hold what they held.
+pub fn wrote_pages()
+    ensures { (s : Super) (at later_at : ℕ → List ℕ) (rows : Rows) (objects after : Objects) (c o : List ℕ) (first : ℕ) (bytes units : List ℕ)
+        (size : ℕ) (extents : List Extent) (present : List ℕ)
+        → CanReplace s rows c o size extents present → IsWritten rows c o first bytes units size extents
+        → HoldPages at later_at rows bytes units
+        → ObjectsStand at rows objects → transaction_effect (write_change c o first bytes) objects ≡ Ok after
+        → ObjectsStand later_at (replaced rows c o size extents present) after }
+{}
+
+/// After whole pages are written a unit is owned exactly where it is one of theirs, or another page owned it. If the units are distinct
+/// and had no owner, and no unit had two, then none has two after, and those that lose their owner are the ones where the pages stood.
+pub fn written_units()
+    ensures owned { (s : Super) (rows : Rows) (c o : List ℕ) (first : ℕ) (bytes units : List ℕ) (size : ℕ) (extents : List Extent)
+        (present : List ℕ) (unit : ℕ)
+        → CanReplace s rows c o size extents present → IsWritten rows c o first bytes units size extents
+        → IsOwned (replaced rows c o size extents present) unit
+        ↔ (((i : ℕ) × (i < length units) × (slice_index units i ≡ unit)) ⊎ IsOwnedBesidesWritten rows c o first (length units) unit) }
+    ensures sole { (s : Super) (rows : Rows) (c o : List ℕ) (first : ℕ) (bytes units : List ℕ) (size : ℕ) (extents : List Extent)
+        (present : List ℕ)
+        → CanReplace s rows c o size extents present → IsWritten rows c o first bytes units size extents
+        → AreDistinct units → ((i : ℕ) → i < length units → ¬ IsOwned rows (slice_index units i))
+        → HasSoleOwners rows → HasSoleOwners (replaced rows c o size extents present) }
+    ensures released { (s : Super) (rows : Rows) (c o : List ℕ) (first : ℕ) (bytes units : List ℕ) (size : ℕ) (extents : List Extent)
+        (present : List ℕ) (unit : ℕ)
+        → CanReplace s rows c o size extents present → IsWritten rows c o first bytes units size extents
+        → AreDistinct units → ((i : ℕ) → i < length units → ¬ IsOwned rows (slice_index units i)) → HasSoleOwners rows
+        → (IsOwned rows unit × (IsOwned (replaced rows c o size extents present) unit → ⊥)) ↔ StoodWritten rows c o first (length units) unit }
+{}
+
+/// Touching an object that is missing makes one without pages, of no bytes: there is no shard to go. Touching one that is there changes
+/// nothing.
+pub fn made_object()
+    ensures can { (s : Super) (rows : Rows) (c o : List ℕ) → NoBadRow s rows → IsCollName c → IsName o → HasKey rows (coll_key c)
+        → map.get rows (onode_key c o) ≡ None → CanReplace s rows c o 0 [] [] }
+    ensures made { (s : Super) (at : ℕ → List ℕ) (rows : Rows) (objects after : Objects) (c o present : List ℕ)
+        → CanReplace s rows c o 0 [] present → map.get rows (onode_key c o) ≡ None
+        → ObjectsStand at rows objects → transaction_effect (touch_change c o) objects ≡ Ok after
+        → ObjectsStand at (replaced rows c o 0 [] present) after }
+    ensures kept { (at : ℕ → List ℕ) (rows : Rows) (objects after : Objects) (c o : List ℕ)
+        → IsCollName c → IsName o → HasKey rows (onode_key c o)
+        → ObjectsStand at rows objects → transaction_effect (touch_change c o) objects ≡ Ok after → after ≡ objects }
+{}
+
+/// The extents of all shards of an object, one shard's behind the other's, ascend and are good. They have the object's pages, each in its
+/// place; and the shards' first pages are those that a replacement asks for.
+pub fn object_by_shards()
+    ensures ascend { (s : Super) (rows : Rows) (c o : List ℕ) (shards : List (ℕ × List Extent)) → NoBadRow s rows → AreShardsOf rows c o shards
+        → Ascend (extents_in shards) }
+    ensures fit { (rows : Rows) (c o : List ℕ) (shards : List (ℕ × List Extent)) → AreShardsOf rows c o shards
+        → AllByRecursion FitsExtent (extents_in shards) }
+    ensures within { (s : Super) (rows : Rows) (c o : List ℕ) (shards : List (ℕ × List Extent)) (size : ℕ)
+        → NoBadRow s rows → AreShardsOf rows c o shards → HasRow rows (onode c o size)
+        → AllByRecursion (λ e. page_end e ≤ pages_of size) (extents_in shards) }
+    ensures on_data { (s : Super) (rows : Rows) (c o : List ℕ) (shards : List (ℕ × List Extent)) → NoBadRow s rows → AreShardsOf rows c o shards
+        → AllByRecursion (λ e. IsOnData s e.body) (extents_in shards) }
+    ensures numbers { (s : Super) (rows : Rows) (c o : List ℕ) (shards : List (ℕ × List Extent)) (size : ℕ)
+        → NoBadRow s rows → AreShardsOf rows c o shards → HasRow rows (onode c o size) → s.units ≤ 2 ^ 32
+        → AllByRecursion HasNumbers (extents_in shards) }
+    ensures pages { (s : Super) (rows : Rows) (c o : List ℕ) (shards : List (ℕ × List Extent)) (page : ℕ) (place : Place)
+        → NoBadRow s rows → AreShardsOf rows c o shards
+        → (place_of (extents_in shards) page ≡ Some place) ↔ IsPageAt rows c o page place }
+    ensures present { (s : Super) (rows : Rows) (c o : List ℕ) (shards : List (ℕ × List Extent))
+        → NoBadRow s rows → AreShardsOf rows c o shards → IsCollName c → IsName o → AreShards rows c o (first_pages shards) }
+    ensures climb { (rows : Rows) (c o : List ℕ) (shards : List (ℕ × List Extent)) → AreShardsOf rows c o shards → Climb (first_pages shards) }
+{}
+
+/// Where the page map is the object's, and the pages that are written are set in it, its extents can replace the object's, and are those of
+/// the object after the write.
+pub fn written_by_map()
+    ensures replace { (s : Super) (rows : Rows) (c o : List ℕ) (first : ℕ) (bytes units : List ℕ) (size : ℕ) (present : List ℕ) (old new : PageMap)
+        → CanWrite s rows c o first bytes units size present → IsMapOf rows c o old → IsMapWritten old new first bytes units
+        → CanReplace s rows c o size (extents_of (map.entries new)) present }
+    ensures written { (s : Super) (rows : Rows) (c o : List ℕ) (first : ℕ) (bytes units : List ℕ) (size : ℕ) (present : List ℕ) (old new : PageMap)
+        → CanWrite s rows c o first bytes units size present → IsMapOf rows c o old → IsMapWritten old new first bytes units
+        → IsWritten rows c o first bytes units size (extents_of (map.entries new)) }
+{}

@@ -1,0 +1,90 @@
+//! What plans come to. Each function has laws for its contract and does nothing.
+ghost use Rattle.std.specs.Prelude.{Contains, None, Ok, Err, IsOk, ◌≡◌, ◌⊎◌, ◌↔◌, ◌<◌, ◌≤◌, ◌+◌, ◌*◌, ℕ, List, length};
+ghost use Rattle.std.specs.List.{AllByRecursion};
+ghost use Rattle.std.specs.FinMap as map;
+ghost use Rattle.byte_maps.specs.Units.{units_for};
+ghost use Rattle.meta_log.specs.declared.slot.Super.{Super};
+ghost use Rattle.meta_log.specs.Records.{unit_count};
+ghost use Rattle.meta_rows.specs.Rows.{Rows, rows_after};
+ghost use Rattle.meta_rows.specs.Spelling.{ops_bytes, AllFit};
+ghost use Rattle.meta_rows.specs.declared.row_op.RowOp.{RowOp};
+ghost use Rattle.object_model.specs.Objects.{Objects};
+ghost use Rattle.object_model.specs.Effect.{Change, transaction_effect, object_limit};
+ghost use Rattle.object_model.specs.Limits.{payload_limit, submitted_effect};
+ghost use Rattle.object_model.specs.declared.op.Refusal.TheVariants.{NoCollection, TooBig};
+ghost use Rattle.unit_fields.specs.UnitSet.{Ascends};
+ghost use Rattle.row_format.specs.Keys.{coll_key};
+ghost use Rattle.store_image.specs.Pages.{HasKey};
+ghost use Rattle.store_image.specs.BadRows.{NoBadRow};
+ghost use Rattle.store_image.specs.Owners.{IsDataUnit, IsOwned};
+ghost use Rattle.store_image.specs.Stands.{IsShape, ObjectsStand};
+ghost use Rattle.row_facts.specs.SinglePages.{HasSoleOwners};
+ghost use Rattle.object_rows.specs.Writes.{write_change, touch_change, AreDistinct};
+ghost use Rattle.object_rows.specs.Planned.{Plan, IsPlanned, HoldsFresh, IsFresh, fresh_units};
+
+/// A planned transaction is accepted, its operations leave no bad row, and rows that stand for the objects after it, once its
+/// fresh units hold their bytes and the owned ones what they held.
+pub fn planned_rows()
+    ensures good { (s : Super) (rows : Rows) (change : Change) (plan : Plan) → IsPlanned s rows change plan
+        → NoBadRow s rows → NoBadRow s (rows_after rows plan.ops) }
+    ensures accepted { (s : Super) (rows : Rows) (objects : Objects) (change : Change) (plan : Plan) → IsPlanned s rows change plan
+        → IsShape rows objects → IsOk (submitted_effect change objects) }
+    ensures effect { (s : Super) (rows : Rows) (objects : Objects) (change : Change) (plan : Plan) → IsPlanned s rows change plan
+        → submitted_effect change objects ≡ transaction_effect change objects }
+    ensures stand { (s : Super) (at later_at : ℕ → List ℕ) (rows : Rows) (objects after : Objects) (change : Change) (plan : Plan)
+        → IsPlanned s rows change plan → NoBadRow s rows
+        → HoldsFresh later_at plan → ((unit : ℕ) → IsOwned rows unit → later_at unit ≡ at unit)
+        → ObjectsStand at rows objects → transaction_effect change objects ≡ Ok after
+        → ObjectsStand later_at (rows_after rows plan.ops) after }
+{}
+
+/// Its fresh units are data units that nobody owned, in ascending order, with a page for each. Who owns a unit after it owned it before,
+/// or the unit is fresh. Where no unit had two owners, none has two after, exactly the released ones have lost theirs, and each is
+/// released once.
+pub fn planned_units()
+    ensures fresh { (s : Super) (rows : Rows) (change : Change) (plan : Plan) → IsPlanned s rows change plan
+        → AllByRecursion (λ f. IsDataUnit s f.0 × ¬ IsOwned rows f.0 × (length f.1 ≡ 4096)) plan.fresh }
+    ensures ascend { (s : Super) (rows : Rows) (change : Change) (plan : Plan) → IsPlanned s rows change plan → Ascends (fresh_units plan) }
+    ensures released { (s : Super) (rows : Rows) (change : Change) (plan : Plan) (unit : ℕ) → IsPlanned s rows change plan
+        → Contains plan.released unit → IsOwned rows unit }
+    ensures owned { (s : Super) (rows : Rows) (change : Change) (plan : Plan) (unit : ℕ) → IsPlanned s rows change plan → NoBadRow s rows
+        → IsOwned (rows_after rows plan.ops) unit → IsFresh plan unit ⊎ IsOwned rows unit }
+    ensures owners { (s : Super) (rows : Rows) (change : Change) (plan : Plan) (unit : ℕ) → IsPlanned s rows change plan → NoBadRow s rows
+        → HasSoleOwners rows
+        → IsOwned (rows_after rows plan.ops) unit ↔ (IsFresh plan unit ⊎ (IsOwned rows unit × (Contains plan.released unit → ⊥))) }
+    ensures sole { (s : Super) (rows : Rows) (change : Change) (plan : Plan) → IsPlanned s rows change plan → NoBadRow s rows
+        → HasSoleOwners rows → HasSoleOwners (rows_after rows plan.ops) }
+    ensures distinct { (s : Super) (rows : Rows) (change : Change) (plan : Plan) → IsPlanned s rows change plan
+        → HasSoleOwners rows → AreDistinct plan.released }
+{}
+
+/// Its operations have spellings. How many units a record of operations is does not depend on the record's number.
+pub fn planned_record()
+    ensures fit { (s : Super) (rows : Rows) (change : Change) (plan : Plan) → IsPlanned s rows change plan → NoBadRow s rows → AllFit plan.ops }
+    ensures count { (number : ℕ) (ops : List RowOp) → unit_count number ops ≡ units_for (24 + length (ops_bytes ops)) }
+    ensures same { (number other : ℕ) (ops : List RowOp) → unit_count number ops ≡ unit_count other ops }
+{}
+
+/// Which reply touching an object and writing from a page on get is decided by the transaction's size, then by the row of its collection,
+/// then by the object's limit: whatever objects have the shape of the rows, it is this one.
+pub fn replies_by_objects_rows()
+    ensures touch_refused { (rows : Rows) (objects : Objects) (c o : List ℕ) → IsShape rows objects
+        → map.get rows (coll_key c) ≡ None → submitted_effect (touch_change c o) objects ≡ Err NoCollection }
+    ensures touch_given { (rows : Rows) (objects : Objects) (c o : List ℕ) → IsShape rows objects
+        → HasKey rows (coll_key c) → IsOk (submitted_effect (touch_change c o) objects) }
+    ensures too_large { (objects : Objects) (c o : List ℕ) (first : ℕ) (bytes : List ℕ) → payload_limit < length bytes
+        → submitted_effect (write_change c o first bytes) objects ≡ Err TooBig }
+    ensures write_refused { (rows : Rows) (objects : Objects) (c o : List ℕ) (first : ℕ) (bytes : List ℕ) → IsShape rows objects
+        → length bytes ≤ payload_limit → map.get rows (coll_key c) ≡ None
+        → submitted_effect (write_change c o first bytes) objects ≡ Err NoCollection }
+    ensures write_beyond { (rows : Rows) (objects : Objects) (c o : List ℕ) (first : ℕ) (bytes : List ℕ) → IsShape rows objects
+        → HasKey rows (coll_key c) → object_limit < 4096 * first + length bytes
+        → submitted_effect (write_change c o first bytes) objects ≡ Err TooBig }
+    ensures write_given { (rows : Rows) (objects : Objects) (c o : List ℕ) (first : ℕ) (bytes : List ℕ) → IsShape rows objects
+        → length bytes ≤ payload_limit → HasKey rows (coll_key c) → 4096 * first + length bytes ≤ object_limit
+        → IsOk (submitted_effect (write_change c o first bytes) objects) }
+    ensures touch_submitted { (objects : Objects) (c o : List ℕ) →
+        submitted_effect (touch_change c o) objects ≡ transaction_effect (touch_change c o) objects }
+    ensures write_submitted { (objects : Objects) (c o : List ℕ) (first : ℕ) (bytes : List ℕ) → length bytes ≤ payload_limit
+        → submitted_effect (write_change c o first bytes) objects ≡ transaction_effect (write_change c o first bytes) objects }
+{}

@@ -5,3 +5,4 @@ pub mod Reading
 pub mod Crashes
 pub mod Mounting
 pub mod Cuts
+pub mod Found

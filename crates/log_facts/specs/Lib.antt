@@ -3,3 +3,4 @@ pub mod SlotFacts
 pub mod HalfFacts
 pub mod CrashRows
 pub mod Soundness
+pub mod FoundHalf

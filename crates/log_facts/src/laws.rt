@@ -17,13 +17,15 @@ ghost use Rattle.meta_rows.specs.Rows.{Rows, rows_after, rows_of_records};
 ghost use Rattle.meta_log.specs.declared.slot.Super.{Super};
 ghost use Rattle.meta_log.specs.Slots.{active_unit, IsSuper, IsActiveSlot};
 ghost use Rattle.meta_log.specs.Records.{record_units, unit_count, AreRecords, active_half, AreRowsOf};
+ghost use Rattle.meta_log.specs.Scanning.{units_of_records};
 ghost use Rattle.store_image.specs.BadRows.{NoBadRow};
 ghost use Rattle.store_image.specs.Stands.{ObjectsStand, StandsFor};
 ghost use Rattle.store_image.specs.Chance.{NoChanceMatch};
 ghost use Rattle.store_image.specs.Durability.{LeavesPrefix};
 ghost use Rattle.log_facts.specs.Flushing.{FlushState, not_sent, sent, flushed, IsFlushed, WritesNoneOf};
 ghost use Rattle.log_facts.specs.SlotFacts.{SlotsStand};
-ghost use Rattle.log_facts.specs.HalfFacts.{records_units, IsSpellable, ActiveHalfStands};
+ghost use Rattle.log_facts.specs.HalfFacts.{IsSpellable, IsSurelyZero, ActiveHalfStands};
+ghost use Rattle.log_facts.specs.FoundHalf.{RecordsStand, EndsInZeros};
 ghost use Rattle.log_facts.specs.CrashRows.{LeavesRows};
 ghost use Rattle.log_facts.specs.Soundness.{SoundFor};
 
@@ -52,14 +54,42 @@ pub fn a_fresh_log()
         ActiveHalfStands h s map.empty 0 s.first None 0 not_sent [] }
 {}
 
-/// On a device without a dirty unit what is known of the half follows from the records that are read there, where the units behind
-/// them are zeros.
-pub fn a_log_that_is_read()
-    ensures { (h : History) (s : Super) (recs : List (List RowOp)) (tail : ℕ) → ((unit : ℕ) → IsClean h.log unit) →
-        IsSuper s → IsUnits s.units (last h.start h.log) → AreRecords recs s.first (active_half (last h.start h.log) s) →
-        IsUnits tail (records_units s.first recs) →
-        ((k : ℕ) → tail ≤ k → k < s.half → last_at h (active_unit s + k) ≡ zeros 4096) →
-        ActiveHalfStands h s (rows_of_records map.empty recs) tail (s.first + length recs) None 0 not_sent recs }
+/// On a device without a dirty unit the records that are read in the active half stand there.
+pub fn a_log_that_is_found()
+    ensures { (h : History) (s : Super) (recs : List (List RowOp)) → ((unit : ℕ) → IsClean h.log unit) → IsSuper s →
+        IsUnits s.units (last h.start h.log) → AreRecords recs s.first (active_half (last h.start h.log) s) →
+        RecordsStand h s (rows_of_records map.empty recs) (units_of_records s.first recs) (s.first + length recs) recs }
+{}
+
+/// They stand on over an event that writes none of their units.
+pub fn an_event_behind_the_records()
+    ensures { (h : History) (s : Super) (rows : Rows) (tail number : ℕ) (recs : List (List RowOp)) (event : Event) →
+        Fits (length (last h.start h.log)) event → WritesNoneOf (active_unit s) tail event →
+        RecordsStand h s rows tail number recs → RecordsStand (with_event h event) s rows tail number recs }
+{}
+
+/// While the units behind the records are cleared, a crash leaves the super and the rows, once the first of these units was
+/// written with zeros: what else is dirty there isn't reached.
+pub fn a_crash_leaves_the_records()
+    ensures { (h : History) (s : Super) (rows : Rows) (tail number : ℕ) (recs : List (List RowOp)) (image : List ℕ) →
+        IsUnits s.units h.start → IsUnits s.units (last h.start h.log) → SlotsStand h s → RecordsStand h s rows tail number recs →
+        EndsInZeros h s tail → IsCrashImage h.start h.log image → NoChanceMatch h.start h.log image →
+        IsActiveSlot image s × AreRowsOf image s rows }
+{}
+
+/// So it leaves the objects that the rows stand for.
+pub fn a_crash_then_leaves_the_objects()
+    ensures { (h : History) (s : Super) (rows : Rows) (tail number : ℕ) (recs : List (List RowOp)) (objects : Objects) (image : List ℕ) →
+        IsUnits s.units h.start → IsUnits s.units (last h.start h.log) → SlotsStand h s → RecordsStand h s rows tail number recs →
+        EndsInZeros h s tail → SoundFor h s rows objects → IsCrashImage h.start h.log image →
+        NoChanceMatch h.start h.log image → StandsFor image objects }
+{}
+
+/// Where each unit behind the records surely is zero, the half stands as a kernel keeps it, with no record begun.
+pub fn a_half_that_is_cleared()
+    ensures { (h : History) (s : Super) (rows : Rows) (tail number : ℕ) (recs : List (List RowOp)) →
+        RecordsStand h s rows tail number recs → ((k : ℕ) → tail ≤ k → k < s.half → IsSurelyZero h s k) →
+        ActiveHalfStands h s rows tail number None 0 not_sent recs }
 {}
 
 /// A flush covers a unit where no write of it is in flight at the submission, keeps it covered while it is not written again, and

@@ -5,8 +5,10 @@
 mod laws;
 
 pub use laws::{
-    a_crash_leaves_the_rows, a_crash_now_leaves_a_prefix, a_flush_of_a_unit, a_fresh_log,
-    a_log_stands_for_its_objects, a_log_that_is_read, a_piece_is_given, a_record_begins,
-    a_record_is_committed, an_event_elsewhere_keeps_the_half, an_event_elsewhere_keeps_the_slots,
-    sound_rows_survive_a_crash, the_flush_has_ended, the_flush_of_a_record,
+    a_crash_leaves_the_records, a_crash_leaves_the_rows, a_crash_now_leaves_a_prefix,
+    a_crash_then_leaves_the_objects, a_flush_of_a_unit, a_fresh_log, a_half_that_is_cleared,
+    a_log_stands_for_its_objects, a_log_that_is_found, a_piece_is_given, a_record_begins,
+    a_record_is_committed, an_event_behind_the_records, an_event_elsewhere_keeps_the_half,
+    an_event_elsewhere_keeps_the_slots, sound_rows_survive_a_crash, the_flush_has_ended,
+    the_flush_of_a_record,
 };

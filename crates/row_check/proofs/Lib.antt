@@ -1,2 +1,9 @@
 pub mod KeyReading
 pub mod RowReading
+pub mod KeyOrder
+pub mod Walk
+pub mod Shards
+pub mod Ascending
+pub mod Marks
+pub mod Collected
+pub mod SolePages

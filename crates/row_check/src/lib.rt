@@ -1,13 +1,21 @@
-//! Keys and values of a store's rows, read as the rows that they spell: the first thing to know of a row that may be bad.
+//! The rows of a store that is to be opened: keys and values read as the rows that they spell, the least row that is bad, and
+//! whether the objects have single pages.
 //!
-//! In Ceph's BlueStore this is `get_key_object` and its kin, with the decoders of the values.
+//! In Ceph's BlueStore this is `get_key_object` and its kin with the decoders of the values, and what `fsck` asks of onodes and extents.
 #![tactic(auto)]
 
+mod bad;
+mod in_place;
 mod key;
 mod row;
+mod single;
 
+pub use bad::find_bad_row;
 pub use key::{Part, RowKey, read_key};
 pub use row::{Row, read_row};
+pub use single::sole_pages;
 
 #[cfg(test)]
 mod reading_tests;
+#[cfg(test)]
+mod store_tests;

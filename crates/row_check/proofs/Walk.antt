@@ -1,0 +1,236 @@
+-- Rows gone through in the order of their keys.
+use Rattle.std.proofs.Common.{◌≡◌, ℕ, zero, suc, ◌+◌, ◌-◌, ◌<◌, ◌≤◌, inl, inr, true, false, cond, T, List, [], ◌∷◌, length, get_or, Option, Some, None, MatchOption, refl, sym, ap, subst, ◌∙◌, arith}
+use Rattle.std.specs.Ordering.{is_lt, is_eq, ordering_reverse}
+use Rattle.std.specs.declared.cmp.Ordering.{Ordering}
+use Rattle.std.specs.declared.cmp.Ordering.TheVariants.{Less, Equal, Greater}
+use Rattle.std.specs.FinMap as map
+use Rattle.std.specs.FinMap.{find, is_sorted}
+use Rattle.std.specs.FinMap.Entries.{where_key, below_all}
+use Rattle.std.proofs.lemmas.Cmp.{tied_itself, nat_list_cmp_total}
+use Rattle.std.proofs.lemmas.Bool.{cases_lt}
+use Rattle.std.proofs.lemmas.List.{get_or_default}
+use Rattle.byte_maps.specs.ByteMap.{byte_order}
+use Rattle.byte_maps.proofs.Places.{same_bytes, both_first, both_second}
+use Rattle.meta_rows.specs.Rows.{Rows}
+use Rattle.meta_rows.specs.Table.{is_from_to, rows_from_to}
+use Rattle.meta_log.specs.declared.slot.Super.{Super}
+use Rattle.row_format.specs.Row as format
+use Rattle.store_image.specs.Pages.{HasRow}
+use Rattle.store_image.specs.BadRows.{IsGoodRow, NoBadRow}
+use Rattle.row_check.specs.declared.row.Row.{Row}
+use Rattle.row_check.specs.Reading.{row_of, SpellsRow}
+use Rattle.row_check.specs.Bad.{AreGoodBefore, IsLeastBad, IsFirst, IsRightBefore, IsWalkedTo, IsGood}
+
+-- ---- entries in order
+
+is_less : (o : Ordering) → T (is_lt o) → o ≡ Less
+is_less Less h = refl
+is_less Equal h = absurd h
+is_less Greater h = absurd h
+
+is_equal : (o : Ordering) → T (is_eq o) → o ≡ Equal
+is_equal Less h = absurd h
+is_equal Equal h = refl
+is_equal Greater h = absurd h
+
+below_at : (key : List ℕ) (es : List (List ℕ × List ℕ)) (j : ℕ) (d : List ℕ × List ℕ) → T (below_all byte_order key es) → j < length es → byte_order key (get_or es j d).0 ≡ Less
+below_at key [] j d h l = absurd (omega arith)
+below_at key (e ∷ es) zero d h l = is_less _ (both_first _ _ h)
+below_at key (e ∷ es) (suc j) d h l = below_at key es j d (both_second _ _ h) (omega arith)
+
+pub rising : (es : List (List ℕ × List ℕ)) (i j : ℕ) (d e : List ℕ × List ℕ) → T (is_sorted byte_order es) → i < j → j < length es → byte_order (get_or es i d).0 (get_or es j e).0 ≡ Less
+rising [] i j d e h lt l = absurd (omega arith)
+rising (x ∷ es) zero zero d e h lt l = absurd (omega arith)
+rising (x ∷ es) zero (suc j) d e h lt l = below_at x.0 es j e (both_first _ _ h) (omega arith)
+rising (x ∷ es) (suc i) zero d e h lt l = absurd (omega arith)
+rising (x ∷ es) (suc i) (suc j) d e h lt l = rising es i j d e (both_second _ _ h) (omega arith) (omega arith)
+
+-- a key that is found stands somewhere
+pub record StandsAt (es : List (List ℕ × List ℕ)) (key value : List ℕ) : Type 0 where
+  pub at : ℕ
+  pub within : at < length es
+  pub is : (d : List ℕ × List ℕ) → get_or es at d ≡ (key, value)
+
+later : (e : List ℕ × List ℕ) (es : List (List ℕ × List ℕ)) (key value : List ℕ) → StandsAt es key value → StandsAt (e ∷ es) key value
+later e es key value s = record { at = suc s.at; within = omega (arith, s.within); is = s.is }
+
+stands : (es : List (List ℕ × List ℕ)) (key value : List ℕ) → find byte_order key es ≡ Some value → StandsAt es key value
+stands [] key value is = absurd cc
+stands (e ∷ es) key value is =
+    elim (is_eq (byte_order key e.0)) as (λ b. is_eq (byte_order key e.0) ≡ b → cond b (Some e.1) (find byte_order key es) ≡ Some value → StandsAt (e ∷ es) key value) [
+      | true ↦ λ t h.
+          let k = same_bytes key e.0 (is_equal _ (subst T (sym t) tt)) in
+          let v : e.1 ≡ value = cc in
+          record { at = 0; within = omega arith; is = λ d i. (sym k i, v i) }
+      | false ↦ λ t h. later e es key value (stands es key value h)
+    ] refl is
+
+found : (es : List (List ℕ × List ℕ)) (j : ℕ) (d : List ℕ × List ℕ) → T (is_sorted byte_order es) → j < length es → find byte_order (get_or es j d).0 es ≡ Some (get_or es j d).1
+found [] j d h l = absurd (omega arith)
+found (e ∷ es) zero d h l = ap (λ r. cond (is_eq r) (Some e.1) (find byte_order e.0 es)) (tied_itself nat_list_cmp_total e.0)
+found (e ∷ es) (suc j) d h l =
+    let less = below_at e.0 es j d (both_first _ _ h) (omega arith) in
+    ap (λ b. cond b (Some e.1) (find byte_order (get_or es j d).0 es)) (ap is_eq (nat_list_cmp_total.antisymm (get_or es j d).0 e.0 ∙ ap ordering_reverse less))
+    ∙ found es j d (both_second _ _ h) (omega arith)
+
+-- ---- all rows
+
+any_key : (key : List ℕ) → is_from_to [] None key ≡ true
+any_key [] = refl
+any_key (b ∷ bs) = refl
+
+all_pass : (es : List (List ℕ × List ℕ)) → where_key byte_order (is_from_to [] None) es ≡ es
+all_pass [] = refl
+all_pass (e ∷ es) = ap (λ b. cond b (e ∷ where_key byte_order (is_from_to [] None) es) (where_key byte_order (is_from_to [] None) es)) (any_key e.0) ∙ ap (λ (l : List (List ℕ × List ℕ)). e ∷ l) (all_pass es)
+
+pub all_rows : (rows : Rows) → rows_from_to rows [] None ≡ map.entries rows
+all_rows rows = all_pass (map.entries rows)
+
+-- an entry in its parts, as a loop sees it
+pub entry_is : (es : List (List ℕ × List ℕ)) (i : ℕ) (x : List ℕ × List ℕ) (key value : List ℕ) → i < length es → x ≡ get_or es i x → key ≡ x.0 → value ≡ x.1
+    → (d : List ℕ × List ℕ) → get_or es i d ≡ (key, value)
+entry_is es i x key value l is k v d = get_or_default es i d x l ∙ sym is ∙ (λ j. (sym k j, sym v j))
+
+-- these are the rows, in the order of their keys
+pub record AreRows (rows : Rows) (es : List (List ℕ × List ℕ)) : Type 0 where
+  pub sorted : T (is_sorted byte_order es)
+  pub stands : (key value : List ℕ) → map.get rows key ≡ Some value → StandsAt es key value
+  pub has : (j : ℕ) (d : List ℕ × List ℕ) → j < length es → map.get rows (get_or es j d).0 ≡ Some (get_or es j d).1
+
+entries_are : (rows : Rows) → AreRows rows (map.entries rows)
+entries_are rows = record {
+  sorted = map.entries_sorted rows;
+  stands = λ key value is. stands (map.entries rows) key value (sym (map.get-entries rows key) ∙ is);
+  has = λ j d l. map.get-entries rows _ ∙ found (map.entries rows) j d (map.entries_sorted rows) l;
+}
+
+pub are_rows : (rows : Rows) (es : List (List ℕ × List ℕ)) → es ≡ rows_from_to rows [] None → AreRows rows es
+are_rows rows es is = subst (AreRows rows) (sym (is ∙ all_rows rows)) (entries_are rows)
+
+-- an entry that spells a row is one of the rows
+pub has_spelled : (rows : Rows) (es : List (List ℕ × List ℕ)) → AreRows rows es → (j : ℕ) (d : List ℕ × List ℕ) (r : format.Row) → j < length es
+    → SpellsRow (get_or es j d).0 (get_or es j d).1 r → HasRow rows r
+has_spelled rows es are j d r l spells =
+    record { fits = spells.fits; stands = ap (λ k. map.get rows k) (sym spells.key_is) ∙ are.has j d l ∙ ap Some spells.value_is }
+
+-- ---- the walk
+
+-- the rows before this place were read and are good, and `last` is the one right before it
+pub record Walked (s : Super) (rows : Rows) (es : List (List ℕ × List ℕ)) (i : ℕ) (last : Option Row) : Type 0 where
+  pub good : (j : ℕ) (d : List ℕ × List ℕ) → j < i → j < length es → IsGoodRow s rows (get_or es j d).0 (get_or es j d).1
+  pub none : i ≡ 0 → last ≡ None
+  pub some : (j : ℕ) → j + 1 ≡ i → (row : Row) × (last ≡ Some row) × ((d : List ℕ × List ℕ) → SpellsRow (get_or es j d).0 (get_or es j d).1 (row_of row))
+
+pub at_start : (s : Super) (rows : Rows) (es : List (List ℕ × List ℕ)) → Walked s rows es 0 None
+at_start s rows es = record { good = λ j d lt l. absurd (omega arith); none = λ e. refl; some = λ j e. absurd (omega arith) }
+
+module _ (s : Super) (rows : Rows) (es : List (List ℕ × List ℕ)) (are : AreRows rows es) (i : ℕ) (last : Option Row) (walked : Walked s rows es i last) where
+  -- a row whose key is below that of this place was gone through
+  earlier : (d : List ℕ × List ℕ) (key value : List ℕ) → i < length es → byte_order key (get_or es i d).0 ≡ Less → map.get rows key ≡ Some value → (at : StandsAt es key value) × (at.at < i)
+  earlier d key value l less is =
+      let at = are.stands key value is in (
+        at,
+        elim (cases_lt at.at i) [
+          | inl lt ↦ lt
+          | inr ge ↦
+              let same : get_or es at.at d ≡ (key, value) = at.is d in
+              let k : (get_or es at.at d).0 ≡ key = ap (λ (e : List ℕ × List ℕ). e.0) same in
+              elim (cases_lt i at.at) [
+                | inl gt ↦ absurd (
+                    let up = rising es i at.at d d are.sorted gt at.within in
+                    let back = nat_list_cmp_total.antisymm key (get_or es i d).0 ∙ ap ordering_reverse (subst (λ x. byte_order (get_or es i d).0 x ≡ Less) k up) in cc)
+                | inr le ↦ absurd (
+                    let here : at.at ≡ i = omega arith in
+                    let tied = tied_itself nat_list_cmp_total key in
+                    let itself = subst (λ x. byte_order key x ≡ Less) (ap (λ n. (get_or es n d).0) (sym here) ∙ k) less in cc)
+              ]
+        ],
+      )
+
+  before_good : (d : List ℕ × List ℕ) → i < length es → AreGoodBefore s rows (get_or es i d).0
+  before_good d l key value less is =
+      let at = earlier d key value l less is in
+      subst (λ (e : List ℕ × List ℕ). IsGoodRow s rows e.0 e.1) (at.0.is d) (walked.good at.0.at d at.1 at.0.within)
+
+  none_before : (d : List ℕ × List ℕ) → i < length es → i ≡ 0 → IsFirst rows (get_or es i d).0
+  none_before d l e key value is less = let at = earlier d key value l less is in omega (arith, at.1, e)
+
+  right_before : (d : List ℕ × List ℕ) (j : ℕ) (r : format.Row) → i < length es → j + 1 ≡ i → SpellsRow (get_or es j d).0 (get_or es j d).1 r → IsRightBefore rows (get_or es i d).0 r
+  right_before d j r l e spells =
+      let lt : j < i = omega arith in
+      let within : j < length es = omega arith in
+      record {
+        has = has_spelled rows es are j d r within spells;
+        below = subst (λ k. byte_order k (get_or es i d).0 ≡ Less) spells.key_is (rising es j i d d are.sorted lt l);
+        nearest = λ key value is less up.
+            let at = earlier d key value l less is in
+            let k : (get_or es at.0.at d).0 ≡ key = ap (λ (x : List ℕ × List ℕ). x.0) (at.0.is d) in
+            let over = subst (λ x. byte_order (get_or es j d).0 x ≡ Less) (sym k) (subst (λ x. byte_order x key ≡ Less) (sym spells.key_is) up) in
+            elim (cases_lt at.0.at j) [
+              | inl before ↦
+                  let down = rising es at.0.at j d d are.sorted before within in
+                  let back = nat_list_cmp_total.antisymm (get_or es j d).0 (get_or es at.0.at d).0 ∙ ap ordering_reverse down in absurd cc
+              | inr ge ↦
+                  let here : at.0.at ≡ j = omega (arith, at.1, ge) in
+                  let itself = subst (λ n. byte_order (get_or es j d).0 (get_or es n d).0 ≡ Less) here over in
+                  let tied = tied_itself nat_list_cmp_total (get_or es j d).0 in absurd cc
+            ];
+      }
+
+  -- what is known of the row at this place
+  pub walked_to : (d : List ℕ × List ℕ) → i < length es → IsWalkedTo s rows last (get_or es i d).0
+  walked_to d l = record {
+    good = before_good d l;
+    last_is = elim (cases_lt 0 i) [
+      | inr start ↦ subst (λ o. MatchOption o (IsFirst rows (get_or es i d).0) (λ row. IsRightBefore rows (get_or es i d).0 (row_of row))) (sym (walked.none (omega arith))) (none_before d l (omega arith))
+      | inl more ↦
+          let one : (i - 1) + 1 ≡ i = omega arith in
+          let is = walked.some (i - 1) one in
+          subst (λ o. MatchOption o (IsFirst rows (get_or es i d).0) (λ row. IsRightBefore rows (get_or es i d).0 (row_of row))) (sym is.1) (right_before d (i - 1) (row_of is.0) l one (is.2 d))
+    ];
+  }
+
+  pub walked_on : (row : Row) (key value : List ℕ) → ((d : List ℕ × List ℕ) → get_or es i d ≡ (key, value)) → IsGood s rows key value row → Walked s rows es (i + 1) (Some row)
+  walked_on row key value is good = record {
+    good = λ j d lt l. elim (cases_lt j i) [
+      | inl before ↦ walked.good j d before l
+      | inr ge ↦
+          let here : j ≡ i = omega arith in
+          subst (λ (e : List ℕ × List ℕ). IsGoodRow s rows e.0 e.1) (sym (ap (λ n. get_or es n d) here ∙ is d))
+          (record { row = row_of row; fits = good.spells.fits; key_is = good.spells.key_is; value_is = good.spells.value_is; in_place = good.in_place })
+    ];
+    none = λ e. absurd (omega arith);
+    some = λ j e.
+        let here : j ≡ i = omega arith in
+        (row, refl, λ d. subst (λ (e : List ℕ × List ℕ). SpellsRow e.0 e.1 (row_of row)) (sym (ap (λ n. get_or es n d) here ∙ is d)) good.spells);
+  }
+
+  pub first_bad : (key value : List ℕ) → ((d : List ℕ × List ℕ) → get_or es i d ≡ (key, value)) → i < length es → ¬ (IsGoodRow s rows key value) → IsLeastBad s rows key
+  first_bad key value is l bad =
+      let d : List ℕ × List ℕ = (key, value) in
+      let here = is d in
+      let k : (get_or es i d).0 ≡ key = ap (λ (e : List ℕ × List ℕ). e.0) here in
+      let v : (get_or es i d).1 ≡ value = ap (λ (e : List ℕ × List ℕ). e.1) here in
+      record {
+        bad = record { value = value; stands = ap (λ x. map.get rows x) (sym k) ∙ are.has i d l ∙ ap Some v; is_not_good = bad };
+        before = subst (AreGoodBefore s rows) k (before_good d l);
+      }
+
+  pub all_good : length es ≤ i → NoBadRow s rows
+  all_good le key value is =
+      let at = are.stands key value is in
+      subst (λ (e : List ℕ × List ℕ). IsGoodRow s rows e.0 e.1) (at.is (key, value)) (walked.good at.at (key, value) (omega (arith, at.within, le)) at.within)
+
+  -- the same as the loop sees its row
+  module _ (x : List ℕ × List ℕ) (key value : List ℕ) (l : i < length es) (is : x ≡ get_or es i x) (k : key ≡ x.0) (v : value ≡ x.1) where
+    pair : (d : List ℕ × List ℕ) → get_or es i d ≡ (key, value)
+    pair = entry_is es i x key value l is k v
+
+    pub step_to : IsWalkedTo s rows last key
+    step_to = subst (IsWalkedTo s rows last) (ap (λ (e : List ℕ × List ℕ). e.0) (pair x)) (walked_to x l)
+
+    pub step_on : (row : Row) → IsGood s rows key value row → Walked s rows es (i + 1) (Some row)
+    step_on row good = walked_on row key value pair good
+
+    pub step_bad : ¬ (IsGoodRow s rows key value) → IsLeastBad s rows key
+    step_bad bad = first_bad key value pair l bad

@@ -1,0 +1,14 @@
+use Rattle.std.proofs.Common.{◌≡◌, true, false, sym, ◌∙◌}
+use Rattle.store_image.specs.BadRows.{IsInPlace}
+use Rattle.row_check.specs.Reading.{row_of, SpellsRow}
+use Rattle.row_check.proofs.Shards.{no_good}
+use Rattle.row_check.proofs.bad.good_row.Goals as goal
+
+pub returns-else-branch : goal.returns-else-branch
+returns-else-branch c =
+    let row = row_of c.in-Some.row in
+    let spells : SpellsRow c.args.key.now c.args.value.now row = rw c.in-Some.is at c.in_ok-row.ensures in
+    let apart : ¬ (IsInPlace c.args.sup.now c.args.rows.now.rows row) = λ place.
+    let yes = c.in_ok-is_in_place.ensures.1 place in
+    let never : true ≡ false = sym yes ∙ c.if-branch.false in cc in
+    no_good c.args.sup.now c.args.rows.now.rows c.args.key.now c.args.value.now row spells apart

@@ -1,0 +1,19 @@
+use Rattle.std.proofs.Common.{◌≡◌, true, false, sym, ◌∙◌}
+use Rattle.row_check.specs.Bad.{EndsBefore}
+use Rattle.row_check.proofs.Shards.{shard_answer, shard_refused}
+use Rattle.row_check.proofs.in_place.is_in_place.Goals as goal
+
+pub returns-then-ends_before : goal.returns-then-ends_before
+returns-then-ends_before c =
+    let ends : EndsBefore c.args.last.now c.in-Shard.coll c.in-Shard.object c.in-Shard.page = c.ends_before.ensures.0 c.if-ends_before.true in
+    shard_answer c.args.sup.now c.args.rows.now.rows c.args.last.now c.args.row.now c.in-Shard.coll c.in-Shard.object c.in-Shard.page c.in-Shard.extents
+    c.as_slice.result.now c.shard_stands.result c.in-Shard.is c.as_slice.ensures c.requires.fits c.requires.walked ends c.shard_stands.ensures
+
+pub returns-else-ends_before : goal.returns-else-ends_before
+returns-else-ends_before c =
+    let apart : ¬ (EndsBefore c.args.last.now c.in-Shard.coll c.in-Shard.object c.in-Shard.page) = λ ends.
+    let yes = c.ends_before.ensures.1 ends in
+    let never : true ≡ false = sym yes ∙ c.if-ends_before.false in cc in
+    let out = shard_refused c.args.sup.now c.args.rows.now.rows c.args.last.now c.args.row.now c.in-Shard.coll c.in-Shard.object c.in-Shard.page c.in-Shard.extents
+    c.in-Shard.is c.requires.fits c.requires.walked apart in
+    (λ yes. absurd cc, λ place. absurd (out place))

@@ -1,0 +1,5 @@
+use Rattle.row_check.proofs.Collected.{Collected}
+use Rattle.row_check.proofs.single.marked_units.Given as goal
+
+abbrev pub invariant-loop-unit : goal.invariant-loop-unit
+invariant-loop-unit l = Collected l.marks l.unit l.units.items

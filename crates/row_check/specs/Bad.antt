@@ -1,0 +1,62 @@
+-- The first bad row in the order of keys, and what is known of the rows before one that is looked at.
+use Rattle.std.specs.Prelude.{◌≡◌, ◌≢◌, ℕ, ◌≤◌, List, Option, Some, MatchOption}
+use Rattle.std.specs.List.{AllByRecursion}
+use Rattle.std.specs.FinMap as map
+use Rattle.std.specs.declared.cmp.Ordering.TheVariants.{Less}
+use Rattle.byte_maps.specs.ByteMap.{byte_order}
+use Rattle.meta_rows.specs.Rows.{Rows}
+use Rattle.meta_log.specs.declared.slot.Super.{Super}
+use Rattle.row_format.specs.Keys.{coll_key, onode_key}
+use Rattle.row_format.specs.Extents.{Extent, page_end, Ascend}
+use Rattle.row_format.specs.Row as format
+use Rattle.store_image.specs.Pages.{HasKey, HasRow, pages_of}
+use Rattle.store_image.specs.BadRows.{IsOnData, IsInPlace, IsGoodRow, IsBadRow}
+use Rattle.row_check.specs.declared.row.Row.{Row}
+use Rattle.row_check.specs.declared.row.Row.TheVariants as rows
+use Rattle.row_check.specs.Reading.{row_of, SpellsRow}
+
+-- each row whose key is below this one is good
+abbrev pub AreGoodBefore : Super → Rows → List ℕ → Type 0
+AreGoodBefore s rows key = (k value : List ℕ) → byte_order k key ≡ Less → map.get rows k ≡ Some value → IsGoodRow s rows k value
+
+-- the row under this key is bad, and each row whose key is below it is good
+pub record IsLeastBad (s : Super) (rows : Rows) (key : List ℕ) : Type 0 where
+  pub bad : IsBadRow s rows key
+  pub before : AreGoodBefore s rows key
+
+-- no row has a key below this one
+abbrev pub IsFirst : Rows → List ℕ → Type 0
+IsFirst rows key = (k value : List ℕ) → map.get rows k ≡ Some value → byte_order k key ≢ Less
+
+-- of the rows whose keys are below this one, this row has the greatest key
+pub record IsRightBefore (rows : Rows) (key : List ℕ) (r : format.Row) : Type 0 where
+  pub has : HasRow rows r
+  pub below : byte_order (format.row_key r) key ≡ Less
+  pub nearest : (k value : List ℕ) → map.get rows k ≡ Some value → byte_order k key ≡ Less → byte_order (format.row_key r) k ≢ Less
+
+-- the rows whose keys are below this one are good, and `last` is the last of them
+pub record IsWalkedTo (s : Super) (rows : Rows) (last : Option Row) (key : List ℕ) : Type 0 where
+  pub good : AreGoodBefore s rows key
+  pub last_is : MatchOption last (IsFirst rows key) (λ row. IsRightBefore rows key (row_of row))
+
+-- the key and the value are this row, which is in its place
+pub record IsGood (s : Super) (rows : Rows) (key value : List ℕ) (row : Row) : Type 0 where
+  pub spells : SpellsRow key value (row_of row)
+  pub in_place : IsInPlace s rows (row_of row)
+
+-- this row is no shard of the object, or one whose pages are all before this one
+abbrev pub EndsBefore : Option Row → List ℕ → List ℕ → ℕ → Type 0
+EndsBefore (Some (rows.Shard d u first es)) c o page = d ≡ c → u ≡ o → AllByRecursion (λ e. page_end e ≤ page) es
+EndsBefore _ c o page = Unit {0}
+
+-- the object is there, and the extents end within its size
+pub record IsWithinOnode (rows : Rows) (c o : List ℕ) (extents : List Extent) : Type 0 where
+  pub has_onode : HasKey rows (onode_key c o)
+  pub within : (size : ℕ) → HasRow rows (format.onode c o size) → AllByRecursion (λ e. page_end e ≤ pages_of size) extents
+
+-- what a shard needs beside extents that begin behind those of the earlier shards
+pub record ShardStands (s : Super) (rows : Rows) (c o : List ℕ) (extents : List Extent) : Type 0 where
+  pub ascend : Ascend extents
+  pub on_data : AllByRecursion (λ e. IsOnData s e.body) extents
+  pub has_collection : HasKey rows (coll_key c)
+  pub within_onode : IsWithinOnode rows c o extents

@@ -1,0 +1,54 @@
+//! The first bad row of a store.
+ghost use Rattle.std.specs.Prelude.{IfOk, MatchOption};
+ghost use Rattle.store_image.specs.BadRows.{IsGoodRow, NoBadRow};
+ghost use Rattle.row_check.specs.Bad.{IsLeastBad, IsWalkedTo, IsGood};
+
+use crate::in_place::is_in_place;
+use crate::row::{Row, read_row};
+use byte_maps::Bytes;
+use meta_log::Super;
+use meta_rows::RowTable;
+use std::alloc::{AllocError, Global};
+
+// The row that a key and a value are, where it is good. The rows before it are good, and `last` is the last of them.
+fn good_row(
+    alloc: Global,
+    sup: &Super,
+    rows: &RowTable,
+    last: &Option<Row>,
+    key: &[u8],
+    value: &[u8],
+) -> Result<Option<Row>, AllocError>
+    requires { IsWalkedTo sup.now rows.now.rows last.now key.now }
+    ensures { IfOk result (λ found. MatchOption found (¬ (IsGoodRow sup.now rows.now.rows key.now value.now))
+        (IsGood sup.now rows.now.rows key.now value.now)) }
+{
+    let Some(row) = read_row(alloc, key, value)? else {
+        return Ok(None);
+    };
+    if is_in_place(alloc, sup, rows, last, &row)? {
+        Ok(Some(row))
+    } else {
+        Ok(None)
+    }
+}
+
+/// The least key of a bad row, if one is bad: what `mount` asks before it opens a store. The rows are read once each, in the order of
+/// their keys, up to the first that is bad; a look-up bisects.
+pub fn find_bad_row(
+    alloc: Global,
+    sup: &Super,
+    rows: &RowTable,
+) -> Result<Option<Bytes>, AllocError>
+    ensures { IfOk result (λ found. MatchOption found (NoBadRow sup.now rows.now.rows) (IsLeastBad sup.now rows.now.rows)) }
+{
+    let mut last = None;
+    for (key, value) in rows.range(b"", None) {
+        let found = good_row(alloc, sup, rows, &last, key.as_slice(), value.as_slice())?;
+        let Some(row) = found else {
+            return Ok(Some(Bytes::from_slice(alloc, key.as_slice())?));
+        };
+        last = Some(row);
+    }
+    Ok(None)
+}

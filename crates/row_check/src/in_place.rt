@@ -1,0 +1,180 @@
+//! Whether a row is in its place among the rows of a store.
+ghost use Rattle.std.specs.Prelude.{◌≡◌, ◌↔◌, ◌≤◌, ℕ, IsTrue, IfOk};
+ghost use Rattle.std.specs.List.{AllByRecursion};
+ghost use Rattle.unit_fields.specs.Names.{IsName, IsCollName};
+ghost use Rattle.row_format.specs.Keys.{coll_key, onode_key};
+ghost use Rattle.row_format.specs.Row.{onode, row_key, FitsRow};
+ghost use Rattle.row_format.specs.Extents.{page_end, Ascend};
+ghost use Rattle.store_image.specs.Pages.{HasKey, HasRow, pages_of};
+ghost use Rattle.store_image.specs.BadRows.{IsOnData, IsInPlace};
+ghost use Rattle.onode_codec.specs.Reading.{SpellsOnode};
+ghost use Rattle.row_check.specs.Reading.{row_of};
+ghost use Rattle.row_check.specs.Bad.{EndsBefore, IsWithinOnode, ShardStands, IsWalkedTo};
+
+use crate::row::Row;
+use meta_log::Super;
+use meta_rows::RowTable;
+use onode_codec::{Body, Extent, Onode, coll_key, onode_key};
+use std::alloc::{AllocError, Global};
+use unit_fields::limits::{OBJECT_LIMIT, UNIT_BYTES};
+use unit_fields::{CollName, Name};
+
+// Whether an extent's pages are all before this one.
+fn ends_by(extent: &Extent, page: u64) -> bool
+    ensures { IsTrue result ↔ (page_end extent.now ≤ page) }
+{
+    let Body::Private { unit: _unit, csums } = &extent.body;
+    let first = u64::from(extent.first);
+    first <= page && csums.len() as u64 <= page - first
+}
+
+fn all_end_by(extents: &[Extent], page: u64) -> bool
+    ensures { IsTrue result ↔ AllByRecursion (λ e. page_end e ≤ page) extents.now }
+{
+    extents.iter().all(|extent| ends_by(extent, page))
+}
+
+// Whether the extents ascend, and none reaches into the next.
+fn ascend(extents: &[Extent]) -> bool
+    ensures { IsTrue result ↔ Ascend extents.now }
+{
+    for i in 1..extents.len() {
+        let next = &extents[i];
+        if !ends_by(&extents[i - 1], u64::from(next.first)) {
+            return false;
+        }
+    }
+    true
+}
+
+// Whether an extent's pages stand on data units.
+fn is_on_data(sup: &Super, extent: &Extent) -> bool
+    ensures { IsTrue result ↔ IsOnData sup.now extent.now.body }
+{
+    let Body::Private { unit, csums } = &extent.body;
+    let unit = u64::from(unit.number());
+    let units = u64::from(sup.units);
+    2 + 2 * u64::from(sup.half) <= unit && unit <= units && csums.len() as u64 <= units - unit
+}
+
+fn all_on_data(sup: &Super, extents: &[Extent]) -> bool
+    ensures { IsTrue result ↔ AllByRecursion (λ e. IsOnData sup.now e.body) extents.now }
+{
+    extents.iter().all(|extent| is_on_data(sup, extent))
+}
+
+fn is_of_object(row_coll: &CollName, row_object: &Name, coll: &CollName, object: &Name) -> bool
+    ensures { IsTrue result ↔ ((row_coll.now ≡ coll.now) × (row_object.now ≡ object.now)) }
+{
+    row_coll.as_slice() == coll.as_slice() && row_object.as_slice() == object.as_slice()
+}
+
+// Whether the row before is no shard of this object, or one whose pages are all before this one.
+fn ends_before(last: &Option<Row>, coll: &CollName, object: &Name, page: u32) -> bool
+    ensures { IsTrue result ↔ EndsBefore last.now coll.now object.now page }
+{
+    match last {
+        Some(
+            Row::Shard {
+                coll: of_coll,
+                object: of_object,
+                page: _page,
+                extents,
+            },
+        ) => {
+            !is_of_object(of_coll, of_object, coll, object)
+                || all_end_by(extents.as_slice(), u64::from(page))
+        }
+        _ => true,
+    }
+}
+
+fn has_collection(alloc: Global, rows: &RowTable, coll: &CollName) -> Result<bool, AllocError>
+    ensures { IfOk result (λ there. IsTrue there ↔ HasKey rows.now.rows (coll_key coll.now)) }
+{
+    let key = coll_key(alloc, coll)?;
+    Ok(rows.get(key.as_slice()).is_some())
+}
+
+// Whether the extents end within the size that this value of an onode says. A value that says none bounds nothing: its own row is bad.
+fn are_within(extents: &[Extent], onode: &[u8]) -> bool
+    ensures { IsTrue result ↔ ((size : ℕ) → SpellsOnode onode.now size → AllByRecursion (λ e. page_end e ≤ pages_of size) extents.now) }
+{
+    match Onode::decode(onode) {
+        Some(onode) => all_end_by(extents, onode.size.div_ceil(UNIT_BYTES as u64)),
+        None => true,
+    }
+}
+
+// Whether the object is there, and the extents end within its size.
+fn are_within_object(
+    alloc: Global,
+    rows: &RowTable,
+    coll: &CollName,
+    object: &Name,
+    extents: &[Extent],
+) -> Result<bool, AllocError>
+    requires coll { IsCollName coll.now }
+    requires object { IsName object.now }
+    ensures { IfOk result (λ within. IsTrue within ↔ IsWithinOnode rows.now.rows coll.now object.now extents.now) }
+{
+    let key = onode_key(alloc, coll, object)?;
+    match rows.get(key.as_slice()) {
+        Some(value) => Ok(are_within(extents, value.as_slice())),
+        None => Ok(false),
+    }
+}
+
+// Whether the extents of a shard are in their place, where the rows before it are as they should be.
+fn shard_stands(
+    alloc: Global,
+    sup: &Super,
+    rows: &RowTable,
+    coll: &CollName,
+    object: &Name,
+    extents: &[Extent],
+) -> Result<bool, AllocError>
+    requires coll { IsCollName coll.now }
+    requires object { IsName object.now }
+    ensures { IfOk result (λ stands. IsTrue stands ↔ ShardStands sup.now rows.now.rows coll.now object.now extents.now) }
+{
+    if ascend(extents) && all_on_data(sup, extents) && has_collection(alloc, rows, coll)? {
+        are_within_object(alloc, rows, coll, object, extents)
+    } else {
+        Ok(false)
+    }
+}
+
+/// Whether a row is in its place among all rows, where the rows before it are good and `last` is the last of them.
+pub fn is_in_place(
+    alloc: Global,
+    sup: &Super,
+    rows: &RowTable,
+    last: &Option<Row>,
+    row: &Row,
+) -> Result<bool, AllocError>
+    requires fits { FitsRow (row_of row.now) }
+    requires walked { IsWalkedTo sup.now rows.now.rows last.now (row_key (row_of row.now)) }
+    ensures { IfOk result (λ placed. IsTrue placed ↔ IsInPlace sup.now rows.now.rows (row_of row.now)) }
+{
+    match row {
+        Row::Collection { coll: _coll } => Ok(true),
+        Row::Onode {
+            coll,
+            object: _object,
+            size,
+        } => Ok(*size <= OBJECT_LIMIT && has_collection(alloc, rows, coll)?),
+        Row::Shard {
+            coll,
+            object,
+            page,
+            extents,
+        } => {
+            if ends_before(last, coll, object, *page) {
+                shard_stands(alloc, sup, rows, coll, object, extents.as_slice())
+            } else {
+                Ok(false)
+            }
+        }
+    }
+}

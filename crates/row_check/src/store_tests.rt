@@ -1,0 +1,242 @@
+//! Whole tables: their least bad row, and the units of their single pages.
+use crate::{find_bad_row, sole_pages};
+use byte_maps::Bytes;
+use meta_log::Super;
+use meta_rows::{RowOp, RowTable};
+use std::alloc::{AllocError, Global};
+use std::test::*;
+
+// The data units are 18 to 99.
+const STORE: Super = Super {
+    units: 100,
+    half: 8,
+    prefer: 32768,
+    epoch: 0,
+    first: 0,
+};
+
+// A key and a value.
+type Entry = (&'static [u8], &'static [u8]);
+
+const EMPTY: &[u8] = b"";
+
+// Keys of no row.
+const KEY_D: &[u8] = b"D";
+
+const KEY_Z: &[u8] = b"Z";
+
+const COLL: &[u8] = b"C1.0_head";
+
+const ONODE_A: &[u8] = b"O1.0_head\0a\0o";
+
+const ONODE_B: &[u8] = b"O1.0_head\0b\0o";
+
+const SHARD_A0: &[u8] = b"O1.0_head\0a\0o\0\0\0\0x";
+
+const SHARD_A1: &[u8] = b"O1.0_head\0a\0o\0\0\0\x01x";
+
+const SHARD_B0: &[u8] = b"O1.0_head\0b\0o\0\0\0\0x";
+
+const SHARD_B1: &[u8] = b"O1.0_head\0b\0o\0\0\0\x01x";
+
+// Sizes of an object.
+const ONE_PAGE: &[u8] = b"\0\x10\0\0\0\0\0\0";
+
+const THREE_PAGES: &[u8] = b"\0\x30\0\0\0\0\0\0";
+
+const LARGEST: &[u8] = b"\0\0\0\x08\0\0\0\0";
+
+const TOO_LARGE: &[u8] = b"\x01\0\0\x08\0\0\0\0";
+
+// Page 0 on a unit, pages 0 and 1 on units 20 and 21, and pages 1 and 2 on the last two units.
+const PAGE_ON_18: &[u8] = b"\0\0\0\0\x01\0\0\x12\0\0\0cccc";
+
+const PAGE_ON_99: &[u8] = b"\0\0\0\0\x01\0\0\x63\0\0\0cccc";
+
+const PAGE_ON_17: &[u8] = b"\0\0\0\0\x01\0\0\x11\0\0\0cccc";
+
+const TWO_ON_20: &[u8] = b"\0\0\0\0\x02\0\0\x14\0\0\0ccccdddd";
+
+const TWO_ON_99: &[u8] = b"\0\0\0\0\x02\0\0\x63\0\0\0ccccdddd";
+
+const NEXT_ON_98: &[u8] = b"\x01\0\0\0\x02\0\0\x62\0\0\0ccccdddd";
+
+// Pages 0 and 1, and page 1 again.
+const OVERLAP: &[u8] = b"\0\0\0\0\x02\0\0\x14\0\0\0ccccdddd\x01\0\0\0\x01\0\0\x1e\0\0\0cccc";
+
+fn table_of(alloc: Global, rows: &[Entry]) -> Result<RowTable, AllocError> {
+    let mut table = RowTable::new(alloc);
+    for (key, value) in rows {
+        let key = Bytes::from_slice(alloc, key)?;
+        let value = Bytes::from_slice(alloc, value)?;
+        let mut ops = Vec::new(alloc);
+        ops.push(RowOp::Set { key, value })?;
+        table.reserve(ops.len())?;
+        table.apply(ops);
+    }
+    Ok(table)
+}
+
+// Whether this is the least key of a bad row.
+fn is_first_bad(alloc: Global, rows: &[Entry], key: &[u8]) -> Result<bool, AllocError> {
+    let table = table_of(alloc, rows)?;
+    match find_bad_row(alloc, &STORE, &table)? {
+        Some(found) => Ok(found.as_slice() == key),
+        None => Ok(false),
+    }
+}
+
+fn is_good(alloc: Global, rows: &[Entry]) -> Result<bool, AllocError> {
+    let table = table_of(alloc, rows)?;
+    Ok(find_bad_row(alloc, &STORE, &table)?.is_none())
+}
+
+// Two objects: three pages in two shards, and the largest object with pages on the last units.
+const GOOD: &[Entry] = &[
+    (SHARD_B1, NEXT_ON_98),
+    (SHARD_B0, PAGE_ON_18),
+    (ONODE_B, LARGEST),
+    (COLL, EMPTY),
+    (ONODE_A, THREE_PAGES),
+    (SHARD_A0, TWO_ON_20),
+];
+
+const BAD: &[(&str, &[Entry], &[u8])] = &[
+    ("no key of a row", &[(COLL, EMPTY), (KEY_D, EMPTY)], KEY_D),
+    (
+        "no value of a row",
+        &[(COLL, EMPTY), (ONODE_A, EMPTY)],
+        ONODE_A,
+    ),
+    (
+        "an onode without its collection",
+        &[(ONODE_A, ONE_PAGE)],
+        ONODE_A,
+    ),
+    (
+        "an onode too large",
+        &[(COLL, EMPTY), (ONODE_A, TOO_LARGE)],
+        ONODE_A,
+    ),
+    (
+        "a shard without its onode",
+        &[(COLL, EMPTY), (SHARD_A0, PAGE_ON_18)],
+        SHARD_A0,
+    ),
+    (
+        "a shard without its collection",
+        &[(SHARD_A0, PAGE_ON_18)],
+        SHARD_A0,
+    ),
+    (
+        "extents that overlap",
+        &[(COLL, EMPTY), (ONODE_A, THREE_PAGES), (SHARD_A0, OVERLAP)],
+        SHARD_A0,
+    ),
+    (
+        "shards that overlap",
+        &[
+            (COLL, EMPTY),
+            (ONODE_A, THREE_PAGES),
+            (SHARD_A0, TWO_ON_20),
+            (SHARD_A1, NEXT_ON_98),
+        ],
+        SHARD_A1,
+    ),
+    (
+        "a page beyond the size",
+        &[(COLL, EMPTY), (ONODE_A, ONE_PAGE), (SHARD_A0, TWO_ON_20)],
+        SHARD_A0,
+    ),
+    (
+        "a unit below the data units",
+        &[(COLL, EMPTY), (ONODE_A, ONE_PAGE), (SHARD_A0, PAGE_ON_17)],
+        SHARD_A0,
+    ),
+    (
+        "a unit past the device",
+        &[(COLL, EMPTY), (ONODE_A, THREE_PAGES), (SHARD_A0, TWO_ON_99)],
+        SHARD_A0,
+    ),
+    (
+        "two bad rows",
+        &[
+            (KEY_Z, EMPTY),
+            (COLL, EMPTY),
+            (SHARD_B0, PAGE_ON_18),
+            (ONODE_A, TOO_LARGE),
+        ],
+        ONODE_A,
+    ),
+];
+
+#[test]
+fn bad_rows(rt: HostRuntime) -> Result<(), Fail> {
+    for (what, rows, key) in BAD {
+        assert!(rt; is_first_bad(rt.alloc(), rows, key)?, "{what}");
+    }
+    Ok(())
+}
+
+#[test]
+fn good_rows(rt: HostRuntime) -> Result<(), Fail> {
+    assert!(rt; is_good(rt.alloc(), GOOD)?);
+    assert!(rt; is_good(rt.alloc(), &[])?);
+    Ok(())
+}
+
+// Whether these are the units of the objects' single pages, where no row is bad.
+fn are_sole(alloc: Global, rows: &[Entry], units: Option<&[u32]>) -> Result<bool, AllocError> {
+    let table = table_of(alloc, rows)?;
+    if find_bad_row(alloc, &STORE, &table)?.is_some() {
+        return Ok(false);
+    }
+    match sole_pages(alloc, &STORE, &table)? {
+        Some(found) => Ok(units == Some(found.as_slice())),
+        None => Ok(units.is_none()),
+    }
+}
+
+const PAGES: &[(&str, &[Entry], Option<&[u32]>)] = &[
+    ("no object", &[(COLL, EMPTY)], Some(&[])),
+    (
+        "two objects",
+        &[
+            (COLL, EMPTY),
+            (ONODE_A, ONE_PAGE),
+            (SHARD_A0, PAGE_ON_99),
+            (ONODE_B, ONE_PAGE),
+            (SHARD_B0, PAGE_ON_18),
+        ],
+        Some(&[18, 99]),
+    ),
+    (
+        "one unit twice",
+        &[
+            (COLL, EMPTY),
+            (ONODE_A, ONE_PAGE),
+            (SHARD_A0, PAGE_ON_18),
+            (ONODE_B, ONE_PAGE),
+            (SHARD_B0, PAGE_ON_18),
+        ],
+        None,
+    ),
+    (
+        "two pages",
+        &[(COLL, EMPTY), (ONODE_A, THREE_PAGES), (SHARD_A0, TWO_ON_20)],
+        None,
+    ),
+    (
+        "another size",
+        &[(COLL, EMPTY), (ONODE_A, THREE_PAGES)],
+        None,
+    ),
+];
+
+#[test]
+fn single_pages(rt: HostRuntime) -> Result<(), Fail> {
+    for (what, rows, units) in PAGES {
+        assert!(rt; are_sole(rt.alloc(), rows, *units)?, "{what}");
+    }
+    Ok(())
+}

@@ -1,13 +1,10 @@
 -- Each call of the kernel keeps what is known of the book, and so does a run.
-use Rattle.std.proofs.Common.{◌≡◌, inl, inr, ℕ, ◌≤◌, Bool, true, false, List, [], ◌∷◌, Option, Some, None, refl, sym, ap, subst}
+use Rattle.std.proofs.Common.{◌≡◌, inl, inr, ◌≤◌, Bool, true, false, List, [], ◌∷◌, Option, Some, None, refl, sym, ap, subst}
 use Rattle.std.proofs.Common.{arith}
-use Rattle.std.specs.FinMap as finite
 use Rattle.block_device.specs.declared.device.Ticket.{Ticket}
 use Rattle.block_device.specs.Disk.{Disk}
 use Rattle.object_model.specs.Objects.{Objects}
 use Rattle.object_model.specs.Book.{IsLegal}
-use Rattle.meta_log.specs.declared.slot.Super.{Super}
-use Rattle.unit_allocator.specs.Units.{Space}
 use Rattle.store_steps.specs.declared.flight.Flying.{Flying}
 use Rattle.store_steps.specs.declared.flight.Job.{Job}
 use Rattle.store_steps.specs.declared.flight.Job.TheVariants as job
@@ -17,15 +14,15 @@ use Rattle.store_steps.specs.State.{Batch, State}
 use Rattle.store_steps.specs.Contexts.{given_more, done_more}
 use Rattle.store_steps.specs.Changes.{data_sent, flush_sent, record_sent, sync_sent, after_done, after_good, flying_of, landed}
 use Rattle.store_steps.specs.Changes.{reaped, sealed}
-use Rattle.store_steps.specs.Opened.{opened}
 use Rattle.store_steps.specs.Ready.{is_ready}
 use Rattle.store_steps.specs.Steps.{DoesData, DoesReap, DoesFlush, DoesSeal, DoesRecord, DoesSync, Takes}
 use Rattle.store_steps.specs.Runs.{Call, submitting, stepping, DoesOrFails, Calls, IsRun}
 use Rattle.store_facts.specs.Kept.{IsKept}
 use Rattle.store_facts.proofs.Conditions.{ready_not_down, ready_by_table, finish_ready}
-use Rattle.book_facts.specs.BookFacts.{batched, KnownOfBook}
+use Rattle.book_facts.specs.BookFacts.{batched, KnownOfBook, IsInOrder}
 use Rattle.book_facts.proofs.Contexts.{AreLike, like_itself, like_same, like_with, given_like, done_like, first_like, second_like}
-use Rattle.book_facts.proofs.Books.{KeepBook, book_stays, book_takes, taken_alone, book_commits, book_finishes, book_opened, known_legal}
+use Rattle.book_facts.proofs.Books.{KeepBook, book_stays, book_takes, taken_alone, book_commits, book_finishes, known_legal}
+use Rattle.book_facts.proofs.Order.{order_stays, order_takes, order_commits, order_finishes, order_accepts, order_notes}
 use Rattle.book_facts.proofs.KeptCalls.{kept_call}
 use Rattle.book_facts.proofs.Accepted.{takes_plan, book_accepts, book_notes}
 
@@ -127,6 +124,20 @@ module _ (s : State) (d : Disk) (s' : State) (d' : Disk) where
       let below = (finish_ready s d d.depth kept.always (ready_by_table s d Finish kept ready)).0 in
       subst (KnownOfBook opening) (sym does.after) (book_finishes opening s below known)
 
+  pub order_step : (step : Step) → IsKept s d → is_ready step d.depth s ≡ true → IsInOrder s → DoesOrFails step s d s' d' → IsInOrder s'
+  order_step Data kept ready known does = order_stays s s' (data_keeps does) known
+  order_step Reap kept ready known (inl does) = order_stays s s' (reap_keeps does) known
+  order_step Reap kept ready known (inr failed) = order_stays s s' (ended_keeps false failed) known
+  order_step Take kept ready known does =
+      let alone = taken_alone s.pending s.batch s.log.begun s.flying does.context (kept.up (ready_not_down s d Take kept ready)).far does.is_chosen in
+      subst IsInOrder (sym does.after) (order_takes s does.context alone.0 alone.1 known)
+  order_step Flush kept ready known does = order_stays s s' (flush_keeps does) known
+  order_step Seal kept ready known does = order_stays s s' (seal_keeps does) known
+  order_step Record kept ready known does = order_stays s s' (record_keeps does) known
+  order_step Sync kept ready known does = order_stays s s' (sync_keeps does) known
+  order_step Commit kept ready known does = subst IsInOrder (sym does.after) (order_commits s does.batch known)
+  order_step Finish kept ready known does = subst IsInOrder (sym does.after) (order_finishes s known)
+
 -- ---- calls
 
 pub book_call : (opening : Objects) (call : Call) (s s' : State) (d d' : Disk) → IsKept s d → KnownOfBook opening s → Calls call s d s' d'
@@ -138,7 +149,21 @@ book_call opening (submitting client line change) s s' d d' kept known made = el
 ]
 book_call opening (stepping step) s s' d d' kept known made = book_step s d s' d' opening step kept made.0 known made.1
 
+pub order_call : (call : Call) (s s' : State) (d d' : Disk) → IsKept s d → IsInOrder s → Calls call s d s' d' → IsInOrder s'
+order_call (submitting client line change) s s' d d' kept known made = elim made.1 [
+  | inl does ↦ subst IsInOrder (sym does.after) (order_accepts s client line change does.plan known)
+  | inr refuses ↦ subst IsInOrder (sym refuses.1.after) (order_notes s client line change refuses.0 refuses.1.cause known)
+]
+order_call (stepping step) s s' d d' kept known made = order_step s d s' d' step kept made.0 known made.1
+
 -- ---- runs
+
+pub order_run : (calls : List Call) (s s' : State) (d d' : Disk) → IsKept s d → IsInOrder s → IsRun s d calls s' d' → IsInOrder s'
+order_run [] s s' d d' kept known run = subst IsInOrder (sym run.0) known
+order_run (call ∷ calls) s s' d d' kept known run =
+    let t : State = run.0 in
+    let e : Disk = run.1.0 in
+    order_run calls t s' e d' (kept_call call s t d e kept run.1.1.0 run.1.1.1.0) (order_call call s t d e kept known run.1.1.0) run.1.1.1.1
 
 pub book_run : (opening : Objects) (calls : List Call) (s s' : State) (d d' : Disk) → IsKept s d → KnownOfBook opening s → IsRun s d calls s' d'
     → KnownOfBook opening s'
@@ -149,8 +174,6 @@ book_run opening (call ∷ calls) s s' d d' kept known run =
     book_run opening calls t s' e d' (kept_call call s t d e kept run.1.1.0 run.1.1.1.0)
     (book_call opening call s t d e kept known run.1.1.0) run.1.1.1.1
 
-pub legal_run : (sup : Super) (space : Space) (events : ℕ) (calls : List Call) (s' : State) (d d' : Disk) → IsKept (opened sup space events) d
-    → IsRun (opened sup space events) d calls s' d' → IsLegal finite.empty s'.book
-legal_run sup space events calls s' d d' kept run =
-    known_legal finite.empty s' (book_run finite.empty calls (opened sup space events) s' d d' kept
-    (book_opened sup space events) run)
+pub legal_run : (opening : Objects) (calls : List Call) (s s' : State) (d d' : Disk) → IsKept s d → KnownOfBook opening s → IsRun s d calls s' d'
+    → IsLegal opening s'.book
+legal_run opening calls s s' d d' kept known run = known_legal opening s' (book_run opening calls s s' d d' kept known run)

@@ -4,7 +4,6 @@ use Rattle.std.proofs.Common.{Option, Some, None, refl, sym, ap, subst, ◌∙�
 use Rattle.std.specs.Prelude.{is_some, IsSome, IfSome, nat_eq}
 use Rattle.std.specs.List.{IsDistinct}
 use Rattle.std.specs.Option.{option_map_or}
-use Rattle.std.specs.FinMap as finite
 use Rattle.std.proofs.lemmas.List.{map-append, drop_at, drop_all, length-map}
 use Rattle.std.proofs.lemmas.Bool.{eq-eqb}
 use Rattle.std.proofs.lemmas.Option.{same_Some}
@@ -13,19 +12,17 @@ use Rattle.object_model.specs.declared.book.Book.{Book}
 use Rattle.object_model.specs.Objects.{Objects}
 use Rattle.object_model.specs.Book.{change_at, AreCountsWithin, acked_count, IsLegal}
 use Rattle.meta_rows.specs.Rows.{Rows}
-use Rattle.meta_log.specs.declared.slot.Super.{Super}
-use Rattle.row_facts.proofs.NoRows.{none_stand}
 use Rattle.unit_allocator.specs.Units.{Space}
 use Rattle.store_steps.specs.declared.context.Context.{Context}
 use Rattle.store_steps.specs.declared.flight.Flying.{Flying}
 use Rattle.store_steps.specs.State.{Begun, Batch, State}
 use Rattle.store_steps.specs.Contexts.{without_context, is_done, chosen}
-use Rattle.store_steps.specs.Opened.{opened}
+use Rattle.store_steps.specs.Opened.{Found, opened}
 use Rattle.store_steps.specs.Changes.{commit_of, taken_up, acknowledged, finished, committed_batch}
 use Rattle.store_steps.specs.Ready.{applied_count}
 use Rattle.store_facts.specs.Space.{uncommitted}
 use Rattle.store_facts.specs.Flights.{IsOneAtATime}
-use Rattle.book_facts.specs.BookFacts.{commit_places, batched, IsOfEntry, AreCommits, KnownOfBook}
+use Rattle.book_facts.specs.BookFacts.{commit_places, batched, IsOfEntry, AreCommits, StandSomehow, KnownOfBook}
 use Rattle.book_facts.proofs.Entries.{counts_more}
 use Rattle.book_facts.proofs.Commits.{all_push, all_behind, acked_push, by_now_more, by_now_acknowledged, acked_acknowledged}
 use Rattle.book_facts.proofs.Commits.{count_push, count_acknowledged, places_acknowledged, length_acknowledged, AreAtPlaces, at_places, of_places}
@@ -46,19 +43,19 @@ known_legal opening s known = record {
 
 -- ---- at the start
 
-nothing_twice : IsDistinct nat_eq []
+pub nothing_twice : IsDistinct nat_eq []
 unfolding IsDistinct
 nothing_twice = tt
 
-pub book_opened : (sup : Super) (space : Space) (events : ℕ) → KnownOfBook finite.empty (opened sup space events)
-book_opened sup space events = record {
+pub book_opened : (opening : Objects) (f : Found) (space : Space) (events : ℕ) → StandSomehow f.rows opening → KnownOfBook opening (opened f space events)
+book_opened opening f space events stand = record {
   answers = tt;
   counts = tt;
   commits = record { of_accepted = tt; acked_first = tt; counted = refl; by_now = tt };
   queued = record { once = nothing_twice; in_order = λ coll. refl };
   contexts = tt;
   last_committed = refl;
-  stand = ((λ unit. []), none_stand (λ unit. []));
+  stand = stand;
 }
 
 -- ---- calls that change neither the book nor what a context is

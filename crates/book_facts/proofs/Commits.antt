@@ -98,10 +98,10 @@ acked_acknowledged least events (c ∷ cs) le now are = by_acked c.acked_at refl
 
 -- how many are acknowledged
 
-abbrev one_if : Bool → ℕ
+abbrev pub one_if : Bool → ℕ
 one_if b = cond b 1 0
 
-count_cons : (c : Commit) (cs : List Commit) → acked_count (c ∷ cs) ≡ one_if (is_some c.acked_at) + acked_count cs
+pub count_cons : (c : Commit) (cs : List Commit) → acked_count (c ∷ cs) ≡ one_if (is_some c.acked_at) + acked_count cs
 count_cons c cs = sum_by-cons (λ (d : Commit). one_if (is_some d.acked_at)) c cs
 
 pub count_push : (cs : List Commit) (c : Commit) → c.acked_at ≡ None → acked_count (cs ++ c ∷ []) ≡ acked_count cs

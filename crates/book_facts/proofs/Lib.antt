@@ -4,6 +4,7 @@ pub mod Contexts
 pub mod Answers
 pub mod Queues
 pub mod Books
+pub mod Order
 pub mod Accepted
 pub mod KeptCalls
 pub mod BookCalls

@@ -64,3 +64,13 @@ pub record KnownOfBook (opening : Objects) (s : State) : Type 0 where
   pub contexts : AllByRecursion (IsOfEntry s.book.entries) (uncommitted s)
   pub last_committed : drop (applied_count s) (commit_places s.book.commits) ≡ places (batched s.batch)
   pub stand : StandSomehow s.view (replay opening (accepted s.book.entries))
+
+-- What is known of the order alone, whatever objects the rows stand for: the commits are of accepted transactions, each collection's are
+-- in order, and each context is of its entry.
+pub record KnownOfOrder (book : Book) (pending batch : List Context) : Type 0 where
+  pub of_accepted : AllByRecursion (λ c. IsSome (change_at book.entries c.place)) book.commits
+  pub queued : AreQueued book pending
+  pub contexts : AllByRecursion (IsOfEntry book.entries) (batch ++ pending)
+
+abbrev pub IsInOrder : State → Type 0
+IsInOrder s = KnownOfOrder s.book s.pending (batched s.batch)

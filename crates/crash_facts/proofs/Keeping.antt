@@ -1,20 +1,15 @@
 -- What a kernel keeps of its device: a start lies in the log before each call that came after it, so each call goes on from what was known there.
-use Rattle.std.proofs.Common.{◌≡◌, ◌⊎◌, inl, inr, ℕ, ◌+◌, ◌<◌, ◌≤◌, true, false, List, [], ◌∷◌, ◌++◌, length, take, Option, Some, None, refl, sym, ap, subst, ◌∙◌, arith, length-append}
-use Rattle.std.specs.FinMap as map
+use Rattle.std.proofs.Common.{◌≡◌, ◌⊎◌, inl, inr, ℕ, ◌+◌, ◌≤◌, true, false, List, [], ◌∷◌, ◌++◌, length, take, Option, Some, None, refl, sym, ap, subst, ◌∙◌, arith, length-append}
 use Rattle.std.proofs.lemmas.Option.{same_Some}
-use Rattle.std.proofs.lemmas.List.{take_all, take-append-le}
-use Rattle.byte_maps.specs.Units.{zeros}
+use Rattle.std.proofs.lemmas.List.{take-append-le}
 use Rattle.block_device.specs.Log.{last, IsClean}
 use Rattle.block_device.specs.Disk.{Disk, History, IsSound, Waited, grown}
-use Rattle.block_device.specs.Facts.{with_event, last_at}
+use Rattle.block_device.specs.Facts.{with_event}
 use Rattle.block_device.specs.declared.event.Event.{Event}
 use Rattle.block_device.specs.declared.event.Event.TheVariants.{Write, Flush as FlushEvent, Done}
 use Rattle.object_model.specs.Objects.{Objects}
-use Rattle.meta_log.specs.declared.slot.Super.{Super}
-use Rattle.meta_log.specs.Slots.{active_unit, IsActiveSlot}
 use Rattle.store_image.specs.Stands.{StandsFor}
 use Rattle.store_image.specs.Durability.{IsStart, EachCutStands}
-use Rattle.store_image.proofs.OneObjects.{stands_for_one}
 use Rattle.unit_allocator.specs.Units.{Space}
 use Rattle.store_steps.specs.declared.flight.Flying.{Flying}
 use Rattle.store_steps.specs.declared.flight.Job.{Job}
@@ -24,11 +19,11 @@ use Rattle.store_steps.specs.declared.step.Step.TheVariants.{Data, Reap, Take, F
 use Rattle.store_steps.specs.State.{State}
 use Rattle.store_steps.specs.Changes.{after_done, after_good, flying_of, landed}
 use Rattle.store_steps.specs.Steps.{piece_unit, piece_bytes}
-use Rattle.store_steps.specs.Opened.{opened}
+use Rattle.store_steps.specs.Opened.{Found, opened}
 use Rattle.store_steps.specs.Runs.{Call, submitting, stepping, Calls, DoesOrFails, Submits}
 use Rattle.store_facts.specs.Kept.{IsKept}
-use Rattle.crash_facts.specs.Store.{KnownOfStore, IsDurable, KeepsDurable}
-use Rattle.crash_facts.proofs.Runs.{call_durable, opened_durable, drained_stands}
+use Rattle.crash_facts.specs.Store.{IsDurable, KeepsDurable, IsMounted}
+use Rattle.crash_facts.proofs.Runs.{call_durable, mounted_durable}
 
 -- ---- a call is no event, or one that is counted
 
@@ -149,26 +144,13 @@ call_keeps call s s' d d' kept sound keeps made h base opening told counted star
       | inr one ↦ before_one base opening s s' d d' h keeps told counted start one
     ]) made
 
--- ---- a new store
+-- ---- a mounted store
 
-pub new_store_keeps : (sup : Super) (space : Space) (d : Disk) → IsKept (opened sup space 0) d → d.flights ≡ []
-    → ((h : History) → d.history ≡ Some h → ((unit : ℕ) → IsClean h.log unit)
-    → IsActiveSlot (last h.start h.log) sup × ((k : ℕ) → k < sup.half → last_at h (active_unit sup + k) ≡ zeros 4096))
-    → KeepsDurable (opened sup space 0) d
-new_store_keeps sup space d kept none found h base opening told counted start =
-    let s : State = opened sup space 0 in
-    let here : base ≡ length h.log = omega (arith, counted) in
-    let all : take base h.log ≡ h.log = take_all base h.log (omega (arith, here)) in
-    let clean : (unit : ℕ) → IsClean h.log unit = λ unit. subst (λ (log : List Event). IsClean log unit) all (start.clean unit) in
-    let holds = found h told clean in
-    let durable : IsDurable (length h.log) map.empty s d = opened_durable sup space d h kept told none clean holds.0 holds.1 in
-    let known : KnownOfStore (length h.log) map.empty s d h =
-    subst (KnownOfStore (length h.log) map.empty s d) (same_Some durable.history h (sym durable.told ∙ told)) (durable.up refl) in
-    let stands : StandsFor (last h.start h.log) map.empty = drained_stands (length h.log) map.empty s d h kept refl refl known in
-    let same : map.empty ≡ opening =
-    stands_for_one (last h.start h.log) map.empty opening stands
-    (subst (λ (log : List Event). StandsFor (last h.start log) opening) all start.stands) in
-    subst (λ (n : ℕ). IsDurable n opening s d) (sym here) (subst (λ (o : Objects). IsDurable (length h.log) o s d) same durable)
+pub mounted_keeps : (f : Found) (space : Space) (events : ℕ) (d : Disk) → d.flights ≡ []
+    → ((h : History) (base : ℕ) (opening : Objects) → d.history ≡ Some h → length h.log ≡ base + events → IsStart base h opening
+    → IsMounted base opening f events h) → KeepsDurable (opened f space events) d
+mounted_keeps f space events d none mounted h base opening told counted start =
+    mounted_durable base opening f space events d h told none (mounted h base opening told counted start)
 
 -- ---- what it comes to
 

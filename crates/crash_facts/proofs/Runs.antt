@@ -1,28 +1,23 @@
 -- Runs of calls: each crash leaves a front of the commits, and once the kernel is drained the device stands for all that was accepted.
-use Rattle.std.proofs.Common.{◌≡◌, ◌⊎◌, inl, inr, ℕ, ◌+◌, ◌-◌, ◌<◌, true, false, List, [], ◌∷◌, ◌++◌, length, take, Option, Some, None, refl, sym, ap, subst}
+use Rattle.std.proofs.Common.{◌≡◌, ◌⊎◌, inl, inr, ℕ, ◌+◌, ◌-◌, true, false, List, [], ◌∷◌, ◌++◌, length, take, Option, Some, None, refl, sym, ap, subst}
 use Rattle.std.proofs.Common.{◌∙◌, arith, length-append}
 use Rattle.std.specs.Option.{option_map_or}
-use Rattle.std.specs.FinMap as map
 use Rattle.std.proofs.lemmas.Option.{same_Some}
 use Rattle.std.proofs.lemmas.List.{take_all}
-use Rattle.byte_maps.specs.Units.{zeros}
 use Rattle.block_device.specs.Log.{last, IsClean}
 use Rattle.block_device.specs.Disk.{Disk, History, IsSound, grown}
 use Rattle.block_device.specs.Facts.{with_event, last_at}
 use Rattle.block_device.specs.declared.device.Ticket.{Ticket}
 use Rattle.block_device.specs.declared.event.Event.TheVariants.{Done}
-use Rattle.block_device.proofs.LogLemmas.{each_cut_none, each_cut_push}
+use Rattle.block_device.proofs.LogLemmas.{each_cut_push}
 use Rattle.object_model.specs.Objects.{Objects}
 use Rattle.object_model.specs.Effect.{replay}
 use Rattle.object_model.specs.Book.{accepted, committed}
 use Rattle.object_model.specs.declared.book.Commit.{Commit}
-use Rattle.meta_log.specs.declared.slot.Super.{Super}
-use Rattle.meta_log.specs.Slots.{active_unit, IsActiveSlot}
 use Rattle.store_image.specs.Stands.{ObjectsStand, StandsFor}
 use Rattle.store_image.specs.Durability.{LeavesPrefix, EachCutStands}
 use Rattle.store_image.proofs.OwnedUnits.{objects_stand}
 use Rattle.log_facts.proofs.Crashes.{log_stands}
-use Rattle.row_facts.proofs.NoRows.{none_stand}
 use Rattle.unit_allocator.specs.Units.{Space}
 use Rattle.store_steps.specs.declared.context.Context.{Context}
 use Rattle.store_steps.specs.declared.flight.Flying.{Flying}
@@ -34,7 +29,7 @@ use Rattle.store_steps.specs.State.{Batch, State}
 use Rattle.store_steps.specs.Changes.{after_done, after_good, flying_of, landed, down_by}
 use Rattle.store_steps.specs.Ready.{is_drained}
 use Rattle.store_steps.specs.Steps.{Takes}
-use Rattle.store_steps.specs.Opened.{opened}
+use Rattle.store_steps.specs.Opened.{Found, opened}
 use Rattle.store_steps.specs.Runs.{Call, submitting, stepping, Calls, DoesOrFails, Submits, IsRun}
 use Rattle.store_facts.specs.Kept.{IsKept}
 use Rattle.store_facts.proofs.Conditions.{IsIdle}
@@ -51,7 +46,7 @@ use Rattle.unit_facts.proofs.Steps.{opened_known}
 use Rattle.unit_facts.proofs.Moves.{Goes, call_goes_on}
 use Rattle.unit_facts.proofs.Calls.{move_known}
 use Rattle.unit_facts.proofs.Runs.{kept_call, called_up, run_kept, idle_half, drained_clean}
-use Rattle.crash_facts.specs.Store.{KnownOfStore, IsDurable}
+use Rattle.crash_facts.specs.Store.{KnownOfStore, IsDurable, IsMounted}
 use Rattle.crash_facts.proofs.Moving.{move_stand}
 use Rattle.crash_facts.proofs.Now.{now_stands, size_now}
 use Rattle.crash_facts.proofs.Cuts.{quiet_leaves, move_cuts}
@@ -168,28 +163,18 @@ run_durable base opening (call ∷ calls) s s' d d' kept durable run =
     run_durable base opening calls t s' e d' (kept_call call s t d e kept run.1.1.0 run.1.1.1.0)
     (call_durable base opening call s t d e kept run.1.1.1.0 durable run.1.1.0) run.1.1.1.1
 
--- ---- a store that was just opened
+-- ---- a store that was just mounted
 
-pub opened_durable : (sup : Super) (space : Space) (d : Disk) (h : History) → IsKept (opened sup space 0) d → d.history ≡ Some h → d.flights ≡ []
-    → ((unit : ℕ) → IsClean h.log unit) → IsActiveSlot (last h.start h.log) sup
-    → ((k : ℕ) → k < sup.half → last_at h (active_unit sup + k) ≡ zeros 4096)
-    → IsDurable (length h.log) map.empty (opened sup space 0) d
-opened_durable sup space d h kept told none clean active zeroed =
-    let s : State = opened sup space 0 in
-    let known : KnownOfStore (length h.log) map.empty s d h = record {
-      units = opened_known sup space d h told none clean active zeroed;
-      book = book_opened sup space 0;
-      stand = stand_none (held_or_last h []) map.empty map.empty [] (none_stand (held_or_last h []));
+pub mounted_durable : (base : ℕ) (opening : Objects) (f : Found) (space : Space) (events : ℕ) (d : Disk) (h : History) → d.history ≡ Some h
+    → d.flights ≡ [] → IsMounted base opening f events h → IsDurable base opening (opened f space events) d
+mounted_durable base opening f space events d h told none is =
+    let s : State = opened f space events in
+    let known : KnownOfStore base opening s d h = record {
+      units = opened_known base f is.recs space events d h told none is.answered is.clean is.slots is.half;
+      book = book_opened opening f space events (last_at h, is.stand);
+      stand = stand_none (held_or_last h []) f.rows opening [] (objects_stand (last_at h) (held_or_last h []) f.rows (λ unit owned. refl) opening is.stand);
     } in
-    record {
-      history = h;
-      told = told;
-      counted = omega arith;
-      book = book_opened sup space 0;
-      cuts = each_cut_none h.log (LeavesPrefix (length h.log) h.start map.empty s.book)
-          (now_stands (length h.log) map.empty s d h kept refl known);
-      up = λ _. known;
-    }
+    record { history = h; told = told; counted = is.answered.counted; book = known.book; cuts = is.cuts; up = λ _. known }
 
 -- ---- once it is drained
 
@@ -213,34 +198,29 @@ drained_stands base opening s d h kept up drained known =
     (size_now s d h kept known.units.told) known.units.slots half.1 (kept.up up).committed.good
     (subst (ObjectsStand (last_at h) s.log.rows) (ap (replay opening) all ∙ all_committed opening s.book.entries cs queued) stand)
 
--- ---- from a store that was just opened
+-- ---- at the end of a run
 
-module _ (sup : Super) (space : Space) (calls : List Call) (s' : State) (d d' : Disk) (h h' : History) (kept : IsKept (opened sup space 0) d)
-    (told : d.history ≡ Some h) (none : d.flights ≡ []) (clean : (unit : ℕ) → IsClean h.log unit) (active : IsActiveSlot (last h.start h.log) sup)
-    (zeroed : (k : ℕ) → k < sup.half → last_at h (active_unit sup + k) ≡ zeros 4096) (run : IsRun (opened sup space 0) d calls s' d')
-    (told' : d'.history ≡ Some h') where
-  at_end : IsDurable (length h.log) map.empty s' d'
-  at_end = run_durable (length h.log) map.empty calls (opened sup space 0) s' d d' kept (opened_durable sup space d h kept told none clean active zeroed) run
+module _ (base : ℕ) (opening : Objects) (calls : List Call) (s s' : State) (d d' : Disk) (h' : History) (kept : IsKept s d)
+    (durable : IsDurable base opening s d) (run : IsRun s d calls s' d') (told' : d'.history ≡ Some h') where
+  at_end : IsDurable base opening s' d'
+  at_end = run_durable base opening calls s s' d d' kept durable run
 
   same : at_end.history ≡ h'
   same = same_Some at_end.history h' (sym at_end.told ∙ told')
 
-  pub each_cut : EachCutStands (length h.log) h' map.empty s'.book
-  each_cut = subst (λ (k : History). EachCutStands (length h.log) k map.empty s'.book) same at_end.cuts
+  pub each_cut : EachCutStands base h' opening s'.book
+  each_cut = subst (λ (k : History). EachCutStands base k opening s'.book) same at_end.cuts
 
   -- once it is drained
   module _ (up : s'.down ≡ None) (drained : is_drained d'.depth s' ≡ true) where
     kept' : IsKept s' d'
-    kept' = run_kept calls (opened sup space 0) s' d d' kept run
+    kept' = run_kept calls s s' d d' kept run
 
-    known' : KnownOfStore (length h.log) map.empty s' d' h'
-    known' = subst (KnownOfStore (length h.log) map.empty s' d') same (at_end.up up)
+    known' : KnownOfStore base opening s' d' h'
+    known' = subst (KnownOfStore base opening s' d') same (at_end.up up)
 
-    pub end_stands : StandsFor (last h'.start h'.log) (replay map.empty (accepted s'.book.entries))
-    end_stands = drained_stands (length h.log) map.empty s' d' h' kept' up drained known'
+    pub end_stands : StandsFor (last h'.start h'.log) (replay opening (accepted s'.book.entries))
+    end_stands = drained_stands base opening s' d' h' kept' up drained known'
 
     pub end_clean : (unit : ℕ) → IsClean h'.log unit
-    end_clean = drained_clean (length h.log) s' d' h' kept' known'.units up drained
-
--- what the law of drained runs cites
-pub ruleset end_laws = (end_stands, end_clean)
+    end_clean = drained_clean base s' d' h' kept' known'.units up drained

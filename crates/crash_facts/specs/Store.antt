@@ -1,15 +1,23 @@
 -- What is known of a store from call to call: its device, its book, and that each crash so far leaves a front of the commits.
-use Rattle.std.specs.Prelude.{◌≡◌, ℕ, ◌+◌, length, Some, None}
+use Rattle.std.specs.Prelude.{◌≡◌, ℕ, ◌+◌, List, [], length, Some, None}
+use Rattle.block_device.specs.Log.{IsClean}
 use Rattle.block_device.specs.Disk.{Disk, History}
+use Rattle.block_device.specs.Facts.{last_at}
 use Rattle.object_model.specs.Objects.{Objects}
 use Rattle.object_model.specs.Effect.{replay}
+use Rattle.meta_rows.specs.declared.row_op.RowOp.{RowOp}
+use Rattle.store_image.specs.Stands.{ObjectsStand}
 use Rattle.store_image.specs.Durability.{IsStart, EachCutStands}
+use Rattle.log_facts.specs.Flushing.{not_sent}
+use Rattle.log_facts.specs.SlotFacts.{SlotsStand}
+use Rattle.log_facts.specs.HalfFacts.{ActiveHalfStands}
 use Rattle.store_steps.specs.State.{State}
+use Rattle.store_steps.specs.Opened.{Found}
 use Rattle.store_facts.specs.Space.{uncommitted}
 use Rattle.book_facts.specs.BookFacts.{KnownOfBook}
 use Rattle.book_facts.specs.Selections.{applied_changes, SelectionsStand}
 use Rattle.crash_facts.specs.HeldBytes.{held_or_last}
-use Rattle.unit_facts.specs.Known.{KnownOfUnits}
+use Rattle.unit_facts.specs.Known.{IsAnsweredSince, KnownOfUnits}
 
 -- The committed rows stand for the objects after the applied commits, and with the operations of a fair selection of the contexts under
 -- way for the objects after these too: over the bytes that the fresh units are to have, and for all others those last written.
@@ -37,3 +45,14 @@ pub record IsDurable (base : ℕ) (opening : Objects) (s : State) (d : Disk) : T
 abbrev pub KeepsDurable : State → Disk → Type 0
 KeepsDurable s d = (h : History) (base : ℕ) (opening : Objects) → d.history ≡ Some h → length h.log ≡ base + s.events → IsStart base h opening
     → IsDurable base opening s d
+
+-- What a mount leaves of a device that tells its log: nothing is in flight or dirty, the log has the records that were found and zeros behind
+-- them, the rows and the units stand for the objects, and each crash on the way left these.
+pub record IsMounted (base : ℕ) (opening : Objects) (f : Found) (events : ℕ) (h : History) : Type 0 where
+  pub answered : IsAnsweredSince base h [] events
+  pub clean : (unit : ℕ) → IsClean h.log unit
+  pub slots : SlotsStand h f.sup
+  pub recs : List (List RowOp)
+  pub half : ActiveHalfStands h f.sup f.rows f.tail f.number None 0 not_sent recs
+  pub stand : ObjectsStand (last_at h) f.rows opening
+  pub cuts : EachCutStands base h opening (record { entries = []; commits = [] })

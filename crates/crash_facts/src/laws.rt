@@ -1,33 +1,25 @@
 //! Prefix durability along the calls of a kernel, and what its device stands for once it is drained.
-ghost use Rattle.std.specs.Prelude.{◌≡◌, ℕ, ◌+◌, ◌<◌, true, List, [], length, Some, None};
-ghost use Rattle.std.specs.FinMap as map;
-ghost use Rattle.byte_maps.specs.Units.{zeros};
+ghost use Rattle.std.specs.Prelude.{◌≡◌, ℕ, ◌+◌, true, List, [], length, Some, None};
 ghost use Rattle.block_device.specs.Log.{last, IsClean};
 ghost use Rattle.block_device.specs.Disk.{Disk, History, IsSound};
-ghost use Rattle.block_device.specs.Facts.{last_at};
 ghost use Rattle.object_model.specs.Objects.{Objects};
 ghost use Rattle.object_model.specs.Effect.{replay};
 ghost use Rattle.object_model.specs.Book.{accepted};
-ghost use Rattle.meta_log.specs.declared.slot.Super.{Super};
-ghost use Rattle.meta_log.specs.Slots.{active_unit, IsActiveSlot};
 ghost use Rattle.store_image.specs.Stands.{StandsFor};
 ghost use Rattle.store_image.specs.Durability.{IsStart, EachCutStands};
 ghost use Rattle.unit_allocator.specs.Units.{Space};
 ghost use Rattle.store_steps.specs.State.{State};
 ghost use Rattle.store_steps.specs.Ready.{is_drained};
-ghost use Rattle.store_steps.specs.Opened.{opened};
+ghost use Rattle.store_steps.specs.Opened.{Found, opened};
 ghost use Rattle.store_steps.specs.Runs.{Call, Calls, IsRun};
 ghost use Rattle.store_facts.specs.Kept.{IsKept};
-ghost use Rattle.crash_facts.specs.Store.{KnownOfStore, IsDurable, KeepsDurable};
+ghost use Rattle.crash_facts.specs.Store.{KnownOfStore, IsDurable, KeepsDurable, IsMounted};
 
-/// A store without records on a device that is quiet and tells its log is durable from the start: its active slot is known, and its
-/// active half is all zeros.
-#[tactic(auto, using(crate::proofs::Runs::opened_durable))]
-pub fn a_fresh_store_is_durable()
-    ensures { (sup : Super) (space : Space) (d : Disk) (h : History) → IsKept (opened sup space 0) d → d.history ≡ Some h →
-        d.flights ≡ [] → ((unit : ℕ) → IsClean h.log unit) → IsActiveSlot (last h.start h.log) sup →
-        ((k : ℕ) → k < sup.half → last_at h (active_unit sup + k) ≡ zeros 4096) →
-        IsDurable (length h.log) map.empty (opened sup space 0) d }
+/// A store that was mounted, on a device where nothing is in flight and that tells its log, is durable from the start, for the objects
+/// that the contents stood for when the mount began.
+pub fn a_mounted_store_is_durable()
+    ensures { (base : ℕ) (opening : Objects) (f : Found) (space : Space) (events : ℕ) (d : Disk) (h : History) → d.history ≡ Some h →
+        d.flights ≡ [] → IsMounted base opening f events h → IsDurable base opening (opened f space events) d }
 {}
 
 /// Each call leaves it durable, also one that takes the end of a submission that ended badly.
@@ -51,33 +43,22 @@ pub fn a_drained_store_stands()
         StandsFor (last h.start h.log) (replay opening (accepted s.book.entries)) }
 {}
 
-/// Prefix durability of runs from a store without records: whatever a crash at any cut of the log leaves stands for the objects after
-/// the first commits of the book, among which is each one acknowledged by then, unless something torn is valid by chance.
+/// Prefix durability of runs: whatever a crash at any cut of the log since the start leaves stands for the objects after the first
+/// commits of the book, among which is each one acknowledged by then, unless something torn is valid by chance.
 #[tactic(auto, using(crate::proofs::Runs::each_cut))]
 pub fn each_crash_leaves_a_prefix()
-    ensures { (sup : Super) (space : Space) (calls : List Call) (s' : State) (d d' : Disk) (h h' : History) →
-        IsKept (opened sup space 0) d → d.history ≡ Some h → d.flights ≡ [] → ((unit : ℕ) → IsClean h.log unit) →
-        IsActiveSlot (last h.start h.log) sup →
-        ((k : ℕ) → k < sup.half → last_at h (active_unit sup + k) ≡ zeros 4096) →
-        IsRun (opened sup space 0) d calls s' d' → d'.history ≡ Some h' →
-        EachCutStands (length h.log) h' map.empty s'.book }
+    ensures { (base : ℕ) (opening : Objects) (calls : List Call) (s s' : State) (d d' : Disk) (h' : History) → IsKept s d →
+        IsDurable base opening s d → IsRun s d calls s' d' → d'.history ≡ Some h' → EachCutStands base h' opening s'.book }
 {}
 
 /// And where such a run ends drained and not down, the device stands for the objects after all accepted transactions, and no unit
 /// is dirty.
-#[tactic(auto, using(crate::proofs::Runs::end_laws))]
 pub fn a_drained_run_stands()
-    ensures stands { (sup : Super) (space : Space) (calls : List Call) (s' : State) (d d' : Disk) (h h' : History) →
-        IsKept (opened sup space 0) d → d.history ≡ Some h → d.flights ≡ [] → ((unit : ℕ) → IsClean h.log unit) →
-        IsActiveSlot (last h.start h.log) sup →
-        ((k : ℕ) → k < sup.half → last_at h (active_unit sup + k) ≡ zeros 4096) →
-        IsRun (opened sup space 0) d calls s' d' → d'.history ≡ Some h' → s'.down ≡ None → is_drained d'.depth s' ≡ true →
-        StandsFor (last h'.start h'.log) (replay map.empty (accepted s'.book.entries)) }
-    ensures clean { (sup : Super) (space : Space) (calls : List Call) (s' : State) (d d' : Disk) (h h' : History) →
-        IsKept (opened sup space 0) d → d.history ≡ Some h → d.flights ≡ [] → ((unit : ℕ) → IsClean h.log unit) →
-        IsActiveSlot (last h.start h.log) sup →
-        ((k : ℕ) → k < sup.half → last_at h (active_unit sup + k) ≡ zeros 4096) →
-        IsRun (opened sup space 0) d calls s' d' → d'.history ≡ Some h' → s'.down ≡ None → is_drained d'.depth s' ≡ true →
+    ensures stands { (base : ℕ) (opening : Objects) (calls : List Call) (s s' : State) (d d' : Disk) (h' : History) → IsKept s d →
+        IsDurable base opening s d → IsRun s d calls s' d' → d'.history ≡ Some h' → s'.down ≡ None → is_drained d'.depth s' ≡ true →
+        StandsFor (last h'.start h'.log) (replay opening (accepted s'.book.entries)) }
+    ensures clean { (base : ℕ) (opening : Objects) (calls : List Call) (s s' : State) (d d' : Disk) (h' : History) → IsKept s d →
+        IsDurable base opening s d → IsRun s d calls s' d' → d'.history ≡ Some h' → s'.down ≡ None → is_drained d'.depth s' ≡ true →
         (unit : ℕ) → IsClean h'.log unit }
 {}
 
@@ -89,14 +70,13 @@ pub fn a_call_keeps_durability()
         KeepsDurable s' d' }
 {}
 
-/// A kernel that was opened on a store without records keeps it from the start: over a device where nothing is in flight, and where the
-/// store is known if the device tells its log and no unit is dirty.
-#[tactic(auto, using(crate::proofs::Keeping::new_store_keeps))]
-pub fn a_new_store_keeps_durability()
-    ensures { (sup : Super) (space : Space) (d : Disk) → IsKept (opened sup space 0) d → d.flights ≡ [] →
-        ((h : History) → d.history ≡ Some h → ((unit : ℕ) → IsClean h.log unit) →
-        IsActiveSlot (last h.start h.log) sup × ((k : ℕ) → k < sup.half → last_at h (active_unit sup + k) ≡ zeros 4096)) →
-        KeepsDurable (opened sup space 0) d }
+/// A kernel that is opened on a mounted store keeps it from the start: over a device where nothing is in flight, and where the store is as
+/// a mount leaves it if the device tells its log and the mount began at a start.
+#[tactic(auto, using(crate::proofs::Keeping::mounted_keeps))]
+pub fn a_mounted_store_keeps_durability()
+    ensures { (f : Found) (space : Space) (events : ℕ) (d : Disk) → d.flights ≡ [] →
+        ((h : History) (base : ℕ) (opening : Objects) → d.history ≡ Some h → length h.log ≡ base + events → IsStart base h opening →
+        IsMounted base opening f events h) → KeepsDurable (opened f space events) d }
 {}
 
 /// So whoever has a kernel, over a device that tells its log, has prefix durability: whatever a crash at any cut since the start leaves

@@ -68,7 +68,6 @@ take_waits s d s' x h a room what =
         flights = a.flights;
         few = omega arith;
         numbers = record {
-          first = a.numbers.first;
           number = omega (arith, more, a.numbers.number);
           commits = omega (arith, more, a.numbers.commits);
           entries = a.numbers.entries;
@@ -142,7 +141,6 @@ commit_synced s d s' x h a room what =
         flights = a.flights;
         few = omega arith;
         numbers = record {
-          first = a.numbers.first;
           number = omega (arith, a.numbers.number);
           commits = a.numbers.commits;
           entries = a.numbers.entries;
@@ -211,8 +209,7 @@ finish_steps s d s' d' depth far a room ready does =
         flights = a.flights;
         few = a.few;
         numbers = record {
-          first = a.numbers.first;
-          number = subst (λ (n : ℕ). s.log.number + batch ≤ s.log.sup.first + n) (sym same) a.numbers.number;
+          number = subst (λ (n : ℕ). s.log.number + batch ≤ 2 ^ 61 + n) (sym same) a.numbers.number;
           commits = subst (λ (n : ℕ). n + length s.pending ≤ length s.book.entries) (sym same) a.numbers.commits;
           entries = a.numbers.entries;
         };
@@ -293,7 +290,7 @@ bad_end s d s' d' f sound a ended =
         space = a.space;
         flights = sym (ap (map (λ (x : Flight). x.ticket)) landed.none);
         few = omega arith;
-        numbers = record { first = a.numbers.first; number = a.numbers.number; commits = a.numbers.commits; entries = a.numbers.entries };
+        numbers = record { number = a.numbers.number; commits = a.numbers.commits; entries = a.numbers.entries };
         book = record { acks = a.book.acks; within = a.book.within };
         events = few (work_left u) (work_left t) s.events (2 ^ 61 + 64 * length s.book.entries) falls a.events;
       };

@@ -123,8 +123,7 @@ sealable s x b d a fits reserved room one ops none = record {
   context = x;
   one = one;
   fit = subst AllFit (sym ops) (batch_fits x fits);
-  number = low s.log.number _ s.log.sup.first (length s.book.commits) (length s.pending) (length s.book.entries)
-      a.numbers.number a.numbers.first a.numbers.commits a.numbers.entries;
+  number = low s.log.number _ (length s.book.commits) (length s.pending) (length s.book.entries) a.numbers.number a.numbers.commits a.numbers.entries;
   body = short_body s.log.number (batch_ops b) units;
   units = units;
   room = behind s.log.tail s.log.reserved s.log.sup.half x.need room reserved fits.need;
@@ -134,9 +133,9 @@ sealable s x b d a fits reserved room one ops none = record {
     units : unit_count s.log.number (batch_ops b) ≡ 1
     units = ap (unit_count s.log.number) ops ∙ one_unit x fits s.log.number
 
-    low : (number batch first commits pending entries : ℕ) → number + batch ≤ first + commits → first ≤ 2 ^ 61 → commits + pending ≤ entries
-        → entries ≤ 1048576 → number < 2 ^ 62
-    low number batch first commits pending entries le few less most = omega arith
+    low : (number batch commits pending entries : ℕ) → number + batch ≤ 2 ^ 61 + commits → commits + pending ≤ entries → entries ≤ 1048576
+        → number < 2 ^ 62
+    low number batch commits pending entries le less most = omega arith
 
     behind : (tail reserved half need : ℕ) → tail + reserved ≤ half → reserved ≡ need + 0 → need ≡ 1 → tail + 1 ≤ half
     behind tail reserved half need le is one = omega arith

@@ -2,8 +2,6 @@
 use Rattle.std.proofs.Common.{◌≡◌, inl, inr, ℕ, ◌^◌, ◌<◌, ◌≤◌, true, [], Option, Some, None, refl, sym, ap, subst, ◌∙◌}
 use Rattle.block_device.specs.Disk.{Disk, IsSound}
 use Rattle.block_device.specs.declared.device.Ticket.{Ticket}
-use Rattle.meta_log.specs.declared.slot.Super.{Super}
-use Rattle.meta_log.specs.Slots.{IsSuper}
 use Rattle.object_model.specs.Effect.{Change}
 use Rattle.object_model.specs.declared.command.Answer.{Answer}
 use Rattle.unit_allocator.specs.Units.{Space}
@@ -13,11 +11,11 @@ use Rattle.store_steps.specs.State.{State}
 use Rattle.store_steps.specs.Changes.{down_by}
 use Rattle.store_steps.specs.Ready.{is_ready}
 use Rattle.store_steps.specs.Submit.{Accepts, Refuses}
-use Rattle.store_steps.specs.Opened.{opened, IsAllFree}
+use Rattle.store_steps.specs.Opened.{Found, opened}
 use Rattle.store_steps.specs.Runs.{DoesOrFails, MaySubmit}
-use Rattle.store_facts.specs.Space.{IsSpaceOf, uncommitted}
+use Rattle.store_facts.specs.Space.{uncommitted}
 use Rattle.store_facts.specs.Work.{measure}
-use Rattle.store_facts.specs.Kept.{IsKept, IsKeptUp}
+use Rattle.store_facts.specs.Kept.{IsKept, IsKeptUp, IsOpenable}
 use Rattle.store_facts.proofs.Conditions.{ready_not_down, IsIdle, drained_is_idle}
 use Rattle.store_facts.proofs.Submitting.{accepts_keeps, refuses_keeps, opened_keeps}
 use Rattle.store_facts.proofs.Keeping.{Leaves, step_leaves, stepped_kept, admitted_kept, opened_kept, fallen_kept, waited_kept, work_falls}
@@ -88,11 +86,10 @@ kept_refuse s s' d client line change a kept may does =
 
 -- ---- opening
 
-pub kept_open : (sup : Super) (space : Space) (events : ℕ) (d : Disk) → IsSound d → d.flights ≡ [] → IsSuper sup → sup.units ≡ d.units
-    → sup.first ≤ 2 ^ 61 → events < 2 ^ 61
-    → IsSpaceOf sup space → IsAllFree sup space → IsKept (opened sup space events) d
-kept_open sup space events d sound idle limits units first few is free =
-    opened_kept (opened sup space events) d (opened_keeps sup space events d sound idle limits units first few is) (opened_rows sup space events is free)
+pub kept_open : (f : Found) (space : Space) (events : ℕ) (d : Disk) → IsSound d → d.flights ≡ [] → events ≤ 2 ^ 61 → IsOpenable f space d.units
+    → IsKept (opened f space events) d
+kept_open f space events d sound idle few is =
+    opened_kept (opened f space events) d (opened_keeps f space events d sound idle few is) (opened_rows f space events d.units is)
 
 -- ---- for the laws
 

@@ -67,8 +67,7 @@ moved s d d' g g' e a room h h' like sound units flights less more =
         flights = flights;
         few = few_fly g';
         numbers = record {
-          first = a.numbers.first;
-          number = subst (λ (n : ℕ). s.log.number + n ≤ s.log.sup.first + length s.book.commits) (sym like.in_batch) a.numbers.number;
+          number = subst (λ (n : ℕ). s.log.number + n ≤ 2 ^ 61 + length s.book.commits) (sym like.in_batch) a.numbers.number;
           commits = subst (λ (n : ℕ). length s.book.commits + n ≤ length s.book.entries) (sym like.waiting) a.numbers.commits;
           entries = a.numbers.entries;
         };

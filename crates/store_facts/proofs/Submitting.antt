@@ -12,8 +12,6 @@ use Rattle.object_model.specs.declared.command.Answer.TheVariants as answer
 use Rattle.object_model.specs.declared.book.Entry.{Entry}
 use Rattle.meta_rows.specs.Rows.{Rows}
 use Rattle.meta_rows.specs.Spelling.{AllFit}
-use Rattle.meta_log.specs.declared.slot.Super.{Super}
-use Rattle.meta_log.specs.Slots.{IsSuper}
 use Rattle.meta_log.specs.Records.{unit_count}
 use Rattle.row_facts.specs.Operations.{coll_ops, page_ops}
 use Rattle.row_facts.proofs.Lengths.{coll_fits, coll_short, page_fits, page_short, one_unit}
@@ -26,11 +24,11 @@ use Rattle.store_steps.specs.declared.plan.Plan.{Plan}
 use Rattle.store_steps.specs.Planning.{Plans}
 use Rattle.store_steps.specs.Ready.{is_ready_up, is_drained}
 use Rattle.store_steps.specs.Submit.{IsKnown, HasNames, Accepts, Refuses, need_of, context_of, noted, accepted_with}
-use Rattle.store_steps.specs.Opened.{opened}
+use Rattle.store_steps.specs.Opened.{Found, opened}
 use Rattle.store_facts.specs.Room.{FitsRecord, HasRoomFor}
-use Rattle.store_facts.specs.Space.{uncommitted, IsSpaceOf}
+use Rattle.store_facts.specs.Space.{uncommitted}
 use Rattle.store_facts.specs.Work.{work_left}
-use Rattle.store_facts.specs.Kept.{IsAlwaysKept}
+use Rattle.store_facts.specs.Kept.{IsAlwaysKept, IsOpenable}
 use Rattle.store_facts.proofs.Stages.{Stage, idle, waits, Holds, at, IsFar, far_at, by_stage}
 use Rattle.store_facts.proofs.Pieces.{alone_fits}
 use Rattle.store_facts.proofs.Readiness.{contexts_of, none_ready, ready_up, drained_idle}
@@ -113,7 +111,6 @@ accepted_idle s d client line change plan p fits below a room =
         flights = a.flights;
         few = a.few;
         numbers = record {
-          first = a.numbers.first;
           number = a.numbers.number;
           commits = omega (arith, entries, a.numbers.commits);
           entries = omega (arith, entries, below);
@@ -172,7 +169,6 @@ noted_keeps s d client line change a far kept room below =
         flights = kept.flights;
         few = kept.few;
         numbers = record {
-          first = kept.numbers.first;
           number = kept.numbers.number;
           commits = omega (arith, entries, kept.numbers.commits);
           entries = omega (arith, entries, below);
@@ -206,22 +202,21 @@ pub record IsOpened (s : State) (d : Disk) : Type 0 where
   pub far : IsFar s
   pub room : HasRoomFor s.log (uncommitted s)
 
-pub opened_keeps : (sup : Super) (space : Space) (events : ℕ) (d : Disk) → IsSound d → d.flights ≡ [] → IsSuper sup → sup.units ≡ d.units
-    → sup.first ≤ 2 ^ 61 → events < 2 ^ 61
-    → IsSpaceOf sup space → IsOpened (opened sup space events) d
-opened_keeps sup space events d sound none limits units first few is_space = record {
+pub opened_keeps : (f : Found) (space : Space) (events : ℕ) (d : Disk) → IsSound d → d.flights ≡ [] → events ≤ 2 ^ 61 → IsOpenable f space d.units
+    → IsOpened (opened f space events) d
+opened_keeps f space events d sound none few is = record {
   always = record {
     device = sound;
-    limits = limits;
-    units = units;
-    space = is_space;
+    limits = is.limits;
+    units = is.units_are;
+    space = is.space;
     flights = sym (ap (map (λ f. f.ticket)) none);
     few = omega arith;
-    numbers = record { first = first; number = omega arith; commits = omega arith; entries = omega arith };
+    numbers = record { number = omega (arith, is.number); commits = omega arith; entries = omega arith };
     book = record { acks = λ i. tt; within = omega arith };
     events = omega arith;
   };
   up = refl;
   far = (refl, refl);
-  room = record { fits = All-nil FitsRecord; reserved = refl; room = omega arith };
+  room = record { fits = All-nil FitsRecord; reserved = refl; room = omega (arith, is.tail) };
 }

@@ -1,8 +1,10 @@
 -- What the kernel keeps, whatever its device tells.
-use Rattle.std.specs.Prelude.{◌≡◌, ◌+◌, ◌*◌, ◌≤◌, ◌^◌, [], length, None, is_some, true}
+use Rattle.std.specs.Prelude.{◌≡◌, ℕ, ◌+◌, ◌*◌, ◌≤◌, ◌^◌, [], length, None, is_some, true}
 use Rattle.block_device.specs.Disk.{Disk, IsSound}
 use Rattle.meta_log.specs.Slots.{IsSuper}
+use Rattle.unit_allocator.specs.Units.{Space}
 use Rattle.store_steps.specs.State.{State}
+use Rattle.store_steps.specs.Opened.{Found}
 use Rattle.store_facts.specs.Flights.{AreFlights, IsOneAtATime}
 use Rattle.store_facts.specs.Space.{uncommitted, rows_with, AreGoodRows, IsSpaceOf, IsFreeExactly, ReleasesExactly}
 use Rattle.store_facts.specs.Room.{HasRoomFor, AreNumbersLow, IsBookKept}
@@ -34,3 +36,13 @@ pub record IsKept (s : State) (d : Disk) : Type 0 where
   pub always : IsAlwaysKept s d
   pub up : s.down ≡ None → IsKeptUp s
   pub down : is_some s.down ≡ true → s.flying ≡ []
+
+-- What a kernel asks of the store that it is opened on, whose device has so many units.
+pub record IsOpenable (f : Found) (s : Space) (units : ℕ) : Type 0 where
+  pub limits : IsSuper f.sup
+  pub units_are : f.sup.units ≡ units
+  pub number : f.number ≤ 2 ^ 61
+  pub tail : f.tail ≤ f.sup.half
+  pub good : AreGoodRows f.sup f.rows
+  pub space : IsSpaceOf f.sup s
+  pub free : IsFreeExactly f.sup f.rows f.rows s

@@ -22,10 +22,10 @@ pub record HasRoomFor (m : Log) (contexts : List Context) : Type 0 where
   pub reserved : m.reserved ≡ sum_needs contexts
   pub room : m.tail + m.reserved ≤ m.sup.half
 
--- Numbers stay far below 2^62: a record has a commit, and so has each context of the open batch; a commit has an entry, and entries are at most 1048576.
+-- Numbers stay far below 2^62: a record since the mount has a commit, and so has each context of the open batch; a commit has an entry, and
+-- entries are at most 1048576.
 pub record AreNumbersLow (s : State) : Type 0 where
-  pub first : s.log.sup.first ≤ 2 ^ 61
-  pub number : s.log.number + option_map_or (λ b. length b.contexts) s.batch 0 ≤ s.log.sup.first + length s.book.commits
+  pub number : s.log.number + option_map_or (λ b. length b.contexts) s.batch 0 ≤ 2 ^ 61 + length s.book.commits
   pub commits : length s.book.commits + length s.pending ≤ length s.book.entries
   pub entries : length s.book.entries ≤ 1048576
 

@@ -1,8 +1,6 @@
 //! What the kernel keeps, and that its steps come to an end. Each function has laws for its contract and does nothing.
 ghost use Rattle.std.specs.Prelude.{◌≡◌, ◌≢◌, ℕ, ◌+◌, ◌^◌, ◌<◌, ◌≤◌, true, [], length, Some, None};
 ghost use Rattle.block_device.specs.Disk.{Disk, IsSound};
-ghost use Rattle.meta_log.specs.declared.slot.Super.{Super};
-ghost use Rattle.meta_log.specs.Slots.{IsSuper};
 ghost use Rattle.meta_log.specs.Records.{unit_count};
 ghost use Rattle.object_model.specs.Effect.{Change};
 ghost use Rattle.object_model.specs.declared.command.Answer.{Answer};
@@ -11,13 +9,12 @@ ghost use Rattle.store_steps.specs.declared.step.Step.{Step};
 ghost use Rattle.store_steps.specs.declared.step.Step.TheVariants.{Data, Flush, Seal, Record, Sync};
 ghost use Rattle.store_steps.specs.State.{Batch, State};
 ghost use Rattle.store_steps.specs.Contexts.{Unsent, next_unsent, batch_ops};
-ghost use Rattle.store_steps.specs.Opened.{opened, IsAllFree};
+ghost use Rattle.store_steps.specs.Opened.{Found, opened};
 ghost use Rattle.store_steps.specs.Ready.{is_ready, is_drained};
 ghost use Rattle.store_steps.specs.Runs.{DoesOrFails, MaySubmit};
 ghost use Rattle.store_steps.specs.Submit.{Accepts, Refuses};
-ghost use Rattle.store_facts.specs.Space.{IsSpaceOf};
 ghost use Rattle.store_facts.specs.Work.{measure};
-ghost use Rattle.store_facts.specs.Kept.{IsKept};
+ghost use Rattle.store_facts.specs.Kept.{IsKept, IsOpenable};
 
 /// Each step that is ready keeps what the kernel keeps, whatever the device answers, and leaves less to do or fewer answers None
 /// in a row: so steps come to an end.
@@ -38,10 +35,10 @@ pub fn transactions_keep()
         → Refuses client line change a s s' → IsKept s' d }
 {}
 
-/// A kernel that was opened on a store without records keeps it from the start.
+/// A kernel that is opened on a store with good rows keeps it from the start.
 pub fn opened_keeps()
-    ensures { (sup : Super) (space : Space) (events : ℕ) (d : Disk) → IsSound d → d.flights ≡ [] → IsSuper sup → sup.units ≡ d.units
-        → sup.first ≤ 2 ^ 61 → events < 2 ^ 61 → IsSpaceOf sup space → IsAllFree sup space → IsKept (opened sup space events) d }
+    ensures { (f : Found) (space : Space) (events : ℕ) (d : Disk) → IsSound d → d.flights ≡ [] → events ≤ 2 ^ 61
+        → IsOpenable f space d.units → IsKept (opened f space events) d }
 {}
 
 /// A drained kernel that isn't down has nothing under way: no context, no batch, nothing in flight, and each commit is acknowledged.

@@ -1,16 +1,22 @@
--- The state of a kernel that was opened on a store without records.
-use Rattle.std.specs.Prelude.{◌≡◌, ℕ, [], None, true}
-use Rattle.std.specs.FinMap as map
+-- What a mount finds, and the state of a kernel that is opened on it.
+use Rattle.std.specs.Prelude.{ℕ, [], None}
+use Rattle.meta_rows.specs.Rows.{Rows}
 use Rattle.meta_log.specs.declared.slot.Super.{Super}
-use Rattle.store_image.specs.Owners.{IsDataUnit}
-use Rattle.unit_allocator.specs.Units.{Space, is_free}
+use Rattle.unit_allocator.specs.Units.{Space}
 use Rattle.store_steps.specs.State.{State}
 
--- no rows, nothing under way, an empty book
-abbrev pub opened : Super → Space → ℕ → State
-opened sup space events = record {
-  log = record { sup = sup; rows = map.empty; tail = 0; number = sup.first; reserved = 0; begun = None };
-  view = map.empty;
+-- What a mount finds in the log: the super, the rows that its records make, the units of the active half that they take, and the number of the next one.
+pub record Found : Type 0 where
+  pub sup : Super
+  pub rows : Rows
+  pub tail : ℕ
+  pub number : ℕ
+
+-- the rows are committed, nothing is under way, and the book is empty
+abbrev pub opened : Found → Space → ℕ → State
+opened f space events = record {
+  log = record { sup = f.sup; rows = f.rows; tail = f.tail; number = f.number; reserved = 0; begun = None };
+  view = f.rows;
   pending = [];
   batch = None;
   flying = [];
@@ -20,7 +26,3 @@ opened sup space events = record {
   book = record { entries = []; commits = [] };
   acked = 0;
 }
-
--- each data unit is free
-abbrev pub IsAllFree : Super → Space → Type 0
-IsAllFree sup space = (unit : ℕ) → IsDataUnit sup unit → is_free space unit ≡ true

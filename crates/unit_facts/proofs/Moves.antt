@@ -233,7 +233,7 @@ flush_goes_on s d h s' d' =
 number_low : (s : State) (d : Disk) (h : History) → Before s d h → s.log.number < 2 ^ 62
 number_low s d h b =
     let n = b.always.numbers in
-    omega (arith, n.first, n.number, n.commits, n.entries)
+    omega (arith, n.number, n.commits, n.entries)
 
 -- there is room behind the tail for the record of a context
 room_behind : (s : State) (d : Disk) (h : History) (x : Context) → Before s d h → uncommitted s ≡ x ∷ []

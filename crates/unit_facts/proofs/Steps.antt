@@ -5,7 +5,7 @@ use Rattle.std.specs.List.{AllByRecursion}
 use Rattle.std.specs.Option.{option_map_or}
 use Rattle.std.proofs.lemmas.List.{take_all}
 use Rattle.std.proofs.lemmas.List.Elements.{All-nil}
-use Rattle.byte_maps.specs.Units.{units_from, zeros, IsUnits}
+use Rattle.byte_maps.specs.Units.{units_from, IsUnits}
 use Rattle.byte_maps.proofs.UnitLemmas.{unit_at-whole, length-units_from}
 use Rattle.block_device.specs.Log.{last, WritesUnit, WritesNothing, IsClean}
 use Rattle.block_device.specs.Disk.{Disk, History, Flight, Submitted, Reaped, Waited, IsApart}
@@ -13,20 +13,19 @@ use Rattle.block_device.specs.Facts.{with_event, last_at, Fits, IsUnflown}
 use Rattle.block_device.specs.declared.device.Ticket.{Ticket}
 use Rattle.block_device.specs.declared.event.Event.{Event}
 use Rattle.block_device.specs.declared.event.Event.TheVariants.{Write, Flush, Done}
-use Rattle.block_device.proofs.LogLemmas.{clean_push, slice_get-lt}
+use Rattle.block_device.proofs.LogLemmas.{clean_push}
 use Rattle.block_device.proofs.QuietLemmas.{written_unit}
 use Rattle.object_model.specs.Effect.{Change}
 use Rattle.object_model.specs.declared.book.Book.{Book}
 use Rattle.meta_rows.specs.declared.row_op.RowOp.{RowOp}
-use Rattle.meta_log.specs.declared.slot.Super.{Super}
-use Rattle.meta_log.specs.Slots.{active_unit, IsSuper, IsActiveSlot}
+use Rattle.meta_log.specs.Slots.{active_unit, IsSuper}
 use Rattle.meta_log.specs.Records.{unit_count, record_units}
 use Rattle.meta_log.specs.Pieces.{piece_first, piece_units, given_from}
 use Rattle.store_image.specs.Owners.{IsDataUnit}
 use Rattle.log_facts.specs.Flushing.{not_sent, sent, flushed}
+use Rattle.log_facts.specs.SlotFacts.{SlotsStand}
 use Rattle.log_facts.specs.HalfFacts.{ActiveHalfStands, IsSpellable}
 use Rattle.log_facts.proofs.Keeping.{data_spares_slots, data_spares_half, half_spares_slots, half_before_data, slots_push, half_push, slots_quiet, half_quiet}
-use Rattle.log_facts.proofs.Mounting.{fresh_slots, fresh_half}
 use Rattle.log_facts.proofs.Writing.{half_begin, half_piece, half_sync, half_synced, half_commit}
 use Rattle.log_facts.proofs.Joins.{length-record_units}
 use Rattle.unit_allocator.specs.Units.{Space}
@@ -37,7 +36,7 @@ use Rattle.store_steps.specs.State.{Begun, Log, Batch, State}
 use Rattle.store_steps.specs.Contexts.{given_more, done_more}
 use Rattle.store_steps.specs.declared.plan.Plan.{Plan}
 use Rattle.store_steps.specs.Submit.{accepted_with}
-use Rattle.store_steps.specs.Opened.{opened}
+use Rattle.store_steps.specs.Opened.{Found, opened}
 use Rattle.store_steps.specs.Changes.{committed_batch}
 use Rattle.store_steps.specs.Steps.{piece_unit, piece_bytes}
 use Rattle.store_facts.specs.Space.{uncommitted}
@@ -437,19 +436,14 @@ waited_known base s d d' h (inr more) known = record {
 
 -- ---- a store that was just opened
 
-pub opened_known : (sup : Super) (space : Space) (d : Disk) (h : History) → d.history ≡ Some h → d.flights ≡ []
-    → ((unit : ℕ) → IsClean h.log unit)
-    → IsActiveSlot (last h.start h.log) sup → ((k : ℕ) → k < sup.half → last_at h (active_unit sup + k) ≡ zeros 4096)
-    → KnownOfUnits (length h.log) (opened sup space 0) d h
-opened_known sup space d h told none clean active zeroed = record {
+pub opened_known : (base : ℕ) (f : Found) (recs : List (List RowOp)) (space : Space) (events : ℕ) (d : Disk) (h : History) → d.history ≡ Some h
+    → d.flights ≡ [] → IsAnsweredSince base h [] events → ((unit : ℕ) → IsClean h.log unit) → SlotsStand h f.sup
+    → ActiveHalfStands h f.sup f.rows f.tail f.number None 0 not_sent recs → KnownOfUnits base (opened f space events) d h
+opened_known base f recs space events d h told none answered clean slots half = record {
   told = told;
-  answered = record {
-    quiet = λ k. subst (λ (l : List Event). IsClean l k) (sym (take_all (length h.log) h.log (omega arith))) (clean k);
-    each = λ place e from there submission. absurd (omega (arith, from, slice_get-lt h.log e place there));
-    counted = omega arith;
-  };
-  slots = fresh_slots h sup clean active;
-  half = record { recs = []; stands = fresh_half h sup clean zeroed };
+  answered = subst (λ (l : List Flight). IsAnsweredSince base h l events) (sym none) answered;
+  slots = slots;
+  half = record { recs = recs; stands = half };
   clean = λ unit on other. clean unit;
   held = tt;
   flushed = tt;

@@ -1,25 +1,26 @@
 //! What is known of a quiet device, how each call keeps it, and what follows once a kernel is drained.
-ghost use Rattle.std.specs.Prelude.{◌≡◌, ℕ, ◌+◌, ◌<◌, true, List, [], length, Some, None};
-ghost use Rattle.byte_maps.specs.Units.{zeros};
-ghost use Rattle.block_device.specs.Log.{last, IsClean};
+ghost use Rattle.std.specs.Prelude.{◌≡◌, ℕ, true, List, [], Some, None};
+ghost use Rattle.block_device.specs.Log.{IsClean};
 ghost use Rattle.block_device.specs.Disk.{Disk, History};
-ghost use Rattle.block_device.specs.Facts.{last_at};
-ghost use Rattle.meta_log.specs.declared.slot.Super.{Super};
-ghost use Rattle.meta_log.specs.Slots.{active_unit, IsActiveSlot};
+ghost use Rattle.meta_rows.specs.declared.row_op.RowOp.{RowOp};
+ghost use Rattle.log_facts.specs.Flushing.{not_sent};
+ghost use Rattle.log_facts.specs.SlotFacts.{SlotsStand};
+ghost use Rattle.log_facts.specs.HalfFacts.{ActiveHalfStands};
 ghost use Rattle.unit_allocator.specs.Units.{Space};
 ghost use Rattle.store_steps.specs.State.{State};
 ghost use Rattle.store_steps.specs.Ready.{is_drained};
-ghost use Rattle.store_steps.specs.Opened.{opened};
+ghost use Rattle.store_steps.specs.Opened.{Found, opened};
 ghost use Rattle.store_steps.specs.Runs.{Call, Calls, IsRun};
 ghost use Rattle.store_facts.specs.Kept.{IsKept};
-ghost use Rattle.unit_facts.specs.Known.{KnownOfUnits, Knows};
+ghost use Rattle.unit_facts.specs.Known.{IsAnsweredSince, KnownOfUnits, Knows};
 
-/// A device without a dirty unit, where nothing is in flight, is known from the active slot and an active half that is all zeros.
+/// A device without a dirty unit, where nothing is in flight and all events since a quiet moment are counted, is known from its slots and
+/// from the records in the active half, with zeros behind them.
 pub fn a_found_device_is_known()
-    ensures { (sup : Super) (space : Space) (d : Disk) (h : History) → d.history ≡ Some h → d.flights ≡ [] →
-        ((unit : ℕ) → IsClean h.log unit) → IsActiveSlot (last h.start h.log) sup →
-        ((k : ℕ) → k < sup.half → last_at h (active_unit sup + k) ≡ zeros 4096) →
-        KnownOfUnits (length h.log) (opened sup space 0) d h }
+    ensures { (base : ℕ) (f : Found) (recs : List (List RowOp)) (space : Space) (events : ℕ) (d : Disk) (h : History) →
+        d.history ≡ Some h → d.flights ≡ [] → IsAnsweredSince base h [] events → ((unit : ℕ) → IsClean h.log unit) →
+        SlotsStand h f.sup → ActiveHalfStands h f.sup f.rows f.tail f.number None 0 not_sent recs →
+        KnownOfUnits base (opened f space events) d h }
 {}
 
 /// Each call of a kernel that keeps its facts leaves the device known, where the kernel is up behind it: by the history that

@@ -1,0 +1,8 @@
+use Rattle.crash_facts.proofs.Runs.{end_stands, end_clean}
+use Rattle.crash_facts.proofs.laws.a_drained_run_stands.Goals as goal
+
+pub returns-clause-stands : goal.returns-clause-stands
+returns-clause-stands c = end_stands
+
+pub returns-clause-clean : goal.returns-clause-clean
+returns-clause-clean c = end_clean

@@ -6,3 +6,4 @@ pub mod Ending
 pub mod Opening
 pub mod Keeping
 pub mod ZeroDevice
+pub mod NoRecords

@@ -1,8 +1,6 @@
--- The kernel of a store without rows.
-use Rattle.std.proofs.Common.{◌≡◌, ℕ, zero, suc, ◌-◌, Bool, true, false, not, ◌||◌, cond, filter, None, List, [], ◌∷◌, length, replicate, get_or, Result, Ok, Err, IfOk, refl, sym, ap, subst, ◌∙◌, arith}
-use Rattle.std.specs.declared.alloc.AllocError.{AllocError}
+-- A kernel as it is opened, and the units of a new allocator.
+use Rattle.std.proofs.Common.{◌≡◌, ℕ, zero, suc, ◌-◌, Bool, true, false, not, ◌||◌, cond, filter, Option, None, List, [], ◌∷◌, length, replicate, get_or, refl, ap, ◌∙◌, arith}
 use Rattle.std.specs.List.{range_with_len, list_any}
-use Rattle.std.specs.FinMap as map
 use Rattle.std.specs.FinSet as set
 use Rattle.std.specs.Ordering.{nat_cmp}
 use Rattle.std.proofs.Math.ListN.{length-set}
@@ -10,15 +8,16 @@ use Rattle.std.proofs.lemmas.List.{length-replicate}
 use Rattle.meta_log.specs.declared.slot.Super.{Super}
 use Rattle.meta_log.specs.Slots.{IsSuper, data_unit}
 use Rattle.meta_rows.specs.Rows.{Rows}
-use Rattle.meta_store.specs.Store.{Meta, empty_meta}
+use Rattle.meta_store.specs.Store.{Begun, Meta}
 use Rattle.object_model.specs.declared.book.Entry.{Entry}
 use Rattle.object_model.specs.declared.book.Commit.{Commit}
-use Rattle.unit_allocator.specs.Units.{Space, given_one, freed_from, no_idle_units}
+use Rattle.unit_allocator.specs.Units.{Space, is_free, given_one, freed_from, no_idle_units}
 use Rattle.unit_allocator.proofs.Fresh.{new_is_free, new_is_unheld}
-use Rattle.store_steps.specs.Opened.{opened, IsAllFree}
+use Rattle.store_image.specs.Owners.{IsDataUnit}
+use Rattle.store_steps.specs.Opened.{opened}
 use Rattle.store_steps.specs.Ready.{is_empty}
 use Rattle.store_steps.specs.declared.step.Step.{Step}
-use Rattle.store_kernel.specs.Seen.{state_of}
+use Rattle.store_kernel.specs.Seen.{found_of, IsUnused, state_of}
 use Rattle.store_facts.specs.Space.{IsSpaceOf}
 
 -- a new allocator has the range that it was made for
@@ -42,7 +41,7 @@ all_alike (suc n) (suc i) x = all_alike n i x
 abbrev pub new_space : ℕ → ℕ → set.FinSet nat_cmp → Space
 new_space first end busy = freed_from (no_idle_units first (end - first)) busy (range_with_len first (end - first))
 
-new_space_is : (sup : Super) (first end : ℕ) (busy : set.FinSet nat_cmp) → IsSuper sup → first ≡ data_unit sup → end ≡ sup.units → IsSpaceOf sup (new_space first end busy)
+pub new_space_is : (sup : Super) (first end : ℕ) (busy : set.FinSet nat_cmp) → IsSuper sup → first ≡ data_unit sup → end ≡ sup.units → IsSpaceOf sup (new_space first end busy)
 new_space_is sup first end busy limits from to =
     let range = same_range (no_idle_units first (end - first)) busy (range_with_len first (end - first)) in
     record {
@@ -53,30 +52,23 @@ new_space_is sup first end busy limits from to =
           ∙ all_alike (end - first) (unit - (new_space first end busy).first) 0;
     }
 
-new_space_free : (sup : Super) (first end : ℕ) (busy : set.FinSet nat_cmp) → IsSuper sup → first ≡ data_unit sup → end ≡ sup.units → busy ≡ set.empty → IsAllFree sup (new_space first end busy)
-new_space_free sup first end busy limits from to none unit on =
+-- a data unit is free there exactly where it isn't busy
+pub new_space_free : (sup : Super) (first end : ℕ) (busy : set.FinSet nat_cmp) → IsSuper sup → first ≡ data_unit sup → end ≡ sup.units
+    → (unit : ℕ) → IsDataUnit sup unit → is_free (new_space first end busy) unit ≡ not (set.contains busy unit)
+new_space_free sup first end busy limits from to unit on =
     new_is_free first (end - first) busy unit (omega (arith, from, on.0)) (omega (arith, from, to, on.1, limits.room))
-    ∙ ap (λ (b : set.FinSet nat_cmp). not (set.contains b unit)) none ∙ ap not (set.contains-empty nat_cmp unit)
-
-pub made_space : (made : Result Space AllocError) (sup : Super) (first end : ℕ) (busy : set.FinSet nat_cmp) → IsSuper sup → first ≡ data_unit sup → end ≡ sup.units
-    → IfOk made (λ space. space ≡ new_space first end busy) → IfOk made (IsSpaceOf sup)
-made_space (Ok space) sup first end busy limits from to is = subst (IsSpaceOf sup) (sym is) (new_space_is sup first end busy limits from to)
-made_space (Err e) sup first end busy limits from to is = tt
-
-pub made_free : (made : Result Space AllocError) (sup : Super) (first end : ℕ) (busy : set.FinSet nat_cmp) → IsSuper sup → first ≡ data_unit sup → end ≡ sup.units → busy ≡ set.empty
-    → IfOk made (λ space. space ≡ new_space first end busy) → IfOk made (IsAllFree sup)
-made_free (Ok space) sup first end busy limits from to none is = subst (IsAllFree sup) (sym is) (new_space_free sup first end busy limits from to none)
-made_free (Err e) sup first end busy limits from to none is = tt
 
 -- the state of the kernel's fields as they begin
-pub opened_is : (m : Meta) (rows : Rows) (entries : List Entry) (commits : List Commit) (sup : Super) (space : Space) (events : ℕ)
-    → m ≡ empty_meta sup → rows ≡ map.empty → entries ≡ [] → commits ≡ []
-    → state_of m rows None None None None events space entries commits 0 ≡ opened sup space events
-opened_is m rows entries commits sup space events one two three four =
-    ap (λ (x : Meta). state_of x rows None None None None events space entries commits 0) one
-    ∙ ap (λ (x : Rows). state_of (empty_meta sup) x None None None None events space entries commits 0) two
-    ∙ ap (λ (x : List Entry). state_of (empty_meta sup) map.empty None None None None events space x commits 0) three
-    ∙ ap (λ (x : List Commit). state_of (empty_meta sup) map.empty None None None None events space [] x 0) four
+pub opened_is : (m : Meta) (rows : Rows) (entries : List Entry) (commits : List Commit) (space : Space) (events : ℕ)
+    → IsUnused m → rows ≡ m.rows → entries ≡ [] → commits ≡ []
+    → state_of m rows None None None None events space entries commits 0 ≡ opened (found_of m) space events
+opened_is m rows entries commits space events unused same none_entered none_committed =
+    ap (λ (x : Rows). state_of m x None None None None events space entries commits 0) same
+    ∙ ap (λ (x : List Entry). state_of m m.rows None None None None events space x commits 0) none_entered
+    ∙ ap (λ (x : List Commit). state_of m m.rows None None None None events space [] x 0) none_committed
+    ∙ ap (λ (r : ℕ). let t : Meta = record m { reserved = r } in state_of t m.rows None None None None events space [] [] 0) unused.none_reserved
+    ∙ ap (λ (b : Option Begun). let t : Meta = record m { reserved = 0; begun = b } in state_of t m.rows None None None None events space [] [] 0)
+    unused.none_begun
 
 -- no step is ready where none of them all is
 pub none_ready : (test : Step → Bool) (steps : List Step) → not (list_any test steps) ≡ is_empty (filter test steps)

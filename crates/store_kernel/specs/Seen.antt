@@ -1,5 +1,5 @@
 -- What clauses see of a kernel: its device, and its state as plain data.
-use Rattle.std.specs.Prelude.{ℕ, List, [], ◌∷◌, Option, Some, None}
+use Rattle.std.specs.Prelude.{◌≡◌, ℕ, List, [], ◌∷◌, Option, Some, None}
 use Rattle.std.specs.Option.{option_map}
 use Rattle.std.specs.Coded.{Coded, coded_ℕ, coded_list}
 use Rattle.std.specs.FinMap as map
@@ -12,6 +12,7 @@ use Rattle.unit_allocator.specs.Units.{Space}
 use Rattle.store_steps.specs.declared.context.Context.{Context}
 use Rattle.store_steps.specs.declared.flight.Flying.{Flying}
 use Rattle.store_steps.specs.State.{Begun, Log, Batch, State}
+use Rattle.store_steps.specs.Opened.{Found}
 use Rattle.store_kernel.specs.declared.batch.OpenBatch.{OpenBatch}
 
 -- at most one, as a list
@@ -36,6 +37,15 @@ log_of m = record {
   reserved = m.reserved;
   begun = option_map begun_of m.begun;
 }
+
+-- what a metadata store has that nobody has used yet: the super, the rows, and where the log stands
+abbrev pub found_of : meta.Meta → Found
+found_of m = record { sup = m.sup; rows = m.rows; tail = m.tail; number = m.number }
+
+-- nothing is set aside there, and no record is begun
+pub record IsUnused (m : meta.Meta) : Type 0 where
+  pub none_reserved : m.reserved ≡ 0
+  pub none_begun : m.begun ≡ None
 
 -- the state, of the kernel's fields
 abbrev pub state_of : meta.Meta → Rows → Option Context → Option OpenBatch → Option Flying → Option Ticket → ℕ → Space

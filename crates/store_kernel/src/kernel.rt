@@ -2,16 +2,14 @@
 ghost use Rattle.std.specs.Prelude.{◌≡◌, ◌≢◌, ℕ, ◌≤◌, ◌<◌, ◌^◌, ◌==◌, ◌&&◌, nat_lt, [], true, false, None, is_some, length, OnOk, OnErr, IfOk, IfErr, IsErrOf, MatchResult};
 ghost use Rattle.std.specs.List.{list_any};
 ghost use Rattle.block_device.specs.Disk.{Rose};
-ghost use Rattle.meta_log.specs.Slots.{IsSuper};
-ghost use Rattle.unit_allocator.specs.Units.{Space};
-ghost use Rattle.store_steps.specs.Opened.{opened, IsAllFree};
+ghost use Rattle.store_steps.specs.Opened.{opened};
 ghost use Rattle.store_steps.specs.Ready.{is_ready, is_ready_up, all_steps, is_drained, is_not_sent, is_flushed, batch_is, applied_count};
 ghost use Rattle.store_steps.specs.Steps.{Takes, Does};
 ghost use Rattle.store_steps.specs.Submit.{free_count};
 ghost use Rattle.store_steps.specs.declared.step.Step.TheVariants.{Reap};
-ghost use Rattle.store_facts.specs.Space.{IsSpaceOf};
 ghost use Rattle.store_facts.specs.Kept.{IsKept};
 ghost use Rattle.crash_facts.specs.Store.{KeepsDurable};
+ghost use Rattle.store_kernel.specs.Seen.{found_of, IsUnused};
 ghost use Rattle.store_kernel.specs.Steps.{TakesMemory};
 
 mod steps;
@@ -19,11 +17,9 @@ mod submitting;
 
 use crate::batch::{OpenBatch, flushed, not_sent};
 use crate::pending::{has_done, has_unsent};
-use crate::space::all_free;
 use crate::step_fail::StepFail;
 use block_device::{Device, Ticket};
 use byte_maps::Items;
-use meta_log::Super;
 use meta_rows::RowTable;
 use meta_store::MetaStore;
 use object_model::{Book, Commit, Entry};
@@ -109,27 +105,28 @@ impl<D: Device + Drop> Drop for Kernel<D> {
 }
 
 impl<D: Device> Kernel<D> {
-    /// The kernel of a store without records, over a device on which nothing is in flight. `events` is how many events the
-    /// device has had since the mount began. `mount` calls it, and shows that the kernel is durable from its start.
-    pub fn open(alloc: Global, device: D, sup: Super, events: u64) -> Result<Kernel<D>, D>
-        requires idle { (D.disk device).flights ≡ [] }
-        requires limits { IsSuper sup }
-        requires units { sup.units ≡ (D.disk device).units }
-        requires first { sup.first ≤ 2 ^ 61 }
-        requires events { events < 2 ^ 61 }
-        requires durable { (space : Space) → IsKept (opened sup space events) (D.disk device) → KeepsDurable (opened sup space events) (D.disk device) }
-        ensures ok { IfOk result (λ k. (space : Space) × (IsSpaceOf sup space × IsAllFree sup space × (k.state ≡ opened sup space events))) }
-        ensures disk { MatchResult result (λ k. D.disk k.device ≡ D.disk device) (λ back. D.disk back ≡ D.disk device) }
-        ensures faults { MatchResult result (λ k. D.faults k.device ≡ D.faults device) (λ back. D.faults back ≡ D.faults device) }
+    /// The kernel of a store whose rows and log are these, over a device on which nothing is in flight. The submitted rows are a copy
+    /// of the committed ones, and `space` has the data units that no row owns. `events` is how many events the device has had since
+    /// the mount began. `mount` calls it, and shows that the kernel is durable from its start.
+    pub fn open(
+        alloc: Global,
+        device: D,
+        meta: MetaStore,
+        view: RowTable,
+        space: Allocator,
+        events: u64,
+    ) -> Kernel<D>
+        requires fresh { IsUnused meta }
+        requires view { view.rows ≡ meta.rows }
+        requires kept { IsKept (opened (found_of meta) space events) (D.disk device) }
+        requires durable { KeepsDurable (opened (found_of meta) space events) (D.disk device) }
+        ensures state { result.state ≡ opened (found_of meta) space events }
+        ensures device { result.device ≡ device }
     {
-        let Ok(space) = all_free(alloc, &sup) else {
-            return Err(device);
-        };
-        let _ = device.units();
-        Ok(Kernel {
+        Kernel {
             device,
-            meta: MetaStore::empty(alloc, &sup),
-            view: RowTable::new(alloc),
+            meta,
+            view,
             pending: None,
             batch: None,
             flying: None,
@@ -139,7 +136,7 @@ impl<D: Device> Kernel<D> {
             entries: Vec::new(alloc),
             commits: Vec::new(alloc),
             acked: 0,
-        })
+        }
     }
 
     /// The device and the book. Nothing may be in flight.

@@ -1,28 +1,11 @@
 //! The data units that transactions take and give back.
-ghost use Rattle.std.specs.Prelude.{◌≡◌, ℕ, ◌+◌, ◌<◌, ◌≤◌, ◌^◌, true, false, length, map, Contains, IfOk};
-ghost use Rattle.meta_log.specs.Slots.{IsSuper};
+ghost use Rattle.std.specs.Prelude.{◌≡◌, ℕ, ◌+◌, ◌<◌, ◌≤◌, ◌^◌, true, false, length, map, Contains};
 ghost use Rattle.unit_allocator.specs.Units.{IsWithin, is_free, taken, given};
-ghost use Rattle.store_steps.specs.Opened.{IsAllFree};
-ghost use Rattle.store_facts.specs.Space.{IsSpaceOf};
 ghost use Rattle.store_kernel.specs.Units.{CanBeTaken, CanBeGiven};
 
-use meta_log::Super;
-use std::alloc::{AllocError, Global};
 use store_steps::FreshUnit;
 use unit_allocator::{Allocator, Run};
-use unit_fields::{UnitNo, UnitSet};
-
-/// The allocator of a store without rows: each data unit is free.
-pub fn all_free(alloc: Global, sup: &Super) -> Result<Allocator, AllocError>
-    requires { IsSuper sup.now }
-    ensures space { IfOk result (λ space. IsSpaceOf sup.now space) }
-    ensures free { IfOk result (λ space. IsAllFree sup.now space) }
-{
-    let first = UnitNo::new(2 + 2 * sup.half);
-    let end = UnitNo::new(sup.units);
-    let busy = UnitSet::new(alloc);
-    Allocator::new(alloc, first, end, &busy)
-}
+use unit_fields::UnitNo;
 
 /// Takes the units of a transaction, of which there is at most one.
 pub fn take_fresh(space: &mut Allocator, fresh: &[FreshUnit])

@@ -1,18 +1,25 @@
 //! Kernels over devices in memory.
-ghost use Rattle.std.specs.Prelude.{◌≡◌, ◌≤◌, ◌*◌, [], ◌∷◌, true, length, replicate, IfOk, IfSome};
+ghost use Rattle.std.specs.Prelude.{◌≡◌, ℕ, ◌≤◌, ◌*◌, [], ◌∷◌, true, length, replicate, IfOk, IfSome};
 ghost use Rattle.block_device.specs.Memory.{disk_of};
+ghost use Rattle.meta_log.specs.Slots.{IsSuper};
+ghost use Rattle.store_image.specs.Owners.{IsDataUnit};
+ghost use Rattle.unit_allocator.specs.Units.{is_free};
 ghost use Rattle.store_steps.specs.Ready.{is_ready};
 ghost use Rattle.store_steps.specs.Submit.{IsKnown};
+ghost use Rattle.store_facts.specs.Space.{IsSpaceOf};
 
 use super::*;
 use block_device::{Device, Kind, MemoryDevice};
 use byte_maps::Bytes;
 use meta_log::Super;
+use meta_rows::RowTable;
+use meta_store::MetaStore;
 use object_model::{Op, Refusal, Transaction};
-use std::alloc::Global;
+use std::alloc::{AllocError, Global};
 use std::test::Fail;
 use store_steps::Step;
-use unit_fields::{CollName, Name};
+use unit_allocator::Allocator;
+use unit_fields::{CollName, Name, UnitNo, UnitSet};
 
 // A device of so many units, all of them zeros, on which one flush fails, or none.
 fn device(alloc: Global, units: usize, failing: Option<u64>) -> Result<MemoryDevice, Fail>
@@ -26,6 +33,18 @@ fn device(alloc: Global, units: usize, failing: Option<u64>) -> Result<MemoryDev
         fails.push((Kind::Flush, number))?;
     }
     Ok(MemoryDevice::new(alloc, contents, Vec::new(alloc), fails)?)
+}
+
+// The data units of a store without rows: all are free.
+fn all_free(alloc: Global, sup: &Super) -> Result<Allocator, AllocError>
+    requires { IsSuper sup.now }
+    ensures space { IfOk result (IsSpaceOf sup.now) }
+    ensures free { IfOk result (λ space. (unit : ℕ) → IsDataUnit sup.now unit → is_free space unit ≡ true) }
+{
+    let first = UnitNo::new(2 + 2 * sup.half);
+    let end = UnitNo::new(sup.units);
+    let busy = UnitSet::new(alloc);
+    Allocator::new(alloc, first, end, &busy)
 }
 
 // A kernel over such a device, with halves of 8 units: its data units begin at 18.
@@ -44,10 +63,11 @@ fn kernel(alloc: Global, units: usize, failing: Option<u64>) -> Result<Kernel<Me
         epoch: 0,
         first: 0,
     };
-    match Kernel::open(alloc, device, sup, 0) {
-        Ok(kernel) => Ok(kernel),
-        Err(_) => Err("no memory".into()),
-    }
+    let space = all_free(alloc, &sup)?;
+    let rows = RowTable::new(alloc);
+    let meta = MetaStore::open(&sup, rows, 0, 0);
+    let view = RowTable::new(alloc);
+    Ok(Kernel::open(alloc, device, meta, view, space, 0))
 }
 
 fn one(alloc: Global, coll: CollName, op: Op) -> Result<Transaction, Fail>

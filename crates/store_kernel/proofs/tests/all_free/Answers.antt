@@ -1,5 +1,5 @@
-use Rattle.store_kernel.proofs.Opening.{made_space, made_free}
-use Rattle.store_kernel.proofs.space.all_free.Goals as goal
+use Rattle.store_kernel.proofs.NoRecords.{made_space, made_free}
+use Rattle.store_kernel.proofs.tests.all_free.Goals as goal
 
 pub returns-clause-space : goal.returns-clause-space
 returns-clause-space c =

@@ -5,6 +5,8 @@ use Rattle.std.proofs.lemmas.Bool.{cases_eq}
 use Rattle.std.proofs.lemmas.Bool.Decides.{nat_tests}
 use Rattle.block_device.specs.Disk.{Disk, Flight, grown, find_flight, without, Reaped, Waited}
 use Rattle.block_device.specs.declared.event.Event.TheVariants.{Done}
+use Rattle.block_device.specs.declared.device.Failed.{Failed}
+use Rattle.block_device.specs.declared.device.Failed.TheVariants.{Memory, Fault}
 use Rattle.mount_replay.specs.Calls.{IsOnly, Ended}
 
 -- whatever ticket is found among one is that one, and none is left without it
@@ -31,3 +33,8 @@ waited old mid new ticket waits only is (inl idle) =
 waited old mid new ticket waits only is (inr busy) =
     let now : mid.waits ≡ waits = ap (λ (d : Disk). d.waits) is in
     (omega (arith, busy.1, now), busy.2 ∙ ap (λ (d : Disk). record d { waits = d.waits + 1 }) is)
+
+-- a call failed by a fault, or memory ran out
+pub either_failure : (P : Type 0) (why : Failed) → (why ≡ Fault → P) → (why ≡ Memory → P) → P
+either_failure P Memory fault memory = memory refl
+either_failure P Fault fault memory = fault refl

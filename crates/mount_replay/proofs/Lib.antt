@@ -1,8 +1,13 @@
 pub mod CallLemmas
+pub mod RunLemmas
 pub mod ZeroLemmas
 pub mod StaleLemmas
 pub mod CleanLemmas
 pub mod MadeLemmas
+pub mod ClearLemmas
 pub mod OpeningLemmas
+pub mod ReplayLemmas
+pub mod DurableLemmas
 pub mod MountingLemmas
-pub mod NewStore
+pub mod JudgeLemmas
+pub mod MountLemmas

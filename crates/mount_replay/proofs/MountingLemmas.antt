@@ -1,6 +1,6 @@
 -- Steps that take the ends of what is in flight, one after another.
 use Rattle.std.proofs.Common.{◌≡◌, ◌≢◌, inl, inr, ℕ, ◌+◌, ◌-◌, ◌*◌, ◌<◌, Bool, true, false, List, [], ◌∷◌, ◌++◌, length, Option, None, Some}
-use Rattle.std.proofs.Common.{refl, sym, ap, subst, ◌∙◌, append_assoc, arith}
+use Rattle.std.proofs.Common.{refl, sym, ap, subst, ◌∙◌, arith}
 use Rattle.std.proofs.lemmas.List.Elements.{All-push, All-from_recursion}
 use Rattle.block_device.specs.declared.device.Ticket.{Ticket}
 use Rattle.block_device.specs.declared.event.Event.{Event}
@@ -16,7 +16,7 @@ use Rattle.store_steps.specs.Steps.{Takes}
 use Rattle.store_steps.specs.Runs.{Call, stepping, Calls, IsRun}
 use Rattle.mount_replay.specs.Calls.{Told, GoesOn, IsLater}
 use Rattle.mount_replay.specs.Mounting.{IsReapedTo}
-use Rattle.mount_replay.proofs.ZeroLemmas.{told_start, goes_on_same}
+use Rattle.mount_replay.proofs.ZeroLemmas.{told_start, goes_on_same, goes_on_join}
 use Rattle.mount_replay.proofs.MadeLemmas.{told_join}
 
 -- ---- runs
@@ -51,13 +51,6 @@ reaped_book ticket false s = refl
 told_grown : (o : Option History) (event : Event) → Told GoesOn o (grown o event)
 told_grown None event = tt
 told_grown (Some h) event = record { same_start = refl; events = event ∷ []; more = refl }
-
-goes_on_join : (h k m : History) → GoesOn h k → GoesOn k m → GoesOn h m
-goes_on_join h k m a b = record {
-  same_start = b.same_start ∙ a.same_start;
-  events = a.events ++ b.events;
-  more = b.more ∙ ap (λ (l : List Event). l ++ b.events) a.more ∙ append_assoc h.log a.events b.events;
-}
 
 -- how many reaps what is in flight takes at most
 abbrev pub reaps_left : Disk → ℕ

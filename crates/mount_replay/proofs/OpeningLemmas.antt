@@ -1,10 +1,9 @@
 -- What reads of the slots and of the active half say of the contents.
-use Rattle.std.proofs.Common.{◌≡◌, inl, inr, ℕ, zero, suc, ◌+◌, ◌-◌, ◌*◌, ◌<◌, ◌≤◌, List, Option, None, Some, sym, ap, subst, ◌∙◌, arith}
-use Rattle.std.specs.Prelude.{IfSome, MatchOption, All}
+use Rattle.std.proofs.Common.{◌≡◌, inl, inr, ℕ, zero, suc, ◌+◌, ◌*◌, ◌<◌, ◌≤◌, List, Option, None, Some, sym, ap, subst, ◌∙◌, arith}
+use Rattle.std.specs.Prelude.{IfSome, MatchOption}
 use Rattle.std.proofs.lemmas.Bool.{cases_lt, lt-ltb, le-ltb}
-use Rattle.mount_replay.proofs.StaleLemmas.{zeros-from_all, all_of_zeros}
-use Rattle.byte_maps.specs.Units.{unit_at, IsUnits, zeros}
-use Rattle.byte_maps.proofs.UnitLemmas.{unit_at-whole, unit_at-zeros, length-zeros, same_units}
+use Rattle.byte_maps.specs.Units.{unit_at, IsUnits}
+use Rattle.byte_maps.proofs.UnitLemmas.{unit_at-whole}
 use Rattle.block_device.specs.Log.{last, HasNoBadDone, IsAnsweredOnce}
 use Rattle.block_device.specs.Disk.{Disk, History, HasRead, IsSound}
 use Rattle.block_device.proofs.ReadLemmas.{clean_good}
@@ -12,7 +11,7 @@ use Rattle.meta_log.specs.declared.slot.Super.{Super}
 use Rattle.meta_log.specs.Slots.{IsSlotOf, IsValidSlot, IsActiveSlot}
 use Rattle.meta_log.proofs.SlotLemmas.{same_slot}
 use Rattle.mount_replay.specs.Cleared.{IsAllClean}
-use Rattle.mount_replay.specs.Opening.{IsAbout, HasNoSuper, AreZero, newer_of}
+use Rattle.mount_replay.specs.Opening.{IsAbout, HasNoSuper, newer_of}
 
 -- P of what was last written, where that is told and no unit is dirty
 abbrev AboutTold : Option History → (List ℕ → Type 0) → Type 0
@@ -41,7 +40,7 @@ sized : (o : Option History) (units : ℕ) (P : List ℕ → Type 0) → IfSome 
 sized None units P size p = tt
 sized (Some h) units P size p = λ clean. p clean size
 
-with_size : (d : Disk) (P : List ℕ → Type 0) → IsSound d → IsAbout d (λ contents. IsUnits d.units contents → P contents) → IsAbout d P
+pub with_size : (d : Disk) (P : List ℕ → Type 0) → IsSound d → IsAbout d (λ contents. IsUnits d.units contents → P contents) → IsAbout d P
 with_size d P sound p = sized d.history d.units P sound.size_now p
 
 -- two facts of the contents make a third
@@ -135,40 +134,3 @@ newest_of P (Some s) (Some t) a b = elim (cases_lt s.epoch t.epoch) [
   | inl lt ↦ rw (lt-ltb s.epoch t.epoch lt) b
   | inr ge ↦ rw (le-ltb s.epoch t.epoch ge) a
 ]
-
--- ---- units that are zero
-
--- the units up to one are zero
-zero_more : (first at count : ℕ) (bytes contents : List ℕ) → first ≤ at → AreZero first (at - first) contents → HasPiece at count bytes contents
-    → IsUnits count bytes → All (λ b. b ≡ 0) bytes → AreZero first (at + count - first) contents
-zero_more first at count bytes contents le before same size all unit from under = elim (cases_lt unit at) [
-  | inl lt ↦ before unit from (omega (arith, le, from, lt))
-  | inr ge ↦
-      let k = unit - at in
-      let is : at + k ≡ unit = omega (arith, ge) in
-      let lt : k < count = omega (arith, ge, under, le) in
-      let zero_bytes : bytes ≡ zeros (4096 * count) = zeros-from_all (4096 * count) bytes size all in
-      ap (λ (n : ℕ). unit_at n contents) (sym is) ∙ same k lt ∙ ap (unit_at k) zero_bytes ∙ unit_at-zeros k (4096 * count) (omega (arith, lt))
-]
-
--- a piece that isn't zero has a unit that isn't
-not_zero : (first at count total : ℕ) (bytes contents : List ℕ) → first ≤ at → at + count ≤ first + total → HasPiece at count bytes contents
-    → IsUnits count bytes → ¬ All (λ b. b ≡ 0) bytes → ¬ AreZero first total contents
-not_zero first at count total bytes contents le inside same size not all =
-    not (all_of_zeros (4096 * count) bytes (same_units count bytes (zeros (4096 * count)) size (length-zeros (4096 * count))
-    (λ k lt. sym (same k lt) ∙ all (at + k) (omega (arith, le)) (omega (arith, le, inside, lt)) ∙ sym (unit_at-zeros k (4096 * count) (omega (arith, lt))))))
-
-pub no_units : (d : Disk) (first : ℕ) → IsAbout d (AreZero first (first - first))
-no_units d first = about_all d (AreZero first (first - first)) (λ contents unit from under. absurd (omega (arith, from, under)))
-
-pub piece_zero : (d : Disk) (first at count : ℕ) (bytes : List ℕ) → IsSound d → HasRead d at count bytes → first ≤ at → All (λ b. b ≡ 0) bytes
-    → IsAbout d (AreZero first (at - first)) → IsAbout d (AreZero first (at + count - first))
-piece_zero d first at count bytes sound read le all before =
-    about_both d (AreZero first (at - first)) (HasPiece at count bytes) (AreZero first (at + count - first))
-    (λ contents zero same. zero_more first at count bytes contents le zero same read.size all) before
-    (seen d at count bytes (HasPiece at count bytes) sound read (λ contents same. same))
-
-pub piece_not_zero : (d : Disk) (first at count total : ℕ) (bytes : List ℕ) → IsSound d → HasRead d at count bytes → first ≤ at
-    → at + count ≤ first + total → ¬ All (λ b. b ≡ 0) bytes → IsAbout d (λ contents. ¬ AreZero first total contents)
-piece_not_zero d first at count total bytes sound read le inside not = seen d at count bytes (λ contents. ¬ AreZero first total contents) sound read
-    (λ contents same. not_zero first at count total bytes contents le inside same read.size not)

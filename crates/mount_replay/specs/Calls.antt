@@ -36,6 +36,11 @@ pub record GoesOn (old new : History) : Type 0 where
   pub events : List Event
   pub more : new.log ≡ old.log ++ events
 
+-- it has gone on by these events
+pub record GoesOnBy (events : List Event) (old new : History) : Type 0 where
+  pub same_start : new.start ≡ old.start
+  pub more : new.log ≡ old.log ++ events
+
 -- the same device later, with nothing in flight
 pub record IsLater (old new : Disk) : Type 0 where
   pub units : new.units ≡ old.units

@@ -3,6 +3,9 @@ pub mod Zeroing
 pub mod Stale
 pub mod NewSuper
 pub mod Cleared
+pub mod Clearing
+pub mod Replaying
 pub mod Made
 pub mod Opening
+pub mod FoundOn
 pub mod Mounting

@@ -1,22 +1,59 @@
 -- What mounting a store makes, and what unmounting it does.
-use Rattle.std.specs.Prelude.{◌≡◌, List, All}
-use Rattle.block_device.specs.Disk.{Disk}
-use Rattle.meta_log.specs.declared.slot.Super.{Super}
+use Rattle.std.specs.Prelude.{◌≡◌, ℕ, ◌+◌, ◌*◌, List, [], length, drop, Some, All}
+use Rattle.block_device.specs.Log.{last}
+use Rattle.block_device.specs.Disk.{Disk, History}
+use Rattle.block_device.specs.declared.event.Event.{Event}
+use Rattle.meta_log.specs.Slots.{active_unit}
+use Rattle.meta_log.specs.Records.{active_half}
+use Rattle.object_model.specs.Objects.{Objects}
+use Rattle.store_image.specs.Stands.{StandsFor}
+use Rattle.store_image.specs.Durability.{EachCutStands}
 use Rattle.unit_allocator.specs.Units.{Space}
 use Rattle.store_steps.specs.declared.step.Step.TheVariants.{Reap}
 use Rattle.store_steps.specs.State.{State}
-use Rattle.store_steps.specs.Opened.{opened, IsAllFree}
+use Rattle.store_steps.specs.Opened.{Found, opened}
 use Rattle.store_steps.specs.Runs.{Call, stepping, IsRun}
-use Rattle.store_facts.specs.Space.{IsSpaceOf}
-use Rattle.mount_replay.specs.Opening.{IsAbout, IsNewStore, HasNumbers}
+use Rattle.store_facts.specs.Kept.{IsOpenable}
+use Rattle.mount_replay.specs.Calls.{Told, GoesOn, GoesOnBy, IsLater}
+use Rattle.mount_replay.specs.Cleared.{IsAllClean}
+use Rattle.mount_replay.specs.Clearing.{AreClearing}
+use Rattle.mount_replay.specs.Opening.{IsAbout, IsFoundIn, HasLowNumbers}
 
--- the state of a kernel that was opened on this device: what the device holds is a store whose log is empty, and this is its super
-pub record IsOpenedOn (given : Disk) (sup : Super) (space : Space) (s : State) : Type 0 where
-  pub numbers : HasNumbers given.units sup
-  pub new_store : IsAbout given (λ contents. IsNewStore contents sup)
-  pub space_of : IsSpaceOf sup space
-  pub free : IsAllFree sup space
-  pub state : s ≡ opened sup space 0
+-- the bytes of the active half behind the records
+abbrev pub behind_records : List ℕ → Found → List ℕ
+behind_records contents f = drop (4096 * f.tail) (active_half contents f.sup)
+
+-- the units of the active half behind the records were cleared, in so many events
+pub record WasOpened (f : Found) (count : ℕ) (old new : History) : Type 0 where
+  pub events : List Event
+  pub by : GoesOnBy events old new
+  pub counted : count ≡ length events
+  pub clearing : IsAllClean old → AreClearing (length old.log) (active_unit f.sup + f.tail) (active_unit f.sup + f.sup.half)
+      (behind_records (last old.start old.log) f) events
+  pub clean : IsAllClean old → IsAllClean new
+
+-- A kernel that was opened on this device: what the device holds is a store that a kernel can be opened on, the units behind its records
+-- were cleared, and the kernel's state is the one that it begins in.
+pub record IsOpenedOn (given : Disk) (f : Found) (space : Space) (now : Disk) (s : State) : Type 0 where
+  pub openable : IsOpenable f space given.units
+  pub numbers : HasLowNumbers f
+  pub found : IsAbout given (λ contents. IsFoundIn contents f)
+  pub events : ℕ
+  pub state : s ≡ opened f space events
+  pub later : IsLater given now
+  pub told : Told (WasOpened f events) given.history now.history
+
+-- the device tells a later history, and each crash since then leaves these objects
+pub record StandsStill (h : History) (opening : Objects) (now : Disk) : Type 0 where
+  pub history : History
+  pub told : now.history ≡ Some history
+  pub goes_on : GoesOn h history
+  pub cuts : EachCutStands (length h.log) history opening (record { entries = []; commits = [] })
+
+-- Where nothing was dirty, each crash while a store was mounted leaves the objects that the contents stood for.
+abbrev pub StaysDurable : Disk → Disk → Type 0
+StaysDurable given now = (h : History) (opening : Objects) → given.history ≡ Some h → IsAllClean h → StandsFor (last h.start h.log) opening
+    → StandsStill h opening now
 
 -- ends of what was in flight were taken, and nothing else was done
 pub record IsReapedTo (s : State) (d : Disk) (s' : State) (d' : Disk) : Type 0 where

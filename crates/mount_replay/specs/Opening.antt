@@ -4,10 +4,17 @@ use Rattle.byte_maps.specs.Units.{unit_at, zeros}
 use Rattle.block_device.specs.Log.{last}
 use Rattle.block_device.specs.Disk.{Disk, Rose}
 use Rattle.meta_log.specs.declared.slot.Super.{Super}
-use Rattle.meta_log.specs.Slots.{IsSuper, IsValidSlot, IsActiveSlot, active_unit}
+use Rattle.meta_log.specs.Slots.{IsValidSlot, IsActiveSlot, active_unit}
+use Rattle.meta_log.specs.Records.{active_half}
+use Rattle.store_image.specs.BadRows.{NoBadRow}
+use Rattle.row_facts.specs.SinglePages.{HasSinglePages, HasSoleOwners}
+use Rattle.row_check.specs.Bad.{IsLeastBad}
+use Rattle.store_steps.specs.Opened.{Found}
+use Rattle.store_facts.specs.Space.{AreGoodRows}
 use Rattle.mount_replay.specs.Cleared.{IsAllClean}
+use Rattle.mount_replay.specs.Replaying.{IsReplay}
 use Rattle.mount_replay.specs.declared.opening.MountFail.{MountFail}
-use Rattle.mount_replay.specs.declared.opening.MountFail.TheVariants.{Memory, NoSuper, NotNew, WornOut, Fault}
+use Rattle.mount_replay.specs.declared.opening.MountFail.TheVariants.{Memory, NoSuper, BadRow, Unsupported, WornOut, Fault}
 
 -- P holds of what was last written, where the device tells it and no unit is dirty
 abbrev pub IsAbout : Disk → (List ℕ → Type 0) → Type 0
@@ -31,31 +38,48 @@ newer_of (Some a) (Some b) = if nat_lt a.epoch b.epoch then Some b else Some a
 abbrev pub IsLogEmpty : List ℕ → Super → Type 0
 IsLogEmpty contents s = AreZero (active_unit s) s.half contents
 
--- the first number of the slot that leaves no room for those to come, which stay below 2^62
-abbrev pub IsWornOut : Super → ℕ → Type 0
-IsWornOut s value = ((2 ^ 61 ≤ s.epoch) × (value ≡ s.epoch)) ⊎ ((s.epoch < 2 ^ 61) × (2 ^ 61 ≤ s.first) × (value ≡ s.first))
+-- The contents are those of a store: this is its active slot, and the records of the active half make these rows, take so many units, and
+-- the next one has this number.
+pub record IsFoundIn (contents : List ℕ) (f : Found) : Type 0 where
+  pub active : IsActiveSlot contents f.sup
+  pub replay : IsReplay (active_half contents f.sup) f.sup.first f.rows f.tail f.number
 
--- a store whose log is empty
-pub record IsNewStore (contents : List ℕ) (s : Super) : Type 0 where
-  pub active : IsActiveSlot contents s
-  pub empty : IsLogEmpty contents s
+-- the numbers leave room for those to come, which stay below 2^62
+abbrev pub HasLowNumbers : Found → Type 0
+HasLowNumbers f = (f.sup.epoch < 2 ^ 61) × (f.number < 2 ^ 61)
 
--- its numbers: those of a super of this device, with room for those to come
-pub record HasNumbers (units : ℕ) (s : Super) : Type 0 where
-  pub limits : IsSuper s
-  pub units_are : s.units ≡ units
-  pub epoch_low : s.epoch < 2 ^ 61
-  pub first_low : s.first < 2 ^ 61
+-- the first of the epoch and the next record's number that leaves none
+abbrev pub IsWornOut : Found → ℕ → Type 0
+IsWornOut f value = ((2 ^ 61 ≤ f.sup.epoch) × (value ≡ f.sup.epoch)) ⊎ ((f.sup.epoch < 2 ^ 61) × (2 ^ 61 ≤ f.number) × (value ≡ f.number))
+
+-- Why what was found isn't opened.
+abbrev pub IsRefused : MountFail → Found → Type 0
+IsRefused Memory f = Unit {0}
+IsRefused NoSuper f = ⊥
+IsRefused (BadRow key) f = IsLeastBad f.sup f.rows key
+IsRefused Unsupported f = NoBadRow f.sup f.rows × (¬ (HasSinglePages f.rows × HasSoleOwners f.rows))
+IsRefused (WornOut value) f = AreGoodRows f.sup f.rows × IsWornOut f value
+IsRefused Fault f = ⊥
 
 -- Why a mount opens no store, by the contents.
 abbrev pub IsUnopenable : MountFail → List ℕ → Type 0
 IsUnopenable Memory contents = Unit {0}
 IsUnopenable NoSuper contents = HasNoSuper contents
-IsUnopenable NotNew contents = (s : Super) × IsActiveSlot contents s × ¬ IsLogEmpty contents s
-IsUnopenable (WornOut value) contents = (s : Super) × IsNewStore contents s × IsWornOut s value
+IsUnopenable (BadRow key) contents = (f : Found) × IsFoundIn contents f × IsRefused (BadRow key) f
+IsUnopenable Unsupported contents = (f : Found) × IsFoundIn contents f × IsRefused Unsupported f
+IsUnopenable (WornOut value) contents = (f : Found) × IsFoundIn contents f × IsRefused (WornOut value) f
 IsUnopenable Fault contents = Unit {0}
 
 -- The cause of each answer: of a fault that the count rose, of the others what the device holds.
 abbrev pub FailsMount : MountFail → Disk → ℕ → ℕ → Type 0
 FailsMount Fault d before now = Rose before now
 FailsMount fail d before now = IsAbout d (IsUnopenable fail)
+
+-- a mount that fails so has submitted nothing
+abbrev pub SubmitsNothing : MountFail → Type 0
+SubmitsNothing Memory = ⊥
+SubmitsNothing NoSuper = Unit {0}
+SubmitsNothing (BadRow key) = Unit {0}
+SubmitsNothing Unsupported = Unit {0}
+SubmitsNothing (WornOut value) = Unit {0}
+SubmitsNothing Fault = ⊥

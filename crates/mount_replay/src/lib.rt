@@ -4,9 +4,12 @@
 #![tactic(auto)]
 
 mod calls;
+mod clearing;
+mod judging;
 mod making;
 mod mounting;
 mod opening;
+mod replaying;
 mod stale;
 mod zeroing;
 

@@ -1,10 +1,13 @@
 //! Mounting stores on devices in memory, and unmounting them.
 ghost use Rattle.std.specs.Prelude.{◌≡◌, ◌*◌, ◌^◌, ◌<◌, ◌≤◌, [], length, IfOk};
 ghost use Rattle.block_device.specs.Memory.{disk_of};
+ghost use Rattle.meta_rows.specs.Spelling.{IsKey};
 
 use super::*;
 use block_device::{Device, Kind, MemoryDevice};
-use meta_log::Super;
+use byte_maps::Bytes;
+use meta_log::{SealedRecord, Super};
+use meta_rows::RowOp;
 use object_model::{Op, Transaction};
 use std::alloc::Global;
 use std::test::Fail;
@@ -29,13 +32,26 @@ fn slot(alloc: Global, units: u32, epoch: u64, first: u64) -> Result<Vec<u8>, Fa
     Ok(sup.write(alloc)?)
 }
 
+// The record of this number that sets one row to no bytes.
+fn record(alloc: Global, number: u64, key: &[u8]) -> Result<Vec<u8>, Fail>
+    requires number { number < 2 ^ 62 }
+    requires key { IsKey key.now }
+{
+    let key = Bytes::from_slice(alloc, key)?;
+    let value = Bytes::new(alloc);
+    let ops = vec![in alloc; RowOp::Set { key, value }]?;
+    let sealed = SealedRecord::seal(alloc, number, &ops)?;
+    let (_first, bytes) = sealed.piece(alloc, 0)?;
+    Ok(bytes)
+}
+
 // A device of so many units: these bytes, and one byte in all the rest. One read fails on it, or none.
 fn device(
     alloc: Global,
     front: &[u8],
     rest: u8,
     units: usize,
-    failing: Option<u64>,
+    failing: Option<(Kind, u64)>,
 ) -> Result<MemoryDevice, Fail>
     requires { units ≤ 64 }
     ensures { IfOk result (λ d. (disk_of d).flights ≡ []) }
@@ -43,36 +59,77 @@ fn device(
     let mut contents = front.to_vec(alloc)?;
     contents.resize(4096 * units, rest)?;
     let mut fails = Vec::new(alloc);
-    if let Some(number) = failing {
-        fails.push((Kind::Read, number))?;
+    if let Some(fail) = failing {
+        fails.push(fail)?;
     }
     Ok(MemoryDevice::new(alloc, contents, Vec::new(alloc), fails)?)
 }
 
-// Why no store is opened on it.
-fn failure(alloc: Global, device: MemoryDevice) -> Option<MountFail>
+// How a mount ends.
+#[derive(Clone, Copy, Debug, PartialEq, Eq)]
+enum Ending {
+    Mounted,
+    Memory,
+    NoSuper,
+    BadRow,
+    Unsupported,
+    WornOut(u64),
+    Fault,
+}
+
+fn ending_of(fail: &MountFail) -> Ending {
+    match fail {
+        MountFail::Memory => Ending::Memory,
+        MountFail::NoSuper => Ending::NoSuper,
+        MountFail::BadRow { .. } => Ending::BadRow,
+        MountFail::Unsupported => Ending::Unsupported,
+        MountFail::WornOut { value } => Ending::WornOut(*value),
+        MountFail::Fault => Ending::Fault,
+    }
+}
+
+// How mounting it ends, and how many events its log has then.
+fn mounted(alloc: Global, device: MemoryDevice) -> (Ending, u64)
     requires { (disk_of device).flights ≡ [] }
 {
     match mount(alloc, device) {
         Ok(kernel) => {
-            let (_device, _book) = unmount(alloc, kernel);
-            None
+            let (device, _book) = unmount(alloc, kernel);
+            (Ending::Mounted, device.events())
         }
-        Err((fail, _device)) => Some(fail),
+        Err((fail, device)) => (ending_of(&fail), device.events()),
     }
 }
 
-// The same, of a device of 64 units with these slots.
-fn ending(
+// The same, of a device of 64 units with these slots and one byte in all the rest.
+fn end_of_mount(
     alloc: Global,
-    slots: (&[u8], &[u8]),
+    first: &[u8],
+    second: &[u8],
     rest: u8,
-    failing: Option<u64>,
-) -> Result<Option<MountFail>, Fail> {
-    let mut front = slots.0.to_vec(alloc)?;
-    front.extend_from_slice(slots.1)?;
+    failing: Option<(Kind, u64)>,
+) -> Result<(Ending, u64), Fail> {
+    let mut front = first.to_vec(alloc)?;
+    front.extend_from_slice(second)?;
     let device = device(alloc, &front, rest, 64, failing)?;
-    Ok(failure(alloc, device))
+    Ok(mounted(alloc, device))
+}
+
+// The same, where these units are the first ones of the active half.
+fn end_of_log(
+    alloc: Global,
+    first: &[u8],
+    second: &[u8],
+    third: &[u8],
+    rest: u8,
+) -> Result<(Ending, u64), Fail> {
+    let mut front = slot(alloc, 64, 2, 40)?;
+    front.extend_from_slice(&slot(alloc, 65, 1, 40)?)?;
+    front.extend_from_slice(first)?;
+    front.extend_from_slice(second)?;
+    front.extend_from_slice(third)?;
+    let device = device(alloc, &front, rest, 64, None)?;
+    Ok(mounted(alloc, device))
 }
 
 #[test]
@@ -83,48 +140,125 @@ fn what_the_slots_say(rt: HostRuntime) -> Result<(), Fail> {
     let larger = slot(alloc, 65, 2, 40)?;
     let high = slot(alloc, 64, (1 << 61) + 1, 0)?;
     let late = slot(alloc, 64, 2, 1 << 61)?;
-    assert_eq!(rt; ending(alloc, (&old, &new), 0, None)?, None);
-    assert_eq!(rt;
-        ending(alloc, (&larger, &larger), 0, None)?,
-        Some(MountFail::NoSuper)
-    );
-    assert_eq!(rt;
-        ending(alloc, (&new, &old), 0, None)?,
-        Some(MountFail::NoSuper)
-    );
-    assert_eq!(rt;
-        ending(alloc, (&old, &new), 1, None)?,
-        Some(MountFail::NotNew)
-    );
     let value = (1 << 61) + 1;
     assert_eq!(rt;
-        ending(alloc, (&old, &high), 0, None)?,
-        Some(MountFail::WornOut { value })
+        end_of_mount(alloc, &old, &new, 0, None)?,
+        (Ending::Mounted, 0)
+    );
+    assert_eq!(rt;
+        end_of_mount(alloc, &larger, &larger, 0, None)?,
+        (Ending::NoSuper, 0)
+    );
+    assert_eq!(rt;
+        end_of_mount(alloc, &new, &old, 0, None)?,
+        (Ending::NoSuper, 0)
+    );
+    assert_eq!(rt;
+        end_of_mount(alloc, &old, &high, 0, None)?,
+        (Ending::WornOut(value), 0)
     );
     let value = 1 << 61;
     assert_eq!(rt;
-        ending(alloc, (&late, &larger), 0, None)?,
-        Some(MountFail::WornOut { value })
+        end_of_mount(alloc, &late, &larger, 0, None)?,
+        (Ending::WornOut(value), 0)
     );
     Ok(())
 }
 
 #[test]
-fn few_units_and_failing_reads(rt: HostRuntime) -> Result<(), Fail> {
+fn few_units_and_failing_calls(rt: HostRuntime) -> Result<(), Fail> {
     let alloc = rt.alloc();
     let old = slot(alloc, 64, 2, 40)?;
     let new = slot(alloc, 64, 3, 90)?;
     let small = device(alloc, &old, 0, 18, None)?;
-    assert_eq!(rt; failure(alloc, small), Some(MountFail::NoSuper));
+    assert_eq!(rt; mounted(alloc, small), (Ending::NoSuper, 0));
     // Both slots are read, and the half in one piece.
     for number in 0..3 {
-        let failing = Some(number);
+        let failing = Some((Kind::Read, number));
         assert_eq!(rt;
-            ending(alloc, (&old, &new), 0, failing)?,
-            Some(MountFail::Fault)
+            end_of_mount(alloc, &old, &new, 0, failing)?,
+            (Ending::Fault, 0)
         );
     }
-    assert_eq!(rt; ending(alloc, (&old, &new), 0, Some(3))?, None);
+    // The half is cleared by two writes, of one unit and of seven, with a flush behind each.
+    for (kind, number, events) in [
+        (Kind::Write, 0, 2),
+        (Kind::Flush, 0, 4),
+        (Kind::Write, 1, 6),
+        (Kind::Flush, 1, 8),
+    ] {
+        let failing = Some((kind, number));
+        assert_eq!(rt;
+            end_of_mount(alloc, &old, &new, 1, failing)?,
+            (Ending::Fault, events)
+        );
+    }
+    assert_eq!(rt;
+        end_of_mount(alloc, &old, &new, 1, None)?,
+        (Ending::Mounted, 8)
+    );
+    Ok(())
+}
+
+#[test]
+fn what_the_records_say(rt: HostRuntime) -> Result<(), Fail> {
+    let alloc = rt.alloc();
+    let good = record(alloc, 40, b"C1.0_head")?;
+    let next = record(alloc, 41, b"C1.1_head")?;
+    let bad = record(alloc, 41, b"x")?;
+    let zero = vec![in alloc; 0u8; 4096]?;
+    // Nothing is behind the records; one run of units; the unit behind them and then the run.
+    assert_eq!(rt;
+        end_of_log(alloc, &good, &next, &zero, 0)?,
+        (Ending::Mounted, 0)
+    );
+    assert_eq!(rt;
+        end_of_log(alloc, &good, &next, &zero, 7)?,
+        (Ending::Mounted, 4)
+    );
+    assert_eq!(rt;
+        end_of_log(alloc, &good, &next, &good, 7)?,
+        (Ending::Mounted, 8)
+    );
+    assert_eq!(rt;
+        end_of_log(alloc, &good, &good, &next, 0)?,
+        (Ending::Mounted, 8)
+    );
+    assert_eq!(rt;
+        end_of_log(alloc, &good, &bad, &zero, 7)?,
+        (Ending::BadRow, 0)
+    );
+    Ok(())
+}
+
+// The key of a bad row of the store on it.
+fn bad_key(alloc: Global, device: MemoryDevice) -> Option<Bytes>
+    requires { (disk_of device).flights ≡ [] }
+{
+    match mount(alloc, device) {
+        Ok(kernel) => {
+            let (_device, _book) = unmount(alloc, kernel);
+            None
+        }
+        Err((fail, _device)) => match fail {
+            MountFail::BadRow { key } => Some(key),
+            _ => None,
+        },
+    }
+}
+
+#[test]
+fn the_key_of_a_bad_row(rt: HostRuntime) -> Result<(), Fail> {
+    let alloc = rt.alloc();
+    let mut front = slot(alloc, 64, 2, 40)?;
+    front.extend_from_slice(&slot(alloc, 64, 2, 40)?)?;
+    front.extend_from_slice(&record(alloc, 40, b"Onode")?)?;
+    front.extend_from_slice(&record(alloc, 41, b"C1.0")?)?;
+    let device = device(alloc, &front, 0, 64, None)?;
+    let Some(key) = bad_key(alloc, device) else {
+        return Err("no bad row".into());
+    };
+    assert_eq!(rt; key.as_slice(), b"C1.0".as_slice());
     Ok(())
 }
 

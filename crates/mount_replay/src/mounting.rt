@@ -1,43 +1,111 @@
 //! Mounting a store and unmounting it.
-ghost use Rattle.std.specs.Prelude.{◌≡◌, ◌≢◌, ◌≤◌, [], true, false, IfOk, IfErr};
-ghost use Rattle.block_device.specs.Disk.{IsSound};
-ghost use Rattle.meta_log.specs.declared.slot.Super.{Super};
+ghost use Rattle.std.specs.Prelude.{◌≡◌, ◌≢◌, ◌≤◌, [], true, false, IfOk, IfErr, IsErrOf, MatchResult};
+ghost use Rattle.block_device.specs.Disk.{IsSound, Rose};
 ghost use Rattle.unit_allocator.specs.Units.{Space};
 ghost use Rattle.store_steps.specs.declared.step.Step.TheVariants.{Reap};
 ghost use Rattle.store_steps.specs.State.{State};
+ghost use Rattle.store_steps.specs.Opened.{Found};
 ghost use Rattle.store_steps.specs.Ready.{is_ready};
 ghost use Rattle.store_steps.specs.Runs.{Calls, stepping};
-ghost use Rattle.mount_replay.specs.Calls.{IsLater};
-ghost use Rattle.mount_replay.specs.Opening.{FailsMount};
-ghost use Rattle.mount_replay.specs.Mounting.{IsOpenedOn, IsReapedTo};
+ghost use Rattle.mount_replay.specs.Calls.{Told, IsLater};
+ghost use Rattle.mount_replay.specs.Opening.{FailsMount, SubmitsNothing};
+ghost use Rattle.mount_replay.specs.FoundOn.{IsFoundOn, IsJudged, IsLogCleared, ClearsLog, as_found};
+ghost use Rattle.mount_replay.specs.Mounting.{IsOpenedOn, StaysDurable, IsReapedTo};
 
-use crate::opening::{MountFail, find_store};
-use block_device::Device;
+use crate::clearing::clear_behind;
+use crate::judging::judge;
+use crate::opening::{MountFail, failed};
+use crate::replaying::{FoundStore, bytes_behind, find_store};
+use block_device::{Device, Failed};
+use meta_rows::RowTable;
+use meta_store::MetaStore;
 use object_model::Book;
 use std::alloc::Global;
 use store_kernel::{Kernel, StepFail};
 use store_steps::Step;
+use unit_allocator::Allocator;
 
-/// Opens the store on the device: the superblock of greatest epoch tells where its log is. For now it opens only a store whose log
-/// is empty: no unit is in use, and there is no collection. It reads both superblock slots and the active half of the log, and
-/// submits nothing. The device comes back where no store was opened.
-pub fn mount<D: Device>(alloc: Global, dev: D) -> Result<Kernel<D>, (MountFail, D)>
+/// Clears what is behind the records of the log. Says in how many events.
+fn clear_log<D: Device>(alloc: Global, dev: &mut D, found: &FoundStore) -> Result<u64, Failed>
+    requires idle { (D.disk dev.old).flights ≡ [] }
+    requires found { IsFoundOn (D.disk dev.old) found.now }
+    ensures later { IsLater (D.disk dev.old) (D.disk dev.new) }
+    ensures cleared { IfOk result (λ events. Told (IsLogCleared found.now events) (D.disk dev.old).history (D.disk dev.new).history) }
+    ensures few { IfOk result (λ events. events ≤ 4194308) }
+    ensures only { Told (ClearsLog found.now) (D.disk dev.old).history (D.disk dev.new).history }
+    ensures faults { D.faults dev.old ≤ D.faults dev.new }
+    ensures cause { IsErrOf result Failed.Fault → Rose (D.faults dev.old) (D.faults dev.new) }
+{
+    let _ = dev.units();
+    let active = 2 + found.sup.half * (found.sup.epoch % 2) as u32;
+    let behind = bytes_behind(&found.half, found.log.tail);
+    clear_behind(
+        alloc,
+        dev,
+        active + found.log.tail,
+        active + found.sup.half,
+        behind,
+    )
+}
+
+/// Clears what is behind the records, and opens the kernel. `view` is a copy of the rows.
+fn open_on<D: Device>(
+    alloc: Global,
+    dev: D,
+    found: FoundStore,
+    view: RowTable,
+    space: Allocator,
+) -> Result<Kernel<D>, (MountFail, D)>
     requires idle { (D.disk dev).flights ≡ [] }
-    ensures ok { IfOk result (λ k. (sup : Super) × ((space : Space) × IsOpenedOn (D.disk dev) sup space k.state)) }
-    ensures disk { IfOk result (λ k. D.disk k.device ≡ D.disk dev) }
-    ensures later { IfOk result (λ k. D.faults dev ≤ D.faults k.device) }
+    requires found { IsFoundOn (D.disk dev) found }
+    requires view { view.rows ≡ found.log.rows.rows }
+    requires judged { IsJudged (as_found found) space }
+    ensures ok { IfOk result (λ k. IsOpenedOn (D.disk dev) (as_found found) space (D.disk k.device) k.state) }
     ensures fails { IfErr result (λ e. FailsMount e.0 (D.disk dev) (D.faults dev) (D.faults e.1)) }
-    ensures back { IfErr result (λ e. (D.disk e.1 ≡ D.disk dev) × (D.faults dev ≤ D.faults e.1)) }
+    ensures began { IfErr result (λ e. ¬ SubmitsNothing e.0) }
+    ensures back { IfErr result (λ e. IsLater (D.disk dev) (D.disk e.1)) }
+    ensures faults { MatchResult result (λ k. D.faults dev ≤ D.faults k.device) (λ e. D.faults dev ≤ D.faults e.1) }
+    ensures durable { MatchResult result (λ k. StaysDurable (D.disk dev) (D.disk k.device)) (λ e. StaysDurable (D.disk dev) (D.disk e.1)) }
 {
     let mut dev = dev;
-    let sup = match find_store(alloc, &mut dev) {
-        Ok(sup) => sup,
+    let _ = dev.units();
+    let events = match clear_log(alloc, &mut dev, &found) {
+        Ok(events) => events,
+        Err(why) => return Err((failed(why), dev)),
+    };
+    let _ = dev.units();
+    let FoundStore { sup, half: _, log } = found;
+    let meta = MetaStore::open(&sup, log.rows, log.tail, log.number);
+    Ok(Kernel::open(alloc, dev, meta, view, space, events))
+}
+
+/// Opens the store on the device: the superblock of greatest epoch tells where its log is, and the log's records make the rows. It reads
+/// both superblock slots and the active half of the log. If the rows are good, it clears what is behind the records: first the unit
+/// behind the last one, then the others that hold something, each part followed by a flush. A crash on the way leaves the same
+/// objects. The device comes back where no store was opened.
+pub fn mount<D: Device>(alloc: Global, dev: D) -> Result<Kernel<D>, (MountFail, D)>
+    requires idle { (D.disk dev).flights ≡ [] }
+    ensures ok { IfOk result (λ k. (f : Found) × ((space : Space) × IsOpenedOn (D.disk dev) f space (D.disk k.device) k.state)) }
+    ensures fails { IfErr result (λ e. FailsMount e.0 (D.disk dev) (D.faults dev) (D.faults e.1)) }
+    ensures same { IfErr result (λ e. SubmitsNothing e.0 → D.disk e.1 ≡ D.disk dev) }
+    ensures back { IfErr result (λ e. IsLater (D.disk dev) (D.disk e.1)) }
+    ensures later { MatchResult result (λ k. D.faults dev ≤ D.faults k.device) (λ e. D.faults dev ≤ D.faults e.1) }
+    ensures durable { MatchResult result (λ k. StaysDurable (D.disk dev) (D.disk k.device)) (λ e. StaysDurable (D.disk dev) (D.disk e.1)) }
+{
+    let mut dev = dev;
+    let _ = dev.units();
+    let found = match find_store(alloc, &mut dev) {
+        Ok(found) => found,
         Err(fail) => return Err((fail, dev)),
     };
-    match Kernel::open(alloc, dev, sup, 0) {
-        Ok(kernel) => Ok(kernel),
-        Err(dev) => Err((MountFail::Memory, dev)),
-    }
+    let space = match judge(alloc, &found) {
+        Ok(space) => space,
+        Err(fail) => return Err((fail, dev)),
+    };
+    let Ok(view) = found.log.rows.copy(alloc) else {
+        return Err((MountFail::Memory, dev));
+    };
+    open_on(alloc, dev, found, view, space)
 }
 
 /// Whether something is in flight.

@@ -1,19 +1,18 @@
-//! What a mount reads of a device before it opens the store on it.
-ghost use Rattle.std.specs.Prelude.{◌≡◌, ◌↔◌, ◌⊎◌, ◌≤◌, ◌<◌, ◌+◌, ◌*◌, ◌^◌, [], true, length, All, IfOk, IfErr, IfSome, OnOk, IsErrOf, IsTrue, MatchOption};
-ghost use Rattle.byte_maps.specs.Units.{unit_at, zeros};
+//! The superblock of a device, and why a mount opens no store.
+ghost use Rattle.std.specs.Prelude.{◌≡◌, ◌⊎◌, ◌≤◌, ◌<◌, [], IfOk, IfSome, IsErrOf, MatchOption};
 ghost use Rattle.block_device.specs.Disk.{Rose};
 ghost use Rattle.meta_log.specs.declared.slot.Super.{Super};
-ghost use Rattle.meta_log.specs.Slots.{IsSuper, IsSlotOf, IsValidSlot, IsActiveSlot, active_unit};
-ghost use Rattle.mount_replay.specs.Opening.{IsAbout, HasNoSuper, AreZero, IsNewStore, IsWornOut, HasNumbers, FailsMount, newer_of};
+ghost use Rattle.meta_log.specs.Slots.{IsSuper, IsSlotOf, IsValidSlot, IsActiveSlot};
+ghost use Rattle.mount_replay.specs.Opening.{IsAbout, HasNoSuper, newer_of};
 
-use crate::stale::is_zero;
 use block_device::{Device, Failed};
+use byte_maps::Bytes;
 use meta_log::Super;
 use std::alloc::Global;
 use thiserror::Error;
 
 /// Why no store was opened.
-#[derive(Clone, Copy, Debug, PartialEq, Eq, Error)]
+#[derive(Debug, Drop, Error)]
 pub enum MountFail {
     /// Memory ran out.
     #[error("out of memory")]
@@ -21,10 +20,13 @@ pub enum MountFail {
     /// The device has fewer than 19 units, or neither superblock slot is valid.
     #[error("the device holds no store")]
     NoSuper,
-    /// The log has records, or something else that isn't zero: such a store can't be opened yet.
-    #[error("the log of the store is not empty")]
-    NotNew,
-    /// The epoch or the number of the first record is 2^61 or more, so that numbers would run out.
+    /// The row under this key is bad, and each row of a lesser key is good.
+    #[error("a row of the store is bad")]
+    BadRow { key: Bytes },
+    /// The store is good, but an object has more than one page, or two objects share a unit: such a store can't be opened yet.
+    #[error("the store has objects that can't be served yet")]
+    Unsupported,
+    /// The epoch or the number of the next record is 2^61 or more, so that numbers would run out.
     #[error("the store has reached the number {value}")]
     WornOut { value: u64 },
     /// A call of the device failed, and it has counted that.
@@ -34,12 +36,6 @@ pub enum MountFail {
 
 /// The fewest units of a device that holds a store.
 const LEAST_UNITS: u32 = 19;
-
-/// The most units of one read.
-const MOST_UNITS: u32 = 64;
-
-/// A number of a slot that is as high as this leaves too few above it.
-const HIGH: u64 = 1 << 61;
 
 /// What the bytes of a slot say, where the slot is valid on a device of so many units.
 fn valid_slot(bytes: &[u8], slot: u32, units: u32) -> Option<Super>
@@ -84,7 +80,7 @@ fn newer(first: Option<Super>, second: Option<Super>) -> Option<Super>
 }
 
 /// The super of the device: of its valid slots the one of greatest epoch.
-fn find_super<D: Device>(alloc: Global, dev: &mut D) -> Result<Option<Super>, Failed>
+pub fn find_super<D: Device>(alloc: Global, dev: &mut D) -> Result<Option<Super>, Failed>
     requires idle { (D.disk dev.old).flights ≡ [] }
     ensures same { D.disk dev.new ≡ D.disk dev.old }
     ensures active { IfOk result (λ found. IsAbout (D.disk dev.old) (λ contents. MatchOption found (HasNoSuper contents) (IsActiveSlot contents))) }
@@ -100,79 +96,12 @@ fn find_super<D: Device>(alloc: Global, dev: &mut D) -> Result<Option<Super>, Fa
     Ok(newer(first, second))
 }
 
-/// Whether so many units from one on are zero.
-fn are_zero<D: Device>(alloc: Global, dev: &mut D, first: u32, count: u32) -> Result<bool, Failed>
-    requires idle { (D.disk dev.old).flights ≡ [] }
-    requires inside { first + count ≤ (D.disk dev.old).units }
-    ensures same { D.disk dev.new ≡ D.disk dev.old }
-    ensures zero { IfOk result (λ yes. IsAbout (D.disk dev.old) (λ contents. (yes ≡ true) ↔ AreZero first count contents)) }
-    ensures faults { D.faults dev.old ≤ D.faults dev.new }
-    ensures cause { IsErrOf result Failed.Fault → Rose (D.faults dev.old) (D.faults dev.new) }
-{
-    let _ = dev.units();
-    let end = first + count;
-    let mut bytes = Vec::new(alloc);
-    let mut at = first;
-    'pieces: while at < end {
-        let piece = (end - at).min(MOST_UNITS);
-        dev.read(at, piece, &mut bytes)?;
-        if !is_zero(&bytes) {
-            return Ok(false);
-        }
-        at += piece;
-    }
-    Ok(true)
-}
-
-/// The number for which the store takes no more work, if there is one.
-fn worn_out(sup: &Super) -> Option<u64>
-    ensures { MatchOption result ((sup.now.epoch < 2 ^ 61) × (sup.now.first < 2 ^ 61)) (IsWornOut sup.now) }
-{
-    if sup.epoch >= HIGH {
-        return Some(sup.epoch);
-    }
-    if sup.first >= HIGH {
-        return Some(sup.first);
-    }
-    None
-}
-
 /// The same cause, of a mount.
-fn failed(failed: Failed) -> MountFail
+pub fn failed(failed: Failed) -> MountFail
     ensures { result ≡ MountFail.Memory ⊎ (result ≡ MountFail.Fault × failed ≡ Failed.Fault) }
 {
     match failed {
         Failed::Memory => MountFail::Memory,
         Failed::Fault => MountFail::Fault,
-    }
-}
-
-/// The super of a store whose log is empty, or why there is none that can be opened. It reads both slots and the active half, and
-/// submits nothing.
-pub fn find_store<D: Device>(alloc: Global, dev: &mut D) -> Result<Super, MountFail>
-    requires idle { (D.disk dev.old).flights ≡ [] }
-    ensures same { D.disk dev.new ≡ D.disk dev.old }
-    ensures found { IfOk result (λ s. IsAbout (D.disk dev.old) (λ contents. IsNewStore contents s)) }
-    ensures numbers { IfOk result (HasNumbers (D.disk dev.old).units) }
-    ensures fails { IfErr result (λ fail. FailsMount fail (D.disk dev.old) (D.faults dev.old) (D.faults dev.new)) }
-    ensures faults { D.faults dev.old ≤ D.faults dev.new }
-{
-    let _ = dev.units();
-    let found = match find_super(alloc, dev) {
-        Ok(found) => found,
-        Err(why) => return Err(failed(why)),
-    };
-    let Some(sup) = found else {
-        return Err(MountFail::NoSuper);
-    };
-    let active = 2 + sup.half * (sup.epoch % 2) as u32;
-    match are_zero(alloc, dev, active, sup.half) {
-        Ok(true) => {}
-        Ok(false) => return Err(MountFail::NotNew),
-        Err(why) => return Err(failed(why)),
-    }
-    match worn_out(&sup) {
-        Some(value) => Err(MountFail::WornOut { value }),
-        None => Ok(sup),
     }
 }

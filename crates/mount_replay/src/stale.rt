@@ -2,7 +2,7 @@
 ghost use Rattle.std.specs.Prelude.{◌≡◌, ◌≤◌, ◌<◌, ◌+◌, ◌*◌, ◌↔◌, ◌∷◌, [], length, All, OnOk, IfOk, IsErrOf, IsTrue};
 ghost use Rattle.byte_maps.specs.Units.{unit_at, zeros, IsUnits};
 ghost use Rattle.block_device.specs.Disk.{Rose};
-ghost use Rattle.mount_replay.specs.Stale.{AreStale, AddsStale};
+ghost use Rattle.mount_replay.specs.Stale.{AreStale, AddsStale, AreNotZero};
 
 use block_device::{Device, Failed};
 use std::alloc::{AllocError, Global};
@@ -16,7 +16,7 @@ pub fn is_zero(bytes: &[u8]) -> bool
     bytes.iter().all(|b| *b == 0)
 }
 
-fn is_zero_unit(bytes: &[u8], k: usize) -> bool
+pub fn is_zero_unit(bytes: &[u8], k: usize) -> bool
     requires { 4096 * k + 4096 ≤ length bytes.now }
     ensures { IsTrue result ↔ (unit_at k bytes.now ≡ zeros 4096) }
 {
@@ -36,6 +36,22 @@ fn add_stale(stale: &mut Vec<u32>, at: u32, count: u32, bytes: &[u8]) -> Result<
         }
     }
     Ok(())
+}
+
+/// The units of these bytes that aren't zero, ascending; the first of them is unit `at`.
+pub fn units_not_zero(
+    alloc: Global,
+    at: u32,
+    count: u32,
+    bytes: &[u8],
+) -> Result<Vec<u32>, AllocError>
+    requires size { IsUnits count bytes.now }
+    requires fits { at + count ≤ 1048576 }
+    ensures { IfOk result (λ units. AreNotZero at count bytes.now units.items) }
+{
+    let mut units = Vec::new(alloc);
+    add_stale(&mut units, at, count, bytes)?;
+    Ok(units)
 }
 
 fn slots(alloc: Global) -> Result<Vec<u32>, AllocError>

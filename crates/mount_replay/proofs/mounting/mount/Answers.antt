@@ -1,6 +1,37 @@
-use Rattle.mount_replay.proofs.NewStore.{new_store_durable}
+use Rattle.std.proofs.Common.{IfOk, sym, subst}
+use Rattle.std.proofs.lemmas.Result.{IfOk-weaker}
+use Rattle.block_device.specs.Disk.{Disk}
+use Rattle.unit_allocator.specs.Units.{Space}
+use Rattle.store_steps.specs.Opened.{Found}
+use Rattle.mount_replay.specs.FoundOn.{as_found}
+use Rattle.mount_replay.specs.Mounting.{IsOpenedOn, StaysDurable}
+use Rattle.mount_replay.proofs.MountLemmas.{stays_same, refused_fails}
 use Rattle.mount_replay.proofs.mounting.mount.Goals as goal
 
-pub open-requires-clause-durable : goal.open-requires-clause-durable
-open-requires-clause-durable g c = rw c.find_store.ensures.same
-    (λ space kept. new_store_durable c.in-Ok.sup space (g.D.Device.disk c.args.dev) c.requires.idle c.in-Ok.ensures.found kept)
+pub returns-in-Err-clause-durable : goal.returns-in-Err-clause-durable
+returns-in-Err-clause-durable g c =
+    let old = g.D.Device.disk c.args.dev in
+    subst (λ (d : Disk). StaysDurable old d) (sym c.find_store.ensures.same) (stays_same old c.units.ensures.sound)
+
+pub returns-in-Err-judge-clause-fails : goal.returns-in-Err-judge-clause-fails
+returns-in-Err-judge-clause-fails g c =
+    refused_fails c.in-Ok.found (g.D.Device.disk c.args.dev) (g.D.Device.faults c.args.dev) _ c.in-Err-judge.fail c.in-Ok.ensures.found c.in-Err-judge.ensures.refused
+
+pub returns-in-Err-judge-clause-durable : goal.returns-in-Err-judge-clause-durable
+returns-in-Err-judge-clause-durable g c =
+    let old = g.D.Device.disk c.args.dev in
+    subst (λ (d : Disk). StaysDurable old d) (sym c.find_store.ensures.same) (stays_same old c.units.ensures.sound)
+
+pub returns-in_default-clause-durable : goal.returns-in_default-clause-durable
+returns-in_default-clause-durable g c =
+    let old = g.D.Device.disk c.args.dev in
+    subst (λ (d : Disk). StaysDurable old d) (sym c.find_store.ensures.same) (stays_same old c.units.ensures.sound)
+
+pub returns-clause-ok : goal.returns-clause-ok
+returns-clause-ok g c =
+    let disk = g.D.Device.disk in
+    let f = as_found c.in-Ok.found in
+    let space = c.in-Ok-judge.space in
+    let ok = subst (λ (d : Disk). IfOk c.open_on.result (λ k. IsOpenedOn d f space (disk k.device) k.state)) c.find_store.ensures.same c.open_on.ensures.ok in
+    IfOk-weaker c.open_on.result (λ k. IsOpenedOn (disk c.args.dev) f space (disk k.device) k.state)
+    (λ k. (x : Found) × ((y : Space) × IsOpenedOn (disk c.args.dev) x y (disk k.device) k.state)) (λ k p. (f, (space, p))) ok

@@ -1,6 +1,10 @@
-use Rattle.std.proofs.Common.{◌≡◌, ◌*◌, length, ap, ◌∙◌, arith}
+use Rattle.std.proofs.Common.{◌≡◌, ◌*◌, false, Err, length, ap, sym, subst, ◌∙◌, arith}
 use Rattle.byte_maps.proofs.UnitLemmas.{length-zeros}
-use Rattle.mount_replay.proofs.ZeroLemmas.{not_empty, zeroed_none, zeroed_tail, run_fits}
+use Rattle.block_device.specs.Disk.{Disk}
+use Rattle.mount_replay.specs.Calls.{Told}
+use Rattle.mount_replay.specs.Zeroing.{ZeroesOnly}
+use Rattle.mount_replay.proofs.CallLemmas.{either_failure}
+use Rattle.mount_replay.proofs.ZeroLemmas.{not_empty, none_left, zeroed_none, zeroed_tail, run_fits, only_after, wrote_all}
 use Rattle.mount_replay.proofs.zeroing.zero_units.Goals as goal
 
 pub runs-init : goal.runs-init
@@ -33,7 +37,39 @@ runs-preserved g c =
     let n = c.first_run-count.result in
     let disk = g.D.Device.disk in
     let size = c.units.ensures.sound.size_now in (
-      zeroed_tail c.runs.rest.now n c.first_run-count.ensures (not_empty c.runs.rest.now _ c.is_empty.ensures c.runs-test.true) c.args.units.now (disk c.args.dev.now) (disk c.runs.dev) _ _ (omega arith) size c.runs.invariant.0
+      zeroed_tail c.runs.rest.now n c.first_run-count.ensures (not_empty c.runs.rest.now _ c.is_empty.ensures c.runs-test.true) c.args.units.now c.runs.runs (disk c.args.dev.now) (disk c.runs.dev) _ _ (omega arith) size c.runs.invariant.0
           (rw c.in-Ok.ensures at c.in_ok-write_through.ensures.ok),
       omega (arith, c.runs.invariant.1, c.in_ok-write_through.ensures.later),
     )
+
+pub overflow_add-runs : goal.overflow_add-runs
+overflow_add-runs g c =
+    let some = not_empty c.runs.rest.now _ c.is_empty.ensures c.runs-test.true in
+    omega (arith, c.runs.invariant.0.few, c.requires.few, some)
+
+pub returns-in_default-clause-only : goal.returns-in_default-clause-only
+returns-in_default-clause-only g c = λ first end between. (c.runs.invariant.0.only first end between).1
+
+pub returns-in_err-write_through-clause-only : goal.returns-in_err-write_through-clause-only
+returns-in_err-write_through-clause-only g c first end between =
+    let disk = g.D.Device.disk in
+    let so_far = c.runs.invariant.0 in
+    let was = so_far.only first end between in
+    let failed = c.in_err-write_through.ensures in
+    let n = c.first_run-count.result in
+    either_failure (Told (ZeroesOnly first end) (disk c.args.dev.now).history (disk c.write_through.new.dev).history) c.in_err-write_through.field-0.0
+    (λ is. only_after c.runs.rest.now n c.first_run-count.ensures (not_empty c.runs.rest.now _ c.is_empty.ensures c.runs-test.true) first end false
+    (disk c.args.dev.now) (disk c.runs.dev) _ was (rw c.in-Ok.ensures at (failed.fault (ap Err is))))
+    (λ is. subst (λ (d : Disk). Told (ZeroesOnly first end) (disk c.args.dev.now).history d.history) (sym (failed.memory (ap Err is))) was.1)
+
+pub returns-clause-runs : goal.returns-clause-runs
+returns-clause-runs g c =
+    let disk = g.D.Device.disk in
+    wrote_all c.args.units.now c.runs.rest.now c.runs.runs (disk c.args.dev.now) (disk c.runs.dev) (none_left c.runs.rest.now _ c.is_empty.ensures c.runs-test.false)
+    c.runs.invariant.0
+
+pub returns-clause-few : goal.returns-clause-few
+returns-clause-few g c = omega (arith, c.runs.invariant.0.few)
+
+pub returns-clause-only : goal.returns-clause-only
+returns-clause-only g c = λ first end between. (c.runs.invariant.0.only first end between).1

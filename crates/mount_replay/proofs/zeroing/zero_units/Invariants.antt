@@ -6,7 +6,7 @@ abbrev pub invariant-runs : goal.invariant-runs
 invariant-runs g l =
     let disk = g.D.Device.disk in
     let faults = g.D.Device.faults in
-    ZeroedSoFar l.units l.rest (disk l.initial.dev) (disk l.dev) × (faults l.initial.dev ≤ faults l.dev)
+    ZeroedSoFar l.units l.rest l.runs (disk l.initial.dev) (disk l.dev) × (faults l.initial.dev ≤ faults l.dev)
 
 abbrev pub decreases-runs : goal.decreases-runs
 decreases-runs g l = length l.rest

@@ -1,0 +1,191 @@
+-- A kernel is opened on the store that was found, or the device comes back.
+use Rattle.std.proofs.Common.{◌≡◌, ℕ, ◌+◌, ◌*◌, ◌≤◌, List, [], length, take, drop, Option, Some, None, refl, sym, ap, subst, ◌∙◌, arith}
+use Rattle.std.specs.Prelude.{IfSome}
+use Rattle.std.proofs.lemmas.List.{take_at}
+use Rattle.byte_maps.specs.Units.{IsUnits}
+use Rattle.block_device.specs.Log.{last, IsClean}
+use Rattle.block_device.specs.Disk.{Disk, History, IsSound}
+use Rattle.object_model.specs.Objects.{Objects}
+use Rattle.meta_log.specs.Records.{active_half}
+use Rattle.store_image.specs.Stands.{StandsFor}
+use Rattle.store_image.specs.Durability.{IsStart, EachCutStands}
+use Rattle.unit_allocator.specs.Units.{Space}
+use Rattle.store_steps.specs.State.{State}
+use Rattle.store_steps.specs.Opened.{Found, opened}
+use Rattle.store_facts.specs.Space.{AreGoodRows}
+use Rattle.store_facts.specs.Kept.{IsOpenable, IsKept}
+use Rattle.store_facts.proofs.Kept.{kept_open}
+use Rattle.crash_facts.specs.Store.{KeepsDurable, IsMounted}
+use Rattle.crash_facts.proofs.Keeping.{mounted_keeps}
+use Rattle.mount_replay.specs.Calls.{Told, IsLater}
+use Rattle.mount_replay.specs.Cleared.{IsAllClean}
+use Rattle.mount_replay.specs.Clearing.{AreClearing, IsCleared, ClearsSoFar}
+use Rattle.mount_replay.specs.Opening.{IsAbout, IsFoundIn, IsRefused, IsUnopenable, FailsMount}
+use Rattle.mount_replay.specs.FoundOn.{IsFoundOn, IsJudged, as_found, first_behind, half_end, rest_of_half, IsLogCleared, ClearsLog}
+use Rattle.mount_replay.specs.Mounting.{behind_records, WasOpened, IsOpenedOn, StaysDurable}
+use Rattle.mount_replay.specs.declared.opening.MountFail.{MountFail}
+use Rattle.mount_replay.specs.declared.opening.MountFail.TheVariants.{Memory, NoSuper, BadRow, Unsupported, WornOut, Fault}
+use Rattle.mount_replay.specs.declared.replaying.FoundStore.{FoundStore}
+use Rattle.mount_replay.proofs.RunLemmas.{by_length}
+use Rattle.mount_replay.proofs.ZeroLemmas.{told_map, goes_on_same}
+use Rattle.mount_replay.proofs.ClearLemmas.{told_both}
+use Rattle.mount_replay.proofs.OpeningLemmas.{about_all, about_more}
+use Rattle.mount_replay.proofs.DurableLemmas.{no_book, still_durable, after_clearing, is_mounted}
+
+-- ---- what is told of two histories
+
+known : (P : History → Type 0) (o : Option History) (h : History) → o ≡ Some h → IfSome o P → P h
+known P o h is p = subst (λ (x : Option History). IfSome x P) is p
+
+-- what follows a history that is told
+record ToldAfter (P : History → History → Type 0) (h : History) (b : Option History) : Type 0 where
+  now : History
+  told : b ≡ Some now
+  holds : P h now
+
+told_after : (P : History → History → Type 0) (b : Option History) (h : History) → Told P (Some h) b → ToldAfter P h b
+told_after P None h p = absurd p
+told_after P (Some k) h p = record { now = k; told = refl; holds = p }
+
+-- what comes before one that is told
+record ToldBefore (P : History → History → Type 0) (a : Option History) (k : History) : Type 0 where
+  old : History
+  told : a ≡ Some old
+  holds : P old k
+
+told_before : (P : History → History → Type 0) (a : Option History) (k : History) → Told P a (Some k) → ToldBefore P a k
+told_before P None k p = absurd p
+told_before P (Some h) k p = record { old = h; told = refl; holds = p }
+
+-- ---- a device that is as it was
+
+pub stays_same : (d : Disk) → IsSound d → StaysDurable d d
+stays_same d sound h opening told clean stands = record {
+  history = h;
+  told = told;
+  goes_on = goes_on_same h;
+  cuts = still_durable d.units h opening (known (λ g. IsUnits d.units g.start) d.history h told sound.size)
+      (known (λ g. IsUnits d.units (last g.start g.log)) d.history h told sound.size_now) clean stands;
+}
+
+-- ---- a store that was found
+
+module _ (s : FoundStore) (d : Disk) (sound : IsSound d) (found : IsFoundOn d s) (good : AreGoodRows s.sup s.log.rows.rows) where
+  f : Found
+  f = as_found s
+
+  -- what its contents hold, where nothing is dirty
+  holds : (h : History) → d.history ≡ Some h → IsAllClean h → IsFoundIn (last h.start h.log) (as_found s) × (s.half.items ≡ active_half (last h.start h.log) s.sup)
+  holds h told clean =
+      known (λ g. IsAllClean g → IsFoundIn (last g.start g.log) (as_found s) × (s.half.items ≡ active_half (last g.start g.log) s.sup)) d.history h told found.about clean
+
+  rest_is : (h : History) → d.history ≡ Some h → IsAllClean h → rest_of_half s ≡ behind_records (last h.start h.log) (as_found s)
+  rest_is h told clean = ap (λ l. drop (4096 * s.log.tail) l) (holds h told clean).1
+
+  whole : (h : History) → d.history ≡ Some h → IsUnits s.sup.units h.start
+  whole h told = subst (λ n. IsUnits n h.start) (sym found.units_are) (known (λ g. IsUnits d.units g.start) d.history h told sound.size)
+
+  whole_now : (h : History) → d.history ≡ Some h → IsUnits s.sup.units (last h.start h.log)
+  whole_now h told =
+      subst (λ n. IsUnits n (last h.start h.log)) (sym found.units_are) (known (λ g. IsUnits d.units (last g.start g.log)) d.history h told sound.size_now)
+
+  stays_by : (h k : History) (opening : Objects) → d.history ≡ Some h → IsAllClean h → StandsFor (last h.start h.log) opening → ClearsLog s h k
+      → EachCutStands (length h.log) k opening no_book
+  stays_by h k opening told clean stands so_far =
+      let contents = last h.start h.log in
+      let here = (holds h told clean).0 in
+      let same = subst (λ l. ClearsSoFar (first_behind s) (half_end s) l h k) (rest_is h told clean) so_far in
+      (after_clearing (as_found s) h opening clean (whole h told) (whole_now h told) found.limits good here stands k same).cuts
+
+  pub stays_begun : (now : Disk) → Told (ClearsLog s) d.history now.history → StaysDurable d now
+  stays_begun now told h opening is clean stands =
+      let after = told_after (ClearsLog s) now.history h (subst (λ o. Told (ClearsLog s) o now.history) is told) in record {
+        history = after.now;
+        told = after.told;
+        goes_on = record { same_start = after.holds.by.same_start; events = after.holds.events; more = after.holds.by.more };
+        cuts = stays_by h after.now opening is clean stands after.holds;
+      }
+
+  -- ---- the kernel
+
+  -- both facts of the clearing
+  abbrev Both : ℕ → History → History → Type 0
+  Both count h k = ClearsLog s h k × IsLogCleared s count h k
+
+  mounted_by : (count : ℕ) (h k : History) (base : ℕ) (opening : Objects) → d.history ≡ Some h → Both count h k → length k.log ≡ base + count
+      → IsStart base k opening → IsMounted base opening (as_found s) count k
+  mounted_by count h k base opening told both counted start =
+      let so_far = both.0 in
+      let cleared = both.1 in
+      let longer = by_length cleared.events h k cleared.by in
+      let base_is : base ≡ length h.log = omega (arith, longer, counted, cleared.counted) in
+      let front : take base k.log ≡ h.log =
+      ap (λ n. take n k.log) base_is ∙ ap (take (length h.log)) cleared.by.more ∙ take_at h.log cleared.events (length h.log) refl in
+      let clean : IsAllClean h = λ unit. subst (λ l. IsClean l unit) front (start.clean unit) in
+      let stands : StandsFor (last h.start h.log) opening =
+      subst (λ a. StandsFor (last a h.log) opening) cleared.by.same_start (subst (λ l. StandsFor (last k.start l) opening) front start.stands) in
+      let here = (holds h told clean).0 in
+      let rest = rest_is h told clean in
+      subst (λ n. IsMounted n opening (as_found s) count k) (sym base_is)
+      (is_mounted (as_found s) h opening clean (whole h told) (whole_now h told) found.limits good here stands k count
+      (subst (λ l. ClearsSoFar (first_behind s) (half_end s) l h k) rest so_far)
+      (subst (λ l. IsCleared (first_behind s) (half_end s) l count h k) rest cleared))
+
+  pub opened_durable : (space : Space) (count : ℕ) (now : Disk) → now.flights ≡ [] → Told (ClearsLog s) d.history now.history
+      → Told (IsLogCleared s count) d.history now.history → KeepsDurable (opened (as_found s) space count) now
+  opened_durable space count now idle so_far cleared = mounted_keeps (as_found s) space count now idle (λ k base opening told counted start.
+      let both = told_both (ClearsLog s) (IsLogCleared s count) (Both count) d.history now.history (λ h k p q. (p, q)) so_far cleared in
+      let before = told_before (Both count) d.history k (subst (λ o. Told (Both count) d.history o) told both) in
+      mounted_by count before.old k base opening before.told before.holds counted start)
+
+  was_opened : (count : ℕ) (h k : History) → d.history ≡ Some h → IsLogCleared s count h k → WasOpened (as_found s) count h k
+  was_opened count h k told cleared = record {
+    events = cleared.events;
+    by = cleared.by;
+    counted = cleared.counted;
+    clearing = λ clean. subst (λ l. AreClearing (length h.log) (first_behind s) (half_end s) l cleared.events) (rest_is h told clean) cleared.are;
+    clean = cleared.clean;
+  }
+
+  pub openable : (space : Space) (units : ℕ) → s.sup.units ≡ units → IsJudged (as_found s) space → IsOpenable (as_found s) space units
+  openable space units same judged = record {
+    limits = found.limits;
+    units_are = same;
+    number = omega (arith, judged.numbers.1);
+    tail = found.tail;
+    good = judged.good;
+    space = judged.units;
+    free = judged.free;
+  }
+
+  pub opened_kept : (space : Space) (count : ℕ) (now : Disk) → IsSound now → now.flights ≡ [] → now.units ≡ d.units → count ≤ 4194308
+      → IsJudged (as_found s) space → IsKept (opened (as_found s) space count) now
+  opened_kept space count now now_sound idle same few judged =
+      kept_open (as_found s) space count now now_sound idle (omega (arith, few)) (openable space now.units (found.units_are ∙ sym same) judged)
+
+  pub opened_on : (space : Space) (count : ℕ) (now : Disk) (state : State) → IsJudged (as_found s) space → IsLater d now
+      → Told (IsLogCleared s count) d.history now.history → state ≡ opened (as_found s) space count → IsOpenedOn d (as_found s) space now state
+  opened_on space count now state judged later cleared is = record {
+    openable = openable space d.units found.units_are judged;
+    numbers = judged.numbers;
+    found = about_more d (λ contents. IsFoundIn contents (as_found s) × (s.half.items ≡ active_half contents s.sup)) (λ contents. IsFoundIn contents (as_found s))
+        (λ contents both. both.0) found.about;
+    events = count;
+    state = is;
+    later = later;
+    told = told_map (IsLogCleared s count) (WasOpened (as_found s) count) d.history now.history (λ h k told p. was_opened count h k told p) cleared;
+  }
+
+-- ---- a store that is refused
+
+found_about : (s : FoundStore) (d : Disk) → IsFoundOn d s → (P : List ℕ → Type 0) → ((contents : List ℕ) → IsFoundIn contents (as_found s) → P contents) → IsAbout d P
+found_about s d found P then =
+    about_more d (λ contents. IsFoundIn contents (as_found s) × (s.half.items ≡ active_half contents s.sup)) P (λ contents both. then contents both.0) found.about
+
+pub refused_fails : (s : FoundStore) (d : Disk) (before now : ℕ) (fail : MountFail) → IsFoundOn d s → IsRefused fail (as_found s) → FailsMount fail d before now
+refused_fails s d before now Memory found refused = about_all d (λ contents. Unit {0}) (λ contents. tt)
+refused_fails s d before now NoSuper found refused = absurd refused
+refused_fails s d before now (BadRow key) found refused = found_about s d found (IsUnopenable (BadRow key)) (λ contents here. (as_found s, here, refused))
+refused_fails s d before now Unsupported found refused = found_about s d found (IsUnopenable Unsupported) (λ contents here. (as_found s, here, refused))
+refused_fails s d before now (WornOut value) found refused = found_about s d found (IsUnopenable (WornOut value)) (λ contents here. (as_found s, here, refused))
+refused_fails s d before now Fault found refused = absurd refused

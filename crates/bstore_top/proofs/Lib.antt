@@ -5,7 +5,8 @@ pub mod TextLemmas
 pub mod ReplyLemmas
 pub mod DrawLemmas
 pub mod RunLemmas
-pub mod WorkLemmas
 pub mod FreeLemmas
 pub mod RunLaws
+pub mod WorkLemmas
 pub mod Keeping
+pub mod GoodStarts

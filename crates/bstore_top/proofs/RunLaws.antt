@@ -1,55 +1,55 @@
 -- What holds at the end of a run of a script: the run is one of the kernel, so what is known of these holds of it.
-use Rattle.std.proofs.Common.{◌≡◌, ℕ, ◌+◌, ◌<◌, true, false, List, [], ◌∷◌, ◌++◌, length, Option, Some, None, refl, sym, ap, subst}
+use Rattle.std.proofs.Common.{◌≡◌, ℕ, suc, ◌+◌, ◌<◌, ◌≤◌, Bool, true, false, is_some, slice_get, length-append, List, [], ◌∷◌, ◌++◌, length, Option, Some, None, refl, sym, ap, subst}
 use Rattle.std.proofs.Common.{◌∙◌, arith, inl, inr, append-nil}
 use Rattle.std.specs.Prelude.{IfSome, All}
-use Rattle.std.specs.FinMap as finite
 use Rattle.std.proofs.lemmas.List.Elements.{All-head}
-use Rattle.byte_maps.specs.Units.{zeros}
+use Rattle.std.proofs.lemmas.Bool.{lt-ltb}
+use Rattle.std.proofs.lemmas.Option.{same_Some, IfSome_then}
 use Rattle.block_device.specs.Log.{last, IsClean}
 use Rattle.end_points.specs.Bay.{Names, BayView, StartsWith, start_of}
 use Rattle.end_points.specs.declared.bay.How.TheVariants.{Plain}
-use Rattle.block_device.specs.Disk.{Disk, History, IsSound, IsFresh}
-use Rattle.block_device.specs.Facts.{last_at}
+use Rattle.block_device.specs.Disk.{Disk, History, IsFresh}
 use Rattle.block_device.specs.declared.event.Event.{Event}
 use Rattle.block_device.proofs.LogLemmas.{slice_get-lt}
-use Rattle.object_model.specs.Book.{accepted, committed_places, IsLegal}
+use Rattle.object_model.specs.Objects.{Objects}
+use Rattle.object_model.specs.Book.{accepted, acked_count, committed_places, IsLegal}
+use Rattle.object_model.specs.declared.book.Commit.{Commit}
 use Rattle.object_model.specs.Effect.{replay}
 use Rattle.object_model.specs.declared.book.Book.{Book}
-use Rattle.meta_log.specs.declared.slot.Super.{Super}
-use Rattle.meta_log.specs.Slots.{active_unit}
 use Rattle.store_image.specs.Stands.{StandsFor}
-use Rattle.store_image.specs.Durability.{EachCutStands}
 use Rattle.unit_allocator.specs.Units.{Space}
 use Rattle.script_text.specs.declared.line.Line.{Line}
 use Rattle.store_steps.specs.declared.step.Step.{Step}
 use Rattle.store_steps.specs.declared.step.Step.TheVariants.{Reap}
 use Rattle.store_steps.specs.State.{State}
-use Rattle.store_steps.specs.Opened.{opened}
+use Rattle.store_steps.specs.Opened.{Found}
 use Rattle.store_steps.specs.Ready.{is_drained, is_empty}
 use Rattle.store_steps.specs.Runs.{Call, stepping, Calls, IsRun}
+use Rattle.store_facts.specs.Room.{AcksAre}
 use Rattle.store_facts.specs.Kept.{IsKept}
-use Rattle.store_facts.proofs.Kept.{kept_open}
 use Rattle.store_facts.proofs.Readiness.{none_ready}
 use Rattle.store_facts.proofs.Conditions.{IsIdle}
 use Rattle.store_facts.proofs.Known.{known_idle}
 use Rattle.unit_facts.proofs.Runs.{drained_clean}
-use Rattle.book_facts.specs.BookFacts.{KnownOfBook, AreQueued}
+use Rattle.book_facts.specs.BookFacts.{KnownOfBook, AreQueued, StandSomehow, IsInOrder}
 use Rattle.book_facts.proofs.KeptCalls.{kept_run}
 use Rattle.book_facts.proofs.Books.{book_opened, known_legal}
-use Rattle.book_facts.proofs.BookCalls.{book_run}
-use Rattle.crash_facts.specs.Store.{KnownOfStore, IsDurable}
-use Rattle.crash_facts.proofs.Runs.{run_durable, opened_durable, drained_stands}
-use Rattle.mount_replay.specs.Cleared.{IsAllClean}
-use Rattle.mount_replay.specs.Opening.{IsNewStore}
-use Rattle.mount_replay.specs.Mounting.{IsOpenedOn}
+use Rattle.book_facts.proofs.BookCalls.{book_run, order_run}
+use Rattle.book_facts.proofs.Order.{order_opened}
+use Rattle.book_facts.proofs.Commits.{one_if, count_cons}
+use Rattle.crash_facts.specs.Store.{KnownOfStore, IsDurable, KeepsDurable}
+use Rattle.crash_facts.proofs.Runs.{run_durable, drained_stands}
+use Rattle.mount_replay.specs.Calls.{Told}
+use Rattle.mount_replay.specs.Mounting.{IsOpenedOn, WasOpened}
 use Rattle.bstore_top.specs.declared.step_end.StepEnd.{StepEnd}
-use Rattle.bstore_top.specs.declared.step_end.StepEnd.TheVariants.{Done, BadLine, NoSuper, NotNew, WornOut, DeviceFault, OutOfMemory, BayFault}
+use Rattle.bstore_top.specs.declared.step_end.StepEnd.TheVariants.{Done, BadLine, NoSuper, BadRow, Unsupported, WornOut, DeviceFault, OutOfMemory, BayFault}
 use Rattle.bstore_top.specs.Choice.{ready_list, Position, IsDrawnRun}
 use Rattle.bstore_top.specs.Printed.{Output, TookAll}
 use Rattle.bstore_top.specs.StepTexts.{step_number, step_text}
 use Rattle.bstore_top.specs.StepRun.{Seen, AskedUpTo, RunsScript, WorksOn, EndsOpened, IsStepDone, ReportsStep, RanStep}
 use Rattle.bstore_top.specs.Standing.{HasFree, IsFinished, IsComplete}
-use Rattle.bstore_top.specs.Finished.{TellsFinished, Succeeded}
+use Rattle.bstore_top.specs.Keeping.{KeepsStore}
+use Rattle.bstore_top.specs.Finished.{FinishesOn, Succeeded}
 use Rattle.bstore_top.proofs.FreeLemmas.{drained_free}
 
 -- ---- runs
@@ -60,7 +60,7 @@ drawn_run p [] q run = (ap (λ (z : Position). z.state) run, ap (λ (z : Positio
 drawn_run p (call ∷ calls) q run = (run.0.state, (run.0.disk, (run.1.0.called, (run.1.0.sound, drawn_run run.0 calls q run.1.1))))
 
 -- a run behind another
-joined_run : (xs ys : List Call) (s t u : State) (d e f : Disk) → IsRun s d xs t e → IsRun t e ys u f → IsRun s d (xs ++ ys) u f
+pub joined_run : (xs ys : List Call) (s t u : State) (d e f : Disk) → IsRun s d xs t e → IsRun t e ys u f → IsRun s d (xs ++ ys) u f
 joined_run [] ys s t u d e f first second =
     subst (λ (z : State). IsRun z d ys u f) first.0 (subst (λ (z : Disk). IsRun t z ys u f) first.1 second)
 joined_run (x ∷ xs) ys s t u d e f first second =
@@ -68,85 +68,84 @@ joined_run (x ∷ xs) ys s t u d e f first second =
 
 -- ---- opened
 
--- what the opened kernel keeps
-opened_kept : (given : Disk) (sup : Super) (space : Space) (s : State) → IsSound given → given.flights ≡ [] → IsOpenedOn given sup space s
-    → IsKept s given
-opened_kept given sup space s sound quiet mounted =
-    subst (λ (t : State). IsKept t given) (sym mounted.state)
-    (kept_open sup space 0 given sound quiet mounted.numbers.limits mounted.numbers.units_are (omega (arith, mounted.numbers.first_low)) (omega arith)
-    mounted.space_of mounted.free)
+pub opened_book : (opening : Objects) (given : Disk) (f : Found) (space : Space) (start : Disk) (s : State) → IsOpenedOn given f space start s
+    → StandSomehow f.rows opening → KnownOfBook opening s
+opened_book opening given f space start s mounted stand =
+    subst (KnownOfBook opening) (sym mounted.state) (book_opened opening f space mounted.events stand)
 
-opened_book : (given : Disk) (sup : Super) (space : Space) (s : State) → IsOpenedOn given sup space s → KnownOfBook finite.empty s
-opened_book given sup space s mounted = subst (KnownOfBook finite.empty) (sym mounted.state) (book_opened sup space 0)
+-- the book of a run from there is legal, whatever the rows stand for
+pub legal_of : (given : Disk) (f : Found) (space : Space) (start : Disk) (s closed : State) (disk : Disk) (calls : List Call) (book : Book)
+    → IsOpenedOn given f space start s → IsKept s start → IsRun s start calls closed disk → book ≡ closed.book
+    → (objects : Objects) → StandSomehow f.rows objects → IsLegal objects book
+legal_of given f space start s closed disk calls book mounted kept run book_is objects stand =
+    subst (IsLegal objects) (sym book_is)
+    (known_legal objects closed (book_run objects calls s closed start disk kept (opened_book objects given f space start s mounted stand) run))
 
 -- in a log without events nothing is dirty
 pub clean_of_none : (log : List Event) → log ≡ [] → (unit : ℕ) → IsClean log unit
 clean_of_none log none unit place event there writes = absurd (omega (arith, slice_get-lt log event place there, ap (λ (l : List Event). length l) none))
 
-module _ (given : Disk) (h : History) (sound : IsSound given) (fresh : IsFresh given) (told : given.history ≡ Some h) where
+-- what the mount left of a device that tells its history is told too
+told_opened : (f : Found) (count : ℕ) (h : History) (old new : Option History) → old ≡ Some h → Told (WasOpened f count) old new
+    → (k : History) × (new ≡ Some k) × WasOpened f count h k
+told_opened f count h None new is told = absurd cc
+told_opened f count h (Some g) None is told = absurd told
+told_opened f count h (Some g) (Some k) is told = (k, refl, subst (λ (z : History). WasOpened f count z k) (same_Some g h is) told)
+
+module _ (given : Disk) (h : History) (fresh : IsFresh given) (told : given.history ≡ Some h) where
   pub log_empty : h.log ≡ []
   log_empty = subst (λ (o : Option History). IfSome o (λ g. g.log ≡ [])) told fresh.log
 
-  store_durable : (sup : Super) (space : Space) (s : State) → IsOpenedOn given sup space s → IsDurable 0 finite.empty s given
-  store_durable sup space s mounted =
-      let clean : (unit : ℕ) → IsClean h.log unit = clean_of_none h.log log_empty in
-      let about : IsAllClean h → IsNewStore (last h.start h.log) sup =
-      subst (λ (o : Option History). IfSome o (λ g. IsAllClean g → IsNewStore (last g.start g.log) sup)) told mounted.new_store in
-      let store : IsNewStore (last h.start h.log) sup = about clean in
-      let zeroed : (k : ℕ) → k < sup.half → last_at h (active_unit sup + k) ≡ zeros 4096 =
-      λ k below. store.empty (active_unit sup + k) (omega arith) (omega (arith, below)) in
-      let kept : IsKept (opened sup space 0) given =
-      subst (λ (t : State). IsKept t given) mounted.state (opened_kept given sup space s sound fresh.idle mounted) in
-      subst (λ (n : ℕ). IsDurable n finite.empty s given) (ap (λ (l : List Event). length l) log_empty)
-      (subst (λ (t : State). IsDurable (length h.log) finite.empty t given) (sym mounted.state)
-      (opened_durable sup space given h kept told fresh.idle clean store.active zeroed))
-
-  -- an opened store stands for no collection
-  pub opened_stands : (sup : Super) (space : Space) (s : State) → IsOpenedOn given sup space s → StandsFor h.start finite.empty
-  opened_stands sup space s mounted =
-      let after : IsDurable 0 finite.empty (opened sup space 0) given =
-      subst (λ (t : State). IsDurable 0 finite.empty t given) mounted.state (store_durable sup space s mounted) in
-      let kept : IsKept (opened sup space 0) given =
-      subst (λ (t : State). IsKept t given) mounted.state (opened_kept given sup space s sound fresh.idle mounted) in
-      let both : Some after.history ≡ Some h = sym after.told ∙ told in
-      let same : after.history ≡ h = cc in
-      let stands : StandsFor (last after.history.start after.history.log) finite.empty =
-      drained_stands 0 finite.empty (opened sup space 0) given after.history kept refl refl (after.up refl) in
-      let here : StandsFor (last h.start h.log) finite.empty = subst (λ (k : History). StandsFor (last k.start k.log) finite.empty) same stands in
-      subst (λ (l : List Event). StandsFor (last h.start l) finite.empty) log_empty here
+  -- the mounted kernel is durable for the objects that the contents stood for
+  pub start_durable : (f : Found) (space : Space) (start : Disk) (s : State) (objects : Objects) → IsOpenedOn given f space start s
+      → KeepsDurable s start → StandsFor h.start objects → IsDurable 0 objects s start
+  start_durable f space start s objects mounted keeps stands =
+      let left = told_opened f mounted.events h given.history start.history told mounted.told in
+      let k : History = left.0 in
+      let opened_by : WasOpened f mounted.events h k = left.2 in
+      let many : length k.log ≡ length h.log + length opened_by.events =
+      ap (λ (l : List Event). length l) opened_by.by.more ∙ length-append h.log opened_by.events in
+      let counted : length k.log ≡ 0 + s.events =
+      omega (arith, many, ap (λ (l : List Event). length l) log_empty, opened_by.counted, ap (λ (t : State). t.events) mounted.state) in
+      keeps k 0 objects left.1 counted (record {
+        reached = omega arith;
+        clean = clean_of_none [] refl;
+        stands = subst (λ (bytes : List ℕ). StandsFor bytes objects) (sym opened_by.by.same_start) stands;
+      })
 
 -- ---- a run of a script, however it ended
 
-module _ (seed : ℕ) (lines : List Line) (given disk : Disk) (end : StepEnd) (book : Book) (sound : IsSound given) (quiet : given.flights ≡ [])
-    (ran : RunsScript seed lines given end book disk) where
-  first_kept : IsKept ran.first given
-  first_kept = opened_kept given ran.sup ran.space ran.first sound quiet ran.mounted
+-- the run, with what the mounted kernel keeps
+pub record RanKept (seed : ℕ) (lines : List Line) (given : Disk) (end : StepEnd) (book : Book) (disk : Disk) : Type 0 where
+  pub ran : RunsScript seed lines given end book disk
+  pub kept : IsKept ran.first ran.start
+  pub durable : KeepsDurable ran.first ran.start
+
+module _ (seed : ℕ) (lines : List Line) (given disk : Disk) (end : StepEnd) (book : Book) (all : RanKept seed lines given end book disk) where
+  abbrev ran : RunsScript seed lines given end book disk
+  ran = all.ran
 
   -- up to its last position
-  script_run : IsRun ran.first given ran.calls ran.last.state ran.last.disk
+  script_run : IsRun ran.first ran.start ran.calls ran.last.state ran.last.disk
   script_run = drawn_run _ ran.calls ran.last ran.drawn
 
   -- with the ends that unmounting takes
-  whole_run : IsRun ran.first given (ran.calls ++ ran.reaped.calls) ran.closed disk
-  whole_run = joined_run ran.calls ran.reaped.calls ran.first ran.last.state ran.closed given ran.last.disk disk script_run ran.reaped.run
+  whole_run : IsRun ran.first ran.start (ran.calls ++ ran.reaped.calls) ran.closed disk
+  whole_run = joined_run ran.calls ran.reaped.calls ran.first ran.last.state ran.closed ran.start ran.last.disk disk script_run ran.reaped.run
 
-  pub script_legal : IsLegal finite.empty book
-  script_legal =
-      subst (IsLegal finite.empty) (sym ran.book_is)
-      (known_legal finite.empty ran.closed
-      (book_run finite.empty (ran.calls ++ ran.reaped.calls) ran.first ran.closed given disk first_kept
-      (opened_book given ran.sup ran.space ran.first ran.mounted) whole_run))
+  module _ (h : History) (objects : Objects) (fresh : IsFresh given) (told : given.history ≡ Some h) (stands : StandsFor h.start objects) where
+    first_durable : IsDurable 0 objects ran.first ran.start
+    first_durable = start_durable given h fresh told ran.found ran.space ran.start ran.first objects ran.mounted all.durable stands
 
-pub script_durable : (seed : ℕ) (lines : List Line) (given disk : Disk) (h : History) (end : StepEnd) (book : Book) → IsSound given → IsFresh given
-    → given.history ≡ Some h → RunsScript seed lines given end book disk
-    → (h' : History) × (disk.history ≡ Some h') × EachCutStands 0 h' finite.empty book
-script_durable seed lines given disk h end book sound fresh told ran =
-    let after : IsDurable 0 finite.empty ran.closed disk =
-    run_durable 0 finite.empty (ran.calls ++ ran.reaped.calls) ran.first ran.closed given disk
-    (first_kept seed lines given disk end book sound fresh.idle ran)
-    (store_durable given h sound fresh told ran.sup ran.space ran.first ran.mounted)
-    (whole_run seed lines given disk end book sound fresh.idle ran) in
-    (after.history, after.told, subst (λ (b : Book). EachCutStands 0 after.history finite.empty b) (sym ran.book_is) after.cuts)
+    pub script_durable : IsDurable 0 objects ran.closed disk
+    script_durable = run_durable 0 objects (ran.calls ++ ran.reaped.calls) ran.first ran.closed ran.start disk all.kept first_durable whole_run
+
+    last_durable : IsDurable 0 objects ran.last.state ran.last.disk
+    last_durable = run_durable 0 objects ran.calls ran.first ran.last.state ran.start ran.last.disk all.kept first_durable script_run
+
+    -- for these objects the book is legal
+    pub script_legal : IsLegal objects book
+    script_legal = subst (IsLegal objects) (sym ran.book_is) (known_legal objects ran.closed script_durable.book)
 
 -- ---- a run that did all that there was to do
 
@@ -164,55 +163,64 @@ no_reap (call ∷ calls) s s' d d' drained reaps run =
     let none : false ≡ true = sym (none_ready d.depth s drained Reap) ∙ made.0 in
     absurd cc
 
-pub script_finished : (seed free : ℕ) (lines : List Line) (given disk : Disk) (h : History) (book : Book) → IsSound given → IsFresh given
-    → given.history ≡ Some h → RunsScript seed lines given (Done free) book disk
-    → (h' : History) × (disk.history ≡ Some h') × IsFinished free book h'
-script_finished seed free lines given disk h book sound fresh told ran =
+pub script_finished : (seed free : ℕ) (lines : List Line) (given disk : Disk) (h : History) (objects : Objects) (book : Book) → IsFresh given
+    → given.history ≡ Some h → StandsFor h.start objects → RanKept seed lines given (Done free) book disk
+    → (h' : History) × (disk.history ≡ Some h') × IsFinished objects free book h'
+script_finished seed free lines given disk h objects book fresh told stands all =
+    let ran : RunsScript seed lines given (Done free) book disk = all.ran in
     let s : State = ran.last.state in
     let d : Disk = ran.last.disk in
     let up : s.down ≡ None = ran.ended.2 in
     let drained : is_drained d.depth s ≡ true = drained_of d.depth s ran.ended.1 in
-    let first : IsKept ran.first given = first_kept seed lines given disk (Done free) book sound fresh.idle ran in
-    let run : IsRun ran.first given ran.calls s d = script_run seed lines given disk (Done free) book sound fresh.idle ran in
-    let kept : IsKept s d = kept_run ran.calls ran.first s given d first run in
-    let after : IsDurable 0 finite.empty s d =
-    run_durable 0 finite.empty ran.calls ran.first s given d first (store_durable given h sound fresh told ran.sup ran.space ran.first ran.mounted) run in
-    let known : KnownOfStore 0 finite.empty s d after.history = after.up up in
+    let kept : IsKept s d = kept_run ran.calls ran.first s ran.start d all.kept (script_run seed lines given disk (Done free) book all) in
+    let after : IsDurable 0 objects s d = last_durable seed lines given disk (Done free) book all h objects fresh told stands in
+    let known : KnownOfStore 0 objects s d after.history = after.up up in
     let same = no_reap ran.reaped.calls s ran.closed d disk drained ran.reaped.reaps ran.reaped.run in
     let book_is : s.book ≡ book = sym (ran.book_is ∙ ap (λ (z : State). z.book) same.0) in
     let contents : List ℕ = last after.history.start after.history.log in (
       after.history,
       ap (λ (z : Disk). z.history) same.1 ∙ after.told,
       record {
-        stands = subst (λ (b : Book). StandsFor contents (replay finite.empty (accepted b.entries))) book_is
-            (drained_stands 0 finite.empty s d after.history kept up drained known);
+        stands = subst (λ (b : Book). StandsFor contents (replay objects (accepted b.entries))) book_is
+            (drained_stands 0 objects s d after.history kept up drained known);
         clean = drained_clean 0 s d after.history kept known.units up drained;
         has_free = subst (λ (n : ℕ). HasFree contents n) (sym ran.ended.3) (drained_free 0 s d after.history kept known.units up drained);
       },
     )
 
 -- all that was accepted is committed and acknowledged
-book_complete : (s : State) → KnownOfBook finite.empty s → IsIdle s → IsComplete s.book
-book_complete s known idle =
+
+all_acked : (cs : List Commit) → ((i : ℕ) → i < length cs → IfSome (slice_get cs i) (λ c. is_some c.acked_at ≡ true)) → acked_count cs ≡ length cs
+all_acked [] acks = refl
+all_acked (c ∷ cs) acks =
+    let here : is_some c.acked_at ≡ true = acks 0 (omega arith) in
+    let behind : acked_count cs ≡ length cs = all_acked cs (λ i below. acks (suc i) (omega (arith, below))) in
+    let one : one_if (is_some c.acked_at) ≡ 1 = ap one_if here in
+    omega (arith, count_cons c cs, one, behind)
+
+acked_below : (acked : ℕ) (cs : List Commit) → AcksAre acked cs → length cs ≤ acked → acked_count cs ≡ length cs
+acked_below acked cs acks all = all_acked cs (λ i below. IfSome_then (slice_get cs i) (acks i) (λ (c : Commit) is. is ∙ lt-ltb i acked (omega (arith, below, all))))
+
+order_complete : (s : State) (d : Disk) → IsKept s d → IsInOrder s → IsIdle s → IsComplete s.book
+order_complete s d kept known idle =
     let queued : AreQueued s.book [] = subst (AreQueued s.book) idle.pending known.queued in
     record {
       in_order = λ coll. queued.in_order coll ∙ append-nil (committed_places coll s.book.entries s.book.commits);
-      acked = sym known.commits.counted ∙ idle.acked;
+      acked = acked_below s.acked s.book.commits kept.always.book.acks (omega (arith, idle.acked));
     }
 
-script_complete : (seed free : ℕ) (lines : List Line) (given disk : Disk) (book : Book) → IsSound given → given.flights ≡ []
-    → RunsScript seed lines given (Done free) book disk → IsComplete book
-script_complete seed free lines given disk book sound quiet ran =
+pub script_complete : (seed free : ℕ) (lines : List Line) (given disk : Disk) (book : Book) → RanKept seed lines given (Done free) book disk → IsComplete book
+script_complete seed free lines given disk book all =
+    let ran : RunsScript seed lines given (Done free) book disk = all.ran in
     let s : State = ran.last.state in
     let d : Disk = ran.last.disk in
     let drained : is_drained d.depth s ≡ true = drained_of d.depth s ran.ended.1 in
-    let first : IsKept ran.first given = first_kept seed lines given disk (Done free) book sound quiet ran in
-    let run : IsRun ran.first given ran.calls s d = script_run seed lines given disk (Done free) book sound quiet ran in
-    let kept : IsKept s d = kept_run ran.calls ran.first s given d first run in
-    let known : KnownOfBook finite.empty s =
-    book_run finite.empty ran.calls ran.first s given d first (opened_book given ran.sup ran.space ran.first ran.mounted) run in
+    let run : IsRun ran.first ran.start ran.calls s d = script_run seed lines given disk (Done free) book all in
+    let kept : IsKept s d = kept_run ran.calls ran.first s ran.start d all.kept run in
+    let first : IsInOrder ran.first = subst IsInOrder (sym ran.mounted.state) (order_opened ran.found ran.space ran.mounted.events) in
+    let known : IsInOrder s = order_run ran.calls ran.first s ran.start d all.kept first run in
     let same = no_reap ran.reaped.calls s ran.closed d disk drained ran.reaped.reaps ran.reaped.run in
-    subst IsComplete (sym (ran.book_is ∙ ap (λ (z : State). z.book) same.0)) (book_complete s known (known_idle s d kept ran.ended.2 drained))
+    subst IsComplete (sym (ran.book_is ∙ ap (λ (z : State). z.book) same.0)) (order_complete s d kept known (known_idle s d kept ran.ended.2 drained))
 
 -- ---- a run that returns 0
 
@@ -226,7 +234,8 @@ ends_well : (book : Book) (end : StepEnd) (old new : Output) → 0 ≡ step_numb
 ends_well book (Done free) old new is took = record { free = free; is = refl; printed = took }
 ends_well book (BadLine n) old new is took = absurd (omega (arith, is))
 ends_well book NoSuper old new is took = absurd (omega (arith, is))
-ends_well book NotNew old new is took = absurd (omega (arith, is))
+ends_well book (BadRow key) old new is took = absurd (omega (arith, is))
+ends_well book Unsupported old new is took = absurd (omega (arith, is))
 ends_well book WornOut old new is took = absurd (omega (arith, is))
 ends_well book DeviceFault old new is took = absurd (omega (arith, is))
 ends_well book OutOfMemory old new is took = absurd (omega (arith, is))
@@ -238,51 +247,49 @@ reports_well book end old new (inl (inr front)) = absurd (omega (arith, front.0)
 reports_well book end old new (inr (inl whole)) = absurd (omega (arith, whole.0))
 reports_well book end old new (inr (inr front)) = absurd (omega (arith, front.0))
 
--- where the bay tells names the device that it gave tells a history
-told_if : (Q : Type 0) (given : Disk) (dev : List ℕ) (names : Option Names) → IfSome names (λ n. StartsWith given (start_of n dev Plain))
-    → ((h : History) → given.history ≡ Some h → Q) → IfSome names (λ n. Q)
-told_if Q given dev None contents then = tt
-told_if Q given dev (Some n) contents then = from (start_of n dev Plain) contents
-  where
-    from : (o : Option (List ℕ)) → StartsWith given o → Q
-    from None contents = absurd contents
-    from (Some start) contents = then (record { start = start; log = [] }) contents
-
-tells_finished : (seed free : ℕ) (lines : List Line) (given disk : Disk) (book : Book) → IsSound given → IsFresh given
-    → RunsScript seed lines given (Done free) book disk → (h : History) → given.history ≡ Some h → TellsFinished free book disk
-tells_finished seed free lines given disk book sound fresh ran h told =
-    let done = script_finished seed free lines given disk h book sound fresh told ran in
-    record { history = done.0; told = done.1; finished = done.2 }
+-- where the bay tells names, the device that it gave began with what the bay has under its name, and the run has finished on it
+finishes : (dev : List ℕ) (free : ℕ) (given disk : Disk) (book : Book) (names : Option Names) → KeepsStore given (Done free) book disk
+    → IfSome names (λ n. StartsWith given (start_of n dev Plain)) → IfSome names (FinishesOn dev free book disk)
+finishes dev free given disk book None keeps begins = tt
+finishes dev free given disk book (Some n) keeps begins = λ contents objects is stands.
+    let told : given.history ≡ Some (record { start = contents; log = [] }) = subst (StartsWith given) is begins in
+    let done = keeps.at_end free (record { start = contents; log = [] }) objects refl told stands in
+    record {
+      history = done.0;
+      told = done.1;
+      legal = keeps.legal (record { start = contents; log = [] }) objects told stands;
+      finished = done.2;
+    }
 
 module _ (dev script : List ℕ) (seed : ℕ) (seen : Seen) (bay_old bay_new : BayView) (before now : ℕ) (old new : Output) (free : ℕ)
     (printed : TookAll (step_text seen.book (Done free)) old new) where
   ran_well : (e : EndsOpened dev script seed (Done free) seen bay_old bay_new) → RunsScript seed e.lines e.given (Done free) seen.book e.disk
-      → Succeeded script seen bay_old old new
+      → Succeeded dev script seed seen bay_old old new
   ran_well e ran = record {
     lines = e.lines;
     has_script = e.has_script;
     all = subst (AskedUpTo e.lines seen.book.entries) ran.ended.0 ran.entries;
-    legal = script_legal seed e.lines e.given e.disk (Done free) seen.book e.sound e.handed_out.fresh.idle ran;
-    complete = script_complete seed free e.lines e.given e.disk seen.book e.sound e.handed_out.fresh.idle ran;
+    complete = e.keeps.complete free refl;
     free = free;
     printed = printed;
+    given = e.given;
     disk = e.disk;
     is_disk = e.is_disk;
-    finished = told_if (TellsFinished free seen.book e.disk) e.given dev bay_old.names e.handed_out.contents
-        (tells_finished seed free e.lines e.given e.disk seen.book e.sound e.handed_out.fresh ran);
+    ran = ran;
+    finished = finishes dev free e.given e.disk seen.book bay_old.names e.keeps e.handed_out.contents;
   }
 
   worked_well : (e : EndsOpened dev script seed (Done free) seen bay_old bay_new) → WorksOn seed e.lines e.given 0 (Done free) seen.book e.disk e.faults
-      → Succeeded script seen bay_old old new
+      → Succeeded dev script seed seen bay_old old new
   worked_well e (inl failed) = absurd failed.0
   worked_well e (inr ran) = ran_well e ran.1
 
-  done_well : IsStepDone dev script seed (Done free) seen bay_old bay_new before now → Succeeded script seen bay_old old new
+  done_well : IsStepDone dev script seed (Done free) seen bay_old bay_new before now → Succeeded dev script seed seen bay_old old new
   done_well (inl e) = absurd e.cause
   done_well (inr e) = worked_well e e.works
 
 pub step_succeeded : (dev script : List ℕ) (seed : ℕ) (seen : Seen) (bay_old bay_new : BayView) (before now : ℕ) (old new : Output)
-    → RanStep dev script seed 0 seen bay_old bay_new before now old new → Succeeded script seen bay_old old new
+    → RanStep dev script seed 0 seen bay_old bay_new before now old new → Succeeded dev script seed seen bay_old old new
 step_succeeded dev script seed seen bay_old bay_new before now old new ran =
     let well : EndsWell seen.book ran.end old new = reports_well seen.book ran.end old new ran.printed in
     done_well dev script seed seen bay_old bay_new before now old new well.free well.printed

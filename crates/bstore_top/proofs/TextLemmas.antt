@@ -6,7 +6,8 @@ use Rattle.std.specs.declared.alloc.Global.{Global}
 use Rattle.std.proofs.lemmas.Fmt.{decimal_digit}
 use Rattle.bstore_top.specs.declared.status.Stop.{Stop}
 use Rattle.bstore_top.specs.declared.status.Stop.TheVariants.{BadScript, Refused}
-use Rattle.bstore_top.specs.StepTexts.{script_line}
+use Rattle.bstore_top.specs.Hex.{hex_text}
+use Rattle.bstore_top.specs.StepTexts.{script_line, bad_row_line}
 use Rattle.bstore_top.specs.Status.{stop_number}
 use Rattle.bstore_top.specs.Texts.{as_text, made_line, too_small_line, stopped_line}
 
@@ -39,3 +40,11 @@ pub bad_line_is : (n : ℕ) → codes "script 0 line " ++ (decimal n ++ codes "\
 bad_line_is n =
     ap (λ (t : List ℕ). codes "script 0 line " ++ (decimal n ++ (10 ∷ t))) (sym (stopped_is BadScript 2 refl (omega arith)))
     ∙ sym (append_assoc (codes "script 0 line ") (decimal n) (10 ∷ as_text (stopped_line BadScript ∷ [])))
+
+-- the first bad row of a store
+pub bad_row_is : (key text : List ℕ) → text ≡ hex_text key
+    → codes "mount BadRow " ++ (text ++ codes "\nstopped 4\n") ≡ as_text (bad_row_line key ∷ stopped_line Refused ∷ [])
+bad_row_is key text is =
+    ap (λ (t : List ℕ). codes "mount BadRow " ++ (t ++ codes "\nstopped 4\n")) is
+    ∙ ap (λ (t : List ℕ). codes "mount BadRow " ++ (hex_text key ++ (10 ∷ t))) (sym (stopped_is Refused 4 refl (omega arith)))
+    ∙ sym (append_assoc (codes "mount BadRow ") (hex_text key) (10 ∷ as_text (stopped_line Refused ∷ [])))

@@ -8,7 +8,6 @@ use Rattle.block_device.specs.declared.event.Event.{Event}
 use Rattle.end_points.specs.Bay.{Names}
 use Rattle.object_model.specs.declared.command.Command.TheVariants as command
 use Rattle.object_model.specs.declared.book.Book.{Book}
-use Rattle.meta_log.specs.declared.slot.Super.{Super}
 use Rattle.unit_allocator.specs.Units.{Space}
 use Rattle.script_text.specs.Grammar.{command_count}
 use Rattle.script_text.specs.Script.{EachSays, commands, numbered, IsScript, IsBadAt, IsTextOf}
@@ -21,21 +20,25 @@ use Rattle.script_text.specs.declared.line.What.TheVariants as what
 use Rattle.store_steps.specs.declared.step.Step.{Step}
 use Rattle.store_steps.specs.declared.step.Step.TheVariants.{Data, Reap, Take, Flush, Seal, Record, Sync, Commit, Finish}
 use Rattle.store_steps.specs.State.{State}
+use Rattle.store_steps.specs.Opened.{Found}
 use Rattle.store_steps.specs.Submit.{free_count}
 use Rattle.store_steps.specs.Runs.{Call, submitting, stepping, DoesOrFails, Calls}
+use Rattle.store_facts.specs.Kept.{IsKept}
+use Rattle.crash_facts.specs.Store.{KeepsDurable}
 use Rattle.store_kernel.specs.declared.step_fail.StepFail.{StepFail}
 use Rattle.store_kernel.specs.declared.step_fail.StepFail.TheVariants as run
 use Rattle.mount_replay.specs.Calls.{Told, GoesOn, IsLater}
-use Rattle.mount_replay.specs.Opening.{FailsMount}
+use Rattle.mount_replay.specs.Opening.{FailsMount, SubmitsNothing}
 use Rattle.mount_replay.specs.Mounting.{IsOpenedOn, IsReapedTo}
 use Rattle.mount_replay.specs.declared.opening.MountFail.{MountFail}
 use Rattle.mount_replay.specs.declared.opening.MountFail.TheVariants as fail
-use Rattle.mount_replay.proofs.ZeroLemmas.{told_start, goes_on_same, later_same}
+use Rattle.mount_replay.proofs.ZeroLemmas.{told_start, goes_on_same}
 use Rattle.mount_replay.proofs.MadeLemmas.{told_join}
 use Rattle.bstore_top.specs.declared.step_end.StepEnd.{StepEnd}
 use Rattle.bstore_top.specs.Choice.{Ask, asked, asks_of, Position, at_position, IsDrawnRun}
-use Rattle.bstore_top.specs.StepRun.{asked_in, asked_by, IsTextUnder, FailsBefore, end_of_script, EndsAt, RunsScript, FailsToMount, HasCounted, end_of_mount, end_of_run}
+use Rattle.bstore_top.specs.StepRun.{asked_in, asked_by, IsTextUnder, FailsBefore, end_of_script, EndsAt, FailsToMount, LeftByMount, HasCounted, end_of_mount, end_of_run}
 use Rattle.bstore_top.specs.Stepping.{LeadsTo, RunsUpTo, FitsLine}
+use Rattle.bstore_top.proofs.RunLaws.{drawn_run, joined_run, legal_of, RanKept}
 
 -- ---- the script
 
@@ -95,12 +98,19 @@ script_fails script.ReadFault names name left none some before now faults bad ro
 pub mount_fails : (f : MountFail) (given : Disk) (before now : ℕ) → FailsMount f given before now → FailsToMount (end_of_mount f) given before now
 mount_fails fail.Memory given before now fails = tt
 mount_fails fail.NoSuper given before now fails = fails
-mount_fails fail.NotNew given before now fails = fails
+mount_fails (fail.BadRow key) given before now fails = fails
+mount_fails fail.Unsupported given before now fails = fails
 mount_fails (fail.WornOut value) given before now fails = (value, fails)
 mount_fails fail.Fault given before now fails = fails
 
-pub later_same_disk : (d d' : Disk) → d.flights ≡ [] → d' ≡ d → IsLater d d'
-later_same_disk d d' idle same = subst (λ (z : Disk). IsLater d z) (sym same) (later_same d idle)
+-- what a mount that failed leaves of the device
+pub left_by_mount : (f : MountFail) (given disk : Disk) → (SubmitsNothing f → disk ≡ given) → IsLater given disk → LeftByMount (end_of_mount f) given disk
+left_by_mount fail.Memory given disk same later = later
+left_by_mount fail.NoSuper given disk same later = same tt
+left_by_mount (fail.BadRow key) given disk same later = same tt
+left_by_mount fail.Unsupported given disk same later = same tt
+left_by_mount (fail.WornOut value) given disk same later = same tt
+left_by_mount fail.Fault given disk same later = later
 
 -- ---- the device along a run
 
@@ -160,11 +170,14 @@ run_goes_on : (p : Position) (calls : List Call) (q : Position) → IsDrawnRun p
 run_goes_on p [] q run = went_equal p.disk q.disk (ap (λ (z : Position). z.disk) run)
 run_goes_on p (call ∷ calls) q run = went_trans p.disk run.0.disk q.disk (call_goes_on call p.state p.disk run.0.state run.0.disk run.1.0.called) (run_goes_on run.0 calls q run.1.1)
 
--- the device that comes back is a later state of the one that was mounted
-pub later_of_run : (given d d' disk : Disk) (p q : Position) → d ≡ given → p.disk ≡ d → q.disk ≡ d' → LeadsTo p q → IsLater d' disk → IsLater given disk
-later_of_run given d d' disk p q same first last leads later =
+-- the device that comes back is a later state of the one that was given
+pub later_of_run : (given start d' disk : Disk) (p q : Position) → IsLater given start → p.disk ≡ start → q.disk ≡ d' → LeadsTo p q → IsLater d' disk
+    → IsLater given disk
+later_of_run given start d' disk p q mounted first last leads later =
     let went : WentOn p.disk q.disk = run_goes_on p leads.calls q leads.run in
-    let from : WentOn given d' = subst (λ (z : Disk). WentOn z d') (first ∙ same) (subst (λ (z : Disk). WentOn p.disk z) last went) in
+    let ran : WentOn start d' = subst (λ (z : Disk). WentOn z d') first (subst (λ (z : Disk). WentOn p.disk z) last went) in
+    let from : WentOn given d' =
+    went_trans given start d' (record { units = mounted.units; depth = mounted.depth; told = mounted.told }) ran in
     record {
       units = later.units ∙ from.units;
       depth = later.depth ∙ from.depth;
@@ -181,35 +194,49 @@ pub record IsClosed (s : State) (d : Disk) (book : Book) (disk : Disk) : Type 0 
   pub book_is : book ≡ closed.book
   pub same : book ≡ s.book
 
-runs_script : (failed : Option StepFail) (end : StepEnd) (seed : ℕ) (lines : List Line) (given : Disk) (sup : Super) (space : Space) (s : State) (d : Disk) (s' : State) (d' : Disk) (book : Book) (disk : Disk) → RunsUpTo failed seed lines s d s' d'
-    → d ≡ given → IsOpenedOn given sup space s → IsClosed s' d' book disk → ((x : ℕ) (left : List Ask) → (failed ≡ None → left ≡ []) → EndsAt end (at_position x left s' d')) → RunsScript seed lines given end book disk
-runs_script failed end seed lines given sup space s d s' d' book disk ran same mounted closed ends = record {
-  sup = sup;
-  space = space;
-  first = s;
-  mounted = mounted;
-  calls = ran.leads.calls;
-  last = at_position ran.x_last ran.left s' d';
-  drawn = subst (λ (z : Disk). IsDrawnRun (at_position seed (asks_of lines) s z) ran.leads.calls (at_position ran.x_last ran.left s' d')) same ran.leads.run;
-  ended = ends ran.x_last ran.left ran.all;
-  entries =
-      ap (λ (z : State). map asked_in z.book.entries ++ map asked_by (asks_of lines)) (sym mounted.state)
-      ∙ (ran.entries ∙ ap (λ (b : Book). map asked_in b.entries ++ map asked_by ran.left) (sym closed.same));
-  closed = closed.closed;
-  reaped = closed.reaped;
-  book_is = closed.book_is;
-}
+-- what is known of a kernel that was just mounted
+pub record IsMountedOn (given : Disk) (f : Found) (space : Space) (start : Disk) (s : State) : Type 0 where
+  pub mounted : IsOpenedOn given f space start s
+  pub kept : IsKept s start
+  pub durable : KeepsDurable s start
 
--- the script was run, whatever came of it
-pub works_mounted : (r : Result (Unit {0}) StepFail) (free : ℕ) (seed : ℕ) (lines : List Line) (given : Disk) (sup : Super) (space : Space) (s : State) (d : Disk) (s' : State) (d' : Disk) (book : Book) (disk : Disk)
-    → MatchResult r (λ _. RunsUpTo None seed lines s d s' d') (λ e. RunsUpTo (Some e) seed lines s d s' d') → free ≡ free_count s'.space → d ≡ given → IsOpenedOn given sup space s → IsClosed s' d' book disk
-    → RunsScript seed lines given (end_of_run r free) book disk
-works_mounted (Ok u) free seed lines given sup space s d s' d' book disk ran free_is same mounted closed =
-    runs_script None (end_of_run (Ok u) free) seed lines given sup space s d s' d' book disk ran same mounted closed (λ x left all. (all refl, ran.ended.0, ran.ended.1, free_is))
-works_mounted (Err run.Memory) free seed lines given sup space s d s' d' book disk ran free_is same mounted closed =
-    runs_script (Some run.Memory) (end_of_run (Err run.Memory) free) seed lines given sup space s d s' d' book disk ran same mounted closed (λ x left all. ran.ended)
-works_mounted (Err run.Fault) free seed lines given sup space s d s' d' book disk ran free_is same mounted closed =
-    runs_script (Some run.Fault) (end_of_run (Err run.Fault) free) seed lines given sup space s d s' d' book disk ran same mounted closed (λ x left all. ran.ended)
+module _ (seed : ℕ) (lines : List Line) (given : Disk) (f : Found) (space : Space) (start : Disk) (s : State) (s' : State) (d' : Disk) (book : Book) (disk : Disk)
+    (known : IsMountedOn given f space start s) (closed : IsClosed s' d' book disk) where
+  runs_script : (failed : Option StepFail) (end : StepEnd) (ran : RunsUpTo failed seed lines s start s' d')
+      → EndsAt end (at_position ran.x_last ran.left s' d') → RanKept seed lines given end book disk
+  runs_script failed end ran ends = record {
+    ran = record {
+      found = f;
+      space = space;
+      start = start;
+      first = s;
+      mounted = known.mounted;
+      calls = ran.leads.calls;
+      last = at_position ran.x_last ran.left s' d';
+      drawn = ran.leads.run;
+      ended = ends;
+      entries =
+          ap (λ (z : State). map asked_in z.book.entries ++ map asked_by (asks_of lines)) (sym known.mounted.state)
+          ∙ (ran.entries ∙ ap (λ (b : Book). map asked_in b.entries ++ map asked_by ran.left) (sym closed.same));
+      closed = closed.closed;
+      reaped = closed.reaped;
+      book_is = closed.book_is;
+      legal = legal_of given f space start s closed.closed disk (ran.leads.calls ++ closed.reaped.calls) book known.mounted known.kept
+          (joined_run ran.leads.calls closed.reaped.calls s s' closed.closed start d' disk
+          (drawn_run (at_position seed (asks_of lines) s start) ran.leads.calls (at_position ran.x_last ran.left s' d') ran.leads.run) closed.reaped.run)
+          closed.book_is;
+    };
+    kept = known.kept;
+    durable = known.durable;
+  }
+
+  -- the script was run, whatever came of it
+  pub works_mounted : (r : Result (Unit {0}) StepFail) (free : ℕ)
+      → MatchResult r (λ _. RunsUpTo None seed lines s start s' d') (λ e. RunsUpTo (Some e) seed lines s start s' d') → free ≡ free_count s'.space
+      → RanKept seed lines given (end_of_run r free) book disk
+  works_mounted (Ok u) free ran free_is = runs_script None (end_of_run (Ok u) free) ran (ran.all refl, ran.ended.0, ran.ended.1, free_is)
+  works_mounted (Err run.Memory) free ran free_is = runs_script (Some run.Memory) (end_of_run (Err run.Memory) free) ran ran.ended
+  works_mounted (Err run.Fault) free ran free_is = runs_script (Some run.Fault) (end_of_run (Err run.Fault) free) ran ran.ended
 
 -- a fault of the run is counted
 pub run_counted : (r : Result (Unit {0}) StepFail) (free before a b now : ℕ) → (r ≡ Err run.Fault → Rose a b) → before ≤ a → b ≤ now → HasCounted (end_of_run r free) before now
@@ -218,16 +245,18 @@ run_counted (Err run.Memory) free before a b now cause first last = tt
 run_counted (Err run.Fault) free before a b now cause first last = omega (arith, cause refl, first, last)
 
 -- the run began where the store was opened
-pub later_ran : (r : Result (Unit {0}) StepFail) (seed : ℕ) (lines : List Line) (given : Disk) (s : State) (d : Disk) (s' : State) (d' disk : Disk) → MatchResult r (λ _. RunsUpTo None seed lines s d s' d') (λ e. RunsUpTo (Some e) seed lines s d s' d')
-    → d ≡ given → IsLater d' disk → IsLater given disk
-later_ran (Ok u) seed lines given s d s' d' disk ran same later =
-    later_of_run given d d' disk (at_position seed (asks_of lines) s d) (at_position ran.x_last ran.left s' d') same refl refl ran.leads later
-later_ran (Err e) seed lines given s d s' d' disk ran same later =
-    later_of_run given d d' disk (at_position seed (asks_of lines) s d) (at_position ran.x_last ran.left s' d') same refl refl ran.leads later
+pub later_ran : (r : Result (Unit {0}) StepFail) (seed : ℕ) (lines : List Line) (given : Disk) (s : State) (start : Disk) (s' : State) (d' disk : Disk)
+    → MatchResult r (λ _. RunsUpTo None seed lines s start s' d') (λ e. RunsUpTo (Some e) seed lines s start s' d') → IsLater given start
+    → IsLater d' disk → IsLater given disk
+later_ran (Ok u) seed lines given s start s' d' disk ran mounted later =
+    later_of_run given start d' disk (at_position seed (asks_of lines) s start) (at_position ran.x_last ran.left s' d') mounted refl refl ran.leads later
+later_ran (Err e) seed lines given s start s' d' disk ran mounted later =
+    later_of_run given start d' disk (at_position seed (asks_of lines) s start) (at_position ran.x_last ran.left s' d') mounted refl refl ran.leads later
 
 -- what the opened kernel is
-pub opened_up : (given : Disk) (sup : Super) (space : Space) (s : State) → IsOpenedOn given sup space s → s.down ≡ None
-opened_up given sup space s mounted = ap (λ (z : State). z.down) mounted.state
+pub opened_up : (given : Disk) (f : Found) (space : Space) (start : Disk) (s : State) → IsOpenedOn given f space start s → s.down ≡ None
+opened_up given f space start s mounted = ap (λ (z : State). z.down) mounted.state
 
-pub opened_no_entry : (given : Disk) (sup : Super) (space : Space) (s : State) (n : ℕ) → IsOpenedOn given sup space s → n ≤ 1048576 → length s.book.entries + n ≤ 1048576
-opened_no_entry given sup space s n mounted few = omega (arith, few, ap (λ (z : State). length z.book.entries) mounted.state)
+pub opened_no_entry : (given : Disk) (f : Found) (space : Space) (start : Disk) (s : State) (n : ℕ) → IsOpenedOn given f space start s → n ≤ 1048576
+    → length s.book.entries + n ≤ 1048576
+opened_no_entry given f space start s n mounted few = omega (arith, few, ap (λ (z : State). length z.book.entries) mounted.state)

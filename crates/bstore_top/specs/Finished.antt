@@ -2,32 +2,42 @@
 use Rattle.std.specs.Prelude.{◌≡◌, ℕ, List, [], Some, IfSome}
 use Rattle.std.specs.FinMap as map
 use Rattle.block_device.specs.Disk.{Disk, History}
-use Rattle.end_points.specs.Bay.{BayView}
+use Rattle.end_points.specs.Bay.{Names, BayView}
+use Rattle.object_model.specs.Objects.{Objects}
 use Rattle.object_model.specs.Book.{IsLegal}
 use Rattle.object_model.specs.declared.book.Book.{Book}
+use Rattle.store_image.specs.Stands.{StandsFor}
 use Rattle.script_text.specs.declared.line.Line.{Line}
 use Rattle.bstore_top.specs.declared.step_end.StepEnd.TheVariants.{Done}
 use Rattle.bstore_top.specs.Printed.{Output, TookAll}
 use Rattle.bstore_top.specs.Standing.{IsFinished, IsComplete}
 use Rattle.bstore_top.specs.StepTexts.{step_text}
-use Rattle.bstore_top.specs.StepRun.{HasScript, AskedUpTo, Seen}
+use Rattle.bstore_top.specs.StepRun.{HasScript, AskedUpTo, RunsScript, Seen}
 
 -- the device tells a history, and the run has finished on it
-pub record TellsFinished (free : ℕ) (book : Book) (disk : Disk) : Type 0 where
+pub record TellsFinished (objects : Objects) (free : ℕ) (book : Book) (disk : Disk) : Type 0 where
   pub history : History
   pub told : disk.history ≡ Some history
-  pub finished : IsFinished free book history
+  pub legal : IsLegal objects book
+  pub finished : IsFinished objects free book history
 
--- All transactions of the script have their entries in the book, which is legal and complete. The text says so with the number of free
--- units, and where the bay tells what stands under its names the device tells that the run has finished on it.
-pub record Succeeded (script : List ℕ) (seen : Seen) (bay : BayView) (old new : Output) : Type 0 where
+-- so it is for all objects that what stands under the device's name stands for
+abbrev pub FinishesOn : List ℕ → ℕ → Book → Disk → Names → Type 0
+FinishesOn dev free book disk names = (contents : List ℕ) (objects : Objects) → map.get names.devices dev ≡ Some contents → StandsFor contents objects
+    → TellsFinished objects free book disk
+
+-- All transactions of the script have their entries in the book, which is complete. The run behind it says what was found on the device, and that
+-- the book is legal for all objects that the rows stand for. The text says how many units are free, and where the bay tells what stands under
+-- its names the device tells that the run has finished on it.
+pub record Succeeded (dev script : List ℕ) (seed : ℕ) (seen : Seen) (bay : BayView) (old new : Output) : Type 0 where
   pub lines : List Line
   pub has_script : HasScript bay.names script lines
   pub all : AskedUpTo lines seen.book.entries []
-  pub legal : IsLegal map.empty seen.book
   pub complete : IsComplete seen.book
   pub free : ℕ
   pub printed : TookAll (step_text seen.book (Done free)) old new
+  pub given : Disk
   pub disk : Disk
   pub is_disk : seen.disk ≡ Some disk
-  pub finished : IfSome bay.names (λ names. TellsFinished free seen.book disk)
+  pub ran : RunsScript seed lines given (Done free) seen.book disk
+  pub finished : IfSome bay.names (FinishesOn dev free seen.book disk)

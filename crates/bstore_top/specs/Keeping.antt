@@ -1,6 +1,5 @@
 -- What a run on a store leaves of its device and of its book, whatever happened on the way.
 use Rattle.std.specs.Prelude.{◌≡◌, ℕ, List, Some}
-use Rattle.std.specs.FinMap as map
 use Rattle.block_device.specs.Disk.{Disk, History}
 use Rattle.object_model.specs.Book.{IsLegal}
 use Rattle.object_model.specs.Objects.{Objects}
@@ -9,7 +8,7 @@ use Rattle.store_image.specs.Stands.{StandsFor}
 use Rattle.store_image.specs.Durability.{EachCutStands}
 use Rattle.bstore_top.specs.declared.step_end.StepEnd.{StepEnd}
 use Rattle.bstore_top.specs.declared.step_end.StepEnd.TheVariants.{Done}
-use Rattle.bstore_top.specs.Standing.{IsFinished}
+use Rattle.bstore_top.specs.Standing.{IsFinished, IsComplete}
 
 -- Prefix durability of a run. The device tells a log that began with these contents. At every cut of it, whatever image the crash allows
 -- stands for the objects after the first commits of the book, among which is each one acknowledged by then, unless something torn is
@@ -27,11 +26,13 @@ StaysDurable given book disk = (h : History) (objects : Objects) → given.histo
 
 -- where the run has done all that there was to do, the device stands for just that
 abbrev pub StandsAtEnd : Disk → StepEnd → Book → Disk → Type 0
-StandsAtEnd given end book disk = (free : ℕ) (h : History) → end ≡ Done free → given.history ≡ Some h
-    → (after : History) × (disk.history ≡ Some after) × IsFinished free book after
+StandsAtEnd given end book disk = (free : ℕ) (h : History) (objects : Objects) → end ≡ Done free → given.history ≡ Some h
+    → StandsFor h.start objects → (after : History) × (disk.history ≡ Some after) × IsFinished objects free book after
 
--- Each transaction has the answer that plain objects give, each collection's were committed in their order, and the device keeps them.
+-- Each transaction has the answer that plain objects give, for those that the contents of the given device stood for where it tells them;
+-- each collection's were committed in their order, and the device keeps them. Where all was done each accepted one is committed.
 pub record KeepsStore (given : Disk) (end : StepEnd) (book : Book) (disk : Disk) : Type 0 where
-  pub legal : IsLegal map.empty book
+  pub legal : (h : History) (objects : Objects) → given.history ≡ Some h → StandsFor h.start objects → IsLegal objects book
   pub durable : StaysDurable given book disk
   pub at_end : StandsAtEnd given end book disk
+  pub complete : (free : ℕ) → end ≡ Done free → IsComplete book

@@ -2,6 +2,7 @@ pub mod Status
 pub mod CommandLine
 pub mod Texts
 pub mod Replies
+pub mod Hex
 pub mod StepTexts
 pub mod Printed
 pub mod Choice
@@ -9,5 +10,6 @@ pub mod Standing
 pub mod Keeping
 pub mod StepRun
 pub mod Finished
+pub mod GoodStart
 pub mod Stepping
 pub mod Run

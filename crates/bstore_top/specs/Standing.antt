@@ -1,9 +1,9 @@
 -- What a device and a book hold where all that there was to do is done.
 use Rattle.std.specs.Prelude.{◌≡◌, ◌↔◌, ℕ, List, length, Contains}
-use Rattle.std.specs.FinMap as map
 use Rattle.unit_fields.specs.UnitSet.{Ascends}
 use Rattle.block_device.specs.Log.{last, IsClean}
 use Rattle.block_device.specs.Disk.{History}
+use Rattle.object_model.specs.Objects.{Objects}
 use Rattle.object_model.specs.Effect.{replay}
 use Rattle.object_model.specs.Book.{accepted, acked_count, places_of, committed_places}
 use Rattle.object_model.specs.declared.book.Book.{Book}
@@ -29,9 +29,9 @@ pub record HasFree (contents : List ℕ) (free : ℕ) : Type 0 where
   pub unowned : AreUnowned sup rows units
   pub count : free ≡ length units
 
--- The device stands for the objects after all transactions of the book that were accepted, no unit is dirty, and so many are free.
-pub record IsFinished (free : ℕ) (book : Book) (h : History) : Type 0 where
-  pub stands : StandsFor (last h.start h.log) (replay map.empty (accepted book.entries))
+-- The device stands for what these objects are after all transactions of the book that were accepted, no unit is dirty, and so many are free.
+pub record IsFinished (objects : Objects) (free : ℕ) (book : Book) (h : History) : Type 0 where
+  pub stands : StandsFor (last h.start h.log) (replay objects (accepted book.entries))
   pub clean : (unit : ℕ) → IsClean h.log unit
   pub has_free : HasFree (last h.start h.log) free
 

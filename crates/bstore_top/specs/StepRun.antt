@@ -4,19 +4,23 @@ use Rattle.std.specs.FinMap as finite
 use Rattle.block_device.specs.Disk.{Disk, IsSound, Rose}
 use Rattle.end_points.specs.Bay.{BayView, Names, HandedOut}
 use Rattle.end_points.specs.declared.bay.How.TheVariants.{Plain}
+use Rattle.object_model.specs.Objects.{Objects}
+use Rattle.object_model.specs.Book.{IsLegal}
 use Rattle.object_model.specs.declared.book.Book.{Book}
 use Rattle.object_model.specs.declared.book.Entry.{Entry}
 use Rattle.object_model.specs.declared.command.Command.{Command}
 use Rattle.object_model.specs.declared.command.Command.TheVariants as command
-use Rattle.meta_log.specs.declared.slot.Super.{Super}
 use Rattle.unit_allocator.specs.Units.{Space}
 use Rattle.script_text.specs.Script.{IsScript, IsBadAt}
 use Rattle.script_text.specs.declared.fail.ScriptFail.{ScriptFail}
 use Rattle.script_text.specs.declared.fail.ScriptFail.TheVariants as script
 use Rattle.script_text.specs.declared.line.Line.{Line}
 use Rattle.store_steps.specs.State.{State}
+use Rattle.store_steps.specs.Opened.{Found}
+use Rattle.book_facts.specs.BookFacts.{StandSomehow}
 use Rattle.store_steps.specs.Submit.{free_count}
 use Rattle.store_steps.specs.Runs.{Call}
+use Rattle.mount_replay.specs.Calls.{IsLater}
 use Rattle.mount_replay.specs.Opening.{FailsMount}
 use Rattle.mount_replay.specs.Mounting.{IsOpenedOn, IsReapedTo}
 use Rattle.store_kernel.specs.declared.step_fail.StepFail.{StepFail}
@@ -26,7 +30,7 @@ use Rattle.mount_replay.specs.declared.opening.MountFail.TheVariants as fail
 use Rattle.block_device.specs.declared.device.Failed.{Failed}
 use Rattle.block_device.specs.declared.device.Failed.TheVariants as failed
 use Rattle.bstore_top.specs.declared.step_end.StepEnd.{StepEnd}
-use Rattle.bstore_top.specs.declared.step_end.StepEnd.TheVariants.{Done, BadLine, NoSuper, NotNew, WornOut, DeviceFault, OutOfMemory, BayFault}
+use Rattle.bstore_top.specs.declared.step_end.StepEnd.TheVariants.{Done, BadLine, NoSuper, BadRow, Unsupported, WornOut, DeviceFault, OutOfMemory, BayFault}
 use Rattle.bstore_top.specs.declared.status.Stop.TheVariants as stop
 use Rattle.bstore_top.specs.Texts.{as_text, stopped_line}
 use Rattle.bstore_top.specs.StepTexts.{step_number, step_text}
@@ -78,20 +82,23 @@ EndsAt DeviceFault p = is_some p.state.down ≡ true
 EndsAt OutOfMemory p = p.state.down ≡ None
 EndsAt end p = ⊥
 
--- A script was run on a store: the calls that were drawn lead from the mounted kernel to the last one, whose book it is.
+-- A script was run on a store: the calls that were drawn lead from the mounted kernel, over the device as the mount left it, to the last one,
+-- whose book it is. The book is legal for all objects that the rows which were found stand for.
 pub record RunsScript (seed : ℕ) (lines : List Line) (given : Disk) (end : StepEnd) (book : Book) (disk : Disk) : Type 0 where
-  pub sup : Super
+  pub found : Found
   pub space : Space
+  pub start : Disk
   pub first : State
-  pub mounted : IsOpenedOn given sup space first
+  pub mounted : IsOpenedOn given found space start first
   pub calls : List Call
   pub last : Position
-  pub drawn : IsDrawnRun (at_position seed (asks_of lines) first given) calls last
+  pub drawn : IsDrawnRun (at_position seed (asks_of lines) first start) calls last
   pub ended : EndsAt end last
   pub entries : AskedUpTo lines book.entries last.asks
   pub closed : State
   pub reaped : IsReapedTo last.state last.disk closed disk
   pub book_is : book ≡ closed.book
+  pub legal : (objects : Objects) → StandSomehow found.rows objects → IsLegal objects book
 
 -- ---- the whole
 
@@ -121,7 +128,8 @@ FailsBefore end names script source_faults before now = ⊥
 abbrev pub end_of_mount : MountFail → StepEnd
 end_of_mount fail.Memory = OutOfMemory
 end_of_mount fail.NoSuper = NoSuper
-end_of_mount fail.NotNew = NotNew
+end_of_mount (fail.BadRow key) = BadRow key
+end_of_mount fail.Unsupported = Unsupported
 end_of_mount (fail.WornOut value) = WornOut
 end_of_mount fail.Fault = DeviceFault
 
@@ -143,7 +151,8 @@ end_of_script script.ReadFault = BayFault
 -- Why the device that was opened wasn't mounted. The counts are those of its faults.
 abbrev pub FailsToMount : StepEnd → Disk → ℕ → ℕ → Type 0
 FailsToMount NoSuper given before now = FailsMount fail.NoSuper given before now
-FailsToMount NotNew given before now = FailsMount fail.NotNew given before now
+FailsToMount (BadRow key) given before now = FailsMount (fail.BadRow key) given before now
+FailsToMount Unsupported given before now = FailsMount fail.Unsupported given before now
 FailsToMount WornOut given before now = (value : ℕ) × FailsMount (fail.WornOut value) given before now
 FailsToMount DeviceFault given before now = Rose before now
 FailsToMount OutOfMemory given before now = Unit {0}
@@ -154,10 +163,17 @@ abbrev pub HasCounted : StepEnd → ℕ → ℕ → Type 0
 HasCounted DeviceFault before now = Rose before now
 HasCounted end before now = Unit {0}
 
--- the device wasn't mounted, is as it was given, and the book is empty; or the script was run on it
+-- A mount that refuses what the device holds leaves it as it was given; one that the device or memory failed may have begun to clear what is
+-- behind the records.
+abbrev pub LeftByMount : StepEnd → Disk → Disk → Type 0
+LeftByMount DeviceFault given disk = IsLater given disk
+LeftByMount OutOfMemory given disk = IsLater given disk
+LeftByMount end given disk = disk ≡ given
+
+-- the device wasn't mounted, and the book is empty; or the script was run on it
 abbrev pub WorksOn : ℕ → List Line → Disk → ℕ → StepEnd → Book → Disk → ℕ → Type 0
 WorksOn seed lines given before end book disk now =
-    (FailsToMount end given before now × (book ≡ empty_book) × (disk ≡ given))
+    (FailsToMount end given before now × (book ≡ empty_book) × LeftByMount end given disk)
     ⊎ (HasCounted end before now × RunsScript seed lines given end book disk)
 
 -- no device was opened

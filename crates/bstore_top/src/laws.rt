@@ -1,12 +1,13 @@
 //! What a run of a script on a store comes to, whatever the seed is and whatever the device answers. Each function has a law for its
 //! contract and does nothing.
-ghost use Rattle.std.specs.Prelude.{ℕ, List};
+ghost use Rattle.std.specs.Prelude.{◌≡◌, ◌⊎◌, ℕ, List};
 ghost use Rattle.end_points.specs.Bay.{BayView};
 ghost use Rattle.store_steps.specs.Runs.{Call, IsRun};
 ghost use Rattle.bstore_top.specs.Choice.{Position, IsDrawnRun};
 ghost use Rattle.bstore_top.specs.StepRun.{RanStep, Seen};
 ghost use Rattle.bstore_top.specs.Printed.{Output};
 ghost use Rattle.bstore_top.specs.Finished.{Succeeded};
+ghost use Rattle.bstore_top.specs.GoodStart.{IsGoodStart, HasNoFault};
 
 /// Calls that were drawn, one after another, are a run of the kernel.
 #[tactic(auto, using(crate::proofs::RunLaws::drawn_run))]
@@ -15,8 +16,17 @@ pub fn a_drawn_run_is_a_run()
 {}
 
 /// A run of `step` that returns 0 has submitted all transactions of its script, and each that was accepted is committed and
-/// acknowledged. Where the bay tells what stands under its names, the device holds just that.
+/// acknowledged. Where the bay tells what stands under its names, and that stands for some objects, the device stands for what they are
+/// after all accepted transactions.
 pub fn a_run_that_returns_0_has_succeeded()
     ensures { (dev script : List ℕ) (seed : ℕ) (seen : Seen) (bay_old bay_new : BayView) (before now : ℕ) (old new : Output) →
-        RanStep dev script seed 0 seen bay_old bay_new before now old new → Succeeded script seen bay_old old new }
+        RanStep dev script seed 0 seen bay_old bay_new before now old new → Succeeded dev script seed seen bay_old old new }
+{}
+
+/// A run of `step` that nothing stands against ends well, or for want of memory. The script has lines; the device holds a store that stands
+/// for some objects, of this version, with numbers far from their end; and no count of faults rose.
+pub fn a_good_start_ends_well()
+    ensures { (dev script : List ℕ) (seed status : ℕ) (seen : Seen) (bay_old bay_new : BayView) (before now : ℕ) (old new : Output) →
+        RanStep dev script seed status seen bay_old bay_new before now old new → IsGoodStart dev script bay_old →
+        HasNoFault seen before now old new → (status ≡ 0) ⊎ (status ≡ 5) }
 {}

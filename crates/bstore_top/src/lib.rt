@@ -4,6 +4,7 @@
 
 mod command_line;
 mod generator;
+mod hex;
 mod laws;
 mod making;
 mod outcome;
@@ -18,7 +19,7 @@ mod stepping;
 mod texts;
 
 pub use command_line::{CommandLine, FileName, read_words};
-pub use laws::{a_drawn_run_is_a_run, a_run_that_returns_0_has_succeeded};
+pub use laws::{a_drawn_run_is_a_run, a_good_start_ends_well, a_run_that_returns_0_has_succeeded};
 pub use outcome::Outcome;
 pub use running::{solo, top};
 pub use status::{Status, Stop};

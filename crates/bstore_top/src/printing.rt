@@ -82,8 +82,8 @@ pub fn report_mkfs<K: Sink>(
 }
 
 /// Prints what came of a run of `step`, and says how the run has ended, as `report_mkfs` does.
-pub fn report_step<K: Sink>(alloc: Global, book: &Book, end: StepEnd, out: &mut K) -> Status
-    ensures { ReportsStep book.now end (number result) (output (K.written out.old) (K.faults out.old)) (output (K.written out.new) (K.faults out.new)) }
+pub fn report_step<K: Sink>(alloc: Global, book: &Book, end: &StepEnd, out: &mut K) -> Status
+    ensures { ReportsStep book.now end.now (number result) (output (K.written out.old) (K.faults out.old)) (output (K.written out.new) (K.faults out.new)) }
 {
     match step_text(alloc, book, end) {
         Ok(text) => print_end(out, text.as_str(), end.stop()),

@@ -57,7 +57,6 @@ fn run_mkfs<B: Bay, K: Sink>(
 }
 
 /// Runs `step`.
-#[tactic(auto, using(crate::proofs::Keeping::done_durable))]
 fn run_step<B: Bay, K: Sink>(
     alloc: Global,
     dev: &FileName<'_>,
@@ -81,7 +80,7 @@ fn run_step<B: Bay, K: Sink>(
         sources,
         book,
     } = run_store(alloc, dev, seed, script, bay);
-    let status = report_step(alloc, &book, end, out);
+    let status = report_step(alloc, &book, &end, out);
     Outcome {
         status: status.number(),
         dev,

@@ -86,6 +86,7 @@ fn work_on<D: Device>(alloc: Global, dev: D, seed: u32, lines: Vec<Line>) -> (St
         Ok(kernel) => kernel,
         Err((fail, dev)) => return (unmounted(fail), dev, Book::new(alloc)),
     };
+    kernel.facts();
     let ran = run_script(alloc, &mut kernel, seed, lines);
     let end = ended(ran, kernel.free_units());
     let (dev, book) = unmount(alloc, kernel);
@@ -110,7 +111,8 @@ fn unmounted(fail: MountFail) -> StepEnd
     match fail {
         MountFail::Memory => StepEnd::OutOfMemory,
         MountFail::NoSuper => StepEnd::NoSuper,
-        MountFail::NotNew => StepEnd::NotNew,
+        MountFail::BadRow { key } => StepEnd::BadRow { key },
+        MountFail::Unsupported => StepEnd::Unsupported,
         MountFail::WornOut { .. } => StepEnd::WornOut,
         MountFail::Fault => StepEnd::DeviceFault,
     }

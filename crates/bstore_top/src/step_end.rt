@@ -3,9 +3,10 @@ ghost use Rattle.std.specs.Prelude.{◌≡◌};
 ghost use Rattle.bstore_top.specs.StepTexts.{stop_of};
 
 use crate::Stop;
+use byte_maps::Bytes;
 
 /// How the work of `step` ended, before anything of it was printed: the first cause in time.
-#[derive(Clone, Copy, Debug, PartialEq, Eq)]
+#[derive(Debug, Drop)]
 pub enum StepEnd {
     /// The script has ended and the kernel is drained.
     Done {
@@ -18,8 +19,12 @@ pub enum StepEnd {
     },
     /// The device holds no store.
     NoSuper,
-    /// The log of the store isn't empty.
-    NotNew,
+    /// A row of the store is bad, the first in the order of keys.
+    BadRow {
+        key: Bytes,
+    },
+    /// The rows are good, but not such as this version makes: an object of more than a page, or a unit of two owners.
+    Unsupported,
     /// The numbers of the store are used up.
     WornOut,
     /// The device failed.
@@ -31,13 +36,14 @@ pub enum StepEnd {
 
 impl StepEnd {
     /// What the run stopped for, if its work wasn't done.
-    pub fn stop(self) -> Option<Stop>
-        ensures { result ≡ stop_of self }
+    pub fn stop(&self) -> Option<Stop>
+        ensures { result ≡ stop_of self.now }
     {
         match self {
             StepEnd::Done { .. } => None,
             StepEnd::BadLine { .. } => Some(Stop::BadScript),
-            StepEnd::NoSuper | StepEnd::NotNew | StepEnd::WornOut => Some(Stop::Refused),
+            StepEnd::NoSuper | StepEnd::BadRow { .. } | StepEnd::Unsupported | StepEnd::WornOut =>
+                Some(Stop::Refused),
             StepEnd::DeviceFault => Some(Stop::DeviceFault),
             StepEnd::OutOfMemory => Some(Stop::OutOfMemory),
             StepEnd::BayFault => Some(Stop::BayFault),

@@ -1,9 +1,12 @@
 //! Runs of `step` over stores in memory.
 ghost use Rattle.std.specs.Prelude.{◌≡◌, ◌*◌, ◌+◌, ◌^◌, ◌<◌, ◌≤◌, length, IfOk};
 ghost use Rattle.end_points.specs.Memory.{AreContents};
+ghost use Rattle.meta_rows.specs.Spelling.{IsKey};
 
 use super::*;
-use meta_log::Super;
+use byte_maps::Bytes;
+use meta_log::{SealedRecord, Super};
+use meta_rows::RowOp;
 
 /// The slot of a store with halves of 8 units.
 fn slot(alloc: Global, units: u32, epoch: u64) -> Result<Vec<u8>, Fail>
@@ -105,9 +108,9 @@ fn run_line(alloc: Global, line: &str, setup: Setup<'_>) -> Result<Finished, Fai
 
 const FIRST: &str = "mkcoll 1.0_head\nwrite 1.0_head a 0 fill:5a:4096\nwait\n";
 
-/// The bytes of a unit of the device that came back.
-fn unit(alloc: Global, run: Finished, at: u32) -> Result<Vec<u8>, Fail>
-    requires { at < 64 }
+/// The bytes of so many units of the device of 64 that came back.
+fn units(alloc: Global, run: Finished, at: u32, count: u32) -> Result<Vec<u8>, Fail>
+    requires { at + count ≤ 64 }
 {
     let Finished { outcome, sink: _ } = run;
     let Outcome {
@@ -121,7 +124,7 @@ fn unit(alloc: Global, run: Finished, at: u32) -> Result<Vec<u8>, Fail>
         return Err("no device".into());
     };
     let mut bytes = Vec::new(alloc);
-    if dev.in_flight() != 0 || dev.units() != 64 || dev.read(at, 1, &mut bytes).is_err() {
+    if dev.in_flight() != 0 || dev.units() != 64 || dev.read(at, count, &mut bytes).is_err() {
         return Err("not read".into());
     }
     Ok(bytes)
@@ -135,7 +138,7 @@ fn the_first_run(rt: HostRuntime) -> Result<(), Fail> {
     expect(&rt, &run, 0, text, Some(64));
     assert!(rt; run.outcome.sources.len() == 1 && run.outcome.book.entries.len() == 2);
     // It takes the lowest data unit.
-    let taken = unit(alloc, run, 18)?;
+    let taken = units(alloc, run, 18, 1)?;
     assert!(rt; taken.len() == 4096 && taken.iter().all(|b| *b == 0x5a));
     Ok(())
 }
@@ -263,20 +266,79 @@ fn failing_ends(rt: HostRuntime) -> Result<(), Fail> {
     Ok(())
 }
 
+/// Runs this script over what an earlier run left of its device.
+fn run_again(alloc: Global, earlier: Finished, script: &str) -> Result<Finished, Fail> {
+    let left = units(alloc, earlier, 0, 64)?;
+    let contents = contents(alloc, &left, 64)?;
+    run_over(
+        alloc,
+        "bstore step dev --seed 2 script",
+        contents,
+        plain(script),
+    )
+}
+
 #[test]
-fn devices_without_a_new_store(rt: HostRuntime) -> Result<(), Fail> {
+fn one_run_behind_another(rt: HostRuntime) -> Result<(), Fail> {
+    let alloc = rt.alloc();
+    let first = run_line(alloc, "bstore step dev --seed 1 script", plain(FIRST))?;
+    // The object is there: its new page takes the next unit, and the first one is released.
+    let script = "write 1.0_head a 0 fill:5b:4096\nmkcoll 1.0_head\n";
+    let second = run_again(alloc, first, script)?;
+    let text =
+        "0:1 ok\n0:2 E2 CollectionExists\ndone accepted=1 refused=1 reads=0 commits=1 free=45\n";
+    expect(&rt, &second, 0, text, Some(64));
+    // So the third takes the first unit again.
+    let third = run_again(alloc, second, "write 1.0_head b 0 fill:5c:4096\n")?;
+    let text = "0:1 ok\ndone accepted=1 refused=0 reads=0 commits=1 free=44\n";
+    expect(&rt, &third, 0, text, Some(64));
+    let pages = units(alloc, third, 18, 2)?;
+    assert_eq!(rt; pages.get(0), Some(&0x5c));
+    assert_eq!(rt; pages.get(4096), Some(&0x5b));
+    Ok(())
+}
+
+/// A store of 64 units whose first record sets the row of this key to no bytes.
+fn with_row(alloc: Global, key: &[u8]) -> Result<Vec<u8>, Fail>
+    requires { IsKey key.now }
+    ensures { IfOk result (λ c. AreContents c.items) }
+{
+    let key = Bytes::from_slice(alloc, key)?;
+    let value = Bytes::new(alloc);
+    let ops = vec![in alloc; RowOp::Set { key, value }]?;
+    let sealed = SealedRecord::seal(alloc, 0, &ops)?;
+    let (_first, record) = sealed.piece(alloc, 0)?;
+    let mut front = slot(alloc, 64, 0)?;
+    front.resize(4096 * 2, 0)?;
+    front.extend_from_slice(&record)?;
+    contents(alloc, &front, 64)
+}
+
+#[test]
+fn stores_that_are_refused(rt: HostRuntime) -> Result<(), Fail> {
     let alloc = rt.alloc();
     let line = "bstore step dev --seed 1 script";
     let zeros = contents(alloc, &[], 64)?;
     let run = run_over(alloc, line, zeros, plain(FIRST))?;
     expect(&rt, &run, 4, "mount NoSuper\nstopped 4\n", Some(64));
-    let mut front = slot(alloc, 64, 0)?;
-    front.resize(4096 * 10, 1)?;
-    let filled = contents(alloc, &front, 64)?;
-    let run = run_over(alloc, line, filled, plain(FIRST))?;
-    expect(&rt, &run, 4, "mount NotNew\nstopped 4\n", Some(64));
+    let bad = with_row(alloc, b"x\xff0")?;
+    let run = run_over(alloc, line, bad, plain(FIRST))?;
+    expect(&rt, &run, 4, "mount BadRow 78ff30\nstopped 4\n", Some(64));
     let worn = contents(alloc, &slot(alloc, 64, 1 << 61)?, 64)?;
     let run = run_over(alloc, line, worn, plain(FIRST))?;
     expect(&rt, &run, 4, "mount WornOut\nstopped 4\n", Some(64));
+    Ok(())
+}
+
+#[test]
+fn units_behind_the_records_are_cleared(rt: HostRuntime) -> Result<(), Fail> {
+    let alloc = rt.alloc();
+    let mut front = slot(alloc, 64, 0)?;
+    front.resize(4096 * 10, 1)?;
+    let filled = contents(alloc, &front, 64)?;
+    let line = "bstore step dev --seed 1 script";
+    let run = run_over(alloc, line, filled, plain(FIRST))?;
+    let text = "0:1 ok\n0:2 ok\ndone accepted=2 refused=0 reads=0 commits=2 free=45\n";
+    expect(&rt, &run, 0, text, Some(64));
     Ok(())
 }

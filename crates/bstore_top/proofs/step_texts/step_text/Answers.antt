@@ -11,4 +11,4 @@ returns c =
     c.in_ok-push_str.ensures.bytes
     ∙ ap (λ (t : List ℕ). t ++ c.as_str.result.now) (c.in_ok-push_replies.ensures ∙ ap (λ (t : List ℕ). t ++ as_text replies) c.new-text.ensures.bytes)
     ∙ ap (λ (t : List ℕ). as_text replies ++ t) (c.as_str.ensures.value ∙ c.in_ok-last.ensures)
-    ∙ sym (as_text-append replies (end_lines c.args.book.now c.args.end))
+    ∙ sym (as_text-append replies (end_lines c.args.book.now c.args.end.now))

@@ -1,0 +1,40 @@
+-- A start of `step` that nothing stands against.
+use Rattle.std.specs.Prelude.{◌≡◌, ℕ, ◌<◌, List, Any, Some, IfSome}
+use Rattle.std.specs.FinMap as map
+use Rattle.block_device.specs.Disk.{Rose}
+use Rattle.end_points.specs.Bay.{Names, BayView}
+use Rattle.object_model.specs.Objects.{Objects}
+use Rattle.store_image.specs.Stands.{StandsFor}
+use Rattle.row_facts.specs.SinglePages.{HasSinglePages, HasSoleOwners}
+use Rattle.store_steps.specs.Opened.{Found}
+use Rattle.mount_replay.specs.Opening.{IsFoundIn, HasLowNumbers}
+use Rattle.script_text.specs.Script.{IsScript}
+use Rattle.script_text.specs.declared.line.Line.{Line}
+use Rattle.bstore_top.specs.Printed.{Output}
+use Rattle.bstore_top.specs.StepRun.{Seen}
+
+-- The bay tells its names. Under the script's there is a script. Under the device's there is a store that stands for some objects: what a mount
+-- finds in it are rows of this version, and numbers that leave room for those to come.
+pub record IsGoodStart (dev script : List ℕ) (bay : BayView) : Type 0 where
+  pub names : Names
+  pub told : bay.names ≡ Some names
+  pub text : List ℕ
+  pub under_script : map.get names.texts script ≡ Some text
+  pub lines : List Line
+  pub is_script : IsScript text lines
+  pub contents : List ℕ
+  pub under_dev : map.get names.devices dev ≡ Some contents
+  pub objects : Objects
+  pub stands : StandsFor contents objects
+  pub found : Found
+  pub is_found : IsFoundIn contents found
+  pub single : HasSinglePages found.rows
+  pub sole : HasSoleOwners found.rows
+  pub numbers : HasLowNumbers found
+
+-- no count of faults rose: the device and the sources, where there are any, have counted none, and the bay and the sink no more than before
+pub record HasNoFault (seen : Seen) (before now : ℕ) (old new : Output) : Type 0 where
+  pub device : IfSome seen.dev_faults (λ n. n ≡ 0)
+  pub sources : ¬ Any (λ n. 0 < n) seen.source_faults
+  pub bay : ¬ Rose before now
+  pub sink : ¬ Rose old.faults new.faults

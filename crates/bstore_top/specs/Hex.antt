@@ -1,0 +1,11 @@
+-- Bytes as text in hexadecimal.
+use Rattle.std.specs.Prelude.{ℕ, ◌+◌, ◌/◌, ◌%◌, nat_lt, List, [], ◌∷◌, if◌then◌else◌}
+
+-- a digit of sixteen, lower case
+abbrev pub hex_digit : ℕ → ℕ
+hex_digit n = if nat_lt n 10 then 0x30 + n else 0x57 + n
+
+-- two digits for each byte
+abbrev pub hex_text : List ℕ → List ℕ
+hex_text [] = []
+hex_text (b ∷ bs) = hex_digit (b / 16) ∷ hex_digit (b % 16) ∷ hex_text bs

@@ -2,7 +2,9 @@
 ghost use Rattle.std.specs.Prelude.{◌≡◌, ◌≤◌, ◌<◌, length, IfOk, All};
 ghost use Rattle.end_points.specs.Memory.{AreContents};
 
+mod again;
 mod cuts;
+mod forged;
 mod negative;
 
 use crate::{Found, Object};
@@ -47,7 +49,7 @@ struct Ran {
     device: MemoryDevice,
     /// What the objects are after each number of commits, from none to all.
     states: Vec<Vec<u8>>,
-    commits: Vec<Commit>,
+    book: Book,
     text: Vec<u8>,
 }
 
@@ -211,9 +213,8 @@ fn spelled_image(alloc: Global, image: &[u8]) -> Result<Option<Vec<u8>>, Fail> {
     Ok(if rows == found.len() { Some(out) } else { None })
 }
 
-/// The objects after each number of commits.
-fn states(alloc: Global, book: &Book) -> Result<Vec<Vec<u8>>, Fail> {
-    let mut plain = Plain::new(alloc);
+/// The objects after each number of commits, from these on.
+fn states(alloc: Global, mut plain: Plain, book: &Book) -> Result<Vec<Vec<u8>>, Fail> {
     let mut states = Vec::new(alloc);
     states.push(spelled_plain(alloc, &plain)?)?;
     let entries = &book.entries;
@@ -243,9 +244,8 @@ fn apply(alloc: Global, plain: &mut Plain, entry: Option<&Entry>) -> Result<(), 
     }
 }
 
-/// Runs a script on a new store.
-fn run_script(alloc: Global, setup: &Setup<'_>) -> Result<Ran, Fail> {
-    let contents = new_store(alloc, setup)?;
+/// Runs a script on a device with these contents, which stand for these objects.
+fn run_on(alloc: Global, setup: &Setup<'_>, contents: Vec<u8>, plain: Plain) -> Result<Ran, Fail> {
     let mut bay = bay(alloc, setup)?;
     put_device(&mut bay, contents)?;
     bay.put_text("script", setup.script.as_bytes().to_vec(alloc)?)?;
@@ -261,18 +261,19 @@ fn run_script(alloc: Global, setup: &Setup<'_>) -> Result<Ran, Fail> {
     let Some(device) = dev else {
         return Err("no device".into());
     };
-    let states = states(alloc, &book)?;
-    let Book {
-        entries: _,
-        commits,
-    } = book;
-    let commits = commits.into_vec();
+    let states = states(alloc, plain, &book)?;
     Ok(Ran {
         device,
         states,
-        commits,
+        book,
         text,
     })
+}
+
+/// Runs a script on a new store.
+fn run_script(alloc: Global, setup: &Setup<'_>) -> Result<Ran, Fail> {
+    let contents = new_store(alloc, setup)?;
+    run_on(alloc, setup, contents, Plain::new(alloc))
 }
 
 /// How many commits an image must have at least: those up to the last one that was acknowledged by the cut.

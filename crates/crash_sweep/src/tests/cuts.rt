@@ -45,7 +45,7 @@ fn each_cut_of_the_first_run(rt: HostRuntime) -> Result<(), Fail> {
             );
             // Making a collection submits three calls, writing a page five, and each has an end.
             assert_eq!(rt; ran.device.events(), 14);
-            let counts = sweep(alloc, &ran, &ran.commits, 1)?;
+            let counts = sweep(alloc, &ran, ran.book.commits.as_slice(), 1)?;
             all_stand(&rt, &counts, 15);
         }
     }
@@ -68,7 +68,7 @@ fn each_cut_of_twenty_writes(rt: HostRuntime) -> Result<(), Fail> {
     assert!(rt; ran.text.ends_with(done));
     assert_eq!(rt; ran.device.events(), 166);
     // Every seventh cut falls on each event of a transaction, which has eight.
-    let counts = sweep(alloc, &ran, &ran.commits, 7)?;
+    let counts = sweep(alloc, &ran, ran.book.commits.as_slice(), 7)?;
     all_stand(&rt, &counts, 25);
     Ok(())
 }
@@ -89,7 +89,7 @@ fn each_cut_of_runs_with_a_failing_call(rt: HostRuntime) -> Result<(), Fail> {
         setup.fails = Some((kind, number));
         let ran = run_script(alloc, &setup)?;
         assert!(rt; ran.text.ends_with(b"sent\nstopped 3\n".as_slice()));
-        let counts = sweep(alloc, &ran, &ran.commits, 1)?;
+        let counts = sweep(alloc, &ran, ran.book.commits.as_slice(), 1)?;
         all_stand(&rt, &counts, ran.device.events().wrapping_add(1));
     }
     Ok(())

@@ -33,7 +33,7 @@ fn earlier(alloc: Global, commits: &[Commit], by: u64) -> Result<Vec<Commit>, Fa
 fn an_acknowledgement_before_the_flush(rt: HostRuntime) -> Result<(), Fail> {
     let alloc = rt.alloc();
     let ran = first_run(alloc)?;
-    let early = earlier(alloc, &ran.commits, 1)?;
+    let early = earlier(alloc, ran.book.commits.as_slice(), 1)?;
     let counts = sweep(alloc, &ran, &early, 1)?;
     assert!(rt; 0 < counts.bad);
     Ok(())
@@ -47,7 +47,7 @@ fn other_commits(rt: HostRuntime) -> Result<(), Fail> {
     assert_eq!(rt; ran.states.len(), 3);
     let all = ran.device.events();
     let end = image(&ran.device, all, Tear::Noise)?;
-    assert!(rt; is_prefix(alloc, &end, &ran.states, &ran.commits, all)?);
+    assert!(rt; is_prefix(alloc, &end, &ran.states, ran.book.commits.as_slice(), all)?);
     let _last = ran.states.pop();
     assert!(rt; !is_prefix(alloc, &end, &ran.states, &[], all)?);
     Ok(())
@@ -73,12 +73,12 @@ fn a_changed_bit(rt: HostRuntime) -> Result<(), Fail> {
     for at in [100usize, 4096 * 2 + 30, 4096 * 3 + 30, 4096 * 18 + 4095] {
         let other = changed(alloc, &end, at)?;
         assert!(rt;
-            !is_prefix(alloc, &other, &ran.states, &ran.commits, all)?,
+            !is_prefix(alloc, &other, &ran.states, ran.book.commits.as_slice(), all)?,
             "byte {at}"
         );
     }
     // A unit that nobody owns doesn't matter.
     let other = changed(alloc, &end, 4096 * 19)?;
-    assert!(rt; is_prefix(alloc, &other, &ran.states, &ran.commits, all)?);
+    assert!(rt; is_prefix(alloc, &other, &ran.states, ran.book.commits.as_slice(), all)?);
     Ok(())
 }

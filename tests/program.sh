@@ -168,9 +168,39 @@ unit 18 DIGITS >found
 says 'step: each of its bytes stands on unit 18' cmp -s found page
 
 cp T BEFORE
-run step T --seed 1 script
-says 'step: a store with records' ended 4 'mount NotNew' 'stopped 4'
+: >empty
+run step T --seed 1 empty
+says 'step: a store is opened again' ended 0 'done accepted=0 refused=0 reads=0 commits=0 free=45'
 says 'step: it is left as it was' cmp -s T BEFORE
+cp T AGAIN
+printf 'mkcoll 1.0_head\nwrite 1.0_head b 0 fill:5b:4096\nwrite 1.0_head a 0 fill:5c:4096\n' >more
+run step AGAIN --seed 2 more
+says 'step: its objects are there' ended 0 '0:1 E2 CollectionExists' '0:2 ok' '0:3 ok' 'done accepted=2 refused=1 reads=0 commits=2 free=44'
+run step AGAIN --seed 3 empty
+says 'step: and again' ended 0 'done accepted=0 refused=0 reads=0 commits=0 free=44'
+
+# What stands behind the records, in units 4 and 9, is zeros once the store was opened, and nothing else has changed.
+cp T STALE
+printf 'stale' | dd of=STALE bs=1 seek=$((4096 * 4)) conv=notrunc status=none
+printf 'stale' | dd of=STALE bs=1 seek=$((4096 * 9 + 4091)) conv=notrunc status=none
+run step STALE --seed 1 empty
+says 'step: stale bytes behind the records' ended 0 'done accepted=0 refused=0 reads=0 commits=0 free=45'
+says 'step: they are cleared' cmp -s STALE BEFORE
+
+# A run is killed at some moment; the store is opened again, and a run is done on it, twenty times.
+run mkfs KILLED --half 16384 --units 36000
+{ echo 'mkcoll 1.0_head'; for ((i = 0; i < 3000; i++)); do printf 'write 1.0_head o%d 0 fill:%02x:4096\nwait\n' $((i % 50)) $((i % 256)); done; } >long
+killed=yes
+for ((i = 1; i <= 20; i++)); do
+    "$program" step KILLED --seed "$i" long >long_output 2>&1 </dev/null &
+    victim=$!
+    sleep "0.0$((i % 10))"
+    kill -9 "$victim" 2>/dev/null
+    wait "$victim" 2>/dev/null
+    run step KILLED --seed "$i" more
+    [ "$status" = 0 ] && [ "$(tail -n 1 output | cut -d' ' -f1-2)" = 'done accepted=2' ] || [ "$i" = 1 ] || killed=no
+done
+says 'step: runs that were killed' test "$killed" = yes
 head -c 262144 /dev/zero >ZEROS
 run step ZEROS --seed 1 script
 says 'step: no store' ended 4 'mount NoSuper' 'stopped 4'

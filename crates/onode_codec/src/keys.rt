@@ -112,6 +112,14 @@ pub fn shard_key(
     of_object(alloc, OBJECT, coll, object, &rest)
 }
 
+/// The end of the keys of an object's shards: they are those from `shard_key` of page 0 on that are below it.
+pub fn shards_end(alloc: Global, coll: &CollName, object: &Name) -> Result<Bytes, AllocError>
+    ensures key { IfOk result (λ key. key ≡ of_object 0x4f coll.now object.now (0x70 ∷ [])) }
+    ensures size { IfOk result IsKey }
+{
+    of_object(alloc, OBJECT, coll, object, b"p")
+}
+
 /// The key of an attribute.
 pub fn attr_key(
     alloc: Global,

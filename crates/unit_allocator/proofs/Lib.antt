@@ -5,3 +5,4 @@ pub mod Runs
 pub mod Lists
 pub mod FreeUnits
 pub mod Fresh
+pub mod Lowest

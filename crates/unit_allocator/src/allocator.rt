@@ -36,7 +36,7 @@ pub enum TakeFail {
 /// is idle and nobody holds it; so a unit that is given back while a user still needs its bytes is free once the last hold ends.
 ///
 /// The kernel makes one at a mount, from the units that the rows own. It has one bit and five bytes for each unit, and no call
-/// but `new` and `take` takes memory: a commit can give units back whatever memory there is.
+/// but `new`, `take` and `lowest_units` takes memory: a commit can give units back whatever memory there is.
 #[derive(Drop)]
 pub struct Allocator {
     first: u32,
@@ -244,6 +244,36 @@ impl Allocator {
             Some(at) => Some(UnitNo::new(self.first + at as u32)),
             None => None,
         }
+    }
+
+    /// The `n` lowest free units, ascending, which stay free. Planning asks for them, and `take_unit` takes each once nothing can fail
+    /// any more. The search goes on from one unit to the next.
+    pub fn lowest_units(&self, alloc: Global, n: u32) -> Result<Vec<UnitNo>, TakeFail>
+        ensures units { IfOk result (λ units. units.items ≡ take n (free_units self.now)) }
+        ensures enough { OnOk result (n ≤ length (free_units self.now)) }
+        ensures why { IfErr result (λ fail. FailsBy fail n (length (free_units self.now))) }
+    {
+        let count = self.free_count();
+        if count < n {
+            return Err(TakeFail::NoSpace {
+                need: n,
+                free: count,
+            });
+        }
+        let Ok(mut units) = Vec::with_capacity(alloc, n as usize) else {
+            return Err(TakeFail::Memory);
+        };
+        let mut from = self.low;
+        for _ in 0..n {
+            match next(self.words.as_slice(), from) {
+                Some(at) => {
+                    units.push_reserved(UnitNo::new(self.first + at as u32));
+                    from = at + 1;
+                }
+                None => unreachable!(),
+            }
+        }
+        Ok(units)
     }
 
     /// Takes one free unit, and no memory.

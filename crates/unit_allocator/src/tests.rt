@@ -76,6 +76,23 @@ fn no_space(rt: HostRuntime) -> Result<(), Fail> {
     Ok(())
 }
 
+// The lowest free units, which stay free.
+#[test]
+fn asked_for(rt: HostRuntime) -> Result<(), Fail> {
+    let space = made(&rt)?;
+    match space.lowest_units(rt.alloc(), 5) {
+        Ok(_) => assert!(rt; false),
+        Err(fail) => assert_eq!(rt; fail, TakeFail::NoSpace { need: 5, free: 4 }),
+    }
+    let wanted = [UnitNo::new(18), UnitNo::new(20), UnitNo::new(21)];
+    assert_eq!(rt;
+        space.lowest_units(rt.alloc(), 3)?.as_slice(),
+        wanted.as_slice()
+    );
+    assert_eq!(rt; space.free_count(), 4);
+    Ok(())
+}
+
 #[test]
 fn given_back(rt: HostRuntime) -> Result<(), Fail> {
     let mut space = made(&rt)?;

@@ -1,5 +1,5 @@
 -- What the words of a line say.
-use Rattle.std.proofs.Common.{◌≡◌, ◌≢◌, ℕ, ◌≤◌, false, List, [], ◌∷◌, ◌++◌, length, Option, Some, None, Result, Ok, Err}
+use Rattle.std.proofs.Common.{◌≡◌, ◌≢◌, ℕ, ◌≤◌, ◌<◌, ◌%◌, false, List, [], ◌∷◌, ◌++◌, length, Option, Some, None, Result, Ok, Err}
 use Rattle.std.proofs.Common.{refl, sym, ap, subst, ◌∙◌, arith}
 use Rattle.std.specs.Prelude.{codes, IfOk, decimal}
 use Rattle.std.specs.Fmt.{digits}
@@ -7,10 +7,10 @@ use Rattle.std.proofs.lemmas.Fmt.{digits_is_IsNumeral, decimal_is_IsNumeral}
 use Rattle.unit_fields.specs.Names.{IsCollName, head_bytes}
 use Rattle.object_model.specs.Effect.{Change}
 use Rattle.object_model.specs.declared.op.Op.{Op}
-use Rattle.object_model.specs.declared.op.Op.TheVariants.{MkColl, Write}
+use Rattle.object_model.specs.declared.op.Op.TheVariants.{MkColl, Touch, Write}
 use Rattle.object_model.specs.declared.command.Command.TheVariants as command
-use Rattle.script_text.specs.Grammar.{HasNo, AreWords, in_words, IsNameWord, IsNumber, IsDataWord, op_word, AreWriteArgs, AreArgs, AreChangeWords}
-use Rattle.script_text.specs.Grammar.{AreWordsOf, HasSinglePage, Fits, IsLineOf, op_line, IsPassedOver}
+use Rattle.script_text.specs.Grammar.{HasNo, AreWords, in_words, IsNameWord, IsNumber, IsDataWord, op_word, AreTouchArgs, AreWriteArgs, AreArgs, AreChangeWords}
+use Rattle.script_text.specs.Grammar.{AreWordsOf, HasWholePages, Fits, IsLineOf, op_line, IsPassedOver}
 use Rattle.script_text.specs.Reading.{Reads, ReadsWords}
 use Rattle.script_text.specs.declared.line.What.{What}
 use Rattle.script_text.specs.declared.line.What.TheVariants.{Command, Wait}
@@ -58,6 +58,14 @@ op_worded MkColl coll args none is = record {
   letter = omega arith;
   whole = refl;
   no_spaces = (has_none 0x20 (codes "mkcoll") refl, (none, subst AreWords (sym is) tt));
+}
+op_worded (Touch object) coll args none is = record {
+  first = 0x74;
+  word = codes "ouch";
+  behind = coll ∷ args;
+  letter = omega arith;
+  whole = refl;
+  no_spaces = (has_none 0x20 (codes "touch") refl, (none, subst AreWords (sym is.words) (name_no_space is.object_word object is.names, tt)));
 }
 op_worded (Write object off bytes) coll args none is = record {
   first = 0x77;
@@ -146,12 +154,24 @@ write_args_same args o p n m b c x y =
     let datas : b ≡ c = same_data x.data_word b c x.holds (subst (λ (l : List ℕ). IsDataWord l c) data_words y.holds) in
     cc
 
+touch_args_same : (args : List (List ℕ)) (o p : List ℕ) → AreTouchArgs args o → AreTouchArgs args p → Touch o ≡ Touch p
+touch_args_same args o p x y =
+    let words : x.object_word ∷ [] ≡ y.object_word ∷ [] = sym x.words ∙ y.words in
+    let object_words : y.object_word ≡ x.object_word = cc in
+    ap Touch (same_name x.object_word o p x.names (subst (λ (l : List ℕ). IsNameWord l p) object_words y.names))
+
 op_same : (args : List (List ℕ)) (a b : Op) → op_word a ≡ op_word b → AreArgs args a → AreArgs args b → a ≡ b
 op_same args MkColl MkColl word x y = refl
+op_same args MkColl (Touch p) word x y = absurd (differ (codes "mkcoll") (codes "touch") refl word)
 op_same args MkColl (Write p m c) word x y = absurd (differ (codes "mkcoll") (codes "write") refl word)
+op_same args (Touch o) MkColl word x y = absurd (differ (codes "touch") (codes "mkcoll") refl word)
+op_same args (Touch o) (Touch p) word x y = touch_args_same args o p x y
+op_same args (Touch o) (Write p m c) word x y = absurd (differ (codes "touch") (codes "write") refl word)
 op_same args (Write o n b) MkColl word x y = absurd (differ (codes "write") (codes "mkcoll") refl word)
+op_same args (Write o n b) (Touch p) word x y = absurd (differ (codes "write") (codes "touch") refl word)
 op_same args (Write o n b) (Write p m c) word x y = write_args_same args o p n m b c x y
 op_same args MkColl b word x y = absurd y
+op_same args (Touch o) b word x y = absurd y
 op_same args (Write o n bytes) b word x y = absurd y
 op_same args a b word x y = absurd x
 
@@ -202,23 +222,26 @@ pub wait_line : (text : List ℕ) → text ≡ codes "wait" → IsLineOf text Wa
 wait_line text is = record { words = codes "wait" ∷ []; whole = is; say = refl; fits = tt }
 
 -- the first word of a line of several is that of an operation
-pub op_word_first : (word : List ℕ) (n : List ℕ) (ws : List (List ℕ)) (what : What) → word ≢ codes "mkcoll" → word ≢ codes "write" → AreWordsOf (word ∷ n ∷ ws) what → ⊥
-op_word_first word n ws (Command (command.Change change)) no_mkcoll no_write say =
+pub op_word_first : (word : List ℕ) (n : List ℕ) (ws : List (List ℕ)) (what : What) → word ≢ codes "mkcoll" → word ≢ codes "touch" → word ≢ codes "write"
+    → AreWordsOf (word ∷ n ∷ ws) what → ⊥
+op_word_first word n ws (Command (command.Change change)) no_mkcoll no_touch no_write say =
     let both : word ∷ n ∷ ws ≡ op_word say.op ∷ change.coll ∷ say.args = say.whole in
     let first : word ≡ op_word say.op = cc in
     by say.op say.args first say.about
   where
     by : (op : Op) (args : List (List ℕ)) → word ≡ op_word op → AreArgs args op → ⊥
     by MkColl args first about = no_mkcoll first
+    by (Touch object) args first about = no_touch first
     by (Write object off bytes) args first about = no_write first
     by op args first about = about
-op_word_first word n ws Wait no_mkcoll no_write say = let both : word ∷ n ∷ ws ≡ codes "wait" ∷ [] = say in cc
-op_word_first word n ws what no_mkcoll no_write say = say
+op_word_first word n ws Wait no_mkcoll no_touch no_write say = let both : word ∷ n ∷ ws ≡ codes "wait" ∷ [] = say in cc
+op_word_first word n ws what no_mkcoll no_touch no_write say = say
 
 -- ---- `mkcoll`
 
 mkcoll_args : (op : Op) (args : List (List ℕ)) → codes "mkcoll" ≡ op_word op → AreArgs args op → args ≡ []
 mkcoll_args MkColl args word about = about
+mkcoll_args (Touch object) args word about = absurd (differ (codes "mkcoll") (codes "touch") refl word)
 mkcoll_args (Write object off bytes) args word about = absurd (differ (codes "mkcoll") (codes "write") refl word)
 mkcoll_args op args word about = absurd about
 
@@ -247,6 +270,73 @@ mkcoll_line rest coll what is named says =
       fits = tt;
     })
 
+-- ---- `touch`
+
+-- the words behind `touch` say this
+pub record IsTouch (coll object : List ℕ) : Type 0 where
+  pub name : List ℕ
+  pub is_coll : IsCollName coll
+  pub names : IsNameWord object name
+
+-- two words, and what they hold
+record AreTwo (n : List ℕ) (ws : List (List ℕ)) : Type 0 where
+  object : List ℕ
+  two : ws ≡ object ∷ []
+  touch : IsTouch n object
+
+two_args : (n coll : List ℕ) (args : List (List ℕ)) (op : Op) → codes "touch" ≡ op_word op → AreArgs args op → coll ≡ n → IsCollName coll → AreTwo n args
+two_args n coll args MkColl word about is named = absurd (differ (codes "touch") (codes "mkcoll") refl word)
+two_args n coll args (Touch object) word about is named = record {
+  object = about.object_word;
+  two = about.words;
+  touch = record { name = object; is_coll = subst IsCollName is named; names = about.names };
+}
+two_args n coll args (Write object off bytes) word about is named = absurd (differ (codes "touch") (codes "write") refl word)
+two_args n coll args op word about is named = absurd about
+
+two_words : (n : List ℕ) (ws : List (List ℕ)) (what : What) → AreWordsOf (codes "touch" ∷ n ∷ ws) what → AreTwo n ws
+two_words n ws (Command (command.Change change)) say =
+    let both : codes "touch" ∷ n ∷ ws ≡ op_word say.op ∷ change.coll ∷ say.args = say.whole in
+    let word : codes "touch" ≡ op_word say.op = cc in
+    let coll : change.coll ≡ n = cc in
+    let args : say.args ≡ ws = cc in
+    subst (λ (l : List (List ℕ)). AreTwo n l) args (two_args n change.coll say.args say.op word say.about coll say.named)
+two_words n ws Wait say = let both : codes "touch" ∷ n ∷ ws ≡ codes "wait" ∷ [] = say in absurd cc
+two_words n ws what say = absurd say
+
+pub touch_words : (coll object : List ℕ) (what : What) → AreWordsOf (codes "touch" ∷ coll ∷ object ∷ []) what → IsTouch coll object
+touch_words coll object what say =
+    let of = two_words coll (object ∷ []) what say in
+    let both : of.object ∷ [] ≡ object ∷ [] = sym of.two in
+    let objects : of.object ≡ object = cc in
+    subst (λ (l : List ℕ). IsTouch coll l) objects of.touch
+
+pub touch_say : (coll object c o : List ℕ) (what : What) → c ≡ coll → IsCollName coll → IsNameWord object o → what ≡ op_line c (Touch o)
+    → AreWordsOf (codes "touch" ∷ coll ∷ object ∷ []) what × Fits what
+touch_say coll object c o what is named names says =
+    subst (λ (w : What). AreWordsOf (codes "touch" ∷ coll ∷ object ∷ []) w × Fits w)
+    (sym (says ∙ ap (λ (l : List ℕ). op_line l (Touch o)) is)) (
+      record {
+        op = Touch o;
+        args = object ∷ [];
+        alone = refl;
+        named = named;
+        whole = refl;
+        about = record { object_word = object; words = refl; names = names };
+      },
+      tt,
+    )
+
+-- a line of `touch` has two words behind it
+pub no_two : (rest : List ℕ) (what : What) → ((a b : List ℕ) → AreWords (a ∷ b ∷ []) → rest ≢ in_words (a ∷ b ∷ []))
+    → ¬ (IsLineOf (codes "touch" ++ (0x20 ∷ rest)) what)
+no_two rest what none line =
+    let behind = behind_first (codes "touch") rest what (has_none 0x20 (codes "touch") refl) line in
+    let of = two_words behind.next behind.words what behind.say in
+    none behind.next of.object
+    (subst (λ (l : List (List ℕ)). AreWords (behind.next ∷ l)) of.two behind.no_spaces)
+    (behind.whole ∙ ap (λ (l : List (List ℕ)). in_words (behind.next ∷ l)) of.two)
+
 -- ---- `write`
 
 -- the words behind `write` say this
@@ -255,9 +345,10 @@ pub record IsWrite (coll object off holds : List ℕ) : Type 0 where
   pub bytes : List ℕ
   pub is_coll : IsCollName coll
   pub names : IsNameWord object name
-  pub offset : IsNumber off 0
+  pub at : ℕ
+  pub offset : IsNumber off at
   pub spelled : IsDataWord holds bytes
-  pub size : length bytes ≡ 4096
+  pub pages : (at % 4096 ≡ 0) × (length bytes % 4096 ≡ 0) × (0 < length bytes)
 
 -- four words, and what they hold
 record AreFour (n : List ℕ) (ws : List (List ℕ)) : Type 0 where
@@ -267,9 +358,10 @@ record AreFour (n : List ℕ) (ws : List (List ℕ)) : Type 0 where
   four : ws ≡ object ∷ off ∷ holds ∷ []
   write : IsWrite n object off holds
 
-four_args : (n coll : List ℕ) (args : List (List ℕ)) (op : Op) → codes "write" ≡ op_word op → AreArgs args op → HasSinglePage (op ∷ []) → coll ≡ n
+four_args : (n coll : List ℕ) (args : List (List ℕ)) (op : Op) → codes "write" ≡ op_word op → AreArgs args op → HasWholePages (op ∷ []) → coll ≡ n
     → IsCollName coll → AreFour n args
 four_args n coll args MkColl word about page is named = absurd (differ (codes "write") (codes "mkcoll") refl word)
+four_args n coll args (Touch object) word about page is named = absurd (differ (codes "write") (codes "touch") refl word)
 four_args n coll args (Write object off bytes) word about page is named = record {
   object = about.object_word;
   off = about.off_word;
@@ -280,9 +372,10 @@ four_args n coll args (Write object off bytes) word about page is named = record
     bytes = bytes;
     is_coll = subst IsCollName is named;
     names = about.names;
-    offset = subst (λ (k : ℕ). IsNumber about.off_word k) page.0 about.offset;
+    at = off;
+    offset = about.offset;
     spelled = about.holds;
-    size = page.1;
+    pages = page;
   };
 }
 four_args n coll args op word about page is named = absurd about
@@ -294,7 +387,7 @@ four_words n ws (Command (command.Change change)) say fits =
     let coll : change.coll ≡ n = cc in
     let args : say.args ≡ ws = cc in
     subst (λ (l : List (List ℕ)). AreFour n l) args
-    (four_args n change.coll say.args say.op word say.about (subst HasSinglePage say.alone fits) coll say.named)
+    (four_args n change.coll say.args say.op word say.about (subst HasWholePages say.alone fits) coll say.named)
 four_words n ws Wait say fits = let both : codes "write" ∷ n ∷ ws ≡ codes "wait" ∷ [] = say in absurd cc
 four_words n ws what say fits = absurd say
 
@@ -310,7 +403,7 @@ write_words coll object off holds what say fits =
     (subst (λ (l : List ℕ). IsWrite coll l of.off of.holds) objects of.write))
 
 pub write_say : (coll object off holds c o : List ℕ) (n : ℕ) (bytes : List ℕ) (what : What) → c ≡ coll → IsCollName coll → IsNameWord object o → IsNumber off n
-    → IsDataWord holds bytes → (n ≡ 0) × (length bytes ≡ 4096) → what ≡ op_line c (Write o n bytes)
+    → IsDataWord holds bytes → (n % 4096 ≡ 0) × (length bytes % 4096 ≡ 0) × (0 < length bytes) → what ≡ op_line c (Write o n bytes)
     → AreWordsOf (codes "write" ∷ coll ∷ object ∷ off ∷ holds ∷ []) what × Fits what
 write_say coll object off holds c o n bytes what is named names offset spelled page says =
     subst (λ (w : What). AreWordsOf (codes "write" ∷ coll ∷ object ∷ off ∷ holds ∷ []) w × Fits w)
@@ -348,8 +441,15 @@ write_reads rest a b c d o are is found =
     words_read (codes "write") (a ∷ b ∷ c ∷ d ∷ []) (codes "write" ++ (0x20 ∷ rest)) o (has_none 0x20 (codes "write") refl, are)
     (ap (λ (l : List ℕ). codes "write" ++ (0x20 ∷ l)) is) found
 
+pub touch_reads : (rest a b : List ℕ) (o : Option What) → AreWords (a ∷ b ∷ []) → rest ≡ in_words (a ∷ b ∷ [])
+    → ReadsWords (codes "touch" ∷ a ∷ b ∷ []) o → Reads (codes "touch" ++ (0x20 ∷ rest)) o
+touch_reads rest a b o are is found =
+    words_read (codes "touch") (a ∷ b ∷ []) (codes "touch" ++ (0x20 ∷ rest)) o (has_none 0x20 (codes "touch") refl, are)
+    (ap (λ (l : List ℕ). codes "touch" ++ (0x20 ∷ l)) is) found
+
 -- a line of several words begins with the word of an operation
-pub no_line : (word rest : List ℕ) (what : What) → HasNo 0x20 word → word ≢ codes "mkcoll" → word ≢ codes "write" → ¬ (IsLineOf (word ++ (0x20 ∷ rest)) what)
-no_line word rest what none no_mkcoll no_write line =
+pub no_line : (word rest : List ℕ) (what : What) → HasNo 0x20 word → word ≢ codes "mkcoll" → word ≢ codes "touch" → word ≢ codes "write"
+    → ¬ (IsLineOf (word ++ (0x20 ∷ rest)) what)
+no_line word rest what none no_mkcoll no_touch no_write line =
     let behind = behind_first word rest what none line in
-    op_word_first word behind.next behind.words what no_mkcoll no_write behind.say
+    op_word_first word behind.next behind.words what no_mkcoll no_touch no_write behind.say

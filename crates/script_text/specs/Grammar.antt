@@ -4,7 +4,7 @@ use Rattle.std.specs.Prelude.{Bool, ◌&&◌, ◌||◌, if◌then◌else◌, Lis
 use Rattle.std.specs.List.{AllByRecursion}
 use Rattle.unit_fields.specs.Names.{IsCollName, IsName}
 use Rattle.object_model.specs.declared.op.Op.{Op}
-use Rattle.object_model.specs.declared.op.Op.TheVariants.{MkColl, Write}
+use Rattle.object_model.specs.declared.op.Op.TheVariants.{MkColl, Touch, Write}
 use Rattle.object_model.specs.Effect.{Change}
 use Rattle.object_model.specs.declared.command.Command.TheVariants as command
 use Rattle.script_text.specs.declared.line.What.{What}
@@ -102,8 +102,15 @@ IsDataWord word bytes = IsHexWord word bytes ⊎ IsFillWord word bytes
 -- the word of an operation, where scripts have one so far
 abbrev pub op_word : Op → List ℕ
 op_word MkColl = codes "mkcoll"
+op_word (Touch object) = codes "touch"
 op_word (Write object off bytes) = codes "write"
 op_word op = []
+
+-- `O`
+pub record AreTouchArgs (args : List (List ℕ)) (object : List ℕ) : Type 0 where
+  pub object_word : List ℕ
+  pub words : args ≡ object_word ∷ []
+  pub names : IsNameWord object_word object
 
 -- `O NUM DATA`
 pub record AreWriteArgs (args : List (List ℕ)) (object : List ℕ) (off : ℕ) (bytes : List ℕ) : Type 0 where
@@ -118,6 +125,7 @@ pub record AreWriteArgs (args : List (List ℕ)) (object : List ℕ) (off : ℕ)
 -- the words behind the collection's
 abbrev pub AreArgs : List (List ℕ) → Op → Type 0
 AreArgs args MkColl = args ≡ []
+AreArgs args (Touch object) = AreTouchArgs args object
 AreArgs args (Write object off bytes) = AreWriteArgs args object off bytes
 AreArgs args op = ⊥
 
@@ -136,15 +144,16 @@ AreWordsOf words (Command (command.Change change)) = AreChangeWords words change
 AreWordsOf words Wait = words ≡ codes "wait" ∷ []
 AreWordsOf words what = ⊥
 
--- a transaction that the kernel can do so far: a write is of page 0, whole
-abbrev pub HasSinglePage : List Op → Type 0
-HasSinglePage (MkColl ∷ []) = Unit {0}
-HasSinglePage (Write object off bytes ∷ []) = (off ≡ 0) × (length bytes ≡ 4096)
-HasSinglePage ops = ⊥
+-- a transaction that the kernel can do so far: a write is of whole pages, at least one
+abbrev pub HasWholePages : List Op → Type 0
+HasWholePages (MkColl ∷ []) = Unit {0}
+HasWholePages (Touch object ∷ []) = Unit {0}
+HasWholePages (Write object off bytes ∷ []) = (off % 4096 ≡ 0) × (length bytes % 4096 ≡ 0) × (0 < length bytes)
+HasWholePages ops = ⊥
 
 -- what the kernel can do so far: any other line is a bad one
 abbrev pub Fits : What → Type 0
-Fits (Command (command.Change change)) = HasSinglePage change.ops
+Fits (Command (command.Change change)) = HasWholePages change.ops
 Fits Wait = Unit {0}
 Fits what = ⊥
 

@@ -1,5 +1,5 @@
 //! What a line says.
-ghost use Rattle.std.specs.Prelude.{◌≡◌, ◌↔◌, ◌++◌, ◌∷◌, [], IfOk, IsTrue, codes};
+ghost use Rattle.std.specs.Prelude.{◌≡◌, ◌↔◌, ◌<◌, ◌%◌, ◌++◌, ◌∷◌, [], IfOk, IsTrue, codes};
 ghost use Rattle.script_text.specs.Grammar.{HasNo, IsPassedOver, op_line};
 ghost use Rattle.script_text.specs.Reading.{IsReading, Reads, ReadsWords};
 
@@ -7,10 +7,13 @@ use crate::What;
 use crate::data::{data_size, read_data};
 use crate::escape::read_name;
 use crate::number::read_number;
-use crate::split::{four_words, split_once};
+use crate::split::{four_words, split_once, two_words};
 use object_model::{Command, Op, Transaction};
 use std::alloc::{AllocError, Global};
 use unit_fields::CollName;
+
+/// The bytes of a page.
+const PAGE_BYTES: u64 = 4096;
 
 /// What a line is.
 #[derive(Drop)]
@@ -43,11 +46,35 @@ fn read_mkcoll(alloc: Global, rest: &[u8]) -> Result<Option<What>, AllocError>
     Ok(Some(what))
 }
 
-/// Whether a write of so many bytes at this offset is of page 0, whole, which is all that the kernel can do so far.
-fn is_single_page(off: u64, size: u64) -> bool
-    ensures { IsTrue result ↔ ((off ≡ 0) × (size ≡ 4096)) }
+/// What the words of a touch say.
+fn touch_of(alloc: Global, coll: &[u8], object: &[u8]) -> Result<Option<What>, AllocError>
+    ensures { IfOk result (ReadsWords (codes "touch" ∷ coll.now ∷ object.now ∷ [])) }
 {
-    off == 0 && size == 4096
+    let Some(coll) = CollName::read(alloc, coll)? else {
+        return Ok(None);
+    };
+    let Some(object) = read_name(alloc, object)? else {
+        return Ok(None);
+    };
+    let what = change(alloc, coll, Op::Touch { object })?;
+    Ok(Some(what))
+}
+
+/// `touch C O`: what a line says that has this behind its first word.
+fn read_touch(alloc: Global, rest: &[u8]) -> Result<Option<What>, AllocError>
+    ensures { IfOk result (Reads (codes "touch" ++ (0x20 ∷ rest.now))) }
+{
+    let Some((coll, object)) = two_words(rest) else {
+        return Ok(None);
+    };
+    touch_of(alloc, coll, object)
+}
+
+/// Whether a write of so many bytes at this offset is of whole pages, at least one, which is all that the kernel can do so far.
+fn is_whole_pages(off: u64, size: u64) -> bool
+    ensures { IsTrue result ↔ ((off % 4096 ≡ 0) × (size % 4096 ≡ 0) × (0 < size)) }
+{
+    off % PAGE_BYTES == 0 && size % PAGE_BYTES == 0 && size > 0
 }
 
 /// What the words of a write say. The data are made last, once all else is known to be good.
@@ -66,7 +93,7 @@ fn write_of(
     let Some(size) = data_size(data_word) else {
         return Ok(None);
     };
-    if !is_single_page(off, size) {
+    if !is_whole_pages(off, size) {
         return Ok(None);
     }
     let Some(coll) = CollName::read(alloc, coll)? else {
@@ -99,6 +126,8 @@ fn read_words(alloc: Global, word: &[u8], rest: &[u8]) -> Result<Option<What>, A
 {
     if word == b"mkcoll".as_slice() {
         read_mkcoll(alloc, rest)
+    } else if word == b"touch".as_slice() {
+        read_touch(alloc, rest)
     } else if word == b"write".as_slice() {
         read_write(alloc, rest)
     } else {

@@ -46,7 +46,7 @@ fn is_word(text: &[u8]) -> bool
 }
 
 /// The words of a text of two.
-fn two_words(text: &[u8]) -> Option<(&[u8], &[u8])>
+pub fn two_words(text: &[u8]) -> Option<(&[u8], &[u8])>
     ensures { MatchOption result ((a b : List ℕ) → AreWords (a ∷ b ∷ []) → text.now ≢ in_words (a ∷ b ∷ []))
         (λ x. AreWords (x.0.now ∷ x.1.now ∷ []) × (text.now ≡ in_words (x.0.now ∷ x.1.now ∷ []))) }
 {

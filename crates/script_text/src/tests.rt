@@ -12,6 +12,10 @@ fn show_op(alloc: Global, coll: &str, op: &Op) -> Result<String, AllocError> {
     match op {
         Op::MkColl => format!(in alloc; "mkcoll {coll}"),
         Op::Write { object, off, bytes } => show_write(alloc, coll, object.as_slice(), *off, bytes),
+        Op::Touch { object } => {
+            let object = object.as_slice();
+            format!(in alloc; "touch {coll} {object:?}")
+        }
         _ => format!(in alloc; "another operation"),
     }
 }
@@ -77,7 +81,7 @@ fn gives(alloc: Global, text: &str, want: &str) -> Result<bool, AllocError> {
     Ok(true)
 }
 
-static GOOD: [(&str, &str); 10] = [
+static GOOD: [(&str, &str); 15] = [
     ("", ""),
     ("\n", ""),
     ("mkcoll 0.0_head\n", "1 mkcoll 0.0_head;"),
@@ -103,9 +107,26 @@ static GOOD: [(&str, &str); 10] = [
         "#\nwrite 1.a_head %20 0 fill:00:4096\nwait",
         "2 write 1.a_head [32] 0 0x4096;3 wait;",
     ),
+    ("touch 1.a_head a", "1 touch 1.a_head [97];"),
+    (
+        "touch 1.a_head %20%FF\ntouch 1.a_head b",
+        "1 touch 1.a_head [32, 255];2 touch 1.a_head [98];",
+    ),
+    (
+        "write 1.a_head a 4096 fill:0f:8192",
+        "1 write 1.a_head [97] 4096 15x8192;",
+    ),
+    (
+        "write 1.a_head a 18446744073709547520 fill:01:4096",
+        "1 write 1.a_head [97] 18446744073709547520 1x4096;",
+    ),
+    (
+        "write 1.a_head a 134217728 fill:00:2097152",
+        "1 write 1.a_head [97] 134217728 0x2097152;",
+    ),
 ];
 
-static BAD: [(&str, &str); 48] = [
+static BAD: [(&str, &str); 56] = [
     // Spaces, feeds and words.
     (" ", "line 1"),
     (" #", "line 1"),
@@ -114,7 +135,14 @@ static BAD: [(&str, &str); 48] = [
     ("\r\n", "line 1"),
     ("wait wait", "line 1"),
     ("Wait", "line 1"),
-    ("touch 1.a_head a", "line 1"),
+    // Missing, empty and extra words of a touch.
+    ("touch", "line 1"),
+    ("touch 1.a_head", "line 1"),
+    ("touch 1.a_head ", "line 1"),
+    ("touch 1.A_head a", "line 1"),
+    ("touch 1.a_head %61", "line 1"),
+    ("touch 1.a_head  a", "line 1"),
+    ("touch 1.a_head a b", "line 1"),
     ("wait\nwait\n\n\rwait", "line 4"),
     (
         "wait\n#\n\nwait\nwait\nwait\nwriet c a 0 hex:41\nwait\nbad",
@@ -150,7 +178,11 @@ static BAD: [(&str, &str); 48] = [
     ("write 1.a_head a/b 0 fill:00:4096", "line 1"),
     // Offsets.
     ("write 1.a_head a 1 fill:00:4096", "line 1"),
-    ("write 1.a_head a 4096 fill:00:4096", "line 1"),
+    ("write 1.a_head a 4095 fill:00:4096", "line 1"),
+    (
+        "write 1.a_head a 18446744073709551616 fill:00:4096",
+        "line 1",
+    ),
     ("write 1.a_head a 00 fill:00:4096", "line 1"),
     ("write 1.a_head a +0 fill:00:4096", "line 1"),
     ("write 1.a_head a -0 fill:00:4096", "line 1"),
@@ -159,6 +191,7 @@ static BAD: [(&str, &str); 48] = [
     ("write 1.a_head a 0 fill:00:04096", "line 1"),
     ("write 1.a_head a 0 fill:00:4095", "line 1"),
     ("write 1.a_head a 0 fill:00:4097", "line 1"),
+    ("write 1.a_head a 0 fill:00:0", "line 1"),
     ("write 1.a_head a 0 fill:000:4096", "line 1"),
     ("write 1.a_head a 0 hex:", "line 1"),
     ("write 1.a_head a 0 hex:41", "line 1"),

@@ -17,10 +17,10 @@ use Rattle.store_image.specs.BadRows.{IsInPlace, NoBadRow}
 use Rattle.store_image.specs.Owners.{Owner, page_of, Owns, IsOwned}
 use Rattle.store_image.specs.Stands.{IsShape, ObjectsStand}
 use Rattle.store_image.proofs.ByteLemmas.{equal_or_not}
-use Rattle.row_facts.specs.SinglePages.{HasSinglePages, HasSoleOwners}
+use Rattle.row_facts.specs.SoleOwners.{HasSoleOwner}
 use Rattle.row_facts.specs.Operations.{coll_ops, coll_change}
 use Rattle.row_facts.proofs.Maps.{get_same, get_other}
-use Rattle.row_facts.proofs.PutRow.{put_row, kind_kept, key_kept, row_kept, row_cases, single_after, good_after, IsApart, page_kept, page_was}
+use Rattle.row_facts.proofs.PutRow.{put_row, kind_kept, key_kept, row_kept, row_cases, good_after, IsApart, page_kept, page_was}
 use Rattle.row_facts.proofs.Shapes.{shape_kept, bytes_kept}
 
 -- the effect of the transaction
@@ -59,9 +59,6 @@ module _ (rows : Rows) (c : List ℕ) where
   pub coll_good : (s : Super) → IsCollName c → NoBadRow s rows → NoBadRow s (rows_after rows (coll_ops c))
   coll_good s name good = good_after rows r s name good tt (λ x has apart is. kept_in_place name s x is)
 
-  pub coll_single : IsCollName c → HasSinglePages rows → HasSinglePages (rows_after rows (coll_ops c))
-  coll_single name all = single_after rows r name tt all
-
   pub coll_owners : (owner : Owner) (unit : ℕ) → Owns (rows_after rows (coll_ops c)) owner unit ↔ Owns rows owner unit
   coll_owners (page_of d u page) unit = (
     λ owns. (owns.0, page_was rows r d u (shard_apart d u) page owns.0 owns.1, owns.2),
@@ -74,8 +71,8 @@ module _ (rows : Rows) (c : List ℕ) where
     λ owned. (owned.0, (coll_owners owned.0 unit).1 owned.1),
   )
 
-  pub coll_sole : HasSoleOwners rows → HasSoleOwners (rows_after rows (coll_ops c))
-  coll_sole sole unit a b p q = sole unit a b ((coll_owners a unit).0 p) ((coll_owners b unit).0 q)
+  pub coll_sole : (unit : ℕ) → HasSoleOwner rows unit → HasSoleOwner (rows_after rows (coll_ops c)) unit
+  coll_sole unit sole a b p q = sole a b ((coll_owners a unit).0 p) ((coll_owners b unit).0 q)
 
   module _ (objects : Objects) (none : map.get objects c ≡ None) where
     -- the objects are the same, each under its name
@@ -133,4 +130,4 @@ coll_stands at rows objects after c p is =
     subst (ObjectsStand at (rows_after rows (coll_ops c))) (sym e.1) (coll_stand rows c objects e.0 at p)
 
 -- what the laws cite
-pub ruleset coll_laws = (coll_good, coll_single, coll_sole)
+pub ruleset coll_laws = (coll_good, coll_sole)

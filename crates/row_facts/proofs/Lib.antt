@@ -2,12 +2,8 @@ pub mod Maps
 pub mod PutRow
 pub mod Shapes
 pub mod CollMade
-pub mod SinglePage
-pub mod PagePut
-pub mod PageWritten
-pub mod PageOwners
+pub mod ObjectUnder
 pub mod Replies
 pub mod NoRows
 pub mod Lengths
 pub mod ByRow
-pub mod Plans

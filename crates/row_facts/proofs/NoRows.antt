@@ -12,7 +12,6 @@ use Rattle.store_image.specs.Pages.{HasRow}
 use Rattle.store_image.specs.BadRows.{NoBadRow}
 use Rattle.store_image.specs.Owners.{Owner, page_of, Owns, IsOwned}
 use Rattle.store_image.specs.Stands.{ObjectsStand}
-use Rattle.row_facts.specs.SinglePages.{HasSinglePages, HasSoleOwners}
 use Rattle.std.specs.Prelude.{option_and_then, is_some}
 
 abbrev none : Rows
@@ -30,9 +29,6 @@ no_object c o = ap (λ (x : Option Collection). option_and_then (λ (found : Col
 pub none_good : (s : Super) → NoBadRow s none
 none_good s key value stands = absurd (let e = sym (map.get-empty byte_order key) ∙ stands in cc)
 
-pub none_single : HasSinglePages none
-none_single row has = absurd (no_row row has)
-
 pub none_stand : (at : ℕ → List ℕ) → ObjectsStand at none map.empty
 none_stand at = record {
   shape = record {
@@ -46,8 +42,5 @@ none_stand at = record {
 pub none_owned : (unit : ℕ) → ¬ IsOwned none unit
 none_owned unit owned = nobody owned.0 unit owned.1
 
-pub none_sole : HasSoleOwners none
-none_sole unit a b p q = absurd (nobody a unit p)
-
 -- what the laws cite
-pub ruleset none_laws = (none_good, none_single, none_sole)
+pub ruleset none_laws = (none_good)

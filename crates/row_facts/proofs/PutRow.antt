@@ -1,5 +1,5 @@
 -- Rows after one row is put in.
-use Rattle.std.proofs.Common.{◌≡◌, ◌≢◌, ◌⊎◌, inl, inr, ℕ, List, ◌∷◌, Some, None, refl, sym, ap, subst, ◌∙◌}
+use Rattle.std.proofs.Common.{◌≡◌, ◌≢◌, ◌⊎◌, inl, inr, ℕ, List, ◌∷◌, Some, None, refl, sym, ap, ◌∙◌}
 use Rattle.std.specs.FinMap as map
 use Rattle.meta_rows.specs.Rows.{Rows}
 use Rattle.meta_log.specs.declared.slot.Super.{Super}
@@ -10,7 +10,6 @@ use Rattle.row_format.proofs.KeyLemmas.{same_head}
 use Rattle.store_image.specs.Pages.{HasKey, HasRow, IsPageAt}
 use Rattle.store_image.specs.BadRows.{IsInPlace, NoBadRow}
 use Rattle.store_image.proofs.ByteLemmas.{equal_or_not}
-use Rattle.row_facts.specs.SinglePages.{IsOfSinglePage, HasSinglePages}
 use Rattle.row_facts.proofs.Maps.{get_same, get_other, some_after}
 
 abbrev pub put_row : Rows → Row → Rows
@@ -36,9 +35,6 @@ module _ (rows : Rows) (r : Row) where
   pub key_kept : (key : List ℕ) → HasKey rows key → HasKey (put_row rows r) key
   key_kept key there = some_after rows (row_key r) (row_value r) key there
 
-  pub new_row : FitsRow r → HasRow (put_row rows r) r
-  new_row fits = record { fits = fits; stands = get_same rows (row_key r) (row_value r) }
-
   pub row_kept : (x : Row) → HasRow rows x → row_key x ≢ row_key r → HasRow (put_row rows r) x
   row_kept x has apart = record { fits = has.fits; stands = get_other rows (row_key r) (row_value r) (row_key x) apart ∙ has.stands }
 
@@ -50,12 +46,6 @@ module _ (rows : Rows) (r : Row) where
         ∙ get_same rows (row_key r) (row_value r) in
         inl (same_row x r has.fits fits e cc)
     | inr apart ↦ inr (record { fits = has.fits; stands = sym (get_other rows (row_key r) (row_value r) (row_key x) apart) ∙ has.stands }, apart)
-  ]
-
-  pub single_after : FitsRow r → IsOfSinglePage r → HasSinglePages rows → HasSinglePages (put_row rows r)
-  single_after fits is all x has = elim (row_cases fits x has) [
-    | inl e ↦ subst IsOfSinglePage (sym e) is
-    | inr old ↦ all x old.0
   ]
 
   -- no row is bad after, if the new one is in its place, and those that stay are in theirs

@@ -1,29 +1,23 @@
 -- Which replies the rows decide.
-use Rattle.std.proofs.Common.{◌≡◌, ℕ, ◌+◌, true, false, cond, List, [], ◌∷◌, length, Option, Some, None, Ok, Err, is_some, is_ok, refl, sym, ap, ◌∙◌}
-use Rattle.std.specs.Prelude.{nat_lt, IsOk}
+use Rattle.std.proofs.Common.{◌≡◌, ℕ, true, false, List, [], ◌∷◌, Option, Some, None, Ok, Err, is_some, refl, sym, ap, ◌∙◌}
 use Rattle.std.specs.FinMap as map
 use Rattle.meta_rows.specs.Rows.{Rows}
 use Rattle.object_model.specs.declared.op.Op.TheVariants.{MkColl}
-use Rattle.object_model.specs.declared.op.Refusal.TheVariants.{NoCollection, CollectionExists, TooBig}
+use Rattle.object_model.specs.declared.op.Refusal.TheVariants.{CollectionExists}
 use Rattle.object_model.specs.Objects.{Collection, Objects}
 use Rattle.object_model.specs.Effect.{effects, transaction_effect}
-use Rattle.object_model.specs.Limits.{payload_limit, submitted_effect}
+use Rattle.object_model.specs.Limits.{submitted_effect}
 use Rattle.row_format.specs.Keys.{coll_key}
 use Rattle.store_image.specs.Pages.{HasKey}
 use Rattle.store_image.specs.Stands.{IsShape}
-use Rattle.row_facts.specs.Operations.{coll_change, page_change}
+use Rattle.row_facts.specs.Operations.{coll_change}
 use Rattle.row_facts.proofs.CollMade.{coll_effect}
-use Rattle.row_facts.proofs.PageWritten.{after_outcome, with_object, written, page_effect, page_missing}
+use Rattle.row_facts.proofs.ObjectUnder.{after_outcome}
 
--- ---- neither transaction is too large
+-- ---- the size of the transaction
 
 pub coll_submitted : (objects : Objects) (c : List ℕ) → submitted_effect (coll_change c) objects ≡ transaction_effect (coll_change c) objects
 coll_submitted objects c = refl
-
-pub page_submitted : (objects : Objects) (c o bytes : List ℕ) → length bytes ≡ 4096
-    → submitted_effect (page_change c o bytes) objects ≡ transaction_effect (page_change c o bytes) objects
-page_submitted objects c o bytes whole =
-    ap (λ b. cond b (Err TooBig) (transaction_effect (page_change c o bytes) objects)) (ap (λ n. nat_lt payload_limit (0 + n)) whole)
 
 -- ---- collections by their rows
 
@@ -51,17 +45,5 @@ module _ (rows : Rows) (objects : Objects) (shape : IsShape rows objects) (c : L
   pub coll_exists : HasKey rows (coll_key c) → transaction_effect (coll_change c) objects ≡ Err CollectionExists
   coll_exists has = ap (λ x. after_outcome objects c (effects (MkColl ∷ []) x)) (coll_found has).1
 
-  pub page_refused : (o bytes : List ℕ) → map.get rows (coll_key c) ≡ None → transaction_effect (page_change c o bytes) objects ≡ Err NoCollection
-  page_refused o bytes none = page_missing objects c o bytes (coll_absent none)
-
-  pub page_given : (o bytes : List ℕ) → length bytes ≡ 4096 → HasKey rows (coll_key c)
-      → (after : Objects) × (transaction_effect (page_change c o bytes) objects ≡ Ok after)
-  page_given o bytes whole has =
-      let found = coll_found has in
-      (with_object objects c o found.0 (written (map.get found.0 o) bytes), page_effect objects c o bytes found.0 found.1 whole)
-
-  pub page_ok : (o bytes : List ℕ) → length bytes ≡ 4096 → HasKey rows (coll_key c) → IsOk (transaction_effect (page_change c o bytes) objects)
-  page_ok o bytes whole has = ap is_ok (page_given o bytes whole has).1
-
 -- what the laws cite
-pub ruleset reply_laws = (coll_submitted, page_submitted, coll_absent, row_absent, coll_made, coll_exists, page_refused, page_ok)
+pub ruleset reply_laws = (coll_submitted, coll_absent, row_absent, coll_made, coll_exists)

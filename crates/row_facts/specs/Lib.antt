@@ -1,3 +1,2 @@
-pub mod SinglePages
+pub mod SoleOwners
 pub mod Operations
-pub mod Plans

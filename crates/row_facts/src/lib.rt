@@ -1,12 +1,10 @@
-//! What rows stand for after a transaction, from what they stood for before it.
+//! What rows stand for, as far as it has nothing to do with an object's pages.
 //!
-//! The store has two transactions now: one makes a collection, the other writes a whole page of an object, its only one. For
-//! each these laws say that its row operations leave no bad row, and rows that stand for the objects after it.
+//! The laws are of no rows, of rows after a collection is made, of the objects that are there by the rows of their onodes, and of the
+//! reply that the making of a collection gets. What comes of an object's onode and extents is in the crate `object_rows`, whose proofs
+//! stand on the lemmas here: of a row that is put in, of maps, and of objects under their names.
 #![tactic(auto)]
 
 mod laws;
 
-pub use laws::{
-    made_collection, no_rows, object_by_row, owned_besides, page_by_row, planned_record,
-    planned_rows, planned_units, records_of_one_unit, replies_by_rows, wrote_page,
-};
+pub use laws::{made_collection, no_rows, object_by_row, record_of_a_collection, replies_by_rows};

@@ -16,7 +16,7 @@ use Rattle.store_image.specs.Pages.{HasKey, HasRow, IsPageAt, pages_of}
 use Rattle.store_image.specs.BadRows.{IsOnData, IsShardInPlace, IsInPlace, IsGoodRow, NoBadRow}
 use Rattle.store_image.specs.Owners.{Owner, page_of, Owns, IsOwned}
 use Rattle.store_image.proofs.PageMap.{in_place}
-use Rattle.row_facts.proofs.PageWritten.{object_cases}
+use Rattle.row_facts.proofs.ObjectUnder.{object_cases}
 use Rattle.row_facts.proofs.Shapes.{SameOthers}
 use Rattle.object_rows.specs.Operations.{CanReplace, replaced, IsKeyOf, IsOther, HasUnit, IsOwnedElsewhere}
 use Rattle.object_rows.proofs.Ops.{AreReplaced, are_replaced}

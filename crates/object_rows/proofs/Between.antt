@@ -1,8 +1,7 @@
 -- The units of the pages of a range.
-use Rattle.std.proofs.Common.{◌≡◌, ◌⊎◌, ◌↔◌, inl, inr, ℕ, zero, suc, ◌+◌, ◌<◌, ◌≤◌, Bool, true, false, cond, T, List, [], ◌∷◌, length, get_or, map, Contains, Option, Some, refl, sym, ap, subst, ◌∙◌, arith}
+use Rattle.std.proofs.Common.{◌≡◌, ◌⊎◌, ◌↔◌, inl, inr, ℕ, zero, suc, ◌+◌, ◌<◌, ◌≤◌, Bool, true, false, cond, T, List, [], ◌∷◌, length, get_or, map, Contains, Some, refl, sym, ap, subst, ◌∙◌, arith}
 use Rattle.std.specs.Prelude.{slice_index}
 use Rattle.std.specs.Ordering.{nat_cmp, is_eq}
-use Rattle.std.specs.FinMap as finite
 use Rattle.std.specs.FinMap.{find, is_sorted, entries, entries_sorted, get-entries}
 use Rattle.std.specs.FinMap.Entries.{where_key, below_all}
 use Rattle.std.proofs.lemmas.Bool.{cases_Bool, cases_lt}
@@ -13,12 +12,13 @@ use Rattle.number_map.proofs.Search.{cmp_equal, cmp_less, cmp_greater, less_is}
 use Rattle.meta_rows.specs.Rows.{Rows}
 use Rattle.row_format.specs.Extents.{Place}
 use Rattle.store_image.specs.Pages.{IsPageAt}
-use Rattle.store_image.specs.Owners.{page_of, Owns}
-use Rattle.row_facts.specs.SinglePages.{HasSoleOwners}
+use Rattle.store_image.specs.Owners.{page_of}
+use Rattle.row_facts.specs.SoleOwners.{HasSoleOwner}
 use Rattle.blob_map.specs.Pages.{PageMap}
 use Rattle.object_rows.specs.Maps.{IsMapOf}
 use Rattle.object_rows.specs.Plans.{units_between}
-use Rattle.object_rows.specs.Writes.{AreDistinct, StoodWritten}
+use Rattle.object_rows.specs.Writes.{StoodWritten}
+use Rattle.object_rows.specs.Planned.{StandsOnce}
 use Rattle.object_rows.proofs.Wrote.{written_or_not}
 
 -- ---- elements
@@ -43,17 +43,17 @@ index_in [] j lt = absurd (omega (arith, lt))
 index_in (u ∷ us) zero lt = inl refl
 index_in (u ∷ us) (suc j) lt = inr (index_in us j (omega (arith, lt)))
 
--- none comes twice
-abbrev NoTwice : List ℕ → Type 0
-NoTwice [] = Unit {0}
-NoTwice (u ∷ us) = (In us u → ⊥) × NoTwice us
+-- it doesn't come twice
+abbrev NotTwice : List ℕ → ℕ → Type 0
+NotTwice [] v = Unit {0}
+NotTwice (u ∷ us) v = (u ≡ v → In us v → ⊥) × NotTwice us v
 
-distinct_of : (us : List ℕ) → NoTwice us → AreDistinct us
-distinct_of [] once i j in_i in_j same = absurd (omega (arith, in_i))
-distinct_of (u ∷ us) once zero zero in_i in_j same = refl
-distinct_of (u ∷ us) once zero (suc j) in_i in_j same = absurd (once.0 (subst (In us) (sym same) (index_in us j (omega (arith, in_j)))))
-distinct_of (u ∷ us) once (suc i) zero in_i in_j same = absurd (once.0 (subst (In us) same (index_in us i (omega (arith, in_i)))))
-distinct_of (u ∷ us) once (suc i) (suc j) in_i in_j same = ap suc (distinct_of us once.1 i j (omega (arith, in_i)) (omega (arith, in_j)) same)
+once_of : (us : List ℕ) (v : ℕ) → NotTwice us v → StandsOnce us v
+once_of [] v once i j in_i in_j is same = absurd (omega (arith, in_i))
+once_of (u ∷ us) v once zero zero in_i in_j is same = refl
+once_of (u ∷ us) v once zero (suc j) in_i in_j is same = absurd (once.0 is (subst (In us) same (index_in us j (omega (arith, in_j)))))
+once_of (u ∷ us) v once (suc i) zero in_i in_j is same = absurd (once.0 same (subst (In us) is (index_in us i (omega (arith, in_i)))))
+once_of (u ∷ us) v once (suc i) (suc j) in_i in_j is same = ap suc (once_of us v once.1 i j (omega (arith, in_i)) (omega (arith, in_j)) is same)
 
 -- ---- entries in order
 
@@ -150,22 +150,22 @@ module _ (first count : ℕ) where
         | inr test ↦ subst (λ b. In (front e es b) v) (sym test) rest
       ]
 
-  -- where no two entries have one unit, none comes twice
-  units_differ : (es : List (ℕ × Place)) → T (is_sorted nat_cmp es)
-      → ((p q : ℕ) (a b : Place) → In es (p, a) → In es (q, b) → a.unit ≡ b.unit → p ≡ q) → NoTwice (units_in es)
-  units_differ [] sorted one = tt
-  units_differ (e ∷ es) sorted one =
-      let rest = units_differ es (both_second (below_all nat_cmp e.0 es) _ sorted) (λ p q a b x y. one p q a b (inr x) (inr y)) in
+  -- where no two entries have the unit, it doesn't come twice
+  units_differ : (es : List (ℕ × Place)) (v : ℕ) → T (is_sorted nat_cmp es)
+      → ((p q : ℕ) (a b : Place) → In es (p, a) → In es (q, b) → a.unit ≡ v → b.unit ≡ v → p ≡ q) → NotTwice (units_in es) v
+  units_differ [] v sorted one = tt
+  units_differ (e ∷ es) v sorted one =
+      let rest = units_differ es v (both_second (below_all nat_cmp e.0 es) _ sorted) (λ p q a b x y. one p q a b (inr x) (inr y)) in
       elim (cases_Bool (is_in first (first + count) e.0)) [
-        | inl is ↦ subst (λ b. NoTwice (front e es b)) (sym is) (not_again, rest)
-        | inr is ↦ subst (λ b. NoTwice (front e es b)) (sym is) rest
+        | inl is ↦ subst (λ b. NotTwice (front e es b) v) (sym is) (not_again, rest)
+        | inr is ↦ subst (λ b. NotTwice (front e es b) v) (sym is) rest
       ]
     where
-      not_again : In (units_in es) e.1.unit → ⊥
-      not_again h =
-          let x = unit_stands es e.1.unit h in
+      not_again : e.1.unit ≡ v → In (units_in es) v → ⊥
+      not_again is h =
+          let x = unit_stands es v h in
           let above : e.0 < x.page = below_in e.0 es x.page x.place (both_first _ (is_sorted nat_cmp es) sorted) x.there in
-          let same : e.0 ≡ x.page = one e.0 x.page e.1 x.place (inl refl) (inr x.there) (sym x.is_unit) in
+          let same : e.0 ≡ x.page = one e.0 x.page e.1 x.place (inl refl) (inr x.there) is x.is_unit in
           omega (arith, above, same)
 
   module _ (rows : Rows) (c o : List ℕ) (pages : PageMap) (are : IsMapOf rows c o pages) where
@@ -195,9 +195,9 @@ module _ (first count : ℕ) where
           ]
         ]
 
-    pub between_distinct : HasSoleOwners rows → AreDistinct (units_between pages first count)
-    between_distinct sole = distinct_of (units_between pages first count) (units_differ (entries pages) (entries_sorted pages) one)
+    pub between_once : (v : ℕ) → HasSoleOwner rows v → StandsOnce (units_between pages first count) v
+    between_once v sole = once_of (units_between pages first count) v (units_differ (entries pages) v (entries_sorted pages) one)
       where
-        one : (p q : ℕ) (a b : Place) → In (entries pages) (p, a) → In (entries pages) (q, b) → a.unit ≡ b.unit → p ≡ q
-        one p q a b x y same =
-            let owner : page_of c o p ≡ page_of c o q = sole b.unit (page_of c o p) (page_of c o q) (a, page_in p a x, same) (b, page_in q b y, refl) in cc
+        one : (p q : ℕ) (a b : Place) → In (entries pages) (p, a) → In (entries pages) (q, b) → a.unit ≡ v → b.unit ≡ v → p ≡ q
+        one p q a b x y is same =
+            let owner : page_of c o p ≡ page_of c o q = sole (page_of c o p) (page_of c o q) (a, page_in p a x, is) (b, page_in q b y, same) in cc

@@ -38,7 +38,7 @@ length-extent e = omega (
   length-body e.body,
 )
 
-has_page : (body : Body) → FitsBody body → 0 < page_count body
+pub has_page : (body : Body) → FitsBody body → 0 < page_count body
 has_page (private unit csums) fits = fits.1
 
 -- ascending extents take at most fifteen bytes for each page from the first on

@@ -13,6 +13,7 @@ pub mod KeyOrder
 pub mod PagesOn
 pub mod Laid
 pub mod Between
+pub mod FewShards
 pub mod Touched
 pub mod Replied
 pub mod Planned

@@ -1,6 +1,6 @@
 -- What holds of every transaction that is planned.
-use Rattle.std.proofs.Common.{◌≡◌, ◌⊎◌, ◌↔◌, inl, inr, ℕ, ◌+◌, ◌*◌, ◌<◌, ◌≤◌, List, [], ◌∷◌, length, ◌++◌, Any, Contains, Ok, is_ok, refl, sym, ap, subst, ◌∙◌, length-append, arith}
-use Rattle.std.specs.Prelude.{IsOk, max, slice_index}
+use Rattle.std.proofs.Common.{◌≡◌, ◌⊎◌, ◌↔◌, inl, inr, ℕ, ◌+◌, ◌*◌, ◌<◌, ◌≤◌, List, [], length, ◌++◌, Any, Contains, Ok, is_ok, refl, sym, ap, subst, ◌∙◌, length-append, arith}
+use Rattle.std.specs.Prelude.{IsOk, max, slice_index, ◌^◌}
 use Rattle.std.specs.List.{AllByRecursion}
 use Rattle.std.specs.FinMap as finite
 use Rattle.std.specs.Int.{w32, to_le_bytes}
@@ -17,31 +17,34 @@ use Rattle.object_model.specs.Limits.{submitted_effect}
 use Rattle.unit_fields.specs.UnitSet.{Ascends}
 use Rattle.row_format.specs.Extents.{Extent}
 use Rattle.row_format.specs.Row.{onode}
+use Rattle.store_image.specs.Pages.{pages_of}
 use Rattle.store_image.specs.BadRows.{NoBadRow}
-use Rattle.store_image.specs.Owners.{page_of, IsDataUnit, Owns, IsOwned}
+use Rattle.store_image.specs.Owners.{page_of, IsDataUnit, IsOwned}
 use Rattle.store_image.specs.Stands.{IsShape, ObjectsStand}
 use Rattle.store_image.proofs.OwnedUnits.{objects_stand}
 use Rattle.store_image.proofs.PageMap.{in_place}
-use Rattle.row_facts.specs.SinglePages.{HasSoleOwners}
+use Rattle.row_facts.specs.SoleOwners.{HasSoleOwner}
+use Rattle.row_facts.specs.Operations.{coll_ops}
 use Rattle.row_facts.proofs.CollMade.{coll_good, coll_sole, coll_owned, coll_stands}
-use Rattle.row_facts.proofs.Lengths.{coll_fits}
+use Rattle.row_facts.proofs.Lengths.{coll_fits, coll_short}
 use Rattle.row_facts.proofs.Replies.{coll_submitted, coll_made}
 use Rattle.blob_map.specs.Pages.{PageMap, laid}
 use Rattle.blob_map.specs.Normal.{extents_of}
 use Rattle.object_rows.specs.Operations.{CanReplace, replaced}
 use Rattle.object_rows.specs.Maps.{IsMapWritten, CanWrite}
 use Rattle.object_rows.specs.Writes.{write_change, missing, there, IsSizeOf, IsWritten, HoldPages, AreDistinct, StoodWritten}
-use Rattle.object_rows.specs.Plans.{new_pages, WritesPages}
-use Rattle.object_rows.specs.Planned.{Plan, pages_on, CanPlanWrite, IsPlanned, makes_coll, touches, writes, HoldsFresh, IsFresh, fresh_units}
+use Rattle.object_rows.specs.Plans.{new_pages, WritesPages, touch_ops}
+use Rattle.object_rows.specs.Planned.{Plan, pages_on, CanPlanWrite, IsPlanned, makes_coll, touches, writes, HoldsFresh, IsFresh, StandsOnce, fresh_units}
 use Rattle.object_rows.proofs.After.{then_good}
-use Rattle.object_rows.proofs.Between.{between_stood, between_distinct}
+use Rattle.object_rows.proofs.Between.{between_stood, between_once}
+use Rattle.object_rows.proofs.FewShards.{few_shards}
 use Rattle.object_rows.proofs.Laid.{map_written}
-use Rattle.object_rows.proofs.Lengths.{object_ops_fit}
+use Rattle.object_rows.proofs.Lengths.{object_ops_fit, length-object_ops}
 use Rattle.object_rows.proofs.Maps.{map_can_replace, map_is_written}
 use Rattle.object_rows.proofs.PagesOn.{all_at, ascending_distinct, fresh_there, held_at, fresh_all, units_of_pages}
 use Rattle.object_rows.proofs.Replied.{touch_submitted, touch_ok, write_submitted, write_ok}
-use Rattle.object_rows.proofs.Touched.{touch_good, touch_fits, touch_owned, touch_sole, touch_stand}
-use Rattle.object_rows.proofs.Units.{written_owned, written_sole, written_released, left_or_written}
+use Rattle.object_rows.proofs.Touched.{touch_good, touch_fits, touch_short, touch_owned, touch_sole, touch_stand}
+use Rattle.object_rows.proofs.Units.{written_owned, written_sole, written_lost, written_released}
 use Rattle.object_rows.proofs.Wrote.{pages_stand}
 
 -- ---- lists of none
@@ -49,8 +52,11 @@ use Rattle.object_rows.proofs.Wrote.{pages_stand}
 none_in : (v : ℕ) → ¬ Contains {X = ℕ} [] v
 none_in v k = omega (arith, k.1)
 
-none_distinct : AreDistinct []
-none_distinct i j in_i in_j same = absurd (omega (arith, in_i))
+none_once : (v : ℕ) → StandsOnce [] v
+none_once v i j in_i in_j is same = absurd (omega (arith, in_i))
+
+none_fresh : (ops : List RowOp) (v : ℕ) → ¬ IsFresh (record { ops = ops; fresh = []; released = [] }) v
+none_fresh ops v f = omega (arith, f.2)
 
 -- ---- records
 
@@ -101,8 +107,8 @@ module _ (s : Super) (rows : Rows) (c o : List ℕ) (first : ℕ) (bytes units :
   write_released : (v : ℕ) → Contains released v → IsOwned rows v
   write_released v k = let x = (stood v).0 k in (page_of c o (first + x.index), x.owns)
 
-  write_distinct : HasSoleOwners rows → AreDistinct released
-  write_distinct sole = subst AreDistinct (sym w.released_are) (between_distinct first (length units) rows c o w.pages w.are_pages sole)
+  write_once : (v : ℕ) → HasSoleOwner rows v → StandsOnce released v
+  write_once v sole = subst (λ us. StandsOnce us v) (sym w.released_are) (between_once first (length units) rows c o w.pages w.are_pages v sole)
 
   fresh_held : (at : ℕ → List ℕ) → AllByRecursion (λ f. at f.0 ≡ f.1) (pages_on units 0 bytes) → (i : ℕ) → i < length units
       → at (slice_index units i) ≡ unit_at i bytes
@@ -143,6 +149,13 @@ module _ (s : Super) (rows : Rows) (c o : List ℕ) (first : ℕ) (bytes units :
     write_fits : AllFit ops
     write_fits = subst AllFit (sym w.ops_are) (object_ops_fit s rows c o size extents w.present can_replace)
 
+    write_short : length (ops_bytes ops) < 2 ^ 32
+    write_short =
+        let most : size ≤ object_limit = can_write.size_most in
+        let pages : pages_of size ≤ 32768 = omega (arith, most) in
+        let few = few_shards s rows c o good can.coll_name can.object_name w.before w.present w.was_long w.are_shards.below w.there w.in_order in
+        omega (arith, ap (λ x. length (ops_bytes x)) w.ops_are, length-object_ops s rows c o size extents w.present can_replace, pages, few)
+
     write_stand : (at later_at : ℕ → List ℕ) (objects after : Objects) → AllByRecursion (λ f. later_at f.0 ≡ f.1) (pages_on units 0 bytes)
         → ((v : ℕ) → IsOwned rows v → later_at v ≡ at v) → ObjectsStand at rows objects
         → transaction_effect (write_change c o first bytes) objects ≡ Ok after → ObjectsStand later_at (rows_after rows ops) after
@@ -160,34 +173,24 @@ module _ (s : Super) (rows : Rows) (c o : List ℕ) (first : ℕ) (bytes units :
       | inr b ↦ inr (b.owner, b.owns)
     ]
 
-    write_sole : HasSoleOwners rows → HasSoleOwners (rows_after rows ops)
-    write_sole sole = subst HasSoleOwners (sym rows_are)
-        (written_sole s rows c o size extents w.present can_replace first bytes units is_written distinct free sole)
+    write_taken : (v : ℕ) → IsFreshOf v → IsOwned (rows_after rows ops) v
+    write_taken v f = subst (λ r. IsOwned r v) (sym rows_are)
+        ((written_owned s rows c o size extents w.present can_replace first bytes units is_written v).1 (inl ((fresh_there bytes units 0 v).0 f)))
 
-    module _ (sole : HasSoleOwners rows) (v : ℕ) where
-      owned_then : IsOwned then v → IsFreshOf v ⊎ (IsOwned rows v × (Contains released v → ⊥))
-      owned_then owned = elim ((written_owned s rows c o size extents w.present can_replace first bytes units is_written v).0 owned) [
-        | inl f ↦ inl ((fresh_there bytes units 0 v).1 f)
-        | inr b ↦ inr (
-          (b.owner, b.owns),
-          λ k.
-              ((written_released s rows c o size extents w.present can_replace first bytes units is_written distinct free sole v).1 ((stood v).0 k)).1 owned,
-        )
-      ]
+    write_left : (v : ℕ) → IsOwned rows v → IsOwned (rows_after rows ops) v ⊎ Contains released v
+    write_left v owned = elim (written_lost s rows c o size extents w.present can_replace first bytes units is_written v owned) [
+      | inl after ↦ inl (subst (λ r. IsOwned r v) (sym rows_are) after)
+      | inr x ↦ inr ((stood v).1 x)
+    ]
 
-      then_is_owned : IsFreshOf v ⊎ (IsOwned rows v × (Contains released v → ⊥)) → IsOwned then v
-      then_is_owned either =
-          let after = written_owned s rows c o size extents w.present can_replace first bytes units is_written v in
-          elim either [
-            | inl f ↦ after.1 (inl ((fresh_there bytes units 0 v).0 f))
-            | inr p ↦ elim (left_or_written s rows c o size extents w.present can_replace first bytes units is_written distinct free p.0.0) [
-              | inl left ↦ after.1 (inr (record { owner = p.0.0; left = left; owns = p.0.1 }))
-              | inr x ↦ absurd (p.1 ((stood v).1 (record { index = x.0; small = x.1; owns = subst (λ y. Owns rows y v) x.2 p.0.1 })))
-            ]
-          ]
+    module _ (v : ℕ) (sole : HasSoleOwner rows v) where
+      write_sole : HasSoleOwner (rows_after rows ops) v
+      write_sole = subst (λ r. HasSoleOwner r v) (sym rows_are)
+          (written_sole s rows c o size extents w.present can_replace first bytes units is_written free v sole distinct)
 
-      write_owners : IsOwned (rows_after rows ops) v ↔ (IsFreshOf v ⊎ (IsOwned rows v × (Contains released v → ⊥)))
-      write_owners = (λ owned. owned_then (after_owned v owned), λ either. subst (λ r. IsOwned r v) (sym rows_are) (then_is_owned either))
+      write_gone : Contains released v → IsOwned (rows_after rows ops) v → ⊥
+      write_gone k owned = written_released s rows c o size extents w.present can_replace first bytes units is_written free v sole
+          ((stood v).0 k) (after_owned v owned)
 
 -- ---- plans
 
@@ -225,6 +228,11 @@ module _ (s : Super) (rows : Rows) where
   planned_fits (touches c o coll name has) good = touch_fits s rows c o coll name has good
   planned_fits (writes c o first bytes units ops released can w) good = write_fits s rows c o first bytes units ops released can w good
 
+  pub planned_short : {change : Change} {plan : Plan} → IsPlanned s rows change plan → NoBadRow s rows → length (ops_bytes plan.ops) < 2 ^ 32
+  planned_short (makes_coll c name none) good = omega (arith, coll_short c name)
+  planned_short (touches c o coll name has) good = touch_short s rows c o coll name has good
+  planned_short (writes c o first bytes units ops released can w) good = write_short s rows c o first bytes units ops released can w good
+
   pub planned_fresh : {change : Change} {plan : Plan} → IsPlanned s rows change plan
       → AllByRecursion (λ f. IsDataUnit s f.0 × ¬ IsOwned rows f.0 × (length f.1 ≡ 4096)) plan.fresh
   planned_fresh (makes_coll c name none) = tt
@@ -242,11 +250,6 @@ module _ (s : Super) (rows : Rows) where
   planned_released v (touches c o coll name has) k = absurd (none_in v k)
   planned_released v (writes c o first bytes units ops released can w) k = write_released s rows c o first bytes units ops released can w v k
 
-  pub planned_distinct : {change : Change} {plan : Plan} → IsPlanned s rows change plan → HasSoleOwners rows → AreDistinct plan.released
-  planned_distinct (makes_coll c name none) sole = none_distinct
-  planned_distinct (touches c o coll name has) sole = none_distinct
-  planned_distinct (writes c o first bytes units ops released can w) sole = write_distinct s rows c o first bytes units ops released can w sole
-
   pub planned_owned : {change : Change} {plan : Plan} (v : ℕ) → IsPlanned s rows change plan → NoBadRow s rows
       → IsOwned (rows_after rows plan.ops) v → IsFresh plan v ⊎ IsOwned rows v
   planned_owned v (makes_coll c name none) good owned = inr ((coll_owned rows c v).0 owned)
@@ -254,26 +257,35 @@ module _ (s : Super) (rows : Rows) where
   planned_owned v (writes c o first bytes units ops released can w) good owned =
       write_owned s rows c o first bytes units ops released can w good v owned
 
-  -- where nothing is fresh and nothing is released
-  unchanged : (then : Rows) (v : ℕ) (ops : List RowOp) → IsOwned then v ↔ IsOwned rows v
-      → IsOwned then v ↔ (IsFresh (record { ops = ops; fresh = []; released = [] }) v ⊎ (IsOwned rows v × (Contains {X = ℕ} [] v → ⊥)))
-  unchanged then v ops same = (
-    λ owned. inr (same.0 owned, none_in v),
-    λ either. elim either [
-      | inl f ↦ absurd (omega (arith, f.2))
-      | inr old ↦ same.1 old.0
-    ],
-  )
+  pub planned_taken : {change : Change} {plan : Plan} (v : ℕ) → IsPlanned s rows change plan → NoBadRow s rows
+      → IsFresh plan v → IsOwned (rows_after rows plan.ops) v
+  planned_taken v (makes_coll c name none) good f = absurd (none_fresh (coll_ops c) v f)
+  planned_taken v (touches c o coll name has) good f = absurd (none_fresh (touch_ops rows c o) v f)
+  planned_taken v (writes c o first bytes units ops released can w) good f = write_taken s rows c o first bytes units ops released can w good v f
 
-  pub planned_owners : {change : Change} {plan : Plan} (v : ℕ) → IsPlanned s rows change plan → NoBadRow s rows → HasSoleOwners rows
-      → IsOwned (rows_after rows plan.ops) v ↔ (IsFresh plan v ⊎ (IsOwned rows v × (Contains plan.released v → ⊥)))
-  planned_owners v (makes_coll c name none) good sole = unchanged _ v [] (coll_owned rows c v)
-  planned_owners v (touches c o coll name has) good sole = unchanged _ v [] (touch_owned s rows c o coll name has good v)
-  planned_owners v (writes c o first bytes units ops released can w) good sole =
-      write_owners s rows c o first bytes units ops released can w good sole v
+  pub planned_left : {change : Change} {plan : Plan} (v : ℕ) → IsPlanned s rows change plan → NoBadRow s rows
+      → IsOwned rows v → IsOwned (rows_after rows plan.ops) v ⊎ Contains plan.released v
+  planned_left v (makes_coll c name none) good owned = inl ((coll_owned rows c v).1 owned)
+  planned_left v (touches c o coll name has) good owned = inl ((touch_owned s rows c o coll name has good v).1 owned)
+  planned_left v (writes c o first bytes units ops released can w) good owned =
+      write_left s rows c o first bytes units ops released can w good v owned
 
-  pub planned_sole : {change : Change} {plan : Plan} → IsPlanned s rows change plan → NoBadRow s rows
-      → HasSoleOwners rows → HasSoleOwners (rows_after rows plan.ops)
-  planned_sole (makes_coll c name none) good sole = coll_sole rows c sole
-  planned_sole (touches c o coll name has) good sole = touch_sole s rows c o coll name has good sole
-  planned_sole (writes c o first bytes units ops released can w) good sole = write_sole s rows c o first bytes units ops released can w good sole
+  -- ---- a unit that hasn't two owners
+
+  pub planned_sole : {change : Change} {plan : Plan} (v : ℕ) → IsPlanned s rows change plan → NoBadRow s rows
+      → HasSoleOwner rows v → HasSoleOwner (rows_after rows plan.ops) v
+  planned_sole v (makes_coll c name none) good sole = coll_sole rows c v sole
+  planned_sole v (touches c o coll name has) good sole = touch_sole s rows c o coll name has good v sole
+  planned_sole v (writes c o first bytes units ops released can w) good sole = write_sole s rows c o first bytes units ops released can w good v sole
+
+  pub planned_gone : {change : Change} {plan : Plan} (v : ℕ) → IsPlanned s rows change plan → NoBadRow s rows
+      → HasSoleOwner rows v → Contains plan.released v → IsOwned (rows_after rows plan.ops) v → ⊥
+  planned_gone v (makes_coll c name none) good sole k owned = none_in v k
+  planned_gone v (touches c o coll name has) good sole k owned = none_in v k
+  planned_gone v (writes c o first bytes units ops released can w) good sole k owned =
+      write_gone s rows c o first bytes units ops released can w good v sole k owned
+
+  pub planned_once : {change : Change} {plan : Plan} (v : ℕ) → IsPlanned s rows change plan → HasSoleOwner rows v → StandsOnce plan.released v
+  planned_once v (makes_coll c name none) sole = none_once v
+  planned_once v (touches c o coll name has) sole = none_once v
+  planned_once v (writes c o first bytes units ops released can w) sole = write_once s rows c o first bytes units ops released can w v sole

@@ -1,5 +1,5 @@
 -- Which replies the rows decide.
-use Rattle.std.proofs.Common.{◌≡◌, ◌⊎◌, inl, inr, ℕ, ◌+◌, ◌*◌, ◌<◌, ◌≤◌, cond, List, [], ◌∷◌, length, None, Some, Ok, Err, is_ok, refl, ap, ◌∙◌, arith}
+use Rattle.std.proofs.Common.{◌≡◌, inl, inr, ℕ, ◌+◌, ◌*◌, ◌<◌, ◌≤◌, cond, List, [], ◌∷◌, length, None, Some, Err, is_ok, refl, ap, ◌∙◌, arith}
 use Rattle.std.specs.Prelude.{IsOk}
 use Rattle.std.specs.FinMap as map
 use Rattle.std.proofs.lemmas.Bool.{le-ltb, lt-ltb, cases_lt}
@@ -12,7 +12,7 @@ use Rattle.object_model.specs.Limits.{payload_limit, submitted_effect}
 use Rattle.row_format.specs.Keys.{coll_key}
 use Rattle.store_image.specs.Pages.{HasKey}
 use Rattle.store_image.specs.Stands.{IsShape}
-use Rattle.row_facts.proofs.PageWritten.{after_outcome}
+use Rattle.row_facts.proofs.ObjectUnder.{after_outcome}
 use Rattle.row_facts.proofs.Replies.{coll_absent, coll_found}
 use Rattle.object_rows.specs.Writes.{write_change, touch_change}
 use Rattle.object_rows.proofs.Wrote.{write_effect}

@@ -16,7 +16,7 @@ use Rattle.store_image.specs.Stands.{IsObjectShape, IsShape, AreObjectBytes, Are
 use Rattle.row_facts.proofs.Maps.{keys_after}
 use Rattle.row_facts.proofs.PutRow.{no_other_kind}
 use Rattle.row_facts.proofs.Shapes.{shape_kept}
-use Rattle.row_facts.proofs.PageWritten.{object_cases, with_object, under_same, under_other}
+use Rattle.row_facts.proofs.ObjectUnder.{object_cases, with_object, under_same, under_other}
 use Rattle.object_rows.specs.Operations.{CanReplace, replaced, IsOther, IsOwnedElsewhere}
 use Rattle.object_rows.proofs.After.{then_good, then_sized, then_others, then_kinds, then_colls, then_onodes}
 

@@ -1,15 +1,14 @@
 -- An object is touched: it is made where it is missing.
-use Rattle.std.proofs.Common.{◌≡◌, ◌⊎◌, ◌↔◌, inl, inr, ℕ, true, false, cond, List, [], ◌∷◌, Option, Some, None, Ok, is_some, refl, sym, ap, subst, ◌∙◌}
+use Rattle.std.proofs.Common.{◌<◌, ◌^◌, length, arith, ◌≡◌, ◌↔◌, inl, inr, ℕ, true, false, cond, List, [], Option, Some, None, Ok, is_some, refl, sym, ap, subst, ◌∙◌}
 use Rattle.std.specs.FinMap as map
 use Rattle.meta_rows.specs.Rows.{Rows, rows_after}
-use Rattle.meta_rows.specs.Spelling.{AllFit}
+use Rattle.meta_rows.specs.Spelling.{ops_bytes, AllFit}
 use Rattle.meta_rows.specs.declared.row_op.RowOp.{RowOp}
 use Rattle.meta_log.specs.declared.slot.Super.{Super}
 use Rattle.object_model.specs.Objects.{Objects}
 use Rattle.object_model.specs.Effect.{transaction_effect}
 use Rattle.unit_fields.specs.Names.{IsName, IsCollName}
 use Rattle.row_format.specs.Keys.{coll_key, onode_key}
-use Rattle.row_format.specs.Extents.{Place}
 use Rattle.row_format.specs.Row.{shard}
 use Rattle.store_image.specs.Pages.{HasKey, IsPageAt}
 use Rattle.store_image.specs.BadRows.{NoBadRow}
@@ -17,13 +16,13 @@ use Rattle.store_image.specs.Owners.{Owner, page_of, Owns, IsOwned}
 use Rattle.store_image.specs.Stands.{ObjectsStand}
 use Rattle.store_image.proofs.OwnedUnits.{objects_stand}
 use Rattle.store_image.proofs.PageMap.{in_place}
-use Rattle.row_facts.specs.SinglePages.{HasSoleOwners}
-use Rattle.row_facts.proofs.PageWritten.{object_cases}
+use Rattle.row_facts.specs.SoleOwners.{HasSoleOwner}
+use Rattle.row_facts.proofs.ObjectUnder.{object_cases}
 use Rattle.object_rows.specs.Operations.{CanReplace, object_ops, replaced, HasUnit, IsOwnedElsewhere}
 use Rattle.object_rows.specs.Plans.{touch_ops}
 use Rattle.object_rows.specs.Writes.{touch_change}
 use Rattle.object_rows.proofs.After.{then_good, then_owned}
-use Rattle.object_rows.proofs.Lengths.{object_ops_fit}
+use Rattle.object_rows.proofs.Lengths.{object_ops_fit, length-object_ops}
 use Rattle.object_rows.proofs.Makes.{can_make}
 use Rattle.object_rows.proofs.Units.{then_sole}
 use Rattle.object_rows.proofs.Wrote.{made_stand, touched_same}
@@ -55,6 +54,10 @@ module _ (s : Super) (rows : Rows) (c o : List ℕ) (coll : IsCollName c) (name 
     pub touch_fits : AllFit (touch_ops rows c o)
     touch_fits = by_test AllFit (λ there. tt) (λ none. object_ops_fit s rows c o 0 [] [] (can none))
 
+    pub touch_short : length (ops_bytes (touch_ops rows c o)) < 2 ^ 32
+    touch_short = by_test (λ ops. length (ops_bytes ops) < 2 ^ 32) (λ there. omega arith)
+        (λ none. omega (arith, length-object_ops s rows c o 0 [] [] (can none)))
+
     -- an object that is missing owns nothing
     owned_elsewhere : map.get rows (onode_key c o) ≡ None → (v : ℕ) (owner : Owner) → Owns rows owner v → IsOwnedElsewhere rows c o v
     owned_elsewhere none v (page_of d u page) owns = elim (object_cases c o d u) [
@@ -80,9 +83,9 @@ module _ (s : Super) (rows : Rows) (c o : List ℕ) (coll : IsCollName c) (name 
     pub touch_owned : (v : ℕ) → IsOwned (rows_after rows (touch_ops rows c o)) v ↔ IsOwned rows v
     touch_owned v = by_test (λ ops. IsOwned (rows_after rows ops) v ↔ IsOwned rows v) (λ there. (λ x. x, λ x. x)) (λ none. made_owned none v)
 
-    pub touch_sole : HasSoleOwners rows → HasSoleOwners (rows_after rows (touch_ops rows c o))
-    touch_sole sole = by_test (λ ops. HasSoleOwners (rows_after rows ops)) (λ there. sole)
-        (λ none. then_sole s rows c o 0 [] [] (can none) sole (λ p q a b found too same. absurd cc) (λ v h e. none_has v h))
+    pub touch_sole : (v : ℕ) → HasSoleOwner rows v → HasSoleOwner (rows_after rows (touch_ops rows c o)) v
+    touch_sole v sole = by_test (λ ops. HasSoleOwner (rows_after rows ops) v) (λ there. sole)
+        (λ none. then_sole s rows c o 0 [] [] (can none) v sole (λ p q a b found too is same. absurd cc) (λ h e. none_has v h))
 
     pub touch_stand : (at later_at : ℕ → List ℕ) (objects after : Objects) → ((v : ℕ) → IsOwned rows v → later_at v ≡ at v)
         → ObjectsStand at rows objects → transaction_effect (touch_change c o) objects ≡ Ok after

@@ -8,9 +8,9 @@ use Rattle.meta_log.specs.declared.slot.Super.{Super}
 use Rattle.row_format.specs.Extents.{Extent, Place, place_of}
 use Rattle.store_image.specs.Pages.{IsPageAt}
 use Rattle.store_image.specs.Owners.{Owner, page_of, Owns, IsOwned}
-use Rattle.row_facts.specs.SinglePages.{HasSoleOwners}
-use Rattle.row_facts.proofs.PageWritten.{object_cases}
-use Rattle.object_rows.specs.Operations.{CanReplace, replaced, IsOther, HasUnit, IsOwnedElsewhere, StandAlone}
+use Rattle.row_facts.specs.SoleOwners.{HasSoleOwner}
+use Rattle.row_facts.proofs.ObjectUnder.{object_cases}
+use Rattle.object_rows.specs.Operations.{CanReplace, replaced, IsOther, HasUnit, IsOwnedElsewhere, StandsAlone}
 use Rattle.object_rows.specs.Writes.{IsWritten, AreDistinct, IsLeft, IsOwnedBesidesWritten, StoodWritten}
 use Rattle.object_rows.proofs.After.{then_pages, then_others}
 use Rattle.object_rows.proofs.Wrote.{written_or_not}
@@ -57,17 +57,17 @@ module _ (s : Super) (rows : Rows) (c o : List ℕ) (size : ℕ) (extents : List
   other_owns : (d u : List ℕ) (page v : ℕ) → IsOther c o d u → Owns rows (page_of d u page) v → Owns then (page_of d u page) v
   other_owns d u page v other owns = (owns.0, (then_others s rows c o size extents present can page owns.0 d u other).1 owns.1, owns.2)
 
-  pub then_sole : HasSoleOwners rows → StandAlone extents → ((v : ℕ) → HasUnit extents v → IsOwnedElsewhere rows c o v → ⊥) → HasSoleOwners then
-  then_sole sole alone apart v a b p q = elim (owner_cases a v p) [
+  pub then_sole : (v : ℕ) → HasSoleOwner rows v → StandsAlone extents v → (HasUnit extents v → IsOwnedElsewhere rows c o v → ⊥) → HasSoleOwner then v
+  then_sole v sole alone apart a b p q = elim (owner_cases a v p) [
     | inl x ↦ elim (owner_cases b v q) [
       | inl y ↦
-          let same : x.page ≡ y.page = alone x.page y.page x.place y.place x.found y.found (x.is_unit ∙ sym y.is_unit) in
+          let same : x.page ≡ y.page = alone x.page y.page x.place y.place x.found y.found x.is_unit y.is_unit in
           x.is_page ∙ ap (page_of c o) same ∙ sym y.is_page
-      | inr y ↦ absurd (apart v (record { page = x.page; place = x.place; there = x.found; is = x.is_unit }) y.elsewhere)
+      | inr y ↦ absurd (apart (record { page = x.page; place = x.place; there = x.found; is = x.is_unit }) y.elsewhere)
     ]
     | inr x ↦ elim (owner_cases b v q) [
-      | inl y ↦ absurd (apart v (record { page = y.page; place = y.place; there = y.found; is = y.is_unit }) x.elsewhere)
-      | inr y ↦ sole v a b x.owned y.owned
+      | inl y ↦ absurd (apart (record { page = y.page; place = y.place; there = y.found; is = y.is_unit }) x.elsewhere)
+      | inr y ↦ sole a b x.owned y.owned
     ]
   ]
 
@@ -129,34 +129,56 @@ module _ (s : Super) (rows : Rows) (c o : List ℕ) (size : ℕ) (extents : List
       ],
     )
 
-    module _ (distinct : AreDistinct units) (free : (i : ℕ) → i < length units → ¬ IsOwned rows (slice_index units i)) where
-      fresh_free : (v : ℕ) → IsFreshUnit v → ¬ IsOwned rows v
-      fresh_free v p owned = free p.0 p.1 (subst (IsOwned rows) (sym p.2) owned)
+    -- an owner is left, or a page that was written
+    left_or_written : (owner : Owner) → IsLeft c o first (length units) owner
+        ⊎ ((i : ℕ) × (i < length units) × (owner ≡ page_of c o (first + i)))
+    left_or_written (page_of d u page) = elim (object_cases c o d u) [
+      | inl e ↦ elim (written_or_not first (length units) page) [
+        | inl p ↦ inr (p.0, p.1, λ i. page_of (e.0 i) (e.1 i) (p.2 i))
+        | inr out ↦ inl (inr out)
+      ]
+      | inr other ↦ inl (inl other)
+    ]
 
-      elsewhere_owned : (v : ℕ) → IsOwnedElsewhere rows c o v → IsOwned rows v
-      elsewhere_owned v e = (page_of e.coll e.object e.page, e.owns)
+    not_left : (i : ℕ) → i < length units → IsLeft c o first (length units) (page_of c o (first + i)) → ⊥
+    not_left i lt left = elim left [
+      | inl other ↦ other refl refl
+      | inr out ↦ elim out [ inl before ↦ omega (arith, before) | inr after ↦ omega (arith, after, lt) ]
+    ]
 
-      alone : HasSoleOwners rows → StandAlone extents
-      alone sole p q a b found too same = elim (page_of_extents p a found) [
+    -- who loses an owner is a unit where the pages stood
+    pub written_lost : (v : ℕ) → IsOwned rows v → IsOwned then v ⊎ StoodWritten rows c o first (length units) v
+    written_lost v owned = elim (left_or_written owned.0) [
+      | inl left ↦ inl (owned.0, left_owns owned.0 v left owned.1)
+      | inr w ↦ inr (record { index = w.0; small = w.1; owns = subst (λ x. Owns rows x v) w.2 owned.1 })
+    ]
+
+    -- the pages are written on units that nobody owned, and this unit hasn't two owners before
+    module _ (free : (i : ℕ) → i < length units → ¬ IsOwned rows (slice_index units i)) (v : ℕ) (sole : HasSoleOwner rows v) where
+      fresh_free : IsFreshUnit v → ¬ IsOwned rows v
+      fresh_free p owned = free p.0 p.1 (subst (IsOwned rows) (sym p.2) owned)
+
+      alone : AreDistinct units → StandsAlone extents v
+      alone distinct p q a b found too is same = elim (page_of_extents p a found) [
         | inl x ↦ elim (page_of_extents q b too) [
           | inl y ↦
-              let one : x.0 ≡ y.0 = distinct x.0 y.0 x.1 y.1 (x.3 ∙ same ∙ sym y.3) in
+              let one : x.0 ≡ y.0 = distinct x.0 y.0 x.1 y.1 (x.3 ∙ is ∙ sym (y.3 ∙ same)) in
               x.2 ∙ ap (λ i. first + i) one ∙ sym y.2
-          | inr y ↦ absurd (fresh_free b.unit (x.0, x.1, x.3 ∙ same) (page_of c o q, (b, y.1, refl)))
+          | inr y ↦ absurd (fresh_free (x.0, x.1, x.3 ∙ is) (page_of c o q, (b, y.1, same)))
         ]
         | inr x ↦ elim (page_of_extents q b too) [
-          | inl y ↦ absurd (fresh_free a.unit (y.0, y.1, y.3 ∙ sym same) (page_of c o p, (a, x.1, refl)))
+          | inl y ↦ absurd (fresh_free (y.0, y.1, y.3 ∙ same) (page_of c o p, (a, x.1, is)))
           | inr y ↦
-              let one : page_of c o p ≡ page_of c o q = sole a.unit (page_of c o p) (page_of c o q) (a, x.1, refl) (b, y.1, sym same) in cc
+              let one : page_of c o p ≡ page_of c o q = sole (page_of c o p) (page_of c o q) (a, x.1, is) (b, y.1, same) in cc
         ]
       ]
 
-      apart : HasSoleOwners rows → (v : ℕ) → HasUnit extents v → IsOwnedElsewhere rows c o v → ⊥
-      apart sole v has e = elim (page_of_extents has.page has.place has.there) [
-        | inl x ↦ fresh_free v (x.0, x.1, x.3 ∙ has.is) (elsewhere_owned v e)
+      apart : HasUnit extents v → IsOwnedElsewhere rows c o v → ⊥
+      apart has e = elim (page_of_extents has.page has.place has.there) [
+        | inl x ↦ fresh_free (x.0, x.1, x.3 ∙ has.is) (page_of e.coll e.object e.page, e.owns)
         | inr x ↦
             let one : page_of c o has.page ≡ page_of e.coll e.object e.page =
-            sole v (page_of c o has.page) (page_of e.coll e.object e.page) (has.place, x.1, has.is) e.owns in
+            sole (page_of c o has.page) (page_of e.coll e.object e.page) (has.place, x.1, has.is) e.owns in
             e.other (sym (coll_of c e.coll o e.object has.page e.page one)) (sym (object_of c e.coll o e.object has.page e.page one))
       ]
         where
@@ -166,40 +188,13 @@ module _ (s : Super) (rows : Rows) (c o : List ℕ) (size : ℕ) (extents : List
           object_of : (c d o u : List ℕ) (page other : ℕ) → page_of c o page ≡ page_of d u other → o ≡ u
           object_of c d o u page other e = cc
 
-      pub written_sole : HasSoleOwners rows → HasSoleOwners then
-      written_sole sole = then_sole sole (alone sole) (apart sole)
+      pub written_sole : AreDistinct units → HasSoleOwner then v
+      written_sole distinct = then_sole v sole (alone distinct) apart
 
-      -- an owner is left, or a page that was written
-      pub left_or_written : (owner : Owner) → IsLeft c o first (length units) owner
-          ⊎ ((i : ℕ) × (i < length units) × (owner ≡ page_of c o (first + i)))
-      left_or_written (page_of d u page) = elim (object_cases c o d u) [
-        | inl e ↦ elim (written_or_not first (length units) page) [
-          | inl p ↦ inr (p.0, p.1, λ i. page_of (e.0 i) (e.1 i) (p.2 i))
-          | inr out ↦ inl (inr out)
-        ]
-        | inr other ↦ inl (inl other)
+      -- where the pages stood, nobody is after
+      pub written_released : StoodWritten rows c o first (length units) v → IsOwned then v → ⊥
+      written_released stood owned = elim (then_owned_cases v owned) [
+        | inl fresh ↦ fresh_free fresh (page_of c o (first + stood.index), stood.owns)
+        | inr b ↦ not_left stood.index stood.small (subst (IsLeft c o first (length units))
+            (sole b.owner (page_of c o (first + stood.index)) b.owns stood.owns) b.left)
       ]
-
-      not_left : (i : ℕ) → i < length units → IsLeft c o first (length units) (page_of c o (first + i)) → ⊥
-      not_left i lt left = elim left [
-        | inl other ↦ other refl refl
-        | inr out ↦ elim out [ inl before ↦ omega (arith, before) | inr after ↦ omega (arith, after, lt) ]
-      ]
-
-      -- the units that lose their owner are those where the pages stood that were written
-      pub written_released : HasSoleOwners rows → (v : ℕ)
-          → (IsOwned rows v × (IsOwned then v → ⊥)) ↔ StoodWritten rows c o first (length units) v
-      written_released sole v = (
-        λ p. elim (left_or_written p.0.0) [
-          | inl left ↦ absurd (p.1 (p.0.0, left_owns p.0.0 v left p.0.1))
-          | inr w ↦ record { index = w.0; small = w.1; owns = subst (λ x. Owns rows x v) w.2 p.0.1 }
-        ],
-        λ stood. (
-          (page_of c o (first + stood.index), stood.owns),
-          λ owned. elim (then_owned_cases v owned) [
-            | inl fresh ↦ fresh_free v fresh (page_of c o (first + stood.index), stood.owns)
-            | inr b ↦ not_left stood.index stood.small (subst (IsLeft c o first (length units))
-                (sole v b.owner (page_of c o (first + stood.index)) b.owns stood.owns) b.left)
-          ],
-        ),
-      )

@@ -22,7 +22,7 @@ use Rattle.store_image.specs.BadRows.{IsShardInPlace}
 use Rattle.store_image.specs.Owners.{page_of}
 use Rattle.store_image.specs.Stands.{page_bytes, IsShape, AreObjectBytes, ObjectsStand}
 use Rattle.store_image.proofs.PageMap.{in_place}
-use Rattle.row_facts.proofs.PageWritten.{after_outcome, with_object}
+use Rattle.row_facts.proofs.ObjectUnder.{after_outcome, with_object}
 use Rattle.object_rows.specs.Operations.{CanReplace, replaced}
 use Rattle.object_rows.specs.Writes.{write_change, touch_change, missing, there, IsSizeOf, IsWritten, HoldPages}
 use Rattle.object_rows.proofs.After.{then_pages}

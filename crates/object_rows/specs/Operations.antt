@@ -88,9 +88,10 @@ pub record IsOwnedElsewhere (rows : Rows) (c o : List ℕ) (unit : ℕ) : Type 0
   pub other : IsOther c o coll object
   pub owns : Owns rows (page_of coll object page) unit
 
--- no two pages of these extents stand on one unit
-abbrev pub StandAlone : List Extent → Type 0
-StandAlone extents = (p q : ℕ) (a b : Place) → place_of extents p ≡ Some a → place_of extents q ≡ Some b → a.unit ≡ b.unit → p ≡ q
+-- no two pages of these extents stand on the unit
+abbrev pub StandsAlone : List Extent → ℕ → Type 0
+StandsAlone extents unit = (p q : ℕ) (a b : Place) → place_of extents p ≡ Some a → place_of extents q ≡ Some b
+    → a.unit ≡ unit → b.unit ≡ unit → p ≡ q
 
 -- each page is above those before it
 abbrev pub Climb : List ℕ → Type 0

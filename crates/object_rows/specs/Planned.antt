@@ -68,6 +68,10 @@ HoldsFresh at plan = AllByRecursion (λ f. at f.0 ≡ f.1) plan.fresh
 abbrev pub IsFresh : Plan → ℕ → Type 0
 IsFresh plan unit = Any (λ f. f.0 ≡ unit) plan.fresh
 
+-- the unit stands at most once in the list
+abbrev pub StandsOnce : List ℕ → ℕ → Type 0
+StandsOnce units unit = (i j : ℕ) → i < length units → j < length units → slice_index units i ≡ unit → slice_index units j ≡ unit → i ≡ j
+
 -- the fresh units alone
 abbrev pub fresh_units : Plan → List ℕ
 fresh_units plan = map (λ f. f.0) plan.fresh

@@ -1,5 +1,6 @@
 -- What transactions are turned into before they are committed.
 use Rattle.std.specs.Prelude.{◌≡◌, ℕ, ◌+◌, ◌*◌, max, List, [], ◌∷◌, map, length, if◌then◌else◌}
+use Rattle.std.specs.List.{AllByRecursion}
 use Rattle.std.specs.Ordering.{nat_cmp}
 use Rattle.std.specs.FinMap as finite
 use Rattle.std.specs.FinMap.Entries.{where_key}
@@ -9,7 +10,8 @@ use Rattle.number_map.specs.NumberMap.{is_in}
 use Rattle.meta_rows.specs.Rows.{Rows}
 use Rattle.meta_rows.specs.declared.row_op.RowOp.{RowOp}
 use Rattle.unit_fields.specs.UnitSet.{Ascends}
-use Rattle.row_format.specs.Keys.{onode_key}
+use Rattle.row_format.specs.Keys.{onode_key, shard_key}
+use Rattle.store_image.specs.Pages.{HasKey}
 use Rattle.row_format.specs.Extents.{Place}
 use Rattle.blob_map.specs.Pages.{PageMap, laid}
 use Rattle.blob_map.specs.Normal.{extents_of}
@@ -34,6 +36,7 @@ pub record WritesPages (rows : Rows) (c o : List ℕ) (first : ℕ) (bytes units
   pub are_pages : IsMapOf rows c o pages
   pub present : List ℕ
   pub are_shards : AreShards rows c o present
+  pub there : AllByRecursion (λ page. HasKey rows (shard_key c o page)) present
   pub in_order : Ascends present
   pub before : ℕ
   pub was_long : IsSizeOf rows c o before

@@ -15,8 +15,8 @@ ghost use Rattle.store_image.specs.Pages.{HasKey, HasRow, IsPageAt, pages_of};
 ghost use Rattle.store_image.specs.BadRows.{IsOnData, NoBadRow};
 ghost use Rattle.store_image.specs.Owners.{IsOwned};
 ghost use Rattle.store_image.specs.Stands.{ObjectsStand};
-ghost use Rattle.row_facts.specs.SinglePages.{HasSoleOwners};
-ghost use Rattle.object_rows.specs.Operations.{AreShards, CanReplace, Climb, KeysAscend, object_ops, replaced, IsKeyOf, IsOther, HasUnit, IsOwnedElsewhere, StandAlone};
+ghost use Rattle.row_facts.specs.SoleOwners.{HasSoleOwner};
+ghost use Rattle.object_rows.specs.Operations.{AreShards, CanReplace, Climb, KeysAscend, object_ops, replaced, IsKeyOf, IsOther, HasUnit, IsOwnedElsewhere, StandsAlone};
 ghost use Rattle.blob_map.specs.Pages.{PageMap, HasNumbers};
 ghost use Rattle.blob_map.specs.Normal.{extents_of};
 ghost use Rattle.object_rows.specs.Maps.{AreShardsOf, extents_in, first_pages, IsMapOf, IsMapWritten, CanWrite};
@@ -40,15 +40,15 @@ pub fn replaced_rows()
         → IsKeyOf c o key ⊎ (map.get (replaced rows c o size extents present) key ≡ map.get rows key) }
 {}
 
-/// A unit is owned then exactly where a page of the extents stands on it, or another object owned it. No unit has two owners then if
-/// none had before, and the extents' units are their pages' alone.
+/// A unit is owned then exactly where a page of the extents stands on it, or another object owned it. It has not two owners then if
+/// it hadn't two before, at most one page of the extents stands on it, and another object owned it only if none does.
 pub fn replaced_units()
     ensures owned { (s : Super) (rows : Rows) (c o : List ℕ) (size : ℕ) (extents : List Extent) (present : List ℕ) (unit : ℕ)
         → CanReplace s rows c o size extents present
         → IsOwned (replaced rows c o size extents present) unit ↔ (HasUnit extents unit ⊎ IsOwnedElsewhere rows c o unit) }
-    ensures sole { (s : Super) (rows : Rows) (c o : List ℕ) (size : ℕ) (extents : List Extent) (present : List ℕ)
-        → CanReplace s rows c o size extents present → HasSoleOwners rows → StandAlone extents
-        → ((unit : ℕ) → HasUnit extents unit → IsOwnedElsewhere rows c o unit → ⊥) → HasSoleOwners (replaced rows c o size extents present) }
+    ensures sole { (s : Super) (rows : Rows) (c o : List ℕ) (size : ℕ) (extents : List Extent) (present : List ℕ) (unit : ℕ)
+        → CanReplace s rows c o size extents present → HasSoleOwner rows unit → StandsAlone extents unit
+        → (HasUnit extents unit → IsOwnedElsewhere rows c o unit → ⊥) → HasSoleOwner (replaced rows c o size extents present) unit }
 {}
 
 /// The operations have spellings, and are in the order of their keys where the present shards are. Their record has at most fifteen
@@ -74,8 +74,9 @@ pub fn wrote_pages()
         → ObjectsStand later_at (replaced rows c o size extents present) after }
 {}
 
-/// After whole pages are written a unit is owned exactly where it is one of theirs, or another page owned it. If the units are distinct
-/// and had no owner, and no unit had two, then none has two after, and those that lose their owner are the ones where the pages stood.
+/// After whole pages are written a unit is owned exactly where it is one of theirs, or another page owned it. Who loses an owner is
+/// a unit where the pages stood. If the units are distinct and had no owner, a unit that hasn't two owners before has not two after,
+/// and has none if the pages stood on it.
 pub fn written_units()
     ensures owned { (s : Super) (rows : Rows) (c o : List ℕ) (first : ℕ) (bytes units : List ℕ) (size : ℕ) (extents : List Extent)
         (present : List ℕ) (unit : ℕ)
@@ -83,15 +84,19 @@ pub fn written_units()
         → IsOwned (replaced rows c o size extents present) unit
         ↔ (((i : ℕ) × (i < length units) × (slice_index units i ≡ unit)) ⊎ IsOwnedBesidesWritten rows c o first (length units) unit) }
     ensures sole { (s : Super) (rows : Rows) (c o : List ℕ) (first : ℕ) (bytes units : List ℕ) (size : ℕ) (extents : List Extent)
-        (present : List ℕ)
+        (present : List ℕ) (unit : ℕ)
         → CanReplace s rows c o size extents present → IsWritten rows c o first bytes units size extents
         → AreDistinct units → ((i : ℕ) → i < length units → ¬ IsOwned rows (slice_index units i))
-        → HasSoleOwners rows → HasSoleOwners (replaced rows c o size extents present) }
+        → HasSoleOwner rows unit → HasSoleOwner (replaced rows c o size extents present) unit }
+    ensures lost { (s : Super) (rows : Rows) (c o : List ℕ) (first : ℕ) (bytes units : List ℕ) (size : ℕ) (extents : List Extent)
+        (present : List ℕ) (unit : ℕ)
+        → CanReplace s rows c o size extents present → IsWritten rows c o first bytes units size extents
+        → IsOwned rows unit → IsOwned (replaced rows c o size extents present) unit ⊎ StoodWritten rows c o first (length units) unit }
     ensures released { (s : Super) (rows : Rows) (c o : List ℕ) (first : ℕ) (bytes units : List ℕ) (size : ℕ) (extents : List Extent)
         (present : List ℕ) (unit : ℕ)
         → CanReplace s rows c o size extents present → IsWritten rows c o first bytes units size extents
-        → AreDistinct units → ((i : ℕ) → i < length units → ¬ IsOwned rows (slice_index units i)) → HasSoleOwners rows
-        → (IsOwned rows unit × (IsOwned (replaced rows c o size extents present) unit → ⊥)) ↔ StoodWritten rows c o first (length units) unit }
+        → ((i : ℕ) → i < length units → ¬ IsOwned rows (slice_index units i)) → HasSoleOwner rows unit
+        → StoodWritten rows c o first (length units) unit → IsOwned (replaced rows c o size extents present) unit → ⊥ }
 {}
 
 /// Touching an object that is missing makes one without pages, of no bytes: there is no shard to go. Touching one that is there changes

@@ -12,4 +12,6 @@ pub use laws::{
     made_object, object_by_shards, record_of_an_object, replaced_rows, replaced_units,
     written_by_map, written_units, wrote_pages,
 };
-pub use plans::{planned_record, planned_rows, planned_units, replies_by_objects_rows};
+pub use plans::{
+    planned_owners, planned_record, planned_rows, planned_units, replies_by_objects_rows,
+};

@@ -1,5 +1,5 @@
 //! What plans come to. Each function has laws for its contract and does nothing.
-ghost use Rattle.std.specs.Prelude.{Contains, None, Ok, Err, IsOk, ◌≡◌, ◌⊎◌, ◌↔◌, ◌<◌, ◌≤◌, ◌+◌, ◌*◌, ℕ, List, length};
+ghost use Rattle.std.specs.Prelude.{Contains, None, Ok, Err, IsOk, ◌≡◌, ◌⊎◌, ◌<◌, ◌≤◌, ◌+◌, ◌*◌, ◌^◌, ℕ, List, length};
 ghost use Rattle.std.specs.List.{AllByRecursion};
 ghost use Rattle.std.specs.FinMap as map;
 ghost use Rattle.byte_maps.specs.Units.{units_for};
@@ -18,9 +18,9 @@ ghost use Rattle.store_image.specs.Pages.{HasKey};
 ghost use Rattle.store_image.specs.BadRows.{NoBadRow};
 ghost use Rattle.store_image.specs.Owners.{IsDataUnit, IsOwned};
 ghost use Rattle.store_image.specs.Stands.{IsShape, ObjectsStand};
-ghost use Rattle.row_facts.specs.SinglePages.{HasSoleOwners};
-ghost use Rattle.object_rows.specs.Writes.{write_change, touch_change, AreDistinct};
-ghost use Rattle.object_rows.specs.Planned.{Plan, IsPlanned, HoldsFresh, IsFresh, fresh_units};
+ghost use Rattle.row_facts.specs.SoleOwners.{HasSoleOwner};
+ghost use Rattle.object_rows.specs.Writes.{write_change, touch_change};
+ghost use Rattle.object_rows.specs.Planned.{Plan, IsPlanned, HoldsFresh, IsFresh, StandsOnce, fresh_units};
 
 /// A planned transaction is accepted, its operations leave no bad row, and rows that stand for the objects after it, once its
 /// fresh units hold their bytes and the owned ones what they held.
@@ -38,31 +38,40 @@ pub fn planned_rows()
         → ObjectsStand later_at (rows_after rows plan.ops) after }
 {}
 
-/// Its fresh units are data units that nobody owned, in ascending order, with a page for each. Who owns a unit after it owned it before,
-/// or the unit is fresh. Where no unit had two owners, none has two after, exactly the released ones have lost theirs, and each is
-/// released once.
+/// Its fresh units are data units that nobody owned, in ascending order, with a page for each; they have an owner after. Whose owner
+/// goes is released, and had one. Who owns a unit after it owned it before, or the unit is fresh.
 pub fn planned_units()
     ensures fresh { (s : Super) (rows : Rows) (change : Change) (plan : Plan) → IsPlanned s rows change plan
         → AllByRecursion (λ f. IsDataUnit s f.0 × ¬ IsOwned rows f.0 × (length f.1 ≡ 4096)) plan.fresh }
     ensures ascend { (s : Super) (rows : Rows) (change : Change) (plan : Plan) → IsPlanned s rows change plan → Ascends (fresh_units plan) }
+    ensures taken { (s : Super) (rows : Rows) (change : Change) (plan : Plan) (unit : ℕ) → IsPlanned s rows change plan → NoBadRow s rows
+        → IsFresh plan unit → IsOwned (rows_after rows plan.ops) unit }
     ensures released { (s : Super) (rows : Rows) (change : Change) (plan : Plan) (unit : ℕ) → IsPlanned s rows change plan
         → Contains plan.released unit → IsOwned rows unit }
     ensures owned { (s : Super) (rows : Rows) (change : Change) (plan : Plan) (unit : ℕ) → IsPlanned s rows change plan → NoBadRow s rows
         → IsOwned (rows_after rows plan.ops) unit → IsFresh plan unit ⊎ IsOwned rows unit }
-    ensures owners { (s : Super) (rows : Rows) (change : Change) (plan : Plan) (unit : ℕ) → IsPlanned s rows change plan → NoBadRow s rows
-        → HasSoleOwners rows
-        → IsOwned (rows_after rows plan.ops) unit ↔ (IsFresh plan unit ⊎ (IsOwned rows unit × (Contains plan.released unit → ⊥))) }
-    ensures sole { (s : Super) (rows : Rows) (change : Change) (plan : Plan) → IsPlanned s rows change plan → NoBadRow s rows
-        → HasSoleOwners rows → HasSoleOwners (rows_after rows plan.ops) }
-    ensures distinct { (s : Super) (rows : Rows) (change : Change) (plan : Plan) → IsPlanned s rows change plan
-        → HasSoleOwners rows → AreDistinct plan.released }
+    ensures left { (s : Super) (rows : Rows) (change : Change) (plan : Plan) (unit : ℕ) → IsPlanned s rows change plan → NoBadRow s rows
+        → IsOwned rows unit → IsOwned (rows_after rows plan.ops) unit ⊎ Contains plan.released unit }
 {}
 
-/// Its operations have spellings. How many units a record of operations is does not depend on the record's number.
+/// A unit that hasn't two owners before has not two after. If it is released it has none after, and is released once.
+pub fn planned_owners()
+    ensures sole { (s : Super) (rows : Rows) (change : Change) (plan : Plan) (unit : ℕ) → IsPlanned s rows change plan → NoBadRow s rows
+        → HasSoleOwner rows unit → HasSoleOwner (rows_after rows plan.ops) unit }
+    ensures gone { (s : Super) (rows : Rows) (change : Change) (plan : Plan) (unit : ℕ) → IsPlanned s rows change plan → NoBadRow s rows
+        → HasSoleOwner rows unit → Contains plan.released unit → IsOwned (rows_after rows plan.ops) unit → ⊥ }
+    ensures once { (s : Super) (rows : Rows) (change : Change) (plan : Plan) (unit : ℕ) → IsPlanned s rows change plan
+        → HasSoleOwner rows unit → StandsOnce plan.released unit }
+{}
+
+/// Its operations have spellings, and so few bytes that a record of them counts them. How many units a record of operations is does not
+/// depend on the record's number.
 pub fn planned_record()
     ensures fit { (s : Super) (rows : Rows) (change : Change) (plan : Plan) → IsPlanned s rows change plan → NoBadRow s rows → AllFit plan.ops }
     ensures count { (number : ℕ) (ops : List RowOp) → unit_count number ops ≡ units_for (24 + length (ops_bytes ops)) }
     ensures same { (number other : ℕ) (ops : List RowOp) → unit_count number ops ≡ unit_count other ops }
+    ensures short { (s : Super) (rows : Rows) (change : Change) (plan : Plan) → IsPlanned s rows change plan → NoBadRow s rows
+        → length (ops_bytes plan.ops) < 2 ^ 32 }
 {}
 
 /// Which reply touching an object and writing from a page on get is decided by the transaction's size, then by the row of its collection,

@@ -4,6 +4,8 @@ pub mod KeyOrder
 pub mod Walk
 pub mod Shards
 pub mod Ascending
-pub mod Marks
 pub mod Collected
-pub mod SolePages
+pub mod MarkSteps
+pub mod OneMark
+pub mod RunMarks
+pub mod MarkedRows

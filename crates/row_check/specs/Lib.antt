@@ -1,3 +1,4 @@
 pub mod Reading
 pub mod Bad
+pub mod Marks
 pub mod Owned

@@ -1,5 +1,5 @@
-//! The rows of a store that is to be opened: keys and values read as the rows that they spell, the least row that is bad, and
-//! whether the objects have single pages.
+//! The rows of a store that is to be opened: keys and values read as the rows that they spell, the least row that is bad, and the
+//! units that the rows own.
 //!
 //! In Ceph's BlueStore this is `get_key_object` and its kin with the decoders of the values, and what `fsck` asks of onodes and extents.
 #![tactic(auto)]
@@ -7,13 +7,14 @@
 mod bad;
 mod in_place;
 mod key;
+mod owners;
 mod row;
-mod single;
+mod unit_marks;
 
 pub use bad::find_bad_row;
 pub use key::{Part, RowKey, read_key};
+pub use owners::{OwnedUnits, owned_units};
 pub use row::{Row, read_row};
-pub use single::sole_pages;
 
 #[cfg(test)]
 mod reading_tests;

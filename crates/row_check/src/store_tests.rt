@@ -1,5 +1,5 @@
-//! Whole tables: their least bad row, and the units of their single pages.
-use crate::{find_bad_row, sole_pages};
+//! Whole tables: their least bad row, and the units that they own.
+use crate::{find_bad_row, owned_units};
 use byte_maps::Bytes;
 use meta_log::Super;
 use meta_rows::{RowOp, RowTable};
@@ -61,18 +61,30 @@ const TWO_ON_99: &[u8] = b"\0\0\0\0\x02\0\0\x63\0\0\0ccccdddd";
 
 const NEXT_ON_98: &[u8] = b"\x01\0\0\0\x02\0\0\x62\0\0\0ccccdddd";
 
+const TWO_ON_21: &[u8] = b"\0\0\0\0\x02\0\0\x15\0\0\0ccccdddd";
+
+// Page 1 on the unit of `PAGE_ON_18`, and pages 0 and 1 on units 20 and 21 with page 2 on unit 20.
+const NEXT_ON_18: &[u8] = b"\x01\0\0\0\x01\0\0\x12\0\0\0cccc";
+
+const THREE_ON_TWO: &[u8] = b"\0\0\0\0\x02\0\0\x14\0\0\0ccccdddd\x02\0\0\0\x01\0\0\x14\0\0\0cccc";
+
 // Pages 0 and 1, and page 1 again.
 const OVERLAP: &[u8] = b"\0\0\0\0\x02\0\0\x14\0\0\0ccccdddd\x01\0\0\0\x01\0\0\x1e\0\0\0cccc";
+
+fn put(alloc: Global, table: &mut RowTable, key: &[u8], value: &[u8]) -> Result<(), AllocError> {
+    let key = Bytes::from_slice(alloc, key)?;
+    let value = Bytes::from_slice(alloc, value)?;
+    let mut ops = Vec::new(alloc);
+    ops.push(RowOp::Set { key, value })?;
+    table.reserve(ops.len())?;
+    table.apply(ops);
+    Ok(())
+}
 
 fn table_of(alloc: Global, rows: &[Entry]) -> Result<RowTable, AllocError> {
     let mut table = RowTable::new(alloc);
     for (key, value) in rows {
-        let key = Bytes::from_slice(alloc, key)?;
-        let value = Bytes::from_slice(alloc, value)?;
-        let mut ops = Vec::new(alloc);
-        ops.push(RowOp::Set { key, value })?;
-        table.reserve(ops.len())?;
-        table.apply(ops);
+        put(alloc, &mut table, key, value)?;
     }
     Ok(table)
 }
@@ -185,20 +197,36 @@ fn good_rows(rt: HostRuntime) -> Result<(), Fail> {
     Ok(())
 }
 
-// Whether these are the units of the objects' single pages, where no row is bad.
-fn are_sole(alloc: Global, rows: &[Entry], units: Option<&[u32]>) -> Result<bool, AllocError> {
-    let table = table_of(alloc, rows)?;
-    if find_bad_row(alloc, &STORE, &table)?.is_some() {
+// Whether these are the units with an owner and those with more than one, where no row is bad.
+fn are_owned(
+    alloc: Global,
+    table: &RowTable,
+    owned: &[u32],
+    shared: &[u32],
+) -> Result<bool, AllocError> {
+    if find_bad_row(alloc, &STORE, table)?.is_some() {
         return Ok(false);
     }
-    match sole_pages(alloc, &STORE, &table)? {
-        Some(found) => Ok(units == Some(found.as_slice())),
-        None => Ok(units.is_none()),
-    }
+    let units = owned_units(alloc, &STORE, table)?;
+    Ok(units.owned.as_slice() == owned && units.shared.as_slice() == shared)
 }
 
-const PAGES: &[(&str, &[Entry], Option<&[u32]>)] = &[
-    ("no object", &[(COLL, EMPTY)], Some(&[])),
+// Rows, the units with an owner, and those with more than one.
+type Owners = (
+    &'static str,
+    &'static [Entry],
+    &'static [u32],
+    &'static [u32],
+);
+
+const OWNERS: &[Owners] = &[
+    ("no object", &[(COLL, EMPTY)], &[], &[]),
+    (
+        "an object without pages",
+        &[(COLL, EMPTY), (ONODE_A, THREE_PAGES)],
+        &[],
+        &[],
+    ),
     (
         "two objects",
         &[
@@ -208,10 +236,12 @@ const PAGES: &[(&str, &[Entry], Option<&[u32]>)] = &[
             (ONODE_B, ONE_PAGE),
             (SHARD_B0, PAGE_ON_18),
         ],
-        Some(&[18, 99]),
+        &[18, 99],
+        &[],
     ),
+    ("pages in two shards", GOOD, &[18, 20, 21, 98, 99], &[]),
     (
-        "one unit twice",
+        "one unit of two objects",
         &[
             (COLL, EMPTY),
             (ONODE_A, ONE_PAGE),
@@ -219,24 +249,88 @@ const PAGES: &[(&str, &[Entry], Option<&[u32]>)] = &[
             (ONODE_B, ONE_PAGE),
             (SHARD_B0, PAGE_ON_18),
         ],
-        None,
+        &[18],
+        &[18],
     ),
     (
-        "two pages",
-        &[(COLL, EMPTY), (ONODE_A, THREE_PAGES), (SHARD_A0, TWO_ON_20)],
-        None,
+        "runs of two objects that meet",
+        &[
+            (COLL, EMPTY),
+            (ONODE_A, THREE_PAGES),
+            (SHARD_A0, TWO_ON_20),
+            (ONODE_B, THREE_PAGES),
+            (SHARD_B0, TWO_ON_21),
+        ],
+        &[20, 21, 22],
+        &[21],
     ),
     (
-        "another size",
-        &[(COLL, EMPTY), (ONODE_A, THREE_PAGES)],
-        None,
+        "one unit of two extents of a shard",
+        &[
+            (COLL, EMPTY),
+            (ONODE_A, THREE_PAGES),
+            (SHARD_A0, THREE_ON_TWO),
+        ],
+        &[20, 21],
+        &[20],
+    ),
+    (
+        "one unit of two shards of an object, and of another object",
+        &[
+            (COLL, EMPTY),
+            (ONODE_A, THREE_PAGES),
+            (SHARD_A0, PAGE_ON_18),
+            (SHARD_A1, NEXT_ON_18),
+            (ONODE_B, ONE_PAGE),
+            (SHARD_B0, PAGE_ON_18),
+        ],
+        &[18],
+        &[18],
     ),
 ];
 
 #[test]
-fn single_pages(rt: HostRuntime) -> Result<(), Fail> {
-    for (what, rows, units) in PAGES {
-        assert!(rt; are_sole(rt.alloc(), rows, *units)?, "{what}");
+fn owners_of_units(rt: HostRuntime) -> Result<(), Fail> {
+    for (what, rows, owned, shared) in OWNERS {
+        let table = table_of(rt.alloc(), rows)?;
+        assert!(rt; are_owned(rt.alloc(), &table, owned, shared)?, "{what}");
     }
+    Ok(())
+}
+
+// Puts in shards of one page each, so many from page 0 on, on consecutive units from this one on.
+fn put_shards(
+    alloc: Global,
+    table: &mut RowTable,
+    object: u8,
+    count: u8,
+    first: u8,
+) -> Result<(), AllocError> {
+    for page in 0..count {
+        let mut key = *b"O1.0_head\0a\0o\0\0\0\0x";
+        key[10] = object;
+        key[16] = page;
+        let mut value = *b"\0\0\0\0\x01\0\0\x12\0\0\0cccc";
+        value[0] = page;
+        value[7] = first.wrapping_add(page);
+        put(alloc, table, &key, &value)?;
+    }
+    Ok(())
+}
+
+#[test]
+fn owners_by_many_shards(rt: HostRuntime) -> Result<(), Fail> {
+    let alloc = rt.alloc();
+    let mut table = table_of(
+        alloc,
+        &[(COLL, EMPTY), (ONODE_A, LARGEST), (ONODE_B, LARGEST)],
+    )?;
+    put_shards(alloc, &mut table, b'a', 80, 18)?;
+    put_shards(alloc, &mut table, b'b', 5, 95)?;
+    let mut owned = Vec::new(alloc);
+    for unit in 18..100 {
+        owned.push(unit)?;
+    }
+    assert!(rt; are_owned(alloc, &table, &owned, &[95, 96, 97])?);
     Ok(())
 }

@@ -1,0 +1,264 @@
+-- What the marks of the rows that were gone through tell.
+use Rattle.std.proofs.Common.{◌≡◌, ◌⊎◌, ◌↔◌, inl, inr, ℕ, ◌+◌, ◌<◌, ◌≤◌, false, List, [], ◌∷◌, length, get_or, replicate, Some, refl, sym, ap, subst, ◌∙◌, arith}
+use Rattle.std.specs.List.{AllByRecursion}
+use Rattle.std.specs.declared.cmp.Ordering.TheVariants.{Less}
+use Rattle.std.specs.FinMap as map
+use Rattle.std.proofs.lemmas.Bool.{cases_lt, cases_eq, cases_Bool}
+use Rattle.std.proofs.lemmas.Cmp.{tied_itself, nat_list_cmp_total}
+use Rattle.std.proofs.lemmas.List.{get_or-replicate, get_or_past, length-replicate}
+use Rattle.byte_maps.specs.ByteMap.{byte_order}
+use Rattle.meta_rows.specs.Rows.{Rows}
+use Rattle.meta_log.specs.declared.slot.Super.{Super}
+use Rattle.row_format.specs.Keys.{shard_key}
+use Rattle.row_format.specs.Extents.{Body, private, Extent}
+use Rattle.row_format.specs.Row as format
+use Rattle.row_format.specs.Row.{collection, onode, shard}
+use Rattle.row_format.proofs.RowLemmas.{same_row}
+use Rattle.store_image.specs.Pages.{HasRow, IsPageAt}
+use Rattle.store_image.specs.BadRows.{IsOnData, IsShardInPlace, NoBadRow}
+use Rattle.store_image.specs.Owners.{Owner, page_of, Owns}
+use Rattle.store_image.proofs.PageMap.{in_place}
+use Rattle.store_image.proofs.ByteLemmas.{equal_or_not}
+use Rattle.row_check.specs.Reading.{SpellsRow}
+use Rattle.row_check.specs.Marks.{Marks, no_marks, EndsBy, AllEndBy, RowEndsBy}
+use Rattle.row_check.specs.Owned.{AreMarked, AreMarkedOn, SpellsWithin}
+use Rattle.row_check.proofs.Walk.{AreRows, rising, entry_is, has_spelled}
+use Rattle.row_check.proofs.OneMark.{Tells, HasUnits, tells_same}
+use Rattle.row_check.proofs.RunMarks.{ExtentsOwn, RowOwns, RowAscends, row_tells, row_units, page_below, page_of_shard}
+
+-- the row stands at this place
+abbrev pub RowAt : List (List ℕ × List ℕ) → ℕ → format.Row → Type 0
+RowAt es j row = (d : List ℕ × List ℕ) → SpellsRow (get_or es j d).0 (get_or es j d).1 row
+
+-- a row before this place has a page on the unit
+pub record OwnsBefore (es : List (List ℕ × List ℕ)) (i : ℕ) (a : Owner) (v : ℕ) : Type 0 where
+  pub at : ℕ
+  pub before : at < i
+  pub within : at < length es
+  pub row : format.Row
+  pub stands : RowAt es at row
+  pub owns : RowOwns row a v
+
+-- the rows before this place are marked, over so many units
+pub record MarkedTo (es : List (List ℕ × List ℕ)) (i units : ℕ) (m : Marks) : Type 0 where
+  pub told : Tells (OwnsBefore es i) m
+  pub has : HasUnits units m
+
+-- ---- at the start
+
+no_mark : (n v : ℕ) → get_or (replicate n false) v false ≡ false
+no_mark n v = elim (cases_lt v n) [
+  | inl lt ↦ get_or-replicate n v false false lt
+  | inr ge ↦ get_or_past (replicate n false) v false (omega (arith, ge, length-replicate n false))
+]
+
+pub none_marked : (es : List (List ℕ × List ℕ)) (units : ℕ) → MarkedTo es 0 units (no_marks units)
+none_marked es units = record {
+  told = record {
+    owned = λ v. ((λ is. let no = no_mark units v in absurd cc), (λ q. absurd (omega (arith, q.1.before))));
+    shared = λ v. ((λ is. let no = no_mark units v in absurd cc), (λ t. absurd (omega (arith, t.first.before))));
+  };
+  has = record { owned = length-replicate units false; shared = length-replicate units false };
+}
+
+-- ---- one row
+
+pub same_spelled : (key value : List ℕ) (a b : format.Row) → SpellsRow key value a → SpellsRow key value b → a ≡ b
+same_spelled key value a b p q = same_row a b p.fits q.fits (sym p.key_is ∙ q.key_is) (sym p.value_is ∙ q.value_is)
+
+body_ends : (s : Super) (body : Body) → IsOnData s body → EndsBy s.units body
+body_ends s (private unit csums) on = on.1
+
+all_end : (s : Super) (es : List Extent) → AllByRecursion (λ e. IsOnData s e.body) es → AllEndBy s.units es
+all_end s [] all = tt
+all_end s (e ∷ es) all = (body_ends s e.body all.0, all_end s es all.1)
+
+module _ (s : Super) (rows : Rows) (good : NoBadRow s rows) where
+  row_ends : (row : format.Row) → HasRow rows row → RowEndsBy s.units row
+  row_ends (collection c) has = tt
+  row_ends (onode c o size) has = tt
+  row_ends (shard c o page es) has =
+      let place : IsShardInPlace s rows c o page es = in_place s rows (shard c o page es) good has in all_end s es place.on_data
+
+  row_ascends : (row : format.Row) → HasRow rows row → RowAscends row
+  row_ascends (collection c) has = tt
+  row_ascends (onode c o size) has = tt
+  row_ascends (shard c o page es) has =
+      let place : IsShardInPlace s rows c o page es = in_place s rows (shard c o page es) good has in place.ascend
+
+  not_before : (c o : List ℕ) (first other : ℕ) (es fs : List Extent) (a : Owner) (v w : ℕ) → HasRow rows (shard c o first es)
+      → HasRow rows (shard c o other fs) → ExtentsOwn c o es a v → ExtentsOwn c o fs a w → first < other → ⊥
+  not_before c o first other es fs a v w has later x y lt =
+      let place : IsShardInPlace s rows c o other fs = in_place s rows (shard c o other fs) good later in
+      let same : x.page ≡ y.page = number (sym x.owner_is ∙ y.owner_is) in
+      omega (
+        arith,
+        same,
+        page_below es x.page other x.place x.found (place.behind first es lt has),
+        page_of_shard fs y.page other y.place y.found later.fits.begins place.ascend,
+      )
+    where
+      number : {i j : ℕ} → page_of c o i ≡ page_of c o j → i ≡ j
+      number e = cc
+
+  -- a page is in one shard
+  one_shard : (c o : List ℕ) (first other : ℕ) (es fs : List Extent) (a : Owner) (v w : ℕ) → HasRow rows (shard c o first es)
+      → HasRow rows (shard c o other fs) → ExtentsOwn c o es a v → ExtentsOwn c o fs a w → first ≡ other
+  one_shard c o first other es fs a v w p q x y = elim (cases_lt first other) [
+    | inl lt ↦ absurd (not_before c o first other es fs a v w p q x y lt)
+    | inr ge ↦ elim (cases_lt other first) [
+      | inl lt ↦ absurd (not_before c o other first fs es a w v q p y x lt)
+      | inr le ↦ omega (arith, ge, le)
+    ]
+  ]
+
+  owned_key : (c o d u : List ℕ) (first other : ℕ) (es fs : List Extent) (a : Owner) (v w : ℕ) → HasRow rows (shard c o first es)
+      → HasRow rows (shard d u other fs) → ExtentsOwn c o es a v → ExtentsOwn d u fs a w → shard_key c o first ≡ shard_key d u other
+  owned_key c o d u first other es fs a v w p q x y =
+      let same : page_of c o x.page ≡ page_of d u y.page = sym x.owner_is ∙ y.owner_is in
+      let coll : c ≡ d = coll_of same in
+      let object : o ≡ u = object_of same in
+      let here = subst (λ k. HasRow rows (shard k u first es)) coll (subst (λ k. HasRow rows (shard c k first es)) object p) in
+      let e = one_shard d u first other es fs a v w here q
+      (subst (λ k. ExtentsOwn k u es a v) coll (subst (λ k. ExtentsOwn c k es a v) object x)) y in
+      λ i. shard_key (coll i) (object i) (e i)
+    where
+      coll_of : {i j : ℕ} → page_of c o i ≡ page_of d u j → c ≡ d
+      coll_of e = cc
+
+      object_of : {i j : ℕ} → page_of c o i ≡ page_of d u j → o ≡ u
+      object_of e = cc
+
+  -- the rows that a page stands in have one key
+  same_key : (r t : format.Row) (a : Owner) (v w : ℕ) → HasRow rows r → HasRow rows t → RowOwns r a v → RowOwns t a w
+      → format.row_key r ≡ format.row_key t
+  same_key (collection c) t a v w p q x y = absurd x
+  same_key (onode c o size) t a v w p q x y = absurd x
+  same_key (shard c o first es) (collection d) a v w p q x y = absurd y
+  same_key (shard c o first es) (onode d u size) a v w p q x y = absurd y
+  same_key (shard c o first es) (shard d u other fs) a v w p q x y = owned_key c o d u first other es fs a v w p q x y
+
+  module _ (es : List (List ℕ × List ℕ)) (are : AreRows rows es) (i : ℕ) (x : List ℕ × List ℕ) (key value : List ℕ) (l : i < length es)
+      (is : x ≡ get_or es i x) (k : key ≡ x.0) (v : value ≡ x.1) where
+    pair : (d : List ℕ × List ℕ) → get_or es i d ≡ (key, value)
+    pair = entry_is es i x key value l is k v
+
+    -- the row at this place
+    at_here : (row : format.Row) → SpellsRow key value row → RowAt es i row
+    at_here row spells d = subst (λ (e : List ℕ × List ℕ). SpellsRow e.0 e.1 row) (sym (pair d)) spells
+
+    here_at : (row : format.Row) → RowAt es i row → SpellsRow key value row
+    here_at row at = subst (λ (e : List ℕ × List ℕ). SpellsRow e.0 e.1 row) (pair x) (at x)
+
+    has_here : (row : format.Row) → SpellsRow key value row → HasRow rows row
+    has_here row spells = has_spelled rows es are i x row l (at_here row spells x)
+
+    pub spells_within : SpellsWithin key value s.units
+    spells_within row spells = row_ends row (has_here row spells)
+
+    fresh : (row : format.Row) → SpellsRow key value row → (a : Owner) (u w : ℕ) → RowOwns row a u → OwnsBefore es i a w → ⊥
+    fresh row spells a u w owns b =
+        let earlier : HasRow rows b.row = has_spelled rows es are b.at x b.row b.within (b.stands x) in
+        let same = same_key b.row row a w u earlier (has_here row spells) b.owns owns in
+        let keys : (get_or es b.at x).0 ≡ (get_or es i x).0 = (b.stands x).key_is ∙ same ∙ sym ((at_here row spells x).key_is) in
+        let tied = tied_itself nat_list_cmp_total (get_or es i x).0 in
+        let itself = subst (λ z. byte_order z (get_or es i x).0 ≡ Less) keys (rising es b.at i x x are.sorted b.before l) in cc
+
+    -- what is owned before the next place
+    more : (row : format.Row) → SpellsRow key value row → (a : Owner) (u : ℕ) → (OwnsBefore es i a u ⊎ RowOwns row a u) ↔ OwnsBefore es (i + 1) a u
+    more row spells a u = (
+      λ q. elim q [
+        | inl b ↦ record { at = b.at; before = omega (arith, b.before); within = b.within; row = b.row; stands = b.stands; owns = b.owns }
+        | inr owns ↦ record { at = i; before = omega arith; within = l; row = row; stands = at_here row spells; owns = owns }
+      ],
+      λ b. elim (cases_lt b.at i) [
+        | inl lt ↦ inl (record { at = b.at; before = lt; within = b.within; row = b.row; stands = b.stands; owns = b.owns })
+        | inr ge ↦
+            let here : b.at ≡ i = omega (arith, ge, b.before) in
+            let own = here_at b.row (subst (λ n. RowAt es n b.row) here b.stands) in
+            inr (subst (λ r. RowOwns r a u) (same_spelled key value b.row row own spells) b.owns)
+      ],
+    )
+
+    pub row_step : (m new : Marks) → MarkedTo es i s.units m → AreMarkedOn key value m new → MarkedTo es (i + 1) s.units new
+    row_step m new old on =
+        let g = good key value (subst (λ (e : List ℕ × List ℕ). map.get rows e.0 ≡ Some e.1) (pair x) (are.has i x l)) in
+        let spells : SpellsRow key value g.row = record { fits = g.fits; key_is = g.key_is; value_is = g.value_is } in
+        let has = has_here g.row spells in
+        subst (MarkedTo es (i + 1) s.units) (sym (on g.row spells)) (record {
+          told = tells_same _ _ _ (more g.row spells)
+              (row_tells g.row (OwnsBefore es i) m s.units old.told old.has (row_ends g.row has) (row_ascends g.row has) (fresh g.row spells));
+          has = row_units s.units g.row m old.has;
+        })
+
+-- ---- all rows
+
+same_or_not : (a b : Owner) → (a ≡ b) ⊎ (a ≡ b → ⊥)
+same_or_not (page_of c o p) (page_of d u q) = elim (equal_or_not c d) [
+  | inr apart ↦ inr (λ e. apart (coll_of e))
+  | inl coll ↦ elim (equal_or_not o u) [
+    | inr apart ↦ inr (λ e. apart (object_of e))
+    | inl object ↦ elim (cases_eq p q) [
+      | inl page ↦ inl (λ i. page_of (coll i) (object i) (page i))
+      | inr apart ↦ inr (λ e. apart (number e))
+    ]
+  ]
+]
+  where
+    coll_of : page_of c o p ≡ page_of d u q → c ≡ d
+    coll_of e = cc
+
+    object_of : page_of c o p ≡ page_of d u q → o ≡ u
+    object_of e = cc
+
+    number : page_of c o p ≡ page_of d u q → p ≡ q
+    number e = cc
+
+module _ (rows : Rows) (es : List (List ℕ × List ℕ)) (are : AreRows rows es) (i : ℕ) (end : length es ≤ i) where
+  row_owner : (row : format.Row) (a : Owner) (v : ℕ) → HasRow rows row → RowOwns row a v → Owns rows a v
+  row_owner (collection c) a v has owns = absurd owns
+  row_owner (onode c o size) a v has owns = absurd owns
+  row_owner (shard c o first xs) a v has owns = subst (λ b. Owns rows b v) (sym owns.owner_is)
+      (owns.place, record { first = first; extents = xs; has_shard = has; has_page = owns.found }, owns.unit_is)
+
+  owns_of : (a : Owner) (v : ℕ) → OwnsBefore es i a v → Owns rows a v
+  owns_of a v b = row_owner b.row a v (has_spelled rows es are b.at ([], []) b.row b.within (b.stands ([], []))) b.owns
+
+  before_of : (a : Owner) (v : ℕ) → Owns rows a v → OwnsBefore es i a v
+  before_of (page_of c o page) v owns =
+      let at : IsPageAt rows c o page owns.0 = owns.1 in
+      let found = are.stands _ _ at.has_shard.stands in
+      record {
+        at = found.at;
+        before = omega (arith, found.within, end);
+        within = found.within;
+        row = shard c o at.first at.extents;
+        stands = λ d. record {
+          fits = at.has_shard.fits;
+          key_is = ap (λ (e : List ℕ × List ℕ). e.0) (found.is d);
+          value_is = ap (λ (e : List ℕ × List ℕ). e.1) (found.is d);
+        };
+        owns = record { page = page; place = owns.0; owner_is = refl; found = at.has_page; unit_is = owns.2 };
+      }
+
+  pub all_marked : (units : ℕ) (m : Marks) → MarkedTo es i units m → AreMarked rows m
+  all_marked units m old = record {
+    owned = λ v. (
+      λ is. let q = (old.told.owned v).0 is in (q.0, owns_of q.0 v q.1),
+      λ owned. (old.told.owned v).1 (owned.0, before_of owned.0 v owned.1),
+    );
+    shared = λ v. (
+      λ is sole. let t = (old.told.shared v).0 is in t.apart (sole t.a t.b (owns_of t.a v t.first) (owns_of t.b v t.second)),
+      λ not_sole. elim (cases_Bool (get_or m.shared v false)) [
+        | inl is ↦ is
+        | inr none ↦ absurd (not_sole (λ a b p q. one v none a b p q))
+      ],
+    );
+  }
+    where
+      one : (v : ℕ) → get_or m.shared v false ≡ false → (a b : Owner) → Owns rows a v → Owns rows b v → a ≡ b
+      one v none a b p q = elim (same_or_not a b) [
+        | inl e ↦ e
+        | inr apart ↦
+            let is = (old.told.shared v).1 (record { a = a; b = b; apart = apart; first = before_of a v p; second = before_of b v q }) in absurd cc
+      ]

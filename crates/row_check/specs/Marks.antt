@@ -1,0 +1,55 @@
+-- Marks at units: a first one where a page stands, and a second one where another page does too.
+use Rattle.std.specs.Prelude.{ℕ, zero, suc, ◌+◌, ◌≤◌, ◌||◌, Bool, true, false, List, [], ◌∷◌, length, replicate, slice_index_or, slice_set, refl}
+use Rattle.std.specs.List.{AllByRecursion}
+use Rattle.std.specs.Coded.{Coded, code_by, coded×, coded_list, coded_bool}
+use Rattle.row_format.specs.Extents.{Body, private, Extent}
+use Rattle.row_format.specs.Row as format
+
+-- the first and the second mark of each unit
+pub record Marks : Type 0 where
+  pub owned : List Bool
+  pub shared : List Bool
+
+-- the marks as a tuple, which a `Model` asks for
+abbrev pub coded_marks : Coded Marks
+coded_marks = code_by (List Bool × List Bool) (coded× (coded_list coded_bool) (coded_list coded_bool))
+    (λ m. (m.owned, m.shared)) (λ p. record { owned = p.0; shared = p.1 }) (λ _. refl)
+
+abbrev pub no_marks : ℕ → Marks
+no_marks units = record { owned = replicate units false; shared = replicate units false }
+
+-- one page more stands on the unit
+abbrev pub one_more : Marks → ℕ → Marks
+one_more m unit = record {
+  owned = slice_set m.owned unit true;
+  shared = slice_set m.shared unit (slice_index_or m.owned unit false || slice_index_or m.shared unit false);
+}
+
+-- so many pages more stand on consecutive units
+abbrev pub run_marked : Marks → ℕ → ℕ → Marks
+run_marked m unit zero = m
+run_marked m unit (suc n) = one_more (run_marked m unit n) (unit + n)
+
+abbrev pub body_marked : Marks → Body → Marks
+body_marked m (private unit csums) = run_marked m unit (length csums)
+
+-- the pages of these extents stand on their units
+abbrev pub extents_marked : Marks → List Extent → Marks
+extents_marked m [] = m
+extents_marked m (e ∷ es) = extents_marked (body_marked m e.body) es
+
+-- the same of a row's pages, if it is a shard
+abbrev pub row_marked : Marks → format.Row → Marks
+row_marked m (format.shard c o page es) = extents_marked m es
+row_marked m row = m
+
+-- the units of these pages are below this one
+abbrev pub EndsBy : ℕ → Body → Type 0
+EndsBy units (private unit csums) = unit + length csums ≤ units
+
+abbrev pub AllEndBy : ℕ → List Extent → Type 0
+AllEndBy units es = AllByRecursion (λ e. EndsBy units e.body) es
+
+abbrev pub RowEndsBy : ℕ → format.Row → Type 0
+RowEndsBy units (format.shard c o page es) = AllEndBy units es
+RowEndsBy units row = Unit {0}

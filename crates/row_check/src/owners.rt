@@ -1,0 +1,104 @@
+//! The units that the rows own.
+ghost use Rattle.std.specs.Prelude.{ℕ, ◌≡◌, ◌<◌, ◌^◌, IfOk, OnOk, OnErr, false, length, slice_index_or};
+ghost use Rattle.std.specs.FinSet as set;
+ghost use Rattle.meta_log.specs.Slots.{IsSuper};
+ghost use Rattle.store_image.specs.BadRows.{NoBadRow};
+ghost use Rattle.row_check.specs.Reading.{row_of};
+ghost use Rattle.row_check.specs.Marks.{row_marked, RowEndsBy};
+ghost use Rattle.row_check.specs.Owned.{AreOwned, AreShared, AreMarked, AreMarkedOn, SpellsWithin};
+
+use crate::row::{Row, read_row};
+use crate::unit_marks::UnitMarks;
+use meta_log::Super;
+use meta_rows::RowTable;
+use std::alloc::{AllocError, Global};
+use unit_fields::UnitSet;
+
+/// The units that the rows own, and those of them that have two owners or more.
+#[derive(Debug, Drop)]
+pub struct OwnedUnits {
+    /// A page stands on each of these.
+    pub owned: UnitSet,
+    /// Two pages or more stand on each of these, of one object or of several.
+    pub shared: UnitSet,
+}
+
+// Marks the units of a row's pages.
+fn mark_pages(marks: &mut UnitMarks, row: &Row)
+    requires { RowEndsBy (length marks.old.owned) (row_of row.now) }
+    ensures { marks.new ≡ row_marked marks.old (row_of row.now) }
+{
+    match row {
+        Row::Collection { coll: _coll } => {}
+        Row::Onode {
+            coll: _coll,
+            object: _object,
+            size: _size,
+        } => {}
+        Row::Shard {
+            coll: _coll,
+            object: _object,
+            page: _page,
+            extents,
+        } => marks.mark_extents(extents.as_slice()),
+    }
+}
+
+// Marks the units of the pages of the row that a key and a value spell.
+fn mark_row(
+    alloc: Global,
+    marks: &mut UnitMarks,
+    key: &[u8],
+    value: &[u8],
+) -> Result<(), AllocError>
+    requires { SpellsWithin key.now value.now (length marks.old.owned) }
+    ensures ok { OnOk result (AreMarkedOn key.now value.now marks.old marks.new) }
+    ensures err { OnErr result (marks.new ≡ marks.old) }
+{
+    if let Some(row) = read_row(alloc, key, value)? {
+        mark_pages(marks, &row);
+    }
+    Ok(())
+}
+
+// Marks the units of all pages.
+fn marks_of(alloc: Global, sup: &Super, rows: &RowTable) -> Result<UnitMarks, AllocError>
+    requires { NoBadRow sup.now rows.now.rows }
+    ensures { IfOk result (λ marks. AreMarked rows.now.rows marks × (length marks.owned ≡ sup.now.units) × (length marks.shared ≡ sup.now.units)) }
+{
+    let mut marks = UnitMarks::new(alloc, sup.units)?;
+    for (key, value) in rows.range(b"", None) {
+        mark_row(alloc, &mut marks, key.as_slice(), value.as_slice())?;
+    }
+    Ok(marks)
+}
+
+// The units with a mark.
+fn marked_units(alloc: Global, marks: &[bool]) -> Result<UnitSet, AllocError>
+    requires { length marks.now < 2 ^ 32 }
+    ensures { IfOk result (λ units. (unit : ℕ) → set.contains units unit ≡ slice_index_or marks.now unit false) }
+{
+    let mut units = Vec::new(alloc);
+    for (unit, marked) in marks.iter().enumerate() {
+        if *marked {
+            units.push(unit as u32)?;
+        }
+    }
+    Ok(UnitSet::from_ascending(units))
+}
+
+/// The units that the rows own, and those of them that have two owners or more: what a mount asks for before it opens a store, so that
+/// the allocator gives none of the first to anybody, and none of the second is ever given back.
+///
+/// Each row is read once, and two marks are kept for each unit of the device meanwhile.
+pub fn owned_units(alloc: Global, sup: &Super, rows: &RowTable) -> Result<OwnedUnits, AllocError>
+    requires limits { IsSuper sup.now }
+    requires good { NoBadRow sup.now rows.now.rows }
+    ensures owned { IfOk result (λ units. AreOwned rows.now.rows units.owned) }
+    ensures shared { IfOk result (λ units. AreShared rows.now.rows units.shared) }
+{
+    let marks = marks_of(alloc, sup, rows)?;
+    let owned = marked_units(alloc, marks.owned())?;
+    let shared = marked_units(alloc, marks.shared())?;
+    Ok(OwnedUnits { owned, shared })
+}

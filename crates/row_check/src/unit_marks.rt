@@ -1,0 +1,99 @@
+//! Marks at the units where pages stand.
+ghost use Rattle.std.specs.Prelude.{◌≡◌, ◌+◌, ◌<◌, ◌≤◌, IfOk, false, length, replicate};
+ghost use Rattle.row_check.specs.Marks.{no_marks, one_more, run_marked, body_marked, extents_marked, EndsBy, AllEndBy};
+
+use onode_codec::{Body, Extent};
+use std::alloc::{AllocError, Global};
+use std::marker::Model;
+use std::mem::replace;
+
+/// For each unit of a device a mark where a page stands on it, and a second one where another page does too.
+#[derive(Drop)]
+pub struct UnitMarks {
+    owned: Vec<bool>,
+    shared: Vec<bool>,
+}
+
+impl Model for UnitMarks {
+    ghost use Rattle.std.specs.Prelude.{◌≡◌, length};
+    ghost use Rattle.row_check.specs.Marks.{Marks, coded_marks};
+
+    ghost Value = { Marks };
+
+    ghost coded = { coded_marks };
+
+    ghost view = { λ a. record { owned = a.owned.items; shared = a.shared.items } };
+
+    ghost invariant = { λ a. length a.owned.items ≡ length a.shared.items };
+}
+
+fn falses(alloc: Global, count: usize) -> Result<Vec<bool>, AllocError>
+    ensures { IfOk result (λ v. v.items ≡ replicate count false) }
+{
+    vec![in alloc; false; count]
+}
+
+impl UnitMarks {
+    /// No marks at any of so many units.
+    pub fn new(alloc: Global, units: u32) -> Result<UnitMarks, AllocError>
+        ensures { IfOk result (λ marks. marks ≡ no_marks units) }
+    {
+        let owned = falses(alloc, units as usize)?;
+        let shared = falses(alloc, units as usize)?;
+        Ok(UnitMarks { owned, shared })
+    }
+
+    // One page more stands on the unit.
+    fn mark(&mut self, unit: usize)
+        requires { unit < length self.old.owned }
+        ensures { self.new ≡ one_more self.old unit }
+    {
+        let was_owned = replace(&mut self.owned[unit], true);
+        self.shared[unit] = was_owned || self.shared[unit];
+    }
+
+    // So many pages more stand on the units from this one on.
+    fn mark_run(&mut self, first: usize, count: usize)
+        requires { first + count ≤ length self.old.owned }
+        ensures { self.new ≡ run_marked self.old first count }
+    {
+        // There is a mark for each of the units, so that their numbers fit.
+        let _marks = &self.owned;
+        for i in 0..count {
+            self.mark(first + i);
+        }
+    }
+
+    // The pages of an extent stand on their units.
+    fn mark_extent(&mut self, extent: &Extent)
+        requires { EndsBy (length self.old.owned) extent.now.body }
+        ensures { self.new ≡ body_marked self.old extent.now.body }
+    {
+        let Body::Private { unit, csums } = &extent.body;
+        self.mark_run(unit.number() as usize, csums.len());
+    }
+
+    /// The pages of these extents stand on their units.
+    pub fn mark_extents(&mut self, extents: &[Extent])
+        requires { AllEndBy (length self.old.owned) extents.now }
+        ensures { self.new ≡ extents_marked self.old extents.now }
+    {
+        for extent in extents {
+            self.mark_extent(extent);
+        }
+    }
+
+    /// The first mark of each unit.
+    pub fn owned(&self) -> &[bool]
+        ensures { result.now ≡ self.now.owned }
+    {
+        &self.owned
+    }
+
+    /// The second mark of each unit.
+    pub fn shared(&self) -> &[bool]
+        ensures { result.now ≡ self.now.shared }
+    {
+        &self.shared
+    }
+}

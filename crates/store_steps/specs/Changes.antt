@@ -20,9 +20,10 @@ use Rattle.store_steps.specs.Contexts.{with_context, without_context, given_more
 abbrev pub sent : Ticket → Job → State → State
 sent ticket job s = record s { flying = s.flying ++ record { ticket = ticket; job = job } ∷ []; events = s.events + 1 }
 
--- the next data write of the context at this place was submitted
-abbrev pub data_sent : ℕ → Ticket → State → State
-data_sent place ticket s = let before : State = record s { pending = with_context place given_more s.pending } in sent ticket (job.Data place) before
+-- the next data write of the context at this place was submitted, of so many units
+abbrev pub data_sent : ℕ → ℕ → Ticket → State → State
+data_sent place count ticket s = let before : State = record s { pending = with_context place (given_more count) s.pending }
+    in sent ticket (job.Data place count) before
 
 -- the batch's first flush was submitted
 abbrev pub flush_sent : Batch → Ticket → State → State
@@ -52,7 +53,7 @@ written_more r = record r { written = r.written + 1 }
 
 -- what the good end of a submission for this job is to the state
 abbrev pub after_done : Job → State → State
-after_done (job.Data place) s = record s { pending = with_context place done_more s.pending }
+after_done (job.Data place count) s = record s { pending = with_context place (done_more count) s.pending }
 after_done job.DataFlush s = record s { batch = option_map first_flushed s.batch }
 after_done job.Record s = record s { log = record s.log { begun = option_map written_more s.log.begun } }
 after_done job.RecordFlush s = record s { batch = option_map second_flushed s.batch }
@@ -74,9 +75,9 @@ flying_of ticket flying = find (λ f. f.ticket.place == ticket.place) flying
 abbrev pub landed : Ticket → State → State
 landed ticket s = record s { flying = filter (λ f. not (f.ticket.place == ticket.place)) s.flying; events = s.events + 1 }
 
--- a submission has ended well or badly
+-- a submission has ended well or badly; once the kernel is down, a good end counts for nothing
 abbrev pub reaped : Ticket → Bool → State → State
-reaped ticket true s = after_good (flying_of ticket s.flying) (landed ticket s)
+reaped ticket true s = if is_some s.down then landed ticket s else after_good (flying_of ticket s.flying) (landed ticket s)
 reaped ticket false s = let after : State = landed ticket s in record after { down = down_by s.down ticket }
 
 -- ---- steps that the device has no part in

@@ -1,5 +1,5 @@
 -- Contexts one by one, and which of them comes next.
-use Rattle.std.specs.Prelude.{ℕ, ◌+◌, ◌==◌, ◌&&◌, not, Bool, List, [], ◌∷◌, length, map, filter, slice_get, Option, Some, None, if◌then◌else◌}
+use Rattle.std.specs.Prelude.{ℕ, ◌+◌, ◌==◌, ◌&&◌, not, Bool, List, [], ◌∷◌, ◌++◌, length, map, filter, drop, nat_lt, Option, Some, None, if◌then◌else◌}
 use Rattle.std.specs.List.{flat_map, list_any}
 use Rattle.std.specs.Option.{option_map, option_or}
 use Rattle.meta_rows.specs.declared.row_op.RowOp.{RowOp}
@@ -8,21 +8,39 @@ use Rattle.store_steps.specs.declared.context.Context.{Context}
 use Rattle.store_steps.specs.declared.context.FreshUnit.{FreshUnit}
 use Rattle.store_steps.specs.State.{Batch}
 
--- a data write that isn't submitted yet: whose it is, and of which unit
+-- the longest front of fresh units that stand one behind the other from this unit on, below an end
+abbrev pub run_from : ℕ → ℕ → List FreshUnit → List FreshUnit
+run_from unit end [] = []
+run_from unit end (f ∷ fs) = if f.unit == unit && nat_lt unit end then f ∷ run_from (unit + 1) end fs else []
+
+-- the bytes of fresh units, one unit's behind the other's
+abbrev pub run_bytes : List FreshUnit → List ℕ
+run_bytes fs = flat_map (λ f. f.bytes) fs
+
+-- a data write that isn't submitted yet: whose it is, and the units that it is of, one behind the other
 pub record Unsent : Type 0 where
   pub place : ℕ
-  pub fresh : FreshUnit
+  pub first : FreshUnit
+  pub more : List FreshUnit
+
+abbrev pub unsent_units : Unsent → List FreshUnit
+unsent_units u = u.first ∷ u.more
+
+-- the next data write of the context at this place, which has these units left: at most 64 of them
+abbrev pub run_of : ℕ → List FreshUnit → Option Unsent
+run_of place [] = None
+run_of place (f ∷ fs) = Some (record { place = place; first = f; more = run_from (f.unit + 1) (f.unit + 64) fs })
 
 -- the next data write of a context, if one is left
 abbrev pub unsent : Context → Option Unsent
-unsent x = option_map (λ f. record { place = x.place; fresh = f }) (slice_get x.fresh x.given)
+unsent x = run_of x.place (drop x.given x.fresh)
 
 -- the next data write of the context of least place that has one left
 abbrev pub next_unsent : List Context → Option Unsent
 next_unsent [] = None
 next_unsent (x ∷ xs) = option_or (unsent x) (next_unsent xs)
 
--- all data writes of the context have ended well
+-- all units of the context have reached the device
 abbrev pub is_done : Context → Bool
 is_done x = x.done == length x.fresh
 
@@ -43,12 +61,12 @@ with_context place change xs = map (λ x. if x.place == place then change x else
 abbrev pub without_context : ℕ → List Context → List Context
 without_context place xs = filter (λ x. not (x.place == place)) xs
 
--- one more of its data writes was submitted, or has ended well
-abbrev pub given_more : Context → Context
-given_more x = record x { given = x.given + 1 }
+-- so many more of its units were given to the device, or have reached it
+abbrev pub given_more : ℕ → Context → Context
+given_more count x = record x { given = x.given + count }
 
-abbrev pub done_more : Context → Context
-done_more x = record x { done = x.done + 1 }
+abbrev pub done_more : ℕ → Context → Context
+done_more count x = record x { done = x.done + count }
 
 -- the row operations of a batch: those of its contexts, one after another
 abbrev pub batch_ops : Batch → List RowOp

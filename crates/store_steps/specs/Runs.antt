@@ -1,5 +1,6 @@
 -- Runs: lists of calls, each of which does what its relation says.
-use Rattle.std.specs.Prelude.{◌≡◌, ◌⊎◌, ℕ, ◌<◌, true, false, List, [], ◌∷◌, length, None}
+use Rattle.std.specs.Prelude.{◌≡◌, ◌⊎◌, ℕ, ◌<◌, true, false, List, [], ◌∷◌, None}
+use Rattle.block_device.specs.declared.device.Ticket.{Ticket}
 use Rattle.block_device.specs.Disk.{Disk, IsSound}
 use Rattle.object_model.specs.Effect.{Change}
 use Rattle.object_model.specs.declared.command.Answer.{Answer}
@@ -8,23 +9,26 @@ use Rattle.store_steps.specs.declared.step.Step.TheVariants.{Reap}
 use Rattle.store_steps.specs.State.{State}
 use Rattle.store_steps.specs.Ready.{is_ready, is_drained}
 use Rattle.store_steps.specs.Steps.{Does, Takes}
-use Rattle.store_steps.specs.Submit.{IsKnown, Accepts, Refuses}
+use Rattle.store_steps.specs.Submit.{IsKnown, Accepts, Refuses, IsDownBy, IsBookFull}
 
 -- a call of the kernel that changes it
 pub data Call : Type 0 where
   submitting : (client line : ℕ) (change : Change) → Call
   stepping : (step : Step) → Call
 
--- A transaction may be submitted where the kernel is drained and not down, and its book has room.
+-- A transaction may be submitted where the kernel is drained, or down.
 pub record MaySubmit (change : Change) (s : State) (d : Disk) : Type 0 where
-  pub up : s.down ≡ None
-  pub drained : is_drained d.depth s ≡ true
-  pub room : length s.book.entries < 1048576
+  pub drained : (s.down ≡ None) → is_drained d.depth s ≡ true
   pub known : IsKnown change.ops
 
--- it is accepted, or refused with an answer
+-- it is turned away: nothing changes
+pub record TurnsAway (s s' : State) : Type 0 where
+  pub cause : ((ticket : Ticket) × IsDownBy ticket s) ⊎ IsBookFull s
+  pub same : s' ≡ s
+
+-- it is accepted, refused with an answer, or turned away
 abbrev pub Submits : ℕ → ℕ → Change → State → State → Type 0
-Submits client line change s s' = Accepts client line change s s' ⊎ ((a : Answer) × Refuses client line change a s s')
+Submits client line change s s' = Accepts client line change s s' ⊎ ((a : Answer) × Refuses client line change a s s') ⊎ TurnsAway s s'
 
 -- a step, but for one that takes the end of a submission that ended badly
 abbrev pub DoesOrFails : Step → State → Disk → State → Disk → Type 0

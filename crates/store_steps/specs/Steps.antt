@@ -1,5 +1,5 @@
 -- What each step does, at the device and to the state.
-use Rattle.std.specs.Prelude.{◌≡◌, ◌⊎◌, ℕ, ◌+◌, Bool, true, List, Some}
+use Rattle.std.specs.Prelude.{◌≡◌, ◌⊎◌, ℕ, ◌+◌, Bool, true, List, length, Some}
 use Rattle.byte_maps.specs.Units.{units_from}
 use Rattle.block_device.specs.Disk.{Disk, Submitted, Reaped, Waited}
 use Rattle.block_device.specs.declared.device.Ticket.{Ticket}
@@ -11,7 +11,7 @@ use Rattle.store_steps.specs.declared.context.Context.{Context}
 use Rattle.store_steps.specs.declared.step.Step.{Step}
 use Rattle.store_steps.specs.declared.step.Step.TheVariants.{Data, Reap, Take, Flush, Seal, Record, Sync, Commit, Finish}
 use Rattle.store_steps.specs.State.{Begun, Log, Batch, State}
-use Rattle.store_steps.specs.Contexts.{Unsent, next_unsent, chosen}
+use Rattle.store_steps.specs.Contexts.{Unsent, unsent_units, run_bytes, next_unsent, chosen}
 use Rattle.store_steps.specs.Changes.{data_sent, flush_sent, record_sent, sync_sent, reaped, taken_up, sealed, committed_batch, finished}
 
 -- where the next piece of a record goes, and its bytes
@@ -27,8 +27,8 @@ pub record DoesData (s : State) (d : Disk) (s' : State) (d' : Disk) : Type 0 whe
   pub ticket : Ticket
   pub next : Unsent
   pub is_next : next_unsent s.pending ≡ Some next
-  pub submitted : Submitted d ticket.place (event.Write next.fresh.unit next.fresh.bytes) d'
-  pub after : s' ≡ data_sent next.place ticket s
+  pub submitted : Submitted d ticket.place (event.Write next.first.unit (run_bytes (unsent_units next))) d'
+  pub after : s' ≡ data_sent next.place (length (unsent_units next)) ticket s
 
 -- the end of one submission is taken
 pub record Takes (s : State) (d : Disk) (ok : Bool) (s' : State) (d' : Disk) : Type 0 where

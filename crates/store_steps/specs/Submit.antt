@@ -1,11 +1,13 @@
 -- What submitting a transaction does: it is accepted, or refused for a cause; either makes an entry of the book.
-use Rattle.std.specs.Prelude.{◌≡◌, ℕ, ◌+◌, ◌-◌, ◌<◌, ◌≤◌, List, [], ◌∷◌, ◌++◌, length, map, Option, Some, None, if◌then◌else◌}
+use Rattle.std.specs.Prelude.{◌≡◌, ℕ, ◌+◌, ◌-◌, ◌<◌, ◌≤◌, ◌%◌, nat_lt, List, [], ◌∷◌, ◌++◌, length, map, Option, Some, None, if◌then◌else◌}
 use Rattle.std.specs.FinMap as finite
-use Rattle.object_model.specs.Effect.{Change}
+use Rattle.block_device.specs.declared.device.Ticket.{Ticket}
+use Rattle.object_model.specs.Effect.{Change, object_limit}
+use Rattle.object_model.specs.Limits.{is_too_large}
 use Rattle.object_model.specs.declared.op.Op.{Op}
-use Rattle.object_model.specs.declared.op.Op.TheVariants.{MkColl, Write}
+use Rattle.object_model.specs.declared.op.Op.TheVariants.{MkColl, Touch, Write}
 use Rattle.object_model.specs.declared.op.Refusal.{Refusal}
-use Rattle.object_model.specs.declared.op.Refusal.TheVariants.{NoCollection, CollectionExists}
+use Rattle.object_model.specs.declared.op.Refusal.TheVariants.{NoCollection, CollectionExists, TooBig}
 use Rattle.object_model.specs.declared.command.Command.TheVariants as ask
 use Rattle.object_model.specs.declared.command.Answer.{Answer}
 use Rattle.object_model.specs.declared.command.Answer.TheVariants as answer
@@ -19,21 +21,29 @@ use Rattle.store_steps.specs.State.{Log, State}
 use Rattle.store_steps.specs.declared.plan.Plan.{Plan}
 use Rattle.store_steps.specs.Planning.{Plans, units_taken}
 
--- The transactions that the store knows so far: one makes a collection, one writes a whole page of an object, page 0.
+-- The transactions that the store knows so far: one makes a collection, one makes an object, one writes whole pages from a page's start on.
 abbrev pub IsKnown : List Op → Type 0
 IsKnown (MkColl ∷ []) = Unit {0}
-IsKnown (Write o off bytes ∷ []) = (off ≡ 0) × (length bytes ≡ 4096)
+IsKnown (Touch o ∷ []) = Unit {0}
+IsKnown (Write o off bytes ∷ []) = (off % 4096 ≡ 0) × (length bytes % 4096 ≡ 0) × (0 < length bytes)
 IsKnown ops = ⊥
 
 -- its names are names
 abbrev pub HasNames : List ℕ → List Op → Type 0
+HasNames c (Touch o ∷ []) = IsCollName c × IsName o
 HasNames c (Write o off bytes ∷ []) = IsCollName c × IsName o
 HasNames c ops = IsCollName c
 
--- the refusal that the submitted rows give to a transaction
-abbrev pub refusal_of : Rows → List ℕ → List Op → Option Refusal
-refusal_of rows c (MkColl ∷ []) = if finite.contains_key rows (coll_key c) then Some CollectionExists else None
-refusal_of rows c ops = if finite.contains_key rows (coll_key c) then None else Some NoCollection
+-- the refusal that the submitted rows give to operations on a collection
+abbrev pub ops_refusal : Rows → List ℕ → List Op → Option Refusal
+ops_refusal rows c (MkColl ∷ []) = if finite.contains_key rows (coll_key c) then Some CollectionExists else None
+ops_refusal rows c (Write o off bytes ∷ []) =
+    if finite.contains_key rows (coll_key c) then (if nat_lt object_limit (off + length bytes) then Some TooBig else None) else Some NoCollection
+ops_refusal rows c ops = if finite.contains_key rows (coll_key c) then None else Some NoCollection
+
+-- and to a transaction, which may be too large as a whole
+abbrev pub refusal_of : Rows → Change → Option Refusal
+refusal_of rows change = if is_too_large change then Some TooBig else ops_refusal rows change.coll change.ops
 
 -- the units of the log that the record of these operations alone takes: they are as many for each number
 abbrev pub need_of : Log → Plan → ℕ
@@ -45,6 +55,10 @@ room_of m = m.sup.half - (m.tail + m.reserved)
 
 abbrev pub free_count : Space → ℕ
 free_count space = length (free_units space)
+
+-- the most entries of a book
+abbrev pub entry_limit : ℕ
+entry_limit = 1048576
 
 -- the context of an accepted transaction
 abbrev pub context_of : ℕ → Change → Log → Plan → Context
@@ -76,10 +90,16 @@ accepted_with client line change plan s = noted client line change answer.Accept
   space = taken s.space (map (λ f. f.unit) plan.fresh);
 })
 
+-- an answer can be noted: the kernel is up, and the book has room
+pub record CanNote (s : State) : Type 0 where
+  pub up : s.down ≡ None
+  pub room : length s.book.entries < entry_limit
+
 -- it is accepted: no refusal holds, units and room suffice
 pub record Accepts (client line : ℕ) (change : Change) (s s' : State) : Type 0 where
+  pub can_note : CanNote s
   pub names : HasNames change.coll change.ops
-  pub not_refused : refusal_of s.view change.coll change.ops ≡ None
+  pub not_refused : refusal_of s.view change ≡ None
   pub plan : Plan
   pub plans : Plans change.coll change.ops s.view s.space plan
   pub fits : need_of s.log plan ≤ room_of s.log
@@ -87,15 +107,24 @@ pub record Accepts (client line : ℕ) (change : Change) (s s' : State) : Type 0
 
 -- it is refused with this answer, for its cause; nothing but the book changes
 abbrev pub IsCause : Answer → Change → State → Type 0
-IsCause (answer.Refused refusal) change s = refusal_of s.view change.coll change.ops ≡ Some refusal
+IsCause (answer.Refused refusal) change s = refusal_of s.view change ≡ Some refusal
 IsCause (answer.NoSpace need free) change s =
-    (refusal_of s.view change.coll change.ops ≡ None) × (need ≡ units_taken change.ops) × (free ≡ free_count s.space) × (free < need)
+    (refusal_of s.view change ≡ None) × (need ≡ units_taken change.ops) × (free ≡ free_count s.space) × (free < need)
 IsCause (answer.MetaFull need room) change s =
-    (refusal_of s.view change.coll change.ops ≡ None)
+    (refusal_of s.view change ≡ None)
     × ((plan : Plan) × (Plans change.coll change.ops s.view s.space plan × (need ≡ need_of s.log plan)))
     × (room ≡ room_of s.log) × (room < need)
 IsCause a change s = ⊥
 
 pub record Refuses (client line : ℕ) (change : Change) (a : Answer) (s s' : State) : Type 0 where
+  pub can_note : CanNote s
   pub cause : IsCause a change s
   pub after : s' ≡ noted client line change a s
+
+-- It is turned away, and leaves no entry: the kernel is down, by this ticket, or it isn't and its book is full.
+abbrev pub IsDownBy : Ticket → State → Type 0
+IsDownBy ticket s = s.down ≡ Some ticket
+
+pub record IsBookFull (s : State) : Type 0 where
+  pub up : s.down ≡ None
+  pub full : length s.book.entries ≡ entry_limit

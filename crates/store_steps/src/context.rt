@@ -27,8 +27,8 @@ pub struct Context {
     pub fresh: Items<FreshUnit>,
     /// The units that come back to the free ones at its commit.
     pub released: Items<UnitNo>,
-    /// How many of its data writes were submitted: the first ones of `fresh`.
+    /// How many of its units were given to the device: the first ones of `fresh`.
     pub given: u32,
-    /// How many of these have ended well.
+    /// How many of these have reached it: their writes have ended well.
     pub done: u32,
 }

@@ -15,8 +15,8 @@ pub enum FlushState {
 /// What a submission is for.
 #[derive(Clone, Copy, Debug, PartialEq, Eq)]
 pub enum Job {
-    /// A data write of the context at this place of the book.
-    Data(u32),
+    /// A data write of so many units, of the context at this place of the book.
+    Data { place: u32, count: u32 },
     /// The flush of a batch before its record.
     DataFlush,
     /// A piece of the batch's record.

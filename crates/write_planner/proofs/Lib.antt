@@ -1,0 +1,5 @@
+pub mod ShardRows
+pub mod ReadShards
+pub mod States
+pub mod Changes
+pub mod Written

@@ -1,0 +1,257 @@
+-- The rows in the range of an object's shards are its shards, all of them, in the order of their pages.
+use Rattle.std.proofs.Common.{◌≡◌, ◌≢◌, ◌⊎◌, inl, inr, ℕ, zero, suc, ◌<◌, ◌^◌, Bool, true, cond, not, T, List, [], ◌∷◌, ◌++◌, length, get_or, map, Some, None, refl, sym, ap, subst, ◌∙◌, append_assoc, arith}
+use Rattle.std.specs.Prelude.{filter, Contains, ◌&&◌}
+use Rattle.std.specs.Int.{w32, to_be_bytes}
+use Rattle.std.specs.List.{flat_map, AllByRecursion}
+use Rattle.std.specs.Ordering.{is_lt}
+use Rattle.std.specs.declared.cmp.Ordering.{Ordering}
+use Rattle.std.specs.declared.cmp.Ordering.TheVariants.{Less, Equal, Greater}
+use Rattle.std.specs.FinMap as finite
+use Rattle.std.specs.FinMap.{is_sorted, entries, entries_sorted}
+use Rattle.std.specs.FinMap.Entries.{below_all}
+use Rattle.std.proofs.lemmas.Bool.{cases_Bool}
+use Rattle.byte_maps.specs.ByteMap.{byte_order, in_range}
+use Rattle.byte_maps.proofs.Places.{both_first, both_second}
+use Rattle.meta_rows.specs.Rows.{Rows}
+use Rattle.meta_rows.specs.Table.{rows_from_to}
+use Rattle.meta_log.specs.declared.slot.Super.{Super}
+use Rattle.unit_fields.specs.Names.{IsName, IsCollName}
+use Rattle.row_format.specs.Keys.{of_object, onode_key, shard_key}
+use Rattle.row_format.specs.Extents.{Extent, extent_bytes}
+use Rattle.row_format.specs.Row.{Row, collection, onode, shard, row_key, row_value, FitsShard}
+use Rattle.row_format.proofs.KeyLemmas.{same_place, same_shard, coll_no_object}
+use Rattle.row_format.proofs.ExtentLemmas.{extents-same}
+use Rattle.row_check.proofs.KeyOrder.{after_front, has_front, lesser_page, onode_before}
+use Rattle.row_check.proofs.Walk.{AreRows, all_rows, are_rows}
+use Rattle.store_image.specs.Pages.{HasRow}
+use Rattle.store_image.specs.BadRows.{IsGoodRow, NoBadRow}
+use Rattle.object_rows.specs.Maps.{Rise, AreShardsOf}
+
+abbrev Entry : Type 0
+Entry = List ℕ × List ℕ
+
+-- the key and the value of a shard's row
+abbrev pub shard_entry : List ℕ → List ℕ → ℕ × List Extent → List ℕ × List ℕ
+shard_entry c o x = (shard_key c o x.0, flat_map extent_bytes x.1)
+
+-- this shard may stand in rows
+abbrev pub FitsAsShard : List ℕ → List ℕ → ℕ × List Extent → Type 0
+FitsAsShard c o x = FitsShard c o x.0 x.1
+
+-- the entry is the row of a shard of the object
+pub record IsShardEntry (c o : List ℕ) (entry : List ℕ × List ℕ) : Type 0 where
+  pub page : ℕ
+  pub extents : List Extent
+  pub fits : FitsShard c o page extents
+  pub is : entry ≡ shard_entry c o (page, extents)
+
+-- ---- lists of entries
+
+-- the list has the entry
+abbrev In : List Entry → Entry → Type 0
+In [] x = ⊥
+In (e ∷ es) x = (e ≡ x) ⊎ In es x
+
+at_in : (es : List Entry) (x : Entry) (k : ℕ) → k < length es → ((d : Entry) → get_or es k d ≡ x) → In es x
+at_in [] x k lt is = absurd (omega (arith, lt))
+at_in (e ∷ es) x zero lt is = inl (is e)
+at_in (e ∷ es) x (suc k) lt is = inr (at_in es x k (omega (arith, lt)) is)
+
+all_at : (P : Entry → Type 0) (es : List Entry) → ((k : ℕ) (d : Entry) → k < length es → P (get_or es k d)) → AllByRecursion P es
+all_at P [] each = tt
+all_at P (e ∷ es) each = (each 0 e (omega arith), all_at P es (λ k d lt. each (suc k) d (omega (arith, lt))))
+
+-- the keys ascend
+abbrev KeysRise : List Entry → Type 0
+KeysRise [] = Unit {0}
+KeysRise (e ∷ es) = AllByRecursion (λ later. byte_order e.0 later.0 ≡ Less) es × KeysRise es
+
+is_less : (r : Ordering) → T (is_lt r) → r ≡ Less
+is_less Less h = refl
+is_less Equal h = absurd h
+is_less Greater h = absurd h
+
+all_below : (key : List ℕ) (es : List Entry) → T (below_all byte_order key es) → AllByRecursion (λ later. byte_order key later.0 ≡ Less) es
+all_below key [] h = tt
+all_below key (e ∷ es) h = (is_less (byte_order key e.0) (both_first _ _ h), all_below key es (both_second _ _ h))
+
+sorted_rise : (es : List Entry) → T (is_sorted byte_order es) → KeysRise es
+sorted_rise [] h = tt
+sorted_rise (e ∷ es) h = (all_below e.0 es (both_first _ _ h), sorted_rise es (both_second _ _ h))
+
+module _ (p : Entry → Bool) where
+  abbrev front : Entry → List Entry → Bool → List Entry
+  front e es b = cond b (e ∷ filter p es) (filter p es)
+
+  filtered_all : (P Q : Entry → Type 0) → ((e : Entry) → P e → p e ≡ true → Q e) → (es : List Entry) → AllByRecursion P es
+      → AllByRecursion Q (filter p es)
+  filtered_all P Q f [] all = tt
+  filtered_all P Q f (e ∷ es) all = elim (cases_Bool (p e)) [
+    | inl is ↦ subst (λ b. AllByRecursion Q (front e es b)) (sym is) (f e all.0 is, filtered_all P Q f es all.1)
+    | inr is ↦ subst (λ b. AllByRecursion Q (front e es b)) (sym is) (filtered_all P Q f es all.1)
+  ]
+
+  in_filtered : (es : List Entry) (x : Entry) → p x ≡ true → In es x → In (filter p es) x
+  in_filtered [] x is there = there
+  in_filtered (e ∷ es) x is (inl same) = subst (λ b. In (front e es b) x) (sym (ap p same ∙ is)) (inl same)
+  in_filtered (e ∷ es) x is (inr later) = elim (cases_Bool (p e)) [
+    | inl t ↦ subst (λ b. In (front e es b) x) (sym t) (inr (in_filtered es x is later))
+    | inr f ↦ subst (λ b. In (front e es b) x) (sym f) (in_filtered es x is later)
+  ]
+
+  filtered_rise : (es : List Entry) → KeysRise es → KeysRise (filter p es)
+  filtered_rise [] rise = tt
+  filtered_rise (e ∷ es) rise = elim (cases_Bool (p e)) [
+    | inl is ↦ subst (λ b. KeysRise (front e es b)) (sym is) (
+      filtered_all (λ later. byte_order e.0 later.0 ≡ Less) (λ later. byte_order e.0 later.0 ≡ Less) (λ later less t. less) es rise.0,
+      filtered_rise es rise.1,
+    )
+    | inr is ↦ subst (λ b. KeysRise (front e es b)) (sym is) (filtered_rise es rise.1)
+  ]
+
+-- ---- keys in the range
+
+not_less : (r : Ordering) (b : Bool) → (not (is_lt r) && b) ≡ true → r ≢ Less
+not_less Less b h e = absurd cc
+not_less Equal b h e = absurd cc
+not_less Greater b h e = absurd cc
+
+then_less : (r q : Ordering) → (not (is_lt r) && is_lt q) ≡ true → q ≡ Less
+then_less Less q h = absurd cc
+then_less Equal Less h = refl
+then_less Equal Equal h = absurd cc
+then_less Equal Greater h = absurd cc
+then_less Greater Less h = refl
+then_less Greater Equal h = absurd cc
+then_less Greater Greater h = absurd cc
+
+both_so : (r q : Ordering) → r ≢ Less → q ≡ Less → (not (is_lt r) && is_lt q) ≡ true
+both_so Less q apart is = absurd (apart refl)
+both_so Equal q apart is = ap is_lt is
+both_so Greater q apart is = ap is_lt is
+
+module _ (c o : List ℕ) where
+  -- what the keys of an object have in common
+  abbrev names_front : List ℕ
+  names_front = 0x4f ∷ (c ++ 0 ∷ (o ++ 0 ∷ []))
+
+  fronted : (rest : List ℕ) → names_front ++ rest ≡ of_object 0x4f c o rest
+  fronted rest = ap (λ (l : List ℕ). 0x4f ∷ l)
+      (append_assoc c (0 ∷ (o ++ 0 ∷ [])) rest ∙ ap (λ (l : List ℕ). c ++ 0 ∷ l) (append_assoc o (0 ∷ []) rest))
+
+  abbrev shards_first : List ℕ
+  shards_first = shard_key c o 0
+
+  abbrev shards_end : List ℕ
+  shards_end = of_object 0x4f c o (0x70 ∷ [])
+
+  abbrev is_between : List ℕ → Bool
+  is_between key = in_range shards_first shards_end key
+
+  -- a key between is one of the object
+  of_this : (key : List ℕ) → is_between key ≡ true → (rest : List ℕ) × (key ≡ of_object 0x4f c o rest)
+  of_this key is =
+      let up : byte_order key (names_front ++ (0x6f ∷ to_be_bytes w32 0 ++ 0x78 ∷ [])) ≢ Less =
+      subst (λ k. byte_order key k ≢ Less) (sym (fronted (0x6f ∷ to_be_bytes w32 0 ++ 0x78 ∷ [])))
+      (not_less (byte_order key shards_first) (is_lt (byte_order key shards_end)) is) in
+      let down : byte_order key (names_front ++ (0x70 ∷ [])) ≡ Less =
+      ap (byte_order key) (fronted (0x70 ∷ [])) ∙ then_less (byte_order key shards_first) (byte_order key shards_end) is in
+      let found = has_front names_front key (0x6f ∷ to_be_bytes w32 0 ++ 0x78 ∷ []) (0x70 ∷ []) up down in
+      (found.0, found.1 ∙ fronted found.0)
+
+  module _ (coll : IsCollName c) (name : IsName o) where
+    -- each shard's key is between
+    shard_between : (page : ℕ) → page < 2 ^ 32 → is_between (shard_key c o page) ≡ true
+    shard_between page lt = both_so (byte_order (shard_key c o page) shards_first) (byte_order (shard_key c o page) shards_end)
+        (λ less. omega (arith, lesser_page c o coll name page 0 lt (omega arith) less))
+        ((λ i. byte_order (sym (fronted (0x6f ∷ to_be_bytes w32 page ++ 0x78 ∷ [])) i) (sym (fronted (0x70 ∷ [])) i))
+        ∙ after_front names_front (0x6f ∷ to_be_bytes w32 page ++ 0x78 ∷ []) (0x70 ∷ []))
+
+    -- the rows there are shards
+    row_between : (r : Row) (rows : Rows) → HasRow rows r → is_between (row_key r) ≡ true → IsShardEntry c o (row_key r, row_value r)
+    row_between (collection d) rows has is = let key = of_this (row_key (collection d)) is in absurd (coll_no_object d c o key.0 key.1)
+    row_between (onode d u size) rows has is =
+        let key = of_this (onode_key d u) is in
+        let same = same_place 0x4f d u c o (0x6f ∷ []) key.0 has.fits.0 has.fits.1 coll name key.1 in
+        let own : onode_key d u ≡ onode_key c o = λ i. onode_key (same.0 i) (same.1 i) in
+        absurd (not_less (byte_order (onode_key d u) shards_first) (is_lt (byte_order (onode_key d u) shards_end)) is
+        (ap (λ k. byte_order k shards_first) own ∙ onode_before c o coll name 0))
+    row_between (shard d u page es) rows has is =
+        let key = of_this (shard_key d u page) is in
+        let same = same_place 0x4f d u c o (0x6f ∷ to_be_bytes w32 page ++ 0x78 ∷ []) key.0 has.fits.coll_name has.fits.object_name coll name key.1 in
+        record {
+          page = page;
+          extents = es;
+          fits = subst (λ x. FitsShard x o page es) same.0 (subst (λ x. FitsShard d x page es) same.1 has.fits);
+          is = λ i. (shard_key (same.0 i) (same.1 i) page, flat_map extent_bytes es);
+        }
+
+    -- ---- shards by their entries
+
+    among : (page : ℕ) (es : List Extent) → FitsShard c o page es → (xs : List (ℕ × List Extent)) → AllByRecursion (FitsAsShard c o) xs
+        → In (map (shard_entry c o) xs) (shard_entry c o (page, es)) → Contains xs (page, es)
+    among page es fits [] fit there = absurd there
+    among page es fits (x ∷ xs) fit (inl same) =
+        let first = same_shard c o c o x.0 page coll name coll name fit.0.page_below fits.page_below (ap (λ (e : Entry). e.0) same) in
+        let own : x.1 ≡ es = extents-same x.1 es fit.0.fit fits.fit (ap (λ (e : Entry). e.1) same) in
+        (0, omega arith, λ i. (first.2 i, own i))
+    among page es fits (x ∷ xs) fit (inr later) = let at = among page es fits xs fit.1 later in (suc at.0, omega (arith, at.1), at.2)
+
+    later_pages : (x : ℕ × List Extent) → FitsAsShard c o x → (xs : List (ℕ × List Extent)) → AllByRecursion (FitsAsShard c o) xs
+        → AllByRecursion (λ later. byte_order (shard_key c o x.0) later.0 ≡ Less) (map (shard_entry c o) xs) → AllByRecursion (λ later. x.0 < later.0) xs
+    later_pages x own [] fit less = tt
+    later_pages x own (y ∷ ys) fit less =
+        (lesser_page c o coll name x.0 y.0 own.page_below fit.0.page_below less.0, later_pages x own ys fit.1 less.1)
+
+    shards_rise : (xs : List (ℕ × List Extent)) → AllByRecursion (FitsAsShard c o) xs → KeysRise (map (shard_entry c o) xs) → Rise xs
+    shards_rise [] fit rise = tt
+    shards_rise (x ∷ xs) fit rise = (later_pages x fit.0 xs fit.1 rise.0, shards_rise xs fit.1 rise.1)
+
+    module _ (s : Super) (rows : Rows) (good : NoBadRow s rows) where
+      abbrev range : List Entry
+      range = rows_from_to rows shards_first (Some shards_end)
+
+      abbrev StandsIn : Entry → Type 0
+      StandsIn e = finite.get rows e.0 ≡ Some e.1
+
+      entries_are : AreRows rows (entries rows)
+      entries_are = subst (AreRows rows) (all_rows rows) (are_rows rows (rows_from_to rows [] None) refl)
+
+      all_stand : AllByRecursion StandsIn (entries rows)
+      all_stand = all_at StandsIn (entries rows) (λ k d lt. entries_are.has k d lt)
+
+      range_stands : AllByRecursion StandsIn range
+      range_stands = filtered_all (λ e. is_between e.0) StandsIn StandsIn (λ e there is. there) (entries rows) all_stand
+
+      entry_between : (e : Entry) → StandsIn e → is_between e.0 ≡ true → IsShardEntry c o e
+      entry_between e there is =
+          let g : IsGoodRow s rows e.0 e.1 = good e.0 e.1 there in
+          let stands = ap (finite.get rows) (sym g.key_is) ∙ there ∙ ap Some g.value_is in
+          let has : HasRow rows g.row = record { fits = g.fits; stands = stands } in
+          subst (IsShardEntry c o) (λ i. (sym g.key_is i, sym g.value_is i)) (row_between g.row rows has (ap is_between (sym g.key_is) ∙ is))
+
+      pub range_is_shards : AllByRecursion (IsShardEntry c o) range
+      range_is_shards = filtered_all (λ e. is_between e.0) StandsIn (IsShardEntry c o) entry_between (entries rows) all_stand
+
+      there_by : (xs : List (ℕ × List Extent)) → AllByRecursion (FitsAsShard c o) xs → AllByRecursion StandsIn (map (shard_entry c o) xs)
+          → AllByRecursion (λ x. HasRow rows (shard c o x.0 x.1)) xs
+      there_by [] fit there = tt
+      there_by (x ∷ xs) fit there = (record { fits = fit.0; stands = there.0 }, there_by xs fit.1 there.1)
+
+      range_rises : KeysRise range
+      range_rises = filtered_rise (λ e. is_between e.0) (entries rows) (sorted_rise (entries rows) (entries_sorted rows))
+
+      -- the shards whose entries are the range are the object's
+      pub range_has_all : (xs : List (ℕ × List Extent)) → AllByRecursion (FitsAsShard c o) xs → range ≡ map (shard_entry c o) xs
+          → AreShardsOf rows c o xs
+      range_has_all xs fit is = record {
+        there = there_by xs fit (subst (AllByRecursion StandsIn) is range_stands);
+        all = λ page es has.
+            let at = entries_are.stands (shard_key c o page) (flat_map extent_bytes es) has.stands in
+            let in_entries : In (entries rows) (shard_entry c o (page, es)) = at_in (entries rows) (shard_entry c o (page, es)) at.at at.within at.is in
+            let between = shard_between page has.fits.page_below in
+            let in_there : In range (shard_entry c o (page, es)) =
+            in_filtered (λ e. is_between e.0) (entries rows) (shard_entry c o (page, es)) between in_entries in
+            among page es has.fits xs fit (subst (λ l. In l (shard_entry c o (page, es))) is in_there);
+        rise = shards_rise xs fit (subst KeysRise is range_rises);
+      }

@@ -1,0 +1,4 @@
+pub mod PlanFails
+pub mod Ops
+pub mod Objects
+pub mod Parts

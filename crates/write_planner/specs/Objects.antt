@@ -1,0 +1,44 @@
+-- An object as its rows have it, and its shards as they are read.
+use Rattle.std.specs.Prelude.{◌≡◌, ℕ, List, [], ◌∷◌, ◌++◌}
+use Rattle.std.specs.List.{AllByRecursion}
+use Rattle.meta_rows.specs.Rows.{Rows}
+use Rattle.unit_fields.specs.UnitSet.{Ascends}
+use Rattle.row_format.specs.Keys.{shard_key}
+use Rattle.row_format.specs.Extents.{Extent, BeginsAt}
+use Rattle.onode_codec.specs.Reading.{SpellExtents}
+use Rattle.store_image.specs.Pages.{HasKey}
+use Rattle.blob_map.specs.Pages.{PageMap}
+use Rattle.object_rows.specs.Operations.{AreShards}
+use Rattle.object_rows.specs.Maps.{AreShardsOf, extents_in, first_pages, IsMapOf}
+use Rattle.object_rows.specs.Writes.{IsSizeOf}
+
+-- the value of the row of some shard
+pub record IsShardValue (value : List ℕ) : Type 0 where
+  pub page : ℕ
+  pub extents : List Extent
+  pub begins : BeginsAt page extents
+  pub spelled : SpellExtents value extents
+
+-- one shard more, behind the others: the value of its row spells its extents, and its first page is theirs
+pub record AddsShard (value firsts : List ℕ) (extents : List Extent) (firsts' : List ℕ) (extents' : List Extent) : Type 0 where
+  pub page : ℕ
+  pub own : List Extent
+  pub begins : BeginsAt page own
+  pub spelled : SpellExtents value own
+  pub firsts_are : firsts' ≡ firsts ++ page ∷ []
+  pub extents_are : extents' ≡ extents ++ own
+
+-- the object's shards have these first pages, and these extents in all
+pub record HasShards (rows : Rows) (c o : List ℕ) (firsts : List ℕ) (extents : List Extent) : Type 0 where
+  pub shards : List (ℕ × List Extent)
+  pub are : AreShardsOf rows c o shards
+  pub firsts_are : firsts ≡ first_pages shards
+  pub extents_are : extents ≡ extents_in shards
+
+-- the object has so many bytes, its pages stand where the map says, and its shards begin at these pages
+pub record IsStateOf (rows : Rows) (c o : List ℕ) (size : ℕ) (pages : PageMap) (firsts : List ℕ) : Type 0 where
+  pub was_long : IsSizeOf rows c o size
+  pub are_pages : IsMapOf rows c o pages
+  pub are_shards : AreShards rows c o firsts
+  pub there : AllByRecursion (λ page. HasKey rows (shard_key c o page)) firsts
+  pub in_order : Ascends firsts

@@ -1,0 +1,143 @@
+//! What the rows say of an object: its size, where its pages stand, and which shards it has.
+ghost use Rattle.std.specs.Prelude.{◌≡◌, ℕ, Some, [], ◌∷◌, List, IfOk, OnOk};
+ghost use Rattle.meta_rows.specs.Table.{rows_from_to};
+ghost use Rattle.row_format.specs.Extents.{Extent};
+ghost use Rattle.row_format.specs.Keys.{of_object, shard_key};
+ghost use Rattle.onode_codec.specs.Reading.{SpellsOnode, SpellExtents};
+ghost use Rattle.object_rows.specs.Writes.{IsSizeOf};
+ghost use Rattle.write_planner.specs.PlanFails.{AreRowsOfAStore};
+ghost use Rattle.write_planner.specs.Objects.{IsShardValue, AddsShard, HasShards, IsStateOf};
+
+use crate::names::{coll_name_is_one, name_is_one};
+use blob_map::PageMap;
+use byte_maps::Bytes;
+use meta_rows::RowTable;
+use onode_codec::{Extent, Onode, decode_extents, onode_key, shard_key, shards_end};
+use std::alloc::{AllocError, Global};
+use unit_fields::{CollName, Name};
+
+/// An object as its rows have it. A missing one has no bytes, pages or shards.
+#[derive(Drop)]
+pub struct ObjectState {
+    /// Its bytes.
+    pub size: u64,
+    /// Where its pages stand.
+    pub pages: PageMap,
+    /// The first page of each of its shards, ascending.
+    pub shards: Vec<u32>,
+}
+
+// An object's shards: the first page of each, and the extents of all of them, one shard's behind the other's.
+#[derive(Drop)]
+struct Shards {
+    firsts: Vec<u32>,
+    extents: Vec<Extent>,
+}
+
+// The size that the value of an onode's row says.
+fn size_in(value: &[u8]) -> u64
+    requires { (size : ℕ) × SpellsOnode value.now size }
+    ensures { SpellsOnode value.now result }
+{
+    match Onode::decode(value) {
+        Some(onode) => onode.size,
+        None => unreachable!(),
+    }
+}
+
+fn size_of(
+    alloc: Global,
+    rows: &RowTable,
+    coll: &CollName,
+    object: &Name,
+) -> Result<u64, AllocError>
+    requires { AreRowsOfAStore rows.now.rows }
+    ensures { IfOk result (IsSizeOf rows.now.rows coll.now object.now) }
+{
+    coll_name_is_one(coll);
+    name_is_one(object);
+    let key = onode_key(alloc, coll, object)?;
+    match rows.get(key.as_slice()) {
+        Some(value) => Ok(size_in(value.as_slice())),
+        None => Ok(0),
+    }
+}
+
+// The rows of an object's shards, in the order of their pages.
+fn shard_rows<'a>(
+    alloc: Global,
+    rows: &'a RowTable,
+    coll: &CollName,
+    object: &Name,
+) -> Result<&'a [(Bytes, Bytes)], AllocError>
+    ensures { IfOk result (λ found.
+        found.now ≡ rows_from_to rows.now.rows (shard_key coll.now object.now 0) (Some (of_object 0x4f coll.now object.now (0x70 ∷ [])))) }
+{
+    let first = shard_key(alloc, coll, object, 0)?;
+    let end = shards_end(alloc, coll, object)?;
+    Ok(rows.range(first.as_slice(), Some(end.as_slice())))
+}
+
+// The extents that the value of a shard's row spells.
+fn extents_in(alloc: Global, value: &[u8]) -> Result<Vec<Extent>, AllocError>
+    requires { (es : List Extent) × SpellExtents value.now es }
+    ensures { IfOk result (λ extents. SpellExtents value.now extents.items) }
+{
+    match decode_extents(alloc, value)? {
+        Some(extents) => Ok(extents),
+        None => unreachable!(),
+    }
+}
+
+// One shard more, behind the others.
+fn add_shard(alloc: Global, shards: &mut Shards, value: &[u8]) -> Result<(), AllocError>
+    requires { IsShardValue value.now }
+    ensures { OnOk result (AddsShard value.now shards.old.firsts.items shards.old.extents.items shards.new.firsts.items shards.new.extents.items) }
+{
+    let mut extents = extents_in(alloc, value)?;
+    shards.firsts.push(extents[0].first)?;
+    shards.extents.append(&mut extents)
+}
+
+fn shards_of(
+    alloc: Global,
+    rows: &RowTable,
+    coll: &CollName,
+    object: &Name,
+) -> Result<Shards, AllocError>
+    requires { AreRowsOfAStore rows.now.rows }
+    ensures { IfOk result (λ shards. HasShards rows.now.rows coll.now object.now shards.firsts.items shards.extents.items) }
+{
+    coll_name_is_one(coll);
+    name_is_one(object);
+    let mut shards = Shards {
+        firsts: Vec::new(alloc),
+        extents: Vec::new(alloc),
+    };
+    for (_, value) in shard_rows(alloc, rows, coll, object)? {
+        add_shard(alloc, &mut shards, value.as_slice())?;
+    }
+    Ok(shards)
+}
+
+/// The object as the rows have it. One range of rows has its shards, and each is looked at once.
+pub fn object_state(
+    alloc: Global,
+    rows: &RowTable,
+    coll: &CollName,
+    object: &Name,
+) -> Result<ObjectState, AllocError>
+    requires { AreRowsOfAStore rows.now.rows }
+    ensures { IfOk result (λ state. IsStateOf rows.now.rows coll.now object.now state.size state.pages state.shards.items) }
+{
+    coll_name_is_one(coll);
+    name_is_one(object);
+    let size = size_of(alloc, rows, coll, object)?;
+    let Shards { firsts, extents } = shards_of(alloc, rows, coll, object)?;
+    let pages = PageMap::from_extents(alloc, &extents)?;
+    Ok(ObjectState {
+        size,
+        pages,
+        shards: firsts,
+    })
+}

@@ -1,36 +1,35 @@
--- The steps that the device has no part in, an answer None, and the end of a submission that ended badly.
+-- The steps that the device has no part in, an answer None, and the ends of submissions by which or after which the kernel is down.
 use Rattle.std.proofs.Common.{◌≡◌, inl, inr, ℕ, ◌+◌, ◌-◌, ◌*◌, ◌^◌, ◌<◌, ◌≤◌, Bool, true, false, cond, not, List, [], ◌∷◌, ◌++◌, length, map, Option, Some, None, is_some, refl, sym, ap, subst, ◌∙◌, arith, length-append}
 use Rattle.std.specs.Option.{option_map_or}
 use Rattle.std.proofs.lemmas.Bool.{eq-eqb, ltb-true}
 use Rattle.std.proofs.lemmas.Option.{same_Some}
 use Rattle.std.proofs.lemmas.List.{length-set}
-use Rattle.std.proofs.lemmas.List.Elements.{All-nil}
-use Rattle.block_device.specs.Disk.{Disk, Flight, IsSound, Waited}
+use Rattle.block_device.specs.Disk.{Disk, Flight, IsSound, Reaped, Waited}
 use Rattle.block_device.specs.declared.device.Ticket.{Ticket}
 use Rattle.meta_log.specs.declared.slot.Super.{Super}
 use Rattle.meta_log.specs.Records.{unit_count}
+use Rattle.meta_log.specs.Pieces.{piece_count}
 use Rattle.unit_allocator.specs.Units.{Space, given, given_one, taken, taken_one}
 use Rattle.store_steps.specs.declared.context.Context.{Context}
 use Rattle.store_steps.specs.declared.flight.FlushState.TheVariants as flush
 use Rattle.store_steps.specs.declared.flight.Flying.{Flying}
-use Rattle.store_steps.specs.declared.step.Step.TheVariants.{Reap, Commit, Finish}
+use Rattle.store_steps.specs.declared.step.Step.TheVariants.{Commit, Finish}
 use Rattle.store_steps.specs.State.{Batch, State}
 use Rattle.store_steps.specs.Contexts.{chosen, without_context, batch_released}
-use Rattle.store_steps.specs.Changes.{down_by, taken_up, commit_of, committed_batch, log_after, finished, acknowledged}
+use Rattle.store_steps.specs.Changes.{down_by, landed, after_good, flying_of, taken_up, commit_of, committed_batch, log_after, finished, acknowledged}
 use Rattle.store_steps.specs.Ready.{applied_count, is_ready_up, is_empty}
 use Rattle.store_steps.specs.Steps.{Takes, DoesTake, DoesCommit, DoesFinish}
 use Rattle.store_facts.specs.Flights.{AreFlights}
-use Rattle.store_facts.specs.Room.{FitsRecord, HasRoomFor}
-use Rattle.store_facts.specs.Space.{uncommitted, IsSpaceOf}
+use Rattle.store_facts.specs.Space.{IsSpaceOf}
 use Rattle.store_facts.specs.Work.{sum_work, batch_work, work_left}
 use Rattle.store_facts.specs.Kept.{IsAlwaysKept}
-use Rattle.store_facts.proofs.Stages.{Stage, idle, waits, opens, synced, AreWritten, at, IsFar, far_at}
-use Rattle.store_facts.proofs.Pieces.{one_unit, fits_alone}
-use Rattle.store_facts.proofs.Readiness.{next_taken, chosen_is, next_commit}
-use Rattle.store_facts.proofs.Flying.{landed_flight, reaped_bad}
+use Rattle.store_facts.proofs.Stages.{Stage, idle, waits, opens, synced, AreWritten, at, far_at}
+use Rattle.store_facts.proofs.Pieces.{units_needed}
+use Rattle.store_facts.proofs.Readiness.{next_taken, next_commit}
+use Rattle.store_facts.proofs.Flying.{others_of, Landed, landed_flight}
 use Rattle.store_facts.proofs.Working.{stage_work, unacked, work_at}
 use Rattle.store_facts.proofs.Numbers.{acks_push, acks_more, acknowledged_length}
-use Rattle.store_facts.proofs.Stepping.{Stepped, AtStage, by_stages}
+use Rattle.store_facts.proofs.Stepping.{IsStanding, Stepped, IsAt, AtStage, by_stages}
 
 -- ---- Take
 
@@ -45,20 +44,20 @@ no_other x = ap (λ (b : Bool). cond (not b) (x ∷ []) []) (eq-eqb x.place x.pl
 abbrev Takes_up : State → State → Type 0
 Takes_up s' t = (c : Context) × ((chosen t.pending ≡ Some c) × (s' ≡ taken_up c t))
 
-take_waits : (s : State) (d : Disk) (s' : State) (x : Context)
-    → AtStage (Takes_up s') s d s' d (waits x)
-take_waits s d s' x h a room what =
-    let t : State = at s (waits x) in
+take_waits : (s : State) (d : Disk) (s' : State) (x : Context) → AreWritten x → IsAt s d (waits x []) → s' ≡ taken_up x (at s (waits x []))
+    → Stepped (at s (waits x [])) s' d
+take_waits s d s' x h' was is =
+    let t : State = at s (waits x []) in
     let u : State = at (with_commit x s) (opens x false) in
-    let found = chosen_is x what.0 what.1.0 in
-    let after : s' ≡ u =
-    what.1.1 ∙ ap (λ (c : Context). taken_up c t) (sym found.0)
-    ∙ ap (λ (xs : List Context). let v : State = taken_up x t in record v { pending = xs }) (no_other x) in
+    let a : IsAlwaysKept t d = was.always in
+    let after : s' ≡ u = is ∙ ap (λ (xs : List Context). let v : State = taken_up x t in record v { pending = xs }) (no_other x) in
     let more : length (s.book.commits ++ commit_of x ∷ []) ≡ length s.book.commits + 1 = length-append s.book.commits (commit_of x ∷ []) in
-    let h' : AreWritten x = record { few = h.0; given = sym h.2 ∙ found.1; done = found.1 } in
-    let was : work_left t ≡ stage_work (waits x) + unacked s (waits x) = work_at s (waits x) h room.fits in
-    let is : work_left u ≡ 9 + unacked (with_commit x s) (opens x false) = work_at (with_commit x s) (opens x false) h' room.fits in
-    let falls : work_left u < work_left t = less (work_left u) (work_left t) (2 * (length x.fresh - x.given)) (length s.book.commits) _ s.acked was is more in
+    let was_left : work_left t ≡ stage_work (waits x []) + unacked s (waits x []) = work_at s (waits x []) was.holds was.room.fits in
+    let is_left : work_left u ≡ stage_work (opens x false) + unacked (with_commit x s) (opens x false) =
+    work_at (with_commit x s) (opens x false) h' was.room.fits in
+    let falls : work_left u < work_left t =
+    less (work_left u) (work_left t) (2 * (length x.fresh - x.given)) (2 * piece_count x.need)
+    (length s.book.commits) _ s.acked was_left is_left more in
     subst (λ (z : State). Stepped t z d) (sym after) (record {
       always = record {
         device = a.device;
@@ -66,7 +65,6 @@ take_waits s d s' x h a room what =
         units = a.units;
         space = a.space;
         flights = a.flights;
-        few = omega arith;
         numbers = record {
           number = omega (arith, more, a.numbers.number);
           commits = omega (arith, more, a.numbers.commits);
@@ -76,30 +74,33 @@ take_waits s d s' x h a room what =
           acks = acks_push s.book.commits (commit_of x) s.acked a.book.acks (omega (arith, a.book.within)) refl;
           within = omega (arith, more, a.book.within);
         };
-        events = few (work_left u) (work_left t) s.events (2 ^ 61 + 64 * length s.book.entries) falls a.events;
+        events = few (work_left u) (work_left t) s.events (2 ^ 61 + 4096 * length s.book.entries) falls a.events;
       };
       up = refl;
-      far = far_at (opens x false) h';
-      room = record { fits = room.fits; reserved = room.reserved; room = room.room };
+      far = far_at s.log.number (opens x false) h';
+      unflown = record { unsent = tt; rest = tt };
+      room = record { fits = was.room.fits; reserved = was.room.reserved; room = was.room.room };
       falls = falls;
     })
   where
-    less : (w w' front commits more acked : ℕ) → w' ≡ front + 10 + ((commits - 0) - acked) → w ≡ 9 + ((more - 1) - acked) → more ≡ commits + 1 → w < w'
-    less w w' front commits more acked was is m = omega arith
+    less : (w w' front pieces commits more acked : ℕ) → w' ≡ (0 + front + 8 + pieces) + ((commits - 0) - acked)
+        → w ≡ (7 + pieces) + ((more - 1) - acked)
+        → more ≡ commits + 1 → w < w'
+    less w w' front pieces commits more acked was is m = omega arith
 
     few : (w w' e most : ℕ) → w < w' → e + w' ≤ most → e + w ≤ most
     few w w' e most lt le = omega arith
 
 take_at : (s : State) (d : Disk) (s' : State) (g : Stage) → AtStage (Takes_up s') s d s' d g
-take_at s d s' g h a room what =
-    let next = next_taken g what.0 h what.1.0 in
-    subst (AtStage (Takes_up s') s d s' d) (sym next.stage) (take_waits s d s' what.0) h a room what
+take_at s d s' g was what =
+    let next = next_taken s.log.number g what.0 was.holds what.1.0 in
+    subst (λ (k : Stage). IsAt s d k → s' ≡ taken_up what.0 (at s k) → Stepped (at s k) s' d) (sym next.stage)
+    (take_waits s d s' what.0 (record { given = next.given; done = next.done })) was what.1.1
 
-pub take_steps : (s : State) (d : Disk) (s' : State) (d' : Disk) → IsFar s → IsAlwaysKept s d → HasRoomFor s.log (uncommitted s) → DoesTake s d s' d'
-    → Stepped s s' d'
-take_steps s d s' d' far a room does =
+pub take_steps : (s : State) (d : Disk) (s' : State) (d' : Disk) → IsAlwaysKept s d → IsStanding s d → DoesTake s d s' d' → Stepped s s' d'
+take_steps s d s' d' a standing does =
     subst (λ (e : Disk). Stepped s s' e) (sym does.same)
-    (by_stages (Takes_up s') s d s' d (take_at s d s') far a room (does.context, (does.is_chosen, does.after)))
+    (by_stages (Takes_up s') s d s' d (take_at s d s') a standing (does.context, (does.is_chosen, does.after)))
 
 -- ---- Commit
 
@@ -107,31 +108,30 @@ pub given_space : (sup : Super) (space : Space) (units : List ℕ) → IsSpaceOf
 given_space sup space [] is = is
 given_space sup space (u ∷ us) is =
     let same : length (given_one space u).idle ≡ length space.idle = length-set space.idle (u - space.first) true in
-    given_space sup (given_one space u) us (record { first = is.first; count = omega (arith, same, is.count); not_held = is.not_held })
+    given_space sup (given_one space u) us (record { first = is.first; count = omega (arith, same, is.count) })
 
 pub taken_space : (sup : Super) (space : Space) (units : List ℕ) → IsSpaceOf sup space → IsSpaceOf sup (taken space units)
 taken_space sup space [] is = is
 taken_space sup space (u ∷ us) is =
     let same : length (taken_one space u).idle ≡ length space.idle = length-set space.idle (u - space.first) false in
-    taken_space sup (taken_one space u) us (record { first = is.first; count = omega (arith, same, is.count); not_held = is.not_held })
+    taken_space sup (taken_one space u) us (record { first = is.first; count = omega (arith, same, is.count) })
 
 -- the batch was committed
 abbrev Commits : State → State → Type 0
 Commits s' t = (b : Batch) × ((t.batch ≡ Some b) × (s' ≡ committed_batch b t))
 
-commit_synced : (s : State) (d : Disk) (s' : State) (x : Context)
-    → AtStage (Commits s') s d s' d (synced x)
-commit_synced s d s' x h a room what =
-    let t : State = at s (synced x) in
+commit_synced : (s : State) (d : Disk) (s' : State) (x : Context) (pieces : ℕ) → AtStage (Commits s') s d s' d (synced x pieces)
+commit_synced s d s' x pieces was what =
+    let t : State = at s (synced x pieces) in
+    let a : IsAlwaysKept t d = was.always in
     let b : Batch = record { contexts = x ∷ []; first = flush.Flushed; second = flush.Flushed } in
     let base : State = record s { log = log_after b t.log; space = given s.space (batch_released b) } in
     let u : State = at base idle in
     let after : s' ≡ u = what.1.1 ∙ ap (λ (c : Batch). committed_batch c t) (sym (same_Some b what.0 what.1.0)) in
-    let fits : FitsRecord x = fits_alone x room.fits in
-    let units : unit_count s.log.number (x.ops ++ []) ≡ 1 = one_unit x fits s.log.number in
-    let was : work_left t ≡ 2 + unacked s (synced x) = work_at s (synced x) h room.fits in
-    let is : work_left u ≡ 0 + unacked base idle = work_at base idle tt (All-nil FitsRecord) in
-    let falls : work_left u < work_left t = less (work_left u) (work_left t) (length s.book.commits) s.acked was is in
+    let units : unit_count s.log.number (x.ops ++ []) ≡ x.need = units_needed x was.room.fits.0 s.log.number in
+    let was_left : work_left t ≡ 2 + unacked s (synced x pieces) = work_at s (synced x pieces) was.holds was.room.fits in
+    let is_left : work_left u ≡ 0 + unacked base idle = work_at base idle tt tt in
+    let falls : work_left u < work_left t = less (work_left u) (work_left t) (length s.book.commits) s.acked was_left is_left in
     subst (λ (z : State). Stepped t z d) (sym after) (record {
       always = record {
         device = a.device;
@@ -139,21 +139,21 @@ commit_synced s d s' x h a room what =
         units = a.units;
         space = given_space s.log.sup s.space (batch_released b) a.space;
         flights = a.flights;
-        few = omega arith;
         numbers = record {
           number = omega (arith, a.numbers.number);
           commits = a.numbers.commits;
           entries = a.numbers.entries;
         };
         book = record { acks = a.book.acks; within = omega (arith, a.book.within) };
-        events = few (work_left u) (work_left t) s.events (2 ^ 61 + 64 * length s.book.entries) falls a.events;
+        events = few (work_left u) (work_left t) s.events (2 ^ 61 + 4096 * length s.book.entries) falls a.events;
       };
       up = refl;
-      far = far_at idle tt;
+      far = far_at (s.log.number + 1) idle tt;
+      unflown = record { unsent = tt; rest = tt };
       room = record {
-        fits = All-nil FitsRecord;
-        reserved = rest s.log.reserved (x.need + 0) room.reserved;
-        room = behind s.log.tail s.log.reserved s.log.sup.half x.need (unit_count s.log.number (x.ops ++ [])) room.room room.reserved fits.need units;
+        fits = tt;
+        reserved = rest s.log.reserved (x.need + 0) was.room.reserved;
+        room = behind s.log.tail s.log.reserved s.log.sup.half x.need (unit_count s.log.number (x.ops ++ [])) was.room.room was.room.reserved units;
       };
       falls = falls;
     })
@@ -167,22 +167,23 @@ commit_synced s d s' x h a room what =
     rest : (reserved needs : ℕ) → reserved ≡ needs → reserved - needs ≡ 0
     rest reserved needs is = omega arith
 
-    behind : (tail reserved half need units : ℕ) → tail + reserved ≤ half → reserved ≡ need + 0 → need ≡ 1 → units ≡ 1
+    behind : (tail reserved half need units : ℕ) → tail + reserved ≤ half → reserved ≡ need + 0 → units ≡ need
         → (tail + units) + (reserved - (need + 0)) ≤ half
-    behind tail reserved half need units le is one one_more = omega arith
+    behind tail reserved half need units le is same = omega arith
 
 commit_at : (s : State) (d : Disk) (s' : State) (g : Stage)
     → AtStage (λ t. (is_ready_up Commit d.depth t ≡ true) × ((b : Batch) × ((t.batch ≡ Some b) × (s' ≡ committed_batch b t)))) s d s' d g
-commit_at s d s' g h a room what =
+commit_at s d s' g was what =
     let next = next_commit g what.0 in
-    subst (AtStage (Commits s') s d s' d) (sym next.stage) (commit_synced s d s' next.x) h a room what.1
+    subst (AtStage (Commits s') s d s' d) (sym next.stage) (commit_synced s d s' next.x next.pieces) was what.1
 
-pub commit_steps : (s : State) (d : Disk) (s' : State) (d' : Disk) → IsFar s → IsAlwaysKept s d → HasRoomFor s.log (uncommitted s)
-    → is_ready_up Commit d.depth s ≡ true → DoesCommit s d s' d' → Stepped s s' d'
-commit_steps s d s' d' far a room ready does =
+pub commit_steps : (s : State) (d : Disk) (s' : State) (d' : Disk) → IsAlwaysKept s d → IsStanding s d → is_ready_up Commit d.depth s ≡ true
+    → DoesCommit s d s' d' → Stepped s s' d'
+commit_steps s d s' d' a standing ready does =
     subst (λ (e : Disk). Stepped s s' e) (sym does.same)
-    (by_stages (λ t. (is_ready_up Commit d.depth t ≡ true) × ((b : Batch) × ((t.batch ≡ Some b) × (s' ≡ committed_batch b t)))) s d s' d (commit_at s d s')
-    far a room (ready, (does.batch, (does.begun, does.after))))
+    (by_stages (λ t. (is_ready_up Commit d.depth t ≡ true) × ((b : Batch) × ((t.batch ≡ Some b) × (s' ≡ committed_batch b t)))) s d s' d
+    (commit_at s d s')
+    a standing (ready, (does.batch, (does.begun, does.after))))
 
 -- ---- Finish
 
@@ -191,9 +192,9 @@ fewer_left : (commits commits' batch acked front : ℕ) → commits' ≡ commits
     → front + ((commits' - batch) - (acked + 1)) < front + ((commits - batch) - acked)
 fewer_left commits commits' batch acked front same below = omega arith
 
-pub finish_steps : (s : State) (d : Disk) (s' : State) (d' : Disk) (depth : ℕ) → IsFar s → IsAlwaysKept s d → HasRoomFor s.log (uncommitted s)
-    → is_ready_up Finish depth s ≡ true → DoesFinish s d s' d' → Stepped s s' d'
-finish_steps s d s' d' depth far a room ready does =
+pub finish_steps : (s : State) (d : Disk) (s' : State) (d' : Disk) (depth : ℕ) → IsAlwaysKept s d → IsStanding s d → is_ready_up Finish depth s ≡ true
+    → DoesFinish s d s' d' → Stepped s s' d'
+finish_steps s d s' d' depth a standing ready does =
     let below : s.acked < applied_count s = ltb-true s.acked (applied_count s) ready in
     let same : length (acknowledged s.events s.book.commits) ≡ length s.book.commits = acknowledged_length s.events s.book.commits in
     let batch : ℕ = option_map_or (λ (b : Batch). length b.contexts) s.batch 0 in
@@ -207,7 +208,6 @@ finish_steps s d s' d' depth far a room ready does =
         units = a.units;
         space = a.space;
         flights = a.flights;
-        few = a.few;
         numbers = record {
           number = subst (λ (n : ℕ). s.log.number + batch ≤ 2 ^ 61 + n) (sym same) a.numbers.number;
           commits = subst (λ (n : ℕ). n + length s.pending ≤ length s.book.entries) (sym same) a.numbers.commits;
@@ -217,11 +217,12 @@ finish_steps s d s' d' depth far a room ready does =
           acks = acks_more s.events s.book.commits s.acked a.book.acks;
           within = subst (λ (n : ℕ). s.acked + 1 ≤ n - batch) (sym same) (next s.acked (length s.book.commits - batch) below);
         };
-        events = few (work_left (finished s)) (work_left s) s.events (2 ^ 61 + 64 * length s.book.entries) falls a.events;
+        events = few (work_left (finished s)) (work_left s) s.events (2 ^ 61 + 4096 * length s.book.entries) falls a.events;
       };
       up = refl;
-      far = far;
-      room = record { fits = room.fits; reserved = room.reserved; room = room.room };
+      far = standing.far;
+      unflown = record { unsent = standing.unflown.unsent; rest = standing.unflown.rest };
+      room = record { fits = standing.room.fits; reserved = standing.room.reserved; room = standing.room.room };
       falls = falls;
     }))
   where
@@ -242,7 +243,6 @@ waited_keeps s d d' sound a (inr more) = record {
   units = a.units ∙ sym (ap (λ (e : Disk). e.units) more.2);
   space = a.space;
   flights = a.flights ∙ sym (ap (λ (e : Disk). map (λ (f : Flight). f.ticket) e.flights) more.2);
-  few = a.few;
   numbers = a.numbers;
   book = a.book;
   events = a.events;
@@ -259,56 +259,59 @@ waited_more s d d' are some (inl none) = absurd (flown s.flying d.flights are so
     flown (f ∷ fs) (x ∷ xs) are some none = cc
 waited_more s d d' are some (inr more) = (more.1, ap (λ (e : Disk). e.waits) more.2)
 
--- what a bad end leaves
+-- what is left where the kernel is down
 pub record Fallen (s s' : State) (d' : Disk) : Type 0 where
   pub always : IsAlwaysKept s' d'
   pub down : is_some s'.down ≡ true
-  pub none : s'.flying ≡ []
   pub falls : work_left s' < work_left s
 
 fallen_down : (o : Option Ticket) (ticket : Ticket) → is_some (down_by o ticket) ≡ true
 fallen_down None ticket = refl
 fallen_down (Some first) ticket = refl
 
-one_flown : (flying : List Flying) → length flying ≤ 1 → not (is_empty flying) ≡ true → (f : Flying) × (flying ≡ f ∷ [])
-one_flown [] few some = absurd (cc)
-one_flown (f ∷ []) few some = (f, refl)
-one_flown (f ∷ g ∷ fs) few some = absurd (omega arith)
+-- a submission has ended, and counts for nothing
+abbrev pub fallen_with : State → Ticket → Option Ticket → State
+fallen_with s ticket down = record s { flying = others_of ticket s.flying; events = s.events + 1; down = down }
 
-bad_end : (s : State) (d : Disk) (s' : State) (d' : Disk) (f : Flying) → IsSound d'
-    → (let t : State = record s { flying = f ∷ [] } in IsAlwaysKept t d → Takes t d false s' d' → Fallen t s' d')
-bad_end s d s' d' f sound a ended =
-    let t : State = record s { flying = f ∷ [] } in
-    let u : State = record s { flying = []; events = s.events + 1; down = down_by s.down ended.ticket } in
-    let landed = landed_flight d d' ended.ticket false f a.flights ended.ended in
-    let falls : work_left u < work_left t = less (sum_work s.pending) (option_map_or (batch_work s.log) s.batch 0) (applied_count s - s.acked) in
-    subst (λ (z : State). Fallen t z d') (sym (ended.after ∙ reaped_bad s f ended.ticket landed.same)) (record {
+falls_with : (s : State) (d d' : Disk) (ticket : Ticket) (ok : Bool) (down : Option Ticket) → IsSound d' → IsAlwaysKept s d
+    → Reaped d ticket.place ok d' → is_some down ≡ true → Fallen s (fallen_with s ticket down) d'
+falls_with s d d' ticket ok down sound a ended some =
+    let u : State = fallen_with s ticket down in
+    let land : Landed s.flying ticket d d' = landed_flight d d' ticket ok s.flying a.flights ended in
+    let falls : work_left u < work_left s =
+    less (length (others_of ticket s.flying)) (length s.flying) (sum_work s.pending) (option_map_or (batch_work s.log) s.batch 0)
+    (applied_count s - s.acked) land.fewer in
+    record {
       always = record {
         device = sound;
         limits = a.limits;
-        units = a.units ∙ sym landed.units;
+        units = a.units ∙ sym land.units;
         space = a.space;
-        flights = sym (ap (map (λ (x : Flight). x.ticket)) landed.none);
-        few = omega arith;
+        flights = land.flights;
         numbers = record { number = a.numbers.number; commits = a.numbers.commits; entries = a.numbers.entries };
         book = record { acks = a.book.acks; within = a.book.within };
-        events = few (work_left u) (work_left t) s.events (2 ^ 61 + 64 * length s.book.entries) falls a.events;
+        events = few (work_left u) (work_left s) s.events (2 ^ 61 + 4096 * length s.book.entries) falls a.events;
       };
-      down = fallen_down s.down ended.ticket;
-      none = refl;
+      down = some;
       falls = falls;
-    })
+    }
   where
-    less : (a b c : ℕ) → 0 + a + b + c < 1 + a + b + c
-    less a b c = omega arith
+    less : (rest all a b c : ℕ) → rest + 1 ≡ all → rest + a + b + c < all + a + b + c
+    less rest all a b c is = omega (arith, is)
 
     few : (w w' e most : ℕ) → w < w' → e + w' ≤ most → (e + 1) + w ≤ most
     few w w' e most lt le = omega arith
 
-pub bad_steps : (s : State) (d : Disk) (s' : State) (d' : Disk) (depth : ℕ) → IsSound d' → IsAlwaysKept s d → is_ready_up Reap depth s ≡ true
-    → Takes s d false s' d' → Fallen s s' d'
-bad_steps s d s' d' depth sound a ready ended =
-    let one = one_flown s.flying a.few ready in
-    subst
-    (λ (fs : List Flying). let t : State = record s { flying = fs } in IsAlwaysKept t d → Takes t d false s' d' → Fallen t s' d')
-    (sym one.1) (bad_end s d s' d' one.0 sound) a ended
+-- one ended badly
+pub bad_steps : (s : State) (d : Disk) (s' : State) (d' : Disk) → IsSound d' → IsAlwaysKept s d → Takes s d false s' d' → Fallen s s' d'
+bad_steps s d s' d' sound a ended =
+    subst (λ (z : State). Fallen s z d') (sym ended.after)
+    (falls_with s d d' ended.ticket false (down_by s.down ended.ticket) sound a ended.ended (fallen_down s.down ended.ticket))
+
+-- one ended well, while the kernel is down
+pub late_steps : (s : State) (d : Disk) (s' : State) (d' : Disk) → IsSound d' → IsAlwaysKept s d → is_some s.down ≡ true → Takes s d true s' d'
+    → Fallen s s' d'
+late_steps s d s' d' sound a some ended =
+    let after : s' ≡ fallen_with s ended.ticket s.down =
+    ended.after ∙ ap (λ (b : Bool). cond b (landed ended.ticket s) (after_good (flying_of ended.ticket s.flying) (landed ended.ticket s))) some in
+    subst (λ (z : State). Fallen s z d') (sym after) (falls_with s d d' ended.ticket true s.down sound a ended.ended some)

@@ -1,29 +1,19 @@
 -- What is in flight is what the device has in flight, as submissions come and go.
-use Rattle.std.proofs.Common.{◌≡◌, ℕ, ◌+◌, ◌≤◌, is_some, Bool, true, false, cond, not, ◌==◌, List, [], ◌∷◌, ◌++◌, length, map, Some, None, refl, sym, ap, subst, ◌∙◌, arith}
-use Rattle.std.proofs.lemmas.Bool.{eqb-true, eq-eqb}
-use Rattle.block_device.specs.Disk.{Disk, Flight, flight_of, find_flight, Submitted, Reaped}
+use Rattle.std.proofs.Common.{◌≡◌, ℕ, ◌+◌, ◌≤◌, is_some, Bool, true, false, cond, not, ◌==◌, List, [], ◌∷◌, ◌++◌, length, map, filter, Option, Some, None, refl, sym, ap, subst, ◌∙◌, arith}
+use Rattle.std.specs.List.{AllByRecursion}
+use Rattle.std.proofs.lemmas.List.{map-append, length-map}
+use Rattle.std.proofs.lemmas.Option.{same_Some}
+use Rattle.block_device.specs.Disk.{Disk, Flight, flight_of, without, Submitted, Reaped}
 use Rattle.block_device.specs.declared.device.Ticket.{Ticket}
 use Rattle.block_device.specs.declared.event.Event.{Event}
 use Rattle.block_device.specs.declared.event.Event.TheVariants as event
 use Rattle.store_steps.specs.declared.flight.Flying.{Flying}
 use Rattle.store_steps.specs.declared.flight.Job.{Job}
 use Rattle.store_steps.specs.State.{State}
-use Rattle.store_steps.specs.Changes.{reaped, after_done, after_good, down_by}
-use Rattle.store_facts.specs.Flights.{AreFlights}
-use Rattle.store_facts.proofs.Stages.{Stage, idle, waits, writes, opens, flushes, flushed, records, recorded, syncs, synced, flying_at, one_flight}
+use Rattle.store_steps.specs.Changes.{flying_of, landed, reaped, after_done, after_good}
+use Rattle.store_facts.specs.Flights.{AreFlights, units_of, flying_units}
 
--- at most one submission is in flight at each stage
-pub few_fly : (g : Stage) → length (flying_at g) ≤ 1
-few_fly idle = omega arith
-few_fly (waits x) = omega arith
-few_fly (writes x ticket) = omega arith
-few_fly (opens x made) = omega arith
-few_fly (flushes x made ticket) = omega arith
-few_fly (flushed x made) = omega arith
-few_fly (records x ticket) = omega arith
-few_fly (recorded x) = omega arith
-few_fly (syncs x ticket) = omega arith
-few_fly (synced x) = omega arith
+-- ---- nothing flies
 
 -- where nothing flies the device has nothing in flight
 pub idle_flights : (flights : List Flight) → AreFlights [] flights → flights ≡ []
@@ -33,66 +23,177 @@ idle_flights (f ∷ fs) are = absurd (cc)
 pub idle_device : (flying : List Flying) (flights : List Flight) → AreFlights flying flights → flying ≡ [] → flights ≡ []
 idle_device flying flights are none = idle_flights flights (subst (λ (fs : List Flying). AreFlights fs flights) none are)
 
+-- ---- a submission
+
 flight_ticket : (ticket : ℕ) (e : Event) → (flight_of ticket e).ticket ≡ ticket
 flight_ticket ticket (event.Write at bytes) = refl
 flight_ticket ticket event.Flush = refl
 flight_ticket ticket (event.Done t ok) = refl
 
--- one submission where nothing flew
-pub sent_flight : (d d' : Disk) (ticket : Ticket) (job : Job) (e : Event) → AreFlights [] d.flights → Submitted d ticket.place e d'
-    → AreFlights (one_flight ticket job) d'.flights
-sent_flight d d' ticket job e none sent =
-    let before : d.flights ≡ [] = idle_flights d.flights none in
-    let now : d'.flights ≡ flight_of ticket.place e ∷ [] =
-    ap (λ (x : Disk). x.flights) sent.after ∙ ap (λ (fs : List Flight). fs ++ flight_of ticket.place e ∷ []) before in
-    ap (λ (n : ℕ). n ∷ []) (sym (flight_ticket ticket.place e)) ∙ ap (map (λ (f : Flight). f.ticket)) (sym now)
+pub sent_flights : (d d' : Disk) (ticket : ℕ) (e : Event) → Submitted d ticket e d' → d'.flights ≡ d.flights ++ flight_of ticket e ∷ []
+sent_flights d d' ticket e sent = ap (λ (x : Disk). x.flights) sent.after
+
+-- one more submission is in flight
+pub sent_flight : (flying : List Flying) (d d' : Disk) (ticket : Ticket) (job : Job) (e : Event) → AreFlights flying d.flights
+    → Submitted d ticket.place e d' → AreFlights (flying ++ record { ticket = ticket; job = job } ∷ []) d'.flights
+sent_flight flying d d' ticket job e are sent =
+    map-append (λ (f : Flying). f.ticket.place) flying (record { ticket = ticket; job = job } ∷ [])
+    ∙ ap (λ (ns : List ℕ). ns ++ ticket.place ∷ []) are
+    ∙ ap (λ (n : ℕ). map (λ (f : Flight). f.ticket) d.flights ++ n ∷ []) (sym (flight_ticket ticket.place e))
+    ∙ sym (map-append (λ (f : Flight). f.ticket) d.flights (flight_of ticket.place e ∷ []))
+    ∙ ap (map (λ (f : Flight). f.ticket)) (sym (sent_flights d d' ticket.place e sent))
 
 pub sent_units : (d d' : Disk) (ticket : ℕ) (e : Event) → Submitted d ticket e d' → d'.units ≡ d.units
 sent_units d d' ticket e sent = ap (λ (x : Disk). x.units) sent.after
 
--- the end of the one submission in flight
-pub record Landed (f : Flying) (ticket : Ticket) (d d' : Disk) : Type 0 where
-  pub same : (f.ticket.place == ticket.place) ≡ true
-  pub none : d'.flights ≡ []
+-- ---- the end of a submission: it is one of those in flight, and the others are left
+
+-- those but for a ticket
+abbrev pub others_of : Ticket → List Flying → List Flying
+others_of ticket flying = filter (λ f. not (f.ticket.place == ticket.place)) flying
+
+module _ (ticket : Ticket) where
+  abbrev is_its : Flying → Bool
+  is_its f = f.ticket.place == ticket.place
+
+  few_others : (fs : List Flying) → length (others_of ticket fs) ≤ length fs
+  few_others [] = omega arith
+  few_others (f ∷ fs) = of_test (is_its f) (few_others fs)
+    where
+      of_test : (b : Bool) → length (others_of ticket fs) ≤ length fs
+          → length (cond (not b) (f ∷ others_of ticket fs) (others_of ticket fs)) ≤ length (f ∷ fs)
+      of_test true rest = omega (arith, rest)
+      of_test false rest = omega (arith, rest)
+
+  -- so many are left that none was its own
+  none_out : (fs : List Flying) → length (others_of ticket fs) ≡ length fs → others_of ticket fs ≡ fs
+  none_out [] same = refl
+  none_out (f ∷ fs) same = of_test (is_its f) (few_others fs) (λ e. none_out fs e) same
+    where
+      of_test : (b : Bool) → length (others_of ticket fs) ≤ length fs → (length (others_of ticket fs) ≡ length fs → others_of ticket fs ≡ fs)
+          → length (cond (not b) (f ∷ others_of ticket fs) (others_of ticket fs)) ≡ length (f ∷ fs)
+          → cond (not b) (f ∷ others_of ticket fs) (others_of ticket fs) ≡ f ∷ fs
+      of_test true few rest e = absurd (omega (arith, few, e))
+      of_test false few rest e = ap (λ (gs : List Flying). f ∷ gs) (rest (omega (arith, e)))
+
+  -- one was, and its units are no longer in flight
+  pub record OneOut (fs : List Flying) : Type 0 where
+    pub flight : Flying
+    pub found : flying_of ticket fs ≡ Some flight
+    pub left : flying_units (others_of ticket fs) + units_of flight.job ≡ flying_units fs
+
+  one_out : (fs : List Flying) → length (others_of ticket fs) + 1 ≡ length fs → OneOut fs
+  one_out [] fewer = absurd (omega (arith, fewer))
+  one_out (f ∷ fs) fewer = of_test (is_its f) refl (λ e. one_out fs e) fewer
+    where
+      turned : (a b : ℕ) → a + b ≡ b + a
+      turned a b = omega arith
+
+      behind : (a b c d : ℕ) → b + c ≡ d → (a + b) + c ≡ a + d
+      behind a b c d is = omega (arith, is)
+
+      of_test : (b : Bool) → is_its f ≡ b → (length (others_of ticket fs) + 1 ≡ length fs → OneOut fs)
+          → length (cond (not b) (f ∷ others_of ticket fs) (others_of ticket fs)) + 1 ≡ length (f ∷ fs) → OneOut (f ∷ fs)
+      of_test true its rest e =
+          let same : others_of ticket fs ≡ fs = none_out fs (omega (arith, e)) in
+          record {
+            flight = f;
+            found = ap (λ (b : Bool). cond b (Some f) (flying_of ticket fs)) its;
+            left = ap (λ (b : Bool). flying_units (cond (not b) (f ∷ others_of ticket fs) (others_of ticket fs)) + units_of f.job) its
+                ∙ ap (λ (gs : List Flying). flying_units gs + units_of f.job) same ∙ turned (flying_units fs) (units_of f.job);
+          }
+      of_test false its rest e =
+          let out : OneOut fs = rest (omega (arith, e)) in
+          record {
+            flight = out.flight;
+            found = ap (λ (b : Bool). cond b (Some f) (flying_of ticket fs)) its ∙ out.found;
+            left = ap (λ (b : Bool). flying_units (cond (not b) (f ∷ others_of ticket fs) (others_of ticket fs)) + units_of (out.flight).job) its
+                ∙ behind (units_of f.job) (flying_units (others_of ticket fs)) (units_of (out.flight).job) (flying_units fs) out.left;
+          }
+
+  -- what holds of all that flies holds of it, and of the others
+  pub found_holds : (P : Flying → Type 0) (fs : List Flying) (f : Flying) → AllByRecursion P fs → flying_of ticket fs ≡ Some f → P f
+  found_holds P [] f all is = absurd (cc)
+  found_holds P (g ∷ fs) f all is = of_test (is_its g) (λ e. found_holds P fs f all.1 e) is
+    where
+      of_test : (b : Bool) → (flying_of ticket fs ≡ Some f → P f) → cond b (Some g) (flying_of ticket fs) ≡ Some f → P f
+      of_test true rest e = subst P (same_Some g f e) all.0
+      of_test false rest e = rest e
+
+  pub others_hold : (P : Flying → Type 0) (fs : List Flying) → AllByRecursion P fs → AllByRecursion P (others_of ticket fs)
+  others_hold P [] all = tt
+  others_hold P (g ∷ fs) all = of_test (is_its g) (others_hold P fs all.1)
+    where
+      of_test : (b : Bool) → AllByRecursion P (others_of ticket fs) → AllByRecursion P (cond (not b) (g ∷ others_of ticket fs) (others_of ticket fs))
+      of_test true rest = rest
+      of_test false rest = (all.0, rest)
+
+  abbrev other_numbers : List ℕ → List ℕ
+  other_numbers ns = filter (λ n. not (n == ticket.place)) ns
+
+  flying_numbers : (fs : List Flying) → map (λ (f : Flying). f.ticket.place) (others_of ticket fs)
+      ≡ other_numbers (map (λ (f : Flying). f.ticket.place) fs)
+  flying_numbers [] = refl
+  flying_numbers (f ∷ fs) = of_test (is_its f) (flying_numbers fs)
+    where
+      of_test : (b : Bool) → map (λ (g : Flying). g.ticket.place) (others_of ticket fs) ≡ other_numbers (map (λ (g : Flying). g.ticket.place) fs)
+          → map (λ (g : Flying). g.ticket.place) (cond (not b) (f ∷ others_of ticket fs) (others_of ticket fs))
+          ≡ cond (not b) (f.ticket.place ∷ other_numbers (map (λ (g : Flying). g.ticket.place) fs))
+          (other_numbers (map (λ (g : Flying). g.ticket.place) fs))
+      of_test true rest = rest
+      of_test false rest = ap (λ (ns : List ℕ). f.ticket.place ∷ ns) rest
+
+  flight_numbers : (fs : List Flight) → map (λ (f : Flight). f.ticket) (without ticket.place fs) ≡ other_numbers (map (λ (f : Flight). f.ticket) fs)
+  flight_numbers [] = refl
+  flight_numbers (f ∷ fs) = of_test (f.ticket == ticket.place) (flight_numbers fs)
+    where
+      of_test : (b : Bool) → map (λ (g : Flight). g.ticket) (without ticket.place fs) ≡ other_numbers (map (λ (g : Flight). g.ticket) fs)
+          → map (λ (g : Flight). g.ticket) (cond (not b) (f ∷ without ticket.place fs) (without ticket.place fs))
+          ≡ cond (not b) (f.ticket ∷ other_numbers (map (λ (g : Flight). g.ticket) fs)) (other_numbers (map (λ (g : Flight). g.ticket) fs))
+      of_test true rest = rest
+      of_test false rest = ap (λ (ns : List ℕ). f.ticket ∷ ns) rest
+
+  pub left_flights : (flying : List Flying) (flights : List Flight) → AreFlights flying flights
+      → AreFlights (others_of ticket flying) (without ticket.place flights)
+  left_flights flying flights are = flying_numbers flying ∙ ap other_numbers are ∙ sym (flight_numbers flights)
+
+-- as many fly as the device has in flight
+pub same_count : (flying : List Flying) (flights : List Flight) → AreFlights flying flights → length flying ≡ length flights
+same_count flying flights are =
+    sym (length-map flying (λ (f : Flying). f.ticket.place)) ∙ ap (λ (ns : List ℕ). length ns) are ∙ length-map flights (λ (f : Flight). f.ticket)
+
+-- A submission has ended: which it was, and what is left in flight.
+pub record Landed (flying : List Flying) (ticket : Ticket) (d d' : Disk) : Type 0 where
+  pub flight : Flying
+  pub found : flying_of ticket flying ≡ Some flight
+  pub fewer : length (others_of ticket flying) + 1 ≡ length flying
+  pub left : flying_units (others_of ticket flying) + units_of flight.job ≡ flying_units flying
+  pub flights : AreFlights (others_of ticket flying) d'.flights
+  pub are_left : d'.flights ≡ without ticket.place d.flights
   pub units : d'.units ≡ d.units
 
-no_items : {A : Type 0} (xs : List A) → length xs ≡ 0 → xs ≡ []
-no_items [] is = refl
-no_items (x ∷ xs) is = absurd (omega arith)
-
-found_one : (ticket : ℕ) (f : Flying) (flights : List Flight) → AreFlights (f ∷ []) flights → is_some (find_flight ticket flights) ≡ true
-    → (length flights ≡ 1) × (f.ticket.place ≡ ticket)
-found_one ticket f [] are found = absurd (cc)
-found_one ticket f (x ∷ y ∷ ys) are found = absurd (cc)
-found_one ticket f (x ∷ []) are found = (refl, of_test (x.ticket == ticket) refl found)
-  where
-    is_its : f.ticket.place ≡ x.ticket
-    is_its = cc
-
-    of_test : (b : Bool) → (x.ticket == ticket) ≡ b → is_some (cond b (Some x) None) ≡ true → f.ticket.place ≡ ticket
-    of_test true e c = is_its ∙ eqb-true x.ticket ticket e
-    of_test false e c = absurd (cc)
-
-pub landed_flight : (d d' : Disk) (ticket : Ticket) (ok : Bool) (f : Flying) → AreFlights (f ∷ []) d.flights → Reaped d ticket.place ok d'
-    → Landed f ticket d d'
-landed_flight d d' ticket ok f are ended =
-    let one = found_one ticket.place f d.flights are ended.was_open in
-    let count : length d.flights ≡ 1 = one.0 in
-    let fewer : length d'.flights + 1 ≡ length d.flights = ended.fewer in
+pub landed_flight : (d d' : Disk) (ticket : Ticket) (ok : Bool) (flying : List Flying) → AreFlights flying d.flights → Reaped d ticket.place ok d'
+    → Landed flying ticket d d'
+landed_flight d d' ticket ok flying are ended =
+    let are_left : d'.flights ≡ without ticket.place d.flights = ap (λ (x : Disk). x.flights) ended.after in
+    let left : AreFlights (others_of ticket flying) d'.flights =
+    left_flights ticket flying d.flights are ∙ ap (map (λ (f : Flight). f.ticket)) (sym are_left) in
+    let fewer : length (others_of ticket flying) + 1 ≡ length flying =
+    ap (λ (n : ℕ). n + 1) (same_count (others_of ticket flying) d'.flights left) ∙ ended.fewer ∙ sym (same_count flying d.flights are) in
+    let out : OneOut ticket flying = one_out ticket flying fewer in
     record {
-      same = eq-eqb f.ticket.place ticket.place one.1;
-      none = no_items d'.flights (omega arith);
+      flight = out.flight;
+      found = out.found;
+      fewer = fewer;
+      left = out.left;
+      flights = left;
+      are_left = are_left;
       units = ap (λ (x : Disk). x.units) ended.after;
     }
 
--- what the good end of the one submission in flight makes of the state, and what its bad end makes of it
-pub reaped_good : (s : State) (f : Flying) (ticket : Ticket) → (f.ticket.place == ticket.place) ≡ true
-    → (let t : State = record s { flying = f ∷ [] } in reaped ticket true t)
-    ≡ (let t : State = record s { flying = []; events = s.events + 1 } in after_done f.job t)
-reaped_good s f ticket same =
-    ap (λ (b : Bool). let t : State = record s { flying = cond (not b) (f ∷ []) []; events = s.events + 1 } in
-    after_good (cond b (Some f) None) t) same
-
-pub reaped_bad : (s : State) (f : Flying) (ticket : Ticket) → (f.ticket.place == ticket.place) ≡ true
-    → (let t : State = record s { flying = f ∷ [] } in reaped ticket false t) ≡ record s { flying = []; events = s.events + 1; down = down_by s.down ticket }
-reaped_bad s f ticket same = ap (λ (b : Bool). record s { flying = cond (not b) (f ∷ []) []; events = s.events + 1; down = down_by s.down ticket }) same
+-- what a good end makes of the state of a kernel that isn't down
+pub reaped_good : (s : State) (ticket : Ticket) (f : Flying) → s.down ≡ None → flying_of ticket s.flying ≡ Some f
+    → reaped ticket true s ≡ (let t : State = record s { flying = others_of ticket s.flying; events = s.events + 1 } in after_done f.job t)
+reaped_good s ticket f up found =
+    ap (λ (o : Option Ticket). cond (is_some o) (landed ticket s) (after_good (flying_of ticket s.flying) (landed ticket s))) up
+    ∙ ap (λ (o : Option Flying). after_good o (landed ticket s)) found

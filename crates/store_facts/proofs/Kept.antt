@@ -16,13 +16,13 @@ use Rattle.store_steps.specs.Runs.{DoesOrFails, MaySubmit}
 use Rattle.store_facts.specs.Space.{uncommitted}
 use Rattle.store_facts.specs.Work.{measure}
 use Rattle.store_facts.specs.Kept.{IsKept, IsKeptUp, IsOpenable}
-use Rattle.store_facts.proofs.Conditions.{ready_not_down, IsIdle, drained_is_idle}
+use Rattle.store_facts.proofs.Conditions.{IsIdle, drained_is_idle}
 use Rattle.store_facts.proofs.Submitting.{accepts_keeps, refuses_keeps, opened_keeps}
-use Rattle.store_facts.proofs.Keeping.{Leaves, step_leaves, stepped_kept, admitted_kept, opened_kept, fallen_kept, waited_kept, work_falls}
+use Rattle.store_facts.proofs.Keeping.{Leaves, has_stepped, has_waited, has_fallen, standing_of, step_leaves, stepped_kept, admitted_kept, opened_kept, fallen_kept, waited_kept, work_falls}
 use Rattle.store_facts.proofs.RowsKept.{AreRowsKept, rows_of_kept, HaveSameRows, rows_stay, like_itself}
 use Rattle.store_facts.proofs.RowsSteps.{data_same, reap_same, flush_same, sync_same, seal_same, record_same, finish_same, take_same}
 use Rattle.store_facts.proofs.RowsCommitted.{commit_rows}
-use Rattle.store_facts.proofs.RowsAccepted.{accepted_rows}
+use Rattle.store_facts.proofs.RowsAccepted.{accepted_rows, accepted_record, accepted_few}
 use Rattle.store_facts.proofs.RowsOpened.{opened_rows}
 
 -- ---- steps
@@ -33,11 +33,13 @@ stays_down None ticket e = cc
 stays_down (Some first) ticket e = cc
 
 -- the rows and the free units after a step that has stepped; one that ended badly has fallen, and the rows don't matter
-stepped_rows : (step : Step) (s : State) (d : Disk) (s' : State) (d' : Disk) → AreRowsKept s → IsKeptUp s → s'.down ≡ None → DoesOrFails step s d s' d'
+stepped_rows : (step : Step) (s : State) (d : Disk) (s' : State) (d' : Disk) → AreRowsKept s → IsKeptUp s d → s'.down ≡ None
+    → DoesOrFails step s d s' d'
     → AreRowsKept s'
 stepped_rows Data s d s' d' rows up standing does = rows_stay s s' (data_same s d s' d' does) rows
 stepped_rows Reap s d s' d' rows up standing (inl does) = rows_stay s s' (reap_same s d s' d' does) rows
-stepped_rows Reap s d s' d' rows up standing (inr ended) = absurd (stays_down s.down ended.ticket (sym (ap (λ (t : State). t.down) ended.after) ∙ standing))
+stepped_rows Reap s d s' d' rows up standing (inr ended) =
+    absurd (stays_down s.down ended.ticket (sym (ap (λ (t : State). t.down) ended.after) ∙ standing))
 stepped_rows Take s d s' d' rows up standing does = rows_stay s s' (take_same s d s' d' up.far does) rows
 stepped_rows Flush s d s' d' rows up standing does = rows_stay s s' (flush_same s d s' d' does) rows
 stepped_rows Seal s d s' d' rows up standing does = rows_stay s s' (seal_same s d s' d' does) rows
@@ -50,39 +52,40 @@ pub kept_step : (step : Step) (s s' : State) (d d' : Disk) → IsKept s d → is
     → IsKept s' d'
 kept_step step s s' d d' kept ready does sound = of_leaves (step_leaves step s d s' d' kept ready sound does)
   where
-    standing : s.down ≡ None
-    standing = ready_not_down s d step kept ready
-
     of_leaves : Leaves s d s' d' → IsKept s' d'
-    of_leaves (inl stepped) = stepped_kept s s' d' standing stepped
-        (stepped_rows step s d s' d' (rows_of_kept s d kept standing) (kept.up standing) (stepped.up ∙ standing) does)
-    of_leaves (inr (inl none)) = subst (λ (t : State). IsKept t d') (sym none.1) (waited_kept s d d' sound kept none.0)
-    of_leaves (inr (inr fallen)) = fallen_kept s s' d' fallen
+    of_leaves (has_stepped up stepped) = stepped_kept s s' d' up stepped
+        (stepped_rows step s d s' d' (rows_of_kept s d kept up) (kept.up up) (stepped.up ∙ up) does)
+    of_leaves (has_waited none same some) = subst (λ (t : State). IsKept t d') (sym same) (waited_kept s d d' sound kept none)
+    of_leaves (has_fallen fallen) = fallen_kept s s' d' fallen
 
 -- ---- submitting
 
-pub idle_of : (s : State) (d : Disk) (change : Change) → IsKept s d → MaySubmit change s d → IsIdle s
-idle_of s d change kept may =
-    let up = kept.up may.up in drained_is_idle s d up.far kept.always up.room may.up may.drained
+-- where a transaction may be submitted to a kernel that isn't down, nothing is under way
+pub idle_of : (s : State) (d : Disk) (change : Change) → IsKept s d → s.down ≡ None → MaySubmit change s d → IsIdle s
+idle_of s d change kept up may = drained_is_idle s d (kept.up up).far kept.always up (may.drained up)
 
 pub kept_accept : (s s' : State) (d : Disk) (client line : ℕ) (change : Change) → IsKept s d → MaySubmit change s d → Accepts client line change s s'
     → IsKept s' d
 kept_accept s s' d client line change kept may does =
-    let up = kept.up may.up in
-    let idle = idle_of s d change kept may in
-    admitted_kept s s' d may.up
-    (accepts_keeps s d client line change s' up.far kept.always up.room may.up may.drained may.room may.known does)
-    (accepted_rows s client line change s' kept.always.limits (rows_of_kept s d kept may.up) idle.pending idle.batch may.known does)
+    let up : s.down ≡ None = does.can_note.up in
+    let idle : IsIdle s = idle_of s d change kept up may in
+    let rows : AreRowsKept s = rows_of_kept s d kept up in
+    admitted_kept s s' d
+    (accepts_keeps s d client line change s' kept.always (standing_of s d kept up) (may.drained up) does
+    (accepted_record s client line change s' kept.always.limits rows may.known does)
+    (accepted_few s client line change s' kept.always.limits rows may.known does))
+    (accepted_rows s client line change s' kept.always.limits rows idle.pending idle.batch may.known does)
 
 pub kept_refuse : (s s' : State) (d : Disk) (client line : ℕ) (change : Change) (a : Answer) → IsKept s d → MaySubmit change s d
     → Refuses client line change a s s' → IsKept s' d
 kept_refuse s s' d client line change a kept may does =
-    let up = kept.up may.up in
-    admitted_kept s s' d may.up (refuses_keeps s d client line change a s' up.far kept.always up.room may.room does)
-    (rows_stay s s' same (rows_of_kept s d kept may.up))
+    let up : s.down ≡ None = does.can_note.up in
+    admitted_kept s s' d (refuses_keeps s d client line change a s' kept.always (standing_of s d kept up) does)
+    (rows_stay s s' same (rows_of_kept s d kept up))
   where
     same : HaveSameRows s s'
-    same = subst (HaveSameRows s) (sym does.after) (record { sup = refl; rows = refl; view = refl; space = refl; contexts = like_itself (uncommitted s) })
+    same = subst (HaveSameRows s) (sym does.after)
+        (record { sup = refl; rows = refl; view = refl; space = refl; contexts = like_itself (uncommitted s) })
 
 -- ---- opening
 

@@ -1,121 +1,198 @@
 -- What a kernel that keeps its facts knows at each call: the conditions of what it calls in turn.
-use Rattle.std.proofs.Common.{◌≡◌, ◌+◌, ◌^◌, ◌<◌, ◌≤◌, true, List, [], ◌∷◌, length, Option, Some, None, refl, ap, subst, arith}
-use Rattle.block_device.specs.Disk.{Disk}
-use Rattle.block_device.specs.declared.device.Ticket.{Ticket}
-use Rattle.meta_log.specs.Records.{unit_count}
+use Rattle.std.proofs.Common.{◌≡◌, ℕ, zero, suc, ◌+◌, ◌-◌, ◌*◌, ◌%◌, ◌^◌, ◌<◌, ◌≤◌, true, List, [], length, Option, Some, None, IfSome, refl, sym, subst, arith}
+use Rattle.std.specs.List.{AllByRecursion}
+use Rattle.byte_maps.proofs.UnitLemmas.{length-units_from}
+use Rattle.block_device.specs.Disk.{Disk, IsNotInFlight}
+use Rattle.block_device.specs.Facts.{IsUnflown}
+use Rattle.meta_rows.specs.Spelling.{ops_bytes, AllFit}
+use Rattle.meta_log.specs.declared.slot.Super.{Super}
+use Rattle.meta_log.specs.Slots.{IsSuper, active_unit}
+use Rattle.meta_log.specs.Records.{record_units, unit_count}
+use Rattle.meta_log.specs.Pieces.{given_from, piece_first, piece_units, LiesInRecord}
+use Rattle.meta_log.proofs.PieceLemmas.{lies}
+use Rattle.meta_log.proofs.SealLemmas.{length-record_units}
+use Rattle.store_image.specs.Owners.{IsDataUnit}
 use Rattle.store_steps.specs.declared.context.Context.{Context}
-use Rattle.store_steps.specs.declared.flight.Flying.{Flying}
-use Rattle.store_steps.specs.declared.flight.Job.{Job}
-use Rattle.store_steps.specs.declared.flight.Job.TheVariants as job
-use Rattle.store_steps.specs.declared.step.Step.{Step}
+use Rattle.store_steps.specs.declared.context.FreshUnit.{FreshUnit}
 use Rattle.store_steps.specs.declared.step.Step.TheVariants.{Data, Flush, Seal, Record, Sync, Commit, Finish}
 use Rattle.store_steps.specs.State.{Begun, Batch, State}
-use Rattle.store_steps.specs.Contexts.{Unsent, next_unsent, batch_ops}
+use Rattle.store_steps.specs.Contexts.{Unsent, unsent_units, run_bytes, next_unsent, batch_ops}
 use Rattle.store_steps.specs.Ready.{is_ready, is_drained}
+use Rattle.store_steps.specs.Steps.{piece_unit, piece_bytes}
+use Rattle.store_facts.specs.Flights.{IsUnsentUnflown, IsRestUnflown}
 use Rattle.store_facts.specs.Kept.{IsKept, IsKeptUp}
-use Rattle.store_facts.proofs.Stages.{Stage, waits, writes, records, pending_of, flying_at, one_flight, record_with, Holds, at, IsFar, by_stage}
 use Rattle.store_facts.proofs.Numbers.{NextAcked}
-use Rattle.store_facts.proofs.Conditions.{ready_not_down, ready_by_table, data_idle, flush_idle, record_idle, sync_idle, ReadyData, data_ready, ReadySeal, seal_ready, ReadyRecord, record_ready, ReadyCommit, commit_ready, finish_ready, events_fit, IsIdle, drained_is_idle, drained_device}
+use Rattle.store_facts.proofs.Pieces.{rest_unflown}
+use Rattle.store_facts.proofs.RunUnits.{row_at, all_front}
+use Rattle.store_facts.proofs.Unflown.{run_unflown}
+use Rattle.store_facts.proofs.RowsFacts.{next_on_data}
+use Rattle.store_facts.proofs.Conditions.{ready_not_down, ready_by_table, data_room, flush_room, record_room, sync_room, flush_idle, sync_idle, ReadyData, data_ready, ReadySeal, seal_ready, ReadyRecord, record_idle, record_ready, ReadyCommit, commit_ready, finish_ready, events_fit, IsIdle, drained_is_idle, drained_device}
 
 -- nothing is in flight, neither here nor at the device
 pub record NothingFlies (s : State) (d : Disk) : Type 0 where
   pub here : s.flying ≡ []
   pub device : d.flights ≡ []
 
-up_of : (s : State) (d : Disk) (step : Step) → IsKept s d → is_ready step d.depth s ≡ true → IsKeptUp s
-up_of s d step kept ready = kept.up (ready_not_down s d step kept ready)
-
 none_at : (s : State) (d : Disk) → IsKept s d → s.flying ≡ [] → NothingFlies s d
 none_at s d kept none = record { here = none; device = drained_device s d kept.always none }
 
--- ---- nothing flies where a submission is ready
-
-pub data_alone : (s : State) (d : Disk) → IsKept s d → is_ready Data d.depth s ≡ true → NothingFlies s d
-data_alone s d kept ready = none_at s d kept (data_idle s d.depth (up_of s d Data kept ready).far (ready_by_table s d Data kept ready))
+-- ---- nothing flies where a flush is ready
 
 pub flush_alone : (s : State) (d : Disk) → IsKept s d → is_ready Flush d.depth s ≡ true → NothingFlies s d
-flush_alone s d kept ready = none_at s d kept (flush_idle s d.depth (up_of s d Flush kept ready).far (ready_by_table s d Flush kept ready))
-
-pub record_alone : (s : State) (d : Disk) → IsKept s d → is_ready Record d.depth s ≡ true → NothingFlies s d
-record_alone s d kept ready =
-    let up : IsKeptUp s = up_of s d Record kept ready in
-    none_at s d kept (record_idle s d.depth up.far up.room (ready_by_table s d Record kept ready))
+flush_alone s d kept ready =
+    let down : s.down ≡ None = ready_not_down s d.depth Flush refl ready in
+    none_at s d kept (flush_idle s d.depth (kept.up down).far (ready_by_table s d.depth Flush down ready))
 
 pub sync_alone : (s : State) (d : Disk) → IsKept s d → is_ready Sync d.depth s ≡ true → NothingFlies s d
 sync_alone s d kept ready =
-    let up : IsKeptUp s = up_of s d Sync kept ready in
-    none_at s d kept (sync_idle s d.depth up.far up.room (ready_by_table s d Sync kept ready))
+    let down : s.down ≡ None = ready_not_down s d.depth Sync refl ready in
+    none_at s d kept (sync_idle s d.depth (kept.up down).far (ready_by_table s d.depth Sync down ready))
+
+-- ---- the device takes one more submission where one is ready
+
+pub known_data_room : (s : State) (d : Disk) → IsKept s d → is_ready Data d.depth s ≡ true → length d.flights < d.depth
+known_data_room s d kept ready = data_room s d kept.always (ready_by_table s d.depth Data (ready_not_down s d.depth Data refl ready) ready)
+
+pub known_flush_room : (s : State) (d : Disk) → IsKept s d → is_ready Flush d.depth s ≡ true → length d.flights < d.depth
+known_flush_room s d kept ready = flush_room s d kept.always (ready_by_table s d.depth Flush (ready_not_down s d.depth Flush refl ready) ready)
+
+pub known_record_room : (s : State) (d : Disk) → IsKept s d → is_ready Record d.depth s ≡ true → length d.flights < d.depth
+known_record_room s d kept ready = record_room s d kept.always (ready_by_table s d.depth Record (ready_not_down s d.depth Record refl ready) ready)
+
+pub known_sync_room : (s : State) (d : Disk) → IsKept s d → is_ready Sync d.depth s ≡ true → length d.flights < d.depth
+known_sync_room s d kept ready = sync_room s d kept.always (ready_by_table s d.depth Sync (ready_not_down s d.depth Sync refl ready) ready)
 
 -- ---- each step
 
 pub known_data : (s : State) (d : Disk) (n : Unsent) → IsKept s d → is_ready Data d.depth s ≡ true → next_unsent s.pending ≡ Some n → ReadyData s n
-known_data s d n kept ready is = let up : IsKeptUp s = up_of s d Data kept ready in data_ready s n up.far up.room is
+known_data s d n kept ready is =
+    let up : IsKeptUp s d = kept.up (ready_not_down s d.depth Data refl ready) in
+    data_ready s n up.far up.room is
 
 pub known_seal : (s : State) (d : Disk) (b : Batch) → IsKept s d → is_ready Seal d.depth s ≡ true → s.batch ≡ Some b → ReadySeal s b
 known_seal s d b kept ready is =
-    let up : IsKeptUp s = up_of s d Seal kept ready in
-    seal_ready s d b up.far kept.always up.room (ready_by_table s d Seal kept ready) is
+    let down : s.down ≡ None = ready_not_down s d.depth Seal refl ready in
+    seal_ready s d b (kept.up down).far kept.always (kept.up down).room (ready_by_table s d.depth Seal down ready) is
 
 pub known_record : (s : State) (d : Disk) (r : Begun) → IsKept s d → is_ready Record d.depth s ≡ true → s.log.begun ≡ Some r → ReadyRecord s r
 known_record s d r kept ready is =
-    let up : IsKeptUp s = up_of s d Record kept ready in
-    record_ready s d.depth r up.far up.room (ready_by_table s d Record kept ready) is
+    let down : s.down ≡ None = ready_not_down s d.depth Record refl ready in
+    record_ready s d.depth r (kept.up down).far (kept.up down).room (ready_by_table s d.depth Record down ready) is
 
 pub known_commit : (s : State) (d : Disk) (b : Batch) → IsKept s d → is_ready Commit d.depth s ≡ true → s.batch ≡ Some b → ReadyCommit s b
 known_commit s d b kept ready is =
-    let up : IsKeptUp s = up_of s d Commit kept ready in
-    commit_ready s d.depth b up.far up.room (ready_by_table s d Commit kept ready) is
+    let down : s.down ≡ None = ready_not_down s d.depth Commit refl ready in
+    commit_ready s d.depth b (kept.up down).far (kept.up down).room (ready_by_table s d.depth Commit down ready) is
 
 pub known_finish : (s : State) (d : Disk) → IsKept s d → is_ready Finish d.depth s ≡ true
     → (s.acked < length s.book.commits) × NextAcked s.book.commits s.acked
-known_finish s d kept ready = finish_ready s d d.depth kept.always (ready_by_table s d Finish kept ready)
+known_finish s d kept ready =
+    finish_ready s d d.depth kept.always (ready_by_table s d.depth Finish (ready_not_down s d.depth Finish refl ready) ready)
 
 pub known_events : (s : State) (d : Disk) → IsKept s d → s.events + 1 < 2 ^ 64
 known_events s d kept = events_fit s d kept.always
 
 -- a drained kernel has nothing under way, and each commit is acknowledged
 pub known_idle : (s : State) (d : Disk) → IsKept s d → s.down ≡ None → is_drained d.depth s ≡ true → IsIdle s
-known_idle s d kept down drained = let up : IsKeptUp s = kept.up down in drained_is_idle s d up.far kept.always up.room down drained
+known_idle s d kept down drained = drained_is_idle s d (kept.up down).far kept.always down drained
 
--- ---- the ends of submissions
+-- ---- the next data write
 
--- a context in no batch has at most one data write
-pub record IsShort (x : Context) : Type 0 where
-  pub fresh : length x.fresh ≤ 1
-  pub given : x.given ≤ 1
-  pub done : x.done ≤ 1
+-- no unit of it is in flight
+pub data_unflown : (s : State) (d : Disk) (n : Unsent) → IsKept s d → is_ready Data d.depth s ≡ true → next_unsent s.pending ≡ Some n
+    → (k : ℕ) → n.first.unit ≤ k → k < n.first.unit + length (unsent_units n) → IsUnflown d.flights k
+data_unflown s d n kept ready is =
+    let up : IsKeptUp s d = kept.up (ready_not_down s d.depth Data refl ready) in
+    let known : ReadyData s n = data_ready s n up.far up.room is in
+    let unsent : IsUnsentUnflown d.flights known.x =
+    (subst (λ (xs : List Context). AllByRecursion (IsUnsentUnflown d.flights) xs) known.pending up.unflown.unsent).0 in
+    row_at (IsUnflown d.flights) n.first.unit (unsent_units n) known.run.row
+    (all_front (λ (f : FreshUnit). IsUnflown d.flights f.unit) (unsent_units n) _
+    (subst (λ (fs : List FreshUnit). AllByRecursion (λ (f : FreshUnit). IsUnflown d.flights f.unit) fs) known.run.left unsent))
 
-pub short_context : (s : State) (x : Context) → IsFar s → s.pending ≡ x ∷ [] → IsShort x
-short_context s x far is = by_stage (λ t. t.pending ≡ x ∷ [] → IsShort x) s every far is
+pub next_data_unflown : (s : State) (d : Disk) (n : Unsent) → IsKept s d → is_ready Data d.depth s ≡ true → next_unsent s.pending ≡ Some n
+    → IsNotInFlight d n.first.unit (length (run_bytes (unsent_units n)))
+next_data_unflown s d n kept ready is =
+    subst (λ (size : ℕ). IsNotInFlight d n.first.unit size) (sym (known_data s d n kept ready is).size)
+    (run_unflown d.flights n.first.unit (length (unsent_units n)) (omega arith) (data_unflown s d n kept ready is))
+
+-- it lies on the device
+pub data_inside : (s : State) (d : Disk) (n : Unsent) → IsKept s d → is_ready Data d.depth s ≡ true → next_unsent s.pending ≡ Some n
+    → 4096 * n.first.unit + length (run_bytes (unsent_units n)) ≤ 4096 * d.units
+data_inside s d n kept ready is =
+    let down : s.down ≡ None = ready_not_down s d.depth Data refl ready in
+    let known : ReadyData s n = known_data s d n kept ready is in
+    let last : IsDataUnit s.log.sup (n.first.unit + length n.more) =
+    row_at (IsDataUnit s.log.sup) n.first.unit (unsent_units n) known.run.row (next_on_data s d kept down n is) (n.first.unit + length n.more)
+    (omega arith) (omega arith) in
+    inside n.first.unit (length n.more) s.log.sup.units d.units (length (run_bytes (unsent_units n))) last.1 kept.always.units known.size
   where
-    short : (y : Context) → length y.fresh ≤ 1 → y.given ≤ 1 → y.done ≤ 1 → y ∷ [] ≡ x ∷ [] → IsShort x
-    short y fresh given done same =
-        let it : y ≡ x = cc in
-        subst IsShort it (record { fresh = fresh; given = given; done = done })
+    inside : (first more all units size : ℕ) → first + more < all → all ≡ units → size ≡ 4096 * suc more → 4096 * first + size ≤ 4096 * units
+    inside first more all units size lt same is = omega (arith, lt, same, is)
 
-    every : (g : Stage) → Holds g → pending_of g ≡ x ∷ [] → IsShort x
-    every (waits y) h same = short y h.0 (omega (arith, h.0, h.1)) (omega (arith, h.0, h.1, h.2)) same
-    every (writes y ticket) h same = short y (omega (arith, h.0)) (omega (arith, h.1)) (omega (arith, h.2)) same
-    every g h same = absurd (cc)
+-- ---- the next piece of a record
 
--- the record's piece is in flight
-pub record PieceIsOut (s : State) : Type 0 where
-  pub writing : Begun
-  pub begun : s.log.begun ≡ Some writing
-  pub given : writing.given ≡ 1
-  pub written : writing.written ≡ 0
+-- where it lies in its record
+pub piece_lies : (s : State) (d : Disk) (r : Begun) → IsKept s d → is_ready Record d.depth s ≡ true → s.log.begun ≡ Some r
+    → LiesInRecord (unit_count s.log.number r.ops) r.given
+piece_lies s d r kept ready is = lies (unit_count s.log.number r.ops) r.given (known_record s d r kept ready is).more
 
--- what the first submission in flight is for
-abbrev first_job : List Flying → Option Job
-first_job [] = None
-first_job (f ∷ fs) = Some f.job
-
-pub piece_out : (s : State) (ticket : Ticket) → IsFar s → s.flying ≡ one_flight ticket job.Record → PieceIsOut s
-piece_out s ticket far is = by_stage (λ t. t.flying ≡ one_flight ticket job.Record → PieceIsOut t) s every far is
+pub piece_size : (s : State) (d : Disk) (r : Begun) → IsKept s d → is_ready Record d.depth s ≡ true → s.log.begun ≡ Some r
+    → length (piece_bytes s.log.number r) ≡ 4096 * piece_units (unit_count s.log.number r.ops) r.given
+piece_size s d r kept ready is =
+    let units : ℕ = unit_count s.log.number r.ops in
+    length-units_from (piece_first units r.given) (piece_units units r.given) (record_units s.log.number r.ops)
+    (within (piece_first units r.given) (piece_units units r.given) units (length (record_units s.log.number r.ops))
+    (piece_lies s d r kept ready is).within (length-record_units s.log.number r.ops))
   where
-    every : (g : Stage) → Holds g → flying_at g ≡ one_flight ticket job.Record → PieceIsOut (at s g)
-    every (records x t) h same = record { writing = record_with x 1 0; begun = refl; given = refl; written = refl }
-    every g h same = absurd (let it : first_job (flying_at g) ≡ Some job.Record = ap first_job same in cc)
+    within : (first count units size : ℕ) → first + count ≤ units → size ≡ 4096 * units → 4096 * first + 4096 * count ≤ size
+    within first count units size le is = omega (arith, le, is)
+
+-- no unit of what isn't given yet of the record is in flight
+pub record_unflown : (s : State) (d : Disk) (r : Begun) → IsKept s d → is_ready Record d.depth s ≡ true → s.log.begun ≡ Some r
+    → (j : ℕ) → j < given_from (unit_count s.log.number r.ops) r.given → IsUnflown d.flights (active_unit s.log.sup + (s.log.tail + j))
+record_unflown s d r kept ready is =
+    let up : IsKeptUp s d = kept.up (ready_not_down s d.depth Record refl ready) in
+    rest_unflown d.flights s.log r
+    (λ none. drained_device s d kept.always (record_idle s r (known_record s d r kept ready is) none))
+    (subst (λ (o : Option Begun). IfSome o (IsRestUnflown d.flights s.log)) is up.unflown.rest)
+
+pub next_piece_unflown : (s : State) (d : Disk) (r : Begun) → IsKept s d → is_ready Record d.depth s ≡ true → s.log.begun ≡ Some r
+    → IsNotInFlight d (piece_unit s.log r) (length (piece_bytes s.log.number r))
+next_piece_unflown s d r kept ready is =
+    let units : ℕ = unit_count s.log.number r.ops in
+    let first : ℕ = piece_first units r.given in
+    let lying : LiesInRecord units r.given = piece_lies s d r kept ready is in
+    subst (λ (size : ℕ). IsNotInFlight d (piece_unit s.log r) size) (sym (piece_size s d r kept ready is))
+    (run_unflown d.flights (piece_unit s.log r) (piece_units units r.given) lying.some
+    (λ k from to.
+    let place = in_record k (active_unit s.log.sup) s.log.tail first (piece_units units r.given) (given_from units r.given) lying.ends from to in
+    subst (λ (u : ℕ). IsUnflown d.flights u) (sym place.1.0) (record_unflown s d r kept ready is place.0 place.1.1)))
+  where
+    in_record : (k active tail first count end : ℕ) → first + count ≡ end → active + tail + first ≤ k → k < active + tail + first + count
+        → (j : ℕ) × ((k ≡ active + (tail + j)) × (j < end))
+    in_record k active tail first count end is from to = (k - (active + tail), (omega (arith, from), omega (arith, is, from, to)))
+
+-- it lies in the active half, and so on the device
+pub piece_inside : (s : State) (d : Disk) (r : Begun) → IsKept s d → is_ready Record d.depth s ≡ true → s.log.begun ≡ Some r
+    → 4096 * piece_unit s.log r + length (piece_bytes s.log.number r) ≤ 4096 * d.units
+piece_inside s d r kept ready is =
+    let units : ℕ = unit_count s.log.number r.ops in
+    inside (active_unit s.log.sup) s.log.tail (piece_first units r.given) (piece_units units r.given) units s.log.sup.half s.log.sup.units d.units
+    (length (piece_bytes s.log.number r)) (piece_lies s d r kept ready is).within (known_record s d r kept ready is).room
+    (half_inside s.log.sup kept.always.limits) kept.always.units (piece_size s d r kept ready is)
+  where
+    inside : (active tail first count units half all on size : ℕ) → first + count ≤ units → tail + units ≤ half → active + half ≤ all → all ≡ on
+        → size ≡ 4096 * count → 4096 * (active + tail + first) + size ≤ 4096 * on
+    inside active tail first count units half all on size within room below same is = omega (arith, within, room, below, same, is)
+
+    of_half : (sup : Super) (which : ℕ) → which < 2 → IsSuper sup → 2 + sup.half * which + sup.half ≤ sup.units
+    of_half sup zero lt limits = omega (arith, limits.room)
+    of_half sup (suc zero) lt limits = omega (arith, limits.room)
+    of_half sup (suc (suc n)) lt limits = absurd (omega (arith, lt))
+
+    half_inside : (sup : Super) → IsSuper sup → active_unit sup + sup.half ≤ sup.units
+    half_inside sup limits = of_half sup (sup.epoch % 2) (omega arith) limits
 
 -- ---- for the laws
 
@@ -131,12 +208,27 @@ idle_disk s d kept up drained = drained_device s d kept.always (known_idle s d k
 pub idle_acked : (s : State) (d : Disk) → IsKept s d → s.down ≡ None → is_drained d.depth s ≡ true → s.acked ≡ length s.book.commits
 idle_acked s d kept up drained = (known_idle s d kept up drained).acked
 
-pub sealed_units : (s : State) (d : Disk) (b : Batch) → IsKept s d → is_ready Seal d.depth s ≡ true → s.batch ≡ Some b
-    → unit_count s.log.number (batch_ops b) ≡ 1
-sealed_units s d b kept ready is = (known_seal s d b kept ready is).units
+pub few_units : (s : State) (d : Disk) (n : Unsent) → IsKept s d → is_ready Data d.depth s ≡ true → next_unsent s.pending ≡ Some n
+    → (0 < length (unsent_units n)) × (length (unsent_units n) ≤ 64)
+few_units s d n kept ready is = (omega arith, (known_data s d n kept ready is).run.short)
+
+pub whole_units : (s : State) (d : Disk) (n : Unsent) → IsKept s d → is_ready Data d.depth s ≡ true → next_unsent s.pending ≡ Some n
+    → length (run_bytes (unsent_units n)) ≡ 4096 * length (unsent_units n)
+whole_units s d n kept ready is = (known_data s d n kept ready is).size
+
+pub record_fits : (s : State) (d : Disk) (b : Batch) → IsKept s d → is_ready Seal d.depth s ≡ true → s.batch ≡ Some b
+    → s.log.tail + unit_count s.log.number (batch_ops b) ≤ s.log.sup.half
+record_fits s d b kept ready is = (known_seal s d b kept ready is).room
+
+pub record_spelled : (s : State) (d : Disk) (b : Batch) → IsKept s d → is_ready Seal d.depth s ≡ true → s.batch ≡ Some b
+    → AllFit (batch_ops b) × (length (ops_bytes (batch_ops b)) < 2 ^ 32)
+record_spelled s d b kept ready is = let k = known_seal s d b kept ready is in (k.fit, k.body)
+
+pub record_number : (s : State) (d : Disk) (b : Batch) → IsKept s d → is_ready Seal d.depth s ≡ true → s.batch ≡ Some b → s.log.number < 2 ^ 62
+record_number s d b kept ready is = (known_seal s d b kept ready is).number
 
 pub ruleset idle_laws = (idle_pending, idle_batch, idle_disk, idle_acked)
 
-pub ruleset alone_laws = (data_alone, flush_alone, record_alone, sync_alone)
+pub ruleset alone_laws = (flush_alone, sync_alone)
 
-pub ruleset room_laws = (known_data, known_seal, sealed_units, known_events)
+pub ruleset room_laws = (few_units, whole_units, data_inside, record_fits, record_spelled, record_number, known_events)

@@ -1,7 +1,9 @@
 pub mod Stages
+pub mod Flying
+pub mod Unflown
+pub mod RunUnits
 pub mod Pieces
 pub mod Readiness
-pub mod Flying
 pub mod Working
 pub mod Numbers
 pub mod Stepping

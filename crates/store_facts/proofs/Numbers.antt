@@ -37,7 +37,8 @@ acks_more events (c ∷ cs) zero acks i =
   where
     of_place : (i : ℕ) → IsAcked (0 + 1) i (slice_get (record c { acked_at = Some events } ∷ cs) i)
     of_place zero = refl
-    of_place (suc j) = IfSome_then (slice_get cs j) (acks (suc j)) (λ (x : Commit) p. p ∙ le-ltb (suc j) 0 (omega arith) ∙ sym (le-ltb (suc j) 1 (omega arith)))
+    of_place (suc j) = IfSome_then (slice_get cs j) (acks (suc j))
+        (λ (x : Commit) p. p ∙ le-ltb (suc j) 0 (omega arith) ∙ sym (le-ltb (suc j) 1 (omega arith)))
 acks_more events (c ∷ cs) (suc n) acks i =
     subst (λ (b : Bool). IsAcked (suc n + 1) i (slice_get (cond b (c ∷ acknowledged events cs) (record c { acked_at = Some events } ∷ cs)) i))
     (sym here) (of_place (acks_more events cs n (λ j. IfSome_then (slice_get cs j) (acks (suc j)) (λ (x : Commit) p. p ∙ lt_suc j n))) i)

@@ -1,50 +1,91 @@
--- The record of a context that fits one: one unit, one piece.
-use Rattle.std.proofs.Common.{◌≡◌, ℕ, ◌^◌, ◌<◌, List, [], ◌∷◌, ◌++◌, length, All, sym, ap, subst, ◌∙◌, append-nil, length-append, arith}
+-- The record of a context: how many units and pieces it has, and where these lie.
+use Rattle.std.proofs.Common.{◌≡◌, inl, inr, ℕ, ◌+◌, ◌/◌, ◌^◌, ◌<◌, ◌≤◌, List, [], ◌∷◌, ◌++◌, length, sym, ap, subst, ◌∙◌, append-nil, length-append, arith}
+use Rattle.std.specs.List.{AllByRecursion}
 use Rattle.std.specs.Int.{w32, to_le_bytes}
-use Rattle.std.proofs.lemmas.List.Elements.{All-nil, All-cons, All-head}
+use Rattle.std.proofs.lemmas.Bool.{cases_lt}
 use Rattle.crc32c_csum.specs.Crc32c.{crc32c}
+use Rattle.block_device.specs.Disk.{Flight}
+use Rattle.block_device.specs.Facts.{IsUnflown}
 use Rattle.meta_rows.specs.declared.row_op.RowOp.{RowOp}
 use Rattle.meta_rows.specs.Spelling.{ops_bytes, AllFit}
-use Rattle.meta_log.specs.Records.{head_bytes, unit_count}
-use Rattle.meta_log.specs.Pieces.{piece_count, piece_first, piece_units}
+use Rattle.meta_log.specs.Records.{head_bytes, record_bytes, unit_count}
+use Rattle.meta_log.specs.Pieces.{piece_count, given_from}
+use Rattle.meta_log.specs.Slots.{active_unit}
 use Rattle.store_steps.specs.declared.context.Context.{Context}
 use Rattle.store_steps.specs.Contexts.{given_more, done_more}
+use Rattle.store_steps.specs.State.{Begun, Log}
 use Rattle.store_facts.specs.Room.{FitsRecord}
+use Rattle.store_facts.specs.Flights.{IsRestUnflown}
+use Rattle.store_facts.proofs.Stages.{pieces_at}
+
+-- ---- the record of a batch of one context
 
 -- the operations of a batch of one context are its own
 pub batch_fits : (x : Context) → FitsRecord x → AllFit (x.ops ++ [])
 batch_fits x fits = subst AllFit (sym (append-nil x.ops)) fits.fit
 
-pub one_unit : (x : Context) → FitsRecord x → (number : ℕ) → unit_count number (x.ops ++ []) ≡ 1
-one_unit x fits number = ap (λ (o : List RowOp). unit_count number o) (append-nil x.ops) ∙ fits.one number
+-- it takes the units that the context needs
+pub units_needed : (x : Context) → FitsRecord x → (number : ℕ) → unit_count number (x.ops ++ []) ≡ x.need
+units_needed x fits number = ap (λ (o : List RowOp). unit_count number o) (append-nil x.ops) ∙ fits.need number
 
-pub one_piece : (x : Context) → FitsRecord x → (number : ℕ) → piece_count (unit_count number (x.ops ++ [])) ≡ 1
-one_piece x fits number = ap piece_count (one_unit x fits number)
+pub pieces_needed : (x : Context) → FitsRecord x → (number : ℕ) → pieces_at number x ≡ piece_count x.need
+pieces_needed x fits number = ap piece_count (units_needed x fits number)
 
-pub first_piece : (x : Context) → FitsRecord x → (number : ℕ) → piece_first (unit_count number (x.ops ++ [])) 0 ≡ 0
-first_piece x fits number = ap (λ (n : ℕ). piece_first n 0) (one_unit x fits number)
+-- ---- units and pieces of any record
 
-pub piece_unit : (x : Context) → FitsRecord x → (number : ℕ) → piece_units (unit_count number (x.ops ++ [])) 0 ≡ 1
-piece_unit x fits number = ap (λ (n : ℕ). piece_units n 0) (one_unit x fits number)
+pub length-record : (number : ℕ) (ops : List RowOp) → length (record_bytes number ops) ≡ 24 + length (ops_bytes ops)
+length-record number ops = length-append (head_bytes number ops ++ to_le_bytes w32 (crc32c (head_bytes number ops ++ ops_bytes ops))) (ops_bytes ops)
 
-pub need_piece : (x : Context) → FitsRecord x → piece_count x.need ≡ 1
-need_piece x fits = ap piece_count fits.need
+-- whatever its number is it takes as many units
+pub same_units : (a b : ℕ) (ops : List RowOp) → unit_count a ops ≡ unit_count b ops
+same_units a b ops = ap (λ (n : ℕ). (n + 4095) / 4096) (length-record a ops ∙ sym (length-record b ops))
 
--- a record of one unit is short
-pub short_body : (number : ℕ) (ops : List RowOp) → unit_count number ops ≡ 1 → length (ops_bytes ops) < 2 ^ 32
-short_body number ops one =
-    let size = length-append (head_bytes number ops ++ to_le_bytes w32 (crc32c (head_bytes number ops ++ ops_bytes ops))) (ops_bytes ops) in
-    omega (arith, size, one)
+-- at least one
+pub some_units : (number : ℕ) (ops : List RowOp) → 0 < unit_count number ops
+some_units number ops = omega (arith, length-record number ops)
 
--- what was given and done of a context does not matter to its record
-pub given_fits : (x : Context) → FitsRecord x → FitsRecord (given_more x)
-given_fits x f = record { fit = f.fit; one = f.one; need = f.need; whole = f.whole }
+pub some_pieces : (number : ℕ) (ops : List RowOp) → 0 < piece_count (unit_count number ops)
+some_pieces number ops = of_units (unit_count number ops) (some_units number ops)
+  where
+    of_units : (units : ℕ) → 0 < units → 0 < piece_count units
+    of_units units some = omega (arith, some)
 
-pub done_fits : (x : Context) → FitsRecord x → FitsRecord (done_more x)
-done_fits x f = record { fit = f.fit; one = f.one; need = f.need; whole = f.whole }
+-- a record that fits half of a log is short
+pub short_body : (number : ℕ) (ops : List RowOp) → unit_count number ops ≤ 65536 → length (ops_bytes ops) < 2 ^ 32
+short_body number ops most = omega (arith, length-record number ops, most)
 
-pub alone_fits : (x : Context) → FitsRecord x → All FitsRecord (x ∷ [])
-alone_fits x f = All-cons FitsRecord x [] f (All-nil FitsRecord)
+-- ---- what isn't given of it is not in flight
 
-pub fits_alone : (x : Context) → All FitsRecord (x ∷ []) → FitsRecord x
-fits_alone x all = All-head FitsRecord x [] all
+-- also where nothing of it is given, since nothing is in flight then
+pub rest_unflown : (flights : List Flight) (m : Log) (r : Begun) → (r.given ≡ 0 → flights ≡ []) → IsRestUnflown flights m r
+    → (j : ℕ) → j < given_from (unit_count m.number r.ops) r.given → IsUnflown flights (active_unit m.sup + (m.tail + j))
+rest_unflown flights m r none rest j below = elim (cases_lt 0 r.given) [
+  | inl some ↦ rest some j below
+  | inr zero_given ↦ subst (λ (fs : List Flight). IsUnflown fs (active_unit m.sup + (m.tail + j))) (sym (none (omega (arith, zero_given))))
+      (λ i f lt. absurd (omega (arith, lt)))
+]
+
+no_rest : (units given j : ℕ) → given ≡ piece_count units → j < given_from units given → ⊥
+no_rest units given j all below = omega (arith, all, below)
+
+-- where all was given nothing is left
+pub all_given : (flights : List Flight) (m : Log) (r : Begun) → r.given ≡ piece_count (unit_count m.number r.ops) → IsRestUnflown flights m r
+all_given flights m r all some j below = absurd (no_rest (unit_count m.number r.ops) r.given j all below)
+
+-- and where nothing was there is nothing to say
+pub none_given : (flights : List Flight) (m : Log) (r : Begun) → r.given ≡ 0 → IsRestUnflown flights m r
+none_given flights m r none some j below = absurd (omega (arith, none, some))
+
+-- ---- what was given and done of a context does not matter to its record
+
+pub given_fits : (count : ℕ) (x : Context) → FitsRecord x → FitsRecord (given_more count x)
+given_fits count x f = record { fit = f.fit; need = f.need; whole = f.whole; ascend = f.ascend }
+
+pub done_fits : (count : ℕ) (x : Context) → FitsRecord x → FitsRecord (done_more count x)
+done_fits count x f = record { fit = f.fit; need = f.need; whole = f.whole; ascend = f.ascend }
+
+pub alone_fits : (x : Context) → FitsRecord x → AllByRecursion FitsRecord (x ∷ [])
+alone_fits x f = (f, tt)
+
+pub fits_alone : (x : Context) → AllByRecursion FitsRecord (x ∷ []) → FitsRecord x
+fits_alone x all = all.0

@@ -1,103 +1,111 @@
--- Each step keeps the facts of rows and free units, and what the kernel needs of them.
-use Rattle.std.proofs.Common.{◌≡◌, ℕ, zero, suc, ◌≤◌, List, [], ◌∷◌, ◌++◌, length, false, Contains, Option, Some, None, slice_get, refl, sym, ap, subst}
-use Rattle.std.specs.List.{flat_map}
-use Rattle.std.specs.Option.{option_map, option_or, option_map_or}
+-- What a kernel that is up needs to know of units: those that it takes, writes and gives back.
+use Rattle.std.proofs.Common.{◌≡◌, ℕ, zero, suc, ◌+◌, ◌==◌, ◌&&◌, Bool, true, false, cond, List, [], ◌∷◌, ◌++◌, drop, Contains, Option, Some, None, refl, subst, ◌∙◌}
+use Rattle.std.specs.Prelude.{nat_lt}
+use Rattle.std.specs.List.{flat_map, AllByRecursion}
+use Rattle.std.specs.Option.{option_or, option_map_or}
 use Rattle.std.proofs.lemmas.List.Elements.{Contains-append_left, Contains-append_right}
 use Rattle.std.proofs.lemmas.Option.{same_Some}
 use Rattle.block_device.specs.Disk.{Disk}
 use Rattle.object_model.specs.Effect.{Change}
-use Rattle.object_model.specs.declared.command.Answer.{Answer}
+use Rattle.meta_log.specs.declared.slot.Super.{Super}
 use Rattle.store_image.specs.Owners.{IsDataUnit}
-use Rattle.unit_allocator.specs.Units.{IsWithin, is_free, holds_of}
+use Rattle.object_rows.specs.Planned.{IsPlanned, StandsOnce}
+use Rattle.unit_allocator.specs.Units.{IsWithin, is_free, given}
 use Rattle.unit_allocator.proofs.Lists.{Contains-head, Contains-tail}
 use Rattle.store_steps.specs.declared.context.Context.{Context}
 use Rattle.store_steps.specs.declared.context.FreshUnit.{FreshUnit}
-use Rattle.store_steps.specs.declared.step.Step.{Step}
-use Rattle.store_steps.specs.declared.step.Step.TheVariants.{Data, Reap, Take, Flush, Seal, Record, Sync, Commit, Finish}
+use Rattle.store_steps.specs.Planning.{as_planned}
 use Rattle.store_steps.specs.State.{Batch, State}
-use Rattle.store_steps.specs.Contexts.{Unsent, next_unsent, batch_released}
-use Rattle.store_steps.specs.Steps.{Does}
-use Rattle.store_steps.specs.Submit.{IsKnown, Accepts, Refuses}
-use Rattle.store_facts.specs.Space.{uncommitted}
+use Rattle.store_steps.specs.Contexts.{Unsent, unsent_units, run_from, run_of, unsent, next_unsent, batch_released}
+use Rattle.store_steps.specs.Submit.{IsKnown, Accepts}
+use Rattle.store_facts.specs.Space.{uncommitted, IsUnheld}
 use Rattle.store_facts.specs.Kept.{IsKept}
 use Rattle.store_facts.proofs.SpaceUnits.{AreData}
-use Rattle.store_facts.proofs.RowsKept.{AreRowsKept, rows_of_kept, HaveSameRows, like_itself, rows_stay}
-use Rattle.store_facts.proofs.RowsSteps.{data_same, reap_same, flush_same, seal_same, record_same, sync_same, finish_same, take_same}
-use Rattle.store_facts.proofs.RowsPlans.{units_of}
-use Rattle.store_facts.proofs.RowsAccepted.{accepted_rows}
-use Rattle.store_facts.proofs.RowsCommitted.{owned_is_data, commit_rows, released_few, released_data, released_within, released_taken, released_unheld}
+use Rattle.store_facts.proofs.RowsKept.{rows_of_kept}
+use Rattle.store_facts.proofs.RowsPages.{owned_is_data}
+use Rattle.store_facts.proofs.RowsPlans.{units_of, PlanFits}
+use Rattle.store_facts.proofs.RowsAccepted.{accepted_plan, accepted_fits}
+use Rattle.store_facts.proofs.RowsCommitted.{released_data, released_within, released_taken, released_once, released_in_turn}
 
--- ---- steps and submissions
+-- ---- the units of the next data write
 
-module _ (s : State) (d : Disk) (kept : IsKept s d) (up : s.down ≡ None) where
-  abbrev now : AreRowsKept s
-  now = rows_of_kept s d kept up
+module _ (P : FreshUnit → Type 0) where
+  run_has : (unit end : ℕ) (fs : List FreshUnit) → AllByRecursion P fs → AllByRecursion P (run_from unit end fs)
+  run_has unit end [] all = tt
+  run_has unit end (f ∷ fs) all = by (f.unit == unit && nat_lt unit end) (run_has (unit + 1) end fs all.1)
+    where
+      by : (b : Bool) → AllByRecursion P (run_from (unit + 1) end fs) → AllByRecursion P (cond b (f ∷ run_from (unit + 1) end fs) [])
+      by true more = (all.0, more)
+      by false more = tt
 
-  pub step_rows : (step : Step) (s' : State) (d' : Disk) → Does step s d s' d' → AreRowsKept s'
-  step_rows Data s' d' does = rows_stay s s' (data_same s d s' d' does) now
-  step_rows Reap s' d' does = rows_stay s s' (reap_same s d s' d' does) now
-  step_rows Take s' d' does = rows_stay s s' (take_same s d s' d' (kept.up up).far does) now
-  step_rows Flush s' d' does = rows_stay s s' (flush_same s d s' d' does) now
-  step_rows Seal s' d' does = rows_stay s s' (seal_same s d s' d' does) now
-  step_rows Record s' d' does = rows_stay s s' (record_same s d s' d' does) now
-  step_rows Sync s' d' does = rows_stay s s' (sync_same s d s' d' does) now
-  step_rows Commit s' d' does = commit_rows s d s' d' now (kept.up up).far does
-  step_rows Finish s' d' does = rows_stay s s' (finish_same s d s' d' does) now
+  rest_has : (n : ℕ) (fs : List FreshUnit) → AllByRecursion P fs → AllByRecursion P (drop n fs)
+  rest_has zero fs all = all
+  rest_has (suc n) [] all = tt
+  rest_has (suc n) (f ∷ fs) all = rest_has n fs all.1
 
-  -- nothing is under way when it is submitted
-  pub accept_rows : (client line : ℕ) (change : Change) (s' : State) → s.pending ≡ [] → s.batch ≡ None → IsKnown change.ops
-      → Accepts client line change s s' → AreRowsKept s'
-  accept_rows client line change s' pending batch known does =
-      accepted_rows s client line change s' kept.always.limits now pending batch known does
+  unsent_has : (place : ℕ) (fs : List FreshUnit) (n : Unsent) → AllByRecursion P fs → run_of place fs ≡ Some n → AllByRecursion P (unsent_units n)
+  unsent_has place [] n all is = absurd cc
+  unsent_has place (f ∷ fs) n all is =
+      let first : Unsent = record { place = place; first = f; more = run_from (f.unit + 1) (f.unit + 64) fs } in
+      subst (λ (m : Unsent). AllByRecursion P (unsent_units m)) (same_Some first n is) (all.0, run_has (f.unit + 1) (f.unit + 64) fs all.1)
 
-  pub refuse_rows : (client line : ℕ) (change : Change) (a : Answer) (s' : State) → Refuses client line change a s s' → AreRowsKept s'
-  refuse_rows client line change a s' does = rows_stay s s' (subst (HaveSameRows s) (sym does.after)
-      (record { sup = refl; rows = refl; view = refl; space = refl; contexts = like_itself (uncommitted s) })) now
+  -- what holds of the fresh units of contexts holds of those that are written next
+  pub next_has : (xs : List Context) (n : Unsent) → AllByRecursion (λ x. AllByRecursion P x.fresh) xs → next_unsent xs ≡ Some n
+      → AllByRecursion P (unsent_units n)
+  next_has [] n all is = absurd cc
+  next_has (x ∷ xs) n all is = by (unsent x) refl is (next_has xs n all.1)
+    where
+      by : (o : Option Unsent) → unsent x ≡ o → option_or o (next_unsent xs) ≡ Some n
+          → (next_unsent xs ≡ Some n → AllByRecursion P (unsent_units n)) → AllByRecursion P (unsent_units n)
+      by None here is rest = rest is
+      by (Some m) here is rest = unsent_has x.place (drop x.given x.fresh) n (rest_has x.given x.fresh all.0) (here ∙ is)
 
--- ---- the unit of the next data write
+-- ---- the units that contexts took
 
-unit_listed : (fresh : List FreshUnit) (k : ℕ) (f : FreshUnit) → slice_get fresh k ≡ Some f → Contains (units_of fresh) f.unit
-unit_listed [] k f is = absurd cc
-unit_listed (g ∷ fresh) zero f is =
-    subst (λ (u : ℕ). Contains (units_of (g ∷ fresh)) u) (ap (λ (h : FreshUnit). h.unit) (same_Some g f is)) (Contains-head g.unit (units_of fresh))
-unit_listed (g ∷ fresh) (suc k) f is = Contains-tail g.unit f.unit (units_of fresh) (unit_listed fresh k f is)
-
-abbrev taken_by : List Context → List ℕ
+abbrev pub taken_by : List Context → List ℕ
 taken_by xs = flat_map (λ x. units_of x.fresh) xs
-
-next_listed : (xs : List Context) (n : Unsent) → next_unsent xs ≡ Some n → Contains (taken_by xs) n.fresh.unit
-next_listed [] n is = absurd cc
-next_listed (x ∷ xs) n is = by (slice_get x.fresh x.given) refl is (next_listed xs n)
-  where
-    by : (f : Option FreshUnit) → slice_get x.fresh x.given ≡ f
-        → option_or (option_map (λ (g : FreshUnit). let next : Unsent = record { place = x.place; fresh = g } in next) f) (next_unsent xs) ≡ Some n
-        → (next_unsent xs ≡ Some n → Contains (taken_by xs) n.fresh.unit) → Contains (taken_by (x ∷ xs)) n.fresh.unit
-    by None here is rest = Contains-append_right (units_of x.fresh) (taken_by xs) n.fresh.unit (rest is)
-    by (Some f) here is rest =
-        let same : record { place = x.place; fresh = f } ≡ n = same_Some (record { place = x.place; fresh = f }) n is in
-        let listed = unit_listed x.fresh x.given f here in
-        subst (λ (u : ℕ). Contains (taken_by (x ∷ xs)) u) (ap (λ (m : Unsent). m.fresh.unit) same)
-        (Contains-append_left (units_of x.fresh) (taken_by xs) f.unit listed)
 
 pub behind_batch : (front xs : List Context) (u : ℕ) → Contains (taken_by xs) u → Contains (taken_by (front ++ xs)) u
 behind_batch [] xs u c = c
 behind_batch (x ∷ front) xs u c = Contains-append_right (units_of x.fresh) (taken_by (front ++ xs)) u (behind_batch front xs u c)
 
-module _ (s : State) (d : Disk) (kept : IsKept s d) (up : s.down ≡ None) where
-  -- the units that contexts took are data units
-  pub taken_data : AreData s.log.sup (taken_by (uncommitted s))
-  taken_data u c = owned_is_data s.log.sup s.view u (kept.up up).good ((kept.up up).releases.taken_is u c)
+fresh_are : (s : Super) (fresh : List FreshUnit) → AreData s (units_of fresh) → AllByRecursion (λ f. IsDataUnit s f.unit) fresh
+fresh_are s [] all = tt
+fresh_are s (f ∷ fresh) all =
+    (all f.unit (Contains-head f.unit (units_of fresh)), fresh_are s fresh (λ u c. all u (Contains-tail f.unit u (units_of fresh) c)))
 
-  pub next_on_data : (n : Unsent) → next_unsent s.pending ≡ Some n → IsDataUnit s.log.sup n.fresh.unit
-  next_on_data n is = taken_data n.fresh.unit
-      (behind_batch (option_map_or (λ (b : Batch). b.contexts) s.batch []) s.pending n.fresh.unit (next_listed s.pending n is))
+each_on_data : (s : Super) (xs : List Context) → AreData s (taken_by xs) → AllByRecursion (λ x. AllByRecursion (λ f. IsDataUnit s f.unit) x.fresh) xs
+each_on_data s [] all = tt
+each_on_data s (x ∷ xs) all = (
+  fresh_are s x.fresh (λ u c. all u (Contains-append_left (units_of x.fresh) (taken_by xs) u c)),
+  each_on_data s xs (λ u c. all u (Contains-append_right (units_of x.fresh) (taken_by xs) u c)),
+)
+
+module _ (s : State) (d : Disk) (kept : IsKept s d) (up : s.down ≡ None) where
+  -- they are data units
+  pub taken_data : AreData s.log.sup (taken_by (uncommitted s))
+  taken_data u c = owned_is_data s.log.sup s.view s.space u (kept.up up).good ((kept.up up).releases.taken_is u c)
+
+  pub pending_on_data : AllByRecursion (λ x. AllByRecursion (λ f. IsDataUnit s.log.sup f.unit) x.fresh) s.pending
+  pending_on_data = each_on_data s.log.sup s.pending
+      (λ u c. taken_data u (behind_batch (option_map_or (λ (b : Batch). b.contexts) s.batch []) s.pending u c))
+
+  pub next_on_data : (n : Unsent) → next_unsent s.pending ≡ Some n → AllByRecursion (λ f. IsDataUnit s.log.sup f.unit) (unsent_units n)
+  next_on_data n is = next_has (λ f. IsDataUnit s.log.sup f.unit) s.pending n pending_on_data is
+
+  -- ---- what an accepted transaction takes
+
+  pub plan_is : (client line : ℕ) (change : Change) (s' : State) → IsKnown change.ops → (does : Accepts client line change s s')
+      → IsPlanned s.log.sup s.view change (as_planned does.plan)
+  plan_is client line change s' known does = accepted_plan s client line change s' kept.always.limits (rows_of_kept s d kept up) known does
+
+  pub plan_fits_of : (client line : ℕ) (change : Change) (s' : State) → IsKnown change.ops → (does : Accepts client line change s s')
+      → PlanFits does.plan
+  plan_fits_of client line change s' known does = accepted_fits s client line change s' kept.always.limits (rows_of_kept s d kept up) known does
 
   -- ---- the units that the batch's context released
 
   module _ (b : Batch) (is_open : s.batch ≡ Some b) where
-    pub few_come_back : length (batch_released b) ≤ 1
-    few_come_back = released_few s (rows_of_kept s d kept up) (kept.up up).far b is_open
-
     pub back_data : AreData s.log.sup (batch_released b)
     back_data = released_data s (rows_of_kept s d kept up) (kept.up up).far b is_open
 
@@ -107,5 +115,9 @@ module _ (s : State) (d : Disk) (kept : IsKept s d) (up : s.down ≡ None) where
     pub back_taken : (u : ℕ) → Contains (batch_released b) u → is_free s.space u ≡ false
     back_taken = released_taken s (rows_of_kept s d kept up) (kept.up up).far b is_open
 
-    pub back_unheld : (u : ℕ) → Contains (batch_released b) u → holds_of s.space u ≡ 0
-    back_unheld = released_unheld s (rows_of_kept s d kept up) (kept.up up).far b is_open
+    pub back_once : (u : ℕ) → IsUnheld s.space u → StandsOnce (batch_released b) u
+    back_once = released_once s (rows_of_kept s d kept up) (kept.up up).far b is_open
+
+    -- those that come back one after the other aren't free until it is their turn
+    pub back_in_turn : (front rest : List ℕ) (u : ℕ) → batch_released b ≡ front ++ (u ∷ rest) → is_free (given s.space front) u ≡ false
+    back_in_turn = released_in_turn s (rows_of_kept s d kept up) (kept.up up).far b is_open

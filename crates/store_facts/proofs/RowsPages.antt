@@ -1,52 +1,48 @@
--- The row of an object's first shard, among good rows.
-use Rattle.std.proofs.Common.{◌≡◌, ℕ, List, [], ◌∷◌, unwrap_or, Some, None, refl, sym, ap, ◌∙◌}
-use Rattle.std.specs.List.{AllByRecursion, flat_map}
-use Rattle.std.specs.FinMap as finite
+-- On good rows the pages of objects stand on data units.
+use Rattle.std.proofs.Common.{◌≡◌, inl, inr, ℕ, ◌-◌, ◌<◌, Bool, true, false, cond, List, [], ◌∷◌, Some, sym, ap, subst, ◌∙◌, arith}
+use Rattle.std.specs.Prelude.{nat_le, nat_lt, ◌&&◌}
+use Rattle.std.specs.List.{AllByRecursion}
+use Rattle.std.proofs.lemmas.Bool.{cases_Bool, and_parts, leb-true, ltb-true}
+use Rattle.std.proofs.lemmas.Option.{same_Some}
 use Rattle.meta_rows.specs.Rows.{Rows}
 use Rattle.meta_log.specs.declared.slot.Super.{Super}
-use Rattle.unit_fields.specs.Names.{IsName, IsCollName}
-use Rattle.row_format.specs.Keys.{shard_key}
-use Rattle.row_format.specs.Extents.{Place, extent_bytes, FitsExtent}
-use Rattle.store_image.specs.Pages.{IsPageAt}
-use Rattle.store_image.proofs.PageMap.{one_place}
-use Rattle.row_facts.specs.SinglePages.{single_page, HasPage}
-use Rattle.row_facts.proofs.ByRow.{page_spelled, page_here, no_owner}
-use Rattle.store_steps.specs.Planning.{AreUnitsOf}
+use Rattle.row_format.specs.Extents.{Extent, Body, private, page_count, page_end, Place, place_in, place_of}
+use Rattle.row_format.specs.Row.{shard}
+use Rattle.store_image.specs.BadRows.{IsOnData, NoBadRow, IsShardInPlace}
+use Rattle.store_image.specs.Owners.{Owner, page_of, Owns, IsDataUnit, IsOwned}
+use Rattle.store_image.proofs.PageMap.{in_place}
+use Rattle.unit_allocator.specs.Units.{Space}
 use Rattle.store_facts.specs.Space.{AreGoodRows}
 
--- What the row says: its value is the spelling of one extent of one page, which is page 0 at this place, the only unit of the object.
-pub record SaysPage (rows : Rows) (c o value : List ℕ) (place : Place) : Type 0 where
-  pub has : HasPage rows c o place
-  pub fit : AllByRecursion FitsExtent (single_page place.unit place.csum)
-  pub spelled : value ≡ flat_map extent_bytes (single_page place.unit place.csum)
-  pub page : IsPageAt rows c o 0 place
-  pub units : AreUnitsOf rows c o (place.unit ∷ [])
+body_on_data : (s : Super) (body : Body) (i : ℕ) → IsOnData s body → i < page_count body → IsDataUnit s (place_in body i).unit
+body_on_data s (private unit csums) i on below = (omega (arith, on.0), omega (arith, on.1, below))
 
-module _ (s : Super) (rows : Rows) (c o : List ℕ) (good : AreGoodRows s rows) where
-  units_at : (place : Place) → HasPage rows c o place → AreUnitsOf rows c o (place.unit ∷ [])
-  units_at place has =
-      let here = page_here rows c o good.single place has in
-      record {
-        mapped = λ other is. ap (λ (p : Place). p.unit ∷ []) (one_place s rows good.good c o 0 place other here is);
-        hole = λ hole. absurd (hole place here);
-      }
+-- a page of extents on data units
+place_on_data : (s : Super) (es : List Extent) (page : ℕ) (place : Place) → AllByRecursion (λ e. IsOnData s e.body) es
+    → place_of es page ≡ Some place → IsDataUnit s place.unit
+place_on_data s [] page place all is = absurd cc
+place_on_data s (e ∷ es) page place all is = elim (cases_Bool (nat_le e.first page && nat_lt page (page_end e))) [
+  | inl here ↦
+      let tests = and_parts (nat_le e.first page) (nat_lt page (page_end e)) here in
+      let within : page - e.first < page_count e.body = omega (arith, leb-true _ _ tests.0, ltb-true _ _ tests.1) in
+      let same : place_in e.body (page - e.first) ≡ place = same_Some (place_in e.body (page - e.first)) place (sym (by_test true here) ∙ is) in
+      subst (λ (p : Place). IsDataUnit s p.unit) same (body_on_data s e.body (page - e.first) all.0 within)
+  | inr there ↦ place_on_data s es page place all.1 (sym (by_test false there) ∙ is)
+]
+  where
+    by_test : (b : Bool) → (nat_le e.first page && nat_lt page (page_end e)) ≡ b
+        → place_of (e ∷ es) page ≡ cond b (Some (place_in e.body (page - e.first))) (place_of es page)
+    by_test b test = ap (λ t. cond t (Some (place_in e.body (page - e.first))) (place_of es page)) test
 
-  pub page_by_row : (value : List ℕ) → IsCollName c → IsName o → finite.get rows (shard_key c o 0) ≡ Some value
-      → (place : Place) × SaysPage rows c o value place
-  page_by_row value coll name stands =
-      let found = page_spelled s rows c o value good.good good.single coll name stands in (
-        found.0,
-        record {
-          has = found.1;
-          fit = found.1.fits.fit;
-          spelled = ap (λ v. unwrap_or v []) (sym stands ∙ found.1.stands);
-          page = page_here rows c o good.single found.0 found.1;
-          units = units_at found.0 found.1;
-        },
-      )
+owns_data : (s : Super) (rows : Rows) → NoBadRow s rows → (owner : Owner) (unit : ℕ) → Owns rows owner unit → IsDataUnit s unit
+owns_data s rows good (page_of c o page) unit owns =
+    let is = owns.1 in
+    let stands : IsShardInPlace s rows c o is.first is.extents = in_place s rows (shard c o is.first is.extents) good is.has_shard in
+    subst (IsDataUnit s) owns.2 (place_on_data s is.extents page owns.0 stands.on_data is.has_page)
 
-  pub no_page_by_row : finite.get rows (shard_key c o 0) ≡ None → AreUnitsOf rows c o []
-  no_page_by_row none = record {
-    mapped = λ place is. absurd (no_owner rows c o good.single none 0 place.unit (place, is, refl));
-    hole = λ hole. refl;
-  }
+-- owned units are data units
+pub owned_on_data : (s : Super) (rows : Rows) (unit : ℕ) → NoBadRow s rows → IsOwned rows unit → IsDataUnit s unit
+owned_on_data s rows unit good owned = owns_data s rows good owned.0 unit owned.1
+
+pub owned_is_data : (s : Super) (rows : Rows) (space : Space) (unit : ℕ) → AreGoodRows s rows space → IsOwned rows unit → IsDataUnit s unit
+owned_is_data s rows space unit good owned = owned_on_data s rows unit good.good owned

@@ -1,55 +1,83 @@
--- What a plan of an accepted transaction makes of good rows and of the free units.
-use Rattle.std.proofs.Common.{◌≡◌, ◌⊎◌, inl, inr, ℕ, zero, suc, ◌<◌, ◌^◌, true, cond, List, [], ◌∷◌, length, map, get_or, Contains, Some, None, is_some, refl, sym, ap, subst, ◌∙◌, arith}
+-- What the plan of a transaction takes of the free units, and that it is one of those that good rows stay good by.
+use Rattle.std.proofs.Common.{◌≡◌, inl, inr, ℕ, zero, suc, ◌+◌, ◌*◌, ◌/◌, ◌<◌, ◌≤◌, ◌^◌, Bool, true, false, cond, List, [], ◌∷◌, length, map, take, get_or, Contains, Option, Some, None, is_some, refl, sym, ap, subst, ◌∙◌, arith}
+use Rattle.std.specs.Prelude.{nat_lt}
 use Rattle.std.specs.List.{AllByRecursion, Any}
 use Rattle.std.specs.FinMap as finite
-use Rattle.crc32c_csum.specs.Crc32c.{crc32c}
+use Rattle.std.proofs.lemmas.Bool.{ltb-false, or_parts}
+use Rattle.std.proofs.lemmas.List.{length-map, length-take-le}
 use Rattle.meta_rows.specs.Rows.{Rows}
+use Rattle.meta_rows.specs.Spelling.{ops_bytes, AllFit}
 use Rattle.meta_log.specs.declared.slot.Super.{Super}
+use Rattle.meta_log.specs.Records.{unit_count}
 use Rattle.meta_log.specs.Slots.{IsSuper}
+use Rattle.object_model.specs.Effect.{Change, object_limit}
+use Rattle.object_model.specs.Limits.{payload_limit, operation_limit, is_too_large}
 use Rattle.object_model.specs.declared.op.Op.{Op}
-use Rattle.object_model.specs.declared.op.Op.TheVariants.{MkColl, Write}
+use Rattle.object_model.specs.declared.op.Op.TheVariants.{MkColl, Touch, Write}
 use Rattle.object_model.specs.declared.op.Refusal.{Refusal}
+use Rattle.object_model.specs.declared.op.Refusal.TheVariants.{NoCollection, CollectionExists, TooBig}
 use Rattle.unit_fields.specs.Names.{IsName, IsCollName}
-use Rattle.row_format.specs.Keys.{coll_key, shard_key}
+use Rattle.unit_fields.specs.UnitSet.{Ascends}
+use Rattle.row_format.specs.Keys.{coll_key}
 use Rattle.store_image.specs.Pages.{HasKey}
+use Rattle.store_image.specs.BadRows.{NoBadRow}
 use Rattle.store_image.specs.Owners.{IsDataUnit, IsOwned}
-use Rattle.row_facts.specs.Operations.{coll_change, page_change, page_ops, CanPutPage}
-use Rattle.row_facts.specs.Plans as rows_plan
-use Rattle.row_facts.proofs.ByRow.{page_spelled, page_here, no_owner}
-use Rattle.unit_allocator.specs.Units.{Space, IsLowestFree, free_units}
+use Rattle.row_facts.specs.Operations.{coll_change}
+use Rattle.object_rows.specs.Writes.{write_change, touch_change}
+use Rattle.object_rows.specs.Planned as planned_as
+use Rattle.object_rows.proofs.PagesOn.{units_of_pages}
+use Rattle.object_rows.proofs.Planned.{planned_fits, planned_short, planned_fresh, planned_ascend, same_count}
+use Rattle.unit_allocator.specs.Units.{Space, IsWithin, is_free, free_units}
 use Rattle.unit_allocator.proofs.Lists.{Contains-head, Contains-tail, Contains-cases}
-use Rattle.unit_allocator.proofs.FreeUnits.{lowest_is_free}
+use Rattle.unit_allocator.proofs.FreeUnits.{listed_is_free, free_units_ascend}
 use Rattle.store_steps.specs.declared.context.FreshUnit.{FreshUnit}
 use Rattle.store_steps.specs.declared.plan.Plan.{Plan}
-use Rattle.store_steps.specs.Planning.{Plans, PlansPage, AreUnitsOf}
-use Rattle.store_steps.specs.Submit.{IsKnown, HasNames, refusal_of}
-use Rattle.store_facts.specs.Space.{AreGoodRows, IsSpaceOf, IsFreeExactly}
+use Rattle.store_steps.specs.Planning.{pair_of, as_planned, PlansPages, Plans, units_taken}
+use Rattle.store_steps.specs.Submit.{IsKnown, HasNames, ops_refusal, refusal_of}
+use Rattle.store_facts.specs.Space.{IsSpaceOf, IsFreeExactly}
 use Rattle.store_facts.proofs.SpaceUnits.{within_data}
-
--- the plan, in the words of rows
-abbrev unit_and_bytes : FreshUnit → ℕ × List ℕ
-unit_and_bytes f = (f.unit, f.bytes)
-
-abbrev pub rows_plan_of : Plan → rows_plan.Plan
-rows_plan_of plan = record { ops = plan.ops; fresh = map unit_and_bytes plan.fresh; released = plan.released }
 
 -- the units that it takes
 abbrev pub units_of : List FreshUnit → List ℕ
 units_of fresh = map (λ f. f.unit) fresh
 
+-- ---- lists
+
+all_taken : {A : Type 0} (P : A → Type 0) (n : ℕ) (xs : List A) → AllByRecursion P xs → AllByRecursion P (take n xs)
+all_taken P zero xs all = tt
+all_taken P (suc n) [] all = tt
+all_taken P (suc n) (x ∷ xs) all = (all.0, all_taken P n xs all.1)
+
+ascend_taken : (n : ℕ) (us : List ℕ) → Ascends us → Ascends (take n us)
+ascend_taken zero us ascend = tt
+ascend_taken (suc n) [] ascend = tt
+ascend_taken (suc n) (u ∷ us) ascend = (all_taken (λ v. u < v) n us ascend.0, ascend_taken n us ascend.1)
+
+pub all_listed : (P : ℕ → Type 0) (us : List ℕ) → ((u : ℕ) → Contains us u → P u) → AllByRecursion P us
+all_listed P [] each = tt
+all_listed P (u ∷ us) each = (each u (Contains-head u us), all_listed P us (λ v c. each v (Contains-tail u v us c)))
+
+pub listed_all : (P : ℕ → Type 0) (us : List ℕ) (u : ℕ) → AllByRecursion P us → Contains us u → P u
+listed_all P [] u all c = absurd (omega (arith, c.1))
+listed_all P (v ∷ us) u all c = elim (Contains-cases v u us c) [ inl e ↦ subst P e all.0 | inr d ↦ listed_all P us u all.1 d ]
+
 -- ---- fresh units in both words
 
-pub fresh_listed : (fresh : List FreshUnit) (v : ℕ) → Any (λ f. f.0 ≡ v) (map unit_and_bytes fresh) → Contains (units_of fresh) v
+pub units_of_pairs : (fresh : List FreshUnit) → map (λ (f : ℕ × List ℕ). f.0) (map pair_of fresh) ≡ units_of fresh
+units_of_pairs [] = refl
+units_of_pairs (f ∷ fresh) = ap (λ (us : List ℕ). f.unit ∷ us) (units_of_pairs fresh)
+
+pub fresh_listed : (fresh : List FreshUnit) (v : ℕ) → Any (λ f. f.0 ≡ v) (map pair_of fresh) → Contains (units_of fresh) v
 fresh_listed [] v any = absurd (omega (arith, any.2))
 fresh_listed (f ∷ fresh) v any = by (fresh_listed fresh v) any.0 any.1 any.2 any.3 any.4
   where
-    by : (Any (λ g. g.0 ≡ v) (map unit_and_bytes fresh) → Contains (units_of fresh) v) → (k : ℕ) (p : ℕ × List ℕ)
-        → k < length (map unit_and_bytes (f ∷ fresh)) → get_or (map unit_and_bytes (f ∷ fresh)) k p ≡ p → p.0 ≡ v → Contains (units_of (f ∷ fresh)) v
+    by : (Any (λ g. g.0 ≡ v) (map pair_of fresh) → Contains (units_of fresh) v) → (k : ℕ) (p : ℕ × List ℕ)
+        → k < length (map pair_of (f ∷ fresh)) → get_or (map pair_of (f ∷ fresh)) k p ≡ p → p.0 ≡ v → Contains (units_of (f ∷ fresh)) v
     by rest zero p below at is =
         subst (λ (x : ℕ). Contains (units_of (f ∷ fresh)) x) (ap (λ (q : ℕ × List ℕ). q.0) at ∙ is) (Contains-head f.unit (units_of fresh))
     by rest (suc k) p below at is = Contains-tail f.unit v (units_of fresh) (rest (k, p, omega (arith, below), at, is))
 
-pub listed_fresh : (fresh : List FreshUnit) (v : ℕ) → Contains (units_of fresh) v → Any (λ f. f.0 ≡ v) (map unit_and_bytes fresh)
+pub listed_fresh : (fresh : List FreshUnit) (v : ℕ) → Contains (units_of fresh) v → Any (λ f. f.0 ≡ v) (map pair_of fresh)
 listed_fresh [] v c = absurd (omega (arith, c.1))
 listed_fresh (f ∷ fresh) v c = elim (Contains-cases f.unit v (units_of fresh) c) [
   | inl e ↦ (0, (f.unit, f.bytes), omega arith, refl, e)
@@ -58,7 +86,7 @@ listed_fresh (f ∷ fresh) v c = elim (Contains-cases f.unit v (units_of fresh) 
 
 -- what holds of the fresh units of a plan holds of each that is listed
 pub fresh_has : (s : Super) (rows : Rows) (fresh : List FreshUnit) (v : ℕ)
-    → AllByRecursion (λ f. IsDataUnit s f.0 × ¬ IsOwned rows f.0 × (length f.1 ≡ 4096)) (map unit_and_bytes fresh) → Contains (units_of fresh) v
+    → AllByRecursion (λ f. IsDataUnit s f.0 × ¬ IsOwned rows f.0 × (length f.1 ≡ 4096)) (map pair_of fresh) → Contains (units_of fresh) v
     → IsDataUnit s v × ¬ IsOwned rows v
 fresh_has s rows [] v all c = absurd (omega (arith, c.1))
 fresh_has s rows (f ∷ fresh) v all c = elim (Contains-cases f.unit v (units_of fresh) c) [
@@ -66,20 +94,59 @@ fresh_has s rows (f ∷ fresh) v all c = elim (Contains-cases f.unit v (units_of
   | inr d ↦ fresh_has s rows fresh v all.1 d
 ]
 
--- ---- the plan is one of the rows
+fresh_whole : (s : Super) (rows : Rows) (fresh : List FreshUnit)
+    → AllByRecursion (λ f. IsDataUnit s f.0 × ¬ IsOwned rows f.0 × (length f.1 ≡ 4096)) (map pair_of fresh)
+    → AllByRecursion (λ f. length f.bytes ≡ 4096) fresh
+fresh_whole s rows [] all = tt
+fresh_whole s rows (f ∷ fresh) all = (all.0.2, fresh_whole s rows fresh all.1)
 
-units_as : (s : Super) (rows : Rows) (c o units : List ℕ) → AreGoodRows s rows → IsCollName c → IsName o → AreUnitsOf rows c o units
-    → rows_plan.IsPageUnit rows c o units
-units_as s rows c o units good coll name are = elim (finite.get rows (shard_key c o 0)) as
-    (λ x. finite.get rows (shard_key c o 0) ≡ x → rows_plan.IsPageUnit rows c o units) [
-      | None ↦ λ p.
-          let hole = are.hole (λ place is. no_owner rows c o good.single p 0 place.unit (place, is, refl)) in
-          subst (rows_plan.IsPageUnit rows c o) (sym hole) (rows_plan.nowhere p)
-      | Some value ↦ λ p.
-          let found = page_spelled s rows c o value good.good good.single coll name p in
-          let mapped = are.mapped found.0 (page_here rows c o good.single found.0 found.1) in
-          subst (rows_plan.IsPageUnit rows c o) (sym mapped) (rows_plan.mapped found.0 found.1)
-    ] refl
+-- ---- a plan takes the lowest free units
+
+pages_take : (c o : List ℕ) (off : ℕ) (bytes : List ℕ) (rows : Rows) (space : Space) (plan : Plan) → PlansPages c o off bytes rows space plan
+    → units_of plan.fresh ≡ take (length bytes / 4096) (free_units space)
+pages_take c o off bytes rows space plan p =
+    sym (units_of_pairs plan.fresh) ∙ ap (map (λ (f : ℕ × List ℕ). f.0)) p.fresh ∙ units_of_pages bytes p.units 0 ∙ p.lowest
+
+-- those that it takes are the lowest free ones, as many as the transaction takes
+pub plan_takes : (c : List ℕ) (ops : List Op) (rows : Rows) (space : Space) (plan : Plan) → IsKnown ops → Plans c ops rows space plan
+    → units_of plan.fresh ≡ take (units_taken ops) (free_units space)
+plan_takes c (MkColl ∷ []) rows space plan known plans = ap (λ (p : Plan). units_of p.fresh) plans
+plan_takes c (Touch o ∷ []) rows space plan known plans = ap (λ (p : Plan). units_of p.fresh) plans
+plan_takes c (Write o off bytes ∷ []) rows space plan known plans = pages_take c o off bytes rows space plan plans
+plan_takes c ops rows space plan known plans = absurd known
+
+-- and there are as many
+pub plan_enough : (c : List ℕ) (ops : List Op) (rows : Rows) (space : Space) (plan : Plan) → IsKnown ops → Plans c ops rows space plan
+    → units_taken ops ≤ length (free_units space)
+plan_enough c (MkColl ∷ []) rows space plan known plans = omega arith
+plan_enough c (Touch o ∷ []) rows space plan known plans = omega arith
+plan_enough c (Write o off bytes ∷ []) rows space plan known plans = plans.enough
+plan_enough c ops rows space plan known plans = absurd known
+
+-- so each is free
+pub plan_takes_free : (c : List ℕ) (ops : List Op) (rows : Rows) (space : Space) (plan : Plan) → IsKnown ops → Plans c ops rows space plan
+    → AllByRecursion (λ u. IsWithin space u × (is_free space u ≡ true)) (units_of plan.fresh)
+plan_takes_free c ops rows space plan known plans =
+    subst (AllByRecursion (λ u. IsWithin space u × (is_free space u ≡ true))) (sym (plan_takes c ops rows space plan known plans))
+    (all_taken (λ u. IsWithin space u × (is_free space u ≡ true)) (units_taken ops) (free_units space)
+    (all_listed (λ u. IsWithin space u × (is_free space u ≡ true)) (free_units space)
+    (λ u k. let free = listed_is_free space u k in (free.within, free.free))))
+
+-- how many that is
+pub plan_count : (c : List ℕ) (ops : List Op) (rows : Rows) (space : Space) (plan : Plan) → IsKnown ops → Plans c ops rows space plan
+    → length plan.fresh ≡ units_taken ops
+plan_count c ops rows space plan known plans =
+    sym (length-map plan.fresh (λ (f : FreshUnit). f.unit)) ∙ ap length (plan_takes c ops rows space plan known plans)
+    ∙ length-take-le (units_taken ops) (free_units space) (plan_enough c ops rows space plan known plans)
+
+-- ---- what a transaction is that isn't refused
+
+not_large : (b : Bool) (refusal : Option Refusal) → cond b (Some TooBig) refusal ≡ None → (b ≡ false) × (refusal ≡ None)
+not_large true refusal is = absurd cc
+not_large false refusal is = (refl, is)
+
+pub ops_taken : (rows : Rows) (c : List ℕ) (ops : List Op) → refusal_of rows (record { coll = c; ops = ops }) ≡ None → ops_refusal rows c ops ≡ None
+ops_taken rows c ops is = (not_large (is_too_large (record { coll = c; ops = ops })) (ops_refusal rows c ops) is).1
 
 no_key : (rows : Rows) (c : List ℕ) (refusal : Refusal) → cond (finite.contains_key rows (coll_key c)) (Some refusal) None ≡ None
     → finite.get rows (coll_key c) ≡ None
@@ -88,55 +155,121 @@ no_key rows c refusal is = elim (finite.get rows (coll_key c)) as (λ x. cond (i
   | Some v ↦ λ p. absurd cc
 ] is
 
-some_key : (rows : Rows) (c : List ℕ) (refusal : Refusal) → cond (finite.contains_key rows (coll_key c)) None (Some refusal) ≡ None
-    → HasKey rows (coll_key c)
-some_key rows c refusal is = elim (finite.get rows (coll_key c)) as (λ x. cond (is_some x) None (Some refusal) ≡ None → is_some x ≡ true) [
-  | None ↦ λ p. absurd cc
-  | Some v ↦ λ p. refl
-] is
+some_key : (rows : Rows) (c : List ℕ) (other : Option Refusal) (refusal : Refusal)
+    → cond (finite.contains_key rows (coll_key c)) other (Some refusal) ≡ None → HasKey rows (coll_key c) × (other ≡ None)
+some_key rows c other refusal is = elim (finite.get rows (coll_key c)) as
+    (λ x. cond (is_some x) other (Some refusal) ≡ None → (is_some x ≡ true) × (other ≡ None)) [
+      | None ↦ λ p. absurd cc
+      | Some v ↦ λ p. (refl, p)
+    ] is
 
--- a plan takes no unit, or the lowest free one
-pub plan_takes : (c : List ℕ) (ops : List Op) (rows : Rows) (space : Space) (plan : Plan) → IsKnown ops → Plans c ops rows space plan
-    → (plan.fresh ≡ []) ⊎ ((f : FreshUnit) × (plan.fresh ≡ f ∷ []) × IsLowestFree space f.unit)
-plan_takes c (MkColl ∷ []) rows space plan known plans = inl (ap (λ (p : Plan). p.fresh) plans)
-plan_takes c (Write o off bytes ∷ []) rows space plan known plans =
-    inr (record { unit = plans.unit; bytes = bytes }, plans.fresh, lowest_is_free space plans.unit plans.others plans.lowest)
-plan_takes c ops rows space plan known plans = absurd known
+-- a write of whole pages is short, and within an object's limit
+pub record IsWriteTaken (rows : Rows) (c : List ℕ) (off : ℕ) (bytes : List ℕ) : Type 0 where
+  pub has_collection : HasKey rows (coll_key c)
+  pub short : length bytes ≤ payload_limit
+  pub within : off + length bytes ≤ object_limit
 
-module _ (s : Super) (rows : Rows) (space : Space) (limits : IsSuper s) (good : AreGoodRows s rows) (is_space : IsSpaceOf s space)
-    (free : IsFreeExactly s rows rows space) where
-  -- the lowest free unit can take a page
-  pub can_put_page : (c o : List ℕ) (unit csum : ℕ) (others : List ℕ) → IsCollName c → IsName o → HasKey rows (coll_key c) → csum < 2 ^ 32
-      → free_units space ≡ unit ∷ others → CanPutPage s rows c o unit csum
-  can_put_page c o unit csum others coll name has csum_fits lowest =
-      let low = lowest_is_free space unit others lowest in
-      let on : IsDataUnit s unit = within_data s space unit is_space low.within in
-      record {
-        good = good.good;
-        single = good.single;
-        coll_name = coll;
-        object_name = name;
-        has_collection = has;
-        data_unit = on;
-        not_owned = ((free unit on).0 low.free).0;
-        unit_fits = omega (arith, on.1, limits.units_most);
-        csum_fits = csum_fits;
-      }
+pub write_taken : (rows : Rows) (c o : List ℕ) (off : ℕ) (bytes : List ℕ)
+    → refusal_of rows (record { coll = c; ops = Write o off bytes ∷ [] }) ≡ None → IsWriteTaken rows c off bytes
+write_taken rows c o off bytes is =
+    let change : Change = record { coll = c; ops = Write o off bytes ∷ [] } in
+    let parts = not_large (is_too_large change) (ops_refusal rows c change.ops) is in
+    let small = or_parts (nat_lt operation_limit 1) (nat_lt payload_limit (0 + length bytes)) parts.0 in
+    let beyond : Bool = nat_lt object_limit (off + length bytes) in
+    let found = some_key rows c (cond beyond (Some TooBig) None) NoCollection parts.1 in
+    record {
+      has_collection = found.0;
+      short = omega (arith, ltb-false payload_limit (0 + length bytes) small.1);
+      within = omega (arith, ltb-false object_limit (off + length bytes) (not_large beyond None found.1).0);
+    }
 
-  page_planned : (c o bytes : List ℕ) (plan : Plan) → IsCollName c → IsName o → HasKey rows (coll_key c) → length bytes ≡ 4096
-      → PlansPage c o bytes rows space plan → rows_plan.IsPlanned s rows (page_change c o bytes) (rows_plan_of plan)
-  page_planned c o bytes plan coll name has whole p =
-      let can = can_put_page c o p.unit (crc32c bytes) p.others coll name has p.csum_fits p.lowest in
-      let by = rows_plan.writes_page c o bytes p.unit plan.released can whole (units_as s rows c o plan.released good coll name p.released) in
-      let plan_is : record { ops = page_ops rows c o p.unit (crc32c bytes); fresh = (p.unit, bytes) ∷ []; released = plan.released } ≡ rows_plan_of plan =
-      λ i. record { ops = sym p.ops i; fresh = map unit_and_bytes (sym p.fresh i); released = plan.released } in
-      subst (rows_plan.IsPlanned s rows (page_change c o bytes)) plan_is by
+pub few_taken : (c : List ℕ) (ops : List Op) (rows : Rows) → IsKnown ops → refusal_of rows (record { coll = c; ops = ops }) ≡ None
+    → units_taken ops ≤ 256
+few_taken c (MkColl ∷ []) rows known accepted = omega arith
+few_taken c (Touch o ∷ []) rows known accepted = omega arith
+few_taken c (Write o off bytes ∷ []) rows known accepted = omega (arith, (write_taken rows c o off bytes accepted).short)
+few_taken c ops rows known accepted = absurd known
 
-  pub planned : (c : List ℕ) (ops : List Op) (plan : Plan) → IsKnown ops → HasNames c ops → refusal_of rows c ops ≡ None → Plans c ops rows space plan
-      → rows_plan.IsPlanned s rows (record { coll = c; ops = ops }) (rows_plan_of plan)
+-- ---- the plan is one of the rows
+
+-- what is free has no owner in these rows, whatever the committed ones are
+module _ (s : Super) (committed rows : Rows) (space : Space) (limits : IsSuper s) (is_space : IsSpaceOf s space)
+    (free : IsFreeExactly s committed rows space) where
+  free_facts : (u : ℕ) → Contains (free_units space) u → IsDataUnit s u × ¬ IsOwned rows u × (u < 2 ^ 32)
+  free_facts u k =
+      let is = listed_is_free space u k in
+      let on : IsDataUnit s u = within_data s space u is_space is.within in
+      (on, ((free u on).0 is.free).2, omega (arith, on.1, limits.units_most))
+
+  each_lowest : (P : ℕ → Type 0) (n : ℕ) → ((u : ℕ) → Contains (free_units space) u → P u) → AllByRecursion P (take n (free_units space))
+  each_lowest P n each = all_taken P n (free_units space) (all_listed P (free_units space) each)
+
+  lowest_fresh : (n : ℕ) → planned_as.AreFresh s rows (take n (free_units space))
+  lowest_fresh n = record {
+    ascend = ascend_taken n (free_units space) (free_units_ascend space);
+    on_data = each_lowest (λ u. IsDataUnit s u) n (λ u k. (free_facts u k).0);
+    free = each_lowest (λ u. ¬ IsOwned rows u) n (λ u k. (free_facts u k).1);
+    fit = each_lowest (λ u. u < 2 ^ 32) n (λ u k. (free_facts u k).2);
+  }
+
+  module _ (c o : List ℕ) (off : ℕ) (bytes : List ℕ) (plan : Plan) (known : IsKnown (Write o off bytes ∷ [])) (coll : IsCollName c) (name : IsName o)
+      (taken : IsWriteTaken rows c off bytes) (p : PlansPages c o off bytes rows space plan) where
+    page_count : length p.units ≡ length bytes / 4096
+    page_count = ap length p.lowest ∙ length-take-le (length bytes / 4096) (free_units space) p.enough
+
+    can_plan : planned_as.CanPlanWrite s rows c o (off / 4096) bytes p.units
+    can_plan = record {
+      coll_name = coll;
+      object_name = name;
+      has_collection = taken.has_collection;
+      units_most = omega (arith, limits.units_most);
+      fresh = subst (planned_as.AreFresh s rows) (sym p.lowest) (lowest_fresh (length bytes / 4096));
+      some = omega (arith, page_count, known.1, known.2);
+      whole = omega (arith, page_count, known.1);
+      short = taken.short;
+      within = omega (arith, taken.within);
+      csums_fit = p.csums_fit;
+    }
+
+    pages_planned : planned_as.IsPlanned s rows (record { coll = c; ops = Write o off bytes ∷ [] }) (as_planned plan)
+    pages_planned =
+        let here : 4096 * (off / 4096) ≡ off = omega (arith, known.0) in
+        let by = planned_as.writes c o (off / 4096) bytes p.units plan.ops plan.released can_plan p.writes in
+        subst (λ (n : ℕ). planned_as.IsPlanned s rows (record { coll = c; ops = Write o n bytes ∷ [] }) (as_planned plan)) here
+        (subst (λ (fs : List (ℕ × List ℕ)). planned_as.IsPlanned s rows (write_change c o (off / 4096) bytes)
+        (record { ops = plan.ops; fresh = fs; released = plan.released })) (sym p.fresh) by)
+
+  pub planned : (c : List ℕ) (ops : List Op) (plan : Plan) → IsKnown ops → HasNames c ops → refusal_of rows (record { coll = c; ops = ops }) ≡ None
+      → Plans c ops rows space plan → planned_as.IsPlanned s rows (record { coll = c; ops = ops }) (as_planned plan)
   planned c (MkColl ∷ []) plan known names accepted plans =
-      subst (rows_plan.IsPlanned s rows (coll_change c)) (ap rows_plan_of (sym plans)) (rows_plan.makes_coll c names (no_key rows c _ accepted))
+      subst (planned_as.IsPlanned s rows (coll_change c)) (ap as_planned (sym plans))
+      (planned_as.makes_coll c names (no_key rows c CollectionExists (ops_taken rows c (MkColl ∷ []) accepted)))
+  planned c (Touch o ∷ []) plan known names accepted plans =
+      subst (planned_as.IsPlanned s rows (touch_change c o)) (ap as_planned (sym plans))
+      (planned_as.touches c o names.0 names.1 (some_key rows c None NoCollection (ops_taken rows c (Touch o ∷ []) accepted)).0)
   planned c (Write o off bytes ∷ []) plan known names accepted plans =
-      let by = page_planned c o bytes plan names.0 names.1 (some_key rows c _ accepted) known.1 plans in
-      subst (λ (n : ℕ). rows_plan.IsPlanned s rows (record { coll = c; ops = Write o n bytes ∷ [] }) (rows_plan_of plan)) (sym known.0) by
+      pages_planned c o off bytes plan known names.0 names.1 (write_taken rows c o off bytes accepted) plans
   planned c ops plan known names accepted plans = absurd known
+
+-- ---- what its record and its data writes take
+
+-- At most 256 units, ascending, each with a page. Its operations have a spelling, and take as many units for each number of a record.
+pub record PlanFits (plan : Plan) : Type 0 where
+  pub few : length plan.fresh ≤ 256
+  pub whole : AllByRecursion (λ f. length f.bytes ≡ 4096) plan.fresh
+  pub ascend : Ascends (units_of plan.fresh)
+  pub fit : AllFit plan.ops
+  pub short : length (ops_bytes plan.ops) < 2 ^ 32
+  pub count : (number other : ℕ) → unit_count number plan.ops ≡ unit_count other plan.ops
+
+pub plan_fits : (s : Super) (rows : Rows) (space : Space) (c : List ℕ) (ops : List Op) (plan : Plan) → NoBadRow s rows → IsKnown ops
+    → refusal_of rows (record { coll = c; ops = ops }) ≡ None → Plans c ops rows space plan
+    → planned_as.IsPlanned s rows (record { coll = c; ops = ops }) (as_planned plan) → PlanFits plan
+plan_fits s rows space c ops plan good known accepted plans is = record {
+  few = omega (arith, plan_count c ops rows space plan known plans, few_taken c ops rows known accepted);
+  whole = fresh_whole s rows plan.fresh (planned_fresh s rows is);
+  ascend = subst Ascends (units_of_pairs plan.fresh) (planned_ascend s rows is);
+  fit = planned_fits s rows is good;
+  short = planned_short s rows is good;
+  count = λ number other. same_count number other plan.ops;
+}

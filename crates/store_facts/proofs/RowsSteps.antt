@@ -1,16 +1,17 @@
 -- The steps that leave the rows, the free units and the contexts' plans as they are: all but the commit.
-use Rattle.std.proofs.Common.{◌≡◌, inl, inr, ℕ, ◌==◌, ◌&&◌, Bool, true, false, not, cond, List, [], ◌∷◌, ◌++◌, Option, Some, None, refl, sym, ap, subst, ◌∙◌}
+use Rattle.std.proofs.Common.{◌≡◌, inl, inr, ℕ, ◌==◌, ◌&&◌, Bool, true, false, not, cond, List, [], ◌∷◌, ◌++◌, length, Option, Some, None, is_some, refl, sym, ap, subst, ◌∙◌}
 use Rattle.std.specs.Option.{option_map, option_map_or}
 use Rattle.std.proofs.lemmas.Bool.{eq-eqb}
 use Rattle.std.proofs.lemmas.Option.{same_Some}
 use Rattle.block_device.specs.Disk.{Disk}
+use Rattle.block_device.specs.declared.device.Ticket.{Ticket}
 use Rattle.store_steps.specs.declared.context.Context.{Context}
 use Rattle.store_steps.specs.declared.flight.Flying.{Flying}
 use Rattle.store_steps.specs.declared.flight.Job.{Job}
 use Rattle.store_steps.specs.declared.flight.Job.TheVariants as job
 use Rattle.store_steps.specs.State.{Begun, Batch, State}
-use Rattle.store_steps.specs.Contexts.{is_done, chosen, with_context, without_context, given_more, done_more}
-use Rattle.store_steps.specs.Changes.{data_sent, flush_sent, sync_sent, first_flushed, second_flushed, after_done, after_good, flying_of, landed, taken_up}
+use Rattle.store_steps.specs.Contexts.{unsent_units, is_done, chosen, with_context, without_context, given_more, done_more}
+use Rattle.store_steps.specs.Changes.{data_sent, flush_sent, sync_sent, first_flushed, second_flushed, after_done, after_good, flying_of, landed, reaped, taken_up}
 use Rattle.store_steps.specs.Steps.{DoesData, DoesReap, DoesTake, DoesFlush, DoesSeal, DoesRecord, DoesSync, DoesFinish}
 use Rattle.store_facts.specs.Space.{uncommitted}
 use Rattle.store_facts.specs.Flights.{IsOneAtATime}
@@ -28,11 +29,11 @@ like_with place change same (x ∷ xs) = (one (x.place == place), like_with plac
     one true = same x
     one false = record { ops = refl; fresh = refl; released = refl }
 
-given_like : (x : Context) → IsLike (given_more x) x
-given_like x = record { ops = refl; fresh = refl; released = refl }
+given_like : (count : ℕ) (x : Context) → IsLike (given_more count x) x
+given_like count x = record { ops = refl; fresh = refl; released = refl }
 
-done_like : (x : Context) → IsLike (done_more x) x
-done_like x = record { ops = refl; fresh = refl; released = refl }
+done_like : (count : ℕ) (x : Context) → IsLike (done_more count x) x
+done_like count x = record { ops = refl; fresh = refl; released = refl }
 
 -- the contexts of the batch, if there is one
 abbrev in_batch : Option Batch → List Context
@@ -56,12 +57,13 @@ batch_same : (s : State) (before after : Option Batch) → in_batch after ≡ in
 batch_same s before after e = like_same (in_batch after ++ s.pending) (in_batch before ++ s.pending) (ap (λ l. l ++ s.pending) e)
 
 done_same : (j : Job) (s : State) → HaveSameRows s (after_done j s)
-done_same (job.Data place) s = record {
+done_same (job.Data place count) s = record {
   sup = refl;
   rows = refl;
   view = refl;
   space = refl;
-  contexts = like_behind (in_batch s.batch) (with_context place done_more s.pending) s.pending (like_with place done_more done_like s.pending);
+  contexts = like_behind (in_batch s.batch) (with_context place (done_more count) s.pending) s.pending
+      (like_with place (done_more count) (done_like count) s.pending);
 }
 done_same job.DataFlush s = record {
   sup = refl;
@@ -83,25 +85,33 @@ good_same : (f : Option Flying) (s : State) → HaveSameRows s (after_good f s)
 good_same None s = same_itself s
 good_same (Some f) s = done_same f.job s
 
+-- a good end, which counts for nothing once the kernel is down
+ended_same : (down : Bool) (ticket : Ticket) (s : State)
+    → HaveSameRows s (cond down (landed ticket s) (after_good (flying_of ticket s.flying) (landed ticket s)))
+ended_same true ticket s = record { sup = refl; rows = refl; view = refl; space = refl; contexts = like_itself (uncommitted s) }
+ended_same false ticket s =
+    let after = good_same (flying_of ticket s.flying) (landed ticket s) in
+    record { sup = after.sup; rows = after.rows; view = after.view; space = after.space; contexts = after.contexts }
+
 module _ (s : State) (d : Disk) (s' : State) (d' : Disk) where
   -- where the state after is this one
   by_state : (t : State) → s' ≡ t → HaveSameRows s t → HaveSameRows s s'
   by_state t e same = subst (HaveSameRows s) (sym e) same
 
   pub data_same : DoesData s d s' d' → HaveSameRows s s'
-  data_same does = by_state (data_sent does.next.place does.ticket s) does.after (record {
-    sup = refl;
-    rows = refl;
-    view = refl;
-    space = refl;
-    contexts = like_behind (in_batch s.batch) (with_context does.next.place given_more s.pending) s.pending
-        (like_with does.next.place given_more given_like s.pending);
-  })
+  data_same does =
+      let count : ℕ = length (unsent_units does.next) in
+      by_state (data_sent does.next.place count does.ticket s) does.after (record {
+        sup = refl;
+        rows = refl;
+        view = refl;
+        space = refl;
+        contexts = like_behind (in_batch s.batch) (with_context does.next.place (given_more count) s.pending) s.pending
+            (like_with does.next.place (given_more count) (given_like count) s.pending);
+      })
 
   pub reap_same : DoesReap s d s' d' → HaveSameRows s s'
-  reap_same (inl does) =
-      let after = good_same (flying_of does.ticket s.flying) (landed does.ticket s) in
-      by_state _ does.after (record { sup = after.sup; rows = after.rows; view = after.view; space = after.space; contexts = after.contexts })
+  reap_same (inl does) = by_state (reaped does.ticket true s) does.after (ended_same (is_some s.down) does.ticket s)
   reap_same (inr waited) = by_state s waited.1 (same_itself s)
 
   pub flush_same : DoesFlush s d s' d' → HaveSameRows s s'
@@ -143,23 +153,25 @@ one_taken x context is = by (is_done x) is
         (same, ap (λ b. cond (not b) (x ∷ []) []) (ap (λ y. y.place == context.place) same ∙ eq-eqb context.place context.place refl))
     by false e = absurd cc
 
-taken_contexts : (pending : List Context) (batch : Option Batch) (context : Context) (begun : Option Begun) (flying : List Flying)
-    → IsOneAtATime pending batch begun flying
+taken_contexts : (number : ℕ) (pending : List Context) (batch : Option Batch) (context : Context) (begun : Option Begun) (flying : List Flying)
+    → IsOneAtATime number pending batch begun flying
     → chosen pending ≡ Some context → (context ∷ []) ++ without_context context.place pending ≡ in_batch batch ++ pending
-taken_contexts [] batch context begun flying far is = absurd cc
-taken_contexts (x ∷ []) None context begun flying far is =
+taken_contexts number [] batch context begun flying far is = absurd cc
+taken_contexts number (x ∷ []) None context begun flying far is =
     let one = one_taken x context is in
     ap (λ l. (context ∷ []) ++ l) one.1 ∙ ap (λ y. y ∷ []) (sym one.0)
-taken_contexts (x ∷ []) (Some b) context begun flying far is = absurd far
-taken_contexts (x ∷ y ∷ more) None context begun flying far is = absurd far
-taken_contexts (x ∷ y ∷ more) (Some b) context begun flying far is = absurd far
+taken_contexts number (x ∷ []) (Some b) context begun flying far is = absurd far
+taken_contexts number (x ∷ y ∷ more) None context begun flying far is = absurd far
+taken_contexts number (x ∷ y ∷ more) (Some b) context begun flying far is = absurd far
 
-pub take_same : (s : State) (d : Disk) (s' : State) (d' : Disk) → IsOneAtATime s.pending s.batch s.log.begun s.flying → DoesTake s d s' d' → HaveSameRows s s'
+pub take_same : (s : State) (d : Disk) (s' : State) (d' : Disk)
+    → IsOneAtATime s.log.number s.pending s.batch s.log.begun s.flying
+    → DoesTake s d s' d' → HaveSameRows s s'
 take_same s d s' d' far does = by_state s d s' d' (taken_up does.context s) does.after (record {
   sup = refl;
   rows = refl;
   view = refl;
   space = refl;
   contexts = like_same (uncommitted (taken_up does.context s)) (uncommitted s)
-      (taken_contexts s.pending s.batch does.context s.log.begun s.flying far does.is_chosen);
+      (taken_contexts s.log.number s.pending s.batch does.context s.log.begun s.flying far does.is_chosen);
 })

@@ -1,68 +1,97 @@
--- What is in flight. The store drives one transaction at a time now, so that at most one submission is in flight.
-use Rattle.std.specs.Prelude.{◌≡◌, ◌⊎◌, ◌+◌, ◌≤◌, List, [], ◌∷◌, length, map, Option, Some, None}
+-- What is in flight. The store drives one transaction at a time now: the data writes of one context, then a flush, the pieces of one record, a flush.
+use Rattle.std.specs.Prelude.{◌≡◌, ℕ, ◌+◌, ◌<◌, ◌≤◌, List, [], ◌∷◌, length, map, drop, Option, Some, None, IfSome}
+use Rattle.std.specs.List.{AllByRecursion}
 use Rattle.block_device.specs.Disk.{Flight}
-use Rattle.block_device.specs.declared.device.Ticket.{Ticket}
+use Rattle.block_device.specs.Facts.{IsUnflown}
 use Rattle.meta_rows.specs.declared.row_op.RowOp.{RowOp}
+use Rattle.meta_log.specs.Records.{unit_count}
+use Rattle.meta_log.specs.Slots.{active_unit}
+use Rattle.meta_log.specs.Pieces.{piece_count, given_from}
 use Rattle.store_steps.specs.declared.context.Context.{Context}
 use Rattle.store_steps.specs.declared.flight.FlushState.{FlushState}
 use Rattle.store_steps.specs.declared.flight.FlushState.TheVariants as flush
 use Rattle.store_steps.specs.declared.flight.Flying.{Flying}
 use Rattle.store_steps.specs.declared.flight.Job.{Job}
 use Rattle.store_steps.specs.declared.flight.Job.TheVariants as job
-use Rattle.store_steps.specs.State.{Begun, Batch}
+use Rattle.store_steps.specs.State.{Begun, Log, Batch}
 use Rattle.store_steps.specs.Contexts.{batch_ops}
 
 -- the tickets are those of the device's flights, in their order
 abbrev pub AreFlights : List Flying → List Flight → Type 0
 AreFlights flying flights = map (λ f. f.ticket.place) flying ≡ map (λ f. f.ticket) flights
 
--- one submission for this job is in flight, and nothing else
-abbrev pub IsAlone : Job → List Flying → Type 0
-IsAlone job flying = (ticket : Ticket) × (flying ≡ record { ticket = ticket; job = job } ∷ [])
+-- how many units are in flight, of data
+abbrev pub units_of : Job → ℕ
+units_of (job.Data place count) = count
+units_of other = 0
 
--- A context in no batch: it takes at most one unit, whose write isn't submitted, is in flight, or has ended well.
+abbrev pub flying_units : List Flying → ℕ
+flying_units [] = 0
+flying_units (f ∷ fs) = units_of f.job + flying_units fs
+
+-- a data write of the context at this place, of at least one unit
+abbrev pub IsDataOf : ℕ → Job → Type 0
+IsDataOf place (job.Data p count) = (p ≡ place) × (0 < count)
+IsDataOf place other = ⊥
+
+-- A context in no batch: what is in flight are data writes of its own, of the units that were given to the device and haven't reached it.
 pub record IsWaiting (x : Context) (flying : List Flying) : Type 0 where
-  pub few : length x.fresh ≤ 1
   pub within : x.given ≤ length x.fresh
-  pub flies : ((x.done ≡ x.given) × (flying ≡ [])) ⊎ ((x.done + 1 ≡ x.given) × IsAlone (job.Data x.place) flying)
+  pub own : AllByRecursion (λ f. IsDataOf x.place f.job) flying
+  pub counted : x.done + flying_units flying ≡ x.given
 
 -- a record whose pieces are not yet submitted, or that isn't made yet
 abbrev pub IsNotGiven : List RowOp → Option Begun → Type 0
 IsNotGiven ops None = Unit {0}
 IsNotGiven ops (Some r) = (r.ops ≡ ops) × (r.given ≡ 0) × (r.written ≡ 0)
 
--- a record of one piece, that isn't made, not submitted, in flight, or has ended well
-abbrev pub IsWriting : List RowOp → Option Begun → List Flying → Type 0
-IsWriting ops None flying = flying ≡ []
-IsWriting ops (Some r) flying = (r.ops ≡ ops) × (r.given ≤ 1)
-    × (((r.written ≡ r.given) × (flying ≡ [])) ⊎ ((r.written + 1 ≡ r.given) × IsAlone job.Record flying))
+-- A record of so many pieces that isn't made, or is on its way: what is in flight are pieces of it, those that were given and haven't ended.
+abbrev pub IsWriting : ℕ → List RowOp → Option Begun → List Flying → Type 0
+IsWriting pieces ops None flying = flying ≡ []
+IsWriting pieces ops (Some r) flying = (r.ops ≡ ops) × (r.given ≤ pieces) × (r.written + length flying ≡ r.given)
+    × AllByRecursion (λ f. f.job ≡ job.Record) flying
 
--- a record of one piece that has ended well
-abbrev pub IsWritten : List RowOp → Option Begun → Type 0
-IsWritten ops None = ⊥
-IsWritten ops (Some r) = (r.ops ≡ ops) × (r.given ≡ 1) × (r.written ≡ 1)
+-- a record all of whose pieces have ended well
+abbrev pub IsWritten : ℕ → List RowOp → Option Begun → Type 0
+IsWritten pieces ops None = ⊥
+IsWritten pieces ops (Some r) = (r.ops ≡ ops) × (r.given ≡ pieces) × (r.written ≡ pieces)
 
--- how far the open batch is, by its two flushes: the first, the record, the second
-abbrev pub IsUnderWay : FlushState → FlushState → List RowOp → Option Begun → List Flying → Type 0
-IsUnderWay flush.NotSent flush.NotSent ops begun flying = IsNotGiven ops begun × (flying ≡ [])
-IsUnderWay (flush.Sent ticket) flush.NotSent ops begun flying = IsNotGiven ops begun × (flying ≡ record { ticket = ticket; job = job.DataFlush } ∷ [])
-IsUnderWay flush.Flushed flush.NotSent ops begun flying = IsWriting ops begun flying
-IsUnderWay flush.Flushed (flush.Sent ticket) ops begun flying = IsWritten ops begun × (flying ≡ record { ticket = ticket; job = job.RecordFlush } ∷ [])
-IsUnderWay flush.Flushed flush.Flushed ops begun flying = IsWritten ops begun × (flying ≡ [])
-IsUnderWay first second ops begun flying = ⊥
+-- how far the open batch is, by its two flushes: the first, the record of so many pieces, the second
+abbrev pub IsUnderWay : FlushState → FlushState → ℕ → List RowOp → Option Begun → List Flying → Type 0
+IsUnderWay flush.NotSent flush.NotSent pieces ops begun flying = IsNotGiven ops begun × (flying ≡ [])
+IsUnderWay (flush.Sent ticket) flush.NotSent pieces ops begun flying =
+    IsNotGiven ops begun × (flying ≡ record { ticket = ticket; job = job.DataFlush } ∷ [])
+IsUnderWay flush.Flushed flush.NotSent pieces ops begun flying = IsWriting pieces ops begun flying
+IsUnderWay flush.Flushed (flush.Sent ticket) pieces ops begun flying =
+    IsWritten pieces ops begun × (flying ≡ record { ticket = ticket; job = job.RecordFlush } ∷ [])
+IsUnderWay flush.Flushed flush.Flushed pieces ops begun flying = IsWritten pieces ops begun × (flying ≡ [])
+IsUnderWay first second pieces ops begun flying = ⊥
 
--- a batch of one context, all of whose data writes have ended well
-pub record IsOpen (b : Batch) (begun : Option Begun) (flying : List Flying) : Type 0 where
+-- a batch of one context, all of whose units have reached the device; its record has this number
+pub record IsOpen (number : ℕ) (b : Batch) (begun : Option Begun) (flying : List Flying) : Type 0 where
   pub context : Context
   pub one : b.contexts ≡ context ∷ []
-  pub few : length context.fresh ≤ 1
   pub given : context.given ≡ length context.fresh
   pub done : context.done ≡ length context.fresh
-  pub far : IsUnderWay b.first b.second (batch_ops b) begun flying
+  pub far : IsUnderWay b.first b.second (piece_count (unit_count number (batch_ops b))) (batch_ops b) begun flying
 
 -- nothing is under way, or one context in no batch, or a batch of one
-abbrev pub IsOneAtATime : List Context → Option Batch → Option Begun → List Flying → Type 0
-IsOneAtATime [] None begun flying = (begun ≡ None) × (flying ≡ [])
-IsOneAtATime (x ∷ []) None begun flying = (begun ≡ None) × IsWaiting x flying
-IsOneAtATime [] (Some b) begun flying = IsOpen b begun flying
-IsOneAtATime pending batch begun flying = ⊥
+abbrev pub IsOneAtATime : ℕ → List Context → Option Batch → Option Begun → List Flying → Type 0
+IsOneAtATime number [] None begun flying = (begun ≡ None) × (flying ≡ [])
+IsOneAtATime number (x ∷ []) None begun flying = (begun ≡ None) × IsWaiting x flying
+IsOneAtATime number [] (Some b) begun flying = IsOpen number b begun flying
+IsOneAtATime number pending batch begun flying = ⊥
+
+-- no write in flight touches a unit of the context that is still to be given to the device
+abbrev pub IsUnsentUnflown : List Flight → Context → Type 0
+IsUnsentUnflown flights x = AllByRecursion (λ f. IsUnflown flights f.unit) (drop x.given x.fresh)
+
+-- nor a unit of a record of which a piece was given that is still to be
+abbrev pub IsRestUnflown : List Flight → Log → Begun → Type 0
+IsRestUnflown flights m r = 0 < r.given → (j : ℕ) → j < given_from (unit_count m.number r.ops) r.given
+    → IsUnflown flights (active_unit m.sup + (m.tail + j))
+
+-- what is written next isn't in flight
+pub record IsNextUnflown (m : Log) (pending : List Context) (flights : List Flight) : Type 0 where
+  pub unsent : AllByRecursion (IsUnsentUnflown flights) pending
+  pub rest : IfSome m.begun (IsRestUnflown flights m)

@@ -1,11 +1,11 @@
 -- What the kernel keeps, whatever its device tells.
-use Rattle.std.specs.Prelude.{◌≡◌, ℕ, ◌+◌, ◌*◌, ◌≤◌, ◌^◌, [], length, None, is_some, true}
+use Rattle.std.specs.Prelude.{◌≡◌, ℕ, ◌+◌, ◌*◌, ◌≤◌, ◌^◌, length, None}
 use Rattle.block_device.specs.Disk.{Disk, IsSound}
 use Rattle.meta_log.specs.Slots.{IsSuper}
 use Rattle.unit_allocator.specs.Units.{Space}
 use Rattle.store_steps.specs.State.{State}
 use Rattle.store_steps.specs.Opened.{Found}
-use Rattle.store_facts.specs.Flights.{AreFlights, IsOneAtATime}
+use Rattle.store_facts.specs.Flights.{AreFlights, IsOneAtATime, IsNextUnflown}
 use Rattle.store_facts.specs.Space.{uncommitted, rows_with, AreGoodRows, IsSpaceOf, IsFreeExactly, ReleasesExactly}
 use Rattle.store_facts.specs.Room.{HasRoomFor, AreNumbersLow, IsBookKept}
 use Rattle.store_facts.specs.Work.{work_left}
@@ -17,25 +17,24 @@ pub record IsAlwaysKept (s : State) (d : Disk) : Type 0 where
   pub units : s.log.sup.units ≡ d.units
   pub space : IsSpaceOf s.log.sup s.space
   pub flights : AreFlights s.flying d.flights
-  pub few : length s.flying ≤ 1
   pub numbers : AreNumbersLow s
   pub book : IsBookKept s
-  pub events : s.events + work_left s ≤ 2 ^ 61 + 64 * length s.book.entries
+  pub events : s.events + work_left s ≤ 2 ^ 61 + 4096 * length s.book.entries
 
 -- what it keeps while it isn't
-pub record IsKeptUp (s : State) : Type 0 where
-  pub far : IsOneAtATime s.pending s.batch s.log.begun s.flying
+pub record IsKeptUp (s : State) (d : Disk) : Type 0 where
+  pub far : IsOneAtATime s.log.number s.pending s.batch s.log.begun s.flying
+  pub unflown : IsNextUnflown s.log s.pending d.flights
   pub view : s.view ≡ rows_with s.log.rows (uncommitted s)
-  pub committed : AreGoodRows s.log.sup s.log.rows
-  pub good : AreGoodRows s.log.sup s.view
+  pub committed : AreGoodRows s.log.sup s.log.rows s.space
+  pub good : AreGoodRows s.log.sup s.view s.space
   pub free : IsFreeExactly s.log.sup s.log.rows s.view s.space
-  pub releases : ReleasesExactly s.log.rows s.view (uncommitted s)
+  pub releases : ReleasesExactly s.log.rows s.view s.space (uncommitted s)
   pub room : HasRoomFor s.log (uncommitted s)
 
 pub record IsKept (s : State) (d : Disk) : Type 0 where
   pub always : IsAlwaysKept s d
-  pub up : s.down ≡ None → IsKeptUp s
-  pub down : is_some s.down ≡ true → s.flying ≡ []
+  pub up : s.down ≡ None → IsKeptUp s d
 
 -- What a kernel asks of the store that it is opened on, whose device has so many units.
 pub record IsOpenable (f : Found) (s : Space) (units : ℕ) : Type 0 where
@@ -43,6 +42,6 @@ pub record IsOpenable (f : Found) (s : Space) (units : ℕ) : Type 0 where
   pub units_are : f.sup.units ≡ units
   pub number : f.number ≤ 2 ^ 61
   pub tail : f.tail ≤ f.sup.half
-  pub good : AreGoodRows f.sup f.rows
+  pub good : AreGoodRows f.sup f.rows s
   pub space : IsSpaceOf f.sup s
   pub free : IsFreeExactly f.sup f.rows f.rows s

@@ -1,6 +1,8 @@
 -- Room in the log and numbers.
-use Rattle.std.specs.Prelude.{◌≡◌, ℕ, ◌+◌, ◌≤◌, ◌^◌, List, All, length, slice_get, IfSome, is_some, nat_lt}
+use Rattle.std.specs.Prelude.{◌≡◌, ℕ, ◌+◌, ◌≤◌, ◌^◌, List, length, map, slice_get, IfSome, is_some, nat_lt}
+use Rattle.std.specs.List.{AllByRecursion}
 use Rattle.std.specs.Option.{option_map_or}
+use Rattle.unit_fields.specs.UnitSet.{Ascends}
 use Rattle.meta_rows.specs.Spelling.{AllFit}
 use Rattle.meta_log.specs.Records.{unit_count}
 use Rattle.object_model.specs.declared.book.Commit.{Commit}
@@ -9,16 +11,17 @@ use Rattle.store_steps.specs.State.{Log, State}
 use Rattle.store_steps.specs.Contexts.{sum_needs}
 use Rattle.store_steps.specs.Ready.{applied_count}
 
--- the operations of a context have a spelling, its record takes one unit whatever its number is, and what it writes are whole units
+-- The operations of a context have a spelling, and its record takes the units that it needs, whatever its number is. What it writes are whole
+-- units, ascending.
 pub record FitsRecord (x : Context) : Type 0 where
   pub fit : AllFit x.ops
-  pub one : (number : ℕ) → unit_count number x.ops ≡ 1
-  pub need : x.need ≡ 1
-  pub whole : All (λ f. length f.bytes ≡ 4096) x.fresh
+  pub need : (number : ℕ) → unit_count number x.ops ≡ x.need
+  pub whole : AllByRecursion (λ f. length f.bytes ≡ 4096) x.fresh
+  pub ascend : Ascends (map (λ f. f.unit) x.fresh)
 
 -- what is reserved is what the contexts need, and it fits behind the tail
 pub record HasRoomFor (m : Log) (contexts : List Context) : Type 0 where
-  pub fits : All FitsRecord contexts
+  pub fits : AllByRecursion FitsRecord contexts
   pub reserved : m.reserved ≡ sum_needs contexts
   pub room : m.tail + m.reserved ≤ m.sup.half
 

@@ -1,14 +1,16 @@
 //! What the kernel keeps, and that its steps come to an end. Each function has laws for its contract and does nothing.
-ghost use Rattle.std.specs.Prelude.{◌≡◌, ◌≢◌, ℕ, ◌+◌, ◌^◌, ◌<◌, ◌≤◌, true, [], length, Some, None};
-ghost use Rattle.block_device.specs.Disk.{Disk, IsSound};
+ghost use Rattle.std.specs.Prelude.{◌≡◌, ℕ, ◌+◌, ◌*◌, ◌^◌, ◌<◌, ◌≤◌, true, [], length, Some, None};
+ghost use Rattle.block_device.specs.Disk.{Disk, IsSound, IsNotInFlight};
+ghost use Rattle.meta_rows.specs.Spelling.{ops_bytes, AllFit};
 ghost use Rattle.meta_log.specs.Records.{unit_count};
 ghost use Rattle.object_model.specs.Effect.{Change};
 ghost use Rattle.object_model.specs.declared.command.Answer.{Answer};
 ghost use Rattle.unit_allocator.specs.Units.{Space};
 ghost use Rattle.store_steps.specs.declared.step.Step.{Step};
 ghost use Rattle.store_steps.specs.declared.step.Step.TheVariants.{Data, Flush, Seal, Record, Sync};
-ghost use Rattle.store_steps.specs.State.{Batch, State};
-ghost use Rattle.store_steps.specs.Contexts.{Unsent, next_unsent, batch_ops};
+ghost use Rattle.store_steps.specs.State.{Begun, Batch, State};
+ghost use Rattle.store_steps.specs.Contexts.{Unsent, unsent_units, run_bytes, next_unsent, batch_ops};
+ghost use Rattle.store_steps.specs.Steps.{piece_unit, piece_bytes};
 ghost use Rattle.store_steps.specs.Opened.{Found, opened};
 ghost use Rattle.store_steps.specs.Ready.{is_ready, is_drained};
 ghost use Rattle.store_steps.specs.Runs.{DoesOrFails, MaySubmit};
@@ -26,8 +28,7 @@ pub fn steps_keep()
         → DoesOrFails step s d s' d' → IsSound d' → measure s' d'.waits < measure s d.waits }
 {}
 
-/// A transaction that is submitted to a drained kernel keeps it too, accepted or refused.
-#[tactic(auto, using(crate::proofs::Kept::law_refuse))]
+/// A transaction that is submitted to a drained kernel keeps it too, accepted or refused. One that is turned away changes nothing.
 pub fn transactions_keep()
     ensures accepted { (client line : ℕ) (change : Change) (s s' : State) (d : Disk) → IsKept s d → MaySubmit change s d
         → Accepts client line change s s' → IsKept s' d }
@@ -50,26 +51,36 @@ pub fn drained_is_idle()
     ensures acked { (s : State) (d : Disk) → IsKept s d → s.down ≡ None → is_drained d.depth s ≡ true → s.acked ≡ length s.book.commits }
 {}
 
-/// Where a step is ready that submits, nothing is in flight: so the writes of a transaction have ended before the flush that makes
-/// them stable is submitted, this flush before its record, and the record before the flush that commits it.
+/// Where a flush is ready, nothing is in flight: so the writes of a transaction have ended before the flush that makes them stable is
+/// submitted, this flush before its record, and all pieces of the record before the flush that commits it.
 #[tactic(auto, using(crate::proofs::Known::alone_laws))]
 pub fn submissions_are_alone()
-    ensures data { (s : State) (d : Disk) → IsKept s d → is_ready Data d.depth s ≡ true → d.flights ≡ [] }
     ensures flush { (s : State) (d : Disk) → IsKept s d → is_ready Flush d.depth s ≡ true → d.flights ≡ [] }
-    ensures record { (s : State) (d : Disk) → IsKept s d → is_ready Record d.depth s ≡ true → d.flights ≡ [] }
     ensures sync { (s : State) (d : Disk) → IsKept s d → is_ready Sync d.depth s ≡ true → d.flights ≡ [] }
 {}
 
-/// The next data write is a whole unit. A batch whose record can be made fits one unit, for which the log has room, and numbers
-/// and events stay below the limits of their types.
+/// Several data writes of a transaction may be in flight at once, and several pieces of its record: none touches a unit of another.
+pub fn next_is_unflown()
+    ensures data { (s : State) (d : Disk) (next : Unsent) → IsKept s d → is_ready Data d.depth s ≡ true → next_unsent s.pending ≡ Some next
+        → IsNotInFlight d next.first.unit (length (run_bytes (unsent_units next))) }
+    ensures record { (s : State) (d : Disk) (writing : Begun) → IsKept s d → is_ready Record d.depth s ≡ true → s.log.begun ≡ Some writing
+        → IsNotInFlight d (piece_unit s.log writing) (length (piece_bytes s.log.number writing)) }
+{}
+
+/// The next data write is of 1 to 64 whole units of the device. A batch whose record can be made has a spelling for it, and the log
+/// has room for it; and numbers and events stay below the limits of their types.
 #[tactic(auto, using(crate::proofs::Known::room_laws))]
 pub fn steps_have_room()
+    ensures few { (s : State) (d : Disk) (next : Unsent) → IsKept s d → is_ready Data d.depth s ≡ true → next_unsent s.pending ≡ Some next
+        → (0 < length (unsent_units next)) × (length (unsent_units next) ≤ 64) }
     ensures whole { (s : State) (d : Disk) (next : Unsent) → IsKept s d → is_ready Data d.depth s ≡ true → next_unsent s.pending ≡ Some next
-        → length next.fresh.bytes ≡ 4096 }
-    ensures one_unit { (s : State) (d : Disk) (batch : Batch) → IsKept s d → is_ready Seal d.depth s ≡ true → s.batch ≡ Some batch
-        → unit_count s.log.number (batch_ops batch) ≡ 1 }
+        → length (run_bytes (unsent_units next)) ≡ 4096 * length (unsent_units next) }
+    ensures inside { (s : State) (d : Disk) (next : Unsent) → IsKept s d → is_ready Data d.depth s ≡ true → next_unsent s.pending ≡ Some next
+        → 4096 * next.first.unit + length (run_bytes (unsent_units next)) ≤ 4096 * d.units }
     ensures room { (s : State) (d : Disk) (batch : Batch) → IsKept s d → is_ready Seal d.depth s ≡ true → s.batch ≡ Some batch
-        → s.log.tail + 1 ≤ s.log.sup.half }
+        → s.log.tail + unit_count s.log.number (batch_ops batch) ≤ s.log.sup.half }
+    ensures spelling { (s : State) (d : Disk) (batch : Batch) → IsKept s d → is_ready Seal d.depth s ≡ true → s.batch ≡ Some batch
+        → AllFit (batch_ops batch) × (length (ops_bytes (batch_ops batch)) < 2 ^ 32) }
     ensures number { (s : State) (d : Disk) (batch : Batch) → IsKept s d → is_ready Seal d.depth s ≡ true → s.batch ≡ Some batch
         → s.log.number < 2 ^ 62 }
     ensures events { (s : State) (d : Disk) → IsKept s d → s.events + 1 < 2 ^ 64 }

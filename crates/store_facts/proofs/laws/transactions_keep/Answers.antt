@@ -1,5 +1,8 @@
-use Rattle.store_facts.proofs.Kept.{law_accept}
+use Rattle.store_facts.proofs.Kept.{law_accept, law_refuse}
 use Rattle.store_facts.proofs.laws.transactions_keep.Goals as goal
 
 pub returns-clause-accepted : goal.returns-clause-accepted
 returns-clause-accepted c = law_accept
+
+pub returns-clause-refused : goal.returns-clause-refused
+returns-clause-refused c = law_refuse

@@ -1,0 +1,8 @@
+use Rattle.store_facts.proofs.Known.{next_data_unflown, next_piece_unflown}
+use Rattle.store_facts.proofs.laws.next_is_unflown.Goals as goal
+
+pub returns-clause-data : goal.returns-clause-data
+returns-clause-data c = next_data_unflown
+
+pub returns-clause-record : goal.returns-clause-record
+returns-clause-record c = next_piece_unflown

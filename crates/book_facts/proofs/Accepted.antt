@@ -1,5 +1,5 @@
 -- How the book goes on at a submission: an entry more, and where it is accepted a context more.
-use Rattle.std.proofs.Common.{◌≡◌, ◌⊎◌, inl, inr, ℕ, Bool, cond, not, List, [], ◌∷◌, ◌++◌, length, Option, None, Ok}
+use Rattle.std.proofs.Common.{◌≡◌, ◌≢◌, inl, inr, ℕ, ◌<◌, Bool, cond, not, List, [], ◌∷◌, ◌++◌, length, map, Option, None, Ok}
 use Rattle.std.proofs.Common.{Err, refl, sym, ap, subst, ◌∙◌, append-nil, append_assoc, arith}
 use Rattle.std.specs.Prelude.{IsOk, Result, IsTrue}
 use Rattle.std.specs.List.{AllByRecursion, cons_option}
@@ -8,8 +8,6 @@ use Rattle.block_device.specs.Disk.{Disk}
 use Rattle.object_model.specs.declared.command.Answer.{Answer}
 use Rattle.object_model.specs.declared.command.Answer.TheVariants as answer
 use Rattle.object_model.specs.declared.command.Command.TheVariants as ask
-use Rattle.object_model.specs.declared.op.Op.{Op}
-use Rattle.object_model.specs.declared.op.Op.TheVariants.{MkColl, Write}
 use Rattle.object_model.specs.declared.op.Refusal.{Refusal}
 use Rattle.object_model.specs.declared.book.Entry.{Entry}
 use Rattle.object_model.specs.Objects.{Objects}
@@ -19,23 +17,22 @@ use Rattle.object_model.specs.Book.{accepted, is_refused, IsAnswered}
 use Rattle.object_model.proofs.Replays.{replay-append}
 use Rattle.meta_rows.specs.Rows.{Rows, rows_after}
 use Rattle.meta_log.specs.declared.slot.Super.{Super}
+use Rattle.unit_fields.specs.UnitSet.{Ascends}
+use Rattle.store_image.specs.BadRows.{NoBadRow}
 use Rattle.store_image.specs.Owners.{IsOwned, IsDataUnit}
 use Rattle.store_image.specs.Stands.{ObjectsStand}
-use Rattle.row_facts.specs.Plans as rows_plan
-use Rattle.row_facts.proofs.Plans.{planned_stand, planned_fresh}
-use Rattle.unit_allocator.specs.Units.{Space}
+use Rattle.object_rows.specs.Planned.{IsPlanned, HoldsFresh}
+use Rattle.object_rows.proofs.Planned.{planned_stand, planned_fresh, planned_ascend}
 use Rattle.store_steps.specs.declared.context.Context.{Context}
 use Rattle.store_steps.specs.declared.context.FreshUnit.{FreshUnit}
 use Rattle.store_steps.specs.declared.plan.Plan.{Plan}
-use Rattle.store_steps.specs.State.{Batch, State}
+use Rattle.store_steps.specs.State.{State}
+use Rattle.store_steps.specs.Planning.{pair_of, as_planned}
 use Rattle.store_steps.specs.Submit.{IsKnown, refusal_of, context_of, noted, accepted_with, IsCause, Accepts}
-use Rattle.store_steps.specs.Planning.{Plans}
 use Rattle.store_steps.specs.Runs.{MaySubmit}
-use Rattle.store_facts.specs.Space.{uncommitted, rows_with, IsFreeExactly}
-use Rattle.store_facts.specs.Kept.{IsKept, IsKeptUp}
-use Rattle.store_facts.proofs.RowsPlans.{rows_plan_of, planned}
-use Rattle.store_facts.proofs.Conditions.{IsIdle}
-use Rattle.store_facts.proofs.Kept.{idle_of}
+use Rattle.store_facts.specs.Space.{uncommitted}
+use Rattle.store_facts.specs.Kept.{IsKept}
+use Rattle.store_facts.proofs.RowsPlans.{units_of, units_of_pairs, planned}
 use Rattle.book_facts.specs.BookFacts.{batched, IsOfEntry, KnownOfBook, StandSomehow}
 use Rattle.book_facts.specs.FreshBytes.{bytes_with}
 use Rattle.book_facts.proofs.Entries.{own_change, accepted_push, answers_push, counts_push, change_last, of_entries_push}
@@ -45,72 +42,51 @@ use Rattle.book_facts.proofs.Queues.{entry_push, queued_noted, queued_accepted}
 
 -- ---- the plan of an accepted transaction
 
--- what a submission knows of the plan
-pub record TakesPlan (s : State) (change : Change) (plan : Plan) : Type 0 where
-  pub is_planned : rows_plan.IsPlanned s.log.sup s.view change (rows_plan_of plan)
-  pub takes : (plan.fresh ≡ []) ⊎ ((f : FreshUnit) × (plan.fresh ≡ f ∷ []))
-
-plan_takes : (c : List ℕ) (ops : List Op) (rows : Rows) (space : Space) (plan : Plan) → IsKnown ops → Plans c ops rows space plan
-    → (plan.fresh ≡ []) ⊎ ((f : FreshUnit) × (plan.fresh ≡ f ∷ []))
-plan_takes c (MkColl ∷ []) rows space plan known plans = inl (ap (λ (p : Plan). p.fresh) plans)
-plan_takes c (Write o off bytes ∷ []) rows space plan known plans = inr (record { unit = plans.unit; bytes = bytes }, plans.fresh)
-plan_takes c ops rows space plan known plans = absurd known
-
+-- the rows stay good by it
 pub takes_plan : (s : State) (d : Disk) (client line : ℕ) (change : Change) (s' : State) → IsKept s d → MaySubmit change s d
-    → (does : Accepts client line change s s')
-    → TakesPlan s change does.plan
-takes_plan s d client line change s' kept may does = record {
-  is_planned =
-      planned s.log.sup s.view s.space kept.always.limits up.good kept.always.space free change.coll change.ops does.plan
-      may.known does.names does.not_refused does.plans;
-  takes = plan_takes change.coll change.ops s.view s.space does.plan may.known does.plans;
-}
-  where
-    up : IsKeptUp s
-    up = kept.up may.up
-
-    idle : IsIdle s
-    idle = idle_of s d change kept may
-
-    -- nothing is under way, so that the submitted rows are the committed ones
-    same : s.view ≡ s.log.rows
-    same = up.view ∙ ap (λ (xs : List Context). rows_with s.log.rows xs) (ap (λ (xs : List Context). batched s.batch ++ xs) idle.pending
-        ∙ ap (λ (b : Option Batch). batched b ++ []) idle.batch)
-
-    free : IsFreeExactly s.log.sup s.view s.view s.space
-    free = subst (λ (rows : Rows). IsFreeExactly s.log.sup rows s.view s.space) (sym same) up.free
+    → (does : Accepts client line change s s') → IsPlanned s.log.sup s.view change (as_planned does.plan)
+takes_plan s d client line change s' kept may does =
+    planned s.log.sup s.log.rows s.view s.space kept.always.limits kept.always.space (kept.up does.can_note.up).free change.coll change.ops does.plan
+    may.known does.names does.not_refused does.plans
 
 -- ---- fresh units have their bytes
 
-holds_one : (f : FreshUnit) (at : ℕ → List ℕ) → bytes_with (f ∷ []) at f.unit ≡ f.bytes
-holds_one f at = ap (λ (b : Bool). cond b f.bytes (at f.unit)) (eq-eqb f.unit f.unit refl)
+module _ (fresh : List FreshUnit) (f : FreshUnit) (at : ℕ → List ℕ) where
+  here_held : bytes_with (f ∷ fresh) at f.unit ≡ f.bytes
+  here_held = ap (λ (b : Bool). cond b f.bytes (bytes_with fresh at f.unit)) (eq-eqb f.unit f.unit refl)
 
-other_one : (f : FreshUnit) (at : ℕ → List ℕ) (unit : ℕ) → (f.unit ≡ unit → ⊥) → bytes_with (f ∷ []) at unit ≡ at unit
-other_one f at unit other = ap (λ (b : Bool). cond b f.bytes (at unit)) (ne_eqb f.unit unit other)
+  others_held : (unit : ℕ) → f.unit ≢ unit → bytes_with (f ∷ fresh) at unit ≡ bytes_with fresh at unit
+  others_held unit other = ap (λ (b : Bool). cond b f.bytes (bytes_with fresh at unit)) (ne_eqb f.unit unit other)
 
-module _ (sup : Super) (rows : Rows) (change : Change) (plan : Plan) (is : rows_plan.IsPlanned sup rows change (rows_plan_of plan))
-    (takes : (plan.fresh ≡ []) ⊎ ((f : FreshUnit) × (plan.fresh ≡ f ∷ []))) (at : ℕ → List ℕ) where
-  abbrev IsFreshOf : List FreshUnit → Type 0
-  IsFreshOf fresh = AllByRecursion (λ f. IsDataUnit sup f.0 × ¬ IsOwned rows f.0 × (length f.1 ≡ 4096)) (rows_plan_of (record plan { fresh = fresh })).fresh
+  -- those above it hold what they held
+  above_held : (gs : List FreshUnit) → AllByRecursion (λ u. f.unit < u) (units_of gs)
+      → AllByRecursion (λ p. bytes_with fresh at p.0 ≡ p.1) (map pair_of gs)
+      → AllByRecursion (λ p. bytes_with (f ∷ fresh) at p.0 ≡ p.1) (map pair_of gs)
+  above_held [] above held = tt
+  above_held (g ∷ gs) above held = (others_held g.unit (λ e. omega (arith, e, above.0)) ∙ held.0, above_held gs above.1 held.1)
 
-  pub plan_holds : rows_plan.HoldsFresh (bytes_with plan.fresh at) (rows_plan_of plan)
-  plan_holds = elim takes [
-    | inl none ↦ subst (λ (fresh : List FreshUnit). rows_plan.HoldsFresh (bytes_with fresh at) (rows_plan_of (record plan { fresh = fresh }))) (sym none) tt
-    | inr one ↦ subst (λ (fresh : List FreshUnit). rows_plan.HoldsFresh (bytes_with fresh at) (rows_plan_of (record plan {
-      fresh =
-          fresh;
-    }))) (sym one.1) (holds_one one.0 at, tt)
-  ]
+fresh_held : (fresh : List FreshUnit) (at : ℕ → List ℕ) → Ascends (units_of fresh)
+    → AllByRecursion (λ p. bytes_with fresh at p.0 ≡ p.1) (map pair_of fresh)
+fresh_held [] at ascend = tt
+fresh_held (f ∷ fresh) at ascend = (here_held fresh f at, above_held fresh f at fresh ascend.0 (fresh_held fresh at ascend.1))
+
+-- a unit that is none of them holds what it held
+none_held : (sup : Super) (rows : Rows) (fresh : List FreshUnit) (at : ℕ → List ℕ) (unit : ℕ) → IsOwned rows unit
+    → AllByRecursion (λ f. IsDataUnit sup f.0 × ¬ IsOwned rows f.0 × (length f.1 ≡ 4096)) (map pair_of fresh) → bytes_with fresh at unit ≡ at unit
+none_held sup rows [] at unit owned all = refl
+none_held sup rows (f ∷ fresh) at unit owned all =
+    others_held fresh f at unit (λ e. all.0.1 (subst (IsOwned rows) (sym e) owned)) ∙ none_held sup rows fresh at unit owned all.1
+
+module _ (sup : Super) (rows : Rows) (change : Change) (plan : Plan) (is : IsPlanned sup rows change (as_planned plan)) (at : ℕ → List ℕ) where
+  pub plan_ascends : Ascends (units_of plan.fresh)
+  plan_ascends = subst Ascends (units_of_pairs plan.fresh) (planned_ascend sup rows is)
+
+  pub plan_holds : HoldsFresh (bytes_with plan.fresh at) (as_planned plan)
+  plan_holds = fresh_held plan.fresh at plan_ascends
 
   -- and no owned unit is fresh
   pub plan_spares : (unit : ℕ) → IsOwned rows unit → bytes_with plan.fresh at unit ≡ at unit
-  plan_spares unit owned = elim takes [
-    | inl none ↦ ap (λ (fresh : List FreshUnit). bytes_with fresh at unit) none
-    | inr one ↦
-        let all : IsFreshOf (one.0 ∷ []) = subst IsFreshOf one.1 (planned_fresh sup rows is) in
-        ap (λ (fresh : List FreshUnit). bytes_with fresh at unit) one.1
-        ∙ other_one one.0 at unit (λ e. all.0.1 (subst (IsOwned rows) (sym e) owned))
-  ]
+  plan_spares unit owned = none_held sup rows plan.fresh at unit owned (planned_fresh sup rows is)
 
 -- ---- the objects after the transaction
 
@@ -129,16 +105,17 @@ pub record GoesOn (opening : Objects) (s : State) (change : Change) : Type 0 whe
   pub replays : replay opening (accepted s.book.entries ++ change ∷ []) ≡ after
 
 pub goes_on : (opening : Objects) (s : State) (change : Change) → KnownOfBook opening s → IsKnown change.ops
-    → refusal_of s.view change.coll change.ops ≡ None → GoesOn opening s change
+    → refusal_of s.view change ≡ None → GoesOn opening s change
 goes_on opening s change book known is =
     let objects = replay opening (accepted s.book.entries) in
-    let found = after_of (transaction_effect change objects) (not_refused s.view objects book.stand.1.shape change.coll change.ops known is) in
+    let found = after_of (transaction_effect change objects) (not_refused s.view objects change book.stand.1.shape known is) in
     record { after = found.0; effect = found.1; replays = replay_one opening (accepted s.book.entries) change found.0 found.1 }
 
 -- ---- it is accepted
 
 module _ (opening : Objects) (s : State) (client line : ℕ) (change : Change) (plan : Plan) (known : IsKnown change.ops)
-    (none : refusal_of s.view change.coll change.ops ≡ None) (takes : TakesPlan s change plan) (book : KnownOfBook opening s) where
+    (none : refusal_of s.view change ≡ None) (good : NoBadRow s.log.sup s.view)
+    (is_planned : IsPlanned s.log.sup s.view change (as_planned plan)) (book : KnownOfBook opening s) where
   abbrev entry : Entry
   entry = record { client = client; line = line; command = ask.Change change; answer = answer.Accepted; acks = s.acked }
 
@@ -181,9 +158,9 @@ module _ (opening : Objects) (s : State) (client line : ℕ) (change : Change) (
       stand = (
         now,
         subst (ObjectsStand now (rows_after s.view plan.ops)) (sym objects_are)
-            (planned_stand s.log.sup s.view book.stand.0 now (replay opening (accepted s.book.entries)) on.after takes.is_planned
-            (plan_holds s.log.sup s.view change plan takes.is_planned takes.takes book.stand.0)
-            (plan_spares s.log.sup s.view change plan takes.is_planned takes.takes book.stand.0) book.stand.1 on.effect),
+            (planned_stand s.log.sup s.view book.stand.0 now (replay opening (accepted s.book.entries)) on.after is_planned good
+            (plan_holds s.log.sup s.view change plan is_planned book.stand.0) (plan_spares s.log.sup s.view change plan is_planned book.stand.0)
+            book.stand.1 on.effect),
       )
 
 -- ---- it is refused
@@ -195,11 +172,11 @@ module _ (opening : Objects) (s : State) (client line : ℕ) (change : Change) (
   abbrev objects_now : Objects
   objects_now = replay opening (accepted s.book.entries)
 
-  not_refused_now : refusal_of s.view change.coll change.ops ≡ None → IsTrue (not (is_refused (reply_of (ask.Change change) objects_now)))
+  not_refused_now : refusal_of s.view change ≡ None → IsTrue (not (is_refused (reply_of (ask.Change change) objects_now)))
   not_refused_now none = ap (λ (a : Answer). not (is_refused a)) (reply_accepted s.view objects_now change book.stand.1.shape known none)
 
   cause_answers : (a : Answer) → IsCause a change s → IsAnswered objects_now (noting a)
-  cause_answers (answer.Refused refusal) cause = inl (sym (reply_refused s.view objects_now change refusal book.stand.1.shape known cause))
+  cause_answers (answer.Refused refusal) cause = inl (sym (reply_refused s.view objects_now change book.stand.1.shape known refusal cause))
   cause_answers (answer.NoSpace need free) cause = inr (refl, not_refused_now cause.0)
   cause_answers (answer.MetaFull need room) cause = inr (refl, not_refused_now cause.0)
   cause_answers a cause = absurd cause

@@ -1,5 +1,5 @@
 -- Each call of the kernel keeps what is known of the book, and so does a run.
-use Rattle.std.proofs.Common.{◌≡◌, inl, inr, ◌≤◌, Bool, true, false, List, [], ◌∷◌, Option, Some, None, refl, sym, ap, subst}
+use Rattle.std.proofs.Common.{◌≡◌, inl, inr, ◌≤◌, Bool, true, false, cond, length, is_some, List, [], ◌∷◌, Option, Some, None, refl, sym, ap, subst}
 use Rattle.std.proofs.Common.{arith}
 use Rattle.block_device.specs.declared.device.Ticket.{Ticket}
 use Rattle.block_device.specs.Disk.{Disk}
@@ -11,7 +11,7 @@ use Rattle.store_steps.specs.declared.flight.Job.TheVariants as job
 use Rattle.store_steps.specs.declared.step.Step.{Step}
 use Rattle.store_steps.specs.declared.step.Step.TheVariants.{Data, Reap, Take, Flush, Seal, Record, Sync, Commit, Finish}
 use Rattle.store_steps.specs.State.{Batch, State}
-use Rattle.store_steps.specs.Contexts.{given_more, done_more}
+use Rattle.store_steps.specs.Contexts.{unsent_units, given_more, done_more}
 use Rattle.store_steps.specs.Changes.{data_sent, flush_sent, record_sent, sync_sent, after_done, after_good, flying_of, landed}
 use Rattle.store_steps.specs.Changes.{reaped, sealed}
 use Rattle.store_steps.specs.Ready.{is_ready}
@@ -35,12 +35,12 @@ same_book s t book acked view events pending batch =
     record { book = book; acked = acked; view = view; events = events; pending = like_same t.pending s.pending pending; batch = batch }
 
 done_keeps : (j : Job) (s : State) → KeepBook s (after_done j s)
-done_keeps (job.Data place) s = record {
+done_keeps (job.Data place count) s = record {
   book = refl;
   acked = refl;
   view = refl;
   events = omega arith;
-  pending = like_with place done_more done_like s.pending;
+  pending = like_with place (done_more count) (done_like count) s.pending;
   batch = like_itself (batched s.batch);
 }
 done_keeps job.DataFlush s = same_book s (after_done job.DataFlush s) refl refl refl (omega arith) refl (first_like s.batch)
@@ -52,17 +52,26 @@ good_keeps None s = same_book s s refl refl refl (omega arith) refl (like_itself
 good_keeps (Some f) s = done_keeps f.job s
 
 reaped_keeps : (ok : Bool) (ticket : Ticket) (s : State) → KeepBook s (reaped ticket ok s)
-reaped_keeps true ticket s =
-    let after = good_keeps (flying_of ticket s.flying) (landed ticket s) in
-    record {
-      book = after.book;
-      acked = after.acked;
-      view = after.view;
-      events = (let more = after.events in omega (arith, more));
-      pending =
-          after.pending;
-      batch = after.batch;
-    }
+reaped_keeps true ticket s = by_down (is_some s.down)
+  where
+    landed_keeps : KeepBook s (landed ticket s)
+    landed_keeps = same_book s (landed ticket s) refl refl refl (omega arith) refl (like_itself (batched s.batch))
+
+    good_end : KeepBook s (after_good (flying_of ticket s.flying) (landed ticket s))
+    good_end =
+        let after = good_keeps (flying_of ticket s.flying) (landed ticket s) in
+        record {
+          book = after.book;
+          acked = after.acked;
+          view = after.view;
+          events = (let more = after.events in omega (arith, more));
+          pending = after.pending;
+          batch = after.batch;
+        }
+
+    by_down : (b : Bool) → KeepBook s (cond b (landed ticket s) (after_good (flying_of ticket s.flying) (landed ticket s)))
+    by_down true = landed_keeps
+    by_down false = good_end
 reaped_keeps false ticket s = same_book s (reaped ticket false s) refl refl refl (omega arith) refl (like_itself (batched s.batch))
 
 batch_keeps : (before : Option Batch) (b : Batch) → before ≡ Some b → AreLike (b.contexts) (batched before)
@@ -73,12 +82,12 @@ module _ (s : State) (d : Disk) (s' : State) (d' : Disk) where
   to_state t e keep = subst (KeepBook s) (sym e) keep
 
   data_keeps : DoesData s d s' d' → KeepBook s s'
-  data_keeps does = to_state (data_sent does.next.place does.ticket s) does.after (record {
+  data_keeps does = to_state (data_sent does.next.place (length (unsent_units does.next)) does.ticket s) does.after (record {
     book = refl;
     acked = refl;
     view = refl;
     events = omega arith;
-    pending = like_with does.next.place given_more given_like s.pending;
+    pending = like_with does.next.place (given_more (length (unsent_units does.next))) (given_like (length (unsent_units does.next))) s.pending;
     batch = like_itself (batched s.batch);
   })
 
@@ -113,7 +122,8 @@ module _ (s : State) (d : Disk) (s' : State) (d' : Disk) where
   book_step opening Reap kept ready known (inl does) = book_stays opening s s' (reap_keeps does) known
   book_step opening Reap kept ready known (inr failed) = book_stays opening s s' (ended_keeps false failed) known
   book_step opening Take kept ready known does =
-      let alone = taken_alone s.pending s.batch s.log.begun s.flying does.context (kept.up (ready_not_down s d Take kept ready)).far does.is_chosen in
+      let far = (kept.up (ready_not_down s d.depth Take refl ready)).far in
+      let alone = taken_alone s.log.number s.pending s.batch s.log.begun s.flying does.context far does.is_chosen in
       subst (KnownOfBook opening) (sym does.after) (book_takes opening s does.context alone.0 alone.1 known)
   book_step opening Flush kept ready known does = book_stays opening s s' (flush_keeps does) known
   book_step opening Seal kept ready known does = book_stays opening s s' (seal_keeps does) known
@@ -121,7 +131,8 @@ module _ (s : State) (d : Disk) (s' : State) (d' : Disk) where
   book_step opening Sync kept ready known does = book_stays opening s s' (sync_keeps does) known
   book_step opening Commit kept ready known does = subst (KnownOfBook opening) (sym does.after) (book_commits opening s does.batch known)
   book_step opening Finish kept ready known does =
-      let below = (finish_ready s d d.depth kept.always (ready_by_table s d Finish kept ready)).0 in
+      let below = (finish_ready s d d.depth kept.always
+      (ready_by_table s d.depth Finish (ready_not_down s d.depth Finish refl ready) ready)).0 in
       subst (KnownOfBook opening) (sym does.after) (book_finishes opening s below known)
 
   pub order_step : (step : Step) → IsKept s d → is_ready step d.depth s ≡ true → IsInOrder s → DoesOrFails step s d s' d' → IsInOrder s'
@@ -129,7 +140,8 @@ module _ (s : State) (d : Disk) (s' : State) (d' : Disk) where
   order_step Reap kept ready known (inl does) = order_stays s s' (reap_keeps does) known
   order_step Reap kept ready known (inr failed) = order_stays s s' (ended_keeps false failed) known
   order_step Take kept ready known does =
-      let alone = taken_alone s.pending s.batch s.log.begun s.flying does.context (kept.up (ready_not_down s d Take kept ready)).far does.is_chosen in
+      let far = (kept.up (ready_not_down s d.depth Take refl ready)).far in
+      let alone = taken_alone s.log.number s.pending s.batch s.log.begun s.flying does.context far does.is_chosen in
       subst IsInOrder (sym does.after) (order_takes s does.context alone.0 alone.1 known)
   order_step Flush kept ready known does = order_stays s s' (flush_keeps does) known
   order_step Seal kept ready known does = order_stays s s' (seal_keeps does) known
@@ -144,15 +156,19 @@ pub book_call : (opening : Objects) (call : Call) (s s' : State) (d d' : Disk) �
     → KnownOfBook opening s'
 book_call opening (submitting client line change) s s' d d' kept known made = elim made.1 [
   | inl does ↦ subst (KnownOfBook opening) (sym does.after)
-      (book_accepts opening s client line change does.plan made.0.known does.not_refused (takes_plan s d client line change s' kept made.0 does) known)
-  | inr refuses ↦ subst (KnownOfBook opening) (sym refuses.1.after) (book_notes opening s client line change made.0.known known refuses.0 refuses.1.cause)
+      (book_accepts opening s client line change does.plan made.0.known does.not_refused (kept.up does.can_note.up).good.good
+      (takes_plan s d client line change s' kept made.0 does) known)
+  | inr (inl refuses) ↦
+      subst (KnownOfBook opening) (sym refuses.1.after) (book_notes opening s client line change made.0.known known refuses.0 refuses.1.cause)
+  | inr (inr away) ↦ subst (KnownOfBook opening) (sym away.same) known
 ]
 book_call opening (stepping step) s s' d d' kept known made = book_step s d s' d' opening step kept made.0 known made.1
 
 pub order_call : (call : Call) (s s' : State) (d d' : Disk) → IsKept s d → IsInOrder s → Calls call s d s' d' → IsInOrder s'
 order_call (submitting client line change) s s' d d' kept known made = elim made.1 [
   | inl does ↦ subst IsInOrder (sym does.after) (order_accepts s client line change does.plan known)
-  | inr refuses ↦ subst IsInOrder (sym refuses.1.after) (order_notes s client line change refuses.0 refuses.1.cause known)
+  | inr (inl refuses) ↦ subst IsInOrder (sym refuses.1.after) (order_notes s client line change refuses.0 refuses.1.cause known)
+  | inr (inr away) ↦ subst IsInOrder (sym away.same) known
 ]
 order_call (stepping step) s s' d d' kept known made = order_step s d s' d' step kept made.0 known made.1
 

@@ -169,17 +169,17 @@ module _ (opening : Objects) (s : State) (x : Context) where
       })
 
 -- the context that a batch is opened with waits alone
-pub taken_alone : (pending : List Context) (batch : Option Batch) (begun : Option Begun) (flying : List Flying) (x : Context)
-    → IsOneAtATime pending batch begun flying → chosen pending ≡ Some x → (pending ≡ x ∷ []) × (batch ≡ None)
-taken_alone [] batch begun flying x far is = absurd cc
-taken_alone (y ∷ []) None begun flying x far is = (by_done (is_done y) is, refl)
+pub taken_alone : (number : ℕ) (pending : List Context) (batch : Option Batch) (begun : Option Begun) (flying : List Flying) (x : Context)
+    → IsOneAtATime number pending batch begun flying → chosen pending ≡ Some x → (pending ≡ x ∷ []) × (batch ≡ None)
+taken_alone number [] batch begun flying x far is = absurd cc
+taken_alone number (y ∷ []) None begun flying x far is = (by_done (is_done y) is, refl)
   where
     by_done : (b : Bool) → cond (b && true) (Some y) None ≡ Some x → y ∷ [] ≡ x ∷ []
     by_done true e = ap (λ (z : Context). z ∷ []) (same_Some y x e)
     by_done false e = absurd cc
-taken_alone (y ∷ []) (Some b) begun flying x far is = absurd far
-taken_alone (y ∷ z ∷ more) None begun flying x far is = absurd far
-taken_alone (y ∷ z ∷ more) (Some b) begun flying x far is = absurd far
+taken_alone number (y ∷ []) (Some b) begun flying x far is = absurd far
+taken_alone number (y ∷ z ∷ more) None begun flying x far is = absurd far
+taken_alone number (y ∷ z ∷ more) (Some b) begun flying x far is = absurd far
 
 -- ---- the batch is committed
 

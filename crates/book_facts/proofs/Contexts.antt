@@ -44,11 +44,11 @@ like_with place change same (x ∷ xs) = (one (x.place == place), like_with plac
     one true = same x
     one false = record { place = refl; coll = refl }
 
-pub given_like : (x : Context) → IsLike (given_more x) x
-given_like x = record { place = refl; coll = refl }
+pub given_like : (count : ℕ) (x : Context) → IsLike (given_more count x) x
+given_like count x = record { place = refl; coll = refl }
 
-pub done_like : (x : Context) → IsLike (done_more x) x
-done_like x = record { place = refl; coll = refl }
+pub done_like : (count : ℕ) (x : Context) → IsLike (done_more count x) x
+done_like count x = record { place = refl; coll = refl }
 
 pub first_like : (batch : Option Batch) → AreLike (batched (option_map first_flushed batch)) (batched batch)
 first_like None = tt

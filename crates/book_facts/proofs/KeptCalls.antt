@@ -9,7 +9,8 @@ use Rattle.store_facts.proofs.Kept.{kept_step, kept_accept, kept_refuse}
 pub kept_call : (call : Call) (s s' : State) (d d' : Disk) → IsKept s d → Calls call s d s' d' → IsSound d' → IsKept s' d'
 kept_call (submitting client line change) s s' d d' kept made sound = subst (IsKept s') (sym made.2) (elim made.1 [
   | inl accepted ↦ kept_accept s s' d client line change kept made.0 accepted
-  | inr refused ↦ kept_refuse s s' d client line change refused.0 kept made.0 refused.1
+  | inr (inl refused) ↦ kept_refuse s s' d client line change refused.0 kept made.0 refused.1
+  | inr (inr away) ↦ subst (λ (t : State). IsKept t d) (sym away.same) kept
 ])
 kept_call (stepping step) s s' d d' kept made sound = kept_step step s s' d d' kept made.0 made.1 sound
 

@@ -10,3 +10,5 @@ pub mod KeptCalls
 pub mod BookCalls
 pub mod Selecting
 pub mod Applied
+pub mod FreeCounts
+pub mod Rooms

@@ -1,15 +1,21 @@
 //! What is known of the book, from one call to the next and along a run.
 
-ghost use Rattle.std.specs.Prelude.{ℕ, List};
-ghost use Rattle.block_device.specs.Disk.{Disk};
+ghost use Rattle.std.specs.Prelude.{◌≡◌, ℕ, ◌+◌, ◌<◌, ◌≤◌, true, List, []};
+ghost use Rattle.block_device.specs.Disk.{Disk, IsSound};
 ghost use Rattle.object_model.specs.Objects.{Objects};
+ghost use Rattle.object_model.specs.Effect.{Change};
 ghost use Rattle.object_model.specs.Book.{IsLegal};
+ghost use Rattle.object_model.specs.declared.command.Answer.TheVariants as answer;
 ghost use Rattle.unit_allocator.specs.Units.{Space};
+ghost use Rattle.store_steps.specs.declared.step.Step.{Step};
 ghost use Rattle.store_steps.specs.State.{State};
 ghost use Rattle.store_steps.specs.Opened.{Found, opened};
-ghost use Rattle.store_steps.specs.Runs.{Call, Calls, IsRun};
+ghost use Rattle.store_steps.specs.Ready.{is_ready};
+ghost use Rattle.store_steps.specs.Submit.{need_of, room_of, free_count, Accepts, Refuses};
+ghost use Rattle.store_steps.specs.Runs.{MaySubmit, DoesOrFails, Call, Calls, IsRun};
 ghost use Rattle.store_facts.specs.Kept.{IsKept};
 ghost use Rattle.book_facts.specs.BookFacts.{StandSomehow, KnownOfBook, IsInOrder};
+ghost use Rattle.book_facts.specs.Rooms.{taken_by, needs_in};
 
 /// What the kernel keeps it keeps along a run.
 #[tactic(auto, using(crate::proofs::KeptCalls::kept_run))]
@@ -47,4 +53,28 @@ pub fn a_run_keeps_the_order()
 pub fn a_run_makes_a_legal_book()
     ensures { (opening : Objects) (calls : List Call) (s s' : State) (d d' : Disk) → IsKept s d → KnownOfBook opening s →
         IsRun s d calls s' d' → IsLegal opening s'.book }
+{}
+
+/// Free units go to accepted transactions alone: what was free before a run is free after it, or was taken by those accepted in it. So want
+/// of space comes only where the units of all transactions accepted since the mount and of the refused one are more than were free then.
+pub fn space_suffices()
+    ensures kept { (calls : List Call) (s s' : State) (d d' : Disk) → IsKept s d → IsRun s d calls s' d'
+        → free_count s.space + taken_by s.book.entries ≤ free_count s'.space + taken_by s'.book.entries }
+    ensures refused { (calls : List Call) (s s' t : State) (d d' : Disk) (client line need free : ℕ) (change : Change) → IsKept s d
+        → s.book.entries ≡ [] → IsRun s d calls s' d' → Refuses client line change (answer.NoSpace need free) s' t
+        → free_count s.space < taken_by s'.book.entries + need }
+{}
+
+/// An accepted transaction lowers the room in the log by its need, and no step lowers it. So want of room comes only where the needs of all
+/// transactions accepted since the mount and of the refused one together are more than the room was then.
+pub fn room_suffices()
+    ensures accepted { (client line : ℕ) (change : Change) (s s' : State) (d : Disk) → IsKept s d → MaySubmit change s d
+        → (a : Accepts client line change s s') → room_of s'.log + need_of s.log a.plan ≡ room_of s.log }
+    ensures steps { (step : Step) (s s' : State) (d d' : Disk) → IsKept s d → is_ready step d.depth s ≡ true
+        → DoesOrFails step s d s' d' → IsSound d' → room_of s.log ≤ room_of s'.log }
+    ensures kept { (calls : List Call) (s s' : State) (d d' : Disk) → IsKept s d → (run : IsRun s d calls s' d')
+        → room_of s.log ≤ room_of s'.log + needs_in calls s d s' d' run }
+    ensures refused { (calls : List Call) (s s' t : State) (d d' : Disk) (client line need room : ℕ) (change : Change) → IsKept s d
+        → (run : IsRun s d calls s' d') → Refuses client line change (answer.MetaFull need room) s' t
+        → room_of s.log < needs_in calls s d s' d' run + need }
 {}

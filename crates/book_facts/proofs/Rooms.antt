@@ -1,0 +1,252 @@
+-- Units and room go to accepted transactions alone: no other call takes any.
+use Rattle.std.proofs.Common.{◌≡◌, inl, inr, ℕ, ◌+◌, ◌-◌, ◌<◌, ◌≤◌, Bool, true, false, cond, List, [], ◌∷◌, ◌++◌, length}
+use Rattle.std.proofs.Common.{Option, Some, None, is_some, refl, sym, ap, subst, ◌∙◌, arith}
+use Rattle.std.specs.List.{cons_option}
+use Rattle.std.proofs.lemmas.List.{length-map}
+use Rattle.block_device.specs.declared.device.Ticket.{Ticket}
+use Rattle.block_device.specs.Disk.{Disk, IsSound}
+use Rattle.object_model.specs.declared.book.Entry.{Entry}
+use Rattle.object_model.specs.declared.command.Answer.{Answer}
+use Rattle.object_model.specs.declared.command.Answer.TheVariants as answer
+use Rattle.object_model.specs.declared.command.Command.TheVariants as ask
+use Rattle.object_model.specs.Effect.{Change}
+use Rattle.object_model.specs.Book.{accepted}
+use Rattle.meta_log.specs.Records.{unit_count}
+use Rattle.store_steps.specs.declared.context.FreshUnit.{FreshUnit}
+use Rattle.store_steps.specs.declared.flight.Flying.{Flying}
+use Rattle.store_steps.specs.declared.flight.Job.{Job}
+use Rattle.store_steps.specs.declared.flight.Job.TheVariants as job
+use Rattle.store_steps.specs.declared.step.Step.{Step}
+use Rattle.store_steps.specs.declared.step.Step.TheVariants.{Data, Reap, Take, Flush, Seal, Record, Sync, Commit, Finish}
+use Rattle.store_steps.specs.State.{Batch, State}
+use Rattle.store_steps.specs.Contexts.{batch_ops, batch_released, sum_needs}
+use Rattle.store_steps.specs.Changes.{after_done, after_good, flying_of, landed, reaped, committed_batch}
+use Rattle.store_steps.specs.Planning.{units_taken}
+use Rattle.store_steps.specs.Ready.{is_ready}
+use Rattle.store_steps.specs.Runs.{Call, submitting, stepping, DoesOrFails, MaySubmit, Submits, Calls, IsRun}
+use Rattle.store_steps.specs.Steps.{Takes, DoesReap}
+use Rattle.store_steps.specs.Submit.{need_of, room_of, free_count, IsCause, Accepts, Refuses}
+use Rattle.store_facts.specs.Kept.{IsKept, IsKeptUp}
+use Rattle.store_facts.proofs.Conditions.{ready_not_down, ready_by_table, ReadyCommit, commit_ready}
+use Rattle.store_facts.proofs.RowsPlans.{units_of, plan_takes_free, plan_count}
+use Rattle.book_facts.specs.Rooms.{units_taken_by, taken_by, need_if_accepted, needs_in}
+use Rattle.book_facts.proofs.Accepted.{takes_plan, plan_ascends}
+use Rattle.book_facts.proofs.Entries.{own_change, accepted_push}
+use Rattle.book_facts.proofs.FreeCounts.{count_taken, count_given}
+use Rattle.book_facts.proofs.KeptCalls.{kept_call}
+
+-- ---- steps take nothing
+
+-- as many units are free, or more, and as much room is left, or more
+pub record LeavesRoom (s s' : State) : Type 0 where
+  pub entries : s'.book.entries ≡ s.book.entries
+  pub space : free_count s.space ≤ free_count s'.space
+  pub room : room_of s.log ≤ room_of s'.log
+
+-- the states differ in other parts
+same_room : (s t : State) → t.book.entries ≡ s.book.entries → t.space ≡ s.space → t.log.sup.half ≡ s.log.sup.half → t.log.tail ≡ s.log.tail
+    → t.log.reserved ≡ s.log.reserved → LeavesRoom s t
+same_room s t entries space half tail reserved =
+    record { entries = entries; space = (let same = ap free_count space in omega (arith, same)); room = omega (arith, half, tail, reserved) }
+
+itself : (s : State) → LeavesRoom s s
+itself s = same_room s s refl refl refl refl refl
+
+done_room : (j : Job) (s : State) → LeavesRoom s (after_done j s)
+done_room (job.Data place count) s = same_room s (after_done (job.Data place count) s) refl refl refl refl refl
+done_room job.DataFlush s = same_room s (after_done job.DataFlush s) refl refl refl refl refl
+done_room job.Record s = same_room s (after_done job.Record s) refl refl refl refl refl
+done_room job.RecordFlush s = same_room s (after_done job.RecordFlush s) refl refl refl refl refl
+
+good_room : (f : Option Flying) (s : State) → LeavesRoom s (after_good f s)
+good_room None s = itself s
+good_room (Some f) s = done_room f.job s
+
+reaped_room : (ok : Bool) (ticket : Ticket) (s : State) → LeavesRoom s (reaped ticket ok s)
+reaped_room true ticket s = by_down (is_some s.down)
+  where
+    good_end : LeavesRoom s (after_good (flying_of ticket s.flying) (landed ticket s))
+    good_end =
+        let after = good_room (flying_of ticket s.flying) (landed ticket s) in
+        record { entries = after.entries; space = after.space; room = after.room }
+
+    by_down : (b : Bool) → LeavesRoom s (cond b (landed ticket s) (after_good (flying_of ticket s.flying) (landed ticket s)))
+    by_down true = same_room s (landed ticket s) refl refl refl refl refl
+    by_down false = good_end
+reaped_room false ticket s = same_room s (reaped ticket false s) refl refl refl refl refl
+
+-- what a batch had reserved its record takes
+committed_room : (s : State) (b : Batch) → ReadyCommit s b → LeavesRoom s (committed_batch b s)
+committed_room s b ready = record {
+  entries = refl;
+  space = count_given (batch_released b) s.space;
+  room = by_number s.log.sup.half s.log.tail (unit_count s.log.number (batch_ops b)) s.log.reserved (sum_needs b.contexts)
+      (let needs : sum_needs b.contexts ≡ ready.context.need + 0 = ap sum_needs ready.one in
+      let units = ready.units in
+      omega (arith, needs, units)) ready.needs;
+}
+  where
+    by_number : (half tail units reserved needs : ℕ) → units ≤ needs → needs ≤ reserved
+        → half - (tail + reserved) ≤ half - (tail + units + (reserved - needs))
+    by_number half tail units reserved needs few enough = omega (arith, few, enough)
+
+module _ (s : State) (d : Disk) (s' : State) (d' : Disk) where
+  to_room : (t : State) → s' ≡ t → LeavesRoom s t → LeavesRoom s s'
+  to_room t e leaves = subst (LeavesRoom s) (sym e) leaves
+
+  ended_room : (ok : Bool) → Takes s d ok s' d' → LeavesRoom s s'
+  ended_room ok does = to_room (reaped does.ticket ok s) does.after (reaped_room ok does.ticket s)
+
+  reap_room : DoesReap s d s' d' → LeavesRoom s s'
+  reap_room (inl does) = ended_room true does
+  reap_room (inr waited) = to_room s waited.1 (itself s)
+
+  pub step_room : (step : Step) → IsKept s d → is_ready step d.depth s ≡ true → DoesOrFails step s d s' d' → LeavesRoom s s'
+  step_room Data kept ready does = to_room _ does.after (same_room s _ refl refl refl refl refl)
+  step_room Reap kept ready (inl does) = reap_room does
+  step_room Reap kept ready (inr failed) = ended_room false failed
+  step_room Take kept ready does = to_room _ does.after (same_room s _ refl refl refl refl refl)
+  step_room Flush kept ready does = to_room _ does.after (same_room s _ refl refl refl refl refl)
+  step_room Seal kept ready does = to_room _ does.after (same_room s _ refl refl refl refl refl)
+  step_room Record kept ready does = to_room _ does.after (same_room s _ refl refl refl refl refl)
+  step_room Sync kept ready does = to_room _ does.after (same_room s _ refl refl refl refl refl)
+  step_room Commit kept ready does =
+      let standing : s.down ≡ None = ready_not_down s d.depth Commit refl ready in
+      let up : IsKeptUp s d = kept.up standing in
+      to_room _ does.after (committed_room s does.batch
+      (commit_ready s d.depth does.batch up.far up.room (ready_by_table s d.depth Commit standing ready) does.begun))
+  step_room Finish kept ready does = to_room _ does.after (same_room s _ refl refl refl refl refl)
+
+-- ---- what entries took
+
+taken_append : (xs ys : List Change) → units_taken_by (xs ++ ys) ≡ units_taken_by xs + units_taken_by ys
+taken_append [] ys = omega arith
+taken_append (x ∷ xs) ys = let more = taken_append xs ys in omega (arith, more)
+
+taken_push : (es : List Entry) (e : Entry) → taken_by (es ++ e ∷ []) ≡ taken_by es + taken_by (e ∷ [])
+taken_push es e = ap units_taken_by (accepted_push es e) ∙ taken_append (accepted es) (accepted (e ∷ []))
+
+-- one that isn't accepted takes nothing
+none_taken : (es : List Entry) (e : Entry) → own_change e ≡ None → taken_by (es ++ e ∷ []) ≡ taken_by es
+none_taken es e is =
+    let more = taken_push es e in
+    let none : taken_by (e ∷ []) ≡ 0 = ap (λ (o : Option Change). units_taken_by (cons_option o [])) is in
+    omega (arith, more, none)
+
+-- ---- each call
+
+-- what is free, and what the book's accepted transactions took, is no less than before
+abbrev pub KeepsSpace : State → State → Type 0
+KeepsSpace s s' = free_count s.space + taken_by s.book.entries ≤ free_count s'.space + taken_by s'.book.entries
+
+step_space : (s s' : State) → LeavesRoom s s' → KeepsSpace s s'
+step_space s s' leaves =
+    let same = ap taken_by leaves.entries in
+    let more = leaves.space in
+    omega (arith, same, more)
+
+module _ (s : State) (d : Disk) (client line : ℕ) (change : Change) (s' : State) (kept : IsKept s d) (may : MaySubmit change s d) where
+  accepted_space : Accepts client line change s s' → KeepsSpace s s'
+  accepted_space does = subst (KeepsSpace s) (sym does.after) (
+      let units : List ℕ = units_of does.plan.fresh in
+      let entry : Entry = record { client = client; line = line; command = ask.Change change; answer = answer.Accepted; acks = s.acked } in
+      let free = count_taken units s.space
+      (plan_ascends s.log.sup s.view change does.plan (takes_plan s d client line change s' kept may does) (λ unit. []))
+      (plan_takes_free change.coll change.ops s.view s.space does.plan may.known does.plans) in
+      let count : length units ≡ units_taken change.ops =
+      length-map does.plan.fresh (λ (f : FreshUnit). f.unit) ∙ plan_count change.coll change.ops s.view s.space does.plan may.known does.plans in
+      let more = taken_push s.book.entries entry in
+      let here : taken_by (entry ∷ []) ≡ units_taken change.ops + 0 = refl in
+      omega (arith, free, count, more, here))
+
+  refused_space : (a : Answer) → Refuses client line change a s s' → KeepsSpace s s'
+  refused_space a does = subst (KeepsSpace s) (sym does.after) (
+      let entry : Entry = record { client = client; line = line; command = ask.Change change; answer = a; acks = s.acked } in
+      let none = none_taken s.book.entries entry (entry_refused a does.cause) in
+      omega (arith, none))
+    where
+      entry_refused : (b : Answer) → IsCause b change s
+          → own_change (record { client = client; line = line; command = ask.Change change; answer = b; acks = s.acked }) ≡ None
+      entry_refused (answer.Refused refusal) cause = refl
+      entry_refused (answer.NoSpace need free) cause = refl
+      entry_refused (answer.MetaFull need room) cause = refl
+      entry_refused b cause = absurd cause
+
+call_space : (call : Call) (s s' : State) (d d' : Disk) → IsKept s d → Calls call s d s' d' → KeepsSpace s s'
+call_space (submitting client line change) s s' d d' kept made = elim made.1 [
+  | inl does ↦ accepted_space s d client line change s' kept made.0 does
+  | inr (inl refuses) ↦ refused_space s d client line change s' kept made.0 refuses.0 refuses.1
+  | inr (inr away) ↦ subst (KeepsSpace s) (sym away.same) (omega arith)
+]
+call_space (stepping step) s s' d d' kept made = step_space s s' (step_room s d s' d' step kept made.0 made.1)
+
+-- ---- runs
+
+pub run_space : (calls : List Call) (s s' : State) (d d' : Disk) → IsKept s d → IsRun s d calls s' d' → KeepsSpace s s'
+run_space [] s s' d d' kept run = subst (KeepsSpace s) (sym run.0) (omega arith)
+run_space (call ∷ calls) s s' d d' kept run =
+    let t : State = run.0 in
+    let e : Disk = run.1.0 in
+    let first = call_space call s t d e kept run.1.1.0 in
+    let rest = run_space calls t s' e d' (kept_call call s t d e kept run.1.1.0 run.1.1.1.0) run.1.1.1.1 in
+    omega (arith, first, rest)
+
+-- want of space comes where more is asked for than was free at the mount
+pub want_of_space : (calls : List Call) (s s' t : State) (d d' : Disk) (client line need free : ℕ) (change : Change) → IsKept s d
+    → s.book.entries ≡ [] → IsRun s d calls s' d' → Refuses client line change (answer.NoSpace need free) s' t → free_count s.space < taken_by s'.book.entries + need
+want_of_space calls s s' t d d' client line need free change kept empty run refuses =
+    let kept_free = run_space calls s s' d d' kept run in
+    let none = ap taken_by empty in
+    let few = refuses.cause.2 in
+    let less = refuses.cause.3 in
+    omega (arith, kept_free, none, few, less)
+
+-- ---- room in the log
+
+pub accepted_room : (s s' : State) (d : Disk) (client line : ℕ) (change : Change) → IsKept s d → MaySubmit change s d
+    → (a : Accepts client line change s s') → room_of s'.log + need_of s.log a.plan ≡ room_of s.log
+accepted_room s s' d client line change kept may a =
+    ap (λ (t : State). room_of t.log + need_of s.log a.plan) a.after
+    ∙ by_number s.log.sup.half s.log.tail s.log.reserved (need_of s.log a.plan) a.fits
+  where
+    by_number : (half tail reserved need : ℕ) → need ≤ half - (tail + reserved) → half - (tail + (reserved + need)) + need ≡ half - (tail + reserved)
+    by_number half tail reserved need fits = omega (arith, fits)
+
+pub steps_room : (step : Step) (s s' : State) (d d' : Disk) → IsKept s d → is_ready step d.depth s ≡ true → DoesOrFails step s d s' d' → IsSound d'
+    → room_of s.log ≤ room_of s'.log
+steps_room step s s' d d' kept ready does sound = (step_room s d s' d' step kept ready does).room
+
+-- a submitted transaction lowers the room by its need, if it is accepted
+submitted_room : (s s' : State) (d : Disk) (client line : ℕ) (change : Change) → IsKept s d → MaySubmit change s d
+    → (made : Submits client line change s s') → room_of s.log ≤ room_of s'.log + need_if_accepted client line change s s' made
+submitted_room s s' d client line change kept may (inl accepts) = let room = accepted_room s s' d client line change kept may accepts in omega (arith, room)
+submitted_room s s' d client line change kept may (inr (inl refuses)) =
+    let same = ap (λ (t : State). room_of t.log) refuses.1.after in omega (arith, same)
+submitted_room s s' d client line change kept may (inr (inr away)) = let same = ap (λ (t : State). room_of t.log) away.same in omega (arith, same)
+
+pub run_room : (calls : List Call) (s s' : State) (d d' : Disk) → IsKept s d → (run : IsRun s d calls s' d')
+    → room_of s.log ≤ room_of s'.log + needs_in calls s d s' d' run
+run_room [] s s' d d' kept run = let same = ap (λ (t : State). room_of t.log) run.0 in omega (arith, same)
+run_room (submitting client line change ∷ calls) s s' d d' kept run =
+    let t : State = run.0 in
+    let e : Disk = run.1.0 in
+    let made = run.1.1.0 in
+    let first = submitted_room s t d client line change kept made.0 made.1 in
+    let rest = run_room calls t s' e d' (kept_call (submitting client line change) s t d e kept made run.1.1.1.0) run.1.1.1.1 in
+    omega (arith, first, rest)
+run_room (stepping step ∷ calls) s s' d d' kept run =
+    let t : State = run.0 in
+    let e : Disk = run.1.0 in
+    let made = run.1.1.0 in
+    let first = (step_room s d t e step kept made.0 made.1).room in
+    let rest = run_room calls t s' e d' (kept_call (stepping step) s t d e kept made run.1.1.1.0) run.1.1.1.1 in
+    omega (arith, first, rest)
+
+-- want of room comes where more is asked for than there was at the mount
+pub want_of_room : (calls : List Call) (s s' t : State) (d d' : Disk) (client line need room : ℕ) (change : Change) → IsKept s d
+    → (run : IsRun s d calls s' d') → Refuses client line change (answer.MetaFull need room) s' t → room_of s.log < needs_in calls s d s' d' run + need
+want_of_room calls s s' t d d' client line need room change kept run refuses =
+    let kept_room = run_room calls s s' d d' kept run in
+    let is = refuses.cause.2 in
+    let less = refuses.cause.3 in
+    omega (arith, kept_room, is, less)

@@ -11,27 +11,29 @@ use Rattle.store_steps.specs.Runs.{Call, Calls}
 use Rattle.store_facts.specs.Kept.{IsKept}
 use Rattle.unit_facts.specs.Known.{KnownOfUnits, Knows}
 use Rattle.unit_facts.proofs.Moves.{Move, data_goes, data_ends, takes, flush_goes, flush_ends, seals, record_goes, record_ends, sync_goes, sync_ends}
-use Rattle.unit_facts.proofs.Moves.{commits, finishes, accepts, refuses, rests, call_goes_on}
-use Rattle.unit_facts.proofs.Steps.{data_known, data_done_known, take_known, flush_known, flush_done_known, seal_known, record_known, record_done_known}
+use Rattle.unit_facts.proofs.Moves.{commits, finishes, accepts, refuses, rests, stays, call_goes_on}
+use Rattle.unit_facts.proofs.Steps.{data_known, data_done_known, take_known, flush_known, flush_done_known, seal_known}
+use Rattle.unit_facts.proofs.Steps.{record_known, record_done_known}
 use Rattle.unit_facts.proofs.Steps.{sync_known, sync_done_known, commit_known, accept_known, book_known, waited_known}
 
 pub move_known : {s s' : State} {d d' : Disk} {h h' : History} (base : ℕ) → Move s d h s' d' h' → KnownOfUnits base s d h → KnownOfUnits base s' d' h'
-move_known base (data_goes s x f ticket d d' h one none is whole size submitted) known =
-    data_known base s x f d d' h ticket one none is whole size submitted known
-move_known base (data_ends s x ticket d d' h t ended) known = data_done_known base s x ticket d d' h t ended known
+move_known base (data_goes s x n flying flying' ticket d d' h fits run are size submitted) known =
+    data_known base s x n d d' h fits run flying flying' ticket are size submitted known
+move_known base (data_ends s x count flying flying' d d' h t ended) known = data_done_known base s x count flying flying' d d' h t ended known
 move_known base (takes s x d h) known =
     let book : Book = record s.book { commits = s.book.commits ++ commit_of x ∷ [] } in
     take_known base s book x d h known
 move_known base (flush_goes s x made ticket d d' h none submitted) known = flush_known base s x made ticket d d' h none submitted known
 move_known base (flush_ends s x made ticket d d' h ended) known = flush_done_known base s x made ticket d d' h ended known
-move_known base (seals s g g' x d h number fits room batch pending none some second) known =
-    seal_known base s g g' x d h number fits room batch pending none some second known
-move_known base (record_goes s x ticket d d' h fits room size limits on_data submitted) known =
-    record_known base s x d d' h fits ticket room size limits on_data submitted known
-move_known base (record_ends s x ticket d d' h t fits ended) known = record_done_known base s x d d' h fits ticket t ended known
-move_known base (sync_goes s x ticket d d' h fits none submitted) known = sync_known base s x d d' h fits ticket none submitted known
-move_known base (sync_ends s x ticket d d' h fits ended) known = sync_done_known base s x d d' h fits ticket ended known
-move_known base (commits s x d h fits written) known = commit_known base s x d d h fits written known
+move_known base (seals s g g' x d h number fits room most batch pending none some second) known =
+    seal_known base s g g' x d h number fits room most batch pending none some second known
+move_known base (record_goes s x given written flying flying' ticket d d' h more room size limits on_data submitted) known =
+    record_known base s x given d d' h more written flying flying' ticket room size limits on_data submitted known
+move_known base (record_ends s x given written flying flying' d d' h t ended) known =
+    record_done_known base s x given d d' h written flying flying' t ended known
+move_known base (sync_goes s x pieces ticket d d' h none submitted) known = sync_known base s x pieces d d' h ticket none submitted known
+move_known base (sync_ends s x pieces ticket d d' h ended) known = sync_done_known base s x pieces d d' h ticket ended known
+move_known base (commits s x pieces d h written every) known = commit_known base s x pieces d d h written every known
 move_known base (finishes s d h) known =
     let book : Book = record s.book { commits = acknowledged s.events s.book.commits } in
     book_known base s book (s.acked + 1) d h known
@@ -41,6 +43,7 @@ move_known base (refuses client line change a s d h may cause) known =
     let book : Book = record s.book { entries = s.book.entries ++ entry ∷ [] } in
     book_known base s book s.acked d h known
 move_known base (rests s d d' h waited) known = waited_known base s d d' h waited known
+move_known base (stays s d h) known = known
 
 pub call_knows : (call : Call) (base : ℕ) (s s' : State) (d d' : Disk) (h : History) → IsKept s d → s'.down ≡ None → KnownOfUnits base s d h
     → Calls call s d s' d' → Knows base s' d'

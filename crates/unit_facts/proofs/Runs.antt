@@ -15,31 +15,30 @@ use Rattle.store_facts.specs.Space.{uncommitted}
 use Rattle.store_facts.specs.Kept.{IsKept}
 use Rattle.store_facts.proofs.Kept.{kept_step, kept_accept, kept_refuse}
 use Rattle.store_facts.proofs.Known.{known_idle}
-use Rattle.store_facts.proofs.Conditions.{ready_not_down, IsIdle}
+use Rattle.store_facts.proofs.Conditions.{IsIdle}
 use Rattle.log_facts.specs.Flushing.{FlushState}
 use Rattle.log_facts.specs.HalfFacts.{ActiveHalfStands}
 use Rattle.unit_facts.specs.DataUnits.{IsElsewhere, given_fresh, OtherUnitsAreClean}
 use Rattle.unit_facts.specs.Known.{begun_ops, submitted_from, second_flush, KnownOfUnits, Knows}
+use Rattle.unit_facts.proofs.Downs.{was_up}
 use Rattle.unit_facts.proofs.Calls.{call_knows}
 
--- ---- each call keeps what the kernel keeps, and is made while it is up
+-- ---- each call keeps what the kernel keeps, and is made while it is up where it leaves it up
 
 pub kept_call : (call : Call) (s s' : State) (d d' : Disk) → IsKept s d → Calls call s d s' d' → IsSound d' → IsKept s' d'
 kept_call (submitting client line change) s s' d d' kept made sound = subst (IsKept s') (sym made.2) (of_answer made.1)
   where
     of_answer : Submits client line change s s' → IsKept s' d
     of_answer (inl accepts) = kept_accept s s' d client line change kept made.0 accepts
-    of_answer (inr refused) = kept_refuse s s' d client line change refused.0 kept made.0 refused.1
+    of_answer (inr (inl refused)) = kept_refuse s s' d client line change refused.0 kept made.0 refused.1
+    of_answer (inr (inr turned)) = subst (λ (t : State). IsKept t d) (sym turned.same) kept
 kept_call (stepping step) s s' d d' kept made sound = kept_step step s s' d d' kept made.0 made.1 sound
 
-pub called_up : (call : Call) (s s' : State) (d d' : Disk) → IsKept s d → Calls call s d s' d' → s.down ≡ None
-called_up (submitting client line change) s s' d d' kept made = made.0.up
-called_up (stepping step) s s' d d' kept made = ready_not_down s d step kept made.0
-
--- so a run that is not over is up
-pub run_up : (calls : List Call) (s s' : State) (d d' : Disk) → IsKept s d → IsRun s d calls s' d' → s'.down ≡ None → s.down ≡ None
-run_up [] s s' d d' kept run up = ap (λ (t : State). t.down) (sym run.0) ∙ up
-run_up (call ∷ calls) s s' d d' kept run up = called_up call s run.0 d run.1.0 kept run.1.1.0
+-- so a run that leaves it up found it up
+pub run_up : (calls : List Call) (s s' : State) (d d' : Disk) → IsRun s d calls s' d' → s'.down ≡ None → s.down ≡ None
+run_up [] s s' d d' run up = ap (λ (t : State). t.down) (sym run.0) ∙ up
+run_up (call ∷ calls) s s' d d' run up =
+    was_up call s d run.0 run.1.0 run.1.1.0 (run_up calls run.0 s' run.1.0 d' run.1.1.1.1 up)
 
 pub run_kept : (calls : List Call) (s s' : State) (d d' : Disk) → IsKept s d → IsRun s d calls s' d' → IsKept s' d'
 run_kept [] s s' d d' kept run = subst (λ (t : State). IsKept t d') (sym run.0) (subst (IsKept s) (sym run.1) kept)
@@ -57,7 +56,7 @@ run_knows (call ∷ calls) base s s' d d' h kept known run up =
     let t : State = run.0 in
     let e : Disk = run.1.0 in
     let after : IsKept t e = kept_call call s t d e kept run.1.1.0 run.1.1.1.0 in
-    let mid : Knows base t e = call_knows call base s t d e h kept (run_up calls t s' e d' after run.1.1.1.1 up) known run.1.1.0 in
+    let mid : Knows base t e = call_knows call base s t d e h kept (run_up calls t s' e d' run.1.1.1.1 up) known run.1.1.0 in
     run_knows calls base t s' e d' mid.history after mid.known run.1.1.1.1 up
 
 -- ---- once the kernel is drained no unit is dirty

@@ -1,12 +1,13 @@
 -- Each step of a transaction keeps what is known of slots, log and data units: one lemma for each, from the stage before to the one after.
-use Rattle.std.proofs.Common.{◌≡◌, ◌≢◌, inl, inr, ℕ, ◌+◌, ◌*◌, ◌^◌, ◌<◌, ◌≤◌, Bool, true, false, List, [], ◌∷◌, ◌++◌, length, take, Option, Some, None, sym}
-use Rattle.std.proofs.Common.{ap, subst, ◌∙◌, arith}
+use Rattle.std.proofs.Common.{◌≡◌, ◌≢◌, inl, inr, ℕ, ◌+◌, ◌-◌, ◌*◌, ◌^◌, ◌<◌, ◌≤◌, Bool, true, false, List, [], ◌∷◌, ◌++◌, length, take}
+use Rattle.std.proofs.Common.{Option, Some, None, sym}
+use Rattle.std.proofs.Common.{ap, subst, ◌∙◌, append-nil, arith}
 use Rattle.std.specs.List.{AllByRecursion}
 use Rattle.std.specs.Option.{option_map_or}
 use Rattle.std.proofs.lemmas.List.{take_all}
 use Rattle.std.proofs.lemmas.List.Elements.{All-nil}
 use Rattle.byte_maps.specs.Units.{units_from, IsUnits}
-use Rattle.byte_maps.proofs.UnitLemmas.{unit_at-whole, length-units_from}
+use Rattle.byte_maps.proofs.UnitLemmas.{length-units_from}
 use Rattle.block_device.specs.Log.{last, WritesUnit, WritesNothing, IsClean}
 use Rattle.block_device.specs.Disk.{Disk, History, Flight, Submitted, Reaped, Waited, IsApart}
 use Rattle.block_device.specs.Facts.{with_event, last_at, Fits, IsUnflown}
@@ -14,26 +15,28 @@ use Rattle.block_device.specs.declared.device.Ticket.{Ticket}
 use Rattle.block_device.specs.declared.event.Event.{Event}
 use Rattle.block_device.specs.declared.event.Event.TheVariants.{Write, Flush, Done}
 use Rattle.block_device.proofs.LogLemmas.{clean_push}
-use Rattle.block_device.proofs.QuietLemmas.{written_unit}
 use Rattle.object_model.specs.Effect.{Change}
 use Rattle.object_model.specs.declared.book.Book.{Book}
 use Rattle.meta_rows.specs.declared.row_op.RowOp.{RowOp}
 use Rattle.meta_log.specs.Slots.{active_unit, IsSuper}
 use Rattle.meta_log.specs.Records.{unit_count, record_units}
-use Rattle.meta_log.specs.Pieces.{piece_first, piece_units, given_from}
+use Rattle.meta_log.specs.Pieces.{piece_first, piece_units, given_from, LiesInRecord}
+use Rattle.meta_log.proofs.PieceLemmas.{lies, given_from-none, given_from-all}
 use Rattle.store_image.specs.Owners.{IsDataUnit}
 use Rattle.log_facts.specs.Flushing.{not_sent, sent, flushed}
 use Rattle.log_facts.specs.SlotFacts.{SlotsStand}
 use Rattle.log_facts.specs.HalfFacts.{ActiveHalfStands, IsSpellable}
-use Rattle.log_facts.proofs.Keeping.{data_spares_slots, data_spares_half, half_spares_slots, half_before_data, slots_push, half_push, slots_quiet, half_quiet}
+use Rattle.log_facts.proofs.Keeping.{data_spares_slots, data_spares_half, half_spares_slots, half_before_data}
+use Rattle.log_facts.proofs.Keeping.{slots_push, half_push, slots_quiet, half_quiet}
 use Rattle.log_facts.proofs.Writing.{half_begin, half_piece, half_sync, half_synced, half_commit}
 use Rattle.log_facts.proofs.Joins.{length-record_units}
 use Rattle.unit_allocator.specs.Units.{Space}
 use Rattle.store_steps.specs.declared.context.Context.{Context}
 use Rattle.store_steps.specs.declared.context.FreshUnit.{FreshUnit}
 use Rattle.store_steps.specs.declared.flight.FlushState.TheVariants as flush
+use Rattle.store_steps.specs.declared.flight.Flying.{Flying}
 use Rattle.store_steps.specs.State.{Begun, Log, Batch, State}
-use Rattle.store_steps.specs.Contexts.{given_more, done_more}
+use Rattle.store_steps.specs.Contexts.{given_more, done_more, run_bytes, Unsent, unsent_units}
 use Rattle.store_steps.specs.declared.plan.Plan.{Plan}
 use Rattle.store_steps.specs.Submit.{accepted_with}
 use Rattle.store_steps.specs.Opened.{Found, opened}
@@ -41,13 +44,16 @@ use Rattle.store_steps.specs.Changes.{committed_batch}
 use Rattle.store_steps.specs.Steps.{piece_unit, piece_bytes}
 use Rattle.store_facts.specs.Space.{uncommitted}
 use Rattle.store_facts.specs.Room.{FitsRecord}
-use Rattle.store_facts.proofs.Pieces.{one_unit, batch_fits, short_body, first_piece, piece_unit as piece_unit_is}
-use Rattle.store_facts.proofs.Stages.{Stage, idle, waits, writes, opens, flushes, flushed as flushed_at, records, recorded, syncs, synced, AreWritten}
-use Rattle.store_facts.proofs.Stages.{record_with, pending_of, batch_of, begun_of, at}
+use Rattle.store_facts.proofs.Pieces.{units_needed, batch_fits, short_body}
+use Rattle.store_facts.proofs.RunUnits.{IsRunOf}
+use Rattle.store_facts.proofs.Stages.{Stage, idle, waits, opens, flushes, writes, syncs, synced, AreWritten}
+use Rattle.store_facts.proofs.Stages.{record_with, batch_with, pieces_at, pending_of, batch_of, begun_of, at}
 use Rattle.unit_facts.specs.DataUnits.{IsElsewhere, given_fresh, OtherUnitsAreClean, HeldBytesAreLast, UnitsAreFlushed, BatchUnitsAreFlushed}
 use Rattle.unit_facts.specs.Known.{IsAnsweredSince, HalfIsKnown, begun_ops, submitted_from, second_flush, KnownOfUnits}
 use Rattle.unit_facts.proofs.Events.{told_sent, place_sent, answered_sent, told_ended, answered_ended}
-use Rattle.unit_facts.proofs.Units.{data_elsewhere, half_spares_others, all_given, AreOnData, spares_data, spares_all, none_written, fits_quiet, clean_on}
+use Rattle.unit_facts.proofs.RunWrites.{run_write, row_spares, earlier_spared, run_held, more_given, run_whole, given_before, run_inside}
+use Rattle.unit_facts.proofs.Units.{all_join, all_front, all_rest, data_elsewhere, half_spares_others, all_given, AreOnData}
+use Rattle.unit_facts.proofs.Units.{spares_data, spares_all, none_written, fits_quiet, clean_on}
 use Rattle.unit_facts.proofs.Units.{held_on, batch_quiet, flushed_on, none_flushed, units_covered, units_cleaned, all_clean}
 
 -- ---- an event that writes nothing
@@ -85,55 +91,67 @@ done_quiet base s d d' h ticket ended known =
     quiet_known base s d d' h (Done ticket true) tt (told_ended base s.events h d d' known.told known.answered ticket ended)
     (answered_ended base s.events h d d' known.told known.answered ticket ended) known
 
--- ---- the write of a context's unit
+-- ---- the write of a context's next units
 
-module _ (base : ℕ) (s : State) (x : Context) (f : FreshUnit) (d d' : Disk) (h : History) where
-  abbrev event : Event
-  event = Write f.unit f.bytes
+module _ (base : ℕ) (s : State) (x : Context) (n : Unsent) (d d' : Disk) (h : History) (fits : FitsRecord x) (run : IsRunOf x n) where
+  abbrev next_units : List FreshUnit
+  next_units = unsent_units n
 
-  -- it writes this unit alone
-  spares_other : (unit : ℕ) → length f.bytes ≡ 4096 → f.unit ≢ unit → ¬ WritesUnit unit event
-  spares_other unit whole other covers = other (omega (arith, covers.0, covers.1, whole))
+  abbrev given_units : List FreshUnit
+  given_units = take x.given x.fresh
 
-  pub data_known : (ticket : Ticket) → x.fresh ≡ f ∷ [] → x.given ≡ 0 → IsDataUnit s.log.sup f.unit → length f.bytes ≡ 4096
-      → IsUnits s.log.sup.units (last h.start h.log) → Submitted d ticket.place event d' → KnownOfUnits base (at s (waits x)) d h
-      → KnownOfUnits base (record (at s (writes (given_more x) ticket)) { events = s.events + 1 }) d' (with_event h event)
-  data_known ticket one none is whole size submitted known =
-      let fits : 4096 * f.unit + length f.bytes ≤ length (last h.start h.log) = omega (arith, is.1, whole, size) in
-      let before : take x.given x.fresh ++ [] ≡ [] = ap (λ (n : ℕ). take n x.fresh ++ []) none in
-      let after : take (x.given + 1) x.fresh ++ [] ≡ f ∷ [] =
-      ap (λ (n : ℕ). take (n + 1) x.fresh ++ []) none ∙ ap (λ (fs : List FreshUnit). take 1 fs ++ []) one in
-      let there : last_at (with_event h event) f.unit ≡ f.bytes =
-      ap (last_at (with_event h event)) (omega arith) ∙ written_unit h f.unit 0 f.bytes fits (omega (arith, whole)) ∙ unit_at-whole f.bytes whole in
+  -- those that are given then
+  given_then : take (x.given + length next_units) x.fresh ++ [] ≡ given_units ++ next_units
+  given_then = append-nil (take (x.given + length next_units) x.fresh) ∙ more_given x n run
+
+  data_fits : AreOnData s.log.sup next_units → IsUnits s.log.sup.units (last h.start h.log) → Fits (length (last h.start h.log)) (run_write n)
+  data_fits are size = omega (arith, run_inside x n run s.log.sup fits are, size)
+
+  data_clean : OtherUnitsAreClean h s.log.sup (given_units ++ [])
+      → OtherUnitsAreClean (with_event h (run_write n)) s.log.sup (given_units ++ next_units)
+  data_clean clean unit is other =
+      let P : FreshUnit → Type 0 = λ (g : FreshUnit). g.unit ≢ unit in
+      clean_push h.log (run_write n) unit
+      (clean unit is (subst (AllByRecursion P) (sym (append-nil given_units)) (all_front P given_units next_units other)))
+      (row_spares n.first.unit unit next_units run.row (run_whole x n run fits) (all_rest P given_units next_units other))
+
+  data_held : Fits (length (last h.start h.log)) (run_write n) → HeldBytesAreLast h (given_units ++ [])
+      → HeldBytesAreLast (with_event h (run_write n)) (given_units ++ next_units)
+  data_held fit held = all_join (λ (f : FreshUnit). last_at (with_event h (run_write n)) f.unit ≡ f.bytes) given_units next_units
+      (held_on h (run_write n) given_units fit (earlier_spared n.first.unit (run_bytes next_units) given_units (given_before x n run fits))
+      (subst (HeldBytesAreLast h) (append-nil given_units) held))
+      (run_held h n.first.unit next_units run.row (run_whole x n run fits) fit)
+
+  pub data_known : (flying flying' : List Flying) (ticket : Ticket) → AreOnData s.log.sup next_units → IsUnits s.log.sup.units (last h.start h.log)
+      → Submitted d ticket.place (run_write n) d' → KnownOfUnits base (at s (waits x flying)) d h
+      → KnownOfUnits base (record (at s (waits (given_more (length next_units) x) flying')) { events = s.events + 1 }) d' (with_event h (run_write n))
+  data_known flying flying' ticket are size submitted known =
+      let fit : Fits (length (last h.start h.log)) (run_write n) = data_fits are size in
       record {
-        told = told_sent base s.events h d d' known.told known.answered ticket.place event submitted;
-        answered = answered_sent base s.events h d d' known.told known.answered ticket.place event submitted;
-        slots = slots_push h s.log.sup event fits (data_spares_slots s.log.sup f.unit f.bytes is.0) known.slots;
+        told = told_sent base s.events h d d' known.told known.answered ticket.place (run_write n) submitted;
+        answered = answered_sent base s.events h d d' known.told known.answered ticket.place (run_write n) submitted;
+        slots = slots_push h s.log.sup (run_write n) fit (data_spares_slots s.log.sup n.first.unit (run_bytes next_units) are.0.0) known.slots;
         half = record {
           recs = known.half.recs;
-          stands = half_push h s.log.sup s.log.rows s.log.tail s.log.number None 0 not_sent known.half.recs event fits
-              (data_spares_half s.log.sup f.unit f.bytes is.0) known.half.stands;
+          stands = half_push h s.log.sup s.log.rows s.log.tail s.log.number None 0 not_sent known.half.recs (run_write n) fit
+              (data_spares_half s.log.sup n.first.unit (run_bytes next_units) are.0.0) known.half.stands;
         };
-        clean = λ unit on other.
-            let others : AllByRecursion (λ (g : FreshUnit). g.unit ≢ unit) (f ∷ []) =
-            subst (AllByRecursion (λ (g : FreshUnit). g.unit ≢ unit)) after other in
-            clean_push h.log event unit (known.clean unit on (subst (AllByRecursion (λ (g : FreshUnit). g.unit ≢ unit)) (sym before) tt))
-            (spares_other unit whole others.0);
-        held = subst (HeldBytesAreLast (with_event h event)) (sym after) (there, tt);
+        clean = subst (OtherUnitsAreClean (with_event h (run_write n)) s.log.sup) (sym given_then) (data_clean known.clean);
+        held = subst (HeldBytesAreLast (with_event h (run_write n))) (sym given_then) (data_held fit known.held);
         flushed = tt;
       }
 
--- its good end
-pub data_done_known : (base : ℕ) (s : State) (x : Context) (ticket : Ticket) (d d' : Disk) (h : History) (t : ℕ) → Reaped d t true d'
-    → KnownOfUnits base (at s (writes x ticket)) d h
-    → KnownOfUnits base (record (at s (waits (done_more x))) { events = s.events + 1 }) d' (with_event h (Done t true))
-data_done_known base s x ticket d d' h t ended known =
-    let k = done_quiet base (at s (writes x ticket)) d d' h t ended known in
+-- the good end of one
+pub data_done_known : (base : ℕ) (s : State) (x : Context) (count : ℕ) (flying flying' : List Flying) (d d' : Disk) (h : History) (t : ℕ)
+    → Reaped d t true d' → KnownOfUnits base (at s (waits x flying)) d h
+    → KnownOfUnits base (record (at s (waits (done_more count x) flying')) { events = s.events + 1 }) d' (with_event h (Done t true))
+data_done_known base s x count flying flying' d d' h t ended known =
+    let k = done_quiet base (at s (waits x flying)) d d' h t ended known in
     record { told = k.told; answered = k.answered; slots = k.slots; half = k.half; clean = k.clean; held = k.held; flushed = tt }
 
 -- ---- the batch: it is opened, and its units are flushed
 
-pub take_known : (base : ℕ) (s : State) (book : Book) (x : Context) (d : Disk) (h : History) → KnownOfUnits base (at s (waits x)) d h
+pub take_known : (base : ℕ) (s : State) (book : Book) (x : Context) (d : Disk) (h : History) → KnownOfUnits base (at s (waits x [])) d h
     → (let u : State = at s (opens x false) in KnownOfUnits base (record u { book = book }) d h)
 take_known base s book x d h known = record {
   told = known.told;
@@ -166,16 +184,21 @@ flush_known base s x made ticket d d' h none submitted known =
       flushed = subst (λ (n : ℕ). UnitsAreFlushed (with_event h Flush) (sent n) (x.fresh ++ [])) (sym place) covered;
     }
 
-pub flush_done_known : (base : ℕ) (s : State) (x : Context) (made : Bool) (ticket : Ticket) (d d' : Disk) (h : History) → Reaped d ticket.place true d'
-    → KnownOfUnits base (at s (flushes x made ticket)) d h
-    → KnownOfUnits base (record (at s (flushed_at x made)) { events = s.events + 1 }) d' (with_event h (Done ticket.place true))
+-- behind its good end
+abbrev pub after_flush : State → Context → Bool → Ticket → State
+after_flush s x made ticket = let t : State = at s (flushes x made ticket) in
+    record t { batch = batch_with x flush.Flushed flush.NotSent; flying = []; events = s.events + 1 }
+
+pub flush_done_known : (base : ℕ) (s : State) (x : Context) (made : Bool) (ticket : Ticket) (d d' : Disk) (h : History)
+    → Reaped d ticket.place true d' → KnownOfUnits base (at s (flushes x made ticket)) d h
+    → KnownOfUnits base (after_flush s x made ticket) d' (with_event h (Done ticket.place true))
 flush_done_known base s x made ticket d d' h ended known =
     let k = done_quiet base (at s (flushes x made ticket)) d d' h ticket.place ended known in
     record {
       told = k.told;
       answered = k.answered;
       slots = k.slots;
-      half = k.half;
+      half = record { recs = k.half.recs; stands = k.half.stands };
       clean = k.clean;
       held = k.held;
       flushed = units_cleaned h ticket.place (x.fresh ++ []) known.flushed;
@@ -183,34 +206,35 @@ flush_done_known base s x made ticket d d' h ended known =
 
 -- ---- the record: it is made, written and flushed
 
--- the units of a record of one unit, of which none or all were submitted
-none_given : (number : ℕ) (ops : List RowOp) → unit_count number ops ≡ 1 → given_from (unit_count number ops) 0 ≡ unit_count number ops
-none_given number ops one = ap (λ (n : ℕ). given_from n 0) one ∙ sym one
-
-all_given_from : (number : ℕ) (ops : List RowOp) → unit_count number ops ≡ 1 → given_from (unit_count number ops) 1 ≡ 0
-all_given_from number ops one = ap (λ (n : ℕ). given_from n 1) one
-
 -- the half, with a record of which no unit was submitted
-pub sealed_half : (h : History) (m : Log) (x : Context) → (number : m.number < 2 ^ 62) → FitsRecord x → m.tail + 1 ≤ m.sup.half
+pub sealed_half : (h : History) (m : Log) (x : Context) → m.number < 2 ^ 62 → FitsRecord x → m.tail + x.need ≤ m.sup.half → m.sup.half ≤ 65536
     → HalfIsKnown h (record m { begun = None }) not_sent → HalfIsKnown h (record m { begun = Some (record_with x 0 0) }) not_sent
-sealed_half h m x number fits room half =
+sealed_half h m x number fits room most half =
     let ops : List RowOp = x.ops ++ [] in
-    let one : unit_count m.number ops ≡ 1 = one_unit x fits m.number in
-    let spellable : IsSpellable m.number ops = record { number_below = number; body_below = short_body m.number ops one; fit = batch_fits x fits } in
+    let units : unit_count m.number ops ≡ x.need = units_needed x fits m.number in
+    let spellable : IsSpellable m.number ops = record {
+      number_below = number;
+      body_below = short_body m.number ops (few m.tail x.need m.sup.half (unit_count m.number ops) room most units);
+      fit = batch_fits x fits;
+    } in
     record {
       recs = half.recs;
-      stands = subst (λ (n : ℕ). ActiveHalfStands h m.sup m.rows m.tail m.number (Some ops) n not_sent half.recs) (sym (none_given m.number ops one))
+      stands = subst (λ (n : ℕ). ActiveHalfStands h m.sup m.rows m.tail m.number (Some ops) n not_sent half.recs)
+          (sym (given_from-none (unit_count m.number ops)))
           (half_begin h m.sup m.rows m.tail m.number ops half.recs 0 not_sent spellable
-          (subst (λ (n : ℕ). m.tail + n ≤ m.sup.half) (sym one) room) half.stands);
+          (subst (λ (n : ℕ). m.tail + n ≤ m.sup.half) (sym units) room) half.stands);
     }
+  where
+    few : (tail need half units : ℕ) → tail + need ≤ half → half ≤ 65536 → units ≡ need → units ≤ 65536
+    few tail need half units room most is = omega (arith, room, most, is)
 
 -- the state at a stage before and after
 pub seal_known : (base : ℕ) (s : State) (g g' : Stage) (x : Context) (d : Disk) (h : History) → s.log.number < 2 ^ 62 → FitsRecord x
-    → s.log.tail + 1 ≤ s.log.sup.half → batch_of g' ≡ batch_of g → pending_of g' ≡ pending_of g → begun_of g ≡ None
+    → s.log.tail + x.need ≤ s.log.sup.half → s.log.sup.half ≤ 65536 → batch_of g' ≡ batch_of g → pending_of g' ≡ pending_of g → begun_of g ≡ None
     → begun_of g' ≡ Some (record_with x 0 0)
     → second_flush (batch_of g) ≡ not_sent
     → KnownOfUnits base (at s g) d h → KnownOfUnits base (at s g') d h
-seal_known base s g g' x d h number fits room batch pending none some second known = record {
+seal_known base s g g' x d h number fits room most batch pending none some second known = record {
   told = known.told;
   answered = known.answered;
   slots = known.slots;
@@ -231,88 +255,109 @@ seal_known base s g g' x d h number fits room batch pending none some second kno
     half' : HalfIsKnown h (record s.log { begun = begun_of g' }) (second_flush (batch_of g'))
     half' = subst (λ (b : Option Begun). HalfIsKnown h (record s.log { begun = b }) (second_flush (batch_of g'))) (sym some)
         (subst (HalfIsKnown h (record s.log { begun = Some (record_with x 0 0) })) (sym (ap second_flush batch ∙ second))
-        (sealed_half h s.log x number fits room before))
+        (sealed_half h s.log x number fits room most before))
 
-module _ (base : ℕ) (s : State) (x : Context) (d d' : Disk) (h : History) (fits : FitsRecord x) where
+-- the write of a record's next piece
+abbrev pub piece_of : State → Context → ℕ → Event
+piece_of s x given = let r : Begun = record_with x given 0 in Write (piece_unit s.log r) (piece_bytes s.log.number r)
+
+module _ (base : ℕ) (s : State) (x : Context) (given : ℕ) (d d' : Disk) (h : History) where
   abbrev ops : List RowOp
   ops = x.ops ++ []
 
-  abbrev m : Log
-  m = record s.log { begun = Some (record_with x 0 0) }
+  abbrev units : ℕ
+  units = unit_count s.log.number ops
 
-  abbrev piece : Event
-  piece = Write (piece_unit m (record_with x 0 0)) (piece_bytes m.number (record_with x 0 0))
+  abbrev r : Begun
+  r = record_with x given 0
 
-  one : unit_count s.log.number ops ≡ 1
-  one = one_unit x fits s.log.number
+  -- the units from this one on are given behind the piece
+  abbrev from : ℕ
+  from = given_from units (given + 1)
 
-  first : piece_first (unit_count s.log.number ops) 0 ≡ 0
-  first = first_piece x fits s.log.number
+  module _ (more : given < pieces_at s.log.number x) where
+    lying : LiesInRecord units given
+    lying = lies units given more
 
-  count : piece_units (unit_count s.log.number ops) 0 ≡ 1
-  count = piece_unit_is x fits s.log.number
+    place : piece_unit s.log r ≡ active_unit s.log.sup + s.log.tail + from
+    place = ap (λ (n : ℕ). active_unit s.log.sup + s.log.tail + n) lying.begins
 
-  place : piece_unit m (record_with x 0 0) ≡ active_unit s.log.sup + s.log.tail + 0
-  place = ap (λ (n : ℕ). active_unit s.log.sup + s.log.tail + n) first
+    cut : piece_bytes s.log.number r ≡ units_from from (given_from units given - from) (record_units s.log.number ops)
+    cut = ap (λ (n : ℕ). units_from n (piece_units units given) (record_units s.log.number ops)) lying.begins
+        ∙ ap (λ (n : ℕ). units_from from n (record_units s.log.number ops))
+        (rest (piece_first units given) (piece_units units given) from (given_from units given) lying.begins lying.ends)
+      where
+        rest : (first count from end : ℕ) → first ≡ from → first + count ≡ end → count ≡ end - from
+        rest first count from end begins ends = omega (arith, begins, ends)
 
-  cut : piece_bytes m.number (record_with x 0 0) ≡ units_from 0 1 (record_units s.log.number ops)
-  cut = ap (λ (n : ℕ). units_from n (piece_units (unit_count s.log.number ops) 0) (record_units s.log.number ops)) first
-      ∙ ap (λ (n : ℕ). units_from 0 n (record_units s.log.number ops)) count
+    cut_size : length (piece_bytes s.log.number r) ≡ 4096 * piece_units units given
+    cut_size = length-units_from (piece_first units given) (piece_units units given) (record_units s.log.number ops)
+        (within (piece_first units given) (piece_units units given) units (length (record_units s.log.number ops)) lying.within
+        (length-record_units s.log.number ops))
+      where
+        within : (first count units size : ℕ) → first + count ≤ units → size ≡ 4096 * units → 4096 * first + 4096 * count ≤ size
+        within first count units size inside is = omega (arith, inside, is)
 
-  cut_size : length (piece_bytes m.number (record_with x 0 0)) ≡ 4096
-  cut_size = ap length cut ∙ length-units_from 0 1 (record_units s.log.number ops) (omega (arith, length-record_units s.log.number ops, one))
+    later : from ≤ given_from units given
+    later = lower (piece_first units given) (piece_units units given) from (given_from units given) lying.begins lying.ends
+      where
+        lower : (first count from end : ℕ) → first ≡ from → first + count ≡ end → from ≤ end
+        lower first count from end begins ends = omega (arith, begins, ends)
 
-  -- it lies in the half
-  pub piece_inside : s.log.tail + 1 ≤ s.log.sup.half
-      → 4096 * piece_unit m (record_with x 0 0) + length (piece_bytes m.number (record_with x 0 0)) ≤ 4096 * (active_unit s.log.sup + s.log.sup.half)
-  piece_inside room = omega (arith, place, cut_size, room)
+    -- it lies in the half
+    pub piece_inside : s.log.tail + units ≤ s.log.sup.half
+        → 4096 * piece_unit s.log r + length (piece_bytes s.log.number r) ≤ 4096 * (active_unit s.log.sup + s.log.sup.half)
+    piece_inside room = inside (active_unit s.log.sup) s.log.tail (piece_first units given) (piece_units units given) units s.log.sup.half
+        (length (piece_bytes s.log.number r)) lying.within room cut_size
+      where
+        inside : (active tail first count units half size : ℕ) → first + count ≤ units → tail + units ≤ half → size ≡ 4096 * count
+            → 4096 * (active + tail + first) + size ≤ 4096 * (active + half)
+        inside active tail first count units half size within room is = omega (arith, within, room, is)
 
-  pub piece_fits : s.log.tail + 1 ≤ s.log.sup.half → IsUnits s.log.sup.units (last h.start h.log) → IsSuper s.log.sup
-      → Fits (length (last h.start h.log)) piece
-  piece_fits room size limits = omega (arith, piece_inside room, half_before_data s.log.sup, limits.room, size)
+    pub piece_fits : s.log.tail + units ≤ s.log.sup.half → IsUnits s.log.sup.units (last h.start h.log) → IsSuper s.log.sup
+        → Fits (length (last h.start h.log)) (piece_of s x given)
+    piece_fits room size limits = omega (arith, piece_inside room, half_before_data s.log.sup, limits.room, size)
 
-  -- and spares all else
-  pub piece_spares : s.log.tail + 1 ≤ s.log.sup.half → (unit : ℕ) → IsElsewhere s.log.sup unit → ¬ WritesUnit unit piece
-  piece_spares room unit is = half_spares_others s.log.sup (piece_unit m (record_with x 0 0)) unit (piece_bytes m.number (record_with x 0 0))
-      (omega (arith, place)) (piece_inside room) is
+    -- and spares all else
+    pub piece_spares : s.log.tail + units ≤ s.log.sup.half → (unit : ℕ) → IsElsewhere s.log.sup unit → ¬ WritesUnit unit (piece_of s x given)
+    piece_spares room unit is = half_spares_others s.log.sup (piece_unit s.log r) unit (piece_bytes s.log.number r) (omega (arith, place))
+        (piece_inside room) is
 
-  -- the record's piece is submitted
-  pub record_known : (ticket : Ticket) → s.log.tail + 1 ≤ s.log.sup.half → IsUnits s.log.sup.units (last h.start h.log) → IsSuper s.log.sup
-      → AreOnData s.log.sup (x.fresh ++ []) → Submitted d ticket.place piece d' → KnownOfUnits base (at s (flushed_at x true)) d h
-      → KnownOfUnits base (record (at s (records x ticket)) { events = s.events + 1 }) d' (with_event h piece)
-  record_known ticket room size limits on_data submitted known =
-      let u : ℕ = piece_unit m (record_with x 0 0) in
-      let bytes : List ℕ = piece_bytes m.number (record_with x 0 0) in
-      let fit : 4096 * u + length bytes ≤ length (last h.start h.log) = piece_fits room size limits in
-      let low : active_unit s.log.sup ≤ u = omega (arith, place) in
-      let others : (unit : ℕ) → IsElsewhere s.log.sup unit → ¬ WritesUnit unit piece = piece_spares room in
-      let spared : (unit : ℕ) → IsDataUnit s.log.sup unit → ¬ WritesUnit unit piece =
-      λ unit is. others unit (data_elsewhere s.log.sup unit is) in
-      let on_given : AreOnData s.log.sup (given_fresh (x ∷ [])) = all_given (λ (f : FreshUnit). IsDataUnit s.log.sup f.unit) (x ∷ []) on_data in
-      let before : ActiveHalfStands h s.log.sup s.log.rows s.log.tail s.log.number (Some ops) 1 not_sent known.half.recs =
-      subst (λ (n : ℕ). ActiveHalfStands h s.log.sup s.log.rows s.log.tail s.log.number (Some ops) n not_sent known.half.recs)
-      (none_given s.log.number ops one ∙ one) known.half.stands in
-      record {
-        told = told_sent base s.events h d d' known.told known.answered ticket.place piece submitted;
-        answered = answered_sent base s.events h d d' known.told known.answered ticket.place piece submitted;
-        slots = slots_push h s.log.sup piece fit (half_spares_slots s.log.sup u bytes low) known.slots;
-        half = record {
-          recs = known.half.recs;
-          stands = subst
-              (λ (n : ℕ). ActiveHalfStands (with_event h piece) s.log.sup s.log.rows s.log.tail s.log.number (Some ops) n not_sent known.half.recs)
-              (sym (all_given_from s.log.number ops one))
-              (half_piece h s.log.sup s.log.rows s.log.tail s.log.number ops known.half.recs 1 0 (omega arith) before u bytes place cut fit);
-        };
-        clean = clean_on h s.log.sup piece (given_fresh (x ∷ [])) others known.clean;
-        held = held_on h piece (given_fresh (x ∷ [])) fit (spares_data s.log.sup piece (given_fresh (x ∷ [])) spared on_given) known.held;
-        flushed = flushed_on h piece flushed (x.fresh ++ []) (spares_data s.log.sup piece (x.fresh ++ []) spared on_data) known.flushed;
-      }
+    -- the record's piece is submitted
+    pub record_known : (written : ℕ) (flying flying' : List Flying) (ticket : Ticket) → s.log.tail + units ≤ s.log.sup.half
+        → IsUnits s.log.sup.units (last h.start h.log) → IsSuper s.log.sup
+        → AreOnData s.log.sup (x.fresh ++ []) → Submitted d ticket.place (piece_of s x given) d'
+        → KnownOfUnits base (at s (writes x given written flying)) d h
+        → KnownOfUnits base (record (at s (writes x (given + 1) written flying')) { events = s.events + 1 }) d' (with_event h (piece_of s x given))
+    record_known written flying flying' ticket room size limits on_data submitted known =
+        let piece : Event = piece_of s x given in
+        let u : ℕ = piece_unit s.log r in
+        let bytes : List ℕ = piece_bytes s.log.number r in
+        let fit : 4096 * u + length bytes ≤ length (last h.start h.log) = piece_fits room size limits in
+        let others : (unit : ℕ) → IsElsewhere s.log.sup unit → ¬ WritesUnit unit piece = piece_spares room in
+        let spared : (unit : ℕ) → IsDataUnit s.log.sup unit → ¬ WritesUnit unit piece =
+        λ unit is. others unit (data_elsewhere s.log.sup unit is) in
+        let on_given : AreOnData s.log.sup (given_fresh (x ∷ [])) = all_given (λ (f : FreshUnit). IsDataUnit s.log.sup f.unit) (x ∷ []) on_data in
+        record {
+          told = told_sent base s.events h d d' known.told known.answered ticket.place piece submitted;
+          answered = answered_sent base s.events h d d' known.told known.answered ticket.place piece submitted;
+          slots = slots_push h s.log.sup piece fit (half_spares_slots s.log.sup u bytes (omega (arith, place))) known.slots;
+          half = record {
+            recs = known.half.recs;
+            stands = half_piece h s.log.sup s.log.rows s.log.tail s.log.number ops known.half.recs (given_from units given) from later
+                known.half.stands u bytes place cut fit;
+          };
+          clean = clean_on h s.log.sup piece (given_fresh (x ∷ [])) others known.clean;
+          held = held_on h piece (given_fresh (x ∷ [])) fit (spares_data s.log.sup piece (given_fresh (x ∷ [])) spared on_given) known.held;
+          flushed = flushed_on h piece flushed (x.fresh ++ []) (spares_data s.log.sup piece (x.fresh ++ []) spared on_data) known.flushed;
+        }
 
-  -- its good end
-  pub record_done_known : (ticket : Ticket) (t : ℕ) → Reaped d t true d' → KnownOfUnits base (at s (records x ticket)) d h
-      → KnownOfUnits base (record (at s (recorded x)) { events = s.events + 1 }) d' (with_event h (Done t true))
-  record_done_known ticket t ended known =
-      let k = done_quiet base (at s (records x ticket)) d d' h t ended known in
+  -- the good end of one
+  pub record_done_known : (written : ℕ) (flying flying' : List Flying) (t : ℕ) → Reaped d t true d'
+      → KnownOfUnits base (at s (writes x given written flying)) d h
+      → KnownOfUnits base (record (at s (writes x given (written + 1) flying')) { events = s.events + 1 }) d' (with_event h (Done t true))
+  record_done_known written flying flying' t ended known =
+      let k = done_quiet base (at s (writes x given written flying)) d d' h t ended known in
       record {
         told = k.told;
         answered = k.answered;
@@ -323,15 +368,23 @@ module _ (base : ℕ) (s : State) (x : Context) (d d' : Disk) (h : History) (fit
         flushed = k.flushed;
       }
 
+-- all its pieces have ended
+module _ (base : ℕ) (s : State) (x : Context) (pieces : ℕ) (d d' : Disk) (h : History) where
+  abbrev whole : List RowOp
+  whole = x.ops ++ []
+
+  abbrev left : ℕ
+  left = given_from (unit_count s.log.number whole) pieces
+
   -- the flush behind it is submitted
-  pub sync_known : (ticket : Ticket) → d.flights ≡ [] → Submitted d ticket.place Flush d' → KnownOfUnits base (at s (recorded x)) d h
-      → KnownOfUnits base (record (at s (syncs x ticket)) { events = s.events + 1 }) d' (with_event h Flush)
+  pub sync_known : (ticket : Ticket) → d.flights ≡ [] → Submitted d ticket.place Flush d' → KnownOfUnits base (at s (writes x pieces pieces [])) d h
+      → KnownOfUnits base (record (at s (syncs x pieces ticket)) { events = s.events + 1 }) d' (with_event h Flush)
   sync_known ticket none submitted known =
-      let k = flush_quiet base (at s (recorded x)) d d' h ticket.place submitted known in
+      let k = flush_quiet base (at s (writes x pieces pieces [])) d d' h ticket.place submitted known in
       let place : ticket.place ≡ length h.log = place_sent base s.events h d d' known.told known.answered ticket.place Flush submitted in
-      let from : ℕ = given_from (unit_count s.log.number ops) 1 in
-      let stands : ActiveHalfStands (with_event h Flush) s.log.sup s.log.rows s.log.tail s.log.number (Some ops) from (sent (length h.log)) known.half.recs =
-      half_sync h s.log.sup s.log.rows s.log.tail s.log.number ops known.half.recs base d.flights from known.answered.quiet known.answered.each
+      let stands : ActiveHalfStands (with_event h Flush) s.log.sup s.log.rows s.log.tail s.log.number (Some whole) left (sent (length h.log))
+      known.half.recs =
+      half_sync h s.log.sup s.log.rows s.log.tail s.log.number whole known.half.recs base d.flights left known.answered.quiet known.answered.each
       (λ j low high. none_unflown d.flights (active_unit s.log.sup + (s.log.tail + j)) none) known.half.stands in
       record {
         told = k.told;
@@ -340,7 +393,8 @@ module _ (base : ℕ) (s : State) (x : Context) (d d' : Disk) (h : History) (fit
         half = record {
           recs = known.half.recs;
           stands = subst
-              (λ (n : ℕ). ActiveHalfStands (with_event h Flush) s.log.sup s.log.rows s.log.tail s.log.number (Some ops) from (sent n) known.half.recs)
+              (λ (n : ℕ). ActiveHalfStands (with_event h Flush) s.log.sup s.log.rows s.log.tail s.log.number (Some whole) left (sent n)
+              known.half.recs)
               (sym place) stands;
         };
         clean = k.clean;
@@ -349,18 +403,17 @@ module _ (base : ℕ) (s : State) (x : Context) (d d' : Disk) (h : History) (fit
       }
 
   -- its good end
-  pub sync_done_known : (ticket : Ticket) → Reaped d ticket.place true d' → KnownOfUnits base (at s (syncs x ticket)) d h
-      → KnownOfUnits base (record (at s (synced x)) { events = s.events + 1 }) d' (with_event h (Done ticket.place true))
+  pub sync_done_known : (ticket : Ticket) → Reaped d ticket.place true d' → KnownOfUnits base (at s (syncs x pieces ticket)) d h
+      → KnownOfUnits base (record (at s (synced x pieces)) { events = s.events + 1 }) d' (with_event h (Done ticket.place true))
   sync_done_known ticket ended known =
-      let k = done_quiet base (at s (syncs x ticket)) d d' h ticket.place ended known in
+      let k = done_quiet base (at s (syncs x pieces ticket)) d d' h ticket.place ended known in
       record {
         told = k.told;
         answered = k.answered;
         slots = k.slots;
         half = record {
           recs = known.half.recs;
-          stands = half_synced h s.log.sup s.log.rows s.log.tail s.log.number ops known.half.recs ticket.place
-              (given_from (unit_count s.log.number ops) 1) known.half.stands;
+          stands = half_synced h s.log.sup s.log.rows s.log.tail s.log.number whole known.half.recs ticket.place left known.half.stands;
         };
         clean = k.clean;
         held = k.held;
@@ -372,12 +425,14 @@ module _ (base : ℕ) (s : State) (x : Context) (d d' : Disk) (h : History) (fit
   abbrev batch : Batch
   batch = record { contexts = x ∷ []; first = flush.Flushed; second = flush.Flushed }
 
-  pub commit_known : AreWritten x → KnownOfUnits base (at s (synced x)) d h
-      → (let t : State = at s (synced x) in let u : State = committed_batch batch t in KnownOfUnits base u d h)
-  commit_known written known =
-      let stands : ActiveHalfStands h s.log.sup s.log.rows s.log.tail s.log.number (Some ops) 0 flushed known.half.recs =
-      subst (λ (n : ℕ). ActiveHalfStands h s.log.sup s.log.rows s.log.tail s.log.number (Some ops) n flushed known.half.recs)
-      (all_given_from s.log.number ops one) known.half.stands in
+  pub commit_known : AreWritten x → pieces ≡ pieces_at s.log.number x → KnownOfUnits base (at s (synced x pieces)) d h
+      → (let t : State = at s (synced x pieces) in let u : State = committed_batch batch t in KnownOfUnits base u d h)
+  commit_known written every known =
+      let none_left : left ≡ 0 =
+      ap (λ (n : ℕ). given_from (unit_count s.log.number whole) n) every ∙ given_from-all (unit_count s.log.number whole) in
+      let stands : ActiveHalfStands h s.log.sup s.log.rows s.log.tail s.log.number (Some whole) 0 flushed known.half.recs =
+      subst (λ (n : ℕ). ActiveHalfStands h s.log.sup s.log.rows s.log.tail s.log.number (Some whole) n flushed known.half.recs) none_left
+      known.half.stands in
       let all : take x.given x.fresh ++ [] ≡ x.fresh ++ [] =
       ap (λ (fs : List FreshUnit). fs ++ []) (take_all x.given x.fresh (omega (arith, written.given))) in
       record {
@@ -385,8 +440,8 @@ module _ (base : ℕ) (s : State) (x : Context) (d d' : Disk) (h : History) (fit
         answered = known.answered;
         slots = known.slots;
         half = record {
-          recs = known.half.recs ++ ops ∷ [];
-          stands = half_commit h s.log.sup s.log.rows s.log.tail s.log.number ops known.half.recs stands;
+          recs = known.half.recs ++ whole ∷ [];
+          stands = half_commit h s.log.sup s.log.rows s.log.tail s.log.number whole known.half.recs stands;
         };
         clean = all_clean h s.log.sup (x.fresh ++ []) (subst (OtherUnitsAreClean h s.log.sup) all known.clean) known.flushed;
         held = tt;

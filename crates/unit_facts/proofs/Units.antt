@@ -1,5 +1,6 @@
 -- What is known of the data units, over an event that writes none of them, and as a batch is flushed and committed.
-use Rattle.std.proofs.Common.{◌≢◌, ◌⊎◌, inl, inr, true, ℕ, zero, suc, ◌+◌, ◌*◌, ◌≤◌, List, [], ◌∷◌, ◌++◌, length, take, Contains, Option, Some, None, subst}
+use Rattle.std.proofs.Common.{◌≢◌, ◌⊎◌, inl, inr, true, ℕ, zero, suc, ◌+◌, ◌*◌, ◌≤◌, List, [], ◌∷◌, ◌++◌, length, take, Contains}
+use Rattle.std.proofs.Common.{Option, Some, None, subst}
 use Rattle.std.proofs.Common.{◌∙◌, arith}
 use Rattle.std.specs.List.{flat_map, AllByRecursion}
 use Rattle.std.proofs.lemmas.Bool.{cases_eq}

@@ -1,6 +1,6 @@
 -- How the contexts stand once a transaction is accepted or refused.
-use Rattle.std.proofs.Common.{◌≡◌, ◌⊎◌, inl, inr, ℕ, ◌-◌, List, [], ◌∷◌, ◌++◌, length, take, Option, None, Ok, refl, sym, ap, subst, ◌∙◌, arith}
-use Rattle.std.specs.List.{AllByRecursion, cons_option}
+use Rattle.std.proofs.Common.{◌≡◌, ℕ, ◌-◌, List, [], ◌∷◌, ◌++◌, length, take, Option, None, Ok, refl, sym, ap, subst, ◌∙◌, append-nil, arith}
+use Rattle.std.specs.List.{cons_option}
 use Rattle.std.proofs.lemmas.List.{take_all}
 use Rattle.block_device.specs.Disk.{History}
 use Rattle.block_device.specs.Facts.{last_at}
@@ -13,61 +13,36 @@ use Rattle.object_model.specs.declared.command.Answer.{Answer}
 use Rattle.object_model.specs.declared.command.Answer.TheVariants as answer
 use Rattle.object_model.specs.declared.command.Command.TheVariants as ask
 use Rattle.meta_rows.specs.Rows.{Rows, rows_after}
-use Rattle.meta_log.specs.declared.slot.Super.{Super}
-use Rattle.store_image.specs.Owners.{IsOwned, IsDataUnit}
+use Rattle.store_image.specs.BadRows.{NoBadRow}
+use Rattle.store_image.specs.Owners.{IsOwned}
 use Rattle.store_image.specs.Stands.{ObjectsStand}
 use Rattle.store_image.proofs.OwnedUnits.{objects_stand}
-use Rattle.row_facts.specs.Plans as rows_plan
-use Rattle.row_facts.proofs.Plans.{planned_stand, planned_fresh}
+use Rattle.object_rows.specs.Planned.{IsPlanned}
+use Rattle.object_rows.proofs.Planned.{planned_stand}
 use Rattle.store_steps.specs.declared.context.Context.{Context}
 use Rattle.store_steps.specs.declared.context.FreshUnit.{FreshUnit}
 use Rattle.store_steps.specs.declared.plan.Plan.{Plan}
+use Rattle.store_steps.specs.Planning.{as_planned}
 use Rattle.store_steps.specs.State.{State}
 use Rattle.store_steps.specs.Ready.{applied_count}
 use Rattle.store_steps.specs.Submit.{IsKnown, refusal_of, context_of, noted, accepted_with}
 use Rattle.store_facts.specs.Space.{uncommitted}
 use Rattle.store_facts.proofs.Stages.{idle, at}
-use Rattle.store_facts.proofs.RowsPlans.{rows_plan_of}
 use Rattle.book_facts.specs.BookFacts.{KnownOfBook}
 use Rattle.book_facts.specs.Selections.{applied_changes, changes_of, SelectionsStand}
 use Rattle.book_facts.proofs.Entries.{change_last}
-use Rattle.book_facts.proofs.Accepted.{TakesPlan, GoesOn, goes_on}
+use Rattle.book_facts.proofs.Accepted.{plan_holds, plan_spares, GoesOn, goes_on}
 use Rattle.book_facts.proofs.Selecting.{none_selected, stand_none, stand_one}
 use Rattle.book_facts.proofs.Applied.{applied_entry, all_committed}
 use Rattle.book_facts.specs.FreshBytes.{bytes_with}
 use Rattle.crash_facts.specs.HeldBytes.{held_or_last}
 use Rattle.crash_facts.specs.Store.{ContextsStand}
-use Rattle.crash_facts.proofs.Bytes.{its_bytes, not_fresh}
-
--- ---- the fresh units of a plan have their bytes, and nobody owns them
-
-module _ (sup : Super) (rows : Rows) (change : Change) (plan : Plan) (is : rows_plan.IsPlanned sup rows change (rows_plan_of plan))
-    (takes : (plan.fresh ≡ []) ⊎ ((f : FreshUnit) × (plan.fresh ≡ f ∷ []))) (at : ℕ → List ℕ) where
-  plan_holds : rows_plan.HoldsFresh (bytes_with (plan.fresh ++ []) at) (rows_plan_of plan)
-  plan_holds = elim takes [
-    | inl none ↦
-        subst (λ (fresh : List FreshUnit). rows_plan.HoldsFresh (bytes_with (fresh ++ []) at) (rows_plan_of (record plan { fresh = fresh }))) (sym none) tt
-    | inr one ↦
-        subst (λ (fresh : List FreshUnit). rows_plan.HoldsFresh (bytes_with (fresh ++ []) at) (rows_plan_of (record plan { fresh = fresh }))) (sym one.1)
-        (its_bytes one.0 [] at one.0.unit refl, tt)
-  ]
-
-  abbrev AreUnowned : List FreshUnit → Type 0
-  AreUnowned fresh = AllByRecursion (λ f. IsDataUnit sup f.0 × ¬ IsOwned rows f.0 × (length f.1 ≡ 4096)) (rows_plan_of (record plan { fresh = fresh })).fresh
-
-  plan_spares : (unit : ℕ) → IsOwned rows unit → bytes_with (plan.fresh ++ []) at unit ≡ at unit
-  plan_spares unit owned = elim takes [
-    | inl none ↦ ap (λ (fresh : List FreshUnit). bytes_with (fresh ++ []) at unit) none
-    | inr one ↦
-        let all : AreUnowned (one.0 ∷ []) = subst AreUnowned one.1 (planned_fresh sup rows is) in
-        ap (λ (fresh : List FreshUnit). bytes_with (fresh ++ []) at unit) one.1
-        ∙ not_fresh (one.0 ∷ []) at unit (λ e. all.0.1 (subst (IsOwned rows) (sym e) owned), tt)
-  ]
 
 -- ---- it is accepted
 
 module _ (opening : Objects) (s : State) (client line : ℕ) (change : Change) (plan : Plan) (h : History) (known : IsKnown change.ops)
-    (none : refusal_of s.view change.coll change.ops ≡ None) (takes : TakesPlan (at s idle) change plan) (same : s.view ≡ s.log.rows)
+    (none : refusal_of s.view change ≡ None) (good : NoBadRow s.log.sup s.log.rows)
+    (planned : IsPlanned s.log.sup s.view change (as_planned plan)) (same : s.view ≡ s.log.rows)
     (book : KnownOfBook opening (at s idle)) (stand : ContextsStand opening (at s idle) h) where
   abbrev t : State
   t = at s idle
@@ -88,17 +63,22 @@ module _ (opening : Objects) (s : State) (client line : ℕ) (change : Change) (
   before = replay opening (applied_changes t)
 
   abbrev now : ℕ → List ℕ
-  now = held_or_last h (one ∷ [])
+  now = bytes_with plan.fresh (last_at h)
 
-  is_planned : rows_plan.IsPlanned s.log.sup s.log.rows change (rows_plan_of plan)
-  is_planned = subst (λ (rows : Rows). rows_plan.IsPlanned s.log.sup rows change (rows_plan_of plan)) same takes.is_planned
+  -- the fresh units of the context alone
+  now_is : now ≡ held_or_last h (one ∷ [])
+  now_is = ap (λ (fresh : List FreshUnit). bytes_with fresh (last_at h)) (sym (append-nil plan.fresh))
+
+  is_planned : IsPlanned s.log.sup s.log.rows change (as_planned plan)
+  is_planned = subst (λ (rows : Rows). IsPlanned s.log.sup rows change (as_planned plan)) same planned
 
   on : GoesOn opening t change
   on = goes_on opening t change book known none
 
   -- all that was accepted is committed
   before_is : before ≡ replay opening (accepted es)
-  before_is = ap (λ (l : List Commit). replay opening (committed es l)) (take_all (length cs - 0) cs (omega arith)) ∙ all_committed opening es cs book.queued
+  before_is = ap (λ (l : List Commit). replay opening (committed es l)) (take_all (length cs - 0) cs (omega arith))
+      ∙ all_committed opening es cs book.queued
 
   effect : transaction_effect change before ≡ Ok on.after
   effect = subst (λ (o : Objects). transaction_effect change o ≡ Ok on.after) (sym before_is) on.effect
@@ -118,15 +98,15 @@ module _ (opening : Objects) (s : State) (client line : ℕ) (change : Change) (
   pub accept_stand : ContextsStand opening (accepted_with client line change plan t) h
   accept_stand =
       let rows : Rows = s.log.rows in
-      let front : ObjectsStand now rows before =
-      objects_stand (last_at h) now rows
-      (λ unit owned. sym (plan_spares s.log.sup rows change plan is_planned takes.takes (last_at h) unit owned)) before rows_stand in
+      let spares : (unit : ℕ) → IsOwned rows unit → now unit ≡ last_at h unit = plan_spares s.log.sup rows change plan is_planned (last_at h) in
+      let front : ObjectsStand now rows before = objects_stand (last_at h) now rows (λ unit owned. sym (spares unit owned)) before rows_stand in
       let all : ObjectsStand now (rows_after rows plan.ops) on.after =
-      planned_stand s.log.sup rows (last_at h) now before on.after is_planned
-      (plan_holds s.log.sup rows change plan is_planned takes.takes (last_at h))
-      (plan_spares s.log.sup rows change plan is_planned takes.takes (last_at h)) rows_stand effect in
-      subst (λ (l : List Change). SelectionsStand now rows (one ∷ []) (replay opening l) (es ++ entry ∷ [])) applied_is
-      (stand_one now rows one before (es ++ entry ∷ []) front (subst (ObjectsStand now (rows_after rows plan.ops)) goes all))
+      planned_stand s.log.sup rows (last_at h) now before on.after is_planned good (plan_holds s.log.sup rows change plan is_planned (last_at h))
+      spares rows_stand effect in
+      let stand_now : SelectionsStand now rows (one ∷ []) before (es ++ entry ∷ []) =
+      stand_one now rows one before (es ++ entry ∷ []) front (subst (ObjectsStand now (rows_after rows plan.ops)) goes all) in
+      subst (λ (l : List Change). SelectionsStand (held_or_last h (one ∷ [])) rows (one ∷ []) (replay opening l) (es ++ entry ∷ [])) applied_is
+      (subst (λ (bytes : ℕ → List ℕ). SelectionsStand bytes rows (one ∷ []) before (es ++ entry ∷ [])) now_is stand_now)
 
 -- ---- it is refused
 

@@ -1,12 +1,11 @@
 -- The bytes of units with those that fresh ones are to have.
-use Rattle.std.proofs.Common.{◌≡◌, ◌≢◌, inl, inr, ℕ, ◌+◌, ◌*◌, ◌≤◌, Bool, cond, ◌==◌, List, [], ◌∷◌, length, refl, sym, ap, ◌∙◌, arith}
+use Rattle.std.proofs.Common.{◌≡◌, ◌≢◌, ◌⊎◌, inl, inr, ℕ, Bool, cond, ◌==◌, List, [], ◌∷◌, length, refl, sym, ap, ◌∙◌}
 use Rattle.std.specs.List.{AllByRecursion}
 use Rattle.std.proofs.lemmas.Bool.{cases_eq, eq-eqb, ne_eqb}
 use Rattle.block_device.specs.Log.{last, WritesUnit, WritesNothing}
 use Rattle.block_device.specs.Disk.{History}
-use Rattle.block_device.specs.Facts.{with_event, last_at}
+use Rattle.block_device.specs.Facts.{with_event, last_at, Fits}
 use Rattle.block_device.specs.declared.event.Event.{Event}
-use Rattle.block_device.specs.declared.event.Event.TheVariants.{Write}
 use Rattle.log_facts.proofs.Keeping.{last_push}
 use Rattle.store_steps.specs.declared.context.Context.{Context}
 use Rattle.store_steps.specs.declared.context.FreshUnit.{FreshUnit}
@@ -51,13 +50,23 @@ pub held_quiet : (h : History) (e : Event) (xs : List Context) (unit : ℕ) → 
     → held_or_last h xs unit ≡ held_or_last (with_event h e) xs unit
 held_quiet h e xs unit none = with_same (all_fresh xs) (last_at h) (last_at (with_event h e)) unit (last_quiet h e unit none)
 
--- that writes the bytes of the one fresh unit there
-pub held_written : (h : History) (f : FreshUnit) (unit : ℕ) → length f.bytes ≡ 4096 → 4096 * f.unit + length f.bytes ≤ length (last h.start h.log)
-    → bytes_with (f ∷ []) (last_at h) unit ≡ bytes_with (f ∷ []) (last_at (with_event h (Write f.unit f.bytes))) unit
-held_written h f unit whole fits = elim (cases_eq f.unit unit) [
-  | inl same ↦
-      its_bytes f [] (last_at h) unit same ∙ sym (its_bytes f [] (last_at (with_event h (Write f.unit f.bytes))) unit same)
+-- the unit is none of the fresh ones, or holds the same over all other bytes
+fresh_or_not : (fs : List FreshUnit) (unit : ℕ)
+    → AllByRecursion (λ f. f.unit ≢ unit) fs ⊎ ((at at' : ℕ → List ℕ) → bytes_with fs at unit ≡ bytes_with fs at' unit)
+fresh_or_not [] unit = inl tt
+fresh_or_not (f ∷ fs) unit = elim (cases_eq f.unit unit) [
+  | inl same ↦ inr (λ at at'. its_bytes f fs at unit same ∙ sym (its_bytes f fs at' unit same))
   | inr other ↦
-      let spared : ¬ WritesUnit unit (Write f.unit f.bytes) = λ covers. other (omega (arith, covers.0, covers.1, whole)) in
-      with_same (f ∷ []) (last_at h) (last_at (with_event h (Write f.unit f.bytes))) unit (sym (last_push h (Write f.unit f.bytes) unit fits spared))
+      elim (fresh_or_not fs unit) [
+        | inl others ↦ inl (other, others)
+        | inr held ↦ inr (λ at at'. other_bytes f fs at unit other ∙ held at at' ∙ sym (other_bytes f fs at' unit other))
+      ]
+]
+
+-- that writes none but fresh units
+pub held_over : (h : History) (e : Event) (fs : List FreshUnit) (unit : ℕ) → Fits (length (last h.start h.log)) e
+    → (AllByRecursion (λ f. f.unit ≢ unit) fs → ¬ WritesUnit unit e) → bytes_with fs (last_at h) unit ≡ bytes_with fs (last_at (with_event h e)) unit
+held_over h e fs unit fits spared = elim (fresh_or_not fs unit) [
+  | inl others ↦ with_same fs (last_at h) (last_at (with_event h e)) unit (sym (last_push h e unit fits (spared others)))
+  | inr held ↦ held (last_at h) (last_at (with_event h e))
 ]

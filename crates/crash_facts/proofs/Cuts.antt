@@ -1,5 +1,6 @@
 -- What each crash so far leaves, as the book and the log grow.
-use Rattle.std.proofs.Common.{◌≡◌, ◌⊎◌, inl, inr, ℕ, zero, suc, ◌+◌, ◌<◌, ◌≤◌, Bool, true, false, cond, List, [], ◌∷◌, ◌++◌, length, take, Option, Some, None}
+use Rattle.std.proofs.Common.{◌≡◌, ◌⊎◌, inl, inr, ℕ, zero, suc, ◌+◌, ◌<◌, ◌≤◌, Bool, true, false, cond, List, [], ◌∷◌, ◌++◌, length, take}
+use Rattle.std.proofs.Common.{Option, Some, None}
 use Rattle.std.proofs.Common.{slice_get, is_some, refl, sym, ap, subst, ◌∙◌, arith, length-append}
 use Rattle.std.specs.Prelude.{IfSome, IsSomeAnd}
 use Rattle.std.specs.List.{AllByRecursion}
@@ -9,7 +10,7 @@ use Rattle.block_device.specs.Log.{last, WritesNothing}
 use Rattle.block_device.specs.Disk.{Disk, History}
 use Rattle.block_device.specs.Facts.{with_event}
 use Rattle.block_device.specs.declared.event.Event.{Event}
-use Rattle.block_device.specs.declared.event.Event.TheVariants.{Write, Flush, Done}
+use Rattle.block_device.specs.declared.event.Event.TheVariants.{Flush, Done}
 use Rattle.block_device.proofs.LogLemmas.{slice_get-push_cases, each_cut_push, each_cut_weaker}
 use Rattle.block_device.proofs.LawLemmas.{last_mono, image_mono}
 use Rattle.object_model.specs.Objects.{Objects}
@@ -33,7 +34,9 @@ use Rattle.book_facts.proofs.Commits.{places_acknowledged, changes_at}
 use Rattle.book_facts.proofs.Applied.{applied_by_places, applied_entry}
 use Rattle.store_facts.proofs.Stages.{idle, at}
 use Rattle.unit_facts.proofs.Moves.{Move, data_goes, data_ends, takes, flush_goes, flush_ends, seals, record_goes, record_ends, sync_goes, sync_ends}
-use Rattle.unit_facts.proofs.Moves.{commits, finishes, accepts, refuses, rests, piece_of}
+use Rattle.unit_facts.proofs.Moves.{commits, finishes, accepts, refuses, rests, stays}
+use Rattle.unit_facts.proofs.RunWrites.{run_write}
+use Rattle.unit_facts.proofs.Steps.{piece_of}
 
 -- ---- the book grows
 
@@ -55,11 +58,9 @@ prefix_grows base start opening book book' log grows leaves image is chance =
       stands = subst (λ (l : List Change). StandsFor image (replay opening l)) (sym (grows.same was.count was.within)) was.stands;
     }
 
-stays : (base cut : ℕ) (book : Book) → Grows base cut book book
-stays base cut book = record { more = omega arith; acked = λ count has. has; same = λ count below. refl }
-
 -- one more commit, that isn't acknowledged
-acked_push : (base cut count : ℕ) (cs : List Commit) (c : Commit) → c.acked_at ≡ None → HasAcked base cut cs count → HasAcked base cut (cs ++ c ∷ []) count
+acked_push : (base cut count : ℕ) (cs : List Commit) (c : Commit) → c.acked_at ≡ None → HasAcked base cut cs count
+    → HasAcked base cut (cs ++ c ∷ []) count
 acked_push base cut count cs c none has i = of_get (slice_get (cs ++ c ∷ []) i) refl
   where
     of_get : (o : Option Commit) → slice_get (cs ++ c ∷ []) i ≡ o → IfSome o (λ x. IsAckedBy base cut x → i < count)
@@ -78,7 +79,8 @@ takes_commit base cut entries cs x = record {
 }
 
 -- an acknowledgement now says nothing of an earlier cut
-acked_now : (events i : ℕ) (cs : List Commit) (P : Commit → Type 0) → IfSome (slice_get cs i) P → ((c : Commit) → P (record c { acked_at = Some events }))
+acked_now : (events i : ℕ) (cs : List Commit) (P : Commit → Type 0) → IfSome (slice_get cs i) P
+    → ((c : Commit) → P (record c { acked_at = Some events }))
     → IfSome (slice_get (acknowledged events cs) i) P
 acked_now events i [] P old new = old
 acked_now events i (c ∷ cs) P old new = by_test (is_some c.acked_at) i old (λ j later. acked_now events j cs P later new)
@@ -121,7 +123,8 @@ quiet_leaves base events h opening book e none counted by_now leaves image is ch
     let same : last h.start (h.log ++ e ∷ []) ≡ last h.start h.log = last_mono h.start h.log e none in
     let earlier : NoChanceMatch h.start h.log image = record {
       records = λ s recs active begins. subst (AreAsWritten recs s.first (active_unit s) image) same (chance.records s recs active begins);
-      slots = λ at s below valid. subst (λ (l : List ℕ). IsOutranked image at s ⊎ (unit_at at image ≡ unit_at at l)) same (chance.slots at s below valid);
+      slots = λ at s below valid. subst (λ (l : List ℕ). IsOutranked image at s ⊎ (unit_at at image ≡ unit_at at l)) same
+          (chance.slots at s below valid);
     } in
     let was = leaves image (image_mono h.start h.log e image none is) earlier in
     record {
@@ -165,23 +168,25 @@ more_log base h opening book e cuts now = each_cut_push base h.log e (LeavesPref
 pub move_cuts : {s s' : State} {d d' : Disk} {h h' : History} (base : ℕ) (opening : Objects) → Move s d h s' d' h' → KnownOfBook opening s
     → length h.log ≡ base + s.events → EachCutStands base h opening s.book → LeavesPrefix base h'.start opening s'.book h'.log
     → EachCutStands base h' opening s'.book
-move_cuts base opening (data_goes s x f ticket d d' h one none is whole size submitted) book counted cuts now =
-    more_log base h opening s.book (Write f.unit f.bytes) cuts now
-move_cuts base opening (data_ends s x ticket d d' h t ended) book counted cuts now = more_log base h opening s.book (Done t true) cuts now
+move_cuts base opening (data_goes s x n flying flying' ticket d d' h fits run are size submitted) book counted cuts now =
+    more_log base h opening s.book (run_write n) cuts now
+move_cuts base opening (data_ends s x count flying flying' d d' h t ended) book counted cuts now =
+    more_log base h opening s.book (Done t true) cuts now
 move_cuts base opening (takes s x d h) book counted cuts now =
     let after : Book = record s.book { commits = s.book.commits ++ commit_of x ∷ [] } in
     same_log base h opening s.book after (λ cut below. takes_commit base cut s.book.entries s.book.commits x) cuts now
 move_cuts base opening (flush_goes s x made ticket d d' h none submitted) book counted cuts now = more_log base h opening s.book Flush cuts now
 move_cuts base opening (flush_ends s x made ticket d d' h ended) book counted cuts now =
     more_log base h opening s.book (Done ticket.place true) cuts now
-move_cuts base opening (seals s g g' x d h number fits room batch pending none some second) book counted cuts now = cuts
-move_cuts base opening (record_goes s x ticket d d' h fits room size limits on_data submitted) book counted cuts now =
-    more_log base h opening s.book (piece_of s x) cuts now
-move_cuts base opening (record_ends s x ticket d d' h t fits ended) book counted cuts now = more_log base h opening s.book (Done t true) cuts now
-move_cuts base opening (sync_goes s x ticket d d' h fits none submitted) book counted cuts now = more_log base h opening s.book Flush cuts now
-move_cuts base opening (sync_ends s x ticket d d' h fits ended) book counted cuts now =
+move_cuts base opening (seals s g g' x d h number fits room most batch pending none some second) book counted cuts now = cuts
+move_cuts base opening (record_goes s x given written flying flying' ticket d d' h more room size limits on_data submitted) book counted cuts now =
+    more_log base h opening s.book (piece_of s x given) cuts now
+move_cuts base opening (record_ends s x given written flying flying' d d' h t ended) book counted cuts now =
+    more_log base h opening s.book (Done t true) cuts now
+move_cuts base opening (sync_goes s x pieces ticket d d' h none submitted) book counted cuts now = more_log base h opening s.book Flush cuts now
+move_cuts base opening (sync_ends s x pieces ticket d d' h ended) book counted cuts now =
     more_log base h opening s.book (Done ticket.place true) cuts now
-move_cuts base opening (commits s x d h fits written) book counted cuts now = cuts
+move_cuts base opening (commits s x pieces d h written every) book counted cuts now = cuts
 move_cuts base opening (finishes s d h) book counted cuts now =
     let after : Book = record s.book { commits = acknowledged s.events s.book.commits } in
     same_log base h opening s.book after (λ cut below. finishes_one base cut s.events s.book (omega (arith, below, counted))) cuts now
@@ -194,3 +199,4 @@ move_cuts base opening (refuses client line change a s d h may cause) book count
     let after : Book = record s.book { entries = s.book.entries ++ entry ∷ [] } in
     same_log base h opening s.book after (λ cut below. notes_one base cut opening s entry book) cuts now
 move_cuts base opening (rests s d d' h waited) book counted cuts now = cuts
+move_cuts base opening (stays s d h) book counted cuts now = cuts

@@ -1,10 +1,12 @@
 -- What a kernel keeps of its device: a start lies in the log before each call that came after it, so each call goes on from what was known there.
-use Rattle.std.proofs.Common.{◌≡◌, ◌⊎◌, inl, inr, ℕ, ◌+◌, ◌≤◌, true, false, List, [], ◌∷◌, ◌++◌, length, take, Option, Some, None, refl, sym, ap, subst, ◌∙◌, arith, length-append}
+use Rattle.std.proofs.Common.{◌≡◌, ◌⊎◌, inl, inr, ℕ, ◌+◌, ◌≤◌, Bool, true, false, cond, List, [], ◌∷◌, ◌++◌, length, take, Option, Some, None}
+use Rattle.std.proofs.Common.{is_some, refl, sym, ap, subst, ◌∙◌, arith, length-append}
 use Rattle.std.proofs.lemmas.Option.{same_Some}
 use Rattle.std.proofs.lemmas.List.{take-append-le}
 use Rattle.block_device.specs.Log.{last, IsClean}
 use Rattle.block_device.specs.Disk.{Disk, History, IsSound, Waited, grown}
 use Rattle.block_device.specs.Facts.{with_event}
+use Rattle.block_device.specs.declared.device.Ticket.{Ticket}
 use Rattle.block_device.specs.declared.event.Event.{Event}
 use Rattle.block_device.specs.declared.event.Event.TheVariants.{Write, Flush as FlushEvent, Done}
 use Rattle.object_model.specs.Objects.{Objects}
@@ -17,7 +19,8 @@ use Rattle.store_steps.specs.declared.flight.Job.TheVariants as job
 use Rattle.store_steps.specs.declared.step.Step.{Step}
 use Rattle.store_steps.specs.declared.step.Step.TheVariants.{Data, Reap, Take, Flush, Seal, Record, Sync, Commit, Finish}
 use Rattle.store_steps.specs.State.{State}
-use Rattle.store_steps.specs.Changes.{after_done, after_good, flying_of, landed}
+use Rattle.store_steps.specs.Contexts.{run_bytes, unsent_units}
+use Rattle.store_steps.specs.Changes.{after_done, after_good, flying_of, landed, reaped}
 use Rattle.store_steps.specs.Steps.{piece_unit, piece_bytes}
 use Rattle.store_steps.specs.Opened.{Found, opened}
 use Rattle.store_steps.specs.Runs.{Call, submitting, stepping, Calls, DoesOrFails, Submits}
@@ -44,7 +47,7 @@ no_event : (s s' : State) (d d' : Disk) → s'.events ≡ s.events → d' ≡ d 
 no_event s s' d d' counted same = inl (record { same = ap (λ (e : Disk). e.history) same; counted = counted })
 
 done_events : (j : Job) (s : State) → (after_done j s).events ≡ s.events
-done_events (job.Data place) s = refl
+done_events (job.Data place count) s = refl
 done_events job.DataFlush s = refl
 done_events job.Record s = refl
 done_events job.RecordFlush s = refl
@@ -53,20 +56,28 @@ good_events : (f : Option Flying) (s : State) → (after_good f s).events ≡ s.
 good_events None s = refl
 good_events (Some f) s = done_events f.job s
 
+-- a good end, whether it counts or not
+reaped_events : (ticket : Ticket) (s : State) → (reaped ticket true s).events ≡ s.events + 1
+reaped_events ticket s = of_test (is_some s.down)
+  where
+    of_test : (b : Bool) → (cond b (landed ticket s) (after_good (flying_of ticket s.flying) (landed ticket s))).events ≡ s.events + 1
+    of_test true = refl
+    of_test false = good_events (flying_of ticket s.flying) (landed ticket s)
+
 waited_same : (d d' : Disk) → Waited d d' → d'.history ≡ d.history
 waited_same d d' (inl idle) = ap (λ (e : Disk). e.history) idle.1
 waited_same d d' (inr busy) = ap (λ (e : Disk). e.history) busy.2
 
 step_events : (step : Step) (s s' : State) (d d' : Disk) → DoesOrFails step s d s' d' → IsAtMostOne s s' d d'
 step_events Data s s' d d' does = inr (record {
-  event = Write does.next.fresh.unit does.next.fresh.bytes;
+  event = Write does.next.first.unit (run_bytes (unsent_units does.next));
   more = ap (λ (e : Disk). e.history) does.submitted.after;
   counted = ap (λ (t : State). t.events) does.after;
 })
 step_events Reap s s' d d' (inl (inl ended)) = inr (record {
   event = Done ended.ticket.place true;
   more = ap (λ (e : Disk). e.history) ended.ended.after;
-  counted = ap (λ (t : State). t.events) ended.after ∙ good_events (flying_of ended.ticket s.flying) (landed ended.ticket s);
+  counted = ap (λ (t : State). t.events) ended.after ∙ reaped_events ended.ticket s;
 })
 step_events Reap s s' d d' (inl (inr none)) =
     inl (record { same = waited_same d d' none.0; counted = ap (λ (t : State). t.events) none.1 })
@@ -100,7 +111,8 @@ call_events (submitting client line change) s s' d d' made = no_event s s' d d' 
   where
     of_answer : Submits client line change s s' → s'.events ≡ s.events
     of_answer (inl accepts) = ap (λ (t : State). t.events) accepts.after
-    of_answer (inr refused) = ap (λ (t : State). t.events) refused.1.after
+    of_answer (inr (inl refused)) = ap (λ (t : State). t.events) refused.1.after
+    of_answer (inr (inr turned)) = ap (λ (t : State). t.events) turned.same
 call_events (stepping step) s s' d d' made = step_events step s s' d d' made.1
 
 -- ---- each call

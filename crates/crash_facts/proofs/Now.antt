@@ -1,6 +1,7 @@
 -- A crash now leaves the objects after a front of the commits: after the applied ones, or, once the record of the open batch was given to
 -- the device, perhaps after all.
-use Rattle.std.proofs.Common.{◌≡◌, ◌≢◌, ℕ, ◌+◌, ◌-◌, ◌<◌, ◌≤◌, true, List, [], ◌∷◌, ◌++◌, length, map, take, Option, Some, None, slice_get, is_some, nat_lt}
+use Rattle.std.proofs.Common.{◌≡◌, ◌≢◌, ℕ, ◌+◌, ◌-◌, ◌<◌, ◌≤◌, true, List, [], ◌∷◌, ◌++◌, length, map, take, Option, Some, None}
+use Rattle.std.proofs.Common.{slice_get, is_some, nat_lt}
 use Rattle.std.proofs.Common.{refl, sym, ap, subst, ◌∙◌, append-nil, arith}
 use Rattle.std.specs.Prelude.{IfSome, IsSomeAnd, Contains}
 use Rattle.std.specs.List.{AllByRecursion}
@@ -17,9 +18,11 @@ use Rattle.object_model.specs.Effect.{replay}
 use Rattle.object_model.specs.Book.{committed, IsAckedBy, HasAcked}
 use Rattle.object_model.specs.declared.book.Commit.{Commit}
 use Rattle.meta_rows.specs.declared.row_op.RowOp.{RowOp}
-use Rattle.meta_rows.specs.Rows.{rows_after}
+use Rattle.meta_rows.specs.Rows.{Rows, rows_after}
 use Rattle.meta_log.specs.Records.{unit_count}
 use Rattle.meta_log.specs.Pieces.{given_from}
+use Rattle.meta_log.proofs.PieceLemmas.{given_from-none}
+use Rattle.store_image.specs.BadRows.{NoBadRow}
 use Rattle.store_image.specs.Owners.{IsOwned}
 use Rattle.store_image.specs.Durability.{LeavesPrefix}
 use Rattle.store_image.proofs.OwnedUnits.{objects_stand}
@@ -31,14 +34,14 @@ use Rattle.store_steps.specs.declared.context.FreshUnit.{FreshUnit}
 use Rattle.store_steps.specs.declared.flight.FlushState.TheVariants as flush
 use Rattle.store_steps.specs.State.{Batch, State}
 use Rattle.store_steps.specs.Ready.{applied_count}
-use Rattle.store_facts.specs.Room.{FitsRecord, AcksAre}
-use Rattle.store_facts.specs.Space.{rows_with, uncommitted, AreGoodRows}
+use Rattle.store_facts.specs.Room.{AcksAre}
+use Rattle.store_facts.specs.Space.{rows_with, uncommitted}
 use Rattle.store_facts.specs.Kept.{IsKept}
-use Rattle.store_facts.proofs.Stages.{Stage, opens, flushes, flushed as flushed_at, records, recorded, syncs, synced, pending_of}
+use Rattle.store_facts.proofs.Stages.{Stage, opens, flushes, writes, syncs, synced, pending_of}
 use Rattle.store_facts.proofs.Stages.{batch_of, begun_of, AreWritten, Holds, at, by_stage}
 use Rattle.store_facts.proofs.Readiness.{contexts_of}
-use Rattle.store_facts.proofs.Pieces.{one_unit, fits_alone}
-use Rattle.store_facts.proofs.RowsCommitted.{owned_is_data}
+use Rattle.store_facts.proofs.Pieces.{some_units}
+use Rattle.store_facts.proofs.RowsPages.{owned_on_data}
 use Rattle.book_facts.specs.BookFacts.{KnownOfBook}
 use Rattle.book_facts.specs.Selections.{applied_changes, changes_of, SelectionsStand}
 use Rattle.book_facts.proofs.Selecting.{none_selected, all_selected}
@@ -89,7 +92,7 @@ module _ (base : ℕ) (opening : Objects) (s : State) (d : Disk) (h : History) (
         (replay opening (applied_changes s))
         (none_selected (held_or_last h (uncommitted s)) s.log.rows (uncommitted s) (replay opening (applied_changes s)) s.book.entries known.stand);
     clean = λ unit owned. known.units.clean unit
-        (data_elsewhere s.log.sup unit (owned_is_data s.log.sup s.log.rows unit (kept.up up).committed owned))
+        (data_elsewhere s.log.sup unit (owned_on_data s.log.sup s.log.rows unit (kept.up up).committed.good owned))
         (all_given (λ f. f.unit ≢ unit) (uncommitted s) (not_taken unit owned));
   }
 
@@ -98,7 +101,7 @@ module _ (base : ℕ) (opening : Objects) (s : State) (d : Disk) (h : History) (
 -- what is known of the open batch of a context whose data was flushed
 record IsGiven (h : History) (s : State) (x : Context) : Type 0 where
   written : AreWritten x
-  good : AreGoodRows s.log.sup (rows_after s.log.rows x.ops)
+  good : NoBadRow s.log.sup (rows_after s.log.rows x.ops)
   clean : OtherUnitsAreClean h s.log.sup (take x.given x.fresh ++ [])
   held : HeldBytesAreLast h (take x.given x.fresh ++ [])
   flushed_units : UnitsAreFlushed h flushed (x.fresh ++ [])
@@ -114,12 +117,12 @@ given_sound h s x before is stand =
     all_clean h s.log.sup (x.fresh ++ []) (subst (OtherUnitsAreClean h s.log.sup) given is.clean) is.flushed_units in
     let later : Objects = replay before (changes_of s.book.entries (x ∷ [])) in
     subst (λ (l : List RowOp). SoundFor h s.log.sup (rows_after s.log.rows l) later) (sym (append-nil x.ops)) (record {
-      good = is.good.good;
+      good = is.good;
       stand = objects_stand (held_or_last h (x ∷ [])) (last_at h) (rows_after s.log.rows x.ops)
           (λ unit owned. all_held (x.fresh ++ []) (last_at h) unit held) later
           (all_selected (held_or_last h (x ∷ [])) s.log.rows (x ∷ []) before s.book.entries stand);
       clean = λ unit owned. clean unit
-          (data_elsewhere s.log.sup unit (owned_is_data s.log.sup (rows_after s.log.rows x.ops) unit is.good owned)) tt;
+          (data_elsewhere s.log.sup unit (owned_on_data s.log.sup (rows_after s.log.rows x.ops) unit is.good owned)) tt;
     })
 
 -- the rows with it are sound for the objects after all commits
@@ -141,8 +144,8 @@ given_at : (base : ℕ) (opening : Objects) (s : State) (g : Stage) (x : Context
     → UnitsAreFlushed h flushed (x.fresh ++ []) → contexts_of g ≡ x ∷ []
     → IsKept (at s g) d → (at s g).down ≡ None → KnownOfStore base opening (at s g) d h → IsGivenSound opening h (at s g)
 given_at base opening s g x b d h written is one none ops_are flushed_units contexts kept up known ops begun given =
-    let view : AreGoodRows s.log.sup (rows_after s.log.rows x.ops) =
-    subst (AreGoodRows s.log.sup) ((kept.up up).view ∙ ap (rows_with s.log.rows) contexts) (kept.up up).good in
+    let view : NoBadRow s.log.sup (rows_after s.log.rows x.ops) =
+    subst (λ (rows : Rows). NoBadRow s.log.sup rows) ((kept.up up).view ∙ ap (rows_with s.log.rows) contexts) (kept.up up).good.good in
     let found : IsGiven h s x = record {
       written = written;
       good = view;
@@ -159,31 +162,27 @@ given_at base opening s g x b d h written is one none ops_are flushed_units cont
     (given_sound h s x before found stand))
 
 -- nothing was given yet
-not_given : (s : State) (x : Context) → FitsRecord x → given_from (unit_count s.log.number (x.ops ++ [])) 0 ≡ 0 → ⊥
-not_given s x fits none =
-    let one : given_from (unit_count s.log.number (x.ops ++ [])) 0 ≡ given_from 1 0 = ap (λ (n : ℕ). given_from n 0) (one_unit x fits s.log.number) in
-    omega (arith, none, one)
+not_given : (s : State) (x : Context) → given_from (unit_count s.log.number (x.ops ++ [])) 0 ≡ 0 → ⊥
+not_given s x none = nothing (unit_count s.log.number (x.ops ++ [])) (some_units s.log.number (x.ops ++ []))
+    (sym (given_from-none (unit_count s.log.number (x.ops ++ []))) ∙ none)
+  where
+    nothing : (units : ℕ) → 0 < units → units ≡ 0 → ⊥
+    nothing units some none = omega (arith, some, none)
 
-begun_sound : (base : ℕ) (opening : Objects) (s : State) (d : Disk) (h : History) (g : Stage) → Holds g
+begun_sound : (base : ℕ) (opening : Objects) (s : State) (d : Disk) (h : History) (g : Stage) → Holds s.log.number g
     → IsKept (at s g) d → (at s g).down ≡ None → KnownOfStore base opening (at s g) d h → IsGivenSound opening h (at s g)
-begun_sound base opening s d h (opens x true) holds kept up known ops begun given =
-    absurd (not_given s x (fits_alone x (kept.up up).room.fits) given)
-begun_sound base opening s d h (flushes x true ticket) holds kept up known ops begun given =
-    absurd (not_given s x (fits_alone x (kept.up up).room.fits) given)
-begun_sound base opening s d h (flushed_at x true) holds kept up known ops begun given =
-    absurd (not_given s x (fits_alone x (kept.up up).room.fits) given)
-begun_sound base opening s d h (records x ticket) holds kept up known ops begun given =
+begun_sound base opening s d h (opens x true) holds kept up known ops begun given = absurd (not_given s x given)
+begun_sound base opening s d h (flushes x true ticket) holds kept up known ops begun given = absurd (not_given s x given)
+begun_sound base opening s d h (writes x pieces written flying) holds kept up known ops begun given =
     let b : Batch = record { contexts = x ∷ []; first = flush.Flushed; second = flush.NotSent } in
-    given_at base opening s (records x ticket) x b d h holds refl refl refl refl known.units.flushed refl kept up known ops begun given
-begun_sound base opening s d h (recorded x) holds kept up known ops begun given =
-    let b : Batch = record { contexts = x ∷ []; first = flush.Flushed; second = flush.NotSent } in
-    given_at base opening s (recorded x) x b d h holds refl refl refl refl known.units.flushed refl kept up known ops begun given
-begun_sound base opening s d h (syncs x ticket) holds kept up known ops begun given =
+    given_at base opening s (writes x pieces written flying) x b d h holds.ready refl refl refl refl known.units.flushed refl
+    kept up known ops begun given
+begun_sound base opening s d h (syncs x pieces ticket) holds kept up known ops begun given =
     let b : Batch = record { contexts = x ∷ []; first = flush.Flushed; second = flush.Sent ticket } in
-    given_at base opening s (syncs x ticket) x b d h holds refl refl refl refl known.units.flushed refl kept up known ops begun given
-begun_sound base opening s d h (synced x) holds kept up known ops begun given =
+    given_at base opening s (syncs x pieces ticket) x b d h holds.ready refl refl refl refl known.units.flushed refl kept up known ops begun given
+begun_sound base opening s d h (synced x pieces) holds kept up known ops begun given =
     let b : Batch = record { contexts = x ∷ []; first = flush.Flushed; second = flush.Flushed } in
-    given_at base opening s (synced x) x b d h holds refl refl refl refl known.units.flushed refl kept up known ops begun given
+    given_at base opening s (synced x pieces) x b d h holds.ready refl refl refl refl known.units.flushed refl kept up known ops begun given
 begun_sound base opening s d h g holds kept up known ops begun given = absurd (cc)
 
 -- ---- a crash now

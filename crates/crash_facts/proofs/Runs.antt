@@ -1,13 +1,15 @@
 -- Runs of calls: each crash leaves a front of the commits, and once the kernel is drained the device stands for all that was accepted.
-use Rattle.std.proofs.Common.{◌≡◌, ◌⊎◌, inl, inr, ℕ, ◌+◌, ◌-◌, true, false, List, [], ◌∷◌, ◌++◌, length, take, Option, Some, None, refl, sym, ap, subst}
+use Rattle.std.proofs.Common.{◌≡◌, ◌⊎◌, inl, inr, ℕ, ◌+◌, ◌-◌, Bool, true, false, cond, List, [], ◌∷◌, ◌++◌, length, take, Option, Some, None}
+use Rattle.std.proofs.Common.{is_some, refl, sym, ap, subst}
 use Rattle.std.proofs.Common.{◌∙◌, arith, length-append}
 use Rattle.std.specs.Option.{option_map_or}
 use Rattle.std.proofs.lemmas.Option.{same_Some}
 use Rattle.std.proofs.lemmas.List.{take_all}
 use Rattle.block_device.specs.Log.{last, IsClean}
-use Rattle.block_device.specs.Disk.{Disk, History, IsSound, grown}
+use Rattle.block_device.specs.Disk.{Disk, History, IsSound, Reaped, Waited, grown}
 use Rattle.block_device.specs.Facts.{with_event, last_at}
 use Rattle.block_device.specs.declared.device.Ticket.{Ticket}
+use Rattle.block_device.specs.declared.event.Event.{Event}
 use Rattle.block_device.specs.declared.event.Event.TheVariants.{Done}
 use Rattle.block_device.proofs.LogLemmas.{each_cut_push}
 use Rattle.object_model.specs.Objects.{Objects}
@@ -20,19 +22,16 @@ use Rattle.store_image.proofs.OwnedUnits.{objects_stand}
 use Rattle.log_facts.proofs.Crashes.{log_stands}
 use Rattle.unit_allocator.specs.Units.{Space}
 use Rattle.store_steps.specs.declared.context.Context.{Context}
-use Rattle.store_steps.specs.declared.flight.Flying.{Flying}
-use Rattle.store_steps.specs.declared.flight.Job.{Job}
-use Rattle.store_steps.specs.declared.flight.Job.TheVariants as job
 use Rattle.store_steps.specs.declared.step.Step.{Step}
-use Rattle.store_steps.specs.declared.step.Step.TheVariants.{Data, Reap, Take, Flush, Seal, Record, Sync, Commit as CommitStep, Finish}
+use Rattle.store_steps.specs.declared.step.Step.TheVariants.{Reap}
 use Rattle.store_steps.specs.State.{Batch, State}
-use Rattle.store_steps.specs.Changes.{after_done, after_good, flying_of, landed, down_by}
+use Rattle.store_steps.specs.Changes.{after_good, flying_of, landed}
 use Rattle.store_steps.specs.Ready.{is_drained}
 use Rattle.store_steps.specs.Steps.{Takes}
 use Rattle.store_steps.specs.Opened.{Found, opened}
 use Rattle.store_steps.specs.Runs.{Call, submitting, stepping, Calls, DoesOrFails, Submits, IsRun}
 use Rattle.store_facts.specs.Kept.{IsKept}
-use Rattle.store_facts.proofs.Conditions.{IsIdle}
+use Rattle.store_facts.proofs.Conditions.{IsIdle, while_up, while_down, ready_cases}
 use Rattle.store_facts.proofs.Known.{known_idle}
 use Rattle.book_facts.specs.BookFacts.{KnownOfBook, AreQueued}
 use Rattle.book_facts.specs.Selections.{applied_changes, SelectionsStand}
@@ -45,65 +44,98 @@ use Rattle.unit_facts.specs.Known.{second_flush, KnownOfUnits}
 use Rattle.unit_facts.proofs.Steps.{opened_known}
 use Rattle.unit_facts.proofs.Moves.{Goes, call_goes_on}
 use Rattle.unit_facts.proofs.Calls.{move_known}
-use Rattle.unit_facts.proofs.Runs.{kept_call, called_up, run_kept, idle_half, drained_clean}
+use Rattle.unit_facts.proofs.Downs.{call_down, was_up}
+use Rattle.unit_facts.proofs.Runs.{kept_call, run_kept, idle_half, drained_clean}
 use Rattle.crash_facts.specs.Store.{KnownOfStore, IsDurable, IsMounted}
 use Rattle.crash_facts.proofs.Moving.{move_stand}
 use Rattle.crash_facts.proofs.Now.{now_stands, size_now}
 use Rattle.crash_facts.proofs.Cuts.{quiet_leaves, move_cuts}
 
--- ---- a call leaves the kernel up, or takes an end that was bad
+-- ---- what a call does to the device and the book while the kernel is down
 
-done_down : (j : Job) (s : State) → (after_done j s).down ≡ s.down
-done_down (job.Data place) s = refl
-done_down job.DataFlush s = refl
-done_down job.Record s = refl
-done_down job.RecordFlush s = refl
+-- the end of a submission, good or bad, is one event, and nothing of the book
+record Ends (s : State) (d : Disk) (s' : State) (d' : Disk) : Type 0 where
+  ticket : ℕ
+  ok : Bool
+  ended : Reaped d ticket ok d'
+  book : s'.book ≡ s.book
+  events : s'.events ≡ s.events + 1
 
-good_down : (f : Option Flying) (s : State) → (after_good f s).down ≡ s.down
-good_down None s = refl
-good_down (Some f) s = done_down f.job s
+bad_end : (s : State) (d : Disk) (s' : State) (d' : Disk) → Takes s d false s' d' → Ends s d s' d'
+bad_end s d s' d' ended = record {
+  ticket = ended.ticket.place;
+  ok = false;
+  ended = ended.ended;
+  book = ap (λ (t : State). t.book) ended.after;
+  events = ap (λ (t : State). t.events) ended.after;
+}
 
-step_up : (step : Step) (s : State) (d : Disk) (s' : State) (d' : Disk) → DoesOrFails step s d s' d' → (s'.down ≡ s.down) ⊎ Takes s d false s' d'
-step_up Data s d s' d' does = inl (ap (λ (t : State). t.down) does.after)
-step_up Reap s d s' d' (inl (inl ended)) =
-    inl (ap (λ (t : State). t.down) ended.after ∙ good_down (flying_of ended.ticket s.flying) (landed ended.ticket s))
-step_up Reap s d s' d' (inl (inr none)) = inl (ap (λ (t : State). t.down) none.1)
-step_up Reap s d s' d' (inr ended) = inr ended
-step_up Take s d s' d' does = inl (ap (λ (t : State). t.down) does.after)
-step_up Flush s d s' d' does = inl (ap (λ (t : State). t.down) does.after)
-step_up Seal s d s' d' does = inl (ap (λ (t : State). t.down) does.after)
-step_up Record s d s' d' does = inl (ap (λ (t : State). t.down) does.after)
-step_up Sync s d s' d' does = inl (ap (λ (t : State). t.down) does.after)
-step_up CommitStep s d s' d' does = inl (ap (λ (t : State). t.down) does.after)
-step_up Finish s d s' d' does = inl (ap (λ (t : State). t.down) does.after)
+-- once it is down a good one counts for nothing
+late_end : (s : State) (d : Disk) (s' : State) (d' : Disk) (first : Ticket) → s.down ≡ Some first → Takes s d true s' d' → Ends s d s' d'
+late_end s d s' d' first down ended =
+    let after : s' ≡ landed ended.ticket s =
+    ended.after
+    ∙ ap (λ (o : Option Ticket). cond (is_some o) (landed ended.ticket s) (after_good (flying_of ended.ticket s.flying) (landed ended.ticket s)))
+    down in
+    record {
+      ticket = ended.ticket.place;
+      ok = true;
+      ended = ended.ended;
+      book = ap (λ (t : State). t.book) after;
+      events = ap (λ (t : State). t.events) after;
+    }
 
-call_up : (call : Call) (s : State) (d : Disk) (s' : State) (d' : Disk) → Calls call s d s' d' → (s'.down ≡ s.down) ⊎ Takes s d false s' d'
-call_up (submitting client line change) s d s' d' made = inl (of_answer made.1)
+-- or nothing happens
+record IsStill (s : State) (d : Disk) (s' : State) (d' : Disk) : Type 0 where
+  state : s' ≡ s
+  history : d'.history ≡ d.history
+
+abbrev GoesDown : State → Disk → State → Disk → Type 0
+GoesDown s d s' d' = Ends s d s' d' ⊎ IsStill s d s' d'
+
+waited_history : (d d' : Disk) → Waited d d' → d'.history ≡ d.history
+waited_history d d' (inl idle) = ap (λ (e : Disk). e.history) idle.1
+waited_history d d' (inr busy) = ap (λ (e : Disk). e.history) busy.2
+
+down_step : (step : Step) (s : State) (d : Disk) (s' : State) (d' : Disk) (first : Ticket) → s.down ≡ Some first → step ≡ Reap
+    → DoesOrFails step s d s' d' → GoesDown s d s' d'
+down_step Reap s d s' d' first down is (inl (inl ended)) = inl (late_end s d s' d' first down ended)
+down_step Reap s d s' d' first down is (inl (inr none)) = inr (record { state = none.1; history = waited_history d d' none.0 })
+down_step Reap s d s' d' first down is (inr ended) = inl (bad_end s d s' d' ended)
+down_step step s d s' d' first down is does = absurd (cc)
+
+not_both : (o : Option Ticket) (first : Ticket) → o ≡ None → o ≡ Some first → ⊥
+not_both o first none some = let e : None ≡ Some first = sym none ∙ some in cc
+
+down_call : (call : Call) (s : State) (d : Disk) (s' : State) (d' : Disk) (first : Ticket) → s.down ≡ Some first → Calls call s d s' d'
+    → GoesDown s d s' d'
+down_call (submitting client line change) s d s' d' first down made = inr (of_answer made.1)
   where
-    of_answer : Submits client line change s s' → s'.down ≡ s.down
-    of_answer (inl accepts) = ap (λ (t : State). t.down) accepts.after
-    of_answer (inr refused) = ap (λ (t : State). t.down) refused.1.after
-call_up (stepping step) s d s' d' made = step_up step s d s' d' made.1
+    of_answer : Submits client line change s s' → IsStill s d s' d'
+    of_answer (inl accepts) = absurd (not_both s.down first accepts.can_note.up down)
+    of_answer (inr (inl refused)) = absurd (not_both s.down first refused.1.can_note.up down)
+    of_answer (inr (inr turned)) = record { state = turned.same; history = ap (λ (e : Disk). e.history) made.2 }
+down_call (stepping step) s d s' d' first down made = elim (ready_cases step d.depth s made.0) [
+  | while_up up ready ↦ absurd (not_both s.down first up down)
+  | while_down is_down is ↦ down_step step s d s' d' first down is made.1
+]
 
--- ---- a call that leaves it up
+-- ---- each call
 
 module _ (base : ℕ) (opening : Objects) (call : Call) (s s' : State) (d d' : Disk) (kept : IsKept s d) (sound : IsSound d')
     (durable : IsDurable base opening s d) (made : Calls call s d s' d') where
-  was_up : s.down ≡ None
-  was_up = called_up call s s' d d' kept made
-
-  abbrev store : KnownOfStore base opening s d durable.history
-  store = durable.up was_up
-
+  -- one that leaves the kernel up
   durable_up : s'.down ≡ None → IsDurable base opening s' d'
   durable_up up =
+      let before : s.down ≡ None = was_up call s d s' d' made up in
+      let store : KnownOfStore base opening s d durable.history = durable.up before in
       let on : Goes s d durable.history s' d' = call_goes_on call s s' d d' durable.history kept up durable.told made in
       let units : KnownOfUnits base s' d' on.history = move_known base on.move store.units in
       let book : KnownOfBook opening s' = book_call opening call s s' d d' kept durable.book made in
       let known : KnownOfStore base opening s' d' on.history = record {
         units = units;
         book = book;
-        stand = move_stand base opening on.move kept was_up store.units durable.book store.stand;
+        stand = move_stand base opening on.move kept before store.units durable.book store.stand;
       } in
       let now : LeavesPrefix base on.history.start opening s'.book on.history.log =
       now_stands base opening s' d' on.history (kept_call call s s' d d' kept made sound) up known in
@@ -116,40 +148,59 @@ module _ (base : ℕ) (opening : Objects) (call : Call) (s s' : State) (d d' : D
         up = λ _. known;
       }
 
-  -- one that takes a bad end
-  durable_down : (ended : Takes s d false s' d') → IsDurable base opening s' d'
-  durable_down ended =
+  -- one that leaves it down: it takes an end
+  durable_ended : (s'.down ≡ None → ⊥) → Ends s d s' d' → IsDurable base opening s' d'
+  durable_ended fallen end =
       let h : History = durable.history in
-      let t : ℕ = ended.ticket.place in
-      let told : d'.history ≡ Some (with_event h (Done t false)) =
-      ap (λ (x : Disk). x.history) ended.ended.after ∙ ap (λ (o : Option History). grown o (Done t false)) durable.told in
-      let book_is : s'.book ≡ s.book = ap (λ (x : State). x.book) ended.after in
-      let events : s'.events ≡ s.events + 1 = ap (λ (x : State). x.events) ended.after in
+      let e : Event = Done end.ticket end.ok in
+      let told : d'.history ≡ Some (with_event h e) =
+      ap (λ (x : Disk). x.history) end.ended.after ∙ ap (λ (o : Option History). grown o e) durable.told in
       let all : take (length h.log) h.log ≡ h.log = take_all (length h.log) h.log (omega arith) in
       let last_cut : LeavesPrefix base h.start opening s.book h.log =
       subst (LeavesPrefix base h.start opening s.book) all (durable.cuts (length h.log) (omega (arith, durable.counted)) (omega arith)) in
-      let leaves : LeavesPrefix base h.start opening s.book (h.log ++ Done t false ∷ []) =
-      quiet_leaves base s.events h opening s.book (Done t false) tt durable.counted durable.book.commits.by_now last_cut in
-      let cuts : EachCutStands base (with_event h (Done t false)) opening s.book =
-      each_cut_push base h.log (Done t false) (LeavesPrefix base h.start opening s.book) durable.cuts leaves in
+      let leaves : LeavesPrefix base h.start opening s.book (h.log ++ e ∷ []) =
+      quiet_leaves base s.events h opening s.book e tt durable.counted durable.book.commits.by_now last_cut in
+      let cuts : EachCutStands base (with_event h e) opening s.book =
+      each_cut_push base h.log e (LeavesPrefix base h.start opening s.book) durable.cuts leaves in
       record {
-        history = with_event h (Done t false);
+        history = with_event h e;
         told = told;
-        counted = omega (arith, length-append h.log (Done t false ∷ []), durable.counted, events);
+        counted = omega (arith, length-append h.log (e ∷ []), durable.counted, end.events);
         book = book_call opening call s s' d d' kept durable.book made;
-        cuts = subst (EachCutStands base (with_event h (Done t false)) opening) (sym book_is) cuts;
-        up = λ none. absurd (stays_down s.down ended.ticket (sym (ap (λ (x : State). x.down) ended.after) ∙ none));
+        cuts = subst (EachCutStands base (with_event h e) opening) (sym end.book) cuts;
+        up = λ none. absurd (fallen none);
       }
+
+  -- or nothing happens
+  durable_still : (s'.down ≡ None → ⊥) → IsStill s d s' d' → IsDurable base opening s' d'
+  durable_still fallen still = record {
+    history = durable.history;
+    told = still.history ∙ durable.told;
+    counted = durable.counted ∙ ap (λ (t : State). base + t.events) (sym still.state);
+    book = subst (KnownOfBook opening) (sym still.state) durable.book;
+    cuts = subst (λ (t : State). EachCutStands base durable.history opening t.book) (sym still.state) durable.cuts;
+    up = λ none. absurd (fallen none);
+  }
+
+  durable_down : (first : Ticket) → s'.down ≡ Some first → IsDurable base opening s' d'
+  durable_down first down = elim (call_down call s d s' d' made) [
+    | inr ended ↦ durable_ended fallen (bad_end s d s' d' ended)
+    | inl same ↦
+        elim (down_call call s d s' d' first (sym same ∙ down) made) [
+          | inl end ↦ durable_ended fallen end
+          | inr still ↦ durable_still fallen still
+        ]
+  ]
     where
-      stays_down : (o : Option Ticket) (ticket : Ticket) → down_by o ticket ≡ None → ⊥
-      stays_down None ticket e = cc
-      stays_down (Some first) ticket e = cc
+      fallen : s'.down ≡ None → ⊥
+      fallen none = not_both s'.down first none down
 
   pub call_durable : IsDurable base opening s' d'
-  call_durable = elim (call_up call s d s' d' made) [
-    | inl up ↦ durable_up (up ∙ was_up)
-    | inr ended ↦ durable_down ended
-  ]
+  call_durable = of_down s'.down refl
+    where
+      of_down : (o : Option Ticket) → s'.down ≡ o → IsDurable base opening s' d'
+      of_down None e = durable_up e
+      of_down (Some first) e = durable_down first e
 
 -- ---- runs
 
@@ -172,7 +223,8 @@ mounted_durable base opening f space events d h told none is =
     let known : KnownOfStore base opening s d h = record {
       units = opened_known base f is.recs space events d h told none is.answered is.clean is.slots is.half;
       book = book_opened opening f space events (last_at h, is.stand);
-      stand = stand_none (held_or_last h []) f.rows opening [] (objects_stand (last_at h) (held_or_last h []) f.rows (λ unit owned. refl) opening is.stand);
+      stand = stand_none (held_or_last h []) f.rows opening []
+          (objects_stand (last_at h) (held_or_last h []) f.rows (λ unit owned. refl) opening is.stand);
     } in
     record { history = h; told = told; counted = is.answered.counted; book = known.book; cuts = is.cuts; up = λ _. known }
 

@@ -1,13 +1,13 @@
 -- How the contexts under way stand behind each move.
-use Rattle.std.proofs.Common.{◌≡◌, ℕ, ◌+◌, ◌-◌, ◌*◌, ◌≤◌, false, List, [], ◌∷◌, ◌++◌, length, take, Option, refl, sym, ap, subst, ◌∙◌, append-nil, arith}
-use Rattle.std.specs.List.{cons_option}
+use Rattle.std.proofs.Common.{◌≡◌, ◌≢◌, ℕ, ◌-◌, false, List, [], ◌∷◌, ◌++◌, length, take, Option, refl, sym, ap, subst, ◌∙◌}
+use Rattle.std.proofs.Common.{append-nil, arith}
+use Rattle.std.specs.List.{cons_option, AllByRecursion}
 use Rattle.std.specs.Option.{option_map_or}
 use Rattle.std.proofs.lemmas.List.{take_all}
-use Rattle.block_device.specs.Log.{last, WritesNothing}
+use Rattle.block_device.specs.Log.{last, WritesUnit, WritesNothing}
 use Rattle.block_device.specs.Disk.{Disk, History}
-use Rattle.block_device.specs.Facts.{with_event, last_at}
+use Rattle.block_device.specs.Facts.{with_event, last_at, Fits}
 use Rattle.block_device.specs.declared.event.Event.{Event}
-use Rattle.block_device.specs.declared.event.Event.TheVariants.{Write}
 use Rattle.object_model.specs.Objects.{Objects}
 use Rattle.object_model.specs.Effect.{Change, replay}
 use Rattle.object_model.specs.Book.{committed, change_at}
@@ -15,17 +15,20 @@ use Rattle.object_model.specs.declared.book.Entry.{Entry}
 use Rattle.meta_rows.specs.declared.row_op.RowOp.{RowOp}
 use Rattle.meta_rows.specs.Rows.{Rows, rows_after}
 use Rattle.meta_log.specs.declared.slot.Super.{Super}
+use Rattle.store_image.specs.BadRows.{NoBadRow}
 use Rattle.store_image.specs.Owners.{IsOwned, IsDataUnit}
 use Rattle.store_image.specs.Stands.{ObjectsStand}
 use Rattle.store_image.proofs.OwnedUnits.{objects_stand}
 use Rattle.store_steps.specs.declared.context.Context.{Context}
 use Rattle.store_steps.specs.declared.context.FreshUnit.{FreshUnit}
 use Rattle.store_steps.specs.State.{Batch, State}
-use Rattle.store_steps.specs.Contexts.{given_more}
+use Rattle.store_steps.specs.Contexts.{given_more, Unsent, unsent_units}
 use Rattle.store_steps.specs.Changes.{commit_of, committed_batch, finished}
-use Rattle.store_facts.specs.Space.{uncommitted, AreGoodRows}
+use Rattle.store_facts.specs.Room.{FitsRecord}
+use Rattle.store_facts.specs.Space.{uncommitted}
 use Rattle.store_facts.proofs.Stages.{Stage, waits, opens, synced, pending_of, batch_of, at, AreWritten}
-use Rattle.store_facts.proofs.RowsCommitted.{owned_is_data}
+use Rattle.store_facts.proofs.RunUnits.{IsRunOf}
+use Rattle.store_facts.proofs.RowsPages.{owned_on_data}
 use Rattle.book_facts.specs.BookFacts.{KnownOfBook}
 use Rattle.book_facts.specs.Selections.{applied_changes, changes_of, SelectionsStand}
 use Rattle.book_facts.proofs.Selecting.{none_selected, all_selected, stand_none, stand_one}
@@ -34,9 +37,10 @@ use Rattle.book_facts.specs.FreshBytes.{bytes_with}
 use Rattle.unit_facts.specs.DataUnits.{HeldBytesAreLast}
 use Rattle.crash_facts.specs.HeldBytes.{held_or_last}
 use Rattle.unit_facts.specs.Known.{KnownOfUnits}
+use Rattle.unit_facts.proofs.RunWrites.{run_write, row_spares, run_has, run_whole}
 use Rattle.unit_facts.proofs.Moves.{flushed_batch}
 use Rattle.crash_facts.specs.Store.{ContextsStand}
-use Rattle.crash_facts.proofs.Bytes.{with_same, all_held, held_quiet, held_written}
+use Rattle.crash_facts.proofs.Bytes.{with_same, all_held, held_quiet, held_over}
 
 -- ---- a context with the same operations, over bytes that are the same for owned units
 
@@ -69,42 +73,47 @@ quiet_stand h e rows x y objects entries none ops place fresh stand =
     same : (unit : ℕ) → held_or_last h (x ∷ []) unit ≡ held_or_last (with_event h e) (y ∷ []) unit
     same unit = held_quiet h e (x ∷ []) unit none ∙ ap (λ (fs : List FreshUnit). bytes_with (fs ++ []) (last_at (with_event h e)) unit) fresh
 
--- ---- the write of a fresh unit
+-- ---- the write of a run of fresh units
 
-pub data_stand : (h : History) (f : FreshUnit) (rows : Rows) (x : Context) (objects : Objects) (entries : List Entry) → x.fresh ≡ f ∷ []
-    → length f.bytes ≡ 4096 → 4096 * f.unit + length f.bytes ≤ length (last h.start h.log)
-    → SelectionsStand (held_or_last h (x ∷ [])) rows (x ∷ []) objects entries
-    → SelectionsStand (held_or_last (with_event h (Write f.unit f.bytes)) (given_more x ∷ [])) rows (given_more x ∷ []) objects entries
-data_stand h f rows x objects entries one whole fits stand =
-    same_stand (held_or_last h (x ∷ [])) (held_or_last (with_event h (Write f.unit f.bytes)) (given_more x ∷ [])) rows x (given_more x)
+pub data_stand : (h : History) (n : Unsent) (rows : Rows) (x : Context) (objects : Objects) (entries : List Entry) → FitsRecord x → IsRunOf x n
+    → Fits (length (last h.start h.log)) (run_write n) → SelectionsStand (held_or_last h (x ∷ [])) rows (x ∷ []) objects entries
+    → (let y : Context = given_more (length (unsent_units n)) x in
+    SelectionsStand (held_or_last (with_event h (run_write n)) (y ∷ [])) rows (y ∷ []) objects entries)
+data_stand h n rows x objects entries fits run fit stand =
+    let y : Context = given_more (length (unsent_units n)) x in
+    same_stand (held_or_last h (x ∷ [])) (held_or_last (with_event h (run_write n)) (y ∷ [])) rows x y
     objects objects entries refl refl refl (λ unit owned. same unit) (λ unit owned. same unit) stand
   where
-    same : (unit : ℕ) → held_or_last h (x ∷ []) unit ≡ held_or_last (with_event h (Write f.unit f.bytes)) (given_more x ∷ []) unit
-    same unit = ap (λ (fs : List FreshUnit). bytes_with (fs ++ []) (last_at h) unit) one ∙ held_written h f unit whole fits
-        ∙ sym (ap (λ (fs : List FreshUnit). bytes_with (fs ++ []) (last_at (with_event h (Write f.unit f.bytes))) unit) one)
+    -- it writes none but units of the context
+    spared : (unit : ℕ) → AllByRecursion (λ f. f.unit ≢ unit) (x.fresh ++ []) → ¬ WritesUnit unit (run_write n)
+    spared unit others = row_spares n.first.unit unit (unsent_units n) run.row (run_whole x n run fits)
+        (run_has x n run (λ f. f.unit ≢ unit) (subst (λ (fs : List FreshUnit). AllByRecursion (λ f. f.unit ≢ unit) fs) (append-nil x.fresh) others))
+
+    same : (unit : ℕ) → held_or_last h (x ∷ []) unit ≡ held_or_last (with_event h (run_write n)) (x ∷ []) unit
+    same unit = held_over h (run_write n) (x.fresh ++ []) unit fit (spared unit)
 
 -- ---- an event elsewhere than on data units
 
 pub log_stand : (h : History) (e : Event) (sup : Super) (rows : Rows) (x : Context) (objects : Objects) (entries : List Entry)
-    → AreGoodRows sup rows → AreGoodRows sup (rows_after rows x.ops)
+    → NoBadRow sup rows → NoBadRow sup (rows_after rows x.ops)
     → ((unit : ℕ) → IsDataUnit sup unit → last_at h unit ≡ last_at (with_event h e) unit)
     → SelectionsStand (held_or_last h (x ∷ [])) rows (x ∷ []) objects entries
     → SelectionsStand (held_or_last (with_event h e) (x ∷ [])) rows (x ∷ []) objects entries
 log_stand h e sup rows x objects entries committed good spared stand =
     same_stand (held_or_last h (x ∷ [])) (held_or_last (with_event h e) (x ∷ [])) rows x x objects objects entries refl refl refl
-    (λ unit owned. same unit (owned_is_data sup rows unit committed owned))
-    (λ unit owned. same unit (owned_is_data sup (rows_after rows x.ops) unit good owned)) stand
+    (λ unit owned. same unit (owned_on_data sup rows unit committed owned))
+    (λ unit owned. same unit (owned_on_data sup (rows_after rows x.ops) unit good owned)) stand
   where
     same : (unit : ℕ) → IsDataUnit sup unit → held_or_last h (x ∷ []) unit ≡ held_or_last (with_event h e) (x ∷ []) unit
     same unit is = with_same (x.fresh ++ []) (last_at h) (last_at (with_event h e)) unit (spared unit is)
 
 -- ---- the commit
 
-pub commit_stand : (opening : Objects) (s : State) (x : Context) (d : Disk) (h : History) (base : ℕ) → AreWritten x
-    → KnownOfUnits base (at s (synced x)) d h → KnownOfBook opening (at s (synced x)) → ContextsStand opening (at s (synced x)) h
-    → (let t : State = at s (synced x) in ContextsStand opening (committed_batch (flushed_batch x) t) h)
-commit_stand opening s x d h base written units book stand =
-    let t : State = at s (synced x) in
+pub commit_stand : (opening : Objects) (s : State) (x : Context) (pieces : ℕ) (d : Disk) (h : History) (base : ℕ) → AreWritten x
+    → KnownOfUnits base (at s (synced x pieces)) d h → KnownOfBook opening (at s (synced x pieces)) → ContextsStand opening (at s (synced x pieces)) h
+    → (let t : State = at s (synced x pieces) in ContextsStand opening (committed_batch (flushed_batch x) t) h)
+commit_stand opening s x pieces d h base written units book stand =
+    let t : State = at s (synced x pieces) in
     let u : State = committed_batch (flushed_batch x) t in
     let before : Objects = replay opening (applied_changes t) in
     let all : ObjectsStand (held_or_last h (x ∷ [])) (rows_after s.log.rows x.ops) (replay before (changes_of s.book.entries (x ∷ []))) =
@@ -124,11 +133,11 @@ commit_stand opening s x d h base written units book stand =
 
 -- ---- a batch is opened, sealed, acknowledged
 
-pub take_stand : (opening : Objects) (s : State) (x : Context) (h : History) → ContextsStand opening (at s (waits x)) h
+pub take_stand : (opening : Objects) (s : State) (x : Context) (h : History) → ContextsStand opening (at s (waits x [])) h
     → ContextsStand opening (record (at s (opens x false)) { book = record s.book { commits = s.book.commits ++ commit_of x ∷ [] } }) h
 take_stand opening s x h stand =
     subst (λ (l : List Change). SelectionsStand (held_or_last h (x ∷ [])) s.log.rows (x ∷ []) (replay opening l) s.book.entries)
-    (sym (applied_taken (at s (waits x)) x refl)) stand
+    (sym (applied_taken (at s (waits x [])) x refl)) stand
 
 pub seal_stand : (opening : Objects) (s : State) (g g' : Stage) (h : History) → batch_of g' ≡ batch_of g → pending_of g' ≡ pending_of g
     → ContextsStand opening (at s g) h → ContextsStand opening (at s g') h
@@ -138,7 +147,8 @@ seal_stand opening s g g' h batch pending stand =
     Stand : Option Batch → List Context → Type 0
     Stand b xs = let all : List Context = option_map_or (λ (c : Batch). c.contexts) b [] ++ xs in
         SelectionsStand (held_or_last h all) s.log.rows all
-        (replay opening (committed s.book.entries (take (length s.book.commits - option_map_or (λ (c : Batch). length c.contexts) b 0) s.book.commits)))
+        (replay opening
+        (committed s.book.entries (take (length s.book.commits - option_map_or (λ (c : Batch). length c.contexts) b 0) s.book.commits)))
         s.book.entries
 
 pub finish_stand : (opening : Objects) (s : State) (h : History) → ContextsStand opening s h → ContextsStand opening (finished s) h

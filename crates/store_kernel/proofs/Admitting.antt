@@ -1,5 +1,6 @@
 -- What preparing and accepting a transaction is, in the words of the kernel's state.
-use Rattle.std.proofs.Common.{◌≡◌, ◌⊎◌, inl, inr, ℕ, ◌+◌, ◌^◌, ◌<◌, ◌≤◌, List, [], ◌∷◌, ◌++◌, length, map, Option, Some, None, refl, sym, subst, arith}
+use Rattle.std.proofs.Common.{◌≡◌, ℕ, ◌+◌, ◌≤◌, true, List, [], ◌∷◌, ◌++◌, length, map, Option, Some, None, refl, arith}
+use Rattle.std.specs.List.{AllByRecursion}
 use Rattle.block_device.specs.Disk.{Disk}
 use Rattle.block_device.specs.declared.device.Ticket.{Ticket}
 use Rattle.object_model.specs.Effect.{Change}
@@ -8,41 +9,44 @@ use Rattle.object_model.specs.declared.book.Entry.{Entry}
 use Rattle.object_model.specs.declared.command.Command.TheVariants as ask
 use Rattle.object_model.specs.declared.command.Answer.TheVariants as answer
 use Rattle.meta_rows.specs.Rows.{Rows, rows_after}
-use Rattle.meta_rows.specs.Spelling.{ops_bytes, AllFit}
 use Rattle.meta_store.specs.Store as meta
-use Rattle.unit_allocator.specs.Units.{Space, IsLowestFree, taken}
+use Rattle.unit_allocator.specs.Units.{Space, IsWithin, is_free, taken}
+use Rattle.object_rows.specs.Planned.{IsPlanned}
 use Rattle.store_steps.specs.declared.context.Context.{Context}
 use Rattle.store_steps.specs.declared.context.FreshUnit.{FreshUnit}
 use Rattle.store_steps.specs.declared.flight.Flying.{Flying}
 use Rattle.store_steps.specs.declared.plan.Plan.{Plan}
+use Rattle.store_steps.specs.Planning.{as_planned}
 use Rattle.store_steps.specs.State.{State}
-use Rattle.store_steps.specs.Submit.{IsKnown, Accepts, need_of, room_of}
+use Rattle.store_steps.specs.Submit.{IsKnown, CanNote, Accepts, need_of, room_of}
 use Rattle.store_steps.specs.Runs.{MaySubmit}
 use Rattle.store_facts.specs.Kept.{IsKept}
 use Rattle.store_facts.proofs.Kept.{idle_of}
-use Rattle.store_facts.proofs.Pieces.{short_body}
-use Rattle.store_facts.proofs.RowsPlans.{plan_takes}
-use Rattle.store_facts.proofs.Submitting.{PlanFits, plan_fits}
+use Rattle.store_facts.proofs.RowsKept.{AreRowsKept, rows_of_kept}
+use Rattle.store_facts.proofs.RowsPlans.{units_of, plan_takes_free, planned, PlanFits, plan_fits}
+use Rattle.write_planner.specs.PlanFails.{AreRowsOfAStore, IsPlanFor}
 use Rattle.store_kernel.specs.declared.batch.OpenBatch.{OpenBatch}
 use Rattle.store_kernel.specs.declared.prepared.Prepared.{Prepared}
-use Rattle.store_kernel.specs.PlanFails.{IsPlanFor}
 use Rattle.store_kernel.specs.Prepared.{IsPrepared, context_at}
 use Rattle.store_kernel.specs.Seen.{listed, log_of, state_of}
 use Rattle.store_kernel.specs.Units.{CanBeTaken}
 
 -- ---- preparing
 
--- what a plan's operations take
-planned_fits : (change : Change) (s : State) (plan : Plan) → IsKnown change.ops → IsPlanFor change.coll change.ops s.view s.space plan → PlanFits plan
-planned_fits change s plan known is = plan_fits change.coll change.ops s.view s.space plan known is.names is.plans
+-- no submitted row is bad
+pub rows_of_a_store : (s : State) (d : Disk) → IsKept s d → CanNote s → AreRowsOfAStore s.view
+rows_of_a_store s d kept can =
+    record { sup = s.log.sup; limits = kept.always.limits; good = (rows_of_kept s d kept can.up).good.good }
 
--- they have a spelling, which is short
-pub ops_fit : (change : Change) (s : State) (plan : Plan) → IsKnown change.ops → IsPlanFor change.coll change.ops s.view s.space plan → AllFit plan.ops
-ops_fit change s plan known is = (planned_fits change s plan known is).fit
-
-pub ops_short : (change : Change) (s : State) (plan : Plan) → IsKnown change.ops → IsPlanFor change.coll change.ops s.view s.space plan
-    → length (ops_bytes plan.ops) < 2 ^ 32
-ops_short change s plan known is = short_body 0 plan.ops ((planned_fits change s plan known is).one 0)
+-- what a plan's record and its data writes take
+pub planned_fits : (s : State) (d : Disk) (change : Change) (plan : Plan) → IsKept s d → CanNote s → IsKnown change.ops
+    → IsPlanFor change s.view s.space plan → PlanFits plan
+planned_fits s d change plan kept can known is =
+    let rows : AreRowsKept s = rows_of_kept s d kept can.up in
+    let one : IsPlanned s.log.sup s.view change (as_planned plan) =
+    planned s.log.sup s.log.rows s.view s.space kept.always.limits rows.space rows.free change.coll change.ops plan known is.names is.not_refused
+    is.plans in
+    plan_fits s.log.sup s.view s.space change.coll change.ops plan rows.good.good known is.not_refused is.plans one
 
 -- the room of the log in both words
 pub same_room : (m : meta.Meta) → meta.room_of m ≡ room_of (log_of m)
@@ -55,24 +59,23 @@ enough m plan need room is_need is_room fits = rw (← is_need) (omega (arith, i
 
 -- ---- accepting
 
--- the unit that a plan takes is free
-pub fresh_is_free : (change : Change) (rows : Rows) (space : Space) (plan : Plan) → IsKnown change.ops → IsPlanFor change.coll change.ops rows space plan
-    → CanBeTaken (map (λ (f : FreshUnit). f.unit) plan.fresh) space
-fresh_is_free change rows space plan known is = of_taken (plan_takes change.coll change.ops rows space plan known is.plans)
-  where
-    of_taken : (plan.fresh ≡ []) ⊎ ((f : FreshUnit) × (plan.fresh ≡ f ∷ []) × IsLowestFree space f.unit)
-        → CanBeTaken (map (λ (f : FreshUnit). f.unit) plan.fresh) space
-    of_taken (inl none) = subst (λ (fs : List FreshUnit). CanBeTaken (map (λ (f : FreshUnit). f.unit) fs) space) (sym none) tt
-    of_taken (inr one) = subst (λ (fs : List FreshUnit). CanBeTaken (map (λ (f : FreshUnit). f.unit) fs) space) (sym one.1)
-        (record { within = one.2.within; free = one.2.free }, tt)
+free_units_are : (space : Space) (us : List ℕ) → AllByRecursion (λ u. IsWithin space u × (is_free space u ≡ true)) us → CanBeTaken us space
+free_units_are space [] all = tt
+free_units_are space (u ∷ us) all = (record { within = all.0.0; free = all.0.1 }, free_units_are space us all.1)
+
+-- the units that a plan takes are free
+pub fresh_is_free : (change : Change) (rows : Rows) (space : Space) (plan : Plan) → IsKnown change.ops → IsPlanFor change rows space plan
+    → CanBeTaken (units_of plan.fresh) space
+fresh_is_free change rows space plan known is =
+    free_units_are space (units_of plan.fresh) (plan_takes_free change.coll change.ops rows space plan known is.plans)
 
 -- nothing waits where a transaction may be submitted
 none_listed : (p : Option Context) → listed p ≡ [] → p ≡ None
 none_listed None none = refl
 none_listed (Some x) none = cc
 
-module _ (m : meta.Meta) (view : Rows) (pending : Option Context) (batch : Option OpenBatch) (flying : Option Flying) (down : Option Ticket) (events : ℕ)
-    (space : Space) (entries : List Entry) (commits : List Commit) (acked : ℕ) where
+module _ (m : meta.Meta) (view : Rows) (pending : Option Context) (batch : Option OpenBatch) (flying : List Flying) (down : Option Ticket)
+    (events : ℕ) (space : Space) (entries : List Entry) (commits : List Commit) (acked : ℕ) where
   -- the state of these parts
   abbrev before : State
   before = state_of m view pending batch flying down events space entries commits acked
@@ -80,14 +83,16 @@ module _ (m : meta.Meta) (view : Rows) (pending : Option Context) (batch : Optio
   -- the kernel's parts after it was accepted
   pub accepted : (d : Disk) (client line : ℕ) (change : Change) (ready : Prepared)
       (m' : meta.Meta) (view' : Rows) (x : Context) (place : ℕ) (space' : Space) (entries' : List Entry)
-      → IsKept before d → MaySubmit change before d → IsPrepared ready change before
+      → IsKept before d → MaySubmit change before d → CanNote before → IsPrepared ready change before
       → (let after : meta.Meta = record m { reserved = m.reserved + ready.need } in m' ≡ after)
-      → view' ≡ rows_after view ready.copy → x ≡ context_at ready place → place ≡ length entries → space' ≡ taken space (map (λ (f : FreshUnit). f.unit) x.fresh)
+      → view' ≡ rows_after view ready.copy → x ≡ context_at ready place → place ≡ length entries
+      → space' ≡ taken space (map (λ (f : FreshUnit). f.unit) x.fresh)
       → entries' ≡ entries ++ record { client = client; line = line; command = ask.Change change; answer = answer.Accepted; acks = acked } ∷ []
       → Accepts client line change before (state_of m' view' (Some x) batch flying down events space' entries' commits acked)
-  accepted d client line change ready m' view' x place space' entries' kept may prepared is_meta is_view is_context is_place is_space is_entries =
-      let idle : pending ≡ None = none_listed pending (idle_of before d change kept may).pending in
+  accepted d client line change ready m' view' x place space' entries' kept may can prepared is_meta is_view is_context is_place is_space is_entries =
+      let idle : pending ≡ None = none_listed pending (idle_of before d change kept can.up may).pending in
       record {
+        can_note = can;
         names = prepared.plan.names;
         not_refused = prepared.plan.not_refused;
         plan = ready.plan;

@@ -1,11 +1,11 @@
 -- What the steps that the device has no part in do to the state.
-use Rattle.std.proofs.Common.{◌≡◌, inl, inr, ℕ, zero, suc, ◌+◌, ◌-◌, ◌<◌, ◌≤◌, nat_lt, not, Bool, true, cond, List, [], ◌∷◌, ◌++◌, length, Option, Some, None, is_some, is_none, slice_get, get_or, set, refl, sym, ap, subst, ◌∙◌, append-nil, arith}
+use Rattle.std.proofs.Common.{◌≡◌, inl, inr, ℕ, zero, suc, ◌+◌, ◌-◌, ◌^◌, ◌<◌, ◌≤◌, nat_lt, not, Bool, true, cond, List, [], ◌∷◌, ◌++◌, length, Option, Some, None, is_some, is_none, slice_get, get_or, set, refl, sym, ap, subst, ◌∙◌, append-nil, arith}
 use Rattle.std.specs.Prelude.{MatchOption, Contains}
 use Rattle.std.specs.Option.{option_map}
-use Rattle.std.specs.List.{AllByRecursion}
-use Rattle.unit_allocator.proofs.Lists.{Contains-head, Contains-tail}
+use Rattle.unit_allocator.proofs.Lists.{Contains-head}
+use Rattle.std.proofs.lemmas.List.Elements.{Contains-append_right}
 use Rattle.std.proofs.lemmas.Bool.{eq-eqb, lt-ltb, le-ltb, and_parts, cases_lt}
-use Rattle.std.proofs.lemmas.Option.{IfSome_then}
+use Rattle.std.proofs.lemmas.Option.{IfSome_then, same_Some}
 use Rattle.block_device.specs.Disk.{Disk}
 use Rattle.object_model.specs.declared.book.Commit.{Commit}
 use Rattle.meta_rows.specs.declared.row_op.RowOp.{RowOp}
@@ -24,34 +24,37 @@ use Rattle.store_steps.specs.Steps.{DoesTake, DoesCommit, DoesFinish}
 use Rattle.store_facts.specs.Room.{AcksAre}
 use Rattle.store_facts.specs.Kept.{IsKept}
 use Rattle.store_facts.proofs.Readiness.{some_is, chosen_is}
-use Rattle.store_facts.proofs.Conditions.{ready_not_down, ready_by_table, ReadyCommit, commit_ready, finish_ready}
-use Rattle.store_facts.proofs.RowsFacts.{few_come_back, back_within, back_taken}
+use Rattle.store_facts.proofs.Conditions.{ready_not_down, ready_by_table, ReadyCommit}
+use Rattle.store_facts.proofs.Known.{known_commit, known_finish}
+use Rattle.store_facts.proofs.SpaceUnits.{data_within, space_given}
+use Rattle.store_facts.proofs.RowsFacts.{back_data, back_in_turn}
+use Rattle.store_image.specs.Owners.{IsDataUnit}
 use Rattle.store_kernel.specs.declared.batch.OpenBatch.{OpenBatch}
 use Rattle.store_kernel.specs.Seen.{batch_of, begun_of, log_of}
-use Rattle.store_kernel.specs.Units.{IsTakenUnit, CanBeGiven}
-use Rattle.store_kernel.proofs.Sending.{up_at}
+use Rattle.store_kernel.specs.Units.{CanBeGiven}
 use Rattle.store_steps.specs.declared.step.Step.TheVariants as step
 
 -- ---- Take
 
-is_the_chosen : (s : State) (d : Disk) (x : Context) → IsKept s d → is_ready step.Take d.depth s ≡ true → s.pending ≡ x ∷ [] → chosen s.pending ≡ Some x
-is_the_chosen s d x kept ready pending =
-    let found = some_is (chosen s.pending) (and_parts (is_none s.batch) (is_some (chosen s.pending)) (ready_by_table s d step.Take kept ready)).1 in
+is_the_chosen : (s : State) (d : Disk) (x : Context) → is_ready step.Take d.depth s ≡ true → s.pending ≡ x ∷ [] → chosen s.pending ≡ Some x
+is_the_chosen s d x ready pending =
+    let table = ready_by_table s d.depth step.Take (ready_not_down s d.depth step.Take refl ready) ready in
+    let found = some_is (chosen s.pending) (and_parts (is_none s.batch) (is_some (chosen s.pending)) table).1 in
     let here : chosen (x ∷ []) ≡ Some found.0 = subst (λ (l : List Context). chosen l ≡ Some found.0) pending found.1 in
     found.1 ∙ ap Some (sym (chosen_is x found.0 here).0)
 
 none_left : (x : Context) → without_context x.place (x ∷ []) ≡ []
 none_left x = ap (λ (b : Bool). cond (not b) (x ∷ []) []) (eq-eqb x.place x.place refl)
 
-pub take_does : (s : State) (d : Disk) (x : Context) → IsKept s d → is_ready step.Take d.depth s ≡ true → s.pending ≡ x ∷ []
+pub take_does : (s : State) (d : Disk) (x : Context) → is_ready step.Take d.depth s ≡ true → s.pending ≡ x ∷ []
     → DoesTake s d (record s {
       pending = [];
       batch = Some (record { contexts = x ∷ []; first = flush.NotSent; second = flush.NotSent });
       book = record s.book { commits = s.book.commits ++ record { place = x.place; acked_at = None } ∷ [] };
     }) d
-take_does s d x kept ready pending = record {
+take_does s d x ready pending = record {
   context = x;
-  is_chosen = is_the_chosen s d x kept ready pending;
+  is_chosen = is_the_chosen s d x ready pending;
   same = refl;
   after = ap (λ (l : List Context). let after : State = record s {
     pending = l;
@@ -63,10 +66,6 @@ take_does s d x kept ready pending = record {
 
 -- ---- Commit
 
-commit_facts : (s : State) (d : Disk) (b : OpenBatch) → IsKept s d → is_ready step.Commit d.depth s ≡ true → s.batch ≡ Some (batch_of b) → ReadyCommit s (batch_of b)
-commit_facts s d b kept ready batch =
-    let up = up_at step.Commit s d kept ready in commit_ready s d.depth (batch_of b) up.far up.room (ready_by_table s d step.Commit kept ready) batch
-
 -- the record that is being written, as the metadata store has it
 pub record Written (m : meta.Meta) (b : OpenBatch) : Type 0 where
   pub now : meta.Begun
@@ -74,25 +73,25 @@ pub record Written (m : meta.Meta) (b : OpenBatch) : Type 0 where
   pub ops : now.ops ≡ b.context.ops
   pub all : now.written ≡ meta.piece_count_of m now
 
-written_of : (m : meta.Meta) (b : OpenBatch) (r : Begun) (o : Option meta.Begun) → m.begun ≡ o → option_map begun_of o ≡ Some r → r.ops ≡ batch_ops (batch_of b) → r.written ≡ 1
-    → unit_count m.number (batch_ops (batch_of b)) ≡ 1 → Written m b
-written_of m b r None is found ops written units = absurd cc
-written_of m b r (Some w) is found ops written units =
-    let same_ops : w.ops ≡ batch_ops (batch_of b) = cc in
-    let same_written : w.written ≡ 1 = cc in
-    let count : unit_count m.number w.ops ≡ 1 = ap (unit_count m.number) same_ops ∙ units in
+written_of : (m : meta.Meta) (b : OpenBatch) (r : Begun) (o : Option meta.Begun) → m.begun ≡ o → option_map begun_of o ≡ Some r
+    → r.ops ≡ batch_ops (batch_of b) → r.written ≡ piece_count (unit_count m.number (batch_ops (batch_of b))) → Written m b
+written_of m b r None is found ops written = absurd cc
+written_of m b r (Some w) is found ops written =
+    let same : begun_of w ≡ r = same_Some (begun_of w) r found in
+    let same_ops : w.ops ≡ batch_ops (batch_of b) = ap (λ (k : Begun). k.ops) same ∙ ops in
     record {
       now = w;
       begun = is;
       ops = same_ops ∙ append-nil b.context.ops;
-      all = same_written ∙ sym (ap piece_count count);
+      all = ap (λ (k : Begun). k.written) same ∙ written ∙ ap (λ (l : List RowOp). piece_count (unit_count m.number l)) (sym same_ops);
     }
 
-pub is_written : (s : State) (d : Disk) (m : meta.Meta) (b : OpenBatch) → IsKept s d → is_ready step.Commit d.depth s ≡ true → s.batch ≡ Some (batch_of b) → s.log ≡ log_of m → Written m b
+pub is_written : (s : State) (d : Disk) (m : meta.Meta) (b : OpenBatch) → IsKept s d → is_ready step.Commit d.depth s ≡ true
+    → s.batch ≡ Some (batch_of b) → s.log ≡ log_of m → Written m b
 is_written s d m b kept ready batch log =
-    let facts = commit_facts s d b kept ready batch in
-    written_of m b facts.writing m.begun refl (ap (λ (l : Log). l.begun) (sym log) ∙ facts.begun) facts.ops facts.written
-    (subst (λ (l : Log). unit_count l.number (batch_ops (batch_of b)) ≡ 1) log facts.units)
+    let facts : ReadyCommit s (batch_of b) = known_commit s d (batch_of b) kept ready batch in
+    written_of m b facts.writing m.begun refl (ap (λ (l : Log). l.begun) (sym log) ∙ facts.begun) facts.ops
+    (subst (λ (l : Log). facts.writing.written ≡ piece_count (unit_count l.number (batch_ops (batch_of b)))) log facts.written)
 
 pub can_flush : (m : meta.Meta) (b : OpenBatch) → Written m b → meta.IsAllWritten m
 can_flush m b w = subst (λ (o : Option meta.Begun). MatchOption o ⊥ (λ (r : meta.Begun). r.written ≡ meta.piece_count_of m r)) (sym w.begun) w.all
@@ -101,37 +100,32 @@ can_flush m b w = subst (λ (o : Option meta.Begun). MatchOption o ⊥ (λ (r : 
 pub can_release : (s : State) (d : Disk) (m : meta.Meta) (b : OpenBatch) → IsKept s d → is_ready step.Commit d.depth s ≡ true → s.batch ≡ Some (batch_of b) → s.log ≡ log_of m
     → b.context.need ≤ (meta.after_flush m m.begun).reserved
 can_release s d m b kept ready batch log =
-    let facts = commit_facts s d b kept ready batch in
-    let w = is_written s d m b kept ready batch log in
+    let facts : ReadyCommit s (batch_of b) = known_commit s d (batch_of b) kept ready batch in
+    let w : Written m b = is_written s d m b kept ready batch log in
     let same : (meta.after_flush m m.begun).reserved ≡ s.log.reserved = ap (λ (o : Option meta.Begun). (meta.after_flush m o).reserved) w.begun ∙ ap (λ (l : Log). l.reserved) (sym log) in
     omega (arith, facts.needs, same)
 
 -- the released units can come back
 pub come_back : (s : State) (d : Disk) (b : OpenBatch) → IsKept s d → is_ready step.Commit d.depth s ≡ true → s.batch ≡ Some (batch_of b)
-    → (length b.context.released ≤ 1) × CanBeGiven b.context.released s.space
-come_back s d b kept ready batch = (few, all_listed b.context.released each)
+    → CanBeGiven b.context.released s.space
+come_back s d b kept ready batch front rest u is = record {
+  within = data_within s.log.sup (given s.space front) u (space_given s.log.sup s.space front kept.always.space) on;
+  taken = back_in_turn s d kept up (batch_of b) batch front rest u all;
+  fits = below u s.log.sup.units on.1 kept.always.limits.units_most;
+}
   where
     up : s.down ≡ None
-    up = ready_not_down s d step.Commit kept ready
+    up = ready_not_down s d.depth step.Commit refl ready
 
-    few : length b.context.released ≤ 1
-    few = subst (λ (l : List ℕ). length l ≤ 1) (append-nil b.context.released) (few_come_back s d kept up (batch_of b) batch)
+    all : batch_released (batch_of b) ≡ front ++ (u ∷ rest)
+    all = append-nil b.context.released ∙ is
 
-    there : (u : ℕ) → Contains b.context.released u → Contains (batch_released (batch_of b)) u
-    there u c = subst (λ (l : List ℕ). Contains l u) (sym (append-nil b.context.released)) c
+    on : IsDataUnit s.log.sup u
+    on = back_data s d kept up (batch_of b) batch u
+        (subst (λ (us : List ℕ). Contains us u) (sym all) (Contains-append_right front (u ∷ rest) u (Contains-head u rest)))
 
-    each : (u : ℕ) → Contains b.context.released u → IsTakenUnit s.space u
-    each u c =
-        let within = back_within s d kept up (batch_of b) batch u (there u c) in
-        record {
-          within = within;
-          taken = back_taken s d kept up (batch_of b) batch u (there u c);
-          fits = omega (arith, within.to, kept.always.space.first, kept.always.space.count, kept.always.limits.units_most);
-        }
-
-    all_listed : (units : List ℕ) → ((u : ℕ) → Contains units u → IsTakenUnit s.space u) → AllByRecursion (IsTakenUnit s.space) units
-    all_listed [] f = tt
-    all_listed (u ∷ us) f = (f u (Contains-head u us), all_listed us (λ v c. f v (Contains-tail u v us c)))
+    below : (u units : ℕ) → u < units → units ≤ 1048576 → u + 1 < 2 ^ 32
+    below u units lt most = omega (arith, lt, most)
 
 pub commit_does : (s : State) (d : Disk) (m : meta.Meta) (b : OpenBatch) → IsKept s d → is_ready step.Commit d.depth s ≡ true → s.batch ≡ Some (batch_of b) → s.log ≡ log_of m
     → DoesCommit s d (record s {
@@ -175,7 +169,7 @@ commit_does s d m b kept ready batch log = record { batch = batch_of b; begun = 
 -- ---- Finish
 
 pub next_commit : (s : State) (d : Disk) → IsKept s d → is_ready step.Finish d.depth s ≡ true → s.acked < length s.book.commits
-next_commit s d kept ready = (finish_ready s d d.depth kept.always (ready_by_table s d step.Finish kept ready)).0
+next_commit s d kept ready = (known_finish s d kept ready).0
 
 lt_suc : (i n : ℕ) → nat_lt (suc i) (suc n) ≡ nat_lt i n
 lt_suc i n = elim (cases_lt i n) [

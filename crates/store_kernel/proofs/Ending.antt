@@ -1,6 +1,8 @@
 -- What the end of a submission does to the state.
-use Rattle.std.proofs.Common.{◌≡◌, ◌⊎◌, inl, inr, ℕ, ◌+◌, not, Bool, true, false, List, [], ◌∷◌, Option, Some, None, refl, sym, ap, subst, ◌∙◌}
-use Rattle.std.specs.Option.{option_map}
+use Rattle.std.proofs.Common.{◌≡◌, ℕ, ◌+◌, ◌^◌, ◌<◌, ◌≤◌, not, Bool, true, false, cond, List, [], ◌∷◌, length, Option, Some, None, is_some, IfSome, refl, sym, ap, subst, ◌∙◌, arith}
+use Rattle.std.specs.Option.{option_map, option_or}
+use Rattle.std.specs.Prelude.{MatchOption}
+use Rattle.std.proofs.lemmas.Option.{same_Some}
 use Rattle.block_device.specs.Disk.{Disk, Reaped}
 use Rattle.block_device.specs.declared.device.Ticket.{Ticket}
 use Rattle.meta_store.specs.Store as meta
@@ -9,64 +11,159 @@ use Rattle.store_steps.specs.declared.flight.FlushState.TheVariants as flush
 use Rattle.store_steps.specs.declared.flight.Flying.{Flying}
 use Rattle.store_steps.specs.declared.flight.Job.{Job}
 use Rattle.store_steps.specs.declared.flight.Job.TheVariants as job
-use Rattle.store_steps.specs.declared.step.Step.TheVariants.{Reap}
 use Rattle.store_steps.specs.State.{Begun, Log, Batch, State}
 use Rattle.store_steps.specs.Contexts.{with_context, done_more}
-use Rattle.store_steps.specs.Changes.{after_done, first_flushed, second_flushed, written_more, down_by, reaped}
-use Rattle.store_steps.specs.Ready.{is_ready}
+use Rattle.store_steps.specs.Changes.{after_done, after_good, first_flushed, second_flushed, written_more, down_by, flying_of, landed}
 use Rattle.store_steps.specs.Steps.{Takes}
-use Rattle.store_facts.specs.Flights.{AreFlights, IsOneAtATime, IsAlone}
+use Rattle.store_facts.specs.Flights.{units_of, flying_units, IsDataOf}
 use Rattle.store_facts.specs.Kept.{IsKept}
-use Rattle.store_facts.proofs.Flying.{Landed, landed_flight, reaped_good, reaped_bad}
-use Rattle.store_facts.proofs.Conditions.{ready_not_down}
+use Rattle.store_facts.proofs.Flying.{others_of, Landed, landed_flight, reaped_good, found_holds}
+use Rattle.store_facts.proofs.Stages.{Stage, idle, waits, opens, flushes, flushed, writes, syncs, synced, one_flight, begun_of, flying_at, Holds, by_stage}
 use Rattle.store_kernel.specs.declared.batch.OpenBatch.{OpenBatch}
-use Rattle.store_kernel.specs.Seen.{listed, batch_of, begun_of, log_of}
+use Rattle.store_kernel.specs.Seen.{listed, batch_of, log_of}
+use Rattle.store_kernel.specs.Seen as seen
 use Rattle.store_kernel.specs.Ends.{with_first, with_second, pending_after, batch_after, meta_after}
-use Rattle.store_kernel.proofs.Sending.{up_at, with_one}
+use Rattle.store_kernel.proofs.Sending.{with_one, WaitsAlone, waits_alone}
 
-landed_one : (s : State) (d d' : Disk) (f : Flying) (t : Ticket) (ok : Bool) → IsKept s d → s.flying ≡ f ∷ [] → Reaped d t.place ok d' → Landed f t d d'
-landed_one s d d' f t ok kept one ended = landed_flight d d' t ok f (subst (λ l. AreFlights l d.flights) one kept.always.flights) ended
+pub landed_one : (s : State) (d d' : Disk) (t : Ticket) (ok : Bool) → IsKept s d → Reaped d t.place ok d' → Landed s.flying t d d'
+landed_one s d d' t ok kept ended = landed_flight d d' t ok s.flying kept.always.flights ended
 
--- the kernel goes down
-pub bad_takes : (s : State) (d d' : Disk) (f : Flying) (t : Ticket) → IsKept s d → is_ready Reap d.depth s ≡ true → s.flying ≡ f ∷ [] → Reaped d t.place false d'
-    → Takes s d false (record s { flying = []; down = Some t; events = s.events + 1 }) d'
-bad_takes s d d' f t kept ready one ended = record {
+-- ---- a bad end
+
+-- the first one that ended badly stays
+first_bad : (o : Option Ticket) (t : Ticket) → option_or o (Some t) ≡ down_by o t
+first_bad None t = refl
+first_bad (Some first) t = refl
+
+-- the kernel is down from then on
+pub bad_takes : (s : State) (d d' : Disk) (t : Ticket) (flying : List Flying) (down : Option Ticket) → flying ≡ others_of t s.flying
+    → down ≡ option_or s.down (Some t) → Reaped d t.place false d' → Takes s d false (record s { flying = flying; down = down; events = s.events + 1 }) d'
+bad_takes s d d' t flying down left is ended = record {
   ticket = t;
   ended = ended;
   after =
-      ap (λ (o : Option Ticket). let later : State = record s { flying = []; events = s.events + 1; down = down_by o t } in later) (sym (ready_not_down s d Reap kept ready))
-      ∙ sym (reaped_bad s f t (landed_one s d d' f t false kept one ended).same)
-      ∙ ap (λ (l : List Flying). reaped t false (record s { flying = l })) (sym one);
+      ap (λ (l : List Flying). let after : State = record s { flying = l; down = down; events = s.events + 1 } in after) left
+      ∙ ap (λ (o : Option Ticket). let after : State = record (landed t s) { down = o } in after) (is ∙ first_bad s.down t);
 }
 
--- the one context has the place of its data write
-place_of : (pending : List Context) (batch : Option Batch) (begun : Option Begun) (flying : List Flying) (x : Context) (f : Flying) (place : ℕ)
-    → IsOneAtATime pending batch begun flying → flying ≡ f ∷ [] → pending ≡ x ∷ [] → f.job ≡ job.Data place → x.place ≡ place
-place_of [] batch begun flying x f place far one is alone = absurd cc
-place_of (y ∷ []) None begun flying x f place far one is alone = of_flies far.1.flies
-  where
-    of_flies : ((y.done ≡ y.given) × (flying ≡ [])) ⊎ ((y.done + 1 ≡ y.given) × IsAlone (job.Data y.place) flying) → x.place ≡ place
-    of_flies (inl none) = let e = none.1 in absurd cc
-    of_flies (inr flies) =
-        let ticket = flies.1.0 in
-        let e : flying ≡ record { ticket = ticket; job = job.Data y.place } ∷ [] = flies.1.1 in
-        let same : f ≡ record { ticket = ticket; job = job.Data y.place } = cc in
-        let job_is : job.Data y.place ≡ job.Data place = sym (ap (λ (v : Flying). v.job) same) ∙ alone in
-        let place_is : y.place ≡ place = cc in
-        let x_is : x ≡ y = cc in
-        ap (λ (c : Context). c.place) x_is ∙ place_is
-place_of (y ∷ []) (Some b) begun flying x f place far one is alone = absurd far
-place_of (y ∷ z ∷ zs) None begun flying x f place far one is alone = absurd far
-place_of (y ∷ z ∷ zs) (Some b) begun flying x f place far one is alone = absurd far
+-- ---- whether a good end counts
 
--- states with the same of these parts
-same_parts : (s : State) (l l' : Log) (p p' : List Context) (b b' : Option Batch) → l ≡ l' → p ≡ p' → b ≡ b'
-    → (let t : State = record s { log = l; pending = p; batch = b; flying = []; events = s.events + 1 } in t)
-    ≡ (let t : State = record s { log = l'; pending = p'; batch = b'; flying = []; events = s.events + 1 } in t)
-same_parts s l l' p p' b b' one two three =
-    ap (λ (x : Log). let t : State = record s { log = x; pending = p; batch = b; flying = []; events = s.events + 1 } in t) one
-    ∙ ap (λ (x : List Context). let t : State = record s { log = l'; pending = x; batch = b; flying = []; events = s.events + 1 } in t) two
-    ∙ ap (λ (x : Option Batch). let t : State = record s { log = l'; pending = p'; batch = x; flying = []; events = s.events + 1 } in t) three
+-- it does, and was for this job
+pub it_counts : (down : Option Ticket) (landed : Option Job) (j : Job) → MatchOption down (Some j ≡ landed) (λ _. Some j ≡ None)
+    → (down ≡ None) × (landed ≡ Some j)
+it_counts None landed j is = (refl, sym is)
+it_counts (Some first) landed j is = absurd cc
+
+-- it doesn't, since the kernel is down
+pub it_counts_not : (down : Option Ticket) (landed : Option Job) → MatchOption down (None ≡ landed) (λ _. let none : Option Job = None in none ≡ None)
+    → (landed ≡ None → ⊥) → is_some down ≡ true
+it_counts_not None landed is some = absurd (some (sym is))
+it_counts_not (Some first) landed is some = refl
+
+-- ---- a good end, where it counts for nothing
+
+-- the kernel is down
+pub late_takes : (s : State) (d d' : Disk) (t : Ticket) (flying : List Flying) → flying ≡ others_of t s.flying → is_some s.down ≡ true
+    → Reaped d t.place true d' → Takes s d true (record s { flying = flying; events = s.events + 1 }) d'
+late_takes s d d' t flying left down ended = record {
+  ticket = t;
+  ended = ended;
+  after =
+      ap (λ (l : List Flying). let after : State = record s { flying = l; events = s.events + 1 } in after) left
+      ∙ ap (λ (b : Bool). cond b (landed t s) (after_good (flying_of t s.flying) (landed t s))) (sym down);
+}
+
+-- what has ended was in flight
+pub was_flying : (s : State) (d d' : Disk) (t : Ticket) (ok : Bool) → IsKept s d → Reaped d t.place ok d'
+    → option_map (λ (f : Flying). f.job) (flying_of t s.flying) ≡ None → ⊥
+was_flying s d d' t ok kept ended none =
+    let out = landed_one s d d' t ok kept ended in
+    let some : None ≡ Some out.flight.job = sym none ∙ ap (option_map (λ (f : Flying). f.job)) out.found in
+    cc
+
+-- ---- a good end, where it counts
+
+-- the submission that has ended was for this job
+pub record EndedFor (s : State) (d d' : Disk) (t : Ticket) (j : Job) : Type 0 where
+  pub flight : Flying
+  pub found : flying_of t s.flying ≡ Some flight
+  pub its_job : flight.job ≡ j
+  pub left : flying_units (others_of t s.flying) + units_of j ≡ flying_units s.flying
+  pub some : 0 < length s.flying
+
+pub ended_for : (s : State) (d d' : Disk) (t : Ticket) (ok : Bool) (j : Job) → IsKept s d → Reaped d t.place ok d'
+    → option_map (λ (f : Flying). f.job) (flying_of t s.flying) ≡ Some j → EndedFor s d d' t j
+ended_for s d d' t ok j kept ended is =
+    let out : Landed s.flying t d d' = landed_one s d d' t ok kept ended in
+    let its : out.flight.job ≡ j = same_Some out.flight.job j (sym (ap (option_map (λ (f : Flying). f.job)) out.found) ∙ is) in
+    record {
+      flight = out.flight;
+      found = out.found;
+      its_job = its;
+      left = ap (λ (k : Job). flying_units (others_of t s.flying) + units_of k) (sym its) ∙ out.left;
+      some = fewer (length (others_of t s.flying)) (length s.flying) out.fewer;
+    }
+  where
+    fewer : (left all : ℕ) → left + 1 ≡ all → 0 < all
+    fewer left all is = omega (arith, is)
+
+-- its units can be counted
+pub can_count_done : (s : State) (d d' : Disk) (p : Option Context) (t : Ticket) (j : Job) → IsKept s d → s.down ≡ None → s.pending ≡ listed p
+    → EndedFor s d d' t j → (place count : ℕ) → j ≡ job.Data place count → IfSome p (λ x. x.done + count < 2 ^ 32)
+can_count_done s d d' None t j kept down pending ended place count is = tt
+can_count_done s d d' (Some x) t j kept down pending ended place count is =
+    let alone : WaitsAlone s x = waits_alone s d x kept down pending in
+    few x.done count (flying_units (others_of t s.flying)) (units_of j) (flying_units s.flying) x.given (length x.fresh)
+    (ap units_of is) ended.left alone.waiting.counted alone.waiting.within alone.few
+  where
+    few : (done count left units flying given all : ℕ) → units ≡ count → left + units ≡ flying → done + flying ≡ given → given ≤ all → all ≤ 1048576
+        → done + count < 2 ^ 32
+    few done count left units flying given all one two three four five = omega (arith, one, two, three, four, five)
+
+-- a piece of a record that was in flight is of one that is being written
+piece_out_at : (number : ℕ) (g : Stage) (f : Flying) (t : Ticket) → Holds number g → flying_of t (flying_at g) ≡ Some f → f.job ≡ job.Record
+    → 0 < length (flying_at g) → MatchOption (begun_of g) ⊥ (λ r. r.written < r.given)
+piece_out_at number idle f t h found is some = absurd (omega (arith, some))
+piece_out_at number (waits x flying) f t h found is some =
+    absurd (subst (λ (j : Job). IsDataOf x.place j) is (found_holds t (λ (g : Flying). IsDataOf x.place g.job) flying f h.own found))
+piece_out_at number (opens x made) f t h found is some = absurd (omega (arith, some))
+piece_out_at number (flushes x made ticket) f t h found is some =
+    let own : f.job ≡ job.DataFlush = found_holds t (λ (g : Flying). g.job ≡ job.DataFlush) (one_flight ticket job.DataFlush) f (refl, tt) found in
+    absurd (let never : job.DataFlush ≡ job.Record = sym own ∙ is in cc)
+piece_out_at number (flushed x) f t h found is some = absurd (omega (arith, some))
+piece_out_at number (writes x given written flying) f t h found is some = out given written (length flying) h.counted some
+  where
+    out : (given written flies : ℕ) → written + flies ≡ given → 0 < flies → written < given
+    out given written flies counted some = omega (arith, counted, some)
+piece_out_at number (syncs x pieces ticket) f t h found is some =
+    let own : f.job ≡ job.RecordFlush = found_holds t (λ (g : Flying). g.job ≡ job.RecordFlush) (one_flight ticket job.RecordFlush) f (refl, tt) found in
+    absurd (let never : job.RecordFlush ≡ job.Record = sym own ∙ is in cc)
+piece_out_at number (synced x pieces) f t h found is some = absurd (omega (arith, some))
+
+pub piece_out : (s : State) (d d' : Disk) (m : meta.Meta) (t : Ticket) (j : Job) → IsKept s d → s.down ≡ None → s.log ≡ log_of m
+    → EndedFor s d d' t j → j ≡ job.Record → meta.IsPieceOut m
+piece_out s d d' m t j kept down log ended is =
+    of_begun m.begun (subst (λ (l : Log). MatchOption l.begun ⊥ (λ (r : Begun). r.written < r.given)) log
+    (by_stage (λ u. flying_of t u.flying ≡ Some ended.flight → 0 < length u.flying → MatchOption u.log.begun ⊥ (λ r. r.written < r.given)) s
+    (λ g h found some. piece_out_at s.log.number g ended.flight t h found (ended.its_job ∙ is) some) (kept.up down).far ended.found ended.some))
+  where
+    of_begun : (o : Option meta.Begun) → MatchOption (option_map seen.begun_of o) ⊥ (λ (r : Begun). r.written < r.given)
+        → MatchOption o ⊥ (λ (b : meta.Begun). b.written < b.given)
+    of_begun None out = out
+    of_begun (Some b) out = out
+
+-- ---- what a good end does, job by job
+
+-- the state with these parts
+abbrev with_parts : State → List Flying → Log → List Context → Option Batch → State
+with_parts s flying l p b = record s { log = l; pending = p; batch = b; flying = flying; events = s.events + 1 }
+
+same_parts : (s : State) (flying : List Flying) (l l' : Log) (p p' : List Context) (b b' : Option Batch) → l ≡ l' → p ≡ p' → b ≡ b'
+    → with_parts s flying l p b ≡ with_parts s flying l' p' b'
+same_parts s flying l l' p p' b b' one two three =
+    ap (λ (x : Log). with_parts s flying x p b) one
+    ∙ ap (λ (x : List Context). with_parts s flying l' x b) two
+    ∙ ap (λ (x : Option Batch). with_parts s flying l' p' x) three
 
 first_of : (b : Option OpenBatch) → option_map batch_of (option_map (with_first flush.Flushed) b) ≡ option_map first_flushed (option_map batch_of b)
 first_of None = refl
@@ -76,57 +173,67 @@ second_of : (b : Option OpenBatch) → option_map batch_of (option_map (with_sec
 second_of None = refl
 second_of (Some b) = refl
 
-begun_written : (o : Option meta.Begun) → option_map begun_of (option_map (λ (b : meta.Begun). record b { written = b.written + 1 }) o) ≡ option_map written_more (option_map begun_of o)
+begun_written : (o : Option meta.Begun) → option_map seen.begun_of (option_map (λ (b : meta.Begun). record b { written = b.written + 1 }) o)
+    ≡ option_map written_more (option_map seen.begun_of o)
 begun_written None = refl
 begun_written (Some r) = refl
 
 written_of : (m : meta.Meta) → log_of (meta.with_written m) ≡ (let l : Log = record (log_of m) { begun = option_map written_more (log_of m).begun } in l)
 written_of m = ap (λ (o : Option Begun). let l : Log = record (log_of m) { begun = o } in l) (begun_written m.begun)
 
-counted : (s : State) (f : Flying) (p : Option Context) → IsOneAtATime s.pending s.batch s.log.begun s.flying → s.flying ≡ f ∷ [] → s.pending ≡ listed p → (place : ℕ) → f.job ≡ job.Data place
-    → listed (option_map done_more p) ≡ with_context place done_more s.pending
-counted s f None far one pending place is = sym (ap (with_context place done_more) pending)
-counted s f (Some x) far one pending place is =
-    sym (ap (with_context place done_more) pending ∙ with_one x place done_more (place_of s.pending s.batch s.log.begun s.flying x f place far one pending is))
+-- the one context has the place of the data write
+place_of : (s : State) (d d' : Disk) (x : Context) (t : Ticket) (place count : ℕ) → IsKept s d → s.down ≡ None → s.pending ≡ x ∷ []
+    → EndedFor s d d' t (job.Data place count) → x.place ≡ place
+place_of s d d' x t place count kept down pending ended =
+    let own : IsDataOf x.place ended.flight.job =
+    found_holds t (λ (g : Flying). IsDataOf x.place g.job) s.flying ended.flight (waits_alone s d x kept down pending).waiting.own ended.found in
+    let its : IsDataOf x.place (job.Data place count) = subst (λ (j : Job). IsDataOf x.place j) ended.its_job own in
+    sym its.0
 
--- what a good end does, job by job
-done_is : (s : State) (f : Flying) (m : meta.Meta) (p : Option Context) (b : Option OpenBatch) → IsOneAtATime s.pending s.batch s.log.begun s.flying → s.flying ≡ f ∷ []
-    → s.log ≡ log_of m → s.pending ≡ listed p → s.batch ≡ option_map batch_of b → (j : Job) → f.job ≡ j
-    → (let later : State = record s {
+counted : (s : State) (d d' : Disk) (p : Option Context) (t : Ticket) (place count : ℕ) → IsKept s d → s.down ≡ None → s.pending ≡ listed p
+    → EndedFor s d d' t (job.Data place count) → listed (option_map (done_more count) p) ≡ with_context place (done_more count) s.pending
+counted s d d' None t place count kept down pending ended = sym (ap (with_context place (done_more count)) pending)
+counted s d d' (Some x) t place count kept down pending ended =
+    sym (ap (with_context place (done_more count)) pending
+    ∙ with_one x place (done_more count) (place_of s d d' x t place count kept down pending ended))
+
+done_is : (s : State) (d d' : Disk) (m : meta.Meta) (p : Option Context) (b : Option OpenBatch) (t : Ticket) (j : Job) → IsKept s d → s.down ≡ None
+    → s.log ≡ log_of m → s.pending ≡ listed p → s.batch ≡ option_map batch_of b → EndedFor s d d' t j
+    → with_parts s (others_of t s.flying) (log_of (meta_after j m)) (listed (pending_after j p)) (option_map batch_of (batch_after j b))
+    ≡ after_done j (landed t s)
+done_is s d d' m p b t (job.Data place count) kept down log pending batch ended =
+    same_parts s (others_of t s.flying) (log_of m) s.log _ _ _ s.batch (sym log) (counted s d d' p t place count kept down pending ended) (sym batch)
+done_is s d d' m p b t job.DataFlush kept down log pending batch ended =
+    same_parts s (others_of t s.flying) (log_of m) s.log _ s.pending _ _ (sym log) (sym pending)
+    (first_of b ∙ ap (option_map first_flushed) (sym batch))
+done_is s d d' m p b t job.Record kept down log pending batch ended =
+    same_parts s (others_of t s.flying) (log_of (meta.with_written m)) _ _ s.pending _ s.batch
+    (written_of m ∙ ap (λ (l : Log). let k : Log = record l { begun = option_map written_more l.begun } in k) (sym log)) (sym pending) (sym batch)
+done_is s d d' m p b t job.RecordFlush kept down log pending batch ended =
+    same_parts s (others_of t s.flying) (log_of m) s.log _ s.pending _ _ (sym log) (sym pending)
+    (second_of b ∙ ap (option_map second_flushed) (sym batch))
+
+pub good_takes : (s : State) (d d' : Disk) (t : Ticket) (j : Job) (m : meta.Meta) (p : Option Context) (b : Option OpenBatch) (flying : List Flying)
+    → IsKept s d → s.down ≡ None → s.log ≡ log_of m → s.pending ≡ listed p → s.batch ≡ option_map batch_of b → flying ≡ others_of t s.flying
+    → option_map (λ (f : Flying). f.job) (flying_of t s.flying) ≡ Some j → Reaped d t.place true d'
+    → Takes s d true (record s {
       log = log_of (meta_after j m);
       pending = listed (pending_after j p);
       batch = option_map batch_of (batch_after j b);
-      flying = [];
-      events = s.events + 1;
-    } in later)
-    ≡ (let t : State = record s { flying = []; events = s.events + 1 } in after_done j t)
-done_is s f m p b far one log pending batch (job.Data place) is =
-    same_parts s (log_of m) s.log _ _ _ s.batch (sym log) (counted s f p far one pending place is) (sym batch)
-done_is s f m p b far one log pending batch job.DataFlush is =
-    same_parts s (log_of m) s.log _ s.pending _ _ (sym log) (sym pending) (first_of b ∙ ap (option_map first_flushed) (sym batch))
-done_is s f m p b far one log pending batch job.Record is =
-    same_parts s (log_of (meta.with_written m)) _ _ s.pending _ s.batch (written_of m ∙ ap (λ (l : Log). let k : Log = record l { begun = option_map written_more l.begun } in k) (sym log))
-    (sym pending) (sym batch)
-done_is s f m p b far one log pending batch job.RecordFlush is =
-    same_parts s (log_of m) s.log _ s.pending _ _ (sym log) (sym pending) (second_of b ∙ ap (option_map second_flushed) (sym batch))
-
-pub good_takes : (s : State) (d d' : Disk) (f : Flying) (t : Ticket) (m : meta.Meta) (p : Option Context) (b : Option OpenBatch) → IsKept s d → is_ready Reap d.depth s ≡ true
-    → s.flying ≡ f ∷ [] → s.log ≡ log_of m → s.pending ≡ listed p → s.batch ≡ option_map batch_of b → Reaped d t.place true d'
-    → Takes s d true (record s {
-      log = log_of (meta_after f.job m);
-      pending = listed (pending_after f.job p);
-      batch = option_map batch_of (batch_after f.job b);
-      flying = [];
+      flying = flying;
       events = s.events + 1;
     }) d'
-good_takes s d d' f t m p b kept ready one log pending batch ended = record {
-  ticket = t;
-  ended = ended;
-  after =
-      done_is s f m p b (up_at Reap s d kept ready).far one log pending batch f.job refl
-      ∙ sym (reaped_good s f t (landed_one s d d' f t true kept one ended).same)
-      ∙ ap (λ (l : List Flying). reaped t true (record s { flying = l })) (sym one);
-}
+good_takes s d d' t j m p b flying kept down log pending batch left is ended =
+    let out : EndedFor s d d' t j = ended_for s d d' t true j kept ended is in
+    record {
+      ticket = t;
+      ended = ended;
+      after =
+          ap (λ (l : List Flying). with_parts s l (log_of (meta_after j m)) (listed (pending_after j p)) (option_map batch_of (batch_after j b))) left
+          ∙ done_is s d d' m p b t j kept down log pending batch out
+          ∙ ap (λ (k : Job). after_done k (landed t s)) (sym out.its_job)
+          ∙ sym (reaped_good s t out.flight down out.found);
+    }
 
 -- an end that isn't good is bad, and the other way round
 pub is_bad : (ok : Bool) → not ok ≡ true → ok ≡ false

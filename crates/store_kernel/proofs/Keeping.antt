@@ -36,5 +36,5 @@ pub known_refuse : (s s' : State) (d : Disk) (client line : ℕ) (change : Chang
     → Refuses client line change a s s' → KnownOfKernel s' d
 known_refuse s s' d client line change a known may refuses = record {
   kept = kept_refuse s s' d client line change a known.kept may refuses;
-  durable = known_submit client line change s s' d known may (inr (a, refuses));
+  durable = known_submit client line change s s' d known may (inr (inl (a, refuses)));
 }

@@ -1,4 +1,5 @@
-pub mod PlanLemmas
+pub mod SpaceCalls
+pub mod NextWrites
 pub mod Admitting
 pub mod Sending
 pub mod Batches

@@ -9,17 +9,19 @@ use Rattle.meta_log.specs.declared.slot.Super.{Super}
 use Rattle.meta_log.specs.Slots.{IsSuper, data_unit}
 use Rattle.meta_rows.specs.Rows.{Rows}
 use Rattle.meta_store.specs.Store.{Meta, found_meta}
-use Rattle.row_facts.proofs.NoRows.{none_good, none_single, none_owned, none_sole}
+use Rattle.row_facts.proofs.NoRows.{none_good, none_owned}
 use Rattle.store_image.specs.Owners.{IsDataUnit}
 use Rattle.unit_allocator.specs.Units.{Space, is_free}
 use Rattle.store_steps.specs.Opened.{opened}
 use Rattle.store_facts.specs.Space.{IsSpaceOf}
 use Rattle.store_facts.specs.Kept.{IsOpenable, IsKept}
 use Rattle.store_facts.proofs.Kept.{kept_open}
+use Rattle.store_facts.proofs.SpaceUnits.{free_is_unheld}
 use Rattle.store_kernel.specs.Seen.{found_of, IsUnused}
 use Rattle.store_kernel.proofs.Opening.{new_space, new_space_is, new_space_free}
 
-pub made_space : (made : Result Space AllocError) (sup : Super) (first end : ℕ) (busy : set.FinSet nat_cmp) → IsSuper sup → first ≡ data_unit sup → end ≡ sup.units
+pub made_space : (made : Result Space AllocError) (sup : Super) (first end : ℕ) (busy : set.FinSet nat_cmp)
+    → IsSuper sup → first ≡ data_unit sup → end ≡ sup.units
     → IfOk made (λ space. space ≡ new_space first end busy) → IfOk made (IsSpaceOf sup)
 made_space (Ok space) sup first end busy limits from to is = subst (IsSpaceOf sup) (sym is) (new_space_is sup first end busy limits from to)
 made_space (Err e) sup first end busy limits from to is = tt
@@ -28,7 +30,8 @@ made_space (Err e) sup first end busy limits from to is = tt
 abbrev pub IsAllFree : Super → Space → Type 0
 IsAllFree sup space = (unit : ℕ) → IsDataUnit sup unit → is_free space unit ≡ true
 
-pub made_free : (made : Result Space AllocError) (sup : Super) (first end : ℕ) (busy : set.FinSet nat_cmp) → IsSuper sup → first ≡ data_unit sup → end ≡ sup.units → busy ≡ set.empty
+pub made_free : (made : Result Space AllocError) (sup : Super) (first end : ℕ) (busy : set.FinSet nat_cmp)
+    → IsSuper sup → first ≡ data_unit sup → end ≡ sup.units → busy ≡ set.empty
     → IfOk made (λ space. space ≡ new_space first end busy) → IfOk made (IsAllFree sup)
 made_free (Ok space) sup first end busy limits from to none is = subst (IsAllFree sup) (sym is) (λ unit on.
     new_space_free sup first end busy limits from to unit on
@@ -50,13 +53,13 @@ module _ (m : Meta) (rows : Rows) (sup : Super) (is : m ≡ found_meta sup rows 
     units_are = same;
     number = few;
     tail = omega arith;
-    good = record { good = none_good sup; single = none_single; sole = none_sole };
+    good = record { good = none_good sup; sole = λ unit _ a b owns _. absurd (none_owned unit (a, owns)) };
     space = is_space;
-    free = λ unit on. (λ _. (none_owned unit, none_owned unit), λ _. free unit on);
+    free = λ unit on. (λ _. (free_is_unheld space unit (free unit on), none_owned unit, none_owned unit), λ _. free unit on);
   }
 
-  pub no_records_kept : (space : Space) (d : Disk) → rows ≡ map.empty → IsSound d → d.flights ≡ [] → IsSuper sup → sup.units ≡ d.units → sup.first ≤ 2 ^ 61
-      → IsSpaceOf sup space → IsAllFree sup space → IsKept (opened (found_of m) space 0) d
+  pub no_records_kept : (space : Space) (d : Disk) → rows ≡ map.empty → IsSound d → d.flights ≡ [] → IsSuper sup → sup.units ≡ d.units
+      → sup.first ≤ 2 ^ 61 → IsSpaceOf sup space → IsAllFree sup space → IsKept (opened (found_of m) space 0) d
   no_records_kept space d none sound idle limits same few is_space free =
       subst (λ (t : Meta). IsKept (opened (found_of t) space 0) d) (sym (is ∙ ap (λ (r : Rows). found_meta sup r 0 sup.first) none))
       (kept_open (found_of (found_meta sup map.empty 0 sup.first)) space 0 d sound idle (omega arith)

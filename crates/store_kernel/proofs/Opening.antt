@@ -12,8 +12,9 @@ use Rattle.meta_store.specs.Store.{Begun, Meta}
 use Rattle.object_model.specs.declared.book.Entry.{Entry}
 use Rattle.object_model.specs.declared.book.Commit.{Commit}
 use Rattle.unit_allocator.specs.Units.{Space, is_free, given_one, freed_from, no_idle_units}
-use Rattle.unit_allocator.proofs.Fresh.{new_is_free, new_is_unheld}
+use Rattle.unit_allocator.proofs.Fresh.{new_is_free}
 use Rattle.store_image.specs.Owners.{IsDataUnit}
+use Rattle.store_steps.specs.declared.flight.Flying.{Flying}
 use Rattle.store_steps.specs.Opened.{opened}
 use Rattle.store_steps.specs.Ready.{is_empty}
 use Rattle.store_steps.specs.declared.step.Step.{Step}
@@ -21,7 +22,8 @@ use Rattle.store_kernel.specs.Seen.{found_of, IsUnused, state_of}
 use Rattle.store_facts.specs.Space.{IsSpaceOf}
 
 -- a new allocator has the range that it was made for
-same_range : (s : Space) (busy : set.FinSet nat_cmp) (units : List ℕ) → ((freed_from s busy units).first ≡ s.first) × (length (freed_from s busy units).idle ≡ length s.idle)
+same_range : (s : Space) (busy : set.FinSet nat_cmp) (units : List ℕ)
+    → ((freed_from s busy units).first ≡ s.first) × (length (freed_from s busy units).idle ≡ length s.idle)
 same_range s busy [] = (refl, refl)
 same_range s busy (u ∷ us) =
     let here = by (set.contains busy u) in
@@ -41,15 +43,13 @@ all_alike (suc n) (suc i) x = all_alike n i x
 abbrev pub new_space : ℕ → ℕ → set.FinSet nat_cmp → Space
 new_space first end busy = freed_from (no_idle_units first (end - first)) busy (range_with_len first (end - first))
 
-pub new_space_is : (sup : Super) (first end : ℕ) (busy : set.FinSet nat_cmp) → IsSuper sup → first ≡ data_unit sup → end ≡ sup.units → IsSpaceOf sup (new_space first end busy)
+pub new_space_is : (sup : Super) (first end : ℕ) (busy : set.FinSet nat_cmp) → IsSuper sup → first ≡ data_unit sup → end ≡ sup.units
+    → IsSpaceOf sup (new_space first end busy)
 new_space_is sup first end busy limits from to =
     let range = same_range (no_idle_units first (end - first)) busy (range_with_len first (end - first)) in
     record {
       first = range.0 ∙ from;
       count = omega (arith, range.1, length-replicate (end - first) false, from, to, limits.room);
-      not_held = λ unit.
-          ap (λ (l : List ℕ). get_or l (unit - (new_space first end busy).first) 0) (new_is_unheld first (end - first) busy)
-          ∙ all_alike (end - first) (unit - (new_space first end busy).first) 0;
     }
 
 -- a data unit is free there exactly where it isn't busy
@@ -59,15 +59,16 @@ new_space_free sup first end busy limits from to unit on =
     new_is_free first (end - first) busy unit (omega (arith, from, on.0)) (omega (arith, from, to, on.1, limits.room))
 
 -- the state of the kernel's fields as they begin
-pub opened_is : (m : Meta) (rows : Rows) (entries : List Entry) (commits : List Commit) (space : Space) (events : ℕ)
-    → IsUnused m → rows ≡ m.rows → entries ≡ [] → commits ≡ []
-    → state_of m rows None None None None events space entries commits 0 ≡ opened (found_of m) space events
-opened_is m rows entries commits space events unused same none_entered none_committed =
-    ap (λ (x : Rows). state_of m x None None None None events space entries commits 0) same
-    ∙ ap (λ (x : List Entry). state_of m m.rows None None None None events space x commits 0) none_entered
-    ∙ ap (λ (x : List Commit). state_of m m.rows None None None None events space [] x 0) none_committed
-    ∙ ap (λ (r : ℕ). let t : Meta = record m { reserved = r } in state_of t m.rows None None None None events space [] [] 0) unused.none_reserved
-    ∙ ap (λ (b : Option Begun). let t : Meta = record m { reserved = 0; begun = b } in state_of t m.rows None None None None events space [] [] 0)
+pub opened_is : (m : Meta) (rows : Rows) (flying : List Flying) (entries : List Entry) (commits : List Commit) (space : Space) (events : ℕ)
+    → IsUnused m → rows ≡ m.rows → flying ≡ [] → entries ≡ [] → commits ≡ []
+    → state_of m rows None None flying None events space entries commits 0 ≡ opened (found_of m) space events
+opened_is m rows flying entries commits space events unused same none_flying none_entered none_committed =
+    ap (λ (x : Rows). state_of m x None None flying None events space entries commits 0) same
+    ∙ ap (λ (x : List Flying). state_of m m.rows None None x None events space entries commits 0) none_flying
+    ∙ ap (λ (x : List Entry). state_of m m.rows None None [] None events space x commits 0) none_entered
+    ∙ ap (λ (x : List Commit). state_of m m.rows None None [] None events space [] x 0) none_committed
+    ∙ ap (λ (r : ℕ). let t : Meta = record m { reserved = r } in state_of t m.rows None None [] None events space [] [] 0) unused.none_reserved
+    ∙ ap (λ (b : Option Begun). let t : Meta = record m { reserved = 0; begun = b } in state_of t m.rows None None [] None events space [] [] 0)
     unused.none_begun
 
 -- no step is ready where none of them all is
@@ -75,6 +76,7 @@ pub none_ready : (test : Step → Bool) (steps : List Step) → not (list_any te
 none_ready test [] = refl
 none_ready test (x ∷ xs) = of_test (test x) (none_ready test xs)
   where
-    of_test : (b : Bool) → not (list_any test xs) ≡ is_empty (filter test xs) → not (b || list_any test xs) ≡ is_empty (cond b (x ∷ filter test xs) (filter test xs))
+    of_test : (b : Bool) → not (list_any test xs) ≡ is_empty (filter test xs)
+        → not (b || list_any test xs) ≡ is_empty (cond b (x ∷ filter test xs) (filter test xs))
     of_test true rest = refl
     of_test false rest = rest

@@ -1,49 +1,104 @@
--- What the steps that submit do to the state.
-use Rattle.std.proofs.Common.{◌≡◌, ℕ, ◌+◌, ◌*◌, ◌<◌, ◌≤◌, ◌&&◌, nat_lt, Bool, true, false, cond, List, [], ◌∷◌, ◌++◌, length, Option, Some, None, refl, sym, ap, subst, ◌∙◌, append-nil, arith}
+-- What the steps that submit ask of the device, and what they do to the state.
+use Rattle.std.proofs.Common.{◌≡◌, ℕ, ◌+◌, ◌*◌, ◌%◌, ◌^◌, ◌<◌, ◌≤◌, nat_lt, Bool, true, false, cond, List, [], ◌∷◌, ◌++◌, length, map, Option, Some, None, IfSome, refl, sym, ap, subst, ◌∙◌, append-nil, arith}
 use Rattle.std.specs.Option.{option_map, option_map_or}
-use Rattle.std.specs.Prelude.{MatchOption}
-use Rattle.std.proofs.lemmas.Bool.{eq-eqb, ltb-true, and_parts}
+use Rattle.std.specs.List.{AllByRecursion}
+use Rattle.std.proofs.lemmas.Bool.{eq-eqb, and_parts}
+use Rattle.std.proofs.lemmas.Option.{same_Some}
 use Rattle.block_device.specs.Disk.{Disk, Submitted, IsNotInFlight}
 use Rattle.block_device.specs.declared.device.Ticket.{Ticket}
 use Rattle.block_device.specs.declared.event.Event.TheVariants as event
+use Rattle.unit_fields.specs.UnitSet.{Ascends}
 use Rattle.meta_rows.specs.declared.row_op.RowOp.{RowOp}
 use Rattle.meta_log.specs.Records.{unit_count}
-use Rattle.meta_log.specs.Pieces.{piece_count}
 use Rattle.meta_log.specs.Sealed.{IsSealable}
 use Rattle.meta_store.specs.Store as meta
 use Rattle.store_image.specs.Owners.{IsDataUnit}
 use Rattle.store_steps.specs.declared.context.Context.{Context}
+use Rattle.store_steps.specs.declared.context.FreshUnit.{FreshUnit}
 use Rattle.store_steps.specs.declared.flight.FlushState.TheVariants as flush
-use Rattle.store_steps.specs.declared.flight.Flying.{Flying}
-use Rattle.store_steps.specs.declared.flight.Job.{Job}
 use Rattle.store_steps.specs.declared.flight.Job.TheVariants as job
-use Rattle.store_steps.specs.declared.step.Step.{Step}
 use Rattle.store_steps.specs.declared.step.Step.TheVariants.{Data, Flush, Seal, Record, Sync}
 use Rattle.store_steps.specs.State.{Begun, Log, Batch, State}
-use Rattle.store_steps.specs.Contexts.{Unsent, next_unsent, with_context, given_more, batch_ops}
-use Rattle.store_steps.specs.Changes.{sent, data_sent, record_sent}
-use Rattle.store_steps.specs.Ready.{is_ready, batch_is, begun_is, is_flushed, pieces_of}
+use Rattle.store_steps.specs.Contexts.{Unsent, unsent_units, run_bytes, next_unsent, with_context, given_more, batch_ops}
+use Rattle.store_steps.specs.Changes.{data_sent}
+use Rattle.store_steps.specs.Ready.{is_ready}
 use Rattle.store_steps.specs.Steps.{DoesData, DoesFlush, DoesSeal, DoesRecord, DoesSync, piece_unit}
 use Rattle.store_steps.specs.Steps as steps
+use Rattle.store_facts.specs.Flights.{IsWaiting, IsOneAtATime}
+use Rattle.store_facts.specs.Room.{FitsRecord}
 use Rattle.store_facts.specs.Kept.{IsKept, IsKeptUp}
-use Rattle.store_facts.proofs.Readiness.{unsent_is}
-use Rattle.store_facts.proofs.Conditions.{ready_not_down, ready_by_table, data_idle, flush_idle, record_idle, sync_idle, data_ready, ReadySeal, seal_ready, drained_device}
-use Rattle.store_facts.proofs.RowsFacts.{next_on_data}
+use Rattle.store_facts.proofs.Conditions.{ready_not_down, ready_by_table, ReadySeal}
+use Rattle.store_facts.proofs.Known.{known_data_room, known_record_room, known_seal, next_data_unflown, data_inside, few_units, whole_units, next_piece_unflown}
+use Rattle.store_facts.proofs.Readiness.{unsent_alone}
+use Rattle.store_facts.proofs.RowsFacts.{pending_on_data}
+use Rattle.store_facts.proofs.RunUnits.{run_of_left}
+use Rattle.store_facts.proofs.Unflown.{all_then}
 use Rattle.store_kernel.specs.declared.batch.OpenBatch.{OpenBatch}
+use Rattle.store_kernel.specs.declared.pending.NextWrite.{NextWrite}
+use Rattle.store_kernel.specs.Runs.{IsWriteOf}
 use Rattle.store_kernel.specs.Seen.{listed, batch_of, begun_of, log_of}
 use Rattle.store_kernel.specs.Ends.{with_first, with_second}
 
--- a kernel in which a step is ready isn't down
-pub up_at : (step : Step) (s : State) (d : Disk) → IsKept s d → is_ready step d.depth s ≡ true → IsKeptUp s
-up_at step s d kept ready = kept.up (ready_not_down s d step kept ready)
+-- what the device asks of a write of these bytes from this unit on
+pub record CanWrite (d : Disk) (at size : ℕ) : Type 0 where
+  pub room : length d.flights < d.depth
+  pub some : 0 < size
+  pub few : size ≤ 4096 * 64
+  pub whole : size % 4096 ≡ 0
+  pub inside : 4096 * at + size ≤ 4096 * d.units
+  pub free : IsNotInFlight d at size
 
--- where nothing flies, one submission more is the one in flight
-sent_alone : (s : State) (t : Ticket) (j : Job) → s.flying ≡ [] → (let after : State = record s { flying = record { ticket = t; job = j } ∷ []; events = s.events + 1 } in after) ≡ sent t j s
-sent_alone s t j idle = ap (λ (l : List Flying). let after : State = record s { flying = l ++ record { ticket = t; job = j } ∷ []; events = s.events + 1 } in after) (sym idle)
+-- ---- a context that waits
 
--- where nothing flies, no write touches these bytes
-pub nothing_flies : (d : Disk) (at bytes : ℕ) → d.flights ≡ [] → IsNotInFlight d at bytes
-nothing_flies d at bytes none k flight below = absurd (omega (arith, ap length none, below))
+-- so many units are not more than those between two numbers that they lie between
+few_between : (lo end : ℕ) (fs : List FreshUnit) → lo ≤ end → AllByRecursion (λ f. lo ≤ f.unit) fs → AllByRecursion (λ f. f.unit < end) fs
+    → Ascends (map (λ f. f.unit) fs) → lo + length fs ≤ end
+few_between lo end [] within above below ascend = omega (arith, within)
+few_between lo end (f ∷ fs) within above below ascend =
+    let rest : (lo + 1) + length fs ≤ end = few_between (lo + 1) end fs (omega (arith, above.0, below.0)) (higher fs ascend.0) below.1 ascend.1 in
+    omega (arith, rest)
+  where
+    higher : (gs : List FreshUnit) → AllByRecursion (λ v. f.unit < v) (map (λ (g : FreshUnit). g.unit) gs) → AllByRecursion (λ g. lo + 1 ≤ g.unit) gs
+    higher [] all = tt
+    higher (g ∷ gs) all = (omega (arith, above.0, all.0), higher gs all.1)
+
+-- it is alone, and its units are so few that they can be counted
+pub record WaitsAlone (s : State) (x : Context) : Type 0 where
+  pub waiting : IsWaiting x s.flying
+  pub few : length x.fresh ≤ 1048576
+
+pub waits_alone : (s : State) (d : Disk) (x : Context) → IsKept s d → s.down ≡ None → s.pending ≡ x ∷ [] → WaitsAlone s x
+waits_alone s d x kept down pending = record { waiting = of_batch s.batch s.log.begun far; few = few }
+  where
+    up : IsKeptUp s d
+    up = kept.up down
+
+    far : IsOneAtATime s.log.number (x ∷ []) s.batch s.log.begun s.flying
+    far = subst (λ (xs : List Context). IsOneAtATime s.log.number xs s.batch s.log.begun s.flying) pending up.far
+
+    of_batch : (b : Option Batch) (begun : Option Begun) → IsOneAtATime s.log.number (x ∷ []) b begun s.flying → IsWaiting x s.flying
+    of_batch None begun h = h.1
+    of_batch (Some b) begun h = absurd h
+
+    fits_of : (b : Option Batch) → IsOneAtATime s.log.number (x ∷ []) b s.log.begun s.flying
+        → AllByRecursion FitsRecord (option_map_or (λ (c : Batch). c.contexts) b [] ++ (x ∷ [])) → FitsRecord x
+    fits_of None h all = all.0
+    fits_of (Some b) h all = absurd h
+
+    fits : FitsRecord x
+    fits = fits_of s.batch far (subst (λ (xs : List Context). AllByRecursion FitsRecord (option_map_or (λ (c : Batch). c.contexts) s.batch [] ++ xs))
+        pending up.room.fits)
+
+    on_data : AllByRecursion (λ f. IsDataUnit s.log.sup f.unit) x.fresh
+    on_data = (subst (λ (xs : List Context). AllByRecursion (λ (c : Context). AllByRecursion (λ f. IsDataUnit s.log.sup f.unit) c.fresh) xs)
+        pending (pending_on_data s d kept down)).0
+
+    few : length x.fresh ≤ 1048576
+    few =
+        let most : 0 + length x.fresh ≤ s.log.sup.units = few_between 0 s.log.sup.units x.fresh (omega arith)
+        (all_then (λ f. IsDataUnit s.log.sup f.unit) (λ f. 0 ≤ f.unit) (λ f on. omega arith) x.fresh on_data)
+        (all_then (λ f. IsDataUnit s.log.sup f.unit) (λ f. f.unit < s.log.sup.units) (λ f on. on.1) x.fresh on_data) fits.ascend in
+        omega (arith, most, kept.always.limits.units_most)
 
 -- ---- Data
 
@@ -51,42 +106,87 @@ nothing_flies d at bytes none k flight below = absurd (omega (arith, ap length n
 pub with_one : (x : Context) (place : ℕ) (change : Context → Context) → x.place ≡ place → with_context place change (x ∷ []) ≡ change x ∷ []
 with_one x place change same = ap (λ (b : Bool). cond b (change x) x ∷ []) (eq-eqb x.place place same)
 
-pub data_flights : (s : State) (d : Disk) → IsKept s d → is_ready Data d.depth s ≡ true → d.flights ≡ []
-data_flights s d kept ready = drained_device s d kept.always (data_idle s d.depth (up_at Data s d kept ready).far (ready_by_table s d Data kept ready))
+pub can_write_data : (s : State) (d : Disk) (w : NextWrite) → IsKept s d → is_ready Data d.depth s ≡ true → IsWriteOf s.pending w
+    → CanWrite d w.unit (length w.bytes.items)
+can_write_data s d w kept ready is =
+    let n : Unsent = is.next in
+    let few = few_units s d n kept ready is.is_next in
+    let same : length w.bytes.items ≡ length (run_bytes (unsent_units n)) = ap (λ (bytes : List ℕ). length bytes) is.bytes in
+    let size : length w.bytes.items ≡ 4096 * length (unsent_units n) = same ∙ whole_units s d n kept ready is.is_next in
+    record {
+      room = known_data_room s d kept ready;
+      some = some_bytes (length (unsent_units n)) (length w.bytes.items) size few.0;
+      few = few_bytes (length (unsent_units n)) (length w.bytes.items) size few.1;
+      whole = whole_bytes (length (unsent_units n)) (length w.bytes.items) size;
+      inside = there n.first.unit w.unit (length (run_bytes (unsent_units n))) (length w.bytes.items) d.units is.unit same
+          (data_inside s d n kept ready is.is_next);
+      free = subst (λ (size : ℕ). IsNotInFlight d w.unit size) (sym same)
+          (subst (λ (u : ℕ). IsNotInFlight d u (length (run_bytes (unsent_units n)))) (sym is.unit) (next_data_unflown s d n kept ready is.is_next));
+    }
+  where
+    some_bytes : (count size : ℕ) → size ≡ 4096 * count → 0 < count → 0 < size
+    some_bytes count size is some = omega (arith, is, some)
 
-pub data_does : (s : State) (d d' : Disk) (p : Option Context) (n : Unsent) (t : Ticket) → IsKept s d → is_ready Data d.depth s ≡ true → s.pending ≡ listed p
-    → next_unsent (listed p) ≡ Some n → Submitted d t.place (event.Write n.fresh.unit n.fresh.bytes) d'
-    → DoesData s d (record s { pending = listed (option_map given_more p); flying = record { ticket = t; job = job.Data n.place } ∷ []; events = s.events + 1 }) d'
-data_does s d d' None n t kept ready pending found submitted = absurd cc
-data_does s d d' (Some x) n t kept ready pending found submitted = record {
+    few_bytes : (count size : ℕ) → size ≡ 4096 * count → count ≤ 64 → size ≤ 4096 * 64
+    few_bytes count size is few = omega (arith, is, few)
+
+    whole_bytes : (count size : ℕ) → size ≡ 4096 * count → size % 4096 ≡ 0
+    whole_bytes count size is = omega (arith, is)
+
+    there : (first unit bytes size units : ℕ) → unit ≡ first → size ≡ bytes → 4096 * first + bytes ≤ 4096 * units → 4096 * unit + size ≤ 4096 * units
+    there first unit bytes size units one two le = omega (arith, one, two, le)
+
+-- the units that are given can be counted
+pub can_count_given : (s : State) (d : Disk) (p : Option Context) (w : NextWrite) → IsKept s d → is_ready Data d.depth s ≡ true → s.pending ≡ listed p
+    → IsWriteOf (listed p) w → IfSome p (λ x. x.given + w.count < 2 ^ 32)
+can_count_given s d None w kept ready pending is = tt
+can_count_given s d (Some x) w kept ready pending is =
+    let waits : WaitsAlone s x = waits_alone s d x kept (ready_not_down s d.depth Data refl ready) pending in
+    let run = run_of_left x is.next (unsent_alone x is.next is.is_next) in
+    few x.given w.count (length (unsent_units is.next)) (length x.fresh) is.count run.within waits.few
+  where
+    few : (given count units all : ℕ) → count ≡ units → given + units ≤ all → all ≤ 1048576 → given + count < 2 ^ 32
+    few given count units all is within most = omega (arith, is, within, most)
+
+-- one more data write is in flight
+abbrev sent_as : State → Ticket → ℕ → ℕ → List Context → State
+sent_as s t place count xs = record s {
+  pending = xs;
+  flying = s.flying ++ record { ticket = t; job = job.Data place count } ∷ [];
+  events = s.events + 1;
+}
+
+pub data_does : (s : State) (d d' : Disk) (p : Option Context) (w : NextWrite) (t : Ticket) → s.pending ≡ listed p → IsWriteOf (listed p) w
+    → Submitted d t.place (event.Write w.unit w.bytes.items) d'
+    → DoesData s d (record s {
+      pending = listed (option_map (given_more w.count) p);
+      flying = s.flying ++ record { ticket = t; job = job.Data w.place w.count } ∷ [];
+      events = s.events + 1;
+    }) d'
+data_does s d d' None w t pending is submitted = let none : None ≡ Some is.next = is.is_next in absurd cc
+data_does s d d' (Some x) w t pending is submitted = record {
   ticket = t;
   next = n;
-  is_next = ap next_unsent pending ∙ found;
-  submitted = submitted;
+  is_next = ap next_unsent pending ∙ is.is_next;
+  submitted = subst (λ (bytes : List ℕ). Submitted d t.place (event.Write n.first.unit bytes) d') is.bytes
+      (subst (λ (u : ℕ). Submitted d t.place (event.Write u w.bytes.items) d') is.unit submitted);
   after = after;
 }
   where
+    n : Unsent
+    n = is.next
+
     place : x.place ≡ n.place
-    place = (unsent_is x _ n found).1
+    place = (run_of_left x n (unsent_alone x n is.is_next)).place
 
-    counted : with_context n.place given_more s.pending ≡ given_more x ∷ []
-    counted = ap (with_context n.place given_more) pending ∙ with_one x n.place given_more place
+    counted : with_context n.place (given_more (length (unsent_units n))) s.pending ≡ given_more (length (unsent_units n)) x ∷ []
+    counted = ap (with_context n.place (given_more (length (unsent_units n)))) pending ∙ with_one x n.place (given_more (length (unsent_units n))) place
 
-    idle : s.flying ≡ []
-    idle = data_idle s d.depth (up_at Data s d kept ready).far (ready_by_table s d Data kept ready)
-
-    after : record s { pending = given_more x ∷ []; flying = record { ticket = t; job = job.Data n.place } ∷ []; events = s.events + 1 } ≡ data_sent n.place t s
-    after = sent_alone (record s { pending = given_more x ∷ [] }) t (job.Data n.place) idle
-        ∙ ap (λ (l : List Context). sent t (job.Data n.place) (record s { pending = l })) (sym counted)
-
--- the write lies inside the device
-pub data_inside : (s : State) (d : Disk) (n : Unsent) → IsKept s d → is_ready Data d.depth s ≡ true → next_unsent s.pending ≡ Some n
-    → (length n.fresh.bytes ≡ 4096) × (4096 * n.fresh.unit + length n.fresh.bytes ≤ 4096 * d.units)
-data_inside s d n kept ready found =
-    let up = up_at Data s d kept ready in
-    let whole : length n.fresh.bytes ≡ 4096 = (data_ready s n up.far up.room found).whole in
-    let on : IsDataUnit s.log.sup n.fresh.unit = next_on_data s d kept (ready_not_down s d Data kept ready) n found in
-    (whole, omega (arith, on.1, kept.always.units, whole))
+    after : sent_as s t w.place w.count (given_more w.count x ∷ []) ≡ data_sent n.place (length (unsent_units n)) t s
+    after =
+        ap (λ (p : ℕ). sent_as s t p w.count (given_more w.count x ∷ [])) is.place
+        ∙ ap (λ (count : ℕ). sent_as s t n.place count (given_more count x ∷ [])) is.count
+        ∙ ap (λ (xs : List Context). sent_as s t n.place (length (unsent_units n)) xs) (sym counted)
 
 -- ---- the flushes
 
@@ -94,41 +194,31 @@ no_batch : (test : Batch → Bool) (o : Option Batch) → o ≡ None → option_
 no_batch test None none is = cc
 no_batch test (Some b) none is = cc
 
-pub flush_flights : (s : State) (d : Disk) → IsKept s d → is_ready Flush d.depth s ≡ true → d.flights ≡ []
-flush_flights s d kept ready = drained_device s d kept.always (flush_idle s d.depth (up_at Flush s d kept ready).far (ready_by_table s d Flush kept ready))
-
-pub sync_flights : (s : State) (d : Disk) → IsKept s d → is_ready Sync d.depth s ≡ true → d.flights ≡ []
-sync_flights s d kept ready =
-    let up = up_at Sync s d kept ready in
-    drained_device s d kept.always (sync_idle s d.depth up.far up.room (ready_by_table s d Sync kept ready))
-
-pub flush_does : (s : State) (d d' : Disk) (b : Option OpenBatch) (t : Ticket) → IsKept s d → is_ready Flush d.depth s ≡ true → s.batch ≡ option_map batch_of b
+pub flush_does : (s : State) (d d' : Disk) (b : Option OpenBatch) (t : Ticket) → is_ready Flush d.depth s ≡ true → s.batch ≡ option_map batch_of b
     → Submitted d t.place event.Flush d'
-    → DoesFlush s d (record s { batch = option_map batch_of (option_map (with_first (flush.Sent t)) b); flying = record { ticket = t; job = job.DataFlush } ∷ []; events = s.events + 1 }) d'
-flush_does s d d' None t kept ready batch submitted = absurd (no_batch _ s.batch batch (and_parts _ _ (ready_by_table s d Flush kept ready)).0)
-flush_does s d d' (Some b) t kept ready batch submitted = record {
-  ticket = t;
-  batch = batch_of b;
-  begun = batch;
-  submitted = submitted;
-  after = sent_alone (record s { batch = Some (batch_of (with_first (flush.Sent t) b)) }) t job.DataFlush
-      (flush_idle s d.depth (up_at Flush s d kept ready).far (ready_by_table s d Flush kept ready));
-}
+    → DoesFlush s d (record s {
+      batch = option_map batch_of (option_map (with_first (flush.Sent t)) b);
+      flying = s.flying ++ record { ticket = t; job = job.DataFlush } ∷ [];
+      events = s.events + 1;
+    }) d'
+flush_does s d d' None t ready batch submitted =
+    let table = ready_by_table s d.depth Flush (ready_not_down s d.depth Flush refl ready) ready in
+    absurd (no_batch _ s.batch batch (and_parts _ (nat_lt (length s.flying) d.depth) table).0)
+flush_does s d d' (Some b) t ready batch submitted =
+    record { ticket = t; batch = batch_of b; begun = batch; submitted = submitted; after = refl }
 
-pub sync_does : (s : State) (d d' : Disk) (b : Option OpenBatch) (t : Ticket) → IsKept s d → is_ready Sync d.depth s ≡ true → s.batch ≡ option_map batch_of b
+pub sync_does : (s : State) (d d' : Disk) (b : Option OpenBatch) (t : Ticket) → is_ready Sync d.depth s ≡ true → s.batch ≡ option_map batch_of b
     → Submitted d t.place event.Flush d'
-    → DoesSync s d (record s { batch = option_map batch_of (option_map (with_second (flush.Sent t)) b); flying = record { ticket = t; job = job.RecordFlush } ∷ []; events = s.events + 1 }) d'
-sync_does s d d' None t kept ready batch submitted = absurd (no_batch _ s.batch batch (and_parts _ _ (and_parts _ (nat_lt (length s.flying) d.depth) (ready_by_table s d Sync kept ready)).0).0)
-sync_does s d d' (Some b) t kept ready batch submitted =
-    let up = up_at Sync s d kept ready in
-    record {
-      ticket = t;
-      batch = batch_of b;
-      begun = batch;
-      submitted = submitted;
-      after = sent_alone (record s { batch = Some (batch_of (with_second (flush.Sent t) b)) }) t job.RecordFlush
-          (sync_idle s d.depth up.far up.room (ready_by_table s d Sync kept ready));
-    }
+    → DoesSync s d (record s {
+      batch = option_map batch_of (option_map (with_second (flush.Sent t)) b);
+      flying = s.flying ++ record { ticket = t; job = job.RecordFlush } ∷ [];
+      events = s.events + 1;
+    }) d'
+sync_does s d d' None t ready batch submitted =
+    let table = ready_by_table s d.depth Sync (ready_not_down s d.depth Sync refl ready) ready in
+    absurd (no_batch _ s.batch batch (and_parts _ _ (and_parts _ (nat_lt (length s.flying) d.depth) table).0).0)
+sync_does s d d' (Some b) t ready batch submitted =
+    record { ticket = t; batch = batch_of b; begun = batch; submitted = submitted; after = refl }
 
 -- ---- Seal
 
@@ -136,79 +226,97 @@ sync_does s d d' (Some b) t kept ready batch submitted =
 ops_alone : (b : OpenBatch) → batch_ops (batch_of b) ≡ b.context.ops
 ops_alone b = append-nil b.context.ops
 
-seal_facts : (s : State) (d : Disk) (b : OpenBatch) → IsKept s d → is_ready Seal d.depth s ≡ true → s.batch ≡ Some (batch_of b) → ReadySeal s (batch_of b)
-seal_facts s d b kept ready batch =
-    let up = up_at Seal s d kept ready in seal_ready s d (batch_of b) up.far kept.always up.room (ready_by_table s d Seal kept ready) batch
-
-pub can_seal : (s : State) (d : Disk) (b : OpenBatch) → IsKept s d → is_ready Seal d.depth s ≡ true → s.batch ≡ Some (batch_of b) → IsSealable s.log.number b.context.ops
+pub can_seal : (s : State) (d : Disk) (b : OpenBatch) → IsKept s d → is_ready Seal d.depth s ≡ true → s.batch ≡ Some (batch_of b)
+    → IsSealable s.log.number b.context.ops
 can_seal s d b kept ready batch =
-    let facts = seal_facts s d b kept ready batch in
+    let facts : ReadySeal s (batch_of b) = known_seal s d (batch_of b) kept ready batch in
     subst (IsSealable s.log.number) (ops_alone b) (record { number_below = facts.number; body_below = facts.body; fit = facts.fit })
 
 pub record_fits : (s : State) (d : Disk) (b : OpenBatch) → IsKept s d → is_ready Seal d.depth s ≡ true → s.batch ≡ Some (batch_of b)
     → s.log.tail + unit_count s.log.number b.context.ops ≤ s.log.sup.half
 record_fits s d b kept ready batch =
-    let facts = seal_facts s d b kept ready batch in
-    omega (arith, facts.units, facts.room, ap (λ (ops : List RowOp). unit_count s.log.number ops) (ops_alone b))
+    subst (λ (ops : List RowOp). s.log.tail + unit_count s.log.number ops ≤ s.log.sup.half) (ops_alone b)
+    (known_seal s d (batch_of b) kept ready batch).room
 
-pub seal_does : (s : State) (d : Disk) (b : OpenBatch) → IsKept s d → is_ready Seal d.depth s ≡ true → s.batch ≡ Some (batch_of b)
+pub seal_does : (s : State) (d : Disk) (b : OpenBatch) → s.batch ≡ Some (batch_of b)
     → DoesSeal s d (record s { log = record s.log { begun = Some (record { ops = b.context.ops; given = 0; written = 0 }) } }) d
-seal_does s d b kept ready batch = record {
+seal_does s d b batch = record {
   batch = batch_of b;
   begun = batch;
   same = refl;
-  after = ap (λ (ops : List RowOp). let after : State = record s { log = record s.log { begun = Some (record { ops = ops; given = 0; written = 0 }) } } in after) (sym (ops_alone b));
+  after = ap (λ (ops : List RowOp). let after : State = record s { log = record s.log { begun = Some (record { ops = ops; given = 0; written = 0 }) } }
+      in after) (sym (ops_alone b));
 }
 
 -- ---- Record
 
-pub record_flights : (s : State) (d : Disk) → IsKept s d → is_ready Record d.depth s ≡ true → d.flights ≡ []
-record_flights s d kept ready =
-    let up = up_at Record s d kept ready in
-    drained_device s d kept.always (record_idle s d.depth up.far up.room (ready_by_table s d Record kept ready))
+-- the piece that the metadata store makes is the next one of the log's record
+pub record IsPieceOf (l : Log) (unit : ℕ) (bytes : List ℕ) : Type 0 where
+  pub writing : Begun
+  pub begun : l.begun ≡ Some writing
+  pub unit_is : unit ≡ piece_unit l writing
+  pub bytes_are : bytes ≡ steps.piece_bytes l.number writing
 
-pub record_does : (s : State) (d d' : Disk) (m : meta.Meta) (unit : ℕ) (bytes : List ℕ) (t : Ticket) → IsKept s d → is_ready Record d.depth s ≡ true → s.log ≡ log_of m
+pub piece_of : (l : Log) (m : meta.Meta) (unit : ℕ) (bytes : List ℕ) → l ≡ log_of m → meta.IsNextPiece m unit bytes → IsPieceOf l unit bytes
+piece_of l m unit bytes log next = subst (λ (k : Log). IsPieceOf k unit bytes) (sym log) (record {
+  writing = begun_of next.now;
+  begun = ap (option_map begun_of) next.is_begun;
+  unit_is = next.unit_is;
+  bytes_are = next.bytes_are;
+})
+
+pub can_write_record : (s : State) (d : Disk) (m : meta.Meta) (unit : ℕ) (bytes : List ℕ) → IsKept s d → is_ready Record d.depth s ≡ true
+    → s.log ≡ log_of m → meta.IsNextPiece m unit bytes → meta.LiesBehindTail m unit bytes → CanWrite d unit (length bytes)
+can_write_record s d m unit bytes kept ready log next lies =
+    let piece : IsPieceOf s.log unit bytes = piece_of s.log m unit bytes log next in
+    let free : IsNotInFlight d (piece_unit s.log piece.writing) (length (steps.piece_bytes s.log.number piece.writing)) =
+    next_piece_unflown s d piece.writing kept ready piece.begun in
+    record {
+      room = known_record_room s d kept ready;
+      some = lies.some;
+      few = lies.few;
+      whole = lies.whole;
+      inside = omega (arith, lies.in_log, ap (λ (l : Log). l.sup.half) log, ap (λ (l : Log). l.sup.units) log, kept.always.units, kept.always.limits.room);
+      free = subst (λ (b : List ℕ). IsNotInFlight d unit (length b)) (sym piece.bytes_are)
+          (subst (λ (u : ℕ). IsNotInFlight d u (length (steps.piece_bytes s.log.number piece.writing))) (sym piece.unit_is) free);
+    }
+
+pub record_does : (s : State) (d d' : Disk) (m : meta.Meta) (unit : ℕ) (bytes : List ℕ) (t : Ticket) → s.log ≡ log_of m
     → meta.IsNextPiece m unit bytes → Submitted d t.place (event.Write unit bytes) d'
-    → DoesRecord s d (record s { log = log_of (meta.with_given m); flying = record { ticket = t; job = job.Record } ∷ []; events = s.events + 1 }) d'
-record_does s d d' m unit bytes t kept ready log next submitted = record { ticket = t; writing = w; begun = begun; submitted = sent_there; after = after }
+    → DoesRecord s d (record s {
+      log = log_of (meta.with_given m);
+      flying = s.flying ++ record { ticket = t; job = job.Record } ∷ [];
+      events = s.events + 1;
+    }) d'
+record_does s d d' m unit bytes t log next submitted = record {
+  ticket = t;
+  writing = w;
+  begun = begun;
+  submitted = subst (λ (b : List ℕ). Submitted d t.place (event.Write (piece_unit s.log w) b) d') piece.bytes_are
+      (subst (λ (u : ℕ). Submitted d t.place (event.Write u bytes) d') piece.unit_is submitted);
+  after = ap (λ (l : Log). let later : State = record s {
+    log = l;
+    flying = s.flying ++ record { ticket = t; job = job.Record } ∷ [];
+    events = s.events + 1;
+  } in later) log_later;
+}
   where
+    piece : IsPieceOf s.log unit bytes
+    piece = piece_of s.log m unit bytes log next
+
     w : Begun
-    w = begun_of next.now
+    w = piece.writing
 
     begun : s.log.begun ≡ Some w
-    begun = ap (λ (l : Log). l.begun) log ∙ ap (option_map begun_of) next.is_begun
+    begun = piece.begun
 
-    unit_same : unit ≡ piece_unit s.log w
-    unit_same = next.unit_is ∙ ap (λ (l : Log). piece_unit l w) (sym log)
-
-    bytes_same : bytes ≡ steps.piece_bytes s.log.number w
-    bytes_same = next.bytes_are ∙ ap (λ (l : Log). steps.piece_bytes l.number w) (sym log)
-
-    sent_there : Submitted d t.place (event.Write (piece_unit s.log w) (steps.piece_bytes s.log.number w)) d'
-    sent_there = subst (λ (b : List ℕ). Submitted d t.place (event.Write (piece_unit s.log w) b) d') bytes_same
-        (subst (λ (u : ℕ). Submitted d t.place (event.Write u bytes) d') unit_same submitted)
+    of_begun : (o : Option meta.Begun) → option_map begun_of o ≡ Some w
+        → option_map begun_of (option_map (λ (b : meta.Begun). record b { given = b.given + 1 }) o) ≡ Some (record w { given = w.given + 1 })
+    of_begun None is = absurd cc
+    of_begun (Some r) is = ap (λ (b : Begun). Some (record b { given = b.given + 1 })) (same_Some (begun_of r) w is)
 
     log_later : log_of (meta.with_given m) ≡ (let l : Log = record s.log { begun = Some (record w { given = w.given + 1 }) } in l)
     log_later =
-        ap (λ (o : Option meta.Begun). let l : Log = record (log_of m) { begun = option_map begun_of (option_map (λ (b : meta.Begun). record b { given = b.given + 1 }) o) } in l) next.is_begun
+        ap (λ (o : Option Begun). let l : Log = record (log_of m) { begun = o } in l)
+        (of_begun m.begun (ap (λ (l : Log). l.begun) (sym log) ∙ begun))
         ∙ ap (λ (k : Log). let l : Log = record k { begun = Some (record w { given = w.given + 1 }) } in l) (sym log)
-
-    idle : s.flying ≡ []
-    idle = let up = up_at Record s d kept ready in record_idle s d.depth up.far up.room (ready_by_table s d Record kept ready)
-
-    after : (let later : State = record s { log = log_of (meta.with_given m); flying = record { ticket = t; job = job.Record } ∷ []; events = s.events + 1 } in later) ≡ record_sent w t s
-    after = sent_alone (record s { log = log_of (meta.with_given m) }) t job.Record idle ∙ ap (λ (l : Log). sent t job.Record (record s { log = l })) log_later
-
--- where a record is ready a piece is left
-pub piece_left : (s : State) (d : Disk) (m : meta.Meta) → IsKept s d → is_ready Record d.depth s ≡ true → s.log ≡ log_of m → meta.IsPieceLeft m
-piece_left s d m kept ready log = of_begun m.begun tested
-  where
-    tested : option_map_or (λ (r : Begun). nat_lt r.given (piece_count (unit_count m.number r.ops))) (option_map begun_of m.begun) false ≡ true
-    tested = subst (λ (l : Log). option_map_or (λ (r : Begun). nat_lt r.given (piece_count (unit_count l.number r.ops))) l.begun false ≡ true) log
-        (and_parts (batch_is (λ b. is_flushed b.first) s) (begun_is (λ r. nat_lt r.given (pieces_of s.log.number r)) s)
-        (and_parts (batch_is (λ b. is_flushed b.first) s && begun_is (λ r. nat_lt r.given (pieces_of s.log.number r)) s) (nat_lt (length s.flying) d.depth) (ready_by_table s d Record kept ready)).0).1
-
-    of_begun : (o : Option meta.Begun) → option_map_or (λ (r : Begun). nat_lt r.given (piece_count (unit_count m.number r.ops))) (option_map begun_of o) false ≡ true
-        → MatchOption o ⊥ (λ (b : meta.Begun). b.given < meta.piece_count_of m b)
-    of_begun None is = cc
-    of_begun (Some b) is = ltb-true b.given (meta.piece_count_of m b) is

@@ -18,19 +18,19 @@ abbrev pub with_second : FlushState → OpenBatch → OpenBatch
 with_second state b = record b { second = state }
 
 abbrev pub pending_after : Job → Option Context → Option Context
-pending_after (Data place) pending = option_map done_more pending
+pending_after (Data place count) pending = option_map (done_more count) pending
 pending_after DataFlush pending = pending
 pending_after Record pending = pending
 pending_after RecordFlush pending = pending
 
 abbrev pub batch_after : Job → Option OpenBatch → Option OpenBatch
-batch_after (Data place) batch = batch
+batch_after (Data place count) batch = batch
 batch_after DataFlush batch = option_map (with_first flush.Flushed) batch
 batch_after Record batch = batch
 batch_after RecordFlush batch = option_map (with_second flush.Flushed) batch
 
 abbrev pub meta_after : Job → Meta → Meta
-meta_after (Data place) m = m
+meta_after (Data place count) m = m
 meta_after DataFlush m = m
 meta_after Record m = with_written m
 meta_after RecordFlush m = m

@@ -1,8 +1,8 @@
 pub mod Seen
 pub mod Ends
 pub mod Units
+pub mod Runs
 pub mod Steps
-pub mod PlanFails
 pub mod Prepared
 pub mod Submitting
 pub mod Known

@@ -4,12 +4,12 @@ use Rattle.object_model.specs.Effect.{Change}
 use Rattle.store_steps.specs.declared.context.Context.{Context}
 use Rattle.store_steps.specs.State.{State}
 use Rattle.store_steps.specs.Submit.{need_of, room_of}
-use Rattle.store_kernel.specs.PlanFails.{IsPlanFor}
+use Rattle.write_planner.specs.PlanFails.{IsPlanFor}
 use Rattle.store_kernel.specs.declared.prepared.Prepared.{Prepared}
 
 -- what it needs fits, and the copies are copies
 pub record IsPrepared (ready : Prepared) (change : Change) (s : State) : Type 0 where
-  pub plan : IsPlanFor change.coll change.ops s.view s.space ready.plan
+  pub plan : IsPlanFor change s.view s.space ready.plan
   pub need : ready.need ≡ need_of s.log ready.plan
   pub fits : need_of s.log ready.plan ≤ room_of s.log
   pub copy : ready.copy ≡ ready.plan.ops

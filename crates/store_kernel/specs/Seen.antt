@@ -48,14 +48,14 @@ pub record IsUnused (m : meta.Meta) : Type 0 where
   pub none_begun : m.begun ≡ None
 
 -- the state, of the kernel's fields
-abbrev pub state_of : meta.Meta → Rows → Option Context → Option OpenBatch → Option Flying → Option Ticket → ℕ → Space
+abbrev pub state_of : meta.Meta → Rows → Option Context → Option OpenBatch → List Flying → Option Ticket → ℕ → Space
     → List Entry → List Commit → ℕ → State
 state_of m view pending batch flying down events space entries commits acked = record {
   log = log_of m;
   view = view;
   pending = listed pending;
   batch = option_map batch_of batch;
-  flying = listed flying;
+  flying = flying;
   down = down;
   events = events;
   space = space;

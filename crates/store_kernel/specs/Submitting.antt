@@ -3,7 +3,7 @@ use Rattle.std.specs.Prelude.{◌≡◌, ℕ}
 use Rattle.object_model.specs.Effect.{Change}
 use Rattle.object_model.specs.declared.command.Answer.TheVariants as answer
 use Rattle.store_steps.specs.State.{State}
-use Rattle.store_steps.specs.Submit.{IsCause, Refuses}
+use Rattle.store_steps.specs.Submit.{IsCause, Refuses, IsDownBy, IsBookFull}
 use Rattle.store_kernel.specs.declared.refused.Cause.{Cause}
 use Rattle.store_kernel.specs.declared.refused.Cause.TheVariants as cause
 use Rattle.store_kernel.specs.declared.refused.Refused.{Refused}
@@ -16,8 +16,11 @@ IsCauseOf (cause.NoSpace need free) change s = IsCause (answer.NoSpace need free
 IsCauseOf (cause.MetaFull need room) change s = IsCause (answer.MetaFull need room) change s
 IsCauseOf cause.Memory change s = Unit {0}
 
--- The book has an entry with the answer; for want of memory nothing changes, and the transaction comes back.
+-- The book has an entry with the answer. Where the kernel is down, its book is full, or memory runs out, nothing changes, and the transaction
+-- comes back.
 abbrev pub RefusesBy : Refused → ℕ → ℕ → Change → State → State → Type 0
+RefusesBy (refused.Down ticket back) client line change s s' = IsDownBy ticket s × (s' ≡ s) × (back ≡ change)
+RefusesBy (refused.BookFull back) client line change s s' = IsBookFull s × (s' ≡ s) × (back ≡ change)
 RefusesBy (refused.Refusal refusal) client line change s s' = Refuses client line change (answer.Refused refusal) s s'
 RefusesBy (refused.NoSpace need free) client line change s s' = Refuses client line change (answer.NoSpace need free) s s'
 RefusesBy (refused.MetaFull need room) client line change s s' = Refuses client line change (answer.MetaFull need room) s s'

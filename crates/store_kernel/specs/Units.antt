@@ -1,7 +1,7 @@
 -- Units that can be taken and given back.
-use Rattle.std.specs.Prelude.{◌≡◌, ℕ, ◌+◌, ◌<◌, ◌^◌, true, false, List}
+use Rattle.std.specs.Prelude.{◌≡◌, ℕ, ◌+◌, ◌<◌, ◌^◌, true, false, List, ◌∷◌, ◌++◌}
 use Rattle.std.specs.List.{AllByRecursion}
-use Rattle.unit_allocator.specs.Units.{Space, IsWithin, is_free}
+use Rattle.unit_allocator.specs.Units.{Space, IsWithin, is_free, given}
 
 -- a free unit of the space
 pub record IsFreeUnit (space : Space) (unit : ℕ) : Type 0 where
@@ -17,5 +17,6 @@ pub record IsTakenUnit (space : Space) (unit : ℕ) : Type 0 where
 abbrev pub CanBeTaken : List ℕ → Space → Type 0
 CanBeTaken units space = AllByRecursion (IsFreeUnit space) units
 
+-- one after the other: each isn't free when its turn comes, once those before it were given
 abbrev pub CanBeGiven : List ℕ → Space → Type 0
-CanBeGiven units space = AllByRecursion (IsTakenUnit space) units
+CanBeGiven units space = (front rest : List ℕ) (unit : ℕ) → units ≡ front ++ (unit ∷ rest) → IsTakenUnit (given space front) unit

@@ -42,7 +42,7 @@ const STEPS: [Step; 9] = [
 
 /// A store at work on its device: committed and submitted rows, what is under way, free units, and the book of the mount.
 ///
-/// One transaction is under way at a time, and one submission in flight.
+/// One transaction is under way at a time: the writes of its data, and then those of its record, are in flight together.
 pub struct Kernel<D: Device> {
     device: D,
     // the committed rows, and the log
@@ -52,7 +52,8 @@ pub struct Kernel<D: Device> {
     // accepted, and in no batch
     pending: Option<Context>,
     batch: Option<OpenBatch>,
-    flying: Option<Flying>,
+    // in the order of the device's flights
+    flying: Vec<Flying>,
     // the first submission that ended badly
     down: Option<Ticket>,
     // submissions and ends since the mount began
@@ -76,11 +77,11 @@ impl<D: Device> Model for Kernel<D> {
 
     ghost view = { λ k. record {
       device = k.device;
-      state = state_of k.meta k.view.rows k.pending k.batch k.flying k.down k.events k.space k.entries.items k.commits.items k.acked;
+      state = state_of k.meta k.view.rows k.pending k.batch k.flying.items k.down k.events k.space k.entries.items k.commits.items k.acked;
     } };
 
     ghost invariant = { λ k. KnownOfKernel
-        (state_of k.meta k.view.rows k.pending k.batch k.flying k.down k.events k.space k.entries.items k.commits.items k.acked) (D.disk k.device) };
+        (state_of k.meta k.view.rows k.pending k.batch k.flying.items k.down k.events k.space k.entries.items k.commits.items k.acked) (D.disk k.device) };
 }
 
 // Tests let a kernel go at any moment; a mounted one is closed.
@@ -129,7 +130,7 @@ impl<D: Device> Kernel<D> {
             view,
             pending: None,
             batch: None,
-            flying: None,
+            flying: Vec::new(alloc),
             down: None,
             events,
             space,
@@ -216,10 +217,7 @@ impl<D: Device> Kernel<D> {
     fn has_room(&self) -> bool
         ensures { result ≡ nat_lt (length self.now.state.flying) (D.disk self.now.device).depth }
     {
-        match self.flying {
-            Some(_) => 1 < self.device.depth(),
-            None => 0 < self.device.depth(),
-        }
+        self.flying.len() < self.device.depth() as usize
     }
 
     // Whether a step is ready where the kernel isn't down.
@@ -228,7 +226,7 @@ impl<D: Device> Kernel<D> {
     {
         match step {
             Step::Data => has_unsent(&self.pending) && self.has_room(),
-            Step::Reap => self.flying.is_some(),
+            Step::Reap => !self.flying.is_empty(),
             Step::Take => self.batch.is_none() && has_done(&self.pending),
             Step::Flush => self.first_not_sent() && self.has_room(),
             Step::Seal => self.batch.is_some() && self.meta.is_idle(),
@@ -244,7 +242,7 @@ impl<D: Device> Kernel<D> {
         ensures { result ≡ is_ready step (D.disk self.now.device).depth self.now.state }
     {
         match self.down {
-            Some(_) => step == Step::Reap && self.flying.is_some(),
+            Some(_) => step == Step::Reap && !self.flying.is_empty(),
             None => self.ready_up(step),
         }
     }

@@ -2,14 +2,14 @@
 //! acknowledged. Who calls it chooses the step; each step does one thing, and says what.
 //!
 //! It stands in the place of the transaction state machine of Ceph's BlueStore (`_txc_state_proc` and the threads behind it).
-//! For now it has one transaction under way at a time.
+//! For now it has one transaction under way at a time, with several submissions of it in flight.
 #![tactic(auto)]
 
 mod batch;
 mod ends;
+mod flights;
 mod kernel;
 mod pending;
-mod plan;
 mod prepared;
 mod refused;
 mod space;

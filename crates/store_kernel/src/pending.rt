@@ -1,19 +1,24 @@
 //! The context that is in no batch.
-ghost use Rattle.std.specs.Prelude.{◌≡◌, ◌+◌, ◌<◌, ◌^◌, Some, is_some, true, IfOk, IfSome};
+ghost use Rattle.std.specs.Prelude.{◌≡◌, ◌+◌, ◌<◌, ◌≤◌, ◌^◌, is_some, true, length, IfOk, IfSome};
 ghost use Rattle.std.specs.Option.{option_map};
-ghost use Rattle.store_steps.specs.Contexts.{next_unsent, chosen, given_more, done_more};
+ghost use Rattle.store_steps.specs.Contexts.{run_bytes, next_unsent, chosen, given_more, done_more};
 ghost use Rattle.store_kernel.specs.Seen.{listed};
+ghost use Rattle.store_kernel.specs.Runs.{IsRunOf, IsWriteOf};
 
 use std::alloc::{AllocError, Global};
-use store_steps::Context;
+use store_steps::{Context, FreshUnit};
 use unit_fields::UnitNo;
+use unit_fields::limits::{PIECE_UNITS, UNIT_BYTES};
 
 /// A data write that is submitted next.
 pub struct NextWrite {
     /// Whose it is, by the place of its entry in the book.
     pub place: u32,
+    /// The first of its units, which stand one behind the other.
     pub unit: UnitNo,
-    /// A copy of the context's bytes.
+    /// How many they are: 1 to 64.
+    pub count: u32,
+    /// A copy of the context's bytes for them.
     pub bytes: Vec<u8>,
 }
 
@@ -37,44 +42,69 @@ pub fn has_done(pending: &Option<Context>) -> bool
     }
 }
 
+// How many of these fresh units one write takes: the first and those that stand right behind it, at most 64.
+fn run_length(fresh: &[FreshUnit]) -> usize
+    ensures run { IsRunOf fresh.now result }
+    ensures few { result ≤ 64 }
+    ensures within { result ≤ length fresh.now }
+{
+    for (i, next) in fresh.iter().enumerate() {
+        let wanted = u64::from(fresh[0].unit.number()) + i as u64;
+        if i == PIECE_UNITS as usize || u64::from(next.unit.number()) != wanted {
+            return i;
+        }
+    }
+    fresh.len()
+}
+
+// The bytes of fresh units, one unit's behind the other's.
+fn bytes_of(alloc: Global, fresh: &[FreshUnit]) -> Result<Vec<u8>, AllocError>
+    requires { length fresh.now ≤ 64 }
+    ensures { IfOk result (λ bytes. bytes.items ≡ run_bytes fresh.now) }
+{
+    let mut bytes = Vec::with_capacity(alloc, fresh.len() * UNIT_BYTES)?;
+    for next in fresh {
+        bytes.extend_from_slice(next.bytes.as_slice())?;
+    }
+    Ok(bytes)
+}
+
 /// The data write that is submitted next.
 pub fn next_write(alloc: Global, pending: &Option<Context>) -> Result<NextWrite, AllocError>
     requires { is_some (next_unsent (listed pending.now)) ≡ true }
-    ensures { IfOk result (λ w. next_unsent (listed pending.now)
-        ≡ Some (record { place = w.place; fresh = record { unit = w.unit; bytes = w.bytes.items } })) }
+    ensures { IfOk result (IsWriteOf (listed pending.now)) }
 {
-    match pending {
-        Some(context) => {
-            let fresh = &context.fresh.as_slice()[context.given as usize];
-            let bytes = Vec::from_slice(alloc, fresh.bytes.as_slice())?;
-            Ok(NextWrite {
-                place: context.place,
-                unit: fresh.unit,
-                bytes,
-            })
-        }
-        None => unreachable!(),
-    }
+    let Some(context) = pending else {
+        unreachable!();
+    };
+    let left = &context.fresh.as_slice()[context.given as usize..];
+    let run = &left[..run_length(left)];
+    Ok(NextWrite {
+        place: context.place,
+        unit: run[0].unit,
+        count: run.len() as u32,
+        bytes: bytes_of(alloc, run)?,
+    })
 }
 
-/// One more data write was submitted.
-pub fn count_given(pending: &mut Option<Context>)
-    requires { IfSome pending.old (λ x. x.given + 1 < 2 ^ 32) }
-    ensures { pending.new ≡ option_map given_more pending.old }
+/// So many more units were given to the device.
+pub fn count_given(pending: &mut Option<Context>, count: u32)
+    requires { IfSome pending.old (λ x. x.given + count < 2 ^ 32) }
+    ensures { pending.new ≡ option_map (given_more count) pending.old }
 {
     match pending {
-        Some(context) => context.given += 1,
+        Some(context) => context.given += count,
         None => {}
     }
 }
 
-/// One more data write has ended well.
-pub fn count_done(pending: &mut Option<Context>)
-    requires { IfSome pending.old (λ x. x.done + 1 < 2 ^ 32) }
-    ensures { pending.new ≡ option_map done_more pending.old }
+/// So many more units have reached it.
+pub fn count_done(pending: &mut Option<Context>, count: u32)
+    requires { IfSome pending.old (λ x. x.done + count < 2 ^ 32) }
+    ensures { pending.new ≡ option_map (done_more count) pending.old }
 {
     match pending {
-        Some(context) => context.done += 1,
+        Some(context) => context.done += count,
         None => {}
     }
 }

@@ -1,8 +1,10 @@
 //! Why a transaction isn't accepted.
 
+use block_device::Ticket;
 use object_model::{Refusal, Transaction};
 
-/// Why a transaction was not accepted. All but want of memory have an entry in the book.
+/// Why a transaction was not accepted. The first three have an entry in the book. With each other nothing was noted, and the
+/// transaction comes back.
 #[derive(Drop)]
 pub enum Refused {
     /// The submitted rows refuse it.
@@ -11,7 +13,11 @@ pub enum Refused {
     NoSpace { need: u32, free: u32 },
     /// Its record takes more units than the log has room for.
     MetaFull { need: u32, room: u32 },
-    /// Memory ran out. Nothing was noted; the transaction comes back.
+    /// The kernel is down, since the submission with this ticket ended badly.
+    Down { ticket: Ticket, back: Transaction },
+    /// The book has as many entries as it may have.
+    BookFull(Transaction),
+    /// Memory ran out.
     Memory(Transaction),
 }
 

@@ -1,5 +1,5 @@
 //! Kernels over devices in memory.
-ghost use Rattle.std.specs.Prelude.{◌≡◌, ℕ, ◌≤◌, ◌*◌, [], ◌∷◌, true, length, replicate, IfOk, IfSome};
+ghost use Rattle.std.specs.Prelude.{◌≡◌, ℕ, ◌<◌, ◌≤◌, ◌*◌, [], ◌∷◌, true, length, replicate, IfOk, IfSome};
 ghost use Rattle.block_device.specs.Memory.{disk_of};
 ghost use Rattle.meta_log.specs.Slots.{IsSuper};
 ghost use Rattle.store_image.specs.Owners.{IsDataUnit};
@@ -21,17 +21,14 @@ use store_steps::Step;
 use unit_allocator::Allocator;
 use unit_fields::{CollName, Name, UnitNo, UnitSet};
 
-// A device of so many units, all of them zeros, on which one flush fails, or none.
-fn device(alloc: Global, units: usize, failing: Option<u64>) -> Result<MemoryDevice, Fail>
-    requires { units ≤ 64 }
+// A device of so many units, all of them zeros, on which these calls fail.
+fn device(alloc: Global, units: usize, failing: &[(Kind, u64)]) -> Result<MemoryDevice, Fail>
+    requires { units ≤ 512 }
     ensures idle { IfOk result (λ d. (disk_of d).flights ≡ []) }
     ensures zeros { IfOk result (λ d. (d.start ≡ replicate (4096 * units) 0) × (d.log ≡ [])) }
 {
     let contents = vec![in alloc; 0u8; 4096 * units]?;
-    let mut fails = Vec::new(alloc);
-    if let Some(number) = failing {
-        fails.push((Kind::Flush, number))?;
-    }
+    let fails = Vec::from_slice(alloc, failing)?;
     Ok(MemoryDevice::new(alloc, contents, Vec::new(alloc), fails)?)
 }
 
@@ -48,8 +45,12 @@ fn all_free(alloc: Global, sup: &Super) -> Result<Allocator, AllocError>
 }
 
 // A kernel over such a device, with halves of 8 units: its data units begin at 18.
-fn kernel(alloc: Global, units: usize, failing: Option<u64>) -> Result<Kernel<MemoryDevice>, Fail>
-    requires { units ≤ 64 }
+fn kernel(
+    alloc: Global,
+    units: usize,
+    failing: &[(Kind, u64)],
+) -> Result<Kernel<MemoryDevice>, Fail>
+    requires { units ≤ 512 }
 {
     let device = device(alloc, units, failing)?;
     let units = device.units();
@@ -86,23 +87,51 @@ fn mkcoll(alloc: Global, seed: u32) -> Result<Transaction, Fail>
     one(alloc, CollName::new(alloc, 1, seed)?, Op::MkColl)
 }
 
-// A page of an object with a name of one byte.
-fn page(alloc: Global, seed: u32, name: u8) -> Result<Transaction, Fail>
+// The name of an object, of one byte.
+fn object(alloc: Global, name: u8) -> Result<Name, Fail> {
+    match Name::read(alloc, [name].as_slice())? {
+        Some(object) => Ok(object),
+        None => Err("no name".into()),
+    }
+}
+
+fn touch(alloc: Global, name: u8) -> Result<Transaction, Fail>
     ensures { IfOk result (λ t. IsKnown t.ops) }
 {
-    let Some(object) = Name::read(alloc, [name].as_slice())? else {
-        return Err("no name".into());
-    };
-    let bytes = Bytes::from_vec(vec![in alloc; name; 4096]?);
+    let object = object(alloc, name)?;
+    one(alloc, CollName::new(alloc, 1, 0)?, Op::Touch { object })
+}
+
+// So many pages of an object from the first one on.
+fn pages(alloc: Global, name: u8, first: u16, count: u16) -> Result<Transaction, Fail>
+    requires { 0 < count }
+    ensures { IfOk result (λ t. IsKnown t.ops) }
+{
+    let object = object(alloc, name)?;
+    let off = 4096 * u64::from(first);
+    let bytes = Bytes::from_vec(vec![in alloc; name; 4096 * usize::from(count)]?);
     one(
         alloc,
-        CollName::new(alloc, 1, seed)?,
-        Op::Write {
-            object,
-            off: 0,
-            bytes,
-        },
+        CollName::new(alloc, 1, 0)?,
+        Op::Write { object, off, bytes },
     )
+}
+
+// The same, or, where no pages are asked for, the object is made.
+fn change(alloc: Global, name: u8, first: u16, count: u16) -> Result<Transaction, Fail>
+    ensures { IfOk result (λ t. IsKnown t.ops) }
+{
+    if count == 0 {
+        return touch(alloc, name);
+    }
+    pages(alloc, name, first, count)
+}
+
+// Page 0 of an object.
+fn page(alloc: Global, name: u8) -> Result<Transaction, Fail>
+    ensures { IfOk result (λ t. IsKnown t.ops) }
+{
+    pages(alloc, name, 0, 1)
 }
 
 // What a transaction is answered, in a word and two numbers.
@@ -113,16 +142,21 @@ fn ask(
 ) -> Result<(&'static str, u32, u32), Fail>
     requires { IsKnown txn.ops }
 {
-    if kernel.down().is_some() || !kernel.drained() || kernel.entries().len() >= 1048576 {
+    if kernel.down().is_none() && !kernel.drained() {
         return Err("not idle".into());
     }
     Ok(match kernel.submit(alloc, 0, 1, txn) {
         Ok(place) => ("accepted", place, 0),
         Err(Refused::Refusal(Refusal::NoCollection)) => ("no collection", 0, 0),
         Err(Refused::Refusal(Refusal::CollectionExists)) => ("collection exists", 0, 0),
+        Err(Refused::Refusal(Refusal::TooBig)) => ("too big", 0, 0),
         Err(Refused::Refusal(_)) => ("refused", 0, 0),
         Err(Refused::NoSpace { need, free }) => ("no space", need, free),
         Err(Refused::MetaFull { need, room }) => ("log full", need, room),
+        Err(Refused::Down { ticket, back: _ }) => {
+            ("down", u32::try_from(ticket.place).unwrap_or(0), 0)
+        }
+        Err(Refused::BookFull(_)) => ("book full", 0, 0),
         Err(Refused::Memory(_)) => ("no memory", 0, 0),
     })
 }
@@ -152,7 +186,7 @@ fn first_ready(kernel: &Kernel<MemoryDevice>) -> Option<Step>
 // Does the first ready step until none is ready, and lists what was done.
 fn run(alloc: Global, kernel: &mut Kernel<MemoryDevice>) -> Result<Vec<Step>, Fail> {
     let mut done = Vec::new(alloc);
-    for _ in 0..20u32 {
+    for _ in 0..40u32 {
         let Some(step) = first_ready(kernel) else {
             break;
         };
@@ -181,7 +215,7 @@ const BATCH: [Step; 10] = [
 #[test]
 fn a_collection_and_a_page(rt: HostRuntime) -> Result<(), Fail> {
     let alloc = rt.alloc();
-    let mut kernel = kernel(alloc, 20, None)?;
+    let mut kernel = kernel(alloc, 20, &[])?;
     assert_eq!(rt;
         ask(alloc, &mut kernel, mkcoll(alloc, 0)?)?,
         ("accepted", 0, 0)
@@ -190,7 +224,7 @@ fn a_collection_and_a_page(rt: HostRuntime) -> Result<(), Fail> {
     assert_eq!(rt; run(alloc, &mut kernel)?.as_slice(), BATCH.as_slice());
     assert!(rt; kernel.drained() && kernel.acked(0) && kernel.free_units() == 2);
     assert_eq!(rt;
-        ask(alloc, &mut kernel, page(alloc, 0, b'a')?)?,
+        ask(alloc, &mut kernel, page(alloc, b'a')?)?,
         ("accepted", 1, 0)
     );
     let done = run(alloc, &mut kernel)?;
@@ -206,9 +240,9 @@ fn a_collection_and_a_page(rt: HostRuntime) -> Result<(), Fail> {
 #[test]
 fn refusals(rt: HostRuntime) -> Result<(), Fail> {
     let alloc = rt.alloc();
-    let mut kernel = kernel(alloc, 19, None)?;
+    let mut kernel = kernel(alloc, 19, &[])?;
     assert_eq!(rt;
-        ask(alloc, &mut kernel, page(alloc, 0, b'a')?)?,
+        ask(alloc, &mut kernel, page(alloc, b'a')?)?,
         ("no collection", 0, 0)
     );
     for (name, answer) in [
@@ -219,7 +253,7 @@ fn refusals(rt: HostRuntime) -> Result<(), Fail> {
         let txn = if name == b'-' {
             mkcoll(alloc, 0)?
         } else {
-            page(alloc, 0, name)?
+            page(alloc, name)?
         };
         assert_eq!(rt; ask(alloc, &mut kernel, txn)?, answer);
         let _ = run(alloc, &mut kernel)?;
@@ -247,7 +281,7 @@ fn refusals(rt: HostRuntime) -> Result<(), Fail> {
 fn a_flush_that_fails(rt: HostRuntime) -> Result<(), Fail> {
     let alloc = rt.alloc();
     for (number, steps) in [(0, 3), (1, 8)] {
-        let mut kernel = kernel(alloc, 20, Some(number))?;
+        let mut kernel = kernel(alloc, 20, &[(Kind::Flush, number)])?;
         assert_eq!(rt;
             ask(alloc, &mut kernel, mkcoll(alloc, 0)?)?,
             ("accepted", 0, 0)
@@ -258,5 +292,89 @@ fn a_flush_that_fails(rt: HostRuntime) -> Result<(), Fail> {
         );
         assert!(rt; kernel.down().is_some() && kernel.drained() && !kernel.acked(0));
     }
+    Ok(())
+}
+
+// So many data steps stand at the front, and as many reaps behind them.
+fn begins_with(done: &[Step], writes: usize) -> bool {
+    let front = done.iter().take_while(|step| **step == Step::Data).count();
+    let ends = done
+        .iter()
+        .skip(front)
+        .take_while(|step| **step == Step::Reap)
+        .count();
+    front == writes && ends == writes
+}
+
+#[test]
+fn data_go_in_runs(rt: HostRuntime) -> Result<(), Fail> {
+    let alloc = rt.alloc();
+    let mut kernel = kernel(alloc, 18 + 140, &[])?;
+    let _ = ask(alloc, &mut kernel, mkcoll(alloc, 0)?)?;
+    let _ = run(alloc, &mut kernel)?;
+    // Units 18 to 147 are runs of 64, 64 and 2; then unit 148, and 18 to 20 and 149.
+    for (name, first, count, writes) in [
+        (b'a', 0u16, 130u16, 3usize),
+        (b'b', 0, 1, 1),
+        (b'a', 0, 3, 1),
+        (b'c', 5, 4, 2),
+        (b'c', 0, 0, 0),
+    ] {
+        let txn = change(alloc, name, first, count)?;
+        assert_eq!(rt; ask(alloc, &mut kernel, txn)?.0, "accepted");
+        let done = run(alloc, &mut kernel)?;
+        assert!(rt; begins_with(&done, writes), "{writes} writes");
+        assert!(rt; kernel.drained());
+    }
+    assert_eq!(rt; kernel.free_units(), 140 - 130 - 1 - 4);
+    assert_eq!(rt;
+        ask(alloc, &mut kernel, pages(alloc, b'd', 0, 6)?)?,
+        ("no space", 6, 5)
+    );
+    Ok(())
+}
+
+// The limit of a transaction is 256 pages, that of an object 32768.
+#[test]
+fn too_big(rt: HostRuntime) -> Result<(), Fail> {
+    let alloc = rt.alloc();
+    let mut kernel = kernel(alloc, 300, &[])?;
+    assert_eq!(rt; ask(alloc, &mut kernel, mkcoll(alloc, 0)?)?.0, "accepted");
+    let _ = run(alloc, &mut kernel)?;
+    for (first, count, answer) in [
+        (0u16, 257u16, "too big"),
+        (32767, 2, "too big"),
+        (32768, 1, "too big"),
+        (32767, 1, "accepted"),
+    ] {
+        let txn = change(alloc, b'a', first, count)?;
+        assert_eq!(rt; ask(alloc, &mut kernel, txn)?.0, answer);
+        let _ = run(alloc, &mut kernel)?;
+    }
+    Ok(())
+}
+
+// Writes 2 and 3 since the start are the second and the third of the data: the kernel is down by the second.
+#[test]
+fn two_writes_that_fail(rt: HostRuntime) -> Result<(), Fail> {
+    let alloc = rt.alloc();
+    let mut kernel = kernel(alloc, 18 + 140, &[(Kind::Write, 2), (Kind::Write, 3)])?;
+    let _ = ask(alloc, &mut kernel, mkcoll(alloc, 0)?)?;
+    let _ = run(alloc, &mut kernel)?;
+    assert_eq!(rt;
+        ask(alloc, &mut kernel, pages(alloc, b'a', 0, 140)?)?,
+        ("accepted", 1, 0)
+    );
+    assert_eq!(rt; run(alloc, &mut kernel)?.len(), 6);
+    let Some(ticket) = kernel.down() else {
+        return Err("not down".into());
+    };
+    // Six events are those of the collection.
+    assert_eq!(rt; ticket.place, 7);
+    assert_eq!(rt;
+        ask(alloc, &mut kernel, touch(alloc, b'a')?)?,
+        ("down", 7, 0)
+    );
+    assert!(rt; kernel.drained() && kernel.entries().len() == 2 && !kernel.acked(1));
     Ok(())
 }

@@ -8,6 +8,7 @@ ghost use Rattle.store_steps.specs.declared.step.Step.TheVariants as step;
 use super::Kernel;
 use crate::batch::{OpenBatch, set_first, set_second};
 use crate::ends::count_end;
+use crate::flights::{counting, land};
 use crate::pending::{NextWrite, count_given, next_write};
 use crate::space::give_back;
 use crate::step_fail::StepFail;
@@ -28,14 +29,22 @@ impl<D: Device> Kernel<D> {
         let Ok(write) = next_write(alloc, &self.pending) else {
             return Err(StepFail::Memory);
         };
-        let NextWrite { place, unit, bytes } = write;
+        let NextWrite {
+            place,
+            unit,
+            count,
+            bytes,
+        } = write;
+        if self.flying.reserve(1).is_err() {
+            return Err(StepFail::Memory);
+        }
         let Ok(ticket) = self.device.submit_write(unit.number(), bytes) else {
             return Err(StepFail::Memory);
         };
-        count_given(&mut self.pending);
-        self.flying = Some(Flying {
+        count_given(&mut self.pending, count);
+        self.flying.push_reserved(Flying {
             ticket,
-            job: Job::Data(place),
+            job: Job::Data { place, count },
         });
         self.events += 1;
         let _ = self.device.units();
@@ -55,20 +64,15 @@ impl<D: Device> Kernel<D> {
         let Some(done) = ended else {
             return Ok(());
         };
-        let Some(flown) = self.flying.take() else {
-            unreachable!();
-        };
+        let landed = land(&mut self.flying, done.ticket);
         self.events += 1;
         if !done.ok {
-            self.down = Some(done.ticket);
+            self.down = self.down.or(Some(done.ticket));
             return Err(StepFail::Fault);
         }
-        count_end(
-            flown.job,
-            &mut self.pending,
-            &mut self.batch,
-            &mut self.meta,
-        );
+        if let Some(job) = counting(self.down, landed) {
+            count_end(job, &mut self.pending, &mut self.batch, &mut self.meta);
+        }
         Ok(())
     }
 
@@ -104,11 +108,14 @@ impl<D: Device> Kernel<D> {
             × (D.disk self.new.device ≡ D.disk self.old.device)) }
         ensures faults { D.faults self.new.device ≡ D.faults self.old.device }
     {
+        if self.flying.reserve(1).is_err() {
+            return Err(StepFail::Memory);
+        }
         let Ok(ticket) = self.device.submit_flush() else {
             return Err(StepFail::Memory);
         };
         set_first(&mut self.batch, FlushState::Sent(ticket));
-        self.flying = Some(Flying {
+        self.flying.push_reserved(Flying {
             ticket,
             job: Job::DataFlush,
         });
@@ -151,11 +158,14 @@ impl<D: Device> Kernel<D> {
             unreachable!();
         };
         let (unit, bytes) = piece;
+        if self.flying.reserve(1).is_err() {
+            return Err(StepFail::Memory);
+        }
         let Ok(ticket) = self.device.submit_write(unit.number(), bytes) else {
             return Err(StepFail::Memory);
         };
         self.meta.gave();
-        self.flying = Some(Flying {
+        self.flying.push_reserved(Flying {
             ticket,
             job: Job::Record,
         });
@@ -171,11 +181,14 @@ impl<D: Device> Kernel<D> {
             × (D.disk self.new.device ≡ D.disk self.old.device)) }
         ensures faults { D.faults self.new.device ≡ D.faults self.old.device }
     {
+        if self.flying.reserve(1).is_err() {
+            return Err(StepFail::Memory);
+        }
         let Ok(ticket) = self.device.submit_flush() else {
             return Err(StepFail::Memory);
         };
         set_second(&mut self.batch, FlushState::Sent(ticket));
-        self.flying = Some(Flying {
+        self.flying.push_reserved(Flying {
             ticket,
             job: Job::RecordFlush,
         });

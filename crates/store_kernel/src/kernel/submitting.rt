@@ -1,13 +1,13 @@
 //! Submitting a transaction: it is accepted, or refused for a cause.
-ghost use Rattle.std.specs.Prelude.{◌≡◌, length, OnOk, OnErr, IfOk, IfErr};
-ghost use Rattle.store_steps.specs.Submit.{IsCause, Accepts, Refuses};
+ghost use Rattle.std.specs.Prelude.{◌≡◌, ◌<◌, ◌^◌, length, OnOk, OnErr, IfOk, IfErr};
+ghost use Rattle.meta_rows.specs.Spelling.{ops_bytes, AllFit};
+ghost use Rattle.store_steps.specs.Submit.{IsCause, CanNote, Accepts, Refuses};
 ghost use Rattle.store_steps.specs.Runs.{MaySubmit};
-ghost use Rattle.store_kernel.specs.PlanFails.{IsPlanFor};
+ghost use Rattle.write_planner.specs.PlanFails.{IsPlanFor};
 ghost use Rattle.store_kernel.specs.Prepared.{IsPrepared};
 ghost use Rattle.store_kernel.specs.Submitting.{IsCauseOf, RefusesBy};
 
 use super::Kernel;
-use crate::plan::{PlanFail, plan};
 use crate::prepared::{Prepared, units_needed};
 use crate::refused::{Cause, Refused};
 use crate::space::take_fresh;
@@ -16,11 +16,13 @@ use byte_maps::Duplicate;
 use object_model::{Answer, Command, Entry, Transaction};
 use std::alloc::Global;
 use store_steps::Plan;
+use unit_fields::limits::BOOK_LIMIT;
+use write_planner::{PlanFail, plan};
 
 impl<D: Device> Kernel<D> {
     /// Accepts a transaction, or refuses it for a cause. Either makes an entry of the book, into which the transaction is moved;
-    /// an accepted one is committed by the steps that follow. For now the store knows two: one makes a collection, the other
-    /// writes page 0 of an object, a whole page.
+    /// an accepted one is committed by the steps that follow. A kernel that is down, or whose book is full, turns it away without
+    /// an entry. For now the store knows three: one makes a collection, one makes an object, and one writes whole pages.
     pub fn submit(
         &mut self,
         alloc: Global,
@@ -35,6 +37,12 @@ impl<D: Device> Kernel<D> {
         ensures disk { D.disk self.new.device ≡ D.disk self.old.device }
         ensures faults { D.faults self.new.device ≡ D.faults self.old.device }
     {
+        if let Some(ticket) = self.down {
+            return Err(Refused::Down { ticket, back: txn });
+        }
+        if self.entries.len() >= BOOK_LIMIT as usize {
+            return Err(Refused::BookFull(txn));
+        }
         match self.prepare(alloc, &txn) {
             Ok(ready) => match self.accept(client, line, txn, ready) {
                 Ok(place) => Ok(place),
@@ -46,7 +54,8 @@ impl<D: Device> Kernel<D> {
 
     // The plan of a transaction, and all that accepting it takes memory for but for room in lists.
     fn prepare(&self, alloc: Global, txn: &Transaction) -> Result<Prepared, Cause>
-        requires { MaySubmit txn.now self.now.state (D.disk self.now.device) }
+        requires may { MaySubmit txn.now self.now.state (D.disk self.now.device) }
+        requires can_note { CanNote self.now.state }
         ensures ok { IfOk result (λ ready. IsPrepared ready txn.now self.now.state) }
         ensures err { IfErr result (λ cause. IsCauseOf cause txn.now self.now.state) }
     {
@@ -72,10 +81,13 @@ impl<D: Device> Kernel<D> {
         })
     }
 
-    // The plan over the submitted rows and the free units.
+    // The plan over the submitted rows and the free units. Its operations have a spelling, which is short.
     fn planned(&self, alloc: Global, txn: &Transaction) -> Result<Plan, Cause>
-        requires { MaySubmit txn.now self.now.state (D.disk self.now.device) }
-        ensures ok { IfOk result (IsPlanFor txn.now.coll txn.now.ops self.now.state.view self.now.state.space) }
+        requires may { MaySubmit txn.now self.now.state (D.disk self.now.device) }
+        requires can_note { CanNote self.now.state }
+        ensures ok { IfOk result (IsPlanFor txn.now self.now.state.view self.now.state.space) }
+        ensures fit { IfOk result (λ plan. AllFit plan.ops) }
+        ensures short { IfOk result (λ plan. length (ops_bytes plan.ops) < 2 ^ 32) }
         ensures err { IfErr result (λ cause. IsCauseOf cause txn.now self.now.state) }
     {
         match plan(alloc, &self.view, &self.space, txn) {
@@ -95,6 +107,7 @@ impl<D: Device> Kernel<D> {
         ready: Prepared,
     ) -> Result<u32, Transaction>
         requires may { MaySubmit txn self.old.state (D.disk self.old.device) }
+        requires can_note { CanNote self.old.state }
         requires prepared { IsPrepared ready txn self.old.state }
         ensures place { IfOk result (λ place. place ≡ length self.old.state.book.entries) }
         ensures accepted { OnOk result (Accepts client line txn self.old.state self.new.state) }
@@ -130,6 +143,7 @@ impl<D: Device> Kernel<D> {
     // Refuses a transaction.
     fn refuse(&mut self, client: u32, line: u32, txn: Transaction, cause: Cause) -> Refused
         requires may { MaySubmit txn self.old.state (D.disk self.old.device) }
+        requires can_note { CanNote self.old.state }
         requires cause { IsCauseOf cause txn self.old.state }
         ensures refused { RefusesBy result client line txn self.old.state self.new.state }
         ensures disk { D.disk self.new.device ≡ D.disk self.old.device }
@@ -167,6 +181,7 @@ impl<D: Device> Kernel<D> {
         answer: Answer,
     ) -> Result<(), Transaction>
         requires may { MaySubmit txn self.old.state (D.disk self.old.device) }
+        requires can_note { CanNote self.old.state }
         requires cause { IsCause answer txn self.old.state }
         ensures ok { OnOk result (Refuses client line txn answer self.old.state self.new.state) }
         ensures err { OnErr result (self.new.state ≡ self.old.state) }

@@ -21,19 +21,12 @@ release-requires g c =
     let batch : k.batch ≡ Some c.in-Some.open = sym c.take.ensures.value ∙ c.in-Some.is in
     rw c.flushed.ensures (can_release _ _ k.meta c.in-Some.open c.self.invariant.kept ready (ap (option_map batch_of) batch) refl)
 
-pub give_back-requires-clause-few : goal.give_back-requires-clause-few
-give_back-requires-clause-few g c =
+pub give_back-requires : goal.give_back-requires
+give_back-requires g c =
     let k = c.self.inside in
     let ready = rw (← c.self.view_is) at c.requires in
     let batch : k.batch ≡ Some c.in-Some.open = sym c.take.ensures.value ∙ c.in-Some.is in
-    rw c.as_slice.ensures (come_back _ _ c.in-Some.open c.self.invariant.kept ready (ap (option_map batch_of) batch)).0
-
-pub give_back-requires-clause-taken : goal.give_back-requires-clause-taken
-give_back-requires-clause-taken g c =
-    let k = c.self.inside in
-    let ready = rw (← c.self.view_is) at c.requires in
-    let batch : k.batch ≡ Some c.in-Some.open = sym c.take.ensures.value ∙ c.in-Some.is in
-    rw c.as_slice.ensures (come_back _ _ c.in-Some.open c.self.invariant.kept ready (ap (option_map batch_of) batch)).1
+    rw c.as_slice.ensures (come_back _ _ c.in-Some.open c.self.invariant.kept ready (ap (option_map batch_of) batch))
 
 pub invariant_of-self : goal.invariant_of-self
 invariant_of-self g c =

@@ -1,14 +1,6 @@
 use Rattle.std.proofs.Common.{◌∙◌}
-use Rattle.store_kernel.proofs.Admitting.{ops_fit, ops_short, same_room, enough}
+use Rattle.store_kernel.proofs.Admitting.{same_room, enough}
 use Rattle.store_kernel.proofs.kernel.Kernel.prepare.Goals as goal
-
-pub units_needed-requires-clause-fit : goal.units_needed-requires-clause-fit
-units_needed-requires-clause-fit g c =
-    rw c.as_slice.ensures (ops_fit c.args.txn.now c.args.self.now.state c.in_ok-plan.plan c.requires.known c.in_ok-plan.ensures.ok)
-
-pub units_needed-requires-clause-short : goal.units_needed-requires-clause-short
-units_needed-requires-clause-short g c =
-    rw c.as_slice.ensures (ops_short c.args.txn.now c.args.self.now.state c.in_ok-plan.plan c.requires.known c.in_ok-plan.ensures.ok)
 
 pub returns-then-room-need-clause-err : goal.returns-then-room-need-clause-err
 returns-then-room-need-clause-err g c =

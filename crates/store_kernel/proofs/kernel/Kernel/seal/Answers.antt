@@ -29,10 +29,10 @@ invariant_of-self-2 g c =
     let ready = rw (← c.self.view_is) at c.requires in
     let ops : c.in-Ok.sealed.ops ≡ c.in-Some.open.context.ops = ap (λ (w : Sealed). w.ops) c.in-Ok.ensures ∙ c.as_slice.ensures in
     rw (c.in-Ok-begin.ensures.ok, ops)
-    (known_step Seal _ _ _ _ c.self.invariant ready (seal_does _ _ c.in-Some.open c.self.invariant.kept ready (ap (option_map batch_of) c.in-Some.is)) c.self.invariant.kept.always.device)
+    (known_step Seal _ _ _ _ c.self.invariant ready (seal_does _ _ c.in-Some.open (ap (option_map batch_of) c.in-Some.is)) c.self.invariant.kept.always.device)
 
 pub returns-clause-ok : goal.returns-clause-ok
 returns-clause-ok g c =
     let ready = rw (← c.self.view_is) at c.requires in
     let ops : c.in-Ok.sealed.ops ≡ c.in-Some.open.context.ops = ap (λ (w : Sealed). w.ops) c.in-Ok.ensures ∙ c.as_slice.ensures in
-    rw (c.in-Ok-begin.ensures.ok, ops, ← c.self.view_is) (seal_does _ _ c.in-Some.open c.self.invariant.kept ready (ap (option_map batch_of) c.in-Some.is))
+    rw (c.in-Ok-begin.ensures.ok, ops, ← c.self.view_is) (seal_does _ _ c.in-Some.open (ap (option_map batch_of) c.in-Some.is))

@@ -1,17 +1,25 @@
 use Rattle.std.proofs.Common.{refl}
 use Rattle.store_steps.specs.declared.step.Step.TheVariants.{Flush}
+use Rattle.store_facts.proofs.Known.{known_flush_room}
 use Rattle.store_kernel.proofs.Keeping.{known_step}
 use Rattle.store_kernel.proofs.Sending.{flush_does}
 use Rattle.store_kernel.proofs.kernel.Kernel.send_flush.Goals as goal
+
+pub submit_flush-requires : goal.submit_flush-requires
+submit_flush-requires g c =
+    let ready = rw (← c.self.view_is) at c.requires in
+    known_flush_room _ _ c.self.invariant.kept ready
 
 pub invariant_of-self-2 : goal.invariant_of-self-2
 invariant_of-self-2 g c =
     let k = c.self.inside in
     let ready = rw (← c.self.view_is) at c.requires in
-    rw c.set_first.ensures (known_step Flush _ _ _ _ c.self.invariant ready (flush_does _ _ _ k.batch c.in-Ok.ticket c.self.invariant.kept ready refl c.in-Ok.ensures.ok) c.units.ensures.sound)
+    rw (c.set_first.ensures, c.push_reserved.ensures.items, c.reserve.ensures.items)
+    (known_step Flush _ _ _ _ c.self.invariant ready (flush_does _ _ _ k.batch c.in-Ok.ticket ready refl c.in-Ok.ensures.ok) c.units.ensures.sound)
 
 pub returns-clause-ok : goal.returns-clause-ok
 returns-clause-ok g c =
     let k = c.self.inside in
     let ready = rw (← c.self.view_is) at c.requires in
-    rw (c.set_first.ensures, ← c.self.view_is) (flush_does _ _ _ k.batch c.in-Ok.ticket c.self.invariant.kept ready refl c.in-Ok.ensures.ok)
+    rw (c.set_first.ensures, c.push_reserved.ensures.items, c.reserve.ensures.items, ← c.self.view_is)
+    (flush_does _ _ _ k.batch c.in-Ok.ticket ready refl c.in-Ok.ensures.ok)

@@ -11,7 +11,7 @@ invariant_of-self-2 g c =
     let ready = rw (← c.self.view_is) at c.requires in
     let pending : k.pending ≡ Some c.in-Some.context = sym c.take.ensures.value ∙ c.in-Some.is in
     rw (c.take.ensures.after, c.push_reserved.ensures.items, c.reserve.ensures.items)
-    (known_step Take _ _ _ _ c.self.invariant ready (take_does _ _ c.in-Some.context c.self.invariant.kept ready (ap listed pending)) c.self.invariant.kept.always.device)
+    (known_step Take _ _ _ _ c.self.invariant ready (take_does _ _ c.in-Some.context ready (ap listed pending)) c.self.invariant.kept.always.device)
 
 pub returns-clause-ok : goal.returns-clause-ok
 returns-clause-ok g c =
@@ -19,4 +19,4 @@ returns-clause-ok g c =
     let ready = rw (← c.self.view_is) at c.requires in
     let pending : k.pending ≡ Some c.in-Some.context = sym c.take.ensures.value ∙ c.in-Some.is in
     rw (c.take.ensures.after, c.push_reserved.ensures.items, c.reserve.ensures.items, ← c.self.view_is)
-    (take_does _ _ c.in-Some.context c.self.invariant.kept ready (ap listed pending))
+    (take_does _ _ c.in-Some.context ready (ap listed pending))

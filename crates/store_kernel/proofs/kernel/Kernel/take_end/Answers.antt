@@ -1,9 +1,8 @@
-use Rattle.std.proofs.Common.{◌≡◌, refl, ap, ◌∙◌, sym, subst, Some, Bool, inl, inr}
+use Rattle.std.proofs.Common.{refl, sym, subst, Bool, inl, inr, ◌∙◌}
 use Rattle.block_device.specs.Disk.{Reaped}
 use Rattle.store_steps.specs.declared.step.Step.TheVariants.{Reap}
 use Rattle.store_kernel.proofs.Keeping.{known_step}
-use Rattle.store_kernel.specs.Seen.{listed}
-use Rattle.store_kernel.proofs.Ending.{bad_takes, good_takes, is_bad, is_good}
+use Rattle.store_kernel.proofs.Ending.{it_counts, it_counts_not, was_flying, ended_for, can_count_done, piece_out, bad_takes, late_takes, good_takes, is_bad, is_good}
 use Rattle.store_kernel.proofs.kernel.Kernel.take_end.Goals as goal
 
 pub invariant_of-self : goal.invariant_of-self
@@ -16,39 +15,58 @@ invariant_of-self-then-not-done g c =
     let k = c.self.inside in
     let ready = rw (← c.self.view_is) at c.requires in
     let bad = is_bad c.in-Some.done.ok c.if-not-done.true in
-    let one : k.flying ≡ Some c.in-Some-take.flown = sym c.take.ensures.value ∙ c.in-Some-take.is in
     let ended = subst (λ (ok : Bool). Reaped (g.D.Device.disk k.device) c.in-Some.done.ticket.place ok (g.D.Device.disk c.reap-ended.new.self)) bad c.in-Some.ensures.done in
-    rw c.take.ensures.after
-    (known_step Reap _ _ _ _ c.self.invariant ready
-    (inr (bad_takes _ _ _ c.in-Some-take.flown c.in-Some.done.ticket c.self.invariant.kept ready (ap listed one) ended)) c.units.ensures.sound)
+    known_step Reap _ _ _ _ c.self.invariant ready
+    (inr (bad_takes _ _ _ c.in-Some.done.ticket c.land-landed.new.flying.items c.or-self-inside.result c.land-landed.ensures.left c.or-self-inside.ensures ended))
+    c.units.ensures.sound
 
-pub returns-then-not-done-clause-err : goal.returns-then-not-done-clause-err
-returns-then-not-done-clause-err g c =
+pub count_end-requires-clause-few : goal.count_end-requires-clause-few
+count_end-requires-clause-few g c =
     let k = c.self.inside in
-    let ready = rw (← c.self.view_is) at c.requires in
-    let bad = is_bad c.in-Some.done.ok c.if-not-done.true in
-    let one : k.flying ≡ Some c.in-Some-take.flown = sym c.take.ensures.value ∙ c.in-Some-take.is in
-    let ended = subst (λ (ok : Bool). Reaped (g.D.Device.disk k.device) c.in-Some.done.ticket.place ok (g.D.Device.disk c.reap-ended.new.self)) bad c.in-Some.ensures.done in
-    rw (c.take.ensures.after, ← c.self.view_is)
-    (refl, bad_takes _ _ _ c.in-Some-take.flown c.in-Some.done.ticket c.self.invariant.kept ready (ap listed one) ended, c.in-Some.ensures.cause bad)
+    let counts = it_counts k.down c.land-landed.result c.in-Some-counting.job c.in-Some-counting.ensures in
+    can_count_done _ _ _ k.pending c.in-Some.done.ticket c.in-Some-counting.job c.self.invariant.kept counts.0 refl
+    (ended_for _ _ _ c.in-Some.done.ticket c.in-Some.done.ok c.in-Some-counting.job c.self.invariant.kept c.in-Some.ensures.done
+    (sym c.land-landed.ensures.job ∙ counts.1))
 
-pub invariant_of-self-2 : goal.invariant_of-self-2
-invariant_of-self-2 g c =
+pub count_end-requires-clause-out : goal.count_end-requires-clause-out
+count_end-requires-clause-out g c =
+    let k = c.self.inside in
+    let counts = it_counts k.down c.land-landed.result c.in-Some-counting.job c.in-Some-counting.ensures in
+    piece_out _ _ _ k.meta c.in-Some.done.ticket c.in-Some-counting.job c.self.invariant.kept counts.0 refl
+    (ended_for _ _ _ c.in-Some.done.ticket c.in-Some.done.ok c.in-Some-counting.job c.self.invariant.kept c.in-Some.ensures.done
+    (sym c.land-landed.ensures.job ∙ counts.1))
+
+pub invariant_of-self-in-Some-counting : goal.invariant_of-self-in-Some-counting
+invariant_of-self-in-Some-counting g c =
     let k = c.self.inside in
     let ready = rw (← c.self.view_is) at c.requires in
     let good = is_good c.in-Some.done.ok c.if-not-done.false in
-    let one : k.flying ≡ Some c.in-Some-take.flown = sym c.take.ensures.value ∙ c.in-Some-take.is in
     let ended = subst (λ (ok : Bool). Reaped (g.D.Device.disk k.device) c.in-Some.done.ticket.place ok (g.D.Device.disk c.reap-ended.new.self)) good c.in-Some.ensures.done in
-    rw (c.take.ensures.after, c.count_end.ensures.pending, c.count_end.ensures.batch, c.count_end.ensures.meta)
+    let counts = it_counts k.down c.land-landed.result c.in-Some-counting.job c.in-Some-counting.ensures in
+    rw (c.count_end.ensures.pending, c.count_end.ensures.batch, c.count_end.ensures.meta)
     (known_step Reap _ _ _ _ c.self.invariant ready
-    (inl (inl (good_takes _ _ _ c.in-Some-take.flown c.in-Some.done.ticket k.meta k.pending k.batch c.self.invariant.kept ready (ap listed one) refl refl refl ended))) c.units.ensures.sound)
+    (inl (inl (good_takes _ _ _ c.in-Some.done.ticket c.in-Some-counting.job k.meta k.pending k.batch c.land-landed.new.flying.items c.self.invariant.kept
+    counts.0 refl refl refl c.land-landed.ensures.left (sym c.land-landed.ensures.job ∙ counts.1) ended)))
+    c.units.ensures.sound)
 
-pub returns-clause-ok : goal.returns-clause-ok
-returns-clause-ok g c =
+pub invariant_of-self-in_default-counting : goal.invariant_of-self-in_default-counting
+invariant_of-self-in_default-counting g c =
     let k = c.self.inside in
     let ready = rw (← c.self.view_is) at c.requires in
     let good = is_good c.in-Some.done.ok c.if-not-done.false in
-    let one : k.flying ≡ Some c.in-Some-take.flown = sym c.take.ensures.value ∙ c.in-Some-take.is in
     let ended = subst (λ (ok : Bool). Reaped (g.D.Device.disk k.device) c.in-Some.done.ticket.place ok (g.D.Device.disk c.reap-ended.new.self)) good c.in-Some.ensures.done in
-    rw (c.take.ensures.after, c.count_end.ensures.pending, c.count_end.ensures.batch, c.count_end.ensures.meta, ← c.self.view_is)
-    (inl (good_takes _ _ _ c.in-Some-take.flown c.in-Some.done.ticket k.meta k.pending k.batch c.self.invariant.kept ready (ap listed one) refl refl refl ended))
+    let down = it_counts_not k.down c.land-landed.result c.in_default-counting.ensures
+    (λ none. was_flying _ _ _ c.in-Some.done.ticket c.in-Some.done.ok c.self.invariant.kept c.in-Some.ensures.done (sym c.land-landed.ensures.job ∙ none)) in
+    known_step Reap _ _ _ _ c.self.invariant ready
+    (inl (inl (late_takes _ _ _ c.in-Some.done.ticket c.land-landed.new.flying.items c.land-landed.ensures.left down ended)))
+    c.units.ensures.sound
+
+pub returns-in-Some-counting-clause-ok : goal.returns-in-Some-counting-clause-ok
+returns-in-Some-counting-clause-ok g c =
+    let k = c.self.inside in
+    let good = is_good c.in-Some.done.ok c.if-not-done.false in
+    let ended = subst (λ (ok : Bool). Reaped (g.D.Device.disk k.device) c.in-Some.done.ticket.place ok (g.D.Device.disk c.reap-ended.new.self)) good c.in-Some.ensures.done in
+    let counts = it_counts k.down c.land-landed.result c.in-Some-counting.job c.in-Some-counting.ensures in
+    rw (c.count_end.ensures.pending, c.count_end.ensures.batch, c.count_end.ensures.meta, ← c.self.view_is)
+    (inl (good_takes _ _ _ c.in-Some.done.ticket c.in-Some-counting.job k.meta k.pending k.batch c.land-landed.new.flying.items c.self.invariant.kept
+    counts.0 refl refl refl c.land-landed.ensures.left (sym c.land-landed.ensures.job ∙ counts.1) ended))

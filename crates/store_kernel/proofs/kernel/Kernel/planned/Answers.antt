@@ -1,0 +1,14 @@
+use Rattle.store_kernel.proofs.Admitting.{planned_fits}
+use Rattle.store_kernel.proofs.kernel.Kernel.planned.Goals as goal
+
+pub returns-in-Ok-clause-fit : goal.returns-in-Ok-clause-fit
+returns-in-Ok-clause-fit g c =
+    let can = rw (← c.self.view_is) at c.requires.can_note in
+    (planned_fits _ (g.D.Device.disk c.self.inside.device) c.args.txn.now c.in-Ok.plan c.self.invariant.kept can
+    c.requires.may.known c.in-Ok.ensures.ok).fit
+
+pub returns-in-Ok-clause-short : goal.returns-in-Ok-clause-short
+returns-in-Ok-clause-short g c =
+    let can = rw (← c.self.view_is) at c.requires.can_note in
+    (planned_fits _ (g.D.Device.disk c.self.inside.device) c.args.txn.now c.in-Ok.plan c.self.invariant.kept can
+    c.requires.may.known c.in-Ok.ensures.ok).short

@@ -20,6 +20,7 @@ use Rattle.meta_log.specs.Slots.{IsSuper, active_unit}
 use Rattle.meta_log.specs.Records.{active_half, AreRowsOf}
 use Rattle.meta_log.specs.Scanning.{units_of_records}
 use Rattle.meta_log.proofs.SlotLemmas.{same_active}
+use Rattle.store_image.specs.BadRows.{NoBadRow}
 use Rattle.store_image.specs.Owners.{IsOwned}
 use Rattle.store_image.specs.Stands.{ObjectsStand, StandsFor}
 use Rattle.store_image.specs.Durability.{LeavesPrefix, EachCutStands}
@@ -35,8 +36,7 @@ use Rattle.log_facts.proofs.Mounting.{fresh_slots}
 use Rattle.log_facts.proofs.Reading.{half_inside}
 use Rattle.log_facts.proofs.Found.{found_records, records_push, objects_left, cleared_half}
 use Rattle.store_steps.specs.Opened.{Found}
-use Rattle.store_facts.specs.Space.{AreGoodRows}
-use Rattle.store_facts.proofs.RowsCommitted.{owned_is_data}
+use Rattle.store_facts.proofs.RowsPages.{owned_on_data}
 use Rattle.crash_facts.specs.Store.{IsMounted}
 use Rattle.mount_replay.specs.Cleared.{IsAllClean}
 use Rattle.mount_replay.specs.Zeroing.{IsZeroing}
@@ -56,7 +56,7 @@ pub record StoreStands (f : Found) (recs : List (List RowOp)) (objects : Objects
   pub whole_now : IsUnits f.sup.units (last h.start h.log)
   pub slots : SlotsStand h f.sup
   pub records : RecordsStand h f.sup f.rows f.tail f.number recs
-  pub good : AreGoodRows f.sup f.rows
+  pub good : NoBadRow f.sup f.rows
   pub sound : SoundFor h f.sup f.rows objects
 
 module _ (f : Found) (recs : List (List RowOp)) (objects : Objects) where
@@ -89,7 +89,7 @@ module _ (f : Found) (recs : List (List RowOp)) (objects : Objects) where
 
   spares_owned : (h : History) → StoreStands f recs objects h → (event : Event) → Zeroes event → (unit : ℕ) → IsOwned f.rows unit → ¬ WritesUnit unit event
   spares_owned h stands (Write at bytes) is unit owned covers =
-      half_spares_data f.sup at unit bytes (omega (arith, is.3, ap length is.1 ∙ length-zeros (4096 * is.0))) (owned_is_data f.sup f.rows unit stands.good owned).0 covers
+      half_spares_data f.sup at unit bytes (omega (arith, is.3, ap length is.1 ∙ length-zeros (4096 * is.0))) (owned_on_data f.sup f.rows unit stands.good owned).0 covers
   spares_owned h stands Flush is unit owned covers = covers
   spares_owned h stands (Done ticket ok) is unit owned covers = covers
 
@@ -223,7 +223,7 @@ still_durable units h objects whole whole_now clean stands =
 -- ---- where nothing was dirty, and the contents stood for the objects
 
 module _ (f : Found) (h : History) (objects : Objects) (clean : IsAllClean h) (whole : IsUnits f.sup.units h.start) (whole_now : IsUnits f.sup.units (last h.start h.log))
-    (limits : IsSuper f.sup) (good : AreGoodRows f.sup f.rows) (found : IsFoundIn (last h.start h.log) f) (stands : StandsFor (last h.start h.log) objects) where
+    (limits : IsSuper f.sup) (good : NoBadRow f.sup f.rows) (found : IsFoundIn (last h.start h.log) f) (stands : StandsFor (last h.start h.log) objects) where
   contents : List ℕ
   contents = last h.start h.log
 
@@ -254,7 +254,7 @@ module _ (f : Found) (h : History) (objects : Objects) (clean : IsAllClean h) (w
     slots = fresh_slots h f.sup clean found.active;
     records = records_found;
     good = good;
-    sound = record { good = good.good; stand = objects_found; clean = λ unit owned. clean unit };
+    sound = record { good = good; stand = objects_found; clean = λ unit owned. clean unit };
   }
 
   after_none : After f found.replay.records objects (length h.log) h

@@ -9,5 +9,6 @@ pub mod OpeningLemmas
 pub mod ReplayLemmas
 pub mod DurableLemmas
 pub mod MountingLemmas
+pub mod HoldLemmas
 pub mod JudgeLemmas
 pub mod MountLemmas

@@ -1,6 +1,6 @@
 -- Steps that take the ends of what is in flight, one after another.
 use Rattle.std.proofs.Common.{◌≡◌, ◌≢◌, inl, inr, ℕ, ◌+◌, ◌-◌, ◌*◌, ◌<◌, Bool, true, false, List, [], ◌∷◌, ◌++◌, length, Option, None, Some}
-use Rattle.std.proofs.Common.{refl, sym, ap, subst, ◌∙◌, arith}
+use Rattle.std.proofs.Common.{cond, is_some, refl, sym, ap, subst, ◌∙◌, arith}
 use Rattle.std.proofs.lemmas.List.Elements.{All-push, All-from_recursion}
 use Rattle.block_device.specs.declared.device.Ticket.{Ticket}
 use Rattle.block_device.specs.declared.event.Event.{Event}
@@ -34,7 +34,7 @@ run_more (c ∷ calls) call s d t e t' e' run step sound =
 -- ---- what one step keeps
 
 done_book : (j : Job) (s : State) → (after_done j s).book ≡ s.book
-done_book (job.Data place) s = refl
+done_book (job.Data place count) s = refl
 done_book job.DataFlush s = refl
 done_book job.Record s = refl
 done_book job.RecordFlush s = refl
@@ -44,8 +44,12 @@ good_book None s = refl
 good_book (Some f) s = done_book f.job s
 
 reaped_book : (ticket : Ticket) (ok : Bool) (s : State) → (reaped ticket ok s).book ≡ s.book
-reaped_book ticket true s = good_book (flying_of ticket s.flying) (landed ticket s)
 reaped_book ticket false s = refl
+reaped_book ticket true s = by_test (is_some s.down)
+  where
+    by_test : (b : Bool) → (cond b (landed ticket s) (after_good (flying_of ticket s.flying) (landed ticket s))).book ≡ s.book
+    by_test true = refl
+    by_test false = good_book (flying_of ticket s.flying) (landed ticket s)
 
 -- the history with one more event goes on
 told_grown : (o : Option History) (event : Event) → Told GoesOn o (grown o event)

@@ -1,5 +1,5 @@
 -- What a mount finds on a device, and why it doesn't open a store.
-use Rattle.std.specs.Prelude.{◌≡◌, ◌⊎◌, ℕ, ◌+◌, ◌^◌, ◌<◌, ◌≤◌, nat_lt, if◌then◌else◌, List, Option, Some, None, IfSome}
+use Rattle.std.specs.Prelude.{◌≡◌, ◌⊎◌, ◌↔◌, true, ℕ, ◌+◌, ◌^◌, ◌<◌, ◌≤◌, nat_lt, if◌then◌else◌, List, Option, Some, None, IfSome}
 use Rattle.byte_maps.specs.Units.{unit_at, zeros}
 use Rattle.block_device.specs.Log.{last}
 use Rattle.block_device.specs.Disk.{Disk, Rose}
@@ -7,14 +7,16 @@ use Rattle.meta_log.specs.declared.slot.Super.{Super}
 use Rattle.meta_log.specs.Slots.{IsValidSlot, IsActiveSlot, active_unit}
 use Rattle.meta_log.specs.Records.{active_half}
 use Rattle.store_image.specs.BadRows.{NoBadRow}
-use Rattle.row_facts.specs.SinglePages.{HasSinglePages, HasSoleOwners}
+use Rattle.store_image.specs.Owners.{IsOwned, IsDataUnit}
+use Rattle.row_facts.specs.SoleOwners.{HasSoleOwner}
+use Rattle.unit_allocator.specs.Units.{Space, is_free}
 use Rattle.row_check.specs.Bad.{IsLeastBad}
 use Rattle.store_steps.specs.Opened.{Found}
-use Rattle.store_facts.specs.Space.{AreGoodRows}
+use Rattle.store_facts.specs.Space.{IsUnheld}
 use Rattle.mount_replay.specs.Cleared.{IsAllClean}
 use Rattle.mount_replay.specs.Replaying.{IsReplay}
 use Rattle.mount_replay.specs.declared.opening.MountFail.{MountFail}
-use Rattle.mount_replay.specs.declared.opening.MountFail.TheVariants.{Memory, NoSuper, BadRow, Unsupported, WornOut, Fault}
+use Rattle.mount_replay.specs.declared.opening.MountFail.TheVariants.{Memory, NoSuper, BadRow, WornOut, Fault}
 
 -- P holds of what was last written, where the device tells it and no unit is dirty
 abbrev pub IsAbout : Disk → (List ℕ → Type 0) → Type 0
@@ -52,13 +54,20 @@ HasLowNumbers f = (f.sup.epoch < 2 ^ 61) × (f.number < 2 ^ 61)
 abbrev pub IsWornOut : Found → ℕ → Type 0
 IsWornOut f value = ((2 ^ 61 ≤ f.sup.epoch) × (value ≡ f.sup.epoch)) ⊎ ((f.sup.epoch < 2 ^ 61) × (2 ^ 61 ≤ f.number) × (value ≡ f.number))
 
+-- the free data units are exactly those that nobody owns
+abbrev pub AreUnownedFree : Found → Space → Type 0
+AreUnownedFree f space = (unit : ℕ) → IsDataUnit f.sup unit → (is_free space unit ≡ true) ↔ (¬ IsOwned f.rows unit)
+
+-- the data units that nobody holds are exactly those that haven't two owners
+abbrev pub AreSharedHeld : Found → Space → Type 0
+AreSharedHeld f space = (unit : ℕ) → IsDataUnit f.sup unit → IsUnheld space unit ↔ HasSoleOwner f.rows unit
+
 -- Why what was found isn't opened.
 abbrev pub IsRefused : MountFail → Found → Type 0
 IsRefused Memory f = Unit {0}
 IsRefused NoSuper f = ⊥
 IsRefused (BadRow key) f = IsLeastBad f.sup f.rows key
-IsRefused Unsupported f = NoBadRow f.sup f.rows × (¬ (HasSinglePages f.rows × HasSoleOwners f.rows))
-IsRefused (WornOut value) f = AreGoodRows f.sup f.rows × IsWornOut f value
+IsRefused (WornOut value) f = NoBadRow f.sup f.rows × IsWornOut f value
 IsRefused Fault f = ⊥
 
 -- Why a mount opens no store, by the contents.
@@ -66,7 +75,6 @@ abbrev pub IsUnopenable : MountFail → List ℕ → Type 0
 IsUnopenable Memory contents = Unit {0}
 IsUnopenable NoSuper contents = HasNoSuper contents
 IsUnopenable (BadRow key) contents = (f : Found) × IsFoundIn contents f × IsRefused (BadRow key) f
-IsUnopenable Unsupported contents = (f : Found) × IsFoundIn contents f × IsRefused Unsupported f
 IsUnopenable (WornOut value) contents = (f : Found) × IsFoundIn contents f × IsRefused (WornOut value) f
 IsUnopenable Fault contents = Unit {0}
 
@@ -80,6 +88,5 @@ abbrev pub SubmitsNothing : MountFail → Type 0
 SubmitsNothing Memory = ⊥
 SubmitsNothing NoSuper = Unit {0}
 SubmitsNothing (BadRow key) = Unit {0}
-SubmitsNothing Unsupported = Unit {0}
 SubmitsNothing (WornOut value) = Unit {0}
 SubmitsNothing Fault = ⊥

@@ -13,7 +13,7 @@ use std::alloc::Global;
 use std::test::Fail;
 use store_kernel::Kernel;
 use store_steps::Step;
-use unit_fields::CollName;
+use unit_fields::{CollName, Name};
 
 // The slot of a store with halves of 8 units.
 fn slot(alloc: Global, units: u32, epoch: u64, first: u64) -> Result<Vec<u8>, Fail>
@@ -37,8 +37,17 @@ fn record(alloc: Global, number: u64, key: &[u8]) -> Result<Vec<u8>, Fail>
     requires number { number < 2 ^ 62 }
     requires key { IsKey key.now }
 {
+    row(alloc, number, key, &[])
+}
+
+// The record of this number that sets one row.
+fn row(alloc: Global, number: u64, key: &[u8], value: &[u8]) -> Result<Vec<u8>, Fail>
+    requires number { number < 2 ^ 62 }
+    requires key { IsKey key.now }
+    requires value { length value.now ≤ 64 }
+{
     let key = Bytes::from_slice(alloc, key)?;
-    let value = Bytes::new(alloc);
+    let value = Bytes::from_slice(alloc, value)?;
     let ops = vec![in alloc; RowOp::Set { key, value }]?;
     let sealed = SealedRecord::seal(alloc, number, &ops)?;
     let (_first, bytes) = sealed.piece(alloc, 0)?;
@@ -72,7 +81,6 @@ enum Ending {
     Memory,
     NoSuper,
     BadRow,
-    Unsupported,
     WornOut(u64),
     Fault,
 }
@@ -82,7 +90,6 @@ fn ending_of(fail: &MountFail) -> Ending {
         MountFail::Memory => Ending::Memory,
         MountFail::NoSuper => Ending::NoSuper,
         MountFail::BadRow { .. } => Ending::BadRow,
-        MountFail::Unsupported => Ending::Unsupported,
         MountFail::WornOut { value } => Ending::WornOut(*value),
         MountFail::Fault => Ending::Fault,
     }
@@ -274,7 +281,7 @@ fn do_step(alloc: Global, kernel: &mut Kernel<MemoryDevice>, step: Step) -> Resu
 
 // Makes a collection, up to the first flush of its batch, which stays in flight.
 fn begin_collection(alloc: Global, kernel: &mut Kernel<MemoryDevice>) -> Result<(), Fail> {
-    if !kernel.drained() || kernel.down().is_some() || kernel.entries().len() > 9 {
+    if !kernel.drained() {
         return Err("not idle".into());
     }
     let coll = CollName::new(alloc, 1, 0)?;
@@ -306,5 +313,188 @@ fn unmounts_with_a_flush_in_flight(rt: HostRuntime) -> Result<(), Fail> {
     assert!(rt; free == 46 && flies);
     assert!(rt; device.units() == 64 && device.in_flight() == 0);
     assert!(rt; book.entries.len() == 1 && book.commits.len() == 1);
+    Ok(())
+}
+
+const COLL: &[u8] = b"C1.0_head";
+
+const ONODE_A: &[u8] = b"O1.0_head\0a\0o";
+
+const ONODE_B: &[u8] = b"O1.0_head\0b\0o";
+
+const SHARD_A0: &[u8] = b"O1.0_head\0a\0o\0\0\0\0x";
+
+const SHARD_A1: &[u8] = b"O1.0_head\0a\0o\0\0\0\x01x";
+
+const SHARD_B0: &[u8] = b"O1.0_head\0b\0o\0\0\0\0x";
+
+// Sizes of an object.
+const ONE_PAGE: &[u8] = b"\0\x10\0\0\0\0\0\0";
+
+const THREE_PAGES: &[u8] = b"\0\x30\0\0\0\0\0\0";
+
+// Page 0 on the first data unit, and pages 1 and 2 on the last two.
+const PAGE_ON_18: &[u8] = b"\0\0\0\0\x01\0\0\x12\0\0\0cccc";
+
+const NEXT_ON_62: &[u8] = b"\x01\0\0\0\x02\0\0\x3e\0\0\0ccccdddd";
+
+// A store of 64 units whose log has the rows of a collection and of an object of one page or of three.
+fn store_of(alloc: Global, size: &[u8]) -> Result<Vec<u8>, Fail>
+    requires { length size.now ≤ 64 }
+{
+    let mut front = slot(alloc, 64, 2, 40)?;
+    front.extend_from_slice(&slot(alloc, 64, 2, 40)?)?;
+    front.extend_from_slice(&row(alloc, 40, COLL, &[])?)?;
+    front.extend_from_slice(&row(alloc, 41, ONODE_A, size)?)?;
+    front.extend_from_slice(&row(alloc, 42, SHARD_A0, PAGE_ON_18)?)?;
+    Ok(front)
+}
+
+// The first ready step in the order of the table.
+fn first_ready(kernel: &Kernel<MemoryDevice>) -> Option<Step> {
+    for step in [
+        Step::Data,
+        Step::Reap,
+        Step::Take,
+        Step::Flush,
+        Step::Seal,
+        Step::Record,
+        Step::Sync,
+        Step::Commit,
+        Step::Finish,
+    ] {
+        if kernel.ready(step) {
+            return Some(step);
+        }
+    }
+    None
+}
+
+// Writes so many pages of an object from the first one on, and drains the kernel. Says how many units are free then.
+fn write_pages(
+    alloc: Global,
+    kernel: &mut Kernel<MemoryDevice>,
+    name: u8,
+    count: usize,
+) -> Result<u32, Fail>
+    requires some { 0 < count }
+    requires few { count ≤ 8 }
+{
+    if !kernel.drained() {
+        return Err("not idle".into());
+    }
+    let coll = CollName::new(alloc, 1, 0)?;
+    let Some(object) = Name::read(alloc, [name].as_slice())? else {
+        return Err("no name".into());
+    };
+    let bytes = Bytes::from_vec(vec![in alloc; name; 4096 * count]?);
+    let Ok(txn) = Transaction::new(
+        alloc,
+        coll,
+        Op::Write {
+            object,
+            off: 0,
+            bytes,
+        },
+    ) else {
+        return Err("no memory".into());
+    };
+    if kernel.submit(alloc, 0, 1, txn).is_err() {
+        return Err("refused".into());
+    }
+    for _ in 0..40u32 {
+        let Some(step) = first_ready(kernel) else {
+            break;
+        };
+        do_step(alloc, kernel, step)?;
+    }
+    Ok(kernel.free_units())
+}
+
+// The free units of a store, and those behind each write of so many pages of an object.
+fn free_counts(
+    alloc: Global,
+    kernel: &mut Kernel<MemoryDevice>,
+    names: &[u8],
+    count: usize,
+) -> Result<Vec<u32>, Fail>
+    requires some { 0 < count }
+    requires few { count ≤ 8 }
+{
+    let mut counts = Vec::new(alloc);
+    counts.push(kernel.free_units())?;
+    for name in names {
+        counts.push(write_pages(alloc, kernel, *name, count)?)?;
+    }
+    Ok(counts)
+}
+
+// Mounts the store on the device, writes so many pages of each of these objects, and unmounts it. Says how many units were free meanwhile.
+fn visit(
+    alloc: Global,
+    device: MemoryDevice,
+    names: &[u8],
+    count: usize,
+) -> Result<(MemoryDevice, Vec<u32>), Fail>
+    requires idle { (disk_of device).flights ≡ [] }
+    requires some { 0 < count }
+    requires few { count ≤ 8 }
+    ensures { IfOk result (λ r. (disk_of r.0).flights ≡ []) }
+{
+    let Ok(mut kernel) = mount(alloc, device) else {
+        return Err("not mounted".into());
+    };
+    let counts = free_counts(alloc, &mut kernel, names, count);
+    let (device, _book) = unmount(alloc, kernel);
+    Ok((device, counts?))
+}
+
+// The first byte of a unit.
+fn byte_at(alloc: Global, device: &mut MemoryDevice, unit: u32) -> Result<u8, Fail>
+    requires { (disk_of device.old).flights ≡ [] }
+    ensures { disk_of device.new ≡ disk_of device.old }
+{
+    if unit >= device.units() {
+        return Err("no unit".into());
+    }
+    let mut bytes = Vec::new(alloc);
+    if device.read(unit, 1, &mut bytes).is_err() {
+        return Err("not read".into());
+    }
+    Ok(bytes.get(0).copied().unwrap_or(0))
+}
+
+#[test]
+fn an_object_of_several_shards(rt: HostRuntime) -> Result<(), Fail> {
+    let alloc = rt.alloc();
+    let mut front = store_of(alloc, THREE_PAGES)?;
+    front.extend_from_slice(&row(alloc, 43, SHARD_A1, NEXT_ON_62)?)?;
+    let device = device(alloc, &front, 0, 64, None)?;
+    // Three units are taken, and three are given back.
+    let (device, counts) = visit(alloc, device, b"a", 3)?;
+    assert_eq!(rt; counts.as_slice(), [43, 43].as_slice());
+    let (_device, counts) = visit(alloc, device, b"", 1)?;
+    assert_eq!(rt; counts.as_slice(), [43].as_slice());
+    Ok(())
+}
+
+#[test]
+fn two_objects_on_one_unit(rt: HostRuntime) -> Result<(), Fail> {
+    let alloc = rt.alloc();
+    let mut front = store_of(alloc, ONE_PAGE)?;
+    front.extend_from_slice(&row(alloc, 43, ONODE_B, ONE_PAGE)?)?;
+    front.extend_from_slice(&row(alloc, 44, SHARD_B0, PAGE_ON_18)?)?;
+    let device = device(alloc, &front, 0, 64, None)?;
+    let (device, counts) = visit(alloc, device, b"", 1)?;
+    assert_eq!(rt; counts.as_slice(), [45].as_slice());
+    // Each object takes a unit, and the one on which both stood isn't free once both have left it.
+    let (mut device, counts) = visit(alloc, device, b"abb", 1)?;
+    assert_eq!(rt; counts.as_slice(), [45, 44, 43, 43].as_slice());
+    assert_eq!(rt; byte_at(alloc, &mut device, 18)?, 0);
+    assert_eq!(rt; byte_at(alloc, &mut device, 19)?, b'a');
+    assert_eq!(rt; byte_at(alloc, &mut device, 21)?, b'b');
+    // Nobody owns it when the store is mounted again.
+    let (_device, counts) = visit(alloc, device, b"", 1)?;
+    assert_eq!(rt; counts.as_slice(), [44].as_slice());
     Ok(())
 }

@@ -23,9 +23,6 @@ pub enum MountFail {
     /// The row under this key is bad, and each row of a lesser key is good.
     #[error("a row of the store is bad")]
     BadRow { key: Bytes },
-    /// The store is good, but an object has more than one page, or two objects share a unit: such a store can't be opened yet.
-    #[error("the store has objects that can't be served yet")]
-    Unsupported,
     /// The epoch or the number of the next record is 2^61 or more, so that numbers would run out.
     #[error("the store has reached the number {value}")]
     WornOut { value: u64 },

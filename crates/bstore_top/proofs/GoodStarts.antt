@@ -15,7 +15,6 @@ use Rattle.meta_log.specs.Records.{AreRowsOf, AreRecords, active_half}
 use Rattle.meta_log.proofs.RecordLemmas.{same_records}
 use Rattle.meta_log.proofs.SlotLemmas.{same_active}
 use Rattle.object_model.specs.declared.book.Book.{Book}
-use Rattle.row_facts.specs.SinglePages.{HasSinglePages, HasSoleOwners}
 use Rattle.script_text.specs.Script.{IsBadAt}
 use Rattle.script_text.proofs.Scripts.{script_has_no_bad}
 use Rattle.store_image.specs.Stands.{StandsFor}
@@ -26,7 +25,7 @@ use Rattle.mount_replay.specs.Opening.{IsAbout, IsFoundIn, IsUnopenable}
 use Rattle.mount_replay.specs.declared.opening.MountFail.{MountFail}
 use Rattle.mount_replay.specs.declared.opening.MountFail.TheVariants as fail
 use Rattle.bstore_top.specs.declared.step_end.StepEnd.{StepEnd}
-use Rattle.bstore_top.specs.declared.step_end.StepEnd.TheVariants.{Done, BadLine, NoSuper, BadRow, Unsupported, WornOut, DeviceFault, OutOfMemory, BayFault}
+use Rattle.bstore_top.specs.declared.step_end.StepEnd.TheVariants.{Done, BadLine, NoSuper, BadRow, WornOut, DeviceFault, OutOfMemory, BayFault}
 use Rattle.bstore_top.specs.Choice.{Position}
 use Rattle.bstore_top.specs.GoodStart.{IsGoodStart, HasNoFault}
 use Rattle.bstore_top.specs.Printed.{Output}
@@ -81,12 +80,6 @@ module _ (dev script : List ℕ) (bay : BayView) (start : IsGoodStart dev script
       let good : NoBadRow g.sup g.rows = subst (λ (s : Super). NoBadRow s g.rows) (sym sup) (subst (NoBadRow found.sup) (sym rows) no_bad) in
       bad.2.bad.is_not_good (good key bad.2.bad.value bad.2.bad.stands)
 
-  not_unsupported : ¬ IsUnopenable fail.Unsupported start.contents
-  not_unsupported bad =
-      let g : Found = bad.0 in
-      let rows : g.rows ≡ found.rows = one_rows start.contents found g start.is_found bad.1 in
-      bad.2.1 (subst HasSinglePages (sym rows) start.single, subst HasSoleOwners (sym rows) start.sole)
-
   not_worn_out : (value : ℕ) → ¬ IsUnopenable (fail.WornOut value) start.contents
   not_worn_out value bad =
       let g : Found = bad.0 in
@@ -119,8 +112,6 @@ module _ (dev script : List ℕ) (bay : BayView) (start : IsGoodStart dev script
   unmounted_ends NoSuper given now none begins fails = absurd (not_no_super (about_start (IsUnopenable fail.NoSuper) given begins fails))
   unmounted_ends (BadRow key) given now none begins fails =
       absurd (not_bad_row key (about_start (IsUnopenable (fail.BadRow key)) given begins fails))
-  unmounted_ends Unsupported given now none begins fails =
-      absurd (not_unsupported (about_start (IsUnopenable fail.Unsupported) given begins fails))
   unmounted_ends WornOut given now none begins fails =
       absurd (not_worn_out fails.0 (about_start (IsUnopenable (fail.WornOut fails.0)) given begins fails.1))
   unmounted_ends DeviceFault given now none begins fails = absurd (omega (arith, fails, none))
@@ -132,7 +123,6 @@ module _ (dev script : List ℕ) (bay : BayView) (start : IsGoodStart dev script
   ran_ends (BadLine n) p now none counted ended = absurd ended
   ran_ends NoSuper p now none counted ended = absurd ended
   ran_ends (BadRow key) p now none counted ended = absurd ended
-  ran_ends Unsupported p now none counted ended = absurd ended
   ran_ends WornOut p now none counted ended = absurd ended
   ran_ends DeviceFault p now none counted ended = absurd (omega (arith, counted, none))
   ran_ends OutOfMemory p now none counted ended = inr refl
@@ -148,7 +138,6 @@ module _ (dev script : List ℕ) (bay : BayView) (start : IsGoodStart dev script
       absurd (script_has_no_bad start.text start.lines n start.is_script (subst (λ (t : List ℕ). IsBadAt t n) text fails.bad))
   unopened_ends NoSuper sources before now none same fails = absurd fails
   unopened_ends (BadRow key) sources before now none same fails = absurd fails
-  unopened_ends Unsupported sources before now none same fails = absurd fails
   unopened_ends WornOut sources before now none same fails = absurd fails
   unopened_ends DeviceFault sources before now none same fails = absurd fails
   unopened_ends OutOfMemory sources before now none same fails = inr refl

@@ -24,16 +24,7 @@ use Rattle.bstore_top.specs.Keeping.{IsDurableFrom, StaysDurable, KeepsStore}
 use Rattle.bstore_top.specs.Run.{EachCrashLeavesPrefix}
 use Rattle.bstore_top.specs.StepRun.{Seen, FailsToMount, EndsOpened, IsStepDone, empty_book, end_of_mount}
 use Rattle.bstore_top.proofs.WorkLemmas.{mount_fails}
-use Rattle.bstore_top.proofs.RunLaws.{log_empty, clean_of_none, RanKept, script_legal, script_durable, script_finished, script_complete}
-
--- what is told later began with the same contents
-same_start : (h h' : History) (old new : Option History) → old ≡ Some h → new ≡ Some h' → Told GoesOn old new → h'.start ≡ h.start
-same_start h h' None new is_h is_h' told = absurd cc
-same_start h h' (Some k) None is_h is_h' told = absurd told
-same_start h h' (Some k) (Some k') is_h is_h' told =
-    let one : k ≡ h = cc in
-    let two : k' ≡ h' = cc in
-    sym (ap (λ (z : History). z.start) two) ∙ told.same_start ∙ ap (λ (z : History). z.start) one
+use Rattle.bstore_top.proofs.RunLaws.{log_empty, clean_of_none, same_start, RanKept, script_legal, script_durable, script_finished, script_complete}
 
 -- why nothing was mounted, as the end of the run
 pub mount_failed : (why : MountFail) (end : StepEnd) (given : Disk) (before now : ℕ) → end ≡ end_of_mount why → FailsMount why given before now
@@ -72,7 +63,7 @@ ran_keeps seed lines given disk end book fresh later all = record {
   legal = λ h objects told stands. script_legal seed lines given disk end book all h objects fresh told stands;
   durable = durable;
   at_end = λ free h objects is told stands.
-      script_finished seed free lines given disk h objects book fresh told stands (subst (λ (e : StepEnd). RanKept seed lines given e book disk) is all);
+      script_finished seed free lines given disk h objects book fresh told later stands (subst (λ (e : StepEnd). RanKept seed lines given e book disk) is all);
   complete = λ free is. script_complete seed free lines given disk book (subst (λ (e : StepEnd). RanKept seed lines given e book disk) is all);
 }
   where

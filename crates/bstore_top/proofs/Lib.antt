@@ -5,6 +5,7 @@ pub mod TextLemmas
 pub mod ReplyLemmas
 pub mod DrawLemmas
 pub mod RunLemmas
+pub mod Holds
 pub mod FreeLemmas
 pub mod RunLaws
 pub mod WorkLemmas

@@ -1,5 +1,5 @@
 -- What holds at the end of a run of a script: the run is one of the kernel, so what is known of these holds of it.
-use Rattle.std.proofs.Common.{◌≡◌, ℕ, suc, ◌+◌, ◌<◌, ◌≤◌, Bool, true, false, is_some, slice_get, length-append, List, [], ◌∷◌, ◌++◌, length, Option, Some, None, refl, sym, ap, subst}
+use Rattle.std.proofs.Common.{◌≡◌, ◌↔◌, ℕ, suc, ◌+◌, ◌<◌, ◌≤◌, Bool, true, false, is_some, slice_get, length-append, List, [], ◌∷◌, ◌++◌, length, Option, Some, None, refl, sym, ap, subst}
 use Rattle.std.proofs.Common.{◌∙◌, arith, inl, inr, append-nil}
 use Rattle.std.specs.Prelude.{IfSome, All}
 use Rattle.std.proofs.lemmas.List.Elements.{All-head}
@@ -16,8 +16,12 @@ use Rattle.object_model.specs.Book.{accepted, acked_count, committed_places, IsL
 use Rattle.object_model.specs.declared.book.Commit.{Commit}
 use Rattle.object_model.specs.Effect.{replay}
 use Rattle.object_model.specs.declared.book.Book.{Book}
+use Rattle.meta_log.specs.declared.slot.Super.{Super}
+use Rattle.meta_log.specs.Records.{AreRowsOf}
 use Rattle.store_image.specs.Stands.{StandsFor}
-use Rattle.unit_allocator.specs.Units.{Space}
+use Rattle.store_image.specs.Owners.{IsDataUnit}
+use Rattle.row_facts.specs.SoleOwners.{HasSoleOwner}
+use Rattle.unit_allocator.specs.Units.{Space, holds_of}
 use Rattle.script_text.specs.declared.line.Line.{Line}
 use Rattle.store_steps.specs.declared.step.Step.{Step}
 use Rattle.store_steps.specs.declared.step.Step.TheVariants.{Reap}
@@ -26,6 +30,7 @@ use Rattle.store_steps.specs.Opened.{Found}
 use Rattle.store_steps.specs.Ready.{is_drained, is_empty}
 use Rattle.store_steps.specs.Runs.{Call, stepping, Calls, IsRun}
 use Rattle.store_facts.specs.Room.{AcksAre}
+use Rattle.store_facts.specs.Space.{IsUnheld}
 use Rattle.store_facts.specs.Kept.{IsKept}
 use Rattle.store_facts.proofs.Readiness.{none_ready}
 use Rattle.store_facts.proofs.Conditions.{IsIdle}
@@ -39,10 +44,11 @@ use Rattle.book_facts.proofs.Order.{order_opened}
 use Rattle.book_facts.proofs.Commits.{one_if, count_cons}
 use Rattle.crash_facts.specs.Store.{KnownOfStore, IsDurable, KeepsDurable}
 use Rattle.crash_facts.proofs.Runs.{run_durable, drained_stands}
-use Rattle.mount_replay.specs.Calls.{Told}
+use Rattle.mount_replay.specs.Calls.{Told, GoesOn, IsLater}
+use Rattle.mount_replay.specs.Opening.{IsFoundIn}
 use Rattle.mount_replay.specs.Mounting.{IsOpenedOn, WasOpened}
 use Rattle.bstore_top.specs.declared.step_end.StepEnd.{StepEnd}
-use Rattle.bstore_top.specs.declared.step_end.StepEnd.TheVariants.{Done, BadLine, NoSuper, BadRow, Unsupported, WornOut, DeviceFault, OutOfMemory, BayFault}
+use Rattle.bstore_top.specs.declared.step_end.StepEnd.TheVariants.{Done, BadLine, NoSuper, BadRow, WornOut, DeviceFault, OutOfMemory, BayFault}
 use Rattle.bstore_top.specs.Choice.{ready_list, Position, IsDrawnRun}
 use Rattle.bstore_top.specs.Printed.{Output, TookAll}
 use Rattle.bstore_top.specs.StepTexts.{step_number, step_text}
@@ -51,6 +57,7 @@ use Rattle.bstore_top.specs.Standing.{HasFree, IsFinished, IsComplete}
 use Rattle.bstore_top.specs.Keeping.{KeepsStore}
 use Rattle.bstore_top.specs.Finished.{FinishesOn, Succeeded}
 use Rattle.bstore_top.proofs.FreeLemmas.{drained_free}
+use Rattle.bstore_top.proofs.Holds.{SameHolds, run_holds}
 
 -- ---- runs
 
@@ -92,6 +99,15 @@ told_opened f count h None new is told = absurd cc
 told_opened f count h (Some g) None is told = absurd told
 told_opened f count h (Some g) (Some k) is told = (k, refl, subst (λ (z : History). WasOpened f count z k) (same_Some g h is) told)
 
+-- what is told later began with the same contents
+pub same_start : (h h' : History) (old new : Option History) → old ≡ Some h → new ≡ Some h' → Told GoesOn old new → h'.start ≡ h.start
+same_start h h' None new is_h is_h' told = absurd cc
+same_start h h' (Some k) None is_h is_h' told = absurd told
+same_start h h' (Some k) (Some k') is_h is_h' told =
+    let one : k ≡ h = cc in
+    let two : k' ≡ h' = cc in
+    sym (ap (λ (z : History). z.start) two) ∙ told.same_start ∙ ap (λ (z : History). z.start) one
+
 module _ (given : Disk) (h : History) (fresh : IsFresh given) (told : given.history ≡ Some h) where
   pub log_empty : h.log ≡ []
   log_empty = subst (λ (o : Option History). IfSome o (λ g. g.log ≡ [])) told fresh.log
@@ -113,6 +129,15 @@ module _ (given : Disk) (h : History) (fresh : IsFresh given) (told : given.hist
         stands = subst (λ (bytes : List ℕ). StandsFor bytes objects) (sym opened_by.by.same_start) stands;
       })
 
+  -- the rows that were found are those of the contents that it was given with
+  pub start_rows : (f : Found) (space : Space) (start : Disk) (s : State) → IsOpenedOn given f space start s → AreRowsOf h.start f.sup f.rows
+  start_rows f space start s mounted =
+      let about : IfSome (Some h) (λ g. ((unit : ℕ) → IsClean g.log unit) → IsFoundIn (last g.start g.log) f) =
+      subst (λ (o : Option History). IfSome o (λ g. ((unit : ℕ) → IsClean g.log unit) → IsFoundIn (last g.start g.log) f)) told mounted.found in
+      let found : IsFoundIn h.start f =
+      subst (λ (l : List Event). IsFoundIn (last h.start l) f) log_empty (about (clean_of_none h.log log_empty)) in
+      record { records = found.replay.records; stand = found.replay.stand; made = found.replay.made }
+
 -- ---- a run of a script, however it ended
 
 -- the run, with what the mounted kernel keeps
@@ -120,6 +145,11 @@ pub record RanKept (seed : ℕ) (lines : List Line) (given : Disk) (end : StepEn
   pub ran : RunsScript seed lines given end book disk
   pub kept : IsKept ran.first ran.start
   pub durable : KeepsDurable ran.first ran.start
+
+-- the super is the one that was found, and the data units that nobody holds are those that hadn't two owners
+pub record HoldsShared (s : State) (f : Found) : Type 0 where
+  pub sup : s.log.sup ≡ f.sup
+  pub held : (unit : ℕ) → IsDataUnit s.log.sup unit → IsUnheld s.space unit ↔ HasSoleOwner f.rows unit
 
 module _ (seed : ℕ) (lines : List Line) (given disk : Disk) (end : StepEnd) (book : Book) (all : RanKept seed lines given end book disk) where
   abbrev ran : RunsScript seed lines given end book disk
@@ -132,6 +162,22 @@ module _ (seed : ℕ) (lines : List Line) (given disk : Disk) (end : StepEnd) (b
   -- with the ends that unmounting takes
   whole_run : IsRun ran.first ran.start (ran.calls ++ ran.reaped.calls) ran.closed disk
   whole_run = joined_run ran.calls ran.reaped.calls ran.first ran.last.state ran.closed ran.start ran.last.disk disk script_run ran.reaped.run
+
+  -- at its last position the units are held that had two owners when the store was opened
+  pub held_after : HoldsShared ran.last.state ran.found
+  held_after =
+      let same : SameHolds ran.first ran.last.state = run_holds ran.calls ran.first ran.last.state ran.start ran.last.disk script_run in
+      let sup : ran.last.state.log.sup ≡ ran.found.sup = same.sup ∙ ap (λ (z : State). z.log.sup) ran.mounted.state in record {
+        sup = sup;
+        held = λ unit on.
+            let here : IsDataUnit ran.found.sup unit = subst (λ (sup : Super). IsDataUnit sup unit) sup on in
+            let holds : holds_of ran.last.state.space unit ≡ holds_of ran.space unit =
+            same.holds unit ∙ ap (λ (z : State). holds_of z.space unit) ran.mounted.state in
+            let was = ran.mounted.held unit here in (
+              λ none. was.0 (sym holds ∙ none),
+              λ sole. holds ∙ was.1 sole,
+            );
+      }
 
   module _ (h : History) (objects : Objects) (fresh : IsFresh given) (told : given.history ≡ Some h) (stands : StandsFor h.start objects) where
     first_durable : IsDurable 0 objects ran.first ran.start
@@ -164,9 +210,9 @@ no_reap (call ∷ calls) s s' d d' drained reaps run =
     absurd cc
 
 pub script_finished : (seed free : ℕ) (lines : List Line) (given disk : Disk) (h : History) (objects : Objects) (book : Book) → IsFresh given
-    → given.history ≡ Some h → StandsFor h.start objects → RanKept seed lines given (Done free) book disk
+    → given.history ≡ Some h → IsLater given disk → StandsFor h.start objects → RanKept seed lines given (Done free) book disk
     → (h' : History) × (disk.history ≡ Some h') × IsFinished objects free book h'
-script_finished seed free lines given disk h objects book fresh told stands all =
+script_finished seed free lines given disk h objects book fresh told later stands all =
     let ran : RunsScript seed lines given (Done free) book disk = all.ran in
     let s : State = ran.last.state in
     let d : Disk = ran.last.disk in
@@ -177,14 +223,22 @@ script_finished seed free lines given disk h objects book fresh told stands all 
     let known : KnownOfStore 0 objects s d after.history = after.up up in
     let same = no_reap ran.reaped.calls s ran.closed d disk drained ran.reaped.reaps ran.reaped.run in
     let book_is : s.book ≡ book = sym (ran.book_is ∙ ap (λ (z : State). z.book) same.0) in
+    let told_after : disk.history ≡ Some after.history = ap (λ (z : Disk). z.history) same.1 ∙ after.told in
+    let started : after.history.start ≡ h.start = same_start h after.history given.history disk.history told told_after later.told in
+    let holds : HoldsShared s ran.found = held_after seed lines given disk (Done free) book all in
+    let rows : AreRowsOf after.history.start s.log.sup ran.found.rows =
+    subst (λ (bytes : List ℕ). AreRowsOf bytes s.log.sup ran.found.rows) (sym started)
+    (subst (λ (sup : Super). AreRowsOf h.start sup ran.found.rows) (sym holds.sup)
+    (start_rows given h fresh told ran.found ran.space ran.start ran.first ran.mounted)) in
     let contents : List ℕ = last after.history.start after.history.log in (
       after.history,
-      ap (λ (z : Disk). z.history) same.1 ∙ after.told,
+      told_after,
       record {
         stands = subst (λ (b : Book). StandsFor contents (replay objects (accepted b.entries))) book_is
             (drained_stands 0 objects s d after.history kept up drained known);
         clean = drained_clean 0 s d after.history kept known.units up drained;
-        has_free = subst (λ (n : ℕ). HasFree contents n) (sym ran.ended.3) (drained_free 0 s d after.history kept known.units up drained);
+        has_free = subst (λ (n : ℕ). HasFree after.history.start contents n) (sym ran.ended.3)
+            (drained_free 0 s d after.history after.history.start ran.found.rows rows holds.held kept known.units up drained);
       },
     )
 
@@ -235,7 +289,6 @@ ends_well book (Done free) old new is took = record { free = free; is = refl; pr
 ends_well book (BadLine n) old new is took = absurd (omega (arith, is))
 ends_well book NoSuper old new is took = absurd (omega (arith, is))
 ends_well book (BadRow key) old new is took = absurd (omega (arith, is))
-ends_well book Unsupported old new is took = absurd (omega (arith, is))
 ends_well book WornOut old new is took = absurd (omega (arith, is))
 ends_well book DeviceFault old new is took = absurd (omega (arith, is))
 ends_well book OutOfMemory old new is took = absurd (omega (arith, is))

@@ -3,11 +3,11 @@ use Rattle.std.proofs.Common.{◌≡◌, inl, inr, ℕ, ◌+◌, ◌<◌, ◌≤
 use Rattle.std.specs.List.{AllByRecursion}
 use Rattle.object_model.specs.declared.op.Op.{Op}
 use Rattle.object_model.specs.declared.op.Op.TheVariants as op
-use Rattle.script_text.specs.Grammar.{Fits, HasSinglePage}
+use Rattle.script_text.specs.Grammar.{Fits, HasWholePages}
 use Rattle.script_text.specs.declared.line.Line.{Line}
 use Rattle.script_text.specs.declared.line.What.{What}
 use Rattle.script_text.specs.declared.line.What.TheVariants as what
-use Rattle.std.specs.Prelude.{slice_get, is_some}
+use Rattle.std.specs.Prelude.{Bool, slice_get, is_some, cond}
 use Rattle.block_device.specs.Disk.{Disk, IsSound}
 use Rattle.block_device.specs.declared.device.Ticket.{Ticket}
 use Rattle.object_model.specs.Effect.{Change}
@@ -33,7 +33,7 @@ use Rattle.store_kernel.specs.declared.step_fail.StepFail.{StepFail}
 use Rattle.store_kernel.specs.declared.step_fail.StepFail.TheVariants as fail
 use Rattle.bstore_top.specs.Choice.{Ask, asks_of, turned, ready_list, possible_calls, IsDrawnOf, Position, at_position, Draws, IsDrawnRun}
 use Rattle.bstore_top.specs.StepRun.{Asked, asked_in, asked_by}
-use Rattle.bstore_top.specs.Stepping.{IsNext, IsNoted, IsNotNoted, LeadsTo, Drains, Makes, RunsUpTo, FitsLine}
+use Rattle.bstore_top.specs.Stepping.{IsNext, IsNoted, IsNotNoted, IsNotTurnedAway, LeadsTo, Drains, Makes, RunsUpTo, FitsLine}
 
 -- ---- runs
 
@@ -64,7 +64,7 @@ pub record IsUpWith (entries : List Entry) (s : State) : Type 0 where
   pub same : s.book.entries ≡ entries
 
 after_done_keeps : (j : Job) (s : State) (entries : List Entry) → IsUpWith entries s → IsUpWith entries (after_done j s)
-after_done_keeps (job.Data place) s entries here = record { up = here.up; same = here.same }
+after_done_keeps (job.Data place count) s entries here = record { up = here.up; same = here.same }
 after_done_keeps job.DataFlush s entries here = record { up = here.up; same = here.same }
 after_done_keeps job.Record s entries here = record { up = here.up; same = here.same }
 after_done_keeps job.RecordFlush s entries here = record { up = here.up; same = here.same }
@@ -73,6 +73,11 @@ after_good_keeps : (f : Option Flying) (s : State) (entries : List Entry) → Is
 after_good_keeps None s entries here = here
 after_good_keeps (Some f) s entries here = after_done_keeps f.job s entries here
 
+-- the good end of a submission, while the kernel is up and once it is down
+landed_keeps : (down : Bool) (f : Option Flying) (s : State) (entries : List Entry) → IsUpWith entries s → IsUpWith entries (cond down s (after_good f s))
+landed_keeps true f s entries here = here
+landed_keeps false f s entries here = after_good_keeps f s entries here
+
 along : (s s' : State) (entries : List Entry) → s' ≡ s → IsUpWith entries s → IsUpWith entries s'
 along s s' entries same here = subst (λ (z : State). IsUpWith entries z) (sym same) here
 
@@ -80,7 +85,8 @@ along s s' entries same here = subst (λ (z : State). IsUpWith entries z) (sym s
 pub step_keeps : (step : Step) (s : State) (d : Disk) (s' : State) (d' : Disk) (entries : List Entry) → Does step s d s' d' → IsUpWith entries s → IsUpWith entries s'
 step_keeps Data s d s' d' entries does here = along _ s' entries does.after (record { up = here.up; same = here.same })
 step_keeps Reap s d s' d' entries (inl took) here =
-    along _ s' entries took.after (after_good_keeps (flying_of took.ticket s.flying) (landed took.ticket s) entries (record { up = here.up; same = here.same }))
+    along _ s' entries took.after
+    (landed_keeps (is_some s.down) (flying_of took.ticket s.flying) (landed took.ticket s) entries (record { up = here.up; same = here.same }))
 step_keeps Reap s d s' d' entries (inr waited) here = along s s' entries waited.1 here
 step_keeps Take s d s' d' entries does here = along _ s' entries does.after (record { up = here.up; same = here.same })
 step_keeps Flush s d s' d' entries does here = along _ s' entries does.after (record { up = here.up; same = here.same })
@@ -168,13 +174,21 @@ unfoldable_drained : (depth : ℕ) (s : State) → ready_list depth s ≡ [] →
 unfolding ready_list
 unfoldable_drained depth s none = ap (λ (l : List Step). is_empty l) none
 
-pub may_submit : (change : Change) (x0 : ℕ) (s0 : State) (d0 : Disk) (x : ℕ) (s : State) (d : Disk) → Drains None x0 s0 d0 x s d → IsKnown change.ops → length s0.book.entries < 1048576 → MaySubmit change s d
-may_submit change x0 s0 d0 x s d drained known room = record {
-  up = drained.ended.1;
-  drained = unfoldable_drained d.depth s drained.ended.0;
-  room = omega (arith, room, ap (λ (l : List Entry). length l) drained.entries);
-  known = known;
-}
+pub may_submit : (change : Change) (x0 : ℕ) (s0 : State) (d0 : Disk) (x : ℕ) (s : State) (d : Disk) → Drains None x0 s0 d0 x s d → IsKnown change.ops → MaySubmit change s d
+may_submit change x0 s0 d0 x s d drained known = record { drained = λ up. unfoldable_drained d.depth s drained.ended.0; known = known }
+
+-- the kernel is up, and its book has room
+pub not_turned_away : (a : Ask) (r : Result ℕ Refused) (x0 : ℕ) (s0 : State) (d0 : Disk) (x : ℕ) (s : State) (d : Disk) (s' : State) → Drains None x0 s0 d0 x s d → length s0.book.entries < 1048576
+    → IfErr r (λ why. RefusesBy why 0 a.line a.change s s') → IsNotTurnedAway r
+not_turned_away a (Ok place) x0 s0 d0 x s d s' drained room refuses = tt
+not_turned_away a (Err (refused.Refusal refusal)) x0 s0 d0 x s d s' drained room refuses = tt
+not_turned_away a (Err (refused.NoSpace need free)) x0 s0 d0 x s d s' drained room refuses = tt
+not_turned_away a (Err (refused.MetaFull need left)) x0 s0 d0 x s d s' drained room refuses = tt
+not_turned_away a (Err (refused.Memory txn)) x0 s0 d0 x s d s' drained room refuses = tt
+not_turned_away a (Err (refused.Down ticket txn)) x0 s0 d0 x s d s' drained room refuses =
+    let never : None ≡ Some ticket = sym drained.ended.1 ∙ refuses.0 in cc
+not_turned_away a (Err (refused.BookFull txn)) x0 s0 d0 x s d s' drained room refuses =
+    absurd (omega (arith, room, refuses.0.full, ap (λ (l : List Entry). length l) drained.entries))
 
 -- the client's call is the only one
 client_drawn : (a : Ask) (rest : List Ask) (ready : List Step) (x : ℕ) → ready ≡ [] → IsDrawnOf x (possible_calls (a ∷ rest) ready) (submitting 0 a.line a.change)
@@ -233,7 +247,7 @@ makes_accepted a x0 s0 d0 x s d x' s' d' drained may accepts turn same sound =
 pub makes_refused : (a : Ask) (reply : Answer) (x0 : ℕ) (s0 : State) (d0 : Disk) (x : ℕ) (s : State) (d : Disk) (x' : ℕ) (s' : State) (d' : Disk) → Drains None x0 s0 d0 x s d → MaySubmit a.change s d
     → Refuses 0 a.line a.change reply s s' → x' ≡ turned x → d' ≡ d → IsSound d' → Makes a x0 s0 d0 x' s' d'
 makes_refused a reply x0 s0 d0 x s d x' s' d' drained may refuses turn same sound =
-    makes a x0 s0 d0 x s d x' s' d' drained may (inr (reply, refuses)) (refused_entry a reply s s' refuses) turn same sound
+    makes a x0 s0 d0 x s d x' s' d' drained may (inr (inl (reply, refuses))) (refused_entry a reply s s' refuses) turn same sound
 
 -- a submission and its end
 pub submitted_ends : (a : Ask) (r : Result ℕ Refused) (out : Result (Unit {0}) StepFail) (x0 : ℕ) (s0 : State) (d0 : Disk) (x : ℕ) (s : State) (d : Disk) (x' : ℕ) (s' : State) (d' : Disk) → Drains None x0 s0 d0 x s d → MaySubmit a.change s d
@@ -246,6 +260,10 @@ submitted_ends a (Err (refused.NoSpace need free)) (Ok u) x0 s0 d0 x s d x' s' d
     makes_refused a (answer.NoSpace need free) x0 s0 d0 x s d x' s' d' drained may refuses turn same sound
 submitted_ends a (Err (refused.MetaFull need room)) (Ok u) x0 s0 d0 x s d x' s' d' drained may accepted refuses noted turn same sound =
     makes_refused a (answer.MetaFull need room) x0 s0 d0 x s d x' s' d' drained may refuses turn same sound
+submitted_ends a (Err (refused.Down ticket txn)) (Ok u) x0 s0 d0 x s d x' s' d' drained may accepted refuses noted turn same sound = absurd noted
+submitted_ends a (Err (refused.Down ticket txn)) (Err e) x0 s0 d0 x s d x' s' d' drained may accepted refuses noted turn same sound = absurd noted.1
+submitted_ends a (Err (refused.BookFull txn)) (Ok u) x0 s0 d0 x s d x' s' d' drained may accepted refuses noted turn same sound = absurd noted
+submitted_ends a (Err (refused.BookFull txn)) (Err e) x0 s0 d0 x s d x' s' d' drained may accepted refuses noted turn same sound = absurd noted.1
 submitted_ends a (Err (refused.Memory txn)) (Ok u) x0 s0 d0 x s d x' s' d' drained may accepted refuses noted turn same sound = absurd noted
 submitted_ends a (Err (refused.Memory txn)) (Err e) x0 s0 d0 x s d x' s' d' drained may accepted refuses noted turn same sound =
     subst (λ (z : StepFail). (y : ℕ) × Drains (Some z) x0 s0 d0 y s' d') (sym noted.0) (no_memory x0 s0 d0 x s d s' d' drained refuses.0 same)
@@ -267,10 +285,11 @@ pub record IsRunning (x0 : ℕ) (lines : List Line) (s0 : State) (d0 : Disk) (x 
 pub script_begins : (x : ℕ) (lines : List Line) (s : State) (d : Disk) → s.down ≡ None → AllByRecursion FitsLine lines → length s.book.entries + length (asks_of lines) ≤ 1048576 → IsRunning x lines s d x lines s d
 script_begins x lines s d up fits room = record { leads = stays (at_position x (asks_of lines) s d); up = up; entries = refl; fits = fits; room = room }
 
-known_ops : (ops : List Op) → HasSinglePage ops → IsKnown ops
-known_ops (op.MkColl ∷ []) page = tt
-known_ops (op.Write o off bytes ∷ []) page = page
-known_ops ops page = absurd page
+known_ops : (ops : List Op) → HasWholePages ops → IsKnown ops
+known_ops (op.MkColl ∷ []) pages = tt
+known_ops (op.Touch o ∷ []) pages = tt
+known_ops (op.Write o off bytes ∷ []) pages = pages
+known_ops ops pages = absurd pages
 
 fits_known : (change : Change) → Fits (what.Command (command.Change change)) → IsKnown change.ops
 fits_known change fits = known_ops change.ops fits

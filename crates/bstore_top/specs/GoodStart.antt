@@ -5,7 +5,6 @@ use Rattle.block_device.specs.Disk.{Rose}
 use Rattle.end_points.specs.Bay.{Names, BayView}
 use Rattle.object_model.specs.Objects.{Objects}
 use Rattle.store_image.specs.Stands.{StandsFor}
-use Rattle.row_facts.specs.SinglePages.{HasSinglePages, HasSoleOwners}
 use Rattle.store_steps.specs.Opened.{Found}
 use Rattle.mount_replay.specs.Opening.{IsFoundIn, HasLowNumbers}
 use Rattle.script_text.specs.Script.{IsScript}
@@ -14,7 +13,7 @@ use Rattle.bstore_top.specs.Printed.{Output}
 use Rattle.bstore_top.specs.StepRun.{Seen}
 
 -- The bay tells its names. Under the script's there is a script. Under the device's there is a store that stands for some objects: what a mount
--- finds in it are rows of this version, and numbers that leave room for those to come.
+-- finds in it are numbers that leave room for those to come.
 pub record IsGoodStart (dev script : List ℕ) (bay : BayView) : Type 0 where
   pub names : Names
   pub told : bay.names ≡ Some names
@@ -28,8 +27,6 @@ pub record IsGoodStart (dev script : List ℕ) (bay : BayView) : Type 0 where
   pub stands : StandsFor contents objects
   pub found : Found
   pub is_found : IsFoundIn contents found
-  pub single : HasSinglePages found.rows
-  pub sole : HasSoleOwners found.rows
   pub numbers : HasLowNumbers found
 
 -- no count of faults rose: the device and the sources, where there are any, have counted none, and the bay and the sink no more than before

@@ -30,7 +30,7 @@ use Rattle.mount_replay.specs.declared.opening.MountFail.TheVariants as fail
 use Rattle.block_device.specs.declared.device.Failed.{Failed}
 use Rattle.block_device.specs.declared.device.Failed.TheVariants as failed
 use Rattle.bstore_top.specs.declared.step_end.StepEnd.{StepEnd}
-use Rattle.bstore_top.specs.declared.step_end.StepEnd.TheVariants.{Done, BadLine, NoSuper, BadRow, Unsupported, WornOut, DeviceFault, OutOfMemory, BayFault}
+use Rattle.bstore_top.specs.declared.step_end.StepEnd.TheVariants.{Done, BadLine, NoSuper, BadRow, WornOut, DeviceFault, OutOfMemory, BayFault}
 use Rattle.bstore_top.specs.declared.status.Stop.TheVariants as stop
 use Rattle.bstore_top.specs.Texts.{as_text, stopped_line}
 use Rattle.bstore_top.specs.StepTexts.{step_number, step_text}
@@ -129,7 +129,6 @@ abbrev pub end_of_mount : MountFail → StepEnd
 end_of_mount fail.Memory = OutOfMemory
 end_of_mount fail.NoSuper = NoSuper
 end_of_mount (fail.BadRow key) = BadRow key
-end_of_mount fail.Unsupported = Unsupported
 end_of_mount (fail.WornOut value) = WornOut
 end_of_mount fail.Fault = DeviceFault
 
@@ -152,7 +151,6 @@ end_of_script script.ReadFault = BayFault
 abbrev pub FailsToMount : StepEnd → Disk → ℕ → ℕ → Type 0
 FailsToMount NoSuper given before now = FailsMount fail.NoSuper given before now
 FailsToMount (BadRow key) given before now = FailsMount (fail.BadRow key) given before now
-FailsToMount Unsupported given before now = FailsMount fail.Unsupported given before now
 FailsToMount WornOut given before now = (value : ℕ) × FailsMount (fail.WornOut value) given before now
 FailsToMount DeviceFault given before now = Rose before now
 FailsToMount OutOfMemory given before now = Unit {0}

@@ -4,7 +4,7 @@ use Rattle.object_model.specs.declared.book.Book.{Book}
 use Rattle.bstore_top.specs.declared.status.Stop.{Stop}
 use Rattle.bstore_top.specs.declared.status.Stop.TheVariants as stop
 use Rattle.bstore_top.specs.declared.step_end.StepEnd.{StepEnd}
-use Rattle.bstore_top.specs.declared.step_end.StepEnd.TheVariants.{Done, BadLine, NoSuper, BadRow, Unsupported, WornOut, DeviceFault, OutOfMemory, BayFault}
+use Rattle.bstore_top.specs.declared.step_end.StepEnd.TheVariants.{Done, BadLine, NoSuper, BadRow, WornOut, DeviceFault, OutOfMemory, BayFault}
 use Rattle.bstore_top.specs.Status.{end_number}
 use Rattle.bstore_top.specs.Texts.{as_text, stopped_line}
 use Rattle.bstore_top.specs.Replies.{entry_lines, done_line}
@@ -16,7 +16,6 @@ stop_of (Done free) = None
 stop_of (BadLine n) = Some stop.BadScript
 stop_of NoSuper = Some stop.Refused
 stop_of (BadRow key) = Some stop.Refused
-stop_of Unsupported = Some stop.Refused
 stop_of WornOut = Some stop.Refused
 stop_of DeviceFault = Some stop.DeviceFault
 stop_of OutOfMemory = Some stop.OutOfMemory
@@ -40,7 +39,6 @@ end_lines book (Done free) = done_line book free ∷ []
 end_lines book (BadLine n) = script_line n ∷ stopped_line stop.BadScript ∷ []
 end_lines book NoSuper = codes "mount NoSuper" ∷ stopped_line stop.Refused ∷ []
 end_lines book (BadRow key) = bad_row_line key ∷ stopped_line stop.Refused ∷ []
-end_lines book Unsupported = codes "mount Unsupported" ∷ stopped_line stop.Refused ∷ []
 end_lines book WornOut = codes "mount WornOut" ∷ stopped_line stop.Refused ∷ []
 end_lines book DeviceFault = stopped_line stop.DeviceFault ∷ []
 end_lines book OutOfMemory = stopped_line stop.OutOfMemory ∷ []

@@ -43,11 +43,19 @@ IsNoted (Ok place) = Unit {0}
 IsNoted (Err (refused.Refusal refusal)) = Unit {0}
 IsNoted (Err (refused.NoSpace need free)) = Unit {0}
 IsNoted (Err (refused.MetaFull need room)) = Unit {0}
+IsNoted (Err (refused.Down ticket txn)) = ⊥
+IsNoted (Err (refused.BookFull txn)) = ⊥
 IsNoted (Err (refused.Memory txn)) = ⊥
 
 abbrev pub IsNotNoted : Result ℕ Refused → Type 0
 IsNotNoted (Err (refused.Memory txn)) = Unit {0}
 IsNotNoted submitted = ⊥
+
+-- it wasn't turned away: the kernel was up, and its book had room
+abbrev pub IsNotTurnedAway : Result ℕ Refused → Type 0
+IsNotTurnedAway (Err (refused.Down ticket txn)) = ⊥
+IsNotTurnedAway (Err (refused.BookFull txn)) = ⊥
+IsNotTurnedAway submitted = Unit {0}
 
 -- behind such steps the client's transaction was drawn and submitted
 pub record Makes (ask : Ask) (x : ℕ) (s : State) (d : Disk) (x' : ℕ) (s' : State) (d' : Disk) : Type 0 where

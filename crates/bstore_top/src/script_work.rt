@@ -112,7 +112,6 @@ fn unmounted(fail: MountFail) -> StepEnd
         MountFail::Memory => StepEnd::OutOfMemory,
         MountFail::NoSuper => StepEnd::NoSuper,
         MountFail::BadRow { key } => StepEnd::BadRow { key },
-        MountFail::Unsupported => StepEnd::Unsupported,
         MountFail::WornOut { .. } => StepEnd::WornOut,
         MountFail::Fault => StepEnd::DeviceFault,
     }

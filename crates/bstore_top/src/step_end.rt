@@ -23,8 +23,6 @@ pub enum StepEnd {
     BadRow {
         key: Bytes,
     },
-    /// The rows are good, but not such as this version makes: an object of more than a page, or a unit of two owners.
-    Unsupported,
     /// The numbers of the store are used up.
     WornOut,
     /// The device failed.
@@ -42,8 +40,7 @@ impl StepEnd {
         match self {
             StepEnd::Done { .. } => None,
             StepEnd::BadLine { .. } => Some(Stop::BadScript),
-            StepEnd::NoSuper | StepEnd::BadRow { .. } | StepEnd::Unsupported | StepEnd::WornOut =>
-                Some(Stop::Refused),
+            StepEnd::NoSuper | StepEnd::BadRow { .. } | StepEnd::WornOut => Some(Stop::Refused),
             StepEnd::DeviceFault => Some(Stop::DeviceFault),
             StepEnd::OutOfMemory => Some(Stop::OutOfMemory),
             StepEnd::BayFault => Some(Stop::BayFault),

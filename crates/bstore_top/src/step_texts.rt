@@ -28,7 +28,6 @@ fn end_text(alloc: Global, book: &Book, end: &StepEnd) -> Result<String, AllocEr
         StepEnd::BadLine { n } => format!(in alloc; "script 0 line {n}\nstopped 2\n"),
         StepEnd::NoSuper => String::from_str(alloc, "mount NoSuper\nstopped 4\n"),
         StepEnd::BadRow { key } => bad_row_text(alloc, key.as_slice()),
-        StepEnd::Unsupported => String::from_str(alloc, "mount Unsupported\nstopped 4\n"),
         StepEnd::WornOut => String::from_str(alloc, "mount WornOut\nstopped 4\n"),
         StepEnd::DeviceFault => String::from_str(alloc, stopped_text(Stop::DeviceFault)),
         StepEnd::OutOfMemory => String::from_str(alloc, stopped_text(Stop::OutOfMemory)),

@@ -8,7 +8,7 @@ ghost use Rattle.script_text.specs.declared.line.What.TheVariants as line;
 ghost use Rattle.store_steps.specs.Ready.{is_ready};
 ghost use Rattle.store_steps.specs.Submit.{IsKnown};
 ghost use Rattle.bstore_top.specs.Choice.{ready_list, asks_of};
-ghost use Rattle.bstore_top.specs.Stepping.{IsNext, IsNoted, IsNotNoted, Drains, Makes, RunsUpTo, FitsLine};
+ghost use Rattle.bstore_top.specs.Stepping.{IsNext, IsNoted, IsNotNoted, IsNotTurnedAway, Drains, Makes, RunsUpTo, FitsLine};
 
 use crate::generator::Generator;
 use block_device::Device;
@@ -93,6 +93,7 @@ fn drain<D: Device>(
 
 /// Whether a transaction has its entry in the book, accepted or refused: all but want of memory make one.
 fn noted(submitted: Result<u32, Refused>) -> Result<(), StepFail>
+    requires { IsNotTurnedAway submitted }
     ensures { MatchResult result (λ _. IsNoted submitted) (λ e. (e ≡ StepFail.Memory) × IsNotNoted submitted) }
 {
     match submitted {
@@ -100,6 +101,7 @@ fn noted(submitted: Result<u32, Refused>) -> Result<(), StepFail>
         Err(Refused::Refusal(_)) => Ok(()),
         Err(Refused::NoSpace { .. }) => Ok(()),
         Err(Refused::MetaFull { .. }) => Ok(()),
+        Err(Refused::Down { .. } | Refused::BookFull(_)) => unreachable!(),
         Err(Refused::Memory(_)) => Err(StepFail::Memory),
     }
 }

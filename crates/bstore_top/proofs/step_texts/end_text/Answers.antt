@@ -11,8 +11,5 @@ returns-in-BadLine c = as_lines c.format.result _ _ (bad_line_is c.in-BadLine.n 
 pub returns-in-NoSuper : goal.returns-in-NoSuper
 returns-in-NoSuper c = as_lines c.from_str.result _ _ (mount_is (codes "mount NoSuper") ∙ ap (λ (e : StepEnd). as_text (end_lines c.args.book.now e)) (sym c.in-NoSuper.is)) c.from_str.ensures.ok
 
-pub returns-in-Unsupported : goal.returns-in-Unsupported
-returns-in-Unsupported c = as_lines c.from_str-in-Unsupported.result _ _ (mount_is (codes "mount Unsupported") ∙ ap (λ (e : StepEnd). as_text (end_lines c.args.book.now e)) (sym c.in-Unsupported.is)) c.from_str-in-Unsupported.ensures.ok
-
 pub returns-in-WornOut : goal.returns-in-WornOut
 returns-in-WornOut c = as_lines c.from_str-in-WornOut.result _ _ (mount_is (codes "mount WornOut") ∙ ap (λ (e : StepEnd). as_text (end_lines c.args.book.now e)) (sym c.in-WornOut.is)) c.from_str-in-WornOut.ensures.ok

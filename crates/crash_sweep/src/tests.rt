@@ -6,6 +6,8 @@ mod again;
 mod cuts;
 mod forged;
 mod negative;
+mod pages;
+mod shared;
 
 use crate::{Found, Object};
 use block_device::{Device, Kind, MemoryDevice, Tear};

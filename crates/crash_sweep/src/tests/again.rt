@@ -21,7 +21,7 @@ fn tiny(script: &str, seed: u32) -> Setup<'_> {
 }
 
 /// The objects after the first commits of a run on a new store.
-fn objects_after(alloc: Global, book: &Book, count: usize) -> Result<Plain, Fail> {
+pub fn objects_after(alloc: Global, book: &Book, count: usize) -> Result<Plain, Fail> {
     let mut plain = Plain::new(alloc);
     let entries = &book.entries;
     let commits = &book.commits;
@@ -133,10 +133,7 @@ fn what_crashes_leave_is_opened_again(rt: HostRuntime) -> Result<(), Fail> {
 #[test]
 fn a_flush_that_fails(rt: HostRuntime) -> Result<(), Fail> {
     let alloc = rt.alloc();
-    let mut setup = tiny(
-        "mkcoll 1.0_head\nwait\nwrite 1.0_head a 0 fill:41:4096\nwait\n",
-        7,
-    );
+    let mut setup = tiny("mkcoll 1.0_head\nwait\ntouch 1.0_head a\nwait\n", 7);
     setup.fails = Some((Kind::Flush, 3));
     let ran = run_script(alloc, &setup)?;
     assert_eq!(rt;

@@ -4,13 +4,14 @@ use super::*;
 use crc32c_csum::Digest;
 use std::process::Abort;
 
-/// The unit of a record with one operation, that sets an empty row: a collection's.
-fn record(alloc: Global, number: u64, key: &[u8]) -> Result<Vec<u8>, Fail> {
+/// The unit of a record with one operation, that sets a row.
+pub fn record(alloc: Global, number: u64, key: &[u8], value: &[u8]) -> Result<Vec<u8>, Fail> {
     let mut body = Vec::new(alloc);
     body.push(1u8)?;
     body.extend_from_slice(&(key.len() as u64).to_le_bytes()[..2])?;
     body.extend_from_slice(key)?;
-    body.extend_from_slice(&[0, 0, 0, 0])?;
+    body.extend_from_slice(&(value.len() as u64).to_le_bytes()[..4])?;
+    body.extend_from_slice(value)?;
     let mut unit = Vec::new(alloc);
     unit.extend_from_slice(b"BREC")?;
     unit.extend_from_slice(&(body.len() as u64).to_le_bytes()[..4])?;
@@ -26,7 +27,7 @@ fn record(alloc: Global, number: u64, key: &[u8]) -> Result<Vec<u8>, Fail> {
 }
 
 /// Lays a unit's bytes over those of a device.
-fn lay(contents: &mut [u8], unit: usize, bytes: &[u8]) -> Result<(), Fail> {
+pub fn lay(contents: &mut [u8], unit: usize, bytes: &[u8]) -> Result<(), Fail> {
     let Some(place) = contents.get_mut(unit.wrapping_mul(4096)..) else {
         return Err("outside the device".into());
     };
@@ -52,24 +53,19 @@ fn forged_store(alloc: Global, behind: &[u8]) -> Result<(Vec<u8>, Plain), Fail> 
     let first = run_script(alloc, &tiny("mkcoll 1.0_head\n"))?;
     let mut contents = image(&first.device, first.device.events(), Tear::Noise)?;
     lay(&mut contents, 3, behind)?;
-    lay(&mut contents, 4, &record(alloc, 2, b"C9.0_head")?)?;
+    lay(&mut contents, 4, &record(alloc, 2, b"C9.0_head", &[])?)?;
     let mut plain = Plain::new(alloc);
     apply(alloc, &mut plain, first.book.entries.as_slice().first())?;
     Ok((contents, plain))
 }
 
-/// Writes an object on it as record 1, which takes one unit, and looks at each cut.
-fn write_behind(rt: &impl Abort, alloc: Global, behind: &[u8], events: u64) -> Result<(), Fail> {
+/// Makes an object on it by record 1, which takes one unit, and looks at each cut.
+fn touch_behind(rt: &impl Abort, alloc: Global, behind: &[u8], events: u64) -> Result<(), Fail> {
     let (contents, plain) = forged_store(alloc, behind)?;
-    let ran = run_on(
-        alloc,
-        &tiny("write 1.0_head a 0 fill:41:4096\n"),
-        contents,
-        plain,
-    )?;
+    let ran = run_on(alloc, &tiny("touch 1.0_head a\n"), contents, plain)?;
     assert_eq!(rt;
         ran.text.as_slice(),
-        b"0:1 ok\ndone accepted=1 refused=0 reads=0 commits=1 free=5\n".as_slice()
+        b"0:1 ok\ndone accepted=1 refused=0 reads=0 commits=1 free=6\n".as_slice()
     );
     assert_eq!(rt; ran.device.events(), events);
     let counts = sweep(alloc, &ran, ran.book.commits.as_slice(), 1)?;
@@ -78,16 +74,16 @@ fn write_behind(rt: &impl Abort, alloc: Global, behind: &[u8], events: u64) -> R
     Ok(())
 }
 
-// Opening it writes zeros over the torn unit, flushes, writes zeros over the record, and flushes; the transaction makes eight events.
+// Opening it writes zeros over the torn unit, flushes, writes zeros over the record, and flushes; the transaction makes six events.
 #[test]
 fn a_torn_record_before_it(rt: HostRuntime) -> Result<(), Fail> {
-    write_behind(&rt, rt.alloc(), b"BREC\x01", 8 + 8)
+    touch_behind(&rt, rt.alloc(), b"BREC\x01", 8 + 6)
 }
 
 // The unit behind the records is zero already.
 #[test]
 fn no_record_before_it(rt: HostRuntime) -> Result<(), Fail> {
-    write_behind(&rt, rt.alloc(), &[], 4 + 8)
+    touch_behind(&rt, rt.alloc(), &[], 4 + 6)
 }
 
 // The record would be read, were record 1 there.
@@ -95,7 +91,7 @@ fn no_record_before_it(rt: HostRuntime) -> Result<(), Fail> {
 fn the_forged_record_is_valid(rt: HostRuntime) -> Result<(), Fail> {
     let alloc = rt.alloc();
     let (mut contents, _plain) = forged_store(alloc, &[])?;
-    lay(&mut contents, 3, &record(alloc, 1, b"C8.0_head")?)?;
+    lay(&mut contents, 3, &record(alloc, 1, b"C8.0_head", &[])?)?;
     let Some(found) = Found::read(alloc, &contents)? else {
         return Err("no store".into());
     };

@@ -179,6 +179,32 @@ says 'step: its objects are there' ended 0 '0:1 E2 CollectionExists' '0:2 ok' '0
 run step AGAIN --seed 3 empty
 says 'step: and again' ended 0 'done accepted=0 refused=0 reads=0 commits=0 free=44'
 
+# The session of the README: an object without bytes, and objects of many pages.
+printf 'touch 1.0_head c\nwrite 1.0_head b 4096 fill:5d:81920\nwrite 1.0_head b 0 fill:5e:102400\n' >pages
+run step AGAIN --seed 3 pages
+says 'step: many pages' ended 0 '0:1 ok' '0:2 ok' '0:3 E9 NoSpace need=25 free=24' 'done accepted=2 refused=1 reads=0 commits=2 free=24'
+
+# An object of 1024 pages, whose last page is replaced by a write of two. The pages of a new store stand on units one behind the other.
+run mkfs PAGES --half 24 --units 1160
+{
+    echo 'mkcoll 1.0_head'
+    for i in 0 1 2 3; do echo "write 1.0_head a $((1048576 * i)) fill:0$i:1048576"; done
+    echo 'write 1.0_head a 4190208 fill:05:8192'
+    echo 'write 1.0_head a 0 fill:05:1052672'
+    echo 'write 1.0_head a 134217728 fill:05:4096'
+} >pages
+run step PAGES --seed 1 pages
+says 'step: an object of 1025 pages' ended 0 '0:1 ok' '0:2 ok' '0:3 ok' '0:4 ok' '0:5 ok' '0:6 ok' '0:7 E8 TooBig' '0:8 E8 TooBig' \
+    'done accepted=6 refused=2 reads=0 commits=6 free=85'
+head -c 1048576 /dev/zero | tr '\0' '\3' >found
+tail -c +$((4096 * (50 + 768) + 1)) PAGES | head -c 1044480 | cmp -s - <(head -c 1044480 found)
+says 'step: its fourth quarter but for the last page' test "$?" = 0
+{ head -c 8192 /dev/zero | tr '\0' '\5'; } >found
+tail -c +$((4096 * (50 + 1024) + 1)) PAGES | head -c 8192 >last
+says 'step: its last two pages, on new units' cmp -s found last
+run step PAGES --seed 1 empty
+says 'step: it is opened again' ended 0 'done accepted=0 refused=0 reads=0 commits=0 free=85'
+
 # What stands behind the records, in units 4 and 9, is zeros once the store was opened, and nothing else has changed.
 cp T STALE
 printf 'stale' | dd of=STALE bs=1 seek=$((4096 * 4)) conv=notrunc status=none

@@ -167,3 +167,11 @@ module _ {first : ℕ} {idle : List Bool} {holds words : List ℕ} {free low : �
             ∙ ap length (same_filter (idle_and_unheld idle holds) (idle_and_unheld idle' holds') 0 (length idle) (λ q _ _. all q)));
         below = λ q lt. ap (λ ws. bit ws q) unchanged ∙ s.below q lt;
       }
+
+-- all numbers of a range pass
+pub all_pass : (p : ℕ → Bool) (a n : ℕ) → ((q : ℕ) → a ≤ q → q < a + n → p q ≡ true) → length (filter p (range_with_len a n)) ≡ n
+all_pass p a zero all = refl
+all_pass p a (suc n) all =
+    let rest : length (filter p (range_with_len (a + 1) n)) ≡ n = all_pass p (a + 1) n (λ q le lt. all q (omega (arith, le)) (omega (arith, lt))) in
+    ap (λ b. length (cond b (a ∷ filter p (range_with_len (a + 1) n)) (filter p (range_with_len (a + 1) n)))) (all a (omega arith) (omega arith))
+    ∙ ap suc rest

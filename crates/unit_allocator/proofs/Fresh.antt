@@ -9,7 +9,7 @@ use Rattle.unit_allocator.specs.Units.{Space, is_free, holds_of, IsWithin, given
 use Rattle.unit_allocator.proofs.FreeUnits.{given_is_free, range_stays}
 
 -- a unit after another one was looked at
-abbrev step : Space → finite.FinSet nat_cmp → ℕ → Space
+abbrev pub step : Space → finite.FinSet nat_cmp → ℕ → Space
 step s busy a = cond (finite.contains busy a) s (given_one s a)
 
 step_within : (s : Space) (busy : finite.FinSet nat_cmp) (a u : ℕ) → IsWithin s u → IsWithin (step s busy a) u

@@ -6,3 +6,6 @@ pub mod Lists
 pub mod FreeUnits
 pub mod Fresh
 pub mod Lowest
+pub mod Summary
+pub mod Fields
+pub mod Leaving

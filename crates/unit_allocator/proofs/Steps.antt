@@ -1,7 +1,7 @@
 -- What the allocator's fields keep when a unit is taken, given, held and let go.
-use Rattle.std.proofs.Common.{◌≡◌, ◌≢◌, ℕ, ◌+◌, ◌-◌, ◌/◌, ◌%◌, ◌^◌, replicate, ◌<◌, ◌≤◌, ◌==◌, ◌&&◌, Bool, true, false, List, [], ◌∷◌, length, get_or, set, map, inl, inr, refl, sym, ap, subst, ◌∙◌, arith}
+use Rattle.std.proofs.Common.{◌≡◌, ◌≢◌, ℕ, ◌+◌, ◌-◌, ◌/◌, ◌%◌, replicate, ◌<◌, ◌≤◌, ◌==◌, ◌&&◌, Bool, true, false, List, [], ◌∷◌, length, get_or, set, map, inl, inr, refl, sym, ap, subst, ◌∙◌, arith}
 use Rattle.std.specs.List.{filter, range_with_len}
-use Rattle.std.proofs.lemmas.List.{length-set, get_or_past, get_or_default, get_or-replicate, length-replicate}
+use Rattle.std.proofs.lemmas.List.{length-set, get_or_past, get_or-replicate, length-replicate}
 use Rattle.std.specs.Int.{bit_at}
 use Rattle.std.proofs.lemmas.Nat.Bits.{bit_at-zero}
 use Rattle.std.proofs.lemmas.Bool.{cases_lt}
@@ -11,7 +11,8 @@ use Rattle.unit_allocator.specs.Units.{idle_and_unheld, Space, IsWithin, free_un
 use Rattle.unit_allocator.specs.Sound.{IsSound}
 use Rattle.unit_allocator.proofs.Counts.{Lost, lost, Won, won, kept, idle_here, idle_there, holds_here, holds_there, first_passes, none_pass}
 
-not_zero : (n : ℕ) → 0 < n → (n == 0) ≡ false
+-- a number above zero
+pub not_zero : (n : ℕ) → 0 < n → (n == 0) ≡ false
 not_zero n some = grind (arith, nat_tests)
 
 never : (b : Bool) → (b && false) ≡ false
@@ -113,10 +114,21 @@ module _ {first : ℕ} {idle : List Bool} {holds words : List ℕ} {free low : �
   pub unhold_held : 0 < n → 0 < get_or holds at 0 → IsSound first idle (set holds at n) words free low
   unhold_held some held = hold_same some (held_not_free (get_or idle at false) (get_or holds at 0) held)
 
-pub read_bool : (xs : List Bool) (i : ℕ) (x b : Bool) → i < length xs → x ≡ get_or xs i x → x ≡ b → get_or xs i false ≡ b
-read_bool xs i x b within read is = get_or_default xs i false x within ∙ sym read ∙ is
+  -- a unit that is held is given back: it isn't free before or after
+  pub give_held_step : 0 < get_or holds at 0 → IsSound first (set idle at true) holds words free low
+  give_held_step held =
+      kept s (set idle at true) holds words at (length-set idle at true) refl refl within (idle_there idle holds at true) refl
+      (idle_here idle holds at true within ∙ held_not_free true (get_or holds at 0) held
+      ∙ sym (held_not_free (get_or idle at false) (get_or holds at 0) held))
 
-no_bit : (n i : ℕ) → bit (replicate n 0) i ≡ false
+  -- the holds of a unit that isn't idle change
+  pub hold_busy_step : get_or idle at false ≡ false → IsSound first idle (set holds at n) words free low
+  hold_busy_step busy = hold_more s at within words n refl
+      (holds_here idle holds at n (omega (arith, within, s.holds_all)) ∙ ap (λ b. b && (n == 0)) busy
+      ∙ sym (ap (λ b. b && (get_or holds at 0 == 0)) busy))
+
+-- words without a bit
+pub no_bit : (n i : ℕ) → bit (replicate n 0) i ≡ false
 no_bit n i = ap (λ w. bit_at w (i % 64) == 1) (zero_word n (i / 64)) ∙ ap (λ k. k == 1) (bit_at-zero (i % 64))
   where
     zero_word : (n k : ℕ) → get_or {A = ℕ} (replicate n 0) k 0 ≡ 0
@@ -125,30 +137,3 @@ no_bit n i = ap (λ w. bit_at w (i % 64) == 1) (zero_word n (i / 64)) ∙ ap (λ
       | inr le ↦
           get_or_past (replicate n 0) k 0 (omega (arith, le, length-replicate {A = ℕ} n 0))
     ]
-
-no_idle : (n i : ℕ) → get_or (replicate n false) i false ≡ false
-no_idle n i = elim (cases_lt i n) [
-  | inl lt ↦ get_or-replicate n i false false lt
-  | inr le ↦
-      get_or_past (replicate n false) i false (omega (arith, le, length-replicate n false))
-]
-
--- nothing is idle
-pub full_sound : (first n : ℕ) (idle : List Bool) (holds words : List ℕ) → n < 2 ^ 32 → first + n < 2 ^ 32 → idle ≡ replicate n false
-    → holds ≡ replicate n 0 → words ≡ replicate (n / 64 + 1) 0 → IsSound first idle holds words 0 0
-full_sound first n idle holds words few last idle_is holds_is words_is =
-    let idle_len : length idle ≡ n = ap length idle_is ∙ length-replicate n false in
-    let holds_len : length holds ≡ n = ap length holds_is ∙ length-replicate {A = ℕ} n 0 in
-    let words_len : length words ≡ n / 64 + 1 = ap length words_is ∙ length-replicate {A = ℕ} (n / 64 + 1) 0 in
-    let none : (i : ℕ) → idle_and_unheld idle holds i ≡ false =
-    λ i. ap (λ b. b && (get_or holds i 0 == 0)) (ap (λ xs. get_or xs i false) idle_is ∙ no_idle n i) in
-    let unset : (i : ℕ) → bit words i ≡ false = λ i. ap (λ ws. bit ws i) words_is ∙ no_bit (n / 64 + 1) i in
-    record {
-      holds_all = holds_len ∙ sym idle_len;
-      room = omega (arith, idle_len, words_len);
-      few = omega (arith, words_len, few);
-      last = omega (arith, idle_len, last);
-      bits = λ i. unset i ∙ sym (none i);
-      counted = sym (ap length (none_pass (idle_and_unheld idle holds) 0 (length idle) (λ q _ _. none q)));
-      below = λ i _. unset i;
-    }

@@ -1,4 +1,5 @@
 pub mod Words
 pub mod Units
 pub mod Sound
+pub mod Fields
 pub mod Fails

@@ -1,5 +1,5 @@
 -- Bits of a list of words of 64 bits.
-use Rattle.std.specs.Prelude.{◌≡◌, ℕ, ◌*◌, ◌/◌, ◌%◌, ◌==◌, ◌<◌, ◌≤◌, Bool, true, false, List, length, slice_index}
+use Rattle.std.specs.Prelude.{◌≡◌, ℕ, ◌*◌, ◌/◌, ◌%◌, ◌==◌, ◌<◌, ◌≤◌, ◌^◌, Bool, true, false, not, List, length, slice_index}
 use Rattle.std.specs.Int.{bit_at}
 
 -- the bit of a number: of word number / 64, counted from the lowest; past the words there is none
@@ -20,3 +20,10 @@ pub record IsFirstBitFrom (words : List ℕ) (from at : ℕ) : Type 0 where
   pub within : at < 64 * length words
   pub is_set : bit words at ≡ true
   pub none_between : HasNoBitBetween words from at
+
+-- the summary has a bit for each word that isn't zero
+pub record IsSummary (words summary : List ℕ) : Type 0 where
+  pub marks : (w : ℕ) → bit summary w ≡ not (slice_index words w == 0)
+  pub room : length words ≤ 64 * length summary
+  pub few : length words < 2 ^ 32
+  pub few_above : length summary < 2 ^ 32

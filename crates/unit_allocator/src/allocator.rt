@@ -1,10 +1,15 @@
 //! The free units of a range, by a bit for each.
-ghost use Rattle.std.specs.Prelude.{◌≡◌, ◌↔◌, ℕ, ◌+◌, ◌-◌, ◌<◌, ◌≤◌, ◌^◌, ◌++◌, ◌∷◌, [], false, length, replicate, take, MatchOption, MatchResult, IfOk, IfErr, OnOk, OnErr, IsTrue, vec_len, vec_capacity};
+ghost use Rattle.std.specs.Prelude.{◌≡◌, ◌≢◌, ◌↔◌, ℕ, ◌+◌, ◌-◌, ◌*◌, ◌<◌, ◌≤◌, ◌^◌, ◌++◌, ◌∷◌, [], true, false, length, replicate, take, MatchOption, IfOk, IfErr, OnOk, OnErr, IsTrue, vec_len, vec_capacity};
 ghost use Rattle.std.specs.List.{range_with_len};
 ghost use Rattle.unit_allocator.specs.Units.{free_units, is_free, holds_of, IsWithin, taken_one, given_one, taken, given, held, unheld, units_of, units_of_run, no_idle_units, freed_from};
+ghost use Rattle.unit_allocator.specs.Fields.{IsWithout};
+ghost use Rattle.unit_allocator.specs.Words.{bit};
 ghost use Rattle.unit_allocator.specs.Fails.{FailsBy};
 
-use crate::bits::{clear, mark_free, next, test};
+use crate::bits::{clear, low_bits, set, test};
+use crate::hold_counts::{add_hold, count_at, end_hold};
+use crate::indexed_bits::IndexedBits;
+use number_map::NumberMap;
 use std::alloc::{AllocError, Global};
 use std::marker::Model;
 use unit_fields::{UnitNo, UnitSet};
@@ -35,15 +40,19 @@ pub enum TakeFail {
 /// The units of a range, of which each is idle or given to somebody, and is held by any number of users. A unit is free where it
 /// is idle and nobody holds it; so a unit that is given back while a user still needs its bytes is free once the last hold ends.
 ///
-/// The kernel makes one at a mount, from the units that the rows own. It has one bit and five bytes for each unit, and no call
-/// but `new`, `take` and `lowest_units` takes memory: a commit can give units back whatever memory there is.
+/// The kernel makes one at a mount, from the units that the rows own. It has two bits for each unit, a bit for each 64 of them, and
+/// an entry for each unit that is held. No call but `new`, `take`, `lowest_units` and `hold` takes memory: a commit can give units
+/// back whatever memory there is.
 #[derive(Drop)]
 pub struct Allocator {
     first: u32,
-    idle: Vec<bool>,
-    holds: Vec<u32>,
+    count: u32,
+    // a bit for each idle unit
+    idle: Vec<u64>,
+    // how many hold a unit, of the units that are held
+    holds: NumberMap<u32>,
     // a bit for each free unit
-    words: Vec<u64>,
+    bits: IndexedBits,
     free: u32,
     // no unit below it is free; like the bits it counts from `first`
     low: usize,
@@ -51,52 +60,37 @@ pub struct Allocator {
 
 impl Model for Allocator {
     ghost use Rattle.unit_allocator.specs.Units.{Space, coded_space};
-    ghost use Rattle.unit_allocator.specs.Sound.{IsSound};
+    ghost use Rattle.unit_allocator.specs.Fields.{flags, hold_counts, AreSound};
 
     ghost Value = { Space };
 
     ghost coded = { coded_space };
 
-    ghost view = { λ a. record { first = a.first; idle = a.idle.items; holds = a.holds.items } };
+    ghost view = { λ a. record { first = a.first; idle = flags a.idle.items a.count; holds = hold_counts a.holds a.count } };
 
-    ghost invariant = { λ a. IsSound a.first a.idle.items a.holds.items a.words.items a.free a.low };
+    ghost invariant = { λ a. AreSound a.first a.count a.idle.items a.holds a.bits a.free a.low };
 }
 
-// Units none of which is idle or held.
-fn full(alloc: Global, first: u32, count: usize) -> Result<Allocator, AllocError>
-    requires few { count < 2 ^ 32 }
-    requires last { first + count < 2 ^ 32 }
-    ensures { IfOk result (λ space. space ≡ no_idle_units first count) }
+// Units all of which are free.
+fn all_free(alloc: Global, first: u32, count: u32) -> Result<Allocator, AllocError>
+    requires { first + count < 2 ^ 32 }
+    ensures first { IfOk result (λ space. space.first ≡ first) }
+    ensures idle { IfOk result (λ space. space.idle ≡ replicate count true) }
+    ensures holds { IfOk result (λ space. space.holds ≡ replicate count 0) }
 {
-    let idle = falses(alloc, count)?;
-    let holds = no_holds(alloc, count)?;
-    let words = no_words(alloc, count / 64 + 1)?;
+    let idle = low_bits(alloc, count as usize)?;
+    let words = low_bits(alloc, count as usize)?;
+    let bits = IndexedBits::new(alloc, words)?;
+    let holds = NumberMap::new(alloc);
     Ok(Allocator {
         first,
+        count,
         idle,
         holds,
-        words,
-        free: 0,
+        bits,
+        free: count,
         low: 0,
     })
-}
-
-fn falses(alloc: Global, count: usize) -> Result<Vec<bool>, AllocError>
-    ensures { IfOk result (λ v. v.items ≡ replicate count false) }
-{
-    vec![in alloc; false; count]
-}
-
-fn no_holds(alloc: Global, count: usize) -> Result<Vec<u32>, AllocError>
-    ensures { IfOk result (λ v. v.items ≡ replicate count 0) }
-{
-    vec![in alloc; 0u32; count]
-}
-
-fn no_words(alloc: Global, count: usize) -> Result<Vec<u64>, AllocError>
-    ensures { IfOk result (λ v. v.items ≡ replicate count 0) }
-{
-    vec![in alloc; 0u64; count]
 }
 
 impl Allocator {
@@ -112,14 +106,24 @@ impl Allocator {
         ensures { let count = end - first in
             IfOk result (λ space. space ≡ freed_from (no_idle_units first count) busy.now (range_with_len first count)) }
     {
-        let (first, end) = (first.number(), end.number());
-        let mut made = full(alloc, first, (end - first) as usize)?;
-        for unit in first..end {
-            if !busy.contains(unit) {
-                made.give_one(unit);
-            }
+        let first = first.number();
+        let count = end.number() - first;
+        let mut made = all_free(alloc, first, count)?;
+        for unit in busy.as_slice() {
+            made.leave_out(*unit);
         }
         Ok(made)
+    }
+
+    // Takes a unit of a new allocator, if it is one of the range and wasn't taken before.
+    fn leave_out(&mut self, unit: u32)
+        requires { (u : ℕ) → holds_of self.old u ≡ 0 }
+        ensures { IsWithout self.old self.new unit }
+    {
+        let place = UnitNo::new(unit);
+        if self.contains(place) && self.is_free(place) {
+            self.take_one(unit);
+        }
     }
 
     /// How many units are free. It is kept, and not counted anew.
@@ -134,7 +138,7 @@ impl Allocator {
         ensures { IsTrue result ↔ IsWithin self.now unit }
     {
         let unit = unit.number();
-        self.first <= unit && ((unit - self.first) as usize) < self.idle.len()
+        self.first <= unit && unit - self.first < self.count
     }
 
     /// Whether the unit is free.
@@ -142,7 +146,7 @@ impl Allocator {
         requires { IsWithin self.now unit }
         ensures { result ≡ is_free self.now unit }
     {
-        test(&self.words, (unit.number() - self.first) as usize)
+        self.bits.test((unit.number() - self.first) as usize)
     }
 
     /// How many hold the unit.
@@ -150,7 +154,7 @@ impl Allocator {
         requires { IsWithin self.now unit }
         ensures { result ≡ holds_of self.now unit }
     {
-        self.holds[(unit.number() - self.first) as usize]
+        count_at(&self.holds, unit.number() - self.first)
     }
 
     // The lowest free unit.
@@ -159,7 +163,7 @@ impl Allocator {
         ensures lowest { MatchOption result (free_units self.old ≡ []) (λ u. free_units self.old ≡ u ∷ free_units (taken_one self.old u)) }
         ensures within { MatchOption result (free_units self.old ≡ []) (λ u. IsWithin self.old u × IsTrue (is_free self.old u)) }
     {
-        match next(self.words.as_slice(), self.low) {
+        match self.bits.next(self.low) {
             Some(at) => {
                 self.low = at;
                 Some(self.first + at as u32)
@@ -175,8 +179,8 @@ impl Allocator {
         ensures { self.new ≡ taken_one self.old unit }
     {
         let at = (unit - self.first) as usize;
-        self.idle[at] = false;
-        clear(&mut self.words, at);
+        clear(&mut self.idle, at);
+        self.bits.clear(at);
         self.free -= 1;
     }
 
@@ -185,7 +189,7 @@ impl Allocator {
         requires { IsWithin self.now unit }
         ensures { IsTrue result ↔ (holds_of self.now unit ≡ 0) }
     {
-        self.holds[(unit - self.first) as usize] == 0
+        count_at(&self.holds, unit - self.first) == 0
     }
 
     // Gives a unit back that isn't free.
@@ -196,9 +200,9 @@ impl Allocator {
     {
         let unheld = self.is_unheld(unit);
         let at = (unit - self.first) as usize;
-        self.idle[at] = true;
+        set(&mut self.idle, at);
         if unheld {
-            mark_free(&mut self.words, &mut self.low, at);
+            mark_free(&mut self.bits, &mut self.low, at);
             self.free += 1;
         }
     }
@@ -208,13 +212,11 @@ impl Allocator {
         requires { IsWithin self.old unit }
         ensures ok { OnOk result (self.new ≡ held self.old unit) }
         ensures err { OnErr result (self.new ≡ self.old) }
-        ensures at_limit { OnErr result (holds_of self.old unit + 1 ≡ 2 ^ 32) }
     {
-        let at = (unit - self.first) as usize;
-        let count = one_more(self.holds[at])?;
-        self.holds[at] = count;
-        if test(&self.words, at) {
-            clear(&mut self.words, at);
+        let at = unit - self.first;
+        add_hold(&mut self.holds, at)?;
+        if self.bits.test(at as usize) {
+            self.bits.clear(at as usize);
             self.free -= 1;
         }
         Ok(())
@@ -226,11 +228,10 @@ impl Allocator {
         requires held { 0 < holds_of self.old unit }
         ensures { self.new ≡ unheld self.old unit }
     {
-        let at = (unit - self.first) as usize;
-        let count = self.holds[at] - 1;
-        self.holds[at] = count;
-        if count == 0 && self.idle[at] {
-            mark_free(&mut self.words, &mut self.low, at);
+        let at = unit - self.first;
+        let left = end_hold(&mut self.holds, at);
+        if left == 0 && test(&self.idle, at as usize) {
+            mark_free(&mut self.bits, &mut self.low, at as usize);
             self.free += 1;
         }
     }
@@ -240,7 +241,7 @@ impl Allocator {
         ensures lowest { MatchOption result (free_units self.now ≡ []) (λ u. free_units self.now ≡ u ∷ free_units (taken_one self.now u)) }
         ensures within { MatchOption result (free_units self.now ≡ []) (λ u. IsWithin self.now u × IsTrue (is_free self.now u)) }
     {
-        match next(self.words.as_slice(), self.low) {
+        match self.bits.next(self.low) {
             Some(at) => Some(UnitNo::new(self.first + at as u32)),
             None => None,
         }
@@ -265,7 +266,7 @@ impl Allocator {
         };
         let mut from = self.low;
         for _ in 0..n {
-            match next(self.words.as_slice(), from) {
+            match self.bits.next(from) {
                 Some(at) => {
                     units.push_reserved(UnitNo::new(self.first + at as u32));
                     from = at + 1;
@@ -289,12 +290,11 @@ impl Allocator {
     }
 
     /// Holds a unit once more, so that it isn't free until `unhold` was called as often. The caller is a transaction whose deferred
-    /// write goes to the unit. Err comes only where the unit has as many holds as a `u32` counts.
+    /// write goes to the unit. Err comes where there is no memory for the hold, or where the unit has as many as a `u32` counts.
     pub fn hold(&mut self, unit: UnitNo) -> Result<(), AllocError>
         requires { IsWithin self.old unit }
         ensures ok { OnOk result (self.new ≡ held self.old unit) }
         ensures err { OnErr result (self.new ≡ self.old) }
-        ensures at_limit { OnErr result (holds_of self.old unit + 1 ≡ 2 ^ 32) }
     {
         self.hold_one(unit.number())
     }
@@ -349,11 +349,17 @@ impl Allocator {
     }
 }
 
-// A count of holds with one more, where it fits.
-fn one_more(count: u32) -> Result<u32, AllocError>
-    ensures { MatchResult result (λ more. more ≡ count + 1) (λ _. count + 1 ≡ 2 ^ 32) }
+// Sets the bit of a number, and lowers the low mark, below which no bit is set, to it.
+fn mark_free(bits: &mut IndexedBits, low: &mut usize, i: usize)
+    requires { i < 64 * length bits.old }
+    ensures here { bit bits.new i ≡ true }
+    ensures elsewhere { (q : ℕ) → q ≢ i → bit bits.new q ≡ bit bits.old q }
+    ensures len { length bits.new ≡ length bits.old }
+    ensures not_above_old { low.new ≤ low.old }
+    ensures not_above { low.new ≤ i }
 {
-    count.checked_add(1).ok_or(AllocError)
+    bits.set(i);
+    *low = i.min(*low);
 }
 
 // Whether the unit comes next after those of a run, and its count can be one more.

@@ -5,6 +5,8 @@
 
 mod allocator;
 mod bits;
+mod hold_counts;
+mod indexed_bits;
 mod laws;
 
 pub use allocator::{Allocator, Run, TakeFail};

@@ -118,3 +118,76 @@ fn given_while_held(rt: HostRuntime) -> Result<(), Fail> {
     assert!(rt; takes(&rt, &mut space, 3, &[run(18, 1), run(20, 1), run(30, 1)])?);
     Ok(())
 }
+
+// As many units as a store has at most: none of them busy but the first 18 and each hundredth.
+const UNITS: u32 = 1_048_576;
+
+fn largest(rt: &HostRuntime) -> Result<Allocator, Fail> {
+    let mut busy = Vec::with_capacity(rt.alloc(), 10_486)?;
+    for place in 0..10_486u32 {
+        busy.push(place * 100)?;
+    }
+    let mut set = UnitSet::new(rt.alloc());
+    for unit in busy.as_slice() {
+        set.insert(*unit)?;
+    }
+    Ok(Allocator::new(rt.alloc(), UnitNo::new(18), UnitNo::new(UNITS), &set)?)
+}
+
+// Gives each unit of a run back.
+fn gives_run(space: &mut Allocator, run: Run) -> bool {
+    let first = run.first.number();
+    for unit in first..first.saturating_add(run.count) {
+        if !gives(space, unit) {
+            return false;
+        }
+    }
+    true
+}
+
+// The runs at even places.
+fn every_other(rt: &HostRuntime, runs: &[Run]) -> Result<Vec<Run>, Fail> {
+    let mut some = Vec::new(rt.alloc());
+    for i in 0..runs.len() {
+        if i % 2 == 0 {
+            some.push(runs[i])?;
+        }
+    }
+    Ok(some)
+}
+
+// Gives runs back.
+fn gives_runs(space: &mut Allocator, runs: &[Run]) -> bool {
+    for run in runs {
+        if !gives_run(space, *run) {
+            return false;
+        }
+    }
+    true
+}
+
+#[test]
+fn a_million_units(rt: HostRuntime) -> Result<(), Fail> {
+    let mut space = largest(&rt)?;
+    assert_eq!(rt; space.free_count(), 1_038_073);
+    let runs = space.take(rt.alloc(), 100_000)?;
+    assert_eq!(rt; runs.len(), 1011);
+    let given = every_other(&rt, runs.as_slice())?;
+    assert!(rt; gives_runs(&mut space, given.as_slice()));
+    assert_eq!(rt; space.free_count(), 988_078);
+    assert!(rt; takes(&rt, &mut space, 50_005, given.as_slice())?);
+    Ok(())
+}
+
+#[test]
+fn held_among_a_million(rt: HostRuntime) -> Result<(), Fail> {
+    let mut space = largest(&rt)?;
+    assert!(rt; holds(&mut space, 18) && holds(&mut space, 1_048_575));
+    assert_eq!(rt; space.free_count(), 1_038_071);
+    assert!(rt; space.lowest_free() == Some(UnitNo::new(19)));
+    assert!(rt; lets_go(&mut space, 18) && space.lowest_free() == Some(UnitNo::new(18)));
+    let _taken = space.take(rt.alloc(), 1_038_072)?;
+    assert!(rt; space.lowest_free() == None && lets_go(&mut space, 1_048_575));
+    assert!(rt; takes(&rt, &mut space, 1, &[run(1_048_575, 1)])?);
+    Ok(())
+}

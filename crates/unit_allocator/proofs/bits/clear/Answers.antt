@@ -1,6 +1,6 @@
 use Rattle.std.proofs.Common.{◌≡◌, ◌<◌, ◌/◌, length, rules, get_or, arith}
 use Rattle.std.proofs.lemmas.List.{get_or_read_under}
-use Rattle.unit_allocator.proofs.OneBit.{clear_here, clear_there}
+use Rattle.unit_allocator.proofs.OneBit.{clear_here, clear_there, other_words}
 use Rattle.unit_allocator.proofs.bits.clear.Goals as goal
 
 pub returns-clause-here : goal.returns-clause-here
@@ -18,3 +18,6 @@ returns-clause-elsewhere c =
     let read : c.index_mut.result.now ≡ get_or c.args.words.now.items (c.args.i / 64) 0 =
     get_or_read_under _ _ _ _ 0 c.index_mut.ensures.value at (search rules) in
     rw read (clear_there c.args.words.now.items c.args.i within)
+
+pub returns-clause-others : goal.returns-clause-others
+returns-clause-others c = other_words c.args.words.now.items (c.args.i / 64) _

@@ -1,0 +1,5 @@
+mod Bits
+mod Flipped
+mod Reading
+mod Sets
+mod Turning

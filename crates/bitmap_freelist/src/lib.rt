@@ -1,0 +1,18 @@
+//! The freelist: a bitmap in metadata rows that says which units are taken.
+//!
+//! In Ceph it is `BitmapFreelistManager`, whose rows are keys of RocksDB that are changed by a merge operator, the exclusive-or.
+#![tactic(auto)]
+
+mod flips;
+mod laws;
+mod marks;
+
+pub use flips::flip_ops;
+pub use laws::{
+    flips_change_order, flips_leave_other_rows, flips_stay_in_the_table, flips_turn_their_units,
+    flips_twice_restore,
+};
+pub use marks::read;
+
+#[cfg(test)]
+mod tests;

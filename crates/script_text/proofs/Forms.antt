@@ -10,8 +10,8 @@ use Rattle.object_model.specs.declared.op.Op.{Op}
 use Rattle.object_model.specs.declared.op.Op.TheVariants.{MkColl, Touch, Write}
 use Rattle.object_model.specs.declared.command.Command.TheVariants as command
 use Rattle.script_text.specs.Grammar.{HasNo, AreWords, in_words, IsNameWord, IsNumber, IsDataWord, op_word, AreTouchArgs, AreWriteArgs, AreArgs, AreChangeWords}
-use Rattle.script_text.specs.Grammar.{AreWordsOf, HasWholePages, Fits, IsLineOf, op_line, IsPassedOver}
-use Rattle.script_text.specs.Reading.{Reads, ReadsWords}
+use Rattle.script_text.specs.Grammar.{AreReadWords, AreObjectWords, AreListWords, AreWordsOf, HasWholePages, Fits, IsLineOf, op_line, IsPassedOver}
+use Rattle.script_text.specs.Reading.{NamesObject, Reads, ReadsWords}
 use Rattle.script_text.specs.declared.line.What.{What}
 use Rattle.script_text.specs.declared.line.What.TheVariants.{Command, Wait}
 use Rattle.script_text.proofs.Splits.{parts, no_part, has_no-append, has_none, differ}
@@ -19,6 +19,8 @@ use Rattle.script_text.proofs.Numbers.{no_space_digits, number_no_space, same_nu
 use Rattle.script_text.proofs.Names.{name_no_space, same_name}
 use Rattle.script_text.proofs.DataWords.{data_no_space, same_data}
 use Rattle.script_text.proofs.Words.{same_words}
+use Rattle.script_text.proofs.FirstWords.{IsOtherWord, other_words, change_only, read_only, sum_only, stat_only, list_only, wait_only}
+use Rattle.script_text.proofs.FirstWords.{read_same, object_same, list_same}
 
 -- what is known of a result that is Ok
 pub if_ok : {X E : Type 0} (P Q : X → Type 0) (r : Result X E) → ((x : X) → P x → Q x) → IfOk r P → IfOk r Q
@@ -77,9 +79,57 @@ op_worded (Write object off bytes) coll args none is = record {
 }
 op_worded op coll args none is = absurd is
 
+-- the words of a read of an object as a whole
+object_worded : (first : ℕ) (word : List ℕ) (words : List (List ℕ)) (c o : List ℕ) → 0x61 ≤ first → HasNo 0x20 (first ∷ word)
+    → AreObjectWords (first ∷ word) words c o → IsWorded words
+object_worded first word words c o letter none say = subst IsWorded (sym say.whole) (record {
+  first = first;
+  word = word;
+  behind = c ∷ say.object_word ∷ [];
+  letter = letter;
+  whole = refl;
+  no_spaces = (none, (coll_no_space c say.named, (name_no_space say.object_word o say.names, tt)));
+})
+
+-- the words of a read of an object's bytes
+read_worded : (words : List (List ℕ)) (c o : List ℕ) (off len : ℕ) → AreReadWords words c o off len → IsWorded words
+read_worded words c o off len say = subst IsWorded (sym say.whole) (record {
+  first = 0x72;
+  word = codes "ead";
+  behind = c ∷ say.object_word ∷ say.off_word ∷ say.len_word ∷ [];
+  letter = omega arith;
+  whole = refl;
+  no_spaces = (
+    has_none 0x20 (codes "read") refl,
+    (
+      coll_no_space c say.named,
+      (
+        name_no_space say.object_word o say.names,
+        (number_no_space say.off_word off say.offset, (number_no_space say.len_word len say.size, tt)),
+      ),
+    ),
+  );
+})
+
+-- the words of a read of a collection's names
+list_worded : (words : List (List ℕ)) (c : List ℕ) → AreListWords words c → IsWorded words
+list_worded words c say = subst IsWorded (sym say.whole) (record {
+  first = 0x6c;
+  word = codes "ist";
+  behind = c ∷ [];
+  letter = omega arith;
+  whole = refl;
+  no_spaces = (has_none 0x20 (codes "list") refl, (coll_no_space c say.named, tt));
+})
+
+-- the words of each line
 worded : (words : List (List ℕ)) (what : What) → AreWordsOf words what → IsWorded words
 worded words (Command (command.Change change)) say =
     subst IsWorded (sym say.whole) (op_worded say.op change.coll say.args (coll_no_space change.coll say.named) say.about)
+worded words (Command (command.Read c o off len)) say = read_worded words c o off len say
+worded words (Command (command.Sum c o)) say = object_worded 0x73 (codes "um") words c o (omega arith) (has_none 0x20 (codes "sum") refl) say
+worded words (Command (command.Stat c o)) say = object_worded 0x73 (codes "tat") words c o (omega arith) (has_none 0x20 (codes "stat") refl) say
+worded words (Command (command.List c)) say = list_worded words c say
 worded words Wait say = record {
   first = 0x77;
   word = codes "ait";
@@ -190,16 +240,51 @@ change_same words a b x y =
     let ops : x.op ≡ y.op = op_same x.args x.op y.op word x.about (subst (λ (l : List (List ℕ)). AreArgs l y.op) args y.about) in
     change_is a b colls (x.alone ∙ ap (λ (o : Op). o ∷ []) ops ∙ sym y.alone)
 
+-- words that say a read of bytes say nothing else
+read_says_one : (words : List (List ℕ)) (c o : List ℕ) (off len : ℕ) (b : What) → AreReadWords words c o off len → AreWordsOf words b
+    → Command (command.Read c o off len) ≡ b
+read_says_one words c o off len b x y =
+    let is = read_only words (c ∷ x.object_word ∷ x.off_word ∷ x.len_word ∷ []) b x.whole y in
+    ap Command (read_same words c is.coll o is.object off is.off len is.len x is.are) ∙ sym is.says
+
+-- words that say a sum say nothing else
+sum_says_one : (words : List (List ℕ)) (c o : List ℕ) (b : What) → AreObjectWords (codes "sum") words c o → AreWordsOf words b
+    → Command (command.Sum c o) ≡ b
+sum_says_one words c o b x y =
+    let is = sum_only words (c ∷ x.object_word ∷ []) b x.whole y in
+    ap Command (object_same (codes "sum") (λ d p. command.Sum d p) words c is.coll o is.object x is.are) ∙ sym is.says
+
+-- words that say a stat say nothing else
+stat_says_one : (words : List (List ℕ)) (c o : List ℕ) (b : What) → AreObjectWords (codes "stat") words c o → AreWordsOf words b
+    → Command (command.Stat c o) ≡ b
+stat_says_one words c o b x y =
+    let is = stat_only words (c ∷ x.object_word ∷ []) b x.whole y in
+    ap Command (object_same (codes "stat") (λ d p. command.Stat d p) words c is.coll o is.object x is.are) ∙ sym is.says
+
+-- words that say a list say nothing else
+list_says_one : (words : List (List ℕ)) (c : List ℕ) (b : What) → AreListWords words c → AreWordsOf words b → Command (command.List c) ≡ b
+list_says_one words c b x y = let is = list_only words (c ∷ []) b x.whole y in ap Command (list_same words c is.coll x is.are) ∙ sym is.says
+
+-- words that say to wait say nothing else
+wait_says_one : (words : List (List ℕ)) (b : What) → words ≡ codes "wait" ∷ [] → AreWordsOf words b → Wait ≡ b
+wait_says_one words b x y = sym (wait_only words [] b x y)
+
+-- words say one thing
 words_say_one : (words : List (List ℕ)) (a b : What) → AreWordsOf words a → AreWordsOf words b → a ≡ b
 words_say_one words (Command (command.Change c)) (Command (command.Change d)) x y =
     ap (λ (z : Change). Command (command.Change z)) (change_same words c d x y)
-words_say_one words (Command (command.Change c)) Wait x y =
-    let two : op_word x.op ∷ c.coll ∷ x.args ≡ codes "wait" ∷ [] = sym x.whole ∙ y in absurd cc
-words_say_one words Wait (Command (command.Change d)) x y =
-    let two : op_word y.op ∷ d.coll ∷ y.args ≡ codes "wait" ∷ [] = sym y.whole ∙ x in absurd cc
-words_say_one words Wait Wait x y = refl
+words_say_one words (Command (command.Change c)) (Command (command.Read d o off len)) x y =
+    sym (read_says_one words d o off len (Command (command.Change c)) y x)
+words_say_one words (Command (command.Change c)) (Command (command.Sum d o)) x y = sym (sum_says_one words d o (Command (command.Change c)) y x)
+words_say_one words (Command (command.Change c)) (Command (command.Stat d o)) x y = sym (stat_says_one words d o (Command (command.Change c)) y x)
+words_say_one words (Command (command.Change c)) (Command (command.List d)) x y = sym (list_says_one words d (Command (command.Change c)) y x)
+words_say_one words (Command (command.Change c)) Wait x y = sym (wait_says_one words (Command (command.Change c)) y x)
 words_say_one words (Command (command.Change c)) b x y = absurd y
-words_say_one words Wait b x y = absurd y
+words_say_one words (Command (command.Read c o off len)) b x y = read_says_one words c o off len b x y
+words_say_one words (Command (command.Sum c o)) b x y = sum_says_one words c o b x y
+words_say_one words (Command (command.Stat c o)) b x y = stat_says_one words c o b x y
+words_say_one words (Command (command.List c)) b x y = list_says_one words c b x y
+words_say_one words Wait b x y = wait_says_one words b x y
 words_say_one words a b x y = absurd x
 
 pub line_says_one : (text : List ℕ) (a b : What) → IsLineOf text a → IsLineOf text b → a ≡ b
@@ -215,27 +300,21 @@ one_word text what none line = by what (line_words text [] text what (none, tt) 
   where
     by : (what : What) → AreWordsOf (text ∷ []) what → text ≡ codes "wait"
     by (Command (command.Change change)) say = let two : text ∷ [] ≡ op_word say.op ∷ change.coll ∷ say.args = say.whole in absurd cc
+    by (Command (command.Read c o off len)) say =
+        let two : text ∷ [] ≡ codes "read" ∷ c ∷ say.object_word ∷ say.off_word ∷ say.len_word ∷ [] = say.whole in absurd cc
+    by (Command (command.Sum c o)) say = let two : text ∷ [] ≡ codes "sum" ∷ c ∷ say.object_word ∷ [] = say.whole in absurd cc
+    by (Command (command.Stat c o)) say = let two : text ∷ [] ≡ codes "stat" ∷ c ∷ say.object_word ∷ [] = say.whole in absurd cc
+    by (Command (command.List c)) say = let two : text ∷ [] ≡ codes "list" ∷ c ∷ [] = say.whole in absurd cc
     by Wait say = let one : text ∷ [] ≡ codes "wait" ∷ [] = say in cc
     by what say = absurd say
 
 pub wait_line : (text : List ℕ) → text ≡ codes "wait" → IsLineOf text Wait
 wait_line text is = record { words = codes "wait" ∷ []; whole = is; say = refl; fits = tt }
 
--- the first word of a line of several is that of an operation
-pub op_word_first : (word : List ℕ) (n : List ℕ) (ws : List (List ℕ)) (what : What) → word ≢ codes "mkcoll" → word ≢ codes "touch" → word ≢ codes "write"
-    → AreWordsOf (word ∷ n ∷ ws) what → ⊥
-op_word_first word n ws (Command (command.Change change)) no_mkcoll no_touch no_write say =
-    let both : word ∷ n ∷ ws ≡ op_word say.op ∷ change.coll ∷ say.args = say.whole in
-    let first : word ≡ op_word say.op = cc in
-    by say.op say.args first say.about
-  where
-    by : (op : Op) (args : List (List ℕ)) → word ≡ op_word op → AreArgs args op → ⊥
-    by MkColl args first about = no_mkcoll first
-    by (Touch object) args first about = no_touch first
-    by (Write object off bytes) args first about = no_write first
-    by op args first about = about
-op_word_first word n ws Wait no_mkcoll no_touch no_write say = let both : word ∷ n ∷ ws ≡ codes "wait" ∷ [] = say in cc
-op_word_first word n ws what no_mkcoll no_touch no_write say = say
+-- a line of several words begins with one of the known words
+pub no_line : (word rest : List ℕ) (what : What) → HasNo 0x20 word → IsOtherWord word → ¬ (IsLineOf (word ++ (0x20 ∷ rest)) what)
+no_line word rest what none other line =
+    let behind = behind_first word rest what none line in other_words word behind.next behind.words what other behind.say
 
 -- ---- `mkcoll`
 
@@ -246,14 +325,13 @@ mkcoll_args (Write object off bytes) args word about = absurd (differ (codes "mk
 mkcoll_args op args word about = absurd about
 
 mkcoll_words : (n : List ℕ) (ws : List (List ℕ)) (what : What) → AreWordsOf (codes "mkcoll" ∷ n ∷ ws) what → IsCollName n × (ws ≡ [])
-mkcoll_words n ws (Command (command.Change change)) say =
-    let both : codes "mkcoll" ∷ n ∷ ws ≡ op_word say.op ∷ change.coll ∷ say.args = say.whole in
-    let word : codes "mkcoll" ≡ op_word say.op = cc in
-    let coll : change.coll ≡ n = cc in
-    let args : ws ≡ say.args = cc in
-    (subst IsCollName coll say.named, args ∙ mkcoll_args say.op say.args word say.about)
-mkcoll_words n ws Wait say = let both : codes "mkcoll" ∷ n ∷ ws ≡ codes "wait" ∷ [] = say in absurd cc
-mkcoll_words n ws what say = absurd say
+mkcoll_words n ws what say =
+    let of = change_only (codes "mkcoll") (n ∷ ws) what refl refl refl refl refl say in
+    let both : codes "mkcoll" ∷ n ∷ ws ≡ op_word of.are.op ∷ of.change.coll ∷ of.are.args = of.are.whole in
+    let word : codes "mkcoll" ≡ op_word of.are.op = cc in
+    let coll : of.change.coll ≡ n = cc in
+    let args : ws ≡ of.are.args = cc in
+    (subst IsCollName coll of.are.named, args ∙ mkcoll_args of.are.op of.are.args word of.are.about)
 
 pub mkcoll_says : (rest : List ℕ) (what : What) → IsLineOf (codes "mkcoll" ++ (0x20 ∷ rest)) what → IsCollName rest
 mkcoll_says rest what line =
@@ -272,70 +350,93 @@ mkcoll_line rest coll what is named says =
 
 -- ---- `touch`
 
--- the words behind `touch` say this
-pub record IsTouch (coll object : List ℕ) : Type 0 where
-  pub name : List ℕ
-  pub is_coll : IsCollName coll
-  pub names : IsNameWord object name
+-- the text names an object
+pub record HasObject (text : List ℕ) : Type 0 where
+  pub coll : List ℕ
+  pub object : List ℕ
+  pub names : NamesObject text coll object
 
--- two words, and what they hold
-record AreTwo (n : List ℕ) (ws : List (List ℕ)) : Type 0 where
+-- where the words of a line are a known one, and the names of a collection and of an object
+pub names_behind : (word n : List ℕ) (ws : List (List ℕ)) (rest coll object object_word : List ℕ) → rest ≡ in_words (n ∷ ws)
+    → word ∷ n ∷ ws ≡ word ∷ coll ∷ object_word ∷ [] → IsCollName coll → IsNameWord object_word object → NamesObject rest coll object
+names_behind word n ws rest coll object object_word is both named names =
+    let tails : n ∷ ws ≡ coll ∷ object_word ∷ [] = cc in
+    record { object_word = object_word; named = named; whole = is ∙ ap in_words tails; names = names }
+
+-- what is known of the arguments of a touch
+record HasTouch (args : List (List ℕ)) : Type 0 where
   object : List ℕ
-  two : ws ≡ object ∷ []
-  touch : IsTouch n object
+  are : AreTouchArgs args object
 
-two_args : (n coll : List ℕ) (args : List (List ℕ)) (op : Op) → codes "touch" ≡ op_word op → AreArgs args op → coll ≡ n → IsCollName coll → AreTwo n args
-two_args n coll args MkColl word about is named = absurd (differ (codes "touch") (codes "mkcoll") refl word)
-two_args n coll args (Touch object) word about is named = record {
-  object = about.object_word;
-  two = about.words;
-  touch = record { name = object; is_coll = subst IsCollName is named; names = about.names };
+-- behind `touch` stand the arguments of a touch
+touch_args : (op : Op) (args : List (List ℕ)) → codes "touch" ≡ op_word op → AreArgs args op → HasTouch args
+touch_args MkColl args word about = absurd (differ (codes "touch") (codes "mkcoll") refl word)
+touch_args (Touch object) args word about = record { object = object; are = about }
+touch_args (Write object off bytes) args word about = absurd (differ (codes "touch") (codes "write") refl word)
+touch_args op args word about = absurd about
+
+-- words that are a collection's name and the arguments of a touch
+touched : (n : List ℕ) (ws : List (List ℕ)) (rest coll : List ℕ) (args : List (List ℕ)) → rest ≡ in_words (n ∷ ws) → n ∷ ws ≡ coll ∷ args
+    → IsCollName coll → HasTouch args → HasObject rest
+touched n ws rest coll args is tails named touch = record {
+  coll = coll;
+  object = touch.object;
+  names = record {
+    object_word = touch.are.object_word;
+    named = named;
+    whole = is ∙ ap in_words (tails ∙ ap (λ (l : List (List ℕ)). coll ∷ l) touch.are.words);
+    names = touch.are.names;
+  };
 }
-two_args n coll args (Write object off bytes) word about is named = absurd (differ (codes "touch") (codes "write") refl word)
-two_args n coll args op word about is named = absurd about
 
-two_words : (n : List ℕ) (ws : List (List ℕ)) (what : What) → AreWordsOf (codes "touch" ∷ n ∷ ws) what → AreTwo n ws
-two_words n ws (Command (command.Change change)) say =
-    let both : codes "touch" ∷ n ∷ ws ≡ op_word say.op ∷ change.coll ∷ say.args = say.whole in
-    let word : codes "touch" ≡ op_word say.op = cc in
-    let coll : change.coll ≡ n = cc in
-    let args : say.args ≡ ws = cc in
-    subst (λ (l : List (List ℕ)). AreTwo n l) args (two_args n change.coll say.args say.op word say.about coll say.named)
-two_words n ws Wait say = let both : codes "touch" ∷ n ∷ ws ≡ codes "wait" ∷ [] = say in absurd cc
-two_words n ws what say = absurd say
+-- the words of a line of `touch` name an object
+touch_words : (n : List ℕ) (ws : List (List ℕ)) (rest : List ℕ) (what : What) → rest ≡ in_words (n ∷ ws) → AreWordsOf (codes "touch" ∷ n ∷ ws) what
+    → HasObject rest
+touch_words n ws rest what is say =
+    let of = change_only (codes "touch") (n ∷ ws) what refl refl refl refl refl say in
+    let both : codes "touch" ∷ n ∷ ws ≡ op_word of.are.op ∷ of.change.coll ∷ of.are.args = of.are.whole in
+    let word : codes "touch" ≡ op_word of.are.op = cc in
+    let tails : n ∷ ws ≡ of.change.coll ∷ of.are.args = cc in
+    touched n ws rest of.change.coll of.are.args is tails of.are.named (touch_args of.are.op of.are.args word of.are.about)
 
-pub touch_words : (coll object : List ℕ) (what : What) → AreWordsOf (codes "touch" ∷ coll ∷ object ∷ []) what → IsTouch coll object
-touch_words coll object what say =
-    let of = two_words coll (object ∷ []) what say in
-    let both : of.object ∷ [] ≡ object ∷ [] = sym of.two in
-    let objects : of.object ≡ object = cc in
-    subst (λ (l : List ℕ). IsTouch coll l) objects of.touch
-
-pub touch_say : (coll object c o : List ℕ) (what : What) → c ≡ coll → IsCollName coll → IsNameWord object o → what ≡ op_line c (Touch o)
-    → AreWordsOf (codes "touch" ∷ coll ∷ object ∷ []) what × Fits what
-touch_say coll object c o what is named names says =
-    subst (λ (w : What). AreWordsOf (codes "touch" ∷ coll ∷ object ∷ []) w × Fits w)
-    (sym (says ∙ ap (λ (l : List ℕ). op_line l (Touch o)) is)) (
-      record {
-        op = Touch o;
-        args = object ∷ [];
-        alone = refl;
-        named = named;
-        whole = refl;
-        about = record { object_word = object; words = refl; names = names };
-      },
-      tt,
-    )
-
--- a line of `touch` has two words behind it
-pub no_two : (rest : List ℕ) (what : What) → ((a b : List ℕ) → AreWords (a ∷ b ∷ []) → rest ≢ in_words (a ∷ b ∷ []))
-    → ¬ (IsLineOf (codes "touch" ++ (0x20 ∷ rest)) what)
-no_two rest what none line =
+-- a line of `touch` names an object
+pub touch_says : (rest : List ℕ) (what : What) → IsLineOf (codes "touch" ++ (0x20 ∷ rest)) what → HasObject rest
+touch_says rest what line =
     let behind = behind_first (codes "touch") rest what (has_none 0x20 (codes "touch") refl) line in
-    let of = two_words behind.next behind.words what behind.say in
-    none behind.next of.object
-    (subst (λ (l : List (List ℕ)). AreWords (behind.next ∷ l)) of.two behind.no_spaces)
-    (behind.whole ∙ ap (λ (l : List (List ℕ)). in_words (behind.next ∷ l)) of.two)
+    touch_words behind.next behind.words rest what behind.whole behind.say
+
+-- a text that names an object behind `touch`
+pub touch_line : (rest c o : List ℕ) (what : What) → NamesObject rest c o → what ≡ op_line c (Touch o) → IsLineOf (codes "touch" ++ (0x20 ∷ rest)) what
+touch_line rest c o what is says =
+    subst (λ (w : What). IsLineOf (codes "touch" ++ (0x20 ∷ rest)) w) (sym says) (record {
+      words = codes "touch" ∷ c ∷ is.object_word ∷ [];
+      whole = ap (λ (l : List ℕ). codes "touch" ++ (0x20 ∷ l)) is.whole;
+      say = record {
+        op = Touch o;
+        args = is.object_word ∷ [];
+        alone = refl;
+        named = is.named;
+        whole = refl;
+        about = record { object_word = is.object_word; words = refl; names = is.names };
+      };
+      fits = tt;
+    })
+
+-- a text that isn't two words names no object
+pub no_names : (text : List ℕ) (coll object : List ℕ) → ((a b : List ℕ) → AreWords (a ∷ b ∷ []) → text ≢ in_words (a ∷ b ∷ []))
+    → ¬ (NamesObject text coll object)
+no_names text coll object none is =
+    none coll is.object_word (coll_no_space coll is.named, (name_no_space is.object_word object is.names, tt)) is.whole
+
+-- the two words of a text that names an object
+pub two_names : (text a b coll object : List ℕ) → AreWords (a ∷ b ∷ []) → text ≡ in_words (a ∷ b ∷ []) → NamesObject text coll object
+    → IsCollName a × IsNameWord b object
+two_names text a b coll object are whole is =
+    let same = same_words a coll (b ∷ []) (is.object_word ∷ []) are
+    (coll_no_space coll is.named, (name_no_space is.object_word object is.names, tt)) (sym whole ∙ is.whole) in
+    let colls : coll ≡ a = cc in
+    let words : is.object_word ≡ b = cc in
+    (subst IsCollName colls is.named, subst (λ (w : List ℕ). IsNameWord w object) words is.names)
 
 -- ---- `write`
 
@@ -381,15 +482,15 @@ four_args n coll args (Write object off bytes) word about page is named = record
 four_args n coll args op word about page is named = absurd about
 
 four_words : (n : List ℕ) (ws : List (List ℕ)) (what : What) → AreWordsOf (codes "write" ∷ n ∷ ws) what → Fits what → AreFour n ws
-four_words n ws (Command (command.Change change)) say fits =
-    let both : codes "write" ∷ n ∷ ws ≡ op_word say.op ∷ change.coll ∷ say.args = say.whole in
-    let word : codes "write" ≡ op_word say.op = cc in
-    let coll : change.coll ≡ n = cc in
-    let args : say.args ≡ ws = cc in
+four_words n ws what say fits =
+    let of = change_only (codes "write") (n ∷ ws) what refl refl refl refl refl say in
+    let pages : HasWholePages of.change.ops = subst Fits of.says fits in
+    let both : codes "write" ∷ n ∷ ws ≡ op_word of.are.op ∷ of.change.coll ∷ of.are.args = of.are.whole in
+    let word : codes "write" ≡ op_word of.are.op = cc in
+    let coll : of.change.coll ≡ n = cc in
+    let args : of.are.args ≡ ws = cc in
     subst (λ (l : List (List ℕ)). AreFour n l) args
-    (four_args n change.coll say.args say.op word say.about (subst HasWholePages say.alone fits) coll say.named)
-four_words n ws Wait say fits = let both : codes "write" ∷ n ∷ ws ≡ codes "wait" ∷ [] = say in absurd cc
-four_words n ws what say fits = absurd say
+    (four_args n of.change.coll of.are.args of.are.op word of.are.about (subst HasWholePages of.are.alone pages) coll of.are.named)
 
 pub write_words : (coll object off holds : List ℕ) (what : What) → AreWordsOf (codes "write" ∷ coll ∷ object ∷ off ∷ holds ∷ []) what → Fits what
     → IsWrite coll object off holds
@@ -435,21 +536,8 @@ pub words_read : (w : List ℕ) (ws : List (List ℕ)) (text : List ℕ) (o : Op
 words_read w ws text None are is none = λ what line. none what (line_words w ws text what are is line) line.fits
 words_read w ws text (Some what) are is say = record { words = w ∷ ws; whole = is; say = say.0; fits = say.1 }
 
-pub write_reads : (rest a b c d : List ℕ) (o : Option What) → AreWords (a ∷ b ∷ c ∷ d ∷ []) → rest ≡ in_words (a ∷ b ∷ c ∷ d ∷ [])
-    → ReadsWords (codes "write" ∷ a ∷ b ∷ c ∷ d ∷ []) o → Reads (codes "write" ++ (0x20 ∷ rest)) o
-write_reads rest a b c d o are is found =
-    words_read (codes "write") (a ∷ b ∷ c ∷ d ∷ []) (codes "write" ++ (0x20 ∷ rest)) o (has_none 0x20 (codes "write") refl, are)
-    (ap (λ (l : List ℕ). codes "write" ++ (0x20 ∷ l)) is) found
-
-pub touch_reads : (rest a b : List ℕ) (o : Option What) → AreWords (a ∷ b ∷ []) → rest ≡ in_words (a ∷ b ∷ [])
-    → ReadsWords (codes "touch" ∷ a ∷ b ∷ []) o → Reads (codes "touch" ++ (0x20 ∷ rest)) o
-touch_reads rest a b o are is found =
-    words_read (codes "touch") (a ∷ b ∷ []) (codes "touch" ++ (0x20 ∷ rest)) o (has_none 0x20 (codes "touch") refl, are)
-    (ap (λ (l : List ℕ). codes "touch" ++ (0x20 ∷ l)) is) found
-
--- a line of several words begins with the word of an operation
-pub no_line : (word rest : List ℕ) (what : What) → HasNo 0x20 word → word ≢ codes "mkcoll" → word ≢ codes "touch" → word ≢ codes "write"
-    → ¬ (IsLineOf (word ++ (0x20 ∷ rest)) what)
-no_line word rest what none no_mkcoll no_touch no_write line =
-    let behind = behind_first word rest what none line in
-    op_word_first word behind.next behind.words what no_mkcoll no_touch no_write behind.say
+-- the same of a word and four behind it
+pub four_read : (word rest a b c d : List ℕ) (o : Option What) → HasNo 0x20 word → AreWords (a ∷ b ∷ c ∷ d ∷ [])
+    → rest ≡ in_words (a ∷ b ∷ c ∷ d ∷ []) → ReadsWords (word ∷ a ∷ b ∷ c ∷ d ∷ []) o → Reads (word ++ (0x20 ∷ rest)) o
+four_read word rest a b c d o none are is found =
+    words_read word (a ∷ b ∷ c ∷ d ∷ []) (word ++ (0x20 ∷ rest)) o (none, are) (ap (λ (l : List ℕ). word ++ (0x20 ∷ l)) is) found

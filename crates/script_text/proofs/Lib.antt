@@ -2,10 +2,13 @@ pub mod Splits
 pub mod Spelled
 pub mod Digits
 pub mod Names
+pub mod Pushes
 pub mod Numbers
 pub mod DataWords
 pub mod Words
+pub mod FirstWords
 pub mod Forms
+pub mod ReadForms
 pub mod Scripts
 pub mod Lines
 pub mod Readers

@@ -7,11 +7,13 @@ use Rattle.script_text.specs.Grammar.{HasNo, AreBytes, IsNameWord, is_plain, hex
 use Rattle.script_text.proofs.Spelled.{IsCode, spelled-has_no, spelled_same, length-spelled-le}
 use Rattle.script_text.proofs.Digits.{pair_parts, pair_no, length-pair}
 
-escape_plain : (b : ℕ) → is_plain b ≡ true → escape b ≡ b ∷ []
+-- a byte that stands for itself
+pub escape_plain : (b : ℕ) → is_plain b ≡ true → escape b ≡ b ∷ []
 unfolding escape
 escape_plain b plain = ap (λ (p : Bool). cond p (b ∷ []) (0x25 ∷ hex_pair 0x41 b)) plain
 
-escape_other : (b : ℕ) → is_plain b ≡ false → escape b ≡ 0x25 ∷ hex_pair 0x41 b
+-- any other byte
+pub escape_other : (b : ℕ) → is_plain b ≡ false → escape b ≡ 0x25 ∷ hex_pair 0x41 b
 unfolding escape
 escape_other b other = ap (λ (p : Bool). cond p (b ∷ []) (0x25 ∷ hex_pair 0x41 b)) other
 

@@ -13,6 +13,11 @@ pub spelled_nil : (code : ℕ → List ℕ) → spelled_by code [] ≡ []
 unfolding spelled_by
 spelled_nil code = refl
 
+-- the first byte first
+pub spelled_more : (code : ℕ → List ℕ) (b : ℕ) (bytes : List ℕ) → spelled_by code (b ∷ bytes) ≡ code b ++ spelled_by code bytes
+unfolding spelled_by
+spelled_more code b bytes = refl
+
 pub spelled-has_no : (code : ℕ → List ℕ) (c : ℕ) → ((b : ℕ) → HasNo c (code b)) → (bytes : List ℕ) → HasNo c (spelled_by code bytes)
 unfolding spelled_by
 spelled-has_no code c none [] = tt

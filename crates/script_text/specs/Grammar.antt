@@ -138,9 +138,36 @@ pub record AreChangeWords (words : List (List ℕ)) (change : Change) : Type 0 w
   pub whole : words ≡ op_word op ∷ change.coll ∷ args
   pub about : AreArgs args op
 
+-- the words of a read of an object's bytes: `read C O NUM NUM`, the offset and the length
+pub record AreReadWords (words : List (List ℕ)) (coll object : List ℕ) (off len : ℕ) : Type 0 where
+  pub object_word : List ℕ
+  pub off_word : List ℕ
+  pub len_word : List ℕ
+  pub named : IsCollName coll
+  pub whole : words ≡ codes "read" ∷ coll ∷ object_word ∷ off_word ∷ len_word ∷ []
+  pub names : IsNameWord object_word object
+  pub offset : IsNumber off_word off
+  pub size : IsNumber len_word len
+
+-- the words of a read of an object as a whole: this one, `C` and `O`
+pub record AreObjectWords (word : List ℕ) (words : List (List ℕ)) (coll object : List ℕ) : Type 0 where
+  pub object_word : List ℕ
+  pub named : IsCollName coll
+  pub whole : words ≡ word ∷ coll ∷ object_word ∷ []
+  pub names : IsNameWord object_word object
+
+-- the words of a read of a collection's names: `list C`
+pub record AreListWords (words : List (List ℕ)) (coll : List ℕ) : Type 0 where
+  pub named : IsCollName coll
+  pub whole : words ≡ codes "list" ∷ coll ∷ []
+
 -- the words say this
 abbrev pub AreWordsOf : List (List ℕ) → What → Type 0
 AreWordsOf words (Command (command.Change change)) = AreChangeWords words change
+AreWordsOf words (Command (command.Read coll object off len)) = AreReadWords words coll object off len
+AreWordsOf words (Command (command.Sum coll object)) = AreObjectWords (codes "sum") words coll object
+AreWordsOf words (Command (command.Stat coll object)) = AreObjectWords (codes "stat") words coll object
+AreWordsOf words (Command (command.List coll)) = AreListWords words coll
 AreWordsOf words Wait = words ≡ codes "wait" ∷ []
 AreWordsOf words what = ⊥
 
@@ -151,9 +178,13 @@ HasWholePages (Touch object ∷ []) = Unit {0}
 HasWholePages (Write object off bytes ∷ []) = (off % 4096 ≡ 0) × (length bytes % 4096 ≡ 0) × (0 < length bytes)
 HasWholePages ops = ⊥
 
--- what the kernel can do so far: any other line is a bad one
+-- what the kernel can do so far, each of these reads too: any other line is a bad one
 abbrev pub Fits : What → Type 0
 Fits (Command (command.Change change)) = HasWholePages change.ops
+Fits (Command (command.Read coll object off len)) = Unit {0}
+Fits (Command (command.Sum coll object)) = Unit {0}
+Fits (Command (command.Stat coll object)) = Unit {0}
+Fits (Command (command.List coll)) = Unit {0}
 Fits Wait = Unit {0}
 Fits what = ⊥
 

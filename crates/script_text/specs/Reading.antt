@@ -1,7 +1,8 @@
 -- What is known of a reader of a script that has taken some of it.
 use Rattle.std.specs.Prelude.{◌≡◌, ◌⊎◌, slice_index, ℕ, ◌+◌, ◌≤◌, Bool, true, false, List, [], ◌∷◌, ◌++◌, length, Option, Some, None, MatchOption, IfSome}
 use Rattle.std.specs.List.{AllByRecursion}
-use Rattle.script_text.specs.Grammar.{HasNo, AreWordsOf, Fits, IsLineOf, IsPassedOver}
+use Rattle.unit_fields.specs.Names.{IsCollName}
+use Rattle.script_text.specs.Grammar.{HasNo, in_words, IsNameWord, AreWordsOf, Fits, IsLineOf, IsPassedOver}
 use Rattle.script_text.specs.Script.{script_limit, line_limit, command_limit, ended, commands, numbered}
 use Rattle.script_text.specs.Script.{AreGood, IsOutside, IsOneTooMany, IsScript, IsBadAt, IsTextOf}
 use Rattle.script_text.specs.declared.fail.ScriptFail.{ScriptFail}
@@ -26,6 +27,13 @@ Reads text found = MatchOption found ((what : What) → ¬ (IsLineOf text what))
 -- what words were found to say
 abbrev pub ReadsWords : List (List ℕ) → Option What → Type 0
 ReadsWords words found = MatchOption found ((what : What) → AreWordsOf words what → ¬ (Fits what)) (λ what. AreWordsOf words what × Fits what)
+
+-- the text is a collection's name and a word of an object's name
+pub record NamesObject (text coll object : List ℕ) : Type 0 where
+  pub object_word : List ℕ
+  pub named : IsCollName coll
+  pub whole : text ≡ in_words (coll ∷ object_word ∷ [])
+  pub names : IsNameWord object_word object
 
 -- what a line was found to be
 abbrev pub IsReading : List ℕ → Reading → Type 0

@@ -1,6 +1,6 @@
 //! Names as they are spelled.
-ghost use Rattle.std.specs.Prelude.{◌≡◌, ◌≢◌, ◌++◌, ◌<◌, ℕ, List, IfOk, MatchOption};
-ghost use Rattle.script_text.specs.Grammar.{AreBytes, IsNameWord, is_plain, escape, escaped};
+ghost use Rattle.std.specs.Prelude.{◌≡◌, ◌≢◌, ◌++◌, ◌∷◌, ◌<◌, ℕ, List, IfOk, OnOk, MatchOption, string_bytes};
+ghost use Rattle.script_text.specs.Grammar.{AreBytes, IsNameWord, is_plain, hex_digit, hex_pair, escape, escaped};
 
 use crate::hex::split_pair;
 use crate::split::split_first;
@@ -69,4 +69,48 @@ pub fn read_name(alloc: Global, word: &[u8]) -> Result<Option<Name>, AllocError>
         return Ok(None);
     };
     Name::read(alloc, bytes.as_slice())
+}
+
+/// A digit of sixteen, where those from ten on are capital letters.
+fn capital_digit(value: u8) -> char
+    requires { value < 16 }
+    ensures { result ≡ hex_digit 0x41 value }
+{
+    let digit = if value < 10 {
+        b'0' + value
+    } else {
+        b'A' + (value - 10)
+    };
+    char::from(digit)
+}
+
+/// Adds `%` and the two digits of a byte.
+fn push_pair(text: &mut String, byte: u8) -> Result<(), AllocError>
+    ensures { OnOk result (string_bytes text.new ≡ string_bytes text.old ++ (0x25 ∷ hex_pair 0x41 byte)) }
+{
+    text.push('%')?;
+    text.push(capital_digit(byte / 16))?;
+    text.push(capital_digit(byte % 16))
+}
+
+/// Adds a byte of a name as scripts spell it.
+fn push_byte(text: &mut String, byte: u8) -> Result<(), AllocError>
+    ensures { OnOk result (string_bytes text.new ≡ string_bytes text.old ++ escape byte) }
+{
+    if !is_plain_byte(byte) {
+        return push_pair(text, byte);
+    }
+    text.push(char::from(byte))
+}
+
+/// Adds a name as scripts spell it: letters, digits, `.`, `_` and `-` stand for themselves, and every other byte is `%`
+/// and two hexadecimal digits with capital letters. Answers are printed so, and `read_name` reads such a word back.
+/// After an `Err` the text may have some of the name's bytes already.
+pub fn push_name(text: &mut String, name: &[u8]) -> Result<(), AllocError>
+    ensures { OnOk result (string_bytes text.new ≡ string_bytes text.old ++ escaped name.now) }
+{
+    for byte in name {
+        push_byte(text, *byte)?;
+    }
+    Ok(())
 }

@@ -1,7 +1,7 @@
 //! What a line says.
-ghost use Rattle.std.specs.Prelude.{◌≡◌, ◌↔◌, ◌<◌, ◌%◌, ◌++◌, ◌∷◌, [], IfOk, IsTrue, codes};
+ghost use Rattle.std.specs.Prelude.{◌≡◌, ◌↔◌, ◌<◌, ◌%◌, ◌++◌, ◌∷◌, [], ℕ, List, IfOk, MatchOption, IsTrue, codes};
 ghost use Rattle.script_text.specs.Grammar.{HasNo, IsPassedOver, op_line};
-ghost use Rattle.script_text.specs.Reading.{IsReading, Reads, ReadsWords};
+ghost use Rattle.script_text.specs.Reading.{IsReading, NamesObject, Reads, ReadsWords};
 
 use crate::What;
 use crate::data::{data_size, read_data};
@@ -10,7 +10,7 @@ use crate::number::read_number;
 use crate::split::{four_words, split_once, two_words};
 use object_model::{Command, Op, Transaction};
 use std::alloc::{AllocError, Global};
-use unit_fields::CollName;
+use unit_fields::{CollName, Name};
 
 /// The bytes of a page.
 const PAGE_BYTES: u64 = 4096;
@@ -46,28 +46,102 @@ fn read_mkcoll(alloc: Global, rest: &[u8]) -> Result<Option<What>, AllocError>
     Ok(Some(what))
 }
 
-/// What the words of a touch say.
-fn touch_of(alloc: Global, coll: &[u8], object: &[u8]) -> Result<Option<What>, AllocError>
-    ensures { IfOk result (ReadsWords (codes "touch" ∷ coll.now ∷ object.now ∷ [])) }
+/// `C O`: the names of a collection and of an object in it.
+fn read_object(alloc: Global, text: &[u8]) -> Result<Option<(CollName, Name)>, AllocError>
+    ensures { IfOk result (λ found. MatchOption found ((coll object : List ℕ) → ¬ (NamesObject text.now coll object))
+        (λ x. NamesObject text.now x.0 x.1)) }
 {
+    let Some((coll, object)) = two_words(text) else {
+        return Ok(None);
+    };
     let Some(coll) = CollName::read(alloc, coll)? else {
         return Ok(None);
     };
     let Some(object) = read_name(alloc, object)? else {
         return Ok(None);
     };
-    let what = change(alloc, coll, Op::Touch { object })?;
-    Ok(Some(what))
+    Ok(Some((coll, object)))
 }
 
 /// `touch C O`: what a line says that has this behind its first word.
 fn read_touch(alloc: Global, rest: &[u8]) -> Result<Option<What>, AllocError>
     ensures { IfOk result (Reads (codes "touch" ++ (0x20 ∷ rest.now))) }
 {
-    let Some((coll, object)) = two_words(rest) else {
+    let Some((coll, object)) = read_object(alloc, rest)? else {
         return Ok(None);
     };
-    touch_of(alloc, coll, object)
+    let what = change(alloc, coll, Op::Touch { object })?;
+    Ok(Some(what))
+}
+
+/// `sum C O`: what a line says that has this behind its first word.
+fn read_sum(alloc: Global, rest: &[u8]) -> Result<Option<What>, AllocError>
+    ensures { IfOk result (Reads (codes "sum" ++ (0x20 ∷ rest.now))) }
+{
+    let Some((coll, object)) = read_object(alloc, rest)? else {
+        return Ok(None);
+    };
+    Ok(Some(What::Command(Command::Sum { coll, object })))
+}
+
+/// `stat C O`: what a line says that has this behind its first word.
+fn read_stat(alloc: Global, rest: &[u8]) -> Result<Option<What>, AllocError>
+    ensures { IfOk result (Reads (codes "stat" ++ (0x20 ∷ rest.now))) }
+{
+    let Some((coll, object)) = read_object(alloc, rest)? else {
+        return Ok(None);
+    };
+    Ok(Some(What::Command(Command::Stat { coll, object })))
+}
+
+/// `list C`: what a line says that has this behind its first word.
+fn read_list(alloc: Global, rest: &[u8]) -> Result<Option<What>, AllocError>
+    ensures { IfOk result (Reads (codes "list" ++ (0x20 ∷ rest.now))) }
+{
+    let Some(coll) = CollName::read(alloc, rest)? else {
+        return Ok(None);
+    };
+    Ok(Some(What::Command(Command::List { coll })))
+}
+
+/// What the words of a read of an object's bytes say.
+fn read_of(
+    alloc: Global,
+    coll: &[u8],
+    object: &[u8],
+    off: &[u8],
+    len: &[u8],
+) -> Result<Option<What>, AllocError>
+    ensures { IfOk result (ReadsWords (codes "read" ∷ coll.now ∷ object.now ∷ off.now ∷ len.now ∷ [])) }
+{
+    let Some(off) = read_number(off) else {
+        return Ok(None);
+    };
+    let Some(len) = read_number(len) else {
+        return Ok(None);
+    };
+    let Some(coll) = CollName::read(alloc, coll)? else {
+        return Ok(None);
+    };
+    let Some(object) = read_name(alloc, object)? else {
+        return Ok(None);
+    };
+    Ok(Some(What::Command(Command::Read {
+        coll,
+        object,
+        off,
+        len,
+    })))
+}
+
+/// `read C O NUM NUM`: what a line says that has this behind its first word.
+fn read_read(alloc: Global, rest: &[u8]) -> Result<Option<What>, AllocError>
+    ensures { IfOk result (Reads (codes "read" ++ (0x20 ∷ rest.now))) }
+{
+    let Some((coll, object, off, len)) = four_words(rest) else {
+        return Ok(None);
+    };
+    read_of(alloc, coll, object, off, len)
 }
 
 /// Whether a write of so many bytes at this offset is of whole pages, at least one, which is all that the kernel can do so far.
@@ -130,6 +204,14 @@ fn read_words(alloc: Global, word: &[u8], rest: &[u8]) -> Result<Option<What>, A
         read_touch(alloc, rest)
     } else if word == b"write".as_slice() {
         read_write(alloc, rest)
+    } else if word == b"read".as_slice() {
+        read_read(alloc, rest)
+    } else if word == b"sum".as_slice() {
+        read_sum(alloc, rest)
+    } else if word == b"stat".as_slice() {
+        read_stat(alloc, rest)
+    } else if word == b"list".as_slice() {
+        read_list(alloc, rest)
     } else {
         Ok(None)
     }

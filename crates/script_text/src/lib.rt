@@ -1,4 +1,4 @@
-//! Scripts: the lines of one client, as commands with their line numbers.
+//! Scripts: the lines of one client, as commands with their line numbers; and names as scripts spell them.
 #![tactic(auto)]
 
 mod data;
@@ -13,6 +13,7 @@ mod reader;
 mod script;
 mod split;
 
+pub use escape::push_name;
 pub use fail::ScriptFail;
 pub use laws::{
     one_bad_line, one_data, one_meaning, one_name, one_number, one_script, one_word_for_a_name,

@@ -1,5 +1,6 @@
 //! Lines and scripts, good and bad, read in pieces of any size.
 use crate::data::read_data;
+use crate::escape::read_name;
 use crate::number::read_number;
 use crate::*;
 use byte_maps::Bytes;
@@ -7,6 +8,7 @@ use end_points::{MemorySource, Source};
 use object_model::{Command, Op, Transaction};
 use std::alloc::{AllocError, Global};
 use std::test::*;
+use unit_fields::{CollName, Name};
 
 fn show_op(alloc: Global, coll: &str, op: &Op) -> Result<String, AllocError> {
     match op {
@@ -33,10 +35,13 @@ fn show_write(
     format!(in alloc; "write {coll} {object:?} {off} {first}x{count}")
 }
 
+fn coll_text(coll: &CollName) -> &str {
+    std::str::from_utf8(coll.as_slice()).unwrap_or("?")
+}
+
 fn show_change(alloc: Global, change: &Transaction) -> Result<String, AllocError> {
-    let coll = std::str::from_utf8(change.coll().as_slice()).unwrap_or("?");
     match change.ops() {
-        [op] => show_op(alloc, coll, op),
+        [op] => show_op(alloc, coll_text(change.coll()), op),
         _ => format!(in alloc; "several operations"),
     }
 }
@@ -44,9 +49,47 @@ fn show_change(alloc: Global, change: &Transaction) -> Result<String, AllocError
 fn show(alloc: Global, what: &What) -> Result<String, AllocError> {
     match what {
         What::Wait => format!(in alloc; "wait"),
-        What::Command(Command::Change(change)) => show_change(alloc, change),
-        What::Command(_) => format!(in alloc; "a read"),
+        What::Command(command) => show_command(alloc, command),
     }
+}
+
+fn show_command(alloc: Global, command: &Command) -> Result<String, AllocError> {
+    match command {
+        Command::Change(change) => show_change(alloc, change),
+        Command::Read {
+            coll,
+            object,
+            off,
+            len,
+        } => show_read(alloc, coll, object, *off, *len),
+        Command::Sum { coll, object } => show_object(alloc, "sum", coll, object),
+        Command::Stat { coll, object } => show_object(alloc, "stat", coll, object),
+        Command::List { coll } => format!(in alloc; "list {}", coll_text(coll)),
+        _ => format!(in alloc; "another read"),
+    }
+}
+
+fn show_read(
+    alloc: Global,
+    coll: &CollName,
+    object: &Name,
+    off: u64,
+    len: u64,
+) -> Result<String, AllocError> {
+    let shown = show_object(alloc, "read", coll, object)?;
+    format!(in alloc; "{} {off} {len}", shown.as_str())
+}
+
+// The word, the collection, and the object's bytes.
+fn show_object(
+    alloc: Global,
+    word: &str,
+    coll: &CollName,
+    object: &Name,
+) -> Result<String, AllocError> {
+    let coll = coll_text(coll);
+    let object = object.as_slice();
+    format!(in alloc; "{word} {coll} {object:?}")
 }
 
 fn show_lines(alloc: Global, lines: &[Line]) -> Result<String, AllocError> {
@@ -81,7 +124,7 @@ fn gives(alloc: Global, text: &str, want: &str) -> Result<bool, AllocError> {
     Ok(true)
 }
 
-static GOOD: [(&str, &str); 15] = [
+static GOOD: [(&str, &str); 22] = [
     ("", ""),
     ("\n", ""),
     ("mkcoll 0.0_head\n", "1 mkcoll 0.0_head;"),
@@ -123,6 +166,25 @@ static GOOD: [(&str, &str); 15] = [
     (
         "write 1.a_head a 134217728 fill:00:2097152",
         "1 write 1.a_head [97] 134217728 0x2097152;",
+    ),
+    ("read 1.a_head a 0 0", "1 read 1.a_head [97] 0 0;"),
+    (
+        "read 1.a_head %25%FF 7 4096\n",
+        "1 read 1.a_head [37, 255] 7 4096;",
+    ),
+    (
+        "read 1.a_head A9._-z 18446744073709551615 18446744073709551615",
+        "1 read 1.a_head [65, 57, 46, 95, 45, 122] 18446744073709551615 18446744073709551615;",
+    ),
+    ("sum 1.a_head %20a", "1 sum 1.a_head [32, 97];"),
+    (
+        "stat 18446744073709551615.ffffffff_head b\n",
+        "1 stat 18446744073709551615.ffffffff_head [98];",
+    ),
+    ("list 0.0_head", "1 list 0.0_head;"),
+    (
+        "list 1.a_head\nwait\nsum 1.a_head list\nstat 1.a_head read",
+        "1 list 1.a_head;2 wait;3 sum 1.a_head [108, 105, 115, 116];4 stat 1.a_head [114, 101, 97, 100];",
     ),
 ];
 
@@ -198,6 +260,52 @@ static BAD: [(&str, &str); 56] = [
     ("write 1.a_head a 0 zero:4096", "line 1"),
 ];
 
+// Reads with words that are missing, extra or bad, and reads that scripts have no line for.
+static BAD_READS: [&str; 42] = [
+    "read",
+    "read 1.a_head",
+    "read 1.a_head a",
+    "read 1.a_head a 0",
+    "read 1.a_head a 0 1 2",
+    "read 1.a_head a 0 1 ",
+    "read 1.a_head a  0 1",
+    "read 1.A_head a 0 1",
+    "read a 0 1",
+    "read 1.a_head %61 0 1",
+    "read 1.a_head a 00 1",
+    "read 1.a_head a 0 01",
+    "read 1.a_head a 18446744073709551616 1",
+    "read 1.a_head a 0 18446744073709551616",
+    "read 1.a_head a -1 1",
+    "read 1.a_head a 0 0x1",
+    "READ 1.a_head a 0 1",
+    "Read 1.a_head a 0 1",
+    "sum",
+    "sum 1.a_head",
+    "sum 1.a_head ",
+    "sum 1.a_head a b",
+    "sum 01.a_head a",
+    "sum 1.a_head a%",
+    "SUM 1.a_head a",
+    "stat",
+    "stat 1.a_head",
+    "stat 1.a_head a 0",
+    "stat 1.a a",
+    "stat 1.a_head %0a",
+    "Stat 1.a_head a",
+    "stats 1.a_head a",
+    "list",
+    "list ",
+    "list 1.a_head a",
+    "list 1.a_head ",
+    "list a",
+    "list 1.0a_head",
+    "List 1.a_head",
+    "getattr 1.a_head a n",
+    "omapget 1.a_head a k",
+    "omapheader 1.a_head a",
+];
+
 #[test]
 fn good_scripts(rt: HostRuntime) -> Result<(), Fail> {
     for (text, want) in &GOOD {
@@ -211,6 +319,63 @@ fn bad_lines(rt: HostRuntime) -> Result<(), Fail> {
     for (text, want) in &BAD {
         assert!(rt; gives(rt.alloc(), text, want)?, "at {text}");
     }
+    Ok(())
+}
+
+#[test]
+fn bad_reads(rt: HostRuntime) -> Result<(), Fail> {
+    for text in &BAD_READS {
+        assert!(rt; gives(rt.alloc(), text, "line 1")?, "at {text}");
+    }
+    Ok(())
+}
+
+static NAMES: [(&[u8], &str); 8] = [
+    (b"a", "a"),
+    (b"A9._-z", "A9._-z"),
+    (b"%", "%25"),
+    (b" ", "%20"),
+    (b"\xff", "%FF"),
+    (b"\x01", "%01"),
+    (b"a b/\n", "a%20b%2F%0A"),
+    (b"%41", "%2541"),
+];
+
+#[test]
+fn names(rt: HostRuntime) -> Result<(), Fail> {
+    for (name, want) in &NAMES {
+        let mut text = String::new(rt.alloc());
+        push_name(&mut text, name)?;
+        assert_eq!(rt; text.as_str(), *want);
+    }
+    Ok(())
+}
+
+// How a name of one byte is spelled: by the letters that stand for themselves, and else by its number.
+fn spelled(alloc: Global, byte: u8) -> Result<String, AllocError> {
+    let plain = "0123456789ABCDEFGHIJKLMNOPQRSTUVWXYZabcdefghijklmnopqrstuvwxyz._-";
+    if plain.as_bytes().contains(&byte) {
+        format!(in alloc; "{}", char::from(byte))
+    } else {
+        format!(in alloc; "%{byte:02X}")
+    }
+}
+
+// Each byte that a name may have, behind all those before it.
+#[test]
+fn names_of_each_byte(rt: HostRuntime) -> Result<(), Fail> {
+    let alloc = rt.alloc();
+    let mut text = String::new(alloc);
+    let mut want = String::new(alloc);
+    let mut name = Vec::new(alloc);
+    for byte in 1..=255u8 {
+        push_name(&mut text, &[byte])?;
+        want.push_str(spelled(alloc, byte)?.as_str())?;
+        name.push(byte)?;
+    }
+    assert_eq!(rt; text.as_str(), want.as_str());
+    let read = read_name(alloc, text.as_bytes())?;
+    assert!(rt; read.is_some_and(|found| found.as_slice() == name.as_slice()));
     Ok(())
 }
 

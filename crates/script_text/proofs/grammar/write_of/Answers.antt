@@ -1,4 +1,4 @@
-use Rattle.std.proofs.Common.{◌≡◌, ℕ, ◌<◌, ◌%◌, true, false, Some, length, sym, ap, subst, ◌∙◌}
+use Rattle.std.proofs.Common.{◌≡◌, ℕ, ◌<◌, ◌%◌, true, false, Some, length, sym, subst, ◌∙◌}
 use Rattle.script_text.proofs.Numbers.{same_number}
 use Rattle.script_text.proofs.Forms.{write_words, write_say}
 use Rattle.script_text.proofs.grammar.write_of.Goals as goal

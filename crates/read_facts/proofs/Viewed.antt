@@ -1,0 +1,153 @@
+-- A walk over all objects, where the device tells what it holds, shows the objects that rows and units stand for.
+use Rattle.std.proofs.Common.{◌≡◌, ℕ, List, [], ◌∷◌, length, map, Some, None, Result, Ok, Err, refl, sym, ap, ◌∙◌}
+use Rattle.std.specs.List.{AllByRecursion}
+use Rattle.std.specs.FinMap as finite
+use Rattle.std.proofs.lemmas.Option.{same_Some}
+use Rattle.crc32c_csum.specs.Crc32c.{crc32c}
+use Rattle.block_device.specs.Disk.{Disk, History}
+use Rattle.block_device.specs.Facts.{last_at}
+use Rattle.block_device.specs.Log.{HasNoBadDone}
+use Rattle.object_model.specs.declared.command.Command.TheVariants as ask
+use Rattle.object_model.specs.declared.command.Answer.{Answer}
+use Rattle.object_model.specs.declared.command.Answer.TheVariants as answer
+use Rattle.object_model.specs.Objects.{Object, Collection, Objects}
+use Rattle.object_model.specs.Effect.{object_under}
+use Rattle.object_model.specs.Reply.{reply_of}
+use Rattle.meta_rows.specs.Rows.{Rows}
+use Rattle.meta_log.specs.declared.slot.Super.{Super}
+use Rattle.store_image.specs.BadRows.{NoBadRow}
+use Rattle.store_image.specs.Stands.{ObjectsStand}
+use Rattle.row_facts.proofs.ByRow.{object_present}
+use Rattle.read_facts.specs.declared.view.BadSum.{BadSum}
+use Rattle.read_facts.specs.declared.view.CollView.{CollView}
+use Rattle.read_facts.specs.declared.view.ObjectView.{ObjectView}
+use Rattle.read_facts.specs.Walks.{IsCollection, IsObject}
+use Rattle.read_facts.specs.Answers.{object_refusal, Gives}
+use Rattle.read_facts.specs.Views.{sum_answer, IsViewOf, object_names, coll_names, IsViewed, IsWhole, AreWholeButLast, WalksTo, WalksAll, views_in, views_of, IsGoodView, HasGoodViews}
+use Rattle.read_facts.proofs.Walks.{one_order, each_is, all_to, all_by, got_each}
+use Rattle.read_facts.proofs.Keys.{coll_keys, object_keys, under_found, some_of}
+use Rattle.read_facts.proofs.Plain.{size_is, sum_given}
+use Rattle.read_facts.proofs.Seen.{seen_answer}
+
+-- ---- lists
+
+-- what holds of each image holds of each by its image
+all_unmapped : {A B : Type 0} (f : A → B) (P : B → Type 0) (xs : List A) → AllByRecursion P (map f xs) → AllByRecursion (λ (x : A). P (f x)) xs
+all_unmapped f P [] all = tt
+all_unmapped f P (x ∷ xs) all = (all.0, all_unmapped f P xs all.1)
+
+-- a list under the same names as another is made of it, where each is made of the one of its name
+made_of : {A B : Type 0} (name : A → List ℕ) (key : B → List ℕ) (f : B → A) (P : A → Type 0) (Q : B → Type 0)
+    → ((a : A) (b : B) → name a ≡ key b → P a → Q b → a ≡ f b) → (xs : List A) (ys : List B) → map name xs ≡ map key ys
+    → AllByRecursion P xs → AllByRecursion Q ys → xs ≡ map f ys
+made_of name key f P Q is [] [] same p q = refl
+made_of name key f P Q is [] (b ∷ ys) same p q = absurd cc
+made_of name key f P Q is (a ∷ xs) [] same p q = absurd cc
+made_of name key f P Q is (a ∷ xs) (b ∷ ys) same p q =
+    let heads : name a ≡ key b = cc in
+    let tails : map name xs ≡ map key ys = cc in
+    let first = is a b heads p.0 q.0 in
+    let rest = made_of name key f P Q is xs ys tails p.1 q.1 in
+    λ i. first i ∷ rest i
+
+-- each collection was viewed
+each_viewed : (d : Disk) (rows : Rows) (colls : List CollView) → AreWholeButLast d rows colls → AllByRecursion (IsViewed d rows) colls
+each_viewed d rows [] are = tt
+each_viewed d rows (v ∷ []) are = (are, tt)
+each_viewed d rows (v ∷ next ∷ more) are = (are.0.viewed, each_viewed d rows (next ∷ more) are.1)
+
+-- the checksum in an answer
+abbrev crc_of : Answer → ℕ
+crc_of (answer.Sum size crc) = crc
+crc_of a = 0
+
+-- rows that have the collection and the object refuse nothing
+no_refusal : (rows : Rows) (c o : List ℕ) → IsCollection rows c → IsObject rows c o → object_refusal rows c o ≡ None
+no_refusal rows c o coll object = rw (coll.there, object.there) refl
+
+module _ (d : Disk) (h : History) (tells : d.history ≡ Some h) (answered : (unit : ℕ) → HasNoBadDone h.log unit)
+    (rows : Rows) (objects : Objects) (stand : ObjectsStand (last_at h) rows objects) where
+  -- ---- one object
+
+  module _ (c o : List ℕ) (coll : IsCollection rows c) (is : IsObject rows c o) (object : Object)
+      (under : object_under objects c o ≡ Some object) where
+    -- the reply to a sum is the object's
+    sum_reply : answer.Sum (length object.bytes) (crc32c object.bytes) ≡ reply_of (ask.Sum c o) objects
+    sum_reply =
+        let given = sum_given rows objects stand.shape c o coll.named is.named (no_refusal rows c o coll is) in
+        let same : object ≡ given.object = same_Some object given.object (sym under ∙ given.under) in
+        ap (λ (b : Object). answer.Sum (length b.bytes) (crc32c b.bytes)) same ∙ sym given.reply
+
+    -- the checksum in a view is the object's
+    sum_is : (size : ℕ) (sum : Result ℕ BadSum) → Gives d rows (ask.Sum c o) (sum_answer size sum) → sum ≡ Ok (crc32c object.bytes)
+    sum_is size (Ok crc) gives =
+        let e = seen_answer d h tells answered rows objects stand (ask.Sum c o) (answer.Sum size crc) (coll.named, is.named)
+        (no_refusal rows c o coll is, gives) in
+        ap Ok (ap crc_of (e ∙ sym sum_reply))
+    sum_is size (Err bad) gives =
+        let e = seen_answer d h tells answered rows objects stand (ask.Sum c o) (answer.Csum bad.unit bad.kept bad.found) (coll.named, is.named)
+        (no_refusal rows c o coll is, gives) in
+        absurd (let same = e ∙ sym sum_reply in cc)
+
+  -- a view of an object is good
+  good_view : (c : List ℕ) (v : ObjectView) → IsCollection rows c → IsViewOf d rows c v → IsGoodView v
+  good_view c v coll view =
+      let object = some_of (object_under objects c v.name)
+      ((object_present rows objects c v.name stand.shape coll.named view.is.named).1 view.is.there) in
+      (crc32c object.0.bytes, sum_is c v.name coll view.is object.0 object.1 v.size v.sum view.sums)
+
+  -- it is the view of the object under its name
+  view_is : (c : List ℕ) (found : Collection) → IsCollection rows c → finite.get objects c ≡ Some found → (v : ObjectView) (e : List ℕ × Object)
+      → v.name ≡ e.0 → IsViewOf d rows c v → finite.get found e.0 ≡ Some e.1
+      → v ≡ record { name = e.0; size = length e.1.bytes; sum = Ok (crc32c e.1.bytes) }
+  view_is c found coll there v e name view got =
+      let under : object_under objects c v.name ≡ Some e.1 = under_found objects c v.name found there ∙ ap (finite.get found) name ∙ got in
+      let size : v.size ≡ length e.1.bytes = size_is rows objects stand.shape c v.name e.1 v.size under view.has_size in
+      let sum : v.sum ≡ Ok (crc32c e.1.bytes) = sum_is c v.name coll view.is e.1 under v.size v.sum view.sums in
+      λ i. record { name = name i; size = size i; sum = sum i }
+
+  -- ---- one collection
+
+  -- the views of a collection are good
+  viewed_good : (v : CollView) → IsCollection rows v.coll → IsViewed d rows v → HasGoodViews v
+  viewed_good v coll viewed =
+      all_to (IsViewOf d rows v.coll) IsGoodView (λ view is. good_view v.coll view coll is) v.objects viewed.each
+
+  -- a collection all of whose objects were viewed is the view of the one under its name
+  whole_is : (v : CollView) (e : List ℕ × Collection) → v.coll ≡ e.0 → IsCollection rows v.coll × IsWhole d rows v → finite.get objects e.0 ≡ Some e.1
+      → v ≡ record { coll = e.0; objects = views_in e.1 }
+  whole_is v e name (coll, whole) got =
+      let there : finite.get objects v.coll ≡ Some e.1 = ap (finite.get objects) name ∙ got in
+      let names : object_names v.objects ≡ finite.keys e.1 =
+      one_order (IsObject rows v.coll) (object_names v.objects) (finite.keys e.1) (record { next = whole.viewed.next; past = whole.past })
+      (object_keys rows objects v.coll e.1 stand.shape coll.named there) in
+      let views : v.objects ≡ views_in e.1 =
+      made_of (λ (view : ObjectView). view.name) (λ (f : List ℕ × Object). f.0)
+      (λ (f : List ℕ × Object). record { name = f.0; size = length f.1.bytes; sum = Ok (crc32c f.1.bytes) })
+      (IsViewOf d rows v.coll) (λ (f : List ℕ × Object). finite.get e.1 f.0 ≡ Some f.1) (view_is v.coll e.1 coll there) v.objects (finite.entries e.1)
+      names whole.viewed.each (got_each e.1) in
+      λ i. record { coll = name i; objects = views i }
+
+  -- ---- all of them
+
+  -- each view of a walk is good
+  pub walk_good : (colls : List CollView) → WalksTo d rows colls → AllByRecursion HasGoodViews colls
+  walk_good colls walk =
+      all_by (λ (v : CollView). IsCollection rows v.coll) (IsViewed d rows) HasGoodViews viewed_good colls
+      (all_unmapped (λ (v : CollView). v.coll) (IsCollection rows) colls (each_is (IsCollection rows) None (coll_names colls) walk.next))
+      (each_viewed d rows colls walk.each)
+
+  -- a walk over all objects is the views of the objects
+  pub walk_is : (s : Super) → NoBadRow s rows → (colls : List CollView) → WalksAll d rows colls → colls ≡ views_of objects
+  walk_is s good colls walk =
+      let names : coll_names colls ≡ finite.keys objects =
+      one_order (IsCollection rows) (coll_names colls) (finite.keys objects) walk.all (coll_keys s rows objects good stand.shape) in
+      let each : AllByRecursion (λ (v : CollView). IsCollection rows v.coll × IsWhole d rows v) colls =
+      all_by (λ (v : CollView). IsCollection rows v.coll) (IsWhole d rows) (λ (v : CollView). IsCollection rows v.coll × IsWhole d rows v)
+      (λ v coll whole. (coll, whole)) colls
+      (all_unmapped (λ (v : CollView). v.coll) (IsCollection rows) colls (each_is (IsCollection rows) None (coll_names colls) walk.all.next))
+      walk.each in
+      made_of (λ (v : CollView). v.coll) (λ (e : List ℕ × Collection). e.0)
+      (λ (e : List ℕ × Collection). record { coll = e.0; objects = views_in e.1 })
+      (λ (v : CollView). IsCollection rows v.coll × IsWhole d rows v) (λ (e : List ℕ × Collection). finite.get objects e.0 ≡ Some e.1) whole_is
+      colls (finite.entries objects) names each (got_each objects)

@@ -1,0 +1,68 @@
+-- Pages of an object, read from the device.
+use Rattle.std.specs.Prelude.{◌≡◌, ◌≢◌, ℕ, ◌+◌, ◌-◌, ◌/◌, ◌%◌, ◌<◌, min, nat_lt, List, length, take, drop, IfSome, if◌then◌else◌}
+use Rattle.byte_maps.specs.Units.{unit_at, zeros, IsUnits}
+use Rattle.crc32c_csum.specs.Crc32c.{crc32c}
+use Rattle.block_device.specs.Log.{HasNoBadDone}
+use Rattle.block_device.specs.Disk.{Disk}
+use Rattle.block_device.specs.Facts.{last_at}
+use Rattle.meta_rows.specs.Rows.{Rows}
+use Rattle.row_format.specs.Extents.{Place}
+use Rattle.row_format.specs.Row.{onode}
+use Rattle.store_image.specs.Pages.{HasRow, IsPageAt, IsHole, pages_of}
+
+-- the unit holds these bytes, as far as the device tells: those last written there, where no write of it ended badly
+abbrev pub IsHeldAt : Disk → ℕ → List ℕ → Type 0
+IsHeldAt d unit bytes = IfSome d.history (λ h. HasNoBadDone h.log unit → bytes ≡ last_at h unit)
+
+-- A page of an object is good: it is a hole and its bytes are zeros, or its unit holds them and their checksum is the one that is kept.
+pub data IsGoodPage (d : Disk) (rows : Rows) (c o : List ℕ) (page : ℕ) (bytes : List ℕ) : Type 0 where
+  hole : IsHole rows c o page → bytes ≡ zeros 4096 → IsGoodPage d rows c o page bytes
+  mapped : (place : Place) → IsPageAt rows c o page place → IsHeldAt d place.unit bytes → crc32c bytes ≡ place.csum
+      → IsGoodPage d rows c o page bytes
+
+-- It is bad: its unit holds bytes whose checksum isn't the one that is kept.
+pub record IsBadPage (d : Disk) (rows : Rows) (c o : List ℕ) (page unit kept found : ℕ) : Type 0 where
+  pub place : Place
+  pub stands : IsPageAt rows c o page place
+  pub is_unit : unit ≡ place.unit
+  pub is_kept : kept ≡ place.csum
+  pub bytes : List ℕ
+  pub size : length bytes ≡ 4096
+  pub held : IsHeldAt d unit bytes
+  pub is_found : found ≡ crc32c bytes
+  pub differs : found ≢ kept
+
+-- so many pages from the first on are good, and these are their bytes
+pub record AreGoodPages (d : Disk) (rows : Rows) (c o : List ℕ) (first count : ℕ) (bytes : List ℕ) : Type 0 where
+  pub size : IsUnits count bytes
+  pub each : (i : ℕ) → i < count → IsGoodPage d rows c o (first + i) (unit_at i bytes)
+
+-- of so many pages from the first on it is the first bad one
+pub record IsFirstBad (d : Disk) (rows : Rows) (c o : List ℕ) (first count unit kept found : ℕ) : Type 0 where
+  pub index : ℕ
+  pub within : index < count
+  pub before : List ℕ
+  pub good : AreGoodPages d rows c o first index before
+  pub bad : IsBadPage d rows c o (first + index) unit kept found
+
+-- ---- ranges of bytes
+
+-- where a read of an object of this size ends: behind so many bytes, or at the size
+abbrev pub read_end : ℕ → ℕ → ℕ → ℕ
+read_end size off len = min size (off + len)
+
+-- the pages that it must read, from that of its first byte on: none where it ends where it begins or before
+abbrev pub pages_read : ℕ → ℕ → ℕ → ℕ
+pages_read size off len = if nat_lt off (read_end size off len) then pages_of (read_end size off len) - off / 4096 else 0
+
+-- the bytes of a range of an object, cut at its size, where all pages that must be read are good
+pub record ReadsBytes (d : Disk) (rows : Rows) (c o : List ℕ) (size off len : ℕ) (bytes : List ℕ) : Type 0 where
+  pub has_size : HasRow rows (onode c o size)
+  pub pages : List ℕ
+  pub good : AreGoodPages d rows c o (off / 4096) (pages_read size off len) pages
+  pub cut : bytes ≡ take (read_end size off len - off) (drop (off % 4096) pages)
+
+-- the first of the pages that must be read that is bad
+pub record FailsAt (d : Disk) (rows : Rows) (c o : List ℕ) (size off len unit kept found : ℕ) : Type 0 where
+  pub has_size : HasRow rows (onode c o size)
+  pub first_bad : IsFirstBad d rows c o (off / 4096) (pages_read size off len) unit kept found

@@ -1,0 +1,74 @@
+-- What a walk over all objects shows of them.
+use Rattle.std.specs.Prelude.{◌≡◌, ℕ, List, [], ◌∷◌, length, map, None, Result, Ok, Err}
+use Rattle.std.specs.List.{AllByRecursion}
+use Rattle.std.specs.FinMap as finite
+use Rattle.crc32c_csum.specs.Crc32c.{crc32c}
+use Rattle.block_device.specs.Disk.{Disk}
+use Rattle.object_model.specs.Objects.{Collection, Objects}
+use Rattle.object_model.specs.declared.command.Command.TheVariants as ask
+use Rattle.object_model.specs.declared.command.Answer.{Answer}
+use Rattle.object_model.specs.declared.command.Answer.TheVariants as answer
+use Rattle.meta_rows.specs.Rows.{Rows}
+use Rattle.read_facts.specs.declared.view.BadSum.{BadSum}
+use Rattle.read_facts.specs.declared.view.CollView.{CollView}
+use Rattle.read_facts.specs.declared.view.ObjectView.{ObjectView}
+use Rattle.read_facts.specs.Walks.{IsCollection, IsObject, AreNext, IsPast, last_of, AreAll}
+use Rattle.read_facts.specs.Answers.{Gives}
+
+-- what a view says of the bytes, as an answer: their size and checksum, or the bad unit
+abbrev pub sum_answer : ℕ → Result ℕ BadSum → Answer
+sum_answer size (Ok crc) = answer.Sum size crc
+sum_answer size (Err bad) = answer.Csum bad.unit bad.kept bad.found
+
+-- the view is of an object of the collection
+pub record IsViewOf (d : Disk) (rows : Rows) (c : List ℕ) (v : ObjectView) : Type 0 where
+  pub is : IsObject rows c v.name
+  pub has_size : Gives d rows (ask.Stat c v.name) (answer.Size v.size)
+  pub sums : Gives d rows (ask.Sum c v.name) (sum_answer v.size v.sum)
+
+abbrev pub object_names : List ObjectView → List (List ℕ)
+object_names views = map (λ v. v.name) views
+
+abbrev pub coll_names : List CollView → List (List ℕ)
+coll_names colls = map (λ v. v.coll) colls
+
+-- objects of a collection were viewed from the first one on
+pub record IsViewed (d : Disk) (rows : Rows) (v : CollView) : Type 0 where
+  pub next : AreNext (IsObject rows v.coll) None (object_names v.objects)
+  pub each : AllByRecursion (IsViewOf d rows v.coll) v.objects
+
+-- all of them were
+pub record IsWhole (d : Disk) (rows : Rows) (v : CollView) : Type 0 where
+  pub viewed : IsViewed d rows v
+  pub past : IsPast (IsObject rows v.coll) (last_of None (object_names v.objects))
+
+-- of all collections but the last of these all objects were, and of that some
+abbrev pub AreWholeButLast : Disk → Rows → List CollView → Type 0
+AreWholeButLast d rows [] = Unit {0}
+AreWholeButLast d rows (v ∷ []) = IsViewed d rows v
+AreWholeButLast d rows (v ∷ next ∷ more) = IsWhole d rows v × AreWholeButLast d rows (next ∷ more)
+
+-- A walk has come so far: the collections in byte order from the first one on, and their objects.
+pub record WalksTo (d : Disk) (rows : Rows) (colls : List CollView) : Type 0 where
+  pub next : AreNext (IsCollection rows) None (coll_names colls)
+  pub each : AreWholeButLast d rows colls
+
+-- a walk over all objects
+pub record WalksAll (d : Disk) (rows : Rows) (colls : List CollView) : Type 0 where
+  pub all : AreAll (IsCollection rows) (coll_names colls)
+  pub each : AllByRecursion (IsWhole d rows) colls
+
+-- ---- the views of plain objects
+
+abbrev pub views_in : Collection → List ObjectView
+views_in objects = map (λ e. record { name = e.0; size = length e.1.bytes; sum = Ok (crc32c e.1.bytes) }) (finite.entries objects)
+
+abbrev pub views_of : Objects → List CollView
+views_of objects = map (λ e. record { coll = e.0; objects = views_in e.1 }) (finite.entries objects)
+
+-- no page of an object is bad
+abbrev pub IsGoodView : ObjectView → Type 0
+IsGoodView v = (crc : ℕ) × (v.sum ≡ Ok crc)
+
+abbrev pub HasGoodViews : CollView → Type 0
+HasGoodViews v = AllByRecursion IsGoodView v.objects

@@ -1,0 +1,78 @@
+//! What the definitions come to. Each function has laws for its contract and does nothing.
+ghost use Rattle.std.specs.Prelude.{◌≡◌, ◌⊎◌, ◌≤◌, ℕ, ◌+◌, List, [], ◌∷◌, ◌++◌, IsTrue, not, Option, Some};
+ghost use Rattle.std.specs.List.{AllByRecursion};
+ghost use Rattle.std.specs.FinMap as map;
+ghost use Rattle.block_device.specs.Disk.{Disk, History};
+ghost use Rattle.block_device.specs.Facts.{last_at};
+ghost use Rattle.block_device.specs.Log.{HasNoBadDone};
+ghost use Rattle.meta_rows.specs.Rows.{Rows};
+ghost use Rattle.meta_log.specs.declared.slot.Super.{Super};
+ghost use Rattle.object_model.specs.Objects.{Collection, Objects};
+ghost use Rattle.object_model.specs.Reply.{reply_of};
+ghost use Rattle.object_model.specs.Book.{is_refused, is_of_device};
+ghost use Rattle.object_model.specs.declared.command.Command.{Command};
+ghost use Rattle.object_model.specs.declared.command.Answer.{Answer};
+ghost use Rattle.store_image.specs.BadRows.{NoBadRow};
+ghost use Rattle.store_image.specs.Stands.{IsShape, ObjectsStand};
+ghost use Rattle.unit_fields.specs.Names.{IsCollName};
+ghost use Rattle.read_facts.specs.Walks.{IsCollection, IsObject, IsNextOf, AreNext, last_of, AreAll};
+ghost use Rattle.read_facts.specs.PageReads.{AreGoodPages, IsFirstBad};
+ghost use Rattle.read_facts.specs.Answers.{HasReadNames, IsAnswerOf};
+ghost use Rattle.read_facts.specs.Alike.{IsAlike};
+ghost use Rattle.read_facts.specs.Views.{WalksTo, WalksAll, HasGoodViews, views_of};
+ghost use Rattle.read_facts.specs.declared.view.CollView.{CollView};
+
+/// The names of collections, and of the objects of one, stand in one order: that of the keys of objects that have the shape of the rows.
+pub fn names_come_in_one_order()
+    ensures colls { (rows : Rows) (names others : List (List ℕ)) → AreAll (IsCollection rows) names → AreAll (IsCollection rows) others
+        → names ≡ others }
+    ensures objects { (rows : Rows) (c : List ℕ) (names others : List (List ℕ)) → AreAll (IsObject rows c) names → AreAll (IsObject rows c) others
+        → names ≡ others }
+    ensures coll_keys { (s : Super) (rows : Rows) (objects : Objects) → NoBadRow s rows → IsShape rows objects
+        → AreAll (IsCollection rows) (map.keys objects) }
+    ensures object_keys { (rows : Rows) (objects : Objects) (c : List ℕ) (found : Collection) → IsShape rows objects
+        → IsCollName c → map.get objects c ≡ Some found → AreAll (IsObject rows c) (map.keys found) }
+{}
+
+/// What is read page by page, and walked name by name: a run of good pages goes on with one more run of them or ends at a bad page, a walk goes on
+/// with the next name.
+pub fn reads_and_walks_go_on()
+    ensures no_page { (d : Disk) (rows : Rows) (c o : List ℕ) (first : ℕ) → AreGoodPages d rows c o first 0 [] }
+    ensures good_pages { (d : Disk) (rows : Rows) (c o : List ℕ) (first n m : ℕ) (xs ys : List ℕ) → AreGoodPages d rows c o first n xs
+        → AreGoodPages d rows c o (first + n) m ys → AreGoodPages d rows c o first (n + m) (xs ++ ys) }
+    ensures bad_page { (d : Disk) (rows : Rows) (c o : List ℕ) (first n m count unit kept found : ℕ) (xs : List ℕ)
+        → AreGoodPages d rows c o first n xs → IsFirstBad d rows c o (first + n) m unit kept found → n + m ≤ count
+        → IsFirstBad d rows c o first count unit kept found }
+    ensures coll { (rows : Rows) (after : Option (List ℕ)) (names : List (List ℕ)) (name : List ℕ) → AreNext (IsCollection rows) after names
+        → IsNextOf (IsCollection rows) (last_of after names) name → AreNext (IsCollection rows) after (names ++ name ∷ []) }
+    ensures object { (rows : Rows) (c : List ℕ) (after : Option (List ℕ)) (names : List (List ℕ)) (name : List ℕ)
+        → AreNext (IsObject rows c) after names → IsNextOf (IsObject rows c) (last_of after names) name
+        → AreNext (IsObject rows c) after (names ++ name ∷ []) }
+    ensures last { (after : Option (List ℕ)) (names : List (List ℕ)) (name : List ℕ) → last_of after (names ++ name ∷ []) ≡ Some name }
+{}
+
+/// Whatever the device tells, a read is answered as objects would answer that have the shape of the rows, but for the bytes that it gives; or
+/// by a bad unit where they don't refuse it.
+pub fn reads_are_plain_but_for_bytes()
+    ensures { (d : Disk) (rows : Rows) (objects : Objects) (command : Command) (a : Answer) → IsShape rows objects → HasReadNames command
+        → IsAnswerOf d rows command a → IsAlike command a (reply_of command objects)
+        ⊎ (IsTrue (is_of_device command a) × IsTrue (not (is_refused (reply_of command objects)))) }
+{}
+
+/// Where the device tells what it holds, no write of it ended badly, and rows and units stand for objects, a read is answered as these do, and so
+/// never by a bad unit.
+pub fn reads_are_as_plain_objects()
+    ensures { (d : Disk) (h : History) (rows : Rows) (objects : Objects) (command : Command) (a : Answer) → d.history ≡ Some h
+        → ((unit : ℕ) → HasNoBadDone h.log unit) → ObjectsStand (last_at h) rows objects → HasReadNames command
+        → IsAnswerOf d rows command a → a ≡ reply_of command objects }
+{}
+
+/// And a walk shows just these objects, no page of which is bad.
+pub fn walks_show_plain_objects()
+    ensures all { (d : Disk) (h : History) (s : Super) (rows : Rows) (objects : Objects) (colls : List CollView) → d.history ≡ Some h
+        → ((unit : ℕ) → HasNoBadDone h.log unit) → NoBadRow s rows → ObjectsStand (last_at h) rows objects
+        → WalksAll d rows colls → colls ≡ views_of objects }
+    ensures good { (d : Disk) (h : History) (s : Super) (rows : Rows) (objects : Objects) (colls : List CollView) → d.history ≡ Some h
+        → ((unit : ℕ) → HasNoBadDone h.log unit) → NoBadRow s rows → ObjectsStand (last_at h) rows objects
+        → WalksTo d rows colls → AllByRecursion HasGoodViews colls }
+{}

@@ -1,0 +1,12 @@
+//! What reads answer: pages of objects as the device holds them, names in byte order, and what the answers have to do with those of
+//! plain objects.
+#![tactic(auto)]
+
+mod laws;
+mod view;
+
+pub use laws::{
+    names_come_in_one_order, reads_and_walks_go_on, reads_are_as_plain_objects,
+    reads_are_plain_but_for_bytes, walks_show_plain_objects,
+};
+pub use view::{BadSum, CollView, ObjectView};

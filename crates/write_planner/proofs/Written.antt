@@ -8,7 +8,7 @@ use Rattle.blob_map.specs.Pages.{PageMap, laid}
 use Rattle.blob_map.specs.Normal.{extents_of}
 use Rattle.object_rows.specs.Operations.{object_ops}
 use Rattle.object_rows.specs.Plans.{new_pages, units_between, WritesPages}
-use Rattle.write_planner.specs.Objects.{IsStateOf}
+use Rattle.onode_state.specs.Objects.{IsStateOf}
 
 pub writes_pages : (rows : Rows) (c o : List ℕ) (first : ℕ) (bytes units firsts : List ℕ) (size most : ℕ) (pages after : PageMap)
     (extents : List Extent) (ops : List RowOp) (released : List ℕ) → IsStateOf rows c o size pages firsts

@@ -1,4 +1,3 @@
 pub mod PlanFails
 pub mod Ops
-pub mod Objects
 pub mod Parts

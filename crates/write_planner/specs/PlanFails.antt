@@ -2,21 +2,12 @@
 use Rattle.std.specs.Prelude.{◌≡◌, ◌<◌, None, Some}
 use Rattle.object_model.specs.Effect.{Change}
 use Rattle.meta_rows.specs.Rows.{Rows}
-use Rattle.meta_log.specs.declared.slot.Super.{Super}
-use Rattle.meta_log.specs.Slots.{IsSuper}
-use Rattle.store_image.specs.BadRows.{NoBadRow}
 use Rattle.unit_allocator.specs.Units.{Space}
 use Rattle.store_steps.specs.declared.plan.Plan.{Plan}
 use Rattle.store_steps.specs.Planning.{Plans, units_taken}
 use Rattle.store_steps.specs.Submit.{HasNames, refusal_of, free_count}
 use Rattle.write_planner.specs.declared.planning.PlanFail.{PlanFail}
 use Rattle.write_planner.specs.declared.planning.PlanFail.TheVariants as fail
-
--- no row is bad, for the sizes of some superblock
-pub record AreRowsOfAStore (rows : Rows) : Type 0 where
-  pub sup : Super
-  pub limits : IsSuper sup
-  pub good : NoBadRow sup rows
 
 -- the rows don't refuse the transaction, its names are names, and this is its plan
 pub record IsPlanFor (change : Change) (rows : Rows) (space : Space) (plan : Plan) : Type 0 where

@@ -5,8 +5,6 @@
 //! they go.
 #![tactic(auto)]
 
-mod names;
-mod object;
 mod object_change;
 mod pages;
 mod planning;

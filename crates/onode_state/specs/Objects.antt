@@ -2,15 +2,24 @@
 use Rattle.std.specs.Prelude.{◌≡◌, ℕ, List, [], ◌∷◌, ◌++◌}
 use Rattle.std.specs.List.{AllByRecursion}
 use Rattle.meta_rows.specs.Rows.{Rows}
+use Rattle.meta_log.specs.declared.slot.Super.{Super}
+use Rattle.meta_log.specs.Slots.{IsSuper}
 use Rattle.unit_fields.specs.UnitSet.{Ascends}
 use Rattle.row_format.specs.Keys.{shard_key}
 use Rattle.row_format.specs.Extents.{Extent, BeginsAt}
 use Rattle.onode_codec.specs.Reading.{SpellExtents}
 use Rattle.store_image.specs.Pages.{HasKey}
+use Rattle.store_image.specs.BadRows.{NoBadRow}
 use Rattle.blob_map.specs.Pages.{PageMap}
 use Rattle.object_rows.specs.Operations.{AreShards}
 use Rattle.object_rows.specs.Maps.{AreShardsOf, extents_in, first_pages, IsMapOf}
 use Rattle.object_rows.specs.Writes.{IsSizeOf}
+
+-- no row is bad, for the sizes of some superblock
+pub record AreRowsOfAStore (rows : Rows) : Type 0 where
+  pub sup : Super
+  pub limits : IsSuper sup
+  pub good : NoBadRow sup rows
 
 -- the value of the row of some shard
 pub record IsShardValue (value : List ℕ) : Type 0 where

@@ -18,8 +18,8 @@ use Rattle.object_rows.specs.Operations.{AreShards, Climb}
 use Rattle.object_rows.specs.Maps.{AreShardsOf, extents_in, first_pages, IsMapOf}
 use Rattle.object_rows.specs.Writes.{IsSizeOf, missing, there}
 use Rattle.object_rows.proofs.Shards.{by_shards_ascend, by_shards_numbers, by_shards_pages, by_shards_present, first_pages_climb}
-use Rattle.write_planner.specs.PlanFails.{AreRowsOfAStore}
-use Rattle.write_planner.specs.Objects.{HasShards, IsStateOf}
+use Rattle.onode_state.specs.Objects.{AreRowsOfAStore}
+use Rattle.onode_state.specs.Objects.{HasShards, IsStateOf}
 
 -- an onode's row, by its value
 pub record OnodeIs (rows : Rows) (c o value : List ℕ) : Type 0 where

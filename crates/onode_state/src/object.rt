@@ -5,8 +5,8 @@ ghost use Rattle.row_format.specs.Extents.{Extent};
 ghost use Rattle.row_format.specs.Keys.{of_object, shard_key};
 ghost use Rattle.onode_codec.specs.Reading.{SpellsOnode, SpellExtents};
 ghost use Rattle.object_rows.specs.Writes.{IsSizeOf};
-ghost use Rattle.write_planner.specs.PlanFails.{AreRowsOfAStore};
-ghost use Rattle.write_planner.specs.Objects.{IsShardValue, AddsShard, HasShards, IsStateOf};
+ghost use Rattle.onode_state.specs.Objects.{AreRowsOfAStore};
+ghost use Rattle.onode_state.specs.Objects.{IsShardValue, AddsShard, HasShards, IsStateOf};
 
 use crate::names::{coll_name_is_one, name_is_one};
 use blob_map::PageMap;
@@ -45,7 +45,8 @@ fn size_in(value: &[u8]) -> u64
     }
 }
 
-fn size_of(
+/// The bytes of an object, by its onode alone. A missing one has none.
+pub fn object_size(
     alloc: Global,
     rows: &RowTable,
     coll: &CollName,
@@ -132,7 +133,7 @@ pub fn object_state(
 {
     coll_name_is_one(coll);
     name_is_one(object);
-    let size = size_of(alloc, rows, coll, object)?;
+    let size = object_size(alloc, rows, coll, object)?;
     let Shards { firsts, extents } = shards_of(alloc, rows, coll, object)?;
     let pages = PageMap::from_extents(alloc, &extents)?;
     Ok(ObjectState {

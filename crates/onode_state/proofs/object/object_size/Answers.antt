@@ -2,8 +2,8 @@ use Rattle.std.proofs.Common.{◌≡◌, Some, None, ap, sym, subst, ◌∙◌}
 use Rattle.std.specs.FinMap as map
 use Rattle.row_format.specs.Keys.{onode_key}
 use Rattle.onode_codec.specs.Reading.{SpellsOnode}
-use Rattle.write_planner.proofs.States.{onode_under, size_read, no_size}
-use Rattle.write_planner.proofs.object.size_of.Goals as goal
+use Rattle.onode_state.proofs.States.{onode_under, size_read, no_size}
+use Rattle.onode_state.proofs.object.object_size.Goals as goal
 
 pub size_in-requires : goal.size_in-requires
 size_in-requires c =

@@ -1,8 +1,8 @@
 use Rattle.std.proofs.Common.{sym, subst, ◌∙◌, arith}
 use Rattle.std.specs.List.{AllByRecursion}
-use Rattle.write_planner.proofs.ShardRows.{IsShardEntry, range_is_shards, range_has_all}
-use Rattle.write_planner.proofs.ReadShards.{AreRead, entry_at, value_of_entry, read_more, all_read}
-use Rattle.write_planner.proofs.object.shards_of.Goals as goal
+use Rattle.onode_state.proofs.ShardRows.{IsShardEntry, range_is_shards, range_has_all}
+use Rattle.onode_state.proofs.ReadShards.{AreRead, entry_at, value_of_entry, read_more, all_read}
+use Rattle.onode_state.proofs.object.shards_of.Goals as goal
 
 pub add_shard-requires : goal.add_shard-requires
 add_shard-requires c =

@@ -2,8 +2,8 @@ use Rattle.std.proofs.Common.{sym, ap, subst, ◌∙◌}
 use Rattle.std.specs.List.{AllByRecursion}
 use Rattle.row_format.specs.Extents.{Ascend, place_of}
 use Rattle.blob_map.specs.Pages.{HasNumbers}
-use Rattle.write_planner.proofs.States.{extents_ascend, extents_number, state_of}
-use Rattle.write_planner.proofs.object.object_state.Goals as goal
+use Rattle.onode_state.proofs.States.{extents_ascend, extents_number, state_of}
+use Rattle.onode_state.proofs.object.object_state.Goals as goal
 
 pub from_extents-requires-clause-ascend : goal.from_extents-requires-clause-ascend
 from_extents-requires-clause-ascend c =

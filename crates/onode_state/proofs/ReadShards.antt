@@ -7,8 +7,8 @@ use Rattle.onode_codec.specs.Reading.{SpellExtents}
 use Rattle.onode_codec.proofs.Again.{same_extents}
 use Rattle.object_rows.specs.Maps.{extents_in, first_pages}
 use Rattle.object_rows.proofs.Ops.{all_append}
-use Rattle.write_planner.specs.Objects.{IsShardValue, AddsShard}
-use Rattle.write_planner.proofs.ShardRows.{shard_entry, FitsAsShard, IsShardEntry}
+use Rattle.onode_state.specs.Objects.{IsShardValue, AddsShard}
+use Rattle.onode_state.proofs.ShardRows.{shard_entry, FitsAsShard, IsShardEntry}
 
 abbrev Entry : Type 0
 Entry = List ℕ × List ℕ

@@ -1,0 +1,3 @@
+pub mod ShardRows
+pub mod ReadShards
+pub mod States

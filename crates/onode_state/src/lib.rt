@@ -1,0 +1,11 @@
+//! Objects as their rows have them: the size, the map of the pages, and the shards that the map's extents stand in.
+//!
+//! In Ceph's BlueStore this is `get_onode` with `ExtentMap::fault_range`: an onode and its extent map, decoded from their keys. Whoever plans
+//! a change of an object or reads it begins here.
+#![tactic(auto)]
+
+mod names;
+mod object;
+
+pub use names::{coll_name_is_one, name_is_one};
+pub use object::{ObjectState, object_size, object_state};

@@ -1,0 +1,8 @@
+pub mod NamesRange
+pub mod NamesOrder
+pub mod NamesKeys
+pub mod NamesNext
+pub mod NamesWalk
+pub mod PartLemmas
+pub mod ReadLemmas
+pub mod AnswerLemmas

@@ -1,0 +1,234 @@
+-- Runs of pages, and what reads of them give.
+use Rattle.std.proofs.Common.{◌≡◌, inl, inr, ℕ, ◌+◌, ◌-◌, ◌*◌, ◌<◌, ◌≤◌, List, [], ◌++◌, length, take, Option, Some, None, refl, sym, subst, ◌∙◌, arith, length-append}
+use Rattle.std.specs.Prelude.{IfSome, IfNone, All, Result, Ok, Err, IfErr, IsErr}
+use Rattle.std.specs.Result.{IsErrAnd}
+use Rattle.std.specs.FinMap as finite
+use Rattle.std.proofs.lemmas.Bool.{cases_lt}
+use Rattle.std.proofs.lemmas.List.{length-take-le}
+use Rattle.byte_maps.specs.Units.{unit_at, zeros, IsUnits}
+use Rattle.byte_maps.proofs.UnitLemmas.{length-unit_at, length-zeros, unit_at-zeros, piece_of_front}
+use Rattle.block_device.specs.Log.{last, HasNoBadDone}
+use Rattle.block_device.specs.Disk.{Disk, History, HasRead, IsApart, IsNotInFlight}
+use Rattle.block_device.specs.Facts.{last_at}
+use Rattle.meta_rows.specs.Rows.{Rows}
+use Rattle.row_format.specs.Extents.{Place}
+use Rattle.blob_map.specs.Pages.{PageMap}
+use Rattle.object_rows.specs.Maps.{IsMapOf}
+use Rattle.read_facts.specs.declared.view.BadSum.{BadSum}
+use Rattle.read_facts.specs.PageReads.{IsHeldAt, IsGoodPage, hole, mapped, AreGoodPages, IsFirstBad}
+use Rattle.read_facts.proofs.Pages.{good_appended, none_good, bad_behind_good}
+use Rattle.object_reader.specs.declared.parts.PartFail.{PartFail}
+use Rattle.object_reader.specs.declared.parts.PartFail.TheVariants as why
+use Rattle.object_reader.specs.Parts.{CanRead, StandsOn, AreHoles, AreOnUnits, IsChecked, AreChecked, IsMismatch, GivesPages, GivesBad, IsPartFail}
+
+-- what holds of number 0 holds of each below 1
+pub each_of_one : (P : ℕ → Type 0) → P 0 → (i : ℕ) → i < 1 → P i
+each_of_one P is i lt = let same : 0 ≡ i = omega (arith, lt) in subst P same is
+
+-- what holds of each below a number and of the number itself
+pub each_and_next : (P : ℕ → Type 0) (n : ℕ) → ((i : ℕ) → i < n → P i) → P n → (i : ℕ) → i < n + 1 → P i
+each_and_next P n each is i lt = elim (cases_lt i n) [
+  | inl below ↦ each i below
+  | inr ge ↦ let same : n ≡ i = omega (arith, lt, ge) in subst P same is
+]
+
+-- of a run of holes the first is one
+pub one_hole : (pages : PageMap) (first : ℕ) → finite.get pages first ≡ None → AreHoles pages first 1
+one_hole pages first is =
+    let same : first ≡ first + 0 = omega arith in
+    each_of_one (λ i. finite.get pages (first + i) ≡ None) (subst (λ (p : ℕ). finite.get pages p ≡ None) same is)
+
+-- one hole more
+pub hole_more : (pages : PageMap) (first n : ℕ) → AreHoles pages first n → finite.get pages (first + n) ≡ None → AreHoles pages first (n + 1)
+hole_more pages first n are is = each_and_next (λ i. finite.get pages (first + i) ≡ None) n are is
+
+-- of a run of units the first is one
+pub one_unit : (pages : PageMap) (first at : ℕ) → StandsOn pages first at → AreOnUnits pages first at 1
+one_unit pages first at is =
+    let page : first ≡ first + 0 = omega arith in
+    let unit : at ≡ at + 0 = omega arith in
+    each_of_one (λ i. StandsOn pages (first + i) (at + i)) (subst (λ (u : ℕ). StandsOn pages (first + 0) u) unit
+    (subst (λ (p : ℕ). StandsOn pages p at) page is))
+
+-- one unit more
+pub unit_more : (pages : PageMap) (first at n : ℕ) → AreOnUnits pages first at n → StandsOn pages (first + n) (at + n) → AreOnUnits pages first
+    at (n + 1)
+unit_more pages first at n are is = each_and_next (λ i. StandsOn pages (first + i) (at + i)) n are is
+
+-- where a page stands
+pub stands_where : (pages : PageMap) (page unit : ℕ) (place : Place) → finite.get pages page ≡ Some place → unit ≡ place.unit → StandsOn pages
+    page unit
+stands_where pages page unit place is same =
+    (place.csum, subst (λ (u : ℕ). finite.get pages page ≡ Some (record { unit = u; csum = place.csum })) (sym same) is)
+
+-- one page more is checked
+pub checked_more : (pages : PageMap) (first n : ℕ) (bytes page : List ℕ) → AreChecked pages first n bytes → page ≡ unit_at n bytes
+    → IsChecked pages (first + n) page → AreChecked pages first (n + 1) bytes
+checked_more pages first n bytes page are same is =
+    each_and_next (λ i. IsChecked pages (first + i) (unit_at i bytes)) n are (subst (IsChecked pages (first + n)) same is)
+
+-- the units of a run lie inside the device
+pub run_inside : (d : Disk) (pages : PageMap) (first at count : ℕ) → CanRead d pages → AreOnUnits pages first at count → 0 < count
+    → at + count ≤ d.units
+run_inside d pages first at count can on some =
+    let last = on (count - 1) (omega (arith, some)) in
+    let place : Place = record { unit = at + (count - 1); csum = last.0 } in
+    let below : at + (count - 1) < d.units = can.inside (first + (count - 1)) place last.1 in
+    omega (arith, below, some)
+
+-- nothing is in flight there
+pub none_flies : (d : Disk) (pages : PageMap) (at bytes : ℕ) → CanRead d pages → IsNotInFlight d at bytes
+none_flies d pages at bytes can = subst (λ fs. All (IsApart at bytes) fs) (sym can.idle) (λ k f lt. absurd (omega (arith, lt)))
+
+-- what was read is what the units hold
+held_by : (told : Option History) (at count i : ℕ) (bytes : List ℕ) → i < count
+    → IfSome told (λ h. (k : ℕ) → k < count → HasNoBadDone h.log (at + k) → unit_at k bytes ≡ unit_at (at + k) (last h.start h.log))
+    → IfSome told (λ h. HasNoBadDone h.log (at + i) → unit_at i bytes ≡ last_at h (at + i))
+held_by None at count i bytes lt units = tt
+held_by (Some h) at count i bytes lt units = units i lt
+
+held : (d : Disk) (at count i : ℕ) (bytes : List ℕ) → HasRead d at count bytes → i < count → IsHeldAt d (at + i) (unit_at i bytes)
+held d at count i bytes read lt = held_by d.history at count i bytes lt read.units
+
+-- a page that was read, with the checksum that is kept for it, is good
+good_unit : (d : Disk) (pages : PageMap) (first at count i : ℕ) (bytes : List ℕ) (rows : Rows) (c o : List ℕ) → AreOnUnits pages first at count
+    → HasRead d at count bytes → IsMapOf rows c o pages → i < count → IsChecked pages (first + i) (unit_at i bytes)
+    → IsGoodPage d rows c o (first + i) (unit_at i bytes)
+good_unit d pages first at count i bytes rows c o on read is lt checked =
+    let stand = on i lt in
+    let place : Place = record { unit = at + i; csum = stand.0 } in
+    mapped place ((is (first + i) place).0 stand.1) (held d at count i bytes read lt) (checked place stand.1)
+
+-- pages on consecutive units that were read, with the checksums that are kept for them, are good
+pub good_units : (d : Disk) (pages : PageMap) (first at count : ℕ) (bytes : List ℕ) → AreOnUnits pages first at count → HasRead d at count bytes
+    → AreChecked pages first count bytes → GivesPages d pages first count bytes
+good_units d pages first at count bytes on read checked = record {
+  size = read.size;
+  good = λ rows c o is. record {
+    size = read.size;
+    each = λ i lt. good_unit d pages first at count i bytes rows c o on read is lt (checked i lt);
+  };
+}
+
+-- so are those in front of a bad one
+unit_of_front : (n i : ℕ) (bytes : List ℕ) → i < n → unit_at i (take (4096 * n) bytes) ≡ unit_at i bytes
+unfolding unit_at
+unit_of_front n i bytes lt = piece_of_front (4096 * i) 4096 (4096 * n) bytes (omega (arith, lt))
+
+good_front : (d : Disk) (pages : PageMap) (first at count n : ℕ) (bytes : List ℕ) (rows : Rows) (c o : List ℕ) → AreOnUnits pages first at count
+    → HasRead d at count bytes → IsMapOf rows c o pages → n < count → AreChecked pages first n bytes
+    → AreGoodPages d rows c o first n (take (4096 * n) bytes)
+good_front d pages first at count n bytes rows c o on read is lt checked = record {
+  size = length-take-le (4096 * n) bytes (omega (arith, lt, read.size));
+  each = λ i below. subst (IsGoodPage d rows c o (first + i)) (sym (unit_of_front n i bytes below))
+      (good_unit d pages first at count i bytes rows c o on read is (omega (arith, below, lt)) (checked i below));
+}
+
+same_place : (unit csum : ℕ) (place : Place) → Some (record { unit = unit; csum = csum }) ≡ Some place → unit ≡ place.unit
+same_place unit csum place is = cc
+
+-- the first mismatch of pages that were read is the first bad page
+pub bad_unit : (d : Disk) (pages : PageMap) (first at count : ℕ) (bytes : List ℕ) (bad : BadSum) → AreOnUnits pages first at count
+    → HasRead d at count bytes → IsMismatch pages first count bytes bad → GivesBad d pages first count bad
+bad_unit d pages first at count bytes bad on read m rows c o is =
+    let stand = on m.index m.within in
+    let unit : at + m.index ≡ m.at.place.unit = same_place (at + m.index) stand.0 m.at.place (sym stand.1 ∙ m.at.stands) in
+    let whole : 4096 * m.index + 4096 ≤ length bytes = omega (arith, m.within, read.size) in
+    record {
+      index = m.index;
+      within = m.within;
+      before = take (4096 * m.index) bytes;
+      good = good_front d pages first at count m.index bytes rows c o on read is m.within m.before;
+      bad = record {
+        place = m.at.place;
+        stands = (is (first + m.index) m.at.place).0 m.at.stands;
+        is_unit = m.at.is_unit;
+        is_kept = m.at.is_kept;
+        bytes = unit_at m.index bytes;
+        size = length-unit_at m.index bytes whole;
+        held = subst (λ (u : ℕ). IsHeldAt d u (unit_at m.index bytes)) (unit ∙ sym m.at.is_unit) (held d at count m.index bytes read m.within);
+        is_found = m.at.is_found;
+        differs = m.at.differs;
+      };
+    }
+
+-- holes are good, with zeros
+pub good_holes : (d : Disk) (pages : PageMap) (first count : ℕ) (bytes : List ℕ) → AreHoles pages first count → bytes ≡ zeros (4096 * count)
+    → GivesPages d pages first count bytes
+good_holes d pages first count bytes are same = subst (GivesPages d pages first count) (sym same) (record {
+  size = length-zeros (4096 * count);
+  good = λ rows c o is. record {
+    size = length-zeros (4096 * count);
+    each = λ i lt. hole (λ place at. none_there i lt ((is (first + i) place).1 at)) (unit_at-zeros i (4096 * count) (omega (arith, lt)));
+  };
+})
+  where
+    none_there : (i : ℕ) {place : Place} → i < count → finite.get pages (first + i) ≡ Some place → ⊥
+    none_there i {place} lt there = let none : finite.get pages (first + i) ≡ None = are i lt in absurd cc
+
+-- ---- failures
+
+-- the first bad page of some is the first of more
+bad_of_more : (d : Disk) (rows : Rows) (c o : List ℕ) (first count n unit kept found : ℕ) → count ≤ n
+    → IsFirstBad d rows c o first count unit kept found → IsFirstBad d rows c o first n unit kept found
+bad_of_more d rows c o first count n unit kept found le f = record {
+  index = f.index;
+  within = omega (arith, f.within, le);
+  before = f.before;
+  good = f.good;
+  bad = f.bad;
+}
+
+-- a failed read of some pages is one of more
+pub fails_of_more : (d : Disk) (pages : PageMap) (first count n : ℕ) (fail : PartFail) → count ≤ n → IsPartFail d pages first count fail
+    → IsPartFail d pages first n fail
+fails_of_more d pages first count n (why.BadPage bad) le is =
+    λ rows c o map. bad_of_more d rows c o first count n bad.unit bad.kept bad.found le (is rows c o map)
+fails_of_more d pages first count n why.Memory le is = tt
+fails_of_more d pages first count n why.Fault le is = tt
+
+-- a failed read behind good pages
+pub fails_behind : (d : Disk) (pages : PageMap) (first next end : ℕ) (xs : List ℕ) (fail : PartFail) → first ≤ next → next ≤ end
+    → GivesPages d pages first (next - first) xs → IsPartFail d pages next (end - next) fail → IsPartFail d pages first (end - first) fail
+fails_behind d pages first next end xs (why.BadPage bad) from below front is =
+    λ rows c o map.
+    let same : next ≡ first + (next - first) = omega (arith, from) in
+    bad_behind_good d rows c o first (next - first) (end - next) (end - first) bad.unit bad.kept bad.found xs (front.good rows c o map)
+    (subst (λ (p : ℕ). IsFirstBad d rows c o p (end - next) bad.unit bad.kept bad.found) same (is rows c o map)) (omega (arith, from, below))
+fails_behind d pages first next end xs why.Memory from below front is = tt
+fails_behind d pages first next end xs why.Fault from below front is = tt
+
+-- ---- runs laid together
+
+-- no page
+pub no_pages : (d : Disk) (pages : PageMap) (first n : ℕ) (bytes : List ℕ) → n ≡ 0 → bytes ≡ [] → GivesPages d pages first n bytes
+no_pages d pages first n bytes none empty = subst (GivesPages d pages first n) (sym empty)
+    (subst (λ (m : ℕ). GivesPages d pages first m []) (sym none)
+    (record { size = refl; good = λ rows c o is. none_good d rows c o first }))
+
+-- one run behind the others
+pub more_pages : (d : Disk) (pages : PageMap) (first next count : ℕ) (xs ys both : List ℕ) → first ≤ next → both ≡ xs ++ ys
+    → GivesPages d pages first (next - first) xs → GivesPages d pages next count ys → GivesPages d pages first (next + count - first) both
+more_pages d pages first next count xs ys both from is front back =
+    let same : next ≡ first + (next - first) = omega (arith, from) in
+    let many : (next - first) + count ≡ next + count - first = omega (arith, from) in
+    let good = λ (rows : Rows) (c o : List ℕ) (is : IsMapOf rows c o pages).
+    subst (λ (n : ℕ). AreGoodPages d rows c o first n (xs ++ ys)) many
+    (good_appended d rows c o first (next - first) count xs ys (front.good rows c o is)
+    (subst (λ (p : ℕ). AreGoodPages d rows c o p count ys) same (back.good rows c o is))) in
+    subst (GivesPages d pages first (next + count - first)) (sym is) (record { size = both_sizes; good = good })
+  where
+    both_sizes : IsUnits (next + count - first) (xs ++ ys)
+    both_sizes = omega (arith, from, front.size, back.size, length-append xs ys)
+
+-- what holds of an error holds of the result that hands it on
+pub handed_on : {T : Type 0} (P : PartFail → Type 0) (result : Result T PartFail) (fail : PartFail)
+    → IsErr result × IsErrAnd result (λ e. e ≡ fail) → P fail → IfErr result P
+handed_on P (Ok x) fail is holds = tt
+handed_on P (Err e) fail is holds = subst P (sym is.1) holds
+
+-- where no mismatch was found there is none
+pub none_differs : (pages : PageMap) (page : ℕ) (bytes : List ℕ) (found : Option BadSum) → found ≡ None → IfNone found (IsChecked pages page bytes)
+    → IsChecked pages page bytes
+none_differs pages page bytes None is checked = checked
+none_differs pages page bytes (Some bad) is checked = absurd cc

@@ -1,0 +1,57 @@
+use Rattle.std.proofs.Common.{◌≡◌, None, sym, subst, ◌∙◌}
+use Rattle.object_model.specs.declared.command.Command.TheVariants as ask
+use Rattle.read_facts.specs.Answers.{object_refusal, range_refusal, IsAnswerOf}
+use Rattle.object_reader.specs.Parts.{GivesRange}
+use Rattle.object_reader.specs.PartFails.{IsCsumOf}
+use Rattle.object_reader.proofs.AnswerLemmas.{ok_of, has_onode, range_allowed, can_read, bytes_answer, read_fails}
+use Rattle.object_reader.proofs.answering.answer_read.Goals as goal
+
+pub read_range-requires-clause-can : goal.read_range-requires-clause-can
+read_range-requires-clause-can g c =
+    let rows = c.args.rows.now.rows in
+    let coll = c.args.coll.now in
+    let object = c.args.object.now in
+    let none : range_refusal (object_refusal rows coll object) c.args.off c.args.len ≡ None = sym c.in_ok-refusal.ensures ∙ c.in_default.is in
+    let key = has_onode rows coll object (range_allowed (object_refusal rows coll object) c.args.off c.args.len none).0 in
+    let state = c.in_ok-state.state in
+    can_read (g.D.Device.disk c.args.device.now) rows coll object state.size state.pages state.shards.items c.requires.readable
+    c.in_ok-state.ensures key
+
+pub read_range-requires-clause-limit : goal.read_range-requires-clause-limit
+read_range-requires-clause-limit g c =
+    let rows = c.args.rows.now.rows in
+    let coll = c.args.coll.now in
+    let object = c.args.object.now in
+    let none : range_refusal (object_refusal rows coll object) c.args.off c.args.len ≡ None = sym c.in_ok-refusal.ensures ∙ c.in_default.is in
+    (range_allowed (object_refusal rows coll object) c.args.off c.args.len none).1
+
+pub returns-in-Ok-clause-ok : goal.returns-in-Ok-clause-ok
+returns-in-Ok-clause-ok g c =
+    let d = g.D.Device.disk c.args.device.now in
+    let rows = c.args.rows.now.rows in
+    let coll = c.args.coll.now in
+    let object = c.args.object.now in
+    let off = c.args.off in
+    let len = c.args.len in
+    let none : range_refusal (object_refusal rows coll object) off len ≡ None = sym c.in_ok-refusal.ensures ∙ c.in_default.is in
+    let key = has_onode rows coll object (range_allowed (object_refusal rows coll object) off len none).0 in
+    let state = c.in_ok-state.state in
+    bytes_answer d rows coll object state.size state.pages state.shards.items c.requires.readable c.in_ok-state.ensures key off len
+    c.from_vec.result none
+    (subst (GivesRange d state.pages state.size off len) (sym c.from_vec.ensures) c.in-Ok.ensures.good)
+
+pub returns-clause-ok : goal.returns-clause-ok
+returns-clause-ok g c =
+    let d = g.D.Device.disk c.args.device.now in
+    let rows = c.args.rows.now.rows in
+    let coll = c.args.coll.now in
+    let object = c.args.object.now in
+    let off = c.args.off in
+    let len = c.args.len in
+    let none : range_refusal (object_refusal rows coll object) off len ≡ None = sym c.in_ok-refusal.ensures ∙ c.in_default.is in
+    let key = has_onode rows coll object (range_allowed (object_refusal rows coll object) off len none).0 in
+    let state = c.in_ok-state.state in
+    ok_of c.csum_answer.result (IsCsumOf c.in-Err.why) (IsAnswerOf d rows (ask.Read coll object off len))
+    (λ a is. read_fails d rows coll object state.size state.pages state.shards.items c.requires.readable c.in_ok-state.ensures key off len
+    c.in-Err.why a none
+    c.in-Err.ensures.fail is) c.csum_answer.ensures.ok

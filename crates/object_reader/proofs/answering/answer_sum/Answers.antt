@@ -1,0 +1,48 @@
+use Rattle.std.proofs.Common.{◌≡◌, None, sym, ◌∙◌}
+use Rattle.object_model.specs.declared.command.Command.TheVariants as ask
+use Rattle.read_facts.specs.Answers.{object_refusal, IsAnswerOf}
+use Rattle.object_reader.specs.PartFails.{IsCsumOf}
+use Rattle.object_reader.proofs.AnswerLemmas.{ok_of, has_onode, can_read, size_most, sum_gives, sum_fails}
+use Rattle.object_reader.proofs.answering.answer_sum.Goals as goal
+
+pub sum-requires-clause-can : goal.sum-requires-clause-can
+sum-requires-clause-can g c =
+    let rows = c.args.rows.now.rows in
+    let coll = c.args.coll.now in
+    let object = c.args.object.now in
+    let key = has_onode rows coll object (sym c.in_ok-refusal.ensures ∙ c.in_default.is) in
+    let state = c.in_ok-state.state in
+    can_read (g.D.Device.disk c.args.device.now) rows coll object state.size state.pages state.shards.items c.requires.readable
+    c.in_ok-state.ensures key
+
+pub sum-requires-clause-limit : goal.sum-requires-clause-limit
+sum-requires-clause-limit g c =
+    let rows = c.args.rows.now.rows in
+    let coll = c.args.coll.now in
+    let object = c.args.object.now in
+    let key = has_onode rows coll object (sym c.in_ok-refusal.ensures ∙ c.in_default.is) in
+    let state = c.in_ok-state.state in
+    size_most (g.D.Device.disk c.args.device.now) rows coll object state.size state.pages state.shards.items c.requires.readable
+    c.in_ok-state.ensures key
+
+pub returns-in-Ok-clause-ok : goal.returns-in-Ok-clause-ok
+returns-in-Ok-clause-ok g c =
+    let rows = c.args.rows.now.rows in
+    let coll = c.args.coll.now in
+    let object = c.args.object.now in
+    let none : object_refusal rows coll object ≡ None = sym c.in_ok-refusal.ensures ∙ c.in_default.is in
+    let state = c.in_ok-state.state in
+    sum_gives (g.D.Device.disk c.args.device.now) rows coll object state.size state.pages state.shards.items c.requires.readable c.in_ok-state.ensures
+    (has_onode rows coll object none) c.in-Ok.crc none c.in-Ok.ensures.good
+
+pub returns-clause-ok : goal.returns-clause-ok
+returns-clause-ok g c =
+    let d = g.D.Device.disk c.args.device.now in
+    let rows = c.args.rows.now.rows in
+    let coll = c.args.coll.now in
+    let object = c.args.object.now in
+    let none : object_refusal rows coll object ≡ None = sym c.in_ok-refusal.ensures ∙ c.in_default.is in
+    let state = c.in_ok-state.state in
+    ok_of c.csum_answer.result (IsCsumOf c.in-Err.why) (IsAnswerOf d rows (ask.Sum coll object))
+    (λ a is. sum_fails d rows coll object state.size state.pages state.shards.items c.requires.readable c.in_ok-state.ensures
+    (has_onode rows coll object none) c.in-Err.why a none c.in-Err.ensures.fail is) c.csum_answer.ensures.ok

@@ -1,0 +1,10 @@
+use Rattle.object_reader.proofs.NamesRange.{least_key, no_key}
+use Rattle.object_reader.proofs.names.first_key.Goals as goal
+
+pub returns-in-Some : goal.returns-in-Some
+returns-in-Some c =
+    least_key c.args.rows.now.rows c.args.first.now c.args.end.now c.range.result.now c.in-Some.field-0.now c.as_slice.result.now
+    c.range.ensures c.in-Some.ensures.value c.as_slice.ensures
+
+pub returns-in-None : goal.returns-in-None
+returns-in-None c = no_key c.args.rows.now.rows c.args.first.now c.args.end.now c.range.result.now c.range.ensures c.in-None.ensures.value

@@ -1,0 +1,5 @@
+use Rattle.object_reader.specs.Parts.{AreHoles}
+use Rattle.object_reader.proofs.parts.hole_pages.Given as goal
+
+abbrev pub invariant-loop-i : goal.invariant-loop-i
+invariant-loop-i l = AreHoles l.pages l.first l.i

@@ -1,0 +1,48 @@
+use Rattle.std.proofs.Common.{◌≡◌, ◌-◌, ℕ, refl, arith, subst, sym, ◌∙◌}
+use Rattle.object_reader.specs.Parts.{CanRead, GivesPages, IsPartFail}
+use Rattle.object_reader.proofs.PartLemmas.{no_pages, more_pages, fails_behind, handed_on}
+use Rattle.object_reader.proofs.reading.read_pages.Goals as goal
+
+pub parts-init : goal.parts-init
+parts-init g c = (
+  refl,
+  omega arith,
+  omega arith,
+  c.requires.below,
+  no_pages (g.D.Device.disk c.args.device.now) c.args.pages.now c.args.first
+      (c.args.first - c.args.first) c.in_ok-bytes.bytes.items (omega arith) c.in_ok-bytes.ensures.items,
+)
+
+pub read_part-requires-clause-can : goal.read_part-requires-clause-can
+read_part-requires-clause-can g c = subst (λ d. CanRead d c.args.pages.now) (sym c.parts.invariant.0) c.requires.can
+
+pub parts-preserved : goal.parts-preserved
+parts-preserved g c =
+    let disk = g.D.Device.disk in
+    let was = c.parts.invariant in
+    let n = c.in_ok-count.count in
+    let more = subst (λ d. GivesPages d c.args.pages.now c.parts.next n c.read_part.new.part.items) was.0 c.in_ok-count.ensures.good in (
+      c.read_part.ensures.same ∙ was.0,
+      omega (arith, was.1, c.read_part.ensures.later),
+      omega (arith, was.2),
+      omega (arith, c.in_ok-count.ensures.few.1),
+      more_pages (disk c.args.device.now) c.args.pages.now c.args.first c.parts.next n c.parts.bytes.items c.read_part.new.part.items _ was.2
+          (rw c.deref.ensures.value at c.in_ok-extend_from_slice.ensures.items) was.4 more,
+    )
+
+pub returns-in_err-count-clause-fail : goal.returns-in_err-count-clause-fail
+returns-in_err-count-clause-fail g c =
+    let d = g.D.Device.disk c.args.device.now in
+    let was = c.parts.invariant in
+    let why = c.in_err-count.field-0.0 in
+    let failed = subst (λ d. IsPartFail d c.args.pages.now c.parts.next (c.args.end - c.parts.next) why) was.0 c.in_err-count.ensures.fail in
+    handed_on (IsPartFail d c.args.pages.now c.args.first (c.args.end - c.args.first)) c.from_residual-in_err-count.result why
+    c.from_residual-in_err-count.ensures (fails_behind d c.args.pages.now c.args.first c.parts.next c.args.end c.parts.bytes.items why was.2
+    was.3 was.4 failed)
+
+pub returns-clause-good : goal.returns-clause-good
+returns-clause-good g c =
+    let was = c.parts.invariant in
+    let at_end : c.parts.next ≡ c.args.end = omega (arith, was.3, c.parts-test.false) in
+    subst (λ (n : ℕ). GivesPages (g.D.Device.disk c.args.device.now) c.args.pages.now c.args.first (n - c.args.first) c.parts.bytes.items) at_end
+    was.4

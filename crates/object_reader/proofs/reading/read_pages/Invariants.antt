@@ -1,0 +1,14 @@
+use Rattle.std.proofs.Common.{◌≡◌, ◌≤◌, ◌-◌}
+use Rattle.object_reader.specs.Parts.{GivesPages}
+use Rattle.object_reader.proofs.reading.read_pages.Given as goal
+
+-- the pages so far were read
+abbrev pub invariant-parts : goal.invariant-parts
+invariant-parts g l =
+    let disk = g.D.Device.disk in
+    let faults = g.D.Device.faults in
+    (disk l.device ≡ disk l.initial.device) × (faults l.initial.device ≤ faults l.device) × (l.first ≤ l.next) × (l.next ≤ l.end)
+    × GivesPages (disk l.initial.device) l.pages l.first (l.next - l.first) l.bytes.items
+
+abbrev pub decreases-parts : goal.decreases-parts
+decreases-parts g l = l.end - l.next

@@ -1,0 +1,14 @@
+use Rattle.std.proofs.Common.{◌≡◌, ◌≤◌, ◌-◌}
+use Rattle.object_reader.specs.Parts.{IsDigestOf}
+use Rattle.object_reader.proofs.reading.sum.Given as goal
+
+-- the pages so far were taken in
+abbrev pub invariant-parts : goal.invariant-parts
+invariant-parts g l =
+    let disk = g.D.Device.disk in
+    let faults = g.D.Device.faults in
+    (disk l.device ≡ disk l.initial.device) × (faults l.initial.device ≤ faults l.device) × (l.next ≤ l.end)
+    × IsDigestOf (disk l.initial.device) l.object.pages l.object.size l.next l.digest
+
+abbrev pub decreases-parts : goal.decreases-parts
+decreases-parts g l = l.end - l.next

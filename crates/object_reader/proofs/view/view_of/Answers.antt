@@ -1,0 +1,21 @@
+use Rattle.object_reader.proofs.AnswerLemmas.{can_read, size_most, shows}
+use Rattle.object_reader.proofs.view.view_of.Goals as goal
+
+pub sum-requires-clause-can : goal.sum-requires-clause-can
+sum-requires-clause-can g c =
+    let state = c.in_ok-state.state in
+    can_read (g.D.Device.disk c.args.device.now) c.args.rows.now.rows c.args.coll.now c.args.name state.size state.pages state.shards.items
+    c.requires.readable c.in_ok-state.ensures c.requires.is.there
+
+pub sum-requires-clause-limit : goal.sum-requires-clause-limit
+sum-requires-clause-limit g c =
+    let state = c.in_ok-state.state in
+    size_most (g.D.Device.disk c.args.device.now) c.args.rows.now.rows c.args.coll.now c.args.name state.size state.pages state.shards.items
+    c.requires.readable c.in_ok-state.ensures c.requires.is.there
+
+pub returns-clause-ok : goal.returns-clause-ok
+returns-clause-ok g c =
+    let state = c.in_ok-state.state in
+    shows (g.D.Device.disk c.args.device.now) c.args.rows.now.rows c.args.coll.now c.args.name state.size state.pages state.shards.items
+    c.requires.readable c.in_ok-state.ensures c.requires.is.there c.sum.result c.in_ok-sum.sum c.requires.is c.sum.ensures.good c.sum.ensures.fail
+    c.in_ok-sum.ensures.ok

@@ -1,0 +1,4 @@
+pub mod Readable
+pub mod NextKeys
+pub mod Parts
+pub mod PartFails

@@ -1,0 +1,227 @@
+//! Commands that read, answered.
+ghost use Rattle.std.specs.Prelude.{◌≡◌, ◌+◌, ◌≤◌, nat_lt, IfOk, IsErrOf};
+ghost use Rattle.std.specs.FinMap as finite;
+ghost use Rattle.block_device.specs.Disk.{Rose};
+ghost use Rattle.object_model.specs.Effect.{object_limit};
+ghost use Rattle.object_model.specs.declared.command.Command.TheVariants as ask;
+ghost use Rattle.onode_state.specs.Objects.{AreRowsOfAStore};
+ghost use Rattle.block_device.specs.Disk.{Disk};
+ghost use Rattle.unit_fields.specs.Names.{IsName, IsCollName};
+ghost use Rattle.row_format.specs.Keys.{coll_key, onode_key};
+ghost use Rattle.read_facts.specs.Answers.{IsKnownRead, HasReadNames, IsAnswerOf, coll_refusal, object_refusal, range_refusal};
+ghost use Rattle.object_reader.specs.Readable.{IsReadable};
+ghost use Rattle.object_reader.specs.PartFails.{IsCsumOf};
+
+use crate::fail::ReadFail;
+use crate::names::object_names;
+use crate::parts::PartFail;
+use crate::reading::{read_range, sum};
+use block_device::Device;
+use byte_maps::{Bytes, Items};
+use meta_rows::RowTable;
+use object_model::{Answer, Command, Refusal};
+use onode_codec::{coll_key, onode_key};
+use onode_state::{coll_name_is_one, name_is_one, object_size, object_state};
+use std::alloc::{AllocError, Global};
+use unit_fields::limits::OBJECT_LIMIT;
+use unit_fields::{CollName, Name};
+
+/// The answer to a command that reads, by the rows of a store and the device that holds its units: a refusal, what it asks for, or the first of
+/// the units that must be read whose bytes have another checksum than the one that is kept. The kernel calls it, with the submitted rows.
+pub fn answer<D: Device>(
+    alloc: Global,
+    device: &mut D,
+    rows: &RowTable,
+    command: &Command,
+) -> Result<Answer, ReadFail>
+    requires readable { IsReadable rows.now.rows (D.disk device.old) }
+    requires known { IsKnownRead command.now }
+    ensures names { HasReadNames command.now }
+    ensures ok { IfOk result (IsAnswerOf (D.disk device.old) rows.now.rows command.now) }
+    ensures same { D.disk device.new ≡ D.disk device.old }
+    ensures later { D.faults device.old ≤ D.faults device.new }
+    ensures cause { IsErrOf result ReadFail.Fault → Rose (D.faults device.old) (D.faults device.new) }
+{
+    match command {
+        Command::Read {
+            coll,
+            object,
+            off,
+            len,
+        } => answer_read(alloc, device, rows, coll, object, *off, *len),
+        Command::Sum { coll, object } => answer_sum(alloc, device, rows, coll, object),
+        Command::Stat { coll, object } => Ok(answer_stat(alloc, rows, coll, object)?),
+        Command::List { coll } => Ok(answer_list(alloc, rows, coll)?),
+        _ => unreachable!(),
+    }
+}
+
+fn has_row(rows: &RowTable, key: &Bytes) -> bool
+    ensures { result ≡ finite.contains_key rows.now.rows key.now }
+{
+    rows.get(key.as_slice()).is_some()
+}
+
+// The refusal of what is done with a collection, which must be there.
+fn coll_refusal(
+    alloc: Global,
+    rows: &RowTable,
+    coll: &CollName,
+) -> Result<Option<Refusal>, AllocError>
+    ensures { IfOk result (λ refusal. refusal ≡ coll_refusal rows.now.rows coll.now) }
+{
+    let key = coll_key(alloc, coll)?;
+    if has_row(rows, &key) {
+        return Ok(None);
+    }
+    Ok(Some(Refusal::NoCollection))
+}
+
+// The refusal of what is done with an object, which must be there in its collection.
+fn object_refusal(
+    alloc: Global,
+    rows: &RowTable,
+    coll: &CollName,
+    object: &Name,
+) -> Result<Option<Refusal>, AllocError>
+    ensures { IfOk result (λ refusal. refusal ≡ object_refusal rows.now.rows coll.now object.now) }
+{
+    if let Some(refusal) = coll_refusal(alloc, rows, coll)? {
+        return Ok(Some(refusal));
+    }
+    let key = onode_key(alloc, coll, object)?;
+    if has_row(rows, &key) {
+        return Ok(None);
+    }
+    Ok(Some(Refusal::NoObject))
+}
+
+// Whether a range of bytes ends past the limit of an object.
+fn ends_too_far(off: u64, len: u64) -> bool
+    ensures { result ≡ nat_lt object_limit (off + len) }
+{
+    OBJECT_LIMIT < len || OBJECT_LIMIT - len < off
+}
+
+// The refusal of a read of a range.
+fn range_refusal(
+    alloc: Global,
+    rows: &RowTable,
+    coll: &CollName,
+    object: &Name,
+    off: u64,
+    len: u64,
+) -> Result<Option<Refusal>, AllocError>
+    ensures { IfOk result (λ refusal. refusal ≡ range_refusal (object_refusal rows.now.rows coll.now object.now) off len) }
+{
+    if let Some(refusal) = object_refusal(alloc, rows, coll, object)? {
+        return Ok(Some(refusal));
+    }
+    if ends_too_far(off, len) {
+        return Ok(Some(Refusal::BadRange));
+    }
+    Ok(None)
+}
+
+// What a failed read of pages answers: the bad unit, if there is one.
+fn csum_answer(why: PartFail) -> Result<Answer, ReadFail>
+    ensures ok { IfOk result (IsCsumOf why) }
+    ensures cause { IsErrOf result ReadFail.Fault → why ≡ PartFail.Fault }
+{
+    match why {
+        PartFail::Memory => Err(ReadFail::Memory),
+        PartFail::Fault => Err(ReadFail::Fault),
+        PartFail::BadPage(bad) => Ok(Answer::Csum {
+            unit: bad.unit,
+            kept: bad.kept,
+            found: bad.found,
+        }),
+    }
+}
+
+fn answer_read<D: Device>(
+    alloc: Global,
+    device: &mut D,
+    rows: &RowTable,
+    coll: &CollName,
+    object: &Name,
+    off: u64,
+    len: u64,
+) -> Result<Answer, ReadFail>
+    requires readable { IsReadable rows.now.rows (D.disk device.old) }
+    ensures names { IsCollName coll.now × IsName object.now }
+    ensures ok { IfOk result (IsAnswerOf (D.disk device.old) rows.now.rows (ask.Read coll.now object.now off len)) }
+    ensures same { D.disk device.new ≡ D.disk device.old }
+    ensures later { D.faults device.old ≤ D.faults device.new }
+    ensures cause { IsErrOf result ReadFail.Fault → Rose (D.faults device.old) (D.faults device.new) }
+{
+    coll_name_is_one(coll);
+    name_is_one(object);
+    if let Some(refusal) = range_refusal(alloc, rows, coll, object, off, len)? {
+        return Ok(Answer::Refused(refusal));
+    }
+    let state = object_state(alloc, rows, coll, object)?;
+    match read_range(alloc, device, &state, off, len) {
+        Ok(bytes) => Ok(Answer::Bytes(Bytes::from_vec(bytes))),
+        Err(why) => csum_answer(why),
+    }
+}
+
+fn answer_sum<D: Device>(
+    alloc: Global,
+    device: &mut D,
+    rows: &RowTable,
+    coll: &CollName,
+    object: &Name,
+) -> Result<Answer, ReadFail>
+    requires readable { IsReadable rows.now.rows (D.disk device.old) }
+    ensures names { IsCollName coll.now × IsName object.now }
+    ensures ok { IfOk result (IsAnswerOf (D.disk device.old) rows.now.rows (ask.Sum coll.now object.now)) }
+    ensures same { D.disk device.new ≡ D.disk device.old }
+    ensures later { D.faults device.old ≤ D.faults device.new }
+    ensures cause { IsErrOf result ReadFail.Fault → Rose (D.faults device.old) (D.faults device.new) }
+{
+    coll_name_is_one(coll);
+    name_is_one(object);
+    if let Some(refusal) = object_refusal(alloc, rows, coll, object)? {
+        return Ok(Answer::Refused(refusal));
+    }
+    let state = object_state(alloc, rows, coll, object)?;
+    match sum(alloc, device, &state) {
+        Ok(crc) => Ok(Answer::Sum {
+            size: state.size,
+            crc,
+        }),
+        Err(why) => csum_answer(why),
+    }
+}
+
+fn answer_stat(
+    alloc: Global,
+    rows: &RowTable,
+    coll: &CollName,
+    object: &Name,
+) -> Result<Answer, AllocError>
+    requires { AreRowsOfAStore rows.now.rows }
+    ensures names { IsCollName coll.now × IsName object.now }
+    ensures ok { IfOk result (λ a. (d : Disk) → IsAnswerOf d rows.now.rows (ask.Stat coll.now object.now) a) }
+{
+    coll_name_is_one(coll);
+    name_is_one(object);
+    if let Some(refusal) = object_refusal(alloc, rows, coll, object)? {
+        return Ok(Answer::Refused(refusal));
+    }
+    Ok(Answer::Size(object_size(alloc, rows, coll, object)?))
+}
+
+fn answer_list(alloc: Global, rows: &RowTable, coll: &CollName) -> Result<Answer, AllocError>
+    requires { AreRowsOfAStore rows.now.rows }
+    ensures names { IsCollName coll.now }
+    ensures ok { IfOk result (λ a. (d : Disk) → IsAnswerOf d rows.now.rows (ask.List coll.now) a) }
+{
+    coll_name_is_one(coll);
+    if let Some(refusal) = coll_refusal(alloc, rows, coll)? {
+        return Ok(Answer::Refused(refusal));
+    }
+    Ok(Answer::Names(Items::from_vec(object_names(alloc, rows, coll)?)))
+}

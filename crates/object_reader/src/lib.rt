@@ -1,0 +1,22 @@
+//! Reads of objects: bytes of a range, their checksum, and what comes next in a walk over all objects. The pages come from the device, in
+//! reads of up to 64 consecutive units, and the checksum of each is compared with the one that the object's extents keep.
+//!
+//! In Ceph's BlueStore this is `_do_read` with `_verify_csum`, and `collection_list`.
+#![tactic(auto)]
+
+mod answering;
+mod fail;
+mod names;
+mod parts;
+mod reading;
+mod view;
+
+pub use answering::answer;
+pub use fail::ReadFail;
+pub use names::next_collection;
+pub use view::next_object;
+
+#[cfg(test)]
+mod names_tests;
+#[cfg(test)]
+mod tests;

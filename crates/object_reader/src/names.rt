@@ -1,0 +1,165 @@
+//! Names of collections and objects, in byte order.
+ghost use Rattle.std.specs.Prelude.{◌≡◌, ℕ, List, [], ◌∷◌, ◌++◌, IfOk, IfSome, MatchOption};
+ghost use Rattle.std.specs.Option.{option_copied};
+ghost use Rattle.unit_fields.specs.Names.{IsName, IsCollName};
+ghost use Rattle.row_format.specs.Keys.{coll_key, onode_key};
+ghost use Rattle.onode_state.specs.Objects.{AreRowsOfAStore};
+ghost use Rattle.read_facts.specs.Walks.{IsCollection, IsObject, IsNextOf, IsPast, AreAll};
+ghost use Rattle.object_reader.specs.NextKeys.{IsLeastKey, HasNoKey, colls_first, objects_first};
+
+use byte_maps::Bytes;
+use meta_rows::RowTable;
+use onode_codec::shards_end;
+use onode_state::{coll_name_is_one, name_is_one};
+use row_check::{RowKey, read_key};
+use std::alloc::{AllocError, Global};
+use unit_fields::{CollName, Name};
+
+// The first byte of the keys of collections, and the least one above it.
+const COLLECTION: u8 = b'C';
+
+const BEHIND_COLLECTIONS: u8 = b'D';
+
+// The first byte of the keys of onodes and shards.
+const OBJECT: u8 = b'O';
+
+// It ends a name within a key, and no name has it; and the least byte above it.
+const END: u8 = 0;
+
+const BEHIND_END: u8 = 1;
+
+// The least key of the rows from `first` on and below `end`.
+fn first_key<'a>(rows: &'a RowTable, first: &[u8], end: &[u8]) -> Option<&'a [u8]>
+    ensures { MatchOption result (HasNoKey rows.now.rows first.now end.now) (λ key. IsLeastKey rows.now.rows first.now end.now key.now) }
+{
+    match rows.range(first, Some(end)).first() {
+        Some((key, _)) => Some(key.as_slice()),
+        None => None,
+    }
+}
+
+// Where the keys of the collections begin that are behind another one.
+fn colls_first(alloc: Global, after: Option<&CollName>) -> Result<Bytes, AllocError>
+    ensures { IfOk result (λ key. key ≡ colls_first (option_copied after.entry)) }
+{
+    let mut key = Vec::new(alloc);
+    key.push(COLLECTION)?;
+    if let Some(coll) = after {
+        key.extend_from_slice(coll.as_slice())?;
+        key.push(END)?;
+    }
+    Ok(Bytes::from_vec(key))
+}
+
+// The front of the keys of a collection's objects, with this byte behind the collection's name.
+fn objects_front(alloc: Global, coll: &CollName, behind: u8) -> Result<Bytes, AllocError>
+    ensures { IfOk result (λ key. key ≡ 0x4f ∷ (coll.now ++ behind ∷ [])) }
+{
+    let mut key = Vec::new(alloc);
+    key.push(OBJECT)?;
+    key.extend_from_slice(coll.as_slice())?;
+    key.push(behind)?;
+    Ok(Bytes::from_vec(key))
+}
+
+// Where the keys of a collection's objects begin that are behind another one: behind all shards of that one.
+fn objects_first(alloc: Global, coll: &CollName, after: Option<&Name>) -> Result<Bytes, AllocError>
+    ensures key { IfOk result (λ key. key ≡ objects_first coll.now (option_copied after.entry)) }
+    ensures named { IfSome (option_copied after.entry) IsName }
+{
+    match after {
+        Some(object) => {
+            name_is_one(object);
+            shards_end(alloc, coll, object)
+        }
+        None => objects_front(alloc, coll, END),
+    }
+}
+
+// The collection whose key this is.
+fn coll_in(alloc: Global, key: &[u8]) -> Result<CollName, AllocError>
+    requires { (coll : List ℕ) × IsCollName coll × (key.now ≡ coll_key coll) }
+    ensures { IfOk result (λ name. (coll : List ℕ) → key.now ≡ coll_key coll → name ≡ coll) }
+{
+    match read_key(alloc, key)? {
+        Some(RowKey::Collection { coll }) => Ok(coll),
+        Some(RowKey::Object { .. }) => unreachable!(),
+        None => unreachable!(),
+    }
+}
+
+// The object whose onode's key this is.
+fn object_in(alloc: Global, key: &[u8]) -> Result<Name, AllocError>
+    requires { (coll object : List ℕ) × IsCollName coll × IsName object × (key.now ≡ onode_key coll object) }
+    ensures { IfOk result (λ name. (coll object : List ℕ) → IsCollName coll → IsName object → key.now ≡ onode_key coll object → name ≡ object) }
+{
+    match read_key(alloc, key)? {
+        Some(
+            RowKey::Object {
+                coll: _coll,
+                object,
+                part: _part,
+            },
+        ) => Ok(object),
+        Some(RowKey::Collection { .. }) => unreachable!(),
+        None => unreachable!(),
+    }
+}
+
+/// The collection that comes next behind another one in byte order, or the first one. None: there is none behind it. It bisects the rows,
+/// and takes memory for the name. Walks over all objects call it. (Ceph: `list_collections`.)
+pub fn next_collection(
+    alloc: Global,
+    rows: &RowTable,
+    after: Option<&CollName>,
+) -> Result<Option<CollName>, AllocError>
+    requires { AreRowsOfAStore rows.now.rows }
+    ensures { IfOk result (λ found. MatchOption found (IsPast (IsCollection rows.now.rows) (option_copied after.entry))
+        (IsNextOf (IsCollection rows.now.rows) (option_copied after.entry))) }
+{
+    let first = colls_first(alloc, after)?;
+    match first_key(rows, first.as_slice(), &[BEHIND_COLLECTIONS]) {
+        Some(key) => Ok(Some(coll_in(alloc, key)?)),
+        None => Ok(None),
+    }
+}
+
+/// The object of a collection that comes next behind another one, or the first one. None: there is none behind it, or no such collection.
+/// The other one need not be there. It bisects the rows, and looks at none of the other's shards. (Ceph: `collection_list` of one object.)
+pub fn next_name(
+    alloc: Global,
+    rows: &RowTable,
+    coll: &CollName,
+    after: Option<&Name>,
+) -> Result<Option<Name>, AllocError>
+    requires { AreRowsOfAStore rows.now.rows }
+    ensures { IfOk result (λ found. MatchOption found (IsPast (IsObject rows.now.rows coll.now) (option_copied after.entry))
+        (IsNextOf (IsObject rows.now.rows coll.now) (option_copied after.entry))) }
+{
+    coll_name_is_one(coll);
+    let first = objects_first(alloc, coll, after)?;
+    let end = objects_front(alloc, coll, BEHIND_END)?;
+    match first_key(rows, first.as_slice(), end.as_slice()) {
+        Some(key) => Ok(Some(object_in(alloc, key)?)),
+        None => Ok(None),
+    }
+}
+
+/// The names of a collection's objects, in byte order, each in memory of its own; no name where there is no such collection. It bisects the
+/// rows once for each object. (Ceph: `collection_list`.)
+pub fn object_names(
+    alloc: Global,
+    rows: &RowTable,
+    coll: &CollName,
+) -> Result<Vec<Bytes>, AllocError>
+    requires { AreRowsOfAStore rows.now.rows }
+    ensures { IfOk result (λ names. AreAll (IsObject rows.now.rows coll.now) names.items) }
+{
+    let mut names = Vec::new(alloc);
+    let mut last: Option<Name> = None;
+    'names: while let Some(name) = next_name(alloc, rows, coll, last.as_ref())? {
+        names.push(Bytes::from_slice(alloc, name.as_slice())?)?;
+        last = Some(name);
+    }
+    Ok(names)
+}

@@ -1,0 +1,123 @@
+//! Bytes of an object, and their checksum.
+ghost use Rattle.std.specs.Prelude.{◌≡◌, ◌+◌, ◌-◌, ◌/◌, ◌≤◌, ◌<◌, IfOk, IfErr, IsErrOf, length, take, drop};
+ghost use Rattle.block_device.specs.Disk.{Rose};
+ghost use Rattle.object_model.specs.Effect.{object_limit};
+ghost use Rattle.store_image.specs.Pages.{pages_of};
+ghost use Rattle.read_facts.specs.PageReads.{pages_read};
+ghost use Rattle.object_reader.specs.Parts.{CanRead, GivesPages, IsPartFail, GivesRange, GivesSum};
+
+use crate::parts::{PartFail, read_part};
+use blob_map::PageMap;
+use block_device::Device;
+use crc32c_csum::Digest;
+use onode_state::ObjectState;
+use std::alloc::Global;
+use unit_fields::limits::UNIT_BYTES;
+
+// The bytes of a page, as sizes of objects count them.
+const PAGE_BYTES: u64 = UNIT_BYTES as u64;
+
+// The pages of an object of so many bytes.
+fn pages_of(size: u64) -> u32
+    requires { size ≤ object_limit }
+    ensures { result ≡ pages_of size }
+{
+    ((size + (PAGE_BYTES - 1)) / PAGE_BYTES) as u32
+}
+
+// Reads the pages from the first on and below the end, laid together in one buffer.
+fn read_pages<D: Device>(
+    alloc: Global,
+    device: &mut D,
+    pages: &PageMap,
+    first: u32,
+    end: u32,
+) -> Result<Vec<u8>, PartFail>
+    requires can { CanRead (D.disk device.old) pages.now }
+    requires below { first ≤ end }
+    ensures good { IfOk result (λ bytes. GivesPages (D.disk device.old) pages.now first (end - first) bytes.items) }
+    ensures fail { IfErr result (IsPartFail (D.disk device.old) pages.now first (end - first)) }
+    ensures same { D.disk device.new ≡ D.disk device.old }
+    ensures later { D.faults device.old ≤ D.faults device.new }
+    ensures cause { IsErrOf result PartFail.Fault → Rose (D.faults device.old) (D.faults device.new) }
+{
+    let mut bytes = Vec::with_capacity(alloc, (end - first) as usize * UNIT_BYTES)?;
+    let mut part = Vec::new(alloc);
+    let mut next = first;
+    'parts: while next < end {
+        let count = read_part(device, pages, next, end, &mut part)?;
+        bytes.extend_from_slice(&part)?;
+        next += count;
+    }
+    Ok(bytes)
+}
+
+// Cuts bytes to so many from one on, in their own buffer.
+fn cut(mut bytes: Vec<u8>, skip: usize, len: usize) -> Vec<u8>
+    requires { skip + len ≤ length bytes.items }
+    ensures { result.items ≡ take len (drop skip bytes.items) }
+{
+    if skip > 0 {
+        bytes.copy_within(skip..skip + len, 0);
+    }
+    bytes.truncate(len);
+    bytes
+}
+
+/// The bytes of a range of an object, cut at its size. An empty one reads nothing. The answer to `Read` comes from it.
+pub fn read_range<D: Device>(
+    alloc: Global,
+    device: &mut D,
+    object: &ObjectState,
+    off: u64,
+    len: u64,
+) -> Result<Vec<u8>, PartFail>
+    requires can { CanRead (D.disk device.old) object.now.pages }
+    requires limit { off + len ≤ object_limit }
+    ensures good { IfOk result (λ bytes. GivesRange (D.disk device.old) object.now.pages object.now.size off len bytes.items) }
+    ensures fail { IfErr result (IsPartFail (D.disk device.old) object.now.pages (off / 4096) (pages_read object.now.size off len)) }
+    ensures same { D.disk device.new ≡ D.disk device.old }
+    ensures later { D.faults device.old ≤ D.faults device.new }
+    ensures cause { IsErrOf result PartFail.Fault → Rose (D.faults device.old) (D.faults device.new) }
+{
+    let end = object.size.min(off + len);
+    if end <= off {
+        return Ok(Vec::new(alloc));
+    }
+    let first = (off / PAGE_BYTES) as u32;
+    let bytes = read_pages(alloc, device, &object.pages, first, pages_of(end))?;
+    Ok(cut(bytes, (off % PAGE_BYTES) as usize, (end - off) as usize))
+}
+
+// The first bytes, at most so many.
+fn front(bytes: &[u8], most: u64) -> &[u8]
+    ensures { result.now ≡ take most bytes.now }
+{
+    if most < bytes.len() as u64 {
+        return &bytes[..most as usize];
+    }
+    bytes
+}
+
+/// The CRC-32C of an object's bytes. It reads the pages part by part, and holds one part at a time.
+pub fn sum<D: Device>(alloc: Global, device: &mut D, object: &ObjectState) -> Result<u32, PartFail>
+    requires can { CanRead (D.disk device.old) object.now.pages }
+    requires limit { object.now.size ≤ object_limit }
+    ensures good { IfOk result (GivesSum (D.disk device.old) object.now.pages object.now.size) }
+    ensures fail { IfErr result (IsPartFail (D.disk device.old) object.now.pages 0 (pages_read object.now.size 0 object.now.size)) }
+    ensures same { D.disk device.new ≡ D.disk device.old }
+    ensures later { D.faults device.old ≤ D.faults device.new }
+    ensures cause { IsErrOf result PartFail.Fault → Rose (D.faults device.old) (D.faults device.new) }
+{
+    let end = pages_of(object.size);
+    let mut digest = Digest::new();
+    let mut part = Vec::new(alloc);
+    let mut next = 0;
+    'parts: while next < end {
+        let count = read_part(device, &object.pages, next, end, &mut part)?;
+        let left = object.size - next as u64 * PAGE_BYTES;
+        digest.update(front(&part, left));
+        next += count;
+    }
+    Ok(digest.finish())
+}

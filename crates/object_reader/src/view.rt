@@ -1,0 +1,76 @@
+//! Walks over the objects of a collection.
+ghost use Rattle.std.specs.Prelude.{◌≡◌, ◌≤◌, IfOk, IsErrOf, MatchOption};
+ghost use Rattle.std.specs.Option.{option_copied};
+ghost use Rattle.block_device.specs.Disk.{Rose};
+ghost use Rattle.read_facts.specs.Walks.{IsObject, IsPast};
+ghost use Rattle.read_facts.specs.Views.{IsViewOf};
+ghost use Rattle.object_reader.specs.PartFails.{IsSumOf};
+ghost use Rattle.object_reader.specs.Readable.{IsReadable, IsNextView};
+
+use crate::fail::ReadFail;
+use crate::names::next_name;
+use crate::parts::PartFail;
+use crate::reading::sum;
+use block_device::Device;
+use meta_rows::RowTable;
+use onode_state::object_state;
+use read_facts::{BadSum, ObjectView};
+use std::alloc::Global;
+use unit_fields::{CollName, Name};
+
+// What a read of all pages of an object came to: their checksum, or the first bad one.
+fn sum_or_bad(read: Result<u32, PartFail>) -> Result<Result<u32, BadSum>, ReadFail>
+    ensures ok { IfOk result (IsSumOf read) }
+    ensures cause { IsErrOf result ReadFail.Fault → IsErrOf read PartFail.Fault }
+{
+    match read {
+        Ok(crc) => Ok(Ok(crc)),
+        Err(PartFail::BadPage(bad)) => Ok(Err(bad)),
+        Err(PartFail::Memory) => Err(ReadFail::Memory),
+        Err(PartFail::Fault) => Err(ReadFail::Fault),
+    }
+}
+
+// An object with its size and the checksum of its bytes.
+fn view_of<D: Device>(
+    alloc: Global,
+    device: &mut D,
+    rows: &RowTable,
+    coll: &CollName,
+    name: Name,
+) -> Result<ObjectView, ReadFail>
+    requires readable { IsReadable rows.now.rows (D.disk device.old) }
+    requires is { IsObject rows.now.rows coll.now name }
+    ensures name { IfOk result (λ view. view.name ≡ name) }
+    ensures ok { IfOk result (IsViewOf (D.disk device.old) rows.now.rows coll.now) }
+    ensures same { D.disk device.new ≡ D.disk device.old }
+    ensures later { D.faults device.old ≤ D.faults device.new }
+    ensures cause { IsErrOf result ReadFail.Fault → Rose (D.faults device.old) (D.faults device.new) }
+{
+    let state = object_state(alloc, rows, coll, &name)?;
+    let size = state.size;
+    let sum = sum_or_bad(sum(alloc, device, &state))?;
+    Ok(ObjectView { name, size, sum })
+}
+
+/// The object of a collection that comes next behind another one in byte order, or the first one, with its size and the checksum of its bytes.
+/// None: there is none behind it, or no such collection.
+pub fn next_object<D: Device>(
+    alloc: Global,
+    device: &mut D,
+    rows: &RowTable,
+    coll: &CollName,
+    after: Option<&Name>,
+) -> Result<Option<ObjectView>, ReadFail>
+    requires readable { IsReadable rows.now.rows (D.disk device.old) }
+    ensures ok { IfOk result (λ found. MatchOption found (IsPast (IsObject rows.now.rows coll.now) (option_copied after.entry))
+        (IsNextView (D.disk device.old) rows.now.rows coll.now (option_copied after.entry))) }
+    ensures same { D.disk device.new ≡ D.disk device.old }
+    ensures later { D.faults device.old ≤ D.faults device.new }
+    ensures cause { IsErrOf result ReadFail.Fault → Rose (D.faults device.old) (D.faults device.new) }
+{
+    let Some(name) = next_name(alloc, rows, coll, after)? else {
+        return Ok(None);
+    };
+    Ok(Some(view_of(alloc, device, rows, coll, name)?))
+}

@@ -3,23 +3,31 @@ use Rattle.std.specs.Prelude.{◌≡◌, ◌⊎◌, ℕ, ◌<◌, true, false, L
 use Rattle.block_device.specs.declared.device.Ticket.{Ticket}
 use Rattle.block_device.specs.Disk.{Disk, IsSound}
 use Rattle.object_model.specs.Effect.{Change}
+use Rattle.object_model.specs.declared.command.Command.{Command}
 use Rattle.object_model.specs.declared.command.Answer.{Answer}
+use Rattle.read_facts.specs.Answers.{IsKnownRead, HasReadNames, IsAnswerOf}
 use Rattle.store_steps.specs.declared.step.Step.{Step}
 use Rattle.store_steps.specs.declared.step.Step.TheVariants.{Reap}
 use Rattle.store_steps.specs.State.{State}
 use Rattle.store_steps.specs.Ready.{is_ready, is_drained}
 use Rattle.store_steps.specs.Steps.{Does, Takes}
-use Rattle.store_steps.specs.Submit.{IsKnown, Accepts, Refuses, IsDownBy, IsBookFull}
+use Rattle.store_steps.specs.Submit.{IsKnown, CanNote, entered, Accepts, Refuses, IsDownBy, IsBookFull}
 
 -- a call of the kernel that changes it
 pub data Call : Type 0 where
   submitting : (client line : ℕ) (change : Change) → Call
+  reading : (client line : ℕ) (command : Command) → Call
   stepping : (step : Step) → Call
 
 -- A transaction may be submitted where the kernel is drained, or down.
 pub record MaySubmit (change : Change) (s : State) (d : Disk) : Type 0 where
   pub drained : (s.down ≡ None) → is_drained d.depth s ≡ true
   pub known : IsKnown change.ops
+
+-- so may a command that reads
+pub record MayRead (command : Command) (s : State) (d : Disk) : Type 0 where
+  pub drained : (s.down ≡ None) → is_drained d.depth s ≡ true
+  pub known : IsKnownRead command
 
 -- it is turned away: nothing changes
 pub record TurnsAway (s s' : State) : Type 0 where
@@ -30,6 +38,17 @@ pub record TurnsAway (s s' : State) : Type 0 where
 abbrev pub Submits : ℕ → ℕ → Change → State → State → Type 0
 Submits client line change s s' = Accepts client line change s s' ⊎ ((a : Answer) × Refuses client line change a s s') ⊎ TurnsAway s s'
 
+-- A read is answered by the submitted rows and by what the device holds. Nothing but the book changes.
+pub record IsAnswered (client line : ℕ) (command : Command) (a : Answer) (s : State) (d : Disk) (s' : State) : Type 0 where
+  pub can_note : CanNote s
+  pub names : HasReadNames command
+  pub given : IsAnswerOf d s.view command a
+  pub after : s' ≡ entered client line command a s
+
+-- it is answered, or turned away
+abbrev pub Reads : ℕ → ℕ → Command → State → Disk → State → Type 0
+Reads client line command s d s' = ((a : Answer) × IsAnswered client line command a s d s') ⊎ TurnsAway s s'
+
 -- a step, but for one that takes the end of a submission that ended badly
 abbrev pub DoesOrFails : Step → State → Disk → State → Disk → Type 0
 DoesOrFails Reap s d s' d' = Does Reap s d s' d' ⊎ Takes s d false s' d'
@@ -38,6 +57,7 @@ DoesOrFails step s d s' d' = Does step s d s' d'
 -- what a call that is made does
 abbrev pub Calls : Call → State → Disk → State → Disk → Type 0
 Calls (submitting client line change) s d s' d' = MaySubmit change s d × Submits client line change s s' × (d' ≡ d)
+Calls (reading client line command) s d s' d' = MayRead command s d × Reads client line command s d s' × (d' ≡ d)
 Calls (stepping step) s d s' d' = (is_ready step d.depth s ≡ true) × DoesOrFails step s d s' d'
 
 -- Calls, one after another, lead from one state of kernel and device to another. Behind each of them holds of the device what holds of every device.

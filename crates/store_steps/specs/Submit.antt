@@ -8,6 +8,7 @@ use Rattle.object_model.specs.declared.op.Op.{Op}
 use Rattle.object_model.specs.declared.op.Op.TheVariants.{MkColl, Touch, Write}
 use Rattle.object_model.specs.declared.op.Refusal.{Refusal}
 use Rattle.object_model.specs.declared.op.Refusal.TheVariants.{NoCollection, CollectionExists, TooBig}
+use Rattle.object_model.specs.declared.command.Command.{Command}
 use Rattle.object_model.specs.declared.command.Command.TheVariants as ask
 use Rattle.object_model.specs.declared.command.Answer.{Answer}
 use Rattle.object_model.specs.declared.command.Answer.TheVariants as answer
@@ -74,12 +75,16 @@ context_of place change m plan = record {
 }
 
 -- the state with one more entry of the book
-abbrev pub noted : ℕ → ℕ → Change → Answer → State → State
-noted client line change a s = record s {
+abbrev pub entered : ℕ → ℕ → Command → Answer → State → State
+entered client line command a s = record s {
   book = record s.book {
-    entries = s.book.entries ++ record { client = client; line = line; command = ask.Change change; answer = a; acks = s.acked } ∷ [];
+    entries = s.book.entries ++ record { client = client; line = line; command = command; answer = a; acks = s.acked } ∷ [];
   };
 }
+
+-- with one for a transaction
+abbrev pub noted : ℕ → ℕ → Change → Answer → State → State
+noted client line change a s = entered client line (ask.Change change) a s
 
 -- the state after a transaction is accepted with this plan
 abbrev pub accepted_with : ℕ → ℕ → Change → Plan → State → State

@@ -3,6 +3,8 @@ use Rattle.std.proofs.Common.{◌≡◌, inl, inr, ℕ, ◌^◌, ◌<◌, ◌≤
 use Rattle.block_device.specs.Disk.{Disk, IsSound}
 use Rattle.block_device.specs.declared.device.Ticket.{Ticket}
 use Rattle.object_model.specs.Effect.{Change}
+use Rattle.object_model.specs.declared.command.Command.{Command}
+use Rattle.object_model.specs.declared.command.Command.TheVariants as ask
 use Rattle.object_model.specs.declared.command.Answer.{Answer}
 use Rattle.unit_allocator.specs.Units.{Space}
 use Rattle.store_steps.specs.declared.step.Step.{Step}
@@ -10,14 +12,14 @@ use Rattle.store_steps.specs.declared.step.Step.TheVariants.{Data, Reap, Take, F
 use Rattle.store_steps.specs.State.{State}
 use Rattle.store_steps.specs.Changes.{down_by}
 use Rattle.store_steps.specs.Ready.{is_ready}
-use Rattle.store_steps.specs.Submit.{Accepts, Refuses}
+use Rattle.store_steps.specs.Submit.{entered, Accepts, Refuses}
 use Rattle.store_steps.specs.Opened.{Found, opened}
-use Rattle.store_steps.specs.Runs.{DoesOrFails, MaySubmit}
+use Rattle.store_steps.specs.Runs.{DoesOrFails, MaySubmit, MayRead, IsAnswered, Reads}
 use Rattle.store_facts.specs.Space.{uncommitted}
 use Rattle.store_facts.specs.Work.{measure}
 use Rattle.store_facts.specs.Kept.{IsKept, IsKeptUp, IsOpenable}
 use Rattle.store_facts.proofs.Conditions.{IsIdle, drained_is_idle}
-use Rattle.store_facts.proofs.Submitting.{accepts_keeps, refuses_keeps, opened_keeps}
+use Rattle.store_facts.proofs.Submitting.{accepts_keeps, entered_keeps, refuses_keeps, opened_keeps}
 use Rattle.store_facts.proofs.Keeping.{Leaves, has_stepped, has_waited, has_fallen, standing_of, step_leaves, stepped_kept, admitted_kept, opened_kept, fallen_kept, waited_kept, work_falls}
 use Rattle.store_facts.proofs.RowsKept.{AreRowsKept, rows_of_kept, HaveSameRows, rows_stay, like_itself}
 use Rattle.store_facts.proofs.RowsSteps.{data_same, reap_same, flush_same, sync_same, seal_same, record_same, finish_same, take_same}
@@ -76,6 +78,10 @@ kept_accept s s' d client line change kept may does =
     (accepted_few s client line change s' kept.always.limits rows may.known does))
     (accepted_rows s client line change s' kept.always.limits rows idle.pending idle.batch may.known does)
 
+-- an entry of the book changes no rows
+same_entered : (s : State) (client line : ℕ) (command : Command) (a : Answer) → HaveSameRows s (entered client line command a s)
+same_entered s client line command a = record { sup = refl; rows = refl; view = refl; space = refl; contexts = like_itself (uncommitted s) }
+
 pub kept_refuse : (s s' : State) (d : Disk) (client line : ℕ) (change : Change) (a : Answer) → IsKept s d → MaySubmit change s d
     → Refuses client line change a s s' → IsKept s' d
 kept_refuse s s' d client line change a kept may does =
@@ -84,8 +90,24 @@ kept_refuse s s' d client line change a kept may does =
     (rows_stay s s' same (rows_of_kept s d kept up))
   where
     same : HaveSameRows s s'
-    same = subst (HaveSameRows s) (sym does.after)
-        (record { sup = refl; rows = refl; view = refl; space = refl; contexts = like_itself (uncommitted s) })
+    same = subst (HaveSameRows s) (sym does.after) (same_entered s client line (ask.Change change) a)
+
+-- ---- reading
+
+-- a read that is answered adds an entry to the book
+pub kept_answer : (s s' : State) (d : Disk) (client line : ℕ) (command : Command) (a : Answer) → IsKept s d
+    → IsAnswered client line command a s d s' → IsKept s' d
+kept_answer s s' d client line command a kept is =
+    let up : s.down ≡ None = is.can_note.up in
+    subst (λ (t : State). IsKept t d) (sym is.after)
+    (admitted_kept s (entered client line command a s) d
+    (entered_keeps s d client line command a kept.always (standing_of s d kept up) is.can_note.room)
+    (rows_stay s (entered client line command a s) (same_entered s client line command a) (rows_of_kept s d kept up)))
+
+-- so does one that is turned away
+pub kept_read : (s s' : State) (d : Disk) (client line : ℕ) (command : Command) → IsKept s d → Reads client line command s d s' → IsKept s' d
+kept_read s s' d client line command kept (inl (a, is)) = kept_answer s s' d client line command a kept is
+kept_read s s' d client line command kept (inr away) = subst (λ (t : State). IsKept t d) (sym away.same) kept
 
 -- ---- opening
 
@@ -107,5 +129,9 @@ law_accept client line change s s' d = kept_accept s s' d client line change
 pub law_refuse : (client line : ℕ) (change : Change) (a : Answer) (s s' : State) (d : Disk) → IsKept s d → MaySubmit change s d
     → Refuses client line change a s s' → IsKept s' d
 law_refuse client line change a s s' d = kept_refuse s s' d client line change a
+
+pub law_read : (client line : ℕ) (command : Command) (s s' : State) (d : Disk) → IsKept s d → MayRead command s d → Reads client line command s d s'
+    → IsKept s' d
+law_read client line command s s' d kept may reads = kept_read s s' d client line command kept reads
 
 pub ruleset step_laws = (kept_step, step_less)

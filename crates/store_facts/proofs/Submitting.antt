@@ -1,9 +1,11 @@
--- What a submitted transaction leaves, accepted or refused, of the facts that rows have no part in; and the state of a store that was just opened.
+-- What a submitted transaction leaves, accepted or refused, and an answered read, of the facts that rows have no part in; and the state of a
+-- store that was just opened.
 use Rattle.std.proofs.Common.{◌≡◌, ℕ, ◌+◌, ◌-◌, ◌*◌, ◌^◌, ◌<◌, ◌≤◌, true, false, List, [], ◌∷◌, ◌++◌, length, map, None, refl, sym, ap, subst, ◌∙◌, arith, length-append}
 use Rattle.std.specs.List.{AllByRecursion}
 use Rattle.block_device.specs.Disk.{Disk, Flight, IsSound}
 use Rattle.block_device.specs.Facts.{IsUnflown}
 use Rattle.object_model.specs.Effect.{Change}
+use Rattle.object_model.specs.declared.command.Command.{Command}
 use Rattle.object_model.specs.declared.command.Command.TheVariants as ask
 use Rattle.object_model.specs.declared.command.Answer.{Answer}
 use Rattle.object_model.specs.declared.command.Answer.TheVariants as answer
@@ -16,7 +18,7 @@ use Rattle.store_steps.specs.declared.step.Step.{Step}
 use Rattle.store_steps.specs.declared.plan.Plan.{Plan}
 use Rattle.store_steps.specs.State.{State}
 use Rattle.store_steps.specs.Ready.{is_ready_up, is_drained}
-use Rattle.store_steps.specs.Submit.{Accepts, Refuses, entry_limit, need_of, room_of, context_of, noted, accepted_with}
+use Rattle.store_steps.specs.Submit.{Accepts, Refuses, entry_limit, need_of, room_of, context_of, entered, accepted_with}
 use Rattle.store_steps.specs.Opened.{Found, opened}
 use Rattle.store_facts.specs.Flights.{IsUnsentUnflown}
 use Rattle.store_facts.specs.Room.{FitsRecord, HasRoomFor}
@@ -30,7 +32,7 @@ use Rattle.store_facts.proofs.Working.{stage_work, unacked, work_at}
 use Rattle.store_facts.proofs.Stepping.{IsStanding}
 use Rattle.store_facts.proofs.Committing.{taken_space}
 
--- what a submitted transaction leaves
+-- what a submitted transaction or a read leaves
 pub record Admitted (s s' : State) (d : Disk) : Type 0 where
   pub always : IsAlwaysKept s' d
   pub standing : IsStanding s' d
@@ -141,12 +143,12 @@ accepts_keeps s d client line change s' a standing drained does record_fits few 
     (λ fits up room below kept has. accepted_idle s d client line change does.plan fits few up room below kept has)
     record_fits standing.up does.fits does.can_note.room a standing.room)
 
--- ---- Refuses
+-- ---- an entry of the book, and nothing else
 
-noted_keeps : (s : State) (d : Disk) (client line : ℕ) (change : Change) (a : Answer) → IsAlwaysKept s d → IsStanding s d
-    → length s.book.entries < entry_limit → Admitted s (noted client line change a s) d
-noted_keeps s d client line change a kept standing below =
-    let entry : Entry = record { client = client; line = line; command = ask.Change change; answer = a; acks = s.acked } in
+pub entered_keeps : (s : State) (d : Disk) (client line : ℕ) (command : Command) (a : Answer) → IsAlwaysKept s d → IsStanding s d
+    → length s.book.entries < entry_limit → Admitted s (entered client line command a s) d
+entered_keeps s d client line command a kept standing below =
+    let entry : Entry = record { client = client; line = line; command = command; answer = a; acks = s.acked } in
     let entries : length (s.book.entries ++ entry ∷ []) ≡ length s.book.entries + 1 = length-append s.book.entries (entry ∷ []) in
     record {
       always = record {
@@ -181,7 +183,8 @@ noted_keeps s d client line change a kept standing below =
 pub refuses_keeps : (s : State) (d : Disk) (client line : ℕ) (change : Change) (a : Answer) (s' : State) → IsAlwaysKept s d → IsStanding s d
     → Refuses client line change a s s' → Admitted s s' d
 refuses_keeps s d client line change a s' kept standing refuses =
-    subst (λ (z : State). Admitted s z d) (sym refuses.after) (noted_keeps s d client line change a kept standing refuses.can_note.room)
+    subst (λ (z : State). Admitted s z d) (sym refuses.after)
+    (entered_keeps s d client line (ask.Change change) a kept standing refuses.can_note.room)
 
 -- ---- a store that was just opened
 

@@ -4,6 +4,7 @@ ghost use Rattle.block_device.specs.Disk.{Disk, IsSound, IsNotInFlight};
 ghost use Rattle.meta_rows.specs.Spelling.{ops_bytes, AllFit};
 ghost use Rattle.meta_log.specs.Records.{unit_count};
 ghost use Rattle.object_model.specs.Effect.{Change};
+ghost use Rattle.object_model.specs.declared.command.Command.{Command};
 ghost use Rattle.object_model.specs.declared.command.Answer.{Answer};
 ghost use Rattle.unit_allocator.specs.Units.{Space};
 ghost use Rattle.store_steps.specs.declared.step.Step.{Step};
@@ -13,7 +14,7 @@ ghost use Rattle.store_steps.specs.Contexts.{Unsent, unsent_units, run_bytes, ne
 ghost use Rattle.store_steps.specs.Steps.{piece_unit, piece_bytes};
 ghost use Rattle.store_steps.specs.Opened.{Found, opened};
 ghost use Rattle.store_steps.specs.Ready.{is_ready, is_drained};
-ghost use Rattle.store_steps.specs.Runs.{DoesOrFails, MaySubmit};
+ghost use Rattle.store_steps.specs.Runs.{DoesOrFails, MaySubmit, MayRead, Reads};
 ghost use Rattle.store_steps.specs.Submit.{Accepts, Refuses};
 ghost use Rattle.store_facts.specs.Work.{measure};
 ghost use Rattle.store_facts.specs.Kept.{IsKept, IsOpenable};
@@ -28,12 +29,15 @@ pub fn steps_keep()
         → DoesOrFails step s d s' d' → IsSound d' → measure s' d'.waits < measure s d.waits }
 {}
 
-/// A transaction that is submitted to a drained kernel keeps it too, accepted or refused. One that is turned away changes nothing.
+/// A transaction that is submitted to a drained kernel keeps it too, accepted or refused, and so does a read. What is turned away changes
+/// nothing.
 pub fn transactions_keep()
     ensures accepted { (client line : ℕ) (change : Change) (s s' : State) (d : Disk) → IsKept s d → MaySubmit change s d
         → Accepts client line change s s' → IsKept s' d }
     ensures refused { (client line : ℕ) (change : Change) (a : Answer) (s s' : State) (d : Disk) → IsKept s d → MaySubmit change s d
         → Refuses client line change a s s' → IsKept s' d }
+    ensures read { (client line : ℕ) (command : Command) (s s' : State) (d : Disk) → IsKept s d → MayRead command s d
+        → Reads client line command s d s' → IsKept s' d }
 {}
 
 /// A kernel that is opened on a store with good rows keeps it from the start.

@@ -1,19 +1,20 @@
--- How the book goes on at a submission: an entry more, and where it is accepted a context more.
-use Rattle.std.proofs.Common.{◌≡◌, ◌≢◌, inl, inr, ℕ, ◌<◌, Bool, cond, not, List, [], ◌∷◌, ◌++◌, length, map, Option, None, Ok}
-use Rattle.std.proofs.Common.{Err, refl, sym, ap, subst, ◌∙◌, append-nil, append_assoc, arith}
+-- How the book goes on at a submission or a read: an entry more, and where it is an accepted transaction a context more.
+use Rattle.std.proofs.Common.{◌≡◌, ◌≢◌, inl, inr, ℕ, ◌<◌, Bool, cond, not, List, [], ◌∷◌, ◌++◌, length, map, None, Ok}
+use Rattle.std.proofs.Common.{Err, refl, sym, ap, subst, ◌∙◌, append_assoc, arith}
 use Rattle.std.specs.Prelude.{IsOk, Result, IsTrue}
-use Rattle.std.specs.List.{AllByRecursion, cons_option}
+use Rattle.std.specs.List.{AllByRecursion}
 use Rattle.std.proofs.lemmas.Bool.{eq-eqb, ne_eqb}
 use Rattle.block_device.specs.Disk.{Disk}
 use Rattle.object_model.specs.declared.command.Answer.{Answer}
 use Rattle.object_model.specs.declared.command.Answer.TheVariants as answer
+use Rattle.object_model.specs.declared.command.Command.{Command}
 use Rattle.object_model.specs.declared.command.Command.TheVariants as ask
 use Rattle.object_model.specs.declared.op.Refusal.{Refusal}
 use Rattle.object_model.specs.declared.book.Entry.{Entry}
 use Rattle.object_model.specs.Objects.{Objects}
 use Rattle.object_model.specs.Effect.{Change, replay, ok_or, transaction_effect}
 use Rattle.object_model.specs.Reply.{reply_of}
-use Rattle.object_model.specs.Book.{accepted, is_refused, IsAnswered}
+use Rattle.object_model.specs.Book.{accepted_change, accepted, is_refused}
 use Rattle.object_model.proofs.Replays.{replay-append}
 use Rattle.meta_rows.specs.Rows.{Rows, rows_after}
 use Rattle.meta_log.specs.declared.slot.Super.{Super}
@@ -23,19 +24,22 @@ use Rattle.store_image.specs.Owners.{IsOwned, IsDataUnit}
 use Rattle.store_image.specs.Stands.{ObjectsStand}
 use Rattle.object_rows.specs.Planned.{IsPlanned, HoldsFresh}
 use Rattle.object_rows.proofs.Planned.{planned_stand, planned_fresh, planned_ascend}
+use Rattle.read_facts.specs.Alike.{IsAnsweredAlike}
+use Rattle.read_facts.specs.Answers.{HasReadNames}
+use Rattle.read_facts.proofs.Plain.{plain_answer}
 use Rattle.store_steps.specs.declared.context.Context.{Context}
 use Rattle.store_steps.specs.declared.context.FreshUnit.{FreshUnit}
 use Rattle.store_steps.specs.declared.plan.Plan.{Plan}
 use Rattle.store_steps.specs.State.{State}
 use Rattle.store_steps.specs.Planning.{pair_of, as_planned}
-use Rattle.store_steps.specs.Submit.{IsKnown, refusal_of, context_of, noted, accepted_with, IsCause, Accepts}
-use Rattle.store_steps.specs.Runs.{MaySubmit}
+use Rattle.store_steps.specs.Submit.{IsKnown, refusal_of, context_of, entered, noted, accepted_with, IsCause, Accepts}
+use Rattle.store_steps.specs.Runs.{MaySubmit, IsAnswered}
 use Rattle.store_facts.specs.Space.{uncommitted}
 use Rattle.store_facts.specs.Kept.{IsKept}
 use Rattle.store_facts.proofs.RowsPlans.{units_of, units_of_pairs, planned}
 use Rattle.book_facts.specs.BookFacts.{batched, IsOfEntry, KnownOfBook, StandSomehow}
 use Rattle.book_facts.specs.FreshBytes.{bytes_with}
-use Rattle.book_facts.proofs.Entries.{own_change, accepted_push, answers_push, counts_push, change_last, of_entries_push}
+use Rattle.book_facts.proofs.Entries.{accepted_push, none_accepted, alike_push, counts_push, change_last, of_entries_push}
 use Rattle.book_facts.proofs.Commits.{all_behind, all_append}
 use Rattle.book_facts.proofs.Answers.{not_refused, reply_accepted, reply_refused}
 use Rattle.book_facts.proofs.Queues.{entry_push, queued_noted, queued_accepted}
@@ -127,7 +131,7 @@ module _ (opening : Objects) (s : State) (client line : ℕ) (change : Change) (
 
   pub book_accepts : KnownOfBook opening (accepted_with client line change plan s)
   book_accepts = record {
-    answers = answers_push opening s.book.entries entry book.answers
+    answers = alike_push opening s.book.entries entry book.answers
         (inl (sym (reply_accepted s.view (replay opening (accepted s.book.entries)) change book.stand.1.shape known none)));
     counts = counts_push 0 s.acked s.book.entries entry (omega arith) book.counts refl;
     commits = record {
@@ -163,7 +167,40 @@ module _ (opening : Objects) (s : State) (client line : ℕ) (change : Change) (
             book.stand.1 on.effect),
       )
 
--- ---- it is refused
+-- ---- an entry that accepts nothing
+
+module _ (opening : Objects) (s : State) (client line : ℕ) (command : Command) (a : Answer) (none : accepted_change command a ≡ None)
+    (book : KnownOfBook opening s) where
+  abbrev more : Entry
+  more = record { client = client; line = line; command = command; answer = a; acks = s.acked }
+
+  pub book_enters : IsAnsweredAlike (replay opening (accepted s.book.entries)) more → KnownOfBook opening (entered client line command a s)
+  book_enters is = record {
+    answers = alike_push opening s.book.entries more book.answers is;
+    counts = counts_push 0 s.acked s.book.entries more (omega arith) book.counts refl;
+    commits = record {
+      of_accepted = of_entries_push s.book.entries more s.book.commits book.commits.of_accepted;
+      acked_first = book.commits.acked_first;
+      counted = book.commits.counted;
+      by_now = book.commits.by_now;
+    };
+    queued = queued_noted s.book.entries more s.book.commits s.pending book.commits.of_accepted book.queued none;
+    contexts = entry_push s.book.entries more (uncommitted s) book.contexts;
+    last_committed = book.last_committed;
+    stand = (book.stand.0, subst (λ (l : List Change). ObjectsStand book.stand.0 s.view (replay opening l)) (sym same) book.stand.1);
+  }
+    where
+      same : accepted (s.book.entries ++ more ∷ []) ≡ accepted s.book.entries
+      same = none_accepted s.book.entries more none
+
+-- ---- a transaction is refused
+
+-- its entry accepts nothing
+pub cause_refuses : (change : Change) (s : State) (a : Answer) → IsCause a change s → accepted_change (ask.Change change) a ≡ None
+cause_refuses change s (answer.Refused refusal) cause = refl
+cause_refuses change s (answer.NoSpace need free) cause = refl
+cause_refuses change s (answer.MetaFull need room) cause = refl
+cause_refuses change s a cause = absurd cause
 
 module _ (opening : Objects) (s : State) (client line : ℕ) (change : Change) (known : IsKnown change.ops) (book : KnownOfBook opening s) where
   abbrev noting : Answer → Entry
@@ -175,34 +212,28 @@ module _ (opening : Objects) (s : State) (client line : ℕ) (change : Change) (
   not_refused_now : refusal_of s.view change ≡ None → IsTrue (not (is_refused (reply_of (ask.Change change) objects_now)))
   not_refused_now none = ap (λ (a : Answer). not (is_refused a)) (reply_accepted s.view objects_now change book.stand.1.shape known none)
 
-  cause_answers : (a : Answer) → IsCause a change s → IsAnswered objects_now (noting a)
+  cause_answers : (a : Answer) → IsCause a change s → IsAnsweredAlike objects_now (noting a)
   cause_answers (answer.Refused refusal) cause = inl (sym (reply_refused s.view objects_now change book.stand.1.shape known refusal cause))
   cause_answers (answer.NoSpace need free) cause = inr (refl, not_refused_now cause.0)
   cause_answers (answer.MetaFull need room) cause = inr (refl, not_refused_now cause.0)
   cause_answers a cause = absurd cause
 
-  cause_refuses : (a : Answer) → IsCause a change s → own_change (noting a) ≡ None
-  cause_refuses (answer.Refused refusal) cause = refl
-  cause_refuses (answer.NoSpace need free) cause = refl
-  cause_refuses (answer.MetaFull need room) cause = refl
-  cause_refuses a cause = absurd cause
-
   pub book_notes : (a : Answer) → IsCause a change s → KnownOfBook opening (noted client line change a s)
-  book_notes a cause = record {
-    answers = answers_push opening s.book.entries (noting a) book.answers (cause_answers a cause);
-    counts = counts_push 0 s.acked s.book.entries (noting a) (omega arith) book.counts refl;
-    commits = record {
-      of_accepted = of_entries_push s.book.entries (noting a) s.book.commits book.commits.of_accepted;
-      acked_first = book.commits.acked_first;
-      counted = book.commits.counted;
-      by_now = book.commits.by_now;
-    };
-    queued = queued_noted s.book.entries (noting a) s.book.commits s.pending book.commits.of_accepted book.queued (cause_refuses a cause);
-    contexts = entry_push s.book.entries (noting a) (uncommitted s) book.contexts;
-    last_committed = book.last_committed;
-    stand = (book.stand.0, subst (λ (l : List Change). ObjectsStand book.stand.0 s.view (replay opening l)) (sym same) book.stand.1);
-  }
-    where
-      same : accepted (s.book.entries ++ noting a ∷ []) ≡ accepted s.book.entries
-      same = accepted_push s.book.entries (noting a) ∙ ap (λ (o : Option Change). accepted s.book.entries ++ cons_option o []) (cause_refuses a cause)
-          ∙ append-nil (accepted s.book.entries)
+  book_notes a cause = book_enters opening s client line (ask.Change change) a (cause_refuses change s a cause) book (cause_answers a cause)
+
+-- ---- a read is answered
+
+-- its entry accepts nothing
+pub read_accepts_none : (command : Command) (a : Answer) → HasReadNames command → accepted_change command a ≡ None
+read_accepts_none (ask.Read c o off len) a names = refl
+read_accepts_none (ask.Sum c o) a names = refl
+read_accepts_none (ask.Stat c o) a names = refl
+read_accepts_none (ask.List c) a names = refl
+read_accepts_none command a names = absurd names
+
+pub book_answers : (opening : Objects) (s : State) (d : Disk) (client line : ℕ) (command : Command) (a : Answer) (s' : State) → KnownOfBook opening s
+    → IsAnswered client line command a s d s' → KnownOfBook opening s'
+book_answers opening s d client line command a s' book is =
+    subst (KnownOfBook opening) (sym is.after)
+    (book_enters opening s client line command a (read_accepts_none command a is.names) book
+    (plain_answer s.view (replay opening (accepted s.book.entries)) book.stand.1.shape d command a is.names is.given))

@@ -4,7 +4,8 @@ use Rattle.std.proofs.Common.{arith}
 use Rattle.block_device.specs.declared.device.Ticket.{Ticket}
 use Rattle.block_device.specs.Disk.{Disk}
 use Rattle.object_model.specs.Objects.{Objects}
-use Rattle.object_model.specs.Book.{IsLegal}
+use Rattle.read_facts.specs.Alike.{IsLegalButBytes}
+use Rattle.object_model.specs.declared.command.Command.TheVariants as ask
 use Rattle.store_steps.specs.declared.flight.Flying.{Flying}
 use Rattle.store_steps.specs.declared.flight.Job.{Job}
 use Rattle.store_steps.specs.declared.flight.Job.TheVariants as job
@@ -16,15 +17,15 @@ use Rattle.store_steps.specs.Changes.{data_sent, flush_sent, record_sent, sync_s
 use Rattle.store_steps.specs.Changes.{reaped, sealed}
 use Rattle.store_steps.specs.Ready.{is_ready}
 use Rattle.store_steps.specs.Steps.{DoesData, DoesReap, DoesFlush, DoesSeal, DoesRecord, DoesSync, Takes}
-use Rattle.store_steps.specs.Runs.{Call, submitting, stepping, DoesOrFails, Calls, IsRun}
+use Rattle.store_steps.specs.Runs.{Call, submitting, reading, stepping, DoesOrFails, Calls, IsRun}
 use Rattle.store_facts.specs.Kept.{IsKept}
 use Rattle.store_facts.proofs.Conditions.{ready_not_down, ready_by_table, finish_ready}
 use Rattle.book_facts.specs.BookFacts.{batched, KnownOfBook, IsInOrder}
 use Rattle.book_facts.proofs.Contexts.{AreLike, like_itself, like_same, like_with, given_like, done_like, first_like, second_like}
 use Rattle.book_facts.proofs.Books.{KeepBook, book_stays, book_takes, taken_alone, book_commits, book_finishes, known_legal}
-use Rattle.book_facts.proofs.Order.{order_stays, order_takes, order_commits, order_finishes, order_accepts, order_notes}
+use Rattle.book_facts.proofs.Order.{order_stays, order_takes, order_commits, order_finishes, order_accepts, order_enters}
 use Rattle.book_facts.proofs.KeptCalls.{kept_call}
-use Rattle.book_facts.proofs.Accepted.{takes_plan, book_accepts, book_notes}
+use Rattle.book_facts.proofs.Accepted.{takes_plan, book_accepts, book_notes, book_answers, cause_refuses, read_accepts_none}
 
 -- ---- steps that leave the book
 
@@ -162,13 +163,22 @@ book_call opening (submitting client line change) s s' d d' kept known made = el
       subst (KnownOfBook opening) (sym refuses.1.after) (book_notes opening s client line change made.0.known known refuses.0 refuses.1.cause)
   | inr (inr away) ↦ subst (KnownOfBook opening) (sym away.same) known
 ]
+book_call opening (reading client line command) s s' d d' kept known made = elim made.1 [
+  | inl is ↦ book_answers opening s d client line command is.0 s' known is.1
+  | inr away ↦ subst (KnownOfBook opening) (sym away.same) known
+]
 book_call opening (stepping step) s s' d d' kept known made = book_step s d s' d' opening step kept made.0 known made.1
 
 pub order_call : (call : Call) (s s' : State) (d d' : Disk) → IsKept s d → IsInOrder s → Calls call s d s' d' → IsInOrder s'
 order_call (submitting client line change) s s' d d' kept known made = elim made.1 [
   | inl does ↦ subst IsInOrder (sym does.after) (order_accepts s client line change does.plan known)
-  | inr (inl refuses) ↦ subst IsInOrder (sym refuses.1.after) (order_notes s client line change refuses.0 refuses.1.cause known)
+  | inr (inl refuses) ↦ subst IsInOrder (sym refuses.1.after)
+      (order_enters s client line (ask.Change change) refuses.0 (cause_refuses change s refuses.0 refuses.1.cause) known)
   | inr (inr away) ↦ subst IsInOrder (sym away.same) known
+]
+order_call (reading client line command) s s' d d' kept known made = elim made.1 [
+  | inl is ↦ subst IsInOrder (sym is.1.after) (order_enters s client line command is.0 (read_accepts_none command is.0 is.1.names) known)
+  | inr away ↦ subst IsInOrder (sym away.same) known
 ]
 order_call (stepping step) s s' d d' kept known made = order_step s d s' d' step kept made.0 known made.1
 
@@ -191,5 +201,5 @@ book_run opening (call ∷ calls) s s' d d' kept known run =
     (book_call opening call s t d e kept known run.1.1.0) run.1.1.1.1
 
 pub legal_run : (opening : Objects) (calls : List Call) (s s' : State) (d d' : Disk) → IsKept s d → KnownOfBook opening s → IsRun s d calls s' d'
-    → IsLegal opening s'.book
+    → IsLegalButBytes opening s'.book
 legal_run opening calls s s' d d' kept known run = known_legal opening s' (book_run opening calls s s' d d' kept known run)

@@ -10,7 +10,8 @@ use Rattle.std.proofs.lemmas.Option.{same_Some}
 use Rattle.object_model.specs.declared.book.Commit.{Commit}
 use Rattle.object_model.specs.declared.book.Book.{Book}
 use Rattle.object_model.specs.Objects.{Objects}
-use Rattle.object_model.specs.Book.{change_at, AreCountsWithin, acked_count, IsLegal}
+use Rattle.object_model.specs.Book.{change_at, AreCountsWithin, acked_count}
+use Rattle.read_facts.specs.Alike.{IsLegalButBytes}
 use Rattle.meta_rows.specs.Rows.{Rows}
 use Rattle.unit_allocator.specs.Units.{Space}
 use Rattle.store_steps.specs.declared.context.Context.{Context}
@@ -29,9 +30,9 @@ use Rattle.book_facts.proofs.Commits.{count_push, count_acknowledged, places_ack
 use Rattle.book_facts.proofs.Contexts.{AreLike, like_append, places_like, length_like, entries_like, batch_length}
 use Rattle.book_facts.proofs.Queues.{queued_taken, queued_places, queued_like, once_committed, committed_in_order}
 
--- ---- a known book is legal
+-- ---- a known book is legal, but for the bytes that reads gave
 
-pub known_legal : (opening : Objects) (s : State) → KnownOfBook opening s → IsLegal opening s.book
+pub known_legal : (opening : Objects) (s : State) → KnownOfBook opening s → IsLegalButBytes opening s.book
 known_legal opening s known = record {
   answers = known.answers;
   of_accepted = known.commits.of_accepted;

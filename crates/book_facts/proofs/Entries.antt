@@ -1,6 +1,6 @@
 -- One more entry of a book.
 use Rattle.std.proofs.Common.{◌≡◌, ℕ, zero, suc, ◌+◌, ◌<◌, ◌≤◌, Bool, true, false, cond, List, [], ◌∷◌, ◌++◌, length, map, filter, Option}
-use Rattle.std.proofs.Common.{Some, None, refl, sym, ap, subst, ◌∙◌, arith}
+use Rattle.std.proofs.Common.{Some, None, refl, sym, ap, subst, ◌∙◌, append-nil, arith}
 use Rattle.std.specs.Prelude.{slice_get, option_and_then, is_some, IsSome}
 use Rattle.std.specs.List.{AllByRecursion, cons_option}
 use Rattle.std.proofs.lemmas.List.Elements.{filter_map-append}
@@ -10,6 +10,7 @@ use Rattle.object_model.specs.Objects.{Objects}
 use Rattle.object_model.specs.Effect.{Change, replay}
 use Rattle.object_model.specs.Book.{accepted_change, accepted, IsAnswered, AnswersFrom, change_at, committed, is_on, places_from, places_of, committed_places}
 use Rattle.object_model.specs.Book.{AreCountsWithin}
+use Rattle.read_facts.specs.Alike.{IsAnsweredAlike, AnswersAlikeFrom}
 
 -- ---- answers
 
@@ -19,6 +20,11 @@ own_change e = accepted_change e.command e.answer
 
 pub accepted_push : (es : List Entry) (e : Entry) → accepted (es ++ e ∷ []) ≡ accepted es ++ accepted (e ∷ [])
 accepted_push es e = filter_map-append own_change es (e ∷ [])
+
+-- one that isn't accepted leaves the accepted transactions
+pub none_accepted : (es : List Entry) (e : Entry) → own_change e ≡ None → accepted (es ++ e ∷ []) ≡ accepted es
+none_accepted es e is =
+    accepted_push es e ∙ ap (λ (o : Option Change). accepted es ++ cons_option o []) is ∙ append-nil (accepted es)
 
 replay_first : (objects : Objects) (o : Option Change) (rest : List Change)
     → replay (replay objects (cons_option o [])) rest ≡ replay objects (cons_option o rest)
@@ -33,6 +39,24 @@ answers_push objects (x ∷ es) e are is = (
   answers_push (replay objects (accepted (x ∷ []))) es e are.1
       (subst (λ (o : Objects). IsAnswered o e) (sym (replay_first objects (own_change x) (accepted es))) is),
 )
+
+-- the same, but for the bytes that reads gave
+pub alike_push : (objects : Objects) (es : List Entry) (e : Entry) → AnswersAlikeFrom objects es → IsAnsweredAlike (replay objects (accepted es)) e
+    → AnswersAlikeFrom objects (es ++ e ∷ [])
+alike_push objects [] e are is = (is, tt)
+alike_push objects (x ∷ es) e are is = (
+  are.0,
+  alike_push (replay objects (accepted (x ∷ []))) es e are.1
+      (subst (λ (o : Objects). IsAnsweredAlike o e) (sym (replay_first objects (own_change x) (accepted es))) is),
+)
+
+-- and so is the last of them
+pub alike_last : (objects : Objects) (es : List Entry) (e : Entry) → AnswersAlikeFrom objects (es ++ e ∷ [])
+    → IsAnsweredAlike (replay objects (accepted es)) e
+alike_last objects [] e are = are.0
+alike_last objects (x ∷ es) e are =
+    subst (λ (o : Objects). IsAnsweredAlike o e) (replay_first objects (own_change x) (accepted es))
+    (alike_last (replay objects (accepted (x ∷ []))) es e are.1)
 
 -- ---- counts of acknowledgements
 

@@ -2,9 +2,9 @@
 use Rattle.std.proofs.Common.{inl, inr, List, [], ◌∷◌, sym, subst}
 use Rattle.block_device.specs.Disk.{Disk, IsSound}
 use Rattle.store_steps.specs.State.{State}
-use Rattle.store_steps.specs.Runs.{Call, submitting, stepping, Calls, IsRun}
+use Rattle.store_steps.specs.Runs.{Call, submitting, reading, stepping, Calls, IsRun}
 use Rattle.store_facts.specs.Kept.{IsKept}
-use Rattle.store_facts.proofs.Kept.{kept_step, kept_accept, kept_refuse}
+use Rattle.store_facts.proofs.Kept.{kept_step, kept_accept, kept_refuse, kept_read}
 
 pub kept_call : (call : Call) (s s' : State) (d d' : Disk) → IsKept s d → Calls call s d s' d' → IsSound d' → IsKept s' d'
 kept_call (submitting client line change) s s' d d' kept made sound = subst (IsKept s') (sym made.2) (elim made.1 [
@@ -12,6 +12,8 @@ kept_call (submitting client line change) s s' d d' kept made sound = subst (IsK
   | inr (inl refused) ↦ kept_refuse s s' d client line change refused.0 kept made.0 refused.1
   | inr (inr away) ↦ subst (λ (t : State). IsKept t d) (sym away.same) kept
 ])
+kept_call (reading client line command) s s' d d' kept made sound =
+    subst (IsKept s') (sym made.2) (kept_read s s' d client line command kept made.1)
 kept_call (stepping step) s s' d d' kept made sound = kept_step step s s' d d' kept made.0 made.1 sound
 
 pub kept_run : (calls : List Call) (s s' : State) (d d' : Disk) → IsKept s d → IsRun s d calls s' d' → IsKept s' d'

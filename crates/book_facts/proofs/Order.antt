@@ -7,19 +7,20 @@ use Rattle.object_model.specs.declared.book.Book.{Book}
 use Rattle.object_model.specs.declared.book.Entry.{Entry}
 use Rattle.object_model.specs.declared.command.Answer.{Answer}
 use Rattle.object_model.specs.declared.command.Answer.TheVariants as answer
+use Rattle.object_model.specs.declared.command.Command.{Command}
 use Rattle.object_model.specs.declared.command.Command.TheVariants as ask
 use Rattle.object_model.specs.Effect.{Change}
-use Rattle.object_model.specs.Book.{change_at}
+use Rattle.object_model.specs.Book.{accepted_change, change_at}
 use Rattle.unit_allocator.specs.Units.{Space}
 use Rattle.store_steps.specs.declared.context.Context.{Context}
 use Rattle.store_steps.specs.declared.plan.Plan.{Plan}
 use Rattle.store_steps.specs.State.{Batch, State}
 use Rattle.store_steps.specs.Contexts.{without_context}
 use Rattle.store_steps.specs.Changes.{commit_of, taken_up, acknowledged, finished, committed_batch}
-use Rattle.store_steps.specs.Submit.{context_of, noted, accepted_with, IsCause}
+use Rattle.store_steps.specs.Submit.{context_of, entered, accepted_with}
 use Rattle.store_steps.specs.Opened.{Found, opened}
 use Rattle.book_facts.specs.BookFacts.{batched, IsOfEntry, KnownOfOrder, IsInOrder}
-use Rattle.book_facts.proofs.Entries.{own_change, change_last, of_entries_push}
+use Rattle.book_facts.proofs.Entries.{change_last, of_entries_push}
 use Rattle.book_facts.proofs.Commits.{all_push, all_behind, all_append, places_acknowledged, AreAtPlaces, at_places, of_places}
 use Rattle.book_facts.proofs.Contexts.{like_append, entries_like}
 use Rattle.book_facts.proofs.Queues.{entry_push, queued_noted, queued_accepted, queued_taken, queued_places, queued_like}
@@ -78,7 +79,7 @@ order_finishes s known = record {
   contexts = known.contexts;
 }
 
--- ---- a submission
+-- ---- a submission or a read
 
 pub order_accepts : (s : State) (client line : ℕ) (change : Change) (plan : Plan) → IsInOrder s → IsInOrder (accepted_with client line change plan s)
 order_accepts s client line change plan known =
@@ -95,19 +96,13 @@ order_accepts s client line change plan known =
           (entry_push es entry (batched s.batch ++ s.pending) known.contexts) (of_entry, tt));
     }
 
-abbrev noting : State → ℕ → ℕ → Change → Answer → Entry
-noting s client line change a = record { client = client; line = line; command = ask.Change change; answer = a; acks = s.acked }
-
-no_change : (s : State) (client line : ℕ) (change : Change) (a : Answer) → IsCause a change s → own_change (noting s client line change a) ≡ None
-no_change s client line change (answer.Refused refusal) cause = refl
-no_change s client line change (answer.NoSpace need free) cause = refl
-no_change s client line change (answer.MetaFull need room) cause = refl
-no_change s client line change a cause = absurd cause
-
-pub order_notes : (s : State) (client line : ℕ) (change : Change) (a : Answer) → IsCause a change s → IsInOrder s → IsInOrder (noted client line change a s)
-order_notes s client line change a cause known = record {
-  of_accepted = of_entries_push s.book.entries (noting s client line change a) s.book.commits known.of_accepted;
-  queued = queued_noted s.book.entries (noting s client line change a) s.book.commits s.pending known.of_accepted known.queued
-      (no_change s client line change a cause);
-  contexts = entry_push s.book.entries (noting s client line change a) (batched s.batch ++ s.pending) known.contexts;
-}
+-- an entry that accepts nothing
+pub order_enters : (s : State) (client line : ℕ) (command : Command) (a : Answer) → accepted_change command a ≡ None → IsInOrder s
+    → IsInOrder (entered client line command a s)
+order_enters s client line command a none known =
+    let more : Entry = record { client = client; line = line; command = command; answer = a; acks = s.acked } in
+    record {
+      of_accepted = of_entries_push s.book.entries more s.book.commits known.of_accepted;
+      queued = queued_noted s.book.entries more s.book.commits s.pending known.of_accepted known.queued none;
+      contexts = entry_push s.book.entries more (batched s.batch ++ s.pending) known.contexts;
+    }

@@ -1,16 +1,16 @@
 -- Units and room go to accepted transactions alone: no other call takes any.
 use Rattle.std.proofs.Common.{◌≡◌, inl, inr, ℕ, ◌+◌, ◌-◌, ◌<◌, ◌≤◌, Bool, true, false, cond, List, [], ◌∷◌, ◌++◌, length}
 use Rattle.std.proofs.Common.{Option, Some, None, is_some, refl, sym, ap, subst, ◌∙◌, arith}
-use Rattle.std.specs.List.{cons_option}
 use Rattle.std.proofs.lemmas.List.{length-map}
 use Rattle.block_device.specs.declared.device.Ticket.{Ticket}
 use Rattle.block_device.specs.Disk.{Disk, IsSound}
 use Rattle.object_model.specs.declared.book.Entry.{Entry}
 use Rattle.object_model.specs.declared.command.Answer.{Answer}
 use Rattle.object_model.specs.declared.command.Answer.TheVariants as answer
+use Rattle.object_model.specs.declared.command.Command.{Command}
 use Rattle.object_model.specs.declared.command.Command.TheVariants as ask
 use Rattle.object_model.specs.Effect.{Change}
-use Rattle.object_model.specs.Book.{accepted}
+use Rattle.object_model.specs.Book.{accepted_change, accepted}
 use Rattle.meta_log.specs.Records.{unit_count}
 use Rattle.store_steps.specs.declared.context.FreshUnit.{FreshUnit}
 use Rattle.store_steps.specs.declared.flight.Flying.{Flying}
@@ -23,15 +23,15 @@ use Rattle.store_steps.specs.Contexts.{batch_ops, batch_released, sum_needs}
 use Rattle.store_steps.specs.Changes.{after_done, after_good, flying_of, landed, reaped, committed_batch}
 use Rattle.store_steps.specs.Planning.{units_taken}
 use Rattle.store_steps.specs.Ready.{is_ready}
-use Rattle.store_steps.specs.Runs.{Call, submitting, stepping, DoesOrFails, MaySubmit, Submits, Calls, IsRun}
+use Rattle.store_steps.specs.Runs.{Call, submitting, reading, stepping, DoesOrFails, MaySubmit, Submits, Reads, Calls, IsRun}
 use Rattle.store_steps.specs.Steps.{Takes, DoesReap}
-use Rattle.store_steps.specs.Submit.{need_of, room_of, free_count, IsCause, Accepts, Refuses}
+use Rattle.store_steps.specs.Submit.{need_of, room_of, free_count, entered, Accepts, Refuses}
 use Rattle.store_facts.specs.Kept.{IsKept, IsKeptUp}
 use Rattle.store_facts.proofs.Conditions.{ready_not_down, ready_by_table, ReadyCommit, commit_ready}
 use Rattle.store_facts.proofs.RowsPlans.{units_of, plan_takes_free, plan_count}
 use Rattle.book_facts.specs.Rooms.{units_taken_by, taken_by, need_if_accepted, needs_in}
-use Rattle.book_facts.proofs.Accepted.{takes_plan, plan_ascends}
-use Rattle.book_facts.proofs.Entries.{own_change, accepted_push}
+use Rattle.book_facts.proofs.Accepted.{takes_plan, plan_ascends, cause_refuses, read_accepts_none}
+use Rattle.book_facts.proofs.Entries.{own_change, accepted_push, none_accepted}
 use Rattle.book_facts.proofs.FreeCounts.{count_taken, count_given}
 use Rattle.book_facts.proofs.KeptCalls.{kept_call}
 
@@ -128,10 +128,7 @@ taken_push es e = ap units_taken_by (accepted_push es e) ∙ taken_append (accep
 
 -- one that isn't accepted takes nothing
 none_taken : (es : List Entry) (e : Entry) → own_change e ≡ None → taken_by (es ++ e ∷ []) ≡ taken_by es
-none_taken es e is =
-    let more = taken_push es e in
-    let none : taken_by (e ∷ []) ≡ 0 = ap (λ (o : Option Change). units_taken_by (cons_option o [])) is in
-    omega (arith, more, none)
+none_taken es e is = ap units_taken_by (none_accepted es e is)
 
 -- ---- each call
 
@@ -144,6 +141,13 @@ step_space s s' leaves =
     let same = ap taken_by leaves.entries in
     let more = leaves.space in
     omega (arith, same, more)
+
+-- an entry that accepts nothing
+entered_space : (s : State) (client line : ℕ) (command : Command) (a : Answer) → accepted_change command a ≡ None
+    → KeepsSpace s (entered client line command a s)
+entered_space s client line command a none =
+    let same = none_taken s.book.entries (record { client = client; line = line; command = command; answer = a; acks = s.acked }) none in
+    omega (arith, same)
 
 module _ (s : State) (d : Disk) (client line : ℕ) (change : Change) (s' : State) (kept : IsKept s d) (may : MaySubmit change s d) where
   accepted_space : Accepts client line change s s' → KeepsSpace s s'
@@ -161,22 +165,17 @@ module _ (s : State) (d : Disk) (client line : ℕ) (change : Change) (s' : Stat
 
   refused_space : (a : Answer) → Refuses client line change a s s' → KeepsSpace s s'
   refused_space a does = subst (KeepsSpace s) (sym does.after) (
-      let entry : Entry = record { client = client; line = line; command = ask.Change change; answer = a; acks = s.acked } in
-      let none = none_taken s.book.entries entry (entry_refused a does.cause) in
-      omega (arith, none))
-    where
-      entry_refused : (b : Answer) → IsCause b change s
-          → own_change (record { client = client; line = line; command = ask.Change change; answer = b; acks = s.acked }) ≡ None
-      entry_refused (answer.Refused refusal) cause = refl
-      entry_refused (answer.NoSpace need free) cause = refl
-      entry_refused (answer.MetaFull need room) cause = refl
-      entry_refused b cause = absurd cause
+      entered_space s client line (ask.Change change) a (cause_refuses change s a does.cause))
 
 call_space : (call : Call) (s s' : State) (d d' : Disk) → IsKept s d → Calls call s d s' d' → KeepsSpace s s'
 call_space (submitting client line change) s s' d d' kept made = elim made.1 [
   | inl does ↦ accepted_space s d client line change s' kept made.0 does
   | inr (inl refuses) ↦ refused_space s d client line change s' kept made.0 refuses.0 refuses.1
   | inr (inr away) ↦ subst (KeepsSpace s) (sym away.same) (omega arith)
+]
+call_space (reading client line command) s s' d d' kept made = elim made.1 [
+  | inl is ↦ subst (KeepsSpace s) (sym is.1.after) (entered_space s client line command is.0 (read_accepts_none command is.0 is.1.names))
+  | inr away ↦ subst (KeepsSpace s) (sym away.same) (omega arith)
 ]
 call_space (stepping step) s s' d d' kept made = step_space s s' (step_room s d s' d' step kept made.0 made.1)
 
@@ -224,6 +223,11 @@ submitted_room s s' d client line change kept may (inr (inl refuses)) =
     let same = ap (λ (t : State). room_of t.log) refuses.1.after in omega (arith, same)
 submitted_room s s' d client line change kept may (inr (inr away)) = let same = ap (λ (t : State). room_of t.log) away.same in omega (arith, same)
 
+-- a read takes none
+read_room : (s s' : State) (d : Disk) (client line : ℕ) (command : Command) → Reads client line command s d s' → room_of s.log ≤ room_of s'.log
+read_room s s' d client line command (inl (a, is)) = let same = ap (λ (t : State). room_of t.log) is.after in omega (arith, same)
+read_room s s' d client line command (inr away) = let same = ap (λ (t : State). room_of t.log) away.same in omega (arith, same)
+
 pub run_room : (calls : List Call) (s s' : State) (d d' : Disk) → IsKept s d → (run : IsRun s d calls s' d')
     → room_of s.log ≤ room_of s'.log + needs_in calls s d s' d' run
 run_room [] s s' d d' kept run = let same = ap (λ (t : State). room_of t.log) run.0 in omega (arith, same)
@@ -233,6 +237,13 @@ run_room (submitting client line change ∷ calls) s s' d d' kept run =
     let made = run.1.1.0 in
     let first = submitted_room s t d client line change kept made.0 made.1 in
     let rest = run_room calls t s' e d' (kept_call (submitting client line change) s t d e kept made run.1.1.1.0) run.1.1.1.1 in
+    omega (arith, first, rest)
+run_room (reading client line command ∷ calls) s s' d d' kept run =
+    let t : State = run.0 in
+    let e : Disk = run.1.0 in
+    let made = run.1.1.0 in
+    let first = read_room s t d client line command made.1 in
+    let rest = run_room calls t s' e d' (kept_call (reading client line command) s t d e kept made run.1.1.1.0) run.1.1.1.1 in
     omega (arith, first, rest)
 run_room (stepping step ∷ calls) s s' d d' kept run =
     let t : State = run.0 in

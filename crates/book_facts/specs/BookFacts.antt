@@ -4,12 +4,13 @@ use Rattle.std.specs.List.{AllByRecursion, IsDistinct}
 use Rattle.std.specs.Option.{option_map_or}
 use Rattle.object_model.specs.Objects.{Objects}
 use Rattle.object_model.specs.Effect.{Change, is_same, replay}
-use Rattle.object_model.specs.Book.{accepted, change_at, AnswersFrom, AreAckedFrom, AreCountsWithin, acked_count, places_of, committed_places}
+use Rattle.object_model.specs.Book.{accepted, change_at, AreAckedFrom, AreCountsWithin, acked_count, places_of, committed_places}
 use Rattle.object_model.specs.declared.book.Book.{Book}
 use Rattle.object_model.specs.declared.book.Commit.{Commit}
 use Rattle.object_model.specs.declared.book.Entry.{Entry}
 use Rattle.meta_rows.specs.Rows.{Rows}
 use Rattle.store_image.specs.Stands.{ObjectsStand}
+use Rattle.read_facts.specs.Alike.{AnswersAlikeFrom}
 use Rattle.store_steps.specs.declared.context.Context.{Context}
 use Rattle.store_steps.specs.State.{Batch, State}
 use Rattle.store_steps.specs.Ready.{applied_count}
@@ -54,10 +55,10 @@ pub record AreQueued (book : Book) (pending : List Context) : Type 0 where
 abbrev pub StandSomehow : Rows → Objects → Type 0
 StandSomehow rows objects = (at : ℕ → List ℕ) × ObjectsStand at rows objects
 
--- Each entry has its answer, and the commits are those of the queues of collections; the submitted rows stand for the objects after all
--- accepted transactions, for some bytes of the units.
+-- Each entry has its answer, but for the bytes that reads gave, and the commits are those of the queues of collections; the submitted rows
+-- stand for the objects after all accepted transactions, for some bytes of the units.
 pub record KnownOfBook (opening : Objects) (s : State) : Type 0 where
-  pub answers : AnswersFrom opening s.book.entries
+  pub answers : AnswersAlikeFrom opening s.book.entries
   pub counts : AreCountsWithin 0 s.acked s.book.entries
   pub commits : AreCommits s.book s.acked s.events
   pub queued : AreQueued s.book s.pending

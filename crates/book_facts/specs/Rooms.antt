@@ -6,7 +6,7 @@ use Rattle.object_model.specs.Effect.{Change}
 use Rattle.object_model.specs.Book.{accepted}
 use Rattle.object_model.specs.declared.book.Entry.{Entry}
 use Rattle.store_steps.specs.Planning.{units_taken}
-use Rattle.store_steps.specs.Runs.{Call, submitting, stepping, Submits, IsRun}
+use Rattle.store_steps.specs.Runs.{Call, submitting, reading, stepping, Submits, IsRun}
 use Rattle.store_steps.specs.State.{State}
 use Rattle.store_steps.specs.Submit.{need_of}
 
@@ -29,4 +29,5 @@ abbrev pub needs_in : (calls : List Call) (s : State) (d : Disk) (s' : State) (d
 needs_in [] s d s' d' run = 0
 needs_in (submitting client line change ∷ calls) s d s' d' run =
     need_if_accepted client line change s run.0 run.1.1.0.1 + needs_in calls run.0 run.1.0 s' d' run.1.1.1.1
+needs_in (reading client line command ∷ calls) s d s' d' run = needs_in calls run.0 run.1.0 s' d' run.1.1.1.1
 needs_in (stepping step ∷ calls) s d s' d' run = needs_in calls run.0 run.1.0 s' d' run.1.1.1.1

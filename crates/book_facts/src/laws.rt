@@ -4,9 +4,9 @@ ghost use Rattle.std.specs.Prelude.{◌≡◌, ℕ, ◌+◌, ◌<◌, ◌≤◌,
 ghost use Rattle.block_device.specs.Disk.{Disk, IsSound};
 ghost use Rattle.object_model.specs.Objects.{Objects};
 ghost use Rattle.object_model.specs.Effect.{Change};
-ghost use Rattle.object_model.specs.Book.{IsLegal};
 ghost use Rattle.object_model.specs.declared.command.Answer.TheVariants as answer;
 ghost use Rattle.unit_allocator.specs.Units.{Space};
+ghost use Rattle.read_facts.specs.Alike.{IsLegalButBytes};
 ghost use Rattle.store_steps.specs.declared.step.Step.{Step};
 ghost use Rattle.store_steps.specs.State.{State};
 ghost use Rattle.store_steps.specs.Opened.{Found, opened};
@@ -35,10 +35,11 @@ pub fn a_call_keeps_the_book()
         Calls call s d s' d' → KnownOfBook opening s' }
 {}
 
-/// A known book is legal.
+/// A known book is legal, but for the bytes that reads gave: of a device that doesn't tell what it holds no more is known of them than their
+/// checksums.
 #[tactic(auto, using(crate::proofs::Books::known_legal))]
 pub fn a_known_book_is_legal()
-    ensures { (opening : Objects) (s : State) → KnownOfBook opening s → IsLegal opening s.book }
+    ensures { (opening : Objects) (s : State) → KnownOfBook opening s → IsLegalButBytes opening s.book }
 {}
 
 /// The order of transactions stays known along a run, whatever objects the rows stand for: each collection's are committed as they were
@@ -48,11 +49,11 @@ pub fn a_run_keeps_the_order()
     ensures kept { (calls : List Call) (s s' : State) (d d' : Disk) → IsKept s d → IsInOrder s → IsRun s d calls s' d' → IsInOrder s' }
 {}
 
-/// The book is legal at the end of each run from a state whose book is known, whether or not the device tells its log, and also
-/// where the kernel is down.
+/// The book is legal, but for these bytes, at the end of each run from a state whose book is known, whether or not the device tells its log,
+/// and also where the kernel is down.
 pub fn a_run_makes_a_legal_book()
     ensures { (opening : Objects) (calls : List Call) (s s' : State) (d d' : Disk) → IsKept s d → KnownOfBook opening s →
-        IsRun s d calls s' d' → IsLegal opening s'.book }
+        IsRun s d calls s' d' → IsLegalButBytes opening s'.book }
 {}
 
 /// Free units go to accepted transactions alone: what was free before a run is free after it, or was taken by those accepted in it. So want
@@ -65,8 +66,8 @@ pub fn space_suffices()
         → free_count s.space < taken_by s'.book.entries + need }
 {}
 
-/// An accepted transaction lowers the room in the log by its need, and no step lowers it. So want of room comes only where the needs of all
-/// transactions accepted since the mount and of the refused one together are more than the room was then.
+/// An accepted transaction lowers the room in the log by its need, and no step or read lowers it. So want of room comes only where the needs of
+/// all transactions accepted since the mount and of the refused one together are more than the room was then.
 pub fn room_suffices()
     ensures accepted { (client line : ℕ) (change : Change) (s s' : State) (d : Disk) → IsKept s d → MaySubmit change s d
         → (a : Accepts client line change s s') → room_of s'.log + need_of s.log a.plan ≡ room_of s.log }

@@ -1,4 +1,5 @@
-//! What is known of the book from call to call and along a run, whatever the device is: at each end the book is legal.
+//! What is known of the book from call to call and along a run, whatever the device is: at each end the book is legal, but for the
+//! bytes that reads gave.
 #![tactic(auto)]
 
 mod laws;

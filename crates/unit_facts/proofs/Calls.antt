@@ -4,14 +4,13 @@ use Rattle.std.proofs.lemmas.Option.{same_Some}
 use Rattle.block_device.specs.Disk.{Disk, History}
 use Rattle.object_model.specs.declared.book.Book.{Book}
 use Rattle.object_model.specs.declared.book.Entry.{Entry}
-use Rattle.object_model.specs.declared.command.Command.TheVariants as ask
 use Rattle.store_steps.specs.State.{State}
 use Rattle.store_steps.specs.Changes.{commit_of, acknowledged}
 use Rattle.store_steps.specs.Runs.{Call, Calls}
 use Rattle.store_facts.specs.Kept.{IsKept}
 use Rattle.unit_facts.specs.Known.{KnownOfUnits, Knows}
 use Rattle.unit_facts.proofs.Moves.{Move, data_goes, data_ends, takes, flush_goes, flush_ends, seals, record_goes, record_ends, sync_goes, sync_ends}
-use Rattle.unit_facts.proofs.Moves.{commits, finishes, accepts, refuses, rests, stays, call_goes_on}
+use Rattle.unit_facts.proofs.Moves.{commits, finishes, accepts, enters, rests, stays, call_goes_on}
 use Rattle.unit_facts.proofs.Steps.{data_known, data_done_known, take_known, flush_known, flush_done_known, seal_known}
 use Rattle.unit_facts.proofs.Steps.{record_known, record_done_known}
 use Rattle.unit_facts.proofs.Steps.{sync_known, sync_done_known, commit_known, accept_known, book_known, waited_known}
@@ -38,8 +37,8 @@ move_known base (finishes s d h) known =
     let book : Book = record s.book { commits = acknowledged s.events s.book.commits } in
     book_known base s book (s.acked + 1) d h known
 move_known base (accepts client line change s s' d h may does) known = accept_known base client line change does.plan s d h known
-move_known base (refuses client line change a s d h may cause) known =
-    let entry : Entry = record { client = client; line = line; command = ask.Change change; answer = a; acks = s.acked } in
+move_known base (enters client line command a s d h drained) known =
+    let entry : Entry = record { client = client; line = line; command = command; answer = a; acks = s.acked } in
     let book : Book = record s.book { entries = s.book.entries ++ entry ∷ [] } in
     book_known base s book s.acked d h known
 move_known base (rests s d d' h waited) known = waited_known base s d d' h waited known

@@ -10,7 +10,7 @@ use Rattle.store_steps.specs.declared.step.Step.TheVariants.{Data, Reap, Take, F
 use Rattle.store_steps.specs.State.{State}
 use Rattle.store_steps.specs.Changes.{after_done, after_good, flying_of, landed, down_by, reaped}
 use Rattle.store_steps.specs.Steps.{Takes}
-use Rattle.store_steps.specs.Runs.{Call, submitting, stepping, Calls, DoesOrFails, Submits}
+use Rattle.store_steps.specs.Runs.{Call, submitting, reading, stepping, Calls, DoesOrFails, Submits, Reads}
 
 done_down : (j : Job) (s : State) → (after_done j s).down ≡ s.down
 done_down (job.Data place count) s = refl
@@ -50,6 +50,11 @@ call_down (submitting client line change) s d s' d' made = inl (of_answer made.1
     of_answer (inl accepts) = ap (λ (t : State). t.down) accepts.after
     of_answer (inr (inl refused)) = ap (λ (t : State). t.down) refused.1.after
     of_answer (inr (inr turned)) = ap (λ (t : State). t.down) turned.same
+call_down (reading client line command) s d s' d' made = inl (of_answer made.1)
+  where
+    of_answer : Reads client line command s d s' → s'.down ≡ s.down
+    of_answer (inl (a, is)) = ap (λ (t : State). t.down) is.after
+    of_answer (inr turned) = ap (λ (t : State). t.down) turned.same
 call_down (stepping step) s d s' d' made = step_down step s d s' d' made.1
 
 -- a bad end leaves it down

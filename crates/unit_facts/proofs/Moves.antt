@@ -13,6 +13,8 @@ use Rattle.block_device.specs.declared.device.Ticket.{Ticket}
 use Rattle.block_device.specs.declared.event.Event.TheVariants.{Write, Flush as FlushEvent, Done}
 use Rattle.object_model.specs.Effect.{Change}
 use Rattle.object_model.specs.declared.book.Book.{Book}
+use Rattle.object_model.specs.declared.command.Command.{Command}
+use Rattle.object_model.specs.declared.command.Command.TheVariants as ask
 use Rattle.object_model.specs.declared.command.Answer.{Answer}
 use Rattle.meta_log.specs.Records.{unit_count}
 use Rattle.meta_log.specs.Slots.{IsSuper}
@@ -29,11 +31,11 @@ use Rattle.store_steps.specs.State.{Begun, Batch, State}
 use Rattle.store_steps.specs.Contexts.{Unsent, unsent_units, sum_needs, given_more, done_more, with_context, without_context}
 use Rattle.store_steps.specs.Changes.{sent, data_sent, flush_sent, record_sent, sync_sent, after_done, flying_of, taken_up, commit_of, sealed}
 use Rattle.store_steps.specs.Changes.{committed_batch, finished}
-use Rattle.store_steps.specs.Ready.{is_ready_up, is_empty}
+use Rattle.store_steps.specs.Ready.{is_ready_up, is_drained, is_empty}
 use Rattle.store_steps.specs.Steps.{piece_unit, piece_bytes, DoesData, Takes, DoesTake, DoesFlush, DoesSeal, DoesRecord, DoesSync}
 use Rattle.store_steps.specs.Steps.{DoesCommit, DoesFinish}
-use Rattle.store_steps.specs.Submit.{noted, accepted_with, Accepts, IsCause}
-use Rattle.store_steps.specs.Runs.{Call, submitting, stepping, Calls, DoesOrFails, MaySubmit, Submits}
+use Rattle.store_steps.specs.Submit.{entered, noted, accepted_with, Accepts}
+use Rattle.store_steps.specs.Runs.{Call, submitting, reading, stepping, Calls, DoesOrFails, MaySubmit, MayRead, Submits, Reads}
 use Rattle.store_facts.specs.Flights.{AreFlights, IsDataOf}
 use Rattle.store_facts.specs.Room.{FitsRecord, HasRoomFor}
 use Rattle.store_facts.specs.Space.{uncommitted}
@@ -96,8 +98,8 @@ pub data Move : State → Disk → History → State → Disk → History → Ty
   accepts : (client line : ℕ) (change : Change) (s s' : State) (d : Disk) (h : History) → MaySubmit change (at s idle) d
       → (does : Accepts client line change (at s idle) s')
       → Move (at s idle) d h (accepted_with client line change does.plan (at s idle)) d h
-  refuses : (client line : ℕ) (change : Change) (a : Answer) (s : State) (d : Disk) (h : History) → MaySubmit change s d → IsCause a change s
-      → Move s d h (noted client line change a s) d h
+  enters : (client line : ℕ) (command : Command) (a : Answer) (s : State) (d : Disk) (h : History) → ((s.down ≡ None) → is_drained d.depth s ≡ true)
+      → Move s d h (entered client line command a s) d h
   rests : (s : State) (d d' : Disk) (h : History) → Waited d d' → Move s d h s d' h
   stays : (s : State) (d : Disk) (h : History) → Move s d h s d h
 
@@ -477,8 +479,17 @@ submit_goes_on client line change s d h s' kept up may (inl does) =
     (λ may does. goes (at s idle) (accepted_with client line change does.plan (at s idle)) s' d d h h does.after
     (accepts client line change s s' d h may does)) may does
 submit_goes_on client line change s d h s' kept up may (inr (inl refused)) =
-    goes s (noted client line change refused.0 s) s' d d h h refused.1.after (refuses client line change refused.0 s d h may refused.1.cause)
+    goes s (noted client line change refused.0 s) s' d d h h refused.1.after
+    (enters client line (ask.Change change) refused.0 s d h may.drained)
 submit_goes_on client line change s d h s' kept up may (inr (inr turned)) = goes s s s' d d h h turned.same (stays s d h)
+
+-- ---- a read
+
+read_goes_on : (client line : ℕ) (command : Command) (s : State) (d : Disk) (h : History) (s' : State) → MayRead command s d
+    → Reads client line command s d s' → Goes s d h s' d
+read_goes_on client line command s d h s' may (inl (a, is)) =
+    goes s (entered client line command a s) s' d d h h is.after (enters client line command a s d h may.drained)
+read_goes_on client line command s d h s' may (inr turned) = goes s s s' d d h h turned.same (stays s d h)
 
 -- ---- each call
 
@@ -487,6 +498,8 @@ pub call_goes_on : (call : Call) (s s' : State) (d d' : Disk) (h : History) → 
 call_goes_on (submitting client line change) s s' d d' h kept up told made =
     subst (Goes s d h s') (sym made.2)
     (submit_goes_on client line change s d h s' kept (was_up (submitting client line change) s d s' d' made up) made.0 made.1)
+call_goes_on (reading client line command) s s' d d' h kept up told made =
+    subst (Goes s d h s') (sym made.2) (read_goes_on client line command s d h s' made.0 made.1)
 call_goes_on (stepping step) s s' d d' h kept up told made =
     let before : s.down ≡ None = was_up (stepping step) s d s' d' made up in
     step_goes_on step s d h s' d' (kept.up before).far (before_of s d h kept before told) (sym (ready_up step d.depth s before) ∙ made.0) up made.1

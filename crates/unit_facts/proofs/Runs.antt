@@ -10,10 +10,10 @@ use Rattle.meta_log.specs.Slots.{active_unit}
 use Rattle.store_steps.specs.declared.context.Context.{Context}
 use Rattle.store_steps.specs.State.{Begun, State}
 use Rattle.store_steps.specs.Ready.{is_drained}
-use Rattle.store_steps.specs.Runs.{Call, submitting, stepping, Calls, Submits, IsRun}
+use Rattle.store_steps.specs.Runs.{Call, submitting, reading, stepping, Calls, Submits, IsRun}
 use Rattle.store_facts.specs.Space.{uncommitted}
 use Rattle.store_facts.specs.Kept.{IsKept}
-use Rattle.store_facts.proofs.Kept.{kept_step, kept_accept, kept_refuse}
+use Rattle.store_facts.proofs.Kept.{kept_step, kept_accept, kept_refuse, kept_read}
 use Rattle.store_facts.proofs.Known.{known_idle}
 use Rattle.store_facts.proofs.Conditions.{IsIdle}
 use Rattle.log_facts.specs.Flushing.{FlushState}
@@ -32,6 +32,8 @@ kept_call (submitting client line change) s s' d d' kept made sound = subst (IsK
     of_answer (inl accepts) = kept_accept s s' d client line change kept made.0 accepts
     of_answer (inr (inl refused)) = kept_refuse s s' d client line change refused.0 kept made.0 refused.1
     of_answer (inr (inr turned)) = subst (λ (t : State). IsKept t d) (sym turned.same) kept
+kept_call (reading client line command) s s' d d' kept made sound =
+    subst (IsKept s') (sym made.2) (kept_read s s' d client line command kept made.1)
 kept_call (stepping step) s s' d d' kept made sound = kept_step step s s' d d' kept made.0 made.1 sound
 
 -- so a run that leaves it up found it up

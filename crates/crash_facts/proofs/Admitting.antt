@@ -1,4 +1,4 @@
--- How the contexts stand once a transaction is accepted or refused.
+-- How the contexts stand once a transaction is accepted or refused, or a read is answered.
 use Rattle.std.proofs.Common.{◌≡◌, ℕ, ◌-◌, List, [], ◌∷◌, ◌++◌, length, take, Option, None, Ok, refl, sym, ap, subst, ◌∙◌, append-nil, arith}
 use Rattle.std.specs.List.{cons_option}
 use Rattle.std.proofs.lemmas.List.{take_all}
@@ -11,6 +11,7 @@ use Rattle.object_model.specs.declared.book.Commit.{Commit}
 use Rattle.object_model.specs.declared.book.Entry.{Entry}
 use Rattle.object_model.specs.declared.command.Answer.{Answer}
 use Rattle.object_model.specs.declared.command.Answer.TheVariants as answer
+use Rattle.object_model.specs.declared.command.Command.{Command}
 use Rattle.object_model.specs.declared.command.Command.TheVariants as ask
 use Rattle.meta_rows.specs.Rows.{Rows, rows_after}
 use Rattle.store_image.specs.BadRows.{NoBadRow}
@@ -25,7 +26,7 @@ use Rattle.store_steps.specs.declared.plan.Plan.{Plan}
 use Rattle.store_steps.specs.Planning.{as_planned}
 use Rattle.store_steps.specs.State.{State}
 use Rattle.store_steps.specs.Ready.{applied_count}
-use Rattle.store_steps.specs.Submit.{IsKnown, refusal_of, context_of, noted, accepted_with}
+use Rattle.store_steps.specs.Submit.{IsKnown, refusal_of, context_of, entered, accepted_with}
 use Rattle.store_facts.specs.Space.{uncommitted}
 use Rattle.store_facts.proofs.Stages.{idle, at}
 use Rattle.book_facts.specs.BookFacts.{KnownOfBook}
@@ -108,12 +109,12 @@ module _ (opening : Objects) (s : State) (client line : ℕ) (change : Change) (
       subst (λ (l : List Change). SelectionsStand (held_or_last h (one ∷ [])) rows (one ∷ []) (replay opening l) (es ++ entry ∷ [])) applied_is
       (subst (λ (bytes : ℕ → List ℕ). SelectionsStand bytes rows (one ∷ []) before (es ++ entry ∷ [])) now_is stand_now)
 
--- ---- it is refused
+-- ---- it is refused, or a read is answered: an entry of the book, and nothing else
 
-pub refuse_stand : (opening : Objects) (s : State) (client line : ℕ) (change : Change) (a : Answer) (h : History) → uncommitted s ≡ []
-    → KnownOfBook opening s → ContextsStand opening s h → ContextsStand opening (noted client line change a s) h
-refuse_stand opening s client line change a h none book stand =
-    let entry : Entry = record { client = client; line = line; command = ask.Change change; answer = a; acks = s.acked } in
+pub enter_stand : (opening : Objects) (s : State) (client line : ℕ) (command : Command) (a : Answer) (h : History) → uncommitted s ≡ []
+    → KnownOfBook opening s → ContextsStand opening s h → ContextsStand opening (entered client line command a s) h
+enter_stand opening s client line command a h none book stand =
+    let entry : Entry = record { client = client; line = line; command = command; answer = a; acks = s.acked } in
     let es : List Entry = s.book.entries in
     let objects : Objects = replay opening (applied_changes s) in
     let here : SelectionsStand (held_or_last h []) s.log.rows [] objects es =

@@ -34,7 +34,7 @@ use Rattle.book_facts.proofs.Commits.{places_acknowledged, changes_at}
 use Rattle.book_facts.proofs.Applied.{applied_by_places, applied_entry}
 use Rattle.store_facts.proofs.Stages.{idle, at}
 use Rattle.unit_facts.proofs.Moves.{Move, data_goes, data_ends, takes, flush_goes, flush_ends, seals, record_goes, record_ends, sync_goes, sync_ends}
-use Rattle.unit_facts.proofs.Moves.{commits, finishes, accepts, refuses, rests, stays}
+use Rattle.unit_facts.proofs.Moves.{commits, finishes, accepts, enters, rests, stays}
 use Rattle.unit_facts.proofs.RunWrites.{run_write}
 use Rattle.unit_facts.proofs.Steps.{piece_of}
 
@@ -194,8 +194,8 @@ move_cuts base opening (accepts client line change s s' d h may does) book count
     let entry : Entry = record { client = client; line = line; command = ask.Change change; answer = answer.Accepted; acks = s.acked } in
     let after : Book = record s.book { entries = s.book.entries ++ entry ∷ [] } in
     same_log base h opening s.book after (λ cut below. notes_one base cut opening (at s idle) entry book) cuts now
-move_cuts base opening (refuses client line change a s d h may cause) book counted cuts now =
-    let entry : Entry = record { client = client; line = line; command = ask.Change change; answer = a; acks = s.acked } in
+move_cuts base opening (enters client line command a s d h drained) book counted cuts now =
+    let entry : Entry = record { client = client; line = line; command = command; answer = a; acks = s.acked } in
     let after : Book = record s.book { entries = s.book.entries ++ entry ∷ [] } in
     same_log base h opening s.book after (λ cut below. notes_one base cut opening s entry book) cuts now
 move_cuts base opening (rests s d d' h waited) book counted cuts now = cuts

@@ -23,7 +23,7 @@ use Rattle.store_steps.specs.Contexts.{run_bytes, unsent_units}
 use Rattle.store_steps.specs.Changes.{after_done, after_good, flying_of, landed, reaped}
 use Rattle.store_steps.specs.Steps.{piece_unit, piece_bytes}
 use Rattle.store_steps.specs.Opened.{Found, opened}
-use Rattle.store_steps.specs.Runs.{Call, submitting, stepping, Calls, DoesOrFails, Submits}
+use Rattle.store_steps.specs.Runs.{Call, submitting, reading, stepping, Calls, DoesOrFails, Submits, Reads}
 use Rattle.store_facts.specs.Kept.{IsKept}
 use Rattle.crash_facts.specs.Store.{IsDurable, KeepsDurable, IsMounted}
 use Rattle.crash_facts.proofs.Runs.{call_durable, mounted_durable}
@@ -113,6 +113,11 @@ call_events (submitting client line change) s s' d d' made = no_event s s' d d' 
     of_answer (inl accepts) = ap (λ (t : State). t.events) accepts.after
     of_answer (inr (inl refused)) = ap (λ (t : State). t.events) refused.1.after
     of_answer (inr (inr turned)) = ap (λ (t : State). t.events) turned.same
+call_events (reading client line command) s s' d d' made = no_event s s' d d' (of_answer made.1) made.2
+  where
+    of_answer : Reads client line command s d s' → s'.events ≡ s.events
+    of_answer (inl (a, is)) = ap (λ (t : State). t.events) is.after
+    of_answer (inr turned) = ap (λ (t : State). t.events) turned.same
 call_events (stepping step) s s' d d' made = step_events step s s' d d' made.1
 
 -- ---- each call

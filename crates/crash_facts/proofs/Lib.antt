@@ -3,6 +3,8 @@ pub mod Standing
 pub mod Admitting
 pub mod Moving
 pub mod Now
+pub mod Idle
+pub mod Answered
 pub mod Cuts
 pub mod Runs
 pub mod Keeping

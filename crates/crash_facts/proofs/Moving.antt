@@ -21,10 +21,10 @@ use Rattle.unit_facts.proofs.Units.{data_elsewhere}
 use Rattle.unit_facts.proofs.RunWrites.{run_inside}
 use Rattle.unit_facts.proofs.Steps.{piece_of, piece_fits, piece_spares}
 use Rattle.unit_facts.proofs.Moves.{Move, data_goes, data_ends, takes, flush_goes, flush_ends, seals, record_goes, record_ends, sync_goes, sync_ends}
-use Rattle.unit_facts.proofs.Moves.{commits, finishes, accepts, refuses, rests, stays}
+use Rattle.unit_facts.proofs.Moves.{commits, finishes, accepts, enters, rests, stays}
 use Rattle.crash_facts.specs.Store.{ContextsStand}
 use Rattle.crash_facts.proofs.Standing.{quiet_stand, data_stand, log_stand, commit_stand, take_stand, seal_stand, finish_stand}
-use Rattle.crash_facts.proofs.Admitting.{accept_stand, refuse_stand}
+use Rattle.crash_facts.proofs.Admitting.{accept_stand, enter_stand}
 
 -- the rows that a kernel keeps
 view_of : (s : State) (d : Disk) → IsKept s d → s.down ≡ None → s.view ≡ rows_with s.log.rows (uncommitted s)
@@ -67,7 +67,7 @@ move_stand base opening (finishes s d h) kept up units book stand = finish_stand
 move_stand base opening (accepts client line change s s' d h may does) kept up units book stand =
     accept_stand opening s client line change does.plan h may.known does.not_refused (kept.up up).committed.good
     (takes_plan (at s idle) d client line change s' kept may does) (view_of (at s idle) d kept up) book stand
-move_stand base opening (refuses client line change a s d h may cause) kept up units book stand =
-    refuse_stand opening s client line change a h (known_idle s d kept up (may.drained up)).uncommitted book stand
+move_stand base opening (enters client line command a s d h drained) kept up units book stand =
+    enter_stand opening s client line command a h (known_idle s d kept up (drained up)).uncommitted book stand
 move_stand base opening (rests s d d' h waited) kept up units book stand = stand
 move_stand base opening (stays s d h) kept up units book stand = stand

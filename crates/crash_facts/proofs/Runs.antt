@@ -1,8 +1,7 @@
 -- Runs of calls: each crash leaves a front of the commits, and once the kernel is drained the device stands for all that was accepted.
-use Rattle.std.proofs.Common.{◌≡◌, ◌⊎◌, inl, inr, ℕ, ◌+◌, ◌-◌, Bool, true, false, cond, List, [], ◌∷◌, ◌++◌, length, take, Option, Some, None}
+use Rattle.std.proofs.Common.{◌≡◌, ◌⊎◌, inl, inr, ℕ, ◌+◌, Bool, true, false, cond, List, [], ◌∷◌, ◌++◌, length, take, Option, Some, None}
 use Rattle.std.proofs.Common.{is_some, refl, sym, ap, subst}
 use Rattle.std.proofs.Common.{◌∙◌, arith, length-append}
-use Rattle.std.specs.Option.{option_map_or}
 use Rattle.std.proofs.lemmas.Option.{same_Some}
 use Rattle.std.proofs.lemmas.List.{take_all}
 use Rattle.block_device.specs.Log.{last, IsClean}
@@ -14,31 +13,27 @@ use Rattle.block_device.specs.declared.event.Event.TheVariants.{Done}
 use Rattle.block_device.proofs.LogLemmas.{each_cut_push}
 use Rattle.object_model.specs.Objects.{Objects}
 use Rattle.object_model.specs.Effect.{replay}
-use Rattle.object_model.specs.Book.{accepted, committed}
-use Rattle.object_model.specs.declared.book.Commit.{Commit}
-use Rattle.store_image.specs.Stands.{ObjectsStand, StandsFor}
+use Rattle.object_model.specs.Book.{accepted}
+use Rattle.store_image.specs.Stands.{StandsFor}
 use Rattle.store_image.specs.Durability.{LeavesPrefix, EachCutStands}
 use Rattle.store_image.proofs.OwnedUnits.{objects_stand}
 use Rattle.log_facts.proofs.Crashes.{log_stands}
 use Rattle.unit_allocator.specs.Units.{Space}
-use Rattle.store_steps.specs.declared.context.Context.{Context}
 use Rattle.store_steps.specs.declared.step.Step.{Step}
 use Rattle.store_steps.specs.declared.step.Step.TheVariants.{Reap}
-use Rattle.store_steps.specs.State.{Batch, State}
+use Rattle.store_steps.specs.State.{State}
 use Rattle.store_steps.specs.Changes.{after_good, flying_of, landed}
 use Rattle.store_steps.specs.Ready.{is_drained}
 use Rattle.store_steps.specs.Steps.{Takes}
 use Rattle.store_steps.specs.Opened.{Found, opened}
-use Rattle.store_steps.specs.Runs.{Call, submitting, stepping, Calls, DoesOrFails, Submits, IsRun}
+use Rattle.store_steps.specs.Runs.{Call, submitting, reading, stepping, Calls, DoesOrFails, Submits, Reads, IsRun}
 use Rattle.store_facts.specs.Kept.{IsKept}
 use Rattle.store_facts.proofs.Conditions.{IsIdle, while_up, while_down, ready_cases}
 use Rattle.store_facts.proofs.Known.{known_idle}
-use Rattle.book_facts.specs.BookFacts.{KnownOfBook, AreQueued}
-use Rattle.book_facts.specs.Selections.{applied_changes, SelectionsStand}
+use Rattle.book_facts.specs.BookFacts.{KnownOfBook}
 use Rattle.book_facts.proofs.Books.{book_opened}
 use Rattle.book_facts.proofs.BookCalls.{book_call}
-use Rattle.book_facts.proofs.Selecting.{none_selected, stand_none}
-use Rattle.book_facts.proofs.Applied.{all_committed}
+use Rattle.book_facts.proofs.Selecting.{stand_none}
 use Rattle.crash_facts.specs.HeldBytes.{held_or_last}
 use Rattle.unit_facts.specs.Known.{second_flush, KnownOfUnits}
 use Rattle.unit_facts.proofs.Steps.{opened_known}
@@ -47,6 +42,8 @@ use Rattle.unit_facts.proofs.Calls.{move_known}
 use Rattle.unit_facts.proofs.Downs.{call_down, was_up}
 use Rattle.unit_facts.proofs.Runs.{kept_call, run_kept, idle_half, drained_clean}
 use Rattle.crash_facts.specs.Store.{KnownOfStore, IsDurable, IsMounted}
+use Rattle.crash_facts.proofs.Idle.{idle_objects}
+use Rattle.crash_facts.proofs.Answered.{AreAnswered, call_answers}
 use Rattle.crash_facts.proofs.Moving.{move_stand}
 use Rattle.crash_facts.proofs.Now.{now_stands, size_now}
 use Rattle.crash_facts.proofs.Cuts.{quiet_leaves, move_cuts}
@@ -115,6 +112,11 @@ down_call (submitting client line change) s d s' d' first down made = inr (of_an
     of_answer (inl accepts) = absurd (not_both s.down first accepts.can_note.up down)
     of_answer (inr (inl refused)) = absurd (not_both s.down first refused.1.can_note.up down)
     of_answer (inr (inr turned)) = record { state = turned.same; history = ap (λ (e : Disk). e.history) made.2 }
+down_call (reading client line command) s d s' d' first down made = inr (of_answer made.1)
+  where
+    of_answer : Reads client line command s d s' → IsStill s d s' d'
+    of_answer (inl (a, is)) = absurd (not_both s.down first is.can_note.up down)
+    of_answer (inr turned) = record { state = turned.same; history = ap (λ (e : Disk). e.history) made.2 }
 down_call (stepping step) s d s' d' first down made = elim (ready_cases step d.depth s made.0) [
   | while_up up ready ↦ absurd (not_both s.down first up down)
   | while_down is_down is ↦ down_step step s d s' d' first down is made.1
@@ -124,6 +126,13 @@ down_call (stepping step) s d s' d' first down made = elim (ready_cases step d.d
 
 module _ (base : ℕ) (opening : Objects) (call : Call) (s s' : State) (d d' : Disk) (kept : IsKept s d) (sound : IsSound d')
     (durable : IsDurable base opening s d) (made : Calls call s d s' d') where
+  -- the book behind it, and its answers
+  book' : KnownOfBook opening s'
+  book' = book_call opening call s s' d d' kept durable.book made
+
+  answered' : AreAnswered opening s'.book.entries
+  answered' = call_answers base opening call s s' d d' kept durable book' made
+
   -- one that leaves the kernel up
   durable_up : s'.down ≡ None → IsDurable base opening s' d'
   durable_up up =
@@ -131,10 +140,9 @@ module _ (base : ℕ) (opening : Objects) (call : Call) (s s' : State) (d d' : D
       let store : KnownOfStore base opening s d durable.history = durable.up before in
       let on : Goes s d durable.history s' d' = call_goes_on call s s' d d' durable.history kept up durable.told made in
       let units : KnownOfUnits base s' d' on.history = move_known base on.move store.units in
-      let book : KnownOfBook opening s' = book_call opening call s s' d d' kept durable.book made in
       let known : KnownOfStore base opening s' d' on.history = record {
         units = units;
-        book = book;
+        book = book';
         stand = move_stand base opening on.move kept before store.units durable.book store.stand;
       } in
       let now : LeavesPrefix base on.history.start opening s'.book on.history.log =
@@ -143,7 +151,9 @@ module _ (base : ℕ) (opening : Objects) (call : Call) (s s' : State) (d d' : D
         history = on.history;
         told = units.told;
         counted = units.answered.counted;
-        book = book;
+        book = book';
+        answers = answered'.answers;
+        no_csum = answered'.no_csum;
         cuts = move_cuts base opening on.move durable.book durable.counted durable.cuts now;
         up = λ _. known;
       }
@@ -166,7 +176,9 @@ module _ (base : ℕ) (opening : Objects) (call : Call) (s s' : State) (d d' : D
         history = with_event h e;
         told = told;
         counted = omega (arith, length-append h.log (e ∷ []), durable.counted, end.events);
-        book = book_call opening call s s' d d' kept durable.book made;
+        book = book';
+        answers = answered'.answers;
+        no_csum = answered'.no_csum;
         cuts = subst (EachCutStands base (with_event h e) opening) (sym end.book) cuts;
         up = λ none. absurd (fallen none);
       }
@@ -177,7 +189,9 @@ module _ (base : ℕ) (opening : Objects) (call : Call) (s s' : State) (d d' : D
     history = durable.history;
     told = still.history ∙ durable.told;
     counted = durable.counted ∙ ap (λ (t : State). base + t.events) (sym still.state);
-    book = subst (KnownOfBook opening) (sym still.state) durable.book;
+    book = book';
+    answers = answered'.answers;
+    no_csum = answered'.no_csum;
     cuts = subst (λ (t : State). EachCutStands base durable.history opening t.book) (sym still.state) durable.cuts;
     up = λ none. absurd (fallen none);
   }
@@ -226,7 +240,16 @@ mounted_durable base opening f space events d h told none is =
       stand = stand_none (held_or_last h []) f.rows opening []
           (objects_stand (last_at h) (held_or_last h []) f.rows (λ unit owned. refl) opening is.stand);
     } in
-    record { history = h; told = told; counted = is.answered.counted; book = known.book; cuts = is.cuts; up = λ _. known }
+    record {
+      history = h;
+      told = told;
+      counted = is.answered.counted;
+      book = known.book;
+      answers = tt;
+      no_csum = tt;
+      cuts = is.cuts;
+      up = λ _. known;
+    }
 
 -- ---- once it is drained
 
@@ -235,20 +258,9 @@ pub drained_stands : (base : ℕ) (opening : Objects) (s : State) (d : Disk) (h 
 drained_stands base opening s d h kept up drained known =
     let idle : IsIdle s = known_idle s d kept up drained in
     let half = idle_half base s d h known.units idle.begun in
-    let cs : List Commit = s.book.commits in
-    let before : SelectionsStand (held_or_last h []) s.log.rows [] (replay opening (applied_changes s)) s.book.entries =
-    subst (λ (xs : List Context). SelectionsStand (held_or_last h xs) s.log.rows xs (replay opening (applied_changes s)) s.book.entries)
-    idle.uncommitted known.stand in
-    let stand : ObjectsStand (last_at h) s.log.rows (replay opening (applied_changes s)) =
-    objects_stand (held_or_last h []) (last_at h) s.log.rows (λ unit owned. refl) (replay opening (applied_changes s))
-    (none_selected (held_or_last h []) s.log.rows [] (replay opening (applied_changes s)) s.book.entries before) in
-    let all : applied_changes s ≡ committed s.book.entries cs =
-    ap (λ (b : Option Batch). committed s.book.entries (take (length cs - option_map_or (λ (c : Batch). length c.contexts) b 0) cs)) idle.batch
-    ∙ ap (committed s.book.entries) (take_all (length cs - 0) cs (omega arith)) in
-    let queued : AreQueued s.book [] = subst (AreQueued s.book) idle.pending known.book.queued in
     log_stands h s.log.sup s.log.rows s.log.tail s.log.number 0 (second_flush s.batch) half.0 (replay opening (accepted s.book.entries))
     (size_now s d h kept known.units.told) known.units.slots half.1 (kept.up up).committed.good
-    (subst (ObjectsStand (last_at h) s.log.rows) (ap (replay opening) all ∙ all_committed opening s.book.entries cs queued) stand)
+    (idle_objects base opening s d h idle known)
 
 -- ---- at the end of a run
 

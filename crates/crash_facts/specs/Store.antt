@@ -1,10 +1,12 @@
 -- What is known of a store from call to call: its device, its book, and that each crash so far leaves a front of the commits.
 use Rattle.std.specs.Prelude.{◌≡◌, ℕ, ◌+◌, List, [], length, Some, None}
+use Rattle.std.specs.List.{AllByRecursion}
 use Rattle.block_device.specs.Log.{IsClean}
 use Rattle.block_device.specs.Disk.{Disk, History}
 use Rattle.block_device.specs.Facts.{last_at}
 use Rattle.object_model.specs.Objects.{Objects}
 use Rattle.object_model.specs.Effect.{replay}
+use Rattle.object_model.specs.Book.{AnswersFrom}
 use Rattle.meta_rows.specs.declared.row_op.RowOp.{RowOp}
 use Rattle.store_image.specs.Stands.{ObjectsStand}
 use Rattle.store_image.specs.Durability.{IsStart, EachCutStands}
@@ -15,6 +17,7 @@ use Rattle.store_steps.specs.State.{State}
 use Rattle.store_steps.specs.Opened.{Found}
 use Rattle.store_facts.specs.Space.{uncommitted}
 use Rattle.book_facts.specs.BookFacts.{KnownOfBook}
+use Rattle.read_facts.specs.Alike.{IsNoCsum}
 use Rattle.book_facts.specs.Selections.{applied_changes, SelectionsStand}
 use Rattle.crash_facts.specs.HeldBytes.{held_or_last}
 use Rattle.unit_facts.specs.Known.{IsAnsweredSince, KnownOfUnits}
@@ -31,12 +34,15 @@ pub record KnownOfStore (base : ℕ) (opening : Objects) (s : State) (d : Disk) 
   pub book : KnownOfBook opening s
   pub stand : ContextsStand opening s h
 
--- What holds whether it is up or down: each crash since the log had `base` events leaves the objects after a front of the commits.
+-- What holds whether it is up or down: each entry has the answer that plain objects give, none names a bad unit, and each crash since the log
+-- had `base` events leaves the objects after a front of the commits.
 pub record IsDurable (base : ℕ) (opening : Objects) (s : State) (d : Disk) : Type 0 where
   pub history : History
   pub told : d.history ≡ Some history
   pub counted : length history.log ≡ base + s.events
   pub book : KnownOfBook opening s
+  pub answers : AnswersFrom opening s.book.entries
+  pub no_csum : AllByRecursion (λ e. IsNoCsum e.answer) s.book.entries
   pub cuts : EachCutStands base history opening s.book
   pub up : s.down ≡ None → KnownOfStore base opening s d history
 

@@ -1,11 +1,14 @@
 //! Prefix durability along the calls of a kernel, and what its device stands for once it is drained.
 ghost use Rattle.std.specs.Prelude.{◌≡◌, ℕ, ◌+◌, true, List, [], length, Some, None};
-ghost use Rattle.block_device.specs.Log.{last, IsClean};
+ghost use Rattle.std.specs.List.{AllByRecursion};
+ghost use Rattle.block_device.specs.Log.{last, IsClean, HasNoBadDone};
+ghost use Rattle.block_device.specs.Facts.{last_at};
 ghost use Rattle.block_device.specs.Disk.{Disk, History, IsSound};
 ghost use Rattle.object_model.specs.Objects.{Objects};
 ghost use Rattle.object_model.specs.Effect.{replay};
-ghost use Rattle.object_model.specs.Book.{accepted};
-ghost use Rattle.store_image.specs.Stands.{StandsFor};
+ghost use Rattle.object_model.specs.Book.{accepted, IsLegal};
+ghost use Rattle.store_image.specs.Stands.{ObjectsStand, StandsFor};
+ghost use Rattle.read_facts.specs.Alike.{IsNoCsum};
 ghost use Rattle.store_image.specs.Durability.{IsStart, EachCutStands};
 ghost use Rattle.unit_allocator.specs.Units.{Space};
 ghost use Rattle.store_steps.specs.State.{State};
@@ -41,6 +44,23 @@ pub fn a_drained_store_stands()
     ensures { (base : ℕ) (opening : Objects) (s : State) (d : Disk) (h : History) → IsKept s d → s.down ≡ None →
         is_drained d.depth s ≡ true → KnownOfStore base opening s d h →
         StandsFor (last h.start h.log) (replay opening (accepted s.book.entries)) }
+{}
+
+/// The book of a durable store is legal: each entry has the answer that plain objects give, reads too, and none names a bad unit.
+pub fn a_durable_book_is_legal()
+    ensures legal { (base : ℕ) (opening : Objects) (s : State) (d : Disk) → IsDurable base opening s d → IsLegal opening s.book }
+    ensures sums { (base : ℕ) (opening : Objects) (s : State) (d : Disk) → IsDurable base opening s d →
+        AllByRecursion (λ e. IsNoCsum e.answer) s.book.entries }
+{}
+
+/// Once the kernel is drained, and not down, the submitted rows and the units as last written stand for the objects after all accepted
+/// transactions, and no write ended badly: so a read gives just what these objects have.
+pub fn a_drained_store_can_be_read()
+    ensures stand { (base : ℕ) (opening : Objects) (s : State) (d : Disk) (h : History) → IsKept s d → s.down ≡ None →
+        is_drained d.depth s ≡ true → KnownOfStore base opening s d h →
+        ObjectsStand (last_at h) s.view (replay opening (accepted s.book.entries)) }
+    ensures answered { (base : ℕ) (opening : Objects) (s : State) (d : Disk) (h : History) → IsKept s d → s.down ≡ None →
+        is_drained d.depth s ≡ true → KnownOfStore base opening s d h → (unit : ℕ) → HasNoBadDone h.log unit }
 {}
 
 /// Prefix durability of runs: whatever a crash at any cut of the log since the start leaves stands for the objects after the first

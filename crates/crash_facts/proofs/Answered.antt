@@ -1,0 +1,151 @@
+-- Each call leaves all entries with the answers that plain objects give, and none that names a bad unit.
+use Rattle.std.proofs.Common.{◌≡◌, inl, inr, ℕ, Bool, true, false, cond, List, [], ◌∷◌, ◌++◌, None, Result, Ok, Err, sym, ap, subst}
+use Rattle.std.specs.Prelude.{nat_lt, take, drop, ◌+◌}
+use Rattle.std.specs.List.{AllByRecursion}
+use Rattle.block_device.specs.Disk.{Disk, History}
+use Rattle.object_model.specs.Objects.{Object, Collection, Objects}
+use Rattle.object_model.specs.Effect.{Change, replay, object_limit}
+use Rattle.object_model.specs.Reply.{answer_from, found_collection, found_object, reply_of}
+use Rattle.object_model.specs.Book.{accepted, IsAnswered as IsRight, AnswersFrom, IsLegal}
+use Rattle.object_model.specs.declared.book.Entry.{Entry}
+use Rattle.object_model.specs.declared.op.Refusal.{Refusal}
+use Rattle.object_model.specs.declared.op.Refusal.TheVariants.{BadRange}
+use Rattle.object_model.specs.declared.command.Command.{Command}
+use Rattle.object_model.specs.declared.command.Command.TheVariants as ask
+use Rattle.object_model.specs.declared.command.Answer.{Answer}
+use Rattle.object_model.specs.declared.command.Answer.TheVariants as answer
+use Rattle.read_facts.specs.Answers.{HasReadNames}
+use Rattle.read_facts.proofs.Seen.{seen_answer}
+use Rattle.read_facts.specs.Alike.{IsNoCsum, AnswersAlikeFrom, IsLegalButBytes}
+use Rattle.store_steps.specs.State.{State}
+use Rattle.store_steps.specs.Submit.{IsCause}
+use Rattle.store_steps.specs.Runs.{Call, submitting, reading, stepping, MayRead, IsAnswered, Reads, Submits, Calls}
+use Rattle.store_facts.specs.Kept.{IsKept}
+use Rattle.book_facts.specs.BookFacts.{KnownOfBook}
+use Rattle.book_facts.proofs.Books.{known_legal}
+use Rattle.book_facts.proofs.Commits.{all_append}
+use Rattle.book_facts.proofs.Entries.{answers_push, alike_last}
+use Rattle.book_facts.proofs.Rooms.{step_room}
+use Rattle.crash_facts.specs.Store.{KnownOfStore, IsDurable}
+use Rattle.crash_facts.proofs.Idle.{drained_view, drained_good}
+
+-- each entry has the answer that plain objects give, and none names a bad unit
+pub record AreAnswered (opening : Objects) (entries : List Entry) : Type 0 where
+  pub answers : AnswersFrom opening entries
+  pub no_csum : AllByRecursion (λ e. IsNoCsum e.answer) entries
+
+-- one more entry
+answered_push : (opening : Objects) (es : List Entry) (e : Entry) → AreAnswered opening es → IsRight (replay opening (accepted es)) e
+    → IsNoCsum e.answer → AreAnswered opening (es ++ e ∷ [])
+answered_push opening es e are right no_csum = record {
+  answers = answers_push opening es e are.answers right;
+  no_csum = all_append (λ x. IsNoCsum x.answer) es (e ∷ []) are.no_csum (no_csum, tt);
+}
+
+-- ---- plain objects name no bad unit
+
+-- where each answer to what is found names none
+found_no_csum : {X : Type 0} (r : Result X Refusal) (read : X → Answer) → ((x : X) → IsNoCsum (read x)) → IsNoCsum (answer_from r read)
+found_no_csum (Ok x) read each = each x
+found_no_csum (Err refusal) read each = tt
+
+-- nor does the refusal of a range
+range_no_csum : (b : Bool) (bytes : List ℕ) → IsNoCsum (cond b (answer.Refused BadRange) (answer.Bytes bytes))
+range_no_csum true bytes = tt
+range_no_csum false bytes = tt
+
+-- so the answer to a read doesn't
+reply_no_csum : (command : Command) (objects : Objects) → HasReadNames command → IsNoCsum (reply_of command objects)
+reply_no_csum (ask.Read c o off len) objects names =
+    found_no_csum (found_object objects c o)
+    (λ (b : Object). cond (nat_lt object_limit (off + len)) (answer.Refused BadRange) (answer.Bytes (take len (drop off b.bytes))))
+    (λ (b : Object). range_no_csum (nat_lt object_limit (off + len)) (take len (drop off b.bytes)))
+reply_no_csum (ask.Sum c o) objects names = found_no_csum (found_object objects c o) _ (λ (b : Object). tt)
+reply_no_csum (ask.Stat c o) objects names = found_no_csum (found_object objects c o) _ (λ (b : Object). tt)
+reply_no_csum (ask.List c) objects names = found_no_csum (found_collection objects c) _ (λ (found : Collection). tt)
+reply_no_csum command objects names = absurd names
+
+-- ---- a transaction
+
+-- nor does the answer to one
+cause_no_csum : (a : Answer) (change : Change) (s : State) → IsCause a change s → IsNoCsum a
+cause_no_csum (answer.Refused refusal) change s cause = tt
+cause_no_csum (answer.NoSpace need free) change s cause = tt
+cause_no_csum (answer.MetaFull need room) change s cause = tt
+cause_no_csum a change s cause = absurd cause
+
+-- what is known of its answer says all, since it reads no bytes
+submitted_one : (opening : Objects) (s : State) (client line : ℕ) (change : Change) (a : Answer) (es' : List Entry) → IsNoCsum a
+    → (let e : Entry = record { client = client; line = line; command = ask.Change change; answer = a; acks = s.acked } in
+    es' ≡ s.book.entries ++ e ∷ [] → AnswersAlikeFrom opening es' → AreAnswered opening s.book.entries → AreAnswered opening es')
+submitted_one opening s client line change a es' no_csum same alike are =
+    let e : Entry = record { client = client; line = line; command = ask.Change change; answer = a; acks = s.acked } in
+    subst (AreAnswered opening) (sym same) (answered_push opening s.book.entries e are
+    (alike_last opening s.book.entries e (subst (AnswersAlikeFrom opening) same alike)) no_csum)
+
+-- what a submission leaves
+submit_answers : (opening : Objects) (client line : ℕ) (change : Change) (s s' : State) → AreAnswered opening s.book.entries → KnownOfBook opening s'
+    → Submits client line change s s' → AreAnswered opening s'.book.entries
+submit_answers opening client line change s s' are book (inl does) =
+    submitted_one opening s client line change answer.Accepted s'.book.entries tt (ap (λ (t : State). t.book.entries) does.after) book.answers are
+submit_answers opening client line change s s' are book (inr (inl (a, refuses))) =
+    submitted_one opening s client line change a s'.book.entries (cause_no_csum a change s refuses.cause)
+    (ap (λ (t : State). t.book.entries) refuses.after) book.answers are
+submit_answers opening client line change s s' are book (inr (inr turned)) =
+    subst (λ (t : State). AreAnswered opening t.book.entries) (sym turned.same) are
+
+-- ---- a read
+
+-- of a drained kernel gives what plain objects have
+read_is_plain : (base : ℕ) (opening : Objects) (client line : ℕ) (command : Command) (a : Answer) (s s' : State) (d : Disk) (h : History) → IsKept s d
+    → MayRead command s d → KnownOfStore base opening s d h → IsAnswered client line command a s d s'
+    → a ≡ reply_of command (replay opening (accepted s.book.entries))
+read_is_plain base opening client line command a s s' d h kept may known is =
+    let up : s.down ≡ None = is.can_note.up in
+    seen_answer d h known.units.told (drained_good base opening s d h kept up (may.drained up) known) s.view
+    (replay opening (accepted s.book.entries)) (drained_view base opening s d h kept up (may.drained up) known) command a is.names is.given
+
+-- what a read leaves
+read_answers : (base : ℕ) (opening : Objects) (client line : ℕ) (command : Command) (s s' : State) (d : Disk) → IsKept s d → MayRead command s d
+    → IsDurable base opening s d → AreAnswered opening s.book.entries → Reads client line command s d s' → AreAnswered opening s'.book.entries
+read_answers base opening client line command s s' d kept may durable are (inl (a, is)) =
+    let objects : Objects = replay opening (accepted s.book.entries) in
+    let e : Entry = record { client = client; line = line; command = command; answer = a; acks = s.acked } in
+    let plain : a ≡ reply_of command objects =
+    read_is_plain base opening client line command a s s' d durable.history kept may (durable.up is.can_note.up) is in
+    subst (λ (t : State). AreAnswered opening t.book.entries) (sym is.after)
+    (answered_push opening s.book.entries e are (inl plain) (subst IsNoCsum (sym plain) (reply_no_csum command objects is.names)))
+read_answers base opening client line command s s' d kept may durable are (inr turned) =
+    subst (λ (t : State). AreAnswered opening t.book.entries) (sym turned.same) are
+
+-- ---- each call
+
+pub call_answers : (base : ℕ) (opening : Objects) (call : Call) (s s' : State) (d d' : Disk) → IsKept s d → IsDurable base opening s d
+    → KnownOfBook opening s' → Calls call s d s' d' → AreAnswered opening s'.book.entries
+call_answers base opening call s s' d d' kept durable book' made = of_call call made
+  where
+    are : AreAnswered opening s.book.entries
+    are = record { answers = durable.answers; no_csum = durable.no_csum }
+
+    of_call : (c : Call) → Calls c s d s' d' → AreAnswered opening s'.book.entries
+    of_call (submitting client line change) does = submit_answers opening client line change s s' are book' does.1
+    of_call (reading client line command) does = read_answers base opening client line command s s' d kept does.0 durable are does.1
+    of_call (stepping step) does = subst (AreAnswered opening) (sym (step_room s d s' d' step kept does.0 does.1).entries) are
+
+-- ---- the book of a durable store
+
+pub durable_legal : (base : ℕ) (opening : Objects) (s : State) (d : Disk) → IsDurable base opening s d → IsLegal opening s.book
+durable_legal base opening s d durable =
+    let legal : IsLegalButBytes opening s.book = known_legal opening s durable.book in
+    record {
+      answers = durable.answers;
+      of_accepted = legal.of_accepted;
+      once = legal.once;
+      in_order = legal.in_order;
+      acked_first = legal.acked_first;
+      counts = legal.counts;
+    }
+
+pub durable_sums : (base : ℕ) (opening : Objects) (s : State) (d : Disk) → IsDurable base opening s d
+    → AllByRecursion (λ e. IsNoCsum e.answer) s.book.entries
+durable_sums base opening s d durable = durable.no_csum

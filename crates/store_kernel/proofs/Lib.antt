@@ -6,5 +6,6 @@ pub mod Batches
 pub mod Ending
 pub mod Opening
 pub mod Keeping
+pub mod Reading
 pub mod ZeroDevice
 pub mod NoRecords

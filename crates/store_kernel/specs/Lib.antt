@@ -5,4 +5,5 @@ pub mod Runs
 pub mod Steps
 pub mod Prepared
 pub mod Submitting
+pub mod Reading
 pub mod Known

@@ -12,8 +12,10 @@ ghost use Rattle.crash_facts.specs.Store.{KeepsDurable};
 ghost use Rattle.store_kernel.specs.Seen.{found_of, IsUnused};
 ghost use Rattle.store_kernel.specs.Steps.{TakesMemory};
 
+mod reading;
 mod steps;
 mod submitting;
+mod walking;
 
 use crate::batch::{OpenBatch, flushed, not_sent};
 use crate::pending::{has_done, has_unsent};

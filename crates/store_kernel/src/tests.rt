@@ -4,6 +4,7 @@ ghost use Rattle.block_device.specs.Memory.{disk_of};
 ghost use Rattle.meta_log.specs.Slots.{IsSuper};
 ghost use Rattle.store_image.specs.Owners.{IsDataUnit};
 ghost use Rattle.unit_allocator.specs.Units.{is_free};
+ghost use Rattle.read_facts.specs.Answers.{IsKnownRead};
 ghost use Rattle.store_steps.specs.Ready.{is_ready};
 ghost use Rattle.store_steps.specs.Submit.{IsKnown};
 ghost use Rattle.store_facts.specs.Space.{IsSpaceOf};
@@ -11,10 +12,12 @@ ghost use Rattle.store_facts.specs.Space.{IsSpaceOf};
 use super::*;
 use block_device::{Device, Kind, MemoryDevice};
 use byte_maps::Bytes;
+use crc32c_csum::crc32c;
 use meta_log::Super;
 use meta_rows::RowTable;
 use meta_store::MetaStore;
-use object_model::{Op, Refusal, Transaction};
+use object_model::{Answer, Command, Op, Refusal, Transaction};
+use read_facts::ObjectView;
 use std::alloc::{AllocError, Global};
 use std::test::Fail;
 use store_steps::Step;
@@ -376,5 +379,302 @@ fn two_writes_that_fail(rt: HostRuntime) -> Result<(), Fail> {
         ("down", 7, 0)
     );
     assert!(rt; kernel.drained() && kernel.entries().len() == 2 && !kernel.acked(1));
+    Ok(())
+}
+
+// What of an object, or of a collection, is asked for.
+#[derive(Clone, Copy)]
+enum Asked {
+    Bytes { off: u64, len: u64 },
+    Sum,
+    Size,
+    Names,
+}
+
+// The command that asks for it.
+fn question(alloc: Global, seed: u32, name: u8, asked: Asked) -> Result<Command, Fail>
+    ensures { IfOk result (λ command. IsKnownRead command) }
+{
+    let coll = CollName::new(alloc, 1, seed)?;
+    let object = object(alloc, name)?;
+    Ok(match asked {
+        Asked::Bytes { off, len } => Command::Read {
+            coll,
+            object,
+            off,
+            len,
+        },
+        Asked::Sum => Command::Sum { coll, object },
+        Asked::Size => Command::Stat { coll, object },
+        Asked::Names => Command::List { coll },
+    })
+}
+
+// An answer in a word and two numbers.
+fn in_words(answer: &Answer) -> (&'static str, u64, u64) {
+    match answer {
+        Answer::Bytes(bytes) => {
+            let bytes = bytes.as_slice();
+            let first = bytes.first().copied().unwrap_or(0);
+            ("bytes", bytes.len() as u64, u64::from(first))
+        }
+        Answer::Size(size) => ("size", *size, 0),
+        Answer::Sum { size, crc } => ("sum", *size, u64::from(*crc)),
+        Answer::Names(names) => ("names", names.len() as u64, 0),
+        Answer::Refused(Refusal::NoCollection) => ("no collection", 0, 0),
+        Answer::Refused(Refusal::NoObject) => ("no object", 0, 0),
+        Answer::Refused(Refusal::BadRange) => ("bad range", 0, 0),
+        _ => ("other", 0, 0),
+    }
+}
+
+// The entry of a read: what was answered, and how many commits were acknowledged then.
+fn entry_at(kernel: &Kernel<MemoryDevice>, place: u32) -> ((&'static str, u64, u64), u32) {
+    match kernel.entries().get(place as usize) {
+        Some(entry) if entry.client == 3 && entry.line == 7 => {
+            (in_words(&entry.answer), entry.acks)
+        }
+        _ => (("no entry", 0, 0), 0),
+    }
+}
+
+// Why a read has no answer, with the ticket by which the kernel is down.
+fn without_answer(why: &Unanswered) -> (&'static str, u64, u64) {
+    match why {
+        Unanswered::Down {
+            ticket,
+            back: Command::Stat { .. },
+        } => ("down", ticket.place, 0),
+        Unanswered::Down { .. } => ("another command", 0, 0),
+        Unanswered::BookFull(_) => ("book full", 0, 0),
+        Unanswered::DeviceRead(_) => ("no read", 0, 0),
+        Unanswered::Memory(_) => ("no memory", 0, 0),
+    }
+}
+
+// What a command that reads comes to: its entry of the book, or why there is none.
+fn read(
+    alloc: Global,
+    kernel: &mut Kernel<MemoryDevice>,
+    command: Command,
+) -> Result<((&'static str, u64, u64), u32), Fail>
+    requires { IsKnownRead command }
+{
+    if kernel.down().is_none() && !kernel.drained() {
+        return Err("not idle".into());
+    }
+    Ok(match kernel.ask(alloc, 3, 7, command) {
+        Ok(place) => entry_at(kernel, place),
+        Err(why) => (without_answer(&why), 0),
+    })
+}
+
+// The same, of an object of the first collection.
+fn read_of(
+    alloc: Global,
+    kernel: &mut Kernel<MemoryDevice>,
+    name: u8,
+    asked: Asked,
+) -> Result<((&'static str, u64, u64), u32), Fail> {
+    let command = question(alloc, 0, name, asked)?;
+    read(alloc, kernel, command)
+}
+
+// Submits a transaction, and drains the kernel.
+fn change_whole(
+    alloc: Global,
+    kernel: &mut Kernel<MemoryDevice>,
+    txn: Transaction,
+) -> Result<(), Fail>
+    requires { IsKnown txn.ops }
+{
+    if ask(alloc, kernel, txn)?.0 != "accepted" {
+        return Err("not accepted".into());
+    }
+    let _ = run(alloc, kernel)?;
+    Ok(())
+}
+
+// A kernel with a collection and one page of an object in it.
+fn with_a_page(
+    alloc: Global,
+    units: usize,
+    failing: &[(Kind, u64)],
+) -> Result<Kernel<MemoryDevice>, Fail>
+    requires { units ≤ 512 }
+{
+    let mut kernel = kernel(alloc, units, failing)?;
+    change_whole(alloc, &mut kernel, mkcoll(alloc, 0)?)?;
+    change_whole(alloc, &mut kernel, page(alloc, b'a')?)?;
+    Ok(kernel)
+}
+
+#[test]
+fn reads_see_what_was_accepted(rt: HostRuntime) -> Result<(), Fail> {
+    let alloc = rt.alloc();
+    let mut kernel = with_a_page(alloc, 24, &[])?;
+    let whole = Asked::Bytes { off: 0, len: 12288 };
+    assert_eq!(rt;
+        read_of(alloc, &mut kernel, b'a', whole)?,
+        (("bytes", 4096, 97), 2)
+    );
+    change_whole(alloc, &mut kernel, pages(alloc, b'a', 2, 1)?)?;
+    let crc = u64::from(crc32c(&three_pages(alloc)?));
+    let hole = Asked::Bytes { off: 4096, len: 10 };
+    for (asked, answer) in [
+        (Asked::Size, ("size", 12288, 0)),
+        (whole, ("bytes", 12288, 97)),
+        (hole, ("bytes", 10, 0)),
+        (Asked::Sum, ("sum", 12288, crc)),
+        (Asked::Names, ("names", 1, 0)),
+    ] {
+        assert_eq!(rt; read_of(alloc, &mut kernel, b'a', asked)?, (answer, 3));
+    }
+    assert!(rt; kernel.drained() && kernel.entries().len() == 9 && kernel.commits().len() == 3);
+    Ok(())
+}
+
+// The bytes of pages 0 and 2, with a hole between them.
+fn three_pages(alloc: Global) -> Result<Vec<u8>, Fail> {
+    let mut bytes = vec![in alloc; b'a'; 4096]?;
+    bytes.resize(8192, 0)?;
+    bytes.resize(12288, b'a')?;
+    Ok(bytes)
+}
+
+#[test]
+fn reads_that_are_refused(rt: HostRuntime) -> Result<(), Fail> {
+    let alloc = rt.alloc();
+    let mut kernel = with_a_page(alloc, 20, &[])?;
+    let far = Asked::Bytes {
+        off: 134217728,
+        len: 1,
+    };
+    for (seed, name, asked, answer) in [
+        (1u32, b'a', Asked::Size, "no collection"),
+        (1, b'a', Asked::Names, "no collection"),
+        (0, b'b', Asked::Sum, "no object"),
+        (0, b'b', far, "no object"),
+        (0, b'a', far, "bad range"),
+    ] {
+        let command = question(alloc, seed, name, asked)?;
+        assert_eq!(rt; read(alloc, &mut kernel, command)?, ((answer, 0, 0), 2));
+    }
+    assert!(rt; kernel.drained() && kernel.entries().len() == 7 && kernel.commits().len() == 2);
+    Ok(())
+}
+
+#[test]
+fn a_read_that_fails(rt: HostRuntime) -> Result<(), Fail> {
+    let alloc = rt.alloc();
+    let mut kernel = with_a_page(alloc, 20, &[(Kind::Read, 0)])?;
+    assert_eq!(rt; read_of(alloc, &mut kernel, b'a', Asked::Sum)?.0.0, "no read");
+    assert!(rt; kernel.down().is_none() && kernel.drained() && kernel.entries().len() == 2);
+    assert_eq!(rt; read_of(alloc, &mut kernel, b'a', Asked::Sum)?.0.0, "sum");
+    assert!(rt; kernel.entries().len() == 3);
+    change_whole(alloc, &mut kernel, page(alloc, b'b')?)?;
+    assert_eq!(rt;
+        read_of(alloc, &mut kernel, b'b', Asked::Size)?,
+        (("size", 4096, 0), 3)
+    );
+    Ok(())
+}
+
+#[test]
+fn no_read_while_down(rt: HostRuntime) -> Result<(), Fail> {
+    let alloc = rt.alloc();
+    let mut kernel = kernel(alloc, 20, &[(Kind::Flush, 0)])?;
+    assert_eq!(rt;
+        ask(alloc, &mut kernel, mkcoll(alloc, 0)?)?,
+        ("accepted", 0, 0)
+    );
+    let _ = run(alloc, &mut kernel)?;
+    assert_eq!(rt;
+        read_of(alloc, &mut kernel, b'a', Asked::Size)?,
+        (("down", 0, 0), 0)
+    );
+    assert!(rt; kernel.entries().len() == 1);
+    assert!(rt;
+        matches!(
+            kernel.next_collection(alloc, None),
+            Err(WalkFail::Down { .. })
+        )
+    );
+    Ok(())
+}
+
+// The next object of a collection behind another one.
+fn object_behind(
+    alloc: Global,
+    kernel: &mut Kernel<MemoryDevice>,
+    coll: &CollName,
+    after: Option<&Name>,
+) -> Result<Option<ObjectView>, Fail> {
+    if kernel.down().is_none() && !kernel.drained() {
+        return Err("not idle".into());
+    }
+    match kernel.next_object(alloc, coll, after) {
+        Ok(found) => Ok(found),
+        Err(WalkFail::DeviceRead) => Err("no read".into()),
+        Err(_) => Err("no walk".into()),
+    }
+}
+
+// Adds the first bytes of the names of a collection's objects, and how many pages each one has.
+fn walk_objects(
+    alloc: Global,
+    kernel: &mut Kernel<MemoryDevice>,
+    coll: &CollName,
+    shown: &mut Vec<(u8, u64)>,
+) -> Result<(), Fail> {
+    let mut after: Option<Name> = None;
+    for _ in 0..4u32 {
+        let Some(view) = object_behind(alloc, kernel, coll, after.as_ref())? else {
+            break;
+        };
+        if view.sum.is_err() {
+            return Err("a bad unit".into());
+        }
+        let first = view.name.as_slice().first().copied().unwrap_or(0);
+        shown.push((first, view.size / 4096))?;
+        after = Some(view.name);
+    }
+    Ok(())
+}
+
+// The same of all collections. Each begins with the last digit of its number.
+fn walk(alloc: Global, kernel: &mut Kernel<MemoryDevice>) -> Result<Vec<(u8, u64)>, Fail> {
+    let mut shown = Vec::new(alloc);
+    let mut after: Option<CollName> = None;
+    for _ in 0..4u32 {
+        let Ok(found) = kernel.next_collection(alloc, after.as_ref()) else {
+            return Err("no walk".into());
+        };
+        let Some(coll) = found else {
+            break;
+        };
+        shown.push((coll.as_slice().get(2).copied().unwrap_or(0), 0))?;
+        walk_objects(alloc, kernel, &coll, &mut shown)?;
+        after = Some(coll);
+    }
+    Ok(shown)
+}
+
+#[test]
+fn a_walk(rt: HostRuntime) -> Result<(), Fail> {
+    let alloc = rt.alloc();
+    let mut kernel = kernel(alloc, 30, &[])?;
+    for seed in [5u32, 0] {
+        change_whole(alloc, &mut kernel, mkcoll(alloc, seed)?)?;
+    }
+    for (name, count) in [(b'c', 1u16), (b'a', 0), (b'b', 2)] {
+        let txn = change(alloc, name, 0, count)?;
+        change_whole(alloc, &mut kernel, txn)?;
+    }
+    assert_eq!(rt;
+        walk(alloc, &mut kernel)?.as_slice(),
+        [(b'0', 0), (b'a', 0), (b'b', 2), (b'c', 1), (b'5', 0)].as_slice()
+    );
+    assert!(rt; kernel.entries().len() == 5);
     Ok(())
 }

@@ -1,0 +1,8 @@
+use Rattle.store_kernel.proofs.Reading.{readable}
+use Rattle.store_kernel.proofs.kernel.Kernel.answered.Goals as goal
+
+pub answer-requires-clause-readable : goal.answer-requires-clause-readable
+answer-requires-clause-readable g c =
+    let may = rw (← c.self.view_is) at c.requires.may in
+    let can = rw (← c.self.view_is) at c.requires.can_note in
+    readable _ _ c.self.invariant.kept can.up (may.drained can.up)

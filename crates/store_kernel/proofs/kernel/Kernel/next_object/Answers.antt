@@ -1,0 +1,9 @@
+use Rattle.std.proofs.Common.{◌≡◌, None, rules}
+use Rattle.store_kernel.proofs.Reading.{readable}
+use Rattle.store_kernel.proofs.kernel.Kernel.next_object.Goals as goal
+
+pub next_object-requires : goal.next_object-requires
+next_object-requires g c =
+    let drained = rw (← c.self.view_is) at c.requires in
+    let up : c.self.inside.down ≡ None = search rules in
+    record { readable = readable _ _ c.self.invariant.kept up (drained up) }

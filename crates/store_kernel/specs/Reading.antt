@@ -1,0 +1,26 @@
+-- What comes of a read that isn't answered.
+use Rattle.std.specs.Prelude.{◌≡◌}
+use Rattle.object_model.specs.declared.command.Command.{Command}
+use Rattle.store_steps.specs.State.{State}
+use Rattle.store_steps.specs.Submit.{IsDownBy, IsBookFull}
+use Rattle.store_kernel.specs.declared.unanswered.Unanswered.{Unanswered}
+use Rattle.store_kernel.specs.declared.unanswered.Unanswered.TheVariants as why
+use Rattle.store_kernel.specs.declared.unanswered.WalkFail.{WalkFail}
+use Rattle.store_kernel.specs.declared.unanswered.WalkFail.TheVariants as walk
+
+-- Nothing changes, and the command comes back: the kernel is down, its book is full, or the device or memory failed.
+abbrev pub UnansweredBy : Unanswered → Command → State → State → Type 0
+UnansweredBy (why.Down ticket back) command s s' = IsDownBy ticket s × (s' ≡ s) × (back ≡ command)
+UnansweredBy (why.BookFull back) command s s' = IsBookFull s × (s' ≡ s) × (back ≡ command)
+UnansweredBy (why.DeviceRead back) command s s' = (s' ≡ s) × (back ≡ command)
+UnansweredBy (why.Memory back) command s s' = (s' ≡ s) × (back ≡ command)
+
+abbrev pub IsDeviceRead : Unanswered → Type 0
+IsDeviceRead (why.DeviceRead back) = Unit {0}
+IsDeviceRead other = ⊥
+
+-- a walk that says that the kernel is down is right
+abbrev pub IsDownFail : WalkFail → State → Type 0
+IsDownFail (walk.Down ticket) s = IsDownBy ticket s
+IsDownFail walk.DeviceRead s = Unit {0}
+IsDownFail walk.Memory s = Unit {0}

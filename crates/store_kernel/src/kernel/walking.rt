@@ -1,0 +1,66 @@
+//! Walks over all collections and objects. They change nothing, and make no entry of the book.
+ghost use Rattle.std.specs.Prelude.{◌≡◌, ◌≤◌, None, true, IfOk, IfErr, IsErrOf, MatchOption};
+ghost use Rattle.std.specs.Option.{option_copied};
+ghost use Rattle.block_device.specs.Disk.{Rose};
+ghost use Rattle.read_facts.specs.Walks.{IsCollection, IsObject, IsNextOf, IsPast};
+ghost use Rattle.object_reader.specs.Readable.{IsNextView};
+ghost use Rattle.store_steps.specs.Ready.{is_drained};
+ghost use Rattle.store_kernel.specs.Reading.{IsDownFail};
+
+use super::Kernel;
+use crate::unanswered::WalkFail;
+use block_device::Device;
+use object_reader::{ReadFail, next_collection, next_object};
+use read_facts::ObjectView;
+use std::alloc::Global;
+use unit_fields::{CollName, Name};
+
+impl<D: Device> Kernel<D> {
+    /// The collection that comes next behind another one in byte order, or the first one, after all transactions that were accepted. None:
+    /// there is none behind it. It makes no entry of the book, and reads nothing of the device.
+    pub fn next_collection(
+        &self,
+        alloc: Global,
+        after: Option<&CollName>,
+    ) -> Result<Option<CollName>, WalkFail>
+        ensures ok { IfOk result (λ found. MatchOption found (IsPast (IsCollection self.now.state.view) (option_copied after.entry))
+            (IsNextOf (IsCollection self.now.state.view) (option_copied after.entry))) }
+        ensures fail { IfErr result (λ why. IsDownFail why self.now.state) }
+        ensures unread { ¬ IsErrOf result WalkFail.DeviceRead }
+    {
+        if let Some(ticket) = self.down {
+            return Err(WalkFail::Down { ticket });
+        }
+        match next_collection(alloc, &self.view, after) {
+            Ok(found) => Ok(found),
+            Err(_) => Err(WalkFail::Memory),
+        }
+    }
+
+    /// The object of a collection that comes next behind another one in byte order, or the first one, with its size and the checksum of its
+    /// bytes, or its first bad unit. None: there is none behind it, or no such collection. It makes no entry of the book.
+    pub fn next_object(
+        &mut self,
+        alloc: Global,
+        coll: &CollName,
+        after: Option<&Name>,
+    ) -> Result<Option<ObjectView>, WalkFail>
+        requires { (self.old.state.down ≡ None) → is_drained (D.disk self.old.device).depth self.old.state ≡ true }
+        ensures ok { IfOk result (λ found. MatchOption found (IsPast (IsObject self.old.state.view coll.now) (option_copied after.entry))
+            (IsNextView (D.disk self.old.device) self.old.state.view coll.now (option_copied after.entry))) }
+        ensures fail { IfErr result (λ why. IsDownFail why self.old.state) }
+        ensures same { self.new.state ≡ self.old.state }
+        ensures disk { D.disk self.new.device ≡ D.disk self.old.device }
+        ensures later { D.faults self.old.device ≤ D.faults self.new.device }
+        ensures cause { IsErrOf result WalkFail.DeviceRead → Rose (D.faults self.old.device) (D.faults self.new.device) }
+    {
+        if let Some(ticket) = self.down {
+            return Err(WalkFail::Down { ticket });
+        }
+        match next_object(alloc, &mut self.device, &self.view, coll, after) {
+            Ok(found) => Ok(found),
+            Err(ReadFail::Memory) => Err(WalkFail::Memory),
+            Err(ReadFail::Fault) => Err(WalkFail::DeviceRead),
+        }
+    }
+}

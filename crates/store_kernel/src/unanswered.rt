@@ -1,0 +1,28 @@
+//! Why a read has no answer.
+
+use block_device::Ticket;
+use object_model::Command;
+
+/// Why a read was not answered. Nothing was noted, and the command comes back.
+#[derive(Drop)]
+pub enum Unanswered {
+    /// The kernel is down, since the submission with this ticket ended badly.
+    Down { ticket: Ticket, back: Command },
+    /// The book has as many entries as it may have.
+    BookFull(Command),
+    /// The device failed at a read, and has counted it.
+    DeviceRead(Command),
+    /// Memory ran out.
+    Memory(Command),
+}
+
+/// Why a walk can't go on.
+#[derive(Clone, Copy, Debug, PartialEq, Eq)]
+pub enum WalkFail {
+    /// The kernel is down, since the submission with this ticket ended badly.
+    Down { ticket: Ticket },
+    /// The device failed at a read, and has counted it.
+    DeviceRead,
+    /// Memory ran out.
+    Memory,
+}

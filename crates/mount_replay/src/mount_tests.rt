@@ -8,7 +8,7 @@ use block_device::{Device, Kind, MemoryDevice};
 use byte_maps::Bytes;
 use meta_log::{SealedRecord, Super};
 use meta_rows::RowOp;
-use object_model::{Op, Transaction};
+use object_model::{Answer, Command, Op, Transaction};
 use std::alloc::Global;
 use std::test::Fail;
 use store_kernel::Kernel;
@@ -496,5 +496,50 @@ fn two_objects_on_one_unit(rt: HostRuntime) -> Result<(), Fail> {
     // Nobody owns it when the store is mounted again.
     let (_device, counts) = visit(alloc, device, b"", 1)?;
     assert_eq!(rt; counts.as_slice(), [44].as_slice());
+    Ok(())
+}
+
+// Asks for the checksum of an object.
+fn ask_sum(alloc: Global, kernel: &mut Kernel<MemoryDevice>, name: u8) -> Result<u32, Fail> {
+    if !kernel.drained() {
+        return Err("not idle".into());
+    }
+    let coll = CollName::new(alloc, 1, 0)?;
+    let Some(object) = Name::read(alloc, [name].as_slice())? else {
+        return Err("no name".into());
+    };
+    match kernel.ask(alloc, 0, 1, Command::Sum { coll, object }) {
+        Ok(place) => Ok(place),
+        Err(_) => Err("no answer".into()),
+    }
+}
+
+// The unit that an answer names as bad, the checksum that is kept for it, and that of what it holds.
+fn bad_unit(answer: &Answer) -> Option<(u32, u32, u32)> {
+    match answer {
+        Answer::Csum { unit, kept, found } => Some((unit.number(), *kept, *found)),
+        _ => None,
+    }
+}
+
+// The row keeps the checksum "cccc" for the object's page, and the unit holds zeros.
+#[test]
+fn a_unit_of_other_bytes(rt: HostRuntime) -> Result<(), Fail> {
+    let alloc = rt.alloc();
+    let front = store_of(alloc, ONE_PAGE)?;
+    let device = device(alloc, &front, 0, 64, None)?;
+    let Ok(mut kernel) = mount(alloc, device) else {
+        return Err("not mounted".into());
+    };
+    let place = ask_sum(alloc, &mut kernel, b'a');
+    let (_device, book) = unmount(alloc, kernel);
+    assert_eq!(rt; place?, 0);
+    let Some(entry) = book.entries.as_slice().first() else {
+        return Err("no entry".into());
+    };
+    assert_eq!(rt;
+        bad_unit(&entry.answer),
+        Some((18, 0x6363_6363, 0x98f9_4189))
+    );
     Ok(())
 }

@@ -42,7 +42,9 @@ module _ (sup : Super) (before rows : Rows) (space : Space) (is : IsSpaceOf sup 
           let on : IsDataUnit sup unit = data_of unit free.within in
           let exactly = (exact unit on).0 free.free in
           (on, exactly.1, (held unit on).0 exactly.0),
-      λ unowned. (free_is_listed space unit (within_of unit unowned.0)).0 ((exact unit unowned.0).1 ((held unit unowned.0).1 unowned.2, unowned.1, unowned.1)),
+      λ unowned.
+          let free = (exact unit unowned.0).1 ((held unit unowned.0).1 unowned.2, unowned.1, unowned.1) in
+          (free_is_listed space unit (within_of unit unowned.0)).0 free,
     );
   }
 

@@ -1,14 +1,12 @@
 -- A start that nothing stands against ends well, or for want of memory.
-use Rattle.std.proofs.Common.{◌≡◌, ◌⊎◌, inl, inr, ℕ, ◌+◌, ◌<◌, ◌≤◌, ◌^◌, ◌%◌, List, [], length, Option, Some, None, is_some, true, get_or, refl, sym, ap, subst, ◌∙◌, arith}
+use Rattle.std.proofs.Common.{◌≡◌, ◌⊎◌, inl, inr, ℕ, ◌+◌, ◌<◌, ◌%◌, List, [], length, Option, Some, Bool, false, refl, sym, ap, subst, ◌∙◌, arith}
 use Rattle.std.specs.Prelude.{IfSome, Any}
 use Rattle.std.specs.FinMap as finite
 use Rattle.std.proofs.lemmas.Option.{same_Some}
 use Rattle.block_device.specs.Log.{last, IsClean}
 use Rattle.block_device.specs.Disk.{Disk, History, Rose}
-use Rattle.block_device.specs.declared.event.Event.{Event}
 use Rattle.end_points.specs.Bay.{Names, BayView, StartsWith, start_of}
 use Rattle.end_points.specs.declared.bay.How.TheVariants.{Plain}
-use Rattle.meta_rows.specs.Rows.{Rows}
 use Rattle.meta_rows.specs.declared.row_op.RowOp.{RowOp}
 use Rattle.meta_log.specs.declared.slot.Super.{Super}
 use Rattle.meta_log.specs.Records.{AreRowsOf, AreRecords, active_half}
@@ -17,20 +15,20 @@ use Rattle.meta_log.proofs.SlotLemmas.{same_active}
 use Rattle.object_model.specs.declared.book.Book.{Book}
 use Rattle.script_text.specs.Script.{IsBadAt}
 use Rattle.script_text.proofs.Scripts.{script_has_no_bad}
-use Rattle.store_image.specs.Stands.{StandsFor}
 use Rattle.store_image.specs.BadRows.{NoBadRow}
 use Rattle.store_image.proofs.OneObjects.{same_rows}
 use Rattle.store_steps.specs.Opened.{Found}
 use Rattle.mount_replay.specs.Opening.{IsAbout, IsFoundIn, IsUnopenable}
-use Rattle.mount_replay.specs.declared.opening.MountFail.{MountFail}
 use Rattle.mount_replay.specs.declared.opening.MountFail.TheVariants as fail
-use Rattle.bstore_top.specs.declared.step_end.StepEnd.{StepEnd}
-use Rattle.bstore_top.specs.declared.step_end.StepEnd.TheVariants.{Done, BadLine, NoSuper, BadRow, WornOut, DeviceFault, OutOfMemory, BayFault}
+use Rattle.bstore_top.specs.declared.work_end.WorkEnd.{WorkEnd}
+use Rattle.bstore_top.specs.declared.work_end.WorkEnd.TheVariants.{Done, BadLine, NoSuper, BadRow, WornOut, DeviceFault, OutOfMemory, BayFault}
 use Rattle.bstore_top.specs.Choice.{Position}
-use Rattle.bstore_top.specs.GoodStart.{IsGoodStart, HasNoFault}
-use Rattle.bstore_top.specs.Printed.{Output}
-use Rattle.bstore_top.specs.StepTexts.{step_number}
-use Rattle.bstore_top.specs.StepRun.{HasBadLine, EndsAt, Seen, FailsBefore, FailsToMount, HasCounted, WorksOn, EndsOpened, IsStepDone, ReportsStep, RanStep}
+use Rattle.bstore_top.specs.GoodStart.{HasGoodStore, IsGoodStart, HasNoFault}
+use Rattle.bstore_top.specs.Printed.{Output, Printed}
+use Rattle.bstore_top.specs.Replies.{has_csum}
+use Rattle.bstore_top.specs.Reports.{PrintedNoText}
+use Rattle.bstore_top.specs.StepTexts.{end_status, step_number, step_text}
+use Rattle.bstore_top.specs.StepRun.{EndsAt, Seen, FailsBefore, FailsToMount, HasCounted, EndsOpened, IsStepDone, RanStep}
 use Rattle.bstore_top.proofs.RunLaws.{clean_of_none}
 
 -- ---- what is found in contents is one
@@ -56,7 +54,11 @@ module _ (contents : List ℕ) (f g : Found) (p : IsFoundIn contents f) (q : IsF
 
 -- ---- a mount that finds this doesn't refuse it
 
-module _ (dev script : List ℕ) (bay : BayView) (start : IsGoodStart dev script bay) where
+-- the status of a run that met no bad unit says that all was done, or that memory ran out
+abbrev pub EndsInOrder : WorkEnd → Type 0
+EndsInOrder end = (end_status false end ≡ 0) ⊎ (end_status false end ≡ 5)
+
+module _ (dev : List ℕ) (names : Names) (start : HasGoodStore names dev) where
   abbrev found : Found
   found = start.found
 
@@ -92,20 +94,22 @@ module _ (dev script : List ℕ) (bay : BayView) (start : IsGoodStart dev script
       ]
 
   -- the device that the bay hands out tells these contents
-  about_start : (P : List ℕ → Type 0) (given : Disk) → IfSome bay.names (λ n. StartsWith given (start_of n dev Plain)) → IsAbout given P → P start.contents
-  about_start P given begins about =
-      let told : StartsWith given (start_of start.names dev Plain) =
-      subst (λ (o : Option Names). IfSome o (λ n. StartsWith given (start_of n dev Plain))) start.told begins in
-      let history : given.history ≡ Some (record { start = start.contents; log = [] }) = subst (StartsWith given) start.under_dev told in
-      (subst (λ (o : Option History). IfSome o (λ h. ((unit : ℕ) → IsClean h.log unit) → P (last h.start h.log))) history about) (clean_of_none [] refl)
+  pub told_start : (bay : BayView) (given : Disk) → bay.names ≡ Some names → IfSome bay.names (λ n. StartsWith given (start_of n dev Plain))
+      → given.history ≡ Some (record { start = start.contents; log = [] })
+  told_start bay given told begins =
+      let begun : StartsWith given (start_of names dev Plain) =
+      subst (λ (o : Option Names). IfSome o (λ n. StartsWith given (start_of n dev Plain))) told begins in
+      subst (StartsWith given) start.under_dev begun
+
+  -- so what a mount says of what it finds is of these
+  about_start : (P : List ℕ → Type 0) (given : Disk) → given.history ≡ Some (record { start = start.contents; log = [] }) → IsAbout given P
+      → P start.contents
+  about_start P given told about =
+      (subst (λ (o : Option History). IfSome o (λ h. ((unit : ℕ) → IsClean h.log unit) → P (last h.start h.log))) told about) (clean_of_none [] refl)
 
   -- ---- the end
 
-  -- all was done, or memory ran out
-  abbrev EndsInOrder : StepEnd → Type 0
-  EndsInOrder end = (step_number end ≡ 0) ⊎ (step_number end ≡ 5)
-
-  unmounted_ends : (end : StepEnd) (given : Disk) (now : ℕ) → now ≡ 0 → IfSome bay.names (λ n. StartsWith given (start_of n dev Plain))
+  pub unmounted_ends : (end : WorkEnd) (given : Disk) (now : ℕ) → now ≡ 0 → given.history ≡ Some (record { start = start.contents; log = [] })
       → FailsToMount end given 0 now → EndsInOrder end
   unmounted_ends (Done free) given now none begins fails = absurd fails
   unmounted_ends (BadLine n) given now none begins fails = absurd fails
@@ -118,17 +122,20 @@ module _ (dev script : List ℕ) (bay : BayView) (start : IsGoodStart dev script
   unmounted_ends OutOfMemory given now none begins fails = inr refl
   unmounted_ends BayFault given now none begins fails = absurd fails
 
-  ran_ends : (end : StepEnd) (p : Position) (now : ℕ) → now ≡ 0 → HasCounted end 0 now → EndsAt end p → EndsInOrder end
-  ran_ends (Done free) p now none counted ended = inl refl
-  ran_ends (BadLine n) p now none counted ended = absurd ended
-  ran_ends NoSuper p now none counted ended = absurd ended
-  ran_ends (BadRow key) p now none counted ended = absurd ended
-  ran_ends WornOut p now none counted ended = absurd ended
-  ran_ends DeviceFault p now none counted ended = absurd (omega (arith, counted, none))
-  ran_ends OutOfMemory p now none counted ended = inr refl
-  ran_ends BayFault p now none counted ended = absurd ended
+-- ---- a run of a script
 
-  unopened_ends : (end : StepEnd) (sources : List ℕ) (before now : ℕ) → ¬ Any (λ n. 0 < n) sources → ¬ Rose before now
+ran_ends : (end : WorkEnd) (p : Position) (now : ℕ) → now ≡ 0 → HasCounted end 0 now → EndsAt end p → EndsInOrder end
+ran_ends (Done free) p now none counted ended = inl refl
+ran_ends (BadLine n) p now none counted ended = absurd ended
+ran_ends NoSuper p now none counted ended = absurd ended
+ran_ends (BadRow key) p now none counted ended = absurd ended
+ran_ends WornOut p now none counted ended = absurd ended
+ran_ends DeviceFault p now none counted ended = absurd (omega (arith, counted, none))
+ran_ends OutOfMemory p now none counted ended = inr refl
+ran_ends BayFault p now none counted ended = absurd ended
+
+module _ (dev script : List ℕ) (bay : BayView) (start : IsGoodStart dev script bay) where
+  unopened_ends : (end : WorkEnd) (sources : List ℕ) (before now : ℕ) → ¬ Any (λ n. 0 < n) sources → ¬ Rose before now
       → FailsBefore end bay.names script sources before now → EndsInOrder end
   unopened_ends (Done free) sources before now none same fails = absurd fails
   unopened_ends (BadLine n) sources before now none same fails =
@@ -144,28 +151,51 @@ module _ (dev script : List ℕ) (bay : BayView) (start : IsGoodStart dev script
   unopened_ends BayFault sources before now none same (inl rose) = absurd (none rose)
   unopened_ends BayFault sources before now none same (inr rose) = absurd (same rose.0)
 
-  course_ends : (seed : ℕ) (end : StepEnd) (seen : Seen) (bay_new : BayView) (before now : ℕ) (old new : Output) → HasNoFault seen before now old new
-      → IsStepDone dev script seed end seen bay bay_new before now → EndsInOrder end
-  course_ends seed end seen bay_new before now old new none (inl e) = unopened_ends end seen.source_faults before now none.sources none.bay e.cause
-  course_ends seed end seen bay_new before now old new none (inr e) = elim e.works [
-    | inl failed ↦ unmounted_ends end e.given e.faults no_fault e.handed_out.contents failed.0
-    | inr ran ↦ ran_ends end ran.1.last e.faults no_fault ran.0 ran.1.ended
-  ]
-    where
-      no_fault : e.faults ≡ 0
-      no_fault = subst (λ (o : Option ℕ). IfSome o (λ n. n ≡ 0)) e.are_faults none.device
+  module _ (seed : ℕ) (end : WorkEnd) (seen : Seen) (bay_new : BayView) (before now : ℕ) (old new : Output)
+      (none : HasNoFault seen before now old new) where
+    opened_ends : (e : EndsOpened dev script seed end seen bay bay_new) → EndsInOrder end
+    opened_ends e = elim e.works [
+      | inl failed ↦ unmounted_ends dev start.names start.store end e.given e.faults no_fault told failed.0
+      | inr ran ↦ ran_ends end ran.1.last e.faults no_fault ran.0 ran.1.ended
+    ]
+      where
+        no_fault : e.faults ≡ 0
+        no_fault = subst (λ (o : Option ℕ). IfSome o (λ n. n ≡ 0)) e.are_faults none.device
 
-reported : (book : Book) (end : StepEnd) (status : ℕ) (old new : Output) → ¬ Rose old.faults new.faults
-    → (step_number end ≡ 0) ⊎ (step_number end ≡ 5) → ReportsStep book end status old new → (status ≡ 0) ⊎ (status ≡ 5)
-reported book end status old new none (inl zero) (inl (inl whole)) = inl (whole.0 ∙ zero)
-reported book end status old new none (inr five) (inl (inl whole)) = inr (whole.0 ∙ five)
-reported book end status old new none ends (inl (inr front)) = absurd (none front.1.rose)
-reported book end status old new none ends (inr (inl whole)) = inr whole.0
-reported book end status old new none ends (inr (inr front)) = absurd (none front.1.rose)
+        told : e.given.history ≡ Some (record { start = start.store.contents; log = [] })
+        told = told_start dev start.names start.store bay e.given start.told e.handed_out.contents
+
+    -- no reply names a bad unit, and the end is in order
+    course_ends : IsStepDone dev script seed end seen bay bay_new before now → (has_csum seen.book.entries ≡ false) × EndsInOrder end
+    course_ends (inl e) = (
+      ap (λ (b : Book). has_csum b.entries) e.no_book,
+      unopened_ends end seen.source_faults before now none.sources none.bay e.cause,
+    )
+    course_ends (inr e) = (
+      e.keeps.no_csum (record { start = start.store.contents; log = [] }) start.store.objects
+          (told_start dev start.names start.store bay e.given start.told e.handed_out.contents) start.store.stands,
+      opened_ends e,
+    )
+
+-- ---- what was printed
+
+-- the status is that of the end, or memory ran out for the text
+pub reported : (end : ℕ) (text : List ℕ) (status : ℕ) (old new : Output) → ¬ Rose old.faults new.faults → (end ≡ 0) ⊎ (end ≡ 5)
+    → Printed end text status old new ⊎ PrintedNoText status old new → (status ≡ 0) ⊎ (status ≡ 5)
+reported end text status old new none (inl zero) (inl (inl whole)) = inl (whole.0 ∙ zero)
+reported end text status old new none (inr five) (inl (inl whole)) = inr (whole.0 ∙ five)
+reported end text status old new none ends (inl (inr front)) = absurd (none front.1.rose)
+reported end text status old new none ends (inr (inl whole)) = inr whole.0
+reported end text status old new none ends (inr (inr front)) = absurd (none front.1.rose)
+
+-- the end of a run that met no bad unit
+pub in_order : (bad : Bool) (end : WorkEnd) → bad ≡ false → EndsInOrder end → (end_status bad end ≡ 0) ⊎ (end_status bad end ≡ 5)
+in_order bad end none ends = subst (λ (b : Bool). (end_status b end ≡ 0) ⊎ (end_status b end ≡ 5)) (sym none) ends
 
 pub good_start : (dev script : List ℕ) (seed status : ℕ) (seen : Seen) (bay_old bay_new : BayView) (before now : ℕ) (old new : Output)
     → RanStep dev script seed status seen bay_old bay_new before now old new → IsGoodStart dev script bay_old → HasNoFault seen before now old new
     → (status ≡ 0) ⊎ (status ≡ 5)
 good_start dev script seed status seen bay_old bay_new before now old new ran start none =
-    reported seen.book ran.end status old new none.sink
-    (course_ends dev script bay_old start seed ran.end seen bay_new before now old new none ran.course) ran.printed
+    let course = course_ends dev script bay_old start seed ran.end seen bay_new before now old new none ran.course in
+    reported (step_number seen.book ran.end) (step_text seen.book ran.end) status old new none.sink
+    (in_order (has_csum seen.book.entries) ran.end course.0 course.1) ran.printed

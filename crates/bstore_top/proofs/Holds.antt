@@ -1,5 +1,5 @@
 -- No call holds a unit, or gives up a hold: those that the mount has held stay so.
-use Rattle.std.proofs.Common.{◌≡◌, inl, inr, ℕ, Bool, true, false, cond, is_some, List, [], ◌∷◌, map, Option, Some, None, refl, sym, ap, subst, ◌∙◌}
+use Rattle.std.proofs.Common.{◌≡◌, inl, inr, ℕ, Bool, true, false, cond, is_some, List, [], ◌∷◌, map, Option, Some, None, refl, sym, subst, ◌∙◌}
 use Rattle.block_device.specs.Disk.{Disk}
 use Rattle.block_device.specs.declared.device.Ticket.{Ticket}
 use Rattle.unit_allocator.specs.Units.{holds_of}
@@ -11,7 +11,7 @@ use Rattle.store_steps.specs.declared.step.Step.TheVariants.{Data, Reap, Take, F
 use Rattle.store_steps.specs.State.{State}
 use Rattle.store_steps.specs.Contexts.{batch_released}
 use Rattle.store_steps.specs.Changes.{landed, after_done, after_good, flying_of}
-use Rattle.store_steps.specs.Runs.{Call, submitting, stepping, DoesOrFails, Calls, IsRun}
+use Rattle.store_steps.specs.Runs.{Call, submitting, reading, stepping, DoesOrFails, Calls, IsRun}
 use Rattle.store_facts.proofs.SpaceUnits.{holds_taken, holds_given}
 
 -- the super is the same, and each unit has as many holds
@@ -43,7 +43,8 @@ good_holds (Some f) s = done_holds f.job s
 landed_holds : (ticket : Ticket) (down : Bool) (f : Option Flying) (s : State)
     → SameHolds s (cond down (landed ticket s) (after_good f (landed ticket s)))
 landed_holds ticket true f s = record { sup = refl; holds = λ unit. refl }
-landed_holds ticket false f s = then s (landed ticket s) (after_good f (landed ticket s)) (record { sup = refl; holds = λ unit. refl }) (good_holds f (landed ticket s))
+landed_holds ticket false f s = then s (landed ticket s) (after_good f (landed ticket s)) (record { sup = refl; holds = λ unit. refl })
+    (good_holds f (landed ticket s))
 
 step_holds : (step : Step) (s : State) (d : Disk) (s' : State) (d' : Disk) → DoesOrFails step s d s' d' → SameHolds s s'
 step_holds Data s d s' d' does = along s _ s' does.after (record { sup = refl; holds = λ unit. refl })
@@ -66,6 +67,10 @@ call_holds (submitting client line change) s d s' d' made = elim made.1 [
   | inl accepted ↦ along s _ s' accepted.after (record { sup = refl; holds = holds_taken (map (λ f. f.unit) accepted.plan.fresh) s.space })
   | inr (inl refused) ↦ along s _ s' refused.1.after (record { sup = refl; holds = λ unit. refl })
   | inr (inr away) ↦ along s s s' away.same (same_holds s)
+]
+call_holds (reading client line command) s d s' d' made = elim made.1 [
+  | inl answered ↦ along s _ s' answered.1.after (record { sup = refl; holds = λ unit. refl })
+  | inr away ↦ along s s s' away.same (same_holds s)
 ]
 call_holds (stepping step) s d s' d' made = step_holds step s d s' d' made.1
 

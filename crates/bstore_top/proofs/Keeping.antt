@@ -1,9 +1,9 @@
 -- What a run leaves of its store: the facts on the kernel's runs, in the words of the whole run.
-use Rattle.std.proofs.Common.{◌≡◌, ℕ, List, [], length, Option, Some, None, refl, sym, ap, subst, ◌∙◌, inl, inr}
+use Rattle.std.proofs.Common.{◌≡◌, ℕ, List, [], length, Option, Some, None, refl, sym, ap, subst, inl, inr}
 use Rattle.std.specs.Prelude.{IfSome}
 use Rattle.std.specs.FinMap as finite
 use Rattle.block_device.specs.Log.{last}
-use Rattle.block_device.specs.Disk.{Disk, History, IsFresh}
+use Rattle.block_device.specs.Disk.{Disk, IsFresh}
 use Rattle.block_device.specs.declared.event.Event.{Event}
 use Rattle.end_points.specs.Bay.{BayView, Names, StartsWith}
 use Rattle.object_model.specs.Book.{IsLegal}
@@ -12,34 +12,38 @@ use Rattle.object_model.specs.declared.book.Book.{Book}
 use Rattle.object_model.proofs.Books.{IsLegal-empty}
 use Rattle.store_image.specs.Stands.{StandsFor}
 use Rattle.store_image.specs.Durability.{EachCutStands}
-use Rattle.mount_replay.specs.Calls.{Told, GoesOn, IsLater}
+use Rattle.mount_replay.specs.Calls.{IsLater}
 use Rattle.crash_facts.specs.Store.{IsDurable}
 use Rattle.mount_replay.specs.Opening.{FailsMount}
 use Rattle.mount_replay.specs.Mounting as mounting
 use Rattle.mount_replay.specs.declared.opening.MountFail.{MountFail}
 use Rattle.script_text.specs.declared.line.Line.{Line}
 use Rattle.bstore_top.specs.declared.command_line.CommandLine.TheVariants.{Step}
-use Rattle.bstore_top.specs.declared.step_end.StepEnd.{StepEnd}
+use Rattle.bstore_top.specs.declared.work_end.WorkEnd.{WorkEnd}
+use Rattle.bstore_top.specs.Replies.{has_csum}
 use Rattle.bstore_top.specs.Keeping.{IsDurableFrom, StaysDurable, KeepsStore}
 use Rattle.bstore_top.specs.Run.{EachCrashLeavesPrefix}
 use Rattle.bstore_top.specs.StepRun.{Seen, FailsToMount, EndsOpened, IsStepDone, empty_book, end_of_mount}
 use Rattle.bstore_top.proofs.WorkLemmas.{mount_fails}
-use Rattle.bstore_top.proofs.RunLaws.{log_empty, clean_of_none, same_start, RanKept, script_legal, script_durable, script_finished, script_complete}
+use Rattle.bstore_top.proofs.RunLaws.{log_empty, clean_of_none, same_start, RanKept, script_legal, script_no_csum, script_durable, script_finished}
+use Rattle.bstore_top.proofs.RunLaws.{script_complete}
 
 -- why nothing was mounted, as the end of the run
-pub mount_failed : (why : MountFail) (end : StepEnd) (given : Disk) (before now : ℕ) → end ≡ end_of_mount why → FailsMount why given before now
+pub mount_failed : (why : MountFail) (end : WorkEnd) (given : Disk) (before now : ℕ) → end ≡ end_of_mount why → FailsMount why given before now
     → FailsToMount end given before now
-mount_failed why end given before now is cause = subst (λ (e : StepEnd). FailsToMount e given before now) (sym is) (mount_fails why given before now cause)
+mount_failed why end given before now is cause = subst (λ (e : WorkEnd). FailsToMount e given before now) (sym is)
+    (mount_fails why given before now cause)
 
 -- ---- a device on which nothing was mounted
 
-pub failed_keeps : (given disk : Disk) (end : StepEnd) (book : Book) (before now : ℕ) → IsFresh given → FailsToMount end given before now
+pub failed_keeps : (given disk : Disk) (end : WorkEnd) (book : Book) (before now : ℕ) → IsFresh given → FailsToMount end given before now
     → book ≡ empty_book → mounting.StaysDurable given disk → KeepsStore given end book disk
 failed_keeps given disk end book before now fresh cause no_book stays = record {
   legal = λ h objects told stands. subst (IsLegal objects) (sym no_book) (IsLegal-empty objects [] [] refl refl);
+  no_csum = λ h objects told stands. ap (λ (b : Book). has_csum b.entries) no_book;
   durable = durable;
-  at_end = λ free h objects is told stands. absurd (subst (λ (e : StepEnd). FailsToMount e given before now) is cause);
-  complete = λ free is. absurd (subst (λ (e : StepEnd). FailsToMount e given before now) is cause);
+  at_end = λ free h objects is told stands. absurd (subst (λ (e : WorkEnd). FailsToMount e given before now) is cause);
+  complete = λ free is. absurd (subst (λ (e : WorkEnd). FailsToMount e given before now) is cause);
 }
   where
     durable : StaysDurable given book disk
@@ -57,14 +61,16 @@ failed_keeps given disk end book before now fresh cause no_book stays = record {
 
 -- ---- a device on which the script was run
 
-pub ran_keeps : (seed : ℕ) (lines : List Line) (given disk : Disk) (end : StepEnd) (book : Book) → IsFresh given → IsLater given disk
+pub ran_keeps : (seed : ℕ) (lines : List Line) (given disk : Disk) (end : WorkEnd) (book : Book) → IsFresh given → IsLater given disk
     → RanKept seed lines given end book disk → KeepsStore given end book disk
 ran_keeps seed lines given disk end book fresh later all = record {
   legal = λ h objects told stands. script_legal seed lines given disk end book all h objects fresh told stands;
+  no_csum = λ h objects told stands. script_no_csum seed lines given disk end book all h objects fresh told stands;
   durable = durable;
   at_end = λ free h objects is told stands.
-      script_finished seed free lines given disk h objects book fresh told later stands (subst (λ (e : StepEnd). RanKept seed lines given e book disk) is all);
-  complete = λ free is. script_complete seed free lines given disk book (subst (λ (e : StepEnd). RanKept seed lines given e book disk) is all);
+      script_finished seed free lines given disk h objects book fresh told later stands
+      (subst (λ (e : WorkEnd). RanKept seed lines given e book disk) is all);
+  complete = λ free is. script_complete seed free lines given disk book (subst (λ (e : WorkEnd). RanKept seed lines given e book disk) is all);
 }
   where
     durable : StaysDurable given book disk
@@ -80,7 +86,7 @@ ran_keeps seed lines given disk end book fresh later all = record {
 -- ---- the device that comes back
 
 -- the device that a bay gave began with what the bay has under its name
-opened_durable : (dev script : List ℕ) (seed : ℕ) (end : StepEnd) (seen : Seen) (old new : BayView) (e : EndsOpened dev script seed end seen old new)
+opened_durable : (dev script : List ℕ) (seed : ℕ) (end : WorkEnd) (seen : Seen) (old new : BayView) (e : EndsOpened dev script seed end seen old new)
     → EachCrashLeavesPrefix (Step dev seed script) old (Some e.disk) seen.book
 opened_durable dev script seed end seen old new e = of_names old.names e.handed_out.contents
   where
@@ -92,7 +98,7 @@ opened_durable dev script seed end seen old new e = of_names old.names e.handed_
         let told : e.given.history ≡ Some (record { start = contents; log = [] }) = subst (StartsWith e.given) is begins in
         e.keeps.durable (record { start = contents; log = [] }) objects told stands
 
-pub done_durable : (dev script : List ℕ) (seed : ℕ) (end : StepEnd) (seen : Seen) (old new : BayView) (before now : ℕ)
+pub done_durable : (dev script : List ℕ) (seed : ℕ) (end : WorkEnd) (seen : Seen) (old new : BayView) (before now : ℕ)
     → IsStepDone dev script seed end seen old new before now → EachCrashLeavesPrefix (Step dev seed script) old seen.disk seen.book
 done_durable dev script seed end seen old new before now (inl e) =
     subst (λ (d : Option Disk). EachCrashLeavesPrefix (Step dev seed script) old d seen.book) (sym e.no_disk) tt

@@ -3,6 +3,7 @@ pub mod Words
 pub mod Taking
 pub mod TextLemmas
 pub mod ReplyLemmas
+pub mod DumpLemmas
 pub mod DrawLemmas
 pub mod RunLemmas
 pub mod Holds
@@ -11,3 +12,6 @@ pub mod RunLaws
 pub mod WorkLemmas
 pub mod Keeping
 pub mod GoodStarts
+pub mod DumpWalks
+pub mod DumpKept
+pub mod DumpLaws

@@ -1,7 +1,8 @@
 -- What holds at the end of a run of a script: the run is one of the kernel, so what is known of these holds of it.
 use Rattle.std.proofs.Common.{◌≡◌, ◌↔◌, ℕ, suc, ◌+◌, ◌<◌, ◌≤◌, Bool, true, false, is_some, slice_get, length-append, List, [], ◌∷◌, ◌++◌, length, Option, Some, None, refl, sym, ap, subst}
 use Rattle.std.proofs.Common.{◌∙◌, arith, inl, inr, append-nil}
-use Rattle.std.specs.Prelude.{IfSome, All}
+use Rattle.std.specs.Prelude.{◌⊎◌, ◌||◌, IfSome, All}
+use Rattle.std.specs.List.{AllByRecursion}
 use Rattle.std.proofs.lemmas.List.Elements.{All-head}
 use Rattle.std.proofs.lemmas.Bool.{lt-ltb}
 use Rattle.std.proofs.lemmas.Option.{same_Some, IfSome_then}
@@ -14,6 +15,9 @@ use Rattle.block_device.proofs.LogLemmas.{slice_get-lt}
 use Rattle.object_model.specs.Objects.{Objects}
 use Rattle.object_model.specs.Book.{accepted, acked_count, committed_places, IsLegal}
 use Rattle.object_model.specs.declared.book.Commit.{Commit}
+use Rattle.object_model.specs.declared.book.Entry.{Entry}
+use Rattle.object_model.specs.declared.command.Answer.{Answer}
+use Rattle.object_model.specs.declared.command.Answer.TheVariants as answer
 use Rattle.object_model.specs.Effect.{replay}
 use Rattle.object_model.specs.declared.book.Book.{Book}
 use Rattle.meta_log.specs.declared.slot.Super.{Super}
@@ -43,21 +47,43 @@ use Rattle.book_facts.proofs.BookCalls.{book_run, order_run}
 use Rattle.book_facts.proofs.Order.{order_opened}
 use Rattle.book_facts.proofs.Commits.{one_if, count_cons}
 use Rattle.crash_facts.specs.Store.{KnownOfStore, IsDurable, KeepsDurable}
+use Rattle.crash_facts.proofs.Answered.{durable_legal, durable_sums}
 use Rattle.crash_facts.proofs.Runs.{run_durable, drained_stands}
+use Rattle.read_facts.specs.Alike.{IsNoCsum, IsLegalButBytes}
 use Rattle.mount_replay.specs.Calls.{Told, GoesOn, IsLater}
 use Rattle.mount_replay.specs.Opening.{IsFoundIn}
 use Rattle.mount_replay.specs.Mounting.{IsOpenedOn, WasOpened}
-use Rattle.bstore_top.specs.declared.step_end.StepEnd.{StepEnd}
-use Rattle.bstore_top.specs.declared.step_end.StepEnd.TheVariants.{Done, BadLine, NoSuper, BadRow, WornOut, DeviceFault, OutOfMemory, BayFault}
+use Rattle.bstore_top.specs.declared.work_end.WorkEnd.{WorkEnd}
+use Rattle.bstore_top.specs.declared.work_end.WorkEnd.TheVariants.{Done, BadLine, NoSuper, BadRow, WornOut, DeviceFault, OutOfMemory, BayFault}
 use Rattle.bstore_top.specs.Choice.{ready_list, Position, IsDrawnRun}
-use Rattle.bstore_top.specs.Printed.{Output, TookAll}
-use Rattle.bstore_top.specs.StepTexts.{step_number, step_text}
-use Rattle.bstore_top.specs.StepRun.{Seen, AskedUpTo, RunsScript, WorksOn, EndsOpened, IsStepDone, ReportsStep, RanStep}
+use Rattle.bstore_top.specs.Printed.{Output, TookAll, Printed}
+use Rattle.bstore_top.specs.Replies.{is_csum, has_csum}
+use Rattle.bstore_top.specs.Reports.{PrintedNoText}
+use Rattle.bstore_top.specs.StepTexts.{end_status, step_number, step_text}
+use Rattle.bstore_top.specs.StepRun.{Seen, AskedUpTo, RunsScript, WorksOn, EndsOpened, IsStepDone, RanStep}
 use Rattle.bstore_top.specs.Standing.{HasFree, IsFinished, IsComplete}
 use Rattle.bstore_top.specs.Keeping.{KeepsStore}
 use Rattle.bstore_top.specs.Finished.{FinishesOn, Succeeded}
 use Rattle.bstore_top.proofs.FreeLemmas.{drained_free}
 use Rattle.bstore_top.proofs.Holds.{SameHolds, run_holds}
+
+-- ---- replies that name no bad unit
+
+no_csum_answer : (a : Answer) → IsNoCsum a → is_csum a ≡ false
+no_csum_answer answer.Accepted none = refl
+no_csum_answer (answer.Refused refusal) none = refl
+no_csum_answer (answer.NoSpace need free) none = refl
+no_csum_answer (answer.MetaFull need room) none = refl
+no_csum_answer (answer.Csum unit kept found) none = absurd none
+no_csum_answer (answer.Bytes bytes) none = refl
+no_csum_answer (answer.Size size) none = refl
+no_csum_answer (answer.Sum size crc) none = refl
+no_csum_answer (answer.Names names) none = refl
+
+-- none of them does
+pub no_csum : (entries : List Entry) → AllByRecursion (λ e. IsNoCsum e.answer) entries → has_csum entries ≡ false
+no_csum [] none = refl
+no_csum (e ∷ es) none = ap (λ (b : Bool). b || has_csum es) (no_csum_answer e.answer none.0) ∙ no_csum es none.1
 
 -- ---- runs
 
@@ -80,12 +106,12 @@ pub opened_book : (opening : Objects) (given : Disk) (f : Found) (space : Space)
 opened_book opening given f space start s mounted stand =
     subst (KnownOfBook opening) (sym mounted.state) (book_opened opening f space mounted.events stand)
 
--- the book of a run from there is legal, whatever the rows stand for
+-- the book of a run from there is legal but for the bytes that reads gave, whatever the rows stand for
 pub legal_of : (given : Disk) (f : Found) (space : Space) (start : Disk) (s closed : State) (disk : Disk) (calls : List Call) (book : Book)
     → IsOpenedOn given f space start s → IsKept s start → IsRun s start calls closed disk → book ≡ closed.book
-    → (objects : Objects) → StandSomehow f.rows objects → IsLegal objects book
+    → (objects : Objects) → StandSomehow f.rows objects → IsLegalButBytes objects book
 legal_of given f space start s closed disk calls book mounted kept run book_is objects stand =
-    subst (IsLegal objects) (sym book_is)
+    subst (IsLegalButBytes objects) (sym book_is)
     (known_legal objects closed (book_run objects calls s closed start disk kept (opened_book objects given f space start s mounted stand) run))
 
 -- in a log without events nothing is dirty
@@ -141,7 +167,7 @@ module _ (given : Disk) (h : History) (fresh : IsFresh given) (told : given.hist
 -- ---- a run of a script, however it ended
 
 -- the run, with what the mounted kernel keeps
-pub record RanKept (seed : ℕ) (lines : List Line) (given : Disk) (end : StepEnd) (book : Book) (disk : Disk) : Type 0 where
+pub record RanKept (seed : ℕ) (lines : List Line) (given : Disk) (end : WorkEnd) (book : Book) (disk : Disk) : Type 0 where
   pub ran : RunsScript seed lines given end book disk
   pub kept : IsKept ran.first ran.start
   pub durable : KeepsDurable ran.first ran.start
@@ -151,7 +177,7 @@ pub record HoldsShared (s : State) (f : Found) : Type 0 where
   pub sup : s.log.sup ≡ f.sup
   pub held : (unit : ℕ) → IsDataUnit s.log.sup unit → IsUnheld s.space unit ↔ HasSoleOwner f.rows unit
 
-module _ (seed : ℕ) (lines : List Line) (given disk : Disk) (end : StepEnd) (book : Book) (all : RanKept seed lines given end book disk) where
+module _ (seed : ℕ) (lines : List Line) (given disk : Disk) (end : WorkEnd) (book : Book) (all : RanKept seed lines given end book disk) where
   abbrev ran : RunsScript seed lines given end book disk
   ran = all.ran
 
@@ -191,7 +217,12 @@ module _ (seed : ℕ) (lines : List Line) (given disk : Disk) (end : StepEnd) (b
 
     -- for these objects the book is legal
     pub script_legal : IsLegal objects book
-    script_legal = subst (IsLegal objects) (sym ran.book_is) (known_legal objects ran.closed script_durable.book)
+    script_legal = subst (IsLegal objects) (sym ran.book_is) (durable_legal 0 objects ran.closed disk script_durable)
+
+    -- and none of its replies names a bad unit
+    pub script_no_csum : has_csum book.entries ≡ false
+    script_no_csum =
+        ap (λ (b : Book). has_csum b.entries) ran.book_is ∙ no_csum ran.closed.book.entries (durable_sums 0 objects ran.closed disk script_durable)
 
 -- ---- a run that did all that there was to do
 
@@ -200,7 +231,8 @@ unfolding ready_list
 drained_of depth s none = ap (λ (l : List Step). is_empty l) none
 
 -- a drained kernel takes no end
-no_reap : (calls : List Call) (s s' : State) (d d' : Disk) → is_drained d.depth s ≡ true → All (λ call. call ≡ stepping Reap) calls → IsRun s d calls s' d'
+pub no_reap : (calls : List Call) (s s' : State) (d d' : Disk) → is_drained d.depth s ≡ true → All (λ call. call ≡ stepping Reap) calls
+    → IsRun s d calls s' d'
     → (s' ≡ s) × (d' ≡ d)
 no_reap [] s s' d d' drained reaps run = run
 no_reap (call ∷ calls) s s' d d' drained reaps run =
@@ -278,27 +310,30 @@ script_complete seed free lines given disk book all =
 
 -- ---- a run that returns 0
 
--- it ended with all done, and printed that
-pub record EndsWell (book : Book) (end : StepEnd) (old new : Output) : Type 0 where
+-- it has printed its text, whose status that is
+pub printed_well : (end : ℕ) (text : List ℕ) (old new : Output) → Printed end text 0 old new ⊎ PrintedNoText 0 old new
+    → (0 ≡ end) × TookAll text old new
+printed_well end text old new (inl (inl whole)) = whole
+printed_well end text old new (inl (inr front)) = absurd (omega (arith, front.0))
+printed_well end text old new (inr (inl whole)) = absurd (omega (arith, whole.0))
+printed_well end text old new (inr (inr front)) = absurd (omega (arith, front.0))
+
+-- it ended with all done, and has met no bad unit
+pub record EndsWell (bad : Bool) (end : WorkEnd) : Type 0 where
   pub free : ℕ
   pub is : end ≡ Done free
-  pub printed : TookAll (step_text book (Done free)) old new
+  pub none_bad : bad ≡ false
 
-ends_well : (book : Book) (end : StepEnd) (old new : Output) → 0 ≡ step_number end → TookAll (step_text book end) old new → EndsWell book end old new
-ends_well book (Done free) old new is took = record { free = free; is = refl; printed = took }
-ends_well book (BadLine n) old new is took = absurd (omega (arith, is))
-ends_well book NoSuper old new is took = absurd (omega (arith, is))
-ends_well book (BadRow key) old new is took = absurd (omega (arith, is))
-ends_well book WornOut old new is took = absurd (omega (arith, is))
-ends_well book DeviceFault old new is took = absurd (omega (arith, is))
-ends_well book OutOfMemory old new is took = absurd (omega (arith, is))
-ends_well book BayFault old new is took = absurd (omega (arith, is))
-
-reports_well : (book : Book) (end : StepEnd) (old new : Output) → ReportsStep book end 0 old new → EndsWell book end old new
-reports_well book end old new (inl (inl whole)) = ends_well book end old new whole.0 whole.1
-reports_well book end old new (inl (inr front)) = absurd (omega (arith, front.0))
-reports_well book end old new (inr (inl whole)) = absurd (omega (arith, whole.0))
-reports_well book end old new (inr (inr front)) = absurd (omega (arith, front.0))
+pub ends_well : (bad : Bool) (end : WorkEnd) → 0 ≡ end_status bad end → EndsWell bad end
+ends_well true end is = absurd (omega (arith, is))
+ends_well false (Done free) is = record { free = free; is = refl; none_bad = refl }
+ends_well false (BadLine n) is = absurd (omega (arith, is))
+ends_well false NoSuper is = absurd (omega (arith, is))
+ends_well false (BadRow key) is = absurd (omega (arith, is))
+ends_well false WornOut is = absurd (omega (arith, is))
+ends_well false DeviceFault is = absurd (omega (arith, is))
+ends_well false OutOfMemory is = absurd (omega (arith, is))
+ends_well false BayFault is = absurd (omega (arith, is))
 
 -- where the bay tells names, the device that it gave began with what the bay has under its name, and the run has finished on it
 finishes : (dev : List ℕ) (free : ℕ) (given disk : Disk) (book : Book) (names : Option Names) → KeepsStore given (Done free) book disk
@@ -315,7 +350,7 @@ finishes dev free given disk book (Some n) keeps begins = λ contents objects is
     }
 
 module _ (dev script : List ℕ) (seed : ℕ) (seen : Seen) (bay_old bay_new : BayView) (before now : ℕ) (old new : Output) (free : ℕ)
-    (printed : TookAll (step_text seen.book (Done free)) old new) where
+    (no_bad : has_csum seen.book.entries ≡ false) (printed : TookAll (step_text seen.book (Done free)) old new) where
   ran_well : (e : EndsOpened dev script seed (Done free) seen bay_old bay_new) → RunsScript seed e.lines e.given (Done free) seen.book e.disk
       → Succeeded dev script seed seen bay_old old new
   ran_well e ran = record {
@@ -323,6 +358,7 @@ module _ (dev script : List ℕ) (seed : ℕ) (seen : Seen) (bay_old bay_new : B
     has_script = e.has_script;
     all = subst (AskedUpTo e.lines seen.book.entries) ran.ended.0 ran.entries;
     complete = e.keeps.complete free refl;
+    no_csum = no_bad;
     free = free;
     printed = printed;
     given = e.given;
@@ -344,6 +380,8 @@ module _ (dev script : List ℕ) (seed : ℕ) (seen : Seen) (bay_old bay_new : B
 pub step_succeeded : (dev script : List ℕ) (seed : ℕ) (seen : Seen) (bay_old bay_new : BayView) (before now : ℕ) (old new : Output)
     → RanStep dev script seed 0 seen bay_old bay_new before now old new → Succeeded dev script seed seen bay_old old new
 step_succeeded dev script seed seen bay_old bay_new before now old new ran =
-    let well : EndsWell seen.book ran.end old new = reports_well seen.book ran.end old new ran.printed in
-    done_well dev script seed seen bay_old bay_new before now old new well.free well.printed
-    (subst (λ (e : StepEnd). IsStepDone dev script seed e seen bay_old bay_new before now) well.is ran.course)
+    let took = printed_well (step_number seen.book ran.end) (step_text seen.book ran.end) old new ran.printed in
+    let well : EndsWell (has_csum seen.book.entries) ran.end = ends_well (has_csum seen.book.entries) ran.end took.0 in
+    done_well dev script seed seen bay_old bay_new before now old new well.free well.none_bad
+    (subst (λ (e : WorkEnd). TookAll (step_text seen.book e) old new) well.is took.1)
+    (subst (λ (e : WorkEnd). IsStepDone dev script seed e seen bay_old bay_new before now) well.is ran.course)

@@ -1,5 +1,6 @@
 -- Drawn runs, call by call.
-use Rattle.std.proofs.Common.{◌≡◌, inl, inr, ℕ, ◌+◌, ◌<◌, ◌≤◌, ◌/◌, ◌%◌, ◌^◌, true, false, List, [], ◌∷◌, ◌++◌, map, length, Option, Some, None, Result, Ok, Err, OnOk, IfErr, MatchResult, ap, ◌∙◌, sym, refl, subst, suc, arith, append_assoc, length-append}
+use Rattle.std.proofs.Common.{◌≡◌, inl, inr, ℕ, ◌+◌, ◌<◌, ◌≤◌, ◌/◌, ◌%◌, ◌^◌, true, false, List, [], ◌∷◌, ◌++◌, map, length, Option, Some, None}
+use Rattle.std.proofs.Common.{Result, Ok, Err, OnOk, IfErr, MatchResult, ap, ◌∙◌, sym, refl, subst, suc, arith, append_assoc, length-append}
 use Rattle.std.specs.List.{AllByRecursion}
 use Rattle.object_model.specs.declared.op.Op.{Op}
 use Rattle.object_model.specs.declared.op.Op.TheVariants as op
@@ -13,6 +14,7 @@ use Rattle.block_device.specs.declared.device.Ticket.{Ticket}
 use Rattle.object_model.specs.Effect.{Change}
 use Rattle.object_model.specs.declared.command.Answer.{Answer}
 use Rattle.object_model.specs.declared.command.Answer.TheVariants as answer
+use Rattle.object_model.specs.declared.command.Command.{Command}
 use Rattle.object_model.specs.declared.command.Command.TheVariants as command
 use Rattle.object_model.specs.declared.book.Entry.{Entry}
 use Rattle.store_steps.specs.declared.flight.Flying.{Flying}
@@ -24,23 +26,34 @@ use Rattle.store_steps.specs.State.{State}
 use Rattle.store_steps.specs.Changes.{landed, after_done, after_good, flying_of, down_by}
 use Rattle.store_steps.specs.Ready.{is_drained, is_empty}
 use Rattle.store_steps.specs.Steps.{Takes, Does}
-use Rattle.store_steps.specs.Submit.{IsKnown, Accepts, Refuses}
-use Rattle.store_steps.specs.Runs.{Call, submitting, stepping, MaySubmit, Submits, DoesOrFails}
+use Rattle.store_steps.specs.Submit.{IsKnown, entered, Accepts, Refuses, IsDownBy, IsBookFull}
+use Rattle.store_steps.specs.Runs.{Call, reading, stepping, MaySubmit, MayRead, IsAnswered, DoesOrFails, Calls}
+use Rattle.read_facts.specs.Answers.{IsKnownRead}
 use Rattle.store_kernel.specs.Submitting.{RefusesBy}
+use Rattle.store_kernel.specs.Reading.{UnansweredBy, IsDeviceRead}
+use Rattle.store_kernel.specs.declared.unanswered.Unanswered.{Unanswered}
+use Rattle.store_kernel.specs.declared.unanswered.Unanswered.TheVariants as unanswered
 use Rattle.store_kernel.specs.declared.refused.Refused.{Refused}
 use Rattle.store_kernel.specs.declared.refused.Refused.TheVariants as refused
 use Rattle.store_kernel.specs.declared.step_fail.StepFail.{StepFail}
 use Rattle.store_kernel.specs.declared.step_fail.StepFail.TheVariants as fail
-use Rattle.bstore_top.specs.Choice.{Ask, asks_of, turned, ready_list, possible_calls, IsDrawnOf, Position, at_position, Draws, IsDrawnRun}
+use Rattle.bstore_top.specs.declared.run_fail.RunFail.{RunFail}
+use Rattle.bstore_top.specs.declared.run_fail.RunFail.TheVariants as run
+use Rattle.bstore_top.specs.Choice.{Ask, asks_of, call_of, asks_after, turned, ready_list, possible_calls, IsDrawnOf, Position, at_position, Draws}
+use Rattle.bstore_top.specs.Choice.{IsDrawnRun}
 use Rattle.bstore_top.specs.StepRun.{Asked, asked_in, asked_by}
-use Rattle.bstore_top.specs.Stepping.{IsNext, IsNoted, IsNotNoted, IsNotTurnedAway, LeadsTo, Drains, Makes, RunsUpTo, FitsLine}
+use Rattle.bstore_top.specs.Stepping.{IsNext, IsNoted, IsNotNoted, IsNotTurnedAway, IsReplied, IsNoTurnAway, IsFailOf, LeadsTo, Drains, IsMade}
+use Rattle.bstore_top.specs.Stepping.{IsUnmade, Makes, FailsAfter, fail_of, EndsAs, EndsRun, RunsUpTo, FitsLine}
 
 -- ---- runs
 
+-- no calls lead from a position to itself
 pub stays : (p : Position) → LeadsTo p p
 stays p = record { calls = []; run = refl }
 
-run_more : (p : Position) (calls : List Call) (q : Position) (call : Call) (r : Position) → IsDrawnRun p calls q → Draws q call r → IsDrawnRun p (calls ++ (call ∷ [])) r
+-- a run with one call more behind it
+run_more : (p : Position) (calls : List Call) (q : Position) (call : Call) (r : Position) → IsDrawnRun p calls q → Draws q call r
+    → IsDrawnRun p (calls ++ (call ∷ [])) r
 run_more p [] q call r run draws = (r, (subst (λ z. Draws z call r) run draws, refl))
 run_more p (c ∷ cs) q call r run draws = (run.0, (run.1.0, run_more run.0 cs q call r run.1.1 draws))
 
@@ -48,7 +61,9 @@ run_more p (c ∷ cs) q call r run draws = (run.0, (run.1.0, run_more run.0 cs q
 pub leads_more : (p q : Position) (call : Call) (r : Position) → LeadsTo p q → Draws q call r → LeadsTo p r
 leads_more p q call r leads draws = record { calls = leads.calls ++ (call ∷ []); run = run_more p leads.calls q call r leads.run draws }
 
-run_on : (p : Position) (calls : List Call) (q : Position) (more : List Call) (r : Position) → IsDrawnRun p calls q → IsDrawnRun q more r → IsDrawnRun p (calls ++ more) r
+-- the calls of one run, and then those of another
+run_on : (p : Position) (calls : List Call) (q : Position) (more : List Call) (r : Position) → IsDrawnRun p calls q → IsDrawnRun q more r
+    → IsDrawnRun p (calls ++ more) r
 run_on p [] q more r run rest = subst (λ z. IsDrawnRun z more r) run rest
 run_on p (c ∷ cs) q more r run rest = (run.0, (run.1.0, run_on run.0 cs q more r run.1.1 rest))
 
@@ -63,26 +78,31 @@ pub record IsUpWith (entries : List Entry) (s : State) : Type 0 where
   pub up : s.down ≡ None
   pub same : s.book.entries ≡ entries
 
+-- the good end of a submission of a kind keeps them
 after_done_keeps : (j : Job) (s : State) (entries : List Entry) → IsUpWith entries s → IsUpWith entries (after_done j s)
 after_done_keeps (job.Data place count) s entries here = record { up = here.up; same = here.same }
 after_done_keeps job.DataFlush s entries here = record { up = here.up; same = here.same }
 after_done_keeps job.Record s entries here = record { up = here.up; same = here.same }
 after_done_keeps job.RecordFlush s entries here = record { up = here.up; same = here.same }
 
+-- so does that of whatever was in flight
 after_good_keeps : (f : Option Flying) (s : State) (entries : List Entry) → IsUpWith entries s → IsUpWith entries (after_good f s)
 after_good_keeps None s entries here = here
 after_good_keeps (Some f) s entries here = after_done_keeps f.job s entries here
 
 -- the good end of a submission, while the kernel is up and once it is down
-landed_keeps : (down : Bool) (f : Option Flying) (s : State) (entries : List Entry) → IsUpWith entries s → IsUpWith entries (cond down s (after_good f s))
+landed_keeps : (down : Bool) (f : Option Flying) (s : State) (entries : List Entry) → IsUpWith entries s
+    → IsUpWith entries (cond down s (after_good f s))
 landed_keeps true f s entries here = here
 landed_keeps false f s entries here = after_good_keeps f s entries here
 
+-- a state that is the same has them too
 along : (s s' : State) (entries : List Entry) → s' ≡ s → IsUpWith entries s → IsUpWith entries s'
 along s s' entries same here = subst (λ (z : State). IsUpWith entries z) (sym same) here
 
 -- so does each step that ends well
-pub step_keeps : (step : Step) (s : State) (d : Disk) (s' : State) (d' : Disk) (entries : List Entry) → Does step s d s' d' → IsUpWith entries s → IsUpWith entries s'
+pub step_keeps : (step : Step) (s : State) (d : Disk) (s' : State) (d' : Disk) (entries : List Entry) → Does step s d s' d' → IsUpWith entries s
+    → IsUpWith entries s'
 step_keeps Data s d s' d' entries does here = along _ s' entries does.after (record { up = here.up; same = here.same })
 step_keeps Reap s d s' d' entries (inl took) here =
     along _ s' entries took.after
@@ -96,6 +116,7 @@ step_keeps Sync s d s' d' entries does here = along _ s' entries does.after (rec
 step_keeps Commit s d s' d' entries does here = along _ s' entries does.after (record { up = here.up; same = here.same })
 step_keeps Finish s d s' d' entries does here = along _ s' entries does.after (record { up = here.up; same = here.same })
 
+-- a bad end makes it down, if it was not before
 down_now : (o : Option Ticket) (ticket : Ticket) → is_some (down_by o ticket) ≡ true
 down_now None ticket = refl
 down_now (Some first) ticket = refl
@@ -104,9 +125,11 @@ down_now (Some first) ticket = refl
 pub bad_end_down : (s : State) (d : Disk) (s' : State) (d' : Disk) → Takes s d false s' d' → is_some s'.down ≡ true
 bad_end_down s d s' d' took = ap (λ (z : State). is_some z.down) took.after ∙ down_now s.down took.ticket
 
+-- and the entries are as before
 pub bad_end_same : (s : State) (d : Disk) (s' : State) (d' : Disk) → Takes s d false s' d' → s'.book.entries ≡ s.book.entries
 bad_end_same s d s' d' took = ap (λ (z : State). z.book.entries) took.after
 
+-- a step that ends well is one that ends well or badly
 pub does_well : (step : Step) (s : State) (d : Disk) (s' : State) (d' : Disk) → Does step s d s' d' → DoesOrFails step s d s' d'
 does_well Data s d s' d' does = does
 does_well Reap s d s' d' does = inl does
@@ -125,10 +148,13 @@ pub record IsDraining (x0 : ℕ) (s0 : State) (d0 : Disk) (x : ℕ) (s : State) 
   pub leads : (asks : List Ask) → LeadsTo (at_position x0 asks s0 d0) (at_position x asks s d)
   pub here : IsUpWith s0.book.entries s
 
+-- at its start nothing was done
 pub drain_begins : (x : ℕ) (s : State) (d : Disk) → s.down ≡ None → IsDraining x s d x s d
 drain_begins x s d up = record { leads = λ asks. stays (at_position x asks s d); here = record { up = up; same = refl } }
 
-pub drain_goes_on : (x0 : ℕ) (s0 : State) (d0 : Disk) (x : ℕ) (s : State) (d : Disk) (step : Step) (x' : ℕ) (s' : State) (d' : Disk) → IsDraining x0 s0 d0 x s d → IsNext d.depth s x step x' → Does step s d s' d' → IsSound d'
+-- it comes one step further
+pub drain_goes_on : (x0 : ℕ) (s0 : State) (d0 : Disk) (x : ℕ) (s : State) (d : Disk) (step : Step) (x' : ℕ) (s' : State) (d' : Disk)
+    → IsDraining x0 s0 d0 x s d → IsNext d.depth s x step x' → Does step s d s' d' → IsSound d'
     → IsDraining x0 s0 d0 x' s' d'
 drain_goes_on x0 s0 d0 x s d step x' s' d' so_far next does sound = record {
   leads = λ asks. leads_more (at_position x0 asks s0 d0) (at_position x asks s d) (stepping step) (at_position x' asks s' d') (so_far.leads asks)
@@ -136,7 +162,9 @@ drain_goes_on x0 s0 d0 x s d step x' s' d' so_far next does sound = record {
   here = step_keeps step s d s' d' s0.book.entries does so_far.here;
 }
 
-pub drain_ends : (x0 : ℕ) (s0 : State) (d0 : Disk) (x x' : ℕ) (s : State) (d : Disk) → IsDraining x0 s0 d0 x s d → (ready_list d.depth s ≡ []) × (x' ≡ x) → Drains None x0 s0 d0 x' s d
+-- it ends where nothing is ready
+pub drain_ends : (x0 : ℕ) (s0 : State) (d0 : Disk) (x x' : ℕ) (s : State) (d : Disk) → IsDraining x0 s0 d0 x s d
+    → (ready_list d.depth s ≡ []) × (x' ≡ x) → Drains None x0 s0 d0 x' s d
 drain_ends x0 s0 d0 x x' s d so_far none = record {
   leads = λ asks. subst (λ (z : ℕ). LeadsTo (at_position x0 asks s0 d0) (at_position z asks s d)) (sym none.1) (so_far.leads asks);
   ended = (none.0, so_far.here.up);
@@ -144,7 +172,8 @@ drain_ends x0 s0 d0 x x' s d so_far none = record {
 }
 
 -- a step that fails
-pub drain_stops : (e : StepFail) (x0 : ℕ) (s0 : State) (d0 : Disk) (x : ℕ) (s : State) (d : Disk) (step : Step) (x' : ℕ) (s' : State) (d' : Disk) → IsDraining x0 s0 d0 x s d → IsNext d.depth s x step x' → IsSound d'
+pub drain_stops : (e : StepFail) (x0 : ℕ) (s0 : State) (d0 : Disk) (x : ℕ) (s : State) (d : Disk) (step : Step) (x' : ℕ) (s' : State) (d' : Disk)
+    → IsDraining x0 s0 d0 x s d → IsNext d.depth s x step x' → IsSound d'
     → (e ≡ fail.Fault → (step ≡ Reap) × Takes s d false s' d') → (e ≡ fail.Memory → (s' ≡ s) × (d' ≡ d)) → (y : ℕ) × Drains (Some e) x0 s0 d0 y s' d'
 drain_stops fail.Memory x0 s0 d0 x s d step x' s' d' so_far next sound fault memory =
     let same = memory refl in (
@@ -161,7 +190,8 @@ drain_stops fail.Fault x0 s0 d0 x s d step x' s' d' so_far next sound fault memo
     let fails : DoesOrFails step s d s' d' = subst (λ (z : Step). DoesOrFails z s d s' d') (sym bad.0) (inr bad.1) in (
       x',
       record {
-        leads = λ asks. leads_more (at_position x0 asks s0 d0) (at_position x asks s d) (stepping step) (at_position x' asks s' d') (so_far.leads asks)
+        leads = λ asks. leads_more (at_position x0 asks s0 d0) (at_position x asks s d) (stepping step) (at_position x' asks s' d')
+            (so_far.leads asks)
             (record { x = next.turn; drawn = next.drawn asks; called = (next.ready, fails); sound = sound; asks = refl });
         ended = bad_end_down s d s' d' bad.1;
         entries = bad_end_same s d s' d' bad.1 ∙ so_far.here.same;
@@ -170,107 +200,273 @@ drain_stops fail.Fault x0 s0 d0 x s d step x' s' d' so_far next sound fault memo
 
 -- ---- the client
 
-unfoldable_drained : (depth : ℕ) (s : State) → ready_list depth s ≡ [] → is_drained depth s ≡ true
+-- nothing is ready, so the kernel is drained
+none_drained : (depth : ℕ) (s : State) → ready_list depth s ≡ [] → is_drained depth s ≡ true
 unfolding ready_list
-unfoldable_drained depth s none = ap (λ (l : List Step). is_empty l) none
+none_drained depth s none = ap (λ (l : List Step). is_empty l) none
 
-pub may_submit : (change : Change) (x0 : ℕ) (s0 : State) (d0 : Disk) (x : ℕ) (s : State) (d : Disk) → Drains None x0 s0 d0 x s d → IsKnown change.ops → MaySubmit change s d
-may_submit change x0 s0 d0 x s d drained known = record { drained = λ up. unfoldable_drained d.depth s drained.ended.0; known = known }
+-- operations that scripts can have are known to the store
+known_ops : (ops : List Op) → HasWholePages ops → IsKnown ops
+known_ops (op.MkColl ∷ []) pages = tt
+known_ops (op.Touch o ∷ []) pages = tt
+known_ops (op.Write o off bytes ∷ []) pages = pages
+known_ops ops pages = absurd pages
 
--- the kernel is up, and its book has room
-pub not_turned_away : (a : Ask) (r : Result ℕ Refused) (x0 : ℕ) (s0 : State) (d0 : Disk) (x : ℕ) (s : State) (d : Disk) (s' : State) → Drains None x0 s0 d0 x s d → length s0.book.entries < 1048576
-    → IfErr r (λ why. RefusesBy why 0 a.line a.change s s') → IsNotTurnedAway r
-not_turned_away a (Ok place) x0 s0 d0 x s d s' drained room refuses = tt
-not_turned_away a (Err (refused.Refusal refusal)) x0 s0 d0 x s d s' drained room refuses = tt
-not_turned_away a (Err (refused.NoSpace need free)) x0 s0 d0 x s d s' drained room refuses = tt
-not_turned_away a (Err (refused.MetaFull need left)) x0 s0 d0 x s d s' drained room refuses = tt
-not_turned_away a (Err (refused.Memory txn)) x0 s0 d0 x s d s' drained room refuses = tt
-not_turned_away a (Err (refused.Down ticket txn)) x0 s0 d0 x s d s' drained room refuses =
-    let never : None ≡ Some ticket = sym drained.ended.1 ∙ refuses.0 in cc
-not_turned_away a (Err (refused.BookFull txn)) x0 s0 d0 x s d s' drained room refuses =
-    absurd (omega (arith, room, refuses.0.full, ap (λ (l : List Entry). length l) drained.entries))
+-- a transaction that scripts can have may be submitted where nothing is ready
+pub may_submit : (change : Change) (s : State) (d : Disk) → ready_list d.depth s ≡ [] → Fits (what.Command (command.Change change))
+    → MaySubmit change s d
+may_submit change s d none fits = record { drained = λ up. none_drained d.depth s none; known = known_ops change.ops fits }
+
+-- the command is no transaction
+abbrev pub IsRead : Command → Type 0
+IsRead (command.Change change) = ⊥
+IsRead read = Unit {0}
+
+-- a command other than a transaction is a read
+other_read : (c : Command) → ((change : Change) → c ≡ command.Change change → ⊥) → IsRead c
+other_read (command.Change change) other = other change refl
+other_read (command.Read coll object off len) other = tt
+other_read (command.Sum coll object) other = tt
+other_read (command.Stat coll object) other = tt
+other_read (command.GetAttr coll object name) other = tt
+other_read (command.OmapGet coll object key) other = tt
+other_read (command.OmapHeader coll object) other = tt
+other_read (command.List coll) other = tt
+
+-- a read that scripts can have is known to the store
+known_read : (c : Command) → IsRead c → Fits (what.Command c) → IsKnownRead c
+known_read (command.Read coll object off len) is fits = tt
+known_read (command.Sum coll object) is fits = tt
+known_read (command.Stat coll object) is fits = tt
+known_read (command.List coll) is fits = tt
+known_read (command.Change change) is fits = absurd is
+known_read (command.GetAttr coll object name) is fits = absurd fits
+known_read (command.OmapGet coll object key) is fits = absurd fits
+known_read (command.OmapHeader coll object) is fits = absurd fits
+
+-- a command that scripts can have, and that is no transaction, is a read that the store knows
+pub known_other : (c : Command) → ((change : Change) → c ≡ command.Change change → ⊥) → Fits (what.Command c) → IsKnownRead c
+known_other c other fits = known_read c (other_read c other) fits
+
+-- it may be asked where nothing is ready
+pub may_read : (c : Command) (s : State) (d : Disk) → ready_list d.depth s ≡ [] → IsKnownRead c → MayRead c s d
+may_read c s d none known = record { drained = λ up. none_drained d.depth s none; known = known }
+
+-- the kernel isn't down, and its book isn't full
+not_down : (s : State) (ticket : Ticket) → s.down ≡ None → IsDownBy ticket s → ⊥
+not_down s ticket up down = let never : None ≡ Some ticket = sym up ∙ down in cc
+
+-- a book with room isn't full
+not_full : (s : State) → length s.book.entries < 1048576 → IsBookFull s → ⊥
+not_full s room full = omega (arith, room, full.full)
+
+-- so it turns no transaction away
+pub not_turned_away : (line : ℕ) (change : Change) (r : Result ℕ Refused) (s s' : State) → s.down ≡ None → length s.book.entries < 1048576
+    → IfErr r (λ why. RefusesBy why 0 line change s s') → IsNotTurnedAway r
+not_turned_away line change (Ok place) s s' up room refuses = tt
+not_turned_away line change (Err (refused.Refusal refusal)) s s' up room refuses = tt
+not_turned_away line change (Err (refused.NoSpace need free)) s s' up room refuses = tt
+not_turned_away line change (Err (refused.MetaFull need left)) s s' up room refuses = tt
+not_turned_away line change (Err (refused.Memory back)) s s' up room refuses = tt
+not_turned_away line change (Err (refused.Down ticket back)) s s' up room refuses = absurd (not_down s ticket up refuses.0)
+not_turned_away line change (Err (refused.BookFull back)) s s' up room refuses = absurd (not_full s room refuses.0)
+
+-- nor does it turn a read away
+pub no_turn_away : (c : Command) (r : Result ℕ Unanswered) (s s' : State) → s.down ≡ None → length s.book.entries < 1048576
+    → IfErr r (λ why. UnansweredBy why c s s') → IsNoTurnAway r
+no_turn_away c (Ok place) s s' up room unanswered = tt
+no_turn_away c (Err (unanswered.DeviceRead back)) s s' up room away = tt
+no_turn_away c (Err (unanswered.Memory back)) s s' up room away = tt
+no_turn_away c (Err (unanswered.Down ticket back)) s s' up room away = absurd (not_down s ticket up away.0)
+no_turn_away c (Err (unanswered.BookFull back)) s s' up room away = absurd (not_full s room away.0)
+
+-- ---- the entry of a command
+
+-- one more entry is one more command that was asked
+asked_push : (es : List Entry) (e : Entry) → map asked_in (es ++ (e ∷ [])) ≡ map asked_in es ++ (asked_in e ∷ [])
+asked_push [] e = refl
+asked_push (x ∷ xs) e = ap (λ (l : List Asked). asked_in x ∷ l) (asked_push xs e)
+
+-- a call that leaves the kernel up, with one more entry, has made the command
+module _ (line : ℕ) (c : Command) (s : State) (d : Disk) (s' : State) (d' : Disk) (up : s.down ≡ None) (called : Calls (call_of line c) s d s' d')
+  where
+    -- it has its entry, and the kernel is up
+    made_by : (a : Answer) (t : State) → t.down ≡ s.down → t.book.entries ≡ s.book.entries → s' ≡ entered 0 line c a t → IsMade line c s d s' d'
+    made_by a t same entries after = record {
+      called = called;
+      up = ap (λ (z : State). z.down) after ∙ (same ∙ up);
+      entry =
+          ap (λ (z : State). map asked_in z.book.entries) after
+          ∙ (asked_push t.book.entries _ ∙ ap (λ (l : List Entry). map asked_in l ++ (asked_by (record { line = line; command = c }) ∷ [])) entries);
+    }
+
+-- a transaction that was refused with an answer has its entry
+made_refused : (line : ℕ) (change : Change) (reply : Answer) (s : State) (d : Disk) (s' : State) (d' : Disk) → s.down ≡ None → MaySubmit change s d
+    → d' ≡ d → Refuses 0 line change reply s s' → IsMade line (command.Change change) s d s' d'
+made_refused line change reply s d s' d' up may same refuses =
+    made_by line (command.Change change) s d s' d' up (may, inr (inl (reply, refuses)), same) reply s refl refl refuses.after
+
+-- what a submission makes, by its end
+pub submitted_ends : (line : ℕ) (change : Change) (r : Result ℕ Refused) (out : Result (Unit {0}) RunFail) (s : State) (d : Disk) (s' : State)
+    (d' : Disk)
+    → s.down ≡ None → MaySubmit change s d → d' ≡ d → OnOk r (Accepts 0 line change s s') → IfErr r (λ why. RefusesBy why 0 line change s s')
+    → MatchResult out (λ _. IsNoted r) (λ e. (e ≡ run.Memory) × IsNotNoted r)
+    → MatchResult out (λ _. IsMade line (command.Change change) s d s' d') (λ e. IsUnmade e s d s' d')
+submitted_ends line change (Ok place) (Ok u) s d s' d' up may same accepted refuses noted =
+    made_by line (command.Change change) s d s' d' up (may, inl accepted, same) answer.Accepted _ refl refl accepted.after
+submitted_ends line change (Err (refused.Refusal refusal)) (Ok u) s d s' d' up may same accepted refuses noted =
+    made_refused line change (answer.Refused refusal) s d s' d' up may same refuses
+submitted_ends line change (Err (refused.NoSpace need free)) (Ok u) s d s' d' up may same accepted refuses noted =
+    made_refused line change (answer.NoSpace need free) s d s' d' up may same refuses
+submitted_ends line change (Err (refused.MetaFull need room)) (Ok u) s d s' d' up may same accepted refuses noted =
+    made_refused line change (answer.MetaFull need room) s d s' d' up may same refuses
+submitted_ends line change (Err (refused.Memory back)) (Err e) s d s' d' up may same accepted refuses noted =
+    subst (λ (z : RunFail). IsUnmade z s d s' d') (sym noted.0) (refuses.0, same)
+submitted_ends line change (Err (refused.Down ticket back)) (Ok u) s d s' d' up may same accepted refuses noted = absurd noted
+submitted_ends line change (Err (refused.Down ticket back)) (Err e) s d s' d' up may same accepted refuses noted = absurd noted.1
+submitted_ends line change (Err (refused.BookFull back)) (Ok u) s d s' d' up may same accepted refuses noted = absurd noted
+submitted_ends line change (Err (refused.BookFull back)) (Err e) s d s' d' up may same accepted refuses noted = absurd noted.1
+submitted_ends line change (Err (refused.Memory back)) (Ok u) s d s' d' up may same accepted refuses noted = absurd noted
+submitted_ends line change (Ok place) (Err e) s d s' d' up may same accepted refuses noted = absurd noted.1
+submitted_ends line change (Err (refused.Refusal refusal)) (Err e) s d s' d' up may same accepted refuses noted = absurd noted.1
+submitted_ends line change (Err (refused.NoSpace need free)) (Err e) s d s' d' up may same accepted refuses noted = absurd noted.1
+submitted_ends line change (Err (refused.MetaFull need room)) (Err e) s d s' d' up may same accepted refuses noted = absurd noted.1
+
+-- a known read is a call that reads
+call_reads : (line : ℕ) (c : Command) → IsKnownRead c → call_of line c ≡ reading 0 line c
+call_reads line (command.Read coll object off len) known = refl
+call_reads line (command.Sum coll object) known = refl
+call_reads line (command.Stat coll object) known = refl
+call_reads line (command.List coll) known = refl
+call_reads line c known = absurd known
+
+-- a read that has no answer leaves the kernel as it was
+unanswered_same : (e : RunFail) (why : Unanswered) (c : Command) (s : State) (d : Disk) (s' : State) (d' : Disk) → UnansweredBy why c s s' → d' ≡ d
+    → IsFailOf e (Err why) → IsUnmade e s d s' d'
+unanswered_same run.DeviceRead (unanswered.DeviceRead back) c s d s' d' away same is = (away.0, same)
+unanswered_same run.Memory (unanswered.Memory back) c s d s' d' away same is = (away.0, same)
+unanswered_same e why c s d s' d' away same is = absurd is
+
+-- what a read makes, by its end
+pub replied_ends : (line : ℕ) (c : Command) (r : Result ℕ Unanswered) (out : Result (Unit {0}) RunFail) (s : State) (d : Disk) (s' : State)
+    (d' : Disk)
+    → s.down ≡ None → MayRead c s d → d' ≡ d → OnOk r ((a : Answer) × IsAnswered 0 line c a s d s') → IfErr r (λ why. UnansweredBy why c s s')
+    → MatchResult out (λ _. IsReplied r) (λ e. IsFailOf e r) → MatchResult out (λ _. IsMade line c s d s' d') (λ e. IsUnmade e s d s' d')
+replied_ends line c (Ok place) (Ok u) s d s' d' up may same answered away replied =
+    let called : Calls (call_of line c) s d s' d' =
+    subst (λ (call : Call). Calls call s d s' d') (sym (call_reads line c may.known)) (may, inl answered, same) in
+    made_by line c s d s' d' up called answered.0 s refl refl answered.1.after
+replied_ends line c (Err why) (Err e) s d s' d' up may same answered away replied = unanswered_same e why c s d s' d' away same replied
+replied_ends line c (Ok place) (Err run.Memory) s d s' d' up may same answered away replied = absurd replied
+replied_ends line c (Ok place) (Err run.Fault) s d s' d' up may same answered away replied = absurd replied
+replied_ends line c (Ok place) (Err run.DeviceRead) s d s' d' up may same answered away replied = absurd replied
+replied_ends line c (Err why) (Ok u) s d s' d' up may same answered away replied = absurd replied
+
+-- what is known where the device failed at a read is known where that is why the read has no entry
+pub read_rose : (r : Result ℕ Unanswered) (out : Result (Unit {0}) RunFail) (A : Type 0) → IfErr r (λ why. IsDeviceRead why → A)
+    → MatchResult out (λ _. IsReplied r) (λ e. IsFailOf e r) → out ≡ Err run.DeviceRead → A
+read_rose (Err (unanswered.DeviceRead back)) (Err run.DeviceRead) A cause replied is = cause tt
+read_rose r (Err run.DeviceRead) A cause replied is = absurd replied
+read_rose r (Err run.Memory) A cause replied is = absurd cc
+read_rose r (Err run.Fault) A cause replied is = absurd cc
+read_rose r (Ok u) A cause replied is = absurd cc
+
+-- ---- the draw of a command
 
 -- the client's call is the only one
-client_drawn : (a : Ask) (rest : List Ask) (ready : List Step) (x : ℕ) → ready ≡ [] → IsDrawnOf x (possible_calls (a ∷ rest) ready) (submitting 0 a.line a.change)
+client_drawn : (a : Ask) (rest : List Ask) (ready : List Step) (x : ℕ) → ready ≡ []
+    → IsDrawnOf x (possible_calls (a ∷ rest) ready) (call_of a.line a.command)
 client_drawn a rest ready x none =
     let first : (x / 2 ^ 33) % 1 ≡ 0 = omega arith in
-    subst (λ (l : List Step). IsDrawnOf x (possible_calls (a ∷ rest) l) (submitting 0 a.line a.change)) (sym none)
-    (ap (λ (k : ℕ). slice_get (submitting 0 a.line a.change ∷ []) k) first)
+    subst (λ (l : List Step). IsDrawnOf x (possible_calls (a ∷ rest) l) (call_of a.line a.command)) (sym none)
+    (ap (λ (k : ℕ). slice_get (call_of a.line a.command ∷ []) k) first)
 
--- the entry of a transaction
-pub record HasEntry (a : Ask) (s s' : State) : Type 0 where
-  pub up : s'.down ≡ s.down
-  pub entry : map asked_in s'.book.entries ≡ map asked_in s.book.entries ++ (asked_by a ∷ [])
+-- it takes the first of the commands
+takes_first : (a : Ask) (rest : List Ask) → rest ≡ asks_after (call_of a.line a.command) (a ∷ rest)
+takes_first a rest = of_command a.command
+  where
+    of_command : (c : Command) → rest ≡ asks_after (call_of a.line c) (a ∷ rest)
+    of_command (command.Change change) = refl
+    of_command (command.Read coll object off len) = refl
+    of_command (command.Sum coll object) = refl
+    of_command (command.Stat coll object) = refl
+    of_command (command.GetAttr coll object name) = refl
+    of_command (command.OmapGet coll object key) = refl
+    of_command (command.OmapHeader coll object) = refl
+    of_command (command.List coll) = refl
 
-map_push : (es : List Entry) (e : Entry) → map asked_in (es ++ (e ∷ [])) ≡ map asked_in es ++ (asked_in e ∷ [])
-map_push [] e = refl
-map_push (x ∷ xs) e = ap (λ (l : List Asked). asked_in x ∷ l) (map_push xs e)
+module _ (x0 : ℕ) (s0 : State) (d0 : Disk) (x : ℕ) (s : State) (d : Disk) (s' : State) (d' : Disk) (drained : Drains None x0 s0 d0 x s d) where
+  -- a command is drawn behind the steps, and made
+  pub makes : (a : Ask) (x' : ℕ) → IsMade a.line a.command s d s' d' → x' ≡ turned x → IsSound d' → Makes a x0 s0 d0 x' s' d'
+  makes a x' made turn sound = record {
+    leads = λ rest. leads_more (at_position x0 (a ∷ rest) s0 d0) (at_position x (a ∷ rest) s d) (call_of a.line a.command) (at_position x' rest s' d')
+        (drained.leads (a ∷ rest))
+        (record {
+          x = turn;
+          drawn = client_drawn a rest (ready_list d.depth s) x' drained.ended.0;
+          called = made.called;
+          sound = sound;
+          asks = takes_first a rest;
+        });
+    up = made.up;
+    entry = made.entry ∙ ap (λ (l : List Entry). map asked_in l ++ (asked_by a ∷ [])) drained.entries;
+  }
 
-pub accepted_entry : (a : Ask) (s s' : State) → Accepts 0 a.line a.change s s' → HasEntry a s s'
-accepted_entry a s s' accepts = record {
-  up = ap (λ (z : State). z.down) accepts.after;
-  entry = ap (λ (z : State). map asked_in z.book.entries) accepts.after ∙ map_push s.book.entries _;
-}
+  -- a command that is not made changes nothing
+  still_ends : (e : RunFail) → IsUnmade e s d s' d' → (s' ≡ s) × (d' ≡ d)
+  still_ends run.Memory unmade = unmade
+  still_ends run.DeviceRead unmade = unmade
+  still_ends run.Fault unmade = absurd unmade
 
-pub refused_entry : (a : Ask) (reply : Answer) (s s' : State) → Refuses 0 a.line a.change reply s s' → HasEntry a s s'
-refused_entry a reply s s' refuses = record {
-  up = ap (λ (z : State). z.down) refuses.after;
-  entry = ap (λ (z : State). map asked_in z.book.entries) refuses.after ∙ map_push s.book.entries _;
-}
+  -- where nothing changed it has ended so
+  ends_at : (e : RunFail) → IsUnmade e s d s' d' → EndsRun (Some e) s d
+  ends_at run.Memory unmade = drained.ended.1
+  ends_at run.DeviceRead unmade = drained.ended
+  ends_at run.Fault unmade = absurd unmade
 
-pub makes : (a : Ask) (x0 : ℕ) (s0 : State) (d0 : Disk) (x : ℕ) (s : State) (d : Disk) (x' : ℕ) (s' : State) (d' : Disk) → Drains None x0 s0 d0 x s d → MaySubmit a.change s d → Submits 0 a.line a.change s s' → HasEntry a s s'
-    → x' ≡ turned x → d' ≡ d → IsSound d' → Makes a x0 s0 d0 x' s' d'
-makes a x0 s0 d0 x s d x' s' d' drained may submits has turn same sound = record {
-  leads = λ rest. leads_more (at_position x0 (a ∷ rest) s0 d0) (at_position x (a ∷ rest) s d) (submitting 0 a.line a.change) (at_position x' rest s' d') (drained.leads (a ∷ rest))
-      (record { x = turn; drawn = client_drawn a rest (ready_list d.depth s) x' drained.ended.0; called = (may, submits, same); sound = sound; asks = refl });
-  up = has.up ∙ drained.ended.1;
-  entry = has.entry ∙ ap (λ (l : List Entry). map asked_in l ++ (asked_by a ∷ [])) drained.entries;
-}
+  -- a command that was not made leaves what the steps led to
+  pub unmade : (e : RunFail) → IsUnmade e s d s' d' → (y : ℕ) × FailsAfter e x0 s0 d0 y s' d'
+  unmade e is =
+      let same = still_ends e is in
+      let here : FailsAfter e x0 s0 d0 x s d = record { leads = drained.leads; ended = ends_at e is; entries = drained.entries } in (
+        x,
+        subst (λ (z : Disk). FailsAfter e x0 s0 d0 x s' z) (sym same.1) (subst (λ (z : State). FailsAfter e x0 s0 d0 x z d) (sym same.0) here),
+      )
 
--- no memory for it
-pub no_memory : (x0 : ℕ) (s0 : State) (d0 : Disk) (x : ℕ) (s : State) (d : Disk) (s' : State) (d' : Disk) → Drains None x0 s0 d0 x s d → s' ≡ s → d' ≡ d → (y : ℕ) × Drains (Some fail.Memory) x0 s0 d0 y s' d'
-no_memory x0 s0 d0 x s d s' d' drained same_state same_disk = (
-  x,
-  record {
-    leads = λ asks. subst (λ (z : Disk). LeadsTo (at_position x0 asks s0 d0) (at_position x asks s' z)) (sym same_disk)
-        (subst (λ (z : State). LeadsTo (at_position x0 asks s0 d0) (at_position x asks z d)) (sym same_state) (drained.leads asks));
-    ended = ap (λ (z : State). z.down) same_state ∙ drained.ended.1;
-    entries = ap (λ (z : State). z.book.entries) same_state ∙ drained.entries;
-  },
-)
+  -- a command and its end
+  pub command_ends : (a : Ask) (out : Result (Unit {0}) RunFail) (x' : ℕ)
+      → MatchResult out (λ _. IsMade a.line a.command s d s' d') (λ e. IsUnmade e s d s' d') → x' ≡ turned x → IsSound d'
+      → MatchResult out (λ _. Makes a x0 s0 d0 x' s' d') (λ e. (y : ℕ) × FailsAfter e x0 s0 d0 y s' d')
+  command_ends a (Ok u) x' ends turn sound = makes a x' ends turn sound
+  command_ends a (Err e) x' ends turn sound = unmade e ends
 
-pub makes_accepted : (a : Ask) (x0 : ℕ) (s0 : State) (d0 : Disk) (x : ℕ) (s : State) (d : Disk) (x' : ℕ) (s' : State) (d' : Disk) → Drains None x0 s0 d0 x s d → MaySubmit a.change s d → Accepts 0 a.line a.change s s'
-    → x' ≡ turned x → d' ≡ d → IsSound d' → Makes a x0 s0 d0 x' s' d'
-makes_accepted a x0 s0 d0 x s d x' s' d' drained may accepts turn same sound =
-    makes a x0 s0 d0 x s d x' s' d' drained may (inl accepts) (accepted_entry a s s' accepts) turn same sound
+-- the end of a step that failed is one of the run
+ends_as : (e : StepFail) (s : State) (d : Disk) → EndsAs (Some e) s d → EndsRun (Some (fail_of e)) s d
+ends_as fail.Memory s d ended = ended
+ends_as fail.Fault s d ended = ended
 
-pub makes_refused : (a : Ask) (reply : Answer) (x0 : ℕ) (s0 : State) (d0 : Disk) (x : ℕ) (s : State) (d : Disk) (x' : ℕ) (s' : State) (d' : Disk) → Drains None x0 s0 d0 x s d → MaySubmit a.change s d
-    → Refuses 0 a.line a.change reply s s' → x' ≡ turned x → d' ≡ d → IsSound d' → Makes a x0 s0 d0 x' s' d'
-makes_refused a reply x0 s0 d0 x s d x' s' d' drained may refuses turn same sound =
-    makes a x0 s0 d0 x s d x' s' d' drained may (inr (inl (reply, refuses))) (refused_entry a reply s s' refuses) turn same sound
+-- a step that failed on the way to a command
+pub drain_fails : (e : StepFail) (x : ℕ) (s : State) (d : Disk) (s' : State) (d' : Disk) → (y : ℕ) × Drains (Some e) x s d y s' d'
+    → (y : ℕ) × FailsAfter (fail_of e) x s d y s' d'
+drain_fails e x s d s' d' drains = (drains.0, record { leads = drains.1.leads; ended = ends_as e s' d' drains.1.ended; entries = drains.1.entries })
 
--- a submission and its end
-pub submitted_ends : (a : Ask) (r : Result ℕ Refused) (out : Result (Unit {0}) StepFail) (x0 : ℕ) (s0 : State) (d0 : Disk) (x : ℕ) (s : State) (d : Disk) (x' : ℕ) (s' : State) (d' : Disk) → Drains None x0 s0 d0 x s d → MaySubmit a.change s d
-    → OnOk r (Accepts 0 a.line a.change s s') → IfErr r (λ why. RefusesBy why 0 a.line a.change s s') → MatchResult out (λ _. IsNoted r) (λ e. (e ≡ fail.Memory) × IsNotNoted r) → x' ≡ turned x → d' ≡ d → IsSound d'
-    → MatchResult out (λ _. Makes a x0 s0 d0 x' s' d') (λ e. (y : ℕ) × Drains (Some e) x0 s0 d0 y s' d')
-submitted_ends a (Ok place) (Ok u) x0 s0 d0 x s d x' s' d' drained may accepted refuses noted turn same sound = makes_accepted a x0 s0 d0 x s d x' s' d' drained may accepted turn same sound
-submitted_ends a (Err (refused.Refusal refusal)) (Ok u) x0 s0 d0 x s d x' s' d' drained may accepted refuses noted turn same sound =
-    makes_refused a (answer.Refused refusal) x0 s0 d0 x s d x' s' d' drained may refuses turn same sound
-submitted_ends a (Err (refused.NoSpace need free)) (Ok u) x0 s0 d0 x s d x' s' d' drained may accepted refuses noted turn same sound =
-    makes_refused a (answer.NoSpace need free) x0 s0 d0 x s d x' s' d' drained may refuses turn same sound
-submitted_ends a (Err (refused.MetaFull need room)) (Ok u) x0 s0 d0 x s d x' s' d' drained may accepted refuses noted turn same sound =
-    makes_refused a (answer.MetaFull need room) x0 s0 d0 x s d x' s' d' drained may refuses turn same sound
-submitted_ends a (Err (refused.Down ticket txn)) (Ok u) x0 s0 d0 x s d x' s' d' drained may accepted refuses noted turn same sound = absurd noted
-submitted_ends a (Err (refused.Down ticket txn)) (Err e) x0 s0 d0 x s d x' s' d' drained may accepted refuses noted turn same sound = absurd noted.1
-submitted_ends a (Err (refused.BookFull txn)) (Ok u) x0 s0 d0 x s d x' s' d' drained may accepted refuses noted turn same sound = absurd noted
-submitted_ends a (Err (refused.BookFull txn)) (Err e) x0 s0 d0 x s d x' s' d' drained may accepted refuses noted turn same sound = absurd noted.1
-submitted_ends a (Err (refused.Memory txn)) (Ok u) x0 s0 d0 x s d x' s' d' drained may accepted refuses noted turn same sound = absurd noted
-submitted_ends a (Err (refused.Memory txn)) (Err e) x0 s0 d0 x s d x' s' d' drained may accepted refuses noted turn same sound =
-    subst (λ (z : StepFail). (y : ℕ) × Drains (Some z) x0 s0 d0 y s' d') (sym noted.0) (no_memory x0 s0 d0 x s d s' d' drained refuses.0 same)
-submitted_ends a (Ok place) (Err e) x0 s0 d0 x s d x' s' d' drained may accepted refuses noted turn same sound = absurd noted.1
-submitted_ends a (Err (refused.Refusal refusal)) (Err e) x0 s0 d0 x s d x' s' d' drained may accepted refuses noted turn same sound = absurd noted.1
-submitted_ends a (Err (refused.NoSpace need free)) (Err e) x0 s0 d0 x s d x' s' d' drained may accepted refuses noted turn same sound = absurd noted.1
-submitted_ends a (Err (refused.MetaFull need room)) (Err e) x0 s0 d0 x s d x' s' d' drained may accepted refuses noted turn same sound = absurd noted.1
+-- a command that isn't made for want of memory or at a read that failed doesn't end at a fault
+pub unmade_no_fault : (out : Result (Unit {0}) RunFail) (s : State) (d : Disk) (s' : State) (d' : Disk) (P : Unit {0} → Type 0)
+    → MatchResult out P (λ e. IsUnmade e s d s' d') → out ≡ Err run.Fault → ⊥
+unmade_no_fault (Ok u) s d s' d' P ends is = cc
+unmade_no_fault (Err run.Fault) s d s' d' P ends is = ends
+unmade_no_fault (Err run.Memory) s d s' d' P ends is = cc
+unmade_no_fault (Err run.DeviceRead) s d s' d' P ends is = cc
+
+-- a step fails at a fault where the run is said to end so
+pub fail_fault : (e : StepFail) → fail_of e ≡ run.Fault → e ≡ fail.Fault
+fail_fault fail.Fault is = refl
+fail_fault fail.Memory is = absurd cc
+
+-- and never at a read
+pub fail_no_read : (e : StepFail) → fail_of e ≡ run.DeviceRead → ⊥
+fail_no_read fail.Fault is = cc
+fail_no_read fail.Memory is = cc
 
 -- ---- the script
 
@@ -282,88 +478,108 @@ pub record IsRunning (x0 : ℕ) (lines : List Line) (s0 : State) (d0 : Disk) (x 
   pub fits : AllByRecursion FitsLine left
   pub room : length s.book.entries + length (asks_of left) ≤ 1048576
 
-pub script_begins : (x : ℕ) (lines : List Line) (s : State) (d : Disk) → s.down ≡ None → AllByRecursion FitsLine lines → length s.book.entries + length (asks_of lines) ≤ 1048576 → IsRunning x lines s d x lines s d
-script_begins x lines s d up fits room = record { leads = stays (at_position x (asks_of lines) s d); up = up; entries = refl; fits = fits; room = room }
+-- at its start all lines are left
+pub script_begins : (x : ℕ) (lines : List Line) (s : State) (d : Disk) → s.down ≡ None → AllByRecursion FitsLine lines
+    → length s.book.entries + length (asks_of lines) ≤ 1048576 → IsRunning x lines s d x lines s d
+script_begins x lines s d up fits room = record {
+  leads = stays (at_position x (asks_of lines) s d);
+  up = up;
+  entries = refl;
+  fits = fits;
+  room = room;
+}
 
-known_ops : (ops : List Op) → HasWholePages ops → IsKnown ops
-known_ops (op.MkColl ∷ []) pages = tt
-known_ops (op.Touch o ∷ []) pages = tt
-known_ops (op.Write o off bytes ∷ []) pages = pages
-known_ops ops pages = absurd pages
-
-fits_known : (change : Change) → Fits (what.Command (command.Change change)) → IsKnown change.ops
-fits_known change fits = known_ops change.ops fits
+-- its next line says this
+pub said_next : (x0 : ℕ) (lines : List Line) (s0 : State) (d0 : Disk) (x : ℕ) (items left : List Line) (next : Line) (said : What) (s : State)
+    (d : Disk) → IsRunning x0 lines s0 d0 x items s d → items ≡ next ∷ left
+    → next.what ≡ said → IsRunning x0 lines s0 d0 x (record { line = next.line; what = said } ∷ left) s d
+said_next x0 lines s0 d0 x items left next said s d so_far is says =
+    subst (λ (l : List Line). IsRunning x0 lines s0 d0 x l s d) (is ∙ ap (λ (w : What). record { line = next.line; what = w } ∷ left) says) so_far
 
 -- a `wait` is passed over
-pub wait_passed : (x0 : ℕ) (lines : List Line) (s0 : State) (d0 : Disk) (x : ℕ) (items left : List Line) (next : Line) (s : State) (d : Disk) → IsRunning x0 lines s0 d0 x items s d → items ≡ next ∷ left → next.what ≡ what.Wait
+pub wait_passed : (x0 : ℕ) (lines : List Line) (s0 : State) (d0 : Disk) (x : ℕ) (items left : List Line) (next : Line) (s : State) (d : Disk)
+    → IsRunning x0 lines s0 d0 x items s d → items ≡ next ∷ left → next.what ≡ what.Wait
     → IsRunning x0 lines s0 d0 x left s d
 wait_passed x0 lines s0 d0 x items left next s d so_far is waits =
     let here : IsRunning x0 lines s0 d0 x (record { line = next.line; what = what.Wait } ∷ left) s d =
-    subst (λ (l : List Line). IsRunning x0 lines s0 d0 x l s d) (is ∙ ap (λ (w : What). record { line = next.line; what = w } ∷ left) waits) so_far in
+    said_next x0 lines s0 d0 x items left next what.Wait s d so_far is waits in
     record { leads = here.leads; up = here.up; entries = here.entries; fits = here.fits.1; room = here.room }
 
-pub next_fits : (x0 : ℕ) (lines : List Line) (s0 : State) (d0 : Disk) (x : ℕ) (items left : List Line) (next : Line) (s : State) (d : Disk) → IsRunning x0 lines s0 d0 x items s d → items ≡ next ∷ left → Fits next.what
-next_fits x0 lines s0 d0 x items left next s d so_far is = (subst (λ (l : List Line). AllByRecursion FitsLine l) is so_far.fits).0
-
--- what a transaction's line asks of the kernel
-pub record CanAsk (change : Change) (s : State) : Type 0 where
+-- what a line asks of the kernel
+pub record CanAsk (c : Command) (s : State) : Type 0 where
   pub up : s.down ≡ None
-  pub known : IsKnown change.ops
+  pub fits : Fits (what.Command c)
   pub room : length s.book.entries < 1048576
 
-pub can_ask : (x0 : ℕ) (lines : List Line) (s0 : State) (d0 : Disk) (x : ℕ) (items left : List Line) (next : Line) (change : Change) (s : State) (d : Disk) → IsRunning x0 lines s0 d0 x items s d
-    → items ≡ next ∷ left → next.what ≡ what.Command (command.Change change) → CanAsk change s
-can_ask x0 lines s0 d0 x items left next change s d so_far is asks =
-    let here : IsRunning x0 lines s0 d0 x (record { line = next.line; what = what.Command (command.Change change) } ∷ left) s d =
-    subst (λ (l : List Line). IsRunning x0 lines s0 d0 x l s d) (is ∙ ap (λ (w : What). record { line = next.line; what = w } ∷ left) asks) so_far in
-    record { up = here.up; known = fits_known change here.fits.0; room = omega (arith, here.room) }
+-- a line with a command can be asked
+pub can_ask : (x0 : ℕ) (lines : List Line) (s0 : State) (d0 : Disk) (x : ℕ) (items left : List Line) (next : Line) (c : Command) (s : State)
+    (d : Disk) → IsRunning x0 lines s0 d0 x items s d
+    → items ≡ next ∷ left → next.what ≡ what.Command c → CanAsk c s
+can_ask x0 lines s0 d0 x items left next c s d so_far is asks =
+    let here : IsRunning x0 lines s0 d0 x (record { line = next.line; what = what.Command c } ∷ left) s d =
+    said_next x0 lines s0 d0 x items left next (what.Command c) s d so_far is asks in
+    record { up = here.up; fits = here.fits.0; room = omega (arith, here.room) }
 
+-- there are as many commands as entries
 length-map_asked : (es : List Entry) → length (map asked_in es) ≡ length es
 length-map_asked [] = refl
 length-map_asked (e ∷ es) = ap (λ (n : ℕ). suc n) (length-map_asked es)
 
-pub asked_one : (x0 : ℕ) (lines : List Line) (s0 : State) (d0 : Disk) (x : ℕ) (items left : List Line) (next : Line) (change : Change) (s : State) (d : Disk) (x' : ℕ) (s' : State) (d' : Disk) → IsRunning x0 lines s0 d0 x items s d
-    → items ≡ next ∷ left → next.what ≡ what.Command (command.Change change) → Makes (record { line = next.line; change = change }) x s d x' s' d' → IsRunning x0 lines s0 d0 x' left s' d'
-asked_one x0 lines s0 d0 x items left next change s d x' s' d' so_far is asks made =
-    let here : IsRunning x0 lines s0 d0 x (record { line = next.line; what = what.Command (command.Change change) } ∷ left) s d =
-    subst (λ (l : List Line). IsRunning x0 lines s0 d0 x l s d) (is ∙ ap (λ (w : What). record { line = next.line; what = w } ∷ left) asks) so_far in
-    let a : Ask = record { line = next.line; change = change } in
+-- behind a command that was made the script has come one line further
+pub asked_one : (x0 : ℕ) (lines : List Line) (s0 : State) (d0 : Disk) (x : ℕ) (items left : List Line) (next : Line) (c : Command) (s : State)
+    (d : Disk) (x' : ℕ) (s' : State) (d' : Disk) → IsRunning x0 lines s0 d0 x items s d
+    → items ≡ next ∷ left → next.what ≡ what.Command c → Makes (record { line = next.line; command = c }) x s d x' s' d'
+    → IsRunning x0 lines s0 d0 x' left s' d'
+asked_one x0 lines s0 d0 x items left next c s d x' s' d' so_far is asks made =
+    let here : IsRunning x0 lines s0 d0 x (record { line = next.line; what = what.Command c } ∷ left) s d =
+    said_next x0 lines s0 d0 x items left next (what.Command c) s d so_far is asks in
+    let a : Ask = record { line = next.line; command = c } in
     let more : length s'.book.entries ≡ length s.book.entries + 1 =
-    sym (length-map_asked s'.book.entries) ∙ (ap (λ (l : List Asked). length l) made.entry ∙ omega (arith, length-append (map asked_in s.book.entries) (asked_by a ∷ []), length-map_asked s.book.entries)) in
+    sym (length-map_asked s'.book.entries)
+    ∙ (ap (λ (l : List Asked). length l) made.entry
+    ∙ omega (arith, length-append (map asked_in s.book.entries) (asked_by a ∷ []), length-map_asked s.book.entries)) in
     record {
-      leads = leads_on (at_position x0 (asks_of lines) s0 d0) (at_position x (a ∷ asks_of left) s d) (at_position x' (asks_of left) s' d') here.leads (made.leads (asks_of left));
+      leads = leads_on (at_position x0 (asks_of lines) s0 d0) (at_position x (a ∷ asks_of left) s d) (at_position x' (asks_of left) s' d')
+          here.leads (made.leads (asks_of left));
       up = made.up;
-      entries = here.entries ∙ (sym (append_assoc (map asked_in s.book.entries) (asked_by a ∷ []) (map asked_by (asks_of left))) ∙ ap (λ (l : List Asked). l ++ map asked_by (asks_of left)) (sym made.entry));
+      entries =
+          here.entries
+          ∙ (sym (append_assoc (map asked_in s.book.entries) (asked_by a ∷ []) (map asked_by (asks_of left)))
+          ∙ ap (λ (l : List Asked). l ++ map asked_by (asks_of left)) (sym made.entry));
       fits = here.fits.1;
       room = omega (arith, here.room, more);
     }
 
 -- where running ends, the kernel drained, or a failure on the way
-pub script_ends : (failed : Option StepFail) (x0 : ℕ) (lines : List Line) (s0 : State) (d0 : Disk) (x : ℕ) (left : List Line) (s : State) (d : Disk) (y : ℕ) (s' : State) (d' : Disk) → IsRunning x0 lines s0 d0 x left s d → Drains failed x s d y s' d'
-    → (failed ≡ None → asks_of left ≡ []) → RunsUpTo failed x0 lines s0 d0 s' d'
-script_ends failed x0 lines s0 d0 x left s d y s' d' so_far drains all = record {
-  x_last = y;
-  left = asks_of left;
-  leads = leads_on (at_position x0 (asks_of lines) s0 d0) (at_position x (asks_of left) s d) (at_position y (asks_of left) s' d') so_far.leads (drains.leads (asks_of left));
-  all = all;
-  ended = drains.ended;
-  entries = so_far.entries ∙ ap (λ (l : List Entry). map asked_in l ++ map asked_by (asks_of left)) (sym drains.entries);
-}
+module _ (x0 : ℕ) (lines asked : List Line) (s0 : State) (d0 : Disk) (x : ℕ) (left : List Line) (s : State) (d : Disk) (s' : State) (d' : Disk)
+    (same : lines ≡ asked) (so_far : IsRunning x0 lines s0 d0 x left s d) where
+  -- so the script was run up to this end
+  ends_with : (failed : Option RunFail) (y : ℕ) → ((asks : List Ask) → LeadsTo (at_position x asks s d) (at_position y asks s' d'))
+      → EndsRun failed s' d' → s'.book.entries ≡ s.book.entries
+      → (failed ≡ None → asks_of left ≡ []) → RunsUpTo failed x0 asked s0 d0 s' d'
+  ends_with failed y leads ended entries all = subst (λ (l : List Line). RunsUpTo failed x0 l s0 d0 s' d') same (record {
+    x_last = y;
+    left = asks_of left;
+    leads = leads_on (at_position x0 (asks_of lines) s0 d0) (at_position x (asks_of left) s d) (at_position y (asks_of left) s' d') so_far.leads
+        (leads (asks_of left));
+    all = all;
+    ended = ended;
+    entries = so_far.entries ∙ ap (λ (l : List Entry). map asked_in l ++ map asked_by (asks_of left)) (sym entries);
+  })
 
-nothing_asked : (left : List Line) → length left ≡ 0 → asks_of left ≡ []
-nothing_asked [] none = refl
-nothing_asked (l ∷ ls) none = absurd (omega (arith, none))
+  -- a command that wasn't made
+  pub script_stops : (e : RunFail) → (y : ℕ) × FailsAfter e x s d y s' d' → RunsUpTo (Some e) x0 asked s0 d0 s' d'
+  script_stops e fails = ends_with (Some e) fails.0 fails.1.leads fails.1.ended fails.1.entries (λ is. absurd cc)
 
-pub script_drained : (r : Result (Unit {0}) StepFail) (x0 : ℕ) (lines asked : List Line) (s0 : State) (d0 : Disk) (x : ℕ) (left : List Line) (s : State) (d : Disk) (x' : ℕ) (s' : State) (d' : Disk) → lines ≡ asked → IsRunning x0 lines s0 d0 x left s d
-    → length left ≡ 0 → MatchResult r (λ _. Drains None x s d x' s' d') (λ e. (y : ℕ) × Drains (Some e) x s d y s' d')
-    → MatchResult r (λ _. RunsUpTo None x0 asked s0 d0 s' d') (λ e. RunsUpTo (Some e) x0 asked s0 d0 s' d')
-script_drained (Ok u) x0 lines asked s0 d0 x left s d x' s' d' same so_far none drains =
-    subst (λ (l : List Line). RunsUpTo None x0 l s0 d0 s' d') same (script_ends None x0 lines s0 d0 x left s d x' s' d' so_far drains (λ _. nothing_asked left none))
-script_drained (Err e) x0 lines asked s0 d0 x left s d x' s' d' same so_far none drains =
-    subst (λ (l : List Line). RunsUpTo (Some e) x0 l s0 d0 s' d') same (script_ends (Some e) x0 lines s0 d0 x left s d drains.0 s' d' so_far drains.1 (λ is. absurd cc))
+  -- no lines are left, and so no commands
+  nothing_asked : (ls : List Line) → length ls ≡ 0 → asks_of ls ≡ []
+  nothing_asked [] none = refl
+  nothing_asked (l ∷ ls) none = absurd (omega (arith, none))
 
--- a transaction that wasn't submitted
-pub script_stops : (e : StepFail) (x0 : ℕ) (lines asked : List Line) (s0 : State) (d0 : Disk) (x : ℕ) (left : List Line) (s : State) (d : Disk) (s' : State) (d' : Disk) → lines ≡ asked → IsRunning x0 lines s0 d0 x left s d
-    → (y : ℕ) × Drains (Some e) x s d y s' d' → RunsUpTo (Some e) x0 asked s0 d0 s' d'
-script_stops e x0 lines asked s0 d0 x left s d s' d' same so_far drains =
-    subst (λ (l : List Line). RunsUpTo (Some e) x0 l s0 d0 s' d') same (script_ends (Some e) x0 lines s0 d0 x left s d drains.0 s' d' so_far drains.1 (λ is. absurd cc))
+  -- behind the last command nothing is left to do
+  pub script_done : (x' : ℕ) → length left ≡ 0 → Drains None x s d x' s' d' → RunsUpTo None x0 asked s0 d0 s' d'
+  script_done x' none drains = ends_with None x' drains.leads drains.ended drains.entries (λ _. nothing_asked left none)
+
+  -- or a step fails there
+  pub script_fails : (e : StepFail) → (y : ℕ) × Drains (Some e) x s d y s' d' → RunsUpTo (Some (fail_of e)) x0 asked s0 d0 s' d'
+  script_fails e drains = script_stops (fail_of e) (drain_fails e x s d s' d' drains)

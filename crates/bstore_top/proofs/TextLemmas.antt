@@ -1,5 +1,6 @@
 -- The texts of runs, as they are formatted.
-use Rattle.std.proofs.Common.{◌≡◌, ℕ, ◌+◌, ◌-◌, ◌*◌, ◌<◌, List, [], ◌∷◌, ◌++◌, Result, Ok, Err, IfOk, String, codes, ap, ◌∙◌, append_assoc, sym, refl, arith}
+use Rattle.std.proofs.Common.{◌≡◌, ℕ, ◌+◌, ◌-◌, ◌*◌, ◌<◌, List, [], ◌∷◌, ◌++◌, Result, Ok, Err, IfOk, String, codes, ap, ◌∙◌}
+use Rattle.std.proofs.Common.{append_assoc, sym, refl, arith}
 use Rattle.std.specs.Prelude.{string_bytes}
 use Rattle.std.specs.Fmt.{decimal}
 use Rattle.std.specs.declared.alloc.Global.{Global}
@@ -15,19 +16,28 @@ use Rattle.bstore_top.specs.Texts.{as_text, made_line, too_small_line, stopped_l
 pub stopped_is : (stop : Stop) (n : ℕ) → stop_number stop ≡ n → n < 10 → as_text (stopped_line stop ∷ []) ≡ codes "stopped " ++ ((48 + n) ∷ 10 ∷ [])
 stopped_is stop n is one = ap (λ (d : List ℕ). codes "stopped " ++ (d ++ (10 ∷ []))) (ap (λ (m : ℕ). decimal m) is ∙ decimal_digit n one)
 
-pub made_is : (half units : ℕ) → codes "mkfs units=" ++ (decimal units ++ (codes " half=" ++ (decimal half ++ (codes " data=" ++ (decimal (units - 2 * half - 2) ++ (10 ∷ [])))))) ≡ as_text (made_line half units ∷ [])
+-- the line of a store that was made, as it is formatted
+pub made_is : (half units : ℕ) → codes "mkfs units="
+    ++ (decimal units ++ (codes " half=" ++ (decimal half ++ (codes " data=" ++ (decimal (units - 2 * half - 2) ++ (10 ∷ [])))))) ≡
+    as_text (made_line half units ∷ [])
 made_is half units = simp append_assoc
 
+-- the line of a device that is too small, as it is formatted, and what comes behind it
 abbrev before : ℕ → ℕ → List ℕ → List ℕ
 before half units tail = codes "mkfs TooSmall units=" ++ (decimal units ++ (codes " need=" ++ (decimal (2 * half + 3) ++ tail)))
 
+-- its pieces are grouped as in its definition
 nested : (half units : ℕ) (tail : List ℕ) → before half units (10 ∷ tail) ≡ too_small_line half units ++ (10 ∷ tail)
 nested half units tail = simp append_assoc
 
+-- and with the last line behind it
 pub too_small_is : (half units : ℕ) → before half units (codes "\nstopped 4\n") ≡ as_text (too_small_line half units ∷ stopped_line Refused ∷ [])
-too_small_is half units = ap (λ (tail : List ℕ). before half units (10 ∷ tail)) (sym (stopped_is Refused 4 refl (omega arith))) ∙ nested half units (as_text (stopped_line Refused ∷ []))
+too_small_is half units = ap (λ (tail : List ℕ). before half units (10 ∷ tail)) (sym (stopped_is Refused 4 refl (omega arith)))
+    ∙ nested half units (as_text (stopped_line Refused ∷ []))
 
-pub as_lines : {E : Type 0} (r : Result (String Global) E) (a b : List ℕ) → a ≡ b → IfOk r (λ text. string_bytes text ≡ a) → IfOk r (λ text. string_bytes text ≡ b)
+-- a text that was made is the same text, said otherwise
+pub as_lines : {E : Type 0} (r : Result (String Global) E) (a b : List ℕ) → a ≡ b → IfOk r (λ text. string_bytes text ≡ a)
+    → IfOk r (λ text. string_bytes text ≡ b)
 as_lines (Ok text) a b same is = is ∙ same
 as_lines (Err e) a b same is = tt
 

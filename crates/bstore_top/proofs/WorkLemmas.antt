@@ -1,5 +1,6 @@
 -- The work of `step`, part by part.
-use Rattle.std.proofs.Common.{◌≡◌, inl, inr, ℕ, ◌+◌, ◌<◌, ◌≤◌, List, [], ◌∷◌, ◌++◌, map, length, Option, Some, None, Result, Ok, Err, IsSome, IfSome, MatchResult, ap, ◌∙◌, sym, refl, subst, arith, append_assoc, length-append}
+use Rattle.std.proofs.Common.{◌≡◌, inl, inr, ℕ, ◌+◌, ◌<◌, ◌≤◌, List, [], ◌∷◌, ◌++◌, map, length, Option, Some, None, Result, Ok, Err, IsSome, IfSome}
+use Rattle.std.proofs.Common.{MatchResult, ap, ◌∙◌, sym, refl, subst, arith, append_assoc, length-append}
 use Rattle.std.specs.Prelude.{Any}
 use Rattle.std.specs.List.{AllByRecursion}
 use Rattle.std.specs.FinMap as finite
@@ -22,11 +23,9 @@ use Rattle.store_steps.specs.declared.step.Step.TheVariants.{Data, Reap, Take, F
 use Rattle.store_steps.specs.State.{State}
 use Rattle.store_steps.specs.Opened.{Found}
 use Rattle.store_steps.specs.Submit.{free_count}
-use Rattle.store_steps.specs.Runs.{Call, submitting, stepping, DoesOrFails, Calls}
+use Rattle.store_steps.specs.Runs.{Call, submitting, reading, stepping, DoesOrFails, Calls}
 use Rattle.store_facts.specs.Kept.{IsKept}
 use Rattle.crash_facts.specs.Store.{KeepsDurable}
-use Rattle.store_kernel.specs.declared.step_fail.StepFail.{StepFail}
-use Rattle.store_kernel.specs.declared.step_fail.StepFail.TheVariants as run
 use Rattle.mount_replay.specs.Calls.{Told, GoesOn, IsLater}
 use Rattle.mount_replay.specs.Opening.{FailsMount, SubmitsNothing}
 use Rattle.mount_replay.specs.Mounting.{IsOpenedOn, IsReapedTo}
@@ -34,9 +33,12 @@ use Rattle.mount_replay.specs.declared.opening.MountFail.{MountFail}
 use Rattle.mount_replay.specs.declared.opening.MountFail.TheVariants as fail
 use Rattle.mount_replay.proofs.ZeroLemmas.{told_start, goes_on_same}
 use Rattle.mount_replay.proofs.MadeLemmas.{told_join}
-use Rattle.bstore_top.specs.declared.step_end.StepEnd.{StepEnd}
-use Rattle.bstore_top.specs.Choice.{Ask, asked, asks_of, Position, at_position, IsDrawnRun}
-use Rattle.bstore_top.specs.StepRun.{asked_in, asked_by, IsTextUnder, FailsBefore, end_of_script, EndsAt, FailsToMount, LeftByMount, HasCounted, end_of_mount, end_of_run}
+use Rattle.bstore_top.specs.declared.run_fail.RunFail.{RunFail}
+use Rattle.bstore_top.specs.declared.run_fail.RunFail.TheVariants as run
+use Rattle.bstore_top.specs.declared.work_end.WorkEnd.{WorkEnd}
+use Rattle.bstore_top.specs.Choice.{asked, asks_of, Position, at_position, IsDrawnRun}
+use Rattle.bstore_top.specs.StepRun.{asked_in, asked_by, IsTextUnder, FailsBefore, end_of_script, EndsAt, FailsToMount, LeftByMount, HasCounted}
+use Rattle.bstore_top.specs.StepRun.{end_of_mount, end_of_run}
 use Rattle.bstore_top.specs.Stepping.{LeadsTo, RunsUpTo, FitsLine}
 use Rattle.bstore_top.proofs.RunLaws.{drawn_run, joined_run, legal_of, RanKept}
 
@@ -73,24 +75,29 @@ script_fits text lines is_script = (
 )
 
 -- the text that a source gave is that under the name
-pub text_under : (names : Option Names) (name : List ℕ) (left : Option (List ℕ)) (text : List ℕ) → IfSome names (λ n. IsSome left × (left ≡ finite.get n.texts name)) → IsTextOf left text → IsTextUnder names name text
+pub text_under : (names : Option Names) (name : List ℕ) (left : Option (List ℕ)) (text : List ℕ)
+    → IfSome names (λ n. IsSome left × (left ≡ finite.get n.texts name)) → IsTextOf left text → IsTextUnder names name text
 text_under None name left text told is = tt
 text_under (Some n) name None text told is = let never = told.0 in absurd cc
 text_under (Some n) name (Some whole) text told is = sym told.1 ∙ ap (λ (t : List ℕ). Some t) is
 
 -- a source that was opened with no fault has counted one
 pub counted_one : (before now : ℕ) (faults : List ℕ) → before ≡ 0 → Rose before now → faults ≡ now ∷ [] → Any (λ n. 0 < n) faults
-counted_one before now faults none rose is = subst (λ (l : List ℕ). Any (λ n. 0 < n) l) (sym is) (0, now, omega arith, refl, omega (arith, rose, none))
+counted_one before now faults none rose is = subst (λ (l : List ℕ). Any (λ n. 0 < n) l) (sym is)
+    (0, now, omega arith, refl, omega (arith, rose, none))
 
 -- the one source that was kept
 pub one_source : {S : Type 0} (f : S → ℕ) (new mid old : List S) (x : S) → new ≡ mid ++ (x ∷ []) → mid ≡ old → old ≡ [] → map f new ≡ f x ∷ []
 one_source {S} f new mid old x pushed same none = ap (λ (l : List S). map f l) (pushed ∙ ap (λ (l : List S). l ++ (x ∷ [])) (same ∙ none))
 
 -- why the script wasn't read
-pub script_fails : (e : ScriptFail) (names : Option Names) (name : List ℕ) (left : Option (List ℕ)) (none some before now : ℕ) (faults : List ℕ) → IfLine e (λ n. (text : List ℕ) × IsTextOf left text × IsBadAt text n)
-    → (e ≡ script.ReadFault → Rose none some) → none ≡ 0 → IfSome names (λ n. IsSome left × (left ≡ finite.get n.texts name)) → faults ≡ some ∷ [] → FailsBefore (end_of_script e) names name faults before now
+pub script_fails : (e : ScriptFail) (names : Option Names) (name : List ℕ) (left : Option (List ℕ)) (none some before now : ℕ) (faults : List ℕ)
+    → IfLine e (λ n. (text : List ℕ) × IsTextOf left text × IsBadAt text n)
+    → (e ≡ script.ReadFault → Rose none some) → none ≡ 0 → IfSome names (λ n. IsSome left × (left ≡ finite.get n.texts name)) → faults ≡ some ∷ []
+    → FailsBefore (end_of_script e) names name faults before now
 script_fails script.Memory names name left none some before now faults bad rose is told all = tt
-script_fails (script.Line n) names name left none some before now faults bad rose is told all = record { text = bad.0; under = text_under names name left bad.0 told bad.1; bad = bad.2 }
+script_fails (script.Line n) names name left none some before now faults bad rose is told all =
+    record { text = bad.0; under = text_under names name left bad.0 told bad.1; bad = bad.2 }
 script_fails script.ReadFault names name left none some before now faults bad rose is told all = inl (counted_one none some faults is (rose refl) all)
 
 -- ---- mounting
@@ -103,7 +110,8 @@ mount_fails (fail.WornOut value) given before now fails = (value, fails)
 mount_fails fail.Fault given before now fails = fails
 
 -- what a mount that failed leaves of the device
-pub left_by_mount : (f : MountFail) (given disk : Disk) → (SubmitsNothing f → disk ≡ given) → IsLater given disk → LeftByMount (end_of_mount f) given disk
+pub left_by_mount : (f : MountFail) (given disk : Disk) → (SubmitsNothing f → disk ≡ given) → IsLater given disk
+    → LeftByMount (end_of_mount f) given disk
 left_by_mount fail.Memory given disk same later = later
 left_by_mount fail.NoSuper given disk same later = same tt
 left_by_mount (fail.BadRow key) given disk same later = same tt
@@ -144,13 +152,16 @@ went_equal d d' same = subst (λ (z : Disk). WentOn d z) (sym same) (went_same d
 
 grown_by : (d e d' : Disk) (event : Event) → d' ≡ e → e.units ≡ d.units → e.depth ≡ d.depth → e.history ≡ grown d.history event → WentOn d d'
 grown_by d e d' event same units depth history =
-    subst (λ (z : Disk). WentOn d z) (sym same) (record { units = units; depth = depth; told = subst (λ (h : Option History). Told GoesOn d.history h) (sym history) (told_grown d.history event) })
+    let told : Told GoesOn d.history e.history =
+    subst (λ (h : Option History). Told GoesOn d.history h) (sym history) (told_grown d.history event) in
+    subst (λ (z : Disk). WentOn d z) (sym same) (record { units = units; depth = depth; told = told })
 
 step_goes_on : (step : Step) (s : State) (d : Disk) (s' : State) (d' : Disk) → DoesOrFails step s d s' d' → WentOn d d'
 step_goes_on Data s d s' d' does = grown_by d _ d' _ does.submitted.after refl refl refl
 step_goes_on Reap s d s' d' (inl (inl took)) = grown_by d _ d' _ took.ended.after refl refl refl
 step_goes_on Reap s d s' d' (inl (inr (inl none, after))) = went_equal d d' none.1
-step_goes_on Reap s d s' d' (inl (inr (inr waits, after))) = subst (λ (z : Disk). WentOn d z) (sym waits.2) (record { units = refl; depth = refl; told = told_start GoesOn d.history goes_on_same })
+step_goes_on Reap s d s' d' (inl (inr (inr waits, after))) = subst (λ (z : Disk). WentOn d z) (sym waits.2)
+    (record { units = refl; depth = refl; told = told_start GoesOn d.history goes_on_same })
 step_goes_on Reap s d s' d' (inr took) = grown_by d _ d' _ took.ended.after refl refl refl
 step_goes_on Take s d s' d' does = went_equal d d' does.same
 step_goes_on Flush s d s' d' does = grown_by d _ d' _ does.submitted.after refl refl refl
@@ -162,11 +173,13 @@ step_goes_on Finish s d s' d' does = went_equal d d' does.same
 
 call_goes_on : (call : Call) (s : State) (d : Disk) (s' : State) (d' : Disk) → Calls call s d s' d' → WentOn d d'
 call_goes_on (submitting client line change) s d s' d' calls = went_equal d d' calls.2
+call_goes_on (reading client line command) s d s' d' calls = went_equal d d' calls.2
 call_goes_on (stepping step) s d s' d' calls = step_goes_on step s d s' d' calls.1
 
 run_goes_on : (p : Position) (calls : List Call) (q : Position) → IsDrawnRun p calls q → WentOn p.disk q.disk
 run_goes_on p [] q run = went_equal p.disk q.disk (ap (λ (z : Position). z.disk) run)
-run_goes_on p (call ∷ calls) q run = went_trans p.disk run.0.disk q.disk (call_goes_on call p.state p.disk run.0.state run.0.disk run.1.0.called) (run_goes_on run.0 calls q run.1.1)
+run_goes_on p (call ∷ calls) q run = went_trans p.disk run.0.disk q.disk (call_goes_on call p.state p.disk run.0.state run.0.disk run.1.0.called)
+    (run_goes_on run.0 calls q run.1.1)
 
 -- the device that comes back is a later state of the one that was given
 pub later_of_run : (given start d' disk : Disk) (p q : Position) → IsLater given start → p.disk ≡ start → q.disk ≡ d' → LeadsTo p q → IsLater d' disk
@@ -180,7 +193,8 @@ later_of_run given start d' disk p q mounted first last leads later =
       units = later.units ∙ from.units;
       depth = later.depth ∙ from.depth;
       idle = later.idle;
-      told = told_join GoesOn GoesOn GoesOn given.history d'.history disk.history (λ h k m is_h is_k is_m a b. goes_on_trans h k m a b) from.told later.told;
+      told = told_join GoesOn GoesOn GoesOn given.history d'.history disk.history (λ h k m is_h is_k is_m a b. goes_on_trans h k m a b) from.told
+          later.told;
     }
 
 -- ---- the run
@@ -198,9 +212,10 @@ pub record IsMountedOn (given : Disk) (f : Found) (space : Space) (start : Disk)
   pub kept : IsKept s start
   pub durable : KeepsDurable s start
 
-module _ (seed : ℕ) (lines : List Line) (given : Disk) (f : Found) (space : Space) (start : Disk) (s : State) (s' : State) (d' : Disk) (book : Book) (disk : Disk)
+module _ (seed : ℕ) (lines : List Line) (given : Disk) (f : Found) (space : Space) (start : Disk) (s : State) (s' : State) (d' : Disk) (book : Book)
+    (disk : Disk)
     (known : IsMountedOn given f space start s) (closed : IsClosed s' d' book disk) where
-  runs_script : (failed : Option StepFail) (end : StepEnd) (ran : RunsUpTo failed seed lines s start s' d')
+  runs_script : (failed : Option RunFail) (end : WorkEnd) (ran : RunsUpTo failed seed lines s start s' d')
       → EndsAt end (at_position ran.x_last ran.left s' d') → RanKept seed lines given end book disk
   runs_script failed end ran ends = record {
     ran = record {
@@ -221,7 +236,8 @@ module _ (seed : ℕ) (lines : List Line) (given : Disk) (f : Found) (space : Sp
       book_is = closed.book_is;
       legal = legal_of given f space start s closed.closed disk (ran.leads.calls ++ closed.reaped.calls) book known.mounted known.kept
           (joined_run ran.leads.calls closed.reaped.calls s s' closed.closed start d' disk
-          (drawn_run (at_position seed (asks_of lines) s start) ran.leads.calls (at_position ran.x_last ran.left s' d') ran.leads.run) closed.reaped.run)
+          (drawn_run (at_position seed (asks_of lines) s start) ran.leads.calls (at_position ran.x_last ran.left s' d') ran.leads.run)
+          closed.reaped.run)
           closed.book_is;
     };
     kept = known.kept;
@@ -229,27 +245,32 @@ module _ (seed : ℕ) (lines : List Line) (given : Disk) (f : Found) (space : Sp
   }
 
   -- the script was run, whatever came of it
-  pub works_mounted : (r : Result (Unit {0}) StepFail) (free : ℕ)
+  pub works_mounted : (r : Result (Unit {0}) RunFail) (free : ℕ)
       → MatchResult r (λ _. RunsUpTo None seed lines s start s' d') (λ e. RunsUpTo (Some e) seed lines s start s' d') → free ≡ free_count s'.space
       → RanKept seed lines given (end_of_run r free) book disk
   works_mounted (Ok u) free ran free_is = runs_script None (end_of_run (Ok u) free) ran (ran.all refl, ran.ended.0, ran.ended.1, free_is)
   works_mounted (Err run.Memory) free ran free_is = runs_script (Some run.Memory) (end_of_run (Err run.Memory) free) ran ran.ended
-  works_mounted (Err run.Fault) free ran free_is = runs_script (Some run.Fault) (end_of_run (Err run.Fault) free) ran ran.ended
+  works_mounted (Err run.Fault) free ran free_is = runs_script (Some run.Fault) (end_of_run (Err run.Fault) free) ran (inl ran.ended)
+  works_mounted (Err run.DeviceRead) free ran free_is = runs_script (Some run.DeviceRead) (end_of_run (Err run.DeviceRead) free) ran (inr ran.ended)
 
--- a fault of the run is counted
-pub run_counted : (r : Result (Unit {0}) StepFail) (free before a b now : ℕ) → (r ≡ Err run.Fault → Rose a b) → before ≤ a → b ≤ now → HasCounted (end_of_run r free) before now
-run_counted (Ok u) free before a b now cause first last = tt
-run_counted (Err run.Memory) free before a b now cause first last = tt
-run_counted (Err run.Fault) free before a b now cause first last = omega (arith, cause refl, first, last)
+-- a fault of the run is counted, at a submission and at a read
+pub run_counted : (r : Result (Unit {0}) RunFail) (free before a b now : ℕ) → (r ≡ Err run.Fault → Rose a b) → (r ≡ Err run.DeviceRead → Rose a b)
+    → before ≤ a → b ≤ now → HasCounted (end_of_run r free) before now
+run_counted (Ok u) free before a b now cause read_cause first last = tt
+run_counted (Err run.Memory) free before a b now cause read_cause first last = tt
+run_counted (Err run.Fault) free before a b now cause read_cause first last = omega (arith, cause refl, first, last)
+run_counted (Err run.DeviceRead) free before a b now cause read_cause first last = omega (arith, read_cause refl, first, last)
 
 -- the run began where the store was opened
-pub later_ran : (r : Result (Unit {0}) StepFail) (seed : ℕ) (lines : List Line) (given : Disk) (s : State) (start : Disk) (s' : State) (d' disk : Disk)
+pub later_ran : (r : Result (Unit {0}) RunFail) (seed : ℕ) (lines : List Line) (given : Disk) (s : State) (start : Disk) (s' : State) (d' disk : Disk)
     → MatchResult r (λ _. RunsUpTo None seed lines s start s' d') (λ e. RunsUpTo (Some e) seed lines s start s' d') → IsLater given start
     → IsLater d' disk → IsLater given disk
 later_ran (Ok u) seed lines given s start s' d' disk ran mounted later =
-    later_of_run given start d' disk (at_position seed (asks_of lines) s start) (at_position ran.x_last ran.left s' d') mounted refl refl ran.leads later
+    later_of_run given start d' disk (at_position seed (asks_of lines) s start) (at_position ran.x_last ran.left s' d') mounted
+    refl refl ran.leads later
 later_ran (Err e) seed lines given s start s' d' disk ran mounted later =
-    later_of_run given start d' disk (at_position seed (asks_of lines) s start) (at_position ran.x_last ran.left s' d') mounted refl refl ran.leads later
+    later_of_run given start d' disk (at_position seed (asks_of lines) s start) (at_position ran.x_last ran.left s' d') mounted
+    refl refl ran.leads later
 
 -- what the opened kernel is
 pub opened_up : (given : Disk) (f : Found) (space : Space) (start : Disk) (s : State) → IsOpenedOn given f space start s → s.down ≡ None

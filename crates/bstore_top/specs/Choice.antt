@@ -1,30 +1,35 @@
 -- Which call comes next: it is drawn from the calls that can be made.
 use Rattle.std.specs.Prelude.{◌≡◌, ℕ, ◌+◌, ◌*◌, ◌/◌, ◌%◌, ◌^◌, List, [], ◌∷◌, ◌++◌, length, map, drop, slice_get, Some}
 use Rattle.block_device.specs.Disk.{Disk, IsSound}
-use Rattle.object_model.specs.Effect.{Change}
+use Rattle.object_model.specs.declared.command.Command.{Command}
 use Rattle.object_model.specs.declared.command.Command.TheVariants as command
 use Rattle.script_text.specs.declared.line.Line.{Line}
 use Rattle.script_text.specs.declared.line.What.{What}
-use Rattle.script_text.specs.declared.line.What.TheVariants.{Command}
+use Rattle.script_text.specs.declared.line.What.TheVariants as what
 use Rattle.store_steps.specs.declared.step.Step.{Step}
 use Rattle.store_steps.specs.State.{State}
 use Rattle.store_steps.specs.Ready.{ready_steps}
-use Rattle.store_steps.specs.Runs.{Call, submitting, stepping, Calls}
+use Rattle.store_steps.specs.Runs.{Call, submitting, reading, stepping, Calls}
 
--- a transaction of the script, and the line that it stands on
+-- a command of the script, and the line that it stands on
 pub record Ask : Type 0 where
   pub line : ℕ
-  pub change : Change
+  pub command : Command
 
 abbrev pub asked : ℕ → What → List Ask
-asked line (Command (command.Change change)) = record { line = line; change = change } ∷ []
-asked line what = []
+asked line (what.Command command) = record { line = line; command = command } ∷ []
+asked line what.Wait = []
 
--- The transactions of a script, in order. A `wait` between them needs no rule of its own: the client comes only where the kernel is
--- drained, and then all that was accepted is acknowledged.
+-- The commands of a script, in order. A `wait` between them needs no rule of its own: the client comes only where the kernel is drained, and
+-- then all that was accepted is acknowledged.
 abbrev pub asks_of : List Line → List Ask
 asks_of [] = []
 asks_of (l ∷ ls) = asked l.line l.what ++ asks_of ls
+
+-- the call of the kernel that a command of client 0 is
+abbrev pub call_of : ℕ → Command → Call
+call_of line (command.Change change) = submitting 0 line change
+call_of line other = reading 0 line other
 
 -- one turn of the generator
 abbrev pub turned : ℕ → ℕ
@@ -34,10 +39,10 @@ turned x = (6364136223846793005 * x + 1442695040888963407) % 2 ^ 64
 unfoldable pub ready_list : ℕ → State → List Step
 ready_list depth s = ready_steps depth s
 
--- the client's next transaction, which comes only where no step is ready
+-- the client's next command, which comes only where no step is ready
 abbrev pub client_calls : List Ask → List Step → List Call
 client_calls [] ready = []
-client_calls (a ∷ rest) [] = submitting 0 a.line a.change ∷ []
+client_calls (a ∷ rest) [] = call_of a.line a.command ∷ []
 client_calls (a ∷ rest) (step ∷ ready) = []
 
 -- the calls that can be made, where these steps are ready: the client's, and then theirs
@@ -48,12 +53,13 @@ possible_calls asks ready = client_calls asks ready ++ map stepping ready
 abbrev pub IsDrawnOf : ℕ → List Call → Call → Type 0
 IsDrawnOf x calls call = slice_get calls ((x / 2 ^ 33) % length calls) ≡ Some call
 
--- the transactions that are left behind a call
+-- the commands that are left behind a call
 abbrev pub asks_after : Call → List Ask → List Ask
 asks_after (submitting client line change) asks = drop 1 asks
+asks_after (reading client line command) asks = drop 1 asks
 asks_after (stepping step) asks = asks
 
--- where a run stands: the number of the generator, the transactions left, the kernel's state, and its device
+-- where a run stands: the number of the generator, the commands left, the kernel's state, and its device
 pub record Position : Type 0 where
   pub x : ℕ
   pub asks : List Ask

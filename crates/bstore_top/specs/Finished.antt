@@ -1,5 +1,5 @@
 -- What a run of `step` has done that returns 0.
-use Rattle.std.specs.Prelude.{◌≡◌, ℕ, List, [], Some, IfSome}
+use Rattle.std.specs.Prelude.{◌≡◌, ℕ, false, List, [], Some, IfSome}
 use Rattle.std.specs.FinMap as map
 use Rattle.block_device.specs.Disk.{Disk, History}
 use Rattle.end_points.specs.Bay.{Names, BayView}
@@ -8,9 +8,10 @@ use Rattle.object_model.specs.Book.{IsLegal}
 use Rattle.object_model.specs.declared.book.Book.{Book}
 use Rattle.store_image.specs.Stands.{StandsFor}
 use Rattle.script_text.specs.declared.line.Line.{Line}
-use Rattle.bstore_top.specs.declared.step_end.StepEnd.TheVariants.{Done}
+use Rattle.bstore_top.specs.declared.work_end.WorkEnd.TheVariants.{Done}
 use Rattle.bstore_top.specs.Printed.{Output, TookAll}
 use Rattle.bstore_top.specs.Standing.{IsFinished, IsComplete}
+use Rattle.bstore_top.specs.Replies.{has_csum}
 use Rattle.bstore_top.specs.StepTexts.{step_text}
 use Rattle.bstore_top.specs.StepRun.{HasScript, AskedUpTo, RunsScript, Seen}
 
@@ -26,14 +27,15 @@ abbrev pub FinishesOn : List ℕ → ℕ → Book → Disk → Names → Type 0
 FinishesOn dev free book disk names = (contents : List ℕ) (objects : Objects) → map.get names.devices dev ≡ Some contents → StandsFor contents objects
     → TellsFinished objects free book disk
 
--- All transactions of the script have their entries in the book, which is complete. The run behind it says what was found on the device, and that
--- the book is legal for all objects that the rows stand for. The text says how many units are free, and where the bay tells what stands under
--- its names the device tells that the run has finished on it.
+-- All commands of the script have their entries in the book, which is complete, and no reply names a bad unit. The run behind it says what was
+-- found on the device, and that the book is legal, but for the bytes that reads gave, for all objects that the rows stand for. The text says how
+-- many units are free, and where the bay tells what stands under its names the device tells that the run has finished on it.
 pub record Succeeded (dev script : List ℕ) (seed : ℕ) (seen : Seen) (bay : BayView) (old new : Output) : Type 0 where
   pub lines : List Line
   pub has_script : HasScript bay.names script lines
   pub all : AskedUpTo lines seen.book.entries []
   pub complete : IsComplete seen.book
+  pub no_csum : has_csum seen.book.entries ≡ false
   pub free : ℕ
   pub printed : TookAll (step_text seen.book (Done free)) old new
   pub given : Disk

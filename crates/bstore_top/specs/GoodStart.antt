@@ -1,4 +1,4 @@
--- A start of `step` that nothing stands against.
+-- Starts of `step` and of `dump` that nothing stands against.
 use Rattle.std.specs.Prelude.{◌≡◌, ℕ, ◌<◌, List, Any, Some, IfSome}
 use Rattle.std.specs.FinMap as map
 use Rattle.block_device.specs.Disk.{Rose}
@@ -12,15 +12,8 @@ use Rattle.script_text.specs.declared.line.Line.{Line}
 use Rattle.bstore_top.specs.Printed.{Output}
 use Rattle.bstore_top.specs.StepRun.{Seen}
 
--- The bay tells its names. Under the script's there is a script. Under the device's there is a store that stands for some objects: what a mount
--- finds in it are numbers that leave room for those to come.
-pub record IsGoodStart (dev script : List ℕ) (bay : BayView) : Type 0 where
-  pub names : Names
-  pub told : bay.names ≡ Some names
-  pub text : List ℕ
-  pub under_script : map.get names.texts script ≡ Some text
-  pub lines : List Line
-  pub is_script : IsScript text lines
+-- Under the device's name there is a store that stands for some objects: what a mount finds in it are numbers that leave room for those to come.
+pub record HasGoodStore (names : Names) (dev : List ℕ) : Type 0 where
   pub contents : List ℕ
   pub under_dev : map.get names.devices dev ≡ Some contents
   pub objects : Objects
@@ -28,6 +21,22 @@ pub record IsGoodStart (dev script : List ℕ) (bay : BayView) : Type 0 where
   pub found : Found
   pub is_found : IsFoundIn contents found
   pub numbers : HasLowNumbers found
+
+-- The bay tells its names. Under the script's there is a script, and under the device's such a store.
+pub record IsGoodStart (dev script : List ℕ) (bay : BayView) : Type 0 where
+  pub names : Names
+  pub told : bay.names ≡ Some names
+  pub text : List ℕ
+  pub under_script : map.get names.texts script ≡ Some text
+  pub lines : List Line
+  pub is_script : IsScript text lines
+  pub store : HasGoodStore names dev
+
+-- such a start of a command that reads no script
+pub record IsGoodStore (dev : List ℕ) (bay : BayView) : Type 0 where
+  pub names : Names
+  pub told : bay.names ≡ Some names
+  pub store : HasGoodStore names dev
 
 -- no count of faults rose: the device and the sources, where there are any, have counted none, and the bay and the sink no more than before
 pub record HasNoFault (seen : Seen) (before now : ℕ) (old new : Output) : Type 0 where

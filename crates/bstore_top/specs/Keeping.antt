@@ -1,13 +1,14 @@
 -- What a run on a store leaves of its device and of its book, whatever happened on the way.
-use Rattle.std.specs.Prelude.{◌≡◌, ℕ, List, Some}
+use Rattle.std.specs.Prelude.{◌≡◌, ℕ, false, List, Some}
 use Rattle.block_device.specs.Disk.{Disk, History}
 use Rattle.object_model.specs.Book.{IsLegal}
 use Rattle.object_model.specs.Objects.{Objects}
 use Rattle.object_model.specs.declared.book.Book.{Book}
 use Rattle.store_image.specs.Stands.{StandsFor}
 use Rattle.store_image.specs.Durability.{EachCutStands}
-use Rattle.bstore_top.specs.declared.step_end.StepEnd.{StepEnd}
-use Rattle.bstore_top.specs.declared.step_end.StepEnd.TheVariants.{Done}
+use Rattle.bstore_top.specs.declared.work_end.WorkEnd.{WorkEnd}
+use Rattle.bstore_top.specs.declared.work_end.WorkEnd.TheVariants.{Done}
+use Rattle.bstore_top.specs.Replies.{has_csum}
 use Rattle.bstore_top.specs.Standing.{IsFinished, IsComplete}
 
 -- Prefix durability of a run. The device tells a log that began with these contents. At every cut of it, whatever image the crash allows
@@ -25,14 +26,15 @@ StaysDurable given book disk = (h : History) (objects : Objects) → given.histo
     → IsDurableFrom h.start objects book disk
 
 -- where the run has done all that there was to do, the device stands for just that
-abbrev pub StandsAtEnd : Disk → StepEnd → Book → Disk → Type 0
+abbrev pub StandsAtEnd : Disk → WorkEnd → Book → Disk → Type 0
 StandsAtEnd given end book disk = (free : ℕ) (h : History) (objects : Objects) → end ≡ Done free → given.history ≡ Some h
     → StandsFor h.start objects → (after : History) × (disk.history ≡ Some after) × IsFinished objects free book after
 
--- Each transaction has the answer that plain objects give, for those that the contents of the given device stood for where it tells them;
--- each collection's were committed in their order, and the device keeps them. Where all was done each accepted one is committed.
-pub record KeepsStore (given : Disk) (end : StepEnd) (book : Book) (disk : Disk) : Type 0 where
+-- Each command has the answer that plain objects give, for those that the contents of the given device stood for where it tells them, and so no
+-- reply names a bad unit; each collection's were committed in their order, and the device keeps them. Where all was done each accepted one is committed.
+pub record KeepsStore (given : Disk) (end : WorkEnd) (book : Book) (disk : Disk) : Type 0 where
   pub legal : (h : History) (objects : Objects) → given.history ≡ Some h → StandsFor h.start objects → IsLegal objects book
+  pub no_csum : (h : History) (objects : Objects) → given.history ≡ Some h → StandsFor h.start objects → has_csum book.entries ≡ false
   pub durable : StaysDurable given book disk
   pub at_end : StandsAtEnd given end book disk
   pub complete : (free : ℕ) → end ≡ Done free → IsComplete book

@@ -4,11 +4,15 @@ pub mod Texts
 pub mod Replies
 pub mod Hex
 pub mod StepTexts
+pub mod DumpTexts
 pub mod Printed
+pub mod Reports
 pub mod Choice
 pub mod Standing
 pub mod Keeping
 pub mod StepRun
+pub mod DumpRun
+pub mod Dumping
 pub mod Finished
 pub mod GoodStart
 pub mod Stepping

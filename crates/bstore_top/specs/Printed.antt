@@ -8,6 +8,7 @@ pub record Output : Type 0 where
   pub written : Option (List ℕ)
   pub faults : ℕ
 
+-- what is seen of a sink, by its two parts
 abbrev pub output : Option (List ℕ) → ℕ → Output
 output written faults = record { written = written; faults = faults }
 

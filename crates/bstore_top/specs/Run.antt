@@ -1,5 +1,5 @@
 -- What a run does.
-use Rattle.std.specs.Prelude.{◌≡◌, ◌⊎◌, ℕ, ◌<◌, ◌≤◌, List, [], Option, Some, None, IsSomeAnd, IfSome}
+use Rattle.std.specs.Prelude.{◌≡◌, ℕ, ◌<◌, ◌≤◌, List, [], Option, Some, None, IsSomeAnd, IfSome}
 use Rattle.std.specs.FinMap as map
 use Rattle.block_device.specs.Disk.{Disk, Rose}
 use Rattle.end_points.specs.Bay.{BayView, HandedOut}
@@ -12,15 +12,16 @@ use Rattle.object_model.specs.Objects.{Objects}
 use Rattle.object_model.specs.declared.book.Book.{Book}
 use Rattle.store_image.specs.Stands.{StandsFor}
 use Rattle.bstore_top.specs.declared.command_line.CommandLine.{CommandLine}
-use Rattle.bstore_top.specs.declared.command_line.CommandLine.TheVariants.{Mkfs, Step}
+use Rattle.bstore_top.specs.declared.command_line.CommandLine.TheVariants.{Mkfs, Step, Dump}
 use Rattle.bstore_top.specs.declared.status.Stop.{Stop}
 use Rattle.bstore_top.specs.declared.status.Stop.TheVariants.{BadScript, DeviceFault, Refused, OutOfMemory, BayFault}
 use Rattle.bstore_top.specs.CommandLine.{Spells, IsNoStep}
 use Rattle.bstore_top.specs.Status.{end_number}
-use Rattle.bstore_top.specs.Texts.{as_text, mkfs_text}
+use Rattle.bstore_top.specs.Texts.{mkfs_text}
 use Rattle.bstore_top.specs.Printed.{Output, Printed}
 use Rattle.bstore_top.specs.Keeping.{IsDurableFrom}
 use Rattle.bstore_top.specs.StepRun.{Seen, RanStep}
+use Rattle.bstore_top.specs.DumpRun.{RanDump}
 
 -- ---- mkfs
 
@@ -39,23 +40,13 @@ pub record RanMkfs (half units : ℕ) (status : ℕ) (dev_faults : Option ℕ) (
   pub cause : HasCause half units stop dev_faults bay_before bay_after
   pub printed : Printed (end_number stop) (mkfs_text half units stop) status old new
 
--- The text was printed of a run that stopped so, or for want of memory.
-pub record ReportedAs (half units : ℕ) (stop : Option Stop) (status : ℕ) (old new : Output) : Type 0 where
-  pub ended : Option Stop
-  pub same : (ended ≡ stop) ⊎ (ended ≡ Some OutOfMemory)
-  pub printed : Printed (end_number ended) (mkfs_text half units ended) status old new
-
 -- ---- any command
 
 -- a run of a command line
 abbrev pub Ran : CommandLine → ℕ → Seen → BayView → BayView → ℕ → ℕ → Output → Output → Type 0
 Ran (Mkfs dev half units) status seen bay_old bay_new before now old new = RanMkfs half units status seen.dev_faults before now old new
 Ran (Step dev seed script) status seen bay_old bay_new before now old new = RanStep dev script seed status seen bay_old bay_new before now old new
-
--- Words that spell no command line: some lines were printed.
-pub record ShowedUsage (status : ℕ) (old new : Output) : Type 0 where
-  pub lines : List (List ℕ)
-  pub printed : Printed 1 (as_text lines) status old new
+Ran (Dump dev) status seen bay_old bay_new before now old new = RanDump dev status seen bay_old bay_new before now old new
 
 -- the disk is a later state of the device that the bay gave under this name
 pub record IsOfGiven (name : List ℕ) (how : How) (old : BayView) (disk : Disk) (new : BayView) : Type 0 where
@@ -68,38 +59,46 @@ abbrev pub ComesBack : CommandLine → BayView → Option Disk → BayView → T
 ComesBack line old None new = new ≡ old
 ComesBack (Mkfs name half units) old (Some disk) new = IsOfGiven name (Make units) old disk new
 ComesBack (Step name seed script) old (Some disk) new = IsOfGiven name Plain old disk new
+ComesBack (Dump name) old (Some disk) new = IsOfGiven name Plain old disk new
 
 -- of a run with these words: the bay gave no device, or the one that comes back, for the command line that they spell
 abbrev pub CameBack : List (List ℕ) → BayView → Option Disk → BayView → Type 0
 CameBack words old None new = new ≡ old
 CameBack words old (Some disk) new = (line : CommandLine) × (Spells words line × ComesBack line old (Some disk) new)
 
--- Prefix durability, of the device that `step` names: where the bay tells its contents, and these stand for some objects, each crash since
--- leaves the objects after a front of the commits of the book that comes back.
-abbrev pub EachCrashLeavesPrefix : CommandLine → BayView → Option Disk → Book → Type 0
-EachCrashLeavesPrefix (Step name seed script) bay (Some disk) book = IfSome bay.names (λ names. (contents : List ℕ) (objects : Objects)
+-- Prefix durability, of a device under a name: where the bay tells its contents, and these stand for some objects, each crash since leaves the
+-- objects after a front of the commits of the book.
+abbrev pub CrashesLeavePrefix : List ℕ → BayView → Disk → Book → Type 0
+CrashesLeavePrefix name bay disk book = IfSome bay.names (λ names. (contents : List ℕ) (objects : Objects)
     → map.get names.devices name ≡ Some contents → StandsFor contents objects → IsDurableFrom contents objects book disk)
+
+-- so it is of the device that `step` or `dump` names, and of the book that comes back
+abbrev pub EachCrashLeavesPrefix : CommandLine → BayView → Option Disk → Book → Type 0
+EachCrashLeavesPrefix (Step name seed script) bay (Some disk) book = CrashesLeavePrefix name bay disk book
+EachCrashLeavesPrefix (Dump name) bay (Some disk) book = CrashesLeavePrefix name bay disk book
 EachCrashLeavesPrefix line bay disk book = Unit {0}
 
 -- `mkfs` leaves an empty store with the numbers that were asked for
 abbrev pub HasStore : CommandLine → Disk → Type 0
 HasStore (Mkfs name half units) disk = (disk.units ≡ units) × HoldsEmptyStore half 32768 disk
 HasStore (Step name seed script) disk = Unit {0}
+HasStore (Dump name) disk = Unit {0}
 
 -- for the command line that the words spell, where they spell one
 abbrev pub ForLine : List (List ℕ) → (CommandLine → Type 0) → Type 0
 ForLine words P = (line : CommandLine) → Spells words line → P line
 
--- nothing was mounted, no script was opened
+-- no script was opened, and no command of a client was made
 pub record IsBare {S : Type 0} (sources : List S) (book : Book) : Type 0 where
   pub no_source : sources ≡ []
   pub no_book : book ≡ record { entries = []; commits = [] }
 
--- only `step` mounts and opens a script
+-- only `step` opens a script and has a book
 abbrev pub LeavesBook : {S : Type 0} → CommandLine → List S → Book → Type 0
 LeavesBook (Mkfs dev half units) sources book = IsBare sources book
 LeavesBook (Step dev seed script) sources book = Unit {0}
+LeavesBook (Dump dev) sources book = IsBare sources book
 
--- words that spell no `step` mount nothing and open no script
+-- words that spell no `step` open no script, and have no book
 abbrev pub IsBareUnlessStep : {S : Type 0} → List (List ℕ) → List S → Book → Type 0
 IsBareUnlessStep words sources book = IsNoStep words → IsBare sources book

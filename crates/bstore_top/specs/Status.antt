@@ -5,6 +5,7 @@ use Rattle.bstore_top.specs.declared.status.Stop.TheVariants.{BadScript, DeviceF
 use Rattle.bstore_top.specs.declared.status.Status.{Status}
 use Rattle.bstore_top.specs.declared.status.Status.TheVariants.{Done, NotACommandLine, Stopped, SinkFault}
 
+-- the status of a run that stopped
 abbrev pub stop_number : Stop → ℕ
 stop_number BadScript = 2
 stop_number DeviceFault = 3
@@ -12,6 +13,7 @@ stop_number Refused = 4
 stop_number OutOfMemory = 5
 stop_number BayFault = 7
 
+-- the status of a run
 abbrev pub number : Status → ℕ
 number Done = 0
 number NotACommandLine = 1

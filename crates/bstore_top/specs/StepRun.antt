@@ -1,15 +1,13 @@
 -- What a run of `step` does: it reads a script, mounts a store, and runs the script on it.
-use Rattle.std.specs.Prelude.{◌≡◌, ◌⊎◌, ℕ, ◌<◌, List, [], ◌∷◌, ◌++◌, map, Any, Option, Some, None, Result, Ok, Err, is_some, true, IfSome}
+use Rattle.std.specs.Prelude.{◌≡◌, ◌⊎◌, ℕ, ◌<◌, List, [], ◌++◌, map, Any, Option, Some, None, Result, Ok, Err, is_some, true, IfSome}
 use Rattle.std.specs.FinMap as finite
 use Rattle.block_device.specs.Disk.{Disk, IsSound, Rose}
 use Rattle.end_points.specs.Bay.{BayView, Names, HandedOut}
 use Rattle.end_points.specs.declared.bay.How.TheVariants.{Plain}
 use Rattle.object_model.specs.Objects.{Objects}
-use Rattle.object_model.specs.Book.{IsLegal}
 use Rattle.object_model.specs.declared.book.Book.{Book}
 use Rattle.object_model.specs.declared.book.Entry.{Entry}
 use Rattle.object_model.specs.declared.command.Command.{Command}
-use Rattle.object_model.specs.declared.command.Command.TheVariants as command
 use Rattle.unit_allocator.specs.Units.{Space}
 use Rattle.script_text.specs.Script.{IsScript, IsBadAt}
 use Rattle.script_text.specs.declared.fail.ScriptFail.{ScriptFail}
@@ -23,18 +21,17 @@ use Rattle.store_steps.specs.Runs.{Call}
 use Rattle.mount_replay.specs.Calls.{IsLater}
 use Rattle.mount_replay.specs.Opening.{FailsMount}
 use Rattle.mount_replay.specs.Mounting.{IsOpenedOn, IsReapedTo}
-use Rattle.store_kernel.specs.declared.step_fail.StepFail.{StepFail}
-use Rattle.store_kernel.specs.declared.step_fail.StepFail.TheVariants as run
+use Rattle.read_facts.specs.Alike.{IsLegalButBytes}
+use Rattle.bstore_top.specs.declared.run_fail.RunFail.{RunFail}
+use Rattle.bstore_top.specs.declared.run_fail.RunFail.TheVariants as run
 use Rattle.mount_replay.specs.declared.opening.MountFail.{MountFail}
 use Rattle.mount_replay.specs.declared.opening.MountFail.TheVariants as fail
 use Rattle.block_device.specs.declared.device.Failed.{Failed}
 use Rattle.block_device.specs.declared.device.Failed.TheVariants as failed
-use Rattle.bstore_top.specs.declared.step_end.StepEnd.{StepEnd}
-use Rattle.bstore_top.specs.declared.step_end.StepEnd.TheVariants.{Done, BadLine, NoSuper, BadRow, WornOut, DeviceFault, OutOfMemory, BayFault}
-use Rattle.bstore_top.specs.declared.status.Stop.TheVariants as stop
-use Rattle.bstore_top.specs.Texts.{as_text, stopped_line}
-use Rattle.bstore_top.specs.StepTexts.{step_number, step_text}
-use Rattle.bstore_top.specs.Printed.{Output, Printed}
+use Rattle.bstore_top.specs.declared.work_end.WorkEnd.{WorkEnd}
+use Rattle.bstore_top.specs.declared.work_end.WorkEnd.TheVariants.{Done, BadLine, NoSuper, BadRow, WornOut, DeviceFault, OutOfMemory, BayFault}
+use Rattle.bstore_top.specs.Printed.{Output}
+use Rattle.bstore_top.specs.Reports.{ReportsStep}
 use Rattle.bstore_top.specs.Keeping.{KeepsStore}
 use Rattle.bstore_top.specs.Choice.{Ask, asks_of, ready_list, Position, at_position, IsDrawnRun}
 
@@ -67,24 +64,25 @@ pub record Asked : Type 0 where
 abbrev pub asked_in : Entry → Asked
 asked_in e = record { client = e.client; line = e.line; command = e.command }
 
--- a transaction of the script of client 0
+-- a command of the script of client 0
 abbrev pub asked_by : Ask → Asked
-asked_by a = record { client = 0; line = a.line; command = command.Change a.change }
+asked_by a = record { client = 0; line = a.line; command = a.command }
 
 -- the entries are the first commands of the script, in order, each with its line, and these are left
 abbrev pub AskedUpTo : List Line → List Entry → List Ask → Type 0
 AskedUpTo lines entries left = map asked_by (asks_of lines) ≡ map asked_in entries ++ map asked_by left
 
--- where a run ended: with all transactions in the book and nothing left to do, at a bad end of a submission, or for want of memory
-abbrev pub EndsAt : StepEnd → Position → Type 0
+-- where a run ended: with all commands in the book and nothing left to do, at a bad end of a submission or, with nothing left to do, at a read
+-- that failed, or for want of memory
+abbrev pub EndsAt : WorkEnd → Position → Type 0
 EndsAt (Done free) p = (p.asks ≡ []) × (ready_list p.disk.depth p.state ≡ []) × (p.state.down ≡ None) × (free ≡ free_count p.state.space)
-EndsAt DeviceFault p = is_some p.state.down ≡ true
+EndsAt DeviceFault p = (is_some p.state.down ≡ true) ⊎ ((ready_list p.disk.depth p.state ≡ []) × (p.state.down ≡ None))
 EndsAt OutOfMemory p = p.state.down ≡ None
 EndsAt end p = ⊥
 
 -- A script was run on a store: the calls that were drawn lead from the mounted kernel, over the device as the mount left it, to the last one,
--- whose book it is. The book is legal for all objects that the rows which were found stand for.
-pub record RunsScript (seed : ℕ) (lines : List Line) (given : Disk) (end : StepEnd) (book : Book) (disk : Disk) : Type 0 where
+-- whose book it is. But for the bytes that reads gave, the book is legal for all objects that the rows which were found stand for.
+pub record RunsScript (seed : ℕ) (lines : List Line) (given : Disk) (end : WorkEnd) (book : Book) (disk : Disk) : Type 0 where
   pub found : Found
   pub space : Space
   pub start : Disk
@@ -98,7 +96,7 @@ pub record RunsScript (seed : ℕ) (lines : List Line) (given : Disk) (end : Ste
   pub closed : State
   pub reaped : IsReapedTo last.state last.disk closed disk
   pub book_is : book ≡ closed.book
-  pub legal : (objects : Objects) → StandSomehow found.rows objects → IsLegal objects book
+  pub legal : (objects : Objects) → StandSomehow found.rows objects → IsLegalButBytes objects book
 
 -- ---- the whole
 
@@ -117,7 +115,7 @@ empty_book = record { entries = []; commits = [] }
 
 -- Why no device was opened: memory ran out, the script has a bad line, or the count of a source rose or that of the bay. The bay opened
 -- no script then, or the script has lines.
-abbrev pub FailsBefore : StepEnd → Option Names → List ℕ → List ℕ → ℕ → ℕ → Type 0
+abbrev pub FailsBefore : WorkEnd → Option Names → List ℕ → List ℕ → ℕ → ℕ → Type 0
 FailsBefore (BadLine n) names script source_faults before now = HasBadLine names script n
 FailsBefore OutOfMemory names script source_faults before now = Unit {0}
 FailsBefore BayFault names script source_faults before now =
@@ -125,30 +123,31 @@ FailsBefore BayFault names script source_faults before now =
 FailsBefore end names script source_faults before now = ⊥
 
 -- how a run ends that mounted nothing, that ran the script, or for which the bay gave no device
-abbrev pub end_of_mount : MountFail → StepEnd
+abbrev pub end_of_mount : MountFail → WorkEnd
 end_of_mount fail.Memory = OutOfMemory
 end_of_mount fail.NoSuper = NoSuper
 end_of_mount (fail.BadRow key) = BadRow key
 end_of_mount (fail.WornOut value) = WornOut
 end_of_mount fail.Fault = DeviceFault
 
-abbrev pub end_of_run : Result (Unit {0}) StepFail → ℕ → StepEnd
+abbrev pub end_of_run : Result (Unit {0}) RunFail → ℕ → WorkEnd
 end_of_run (Ok done) free = Done free
 end_of_run (Err run.Memory) free = OutOfMemory
 end_of_run (Err run.Fault) free = DeviceFault
+end_of_run (Err run.DeviceRead) free = DeviceFault
 
-abbrev pub end_of_bay : Failed → StepEnd
+abbrev pub end_of_bay : Failed → WorkEnd
 end_of_bay failed.Memory = OutOfMemory
 end_of_bay failed.Fault = BayFault
 
 -- how a run ends whose script wasn't read
-abbrev pub end_of_script : ScriptFail → StepEnd
+abbrev pub end_of_script : ScriptFail → WorkEnd
 end_of_script script.Memory = OutOfMemory
 end_of_script (script.Line n) = BadLine n
 end_of_script script.ReadFault = BayFault
 
 -- Why the device that was opened wasn't mounted. The counts are those of its faults.
-abbrev pub FailsToMount : StepEnd → Disk → ℕ → ℕ → Type 0
+abbrev pub FailsToMount : WorkEnd → Disk → ℕ → ℕ → Type 0
 FailsToMount NoSuper given before now = FailsMount fail.NoSuper given before now
 FailsToMount (BadRow key) given before now = FailsMount (fail.BadRow key) given before now
 FailsToMount WornOut given before now = (value : ℕ) × FailsMount (fail.WornOut value) given before now
@@ -157,31 +156,31 @@ FailsToMount OutOfMemory given before now = Unit {0}
 FailsToMount end given before now = ⊥
 
 -- a device fault is counted
-abbrev pub HasCounted : StepEnd → ℕ → ℕ → Type 0
+abbrev pub HasCounted : WorkEnd → ℕ → ℕ → Type 0
 HasCounted DeviceFault before now = Rose before now
 HasCounted end before now = Unit {0}
 
 -- A mount that refuses what the device holds leaves it as it was given; one that the device or memory failed may have begun to clear what is
 -- behind the records.
-abbrev pub LeftByMount : StepEnd → Disk → Disk → Type 0
+abbrev pub LeftByMount : WorkEnd → Disk → Disk → Type 0
 LeftByMount DeviceFault given disk = IsLater given disk
 LeftByMount OutOfMemory given disk = IsLater given disk
 LeftByMount end given disk = disk ≡ given
 
 -- the device wasn't mounted, and the book is empty; or the script was run on it
-abbrev pub WorksOn : ℕ → List Line → Disk → ℕ → StepEnd → Book → Disk → ℕ → Type 0
+abbrev pub WorksOn : ℕ → List Line → Disk → ℕ → WorkEnd → Book → Disk → ℕ → Type 0
 WorksOn seed lines given before end book disk now =
     (FailsToMount end given before now × (book ≡ empty_book) × LeftByMount end given disk)
     ⊎ (HasCounted end before now × RunsScript seed lines given end book disk)
 
 -- no device was opened
-pub record EndsUnopened (script : List ℕ) (end : StepEnd) (seen : Seen) (names : Option Names) (before now : ℕ) : Type 0 where
+pub record EndsUnopened (script : List ℕ) (end : WorkEnd) (seen : Seen) (names : Option Names) (before now : ℕ) : Type 0 where
   pub no_disk : seen.disk ≡ None
   pub no_book : seen.book ≡ empty_book
   pub cause : FailsBefore end names script seen.source_faults before now
 
 -- the script was read and the device opened, and it comes back
-pub record EndsOpened (dev script : List ℕ) (seed : ℕ) (end : StepEnd) (seen : Seen) (old new : BayView) : Type 0 where
+pub record EndsOpened (dev script : List ℕ) (seed : ℕ) (end : WorkEnd) (seen : Seen) (old new : BayView) : Type 0 where
   pub lines : List Line
   pub has_script : HasScript old.names script lines
   pub given : Disk
@@ -195,17 +194,12 @@ pub record EndsOpened (dev script : List ℕ) (seed : ℕ) (end : StepEnd) (seen
   pub keeps : KeepsStore given end seen.book disk
 
 -- how far a run came
-abbrev pub IsStepDone : List ℕ → List ℕ → ℕ → StepEnd → Seen → BayView → BayView → ℕ → ℕ → Type 0
+abbrev pub IsStepDone : List ℕ → List ℕ → ℕ → WorkEnd → Seen → BayView → BayView → ℕ → ℕ → Type 0
 IsStepDone dev script seed end seen bay_old bay_new before now =
     EndsUnopened script end seen bay_old.names before now ⊎ EndsOpened dev script seed end seen bay_old bay_new
 
--- its text was printed, or there was no memory for that
-abbrev pub ReportsStep : Book → StepEnd → ℕ → Output → Output → Type 0
-ReportsStep book end status old new =
-    Printed (step_number end) (step_text book end) status old new ⊎ Printed 5 (as_text (stopped_line stop.OutOfMemory ∷ [])) status old new
-
 -- A run of `step`: how far it came, and the text of that.
 pub record RanStep (dev script : List ℕ) (seed status : ℕ) (seen : Seen) (bay_old bay_new : BayView) (before now : ℕ) (old new : Output) : Type 0 where
-  pub end : StepEnd
+  pub end : WorkEnd
   pub course : IsStepDone dev script seed end seen bay_old bay_new before now
   pub printed : ReportsStep seen.book end status old new

@@ -1,17 +1,17 @@
 -- What a run of `step` prints: a function of its book and its end.
-use Rattle.std.specs.Prelude.{ℕ, List, [], ◌∷◌, ◌++◌, Option, Some, None, codes, decimal}
+use Rattle.std.specs.Prelude.{ℕ, Bool, true, false, List, [], ◌∷◌, ◌++◌, Option, Some, None, codes, decimal}
 use Rattle.object_model.specs.declared.book.Book.{Book}
 use Rattle.bstore_top.specs.declared.status.Stop.{Stop}
 use Rattle.bstore_top.specs.declared.status.Stop.TheVariants as stop
-use Rattle.bstore_top.specs.declared.step_end.StepEnd.{StepEnd}
-use Rattle.bstore_top.specs.declared.step_end.StepEnd.TheVariants.{Done, BadLine, NoSuper, BadRow, WornOut, DeviceFault, OutOfMemory, BayFault}
+use Rattle.bstore_top.specs.declared.work_end.WorkEnd.{WorkEnd}
+use Rattle.bstore_top.specs.declared.work_end.WorkEnd.TheVariants.{Done, BadLine, NoSuper, BadRow, WornOut, DeviceFault, OutOfMemory, BayFault}
 use Rattle.bstore_top.specs.Status.{end_number}
 use Rattle.bstore_top.specs.Texts.{as_text, stopped_line}
-use Rattle.bstore_top.specs.Replies.{entry_lines, done_line}
+use Rattle.bstore_top.specs.Replies.{entry_lines, done_line, has_csum}
 use Rattle.bstore_top.specs.Hex.{hex_text}
 
 -- what the run stopped for, if its work wasn't done
-abbrev pub stop_of : StepEnd → Option Stop
+abbrev pub stop_of : WorkEnd → Option Stop
 stop_of (Done free) = None
 stop_of (BadLine n) = Some stop.BadScript
 stop_of NoSuper = Some stop.Refused
@@ -21,9 +21,19 @@ stop_of DeviceFault = Some stop.DeviceFault
 stop_of OutOfMemory = Some stop.OutOfMemory
 stop_of BayFault = Some stop.BayFault
 
--- its status
-abbrev pub step_number : StepEnd → ℕ
-step_number end = end_number (stop_of end)
+-- The first cause in time: a bad unit that was met comes before what ended the run.
+abbrev pub first_cause : Bool → Stop → Stop
+first_cause true late = stop.Refused
+first_cause false late = late
+
+-- a run that has met a bad unit, or not, has this status
+abbrev pub end_status : Bool → WorkEnd → ℕ
+end_status true end = 4
+end_status false end = end_number (stop_of end)
+
+-- the exit status of a run of `step`
+abbrev pub step_number : Book → WorkEnd → ℕ
+step_number book end = end_status (has_csum book.entries) end
 
 -- the first bad line of the script of client 0
 abbrev pub script_line : ℕ → List ℕ
@@ -33,16 +43,22 @@ script_line n = codes "script 0 line " ++ decimal n
 abbrev pub bad_row_line : List ℕ → List ℕ
 bad_row_line key = codes "mount BadRow " ++ hex_text key
 
--- the lines behind the replies
-abbrev pub end_lines : Book → StepEnd → List (List ℕ)
-end_lines book (Done free) = done_line book free ∷ []
-end_lines book (BadLine n) = script_line n ∷ stopped_line stop.BadScript ∷ []
-end_lines book NoSuper = codes "mount NoSuper" ∷ stopped_line stop.Refused ∷ []
-end_lines book (BadRow key) = bad_row_line key ∷ stopped_line stop.Refused ∷ []
-end_lines book WornOut = codes "mount WornOut" ∷ stopped_line stop.Refused ∷ []
-end_lines book DeviceFault = stopped_line stop.DeviceFault ∷ []
-end_lines book OutOfMemory = stopped_line stop.OutOfMemory ∷ []
-end_lines book BayFault = stopped_line stop.BayFault ∷ []
+-- the last lines of a run that stopped before its work was done
+abbrev pub fail_lines : Bool → WorkEnd → List (List ℕ)
+fail_lines bad (Done free) = []
+fail_lines bad (BadLine n) = script_line n ∷ stopped_line stop.BadScript ∷ []
+fail_lines bad NoSuper = codes "mount NoSuper" ∷ stopped_line stop.Refused ∷ []
+fail_lines bad (BadRow key) = bad_row_line key ∷ stopped_line stop.Refused ∷ []
+fail_lines bad WornOut = codes "mount WornOut" ∷ stopped_line stop.Refused ∷ []
+fail_lines bad DeviceFault = stopped_line (first_cause bad stop.DeviceFault) ∷ []
+fail_lines bad OutOfMemory = stopped_line (first_cause bad stop.OutOfMemory) ∷ []
+fail_lines bad BayFault = stopped_line (first_cause bad stop.BayFault) ∷ []
 
-abbrev pub step_text : Book → StepEnd → List ℕ
+-- the lines behind the replies
+abbrev pub end_lines : Book → WorkEnd → List (List ℕ)
+end_lines book (Done free) = done_line book free ∷ []
+end_lines book end = fail_lines (has_csum book.entries) end
+
+-- the whole text
+abbrev pub step_text : Book → WorkEnd → List ℕ
 step_text book end = as_text (entry_lines book.commits 0 book.entries ++ end_lines book end)

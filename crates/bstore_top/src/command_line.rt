@@ -1,6 +1,6 @@
 //! Command lines: which words are one, and what they say.
 ghost use Rattle.std.specs.Prelude.{◌≡◌, ◌≢◌, ◌↔◌, ◌≤◌, ◌<◌, ◌^◌, ℕ, IsTrue, Some, IfSome, MatchOption, decimal, string_bytes};
-ghost use Rattle.bstore_top.specs.CommandLine.{words_of, IsPlain, IsFileName, IsNoCommandLine, IsNoMkfs, IsNoStep, Spells};
+ghost use Rattle.bstore_top.specs.CommandLine.{words_of, IsPlain, IsFileName, IsNoCommandLine, IsNoMkfs, IsNoStep, IsNoDump, Spells};
 
 use std::marker::Model;
 use unit_fields::limits::{LEAST_HALF, MOST_HALF, MOST_UNITS};
@@ -43,6 +43,10 @@ pub enum CommandLine<'a> {
         dev: FileName<'a>,
         seed: u32,
         script: FileName<'a>,
+    },
+    /// `dump DEV`: mounts the store on a device and prints every collection and every object, with its size and its checksum.
+    Dump {
+        dev: FileName<'a>,
     },
 }
 
@@ -126,13 +130,30 @@ fn read_step(words: &Vec<String>) -> Option<CommandLine<'_>>
     Some(CommandLine::Step { dev, seed, script })
 }
 
-/// The command line that the words spell, of which the first is the program's name: exactly `mkfs DEV --half H --units N` with H
-/// from 8 to 65536 and N from 1 to 1048576, or `step DEV --seed S SCRIPT` with S from 0 to 4294967295, in that order.
+/// `dump DEV`.
+fn read_dump(words: &Vec<String>) -> Option<CommandLine<'_>>
+    ensures { MatchOption result (IsNoDump (words_of words.now)) (Spells (words_of words.now)) }
+{
+    let [_program, command, dev] = words.as_slice() else {
+        return None;
+    };
+    if !is_word(command, "dump") {
+        return None;
+    }
+    let dev = read_file_name(dev.as_str())?;
+    Some(CommandLine::Dump { dev })
+}
+
+/// The command line that the words spell, of which the first is the program's name. Behind it stands exactly `mkfs DEV --half H --units N`
+/// with H from 8 to 65536 and N from 1 to 1048576, `step DEV --seed S SCRIPT` with S from 0 to 4294967295, or `dump DEV`.
 pub fn read_words(words: &Vec<String>) -> Option<CommandLine<'_>>
     ensures { MatchOption result (IsNoCommandLine (words_of words.now)) (Spells (words_of words.now)) }
 {
-    match read_mkfs(words) {
+    if let Some(line) = read_mkfs(words) {
+        return Some(line);
+    }
+    match read_step(words) {
         Some(line) => Some(line),
-        None => read_step(words),
+        None => read_dump(words),
     }
 }

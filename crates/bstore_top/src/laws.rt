@@ -5,9 +5,10 @@ ghost use Rattle.end_points.specs.Bay.{BayView};
 ghost use Rattle.store_steps.specs.Runs.{Call, IsRun};
 ghost use Rattle.bstore_top.specs.Choice.{Position, IsDrawnRun};
 ghost use Rattle.bstore_top.specs.StepRun.{RanStep, Seen};
+ghost use Rattle.bstore_top.specs.DumpRun.{RanDump, Dumped};
 ghost use Rattle.bstore_top.specs.Printed.{Output};
 ghost use Rattle.bstore_top.specs.Finished.{Succeeded};
-ghost use Rattle.bstore_top.specs.GoodStart.{IsGoodStart, HasNoFault};
+ghost use Rattle.bstore_top.specs.GoodStart.{IsGoodStart, IsGoodStore, HasNoFault};
 
 /// Calls that were drawn, one after another, are a run of the kernel.
 #[tactic(auto, using(crate::proofs::RunLaws::drawn_run))]
@@ -15,9 +16,9 @@ pub fn a_drawn_run_is_a_run()
     ensures { (p : Position) (calls : List Call) (q : Position) → IsDrawnRun p calls q → IsRun p.state p.disk calls q.state q.disk }
 {}
 
-/// A run of `step` that returns 0 has submitted all transactions of its script, and each that was accepted is committed and
-/// acknowledged. Where the bay tells what stands under its names, and that stands for some objects, the device stands for what they are
-/// after all accepted transactions.
+/// A run of `step` that returns 0 has made all commands of its script, none was answered by a bad unit, and each transaction that was
+/// accepted is committed and acknowledged. Where the bay tells what stands under its names, and that stands for some objects, the device
+/// stands for what they are after all accepted transactions.
 pub fn a_run_that_returns_0_has_succeeded()
     ensures { (dev script : List ℕ) (seed : ℕ) (seen : Seen) (bay_old bay_new : BayView) (before now : ℕ) (old new : Output) →
         RanStep dev script seed 0 seen bay_old bay_new before now old new → Succeeded dev script seed seen bay_old old new }
@@ -28,5 +29,19 @@ pub fn a_run_that_returns_0_has_succeeded()
 pub fn a_good_start_ends_well()
     ensures { (dev script : List ℕ) (seed status : ℕ) (seen : Seen) (bay_old bay_new : BayView) (before now : ℕ) (old new : Output) →
         RanStep dev script seed status seen bay_old bay_new before now old new → IsGoodStart dev script bay_old →
+        HasNoFault seen before now old new → (status ≡ 0) ⊎ (status ≡ 5) }
+{}
+
+/// A run of `dump` that returns 0 has printed each collection and each object that there is. Where the bay tells what stands under its names,
+/// and that stands for some objects, it has printed just these, with their sizes and the checksums of their bytes.
+pub fn a_dump_that_returns_0_shows_all()
+    ensures { (dev : List ℕ) (seen : Seen) (bay_old bay_new : BayView) (before now : ℕ) (old new : Output) →
+        RanDump dev 0 seen bay_old bay_new before now old new → Dumped dev seen bay_old old new }
+{}
+
+/// A run of `dump` that nothing stands against ends well, or for want of memory.
+pub fn a_good_dump_ends_well()
+    ensures { (dev : List ℕ) (status : ℕ) (seen : Seen) (bay_old bay_new : BayView) (before now : ℕ) (old new : Output) →
+        RanDump dev status seen bay_old bay_new before now old new → IsGoodStore dev bay_old →
         HasNoFault seen before now old new → (status ≡ 0) ⊎ (status ≡ 5) }
 {}

@@ -4,14 +4,17 @@ ghost use Rattle.mount_replay.specs.NewSuper.{units_needed};
 ghost use Rattle.bstore_top.specs.Status.{number, end_number};
 ghost use Rattle.bstore_top.specs.Texts.{mkfs_text};
 ghost use Rattle.bstore_top.specs.Printed.{output, TookAll, TookFront, Printed};
-ghost use Rattle.bstore_top.specs.StepRun.{ReportsStep};
-ghost use Rattle.bstore_top.specs.Run.{ReportedAs, ShowedUsage};
+ghost use Rattle.bstore_top.specs.StepTexts.{end_status};
+ghost use Rattle.bstore_top.specs.Reports.{ReportedAs, ShowedUsage, ReportsStep, ReportsDump};
 
+use crate::dump_texts::{dump_text, has_bad_view};
+use crate::replies::has_csum;
 use crate::step_texts::step_text;
 use crate::texts::{USAGE, made_text, stopped_text, too_small_text};
-use crate::{Status, StepEnd, Stop};
+use crate::{Status, Stop, WorkEnd};
 use end_points::{Fault, Sink};
 use object_model::Book;
+use read_facts::CollView;
 use std::alloc::{AllocError, Global};
 
 fn print<K: Sink>(out: &mut K, text: &[u8]) -> Result<(), Fault>
@@ -69,7 +72,8 @@ pub fn report_mkfs<K: Sink>(
 ) -> Status
     requires half { half ≤ 65536 }
     requires units { stop ≡ None → units_needed half ≤ units }
-    ensures { ReportedAs half units stop (number result) (output (K.written out.old) (K.faults out.old)) (output (K.written out.new) (K.faults out.new)) }
+    ensures { ReportedAs half units stop (number result)
+        (output (K.written out.old) (K.faults out.old)) (output (K.written out.new) (K.faults out.new)) }
 {
     match mkfs_text(alloc, half, units, stop) {
         Ok(text) => print_end(out, text.as_str(), stop),
@@ -81,12 +85,39 @@ pub fn report_mkfs<K: Sink>(
     }
 }
 
+/// What a run stopped for that has met a bad unit, or not, if its work wasn't done or the store showed a bad unit.
+fn run_stop(bad: bool, end: &WorkEnd) -> Option<Stop>
+    ensures { end_number result ≡ end_status bad end.now }
+{
+    if bad { Some(Stop::Refused) } else { end.stop() }
+}
+
 /// Prints what came of a run of `step`, and says how the run has ended, as `report_mkfs` does.
-pub fn report_step<K: Sink>(alloc: Global, book: &Book, end: &StepEnd, out: &mut K) -> Status
-    ensures { ReportsStep book.now end.now (number result) (output (K.written out.old) (K.faults out.old)) (output (K.written out.new) (K.faults out.new)) }
+pub fn report_step<K: Sink>(alloc: Global, book: &Book, end: &WorkEnd, out: &mut K) -> Status
+    ensures { ReportsStep book.now end.now (number result)
+        (output (K.written out.old) (K.faults out.old)) (output (K.written out.new) (K.faults out.new)) }
 {
     match step_text(alloc, book, end) {
-        Ok(text) => print_end(out, text.as_str(), end.stop()),
+        Ok(text) => print_end(
+            out,
+            text.as_str(),
+            run_stop(has_csum(book.entries.as_slice()), end),
+        ),
+        Err(AllocError) => print_end(
+            out,
+            stopped_text(Stop::OutOfMemory),
+            Some(Stop::OutOfMemory),
+        ),
+    }
+}
+
+/// Prints what came of a run of `dump`, and says how the run has ended, as `report_mkfs` does.
+pub fn report_dump<K: Sink>(alloc: Global, walk: &[CollView], end: &WorkEnd, out: &mut K) -> Status
+    ensures { ReportsDump walk.now end.now (number result)
+        (output (K.written out.old) (K.faults out.old)) (output (K.written out.new) (K.faults out.new)) }
+{
+    match dump_text(alloc, walk, end) {
+        Ok(text) => print_end(out, text.as_str(), run_stop(has_bad_view(walk), end)),
         Err(AllocError) => print_end(
             out,
             stopped_text(Stop::OutOfMemory),

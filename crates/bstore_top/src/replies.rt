@@ -1,10 +1,17 @@
 //! The replies of `step`: a line for each entry of the book.
 ghost use Rattle.std.specs.Prelude.{◌≡◌, [], ◌∷◌, ◌++◌, IfOk, OnOk, string_bytes, decimal, codes};
 ghost use Rattle.bstore_top.specs.Texts.{as_text};
-ghost use Rattle.bstore_top.specs.Replies.{refusal_text, is_acked, entry_line, entry_lines, is_accepted, is_refused, is_read, is_of, answers_of, done_line};
+ghost use Rattle.bstore_top.specs.Hex.{hex_or_dash, hex_sum};
+ghost use Rattle.bstore_top.specs.Replies.{refusal_text, is_acked, bytes_word, csum_text, names_text, reply_of, entry_line, entry_lines};
+ghost use Rattle.bstore_top.specs.Replies.{is_accepted, is_refused, is_csum, is_read, is_of, has_csum, answers_of, done_line};
 
-use object_model::{Answer, Book, Commit, Entry, Refusal};
+use crate::hex::{push_hex_or_dash, push_hex_sum};
+use byte_maps::Bytes;
+use object_model::{Answer, Book, Command, Commit, Entry, Refusal};
+use script_text::push_name;
 use std::alloc::{AllocError, Global};
+use std::fmt::Write;
+use unit_fields::UnitNo;
 
 fn refusal_text(refusal: Refusal) -> &'static str
     ensures { result.now ≡ refusal_text refusal }
@@ -30,47 +37,107 @@ fn is_acked(commits: &[Commit], place: usize) -> bool
         .any(|c| c.place as usize == place && c.acked_at.is_some())
 }
 
-/// A line with a reply.
-fn replied(alloc: Global, client: u32, line: u32, reply: &str) -> Result<String, AllocError>
-    ensures { IfOk result (λ text. string_bytes text ≡ decimal client ++ codes ":" ++ decimal line ++ codes " " ++ reply.now ++ 10 ∷ []) }
+/// What stands before the bytes that a command has read.
+fn bytes_word(command: &Command) -> &'static str
+    ensures { result.now ≡ bytes_word command.now }
 {
-    format!(in alloc; "{client}:{line} {reply}\n")
-}
-
-/// The line of the entry at this place.
-fn entry_text(
-    alloc: Global,
-    commits: &[Commit],
-    place: usize,
-    entry: &Entry,
-) -> Result<String, AllocError>
-    ensures { IfOk result (λ text. string_bytes text ≡ entry_line commits.now place entry.now ++ 10 ∷ []) }
-{
-    let client = entry.client;
-    let line = entry.line;
-    match &entry.answer {
-        Answer::Accepted if is_acked(commits, place) => replied(alloc, client, line, "ok"),
-        Answer::Accepted => replied(alloc, client, line, "sent"),
-        Answer::Refused(refusal) => replied(alloc, client, line, refusal_text(*refusal)),
-        Answer::NoSpace { need, free } => format!(in alloc;
-            "{client}:{line} E9 NoSpace need={need} free={free}\n"
-        ),
-        Answer::MetaFull { need, room } => format!(in alloc;
-            "{client}:{line} E10 MetaFull need={need} room={room}\n"
-        ),
-        Answer::Csum { .. } | Answer::Bytes(_) => replied(alloc, client, line, ""),
-        Answer::Size(_) | Answer::Sum { .. } | Answer::Names(_) => replied(alloc, client, line, ""),
+    match command {
+        Command::Read { .. } => "data ",
+        Command::GetAttr { .. } => "attr ",
+        Command::OmapGet { .. } => "omap ",
+        Command::OmapHeader { .. } => "header ",
+        _ => "",
     }
 }
 
-/// Adds the lines of the book's entries.
-pub fn push_replies(alloc: Global, text: &mut String, book: &Book) -> Result<(), AllocError>
+/// Adds the reply that names a unit with another checksum than the one that is kept for it. Lines of `dump` have it too.
+/// After an `Err` the text may have a part of it already.
+pub fn push_csum(text: &mut String, unit: UnitNo, kept: u32, found: u32) -> Result<(), AllocError>
+    ensures { OnOk result (string_bytes text.new ≡ string_bytes text.old ++ csum_text unit kept found) }
+{
+    let unit = unit.number();
+    write!(text, "E14 Csum unit={unit} kept=")?;
+    push_hex_sum(text, kept)?;
+    text.push_str(" found=")?;
+    push_hex_sum(text, found)
+}
+
+/// Adds the bytes that a command has read.
+fn push_bytes(text: &mut String, command: &Command, bytes: &[u8]) -> Result<(), AllocError>
+    ensures { OnOk result (string_bytes text.new ≡ string_bytes text.old ++ (bytes_word command.now ++ hex_or_dash bytes.now)) }
+{
+    text.push_str(bytes_word(command))?;
+    push_hex_or_dash(text, bytes)
+}
+
+/// Adds an object's size and the checksum of its bytes.
+fn push_sum(text: &mut String, size: u64, crc: u32) -> Result<(), AllocError>
+    ensures { OnOk result (string_bytes text.new ≡ string_bytes text.old ++ (codes "sum " ++ decimal size ++ codes " " ++ hex_sum crc)) }
+{
+    write!(text, "sum {size} ")?;
+    push_hex_sum(text, crc)
+}
+
+/// Adds names, each behind a space.
+fn push_names(text: &mut String, names: &[Bytes]) -> Result<(), AllocError>
+    ensures { OnOk result (string_bytes text.new ≡ string_bytes text.old ++ names_text names.now) }
+{
+    for name in names {
+        text.push_str(" ")?;
+        push_name(text, name.as_slice())?;
+    }
+    Ok(())
+}
+
+/// Adds the reply to the command at this place of the book.
+fn push_reply(
+    text: &mut String,
+    commits: &[Commit],
+    place: usize,
+    entry: &Entry,
+) -> Result<(), AllocError>
+    ensures { OnOk result (string_bytes text.new ≡ string_bytes text.old ++ reply_of commits.now place entry.now.command entry.now.answer) }
+{
+    match &entry.answer {
+        Answer::Accepted if is_acked(commits, place) => text.push_str("ok"),
+        Answer::Accepted => text.push_str("sent"),
+        Answer::Refused(refusal) => text.push_str(refusal_text(*refusal)),
+        Answer::NoSpace { need, free } => write!(text, "E9 NoSpace need={need} free={free}"),
+        Answer::MetaFull { need, room } => write!(text, "E10 MetaFull need={need} room={room}"),
+        Answer::Csum { unit, kept, found } => push_csum(text, *unit, *kept, *found),
+        Answer::Bytes(bytes) => push_bytes(text, &entry.command, bytes.as_slice()),
+        Answer::Size(size) => write!(text, "size {size}"),
+        Answer::Sum { size, crc } => push_sum(text, *size, *crc),
+        Answer::Names(names) => {
+            text.push_str("objects")?;
+            push_names(text, names.as_slice())
+        }
+    }
+}
+
+/// Adds the line of the entry at this place.
+fn push_entry(
+    text: &mut String,
+    commits: &[Commit],
+    place: usize,
+    entry: &Entry,
+) -> Result<(), AllocError>
+    ensures { OnOk result (string_bytes text.new ≡ string_bytes text.old ++ (entry_line commits.now place entry.now ++ 10 ∷ [])) }
+{
+    let client = entry.client;
+    let line = entry.line;
+    write!(text, "{client}:{line} ")?;
+    push_reply(text, commits, place, entry)?;
+    text.push_str("\n")
+}
+
+/// Adds the lines of the book's entries. After an `Err` the text may have some of them already.
+pub fn push_replies(text: &mut String, book: &Book) -> Result<(), AllocError>
     ensures { OnOk result (string_bytes text.new ≡ string_bytes text.old ++ as_text (entry_lines book.now.commits 0 book.now.entries)) }
 {
     let commits = book.commits.as_slice();
     for (place, entry) in book.entries.as_slice().iter().enumerate() {
-        let line = entry_text(alloc, commits, place, entry)?;
-        text.push_str(line.as_str())?;
+        push_entry(text, commits, place, entry)?;
     }
     Ok(())
 }
@@ -102,6 +169,12 @@ fn is_refused(answer: &Answer) -> bool
     }
 }
 
+fn is_csum(answer: &Answer) -> bool
+    ensures { result ≡ is_csum answer.now }
+{
+    matches!(answer, Answer::Csum { .. })
+}
+
 fn is_read(answer: &Answer) -> bool
     ensures { result ≡ is_read answer.now }
 {
@@ -120,6 +193,13 @@ fn is_of(kind: Kind, answer: &Answer) -> bool
         Kind::Refused => is_refused(answer),
         Kind::Read => is_read(answer),
     }
+}
+
+/// Whether some reply names a bad unit: the run then has the status of a store that isn't mounted, whatever ends it.
+pub fn has_csum(entries: &[Entry]) -> bool
+    ensures { result ≡ has_csum entries.now }
+{
+    entries.iter().any(|entry| is_csum(&entry.answer))
 }
 
 /// How many answers of a kind there are.

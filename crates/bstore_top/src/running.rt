@@ -1,22 +1,25 @@
 //! Runs, from the words to the outcome.
 ghost use Rattle.std.specs.Prelude.{◌≡◌, ◌<◌, [], map, IsSomeAnd};
 ghost use Rattle.std.specs.Option.{option_map};
-ghost use Rattle.bstore_top.specs.declared.command_line.CommandLine.TheVariants.{Mkfs, Step};
+ghost use Rattle.bstore_top.specs.declared.command_line.CommandLine.TheVariants.{Mkfs, Step, Dump};
 ghost use Rattle.bstore_top.specs.CommandLine.{words_of, IsInRange, IsHalf, IsUnitCount, IsNoCommandLine};
 ghost use Rattle.bstore_top.specs.Status.{number};
 ghost use Rattle.bstore_top.specs.Printed.{output};
 ghost use Rattle.bstore_top.specs.StepRun.{seen, RanStep};
-ghost use Rattle.bstore_top.specs.Run.{Ran, RanMkfs, ShowedUsage, ForLine, ComesBack, CameBack, EachCrashLeavesPrefix, HasStore, IsBare, IsBareUnlessStep, LeavesBook};
+ghost use Rattle.bstore_top.specs.DumpRun.{RanDump};
+ghost use Rattle.bstore_top.specs.Reports.{ShowedUsage};
+ghost use Rattle.bstore_top.specs.Run.{Ran, RanMkfs, ForLine, ComesBack, CameBack, EachCrashLeavesPrefix, HasStore, IsBare, IsBareUnlessStep, LeavesBook};
 
+use crate::dump_work::{DumpWork, dump_store};
 use crate::making::{Work, make_store};
-use crate::printing::{report_mkfs, report_step, show_usage};
+use crate::printing::{report_dump, report_mkfs, report_step, show_usage};
 use crate::script_work::{StepWork, run_store};
 use crate::{CommandLine, FileName, Outcome, Status, read_words};
 use end_points::{Bay, Gate, Sink};
 use object_model::Book;
 use std::alloc::Global;
 
-/// An outcome of a run that mounts nothing.
+/// An outcome of a run that opens no script and has no book.
 fn bare<D, S>(alloc: Global, status: Status, dev: Option<D>) -> Outcome<D, S>
     ensures status { result.status ≡ number status }
     ensures dev { result.dev ≡ dev }
@@ -90,6 +93,28 @@ fn run_step<B: Bay, K: Sink>(
     }
 }
 
+/// Runs `dump`.
+fn run_dump<B: Bay, K: Sink>(
+    alloc: Global,
+    dev: &FileName<'_>,
+    bay: &mut B,
+    out: &mut K,
+) -> Outcome<B::Dev, B::Src>
+    requires given { (B.bay bay.old).given < 4294967294 }
+    ensures run { RanDump dev.now result.status
+        (seen (option_map B.Dev.disk result.dev) (option_map B.Dev.faults result.dev) (map B.Src.faults result.sources.items) result.book)
+        (B.bay bay.old) (B.bay bay.new) (B.faults bay.old) (B.faults bay.new)
+        (output (K.written out.old) (K.faults out.old)) (output (K.written out.new) (K.faults out.new)) }
+    ensures device { ComesBack (Dump dev.now) (B.bay bay.old) (option_map B.Dev.disk result.dev) (B.bay bay.new) }
+    ensures durable { EachCrashLeavesPrefix (Dump dev.now) (B.bay bay.old) (option_map B.Dev.disk result.dev) result.book }
+    ensures rest { IsBare result.sources.items result.book }
+    ensures turns { result.turns.items ≡ [] }
+{
+    let DumpWork { end, walk, dev } = dump_store(alloc, dev, bay);
+    let status = report_dump(alloc, &walk, &end, out);
+    bare(alloc, status, dev)
+}
+
 fn run<B: Bay, K: Sink>(
     alloc: Global,
     line: &CommandLine<'_>,
@@ -111,6 +136,7 @@ fn run<B: Bay, K: Sink>(
     match line {
         CommandLine::Mkfs { dev, half, units } => run_mkfs(alloc, dev, *half, *units, bay, out),
         CommandLine::Step { dev, seed, script } => run_step(alloc, dev, *seed, script, bay, out),
+        CommandLine::Dump { dev } => run_dump(alloc, dev, bay, out),
     }
 }
 

@@ -11,19 +11,19 @@ ghost use Rattle.bstore_top.specs.StepRun.{HasScript, FailsBefore, WorksOn, IsSt
 ghost use Rattle.mount_replay.specs.Calls.{IsLater};
 ghost use Rattle.bstore_top.specs.Run.{ComesBack};
 
+use crate::run_fail::RunFail;
 use crate::stepping::run_script;
-use crate::{FileName, StepEnd};
+use crate::{FileName, WorkEnd};
 use block_device::{Device, Failed};
 use end_points::{Bay, How};
 use mount_replay::{MountFail, mount, unmount};
 use object_model::Book;
 use script_text::{Line, ScriptFail, read_script};
 use std::alloc::Global;
-use store_kernel::StepFail;
 
 /// How the work of `step` ended, before anything of it was printed, and what it leaves.
 pub struct StepWork<D, S> {
-    pub end: StepEnd,
+    pub end: WorkEnd,
     /// The device, where the bay gave it.
     pub dev: Option<D>,
     /// The script's source, where the bay opened it.
@@ -38,21 +38,22 @@ fn read<B: Bay>(
     name: &FileName<'_>,
     bay: &mut B,
     sources: &mut Vec<B::Src>,
-) -> Result<Vec<Line>, StepEnd>
+) -> Result<Vec<Line>, WorkEnd>
     requires { sources.old.items ≡ [] }
     ensures script { IfOk result (λ lines. HasScript (B.bay bay.old).names name.now lines.items) }
     ensures fits { IfOk result (λ lines. AllByRecursion FitsLine lines.items × (length (asks_of lines.items) ≤ 1048576)) }
-    ensures cause { IfErr result (λ end. FailsBefore end (B.bay bay.old).names name.now (map B.Src.faults sources.new.items) (B.faults bay.old) (B.faults bay.new)) }
+    ensures cause { IfErr result (λ end. FailsBefore end (B.bay bay.old).names name.now (map B.Src.faults sources.new.items)
+        (B.faults bay.old) (B.faults bay.new)) }
     ensures same { B.bay bay.new ≡ B.bay bay.old }
     ensures later { B.faults bay.old ≤ B.faults bay.new }
 {
     let Ok(()) = sources.reserve(1) else {
-        return Err(StepEnd::OutOfMemory);
+        return Err(WorkEnd::OutOfMemory);
     };
     let mut source = match bay.script(name.as_str()) {
         Ok(source) => source,
-        Err(Failed::Memory) => return Err(StepEnd::OutOfMemory),
-        Err(Failed::Fault) => return Err(StepEnd::BayFault),
+        Err(Failed::Memory) => return Err(WorkEnd::OutOfMemory),
+        Err(Failed::Fault) => return Err(WorkEnd::BayFault),
     };
     let lines = read_script(alloc, &mut source);
     sources.push_reserved(source);
@@ -63,18 +64,18 @@ fn read<B: Bay>(
 }
 
 /// How a run ends whose script wasn't read.
-fn unread(fail: ScriptFail) -> StepEnd
+fn unread(fail: ScriptFail) -> WorkEnd
     ensures { result ≡ end_of_script fail }
 {
     match fail {
-        ScriptFail::Memory => StepEnd::OutOfMemory,
-        ScriptFail::Line { n } => StepEnd::BadLine { n },
-        ScriptFail::ReadFault => StepEnd::BayFault,
+        ScriptFail::Memory => WorkEnd::OutOfMemory,
+        ScriptFail::Line { n } => WorkEnd::BadLine { n },
+        ScriptFail::ReadFault => WorkEnd::BayFault,
     }
 }
 
 /// Mounts the store on the device, runs the script on it, and unmounts it.
-fn work_on<D: Device>(alloc: Global, dev: D, seed: u32, lines: Vec<Line>) -> (StepEnd, D, Book)
+fn work_on<D: Device>(alloc: Global, dev: D, seed: u32, lines: Vec<Line>) -> (WorkEnd, D, Book)
     requires idle { (D.disk dev).flights ≡ [] }
     requires fits { AllByRecursion FitsLine lines.items }
     requires room { length (asks_of lines.items) ≤ 1048576 }
@@ -94,26 +95,26 @@ fn work_on<D: Device>(alloc: Global, dev: D, seed: u32, lines: Vec<Line>) -> (St
 }
 
 /// How a run ends that ran the script, with so many units free.
-fn ended(ran: Result<(), StepFail>, free: u32) -> StepEnd
+fn ended(ran: Result<(), RunFail>, free: u32) -> WorkEnd
     ensures { result ≡ end_of_run ran free }
 {
     match ran {
-        Ok(()) => StepEnd::Done { free },
-        Err(StepFail::Memory) => StepEnd::OutOfMemory,
-        Err(StepFail::Fault) => StepEnd::DeviceFault,
+        Ok(()) => WorkEnd::Done { free },
+        Err(RunFail::Memory) => WorkEnd::OutOfMemory,
+        Err(RunFail::Fault | RunFail::DeviceRead) => WorkEnd::DeviceFault,
     }
 }
 
 /// How a run ends that mounted nothing.
-fn unmounted(fail: MountFail) -> StepEnd
+pub fn unmounted(fail: MountFail) -> WorkEnd
     ensures { result ≡ end_of_mount fail }
 {
     match fail {
-        MountFail::Memory => StepEnd::OutOfMemory,
-        MountFail::NoSuper => StepEnd::NoSuper,
-        MountFail::BadRow { key } => StepEnd::BadRow { key },
-        MountFail::WornOut { .. } => StepEnd::WornOut,
-        MountFail::Fault => StepEnd::DeviceFault,
+        MountFail::Memory => WorkEnd::OutOfMemory,
+        MountFail::NoSuper => WorkEnd::NoSuper,
+        MountFail::BadRow { key } => WorkEnd::BadRow { key },
+        MountFail::WornOut { .. } => WorkEnd::WornOut,
+        MountFail::Fault => WorkEnd::DeviceFault,
     }
 }
 
@@ -161,11 +162,11 @@ pub fn run_store<B: Bay>(
 }
 
 /// How a run ends for which the bay gave no device.
-fn unopened(fail: Failed) -> StepEnd
+pub fn unopened(fail: Failed) -> WorkEnd
     ensures { result ≡ end_of_bay fail }
 {
     match fail {
-        Failed::Memory => StepEnd::OutOfMemory,
-        Failed::Fault => StepEnd::BayFault,
+        Failed::Memory => WorkEnd::OutOfMemory,
+        Failed::Fault => WorkEnd::BayFault,
     }
 }

@@ -9,7 +9,8 @@ pub enum Stop {
     BadScript = 2,
     /// The device failed.
     DeviceFault = 3,
-    /// The store isn't made or mounted, for what the device is or holds.
+    /// The store isn't made or mounted, for what the device is or holds; or a unit of an object was met whose bytes have another
+    /// checksum than the one that is kept for it, whether or not the work was done.
     Refused = 4,
     /// Memory ran out.
     OutOfMemory = 5,

@@ -1,5 +1,8 @@
 // Runs over a bay in memory: what they print, what they end with, and whether a device comes back.
 
+mod dump;
+mod printed_texts;
+mod step_reads;
 mod step_runs;
 
 use super::*;

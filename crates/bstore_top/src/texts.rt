@@ -9,7 +9,7 @@ use std::alloc::{AllocError, Global};
 
 /// A line for each command.
 pub const USAGE: &str =
-    "usage: bstore mkfs DEV --half H --units N\nusage: bstore step DEV --seed S SCRIPT\n";
+    "usage: bstore mkfs DEV --half H --units N\nusage: bstore step DEV --seed S SCRIPT\nusage: bstore dump DEV\n";
 
 /// What a run prints that has made a store.
 pub fn made_text(alloc: Global, half: u32, units: u32) -> Result<String, AllocError>

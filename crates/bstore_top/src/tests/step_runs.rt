@@ -9,9 +9,9 @@ use meta_log::{SealedRecord, Super};
 use meta_rows::RowOp;
 
 /// The slot of a store with halves of 8 units.
-fn slot(alloc: Global, units: u32, epoch: u64) -> Result<Vec<u8>, Fail>
+pub(super) fn slot(alloc: Global, units: u32, epoch: u64) -> Result<Vec<u8>, Fail>
     requires least { 19 ≤ units }
-    requires most { units ≤ 64 }
+    requires most { units ≤ 512 }
     requires epoch { epoch < 2 ^ 62 }
 {
     let sup = Super {
@@ -25,8 +25,8 @@ fn slot(alloc: Global, units: u32, epoch: u64) -> Result<Vec<u8>, Fail>
 }
 
 /// A device of so many units: these bytes, and zeros behind them.
-fn contents(alloc: Global, front: &[u8], units: u32) -> Result<Vec<u8>, Fail>
-    requires { units ≤ 64 }
+pub(super) fn contents(alloc: Global, front: &[u8], units: u32) -> Result<Vec<u8>, Fail>
+    requires { units ≤ 512 }
     ensures { IfOk result (λ c. AreContents c.items) }
 {
     let mut contents = front.to_vec(alloc)?;
@@ -36,18 +36,18 @@ fn contents(alloc: Global, front: &[u8], units: u32) -> Result<Vec<u8>, Fail>
 
 /// What a run works on, and its one call that fails, if one does.
 #[derive(Clone, Copy)]
-struct Setup<'a> {
+pub(super) struct Setup<'a> {
     /// The units of the store under the name `dev`, which is new.
-    units: u32,
+    pub(super) units: u32,
     /// The text under the name `script`.
-    script: &'a str,
-    device: Option<(Kind, u64)>,
-    source: Option<u64>,
-    sink: Option<u64>,
+    pub(super) script: &'a str,
+    pub(super) device: Option<(Kind, u64)>,
+    pub(super) source: Option<u64>,
+    pub(super) sink: Option<u64>,
 }
 
 /// A new store of 64 units, and no call that fails.
-fn plain(script: &str) -> Setup<'_>
+pub(super) fn plain(script: &str) -> Setup<'_>
     ensures { result.units ≡ 64 }
 {
     Setup {
@@ -69,7 +69,7 @@ fn list<T: Drop>(alloc: Global, value: Option<T>) -> Result<Vec<T>, Fail> {
 }
 
 /// Runs a line of words over these contents. Its source gives 7 bytes a call.
-fn run_over(
+pub(super) fn run_over(
     alloc: Global,
     line: &str,
     contents: Vec<u8>,
@@ -97,9 +97,9 @@ fn run_over(
 }
 
 /// Runs a line of words over a new store.
-fn run_line(alloc: Global, line: &str, setup: Setup<'_>) -> Result<Finished, Fail>
+pub(super) fn run_line(alloc: Global, line: &str, setup: Setup<'_>) -> Result<Finished, Fail>
     requires least { 19 ≤ setup.units }
-    requires most { setup.units ≤ 64 }
+    requires most { setup.units ≤ 512 }
 {
     let slot = slot(alloc, setup.units, 0)?;
     let contents = contents(alloc, &slot, setup.units)?;
@@ -109,7 +109,7 @@ fn run_line(alloc: Global, line: &str, setup: Setup<'_>) -> Result<Finished, Fai
 const FIRST: &str = "mkcoll 1.0_head\nwrite 1.0_head a 0 fill:5a:4096\nwait\n";
 
 /// The bytes of so many units of the device of 64 that came back.
-fn units(alloc: Global, run: Finished, at: u32, count: u32) -> Result<Vec<u8>, Fail>
+pub(super) fn units(alloc: Global, run: Finished, at: u32, count: u32) -> Result<Vec<u8>, Fail>
     requires { at + count ≤ 64 }
 {
     let Finished { outcome, sink: _ } = run;
@@ -267,7 +267,7 @@ fn failing_ends(rt: HostRuntime) -> Result<(), Fail> {
 }
 
 /// Runs this script over what an earlier run left of its device.
-fn run_again(alloc: Global, earlier: Finished, script: &str) -> Result<Finished, Fail> {
+pub(super) fn run_again(alloc: Global, earlier: Finished, script: &str) -> Result<Finished, Fail> {
     let left = units(alloc, earlier, 0, 64)?;
     let contents = contents(alloc, &left, 64)?;
     run_over(
@@ -299,7 +299,7 @@ fn one_run_behind_another(rt: HostRuntime) -> Result<(), Fail> {
 }
 
 /// A store of 64 units whose first record sets the row of this key to no bytes.
-fn with_row(alloc: Global, key: &[u8]) -> Result<Vec<u8>, Fail>
+pub(super) fn with_row(alloc: Global, key: &[u8]) -> Result<Vec<u8>, Fail>
     requires { IsKey key.now }
     ensures { IfOk result (λ c. AreContents c.items) }
 {

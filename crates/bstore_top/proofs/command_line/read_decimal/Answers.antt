@@ -14,6 +14,7 @@ pub returns : goal.returns
 returns c =
     let plain = c.is_plain.ensures.0 cc in
     record {
-      read = λ n fits is. c.ok.ensures.value ∙ ap (λ r. result_ok r) (parse-decimal 32 n c.args.text.now c.parse.result fits (omega arith) is c.parse.ensures.value.0);
+      read = λ n fits is. c.ok.ensures.value
+          ∙ ap (λ r. result_ok r) (parse-decimal 32 n c.args.text.now c.parse.result fits (omega arith) is c.parse.ensures.value.0);
       number = rw c.ok.ensures.value (decimal_of_plain c.args.text.now c.parse.result plain c.parse.ensures.value.0);
     }

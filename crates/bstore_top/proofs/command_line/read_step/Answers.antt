@@ -5,13 +5,19 @@ use Rattle.bstore_top.proofs.command_line.read_step.Goals as goal
 
 pub returns-in_err-seed : goal.returns-in_err-seed
 returns-in_err-seed c =
-    let all = six c.as_slice.result.now c._program-item.result c.command-item.result c.dev-item.result c.seed_word-item.result c.seed-item.result c.script-item.result (omega arith) c._program-item.is c.command-item.is c.dev-item.is c.seed_word-item.is c.seed-item.is c.script-item.is in
+    let all = six c.as_slice.result.now c._program-item.result c.command-item.result c.dev-item.result c.seed_word-item.result
+    c.seed-item.result c.script-item.result (omega arith) c._program-item.is c.command-item.is c.dev-item.is c.seed_word-item.is
+    c.seed-item.is c.script-item.is in
     let is = five_behind _ _ _ _ _ _ _ _ c.as_slice.ensures.value all in
-    rw c.from_residual-in_err-seed.ensures (no_seed (words_of c.args.words.now) _ _ _ _ _ is (λ n fits same. let some : None ≡ Some n = c.in_err-seed.ensures.read n fits (c.as_str-2.ensures.value ∙ same) in absurd cc))
+    rw c.from_residual-in_err-seed.ensures
+    (no_seed (words_of c.args.words.now) _ _ _ _ _ is
+    (λ n fits same. let some : None ≡ Some n = c.in_err-seed.ensures.read n fits (c.as_str-2.ensures.value ∙ same) in absurd cc))
 
 pub returns : goal.returns
 returns c =
-    let all = six c.as_slice.result.now c._program-item.result c.command-item.result c.dev-item.result c.seed_word-item.result c.seed-item.result c.script-item.result (omega arith) c._program-item.is c.command-item.is c.dev-item.is c.seed_word-item.is c.seed-item.is c.script-item.is in
+    let all = six c.as_slice.result.now c._program-item.result c.command-item.result c.dev-item.result c.seed_word-item.result
+    c.seed-item.result c.script-item.result (omega arith) c._program-item.is c.command-item.is c.dev-item.is c.seed_word-item.is
+    c.seed-item.is c.script-item.is in
     let is = five_behind _ _ _ _ _ _ _ _ c.as_slice.ensures.value all in
     let command = c.is_word.ensures.0 cc in
     let seed_word = c.is_word-else-not-is_word.ensures.0 cc in
@@ -19,4 +25,5 @@ returns c =
     let script = c.in_ok-script.ensures in
     let seed = c.in_ok-seed.ensures.number in
     let fits : c.in_ok-seed.seed < 2 ^ 32 = omega arith in
-    spells_step (words_of c.args.words.now) _ _ _ _ _ is _ _ _ command seed_word (rw c.as_str.ensures.value at dev) (rw c.as_str-2.ensures.value at seed) fits (rw c.as_str-3.ensures.value at script)
+    spells_step (words_of c.args.words.now) _ _ _ _ _ is _ _ _ command seed_word (rw c.as_str.ensures.value at dev)
+    (rw c.as_str-2.ensures.value at seed) fits (rw c.as_str-3.ensures.value at script)

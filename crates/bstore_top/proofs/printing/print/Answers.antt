@@ -11,6 +11,7 @@ loop-at-preserved g c =
     let put = c.in_ok-at.ensures.ok in
     record {
       inside = omega (arith, length-drop at text, ap length (rest_is text at), put.inside);
-      written = put.written ∙ (ap (λ o. with_bytes o (take n (take (length text - at) (drop at text)))) c.loop-at.invariant.written ∙ with_more _ text at n);
+      written = put.written ∙ (ap (λ o. with_bytes o (take n (take (length text - at) (drop at text)))) c.loop-at.invariant.written ∙
+          with_more _ text at n);
       faults = omega (arith, c.write.ensures.later);
     }

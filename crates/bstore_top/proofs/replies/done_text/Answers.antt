@@ -9,7 +9,8 @@ use Rattle.bstore_top.proofs.replies.done_text.Goals as goal
 pub returns : goal.returns
 returns c =
     let same = c.as_slice-entries.ensures in
-    as_lines c.format.result _ _ (done_is c.args.book.now c.args.free c.count-accepted.result c.count-refused.result c.count-reads.result c.len-commits.result
+    as_lines c.format.result _ _ (done_is c.args.book.now c.args.free c.count-accepted.result c.count-refused.result c.count-reads.result
+    c.len-commits.result
     (c.count-accepted.ensures ∙ ap (λ (es : List Entry). answers_of Accepted es) same)
     (c.count-refused.ensures ∙ ap (λ (es : List Entry). answers_of Refused es) same)
     (c.count-reads.ensures ∙ ap (λ (es : List Entry). answers_of Read es) same)

@@ -7,7 +7,8 @@ pub returns-clause-works : goal.returns-clause-works
 returns-clause-works g c =
     let reaped = c.unmount-dev.ensures.reaped in
     rw c.ended-end.ensures (inr (
-      run_counted c.run_script-ran.result c.free_units.result _ _ _ _ c.run_script-ran.ensures.cause c.in-Ok.ensures.later c.unmount-dev.ensures.later,
+      run_counted c.run_script-ran.result c.free_units.result _ _ _ _ c.run_script-ran.ensures.cause c.run_script-ran.ensures.read_cause
+          c.in-Ok.ensures.later c.unmount-dev.ensures.later,
       (works_mounted _ _ _ c.in-Ok.ensures.ok.0 c.in-Ok.ensures.ok.1.0 _ _ _ _ _ _
           (record { mounted = c.in-Ok.ensures.ok.1.1; kept = c.facts.ensures.kept; durable = c.facts.ensures.durable })
           (record { closed = reaped.0; reaped = reaped.1.0; book_is = reaped.1.1; same = c.unmount-dev.ensures.book })
@@ -15,7 +16,8 @@ returns-clause-works g c =
     ))
 
 pub returns-clause-later : goal.returns-clause-later
-returns-clause-later g c = later_ran c.run_script-ran.result _ _ _ _ _ _ _ _ c.run_script-ran.ensures.ran c.in-Ok.ensures.ok.1.1.later c.unmount-dev.ensures.same
+returns-clause-later g c = later_ran c.run_script-ran.result _ _ _ _ _ _ _ _ c.run_script-ran.ensures.ran c.in-Ok.ensures.ok.1.1.later
+    c.unmount-dev.ensures.same
 
 pub returns-clause-keeps : goal.returns-clause-keeps
 returns-clause-keeps g c sound fresh =
@@ -43,4 +45,5 @@ returns-in-Err-clause-keeps g c sound fresh =
     let now = g.D.Device.faults c.in-Err.dev in
     let given = g.D.Device.disk c.args.dev in
     failed_keeps given (g.D.Device.disk c.in-Err.dev) c.unmounted.result c.new.result before now fresh
-    (mount_failed c.in-Err.fail c.unmounted.result given before now c.unmounted.ensures c.in-Err.ensures.fails) c.new.ensures.empty c.in-Err.ensures.durable
+    (mount_failed c.in-Err.fail c.unmounted.result given before now c.unmounted.ensures c.in-Err.ensures.fails) c.new.ensures.empty
+    c.in-Err.ensures.durable

@@ -9,6 +9,7 @@ pub returns : goal.returns
 returns c =
     let replies : List (List ℕ) = entry_lines c.args.book.now.commits 0 c.args.book.now.entries in
     c.in_ok-push_str.ensures.bytes
-    ∙ ap (λ (t : List ℕ). t ++ c.as_str.result.now) (c.in_ok-push_replies.ensures ∙ ap (λ (t : List ℕ). t ++ as_text replies) c.new-text.ensures.bytes)
+    ∙ ap (λ (t : List ℕ). t ++ c.as_str.result.now)
+    (c.in_ok-push_replies.ensures ∙ ap (λ (t : List ℕ). t ++ as_text replies) c.new-text.ensures.bytes)
     ∙ ap (λ (t : List ℕ). as_text replies ++ t) (c.as_str.ensures.value ∙ c.in_ok-last.ensures)
     ∙ sym (as_text-append replies (end_lines c.args.book.now c.args.end.now))

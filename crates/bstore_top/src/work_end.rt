@@ -1,14 +1,14 @@
-//! How the work of `step` ends.
+//! How the work of a command that mounts a store ends.
 ghost use Rattle.std.specs.Prelude.{◌≡◌};
 ghost use Rattle.bstore_top.specs.StepTexts.{stop_of};
 
 use crate::Stop;
 use byte_maps::Bytes;
 
-/// How the work of `step` ended, before anything of it was printed: the first cause in time.
+/// How the work of `step` or of `dump` ended, before anything of it was printed.
 #[derive(Debug, Drop)]
-pub enum StepEnd {
-    /// The script has ended and the kernel is drained.
+pub enum WorkEnd {
+    /// The script has ended and the kernel is drained, or the walk has come to its end.
     Done {
         /// The free data units.
         free: u32,
@@ -25,25 +25,25 @@ pub enum StepEnd {
     },
     /// The numbers of the store are used up.
     WornOut,
-    /// The device failed.
+    /// The device failed, at a write, a flush or a read.
     DeviceFault,
     OutOfMemory,
     /// The bay failed, or the source of the script did.
     BayFault,
 }
 
-impl StepEnd {
+impl WorkEnd {
     /// What the run stopped for, if its work wasn't done.
     pub fn stop(&self) -> Option<Stop>
         ensures { result ≡ stop_of self.now }
     {
         match self {
-            StepEnd::Done { .. } => None,
-            StepEnd::BadLine { .. } => Some(Stop::BadScript),
-            StepEnd::NoSuper | StepEnd::BadRow { .. } | StepEnd::WornOut => Some(Stop::Refused),
-            StepEnd::DeviceFault => Some(Stop::DeviceFault),
-            StepEnd::OutOfMemory => Some(Stop::OutOfMemory),
-            StepEnd::BayFault => Some(Stop::BayFault),
+            WorkEnd::Done { .. } => None,
+            WorkEnd::BadLine { .. } => Some(Stop::BadScript),
+            WorkEnd::NoSuper | WorkEnd::BadRow { .. } | WorkEnd::WornOut => Some(Stop::Refused),
+            WorkEnd::DeviceFault => Some(Stop::DeviceFault),
+            WorkEnd::OutOfMemory => Some(Stop::OutOfMemory),
+            WorkEnd::BayFault => Some(Stop::BayFault),
         }
     }
 }

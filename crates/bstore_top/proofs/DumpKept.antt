@@ -1,0 +1,177 @@
+-- A walk over a mounted store leaves the device as the mount left it, and shows what the contents stood for.
+use Rattle.std.proofs.Common.{◌≡◌, ℕ, ◌≤◌, true, List, [], length, Some, None, Result, Ok, Err, refl, sym, ap, subst, ◌∙◌, arith}
+use Rattle.std.specs.Prelude.{IfErr, OnOk}
+use Rattle.std.specs.List.{AllByRecursion}
+use Rattle.block_device.specs.Log.{last, HasNoBadDone}
+use Rattle.block_device.specs.Facts.{last_at}
+use Rattle.block_device.specs.Disk.{Disk, History, IsFresh, Rose}
+use Rattle.block_device.specs.declared.event.Event.{Event}
+use Rattle.meta_rows.specs.Rows.{Rows}
+use Rattle.object_model.specs.Objects.{Objects}
+use Rattle.object_model.specs.Effect.{replay}
+use Rattle.object_model.specs.Book.{accepted}
+use Rattle.store_image.specs.BadRows.{NoBadRow}
+use Rattle.store_image.specs.Stands.{ObjectsStand, StandsFor}
+use Rattle.store_image.specs.Durability.{EachCutStands}
+use Rattle.read_facts.specs.declared.view.CollView.{CollView}
+use Rattle.read_facts.specs.Views.{WalksTo, WalksAll, HasGoodViews, views_of}
+use Rattle.read_facts.proofs.Viewed.{walk_is, walk_good}
+use Rattle.unit_allocator.specs.Units.{Space}
+use Rattle.store_steps.specs.State.{State}
+use Rattle.store_steps.specs.Opened.{Found, opened}
+use Rattle.store_steps.specs.Ready.{is_drained}
+use Rattle.store_facts.specs.Kept.{IsKept}
+use Rattle.crash_facts.specs.Store.{KnownOfStore, IsDurable, KeepsDurable}
+use Rattle.crash_facts.proofs.Idle.{drained_view, drained_good}
+use Rattle.store_kernel.specs.declared.unanswered.WalkFail.{WalkFail}
+use Rattle.store_kernel.specs.declared.unanswered.WalkFail.TheVariants as walk
+use Rattle.mount_replay.specs.Calls.{IsLater}
+use Rattle.mount_replay.specs.Mounting as mounting
+use Rattle.mount_replay.specs.Mounting.{IsOpenedOn, IsReapedTo}
+use Rattle.bstore_top.specs.declared.work_end.WorkEnd.{WorkEnd}
+use Rattle.bstore_top.specs.declared.work_end.WorkEnd.TheVariants.{Done, BadLine, NoSuper, BadRow, WornOut, DeviceFault, OutOfMemory, BayFault}
+use Rattle.bstore_top.specs.Dumping.{IsOfUp, end_of_walk}
+use Rattle.bstore_top.specs.DumpRun.{Walked, WalksStore, Shows, ShowsObjects}
+use Rattle.bstore_top.specs.Keeping.{StaysDurable}
+use Rattle.bstore_top.specs.StepRun.{empty_book, FailsToMount, HasCounted}
+use Rattle.bstore_top.proofs.RunLaws.{log_empty, clean_of_none, start_durable, no_reap}
+
+-- ---- a device on which nothing was mounted
+
+-- a device that the mount left durable is so from what it was given with
+pub stays_durable : (given disk : Disk) → IsFresh given → mounting.StaysDurable given disk → StaysDurable given empty_book disk
+stays_durable given disk fresh stays h objects told stands =
+    let none : h.log ≡ [] = log_empty given h fresh told in
+    let still : mounting.StandsStill h objects disk =
+    stays h objects told (clean_of_none h.log none) (subst (λ (l : List Event). StandsFor (last h.start l) objects) (sym none) stands) in
+    record {
+      history = still.history;
+      told = still.told;
+      started = still.goes_on.same_start;
+      cuts = subst (λ (n : ℕ). EachCutStands n still.history objects empty_book) (ap (λ (l : List Event). length l) none) still.cuts;
+    }
+
+-- nothing was seen, so no bad unit was
+shows_none : (end : WorkEnd) (given : Disk) (before now : ℕ) (objects : Objects) → FailsToMount end given before now → Shows end objects []
+shows_none (Done free) given before now objects fails = absurd fails
+shows_none (BadLine n) given before now objects fails = tt
+shows_none NoSuper given before now objects fails = tt
+shows_none (BadRow key) given before now objects fails = tt
+shows_none WornOut given before now objects fails = tt
+shows_none DeviceFault given before now objects fails = tt
+shows_none OutOfMemory given before now objects fails = tt
+shows_none BayFault given before now objects fails = tt
+
+-- so it is of a device on which nothing was mounted
+pub unmounted_shows : (end : WorkEnd) (given : Disk) (before now : ℕ) (colls : List CollView) → FailsToMount end given before now → colls ≡ []
+    → ShowsObjects given end colls
+unmounted_shows end given before now colls fails none h objects told stands =
+    subst (Shows end objects) (sym none) (shows_none end given before now objects fails)
+
+-- ---- how a walk ended
+
+-- a walk of a kernel that is up has come to its end, or to where it failed
+walked_as : (r : Result (Unit {0}) WalkFail) (free : ℕ) (d : Disk) (rows : Rows) (colls : List CollView) → IfErr r IsOfUp → WalksTo d rows colls
+    → OnOk r (WalksAll d rows colls) → Walked (end_of_walk r free) d rows colls
+walked_as (Ok u) free d rows colls up so_far all = all
+walked_as (Err walk.Memory) free d rows colls up so_far all = so_far
+walked_as (Err walk.DeviceRead) free d rows colls up so_far all = so_far
+walked_as (Err (walk.Down ticket)) free d rows colls up so_far all = absurd up
+
+-- a read that failed is counted
+pub walk_counted : (r : Result (Unit {0}) WalkFail) (free before a b now : ℕ) → IfErr r IsOfUp → (r ≡ Err walk.DeviceRead → Rose a b) → before ≤ a
+    → b ≤ now → HasCounted (end_of_walk r free) before now
+walk_counted (Ok u) free before a b now up cause first last = tt
+walk_counted (Err walk.Memory) free before a b now up cause first last = tt
+walk_counted (Err walk.DeviceRead) free before a b now up cause first last = omega (arith, cause refl, first, last)
+walk_counted (Err (walk.Down ticket)) free before a b now up cause first last = absurd up
+
+-- ---- a mounted store
+
+-- a kernel that was just opened has nothing to do
+drained_open : (depth : ℕ) (f : Found) (space : Space) (events : ℕ) → is_drained depth (opened f space events) ≡ true
+drained_open depth f space events = refl
+
+module _ (given : Disk) (f : Found) (space : Space) (start : Disk) (s : State) (mounted : IsOpenedOn given f space start s) where
+  pub opened_drained : is_drained start.depth s ≡ true
+  opened_drained = ap (λ (z : State). is_drained start.depth z) mounted.state ∙ drained_open start.depth f space mounted.events
+
+  -- nor is it down
+  pub opened_is_up : s.down ≡ None
+  opened_is_up = ap (λ (z : State). z.down) mounted.state
+
+  -- its rows are those that were found
+  view_is : s.view ≡ f.rows
+  view_is = ap (λ (z : State). z.view) mounted.state
+
+  -- unmounting it takes no end, so the device stays as the mount left it
+  module _ (s' : State) (d' disk : Disk) (closed : State) (same : s' ≡ s) (device : d' ≡ start) (reaped : IsReapedTo s' d' closed disk) where
+    pub device_same : disk ≡ start
+    device_same =
+        let drained : is_drained d'.depth s' ≡ true =
+        ap (λ (z : State). is_drained d'.depth z) same ∙ (ap (λ (x : Disk). is_drained x.depth s) device ∙ opened_drained) in
+        (no_reap reaped.calls s' closed d' disk drained reaped.reaps reaped.run).1 ∙ device
+
+    -- so it is a later state of the one that was given
+    pub later_unmounted : IsLater given disk
+    later_unmounted = subst (IsLater given) (sym device_same) mounted.later
+
+    -- and durable from there
+    pub durable_unmounted : IsFresh given → mounting.StaysDurable given start → StaysDurable given empty_book disk
+    durable_unmounted fresh stays = subst (StaysDurable given empty_book) (sym device_same) (stays_durable given start fresh stays)
+
+    -- what came of the walk
+    pub store_walked : (r : Result (Unit {0}) WalkFail) (free : ℕ) (colls : List CollView) → IfErr r IsOfUp → WalksTo start s.view colls
+        → OnOk r (WalksAll start s.view colls) → WalksStore given (end_of_walk r free) colls disk
+    store_walked r free colls up so_far all = record {
+      found = f;
+      space = space;
+      first = s;
+      mounted = subst (λ (x : Disk). IsOpenedOn given f space x s) (sym device_same) mounted;
+      walked = subst (λ (x : Disk). Walked (end_of_walk r free) x f.rows colls) (sym device_same)
+          (subst (λ (rows : Rows). Walked (end_of_walk r free) start rows colls) view_is (walked_as r free start s.view colls up so_far all));
+    }
+
+  -- ---- what it shows
+
+  module _ (kept : IsKept s start) (keeps : KeepsDurable s start) (fresh : IsFresh given) (h : History) (objects : Objects)
+      (told : given.history ≡ Some h) (stands : StandsFor h.start objects) where
+    durable : IsDurable 0 objects s start
+    durable = start_durable given h fresh told f space start s objects mounted keeps stands
+
+    -- what is known of a store that is up
+    known : KnownOfStore 0 objects s start durable.history
+    known = durable.up opened_is_up
+
+    -- no transaction was accepted
+    none_accepted : replay objects (accepted s.book.entries) ≡ objects
+    none_accepted = ap (λ (z : State). replay objects (accepted z.book.entries)) mounted.state
+
+    -- the rows and the units stand for the objects
+    stand : ObjectsStand (last_at durable.history) s.view objects
+    stand = subst (ObjectsStand (last_at durable.history) s.view) none_accepted
+        (drained_view 0 objects s start durable.history kept opened_is_up opened_drained known)
+
+    -- no write ended badly
+    answered : (unit : ℕ) → HasNoBadDone durable.history.log unit
+    answered = drained_good 0 objects s start durable.history kept opened_is_up opened_drained known
+
+    -- no row is bad
+    good_rows : NoBadRow f.sup s.view
+    good_rows = subst (NoBadRow f.sup) (sym view_is) mounted.openable.good.good
+
+    -- a walk to the end shows just these objects
+    shows_all : (colls : List CollView) → WalksAll start s.view colls → colls ≡ views_of objects
+    shows_all colls all = walk_is start durable.history durable.told answered s.view objects stand f.sup good_rows colls all
+
+    -- and no walk shows a bad unit
+    shows_good : (colls : List CollView) → WalksTo start s.view colls → AllByRecursion HasGoodViews colls
+    shows_good colls so_far = walk_good start durable.history durable.told answered s.view objects stand colls so_far
+
+    -- so it is of the walk, whatever its end
+    pub walk_shows : (r : Result (Unit {0}) WalkFail) (free : ℕ) (colls : List CollView) → WalksTo start s.view colls
+        → OnOk r (WalksAll start s.view colls) → Shows (end_of_walk r free) objects colls
+    walk_shows (Ok u) free colls so_far all = (shows_all colls all, shows_good colls so_far)
+    walk_shows (Err walk.Memory) free colls so_far all = shows_good colls so_far
+    walk_shows (Err walk.DeviceRead) free colls so_far all = shows_good colls so_far
+    walk_shows (Err (walk.Down ticket)) free colls so_far all = shows_good colls so_far

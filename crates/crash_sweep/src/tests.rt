@@ -4,6 +4,7 @@ ghost use Rattle.end_points.specs.Memory.{AreContents};
 
 mod again;
 mod cuts;
+mod dumped;
 mod forged;
 mod negative;
 mod pages;

@@ -179,7 +179,7 @@ says 'step: its objects are there' ended 0 '0:1 E2 CollectionExists' '0:2 ok' '0
 run step AGAIN --seed 3 empty
 says 'step: and again' ended 0 'done accepted=0 refused=0 reads=0 commits=0 free=44'
 
-# The session of the README: an object without bytes, and objects of many pages.
+# An object without bytes, and objects of many pages.
 printf 'touch 1.0_head c\nwrite 1.0_head b 4096 fill:5d:81920\nwrite 1.0_head b 0 fill:5e:102400\n' >pages
 run step AGAIN --seed 3 pages
 says 'step: many pages' ended 0 '0:1 ok' '0:2 ok' '0:3 E9 NoSpace need=25 free=24' 'done accepted=2 refused=1 reads=0 commits=2 free=24'
@@ -205,6 +205,73 @@ says 'step: its last two pages, on new units' cmp -s found last
 run step PAGES --seed 1 empty
 says 'step: it is opened again' ended 0 'done accepted=0 refused=0 reads=0 commits=0 free=85'
 
+# ---- reads and dump. The checksums were made apart, bit by bit.
+
+cp T BEFORE_READS
+printf 'stat 1.0_head a\nread 1.0_head a 4094 9\nread 1.0_head a 0 0\nsum 1.0_head a\nlist 1.0_head\nread 1.0_head b 0 1\nlist 2.0_head\nread 1.0_head a 1 134217728\n' >look
+run step T --seed 1 look
+says 'reads: each of them, and refusals' ended 0 '0:1 size 4096' '0:2 data 5a5a' '0:3 data -' '0:4 sum 4096 37f18c49' '0:5 objects a' '0:6 E4 NoObject' \
+    '0:7 E1 NoCollection' '0:8 E7 BadRange' 'done accepted=0 refused=3 reads=5 commits=0 free=45'
+says 'reads: the store is as it was' cmp -s T BEFORE_READS
+run dump T
+says 'dump: a collection and an object' ended 0 'coll 1.0_head' 'object a size 4096 crc 37f18c49' 'end'
+says 'dump: the store is as it was' cmp -s T BEFORE_READS
+run dump FRESH
+says 'dump: an empty store' ended 0 'end'
+run dump ZEROS_ALONE
+says 'dump: no device' ended 7 'stopped 7'
+head -c 262144 /dev/zero >ZEROS_ALONE
+run dump ZEROS_ALONE
+says 'dump: no store' ended 4 'mount NoSuper' 'stopped 4'
+run dump DIGITS
+says 'dump: a name that is escaped' ended 0 'coll 1.0_head' 'object a%20b size 4096 crc 17b6b518' 'end'
+run dump PAGES
+says 'dump: an object of 1025 pages' ended 0 'coll 1.0_head' 'object a size 4198400 crc 57fc1af0' 'end'
+
+# The run that the README shows of an object with a hole.
+run mkfs HOLE "${small[@]}"
+printf 'mkcoll 1.0_head\ntouch 1.0_head a\nwrite 1.0_head b 4096 fill:5a:4096\nstat 1.0_head b\nread 1.0_head b 4095 2\nlist 1.0_head\nsum 1.0_head a\n' >hole
+run step HOLE --seed 1 hole
+says 'reads: a page behind a hole' ended 0 '0:1 ok' '0:2 ok' '0:3 ok' '0:4 size 8192' '0:5 data 005a' '0:6 objects a b' '0:7 sum 0 00000000' \
+    'done accepted=3 refused=0 reads=4 commits=3 free=45'
+printf 'read 1.0_head b 8191 9\n' >end
+run step HOLE --seed 1 end
+says 'reads: cut at the size' ended 0 '0:1 data 5a' 'done accepted=0 refused=0 reads=1 commits=0 free=45'
+run dump HOLE
+says 'dump: an object with a hole' ended 0 'coll 1.0_head' 'object a size 0 crc 00000000' 'object b size 8192 crc 3f4c8be3' 'end'
+
+# The session of the README.
+run mkfs SESSION "${small[@]}"
+run step SESSION --seed 1 script
+printf 'read 1.0_head a 4094 9\nsum 1.0_head a\nlist 1.0_head\nstat 1.0_head b\n' >look
+run step SESSION --seed 2 look
+says 'the session: a look' ended 0 '0:1 data 5a5a' '0:2 sum 4096 37f18c49' '0:3 objects a' '0:4 E4 NoObject' \
+    'done accepted=0 refused=1 reads=3 commits=0 free=45'
+printf 'mkcoll 1.0_head\nwrite 1.0_head b 4096 fill:5b:4096\ntouch 1.0_head c\nwrite 1.0_head d 0 fill:5d:184320\n' >later
+run step SESSION --seed 3 later
+says 'the session: more objects' ended 0 '0:1 E2 CollectionExists' '0:2 ok' '0:3 ok' '0:4 E9 NoSpace need=45 free=44' \
+    'done accepted=2 refused=2 reads=0 commits=2 free=44'
+run dump SESSION
+says 'the session: all objects' ended 0 'coll 1.0_head' 'object a size 4096 crc 37f18c49' 'object b size 8192 crc e5ada115' \
+    'object c size 0 crc 00000000' 'end'
+
+# One byte of a page is changed: byte 100 of unit 18.
+cp T CHANGED
+printf 'X' | dd of=CHANGED bs=1 seek=$((4096 * 18 + 100)) conv=notrunc status=none
+bad='E14 Csum unit=18 kept=37f18c49 found=23508045'
+printf 'read 1.0_head a 4095 1\nsum 1.0_head a\nstat 1.0_head a\nread 1.0_head a 7 0\n' >look
+run step CHANGED --seed 1 look
+says 'a changed byte: reads' ended 4 "0:1 $bad" "0:2 $bad" '0:3 size 4096' '0:4 data -' 'done accepted=0 refused=2 reads=2 commits=0 free=45'
+run dump CHANGED
+says 'a changed byte: dump' ended 4 'coll 1.0_head' "object a size 4096 $bad" 'end'
+
+"$program" dump T >/dev/full 2>complaints </dev/null
+status=$?
+says 'dump: a full output' is_one_of 6
+says 'dump: no device named' is_refused dump
+says 'dump: two devices' is_refused dump T HOLE
+says 'dump: a name that begins with a dash' is_refused dump -T
+
 # What stands behind the records, in units 4 and 9, is zeros once the store was opened, and nothing else has changed.
 cp T STALE
 printf 'stale' | dd of=STALE bs=1 seek=$((4096 * 4)) conv=notrunc status=none
@@ -225,6 +292,8 @@ for ((i = 1; i <= 20; i++)); do
     wait "$victim" 2>/dev/null
     run step KILLED --seed "$i" more
     [ "$status" = 0 ] && [ "$(tail -n 1 output | cut -d' ' -f1-2)" = 'done accepted=2' ] || [ "$i" = 1 ] || killed=no
+    run dump KILLED
+    [ "$status" = 0 ] && [ "$(tail -n 1 output)" = end ] && ! grep -q E14 output || killed=no
 done
 says 'step: runs that were killed' test "$killed" = yes
 head -c 262144 /dev/zero >ZEROS

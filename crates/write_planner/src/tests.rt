@@ -1,6 +1,7 @@
 //! Plans over rows that are spelled by hand. The store's data units are 18 to 799.
 ghost use Rattle.std.specs.Prelude.{◌≡◌, IsTrue, IfOk};
 ghost use Rattle.meta_log.specs.Slots.{IsSuper};
+ghost use Rattle.onode_state.specs.Objects.{AreRowsOfAStore};
 ghost use Rattle.store_steps.specs.Submit.{IsKnown};
 
 use super::*;
@@ -209,6 +210,13 @@ fn told(alloc: Global, plan: &Plan) -> Result<String, Fail> {
     Ok(text)
 }
 
+// Whether no row is bad.
+fn are_good(alloc: Global, rows: &RowTable) -> Result<bool, Fail>
+    ensures { IfOk result (λ good. IsTrue good → AreRowsOfAStore rows.now.rows) }
+{
+    Ok(find_bad_row(alloc, &store(), rows)?.is_none())
+}
+
 // What a plan, or want of one, is in words.
 fn planned(
     alloc: Global,
@@ -216,7 +224,7 @@ fn planned(
     space: &Allocator,
     txn: &Transaction,
 ) -> Result<String, Fail> {
-    if find_bad_row(alloc, &store(), rows)?.is_some() || !is_known(txn) {
+    if !are_good(alloc, rows)? || !is_known(txn) {
         return Err("a bad row, or a transaction of another kind".into());
     }
     match plan(alloc, rows, space, txn) {
@@ -360,7 +368,7 @@ fn behind_one(alloc: Global) -> Result<String, Fail> {
     let rows = rows_of(alloc, &[COLL, ONE_PAGE, PAGE_0_ON_50])?;
     let space = free_from(alloc, 51, &[])?;
     let txn = write(alloc, 1, &[3u8; 256])?;
-    if find_bad_row(alloc, &store(), &rows)?.is_some() || !is_known(&txn) {
+    if !are_good(alloc, &rows)? || !is_known(&txn) {
         return Err("a bad row, or a transaction of another kind".into());
     }
     match plan(alloc, &rows, &space, &txn) {

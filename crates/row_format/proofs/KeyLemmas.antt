@@ -5,7 +5,8 @@ use Rattle.std.specs.Int.{w32, to_be_bytes, from_be_bytes}
 use Rattle.std.proofs.lemmas.Nat.{from_be_bytes-to_be_bytes_4}
 use Rattle.meta_rows.proofs.FieldLemmas.{same_front}
 use Rattle.unit_fields.specs.Names.{IsName, IsCollName}
-use Rattle.row_format.specs.Keys.{of_object, coll_key, onode_key, shard_key}
+use Rattle.row_format.specs.Keys.{of_object, coll_key, onode_key, shard_key, bitmap_key}
+use Rattle.row_format.specs.Bits.{bit_rows}
 use Rattle.unit_fields.proofs.CollNames.{no_zero_in_coll}
 
 head : List ℕ → ℕ
@@ -57,3 +58,14 @@ pub onode_no_shard : (c o d u : List ℕ) (page : ℕ) → IsCollName c → IsNa
 onode_no_shard c o d u page p q r s e =
     let is = same_place 0x4f c o d u _ _ p q r s e in
     omega (arith, ap length is.2)
+
+-- rows of the bitmap
+pub same_bitmap : (r q : ℕ) → r < bit_rows → q < bit_rows → bitmap_key r ≡ bitmap_key q → r ≡ q
+same_bitmap r q lr lq e =
+    sym (from_be_bytes-to_be_bytes_4 r (omega (arith, lr))) ∙ ap (λ key. from_be_bytes w32 (drop 1 key)) e ∙ from_be_bytes-to_be_bytes_4 q (omega (arith, lq))
+
+pub bitmap_no_coll : (r : ℕ) (c : List ℕ) → bitmap_key r ≢ coll_key c
+bitmap_no_coll r c e = omega (arith, same_head _ _ _ _ e)
+
+pub bitmap_no_object : (r : ℕ) (d u x : List ℕ) → bitmap_key r ≢ of_object 0x4f d u x
+bitmap_no_object r d u x e = omega (arith, same_head _ _ _ _ e)

@@ -1,3 +1,4 @@
 pub mod Keys
 pub mod Extents
+pub mod Bits
 pub mod Row

@@ -1,25 +1,31 @@
--- Rows as what they say. The kinds here are collections, onodes and shards of extents; the others of the keys' table are to be further cases.
-use Rattle.std.specs.Prelude.{◌≡◌, ℕ, ◌<◌, ◌^◌, List, []}
+-- Rows as what they say. The kinds here are collections, onodes, shards of extents and rows of the freelist's bitmap; the others of the keys' table are
+-- to be further cases.
+use Rattle.std.specs.Prelude.{◌≡◌, ℕ, ◌<◌, ◌^◌, List, [], length, false}
 use Rattle.std.specs.List.{flat_map, AllByRecursion}
 use Rattle.std.specs.Int.{w64, to_le_bytes}
 use Rattle.unit_fields.specs.Names.{IsName, IsCollName}
-use Rattle.row_format.specs.Keys.{coll_key, onode_key, shard_key}
+use Rattle.meta_rows.specs.Rows.{all_zero}
+use Rattle.row_format.specs.Bits.{bit_rows}
+use Rattle.row_format.specs.Keys.{coll_key, onode_key, shard_key, bitmap_key}
 use Rattle.row_format.specs.Extents.{Extent, extent_bytes, FitsExtent, BeginsAt}
 
 pub data Row : Type 0 where
   collection : (c : List ℕ) → Row
   onode : (c o : List ℕ) (size : ℕ) → Row
   shard : (c o : List ℕ) (page : ℕ) (extents : List Extent) → Row
+  bitmap : (r : ℕ) (bits : List ℕ) → Row
 
 abbrev pub row_key : Row → List ℕ
 row_key (collection c) = coll_key c
 row_key (onode c o size) = onode_key c o
 row_key (shard c o page extents) = shard_key c o page
+row_key (bitmap r bits) = bitmap_key r
 
 abbrev pub row_value : Row → List ℕ
 row_value (collection c) = []
 row_value (onode c o size) = to_le_bytes w64 size
 row_value (shard c o page extents) = flat_map extent_bytes extents
+row_value (bitmap r bits) = bits
 
 -- a shard has at least one extent, and the first is at the page of its key
 pub record FitsShard (c o : List ℕ) (page : ℕ) (extents : List Extent) : Type 0 where
@@ -29,15 +35,23 @@ pub record FitsShard (c o : List ℕ) (page : ℕ) (extents : List Extent) : Typ
   pub begins : BeginsAt page extents
   pub fit : AllByRecursion FitsExtent extents
 
+-- the bits of 128 units, not all of them 0
+pub record FitsBitmap (r : ℕ) (bits : List ℕ) : Type 0 where
+  pub below : r < bit_rows
+  pub size : length bits ≡ 16
+  pub some : all_zero bits ≡ false
+
 -- what the table has
 abbrev pub FitsRow : Row → Type 0
 FitsRow (collection c) = IsCollName c
 FitsRow (onode c o size) = IsCollName c × IsName o × (size < 2 ^ 64)
 FitsRow (shard c o page extents) = FitsShard c o page extents
+FitsRow (bitmap r bits) = FitsBitmap r bits
 
 -- two rows say something of the same thing
 abbrev pub IsOfSameThing : Row → Row → Type 0
 IsOfSameThing (collection c) (collection d) = c ≡ d
 IsOfSameThing (onode c o size) (onode d u other) = (c ≡ d) × (o ≡ u)
 IsOfSameThing (shard c o page es) (shard d u other fs) = (c ≡ d) × (o ≡ u) × (page ≡ other)
+IsOfSameThing (bitmap r bits) (bitmap q others) = r ≡ q
 IsOfSameThing _ _ = ⊥

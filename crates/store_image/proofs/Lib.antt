@@ -4,3 +4,4 @@ pub mod OwnedUnits
 pub mod PageMap
 pub mod ChanceLemmas
 pub mod StartLemmas
+pub mod ExactLemmas

@@ -7,8 +7,10 @@ use Rattle.meta_log.specs.declared.slot.Super.{Super}
 use Rattle.meta_log.specs.Slots.{data_unit}
 use Rattle.row_format.specs.Keys.{coll_key, onode_key}
 use Rattle.row_format.specs.Extents.{Body, private, Extent, page_end, Ascend}
-use Rattle.row_format.specs.Row.{Row, collection, onode, shard, row_key, row_value, FitsRow}
+use Rattle.row_format.specs.Bits.{bit_row, bit_in}
+use Rattle.row_format.specs.Row.{Row, collection, onode, shard, bitmap, row_key, row_value, FitsRow}
 use Rattle.store_image.specs.Pages.{HasKey, HasRow, pages_of}
+use Rattle.store_image.specs.Owners.{IsDataUnit}
 
 -- the pages stand on data units
 abbrev pub IsOnData : Super → Body → Type 0
@@ -24,11 +26,16 @@ pub record IsShardInPlace (s : Super) (rows : Rows) (c o : List ℕ) (page : ℕ
   pub within : (size : ℕ) → HasRow rows (onode c o size) → AllByRecursion (λ e. page_end e ≤ pages_of size) extents
   pub on_data : AllByRecursion (λ e. IsOnData s e.body) extents
 
+-- the bits that are 1 are of data units
+abbrev pub AreOfData : Super → ℕ → List ℕ → Type 0
+AreOfData s r bits = (unit : ℕ) → bit_row unit ≡ r → bit_in bits unit ≡ 1 → IsDataUnit s unit
+
 -- what a row of the table needs of the store and of the other rows
 abbrev pub IsInPlace : Super → Rows → Row → Type 0
 IsInPlace s rows (collection c) = Unit {0}
 IsInPlace s rows (onode c o size) = HasKey rows (coll_key c) × (size ≤ 134217728)
 IsInPlace s rows (shard c o page extents) = IsShardInPlace s rows c o page extents
+IsInPlace s rows (bitmap r bits) = AreOfData s r bits
 
 -- the key and the value are a row of the table, and in its place
 pub record IsGoodRow (s : Super) (rows : Rows) (key value : List ℕ) : Type 0 where

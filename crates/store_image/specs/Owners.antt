@@ -1,9 +1,10 @@
 -- Who owns a unit, and whether the freelist's bitmap says so.
-use Rattle.std.specs.Prelude.{◌≡◌, ◌⊎◌, ℕ, ◌/◌, ◌%◌, ◌^◌, ◌<◌, ◌≤◌, List, slice_index, Contains, Any}
+use Rattle.std.specs.Prelude.{◌≡◌, ◌⊎◌, ℕ, ◌^◌, ◌<◌, ◌≤◌, List, Contains, Any}
 use Rattle.meta_rows.specs.Rows.{Rows, row}
 use Rattle.meta_log.specs.declared.slot.Super.{Super}
 use Rattle.meta_log.specs.Slots.{data_unit}
 use Rattle.row_format.specs.Keys.{bitmap_key}
+use Rattle.row_format.specs.Bits.{bit_row, bit_in}
 use Rattle.row_format.specs.Extents.{Place}
 use Rattle.store_image.specs.Pages.{IsPageAt}
 
@@ -18,30 +19,52 @@ Owns rows (page_of c o page) unit = (place : Place) × IsPageAt rows c o page pl
 abbrev pub IsOwned : Rows → ℕ → Type 0
 IsOwned rows unit = (owner : Owner) × Owns rows owner unit
 
+-- the unit hasn't two owners
+abbrev pub HasSoleOwner : Rows → ℕ → Type 0
+HasSoleOwner rows unit = (a b : Owner) → Owns rows a unit → Owns rows b unit → a ≡ b
+
 -- the unit is a data unit: none of the slots' or the log's
 abbrev pub IsDataUnit : Super → ℕ → Type 0
 IsDataUnit s unit = (data_unit s ≤ unit) × (unit < s.units)
 
--- the unit's bit: 128 units a row, 8 a byte, the lowest bit first
+-- the unit's bit
 abbrev pub bit_of : Rows → ℕ → ℕ
-bit_of rows unit = slice_index (row rows (bitmap_key (unit / 128))) (unit % 128 / 8) / 2 ^ (unit % 8) % 2
+bit_of rows unit = bit_in (row rows (bitmap_key (bit_row unit))) unit
 
 abbrev pub IsMarked : Rows → ℕ → Type 0
 IsMarked rows unit = bit_of rows unit ≡ 1
 
+-- the unit is marked, and nobody owns it (units have numbers below 2 ^ 32)
+pub record IsLeaked (rows : Rows) (unit : ℕ) : Type 0 where
+  pub is_unit : unit < 2 ^ 32
+  pub marked : IsMarked rows unit
+  pub unowned : ¬ IsOwned rows unit
+
 -- The bitmap is exactly the owned units and these leaked ones, which nobody owns; no unit has two owners.
-pub record IsExactBut (leaked : ℕ → Type 0) (s : Super) (rows : Rows) : Type 0 where
-  pub marked : (unit : ℕ) → IsDataUnit s unit → IsMarked rows unit → IsOwned rows unit ⊎ leaked unit
+pub record IsExactBut (leaked : ℕ → Type 0) (rows : Rows) : Type 0 where
+  pub marked : (unit : ℕ) → unit < 2 ^ 32 → IsMarked rows unit → IsOwned rows unit ⊎ leaked unit
   pub owned_marked : (unit : ℕ) → IsOwned rows unit → IsMarked rows unit
   pub leaked_marked : (unit : ℕ) → leaked unit → IsMarked rows unit
   pub leaked_free : (unit : ℕ) → leaked unit → ¬ IsOwned rows unit
-  pub one_owner : (unit : ℕ) (a b : Owner) → Owns rows a unit → Owns rows b unit → a ≡ b
+  pub one_owner : (unit : ℕ) → HasSoleOwner rows unit
 
 -- the bitmap is exactly the owned units
-abbrev pub IsExact : Super → Rows → Type 0
-IsExact s rows = IsExactBut (λ unit. ⊥) s rows
+abbrev pub IsExact : Rows → Type 0
+IsExact rows = IsExactBut (λ unit. ⊥) rows
 
--- A unit that can't be taken now: it has an owner in the committed rows, or it is allotted to a transaction that isn't committed.
--- (With the bitmap the committed rows' bits say the first.)
+-- the bitmap is exactly the owned units and those that the first rows had leaked
+abbrev pub IsExactAs : Rows → Rows → Type 0
+IsExactAs first rows = IsExactBut (IsLeaked first) rows
+
+-- The unit is what a store may not have: it has an owner and isn't marked, or it has two owners.
+abbrev pub IsInexact : Rows → ℕ → Type 0
+IsInexact rows unit = (IsOwned rows unit × ¬ IsMarked rows unit) ⊎ ¬ HasSoleOwner rows unit
+
+-- and it is the least such unit
+pub record IsLeastInexact (rows : Rows) (unit : ℕ) : Type 0 where
+  pub inexact : IsInexact rows unit
+  pub least : (other : ℕ) → other < unit → ¬ IsInexact rows other
+
+-- A unit that can't be taken now: its bit is 1 in the committed rows, or it is allotted to a transaction that isn't committed.
 abbrev pub IsBusy : Rows → List (List ℕ) → ℕ → Type 0
-IsBusy committed allotted unit = IsOwned committed unit ⊎ Any (λ units. Contains units unit) allotted
+IsBusy committed allotted unit = IsMarked committed unit ⊎ Any (λ units. Contains units unit) allotted

@@ -8,10 +8,13 @@ ghost use Rattle.block_device.specs.declared.event.Event.{Event};
 ghost use Rattle.meta_rows.specs.Rows.{Rows};
 ghost use Rattle.object_model.specs.Objects.{Objects};
 ghost use Rattle.meta_log.specs.declared.slot.Super.{Super};
+ghost use Rattle.meta_log.specs.Slots.{IsActiveSlot};
+ghost use Rattle.meta_log.specs.Records.{AreRowsOf};
 ghost use Rattle.row_format.specs.Extents.{Place};
 ghost use Rattle.store_image.specs.Pages.{IsPageAt};
 ghost use Rattle.store_image.specs.BadRows.{IsBadRow, NoBadRow};
-ghost use Rattle.store_image.specs.Owners.{IsOwned};
+ghost use Rattle.store_image.specs.Owners.{IsOwned, IsLeaked, IsExactAs, IsInexact};
+ghost use Rattle.store_image.specs.Exact.{IsExactImage, IsLeakedIn, StaysExact};
 ghost use Rattle.store_image.specs.Chance.{NoChanceMatch, NoTornMatch};
 ghost use Rattle.store_image.specs.Durability.{IsStart, EachCutStands};
 ghost use Rattle.store_image.specs.Stands.{ObjectsStand, StandsFor};
@@ -43,6 +46,27 @@ pub fn good_rows_have_no_bad_one()
 pub fn chance_concerns_torn_units_alone()
     ensures { (start : List ℕ) (log : List Event) (image : List ℕ) → IsCrashImage start log image →
         NoChanceMatch start log image ↔ NoTornMatch start log image }
+{}
+
+/// Rows that are exact but for what other rows had leaked are so but for what they have leaked themselves, and none of their units is
+/// inexact. It holds from one rows to the next.
+pub fn exact_rows()
+    ensures itself { (first rows : Rows) → IsExactAs first rows → IsExactAs rows rows }
+    ensures leaks { (first rows : Rows) (unit : ℕ) → IsExactAs first rows → IsLeaked rows unit ↔ IsLeaked first unit }
+    ensures onward { (first rows later : Rows) → IsExactAs first rows → IsExactAs rows later → IsExactAs first later }
+    ensures good { (first rows : Rows) → IsExactAs first rows → (unit : ℕ) → ¬ IsInexact rows unit }
+{}
+
+/// What stays as exact as an exact image is exact. It stays so from one image to the next, and where the rows stay.
+pub fn exact_images()
+    ensures exact { (before image : List ℕ) → StaysExact before image → IsExactImage before → IsExactImage image }
+    ensures onward { (before image later : List ℕ) → StaysExact before image → StaysExact image later → StaysExact before later }
+    ensures by_rows { (before image : List ℕ) (s : Super) (rows : Rows) → IsActiveSlot before s → AreRowsOf before s rows →
+        IsActiveSlot image s → AreRowsOf image s rows → StaysExact before image }
+    ensures from_rows { (before image : List ℕ) (s : Super) (first rows : Rows) → IsActiveSlot before s → AreRowsOf before s first →
+        IsActiveSlot image s → AreRowsOf image s rows → IsExactAs first rows → StaysExact before image }
+    ensures leaked { (image : List ℕ) (s : Super) (rows : Rows) (unit : ℕ) → IsActiveSlot image s → AreRowsOf image s rows →
+        IsLeakedIn image unit ↔ IsLeaked rows unit }
 {}
 
 /// Prefix durability holds where nothing has happened since the start yet, for a book without entries.

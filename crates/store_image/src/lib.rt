@@ -5,5 +5,6 @@
 mod laws;
 
 pub use laws::{
-    good_rows_have_no_bad_one, one_place_for_a_page, only_owned_units_matter, stands_for_one,
+    exact_images, exact_rows, good_rows_have_no_bad_one, one_place_for_a_page,
+    only_owned_units_matter, stands_for_one,
 };

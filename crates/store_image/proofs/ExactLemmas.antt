@@ -1,0 +1,135 @@
+-- How exactness goes from rows to rows, and from image to image.
+use Rattle.std.proofs.Common.{◌↔◌, inl, inr, ⊎_elim, ℕ, List, subst}
+use Rattle.meta_rows.specs.Rows.{Rows}
+use Rattle.meta_log.specs.declared.slot.Super.{Super}
+use Rattle.meta_log.specs.Slots.{IsActiveSlot}
+use Rattle.meta_log.specs.Records.{AreRowsOf}
+use Rattle.meta_log.proofs.SlotLemmas.{same_active}
+use Rattle.store_image.specs.Owners.{IsLeaked, IsExactBut, IsExactAs, IsInexact}
+use Rattle.store_image.specs.Exact.{IsExactImageBut, IsExactImage, IsLeakedIn, StaysExact}
+use Rattle.store_image.proofs.OneObjects.{same_rows}
+
+-- ---- rows
+
+-- where the leaked ones that a statement names are others, of which each marked unit without an owner is one
+pub renamed : (leaked others : ℕ → Type 0) (rows : Rows)
+    → ((unit : ℕ) → IsLeaked rows unit → leaked unit → others unit) → ((unit : ℕ) → others unit → leaked unit)
+    → IsExactBut leaked rows → IsExactBut others rows
+renamed leaked others rows there back exact = record {
+  marked = λ unit small is. ⊎_elim (λ owned. inl owned)
+      (λ was. inr (there unit (record { is_unit = small; marked = is; unowned = exact.leaked_free unit was }) was)) (exact.marked unit small is);
+  owned_marked = exact.owned_marked;
+  leaked_marked = λ unit is. exact.leaked_marked unit (back unit is);
+  leaked_free = λ unit is. exact.leaked_free unit (back unit is);
+  one_owner = exact.one_owner;
+}
+
+pub as_itself : (leaked : ℕ → Type 0) (rows : Rows) → IsExactBut leaked rows → IsExactAs rows rows
+as_itself leaked rows exact = record {
+  marked = λ unit small is. ⊎_elim (λ owned. inl owned)
+      (λ was. inr (record { is_unit = small; marked = is; unowned = exact.leaked_free unit was })) (exact.marked unit small is);
+  owned_marked = exact.owned_marked;
+  leaked_marked = λ unit is. is.marked;
+  leaked_free = λ unit is. is.unowned;
+  one_owner = exact.one_owner;
+}
+
+-- a marked unit that nobody owns is one of those that are left out
+pub is_left_out : (leaked : ℕ → Type 0) (rows : Rows) (unit : ℕ) → IsExactBut leaked rows → IsLeaked rows unit → leaked unit
+is_left_out leaked rows unit exact is = ⊎_elim (λ owned. absurd (is.unowned owned)) (λ was. was) (exact.marked unit is.is_unit is.marked)
+
+pub same_leaks : (first rows : Rows) (unit : ℕ) → IsExactAs first rows → IsLeaked rows unit ↔ IsLeaked first unit
+same_leaks first rows unit exact = (
+  is_left_out (IsLeaked first) rows unit exact,
+  λ is. record { is_unit = is.is_unit; marked = exact.leaked_marked unit is; unowned = exact.leaked_free unit is },
+)
+
+pub exact_onward : (first rows later : Rows) → IsExactAs first rows → IsExactAs rows later → IsExactAs first later
+exact_onward first rows later exact more =
+    renamed (IsLeaked rows) (IsLeaked first) later (λ unit _ is. (same_leaks first rows unit exact).0 is) (λ unit is. (same_leaks first rows unit exact).1 is) more
+
+pub no_inexact : (leaked : ℕ → Type 0) (rows : Rows) → IsExactBut leaked rows → (unit : ℕ) → ¬ IsInexact rows unit
+no_inexact leaked rows exact unit is = ⊎_elim (λ x. x.1 (exact.owned_marked unit x.0)) (λ x. x (exact.one_owner unit)) is
+
+-- ---- images
+
+-- an image by its slot and its rows
+pub by_rows : (leaked : ℕ → Type 0) (image : List ℕ) (s : Super) (rows : Rows) → IsActiveSlot image s → AreRowsOf image s rows
+    → IsExactImageBut leaked image → IsExactBut leaked rows
+by_rows leaked image s rows active read exact =
+    let is_super = same_active image exact.super s exact.active active in
+    let are_rows = same_rows image s exact.rows rows (subst (λ t. AreRowsOf image t exact.rows) is_super exact.read) read in
+    subst (λ r. IsExactBut leaked r) are_rows exact.exact
+
+pub leaked_by_rows : (image : List ℕ) (s : Super) (rows : Rows) (unit : ℕ) → IsActiveSlot image s → AreRowsOf image s rows
+    → IsLeakedIn image unit ↔ IsLeaked rows unit
+leaked_by_rows image s rows unit active read = (there, λ is. record { super = s; active = active; rows = rows; read = read; leaked = is })
+  where
+    there : IsLeakedIn image unit → IsLeaked rows unit
+    there is =
+        let is_super = same_active image is.super s is.active active in
+        let are_rows = same_rows image s is.rows rows (subst (λ t. AreRowsOf image t is.rows) is_super is.read) read in
+        subst (λ r. IsLeaked r unit) are_rows is.leaked
+
+pub as_image : (before : List ℕ) (s : Super) (first rows : Rows) → IsActiveSlot before s → AreRowsOf before s first
+    → IsExactAs first rows → IsExactBut (IsLeakedIn before) rows
+as_image before s first rows active read exact =
+    renamed (IsLeaked first) (IsLeakedIn before) rows (λ unit _ is. (leaked_by_rows before s first unit active read).1 is)
+    (λ unit is. (leaked_by_rows before s first unit active read).0 is) exact
+
+pub as_rows : (before : List ℕ) (s : Super) (first rows : Rows) → IsActiveSlot before s → AreRowsOf before s first
+    → IsExactBut (IsLeakedIn before) rows → IsExactAs first rows
+as_rows before s first rows active read exact =
+    renamed (IsLeakedIn before) (IsLeaked first) rows (λ unit _ is. (leaked_by_rows before s first unit active read).0 is)
+    (λ unit is. (leaked_by_rows before s first unit active read).1 is) exact
+
+pub stays_exact : (before image : List ℕ) → StaysExact before image → IsExactImage before → IsExactImage image
+stays_exact before image stays is =
+    let none : (unit : ℕ) → ¬ IsLeakedIn before unit
+    = λ unit leaked. is_left_out (λ u. ⊥) is.rows unit is.exact ((leaked_by_rows before is.super is.rows unit is.active is.read).0 leaked) in
+    let before_is : IsExactImageBut (IsLeakedIn before) before = record {
+      super = is.super;
+      active = is.active;
+      rows = is.rows;
+      read = is.read;
+      exact = renamed (λ u. ⊥) (IsLeakedIn before) is.rows (λ unit _ never. absurd never) (λ unit leaked. none unit leaked) is.exact;
+    } in
+    let after = stays before_is in
+    record {
+      super = after.super;
+      active = after.active;
+      rows = after.rows;
+      read = after.read;
+      exact = renamed (IsLeakedIn before) (λ u. ⊥) after.rows (λ unit _ leaked. none unit leaked) (λ unit never. absurd never) after.exact;
+    }
+
+pub stays_onward : (before image later : List ℕ) → StaysExact before image → StaysExact image later → StaysExact before later
+stays_onward before image later stays more is =
+    let there = stays is in
+    let by_image : IsExactImageBut (IsLeakedIn image) image = record {
+      super = there.super;
+      active = there.active;
+      rows = there.rows;
+      read = there.read;
+      exact = as_image image there.super there.rows there.rows there.active there.read (as_itself (IsLeakedIn before) there.rows there.exact);
+    } in
+    let after = more by_image in
+    let first = as_rows before is.super is.rows there.rows is.active is.read there.exact in
+    let second = as_rows image there.super there.rows after.rows there.active there.read after.exact in
+    record {
+      super = after.super;
+      active = after.active;
+      rows = after.rows;
+      read = after.read;
+      exact = as_image before is.super is.rows after.rows is.active is.read (exact_onward is.rows there.rows after.rows first second);
+    }
+
+pub stays_by_rows : (before image : List ℕ) (s : Super) (rows : Rows) → IsActiveSlot before s → AreRowsOf before s rows
+    → IsActiveSlot image s → AreRowsOf image s rows → StaysExact before image
+stays_by_rows before image s rows active read active' read' is =
+    record { super = s; active = active'; rows = rows; read = read'; exact = by_rows (IsLeakedIn before) before s rows active read is }
+
+pub stays_from_rows : (before image : List ℕ) (s : Super) (first rows : Rows) → IsActiveSlot before s → AreRowsOf before s first
+    → IsActiveSlot image s → AreRowsOf image s rows → IsExactAs first rows → StaysExact before image
+stays_from_rows before image s first rows active read active' read' exact is =
+    record { super = s; active = active'; rows = rows; read = read'; exact = as_image before s first rows active read exact }

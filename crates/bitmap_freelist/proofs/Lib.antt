@@ -1,5 +1,8 @@
+pub mod Alike
 mod Bits
 mod Flipped
-mod Reading
+pub mod GoodBitmaps
+pub mod Reading
+pub mod Records
 mod Sets
-mod Turning
+pub mod Turning

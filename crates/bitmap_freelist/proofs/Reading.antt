@@ -24,7 +24,8 @@ use Rattle.meta_rows.specs.Rows.{Rows, row}
 use Rattle.meta_rows.specs.Table.{rows_from_to}
 use Rattle.row_format.specs.Keys.{bitmap_key}
 use Rattle.store_image.specs.Owners.{IsMarked}
-use Rattle.bitmap_freelist.specs.Bitmap.{Units, Has, bit_in, IsBitmapRow, AreBitmapRows, AreMarked}
+use Rattle.row_format.specs.Bits.{bit_in}
+use Rattle.bitmap_freelist.specs.Bitmap.{Units, Has, IsBitmapRow, AreBitmapRows, AreMarked}
 use Rattle.bitmap_freelist.specs.Masks.{AddsUpTo, IsMarkedBy, AddsRow}
 use Rattle.bitmap_freelist.proofs.Bits.{bit_in-zeros}
 use Rattle.bitmap_freelist.proofs.Turning.{same_row}
@@ -36,7 +37,7 @@ Entry = List ℕ × List ℕ
 -- ---- bits of one row
 
 -- a unit that was put in
-has_insert : (s : Units) (k unit : ℕ) → Has (set.insert s k) unit ↔ ((unit ≡ k) ⊎ Has s unit)
+pub has_insert : (s : Units) (k unit : ℕ) → Has (set.insert s k) unit ↔ ((unit ≡ k) ⊎ Has s unit)
 has_insert s k unit =
     let test = set.contains-insert nat_cmp_total s k unit in
     elim (cases_eq unit k) [

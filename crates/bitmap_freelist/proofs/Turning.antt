@@ -18,7 +18,8 @@ use Rattle.meta_rows.proofs.RowLemmas.{get-insert_same, get-remove_same, get-row
 use Rattle.meta_rows.proofs.XorLemmas.{xor_bytes-comm}
 use Rattle.row_format.specs.Keys.{bitmap_key}
 use Rattle.store_image.specs.Owners.{IsMarked}
-use Rattle.bitmap_freelist.specs.Bitmap.{Units, Has, bit_in, IsMaskOf, AreFlipsFrom, AreFlips, AreBitmapRows, NoneIsZero, IsOtherKey, ExactlyOne}
+use Rattle.row_format.specs.Bits.{bit_in}
+use Rattle.bitmap_freelist.specs.Bitmap.{Units, Has, IsMaskOf, AreFlipsFrom, AreFlips, AreBitmapRows, NoneIsZero, IsOtherKey, ExactlyOne}
 use Rattle.bitmap_freelist.proofs.Bits.{bit_in-xor_bytes, bit_in-zeros, xor_bytes-assoc, xor_bytes-zeros, xor_bytes-self, length-xor_same}
 
 -- ---- keys

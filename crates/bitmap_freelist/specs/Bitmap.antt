@@ -1,5 +1,5 @@
 -- The rows of the freelist's bitmap, and the row operations that turn bits of it.
-use Rattle.std.specs.Prelude.{◌≡◌, ◌≢◌, ◌↔◌, ◌⊎◌, ℕ, suc, ◌/◌, ◌%◌, ◌^◌, ◌<◌, ◌≤◌, false, List, [], ◌∷◌, length, slice_index, IsTrue, Some}
+use Rattle.std.specs.Prelude.{◌≡◌, ◌≢◌, ◌↔◌, ◌⊎◌, ℕ, suc, ◌/◌, ◌^◌, ◌<◌, ◌≤◌, false, List, [], ◌∷◌, length, IsTrue, Some}
 use Rattle.std.specs.Ordering.{nat_cmp}
 use Rattle.std.specs.FinMap as map
 use Rattle.std.specs.FinSet as set
@@ -7,6 +7,7 @@ use Rattle.meta_rows.specs.Rows.{Rows, all_zero}
 use Rattle.meta_rows.specs.declared.row_op.RowOp.{RowOp}
 use Rattle.meta_rows.specs.declared.row_op.RowOp.TheVariants.{Flip}
 use Rattle.row_format.specs.Keys.{bitmap_key}
+use Rattle.row_format.specs.Bits.{bit_in}
 use Rattle.store_image.specs.Owners.{IsMarked}
 
 -- a finite set of units
@@ -16,10 +17,6 @@ Units = set.FinSet nat_cmp
 -- the unit is in the set
 abbrev pub Has : Units → ℕ → Type 0
 Has units unit = IsTrue (set.contains units unit)
-
--- the unit's bit in the bytes of its row: 8 units a byte, the lowest bit first
-abbrev pub bit_in : List ℕ → ℕ → ℕ
-bit_in bytes unit = slice_index bytes (unit % 128 / 8) / 2 ^ (unit % 8) % 2
 
 -- The mask turns exactly the bits of those of these units that are of row r.
 pub record IsMaskOf (units : Units) (r : ℕ) (mask : List ℕ) : Type 0 where
@@ -63,6 +60,10 @@ NoneIsZero rows = (r : ℕ) (value : List ℕ) → map.get rows (bitmap_key r) �
 -- the key is none of the table
 abbrev pub IsOtherKey : List ℕ → Type 0
 IsOtherKey key = (r : ℕ) → r < 33554432 → key ≢ bitmap_key r
+
+-- the rows are the same, but for those of the table
+abbrev pub AreAlikeButBits : Rows → Rows → Type 0
+AreAlikeButBits rows other = (key : List ℕ) → IsOtherKey key → map.get other key ≡ map.get rows key
 
 -- exactly one of two holds
 abbrev pub ExactlyOne : Type 0 → Type 0 → Type 0

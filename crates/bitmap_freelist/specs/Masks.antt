@@ -3,7 +3,8 @@ use Rattle.std.specs.Prelude.{◌≡◌, ◌≢◌, ◌↔◌, ◌⊎◌, ℕ, �
 use Rattle.std.specs.Prelude.{bit_or}
 use Rattle.std.specs.List.{AllByRecursion}
 use Rattle.row_format.specs.Keys.{bitmap_key}
-use Rattle.bitmap_freelist.specs.Bitmap.{Units, Has, bit_in}
+use Rattle.row_format.specs.Bits.{bit_in}
+use Rattle.bitmap_freelist.specs.Bitmap.{Units, Has}
 
 -- the unit's bit set
 abbrev pub with_bit : List ℕ → ℕ → List ℕ

@@ -1,10 +1,15 @@
 //! What the operations that turn bits come to.
 
-ghost use Rattle.std.specs.Prelude.{◌≡◌, ◌↔◌, ℕ, ◌^◌, ◌<◌, List};
+ghost use Rattle.std.specs.Prelude.{◌≡◌, ◌↔◌, ℕ, ◌*◌, ◌^◌, ◌<◌, ◌≤◌, List, length};
 ghost use Rattle.std.specs.FinMap as map;
 ghost use Rattle.meta_rows.specs.Rows.{Rows, rows_after};
 ghost use Rattle.meta_rows.specs.declared.row_op.RowOp.{RowOp};
-ghost use Rattle.store_image.specs.Owners.{IsMarked};
+ghost use Rattle.meta_rows.specs.Spelling.{ops_bytes, AllFit};
+ghost use Rattle.meta_log.specs.declared.slot.Super.{Super};
+ghost use Rattle.object_model.specs.Objects.{Objects};
+ghost use Rattle.store_image.specs.BadRows.{NoBadRow};
+ghost use Rattle.store_image.specs.Owners.{Owner, Owns, IsDataUnit, IsMarked};
+ghost use Rattle.store_image.specs.Stands.{ObjectsStand};
 ghost use Rattle.bitmap_freelist.specs.Bitmap.{
   Units,
   Has,
@@ -12,6 +17,7 @@ ghost use Rattle.bitmap_freelist.specs.Bitmap.{
   AreBitmapRows,
   NoneIsZero,
   IsOtherKey,
+  AreAlikeButBits,
   ExactlyOne,
 };
 
@@ -45,4 +51,30 @@ pub fn flips_change_order()
 pub fn flips_twice_restore()
     ensures { (rows : Rows) (units : Units) (ops : List RowOp) → AreBitmapRows rows → NoneIsZero rows →
         AreFlips units ops → rows_after (rows_after rows ops) ops ≡ rows }
+{}
+
+/// So what the rows say of collections and objects stays: where their pages stand, who owns a unit, and what they stand for.
+pub fn flips_leave_objects()
+    ensures alike { (rows : Rows) (units : Units) (ops : List RowOp) → AreFlips units ops → AreAlikeButBits rows (rows_after rows ops) }
+    ensures owns { (rows other : Rows) (owner : Owner) (unit : ℕ) → AreAlikeButBits rows other → Owns rows owner unit ↔ Owns other owner unit }
+    ensures stand { (at : ℕ → List ℕ) (rows other : Rows) (objects : Objects) → AreAlikeButBits rows other →
+        ObjectsStand at rows objects → ObjectsStand at other objects }
+{}
+
+/// Where no row is bad, the rows under the keys of the table are of it, and none has zeros alone. No row is bad either once bits of data units
+/// are turned.
+pub fn good_bitmaps()
+    ensures table { (s : Super) (rows : Rows) → NoBadRow s rows → AreBitmapRows rows }
+    ensures some { (s : Super) (rows : Rows) → NoBadRow s rows → NoneIsZero rows }
+    ensures marked { (s : Super) (rows : Rows) (unit : ℕ) → NoBadRow s rows → unit < 2 ^ 32 → IsMarked rows unit → IsDataUnit s unit }
+    ensures turned { (s : Super) (rows : Rows) (units : Units) (ops : List RowOp) → AreFlips units ops →
+        ((unit : ℕ) → Has units unit → IsDataUnit s unit) → NoBadRow s rows → NoBadRow s (rows_after rows ops) }
+{}
+
+/// Each operation has a spelling of 28 bytes, and there are at most as many as rows. (So a record grows by 28 bytes for each row that it
+/// turns bits of.)
+pub fn record_of_flips()
+    ensures fit { (units : Units) (ops : List RowOp) → AreFlips units ops → AllFit ops }
+    ensures size { (units : Units) (ops : List RowOp) → AreFlips units ops → length (ops_bytes ops) ≡ 28 * length ops }
+    ensures count { (units : Units) (ops : List RowOp) → AreFlips units ops → length ops ≤ 33554432 }
 {}

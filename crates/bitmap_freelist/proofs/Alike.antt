@@ -1,0 +1,115 @@
+-- Rows that are the same but for those of the table say the same of collections and objects.
+use Rattle.std.proofs.Common.{◌≢◌, ◌↔◌, ℕ, List, [], ◌∷◌, is_some, sym, ap, ◌∙◌, arith}
+use Rattle.std.specs.Prelude.{unwrap_or}
+use Rattle.meta_rows.specs.Rows.{Rows, rows_after}
+use Rattle.meta_rows.specs.declared.row_op.RowOp.{RowOp}
+use Rattle.object_model.specs.Objects.{Object, Objects}
+use Rattle.row_format.specs.Keys.{of_object, coll_key, onode_key, attr_key, header_key, omap_key}
+use Rattle.row_format.specs.Extents.{Place}
+use Rattle.row_format.specs.Row.{Row, onode, shard, row_key}
+use Rattle.row_format.proofs.KeyLemmas.{same_head}
+use Rattle.store_image.specs.Pages.{HasRow, IsPageAt}
+use Rattle.store_image.specs.Owners.{Owner, page_of, Owns}
+use Rattle.store_image.specs.Stands.{IsPageSeen, page_bytes, IsObjectShape, IsShape, AreObjectBytes, ObjectsStand}
+use Rattle.bitmap_freelist.specs.Bitmap.{Units, AreFlips, IsOtherKey, AreAlikeButBits}
+use Rattle.bitmap_freelist.proofs.Turning.{leave_others}
+
+-- ---- keys
+
+-- a key that begins with another byte than "b"
+other_first : (kind : ℕ) (rest : List ℕ) → kind ≢ 0x62 → IsOtherKey (kind ∷ rest)
+other_first kind rest apart r below e = apart (same_head kind 0x62 rest _ e)
+
+-- a key of an object's rows
+pub object_key_is_other : (kind : ℕ) (c o rest : List ℕ) → kind ≢ 0x62 → IsOtherKey (of_object kind c o rest)
+object_key_is_other kind c o rest apart = other_first kind _ apart
+
+-- a collection's key
+pub coll_key_is_other : (c : List ℕ) → IsOtherKey (coll_key c)
+coll_key_is_other c = other_first 0x43 c (λ e. absurd (omega (arith, e)))
+
+-- the keys of onodes and shards
+onode_keys : (c o rest : List ℕ) → IsOtherKey (of_object 0x4f c o rest)
+onode_keys c o rest = object_key_is_other 0x4f c o rest (λ e. absurd (omega (arith, e)))
+
+-- those of attributes
+attr_keys : (c o rest : List ℕ) → IsOtherKey (of_object 0x41 c o rest)
+attr_keys c o rest = object_key_is_other 0x41 c o rest (λ e. absurd (omega (arith, e)))
+
+-- and those of headers and omaps
+omap_keys : (c o rest : List ℕ) → IsOtherKey (of_object 0x4d c o rest)
+omap_keys c o rest = object_key_is_other 0x4d c o rest (λ e. absurd (omega (arith, e)))
+
+-- ---- rows that are alike
+
+-- operations that turn bits leave all else
+pub flips_alike : (rows : Rows) (units : Units) (ops : List RowOp) → AreFlips units ops → AreAlikeButBits rows (rows_after rows ops)
+flips_alike rows units ops are = leave_others rows units ops are
+
+-- the other way round
+pub alike_back : (rows other : Rows) → AreAlikeButBits rows other → AreAlikeButBits other rows
+alike_back rows other alike key is_other = sym (alike key is_other)
+
+-- a row that isn't of the table
+pub alike_has_row : (rows other : Rows) (row : Row) → AreAlikeButBits rows other → IsOtherKey (row_key row) → HasRow rows row → HasRow other row
+alike_has_row rows other row alike is_other has = record { fits = has.fits; stands = alike (row_key row) is_other ∙ has.stands }
+
+-- where a page stands
+pub alike_page : (rows other : Rows) (c o : List ℕ) (page : ℕ) (place : Place) → AreAlikeButBits rows other → IsPageAt rows c o page place
+    → IsPageAt other c o page place
+alike_page rows other c o page place alike is = record {
+  first = is.first;
+  extents = is.extents;
+  has_shard = alike_has_row rows other (shard c o is.first is.extents) alike (onode_keys c o _) is.has_shard;
+  has_page = is.has_page;
+}
+
+-- an owner on the other side
+owns_there : (rows other : Rows) (owner : Owner) (unit : ℕ) → AreAlikeButBits rows other → Owns rows owner unit → Owns other owner unit
+owns_there rows other (page_of c o page) unit alike owns = (owns.0, alike_page rows other c o page owns.0 alike owns.1, owns.2)
+
+-- who owns a unit
+pub alike_owns : (rows other : Rows) (owner : Owner) (unit : ℕ) → AreAlikeButBits rows other → Owns rows owner unit ↔ Owns other owner unit
+alike_owns rows other owner unit alike =
+    (owns_there rows other owner unit alike, owns_there other rows owner unit (alike_back rows other alike))
+
+module _ (rows other : Rows) (alike : AreAlikeButBits rows other) where
+  -- the rows of one object
+  object_shape : (c o : List ℕ) (object : Object) → IsObjectShape rows c o object → IsObjectShape other c o object
+  object_shape c o object is = record {
+    size = alike_has_row rows other (onode c o _) alike (onode_keys c o _) is.size;
+    size_most = is.size_most;
+    attr_names = is.attr_names;
+    attrs = λ name named. is.attrs name named ∙ sym (alike (attr_key c o name) (attr_keys c o name));
+    header = is.header ∙ sym (ap (λ found. unwrap_or found []) (alike (header_key c o) (omap_keys c o _)));
+    omap_keys = is.omap_keys;
+    omap = λ key named. is.omap key named ∙ sym (alike (omap_key c o key) (omap_keys c o _));
+  }
+
+  -- those of all objects and collections
+  shape : (objects : Objects) → IsShape rows objects → IsShape other objects
+  shape objects is = record {
+    collections = λ c. is.collections c ∙ sym (ap is_some (alike (coll_key c) (coll_key_is_other c)));
+    present = λ c o object there. object_shape c o object (is.present c o object there);
+    missing = λ c o coll name none. alike (onode_key c o) (onode_keys c o _) ∙ is.missing c o coll name none;
+  }
+
+  -- a page that is seen
+  page_seen : (at : ℕ → List ℕ) (place : Place) (page : List ℕ) → IsPageSeen at rows place page → IsPageSeen at other place page
+  page_seen at place page is = record { seen = is.seen; kept = is.kept }
+
+  -- the bytes of one object
+  object_bytes : (at : ℕ → List ℕ) (c o bytes : List ℕ) → AreObjectBytes at rows c o bytes → AreObjectBytes at other c o bytes
+  object_bytes at c o bytes are = record {
+    mapped = λ page place is.
+        page_seen at place (page_bytes bytes page) (are.mapped page place (alike_page other rows c o page place (alike_back rows other alike) is));
+    holes = λ page hole. are.holes page (λ place is. hole place (alike_page rows other c o page place alike is));
+  }
+
+-- what the rows stand for
+pub alike_stand : (at : ℕ → List ℕ) (rows other : Rows) (objects : Objects) → AreAlikeButBits rows other → ObjectsStand at rows objects
+    → ObjectsStand at other objects
+alike_stand at rows other objects alike stand = record {
+  shape = shape rows other alike objects stand.shape;
+  bytes = λ c o object there. object_bytes rows other alike at c o object.bytes (stand.bytes c o object there);
+}

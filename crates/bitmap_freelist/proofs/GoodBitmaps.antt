@@ -1,0 +1,144 @@
+-- Rows of the table, where no row is bad.
+use Rattle.std.proofs.Common.{◌≡◌, inl, inr, ⊎_elim, ℕ, ◌/◌, ◌^◌, ◌<◌, List, [], ◌∷◌, Option, Some, None, refl}
+use Rattle.std.proofs.Common.{is_some, sym, ap, subst, ◌∙◌, arith}
+use Rattle.std.specs.Prelude.{unwrap_or}
+use Rattle.std.specs.FinMap as map
+use Rattle.std.specs.Int.{w32, to_be_bytes}
+use Rattle.meta_rows.specs.Rows.{Rows, rows_after}
+use Rattle.meta_rows.specs.declared.row_op.RowOp.{RowOp}
+use Rattle.meta_log.specs.declared.slot.Super.{Super}
+use Rattle.row_format.specs.Bits.{bit_in}
+use Rattle.row_format.specs.Keys.{of_object, bitmap_key, coll_key, onode_key}
+use Rattle.row_format.specs.Row.{Row, collection, onode, shard, bitmap, row_key, row_value, FitsRow, FitsBitmap}
+use Rattle.row_format.proofs.KeyLemmas.{same_head}
+use Rattle.store_image.specs.Pages.{HasKey, HasRow}
+use Rattle.store_image.specs.Owners.{IsDataUnit, IsMarked}
+use Rattle.store_image.specs.BadRows.{AreOfData, IsInPlace, IsGoodRow, NoBadRow}
+use Rattle.bitmap_freelist.specs.Bitmap.{Units, Has, AreFlips, AreBitmapRows, NoneIsZero, IsOtherKey, AreAlikeButBits}
+use Rattle.bitmap_freelist.proofs.Bits.{bit_in-zeros}
+use Rattle.bitmap_freelist.proofs.Turning.{same_row, Turns, at_any, turn_their_units, stay_in_table, stay_some}
+use Rattle.bitmap_freelist.proofs.Alike.{flips_alike, alike_back, alike_has_row, object_key_is_other, coll_key_is_other}
+
+-- ---- rows of the table
+
+-- the key and the value are a row of the table whose bits are of data units
+pub record IsOfTable (s : Super) (key value : List ℕ) : Type 0 where
+  pub r : ℕ
+  pub key_is : key ≡ bitmap_key r
+  pub fits : FitsBitmap r value
+  pub of_data : AreOfData s r value
+
+-- of the good rows those whose keys begin with "b"
+by_kind : (s : Super) (rows : Rows) (row : Row) (rest value : List ℕ) → FitsRow row → 0x62 ∷ rest ≡ row_key row → value ≡ row_value row
+    → IsInPlace s rows row → IsOfTable s (0x62 ∷ rest) value
+by_kind s rows (collection c) rest value fits key is place = absurd (omega (arith, same_head _ _ _ _ key))
+by_kind s rows (onode c o size) rest value fits key is place = absurd (omega (arith, same_head _ _ _ _ key))
+by_kind s rows (shard c o page extents) rest value fits key is place = absurd (omega (arith, same_head _ _ _ _ key))
+by_kind s rows (bitmap r bits) rest value fits key is place =
+    record { r = r; key_is = key; fits = subst (FitsBitmap r) (sym is) fits; of_data = subst (AreOfData s r) (sym is) place }
+
+-- where no row is bad
+pub of_table : (s : Super) (rows : Rows) (rest value : List ℕ) → NoBadRow s rows → map.get rows (0x62 ∷ rest) ≡ Some value
+    → IsOfTable s (0x62 ∷ rest) value
+of_table s rows rest value good there =
+    let found = good (0x62 ∷ rest) value there in
+    by_kind s rows found.row rest value found.fits found.key_is found.value_is found.in_place
+
+-- then all rows under the keys of the table are of it
+pub bitmap_rows : (s : Super) (rows : Rows) → NoBadRow s rows → AreBitmapRows rows
+bitmap_rows s rows good rest value there =
+    let of = of_table s rows rest value good there in
+    record { row = of.r; below = of.fits.below; key_is = of.key_is; size = of.fits.size }
+
+-- and none has zeros alone
+pub none_zero : (s : Super) (rows : Rows) → NoBadRow s rows → NoneIsZero rows
+none_zero s rows good r value there = (of_table s rows (to_be_bytes w32 r) value good there).fits.some
+
+-- a marked unit is one for data
+pub marked_is_data : (s : Super) (rows : Rows) (unit : ℕ) → NoBadRow s rows → unit < 2 ^ 32 → IsMarked rows unit → IsDataUnit s unit
+marked_is_data s rows unit good below marked = by (map.get rows (bitmap_key (unit / 128))) refl
+  where
+    by : (held : Option (List ℕ)) → map.get rows (bitmap_key (unit / 128)) ≡ held → IsDataUnit s unit
+    by None is =
+        let zero_there = ap (λ o. bit_in (unwrap_or o []) unit) is ∙ bit_in-zeros [] unit refl in
+        absurd (omega (arith, sym marked ∙ zero_there))
+    by (Some value) is =
+        let of = of_table s rows (to_be_bytes w32 (unit / 128)) value good is in
+        let row_is = same_row (unit / 128) of.r (omega (arith, below)) of.fits.below of.key_is in
+        of.of_data unit row_is (sym (ap (λ o. bit_in (unwrap_or o []) unit) is) ∙ marked)
+
+-- ---- rows that stay good
+
+module _ (s : Super) (rows other : Rows) (alike : AreAlikeButBits rows other) where
+  -- a key that isn't of the table
+  has_key : (key : List ℕ) → IsOtherKey key → HasKey rows key → HasKey other key
+  has_key key is_other has = ap is_some (alike key is_other) ∙ has
+
+  -- the rows of an object
+  keys : (c o rest : List ℕ) → IsOtherKey (of_object 0x4f c o rest)
+  keys c o rest = object_key_is_other 0x4f c o rest (λ e. absurd (omega (arith, e)))
+
+  -- one that was there
+  was : (row : Row) → IsOtherKey (row_key row) → HasRow other row → HasRow rows row
+  was row is_other has = alike_has_row other rows row (alike_back rows other alike) is_other has
+
+  -- what a row needs of the others isn't bits
+  alike_in_place : (row : Row) → IsInPlace s rows row → IsInPlace s other row
+  alike_in_place (collection c) is = tt
+  alike_in_place (onode c o size) is = (has_key (coll_key c) (coll_key_is_other c) is.0, is.1)
+  alike_in_place (shard c o page extents) is = record {
+    has_collection = has_key (coll_key c) (coll_key_is_other c) is.has_collection;
+    has_onode = has_key (onode_key c o) (keys c o _) is.has_onode;
+    ascend = is.ascend;
+    behind = λ earlier es before there. is.behind earlier es before (was (shard c o earlier es) (keys c o _) there);
+    within = λ size there. is.within size (was (onode c o size) (keys c o _) there);
+    on_data = is.on_data;
+  }
+  alike_in_place (bitmap r bits) is = is
+
+  -- so a good row stays good
+  pub alike_good : (key value : List ℕ) → IsGoodRow s rows key value → IsGoodRow s other key value
+  alike_good key value is =
+      record { row = is.row; fits = is.fits; key_is = is.key_is; value_is = is.value_is; in_place = alike_in_place is.row is.in_place }
+
+module _ (s : Super) (rows : Rows) (units : Units) (ops : List RowOp) (are : AreFlips units ops)
+    (data_units : (unit : ℕ) → Has units unit → IsDataUnit s unit) (good : NoBadRow s rows) where
+  -- a marked unit was marked, or it is one of those that were turned
+  marked_after : (unit : ℕ) → unit < 2 ^ 32 → IsMarked (rows_after rows ops) unit → IsDataUnit s unit
+  marked_after unit below marked =
+      ⊎_elim (λ held. marked_is_data s rows unit good below held.0) (λ taken. data_units unit taken.1)
+      ((turn_their_units rows units ops are unit below).0 marked)
+
+  -- so the bits of a row that was turned are of data units
+  turned_of_data : (r : ℕ) (value : List ℕ) → r < 33554432 → map.get (rows_after rows ops) (bitmap_key r) ≡ Some value → AreOfData s r value
+  turned_of_data r value below there unit own one =
+      let bit = ap (λ q. bit_in (unwrap_or (map.get (rows_after rows ops) (bitmap_key q)) []) unit) own in
+      let held = ap (λ o. bit_in (unwrap_or o []) unit) there in
+      marked_after unit (omega (arith, own, below)) (bit ∙ held ∙ one)
+
+  -- a row of the table
+  turned_row : (key value : List ℕ) → Turns units ops key → map.get (rows_after rows ops) key ≡ Some value
+      → IsGoodRow s (rows_after rows ops) key value
+  turned_row key value t there =
+      let own : map.get (rows_after rows ops) (bitmap_key t.r) ≡ Some value
+      = ap (map.get (rows_after rows ops)) (sym t.key_is) ∙ there in
+      let table = stay_in_table rows units ops are (bitmap_rows s rows good) (to_be_bytes w32 t.r) value own in
+      let some = stay_some rows units ops are (none_zero s rows good) t.r value own in
+      record {
+        row = bitmap t.r value;
+        fits = record { below = t.below; size = table.size; some = some };
+        key_is = t.key_is;
+        value_is = refl;
+        in_place = turned_of_data t.r value t.below own;
+      }
+
+  stays_good : NoBadRow s (rows_after rows ops)
+  stays_good key value there = elim (at_any units ops key are) [
+    | inl t ↦ turned_row key value t there
+    | inr l ↦ alike_good s rows (rows_after rows ops) (flips_alike rows units ops are) key value (good key value (sym (l.after rows) ∙ there))
+  ]
+
+-- no row is bad once bits of data units are turned
+pub turned_good : (s : Super) (rows : Rows) (units : Units) (ops : List RowOp) → AreFlips units ops
+    → ((unit : ℕ) → Has units unit → IsDataUnit s unit) → NoBadRow s rows → NoBadRow s (rows_after rows ops)
+turned_good s rows units ops are data_units good = stays_good s rows units ops are data_units good

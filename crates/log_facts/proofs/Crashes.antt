@@ -28,26 +28,28 @@ use Rattle.log_facts.proofs.Reading.{behind_units, half_inside, slots_read, half
 
 -- ---- what the device holds stands for the objects
 
+pub log_reads : (h : History) (s : Super) (rows : Rows) (tail number given_from : ℕ) (second : FlushState) (recs : List (List RowOp))
+    → IsUnits s.units (last h.start h.log) → SlotsStand h s → ActiveHalfStands h s rows tail number None given_from second recs
+    → IsActiveSlot (last h.start h.log) s × AreRowsOf (last h.start h.log) s rows
+log_reads h s rows tail number given_from second recs whole slots half =
+    let contents = last h.start h.log in
+    let inside = half_inside s contents slots.limits whole in
+    let within : tail ≤ s.half = omega (arith, half.room) in
+    let parts = half_parts contents s tail (records_units s.first recs) half.whole within inside (λ k below. (half.front k below).last) in
+    let behind = behind_units contents s tail in (
+      slots_read contents s slots.limits whole slots.active.last slots.other.last,
+      rows_read contents s rows recs behind half.made half.spellable parts
+          (no_record_behind contents s tail within inside (λ some. (half.zero_behind tail (omega arith) some).last)
+          (s.first + length recs)),
+    )
+
 pub log_stands : (h : History) (s : Super) (rows : Rows) (tail number given_from : ℕ) (second : FlushState) (recs : List (List RowOp))
     (objects : Objects) → IsUnits s.units (last h.start h.log)
     → SlotsStand h s → ActiveHalfStands h s rows tail number None given_from second recs
     → NoBadRow s rows → ObjectsStand (last_at h) rows objects → StandsFor (last h.start h.log) objects
 log_stands h s rows tail number given_from second recs objects whole slots half good stand =
-    let contents = last h.start h.log in
-    let inside = half_inside s contents slots.limits whole in
-    let within : tail ≤ s.half = omega (arith, half.room) in
-    let parts = half_parts contents s tail (records_units s.first recs) half.whole within inside (λ k below. (half.front k below).last) in
-    let behind = behind_units contents s tail in
-    record {
-      super = s;
-      active = slots_read contents s slots.limits whole slots.active.last slots.other.last;
-      rows = rows;
-      read = rows_read contents s rows recs behind half.made half.spellable parts
-          (no_record_behind contents s tail within inside (λ some. (half.zero_behind tail (omega arith) some).last)
-          (s.first + length recs));
-      good = good;
-      stand = stand;
-    }
+    let found = log_reads h s rows tail number given_from second recs whole slots half in
+    record { super = s; active = found.0; rows = rows; read = found.1; good = good; stand = stand }
 
 -- ---- a crash
 

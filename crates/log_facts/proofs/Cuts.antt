@@ -16,6 +16,8 @@ use Rattle.meta_rows.specs.Rows.{Rows, rows_after}
 use Rattle.meta_log.specs.declared.slot.Super.{Super}
 use Rattle.meta_log.specs.Slots.{IsActiveSlot}
 use Rattle.meta_log.specs.Records.{AreRowsOf}
+use Rattle.store_image.specs.Owners.{IsExactBut}
+use Rattle.store_image.specs.Exact.{IsLeakedIn, StaysExact}
 use Rattle.store_image.specs.Stands.{StandsFor}
 use Rattle.store_image.specs.Durability.{LeavesPrefix}
 use Rattle.store_image.proofs.OwnedUnits.{objects_stand}
@@ -36,6 +38,11 @@ sound_image h s rows objects image sound is active read = record {
   stand = objects_stand (last_at h) (λ unit. unit_at unit image) rows (λ unit owned. sym (is.clean unit (sound.clean unit owned))) objects sound.stand;
 }
 
+-- an image that has rows whose bitmap is as exact as that of the contents before
+pub exact_image : (before image : List ℕ) (s : Super) (rows : Rows) → IsActiveSlot image s → AreRowsOf image s rows
+    → IsExactBut (IsLeakedIn before) rows → StaysExact before image
+exact_image before image s rows active read exact was = record { super = s; active = active; rows = rows; read = read; exact = exact }
+
 -- more commits have all that were acknowledged too
 acked_more : (base cut : ℕ) (commits : List Commit) (count more : ℕ) → count ≤ more → HasAcked base cut commits count → HasAcked base cut commits more
 acked_more base cut commits count more below has i = weaker (slice_get commits i) (has i)
@@ -51,8 +58,12 @@ pub cut_stands : (h : History) (s : Super) (rows : Rows) (tail number : ℕ) (be
     → count ≤ length book.commits → HasAcked base (length h.log) book.commits count
     → SoundFor h s rows (replay objects (committed book.entries (take count book.commits)))
     → ((ops : List RowOp) → begun ≡ Some ops → given_from ≡ 0 → SoundFor h s (rows_after rows ops) (replay objects (committed book.entries book.commits)))
+    → IsExactBut (IsLeakedIn (last h.start (take base h.log))) rows
+    → ((ops : List RowOp) → begun ≡ Some ops → IsExactBut (IsLeakedIn (last h.start (take base h.log))) (rows_after rows ops))
     → LeavesPrefix base h.start objects book h.log
-cut_stands h s rows tail number begun given_from second recs base objects book count whole whole_now slots half within acked sound sound_begun image is chance =
+cut_stands h s rows tail number begun given_from second recs base objects book count whole whole_now slots half within acked sound sound_begun
+    exact exact_begun image is chance =
+    let before : List ℕ = last h.start (take base h.log) in
     let found = leaves_rows h s rows tail number begun given_from second recs image whole whole_now slots half is chance in
     elim found.read [
       | inl read ↦ record {
@@ -60,6 +71,7 @@ cut_stands h s rows tail number begun given_from second recs base objects book c
         within = within;
         has_acked = acked;
         stands = sound_image h s rows (replay objects (committed book.entries (take count book.commits))) image sound is found.active read;
+        exact = exact_image before image s rows found.active read exact;
       }
       | inr has ↦
           let all : take (length book.commits) book.commits ≡ book.commits = take_all (length book.commits) book.commits (omega arith) in
@@ -70,5 +82,6 @@ cut_stands h s rows tail number begun given_from second recs base objects book c
             within = omega arith;
             has_acked = acked_more base (length h.log) book.commits count (length book.commits) within acked;
             stands = subst (λ commits. StandsFor image (replay objects (committed book.entries commits))) (sym all) stands;
+            exact = exact_image before image s (rows_after rows has.ops) found.active has.read (exact_begun has.ops has.is_begun);
           }
     ]

@@ -19,6 +19,8 @@ ghost use Rattle.meta_log.specs.Slots.{active_unit, IsSuper, IsActiveSlot};
 ghost use Rattle.meta_log.specs.Records.{record_units, unit_count, AreRecords, active_half, AreRowsOf};
 ghost use Rattle.meta_log.specs.Scanning.{units_of_records};
 ghost use Rattle.store_image.specs.BadRows.{NoBadRow};
+ghost use Rattle.store_image.specs.Owners.{IsExactBut};
+ghost use Rattle.store_image.specs.Exact.{IsLeakedIn};
 ghost use Rattle.store_image.specs.Stands.{ObjectsStand, StandsFor};
 ghost use Rattle.store_image.specs.Chance.{NoChanceMatch};
 ghost use Rattle.store_image.specs.Durability.{LeavesPrefix};
@@ -145,9 +147,14 @@ pub fn a_record_is_committed()
         ActiveHalfStands h s (rows_after rows ops) (tail + unit_count number ops) (number + 1) None 0 not_sent (recs ++ ops ∷ []) }
 {}
 
-/// While no record is begun, what the device holds stands for the objects that the rows and its units stand for.
+/// While no record is begun, what the device holds has the super and the rows, and stands for the objects that the rows and its units
+/// stand for.
 pub fn a_log_stands_for_its_objects()
-    ensures { (h : History) (s : Super) (rows : Rows) (tail number given_from : ℕ) (second : FlushState) (recs : List (List RowOp))
+    ensures reads { (h : History) (s : Super) (rows : Rows) (tail number given_from : ℕ) (second : FlushState) (recs : List (List RowOp)) →
+        IsUnits s.units (last h.start h.log) → SlotsStand h s →
+        ActiveHalfStands h s rows tail number None given_from second recs →
+        IsActiveSlot (last h.start h.log) s × AreRowsOf (last h.start h.log) s rows }
+    ensures stands { (h : History) (s : Super) (rows : Rows) (tail number given_from : ℕ) (second : FlushState) (recs : List (List RowOp))
         (objects : Objects) → IsUnits s.units (last h.start h.log) → SlotsStand h s →
         ActiveHalfStands h s rows tail number None given_from second recs →
         NoBadRow s rows → ObjectsStand (last_at h) rows objects → StandsFor (last h.start h.log) objects }
@@ -170,7 +177,8 @@ pub fn sound_rows_survive_a_crash()
 {}
 
 /// A crash now leaves a front of the commits: where the log's rows are sound for the objects after the first `count` of them, among
-/// which is each acknowledged one, and, once the begun record was wholly given, the rows after it are for those after all commits.
+/// which is each acknowledged one, and, once the begun record was wholly given, the rows after it are for those after all commits; and
+/// where the bitmap of both is as exact as that of the contents when the log had `base` events.
 pub fn a_crash_now_leaves_a_prefix()
     ensures { (h : History) (s : Super) (rows : Rows) (tail number : ℕ) (begun : Option (List RowOp)) (given_from : ℕ)
         (second : FlushState) (recs : List (List RowOp)) (base : ℕ) (objects : Objects) (book : Book) (count : ℕ) →
@@ -180,5 +188,7 @@ pub fn a_crash_now_leaves_a_prefix()
         SoundFor h s rows (replay objects (committed book.entries (take count book.commits))) →
         ((ops : List RowOp) → begun ≡ Some ops → given_from ≡ 0 →
         SoundFor h s (rows_after rows ops) (replay objects (committed book.entries book.commits))) →
+        IsExactBut (IsLeakedIn (last h.start (take base h.log))) rows →
+        ((ops : List RowOp) → begun ≡ Some ops → IsExactBut (IsLeakedIn (last h.start (take base h.log))) (rows_after rows ops)) →
         LeavesPrefix base h.start objects book h.log }
 {}

@@ -7,8 +7,8 @@ use Rattle.object_model.specs.Objects.{Collection, Objects}
 use Rattle.object_model.specs.Effect.{object_under}
 use Rattle.unit_fields.specs.Names.{IsCollName}
 use Rattle.row_format.specs.Keys.{coll_key}
-use Rattle.row_format.specs.Row.{Row, collection, onode, shard, row_key, FitsRow}
-use Rattle.row_format.proofs.KeyLemmas.{same_coll, coll_no_object}
+use Rattle.row_format.specs.Row.{Row, collection, onode, shard, bitmap, row_key, FitsRow}
+use Rattle.row_format.proofs.KeyLemmas.{same_coll, coll_no_object, bitmap_no_coll}
 use Rattle.store_image.specs.Pages.{HasKey}
 use Rattle.store_image.specs.BadRows.{NoBadRow}
 use Rattle.store_image.specs.Stands.{IsShape}
@@ -21,6 +21,7 @@ coll_named : (c : List ℕ) (row : Row) → FitsRow row → coll_key c ≡ row_k
 coll_named c (collection d) fits is = subst IsCollName (sym (same_coll c d is)) fits
 coll_named c (onode d o size) fits is = absurd (coll_no_object c d o _ is)
 coll_named c (shard d o page extents) fits is = absurd (coll_no_object c d o _ is)
+coll_named c (bitmap r bits) fits is = absurd (bitmap_no_coll r c (sym is))
 
 -- what an option that is there holds
 pub some_of : {X : Type 0} (x : Option X) → is_some x ≡ true → (v : X) × (x ≡ Some v)

@@ -72,7 +72,7 @@ pub fn walks_show_plain_objects()
     ensures all { (d : Disk) (h : History) (s : Super) (rows : Rows) (objects : Objects) (colls : List CollView) → d.history ≡ Some h
         → ((unit : ℕ) → HasNoBadDone h.log unit) → NoBadRow s rows → ObjectsStand (last_at h) rows objects
         → WalksAll d rows colls → colls ≡ views_of objects }
-    ensures good { (d : Disk) (h : History) (s : Super) (rows : Rows) (objects : Objects) (colls : List CollView) → d.history ≡ Some h
-        → ((unit : ℕ) → HasNoBadDone h.log unit) → NoBadRow s rows → ObjectsStand (last_at h) rows objects
+    ensures good { (d : Disk) (h : History) (rows : Rows) (objects : Objects) (colls : List CollView) → d.history ≡ Some h
+        → ((unit : ℕ) → HasNoBadDone h.log unit) → ObjectsStand (last_at h) rows objects
         → WalksTo d rows colls → AllByRecursion HasGoodViews colls }
 {}

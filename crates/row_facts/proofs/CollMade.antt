@@ -10,15 +10,15 @@ use Rattle.unit_fields.specs.Names.{IsCollName}
 use Rattle.byte_maps.specs.ByteMap.{byte_order}
 use Rattle.row_format.specs.Keys.{coll_key, onode_key}
 use Rattle.row_format.specs.Extents.{Extent}
-use Rattle.row_format.specs.Row.{Row, collection, onode, shard}
-use Rattle.row_format.proofs.KeyLemmas.{same_coll, coll_no_object}
+use Rattle.row_format.specs.Row.{Row, collection, onode, shard, bitmap}
+use Rattle.row_format.proofs.KeyLemmas.{same_coll, coll_no_object, bitmap_no_coll}
 use Rattle.store_image.specs.Pages.{HasRow}
 use Rattle.store_image.specs.BadRows.{IsInPlace, NoBadRow}
-use Rattle.store_image.specs.Owners.{Owner, page_of, Owns, IsOwned}
+use Rattle.store_image.specs.Owners.{Owner, page_of, Owns, IsOwned, IsMarked, IsExactBut, HasSoleOwner}
 use Rattle.store_image.specs.Stands.{IsShape, ObjectsStand}
 use Rattle.store_image.proofs.ByteLemmas.{equal_or_not}
-use Rattle.row_facts.specs.SoleOwners.{HasSoleOwner}
 use Rattle.row_facts.specs.Operations.{coll_ops, coll_change}
+use Rattle.row_facts.proofs.Bits.{bits_stay_set, exact_stays}
 use Rattle.row_facts.proofs.Maps.{get_same, get_other}
 use Rattle.row_facts.proofs.PutRow.{put_row, kind_kept, key_kept, row_kept, row_cases, good_after, IsApart, page_kept, page_was}
 use Rattle.row_facts.proofs.Shapes.{shape_kept, bytes_kept}
@@ -55,6 +55,7 @@ module _ (rows : Rows) (c : List ℕ) where
     within = λ size has. is.within size (was_onode name d u size has);
     on_data = is.on_data;
   }
+  kept_in_place name s (bitmap q bits) is = is
 
   pub coll_good : (s : Super) → IsCollName c → NoBadRow s rows → NoBadRow s (rows_after rows (coll_ops c))
   coll_good s name good = good_after rows r s name good tt (λ x has apart is. kept_in_place name s x is)
@@ -73,6 +74,13 @@ module _ (rows : Rows) (c : List ℕ) where
 
   pub coll_sole : (unit : ℕ) → HasSoleOwner rows unit → HasSoleOwner (rows_after rows (coll_ops c)) unit
   coll_sole unit sole a b p q = sole a b ((coll_owners a unit).0 p) ((coll_owners b unit).0 q)
+
+  -- nor does a bit change
+  pub coll_bits : (unit : ℕ) → IsMarked (rows_after rows (coll_ops c)) unit ↔ IsMarked rows unit
+  coll_bits unit = bits_stay_set rows (coll_key c) [] (λ q e. bitmap_no_coll q c e) unit
+
+  pub coll_exact : (leaked : ℕ → Type 0) → IsExactBut leaked rows → IsExactBut leaked (rows_after rows (coll_ops c))
+  coll_exact leaked exact = exact_stays rows (rows_after rows (coll_ops c)) coll_bits coll_owned (λ unit sole. coll_sole unit sole) leaked exact
 
   module _ (objects : Objects) (none : map.get objects c ≡ None) where
     -- the objects are the same, each under its name

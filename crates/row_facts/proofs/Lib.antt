@@ -1,4 +1,5 @@
 pub mod Maps
+pub mod Bits
 pub mod PutRow
 pub mod Shapes
 pub mod CollMade

@@ -1,18 +1,20 @@
 -- No rows, and no objects.
-use Rattle.std.proofs.Common.{◌≡◌, ℕ, List, Option, None, sym, ap, ◌∙◌}
+use Rattle.std.proofs.Common.{◌≡◌, ℕ, ◌%◌, List, [], Option, None, sym, ap, ◌∙◌, arith}
 use Rattle.std.specs.FinMap as map
 use Rattle.byte_maps.specs.ByteMap.{byte_order}
 use Rattle.meta_rows.specs.Rows.{Rows}
 use Rattle.meta_log.specs.declared.slot.Super.{Super}
 use Rattle.object_model.specs.Objects.{Collection}
 use Rattle.object_model.specs.Effect.{object_under}
-use Rattle.row_format.specs.Keys.{coll_key, onode_key}
+use Rattle.row_format.specs.Keys.{coll_key, onode_key, bitmap_key}
+use Rattle.row_format.specs.Bits.{bit_row, bit_in}
 use Rattle.row_format.specs.Row.{Row, row_key, shard}
 use Rattle.store_image.specs.Pages.{HasRow}
 use Rattle.store_image.specs.BadRows.{NoBadRow}
-use Rattle.store_image.specs.Owners.{Owner, page_of, Owns, IsOwned}
+use Rattle.store_image.specs.Owners.{Owner, page_of, Owns, IsOwned, bit_of, IsMarked, IsExact}
 use Rattle.store_image.specs.Stands.{ObjectsStand}
-use Rattle.std.specs.Prelude.{option_and_then, is_some}
+use Rattle.std.specs.Prelude.{option_and_then, is_some, unwrap_or}
+use Rattle.std.proofs.lemmas.Nat.Bits.{bit_at-zero}
 
 abbrev none : Rows
 none = map.empty
@@ -41,6 +43,22 @@ none_stand at = record {
 
 pub none_owned : (unit : ℕ) → ¬ IsOwned none unit
 none_owned unit owned = nobody owned.0 unit owned.1
+
+-- no bit is 1, so the bitmap is exact
+pub none_marked : (unit : ℕ) → ¬ IsMarked none unit
+none_marked unit marked =
+    let is : bit_of none unit ≡ 0 =
+    ap (λ (o : Option (List ℕ)). bit_in (unwrap_or o []) unit) (map.get-empty byte_order (bitmap_key (bit_row unit))) ∙ bit_at-zero (unit % 8) in
+    omega (arith, marked, is)
+
+pub none_exact : IsExact none
+none_exact = record {
+  marked = λ unit small marked. absurd (none_marked unit marked);
+  owned_marked = λ unit owned. absurd (none_owned unit owned);
+  leaked_marked = λ unit never. absurd never;
+  leaked_free = λ unit never owned. never;
+  one_owner = λ unit a b owns others. absurd (none_owned unit (a, owns));
+}
 
 -- what the laws cite
 pub ruleset none_laws = (none_good)

@@ -4,7 +4,7 @@ use Rattle.std.specs.FinMap as map
 use Rattle.meta_rows.specs.Rows.{Rows}
 use Rattle.meta_log.specs.declared.slot.Super.{Super}
 use Rattle.row_format.specs.Extents.{Extent, Place}
-use Rattle.row_format.specs.Row.{Row, collection, onode, shard, row_key, row_value, FitsRow}
+use Rattle.row_format.specs.Row.{Row, collection, onode, shard, bitmap, row_key, row_value, FitsRow}
 use Rattle.row_format.proofs.RowLemmas.{same_row}
 use Rattle.row_format.proofs.KeyLemmas.{same_head}
 use Rattle.store_image.specs.Pages.{HasKey, HasRow, IsPageAt}
@@ -16,21 +16,30 @@ abbrev pub put_row : Rows → Row → Rows
 put_row rows r = map.insert rows (row_key r) (row_value r)
 
 -- the heads of the keys of all rows
-key_begins : (r : Row) (k : ℕ) (rest : List ℕ) → k ∷ rest ≡ row_key r → (k ≡ 0x43) ⊎ (k ≡ 0x4f)
-key_begins (collection c) k rest e = inl (same_head _ _ _ _ e)
-key_begins (onode c o size) k rest e = inr (same_head _ _ _ _ e)
-key_begins (shard c o page es) k rest e = inr (same_head _ _ _ _ e)
+data Begins (k : ℕ) : Type 0 where
+  of_coll : k ≡ 0x43 → Begins k
+  of_object : k ≡ 0x4f → Begins k
+  of_bits : k ≡ 0x62 → Begins k
+
+key_begins : (r : Row) (k : ℕ) (rest : List ℕ) → k ∷ rest ≡ row_key r → Begins k
+key_begins (collection c) k rest e = of_coll (same_head _ _ _ _ e)
+key_begins (onode c o size) k rest e = of_object (same_head _ _ _ _ e)
+key_begins (shard c o page es) k rest e = of_object (same_head _ _ _ _ e)
+key_begins (bitmap r bits) k rest e = of_bits (same_head _ _ _ _ e)
 
 -- no row has a key of another kind
-pub no_other_kind : (s : Super) (rows : Rows) → NoBadRow s rows → (k : ℕ) (rest : List ℕ) → k ≢ 0x43 → k ≢ 0x4f → map.get rows (k ∷ rest) ≡ None
-no_other_kind s rows good k rest c o = elim (map.get rows (k ∷ rest)) as (λ x. map.get rows (k ∷ rest) ≡ x → x ≡ None) [
+pub no_other_kind : (s : Super) (rows : Rows) → NoBadRow s rows → (k : ℕ) (rest : List ℕ) → k ≢ 0x43 → k ≢ 0x4f → k ≢ 0x62
+    → map.get rows (k ∷ rest) ≡ None
+no_other_kind s rows good k rest c o b = elim (map.get rows (k ∷ rest)) as (λ x. map.get rows (k ∷ rest) ≡ x → x ≡ None) [
   | None ↦ λ p. refl
-  | Some v ↦ λ p. absurd (let g = good (k ∷ rest) v p in elim (key_begins g.row k rest g.key_is) [ inl e ↦ c e | inr e ↦ o e ])
+  | Some v ↦ λ p. absurd
+      (let g = good (k ∷ rest) v p in elim (key_begins g.row k rest g.key_is) [ of_coll e ↦ c e | of_object e ↦ o e | of_bits e ↦ b e ])
 ] refl
 
 module _ (rows : Rows) (r : Row) where
-  pub kind_kept : (k : ℕ) (rest : List ℕ) → k ≢ 0x43 → k ≢ 0x4f → map.get (put_row rows r) (k ∷ rest) ≡ map.get rows (k ∷ rest)
-  kind_kept k rest c o = get_other rows (row_key r) (row_value r) (k ∷ rest) (λ e. elim (key_begins r k rest e) [ inl is ↦ c is | inr is ↦ o is ])
+  pub kind_kept : (k : ℕ) (rest : List ℕ) → k ≢ 0x43 → k ≢ 0x4f → k ≢ 0x62 → map.get (put_row rows r) (k ∷ rest) ≡ map.get rows (k ∷ rest)
+  kind_kept k rest c o b = get_other rows (row_key r) (row_value r) (k ∷ rest)
+      (λ e. elim (key_begins r k rest e) [ of_coll is ↦ c is | of_object is ↦ o is | of_bits is ↦ b is ])
 
   pub key_kept : (key : List ℕ) → HasKey rows key → HasKey (put_row rows r) key
   key_kept key there = some_after rows (row_key r) (row_value r) key there

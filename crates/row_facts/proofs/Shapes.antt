@@ -9,9 +9,9 @@ use Rattle.store_image.specs.Owners.{page_of, IsOwned}
 use Rattle.store_image.specs.Stands.{IsObjectShape, AreObjectBytes}
 use Rattle.row_facts.proofs.PutRow.{put_row, IsApart, page_kept, page_was}
 
--- rows of other kinds than collections, onodes and shards are the same
+-- rows of other kinds than collections, onodes, shards and those of the bitmap are the same
 abbrev pub SameOthers : Rows → Rows → Type 0
-SameOthers rows after = (k : ℕ) (rest : List ℕ) → k ≢ 0x43 → k ≢ 0x4f → map.get after (k ∷ rest) ≡ map.get rows (k ∷ rest)
+SameOthers rows after = (k : ℕ) (rest : List ℕ) → k ≢ 0x43 → k ≢ 0x4f → k ≢ 0x62 → map.get after (k ∷ rest) ≡ map.get rows (k ∷ rest)
 
 pub shape_kept : (rows after : Rows) (c o : List ℕ) (object : Object) → SameOthers rows after → HasRow after (onode c o (length object.bytes))
     → IsObjectShape rows c o object → IsObjectShape after c o object
@@ -19,10 +19,10 @@ shape_kept rows after c o object same size shape = record {
   size = size;
   size_most = shape.size_most;
   attr_names = shape.attr_names;
-  attrs = λ name is. shape.attrs name is ∙ sym (same 0x41 _ (λ e. omega (arith, e)) (λ e. omega (arith, e)));
-  header = shape.header ∙ ap (λ x. unwrap_or x []) (sym (same 0x4d _ (λ e. omega (arith, e)) (λ e. omega (arith, e))));
+  attrs = λ name is. shape.attrs name is ∙ sym (same 0x41 _ (λ e. omega (arith, e)) (λ e. omega (arith, e)) (λ e. omega (arith, e)));
+  header = shape.header ∙ ap (λ x. unwrap_or x []) (sym (same 0x4d _ (λ e. omega (arith, e)) (λ e. omega (arith, e)) (λ e. omega (arith, e))));
   omap_keys = shape.omap_keys;
-  omap = λ key is. shape.omap key is ∙ sym (same 0x4d _ (λ e. omega (arith, e)) (λ e. omega (arith, e)));
+  omap = λ key is. shape.omap key is ∙ sym (same 0x4d _ (λ e. omega (arith, e)) (λ e. omega (arith, e)) (λ e. omega (arith, e)));
 }
 
 -- the object's pages are seen as before, where its units are

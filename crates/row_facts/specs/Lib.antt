@@ -1,2 +1,1 @@
-pub mod SoleOwners
 pub mod Operations

@@ -13,9 +13,8 @@ ghost use Rattle.row_format.specs.Keys.{coll_key, onode_key};
 ghost use Rattle.store_image.specs.Pages.{HasKey};
 ghost use Rattle.unit_fields.specs.Names.{IsName, IsCollName};
 ghost use Rattle.store_image.specs.BadRows.{NoBadRow};
-ghost use Rattle.store_image.specs.Owners.{IsOwned};
+ghost use Rattle.store_image.specs.Owners.{IsOwned, IsExact, HasSoleOwner};
 ghost use Rattle.store_image.specs.Stands.{IsShape, ObjectsStand};
-ghost use Rattle.row_facts.specs.SoleOwners.{HasSoleOwner};
 ghost use Rattle.row_facts.specs.Operations.{coll_ops, coll_change};
 
 /// Making a collection leaves no bad row, and rows that stand for the objects with the collection. Nobody gets a unit or loses one, so
@@ -52,12 +51,13 @@ pub fn replies_by_rows()
         submitted_effect (coll_change c) objects ≡ transaction_effect (coll_change c) objects }
 {}
 
-/// No rows have no bad row, stand for no objects over any units, and own none.
+/// No rows have no bad row, stand for no objects over any units, own none, and mark none.
 #[tactic(auto, using(crate::proofs::NoRows::none_laws))]
 pub fn no_rows()
     ensures good { (s : Super) → NoBadRow s map.empty }
     ensures stand { (at : ℕ → List ℕ) → ObjectsStand at map.empty map.empty }
     ensures owned { (unit : ℕ) → ¬ IsOwned map.empty unit }
+    ensures exact { IsExact map.empty }
 {}
 
 /// The operation that makes a collection has a spelling, and its record is one unit.

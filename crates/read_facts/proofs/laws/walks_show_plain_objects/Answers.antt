@@ -5,4 +5,4 @@ pub returns-clause-all : goal.returns-clause-all
 returns-clause-all c = λ d h s rows objects colls tells answered good stand. walk_is d h tells answered rows objects stand s good colls
 
 pub returns-clause-good : goal.returns-clause-good
-returns-clause-good c = λ d h s rows objects colls tells answered good stand. walk_good d h tells answered rows objects stand colls
+returns-clause-good c = λ d h rows objects colls tells answered stand. walk_good d h tells answered rows objects stand colls

@@ -1,0 +1,41 @@
+-- The bits of the bitmap where rows under other keys change.
+use Rattle.std.proofs.Common.{◌≡◌, ◌≢◌, ◌↔◌, inl, inr, ℕ, List, [], unwrap_or, sym, ap, ◌∙◌}
+use Rattle.std.specs.FinMap as map
+use Rattle.meta_rows.specs.Rows.{Rows}
+use Rattle.meta_rows.proofs.RowLemmas.{get-remove_other}
+use Rattle.row_format.specs.Keys.{bitmap_key}
+use Rattle.row_format.specs.Bits.{bit_row, bit_in}
+use Rattle.store_image.specs.Owners.{IsOwned, IsMarked, IsExactBut, HasSoleOwner}
+use Rattle.row_facts.proofs.Maps.{get_other}
+
+-- the key is none of the bitmap's
+abbrev pub IsNoBitmapKey : List ℕ → Type 0
+IsNoBitmapKey key = (r : ℕ) → bitmap_key r ≢ key
+
+-- where the bitmap's rows are the same, each unit is marked if it was
+pub bits_stay : (rows after : Rows) → ((r : ℕ) → map.get after (bitmap_key r) ≡ map.get rows (bitmap_key r)) → (unit : ℕ)
+    → IsMarked after unit ↔ IsMarked rows unit
+bits_stay rows after same unit =
+    let is = ap (λ x. bit_in (unwrap_or x []) unit) (same (bit_row unit)) in
+    (λ marked. sym is ∙ marked, λ marked. is ∙ marked)
+
+-- so where a row is set
+pub bits_stay_set : (rows : Rows) (key value : List ℕ) → IsNoBitmapKey key → (unit : ℕ)
+    → IsMarked (map.insert rows key value) unit ↔ IsMarked rows unit
+bits_stay_set rows key value other = bits_stay rows (map.insert rows key value) (λ r. get_other rows key value (bitmap_key r) (other r))
+
+-- or dropped
+pub bits_stay_dropped : (rows : Rows) (key : List ℕ) → IsNoBitmapKey key → (unit : ℕ) → IsMarked (map.remove rows key) unit ↔ IsMarked rows unit
+bits_stay_dropped rows key other = bits_stay rows (map.remove rows key) (λ r. get-remove_other rows key (bitmap_key r) (λ e. other r (sym e)))
+
+-- where the same units are marked and owned, and no owner comes to a unit that has one, the rows stay exact
+pub exact_stays : (rows after : Rows) → ((unit : ℕ) → IsMarked after unit ↔ IsMarked rows unit)
+    → ((unit : ℕ) → IsOwned after unit ↔ IsOwned rows unit) → ((unit : ℕ) → HasSoleOwner rows unit → HasSoleOwner after unit)
+    → (leaked : ℕ → Type 0) → IsExactBut leaked rows → IsExactBut leaked after
+exact_stays rows after bits owned sole leaked exact = record {
+  marked = λ unit small is. elim (exact.marked unit small ((bits unit).0 is)) [ inl was ↦ inl ((owned unit).1 was) | inr left ↦ inr left ];
+  owned_marked = λ unit is. (bits unit).1 (exact.owned_marked unit ((owned unit).0 is));
+  leaked_marked = λ unit is. (bits unit).1 (exact.leaked_marked unit is);
+  leaked_free = λ unit is now. exact.leaked_free unit is ((owned unit).0 now);
+  one_owner = λ unit. sole unit (exact.one_owner unit);
+}

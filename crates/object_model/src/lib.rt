@@ -17,7 +17,7 @@ mod transaction;
 
 pub use applying::{effect, effects};
 pub use book::{Book, Commit, Entry};
-pub use collection::Collection;
+pub use collection::{Collection, ends_too_far};
 pub use command::{Answer, Command};
 pub use fault::ArgFault;
 pub use laws::{

@@ -1,6 +1,8 @@
 //! Keys of rows, each made in memory of its own.
-ghost use Rattle.std.specs.Prelude.{◌≡◌, ◌≤◌, [], ◌∷◌, ◌++◌, length, IfOk, OnOk};
+ghost use Rattle.std.specs.Prelude.{◌≡◌, ◌≤◌, [], ◌∷◌, ◌++◌, length, IfOk, IfSome, OnOk};
 ghost use Rattle.std.specs.Int.{w64, to_be_bytes};
+ghost use Rattle.std.specs.Option.{option_copied};
+ghost use Rattle.unit_fields.specs.Names.{IsName};
 ghost use Rattle.meta_rows.specs.Spelling.{IsKey};
 ghost use Rattle.row_format.specs.Keys.{
   of_object,
@@ -14,6 +16,7 @@ ghost use Rattle.row_format.specs.Keys.{
   shared_key,
   bitmap_key,
 };
+ghost use Rattle.onode_codec.specs.Fronts.{colls_first, objects_first, objects_end};
 
 use byte_maps::Bytes;
 use std::alloc::{AllocError, Global};
@@ -34,8 +37,14 @@ const SHARED: u8 = b'X';
 
 const BITMAP: u8 = b'b';
 
+/// The end of the keys of collections: they are those from `colls_first` of none on that are below it.
+pub const COLLS_END: &[u8] = b"D";
+
 // It ends a name within a key. No name has it.
 const END: u8 = 0;
+
+// The least byte above it.
+const BEHIND_END: u8 = 1;
 
 // Writes a name, and what ends it.
 fn push_name(key: &mut Vec<u8>, name: &[u8]) -> Result<(), AllocError>
@@ -87,6 +96,18 @@ pub fn coll_key(alloc: Global, coll: &CollName) -> Result<Bytes, AllocError>
     Ok(Bytes::from_vec(key))
 }
 
+/// Where the keys of the collections begin that are behind another one in byte order, or of all.
+pub fn colls_first(alloc: Global, after: Option<&CollName>) -> Result<Bytes, AllocError>
+    ensures { IfOk result (λ key. key ≡ colls_first (option_copied after.entry)) }
+{
+    let mut key = Vec::new(alloc);
+    key.push(COLLECTION)?;
+    if let Some(coll) = after {
+        push_name(&mut key, coll.as_slice())?;
+    }
+    Ok(Bytes::from_vec(key))
+}
+
 /// The key of an object's onode.
 pub fn onode_key(alloc: Global, coll: &CollName, object: &Name) -> Result<Bytes, AllocError>
     ensures key { IfOk result (λ key. key ≡ onode_key coll.now object.now) }
@@ -118,6 +139,42 @@ pub fn shards_end(alloc: Global, coll: &CollName, object: &Name) -> Result<Bytes
     ensures size { IfOk result IsKey }
 {
     of_object(alloc, OBJECT, coll, object, b"p")
+}
+
+// The front of the keys of a collection's objects, with this byte behind the collection's name.
+fn objects_front(alloc: Global, coll: &CollName, behind: u8) -> Result<Bytes, AllocError>
+    ensures { IfOk result (λ key. key ≡ 0x4f ∷ (coll.now ++ behind ∷ [])) }
+{
+    let mut key = Vec::new(alloc);
+    key.push(OBJECT)?;
+    key.extend_from_slice(coll.as_slice())?;
+    key.push(behind)?;
+    Ok(Bytes::from_vec(key))
+}
+
+/// Where the keys of a collection's objects begin that are behind another one in byte order, or of all: behind all shards of that one.
+pub fn objects_first(
+    alloc: Global,
+    coll: &CollName,
+    after: Option<&Name>,
+) -> Result<Bytes, AllocError>
+    ensures key { IfOk result (λ key. key ≡ objects_first coll.now (option_copied after.entry)) }
+    ensures named { IfSome (option_copied after.entry) IsName }
+{
+    match after {
+        Some(object) => {
+            let _bytes = object.as_slice();
+            shards_end(alloc, coll, object)
+        }
+        None => objects_front(alloc, coll, END),
+    }
+}
+
+/// The end of the keys of a collection's objects.
+pub fn objects_end(alloc: Global, coll: &CollName) -> Result<Bytes, AllocError>
+    ensures { IfOk result (λ key. key ≡ objects_end coll.now) }
+{
+    objects_front(alloc, coll, BEHIND_END)
 }
 
 /// The key of an attribute.

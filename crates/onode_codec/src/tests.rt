@@ -69,6 +69,23 @@ fn other_keys(rt: HostRuntime) -> Result<(), Fail> {
 }
 
 #[test]
+fn ranges_of_keys(rt: HostRuntime) -> Result<(), Fail> {
+    let (coll, object) = names(rt.alloc())?;
+    let first = colls_first(rt.alloc(), None)?;
+    assert_eq!(rt; first.as_slice(), b"C".as_slice());
+    let behind = colls_first(rt.alloc(), Some(&coll))?;
+    assert_eq!(rt; behind.as_slice(), b"C1.0_head\0".as_slice());
+    assert_eq!(rt; COLLS_END, b"D".as_slice());
+    let first = objects_first(rt.alloc(), &coll, None)?;
+    assert_eq!(rt; first.as_slice(), b"O1.0_head\0".as_slice());
+    let behind = objects_first(rt.alloc(), &coll, Some(&object))?;
+    assert_eq!(rt; behind.as_slice(), b"O1.0_head\0a\0p".as_slice());
+    let end = objects_end(rt.alloc(), &coll)?;
+    assert_eq!(rt; end.as_slice(), b"O1.0_head\x01".as_slice());
+    Ok(())
+}
+
+#[test]
 fn onodes(rt: HostRuntime) -> Result<(), Fail> {
     let bytes = Onode { size: 9 }.encode(rt.alloc())?;
     assert_eq!(rt; bytes.as_slice(), b"\x09\0\0\0\0\0\0\0".as_slice());

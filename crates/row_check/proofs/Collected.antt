@@ -55,7 +55,7 @@ this_place marks i = get_or-take (i + 1) marks i false (omega arith)
 alike : (u : ℕ) → eq_by_cmp nat_cmp u u ≡ true
 alike u = grind (arith, nat_tests)
 
-unlike : (u v : ℕ) → u ≢ v → eq_by_cmp nat_cmp u v ≡ false
+pub unlike : (u v : ℕ) → u ≢ v → eq_by_cmp nat_cmp u v ≡ false
 unlike u v ne = grind (arith, nat_tests)
 
 or_true : (b : Bool) → (b || true) ≡ true

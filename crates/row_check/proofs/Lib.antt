@@ -9,3 +9,6 @@ pub mod MarkSteps
 pub mod OneMark
 pub mod RunMarks
 pub mod MarkedRows
+pub mod DataBits
+pub mod LeastUnits
+pub mod ExactUnits

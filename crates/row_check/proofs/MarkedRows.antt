@@ -12,7 +12,7 @@ use Rattle.meta_log.specs.declared.slot.Super.{Super}
 use Rattle.row_format.specs.Keys.{shard_key}
 use Rattle.row_format.specs.Extents.{Body, private, Extent}
 use Rattle.row_format.specs.Row as format
-use Rattle.row_format.specs.Row.{collection, onode, shard}
+use Rattle.row_format.specs.Row.{collection, onode, shard, bitmap}
 use Rattle.row_format.proofs.RowLemmas.{same_row}
 use Rattle.store_image.specs.Pages.{HasRow, IsPageAt}
 use Rattle.store_image.specs.BadRows.{IsOnData, IsShardInPlace, NoBadRow}
@@ -77,12 +77,14 @@ module _ (s : Super) (rows : Rows) (good : NoBadRow s rows) where
   row_ends : (row : format.Row) → HasRow rows row → RowEndsBy s.units row
   row_ends (collection c) has = tt
   row_ends (onode c o size) has = tt
+  row_ends (bitmap r bits) has = tt
   row_ends (shard c o page es) has =
       let place : IsShardInPlace s rows c o page es = in_place s rows (shard c o page es) good has in all_end s es place.on_data
 
   row_ascends : (row : format.Row) → HasRow rows row → RowAscends row
   row_ascends (collection c) has = tt
   row_ascends (onode c o size) has = tt
+  row_ascends (bitmap r bits) has = tt
   row_ascends (shard c o page es) has =
       let place : IsShardInPlace s rows c o page es = in_place s rows (shard c o page es) good has in place.ascend
 
@@ -134,8 +136,10 @@ module _ (s : Super) (rows : Rows) (good : NoBadRow s rows) where
       → format.row_key r ≡ format.row_key t
   same_key (collection c) t a v w p q x y = absurd x
   same_key (onode c o size) t a v w p q x y = absurd x
+  same_key (bitmap r bits) t a v w p q x y = absurd x
   same_key (shard c o first es) (collection d) a v w p q x y = absurd y
   same_key (shard c o first es) (onode d u size) a v w p q x y = absurd y
+  same_key (shard c o first es) (bitmap r bits) a v w p q x y = absurd y
   same_key (shard c o first es) (shard d u other fs) a v w p q x y = owned_key c o d u first other es fs a v w p q x y
 
   module _ (es : List (List ℕ × List ℕ)) (are : AreRows rows es) (i : ℕ) (x : List ℕ × List ℕ) (key value : List ℕ) (l : i < length es)
@@ -193,7 +197,7 @@ module _ (s : Super) (rows : Rows) (good : NoBadRow s rows) where
 
 -- ---- all rows
 
-same_or_not : (a b : Owner) → (a ≡ b) ⊎ (a ≡ b → ⊥)
+pub same_or_not : (a b : Owner) → (a ≡ b) ⊎ (a ≡ b → ⊥)
 same_or_not (page_of c o p) (page_of d u q) = elim (equal_or_not c d) [
   | inr apart ↦ inr (λ e. apart (coll_of e))
   | inl coll ↦ elim (equal_or_not o u) [
@@ -218,6 +222,7 @@ module _ (rows : Rows) (es : List (List ℕ × List ℕ)) (are : AreRows rows es
   row_owner : (row : format.Row) (a : Owner) (v : ℕ) → HasRow rows row → RowOwns row a v → Owns rows a v
   row_owner (collection c) a v has owns = absurd owns
   row_owner (onode c o size) a v has owns = absurd owns
+  row_owner (bitmap r bits) a v has owns = absurd owns
   row_owner (shard c o first xs) a v has owns = subst (λ b. Owns rows b v) (sym owns.owner_is)
       (owns.place, record { first = first; extents = xs; has_shard = has; has_page = owns.found }, owns.unit_is)
 

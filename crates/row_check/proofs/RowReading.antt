@@ -1,15 +1,16 @@
 -- Which keys and values are which rows.
-use Rattle.std.proofs.Common.{◌≢◌, ℕ, ◌^◌, ◌<◌, List, length, sym, ap, subst}
+use Rattle.std.proofs.Common.{◌≡◌, ◌≢◌, ◌↔◌, ℕ, ◌^◌, ◌<◌, Bool, true, false, not, IsTrue, List, length, refl, sym, ap, subst, ◌∙◌}
 use Rattle.unit_fields.specs.Names.{IsName, IsCollName}
-use Rattle.row_format.specs.Keys.{onode_key, shard_key}
+use Rattle.meta_rows.specs.Rows.{all_zero}
+use Rattle.row_format.specs.Keys.{onode_key, shard_key, bitmap_key}
 use Rattle.row_format.specs.Extents.{Extent, BeginsAt}
 use Rattle.row_format.specs.Row as format
-use Rattle.row_format.specs.Row.{collection, onode, shard}
-use Rattle.row_format.proofs.KeyLemmas.{coll_no_object, same_shard, onode_no_shard}
+use Rattle.row_format.specs.Row.{collection, onode, shard, bitmap}
+use Rattle.row_format.proofs.KeyLemmas.{coll_no_object, same_shard, onode_no_shard, bitmap_no_coll, bitmap_no_object}
 use Rattle.onode_codec.specs.Reading.{SpellExtents}
 use Rattle.onode_codec.proofs.Again.{same_extents}
 use Rattle.row_check.specs.declared.key.Part.TheVariants.{Onode, Shard}
-use Rattle.row_check.specs.declared.key.RowKey.TheVariants.{Collection, Object}
+use Rattle.row_check.specs.declared.key.RowKey.TheVariants.{Collection, Object, Bitmap}
 use Rattle.row_check.specs.Reading.{IsNoKey, SpellsRow, IsNoRow}
 
 -- the key of a row names something
@@ -18,12 +19,14 @@ no_row key value none (collection c) s = none (Collection c) (record { fits = s.
 no_row key value none (onode c o size) s = none (Object c o Onode) (record { fits = (s.fits.0, s.fits.1, tt); spelled = s.key_is })
 no_row key value none (shard c o page es) s =
     none (Object c o (Shard page)) (record { fits = (s.fits.coll_name, s.fits.object_name, s.fits.page_below); spelled = s.key_is })
+no_row key value none (bitmap r bits) s = none (Bitmap r) (record { fits = s.fits.below; spelled = s.key_is })
 
 module _ (c o : List ℕ) (coll : IsCollName c) (object : IsName o) where
   pub no_onode : (value : List ℕ) → length value ≢ 8 → IsNoRow (onode_key c o) value
   no_onode value other (collection d) s = coll_no_object d c o _ (sym s.key_is)
   no_onode value other (onode d u size) s = other (ap length s.value_is)
   no_onode value other (shard d u page es) s = onode_no_shard c o d u page coll object s.fits.coll_name s.fits.object_name s.key_is
+  no_onode value other (bitmap r bits) s = bitmap_no_object r c o _ (sym s.key_is)
 
   module _ (page : ℕ) (below : page < 2 ^ 32) (value : List ℕ) where
     -- a row with this key is a shard of this page
@@ -33,6 +36,7 @@ module _ (c o : List ℕ) (coll : IsCollName c) (object : IsName o) where
     only_shard (shard d u other es) s =
         let same = same_shard c o d u page other coll object s.fits.coll_name s.fits.object_name below s.fits.page_below s.key_is in
         (es, record { fit = s.fits.fit; spelled = s.value_is }, subst (λ n. BeginsAt n es) (sym same.2) s.fits.begins)
+    only_shard (bitmap r bits) s = absurd (bitmap_no_object r c o _ (sym s.key_is))
 
     pub no_extents : ((es : List Extent) → ¬ (SpellExtents value es)) → IsNoRow (shard_key c o page) value
     no_extents none r s = let is = only_shard r s in none is.0 is.1
@@ -41,3 +45,16 @@ module _ (c o : List ℕ) (coll : IsCollName c) (object : IsName o) where
     other_page es is none r s =
         let found = only_shard r s in
         none (subst (BeginsAt page) (same_extents value found.0 es found.1 is) found.2)
+
+-- a value that isn't 16 bytes, or has no byte other than zero
+pub no_bits : (row : ℕ) (value : List ℕ) → ((length value ≡ 16) → (all_zero value ≡ false) → ⊥) → IsNoRow (bitmap_key row) value
+no_bits row value none (collection d) s = bitmap_no_coll row d s.key_is
+no_bits row value none (onode d u size) s = bitmap_no_object row d u _ s.key_is
+no_bits row value none (shard d u page es) s = bitmap_no_object row d u _ s.key_is
+no_bits row value none (bitmap r bits) s = none (ap length s.value_is ∙ s.fits.size) (ap all_zero s.value_is ∙ s.fits.some)
+
+-- 16 bytes are bits where one isn't zero
+pub bits_test : (value : List ℕ) (zero : Bool) → zero ≡ all_zero value → length value ≡ 16
+    → IsTrue (not zero) ↔ ((length value ≡ 16) × (all_zero value ≡ false))
+bits_test value true e size = (λ is. absurd cc, λ both. let other = both.1 in absurd cc)
+bits_test value false e size = (λ is. (size, sym e), λ both. refl)

@@ -6,7 +6,7 @@ use Rattle.std.proofs.lemmas.Bool.{cases_Bool, cases_lt, ltb-true, leb-true, lt-
 use Rattle.std.proofs.lemmas.List.{length-set}
 use Rattle.row_format.specs.Extents.{Body, private, page_count, Extent, page_end, Ascend, Place, place_in, place_of, BeginsAt}
 use Rattle.row_format.specs.Row as format
-use Rattle.row_format.specs.Row.{collection, onode, shard}
+use Rattle.row_format.specs.Row.{collection, onode, shard, bitmap}
 use Rattle.store_image.specs.Owners.{Owner, page_of}
 use Rattle.row_check.specs.Marks.{Marks, run_marked, body_marked, extents_marked, row_marked, EndsBy, AllEndBy, RowEndsBy}
 use Rattle.row_check.proofs.OneMark.{Tells, HasUnits, tells_same, one_more_tells}
@@ -29,6 +29,7 @@ extents_units units (e ∷ es) m has = extents_units units es (body_marked m e.b
 pub row_units : (units : ℕ) (row : format.Row) (m : Marks) → HasUnits units m → HasUnits units (row_marked m row)
 row_units units (collection c) m has = has
 row_units units (onode c o size) m has = has
+row_units units (bitmap r bits) m has = has
 row_units units (shard c o page es) m has = extents_units units es m has
 
 -- ---- consecutive pages
@@ -254,3 +255,4 @@ pub row_tells : (row : format.Row) (P : Owner → ℕ → Type 0) (m : Marks) (u
 row_tells (collection c) P m units old has ends ascend apart = tells_same P _ m (nothing_more P) old
 row_tells (onode c o size) P m units old has ends ascend apart = tells_same P _ m (nothing_more P) old
 row_tells (shard c o page es) P m units old has ends ascend apart = extents_tells c o es P m units old has ends ascend apart
+row_tells (bitmap r bits) P m units old has ends ascend apart = tells_same P _ m (nothing_more P) old

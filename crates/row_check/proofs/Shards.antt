@@ -11,8 +11,8 @@ use Rattle.meta_log.specs.declared.slot.Super.{Super}
 use Rattle.row_format.specs.Keys.{onode_key, shard_key}
 use Rattle.row_format.specs.Extents.{Extent, page_end}
 use Rattle.row_format.specs.Row as format
-use Rattle.row_format.specs.Row.{collection, onode, shard}
-use Rattle.row_format.proofs.KeyLemmas.{coll_no_object, same_place}
+use Rattle.row_format.specs.Row.{collection, onode, shard, bitmap}
+use Rattle.row_format.proofs.KeyLemmas.{coll_no_object, bitmap_no_object, same_place}
 use Rattle.row_format.proofs.ExtentLemmas.{extents-same}
 use Rattle.row_format.proofs.RowLemmas.{same_row}
 use Rattle.store_image.specs.Pages.{HasRow}
@@ -72,6 +72,9 @@ module _ (s : Super) (rows : Rows) (c o : List ℕ) (page : ℕ) (coll : IsCollN
   behind_last (Some (read.Collection d)) walked ends earlier es less has =
       let front = last_front earlier es less has (collection d) walked.last_is in
       absurd (coll_no_object d c o (0x6f ∷ front.0) (front.1 ∙ onode_front c o front.0))
+  behind_last (Some (read.Bitmap r bits)) walked ends earlier es less has =
+      let front = last_front earlier es less has (bitmap r bits) walked.last_is in
+      absurd (bitmap_no_object r c o (0x6f ∷ front.0) (front.1 ∙ onode_front c o front.0))
   behind_last (Some (read.Onode d u size)) walked ends earlier es less has =
       let right : IsRightBefore rows (shard_key c o page) (onode d u size) = walked.last_is in
       let front = last_front earlier es less has (onode d u size) right in
@@ -92,6 +95,7 @@ module _ (s : Super) (rows : Rows) (c o : List ℕ) (page : ℕ) (coll : IsCollN
   last_behind None walked behind = tt
   last_behind (Some (read.Collection d)) walked behind = tt
   last_behind (Some (read.Onode d u size)) walked behind = tt
+  last_behind (Some (read.Bitmap r bits)) walked behind = tt
   last_behind (Some (read.Shard d u q fs)) walked behind = λ e f.
       let right : IsRightBefore rows (shard_key c o page) (shard d u q fs) = walked.last_is in
       let row : shard d u q fs ≡ shard c o q fs = λ i. shard (e i) (f i) q fs in

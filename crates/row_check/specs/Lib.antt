@@ -2,3 +2,5 @@ pub mod Reading
 pub mod Bad
 pub mod Marks
 pub mod Owned
+pub mod DataBits
+pub mod Least

@@ -2,12 +2,13 @@
 use Rattle.std.specs.Prelude.{◌≡◌, ℕ, ◌<◌, ◌^◌, List, [], ◌∷◌, ◌++◌}
 use Rattle.std.specs.Int.{w32, to_be_bytes}
 use Rattle.unit_fields.specs.Names.{IsName, IsCollName}
-use Rattle.row_format.specs.Keys.{coll_key, of_object}
+use Rattle.row_format.specs.Keys.{coll_key, of_object, bitmap_key}
+use Rattle.row_format.specs.Bits.{bit_rows}
 use Rattle.row_format.specs.Row as format
 use Rattle.row_check.specs.declared.key.Part.{Part}
 use Rattle.row_check.specs.declared.key.Part.TheVariants.{Onode, Shard}
 use Rattle.row_check.specs.declared.key.RowKey.{RowKey}
-use Rattle.row_check.specs.declared.key.RowKey.TheVariants.{Collection, Object}
+use Rattle.row_check.specs.declared.key.RowKey.TheVariants.{Collection, Object, Bitmap}
 use Rattle.row_check.specs.declared.row.Row as row
 use Rattle.row_check.specs.declared.row.Row.TheVariants as rows
 
@@ -29,10 +30,12 @@ pub record IsPart (bytes : List ℕ) (part : Part) : Type 0 where
 abbrev pub key_bytes : RowKey → List ℕ
 key_bytes (Collection c) = coll_key c
 key_bytes (Object c o part) = of_object 0x4f c o (part_bytes part)
+key_bytes (Bitmap r) = bitmap_key r
 
 abbrev pub FitsKey : RowKey → Type 0
 FitsKey (Collection c) = IsCollName c
 FitsKey (Object c o part) = IsCollName c × IsName o × FitsPart part
+FitsKey (Bitmap r) = r < bit_rows
 
 -- the bytes are the key of this
 pub record SpellsKey (bytes : List ℕ) (key : RowKey) : Type 0 where
@@ -54,6 +57,7 @@ abbrev pub row_of : row.Row → format.Row
 row_of (rows.Collection c) = format.collection c
 row_of (rows.Onode c o size) = format.onode c o size
 row_of (rows.Shard c o page extents) = format.shard c o page extents
+row_of (rows.Bitmap r bits) = format.bitmap r bits
 
 -- the key and the value are the one spelling of this row
 pub record SpellsRow (key value : List ℕ) (r : format.Row) : Type 0 where

@@ -1,15 +1,17 @@
 //! Whether a row is in its place among the rows of a store.
-ghost use Rattle.std.specs.Prelude.{◌≡◌, ◌↔◌, ◌≤◌, ℕ, IsTrue, IfOk};
+ghost use Rattle.std.specs.Prelude.{◌≡◌, ◌↔◌, ◌≤◌, ◌<◌, ℕ, IsTrue, IfOk, length};
 ghost use Rattle.std.specs.List.{AllByRecursion};
 ghost use Rattle.unit_fields.specs.Names.{IsName, IsCollName};
 ghost use Rattle.row_format.specs.Keys.{coll_key, onode_key};
 ghost use Rattle.row_format.specs.Row.{onode, row_key, FitsRow};
 ghost use Rattle.row_format.specs.Extents.{page_end, Ascend};
 ghost use Rattle.store_image.specs.Pages.{HasKey, HasRow, pages_of};
-ghost use Rattle.store_image.specs.BadRows.{IsOnData, IsInPlace};
+ghost use Rattle.store_image.specs.BadRows.{IsOnData, AreOfData, IsInPlace};
+ghost use Rattle.store_image.specs.Owners.{IsDataUnit};
 ghost use Rattle.onode_codec.specs.Reading.{SpellsOnode};
 ghost use Rattle.row_check.specs.Reading.{row_of};
 ghost use Rattle.row_check.specs.Bad.{EndsBefore, IsWithinOnode, ShardStands, IsWalkedTo};
+ghost use Rattle.row_check.specs.DataBits.{bit_at_place, IsBitOfData};
 
 use crate::row::Row;
 use meta_log::Super;
@@ -18,6 +20,11 @@ use onode_codec::{Body, Extent, Onode, coll_key, onode_key};
 use std::alloc::{AllocError, Global};
 use unit_fields::limits::{OBJECT_LIMIT, UNIT_BYTES};
 use unit_fields::{CollName, Name};
+
+// The bits of so many units stand in one row of the bitmap, and of so many in one byte of it.
+const ROW_UNITS: u32 = 128;
+
+const BYTE_UNITS: u32 = 8;
 
 // Whether an extent's pages are all before this one.
 fn ends_by(extent: &Extent, page: u64) -> bool
@@ -145,6 +152,44 @@ fn shard_stands(
     }
 }
 
+fn is_data_unit(sup: &Super, unit: u64) -> bool
+    ensures { IsTrue result ↔ IsDataUnit sup.now unit }
+{
+    2 + 2 * u64::from(sup.half) <= unit && unit < u64::from(sup.units)
+}
+
+// Whether the bit at this place of a row of the bitmap is 1.
+fn is_one(bits: &[u8], place: u32) -> bool
+    requires size { length bits.now ≡ 16 }
+    requires place { place < 128 }
+    ensures { IsTrue result ↔ (bit_at_place bits.now place ≡ 1) }
+{
+    (bits[(place / BYTE_UNITS) as usize] >> (place % BYTE_UNITS)) & 1 == 1
+}
+
+// Whether the bit at this place of a row of the bitmap is 0, or of a data unit.
+fn is_bit_of_data(sup: &Super, row: u32, bits: &[u8], place: u32) -> bool
+    requires size { length bits.now ≡ 16 }
+    requires place { place < 128 }
+    ensures { IsTrue result ↔ IsBitOfData sup.now row bits.now place }
+{
+    let unit = u64::from(ROW_UNITS) * u64::from(row) + u64::from(place);
+    !is_one(bits, place) || is_data_unit(sup, unit)
+}
+
+// Whether the bits of a row of the bitmap that are 1 are of data units.
+fn are_of_data(sup: &Super, row: u32, bits: &[u8]) -> bool
+    requires { length bits.now ≡ 16 }
+    ensures { IsTrue result ↔ AreOfData sup.now row bits.now }
+{
+    for place in 0..ROW_UNITS {
+        if !is_bit_of_data(sup, row, bits, place) {
+            return false;
+        }
+    }
+    true
+}
+
 /// Whether a row is in its place among all rows, where the rows before it are good and `last` is the last of them.
 pub fn is_in_place(
     alloc: Global,
@@ -176,5 +221,6 @@ pub fn is_in_place(
                 Ok(false)
             }
         }
+        Row::Bitmap { row, bits } => Ok(are_of_data(sup, *row, bits.as_slice())),
     }
 }

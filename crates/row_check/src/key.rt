@@ -1,6 +1,7 @@
 //! Keys read as what they name.
 ghost use Rattle.std.specs.Prelude.{◌≡◌, ◌≢◌, ◌<◌, ◌++◌, ◌∷◌, ℕ, List, length, slice_index, IfOk, IfNone, IfSome, MatchOption};
 ghost use Rattle.std.specs.List.{AllByRecursion};
+ghost use Rattle.std.specs.Int.{w32, to_be_bytes};
 ghost use Rattle.row_check.specs.Reading.{IsPart, part_bytes, IsNoObject, IsNoKey, SpellsObject, SpellsKey};
 ghost use Rattle.row_check.specs.declared.key.Part.{Part};
 
@@ -12,10 +13,15 @@ const COLLECTION: u8 = b'C';
 
 const OBJECT: u8 = b'O';
 
+const BITMAP: u8 = b'b';
+
 // What follows an object's names in the keys of its onode and its shards, and what ends the key of a shard.
 const ONODE: u8 = b'o';
 
 const SHARD: u8 = b'x';
+
+// So many rows have the bits of all units, whose numbers have 32 bits.
+const BIT_ROWS: u32 = 33554432;
 
 /// Which row of an object's own a key names.
 #[derive(Clone, Copy, Debug, PartialEq, Eq)]
@@ -38,6 +44,10 @@ pub enum RowKey {
         coll: CollName,
         object: Name,
         part: Part,
+    },
+    /// The bits of 128 units of the freelist.
+    Bitmap {
+        row: u32,
     },
 }
 
@@ -102,6 +112,20 @@ fn read_object(alloc: Global, bytes: &[u8]) -> Result<Option<RowKey>, AllocError
     Ok(Some(RowKey::Object { coll, object, part }))
 }
 
+// The number of the bitmap's row whose key has these bytes behind its first.
+fn read_bit_row(bytes: &[u8]) -> Option<u32>
+    ensures { MatchOption result ((row : ℕ) → row < 33554432 → bytes.now ≢ to_be_bytes w32 row)
+        (λ row. (row < 33554432) × (bytes.now ≡ to_be_bytes w32 row)) }
+{
+    let mut fields = Fields::new(bytes);
+    let row = fields.u32_be()?;
+    if row < BIT_ROWS && fields.is_empty() {
+        Some(row)
+    } else {
+        None
+    }
+}
+
 /// What these bytes name as the key of a row. None: they are the key of no row that a store has.
 pub fn read_key(alloc: Global, key: &[u8]) -> Result<Option<RowKey>, AllocError>
     ensures { IfOk result (λ found. MatchOption found (IsNoKey key.now) (SpellsKey key.now)) }
@@ -115,6 +139,10 @@ pub fn read_key(alloc: Global, key: &[u8]) -> Result<Option<RowKey>, AllocError>
             None => Ok(None),
         },
         OBJECT => read_object(alloc, rest),
+        BITMAP => match read_bit_row(rest) {
+            Some(row) => Ok(Some(RowKey::Bitmap { row })),
+            None => Ok(None),
+        },
         _ => Ok(None),
     }
 }

@@ -3,6 +3,7 @@ ghost use Rattle.std.specs.Prelude.{ℕ, ◌≡◌, ◌<◌, ◌^◌, IfOk, OnOk
 ghost use Rattle.std.specs.FinSet as set;
 ghost use Rattle.meta_log.specs.Slots.{IsSuper};
 ghost use Rattle.store_image.specs.BadRows.{NoBadRow};
+ghost use Rattle.store_image.specs.Owners.{IsOwned};
 ghost use Rattle.row_check.specs.Reading.{row_of};
 ghost use Rattle.row_check.specs.Marks.{row_marked, RowEndsBy};
 ghost use Rattle.row_check.specs.Owned.{AreOwned, AreShared, AreMarked, AreMarkedOn, SpellsWithin};
@@ -16,11 +17,11 @@ use unit_fields::UnitSet;
 
 /// The units that the rows own, and those of them that have two owners or more.
 #[derive(Debug, Drop)]
-pub struct OwnedUnits {
+pub(crate) struct OwnedUnits {
     /// A page stands on each of these.
-    pub owned: UnitSet,
+    pub(crate) owned: UnitSet,
     /// Two pages or more stand on each of these, of one object or of several.
-    pub shared: UnitSet,
+    pub(crate) shared: UnitSet,
 }
 
 // Marks the units of a row's pages.
@@ -41,6 +42,10 @@ fn mark_pages(marks: &mut UnitMarks, row: &Row)
             page: _page,
             extents,
         } => marks.mark_extents(extents.as_slice()),
+        Row::Bitmap {
+            row: _row,
+            bits: _bits,
+        } => {}
     }
 }
 
@@ -74,7 +79,7 @@ fn marks_of(alloc: Global, sup: &Super, rows: &RowTable) -> Result<UnitMarks, Al
 }
 
 // The units with a mark.
-fn marked_units(alloc: Global, marks: &[bool]) -> Result<UnitSet, AllocError>
+fn units_with_mark(alloc: Global, marks: &[bool]) -> Result<UnitSet, AllocError>
     requires { length marks.now < 2 ^ 32 }
     ensures { IfOk result (λ units. (unit : ℕ) → set.contains units unit ≡ slice_index_or marks.now unit false) }
 {
@@ -87,18 +92,22 @@ fn marked_units(alloc: Global, marks: &[bool]) -> Result<UnitSet, AllocError>
     Ok(UnitSet::from_ascending(units))
 }
 
-/// The units that the rows own, and those of them that have two owners or more: what a mount asks for before it opens a store, so that
-/// the allocator gives none of the first to anybody, and none of the second is ever given back.
+/// The units that the rows own, and those of them that have two owners or more.
 ///
 /// Each row is read once, and two marks are kept for each unit of the device meanwhile.
-pub fn owned_units(alloc: Global, sup: &Super, rows: &RowTable) -> Result<OwnedUnits, AllocError>
+pub(crate) fn owned_units(
+    alloc: Global,
+    sup: &Super,
+    rows: &RowTable,
+) -> Result<OwnedUnits, AllocError>
     requires limits { IsSuper sup.now }
     requires good { NoBadRow sup.now rows.now.rows }
     ensures owned { IfOk result (λ units. AreOwned rows.now.rows units.owned) }
     ensures shared { IfOk result (λ units. AreShared rows.now.rows units.shared) }
+    ensures below { IfOk result (λ units. (unit : ℕ) → IsOwned rows.now.rows unit → unit < sup.now.units) }
 {
     let marks = marks_of(alloc, sup, rows)?;
-    let owned = marked_units(alloc, marks.owned())?;
-    let shared = marked_units(alloc, marks.shared())?;
+    let owned = units_with_mark(alloc, marks.owned())?;
+    let shared = units_with_mark(alloc, marks.shared())?;
     Ok(OwnedUnits { owned, shared })
 }

@@ -9,6 +9,11 @@ const ONODE: &[u8] = b"O1.0_head\0a\0o";
 
 const SHARD: &[u8] = b"O1.0_head\0a\0o\0\0\x01\x02x";
 
+const BITMAP: &[u8] = b"b\0\0\x01\x02";
+
+// The bits of the third and the last unit of a row.
+const BITS: &[u8] = b"\x04\0\0\0\0\0\0\0\0\0\0\0\0\0\0\x80";
+
 // An extent of one page, the page 0x102, on unit 18.
 const ONE_PAGE: &[u8] = b"\x02\x01\0\0\x01\0\0\x12\0\0\0\x01\x02\x03\x04";
 
@@ -31,6 +36,7 @@ fn part_of(alloc: Global, key: &[u8]) -> Result<Option<Part>, AllocError> {
                 None
             })
         }
+        RowKey::Bitmap { row: _row } => Ok(None),
     }
 }
 
@@ -46,6 +52,23 @@ fn is_coll(alloc: Global, key: &[u8]) -> Result<bool, AllocError> {
             object: _object,
             part: _part,
         } => Ok(false),
+        RowKey::Bitmap { row: _row } => Ok(false),
+    }
+}
+
+// The number of the bitmap's row that has this key, if one has it.
+fn bit_row_of(alloc: Global, key: &[u8]) -> Result<Option<u32>, AllocError> {
+    let Some(found) = read_key(alloc, key)? else {
+        return Ok(None);
+    };
+    match found {
+        RowKey::Collection { coll: _coll } => Ok(None),
+        RowKey::Object {
+            coll: _coll,
+            object: _object,
+            part: _part,
+        } => Ok(None),
+        RowKey::Bitmap { row } => Ok(Some(row)),
     }
 }
 
@@ -59,6 +82,17 @@ fn keys(rt: HostRuntime) -> Result<(), Fail> {
     assert_eq!(rt; part_of(rt.alloc(), COLL)?, None);
     assert!(rt; is_coll(rt.alloc(), COLL)?);
     assert!(rt; !is_coll(rt.alloc(), ONODE)?);
+    Ok(())
+}
+
+#[test]
+fn keys_of_the_bitmap(rt: HostRuntime) -> Result<(), Fail> {
+    assert_eq!(rt; bit_row_of(rt.alloc(), BITMAP)?, Some(0x102));
+    assert_eq!(rt;
+        bit_row_of(rt.alloc(), b"b\x01\xff\xff\xff")?,
+        Some(33554431)
+    );
+    assert_eq!(rt; bit_row_of(rt.alloc(), COLL)?, None);
     Ok(())
 }
 
@@ -79,6 +113,10 @@ const NO_KEYS: &[(&str, &[u8])] = &[
     ("three bytes of a page", b"O1.0_head\0a\0o\0\0\0x"),
     ("another byte behind the page", b"O1.0_head\0a\0o\0\0\0\0y"),
     ("a byte behind a shard's key", b"O1.0_head\0a\0o\0\0\0\0xx"),
+    ("the bitmap's kind alone", b"b"),
+    ("three bytes of a row's number", b"b\0\0\0"),
+    ("a byte behind a row's number", b"b\0\0\0\0\0"),
+    ("a row behind that of the last unit", b"b\x02\0\0\0"),
 ];
 
 #[test]
@@ -115,6 +153,11 @@ fn said(alloc: Global, key: &[u8], value: &[u8]) -> Result<&'static str, AllocEr
         } else {
             "other extents"
         }),
+        Row::Bitmap { row, bits } => Ok(if row == 0x102 && bits.as_slice() == BITS {
+            "these bits"
+        } else {
+            "other bits"
+        }),
     }
 }
 
@@ -124,6 +167,7 @@ fn rows(rt: HostRuntime) -> Result<(), Fail> {
     assert_eq!(rt; said(alloc, COLL, b"")?, "a collection");
     assert_eq!(rt; said(alloc, ONODE, b"\x09\0\0\0\0\0\0\0")?, "nine bytes");
     assert_eq!(rt; said(alloc, SHARD, ONE_PAGE)?, "one extent");
+    assert_eq!(rt; said(alloc, BITMAP, BITS)?, "these bits");
     Ok(())
 }
 
@@ -141,6 +185,22 @@ const NO_ROWS: &[(&str, &[u8], &[u8])] = &[
         SHARD,
         b"\x02\x01\0\0\0\0\0\x12\0\0\0",
     ),
+    (
+        "15 bytes of bits",
+        BITMAP,
+        b"\x04\0\0\0\0\0\0\0\0\0\0\0\0\0\x80",
+    ),
+    (
+        "17 bytes of bits",
+        BITMAP,
+        b"\x04\0\0\0\0\0\0\0\0\0\0\0\0\0\0\x80\0",
+    ),
+    (
+        "no bit that is 1",
+        BITMAP,
+        b"\0\0\0\0\0\0\0\0\0\0\0\0\0\0\0\0",
+    ),
+    ("no bits", BITMAP, b""),
 ];
 
 #[test]

@@ -1,15 +1,19 @@
 //! Keys and values read as rows.
-ghost use Rattle.std.specs.Prelude.{◌↔◌, IsTrue, IfOk, MatchOption};
+ghost use Rattle.std.specs.Prelude.{◌≡◌, ◌↔◌, ◌<◌, false, length, All, IsTrue, IfOk, MatchOption};
+ghost use Rattle.meta_rows.specs.Rows.{all_zero};
 ghost use Rattle.unit_fields.specs.Names.{IsName, IsCollName};
-ghost use Rattle.row_format.specs.Keys.{onode_key, shard_key};
+ghost use Rattle.row_format.specs.Keys.{onode_key, shard_key, bitmap_key};
 ghost use Rattle.row_format.specs.Extents.{BeginsAt};
 ghost use Rattle.row_check.specs.Reading.{row_of, SpellsRow, IsNoRow};
 
 use crate::key::{Part, RowKey, read_key};
-use byte_maps::Items;
+use byte_maps::{Bytes, Items};
 use onode_codec::{Extent, Onode, decode_extents};
 use std::alloc::{AllocError, Global};
 use unit_fields::{CollName, Name};
+
+// The bytes of a row of the bitmap.
+const ROW_BYTES: usize = 16;
 
 /// A row by what it says.
 #[derive(Debug, Drop)]
@@ -30,6 +34,11 @@ pub enum Row {
         object: Name,
         page: u32,
         extents: Items<Extent>,
+    },
+    /// These are the bits of 128 units of the freelist.
+    Bitmap {
+        row: u32,
+        bits: Bytes,
     },
 }
 
@@ -87,6 +96,33 @@ fn read_shard(
     }))
 }
 
+// Whether no byte is other than zero.
+fn is_zero(bytes: &[u8]) -> bool
+    ensures { IsTrue result ↔ All (λ byte. byte ≡ 0) bytes.now }
+{
+    bytes.iter().all(|byte| *byte == 0)
+}
+
+// Whether this is the value of a row of the bitmap.
+fn are_bits(value: &[u8]) -> bool
+    ensures { IsTrue result ↔ ((length value.now ≡ 16) × (all_zero value.now ≡ false)) }
+{
+    value.len() == ROW_BYTES && !is_zero(value)
+}
+
+// The row of the bitmap with this value.
+fn read_bits(alloc: Global, row: u32, value: &[u8]) -> Result<Option<Row>, AllocError>
+    requires { row < 33554432 }
+    ensures { IfOk result (λ found. MatchOption found (IsNoRow (bitmap_key row) value.now)
+        (λ r. SpellsRow (bitmap_key row) value.now (row_of r))) }
+{
+    if !are_bits(value) {
+        return Ok(None);
+    }
+    let bits = Bytes::from_slice(alloc, value)?;
+    Ok(Some(Row::Bitmap { row, bits }))
+}
+
 /// The row that a key and a value spell. None: they spell none that a store has. Whether the row fits the rows around it is not
 /// looked at.
 pub fn read_row(alloc: Global, key: &[u8], value: &[u8]) -> Result<Option<Row>, AllocError>
@@ -100,5 +136,6 @@ pub fn read_row(alloc: Global, key: &[u8], value: &[u8]) -> Result<Option<Row>, 
             Part::Onode => Ok(read_onode(coll, object, value)),
             Part::Shard { page } => read_shard(alloc, coll, object, page, value),
         },
+        Some(RowKey::Bitmap { row }) => read_bits(alloc, row, value),
     }
 }

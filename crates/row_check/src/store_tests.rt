@@ -1,5 +1,6 @@
-//! Whole tables: their least bad row, and the units that they own.
-use crate::{find_bad_row, owned_units};
+//! Whole tables: their least bad row, the units that they own, and those that their bitmap marks.
+use crate::owners::owned_units;
+use crate::{find_bad_row, marked_units};
 use byte_maps::Bytes;
 use meta_log::Super;
 use meta_rows::{RowOp, RowTable};
@@ -39,6 +40,10 @@ const SHARD_B0: &[u8] = b"O1.0_head\0b\0o\0\0\0\0x";
 
 const SHARD_B1: &[u8] = b"O1.0_head\0b\0o\0\0\0\x01x";
 
+const BITMAP_0: &[u8] = b"b\0\0\0\0";
+
+const BITMAP_1: &[u8] = b"b\0\0\0\x01";
+
 // Sizes of an object.
 const ONE_PAGE: &[u8] = b"\0\x10\0\0\0\0\0\0";
 
@@ -67,6 +72,21 @@ const TWO_ON_21: &[u8] = b"\0\0\0\0\x02\0\0\x15\0\0\0ccccdddd";
 const NEXT_ON_18: &[u8] = b"\x01\0\0\0\x01\0\0\x12\0\0\0cccc";
 
 const THREE_ON_TWO: &[u8] = b"\0\0\0\0\x02\0\0\x14\0\0\0ccccdddd\x02\0\0\0\x01\0\0\x14\0\0\0cccc";
+
+// Bits of a row of the bitmap by their units, where it is row 0.
+const BIT_17: &[u8] = b"\0\0\x02\0\0\0\0\0\0\0\0\0\0\0\0\0";
+
+const BIT_18: &[u8] = b"\0\0\x04\0\0\0\0\0\0\0\0\0\0\0\0\0";
+
+const BIT_20: &[u8] = b"\0\0\x10\0\0\0\0\0\0\0\0\0\0\0\0\0";
+
+const BITS_21_22: &[u8] = b"\0\0\x60\0\0\0\0\0\0\0\0\0\0\0\0\0";
+
+const BITS_20_TO_22: &[u8] = b"\0\0\x70\0\0\0\0\0\0\0\0\0\0\0\0\0";
+
+const BITS_18_99: &[u8] = b"\0\0\x04\0\0\0\0\0\0\0\0\0\x08\0\0\0";
+
+const BIT_100: &[u8] = b"\0\0\0\0\0\0\0\0\0\0\0\0\x10\0\0\0";
 
 // Pages 0 and 1, and page 1 again.
 const OVERLAP: &[u8] = b"\0\0\0\0\x02\0\0\x14\0\0\0ccccdddd\x01\0\0\0\x01\0\0\x1e\0\0\0cccc";
@@ -171,6 +191,21 @@ const BAD: &[(&str, &[Entry], &[u8])] = &[
         SHARD_A0,
     ),
     (
+        "a bit of a unit below the data units",
+        &[(COLL, EMPTY), (BITMAP_0, BIT_17)],
+        BITMAP_0,
+    ),
+    (
+        "a bit beyond the last unit",
+        &[(COLL, EMPTY), (BITMAP_0, BIT_100)],
+        BITMAP_0,
+    ),
+    (
+        "bits of a row beyond the last unit",
+        &[(BITMAP_1, BIT_18), (BITMAP_0, BIT_18)],
+        BITMAP_1,
+    ),
+    (
         "two bad rows",
         &[
             (KEY_Z, EMPTY),
@@ -194,6 +229,7 @@ fn bad_rows(rt: HostRuntime) -> Result<(), Fail> {
 fn good_rows(rt: HostRuntime) -> Result<(), Fail> {
     assert!(rt; is_good(rt.alloc(), GOOD)?);
     assert!(rt; is_good(rt.alloc(), &[])?);
+    assert!(rt; is_good(rt.alloc(), &[(BITMAP_0, BITS_18_99)])?);
     Ok(())
 }
 
@@ -332,5 +368,137 @@ fn owners_by_many_shards(rt: HostRuntime) -> Result<(), Fail> {
         owned.push(unit)?;
     }
     assert!(rt; are_owned(alloc, &table, &owned, &[95, 96, 97])?);
+    Ok(())
+}
+
+// Whether these are the units that the bitmap marks, where no row is bad and no unit is wrong.
+fn are_marked(alloc: Global, table: &RowTable, units: &[u32]) -> Result<bool, AllocError> {
+    if find_bad_row(alloc, &STORE, table)?.is_some() {
+        return Ok(false);
+    }
+    match marked_units(alloc, &STORE, table)? {
+        Ok(marked) => Ok(marked.as_slice() == units),
+        Err(_unit) => Ok(false),
+    }
+}
+
+const MARKED: &[(&str, &[Entry], &[u32])] = &[
+    ("no rows", &[], &[]),
+    (
+        "one page",
+        &[
+            (COLL, EMPTY),
+            (ONODE_A, ONE_PAGE),
+            (SHARD_A0, PAGE_ON_18),
+            (BITMAP_0, BIT_18),
+        ],
+        &[18],
+    ),
+    (
+        "a leaked unit beside it",
+        &[
+            (COLL, EMPTY),
+            (ONODE_A, ONE_PAGE),
+            (SHARD_A0, PAGE_ON_18),
+            (BITMAP_0, BITS_18_99),
+        ],
+        &[18, 99],
+    ),
+    ("leaked units alone", &[(BITMAP_0, BITS_18_99)], &[18, 99]),
+];
+
+#[test]
+fn marks_of_the_bitmap(rt: HostRuntime) -> Result<(), Fail> {
+    for (what, rows, units) in MARKED {
+        let table = table_of(rt.alloc(), rows)?;
+        assert!(rt; are_marked(rt.alloc(), &table, units)?, "{what}");
+    }
+    Ok(())
+}
+
+// Whether this is the least unit with an owner and no mark, or with two owners, where no row is bad.
+fn is_least_wrong(alloc: Global, table: &RowTable, unit: u32) -> Result<bool, AllocError> {
+    if find_bad_row(alloc, &STORE, table)?.is_some() {
+        return Ok(false);
+    }
+    match marked_units(alloc, &STORE, table)? {
+        Ok(_marked) => Ok(false),
+        Err(found) => Ok(found.number() == unit),
+    }
+}
+
+const WRONG: &[(&str, &[Entry], u32)] = &[
+    (
+        "no mark",
+        &[(COLL, EMPTY), (ONODE_A, THREE_PAGES), (SHARD_A0, TWO_ON_20)],
+        20,
+    ),
+    (
+        "a mark at the first of two units",
+        &[
+            (COLL, EMPTY),
+            (ONODE_A, THREE_PAGES),
+            (SHARD_A0, TWO_ON_20),
+            (BITMAP_0, BIT_20),
+        ],
+        21,
+    ),
+    (
+        "one unit of two objects",
+        &[
+            (COLL, EMPTY),
+            (ONODE_A, ONE_PAGE),
+            (SHARD_A0, PAGE_ON_18),
+            (ONODE_B, ONE_PAGE),
+            (SHARD_B0, PAGE_ON_18),
+            (BITMAP_0, BIT_18),
+        ],
+        18,
+    ),
+    (
+        "the second unit of one object and the first of another",
+        &[
+            (COLL, EMPTY),
+            (ONODE_A, THREE_PAGES),
+            (SHARD_A0, TWO_ON_20),
+            (ONODE_B, THREE_PAGES),
+            (SHARD_B0, TWO_ON_21),
+            (BITMAP_0, BITS_20_TO_22),
+        ],
+        21,
+    ),
+    (
+        "no mark, and two owners of a greater unit",
+        &[
+            (COLL, EMPTY),
+            (ONODE_A, THREE_PAGES),
+            (SHARD_A0, TWO_ON_20),
+            (ONODE_B, THREE_PAGES),
+            (SHARD_B0, TWO_ON_21),
+            (BITMAP_0, BITS_21_22),
+        ],
+        20,
+    ),
+    (
+        "two owners, and no marks at greater units",
+        &[
+            (COLL, EMPTY),
+            (ONODE_A, ONE_PAGE),
+            (SHARD_A0, PAGE_ON_18),
+            (ONODE_B, LARGEST),
+            (SHARD_B0, PAGE_ON_18),
+            (SHARD_B1, NEXT_ON_98),
+            (BITMAP_0, BIT_18),
+        ],
+        18,
+    ),
+];
+
+#[test]
+fn units_that_are_wrong(rt: HostRuntime) -> Result<(), Fail> {
+    for (what, rows, unit) in WRONG {
+        let table = table_of(rt.alloc(), rows)?;
+        assert!(rt; is_least_wrong(rt.alloc(), &table, *unit)?, "{what}");
+    }
     Ok(())
 }

@@ -1,8 +1,8 @@
 use Rattle.std.proofs.Common.{◌+◌, ap, sym, subst, ◌∙◌}
 use Rattle.std.specs.FinSet as set
 use Rattle.row_check.proofs.Collected.{Collected, passed_over, put_in, all_collected}
-use Rattle.row_check.proofs.owners.marked_units.Goals as goal
-use Rattle.row_check.proofs.owners.marked_units.Goals.{then-marked+in_ok-push, else-marked}
+use Rattle.row_check.proofs.owners.units_with_mark.Goals as goal
+use Rattle.row_check.proofs.owners.units_with_mark.Goals.{then-marked+in_ok-push, else-marked}
 
 pub loop-unit-preserved : goal.loop-unit-preserved
 loop-unit-preserved c = elim c.if-marked.branch [

@@ -7,15 +7,16 @@ use Rattle.meta_rows.specs.Rows.{Rows}
 use Rattle.meta_log.specs.declared.slot.Super.{Super}
 use Rattle.object_model.specs.Effect.{object_limit}
 use Rattle.unit_fields.specs.Names.{IsName, IsCollName}
-use Rattle.row_format.specs.Keys.{coll_key, onode_key, shard_key}
+use Rattle.row_format.specs.Keys.{coll_key, onode_key, shard_key, bitmap_key}
 use Rattle.row_format.specs.Extents.{Extent, FitsExtent, BeginsAt, Ascend, Place, place_of, page_end}
-use Rattle.row_format.specs.Row.{Row, collection, onode, shard, row_key, row_value, FitsRow, FitsShard}
-use Rattle.row_format.proofs.KeyLemmas.{same_head, same_onode, same_shard, coll_no_object, onode_no_shard}
+use Rattle.row_format.specs.Row.{Row, collection, onode, shard, bitmap, row_key, row_value, FitsRow, FitsShard}
+use Rattle.row_format.proofs.KeyLemmas.{same_head, same_onode, same_shard, coll_no_object, onode_no_shard, bitmap_no_object}
 use Rattle.row_format.proofs.RowLemmas.{same_row}
 use Rattle.store_image.specs.Pages.{HasKey, HasRow, IsPageAt, pages_of}
 use Rattle.store_image.specs.BadRows.{IsOnData, IsShardInPlace, IsInPlace, IsGoodRow, NoBadRow}
-use Rattle.store_image.specs.Owners.{Owner, page_of, Owns, IsOwned}
+use Rattle.store_image.specs.Owners.{Owner, page_of, Owns, IsOwned, IsMarked}
 use Rattle.store_image.proofs.PageMap.{in_place}
+use Rattle.row_facts.proofs.Bits.{bits_stay}
 use Rattle.row_facts.proofs.ObjectUnder.{object_cases}
 use Rattle.row_facts.proofs.Shapes.{SameOthers}
 use Rattle.object_rows.specs.Operations.{CanReplace, replaced, IsKeyOf, IsOther, HasUnit, IsOwnedElsewhere}
@@ -63,10 +64,13 @@ module _ (rows after : Rows) (c o : List ℕ) (size : ℕ) (extents : List Exten
   key_same key other = elim (are.others key) [ inl own ↦ absurd (other own) | inr same ↦ same ]
 
   pub kind_same : SameOthers rows after
-  kind_same k rest a b = key_same (k ∷ rest) (λ own. elim own [ inl e ↦ b (same_head _ _ _ _ e) | inr p ↦ b (same_head _ _ _ _ p.2) ])
+  kind_same k rest a b bits = key_same (k ∷ rest) (λ own. elim own [ inl e ↦ b (same_head _ _ _ _ e) | inr p ↦ b (same_head _ _ _ _ p.2) ])
 
   pub coll_same : (d : List ℕ) → map.get after (coll_key d) ≡ map.get rows (coll_key d)
   coll_same d = key_same (coll_key d) (λ own. elim own [ inl e ↦ coll_no_object d c o _ e | inr p ↦ coll_no_object d c o _ p.2 ])
+
+  pub bits_same : (r : ℕ) → map.get after (bitmap_key r) ≡ map.get rows (bitmap_key r)
+  bits_same r = key_same (bitmap_key r) (λ own. elim own [ inl e ↦ bitmap_no_object r c o _ e | inr p ↦ bitmap_no_object r c o _ p.2 ])
 
   module _ (d u : List ℕ) (coll_is : IsCollName d) (name_is : IsName u) (other : IsOther c o d u) where
     pub onode_same : map.get after (onode_key d u) ≡ map.get rows (onode_key d u)
@@ -236,6 +240,7 @@ module _ (rows after : Rows) (c o : List ℕ) (size : ℕ) (extents : List Exten
           (subst (IsShardInPlace s after c o page) (sym own.3) (new_in_place page own.2)))
       | inr old ↦ old_in_place d u page es old.0 old.1
     ]
+    placed (bitmap r bits) has = in_place s rows (bitmap r bits) good (record { fits = has.fits; stands = sym (bits_same r) ∙ has.stands })
 
     -- a row by its key and its value
     good_row : (key value : List ℕ) (x : Row) → map.get after key ≡ Some value → FitsRow x → key ≡ row_key x → value ≡ row_value x
@@ -302,3 +307,7 @@ module _ (s : Super) (rows : Rows) (c o : List ℕ) (size : ℕ) (extents : List
 
   pub then_onodes : (d u : List ℕ) → IsCollName d → IsName u → IsOther c o d u → map.get then (onode_key d u) ≡ map.get rows (onode_key d u)
   then_onodes = onode_same rows then c o size extents can.coll_name can.object_name can.size_most can.fit are_then
+
+  -- no bit changes
+  pub then_bits : (unit : ℕ) → IsMarked then unit ↔ IsMarked rows unit
+  then_bits = bits_stay rows then (bits_same rows then c o size extents can.coll_name can.object_name can.size_most can.fit are_then)

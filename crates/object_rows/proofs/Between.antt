@@ -12,8 +12,7 @@ use Rattle.number_map.proofs.Search.{cmp_equal, cmp_less, cmp_greater, less_is}
 use Rattle.meta_rows.specs.Rows.{Rows}
 use Rattle.row_format.specs.Extents.{Place}
 use Rattle.store_image.specs.Pages.{IsPageAt}
-use Rattle.store_image.specs.Owners.{page_of}
-use Rattle.row_facts.specs.SoleOwners.{HasSoleOwner}
+use Rattle.store_image.specs.Owners.{page_of, HasSoleOwner}
 use Rattle.blob_map.specs.Pages.{PageMap}
 use Rattle.object_rows.specs.Maps.{IsMapOf}
 use Rattle.object_rows.specs.Plans.{units_between}
@@ -42,6 +41,15 @@ index_in : (us : List ℕ) (j : ℕ) → j < length us → In us (slice_index us
 index_in [] j lt = absurd (omega (arith, lt))
 index_in (u ∷ us) zero lt = inl refl
 index_in (u ∷ us) (suc j) lt = inr (index_in us j (omega (arith, lt)))
+
+-- a list contains what stands at one of its places
+pub at_index : (us : List ℕ) (v : ℕ) → Contains us v ↔ ((i : ℕ) × (i < length us) × (slice_index us i ≡ v))
+at_index us v = (λ k. found us (at_in us v k.0 k.1 k.2), λ p. in_at us v (subst (In us) p.2 (index_in us p.0 p.1)))
+  where
+    found : (us : List ℕ) → In us v → (i : ℕ) × (i < length us) × (slice_index us i ≡ v)
+    found [] h = absurd h
+    found (u ∷ us) (inl is) = (0, omega arith, is)
+    found (u ∷ us) (inr later) = let c = found us later in (suc c.0, omega (arith, c.1), c.2)
 
 -- it doesn't come twice
 abbrev NotTwice : List ℕ → ℕ → Type 0

@@ -9,7 +9,7 @@ use Rattle.row_format.specs.Extents.{Extent, Body, private, page_count, page_end
 use Rattle.row_format.specs.Row.{onode, shard}
 use Rattle.store_image.specs.Pages.{HasRow, IsPageAt, pages_of}
 use Rattle.store_image.specs.BadRows.{IsOnData, IsShardInPlace, NoBadRow}
-use Rattle.store_image.specs.Owners.{IsDataUnit}
+use Rattle.store_image.specs.Owners.{Owner, page_of, Owns, IsDataUnit, IsOwned}
 use Rattle.store_image.proofs.PageMap.{in_place}
 
 pub all_map : {X : Type 0} (P Q : X → Type 0) → ((x : X) → P x → Q x) → (xs : List X) → AllByRecursion P xs → AllByRecursion Q xs
@@ -81,3 +81,15 @@ module _ (s : Super) (rows : Rows) (c o : List ℕ) (good : NoBadRow s rows) whe
         on_data = subst (λ p. IsDataUnit s p.unit) b.is (data_unit_of s b.extent.body (page - b.extent.first) b.holds (omega (arith, b.from, b.below)));
         csum = subst (λ p. p.csum < 2 ^ 32) d.is (csum_of d.extent.body (page - d.extent.first) d.holds.body (omega (arith, d.from, d.below)));
       }
+
+-- an owned unit is a data unit
+pub owned_is_data : (s : Super) (rows : Rows) (unit : ℕ) → NoBadRow s rows → IsOwned rows unit → IsDataUnit s unit
+owned_is_data s rows unit good owned = by owned.0 owned.1
+  where
+    by : (owner : Owner) → Owns rows owner unit → IsDataUnit s unit
+    by (page_of c o page) owns =
+        let is = owns.1 in
+        let on = (placed s rows c o good is.first is.extents is.has_shard).on_data in
+        let b = found_in (λ e. IsOnData s e.body) is.extents page owns.0 on is.has_page in
+        let unit_is : (place_in b.extent.body (page - b.extent.first)).unit ≡ unit = ap (λ p. p.unit) b.is ∙ owns.2 in
+        subst (IsDataUnit s) unit_is (data_unit_of s b.extent.body (page - b.extent.first) b.holds (omega (arith, b.from, b.below)))

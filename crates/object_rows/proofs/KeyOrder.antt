@@ -1,5 +1,5 @@
 -- The operations are in the order of their keys.
-use Rattle.std.proofs.Common.{◌≡◌, inl, inr, ℕ, ◌+◌, ◌*◌, ◌/◌, ◌%◌, ◌<◌, ◌^◌, Bool, cond, List, [], ◌∷◌, ◌++◌, refl, sym, ap, subst, ◌∙◌, arith}
+use Rattle.std.proofs.Common.{◌≡◌, inl, inr, ℕ, suc, ◌+◌, ◌*◌, ◌/◌, ◌%◌, ◌<◌, ◌^◌, Bool, cond, List, [], ◌∷◌, ◌++◌, refl, sym, ap, subst, ◌∙◌, arith}
 use Rattle.std.specs.Prelude.{nat_lt, filter}
 use Rattle.std.specs.List.{AllByRecursion}
 use Rattle.std.specs.Int.{w32, to_be_bytes}
@@ -13,12 +13,14 @@ use Rattle.meta_rows.specs.Rows.{Rows, key_of}
 use Rattle.meta_rows.specs.declared.row_op.RowOp.{RowOp}
 use Rattle.meta_rows.specs.declared.row_op.RowOp.TheVariants.{Drop}
 use Rattle.meta_log.specs.declared.slot.Super.{Super}
-use Rattle.row_format.specs.Keys.{of_object, onode_key, shard_key}
+use Rattle.row_format.specs.Keys.{of_object, onode_key, shard_key, bitmap_key}
 use Rattle.row_format.specs.Extents.{Extent, FitsExtent}
 use Rattle.row_format.specs.Row.{onode, shard}
 use Rattle.row_facts.specs.Operations.{set_row}
-use Rattle.object_rows.specs.Operations.{says, drops, shard_ops, object_ops, CanReplace, Climb, KeysAscend}
-use Rattle.object_rows.proofs.Ops.{all_append, all_kept, all_pass, lower}
+use Rattle.bitmap_freelist.specs.Bitmap.{Units, AreFlips, AreFlipsFrom}
+use Rattle.object_rows.specs.Operations.{says, drops, shard_ops, object_ops, CanReplace, IsKeyOf, Climb, KeysAscend}
+use Rattle.object_rows.proofs.GoodPages.{all_map}
+use Rattle.object_rows.proofs.Ops.{all_append, all_kept, all_pass, lower, object_ops_own}
 use Rattle.object_rows.proofs.Shards.{both_all}
 
 -- ---- keys
@@ -168,3 +170,54 @@ module _ (c o : List ℕ) where
 pub ops_ascend : (s : Super) (rows : Rows) (c o : List ℕ) (size : ℕ) (extents : List Extent) (present : List ℕ)
     → CanReplace s rows c o size extents present → Climb present → KeysAscend (object_ops rows c o size extents present)
 ops_ascend s rows c o size extents present can climb = all_ascend c o present climb can.shards.below rows size extents can.fit
+
+-- ---- operations on the bitmap behind them
+
+bitmap_less : (q r : ℕ) → q < r → r < 2 ^ 32 → byte_order (bitmap_key q) (bitmap_key r) ≡ Less
+bitmap_less q r lt fits = head_same 0x62 0x62 (to_be_bytes w32 q) (to_be_bytes w32 r) refl (number_less q r [] [] lt fits)
+
+-- those on later rows have later keys
+later_flips : (units : Units) (from : ℕ) (flips : List RowOp) → AreFlipsFrom units from flips → (q : ℕ) → q < from
+    → AllByRecursion (λ op. byte_order (bitmap_key q) (key_of op) ≡ Less) flips
+later_flips units from [] are q lt = tt
+later_flips units from (op ∷ ops) are q lt =
+    let next = are.1 in
+    let above : q < are.0 = omega (arith, lt, next.from_there) in (
+      ap (λ x. byte_order (bitmap_key q) (key_of x)) next.is ∙ bitmap_less q are.0 above (omega (arith, next.below)),
+      later_flips units (suc are.0) ops are.2 q (omega (arith, above)),
+    )
+
+flips_ascend : (units : Units) (from : ℕ) (flips : List RowOp) → AreFlipsFrom units from flips → KeysAscend flips
+flips_ascend units from [] are = tt
+flips_ascend units from (op ∷ ops) are =
+    let own : bitmap_key are.0 ≡ key_of op = sym (ap key_of are.1.is) in (
+      subst (λ key. AllByRecursion (λ later. byte_order key (key_of later) ≡ Less) ops) own
+          (later_flips units (suc are.0) ops are.2 are.0 (omega arith)),
+      flips_ascend units (suc are.0) ops are.2,
+    )
+
+-- an object's keys are before all of them
+own_before : (c o key : List ℕ) (r : ℕ) → IsKeyOf c o key → byte_order key (bitmap_key r) ≡ Less
+own_before c o key r own = elim own [
+  | inl e ↦ ap (λ k. byte_order k (bitmap_key r)) e ∙ head_less 0x4f 0x62 (c ++ 0 ∷ (o ++ 0 ∷ (0x6f ∷ []))) (to_be_bytes w32 r) (omega arith)
+  | inr p ↦ ap (λ k. byte_order k (bitmap_key r)) p.2
+      ∙ head_less 0x4f 0x62 (c ++ 0 ∷ (o ++ 0 ∷ (0x6f ∷ to_be_bytes w32 p.0 ++ 0x78 ∷ []))) (to_be_bytes w32 r) (omega arith)
+]
+
+flips_behind : (c o key : List ℕ) (units : Units) (from : ℕ) (flips : List RowOp) → IsKeyOf c o key → AreFlipsFrom units from flips
+    → AllByRecursion (λ op. byte_order key (key_of op) ≡ Less) flips
+flips_behind c o key units from [] own are = tt
+flips_behind c o key units from (op ∷ ops) own are = (
+  ap (λ x. byte_order key (key_of x)) are.1.is ∙ own_before c o key are.0 own,
+  flips_behind c o key units (suc are.0) ops own are.2,
+)
+
+pub with_flips_ascend : (s : Super) (rows : Rows) (c o : List ℕ) (size : ℕ) (extents : List Extent) (present : List ℕ)
+    → CanReplace s rows c o size extents present → Climb present → (units : Units) (flips : List RowOp) → AreFlips units flips
+    → KeysAscend (object_ops rows c o size extents present ++ flips)
+with_flips_ascend s rows c o size extents present can climb units flips are =
+    joined c o (object_ops rows c o size extents present) flips (ops_ascend s rows c o size extents present can climb)
+    (flips_ascend units 0 flips are)
+    (all_map (λ op. IsKeyOf c o (key_of op)) (λ op. AllByRecursion (λ later. byte_order (key_of op) (key_of later) ≡ Less) flips)
+    (λ op own. flips_behind c o (key_of op) units 0 flips own are) (object_ops rows c o size extents present)
+    (object_ops_own s rows c o size extents present can))

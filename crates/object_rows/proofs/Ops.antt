@@ -285,22 +285,27 @@ pub record AreReplaced (rows after : Rows) (c o : List ℕ) (size : ℕ) (extent
   pub no_other : (page : ℕ) → page < 2 ^ 32 → (BeginsAt page extents → ⊥) → map.get after (shard_key c o page) ≡ None
   pub others : (key : List ℕ) → IsKeyOf c o key ⊎ (map.get after key ≡ map.get rows key)
 
-pub are_replaced : (s : Super) (rows : Rows) (c o : List ℕ) (size : ℕ) (extents : List Extent) (present : List ℕ)
-    → CanReplace s rows c o size extents present → AreReplaced rows (replaced rows c o size extents present) c o size extents
-are_replaced s rows c o size extents present can =
-    let first : Rows = with_onode rows c o size in
-    let all : (page : ℕ) → page < 2 ^ 32 → HasKey first (shard_key c o page) → In page present = λ page lt has. contained page present
-    (can.shards.all page lt (sym (ap is_some (onode_others rows c o size (shard_key c o page)
-    (λ e. onode_no_shard c o c o page can.coll_name can.object_name can.coll_name can.object_name (sym e)))) ∙ has)) in
-    let made = sharded c o can.coll_name can.object_name first present can.shards.below all extents can.fit in
-    let cut : rows_after first (shard_ops c o extents present) ≡ replaced rows c o size extents present =
-    sym (rows_after-append rows (onode_ops rows c o size) (shard_ops c o extents present)) in
-    let shards = subst (λ m. Sharded c o can.coll_name can.object_name first m extents) cut made in
-    record {
-      onode = shards.onode ∙ onode_put rows c o size;
-      shard = shards.shard;
-      no_other = shards.no_other;
-      others = λ key. own_or_same c o (object_ops rows c o size extents present) rows key
-          (all_append (λ op. IsKeyOf c o (key_of op)) (onode_ops rows c o size) (shard_ops c o extents present) (onode_own rows c o size)
-          (shards_own c o can.coll_name can.object_name first present can.shards.below all extents can.fit));
-    }
+module _ (s : Super) (rows : Rows) (c o : List ℕ) (size : ℕ) (extents : List Extent) (present : List ℕ)
+    (can : CanReplace s rows c o size extents present) where
+  shards_there : (page : ℕ) → page < 2 ^ 32 → HasKey (with_onode rows c o size) (shard_key c o page) → In page present
+  shards_there page lt has = contained page present (can.shards.all page lt (sym (ap is_some (onode_others rows c o size (shard_key c o page)
+      (λ e. onode_no_shard c o c o page can.coll_name can.object_name can.coll_name can.object_name (sym e)))) ∙ has))
+
+  -- each key is the object's
+  pub object_ops_own : AllByRecursion (λ op. IsKeyOf c o (key_of op)) (object_ops rows c o size extents present)
+  object_ops_own = all_append (λ op. IsKeyOf c o (key_of op)) (onode_ops rows c o size) (shard_ops c o extents present) (onode_own rows c o size)
+      (shards_own c o can.coll_name can.object_name (with_onode rows c o size) present can.shards.below shards_there extents can.fit)
+
+  pub are_replaced : AreReplaced rows (replaced rows c o size extents present) c o size extents
+  are_replaced =
+      let first : Rows = with_onode rows c o size in
+      let made = sharded c o can.coll_name can.object_name first present can.shards.below shards_there extents can.fit in
+      let cut : rows_after first (shard_ops c o extents present) ≡ replaced rows c o size extents present =
+      sym (rows_after-append rows (onode_ops rows c o size) (shard_ops c o extents present)) in
+      let shards = subst (λ m. Sharded c o can.coll_name can.object_name first m extents) cut made in
+      record {
+        onode = shards.onode ∙ onode_put rows c o size;
+        shard = shards.shard;
+        no_other = shards.no_other;
+        others = λ key. own_or_same c o (object_ops rows c o size extents present) rows key object_ops_own;
+      }

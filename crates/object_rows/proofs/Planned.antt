@@ -1,14 +1,16 @@
 -- What holds of every transaction that is planned.
-use Rattle.std.proofs.Common.{◌≡◌, ◌⊎◌, ◌↔◌, inl, inr, ℕ, ◌+◌, ◌*◌, ◌<◌, ◌≤◌, List, [], length, ◌++◌, Any, Contains, Ok, is_ok, refl, sym, ap, subst, ◌∙◌, length-append, arith}
+use Rattle.std.proofs.Common.{◌≡◌, ◌⊎◌, ◌↔◌, inl, inr, ℕ, ◌+◌, ◌*◌, ◌<◌, ◌≤◌, List, [], ◌∷◌, length, ◌++◌, Any, Contains, Ok, is_ok, refl, sym, ap, subst, ◌∙◌, length-append, arith}
 use Rattle.std.specs.Prelude.{IsOk, max, slice_index, ◌^◌}
 use Rattle.std.specs.List.{AllByRecursion}
 use Rattle.std.specs.FinMap as finite
 use Rattle.std.specs.Int.{w32, to_le_bytes}
+use Rattle.std.proofs.lemmas.Grind.{flat_map-append}
 use Rattle.byte_maps.specs.Units.{unit_at, units_for}
 use Rattle.crc32c_csum.specs.Crc32c.{crc32c}
 use Rattle.meta_rows.specs.Rows.{Rows, rows_after}
-use Rattle.meta_rows.specs.Spelling.{ops_bytes, AllFit}
+use Rattle.meta_rows.specs.Spelling.{op_bytes, ops_bytes, Fits, AllFit}
 use Rattle.meta_rows.specs.declared.row_op.RowOp.{RowOp}
+use Rattle.meta_rows.proofs.Folds.{rows_after-append}
 use Rattle.meta_log.specs.declared.slot.Super.{Super}
 use Rattle.meta_log.specs.Records.{head_bytes, record_bytes, unit_count}
 use Rattle.object_model.specs.Objects.{Objects}
@@ -19,31 +21,38 @@ use Rattle.row_format.specs.Extents.{Extent}
 use Rattle.row_format.specs.Row.{onode}
 use Rattle.store_image.specs.Pages.{pages_of}
 use Rattle.store_image.specs.BadRows.{NoBadRow}
-use Rattle.store_image.specs.Owners.{page_of, IsDataUnit, IsOwned}
+use Rattle.store_image.specs.Owners.{Owner, page_of, Owns, IsDataUnit, IsOwned, IsMarked, IsLeaked, IsExactAs, HasSoleOwner}
 use Rattle.store_image.specs.Stands.{IsShape, ObjectsStand}
 use Rattle.store_image.proofs.OwnedUnits.{objects_stand}
 use Rattle.store_image.proofs.PageMap.{in_place}
-use Rattle.row_facts.specs.SoleOwners.{HasSoleOwner}
 use Rattle.row_facts.specs.Operations.{coll_ops}
-use Rattle.row_facts.proofs.CollMade.{coll_good, coll_sole, coll_owned, coll_stands}
+use Rattle.row_facts.proofs.CollMade.{coll_good, coll_sole, coll_owned, coll_exact, coll_stands}
 use Rattle.row_facts.proofs.Lengths.{coll_fits, coll_short}
 use Rattle.row_facts.proofs.Replies.{coll_submitted, coll_made}
+use Rattle.bitmap_freelist.specs.Bitmap.{Has, AreAlikeButBits, ExactlyOne}
+use Rattle.bitmap_freelist.proofs.Alike.{flips_alike, alike_owns, alike_stand}
+use Rattle.bitmap_freelist.proofs.GoodBitmaps.{turned_good}
+use Rattle.bitmap_freelist.proofs.Records.{flips_fit, flips_size, flips_count}
+use Rattle.bitmap_freelist.proofs.Turning.{turn_their_units}
 use Rattle.blob_map.specs.Pages.{PageMap, laid}
 use Rattle.blob_map.specs.Normal.{extents_of}
-use Rattle.object_rows.specs.Operations.{CanReplace, replaced}
+use Rattle.object_rows.specs.Operations.{CanReplace, object_ops, replaced, Climb, KeysAscend}
 use Rattle.object_rows.specs.Maps.{IsMapWritten, CanWrite}
 use Rattle.object_rows.specs.Writes.{write_change, missing, there, IsSizeOf, IsWritten, HoldPages, AreDistinct, StoodWritten}
 use Rattle.object_rows.specs.Plans.{new_pages, WritesPages, touch_ops}
 use Rattle.object_rows.specs.Planned.{Plan, pages_on, CanPlanWrite, IsPlanned, makes_coll, touches, writes, HoldsFresh, IsFresh, StandsOnce, fresh_units}
-use Rattle.object_rows.proofs.After.{then_good}
-use Rattle.object_rows.proofs.Between.{between_stood, between_once}
+use Rattle.object_rows.proofs.After.{then_good, then_bits}
+use Rattle.object_rows.proofs.Between.{at_index, between_stood, between_once}
 use Rattle.object_rows.proofs.FewShards.{few_shards}
+use Rattle.object_rows.proofs.GoodPages.{owned_is_data}
+use Rattle.object_rows.proofs.KeyOrder.{with_flips_ascend}
 use Rattle.object_rows.proofs.Laid.{map_written}
 use Rattle.object_rows.proofs.Lengths.{object_ops_fit, length-object_ops}
 use Rattle.object_rows.proofs.Maps.{map_can_replace, map_is_written}
+use Rattle.object_rows.proofs.Ops.{all_append}
 use Rattle.object_rows.proofs.PagesOn.{all_at, ascending_distinct, fresh_there, held_at, fresh_all, units_of_pages}
 use Rattle.object_rows.proofs.Replied.{touch_submitted, touch_ok, write_submitted, write_ok}
-use Rattle.object_rows.proofs.Touched.{touch_good, touch_fits, touch_short, touch_owned, touch_sole, touch_stand}
+use Rattle.object_rows.proofs.Touched.{touch_good, touch_fits, touch_ascend, touch_short, touch_owned, touch_sole, touch_exact, touch_stand}
 use Rattle.object_rows.proofs.Units.{written_owned, written_sole, written_lost, written_released}
 use Rattle.object_rows.proofs.Wrote.{pages_stand}
 
@@ -57,6 +66,10 @@ none_once v i j in_i in_j is same = absurd (omega (arith, in_i))
 
 none_fresh : (ops : List RowOp) (v : ℕ) → ¬ IsFresh (record { ops = ops; fresh = []; released = [] }) v
 none_fresh ops v f = omega (arith, f.2)
+
+climbs : (ps : List ℕ) → Ascends ps → Climb ps
+climbs [] order = tt
+climbs (p ∷ ps) order = (order.0, climbs ps order.1)
 
 -- ---- records
 
@@ -82,11 +95,21 @@ module _ (s : Super) (rows : Rows) (c o : List ℕ) (first : ℕ) (bytes units :
   abbrev extents : List Extent
   extents = extents_of (finite.entries new)
 
+  -- the object's operations come first, and those on the bitmap after them
+  abbrev first_ops : List RowOp
+  first_ops = object_ops rows c o size extents w.present
+
   abbrev then : Rows
   then = replaced rows c o size extents w.present
 
-  rows_are : rows_after rows ops ≡ then
-  rows_are = ap (rows_after rows) w.ops_are
+  rows_are : rows_after rows ops ≡ rows_after then w.flips
+  rows_are = ap (rows_after rows) w.ops_are ∙ rows_after-append rows first_ops w.flips
+
+  alike : AreAlikeButBits then (rows_after rows ops)
+  alike = subst (AreAlikeButBits then) (sym rows_are) (flips_alike then w.turns.units w.flips w.turns.are_flips)
+
+  same_owns : (owner : Owner) (v : ℕ) → Owns then owner v ↔ Owns (rows_after rows ops) owner v
+  same_owns owner v = alike_owns then (rows_after rows ops) owner v alike
 
   abbrev IsFreshOf : ℕ → Type 0
   IsFreshOf v = Any (λ f. f.0 ≡ v) (pages_on units 0 bytes)
@@ -109,6 +132,30 @@ module _ (s : Super) (rows : Rows) (c o : List ℕ) (first : ℕ) (bytes units :
 
   write_once : (v : ℕ) → HasSoleOwner rows v → StandsOnce released v
   write_once v sole = subst (λ us. StandsOnce us v) (sym w.released_are) (between_once first (length units) rows c o w.pages w.are_pages v sole)
+
+  -- the fresh units
+  fresh_is : (v : ℕ) → IsFreshOf v ↔ Contains units v
+  fresh_is v =
+      let there = fresh_there bytes units 0 v in
+      let listed = at_index units v in
+      (λ f. listed.1 (there.0 f), λ k. there.1 (listed.0 k))
+
+  fresh_all_are : (P : ℕ → Type 0) → AllByRecursion P units → (v : ℕ) → Contains units v → P v
+  fresh_all_are P all v k = let at = (at_index units v).0 k in subst P at.2 (all_at P units at.0 all at.1)
+
+  write_free : (v : ℕ) → IsFreshOf v → ¬ IsOwned rows v
+  write_free v f = fresh_all_are (λ u. ¬ IsOwned rows u) can.fresh.free v ((fresh_is v).0 f)
+
+  write_unmarked : (v : ℕ) → IsFreshOf v → ¬ IsMarked rows v
+  write_unmarked v f = fresh_all_are (λ u. ¬ IsMarked rows u) can.fresh.unmarked v ((fresh_is v).0 f)
+
+  -- a turned unit is fresh or released
+  turned_is : (v : ℕ) → Has w.turns.units v ↔ (IsFreshOf v ⊎ Contains released v)
+  turned_is v =
+      let are = w.turns.are_units v in (
+        λ has. elim (are.0 has) [ inl k ↦ inl ((fresh_is v).1 k) | inr k ↦ inr k ],
+        λ either. are.1 (elim either [ inl f ↦ inl ((fresh_is v).0 f) | inr k ↦ inr k ]),
+      )
 
   fresh_held : (at : ℕ → List ℕ) → AllByRecursion (λ f. at f.0 ≡ f.1) (pages_on units 0 bytes) → (i : ℕ) → i < length units
       → at (slice_index units i) ≡ unit_at i bytes
@@ -143,29 +190,54 @@ module _ (s : Super) (rows : Rows) (c o : List ℕ) (first : ℕ) (bytes units :
     is_written : IsWritten rows c o first bytes units size extents
     is_written = map_is_written s rows c o first bytes units size w.present can_write w.pages new w.are_pages made
 
+    turned_data : (v : ℕ) → Has w.turns.units v → IsDataUnit s v
+    turned_data v has = elim ((turned_is v).0 has) [
+      | inl f ↦ fresh_all_are (λ u. IsDataUnit s u) can.fresh.on_data v ((fresh_is v).0 f)
+      | inr k ↦ owned_is_data s rows v good (write_released v k)
+    ]
+
     write_good : NoBadRow s (rows_after rows ops)
-    write_good = subst (NoBadRow s) (sym rows_are) (then_good s rows c o size extents w.present can_replace)
+    write_good = subst (NoBadRow s) (sym rows_are) (turned_good s then w.turns.units w.flips w.turns.are_flips turned_data
+        (then_good s rows c o size extents w.present can_replace))
 
     write_fits : AllFit ops
-    write_fits = subst AllFit (sym w.ops_are) (object_ops_fit s rows c o size extents w.present can_replace)
+    write_fits = subst AllFit (sym w.ops_are) (all_append Fits first_ops w.flips (object_ops_fit s rows c o size extents w.present can_replace)
+        (flips_fit w.turns.units w.flips w.turns.are_flips))
+
+    write_order : KeysAscend ops
+    write_order = subst KeysAscend (sym w.ops_are) (with_flips_ascend s rows c o size extents w.present can_replace (climbs w.present w.in_order)
+        w.turns.units w.flips w.turns.are_flips)
 
     write_short : length (ops_bytes ops) < 2 ^ 32
     write_short =
         let most : size ≤ object_limit = can_write.size_most in
         let pages : pages_of size ≤ 32768 = omega (arith, most) in
         let few = few_shards s rows c o good can.coll_name can.object_name w.before w.present w.was_long w.are_shards.below w.there w.in_order in
-        omega (arith, ap (λ x. length (ops_bytes x)) w.ops_are, length-object_ops s rows c o size extents w.present can_replace, pages, few)
+        omega (
+          arith,
+          ap (λ x. length (ops_bytes x)) w.ops_are,
+          ap length (flat_map-append op_bytes first_ops w.flips),
+          length-append (ops_bytes first_ops) (ops_bytes w.flips),
+          length-object_ops s rows c o size extents w.present can_replace,
+          pages,
+          few,
+          flips_size w.turns.units w.flips w.turns.are_flips,
+          flips_count w.turns.units w.flips w.turns.are_flips,
+        )
 
     write_stand : (at later_at : ℕ → List ℕ) (objects after : Objects) → AllByRecursion (λ f. later_at f.0 ≡ f.1) (pages_on units 0 bytes)
         → ((v : ℕ) → IsOwned rows v → later_at v ≡ at v) → ObjectsStand at rows objects
         → transaction_effect (write_change c o first bytes) objects ≡ Ok after → ObjectsStand later_at (rows_after rows ops) after
     write_stand at later_at objects after holds same stand is =
         let hold : HoldPages at later_at rows bytes units = record { fresh = fresh_held later_at holds; kept = same } in
-        subst (λ r. ObjectsStand later_at r after) (sym rows_are)
+        alike_stand later_at then (rows_after rows ops) after alike
         (pages_stand s rows c o size extents w.present can_replace first bytes units is_written at later_at objects after hold stand is)
 
     after_owned : (v : ℕ) → IsOwned (rows_after rows ops) v → IsOwned then v
-    after_owned v owned = subst (λ r. IsOwned r v) rows_are owned
+    after_owned v owned = (owned.0, (same_owns owned.0 v).1 owned.1)
+
+    owned_after : (v : ℕ) → IsOwned then v → IsOwned (rows_after rows ops) v
+    owned_after v owned = (owned.0, (same_owns owned.0 v).0 owned.1)
 
     write_owned : (v : ℕ) → IsOwned (rows_after rows ops) v → IsFreshOf v ⊎ IsOwned rows v
     write_owned v owned = elim ((written_owned s rows c o size extents w.present can_replace first bytes units is_written v).0 (after_owned v owned)) [
@@ -174,23 +246,80 @@ module _ (s : Super) (rows : Rows) (c o : List ℕ) (first : ℕ) (bytes units :
     ]
 
     write_taken : (v : ℕ) → IsFreshOf v → IsOwned (rows_after rows ops) v
-    write_taken v f = subst (λ r. IsOwned r v) (sym rows_are)
+    write_taken v f = owned_after v
         ((written_owned s rows c o size extents w.present can_replace first bytes units is_written v).1 (inl ((fresh_there bytes units 0 v).0 f)))
 
     write_left : (v : ℕ) → IsOwned rows v → IsOwned (rows_after rows ops) v ⊎ Contains released v
     write_left v owned = elim (written_lost s rows c o size extents w.present can_replace first bytes units is_written v owned) [
-      | inl after ↦ inl (subst (λ r. IsOwned r v) (sym rows_are) after)
+      | inl after ↦ inl (owned_after v after)
       | inr x ↦ inr ((stood v).1 x)
     ]
 
     module _ (v : ℕ) (sole : HasSoleOwner rows v) where
       write_sole : HasSoleOwner (rows_after rows ops) v
-      write_sole = subst (λ r. HasSoleOwner r v) (sym rows_are)
-          (written_sole s rows c o size extents w.present can_replace first bytes units is_written free v sole distinct)
+      write_sole a b p q = written_sole s rows c o size extents w.present can_replace first bytes units is_written free v sole distinct a b
+          ((same_owns a v).1 p) ((same_owns b v).1 q)
 
       write_gone : Contains released v → IsOwned (rows_after rows ops) v → ⊥
       write_gone k owned = written_released s rows c o size extents w.present can_replace first bytes units is_written free v sole
           ((stood v).0 k) (after_owned v owned)
+
+    -- ---- the bits
+
+    -- a unit is marked then where either it was, or it is fresh or released
+    write_bits : (v : ℕ) → v < 2 ^ 32 → IsMarked (rows_after rows ops) v ↔ ExactlyOne (IsMarked then v) (Has w.turns.units v)
+    write_bits v small = subst (λ r. IsMarked r v ↔ ExactlyOne (IsMarked then v) (Has w.turns.units v)) (sym rows_are)
+        (turn_their_units then w.turns.units w.flips w.turns.are_flips v small)
+
+    module _ (leaves : Rows) (exact : IsExactAs leaves rows) where
+      same_bits : (v : ℕ) → IsMarked then v ↔ IsMarked rows v
+      same_bits = then_bits s rows c o size extents w.present can_replace
+
+      marked_left : (v : ℕ) → v < 2 ^ 32 → IsMarked rows v → (Has w.turns.units v → ⊥) → IsMarked (rows_after rows ops) v
+      marked_left v small marked not_turned = (write_bits v small).1 (inl ((same_bits v).1 marked, not_turned))
+
+      -- a marked unit is owned or leaked
+      after_marked : (v : ℕ) → v < 2 ^ 32 → IsMarked (rows_after rows ops) v → IsOwned (rows_after rows ops) v ⊎ IsLeaked leaves v
+      after_marked v small is = elim ((write_bits v small).0 is) [
+        | inl left ↦ elim (exact.marked v small ((same_bits v).0 left.0)) [
+          | inl owned ↦ elim (write_left v owned) [
+            | inl after ↦ inl after
+            | inr k ↦ absurd (left.1 ((turned_is v).1 (inr k)))
+          ]
+          | inr leaked ↦ inr leaked
+        ]
+        | inr turned ↦ elim ((turned_is v).0 turned.1) [
+          | inl f ↦ inl (write_taken v f)
+          | inr k ↦ absurd (turned.0 ((same_bits v).1 (exact.owned_marked v (write_released v k))))
+        ]
+      ]
+
+      -- an owned one is marked
+      after_owned_marked : (v : ℕ) → IsOwned (rows_after rows ops) v → IsMarked (rows_after rows ops) v
+      after_owned_marked v is =
+          let small : v < 2 ^ 32 = omega (arith, (owned_is_data s (rows_after rows ops) v write_good is).1, can.units_most) in
+          elim (write_owned v is) [
+            | inl f ↦ (write_bits v small).1 (inr ((λ marked. write_unmarked v f ((same_bits v).0 marked)), (turned_is v).1 (inl f)))
+            | inr owned ↦ marked_left v small (exact.owned_marked v owned) (λ has. elim ((turned_is v).0 has) [
+              | inl f ↦ write_free v f owned
+              | inr k ↦ write_gone v (exact.one_owner v) k is
+            ])
+          ]
+
+      write_exact : IsExactAs leaves (rows_after rows ops)
+      write_exact = record {
+        marked = after_marked;
+        owned_marked = after_owned_marked;
+        leaked_marked = λ v leaked. marked_left v leaked.is_unit (exact.leaked_marked v leaked) (λ has. elim ((turned_is v).0 has) [
+          | inl f ↦ write_unmarked v f (exact.leaked_marked v leaked)
+          | inr k ↦ exact.leaked_free v leaked (write_released v k)
+        ]);
+        leaked_free = λ v leaked is. elim (write_owned v is) [
+          | inl f ↦ write_unmarked v f (exact.leaked_marked v leaked)
+          | inr owned ↦ exact.leaked_free v leaked owned
+        ];
+        one_owner = λ v. write_sole v (exact.one_owner v);
+      }
 
 -- ---- plans
 
@@ -227,6 +356,11 @@ module _ (s : Super) (rows : Rows) where
   planned_fits (makes_coll c name none) good = coll_fits c name
   planned_fits (touches c o coll name has) good = touch_fits s rows c o coll name has good
   planned_fits (writes c o first bytes units ops released can w) good = write_fits s rows c o first bytes units ops released can w good
+
+  pub planned_order : {change : Change} {plan : Plan} → IsPlanned s rows change plan → NoBadRow s rows → KeysAscend plan.ops
+  planned_order (makes_coll c name none) good = (tt, tt)
+  planned_order (touches c o coll name has) good = touch_ascend s rows c o coll name has good
+  planned_order (writes c o first bytes units ops released can w) good = write_order s rows c o first bytes units ops released can w good
 
   pub planned_short : {change : Change} {plan : Plan} → IsPlanned s rows change plan → NoBadRow s rows → length (ops_bytes plan.ops) < 2 ^ 32
   planned_short (makes_coll c name none) good = omega (arith, coll_short c name)
@@ -289,3 +423,17 @@ module _ (s : Super) (rows : Rows) where
   planned_once v (makes_coll c name none) sole = none_once v
   planned_once v (touches c o coll name has) sole = none_once v
   planned_once v (writes c o first bytes units ops released can w) sole = write_once s rows c o first bytes units ops released can w v sole
+
+  -- ---- the bitmap
+
+  pub planned_exact : {change : Change} {plan : Plan} (leaves : Rows) → IsPlanned s rows change plan → NoBadRow s rows
+      → IsExactAs leaves rows → IsExactAs leaves (rows_after rows plan.ops)
+  planned_exact leaves (makes_coll c name none) good exact = coll_exact rows c (IsLeaked leaves) exact
+  planned_exact leaves (touches c o coll name has) good exact = touch_exact s rows c o coll name has good (IsLeaked leaves) exact
+  planned_exact leaves (writes c o first bytes units ops released can w) good exact =
+      write_exact s rows c o first bytes units ops released can w good leaves exact
+
+  pub planned_unmarked : {change : Change} {plan : Plan} (v : ℕ) → IsPlanned s rows change plan → IsFresh plan v → ¬ IsMarked rows v
+  planned_unmarked v (makes_coll c name none) f = absurd (none_fresh (coll_ops c) v f)
+  planned_unmarked v (touches c o coll name has) f = absurd (none_fresh (touch_ops rows c o) v f)
+  planned_unmarked v (writes c o first bytes units ops released can w) f = write_unmarked s rows c o first bytes units ops released can w v f

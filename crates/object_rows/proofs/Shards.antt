@@ -10,8 +10,8 @@ use Rattle.meta_log.specs.Slots.{data_unit}
 use Rattle.unit_fields.specs.Names.{IsName, IsCollName}
 use Rattle.row_format.specs.Keys.{shard_key}
 use Rattle.row_format.specs.Extents.{Extent, Body, private, page_count, page_end, place_in, place_of, Place, Ascend, BeginsAt, FitsExtent}
-use Rattle.row_format.specs.Row.{Row, collection, onode, shard, row_key}
-use Rattle.row_format.proofs.KeyLemmas.{same_shard, coll_no_object, onode_no_shard}
+use Rattle.row_format.specs.Row.{Row, collection, onode, shard, bitmap, row_key}
+use Rattle.row_format.proofs.KeyLemmas.{same_shard, coll_no_object, onode_no_shard, bitmap_no_object}
 use Rattle.store_image.specs.Pages.{HasKey, HasRow, IsPageAt, pages_of}
 use Rattle.store_image.specs.BadRows.{IsOnData, IsShardInPlace, NoBadRow}
 use Rattle.store_image.proofs.PageMap.{in_place, one_place}
@@ -121,6 +121,7 @@ module _ (s : Super) (rows : Rows) (c o : List ℕ) (good : NoBadRow s rows) whe
   shard_row coll name page lt (shard d u other es) has e =
       let is = same_shard c o d u page other coll name has.fits.coll_name has.fits.object_name lt has.fits.page_below e in
       (es, subst (HasRow rows) (λ i. shard (sym is.0 i) (sym is.1 i) (sym is.2 i) es) has)
+  shard_row coll name page lt (bitmap r bits) has e = absurd (bitmap_no_object r c o _ (sym e))
 
   pub shard_under : IsCollName c → IsName o → (page : ℕ) → page < 2 ^ 32 → HasKey rows (shard_key c o page)
       → (es : List Extent) × HasRow rows (shard c o page es)

@@ -36,10 +36,10 @@ module _ (s : Super) (rows : Rows) (c o : List ℕ) (size : ℕ) (extents : List
   sized : HasRow then (onode c o (length new))
   sized = subst (λ m. HasRow then (onode c o m)) (sym long) (then_sized s rows c o size extents present can)
 
-  absent : (k : ℕ) (rest : List ℕ) → k ≢ 0x43 → k ≢ 0x4f → map.get then (k ∷ rest) ≡ None
-  absent k rest a b = no_other_kind s then (then_good s rows c o size extents present can) k rest a b
+  absent : (k : ℕ) (rest : List ℕ) → k ≢ 0x43 → k ≢ 0x4f → k ≢ 0x62 → map.get then (k ∷ rest) ≡ None
+  absent = no_other_kind s then (then_good s rows c o size extents present can)
 
-  others_same : (k : ℕ) (rest : List ℕ) → k ≢ 0x43 → k ≢ 0x4f → map.get then (k ∷ rest) ≡ map.get rows (k ∷ rest)
+  others_same : (k : ℕ) (rest : List ℕ) → k ≢ 0x43 → k ≢ 0x4f → k ≢ 0x62 → map.get then (k ∷ rest) ≡ map.get rows (k ∷ rest)
   others_same = then_kinds s rows c o size extents present can
 
   nothing : (name : List ℕ) {P : Type 0} → IsSome (map.get (map.empty {X = List ℕ} {R = byte_order}) name) → P
@@ -50,10 +50,10 @@ module _ (s : Super) (rows : Rows) (c o : List ℕ) (size : ℕ) (extents : List
     size = sized;
     size_most = omega (arith, long, can.size_most);
     attr_names = λ name some. nothing name some;
-    attrs = λ name is. map.get-empty byte_order name ∙ sym (absent 0x41 _ (λ e. omega (arith, e)) (λ e. omega (arith, e)));
-    header = ap (λ x. unwrap_or x []) (sym (absent 0x4d _ (λ e. omega (arith, e)) (λ e. omega (arith, e))));
+    attrs = λ name is. map.get-empty byte_order name ∙ sym (absent 0x41 _ (λ e. omega (arith, e)) (λ e. omega (arith, e)) (λ e. omega (arith, e)));
+    header = ap (λ x. unwrap_or x []) (sym (absent 0x4d _ (λ e. omega (arith, e)) (λ e. omega (arith, e)) (λ e. omega (arith, e))));
     omap_keys = λ name some. nothing name some;
-    omap = λ key is. map.get-empty byte_order key ∙ sym (absent 0x4d _ (λ e. omega (arith, e)) (λ e. omega (arith, e)));
+    omap = λ key is. map.get-empty byte_order key ∙ sym (absent 0x4d _ (λ e. omega (arith, e)) (λ e. omega (arith, e)) (λ e. omega (arith, e)));
   }
 
   changed_shape : (old : Object) → IsObjectShape rows c o old → IsObjectShape then c o (with_bytes (Some old) new)
@@ -61,10 +61,10 @@ module _ (s : Super) (rows : Rows) (c o : List ℕ) (size : ℕ) (extents : List
     size = sized;
     size_most = omega (arith, long, can.size_most);
     attr_names = shape.attr_names;
-    attrs = λ name is. shape.attrs name is ∙ sym (others_same 0x41 _ (λ e. omega (arith, e)) (λ e. omega (arith, e)));
-    header = shape.header ∙ ap (λ x. unwrap_or x []) (sym (others_same 0x4d _ (λ e. omega (arith, e)) (λ e. omega (arith, e))));
+    attrs = λ name is. shape.attrs name is ∙ sym (others_same 0x41 _ (λ e. omega (arith, e)) (λ e. omega (arith, e)) (λ e. omega (arith, e)));
+    header = shape.header ∙ ap (λ x. unwrap_or x []) (sym (others_same 0x4d _ (λ e. omega (arith, e)) (λ e. omega (arith, e)) (λ e. omega (arith, e))));
     omap_keys = shape.omap_keys;
-    omap = λ key is. shape.omap key is ∙ sym (others_same 0x4d _ (λ e. omega (arith, e)) (λ e. omega (arith, e)));
+    omap = λ key is. shape.omap key is ∙ sym (others_same 0x4d _ (λ e. omega (arith, e)) (λ e. omega (arith, e)) (λ e. omega (arith, e)));
   }
 
   module _ (objects : Objects) (shape : IsShape rows objects) (coll : Collection) (found : map.get objects c ≡ Some coll) where

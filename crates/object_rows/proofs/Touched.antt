@@ -12,16 +12,17 @@ use Rattle.row_format.specs.Keys.{coll_key, onode_key}
 use Rattle.row_format.specs.Row.{shard}
 use Rattle.store_image.specs.Pages.{HasKey, IsPageAt}
 use Rattle.store_image.specs.BadRows.{NoBadRow}
-use Rattle.store_image.specs.Owners.{Owner, page_of, Owns, IsOwned}
+use Rattle.store_image.specs.Owners.{Owner, page_of, Owns, IsOwned, IsMarked, IsExactBut, HasSoleOwner}
 use Rattle.store_image.specs.Stands.{ObjectsStand}
 use Rattle.store_image.proofs.OwnedUnits.{objects_stand}
 use Rattle.store_image.proofs.PageMap.{in_place}
-use Rattle.row_facts.specs.SoleOwners.{HasSoleOwner}
+use Rattle.row_facts.proofs.Bits.{exact_stays}
 use Rattle.row_facts.proofs.ObjectUnder.{object_cases}
-use Rattle.object_rows.specs.Operations.{CanReplace, object_ops, replaced, HasUnit, IsOwnedElsewhere}
+use Rattle.object_rows.specs.Operations.{CanReplace, object_ops, replaced, HasUnit, IsOwnedElsewhere, KeysAscend}
 use Rattle.object_rows.specs.Plans.{touch_ops}
 use Rattle.object_rows.specs.Writes.{touch_change}
-use Rattle.object_rows.proofs.After.{then_good, then_owned}
+use Rattle.object_rows.proofs.After.{then_good, then_owned, then_bits}
+use Rattle.object_rows.proofs.KeyOrder.{ops_ascend}
 use Rattle.object_rows.proofs.Lengths.{object_ops_fit, length-object_ops}
 use Rattle.object_rows.proofs.Makes.{can_make}
 use Rattle.object_rows.proofs.Units.{then_sole}
@@ -53,6 +54,9 @@ module _ (s : Super) (rows : Rows) (c o : List ℕ) (coll : IsCollName c) (name 
 
     pub touch_fits : AllFit (touch_ops rows c o)
     touch_fits = by_test AllFit (λ there. tt) (λ none. object_ops_fit s rows c o 0 [] [] (can none))
+
+    pub touch_ascend : KeysAscend (touch_ops rows c o)
+    touch_ascend = by_test KeysAscend (λ there. tt) (λ none. ops_ascend s rows c o 0 [] [] (can none) tt)
 
     pub touch_short : length (ops_bytes (touch_ops rows c o)) < 2 ^ 32
     touch_short = by_test (λ ops. length (ops_bytes ops) < 2 ^ 32) (λ there. omega arith)
@@ -86,6 +90,13 @@ module _ (s : Super) (rows : Rows) (c o : List ℕ) (coll : IsCollName c) (name 
     pub touch_sole : (v : ℕ) → HasSoleOwner rows v → HasSoleOwner (rows_after rows (touch_ops rows c o)) v
     touch_sole v sole = by_test (λ ops. HasSoleOwner (rows_after rows ops) v) (λ there. sole)
         (λ none. then_sole s rows c o 0 [] [] (can none) v sole (λ p q a b found too is same. absurd cc) (λ h e. none_has v h))
+
+    touch_bits : (v : ℕ) → IsMarked (rows_after rows (touch_ops rows c o)) v ↔ IsMarked rows v
+    touch_bits v = by_test (λ ops. IsMarked (rows_after rows ops) v ↔ IsMarked rows v) (λ there. (λ x. x, λ x. x))
+        (λ none. then_bits s rows c o 0 [] [] (can none) v)
+
+    pub touch_exact : (leaked : ℕ → Type 0) → IsExactBut leaked rows → IsExactBut leaked (rows_after rows (touch_ops rows c o))
+    touch_exact = exact_stays rows (rows_after rows (touch_ops rows c o)) touch_bits touch_owned touch_sole
 
     pub touch_stand : (at later_at : ℕ → List ℕ) (objects after : Objects) → ((v : ℕ) → IsOwned rows v → later_at v ≡ at v)
         → ObjectsStand at rows objects → transaction_effect (touch_change c o) objects ≡ Ok after

@@ -7,8 +7,7 @@ use Rattle.meta_rows.specs.Rows.{Rows}
 use Rattle.meta_log.specs.declared.slot.Super.{Super}
 use Rattle.row_format.specs.Extents.{Extent, Place, place_of}
 use Rattle.store_image.specs.Pages.{IsPageAt}
-use Rattle.store_image.specs.Owners.{Owner, page_of, Owns, IsOwned}
-use Rattle.row_facts.specs.SoleOwners.{HasSoleOwner}
+use Rattle.store_image.specs.Owners.{Owner, page_of, Owns, IsOwned, HasSoleOwner}
 use Rattle.row_facts.proofs.ObjectUnder.{object_cases}
 use Rattle.object_rows.specs.Operations.{CanReplace, replaced, IsOther, HasUnit, IsOwnedElsewhere, StandsAlone}
 use Rattle.object_rows.specs.Writes.{IsWritten, AreDistinct, IsLeft, IsOwnedBesidesWritten, StoodWritten}

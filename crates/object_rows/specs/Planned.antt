@@ -13,7 +13,7 @@ use Rattle.unit_fields.specs.Names.{IsName, IsCollName}
 use Rattle.unit_fields.specs.UnitSet.{Ascends}
 use Rattle.row_format.specs.Keys.{coll_key}
 use Rattle.store_image.specs.Pages.{HasKey}
-use Rattle.store_image.specs.Owners.{IsDataUnit, IsOwned}
+use Rattle.store_image.specs.Owners.{IsDataUnit, IsOwned, IsMarked}
 use Rattle.row_facts.specs.Operations.{coll_change, coll_ops}
 use Rattle.object_rows.specs.Writes.{write_change, touch_change}
 use Rattle.object_rows.specs.Plans.{WritesPages, touch_ops}
@@ -29,11 +29,12 @@ abbrev pub pages_on : List ℕ → ℕ → List ℕ → List (ℕ × List ℕ)
 pages_on [] i bytes = []
 pages_on (u ∷ us) i bytes = (u, unit_at i bytes) ∷ pages_on us (i + 1) bytes
 
--- data units that nobody owns, ascending, whose numbers fit their fields
+-- data units that nobody owns and whose bits are 0, ascending, whose numbers fit their fields
 pub record AreFresh (s : Super) (rows : Rows) (units : List ℕ) : Type 0 where
   pub ascend : Ascends units
   pub on_data : AllByRecursion (λ u. IsDataUnit s u) units
   pub free : AllByRecursion (λ u. ¬ IsOwned rows u) units
+  pub unmarked : AllByRecursion (λ u. ¬ IsMarked rows u) units
   pub fit : AllByRecursion (λ u. u < 2 ^ 32) units
 
 -- Whole pages within the limits of a transaction and of an object, a fresh unit for each, and a collection that the rows have: the write

@@ -1,5 +1,5 @@
 -- What transactions are turned into before they are committed.
-use Rattle.std.specs.Prelude.{◌≡◌, ℕ, ◌+◌, ◌*◌, max, List, [], ◌∷◌, map, length, if◌then◌else◌}
+use Rattle.std.specs.Prelude.{◌≡◌, ◌↔◌, ◌⊎◌, ℕ, ◌+◌, ◌*◌, max, List, [], ◌∷◌, ◌++◌, map, length, Contains, if◌then◌else◌}
 use Rattle.std.specs.List.{AllByRecursion}
 use Rattle.std.specs.Ordering.{nat_cmp}
 use Rattle.std.specs.FinMap as finite
@@ -13,6 +13,7 @@ use Rattle.unit_fields.specs.UnitSet.{Ascends}
 use Rattle.row_format.specs.Keys.{onode_key, shard_key}
 use Rattle.store_image.specs.Pages.{HasKey}
 use Rattle.row_format.specs.Extents.{Place}
+use Rattle.bitmap_freelist.specs.Bitmap.{Units, Has, AreFlips}
 use Rattle.blob_map.specs.Pages.{PageMap, laid}
 use Rattle.blob_map.specs.Normal.{extents_of}
 use Rattle.object_rows.specs.Operations.{object_ops, AreShards}
@@ -28,8 +29,15 @@ new_pages first i (u ∷ us) bytes = (first + i, record { unit = u; csum = crc32
 abbrev pub units_between : PageMap → ℕ → ℕ → List ℕ
 units_between pages first count = map (λ p. p.1.unit) (where_key nat_cmp (is_in first (first + count)) (finite.entries pages))
 
+-- The operations turn the bits of the units that are taken and of those that are released, each bit once.
+pub record TurnsBits (taken released : List ℕ) (flips : List RowOp) : Type 0 where
+  pub units : Units
+  pub are_units : (unit : ℕ) → Has units unit ↔ (Contains taken unit ⊎ Contains released unit)
+  pub are_flips : AreFlips units flips
+
 -- What the writing of whole pages from one on is turned into: the pages stand on these units, one each, and the units that they stood on are
--- released. The other pages stay where they are, and all are in one shard.
+-- released. The other pages stay where they are, and all are in one shard. Behind the object's operations stand those on the bitmap, whose keys
+-- are behind all others.
 pub record WritesPages (rows : Rows) (c o : List ℕ) (first : ℕ) (bytes units : List ℕ) (ops : List RowOp) (released : List ℕ)
     : Type 0 where
   pub pages : PageMap
@@ -40,8 +48,10 @@ pub record WritesPages (rows : Rows) (c o : List ℕ) (first : ℕ) (bytes units
   pub in_order : Ascends present
   pub before : ℕ
   pub was_long : IsSizeOf rows c o before
+  pub flips : List RowOp
+  pub turns : TurnsBits units released flips
   pub ops_are : ops ≡ object_ops rows c o (max before (4096 * (first + length units)))
-      (extents_of (finite.entries (laid pages (new_pages first 0 units bytes)))) present
+      (extents_of (finite.entries (laid pages (new_pages first 0 units bytes)))) present ++ flips
   pub released_are : released ≡ units_between pages first (length units)
 
 -- what touching an object is turned into: nothing where it is there, and an onode of no bytes where it isn't

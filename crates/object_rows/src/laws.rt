@@ -13,9 +13,8 @@ ghost use Rattle.row_format.specs.Extents.{Extent, Place, place_of, page_end, As
 ghost use Rattle.row_format.specs.Row.{onode};
 ghost use Rattle.store_image.specs.Pages.{HasKey, HasRow, IsPageAt, pages_of};
 ghost use Rattle.store_image.specs.BadRows.{IsOnData, NoBadRow};
-ghost use Rattle.store_image.specs.Owners.{IsOwned};
+ghost use Rattle.store_image.specs.Owners.{IsOwned, HasSoleOwner};
 ghost use Rattle.store_image.specs.Stands.{ObjectsStand};
-ghost use Rattle.row_facts.specs.SoleOwners.{HasSoleOwner};
 ghost use Rattle.object_rows.specs.Operations.{AreShards, CanReplace, Climb, KeysAscend, object_ops, replaced, IsKeyOf, IsOther, HasUnit, IsOwnedElsewhere, StandsAlone};
 ghost use Rattle.blob_map.specs.Pages.{PageMap, HasNumbers};
 ghost use Rattle.blob_map.specs.Normal.{extents_of};

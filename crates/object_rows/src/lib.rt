@@ -13,5 +13,6 @@ pub use laws::{
     written_by_map, written_units, wrote_pages,
 };
 pub use plans::{
-    planned_owners, planned_record, planned_rows, planned_units, replies_by_objects_rows,
+    planned_bitmap, planned_owners, planned_record, planned_rows, planned_units,
+    replies_by_objects_rows,
 };

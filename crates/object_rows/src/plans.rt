@@ -16,9 +16,9 @@ ghost use Rattle.unit_fields.specs.UnitSet.{Ascends};
 ghost use Rattle.row_format.specs.Keys.{coll_key};
 ghost use Rattle.store_image.specs.Pages.{HasKey};
 ghost use Rattle.store_image.specs.BadRows.{NoBadRow};
-ghost use Rattle.store_image.specs.Owners.{IsDataUnit, IsOwned};
+ghost use Rattle.store_image.specs.Owners.{IsDataUnit, IsOwned, IsMarked, IsExactAs, HasSoleOwner};
 ghost use Rattle.store_image.specs.Stands.{IsShape, ObjectsStand};
-ghost use Rattle.row_facts.specs.SoleOwners.{HasSoleOwner};
+ghost use Rattle.object_rows.specs.Operations.{KeysAscend};
 ghost use Rattle.object_rows.specs.Writes.{write_change, touch_change};
 ghost use Rattle.object_rows.specs.Planned.{Plan, IsPlanned, HoldsFresh, IsFresh, StandsOnce, fresh_units};
 
@@ -64,10 +64,20 @@ pub fn planned_owners()
         → HasSoleOwner rows unit → StandsOnce plan.released unit }
 {}
 
-/// Its operations have spellings, and so few bytes that a record of them counts them. How many units a record of operations is does not
-/// depend on the record's number.
+/// The bitmap stays exact, but for what was leaked when it was: the fresh units are marked then, and the released ones aren't.
+pub fn planned_bitmap()
+    ensures exact { (s : Super) (first rows : Rows) (change : Change) (plan : Plan) → IsPlanned s rows change plan → NoBadRow s rows
+        → IsExactAs first rows → IsExactAs first (rows_after rows plan.ops) }
+    ensures taken { (s : Super) (rows : Rows) (change : Change) (plan : Plan) (unit : ℕ) → IsPlanned s rows change plan
+        → IsFresh plan unit → ¬ IsMarked rows unit }
+{}
+
+/// Its operations are in the order of their keys. They have spellings, and so few bytes that a record of them counts them. How many units
+/// a record of operations is does not depend on the record's number.
 pub fn planned_record()
     ensures fit { (s : Super) (rows : Rows) (change : Change) (plan : Plan) → IsPlanned s rows change plan → NoBadRow s rows → AllFit plan.ops }
+    ensures ascend { (s : Super) (rows : Rows) (change : Change) (plan : Plan) → IsPlanned s rows change plan → NoBadRow s rows
+        → KeysAscend plan.ops }
     ensures count { (number : ℕ) (ops : List RowOp) → unit_count number ops ≡ units_for (24 + length (ops_bytes ops)) }
     ensures same { (number other : ℕ) (ops : List RowOp) → unit_count number ops ≡ unit_count other ops }
     ensures short { (s : Super) (rows : Rows) (change : Change) (plan : Plan) → IsPlanned s rows change plan → NoBadRow s rows

@@ -10,7 +10,7 @@ use Rattle.unit_fields.specs.Names.{IsName}
 use Rattle.row_format.specs.Keys.{coll_key, onode_key}
 use Rattle.row_check.proofs.KeyOrder.{after_front, has_front}
 use Rattle.read_facts.specs.Walks.{IsBehind}
-use Rattle.object_reader.specs.NextKeys.{colls_first, colls_end, objects_first, objects_end}
+use Rattle.onode_codec.specs.Fronts.{colls_first, colls_end, objects_first, objects_end}
 use Rattle.object_reader.proofs.NamesRange.{from_range, to_range}
 use Rattle.object_reader.proofs.NamesOrder.{turned, turned_less, none_below, same_first, lesser_first, begins, ended, behind_zero, above_zero}
 

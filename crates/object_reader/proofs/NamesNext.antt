@@ -10,8 +10,9 @@ use Rattle.meta_log.specs.declared.slot.Super.{Super}
 use Rattle.unit_fields.specs.Names.{IsName, IsCollName}
 use Rattle.unit_fields.proofs.CollNames.{no_zero_in_coll}
 use Rattle.row_format.specs.Keys.{coll_key, onode_key}
-use Rattle.row_format.specs.Row.{Row, collection, onode, shard, row_key, FitsRow}
-use Rattle.row_format.proofs.KeyLemmas.{same_head, first_zero, same_coll, coll_no_object, same_place}
+use Rattle.row_format.specs.Row.{Row, collection, onode, shard, bitmap, row_key, FitsRow}
+use Rattle.row_format.proofs.KeyLemmas.{same_head, first_zero, same_coll, coll_no_object, same_place, bitmap_no_coll}
+use Rattle.onode_codec.specs.Fronts.{colls_first, colls_end, objects_first, objects_end}
 use Rattle.row_check.proofs.KeyOrder.{page_bytes, onode_before}
 use Rattle.row_check.specs.Reading.{IsNoKey, SpellsKey, part_bytes}
 use Rattle.row_check.specs.declared.key.Part.{Part}
@@ -21,7 +22,7 @@ use Rattle.row_check.specs.declared.key.RowKey.TheVariants.{Collection, Object}
 use Rattle.store_image.specs.Pages.{HasKey}
 use Rattle.store_image.specs.BadRows.{IsGoodRow, IsInPlace, NoBadRow}
 use Rattle.read_facts.specs.Walks.{IsCollection, IsObject, IsBehind, IsNextOf, IsPast}
-use Rattle.object_reader.specs.NextKeys.{IsLeastKey, HasNoKey, colls_first, colls_end, objects_first, objects_end}
+use Rattle.object_reader.specs.NextKeys.{IsLeastKey, HasNoKey}
 use Rattle.object_reader.proofs.NamesOrder.{same_first}
 use Rattle.object_reader.proofs.NamesKeys.{colls_key, coll_within, object_first, behind_coll}
 use Rattle.object_reader.proofs.NamesKeys.{objects_key, with_part, part_behind, onode_within, onodes_in_order}
@@ -55,6 +56,7 @@ module _ (s : Super) (rows : Rows) (good : NoBadRow s rows) where
   coll_named name (collection d) fits is = subst IsCollName (sym (same_coll name d is)) fits
   coll_named name (onode d u size) fits is = absurd (omega (arith, same_head _ _ _ _ is))
   coll_named name (shard d u page es) fits is = absurd (omega (arith, same_head _ _ _ _ is))
+  coll_named name (bitmap r bits) fits is = absurd (bitmap_no_coll r name (sym is))
 
   -- the least key behind a collection is that of the next one
   pub next_coll : (after : Option (List ℕ)) (key : List ℕ) → IsLeastKey rows (colls_first after) colls_end key → IsNextColl rows after key
@@ -113,6 +115,7 @@ module _ (s : Super) (rows : Rows) (good : NoBadRow s rows) where
           there = subst (λ (x : List ℕ). HasKey rows (onode_key x u)) (sym same.0) place.has_onode;
           own_or_later = inr (ap (λ (x : List ℕ). byte_order (onode_key c u) (behind_coll c x)) same.1 ∙ onode_before c u coll fits.object_name page);
         }
+    object_of rest (bitmap r bits) fits place has is = absurd (omega (arith, same_head _ _ _ _ is))
 
     module _ (after : Option (List ℕ)) (named : IfSome after IsName) where
       -- the least key behind an object is that of the next one's onode

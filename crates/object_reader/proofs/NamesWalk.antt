@@ -16,7 +16,7 @@ use Rattle.unit_fields.specs.Names.{IsName}
 use Rattle.row_format.specs.Keys.{onode_key}
 use Rattle.read_facts.specs.Walks.{IsObject, IsNextOf, IsPast, AreNext, last_of, AreAll}
 use Rattle.read_facts.proofs.Walks.{next_appended, last_appended}
-use Rattle.object_reader.specs.NextKeys.{objects_first, objects_end}
+use Rattle.onode_codec.specs.Fronts.{objects_first, objects_end}
 use Rattle.object_reader.proofs.NamesKeys.{onode_within, own_before, range_within}
 use Rattle.object_reader.proofs.NamesNext.{there_is}
 

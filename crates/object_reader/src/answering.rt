@@ -1,8 +1,7 @@
 //! Commands that read, answered.
-ghost use Rattle.std.specs.Prelude.{◌≡◌, ◌+◌, ◌≤◌, nat_lt, IfOk, IsErrOf};
+ghost use Rattle.std.specs.Prelude.{◌≡◌, ◌+◌, ◌≤◌, IfOk, IsErrOf};
 ghost use Rattle.std.specs.FinMap as finite;
 ghost use Rattle.block_device.specs.Disk.{Rose};
-ghost use Rattle.object_model.specs.Effect.{object_limit};
 ghost use Rattle.object_model.specs.declared.command.Command.TheVariants as ask;
 ghost use Rattle.onode_state.specs.Objects.{AreRowsOfAStore};
 ghost use Rattle.block_device.specs.Disk.{Disk};
@@ -19,11 +18,10 @@ use crate::reading::{read_range, sum};
 use block_device::Device;
 use byte_maps::{Bytes, Items};
 use meta_rows::RowTable;
-use object_model::{Answer, Command, Refusal};
+use object_model::{Answer, Command, Refusal, ends_too_far};
 use onode_codec::{coll_key, onode_key};
 use onode_state::{coll_name_is_one, name_is_one, object_size, object_state};
 use std::alloc::{AllocError, Global};
-use unit_fields::limits::OBJECT_LIMIT;
 use unit_fields::{CollName, Name};
 
 /// The answer to a command that reads, by the rows of a store and the device that holds its units: a refusal, what it asks for, or the first of
@@ -94,13 +92,6 @@ fn object_refusal(
         return Ok(None);
     }
     Ok(Some(Refusal::NoObject))
-}
-
-// Whether a range of bytes ends past the limit of an object.
-fn ends_too_far(off: u64, len: u64) -> bool
-    ensures { result ≡ nat_lt object_limit (off + len) }
-{
-    OBJECT_LIMIT < len || OBJECT_LIMIT - len < off
 }
 
 // The refusal of a read of a range.

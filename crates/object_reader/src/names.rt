@@ -1,32 +1,19 @@
 //! Names of collections and objects, in byte order.
-ghost use Rattle.std.specs.Prelude.{◌≡◌, ℕ, List, [], ◌∷◌, ◌++◌, IfOk, IfSome, MatchOption};
+ghost use Rattle.std.specs.Prelude.{◌≡◌, ℕ, List, IfOk, MatchOption};
 ghost use Rattle.std.specs.Option.{option_copied};
 ghost use Rattle.unit_fields.specs.Names.{IsName, IsCollName};
 ghost use Rattle.row_format.specs.Keys.{coll_key, onode_key};
 ghost use Rattle.onode_state.specs.Objects.{AreRowsOfAStore};
 ghost use Rattle.read_facts.specs.Walks.{IsCollection, IsObject, IsNextOf, IsPast, AreAll};
-ghost use Rattle.object_reader.specs.NextKeys.{IsLeastKey, HasNoKey, colls_first, objects_first};
+ghost use Rattle.object_reader.specs.NextKeys.{IsLeastKey, HasNoKey};
 
 use byte_maps::Bytes;
 use meta_rows::RowTable;
-use onode_codec::shards_end;
-use onode_state::{coll_name_is_one, name_is_one};
+use onode_codec::{COLLS_END, colls_first, objects_end, objects_first};
+use onode_state::coll_name_is_one;
 use row_check::{RowKey, read_key};
 use std::alloc::{AllocError, Global};
 use unit_fields::{CollName, Name};
-
-// The first byte of the keys of collections, and the least one above it.
-const COLLECTION: u8 = b'C';
-
-const BEHIND_COLLECTIONS: u8 = b'D';
-
-// The first byte of the keys of onodes and shards.
-const OBJECT: u8 = b'O';
-
-// It ends a name within a key, and no name has it; and the least byte above it.
-const END: u8 = 0;
-
-const BEHIND_END: u8 = 1;
 
 // The least key of the rows from `first` on and below `end`.
 fn first_key<'a>(rows: &'a RowTable, first: &[u8], end: &[u8]) -> Option<&'a [u8]>
@@ -38,44 +25,6 @@ fn first_key<'a>(rows: &'a RowTable, first: &[u8], end: &[u8]) -> Option<&'a [u8
     }
 }
 
-// Where the keys of the collections begin that are behind another one.
-fn colls_first(alloc: Global, after: Option<&CollName>) -> Result<Bytes, AllocError>
-    ensures { IfOk result (λ key. key ≡ colls_first (option_copied after.entry)) }
-{
-    let mut key = Vec::new(alloc);
-    key.push(COLLECTION)?;
-    if let Some(coll) = after {
-        key.extend_from_slice(coll.as_slice())?;
-        key.push(END)?;
-    }
-    Ok(Bytes::from_vec(key))
-}
-
-// The front of the keys of a collection's objects, with this byte behind the collection's name.
-fn objects_front(alloc: Global, coll: &CollName, behind: u8) -> Result<Bytes, AllocError>
-    ensures { IfOk result (λ key. key ≡ 0x4f ∷ (coll.now ++ behind ∷ [])) }
-{
-    let mut key = Vec::new(alloc);
-    key.push(OBJECT)?;
-    key.extend_from_slice(coll.as_slice())?;
-    key.push(behind)?;
-    Ok(Bytes::from_vec(key))
-}
-
-// Where the keys of a collection's objects begin that are behind another one: behind all shards of that one.
-fn objects_first(alloc: Global, coll: &CollName, after: Option<&Name>) -> Result<Bytes, AllocError>
-    ensures key { IfOk result (λ key. key ≡ objects_first coll.now (option_copied after.entry)) }
-    ensures named { IfSome (option_copied after.entry) IsName }
-{
-    match after {
-        Some(object) => {
-            name_is_one(object);
-            shards_end(alloc, coll, object)
-        }
-        None => objects_front(alloc, coll, END),
-    }
-}
-
 // The collection whose key this is.
 fn coll_in(alloc: Global, key: &[u8]) -> Result<CollName, AllocError>
     requires { (coll : List ℕ) × IsCollName coll × (key.now ≡ coll_key coll) }
@@ -84,6 +33,7 @@ fn coll_in(alloc: Global, key: &[u8]) -> Result<CollName, AllocError>
     match read_key(alloc, key)? {
         Some(RowKey::Collection { coll }) => Ok(coll),
         Some(RowKey::Object { .. }) => unreachable!(),
+        Some(RowKey::Bitmap { .. }) => unreachable!(),
         None => unreachable!(),
     }
 }
@@ -102,6 +52,7 @@ fn object_in(alloc: Global, key: &[u8]) -> Result<Name, AllocError>
             },
         ) => Ok(object),
         Some(RowKey::Collection { .. }) => unreachable!(),
+        Some(RowKey::Bitmap { .. }) => unreachable!(),
         None => unreachable!(),
     }
 }
@@ -118,7 +69,7 @@ pub fn next_collection(
         (IsNextOf (IsCollection rows.now.rows) (option_copied after.entry))) }
 {
     let first = colls_first(alloc, after)?;
-    match first_key(rows, first.as_slice(), &[BEHIND_COLLECTIONS]) {
+    match first_key(rows, first.as_slice(), COLLS_END) {
         Some(key) => Ok(Some(coll_in(alloc, key)?)),
         None => Ok(None),
     }
@@ -138,7 +89,7 @@ pub fn next_name(
 {
     coll_name_is_one(coll);
     let first = objects_first(alloc, coll, after)?;
-    let end = objects_front(alloc, coll, BEHIND_END)?;
+    let end = objects_end(alloc, coll)?;
     match first_key(rows, first.as_slice(), end.as_slice()) {
         Some(key) => Ok(Some(object_in(alloc, key)?)),
         None => Ok(None),

@@ -16,10 +16,10 @@ use Rattle.meta_rows.specs.Rows.{Rows}
 use Rattle.meta_rows.specs.Table.{rows_from_to}
 use Rattle.meta_log.specs.declared.slot.Super.{Super}
 use Rattle.unit_fields.specs.Names.{IsName, IsCollName}
-use Rattle.row_format.specs.Keys.{of_object, onode_key, shard_key}
+use Rattle.row_format.specs.Keys.{of_object, onode_key, shard_key, bitmap_key}
 use Rattle.row_format.specs.Extents.{Extent, extent_bytes}
-use Rattle.row_format.specs.Row.{Row, collection, onode, shard, row_key, row_value, FitsShard}
-use Rattle.row_format.proofs.KeyLemmas.{same_place, same_shard, coll_no_object}
+use Rattle.row_format.specs.Row.{Row, collection, onode, shard, bitmap, row_key, row_value, FitsShard}
+use Rattle.row_format.proofs.KeyLemmas.{same_place, same_shard, coll_no_object, bitmap_no_object}
 use Rattle.row_format.proofs.ExtentLemmas.{extents-same}
 use Rattle.row_check.proofs.KeyOrder.{after_front, has_front, lesser_page, onode_before}
 use Rattle.row_check.proofs.Walk.{AreRows, all_rows, are_rows}
@@ -185,6 +185,7 @@ module _ (c o : List ℕ) where
           fits = subst (λ x. FitsShard x o page es) same.0 (subst (λ x. FitsShard d x page es) same.1 has.fits);
           is = λ i. (shard_key (same.0 i) (same.1 i) page, flat_map extent_bytes es);
         }
+    row_between (bitmap r bits) rows has is = let key = of_this (bitmap_key r) is in absurd (bitmap_no_object r c o key.0 key.1)
 
     -- ---- shards by their entries
 

@@ -7,8 +7,8 @@ use Rattle.unit_fields.specs.Names.{IsName, IsCollName}
 use Rattle.unit_fields.specs.UnitSet.{Ascends}
 use Rattle.row_format.specs.Keys.{onode_key, shard_key}
 use Rattle.row_format.specs.Extents.{Extent, Ascend, place_of}
-use Rattle.row_format.specs.Row.{Row, collection, onode, shard, row_key, row_value}
-use Rattle.row_format.proofs.KeyLemmas.{same_onode, onode_no_shard, coll_no_object}
+use Rattle.row_format.specs.Row.{Row, collection, onode, shard, bitmap, row_key, row_value}
+use Rattle.row_format.proofs.KeyLemmas.{same_onode, onode_no_shard, coll_no_object, bitmap_no_object}
 use Rattle.onode_codec.specs.Reading.{SpellsOnode}
 use Rattle.onode_codec.proofs.Again.{same_onode as same_size}
 use Rattle.store_image.specs.Pages.{HasKey, HasRow}
@@ -39,6 +39,7 @@ module _ (rows : Rows) (c o : List ℕ) (coll : IsCollName c) (name : IsName o) 
       }
   onode_row value (shard d u page es) has key is =
       absurd (onode_no_shard c o d u page coll name has.fits.coll_name has.fits.object_name key)
+  onode_row value (bitmap r bits) has key is = absurd (bitmap_no_object r c o _ (sym key))
 
   pub onode_under : (value : List ℕ) → finite.get rows (onode_key c o) ≡ Some value → OnodeIs rows c o value
   onode_under value is =

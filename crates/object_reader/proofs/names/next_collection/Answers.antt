@@ -1,7 +1,8 @@
 use Rattle.std.proofs.Common.{ℕ, List, sym, subst, ◌∙◌}
 use Rattle.std.specs.Option.{option_copied}
 use Rattle.read_facts.specs.Walks.{IsCollection, IsNextOf}
-use Rattle.object_reader.specs.NextKeys.{IsLeastKey, HasNoKey, colls_first, colls_end}
+use Rattle.onode_codec.specs.Fronts.{colls_first, colls_end}
+use Rattle.object_reader.specs.NextKeys.{IsLeastKey, HasNoKey}
 use Rattle.object_reader.proofs.NamesNext.{next_coll, no_coll}
 use Rattle.object_reader.proofs.names.next_collection.Goals as goal
 

@@ -1,5 +1,5 @@
 -- The plan of a write, from the object as the rows have it.
-use Rattle.std.proofs.Common.{◌≡◌, ℕ, ◌+◌, ◌*◌, List, length, max, ap, ◌∙◌}
+use Rattle.std.proofs.Common.{◌≡◌, ℕ, ◌+◌, ◌*◌, List, ◌++◌, length, max, ap, ◌∙◌}
 use Rattle.std.specs.FinMap as finite
 use Rattle.meta_rows.specs.Rows.{Rows}
 use Rattle.meta_rows.specs.declared.row_op.RowOp.{RowOp}
@@ -7,25 +7,30 @@ use Rattle.row_format.specs.Extents.{Extent}
 use Rattle.blob_map.specs.Pages.{PageMap, laid}
 use Rattle.blob_map.specs.Normal.{extents_of}
 use Rattle.object_rows.specs.Operations.{object_ops}
-use Rattle.object_rows.specs.Plans.{new_pages, units_between, WritesPages}
+use Rattle.object_rows.specs.Plans.{new_pages, units_between, TurnsBits, WritesPages}
 use Rattle.onode_state.specs.Objects.{IsStateOf}
 
 pub writes_pages : (rows : Rows) (c o : List ℕ) (first : ℕ) (bytes units firsts : List ℕ) (size most : ℕ) (pages after : PageMap)
-    (extents : List Extent) (ops : List RowOp) (released : List ℕ) → IsStateOf rows c o size pages firsts
+    (extents : List Extent) (ops flips all : List RowOp) (released : List ℕ) → IsStateOf rows c o size pages firsts
     → after ≡ laid pages (new_pages first 0 units bytes) → extents ≡ extents_of (finite.entries after)
     → most ≡ max size (4096 * (first + length units)) → ops ≡ object_ops rows c o most extents firsts
-    → released ≡ units_between pages first (length units) → WritesPages rows c o first bytes units ops released
-writes_pages rows c o first bytes units firsts size most pages after extents ops released state after_is extents_is most_is ops_is gone_is = record {
-  pages = pages;
-  are_pages = state.are_pages;
-  present = firsts;
-  are_shards = state.are_shards;
-  there = state.there;
-  in_order = state.in_order;
-  before = size;
-  was_long = state.was_long;
-  ops_are = ops_is ∙ ap (λ n. object_ops rows c o n extents firsts) most_is
-      ∙ ap (λ es. object_ops rows c o (max size (4096 * (first + length units))) es firsts)
-      (extents_is ∙ ap (λ m. extents_of (finite.entries m)) after_is);
-  released_are = gone_is;
-}
+    → released ≡ units_between pages first (length units) → TurnsBits units released flips → all ≡ ops ++ flips
+    → WritesPages rows c o first bytes units all released
+writes_pages rows c o first bytes units firsts size most pages after extents ops flips all released state after_is extents_is most_is ops_is
+    gone_is turns all_is = record {
+      pages = pages;
+      are_pages = state.are_pages;
+      present = firsts;
+      are_shards = state.are_shards;
+      there = state.there;
+      in_order = state.in_order;
+      before = size;
+      was_long = state.was_long;
+      flips = flips;
+      turns = turns;
+      ops_are = all_is
+          ∙ ap (λ l. l ++ flips) (ops_is ∙ ap (λ n. object_ops rows c o n extents firsts) most_is
+          ∙ ap (λ es. object_ops rows c o (max size (4096 * (first + length units))) es firsts)
+          (extents_is ∙ ap (λ m. extents_of (finite.entries m)) after_is));
+      released_are = gone_is;
+    }

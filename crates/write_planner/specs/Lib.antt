@@ -1,3 +1,4 @@
 pub mod PlanFails
 pub mod Ops
 pub mod Parts
+pub mod Turns

@@ -8,6 +8,7 @@
 mod object_change;
 mod pages;
 mod planning;
+mod turns;
 
 pub use planning::{PlanFail, plan};
 

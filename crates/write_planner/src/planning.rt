@@ -1,5 +1,5 @@
 //! What a transaction is turned into before it is accepted: its plan, or why there is none.
-ghost use Rattle.std.specs.Prelude.{◌≡◌, ◌+◌, ◌*◌, ◌≤◌, nat_lt, [], ◌∷◌, length, IfOk, IfErr};
+ghost use Rattle.std.specs.Prelude.{◌≡◌, ◌+◌, ◌*◌, ◌≤◌, [], ◌∷◌, length, IfOk, IfErr};
 ghost use Rattle.std.specs.FinMap as finite;
 ghost use Rattle.object_model.specs.Effect.{object_limit};
 ghost use Rattle.object_model.specs.declared.op.Op.TheVariants.{MkColl, Touch, Write};
@@ -14,15 +14,16 @@ ghost use Rattle.write_planner.specs.declared.planning.PlanFail.TheVariants.{Mem
 
 use crate::object_change::{object_ops, onode_ops};
 use crate::pages::{fresh_units, lay_pages, units_between};
+use crate::turns::turned_bits;
 use byte_maps::{Bytes, Items};
 use meta_rows::{RowOp, RowTable};
-use object_model::{Op, Refusal, Transaction};
+use object_model::{Op, Refusal, Transaction, ends_too_far};
 use onode_codec::{coll_key, onode_key};
 use onode_state::{ObjectState, coll_name_is_one, name_is_one, object_state};
 use std::alloc::{AllocError, Global};
 use store_steps::Plan;
 use unit_allocator::{Allocator, TakeFail};
-use unit_fields::limits::{OBJECT_LIMIT, UNIT_BYTES};
+use unit_fields::limits::UNIT_BYTES;
 use unit_fields::{CollName, Name, UnitNo};
 
 /// Why there is no plan.
@@ -57,7 +58,8 @@ impl From<TakeFail> for PlanFail {
 
 /// The plan of a transaction over the submitted rows and the free units. `submit` calls it before it changes anything.
 ///
-/// Each page takes the lowest free unit that is left, and releases the one that it stood on. The bytes are copied once.
+/// Each page takes the lowest free unit that is left, and releases the one that it stood on. The bits of both in the freelist are turned by
+/// the last operations. The bytes are copied once.
 pub fn plan(
     alloc: Global,
     rows: &RowTable,
@@ -199,14 +201,7 @@ fn plan_touch(
     Ok(rows_alone(alloc, ops))
 }
 
-// Whether a range of bytes ends past the limit of an object.
-fn ends_too_far(off: u64, len: u64) -> bool
-    ensures { result ≡ nat_lt object_limit (off + len) }
-{
-    OBJECT_LIMIT < len || OBJECT_LIMIT - len < off
-}
-
-// The write of whole pages from one on, each on its unit: what becomes of the object's rows, and which units go.
+// The write of whole pages from one on, each on its unit: what becomes of the object's rows and of the units' bits, and which units go.
 fn pages_on(
     alloc: Global,
     rows: &RowTable,
@@ -232,9 +227,12 @@ fn pages_on(
     let extents = pages.extents(alloc)?;
     let end = UNIT_BYTES as u64 * (u64::from(first) + u64::from(count));
     let ops = object_ops(alloc, rows, coll, object, size.max(end), &extents, &shards)?;
+    let mut flips = turned_bits(alloc, units, released.as_slice())?;
+    let mut all = ops.into_vec();
+    all.append(&mut flips)?;
     let fresh = fresh_units(alloc, units, bytes)?;
     Ok(Plan {
-        ops,
+        ops: Items::from_vec(all),
         fresh,
         released,
     })

@@ -1,13 +1,14 @@
 //! Plans over rows that are spelled by hand. The store's data units are 18 to 799.
 ghost use Rattle.std.specs.Prelude.{◌≡◌, IsTrue, IfOk};
 ghost use Rattle.meta_log.specs.Slots.{IsSuper};
+ghost use Rattle.meta_rows.specs.Spelling.{Fits};
 ghost use Rattle.onode_state.specs.Objects.{AreRowsOfAStore};
 ghost use Rattle.store_steps.specs.Submit.{IsKnown};
 
 use super::*;
 use byte_maps::Bytes;
 use meta_log::Super;
-use meta_rows::{RowOp, RowTable};
+use meta_rows::{RowOp, RowTable, encode};
 use object_model::{Op, Refusal, Transaction};
 use onode_codec::{Body, Extent};
 use row_check::{Part, Row, RowKey, find_bad_row, read_key, read_row};
@@ -35,12 +36,20 @@ const NO_BYTES: Entry = (ONODE, b"\0\0\0\0\0\0\0\0");
 
 const ONE_PAGE: Entry = (ONODE, b"\0\x10\0\0\0\0\0\0");
 
+const TWO_PAGES: Entry = (ONODE, b"\0\x20\0\0\0\0\0\0");
+
 const THREE_PAGES: Entry = (ONODE, b"\0\x30\0\0\0\0\0\0");
 
 const SIX_PAGES: Entry = (ONODE, b"\0\x60\0\0\0\0\0\0");
 
 // Pages 0 to 2 on units 40 to 42, page 0 on 50, page 2 on 52 and page 5 on 55.
 const THREE_ON_40: Entry = (SHARD_0, b"\0\0\0\0\x03\0\0\x28\0\0\0ccccddddeeee");
+
+// Page 0 on unit 300 and page 1 on unit 50.
+const DOWNWARDS: Entry = (
+    SHARD_0,
+    b"\0\0\0\0\x01\0\0\x2c\x01\0\0cccc\x01\0\0\0\x01\0\0\x32\0\0\0dddd",
+);
 
 const PAGE_0_ON_50: Entry = (SHARD_0, b"\0\0\0\0\x01\0\0\x32\0\0\0cccc");
 
@@ -157,7 +166,7 @@ fn tell_set(alloc: Global, text: &mut String, key: &Bytes, value: &Bytes) -> Res
             tell_extents(text, extents.as_slice())?;
             Ok(write!(text, ";")?)
         }
-        None => Err("no row".into()),
+        _ => Err("no row of an object".into()),
     }
 }
 
@@ -173,12 +182,32 @@ fn tell_drop(alloc: Global, text: &mut String, key: &Bytes) -> Result<(), Fail> 
     }
 }
 
+// The units of a row whose bits a mask turns. The lowest bit of a byte comes first.
+fn tell_bits(text: &mut String, row: u8, mask: &[u8]) -> Result<(), Fail> {
+    for place in 0..128u32 {
+        let byte = mask.get((place / 8) as usize).copied().unwrap_or(0);
+        if (byte >> (place % 8)) & 1 == 1 {
+            write!(text, " {}", 128 * u32::from(row) + place)?;
+        }
+    }
+    Ok(())
+}
+
+fn tell_flip(text: &mut String, key: &[u8], mask: &[u8]) -> Result<(), Fail> {
+    let [b'b', 0, 0, 0, row] = key else {
+        return Err("no row of the freelist".into());
+    };
+    write!(text, "flip")?;
+    tell_bits(text, *row, mask)?;
+    Ok(write!(text, ";")?)
+}
+
 fn tell_ops(alloc: Global, text: &mut String, ops: &[RowOp]) -> Result<(), Fail> {
     for op in ops {
         match op {
             RowOp::Set { key, value } => tell_set(alloc, text, key, value)?,
             RowOp::Drop { key } => tell_drop(alloc, text, key)?,
-            RowOp::Flip { .. } => return Err("a flip".into()),
+            RowOp::Flip { key, mask } => tell_flip(text, key.as_slice(), mask.as_slice())?,
         }
     }
     Ok(())
@@ -264,12 +293,14 @@ fn touched(alloc: Global, entries: &[Entry], wanted: &str) -> Result<(), Fail> {
     plans(alloc, entries, &touch(alloc)?, wanted)
 }
 
+// No unit is taken or released, so no bit is turned.
 #[test]
 fn collections(rt: HostRuntime) -> Result<(), Fail> {
     made(rt.alloc(), &[], "coll;")?;
     made(rt.alloc(), &[COLL], "Refusal(CollectionExists)")
 }
 
+// Nor here.
 #[test]
 fn touches(rt: HostRuntime) -> Result<(), Fail> {
     touched(rt.alloc(), &[COLL], "onode 0;")?;
@@ -277,6 +308,7 @@ fn touches(rt: HostRuntime) -> Result<(), Fail> {
     touched(rt.alloc(), &[], "Refusal(NoCollection)")
 }
 
+// The bits of the three units are turned to 1. They are of the freelist's row 0, which has those of units 0 to 127.
 #[test]
 fn first_write(rt: HostRuntime) -> Result<(), Fail> {
     all_planned(
@@ -285,20 +317,43 @@ fn first_write(rt: HostRuntime) -> Result<(), Fail> {
             &[COLL, BEFORE, BEHIND, BEHIND_0],
             0,
             &[7, 8, 9],
-            "onode 12288;shard 0 0+1@18 1+2@20; 18=7 true 20=8 true 21=9 true",
+            "onode 12288;shard 0 0+1@18 1+2@20;flip 18 20 21; 18=7 true 20=8 true 21=9 true",
         )],
     )
 }
 
+// The bit of each unit that is taken turns to 1, and that of each one that is released to 0.
 #[test]
 fn overwrite(rt: HostRuntime) -> Result<(), Fail> {
     all_planned(
         rt.alloc(),
+        &[
+            (
+                &[COLL, THREE_PAGES, THREE_ON_40, BEHIND, BEHIND_0],
+                1,
+                &[7],
+                "shard 0 0+1@40 1+1@18 2+1@42;flip 18 41; 18=7 true -41",
+            ),
+            (
+                &[COLL, THREE_PAGES, THREE_ON_40],
+                1,
+                &[7, 8],
+                "shard 0 0+1@40 1+1@18 2+1@20;flip 18 20 41 42; 18=7 true 20=8 true -41 -42",
+            ),
+        ],
+    )
+}
+
+// Unit 300 is of row 2, and is released before unit 50 of row 0, whose bits are turned first.
+#[test]
+fn released_downwards(rt: HostRuntime) -> Result<(), Fail> {
+    all_planned(
+        rt.alloc(),
         &[(
-            &[COLL, THREE_PAGES, THREE_ON_40, BEHIND, BEHIND_0],
-            1,
-            &[7],
-            "shard 0 0+1@40 1+1@18 2+1@42; 18=7 true -41",
+            &[COLL, TWO_PAGES, DOWNWARDS],
+            0,
+            &[7, 8],
+            "shard 0 0+1@18 1+1@20;flip 18 20 50;flip 300; 18=7 true 20=8 true -300 -50",
         )],
     )
 }
@@ -312,13 +367,13 @@ fn holes(rt: HostRuntime) -> Result<(), Fail> {
                 &[COLL, THREE_PAGES, THREE_ON_40],
                 5,
                 &[7],
-                "onode 24576;shard 0 0+3@40 5+1@18; 18=7 true",
+                "onode 24576;shard 0 0+3@40 5+1@18;flip 18; 18=7 true",
             ),
             (
                 &[COLL, NO_BYTES],
                 4,
                 &[7, 8],
-                "onode 24576;shard 4 4+1@18 5+1@20; 18=7 true 20=8 true",
+                "onode 24576;shard 4 4+1@18 5+1@20;flip 18 20; 18=7 true 20=8 true",
             ),
         ],
     )
@@ -342,28 +397,29 @@ fn merged_shards(rt: HostRuntime) -> Result<(), Fail> {
                 ],
                 1,
                 &[7, 8],
-                "shard 0 0+1@50 1+1@18 2+1@20 5+1@55;drop 2;drop 5; 18=7 true 20=8 true -52",
+                "shard 0 0+1@50 1+1@18 2+1@20 5+1@55;drop 2;drop 5;flip 18 20 52; 18=7 true 20=8 true -52",
             ),
             (
                 &[COLL, SIX_PAGES, PAGE_2_ON_52, PAGE_5_ON_55],
                 0,
                 &[7],
-                "shard 0 0+1@18 2+1@52 5+1@55;drop 2;drop 5; 18=7 true",
+                "shard 0 0+1@18 2+1@52 5+1@55;drop 2;drop 5;flip 18; 18=7 true",
             ),
         ],
     )
 }
 
-// The extents of a plan's last operation.
-fn last_extents(alloc: Global, plan: &Plan) -> Result<String, Fail> {
+// The extents that a plan gives an object, and how many operations stand behind the one that does.
+fn extents_and_more(alloc: Global, plan: &Plan) -> Result<String, Fail> {
     let mut text = String::new(alloc);
-    if let Some(RowOp::Set { key, value }) = plan.ops.as_slice().last() {
+    if let [_, RowOp::Set { key, value }, more @ ..] = plan.ops.as_slice() {
         tell_set(alloc, &mut text, key, value)?;
+        write!(text, " and {}", more.len())?;
     }
     Ok(text)
 }
 
-// The last extents of the plan of 256 pages behind one on unit 50, where the units from 51 on are free.
+// The extents of the plan of 256 pages behind one on unit 50, where the units from 51 on are free.
 fn behind_one(alloc: Global) -> Result<String, Fail> {
     let rows = rows_of(alloc, &[COLL, ONE_PAGE, PAGE_0_ON_50])?;
     let space = free_from(alloc, 51, &[])?;
@@ -372,16 +428,17 @@ fn behind_one(alloc: Global) -> Result<String, Fail> {
         return Err("a bad row, or a transaction of another kind".into());
     }
     match plan(alloc, &rows, &space, &txn) {
-        Ok(plan) => last_extents(alloc, &plan),
+        Ok(plan) => extents_and_more(alloc, &plan),
         Err(_) => Err("no plan".into()),
     }
 }
 
-// 256 pages are the most of a transaction: with one in the rows already they are 257 on consecutive units.
+// 256 pages are the most of a transaction: with one in the rows already they are 257 on consecutive units. The units 51 to 306 are of three
+// rows of the freelist.
 #[test]
 fn long_runs(rt: HostRuntime) -> Result<(), Fail> {
     let text = behind_one(rt.alloc())?;
-    assert_eq!(rt; text.as_str(), "shard 0 0+256@50 256+1@306;");
+    assert_eq!(rt; text.as_str(), "shard 0 0+256@50 256+1@306; and 3");
     Ok(())
 }
 
@@ -416,7 +473,7 @@ fn limit_of_an_object(rt: HostRuntime) -> Result<(), Fail> {
                 &[COLL],
                 32767,
                 &[7],
-                "onode 134217728;shard 32767 32767+1@18; 18=7 true",
+                "onode 134217728;shard 32767 32767+1@18;flip 18; 18=7 true",
             ),
         ],
     )
@@ -434,5 +491,59 @@ fn short_of_units(alloc: Global, first: u64, wanted: &str) -> Result<bool, Fail>
 fn too_few_units(rt: HostRuntime) -> Result<(), Fail> {
     assert!(rt; short_of_units(rt.alloc(), 0, "NoSpace { need: 4, free: 3 }")?);
     assert!(rt; short_of_units(rt.alloc(), 32768, "Refusal(TooBig)")?);
+    Ok(())
+}
+
+// The plan of a write of pages from one on, where the units from 130 on are free.
+fn from_130(alloc: Global, entries: &[Entry], first: u64, fills: &[u8]) -> Result<Plan, Fail> {
+    let rows = rows_of(alloc, entries)?;
+    let space = free_from(alloc, 130, &[])?;
+    let txn = write(alloc, first, fills)?;
+    if !are_good(alloc, &rows)? || !is_known(&txn) {
+        return Err("a bad row, or a transaction of another kind".into());
+    }
+    match plan(alloc, &rows, &space, &txn) {
+        Ok(plan) => Ok(plan),
+        Err(_) => Err("no plan".into()),
+    }
+}
+
+fn fits(op: &RowOp) -> bool
+    ensures { IsTrue result → Fits op.now }
+{
+    match op {
+        RowOp::Flip { key, mask } => !key.is_empty() && key.len() <= 1024 && mask.len() == 16,
+        _ => false,
+    }
+}
+
+// The spelling of what stands behind a plan's first two operations, which is to be one.
+fn third_spelled(alloc: Global, plan: &Plan) -> Result<Vec<u8>, Fail> {
+    match plan.ops.as_slice() {
+        [_, _, op] if fits(op) => Ok(encode(alloc, std::slice::from_ref(op))?),
+        _ => Err("no flip, or more".into()),
+    }
+}
+
+// Row 1 has the bits of units 128 to 255, eight in a byte: that of unit 130 is bit 2 of its first byte.
+#[test]
+fn flip_by_hand(rt: HostRuntime) -> Result<(), Fail> {
+    let plan = from_130(rt.alloc(), &[COLL], 0, &[7])?;
+    let bytes = third_spelled(rt.alloc(), &plan)?;
+    assert_eq!(rt;
+        bytes.as_slice(),
+        b"\x03\x05\x00b\x00\x00\x00\x01\x10\x00\x00\x00\x04\0\0\0\0\0\0\0\0\0\0\0\0\0\0\0".as_slice()
+    );
+    Ok(())
+}
+
+// Two units are released in row 0, and two taken in row 1.
+#[test]
+fn flips_of_two_rows(rt: HostRuntime) -> Result<(), Fail> {
+    let plan = from_130(rt.alloc(), &[COLL, THREE_PAGES, THREE_ON_40], 1, &[7, 8])?;
+    assert_eq!(rt;
+        told(rt.alloc(), &plan)?.as_str(),
+        "shard 0 0+1@40 1+2@130;flip 41 42;flip 130 131; 130=7 true 131=8 true -41 -42"
+    );
     Ok(())
 }

@@ -1,9 +1,10 @@
-use Rattle.std.proofs.Common.{◌≡◌, ℕ, ◌+◌, ◌*◌, List, length, max, map, ap, ◌∙◌, arith}
+use Rattle.std.proofs.Common.{◌≡◌, ℕ, ◌+◌, ◌*◌, List, ◌++◌, length, max, map, ap, subst, ◌∙◌, arith}
 use Rattle.std.specs.Ordering.{nat_cmp}
 use Rattle.std.specs.FinMap.Entries.{where_key}
 use Rattle.number_map.specs.NumberMap.{is_in}
 use Rattle.row_format.specs.Extents.{Place}
 use Rattle.object_rows.specs.Operations.{object_ops}
+use Rattle.object_rows.specs.Plans.{TurnsBits}
 use Rattle.write_planner.proofs.Written.{writes_pages}
 use Rattle.write_planner.proofs.planning.pages_on.Goals as goal
 
@@ -13,16 +14,21 @@ returns c =
     let first = c.args.first in
     let units = c.args.units.now in
     let size = c.in_ok-size.field-0.size in
+    let ops = c.in_ok-ops.ops in
+    let flips = c.in_ok-flips.flips.items in
     let sum : c.from.result + c.from-2.result ≡ first + length units = omega (arith, c.from.ensures, c.from-2.ensures) in
     record {
       writes = writes_pages rows c.args.coll.now c.args.object.now first c.args.bytes.now units c.in_ok-size.field-0.shards.items size
-          c.max.result c.in_ok-size.field-0.pages c.lay_pages.new.pages c.in_ok-extents.extents.items c.in_ok-ops.ops c.in_ok-released.released c.in_ok-size.ensures
+          c.max.result c.in_ok-size.field-0.pages c.lay_pages.new.pages c.in_ok-extents.extents.items ops flips c.from_vec.result c.in_ok-released.released
+          c.in_ok-size.ensures
           c.in_ok-lay_pages.ensures.laid c.in_ok-extents.ensures.extents
           (c.max.ensures ∙ ap (λ n. max size (4096 * n)) sum)
           (c.in_ok-ops.ensures
           ∙ (λ i. object_ops rows c.args.coll.now c.args.object.now c.max.result (c.deref.ensures.value i) (c.deref-2.ensures.value i)))
           (c.in_ok-released.ensures
-          ∙ ap (λ (ps : List (ℕ × Place)). map (λ p. p.1.unit) (where_key nat_cmp (is_in first (first + length units)) ps)) c.pages-2.ensures);
+          ∙ ap (λ (ps : List (ℕ × Place)). map (λ p. p.1.unit) (where_key nat_cmp (is_in first (first + length units)) ps)) c.pages-2.ensures)
+          (subst (λ us. TurnsBits units us flips) c.as_slice.ensures c.in_ok-flips.ensures)
+          (c.from_vec.ensures ∙ c.in_ok-append.ensures.items ∙ ap (λ l. l ++ flips) c.into_vec-all.ensures);
       fresh = c.in_ok-fresh.ensures;
       csums_fit = c.in_ok-lay_pages.ensures.csums;
     }

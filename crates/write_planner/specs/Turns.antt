@@ -1,0 +1,7 @@
+-- Sets of units whose bits are turned.
+use Rattle.std.specs.Prelude.{◌↔◌, ◌⊎◌, ℕ, List, Contains}
+use Rattle.bitmap_freelist.specs.Bitmap.{Units, Has}
+
+-- the set got these units, and no others
+abbrev pub AddsUnits : List ℕ → Units → Units → Type 0
+AddsUnits us old new = (unit : ℕ) → Has new unit ↔ (Has old unit ⊎ Contains us unit)

@@ -50,8 +50,8 @@ use Rattle.book_facts.proofs.Queues.{entry_push, queued_noted, queued_accepted}
 pub takes_plan : (s : State) (d : Disk) (client line : ℕ) (change : Change) (s' : State) → IsKept s d → MaySubmit change s d
     → (does : Accepts client line change s s') → IsPlanned s.log.sup s.view change (as_planned does.plan)
 takes_plan s d client line change s' kept may does =
-    planned s.log.sup s.log.rows s.view s.space kept.always.limits kept.always.space (kept.up does.can_note.up).free change.coll change.ops does.plan
-    may.known does.names does.not_refused does.plans
+    planned s.log.sup s.log.rows s.view s.space kept.always.limits (kept.up does.can_note.up).good kept.always.space (kept.up does.can_note.up).free
+    change.coll change.ops does.plan may.known does.names does.not_refused does.plans
 
 -- ---- fresh units have their bytes
 

@@ -3,13 +3,11 @@ use Rattle.std.proofs.Common.{◌≡◌, inl, inr, ℕ, ◌+◌, ◌-◌, ◌*�
 use Rattle.std.specs.Option.{option_map_or}
 use Rattle.std.proofs.lemmas.Bool.{eq-eqb, ltb-true}
 use Rattle.std.proofs.lemmas.Option.{same_Some}
-use Rattle.std.proofs.lemmas.List.{length-set}
 use Rattle.block_device.specs.Disk.{Disk, Flight, IsSound, Reaped, Waited}
 use Rattle.block_device.specs.declared.device.Ticket.{Ticket}
-use Rattle.meta_log.specs.declared.slot.Super.{Super}
 use Rattle.meta_log.specs.Records.{unit_count}
 use Rattle.meta_log.specs.Pieces.{piece_count}
-use Rattle.unit_allocator.specs.Units.{Space, given, given_one, taken, taken_one}
+use Rattle.unit_allocator.specs.Units.{given}
 use Rattle.store_steps.specs.declared.context.Context.{Context}
 use Rattle.store_steps.specs.declared.flight.FlushState.TheVariants as flush
 use Rattle.store_steps.specs.declared.flight.Flying.{Flying}
@@ -20,7 +18,6 @@ use Rattle.store_steps.specs.Changes.{down_by, landed, after_good, flying_of, ta
 use Rattle.store_steps.specs.Ready.{applied_count, is_ready_up, is_empty}
 use Rattle.store_steps.specs.Steps.{Takes, DoesTake, DoesCommit, DoesFinish}
 use Rattle.store_facts.specs.Flights.{AreFlights}
-use Rattle.store_facts.specs.Space.{IsSpaceOf}
 use Rattle.store_facts.specs.Work.{sum_work, batch_work, work_left}
 use Rattle.store_facts.specs.Kept.{IsAlwaysKept}
 use Rattle.store_facts.proofs.Stages.{Stage, idle, waits, opens, synced, AreWritten, at, far_at}
@@ -29,6 +26,7 @@ use Rattle.store_facts.proofs.Readiness.{next_taken, next_commit}
 use Rattle.store_facts.proofs.Flying.{others_of, Landed, landed_flight}
 use Rattle.store_facts.proofs.Working.{stage_work, unacked, work_at}
 use Rattle.store_facts.proofs.Numbers.{acks_push, acks_more, acknowledged_length}
+use Rattle.store_facts.proofs.SpaceUnits.{space_given}
 use Rattle.store_facts.proofs.Stepping.{IsStanding, Stepped, IsAt, AtStage, by_stages}
 
 -- ---- Take
@@ -104,18 +102,6 @@ take_steps s d s' d' a standing does =
 
 -- ---- Commit
 
-pub given_space : (sup : Super) (space : Space) (units : List ℕ) → IsSpaceOf sup space → IsSpaceOf sup (given space units)
-given_space sup space [] is = is
-given_space sup space (u ∷ us) is =
-    let same : length (given_one space u).idle ≡ length space.idle = length-set space.idle (u - space.first) true in
-    given_space sup (given_one space u) us (record { first = is.first; count = omega (arith, same, is.count) })
-
-pub taken_space : (sup : Super) (space : Space) (units : List ℕ) → IsSpaceOf sup space → IsSpaceOf sup (taken space units)
-taken_space sup space [] is = is
-taken_space sup space (u ∷ us) is =
-    let same : length (taken_one space u).idle ≡ length space.idle = length-set space.idle (u - space.first) false in
-    taken_space sup (taken_one space u) us (record { first = is.first; count = omega (arith, same, is.count) })
-
 -- the batch was committed
 abbrev Commits : State → State → Type 0
 Commits s' t = (b : Batch) × ((t.batch ≡ Some b) × (s' ≡ committed_batch b t))
@@ -137,7 +123,7 @@ commit_synced s d s' x pieces was what =
         device = a.device;
         limits = a.limits;
         units = a.units;
-        space = given_space s.log.sup s.space (batch_released b) a.space;
+        space = space_given s.log.sup s.space (batch_released b) a.space;
         flights = a.flights;
         numbers = record {
           number = omega (arith, a.numbers.number);

@@ -2,6 +2,7 @@
 use Rattle.std.proofs.Common.{◌≡◌, inl, inr, ℕ, ◌^◌, ◌<◌, ◌≤◌, true, [], Option, Some, None, refl, sym, ap, subst, ◌∙◌}
 use Rattle.block_device.specs.Disk.{Disk, IsSound}
 use Rattle.block_device.specs.declared.device.Ticket.{Ticket}
+use Rattle.meta_log.specs.Slots.{IsSuper}
 use Rattle.object_model.specs.Effect.{Change}
 use Rattle.object_model.specs.declared.command.Command.{Command}
 use Rattle.object_model.specs.declared.command.Command.TheVariants as ask
@@ -35,20 +36,20 @@ stays_down None ticket e = cc
 stays_down (Some first) ticket e = cc
 
 -- the rows and the free units after a step that has stepped; one that ended badly has fallen, and the rows don't matter
-stepped_rows : (step : Step) (s : State) (d : Disk) (s' : State) (d' : Disk) → AreRowsKept s → IsKeptUp s d → s'.down ≡ None
+stepped_rows : (step : Step) (s : State) (d : Disk) (s' : State) (d' : Disk) → IsSuper s.log.sup → AreRowsKept s → IsKeptUp s d → s'.down ≡ None
     → DoesOrFails step s d s' d'
     → AreRowsKept s'
-stepped_rows Data s d s' d' rows up standing does = rows_stay s s' (data_same s d s' d' does) rows
-stepped_rows Reap s d s' d' rows up standing (inl does) = rows_stay s s' (reap_same s d s' d' does) rows
-stepped_rows Reap s d s' d' rows up standing (inr ended) =
+stepped_rows Data s d s' d' limits rows up standing does = rows_stay s s' (data_same s d s' d' does) rows
+stepped_rows Reap s d s' d' limits rows up standing (inl does) = rows_stay s s' (reap_same s d s' d' does) rows
+stepped_rows Reap s d s' d' limits rows up standing (inr ended) =
     absurd (stays_down s.down ended.ticket (sym (ap (λ (t : State). t.down) ended.after) ∙ standing))
-stepped_rows Take s d s' d' rows up standing does = rows_stay s s' (take_same s d s' d' up.far does) rows
-stepped_rows Flush s d s' d' rows up standing does = rows_stay s s' (flush_same s d s' d' does) rows
-stepped_rows Seal s d s' d' rows up standing does = rows_stay s s' (seal_same s d s' d' does) rows
-stepped_rows Record s d s' d' rows up standing does = rows_stay s s' (record_same s d s' d' does) rows
-stepped_rows Sync s d s' d' rows up standing does = rows_stay s s' (sync_same s d s' d' does) rows
-stepped_rows Commit s d s' d' rows up standing does = commit_rows s d s' d' rows up.far does
-stepped_rows Finish s d s' d' rows up standing does = rows_stay s s' (finish_same s d s' d' does) rows
+stepped_rows Take s d s' d' limits rows up standing does = rows_stay s s' (take_same s d s' d' up.far does) rows
+stepped_rows Flush s d s' d' limits rows up standing does = rows_stay s s' (flush_same s d s' d' does) rows
+stepped_rows Seal s d s' d' limits rows up standing does = rows_stay s s' (seal_same s d s' d' does) rows
+stepped_rows Record s d s' d' limits rows up standing does = rows_stay s s' (record_same s d s' d' does) rows
+stepped_rows Sync s d s' d' limits rows up standing does = rows_stay s s' (sync_same s d s' d' does) rows
+stepped_rows Commit s d s' d' limits rows up standing does = commit_rows s d s' d' limits rows up.far does
+stepped_rows Finish s d s' d' limits rows up standing does = rows_stay s s' (finish_same s d s' d' does) rows
 
 pub kept_step : (step : Step) (s s' : State) (d d' : Disk) → IsKept s d → is_ready step d.depth s ≡ true → DoesOrFails step s d s' d' → IsSound d'
     → IsKept s' d'
@@ -56,7 +57,7 @@ kept_step step s s' d d' kept ready does sound = of_leaves (step_leaves step s d
   where
     of_leaves : Leaves s d s' d' → IsKept s' d'
     of_leaves (has_stepped up stepped) = stepped_kept s s' d' up stepped
-        (stepped_rows step s d s' d' (rows_of_kept s d kept up) (kept.up up) (stepped.up ∙ up) does)
+        (stepped_rows step s d s' d' kept.always.limits (rows_of_kept s d kept up) (kept.up up) (stepped.up ∙ up) does)
     of_leaves (has_waited none same some) = subst (λ (t : State). IsKept t d') (sym same) (waited_kept s d d' sound kept none)
     of_leaves (has_fallen fallen) = fallen_kept s s' d' fallen
 

@@ -20,5 +20,6 @@ pub mod RowsCommitted
 pub mod RowsOpened
 pub mod RowsPages
 pub mod RowsFacts
+pub mod Exactness
 pub mod Kept
 pub mod Known

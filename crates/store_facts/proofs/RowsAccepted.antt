@@ -1,14 +1,14 @@
 -- A transaction is accepted while nothing is under way.
-use Rattle.std.proofs.Common.{◌≡◌, ◌⊎◌, inl, inr, ℕ, ◌≤◌, Bool, true, false, List, [], ◌∷◌, ◌++◌, length, Contains, None, refl, sym, ap, subst, ◌∙◌, append-nil}
+use Rattle.std.proofs.Common.{◌≡◌, ◌⊎◌, inl, inr, ℕ, ◌≤◌, Bool, true, false, List, [], ◌∷◌, ◌++◌, length, Contains, None, refl, sym, ap, subst, ◌∙◌, append-nil, arith}
 use Rattle.std.specs.List.{flat_map}
 use Rattle.std.specs.Option.{option_map_or}
 use Rattle.meta_rows.specs.Rows.{Rows, rows_after}
 use Rattle.meta_log.specs.declared.slot.Super.{Super}
 use Rattle.meta_log.specs.Slots.{IsSuper}
 use Rattle.object_model.specs.Effect.{Change}
-use Rattle.store_image.specs.Owners.{IsDataUnit, IsOwned}
+use Rattle.store_image.specs.Owners.{IsDataUnit, IsOwned, IsMarked}
 use Rattle.object_rows.specs.Planned.{IsPlanned, StandsOnce}
-use Rattle.object_rows.proofs.Planned.{planned_good, planned_sole, planned_gone, planned_once, planned_left, planned_taken, planned_owned, planned_released, planned_fresh}
+use Rattle.object_rows.proofs.Planned.{planned_good, planned_exact, planned_gone, planned_once, planned_left, planned_taken, planned_owned, planned_released, planned_fresh, planned_unmarked}
 use Rattle.unit_allocator.specs.Units.{Space, is_free, taken}
 use Rattle.store_steps.specs.declared.context.Context.{Context}
 use Rattle.store_steps.specs.State.{Batch, State}
@@ -16,16 +16,16 @@ use Rattle.store_steps.specs.declared.plan.Plan.{Plan}
 use Rattle.store_steps.specs.Planning.{as_planned}
 use Rattle.store_steps.specs.Submit.{IsKnown, context_of, accepted_with, Accepts}
 use Rattle.store_facts.specs.Room.{FitsRecord}
-use Rattle.store_facts.specs.Space.{uncommitted, rows_with, IsUnheld, AreGoodRows, IsSpaceOf, IsFreeExactly, ReleasesExactly}
-use Rattle.store_facts.proofs.SpaceUnits.{holds_taken, unheld_before, unheld_after, in_or_not, AreData, space_taken, not_free_taken, as_free_taken}
-use Rattle.store_facts.proofs.RowsKept.{AreRowsKept, good_alike}
+use Rattle.store_facts.specs.Space.{uncommitted, rows_with, AreGoodRows, IsSpaceOf, IsFreeExactly, ReleasesExactly}
+use Rattle.store_facts.proofs.SpaceUnits.{in_or_not, AreData, space_taken, not_free_taken, as_free_taken}
+use Rattle.store_facts.proofs.RowsKept.{AreRowsKept}
 use Rattle.store_facts.proofs.RowsPlans.{units_of, fresh_listed, listed_fresh, fresh_has, planned, PlanFits, plan_fits}
 
 -- the lists of one context
 one_list : {A : Type 0} (f : Context → List A) (x : Context) → flat_map f (x ∷ []) ≡ f x
 one_list f x = append-nil (f x)
 
-module _ (s : Super) (rows : Rows) (space : Space) (good : AreGoodRows s rows space) (is_space : IsSpaceOf s space)
+module _ (s : Super) (rows : Rows) (space : Space) (limits : IsSuper s) (good : AreGoodRows s rows rows) (is_space : IsSpaceOf s space)
     (free : IsFreeExactly s rows rows space) (change : Change) (plan : Plan) (is : IsPlanned s rows change (as_planned plan)) where
   abbrev after : Rows
   after = rows_after rows plan.ops
@@ -36,20 +36,11 @@ module _ (s : Super) (rows : Rows) (space : Space) (good : AreGoodRows s rows sp
   abbrev left : Space
   left = taken space fresh
 
-  held_alike : (v : ℕ) → IsUnheld left v → IsUnheld space v
-  held_alike v none = unheld_before space left v (holds_taken fresh space v) none
-
-  good_after : AreGoodRows s after left
-  good_after = record {
-    good = planned_good s rows is good.good;
-    sole = λ v none. planned_sole s rows v is good.good (good.sole v (held_alike v none));
-  }
-
-  fresh_facts : (v : ℕ) → Contains fresh v → IsDataUnit s v × ¬ IsOwned rows v
-  fresh_facts v c = fresh_has s rows plan.fresh v (planned_fresh s rows is) c
+  good_after : AreGoodRows s rows after
+  good_after = record { good = planned_good s rows is good.good; exact = planned_exact s rows rows is good.good good.exact }
 
   fresh_data : AreData s fresh
-  fresh_data v c = (fresh_facts v c).0
+  fresh_data v c = (fresh_has s rows plan.fresh v (planned_fresh s rows is) c).0
 
   -- the fresh units have an owner after
   fresh_owned : (v : ℕ) → Contains fresh v → IsOwned after v
@@ -64,30 +55,38 @@ module _ (s : Super) (rows : Rows) (space : Space) (good : AreGoodRows s rows sp
   differ : (b : Bool) → b ≡ true → b ≡ false → ⊥
   differ b p q = let e : true ≡ false = sym p ∙ q in cc
 
+  -- what wasn't marked is marked then only if it is fresh
+  still_unmarked : (v : ℕ) → IsDataUnit s v → ¬ Contains fresh v → ¬ IsMarked rows v → ¬ IsMarked after v
+  still_unmarked v on out was marked = elim (good_after.exact.marked v (omega (arith, on.1, limits.units_most)) marked) [
+    | inl owned ↦ elim (owned_cases v owned) [ inl c ↦ out c | inr old ↦ was (good.exact.owned_marked v old) ]
+    | inr leaked ↦ was leaked.marked
+  ]
+
   free_after : IsFreeExactly s rows after left
   free_after v on = (
     λ p. elim (in_or_not fresh v) [
       | inl c ↦ absurd (differ (is_free left v) p (not_free_taken s v on fresh space is_space fresh_data c))
       | inr out ↦
           let was = (free v on).0 (sym (as_free_taken s v on fresh space is_space fresh_data out) ∙ p) in
-          let none : IsUnheld left v = unheld_after space left v (holds_taken fresh space v) was.0 in
-          (none, was.1, λ owned. elim (owned_cases v owned) [ inl c ↦ out c | inr old ↦ was.1 old ])
+          (was.0, still_unmarked v on out was.0)
     ],
-    λ p. as_free_taken s v on fresh space is_space fresh_data (λ c. p.2 (fresh_owned v c)) ∙ (free v on).1 (held_alike v p.0, p.1, p.1),
+    λ p. as_free_taken s v on fresh space is_space fresh_data (λ c. p.1 (good_after.exact.owned_marked v (fresh_owned v c)))
+        ∙ (free v on).1 (p.0, p.0),
   )
 
-  releases_after : (x : Context) → x.released ≡ plan.released → x.fresh ≡ plan.fresh → ReleasesExactly rows after left (x ∷ [])
+  releases_after : (x : Context) → x.released ≡ plan.released → x.fresh ≡ plan.fresh → ReleasesExactly rows after (x ∷ [])
   releases_after x released_is fresh_is =
       let released : flat_map (λ y. y.released) (x ∷ []) ≡ plan.released = one_list (λ y. y.released) x ∙ released_is in
       let taken_units : flat_map (λ y. units_of y.fresh) (x ∷ []) ≡ fresh = one_list (λ y. units_of y.fresh) x ∙ ap units_of fresh_is in
       record {
         owned = λ v owned. subst (λ us. IsOwned after v ⊎ Contains us v) (sym released) (planned_left s rows v is good.good owned);
         released_was = λ v c. planned_released s rows v is (subst (λ us. Contains us v) released c);
-        released_is_not = λ v none c owned.
-            planned_gone s rows v is good.good (good.sole v (held_alike v none)) (subst (λ us. Contains us v) released c) owned;
-        taken_was_not = λ v c. (fresh_facts v (subst (λ us. Contains us v) taken_units c)).1;
+        released_is_not = λ v c owned.
+            planned_gone s rows v is good.good (good.exact.one_owner v) (subst (λ us. Contains us v) released c) owned;
+        taken_was_not = λ v c. planned_unmarked s rows v is (listed_fresh plan.fresh v (subst (λ us. Contains us v) taken_units c));
         taken_is = λ v c. fresh_owned v (subst (λ us. Contains us v) taken_units c);
-        once = λ v none. subst (λ us. StandsOnce us v) (sym released) (planned_once s rows v is (good.sole v (held_alike v none)));
+        new = λ v owned. elim (owned_cases v owned) [ inl c ↦ inr (subst (λ us. Contains us v) (sym taken_units) c) | inr old ↦ inl old ];
+        once = λ v. subst (λ us. StandsOnce us v) (sym released) (planned_once s rows v is (good.exact.one_owner v));
       }
 
 -- ---- the plan of an accepted transaction
@@ -95,8 +94,8 @@ module _ (s : Super) (rows : Rows) (space : Space) (good : AreGoodRows s rows sp
 module _ (s : State) (client line : ℕ) (change : Change) (s' : State) (limits : IsSuper s.log.sup) (kept : AreRowsKept s)
     (known : IsKnown change.ops) (does : Accepts client line change s s') where
   pub accepted_plan : IsPlanned s.log.sup s.view change (as_planned does.plan)
-  accepted_plan = planned s.log.sup s.log.rows s.view s.space limits kept.space kept.free change.coll change.ops does.plan known does.names
-      does.not_refused does.plans
+  accepted_plan = planned s.log.sup s.log.rows s.view s.space limits kept.good kept.space kept.free change.coll change.ops does.plan known
+      does.names does.not_refused does.plans
 
   pub accepted_fits : PlanFits does.plan
   accepted_fits = plan_fits s.log.sup s.view s.space change.coll change.ops does.plan kept.good.good known does.not_refused does.plans accepted_plan
@@ -153,14 +152,14 @@ module _ (s : State) (client line : ℕ) (change : Change) (s' : State) (limits 
   later_rows : AreRowsKept t
   later_rows = record {
     view = later_view ∙ ap (rows_with s.log.rows) (sym one_context);
-    committed = good_alike s.log.sup s.log.rows s.space then (λ v. holds_taken (units_of plan.fresh) s.space v) kept.committed;
-    good = subst (λ m. AreGoodRows s.log.sup m then) (sym later_view)
-        (good_after s.log.sup s.log.rows s.space kept.committed kept.space free_now change plan is_planned);
+    committed = kept.committed;
+    good = subst (AreGoodRows s.log.sup s.log.rows) (sym later_view)
+        (good_after s.log.sup s.log.rows s.space limits kept.committed kept.space free_now change plan is_planned);
     free = subst (λ m. IsFreeExactly s.log.sup s.log.rows m then) (sym later_view)
-        (free_after s.log.sup s.log.rows s.space kept.committed kept.space free_now change plan is_planned);
-    releases = subst (λ m. ReleasesExactly s.log.rows m then (uncommitted t)) (sym later_view)
-        (subst (ReleasesExactly s.log.rows (rows_after s.log.rows plan.ops) then) (sym one_context)
-        (releases_after s.log.sup s.log.rows s.space kept.committed kept.space free_now change plan is_planned x refl refl));
+        (free_after s.log.sup s.log.rows s.space limits kept.committed kept.space free_now change plan is_planned);
+    releases = subst (λ m. ReleasesExactly s.log.rows m (uncommitted t)) (sym later_view)
+        (subst (ReleasesExactly s.log.rows (rows_after s.log.rows plan.ops)) (sym one_context)
+        (releases_after s.log.sup s.log.rows s.space limits kept.committed kept.space free_now change plan is_planned x refl refl));
     space = space_taken s.log.sup s.space (units_of plan.fresh) kept.space;
   }
 

@@ -1,12 +1,14 @@
 -- A batch is committed: its operations are applied, and the units that its context released come back.
-use Rattle.std.proofs.Common.{◌≡◌, inl, inr, ℕ, Bool, true, false, List, [], ◌∷◌, ◌++◌, Contains, Option, Some, None, refl, sym, ap, subst, ◌∙◌, append-nil, arith}
+use Rattle.std.proofs.Common.{◌≡◌, inl, inr, ℕ, ◌<◌, ◌^◌, Bool, true, false, List, [], ◌∷◌, ◌++◌, Contains, Option, Some, None, refl, sym, ap, subst, ◌∙◌, append-nil, arith}
 use Rattle.std.specs.List.{flat_map}
 use Rattle.std.specs.Option.{option_map_or}
 use Rattle.std.proofs.lemmas.List.Elements.{Contains-append_right}
 use Rattle.std.proofs.lemmas.Option.{same_Some}
 use Rattle.block_device.specs.Disk.{Disk}
 use Rattle.meta_rows.specs.Rows.{Rows, rows_after}
-use Rattle.store_image.specs.Owners.{IsOwned}
+use Rattle.meta_log.specs.Slots.{IsSuper}
+use Rattle.store_image.specs.Owners.{IsDataUnit, IsMarked, IsLeaked}
+use Rattle.store_image.proofs.ExactLemmas.{as_itself}
 use Rattle.object_rows.specs.Planned.{StandsOnce}
 use Rattle.unit_allocator.specs.Units.{Space, IsWithin, is_free, given}
 use Rattle.unit_allocator.proofs.Lists.{Contains-head}
@@ -17,10 +19,10 @@ use Rattle.store_steps.specs.Contexts.{batch_ops, batch_released}
 use Rattle.store_steps.specs.Changes.{committed_batch}
 use Rattle.store_steps.specs.Steps.{DoesCommit}
 use Rattle.store_facts.specs.Flights.{IsOneAtATime}
-use Rattle.store_facts.specs.Space.{uncommitted, rows_with, IsUnheld, AreGoodRows, IsFreeExactly, ReleasesExactly}
-use Rattle.store_facts.proofs.SpaceUnits.{holds_given, unheld_before, free_is_unheld, in_or_not, AreData, data_within, space_given, free_given, as_free_given, not_free_until}
+use Rattle.store_facts.specs.Space.{uncommitted, rows_with, AreGoodRows, IsFreeExactly, ReleasesExactly}
+use Rattle.store_facts.proofs.SpaceUnits.{in_or_not, AreData, data_within, space_given, free_given, as_free_given, not_free_until}
 use Rattle.store_facts.proofs.RowsPages.{owned_is_data}
-use Rattle.store_facts.proofs.RowsKept.{AreRowsKept, good_alike}
+use Rattle.store_facts.proofs.RowsKept.{AreRowsKept}
 
 -- ---- the open batch
 
@@ -34,14 +36,15 @@ batch_alone number [] (Some a) b begun flying far is = (refl, (far.context, ap (
 batch_alone number (x ∷ []) (Some a) b begun flying far is = absurd far
 batch_alone number (x ∷ y ∷ more) (Some a) b begun flying far is = absurd far
 
-pub no_contexts : (rows : Rows) (space : Space) → ReleasesExactly rows rows space []
-no_contexts rows space = record {
+pub no_contexts : (rows : Rows) → ReleasesExactly rows rows []
+no_contexts rows = record {
   owned = λ unit owned. inl owned;
   released_was = λ unit c. absurd (omega (arith, c.1));
-  released_is_not = λ unit none c. absurd (omega (arith, c.1));
+  released_is_not = λ unit c. absurd (omega (arith, c.1));
   taken_was_not = λ unit c. absurd (omega (arith, c.1));
   taken_is = λ unit c. absurd (omega (arith, c.1));
-  once = λ unit none i j in_i in_j. absurd (omega (arith, in_i));
+  new = λ unit owned. inl owned;
+  once = λ unit i j in_i in_j. absurd (omega (arith, in_i));
 }
 
 false_of : (b : Bool) → (b ≡ true → ⊥) → b ≡ false
@@ -68,70 +71,82 @@ module _ (s : State) (kept : AreRowsKept s) (far : IsOneAtATime s.log.number s.p
   rows_are : rows_after s.log.rows (batch_ops b) ≡ s.view
   rows_are = ap (rows_after s.log.rows) ops_are ∙ sym (kept.view ∙ ap (rows_with s.log.rows) (contexts_are ∙ alone.1.1))
 
-  releases : ReleasesExactly s.log.rows s.view s.space b.contexts
-  releases = subst (ReleasesExactly s.log.rows s.view s.space) contexts_are kept.releases
+  releases : ReleasesExactly s.log.rows s.view b.contexts
+  releases = subst (ReleasesExactly s.log.rows s.view) contexts_are kept.releases
 
   pub released_data : AreData s.log.sup (batch_released b)
-  released_data v c = owned_is_data s.log.sup s.log.rows s.space v kept.committed (releases.released_was v c)
+  released_data v c = owned_is_data s.log.sup s.log.rows s.log.rows v kept.committed (releases.released_was v c)
 
   pub released_within : (v : ℕ) → Contains (batch_released b) v → IsWithin s.space v
   released_within v c = data_within s.log.sup s.space v kept.space (released_data v c)
 
   pub released_taken : (v : ℕ) → Contains (batch_released b) v → is_free s.space v ≡ false
-  released_taken v c = false_of (is_free s.space v) (λ p. ((kept.free v (released_data v c)).0 p).1 (releases.released_was v c))
+  released_taken v c = false_of (is_free s.space v)
+      (λ p. ((kept.free v (released_data v c)).0 p).0 (kept.committed.exact.owned_marked v (releases.released_was v c)))
 
-  pub released_once : (v : ℕ) → IsUnheld s.space v → StandsOnce (batch_released b) v
-  released_once v none = releases.once v none
+  pub released_once : (v : ℕ) → StandsOnce (batch_released b) v
+  released_once v = releases.once v
 
   -- those that come back one after the other aren't free until it is their turn
   pub released_in_turn : (front rest : List ℕ) (v : ℕ) → batch_released b ≡ front ++ (v ∷ rest) → is_free (given s.space front) v ≡ false
   released_in_turn front rest v are =
       not_free_until s.log.sup s.space front rest v kept.space (subst (AreData s.log.sup) are released_data)
       (released_taken v (subst (λ us. Contains us v) (sym are) (Contains-append_right front (v ∷ rest) v (Contains-head v rest))))
-      (λ none. subst (λ us. StandsOnce us v) are (released_once v none))
+      (subst (λ us. StandsOnce us v) are (released_once v))
 
   abbrev back : Space
   back = given s.space (batch_released b)
 
-  back_alike : (v : ℕ) → IsUnheld back v → IsUnheld s.space v
-  back_alike v none = unheld_before s.space back v (holds_given (batch_released b) s.space v) none
+  good_back : AreGoodRows s.log.sup s.view s.view
+  good_back = record { good = kept.good.good; exact = as_itself (IsLeaked s.log.rows) s.view kept.good.exact }
 
-  -- a unit is free then exactly where nobody holds or owns it
-  free_then : IsFreeExactly s.log.sup s.view s.view back
-  free_then v on = (
-    λ p. elim (in_or_not (batch_released b) v) [
-      | inl c ↦
-          let none : IsUnheld back v = free_is_unheld back v p in
-          let gone = releases.released_is_not v (back_alike v none) c in
-          (none, gone, gone)
-      | inr out ↦
-          let was = (kept.free v on).0 (sym (as_free_given s.log.sup v on (batch_released b) s.space kept.space released_data out) ∙ p) in
-          (free_is_unheld back v p, was.2, was.2)
-    ],
-    λ p. elim (in_or_not (batch_released b) v) [
-      | inl c ↦ free_given s.log.sup v on (batch_released b) s.space kept.space released_data (back_alike v p.0) c
-      | inr out ↦
-          let not_committed : ¬ IsOwned s.log.rows v = λ owned. elim (releases.owned v owned) [ inl view ↦ p.1 view | inr c ↦ out c ] in
-          as_free_given s.log.sup v on (batch_released b) s.space kept.space released_data out
-          ∙ (kept.free v on).1 (back_alike v p.0, not_committed, p.1)
-    ],
-  )
+  module _ (limits : IsSuper s.log.sup) where
+    small : (v : ℕ) → IsDataUnit s.log.sup v → v < 2 ^ 32
+    small v on = omega (arith, on.1, limits.units_most)
 
-  good_back : AreGoodRows s.log.sup s.view back
-  good_back = good_alike s.log.sup s.view s.space back (λ v. holds_given (batch_released b) s.space v) kept.good
+    -- what was released isn't marked in the submitted rows
+    released_unmarked : (v : ℕ) → Contains (batch_released b) v → ¬ IsMarked s.view v
+    released_unmarked v c marked = elim (kept.good.exact.marked v (small v (released_data v c)) marked) [
+      | inl owned ↦ releases.released_is_not v c owned
+      | inr leaked ↦ leaked.unowned (releases.released_was v c)
+    ]
 
-  pub committed_rows : AreRowsKept (committed_batch b s)
-  committed_rows = record {
-    view = sym (ap (rows_with (rows_after s.log.rows (batch_ops b))) alone.0 ∙ rows_are);
-    committed = subst (λ rows. AreGoodRows s.log.sup rows back) (sym rows_are) good_back;
-    good = good_back;
-    free = subst (λ rows. IsFreeExactly s.log.sup rows s.view back) (sym rows_are) free_then;
-    releases = subst (λ rows. ReleasesExactly rows s.view back s.pending) (sym rows_are)
-        (subst (ReleasesExactly s.view s.view back) (sym alone.0) (no_contexts s.view back));
-    space = space_given s.log.sup s.space (batch_released b) kept.space;
-  }
+    -- and what isn't marked in them was released or isn't marked in the committed ones
+    committed_unmarked : (v : ℕ) → IsDataUnit s.log.sup v → ¬ Contains (batch_released b) v → ¬ IsMarked s.view v → ¬ IsMarked s.log.rows v
+    committed_unmarked v on out none marked = elim (kept.committed.exact.marked v (small v on) marked) [
+      | inl owned ↦ elim (releases.owned v owned) [ inl view ↦ none (kept.good.exact.owned_marked v view) | inr c ↦ out c ]
+      | inr leaked ↦ none (kept.good.exact.leaked_marked v leaked)
+    ]
 
-pub commit_rows : (s : State) (d : Disk) (s' : State) (d' : Disk) → AreRowsKept s
+    -- a unit is free then exactly where it isn't marked
+    free_then : IsFreeExactly s.log.sup s.view s.view back
+    free_then v on = (
+      λ p. elim (in_or_not (batch_released b) v) [
+        | inl c ↦ (released_unmarked v c, released_unmarked v c)
+        | inr out ↦
+            let was = (kept.free v on).0 (sym (as_free_given s.log.sup v on (batch_released b) s.space kept.space released_data out) ∙ p) in
+            (was.1, was.1)
+      ],
+      λ p. elim (in_or_not (batch_released b) v) [
+        | inl c ↦ free_given s.log.sup v on (batch_released b) s.space kept.space released_data c
+        | inr out ↦
+            as_free_given s.log.sup v on (batch_released b) s.space kept.space released_data out
+            ∙ (kept.free v on).1 (committed_unmarked v on out p.0, p.0)
+      ],
+    )
+
+    pub committed_rows : AreRowsKept (committed_batch b s)
+    committed_rows = record {
+      view = sym (ap (rows_with (rows_after s.log.rows (batch_ops b))) alone.0 ∙ rows_are);
+      committed = subst (λ rows. AreGoodRows s.log.sup rows rows) (sym rows_are) good_back;
+      good = subst (λ rows. AreGoodRows s.log.sup rows s.view) (sym rows_are) good_back;
+      free = subst (λ rows. IsFreeExactly s.log.sup rows s.view back) (sym rows_are) free_then;
+      releases = subst (λ rows. ReleasesExactly rows s.view s.pending) (sym rows_are)
+          (subst (ReleasesExactly s.view s.view) (sym alone.0) (no_contexts s.view));
+      space = space_given s.log.sup s.space (batch_released b) kept.space;
+    }
+
+pub commit_rows : (s : State) (d : Disk) (s' : State) (d' : Disk) → IsSuper s.log.sup → AreRowsKept s
     → IsOneAtATime s.log.number s.pending s.batch s.log.begun s.flying
     → DoesCommit s d s' d' → AreRowsKept s'
-commit_rows s d s' d' kept far does = subst AreRowsKept (sym does.after) (committed_rows s kept far does.batch does.begun)
+commit_rows s d s' d' limits kept far does = subst AreRowsKept (sym does.after) (committed_rows s kept far does.batch does.begun limits)

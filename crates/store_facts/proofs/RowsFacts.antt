@@ -18,7 +18,7 @@ use Rattle.store_steps.specs.Planning.{as_planned}
 use Rattle.store_steps.specs.State.{Batch, State}
 use Rattle.store_steps.specs.Contexts.{Unsent, unsent_units, run_from, run_of, unsent, next_unsent, batch_released}
 use Rattle.store_steps.specs.Submit.{IsKnown, Accepts}
-use Rattle.store_facts.specs.Space.{uncommitted, IsUnheld}
+use Rattle.store_facts.specs.Space.{uncommitted}
 use Rattle.store_facts.specs.Kept.{IsKept}
 use Rattle.store_facts.proofs.SpaceUnits.{AreData}
 use Rattle.store_facts.proofs.RowsKept.{rows_of_kept}
@@ -84,7 +84,7 @@ each_on_data s (x ∷ xs) all = (
 module _ (s : State) (d : Disk) (kept : IsKept s d) (up : s.down ≡ None) where
   -- they are data units
   pub taken_data : AreData s.log.sup (taken_by (uncommitted s))
-  taken_data u c = owned_is_data s.log.sup s.view s.space u (kept.up up).good ((kept.up up).releases.taken_is u c)
+  taken_data u c = owned_is_data s.log.sup s.log.rows s.view u (kept.up up).good ((kept.up up).releases.taken_is u c)
 
   pub pending_on_data : AllByRecursion (λ x. AllByRecursion (λ f. IsDataUnit s.log.sup f.unit) x.fresh) s.pending
   pending_on_data = each_on_data s.log.sup s.pending
@@ -115,7 +115,7 @@ module _ (s : State) (d : Disk) (kept : IsKept s d) (up : s.down ≡ None) where
     pub back_taken : (u : ℕ) → Contains (batch_released b) u → is_free s.space u ≡ false
     back_taken = released_taken s (rows_of_kept s d kept up) (kept.up up).far b is_open
 
-    pub back_once : (u : ℕ) → IsUnheld s.space u → StandsOnce (batch_released b) u
+    pub back_once : (u : ℕ) → StandsOnce (batch_released b) u
     back_once = released_once s (rows_of_kept s d kept up) (kept.up up).far b is_open
 
     -- those that come back one after the other aren't free until it is their turn

@@ -1,12 +1,10 @@
 -- What a state keeps of its rows and its free units depends on few of its parts.
-use Rattle.std.proofs.Common.{◌≡◌, ◌⊎◌, ℕ, List, [], ◌∷◌, ◌++◌, map, Contains, None, refl, sym, ap, subst, ◌∙◌}
+use Rattle.std.proofs.Common.{◌≡◌, ◌⊎◌, List, [], ◌∷◌, ◌++◌, map, Contains, None, refl, sym, ap, subst, ◌∙◌}
 use Rattle.std.specs.List.{flat_map}
 use Rattle.block_device.specs.Disk.{Disk}
 use Rattle.meta_rows.specs.Rows.{Rows, rows_after}
-use Rattle.meta_log.specs.declared.slot.Super.{Super}
 use Rattle.store_image.specs.Owners.{IsOwned}
 use Rattle.object_rows.specs.Planned.{StandsOnce}
-use Rattle.unit_allocator.specs.Units.{Space, holds_of}
 use Rattle.store_steps.specs.declared.context.Context.{Context}
 use Rattle.store_steps.specs.State.{State}
 use Rattle.store_facts.specs.Space.{uncommitted, rows_with, AreGoodRows, IsSpaceOf, IsFreeExactly, ReleasesExactly}
@@ -15,10 +13,10 @@ use Rattle.store_facts.specs.Kept.{IsKept}
 -- the facts of rows and free units
 pub record AreRowsKept (s : State) : Type 0 where
   pub view : s.view ≡ rows_with s.log.rows (uncommitted s)
-  pub committed : AreGoodRows s.log.sup s.log.rows s.space
-  pub good : AreGoodRows s.log.sup s.view s.space
+  pub committed : AreGoodRows s.log.sup s.log.rows s.log.rows
+  pub good : AreGoodRows s.log.sup s.log.rows s.view
   pub free : IsFreeExactly s.log.sup s.log.rows s.view s.space
-  pub releases : ReleasesExactly s.log.rows s.view s.space (uncommitted s)
+  pub releases : ReleasesExactly s.log.rows s.view (uncommitted s)
   pub space : IsSpaceOf s.log.sup s.space
 
 pub rows_of_kept : (s : State) (d : Disk) → IsKept s d → s.down ≡ None → AreRowsKept s
@@ -71,27 +69,19 @@ lists_alike f same (x ∷ xs) [] like = absurd like
 lists_alike f same (x ∷ xs) (y ∷ ys) like =
     ap (λ l. l ++ flat_map f xs) (same x y like.0) ∙ ap (λ l. f y ++ l) (lists_alike f same xs ys like.1)
 
-releases_alike : (rows view : Rows) (space : Space) (xs ys : List Context) → AreLike xs ys → ReleasesExactly rows view space ys
-    → ReleasesExactly rows view space xs
-releases_alike rows view space xs ys like all =
+releases_alike : (rows view : Rows) (xs ys : List Context) → AreLike xs ys → ReleasesExactly rows view ys → ReleasesExactly rows view xs
+releases_alike rows view xs ys like all =
     let released : flat_map (λ x. x.released) xs ≡ flat_map (λ x. x.released) ys = lists_alike (λ x. x.released) (λ x y l. l.released) xs ys like in
     let taken = lists_alike (λ x. map (λ f. f.unit) x.fresh) (λ x y l. ap (λ fs. map (λ f. f.unit) fs) l.fresh) xs ys like in
     record {
       owned = λ unit owned. subst (λ us. IsOwned view unit ⊎ Contains us unit) (sym released) (all.owned unit owned);
       released_was = λ unit c. all.released_was unit (subst (λ us. Contains us unit) released c);
-      released_is_not = λ unit none c. all.released_is_not unit none (subst (λ us. Contains us unit) released c);
+      released_is_not = λ unit c. all.released_is_not unit (subst (λ us. Contains us unit) released c);
       taken_was_not = λ unit c. all.taken_was_not unit (subst (λ us. Contains us unit) taken c);
       taken_is = λ unit c. all.taken_is unit (subst (λ us. Contains us unit) taken c);
-      once = λ unit none. subst (λ us. StandsOnce us unit) (sym released) (all.once unit none);
+      new = λ unit owned. subst (λ us. IsOwned rows unit ⊎ Contains us unit) (sym taken) (all.new unit owned);
+      once = λ unit. subst (λ us. StandsOnce us unit) (sym released) (all.once unit);
     }
-
--- ---- spaces whose units are held by as many
-
-abbrev pub AreHeldAlike : Space → Space → Type 0
-AreHeldAlike old new = (unit : ℕ) → holds_of new unit ≡ holds_of old unit
-
-pub good_alike : (sup : Super) (rows : Rows) (old new : Space) → AreHeldAlike old new → AreGoodRows sup rows old → AreGoodRows sup rows new
-good_alike sup rows old new same good = record { good = good.good; sole = λ unit none. good.sole unit (sym (same unit) ∙ none) }
 
 -- ---- states with the same of these parts
 
@@ -106,19 +96,16 @@ pub rows_stay : (s s' : State) → HaveSameRows s s' → AreRowsKept s → AreRo
 rows_stay s s' same kept = record {
   view = same.view ∙ kept.view ∙ sym (rows_alike s.log.rows (uncommitted s') (uncommitted s) same.contexts)
       ∙ ap (λ rows. rows_with rows (uncommitted s')) (sym same.rows);
-  committed = good_stay s.log.rows s'.log.rows (sym same.rows) kept.committed;
-  good = good_stay s.view s'.view (sym same.view) kept.good;
+  committed = subst (λ sup. AreGoodRows sup s'.log.rows s'.log.rows) (sym same.sup)
+      (subst (λ rows. AreGoodRows s.log.sup rows rows) (sym same.rows) kept.committed);
+  good = subst (λ sup. AreGoodRows sup s'.log.rows s'.view) (sym same.sup)
+      (subst (λ rows. AreGoodRows s.log.sup rows s'.view) (sym same.rows) (subst (AreGoodRows s.log.sup s.log.rows) (sym same.view) kept.good));
   free = subst (λ sup. IsFreeExactly sup s'.log.rows s'.view s'.space) (sym same.sup)
       (subst (λ rows. IsFreeExactly s.log.sup rows s'.view s'.space) (sym same.rows)
       (subst (λ view. IsFreeExactly s.log.sup s.log.rows view s'.space) (sym same.view)
       (subst (IsFreeExactly s.log.sup s.log.rows s.view) (sym same.space) kept.free)));
-  releases = subst (λ rows. ReleasesExactly rows s'.view s'.space (uncommitted s')) (sym same.rows)
-      (subst (λ view. ReleasesExactly s.log.rows view s'.space (uncommitted s')) (sym same.view)
-      (subst (λ space. ReleasesExactly s.log.rows s.view space (uncommitted s')) (sym same.space)
-      (releases_alike s.log.rows s.view s.space (uncommitted s') (uncommitted s) same.contexts kept.releases)));
+  releases = subst (λ rows. ReleasesExactly rows s'.view (uncommitted s')) (sym same.rows)
+      (subst (λ view. ReleasesExactly s.log.rows view (uncommitted s')) (sym same.view)
+      (releases_alike s.log.rows s.view (uncommitted s') (uncommitted s) same.contexts kept.releases));
   space = subst (λ sup. IsSpaceOf sup s'.space) (sym same.sup) (subst (IsSpaceOf s.log.sup) (sym same.space) kept.space);
 }
-  where
-    good_stay : (old new : Rows) → old ≡ new → AreGoodRows s.log.sup old s.space → AreGoodRows s'.log.sup new s'.space
-    good_stay old new e good = subst (λ sup. AreGoodRows sup new s'.space) (sym same.sup)
-        (subst (λ space. AreGoodRows s.log.sup new space) (sym same.space) (subst (λ rows. AreGoodRows s.log.sup rows s.space) e good))

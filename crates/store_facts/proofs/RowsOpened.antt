@@ -12,6 +12,6 @@ opened_rows f space events units is = record {
   committed = is.good;
   good = is.good;
   free = is.free;
-  releases = no_contexts f.rows space;
+  releases = no_contexts f.rows;
   space = is.space;
 }

@@ -11,7 +11,6 @@ use Rattle.row_format.specs.Row.{shard}
 use Rattle.store_image.specs.BadRows.{IsOnData, NoBadRow, IsShardInPlace}
 use Rattle.store_image.specs.Owners.{Owner, page_of, Owns, IsDataUnit, IsOwned}
 use Rattle.store_image.proofs.PageMap.{in_place}
-use Rattle.unit_allocator.specs.Units.{Space}
 use Rattle.store_facts.specs.Space.{AreGoodRows}
 
 body_on_data : (s : Super) (body : Body) (i : ℕ) → IsOnData s body → i < page_count body → IsDataUnit s (place_in body i).unit
@@ -44,5 +43,5 @@ owns_data s rows good (page_of c o page) unit owns =
 pub owned_on_data : (s : Super) (rows : Rows) (unit : ℕ) → NoBadRow s rows → IsOwned rows unit → IsDataUnit s unit
 owned_on_data s rows unit good owned = owns_data s rows good owned.0 unit owned.1
 
-pub owned_is_data : (s : Super) (rows : Rows) (space : Space) (unit : ℕ) → AreGoodRows s rows space → IsOwned rows unit → IsDataUnit s unit
-owned_is_data s rows space unit good owned = owned_on_data s rows unit good.good owned
+pub owned_is_data : (s : Super) (first rows : Rows) (unit : ℕ) → AreGoodRows s first rows → IsOwned rows unit → IsDataUnit s unit
+owned_is_data s first rows unit good owned = owned_on_data s rows unit good.good owned

@@ -21,7 +21,7 @@ use Rattle.unit_fields.specs.UnitSet.{Ascends}
 use Rattle.row_format.specs.Keys.{coll_key}
 use Rattle.store_image.specs.Pages.{HasKey}
 use Rattle.store_image.specs.BadRows.{NoBadRow}
-use Rattle.store_image.specs.Owners.{IsDataUnit, IsOwned}
+use Rattle.store_image.specs.Owners.{IsDataUnit, IsOwned, IsMarked}
 use Rattle.row_facts.specs.Operations.{coll_change}
 use Rattle.object_rows.specs.Writes.{write_change, touch_change}
 use Rattle.object_rows.specs.Planned as planned_as
@@ -34,7 +34,7 @@ use Rattle.store_steps.specs.declared.context.FreshUnit.{FreshUnit}
 use Rattle.store_steps.specs.declared.plan.Plan.{Plan}
 use Rattle.store_steps.specs.Planning.{pair_of, as_planned, PlansPages, Plans, units_taken}
 use Rattle.store_steps.specs.Submit.{IsKnown, HasNames, ops_refusal, refusal_of}
-use Rattle.store_facts.specs.Space.{IsSpaceOf, IsFreeExactly}
+use Rattle.store_facts.specs.Space.{AreGoodRows, IsSpaceOf, IsFreeExactly}
 use Rattle.store_facts.proofs.SpaceUnits.{within_data}
 
 -- the units that it takes
@@ -192,14 +192,14 @@ few_taken c ops rows known accepted = absurd known
 
 -- ---- the plan is one of the rows
 
--- what is free has no owner in these rows, whatever the committed ones are
-module _ (s : Super) (committed rows : Rows) (space : Space) (limits : IsSuper s) (is_space : IsSpaceOf s space)
-    (free : IsFreeExactly s committed rows space) where
-  free_facts : (u : ℕ) → Contains (free_units space) u → IsDataUnit s u × ¬ IsOwned rows u × (u < 2 ^ 32)
+-- what is free isn't marked in these rows, and so has no owner, whatever the committed ones are
+module _ (s : Super) (committed rows : Rows) (space : Space) (limits : IsSuper s) (good : AreGoodRows s committed rows)
+    (is_space : IsSpaceOf s space) (free : IsFreeExactly s committed rows space) where
+  free_facts : (u : ℕ) → Contains (free_units space) u → IsDataUnit s u × (u < 2 ^ 32) × ¬ IsMarked rows u
   free_facts u k =
       let is = listed_is_free space u k in
       let on : IsDataUnit s u = within_data s space u is_space is.within in
-      (on, ((free u on).0 is.free).2, omega (arith, on.1, limits.units_most))
+      (on, omega (arith, on.1, limits.units_most), ((free u on).0 is.free).1)
 
   each_lowest : (P : ℕ → Type 0) (n : ℕ) → ((u : ℕ) → Contains (free_units space) u → P u) → AllByRecursion P (take n (free_units space))
   each_lowest P n each = all_taken P n (free_units space) (all_listed P (free_units space) each)
@@ -208,8 +208,9 @@ module _ (s : Super) (committed rows : Rows) (space : Space) (limits : IsSuper s
   lowest_fresh n = record {
     ascend = ascend_taken n (free_units space) (free_units_ascend space);
     on_data = each_lowest (λ u. IsDataUnit s u) n (λ u k. (free_facts u k).0);
-    free = each_lowest (λ u. ¬ IsOwned rows u) n (λ u k. (free_facts u k).1);
-    fit = each_lowest (λ u. u < 2 ^ 32) n (λ u k. (free_facts u k).2);
+    free = each_lowest (λ u. ¬ IsOwned rows u) n (λ u k owned. (free_facts u k).2 (good.exact.owned_marked u owned));
+    unmarked = each_lowest (λ u. ¬ IsMarked rows u) n (λ u k. (free_facts u k).2);
+    fit = each_lowest (λ u. u < 2 ^ 32) n (λ u k. (free_facts u k).1);
   }
 
   module _ (c o : List ℕ) (off : ℕ) (bytes : List ℕ) (plan : Plan) (known : IsKnown (Write o off bytes ∷ [])) (coll : IsCollName c) (name : IsName o)

@@ -1,4 +1,4 @@
--- Which units of a store are free after some were taken or given back. A unit that somebody holds is never free.
+-- Which units of a store are free after some were taken or given back.
 use Rattle.std.proofs.Common.{◌≡◌, ◌≢◌, ◌⊎◌, inl, inr, ℕ, zero, suc, ◌+◌, ◌-◌, ◌<◌, ◌==◌, true, false, List, [], ◌∷◌, ◌++◌, length, get_or, Contains, refl, sym, ap, subst, ◌∙◌, arith, length-append}
 use Rattle.std.specs.Prelude.{slice_index}
 use Rattle.std.proofs.lemmas.Bool.{cases_eq, and_parts, eqb-true}
@@ -12,7 +12,7 @@ use Rattle.unit_allocator.specs.Units.{Space, IsWithin, is_free, is_idle, holds_
 use Rattle.unit_allocator.proofs.Counts.{idle_there}
 use Rattle.unit_allocator.proofs.Lists.{Contains-head, Contains-tail, Contains-cases}
 use Rattle.unit_allocator.proofs.FreeUnits.{taken_is_not_free, given_is_free}
-use Rattle.store_facts.specs.Space.{IsSpaceOf, IsUnheld}
+use Rattle.store_facts.specs.Space.{IsSpaceOf}
 
 -- a list has the unit or it doesn't
 pub in_or_not : (us : List ℕ) (v : ℕ) → Contains us v ⊎ (Contains us v → ⊥)
@@ -36,19 +36,9 @@ pub holds_given : (us : List ℕ) (space : Space) (v : ℕ) → holds_of (given 
 holds_given [] space v = refl
 holds_given (u ∷ us) space v = holds_given us (given_one space u) v
 
-pub unheld_before : (old new : Space) (v : ℕ) → holds_of new v ≡ holds_of old v → IsUnheld new v → IsUnheld old v
-unheld_before old new v same none = sym same ∙ none
-
-pub unheld_after : (old new : Space) (v : ℕ) → holds_of new v ≡ holds_of old v → IsUnheld old v → IsUnheld new v
-unheld_after old new v same none = same ∙ none
-
 -- nobody holds a free unit
-pub free_is_unheld : (space : Space) (v : ℕ) → is_free space v ≡ true → IsUnheld space v
+pub free_is_unheld : (space : Space) (v : ℕ) → is_free space v ≡ true → holds_of space v ≡ 0
 free_is_unheld space v free = eqb-true (holds_of space v) 0 (and_parts (is_idle space v) (holds_of space v == 0) free).1
-
--- a unit is free or it isn't
-pub free_or_not : (space : Space) (v : ℕ) → (is_free space v ≡ true) ⊎ (is_free space v ≡ false)
-free_or_not space v = elim (is_free space v) as (λ b. (b ≡ true) ⊎ (b ≡ false)) [ true ↦ inl refl | false ↦ inr refl ]
 
 -- ---- data units
 
@@ -74,12 +64,14 @@ module _ (sup : Super) where
   one_taken space u is = record {
     first = is.first;
     count = ap (λ n. data_unit sup + n) (length-set space.idle (u - space.first) false) ∙ is.count;
+    unheld = is.unheld;
   }
 
   one_given : (space : Space) (u : ℕ) → IsSpaceOf sup space → IsSpaceOf sup (given_one space u)
   one_given space u is = record {
     first = is.first;
     count = ap (λ n. data_unit sup + n) (length-set space.idle (u - space.first) true) ∙ is.count;
+    unheld = is.unheld;
   }
 
   pub space_taken : (space : Space) (us : List ℕ) → IsSpaceOf sup space → IsSpaceOf sup (taken space us)
@@ -99,20 +91,19 @@ module _ (sup : Super) where
       | inr other ↦ (taken_is_not_free space u (data_within space u is data_u)).1 v (data_within space v is on) other ∙ was
     ]
 
-    -- another unit is as free as before, whether this one is held or not
+    -- another unit is as free as before
     others_given : (space : Space) (u : ℕ) → IsSpaceOf sup space → IsDataUnit sup u → v ≢ u → is_free (given_one space u) v ≡ is_free space v
     others_given space u is data_u other =
         let w : IsWithin space u = data_within space u is data_u in
         let x : IsWithin space v = data_within space v is on in
         idle_there space.idle space.holds (u - space.first) true (v - space.first) (λ e. other (omega (arith, w.from, x.from, e)))
 
-    here_given : (space : Space) (u : ℕ) → IsSpaceOf sup space → IsDataUnit sup u → IsUnheld space v → v ≡ u → is_free (given_one space u) v ≡ true
-    here_given space u is data_u none e = ap (is_free (given_one space u)) e
-        ∙ (given_is_free space u (data_within space u is data_u) (ap (holds_of space) (sym e) ∙ none)).0
+    here_given : (space : Space) (u : ℕ) → IsSpaceOf sup space → IsDataUnit sup u → v ≡ u → is_free (given_one space u) v ≡ true
+    here_given space u is data_u e = ap (is_free (given_one space u)) e ∙ (given_is_free space u (data_within space u is data_u) (is.unheld u)).0
 
     kept_given : (space : Space) (u : ℕ) → IsSpaceOf sup space → IsDataUnit sup u → is_free space v ≡ true → is_free (given_one space u) v ≡ true
     kept_given space u is data_u was = elim (cases_eq v u) [
-      | inl e ↦ here_given space u is data_u (free_is_unheld space v was) e
+      | inl e ↦ here_given space u is data_u e
       | inr other ↦ others_given space u is data_u other ∙ was
     ]
 
@@ -147,14 +138,13 @@ module _ (sup : Super) where
     still_given (u ∷ us) space is all was =
         still_given us (given_one space u) (one_given space u is) (data_behind sup u us all) (kept_given space u is (data_first sup u us all) was)
 
-    pub free_given : (us : List ℕ) (space : Space) → IsSpaceOf sup space → AreData sup us → IsUnheld space v → Contains us v
-        → is_free (given space us) v ≡ true
-    free_given [] space is all none c = absurd (omega (arith, c.1))
-    free_given (u ∷ us) space is all none c = elim (Contains-cases u v us c) [
+    pub free_given : (us : List ℕ) (space : Space) → IsSpaceOf sup space → AreData sup us → Contains us v → is_free (given space us) v ≡ true
+    free_given [] space is all c = absurd (omega (arith, c.1))
+    free_given (u ∷ us) space is all c = elim (Contains-cases u v us c) [
       | inl e ↦
-          let here = here_given space u is (data_first sup u us all) none (sym e) in
+          let here = here_given space u is (data_first sup u us all) (sym e) in
           still_given us (given_one space u) (one_given space u is) (data_behind sup u us all) here
-      | inr d ↦ free_given us (given_one space u) (one_given space u is) (data_behind sup u us all) none d
+      | inr d ↦ free_given us (given_one space u) (one_given space u is) (data_behind sup u us all) d
     ]
 
     pub as_free_given : (us : List ℕ) (space : Space) → IsSpaceOf sup space → AreData sup us → (Contains us v → ⊥)
@@ -182,16 +172,10 @@ once_in_front front rest u once c =
     (at_index all (length front + 0) u (omega (arith, long)) (get_or-append-add front (u ∷ rest) 0 u)) in
     omega (arith, same, c.1)
 
--- A unit that isn't free comes back behind others, itself none of them if nobody holds it: it isn't free until it is its turn.
+-- A unit that isn't free comes back behind others, and is none of them: it isn't free until it is its turn.
 pub not_free_until : (sup : Super) (space : Space) (front rest : List ℕ) (u : ℕ) → IsSpaceOf sup space → AreData sup (front ++ (u ∷ rest))
-    → is_free space u ≡ false → (IsUnheld space u → StandsOnce (front ++ (u ∷ rest)) u) → is_free (given space front) u ≡ false
-not_free_until sup space front rest u is all was once = elim (free_or_not (given space front) u) [
-  | inr taken_u ↦ taken_u
-  | inl free ↦
-      let none : IsUnheld space u =
-      unheld_before space (given space front) u (holds_given front space u) (free_is_unheld (given space front) u free) in
-      as_free_given sup u data_u front space is data_front (once_in_front front rest u (once none)) ∙ was
-]
+    → is_free space u ≡ false → StandsOnce (front ++ (u ∷ rest)) u → is_free (given space front) u ≡ false
+not_free_until sup space front rest u is all was once = as_free_given sup u data_u front space is data_front (once_in_front front rest u once) ∙ was
   where
     data_u : IsDataUnit sup u
     data_u = all u (Contains-append_right front (u ∷ rest) u (Contains-head u rest))

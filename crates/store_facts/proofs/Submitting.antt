@@ -30,7 +30,7 @@ use Rattle.store_facts.proofs.Readiness.{none_ready, ready_up, drained_idle}
 use Rattle.store_facts.proofs.Flying.{idle_device}
 use Rattle.store_facts.proofs.Working.{stage_work, unacked, work_at}
 use Rattle.store_facts.proofs.Stepping.{IsStanding}
-use Rattle.store_facts.proofs.Committing.{taken_space}
+use Rattle.store_facts.proofs.SpaceUnits.{space_taken}
 
 -- what a submitted transaction or a read leaves
 pub record Admitted (s s' : State) (d : Disk) : Type 0 where
@@ -83,7 +83,7 @@ accepted_idle s d client line change plan record_fits few up fits below a room =
         device = a.device;
         limits = a.limits;
         units = a.units;
-        space = taken_space s.log.sup s.space (map (λ (f : FreshUnit). f.unit) plan.fresh) a.space;
+        space = space_taken s.log.sup s.space (map (λ (f : FreshUnit). f.unit) plan.fresh) a.space;
         flights = a.flights;
         numbers = record {
           number = a.numbers.number;

@@ -26,10 +26,10 @@ pub record IsKeptUp (s : State) (d : Disk) : Type 0 where
   pub far : IsOneAtATime s.log.number s.pending s.batch s.log.begun s.flying
   pub unflown : IsNextUnflown s.log s.pending d.flights
   pub view : s.view ≡ rows_with s.log.rows (uncommitted s)
-  pub committed : AreGoodRows s.log.sup s.log.rows s.space
-  pub good : AreGoodRows s.log.sup s.view s.space
+  pub committed : AreGoodRows s.log.sup s.log.rows s.log.rows
+  pub good : AreGoodRows s.log.sup s.log.rows s.view
   pub free : IsFreeExactly s.log.sup s.log.rows s.view s.space
-  pub releases : ReleasesExactly s.log.rows s.view s.space (uncommitted s)
+  pub releases : ReleasesExactly s.log.rows s.view (uncommitted s)
   pub room : HasRoomFor s.log (uncommitted s)
 
 pub record IsKept (s : State) (d : Disk) : Type 0 where
@@ -42,6 +42,6 @@ pub record IsOpenable (f : Found) (s : Space) (units : ℕ) : Type 0 where
   pub units_are : f.sup.units ≡ units
   pub number : f.number ≤ 2 ^ 61
   pub tail : f.tail ≤ f.sup.half
-  pub good : AreGoodRows f.sup f.rows s
+  pub good : AreGoodRows f.sup f.rows f.rows
   pub space : IsSpaceOf f.sup s
   pub free : IsFreeExactly f.sup f.rows f.rows s

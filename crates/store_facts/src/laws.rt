@@ -1,12 +1,13 @@
 //! What the kernel keeps, and that its steps come to an end. Each function has laws for its contract and does nothing.
-ghost use Rattle.std.specs.Prelude.{◌≡◌, ℕ, ◌+◌, ◌*◌, ◌^◌, ◌<◌, ◌≤◌, true, [], length, Some, None};
+ghost use Rattle.std.specs.Prelude.{◌≡◌, ◌↔◌, ℕ, ◌+◌, ◌*◌, ◌^◌, ◌<◌, ◌≤◌, true, [], length, Some, None};
 ghost use Rattle.block_device.specs.Disk.{Disk, IsSound, IsNotInFlight};
 ghost use Rattle.meta_rows.specs.Spelling.{ops_bytes, AllFit};
 ghost use Rattle.meta_log.specs.Records.{unit_count};
 ghost use Rattle.object_model.specs.Effect.{Change};
 ghost use Rattle.object_model.specs.declared.command.Command.{Command};
 ghost use Rattle.object_model.specs.declared.command.Answer.{Answer};
-ghost use Rattle.unit_allocator.specs.Units.{Space};
+ghost use Rattle.store_image.specs.Owners.{IsDataUnit, IsBusy};
+ghost use Rattle.unit_allocator.specs.Units.{Space, is_free};
 ghost use Rattle.store_steps.specs.declared.step.Step.{Step};
 ghost use Rattle.store_steps.specs.declared.step.Step.TheVariants.{Data, Flush, Seal, Record, Sync};
 ghost use Rattle.store_steps.specs.State.{Begun, Batch, State};
@@ -16,6 +17,7 @@ ghost use Rattle.store_steps.specs.Opened.{Found, opened};
 ghost use Rattle.store_steps.specs.Ready.{is_ready, is_drained};
 ghost use Rattle.store_steps.specs.Runs.{DoesOrFails, MaySubmit, MayRead, Reads};
 ghost use Rattle.store_steps.specs.Submit.{Accepts, Refuses};
+ghost use Rattle.store_facts.specs.Space.{uncommitted, allotted};
 ghost use Rattle.store_facts.specs.Work.{measure};
 ghost use Rattle.store_facts.specs.Kept.{IsKept, IsOpenable};
 
@@ -38,6 +40,13 @@ pub fn transactions_keep()
         → Refuses client line change a s s' → IsKept s' d }
     ensures read { (client line : ℕ) (command : Command) (s s' : State) (d : Disk) → IsKept s d → MayRead command s d
         → Reads client line command s d s' → IsKept s' d }
+{}
+
+/// A data unit is free exactly where it isn't busy: its bit is 0 in the committed rows, and no transaction that isn't committed has it. So what
+/// a transaction releases comes back at its commit, and not before.
+pub fn free_units_are_not_busy()
+    ensures { (s : State) (d : Disk) (unit : ℕ) → IsKept s d → s.down ≡ None → IsDataUnit s.log.sup unit
+        → (is_free s.space unit ≡ true) ↔ (¬ IsBusy s.log.rows (allotted (uncommitted s)) unit) }
 {}
 
 /// A kernel that is opened on a store with good rows keeps it from the start.

@@ -22,6 +22,7 @@ use Rattle.object_model.specs.declared.book.Entry.{Entry}
 use Rattle.object_model.specs.declared.command.Answer.TheVariants as answer
 use Rattle.object_model.specs.declared.command.Command.TheVariants as ask
 use Rattle.meta_log.specs.Slots.{active_unit}
+use Rattle.store_image.specs.Exact.{StaysExact}
 use Rattle.store_image.specs.Stands.{StandsFor}
 use Rattle.store_image.specs.Chance.{NoChanceMatch, AreAsWritten, IsOutranked}
 use Rattle.store_image.specs.Durability.{LeavesPrefix, EachCutStands}
@@ -37,6 +38,7 @@ use Rattle.unit_facts.proofs.Moves.{Move, data_goes, data_ends, takes, flush_goe
 use Rattle.unit_facts.proofs.Moves.{commits, finishes, accepts, enters, rests, stays}
 use Rattle.unit_facts.proofs.RunWrites.{run_write}
 use Rattle.unit_facts.proofs.Steps.{piece_of}
+use Rattle.crash_facts.proofs.Exact.{same_contents}
 
 -- ---- the book grows
 
@@ -56,6 +58,7 @@ prefix_grows base start opening book book' log grows leaves image is chance =
       within = omega (arith, was.within, grows.more);
       has_acked = grows.acked was.count was.has_acked;
       stands = subst (λ (l : List Change). StandsFor image (replay opening l)) (sym (grows.same was.count was.within)) was.stands;
+      exact = was.exact;
     }
 
 -- one more commit, that isn't acknowledged
@@ -132,6 +135,7 @@ quiet_leaves base events h opening book e none counted by_now leaves image is ch
       within = was.within;
       has_acked = λ i. of_get i was.count (slice_get book.commits i) (each_at book.commits i by_now) (was.has_acked i);
       stands = was.stands;
+      exact = subst (λ (contents : List ℕ). StaysExact contents image) (sym (same_contents base h e (omega (arith, counted)))) was.exact;
     }
   where
     each_at : (cs : List Commit) (i : ℕ) → AllByRecursion (λ c. IfSome c.acked_at (λ a. a ≤ events)) cs

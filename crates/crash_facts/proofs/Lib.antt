@@ -2,6 +2,7 @@ pub mod Bytes
 pub mod Standing
 pub mod Admitting
 pub mod Moving
+pub mod Exact
 pub mod Now
 pub mod Idle
 pub mod Answered

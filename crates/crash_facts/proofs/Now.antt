@@ -24,6 +24,7 @@ use Rattle.meta_log.specs.Pieces.{given_from}
 use Rattle.meta_log.proofs.PieceLemmas.{given_from-none}
 use Rattle.store_image.specs.BadRows.{NoBadRow}
 use Rattle.store_image.specs.Owners.{IsOwned}
+use Rattle.store_image.specs.Exact.{IsLeakedIn}
 use Rattle.store_image.specs.Durability.{LeavesPrefix}
 use Rattle.store_image.proofs.OwnedUnits.{objects_stand}
 use Rattle.log_facts.specs.Flushing.{flushed}
@@ -50,8 +51,9 @@ use Rattle.unit_facts.specs.DataUnits.{all_fresh, given_fresh, HeldBytesAreLast,
 use Rattle.crash_facts.specs.HeldBytes.{held_or_last}
 use Rattle.unit_facts.specs.Known.{begun_ops, submitted_from, second_flush}
 use Rattle.unit_facts.proofs.Units.{taken_by, all_units, all_given, all_clean, data_elsewhere}
-use Rattle.crash_facts.specs.Store.{KnownOfStore}
+use Rattle.crash_facts.specs.Store.{contents_at, KnownOfStore}
 use Rattle.crash_facts.proofs.Bytes.{not_fresh, all_held}
+use Rattle.crash_facts.proofs.Exact.{rows_exact, kept_begun}
 
 -- ---- sizes and acknowledgements
 
@@ -82,7 +84,8 @@ module _ (base : ℕ) (opening : Objects) (s : State) (d : Disk) (h : History) (
   -- no fresh unit is owned in them
   not_taken : (unit : ℕ) → IsOwned s.log.rows unit → AllByRecursion (λ f. f.unit ≢ unit) (all_fresh (uncommitted s))
   not_taken unit owned = all_units (λ u. u ≢ unit) (uncommitted s)
-      (λ u c same. (kept.up up).releases.taken_was_not unit (subst (Contains (taken_by (uncommitted s))) same c) owned)
+      (λ u c same. (kept.up up).releases.taken_was_not unit (subst (Contains (taken_by (uncommitted s))) same c)
+      ((kept.up up).committed.exact.owned_marked unit owned))
 
   pub rows_sound : SoundFor h s.log.sup s.log.rows (replay opening (applied_changes s))
   rows_sound = record {
@@ -198,3 +201,5 @@ now_stands base opening s d h kept up known =
     (rows_sound base opening s d h kept up known)
     (by_stage (λ t. IsKept t d → t.down ≡ None → KnownOfStore base opening t d h → IsGivenSound opening h t) s
     (begun_sound base opening s d h) (kept.up up).far kept up known)
+    (rows_exact (IsLeakedIn (contents_at base h)) m.rows (uncommitted s) known.exact)
+    (kept_begun (IsLeakedIn (contents_at base h)) s d kept up known.exact)

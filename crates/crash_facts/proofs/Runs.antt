@@ -14,10 +14,13 @@ use Rattle.block_device.proofs.LogLemmas.{each_cut_push}
 use Rattle.object_model.specs.Objects.{Objects}
 use Rattle.object_model.specs.Effect.{replay}
 use Rattle.object_model.specs.Book.{accepted}
+use Rattle.store_image.specs.Owners.{IsExactBut}
+use Rattle.store_image.specs.Exact.{IsLeakedIn, StaysExact}
 use Rattle.store_image.specs.Stands.{StandsFor}
 use Rattle.store_image.specs.Durability.{LeavesPrefix, EachCutStands}
 use Rattle.store_image.proofs.OwnedUnits.{objects_stand}
-use Rattle.log_facts.proofs.Crashes.{log_stands}
+use Rattle.log_facts.proofs.Crashes.{log_reads, log_stands}
+use Rattle.log_facts.proofs.Cuts.{exact_image}
 use Rattle.unit_allocator.specs.Units.{Space}
 use Rattle.store_steps.specs.declared.step.Step.{Step}
 use Rattle.store_steps.specs.declared.step.Step.TheVariants.{Reap}
@@ -28,6 +31,7 @@ use Rattle.store_steps.specs.Steps.{Takes}
 use Rattle.store_steps.specs.Opened.{Found, opened}
 use Rattle.store_steps.specs.Runs.{Call, submitting, reading, stepping, Calls, DoesOrFails, Submits, Reads, IsRun}
 use Rattle.store_facts.specs.Kept.{IsKept}
+use Rattle.store_facts.specs.Space.{uncommitted}
 use Rattle.store_facts.proofs.Conditions.{IsIdle, while_up, while_down, ready_cases}
 use Rattle.store_facts.proofs.Known.{known_idle}
 use Rattle.book_facts.specs.BookFacts.{KnownOfBook}
@@ -41,10 +45,11 @@ use Rattle.unit_facts.proofs.Moves.{Goes, call_goes_on}
 use Rattle.unit_facts.proofs.Calls.{move_known}
 use Rattle.unit_facts.proofs.Downs.{call_down, was_up}
 use Rattle.unit_facts.proofs.Runs.{kept_call, run_kept, idle_half, drained_clean}
-use Rattle.crash_facts.specs.Store.{KnownOfStore, IsDurable, IsMounted}
+use Rattle.crash_facts.specs.Store.{contents_at, KnownOfStore, IsDurable, IsMounted}
 use Rattle.crash_facts.proofs.Idle.{idle_objects}
 use Rattle.crash_facts.proofs.Answered.{AreAnswered, call_answers}
 use Rattle.crash_facts.proofs.Moving.{move_stand}
+use Rattle.crash_facts.proofs.Exact.{rows_exact, exact_none, kept_selections, move_exact}
 use Rattle.crash_facts.proofs.Now.{now_stands, size_now}
 use Rattle.crash_facts.proofs.Cuts.{quiet_leaves, move_cuts}
 
@@ -140,13 +145,17 @@ module _ (base : ℕ) (opening : Objects) (call : Call) (s s' : State) (d d' : D
       let store : KnownOfStore base opening s d durable.history = durable.up before in
       let on : Goes s d durable.history s' d' = call_goes_on call s s' d d' durable.history kept up durable.told made in
       let units : KnownOfUnits base s' d' on.history = move_known base on.move store.units in
+      let after : IsKept s' d' = kept_call call s s' d d' kept made sound in
+      let exact : IsExactBut (IsLeakedIn (contents_at base on.history)) s'.log.rows =
+      move_exact base on.move (omega (arith, durable.counted)) store.exact in
       let known : KnownOfStore base opening s' d' on.history = record {
         units = units;
         book = book';
         stand = move_stand base opening on.move kept before store.units durable.book store.stand;
+        exact = kept_selections (contents_at base on.history) s' d' after up exact;
       } in
       let now : LeavesPrefix base on.history.start opening s'.book on.history.log =
-      now_stands base opening s' d' on.history (kept_call call s s' d d' kept made sound) up known in
+      now_stands base opening s' d' on.history after up known in
       record {
         history = on.history;
         told = units.told;
@@ -239,6 +248,7 @@ mounted_durable base opening f space events d h told none is =
       book = book_opened opening f space events (last_at h, is.stand);
       stand = stand_none (held_or_last h []) f.rows opening []
           (objects_stand (last_at h) (held_or_last h []) f.rows (λ unit owned. refl) opening is.stand);
+      exact = exact_none (IsLeakedIn (contents_at base h)) f.rows is.exact;
     } in
     record {
       history = h;
@@ -261,6 +271,16 @@ drained_stands base opening s d h kept up drained known =
     log_stands h s.log.sup s.log.rows s.log.tail s.log.number 0 (second_flush s.batch) half.0 (replay opening (accepted s.book.entries))
     (size_now s d h kept known.units.told) known.units.slots half.1 (kept.up up).committed.good
     (idle_objects base opening s d h idle known)
+
+pub drained_exact : (base : ℕ) (opening : Objects) (s : State) (d : Disk) (h : History) → IsKept s d → s.down ≡ None → is_drained d.depth s ≡ true
+    → KnownOfStore base opening s d h → StaysExact (contents_at base h) (last h.start h.log)
+drained_exact base opening s d h kept up drained known =
+    let idle : IsIdle s = known_idle s d kept up drained in
+    let half = idle_half base s d h known.units idle.begun in
+    let found = log_reads h s.log.sup s.log.rows s.log.tail s.log.number 0 (second_flush s.batch) half.0
+    (size_now s d h kept known.units.told) known.units.slots half.1 in
+    exact_image (contents_at base h) (last h.start h.log) s.log.sup s.log.rows found.0 found.1
+    (rows_exact (IsLeakedIn (contents_at base h)) s.log.rows (uncommitted s) known.exact)
 
 -- ---- at the end of a run
 
@@ -285,6 +305,9 @@ module _ (base : ℕ) (opening : Objects) (calls : List Call) (s s' : State) (d 
 
     pub end_stands : StandsFor (last h'.start h'.log) (replay opening (accepted s'.book.entries))
     end_stands = drained_stands base opening s' d' h' kept' up drained known'
+
+    pub end_exact : StaysExact (contents_at base h') (last h'.start h'.log)
+    end_exact = drained_exact base opening s' d' h' kept' up drained known'
 
     pub end_clean : (unit : ℕ) → IsClean h'.log unit
     end_clean = drained_clean base s' d' h' kept' known'.units up drained

@@ -1,13 +1,16 @@
 -- What is known of a store from call to call: its device, its book, and that each crash so far leaves a front of the commits.
-use Rattle.std.specs.Prelude.{◌≡◌, ℕ, ◌+◌, List, [], length, Some, None}
+use Rattle.std.specs.Prelude.{◌≡◌, ℕ, ◌+◌, List, [], length, take, Some, None}
 use Rattle.std.specs.List.{AllByRecursion}
-use Rattle.block_device.specs.Log.{IsClean}
+use Rattle.block_device.specs.Log.{last, IsClean}
 use Rattle.block_device.specs.Disk.{Disk, History}
 use Rattle.block_device.specs.Facts.{last_at}
 use Rattle.object_model.specs.Objects.{Objects}
 use Rattle.object_model.specs.Effect.{replay}
 use Rattle.object_model.specs.Book.{AnswersFrom}
 use Rattle.meta_rows.specs.declared.row_op.RowOp.{RowOp}
+use Rattle.meta_rows.specs.Rows.{Rows}
+use Rattle.store_image.specs.Owners.{IsExactBut}
+use Rattle.store_image.specs.Exact.{IsLeakedIn}
 use Rattle.store_image.specs.Stands.{ObjectsStand}
 use Rattle.store_image.specs.Durability.{IsStart, EachCutStands}
 use Rattle.log_facts.specs.Flushing.{not_sent}
@@ -15,10 +18,11 @@ use Rattle.log_facts.specs.SlotFacts.{SlotsStand}
 use Rattle.log_facts.specs.HalfFacts.{ActiveHalfStands}
 use Rattle.store_steps.specs.State.{State}
 use Rattle.store_steps.specs.Opened.{Found}
-use Rattle.store_facts.specs.Space.{uncommitted}
+use Rattle.store_steps.specs.declared.context.Context.{Context}
+use Rattle.store_facts.specs.Space.{uncommitted, rows_with}
 use Rattle.book_facts.specs.BookFacts.{KnownOfBook}
 use Rattle.read_facts.specs.Alike.{IsNoCsum}
-use Rattle.book_facts.specs.Selections.{applied_changes, SelectionsStand}
+use Rattle.book_facts.specs.Selections.{IsFairSelection, applied_changes, SelectionsStand}
 use Rattle.crash_facts.specs.HeldBytes.{held_or_last}
 use Rattle.unit_facts.specs.Known.{IsAnsweredSince, KnownOfUnits}
 
@@ -28,11 +32,20 @@ abbrev pub ContextsStand : Objects → State → History → Type 0
 ContextsStand opening s h =
     SelectionsStand (held_or_last h (uncommitted s)) s.log.rows (uncommitted s) (replay opening (applied_changes s)) s.book.entries
 
+-- The contents when the log had so many events.
+abbrev pub contents_at : ℕ → History → List ℕ
+contents_at base h = last h.start (take base h.log)
+
+-- With the operations of a fair selection of contexts the bitmap of the rows is exact, but for these leaked units.
+abbrev pub SelectionsAreExact : (ℕ → Type 0) → Rows → List Context → Type 0
+SelectionsAreExact leaked rows contexts = (some : List Context) → IsFairSelection contexts some → IsExactBut leaked (rows_with rows some)
+
 -- what is known of a store while its kernel is up, and the device tells its log
 pub record KnownOfStore (base : ℕ) (opening : Objects) (s : State) (d : Disk) (h : History) : Type 0 where
   pub units : KnownOfUnits base s d h
   pub book : KnownOfBook opening s
   pub stand : ContextsStand opening s h
+  pub exact : SelectionsAreExact (IsLeakedIn (contents_at base h)) s.log.rows (uncommitted s)
 
 -- What holds whether it is up or down: each entry has the answer that plain objects give, none names a bad unit, and each crash since the log
 -- had `base` events leaves the objects after a front of the commits.
@@ -61,4 +74,5 @@ pub record IsMounted (base : ℕ) (opening : Objects) (f : Found) (events : ℕ)
   pub recs : List (List RowOp)
   pub half : ActiveHalfStands h f.sup f.rows f.tail f.number None 0 not_sent recs
   pub stand : ObjectsStand (last_at h) f.rows opening
+  pub exact : IsExactBut (IsLeakedIn (contents_at base h)) f.rows
   pub cuts : EachCutStands base h opening (record { entries = []; commits = [] })

@@ -8,6 +8,7 @@ ghost use Rattle.object_model.specs.Objects.{Objects};
 ghost use Rattle.object_model.specs.Effect.{replay};
 ghost use Rattle.object_model.specs.Book.{accepted, IsLegal};
 ghost use Rattle.store_image.specs.Stands.{ObjectsStand, StandsFor};
+ghost use Rattle.store_image.specs.Exact.{StaysExact};
 ghost use Rattle.read_facts.specs.Alike.{IsNoCsum};
 ghost use Rattle.store_image.specs.Durability.{IsStart, EachCutStands};
 ghost use Rattle.unit_allocator.specs.Units.{Space};
@@ -16,7 +17,7 @@ ghost use Rattle.store_steps.specs.Ready.{is_drained};
 ghost use Rattle.store_steps.specs.Opened.{Found, opened};
 ghost use Rattle.store_steps.specs.Runs.{Call, Calls, IsRun};
 ghost use Rattle.store_facts.specs.Kept.{IsKept};
-ghost use Rattle.crash_facts.specs.Store.{KnownOfStore, IsDurable, KeepsDurable, IsMounted};
+ghost use Rattle.crash_facts.specs.Store.{contents_at, KnownOfStore, IsDurable, KeepsDurable, IsMounted};
 
 /// A store that was mounted, on a device where nothing is in flight and that tells its log, is durable from the start, for the objects
 /// that the contents stood for when the mount began.
@@ -39,11 +40,14 @@ pub fn a_run_keeps_a_store_durable()
         IsDurable base opening s d → IsRun s d calls s' d' → IsDurable base opening s' d' }
 {}
 
-/// Once the kernel is drained, and not down, the device stands for the objects after all accepted transactions.
+/// Once the kernel is drained, and not down, the device stands for the objects after all accepted transactions, and its bitmap is exactly
+/// their units, but for those that were leaked when the mount began.
 pub fn a_drained_store_stands()
-    ensures { (base : ℕ) (opening : Objects) (s : State) (d : Disk) (h : History) → IsKept s d → s.down ≡ None →
+    ensures stands { (base : ℕ) (opening : Objects) (s : State) (d : Disk) (h : History) → IsKept s d → s.down ≡ None →
         is_drained d.depth s ≡ true → KnownOfStore base opening s d h →
         StandsFor (last h.start h.log) (replay opening (accepted s.book.entries)) }
+    ensures exact { (base : ℕ) (opening : Objects) (s : State) (d : Disk) (h : History) → IsKept s d → s.down ≡ None →
+        is_drained d.depth s ≡ true → KnownOfStore base opening s d h → StaysExact (contents_at base h) (last h.start h.log) }
 {}
 
 /// The book of a durable store is legal: each entry has the answer that plain objects give, reads too, and none names a bad unit.
@@ -71,8 +75,8 @@ pub fn each_crash_leaves_a_prefix()
         IsDurable base opening s d → IsRun s d calls s' d' → d'.history ≡ Some h' → EachCutStands base h' opening s'.book }
 {}
 
-/// And where such a run ends drained and not down, the device stands for the objects after all accepted transactions, and no unit
-/// is dirty.
+/// And where such a run ends drained and not down, the device stands for the objects after all accepted transactions, its bitmap is as exact
+/// as when the mount began, and no unit is dirty.
 pub fn a_drained_run_stands()
     ensures stands { (base : ℕ) (opening : Objects) (calls : List Call) (s s' : State) (d d' : Disk) (h' : History) → IsKept s d →
         IsDurable base opening s d → IsRun s d calls s' d' → d'.history ≡ Some h' → s'.down ≡ None → is_drained d'.depth s' ≡ true →
@@ -80,6 +84,9 @@ pub fn a_drained_run_stands()
     ensures clean { (base : ℕ) (opening : Objects) (calls : List Call) (s s' : State) (d d' : Disk) (h' : History) → IsKept s d →
         IsDurable base opening s d → IsRun s d calls s' d' → d'.history ≡ Some h' → s'.down ≡ None → is_drained d'.depth s' ≡ true →
         (unit : ℕ) → IsClean h'.log unit }
+    ensures exact { (base : ℕ) (opening : Objects) (calls : List Call) (s s' : State) (d d' : Disk) (h' : History) → IsKept s d →
+        IsDurable base opening s d → IsRun s d calls s' d' → d'.history ≡ Some h' → s'.down ≡ None → is_drained d'.depth s' ≡ true →
+        StaysExact (contents_at base h') (last h'.start h'.log) }
 {}
 
 /// A kernel keeps its device durable over each of its calls: from the start that lies behind as many events as the kernel has counted,

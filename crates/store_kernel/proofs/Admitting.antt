@@ -45,8 +45,8 @@ pub planned_fits : (s : State) (d : Disk) (change : Change) (plan : Plan) → Is
 planned_fits s d change plan kept can known is =
     let rows : AreRowsKept s = rows_of_kept s d kept can.up in
     let one : IsPlanned s.log.sup s.view change (as_planned plan) =
-    planned s.log.sup s.log.rows s.view s.space kept.always.limits rows.space rows.free change.coll change.ops plan known is.names is.not_refused
-    is.plans in
+    planned s.log.sup s.log.rows s.view s.space kept.always.limits rows.good rows.space rows.free change.coll change.ops plan known is.names
+    is.not_refused is.plans in
     plan_fits s.log.sup s.view s.space change.coll change.ops plan rows.good.good known is.not_refused is.plans one
 
 -- the room of the log in both words

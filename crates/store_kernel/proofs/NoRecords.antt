@@ -9,14 +9,14 @@ use Rattle.meta_log.specs.declared.slot.Super.{Super}
 use Rattle.meta_log.specs.Slots.{IsSuper, data_unit}
 use Rattle.meta_rows.specs.Rows.{Rows}
 use Rattle.meta_store.specs.Store.{Meta, found_meta}
-use Rattle.row_facts.proofs.NoRows.{none_good, none_owned}
+use Rattle.row_facts.proofs.NoRows.{none_good, none_marked, none_exact}
+use Rattle.store_image.proofs.ExactLemmas.{as_itself}
 use Rattle.store_image.specs.Owners.{IsDataUnit}
 use Rattle.unit_allocator.specs.Units.{Space, is_free}
 use Rattle.store_steps.specs.Opened.{opened}
 use Rattle.store_facts.specs.Space.{IsSpaceOf}
 use Rattle.store_facts.specs.Kept.{IsOpenable, IsKept}
 use Rattle.store_facts.proofs.Kept.{kept_open}
-use Rattle.store_facts.proofs.SpaceUnits.{free_is_unheld}
 use Rattle.store_kernel.specs.Seen.{found_of, IsUnused}
 use Rattle.store_kernel.proofs.Opening.{new_space, new_space_is, new_space_free}
 
@@ -53,9 +53,9 @@ module _ (m : Meta) (rows : Rows) (sup : Super) (is : m ≡ found_meta sup rows 
     units_are = same;
     number = few;
     tail = omega arith;
-    good = record { good = none_good sup; sole = λ unit _ a b owns _. absurd (none_owned unit (a, owns)) };
+    good = record { good = none_good sup; exact = as_itself (λ unit. ⊥) map.empty none_exact };
     space = is_space;
-    free = λ unit on. (λ _. (free_is_unheld space unit (free unit on), none_owned unit, none_owned unit), λ _. free unit on);
+    free = λ unit on. (λ _. (none_marked unit, none_marked unit), λ _. free unit on);
   }
 
   pub no_records_kept : (space : Space) (d : Disk) → rows ≡ map.empty → IsSound d → d.flights ≡ [] → IsSuper sup → sup.units ≡ d.units

@@ -12,7 +12,7 @@ use Rattle.meta_store.specs.Store.{Begun, Meta}
 use Rattle.object_model.specs.declared.book.Entry.{Entry}
 use Rattle.object_model.specs.declared.book.Commit.{Commit}
 use Rattle.unit_allocator.specs.Units.{Space, is_free, given_one, freed_from, no_idle_units}
-use Rattle.unit_allocator.proofs.Fresh.{new_is_free}
+use Rattle.unit_allocator.proofs.Fresh.{new_is_free, new_is_unheld}
 use Rattle.store_image.specs.Owners.{IsDataUnit}
 use Rattle.store_steps.specs.declared.flight.Flying.{Flying}
 use Rattle.store_steps.specs.Opened.{opened}
@@ -50,6 +50,9 @@ new_space_is sup first end busy limits from to =
     record {
       first = range.0 ∙ from;
       count = omega (arith, range.1, length-replicate (end - first) false, from, to, limits.room);
+      unheld = λ unit.
+          let at : ℕ = unit - (new_space first end busy).first in
+          ap (λ (holds : List ℕ). get_or holds at 0) (new_is_unheld first (end - first) busy) ∙ all_alike (end - first) at 0;
     }
 
 -- a data unit is free there exactly where it isn't busy

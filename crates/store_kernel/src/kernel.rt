@@ -109,8 +109,8 @@ impl<D: Device + Drop> Drop for Kernel<D> {
 
 impl<D: Device> Kernel<D> {
     /// The kernel of a store whose rows and log are these, over a device on which nothing is in flight. The submitted rows are a copy
-    /// of the committed ones, and `space` has the data units that no row owns. `events` is how many events the device has had since
-    /// the mount began. `mount` calls it, and shows that the kernel is durable from its start.
+    /// of the committed ones, and `space` has the data units that the bitmap leaves free. `events` is how many events the device has
+    /// had since the mount began. `mount` calls it, and shows that the kernel is durable from its start.
     pub fn open(
         alloc: Global,
         device: D,

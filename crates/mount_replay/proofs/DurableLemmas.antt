@@ -1,8 +1,8 @@
--- While what is behind the records is cleared, each crash leaves the objects that the store stood for.
+-- While what is behind the records is cleared, each crash leaves the objects that the store stood for, and its bitmap.
 use Rattle.std.proofs.Common.{◌≡◌, inl, inr, ℕ, ◌+◌, ◌*◌, ◌<◌, ◌≤◌, List, [], ◌∷◌, ◌++◌, length, take, drop, refl, sym, ap, ap₂, subst, ◌∙◌, append_assoc, arith}
 use Rattle.std.specs.List.{AllByRecursion}
 use Rattle.std.proofs.lemmas.Bool.{cases_lt, cases_eq}
-use Rattle.std.proofs.lemmas.List.{append-nil, take_all, take_at, drop-drop}
+use Rattle.std.proofs.lemmas.List.{append-nil, take_all, take_at, take-append-le, drop-drop, length-append}
 use Rattle.byte_maps.specs.Units.{unit_at, zeros, IsUnits}
 use Rattle.byte_maps.proofs.UnitLemmas.{length-zeros, unit_at-zeros, unit_at-units_from}
 use Rattle.block_device.specs.Log.{last, WritesUnit, IsClean}
@@ -16,14 +16,15 @@ use Rattle.object_model.specs.declared.book.Book.{Book}
 use Rattle.object_model.specs.Objects.{Objects}
 use Rattle.meta_rows.specs.declared.row_op.RowOp.{RowOp}
 use Rattle.meta_log.specs.declared.slot.Super.{Super}
-use Rattle.meta_log.specs.Slots.{IsSuper, active_unit}
+use Rattle.meta_log.specs.Slots.{IsSuper, IsActiveSlot, active_unit}
 use Rattle.meta_log.specs.Records.{active_half, AreRowsOf}
 use Rattle.meta_log.specs.Scanning.{units_of_records}
 use Rattle.meta_log.proofs.SlotLemmas.{same_active}
 use Rattle.store_image.specs.BadRows.{NoBadRow}
-use Rattle.store_image.specs.Owners.{IsOwned}
+use Rattle.store_image.specs.Owners.{IsOwned, IsExactAs}
 use Rattle.store_image.specs.Stands.{ObjectsStand, StandsFor}
 use Rattle.store_image.specs.Durability.{LeavesPrefix, EachCutStands}
+use Rattle.store_image.proofs.ExactLemmas.{as_image, stays_by_rows}
 use Rattle.store_image.proofs.OneObjects.{same_rows}
 use Rattle.store_image.proofs.OwnedUnits.{objects_stand}
 use Rattle.store_image.proofs.StartLemmas.{start_is_durable}
@@ -34,10 +35,10 @@ use Rattle.log_facts.specs.Soundness.{SoundFor}
 use Rattle.log_facts.proofs.Keeping.{slots_push, last_push, written_behind, half_spares_slots, half_spares_data}
 use Rattle.log_facts.proofs.Mounting.{fresh_slots}
 use Rattle.log_facts.proofs.Reading.{half_inside}
-use Rattle.log_facts.proofs.Found.{found_records, records_push, objects_left, cleared_half}
+use Rattle.log_facts.proofs.Found.{found_records, records_push, records_left, objects_left, cleared_half}
 use Rattle.store_steps.specs.Opened.{Found}
 use Rattle.store_facts.proofs.RowsPages.{owned_on_data}
-use Rattle.crash_facts.specs.Store.{IsMounted}
+use Rattle.crash_facts.specs.Store.{contents_at, IsMounted}
 use Rattle.mount_replay.specs.Cleared.{IsAllClean}
 use Rattle.mount_replay.specs.Zeroing.{IsZeroing}
 use Rattle.mount_replay.specs.Clearing.{IsCleared, ClearsSoFar}
@@ -58,6 +59,22 @@ pub record StoreStands (f : Found) (recs : List (List RowOp)) (objects : Objects
   pub records : RecordsStand h f.sup f.rows f.tail f.number recs
   pub good : NoBadRow f.sup f.rows
   pub sound : SoundFor h f.sup f.rows objects
+
+-- when the log had so many events, the contents had this slot and these rows
+pub record BeganWith (f : Found) (base : ℕ) (h : History) : Type 0 where
+  pub reached : base ≤ length h.log
+  pub active : IsActiveSlot (contents_at base h) f.sup
+  pub read : AreRowsOf (contents_at base h) f.sup f.rows
+
+began_push : (f : Found) (base : ℕ) (h : History) (event : Event) → BeganWith f base h → BeganWith f base (with_event h event)
+began_push f base h event began =
+    let same : contents_at base h ≡ contents_at base (with_event h event) =
+    ap (last h.start) (sym (take-append-le base h.log (event ∷ []) began.reached)) in
+    record {
+      reached = omega (arith, began.reached, length-append h.log (event ∷ []));
+      active = subst (λ l. IsActiveSlot l f.sup) same began.active;
+      read = subst (λ l. AreRowsOf l f.sup f.rows) same began.read;
+    }
 
 module _ (f : Found) (recs : List (List RowOp)) (objects : Objects) where
   s : Super
@@ -143,18 +160,24 @@ module _ (f : Found) (recs : List (List RowOp)) (objects : Objects) where
 
   -- ---- each cut
 
-  cut_leaves : (base : ℕ) (h : History) → StoreStands f recs objects h → EndsInZeros h f.sup f.tail → LeavesPrefix base h.start objects no_book h.log
-  cut_leaves base h stands ends image is chance = record {
-    count = 0;
-    within = omega arith;
-    has_acked = λ i. tt;
-    stands = objects_left h f.sup f.rows f.tail f.number recs objects image stands.whole stands.whole_now stands.slots stands.records ends stands.sound is chance;
-  }
+  cut_leaves : (base : ℕ) (h : History) → BeganWith f base h → StoreStands f recs objects h → EndsInZeros h f.sup f.tail
+      → LeavesPrefix base h.start objects no_book h.log
+  cut_leaves base h began stands ends image is chance =
+      let left = records_left h f.sup f.rows f.tail f.number recs image stands.whole stands.whole_now stands.slots stands.records ends is chance in
+      let sound = stands.sound in record {
+        count = 0;
+        within = omega arith;
+        has_acked = λ i. tt;
+        stands = objects_left h f.sup f.rows f.tail f.number recs objects image stands.whole stands.whole_now stands.slots stands.records ends sound
+            is chance;
+        exact = stays_by_rows (contents_at base h) image f.sup f.rows began.active began.read left.0 left.1;
+      }
 
   -- what holds after some events
   pub record After (base : ℕ) (h : History) : Type 0 where
     pub cuts : EachCutStands base h objects no_book
     pub stands : StoreStands f recs objects h
+    pub began : BeganWith f base h
 
   after_more : (base : ℕ) (events : List Event) (h : History) → After base h → EndsInZeros h f.sup f.tail → AllByRecursion Zeroes events
       → After base (record { start = h.start; log = h.log ++ events })
@@ -163,9 +186,10 @@ module _ (f : Found) (recs : List (List RowOp)) (objects : Objects) where
       let next = with_event h event in
       let stands = stands_push h event after.stands each.0 in
       let ended = ends_after h event after.stands each.0 ends in
-      let cuts = each_cut_push base h.log event (LeavesPrefix base h.start objects no_book) after.cuts (cut_leaves base next stands ended) in
+      let began = began_push f base h event after.began in
+      let cuts = each_cut_push base h.log event (LeavesPrefix base h.start objects no_book) after.cuts (cut_leaves base next began stands ended) in
       subst (λ l. After base (record { start = h.start; log = l })) (append_assoc h.log (event ∷ []) events)
-      (after_more base events next (record { cuts = cuts; stands = stands }) ended each.1)
+      (after_more base events next (record { cuts = cuts; stands = stands; began = began }) ended each.1)
 
   after_first : (base : ℕ) (more : List Event) (h : History) → After base h → AllByRecursion Zeroes (Write (active_unit f.sup + f.tail) (zeros 4096) ∷ more)
       → After base (record { start = h.start; log = h.log ++ Write (active_unit f.sup + f.tail) (zeros 4096) ∷ more })
@@ -176,9 +200,10 @@ module _ (f : Found) (recs : List (List RowOp)) (objects : Objects) where
       let inside : 4096 * (active_unit f.sup + f.tail) + length (zeros 4096) ≤ length (last h.start h.log) = fits h event after.stands each.0 in
       let ended : EndsInZeros next f.sup f.tail =
       λ some. covered_zero h (active_unit f.sup + f.tail) 1 (omega (arith, inside, length-zeros 4096)) (omega arith) in
-      let cuts = each_cut_push base h.log event (LeavesPrefix base h.start objects no_book) after.cuts (cut_leaves base next stands ended) in
+      let began = began_push f base h event after.began in
+      let cuts = each_cut_push base h.log event (LeavesPrefix base h.start objects no_book) after.cuts (cut_leaves base next began stands ended) in
       subst (λ l. After base (record { start = h.start; log = l })) (append_assoc h.log (event ∷ []) more)
-      (after_more base more next (record { cuts = cuts; stands = stands }) ended each.1)
+      (after_more base more next (record { cuts = cuts; stands = stands; began = began }) ended each.1)
 
   -- ---- from what was found
 
@@ -238,13 +263,14 @@ module _ (f : Found) (h : History) (objects : Objects) (clean : IsAllClean h) (w
       (subst (λ t. RecordsStand h f.sup f.rows t (f.sup.first + length recs) recs) (sym found.replay.tail_is)
       (subst (λ r. RecordsStand h f.sup r (units_of_records f.sup.first recs) (f.sup.first + length recs) recs) (sym found.replay.made) stand))
 
+  rows_found : AreRowsOf (last h.start h.log) f.sup f.rows
+  rows_found = record { records = found.replay.records; stand = found.replay.stand; made = found.replay.made }
+
   objects_found : ObjectsStand (last_at h) f.rows objects
   objects_found =
       let same = same_active (last h.start h.log) stands.super f.sup stands.active found.active in
-      let own : AreRowsOf (last h.start h.log) f.sup f.rows =
-      record { records = found.replay.records; stand = found.replay.stand; made = found.replay.made } in
       let theirs = subst (λ s. AreRowsOf (last h.start h.log) s stands.rows) same stands.read in
-      let rows = same_rows (last h.start h.log) f.sup stands.rows f.rows theirs own in
+      let rows = same_rows (last h.start h.log) f.sup stands.rows f.rows theirs rows_found in
       subst (λ r. ObjectsStand (last_at h) r objects) rows stands.stand
 
   store_found : StoreStands f found.replay.records objects h
@@ -257,8 +283,20 @@ module _ (f : Found) (h : History) (objects : Objects) (clean : IsAllClean h) (w
     sound = record { good = good; stand = objects_found; clean = λ unit owned. clean unit };
   }
 
+  began_here : BeganWith f (length h.log) h
+  began_here =
+      let same : last h.start h.log ≡ contents_at (length h.log) h = ap (last h.start) (sym (take_all (length h.log) h.log (omega arith))) in record {
+        reached = omega arith;
+        active = subst (λ l. IsActiveSlot l f.sup) same found.active;
+        read = subst (λ l. AreRowsOf l f.sup f.rows) same rows_found;
+      }
+
   after_none : After f found.replay.records objects (length h.log) h
-  after_none = record { cuts = still_durable f.sup.units h objects whole whole_now clean stands; stands = store_found }
+  after_none = record {
+    cuts = still_durable f.sup.units h objects whole whole_now clean stands;
+    stands = store_found;
+    began = began_here;
+  }
 
   -- where the first unit behind the records is zero, they end in zeros
   ends_found : unit_at 0 (behind_records (last h.start h.log) f) ≡ zeros 4096 → EndsInZeros h f.sup f.tail
@@ -272,8 +310,8 @@ module _ (f : Found) (h : History) (objects : Objects) (clean : IsAllClean h) (w
 
   pub is_mounted : (k : History) (count : ℕ) → ClearsSoFar (active_unit f.sup + f.tail) (active_unit f.sup + f.sup.half) (behind_records (last h.start h.log) f) h k
       → IsCleared (active_unit f.sup + f.tail) (active_unit f.sup + f.sup.half) (behind_records (last h.start h.log) f) count h k
-      → IsMounted (length h.log) objects f count k
-  is_mounted k count so_far cleared =
+      → IsExactAs f.rows f.rows → IsMounted (length h.log) objects f count k
+  is_mounted k count so_far cleared exact =
       let after = after_clearing k so_far in
       let front : take (length h.log) k.log ≡ h.log = ap (take (length h.log)) cleared.by.more ∙ take_at h.log cleared.events (length h.log) refl in
       let all_clean : IsAllClean k = cleared.clean clean in
@@ -293,5 +331,6 @@ module _ (f : Found) (h : History) (objects : Objects) (clean : IsAllClean h) (w
           last = zeroed (active_unit f.sup + j) (omega (arith, past)) (omega (arith, below));
         });
         stand = after.stands.sound.stand;
+        exact = as_image (contents_at (length h.log) k) f.sup f.rows f.rows after.began.active after.began.read exact;
         cuts = after.cuts;
       }

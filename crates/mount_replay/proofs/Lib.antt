@@ -9,6 +9,5 @@ pub mod OpeningLemmas
 pub mod ReplayLemmas
 pub mod DurableLemmas
 pub mod MountingLemmas
-pub mod HoldLemmas
 pub mod JudgeLemmas
 pub mod MountLemmas

@@ -1,10 +1,9 @@
 -- The first units are cleared, and then the slot is written: an empty store.
-use Rattle.std.proofs.Common.{◌≡◌, inl, inr, ℕ, zero, suc, ◌+◌, ◌*◌, ◌<◌, ◌≤◌, true, List, [], ◌∷◌, length, get_or, drop, Option, Some, None, is_some, refl, sym, ap, subst, ◌∙◌, arith}
-use Rattle.std.specs.Prelude.{Contains, IfSome, option_and_then}
+use Rattle.std.proofs.Common.{◌≡◌, inl, inr, ℕ, zero, suc, ◌+◌, ◌*◌, ◌<◌, ◌≤◌, true, List, [], ◌∷◌, length}
+use Rattle.std.proofs.Common.{get_or, drop, Option, Some, None, refl, sym, ap, subst, ◌∙◌, arith}
+use Rattle.std.specs.Prelude.{Contains, IfSome}
 use Rattle.std.specs.FinMap as map
-use Rattle.std.specs.FinMap.{get-empty}
 use Rattle.std.proofs.lemmas.List.{get_or-take, get_or-replicate}
-use Rattle.byte_maps.specs.ByteMap.{byte_order}
 use Rattle.byte_maps.specs.Units.{unit_at, IsUnits, zeros}
 use Rattle.byte_maps.proofs.UnitLemmas.{unit_at-laid_inside, unit_at-whole, unit_at-units_from}
 use Rattle.block_device.specs.Log.{last, IsClean}
@@ -12,15 +11,13 @@ use Rattle.block_device.specs.Disk.{Disk, History, IsQuiet, IsSound}
 use Rattle.block_device.specs.Facts.{last_at}
 use Rattle.block_device.specs.declared.event.Event.TheVariants.{Write, Flush}
 use Rattle.block_device.proofs.LogLemmas.{unit_at-after_event}
-use Rattle.object_model.specs.Effect.{object_under}
 use Rattle.meta_rows.specs.declared.row_op.RowOp.{RowOp}
 use Rattle.meta_log.specs.declared.slot.Super.{Super}
 use Rattle.meta_log.specs.Slots.{super_bytes, IsSuper, IsValidSlot, IsActiveSlot, active_unit}
-use Rattle.meta_log.specs.Records.{BeginsWithRecord, active_half}
+use Rattle.meta_log.specs.Records.{BeginsWithRecord, active_half, AreRowsOf}
 use Rattle.meta_log.proofs.SlotLemmas.{same_super, length-super_bytes}
-use Rattle.store_image.specs.Stands.{ObjectsStand}
-use Rattle.store_image.specs.BadRows.{NoBadRow}
 use Rattle.store_image.proofs.ByteLemmas.{equal_or_not}
+use Rattle.row_facts.proofs.NoRows.{none_good, none_stand, none_exact}
 use Rattle.mount_replay.specs.Calls.{after_call, with_call, Called, Told}
 use Rattle.mount_replay.specs.Zeroing.{IsZero, WasZeroed}
 use Rattle.mount_replay.specs.Stale.{AreStale}
@@ -109,22 +106,6 @@ pub zeros_no_record : (bytes : List ℕ) (number : ℕ) (ops : List RowOp) (rest
 zeros_no_record bytes number ops rest unit begins =
     let never = sym head_of_zeros ∙ ap (λ l. get_or l 0 0) (sym unit) ∙ head_of_unit bytes ∙ ap (λ l. get_or l 0 0) begins.spelled in omega (arith, never)
 
-no_rows : (s : Super) → NoBadRow s map.empty
-no_rows s key value there = absurd (let never = sym (get-empty byte_order key) ∙ there in cc)
-
-nothing_under : (c o : List ℕ) → object_under map.empty c o ≡ None
-nothing_under c o = ap (λ (found : Option _). option_and_then (λ k. map.get k o) found) (get-empty byte_order c)
-
-pub nothing_stands : (at : ℕ → List ℕ) → ObjectsStand at map.empty map.empty
-nothing_stands at = record {
-  shape = record {
-    collections = λ c. ap is_some (get-empty byte_order c) ∙ sym (ap is_some (get-empty byte_order (0x43 ∷ c)));
-    present = λ c o object there. absurd (let never = sym (nothing_under c o) ∙ there in cc);
-    missing = λ c o c_name o_name none. get-empty byte_order _;
-  };
-  bytes = λ c o object there. absurd (let never = sym (nothing_under c o) ∙ there in cc);
-}
-
 module _ (units half prefer : ℕ) (contents : List ℕ) (limits : IsSuper (new_super units half prefer)) (whole : IsUnits units contents)
     (slot : unit_at 0 contents ≡ super_bytes (new_super units half prefer)) (rest : (unit : ℕ) → 0 < unit → unit < half + 2 → unit_at unit contents ≡ zeros 4096) where
   s : Super
@@ -149,6 +130,9 @@ module _ (units half prefer : ℕ) (contents : List ℕ) (limits : IsSuper (new_
       ∙ ap (λ n. unit_at n contents) (omega arith)
       ∙ rest 2 (omega arith) (omega (arith, limits.half_least))
 
+  read : AreRowsOf contents (new_super units half prefer) map.empty
+  read = record { records = []; stand = λ ops rest begins. zeros_no_record _ _ ops rest first_unit begins; made = refl }
+
   pub empty_store : IsEmptyStore units half prefer contents
   empty_store = record {
     slot = active;
@@ -157,10 +141,11 @@ module _ (units half prefer : ℕ) (contents : List ℕ) (limits : IsSuper (new_
       super = new_super units half prefer;
       active = active;
       rows = map.empty;
-      read = record { records = []; stand = λ ops rest begins. zeros_no_record _ _ ops rest first_unit begins; made = refl };
-      good = no_rows (new_super units half prefer);
-      stand = nothing_stands _;
+      read = read;
+      good = none_good (new_super units half prefer);
+      stand = none_stand _;
     };
+    exact = record { super = new_super units half prefer; active = active; rows = map.empty; read = read; exact = none_exact };
   }
 
 -- ---- both steps

@@ -7,12 +7,12 @@ use Rattle.block_device.specs.Log.{last, IsClean}
 use Rattle.block_device.specs.Disk.{Disk, History, IsSound}
 use Rattle.object_model.specs.Objects.{Objects}
 use Rattle.meta_log.specs.Records.{active_half}
-use Rattle.store_image.specs.BadRows.{NoBadRow}
 use Rattle.store_image.specs.Stands.{StandsFor}
 use Rattle.store_image.specs.Durability.{IsStart, EachCutStands}
 use Rattle.unit_allocator.specs.Units.{Space}
 use Rattle.store_steps.specs.State.{State}
 use Rattle.store_steps.specs.Opened.{Found, opened}
+use Rattle.store_facts.specs.Space.{AreGoodRows}
 use Rattle.store_facts.specs.Kept.{IsOpenable, IsKept}
 use Rattle.store_facts.proofs.Kept.{kept_open}
 use Rattle.crash_facts.specs.Store.{KeepsDurable, IsMounted}
@@ -24,7 +24,7 @@ use Rattle.mount_replay.specs.Opening.{IsAbout, IsFoundIn, IsRefused, IsUnopenab
 use Rattle.mount_replay.specs.FoundOn.{IsFoundOn, IsJudged, as_found, first_behind, half_end, rest_of_half, IsLogCleared, ClearsLog}
 use Rattle.mount_replay.specs.Mounting.{behind_records, WasOpened, IsOpenedOn, StaysDurable}
 use Rattle.mount_replay.specs.declared.opening.MountFail.{MountFail}
-use Rattle.mount_replay.specs.declared.opening.MountFail.TheVariants.{Memory, NoSuper, BadRow, WornOut, Fault}
+use Rattle.mount_replay.specs.declared.opening.MountFail.TheVariants.{Memory, NoSuper, BadRow, NotExact, WornOut, Fault}
 use Rattle.mount_replay.specs.declared.replaying.FoundStore.{FoundStore}
 use Rattle.mount_replay.proofs.RunLemmas.{by_length}
 use Rattle.mount_replay.proofs.ZeroLemmas.{told_map, goes_on_same}
@@ -70,7 +70,7 @@ stays_same d sound h opening told clean stands = record {
 
 -- ---- a store that was found
 
-module _ (s : FoundStore) (d : Disk) (sound : IsSound d) (found : IsFoundOn d s) (good : NoBadRow s.sup s.log.rows.rows) where
+module _ (s : FoundStore) (d : Disk) (sound : IsSound d) (found : IsFoundOn d s) (good : AreGoodRows s.sup s.log.rows.rows s.log.rows.rows) where
   f : Found
   f = as_found s
 
@@ -95,7 +95,7 @@ module _ (s : FoundStore) (d : Disk) (sound : IsSound d) (found : IsFoundOn d s)
       let contents = last h.start h.log in
       let here = (holds h told clean).0 in
       let same = subst (λ l. ClearsSoFar (first_behind s) (half_end s) l h k) (rest_is h told clean) so_far in
-      (after_clearing (as_found s) h opening clean (whole h told) (whole_now h told) found.limits good here stands k same).cuts
+      (after_clearing (as_found s) h opening clean (whole h told) (whole_now h told) found.limits good.good here stands k same).cuts
 
   pub stays_begun : (now : Disk) → Told (ClearsLog s) d.history now.history → StaysDurable d now
   stays_begun now told h opening is clean stands =
@@ -127,9 +127,9 @@ module _ (s : FoundStore) (d : Disk) (sound : IsSound d) (found : IsFoundOn d s)
       let here = (holds h told clean).0 in
       let rest = rest_is h told clean in
       subst (λ n. IsMounted n opening (as_found s) count k) (sym base_is)
-      (is_mounted (as_found s) h opening clean (whole h told) (whole_now h told) found.limits good here stands k count
+      (is_mounted (as_found s) h opening clean (whole h told) (whole_now h told) found.limits good.good here stands k count
       (subst (λ l. ClearsSoFar (first_behind s) (half_end s) l h k) rest so_far)
-      (subst (λ l. IsCleared (first_behind s) (half_end s) l count h k) rest cleared))
+      (subst (λ l. IsCleared (first_behind s) (half_end s) l count h k) rest cleared) good.exact)
 
   pub opened_durable : (space : Space) (count : ℕ) (now : Disk) → now.flights ≡ [] → Told (ClearsLog s) d.history now.history
       → Told (IsLogCleared s count) d.history now.history → KeepsDurable (opened (as_found s) space count) now
@@ -167,8 +167,7 @@ module _ (s : FoundStore) (d : Disk) (sound : IsSound d) (found : IsFoundOn d s)
       → Told (IsLogCleared s count) d.history now.history → state ≡ opened (as_found s) space count → IsOpenedOn d (as_found s) space now state
   opened_on space count now state judged later cleared is = record {
     openable = openable space d.units found.units_are judged;
-    unowned = judged.unowned;
-    held = judged.held;
+    unmarked = judged.unmarked;
     numbers = judged.numbers;
     found = about_more d (λ contents. IsFoundIn contents (as_found s) × (s.half.items ≡ active_half contents s.sup)) (λ contents. IsFoundIn contents (as_found s))
         (λ contents both. both.0) found.about;
@@ -188,5 +187,7 @@ pub refused_fails : (s : FoundStore) (d : Disk) (before now : ℕ) (fail : Mount
 refused_fails s d before now Memory found refused = about_all d (λ contents. Unit {0}) (λ contents. tt)
 refused_fails s d before now NoSuper found refused = absurd refused
 refused_fails s d before now (BadRow key) found refused = found_about s d found (IsUnopenable (BadRow key)) (λ contents here. (as_found s, here, refused))
+refused_fails s d before now (NotExact unit) found refused =
+    found_about s d found (IsUnopenable (NotExact unit)) (λ contents here. (as_found s, here, refused))
 refused_fails s d before now (WornOut value) found refused = found_about s d found (IsUnopenable (WornOut value)) (λ contents here. (as_found s, here, refused))
 refused_fails s d before now Fault found refused = absurd refused

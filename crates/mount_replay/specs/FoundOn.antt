@@ -7,7 +7,7 @@ use Rattle.meta_log.specs.Records.{active_half}
 use Rattle.unit_allocator.specs.Units.{Space}
 use Rattle.store_steps.specs.Opened.{Found}
 use Rattle.store_facts.specs.Space.{AreGoodRows, IsSpaceOf, IsFreeExactly}
-use Rattle.mount_replay.specs.Opening.{IsAbout, IsFoundIn, HasLowNumbers, AreUnownedFree, AreSharedHeld}
+use Rattle.mount_replay.specs.Opening.{IsAbout, IsFoundIn, HasLowNumbers, AreUnmarkedFree}
 use Rattle.mount_replay.specs.Clearing.{IsCleared, ClearsSoFar}
 use Rattle.mount_replay.specs.declared.replaying.FoundStore.{FoundStore}
 
@@ -23,14 +23,13 @@ pub record IsFoundOn (d : Disk) (s : FoundStore) : Type 0 where
   pub tail : s.log.tail ≤ s.sup.half
   pub about : IsAbout d (λ contents. IsFoundIn contents (as_found s) × (s.half.items ≡ active_half contents s.sup))
 
--- A kernel can be opened on it, with these free units: all that nobody owns. Those with two owners or more are held.
+-- A kernel can be opened on it, with these free units: all whose bits are 0.
 pub record IsJudged (f : Found) (space : Space) : Type 0 where
-  pub good : AreGoodRows f.sup f.rows space
+  pub good : AreGoodRows f.sup f.rows f.rows
   pub numbers : HasLowNumbers f
   pub units : IsSpaceOf f.sup space
   pub free : IsFreeExactly f.sup f.rows f.rows space
-  pub unowned : AreUnownedFree f space
-  pub held : AreSharedHeld f space
+  pub unmarked : AreUnmarkedFree f space
 
 -- the first unit behind its records, the end of the half, and the bytes between
 abbrev pub first_behind : FoundStore → ℕ

@@ -5,16 +5,18 @@ use Rattle.block_device.specs.Log.{last}
 use Rattle.block_device.specs.Disk.{Disk, IsQuiet, Rose}
 use Rattle.meta_log.specs.Slots.{IsActiveSlot}
 use Rattle.store_image.specs.Stands.{StandsFor}
+use Rattle.store_image.specs.Exact.{IsExactImage}
 use Rattle.mount_replay.specs.NewSuper.{new_super, units_needed}
 use Rattle.mount_replay.specs.Opening.{IsLogEmpty}
 use Rattle.mount_replay.specs.declared.making.MkfsFail.{MkfsFail}
 use Rattle.mount_replay.specs.declared.making.MkfsFail.TheVariants.{Memory, TooSmall, Fault}
 
--- The contents are those of a store without collections, and its log is empty.
+-- The contents are those of a store without collections, its log is empty, and no unit is marked.
 pub record IsEmptyStore (units half prefer : ℕ) (contents : List ℕ) : Type 0 where
   pub slot : IsActiveSlot contents (new_super units half prefer)
   pub empty : IsLogEmpty contents (new_super units half prefer)
   pub stands : StandsFor contents map.empty
+  pub exact : IsExactImage contents
 
 -- The device holds such a store, and nothing of it is dirty.
 pub record HoldsEmptyStore (half prefer : ℕ) (d : Disk) : Type 0 where

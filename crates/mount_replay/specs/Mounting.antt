@@ -17,7 +17,7 @@ use Rattle.store_facts.specs.Kept.{IsOpenable}
 use Rattle.mount_replay.specs.Calls.{Told, GoesOn, GoesOnBy, IsLater}
 use Rattle.mount_replay.specs.Cleared.{IsAllClean}
 use Rattle.mount_replay.specs.Clearing.{AreClearing}
-use Rattle.mount_replay.specs.Opening.{IsAbout, IsFoundIn, HasLowNumbers, AreUnownedFree, AreSharedHeld}
+use Rattle.mount_replay.specs.Opening.{IsAbout, IsFoundIn, HasLowNumbers, AreUnmarkedFree}
 
 -- the bytes of the active half behind the records
 abbrev pub behind_records : List ℕ → Found → List ℕ
@@ -36,8 +36,7 @@ pub record WasOpened (f : Found) (count : ℕ) (old new : History) : Type 0 wher
 -- were cleared, and the kernel's state is the one that it begins in.
 pub record IsOpenedOn (given : Disk) (f : Found) (space : Space) (now : Disk) (s : State) : Type 0 where
   pub openable : IsOpenable f space given.units
-  pub unowned : AreUnownedFree f space
-  pub held : AreSharedHeld f space
+  pub unmarked : AreUnmarkedFree f space
   pub numbers : HasLowNumbers f
   pub found : IsAbout given (λ contents. IsFoundIn contents f)
   pub events : ℕ

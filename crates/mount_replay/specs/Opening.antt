@@ -7,16 +7,14 @@ use Rattle.meta_log.specs.declared.slot.Super.{Super}
 use Rattle.meta_log.specs.Slots.{IsValidSlot, IsActiveSlot, active_unit}
 use Rattle.meta_log.specs.Records.{active_half}
 use Rattle.store_image.specs.BadRows.{NoBadRow}
-use Rattle.store_image.specs.Owners.{IsOwned, IsDataUnit}
-use Rattle.row_facts.specs.SoleOwners.{HasSoleOwner}
+use Rattle.store_image.specs.Owners.{IsDataUnit, IsMarked, IsExactAs, IsLeastInexact}
 use Rattle.unit_allocator.specs.Units.{Space, is_free}
 use Rattle.row_check.specs.Bad.{IsLeastBad}
 use Rattle.store_steps.specs.Opened.{Found}
-use Rattle.store_facts.specs.Space.{IsUnheld}
 use Rattle.mount_replay.specs.Cleared.{IsAllClean}
 use Rattle.mount_replay.specs.Replaying.{IsReplay}
 use Rattle.mount_replay.specs.declared.opening.MountFail.{MountFail}
-use Rattle.mount_replay.specs.declared.opening.MountFail.TheVariants.{Memory, NoSuper, BadRow, WornOut, Fault}
+use Rattle.mount_replay.specs.declared.opening.MountFail.TheVariants.{Memory, NoSuper, BadRow, NotExact, WornOut, Fault}
 
 -- P holds of what was last written, where the device tells it and no unit is dirty
 abbrev pub IsAbout : Disk → (List ℕ → Type 0) → Type 0
@@ -54,20 +52,17 @@ HasLowNumbers f = (f.sup.epoch < 2 ^ 61) × (f.number < 2 ^ 61)
 abbrev pub IsWornOut : Found → ℕ → Type 0
 IsWornOut f value = ((2 ^ 61 ≤ f.sup.epoch) × (value ≡ f.sup.epoch)) ⊎ ((f.sup.epoch < 2 ^ 61) × (2 ^ 61 ≤ f.number) × (value ≡ f.number))
 
--- the free data units are exactly those that nobody owns
-abbrev pub AreUnownedFree : Found → Space → Type 0
-AreUnownedFree f space = (unit : ℕ) → IsDataUnit f.sup unit → (is_free space unit ≡ true) ↔ (¬ IsOwned f.rows unit)
-
--- the data units that nobody holds are exactly those that haven't two owners
-abbrev pub AreSharedHeld : Found → Space → Type 0
-AreSharedHeld f space = (unit : ℕ) → IsDataUnit f.sup unit → IsUnheld space unit ↔ HasSoleOwner f.rows unit
+-- the free data units are exactly those whose bits are 0
+abbrev pub AreUnmarkedFree : Found → Space → Type 0
+AreUnmarkedFree f space = (unit : ℕ) → IsDataUnit f.sup unit → (is_free space unit ≡ true) ↔ (¬ IsMarked f.rows unit)
 
 -- Why what was found isn't opened.
 abbrev pub IsRefused : MountFail → Found → Type 0
 IsRefused Memory f = Unit {0}
 IsRefused NoSuper f = ⊥
 IsRefused (BadRow key) f = IsLeastBad f.sup f.rows key
-IsRefused (WornOut value) f = NoBadRow f.sup f.rows × IsWornOut f value
+IsRefused (NotExact unit) f = NoBadRow f.sup f.rows × IsLeastInexact f.rows unit
+IsRefused (WornOut value) f = NoBadRow f.sup f.rows × IsExactAs f.rows f.rows × IsWornOut f value
 IsRefused Fault f = ⊥
 
 -- Why a mount opens no store, by the contents.
@@ -75,6 +70,7 @@ abbrev pub IsUnopenable : MountFail → List ℕ → Type 0
 IsUnopenable Memory contents = Unit {0}
 IsUnopenable NoSuper contents = HasNoSuper contents
 IsUnopenable (BadRow key) contents = (f : Found) × IsFoundIn contents f × IsRefused (BadRow key) f
+IsUnopenable (NotExact unit) contents = (f : Found) × IsFoundIn contents f × IsRefused (NotExact unit) f
 IsUnopenable (WornOut value) contents = (f : Found) × IsFoundIn contents f × IsRefused (WornOut value) f
 IsUnopenable Fault contents = Unit {0}
 
@@ -88,5 +84,6 @@ abbrev pub SubmitsNothing : MountFail → Type 0
 SubmitsNothing Memory = ⊥
 SubmitsNothing NoSuper = Unit {0}
 SubmitsNothing (BadRow key) = Unit {0}
+SubmitsNothing (NotExact unit) = Unit {0}
 SubmitsNothing (WornOut value) = Unit {0}
 SubmitsNothing Fault = ⊥

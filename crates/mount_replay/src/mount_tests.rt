@@ -1,5 +1,5 @@
 //! Mounting stores on devices in memory, and unmounting them.
-ghost use Rattle.std.specs.Prelude.{◌≡◌, ◌*◌, ◌^◌, ◌<◌, ◌≤◌, [], length, IfOk};
+ghost use Rattle.std.specs.Prelude.{◌≡◌, ◌*◌, ◌^◌, ◌<◌, ◌≤◌, [], length, IfOk, IfSome};
 ghost use Rattle.block_device.specs.Memory.{disk_of};
 ghost use Rattle.meta_rows.specs.Spelling.{IsKey};
 
@@ -81,6 +81,7 @@ enum Ending {
     Memory,
     NoSuper,
     BadRow,
+    NotExact(u32),
     WornOut(u64),
     Fault,
 }
@@ -90,6 +91,7 @@ fn ending_of(fail: &MountFail) -> Ending {
         MountFail::Memory => Ending::Memory,
         MountFail::NoSuper => Ending::NoSuper,
         MountFail::BadRow { .. } => Ending::BadRow,
+        MountFail::NotExact { unit } => Ending::NotExact(*unit),
         MountFail::WornOut { value } => Ending::WornOut(*value),
         MountFail::Fault => Ending::Fault,
     }
@@ -338,16 +340,52 @@ const PAGE_ON_18: &[u8] = b"\0\0\0\0\x01\0\0\x12\0\0\0cccc";
 
 const NEXT_ON_62: &[u8] = b"\x01\0\0\0\x02\0\0\x3e\0\0\0ccccdddd";
 
-// A store of 64 units whose log has the rows of a collection and of an object of one page or of three.
-fn store_of(alloc: Global, size: &[u8]) -> Result<Vec<u8>, Fail>
-    requires { length size.now ≤ 64 }
+// The row that has the bits of units 0 to 127: unit 18 has bit 2 of byte 2, unit 20 bit 4 of it, and units 62 and 63 the last two of byte 7.
+const BITMAP: &[u8] = b"b\0\0\0\0";
+
+const BIT_18: &[u8] = b"\0\0\x04\0\0\0\0\0\0\0\0\0\0\0\0\0";
+
+const BIT_20: &[u8] = b"\0\0\x10\0\0\0\0\0\0\0\0\0\0\0\0\0";
+
+const BITS_18_20: &[u8] = b"\0\0\x14\0\0\0\0\0\0\0\0\0\0\0\0\0";
+
+const BITS_18_62: &[u8] = b"\0\0\x04\0\0\0\0\x40\0\0\0\0\0\0\0\0";
+
+const BITS_18_62_63: &[u8] = b"\0\0\x04\0\0\0\0\xc0\0\0\0\0\0\0\0\0";
+
+// A store of 64 units whose log has, in four records from this number on, the rows of a collection, of an object of one page or of three, and of
+// the bitmap.
+fn store_from(alloc: Global, number: u64, size: &[u8], bits: &[u8]) -> Result<Vec<u8>, Fail>
+    requires number { number ≤ 2 ^ 61 }
+    requires size { length size.now ≤ 64 }
+    requires bits { length bits.now ≤ 64 }
 {
-    let mut front = slot(alloc, 64, 2, 40)?;
-    front.extend_from_slice(&slot(alloc, 64, 2, 40)?)?;
-    front.extend_from_slice(&row(alloc, 40, COLL, &[])?)?;
-    front.extend_from_slice(&row(alloc, 41, ONODE_A, size)?)?;
-    front.extend_from_slice(&row(alloc, 42, SHARD_A0, PAGE_ON_18)?)?;
+    let mut front = slot(alloc, 64, 2, number)?;
+    front.extend_from_slice(&slot(alloc, 64, 2, number)?)?;
+    front.extend_from_slice(&row(alloc, number, COLL, &[])?)?;
+    front.extend_from_slice(&row(alloc, number + 1, ONODE_A, size)?)?;
+    front.extend_from_slice(&row(alloc, number + 2, SHARD_A0, PAGE_ON_18)?)?;
+    front.extend_from_slice(&row(alloc, number + 3, BITMAP, bits)?)?;
     Ok(front)
+}
+
+// How mounting such a store ends, with one row more that has this key and no bytes, if there is one.
+fn end_of_store(
+    alloc: Global,
+    number: u64,
+    bits: &[u8],
+    more: Option<&[u8]>,
+) -> Result<(Ending, u64), Fail>
+    requires number { number ≤ 2 ^ 61 }
+    requires bits { length bits.now ≤ 64 }
+    requires more { IfSome more (λ key. IsKey key.now) }
+{
+    let mut front = store_from(alloc, number, ONE_PAGE, bits)?;
+    if let Some(key) = more {
+        front.extend_from_slice(&record(alloc, number + 4, key)?)?;
+    }
+    let device = device(alloc, &front, 0, 64, None)?;
+    Ok(mounted(alloc, device))
 }
 
 // The first ready step in the order of the table.
@@ -467,8 +505,8 @@ fn byte_at(alloc: Global, device: &mut MemoryDevice, unit: u32) -> Result<u8, Fa
 #[test]
 fn an_object_of_several_shards(rt: HostRuntime) -> Result<(), Fail> {
     let alloc = rt.alloc();
-    let mut front = store_of(alloc, THREE_PAGES)?;
-    front.extend_from_slice(&row(alloc, 43, SHARD_A1, NEXT_ON_62)?)?;
+    let mut front = store_from(alloc, 40, THREE_PAGES, BITS_18_62_63)?;
+    front.extend_from_slice(&row(alloc, 44, SHARD_A1, NEXT_ON_62)?)?;
     let device = device(alloc, &front, 0, 64, None)?;
     // Three units are taken, and three are given back.
     let (device, counts) = visit(alloc, device, b"a", 3)?;
@@ -479,23 +517,61 @@ fn an_object_of_several_shards(rt: HostRuntime) -> Result<(), Fail> {
 }
 
 #[test]
-fn two_objects_on_one_unit(rt: HostRuntime) -> Result<(), Fail> {
+fn the_least_unit_that_is_not_exact(rt: HostRuntime) -> Result<(), Fail> {
     let alloc = rt.alloc();
-    let mut front = store_of(alloc, ONE_PAGE)?;
-    front.extend_from_slice(&row(alloc, 43, ONODE_B, ONE_PAGE)?)?;
-    front.extend_from_slice(&row(alloc, 44, SHARD_B0, PAGE_ON_18)?)?;
+    // The last unit of the object isn't marked.
+    let mut front = store_from(alloc, 40, THREE_PAGES, BITS_18_62)?;
+    front.extend_from_slice(&row(alloc, 44, SHARD_A1, NEXT_ON_62)?)?;
+    let unmarked = device(alloc, &front, 0, 64, None)?;
+    assert_eq!(rt; mounted(alloc, unmarked), (Ending::NotExact(63), 0));
+    // Two objects stand on one unit, which is marked.
+    let mut front = store_from(alloc, 40, ONE_PAGE, BIT_18)?;
+    front.extend_from_slice(&row(alloc, 44, ONODE_B, ONE_PAGE)?)?;
+    front.extend_from_slice(&row(alloc, 45, SHARD_B0, PAGE_ON_18)?)?;
+    let shared = device(alloc, &front, 0, 64, None)?;
+    assert_eq!(rt; mounted(alloc, shared), (Ending::NotExact(18), 0));
+    Ok(())
+}
+
+// A bad row comes first, then a bitmap that isn't exact, then a high number. Nothing is submitted.
+#[test]
+fn why_a_store_is_refused(rt: HostRuntime) -> Result<(), Fail> {
+    let alloc = rt.alloc();
+    let high = 1 << 61;
+    let bad = Some(b"x".as_slice());
+    let value = (1 << 61) + 4;
+    assert_eq!(rt;
+        end_of_store(alloc, 40, BIT_18, None)?,
+        (Ending::Mounted, 0)
+    );
+    assert_eq!(rt;
+        end_of_store(alloc, high, BIT_18, None)?,
+        (Ending::WornOut(value), 0)
+    );
+    assert_eq!(rt;
+        end_of_store(alloc, high, BIT_20, None)?,
+        (Ending::NotExact(18), 0)
+    );
+    assert_eq!(rt;
+        end_of_store(alloc, high, BIT_20, bad)?,
+        (Ending::BadRow, 0)
+    );
+    Ok(())
+}
+
+// Nobody owns unit 20, and it stays marked: no object gets it, in this mount or a later one.
+#[test]
+fn a_leaked_unit_stays_busy(rt: HostRuntime) -> Result<(), Fail> {
+    let alloc = rt.alloc();
+    let front = store_from(alloc, 40, ONE_PAGE, BITS_18_20)?;
     let device = device(alloc, &front, 0, 64, None)?;
-    let (device, counts) = visit(alloc, device, b"", 1)?;
-    assert_eq!(rt; counts.as_slice(), [45].as_slice());
-    // Each object takes a unit, and the one on which both stood isn't free once both have left it.
-    let (mut device, counts) = visit(alloc, device, b"abb", 1)?;
-    assert_eq!(rt; counts.as_slice(), [45, 44, 43, 43].as_slice());
-    assert_eq!(rt; byte_at(alloc, &mut device, 18)?, 0);
-    assert_eq!(rt; byte_at(alloc, &mut device, 19)?, b'a');
-    assert_eq!(rt; byte_at(alloc, &mut device, 21)?, b'b');
-    // Nobody owns it when the store is mounted again.
+    let (mut device, counts) = visit(alloc, device, b"bc", 1)?;
+    assert_eq!(rt; counts.as_slice(), [44, 43, 42].as_slice());
+    assert_eq!(rt; byte_at(alloc, &mut device, 19)?, b'b');
+    assert_eq!(rt; byte_at(alloc, &mut device, 20)?, 0);
+    assert_eq!(rt; byte_at(alloc, &mut device, 21)?, b'c');
     let (_device, counts) = visit(alloc, device, b"", 1)?;
-    assert_eq!(rt; counts.as_slice(), [44].as_slice());
+    assert_eq!(rt; counts.as_slice(), [42].as_slice());
     Ok(())
 }
 
@@ -526,7 +602,7 @@ fn bad_unit(answer: &Answer) -> Option<(u32, u32, u32)> {
 #[test]
 fn a_unit_of_other_bytes(rt: HostRuntime) -> Result<(), Fail> {
     let alloc = rt.alloc();
-    let front = store_of(alloc, ONE_PAGE)?;
+    let front = store_from(alloc, 40, ONE_PAGE, BIT_18)?;
     let device = device(alloc, &front, 0, 64, None)?;
     let Ok(mut kernel) = mount(alloc, device) else {
         return Err("not mounted".into());

@@ -23,6 +23,9 @@ pub enum MountFail {
     /// The row under this key is bad, and each row of a lesser key is good.
     #[error("a row of the store is bad")]
     BadRow { key: Bytes },
+    /// The least unit that has an owner and whose bit is 0, or that has two owners. No row is bad.
+    #[error("the bitmap doesn't say who owns unit {unit}")]
+    NotExact { unit: u32 },
     /// The epoch or the number of the next record is 2^61 or more, so that numbers would run out.
     #[error("the store has reached the number {value}")]
     WornOut { value: u64 },

@@ -29,7 +29,8 @@ use Rattle.mount_replay.specs.Calls.{IsLater}
 use Rattle.mount_replay.specs.Mounting as mounting
 use Rattle.mount_replay.specs.Mounting.{IsOpenedOn, IsReapedTo}
 use Rattle.bstore_top.specs.declared.work_end.WorkEnd.{WorkEnd}
-use Rattle.bstore_top.specs.declared.work_end.WorkEnd.TheVariants.{Done, BadLine, NoSuper, BadRow, WornOut, DeviceFault, OutOfMemory, BayFault}
+use Rattle.bstore_top.specs.declared.work_end.WorkEnd.TheVariants.{Done, BadLine, NoSuper, BadRow, NotExact, WornOut}
+use Rattle.bstore_top.specs.declared.work_end.WorkEnd.TheVariants.{DeviceFault, OutOfMemory, BayFault}
 use Rattle.bstore_top.specs.Dumping.{IsOfUp, end_of_walk}
 use Rattle.bstore_top.specs.DumpRun.{Walked, WalksStore, Shows, ShowsObjects}
 use Rattle.bstore_top.specs.Keeping.{StaysDurable}
@@ -57,6 +58,7 @@ shows_none (Done free) given before now objects fails = absurd fails
 shows_none (BadLine n) given before now objects fails = tt
 shows_none NoSuper given before now objects fails = tt
 shows_none (BadRow key) given before now objects fails = tt
+shows_none (NotExact unit) given before now objects fails = tt
 shows_none WornOut given before now objects fails = tt
 shows_none DeviceFault given before now objects fails = tt
 shows_none OutOfMemory given before now objects fails = tt

@@ -17,7 +17,8 @@ use Rattle.read_facts.specs.declared.view.ObjectView.{ObjectView}
 use Rattle.read_facts.specs.Views.{HasGoodViews, IsGoodView, views_of}
 use Rattle.bstore_top.specs.declared.command_line.CommandLine.TheVariants.{Dump}
 use Rattle.bstore_top.specs.declared.work_end.WorkEnd.{WorkEnd}
-use Rattle.bstore_top.specs.declared.work_end.WorkEnd.TheVariants.{Done, BadLine, NoSuper, BadRow, WornOut, DeviceFault, OutOfMemory, BayFault}
+use Rattle.bstore_top.specs.declared.work_end.WorkEnd.TheVariants.{Done, BadLine, NoSuper, BadRow, NotExact, WornOut}
+use Rattle.bstore_top.specs.declared.work_end.WorkEnd.TheVariants.{DeviceFault, OutOfMemory, BayFault}
 use Rattle.bstore_top.specs.DumpRun.{Walked, DumpsOn, Shows, ShowsObjects, FailsUnopened, DumpsOpened, IsDumpDone, RanDump, Dumped}
 use Rattle.bstore_top.specs.DumpTexts.{is_bad, has_bad_view, dump_text, dump_number}
 use Rattle.bstore_top.specs.GoodStart.{IsGoodStore, HasNoFault}
@@ -98,6 +99,7 @@ shows_good (Done free) objects colls shows = shows.1
 shows_good (BadLine n) objects colls shows = shows
 shows_good NoSuper objects colls shows = shows
 shows_good (BadRow key) objects colls shows = shows
+shows_good (NotExact unit) objects colls shows = shows
 shows_good WornOut objects colls shows = shows
 shows_good DeviceFault objects colls shows = shows
 shows_good OutOfMemory objects colls shows = shows
@@ -110,6 +112,7 @@ walk_ends (Done free) d rows colls now none counted walked = inl refl
 walk_ends (BadLine n) d rows colls now none counted walked = absurd walked
 walk_ends NoSuper d rows colls now none counted walked = absurd walked
 walk_ends (BadRow key) d rows colls now none counted walked = absurd walked
+walk_ends (NotExact unit) d rows colls now none counted walked = absurd walked
 walk_ends WornOut d rows colls now none counted walked = absurd walked
 walk_ends DeviceFault d rows colls now none counted walked = absurd (omega (arith, counted, none))
 walk_ends OutOfMemory d rows colls now none counted walked = inr refl
@@ -121,6 +124,7 @@ unopened_ends (Done free) before now same fails = absurd fails
 unopened_ends (BadLine n) before now same fails = absurd fails
 unopened_ends NoSuper before now same fails = absurd fails
 unopened_ends (BadRow key) before now same fails = absurd fails
+unopened_ends (NotExact unit) before now same fails = absurd fails
 unopened_ends WornOut before now same fails = absurd fails
 unopened_ends DeviceFault before now same fails = absurd fails
 unopened_ends OutOfMemory before now same fails = inr refl

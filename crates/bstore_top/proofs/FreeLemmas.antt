@@ -1,13 +1,11 @@
--- The free units of a drained kernel are the data units that nobody owns, by what its device holds.
-use Rattle.std.proofs.Common.{◌≡◌, ◌↔◌, ℕ, ◌+◌, ◌≤◌, true, List, length, None, refl, ap, subst, ◌∙◌, arith}
+-- The free units of a drained kernel are the data units whose bits are 0, by what its device holds.
+use Rattle.std.proofs.Common.{◌≡◌, ℕ, ◌+◌, ◌≤◌, true, List, length, None, refl, ap, subst, ◌∙◌, arith}
 use Rattle.byte_maps.specs.Units.{IsUnits}
 use Rattle.block_device.specs.Log.{last}
 use Rattle.block_device.specs.Disk.{Disk, History}
 use Rattle.meta_rows.specs.Rows.{Rows}
 use Rattle.meta_log.specs.declared.slot.Super.{Super}
-use Rattle.meta_log.specs.Records.{AreRowsOf}
 use Rattle.store_image.specs.Owners.{IsDataUnit}
-use Rattle.row_facts.specs.SoleOwners.{HasSoleOwner}
 use Rattle.log_facts.specs.HalfFacts.{records_units}
 use Rattle.log_facts.proofs.Reading.{behind_units, half_inside, slots_read, half_parts, no_record_behind, rows_read}
 use Rattle.unit_allocator.specs.Units.{Space, free_units, IsWithin}
@@ -16,43 +14,41 @@ use Rattle.store_steps.specs.declared.context.Context.{Context}
 use Rattle.store_steps.specs.State.{State}
 use Rattle.store_steps.specs.Submit.{free_count}
 use Rattle.store_steps.specs.Ready.{is_drained}
-use Rattle.store_facts.specs.Space.{rows_with, IsSpaceOf, IsUnheld, IsFreeExactly}
+use Rattle.store_facts.specs.Space.{rows_with, IsSpaceOf, IsFreeExactly}
 use Rattle.store_facts.specs.Kept.{IsKept}
 use Rattle.store_facts.proofs.Conditions.{IsIdle}
 use Rattle.store_facts.proofs.Known.{known_idle}
+use Rattle.store_facts.proofs.Exactness.{kept_free, kept_space}
 use Rattle.unit_facts.specs.Known.{KnownOfUnits}
 use Rattle.unit_facts.proofs.Runs.{idle_half}
 use Rattle.crash_facts.proofs.Now.{size_now}
-use Rattle.bstore_top.specs.Standing.{AreUnowned, HasFree}
+use Rattle.bstore_top.specs.Standing.{AreUnmarked, HasFree}
 
--- a free unit is a data unit that nobody owns and nobody holds, and the other way round
-module _ (sup : Super) (before rows : Rows) (space : Space) (is : IsSpaceOf sup space) (exact : IsFreeExactly sup rows rows space)
-    (held : (unit : ℕ) → IsDataUnit sup unit → IsUnheld space unit ↔ HasSoleOwner before unit) where
+-- a free unit is a data unit whose bit is 0, and the other way round
+module _ (sup : Super) (rows : Rows) (space : Space) (is : IsSpaceOf sup space) (exact : IsFreeExactly sup rows rows space) where
   data_of : (unit : ℕ) → IsWithin space unit → IsDataUnit sup unit
   data_of unit w = (omega (arith, w.from, is.first), omega (arith, w.to, is.first, is.count))
 
   within_of : (unit : ℕ) → IsDataUnit sup unit → IsWithin space unit
   within_of unit on = record { from = omega (arith, on.0, is.first); to = omega (arith, on.1, is.first, is.count) }
 
-  pub free_unowned : AreUnowned sup before rows (free_units space)
-  free_unowned = record {
+  pub free_unmarked : AreUnmarked sup rows (free_units space)
+  free_unmarked = record {
     ascend = free_units_ascend space;
     each = λ unit. (
       λ listed. let free = listed_is_free space unit listed in
           let on : IsDataUnit sup unit = data_of unit free.within in
-          let exactly = (exact unit on).0 free.free in
-          (on, exactly.1, (held unit on).0 exactly.0),
-      λ unowned.
-          let free = (exact unit unowned.0).1 ((held unit unowned.0).1 unowned.2, unowned.1, unowned.1) in
-          (free_is_listed space unit (within_of unit unowned.0)).0 free,
+          (on, ((exact unit on).0 free.free).0),
+      λ unmarked.
+          let free = (exact unit unmarked.0).1 (unmarked.1, unmarked.1) in
+          (free_is_listed space unit (within_of unit unmarked.0)).0 free,
     );
   }
 
--- what the device of a drained kernel holds says which units are free, where those are held that had two owners or more in the rows before
-pub drained_free : (base : ℕ) (s : State) (d : Disk) (h : History) (opening : List ℕ) (before : Rows) → AreRowsOf opening s.log.sup before
-    → ((unit : ℕ) → IsDataUnit s.log.sup unit → IsUnheld s.space unit ↔ HasSoleOwner before unit) → IsKept s d → KnownOfUnits base s d h
-    → s.down ≡ None → is_drained d.depth s ≡ true → HasFree opening (last h.start h.log) (free_count s.space)
-drained_free base s d h opening before read_before held kept known up drained =
+-- what the device of a drained kernel holds says which units are free
+pub drained_free : (base : ℕ) (s : State) (d : Disk) (h : History) → IsKept s d → KnownOfUnits base s d h → s.down ≡ None
+    → is_drained d.depth s ≡ true → HasFree (last h.start h.log) (free_count s.space)
+drained_free base s d h kept known up drained =
     let contents : List ℕ = last h.start h.log in
     let sup : Super = s.log.sup in
     let tail : ℕ = s.log.tail in
@@ -64,16 +60,15 @@ drained_free base s d h opening before read_before held kept known up drained =
     let within : tail ≤ sup.half = omega (arith, half.room) in
     let parts = half_parts contents sup tail (records_units sup.first found.0) half.whole within inside (λ k below. (half.front k below).last) in
     let view : s.view ≡ s.log.rows = (kept.up up).view ∙ ap (λ (xs : List Context). rows_with s.log.rows xs) idle.uncommitted in
+    let free : IsFreeExactly sup s.log.rows s.log.rows s.space =
+    subst (λ (rows : Rows). IsFreeExactly sup s.log.rows rows s.space) view (kept_free s d kept up) in
     record {
       sup = sup;
       active = slots_read contents sup known.slots.limits whole known.slots.active.last known.slots.other.last;
-      before = before;
-      read_before = read_before;
       rows = s.log.rows;
       read = rows_read contents sup s.log.rows found.0 (behind_units contents sup tail) half.made half.spellable parts
           (no_record_behind contents sup tail within inside (λ some. (half.zero_behind tail (omega arith) some).last) (sup.first + length found.0));
       units = free_units s.space;
-      unowned = free_unowned sup before s.log.rows s.space kept.always.space
-          (subst (λ (rows : Rows). IsFreeExactly sup s.log.rows rows s.space) view (kept.up up).free) held;
+      unmarked = free_unmarked sup s.log.rows s.space (kept_space s d kept up) free;
       count = refl;
     }

@@ -16,12 +16,15 @@ use Rattle.object_model.specs.declared.book.Book.{Book}
 use Rattle.script_text.specs.Script.{IsBadAt}
 use Rattle.script_text.proofs.Scripts.{script_has_no_bad}
 use Rattle.store_image.specs.BadRows.{NoBadRow}
+use Rattle.store_image.specs.Owners.{IsLeaked, IsExactBut}
+use Rattle.store_image.proofs.ExactLemmas.{no_inexact}
 use Rattle.store_image.proofs.OneObjects.{same_rows}
 use Rattle.store_steps.specs.Opened.{Found}
 use Rattle.mount_replay.specs.Opening.{IsAbout, IsFoundIn, IsUnopenable}
 use Rattle.mount_replay.specs.declared.opening.MountFail.TheVariants as fail
 use Rattle.bstore_top.specs.declared.work_end.WorkEnd.{WorkEnd}
-use Rattle.bstore_top.specs.declared.work_end.WorkEnd.TheVariants.{Done, BadLine, NoSuper, BadRow, WornOut, DeviceFault, OutOfMemory, BayFault}
+use Rattle.bstore_top.specs.declared.work_end.WorkEnd.TheVariants.{Done, BadLine, NoSuper, BadRow, NotExact, WornOut}
+use Rattle.bstore_top.specs.declared.work_end.WorkEnd.TheVariants.{DeviceFault, OutOfMemory, BayFault}
 use Rattle.bstore_top.specs.Choice.{Position}
 use Rattle.bstore_top.specs.GoodStart.{HasGoodStore, IsGoodStart, HasNoFault}
 use Rattle.bstore_top.specs.Printed.{Output, Printed}
@@ -82,13 +85,21 @@ module _ (dev : List ℕ) (names : Names) (start : HasGoodStore names dev) where
       let good : NoBadRow g.sup g.rows = subst (λ (s : Super). NoBadRow s g.rows) (sym sup) (subst (NoBadRow found.sup) (sym rows) no_bad) in
       bad.2.bad.is_not_good (good key bad.2.bad.value bad.2.bad.stands)
 
+  -- each owned unit is marked and has one owner
+  not_inexact : (unit : ℕ) → ¬ IsUnopenable (fail.NotExact unit) start.contents
+  not_inexact unit bad =
+      let g : Found = bad.0 in
+      let rows : g.rows ≡ found.rows = one_rows start.contents found g start.is_found bad.1 in
+      let exact : IsExactBut (IsLeaked found.rows) g.rows = subst (IsExactBut (IsLeaked found.rows)) (sym rows) start.exact in
+      no_inexact (IsLeaked found.rows) g.rows exact unit bad.2.1.inexact
+
   not_worn_out : (value : ℕ) → ¬ IsUnopenable (fail.WornOut value) start.contents
   not_worn_out value bad =
       let g : Found = bad.0 in
       let sup : g.sup ≡ found.sup = one_sup start.contents found g start.is_found bad.1 in
       let epoch : g.sup.epoch ≡ found.sup.epoch = ap (λ (s : Super). s.epoch) sup in
       let number : g.number ≡ found.number = one_number start.contents found g start.is_found bad.1 in
-      elim bad.2.1 [
+      elim bad.2.2 [
         | inl old ↦ absurd (omega (arith, old.0, epoch, start.numbers.0))
         | inr high ↦ absurd (omega (arith, high.1, number, start.numbers.1))
       ]
@@ -116,6 +127,8 @@ module _ (dev : List ℕ) (names : Names) (start : HasGoodStore names dev) where
   unmounted_ends NoSuper given now none begins fails = absurd (not_no_super (about_start (IsUnopenable fail.NoSuper) given begins fails))
   unmounted_ends (BadRow key) given now none begins fails =
       absurd (not_bad_row key (about_start (IsUnopenable (fail.BadRow key)) given begins fails))
+  unmounted_ends (NotExact unit) given now none begins fails =
+      absurd (not_inexact unit (about_start (IsUnopenable (fail.NotExact unit)) given begins fails))
   unmounted_ends WornOut given now none begins fails =
       absurd (not_worn_out fails.0 (about_start (IsUnopenable (fail.WornOut fails.0)) given begins fails.1))
   unmounted_ends DeviceFault given now none begins fails = absurd (omega (arith, fails, none))
@@ -129,6 +142,7 @@ ran_ends (Done free) p now none counted ended = inl refl
 ran_ends (BadLine n) p now none counted ended = absurd ended
 ran_ends NoSuper p now none counted ended = absurd ended
 ran_ends (BadRow key) p now none counted ended = absurd ended
+ran_ends (NotExact unit) p now none counted ended = absurd ended
 ran_ends WornOut p now none counted ended = absurd ended
 ran_ends DeviceFault p now none counted ended = absurd (omega (arith, counted, none))
 ran_ends OutOfMemory p now none counted ended = inr refl
@@ -145,6 +159,7 @@ module _ (dev script : List ℕ) (bay : BayView) (start : IsGoodStart dev script
       absurd (script_has_no_bad start.text start.lines n start.is_script (subst (λ (t : List ℕ). IsBadAt t n) text fails.bad))
   unopened_ends NoSuper sources before now none same fails = absurd fails
   unopened_ends (BadRow key) sources before now none same fails = absurd fails
+  unopened_ends (NotExact unit) sources before now none same fails = absurd fails
   unopened_ends WornOut sources before now none same fails = absurd fails
   unopened_ends DeviceFault sources before now none same fails = absurd fails
   unopened_ends OutOfMemory sources before now none same fails = inr refl

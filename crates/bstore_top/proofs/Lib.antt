@@ -6,7 +6,6 @@ pub mod ReplyLemmas
 pub mod DumpLemmas
 pub mod DrawLemmas
 pub mod RunLemmas
-pub mod Holds
 pub mod FreeLemmas
 pub mod RunLaws
 pub mod WorkLemmas

@@ -1,6 +1,6 @@
 -- What holds at the end of a run of a script: the run is one of the kernel, so what is known of these holds of it.
-use Rattle.std.proofs.Common.{◌≡◌, ◌↔◌, ℕ, suc, ◌+◌, ◌<◌, ◌≤◌, Bool, true, false, is_some, slice_get, length-append, List, [], ◌∷◌, ◌++◌, length, Option, Some, None, refl, sym, ap, subst}
-use Rattle.std.proofs.Common.{◌∙◌, arith, inl, inr, append-nil}
+use Rattle.std.proofs.Common.{◌≡◌, ℕ, suc, ◌+◌, ◌<◌, ◌≤◌, Bool, true, false, is_some, slice_get, length-append, List, [], ◌∷◌, ◌++◌, length}
+use Rattle.std.proofs.Common.{Option, Some, None, refl, sym, ap, subst, ◌∙◌, arith, inl, inr, append-nil}
 use Rattle.std.specs.Prelude.{◌⊎◌, ◌||◌, IfSome, All}
 use Rattle.std.specs.List.{AllByRecursion}
 use Rattle.std.proofs.lemmas.List.Elements.{All-head}
@@ -20,12 +20,8 @@ use Rattle.object_model.specs.declared.command.Answer.{Answer}
 use Rattle.object_model.specs.declared.command.Answer.TheVariants as answer
 use Rattle.object_model.specs.Effect.{replay}
 use Rattle.object_model.specs.declared.book.Book.{Book}
-use Rattle.meta_log.specs.declared.slot.Super.{Super}
-use Rattle.meta_log.specs.Records.{AreRowsOf}
 use Rattle.store_image.specs.Stands.{StandsFor}
-use Rattle.store_image.specs.Owners.{IsDataUnit}
-use Rattle.row_facts.specs.SoleOwners.{HasSoleOwner}
-use Rattle.unit_allocator.specs.Units.{Space, holds_of}
+use Rattle.unit_allocator.specs.Units.{Space}
 use Rattle.script_text.specs.declared.line.Line.{Line}
 use Rattle.store_steps.specs.declared.step.Step.{Step}
 use Rattle.store_steps.specs.declared.step.Step.TheVariants.{Reap}
@@ -34,7 +30,6 @@ use Rattle.store_steps.specs.Opened.{Found}
 use Rattle.store_steps.specs.Ready.{is_drained, is_empty}
 use Rattle.store_steps.specs.Runs.{Call, stepping, Calls, IsRun}
 use Rattle.store_facts.specs.Room.{AcksAre}
-use Rattle.store_facts.specs.Space.{IsUnheld}
 use Rattle.store_facts.specs.Kept.{IsKept}
 use Rattle.store_facts.proofs.Readiness.{none_ready}
 use Rattle.store_facts.proofs.Conditions.{IsIdle}
@@ -48,13 +43,13 @@ use Rattle.book_facts.proofs.Order.{order_opened}
 use Rattle.book_facts.proofs.Commits.{one_if, count_cons}
 use Rattle.crash_facts.specs.Store.{KnownOfStore, IsDurable, KeepsDurable}
 use Rattle.crash_facts.proofs.Answered.{durable_legal, durable_sums}
-use Rattle.crash_facts.proofs.Runs.{run_durable, drained_stands}
+use Rattle.crash_facts.proofs.Runs.{run_durable, drained_stands, drained_exact}
 use Rattle.read_facts.specs.Alike.{IsNoCsum, IsLegalButBytes}
 use Rattle.mount_replay.specs.Calls.{Told, GoesOn, IsLater}
-use Rattle.mount_replay.specs.Opening.{IsFoundIn}
 use Rattle.mount_replay.specs.Mounting.{IsOpenedOn, WasOpened}
 use Rattle.bstore_top.specs.declared.work_end.WorkEnd.{WorkEnd}
-use Rattle.bstore_top.specs.declared.work_end.WorkEnd.TheVariants.{Done, BadLine, NoSuper, BadRow, WornOut, DeviceFault, OutOfMemory, BayFault}
+use Rattle.bstore_top.specs.declared.work_end.WorkEnd.TheVariants.{Done, BadLine, NoSuper, BadRow, NotExact, WornOut}
+use Rattle.bstore_top.specs.declared.work_end.WorkEnd.TheVariants.{DeviceFault, OutOfMemory, BayFault}
 use Rattle.bstore_top.specs.Choice.{ready_list, Position, IsDrawnRun}
 use Rattle.bstore_top.specs.Printed.{Output, TookAll, Printed}
 use Rattle.bstore_top.specs.Replies.{is_csum, has_csum}
@@ -65,7 +60,6 @@ use Rattle.bstore_top.specs.Standing.{HasFree, IsFinished, IsComplete}
 use Rattle.bstore_top.specs.Keeping.{KeepsStore}
 use Rattle.bstore_top.specs.Finished.{FinishesOn, Succeeded}
 use Rattle.bstore_top.proofs.FreeLemmas.{drained_free}
-use Rattle.bstore_top.proofs.Holds.{SameHolds, run_holds}
 
 -- ---- replies that name no bad unit
 
@@ -155,15 +149,6 @@ module _ (given : Disk) (h : History) (fresh : IsFresh given) (told : given.hist
         stands = subst (λ (bytes : List ℕ). StandsFor bytes objects) (sym opened_by.by.same_start) stands;
       })
 
-  -- the rows that were found are those of the contents that it was given with
-  pub start_rows : (f : Found) (space : Space) (start : Disk) (s : State) → IsOpenedOn given f space start s → AreRowsOf h.start f.sup f.rows
-  start_rows f space start s mounted =
-      let about : IfSome (Some h) (λ g. ((unit : ℕ) → IsClean g.log unit) → IsFoundIn (last g.start g.log) f) =
-      subst (λ (o : Option History). IfSome o (λ g. ((unit : ℕ) → IsClean g.log unit) → IsFoundIn (last g.start g.log) f)) told mounted.found in
-      let found : IsFoundIn h.start f =
-      subst (λ (l : List Event). IsFoundIn (last h.start l) f) log_empty (about (clean_of_none h.log log_empty)) in
-      record { records = found.replay.records; stand = found.replay.stand; made = found.replay.made }
-
 -- ---- a run of a script, however it ended
 
 -- the run, with what the mounted kernel keeps
@@ -171,11 +156,6 @@ pub record RanKept (seed : ℕ) (lines : List Line) (given : Disk) (end : WorkEn
   pub ran : RunsScript seed lines given end book disk
   pub kept : IsKept ran.first ran.start
   pub durable : KeepsDurable ran.first ran.start
-
--- the super is the one that was found, and the data units that nobody holds are those that hadn't two owners
-pub record HoldsShared (s : State) (f : Found) : Type 0 where
-  pub sup : s.log.sup ≡ f.sup
-  pub held : (unit : ℕ) → IsDataUnit s.log.sup unit → IsUnheld s.space unit ↔ HasSoleOwner f.rows unit
 
 module _ (seed : ℕ) (lines : List Line) (given disk : Disk) (end : WorkEnd) (book : Book) (all : RanKept seed lines given end book disk) where
   abbrev ran : RunsScript seed lines given end book disk
@@ -188,22 +168,6 @@ module _ (seed : ℕ) (lines : List Line) (given disk : Disk) (end : WorkEnd) (b
   -- with the ends that unmounting takes
   whole_run : IsRun ran.first ran.start (ran.calls ++ ran.reaped.calls) ran.closed disk
   whole_run = joined_run ran.calls ran.reaped.calls ran.first ran.last.state ran.closed ran.start ran.last.disk disk script_run ran.reaped.run
-
-  -- at its last position the units are held that had two owners when the store was opened
-  pub held_after : HoldsShared ran.last.state ran.found
-  held_after =
-      let same : SameHolds ran.first ran.last.state = run_holds ran.calls ran.first ran.last.state ran.start ran.last.disk script_run in
-      let sup : ran.last.state.log.sup ≡ ran.found.sup = same.sup ∙ ap (λ (z : State). z.log.sup) ran.mounted.state in record {
-        sup = sup;
-        held = λ unit on.
-            let here : IsDataUnit ran.found.sup unit = subst (λ (sup : Super). IsDataUnit sup unit) sup on in
-            let holds : holds_of ran.last.state.space unit ≡ holds_of ran.space unit =
-            same.holds unit ∙ ap (λ (z : State). holds_of z.space unit) ran.mounted.state in
-            let was = ran.mounted.held unit here in (
-              λ none. was.0 (sym holds ∙ none),
-              λ sole. holds ∙ was.1 sole,
-            );
-      }
 
   module _ (h : History) (objects : Objects) (fresh : IsFresh given) (told : given.history ≡ Some h) (stands : StandsFor h.start objects) where
     first_durable : IsDurable 0 objects ran.first ran.start
@@ -256,12 +220,6 @@ script_finished seed free lines given disk h objects book fresh told later stand
     let same = no_reap ran.reaped.calls s ran.closed d disk drained ran.reaped.reaps ran.reaped.run in
     let book_is : s.book ≡ book = sym (ran.book_is ∙ ap (λ (z : State). z.book) same.0) in
     let told_after : disk.history ≡ Some after.history = ap (λ (z : Disk). z.history) same.1 ∙ after.told in
-    let started : after.history.start ≡ h.start = same_start h after.history given.history disk.history told told_after later.told in
-    let holds : HoldsShared s ran.found = held_after seed lines given disk (Done free) book all in
-    let rows : AreRowsOf after.history.start s.log.sup ran.found.rows =
-    subst (λ (bytes : List ℕ). AreRowsOf bytes s.log.sup ran.found.rows) (sym started)
-    (subst (λ (sup : Super). AreRowsOf h.start sup ran.found.rows) (sym holds.sup)
-    (start_rows given h fresh told ran.found ran.space ran.start ran.first ran.mounted)) in
     let contents : List ℕ = last after.history.start after.history.log in (
       after.history,
       told_after,
@@ -269,8 +227,8 @@ script_finished seed free lines given disk h objects book fresh told later stand
         stands = subst (λ (b : Book). StandsFor contents (replay objects (accepted b.entries))) book_is
             (drained_stands 0 objects s d after.history kept up drained known);
         clean = drained_clean 0 s d after.history kept known.units up drained;
-        has_free = subst (λ (n : ℕ). HasFree after.history.start contents n) (sym ran.ended.3)
-            (drained_free 0 s d after.history after.history.start ran.found.rows rows holds.held kept known.units up drained);
+        exact = drained_exact 0 objects s d after.history kept up drained known;
+        has_free = subst (HasFree contents) (sym ran.ended.3) (drained_free 0 s d after.history kept known.units up drained);
       },
     )
 
@@ -330,6 +288,7 @@ ends_well false (Done free) is = record { free = free; is = refl; none_bad = ref
 ends_well false (BadLine n) is = absurd (omega (arith, is))
 ends_well false NoSuper is = absurd (omega (arith, is))
 ends_well false (BadRow key) is = absurd (omega (arith, is))
+ends_well false (NotExact unit) is = absurd (omega (arith, is))
 ends_well false WornOut is = absurd (omega (arith, is))
 ends_well false DeviceFault is = absurd (omega (arith, is))
 ends_well false OutOfMemory is = absurd (omega (arith, is))

@@ -8,7 +8,7 @@ use Rattle.std.proofs.lemmas.Fmt.{decimal_digit}
 use Rattle.bstore_top.specs.declared.status.Stop.{Stop}
 use Rattle.bstore_top.specs.declared.status.Stop.TheVariants.{BadScript, Refused}
 use Rattle.bstore_top.specs.Hex.{hex_text}
-use Rattle.bstore_top.specs.StepTexts.{script_line, bad_row_line}
+use Rattle.bstore_top.specs.StepTexts.{script_line, bad_row_line, not_exact_line}
 use Rattle.bstore_top.specs.Status.{stop_number}
 use Rattle.bstore_top.specs.Texts.{as_text, made_line, too_small_line, stopped_line}
 
@@ -58,3 +58,10 @@ bad_row_is key text is =
     ap (λ (t : List ℕ). codes "mount BadRow " ++ (t ++ codes "\nstopped 4\n")) is
     ∙ ap (λ (t : List ℕ). codes "mount BadRow " ++ (hex_text key ++ (10 ∷ t))) (sym (stopped_is Refused 4 refl (omega arith)))
     ∙ sym (append_assoc (codes "mount BadRow ") (hex_text key) (10 ∷ as_text (stopped_line Refused ∷ [])))
+
+-- a unit of which the bitmap doesn't say who owns it
+pub not_exact_is : (unit : ℕ) → codes "mount NotExact unit=" ++ (decimal unit ++ codes "\nstopped 4\n")
+    ≡ as_text (not_exact_line unit ∷ stopped_line Refused ∷ [])
+not_exact_is unit =
+    ap (λ (t : List ℕ). codes "mount NotExact unit=" ++ (decimal unit ++ (10 ∷ t))) (sym (stopped_is Refused 4 refl (omega arith)))
+    ∙ sym (append_assoc (codes "mount NotExact unit=") (decimal unit) (10 ∷ as_text (stopped_line Refused ∷ [])))

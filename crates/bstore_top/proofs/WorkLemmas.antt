@@ -106,6 +106,7 @@ pub mount_fails : (f : MountFail) (given : Disk) (before now : ℕ) → FailsMou
 mount_fails fail.Memory given before now fails = tt
 mount_fails fail.NoSuper given before now fails = fails
 mount_fails (fail.BadRow key) given before now fails = fails
+mount_fails (fail.NotExact unit) given before now fails = fails
 mount_fails (fail.WornOut value) given before now fails = (value, fails)
 mount_fails fail.Fault given before now fails = fails
 
@@ -115,6 +116,7 @@ pub left_by_mount : (f : MountFail) (given disk : Disk) → (SubmitsNothing f �
 left_by_mount fail.Memory given disk same later = later
 left_by_mount fail.NoSuper given disk same later = same tt
 left_by_mount (fail.BadRow key) given disk same later = same tt
+left_by_mount (fail.NotExact unit) given disk same later = same tt
 left_by_mount (fail.WornOut value) given disk same later = same tt
 left_by_mount fail.Fault given disk same later = later
 

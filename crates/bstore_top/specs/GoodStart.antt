@@ -4,6 +4,7 @@ use Rattle.std.specs.FinMap as map
 use Rattle.block_device.specs.Disk.{Rose}
 use Rattle.end_points.specs.Bay.{Names, BayView}
 use Rattle.object_model.specs.Objects.{Objects}
+use Rattle.store_image.specs.Owners.{IsExactAs}
 use Rattle.store_image.specs.Stands.{StandsFor}
 use Rattle.store_steps.specs.Opened.{Found}
 use Rattle.mount_replay.specs.Opening.{IsFoundIn, HasLowNumbers}
@@ -12,7 +13,8 @@ use Rattle.script_text.specs.declared.line.Line.{Line}
 use Rattle.bstore_top.specs.Printed.{Output}
 use Rattle.bstore_top.specs.StepRun.{Seen}
 
--- Under the device's name there is a store that stands for some objects: what a mount finds in it are numbers that leave room for those to come.
+-- Under the device's name there is a store that stands for some objects: what a mount finds in it is a bitmap that is exact, but for leaked units,
+-- and numbers that leave room for those to come.
 pub record HasGoodStore (names : Names) (dev : List ℕ) : Type 0 where
   pub contents : List ℕ
   pub under_dev : map.get names.devices dev ≡ Some contents
@@ -20,6 +22,7 @@ pub record HasGoodStore (names : Names) (dev : List ℕ) : Type 0 where
   pub stands : StandsFor contents objects
   pub found : Found
   pub is_found : IsFoundIn contents found
+  pub exact : IsExactAs found.rows found.rows
   pub numbers : HasLowNumbers found
 
 -- The bay tells its names. Under the script's there is a script, and under the device's such a store.

@@ -11,33 +11,32 @@ use Rattle.meta_rows.specs.Rows.{Rows}
 use Rattle.meta_log.specs.declared.slot.Super.{Super}
 use Rattle.meta_log.specs.Slots.{IsActiveSlot}
 use Rattle.meta_log.specs.Records.{AreRowsOf}
-use Rattle.store_image.specs.Owners.{IsOwned, IsDataUnit}
+use Rattle.store_image.specs.Owners.{IsDataUnit, IsMarked}
 use Rattle.store_image.specs.Stands.{StandsFor}
-use Rattle.row_facts.specs.SoleOwners.{HasSoleOwner}
+use Rattle.store_image.specs.Exact.{StaysExact}
 
--- These are the data units that nobody owns. Those that had two owners or more in the rows before are held for good, and aren't among them.
-pub record AreUnowned (sup : Super) (before rows : Rows) (units : List ℕ) : Type 0 where
+-- These are the data units whose bits are 0.
+pub record AreUnmarked (sup : Super) (rows : Rows) (units : List ℕ) : Type 0 where
   pub ascend : Ascends units
-  pub each : (unit : ℕ) → Contains units unit ↔ (IsDataUnit sup unit × (¬ IsOwned rows unit) × HasSoleOwner before unit)
+  pub each : (unit : ℕ) → Contains units unit ↔ (IsDataUnit sup unit × ¬ IsMarked rows unit)
 
--- Nobody owns so many data units, by the rows that the records of the active half make, but for those that had two owners or more by the rows
--- of the opening contents.
-pub record HasFree (opening contents : List ℕ) (free : ℕ) : Type 0 where
+-- So many data units are free, by the rows that the records of the active half make.
+pub record HasFree (contents : List ℕ) (free : ℕ) : Type 0 where
   pub sup : Super
   pub active : IsActiveSlot contents sup
-  pub before : Rows
-  pub read_before : AreRowsOf opening sup before
   pub rows : Rows
   pub read : AreRowsOf contents sup rows
   pub units : List ℕ
-  pub unowned : AreUnowned sup before rows units
+  pub unmarked : AreUnmarked sup rows units
   pub count : free ≡ length units
 
--- The device stands for what these objects are after all transactions of the book that were accepted, no unit is dirty, and so many are free.
+-- The device stands for what these objects are after all transactions of the book that were accepted, its bitmap is as exact as that of the
+-- contents in the beginning, no unit is dirty, and so many are free.
 pub record IsFinished (objects : Objects) (free : ℕ) (book : Book) (h : History) : Type 0 where
   pub stands : StandsFor (last h.start h.log) (replay objects (accepted book.entries))
+  pub exact : StaysExact h.start (last h.start h.log)
   pub clean : (unit : ℕ) → IsClean h.log unit
-  pub has_free : HasFree h.start (last h.start h.log) free
+  pub has_free : HasFree (last h.start h.log) free
 
 -- each accepted transaction is committed, those of a collection in their order, and each commit is acknowledged
 pub record IsComplete (book : Book) : Type 0 where

@@ -29,7 +29,7 @@ use Rattle.mount_replay.specs.declared.opening.MountFail.TheVariants as fail
 use Rattle.block_device.specs.declared.device.Failed.{Failed}
 use Rattle.block_device.specs.declared.device.Failed.TheVariants as failed
 use Rattle.bstore_top.specs.declared.work_end.WorkEnd.{WorkEnd}
-use Rattle.bstore_top.specs.declared.work_end.WorkEnd.TheVariants.{Done, BadLine, NoSuper, BadRow, WornOut, DeviceFault, OutOfMemory, BayFault}
+use Rattle.bstore_top.specs.declared.work_end.WorkEnd.TheVariants.{Done, BadLine, NoSuper, BadRow, NotExact, WornOut, DeviceFault, OutOfMemory, BayFault}
 use Rattle.bstore_top.specs.Printed.{Output}
 use Rattle.bstore_top.specs.Reports.{ReportsStep}
 use Rattle.bstore_top.specs.Keeping.{KeepsStore}
@@ -127,6 +127,7 @@ abbrev pub end_of_mount : MountFail → WorkEnd
 end_of_mount fail.Memory = OutOfMemory
 end_of_mount fail.NoSuper = NoSuper
 end_of_mount (fail.BadRow key) = BadRow key
+end_of_mount (fail.NotExact unit) = NotExact unit
 end_of_mount (fail.WornOut value) = WornOut
 end_of_mount fail.Fault = DeviceFault
 
@@ -150,6 +151,7 @@ end_of_script script.ReadFault = BayFault
 abbrev pub FailsToMount : WorkEnd → Disk → ℕ → ℕ → Type 0
 FailsToMount NoSuper given before now = FailsMount fail.NoSuper given before now
 FailsToMount (BadRow key) given before now = FailsMount (fail.BadRow key) given before now
+FailsToMount (NotExact unit) given before now = FailsMount (fail.NotExact unit) given before now
 FailsToMount WornOut given before now = (value : ℕ) × FailsMount (fail.WornOut value) given before now
 FailsToMount DeviceFault given before now = Rose before now
 FailsToMount OutOfMemory given before now = Unit {0}

@@ -4,7 +4,7 @@ use Rattle.object_model.specs.declared.book.Book.{Book}
 use Rattle.bstore_top.specs.declared.status.Stop.{Stop}
 use Rattle.bstore_top.specs.declared.status.Stop.TheVariants as stop
 use Rattle.bstore_top.specs.declared.work_end.WorkEnd.{WorkEnd}
-use Rattle.bstore_top.specs.declared.work_end.WorkEnd.TheVariants.{Done, BadLine, NoSuper, BadRow, WornOut, DeviceFault, OutOfMemory, BayFault}
+use Rattle.bstore_top.specs.declared.work_end.WorkEnd.TheVariants.{Done, BadLine, NoSuper, BadRow, NotExact, WornOut, DeviceFault, OutOfMemory, BayFault}
 use Rattle.bstore_top.specs.Status.{end_number}
 use Rattle.bstore_top.specs.Texts.{as_text, stopped_line}
 use Rattle.bstore_top.specs.Replies.{entry_lines, done_line, has_csum}
@@ -16,6 +16,7 @@ stop_of (Done free) = None
 stop_of (BadLine n) = Some stop.BadScript
 stop_of NoSuper = Some stop.Refused
 stop_of (BadRow key) = Some stop.Refused
+stop_of (NotExact unit) = Some stop.Refused
 stop_of WornOut = Some stop.Refused
 stop_of DeviceFault = Some stop.DeviceFault
 stop_of OutOfMemory = Some stop.OutOfMemory
@@ -43,12 +44,17 @@ script_line n = codes "script 0 line " ++ decimal n
 abbrev pub bad_row_line : List ℕ → List ℕ
 bad_row_line key = codes "mount BadRow " ++ hex_text key
 
+-- the bitmap doesn't say who owns this unit
+abbrev pub not_exact_line : ℕ → List ℕ
+not_exact_line unit = codes "mount NotExact unit=" ++ decimal unit
+
 -- the last lines of a run that stopped before its work was done
 abbrev pub fail_lines : Bool → WorkEnd → List (List ℕ)
 fail_lines bad (Done free) = []
 fail_lines bad (BadLine n) = script_line n ∷ stopped_line stop.BadScript ∷ []
 fail_lines bad NoSuper = codes "mount NoSuper" ∷ stopped_line stop.Refused ∷ []
 fail_lines bad (BadRow key) = bad_row_line key ∷ stopped_line stop.Refused ∷ []
+fail_lines bad (NotExact unit) = not_exact_line unit ∷ stopped_line stop.Refused ∷ []
 fail_lines bad WornOut = codes "mount WornOut" ∷ stopped_line stop.Refused ∷ []
 fail_lines bad DeviceFault = stopped_line (first_cause bad stop.DeviceFault) ∷ []
 fail_lines bad OutOfMemory = stopped_line (first_cause bad stop.OutOfMemory) ∷ []

@@ -113,6 +113,7 @@ pub fn unmounted(fail: MountFail) -> WorkEnd
         MountFail::Memory => WorkEnd::OutOfMemory,
         MountFail::NoSuper => WorkEnd::NoSuper,
         MountFail::BadRow { key } => WorkEnd::BadRow { key },
+        MountFail::NotExact { unit } => WorkEnd::NotExact { unit },
         MountFail::WornOut { .. } => WorkEnd::WornOut,
         MountFail::Fault => WorkEnd::DeviceFault,
     }

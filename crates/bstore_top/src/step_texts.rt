@@ -42,6 +42,9 @@ pub fn fail_text(alloc: Global, bad: bool, end: &WorkEnd) -> Result<String, Allo
         WorkEnd::BadLine { n } => format!(in alloc; "script 0 line {n}\nstopped 2\n"),
         WorkEnd::NoSuper => String::from_str(alloc, "mount NoSuper\nstopped 4\n"),
         WorkEnd::BadRow { key } => bad_row_text(alloc, key.as_slice()),
+        WorkEnd::NotExact { unit } => {
+            format!(in alloc; "mount NotExact unit={unit}\nstopped 4\n")
+        }
         WorkEnd::WornOut => String::from_str(alloc, "mount WornOut\nstopped 4\n"),
         WorkEnd::DeviceFault => stopped_for(alloc, bad, Stop::DeviceFault),
         WorkEnd::OutOfMemory => stopped_for(alloc, bad, Stop::OutOfMemory),

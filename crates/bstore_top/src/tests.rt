@@ -1,5 +1,6 @@
 // Runs over a bay in memory: what they print, what they end with, and whether a device comes back.
 
+mod bitmaps;
 mod dump;
 mod printed_texts;
 mod step_reads;

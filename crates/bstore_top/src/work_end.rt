@@ -23,6 +23,10 @@ pub enum WorkEnd {
     BadRow {
         key: Bytes,
     },
+    /// The bitmap doesn't say who owns a unit, the least such one: it has an owner and isn't marked, or two owners.
+    NotExact {
+        unit: u32,
+    },
     /// The numbers of the store are used up.
     WornOut,
     /// The device failed, at a write, a flush or a read.
@@ -40,7 +44,10 @@ impl WorkEnd {
         match self {
             WorkEnd::Done { .. } => None,
             WorkEnd::BadLine { .. } => Some(Stop::BadScript),
-            WorkEnd::NoSuper | WorkEnd::BadRow { .. } | WorkEnd::WornOut => Some(Stop::Refused),
+            WorkEnd::NoSuper
+            | WorkEnd::BadRow { .. }
+            | WorkEnd::NotExact { .. }
+            | WorkEnd::WornOut => Some(Stop::Refused),
             WorkEnd::DeviceFault => Some(Stop::DeviceFault),
             WorkEnd::OutOfMemory => Some(Stop::OutOfMemory),
             WorkEnd::BayFault => Some(Stop::BayFault),

@@ -35,7 +35,7 @@ fn with_a_bad_unit(alloc: Global, unit: usize) -> Result<Vec<u8>, Fail>
 }
 
 /// How many events the device has had that came back.
-fn events(run: &Finished) -> Option<u64> {
+pub(super) fn events(run: &Finished) -> Option<u64> {
     match &run.outcome.dev {
         Some(dev) => Some(dev.events()),
         None => None,

@@ -204,6 +204,10 @@ fn ends_of_dump(rt: HostRuntime) -> Result<(), Fail> {
         (WorkEnd::OutOfMemory, "stopped 5\n"),
         (WorkEnd::BayFault, "stopped 7\n"),
         (WorkEnd::WornOut, "mount WornOut\nstopped 4\n"),
+        (
+            WorkEnd::NotExact { unit: 4294967295 },
+            "mount NotExact unit=4294967295\nstopped 4\n",
+        ),
     ] {
         let text = dumped(alloc, Ok(0xe3069283), &end)?;
         assert_eq!(rt; text.strip_prefix(sound), Some(last));

@@ -190,7 +190,7 @@ fn scripts(rt: HostRuntime) -> Result<(), Fail> {
         ),
         (
             19,
-            "mkcoll 1.0_head\nwrite 1.0_head a 0 fill:5a:4096\nwrite 1.0_head b 0 fill:5b:4096\n",
+            "mkcoll 1.0_head\nwrite 1.0_head a 0 fill:41:4096\nwrite 1.0_head b 0 fill:42:4096\n",
             0,
             "0:1 ok\n0:2 ok\n0:3 E9 NoSpace need=1 free=0\ndone accepted=2 refused=1 reads=0 commits=2 free=0\n",
             Some(19),

@@ -1,5 +1,6 @@
 //! What an image of a device holds.
 
+use crate::bitmap::{leaked_units, row_number};
 use crate::object::{Object, read_object};
 use crate::record::{Rows, make_all, read_record};
 use byte_maps::Bytes;
@@ -11,11 +12,15 @@ use unit_fields::Fields;
 #[derive(Drop)]
 pub struct Found {
     rows: Rows,
+    /// The first data unit, and how many there are.
+    first: u32,
+    count: u32,
 }
 
 /// A valid superblock slot.
 #[derive(Drop)]
 struct Slot {
+    units: u32,
     half: u32,
     epoch: u64,
     first: u64,
@@ -47,7 +52,12 @@ fn read_slot(image: &[u8], at: u32) -> Option<Slot> {
         && 2 * half as usize + 3 <= units as usize
         && epoch % 2 == at as u64;
     if valid {
-        Some(Slot { half, epoch, first })
+        Some(Slot {
+            units,
+            half,
+            epoch,
+            first,
+        })
     } else {
         None
     }
@@ -82,12 +92,17 @@ fn read_rows(alloc: Global, image: &[u8], slot: &Slot) -> Result<Rows, AllocErro
     Ok(rows)
 }
 
-/// Whether the row is one of a collection, of an object, or of a shard.
+/// Whether these are the bits of a row of the bitmap: 16 bytes, not all of them zero.
+fn are_bits(value: &[u8]) -> bool {
+    value.len() == 16 && value.iter().any(|byte| *byte != 0)
+}
+
+/// Whether the row is one of a collection, of an object, of a shard, or of the bitmap.
 fn is_known(row: &(Bytes, Bytes)) -> bool {
     match row.0.as_slice() {
         [b'C', ..] => row.1.is_empty(),
         [b'O', ..] => !row.1.is_empty(),
-        _ => false,
+        key => row_number(key).is_some() && are_bits(row.1.as_slice()),
     }
 }
 
@@ -98,21 +113,38 @@ impl Found {
             return Ok(None);
         };
         let rows = read_rows(alloc, image, &slot)?;
-        if rows.iter().all(is_known) {
-            Ok(Some(Found { rows }))
-        } else {
-            Ok(None)
+        if !rows.iter().all(is_known) {
+            return Ok(None);
         }
+        let first = slot.half.wrapping_mul(2).wrapping_add(2);
+        let count = slot.units.saturating_sub(first);
+        Ok(Some(Found { rows, first, count }))
     }
 
     /// How many rows there are of collections, of objects and of shards together.
     pub fn len(&self) -> usize {
-        self.rows.len()
+        self.rows
+            .iter()
+            .filter(|row| row_number(row.0.as_slice()).is_none())
+            .count()
     }
 
-    /// Whether there is no row.
+    /// Whether there is none of these.
     pub fn is_empty(&self) -> bool {
-        self.rows.is_empty()
+        self.len() == 0
+    }
+
+    /// Whether the bitmap has the row of this number.
+    pub fn has_bitmap_row(&self, number: u32) -> bool {
+        self.rows
+            .iter()
+            .any(|row| row_number(row.0.as_slice()) == Some(number))
+    }
+
+    /// The units that the bitmap marks and on which no page stands, ascending. None where the bitmap isn't exact but for these: a bit is 1
+    /// that is of no data unit, or a page stands on a unit whose bit is 0, or on one on which another page stands.
+    pub fn leaked(&self, alloc: Global) -> Result<Option<Vec<u32>>, AllocError> {
+        leaked_units(alloc, self.rows.as_slice(), self.first, self.count)
     }
 
     /// Whether there is this collection.

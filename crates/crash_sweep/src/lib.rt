@@ -4,6 +4,7 @@
 //! finds in the image with plain objects.
 #![tactic(auto)]
 
+mod bitmap;
 mod image;
 mod object;
 mod record;

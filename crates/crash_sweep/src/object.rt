@@ -30,6 +30,24 @@ fn onode_key(alloc: Global, coll: &[u8], name: &[u8]) -> Result<Vec<u8>, AllocEr
     Ok(key)
 }
 
+/// What stands behind a name and the zero byte that ends it.
+fn behind_name(bytes: &[u8]) -> Option<&[u8]> {
+    let at = bytes.iter().position(|byte| *byte == 0)?;
+    let (_name, rest) = bytes.split_at_checked(at)?;
+    rest.get(1..)
+}
+
+/// Whether a key is that of a shard of any object: `O`, two names that zero bytes end, `o`, the page, and `x`.
+pub fn is_shard_key(key: &[u8]) -> bool {
+    let [b'O', names @ ..] = key else {
+        return false;
+    };
+    match behind_name(names).and_then(behind_name) {
+        Some([b'o', _, _, _, _, b'x']) => true,
+        _ => false,
+    }
+}
+
 /// Whether the row is a shard of the onode of this key.
 fn is_shard(row: &(Bytes, Bytes), onode: &[u8]) -> bool {
     match row.0.as_slice().strip_prefix(onode) {
@@ -46,21 +64,37 @@ fn lay(bytes: &mut [u8], page: u32, unit: &[u8]) -> Option<()> {
     Some(())
 }
 
-/// Lays the pages of an extent over the bytes: its head, and a checksum for each page.
-fn lay_extent(image: &[u8], fields: &mut Fields<'_>, bytes: &mut [u8]) -> Option<()> {
+/// What stands before the checksums of an extent.
+#[derive(Drop)]
+pub struct Head {
+    page: u32,
+    /// How many pages it has, and so how many units and checksums.
+    pub count: u16,
+    /// The first of its units.
+    pub unit: u32,
+}
+
+/// The head of an extent.
+pub fn read_head(fields: &mut Fields<'_>) -> Option<Head> {
     let page = fields.u32()?;
     let count = fields.u16()?;
     let kind = fields.u8()?;
-    let first = fields.u32()?;
+    let unit = fields.u32()?;
     if kind != 0 || count == 0 || 256 < count {
         return None;
     }
-    for i in 0..count {
-        let found = unit(image, first.checked_add(i as u32)?)?;
+    Some(Head { page, count, unit })
+}
+
+/// Lays the pages of an extent over the bytes: its head, and a checksum for each page.
+fn lay_extent(image: &[u8], fields: &mut Fields<'_>, bytes: &mut [u8]) -> Option<()> {
+    let head = read_head(fields)?;
+    for i in 0..head.count {
+        let found = unit(image, head.unit.checked_add(i as u32)?)?;
         if fields.u32()? != crc32c(found) {
             return None;
         }
-        lay(bytes, page.checked_add(i as u32)?, found)?;
+        lay(bytes, head.page.checked_add(i as u32)?, found)?;
     }
     Some(())
 }

@@ -1,4 +1,5 @@
-// Every cut of runs of `step`, with each tear: the image has the objects after a front of the commits, all acknowledged ones among them.
+// Every cut of runs of `step`, with each tear: the image has the objects after a front of the commits, all acknowledged ones among them. Its
+// bitmap is exactly the units of their pages, and those that the store had leaked before the run.
 ghost use Rattle.std.specs.Prelude.{◌≡◌, ◌≤◌, ◌<◌, length, IfOk, All};
 ghost use Rattle.end_points.specs.Memory.{AreContents};
 
@@ -6,9 +7,11 @@ mod again;
 mod cuts;
 mod dumped;
 mod forged;
+mod inexact;
+mod leaked;
 mod negative;
 mod pages;
-mod shared;
+mod released;
 
 use crate::{Found, Object};
 use block_device::{Device, Kind, MemoryDevice, Tear};
@@ -50,6 +53,8 @@ struct Setup<'a> {
 #[derive(Drop)]
 struct Ran {
     device: MemoryDevice,
+    /// The units that the device had leaked before.
+    leaked: Vec<u32>,
     /// What the objects are after each number of commits, from none to all.
     states: Vec<Vec<u8>>,
     book: Book,
@@ -193,11 +198,8 @@ fn spelled_plain(alloc: Global, plain: &Plain) -> Result<Vec<u8>, Fail> {
     Ok(out)
 }
 
-/// What stands in an image, spelled so; None where it has something else, or nothing that can be read.
-fn spelled_image(alloc: Global, image: &[u8]) -> Result<Option<Vec<u8>>, Fail> {
-    let Some(found) = Found::read(alloc, image)? else {
-        return Ok(None);
-    };
+/// What was found in an image, spelled so; None where it has something else, or an object that can't be read.
+fn spelled(alloc: Global, found: &Found, image: &[u8]) -> Result<Option<Vec<u8>>, Fail> {
     let mut out = Vec::new(alloc);
     let has_coll = found.has_collection(COLL);
     out.push(has_coll as u8)?;
@@ -214,6 +216,31 @@ fn spelled_image(alloc: Global, image: &[u8]) -> Result<Option<Vec<u8>>, Fail> {
     }
     // There is nothing beside these.
     Ok(if rows == found.len() { Some(out) } else { None })
+}
+
+/// What stands in an image, spelled so; None where it has something else, or nothing that can be read.
+fn spelled_image(alloc: Global, image: &[u8]) -> Result<Option<Vec<u8>>, Fail> {
+    match Found::read(alloc, image)? {
+        Some(found) => spelled(alloc, &found, image),
+        None => Ok(None),
+    }
+}
+
+/// Whether the bitmap is exactly the units of pages and these leaked ones.
+fn is_exact_but(alloc: Global, found: &Found, leaked: &[u32]) -> Result<bool, Fail> {
+    let units = found.leaked(alloc)?;
+    Ok(units.is_some_and(|units| *units.as_slice() == *leaked))
+}
+
+/// The units that an image has leaked. Its bitmap is exact but for these.
+fn leaked_in(alloc: Global, image: &[u8]) -> Result<Vec<u32>, Fail> {
+    let Some(found) = Found::read(alloc, image)? else {
+        return Err("the image can't be read".into());
+    };
+    match found.leaked(alloc)? {
+        Some(units) => Ok(units),
+        None => Err("the image isn't exact".into()),
+    }
 }
 
 /// The objects after each number of commits, from these on.
@@ -249,6 +276,7 @@ fn apply(alloc: Global, plain: &mut Plain, entry: Option<&Entry>) -> Result<(), 
 
 /// Runs a script on a device with these contents, which stand for these objects.
 fn run_on(alloc: Global, setup: &Setup<'_>, contents: Vec<u8>, plain: Plain) -> Result<Ran, Fail> {
+    let leaked = leaked_in(alloc, &contents)?;
     let mut bay = bay(alloc, setup)?;
     put_device(&mut bay, contents)?;
     bay.put_text("script", setup.script.as_bytes().to_vec(alloc)?)?;
@@ -267,6 +295,7 @@ fn run_on(alloc: Global, setup: &Setup<'_>, contents: Vec<u8>, plain: Plain) -> 
     let states = states(alloc, plain, &book)?;
     Ok(Ran {
         device,
+        leaked,
         states,
         book,
         text,
@@ -290,19 +319,26 @@ fn acknowledged(commits: &[Commit], cut: u64) -> usize {
     least
 }
 
-/// Whether the image is that of a front of the commits, with all that were acknowledged by the cut.
+/// Whether the image is that of a front of the commits, with all that were acknowledged by the cut, and its bitmap is exact but for what was
+/// leaked before the run.
 fn is_prefix(
     alloc: Global,
     image: &[u8],
-    states: &[Vec<u8>],
+    ran: &Ran,
     commits: &[Commit],
     cut: u64,
 ) -> Result<bool, Fail> {
-    let Some(found) = spelled_image(alloc, image)? else {
+    let Some(found) = Found::read(alloc, image)? else {
+        return Ok(false);
+    };
+    if !is_exact_but(alloc, &found, &ran.leaked)? {
+        return Ok(false);
+    }
+    let Some(objects) = spelled(alloc, &found, image)? else {
         return Ok(false);
     };
     let least = acknowledged(commits, cut);
-    Ok(states.iter().skip(least).any(|state| *state == found))
+    Ok(ran.states.iter().skip(least).any(|state| *state == objects))
 }
 
 /// How many images were looked at, and how many of them are no such.
@@ -334,7 +370,7 @@ fn sweep_cut(
     for tear in TEARS {
         let image = image(&ran.device, cut, tear)?;
         counts.images = counts.images.wrapping_add(1);
-        if !is_prefix(alloc, &image, &ran.states, commits, cut)? {
+        if !is_prefix(alloc, &image, ran, commits, cut)? {
             counts.bad = counts.bad.wrapping_add(1);
         }
     }

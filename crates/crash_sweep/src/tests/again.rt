@@ -46,21 +46,29 @@ fn commits_in(alloc: Global, ran: &Ran, image: &[u8]) -> Result<usize, Fail> {
     }
 }
 
+/// A run on what a crash leaves, and what its text may end with.
+#[derive(Drop)]
+pub struct Next<'a> {
+    pub setup: Setup<'a>,
+    pub ends: [&'a [u8]; 2],
+}
+
 /// Runs a script on what a crash of a run left, and looks at each cut of that.
 fn go_on(
     alloc: Global,
     first: &Ran,
-    setup: &Setup<'_>,
+    next: &Next<'_>,
     image: Vec<u8>,
     counts: &mut Counts,
 ) -> Result<(), Fail> {
     let count = commits_in(alloc, first, &image)?;
     let plain = objects_after(alloc, &first.book, count)?;
-    let second = run_on(alloc, setup, image, plain)?;
-    if !second.text.ends_with(b"free=4\n".as_slice())
-        && !second.text.ends_with(b"free=6\n".as_slice())
-    {
+    let second = run_on(alloc, &next.setup, image, plain)?;
+    if !next.ends.iter().any(|end| second.text.ends_with(end)) {
         return Err("the second run didn't end".into());
+    }
+    if second.leaked != first.leaked {
+        return Err("other units are leaked".into());
     }
     let found = sweep(alloc, &second, second.book.commits.as_slice(), 1)?;
     counts.images = counts.images.wrapping_add(found.images);
@@ -69,17 +77,17 @@ fn go_on(
 }
 
 /// Looks at what each crash leaves that tears the log of a run in this way.
-fn go_on_from_each_cut(
+pub fn go_on_from_each_cut(
     alloc: Global,
     first: &Ran,
-    setup: &Setup<'_>,
+    next: &Next<'_>,
     tear: Tear,
     counts: &mut Counts,
 ) -> Result<(), Fail> {
     let events = first.device.events();
     for cut in 0..=events {
         let image = image(&first.device, cut, tear)?;
-        go_on(alloc, first, setup, image, counts)?;
+        go_on(alloc, first, next, image, counts)?;
     }
     Ok(())
 }
@@ -113,8 +121,13 @@ fn a_store_is_opened_again(rt: HostRuntime) -> Result<(), Fail> {
 /// Each cut of a run on a new store, and of a run on what is left there.
 fn cut_twice(rt: &impl Abort, alloc: Global, tear: Tear) -> Result<(), Fail> {
     let first = run_script(alloc, &tiny(FIRST, 1))?;
+    // Two of six units are taken, or none where the collection isn't there.
+    let next = Next {
+        setup: tiny(SECOND, 2),
+        ends: [b"free=4\n", b"free=6\n"],
+    };
     let mut counts = Counts { images: 0, bad: 0 };
-    go_on_from_each_cut(alloc, &first, &tiny(SECOND, 2), tear, &mut counts)?;
+    go_on_from_each_cut(alloc, &first, &next, tear, &mut counts)?;
     assert_eq!(rt; counts.bad, 0);
     assert!(rt; 500 < counts.images);
     Ok(())

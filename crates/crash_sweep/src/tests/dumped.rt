@@ -59,7 +59,7 @@ fn dumped(alloc: Global, contents: Vec<u8>) -> Result<Vec<u8>, Fail> {
     Ok(text)
 }
 
-/// Dumps each image of a cut, and counts those whose text is that of no front with all that were acknowledged.
+/// Dumps each image of a cut, and counts those whose text is that of no front with all that were acknowledged, or whose bitmap isn't exact.
 fn dump_cut(
     alloc: Global,
     ran: &Ran,
@@ -69,9 +69,11 @@ fn dump_cut(
 ) -> Result<(), Fail> {
     let least = acknowledged(ran.book.commits.as_slice(), cut);
     for tear in TEARS {
-        let text = dumped(alloc, image(&ran.device, cut, tear)?)?;
+        let image = image(&ran.device, cut, tear)?;
+        let exact = leaked_in(alloc, &image)? == ran.leaked;
+        let text = dumped(alloc, image)?;
         counts.images = counts.images.wrapping_add(1);
-        if !texts.iter().skip(least).any(|front| *front == text) {
+        if !exact || !texts.iter().skip(least).any(|front| *front == text) {
             counts.bad = counts.bad.wrapping_add(1);
         }
     }

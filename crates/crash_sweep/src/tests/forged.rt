@@ -4,19 +4,46 @@ use super::*;
 use crc32c_csum::Digest;
 use std::process::Abort;
 
-/// The unit of a record with one operation, that sets a row.
-pub fn record(alloc: Global, number: u64, key: &[u8], value: &[u8]) -> Result<Vec<u8>, Fail> {
+/// The operation that sets a row.
+pub fn set_op(alloc: Global, key: &[u8], value: &[u8]) -> Result<Vec<u8>, Fail> {
+    row_op(alloc, 1, key, value)
+}
+
+/// The operation that turns the bit of a unit in the bitmap.
+pub fn turn_op(alloc: Global, unit: u32) -> Result<Vec<u8>, Fail> {
+    let mut mask = [0u8; 16];
+    mask[(unit % 128 / 8) as usize] = 1 << (unit % 8);
+    row_op(alloc, 3, &bitmap_key(alloc, unit / 128)?, &mask)
+}
+
+/// The key of a row of the bitmap.
+pub fn bitmap_key(alloc: Global, number: u32) -> Result<Vec<u8>, Fail> {
+    let mut key = vec![in alloc; b'b']?;
+    key.extend_from_slice(&number.to_be_bytes())?;
+    Ok(key)
+}
+
+/// An operation with a value or a mask.
+fn row_op(alloc: Global, code: u8, key: &[u8], value: &[u8]) -> Result<Vec<u8>, Fail> {
+    let mut op = vec![in alloc; code]?;
+    op.extend_from_slice(&(key.len() as u64).to_le_bytes()[..2])?;
+    op.extend_from_slice(key)?;
+    op.extend_from_slice(&(value.len() as u64).to_le_bytes()[..4])?;
+    op.extend_from_slice(value)?;
+    Ok(op)
+}
+
+/// The unit of a record with these operations.
+pub fn record(alloc: Global, number: u64, ops: &[Vec<u8>]) -> Result<Vec<u8>, Fail> {
     let mut body = Vec::new(alloc);
-    body.push(1u8)?;
-    body.extend_from_slice(&(key.len() as u64).to_le_bytes()[..2])?;
-    body.extend_from_slice(key)?;
-    body.extend_from_slice(&(value.len() as u64).to_le_bytes()[..4])?;
-    body.extend_from_slice(value)?;
+    for op in ops {
+        body.extend_from_slice(op.as_slice())?;
+    }
     let mut unit = Vec::new(alloc);
     unit.extend_from_slice(b"BREC")?;
     unit.extend_from_slice(&(body.len() as u64).to_le_bytes()[..4])?;
     unit.extend_from_slice(&number.to_le_bytes())?;
-    unit.extend_from_slice(&1u32.to_le_bytes())?;
+    unit.extend_from_slice(&(ops.len() as u64).to_le_bytes()[..4])?;
     let mut digest = Digest::new();
     digest.update(&unit);
     digest.update(&body);
@@ -24,6 +51,12 @@ pub fn record(alloc: Global, number: u64, key: &[u8], value: &[u8]) -> Result<Ve
     unit.extend_from_slice(&body)?;
     unit.resize(4096, 0)?;
     Ok(unit)
+}
+
+/// The unit of a record that makes a collection.
+fn collection_record(alloc: Global, number: u64, key: &[u8]) -> Result<Vec<u8>, Fail> {
+    let op = set_op(alloc, key, &[])?;
+    record(alloc, number, &vec![in alloc; op]?)
 }
 
 /// Lays a unit's bytes over those of a device.
@@ -53,7 +86,11 @@ fn forged_store(alloc: Global, behind: &[u8]) -> Result<(Vec<u8>, Plain), Fail> 
     let first = run_script(alloc, &tiny("mkcoll 1.0_head\n"))?;
     let mut contents = image(&first.device, first.device.events(), Tear::Noise)?;
     lay(&mut contents, 3, behind)?;
-    lay(&mut contents, 4, &record(alloc, 2, b"C9.0_head", &[])?)?;
+    lay(
+        &mut contents,
+        4,
+        &collection_record(alloc, 2, b"C9.0_head")?,
+    )?;
     let mut plain = Plain::new(alloc);
     apply(alloc, &mut plain, first.book.entries.as_slice().first())?;
     Ok((contents, plain))
@@ -91,7 +128,11 @@ fn no_record_before_it(rt: HostRuntime) -> Result<(), Fail> {
 fn the_forged_record_is_valid(rt: HostRuntime) -> Result<(), Fail> {
     let alloc = rt.alloc();
     let (mut contents, _plain) = forged_store(alloc, &[])?;
-    lay(&mut contents, 3, &record(alloc, 1, b"C8.0_head", &[])?)?;
+    lay(
+        &mut contents,
+        3,
+        &collection_record(alloc, 1, b"C8.0_head")?,
+    )?;
     let Some(found) = Found::read(alloc, &contents)? else {
         return Err("no store".into());
     };

@@ -1,5 +1,6 @@
 // What is wrong is found.
 
+use super::forged::{lay, record, turn_op};
 use super::*;
 
 const ONE: &str = "mkcoll 1.0_head\nwrite 1.0_head a 0 fill:5a:4096\nwait\n";
@@ -47,9 +48,9 @@ fn other_commits(rt: HostRuntime) -> Result<(), Fail> {
     assert_eq!(rt; ran.states.len(), 3);
     let all = ran.device.events();
     let end = image(&ran.device, all, Tear::Noise)?;
-    assert!(rt; is_prefix(alloc, &end, &ran.states, ran.book.commits.as_slice(), all)?);
+    assert!(rt; is_prefix(alloc, &end, &ran, ran.book.commits.as_slice(), all)?);
     let _last = ran.states.pop();
-    assert!(rt; !is_prefix(alloc, &end, &ran.states, &[], all)?);
+    assert!(rt; !is_prefix(alloc, &end, &ran, &[], all)?);
     Ok(())
 }
 
@@ -73,12 +74,45 @@ fn a_changed_bit(rt: HostRuntime) -> Result<(), Fail> {
     for at in [100usize, 4096 * 2 + 30, 4096 * 3 + 30, 4096 * 18 + 4095] {
         let other = changed(alloc, &end, at)?;
         assert!(rt;
-            !is_prefix(alloc, &other, &ran.states, ran.book.commits.as_slice(), all)?,
+            !is_prefix(alloc, &other, &ran, ran.book.commits.as_slice(), all)?,
             "byte {at}"
         );
     }
     // A unit that nobody owns doesn't matter.
     let other = changed(alloc, &end, 4096 * 19)?;
-    assert!(rt; is_prefix(alloc, &other, &ran.states, ran.book.commits.as_slice(), all)?);
+    assert!(rt; is_prefix(alloc, &other, &ran, ran.book.commits.as_slice(), all)?);
+    Ok(())
+}
+
+/// The image with record 2 behind its records, that turns these units' bits.
+fn turned(alloc: Global, image: &[u8], units: &[u32]) -> Result<Vec<u8>, Fail> {
+    let mut ops = Vec::new(alloc);
+    for unit in units {
+        ops.push(turn_op(alloc, *unit)?)?;
+    }
+    let mut other = image.to_vec(alloc)?;
+    lay(&mut other, 4, &record(alloc, 2, &ops)?)?;
+    Ok(other)
+}
+
+// The object's unit isn't marked, or one that nobody owns is, or one of the log, or one beyond the last.
+#[test]
+fn a_turned_bit_of_the_bitmap(rt: HostRuntime) -> Result<(), Fail> {
+    let alloc = rt.alloc();
+    let ran = first_run(alloc)?;
+    let all = ran.device.events();
+    let end = image(&ran.device, all, Tear::New)?;
+    for unit in [18u32, 19, 63, 17, 0, 64, 128] {
+        let other = turned(alloc, &end, &[unit])?;
+        // The objects are as before.
+        assert!(rt; spelled_image(alloc, &other)? == spelled_image(alloc, &end)?);
+        assert!(rt;
+            !is_prefix(alloc, &other, &ran, ran.book.commits.as_slice(), all)?,
+            "unit {unit}"
+        );
+    }
+    // Bits that are turned twice are as they were.
+    let other = turned(alloc, &end, &[18, 19, 19, 18])?;
+    assert!(rt; is_prefix(alloc, &other, &ran, ran.book.commits.as_slice(), all)?);
     Ok(())
 }

@@ -1,6 +1,7 @@
 #!/usr/bin/env bash
 # Runs the built program as a user would, and says of each case whether it came as wanted. Ends with status 1 where one
-# didn't. It takes the program that the gate or ./bstore left, and has ./bstore build one where there is none.
+# didn't. It takes the program that the gate or ./bstore left, and has ./bstore build one where there is none. It needs
+# python3.
 
 set -u
 top=$(cd -- "$(dirname -- "$0")/.." && pwd -P)
@@ -148,6 +149,61 @@ unit() {
     tail -c +$((4096 * $1 + 1)) "$2" | head -c 4096
 }
 
+# Prints the unit of a record that is made by hand. Its words: the record's number, and its operations in hexadecimal digits.
+cat >record.py <<'END'
+import sys
+
+
+def crc32c(data):
+    crc = 0xFFFFFFFF
+    for byte in data:
+        crc ^= byte
+        for _ in range(8):
+            crc = crc >> 1 ^ (0x82F63B78 if crc & 1 else 0)
+    return crc ^ 0xFFFFFFFF
+
+
+ops = [bytes.fromhex(op) for op in sys.argv[2:]]
+body = b"".join(ops)
+head = b"BREC" + len(body).to_bytes(4, "little") + int(sys.argv[1]).to_bytes(8, "little") + len(ops).to_bytes(4, "little")
+record = head + crc32c(head + body).to_bytes(4, "little") + body
+sys.stdout.buffer.write(record + bytes(-len(record) % 4096))
+END
+
+# add_record FILE NUMBER OP..: a record behind so many of one unit each, in half 0 of a store.
+add_record() {
+    local file=$1 number=$2
+    shift 2
+    python3 record.py "$number" "$@" | dd of="$file" bs=4096 seek=$((2 + number)) conv=notrunc status=none
+}
+
+# has_record FILE NUMBER OP..: that record stands there.
+has_record() {
+    local file=$1 number=$2
+    shift 2
+    python3 record.py "$number" "$@" >wanted_record
+    unit $((2 + number)) "$file" | cmp -s - wanted_record
+}
+
+# turn UNIT: the operation that turns a unit's bit in the bitmap.
+turn() {
+    local mask='' byte
+    for byte in {0..15}; do
+        mask+=$(printf %02x $(($1 % 128 / 8 == byte ? 1 << $1 % 8 : 0)))
+    done
+    printf '03050062%08x10000000%s' $(($1 / 128)) "$mask"
+}
+
+# onode NAME: the operation that sets the onode of an object of one page. The name is two hexadecimal digits, the collection 1.0_head.
+onode() {
+    printf '010d004f312e305f6865616400%s006f080000000010000000000000' "$1"
+}
+
+# shard NAME UNIT: the operation that sets its shard. The page, 4096 times Z, stands on a unit below 256.
+shard() {
+    printf '0112004f312e305f6865616400%s006f00000000780f00000000000000010000%02x000000498cf137' "$1" "$2"
+}
+
 run mkfs T "${small[@]}"
 printf 'mkcoll 1.0_head\nwrite 1.0_head a 0 fill:5a:4096\nwait\n' >script
 run step T --seed 1 script
@@ -204,6 +260,84 @@ tail -c +$((4096 * (50 + 1024) + 1)) PAGES | head -c 8192 >last
 says 'step: its last two pages, on new units' cmp -s found last
 run step PAGES --seed 1 empty
 says 'step: it is opened again' ended 0 'done accepted=0 refused=0 reads=0 commits=0 free=85'
+
+# ---- the bitmap of the units that are taken
+
+# A store of one data unit, which a second object finds taken.
+run mkfs ONE --half 8 --units 19
+printf 'mkcoll 1.0_head\nwrite 1.0_head a 0 fill:41:4096\nwrite 1.0_head b 0 fill:42:4096\n' >two
+run step ONE --seed 1 two
+says 'bitmap: one data unit' ended 0 '0:1 ok' '0:2 ok' '0:3 E9 NoSpace need=1 free=0' 'done accepted=2 refused=1 reads=0 commits=2 free=0'
+cp ONE ONE_BEFORE
+run step ONE --seed 1 two
+says 'bitmap: one data unit, opened again' ended 0 '0:1 E2 CollectionExists' '0:2 E9 NoSpace need=1 free=0' '0:3 E9 NoSpace need=1 free=0' \
+    'done accepted=0 refused=3 reads=0 commits=0 free=0'
+says 'bitmap: it is left as it was' cmp -s ONE ONE_BEFORE
+
+# The record of a first page, on unit 130: the object's onode and its shard are set, and bit 2 of row 1 is turned.
+run mkfs BITS --half 64 --units 256
+printf 'mkcoll 1.0_head\nwrite 1.0_head a 0 fill:5a:4096\n' >first
+run step BITS --seed 1 first
+says 'bitmap: a page on unit 130' ended 0 '0:1 ok' '0:2 ok' 'done accepted=2 refused=0 reads=0 commits=2 free=125'
+zeros15=$(printf '00%.0s' {1..15})
+says 'bitmap: its record' has_record BITS 1 "$(onode 61)" "$(shard 61 130)" "03050062000000011000000004$zeros15"
+
+# An overwrite goes to unit 131 and gives unit 130 back: one operation turns both bits. The next one turns them again.
+printf 'write 1.0_head a 0 fill:5a:4096\nwait\nwrite 1.0_head a 0 fill:5a:4096\n' >twice
+run step BITS --seed 1 twice
+says 'bitmap: two overwrites' ended 0 '0:1 ok' '0:3 ok' 'done accepted=2 refused=0 reads=0 commits=2 free=125'
+says 'bitmap: the record of the first' has_record BITS 2 "$(shard 61 131)" "0305006200000001100000000c$zeros15"
+says 'bitmap: the record of the second' has_record BITS 3 "$(shard 61 130)" "0305006200000001100000000c$zeros15"
+
+# is_refused_as LINE OP..: with these operations behind its two records T is refused by this line, and left as it is.
+is_refused_as() {
+    local line=$1 same=yes
+    shift
+    cp T INEXACT
+    add_record INEXACT 2 "$@"
+    cp INEXACT INEXACT_BEFORE
+    run step INEXACT --seed 1 script
+    ended 4 "$line" 'stopped 4' || same=no
+    run dump INEXACT
+    ended 4 "$line" 'stopped 4' && cmp -s INEXACT INEXACT_BEFORE && [ "$same" = yes ]
+}
+
+# is_leaked FREE OP..: with these operations behind its two records T has so many free units and its object, and is left as it is.
+is_leaked() {
+    local free=$1 same=yes
+    shift
+    cp T LEAKED
+    add_record LEAKED 2 "$@"
+    cp LEAKED LEAKED_BEFORE
+    run step LEAKED --seed 1 empty
+    ended 0 "done accepted=0 refused=0 reads=0 commits=0 free=$free" || same=no
+    run dump LEAKED
+    ended 0 'coll 1.0_head' 'object a size 4096 crc 37f18c49' 'end' && cmp -s LEAKED LEAKED_BEFORE && [ "$same" = yes ]
+}
+
+# The object of T stands on unit 18.
+says 'bitmap: the second record of T' has_record T 1 "$(onode 61)" "$(shard 61 18)" "$(turn 18)"
+says 'bitmap: an object without its bit' is_refused_as 'mount NotExact unit=18' "$(turn 18)"
+says 'bitmap: a unit with two owners' is_refused_as 'mount NotExact unit=18' "$(onode 62)" "$(shard 62 18)"
+says 'bitmap: a second object without its bit' is_refused_as 'mount NotExact unit=19' "$(onode 62)" "$(shard 62 19)"
+says 'bitmap: the least of two' is_refused_as 'mount NotExact unit=18' "$(onode 62)" "$(shard 62 19)" "$(turn 18)"
+says 'bitmap: a unit of the log is marked' is_refused_as 'mount BadRow 6200000000' "$(turn 17)"
+says 'bitmap: one beyond the last is marked' is_refused_as 'mount BadRow 6200000000' "$(turn 64)" "$(turn 18)"
+says 'bitmap: a leaked unit' is_leaked 44 "$(turn 20)"
+says 'bitmap: two leaked units' is_leaked 43 "$(turn 63)" "$(turn 19)"
+says 'bitmap: a bit that is turned twice' is_leaked 45 "$(turn 18)" "$(turn 18)"
+
+# With unit 20 leaked 44 are free, and it is none of them.
+cp T FILLED
+add_record FILLED 2 "$(turn 20)"
+printf 'write 1.0_head b 0 fill:62:184320\nwrite 1.0_head b 0 fill:62:180224\nwrite 1.0_head a 0 fill:61:4096\n' >fills
+run step FILLED --seed 1 fills
+says 'bitmap: all units but the leaked one' ended 0 '0:1 E9 NoSpace need=45 free=44' '0:2 ok' '0:3 E9 NoSpace need=1 free=0' \
+    'done accepted=1 refused=2 reads=0 commits=1 free=0'
+unit 20 FILLED >found
+says 'bitmap: nothing stands on the leaked one' cmp -s found <(head -c 4096 /dev/zero)
+run step FILLED --seed 1 empty
+says 'bitmap: and so it stays' ended 0 'done accepted=0 refused=0 reads=0 commits=0 free=0'
 
 # ---- reads and dump. The checksums were made apart, bit by bit.
 

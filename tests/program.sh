@@ -289,13 +289,20 @@ says 'bitmap: two overwrites' ended 0 '0:1 ok' '0:3 ok' 'done accepted=2 refused
 says 'bitmap: the record of the first' has_record BITS 2 "$(shard 61 131)" "0305006200000001100000000c$zeros15"
 says 'bitmap: the record of the second' has_record BITS 3 "$(shard 61 130)" "0305006200000001100000000c$zeros15"
 
+# with_record FILE OP..: FILE is T with these operations behind its two records, and FILE_BEFORE is the same.
+with_record() {
+    local file=$1
+    shift
+    cp T "$file"
+    add_record "$file" 2 "$@"
+    cp "$file" "${file}_BEFORE"
+}
+
 # is_refused_as LINE OP..: with these operations behind its two records T is refused by this line, and left as it is.
 is_refused_as() {
     local line=$1 same=yes
     shift
-    cp T INEXACT
-    add_record INEXACT 2 "$@"
-    cp INEXACT INEXACT_BEFORE
+    with_record INEXACT "$@"
     run step INEXACT --seed 1 script
     ended 4 "$line" 'stopped 4' || same=no
     run dump INEXACT
@@ -306,9 +313,7 @@ is_refused_as() {
 is_leaked() {
     local free=$1 same=yes
     shift
-    cp T LEAKED
-    add_record LEAKED 2 "$@"
-    cp LEAKED LEAKED_BEFORE
+    with_record LEAKED "$@"
     run step LEAKED --seed 1 empty
     ended 0 "done accepted=0 refused=0 reads=0 commits=0 free=$free" || same=no
     run dump LEAKED
@@ -328,8 +333,7 @@ says 'bitmap: two leaked units' is_leaked 43 "$(turn 63)" "$(turn 19)"
 says 'bitmap: a bit that is turned twice' is_leaked 45 "$(turn 18)" "$(turn 18)"
 
 # With unit 20 leaked 44 are free, and it is none of them.
-cp T FILLED
-add_record FILLED 2 "$(turn 20)"
+with_record FILLED "$(turn 20)"
 printf 'write 1.0_head b 0 fill:62:184320\nwrite 1.0_head b 0 fill:62:180224\nwrite 1.0_head a 0 fill:61:4096\n' >fills
 run step FILLED --seed 1 fills
 says 'bitmap: all units but the leaked one' ended 0 '0:1 E9 NoSpace need=45 free=44' '0:2 ok' '0:3 E9 NoSpace need=1 free=0' \

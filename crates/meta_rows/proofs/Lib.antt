@@ -2,6 +2,7 @@ pub mod FieldLemmas
 pub mod Ops
 pub mod Folds
 pub mod XorLemmas
+pub mod FlipLemmas
 pub mod RowLemmas
 pub mod RangeLemmas
 pub mod GapLemmas

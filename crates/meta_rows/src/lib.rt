@@ -18,7 +18,7 @@ pub use laws::{
 pub use reading::decode;
 pub use row_op::RowOp;
 pub use row_table::RowTable;
-pub use writing::encode;
+pub use writing::{encode, encoded_len};
 
 #[cfg(test)]
 mod reading_tests;

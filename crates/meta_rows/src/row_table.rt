@@ -7,8 +7,9 @@ ghost use Rattle.byte_maps.specs.ByteMap.{byte_order};
 ghost use Rattle.meta_rows.specs.Order.{numbered, unnumbered};
 ghost use Rattle.meta_rows.specs.Rows.{Rows, row_after, rows_after};
 ghost use Rattle.meta_rows.specs.Table.{rows_size, rows_from_to, StartsAt, EndsAt};
+ghost use Rattle.meta_rows.specs.declared.row_op.RowOp.TheVariants.{Flip};
 
-use crate::row_change::left_by;
+use crate::row_change::{flip_into, is_all_zero};
 use crate::row_gap::RowGap;
 use crate::row_op::RowOp;
 use byte_maps::{Bytes, Duplicate};
@@ -243,16 +244,28 @@ impl RowTable {
         }
     }
 
-    // Applies an operation to what its row has.
-    fn change(&mut self, op: RowOp)
+    // Turns the bits of a row's value in its place. The row goes where no bit is left, and comes where it was missing.
+    fn flip(&mut self, key: Bytes, mask: Bytes)
         requires { 0 < self.old.room }
-        ensures rows { self.new.rows ≡ row_after self.old.rows op }
+        ensures rows { self.new.rows ≡ row_after self.old.rows (Flip key mask) }
         ensures room { self.old.room ≤ self.new.room + 1 }
     {
-        let held = self.take(op.key());
-        let (key, left) = left_by(held, op);
-        if let Some(value) = left {
-            self.put(key, value);
+        match place_of(&self.entries, key.as_slice()) {
+            Ok(at) => {
+                let alloc = *self.entries.allocator();
+                let entry = &mut self.entries[at];
+                if !flip_into(alloc, &mut entry.1, mask) {
+                    self.entries.remove(at);
+                }
+            }
+            Err(at) => {
+                if !is_all_zero(mask.as_slice()) {
+                    match self.entries.insert(at, (key, mask)) {
+                        Ok(()) => {}
+                        Err(_) => unreachable!(),
+                    }
+                }
+            }
         }
     }
 
@@ -263,7 +276,10 @@ impl RowTable {
     {
         match op {
             RowOp::Set { key, value } => self.put(key, value),
-            other => self.change(other),
+            RowOp::Drop { key } => {
+                self.take(key.as_slice());
+            }
+            RowOp::Flip { key, mask } => self.flip(key, mask),
         }
     }
 

@@ -67,6 +67,18 @@ fn spellings_by_hand(rt: HostRuntime) -> Result<(), Fail> {
     Ok(())
 }
 
+#[test]
+fn lengths_by_hand(rt: HostRuntime) -> Result<(), Fail> {
+    let collection = set(rt.alloc(), b"C1.0_head", b"xyz")?;
+    let mark = flip(rt.alloc(), b"b\x00\x00\x00\x01", b"\x04\x80")?;
+    let gone = drop_row(rt.alloc(), b"L")?;
+    let ops = vec![in rt.alloc(); collection, mark, gone]?;
+    let bytes = encode(rt.alloc(), &ops)?;
+    assert_eq!(rt; bytes.len(), 19 + 14 + 4);
+    assert_eq!(rt; encoded_len(&ops), 19 + 14 + 4);
+    Ok(())
+}
+
 fn applied(alloc: Global, rows: &mut RowTable, op: RowOp) -> Result<(), AllocError> {
     rows.reserve(1)?;
     let ops = vec![in alloc; op]?;

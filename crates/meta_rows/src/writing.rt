@@ -51,12 +51,33 @@ fn push_op(out: &mut Vec<u8>, op: &RowOp) -> Result<(), AllocError>
     }
 }
 
+fn op_len(op: &RowOp) -> usize
+    ensures { length (op_bytes op.now) < 2 ^ 64 → result ≡ length (op_bytes op.now) }
+{
+    match op {
+        RowOp::Set { key, value } => value.len().saturating_add(7).saturating_add(key.len()),
+        RowOp::Drop { key } => key.len().saturating_add(3),
+        RowOp::Flip { key, mask } => mask.len().saturating_add(7).saturating_add(key.len()),
+    }
+}
+
+/// How many bytes these operations are spelled in. Nothing is spelled for it.
+pub fn encoded_len(ops: &[RowOp]) -> usize
+    ensures { length (ops_bytes ops.now) < 2 ^ 64 → result ≡ length (ops_bytes ops.now) }
+{
+    let mut len: usize = 0;
+    for op in ops {
+        len = len.saturating_add(op_len(op));
+    }
+    len
+}
+
 /// The operations as bytes, one behind the other: the body of a record of the log. (Ceph: the contents of a RocksDB write batch.)
 pub fn encode(alloc: Global, ops: &[RowOp]) -> Result<Vec<u8>, AllocError>
     requires { AllFit ops.now }
     ensures { IfOk result (λ bytes. bytes.items ≡ ops_bytes ops.now) }
 {
-    let mut out = Vec::new(alloc);
+    let mut out = Vec::with_capacity(alloc, encoded_len(ops))?;
     for op in ops {
         push_op(&mut out, op)?;
     }

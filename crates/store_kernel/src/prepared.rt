@@ -1,11 +1,10 @@
 //! A transaction with all that it takes to accept it.
-ghost use Rattle.std.specs.Prelude.{◌≡◌, ℕ, ◌<◌, ◌^◌, length, IfOk};
-ghost use Rattle.meta_rows.specs.Spelling.{ops_bytes, AllFit};
+ghost use Rattle.std.specs.Prelude.{◌≡◌, ℕ, ◌<◌, ◌^◌, length};
+ghost use Rattle.meta_rows.specs.Spelling.{ops_bytes};
 ghost use Rattle.meta_log.specs.Records.{unit_count};
 
 use byte_maps::Items;
-use meta_rows::{RowOp, encode};
-use std::alloc::{AllocError, Global};
+use meta_rows::{RowOp, encoded_len};
 use store_steps::{Context, Plan};
 use unit_fields::CollName;
 use unit_fields::limits::UNIT_BYTES;
@@ -59,11 +58,9 @@ impl Prepared {
 }
 
 /// How many units a record of these operations alone takes, whatever its number is.
-pub fn units_needed(alloc: Global, ops: &[RowOp]) -> Result<u32, AllocError>
-    requires fit { AllFit ops.now }
-    requires short { length (ops_bytes ops.now) < 2 ^ 32 }
-    ensures { IfOk result (λ need. (number : ℕ) → need ≡ unit_count number ops.now) }
+pub fn units_needed(ops: &[RowOp]) -> u32
+    requires { length (ops_bytes ops.now) < 2 ^ 32 }
+    ensures { (number : ℕ) → result ≡ unit_count number ops.now }
 {
-    let body = encode(alloc, ops)?;
-    Ok(((HEAD_BYTES + body.len() + (UNIT_BYTES - 1)) / UNIT_BYTES) as u32)
+    ((HEAD_BYTES + encoded_len(ops) + (UNIT_BYTES - 1)) / UNIT_BYTES) as u32
 }

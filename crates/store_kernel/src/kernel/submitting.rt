@@ -60,9 +60,7 @@ impl<D: Device> Kernel<D> {
         ensures err { IfErr result (λ cause. IsCauseOf cause txn.now self.now.state) }
     {
         let plan = self.planned(alloc, txn)?;
-        let Ok(need) = units_needed(alloc, plan.ops.as_slice()) else {
-            return Err(Cause::Memory);
-        };
+        let need = units_needed(plan.ops.as_slice());
         let room = self.meta.room();
         if room < need {
             return Err(Cause::MetaFull { need, room });

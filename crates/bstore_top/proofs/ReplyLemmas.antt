@@ -1,7 +1,7 @@
 -- The lines of replies, as they are formatted and put one behind the other.
 use Rattle.std.proofs.Common.{◌≡◌, ℕ, ◌+◌, ◌<◌, List, [], ◌∷◌, ◌++◌, length, take, get_or, Result, Ok, Err, codes, ap, ◌∙◌}
 use Rattle.std.proofs.Common.{append_assoc, sym, refl, arith}
-use Rattle.std.specs.Prelude.{OnOk}
+use Rattle.std.specs.Prelude.{OnOk, Bool}
 use Rattle.std.specs.Fmt.{decimal}
 use Rattle.std.proofs.lemmas.List.{take_more, length-take-le}
 use Rattle.object_model.specs.declared.book.Entry.{Entry}
@@ -10,7 +10,7 @@ use Rattle.object_model.specs.declared.book.Book.{Book}
 use Rattle.bstore_top.specs.Texts.{as_text}
 use Rattle.bstore_top.specs.declared.replies.Kind.TheVariants.{Accepted, Refused, Read}
 use Rattle.bstore_top.specs.Hex.{hex_sum}
-use Rattle.bstore_top.specs.Replies.{csum_text, entry_line, entry_lines, answers_of, done_line}
+use Rattle.bstore_top.specs.Replies.{is_acked, csum_text, entry_line, entry_lines, answers_of, done_line}
 
 -- a reply with two numbers, as it is formatted
 formatted : (old first second : List ℕ) (a b : ℕ)
@@ -49,25 +49,27 @@ as_text-append (line ∷ lines) b = ap (λ (t : List ℕ). line ++ (10 ∷ t)) (
 
 -- one more entry at the end
 entry_lines-more : (commits : List Commit) (at n : ℕ) (xs : List Entry) (y : Entry) → n ≡ at + length xs
-    → entry_lines commits at (xs ++ (y ∷ [])) ≡ entry_lines commits at xs ++ (entry_line commits n y ∷ [])
-entry_lines-more commits at n [] y is = ap (λ (k : ℕ). entry_line commits k y ∷ []) (omega (arith, is))
-entry_lines-more commits at n (x ∷ xs) y is = ap (λ (ls : List (List ℕ)). entry_line commits at x ∷ ls)
+    → entry_lines commits at (xs ++ (y ∷ [])) ≡ entry_lines commits at xs ++ (entry_line (is_acked commits n) y ∷ [])
+entry_lines-more commits at n [] y is = ap (λ (k : ℕ). entry_line (is_acked commits k) y ∷ []) (omega (arith, is))
+entry_lines-more commits at n (x ∷ xs) y is = ap (λ (ls : List (List ℕ)). entry_line (is_acked commits at) x ∷ ls)
     (entry_lines-more commits (at + 1) n xs y (omega (arith, is)))
 
 -- the text of the first entries, and the line of the next
-pub next_line : (commits : List Commit) (entries : List Entry) (e : Entry) (place : ℕ) (before : List ℕ) → place < length entries
-    → e ≡ get_or entries place e →
-    (before ++ as_text (entry_lines commits 0 (take place entries))) ++ (entry_line commits place e ++ (10 ∷ [])) ≡ before
+pub next_line : (commits : List Commit) (entries : List Entry) (e : Entry) (place : ℕ) (acked : Bool) (before : List ℕ) → place < length entries
+    → e ≡ get_or entries place e → acked ≡ is_acked commits place →
+    (before ++ as_text (entry_lines commits 0 (take place entries))) ++ (entry_line acked e ++ (10 ∷ [])) ≡ before
     ++ as_text (entry_lines commits 0 (take (place + 1) entries))
-next_line commits entries e place before below is =
+next_line commits entries e place acked before below is acked_is =
     let front : List Entry = take place entries in
+    let line : List ℕ = entry_line (is_acked commits place) e in
     let one : take (place + 1) entries ≡ front ++ (e ∷ []) = take_more entries place e below ∙ ap (λ (x : Entry). front ++ (x ∷ [])) (sym is) in
-    let lines : entry_lines commits 0 (take (place + 1) entries) ≡ entry_lines commits 0 front ++ (entry_line commits place e ∷ []) =
+    let lines : entry_lines commits 0 (take (place + 1) entries) ≡ entry_lines commits 0 front ++ (line ∷ []) =
     ap (λ (l : List Entry). entry_lines commits 0 l) one
     ∙ entry_lines-more commits 0 place front e (omega (arith, length-take-le place entries (omega (arith, below)))) in
-    append_assoc before (as_text (entry_lines commits 0 front)) (entry_line commits place e ++ (10 ∷ []))
+    ap (λ (b : Bool). (before ++ as_text (entry_lines commits 0 front)) ++ (entry_line b e ++ (10 ∷ []))) acked_is
+    ∙ append_assoc before (as_text (entry_lines commits 0 front)) (line ++ (10 ∷ []))
     ∙ ap (λ (t : List ℕ). before ++ t) (
-    sym (as_text-append (entry_lines commits 0 front) (entry_line commits place e ∷ []))
+    sym (as_text-append (entry_lines commits 0 front) (line ∷ []))
     ∙ sym (ap (λ (ls : List (List ℕ)). as_text ls) lines))
 
 -- the last line, by its numbers

@@ -48,27 +48,27 @@ abbrev pub names_text : List (List ℕ) → List ℕ
 names_text [] = []
 names_text (name ∷ names) = 0x20 ∷ (escaped name ++ names_text names)
 
--- the reply to the command at this place of the book
-abbrev pub reply_of : List Commit → ℕ → Command → Answer → List ℕ
-reply_of commits place command answer.Accepted = if is_acked commits place then codes "ok" else codes "sent"
-reply_of commits place command (answer.Refused refusal) = refusal_text refusal
-reply_of commits place command (answer.NoSpace need free) = codes "E9 NoSpace need=" ++ decimal need ++ codes " free=" ++ decimal free
-reply_of commits place command (answer.MetaFull need room) = codes "E10 MetaFull need=" ++ decimal need ++ codes " room=" ++ decimal room
-reply_of commits place command (answer.Csum unit kept found) = csum_text unit kept found
-reply_of commits place command (answer.Bytes bytes) = bytes_word command ++ hex_or_dash bytes
-reply_of commits place command (answer.Size size) = codes "size " ++ decimal size
-reply_of commits place command (answer.Sum size crc) = codes "sum " ++ decimal size ++ codes " " ++ hex_sum crc
-reply_of commits place command (answer.Names names) = codes "objects" ++ names_text names
+-- the reply to a command whose commit is acknowledged, or not
+abbrev pub reply_of : Bool → Command → Answer → List ℕ
+reply_of acked command answer.Accepted = if acked then codes "ok" else codes "sent"
+reply_of acked command (answer.Refused refusal) = refusal_text refusal
+reply_of acked command (answer.NoSpace need free) = codes "E9 NoSpace need=" ++ decimal need ++ codes " free=" ++ decimal free
+reply_of acked command (answer.MetaFull need room) = codes "E10 MetaFull need=" ++ decimal need ++ codes " room=" ++ decimal room
+reply_of acked command (answer.Csum unit kept found) = csum_text unit kept found
+reply_of acked command (answer.Bytes bytes) = bytes_word command ++ hex_or_dash bytes
+reply_of acked command (answer.Size size) = codes "size " ++ decimal size
+reply_of acked command (answer.Sum size crc) = codes "sum " ++ decimal size ++ codes " " ++ hex_sum crc
+reply_of acked command (answer.Names names) = codes "objects" ++ names_text names
 
--- the client's number, the line of the command in its script, and the reply
-abbrev pub entry_line : List Commit → ℕ → Entry → List ℕ
-entry_line commits place e =
-    decimal e.client ++ codes ":" ++ decimal e.line ++ codes " " ++ reply_of commits place e.command e.answer
+-- the client's number, the line of the command in its script, and the reply: of an entry whose commit is acknowledged, or not
+abbrev pub entry_line : Bool → Entry → List ℕ
+entry_line acked e =
+    decimal e.client ++ codes ":" ++ decimal e.line ++ codes " " ++ reply_of acked e.command e.answer
 
 -- the lines of entries, of which the first is at this place
 abbrev pub entry_lines : List Commit → ℕ → List Entry → List (List ℕ)
 entry_lines commits place [] = []
-entry_lines commits place (e ∷ es) = entry_line commits place e ∷ entry_lines commits (place + 1) es
+entry_lines commits place (e ∷ es) = entry_line (is_acked commits place) e ∷ entry_lines commits (place + 1) es
 
 -- a transaction was accepted
 abbrev pub is_accepted : Answer → Bool

@@ -1,5 +1,5 @@
 //! The replies of `step`: a line for each entry of the book.
-ghost use Rattle.std.specs.Prelude.{◌≡◌, [], ◌∷◌, ◌++◌, IfOk, OnOk, string_bytes, decimal, codes};
+ghost use Rattle.std.specs.Prelude.{◌≡◌, ℕ, ◌<◌, [], ◌∷◌, ◌++◌, false, length, slice_index_or, IfOk, OnOk, string_bytes, decimal, codes};
 ghost use Rattle.bstore_top.specs.Texts.{as_text};
 ghost use Rattle.bstore_top.specs.Hex.{hex_or_dash, hex_sum};
 ghost use Rattle.bstore_top.specs.Replies.{refusal_text, is_acked, bytes_word, csum_text, names_text, reply_of, entry_line, entry_lines};
@@ -28,13 +28,19 @@ fn refusal_text(refusal: Refusal) -> &'static str
     }
 }
 
-/// Whether the commit of the entry at this place is acknowledged.
-fn is_acked(commits: &[Commit], place: usize) -> bool
-    ensures { result ≡ is_acked commits.now place }
+/// For each of so many entries, whether its commit is acknowledged: one pass over the commits.
+fn acked_entries(alloc: Global, commits: &[Commit], count: usize) -> Result<Vec<bool>, AllocError>
+    ensures count { IfOk result (λ flags. length flags.items ≡ count) }
+    ensures acked { IfOk result (λ flags. (place : ℕ) → place < count → slice_index_or flags.items place false ≡ is_acked commits.now place) }
 {
-    commits
-        .iter()
-        .any(|c| c.place as usize == place && c.acked_at.is_some())
+    let mut flags = vec![in alloc; false; count]?;
+    for commit in commits {
+        let place = commit.place as usize;
+        if place < count && commit.acked_at.is_some() {
+            flags[place] = true;
+        }
+    }
+    Ok(flags)
 }
 
 /// What stands before the bytes that a command has read.
@@ -89,17 +95,12 @@ fn push_names(text: &mut String, names: &[Bytes]) -> Result<(), AllocError>
     Ok(())
 }
 
-/// Adds the reply to the command at this place of the book.
-fn push_reply(
-    text: &mut String,
-    commits: &[Commit],
-    place: usize,
-    entry: &Entry,
-) -> Result<(), AllocError>
-    ensures { OnOk result (string_bytes text.new ≡ string_bytes text.old ++ reply_of commits.now place entry.now.command entry.now.answer) }
+/// Adds the reply to the entry's command, whose commit is acknowledged, or not.
+fn push_reply(text: &mut String, acked: bool, entry: &Entry) -> Result<(), AllocError>
+    ensures { OnOk result (string_bytes text.new ≡ string_bytes text.old ++ reply_of acked entry.now.command entry.now.answer) }
 {
     match &entry.answer {
-        Answer::Accepted if is_acked(commits, place) => text.push_str("ok"),
+        Answer::Accepted if acked => text.push_str("ok"),
         Answer::Accepted => text.push_str("sent"),
         Answer::Refused(refusal) => text.push_str(refusal_text(*refusal)),
         Answer::NoSpace { need, free } => write!(text, "E9 NoSpace need={need} free={free}"),
@@ -115,29 +116,26 @@ fn push_reply(
     }
 }
 
-/// Adds the line of the entry at this place.
-fn push_entry(
-    text: &mut String,
-    commits: &[Commit],
-    place: usize,
-    entry: &Entry,
-) -> Result<(), AllocError>
-    ensures { OnOk result (string_bytes text.new ≡ string_bytes text.old ++ (entry_line commits.now place entry.now ++ 10 ∷ [])) }
+/// Adds the line of an entry whose commit is acknowledged, or not.
+fn push_entry(text: &mut String, acked: bool, entry: &Entry) -> Result<(), AllocError>
+    ensures { OnOk result (string_bytes text.new ≡ string_bytes text.old ++ (entry_line acked entry.now ++ 10 ∷ [])) }
 {
     let client = entry.client;
     let line = entry.line;
     write!(text, "{client}:{line} ")?;
-    push_reply(text, commits, place, entry)?;
+    push_reply(text, acked, entry)?;
     text.push_str("\n")
 }
 
 /// Adds the lines of the book's entries. After an `Err` the text may have some of them already.
-pub fn push_replies(text: &mut String, book: &Book) -> Result<(), AllocError>
+pub fn push_replies(alloc: Global, text: &mut String, book: &Book) -> Result<(), AllocError>
     ensures { OnOk result (string_bytes text.new ≡ string_bytes text.old ++ as_text (entry_lines book.now.commits 0 book.now.entries)) }
 {
     let commits = book.commits.as_slice();
-    for (place, entry) in book.entries.as_slice().iter().enumerate() {
-        push_entry(text, commits, place, entry)?;
+    let entries = book.entries.as_slice();
+    let flags = acked_entries(alloc, commits, entries.len())?;
+    for (place, entry) in entries.iter().enumerate() {
+        push_entry(text, flags[place], entry)?;
     }
     Ok(())
 }

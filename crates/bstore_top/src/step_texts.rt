@@ -67,7 +67,7 @@ pub fn step_text(alloc: Global, book: &Book, end: &WorkEnd) -> Result<String, Al
     ensures { IfOk result (λ text. string_bytes text ≡ step_text book.now end.now) }
 {
     let mut text = String::new(alloc);
-    push_replies(&mut text, book)?;
+    push_replies(alloc, &mut text, book)?;
     let last = end_text(alloc, book, end)?;
     text.push_str(last.as_str())?;
     Ok(text)

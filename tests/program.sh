@@ -434,6 +434,14 @@ for ((i = 1; i <= 20; i++)); do
     [ "$status" = 0 ] && [ "$(tail -n 1 output)" = end ] && ! grep -q E14 output || killed=no
 done
 says 'step: runs that were killed' test "$killed" = yes
+
+# The same commands whole: a reply for each, and one page of each of the 50 objects, of 36000 - 2 - 2 * 16384 data units.
+run mkfs WHOLE --half 16384 --units 36000
+run step WHOLE --seed 1 long
+{ echo '0:1 ok'; for ((i = 0; i < 3000; i++)); do echo "0:$((2 * i + 2)) ok"; done; } >replies
+echo "done accepted=3001 refused=0 reads=0 commits=3001 free=$((36000 - 2 - 2 * 16384 - 50))" >>replies
+says 'step: 3001 replies' cmp -s output replies
+
 head -c 262144 /dev/zero >ZEROS
 run step ZEROS --seed 1 script
 says 'step: no store' ended 4 'mount NoSuper' 'stopped 4'

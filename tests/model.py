@@ -1,6 +1,6 @@
 #!/usr/bin/env python3
 """Runs random scripts by the built program on real files, and compares what it says and leaves with a second store that is written here
-from docs/formats.md alone: each reply, the last line, `dump`, and the device, read byte by byte. The device must have exactly the
+from the documents and shares nothing with the crates: each reply, the last line, `dump`, and the device, read byte by byte. The device must have exactly the
 objects and records of the model, each page must have its checksum, and the bitmap must have exactly the units that objects own.
 One run in seven is killed at some moment: then the device must be that of the model after some of the commands, from the first on.
 

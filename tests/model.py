@@ -1,8 +1,9 @@
 #!/usr/bin/env python3
-"""Runs random scripts by the built program on real files, and compares what it says and leaves with a second store that is written here
-from the documents and shares nothing with the crates: each reply, the last line, `dump`, and the device, read byte by byte. The device must have exactly the
-objects and records of the model, each page must have its checksum, and the bitmap must have exactly the units that objects own.
-One run in seven is killed at some moment: then the device must be that of the model after some of the commands, from the first on.
+"""Runs random scripts by the built program on real files, and compares what it says and leaves with a second store that is written
+here from the documents and shares nothing with the crates: each reply, the last line, `dump`, and the device, read byte by byte.
+The device must have exactly the objects and records of the model, each page must have its checksum, and the bitmap must have
+exactly the units that objects own. One run in seven is killed at some moment: then the device must be that of the model after
+some of the commands, from the first on.
 
 Usage: tests/model.py [ROUNDS] [SEED] [PROGRAM]. It ends with status 1 where something differs, and says in which round."""
 

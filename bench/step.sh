@@ -38,7 +38,8 @@ for ((turn = 1; turn <= turns; turn++)); do
   [ -z "$other" ] || [ $((turn % 2)) = 1 ] || steps "$other" other
   steps "$program" ours
   [ -z "$other" ] || [ $((turn % 2)) = 0 ] || steps "$other" other
-  echo "peer $("$made/loop" "$made/file" "$count") 0" >>"$made/times"
+  took=$("$made/loop" "$made/file" "$count")
+  echo "peer $took 0" >>"$made/times"
 done
 
 sort -k1,1 -k2,2n "$made/times" | awk -v n="$count" '

@@ -5,12 +5,13 @@ use Rattle.meta_rows.specs.Rows.{Rows, rows_after}
 use Rattle.meta_rows.specs.declared.row_op.RowOp.{RowOp}
 use Rattle.object_model.specs.Objects.{Object, Objects}
 use Rattle.row_format.specs.Keys.{of_object, coll_key, onode_key, attr_key, header_key, omap_key}
-use Rattle.row_format.specs.Extents.{Place}
+use Rattle.row_format.specs.Extents.{Place, own}
 use Rattle.row_format.specs.Row.{Row, onode, shard, row_key}
 use Rattle.row_format.proofs.KeyLemmas.{same_head}
-use Rattle.store_image.specs.Pages.{HasRow, IsPageAt}
+use Rattle.store_image.specs.Pages.{HasRow, PageUnit, IsPageAt, IsPageOn}
 use Rattle.store_image.specs.Owners.{Owner, page_of, Owns}
 use Rattle.store_image.specs.Stands.{IsPageSeen, page_bytes, IsObjectShape, IsShape, AreObjectBytes, ObjectsStand}
+use Rattle.store_image.proofs.PageUnits.{stands_still}
 use Rattle.bitmap_freelist.specs.Bitmap.{Units, AreFlips, IsOtherKey, AreAlikeButBits}
 use Rattle.bitmap_freelist.proofs.Turning.{leave_others}
 
@@ -64,9 +65,18 @@ alike_page rows other c o page place alike is = record {
   has_page = is.has_page;
 }
 
+-- which unit it stands on
+pub alike_page_on : (rows other : Rows) (c o : List ℕ) (page : ℕ) (on : PageUnit) → AreAlikeButBits rows other → IsPageOn rows c o page on
+    → IsPageOn other c o page on
+alike_page_on rows other c o page on alike is = record {
+  place = is.place;
+  at = alike_page rows other c o page is.place alike is.at;
+  stands = stands_still rows other is.place on is.stands;
+}
+
 -- an owner on the other side
 owns_there : (rows other : Rows) (owner : Owner) (unit : ℕ) → AreAlikeButBits rows other → Owns rows owner unit → Owns other owner unit
-owns_there rows other (page_of c o page) unit alike owns = (owns.0, alike_page rows other c o page owns.0 alike owns.1, owns.2)
+owns_there rows other (page_of c o page) unit alike owns = (owns.0, alike_page rows other c o page (own unit owns.0) alike owns.1)
 
 -- who owns a unit
 pub alike_owns : (rows other : Rows) (owner : Owner) (unit : ℕ) → AreAlikeButBits rows other → Owns rows owner unit ↔ Owns other owner unit
@@ -95,15 +105,15 @@ module _ (rows other : Rows) (alike : AreAlikeButBits rows other) where
   }
 
   -- a page that is seen
-  page_seen : (at : ℕ → List ℕ) (place : Place) (page : List ℕ) → IsPageSeen at rows place page → IsPageSeen at other place page
-  page_seen at place page is = record { seen = is.seen; kept = is.kept }
+  page_seen : (at : ℕ → List ℕ) (on : PageUnit) (page : List ℕ) → IsPageSeen at rows on page → IsPageSeen at other on page
+  page_seen at on page is = record { seen = is.seen; kept = is.kept }
 
   -- the bytes of one object
   object_bytes : (at : ℕ → List ℕ) (c o bytes : List ℕ) → AreObjectBytes at rows c o bytes → AreObjectBytes at other c o bytes
   object_bytes at c o bytes are = record {
-    mapped = λ page place is.
-        page_seen at place (page_bytes bytes page) (are.mapped page place (alike_page other rows c o page place (alike_back rows other alike) is));
-    holes = λ page hole. are.holes page (λ place is. hole place (alike_page rows other c o page place alike is));
+    mapped = λ page on is.
+        page_seen at on (page_bytes bytes page) (are.mapped page on (alike_page_on other rows c o page on (alike_back rows other alike) is));
+    holes = λ page hole. are.holes page (λ on is. hole on (alike_page_on rows other c o page on alike is));
   }
 
 -- what the rows stand for

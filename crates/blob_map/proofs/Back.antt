@@ -5,9 +5,9 @@ use Rattle.std.specs.List.{range_with_len, flat_map}
 use Rattle.std.proofs.lemmas.Bool.{cases_Bool}
 use Rattle.std.proofs.lemmas.Bool.Decides.{nat_tests}
 use Rattle.std.proofs.lemmas.List.{length_push, get_or_append_left, get_or_at, map-append}
-use Rattle.row_format.specs.Extents.{Extent, Body, private, Place, place_in, page_count, page_end}
-use Rattle.blob_map.specs.Pages.{first_unit, extent_pages}
-use Rattle.blob_map.specs.Normal.{single, follows, longer, more, grown, extents_of}
+use Rattle.row_format.specs.Extents.{Extent, Body, private, Place, own, place_in, page_count, page_end}
+use Rattle.blob_map.specs.Pages.{extent_pages}
+use Rattle.blob_map.specs.Normal.{alone, single, is_next, follows, longer, more, grown, extents_of}
 
 same_number : (a b : ℕ) → (a == b) ≡ true → a ≡ b
 same_number a b is = grind (arith, nat_tests, is)
@@ -23,39 +23,48 @@ both_second : (a b : Bool) → (a && b) ≡ true → b ≡ true
 both_second true b is = is
 both_second false b is = cc
 
+-- the place is the next behind those of a body
+abbrev pub IsNextPlace : Body → Place → Type 0
+IsNextPlace (private unit csums) (own at csum) = at ≡ unit + length csums
+
+next_means : (body : Body) (place : Place) → is_next body place ≡ true → IsNextPlace body place
+next_means (private unit csums) (own at csum) is = same_number at (unit + length csums) is
+
+is_next_holds : (body : Body) (place : Place) → IsNextPlace body place → is_next body place ≡ true
+is_next_holds (private unit csums) (own at csum) is = let e : at ≡ unit + length csums = is in grind (arith, nat_tests, e)
+
 -- what it is to follow
 pub record IsNext (e : Extent) (p : ℕ × Place) : Type 0 where
   pub few : page_count e.body < 256
   pub page : p.0 ≡ page_end e
-  pub unit : p.1.unit ≡ first_unit e.body + page_count e.body
+  pub place : IsNextPlace e.body p.1
 
 pub follows_means : (e : Extent) (p : ℕ × Place) → follows e p ≡ true → IsNext e p
 follows_means e p is =
     let rest = both_second (nat_lt (page_count e.body) 256) _ is in
     record {
-      few = below (page_count e.body) 256 (both_first _ (p.0 == page_end e && p.1.unit == first_unit e.body + page_count e.body) is);
-      page = same_number p.0 (page_end e) (both_first _ (p.1.unit == first_unit e.body + page_count e.body) rest);
-      unit = same_number p.1.unit (first_unit e.body + page_count e.body) (both_second (p.0 == page_end e) _ rest);
+      few = below (page_count e.body) 256 (both_first _ (p.0 == page_end e && is_next e.body p.1) is);
+      page = same_number p.0 (page_end e) (both_first _ (is_next e.body p.1) rest);
+      place = next_means e.body p.1 (both_second (p.0 == page_end e) _ rest);
     }
 
-tests_hold : (n m a b c d : ℕ) → n < m → a ≡ b → c ≡ d → (nat_lt n m && (a == b && c == d)) ≡ true
-tests_hold n m a b c d p q r = grind (arith, nat_tests)
+tests_hold : (n m a b : ℕ) (t : Bool) → n < m → a ≡ b → t ≡ true → (nat_lt n m && (a == b && t)) ≡ true
+tests_hold n m a b t p q r = ap (λ x. nat_lt n m && (a == b && x)) r ∙ grind (arith, nat_tests)
 
 pub next_follows : (e : Extent) (p : ℕ × Place) → IsNext e p → follows e p ≡ true
-next_follows e p is = tests_hold (page_count e.body) 256 p.0 (page_end e) p.1.unit (first_unit e.body + page_count e.body) is.few is.page is.unit
+next_follows e p is = tests_hold (page_count e.body) 256 p.0 (page_end e) (is_next e.body p.1) is.few is.page (is_next_holds e.body p.1 is.place)
 
 pub longer_by_one : (body : Body) (p : Place) → page_count (longer body p) ≡ page_count body + 1
-longer_by_one (private unit csums) p = length_push csums p.csum
+longer_by_one (private unit csums) (own at csum) = length_push csums csum
 
 -- the places before stay
 place_kept : (body : Body) (p : Place) (k : ℕ) → k < page_count body → place_in (longer body p) k ≡ place_in body k
-place_kept (private unit csums) p k lt = ap (λ c. record { unit = unit + k; csum = c }) (get_or_append_left csums (p.csum ∷ []) 0 k lt)
+place_kept (private unit csums) (own at csum) k lt = ap (λ c. own (unit + k) c) (get_or_append_left csums (csum ∷ []) 0 k lt)
 
 -- and the new one is last
-place_new : (body : Body) (p : Place) → p.unit ≡ first_unit body + page_count body → place_in (longer body p) (page_count body) ≡ p
-place_new (private unit csums) p is =
-    ap (λ c. record { unit = unit + length csums; csum = c }) (get_or_at csums p.csum [] 0 (length csums) refl)
-    ∙ ap (λ u. record { unit = u; csum = p.csum }) (sym is)
+place_new : (body : Body) (p : Place) → IsNextPlace body p → place_in (longer body p) (page_count body) ≡ p
+place_new (private unit csums) (own at csum) is =
+    ap (λ c. own (unit + length csums) c) (get_or_at csums csum [] 0 (length csums) refl) ∙ ap (λ u. own u csum) (sym is)
 
 range_push : (a n : ℕ) → range_with_len a (n + 1) ≡ range_with_len a n ++ (a + n) ∷ []
 range_push a n = let e : n + 1 ≡ suc n = omega arith in ap (range_with_len a) e ∙ pushed a n
@@ -79,14 +88,17 @@ pages_more e p next =
     ∙ ap (λ xs. xs ++ f (0 + count) ∷ []) (map_range_same f (λ k. (e.first + k, place_in e.body k)) 0 count
     (λ k _ lt. ap (λ q. (e.first + k, q)) (place_kept e.body p.1 k (omega (arith, lt)))))
     ∙ ap (λ n. extent_pages e ++ (e.first + n, place_in (longer e.body p.1) n) ∷ []) (let none : 0 + count ≡ count = omega arith in none)
-    ∙ ap (λ q. extent_pages e ++ (e.first + count, q) ∷ []) (place_new e.body p.1 next.unit)
+    ∙ ap (λ q. extent_pages e ++ (e.first + count, q) ∷ []) (place_new e.body p.1 next.place)
     ∙ ap (λ n. extent_pages e ++ (n, p.1) ∷ []) (sym next.page)
 
+single_pages : (page : ℕ) (place : Place) → extent_pages (single (page, place)) ≡ (page, place) ∷ []
+single_pages page (own at csum) =
+    let same_page : page + 0 ≡ page = omega arith in
+    let same_unit : at + 0 ≡ at = omega arith in
+    ap (λ n. (n, own (at + 0) csum) ∷ []) same_page ∙ ap (λ u. (page, own u csum) ∷ []) same_unit
+
 pages_single : (p : ℕ × Place) → extent_pages (single p) ≡ p ∷ []
-pages_single p =
-    let page : p.0 + 0 ≡ p.0 = omega arith in
-    let unit : p.1.unit + 0 ≡ p.1.unit = omega arith in
-    ap (λ n. (n, record { unit = p.1.unit + 0; csum = p.1.csum }) ∷ []) page ∙ ap (λ u. (p.0, record { unit = u; csum = p.1.csum }) ∷ []) unit
+pages_single p = single_pages p.0 p.1
 
 pub grown_back : (ps : List (ℕ × Place)) (e : Extent) → flat_map extent_pages (grown e ps) ≡ extent_pages e ++ ps
 grown_back [] e = refl

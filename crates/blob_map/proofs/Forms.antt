@@ -9,12 +9,12 @@ use Rattle.std.proofs.lemmas.Bool.{cases_Bool, cases_lt}
 use Rattle.number_map.proofs.Laws.{same}
 use Rattle.number_map.proofs.Places.{both_first, both_second}
 use Rattle.number_map.proofs.Search.{cmp_equal, cmp_less, cmp_greater, less_is}
-use Rattle.row_format.specs.Extents.{Extent, Body, private, Place, place_in, place_of, page_count, page_end, Ascend, FitsBody, FitsExtent}
-use Rattle.blob_map.specs.Pages.{PageMap, FitsPage, first_unit, extent_pages}
-use Rattle.blob_map.specs.Normal.{single, follows, longer, more, grown, extents_of, NoneJoins}
+use Rattle.row_format.specs.Extents.{Extent, Body, private, Place, own, place_in, place_of, page_count, page_end, Ascend, FitsBody, FitsExtent}
+use Rattle.blob_map.specs.Pages.{PageMap, FitsPlace, FitsPage, StandsWithin, first_unit, extent_pages}
+use Rattle.blob_map.specs.Normal.{alone, single, follows, longer, more, grown, extents_of, NoneJoins}
 use Rattle.blob_map.proofs.Lay.{page_at}
 use Rattle.blob_map.proofs.Places.{page_cases, place_here, place_behind}
-use Rattle.blob_map.proofs.Back.{follows_means, next_follows, longer_by_one, extents_back}
+use Rattle.blob_map.proofs.Back.{IsNextPlace, follows_means, next_follows, longer_by_one, extents_back}
 
 -- ---- they fit
 
@@ -22,15 +22,18 @@ fits_push : (csums : List ℕ) (csum : ℕ) → csum < 2 ^ 32 → AllByRecursion
 fits_push [] csum lt all = (lt, tt)
 fits_push (c ∷ csums) csum lt all = (all.0, fits_push csums csum lt all.1)
 
-pub fits_longer : (body : Body) (p : Place) → page_count body < 256 → p.csum < 2 ^ 32 → FitsBody body → FitsBody (longer body p)
-fits_longer (private unit csums) p few lt fits =
-    let n = longer_by_one (private unit csums) p in
-    (fits.0, omega (arith, n), omega (arith, n, few), fits_push csums p.csum lt fits.3)
+pub fits_longer : (body : Body) (p : Place) → page_count body < 256 → FitsPlace p → FitsBody body → FitsBody (longer body p)
+fits_longer (private unit csums) (own at csum) few place fits =
+    let n = longer_by_one (private unit csums) (own at csum) in
+    (fits.0, omega (arith, n), omega (arith, n, few), fits_push csums csum place.1 fits.3)
+
+fits_alone : (p : Place) → FitsPlace p → FitsBody (alone p)
+fits_alone (own unit csum) fits = (fits.0, omega arith, omega arith, (fits.1, tt))
 
 pub fits_single : (p : ℕ × Place) → FitsPage p → FitsExtent (single p)
-fits_single p fits = record { first = fits.page; body = (fits.unit, omega arith, omega arith, (fits.csum, tt)) }
+fits_single p fits = record { first = fits.page; body = fits_alone p.1 fits.place }
 
-pub fits_more : (e : Extent) (p : ℕ × Place) → p.1.csum < 2 ^ 32 → follows e p ≡ true → FitsExtent e → FitsExtent (more e p)
+pub fits_more : (e : Extent) (p : ℕ × Place) → FitsPlace p.1 → follows e p ≡ true → FitsExtent e → FitsExtent (more e p)
 fits_more e p lt is fits = record { first = fits.first; body = fits_longer e.body p.1 (follows_means e p is).few lt fits.body }
 
 -- what holds of the extent of one page, and is kept by a page more, holds of all extents
@@ -50,22 +53,39 @@ module _ (P : Extent → Type 0) (Q : ℕ × Place → Type 0) (of_single : (p :
   extents_all (p ∷ ps) all = grown_all ps (single p) (of_single p all.0) all.1
 
 pub extents_fit : (ps : List (ℕ × Place)) → AllByRecursion FitsPage ps → AllByRecursion FitsExtent (extents_of ps)
-extents_fit = extents_all FitsExtent FitsPage fits_single (λ e p is has fits. fits_more e p fits.csum is has)
+extents_fit = extents_all FitsExtent FitsPage fits_single (λ e p is has fits. fits_more e p fits.place is has)
+
+alone_count : (p : Place) → page_count (alone p) ≡ 1
+alone_count (own unit csum) = refl
 
 unit_kept : (body : Body) (p : Place) → first_unit (longer body p) ≡ first_unit body
-unit_kept (private unit csums) p = refl
+unit_kept (private unit csums) (own at csum) = refl
 
 -- the pages are below a limit
 pages_within : (limit : ℕ) (ps : List (ℕ × Place)) → AllByRecursion (λ p. p.0 < limit) ps → AllByRecursion (λ e. page_end e ≤ limit) (extents_of ps)
-pages_within limit = extents_all (λ e. page_end e ≤ limit) (λ p. p.0 < limit) (λ p lt. omega (arith, lt))
+pages_within limit = extents_all (λ e. page_end e ≤ limit) (λ p. p.0 < limit) (λ p lt. omega (arith, lt, alone_count p.1))
     (λ e p is le lt. omega (arith, lt, longer_by_one e.body p.1, (follows_means e p is).page))
 
 -- the units are in a range
-units_within : (low high : ℕ) (ps : List (ℕ × Place)) → AllByRecursion (λ p. (low ≤ p.1.unit) × (p.1.unit < high)) ps
+IsBodyWithin : ℕ → ℕ → Body → Type 0
+IsBodyWithin low high body = (low ≤ first_unit body) × (first_unit body + page_count body ≤ high)
+
+alone_within : (low high : ℕ) (p : Place) → StandsWithin low high p → IsBodyWithin low high (alone p)
+unfolding IsBodyWithin
+alone_within low high (own unit csum) has = (has.0, omega (arith, has.1))
+
+longer_within : (low high : ℕ) (body : Body) (p : Place) → IsNextPlace body p → IsBodyWithin low high body → StandsWithin low high p
+    → IsBodyWithin low high (longer body p)
+unfolding IsBodyWithin
+longer_within low high (private unit csums) (own at csum) next has lt =
+    (has.0, omega (arith, lt.1, longer_by_one (private unit csums) (own at csum), next))
+
+units_within : (low high : ℕ) (ps : List (ℕ × Place)) → AllByRecursion (λ p. StandsWithin low high p.1) ps
     → AllByRecursion (λ e. (low ≤ first_unit e.body) × (first_unit e.body + page_count e.body ≤ high)) (extents_of ps)
-units_within low high = extents_all (λ e. (low ≤ first_unit e.body) × (first_unit e.body + page_count e.body ≤ high)) (λ p. (low ≤ p.1.unit) × (p.1.unit < high))
-    (λ p has. (has.0, omega (arith, has.1)))
-    (λ e p is has lt. (omega (arith, has.0, unit_kept e.body p.1), omega (arith, lt.1, unit_kept e.body p.1, longer_by_one e.body p.1, (follows_means e p is).unit)))
+unfolding IsBodyWithin
+units_within low high = extents_all (λ e. (low ≤ first_unit e.body) × (first_unit e.body + page_count e.body ≤ high)) (λ p. StandsWithin low high p.1)
+    (λ p has. alone_within low high p.1 has)
+    (λ e p is has lt. longer_within low high e.body p.1 (follows_means e p is).place has lt)
 
 -- ---- they ascend
 
@@ -87,14 +107,16 @@ grown_ascend [] e n sorted from le = ((le, tt), (tt, tt))
 grown_ascend (p ∷ ps) e n sorted from le =
     let rest = both_second (below_all nat_cmp p.0 ps) _ sorted in
     let later = all_later p.0 ps (both_first _ (is_sorted nat_cmp ps) sorted) in
+    let one : page_end (single p) ≡ p.0 + 1 = omega (arith, alone_count p.1) in
+    let behind_one = subst (λ m. From m ps) (sym one) later in
     elim (cases_Bool (follows e p)) [
       | inl is ↦
           let end : page_end (more e p) ≡ p.0 + 1 = omega (arith, longer_by_one e.body p.1, (follows_means e p is).page) in
           subst (λ t. AllByRecursion (λ later. n ≤ later.first) (cond t (grown (more e p) ps) (e ∷ grown (single p) ps)) × Ascend (cond t (grown (more e p) ps) (e ∷ grown (single p) ps))) (sym is)
           (grown_ascend ps (more e p) n rest (subst (λ m. From m ps) (sym end) later) le)
       | inr is ↦
-          let some = grown_ascend ps (single p) n rest later (omega (arith, from.0, le)) in
-          let behind = grown_ascend ps (single p) (page_end e) rest later from.0 in
+          let some = grown_ascend ps (single p) n rest behind_one (omega (arith, from.0, le)) in
+          let behind = grown_ascend ps (single p) (page_end e) rest behind_one from.0 in
           subst (λ t. AllByRecursion (λ later. n ≤ later.first) (cond t (grown (more e p) ps) (e ∷ grown (single p) ps)) × Ascend (cond t (grown (more e p) ps) (e ∷ grown (single p) ps))) (sym is)
           ((le, some.0), (behind.0, behind.1))
     ]
@@ -102,7 +124,9 @@ grown_ascend (p ∷ ps) e n sorted from le =
 sorted_ascend : (ps : List (ℕ × Place)) → T (is_sorted nat_cmp ps) → Ascend (extents_of ps)
 sorted_ascend [] sorted = tt
 sorted_ascend (p ∷ ps) sorted =
-    (grown_ascend ps (single p) 0 (both_second (below_all nat_cmp p.0 ps) _ sorted) (all_later p.0 ps (both_first _ (is_sorted nat_cmp ps) sorted)) (omega arith)).1
+    let one : page_end (single p) ≡ p.0 + 1 = omega (arith, alone_count p.1) in
+    let later = subst (λ m. From m ps) (sym one) (all_later p.0 ps (both_first _ (is_sorted nat_cmp ps) sorted)) in
+    (grown_ascend ps (single p) 0 (both_second (below_all nat_cmp p.0 ps) _ sorted) later (omega arith)).1
 
 pub extents_ascend : (pages : PageMap) → Ascend (extents_of (entries pages))
 extents_ascend pages = sorted_ascend (entries pages) (entries_sorted pages)
@@ -126,10 +150,13 @@ grown_begins (p ∷ ps) e = elim (cases_Bool (follows e p)) [
   | inr is ↦ record { head = e; others = grown (single p) ps; are = ap (λ t. cond t (grown (more e p) ps) (e ∷ grown (single p) ps)) is; first = refl; unit = refl }
 ]
 
+next_alone : (body : Body) (p : Place) → first_unit (alone p) ≡ first_unit body + page_count body → IsNextPlace body p
+next_alone (private unit csums) (own at csum) is = is
+
 behind_joins : (e : Extent) (p : ℕ × Place) (es : List Extent) → follows e p ≡ false → BeginsAs (single p) es → NoneJoins es → NoneJoins (e ∷ es)
 behind_joins e p es apart b none =
     subst (λ l. NoneJoins (e ∷ l)) (sym b.are) (
-      (λ joins. absurd (let yes = next_follows e p (record { few = joins.few; page = sym b.first ∙ joins.page; unit = sym b.unit ∙ joins.unit }) in cc)),
+      (λ joins. absurd (let yes = next_follows e p (record { few = joins.few; page = sym b.first ∙ joins.page; place = next_alone e.body p.1 (sym b.unit ∙ joins.unit) }) in cc)),
       subst NoneJoins b.are none,
     )
 
@@ -226,9 +253,9 @@ module _ (pages : PageMap) where
       → AllByRecursion (λ e. page_end e ≤ limit) (extents_of (entries pages))
   extents_within limit has = pages_within limit (entries pages) (all_entries (λ p. p.0 < limit) has)
 
-  pub extents_on : (low high : ℕ) → ((page : ℕ) (place : Place) → finite.get pages page ≡ Some place → (low ≤ place.unit) × (place.unit < high))
+  pub extents_on : (low high : ℕ) → ((page : ℕ) (place : Place) → finite.get pages page ≡ Some place → StandsWithin low high place)
       → AllByRecursion (λ e. (low ≤ first_unit e.body) × (first_unit e.body + page_count e.body ≤ high)) (extents_of (entries pages))
-  extents_on low high has = units_within low high (entries pages) (all_entries (λ p. (low ≤ p.1.unit) × (p.1.unit < high)) has)
+  extents_on low high has = units_within low high (entries pages) (all_entries (λ p. StandsWithin low high p.1) has)
 
 pub one_map : (a b : PageMap) → extents_of (entries a) ≡ extents_of (entries b) → a ≡ b
 one_map a b is = same a b (λ q. sym (extents_places a q) ∙ ap (λ es. place_of es q) is ∙ extents_places b q)

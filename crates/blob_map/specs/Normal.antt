@@ -1,19 +1,27 @@
 -- Extents in normal form: the longest runs of consecutive pages on consecutive units, cut at 256 pages.
-use Rattle.std.specs.Prelude.{◌≡◌, ℕ, ◌+◌, ◌<◌, ◌==◌, ◌&&◌, nat_lt, Bool, if◌then◌else◌, List, [], ◌∷◌, ◌++◌, Option, Some, None}
-use Rattle.row_format.specs.Extents.{Extent, Body, private, Place, page_count, page_end}
+use Rattle.std.specs.Prelude.{◌≡◌, ℕ, ◌+◌, ◌<◌, ◌==◌, ◌&&◌, nat_lt, Bool, if◌then◌else◌, List, [], ◌∷◌, ◌++◌, length, Option, Some, None}
+use Rattle.row_format.specs.Extents.{Extent, Body, private, Place, own, page_count, page_end}
 use Rattle.blob_map.specs.Pages.{first_unit}
+
+-- one page at its place
+abbrev pub alone : Place → Body
+alone (own unit csum) = private unit (csum ∷ [])
 
 -- the extent of one page
 abbrev pub single : ℕ × Place → Extent
-single p = record { first = p.0; body = private p.1.unit (p.1.csum ∷ []) }
+single p = record { first = p.0; body = alone p.1 }
+
+-- whether a place is the next behind those of a body
+abbrev pub is_next : Body → Place → Bool
+is_next (private unit csums) (own at csum) = at == unit + length csums
 
 -- whether a page may be an extent's next
 abbrev pub follows : Extent → ℕ × Place → Bool
-follows e p = nat_lt (page_count e.body) 256 && (p.0 == page_end e && p.1.unit == first_unit e.body + page_count e.body)
+follows e p = nat_lt (page_count e.body) 256 && (p.0 == page_end e && is_next e.body p.1)
 
 -- a body with one page more
 abbrev pub longer : Body → Place → Body
-longer (private unit csums) place = private unit (csums ++ place.csum ∷ [])
+longer (private unit csums) (own at csum) = private unit (csums ++ csum ∷ [])
 
 -- an extent with one page more
 abbrev pub more : Extent → ℕ × Place → Extent

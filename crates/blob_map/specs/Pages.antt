@@ -1,18 +1,26 @@
 -- The page map of an object.
-use Rattle.std.specs.Prelude.{ℕ, ◌+◌, ◌<◌, ◌≤◌, ◌^◌, List, [], ◌∷◌, map, refl}
+use Rattle.std.specs.Prelude.{◌≡◌, ℕ, ◌+◌, ◌<◌, ◌≤◌, ◌^◌, List, [], ◌∷◌, map, refl}
 use Rattle.std.specs.List.{range_with_len}
 use Rattle.std.specs.Coded.{Coded, code_by, coded×, coded_ℕ}
 use Rattle.std.specs.FinMap as finite
 use Rattle.number_map.specs.NumberMap.{NumberMap}
-use Rattle.row_format.specs.Extents.{Extent, Body, private, Place, place_in, page_count, page_end}
+use Rattle.row_format.specs.Extents.{Extent, Body, private, Place, own, place_in, page_count, page_end}
 
 -- where each page stands that stands anywhere
 abbrev pub PageMap : Type 0
 PageMap = NumberMap Place
 
+-- the numbers of a place
+abbrev pub numbers_of : Place → ℕ × ℕ
+numbers_of (own unit csum) = (unit, csum)
+
+-- they tell it
+abbrev pub numbers_tell : (place : Place) → own (numbers_of place).0 (numbers_of place).1 ≡ place
+numbers_tell (own unit csum) = refl
+
 -- the code by which places are told apart
 abbrev pub coded_place : Coded Place
-coded_place = code_by (ℕ × ℕ) (coded× coded_ℕ coded_ℕ) (λ p. (p.unit, p.csum)) (λ p. record { unit = p.0; csum = p.1 }) (λ _. refl)
+coded_place = code_by (ℕ × ℕ) (coded× coded_ℕ coded_ℕ) numbers_of (λ p. own p.0 p.1) numbers_tell
 
 -- the unit of a run's first page
 abbrev pub first_unit : Body → ℕ
@@ -32,8 +40,15 @@ pub record HasNumbers (e : Extent) : Type 0 where
   pub pages : page_end e ≤ 2 ^ 32
   pub units : first_unit e.body + page_count e.body ≤ 2 ^ 32
 
--- a page whose number, unit and checksum fit the fields of an extent
+-- a place whose numbers fit the fields of an extent
+abbrev pub FitsPlace : Place → Type 0
+FitsPlace (own unit csum) = (unit < 2 ^ 32) × (csum < 2 ^ 32)
+
+-- so does a page with its place
 pub record FitsPage (p : ℕ × Place) : Type 0 where
   pub page : p.0 < 2 ^ 32
-  pub unit : p.1.unit < 2 ^ 32
-  pub csum : p.1.csum < 2 ^ 32
+  pub place : FitsPlace p.1
+
+-- a unit of the object's own is in this range
+abbrev pub StandsWithin : ℕ → ℕ → Place → Type 0
+StandsWithin low high (own unit csum) = (low ≤ unit) × (unit < high)

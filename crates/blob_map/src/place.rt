@@ -13,11 +13,12 @@ pub struct Place {
 }
 
 impl Model for Place {
-    ghost use Rattle.row_format.specs.Extents.{Place};
+    ghost use Rattle.row_format.specs.Extents.{Place, own};
+    ghost use Rattle.blob_map.specs.Pages.{numbers_of};
 
     ghost Value = { Place };
 
-    ghost view = { λ a. record { unit = a.unit; csum = a.csum } };
+    ghost view = { λ a. own a.unit a.csum };
 
-    ghost inverse = { λ p. record { unit = p.unit; csum = p.csum } };
+    ghost inverse = { λ p. record { unit = (numbers_of p).0; csum = (numbers_of p).1 } };
 }

@@ -22,6 +22,7 @@ use Rattle.unit_fields.specs.UnitSet.{Ascends}
 use Rattle.store_image.specs.BadRows.{NoBadRow}
 use Rattle.store_image.specs.Owners.{IsOwned, IsDataUnit}
 use Rattle.store_image.specs.Stands.{ObjectsStand}
+use Rattle.store_image.proofs.PageUnits.{page_owned}
 use Rattle.object_rows.specs.Planned.{IsPlanned, HoldsFresh}
 use Rattle.object_rows.proofs.Planned.{planned_stand, planned_fresh, planned_ascend}
 use Rattle.read_facts.specs.Alike.{IsAnsweredAlike}
@@ -163,7 +164,8 @@ module _ (opening : Objects) (s : State) (client line : ℕ) (change : Change) (
         now,
         subst (ObjectsStand now (rows_after s.view plan.ops)) (sym objects_are)
             (planned_stand s.log.sup s.view book.stand.0 now (replay opening (accepted s.book.entries)) on.after is_planned good
-            (plan_holds s.log.sup s.view change plan is_planned book.stand.0) (plan_spares s.log.sup s.view change plan is_planned book.stand.0)
+            (plan_holds s.log.sup s.view change plan is_planned book.stand.0)
+            (λ unit has. plan_spares s.log.sup s.view change plan is_planned book.stand.0 unit (page_owned s.view unit has))
             book.stand.1 on.effect),
       )
 

@@ -8,7 +8,7 @@ use Rattle.object_model.specs.declared.book.Entry.{Entry}
 use Rattle.object_model.specs.Objects.{Objects}
 use Rattle.object_model.specs.Effect.{is_same, replay}
 use Rattle.meta_rows.specs.Rows.{Rows, rows_after}
-use Rattle.store_image.specs.Owners.{IsOwned}
+use Rattle.store_image.specs.Pages.{HasPage}
 use Rattle.store_image.specs.Stands.{ObjectsStand}
 use Rattle.store_image.proofs.OwnedUnits.{objects_stand}
 use Rattle.store_steps.specs.declared.context.Context.{Context}
@@ -76,12 +76,12 @@ stand_one at rows x objects entries before after some fair = elim (fair_one x so
   | inr one ↦ subst (λ (xs : List Context). ObjectsStand at (rows_with rows xs) (replay objects (changes_of entries xs))) (sym one) after
 ]
 
--- over other bytes of units that nobody owns
+-- over other bytes of units on which no page stands
 pub stand_at : (at at' : ℕ → List ℕ) (rows : Rows) (contexts : List Context) (objects : Objects) (entries : List Entry)
-    → ((some : List Context) (unit : ℕ) → IsFairSelection contexts some → IsOwned (rows_with rows some) unit → at unit ≡ at' unit)
+    → ((some : List Context) (unit : ℕ) → IsFairSelection contexts some → HasPage (rows_with rows some) unit → at unit ≡ at' unit)
     → SelectionsStand at rows contexts objects entries → SelectionsStand at' rows contexts objects entries
 stand_at at at' rows contexts objects entries same stand some fair =
-    objects_stand at at' (rows_with rows some) (λ unit owned. same some unit fair owned) (replay objects (changes_of entries some)) (stand some fair)
+    objects_stand at at' (rows_with rows some) (λ unit has. same some unit fair has) (replay objects (changes_of entries some)) (stand some fair)
 
 -- for a context of the same operations and place
 pub stand_like : (at : ℕ → List ℕ) (rows : Rows) (x y : Context) (objects : Objects) (entries : List Entry) → y.ops ≡ x.ops → y.place ≡ x.place

@@ -15,9 +15,10 @@ use Rattle.object_model.specs.declared.command.Command.{Command}
 use Rattle.object_model.specs.declared.command.Command.TheVariants as ask
 use Rattle.meta_rows.specs.Rows.{Rows, rows_after}
 use Rattle.store_image.specs.BadRows.{NoBadRow}
-use Rattle.store_image.specs.Owners.{IsOwned}
+use Rattle.store_image.specs.Pages.{HasPage}
 use Rattle.store_image.specs.Stands.{ObjectsStand}
 use Rattle.store_image.proofs.OwnedUnits.{objects_stand}
+use Rattle.store_image.proofs.PageUnits.{page_owned}
 use Rattle.object_rows.specs.Planned.{IsPlanned}
 use Rattle.object_rows.proofs.Planned.{planned_stand}
 use Rattle.store_steps.specs.declared.context.Context.{Context}
@@ -85,7 +86,7 @@ module _ (opening : Objects) (s : State) (client line : ℕ) (change : Change) (
   effect = subst (λ (o : Objects). transaction_effect change o ≡ Ok on.after) (sym before_is) on.effect
 
   rows_stand : ObjectsStand (last_at h) s.log.rows before
-  rows_stand = objects_stand (held_or_last h []) (last_at h) s.log.rows (λ unit owned. refl) before
+  rows_stand = objects_stand (held_or_last h []) (last_at h) s.log.rows (λ unit has. refl) before
       (none_selected (held_or_last h []) s.log.rows [] before es stand)
 
   -- the applied commits are of earlier entries
@@ -99,8 +100,9 @@ module _ (opening : Objects) (s : State) (client line : ℕ) (change : Change) (
   pub accept_stand : ContextsStand opening (accepted_with client line change plan t) h
   accept_stand =
       let rows : Rows = s.log.rows in
-      let spares : (unit : ℕ) → IsOwned rows unit → now unit ≡ last_at h unit = plan_spares s.log.sup rows change plan is_planned (last_at h) in
-      let front : ObjectsStand now rows before = objects_stand (last_at h) now rows (λ unit owned. sym (spares unit owned)) before rows_stand in
+      let spares : (unit : ℕ) → HasPage rows unit → now unit ≡ last_at h unit =
+      λ unit has. plan_spares s.log.sup rows change plan is_planned (last_at h) unit (page_owned rows unit has) in
+      let front : ObjectsStand now rows before = objects_stand (last_at h) now rows (λ unit has. sym (spares unit has)) before rows_stand in
       let all : ObjectsStand now (rows_after rows plan.ops) on.after =
       planned_stand s.log.sup rows (last_at h) now before on.after is_planned good (plan_holds s.log.sup rows change plan is_planned (last_at h))
       spares rows_stand effect in

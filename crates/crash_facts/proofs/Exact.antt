@@ -32,16 +32,11 @@ use Rattle.crash_facts.specs.Store.{contents_at, SelectionsAreExact}
 
 -- ---- rows
 
--- rows that are exact as others are, of which just the units leaked in the image are leaked
+-- rows that are exact as others are, of which no units are leaked but those leaked in the image
 pub exact_over : (before : List ℕ) (rows later : Rows) → IsExactBut (IsLeakedIn before) rows → IsExactAs rows later
     → IsExactBut (IsLeakedIn before) later
 exact_over before rows later exact as_rows =
-    renamed (IsLeaked rows) (IsLeakedIn before) later (λ unit _ was. is_left_out (IsLeakedIn before) rows unit exact was)
-    (λ unit is. record {
-      is_unit = is.leaked.is_unit;
-      marked = exact.leaked_marked unit is;
-      unowned = exact.leaked_free unit is;
-    }) as_rows
+    renamed (IsLeaked rows) (IsLeakedIn before) later (λ unit _ was. is_left_out (IsLeakedIn before) rows unit exact was) as_rows
 
 -- ---- selections
 

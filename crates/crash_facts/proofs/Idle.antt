@@ -38,7 +38,7 @@ idle_objects base opening s d h idle known =
     subst (λ (xs : List Context). SelectionsStand (held_or_last h xs) s.log.rows xs (replay opening (applied_changes s)) s.book.entries)
     idle.uncommitted known.stand in
     let stand : ObjectsStand (last_at h) s.log.rows (replay opening (applied_changes s)) =
-    objects_stand (held_or_last h []) (last_at h) s.log.rows (λ unit owned. refl) (replay opening (applied_changes s))
+    objects_stand (held_or_last h []) (last_at h) s.log.rows (λ unit has. refl) (replay opening (applied_changes s))
     (none_selected (held_or_last h []) s.log.rows [] (replay opening (applied_changes s)) s.book.entries before) in
     let all : applied_changes s ≡ committed s.book.entries cs =
     ap (λ (b : Option Batch). committed s.book.entries (take (length cs - option_map_or (λ (c : Batch). length c.contexts) b 0) cs)) idle.batch

@@ -27,6 +27,7 @@ use Rattle.store_image.specs.Owners.{IsOwned}
 use Rattle.store_image.specs.Exact.{IsLeakedIn}
 use Rattle.store_image.specs.Durability.{LeavesPrefix}
 use Rattle.store_image.proofs.OwnedUnits.{objects_stand}
+use Rattle.store_image.proofs.PageUnits.{page_owned}
 use Rattle.log_facts.specs.Flushing.{flushed}
 use Rattle.log_facts.specs.Soundness.{SoundFor}
 use Rattle.log_facts.proofs.Cuts.{cut_stands}
@@ -91,10 +92,12 @@ module _ (base : ℕ) (opening : Objects) (s : State) (d : Disk) (h : History) (
   rows_sound = record {
     good = (kept.up up).committed.good;
     stand = objects_stand (held_or_last h (uncommitted s)) (last_at h) s.log.rows
-        (λ unit owned. not_fresh (all_fresh (uncommitted s)) (last_at h) unit (not_taken unit owned))
+        (λ unit has. not_fresh (all_fresh (uncommitted s)) (last_at h) unit (not_taken unit (page_owned s.log.rows unit has)))
         (replay opening (applied_changes s))
         (none_selected (held_or_last h (uncommitted s)) s.log.rows (uncommitted s) (replay opening (applied_changes s)) s.book.entries known.stand);
-    clean = λ unit owned. known.units.clean unit
+    clean = λ unit has.
+        let owned = page_owned s.log.rows unit has in
+        known.units.clean unit
         (data_elsewhere s.log.sup unit (owned_on_data s.log.sup s.log.rows unit (kept.up up).committed.good owned))
         (all_given (λ f. f.unit ≢ unit) (uncommitted s) (not_taken unit owned));
   }
@@ -122,10 +125,11 @@ given_sound h s x before is stand =
     subst (λ (l : List RowOp). SoundFor h s.log.sup (rows_after s.log.rows l) later) (sym (append-nil x.ops)) (record {
       good = is.good;
       stand = objects_stand (held_or_last h (x ∷ [])) (last_at h) (rows_after s.log.rows x.ops)
-          (λ unit owned. all_held (x.fresh ++ []) (last_at h) unit held) later
+          (λ unit has. all_held (x.fresh ++ []) (last_at h) unit held) later
           (all_selected (held_or_last h (x ∷ [])) s.log.rows (x ∷ []) before s.book.entries stand);
-      clean = λ unit owned. clean unit
-          (data_elsewhere s.log.sup unit (owned_on_data s.log.sup (rows_after s.log.rows x.ops) unit is.good owned)) tt;
+      clean = λ unit has.
+          let owned = page_owned (rows_after s.log.rows x.ops) unit has in
+          clean unit (data_elsewhere s.log.sup unit (owned_on_data s.log.sup (rows_after s.log.rows x.ops) unit is.good owned)) tt;
     })
 
 -- the rows with it are sound for the objects after all commits

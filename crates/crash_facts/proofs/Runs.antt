@@ -247,7 +247,7 @@ mounted_durable base opening f space events d h told none is =
       units = opened_known base f is.recs space events d h told none is.answered is.clean is.slots is.half;
       book = book_opened opening f space events (last_at h, is.stand);
       stand = stand_none (held_or_last h []) f.rows opening []
-          (objects_stand (last_at h) (held_or_last h []) f.rows (λ unit owned. refl) opening is.stand);
+          (objects_stand (last_at h) (held_or_last h []) f.rows (λ unit has. refl) opening is.stand);
       exact = exact_none (IsLeakedIn (contents_at base h)) f.rows is.exact;
     } in
     record {

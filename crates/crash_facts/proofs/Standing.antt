@@ -16,9 +16,11 @@ use Rattle.meta_rows.specs.declared.row_op.RowOp.{RowOp}
 use Rattle.meta_rows.specs.Rows.{Rows, rows_after}
 use Rattle.meta_log.specs.declared.slot.Super.{Super}
 use Rattle.store_image.specs.BadRows.{NoBadRow}
-use Rattle.store_image.specs.Owners.{IsOwned, IsDataUnit}
+use Rattle.store_image.specs.Pages.{HasPage}
+use Rattle.store_image.specs.Owners.{IsDataUnit}
 use Rattle.store_image.specs.Stands.{ObjectsStand}
 use Rattle.store_image.proofs.OwnedUnits.{objects_stand}
+use Rattle.store_image.proofs.PageUnits.{page_owned}
 use Rattle.store_steps.specs.declared.context.Context.{Context}
 use Rattle.store_steps.specs.declared.context.FreshUnit.{FreshUnit}
 use Rattle.store_steps.specs.State.{Batch, State}
@@ -42,11 +44,11 @@ use Rattle.unit_facts.proofs.Moves.{flushed_batch}
 use Rattle.crash_facts.specs.Store.{ContextsStand}
 use Rattle.crash_facts.proofs.Bytes.{with_same, all_held, held_quiet, held_over}
 
--- ---- a context with the same operations, over bytes that are the same for owned units
+-- ---- a context with the same operations, over bytes that are the same for units on which pages stand
 
 pub same_stand : (at at' : ℕ → List ℕ) (rows : Rows) (x y : Context) (objects objects' : Objects) (entries : List Entry)
     → x.ops ≡ y.ops → x.place ≡ y.place → objects ≡ objects'
-    → ((unit : ℕ) → IsOwned rows unit → at unit ≡ at' unit) → ((unit : ℕ) → IsOwned (rows_after rows x.ops) unit → at unit ≡ at' unit)
+    → ((unit : ℕ) → HasPage rows unit → at unit ≡ at' unit) → ((unit : ℕ) → HasPage (rows_after rows x.ops) unit → at unit ≡ at' unit)
     → SelectionsStand at rows (x ∷ []) objects entries → SelectionsStand at' rows (y ∷ []) objects' entries
 same_stand at at' rows x y objects objects' entries ops place same before after stand =
     let none : ObjectsStand at' rows objects' =
@@ -68,7 +70,7 @@ pub quiet_stand : (h : History) (e : Event) (rows : Rows) (x y : Context) (objec
     → SelectionsStand (held_or_last (with_event h e) (y ∷ [])) rows (y ∷ []) objects entries
 quiet_stand h e rows x y objects entries none ops place fresh stand =
     same_stand (held_or_last h (x ∷ [])) (held_or_last (with_event h e) (y ∷ [])) rows x y objects objects entries ops place refl
-    (λ unit owned. same unit) (λ unit owned. same unit) stand
+    (λ unit has. same unit) (λ unit has. same unit) stand
   where
     same : (unit : ℕ) → held_or_last h (x ∷ []) unit ≡ held_or_last (with_event h e) (y ∷ []) unit
     same unit = held_quiet h e (x ∷ []) unit none ∙ ap (λ (fs : List FreshUnit). bytes_with (fs ++ []) (last_at (with_event h e)) unit) fresh
@@ -82,7 +84,7 @@ pub data_stand : (h : History) (n : Unsent) (rows : Rows) (x : Context) (objects
 data_stand h n rows x objects entries fits run fit stand =
     let y : Context = given_more (length (unsent_units n)) x in
     same_stand (held_or_last h (x ∷ [])) (held_or_last (with_event h (run_write n)) (y ∷ [])) rows x y
-    objects objects entries refl refl refl (λ unit owned. same unit) (λ unit owned. same unit) stand
+    objects objects entries refl refl refl (λ unit has. same unit) (λ unit has. same unit) stand
   where
     -- it writes none but units of the context
     spared : (unit : ℕ) → AllByRecursion (λ f. f.unit ≢ unit) (x.fresh ++ []) → ¬ WritesUnit unit (run_write n)
@@ -101,8 +103,8 @@ pub log_stand : (h : History) (e : Event) (sup : Super) (rows : Rows) (x : Conte
     → SelectionsStand (held_or_last (with_event h e) (x ∷ [])) rows (x ∷ []) objects entries
 log_stand h e sup rows x objects entries committed good spared stand =
     same_stand (held_or_last h (x ∷ [])) (held_or_last (with_event h e) (x ∷ [])) rows x x objects objects entries refl refl refl
-    (λ unit owned. same unit (owned_on_data sup rows unit committed owned))
-    (λ unit owned. same unit (owned_on_data sup (rows_after rows x.ops) unit good owned)) stand
+    (λ unit has. same unit (owned_on_data sup rows unit committed (page_owned rows unit has)))
+    (λ unit has. same unit (owned_on_data sup (rows_after rows x.ops) unit good (page_owned (rows_after rows x.ops) unit has))) stand
   where
     same : (unit : ℕ) → IsDataUnit sup unit → held_or_last h (x ∷ []) unit ≡ held_or_last (with_event h e) (x ∷ []) unit
     same unit is = with_same (x.fresh ++ []) (last_at h) (last_at (with_event h e)) unit (spared unit is)
@@ -123,7 +125,7 @@ commit_stand opening s x pieces d h base written units book stand =
     let held : HeldBytesAreLast h (x.fresh ++ []) = subst (HeldBytesAreLast h) given units.held in
     let there : ObjectsStand (held_or_last h []) (rows_after s.log.rows x.ops) (replay before (changes_of s.book.entries (x ∷ []))) =
     objects_stand (held_or_last h (x ∷ [])) (held_or_last h []) (rows_after s.log.rows x.ops)
-    (λ unit owned. all_held (x.fresh ++ []) (last_at h) unit held) (replay before (changes_of s.book.entries (x ∷ []))) all in
+    (λ unit has. all_held (x.fresh ++ []) (last_at h) unit held) (replay before (changes_of s.book.entries (x ∷ []))) all in
     let by_ops : ObjectsStand (held_or_last h []) (rows_after s.log.rows (x.ops ++ [])) (replay before (changes_of s.book.entries (x ∷ []))) =
     subst (λ (l : List RowOp). ObjectsStand (held_or_last h []) (rows_after s.log.rows l) (replay before (changes_of s.book.entries (x ∷ []))))
     (sym (append-nil x.ops)) there in

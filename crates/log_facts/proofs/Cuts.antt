@@ -35,7 +35,7 @@ sound_image h s rows objects image sound is active read = record {
   rows = rows;
   read = read;
   good = sound.good;
-  stand = objects_stand (last_at h) (λ unit. unit_at unit image) rows (λ unit owned. sym (is.clean unit (sound.clean unit owned))) objects sound.stand;
+  stand = objects_stand (last_at h) (λ unit. unit_at unit image) rows (λ unit has. sym (is.clean unit (sound.clean unit has))) objects sound.stand;
 }
 
 -- an image that has rows whose bitmap is as exact as that of the contents before

@@ -7,11 +7,11 @@ use Rattle.object_model.specs.Objects.{Objects}
 use Rattle.meta_rows.specs.Rows.{Rows}
 use Rattle.meta_log.specs.declared.slot.Super.{Super}
 use Rattle.store_image.specs.BadRows.{NoBadRow}
-use Rattle.store_image.specs.Owners.{IsOwned}
+use Rattle.store_image.specs.Pages.{HasPage}
 use Rattle.store_image.specs.Stands.{ObjectsStand}
 
--- The rows are good, they and the bytes last written stand for the objects, and no owned unit is dirty.
+-- The rows are good, they and the bytes last written stand for the objects, and no unit on which a page stands is dirty.
 pub record SoundFor (h : History) (s : Super) (rows : Rows) (objects : Objects) : Type 0 where
   pub good : NoBadRow s rows
   pub stand : ObjectsStand (last_at h) rows objects
-  pub clean : (unit : ℕ) → IsOwned rows unit → IsClean h.log unit
+  pub clean : (unit : ℕ) → HasPage rows unit → IsClean h.log unit

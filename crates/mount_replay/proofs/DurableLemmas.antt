@@ -27,6 +27,7 @@ use Rattle.store_image.specs.Durability.{LeavesPrefix, EachCutStands}
 use Rattle.store_image.proofs.ExactLemmas.{as_image, stays_by_rows}
 use Rattle.store_image.proofs.OneObjects.{same_rows}
 use Rattle.store_image.proofs.OwnedUnits.{objects_stand}
+use Rattle.store_image.proofs.PageUnits.{page_owned}
 use Rattle.store_image.proofs.StartLemmas.{start_is_durable}
 use Rattle.log_facts.specs.Flushing.{WritesNoneOf}
 use Rattle.log_facts.specs.SlotFacts.{SlotsStand}
@@ -121,9 +122,9 @@ module _ (f : Found) (recs : List (List RowOp)) (objects : Objects) where
         good = stands.good;
         sound = record {
           good = stands.sound.good;
-          stand = objects_stand (last_at h) (last_at (with_event h event)) f.rows (λ unit owned. sym (last_push h event unit inside (spared unit owned)))
+          stand = objects_stand (last_at h) (last_at (with_event h event)) f.rows (λ unit has. sym (last_push h event unit inside (spared unit (page_owned f.rows unit has))))
               objects stands.sound.stand;
-          clean = λ unit owned. clean_push h.log event unit (stands.sound.clean unit owned) (spared unit owned);
+          clean = λ unit has. clean_push h.log event unit (stands.sound.clean unit has) (spared unit (page_owned f.rows unit has));
         };
       }
 
@@ -280,7 +281,7 @@ module _ (f : Found) (h : History) (objects : Objects) (clean : IsAllClean h) (w
     slots = fresh_slots h f.sup clean found.active;
     records = records_found;
     good = good;
-    sound = record { good = good; stand = objects_found; clean = λ unit owned. clean unit };
+    sound = record { good = good; stand = objects_found; clean = λ unit has. clean unit };
   }
 
   began_here : BeganWith f (length h.log) h

@@ -11,6 +11,7 @@ use Rattle.object_model.specs.declared.command.Command.TheVariants as ask
 use Rattle.object_model.specs.declared.command.Answer.{Answer}
 use Rattle.object_model.specs.declared.command.Answer.TheVariants as answer
 use Rattle.meta_rows.specs.Rows.{Rows}
+use Rattle.row_format.specs.Extents.{own}
 use Rattle.row_format.specs.Keys.{coll_key, onode_key}
 use Rattle.row_format.specs.Row.{onode}
 use Rattle.store_image.specs.Pages.{HasKey, HasRow}
@@ -75,8 +76,9 @@ module _ (d : Disk) (rows : Rows) (c o : List ℕ) (size : ℕ) (pages : PageMap
   can_read = record {
     idle = can.idle;
     units_most = omega (arith, can.units, can.limits.units_most);
-    inside = λ page place at.
-        omega (arith, can.units, (good_page can.sup rows c o can.good size page place has ((state.are_pages page place).0 at)).on_data.1);
+    inside = λ page unit csum at.
+        let good = good_page can.sup rows c o can.good size page (own unit csum) has ((state.are_pages page (own unit csum)).0 at) in
+        omega (arith, can.units, good.on_data.1);
   }
 
   pub size_most : size ≤ object_limit

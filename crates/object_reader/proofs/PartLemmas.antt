@@ -11,15 +11,16 @@ use Rattle.block_device.specs.Log.{last, HasNoBadDone}
 use Rattle.block_device.specs.Disk.{Disk, History, HasRead, IsApart, IsNotInFlight}
 use Rattle.block_device.specs.Facts.{last_at}
 use Rattle.meta_rows.specs.Rows.{Rows}
-use Rattle.row_format.specs.Extents.{Place}
+use Rattle.row_format.specs.Extents.{Place, own}
 use Rattle.blob_map.specs.Pages.{PageMap}
+use Rattle.store_image.proofs.PageUnits.{on_own}
 use Rattle.object_rows.specs.Maps.{IsMapOf}
 use Rattle.read_facts.specs.declared.view.BadSum.{BadSum}
 use Rattle.read_facts.specs.PageReads.{IsHeldAt, IsGoodPage, hole, mapped, AreGoodPages, IsFirstBad}
 use Rattle.read_facts.proofs.Pages.{good_appended, none_good, bad_behind_good}
 use Rattle.object_reader.specs.declared.parts.PartFail.{PartFail}
 use Rattle.object_reader.specs.declared.parts.PartFail.TheVariants as why
-use Rattle.object_reader.specs.Parts.{CanRead, StandsOn, AreHoles, AreOnUnits, IsChecked, AreChecked, IsMismatch, GivesPages, GivesBad, IsPartFail}
+use Rattle.object_reader.specs.Parts.{CanRead, IsOnUnit, AreHoles, AreOnUnits, IsChecked, AreChecked, IsMismatch, GivesPages, GivesBad, IsPartFail}
 
 -- what holds of number 0 holds of each below 1
 pub each_of_one : (P : ℕ → Type 0) → P 0 → (i : ℕ) → i < 1 → P i
@@ -43,23 +44,22 @@ pub hole_more : (pages : PageMap) (first n : ℕ) → AreHoles pages first n →
 hole_more pages first n are is = each_and_next (λ i. finite.get pages (first + i) ≡ None) n are is
 
 -- of a run of units the first is one
-pub one_unit : (pages : PageMap) (first at : ℕ) → StandsOn pages first at → AreOnUnits pages first at 1
+pub one_unit : (pages : PageMap) (first at : ℕ) → IsOnUnit pages first at → AreOnUnits pages first at 1
 one_unit pages first at is =
     let page : first ≡ first + 0 = omega arith in
     let unit : at ≡ at + 0 = omega arith in
-    each_of_one (λ i. StandsOn pages (first + i) (at + i)) (subst (λ (u : ℕ). StandsOn pages (first + 0) u) unit
-    (subst (λ (p : ℕ). StandsOn pages p at) page is))
+    each_of_one (λ i. IsOnUnit pages (first + i) (at + i)) (subst (λ (u : ℕ). IsOnUnit pages (first + 0) u) unit
+    (subst (λ (p : ℕ). IsOnUnit pages p at) page is))
 
 -- one unit more
-pub unit_more : (pages : PageMap) (first at n : ℕ) → AreOnUnits pages first at n → StandsOn pages (first + n) (at + n) → AreOnUnits pages first
+pub unit_more : (pages : PageMap) (first at n : ℕ) → AreOnUnits pages first at n → IsOnUnit pages (first + n) (at + n) → AreOnUnits pages first
     at (n + 1)
-unit_more pages first at n are is = each_and_next (λ i. StandsOn pages (first + i) (at + i)) n are is
+unit_more pages first at n are is = each_and_next (λ i. IsOnUnit pages (first + i) (at + i)) n are is
 
 -- where a page stands
-pub stands_where : (pages : PageMap) (page unit : ℕ) (place : Place) → finite.get pages page ≡ Some place → unit ≡ place.unit → StandsOn pages
-    page unit
-stands_where pages page unit place is same =
-    (place.csum, subst (λ (u : ℕ). finite.get pages page ≡ Some (record { unit = u; csum = place.csum })) (sym same) is)
+pub stands_where : (pages : PageMap) (page unit at csum : ℕ) → finite.get pages page ≡ Some (own at csum) → unit ≡ at → IsOnUnit pages page unit
+stands_where pages page unit at csum is same =
+    (csum, subst (λ (u : ℕ). finite.get pages page ≡ Some (own u csum)) (sym same) is)
 
 -- one page more is checked
 pub checked_more : (pages : PageMap) (first n : ℕ) (bytes page : List ℕ) → AreChecked pages first n bytes → page ≡ unit_at n bytes
@@ -72,8 +72,7 @@ pub run_inside : (d : Disk) (pages : PageMap) (first at count : ℕ) → CanRead
     → at + count ≤ d.units
 run_inside d pages first at count can on some =
     let last = on (count - 1) (omega (arith, some)) in
-    let place : Place = record { unit = at + (count - 1); csum = last.0 } in
-    let below : at + (count - 1) < d.units = can.inside (first + (count - 1)) place last.1 in
+    let below : at + (count - 1) < d.units = can.inside (first + (count - 1)) (at + (count - 1)) last.0 last.1 in
     omega (arith, below, some)
 
 -- nothing is in flight there
@@ -96,8 +95,8 @@ good_unit : (d : Disk) (pages : PageMap) (first at count i : ℕ) (bytes : List 
     → IsGoodPage d rows c o (first + i) (unit_at i bytes)
 good_unit d pages first at count i bytes rows c o on read is lt checked =
     let stand = on i lt in
-    let place : Place = record { unit = at + i; csum = stand.0 } in
-    mapped place ((is (first + i) place).0 stand.1) (held d at count i bytes read lt) (checked place stand.1)
+    let there = on_own rows c o (first + i) (at + i) stand.0 ((is (first + i) (own (at + i) stand.0)).0 stand.1) in
+    mapped (record { unit = at + i; csum = stand.0 }) there (held d at count i bytes read lt) (checked (at + i) stand.0 stand.1)
 
 -- pages on consecutive units that were read, with the checksums that are kept for them, are good
 pub good_units : (d : Disk) (pages : PageMap) (first at count : ℕ) (bytes : List ℕ) → AreOnUnits pages first at count → HasRead d at count bytes
@@ -124,15 +123,15 @@ good_front d pages first at count n bytes rows c o on read is lt checked = recor
       (good_unit d pages first at count i bytes rows c o on read is (omega (arith, below, lt)) (checked i below));
 }
 
-same_place : (unit csum : ℕ) (place : Place) → Some (record { unit = unit; csum = csum }) ≡ Some place → unit ≡ place.unit
-same_place unit csum place is = cc
+same_unit : (unit csum at kept : ℕ) → Some (own unit csum) ≡ Some (own at kept) → unit ≡ at
+same_unit unit csum at kept is = cc
 
 -- the first mismatch of pages that were read is the first bad page
 pub bad_unit : (d : Disk) (pages : PageMap) (first at count : ℕ) (bytes : List ℕ) (bad : BadSum) → AreOnUnits pages first at count
     → HasRead d at count bytes → IsMismatch pages first count bytes bad → GivesBad d pages first count bad
 bad_unit d pages first at count bytes bad on read m rows c o is =
     let stand = on m.index m.within in
-    let unit : at + m.index ≡ m.at.place.unit = same_place (at + m.index) stand.0 m.at.place (sym stand.1 ∙ m.at.stands) in
+    let unit : at + m.index ≡ bad.unit = same_unit (at + m.index) stand.0 bad.unit bad.kept (sym stand.1 ∙ m.at.stands) in
     let whole : 4096 * m.index + 4096 ≤ length bytes = omega (arith, m.within, read.size) in
     record {
       index = m.index;
@@ -140,13 +139,10 @@ bad_unit d pages first at count bytes bad on read m rows c o is =
       before = take (4096 * m.index) bytes;
       good = good_front d pages first at count m.index bytes rows c o on read is m.within m.before;
       bad = record {
-        place = m.at.place;
-        stands = (is (first + m.index) m.at.place).0 m.at.stands;
-        is_unit = m.at.is_unit;
-        is_kept = m.at.is_kept;
+        is_on = on_own rows c o (first + m.index) bad.unit bad.kept ((is (first + m.index) (own bad.unit bad.kept)).0 m.at.stands);
         bytes = unit_at m.index bytes;
         size = length-unit_at m.index bytes whole;
-        held = subst (λ (u : ℕ). IsHeldAt d u (unit_at m.index bytes)) (unit ∙ sym m.at.is_unit) (held d at count m.index bytes read m.within);
+        held = subst (λ (u : ℕ). IsHeldAt d u (unit_at m.index bytes)) unit (held d at count m.index bytes read m.within);
         is_found = m.at.is_found;
         differs = m.at.differs;
       };
@@ -159,7 +155,7 @@ good_holes d pages first count bytes are same = subst (GivesPages d pages first 
   size = length-zeros (4096 * count);
   good = λ rows c o is. record {
     size = length-zeros (4096 * count);
-    each = λ i lt. hole (λ place at. none_there i lt ((is (first + i) place).1 at)) (unit_at-zeros i (4096 * count) (omega (arith, lt)));
+    each = λ i lt. hole (λ page_on at. none_there i lt ((is (first + i) at.place).1 at.at)) (unit_at-zeros i (4096 * count) (omega (arith, lt)));
   };
 })
   where

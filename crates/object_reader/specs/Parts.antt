@@ -5,7 +5,7 @@ use Rattle.byte_maps.specs.Units.{unit_at, IsUnits}
 use Rattle.crc32c_csum.specs.Crc32c.{crc32c, remainder, all_ones}
 use Rattle.block_device.specs.Disk.{Disk}
 use Rattle.meta_rows.specs.Rows.{Rows}
-use Rattle.row_format.specs.Extents.{Place}
+use Rattle.row_format.specs.Extents.{own}
 use Rattle.blob_map.specs.Pages.{PageMap}
 use Rattle.object_rows.specs.Maps.{IsMapOf}
 use Rattle.read_facts.specs.declared.view.BadSum.{BadSum}
@@ -19,11 +19,11 @@ use Rattle.object_reader.specs.declared.parts.PartFail.TheVariants as why
 pub record CanRead (d : Disk) (pages : PageMap) : Type 0 where
   pub idle : d.flights ≡ []
   pub units_most : d.units ≤ 1048576
-  pub inside : (page : ℕ) (place : Place) → finite.get pages page ≡ Some place → place.unit < d.units
+  pub inside : (page unit csum : ℕ) → finite.get pages page ≡ Some (own unit csum) → unit < d.units
 
--- the page stands on the unit
-abbrev pub StandsOn : PageMap → ℕ → ℕ → Type 0
-StandsOn pages page unit = (csum : ℕ) × (finite.get pages page ≡ Some (record { unit = unit; csum = csum }))
+-- the page stands on the unit, which is the object's own
+abbrev pub IsOnUnit : PageMap → ℕ → ℕ → Type 0
+IsOnUnit pages page unit = (csum : ℕ) × (finite.get pages page ≡ Some (own unit csum))
 
 -- so many pages from the first on are holes
 abbrev pub AreHoles : PageMap → ℕ → ℕ → Type 0
@@ -31,7 +31,7 @@ AreHoles pages first count = (i : ℕ) → i < count → finite.get pages (first
 
 -- so many pages from the first on stand on consecutive units
 abbrev pub AreOnUnits : PageMap → ℕ → ℕ → ℕ → Type 0
-AreOnUnits pages first at count = (i : ℕ) → i < count → StandsOn pages (first + i) (at + i)
+AreOnUnits pages first at count = (i : ℕ) → i < count → IsOnUnit pages (first + i) (at + i)
 
 -- the pages of a run, at least one and at most so many
 abbrev pub IsRun : PageMap → ℕ → ℕ → Run → Type 0
@@ -40,7 +40,7 @@ IsRun pages first most (Units at count) = (0 < count) × (count ≤ most) × Are
 
 -- a page that isn't a hole has bytes with the checksum that is kept for it
 abbrev pub IsChecked : PageMap → ℕ → List ℕ → Type 0
-IsChecked pages page bytes = (place : Place) → finite.get pages page ≡ Some place → crc32c bytes ≡ place.csum
+IsChecked pages page bytes = (unit csum : ℕ) → finite.get pages page ≡ Some (own unit csum) → crc32c bytes ≡ csum
 
 -- so has each of so many pages from the first on
 abbrev pub AreChecked : PageMap → ℕ → ℕ → List ℕ → Type 0
@@ -48,10 +48,7 @@ AreChecked pages first count bytes = (i : ℕ) → i < count → IsChecked pages
 
 -- a page has bytes with another checksum
 pub record IsBad (pages : PageMap) (page : ℕ) (bytes : List ℕ) (bad : BadSum) : Type 0 where
-  pub place : Place
-  pub stands : finite.get pages page ≡ Some place
-  pub is_unit : bad.unit ≡ place.unit
-  pub is_kept : bad.kept ≡ place.csum
+  pub stands : finite.get pages page ≡ Some (own bad.unit bad.kept)
   pub is_found : bad.found ≡ crc32c bytes
   pub differs : bad.found ≢ bad.kept
 

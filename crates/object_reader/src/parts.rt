@@ -3,12 +3,13 @@ ghost use Rattle.std.specs.Prelude.{◌≡◌, ◌≢◌, ◌+◌, ◌-◌, ◌*
 ghost use Rattle.std.specs.FinMap as finite;
 ghost use Rattle.byte_maps.specs.Units.{unit_at, zeros, IsUnits};
 ghost use Rattle.crc32c_csum.specs.Crc32c.{crc32c};
+ghost use Rattle.row_format.specs.Extents.{own};
 ghost use Rattle.block_device.specs.Disk.{Rose};
-ghost use Rattle.object_reader.specs.Parts.{CanRead, AreHoles, AreOnUnits, IsRun, StandsOn, AreChecked, IsChecked, IsBad, IsMismatch, GivesPages, IsPartFail};
+ghost use Rattle.object_reader.specs.Parts.{CanRead, AreHoles, AreOnUnits, IsRun, IsOnUnit, AreChecked, IsChecked, IsBad, IsMismatch, GivesPages, IsPartFail};
 ghost use Rattle.object_reader.specs.PartFails.{part_fail_of};
 ghost use Rattle.object_reader.specs.declared.parts.PartFail.TheVariants.{Memory};
 
-use blob_map::{PageMap, Place};
+use blob_map::PageMap;
 use block_device::{Device, Failed};
 use crc32c_csum::crc32c;
 use read_facts::BadSum;
@@ -58,7 +59,7 @@ enum Run {
 // The unit that a page stands on. None: it is a hole.
 fn unit_of(pages: &PageMap, page: u32) -> Option<u32>
     ensures none { IfNone result (finite.get pages.now page ≡ None) }
-    ensures some { IfSome result (StandsOn pages.now page) }
+    ensures some { IfSome result (IsOnUnit pages.now page) }
 {
     let place = pages.find(page)?;
     Some(place.unit.number())
@@ -88,7 +89,7 @@ fn hole_pages(pages: &PageMap, first: u32, most: u32) -> u32
 }
 
 fn stands_on(pages: &PageMap, page: u32, unit: u32) -> bool
-    ensures { IsTrue result → StandsOn pages.now page unit }
+    ensures { IsTrue result → IsOnUnit pages.now page unit }
 {
     match pages.find(page) {
         Some(place) => place.unit.number() == unit,
@@ -98,7 +99,7 @@ fn stands_on(pages: &PageMap, page: u32, unit: u32) -> bool
 
 // How many of the pages from the first on, which stands on unit `at`, stand on consecutive units.
 fn unit_pages(pages: &PageMap, first: u32, at: u32, most: u32) -> u32
-    requires stands { StandsOn pages.now first at }
+    requires stands { IsOnUnit pages.now first at }
     requires some { 0 < most }
     requires fits { first + most ≤ 2 ^ 32 }
     requires inside { at + most ≤ 2 ^ 32 }
@@ -117,7 +118,7 @@ fn unit_pages(pages: &PageMap, first: u32, at: u32, most: u32) -> u32
 // The run of pages from the first on, below the end.
 fn run_from(pages: &PageMap, first: u32, end: u32) -> Run
     requires some { first < end }
-    requires inside { (page : ℕ) (place : Place) → finite.get pages.now page ≡ Some place → place.unit < 1048576 }
+    requires inside { (page unit csum : ℕ) → finite.get pages.now page ≡ Some (own unit csum) → unit < 1048576 }
     ensures { IsRun pages.now first (min (end - first) 64) result }
 {
     let most = (end - first).min(MOST_UNITS);

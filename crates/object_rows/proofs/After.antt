@@ -8,14 +8,15 @@ use Rattle.meta_log.specs.declared.slot.Super.{Super}
 use Rattle.object_model.specs.Effect.{object_limit}
 use Rattle.unit_fields.specs.Names.{IsName, IsCollName}
 use Rattle.row_format.specs.Keys.{coll_key, onode_key, shard_key, bitmap_key}
-use Rattle.row_format.specs.Extents.{Extent, FitsExtent, BeginsAt, Ascend, Place, place_of, page_end}
+use Rattle.row_format.specs.Extents.{Extent, FitsExtent, BeginsAt, Ascend, Place, own, place_of, page_end}
 use Rattle.row_format.specs.Row.{Row, collection, onode, shard, bitmap, row_key, row_value, FitsRow, FitsShard}
 use Rattle.row_format.proofs.KeyLemmas.{same_head, same_onode, same_shard, coll_no_object, onode_no_shard, bitmap_no_object}
 use Rattle.row_format.proofs.RowLemmas.{same_row}
-use Rattle.store_image.specs.Pages.{HasKey, HasRow, IsPageAt, pages_of}
+use Rattle.store_image.specs.Pages.{HasKey, HasRow, PageUnit, IsPageAt, IsPageOn, pages_of}
 use Rattle.store_image.specs.BadRows.{IsOnData, IsShardInPlace, IsInPlace, IsGoodRow, NoBadRow}
 use Rattle.store_image.specs.Owners.{Owner, page_of, Owns, IsOwned, IsMarked}
 use Rattle.store_image.proofs.PageMap.{in_place}
+use Rattle.store_image.proofs.PageUnits.{stands_still}
 use Rattle.row_facts.proofs.Bits.{bits_stay}
 use Rattle.row_facts.proofs.ObjectUnder.{object_cases}
 use Rattle.row_facts.proofs.Shapes.{SameOthers}
@@ -61,26 +62,26 @@ module _ (rows after : Rows) (c o : List ℕ) (size : ℕ) (extents : List Exten
   -- ---- keys that aren't the object's
 
   pub key_same : (key : List ℕ) → (IsKeyOf c o key → ⊥) → map.get after key ≡ map.get rows key
-  key_same key other = elim (are.others key) [ inl own ↦ absurd (other own) | inr same ↦ same ]
+  key_same key other = elim (are.others key) [ inl its ↦ absurd (other its) | inr same ↦ same ]
 
   pub kind_same : SameOthers rows after
-  kind_same k rest a b bits = key_same (k ∷ rest) (λ own. elim own [ inl e ↦ b (same_head _ _ _ _ e) | inr p ↦ b (same_head _ _ _ _ p.2) ])
+  kind_same k rest a b bits = key_same (k ∷ rest) (λ its. elim its [ inl e ↦ b (same_head _ _ _ _ e) | inr p ↦ b (same_head _ _ _ _ p.2) ])
 
   pub coll_same : (d : List ℕ) → map.get after (coll_key d) ≡ map.get rows (coll_key d)
-  coll_same d = key_same (coll_key d) (λ own. elim own [ inl e ↦ coll_no_object d c o _ e | inr p ↦ coll_no_object d c o _ p.2 ])
+  coll_same d = key_same (coll_key d) (λ its. elim its [ inl e ↦ coll_no_object d c o _ e | inr p ↦ coll_no_object d c o _ p.2 ])
 
   pub bits_same : (r : ℕ) → map.get after (bitmap_key r) ≡ map.get rows (bitmap_key r)
-  bits_same r = key_same (bitmap_key r) (λ own. elim own [ inl e ↦ bitmap_no_object r c o _ e | inr p ↦ bitmap_no_object r c o _ p.2 ])
+  bits_same r = key_same (bitmap_key r) (λ its. elim its [ inl e ↦ bitmap_no_object r c o _ e | inr p ↦ bitmap_no_object r c o _ p.2 ])
 
   module _ (d u : List ℕ) (coll_is : IsCollName d) (name_is : IsName u) (other : IsOther c o d u) where
     pub onode_same : map.get after (onode_key d u) ≡ map.get rows (onode_key d u)
-    onode_same = key_same (onode_key d u) (λ own. elim own [
+    onode_same = key_same (onode_key d u) (λ its. elim its [
       | inl e ↦ let is = same_onode d u c o coll_is name_is coll name e in other is.0 is.1
       | inr p ↦ onode_no_shard d u c o p.0 coll_is name_is coll name p.2
     ])
 
     shard_same : (page : ℕ) → page < 2 ^ 32 → map.get after (shard_key d u page) ≡ map.get rows (shard_key d u page)
-    shard_same page lt = key_same (shard_key d u page) (λ own. elim own [
+    shard_same page lt = key_same (shard_key d u page) (λ its. elim its [
       | inl e ↦ onode_no_shard c o d u page coll name coll_is name_is (sym e)
       | inr p ↦ let is = same_shard d u c o page p.0 coll_is name_is coll name lt p.1 p.2 in other is.0 is.1
     ])
@@ -114,8 +115,8 @@ module _ (rows after : Rows) (c o : List ℕ) (size : ℕ) (extents : List Exten
       → ((d ≡ c) × (u ≡ o) × BeginsAt page extents × (es ≡ extents)) ⊎ (IsOther c o d u × HasRow rows (shard d u page es))
   shard_cases d u page es has = elim (object_cases c o d u) [
     | inl e ↦
-        let own = own_shard page es (subst (λ x. HasRow after (shard x o page es)) e.0 (subst (λ x. HasRow after (shard d x page es)) e.1 has)) in
-        inl (e.0, e.1, own.0, own.1)
+        let its = own_shard page es (subst (λ x. HasRow after (shard x o page es)) e.0 (subst (λ x. HasRow after (shard d x page es)) e.1 has)) in
+        inl (e.0, e.1, its.0, its.1)
     | inr other ↦ inr (
       other,
       record {
@@ -154,7 +155,7 @@ module _ (rows after : Rows) (c o : List ℕ) (size : ℕ) (extents : List Exten
     module _ (d u : List ℕ) (other : IsOther c o d u) where
       pub page_was : IsPageAt after d u page place → IsPageAt rows d u page place
       page_was is = elim (shard_cases d u is.first is.extents is.has_shard) [
-        | inl own ↦ absurd (other own.0 own.1)
+        | inl same ↦ absurd (other same.0 same.1)
         | inr old ↦ record { first = is.first; extents = is.extents; has_shard = old.1; has_page = is.has_page }
       ]
 
@@ -172,10 +173,10 @@ module _ (rows after : Rows) (c o : List ℕ) (size : ℕ) (extents : List Exten
   owned_after unit = (
     λ owned. by owned.0 owned.1,
     λ either. elim either [
-      | inl has ↦ (page_of c o has.page, (has.place, own_is has.page has.place has.there, has.is))
+      | inl has ↦ (page_of c o has.page, (has.csum, own_is has.page (own unit has.csum) has.there))
       | inr old ↦ (
         page_of old.coll old.object old.page,
-        (old.owns.0, page_kept old.page old.owns.0 old.coll old.object old.other old.owns.1, old.owns.2),
+        (old.owns.0, page_kept old.page (own unit old.owns.0) old.coll old.object old.other old.owns.1),
       )
     ],
   )
@@ -184,16 +185,16 @@ module _ (rows after : Rows) (c o : List ℕ) (size : ℕ) (extents : List Exten
       by (page_of d u page) owns = elim (object_cases c o d u) [
         | inl e ↦ inl (record {
           page = page;
-          place = owns.0;
-          there = own_was page owns.0 (subst (λ x. IsPageAt after x o page owns.0) e.0 (subst (λ x. IsPageAt after d x page owns.0) e.1 owns.1));
-          is = owns.2;
+          csum = owns.0;
+          there = own_was page (own unit owns.0)
+              (subst (λ x. IsPageAt after x o page (own unit owns.0)) e.0 (subst (λ x. IsPageAt after d x page (own unit owns.0)) e.1 owns.1));
         })
         | inr other ↦ inr (record {
           coll = d;
           object = u;
           page = page;
           other = other;
-          owns = (owns.0, page_was page owns.0 d u other owns.1, owns.2);
+          owns = (owns.0, page_was page (own unit owns.0) d u other owns.1);
         })
       ]
 
@@ -222,22 +223,22 @@ module _ (rows after : Rows) (c o : List ℕ) (size : ℕ) (extents : List Exten
           has_onode = ap is_some (onode_same d u has.fits.coll_name has.fits.object_name other) ∙ was.has_onode;
           ascend = was.ascend;
           behind = λ earlier fs below h. elim (shard_cases d u earlier fs h) [
-            | inl own ↦ absurd (other own.0 own.1)
+            | inl same ↦ absurd (other same.0 same.1)
             | inr old ↦ was.behind earlier fs below old.1
           ];
-          within = λ n h. elim (onode_cases d u n h) [ inl own ↦ absurd (other own.0 own.1) | inr old ↦ was.within n old.1 ];
+          within = λ n h. elim (onode_cases d u n h) [ inl its ↦ absurd (other its.0 its.1) | inr old ↦ was.within n old.1 ];
           on_data = was.on_data;
         }
 
     placed : (x : Row) → HasRow after x → IsInPlace s after x
     placed (collection d) has = tt
     placed (onode d u n) has = elim (onode_cases d u n has) [
-      | inl own ↦ (subst (λ x. HasKey after (coll_key x)) (sym own.0) coll_there, subst (λ m. m ≤ object_limit) (sym own.2) most)
+      | inl its ↦ (subst (λ x. HasKey after (coll_key x)) (sym its.0) coll_there, subst (λ m. m ≤ object_limit) (sym its.2) most)
       | inr old ↦ let was = in_place s rows (onode d u n) good old.1 in (ap is_some (coll_same d) ∙ was.0, was.1)
     ]
     placed (shard d u page es) has = elim (shard_cases d u page es has) [
-      | inl own ↦ subst (λ x. IsShardInPlace s after x u page es) (sym own.0) (subst (λ x. IsShardInPlace s after c x page es) (sym own.1)
-          (subst (IsShardInPlace s after c o page) (sym own.3) (new_in_place page own.2)))
+      | inl its ↦ subst (λ x. IsShardInPlace s after x u page es) (sym its.0) (subst (λ x. IsShardInPlace s after c x page es) (sym its.1)
+          (subst (IsShardInPlace s after c o page) (sym its.3) (new_in_place page its.2)))
       | inr old ↦ old_in_place d u page es old.0 old.1
     ]
     placed (bitmap r bits) has = in_place s rows (bitmap r bits) good (record { fits = has.fits; stands = sym (bits_same r) ∙ has.stands })
@@ -260,7 +261,7 @@ module _ (rows after : Rows) (c o : List ℕ) (size : ℕ) (extents : List Exten
 
     pub after_good : NoBadRow s after
     after_good key value stands = elim (are.others key) [
-      | inl own ↦ elim own [
+      | inl its ↦ elim its [
         | inl e ↦ own_good key value new_onode stands has_onode e
         | inr p ↦ elim (begins_or_not p.0 extents) [
           | inl begins ↦ own_good key value (shard c o p.0 extents) stands (has_shard p.0 begins) p.2
@@ -295,6 +296,13 @@ module _ (s : Super) (rows : Rows) (c o : List ℕ) (size : ℕ) (extents : List
       page_was rows then c o size extents can.coll_name can.object_name can.size_most can.fit are_then page place d u other,
       page_kept rows then c o size extents can.coll_name can.object_name can.size_most can.fit are_then page place d u other,
     )
+
+  -- on which units the pages of others stand
+  pub then_others_on : (page : ℕ) (on : PageUnit) (d u : List ℕ) → IsOther c o d u → IsPageOn then d u page on ↔ IsPageOn rows d u page on
+  then_others_on page on d u other = (
+    λ is. record { place = is.place; at = (then_others page is.place d u other).0 is.at; stands = stands_still then rows is.place on is.stands },
+    λ is. record { place = is.place; at = (then_others page is.place d u other).1 is.at; stands = stands_still rows then is.place on is.stands },
+  )
 
   pub then_owned : (unit : ℕ) → IsOwned then unit ↔ (HasUnit extents unit ⊎ IsOwnedElsewhere rows c o unit)
   then_owned = owned_after rows then c o size extents can.coll_name can.object_name can.size_most can.fit are_then

@@ -1,5 +1,5 @@
 -- The units of the pages of a range.
-use Rattle.std.proofs.Common.{◌≡◌, ◌⊎◌, ◌↔◌, inl, inr, ℕ, zero, suc, ◌+◌, ◌<◌, ◌≤◌, Bool, true, false, cond, T, List, [], ◌∷◌, length, get_or, map, Contains, Some, refl, sym, ap, subst, ◌∙◌, arith}
+use Rattle.std.proofs.Common.{◌≡◌, ◌⊎◌, ◌↔◌, inl, inr, ℕ, zero, suc, ◌+◌, ◌<◌, ◌≤◌, Bool, true, false, cond, T, List, [], ◌∷◌, length, get_or, flat_map, Contains, Some, refl, sym, ap, subst, ◌∙◌, arith}
 use Rattle.std.specs.Prelude.{slice_index}
 use Rattle.std.specs.Ordering.{nat_cmp, is_eq}
 use Rattle.std.specs.FinMap.{find, is_sorted, entries, entries_sorted, get-entries}
@@ -10,12 +10,12 @@ use Rattle.number_map.specs.NumberMap.{is_in}
 use Rattle.number_map.proofs.Places.{both_first, both_second}
 use Rattle.number_map.proofs.Search.{cmp_equal, cmp_less, cmp_greater, less_is}
 use Rattle.meta_rows.specs.Rows.{Rows}
-use Rattle.row_format.specs.Extents.{Place}
+use Rattle.row_format.specs.Extents.{Place, own}
 use Rattle.store_image.specs.Pages.{IsPageAt}
 use Rattle.store_image.specs.Owners.{page_of, HasSoleOwner}
 use Rattle.blob_map.specs.Pages.{PageMap}
 use Rattle.object_rows.specs.Maps.{IsMapOf}
-use Rattle.object_rows.specs.Plans.{units_between}
+use Rattle.object_rows.specs.Plans.{own_units, units_between}
 use Rattle.object_rows.specs.Writes.{StoodWritten}
 use Rattle.object_rows.specs.Planned.{StandsOnce}
 use Rattle.object_rows.proofs.Wrote.{written_or_not}
@@ -116,64 +116,64 @@ high_is from end page le = grind (arith, nat_tests)
 
 module _ (first count : ℕ) where
   abbrev units_in : List (ℕ × Place) → List ℕ
-  units_in es = map (λ p. p.1.unit) (where_key nat_cmp (is_in first (first + count)) es)
+  units_in es = flat_map (λ p. own_units p.1) (where_key nat_cmp (is_in first (first + count)) es)
 
   -- an entry of the range has the unit
   record Stands (es : List (ℕ × Place)) (v : ℕ) : Type 0 where
     pub page : ℕ
-    pub place : Place
-    pub there : In es (page, place)
+    pub csum : ℕ
+    pub there : In es (page, own v csum)
     pub inside : is_in first (first + count) page ≡ true
-    pub is_unit : place.unit ≡ v
 
   -- the units with an entry in front
   abbrev front : ℕ × Place → List (ℕ × Place) → Bool → List ℕ
-  front e es b = map (λ p. p.1.unit) (cond b (e ∷ where_key nat_cmp (is_in first (first + count)) es) (where_key nat_cmp (is_in first (first + count)) es))
+  front e es b = flat_map (λ p. own_units p.1) (cond b (e ∷ where_key nat_cmp (is_in first (first + count)) es) (where_key nat_cmp (is_in first (first + count)) es))
 
   unit_stands : (es : List (ℕ × Place)) (v : ℕ) → In (units_in es) v → Stands es v
   unit_stands [] v h = absurd h
-  unit_stands (e ∷ es) v h = elim (cases_Bool (is_in first (first + count) e.0)) [
+  unit_stands ((n, own w k) ∷ es) v h = elim (cases_Bool (is_in first (first + count) n)) [
     | inl is ↦
-        let either : (e.1.unit ≡ v) ⊎ In (units_in es) v = subst (λ b. In (front e es b) v) is h in
+        let either : (w ≡ v) ⊎ In (units_in es) v = subst (λ b. In (front (n, own w k) es b) v) is h in
         elim either [
-          | inl same ↦ record { page = e.0; place = e.1; there = inl refl; inside = is; is_unit = same }
+          | inl same ↦ record { page = n; csum = k; there = inl (ap (λ x. (n, own x k)) same); inside = is }
           | inr later ↦ behind (unit_stands es v later)
         ]
-    | inr is ↦ behind (unit_stands es v (subst (λ b. In (front e es b) v) is h))
+    | inr is ↦ behind (unit_stands es v (subst (λ b. In (front (n, own w k) es b) v) is h))
   ]
     where
-      behind : Stands es v → Stands (e ∷ es) v
-      behind x = record { page = x.page; place = x.place; there = inr x.there; inside = x.inside; is_unit = x.is_unit }
+      behind : Stands es v → Stands ((n, own w k) ∷ es) v
+      behind x = record { page = x.page; csum = x.csum; there = inr x.there; inside = x.inside }
 
-  stands_unit : (es : List (ℕ × Place)) (v page : ℕ) (place : Place) → In es (page, place) → is_in first (first + count) page ≡ true → place.unit ≡ v
-      → In (units_in es) v
-  stands_unit [] v page place h is same = absurd h
-  stands_unit (e ∷ es) v page place (inl here) is same =
-      let test : is_in first (first + count) e.0 ≡ true = ap (λ (p : ℕ × Place). is_in first (first + count) p.0) here ∙ is in
-      subst (λ b. In (front e es b) v) (sym test) (inl (ap (λ (p : ℕ × Place). p.1.unit) here ∙ same))
-  stands_unit (e ∷ es) v page place (inr later) is same =
-      let rest = stands_unit es v page place later is same in
-      elim (cases_Bool (is_in first (first + count) e.0)) [
-        | inl test ↦ subst (λ b. In (front e es b) v) (sym test) (inr rest)
-        | inr test ↦ subst (λ b. In (front e es b) v) (sym test) rest
+  stands_unit : (es : List (ℕ × Place)) (v page csum : ℕ) → In es (page, own v csum) → is_in first (first + count) page ≡ true → In (units_in es) v
+  stands_unit [] v page csum h is = absurd h
+  stands_unit ((n, own w k) ∷ es) v page csum (inl here) is =
+      let test : is_in first (first + count) n ≡ true = ap (λ (p : ℕ × Place). is_in first (first + count) p.0) here ∙ is in
+      let same : own w k ≡ own v csum = ap (λ (p : ℕ × Place). p.1) here in
+      let unit : w ≡ v = cc in
+      subst (λ b. In (front (n, own w k) es b) v) (sym test) (inl unit)
+  stands_unit ((n, own w k) ∷ es) v page csum (inr later) is =
+      let rest = stands_unit es v page csum later is in
+      elim (cases_Bool (is_in first (first + count) n)) [
+        | inl test ↦ subst (λ b. In (front (n, own w k) es b) v) (sym test) (inr rest)
+        | inr test ↦ subst (λ b. In (front (n, own w k) es b) v) (sym test) rest
       ]
 
   -- where no two entries have the unit, it doesn't come twice
   units_differ : (es : List (ℕ × Place)) (v : ℕ) → T (is_sorted nat_cmp es)
-      → ((p q : ℕ) (a b : Place) → In es (p, a) → In es (q, b) → a.unit ≡ v → b.unit ≡ v → p ≡ q) → NotTwice (units_in es) v
+      → ((p q a b : ℕ) → In es (p, own v a) → In es (q, own v b) → p ≡ q) → NotTwice (units_in es) v
   units_differ [] v sorted one = tt
-  units_differ (e ∷ es) v sorted one =
-      let rest = units_differ es v (both_second (below_all nat_cmp e.0 es) _ sorted) (λ p q a b x y. one p q a b (inr x) (inr y)) in
-      elim (cases_Bool (is_in first (first + count) e.0)) [
-        | inl is ↦ subst (λ b. NotTwice (front e es b) v) (sym is) (not_again, rest)
-        | inr is ↦ subst (λ b. NotTwice (front e es b) v) (sym is) rest
+  units_differ ((n, own w k) ∷ es) v sorted one =
+      let rest = units_differ es v (both_second (below_all nat_cmp n es) _ sorted) (λ p q a b x y. one p q a b (inr x) (inr y)) in
+      elim (cases_Bool (is_in first (first + count) n)) [
+        | inl is ↦ subst (λ b. NotTwice (front (n, own w k) es b) v) (sym is) (not_again, rest)
+        | inr is ↦ subst (λ b. NotTwice (front (n, own w k) es b) v) (sym is) rest
       ]
     where
-      not_again : e.1.unit ≡ v → In (units_in es) v → ⊥
+      not_again : w ≡ v → In (units_in es) v → ⊥
       not_again is h =
           let x = unit_stands es v h in
-          let above : e.0 < x.page = below_in e.0 es x.page x.place (both_first _ (is_sorted nat_cmp es) sorted) x.there in
-          let same : e.0 ≡ x.page = one e.0 x.page e.1 x.place (inl refl) (inr x.there) is x.is_unit in
+          let above : n < x.page = below_in n es x.page (own v x.csum) (both_first _ (is_sorted nat_cmp es) sorted) x.there in
+          let same : n ≡ x.page = one n x.page k x.csum (inl (ap (λ y. (n, own y k)) is)) (inr x.there) in
           omega (arith, above, same)
 
   module _ (rows : Rows) (c o : List ℕ) (pages : PageMap) (are : IsMapOf rows c o pages) where
@@ -185,9 +185,10 @@ module _ (first count : ℕ) where
     between_stood v = (
       λ k. stood (unit_stands (entries pages) v (at_in (units_between pages first count) v k.0 k.1 k.2)),
       λ w.
-          let found = found_in (entries pages) (first + w.index) w.owns.0 (sym (get-entries pages (first + w.index)) ∙ (are (first + w.index) w.owns.0).1 w.owns.1) in
+          let found = found_in (entries pages) (first + w.index) (own v w.owns.0)
+          (sym (get-entries pages (first + w.index)) ∙ (are (first + w.index) (own v w.owns.0)).1 w.owns.1) in
           in_at (units_between pages first count) v
-          (stands_unit (entries pages) v (first + w.index) w.owns.0 found (inside_is first (first + count) (first + w.index) (omega arith) (omega (arith, w.small))) w.owns.2),
+          (stands_unit (entries pages) v (first + w.index) w.owns.0 found (inside_is first (first + count) (first + w.index) (omega arith) (omega (arith, w.small)))),
     )
       where
         stood : Stands (entries pages) v → StoodWritten rows c o first count v
@@ -195,7 +196,7 @@ module _ (first count : ℕ) where
           | inl p ↦ record {
             index = p.0;
             small = p.1;
-            owns = (x.place, subst (λ n. IsPageAt rows c o n x.place) p.2 (page_in x.page x.place x.there), x.is_unit);
+            owns = (x.csum, subst (λ n. IsPageAt rows c o n (own v x.csum)) p.2 (page_in x.page (own v x.csum) x.there));
           }
           | inr out ↦ elim out [
             | inl lt ↦ absurd (let t = sym x.inside ∙ low_is first (first + count) x.page lt in cc)
@@ -206,6 +207,7 @@ module _ (first count : ℕ) where
     pub between_once : (v : ℕ) → HasSoleOwner rows v → StandsOnce (units_between pages first count) v
     between_once v sole = once_of (units_between pages first count) v (units_differ (entries pages) v (entries_sorted pages) one)
       where
-        one : (p q : ℕ) (a b : Place) → In (entries pages) (p, a) → In (entries pages) (q, b) → a.unit ≡ v → b.unit ≡ v → p ≡ q
-        one p q a b x y is same =
-            let owner : page_of c o p ≡ page_of c o q = sole (page_of c o p) (page_of c o q) (a, page_in p a x, is) (b, page_in q b y, same) in cc
+        one : (p q a b : ℕ) → In (entries pages) (p, own v a) → In (entries pages) (q, own v b) → p ≡ q
+        one p q a b x y =
+            let owner : page_of c o p ≡ page_of c o q =
+            sole (page_of c o p) (page_of c o q) (a, page_in p (own v a) x) (b, page_in q (own v b) y) in cc

@@ -5,12 +5,14 @@ use Rattle.std.specs.List.{AllByRecursion}
 use Rattle.std.proofs.lemmas.Bool.{cases_Bool, ltb-true, leb-true}
 use Rattle.meta_rows.specs.Rows.{Rows}
 use Rattle.meta_log.specs.declared.slot.Super.{Super}
-use Rattle.row_format.specs.Extents.{Extent, Body, private, page_count, page_end, place_in, place_of, Place, FitsBody, FitsExtent}
+use Rattle.meta_log.specs.Slots.{data_unit}
+use Rattle.row_format.specs.Extents.{Extent, Body, private, page_count, page_end, place_in, place_of, Place, own, FitsBody, FitsExtent}
 use Rattle.row_format.specs.Row.{onode, shard}
 use Rattle.store_image.specs.Pages.{HasRow, IsPageAt, pages_of}
 use Rattle.store_image.specs.BadRows.{IsOnData, IsShardInPlace, NoBadRow}
 use Rattle.store_image.specs.Owners.{Owner, page_of, Owns, IsDataUnit, IsOwned}
 use Rattle.store_image.proofs.PageMap.{in_place}
+use Rattle.blob_map.specs.Pages.{StandsWithin}
 
 pub all_map : {X : Type 0} (P Q : X → Type 0) → ((x : X) → P x → Q x) → (xs : List X) → AllByRecursion P xs → AllByRecursion Q xs
 all_map P Q f [] all = tt
@@ -49,10 +51,14 @@ found_in P (e ∷ es) page place all is = elim (cases_Bool (nat_le e.first page 
       (sym (ap (λ b. cond b (Some (place_in e.body (page - e.first))) (place_of es page)) not_here) ∙ is)
 ]
 
-data_unit_of : (s : Super) (body : Body) (i : ℕ) → IsOnData s body → i < page_count body → IsDataUnit s (place_in body i).unit
+data_unit_of : (s : Super) (body : Body) (i : ℕ) → IsOnData s body → i < page_count body → StandsWithin (data_unit s) s.units (place_in body i)
 data_unit_of s (private unit csums) i on lt = (omega (arith, on.0), omega (arith, on.1, lt))
 
-csum_of : (body : Body) (i : ℕ) → FitsBody body → i < page_count body → (place_in body i).csum < 2 ^ 32
+-- the checksum that is kept there fits its field
+abbrev pub CsumFits : Place → Type 0
+CsumFits (own unit csum) = csum < 2 ^ 32
+
+csum_of : (body : Body) (i : ℕ) → FitsBody body → i < page_count body → CsumFits (place_in body i)
 csum_of (private unit csums) i fits lt = by csums i fits.3 lt
   where
     by : (ns : List ℕ) (i : ℕ) → AllByRecursion (λ n. n < 2 ^ 32) ns → i < length ns → get_or ns i 0 < 2 ^ 32
@@ -63,8 +69,8 @@ csum_of (private unit csums) i fits lt = by csums i fits.3 lt
 -- what good rows say of a page
 pub record IsGoodPage (s : Super) (size page : ℕ) (place : Place) : Type 0 where
   pub within : page < pages_of size
-  pub on_data : IsDataUnit s place.unit
-  pub csum : place.csum < 2 ^ 32
+  pub on_data : StandsWithin (data_unit s) s.units place
+  pub csum : CsumFits place
 
 module _ (s : Super) (rows : Rows) (c o : List ℕ) (good : NoBadRow s rows) where
   placed : (page : ℕ) (es : List Extent) → HasRow rows (shard c o page es) → IsShardInPlace s rows c o page es
@@ -78,8 +84,8 @@ module _ (s : Super) (rows : Rows) (c o : List ℕ) (good : NoBadRow s rows) whe
       let d = found_in FitsExtent is.extents page place is.has_shard.fits.fit is.has_page in
       record {
         within = omega (arith, a.below, a.holds);
-        on_data = subst (λ p. IsDataUnit s p.unit) b.is (data_unit_of s b.extent.body (page - b.extent.first) b.holds (omega (arith, b.from, b.below)));
-        csum = subst (λ p. p.csum < 2 ^ 32) d.is (csum_of d.extent.body (page - d.extent.first) d.holds.body (omega (arith, d.from, d.below)));
+        on_data = subst (StandsWithin (data_unit s) s.units) b.is (data_unit_of s b.extent.body (page - b.extent.first) b.holds (omega (arith, b.from, b.below)));
+        csum = subst CsumFits d.is (csum_of d.extent.body (page - d.extent.first) d.holds.body (omega (arith, d.from, d.below)));
       }
 
 -- an owned unit is a data unit
@@ -90,6 +96,5 @@ owned_is_data s rows unit good owned = by owned.0 owned.1
     by (page_of c o page) owns =
         let is = owns.1 in
         let on = (placed s rows c o good is.first is.extents is.has_shard).on_data in
-        let b = found_in (λ e. IsOnData s e.body) is.extents page owns.0 on is.has_page in
-        let unit_is : (place_in b.extent.body (page - b.extent.first)).unit ≡ unit = ap (λ p. p.unit) b.is ∙ owns.2 in
-        subst (IsDataUnit s) unit_is (data_unit_of s b.extent.body (page - b.extent.first) b.holds (omega (arith, b.from, b.below)))
+        let b = found_in (λ e. IsOnData s e.body) is.extents page (own unit owns.0) on is.has_page in
+        subst (StandsWithin (data_unit s) s.units) b.is (data_unit_of s b.extent.body (page - b.extent.first) b.holds (omega (arith, b.from, b.below)))

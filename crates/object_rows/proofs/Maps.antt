@@ -1,5 +1,5 @@
 -- What a write makes of an object's page map.
-use Rattle.std.proofs.Common.{◌≡◌, inl, inr, ℕ, ◌+◌, ◌<◌, ◌≤◌, ◌^◌, List, length, Some, is_some, sym, ap, subst, ◌∙◌, arith}
+use Rattle.std.proofs.Common.{◌≡◌, inl, inr, ℕ, ◌+◌, ◌≤◌, ◌^◌, List, length, Some, is_some, sym, ap, subst, ◌∙◌, arith}
 use Rattle.std.specs.Prelude.{slice_index}
 use Rattle.std.specs.FinMap as finite
 use Rattle.byte_maps.specs.Units.{unit_at}
@@ -7,23 +7,25 @@ use Rattle.crc32c_csum.specs.Crc32c.{crc32c}
 use Rattle.meta_rows.specs.Rows.{Rows}
 use Rattle.meta_log.specs.declared.slot.Super.{Super}
 use Rattle.meta_log.specs.Slots.{data_unit}
-use Rattle.row_format.specs.Extents.{Body, private, page_count, Place}
+use Rattle.row_format.specs.Extents.{Body, private, page_count, Place, own}
 use Rattle.row_format.specs.Row.{shard}
 use Rattle.store_image.specs.Pages.{IsPageAt, pages_of}
 use Rattle.store_image.specs.BadRows.{IsOnData}
-use Rattle.store_image.specs.Owners.{IsDataUnit}
 use Rattle.store_image.proofs.PageMap.{in_place}
-use Rattle.blob_map.specs.Pages.{PageMap, first_unit}
+use Rattle.blob_map.specs.Pages.{PageMap, FitsPlace, StandsWithin, first_unit}
 use Rattle.blob_map.specs.Normal.{extents_of}
 use Rattle.blob_map.proofs.Forms.{extents_places, extents_ascend, extents_fits, extents_within, extents_on}
 use Rattle.object_rows.specs.Operations.{CanReplace}
 use Rattle.object_rows.specs.Writes.{missing, there, IsSizeOf, IsWritten}
 use Rattle.object_rows.specs.Maps.{IsMapOf, IsMapWritten, CanWrite}
 use Rattle.object_rows.proofs.Wrote.{written_or_not}
-use Rattle.object_rows.proofs.GoodPages.{all_map, IsGoodPage, good_page}
+use Rattle.object_rows.proofs.GoodPages.{CsumFits, all_map, IsGoodPage, good_page}
 
 on_data_body : (s : Super) (body : Body) → (data_unit s ≤ first_unit body) × (first_unit body + page_count body ≤ s.units) → IsOnData s body
 on_data_body s (private unit csums) is = is
+
+fits_place : (s : Super) → s.units ≤ 2 ^ 32 → (place : Place) → StandsWithin (data_unit s) s.units place → CsumFits place → FitsPlace place
+fits_place s most (own unit csum) on fits = (omega (arith, on.1, most), fits)
 
 module _ (s : Super) (rows : Rows) (c o : List ℕ) (first : ℕ) (bytes units : List ℕ) (size : ℕ) (present : List ℕ)
     (can : CanWrite s rows c o first bytes units size present) (old new : PageMap) (was : IsMapOf rows c o old)
@@ -45,13 +47,13 @@ module _ (s : Super) (rows : Rows) (c o : List ℕ) (first : ℕ) (bytes units :
   good_new : (page : ℕ) (place : Place) → finite.get new page ≡ Some place → IsGoodPage s size page place
   good_new page place is = elim (written_or_not first (length units) page) [
     | inl p ↦
-        let two : Some place ≡ Some (record { unit = slice_index units p.0; csum = crc32c (unit_at p.0 bytes) }) =
+        let two : Some place ≡ Some (own (slice_index units p.0) (crc32c (unit_at p.0 bytes))) =
         sym is ∙ ap (finite.get new) p.2 ∙ w.inside p.0 p.1 in
-        let same : place ≡ record { unit = slice_index units p.0; csum = crc32c (unit_at p.0 bytes) } = cc in
+        let same : place ≡ own (slice_index units p.0) (crc32c (unit_at p.0 bytes)) = cc in
         record {
           within = omega (arith, p.1, p.2, end_within);
-          on_data = subst (λ x. IsDataUnit s x.unit) (sym same) (can.data_units p.0 p.1);
-          csum = subst (λ x. x.csum < 2 ^ 32) (sym same) (can.csums_fit p.0 p.1);
+          on_data = subst (StandsWithin (data_unit s) s.units) (sym same) (can.data_units p.0 p.1);
+          csum = subst CsumFits (sym same) (can.csums_fit p.0 p.1);
         }
     | inr out ↦ kept_page can.before page place can.was_long before_most ((was page place).0 (sym (w.outside page out) ∙ is))
   ]
@@ -67,7 +69,7 @@ module _ (s : Super) (rows : Rows) (c o : List ℕ) (first : ℕ) (bytes units :
     has_collection = can.has_collection;
     size_most = can.size_most;
     fit = extents_fits new (λ page place is. let g = good_new page place is in
-        record { page = omega (arith, g.within, pages_few); unit = omega (arith, g.on_data.1, can.units_most); csum = g.csum });
+        record { page = omega (arith, g.within, pages_few); place = fits_place s can.units_most place g.on_data g.csum });
     ascend = extents_ascend new;
     within = extents_within new (pages_of size) (λ page place is. (good_new page place is).within);
     on_data = all_map (λ e. (data_unit s ≤ first_unit e.body) × (first_unit e.body + page_count e.body ≤ s.units)) (λ e. IsOnData s e.body)

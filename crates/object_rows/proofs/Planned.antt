@@ -2,6 +2,8 @@
 use Rattle.std.proofs.Common.{◌≡◌, ◌⊎◌, ◌↔◌, inl, inr, ℕ, ◌+◌, ◌*◌, ◌<◌, ◌≤◌, List, [], ◌∷◌, length, ◌++◌, Any, Contains, Ok, is_ok, refl, sym, ap, subst, ◌∙◌, length-append, arith}
 use Rattle.std.specs.Prelude.{IsOk, max, slice_index, ◌^◌}
 use Rattle.std.specs.List.{AllByRecursion}
+use Rattle.std.specs.FinSet as set
+use Rattle.std.proofs.lemmas.Bool.{cases_Bool}
 use Rattle.std.specs.FinMap as finite
 use Rattle.std.specs.Int.{w32, to_le_bytes}
 use Rattle.std.proofs.lemmas.Grind.{flat_map-append}
@@ -19,14 +21,14 @@ use Rattle.object_model.specs.Limits.{submitted_effect}
 use Rattle.unit_fields.specs.UnitSet.{Ascends}
 use Rattle.row_format.specs.Extents.{Extent}
 use Rattle.row_format.specs.Row.{onode}
-use Rattle.store_image.specs.Pages.{pages_of}
+use Rattle.store_image.specs.Pages.{HasPage, pages_of}
 use Rattle.store_image.specs.BadRows.{NoBadRow}
 use Rattle.store_image.specs.Owners.{Owner, page_of, Owns, IsDataUnit, IsOwned, IsMarked, IsLeaked, IsExactAs, HasSoleOwner}
 use Rattle.store_image.specs.Stands.{IsShape, ObjectsStand}
 use Rattle.store_image.proofs.OwnedUnits.{objects_stand}
 use Rattle.store_image.proofs.PageMap.{in_place}
 use Rattle.row_facts.specs.Operations.{coll_ops}
-use Rattle.row_facts.proofs.CollMade.{coll_good, coll_sole, coll_owned, coll_exact, coll_stands}
+use Rattle.row_facts.proofs.CollMade.{coll_good, coll_bits, coll_sole, coll_owned, coll_exact, coll_stands}
 use Rattle.row_facts.proofs.Lengths.{coll_fits, coll_short}
 use Rattle.row_facts.proofs.Replies.{coll_submitted, coll_made}
 use Rattle.bitmap_freelist.specs.Bitmap.{Has, AreAlikeButBits, ExactlyOne}
@@ -52,7 +54,7 @@ use Rattle.object_rows.proofs.Maps.{map_can_replace, map_is_written}
 use Rattle.object_rows.proofs.Ops.{all_append}
 use Rattle.object_rows.proofs.PagesOn.{all_at, ascending_distinct, fresh_there, held_at, fresh_all, units_of_pages}
 use Rattle.object_rows.proofs.Replied.{touch_submitted, touch_ok, write_submitted, write_ok}
-use Rattle.object_rows.proofs.Touched.{touch_good, touch_fits, touch_ascend, touch_short, touch_owned, touch_sole, touch_exact, touch_stand}
+use Rattle.object_rows.proofs.Touched.{touch_good, touch_bits, touch_fits, touch_ascend, touch_short, touch_owned, touch_sole, touch_exact, touch_stand}
 use Rattle.object_rows.proofs.Units.{written_owned, written_sole, written_lost, written_released}
 use Rattle.object_rows.proofs.Wrote.{pages_stand}
 
@@ -226,7 +228,7 @@ module _ (s : Super) (rows : Rows) (c o : List ℕ) (first : ℕ) (bytes units :
         )
 
     write_stand : (at later_at : ℕ → List ℕ) (objects after : Objects) → AllByRecursion (λ f. later_at f.0 ≡ f.1) (pages_on units 0 bytes)
-        → ((v : ℕ) → IsOwned rows v → later_at v ≡ at v) → ObjectsStand at rows objects
+        → ((v : ℕ) → HasPage rows v → later_at v ≡ at v) → ObjectsStand at rows objects
         → transaction_effect (write_change c o first bytes) objects ≡ Ok after → ObjectsStand later_at (rows_after rows ops) after
     write_stand at later_at objects after holds same stand is =
         let hold : HoldPages at later_at rows bytes units = record { fresh = fresh_held later_at holds; kept = same } in
@@ -271,6 +273,15 @@ module _ (s : Super) (rows : Rows) (c o : List ℕ) (first : ℕ) (bytes units :
     write_bits v small = subst (λ r. IsMarked r v ↔ ExactlyOne (IsMarked then v) (Has w.turns.units v)) (sym rows_are)
         (turn_their_units then w.turns.units w.flips w.turns.are_flips v small)
 
+    -- a marked one stays so, or it is released
+    write_marked : (v : ℕ) → v < 2 ^ 32 → IsMarked rows v → IsMarked (rows_after rows ops) v ⊎ Contains released v
+    write_marked v small marked =
+        let still = (then_bits s rows c o size extents w.present can_replace v).1 marked in
+        elim (cases_Bool (set.contains w.turns.units v)) [
+          | inl has ↦ elim ((turned_is v).0 has) [ inl f ↦ absurd (write_unmarked v f marked) | inr k ↦ inr k ]
+          | inr out ↦ inl ((write_bits v small).1 (inl (still, λ has. cc)))
+        ]
+
     module _ (leaves : Rows) (exact : IsExactAs leaves rows) where
       same_bits : (v : ℕ) → IsMarked then v ↔ IsMarked rows v
       same_bits = then_bits s rows c o size extents w.present can_replace
@@ -279,14 +290,20 @@ module _ (s : Super) (rows : Rows) (c o : List ℕ) (first : ℕ) (bytes units :
       marked_left v small marked not_turned = (write_bits v small).1 (inl ((same_bits v).1 marked, not_turned))
 
       -- a marked unit is owned or leaked
-      after_marked : (v : ℕ) → v < 2 ^ 32 → IsMarked (rows_after rows ops) v → IsOwned (rows_after rows ops) v ⊎ IsLeaked leaves v
+      after_marked : (v : ℕ) → v < 2 ^ 32 → IsMarked (rows_after rows ops) v → IsOwned (rows_after rows ops) v ⊎ (IsLeaked leaves v × ¬ IsOwned (rows_after rows ops) v)
       after_marked v small is = elim ((write_bits v small).0 is) [
         | inl left ↦ elim (exact.marked v small ((same_bits v).0 left.0)) [
           | inl owned ↦ elim (write_left v owned) [
             | inl after ↦ inl after
             | inr k ↦ absurd (left.1 ((turned_is v).1 (inr k)))
           ]
-          | inr leaked ↦ inr leaked
+          | inr leaked ↦ inr (
+            leaked.0,
+            λ after. elim (write_owned v after) [
+              | inl f ↦ write_unmarked v f ((same_bits v).0 left.0)
+              | inr owned ↦ leaked.1 owned
+            ],
+          )
         ]
         | inr turned ↦ elim ((turned_is v).0 turned.1) [
           | inl f ↦ inl (write_taken v f)
@@ -310,14 +327,6 @@ module _ (s : Super) (rows : Rows) (c o : List ℕ) (first : ℕ) (bytes units :
       write_exact = record {
         marked = after_marked;
         owned_marked = after_owned_marked;
-        leaked_marked = λ v leaked. marked_left v leaked.is_unit (exact.leaked_marked v leaked) (λ has. elim ((turned_is v).0 has) [
-          | inl f ↦ write_unmarked v f (exact.leaked_marked v leaked)
-          | inr k ↦ exact.leaked_free v leaked (write_released v k)
-        ]);
-        leaked_free = λ v leaked is. elim (write_owned v is) [
-          | inl f ↦ write_unmarked v f (exact.leaked_marked v leaked)
-          | inr owned ↦ exact.leaked_free v leaked owned
-        ];
         one_owner = λ v. write_sole v (exact.one_owner v);
       }
 
@@ -343,10 +352,10 @@ module _ (s : Super) (rows : Rows) where
   planned_effect objects (writes c o first bytes units ops released can w) = write_submitted objects c o first bytes can.short
 
   pub planned_stand : {change : Change} {plan : Plan} (at later_at : ℕ → List ℕ) (objects after : Objects) → IsPlanned s rows change plan
-      → NoBadRow s rows → HoldsFresh later_at plan → ((unit : ℕ) → IsOwned rows unit → later_at unit ≡ at unit)
+      → NoBadRow s rows → HoldsFresh later_at plan → ((unit : ℕ) → HasPage rows unit → later_at unit ≡ at unit)
       → ObjectsStand at rows objects → transaction_effect change objects ≡ Ok after → ObjectsStand later_at (rows_after rows plan.ops) after
   planned_stand at later_at objects after (makes_coll c name none) good holds same stand is =
-      coll_stands later_at rows objects after c (objects_stand at later_at rows (λ unit owned. sym (same unit owned)) objects stand) is
+      coll_stands later_at rows objects after c (objects_stand at later_at rows (λ unit has. sym (same unit has)) objects stand) is
   planned_stand at later_at objects after (touches c o coll name has) good holds same stand is =
       touch_stand s rows c o coll name has good at later_at objects after same stand is
   planned_stand at later_at objects after (writes c o first bytes units ops released can w) good holds same stand is =
@@ -432,6 +441,13 @@ module _ (s : Super) (rows : Rows) where
   planned_exact leaves (touches c o coll name has) good exact = touch_exact s rows c o coll name has good (IsLeaked leaves) exact
   planned_exact leaves (writes c o first bytes units ops released can w) good exact =
       write_exact s rows c o first bytes units ops released can w good leaves exact
+
+  pub planned_marked : {change : Change} {plan : Plan} (v : ℕ) → IsPlanned s rows change plan → NoBadRow s rows → v < 2 ^ 32
+      → IsMarked rows v → IsMarked (rows_after rows plan.ops) v ⊎ Contains plan.released v
+  planned_marked v (makes_coll c name none) good small marked = inl ((coll_bits rows c v).1 marked)
+  planned_marked v (touches c o coll name has) good small marked = inl ((touch_bits s rows c o coll name has good v).1 marked)
+  planned_marked v (writes c o first bytes units ops released can w) good small marked =
+      write_marked s rows c o first bytes units ops released can w good v small marked
 
   pub planned_unmarked : {change : Change} {plan : Plan} (v : ℕ) → IsPlanned s rows change plan → IsFresh plan v → ¬ IsMarked rows v
   planned_unmarked v (makes_coll c name none) f = absurd (none_fresh (coll_ops c) v f)

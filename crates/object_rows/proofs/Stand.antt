@@ -1,5 +1,5 @@
 -- Rows that stand for objects, after an object's rows are replaced and its bytes are others.
-use Rattle.std.proofs.Common.{◌≡◌, ◌≢◌, ◌⊎◌, inl, inr, ℕ, true, false, List, [], ◌∷◌, length, Option, Some, None, is_some, unwrap_or, option_and_then, refl, sym, ap, subst, ◌∙◌, arith}
+use Rattle.std.proofs.Common.{◌≡◌, ◌≢◌, ◌⊎◌, inl, inr, ℕ, true, false, List, [], ◌∷◌, length, Option, Some, refl, None, is_some, unwrap_or, option_and_then, sym, ap, subst, ◌∙◌, arith}
 use Rattle.std.specs.Prelude.{IsSome}
 use Rattle.std.specs.FinMap as map
 use Rattle.byte_maps.specs.ByteMap.{byte_order}
@@ -11,14 +11,14 @@ use Rattle.unit_fields.specs.Names.{IsName, IsCollName}
 use Rattle.row_format.specs.Keys.{onode_key}
 use Rattle.row_format.specs.Extents.{Extent}
 use Rattle.row_format.specs.Row.{onode}
-use Rattle.store_image.specs.Pages.{HasRow}
+use Rattle.store_image.specs.Pages.{HasRow, HasPage}
 use Rattle.store_image.specs.Stands.{IsObjectShape, IsShape, AreObjectBytes, AreBytes, ObjectsStand}
 use Rattle.row_facts.proofs.Maps.{keys_after}
 use Rattle.row_facts.proofs.PutRow.{no_other_kind}
 use Rattle.row_facts.proofs.Shapes.{shape_kept}
 use Rattle.row_facts.proofs.ObjectUnder.{object_cases, with_object, under_same, under_other}
-use Rattle.object_rows.specs.Operations.{CanReplace, replaced, IsOther, IsOwnedElsewhere}
-use Rattle.object_rows.proofs.After.{then_good, then_sized, then_others, then_kinds, then_colls, then_onodes}
+use Rattle.object_rows.specs.Operations.{CanReplace, replaced, IsOther}
+use Rattle.object_rows.proofs.After.{then_good, then_sized, then_others_on, then_kinds, then_colls, then_onodes}
 
 -- the object, or an empty one where it is missing, with other bytes
 abbrev pub with_bytes : Option Object → List ℕ → Object
@@ -118,18 +118,17 @@ module _ (s : Super) (rows : Rows) (c o : List ℕ) (size : ℕ) (extents : List
       missing = later_missing;
     }
 
-    -- over any units where those of other objects hold what they held
-    module _ (at later_at : ℕ → List ℕ) (same : (v : ℕ) → IsOwnedElsewhere rows c o v → later_at v ≡ at v)
-        (own : AreObjectBytes later_at then c o new) where
+    -- over any units where those on which pages stood hold what they held
+    module _ (at later_at : ℕ → List ℕ) (same : (v : ℕ) → HasPage rows v → later_at v ≡ at v)
+        (own_bytes : AreObjectBytes later_at then c o new) where
       other_bytes : (d u : List ℕ) (x : List ℕ) → IsOther c o d u → AreObjectBytes at rows d u x → AreObjectBytes later_at then d u x
       other_bytes d u x other all = record {
-        mapped = λ page place is.
-            let was = (then_others s rows c o size extents present can page place d u other).0 is in
-            let seen = all.mapped page place was in
-            let elsewhere : IsOwnedElsewhere rows c o place.unit =
-            record { coll = d; object = u; page = page; other = other; owns = (place, was, refl) } in
-            record { seen = seen.seen ∙ sym (same place.unit elsewhere); kept = seen.kept };
-        holes = λ page hole. all.holes page (λ place is. hole place ((then_others s rows c o size extents present can page place d u other).1 is));
+        mapped = λ page on is.
+            let was = (then_others_on s rows c o size extents present can page on d u other).0 is in
+            let seen = all.mapped page on was in
+            let has : HasPage rows on.unit = record { coll = d; object = u; page = page; on = on; is_on = was; is_unit = refl } in
+            record { seen = seen.seen ∙ sym (same on.unit has); kept = seen.kept };
+        holes = λ page hole. all.holes page (λ on is. hole on ((then_others_on s rows c o size extents present can page on d u other).1 is));
       }
 
       later_bytes : AreBytes at rows objects → AreBytes later_at then later
@@ -137,7 +136,7 @@ module _ (s : Super) (rows : Rows) (c o : List ℕ) (size : ℕ) (extents : List
         | inl e ↦
             subst (λ x. AreObjectBytes later_at then d u x.bytes) (sym e.2)
             (subst (λ x. AreObjectBytes later_at then x u new) (sym e.0)
-            (subst (λ x. AreObjectBytes later_at then c x new) (sym e.1) own))
+            (subst (λ x. AreObjectBytes later_at then c x new) (sym e.1) own_bytes))
         | inr old ↦ other_bytes d u object.bytes old.0 (all d u object old.1)
       ]
 

@@ -10,7 +10,8 @@ use Rattle.object_model.specs.Effect.{transaction_effect}
 use Rattle.unit_fields.specs.Names.{IsName, IsCollName}
 use Rattle.row_format.specs.Keys.{coll_key, onode_key}
 use Rattle.row_format.specs.Row.{shard}
-use Rattle.store_image.specs.Pages.{HasKey, IsPageAt}
+use Rattle.row_format.specs.Extents.{own}
+use Rattle.store_image.specs.Pages.{HasKey, IsPageAt, HasPage}
 use Rattle.store_image.specs.BadRows.{NoBadRow}
 use Rattle.store_image.specs.Owners.{Owner, page_of, Owns, IsOwned, IsMarked, IsExactBut, HasSoleOwner}
 use Rattle.store_image.specs.Stands.{ObjectsStand}
@@ -66,11 +67,11 @@ module _ (s : Super) (rows : Rows) (c o : List ℕ) (coll : IsCollName c) (name 
     owned_elsewhere : map.get rows (onode_key c o) ≡ None → (v : ℕ) (owner : Owner) → Owns rows owner v → IsOwnedElsewhere rows c o v
     owned_elsewhere none v (page_of d u page) owns = elim (object_cases c o d u) [
       | inl e ↦ absurd (no_page
-          (subst (λ x. IsPageAt rows x o page owns.0) e.0 (subst (λ x. IsPageAt rows d x page owns.0) e.1 owns.1)))
+          (subst (λ x. IsPageAt rows x o page (own v owns.0)) e.0 (subst (λ x. IsPageAt rows d x page (own v owns.0)) e.1 owns.1)))
       | inr other ↦ record { coll = d; object = u; page = page; other = other; owns = owns }
     ]
       where
-        no_page : IsPageAt rows c o page owns.0 → ⊥
+        no_page : IsPageAt rows c o page (own v owns.0) → ⊥
         no_page is =
             let t = sym (in_place s rows (shard c o is.first is.extents) good is.has_shard).has_onode ∙ ap is_some none in cc
 
@@ -89,20 +90,20 @@ module _ (s : Super) (rows : Rows) (c o : List ℕ) (coll : IsCollName c) (name 
 
     pub touch_sole : (v : ℕ) → HasSoleOwner rows v → HasSoleOwner (rows_after rows (touch_ops rows c o)) v
     touch_sole v sole = by_test (λ ops. HasSoleOwner (rows_after rows ops) v) (λ there. sole)
-        (λ none. then_sole s rows c o 0 [] [] (can none) v sole (λ p q a b found too is same. absurd cc) (λ h e. none_has v h))
+        (λ none. then_sole s rows c o 0 [] [] (can none) v sole (λ p q a b found too. absurd cc) (λ h e. none_has v h))
 
-    touch_bits : (v : ℕ) → IsMarked (rows_after rows (touch_ops rows c o)) v ↔ IsMarked rows v
+    pub touch_bits : (v : ℕ) → IsMarked (rows_after rows (touch_ops rows c o)) v ↔ IsMarked rows v
     touch_bits v = by_test (λ ops. IsMarked (rows_after rows ops) v ↔ IsMarked rows v) (λ there. (λ x. x, λ x. x))
         (λ none. then_bits s rows c o 0 [] [] (can none) v)
 
     pub touch_exact : (leaked : ℕ → Type 0) → IsExactBut leaked rows → IsExactBut leaked (rows_after rows (touch_ops rows c o))
     touch_exact = exact_stays rows (rows_after rows (touch_ops rows c o)) touch_bits touch_owned touch_sole
 
-    pub touch_stand : (at later_at : ℕ → List ℕ) (objects after : Objects) → ((v : ℕ) → IsOwned rows v → later_at v ≡ at v)
+    pub touch_stand : (at later_at : ℕ → List ℕ) (objects after : Objects) → ((v : ℕ) → HasPage rows v → later_at v ≡ at v)
         → ObjectsStand at rows objects → transaction_effect (touch_change c o) objects ≡ Ok after
         → ObjectsStand later_at (rows_after rows (touch_ops rows c o)) after
     touch_stand at later_at objects after same stand is =
-        let later = objects_stand at later_at rows (λ v owned. sym (same v owned)) objects stand in
+        let later = objects_stand at later_at rows (λ v has_page. sym (same v has_page)) objects stand in
         by_test (λ ops. ObjectsStand later_at (rows_after rows ops) after)
         (λ there. subst (ObjectsStand later_at rows) (sym (touched_same later_at rows objects after c o coll name there later is)) later)
         (λ none. made_stand s rows c o [] (can none) later_at objects after none later is)

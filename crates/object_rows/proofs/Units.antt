@@ -5,7 +5,7 @@ use Rattle.byte_maps.specs.Units.{unit_at}
 use Rattle.crc32c_csum.specs.Crc32c.{crc32c}
 use Rattle.meta_rows.specs.Rows.{Rows}
 use Rattle.meta_log.specs.declared.slot.Super.{Super}
-use Rattle.row_format.specs.Extents.{Extent, Place, place_of}
+use Rattle.row_format.specs.Extents.{Extent, own, place_of}
 use Rattle.store_image.specs.Pages.{IsPageAt}
 use Rattle.store_image.specs.Owners.{Owner, page_of, Owns, IsOwned, HasSoleOwner}
 use Rattle.row_facts.proofs.ObjectUnder.{object_cases}
@@ -21,10 +21,9 @@ module _ (s : Super) (rows : Rows) (c o : List ℕ) (size : ℕ) (extents : List
   -- an owner after is a page of the extents, or of another object
   record IsOwn (owner : Owner) (v : ℕ) : Type 0 where
     pub page : ℕ
-    pub place : Place
+    pub csum : ℕ
     pub is_page : owner ≡ page_of c o page
-    pub found : place_of extents page ≡ Some place
-    pub is_unit : place.unit ≡ v
+    pub found : place_of extents page ≡ Some (own v csum)
 
   record IsOld (owner : Owner) (v : ℕ) : Type 0 where
     pub elsewhere : IsOwnedElsewhere rows c o v
@@ -35,14 +34,13 @@ module _ (s : Super) (rows : Rows) (c o : List ℕ) (size : ℕ) (extents : List
   owner_cases (page_of d u page) v owns = elim (object_cases c o d u) [
     | inl e ↦ inl (record {
       page = page;
-      place = owns.0;
+      csum = owns.0;
       is_page = λ i. page_of (e.0 i) (e.1 i) page;
-      found = (then_pages s rows c o size extents present can page owns.0).0
-          (subst (λ x. IsPageAt then x o page owns.0) e.0 (subst (λ x. IsPageAt then d x page owns.0) e.1 owns.1));
-      is_unit = owns.2;
+      found = (then_pages s rows c o size extents present can page (own v owns.0)).0
+          (subst (λ x. IsPageAt then x o page (own v owns.0)) e.0 (subst (λ x. IsPageAt then d x page (own v owns.0)) e.1 owns.1));
     })
     | inr other ↦
-        let was : Owns rows (page_of d u page) v = (owns.0, (then_others s rows c o size extents present can page owns.0 d u other).0 owns.1, owns.2) in
+        let was : Owns rows (page_of d u page) v = (owns.0, (then_others s rows c o size extents present can page (own v owns.0) d u other).0 owns.1) in
         inr (record {
           elsewhere = record { coll = d; object = u; page = page; other = other; owns = was };
           owner_is = refl;
@@ -50,22 +48,22 @@ module _ (s : Super) (rows : Rows) (c o : List ℕ) (size : ℕ) (extents : List
         })
   ]
 
-  own_owns : (page : ℕ) (place : Place) → place_of extents page ≡ Some place → Owns then (page_of c o page) place.unit
-  own_owns page place is = (place, (then_pages s rows c o size extents present can page place).1 is, refl)
+  own_owns : (page unit csum : ℕ) → place_of extents page ≡ Some (own unit csum) → Owns then (page_of c o page) unit
+  own_owns page unit csum is = (csum, (then_pages s rows c o size extents present can page (own unit csum)).1 is)
 
   other_owns : (d u : List ℕ) (page v : ℕ) → IsOther c o d u → Owns rows (page_of d u page) v → Owns then (page_of d u page) v
-  other_owns d u page v other owns = (owns.0, (then_others s rows c o size extents present can page owns.0 d u other).1 owns.1, owns.2)
+  other_owns d u page v other owns = (owns.0, (then_others s rows c o size extents present can page (own v owns.0) d u other).1 owns.1)
 
   pub then_sole : (v : ℕ) → HasSoleOwner rows v → StandsAlone extents v → (HasUnit extents v → IsOwnedElsewhere rows c o v → ⊥) → HasSoleOwner then v
   then_sole v sole alone apart a b p q = elim (owner_cases a v p) [
     | inl x ↦ elim (owner_cases b v q) [
       | inl y ↦
-          let same : x.page ≡ y.page = alone x.page y.page x.place y.place x.found y.found x.is_unit y.is_unit in
+          let same : x.page ≡ y.page = alone x.page y.page x.csum y.csum x.found y.found in
           x.is_page ∙ ap (page_of c o) same ∙ sym y.is_page
-      | inr y ↦ absurd (apart (record { page = x.page; place = x.place; there = x.found; is = x.is_unit }) y.elsewhere)
+      | inr y ↦ absurd (apart (record { page = x.page; csum = x.csum; there = x.found }) y.elsewhere)
     ]
     | inr x ↦ elim (owner_cases b v q) [
-      | inl y ↦ absurd (apart (record { page = y.page; place = y.place; there = y.found; is = y.is_unit }) x.elsewhere)
+      | inl y ↦ absurd (apart (record { page = y.page; csum = y.csum; there = y.found }) x.elsewhere)
       | inr y ↦ sole a b x.owned y.owned
     ]
   ]
@@ -77,30 +75,30 @@ module _ (s : Super) (rows : Rows) (c o : List ℕ) (size : ℕ) (extents : List
     IsFreshUnit v = (i : ℕ) × (i < length units) × (slice_index units i ≡ v)
 
     -- a page of the extents is one that was written, or stands where it did
-    page_of_extents : (page : ℕ) (place : Place) → place_of extents page ≡ Some place
-        → ((i : ℕ) × (i < length units) × (page ≡ first + i) × (slice_index units i ≡ place.unit))
-        ⊎ (((page < first) ⊎ (first + length units ≤ page)) × IsPageAt rows c o page place)
-    page_of_extents page place found = elim (written_or_not first (length units) page) [
+    page_of_extents : (page unit csum : ℕ) → place_of extents page ≡ Some (own unit csum)
+        → ((i : ℕ) × (i < length units) × (page ≡ first + i) × (slice_index units i ≡ unit))
+        ⊎ (((page < first) ⊎ (first + length units ≤ page)) × IsPageAt rows c o page (own unit csum))
+    page_of_extents page unit csum found = elim (written_or_not first (length units) page) [
       | inl p ↦
-          let two : Some place ≡ Some (record { unit = slice_index units p.0; csum = crc32c (unit_at p.0 bytes) }) =
+          let two : Some (own unit csum) ≡ Some (own (slice_index units p.0) (crc32c (unit_at p.0 bytes))) =
           sym found ∙ ap (place_of extents) p.2 ∙ w.inside p.0 p.1 in
-          let same : place ≡ record { unit = slice_index units p.0; csum = crc32c (unit_at p.0 bytes) } = cc in
-          inl (p.0, p.1, p.2, sym (ap (λ x. x.unit) same))
-      | inr out ↦ inr (out, (w.outside page place out).0 found)
+          let same : slice_index units p.0 ≡ unit = cc in
+          inl (p.0, p.1, p.2, same)
+      | inr out ↦ inr (out, (w.outside page (own unit csum) out).0 found)
     ]
 
     fresh_owns : (i : ℕ) → i < length units → Owns then (page_of c o (first + i)) (slice_index units i)
-    fresh_owns i lt = own_owns (first + i) (record { unit = slice_index units i; csum = crc32c (unit_at i bytes) }) (w.inside i lt)
+    fresh_owns i lt = own_owns (first + i) (slice_index units i) (crc32c (unit_at i bytes)) (w.inside i lt)
 
     left_owns : (owner : Owner) (v : ℕ) → IsLeft c o first (length units) owner → Owns rows owner v → Owns then owner v
     left_owns (page_of d u page) v left owns = elim (object_cases c o d u) [
       | inl e ↦ elim left [
         | inl other ↦ absurd (other e.0 e.1)
         | inr out ↦
-            let here : IsPageAt rows c o page owns.0 =
-            subst (λ x. IsPageAt rows x o page owns.0) e.0 (subst (λ x. IsPageAt rows d x page owns.0) e.1 owns.1) in
+            let here : IsPageAt rows c o page (own v owns.0) =
+            subst (λ x. IsPageAt rows x o page (own v owns.0)) e.0 (subst (λ x. IsPageAt rows d x page (own v owns.0)) e.1 owns.1) in
             let there : Owns then (page_of c o page) v =
-            (owns.0, (then_pages s rows c o size extents present can page owns.0).1 ((w.outside page owns.0 out).1 here), owns.2) in
+            (owns.0, (then_pages s rows c o size extents present can page (own v owns.0)).1 ((w.outside page (own v owns.0) out).1 here)) in
             subst (λ x. Owns then x v) (λ i. page_of (sym e.0 i) (sym e.1 i) page) there
       ]
       | inr other ↦ other_owns d u page v other owns
@@ -108,9 +106,9 @@ module _ (s : Super) (rows : Rows) (c o : List ℕ) (size : ℕ) (extents : List
 
     then_owned_cases : (v : ℕ) → IsOwned then v → IsFreshUnit v ⊎ IsOwnedBesidesWritten rows c o first (length units) v
     then_owned_cases v owned = elim (owner_cases owned.0 v owned.1) [
-      | inl x ↦ elim (page_of_extents x.page x.place x.found) [
-        | inl p ↦ inl (p.0, p.1, p.3 ∙ x.is_unit)
-        | inr p ↦ inr (record { owner = page_of c o x.page; left = inr p.0; owns = (x.place, p.1, x.is_unit) })
+      | inl x ↦ elim (page_of_extents x.page v x.csum x.found) [
+        | inl p ↦ inl (p.0, p.1, p.3)
+        | inr p ↦ inr (record { owner = page_of c o x.page; left = inr p.0; owns = (x.csum, p.1) })
       ]
       | inr x ↦ inr (record {
         owner = page_of x.elsewhere.coll x.elsewhere.object x.elsewhere.page;
@@ -158,26 +156,26 @@ module _ (s : Super) (rows : Rows) (c o : List ℕ) (size : ℕ) (extents : List
       fresh_free p owned = free p.0 p.1 (subst (IsOwned rows) (sym p.2) owned)
 
       alone : AreDistinct units → StandsAlone extents v
-      alone distinct p q a b found too is same = elim (page_of_extents p a found) [
-        | inl x ↦ elim (page_of_extents q b too) [
+      alone distinct p q a b found too = elim (page_of_extents p v a found) [
+        | inl x ↦ elim (page_of_extents q v b too) [
           | inl y ↦
-              let one : x.0 ≡ y.0 = distinct x.0 y.0 x.1 y.1 (x.3 ∙ is ∙ sym (y.3 ∙ same)) in
+              let one : x.0 ≡ y.0 = distinct x.0 y.0 x.1 y.1 (x.3 ∙ sym y.3) in
               x.2 ∙ ap (λ i. first + i) one ∙ sym y.2
-          | inr y ↦ absurd (fresh_free (x.0, x.1, x.3 ∙ is) (page_of c o q, (b, y.1, same)))
+          | inr y ↦ absurd (fresh_free (x.0, x.1, x.3) (page_of c o q, (b, y.1)))
         ]
-        | inr x ↦ elim (page_of_extents q b too) [
-          | inl y ↦ absurd (fresh_free (y.0, y.1, y.3 ∙ same) (page_of c o p, (a, x.1, is)))
+        | inr x ↦ elim (page_of_extents q v b too) [
+          | inl y ↦ absurd (fresh_free (y.0, y.1, y.3) (page_of c o p, (a, x.1)))
           | inr y ↦
-              let one : page_of c o p ≡ page_of c o q = sole (page_of c o p) (page_of c o q) (a, x.1, is) (b, y.1, same) in cc
+              let one : page_of c o p ≡ page_of c o q = sole (page_of c o p) (page_of c o q) (a, x.1) (b, y.1) in cc
         ]
       ]
 
       apart : HasUnit extents v → IsOwnedElsewhere rows c o v → ⊥
-      apart has e = elim (page_of_extents has.page has.place has.there) [
-        | inl x ↦ fresh_free (x.0, x.1, x.3 ∙ has.is) (page_of e.coll e.object e.page, e.owns)
+      apart has e = elim (page_of_extents has.page v has.csum has.there) [
+        | inl x ↦ fresh_free (x.0, x.1, x.3) (page_of e.coll e.object e.page, e.owns)
         | inr x ↦
             let one : page_of c o has.page ≡ page_of e.coll e.object e.page =
-            sole (page_of c o has.page) (page_of e.coll e.object e.page) (has.place, x.1, has.is) e.owns in
+            sole (page_of c o has.page) (page_of e.coll e.object e.page) (has.csum, x.1) e.owns in
             e.other (sym (coll_of c e.coll o e.object has.page e.page one)) (sym (object_of c e.coll o e.object has.page e.page one))
       ]
         where

@@ -14,14 +14,14 @@ use Rattle.object_model.specs.Objects.{Object, Collection, Objects, empty_object
 use Rattle.object_model.specs.Effect.{object_limit, overwritten, unless, making, effects, transaction_effect, object_under, ◌>>=◌}
 use Rattle.unit_fields.specs.Names.{IsName, IsCollName}
 use Rattle.row_format.specs.Keys.{onode_key}
-use Rattle.row_format.specs.Extents.{Extent, Place, place_of}
+use Rattle.row_format.specs.Extents.{Extent, Place, own, place_of}
 use Rattle.row_format.specs.Row.{onode, shard, row_value}
 use Rattle.row_format.proofs.RowLemmas.{same_row}
-use Rattle.store_image.specs.Pages.{HasKey}
+use Rattle.store_image.specs.Pages.{HasKey, HasPage}
 use Rattle.store_image.specs.BadRows.{IsShardInPlace}
-use Rattle.store_image.specs.Owners.{page_of}
 use Rattle.store_image.specs.Stands.{page_bytes, IsShape, AreObjectBytes, ObjectsStand}
 use Rattle.store_image.proofs.PageMap.{in_place}
+use Rattle.store_image.proofs.PageUnits.{on_own, own_of}
 use Rattle.row_facts.proofs.ObjectUnder.{after_outcome, with_object}
 use Rattle.object_rows.specs.Operations.{CanReplace, replaced}
 use Rattle.object_rows.specs.Writes.{write_change, touch_change, missing, there, IsSizeOf, IsWritten, HoldPages}
@@ -85,17 +85,18 @@ module _ (s : Super) (rows : Rows) (c o : List ℕ) (size : ℕ) (extents : List
   before_is None e n (there m has) = absurd (let t = sym (shape.missing c o can.coll_name can.object_name e) ∙ has.stands in cc)
   before_is (Some old) e n (missing none) = absurd (let t = sym none ∙ (shape.present c o old e).size.stands in cc)
   before_is (Some old) e n (there m has) =
-      let own = (shape.present c o old e).size in
-      let value : Some (row_value (onode c o m)) ≡ Some (row_value (onode c o (length old.bytes))) = sym has.stands ∙ own.stands in
-      let same : onode c o m ≡ onode c o (length old.bytes) = same_row (onode c o m) (onode c o (length old.bytes)) has.fits own.fits refl cc in cc
+      let there_is = (shape.present c o old e).size in
+      let value : Some (row_value (onode c o m)) ≡ Some (row_value (onode c o (length old.bytes))) = sym has.stands ∙ there_is.stands in
+      let same : onode c o m ≡ onode c o (length old.bytes) = same_row (onode c o m) (onode c o (length old.bytes)) has.fits there_is.fits refl cc in cc
 
   -- a missing object has no page
   bytes_before : (at : ℕ → List ℕ) → ObjectsStand at rows objects → (x : Option Object) → object_under objects c o ≡ x
       → AreObjectBytes at rows c o (bytes_of x)
   bytes_before at stand (Some old) e = stand.bytes c o old e
   bytes_before at stand None e = record {
-    mapped = λ page place is.
-        let placed : IsShardInPlace s rows c o is.first is.extents = in_place s rows (shard c o is.first is.extents) can.good is.has_shard in
+    mapped = λ page on is.
+        let at = is.at in
+        let placed : IsShardInPlace s rows c o at.first at.extents = in_place s rows (shard c o at.first at.extents) can.good at.has_shard in
         absurd (let t = sym placed.has_onode ∙ ap is_some (shape.missing c o can.coll_name can.object_name e) in cc);
     holes = λ page hole. no_pages page;
   }
@@ -118,38 +119,43 @@ module _ (s : Super) (rows : Rows) (c o : List ℕ) (size : ℕ) (extents : List
   then = replaced rows c o size extents present
 
   new_place : ℕ → Place
-  new_place i = record { unit = slice_index units i; csum = crc32c (unit_at i bytes) }
+  new_place i = own (slice_index units i) (crc32c (unit_at i bytes))
 
   own_bytes : (at later_at : ℕ → List ℕ) → HoldPages at later_at rows bytes units → (old : List ℕ) → AreObjectBytes at rows c o old
       → AreObjectBytes later_at then c o (overwritten old (4096 * first) bytes)
   own_bytes at later_at hold old was = record {
-    mapped = λ page place is.
-        let found = (then_pages s rows c o size extents present can page place).0 is in
+    mapped = λ page on is.
+        let found = (then_pages s rows c o size extents present can page (own on.unit on.csum)).0 (own_of then c o page on is) in
         elim (written_or_not first (length units) page) [
           | inl p ↦
               let page_is : page_bytes (overwritten old (4096 * first) bytes) page ≡ unit_at p.0 bytes =
               ap (page_bytes (overwritten old (4096 * first) bytes)) p.2 ∙ page_inside old bytes first (length units) w.some w.whole p.0 p.1 in
-              let two : Some place ≡ Some (record { unit = slice_index units p.0; csum = crc32c (unit_at p.0 bytes) }) =
+              let two : Some (own on.unit on.csum) ≡ Some (own (slice_index units p.0) (crc32c (unit_at p.0 bytes))) =
               sym found ∙ ap (place_of extents) p.2 ∙ w.inside p.0 p.1 in
-              let same : place ≡ record { unit = slice_index units p.0; csum = crc32c (unit_at p.0 bytes) } = cc in
+              let unit_is : on.unit ≡ slice_index units p.0 = cc in
+              let csum_is : on.csum ≡ crc32c (unit_at p.0 bytes) = cc in
               record {
-                seen = page_is ∙ sym (hold.fresh p.0 p.1) ∙ ap (λ x. later_at x.unit) (sym same);
-                kept = ap crc32c page_is ∙ ap (λ x. x.csum) (sym same);
+                seen = page_is ∙ sym (hold.fresh p.0 p.1) ∙ ap later_at (sym unit_is);
+                kept = ap crc32c page_is ∙ sym csum_is;
               }
           | inr out ↦
               let page_is = page_outside old bytes first (length units) w.some w.whole page out in
-              let stood = (w.outside page place out).0 found in
-              let seen = was.mapped page place stood in
+              let stood = (w.outside page (own on.unit on.csum) out).0 found in
+              let was_on = on_own rows c o page on.unit on.csum stood in
+              let seen = was.mapped page on was_on in
+              let has : HasPage rows on.unit = record { coll = c; object = o; page = page; on = on; is_on = was_on; is_unit = refl } in
               record {
-                seen = page_is ∙ seen.seen ∙ sym (hold.kept place.unit (page_of c o page, (place, stood, refl)));
+                seen = page_is ∙ seen.seen ∙ sym (hold.kept on.unit has);
                 kept = ap crc32c page_is ∙ seen.kept;
               }
         ];
     holes = λ page hole. elim (written_or_not first (length units) page) [
       | inl p ↦ absurd (hole (record { unit = slice_index units p.0; csum = crc32c (unit_at p.0 bytes) })
-          ((then_pages s rows c o size extents present can page _).1 (ap (place_of extents) p.2 ∙ w.inside p.0 p.1)))
+          (on_own then c o page _ _ ((then_pages s rows c o size extents present can page _).1 (ap (place_of extents) p.2 ∙ w.inside p.0 p.1))))
       | inr out ↦ page_outside old bytes first (length units) w.some w.whole page out
-          ∙ was.holes page (λ place is. hole place ((then_pages s rows c o size extents present can page place).1 ((w.outside page place out).1 is)))
+          ∙ was.holes page (λ on is. hole on (on_own then c o page on.unit on.csum
+          ((then_pages s rows c o size extents present can page (own on.unit on.csum)).1
+          ((w.outside page (own on.unit on.csum) out).1 (own_of rows c o page on is)))))
     ];
   }
 
@@ -169,14 +175,14 @@ module _ (s : Super) (rows : Rows) (c o : List ℕ) (size : ℕ) (extents : List
       let sized : w.before ≡ length old = before_is s rows c o size extents present can objects stand.shape (map.get e.0 o) under w.before w.was_long in
       subst (ObjectsStand later_at then) (sym e.2)
       (later_stand s rows c o size extents present can (overwritten old (4096 * first) bytes) (long old sized) objects stand.shape e.0 e.1 at later_at
-      (λ v elsewhere. hold.kept v (page_of elsewhere.coll elsewhere.object elsewhere.page, elsewhere.owns)) (own_bytes at later_at hold old was) stand.bytes)
+      hold.kept (own_bytes at later_at hold old was) stand.bytes)
 
 -- ---- an object is made
 
 module _ (s : Super) (rows : Rows) (c o : List ℕ) (present : List ℕ) (can : CanReplace s rows c o 0 [] present) where
   none_own : (at : ℕ → List ℕ) → AreObjectBytes at (replaced rows c o 0 [] present) c o []
   none_own at = record {
-    mapped = λ page place is. absurd (let e = (then_pages s rows c o 0 [] present can page place).0 is in cc);
+    mapped = λ page on is. absurd (let e = (then_pages s rows c o 0 [] present can page is.place).0 is.at in cc);
     holes = λ page hole. no_pages page;
   }
 
@@ -188,7 +194,7 @@ module _ (s : Super) (rows : Rows) (c o : List ℕ) (present : List ℕ) (can : 
       let same : unwrap_or (map.get e.0 o) empty_object ≡ with_bytes (map.get e.0 o) [] =
       ap (λ x. unwrap_or x empty_object) none_there ∙ sym (ap (λ x. with_bytes x []) none_there) in
       subst (ObjectsStand at (replaced rows c o 0 [] present)) (sym (e.2 ∙ ap (with_object objects c o e.0) same))
-      (later_stand s rows c o 0 [] present can [] refl objects stand.shape e.0 e.1 at at (λ v elsewhere. refl) (none_own at) stand.bytes)
+      (later_stand s rows c o 0 [] present can [] refl objects stand.shape e.0 e.1 at at (λ v has. refl) (none_own at) stand.bytes)
     where
       no_object : (x : Option Object) → object_under objects c o ≡ x → x ≡ None
       no_object None p = refl

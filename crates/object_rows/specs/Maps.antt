@@ -9,7 +9,7 @@ use Rattle.meta_log.specs.declared.slot.Super.{Super}
 use Rattle.object_model.specs.Effect.{object_limit}
 use Rattle.unit_fields.specs.Names.{IsName, IsCollName}
 use Rattle.row_format.specs.Keys.{coll_key}
-use Rattle.row_format.specs.Extents.{Extent, Place}
+use Rattle.row_format.specs.Extents.{Extent, Place, own}
 use Rattle.row_format.specs.Row.{shard}
 use Rattle.store_image.specs.Pages.{HasKey, HasRow, IsPageAt}
 use Rattle.store_image.specs.BadRows.{NoBadRow}
@@ -48,7 +48,7 @@ IsMapOf rows c o pages = (page : ℕ) (place : Place) → (finite.get pages page
 -- the map after whole pages are written from the first on, each on its unit
 pub record IsMapWritten (old new : PageMap) (first : ℕ) (bytes units : List ℕ) : Type 0 where
   pub inside : (i : ℕ) → i < length units
-      → finite.get new (first + i) ≡ Some (record { unit = slice_index units i; csum = crc32c (unit_at i bytes) })
+      → finite.get new (first + i) ≡ Some (own (slice_index units i) (crc32c (unit_at i bytes)))
   pub outside : (page : ℕ) → (page < first) ⊎ (first + length units ≤ page) → finite.get new page ≡ finite.get old page
 
 -- Rows of which none is bad, a collection that they have, an object no longer than it may be, and data units: the bytes can be written

@@ -12,7 +12,7 @@ use Rattle.meta_log.specs.declared.slot.Super.{Super}
 use Rattle.object_model.specs.Effect.{object_limit, is_same}
 use Rattle.unit_fields.specs.Names.{IsName, IsCollName}
 use Rattle.row_format.specs.Keys.{coll_key, onode_key, shard_key}
-use Rattle.row_format.specs.Extents.{Extent, FitsExtent, Ascend, Place, place_of, page_end}
+use Rattle.row_format.specs.Extents.{Extent, FitsExtent, Ascend, own, place_of, page_end}
 use Rattle.row_format.specs.Row.{Row, onode, shard, row_key, row_value}
 use Rattle.store_image.specs.Pages.{HasKey, pages_of}
 use Rattle.store_image.specs.BadRows.{NoBadRow, IsOnData}
@@ -73,12 +73,11 @@ IsKeyOf c o key = (key ≡ onode_key c o) ⊎ ((page : ℕ) × (page < 2 ^ 32) �
 abbrev pub IsOther : List ℕ → List ℕ → List ℕ → List ℕ → Type 0
 IsOther c o d u = d ≡ c → u ≡ o → ⊥
 
--- a page of these extents stands on the unit
+-- a page of these extents stands on the unit, which is the object's own
 pub record HasUnit (extents : List Extent) (unit : ℕ) : Type 0 where
   pub page : ℕ
-  pub place : Place
-  pub there : place_of extents page ≡ Some place
-  pub is : place.unit ≡ unit
+  pub csum : ℕ
+  pub there : place_of extents page ≡ Some (own unit csum)
 
 -- an object other than this one owns the unit
 pub record IsOwnedElsewhere (rows : Rows) (c o : List ℕ) (unit : ℕ) : Type 0 where
@@ -90,8 +89,7 @@ pub record IsOwnedElsewhere (rows : Rows) (c o : List ℕ) (unit : ℕ) : Type 0
 
 -- no two pages of these extents stand on the unit
 abbrev pub StandsAlone : List Extent → ℕ → Type 0
-StandsAlone extents unit = (p q : ℕ) (a b : Place) → place_of extents p ≡ Some a → place_of extents q ≡ Some b
-    → a.unit ≡ unit → b.unit ≡ unit → p ≡ q
+StandsAlone extents unit = (p q a b : ℕ) → place_of extents p ≡ Some (own unit a) → place_of extents q ≡ Some (own unit b) → p ≡ q
 
 -- each page is above those before it
 abbrev pub Climb : List ℕ → Type 0

@@ -1,6 +1,6 @@
 -- What transactions are turned into before they are committed.
-use Rattle.std.specs.Prelude.{◌≡◌, ◌↔◌, ◌⊎◌, ℕ, ◌+◌, ◌*◌, max, List, [], ◌∷◌, ◌++◌, map, length, Contains, if◌then◌else◌}
-use Rattle.std.specs.List.{AllByRecursion}
+use Rattle.std.specs.Prelude.{◌≡◌, ◌↔◌, ◌⊎◌, ℕ, ◌+◌, ◌*◌, max, List, [], ◌∷◌, ◌++◌, length, Contains, if◌then◌else◌}
+use Rattle.std.specs.List.{AllByRecursion, flat_map}
 use Rattle.std.specs.Ordering.{nat_cmp}
 use Rattle.std.specs.FinMap as finite
 use Rattle.std.specs.FinMap.Entries.{where_key}
@@ -12,7 +12,7 @@ use Rattle.meta_rows.specs.declared.row_op.RowOp.{RowOp}
 use Rattle.unit_fields.specs.UnitSet.{Ascends}
 use Rattle.row_format.specs.Keys.{onode_key, shard_key}
 use Rattle.store_image.specs.Pages.{HasKey}
-use Rattle.row_format.specs.Extents.{Place}
+use Rattle.row_format.specs.Extents.{Place, own}
 use Rattle.bitmap_freelist.specs.Bitmap.{Units, Has, AreFlips}
 use Rattle.blob_map.specs.Pages.{PageMap, laid}
 use Rattle.blob_map.specs.Normal.{extents_of}
@@ -23,11 +23,15 @@ use Rattle.object_rows.specs.Writes.{IsSizeOf}
 -- pages from one on, each on its unit: the bytes are those of all pages, one behind the other
 abbrev pub new_pages : ℕ → ℕ → List ℕ → List ℕ → List (ℕ × Place)
 new_pages first i [] bytes = []
-new_pages first i (u ∷ us) bytes = (first + i, record { unit = u; csum = crc32c (unit_at i bytes) }) ∷ new_pages first (i + 1) us bytes
+new_pages first i (u ∷ us) bytes = (first + i, own u (crc32c (unit_at i bytes))) ∷ new_pages first (i + 1) us bytes
 
--- the units of the pages from one on, so many
+-- the unit of the object's own on which a page stands (one on a slot of a shared blob is to have none)
+abbrev pub own_units : Place → List ℕ
+own_units (own unit csum) = unit ∷ []
+
+-- those of the pages from one on, so many
 abbrev pub units_between : PageMap → ℕ → ℕ → List ℕ
-units_between pages first count = map (λ p. p.1.unit) (where_key nat_cmp (is_in first (first + count)) (finite.entries pages))
+units_between pages first count = flat_map (λ p. own_units p.1) (where_key nat_cmp (is_in first (first + count)) (finite.entries pages))
 
 -- The operations turn the bits of the units that are taken and of those that are released, each bit once.
 pub record TurnsBits (taken released : List ℕ) (flips : List RowOp) : Type 0 where

@@ -7,10 +7,10 @@ use Rattle.meta_rows.specs.Rows.{Rows}
 use Rattle.object_model.specs.declared.op.Op.TheVariants.{Touch, Write}
 use Rattle.object_model.specs.Effect.{Change}
 use Rattle.row_format.specs.Keys.{onode_key}
-use Rattle.row_format.specs.Extents.{Extent, Place, place_of}
+use Rattle.row_format.specs.Extents.{Extent, Place, own, place_of}
 use Rattle.row_format.specs.Row.{onode}
-use Rattle.store_image.specs.Pages.{HasRow, IsPageAt}
-use Rattle.store_image.specs.Owners.{Owner, page_of, Owns, IsOwned}
+use Rattle.store_image.specs.Pages.{HasRow, IsPageAt, HasPage}
+use Rattle.store_image.specs.Owners.{Owner, page_of, Owns}
 use Rattle.object_rows.specs.Operations.{IsOther}
 
 -- the transaction that writes bytes from a page on
@@ -35,14 +35,14 @@ pub record IsWritten (rows : Rows) (c o : List ℕ) (first : ℕ) (bytes units :
   pub was_long : IsSizeOf rows c o before
   pub size_is : size ≡ max before (4096 * (first + length units))
   pub inside : (i : ℕ) → i < length units
-      → place_of extents (first + i) ≡ Some (record { unit = slice_index units i; csum = crc32c (unit_at i bytes) })
+      → place_of extents (first + i) ≡ Some (own (slice_index units i) (crc32c (unit_at i bytes)))
   pub outside : (page : ℕ) (place : Place) → (page < first) ⊎ (first + length units ≤ page)
       → (place_of extents page ≡ Some place) ↔ IsPageAt rows c o page place
 
--- the units hold the pages that were written, and those that had an owner hold what they held
+-- the units hold the pages that were written, and those on which pages stood hold what they held
 pub record HoldPages (at later_at : ℕ → List ℕ) (rows : Rows) (bytes units : List ℕ) : Type 0 where
   pub fresh : (i : ℕ) → i < length units → later_at (slice_index units i) ≡ unit_at i bytes
-  pub kept : (unit : ℕ) → IsOwned rows unit → later_at unit ≡ at unit
+  pub kept : (unit : ℕ) → HasPage rows unit → later_at unit ≡ at unit
 
 -- no two of these units are the same
 abbrev pub AreDistinct : List ℕ → Type 0

@@ -63,7 +63,7 @@ pub fn record_of_an_object()
 {}
 
 /// Writing whole pages of an object leaves rows that stand for the objects after it, over any units where the fresh ones hold the pages
-/// and those that had an owner hold what they held.
+/// and those on which pages stood hold what they held.
 pub fn wrote_pages()
     ensures { (s : Super) (at later_at : ℕ → List ℕ) (rows : Rows) (objects after : Objects) (c o : List ℕ) (first : ℕ) (bytes units : List ℕ)
         (size : ℕ) (extents : List Extent) (present : List ℕ)

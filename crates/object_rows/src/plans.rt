@@ -14,7 +14,7 @@ ghost use Rattle.object_model.specs.Limits.{payload_limit, submitted_effect};
 ghost use Rattle.object_model.specs.declared.op.Refusal.TheVariants.{NoCollection, TooBig};
 ghost use Rattle.unit_fields.specs.UnitSet.{Ascends};
 ghost use Rattle.row_format.specs.Keys.{coll_key};
-ghost use Rattle.store_image.specs.Pages.{HasKey};
+ghost use Rattle.store_image.specs.Pages.{HasKey, HasPage};
 ghost use Rattle.store_image.specs.BadRows.{NoBadRow};
 ghost use Rattle.store_image.specs.Owners.{IsDataUnit, IsOwned, IsMarked, IsExactAs, HasSoleOwner};
 ghost use Rattle.store_image.specs.Stands.{IsShape, ObjectsStand};
@@ -23,7 +23,7 @@ ghost use Rattle.object_rows.specs.Writes.{write_change, touch_change};
 ghost use Rattle.object_rows.specs.Planned.{Plan, IsPlanned, HoldsFresh, IsFresh, StandsOnce, fresh_units};
 
 /// A planned transaction is accepted, its operations leave no bad row, and rows that stand for the objects after it, once its
-/// fresh units hold their bytes and the owned ones what they held.
+/// fresh units hold their bytes, and those on which pages stand what they held.
 pub fn planned_rows()
     ensures good { (s : Super) (rows : Rows) (change : Change) (plan : Plan) → IsPlanned s rows change plan
         → NoBadRow s rows → NoBadRow s (rows_after rows plan.ops) }
@@ -33,7 +33,7 @@ pub fn planned_rows()
         → submitted_effect change objects ≡ transaction_effect change objects }
     ensures stand { (s : Super) (at later_at : ℕ → List ℕ) (rows : Rows) (objects after : Objects) (change : Change) (plan : Plan)
         → IsPlanned s rows change plan → NoBadRow s rows
-        → HoldsFresh later_at plan → ((unit : ℕ) → IsOwned rows unit → later_at unit ≡ at unit)
+        → HoldsFresh later_at plan → ((unit : ℕ) → HasPage rows unit → later_at unit ≡ at unit)
         → ObjectsStand at rows objects → transaction_effect change objects ≡ Ok after
         → ObjectsStand later_at (rows_after rows plan.ops) after }
 {}
@@ -64,10 +64,13 @@ pub fn planned_owners()
         → HasSoleOwner rows unit → StandsOnce plan.released unit }
 {}
 
-/// The bitmap stays exact, but for what was leaked when it was: the fresh units are marked then, and the released ones aren't.
+/// The bitmap stays exact, but for what was leaked when it was: the fresh units are marked then, and the released ones aren't. A marked unit
+/// stays so where it isn't released.
 pub fn planned_bitmap()
     ensures exact { (s : Super) (first rows : Rows) (change : Change) (plan : Plan) → IsPlanned s rows change plan → NoBadRow s rows
         → IsExactAs first rows → IsExactAs first (rows_after rows plan.ops) }
+    ensures left { (s : Super) (rows : Rows) (change : Change) (plan : Plan) (unit : ℕ) → IsPlanned s rows change plan → NoBadRow s rows
+        → unit < 2 ^ 32 → IsMarked rows unit → IsMarked (rows_after rows plan.ops) unit ⊎ Contains plan.released unit }
     ensures taken { (s : Super) (rows : Rows) (change : Change) (plan : Plan) (unit : ℕ) → IsPlanned s rows change plan
         → IsFresh plan unit → ¬ IsMarked rows unit }
 {}

@@ -32,15 +32,15 @@ module _ (d : Disk) (h : History) (tells : d.history ≡ Some h) (answered : (un
     -- a good page is the object's
     good_is : (page : ℕ) (read : List ℕ) → IsGoodPage d rows c o page read → read ≡ page_bytes bytes page
     good_is page read (hole nowhere zero) = zero ∙ sym (are.holes page nowhere)
-    good_is page read (mapped place at held csum) = held_is place.unit read held ∙ sym (are.mapped page place at).seen
+    good_is page read (mapped on is held csum) = held_is on.unit read held ∙ sym (are.mapped page on is).seen
 
     -- no page is bad
     none_bad : (page unit kept found : ℕ) → IsBadPage d rows c o page unit kept found → ⊥
     none_bad page unit kept found bad =
-        let seen = are.mapped page bad.place bad.stands in
+        let seen = are.mapped page (record { unit = unit; csum = kept }) bad.is_on in
         let same : bad.bytes ≡ page_bytes bytes page =
-        held_is unit bad.bytes bad.held ∙ ap (last_at h) bad.is_unit ∙ sym seen.seen in
-        bad.differs (bad.is_found ∙ ap crc32c same ∙ seen.kept ∙ sym bad.is_kept)
+        held_is unit bad.bytes bad.held ∙ sym seen.seen in
+        bad.differs (bad.is_found ∙ ap crc32c same ∙ seen.kept)
 
     -- so a read gives the object's bytes
     pub bytes_are : (off len : ℕ) (read : List ℕ) → ReadsBytes d rows c o (length bytes) off len read → read ≡ take len (drop off bytes)

@@ -6,9 +6,8 @@ use Rattle.block_device.specs.Log.{HasNoBadDone}
 use Rattle.block_device.specs.Disk.{Disk}
 use Rattle.block_device.specs.Facts.{last_at}
 use Rattle.meta_rows.specs.Rows.{Rows}
-use Rattle.row_format.specs.Extents.{Place}
 use Rattle.row_format.specs.Row.{onode}
-use Rattle.store_image.specs.Pages.{HasRow, IsPageAt, IsHole, pages_of}
+use Rattle.store_image.specs.Pages.{HasRow, PageUnit, IsPageOn, IsHole, pages_of}
 
 -- the unit holds these bytes, as far as the device tells: those last written there, where no write of it ended badly
 abbrev pub IsHeldAt : Disk → ℕ → List ℕ → Type 0
@@ -17,15 +16,12 @@ IsHeldAt d unit bytes = IfSome d.history (λ h. HasNoBadDone h.log unit → byte
 -- A page of an object is good: it is a hole and its bytes are zeros, or its unit holds them and their checksum is the one that is kept.
 pub data IsGoodPage (d : Disk) (rows : Rows) (c o : List ℕ) (page : ℕ) (bytes : List ℕ) : Type 0 where
   hole : IsHole rows c o page → bytes ≡ zeros 4096 → IsGoodPage d rows c o page bytes
-  mapped : (place : Place) → IsPageAt rows c o page place → IsHeldAt d place.unit bytes → crc32c bytes ≡ place.csum
+  mapped : (on : PageUnit) → IsPageOn rows c o page on → IsHeldAt d on.unit bytes → crc32c bytes ≡ on.csum
       → IsGoodPage d rows c o page bytes
 
 -- It is bad: its unit holds bytes whose checksum isn't the one that is kept.
 pub record IsBadPage (d : Disk) (rows : Rows) (c o : List ℕ) (page unit kept found : ℕ) : Type 0 where
-  pub place : Place
-  pub stands : IsPageAt rows c o page place
-  pub is_unit : unit ≡ place.unit
-  pub is_kept : kept ≡ place.csum
+  pub is_on : IsPageOn rows c o page (record { unit = unit; csum = kept })
   pub bytes : List ℕ
   pub size : length bytes ≡ 4096
   pub held : IsHeldAt d unit bytes

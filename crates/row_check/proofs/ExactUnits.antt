@@ -63,14 +63,14 @@ module _ (rows : Rows) (owned shared marked : Units) (units : ℕ) (are : AreUni
   none_inexact none = record {
     marked = λ unit below is. elim (cases_Bool (set.contains owned unit)) [
       | inl has ↦ inl ((are.owned_are unit).0 has)
-      | inr out ↦ inr (record { is_unit = below; marked = is; unowned = λ own. let has = (are.owned_are unit).1 own in cc })
+      | inr out ↦
+          let free : ¬ IsOwned rows unit = λ owns. let has = (are.owned_are unit).1 owns in cc in
+          inr (record { is_unit = below; marked = is; unowned = free }, free)
     ];
     owned_marked = λ unit own. elim (cases_Bool (set.contains marked unit)) [
       | inl has ↦ ((are.marked_are unit).0 has).1
       | inr out ↦ absurd (none unit (inl ((are.owned_are unit).1 own, λ has. cc)))
     ];
-    leaked_marked = λ unit leaked. leaked.marked;
-    leaked_free = λ unit leaked. leaked.unowned;
     one_owner = λ unit. sole rows unit (λ two. none unit (inr ((are.shared_are unit).1 two)));
   }
 

@@ -10,7 +10,7 @@ use Rattle.byte_maps.specs.ByteMap.{byte_order}
 use Rattle.meta_rows.specs.Rows.{Rows}
 use Rattle.meta_log.specs.declared.slot.Super.{Super}
 use Rattle.row_format.specs.Keys.{shard_key}
-use Rattle.row_format.specs.Extents.{Body, private, Extent}
+use Rattle.row_format.specs.Extents.{Body, private, Extent, own}
 use Rattle.row_format.specs.Row as format
 use Rattle.row_format.specs.Row.{collection, onode, shard, bitmap}
 use Rattle.row_format.proofs.RowLemmas.{same_row}
@@ -96,8 +96,8 @@ module _ (s : Super) (rows : Rows) (good : NoBadRow s rows) where
       omega (
         arith,
         same,
-        page_below es x.page other x.place x.found (place.behind first es lt has),
-        page_of_shard fs y.page other y.place y.found later.fits.begins place.ascend,
+        page_below es x.page other (own v x.csum) x.found (place.behind first es lt has),
+        page_of_shard fs y.page other (own w y.csum) y.found later.fits.begins place.ascend,
       )
     where
       number : {i j : ℕ} → page_of c o i ≡ page_of c o j → i ≡ j
@@ -179,8 +179,8 @@ module _ (s : Super) (rows : Rows) (good : NoBadRow s rows) where
         | inl lt ↦ inl (record { at = b.at; before = lt; within = b.within; row = b.row; stands = b.stands; owns = b.owns })
         | inr ge ↦
             let here : b.at ≡ i = omega (arith, ge, b.before) in
-            let own = here_at b.row (subst (λ n. RowAt es n b.row) here b.stands) in
-            inr (subst (λ r. RowOwns r a u) (same_spelled key value b.row row own spells) b.owns)
+            let owned = here_at b.row (subst (λ n. RowAt es n b.row) here b.stands) in
+            inr (subst (λ r. RowOwns r a u) (same_spelled key value b.row row owned spells) b.owns)
       ],
     )
 
@@ -224,14 +224,14 @@ module _ (rows : Rows) (es : List (List ℕ × List ℕ)) (are : AreRows rows es
   row_owner (onode c o size) a v has owns = absurd owns
   row_owner (bitmap r bits) a v has owns = absurd owns
   row_owner (shard c o first xs) a v has owns = subst (λ b. Owns rows b v) (sym owns.owner_is)
-      (owns.place, record { first = first; extents = xs; has_shard = has; has_page = owns.found }, owns.unit_is)
+      (owns.csum, record { first = first; extents = xs; has_shard = has; has_page = owns.found })
 
   owns_of : (a : Owner) (v : ℕ) → OwnsBefore es i a v → Owns rows a v
   owns_of a v b = row_owner b.row a v (has_spelled rows es are b.at ([], []) b.row b.within (b.stands ([], []))) b.owns
 
   before_of : (a : Owner) (v : ℕ) → Owns rows a v → OwnsBefore es i a v
   before_of (page_of c o page) v owns =
-      let at : IsPageAt rows c o page owns.0 = owns.1 in
+      let at : IsPageAt rows c o page (own v owns.0) = owns.1 in
       let found = are.stands _ _ at.has_shard.stands in
       record {
         at = found.at;
@@ -243,7 +243,7 @@ module _ (rows : Rows) (es : List (List ℕ × List ℕ)) (are : AreRows rows es
           key_is = ap (λ (e : List ℕ × List ℕ). e.0) (found.is d);
           value_is = ap (λ (e : List ℕ × List ℕ). e.1) (found.is d);
         };
-        owns = record { page = page; place = owns.0; owner_is = refl; found = at.has_page; unit_is = owns.2 };
+        owns = record { page = page; csum = owns.0; owner_is = refl; found = at.has_page };
       }
 
   pub all_marked : (units : ℕ) (m : Marks) → MarkedTo es i units m → AreMarked rows m

@@ -1,10 +1,10 @@
 -- The marks of consecutive pages, of extents and of rows.
 use Rattle.std.proofs.Common.{◌≡◌, ◌⊎◌, ◌↔◌, inl, inr, ℕ, zero, suc, ◌+◌, ◌-◌, ◌<◌, ◌≤◌, Bool, true, false, cond, List, [], ◌∷◌, length, Option, Some, refl, sym, ap, ◌∙◌, arith}
-use Rattle.std.specs.Prelude.{nat_le, nat_lt, ◌&&◌}
+use Rattle.std.specs.Prelude.{nat_le, nat_lt, ◌&&◌, slice_index}
 use Rattle.std.specs.List.{AllByRecursion}
 use Rattle.std.proofs.lemmas.Bool.{cases_Bool, cases_lt, ltb-true, leb-true, lt-ltb, le-leb}
 use Rattle.std.proofs.lemmas.List.{length-set}
-use Rattle.row_format.specs.Extents.{Body, private, page_count, Extent, page_end, Ascend, Place, place_in, place_of, BeginsAt}
+use Rattle.row_format.specs.Extents.{Body, private, page_count, Extent, page_end, Ascend, Place, own, place_in, place_of, BeginsAt}
 use Rattle.row_format.specs.Row as format
 use Rattle.row_format.specs.Row.{collection, onode, shard, bitmap}
 use Rattle.store_image.specs.Owners.{Owner, page_of}
@@ -144,21 +144,28 @@ later_has e es page place behind is = elim (cases_Bool (nat_le e.first page && n
 same_number : (c o d u : List ℕ) (i j : ℕ) → page_of c o i ≡ page_of d u j → i ≡ j
 same_number c o d u i j e = cc
 
+same_unit : (a b u k : ℕ) → own a b ≡ own u k → a ≡ u
+same_unit a b u k e = cc
+
+-- the unit of a place of an object's own
+unit_there : (place : Place) → (unit : ℕ) × (csum : ℕ) × (place ≡ own unit csum)
+unit_there (own unit csum) = (unit, csum, refl)
+
 module _ (c o : List ℕ) where
   -- the object's page in one of the extents owns the unit
   pub record ExtentsOwn (es : List Extent) (a : Owner) (v : ℕ) : Type 0 where
     pub page : ℕ
-    pub place : Place
+    pub csum : ℕ
     pub owner_is : a ≡ page_of c o page
-    pub found : place_of es page ≡ Some place
-    pub unit_is : place.unit ≡ v
+    pub found : place_of es page ≡ Some (own v csum)
 
   -- the page number k of those that stand there
   record BodyOwns (first : ℕ) (body : Body) (a : Owner) (v : ℕ) : Type 0 where
     pub k : ℕ
     pub small : k < page_count body
     pub owner_is : a ≡ page_of c o (first + k)
-    pub unit_is : (place_in body k).unit ≡ v
+    pub csum : ℕ
+    pub place_is : place_in body k ≡ own v csum
 
   pages_differ : (first i j : ℕ) → page_of c o (first + i) ≡ page_of c o (first + j) → i ≡ j
   pages_differ first i j e = omega (arith, same_number c o c o (first + i) (first + j) e)
@@ -171,8 +178,25 @@ module _ (c o : List ℕ) where
       same : (a : Owner) (v : ℕ) → (P a v ⊎ RunOwns (λ k. page_of c o (first + k)) (pages_differ first) unit (length csums) a v)
           ↔ (P a v ⊎ BodyOwns first (private unit csums) a v)
       same a v = (
-        λ q. elim q [ inl p ↦ inl p | inr r ↦ inr (record { k = r.k; small = r.small; owner_is = r.owner_is; unit_is = sym r.unit_is }) ],
-        λ q. elim q [ inl p ↦ inl p | inr r ↦ inr (record { k = r.k; small = r.small; owner_is = r.owner_is; unit_is = sym r.unit_is }) ],
+        λ q. elim q [
+          | inl p ↦ inl p
+          | inr r ↦ inr (record {
+            k = r.k;
+            small = r.small;
+            owner_is = r.owner_is;
+            csum = slice_index csums r.k;
+            place_is = ap (λ u. own u (slice_index csums r.k)) (sym r.unit_is);
+          })
+        ],
+        λ q. elim q [
+          | inl p ↦ inl p
+          | inr b ↦ inr (record {
+            k = b.k;
+            small = b.small;
+            owner_is = b.owner_is;
+            unit_is = sym (same_unit (unit + b.k) (slice_index csums b.k) v b.csum b.place_is);
+          })
+        ],
       )
 
   extents_tells : (es : List Extent) (P : Owner → ℕ → Type 0) (m : Marks) (units : ℕ) → Tells P m → HasUnits units m → AllEndBy units es → Ascend es
@@ -186,42 +210,37 @@ module _ (c o : List ℕ) where
       of_first : (a : Owner) (v : ℕ) → BodyOwns e.first e.body a v → ExtentsOwn (e ∷ es) a v
       of_first a v b = record {
         page = e.first + b.k;
-        place = place_in e.body b.k;
+        csum = b.csum;
         owner_is = b.owner_is;
-        found = first_has e es b.k b.small;
-        unit_is = b.unit_is;
+        found = first_has e es b.k b.small ∙ ap Some b.place_is;
       }
 
       of_later : (a : Owner) (v : ℕ) → ExtentsOwn es a v → ExtentsOwn (e ∷ es) a v
       of_later a v x = record {
         page = x.page;
-        place = x.place;
+        csum = x.csum;
         owner_is = x.owner_is;
-        found = later_has e es x.page x.place ascend.0 x.found;
-        unit_is = x.unit_is;
+        found = later_has e es x.page (own v x.csum) ascend.0 x.found;
       }
 
       first_apart : (k v : ℕ) → k < page_count e.body → P (page_of c o (e.first + k)) v → ⊥
-      first_apart k v lt p = apart (page_of c o (e.first + k)) (place_in e.body k).unit v
-          (of_first _ _ (record { k = k; small = lt; owner_is = refl; unit_is = refl })) p
+      first_apart k v lt p =
+          let there = unit_there (place_in e.body k) in
+          apart (page_of c o (e.first + k)) there.0 v
+          (of_first _ _ (record { k = k; small = lt; owner_is = refl; csum = there.1; place_is = there.2 })) p
 
       later_apart : (a : Owner) (v w : ℕ) → ExtentsOwn es a v → P a w ⊎ BodyOwns e.first e.body a w → ⊥
       later_apart a v w x q = elim q [
         | inl p ↦ apart a v w (of_later a v x) p
         | inr b ↦
             let number : x.page ≡ e.first + b.k = same_number c o c o x.page (e.first + b.k) (sym x.owner_is ∙ b.owner_is) in
-            omega (arith, number, b.small, page_from es x.page (page_end e) x.place x.found ascend.0)
+            omega (arith, number, b.small, page_from es x.page (page_end e) (own v x.csum) x.found ascend.0)
       ]
 
       parts : (a : Owner) (v : ℕ) → ExtentsOwn (e ∷ es) a v → BodyOwns e.first e.body a v ⊎ ExtentsOwn es a v
-      parts a v x = elim (place_cases e es x.page x.place x.found) [
-        | inl h ↦ inl (record {
-          k = h.0;
-          small = h.1;
-          owner_is = x.owner_is ∙ ap (page_of c o) h.2;
-          unit_is = ap (λ (p : Place). p.unit) (sym h.3) ∙ x.unit_is;
-        })
-        | inr h ↦ inr (record { page = x.page; place = x.place; owner_is = x.owner_is; found = h; unit_is = x.unit_is })
+      parts a v x = elim (place_cases e es x.page (own v x.csum) x.found) [
+        | inl h ↦ inl (record { k = h.0; small = h.1; owner_is = x.owner_is ∙ ap (page_of c o) h.2; csum = x.csum; place_is = sym h.3 })
+        | inr h ↦ inr (record { page = x.page; csum = x.csum; owner_is = x.owner_is; found = h })
       ]
 
       same : (a : Owner) (v : ℕ) → ((P a v ⊎ BodyOwns e.first e.body a v) ⊎ ExtentsOwn es a v) ↔ (P a v ⊎ ExtentsOwn (e ∷ es) a v)

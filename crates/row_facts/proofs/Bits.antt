@@ -33,9 +33,7 @@ pub exact_stays : (rows after : Rows) → ((unit : ℕ) → IsMarked after unit 
     → ((unit : ℕ) → IsOwned after unit ↔ IsOwned rows unit) → ((unit : ℕ) → HasSoleOwner rows unit → HasSoleOwner after unit)
     → (leaked : ℕ → Type 0) → IsExactBut leaked rows → IsExactBut leaked after
 exact_stays rows after bits owned sole leaked exact = record {
-  marked = λ unit small is. elim (exact.marked unit small ((bits unit).0 is)) [ inl was ↦ inl ((owned unit).1 was) | inr left ↦ inr left ];
+  marked = λ unit small is. elim (exact.marked unit small ((bits unit).0 is)) [ inl was ↦ inl ((owned unit).1 was) | inr left ↦ inr (left.0, λ now. left.1 ((owned unit).0 now)) ];
   owned_marked = λ unit is. (bits unit).1 (exact.owned_marked unit ((owned unit).0 is));
-  leaked_marked = λ unit is. (bits unit).1 (exact.leaked_marked unit is);
-  leaked_free = λ unit is now. exact.leaked_free unit is ((owned unit).0 now);
   one_owner = λ unit. sole unit (exact.one_owner unit);
 }

@@ -9,7 +9,7 @@ use Rattle.object_model.specs.declared.op.Op.TheVariants.{MkColl}
 use Rattle.unit_fields.specs.Names.{IsCollName}
 use Rattle.byte_maps.specs.ByteMap.{byte_order}
 use Rattle.row_format.specs.Keys.{coll_key, onode_key}
-use Rattle.row_format.specs.Extents.{Extent}
+use Rattle.row_format.specs.Extents.{Extent, own}
 use Rattle.row_format.specs.Row.{Row, collection, onode, shard, bitmap}
 use Rattle.row_format.proofs.KeyLemmas.{same_coll, coll_no_object, bitmap_no_coll}
 use Rattle.store_image.specs.Pages.{HasRow}
@@ -62,8 +62,8 @@ module _ (rows : Rows) (c : List ℕ) where
 
   pub coll_owners : (owner : Owner) (unit : ℕ) → Owns (rows_after rows (coll_ops c)) owner unit ↔ Owns rows owner unit
   coll_owners (page_of d u page) unit = (
-    λ owns. (owns.0, page_was rows r d u (shard_apart d u) page owns.0 owns.1, owns.2),
-    λ owns. (owns.0, page_kept rows r d u (shard_apart d u) page owns.0 owns.1, owns.2),
+    λ owns. (owns.0, page_was rows r d u (shard_apart d u) page (own unit owns.0) owns.1),
+    λ owns. (owns.0, page_kept rows r d u (shard_apart d u) page (own unit owns.0) owns.1),
   )
 
   pub coll_owned : (unit : ℕ) → IsOwned (rows_after rows (coll_ops c)) unit ↔ IsOwned rows unit

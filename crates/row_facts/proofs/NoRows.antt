@@ -55,8 +55,6 @@ pub none_exact : IsExact none
 none_exact = record {
   marked = λ unit small marked. absurd (none_marked unit marked);
   owned_marked = λ unit owned. absurd (none_owned unit owned);
-  leaked_marked = λ unit never. absurd never;
-  leaked_free = λ unit never owned. never;
   one_owner = λ unit a b owns others. absurd (none_owned unit (a, owns));
 }
 

@@ -7,9 +7,10 @@ use Rattle.row_format.specs.Extents.{Extent, Place}
 use Rattle.row_format.specs.Row.{Row, collection, onode, shard, bitmap, row_key, row_value, FitsRow}
 use Rattle.row_format.proofs.RowLemmas.{same_row}
 use Rattle.row_format.proofs.KeyLemmas.{same_head}
-use Rattle.store_image.specs.Pages.{HasKey, HasRow, IsPageAt}
+use Rattle.store_image.specs.Pages.{HasKey, HasRow, PageUnit, IsPageAt, IsPageOn}
 use Rattle.store_image.specs.BadRows.{IsInPlace, NoBadRow}
 use Rattle.store_image.proofs.ByteLemmas.{equal_or_not}
+use Rattle.store_image.proofs.PageUnits.{stands_still}
 use Rattle.row_facts.proofs.Maps.{get_same, get_other, some_after}
 
 abbrev pub put_row : Rows → Row → Rows
@@ -94,3 +95,10 @@ module _ (rows : Rows) (r : Row) where
       };
       has_page = is.has_page;
     }
+
+  module _ (d u : List ℕ) (apart : IsApart d u) (page : ℕ) (on : PageUnit) where
+    pub on_kept : IsPageOn rows d u page on → IsPageOn (put_row rows r) d u page on
+    on_kept is = record { place = is.place; at = page_kept d u apart page is.place is.at; stands = stands_still rows (put_row rows r) is.place on is.stands }
+
+    pub on_was : IsPageOn (put_row rows r) d u page on → IsPageOn rows d u page on
+    on_was is = record { place = is.place; at = page_was d u apart page is.place is.at; stands = stands_still (put_row rows r) rows is.place on is.stands }

@@ -4,10 +4,9 @@ use Rattle.std.specs.FinMap as map
 use Rattle.meta_rows.specs.Rows.{Rows}
 use Rattle.object_model.specs.Objects.{Object}
 use Rattle.row_format.specs.Row.{Row, onode}
-use Rattle.store_image.specs.Pages.{HasRow}
-use Rattle.store_image.specs.Owners.{page_of, IsOwned}
+use Rattle.store_image.specs.Pages.{HasRow, HasPage}
 use Rattle.store_image.specs.Stands.{IsObjectShape, AreObjectBytes}
-use Rattle.row_facts.proofs.PutRow.{put_row, IsApart, page_kept, page_was}
+use Rattle.row_facts.proofs.PutRow.{put_row, IsApart, on_kept, on_was}
 
 -- rows of other kinds than collections, onodes, shards and those of the bitmap are the same
 abbrev pub SameOthers : Rows → Rows → Type 0
@@ -25,13 +24,14 @@ shape_kept rows after c o object same size shape = record {
   omap = λ key is. shape.omap key is ∙ sym (same 0x4d _ (λ e. omega (arith, e)) (λ e. omega (arith, e)) (λ e. omega (arith, e)));
 }
 
--- the object's pages are seen as before, where its units are
+-- the object's pages are seen as before, where the units on which pages stand hold what they held
 pub bytes_kept : (at after : ℕ → List ℕ) (rows : Rows) (r : Row) (d u : List ℕ) (bytes : List ℕ) → IsApart rows r d u
-    → ((unit : ℕ) → IsOwned rows unit → after unit ≡ at unit) → AreObjectBytes at rows d u bytes → AreObjectBytes after (put_row rows r) d u bytes
+    → ((unit : ℕ) → HasPage rows unit → after unit ≡ at unit) → AreObjectBytes at rows d u bytes → AreObjectBytes after (put_row rows r) d u bytes
 bytes_kept at after rows r d u bytes apart same all = record {
-  mapped = λ page place is.
-      let was = page_was rows r d u apart page place is in
-      let seen = all.mapped page place was in
-      record { seen = seen.seen ∙ sym (same place.unit (page_of d u page, (place, was, refl))); kept = seen.kept };
-  holes = λ page hole. all.holes page (λ place is. hole place (page_kept rows r d u apart page place is));
+  mapped = λ page on is.
+      let was = on_was rows r d u apart page on is in
+      let seen = all.mapped page on was in
+      let has : HasPage rows on.unit = record { coll = d; object = u; page = page; on = on; is_on = was; is_unit = refl } in
+      record { seen = seen.seen ∙ sym (same on.unit has); kept = seen.kept };
+  holes = λ page hole. all.holes page (λ on is. hole on (on_kept rows r d u apart page on is));
 }

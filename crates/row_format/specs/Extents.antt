@@ -48,14 +48,14 @@ abbrev pub BeginsAt : ℕ → List Extent → Type 0
 BeginsAt page [] = ⊥
 BeginsAt page (e ∷ es) = e.first ≡ page
 
--- where a page stands, and the checksum that is kept for it
-pub record Place : Type 0 where
-  pub unit : ℕ
-  pub csum : ℕ
+-- Where a page stands: on a unit of the object's own, with the checksum that is kept for the page. (A slot of a shared blob is to be the
+-- other case.)
+pub data Place : Type 0 where
+  own : (unit csum : ℕ) → Place
 
 -- the place of the page number i of those that stand there
 abbrev pub place_in : Body → ℕ → Place
-place_in (private unit csums) i = record { unit = unit + i; csum = slice_index csums i }
+place_in (private unit csums) i = own (unit + i) (slice_index csums i)
 
 -- the place of a page, if one of the extents has it
 abbrev pub place_of : List Extent → ℕ → Option Place

@@ -67,7 +67,7 @@ module _ (s : State) (d : Disk) (unit : ℕ) (kept : IsKept s d) (up : s.down �
       | inl old ↦ inl (facts.committed.exact.owned_marked unit old)
       | inr c ↦ inr (taken_allotted (uncommitted s) unit c)
     ]
-    | inr leaked ↦ inl leaked.marked
+    | inr leaked ↦ inl leaked.0.marked
   ]
 
   pub free_exactly : (is_free s.space unit ≡ true) ↔ (¬ IsBusyNow)

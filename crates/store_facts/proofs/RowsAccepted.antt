@@ -8,7 +8,7 @@ use Rattle.meta_log.specs.Slots.{IsSuper}
 use Rattle.object_model.specs.Effect.{Change}
 use Rattle.store_image.specs.Owners.{IsDataUnit, IsOwned, IsMarked}
 use Rattle.object_rows.specs.Planned.{IsPlanned, StandsOnce}
-use Rattle.object_rows.proofs.Planned.{planned_good, planned_exact, planned_gone, planned_once, planned_left, planned_taken, planned_owned, planned_released, planned_fresh, planned_unmarked}
+use Rattle.object_rows.proofs.Planned.{planned_good, planned_exact, planned_gone, planned_marked, planned_once, planned_left, planned_taken, planned_owned, planned_released, planned_fresh, planned_unmarked}
 use Rattle.unit_allocator.specs.Units.{Space, is_free, taken}
 use Rattle.store_steps.specs.declared.context.Context.{Context}
 use Rattle.store_steps.specs.State.{Batch, State}
@@ -59,7 +59,7 @@ module _ (s : Super) (rows : Rows) (space : Space) (limits : IsSuper s) (good : 
   still_unmarked : (v : ℕ) → IsDataUnit s v → ¬ Contains fresh v → ¬ IsMarked rows v → ¬ IsMarked after v
   still_unmarked v on out was marked = elim (good_after.exact.marked v (omega (arith, on.1, limits.units_most)) marked) [
     | inl owned ↦ elim (owned_cases v owned) [ inl c ↦ out c | inr old ↦ was (good.exact.owned_marked v old) ]
-    | inr leaked ↦ was leaked.marked
+    | inr leaked ↦ was leaked.0.marked
   ]
 
   free_after : IsFreeExactly s rows after left
@@ -80,6 +80,7 @@ module _ (s : Super) (rows : Rows) (space : Space) (limits : IsSuper s) (good : 
       let taken_units : flat_map (λ y. units_of y.fresh) (x ∷ []) ≡ fresh = one_list (λ y. units_of y.fresh) x ∙ ap units_of fresh_is in
       record {
         owned = λ v owned. subst (λ us. IsOwned after v ⊎ Contains us v) (sym released) (planned_left s rows v is good.good owned);
+        marked = λ v small was. subst (λ us. IsMarked after v ⊎ Contains us v) (sym released) (planned_marked s rows v is good.good small was);
         released_was = λ v c. planned_released s rows v is (subst (λ us. Contains us v) released c);
         released_is_not = λ v c owned.
             planned_gone s rows v is good.good (good.exact.one_owner v) (subst (λ us. Contains us v) released c) owned;

@@ -39,6 +39,7 @@ batch_alone number (x ∷ y ∷ more) (Some a) b begun flying far is = absurd fa
 pub no_contexts : (rows : Rows) → ReleasesExactly rows rows []
 no_contexts rows = record {
   owned = λ unit owned. inl owned;
+  marked = λ unit small is. inl is;
   released_was = λ unit c. absurd (omega (arith, c.1));
   released_is_not = λ unit c. absurd (omega (arith, c.1));
   taken_was_not = λ unit c. absurd (omega (arith, c.1));
@@ -108,15 +109,12 @@ module _ (s : State) (kept : AreRowsKept s) (far : IsOneAtATime s.log.number s.p
     released_unmarked : (v : ℕ) → Contains (batch_released b) v → ¬ IsMarked s.view v
     released_unmarked v c marked = elim (kept.good.exact.marked v (small v (released_data v c)) marked) [
       | inl owned ↦ releases.released_is_not v c owned
-      | inr leaked ↦ leaked.unowned (releases.released_was v c)
+      | inr leaked ↦ leaked.0.unowned (releases.released_was v c)
     ]
 
     -- and what isn't marked in them was released or isn't marked in the committed ones
     committed_unmarked : (v : ℕ) → IsDataUnit s.log.sup v → ¬ Contains (batch_released b) v → ¬ IsMarked s.view v → ¬ IsMarked s.log.rows v
-    committed_unmarked v on out none marked = elim (kept.committed.exact.marked v (small v on) marked) [
-      | inl owned ↦ elim (releases.owned v owned) [ inl view ↦ none (kept.good.exact.owned_marked v view) | inr c ↦ out c ]
-      | inr leaked ↦ none (kept.good.exact.leaked_marked v leaked)
-    ]
+    committed_unmarked v on out none marked = elim (releases.marked v (small v on) marked) [ inl view ↦ none view | inr c ↦ out c ]
 
     -- a unit is free then exactly where it isn't marked
     free_then : IsFreeExactly s.log.sup s.view s.view back

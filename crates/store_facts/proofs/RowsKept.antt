@@ -3,7 +3,7 @@ use Rattle.std.proofs.Common.{◌≡◌, ◌⊎◌, List, [], ◌∷◌, ◌++�
 use Rattle.std.specs.List.{flat_map}
 use Rattle.block_device.specs.Disk.{Disk}
 use Rattle.meta_rows.specs.Rows.{Rows, rows_after}
-use Rattle.store_image.specs.Owners.{IsOwned}
+use Rattle.store_image.specs.Owners.{IsOwned, IsMarked}
 use Rattle.object_rows.specs.Planned.{StandsOnce}
 use Rattle.store_steps.specs.declared.context.Context.{Context}
 use Rattle.store_steps.specs.State.{State}
@@ -75,6 +75,7 @@ releases_alike rows view xs ys like all =
     let taken = lists_alike (λ x. map (λ f. f.unit) x.fresh) (λ x y l. ap (λ fs. map (λ f. f.unit) fs) l.fresh) xs ys like in
     record {
       owned = λ unit owned. subst (λ us. IsOwned view unit ⊎ Contains us unit) (sym released) (all.owned unit owned);
+      marked = λ unit small is. subst (λ us. IsMarked view unit ⊎ Contains us unit) (sym released) (all.marked unit small is);
       released_was = λ unit c. all.released_was unit (subst (λ us. Contains us unit) released c);
       released_is_not = λ unit c. all.released_is_not unit (subst (λ us. Contains us unit) released c);
       taken_was_not = λ unit c. all.taken_was_not unit (subst (λ us. Contains us unit) taken c);

@@ -1,5 +1,5 @@
 -- The submitted rows, and the free units: exactly those whose bits are 0 in the committed and in the submitted rows.
-use Rattle.std.specs.Prelude.{◌≡◌, ◌↔◌, ◌⊎◌, ℕ, ◌+◌, true, List, [], ◌∷◌, ◌++◌, length, map, Contains}
+use Rattle.std.specs.Prelude.{◌≡◌, ◌↔◌, ◌⊎◌, ℕ, ◌+◌, ◌<◌, ◌^◌, true, List, [], ◌∷◌, ◌++◌, length, map, Contains}
 use Rattle.std.specs.List.{flat_map}
 use Rattle.std.specs.Option.{option_map_or}
 use Rattle.meta_rows.specs.Rows.{Rows, rows_after}
@@ -21,8 +21,8 @@ abbrev pub rows_with : Rows → List Context → Rows
 rows_with rows [] = rows
 rows_with rows (x ∷ xs) = rows_with (rows_after rows x.ops) xs
 
--- No row is bad, and the bitmap is exactly the owned units, but for what the first rows had leaked; no unit has two owners. (A mount asks for
--- it, and leaked units stay as they are: never free, whatever is committed.)
+-- No row is bad, and the bitmap is exactly the owned units, but for some of those that the first rows had leaked; no unit has two owners. (A
+-- mount asks for it. A leaked unit is free only once its bit is 0.)
 pub record AreGoodRows (sup : Super) (first rows : Rows) : Type 0 where
   pub good : NoBadRow sup rows
   pub exact : IsExactAs first rows
@@ -43,10 +43,11 @@ IsFreeExactly sup rows view space = (unit : ℕ) → IsDataUnit sup unit
 abbrev pub allotted : List Context → List (List ℕ)
 allotted contexts = map (λ x. map (λ f. f.unit) x.fresh) contexts
 
--- What contexts release is what they change of the owned units, but for those that they take. What is released has no owner then, and is released
--- once.
+-- What contexts release is what they change of the owned and of the marked units, but for those that they take. What is released has no owner
+-- then, and is released once.
 pub record ReleasesExactly (rows view : Rows) (contexts : List Context) : Type 0 where
   pub owned : (unit : ℕ) → IsOwned rows unit → IsOwned view unit ⊎ Contains (flat_map (λ x. x.released) contexts) unit
+  pub marked : (unit : ℕ) → unit < 2 ^ 32 → IsMarked rows unit → IsMarked view unit ⊎ Contains (flat_map (λ x. x.released) contexts) unit
   pub released_was : (unit : ℕ) → Contains (flat_map (λ x. x.released) contexts) unit → IsOwned rows unit
   pub released_is_not : (unit : ℕ) → Contains (flat_map (λ x. x.released) contexts) unit → ¬ IsOwned view unit
   pub taken_was_not : (unit : ℕ) → Contains (flat_map (λ x. map (λ f. f.unit) x.fresh) contexts) unit → ¬ IsMarked rows unit

@@ -11,42 +11,34 @@ use Rattle.store_image.proofs.OneObjects.{same_rows}
 
 -- ---- rows
 
--- where the leaked ones that a statement names are others, of which each marked unit without an owner is one
+-- where the leaked ones that a statement names are others, among which is each marked unit without an owner
 pub renamed : (leaked others : ℕ → Type 0) (rows : Rows)
-    → ((unit : ℕ) → IsLeaked rows unit → leaked unit → others unit) → ((unit : ℕ) → others unit → leaked unit)
-    → IsExactBut leaked rows → IsExactBut others rows
-renamed leaked others rows there back exact = record {
+    → ((unit : ℕ) → IsLeaked rows unit → leaked unit → others unit) → IsExactBut leaked rows → IsExactBut others rows
+renamed leaked others rows there exact = record {
   marked = λ unit small is. ⊎_elim (λ owned. inl owned)
-      (λ was. inr (there unit (record { is_unit = small; marked = is; unowned = exact.leaked_free unit was }) was)) (exact.marked unit small is);
+      (λ was. inr (there unit (record { is_unit = small; marked = is; unowned = was.1 }) was.0, was.1)) (exact.marked unit small is);
   owned_marked = exact.owned_marked;
-  leaked_marked = λ unit is. exact.leaked_marked unit (back unit is);
-  leaked_free = λ unit is. exact.leaked_free unit (back unit is);
   one_owner = exact.one_owner;
 }
 
 pub as_itself : (leaked : ℕ → Type 0) (rows : Rows) → IsExactBut leaked rows → IsExactAs rows rows
 as_itself leaked rows exact = record {
   marked = λ unit small is. ⊎_elim (λ owned. inl owned)
-      (λ was. inr (record { is_unit = small; marked = is; unowned = exact.leaked_free unit was })) (exact.marked unit small is);
+      (λ was. inr (record { is_unit = small; marked = is; unowned = was.1 }, was.1)) (exact.marked unit small is);
   owned_marked = exact.owned_marked;
-  leaked_marked = λ unit is. is.marked;
-  leaked_free = λ unit is. is.unowned;
   one_owner = exact.one_owner;
 }
 
 -- a marked unit that nobody owns is one of those that are left out
 pub is_left_out : (leaked : ℕ → Type 0) (rows : Rows) (unit : ℕ) → IsExactBut leaked rows → IsLeaked rows unit → leaked unit
-is_left_out leaked rows unit exact is = ⊎_elim (λ owned. absurd (is.unowned owned)) (λ was. was) (exact.marked unit is.is_unit is.marked)
+is_left_out leaked rows unit exact is = ⊎_elim (λ owned. absurd (is.unowned owned)) (λ was. was.0) (exact.marked unit is.is_unit is.marked)
 
-pub same_leaks : (first rows : Rows) (unit : ℕ) → IsExactAs first rows → IsLeaked rows unit ↔ IsLeaked first unit
-same_leaks first rows unit exact = (
-  is_left_out (IsLeaked first) rows unit exact,
-  λ is. record { is_unit = is.is_unit; marked = exact.leaked_marked unit is; unowned = exact.leaked_free unit is },
-)
+pub no_new_leaks : (first rows : Rows) (unit : ℕ) → IsExactAs first rows → IsLeaked rows unit → IsLeaked first unit
+no_new_leaks first rows unit exact = is_left_out (IsLeaked first) rows unit exact
 
 pub exact_onward : (first rows later : Rows) → IsExactAs first rows → IsExactAs rows later → IsExactAs first later
 exact_onward first rows later exact more =
-    renamed (IsLeaked rows) (IsLeaked first) later (λ unit _ is. (same_leaks first rows unit exact).0 is) (λ unit is. (same_leaks first rows unit exact).1 is) more
+    renamed (IsLeaked rows) (IsLeaked first) later (λ unit _ is. no_new_leaks first rows unit exact is) more
 
 pub no_inexact : (leaked : ℕ → Type 0) (rows : Rows) → IsExactBut leaked rows → (unit : ℕ) → ¬ IsInexact rows unit
 no_inexact leaked rows exact unit is = ⊎_elim (λ x. x.1 (exact.owned_marked unit x.0)) (λ x. x (exact.one_owner unit)) is
@@ -74,14 +66,12 @@ leaked_by_rows image s rows unit active read = (there, λ is. record { super = s
 pub as_image : (before : List ℕ) (s : Super) (first rows : Rows) → IsActiveSlot before s → AreRowsOf before s first
     → IsExactAs first rows → IsExactBut (IsLeakedIn before) rows
 as_image before s first rows active read exact =
-    renamed (IsLeaked first) (IsLeakedIn before) rows (λ unit _ is. (leaked_by_rows before s first unit active read).1 is)
-    (λ unit is. (leaked_by_rows before s first unit active read).0 is) exact
+    renamed (IsLeaked first) (IsLeakedIn before) rows (λ unit _ is. (leaked_by_rows before s first unit active read).1 is) exact
 
 pub as_rows : (before : List ℕ) (s : Super) (first rows : Rows) → IsActiveSlot before s → AreRowsOf before s first
     → IsExactBut (IsLeakedIn before) rows → IsExactAs first rows
 as_rows before s first rows active read exact =
-    renamed (IsLeakedIn before) (IsLeaked first) rows (λ unit _ is. (leaked_by_rows before s first unit active read).0 is)
-    (λ unit is. (leaked_by_rows before s first unit active read).1 is) exact
+    renamed (IsLeakedIn before) (IsLeaked first) rows (λ unit _ is. (leaked_by_rows before s first unit active read).0 is) exact
 
 pub stays_exact : (before image : List ℕ) → StaysExact before image → IsExactImage before → IsExactImage image
 stays_exact before image stays is =
@@ -92,7 +82,7 @@ stays_exact before image stays is =
       active = is.active;
       rows = is.rows;
       read = is.read;
-      exact = renamed (λ u. ⊥) (IsLeakedIn before) is.rows (λ unit _ never. absurd never) (λ unit leaked. none unit leaked) is.exact;
+      exact = renamed (λ u. ⊥) (IsLeakedIn before) is.rows (λ unit _ never. absurd never) is.exact;
     } in
     let after = stays before_is in
     record {
@@ -100,8 +90,15 @@ stays_exact before image stays is =
       active = after.active;
       rows = after.rows;
       read = after.read;
-      exact = renamed (IsLeakedIn before) (λ u. ⊥) after.rows (λ unit _ leaked. none unit leaked) (λ unit never. absurd never) after.exact;
+      exact = renamed (IsLeakedIn before) (λ u. ⊥) after.rows (λ unit _ leaked. none unit leaked) after.exact;
     }
+
+-- what is leaked then was leaked before
+pub stays_leaks : (before image : List ℕ) (unit : ℕ) → StaysExact before image → IsExactImageBut (IsLeakedIn before) before
+    → IsLeakedIn image unit → IsLeakedIn before unit
+stays_leaks before image unit stays is leaked =
+    let after = stays is in
+    is_left_out (IsLeakedIn before) after.rows unit after.exact ((leaked_by_rows image after.super after.rows unit after.active after.read).0 leaked)
 
 pub stays_onward : (before image later : List ℕ) → StaysExact before image → StaysExact image later → StaysExact before later
 stays_onward before image later stays more is =

@@ -14,14 +14,13 @@ use Rattle.meta_log.specs.Records.{AreRowsOf, active_half}
 use Rattle.meta_log.proofs.RecordLemmas.{same_records}
 use Rattle.meta_log.proofs.SlotLemmas.{same_active}
 use Rattle.unit_fields.specs.Names.{IsName}
-use Rattle.row_format.specs.Extents.{Place}
-use Rattle.store_image.specs.Pages.{IsHole}
+use Rattle.store_image.specs.Pages.{PageUnit, IsHole}
 use Rattle.store_image.specs.Stands.{page_bytes, IsPageSeen, IsObjectShape, AreObjectBytes, ObjectsStand, StandsFor}
 use Rattle.store_image.proofs.ByteLemmas.{equal_or_not, same_pages}
 
 -- a unit is seen in one way
-pub seen_one : (at : ℕ → List ℕ) (rows : Rows) (place : Place) (x y : List ℕ) → IsPageSeen at rows place x → IsPageSeen at rows place y → x ≡ y
-seen_one at rows place x y p q = p.seen ∙ sym q.seen
+pub seen_one : (at : ℕ → List ℕ) (rows : Rows) (on : PageUnit) (x y : List ℕ) → IsPageSeen at rows on x → IsPageSeen at rows on y → x ≡ y
+seen_one at rows on x y p q = p.seen ∙ sym q.seen
 
 -- maps of names that agree at each name
 agree_at : (x y : Option (List ℕ)) {N : Type 0} → (IsSome x → N) → (IsSome y → N) → (N → x ≡ y) → x ≡ y
@@ -35,7 +34,7 @@ same_named m n a b h = same m n (λ k. agree_at (map.get m k) (map.get n k) (a k
 module _ (at : ℕ → List ℕ) (rows : Rows) (c o : List ℕ) where
   module _ (x y : List ℕ) (p : AreObjectBytes at rows c o x) (q : AreObjectBytes at rows c o y) where
     unmapped : (page : ℕ) → page_bytes x page ≢ page_bytes y page → IsHole rows c o page
-    unmapped page ne place is = ne (seen_one at rows place _ _ (p.mapped page place is) (q.mapped page place is))
+    unmapped page ne on is = ne (seen_one at rows on _ _ (p.mapped page on is) (q.mapped page on is))
 
     pub same_page : (page : ℕ) → page_bytes x page ≡ page_bytes y page
     same_page page = elim (equal_or_not (page_bytes x page) (page_bytes y page)) [

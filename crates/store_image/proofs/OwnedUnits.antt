@@ -1,19 +1,20 @@
--- What rows and units stand for depends on no unit that they don't own.
+-- What rows and units stand for depends on no unit but those that pages stand on.
 use Rattle.std.proofs.Common.{◌≡◌, ℕ, List, refl, ◌∙◌}
 use Rattle.meta_rows.specs.Rows.{Rows}
 use Rattle.object_model.specs.Objects.{Objects}
-use Rattle.row_format.specs.Extents.{Place}
-use Rattle.store_image.specs.Pages.{IsPageAt}
-use Rattle.store_image.specs.Owners.{page_of, IsOwned}
+use Rattle.store_image.specs.Pages.{PageUnit, IsPageOn, HasPage}
 use Rattle.store_image.specs.Stands.{IsPageSeen, AreBytes, ObjectsStand}
 
-module _ (at at' : ℕ → List ℕ) (rows : Rows) (same : (unit : ℕ) → IsOwned rows unit → at unit ≡ at' unit) where
-  page_seen : (c o : List ℕ) (page : ℕ) (place : Place) (bytes : List ℕ) → IsPageAt rows c o page place → IsPageSeen at rows place bytes → IsPageSeen at' rows place bytes
-  page_seen c o page place bytes is seen = record { seen = seen.seen ∙ same place.unit (page_of c o page, (place, is, refl)); kept = seen.kept }
+module _ (at at' : ℕ → List ℕ) (rows : Rows) (same : (unit : ℕ) → HasPage rows unit → at unit ≡ at' unit) where
+  page_seen : (c o : List ℕ) (page : ℕ) (on : PageUnit) (bytes : List ℕ) → IsPageOn rows c o page on → IsPageSeen at rows on bytes → IsPageSeen at' rows on bytes
+  page_seen c o page on bytes is seen = record {
+    seen = seen.seen ∙ same on.unit (record { coll = c; object = o; page = page; on = on; is_on = is; is_unit = refl });
+    kept = seen.kept;
+  }
 
   pub bytes_seen : (objects : Objects) → AreBytes at rows objects → AreBytes at' rows objects
   bytes_seen objects all c o object there = record {
-    mapped = λ page place is. page_seen c o page place _ is ((all c o object there).mapped page place is);
+    mapped = λ page on is. page_seen c o page on _ is ((all c o object there).mapped page on is);
     holes = (all c o object there).holes;
   }
 

@@ -6,7 +6,7 @@ use Rattle.meta_log.specs.Slots.{IsActiveSlot}
 use Rattle.meta_log.specs.Records.{AreRowsOf}
 use Rattle.store_image.specs.Owners.{IsLeaked, IsExactBut}
 
--- the image's bitmap is exactly its objects' units and these leaked ones, which nobody owns; no unit has two owners
+-- the image's bitmap is exactly its objects' units and some of these leaked ones, which nobody owns; no unit has two owners
 pub record IsExactImageBut (leaked : ℕ → Type 0) (image : List ℕ) : Type 0 where
   pub super : Super
   pub active : IsActiveSlot image super
@@ -26,7 +26,7 @@ pub record IsLeakedIn (image : List ℕ) (unit : ℕ) : Type 0 where
   pub read : AreRowsOf image super rows
   pub leaked : IsLeaked rows unit
 
--- The first image's leaked units are leaked in the second one too, and no others; else its bitmap is exact, if the first one's was. (A store
--- that has leaked none before has none then.)
+-- No unit is leaked in the second image but such as were in the first one (some may be so no more); else its bitmap is exact, if the first
+-- one's was. (A store that has leaked none before has none then.)
 abbrev pub StaysExact : List ℕ → List ℕ → Type 0
 StaysExact before image = IsExactImageBut (IsLeakedIn before) before → IsExactImageBut (IsLeakedIn before) image

@@ -5,7 +5,7 @@ use Rattle.meta_log.specs.declared.slot.Super.{Super}
 use Rattle.meta_log.specs.Slots.{data_unit}
 use Rattle.row_format.specs.Keys.{bitmap_key}
 use Rattle.row_format.specs.Bits.{bit_row, bit_in}
-use Rattle.row_format.specs.Extents.{Place}
+use Rattle.row_format.specs.Extents.{own}
 use Rattle.store_image.specs.Pages.{IsPageAt}
 
 -- what may own a unit: a page of an object, that stands on a unit of the object's own (a slot of a shared blob is to be the other case)
@@ -13,7 +13,7 @@ pub data Owner : Type 0 where
   page_of : (c o : List ℕ) (page : ℕ) → Owner
 
 abbrev pub Owns : Rows → Owner → ℕ → Type 0
-Owns rows (page_of c o page) unit = (place : Place) × IsPageAt rows c o page place × (place.unit ≡ unit)
+Owns rows (page_of c o page) unit = (csum : ℕ) × IsPageAt rows c o page (own unit csum)
 
 -- the unit has an owner
 abbrev pub IsOwned : Rows → ℕ → Type 0
@@ -40,19 +40,17 @@ pub record IsLeaked (rows : Rows) (unit : ℕ) : Type 0 where
   pub marked : IsMarked rows unit
   pub unowned : ¬ IsOwned rows unit
 
--- The bitmap is exactly the owned units and these leaked ones, which nobody owns; no unit has two owners.
+-- The bitmap is exactly the owned units and some of these leaked ones, which nobody owns; no unit has two owners.
 pub record IsExactBut (leaked : ℕ → Type 0) (rows : Rows) : Type 0 where
-  pub marked : (unit : ℕ) → unit < 2 ^ 32 → IsMarked rows unit → IsOwned rows unit ⊎ leaked unit
+  pub marked : (unit : ℕ) → unit < 2 ^ 32 → IsMarked rows unit → IsOwned rows unit ⊎ (leaked unit × ¬ IsOwned rows unit)
   pub owned_marked : (unit : ℕ) → IsOwned rows unit → IsMarked rows unit
-  pub leaked_marked : (unit : ℕ) → leaked unit → IsMarked rows unit
-  pub leaked_free : (unit : ℕ) → leaked unit → ¬ IsOwned rows unit
   pub one_owner : (unit : ℕ) → HasSoleOwner rows unit
 
 -- the bitmap is exactly the owned units
 abbrev pub IsExact : Rows → Type 0
 IsExact rows = IsExactBut (λ unit. ⊥) rows
 
--- the bitmap is exactly the owned units and those that the first rows had leaked
+-- the bitmap is exactly the owned units and some of those that the first rows had leaked
 abbrev pub IsExactAs : Rows → Rows → Type 0
 IsExactAs first rows = IsExactBut (IsLeaked first) rows
 

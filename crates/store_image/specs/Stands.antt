@@ -11,9 +11,8 @@ use Rattle.meta_log.specs.Slots.{IsActiveSlot}
 use Rattle.meta_log.specs.Records.{AreRowsOf}
 use Rattle.unit_fields.specs.Names.{IsName, IsCollName}
 use Rattle.row_format.specs.Keys.{coll_key, attr_key, header_key, omap_key, onode_key}
-use Rattle.row_format.specs.Extents.{Place}
 use Rattle.row_format.specs.Row.{onode}
-use Rattle.store_image.specs.Pages.{HasRow, IsPageAt, IsHole}
+use Rattle.store_image.specs.Pages.{HasRow, PageUnit, IsPageOn, IsHole}
 use Rattle.store_image.specs.BadRows.{NoBadRow}
 
 -- ---- the shape of objects: all but their bytes
@@ -44,14 +43,14 @@ IsSeen at rows unit bytes = bytes ≡ at unit
 abbrev pub page_bytes : List ℕ → ℕ → List ℕ
 page_bytes bytes page = take 4096 (drop (4096 * page) bytes ++ zeros 4096)
 
--- the page's bytes are seen at its place, and have the checksum that is kept for them
-pub record IsPageSeen (at : ℕ → List ℕ) (rows : Rows) (place : Place) (page : List ℕ) : Type 0 where
-  pub seen : IsSeen at rows place.unit page
-  pub kept : crc32c page ≡ place.csum
+-- the page's bytes are seen at its unit, and have the checksum that is kept for them
+pub record IsPageSeen (at : ℕ → List ℕ) (rows : Rows) (on : PageUnit) (page : List ℕ) : Type 0 where
+  pub seen : IsSeen at rows on.unit page
+  pub kept : crc32c page ≡ on.csum
 
 -- the pages of one object: seen where they stand, zeros in holes
 pub record AreObjectBytes (at : ℕ → List ℕ) (rows : Rows) (c o : List ℕ) (bytes : List ℕ) : Type 0 where
-  pub mapped : (page : ℕ) (place : Place) → IsPageAt rows c o page place → IsPageSeen at rows place (page_bytes bytes page)
+  pub mapped : (page : ℕ) (on : PageUnit) → IsPageOn rows c o page on → IsPageSeen at rows on (page_bytes bytes page)
   pub holes : (page : ℕ) → IsHole rows c o page → page_bytes bytes page ≡ zeros 4096
 
 abbrev pub AreBytes : (ℕ → List ℕ) → Rows → Objects → Type 0

@@ -11,23 +11,47 @@ ghost use Rattle.meta_log.specs.declared.slot.Super.{Super};
 ghost use Rattle.meta_log.specs.Slots.{IsActiveSlot};
 ghost use Rattle.meta_log.specs.Records.{AreRowsOf};
 ghost use Rattle.row_format.specs.Extents.{Place};
-ghost use Rattle.store_image.specs.Pages.{IsPageAt};
+ghost use Rattle.store_image.specs.Pages.{IsPageAt, PageUnit, StandsOn, IsPageOn, HasPage};
 ghost use Rattle.store_image.specs.BadRows.{IsBadRow, NoBadRow};
 ghost use Rattle.store_image.specs.Owners.{IsOwned, IsLeaked, IsExactAs, IsInexact};
-ghost use Rattle.store_image.specs.Exact.{IsExactImage, IsLeakedIn, StaysExact};
+ghost use Rattle.store_image.specs.Exact.{IsExactImageBut, IsExactImage, IsLeakedIn, StaysExact};
 ghost use Rattle.store_image.specs.Chance.{NoChanceMatch, NoTornMatch};
 ghost use Rattle.store_image.specs.Durability.{IsStart, EachCutStands};
-ghost use Rattle.store_image.specs.Stands.{ObjectsStand, StandsFor};
+ghost use Rattle.store_image.specs.Stands.{IsSeen, AreObjectBytes, ObjectsStand, StandsFor};
 
 /// An image stands for at most one Objects.
 pub fn stands_for_one()
     ensures { (image : List ℕ) (a b : Objects) → StandsFor image a → StandsFor image b → a ≡ b }
 {}
 
-/// What rows and units stand for depends on the rows and on the units that they own, and on no other unit.
-pub fn only_owned_units_matter()
+/// What rows and units stand for depends on the rows and on the units on which pages stand, and on no other unit.
+pub fn only_units_with_pages_matter()
     ensures { (at at' : ℕ → List ℕ) (rows : Rows) (objects : Objects) →
-        ((unit : ℕ) → IsOwned rows unit → at unit ≡ at' unit) → ObjectsStand at rows objects → ObjectsStand at' rows objects }
+        ((unit : ℕ) → HasPage rows unit → at unit ≡ at' unit) → ObjectsStand at rows objects → ObjectsStand at' rows objects }
+{}
+
+/// Units on which pages stand have owners, and the others have none.
+pub fn units_with_pages_are_owned()
+    ensures { (rows : Rows) (unit : ℕ) → HasPage rows unit ↔ IsOwned rows unit }
+{}
+
+/// A place is at one unit at most.
+pub fn one_unit_for_a_place()
+    ensures { (rows : Rows) (place : Place) (a b : PageUnit) → StandsOn rows place a → StandsOn rows place b → a ≡ b }
+{}
+
+/// On good rows a page that has a place stands on a unit.
+pub fn placed_pages_stand()
+    ensures { (s : Super) (rows : Rows) → NoBadRow s rows → (c o : List ℕ) (page : ℕ) (place : Place) → IsPageAt rows c o page place
+        → (on : PageUnit) × IsPageOn rows c o page on }
+{}
+
+/// What the pages of an object stand on decides its bytes.
+pub fn pages_decide_bytes()
+    ensures { (at : ℕ → List ℕ) (rows later : Rows) (c o d u bytes : List ℕ)
+        → ((page : ℕ) (on : PageUnit) → IsPageOn later d u page on ↔ IsPageOn rows c o page on)
+        → ((unit : ℕ) (b : List ℕ) → IsSeen at rows unit b → IsSeen at later unit b)
+        → AreObjectBytes at rows c o bytes → AreObjectBytes at later d u bytes }
 {}
 
 /// Where no row is bad, a page of an object stands at one place or at none: the page map is a function.
@@ -48,18 +72,21 @@ pub fn chance_concerns_torn_units_alone()
         NoChanceMatch start log image ↔ NoTornMatch start log image }
 {}
 
-/// Rows that are exact but for what other rows had leaked are so but for what they have leaked themselves, and none of their units is
-/// inexact. It holds from one rows to the next.
+/// Rows that are exact but for what other rows had leaked are so but for what they have leaked themselves, which the others had leaked too,
+/// and none of their units is inexact. It holds from one rows to the next.
 pub fn exact_rows()
     ensures itself { (first rows : Rows) → IsExactAs first rows → IsExactAs rows rows }
-    ensures leaks { (first rows : Rows) (unit : ℕ) → IsExactAs first rows → IsLeaked rows unit ↔ IsLeaked first unit }
+    ensures leaks { (first rows : Rows) (unit : ℕ) → IsExactAs first rows → IsLeaked rows unit → IsLeaked first unit }
     ensures onward { (first rows later : Rows) → IsExactAs first rows → IsExactAs rows later → IsExactAs first later }
     ensures good { (first rows : Rows) → IsExactAs first rows → (unit : ℕ) → ¬ IsInexact rows unit }
 {}
 
-/// What stays as exact as an exact image is exact. It stays so from one image to the next, and where the rows stay.
+/// What stays as exact as an exact image is exact. What is leaked in it was leaked before. It stays so from one image to the next, and where
+/// the rows stay.
 pub fn exact_images()
     ensures exact { (before image : List ℕ) → StaysExact before image → IsExactImage before → IsExactImage image }
+    ensures leaks { (before image : List ℕ) (unit : ℕ) → StaysExact before image → IsExactImageBut (IsLeakedIn before) before →
+        IsLeakedIn image unit → IsLeakedIn before unit }
     ensures onward { (before image later : List ℕ) → StaysExact before image → StaysExact image later → StaysExact before later }
     ensures by_rows { (before image : List ℕ) (s : Super) (rows : Rows) → IsActiveSlot before s → AreRowsOf before s rows →
         IsActiveSlot image s → AreRowsOf image s rows → StaysExact before image }

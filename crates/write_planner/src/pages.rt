@@ -1,12 +1,13 @@
 //! The pages that a write puts on fresh units, and the units that they stood on.
 ghost use Rattle.std.specs.Prelude.{◌≡◌, ◌+◌, ◌*◌, ◌<◌, ◌≤◌, ◌^◌, ℕ, length, map, IfOk, OnOk};
 ghost use Rattle.std.specs.Ordering.{nat_cmp};
+ghost use Rattle.std.specs.List.{flat_map};
 ghost use Rattle.std.specs.FinMap.Entries.{where_key};
 ghost use Rattle.byte_maps.specs.Units.{unit_at};
 ghost use Rattle.crc32c_csum.specs.Crc32c.{crc32c};
 ghost use Rattle.number_map.specs.NumberMap.{is_in};
 ghost use Rattle.blob_map.specs.Pages.{laid};
-ghost use Rattle.object_rows.specs.Plans.{new_pages};
+ghost use Rattle.object_rows.specs.Plans.{new_pages, own_units};
 ghost use Rattle.object_rows.specs.Planned.{pages_on};
 ghost use Rattle.store_steps.specs.Planning.{pair_of};
 
@@ -76,7 +77,7 @@ pub fn units_between(
     first: u32,
     end: u32,
 ) -> Result<Items<UnitNo>, AllocError>
-    ensures { IfOk result (λ units. units ≡ map (λ p. p.1.unit) (where_key nat_cmp (is_in first end) pages.now)) }
+    ensures { IfOk result (λ units. units ≡ flat_map (λ p. own_units p.1) (where_key nat_cmp (is_in first end) pages.now)) }
 {
     let mut units = Items::new(alloc);
     for (page, place) in pages {

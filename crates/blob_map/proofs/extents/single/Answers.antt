@@ -1,12 +1,12 @@
 use Rattle.std.proofs.Common.{rules, ◌≡◌, ◌<◌, ◌^◌, ℕ, List, [], ◌∷◌, ◌++◌, sym, subst, ◌∙◌, ap}
-use Rattle.row_format.specs.Extents.{private, FitsExtent}
+use Rattle.row_format.specs.Extents.{private, own, FitsExtent}
 use Rattle.blob_map.proofs.Forms.{fits_single}
 use Rattle.blob_map.proofs.extents.single.Goals as goal
 
 one_page : (page unit csum : ℕ) (csums : List ℕ) → page < 2 ^ 32 → unit < 2 ^ 32 → csum < 2 ^ 32 → csums ≡ csum ∷ []
     → FitsExtent (record { first = page; body = private unit csums })
 one_page page unit csum csums p q r is = subst (λ (l : List ℕ). FitsExtent (record { first = page; body = private unit l })) (sym is)
-    (fits_single (page, record { unit = unit; csum = csum }) (record { page = p; unit = q; csum = r }))
+    (fits_single (page, own unit csum) (record { page = p; place = (q, r) }))
 
 pub returns-clause-fits : goal.returns-clause-fits
 returns-clause-fits c = one_page c.args.page c.new-unit.result c.place.inside.csum c.push.new.self (search rules)

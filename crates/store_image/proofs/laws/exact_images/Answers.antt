@@ -1,8 +1,11 @@
-use Rattle.store_image.proofs.ExactLemmas.{stays_exact, stays_onward, stays_by_rows, stays_from_rows, leaked_by_rows}
+use Rattle.store_image.proofs.ExactLemmas.{stays_exact, stays_leaks, stays_onward, stays_by_rows, stays_from_rows, leaked_by_rows}
 use Rattle.store_image.proofs.laws.exact_images.Goals as goal
 
 pub returns-clause-exact : goal.returns-clause-exact
 returns-clause-exact c = stays_exact
+
+pub returns-clause-leaks : goal.returns-clause-leaks
+returns-clause-leaks c = stays_leaks
 
 pub returns-clause-onward : goal.returns-clause-onward
 returns-clause-onward c = stays_onward

@@ -1,12 +1,12 @@
 use Rattle.store_image.specs.Owners.{IsLeaked}
-use Rattle.store_image.proofs.ExactLemmas.{as_itself, same_leaks, exact_onward, no_inexact}
+use Rattle.store_image.proofs.ExactLemmas.{as_itself, no_new_leaks, exact_onward, no_inexact}
 use Rattle.store_image.proofs.laws.exact_rows.Goals as goal
 
 pub returns-clause-itself : goal.returns-clause-itself
 returns-clause-itself c = λ first rows. as_itself (IsLeaked first) rows
 
 pub returns-clause-leaks : goal.returns-clause-leaks
-returns-clause-leaks c = same_leaks
+returns-clause-leaks c = no_new_leaks
 
 pub returns-clause-onward : goal.returns-clause-onward
 returns-clause-onward c = exact_onward

@@ -1,10 +1,10 @@
-use Rattle.std.proofs.Common.{◌≡◌, ℕ, ◌+◌, ◌*◌, List, ◌++◌, length, max, map, ap, subst, ◌∙◌, arith}
+use Rattle.std.proofs.Common.{◌≡◌, ℕ, ◌+◌, ◌*◌, List, ◌++◌, length, max, flat_map, ap, subst, ◌∙◌, arith}
 use Rattle.std.specs.Ordering.{nat_cmp}
 use Rattle.std.specs.FinMap.Entries.{where_key}
 use Rattle.number_map.specs.NumberMap.{is_in}
 use Rattle.row_format.specs.Extents.{Place}
 use Rattle.object_rows.specs.Operations.{object_ops}
-use Rattle.object_rows.specs.Plans.{TurnsBits}
+use Rattle.object_rows.specs.Plans.{own_units, TurnsBits}
 use Rattle.write_planner.proofs.Written.{writes_pages}
 use Rattle.write_planner.proofs.planning.pages_on.Goals as goal
 
@@ -26,7 +26,7 @@ returns c =
           (c.in_ok-ops.ensures
           ∙ (λ i. object_ops rows c.args.coll.now c.args.object.now c.max.result (c.deref.ensures.value i) (c.deref-2.ensures.value i)))
           (c.in_ok-released.ensures
-          ∙ ap (λ (ps : List (ℕ × Place)). map (λ p. p.1.unit) (where_key nat_cmp (is_in first (first + length units)) ps)) c.pages-2.ensures)
+          ∙ ap (λ (ps : List (ℕ × Place)). flat_map (λ p. own_units p.1) (where_key nat_cmp (is_in first (first + length units)) ps)) c.pages-2.ensures)
           (subst (λ us. TurnsBits units us flips) c.as_slice.ensures c.in_ok-flips.ensures)
           (c.from_vec.ensures ∙ c.in_ok-append.ensures.items ∙ ap (λ l. l ++ flips) c.into_vec-all.ensures);
       fresh = c.in_ok-fresh.ensures;

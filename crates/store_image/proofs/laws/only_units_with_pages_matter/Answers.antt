@@ -1,5 +1,5 @@
 use Rattle.store_image.proofs.OwnedUnits.{objects_stand}
-use Rattle.store_image.proofs.laws.only_owned_units_matter.Goals as goal
+use Rattle.store_image.proofs.laws.only_units_with_pages_matter.Goals as goal
 
 pub returns : goal.returns
 returns c at at_other rows objects same p = objects_stand at at_other rows same objects p

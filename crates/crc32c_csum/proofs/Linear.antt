@@ -21,7 +21,7 @@ pub at_odd : (r : ℕ) → r % 2 ≡ 1 → after_bit r ≡ bit_xor (r / 2) 0x82f
 at_odd r e = ap (λ k. cond (eqb k 1) (bit_xor (r / 2) 0x82f63b78) (r / 2)) e
 
 -- (x ^ y) ^ p is x ^ (y ^ p), (x ^ p) ^ y, and x ^ y where p is on both sides
-left : (x y p : ℕ) → bit_xor (bit_xor x y) p ≡ bit_xor (bit_xor x p) y
+pub left : (x y p : ℕ) → bit_xor (bit_xor x y) p ≡ bit_xor (bit_xor x p) y
 left x y p = xor_assoc x y p ∙ ap (bit_xor x) (xor_comm y p) ∙ sym (xor_assoc x p y)
 
 twice : (x y p : ℕ) → bit_xor (bit_xor x p) (bit_xor y p) ≡ bit_xor x y

@@ -5,7 +5,7 @@ use Rattle.crc32c_csum.specs.Crc32c.{after_bits}
 use Rattle.crc32c_csum.specs.Steps.{after_zeros}
 use Rattle.crc32c_csum.specs.declared.tables.TheConstants.{AFTER}
 
-abbrev all_are : (ℕ → ℕ) → ℕ → List ℕ → Bool
+abbrev pub all_are : (ℕ → ℕ) → ℕ → List ℕ → Bool
 all_are f i [] = true
 all_are f i (x ∷ xs) = eqb x (f i) && all_are f (i + 1) xs
 
@@ -21,7 +21,7 @@ second_true : (a b : Bool) → (a && b) ≡ true → b ≡ true
 second_true true b e = e
 second_true false b e = absurd cc
 
-entry : (f : ℕ → ℕ) (xs : List ℕ) (i j : ℕ) → all_are f i xs ≡ true → j < length xs → get_or xs j 0 ≡ f (i + j)
+pub entry : (f : ℕ → ℕ) (xs : List ℕ) (i j : ℕ) → all_are f i xs ≡ true → j < length xs → get_or xs j 0 ≡ f (i + j)
 entry f [] i j h lt = absurd (omega (arith, lt))
 entry f (x ∷ xs) i zero h lt = eqb-true x (f i) (first_true _ _ h) ∙ ap f (omega arith)
 entry f (x ∷ xs) i (suc j) h lt =

@@ -1,2 +1,3 @@
 pub mod Crc32c
 pub mod Steps
+pub mod Folding

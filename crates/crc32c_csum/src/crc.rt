@@ -1,9 +1,11 @@
-//! The checksum itself, sixteen bytes a step by tables.
+//! The checksum itself: whole pages by folding, and what is left by tables, sixteen bytes a step.
 
-ghost use Rattle.std.specs.Prelude.{◌≡◌, ◌∷◌, [], ◌++◌, ◌<◌, ◌+◌, bit_xor};
+ghost use Rattle.std.specs.Prelude.{◌≡◌, ◌∷◌, [], ◌++◌, ◌<◌, ◌+◌, ℕ, List, length, bit_xor};
 ghost use Rattle.crc32c_csum.specs.Crc32c.{all_ones, remainder, crc32c};
 ghost use Rattle.crc32c_csum.specs.Steps.{after_zeros, by_tables, listed};
 
+use crate::behind::behind_page;
+use crate::fold::after_pages;
 use crate::tables::AFTER;
 use std::marker::Model;
 
@@ -25,7 +27,7 @@ fn after_one(r: u32, byte: u8) -> u32
 }
 
 // Eight bytes, one behind the other.
-type Eight = (u8, u8, u8, u8, u8, u8, u8, u8);
+pub(crate) type Eight = (u8, u8, u8, u8, u8, u8, u8, u8);
 
 // What eight bytes leave of a remainder that was zero.
 #[inline(always)]
@@ -41,7 +43,7 @@ fn from_zero(b: Eight) -> u32
 
 // The remainder after sixteen more bytes. What needs the remainder comes last, so that the rest is done while it is waited for.
 #[inline(always)]
-fn after_sixteen(r: u32, a: Eight, b: Eight) -> u32
+pub(crate) fn after_sixteen(r: u32, a: Eight, b: Eight) -> u32
     ensures { result ≡ remainder r (listed a ++ listed b) }
 {
     let behind = after(11, a.4)
@@ -94,7 +96,8 @@ fn after_steps(r: u32, bytes: &[u8]) -> (u32, &[u8])
 fn after_bytes(r: u32, bytes: &[u8]) -> u32
     ensures { result ≡ remainder r bytes.now }
 {
-    let (mut r, left) = after_steps(r, bytes);
+    let (r, left) = after_pages(r, bytes);
+    let (mut r, left) = after_steps(r, left);
     for byte in left {
         r = after_one(r, *byte);
     }
@@ -140,6 +143,13 @@ impl Digest {
         ensures { self.new ≡ remainder self.old bytes.now }
     {
         self.state = after_bytes(self.state, bytes);
+    }
+
+    /// Takes a page of 4096 bytes in by its checksum alone.
+    pub fn update_page(&mut self, sum: u32)
+        ensures { (page : List ℕ) → length page ≡ 4096 → sum ≡ crc32c page → self.new ≡ remainder self.old page }
+    {
+        self.state = behind_page(self.state ^ u32::MAX) ^ (sum ^ u32::MAX);
     }
 
     /// The CRC-32C of all bytes that were taken in, one part behind the other.

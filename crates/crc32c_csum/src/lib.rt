@@ -2,7 +2,9 @@
 //! objects are all told apart from damaged ones by it, as in BlueStore with `csum_type` crc32c.
 #![tactic(auto)]
 
+mod behind;
 mod crc;
+mod fold;
 mod tables;
 mod unit;
 

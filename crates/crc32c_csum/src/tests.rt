@@ -1,4 +1,4 @@
-//! Vectors of others, and the lengths round a step of the tables against the division written out.
+//! Vectors of others, and the lengths round a step of the tables and round a page against the division written out.
 
 use super::*;
 use std::test::Fail;
@@ -53,6 +53,27 @@ fn lengths_round_a_step(rt: HostRuntime) {
     }
 }
 
+// Bytes that don't come again within a page, for two pages and a bit.
+fn scattered() -> [u8; 8200] {
+    let mut bytes = [0u8; 8200];
+    let mut word = 1u32;
+    for i in 0..8200usize {
+        word = word.wrapping_mul(0x41c6_4e6d).wrapping_add(12345);
+        bytes[i] = (word / 65536 % 256) as u8;
+    }
+    bytes
+}
+
+#[test]
+fn lengths_round_a_page(rt: HostRuntime) {
+    let bytes = scattered();
+    for length in [4095usize, 4096, 4097, 8191, 8192, 8200] {
+        if let Some(part) = bytes.get(..length) {
+            assert_eq!(rt; crc32c(part), by_division(part), "at {length}");
+        }
+    }
+}
+
 #[test]
 fn parts_sum_as_the_whole(rt: HostRuntime) {
     let mut digest = Digest::new();
@@ -60,6 +81,17 @@ fn parts_sum_as_the_whole(rt: HostRuntime) {
     digest.update(b"");
     digest.update(b"3456789");
     assert_eq!(rt; digest.finish(), 0xe306_9283);
+}
+
+#[test]
+fn pages_sum_by_their_sums(rt: HostRuntime) {
+    let bytes = scattered();
+    let mut digest = Digest::new();
+    for i in 0..2usize {
+        digest.update_page(crc32c(&bytes[4096 * i..4096 * i + 4096]));
+    }
+    digest.update(&bytes[8192..]);
+    assert_eq!(rt; digest.finish(), crc32c(&bytes));
 }
 
 #[test]

@@ -1,0 +1,8 @@
+use Rattle.std.proofs.Common.{◌≡◌, ◌*◌, drop}
+use Rattle.std.specs.Prelude.{bit_xor}
+use Rattle.crc32c_csum.specs.Crc32c.{remainder}
+use Rattle.crc32c_csum.specs.Folding.{of_taken}
+use Rattle.crc32c_csum.proofs.fold.of_last.Given as goal
+
+abbrev pub invariant-loop-i : goal.invariant-loop-i
+invariant-loop-i l = remainder (bit_xor (of_taken (16 * l.i) l.taken) l.r) (drop (16 * l.i) l.page) ≡ remainder (of_taken 3792 l.taken) (drop 3792 l.page)

@@ -62,7 +62,11 @@ fn taken_and_freed(rt: HostRuntime) -> Result<(), Fail> {
     let alloc = rt.alloc();
     let mut rows = no_rows(alloc);
     turn(alloc, &mut rows, &[0, 127, 128, 130, 1048575, 4294967295])?;
-    assert_eq!(rt; rows.range(b"", None).len(), 4);
+    let mut count = 0u32;
+    for _ in rows.range(b"", None) {
+        count = count.saturating_add(1);
+    }
+    assert_eq!(rt; count, 4);
     assert_eq!(rt;
         read(alloc, &rows)?.as_slice(),
         [0, 127, 128, 130, 1048575, 4294967295].as_slice()

@@ -119,6 +119,27 @@ fn time_apply(rt: HostRuntime, rows: u32, is_scrambled: bool) -> io::Result<()> 
     )
 }
 
+// Rows that come one by one, each by its own `reserve` and `apply`: the nanoseconds of all, and of the last thousand.
+fn time_grow(rt: HostRuntime, rows: u32, is_scrambled: bool) -> io::Result<()> {
+    let ops = sets(rt.alloc(), rows, is_scrambled)?;
+    let mut table = RowTable::new(rt.alloc());
+    let start = Instant::now(&rt)?;
+    let mut late = start;
+    let mut left = ops.len();
+    for op in ops {
+        if left == 1000 {
+            late = Instant::now(&rt)?;
+        }
+        let one = vec![in rt.alloc(); op]?;
+        table.reserve(1)?;
+        table.apply(one);
+        left = left.saturating_sub(1);
+    }
+    let taken = start.elapsed(&rt)?;
+    let last = late.elapsed(&rt)?;
+    println!(rt; "{} {}", taken.as_nanos(), last.as_nanos())
+}
+
 fn main(rt: HostRuntime) -> io::Result<()> {
     let mut words = env::args(&rt)?;
     let _program = words.next();
@@ -129,6 +150,11 @@ fn main(rt: HostRuntime) -> io::Result<()> {
     match what.as_str() {
         "scan" => time_scan(rt, count, number(how).unwrap_or(1)),
         "apply" => time_apply(
+            rt,
+            count,
+            how.is_some_and(|how| how.as_str() == "scrambled"),
+        ),
+        "grow" => time_grow(
             rt,
             count,
             how.is_some_and(|how| how.as_str() == "scrambled"),

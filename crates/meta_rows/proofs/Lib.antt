@@ -2,10 +2,10 @@ pub mod FieldLemmas
 pub mod Ops
 pub mod Folds
 pub mod XorLemmas
-pub mod FlipLemmas
 pub mod RowLemmas
 pub mod RangeLemmas
-pub mod GapLemmas
-pub mod OrderLemmas
-pub mod SortLemmas
+pub mod ListSizes
+pub mod PartLemmas
+pub mod ChunkLemmas
+pub mod TableLemmas
 pub mod OpReading

@@ -47,7 +47,7 @@ module _ (key : List ℕ) where
       let later = starts_between es j (omega arith) (λ k d a b. parted.0 (suc k) d (omega arith) (omega arith), λ k d a b. parted.1 (suc k) d (omega arith) (omega arith)) in
       (h, (ap is_lt (parted.0 0 e (omega arith) (omega arith)), later.1), later.2)
 
-  all_from : (es : List (List ℕ × List ℕ)) → T (below_all byte_order key es) → NoneBelow key es
+  pub all_from : (es : List (List ℕ × List ℕ)) → T (below_all byte_order key es) → NoneBelow key es
   all_from [] h = tt
   all_from (e ∷ es) h = (not_below key e.0 (both_first _ _ h), all_from es (both_second _ _ h))
 
@@ -58,7 +58,7 @@ module _ (key : List ℕ) where
   starts_there (e ∷ es) (suc j) h l is =
       let later : StartsAt key es j = starts_there es j (both_second _ _ h) (omega arith) (λ d. is d) in
       let less = subst (λ k. T (is_lt (byte_order e.0 k))) (same_bytes _ key (is e)) (below e.0 es j e (both_first _ _ h) (omega arith)) in
-      (omega arith, (so _ less, later.1), later.2)
+      (omega (arith, later.0), (so _ less, later.1), later.2)
 
 -- what a test makes of an entry and of the rest
 passed : (p : List ℕ → Bool) (e : List ℕ × List ℕ) (es left : List (List ℕ × List ℕ)) → p e.0 ≡ true → where_key byte_order p es ≡ left → where_key byte_order p (e ∷ es) ≡ e ∷ left
@@ -113,3 +113,24 @@ range_none [] from to h = ap (drop from) (take-nil to) ∙ drop-nil from
 range_none (x ∷ xs) from zero h = drop-nil from
 range_none (x ∷ xs) zero (suc j) h = absurd (omega arith)
 range_none (x ∷ xs) (suc i) (suc j) h = range_none xs i j (omega arith)
+
+-- ---- a range that is gone through: what is left of its rows are those from a place on
+
+-- one row more
+pub left_more : (es : List (List ℕ × List ℕ)) (i : ℕ) (x : List ℕ × List ℕ) (rest : List (List ℕ × List ℕ)) → drop i es ≡ x ∷ rest
+    → (i < length es) × (x ≡ get_or es i x) × (rest ≡ drop (i + 1) es)
+left_more [] zero x rest is = absurd cc
+left_more [] (suc i) x rest is = absurd cc
+left_more (e ∷ es) zero x rest is =
+    let on : 0 + 1 ≡ 1 = omega arith in
+    (omega arith, sym (ap (λ (l : List (List ℕ × List ℕ)). get_or l 0 x) is), sym (ap (drop 1) is) ∙ ap (λ k. drop k (e ∷ es)) (sym on))
+left_more (e ∷ es) (suc i) x rest is =
+    let later = left_more es i x rest is in
+    let on : suc i + 1 ≡ suc (i + 1) = omega arith in
+    (omega (arith, later.0), later.1, later.2 ∙ ap (λ k. drop k (e ∷ es)) (sym on))
+
+-- and none
+pub left_none : (es : List (List ℕ × List ℕ)) (i : ℕ) → drop i es ≡ [] → length es ≤ i
+left_none [] i is = omega arith
+left_none (e ∷ es) zero is = absurd cc
+left_none (e ∷ es) (suc i) is = omega (arith, left_none es i is)

@@ -1,6 +1,5 @@
 pub mod Rows
 pub mod Spelling
 pub mod Table
-pub mod Gap
-pub mod Order
+pub mod Chunks
 pub mod Reading

@@ -1,12 +1,14 @@
 -- The rows in memory.
-use Rattle.std.specs.Prelude.{◌≡◌, ℕ, ◌+◌, ◌≤◌, Bool, true, false, not, Option, Some, None, List, [], unwrap_or, if◌then◌else◌, length, take, drop, refl}
-use Rattle.std.specs.List.{AllByRecursion, filter}
-use Rattle.std.specs.Ordering.{is_lt}
+use Rattle.std.specs.Prelude.{◌≡◌, ℕ, ◌+◌, ◌≤◌, Bool, true, false, not, Option, Some, None, List, [], unwrap_or, if◌then◌else◌, length, take, drop, set, get_or, ◌%◌, ◌^◌, refl}
+use Rattle.std.specs.List.{AllByRecursion, filter, insert, remove}
+use Rattle.std.specs.Ordering.{is_lt, eq_by_cmp}
 use Rattle.std.specs.FinMap as map
+use Rattle.std.specs.FinMap.{find, put}
+use Rattle.std.specs.FinMap.Entries.{where_key}
 use Rattle.std.specs.Coded.{Coded, code_by, coded×, coded_ℕ, coded_list}
 use Rattle.byte_maps.specs.ByteMap.{byte_order, in_range}
-use Rattle.byte_maps.specs.Totals.{total}
-use Rattle.meta_rows.specs.Rows.{Rows, xor_bytes, all_zero}
+use Rattle.byte_maps.specs.Totals.{added, total}
+use Rattle.meta_rows.specs.Rows.{Rows, xor_bytes, all_zero, key_of}
 use Rattle.meta_rows.specs.declared.row_op.RowOp.{RowOp}
 use Rattle.meta_rows.specs.declared.row_op.RowOp.TheVariants.{Set, Drop, Flip}
 
@@ -61,3 +63,30 @@ value_left held (Flip key mask) = let value = xor_bytes (unwrap_or held []) mask
 abbrev pub with_left : Rows → List ℕ → Option (List ℕ) → Rows
 with_left rows key None = rows
 with_left rows key (Some value) = map.insert rows key value
+
+-- the bytes of rows in a list, each spelled as an operation that sets it
+abbrev pub list_size : List (List ℕ × List ℕ) → ℕ
+list_size es = added (λ key value. 7 + length key + length value) es
+
+-- rows in the order of their keys, with a value under a key, or without the key
+abbrev pub with_value : List (List ℕ × List ℕ) → List ℕ → Option (List ℕ) → List (List ℕ × List ℕ)
+with_value es key None = where_key byte_order (λ k. not (eq_by_cmp byte_order key k)) es
+with_value es key (Some value) = put byte_order key value es
+
+-- what an operation makes of them
+abbrev pub entries_after : List (List ℕ × List ℕ) → RowOp → List (List ℕ × List ℕ)
+entries_after es op = with_value es (key_of op) (value_left (find byte_order (key_of op) es) op)
+
+-- the row at a place gets a value, or goes
+abbrev pub left_at : List (List ℕ × List ℕ) → ℕ → Option (List ℕ) → List (List ℕ × List ℕ)
+left_at es at None = remove es at
+left_at es at (Some value) = set es at ((get_or es at ([], [])).0, value)
+
+-- a row comes at a place, or not
+abbrev pub come_at : List (List ℕ × List ℕ) → ℕ → List ℕ → Option (List ℕ) → List (List ℕ × List ℕ)
+come_at es at key None = es
+come_at es at key (Some value) = insert es at (key, value)
+
+-- the bytes of the one list and `more` are those of the other, in 64 bits
+abbrev pub GrowsBy : ℕ → List (List ℕ × List ℕ) → List (List ℕ × List ℕ) → Type 0
+GrowsBy more old new = (list_size old + more) % 2 ^ 64 ≡ list_size new % 2 ^ 64

@@ -3,11 +3,13 @@
 //! In Ceph's BlueStore these are the sets, deletes and merges of a RocksDB write batch.
 #![tactic(auto)]
 
+mod chunk;
+mod chunk_list;
 mod laws;
 mod reading;
 mod row_change;
-mod row_gap;
 mod row_op;
+mod row_range;
 mod row_table;
 mod writing;
 
@@ -17,6 +19,7 @@ pub use laws::{
 };
 pub use reading::decode;
 pub use row_op::RowOp;
+pub use row_range::RowRange;
 pub use row_table::RowTable;
 pub use writing::{encode, encoded_len};
 

@@ -5,11 +5,9 @@ ghost use Rattle.meta_rows.specs.Table.{value_left};
 
 use crate::row_op::RowOp;
 use byte_maps::Bytes;
-use std::alloc::Global;
-use std::mem::replace;
 
-/// Whether no byte is other than zero.
-pub fn is_all_zero(bytes: &[u8]) -> bool
+// Whether no byte is other than zero.
+fn is_all_zero(bytes: &[u8]) -> bool
     ensures { IsTrue result ↔ All (λ byte. byte ≡ 0) bytes.now }
 {
     bytes.iter().all(|byte| *byte == 0)
@@ -56,15 +54,6 @@ fn some_byte(value: Bytes) -> Option<Bytes>
     } else {
         Some(value)
     }
-}
-
-/// A row's value becomes the exclusive-or with the mask, in the longer of the two buffers. Whether a byte other than zero is left.
-pub fn flip_into(alloc: Global, value: &mut Bytes, mask: Bytes) -> bool
-    ensures value { value.new ≡ xor_bytes value.old mask }
-    ensures left { result ≡ not (all_zero value.new) }
-{
-    *value = xored(replace(value, Bytes::new(alloc)), mask);
-    !is_all_zero(value.as_slice())
 }
 
 /// The key of an operation, and the value that it leaves of what was held there. It takes no memory: a set row keeps the buffer

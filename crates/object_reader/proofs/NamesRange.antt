@@ -1,6 +1,6 @@
 -- The first row of a range has the least key there.
 use Rattle.std.proofs.Common.{◌≡◌, ◌≢◌, ℕ, Bool, true, false, cond, not, T, List, []}
-use Rattle.std.proofs.Common.{◌∷◌, Option, Some, None, is_some, slice_get, refl, sym, ap, subst, ◌∙◌}
+use Rattle.std.proofs.Common.{◌∷◌, Option, Some, None, is_some, refl, sym, ap, subst, ◌∙◌}
 use Rattle.std.specs.Prelude.{◌&&◌}
 use Rattle.std.specs.Ordering.{is_eq, is_lt}
 use Rattle.std.specs.declared.cmp.Ordering.{Ordering}
@@ -94,17 +94,13 @@ module _ (rows : Rows) (first end : List ℕ) where
             none_some (map.get rows other) (sym (finds_in (e ∷ es) are other within) ∙ above) has;
       }
 
-  -- the same, as a function that looks at the first row sees it
-  pub least_key : (es : List Entry) (e : Entry) (key : List ℕ) → es ≡ range → Some e ≡ slice_get es 0 → key ≡ e.0 → IsLeastKey rows first end key
-  least_key [] e key is got own = absurd cc
-  least_key (x ∷ es) e key is got own =
-      let here : x ≡ e = cc in
-      subst (IsLeastKey rows first end) (ap (λ (y : Entry). y.0) here ∙ sym own) (first_row x es (lent (x ∷ es) is))
+  -- the same, as a function that draws the first row sees it
+  pub least_key : (es : List Entry) (e : Entry) (rest : List Entry) (key : List ℕ) → es ≡ range → es ≡ e ∷ rest → key ≡ e.0 → IsLeastKey rows first end key
+  least_key es e rest key is drawn own = subst (IsLeastKey rows first end) (sym own) (first_row e rest (lent (e ∷ rest) (sym drawn ∙ is)))
 
   -- no first row, so no key
-  pub no_key : (es : List Entry) → es ≡ range → None ≡ slice_get es 0 → HasNoKey rows first end
-  no_key [] is got = no_row (lent [] is)
-  no_key (x ∷ es) is got = absurd cc
+  pub no_key : (es : List Entry) → es ≡ range → es ≡ [] → HasNoKey rows first end
+  no_key es is none = no_row (lent [] (sym none ∙ is))
 
 -- ---- keys in a range, by byte order
 

@@ -19,7 +19,8 @@ use unit_fields::{CollName, Name};
 fn first_key<'a>(rows: &'a RowTable, first: &[u8], end: &[u8]) -> Option<&'a [u8]>
     ensures { MatchOption result (HasNoKey rows.now.rows first.now end.now) (λ key. IsLeastKey rows.now.rows first.now end.now key.now) }
 {
-    match rows.range(first, Some(end)).first() {
+    let mut range = rows.range(first, Some(end));
+    match range.next() {
         Some((key, _)) => Some(key.as_slice()),
         None => None,
     }

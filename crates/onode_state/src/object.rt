@@ -11,7 +11,7 @@ ghost use Rattle.onode_state.specs.Objects.{IsShardValue, AddsShard, HasShards, 
 use crate::names::{coll_name_is_one, name_is_one};
 use blob_map::PageMap;
 use byte_maps::Bytes;
-use meta_rows::RowTable;
+use meta_rows::{RowRange, RowTable};
 use onode_codec::{Extent, Onode, decode_extents, onode_key, shard_key, shards_end};
 use std::alloc::{AllocError, Global};
 use unit_fields::{CollName, Name};
@@ -70,9 +70,9 @@ fn shard_rows<'a>(
     rows: &'a RowTable,
     coll: &CollName,
     object: &Name,
-) -> Result<&'a [(Bytes, Bytes)], AllocError>
+) -> Result<RowRange<'a>, AllocError>
     ensures { IfOk result (λ found.
-        found.now ≡ rows_from_to rows.now.rows (shard_key coll.now object.now 0) (Some (of_object 0x4f coll.now object.now (0x70 ∷ [])))) }
+        found ≡ rows_from_to rows.now.rows (shard_key coll.now object.now 0) (Some (of_object 0x4f coll.now object.now (0x70 ∷ [])))) }
 {
     let first = shard_key(alloc, coll, object, 0)?;
     let end = shards_end(alloc, coll, object)?;

@@ -3,8 +3,8 @@ use Rattle.object_reader.proofs.names.first_key.Goals as goal
 
 pub returns-in-Some : goal.returns-in-Some
 returns-in-Some c =
-    least_key c.args.rows.now.rows c.args.first.now c.args.end.now c.range.result.now c.in-Some.field-0.now c.as_slice.result.now
-    c.range.ensures c.in-Some.ensures.value c.as_slice.ensures
+    least_key c.args.rows.now.rows c.args.first.now c.args.end.now c.range-range.result c.in-Some.field-0.now c.next.new.self c.as_slice.result.now
+    c.range-range.ensures c.in-Some.ensures.steps c.as_slice.ensures
 
 pub returns-in-None : goal.returns-in-None
-returns-in-None c = no_key c.args.rows.now.rows c.args.first.now c.args.end.now c.range.result.now c.range.ensures c.in-None.ensures.value
+returns-in-None c = no_key c.args.rows.now.rows c.args.first.now c.args.end.now c.range-range.result c.range-range.ensures c.in-None.ensures.steps.0

@@ -1,33 +1,55 @@
-use Rattle.std.proofs.Common.{sym, subst, arith}
+use Rattle.std.proofs.Common.{◌≡◌, ◌+◌, [], None, refl, sym, subst, ◌∙◌, arith}
+use Rattle.meta_rows.specs.Table.{rows_from_to}
+use Rattle.meta_rows.proofs.RangeLemmas.{left_more, left_none}
 use Rattle.row_check.specs.Owned.{SpellsWithin}
 use Rattle.row_check.proofs.Walk.{AreRows, are_rows}
-use Rattle.row_check.proofs.MarkedRows.{spells_within, row_step, all_marked}
+use Rattle.row_check.proofs.MarkedRows.{MarkedTo, none_marked, spells_within, row_step, all_marked}
 use Rattle.row_check.proofs.owners.marks_of.Goals as goal
+
+pub loop-key-init : goal.loop-key-init
+loop-key-init c = record {
+  can_next = tt;
+  finite = tt;
+  at = 0;
+  left = c.into_iter-key-iterator.ensures.into_iter_gives ∙ c.range-key-items.ensures;
+  marked = subst (MarkedTo (rows_from_to c.args.rows.now.rows [] None) 0 c.args.sup.now.units) (sym c.in_ok-marks.ensures) (none_marked (rows_from_to c.args.rows.now.rows [] None) c.args.sup.now.units);
+}
 
 pub mark_row-requires : goal.mark_row-requires
 mark_row-requires c =
     let rows = c.args.rows.now.rows in
-    let es = c.range-key-items.result.now in
-    let are : AreRows rows es = are_rows rows es c.range-key-items.ensures in
+    let es = rows_from_to rows [] None in
+    let are : AreRows rows es = are_rows rows es refl in
+    let x = c.in-Some.field-0.now in
+    let more = left_more es c.loop-key.invariant.at x c.next.new.self (sym c.loop-key.invariant.left ∙ c.in-Some.ensures.steps) in
     let key = c.as_slice.result.now in
     let value = c.as_slice-in-loop-key.result.now in
-    subst (SpellsWithin key value) (sym c.loop-key.invariant.has.owned)
-    (spells_within c.args.sup.now rows c.requires es are c.loop-key.key-index c.loop-key-item.result key value (omega arith)
-    c.loop-key-item.is c.as_slice.ensures c.as_slice-in-loop-key.ensures)
+    subst (SpellsWithin key value) (sym c.loop-key.invariant.marked.has.owned)
+    (spells_within c.args.sup.now rows c.requires es are c.loop-key.invariant.at x key value more.0 more.1 c.as_slice.ensures c.as_slice-in-loop-key.ensures)
 
 pub loop-key-preserved : goal.loop-key-preserved
 loop-key-preserved c =
     let rows = c.args.rows.now.rows in
-    let es = c.range-key-items.result.now in
-    let are : AreRows rows es = are_rows rows es c.range-key-items.ensures in
-    row_step c.args.sup.now rows c.requires es are c.loop-key.key-index c.loop-key-item.result c.as_slice.result.now c.as_slice-in-loop-key.result.now
-    (omega arith) c.loop-key-item.is c.as_slice.ensures c.as_slice-in-loop-key.ensures c.loop-key.marks c.mark_row.new.marks c.loop-key.invariant
-    c.in_ok-mark_row.ensures.ok
+    let es = rows_from_to rows [] None in
+    let are : AreRows rows es = are_rows rows es refl in
+    let at = c.loop-key.invariant.at in
+    let x = c.in-Some.field-0.now in
+    let more = left_more es at x c.next.new.self (sym c.loop-key.invariant.left ∙ c.in-Some.ensures.steps) in
+    record {
+      can_next = tt;
+      finite = tt;
+      at = at + 1;
+      left = more.2;
+      marked = row_step c.args.sup.now rows c.requires es are at x c.as_slice.result.now c.as_slice-in-loop-key.result.now more.0 more.1 c.as_slice.ensures
+          c.as_slice-in-loop-key.ensures c.loop-key.marks c.mark_row.new.marks c.loop-key.invariant.marked c.in_ok-mark_row.ensures.ok;
+    }
 
 pub returns : goal.returns
 returns c =
     let rows = c.args.rows.now.rows in
-    let es = c.range-key-items.result.now in
-    let are : AreRows rows es = are_rows rows es c.range-key-items.ensures in
-    let all = all_marked rows es are c.loop-key.key-index (omega arith) c.args.sup.now.units c.loop-key.marks c.loop-key.invariant in
-    (all, c.loop-key.invariant.has.owned, c.loop-key.invariant.has.shared)
+    let es = rows_from_to rows [] None in
+    let are : AreRows rows es = are_rows rows es refl in
+    let at = c.loop-key.invariant.at in
+    let all = all_marked rows es are at (left_none es at (sym c.loop-key.invariant.left ∙ c.in-None.ensures.steps.0)) c.args.sup.now.units c.loop-key.marks
+    c.loop-key.invariant.marked in
+    (all, c.loop-key.invariant.marked.has.owned, c.loop-key.invariant.marked.has.shared)

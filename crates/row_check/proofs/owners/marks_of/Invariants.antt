@@ -1,5 +1,13 @@
+use Rattle.std.proofs.Common.{◌≡◌, ℕ, [], None, drop}
+use Rattle.meta_rows.specs.Table.{rows_from_to}
 use Rattle.row_check.proofs.MarkedRows.{MarkedTo}
 use Rattle.row_check.proofs.owners.marks_of.Given as goal
 
 abbrev pub invariant-loop-key : goal.invariant-loop-key
-invariant-loop-key l = MarkedTo l.key-items l.key-index l.sup.units l.marks
+invariant-loop-key l = record {
+  can_next : (goal.iterator-loop-key).can_next l.key-iterator;
+  finite : (goal.iterator-loop-key).is_finite l.key-iterator;
+  at : ℕ;
+  left : l.key-iterator ≡ drop at (rows_from_to l.fn.rows.rows [] None);
+  marked : MarkedTo (rows_from_to l.fn.rows.rows [] None) at l.fn.sup.units l.marks;
+}

@@ -1,5 +1,8 @@
+use Rattle.std.proofs.Common.{ap, ◌∙◌}
+use Rattle.std.specs.FinMap as map
 use Rattle.byte_maps.proofs.Places.{none_is_empty}
+use Rattle.meta_rows.specs.Chunks.{joined}
 use Rattle.meta_rows.proofs.row_table.RowTable.new.Goals as goal
 
 pub returns : goal.returns
-returns c = rw c.new.ensures.items (none_is_empty)
+returns c = ap (λ chunks. map.from_sorted (joined chunks)) c.new.ensures.items ∙ none_is_empty

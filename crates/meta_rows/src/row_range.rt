@@ -1,0 +1,72 @@
+//! The rows of a range of keys.
+ghost use Rattle.std.specs.Prelude.{◌≡◌, [], ◌++◌};
+ghost use Rattle.meta_rows.specs.Chunks.{joined, NoneEmpty};
+
+use crate::chunk::Chunk;
+use byte_maps::Bytes;
+use std::marker::Model;
+
+/// The rows of a range that are still to come, lent one after the other in the order of their keys, and seen as their list.
+/// (Ceph: a RocksDB iterator.)
+#[derive(Debug, Drop)]
+pub struct RowRange<'a> {
+    // Of the chunk that it stands in.
+    here: &'a [(Bytes, Bytes)],
+    // Chunks that lie in the range as a whole.
+    more: &'a [Chunk],
+    // Of the chunk in which the range ends.
+    last: &'a [(Bytes, Bytes)],
+}
+
+impl<'a> Model for RowRange<'a> {
+    ghost use Rattle.std.specs.Prelude.{ℕ, List, ◌++◌};
+    ghost use Rattle.meta_rows.specs.Chunks.{joined, NoneEmpty};
+
+    ghost Value = { List (List ℕ × List ℕ) };
+
+    ghost view = { λ a. a.here.now ++ (joined a.more.now ++ a.last.now) };
+
+    ghost invariant = { λ a. NoneEmpty a.more.now };
+}
+
+impl<'a> RowRange<'a> {
+    /// Rows, those of whole chunks, and rows behind them.
+    pub fn new(
+        here: &'a [(Bytes, Bytes)],
+        more: &'a [Chunk],
+        last: &'a [(Bytes, Bytes)],
+    ) -> RowRange<'a>
+        requires { NoneEmpty more.now }
+        ensures { result ≡ here.now ++ (joined more.now ++ last.now) }
+    {
+        RowRange { here, more, last }
+    }
+}
+
+impl<'a> Iterator for RowRange<'a> {
+    ghost use Rattle.std.specs.Iterator.{YieldsFirstRef, item_count};
+
+    type Item = &'a (Bytes, Bytes);
+
+    ghost next_gives = { YieldsFirstRef (λ s. s) };
+
+    ghost remaining = { item_count (λ s. s) };
+
+    fn next(&mut self) -> Option<&'a (Bytes, Bytes)> {
+        if self.here.is_empty() {
+            match self.more.split_first() {
+                Some((chunk, more)) => {
+                    self.here = chunk.rows();
+                    self.more = more;
+                }
+                None => {
+                    self.here = self.last;
+                    self.last = &[];
+                }
+            }
+        }
+        let (row, here) = self.here.split_first()?;
+        self.here = here;
+        Some(row)
+    }
+}

@@ -14,3 +14,4 @@ pub mod GoodStarts
 pub mod DumpWalks
 pub mod DumpKept
 pub mod DumpLaws
+pub mod HexLemmas

@@ -38,6 +38,9 @@ struct Pending {
 ///
 /// A call of the system that fails is a fault: a write or a flush ends with `ok` false, and a read is refused. After a
 /// failing flush the system may drop what it could not write, and call a later flush good: no promise goes past a bad end.
+///
+/// A flush ends well at once, without a call of the system, where no write was submitted since a flush that ended well. The
+/// first flush after the opening always calls: what the file held before may not be stable yet.
 #[derive(Drop)]
 pub struct SyncFile {
     file: File,
@@ -45,6 +48,9 @@ pub struct SyncFile {
     pending: VecDeque<Pending>,
     events: u64,
     fault_count: u64,
+
+    // Whether a write may have been submitted since the last flush that ended well.
+    unflushed: bool,
 }
 
 impl Model for SyncFile {
@@ -146,6 +152,7 @@ impl SyncFile {
             pending,
             events: 0,
             fault_count: 0,
+            unflushed: true,
         })
     }
 }
@@ -173,6 +180,7 @@ impl Device for SyncFile {
             return Err(Back { bytes });
         }
         let place = self.events;
+        self.unflushed = true;
         let ok = is_good(&self.file.write_all_at(&bytes, offset_of(at)));
         self.events += 1;
         self.pending.push_back_reserved(Pending {
@@ -189,7 +197,8 @@ impl Device for SyncFile {
             return Err(AllocError);
         }
         let place = self.events;
-        let ok = is_good(&self.file.sync_data());
+        let ok = !self.unflushed || is_good(&self.file.sync_data());
+        self.unflushed = !ok;
         self.events += 1;
         self.pending.push_back_reserved(Pending {
             ticket: place,

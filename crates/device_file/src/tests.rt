@@ -77,6 +77,29 @@ fn what_is_written_is_there_again(rt: HostRuntime) -> Result<(), Fail> {
     Ok(())
 }
 
+// Submits a flush and reaps it.
+fn flush(rt: &(impl Abort + AllocGlobal), device: &mut SyncFile, place: u64) -> Result<(), Fail> {
+    assert!(rt; device.in_flight() < device.depth());
+    let flush = device.submit_flush()?;
+    assert_eq!(rt; flush.place, place);
+    let done = device.reap().ok_or("nothing is done")?;
+    assert_eq!(rt; done.ticket.place, place);
+    assert!(rt; done.ok);
+    Ok(())
+}
+
+// It ends as each other flush does.
+#[test]
+fn a_flush_with_nothing_to_flush(rt: HostRuntime) -> Result<(), Fail> {
+    let mut device = SyncFile::open(&rt, rt.alloc(), "flushed", Some(2))?;
+    flush(&rt, &mut device, 0)?;
+    flush(&rt, &mut device, 2)?;
+    write_and_flush(&rt, &mut device, 1, 7, [4, 5])?;
+    flush(&rt, &mut device, 8)?;
+    fs::remove_file(&rt, "flushed")?;
+    Ok(())
+}
+
 // Opens the file and looks at all its bytes.
 fn opens_as(
     rt: &(impl Abort + AllocGlobal + Files<File = File>),

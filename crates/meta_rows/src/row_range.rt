@@ -41,6 +41,17 @@ impl<'a> RowRange<'a> {
     {
         RowRange { here, more, last }
     }
+
+    /// The same rows once more.
+    pub fn again(&self) -> RowRange<'a>
+        ensures { result ≡ self.now }
+    {
+        RowRange {
+            here: self.here,
+            more: self.more,
+            last: self.last,
+        }
+    }
 }
 
 impl<'a> Iterator for RowRange<'a> {

@@ -11,15 +11,14 @@ use Rattle.object_model.specs.declared.command.Command.TheVariants as ask
 use Rattle.object_model.specs.declared.command.Answer.{Answer}
 use Rattle.object_model.specs.declared.command.Answer.TheVariants as answer
 use Rattle.meta_rows.specs.Rows.{Rows}
-use Rattle.row_format.specs.Extents.{own}
+use Rattle.row_format.specs.Extents.{Extent, own}
 use Rattle.row_format.specs.Keys.{coll_key, onode_key}
 use Rattle.row_format.specs.Row.{onode}
 use Rattle.store_image.specs.Pages.{HasKey, HasRow}
 use Rattle.store_image.proofs.PageMap.{in_place}
-use Rattle.blob_map.specs.Pages.{PageMap}
 use Rattle.object_rows.specs.Writes.{IsSizeOf, missing, there}
 use Rattle.object_rows.proofs.GoodPages.{good_page}
-use Rattle.onode_state.specs.Objects.{AreRowsOfAStore, IsStateOf}
+use Rattle.onode_state.specs.Objects.{AreRowsOfAStore, FindPagesOf}
 use Rattle.read_facts.specs.declared.view.BadSum.{BadSum}
 use Rattle.read_facts.specs.PageReads.{pages_read}
 use Rattle.read_facts.specs.Answers.{object_refusal, range_refusal, Gives, IsAnswerOf}
@@ -67,17 +66,17 @@ pub has_size : (rows : Rows) (c o : List ℕ) (size : ℕ) → HasKey rows (onod
 has_size rows c o size key (missing none) = absurd (let gone : is_some (finite.get rows (onode_key c o)) ≡ false = ap is_some none in cc)
 has_size rows c o size key (there n has) = has
 
-module _ (d : Disk) (rows : Rows) (c o : List ℕ) (size : ℕ) (pages : PageMap) (firsts : List ℕ) (can : IsReadable rows d)
-    (state : IsStateOf rows c o size pages firsts) (key : HasKey rows (onode_key c o)) where
+module _ (d : Disk) (rows : Rows) (c o : List ℕ) (size : ℕ) (pages : List Extent) (can : IsReadable rows d)
+    (was_long : IsSizeOf rows c o size) (are_pages : FindPagesOf rows c o pages) (key : HasKey rows (onode_key c o)) where
   has : HasRow rows (onode c o size)
-  has = has_size rows c o size key state.was_long
+  has = has_size rows c o size key was_long
 
   pub can_read : CanRead d pages
   can_read = record {
     idle = can.idle;
     units_most = omega (arith, can.units, can.limits.units_most);
     inside = λ page unit csum at.
-        let good = good_page can.sup rows c o can.good size page (own unit csum) has ((state.are_pages page (own unit csum)).0 at) in
+        let good = good_page can.sup rows c o can.good size page (own unit csum) has ((are_pages page (own unit csum)).0 at) in
         omega (arith, can.units, good.on_data.1);
   }
 
@@ -88,13 +87,13 @@ module _ (d : Disk) (rows : Rows) (c o : List ℕ) (size : ℕ) (pages : PageMap
   pub bytes_answer : (off len : ℕ) (bytes : List ℕ) → range_refusal (object_refusal rows c o) off len ≡ None → GivesRange d pages size off len bytes
       → IsAnswerOf d rows (ask.Read c o off len) (answer.Bytes bytes)
   bytes_answer off len bytes none gives =
-      (none, (size, record { has_size = has; pages = gives.whole; good = gives.good.good rows c o state.are_pages; cut = gives.cut }))
+      (none, (size, record { has_size = has; pages = gives.whole; good = gives.good.good rows c o are_pages; cut = gives.cut }))
 
   -- a bad page of a range
   pub read_fails : (off len : ℕ) (fail : PartFail) (a : Answer) → range_refusal (object_refusal rows c o) off len ≡ None
       → IsPartFail d pages (off / 4096) (pages_read size off len) fail → IsCsumOf fail a → IsAnswerOf d rows (ask.Read c o off len) a
   read_fails off len (why.BadPage bad) a none fails is = subst (IsAnswerOf d rows (ask.Read c o off len)) (sym is)
-      (none, (size, record { has_size = has; first_bad = fails rows c o state.are_pages }))
+      (none, (size, record { has_size = has; first_bad = fails rows c o are_pages }))
   read_fails off len why.Memory a none fails is = absurd is
   read_fails off len why.Fault a none fails is = absurd is
 
@@ -103,12 +102,12 @@ module _ (d : Disk) (rows : Rows) (c o : List ℕ) (size : ℕ) (pages : PageMap
   gives_sum crc gives =
       let whole = gives.gives in (
         gives.bytes,
-        (record { has_size = has; pages = whole.whole; good = whole.good.good rows c o state.are_pages; cut = whole.cut }, gives.is),
+        (record { has_size = has; pages = whole.whole; good = whole.good.good rows c o are_pages; cut = whole.cut }, gives.is),
       )
 
   gives_bad : (bad : BadSum) → IsPartFail d pages 0 (pages_read size 0 size) (why.BadPage bad)
       → Gives d rows (ask.Sum c o) (answer.Csum bad.unit bad.kept bad.found)
-  gives_bad bad fails = (size, record { has_size = has; first_bad = fails rows c o state.are_pages })
+  gives_bad bad fails = (size, record { has_size = has; first_bad = fails rows c o are_pages })
 
   pub sum_gives : (crc : ℕ) → object_refusal rows c o ≡ None → GivesSum d pages size crc
       → IsAnswerOf d rows (ask.Sum c o) (answer.Sum size crc)

@@ -2,7 +2,6 @@
 use Rattle.std.proofs.Common.{◌≡◌, inl, inr, ℕ, ◌+◌, ◌-◌, ◌*◌, ◌<◌, ◌≤◌, List, [], ◌++◌, length, take, Option, Some, None, refl, sym, subst, ◌∙◌, arith, length-append}
 use Rattle.std.specs.Prelude.{IfSome, IfNone, All, Result, Ok, Err, IfErr, IsErr}
 use Rattle.std.specs.Result.{IsErrAnd}
-use Rattle.std.specs.FinMap as finite
 use Rattle.std.proofs.lemmas.Bool.{cases_lt}
 use Rattle.std.proofs.lemmas.List.{length-take-le}
 use Rattle.byte_maps.specs.Units.{unit_at, zeros, IsUnits}
@@ -11,16 +10,23 @@ use Rattle.block_device.specs.Log.{last, HasNoBadDone}
 use Rattle.block_device.specs.Disk.{Disk, History, HasRead, IsApart, IsNotInFlight}
 use Rattle.block_device.specs.Facts.{last_at}
 use Rattle.meta_rows.specs.Rows.{Rows}
-use Rattle.row_format.specs.Extents.{Place, own}
-use Rattle.blob_map.specs.Pages.{PageMap}
+use Rattle.row_format.specs.Extents.{Extent, Place, own}
 use Rattle.store_image.proofs.PageUnits.{on_own}
-use Rattle.object_rows.specs.Maps.{IsMapOf}
+use Rattle.page_lookup.specs.Found.{place_found, HasUnit}
+use Rattle.onode_state.specs.Objects.{FindPagesOf}
 use Rattle.read_facts.specs.declared.view.BadSum.{BadSum}
 use Rattle.read_facts.specs.PageReads.{IsHeldAt, IsGoodPage, hole, mapped, AreGoodPages, IsFirstBad}
 use Rattle.read_facts.proofs.Pages.{good_appended, none_good, bad_behind_good}
 use Rattle.object_reader.specs.declared.parts.PartFail.{PartFail}
 use Rattle.object_reader.specs.declared.parts.PartFail.TheVariants as why
-use Rattle.object_reader.specs.Parts.{CanRead, IsOnUnit, AreHoles, AreOnUnits, IsChecked, AreChecked, IsMismatch, GivesPages, GivesBad, IsPartFail}
+use Rattle.object_reader.specs.Parts.{HaveFewUnits, CanRead, IsOnUnit, AreHoles, AreOnUnits, IsChecked, AreChecked, IsMismatch, GivesPages, GivesBad, IsPartFail}
+
+-- so each of the units has a number of 32 bits
+pub has_unit : (pages : List Extent) (page : ℕ) → HaveFewUnits pages → HasUnit pages page
+has_unit pages page few unit csum is = let below : unit < 1048576 = few page unit csum is in omega (arith, below)
+
+pub few_units : (d : Disk) (pages : List Extent) → CanRead d pages → HaveFewUnits pages
+few_units d pages can page unit csum is = let below : unit < d.units = can.inside page unit csum is in omega (arith, below, can.units_most)
 
 -- what holds of number 0 holds of each below 1
 pub each_of_one : (P : ℕ → Type 0) → P 0 → (i : ℕ) → i < 1 → P i
@@ -34,17 +40,17 @@ each_and_next P n each is i lt = elim (cases_lt i n) [
 ]
 
 -- of a run of holes the first is one
-pub one_hole : (pages : PageMap) (first : ℕ) → finite.get pages first ≡ None → AreHoles pages first 1
+pub one_hole : (pages : List Extent) (first : ℕ) → place_found pages first ≡ None → AreHoles pages first 1
 one_hole pages first is =
     let same : first ≡ first + 0 = omega arith in
-    each_of_one (λ i. finite.get pages (first + i) ≡ None) (subst (λ (p : ℕ). finite.get pages p ≡ None) same is)
+    each_of_one (λ i. place_found pages (first + i) ≡ None) (subst (λ (p : ℕ). place_found pages p ≡ None) same is)
 
 -- one hole more
-pub hole_more : (pages : PageMap) (first n : ℕ) → AreHoles pages first n → finite.get pages (first + n) ≡ None → AreHoles pages first (n + 1)
-hole_more pages first n are is = each_and_next (λ i. finite.get pages (first + i) ≡ None) n are is
+pub hole_more : (pages : List Extent) (first n : ℕ) → AreHoles pages first n → place_found pages (first + n) ≡ None → AreHoles pages first (n + 1)
+hole_more pages first n are is = each_and_next (λ i. place_found pages (first + i) ≡ None) n are is
 
 -- of a run of units the first is one
-pub one_unit : (pages : PageMap) (first at : ℕ) → IsOnUnit pages first at → AreOnUnits pages first at 1
+pub one_unit : (pages : List Extent) (first at : ℕ) → IsOnUnit pages first at → AreOnUnits pages first at 1
 one_unit pages first at is =
     let page : first ≡ first + 0 = omega arith in
     let unit : at ≡ at + 0 = omega arith in
@@ -52,23 +58,23 @@ one_unit pages first at is =
     (subst (λ (p : ℕ). IsOnUnit pages p at) page is))
 
 -- one unit more
-pub unit_more : (pages : PageMap) (first at n : ℕ) → AreOnUnits pages first at n → IsOnUnit pages (first + n) (at + n) → AreOnUnits pages first
+pub unit_more : (pages : List Extent) (first at n : ℕ) → AreOnUnits pages first at n → IsOnUnit pages (first + n) (at + n) → AreOnUnits pages first
     at (n + 1)
 unit_more pages first at n are is = each_and_next (λ i. IsOnUnit pages (first + i) (at + i)) n are is
 
 -- where a page stands
-pub stands_where : (pages : PageMap) (page unit at csum : ℕ) → finite.get pages page ≡ Some (own at csum) → unit ≡ at → IsOnUnit pages page unit
+pub stands_where : (pages : List Extent) (page unit at csum : ℕ) → place_found pages page ≡ Some (own at csum) → unit ≡ at → IsOnUnit pages page unit
 stands_where pages page unit at csum is same =
-    (csum, subst (λ (u : ℕ). finite.get pages page ≡ Some (own u csum)) (sym same) is)
+    (csum, subst (λ (u : ℕ). place_found pages page ≡ Some (own u csum)) (sym same) is)
 
 -- one page more is checked
-pub checked_more : (pages : PageMap) (first n : ℕ) (bytes page : List ℕ) → AreChecked pages first n bytes → page ≡ unit_at n bytes
+pub checked_more : (pages : List Extent) (first n : ℕ) (bytes page : List ℕ) → AreChecked pages first n bytes → page ≡ unit_at n bytes
     → IsChecked pages (first + n) page → AreChecked pages first (n + 1) bytes
 checked_more pages first n bytes page are same is =
     each_and_next (λ i. IsChecked pages (first + i) (unit_at i bytes)) n are (subst (IsChecked pages (first + n)) same is)
 
 -- the units of a run lie inside the device
-pub run_inside : (d : Disk) (pages : PageMap) (first at count : ℕ) → CanRead d pages → AreOnUnits pages first at count → 0 < count
+pub run_inside : (d : Disk) (pages : List Extent) (first at count : ℕ) → CanRead d pages → AreOnUnits pages first at count → 0 < count
     → at + count ≤ d.units
 run_inside d pages first at count can on some =
     let last = on (count - 1) (omega (arith, some)) in
@@ -76,7 +82,7 @@ run_inside d pages first at count can on some =
     omega (arith, below, some)
 
 -- nothing is in flight there
-pub none_flies : (d : Disk) (pages : PageMap) (at bytes : ℕ) → CanRead d pages → IsNotInFlight d at bytes
+pub none_flies : (d : Disk) (pages : List Extent) (at bytes : ℕ) → CanRead d pages → IsNotInFlight d at bytes
 none_flies d pages at bytes can = subst (λ fs. All (IsApart at bytes) fs) (sym can.idle) (λ k f lt. absurd (omega (arith, lt)))
 
 -- what was read is what the units hold
@@ -90,8 +96,8 @@ held : (d : Disk) (at count i : ℕ) (bytes : List ℕ) → HasRead d at count b
 held d at count i bytes read lt = held_by d.history at count i bytes lt read.units
 
 -- a page that was read, with the checksum that is kept for it, is good
-good_unit : (d : Disk) (pages : PageMap) (first at count i : ℕ) (bytes : List ℕ) (rows : Rows) (c o : List ℕ) → AreOnUnits pages first at count
-    → HasRead d at count bytes → IsMapOf rows c o pages → i < count → IsChecked pages (first + i) (unit_at i bytes)
+good_unit : (d : Disk) (pages : List Extent) (first at count i : ℕ) (bytes : List ℕ) (rows : Rows) (c o : List ℕ) → AreOnUnits pages first at count
+    → HasRead d at count bytes → FindPagesOf rows c o pages → i < count → IsChecked pages (first + i) (unit_at i bytes)
     → IsGoodPage d rows c o (first + i) (unit_at i bytes)
 good_unit d pages first at count i bytes rows c o on read is lt checked =
     let stand = on i lt in
@@ -99,7 +105,7 @@ good_unit d pages first at count i bytes rows c o on read is lt checked =
     mapped (record { unit = at + i; csum = stand.0 }) there (held d at count i bytes read lt) (checked (at + i) stand.0 stand.1)
 
 -- pages on consecutive units that were read, with the checksums that are kept for them, are good
-pub good_units : (d : Disk) (pages : PageMap) (first at count : ℕ) (bytes : List ℕ) → AreOnUnits pages first at count → HasRead d at count bytes
+pub good_units : (d : Disk) (pages : List Extent) (first at count : ℕ) (bytes : List ℕ) → AreOnUnits pages first at count → HasRead d at count bytes
     → AreChecked pages first count bytes → GivesPages d pages first count bytes
 good_units d pages first at count bytes on read checked = record {
   size = read.size;
@@ -114,8 +120,8 @@ unit_of_front : (n i : ℕ) (bytes : List ℕ) → i < n → unit_at i (take (40
 unfolding unit_at
 unit_of_front n i bytes lt = piece_of_front (4096 * i) 4096 (4096 * n) bytes (omega (arith, lt))
 
-good_front : (d : Disk) (pages : PageMap) (first at count n : ℕ) (bytes : List ℕ) (rows : Rows) (c o : List ℕ) → AreOnUnits pages first at count
-    → HasRead d at count bytes → IsMapOf rows c o pages → n < count → AreChecked pages first n bytes
+good_front : (d : Disk) (pages : List Extent) (first at count n : ℕ) (bytes : List ℕ) (rows : Rows) (c o : List ℕ) → AreOnUnits pages first at count
+    → HasRead d at count bytes → FindPagesOf rows c o pages → n < count → AreChecked pages first n bytes
     → AreGoodPages d rows c o first n (take (4096 * n) bytes)
 good_front d pages first at count n bytes rows c o on read is lt checked = record {
   size = length-take-le (4096 * n) bytes (omega (arith, lt, read.size));
@@ -127,7 +133,7 @@ same_unit : (unit csum at kept : ℕ) → Some (own unit csum) ≡ Some (own at 
 same_unit unit csum at kept is = cc
 
 -- the first mismatch of pages that were read is the first bad page
-pub bad_unit : (d : Disk) (pages : PageMap) (first at count : ℕ) (bytes : List ℕ) (bad : BadSum) → AreOnUnits pages first at count
+pub bad_unit : (d : Disk) (pages : List Extent) (first at count : ℕ) (bytes : List ℕ) (bad : BadSum) → AreOnUnits pages first at count
     → HasRead d at count bytes → IsMismatch pages first count bytes bad → GivesBad d pages first count bad
 bad_unit d pages first at count bytes bad on read m rows c o is =
     let stand = on m.index m.within in
@@ -149,7 +155,7 @@ bad_unit d pages first at count bytes bad on read m rows c o is =
     }
 
 -- holes are good, with zeros
-pub good_holes : (d : Disk) (pages : PageMap) (first count : ℕ) (bytes : List ℕ) → AreHoles pages first count → bytes ≡ zeros (4096 * count)
+pub good_holes : (d : Disk) (pages : List Extent) (first count : ℕ) (bytes : List ℕ) → AreHoles pages first count → bytes ≡ zeros (4096 * count)
     → GivesPages d pages first count bytes
 good_holes d pages first count bytes are same = subst (GivesPages d pages first count) (sym same) (record {
   size = length-zeros (4096 * count);
@@ -159,8 +165,8 @@ good_holes d pages first count bytes are same = subst (GivesPages d pages first 
   };
 })
   where
-    none_there : (i : ℕ) {place : Place} → i < count → finite.get pages (first + i) ≡ Some place → ⊥
-    none_there i {place} lt there = let none : finite.get pages (first + i) ≡ None = are i lt in absurd cc
+    none_there : (i : ℕ) {place : Place} → i < count → place_found pages (first + i) ≡ Some place → ⊥
+    none_there i {place} lt there = let none : place_found pages (first + i) ≡ None = are i lt in absurd cc
 
 -- ---- failures
 
@@ -176,7 +182,7 @@ bad_of_more d rows c o first count n unit kept found le f = record {
 }
 
 -- a failed read of some pages is one of more
-pub fails_of_more : (d : Disk) (pages : PageMap) (first count n : ℕ) (fail : PartFail) → count ≤ n → IsPartFail d pages first count fail
+pub fails_of_more : (d : Disk) (pages : List Extent) (first count n : ℕ) (fail : PartFail) → count ≤ n → IsPartFail d pages first count fail
     → IsPartFail d pages first n fail
 fails_of_more d pages first count n (why.BadPage bad) le is =
     λ rows c o map. bad_of_more d rows c o first count n bad.unit bad.kept bad.found le (is rows c o map)
@@ -184,7 +190,7 @@ fails_of_more d pages first count n why.Memory le is = tt
 fails_of_more d pages first count n why.Fault le is = tt
 
 -- a failed read behind good pages
-pub fails_behind : (d : Disk) (pages : PageMap) (first next end : ℕ) (xs : List ℕ) (fail : PartFail) → first ≤ next → next ≤ end
+pub fails_behind : (d : Disk) (pages : List Extent) (first next end : ℕ) (xs : List ℕ) (fail : PartFail) → first ≤ next → next ≤ end
     → GivesPages d pages first (next - first) xs → IsPartFail d pages next (end - next) fail → IsPartFail d pages first (end - first) fail
 fails_behind d pages first next end xs (why.BadPage bad) from below front is =
     λ rows c o map.
@@ -197,18 +203,18 @@ fails_behind d pages first next end xs why.Fault from below front is = tt
 -- ---- runs laid together
 
 -- no page
-pub no_pages : (d : Disk) (pages : PageMap) (first n : ℕ) (bytes : List ℕ) → n ≡ 0 → bytes ≡ [] → GivesPages d pages first n bytes
+pub no_pages : (d : Disk) (pages : List Extent) (first n : ℕ) (bytes : List ℕ) → n ≡ 0 → bytes ≡ [] → GivesPages d pages first n bytes
 no_pages d pages first n bytes none empty = subst (GivesPages d pages first n) (sym empty)
     (subst (λ (m : ℕ). GivesPages d pages first m []) (sym none)
     (record { size = refl; good = λ rows c o is. none_good d rows c o first }))
 
 -- one run behind the others
-pub more_pages : (d : Disk) (pages : PageMap) (first next count : ℕ) (xs ys both : List ℕ) → first ≤ next → both ≡ xs ++ ys
+pub more_pages : (d : Disk) (pages : List Extent) (first next count : ℕ) (xs ys both : List ℕ) → first ≤ next → both ≡ xs ++ ys
     → GivesPages d pages first (next - first) xs → GivesPages d pages next count ys → GivesPages d pages first (next + count - first) both
 more_pages d pages first next count xs ys both from is front back =
     let same : next ≡ first + (next - first) = omega (arith, from) in
     let many : (next - first) + count ≡ next + count - first = omega (arith, from) in
-    let good = λ (rows : Rows) (c o : List ℕ) (is : IsMapOf rows c o pages).
+    let good = λ (rows : Rows) (c o : List ℕ) (is : FindPagesOf rows c o pages).
     subst (λ (n : ℕ). AreGoodPages d rows c o first n (xs ++ ys)) many
     (good_appended d rows c o first (next - first) count xs ys (front.good rows c o is)
     (subst (λ (p : ℕ). AreGoodPages d rows c o p count ys) same (back.good rows c o is))) in
@@ -224,7 +230,7 @@ handed_on P (Ok x) fail is holds = tt
 handed_on P (Err e) fail is holds = subst P (sym is.1) holds
 
 -- where no mismatch was found there is none
-pub none_differs : (pages : PageMap) (page : ℕ) (bytes : List ℕ) (found : Option BadSum) → found ≡ None → IfNone found (IsChecked pages page bytes)
+pub none_differs : (pages : List Extent) (page : ℕ) (bytes : List ℕ) (found : Option BadSum) → found ≡ None → IfNone found (IsChecked pages page bytes)
     → IsChecked pages page bytes
 none_differs pages page bytes None is checked = checked
 none_differs pages page bytes (Some bad) is checked = absurd cc

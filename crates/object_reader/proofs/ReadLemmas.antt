@@ -8,7 +8,7 @@ use Rattle.crc32c_csum.specs.Crc32c.{crc32c, remainder, all_ones}
 use Rattle.crc32c_csum.proofs.Linear.{remainder-append}
 use Rattle.block_device.specs.Disk.{Disk}
 use Rattle.store_image.specs.Pages.{pages_of}
-use Rattle.blob_map.specs.Pages.{PageMap}
+use Rattle.row_format.specs.Extents.{Extent}
 use Rattle.read_facts.specs.PageReads.{read_end, pages_read}
 use Rattle.object_reader.specs.Parts.{GivesPages, IsPartFail, GivesRange, IsDigestOf, GivesSum}
 use Rattle.object_reader.specs.declared.parts.PartFail.{PartFail}
@@ -31,7 +31,7 @@ some_page_read size off len lt = by (nat_lt off (read_end size off len)) refl
     by false is = absurd (omega (arith, lt, ltb-false off (read_end size off len) is))
 
 -- an empty range
-pub empty_range : (d : Disk) (pages : PageMap) (size off len end : ℕ) (bytes : List ℕ) → end ≡ read_end size off len → end ≤ off → bytes ≡ []
+pub empty_range : (d : Disk) (pages : List Extent) (size off len end : ℕ) (bytes : List ℕ) → end ≡ read_end size off len → end ≤ off → bytes ≡ []
     → GivesRange d pages size off len bytes
 empty_range d pages size off len end bytes is le none =
     let gone : read_end size off len - off ≡ 0 = omega (arith, is, le) in
@@ -42,7 +42,7 @@ empty_range d pages size off len end bytes is le none =
     }
 
 -- a range with bytes, from the pages that it must read
-pub cut_range : (d : Disk) (pages : PageMap) (size off len end first behind : ℕ) (whole bytes : List ℕ) → end ≡ read_end size off len → off < end
+pub cut_range : (d : Disk) (pages : List Extent) (size off len end first behind : ℕ) (whole bytes : List ℕ) → end ≡ read_end size off len → off < end
     → first ≡ off / 4096 → behind ≡ pages_of end → GivesPages d pages first (behind - first) whole
     → bytes ≡ take (end - off) (drop (off % 4096) whole) → GivesRange d pages size off len bytes
 cut_range d pages size off len end first behind whole bytes is lt from to good cut =
@@ -64,7 +64,7 @@ range_fits off end first behind size lt from to is = omega (arith, lt, from, to,
 -- ---- the checksum
 
 -- of no page
-pub digest_of_none : (d : Disk) (pages : PageMap) (size : ℕ) → IsDigestOf d pages size 0 all_ones
+pub digest_of_none : (d : Disk) (pages : List Extent) (size : ℕ) → IsDigestOf d pages size 0 all_ones
 digest_of_none d pages size = record {
   whole = [];
   good = no_pages d pages 0 0 [] refl refl;
@@ -73,7 +73,7 @@ digest_of_none d pages size = record {
 }
 
 -- of one run more
-pub digest_of_more : (d : Disk) (pages : PageMap) (size next count digest : ℕ) (part front : List ℕ) → 4096 * next ≤ size
+pub digest_of_more : (d : Disk) (pages : List Extent) (size next count digest : ℕ) (part front : List ℕ) → 4096 * next ≤ size
     → front ≡ take (size - 4096 * next) part → IsDigestOf d pages size next digest → GivesPages d pages next count part
     → IsDigestOf d pages size (next + count) (remainder digest front)
 digest_of_more d pages size next count digest part front fits is so_far more =
@@ -113,7 +113,7 @@ pub no_more_pages : (size : ℕ) → pages_of size ≡ pages_read size 0 size
 no_more_pages size = sym (pages_of_all size)
 
 -- of all pages of an object
-pub sum_of_all : (d : Disk) (pages : PageMap) (size count digest crc : ℕ) → count ≡ pages_of size → crc ≡ bit_xor digest all_ones
+pub sum_of_all : (d : Disk) (pages : List Extent) (size count digest crc : ℕ) → count ≡ pages_of size → crc ≡ bit_xor digest all_ones
     → IsDigestOf d pages size count digest → GivesSum d pages size crc
 unfolding crc32c
 sum_of_all d pages size count digest crc is sum all = record {
@@ -127,7 +127,7 @@ sum_of_all d pages size count digest crc is sum all = record {
 }
 
 -- a bad page behind those that were taken in
-pub sum_fails_behind : (d : Disk) (pages : PageMap) (size next end digest : ℕ) (fail : PartFail) → end ≡ pages_of size → next ≤ end
+pub sum_fails_behind : (d : Disk) (pages : List Extent) (size next end digest : ℕ) (fail : PartFail) → end ≡ pages_of size → next ≤ end
     → IsDigestOf d pages size next digest → IsPartFail d pages next (end - next) fail → IsPartFail d pages 0 (pages_read size 0 size) fail
 sum_fails_behind d pages size next end digest fail is below so_far fails =
     let from_0 : next ≡ next - 0 = omega arith in

@@ -1,13 +1,12 @@
--- Pages of an object read by its page map, some at a time.
+-- Pages of an object read some at a time, each where it is found among the object's extents.
 use Rattle.std.specs.Prelude.{◌≡◌, ◌≢◌, ℕ, ◌+◌, ◌-◌, ◌/◌, ◌%◌, ◌<◌, ◌≤◌, List, [], take, drop, Some, None}
-use Rattle.std.specs.FinMap as finite
 use Rattle.byte_maps.specs.Units.{unit_at, IsUnits}
 use Rattle.crc32c_csum.specs.Crc32c.{crc32c, remainder, all_ones}
 use Rattle.block_device.specs.Disk.{Disk}
 use Rattle.meta_rows.specs.Rows.{Rows}
-use Rattle.row_format.specs.Extents.{own}
-use Rattle.blob_map.specs.Pages.{PageMap}
-use Rattle.object_rows.specs.Maps.{IsMapOf}
+use Rattle.row_format.specs.Extents.{Extent, own}
+use Rattle.page_lookup.specs.Found.{place_found}
+use Rattle.onode_state.specs.Objects.{FindPagesOf}
 use Rattle.read_facts.specs.declared.view.BadSum.{BadSum}
 use Rattle.read_facts.specs.PageReads.{AreGoodPages, IsFirstBad, read_end, pages_read}
 use Rattle.object_reader.specs.declared.parts.Run.{Run}
@@ -15,79 +14,83 @@ use Rattle.object_reader.specs.declared.parts.Run.TheVariants.{Hole, Units}
 use Rattle.object_reader.specs.declared.parts.PartFail.{PartFail}
 use Rattle.object_reader.specs.declared.parts.PartFail.TheVariants as why
 
--- pages of this map can be read: nothing is in flight, and each stands inside the device
-pub record CanRead (d : Disk) (pages : PageMap) : Type 0 where
+-- the units that pages stand on are few
+abbrev pub HaveFewUnits : List Extent → Type 0
+HaveFewUnits pages = (page unit csum : ℕ) → place_found pages page ≡ Some (own unit csum) → unit < 1048576
+
+-- these pages can be read: nothing is in flight, and each stands inside the device
+pub record CanRead (d : Disk) (pages : List Extent) : Type 0 where
   pub idle : d.flights ≡ []
   pub units_most : d.units ≤ 1048576
-  pub inside : (page unit csum : ℕ) → finite.get pages page ≡ Some (own unit csum) → unit < d.units
+  pub inside : (page unit csum : ℕ) → place_found pages page ≡ Some (own unit csum) → unit < d.units
 
 -- the page stands on the unit, which is the object's own
-abbrev pub IsOnUnit : PageMap → ℕ → ℕ → Type 0
-IsOnUnit pages page unit = (csum : ℕ) × (finite.get pages page ≡ Some (own unit csum))
+abbrev pub IsOnUnit : List Extent → ℕ → ℕ → Type 0
+IsOnUnit pages page unit = (csum : ℕ) × (place_found pages page ≡ Some (own unit csum))
 
 -- so many pages from the first on are holes
-abbrev pub AreHoles : PageMap → ℕ → ℕ → Type 0
-AreHoles pages first count = (i : ℕ) → i < count → finite.get pages (first + i) ≡ None
+abbrev pub AreHoles : List Extent → ℕ → ℕ → Type 0
+AreHoles pages first count = (i : ℕ) → i < count → place_found pages (first + i) ≡ None
 
 -- so many pages from the first on stand on consecutive units
-abbrev pub AreOnUnits : PageMap → ℕ → ℕ → ℕ → Type 0
+abbrev pub AreOnUnits : List Extent → ℕ → ℕ → ℕ → Type 0
 AreOnUnits pages first at count = (i : ℕ) → i < count → IsOnUnit pages (first + i) (at + i)
 
 -- the pages of a run, at least one and at most so many
-abbrev pub IsRun : PageMap → ℕ → ℕ → Run → Type 0
+abbrev pub IsRun : List Extent → ℕ → ℕ → Run → Type 0
 IsRun pages first most (Hole count) = (0 < count) × (count ≤ most) × AreHoles pages first count
 IsRun pages first most (Units at count) = (0 < count) × (count ≤ most) × AreOnUnits pages first at count
 
 -- a page that isn't a hole has bytes with the checksum that is kept for it
-abbrev pub IsChecked : PageMap → ℕ → List ℕ → Type 0
-IsChecked pages page bytes = (unit csum : ℕ) → finite.get pages page ≡ Some (own unit csum) → crc32c bytes ≡ csum
+abbrev pub IsChecked : List Extent → ℕ → List ℕ → Type 0
+IsChecked pages page bytes = (unit csum : ℕ) → place_found pages page ≡ Some (own unit csum) → crc32c bytes ≡ csum
 
 -- so has each of so many pages from the first on
-abbrev pub AreChecked : PageMap → ℕ → ℕ → List ℕ → Type 0
+abbrev pub AreChecked : List Extent → ℕ → ℕ → List ℕ → Type 0
 AreChecked pages first count bytes = (i : ℕ) → i < count → IsChecked pages (first + i) (unit_at i bytes)
 
 -- a page has bytes with another checksum
-pub record IsBad (pages : PageMap) (page : ℕ) (bytes : List ℕ) (bad : BadSum) : Type 0 where
-  pub stands : finite.get pages page ≡ Some (own bad.unit bad.kept)
+pub record IsBad (pages : List Extent) (page : ℕ) (bytes : List ℕ) (bad : BadSum) : Type 0 where
+  pub stands : place_found pages page ≡ Some (own bad.unit bad.kept)
   pub is_found : bad.found ≡ crc32c bytes
   pub differs : bad.found ≢ bad.kept
 
 -- the first page of so many that has
-pub record IsMismatch (pages : PageMap) (first count : ℕ) (bytes : List ℕ) (bad : BadSum) : Type 0 where
+pub record IsMismatch (pages : List Extent) (first count : ℕ) (bytes : List ℕ) (bad : BadSum) : Type 0 where
   pub index : ℕ
   pub within : index < count
   pub before : AreChecked pages first index bytes
   pub at : IsBad pages (first + index) (unit_at index bytes) bad
 
--- of each object with this map, so many pages from the first on are good, and these are their bytes
-pub record GivesPages (d : Disk) (pages : PageMap) (first count : ℕ) (bytes : List ℕ) : Type 0 where
+-- of each object with these pages, so many pages from the first on are good, and these are their bytes
+pub record GivesPages (d : Disk) (pages : List Extent) (first count : ℕ) (bytes : List ℕ) : Type 0 where
   pub size : IsUnits count bytes
-  pub good : (rows : Rows) (c o : List ℕ) → IsMapOf rows c o pages → AreGoodPages d rows c o first count bytes
+  pub good : (rows : Rows) (c o : List ℕ) → FindPagesOf rows c o pages → AreGoodPages d rows c o first count bytes
 
--- of each object with this map, it is the first bad page of so many
-abbrev pub GivesBad : Disk → PageMap → ℕ → ℕ → BadSum → Type 0
+-- of each object with these pages, it is the first bad page of so many
+abbrev pub GivesBad : Disk → List Extent → ℕ → ℕ → BadSum → Type 0
 GivesBad d pages first count bad =
-    (rows : Rows) (c o : List ℕ) → IsMapOf rows c o pages → IsFirstBad d rows c o first count bad.unit bad.kept bad.found
+    (rows : Rows) (c o : List ℕ) → FindPagesOf rows c o pages → IsFirstBad d rows c o first count bad.unit bad.kept bad.found
 
 -- what a failed read of so many pages says of them
-abbrev pub IsPartFail : Disk → PageMap → ℕ → ℕ → PartFail → Type 0
+abbrev pub IsPartFail : Disk → List Extent → ℕ → ℕ → PartFail → Type 0
 IsPartFail d pages first count (why.BadPage bad) = GivesBad d pages first count bad
 IsPartFail d pages first count fail = Unit {0}
 
--- of each object of this size with this map, the bytes of a range
-pub record GivesRange (d : Disk) (pages : PageMap) (size off len : ℕ) (bytes : List ℕ) : Type 0 where
+-- of each object of this size with these pages, the bytes of a range
+pub record GivesRange (d : Disk) (pages : List Extent) (size off len : ℕ) (bytes : List ℕ) : Type 0 where
   pub whole : List ℕ
   pub good : GivesPages d pages (off / 4096) (pages_read size off len) whole
   pub cut : bytes ≡ take (read_end size off len - off) (drop (off % 4096) whole)
 
 -- so many pages from page 0 on were read, and this is the remainder of their bytes below a size
-pub record IsDigestOf (d : Disk) (pages : PageMap) (size count digest : ℕ) : Type 0 where
+pub record IsDigestOf (d : Disk) (pages : List Extent) (size count digest : ℕ) : Type 0 where
   pub whole : List ℕ
   pub good : GivesPages d pages 0 count whole
   pub remains : digest ≡ remainder all_ones (take size whole)
 
--- of each object of this size with this map, the checksum of its bytes
-pub record GivesSum (d : Disk) (pages : PageMap) (size crc : ℕ) : Type 0 where
+-- of each object of this size with these pages, the checksum of its bytes
+pub record GivesSum (d : Disk) (pages : List Extent) (size crc : ℕ) : Type 0 where
   pub bytes : List ℕ
   pub gives : GivesRange d pages size 0 size bytes
   pub is : crc ≡ crc32c bytes

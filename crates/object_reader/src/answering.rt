@@ -20,7 +20,7 @@ use byte_maps::{Bytes, Items};
 use meta_rows::RowTable;
 use object_model::{Answer, Command, Refusal, ends_too_far};
 use onode_codec::{coll_key, onode_key};
-use onode_state::{coll_name_is_one, name_is_one, object_size, object_state};
+use onode_state::{coll_name_is_one, name_is_one, object_pages, object_size};
 use std::alloc::{AllocError, Global};
 use unit_fields::{CollName, Name};
 
@@ -151,8 +151,9 @@ fn answer_read<D: Device>(
     if let Some(refusal) = range_refusal(alloc, rows, coll, object, off, len)? {
         return Ok(Answer::Refused(refusal));
     }
-    let state = object_state(alloc, rows, coll, object)?;
-    match read_range(alloc, device, &state, off, len) {
+    let size = object_size(alloc, rows, coll, object)?;
+    let mut pages = object_pages(alloc, rows, coll, object)?;
+    match read_range(alloc, device, &mut pages, size, off, len) {
         Ok(bytes) => Ok(Answer::Bytes(Bytes::from_vec(bytes))),
         Err(why) => csum_answer(why),
     }
@@ -177,12 +178,10 @@ fn answer_sum<D: Device>(
     if let Some(refusal) = object_refusal(alloc, rows, coll, object)? {
         return Ok(Answer::Refused(refusal));
     }
-    let state = object_state(alloc, rows, coll, object)?;
-    match sum(alloc, device, &state) {
-        Ok(crc) => Ok(Answer::Sum {
-            size: state.size,
-            crc,
-        }),
+    let size = object_size(alloc, rows, coll, object)?;
+    let mut pages = object_pages(alloc, rows, coll, object)?;
+    match sum(alloc, device, &mut pages, size) {
+        Ok(crc) => Ok(Answer::Sum { size, crc }),
         Err(why) => csum_answer(why),
     }
 }

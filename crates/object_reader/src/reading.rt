@@ -7,10 +7,9 @@ ghost use Rattle.read_facts.specs.PageReads.{pages_read};
 ghost use Rattle.object_reader.specs.Parts.{CanRead, GivesPages, IsPartFail, GivesRange, GivesSum};
 
 use crate::parts::{PartFail, read_part};
-use blob_map::PageMap;
 use block_device::Device;
 use crc32c_csum::Digest;
-use onode_state::ObjectState;
+use page_lookup::ShardPages;
 use std::alloc::Global;
 use unit_fields::limits::UNIT_BYTES;
 
@@ -29,14 +28,14 @@ fn pages_of(size: u64) -> u32
 fn read_pages<D: Device>(
     alloc: Global,
     device: &mut D,
-    pages: &PageMap,
+    pages: &mut ShardPages,
     first: u32,
     end: u32,
 ) -> Result<Vec<u8>, PartFail>
-    requires can { CanRead (D.disk device.old) pages.now }
+    requires can { CanRead (D.disk device.old) pages.old }
     requires below { first ≤ end }
-    ensures good { IfOk result (λ bytes. GivesPages (D.disk device.old) pages.now first (end - first) bytes.items) }
-    ensures fail { IfErr result (IsPartFail (D.disk device.old) pages.now first (end - first)) }
+    ensures good { IfOk result (λ bytes. GivesPages (D.disk device.old) pages.old first (end - first) bytes.items) }
+    ensures fail { IfErr result (IsPartFail (D.disk device.old) pages.old first (end - first)) }
     ensures same { D.disk device.new ≡ D.disk device.old }
     ensures later { D.faults device.old ≤ D.faults device.new }
     ensures cause { IsErrOf result PartFail.Fault → Rose (D.faults device.old) (D.faults device.new) }
@@ -64,28 +63,30 @@ fn cut(mut bytes: Vec<u8>, skip: usize, len: usize) -> Vec<u8>
     bytes
 }
 
-/// The bytes of a range of an object, cut at its size. An empty one reads nothing. The answer to `Read` comes from it.
+/// The bytes of a range of an object of this size with these pages, cut at the size. An empty one reads nothing, and no page is looked
+/// up but those that are read. The answer to `Read` comes from it.
 pub fn read_range<D: Device>(
     alloc: Global,
     device: &mut D,
-    object: &ObjectState,
+    pages: &mut ShardPages,
+    size: u64,
     off: u64,
     len: u64,
 ) -> Result<Vec<u8>, PartFail>
-    requires can { CanRead (D.disk device.old) object.now.pages }
+    requires can { CanRead (D.disk device.old) pages.old }
     requires limit { off + len ≤ object_limit }
-    ensures good { IfOk result (λ bytes. GivesRange (D.disk device.old) object.now.pages object.now.size off len bytes.items) }
-    ensures fail { IfErr result (IsPartFail (D.disk device.old) object.now.pages (off / 4096) (pages_read object.now.size off len)) }
+    ensures good { IfOk result (λ bytes. GivesRange (D.disk device.old) pages.old size off len bytes.items) }
+    ensures fail { IfErr result (IsPartFail (D.disk device.old) pages.old (off / 4096) (pages_read size off len)) }
     ensures same { D.disk device.new ≡ D.disk device.old }
     ensures later { D.faults device.old ≤ D.faults device.new }
     ensures cause { IsErrOf result PartFail.Fault → Rose (D.faults device.old) (D.faults device.new) }
 {
-    let end = object.size.min(off + len);
+    let end = size.min(off + len);
     if end <= off {
         return Ok(Vec::new(alloc));
     }
     let first = (off / PAGE_BYTES) as u32;
-    let bytes = read_pages(alloc, device, &object.pages, first, pages_of(end))?;
+    let bytes = read_pages(alloc, device, pages, first, pages_of(end))?;
     Ok(cut(bytes, (off % PAGE_BYTES) as usize, (end - off) as usize))
 }
 
@@ -99,23 +100,28 @@ fn front(bytes: &[u8], most: u64) -> &[u8]
     bytes
 }
 
-/// The CRC-32C of an object's bytes. It reads the pages part by part, and holds one part at a time.
-pub fn sum<D: Device>(alloc: Global, device: &mut D, object: &ObjectState) -> Result<u32, PartFail>
-    requires can { CanRead (D.disk device.old) object.now.pages }
-    requires limit { object.now.size ≤ object_limit }
-    ensures good { IfOk result (GivesSum (D.disk device.old) object.now.pages object.now.size) }
-    ensures fail { IfErr result (IsPartFail (D.disk device.old) object.now.pages 0 (pages_read object.now.size 0 object.now.size)) }
+/// The CRC-32C of the bytes of an object of this size with these pages. It reads the pages part by part, and holds one part at a time.
+pub fn sum<D: Device>(
+    alloc: Global,
+    device: &mut D,
+    pages: &mut ShardPages,
+    size: u64,
+) -> Result<u32, PartFail>
+    requires can { CanRead (D.disk device.old) pages.old }
+    requires limit { size ≤ object_limit }
+    ensures good { IfOk result (GivesSum (D.disk device.old) pages.old size) }
+    ensures fail { IfErr result (IsPartFail (D.disk device.old) pages.old 0 (pages_read size 0 size)) }
     ensures same { D.disk device.new ≡ D.disk device.old }
     ensures later { D.faults device.old ≤ D.faults device.new }
     ensures cause { IsErrOf result PartFail.Fault → Rose (D.faults device.old) (D.faults device.new) }
 {
-    let end = pages_of(object.size);
+    let end = pages_of(size);
     let mut digest = Digest::new();
     let mut part = Vec::new(alloc);
     let mut next = 0;
     'parts: while next < end {
-        let count = read_part(device, &object.pages, next, end, &mut part)?;
-        let left = object.size - next as u64 * PAGE_BYTES;
+        let count = read_part(device, pages, next, end, &mut part)?;
+        let left = size - next as u64 * PAGE_BYTES;
         digest.update(front(&part, left));
         next += count;
     }

@@ -13,7 +13,7 @@ use crate::parts::PartFail;
 use crate::reading::sum;
 use block_device::Device;
 use meta_rows::RowTable;
-use onode_state::object_state;
+use onode_state::{object_pages, object_size};
 use read_facts::{BadSum, ObjectView};
 use std::alloc::Global;
 use unit_fields::{CollName, Name};
@@ -47,9 +47,9 @@ fn view_of<D: Device>(
     ensures later { D.faults device.old ≤ D.faults device.new }
     ensures cause { IsErrOf result ReadFail.Fault → Rose (D.faults device.old) (D.faults device.new) }
 {
-    let state = object_state(alloc, rows, coll, &name)?;
-    let size = state.size;
-    let sum = sum_or_bad(sum(alloc, device, &state))?;
+    let size = object_size(alloc, rows, coll, &name)?;
+    let mut pages = object_pages(alloc, rows, coll, &name)?;
+    let sum = sum_or_bad(sum(alloc, device, &mut pages, size))?;
     Ok(ObjectView { name, size, sum })
 }
 

@@ -1,3 +1,4 @@
 pub mod ShardRows
 pub mod ReadShards
 pub mod States
+pub mod FoundPages

@@ -56,7 +56,7 @@ module _ (rows : Rows) (c o : List ℕ) (coll : IsCollName c) (name : IsName o) 
 
   -- ---- by its shards
 
-  onode_there : HasKey rows (onode_key c o) → (size : ℕ) × HasRow rows (onode c o size)
+  pub onode_there : HasKey rows (onode_key c o) → (size : ℕ) × HasRow rows (onode c o size)
   onode_there has = elim (finite.get rows (onode_key c o)) as
       (λ r. finite.get rows (onode_key c o) ≡ r → is_some r ≡ true → (size : ℕ) × HasRow rows (onode c o size)) [
         | None ↦ λ p t. absurd cc

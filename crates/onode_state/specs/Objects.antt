@@ -1,16 +1,17 @@
 -- An object as its rows have it, and its shards as they are read.
-use Rattle.std.specs.Prelude.{◌≡◌, ℕ, List, [], ◌∷◌, ◌++◌}
+use Rattle.std.specs.Prelude.{◌≡◌, ◌↔◌, ℕ, List, [], ◌∷◌, ◌++◌, Some}
 use Rattle.std.specs.List.{AllByRecursion}
 use Rattle.meta_rows.specs.Rows.{Rows}
 use Rattle.meta_log.specs.declared.slot.Super.{Super}
 use Rattle.meta_log.specs.Slots.{IsSuper}
 use Rattle.unit_fields.specs.UnitSet.{Ascends}
 use Rattle.row_format.specs.Keys.{shard_key}
-use Rattle.row_format.specs.Extents.{Extent, BeginsAt}
+use Rattle.row_format.specs.Extents.{Extent, Place, BeginsAt}
 use Rattle.onode_codec.specs.Reading.{SpellExtents}
-use Rattle.store_image.specs.Pages.{HasKey}
+use Rattle.store_image.specs.Pages.{HasKey, IsPageAt}
 use Rattle.store_image.specs.BadRows.{NoBadRow}
 use Rattle.blob_map.specs.Pages.{PageMap}
+use Rattle.page_lookup.specs.Found.{place_found}
 use Rattle.object_rows.specs.Operations.{AreShards}
 use Rattle.object_rows.specs.Maps.{AreShardsOf, extents_in, first_pages, IsMapOf}
 use Rattle.object_rows.specs.Writes.{IsSizeOf}
@@ -51,3 +52,7 @@ pub record IsStateOf (rows : Rows) (c o : List ℕ) (size : ℕ) (pages : PageMa
   pub are_shards : AreShards rows c o firsts
   pub there : AllByRecursion (λ page. HasKey rows (shard_key c o page)) firsts
   pub in_order : Ascends firsts
+
+-- the object's pages are found among these extents, each in its place, and no others
+abbrev pub FindPagesOf : Rows → List ℕ → List ℕ → List Extent → Type 0
+FindPagesOf rows c o es = (page : ℕ) (place : Place) → (place_found es page ≡ Some place) ↔ IsPageAt rows c o page place

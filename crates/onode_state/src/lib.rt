@@ -1,14 +1,14 @@
 //! Objects as their rows have them: the size, the map of the pages, and the shards that the map's extents stand in.
 //!
 //! In Ceph's BlueStore this is `get_onode` with `ExtentMap::fault_range`: an onode and its extent map, decoded from their keys. Whoever plans
-//! a change of an object or reads it begins here.
+//! a change of an object or reads it begins here: a change has the whole map, a read looks up the pages that it wants.
 #![tactic(auto)]
 
 mod names;
 mod object;
 
 pub use names::{coll_name_is_one, name_is_one};
-pub use object::{ObjectState, object_size, object_state};
+pub use object::{ObjectState, object_pages, object_size, object_state};
 
 #[cfg(test)]
 mod tests;

@@ -5,14 +5,16 @@ ghost use Rattle.row_format.specs.Extents.{Extent};
 ghost use Rattle.row_format.specs.Keys.{of_object, shard_key};
 ghost use Rattle.onode_codec.specs.Reading.{SpellsOnode, SpellExtents};
 ghost use Rattle.object_rows.specs.Writes.{IsSizeOf};
+ghost use Rattle.page_lookup.specs.Found.{HasUnit};
 ghost use Rattle.onode_state.specs.Objects.{AreRowsOfAStore};
-ghost use Rattle.onode_state.specs.Objects.{IsShardValue, AddsShard, HasShards, IsStateOf};
+ghost use Rattle.onode_state.specs.Objects.{IsShardValue, AddsShard, HasShards, IsStateOf, FindPagesOf};
 
 use crate::names::{coll_name_is_one, name_is_one};
 use blob_map::PageMap;
 use byte_maps::Bytes;
 use meta_rows::{RowRange, RowTable};
 use onode_codec::{Extent, Onode, decode_extents, onode_key, shard_key, shards_end};
+use page_lookup::ShardPages;
 use std::alloc::{AllocError, Global};
 use unit_fields::{CollName, Name};
 
@@ -77,6 +79,22 @@ fn shard_rows<'a>(
     let first = shard_key(alloc, coll, object, 0)?;
     let end = shards_end(alloc, coll, object)?;
     Ok(rows.range(first.as_slice(), Some(end.as_slice())))
+}
+
+/// The pages of an object, to be looked up in the rows of its shards as they stand. None of them is read here. A missing object has none.
+pub fn object_pages<'a>(
+    alloc: Global,
+    rows: &'a RowTable,
+    coll: &CollName,
+    object: &Name,
+) -> Result<ShardPages<'a>, AllocError>
+    requires { AreRowsOfAStore rows.now.rows }
+    ensures found { IfOk result (FindPagesOf rows.now.rows coll.now object.now) }
+    ensures units { IfOk result (λ pages. (page : ℕ) → HasUnit pages page) }
+{
+    coll_name_is_one(coll);
+    name_is_one(object);
+    Ok(ShardPages::new(shard_rows(alloc, rows, coll, object)?))
 }
 
 // The extents that the value of a shard's row spells.

@@ -117,3 +117,21 @@ fn no_shards(rt: HostRuntime) -> Result<(), Fail> {
     assert!(rt; is_bare(rt.alloc(), b"aa", 0)?, "no such object");
     Ok(())
 }
+
+#[test]
+fn pages_looked_up(rt: HostRuntime) -> Result<(), Fail> {
+    let rows = rows(rt.alloc())?;
+    if !is_store(rt.alloc(), &rows)? {
+        return Err("a bad row".into());
+    }
+    let coll = CollName::new(rt.alloc(), 1, 0)?;
+    let name = Name::read(rt.alloc(), b"a")?.ok_or("a name")?;
+    let mut pages = object_pages(rt.alloc(), &rows, &coll, &name)?;
+    let mut ahead = pages.again();
+    assert_eq!(rt; ahead.find(5), Some(place(20, 0x65656565)));
+    assert_eq!(rt; ahead.find(1), Some(place(19, 0x64646464)));
+    assert_eq!(rt; ahead.find(6), None);
+    assert_eq!(rt; pages.find(0), Some(place(18, 0x63636363)));
+    assert_eq!(rt; pages.find(2), None);
+    Ok(())
+}

@@ -13,9 +13,10 @@ read_range-requires-clause-can g c =
     let object = c.args.object.now in
     let none : range_refusal (object_refusal rows coll object) c.args.off c.args.len ≡ None = sym c.in_ok-refusal.ensures ∙ c.in_default.is in
     let key = has_onode rows coll object (range_allowed (object_refusal rows coll object) c.args.off c.args.len none).0 in
-    let state = c.in_ok-state.state in
-    can_read (g.D.Device.disk c.args.device.now) rows coll object state.size state.pages state.shards.items c.requires.readable
-    c.in_ok-state.ensures key
+    let size = c.in_ok-size.size in
+    let pages = c.in_ok-pages.pages in
+    can_read (g.D.Device.disk c.args.device.now) rows coll object size pages c.requires.readable
+    c.in_ok-size.ensures c.in_ok-pages.ensures.found key
 
 pub read_range-requires-clause-limit : goal.read_range-requires-clause-limit
 read_range-requires-clause-limit g c =
@@ -35,13 +36,14 @@ returns-in-Ok-clause-ok g c =
     let len = c.args.len in
     let none : range_refusal (object_refusal rows coll object) off len ≡ None = sym c.in_ok-refusal.ensures ∙ c.in_default.is in
     let key = has_onode rows coll object (range_allowed (object_refusal rows coll object) off len none).0 in
-    let state = c.in_ok-state.state in
-    bytes_answer d rows coll object state.size state.pages state.shards.items c.requires.readable c.in_ok-state.ensures key off len
+    let size = c.in_ok-size.size in
+    let pages = c.in_ok-pages.pages in
+    bytes_answer d rows coll object size pages c.requires.readable c.in_ok-size.ensures c.in_ok-pages.ensures.found key off len
     c.from_vec.result none
-    (subst (GivesRange d state.pages state.size off len) (sym c.from_vec.ensures) c.in-Ok.ensures.good)
+    (subst (GivesRange d pages size off len) (sym c.from_vec.ensures) c.in-Ok.ensures.good)
 
-pub returns-clause-ok : goal.returns-clause-ok
-returns-clause-ok g c =
+pub returns-in-Err-clause-ok : goal.returns-in-Err-clause-ok
+returns-in-Err-clause-ok g c =
     let d = g.D.Device.disk c.args.device.now in
     let rows = c.args.rows.now.rows in
     let coll = c.args.coll.now in
@@ -50,8 +52,9 @@ returns-clause-ok g c =
     let len = c.args.len in
     let none : range_refusal (object_refusal rows coll object) off len ≡ None = sym c.in_ok-refusal.ensures ∙ c.in_default.is in
     let key = has_onode rows coll object (range_allowed (object_refusal rows coll object) off len none).0 in
-    let state = c.in_ok-state.state in
+    let size = c.in_ok-size.size in
+    let pages = c.in_ok-pages.pages in
     ok_of c.csum_answer.result (IsCsumOf c.in-Err.why) (IsAnswerOf d rows (ask.Read coll object off len))
-    (λ a is. read_fails d rows coll object state.size state.pages state.shards.items c.requires.readable c.in_ok-state.ensures key off len
+    (λ a is. read_fails d rows coll object size pages c.requires.readable c.in_ok-size.ensures c.in_ok-pages.ensures.found key off len
     c.in-Err.why a none
     c.in-Err.ensures.fail is) c.csum_answer.ensures.ok

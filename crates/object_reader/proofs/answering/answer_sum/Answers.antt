@@ -11,9 +11,10 @@ sum-requires-clause-can g c =
     let coll = c.args.coll.now in
     let object = c.args.object.now in
     let key = has_onode rows coll object (sym c.in_ok-refusal.ensures ∙ c.in_default.is) in
-    let state = c.in_ok-state.state in
-    can_read (g.D.Device.disk c.args.device.now) rows coll object state.size state.pages state.shards.items c.requires.readable
-    c.in_ok-state.ensures key
+    let size = c.in_ok-size.size in
+    let pages = c.in_ok-pages.pages in
+    can_read (g.D.Device.disk c.args.device.now) rows coll object size pages c.requires.readable
+    c.in_ok-size.ensures c.in_ok-pages.ensures.found key
 
 pub sum-requires-clause-limit : goal.sum-requires-clause-limit
 sum-requires-clause-limit g c =
@@ -21,9 +22,10 @@ sum-requires-clause-limit g c =
     let coll = c.args.coll.now in
     let object = c.args.object.now in
     let key = has_onode rows coll object (sym c.in_ok-refusal.ensures ∙ c.in_default.is) in
-    let state = c.in_ok-state.state in
-    size_most (g.D.Device.disk c.args.device.now) rows coll object state.size state.pages state.shards.items c.requires.readable
-    c.in_ok-state.ensures key
+    let size = c.in_ok-size.size in
+    let pages = c.in_ok-pages.pages in
+    size_most (g.D.Device.disk c.args.device.now) rows coll object size pages c.requires.readable
+    c.in_ok-size.ensures c.in_ok-pages.ensures.found key
 
 pub returns-in-Ok-clause-ok : goal.returns-in-Ok-clause-ok
 returns-in-Ok-clause-ok g c =
@@ -31,18 +33,20 @@ returns-in-Ok-clause-ok g c =
     let coll = c.args.coll.now in
     let object = c.args.object.now in
     let none : object_refusal rows coll object ≡ None = sym c.in_ok-refusal.ensures ∙ c.in_default.is in
-    let state = c.in_ok-state.state in
-    sum_gives (g.D.Device.disk c.args.device.now) rows coll object state.size state.pages state.shards.items c.requires.readable c.in_ok-state.ensures
+    let size = c.in_ok-size.size in
+    let pages = c.in_ok-pages.pages in
+    sum_gives (g.D.Device.disk c.args.device.now) rows coll object size pages c.requires.readable c.in_ok-size.ensures c.in_ok-pages.ensures.found
     (has_onode rows coll object none) c.in-Ok.crc none c.in-Ok.ensures.good
 
-pub returns-clause-ok : goal.returns-clause-ok
-returns-clause-ok g c =
+pub returns-in-Err-clause-ok : goal.returns-in-Err-clause-ok
+returns-in-Err-clause-ok g c =
     let d = g.D.Device.disk c.args.device.now in
     let rows = c.args.rows.now.rows in
     let coll = c.args.coll.now in
     let object = c.args.object.now in
     let none : object_refusal rows coll object ≡ None = sym c.in_ok-refusal.ensures ∙ c.in_default.is in
-    let state = c.in_ok-state.state in
+    let size = c.in_ok-size.size in
+    let pages = c.in_ok-pages.pages in
     ok_of c.csum_answer.result (IsCsumOf c.in-Err.why) (IsAnswerOf d rows (ask.Sum coll object))
-    (λ a is. sum_fails d rows coll object state.size state.pages state.shards.items c.requires.readable c.in_ok-state.ensures
+    (λ a is. sum_fails d rows coll object size pages c.requires.readable c.in_ok-size.ensures c.in_ok-pages.ensures.found
     (has_onode rows coll object none) c.in-Err.why a none c.in-Err.ensures.fail is) c.csum_answer.ensures.ok

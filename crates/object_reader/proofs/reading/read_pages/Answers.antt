@@ -11,23 +11,28 @@ parts-init g c = (
   c.requires.below,
   no_pages (g.D.Device.disk c.args.device.now) c.args.pages.now c.args.first
       (c.args.first - c.args.first) c.in_ok-bytes.bytes.items (omega arith) c.in_ok-bytes.ensures.items,
+  refl,
 )
 
 pub read_part-requires-clause-can : goal.read_part-requires-clause-can
-read_part-requires-clause-can g c = subst (λ d. CanRead d c.args.pages.now) (sym c.parts.invariant.0) c.requires.can
+read_part-requires-clause-can g c =
+    subst (λ ps. CanRead (g.D.Device.disk c.parts.device) ps) (sym c.parts.invariant.5)
+    (subst (λ d. CanRead d c.args.pages.now) (sym c.parts.invariant.0) c.requires.can)
 
 pub parts-preserved : goal.parts-preserved
 parts-preserved g c =
     let disk = g.D.Device.disk in
     let was = c.parts.invariant in
     let n = c.in_ok-count.count in
-    let more = subst (λ d. GivesPages d c.args.pages.now c.parts.next n c.read_part.new.part.items) was.0 c.in_ok-count.ensures.good in (
+    let more = subst (λ ps. GivesPages (disk c.args.device.now) ps c.parts.next n c.read_part.new.part.items) was.5
+    (subst (λ d. GivesPages d c.parts.pages c.parts.next n c.read_part.new.part.items) was.0 c.in_ok-count.ensures.good) in (
       c.read_part.ensures.same ∙ was.0,
       omega (arith, was.1, c.read_part.ensures.later),
       omega (arith, was.2),
       omega (arith, c.in_ok-count.ensures.few.1),
       more_pages (disk c.args.device.now) c.args.pages.now c.args.first c.parts.next n c.parts.bytes.items c.read_part.new.part.items _ was.2
           (rw c.deref.ensures.value at c.in_ok-extend_from_slice.ensures.items) was.4 more,
+      c.read_part.ensures.kept ∙ was.5,
     )
 
 pub returns-in_err-count-clause-fail : goal.returns-in_err-count-clause-fail
@@ -35,7 +40,8 @@ returns-in_err-count-clause-fail g c =
     let d = g.D.Device.disk c.args.device.now in
     let was = c.parts.invariant in
     let why = c.in_err-count.field-0.0 in
-    let failed = subst (λ d. IsPartFail d c.args.pages.now c.parts.next (c.args.end - c.parts.next) why) was.0 c.in_err-count.ensures.fail in
+    let failed = subst (λ ps. IsPartFail d ps c.parts.next (c.args.end - c.parts.next) why) was.5
+    (subst (λ d. IsPartFail d c.parts.pages c.parts.next (c.args.end - c.parts.next) why) was.0 c.in_err-count.ensures.fail) in
     handed_on (IsPartFail d c.args.pages.now c.args.first (c.args.end - c.args.first)) c.from_residual-in_err-count.result why
     c.from_residual-in_err-count.ensures (fails_behind d c.args.pages.now c.args.first c.parts.next c.args.end c.parts.bytes.items why was.2
     was.3 was.4 failed)

@@ -8,7 +8,7 @@ invariant-parts g l =
     let disk = g.D.Device.disk in
     let faults = g.D.Device.faults in
     (disk l.device ≡ disk l.initial.device) × (faults l.initial.device ≤ faults l.device) × (l.next ≤ l.end)
-    × IsDigestOf (disk l.initial.device) l.object.pages l.object.size l.next l.digest
+    × IsDigestOf (disk l.initial.device) l.initial.pages l.size l.next l.digest × (l.pages ≡ l.initial.pages)
 
 abbrev pub decreases-parts : goal.decreases-parts
 decreases-parts g l = l.end - l.next

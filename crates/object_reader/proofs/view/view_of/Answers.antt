@@ -3,19 +3,22 @@ use Rattle.object_reader.proofs.view.view_of.Goals as goal
 
 pub sum-requires-clause-can : goal.sum-requires-clause-can
 sum-requires-clause-can g c =
-    let state = c.in_ok-state.state in
-    can_read (g.D.Device.disk c.args.device.now) c.args.rows.now.rows c.args.coll.now c.args.name state.size state.pages state.shards.items
-    c.requires.readable c.in_ok-state.ensures c.requires.is.there
+    let size = c.in_ok-size.size in
+    let pages = c.in_ok-pages.pages in
+    can_read (g.D.Device.disk c.args.device.now) c.args.rows.now.rows c.args.coll.now c.args.name size pages
+    c.requires.readable c.in_ok-size.ensures c.in_ok-pages.ensures.found c.requires.is.there
 
 pub sum-requires-clause-limit : goal.sum-requires-clause-limit
 sum-requires-clause-limit g c =
-    let state = c.in_ok-state.state in
-    size_most (g.D.Device.disk c.args.device.now) c.args.rows.now.rows c.args.coll.now c.args.name state.size state.pages state.shards.items
-    c.requires.readable c.in_ok-state.ensures c.requires.is.there
+    let size = c.in_ok-size.size in
+    let pages = c.in_ok-pages.pages in
+    size_most (g.D.Device.disk c.args.device.now) c.args.rows.now.rows c.args.coll.now c.args.name size pages
+    c.requires.readable c.in_ok-size.ensures c.in_ok-pages.ensures.found c.requires.is.there
 
 pub returns-clause-ok : goal.returns-clause-ok
 returns-clause-ok g c =
-    let state = c.in_ok-state.state in
-    shows (g.D.Device.disk c.args.device.now) c.args.rows.now.rows c.args.coll.now c.args.name state.size state.pages state.shards.items
-    c.requires.readable c.in_ok-state.ensures c.requires.is.there c.sum.result c.in_ok-sum.sum c.requires.is c.sum.ensures.good c.sum.ensures.fail
+    let size = c.in_ok-size.size in
+    let pages = c.in_ok-pages.pages in
+    shows (g.D.Device.disk c.args.device.now) c.args.rows.now.rows c.args.coll.now c.args.name size pages
+    c.requires.readable c.in_ok-size.ensures c.in_ok-pages.ensures.found c.requires.is.there c.sum.result c.in_ok-sum.sum c.requires.is c.sum.ensures.good c.sum.ensures.fail
     c.in_ok-sum.ensures.ok

@@ -1,0 +1,4 @@
+pub mod Reading
+pub mod Finding
+pub mod Fronts
+pub mod Rows

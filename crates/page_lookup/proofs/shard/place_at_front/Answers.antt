@@ -1,0 +1,37 @@
+use Rattle.std.proofs.Common.{◌≡◌, ◌<◌, ◌+◌, ◌-◌, ◌*◌, ◌∙◌, Some, None, ap, sym, length, arith, rules}
+use Rattle.std.proofs.lemmas.List.{length-drop}
+use Rattle.row_format.specs.Extents.{own}
+use Rattle.page_lookup.specs.Bytes.{number_in, size_in}
+use Rattle.page_lookup.specs.Found.{place_found}
+use Rattle.page_lookup.proofs.Fronts.{none_read, hole_before, csum_there, place_read, unit_fits}
+use Rattle.page_lookup.proofs.shard.place_at_front.Goals as goal
+
+pub returns-in_err-head : goal.returns-in_err-head
+returns-in_err-head c =
+    let few : length c.args.bytes.now < size_in c.args.bytes.now = search rules in
+    let none : c.from_residual.result ≡ None = search rules in
+    none ∙ sym (ap (λ es. place_found es c.args.page) (none_read c.args.bytes.now few))
+
+pub returns-then-page-head : goal.returns-then-page-head
+returns-then-page-head c = sym (hole_before c.args.bytes.now c.in_ok-head.head c.args.page c.in_ok-head.ensures.some (search rules))
+
+pub behind-requires : goal.behind-requires
+behind-requires c =
+    let there = csum_there c.args.bytes.now c.in_ok-head.head c.args.page c.in_ok-head.ensures.some (search rules) c.requires.reaches in
+    omega (arith, there)
+
+pub number_in-csum-requires : goal.number_in-csum-requires
+number_in-csum-requires c =
+    let there = csum_there c.args.bytes.now c.in_ok-head.head c.args.page c.in_ok-head.ensures.some (search rules) c.requires.reaches in
+    omega (arith, there, ap length c.behind.ensures, length-drop (11 + 4 * (c.args.page - c.in_ok-head.head.first)) c.args.bytes.now)
+
+pub overflow_add-head : goal.overflow_add-head
+overflow_add-head c =
+    let fits = unit_fits c.args.bytes.now c.in_ok-head.head c.args.page c.in_ok-head.ensures.some (search rules) c.requires.reaches c.requires.unit in
+    omega (arith, fits)
+
+pub returns : goal.returns
+returns c =
+    let read = place_read c.args.bytes.now c.in_ok-head.head c.args.page c.in_ok-head.ensures.some (search rules) c.requires.reaches in
+    let csum = c.number_in-csum.ensures ∙ ap number_in c.behind.ensures in
+    (λ i. Some (own (c.new-unit.ensures i) (csum i))) ∙ sym read

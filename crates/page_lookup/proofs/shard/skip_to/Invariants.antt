@@ -1,0 +1,11 @@
+use Rattle.std.proofs.Common.{length}
+use Rattle.page_lookup.specs.Bytes.{extents_read}
+use Rattle.page_lookup.specs.Found.{FindAlikeBefore}
+use Rattle.page_lookup.proofs.shard.skip_to.Given as goal
+
+-- what was left out ends in front of the page
+abbrev pub invariant-extents : goal.invariant-extents
+invariant-extents l = FindAlikeBefore l.page (extents_read l.left) (extents_read l.bytes)
+
+abbrev pub decreases-extents : goal.decreases-extents
+decreases-extents l = length l.left

@@ -1,0 +1,27 @@
+-- The place of a page, looked for among extents in their order.
+use Rattle.std.specs.Prelude.{◌≡◌, ℕ, ◌-◌, ◌<◌, ◌≤◌, ◌^◌, nat_lt, List, [], ◌∷◌, ◌++◌, Option, Some, None, if◌then◌else◌}
+use Rattle.row_format.specs.Extents.{Extent, Place, own, place_in, page_end}
+
+-- the place of a page, looked for no further than to the first extent that begins behind it; of extents that ascend it is the place
+abbrev pub place_found : List Extent → ℕ → Option Place
+place_found [] page = None
+place_found (e ∷ es) page = if nat_lt page e.first
+    then None
+    else if nat_lt page (page_end e) then Some (place_in e.body (page - e.first)) else place_found es page
+
+-- the first of the extents, if there is one, ends behind the page
+abbrev pub EndBehind : ℕ → List Extent → Type 0
+EndBehind page [] = Unit {0}
+EndBehind page (e ∷ es) = page < page_end e
+
+-- of the pages from this one on, each is found among the later extents as among the earlier ones
+abbrev pub FindAlike : ℕ → List Extent → List Extent → Type 0
+FindAlike page later earlier = (p : ℕ) → page ≤ p → place_found later p ≡ place_found earlier p
+
+-- whatever extents stand behind both of them
+abbrev pub FindAlikeBefore : ℕ → List Extent → List Extent → Type 0
+FindAlikeBefore page later earlier = (behind : List Extent) → FindAlike page (later ++ behind) (earlier ++ behind)
+
+-- the page's unit has a number of 32 bits, if it is found
+abbrev pub HasUnit : List Extent → ℕ → Type 0
+HasUnit es page = (unit csum : ℕ) → place_found es page ≡ Some (own unit csum) → unit < 2 ^ 32

@@ -1,0 +1,123 @@
+//! Pages looked up in an object's shards.
+ghost use Rattle.std.specs.Prelude.{◌≡◌};
+ghost use Rattle.page_lookup.specs.Bytes.{rows_read};
+ghost use Rattle.page_lookup.specs.Found.{place_found, FindAlike, HasUnit};
+
+use crate::shard::{is_done, place_at_front, skip_to};
+use blob_map::Place;
+use meta_rows::RowRange;
+use std::marker::Model;
+
+// What is left of shards: the bytes of the first one, and the rows of the others.
+#[derive(Drop)]
+struct Rest<'a> {
+    front: &'a [u8],
+    rows: RowRange<'a>,
+}
+
+impl<'a> Model for Rest<'a> {
+    ghost use Rattle.std.specs.Prelude.{List, ◌++◌};
+    ghost use Rattle.row_format.specs.Extents.{Extent};
+    ghost use Rattle.page_lookup.specs.Bytes.{extents_read, rows_read};
+
+    ghost Value = { List Extent };
+
+    ghost view = { λ a. extents_read a.front.now ++ rows_read a.rows };
+}
+
+impl<'a> Rest<'a> {
+    // All of the shards that these rows are.
+    #[tactic(auto, unfolding(crate::specs::Bytes::extents_read))]
+    fn new(rows: RowRange<'a>) -> Rest<'a>
+        ensures { result ≡ rows_read rows.entry }
+    {
+        Rest { front: &[], rows }
+    }
+
+    // The same once more.
+    fn again(&self) -> Rest<'a>
+        ensures { result ≡ self.now }
+    {
+        Rest {
+            front: self.front,
+            rows: self.rows.again(),
+        }
+    }
+
+    // Where a page stands. The extents that end in front of it are left out.
+    fn find(&mut self, page: u32) -> Option<Place>
+        requires { HasUnit self.old page }
+        ensures place { result ≡ place_found self.old page }
+        ensures alike { FindAlike page self.new self.old }
+    {
+        self.front = skip_to(self.front, page);
+        'shards: while is_done(self.front) {
+            match self.rows.next() {
+                Some((_, value)) => self.front = skip_to(value.as_slice(), page),
+                None => return None,
+            }
+        }
+        place_at_front(self.front, page)
+    }
+}
+
+/// The pages of an object, lent with the rows of its shards, and seen as the extents that the rows' values spell, one row's behind the
+/// other's. Look-ups of pages that ascend go over the bytes once, and look at no checksum but those that are asked for; a page in front of
+/// the last one begins again.
+#[derive(Drop)]
+pub struct ShardPages<'a> {
+    rows: RowRange<'a>,
+    rest: Rest<'a>,
+    from: u32,
+}
+
+impl<'a> Model for ShardPages<'a> {
+    ghost use Rattle.std.specs.Prelude.{List};
+    ghost use Rattle.row_format.specs.Extents.{Extent};
+    ghost use Rattle.page_lookup.specs.Bytes.{rows_read};
+    ghost use Rattle.page_lookup.specs.Found.{FindAlike};
+
+    ghost Value = { List Extent };
+
+    ghost view = { λ a. rows_read a.rows };
+
+    ghost invariant = { λ a. FindAlike a.from a.rest (rows_read a.rows) };
+}
+
+impl<'a> ShardPages<'a> {
+    /// The pages of an object whose shards these rows are.
+    pub fn new(rows: RowRange<'a>) -> ShardPages<'a>
+        ensures { result ≡ rows_read rows.entry }
+    {
+        ShardPages {
+            rest: Rest::new(rows.again()),
+            rows,
+            from: 0,
+        }
+    }
+
+    /// The same pages once more, to look ahead of them.
+    pub fn again(&self) -> ShardPages<'a>
+        ensures { result ≡ self.now }
+    {
+        ShardPages {
+            rows: self.rows.again(),
+            rest: self.rest.again(),
+            from: self.from,
+        }
+    }
+
+    /// Where a page stands. None: it is a hole.
+    pub fn find(&mut self, page: u32) -> Option<Place>
+        requires { HasUnit self.old page }
+        ensures place { result ≡ place_found self.old page }
+        ensures same { self.new ≡ self.old }
+    {
+        if page < self.from {
+            self.rest = Rest::new(self.rows.again());
+        }
+        let place = self.rest.find(page);
+        self.from = page;
+        place
+    }
+}

@@ -1,5 +1,5 @@
 // The trait `Bay`: who hands out devices and scripts by name.
-ghost use Rattle.std.specs.Prelude.{◌≡◌, ◌+◌, ◌<◌, ◌≤◌, ◌^◌, ℕ, IfOk, OnErr, IsErrOf};
+ghost use Rattle.std.specs.Prelude.{◌≡◌, ◌+◌, ◌<◌, ◌≤◌, ◌^◌, ℕ, IfOk, OnOk, OnErr, IsErrOf};
 ghost use Rattle.block_device.specs.Disk.{Rose};
 ghost use Rattle.end_points.specs.Bay.{BayView, HandedOut, Opened, IsFewUnits};
 
@@ -41,6 +41,7 @@ pub trait Bay {
         requires few { IsFewUnits how }
         ensures ok { IfOk result (λ dev. HandedOut (bay self.old) name.now how (Self.Dev.disk dev) (Self.Dev.faults dev) (bay self.new)) }
         ensures err { OnErr result (bay self.new ≡ bay self.old) }
+        ensures kept { OnOk result (faults self.new ≡ faults self.old) }
         ensures later { faults self.old ≤ faults self.new }
         ensures cause { IsErrOf result Failed.Fault → Rose (faults self.old) (faults self.new) };
 
@@ -48,6 +49,7 @@ pub trait Bay {
     fn script(&mut self, name: &str) -> Result<Self::Src, Failed>
         ensures ok { IfOk result (λ src. Opened (bay self.old) name.now (Self.Src.left src) (Self.Src.faults src)) }
         ensures same { bay self.new ≡ bay self.old }
+        ensures kept { OnOk result (faults self.new ≡ faults self.old) }
         ensures later { faults self.old ≤ faults self.new }
         ensures cause { IsErrOf result Failed.Fault → Rose (faults self.old) (faults self.new) };
 }

@@ -230,6 +230,7 @@ impl Bay for MemoryBay {
         ensures fault { IsErrOf result Failed.Fault → self.new ≡ after_refused_device self.old }
         ensures memory { IsErrOf result Failed.Memory → self.new ≡ self.old }
         ensures err { OnErr result (view_of self.new ≡ view_of self.old) }
+        ensures kept { OnOk result (self.new.faults ≡ self.old.faults) }
         ensures later { self.old.faults ≤ self.new.faults }
         ensures cause { IsErrOf result Failed.Fault → Rose self.old.faults self.new.faults }
     {
@@ -256,6 +257,7 @@ impl Bay for MemoryBay {
         ensures fault { IsErrOf result Failed.Fault → self.new ≡ after_refused_script self.old }
         ensures memory { IsErrOf result Failed.Memory → self.new ≡ self.old }
         ensures same { view_of self.new ≡ view_of self.old }
+        ensures kept { OnOk result (self.new.faults ≡ self.old.faults) }
         ensures later { self.old.faults ≤ self.new.faults }
         ensures cause { IsErrOf result Failed.Fault → Rose self.old.faults self.new.faults }
     {

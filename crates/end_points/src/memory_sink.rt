@@ -1,5 +1,5 @@
 // A sink in memory.
-ghost use Rattle.std.specs.Prelude.{◌≡◌, ◌↔◌, [], ◌<◌, ◌≤◌, ℕ, List, Some, IsErr, IfOk, OnErr, length, take, Contains, ◌+◌, ◌++◌, vec_capacity};
+ghost use Rattle.std.specs.Prelude.{◌≡◌, ◌↔◌, [], ◌<◌, ◌≤◌, ℕ, List, Some, IsErr, IfOk, OnOk, OnErr, length, take, Contains, ◌+◌, ◌++◌, vec_capacity};
 ghost use Rattle.block_device.specs.Disk.{Rose};
 ghost use Rattle.end_points.specs.Sink.{Put};
 ghost use Rattle.end_points.specs.Memory.{room_for, Refuses, after_put, after_refusal};
@@ -87,6 +87,7 @@ impl Sink for MemorySink {
         ensures fails { IsErr result ↔ Refuses self.old piece.now }
         ensures fault { OnErr result (self.new ≡ after_refusal self.old) }
         ensures err { OnErr result (self.new.text ≡ self.old.text) }
+        ensures kept { OnOk result (self.new.faults ≡ self.old.faults) }
         ensures later { self.old.faults ≤ self.new.faults }
         ensures cause { OnErr result (Rose self.old.faults self.new.faults) }
     {

@@ -1,5 +1,5 @@
 // A source in memory.
-ghost use Rattle.std.specs.Prelude.{◌≡◌, ◌↔◌, ◌+◌, ◌<◌, ◌≤◌, ℕ, List, Some, IsTrue, IfOk, OnErr, IsErrOf, Contains, length};
+ghost use Rattle.std.specs.Prelude.{◌≡◌, ◌↔◌, ◌+◌, ◌<◌, ◌≤◌, ℕ, List, Some, IsTrue, IfOk, OnOk, OnErr, IsErrOf, Contains, length};
 ghost use Rattle.block_device.specs.Disk.{Rose};
 ghost use Rattle.end_points.specs.Source.{Took};
 ghost use Rattle.end_points.specs.Memory.{taken, after_take, after_fault};
@@ -70,6 +70,7 @@ impl Source for MemorySource {
         ensures memory { IsErrOf result Failed.Memory → self.new ≡ self.old }
         ensures err { OnErr result (self.new.left ≡ self.old.left) }
         ensures none { OnErr result (into.new.items ≡ into.old.items) }
+        ensures kept { OnOk result (self.new.faults ≡ self.old.faults) }
         ensures later { self.old.faults ≤ self.new.faults }
         ensures cause { IsErrOf result Failed.Fault → Rose self.old.faults self.new.faults }
     {

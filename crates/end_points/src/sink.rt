@@ -1,5 +1,5 @@
 // The trait `Sink`: where text goes.
-ghost use Rattle.std.specs.Prelude.{◌≡◌, ◌≤◌, ℕ, List, Option, IfOk, OnErr};
+ghost use Rattle.std.specs.Prelude.{◌≡◌, ◌≤◌, ℕ, List, Option, IfOk, OnOk, OnErr};
 ghost use Rattle.block_device.specs.Disk.{Rose};
 ghost use Rattle.end_points.specs.Sink.{Put};
 
@@ -20,6 +20,7 @@ pub trait Sink {
     fn write(&mut self, piece: &[u8]) -> Result<u32, Fault>
         ensures ok { IfOk result (λ n. Put (written self.old) piece.now n (written self.new)) }
         ensures err { OnErr result (written self.new ≡ written self.old) }
+        ensures kept { OnOk result (faults self.new ≡ faults self.old) }
         ensures later { faults self.old ≤ faults self.new }
         ensures cause { OnErr result (Rose (faults self.old) (faults self.new)) };
 }

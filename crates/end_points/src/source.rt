@@ -1,5 +1,5 @@
 // The trait `Source`: a text that is read from its front on.
-ghost use Rattle.std.specs.Prelude.{◌≡◌, ◌≤◌, ℕ, List, Option, IfOk, OnErr, IsErrOf};
+ghost use Rattle.std.specs.Prelude.{◌≡◌, ◌≤◌, ℕ, List, Option, IfOk, OnOk, OnErr, IsErrOf};
 ghost use Rattle.block_device.specs.Disk.{Rose};
 ghost use Rattle.end_points.specs.Source.{Took};
 
@@ -19,6 +19,8 @@ pub trait Source {
         ensures ok { IfOk result (λ n. Took (left self.old) most n into.old.items into.new.items (left self.new)) }
         ensures err { OnErr result (left self.new ≡ left self.old) }
         ensures none { OnErr result (into.new.items ≡ into.old.items) }
+        ensures kept { OnOk result (faults self.new ≡ faults self.old) }
+        ensures memory { IsErrOf result Failed.Memory → faults self.new ≡ faults self.old }
         ensures later { faults self.old ≤ faults self.new }
         ensures cause { IsErrOf result Failed.Fault → Rose (faults self.old) (faults self.new) };
 }

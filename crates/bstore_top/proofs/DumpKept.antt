@@ -28,9 +28,9 @@ use Rattle.store_kernel.specs.declared.unanswered.WalkFail.TheVariants as walk
 use Rattle.mount_replay.specs.Calls.{IsLater}
 use Rattle.mount_replay.specs.Mounting as mounting
 use Rattle.mount_replay.specs.Mounting.{IsOpenedOn, IsReapedTo}
-use Rattle.bstore_top.specs.declared.work_end.WorkEnd.{WorkEnd}
-use Rattle.bstore_top.specs.declared.work_end.WorkEnd.TheVariants.{Done, BadLine, NoSuper, BadRow, NotExact, WornOut}
-use Rattle.bstore_top.specs.declared.work_end.WorkEnd.TheVariants.{DeviceFault, OutOfMemory, BayFault}
+use Rattle.run_texts.specs.declared.work_end.WorkEnd.{WorkEnd}
+use Rattle.run_texts.specs.declared.work_end.WorkEnd.TheVariants.{Done, BadLine, NoSuper, BadRow, NotExact, WornOut}
+use Rattle.run_texts.specs.declared.work_end.WorkEnd.TheVariants.{DeviceFault, OutOfMemory, BayFault}
 use Rattle.bstore_top.specs.Dumping.{IsOfUp, end_of_walk}
 use Rattle.bstore_top.specs.DumpRun.{Walked, WalksStore, Shows, ShowsObjects}
 use Rattle.bstore_top.specs.Keeping.{StaysDurable}

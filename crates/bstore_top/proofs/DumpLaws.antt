@@ -15,16 +15,16 @@ use Rattle.read_facts.specs.declared.view.BadSum.{BadSum}
 use Rattle.read_facts.specs.declared.view.CollView.{CollView}
 use Rattle.read_facts.specs.declared.view.ObjectView.{ObjectView}
 use Rattle.read_facts.specs.Views.{HasGoodViews, IsGoodView, views_of}
-use Rattle.bstore_top.specs.declared.command_line.CommandLine.TheVariants.{Dump}
-use Rattle.bstore_top.specs.declared.work_end.WorkEnd.{WorkEnd}
-use Rattle.bstore_top.specs.declared.work_end.WorkEnd.TheVariants.{Done, BadLine, NoSuper, BadRow, NotExact, WornOut}
-use Rattle.bstore_top.specs.declared.work_end.WorkEnd.TheVariants.{DeviceFault, OutOfMemory, BayFault}
+use Rattle.command_words.specs.declared.command_line.CommandLine.TheVariants.{Dump}
+use Rattle.run_texts.specs.declared.work_end.WorkEnd.{WorkEnd}
+use Rattle.run_texts.specs.declared.work_end.WorkEnd.TheVariants.{Done, BadLine, NoSuper, BadRow, NotExact, WornOut}
+use Rattle.run_texts.specs.declared.work_end.WorkEnd.TheVariants.{DeviceFault, OutOfMemory, BayFault}
 use Rattle.bstore_top.specs.DumpRun.{Walked, DumpsOn, Shows, ShowsObjects, FailsUnopened, DumpsOpened, IsDumpDone, RanDump, Dumped}
-use Rattle.bstore_top.specs.DumpTexts.{is_bad, has_bad_view, dump_text, dump_number}
+use Rattle.run_texts.specs.DumpTexts.{is_bad, has_bad_view, dump_text, dump_number}
 use Rattle.bstore_top.specs.GoodStart.{IsGoodStore, HasNoFault}
-use Rattle.bstore_top.specs.Printed.{Output, TookAll}
+use Rattle.run_texts.specs.Printed.{Output, TookAll}
 use Rattle.bstore_top.specs.Keeping.{IsDurableFrom, StaysDurable}
-use Rattle.bstore_top.specs.Reports.{ReportsDump}
+use Rattle.run_texts.specs.Reports.{ReportsDump}
 use Rattle.bstore_top.specs.Run.{EachCrashLeavesPrefix}
 use Rattle.bstore_top.specs.StepRun.{Seen, seen, empty_book, HasCounted}
 use Rattle.bstore_top.proofs.RunLaws.{printed_well, EndsWell, ends_well}

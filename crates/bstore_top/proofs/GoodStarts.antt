@@ -22,15 +22,15 @@ use Rattle.store_image.proofs.OneObjects.{same_rows}
 use Rattle.store_steps.specs.Opened.{Found}
 use Rattle.mount_replay.specs.Opening.{IsAbout, IsFoundIn, IsUnopenable}
 use Rattle.mount_replay.specs.declared.opening.MountFail.TheVariants as fail
-use Rattle.bstore_top.specs.declared.work_end.WorkEnd.{WorkEnd}
-use Rattle.bstore_top.specs.declared.work_end.WorkEnd.TheVariants.{Done, BadLine, NoSuper, BadRow, NotExact, WornOut}
-use Rattle.bstore_top.specs.declared.work_end.WorkEnd.TheVariants.{DeviceFault, OutOfMemory, BayFault}
+use Rattle.run_texts.specs.declared.work_end.WorkEnd.{WorkEnd}
+use Rattle.run_texts.specs.declared.work_end.WorkEnd.TheVariants.{Done, BadLine, NoSuper, BadRow, NotExact, WornOut}
+use Rattle.run_texts.specs.declared.work_end.WorkEnd.TheVariants.{DeviceFault, OutOfMemory, BayFault}
 use Rattle.bstore_top.specs.Choice.{Position}
 use Rattle.bstore_top.specs.GoodStart.{HasGoodStore, IsGoodStart, HasNoFault}
-use Rattle.bstore_top.specs.Printed.{Output, Printed}
-use Rattle.bstore_top.specs.Replies.{has_csum}
-use Rattle.bstore_top.specs.Reports.{PrintedNoText}
-use Rattle.bstore_top.specs.StepTexts.{end_status, step_number, step_text}
+use Rattle.run_texts.specs.Printed.{Output, Printed}
+use Rattle.run_texts.specs.Replies.{has_csum}
+use Rattle.run_texts.specs.
+use Rattle.run_texts.specs.StepTexts.{end_status, step_number, step_text}
 use Rattle.bstore_top.specs.StepRun.{EndsAt, Seen, FailsBefore, FailsToMount, HasCounted, EndsOpened, IsStepDone, RanStep}
 use Rattle.bstore_top.proofs.RunLaws.{clean_of_none}
 
@@ -153,10 +153,10 @@ module _ (dev script : List ℕ) (bay : BayView) (start : IsGoodStart dev script
       → FailsBefore end bay.names script sources before now → EndsInOrder end
   unopened_ends (Done free) sources before now none same fails = absurd fails
   unopened_ends (BadLine n) sources before now none same fails =
-      let under : finite.get start.names.texts script ≡ Some fails.text =
+      let under : finite.get start.names.texts script ≡ Some fails.0.text =
       subst (λ (o : Option Names). IfSome o (λ m. finite.get m.texts script ≡ Some fails.text)) start.told fails.under in
-      let text : fails.text ≡ start.text = same_Some fails.text start.text (sym under ∙ start.under_script) in
-      absurd (script_has_no_bad start.text start.lines n start.is_script (subst (λ (t : List ℕ). IsBadAt t n) text fails.bad))
+      let text : fails.0.text ≡ start.text = same_Some fails.0.text start.text (sym under ∙ start.under_script) in
+      absurd (script_has_no_bad start.text start.lines n start.is_script (subst (λ (t : List ℕ). IsBadAt t n) text fails.0.bad))
   unopened_ends NoSuper sources before now none same fails = absurd fails
   unopened_ends (BadRow key) sources before now none same fails = absurd fails
   unopened_ends (NotExact unit) sources before now none same fails = absurd fails
@@ -168,7 +168,7 @@ module _ (dev script : List ℕ) (bay : BayView) (start : IsGoodStart dev script
 
   module _ (seed : ℕ) (end : WorkEnd) (seen : Seen) (bay_new : BayView) (before now : ℕ) (old new : Output)
       (none : HasNoFault seen before now old new) where
-    opened_ends : (e : EndsOpened dev script seed end seen bay bay_new) → EndsInOrder end
+    opened_ends : (e : EndsOpened dev script seed end seen bay bay_new before now) → EndsInOrder end
     opened_ends e = elim e.works [
       | inl failed ↦ unmounted_ends dev start.names start.store end e.given e.faults no_fault told failed.0
       | inr ran ↦ ran_ends end ran.1.last e.faults no_fault ran.0 ran.1.ended
@@ -194,14 +194,12 @@ module _ (dev script : List ℕ) (bay : BayView) (start : IsGoodStart dev script
 
 -- ---- what was printed
 
--- the status is that of the end, or memory ran out for the text
+-- the status is that of the end
 pub reported : (end : ℕ) (text : List ℕ) (status : ℕ) (old new : Output) → ¬ Rose old.faults new.faults → (end ≡ 0) ⊎ (end ≡ 5)
-    → Printed end text status old new ⊎ PrintedNoText status old new → (status ≡ 0) ⊎ (status ≡ 5)
-reported end text status old new none (inl zero) (inl (inl whole)) = inl (whole.0 ∙ zero)
-reported end text status old new none (inr five) (inl (inl whole)) = inr (whole.0 ∙ five)
-reported end text status old new none ends (inl (inr front)) = absurd (none front.1.rose)
-reported end text status old new none ends (inr (inl whole)) = inr whole.0
-reported end text status old new none ends (inr (inr front)) = absurd (none front.1.rose)
+    → Printed end text status old new → (status ≡ 0) ⊎ (status ≡ 5)
+reported end text status old new none (inl zero) (inl whole) = inl (whole.0 ∙ zero)
+reported end text status old new none (inr five) (inl whole) = inr (whole.0 ∙ five)
+reported end text status old new none ends (inr front) = absurd (none front.1.rose)
 
 -- the end of a run that met no bad unit
 pub in_order : (bad : Bool) (end : WorkEnd) → bad ≡ false → EndsInOrder end → (end_status bad end ≡ 0) ⊎ (end_status bad end ≡ 5)

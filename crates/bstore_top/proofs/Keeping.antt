@@ -18,9 +18,9 @@ use Rattle.mount_replay.specs.Opening.{FailsMount}
 use Rattle.mount_replay.specs.Mounting as mounting
 use Rattle.mount_replay.specs.declared.opening.MountFail.{MountFail}
 use Rattle.script_text.specs.declared.line.Line.{Line}
-use Rattle.bstore_top.specs.declared.command_line.CommandLine.TheVariants.{Step}
-use Rattle.bstore_top.specs.declared.work_end.WorkEnd.{WorkEnd}
-use Rattle.bstore_top.specs.Replies.{has_csum}
+use Rattle.command_words.specs.declared.command_line.CommandLine.TheVariants.{Step}
+use Rattle.run_texts.specs.declared.work_end.WorkEnd.{WorkEnd}
+use Rattle.run_texts.specs.Replies.{has_csum}
 use Rattle.bstore_top.specs.Keeping.{IsDurableFrom, StaysDurable, KeepsStore}
 use Rattle.bstore_top.specs.Run.{EachCrashLeavesPrefix}
 use Rattle.bstore_top.specs.StepRun.{Seen, FailsToMount, EndsOpened, IsStepDone, empty_book, end_of_mount}
@@ -86,9 +86,10 @@ ran_keeps seed lines given disk end book fresh later all = record {
 -- ---- the device that comes back
 
 -- the device that a bay gave began with what the bay has under its name
-opened_durable : (dev script : List ℕ) (seed : ℕ) (end : WorkEnd) (seen : Seen) (old new : BayView) (e : EndsOpened dev script seed end seen old new)
+opened_durable : (dev script : List ℕ) (seed : ℕ) (end : WorkEnd) (seen : Seen) (old new : BayView) (before now : ℕ)
+    (e : EndsOpened dev script seed end seen old new before now)
     → EachCrashLeavesPrefix (Step dev seed script) old (Some e.disk) seen.book
-opened_durable dev script seed end seen old new e = of_names old.names e.handed_out.contents
+opened_durable dev script seed end seen old new before now e = of_names old.names e.handed_out.contents
   where
     of_names : (names : Option Names) → IfSome names (λ n. StartsWith e.given (finite.get n.devices dev))
         → IfSome names (λ n. (contents : List ℕ) (objects : Objects) → finite.get n.devices dev ≡ Some contents → StandsFor contents objects
@@ -104,4 +105,4 @@ done_durable dev script seed end seen old new before now (inl e) =
     subst (λ (d : Option Disk). EachCrashLeavesPrefix (Step dev seed script) old d seen.book) (sym e.no_disk) tt
 done_durable dev script seed end seen old new before now (inr e) =
     subst (λ (d : Option Disk). EachCrashLeavesPrefix (Step dev seed script) old d seen.book) (sym e.is_disk)
-    (opened_durable dev script seed end seen old new e)
+    (opened_durable dev script seed end seen old new before now e)

@@ -1,9 +1,3 @@
-pub mod Numbers
-pub mod Words
-pub mod Taking
-pub mod TextLemmas
-pub mod ReplyLemmas
-pub mod DumpLemmas
 pub mod DrawLemmas
 pub mod RunLemmas
 pub mod FreeLemmas
@@ -14,4 +8,3 @@ pub mod GoodStarts
 pub mod DumpWalks
 pub mod DumpKept
 pub mod DumpLaws
-pub mod HexLemmas

@@ -47,14 +47,14 @@ use Rattle.crash_facts.proofs.Runs.{run_durable, drained_stands, drained_exact}
 use Rattle.read_facts.specs.Alike.{IsNoCsum, IsLegalButBytes}
 use Rattle.mount_replay.specs.Calls.{Told, GoesOn, IsLater}
 use Rattle.mount_replay.specs.Mounting.{IsOpenedOn, WasOpened}
-use Rattle.bstore_top.specs.declared.work_end.WorkEnd.{WorkEnd}
-use Rattle.bstore_top.specs.declared.work_end.WorkEnd.TheVariants.{Done, BadLine, NoSuper, BadRow, NotExact, WornOut}
-use Rattle.bstore_top.specs.declared.work_end.WorkEnd.TheVariants.{DeviceFault, OutOfMemory, BayFault}
+use Rattle.run_texts.specs.declared.work_end.WorkEnd.{WorkEnd}
+use Rattle.run_texts.specs.declared.work_end.WorkEnd.TheVariants.{Done, BadLine, NoSuper, BadRow, NotExact, WornOut}
+use Rattle.run_texts.specs.declared.work_end.WorkEnd.TheVariants.{DeviceFault, OutOfMemory, BayFault}
 use Rattle.bstore_top.specs.Choice.{ready_list, Position, IsDrawnRun}
-use Rattle.bstore_top.specs.Printed.{Output, TookAll, Printed}
-use Rattle.bstore_top.specs.Replies.{is_csum, has_csum}
-use Rattle.bstore_top.specs.Reports.{PrintedNoText}
-use Rattle.bstore_top.specs.StepTexts.{end_status, step_number, step_text}
+use Rattle.run_texts.specs.Printed.{Output, TookAll, Printed}
+use Rattle.run_texts.specs.Replies.{is_csum, has_csum}
+use Rattle.run_texts.specs.
+use Rattle.run_texts.specs.StepTexts.{end_status, step_number, step_text}
 use Rattle.bstore_top.specs.StepRun.{Seen, AskedUpTo, RunsScript, WorksOn, EndsOpened, IsStepDone, RanStep}
 use Rattle.bstore_top.specs.Standing.{HasFree, IsFinished, IsComplete}
 use Rattle.bstore_top.specs.Keeping.{KeepsStore}
@@ -269,12 +269,9 @@ script_complete seed free lines given disk book all =
 -- ---- a run that returns 0
 
 -- it has printed its text, whose status that is
-pub printed_well : (end : ℕ) (text : List ℕ) (old new : Output) → Printed end text 0 old new ⊎ PrintedNoText 0 old new
-    → (0 ≡ end) × TookAll text old new
-printed_well end text old new (inl (inl whole)) = whole
-printed_well end text old new (inl (inr front)) = absurd (omega (arith, front.0))
-printed_well end text old new (inr (inl whole)) = absurd (omega (arith, whole.0))
-printed_well end text old new (inr (inr front)) = absurd (omega (arith, front.0))
+pub printed_well : (end : ℕ) (text : List ℕ) (old new : Output) → Printed end text 0 old new → (0 ≡ end) × TookAll text old new
+printed_well end text old new (inl whole) = whole
+printed_well end text old new (inr front) = absurd (omega (arith, front.0))
 
 -- it ended with all done, and has met no bad unit
 pub record EndsWell (bad : Bool) (end : WorkEnd) : Type 0 where
@@ -310,7 +307,7 @@ finishes dev free given disk book (Some n) keeps begins = λ contents objects is
 
 module _ (dev script : List ℕ) (seed : ℕ) (seen : Seen) (bay_old bay_new : BayView) (before now : ℕ) (old new : Output) (free : ℕ)
     (no_bad : has_csum seen.book.entries ≡ false) (printed : TookAll (step_text seen.book (Done free)) old new) where
-  ran_well : (e : EndsOpened dev script seed (Done free) seen bay_old bay_new) → RunsScript seed e.lines e.given (Done free) seen.book e.disk
+  ran_well : (e : EndsOpened dev script seed (Done free) seen bay_old bay_new before now) → RunsScript seed e.lines e.given (Done free) seen.book e.disk
       → Succeeded dev script seed seen bay_old old new
   ran_well e ran = record {
     lines = e.lines;
@@ -327,7 +324,7 @@ module _ (dev script : List ℕ) (seed : ℕ) (seen : Seen) (bay_old bay_new : B
     finished = finishes dev free e.given e.disk seen.book bay_old.names e.keeps e.handed_out.contents;
   }
 
-  worked_well : (e : EndsOpened dev script seed (Done free) seen bay_old bay_new) → WorksOn seed e.lines e.given 0 (Done free) seen.book e.disk e.faults
+  worked_well : (e : EndsOpened dev script seed (Done free) seen bay_old bay_new before now) → WorksOn seed e.lines e.given 0 (Done free) seen.book e.disk e.faults
       → Succeeded dev script seed seen bay_old old new
   worked_well e (inl failed) = absurd failed.0
   worked_well e (inr ran) = ran_well e ran.1

@@ -35,7 +35,7 @@ use Rattle.mount_replay.proofs.ZeroLemmas.{told_start, goes_on_same}
 use Rattle.mount_replay.proofs.MadeLemmas.{told_join}
 use Rattle.bstore_top.specs.declared.run_fail.RunFail.{RunFail}
 use Rattle.bstore_top.specs.declared.run_fail.RunFail.TheVariants as run
-use Rattle.bstore_top.specs.declared.work_end.WorkEnd.{WorkEnd}
+use Rattle.run_texts.specs.declared.work_end.WorkEnd.{WorkEnd}
 use Rattle.bstore_top.specs.Choice.{asked, asks_of, Position, at_position, IsDrawnRun}
 use Rattle.bstore_top.specs.StepRun.{asked_in, asked_by, IsTextUnder, FailsBefore, end_of_script, EndsAt, FailsToMount, LeftByMount, HasCounted}
 use Rattle.bstore_top.specs.StepRun.{end_of_mount, end_of_run}
@@ -93,12 +93,15 @@ one_source {S} f new mid old x pushed same none = ap (λ (l : List S). map f l) 
 -- why the script wasn't read
 pub script_fails : (e : ScriptFail) (names : Option Names) (name : List ℕ) (left : Option (List ℕ)) (none some before now : ℕ) (faults : List ℕ)
     → IfLine e (λ n. (text : List ℕ) × IsTextOf left text × IsBadAt text n)
-    → (e ≡ script.ReadFault → Rose none some) → none ≡ 0 → IfSome names (λ n. IsSome left × (left ≡ finite.get n.texts name)) → faults ≡ some ∷ []
+    → (e ≡ script.ReadFault → Rose none some) → (¬ (e ≡ script.ReadFault) → some ≡ none) → now ≡ before → none ≡ 0 → IfSome names (λ n. IsSome left × (left ≡ finite.get n.texts name)) → faults ≡ some ∷ []
     → FailsBefore (end_of_script e) names name faults before now
-script_fails script.Memory names name left none some before now faults bad rose is told all = tt
-script_fails (script.Line n) names name left none some before now faults bad rose is told all =
-    record { text = bad.0; under = text_under names name left bad.0 told bad.1; bad = bad.2 }
-script_fails script.ReadFault names name left none some before now faults bad rose is told all = inl (counted_one none some faults is (rose refl) all)
+script_fails script.Memory names name left none some before now faults bad rose kept same is told all = tt
+script_fails (script.Line n) names name left none some before now faults bad rose kept same is told all =
+    (
+      record { text = bad.0; under = text_under names name left bad.0 told bad.1; bad = bad.2 },
+      record { source = all ∙ ap (λ (k : ℕ). k ∷ []) (kept (λ ()) ∙ is); bay = same },
+    )
+script_fails script.ReadFault names name left none some before now faults bad rose kept same is told all = inl (counted_one none some faults is (rose refl) all)
 
 -- ---- mounting
 

@@ -14,11 +14,11 @@ use Rattle.unit_allocator.specs.Units.{Space}
 use Rattle.store_steps.specs.State.{State}
 use Rattle.store_steps.specs.Opened.{Found}
 use Rattle.mount_replay.specs.Mounting.{IsOpenedOn}
-use Rattle.bstore_top.specs.declared.work_end.WorkEnd.{WorkEnd}
-use Rattle.bstore_top.specs.declared.work_end.WorkEnd.TheVariants.{Done, DeviceFault, OutOfMemory, BayFault}
-use Rattle.bstore_top.specs.DumpTexts.{dump_text}
-use Rattle.bstore_top.specs.Printed.{Output, TookAll}
-use Rattle.bstore_top.specs.Reports.{ReportsDump}
+use Rattle.run_texts.specs.declared.work_end.WorkEnd.{WorkEnd}
+use Rattle.run_texts.specs.declared.work_end.WorkEnd.TheVariants.{Done, DeviceFault, OutOfMemory, BayFault}
+use Rattle.run_texts.specs.DumpTexts.{dump_text}
+use Rattle.run_texts.specs.Printed.{Output, TookAll}
+use Rattle.run_texts.specs.Reports.{ReportsDump}
 use Rattle.bstore_top.specs.Keeping.{StaysDurable}
 use Rattle.bstore_top.specs.StepRun.{Seen, empty_book, FailsToMount, HasCounted, LeftByMount}
 

@@ -2,8 +2,8 @@
 use Rattle.std.specs.Prelude.{ℕ, Result, Ok, Err}
 use Rattle.store_kernel.specs.declared.unanswered.WalkFail.{WalkFail}
 use Rattle.store_kernel.specs.declared.unanswered.WalkFail.TheVariants as walk
-use Rattle.bstore_top.specs.declared.work_end.WorkEnd.{WorkEnd}
-use Rattle.bstore_top.specs.declared.work_end.WorkEnd.TheVariants.{Done, DeviceFault, OutOfMemory}
+use Rattle.run_texts.specs.declared.work_end.WorkEnd.{WorkEnd}
+use Rattle.run_texts.specs.declared.work_end.WorkEnd.TheVariants.{Done, DeviceFault, OutOfMemory}
 
 -- a walk of a kernel that isn't down can fail so
 abbrev pub IsOfUp : WalkFail → Type 0

@@ -8,11 +8,11 @@ use Rattle.object_model.specs.Book.{IsLegal}
 use Rattle.object_model.specs.declared.book.Book.{Book}
 use Rattle.store_image.specs.Stands.{StandsFor}
 use Rattle.script_text.specs.declared.line.Line.{Line}
-use Rattle.bstore_top.specs.declared.work_end.WorkEnd.TheVariants.{Done}
-use Rattle.bstore_top.specs.Printed.{Output, TookAll}
+use Rattle.run_texts.specs.declared.work_end.WorkEnd.TheVariants.{Done}
+use Rattle.run_texts.specs.Printed.{Output, TookAll}
 use Rattle.bstore_top.specs.Standing.{IsFinished, IsComplete}
-use Rattle.bstore_top.specs.Replies.{has_csum}
-use Rattle.bstore_top.specs.StepTexts.{step_text}
+use Rattle.run_texts.specs.Replies.{has_csum}
+use Rattle.run_texts.specs.StepTexts.{step_text}
 use Rattle.bstore_top.specs.StepRun.{HasScript, AskedUpTo, RunsScript, Seen}
 
 -- the device tells a history, and the run has finished on it

@@ -10,7 +10,7 @@ use Rattle.store_steps.specs.Opened.{Found}
 use Rattle.mount_replay.specs.Opening.{IsFoundIn, HasLowNumbers}
 use Rattle.script_text.specs.Script.{IsScript}
 use Rattle.script_text.specs.declared.line.Line.{Line}
-use Rattle.bstore_top.specs.Printed.{Output}
+use Rattle.run_texts.specs.Printed.{Output}
 use Rattle.bstore_top.specs.StepRun.{Seen}
 
 -- Under the device's name there is a store that stands for some objects: what a mount finds in it is a bitmap that is exact, but for leaked units,

@@ -6,9 +6,9 @@ use Rattle.object_model.specs.Objects.{Objects}
 use Rattle.object_model.specs.declared.book.Book.{Book}
 use Rattle.store_image.specs.Stands.{StandsFor}
 use Rattle.store_image.specs.Durability.{EachCutStands}
-use Rattle.bstore_top.specs.declared.work_end.WorkEnd.{WorkEnd}
-use Rattle.bstore_top.specs.declared.work_end.WorkEnd.TheVariants.{Done}
-use Rattle.bstore_top.specs.Replies.{has_csum}
+use Rattle.run_texts.specs.declared.work_end.WorkEnd.{WorkEnd}
+use Rattle.run_texts.specs.declared.work_end.WorkEnd.TheVariants.{Done}
+use Rattle.run_texts.specs.Replies.{has_csum}
 use Rattle.bstore_top.specs.Standing.{IsFinished, IsComplete}
 
 -- Prefix durability of a run. The device tells a log that began with these contents. At every cut of it, whatever image the crash allows

@@ -1,12 +1,3 @@
-pub mod Status
-pub mod CommandLine
-pub mod Texts
-pub mod Replies
-pub mod Hex
-pub mod StepTexts
-pub mod DumpTexts
-pub mod Printed
-pub mod Reports
 pub mod Choice
 pub mod Standing
 pub mod Keeping

@@ -11,14 +11,14 @@ use Rattle.mount_replay.specs.Made.{HoldsEmptyStore}
 use Rattle.object_model.specs.Objects.{Objects}
 use Rattle.object_model.specs.declared.book.Book.{Book}
 use Rattle.store_image.specs.Stands.{StandsFor}
-use Rattle.bstore_top.specs.declared.command_line.CommandLine.{CommandLine}
-use Rattle.bstore_top.specs.declared.command_line.CommandLine.TheVariants.{Mkfs, Step, Dump}
-use Rattle.bstore_top.specs.declared.status.Stop.{Stop}
-use Rattle.bstore_top.specs.declared.status.Stop.TheVariants.{BadScript, DeviceFault, Refused, OutOfMemory, BayFault}
-use Rattle.bstore_top.specs.CommandLine.{Spells, IsNoStep}
-use Rattle.bstore_top.specs.Status.{end_number}
-use Rattle.bstore_top.specs.Texts.{mkfs_text}
-use Rattle.bstore_top.specs.Printed.{Output, Printed}
+use Rattle.command_words.specs.declared.command_line.CommandLine.{CommandLine}
+use Rattle.command_words.specs.declared.command_line.CommandLine.TheVariants.{Mkfs, Step, Dump}
+use Rattle.run_texts.specs.declared.status.Stop.{Stop}
+use Rattle.run_texts.specs.declared.status.Stop.TheVariants.{BadScript, DeviceFault, Refused, OutOfMemory, BayFault}
+use Rattle.command_words.specs.CommandLine.{Spells, IsNoStep}
+use Rattle.run_texts.specs.Status.{end_number}
+use Rattle.run_texts.specs.Texts.{mkfs_text}
+use Rattle.run_texts.specs.Printed.{Output, Printed}
 use Rattle.bstore_top.specs.Keeping.{IsDurableFrom}
 use Rattle.bstore_top.specs.StepRun.{Seen, RanStep}
 use Rattle.bstore_top.specs.DumpRun.{RanDump}

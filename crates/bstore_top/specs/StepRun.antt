@@ -1,5 +1,5 @@
 -- What a run of `step` does: it reads a script, mounts a store, and runs the script on it.
-use Rattle.std.specs.Prelude.{◌≡◌, ◌⊎◌, ℕ, ◌<◌, List, [], ◌++◌, map, Any, Option, Some, None, Result, Ok, Err, is_some, true, IfSome}
+use Rattle.std.specs.Prelude.{◌≡◌, ◌⊎◌, ℕ, ◌<◌, List, [], ◌∷◌, ◌++◌, map, Any, Option, Some, None, Result, Ok, Err, is_some, true, IfSome}
 use Rattle.std.specs.FinMap as finite
 use Rattle.block_device.specs.Disk.{Disk, IsSound, Rose}
 use Rattle.end_points.specs.Bay.{BayView, Names, HandedOut}
@@ -28,10 +28,10 @@ use Rattle.mount_replay.specs.declared.opening.MountFail.{MountFail}
 use Rattle.mount_replay.specs.declared.opening.MountFail.TheVariants as fail
 use Rattle.block_device.specs.declared.device.Failed.{Failed}
 use Rattle.block_device.specs.declared.device.Failed.TheVariants as failed
-use Rattle.bstore_top.specs.declared.work_end.WorkEnd.{WorkEnd}
-use Rattle.bstore_top.specs.declared.work_end.WorkEnd.TheVariants.{Done, BadLine, NoSuper, BadRow, NotExact, WornOut, DeviceFault, OutOfMemory, BayFault}
-use Rattle.bstore_top.specs.Printed.{Output}
-use Rattle.bstore_top.specs.Reports.{ReportsStep}
+use Rattle.run_texts.specs.declared.work_end.WorkEnd.{WorkEnd}
+use Rattle.run_texts.specs.declared.work_end.WorkEnd.TheVariants.{Done, BadLine, NoSuper, BadRow, NotExact, WornOut, DeviceFault, OutOfMemory, BayFault}
+use Rattle.run_texts.specs.Printed.{Output}
+use Rattle.run_texts.specs.Reports.{ReportsStep}
 use Rattle.bstore_top.specs.Keeping.{KeepsStore}
 use Rattle.bstore_top.specs.Choice.{Ask, asks_of, ready_list, Position, at_position, IsDrawnRun}
 
@@ -113,10 +113,15 @@ seen disk dev_faults source_faults book = record { disk = disk; dev_faults = dev
 abbrev pub empty_book : Book
 empty_book = record { entries = []; commits = [] }
 
--- Why no device was opened: memory ran out, the script has a bad line, or the count of a source rose or that of the bay. The bay opened
--- no script then, or the script has lines.
+-- the bay opened the one script that was asked for, and neither it nor a read of the script has failed
+pub record IsReadWhole (source_faults : List ℕ) (before now : ℕ) : Type 0 where
+  pub source : source_faults ≡ 0 ∷ []
+  pub bay : now ≡ before
+
+-- Why no device was opened: memory ran out, the script has a bad line and no read up to it failed, or the count of a source rose or that of
+-- the bay. The bay opened no script then, or the script has lines.
 abbrev pub FailsBefore : WorkEnd → Option Names → List ℕ → List ℕ → ℕ → ℕ → Type 0
-FailsBefore (BadLine n) names script source_faults before now = HasBadLine names script n
+FailsBefore (BadLine n) names script source_faults before now = HasBadLine names script n × IsReadWhole source_faults before now
 FailsBefore OutOfMemory names script source_faults before now = Unit {0}
 FailsBefore BayFault names script source_faults before now =
     Any (λ n. 0 < n) source_faults ⊎ (Rose before now × ((source_faults ≡ []) ⊎ ((lines : List Line) × HasScript names script lines)))
@@ -182,9 +187,10 @@ pub record EndsUnopened (script : List ℕ) (end : WorkEnd) (seen : Seen) (names
   pub cause : FailsBefore end names script seen.source_faults before now
 
 -- the script was read and the device opened, and it comes back
-pub record EndsOpened (dev script : List ℕ) (seed : ℕ) (end : WorkEnd) (seen : Seen) (old new : BayView) : Type 0 where
+pub record EndsOpened (dev script : List ℕ) (seed : ℕ) (end : WorkEnd) (seen : Seen) (old new : BayView) (before now : ℕ) : Type 0 where
   pub lines : List Line
   pub has_script : HasScript old.names script lines
+  pub read : IsReadWhole seen.source_faults before now
   pub given : Disk
   pub handed_out : HandedOut old dev Plain given 0 new
   pub sound : IsSound given
@@ -198,7 +204,7 @@ pub record EndsOpened (dev script : List ℕ) (seed : ℕ) (end : WorkEnd) (seen
 -- how far a run came
 abbrev pub IsStepDone : List ℕ → List ℕ → ℕ → WorkEnd → Seen → BayView → BayView → ℕ → ℕ → Type 0
 IsStepDone dev script seed end seen bay_old bay_new before now =
-    EndsUnopened script end seen bay_old.names before now ⊎ EndsOpened dev script seed end seen bay_old bay_new
+    EndsUnopened script end seen bay_old.names before now ⊎ EndsOpened dev script seed end seen bay_old bay_new before now
 
 -- A run of `step`: how far it came, and the text of that.
 pub record RanStep (dev script : List ℕ) (seed status : ℕ) (seen : Seen) (bay_old bay_new : BayView) (before now : ℕ) (old new : Output) : Type 0 where

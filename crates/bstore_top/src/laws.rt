@@ -6,7 +6,7 @@ ghost use Rattle.store_steps.specs.Runs.{Call, IsRun};
 ghost use Rattle.bstore_top.specs.Choice.{Position, IsDrawnRun};
 ghost use Rattle.bstore_top.specs.StepRun.{RanStep, Seen};
 ghost use Rattle.bstore_top.specs.DumpRun.{RanDump, Dumped};
-ghost use Rattle.bstore_top.specs.Printed.{Output};
+ghost use Rattle.run_texts.specs.Printed.{Output};
 ghost use Rattle.bstore_top.specs.Finished.{Succeeded};
 ghost use Rattle.bstore_top.specs.GoodStart.{IsGoodStart, IsGoodStore, HasNoFault};
 

@@ -2,34 +2,22 @@
 //! bay gives, and prints what came of it.
 #![tactic(auto)]
 
-mod command_line;
-mod dump_texts;
 mod dump_work;
 mod generator;
-mod hex;
 mod laws;
 mod making;
 mod outcome;
-mod printing;
-mod replies;
 mod run_fail;
 mod running;
 mod script_work;
-mod status;
-mod step_texts;
 mod stepping;
-mod texts;
-mod work_end;
 
-pub use command_line::{CommandLine, FileName, read_words};
 pub use laws::{
     a_drawn_run_is_a_run, a_dump_that_returns_0_shows_all, a_good_dump_ends_well,
     a_good_start_ends_well, a_run_that_returns_0_has_succeeded,
 };
 pub use outcome::Outcome;
 pub use running::{solo, top};
-pub use status::{Status, Stop};
-pub use work_end::WorkEnd;
 
 #[cfg(test)]
 mod tests;

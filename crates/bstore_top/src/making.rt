@@ -1,14 +1,15 @@
 //! The work of the command `mkfs`.
 ghost use Rattle.std.specs.Prelude.{◌≡◌, ◌<◌, ◌≤◌, ◌+◌, ◌^◌, None, IsSomeAnd};
 ghost use Rattle.std.specs.Option.{option_map};
-ghost use Rattle.bstore_top.specs.declared.command_line.CommandLine.TheVariants.{Mkfs};
-ghost use Rattle.bstore_top.specs.CommandLine.{IsHalf, IsUnitCount};
+ghost use Rattle.command_words.specs.declared.command_line.CommandLine.TheVariants.{Mkfs};
+ghost use Rattle.command_words.specs.CommandLine.{IsHalf, IsUnitCount};
 ghost use Rattle.bstore_top.specs.Run.{HasCause, ComesBack, HasStore};
 
-use crate::{FileName, Stop};
 use block_device::Failed;
+use command_words::FileName;
 use end_points::{Bay, How};
 use mount_replay::{MkfsFail, mkfs};
+use run_texts::Stop;
 use std::alloc::Global;
 use unit_fields::limits::DEFAULT_PREFER;
 

@@ -1,22 +1,23 @@
 //! Runs, from the words to the outcome.
 ghost use Rattle.std.specs.Prelude.{◌≡◌, ◌<◌, [], map, IsSomeAnd};
 ghost use Rattle.std.specs.Option.{option_map};
-ghost use Rattle.bstore_top.specs.declared.command_line.CommandLine.TheVariants.{Mkfs, Step, Dump};
-ghost use Rattle.bstore_top.specs.CommandLine.{words_of, IsInRange, IsHalf, IsUnitCount, IsNoCommandLine};
-ghost use Rattle.bstore_top.specs.Status.{number};
-ghost use Rattle.bstore_top.specs.Printed.{output};
+ghost use Rattle.command_words.specs.declared.command_line.CommandLine.TheVariants.{Mkfs, Step, Dump};
+ghost use Rattle.command_words.specs.CommandLine.{words_of, IsInRange, IsHalf, IsUnitCount, IsNoCommandLine};
+ghost use Rattle.run_texts.specs.Status.{number};
+ghost use Rattle.run_texts.specs.Printed.{output};
 ghost use Rattle.bstore_top.specs.StepRun.{seen, RanStep};
 ghost use Rattle.bstore_top.specs.DumpRun.{RanDump};
-ghost use Rattle.bstore_top.specs.Reports.{ShowedUsage};
+ghost use Rattle.run_texts.specs.Reports.{ShowedUsage};
 ghost use Rattle.bstore_top.specs.Run.{Ran, RanMkfs, ForLine, ComesBack, CameBack, EachCrashLeavesPrefix, HasStore, IsBare, IsBareUnlessStep, LeavesBook};
 
+use crate::Outcome;
 use crate::dump_work::{DumpWork, dump_store};
 use crate::making::{Work, make_store};
-use crate::printing::{report_dump, report_mkfs, report_step, show_usage};
 use crate::script_work::{StepWork, run_store};
-use crate::{CommandLine, FileName, Outcome, Status, read_words};
+use command_words::{CommandLine, FileName, read_words};
 use end_points::{Bay, Gate, Sink};
 use object_model::Book;
+use run_texts::{Status, report_dump, report_mkfs, report_step, show_usage};
 use std::alloc::Global;
 
 /// An outcome of a run that opens no script and has no book.
@@ -55,7 +56,7 @@ fn run_mkfs<B: Bay, K: Sink>(
     ensures turns { result.turns.items ≡ [] }
 {
     let Work { stop, dev } = make_store(alloc, dev, half, units, bay);
-    let status = report_mkfs(alloc, half, units, stop, out);
+    let status = report_mkfs(half, units, stop, out);
     bare(alloc, status, dev)
 }
 
@@ -111,7 +112,7 @@ fn run_dump<B: Bay, K: Sink>(
     ensures turns { result.turns.items ≡ [] }
 {
     let DumpWork { end, walk, dev } = dump_store(alloc, dev, bay);
-    let status = report_dump(alloc, &walk, &end, out);
+    let status = report_dump(&walk, &end, out);
     bare(alloc, status, dev)
 }
 

@@ -1,23 +1,24 @@
 //! The work of the command `step`.
-ghost use Rattle.std.specs.Prelude.{◌≡◌, ◌<◌, ◌≤◌, ◌+◌, ◌^◌, [], None, map, length, IfOk, IfErr};
+ghost use Rattle.std.specs.Prelude.{◌≡◌, ◌<◌, ◌≤◌, ◌+◌, ◌^◌, [], None, map, length, IfOk, OnOk, IfErr};
 ghost use Rattle.std.specs.List.{AllByRecursion};
 ghost use Rattle.std.specs.Option.{option_map};
-ghost use Rattle.bstore_top.specs.declared.command_line.CommandLine.TheVariants.{Step};
+ghost use Rattle.command_words.specs.declared.command_line.CommandLine.TheVariants.{Step};
 ghost use Rattle.block_device.specs.Disk.{IsSound, IsFresh};
 ghost use Rattle.bstore_top.specs.Choice.{asks_of};
 ghost use Rattle.bstore_top.specs.Keeping.{KeepsStore};
 ghost use Rattle.bstore_top.specs.Stepping.{FitsLine};
-ghost use Rattle.bstore_top.specs.StepRun.{HasScript, FailsBefore, WorksOn, IsStepDone, seen, end_of_mount, end_of_run, end_of_bay, end_of_script};
+ghost use Rattle.bstore_top.specs.StepRun.{HasScript, IsReadWhole, FailsBefore, WorksOn, IsStepDone, seen, end_of_mount, end_of_run, end_of_bay, end_of_script};
 ghost use Rattle.mount_replay.specs.Calls.{IsLater};
 ghost use Rattle.bstore_top.specs.Run.{ComesBack};
 
 use crate::run_fail::RunFail;
 use crate::stepping::run_script;
-use crate::{FileName, WorkEnd};
 use block_device::{Device, Failed};
+use command_words::FileName;
 use end_points::{Bay, How};
 use mount_replay::{MountFail, mount, unmount};
 use object_model::Book;
+use run_texts::WorkEnd;
 use script_text::{Line, ScriptFail, read_script};
 use std::alloc::Global;
 
@@ -42,6 +43,7 @@ fn read<B: Bay>(
     requires { sources.old.items ≡ [] }
     ensures script { IfOk result (λ lines. HasScript (B.bay bay.old).names name.now lines.items) }
     ensures fits { IfOk result (λ lines. AllByRecursion FitsLine lines.items × (length (asks_of lines.items) ≤ 1048576)) }
+    ensures whole { OnOk result (IsReadWhole (map B.Src.faults sources.new.items) (B.faults bay.old) (B.faults bay.new)) }
     ensures cause { IfErr result (λ end. FailsBefore end (B.bay bay.old).names name.now (map B.Src.faults sources.new.items)
         (B.faults bay.old) (B.faults bay.new)) }
     ensures same { B.bay bay.new ≡ B.bay bay.old }

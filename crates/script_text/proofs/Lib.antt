@@ -2,7 +2,6 @@ pub mod Splits
 pub mod Spelled
 pub mod Digits
 pub mod Names
-pub mod Pushes
 pub mod Numbers
 pub mod DataWords
 pub mod Words

@@ -1,9 +1,10 @@
 //! Names as they are spelled.
-ghost use Rattle.std.specs.Prelude.{◌≡◌, ◌≢◌, ◌++◌, ◌∷◌, ◌<◌, ℕ, List, IfOk, OnOk, MatchOption, string_bytes};
-ghost use Rattle.script_text.specs.Grammar.{AreBytes, IsNameWord, is_plain, hex_digit, hex_pair, escape, escaped};
+ghost use Rattle.std.specs.Prelude.{◌≡◌, ◌≢◌, ◌++◌, ◌∷◌, ◌<◌, ℕ, List, IfOk, MatchOption};
+ghost use Rattle.script_text.specs.Grammar.{AreBytes, IsNameWord, is_plain, hex_digit, escape, escaped};
 
 use crate::hex::split_pair;
 use crate::split::split_first;
+use arrayvec::ArrayVec;
 use std::alloc::{AllocError, Global};
 use unit_fields::Name;
 use unit_fields::limits::NAME_LIMIT;
@@ -72,45 +73,29 @@ pub fn read_name(alloc: Global, word: &[u8]) -> Result<Option<Name>, AllocError>
 }
 
 /// A digit of sixteen, where those from ten on are capital letters.
-fn capital_digit(value: u8) -> char
+fn capital_digit(value: u8) -> u8
     requires { value < 16 }
     ensures { result ≡ hex_digit 0x41 value }
 {
-    let digit = if value < 10 {
+    if value < 10 {
         b'0' + value
     } else {
         b'A' + (value - 10)
-    };
-    char::from(digit)
-}
-
-/// Adds `%` and the two digits of a byte.
-fn push_pair(text: &mut String, byte: u8) -> Result<(), AllocError>
-    ensures { OnOk result (string_bytes text.new ≡ string_bytes text.old ++ (0x25 ∷ hex_pair 0x41 byte)) }
-{
-    text.push('%')?;
-    text.push(capital_digit(byte / 16))?;
-    text.push(capital_digit(byte % 16))
-}
-
-/// Adds a byte of a name as scripts spell it.
-fn push_byte(text: &mut String, byte: u8) -> Result<(), AllocError>
-    ensures { OnOk result (string_bytes text.new ≡ string_bytes text.old ++ escape byte) }
-{
-    if !is_plain_byte(byte) {
-        return push_pair(text, byte);
     }
-    text.push(char::from(byte))
 }
 
-/// Adds a name as scripts spell it: letters, digits, `.`, `_` and `-` stand for themselves, and every other byte is `%`
-/// and two hexadecimal digits with capital letters. Answers are printed so, and `read_name` reads such a word back.
-/// After an `Err` the text may have some of the name's bytes already.
-pub fn push_name(text: &mut String, name: &[u8]) -> Result<(), AllocError>
-    ensures { OnOk result (string_bytes text.new ≡ string_bytes text.old ++ escaped name.now) }
+/// A byte of a name as scripts spell it: a letter, a digit, `.`, `_` or `-` stands for itself, and every other byte is `%`
+/// and two hexadecimal digits with capital letters. Names are printed so, and `read_name` reads such a word back.
+pub fn spell_byte(byte: u8) -> ArrayVec<u8, 3>
+    ensures { result.items ≡ escape byte }
 {
-    for byte in name {
-        push_byte(text, *byte)?;
+    let mut spelling = ArrayVec::new();
+    if is_plain_byte(byte) {
+        spelling.push(byte);
+    } else {
+        spelling.push(b'%');
+        spelling.push(capital_digit(byte / 16));
+        spelling.push(capital_digit(byte % 16));
     }
-    Ok(())
+    spelling
 }

@@ -13,7 +13,7 @@ mod reader;
 mod script;
 mod split;
 
-pub use escape::push_name;
+pub use escape::spell_byte;
 pub use fail::ScriptFail;
 pub use laws::{
     one_bad_line, one_data, one_meaning, one_name, one_number, one_script, one_word_for_a_name,

@@ -1,4 +1,4 @@
-use Rattle.bstore_top.proofs.Words.{one_line}
+use Rattle.command_words.proofs.Words.{one_line}
 use Rattle.bstore_top.proofs.running.solo.Goals as goal
 
 pub returns-in-Some-clause-run : goal.returns-in-Some-clause-run

@@ -1,6 +1,0 @@
-use Rattle.std.proofs.Common.{◌≡◌, ◌*◌, ◌++◌, take, drop}
-use Rattle.bstore_top.specs.Hex.{hex_text}
-use Rattle.bstore_top.proofs.hex.write_digits.Given as goal
-
-abbrev pub invariant-bytes : goal.invariant-bytes
-invariant-bytes l = take (2 * l.i) l.digits ++ hex_text (drop l.i l.bytes) ≡ hex_text l.bytes

@@ -1,0 +1,7 @@
+use Rattle.std.proofs.Common.{ap}
+use Rattle.script_text.specs.Grammar.{escaped}
+use Rattle.run_texts.proofs.Adding.{both, said}
+use Rattle.run_texts.proofs.dump_texts.push_view.Goals as goal
+
+pub returns : goal.returns
+returns g c = both (both (both (both (both (both c.push_str.ensures (said (ap escaped c.as_slice.ensures.bytes) c.push_name.ensures)) c.push_str-2.ensures) c.push_number.ensures) c.push_str-3.ensures) c.push_sum.ensures) c.push_str-4.ensures

@@ -1,0 +1,5 @@
+use Rattle.run_texts.proofs.Adding.{both}
+use Rattle.run_texts.proofs.replies.push_objects.Goals as goal
+
+pub returns : goal.returns
+returns g c = both c.push_str.ensures c.push_names.ensures

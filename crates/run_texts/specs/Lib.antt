@@ -1,0 +1,9 @@
+pub mod Status
+pub mod Texts
+pub mod Hex
+pub mod Replies
+pub mod StepTexts
+pub mod DumpTexts
+pub mod Printed
+pub mod Printing
+pub mod Reports

@@ -1,0 +1,104 @@
+//! Reports: what came of a run is printed, and its status is told.
+ghost use Rattle.std.specs.Prelude.{◌≡◌, ◌+◌, ◌*◌, ◌≤◌, [], ◌++◌, List, ℕ, None};
+ghost use Rattle.run_texts.specs.Status.{number, end_number};
+ghost use Rattle.run_texts.specs.Texts.{mkfs_text};
+ghost use Rattle.run_texts.specs.Printed.{Output, output, Printed};
+ghost use Rattle.run_texts.specs.Printing.{Adds, PrintedSoFar};
+ghost use Rattle.run_texts.specs.StepTexts.{end_status};
+ghost use Rattle.run_texts.specs.Reports.{ReportsMkfs, ReportsStep, ReportsDump, ShowedUsage};
+
+use crate::dump_texts::{has_bad_view, push_dump};
+use crate::printer::Printer;
+use crate::replies::has_csum;
+use crate::step_texts::push_step;
+use crate::texts::{USAGE, push_made, push_stopped, push_too_small};
+use crate::{Status, Stop, WorkEnd};
+use end_points::{Fault, Sink};
+use object_model::Book;
+use read_facts::CollView;
+use std::alloc::Global;
+
+fn status_of(stop: Option<Stop>) -> Status
+    ensures { number result ≡ end_number stop }
+{
+    match stop {
+        None => Status::Done,
+        Some(stop) => Status::Stopped(stop),
+    }
+}
+
+/// Prints what still waits of a text, and says how the run has ended that has this status otherwise.
+fn print_rest<K: Sink>(text: Printer, out: &mut K, status: Status) -> Status
+    ensures { (start : Output) (printed : List ℕ) → PrintedSoFar text.failed start printed text.bytes (output (K.written out.old) (K.faults out.old)) →
+        Printed (number status) printed (number result) start (output (K.written out.new) (K.faults out.new)) }
+{
+    match text.finish(out) {
+        Ok(()) => status,
+        Err(Fault) => Status::SinkFault,
+    }
+}
+
+/// Adds the text of a run of `mkfs`.
+fn push_mkfs<K: Sink>(text: &mut Printer, out: &mut K, half: u32, units: u32, stop: Option<Stop>)
+    requires half { half ≤ 65536 }
+    requires units { stop ≡ None → 2 * half + 3 ≤ units }
+    ensures { Adds (mkfs_text half units stop) text.old text.new
+        (output (K.written out.old) (K.faults out.old)) (output (K.written out.new) (K.faults out.new)) }
+{
+    match stop {
+        None => push_made(text, out, half, units),
+        Some(Stop::Refused) => push_too_small(text, out, half, units),
+        Some(stop) => push_stopped(text, out, stop),
+    }
+}
+
+/// Prints what came of the work of `mkfs`, which was done or stopped for this, and says how the run has ended.
+pub fn report_mkfs<K: Sink>(half: u32, units: u32, stop: Option<Stop>, out: &mut K) -> Status
+    requires half { half ≤ 65536 }
+    requires units { stop ≡ None → 2 * half + 3 ≤ units }
+    ensures { ReportsMkfs half units stop (number result)
+        (output (K.written out.old) (K.faults out.old)) (output (K.written out.new) (K.faults out.new)) }
+{
+    let mut text = Printer::new();
+    push_mkfs(&mut text, out, half, units, stop);
+    print_rest(text, out, status_of(stop))
+}
+
+/// What a run stopped for that has met a bad unit, or not, if its work wasn't done or the store showed a bad unit.
+fn run_stop(bad: bool, end: &WorkEnd) -> Option<Stop>
+    ensures { end_number result ≡ end_status bad end.now }
+{
+    if bad { Some(Stop::Refused) } else { end.stop() }
+}
+
+/// Prints what came of a run of `step`, and says how the run has ended. Memory is taken for speed alone: where there is none,
+/// the same is printed.
+pub fn report_step<K: Sink>(alloc: Global, book: &Book, end: &WorkEnd, out: &mut K) -> Status
+    ensures { ReportsStep book.now end.now (number result)
+        (output (K.written out.old) (K.faults out.old)) (output (K.written out.new) (K.faults out.new)) }
+{
+    let mut text = Printer::new();
+    push_step(alloc, &mut text, out, book, end);
+    let stop = run_stop(has_csum(book.entries.as_slice()), end);
+    print_rest(text, out, status_of(stop))
+}
+
+/// Prints what came of a run of `dump`, and says how the run has ended.
+pub fn report_dump<K: Sink>(walk: &[CollView], end: &WorkEnd, out: &mut K) -> Status
+    ensures { ReportsDump walk.now end.now (number result)
+        (output (K.written out.old) (K.faults out.old)) (output (K.written out.new) (K.faults out.new)) }
+{
+    let mut text = Printer::new();
+    push_dump(&mut text, out, walk, end);
+    let stop = run_stop(has_bad_view(walk), end);
+    print_rest(text, out, status_of(stop))
+}
+
+/// Prints how the program is called.
+pub fn show_usage<K: Sink>(out: &mut K) -> Status
+    ensures { ShowedUsage (number result) (output (K.written out.old) (K.faults out.old)) (output (K.written out.new) (K.faults out.new)) }
+{
+    let mut text = Printer::new();
+    text.push_str(out, USAGE);
+    print_rest(text, out, Status::NotACommandLine)
+}

@@ -3,13 +3,13 @@ use Rattle.std.proofs.Common.{◌≡◌, ◌≢◌, inl, inr, ℕ, ◌+◌, ◌<
 use Rattle.std.proofs.Common.{length, Option, Some, None, MatchOption, refl, sym, ap, subst, ◌∙◌, arith, append_assoc, append-nil, length-append}
 use Rattle.std.specs.Prelude.{is_some, OnOk, Result, Ok, Err}
 use Rattle.script_text.specs.Grammar.{HasNo, IsLineOf, IsPassedOver, command_count}
-use Rattle.script_text.specs.Script.{script_limit, line_limit, lines_of, ended, AreGood, IsScript, IsOutside, IsBadAt}
-use Rattle.script_text.specs.Reading.{HasSaid, IsBadBehind, Ends, IsWithin, IsAfter, Takes, HasTaken, IsDone}
+use Rattle.script_text.specs.Script.{script_limit, line_limit, lines_of, ended, kept_behind, AreGood, IsScript, IsOutside, IsBadAt}
+use Rattle.script_text.specs.Reading.{HasSaid, IsBadBehind, Ends, IsWithin, IsAfter, Takes, HasTaken, IsDone, ends_in_wait}
 use Rattle.script_text.specs.declared.line.Line.{Line}
 use Rattle.script_text.specs.declared.line.What.{What}
 use Rattle.script_text.specs.declared.reader.Reader.{Reader}
 use Rattle.script_text.proofs.Splits.{has_no-append}
-use Rattle.script_text.proofs.Scripts.{good-push, numbered_none, numbered_some, length_says, commands-append}
+use Rattle.script_text.proofs.Scripts.{good-push, kept_none, kept_some, length_says, commands-append}
 use Rattle.script_text.proofs.Lines.{lines_behind, lines_of_ended, lines_of_last, first_line, ended-push, feeds-push}
 
 pub kept_passed : (texts : List (List ℕ)) (text : List ℕ) (lines : List Line) (room : ℕ) → HasSaid texts lines room → length text ≤ line_limit
@@ -17,18 +17,19 @@ pub kept_passed : (texts : List (List ℕ)) (text : List ℕ) (lines : List Line
 kept_passed texts text lines room has le passed = record {
   said = has.said ++ (None ∷ []);
   good = good-push texts text has.said None has.good passed le (omega (arith, has.left));
-  numbers = has.numbers ∙ sym (numbered_none 1 has.said);
+  numbers = has.numbers ∙ sym (kept_none has.said);
   left = omega (arith, has.left, commands-append has.said (None ∷ []));
 }
 
 pub kept_line : (texts : List (List ℕ)) (text : List ℕ) (old new : List Line) (room left n : ℕ) (what : What) → HasSaid texts old room
     → length text ≤ line_limit → IsLineOf text what
-    → left + command_count what ≡ room → n ≡ length texts + 1 → new ≡ old ++ (record { line = n; what = what } ∷ []) → HasSaid (texts ++ (text ∷ [])) new left
+    → left + command_count what ≡ room → n ≡ length texts + 1 → new ≡ old ++ kept_behind (ends_in_wait false old) (record { line = n; what = what })
+    → HasSaid (texts ++ (text ∷ [])) new left
 kept_line texts text old new room left n what has le line rest number pushed = record {
   said = has.said ++ (Some what ∷ []);
   good = good-push texts text has.said (Some what) has.good line le (omega (arith, has.left, rest));
-  numbers = pushed ∙ ap (λ (l : List Line). l ++ (record { line = n; what = what } ∷ [])) has.numbers
-      ∙ sym (numbered_some 1 n has.said what (omega (arith, number, length_says texts has.said has.good.says)));
+  numbers = pushed ∙ ap (λ (l : List Line). l ++ kept_behind (ends_in_wait false l) (record { line = n; what = what })) has.numbers
+      ∙ sym (kept_some n has.said what (omega (arith, number, length_says texts has.said has.good.says)));
   left = omega (arith, has.left, rest, commands-append has.said (Some what ∷ []));
 }
 

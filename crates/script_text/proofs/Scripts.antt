@@ -1,12 +1,16 @@
 -- What a script says, and its first bad line.
 use Rattle.std.proofs.Common.{◌≡◌, inl, inr, ℕ, suc, ◌+◌, ◌<◌, ◌≤◌, List, [], ◌∷◌, ◌++◌}
-use Rattle.std.proofs.Common.{length, Option, Some, None, refl, sym, ap, subst, ◌∙◌, arith, length-append}
+use Rattle.std.proofs.Common.{Bool, true, false, if◌then◌else◌, length, Option, Some, None, refl, sym, ap, subst, ◌∙◌, arith, append_assoc, append-nil, length-append}
+use Rattle.std.specs.Prelude.{slice_get, ◌-◌, ◌&&◌}
 use Rattle.std.specs.List.{AllByRecursion}
 use Rattle.std.proofs.lemmas.Bool.{cases_lt}
 use Rattle.script_text.specs.Script.{line_limit, command_limit, lines_of, ended, Says, EachSays, commands}
-use Rattle.script_text.specs.Script.{numbered, AreGood, IsScript, IsPastLimit, IsBad, IsBadAt}
+use Rattle.script_text.specs.Script.{numbered, kept_behind, waits_once, kept_lines, AreGood, IsScript, IsPastLimit, IsBad, IsBadAt}
+use Rattle.script_text.specs.Grammar.{command_count, is_wait}
+use Rattle.script_text.specs.Reading.{ends_in_wait}
 use Rattle.script_text.specs.declared.line.Line.{Line}
 use Rattle.script_text.specs.declared.line.What.{What}
+use Rattle.script_text.specs.declared.line.What.TheVariants.{Command, Wait}
 use Rattle.script_text.proofs.Forms.{passed_or_line, line_says_one}
 
 -- a line says one thing, or nothing
@@ -27,8 +31,42 @@ each_says_one (t ∷ ts) (a ∷ xs) (b ∷ ys) x y =
     let tail : xs ≡ ys = each_says_one ts xs ys x.1 y.1 in cc
 
 pub one_list : (bytes : List ℕ) (a b : List Line) → IsScript bytes a → IsScript bytes b → a ≡ b
-one_list bytes a b x y = x.numbers ∙ ap (λ (s : List (Option What)). numbered 1 s) (each_says_one (lines_of bytes) x.said y.said x.good.says y.good.says)
+one_list bytes a b x y = x.numbers ∙ ap kept_lines (each_says_one (lines_of bytes) x.said y.said x.good.says y.good.says)
     ∙ sym y.numbers
+
+-- ---- `wait`s behind one another
+
+-- the last line of a list tells whether it ends in a `wait`
+pub last_line : (waits : Bool) (ls : List Line) (l : Line) → Some l ≡ slice_get ls (length ls - 1) → is_wait l.what ≡ ends_in_wait waits ls
+last_line waits [] l is = absurd cc
+last_line waits (x ∷ []) l is = let same : l ≡ x = cc in ap (λ (y : Line). is_wait y.what) same
+last_line waits (x ∷ y ∷ ls) l is =
+    let before : length (x ∷ y ∷ ls) - 1 ≡ suc (length (y ∷ ls) - 1) = omega arith in
+    last_line waits (y ∷ ls) l (is ∙ ap (λ (i : ℕ). slice_get (x ∷ y ∷ ls) i) before)
+
+-- one line more
+once_push : (waits : Bool) (ls : List Line) (l : Line) → waits_once waits (ls ++ (l ∷ [])) ≡ waits_once waits ls ++ kept_behind (ends_in_wait waits ls) l
+once_push waits [] l = append-nil (kept_behind waits l)
+once_push waits (x ∷ ls) l =
+    ap (λ (rest : List Line). kept_behind waits x ++ rest) (once_push (is_wait x.what) ls l)
+    ∙ sym (append_assoc (kept_behind waits x) (waits_once (is_wait x.what) ls) (kept_behind (ends_in_wait (is_wait x.what) ls) l))
+
+ends_past : (x : Line) (rest : List Line) (b : Bool) → is_wait x.what ≡ b → ends_in_wait true ((if b then [] else x ∷ []) ++ rest) ≡ ends_in_wait b rest
+ends_past x rest true is = refl
+ends_past x rest false is = ap (λ (b : Bool). ends_in_wait b rest) is
+
+ends_behind : (waits : Bool) (x : Line) (rest : List Line) → ends_in_wait waits (kept_behind waits x ++ rest) ≡ ends_in_wait (is_wait x.what) rest
+ends_behind true x rest = ends_past x rest (is_wait x.what) refl
+ends_behind false x rest = refl
+
+ends_same : (waits : Bool) (ls : List Line) → ends_in_wait waits (waits_once waits ls) ≡ ends_in_wait waits ls
+ends_same waits [] = refl
+ends_same waits (x ∷ ls) = ends_behind waits x (waits_once (is_wait x.what) ls) ∙ ends_same (is_wait x.what) ls
+
+kept_push : (said : List (Option What)) (l : Line)
+    → waits_once false (numbered 1 said ++ (l ∷ [])) ≡ kept_lines said ++ kept_behind (ends_in_wait false (kept_lines said)) l
+kept_push said l = once_push false (numbered 1 said) l
+    ∙ ap (λ (b : Bool). kept_lines said ++ kept_behind b l) (sym (ends_same false (numbered 1 said)))
 
 -- ---- lists of lines, cut
 
@@ -168,3 +206,23 @@ numbered_some n m [] what is = let here : n ≡ m = omega (arith, is) in ap (λ 
 numbered_some n m (None ∷ more) what is = numbered_some (n + 1) m more what (omega (arith, is))
 numbered_some n m (Some other ∷ more) what is = ap (λ (l : List Line). record { line = n; what = other } ∷ l)
     (numbered_some (n + 1) m more what (omega (arith, is)))
+
+pub kept_none : (said : List (Option What)) → kept_lines (said ++ (None ∷ [])) ≡ kept_lines said
+kept_none said = ap (λ (ls : List Line). waits_once false ls) (numbered_none 1 said)
+
+pub kept_some : (n : ℕ) (said : List (Option What)) (what : What) → n ≡ 1 + length said
+    → kept_lines (said ++ (Some what ∷ [])) ≡ kept_lines said ++ kept_behind (ends_in_wait false (kept_lines said)) (record { line = n; what = what })
+kept_some n said what is = ap (λ (ls : List Line). waits_once false ls) (numbered_some 1 n said what is)
+    ∙ kept_push said (record { line = n; what = what })
+
+-- a line is added, or it is a `wait` behind another
+pub kept_added : (waits : Bool) (old : List Line) (l : Line) (b : Bool) → b ≡ (waits && is_wait l.what) → b ≡ false → old ++ (l ∷ []) ≡ old ++ kept_behind waits l
+kept_added waits old l b is test = ap (λ (t : Bool). old ++ (if t then [] else l ∷ [])) (sym test ∙ is)
+
+pub kept_passed_over : (waits : Bool) (old : List Line) (l : Line) (b : Bool) → b ≡ (waits && is_wait l.what) → b ≡ true → old ≡ old ++ kept_behind waits l
+kept_passed_over waits old l b is test = sym (append-nil old) ∙ ap (λ (t : Bool). old ++ (if t then [] else l ∷ [])) (sym test ∙ is)
+
+pub wait_counts_none : (waits b : Bool) (what : What) → b ≡ (waits && is_wait what) → b ≡ true → command_count what ≡ 0
+wait_counts_none waits b Wait is test = refl
+wait_counts_none true b (Command command) is test = let never : true ≡ false = sym test ∙ is in absurd cc
+wait_counts_none false b (Command command) is test = let never : true ≡ false = sym test ∙ is in absurd cc

@@ -1,6 +1,6 @@
 -- How a line is spelled. A line says at most one thing, and data may have two spellings.
 use Rattle.std.specs.Prelude.{◌≡◌, ◌≢◌, ◌⊎◌, ℕ, ◌+◌, ◌-◌, ◌/◌, ◌%◌, ◌^◌, ◌<◌, ◌≤◌, nat_lt, nat_le, ◌==◌}
-use Rattle.std.specs.Prelude.{Bool, ◌&&◌, ◌||◌, if◌then◌else◌, List, [], ◌∷◌, ◌++◌, length, replicate, codes, decimal}
+use Rattle.std.specs.Prelude.{Bool, true, false, ◌&&◌, ◌||◌, if◌then◌else◌, List, [], ◌∷◌, ◌++◌, length, replicate, codes, decimal}
 use Rattle.std.specs.List.{AllByRecursion}
 use Rattle.unit_fields.specs.Names.{IsCollName, IsName}
 use Rattle.object_model.specs.declared.op.Op.{Op}
@@ -203,6 +203,10 @@ op_line coll op = Command (command.Change (record { coll = coll; ops = op ∷ []
 abbrev pub command_count : What → ℕ
 command_count (Command command) = 1
 command_count Wait = 0
+
+abbrev pub is_wait : What → Bool
+is_wait (Command command) = false
+is_wait Wait = true
 
 -- an empty line, or a comment
 abbrev pub IsPassedOver : List ℕ → Type 0

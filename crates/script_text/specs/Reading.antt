@@ -2,8 +2,8 @@
 use Rattle.std.specs.Prelude.{◌≡◌, ◌⊎◌, slice_index, ℕ, ◌+◌, ◌≤◌, Bool, true, false, List, [], ◌∷◌, ◌++◌, length, Option, Some, None, MatchOption, IfSome}
 use Rattle.std.specs.List.{AllByRecursion}
 use Rattle.unit_fields.specs.Names.{IsCollName}
-use Rattle.script_text.specs.Grammar.{HasNo, in_words, IsNameWord, AreWordsOf, Fits, IsLineOf, IsPassedOver}
-use Rattle.script_text.specs.Script.{script_limit, line_limit, command_limit, ended, commands, numbered}
+use Rattle.script_text.specs.Grammar.{HasNo, in_words, IsNameWord, AreWordsOf, Fits, IsLineOf, IsPassedOver, is_wait}
+use Rattle.script_text.specs.Script.{script_limit, line_limit, command_limit, ended, commands, kept_lines}
 use Rattle.script_text.specs.Script.{AreGood, IsOutside, IsOneTooMany, IsScript, IsBadAt, IsTextOf}
 use Rattle.script_text.specs.declared.fail.ScriptFail.{ScriptFail}
 use Rattle.script_text.specs.declared.fail.ScriptFail.TheVariants as fail
@@ -41,11 +41,16 @@ IsReading text reading.PassedOver = IsPassedOver text
 IsReading text (reading.Says what) = IsLineOf text what
 IsReading text reading.Outside = IsOutside text
 
+-- the last of these lines is a `wait`; where there is none, the one before them is
+abbrev pub ends_in_wait : Bool → List Line → Bool
+ends_in_wait waits [] = waits
+ends_in_wait waits (l ∷ ls) = ends_in_wait (is_wait l.what) ls
+
 -- the texts are good, give these lines, and leave room for so many commands
 pub record HasSaid (texts : List (List ℕ)) (lines : List Line) (room : ℕ) : Type 0 where
   pub said : List (Option What)
   pub good : AreGood texts said
-  pub numbers : lines ≡ numbered 1 said
+  pub numbers : lines ≡ kept_lines said
   pub left : room + commands said ≡ command_limit
 
 -- the text behind these is the first bad line, by itself or as a command

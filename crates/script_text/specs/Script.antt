@@ -1,7 +1,7 @@
 -- What a script says, and which of its lines is the first bad one.
-use Rattle.std.specs.Prelude.{◌≡◌, ◌⊎◌, ℕ, ◌+◌, ◌<◌, ◌≤◌, ◌==◌, if◌then◌else◌, List, [], ◌∷◌, ◌++◌, length, Option, Some, None, IfSome}
+use Rattle.std.specs.Prelude.{◌≡◌, ◌⊎◌, ℕ, ◌+◌, ◌<◌, ◌≤◌, ◌==◌, Bool, false, ◌&&◌, if◌then◌else◌, List, [], ◌∷◌, ◌++◌, length, Option, Some, None, IfSome}
 use Rattle.std.specs.List.{AllByRecursion}
-use Rattle.script_text.specs.Grammar.{IsLineOf, IsPassedOver, command_count}
+use Rattle.script_text.specs.Grammar.{IsLineOf, IsPassedOver, command_count, is_wait}
 use Rattle.script_text.specs.declared.line.Line.{Line}
 use Rattle.script_text.specs.declared.line.What.{What}
 
@@ -56,6 +56,19 @@ numbered n [] = []
 numbered n (None ∷ more) = numbered (n + 1) more
 numbered n (Some what ∷ more) = record { line = n; what = what } ∷ numbered (n + 1) more
 
+-- a line is kept, unless it is a `wait` behind a `wait`, which asks for nothing more
+abbrev pub kept_behind : Bool → Line → List Line
+kept_behind waits l = if waits && is_wait l.what then [] else l ∷ []
+
+-- the lines that are kept, where the one before them is a `wait`, or isn't
+abbrev pub waits_once : Bool → List Line → List Line
+waits_once waits [] = []
+waits_once waits (l ∷ ls) = kept_behind waits l ++ waits_once (is_wait l.what) ls
+
+-- the lines of a script: those that say something, but for a `wait` behind a `wait`, whatever empty lines and comments stand between them
+abbrev pub kept_lines : List (Option What) → List Line
+kept_lines said = waits_once false (numbered 1 said)
+
 -- lines within the grammar and the limits, and what they say
 pub record AreGood (texts : List (List ℕ)) (said : List (Option What)) : Type 0 where
   pub says : EachSays texts said
@@ -66,7 +79,7 @@ pub record AreGood (texts : List (List ℕ)) (said : List (Option What)) : Type 
 pub record IsScript (bytes : List ℕ) (lines : List Line) : Type 0 where
   pub said : List (Option What)
   pub good : AreGood (lines_of bytes) said
-  pub numbers : lines ≡ numbered 1 said
+  pub numbers : lines ≡ kept_lines said
   pub small : length bytes ≤ script_limit
 
 -- a line outside the grammar

@@ -1,15 +1,72 @@
 //! Data as it is spelled.
-ghost use Rattle.std.specs.Prelude.{◌≡◌, ℕ, List, Some, length, IfOk, IfSome, MatchOption};
-ghost use Rattle.script_text.specs.Grammar.{IsDataWord, IsFill};
+ghost use Rattle.std.specs.Prelude.{◌≡◌, ◌≢◌, ℕ, List, Some, length, replicate, IfOk, IfSome, MatchOption};
+ghost use Rattle.script_text.specs.Grammar.{AreBytes, hex_pair, spelled_by, IsDataWord, IsFill};
 
 use crate::hex::{read_hex, split_pair};
 use crate::number::read_number;
 use crate::split::{split_first, split_front};
 use byte_maps::Bytes;
 use std::alloc::{AllocError, Global};
+use std::marker::Model;
 
 /// The most bytes that a fill has.
 const FILL_LIMIT: u64 = 2097152;
+
+/// Bytes in memory in proportion to the word that spells them: those of a `fill` are its byte and their count.
+#[derive(Drop)]
+pub struct Data {
+    spelled: Spelled,
+}
+
+/// How data are spelled.
+#[derive(Drop)]
+enum Spelled {
+    Hex(Bytes),
+    Fill { byte: u8, count: u64 },
+}
+
+impl Model for Data {
+    ghost use Rattle.std.specs.Prelude.{ℕ, List};
+
+    ghost Value = { List ℕ };
+
+    ghost use Rattle.script_text.specs.Kept.{spelled_bytes};
+
+    ghost view = { λ a. spelled_bytes a.spelled };
+}
+
+impl Data {
+    /// The bytes that digits spell.
+    fn hex(bytes: Bytes) -> Data
+        ensures { result ≡ bytes }
+    {
+        Data {
+            spelled: Spelled::Hex(bytes),
+        }
+    }
+
+    /// So many times this byte.
+    fn fill(byte: u8, count: u64) -> Data
+        ensures { result ≡ replicate count byte }
+    {
+        Data {
+            spelled: Spelled::Fill { byte, count },
+        }
+    }
+
+    /// The bytes, written out: those of a `fill` take their memory here.
+    pub fn into_bytes(self, alloc: Global) -> Result<Bytes, AllocError>
+        ensures { IfOk result (λ bytes. bytes ≡ self) }
+    {
+        match self.spelled {
+            Spelled::Hex(bytes) => Ok(bytes),
+            Spelled::Fill { byte, count } => {
+                let bytes = vec![in alloc; byte; count as usize]?;
+                Ok(Bytes::from_vec(bytes))
+            }
+        }
+    }
+}
 
 /// The byte and the count of a fill, `XX:NUM`.
 fn read_fill(text: &[u8]) -> Option<(u8, u64)>
@@ -49,13 +106,24 @@ pub fn data_size(word: &[u8]) -> Option<u64>
     Some(count)
 }
 
+/// The data that digits spell.
+fn read_digits(alloc: Global, digits: &[u8]) -> Result<Option<Data>, AllocError>
+    ensures { IfOk result (λ found. MatchOption found ((bytes : List ℕ) → AreBytes bytes → digits.now ≢ spelled_by (hex_pair 0x61) bytes)
+        (λ bytes. AreBytes bytes × (digits.now ≡ spelled_by (hex_pair 0x61) bytes))) }
+{
+    match read_hex(alloc, digits)? {
+        Some(bytes) => Ok(Some(Data::hex(bytes))),
+        None => Ok(None),
+    }
+}
+
 /// The data that a word spells.
-pub fn read_data(alloc: Global, word: &[u8]) -> Result<Option<Bytes>, AllocError>
+pub fn read_data(alloc: Global, word: &[u8]) -> Result<Option<Data>, AllocError>
     ensures read { IfOk result (λ found. (bytes : List ℕ) → IsDataWord word.now bytes → found ≡ Some bytes) }
     ensures spelled { IfOk result (λ found. IfSome found (IsDataWord word.now)) }
 {
     if let Some(digits) = split_front(word, b"hex:") {
-        return read_hex(alloc, digits);
+        return read_digits(alloc, digits);
     }
     let Some(text) = split_front(word, b"fill:") else {
         return Ok(None);
@@ -63,6 +131,5 @@ pub fn read_data(alloc: Global, word: &[u8]) -> Result<Option<Bytes>, AllocError
     let Some((byte, count)) = read_fill(text) else {
         return Ok(None);
     };
-    let bytes = vec![in alloc; byte; count as usize]?;
-    Ok(Some(Bytes::from_vec(bytes)))
+    Ok(Some(Data::fill(byte, count)))
 }

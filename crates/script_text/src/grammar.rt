@@ -1,14 +1,15 @@
 //! What a line says.
 ghost use Rattle.std.specs.Prelude.{◌≡◌, ◌↔◌, ◌<◌, ◌%◌, ◌++◌, ◌∷◌, [], ℕ, List, IfOk, MatchOption, IsTrue, codes};
-ghost use Rattle.script_text.specs.Grammar.{HasNo, IsPassedOver, op_line};
+ghost use Rattle.script_text.specs.Grammar.{HasNo, IsPassedOver};
 ghost use Rattle.script_text.specs.Reading.{IsReading, NamesObject, Reads, ReadsWords};
 
-use crate::What;
 use crate::data::{data_size, read_data};
 use crate::escape::read_name;
 use crate::number::read_number;
+use crate::said::change;
 use crate::split::{four_words, split_once, two_words};
-use object_model::{Command, Op, Transaction};
+use crate::{Said, What};
+use object_model::{Command, Op};
 use std::alloc::{AllocError, Global};
 use unit_fields::{CollName, Name};
 
@@ -20,30 +21,20 @@ const PAGE_BYTES: u64 = 4096;
 pub enum Reading {
     /// An empty line, or a comment.
     PassedOver,
-    Says(What),
+    Says(Said),
     /// It is outside the grammar.
     Outside,
 }
 
-/// A transaction of one operation.
-fn change(alloc: Global, coll: CollName, op: Op) -> Result<What, AllocError>
-    ensures { IfOk result (λ what. what ≡ op_line coll op) }
-{
-    match Transaction::new(alloc, coll, op) {
-        Ok(change) => Ok(What::Command(Command::Change(change))),
-        Err(_) => Err(AllocError),
-    }
-}
-
 /// `mkcoll C`: what a line says that has this behind its first word.
-fn read_mkcoll(alloc: Global, rest: &[u8]) -> Result<Option<What>, AllocError>
+fn read_mkcoll(alloc: Global, rest: &[u8]) -> Result<Option<Said>, AllocError>
     ensures { IfOk result (Reads (codes "mkcoll" ++ (0x20 ∷ rest.now))) }
 {
     let Some(coll) = CollName::read(alloc, rest)? else {
         return Ok(None);
     };
     let what = change(alloc, coll, Op::MkColl)?;
-    Ok(Some(what))
+    Ok(Some(Said::of(what)))
 }
 
 /// `C O`: the names of a collection and of an object in it.
@@ -64,44 +55,44 @@ fn read_object(alloc: Global, text: &[u8]) -> Result<Option<(CollName, Name)>, A
 }
 
 /// `touch C O`: what a line says that has this behind its first word.
-fn read_touch(alloc: Global, rest: &[u8]) -> Result<Option<What>, AllocError>
+fn read_touch(alloc: Global, rest: &[u8]) -> Result<Option<Said>, AllocError>
     ensures { IfOk result (Reads (codes "touch" ++ (0x20 ∷ rest.now))) }
 {
     let Some((coll, object)) = read_object(alloc, rest)? else {
         return Ok(None);
     };
     let what = change(alloc, coll, Op::Touch { object })?;
-    Ok(Some(what))
+    Ok(Some(Said::of(what)))
 }
 
 /// `sum C O`: what a line says that has this behind its first word.
-fn read_sum(alloc: Global, rest: &[u8]) -> Result<Option<What>, AllocError>
+fn read_sum(alloc: Global, rest: &[u8]) -> Result<Option<Said>, AllocError>
     ensures { IfOk result (Reads (codes "sum" ++ (0x20 ∷ rest.now))) }
 {
     let Some((coll, object)) = read_object(alloc, rest)? else {
         return Ok(None);
     };
-    Ok(Some(What::Command(Command::Sum { coll, object })))
+    Ok(Some(Said::of(What::Command(Command::Sum { coll, object }))))
 }
 
 /// `stat C O`: what a line says that has this behind its first word.
-fn read_stat(alloc: Global, rest: &[u8]) -> Result<Option<What>, AllocError>
+fn read_stat(alloc: Global, rest: &[u8]) -> Result<Option<Said>, AllocError>
     ensures { IfOk result (Reads (codes "stat" ++ (0x20 ∷ rest.now))) }
 {
     let Some((coll, object)) = read_object(alloc, rest)? else {
         return Ok(None);
     };
-    Ok(Some(What::Command(Command::Stat { coll, object })))
+    Ok(Some(Said::of(What::Command(Command::Stat { coll, object }))))
 }
 
 /// `list C`: what a line says that has this behind its first word.
-fn read_list(alloc: Global, rest: &[u8]) -> Result<Option<What>, AllocError>
+fn read_list(alloc: Global, rest: &[u8]) -> Result<Option<Said>, AllocError>
     ensures { IfOk result (Reads (codes "list" ++ (0x20 ∷ rest.now))) }
 {
     let Some(coll) = CollName::read(alloc, rest)? else {
         return Ok(None);
     };
-    Ok(Some(What::Command(Command::List { coll })))
+    Ok(Some(Said::of(What::Command(Command::List { coll }))))
 }
 
 /// What the words of a read of an object's bytes say.
@@ -111,7 +102,7 @@ fn read_of(
     object: &[u8],
     off: &[u8],
     len: &[u8],
-) -> Result<Option<What>, AllocError>
+) -> Result<Option<Said>, AllocError>
     ensures { IfOk result (ReadsWords (codes "read" ∷ coll.now ∷ object.now ∷ off.now ∷ len.now ∷ [])) }
 {
     let Some(off) = read_number(off) else {
@@ -126,16 +117,16 @@ fn read_of(
     let Some(object) = read_name(alloc, object)? else {
         return Ok(None);
     };
-    Ok(Some(What::Command(Command::Read {
+    Ok(Some(Said::of(What::Command(Command::Read {
         coll,
         object,
         off,
         len,
-    })))
+    }))))
 }
 
 /// `read C O NUM NUM`: what a line says that has this behind its first word.
-fn read_read(alloc: Global, rest: &[u8]) -> Result<Option<What>, AllocError>
+fn read_read(alloc: Global, rest: &[u8]) -> Result<Option<Said>, AllocError>
     ensures { IfOk result (Reads (codes "read" ++ (0x20 ∷ rest.now))) }
 {
     let Some((coll, object, off, len)) = four_words(rest) else {
@@ -151,14 +142,14 @@ fn is_whole_pages(off: u64, size: u64) -> bool
     off % PAGE_BYTES == 0 && size % PAGE_BYTES == 0 && size > 0
 }
 
-/// What the words of a write say. The data are made last, once all else is known to be good.
+/// What the words of a write say. The data are read last, once all else is known to be good.
 fn write_of(
     alloc: Global,
     coll: &[u8],
     object: &[u8],
     off: &[u8],
     data_word: &[u8],
-) -> Result<Option<What>, AllocError>
+) -> Result<Option<Said>, AllocError>
     ensures { IfOk result (ReadsWords (codes "write" ∷ coll.now ∷ object.now ∷ off.now ∷ data_word.now ∷ [])) }
 {
     let Some(off) = read_number(off) else {
@@ -179,12 +170,11 @@ fn write_of(
     let Some(bytes) = read_data(alloc, data_word)? else {
         return Ok(None);
     };
-    let what = change(alloc, coll, Op::Write { object, off, bytes })?;
-    Ok(Some(what))
+    Ok(Some(Said::write(coll, object, off, bytes)))
 }
 
 /// `write C O NUM DATA`: what a line says that has this behind its first word.
-fn read_write(alloc: Global, rest: &[u8]) -> Result<Option<What>, AllocError>
+fn read_write(alloc: Global, rest: &[u8]) -> Result<Option<Said>, AllocError>
     ensures { IfOk result (Reads (codes "write" ++ (0x20 ∷ rest.now))) }
 {
     let Some((coll, object, off, data)) = four_words(rest) else {
@@ -194,7 +184,7 @@ fn read_write(alloc: Global, rest: &[u8]) -> Result<Option<What>, AllocError>
 }
 
 /// What a line of several words says.
-fn read_words(alloc: Global, word: &[u8], rest: &[u8]) -> Result<Option<What>, AllocError>
+fn read_words(alloc: Global, word: &[u8], rest: &[u8]) -> Result<Option<Said>, AllocError>
     requires { HasNo 0x20 word.now }
     ensures { IfOk result (Reads (word.now ++ (0x20 ∷ rest.now))) }
 {
@@ -218,12 +208,12 @@ fn read_words(alloc: Global, word: &[u8], rest: &[u8]) -> Result<Option<What>, A
 }
 
 /// What a line says.
-fn read_line(alloc: Global, text: &[u8]) -> Result<Option<What>, AllocError>
+fn read_line(alloc: Global, text: &[u8]) -> Result<Option<Said>, AllocError>
     ensures { IfOk result (Reads text.now) }
 {
     match split_once(text, b' ') {
         Some((word, rest)) => read_words(alloc, word, rest),
-        None if text == b"wait".as_slice() => Ok(Some(What::Wait)),
+        None if text == b"wait".as_slice() => Ok(Some(Said::of(What::Wait))),
         None => Ok(None),
     }
 }

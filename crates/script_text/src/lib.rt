@@ -10,6 +10,7 @@ mod laws;
 mod line;
 mod number;
 mod reader;
+mod said;
 mod script;
 mod split;
 
@@ -20,6 +21,7 @@ pub use laws::{
     script_or_bad,
 };
 pub use line::{Line, What};
+pub use said::Said;
 pub use script::read_script;
 
 #[cfg(test)]

@@ -2,6 +2,7 @@
 ghost use Rattle.std.specs.Prelude.{◌≡◌};
 ghost use Rattle.script_text.specs.Grammar.{command_count};
 
+use crate::Said;
 use object_model::Command;
 
 /// A line that says something.
@@ -9,7 +10,7 @@ use object_model::Command;
 pub struct Line {
     /// Its number in the script, from 1 on. Empty lines and comments count too.
     pub line: u32,
-    pub what: What,
+    pub what: Said,
 }
 
 /// What a line says, as `IsLineOf` of `specs/Grammar.antt` has it.

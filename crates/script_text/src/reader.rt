@@ -1,12 +1,12 @@
 //! A script that comes in pieces.
-ghost use Rattle.std.specs.Prelude.{◌≡◌, ◌+◌, ◌<◌, ◌≤◌, ◌++◌, ◌∷◌, [], ℕ, List, length, OnOk, IfOk, IfErr, IsErrOf};
-ghost use Rattle.script_text.specs.Grammar.{HasNo, IsLineOf};
+ghost use Rattle.std.specs.Prelude.{◌≡◌, ◌+◌, ◌<◌, ◌≤◌, ◌++◌, ◌∷◌, ◌&&◌, [], ℕ, List, false, length, OnOk, IfOk, IfErr, IsErrOf};
+ghost use Rattle.script_text.specs.Grammar.{HasNo, IsLineOf, is_wait};
 ghost use Rattle.script_text.specs.Script.{script_limit, IsScript, IsBadAt};
-ghost use Rattle.script_text.specs.Reading.{IsReading, Ends, Takes, IsAfter, IsDone, IfLine};
+ghost use Rattle.script_text.specs.Reading.{IsReading, Ends, Takes, IsAfter, IsDone, IfLine, ends_in_wait};
 
 use crate::grammar::{Reading, reading_of};
 use crate::split::split_once;
-use crate::{Line, ScriptFail, What};
+use crate::{Line, Said, ScriptFail};
 use std::alloc::{AllocError, Global};
 
 /// The most bytes of a line.
@@ -18,7 +18,7 @@ const COMMAND_LIMIT: u32 = 16384;
 /// What was read of a script so far. Once a line is bad, nothing more is kept.
 #[derive(Drop)]
 pub struct Reader {
-    /// What the ended lines say.
+    /// What the ended lines say: of `wait`s one behind another only the first is here.
     lines: Vec<Line>,
     /// How many more commands may come.
     commands_left: u32,
@@ -28,6 +28,23 @@ pub struct Reader {
     text: Vec<u8>,
     /// The number of the first bad line.
     bad: Option<u32>,
+}
+
+/// Whether the last of these lines is a `wait`.
+fn is_waiting(lines: &[Line]) -> bool
+    ensures { result ≡ ends_in_wait false lines.now }
+{
+    match lines.last() {
+        Some(line) => line.what.is_wait(),
+        None => false,
+    }
+}
+
+/// Whether what is said behind these lines is a `wait` right behind another.
+fn repeats_wait(lines: &[Line], what: &Said) -> bool
+    ensures { result ≡ (ends_in_wait false lines.now && is_wait what.now) }
+{
+    is_waiting(lines) && what.is_wait()
 }
 
 impl Reader {
@@ -45,8 +62,8 @@ impl Reader {
         }
     }
 
-    /// Keeps what the next line says, unless it is one command too many.
-    fn keep(&mut self, what: What) -> Result<(), AllocError>
+    /// Keeps what the next line says, unless it is one command too many, or a `wait` right behind another.
+    fn keep(&mut self, what: Said) -> Result<(), AllocError>
         requires { self.old.count ≤ script_limit }
         ensures count { OnOk result (self.new.count ≡ self.old.count) }
         ensures ends { OnOk result (Ends (λ text. IsLineOf text what) self.old self.new) }
@@ -55,6 +72,9 @@ impl Reader {
             self.bad = Some(self.count + 1);
             return Ok(());
         };
+        if repeats_wait(self.lines.as_slice(), &what) {
+            return Ok(());
+        }
         let line = self.count + 1;
         self.lines.push(Line { line, what })?;
         self.commands_left = left;

@@ -92,11 +92,11 @@ fn show_object(
     format!(in alloc; "{word} {coll} {object:?}")
 }
 
-fn show_lines(alloc: Global, lines: &[Line]) -> Result<String, AllocError> {
+fn show_lines(alloc: Global, lines: Vec<Line>) -> Result<String, AllocError> {
     let mut shown = String::new(alloc);
-    for line in lines {
-        let what = show(alloc, &line.what)?;
-        let number = line.line;
+    for next in lines {
+        let Line { line: number, what } = next;
+        let what = show(alloc, &what.into_what(alloc)?)?;
         shown.push_str(format!(in alloc; "{number} {what};")?.as_str())?;
     }
     Ok(shown)
@@ -108,7 +108,7 @@ fn outcome(alloc: Global, text: &[u8], step: u32, fails: &[u64]) -> Result<Strin
     let fails = Vec::from_slice(alloc, fails)?;
     let mut source = MemorySource::new(text, step.max(1), fails);
     match read_script(alloc, &mut source) {
-        Ok(lines) => show_lines(alloc, lines.as_slice()),
+        Ok(lines) => show_lines(alloc, lines),
         Err(ScriptFail::Memory) => Err(AllocError),
         Err(fail) => format!(in alloc; "{fail}"),
     }
@@ -124,7 +124,7 @@ fn gives(alloc: Global, text: &str, want: &str) -> Result<bool, AllocError> {
     Ok(true)
 }
 
-static GOOD: [(&str, &str); 22] = [
+static GOOD: [(&str, &str); 24] = [
     ("", ""),
     ("\n", ""),
     ("mkcoll 0.0_head\n", "1 mkcoll 0.0_head;"),
@@ -133,7 +133,12 @@ static GOOD: [(&str, &str); 22] = [
         "1 mkcoll 18446744073709551615.ffffffff_head;",
     ),
     ("\n# mkcoll\n\nwait\n#", "4 wait;"),
-    ("wait\nwait", "1 wait;2 wait;"),
+    ("wait\nwait", "1 wait;"),
+    ("wait\n#\nwait\n\nwait", "1 wait;"),
+    (
+        "\nwait\nwait\nlist 1.a_head\nwait\n#\nwait\nwait\n",
+        "2 wait;4 list 1.a_head;5 wait;",
+    ),
     (
         "write 1.a_head a 0 fill:0f:4096\n",
         "1 write 1.a_head [97] 0 15x4096;",
@@ -418,7 +423,7 @@ fn numbers(rt: HostRuntime) -> Result<(), Fail> {
 
 fn show_data(alloc: Global, word: &[u8]) -> Result<String, AllocError> {
     match read_data(alloc, word)? {
-        Some(bytes) => format!(in alloc; "{:?}", bytes.as_slice()),
+        Some(spelled) => format!(in alloc; "{:?}", spelled.into_bytes(alloc)?.as_slice()),
         None => format!(in alloc; "none"),
     }
 }
@@ -460,10 +465,11 @@ fn data(rt: HostRuntime) -> Result<(), Fail> {
         assert_eq!(rt; found.as_str(), *want, "at {word}");
     }
     let most = read_data(rt.alloc(), b"fill:0a:2097152")?;
-    assert!(rt;
-        most.is_some_and(|bytes| bytes.len() == 2097152
-            && bytes.as_slice().iter().all(|b| *b == 10))
-    );
+    let bytes = match most {
+        Some(spelled) => spelled.into_bytes(rt.alloc())?,
+        None => Bytes::new(rt.alloc()),
+    };
+    assert!(rt; bytes.len() == 2097152 && bytes.as_slice().iter().all(|b| *b == 10));
     Ok(())
 }
 
@@ -561,9 +567,23 @@ fn commands_are_counted(rt: HostRuntime) -> Result<(), Fail> {
         65536,
         Vec::new(alloc),
     );
-    assert!(rt; read_script(alloc, &mut source).is_ok_and(|lines| lines.len() == 16388));
+    assert!(rt; read_script(alloc, &mut source).is_ok_and(|lines| lines.len() == 16386));
     text.extend_from_slice(b"mkcoll 1.1_head\nbad")?;
     assert!(rt; is_refused_at(alloc, text, 16395));
+    Ok(())
+}
+
+// As many fills as a script may have, which would take 32 GiB; and a long run of waits.
+#[test]
+fn scripts_are_kept_short(rt: HostRuntime) -> Result<(), Fail> {
+    let alloc = rt.alloc();
+    let fill = write(alloc, b"a", b"fill:61:2097152\n")?;
+    let text = repeated(alloc, &fill, 16384)?;
+    let mut source = MemorySource::new(text, 65536, Vec::new(alloc));
+    assert!(rt; read_script(alloc, &mut source).is_ok_and(|lines| lines.len() == 32768));
+    let text = repeated(alloc, b"wait\n", 100000)?;
+    let mut source = MemorySource::new(text, 65536, Vec::new(alloc));
+    assert!(rt; read_script(alloc, &mut source).is_ok_and(|lines| lines.len() == 1));
     Ok(())
 }
 

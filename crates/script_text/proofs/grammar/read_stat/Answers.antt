@@ -8,4 +8,4 @@ returns-in_default c what line =
     unnamed of.coll of.object of.names
 
 pub returns : goal.returns
-returns c = let names = rw c.in-Some.is at c.in_ok-coll.ensures in stat_line c.args.rest.now c.in-Some.coll c.in-Some.object names
+returns c = let names = rw c.in-Some.is at c.in_ok-coll.ensures in rw c.of.ensures (stat_line c.args.rest.now c.in-Some.coll c.in-Some.object names)

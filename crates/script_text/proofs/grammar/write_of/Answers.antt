@@ -23,4 +23,4 @@ returns c =
     let page = c.is_whole_pages.ensures.0 c.if-not-is_whole_pages.false in
     let pages = subst (λ (n : ℕ). (c.in-Some.off % 4096 ≡ 0) × (n % 4096 ≡ 0) × (0 < n)) size page in
     write_say c.args.coll.now c.args.object.now c.args.off.now c.args.data_word.now c.in-Some-2.coll c.in-Some-3.object c.in-Some.off c.in-Some-4.bytes
-    c.in_ok-what.what coll.0 coll.1 object c.in-Some.ensures spelled pages c.in_ok-what.ensures
+    c.write.result coll.0 coll.1 object c.in-Some.ensures spelled pages c.write.ensures

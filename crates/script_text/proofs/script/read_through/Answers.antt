@@ -1,4 +1,4 @@
-use Rattle.std.proofs.Common.{subst}
+use Rattle.std.proofs.Common.{[], refl, subst}
 use Rattle.script_text.specs.Reading.{WasReadUpTo}
 use Rattle.script_text.proofs.Sources.{ended_read, full_read, past_read}
 use Rattle.script_text.proofs.script.read_through.Goals as goal
@@ -16,8 +16,8 @@ returns-then-n-eq0-clause-read g c =
     let mid = left_of c.read_pieces.new.source in
     let r = c.read_pieces.new.reader in
     let full = subst (λ end. WasReadUpTo old mid r end) c.if-branch.false c.in_ok-read_pieces.ensures.read in
-    full_read old mid (left_of c.read.new.self) r c.new-piece.result.items c.read.new.into.items c.in_ok-n.n full c.new-piece.ensures.items
-    c.in_ok-n.ensures.ok c.if-n-eq0.true
+    full_read old mid (left_of c.next_piece.new.source) r [] c.next_piece.new.piece.items c.in_ok-n.n full refl
+    c.in_ok-n.ensures.took c.if-n-eq0.true
 
 pub returns-clause-read : goal.returns-clause-read
 returns-clause-read g c =
@@ -26,6 +26,6 @@ returns-clause-read g c =
     let mid = left_of c.read_pieces.new.source in
     let r = c.read_pieces.new.reader in
     let full = subst (λ end. WasReadUpTo old mid r end) c.if-branch.false c.in_ok-read_pieces.ensures.read in
-    past_read old mid (left_of c.read.new.self) r c.refuse.new.self c.new-piece.result.items c.read.new.into.items c.in_ok-n.n full c.new-piece.ensures.items
-    c.in_ok-n.ensures.ok c.if-n-eq0.false
+    past_read old mid (left_of c.next_piece.new.source) r c.refuse.new.self [] c.next_piece.new.piece.items c.in_ok-n.n full refl
+    c.in_ok-n.ensures.took c.if-n-eq0.false
     c.refuse.ensures.after

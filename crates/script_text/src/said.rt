@@ -1,0 +1,109 @@
+//! What a line says, as it is kept until it is used.
+ghost use Rattle.std.specs.Prelude.{◌≡◌, IfOk};
+ghost use Rattle.object_model.specs.declared.op.Op.TheVariants.{Write};
+ghost use Rattle.script_text.specs.Grammar.{command_count, is_wait, op_line};
+
+use crate::What;
+use crate::data::Data;
+use object_model::{Command, Op, Transaction};
+use std::alloc::{AllocError, Global};
+use std::marker::Model;
+use unit_fields::{CollName, Name};
+
+/// What a line says, in memory in proportion to the line: the bytes of a `fill` aren't there before `into_what`.
+#[derive(Drop)]
+pub struct Said {
+    kept: Kept,
+}
+
+/// A write with its data as they are spelled, or anything else.
+#[derive(Drop)]
+enum Kept {
+    Write {
+        coll: CollName,
+        object: Name,
+        off: u64,
+        bytes: Data,
+    },
+    Other(What),
+}
+
+impl Model for Said {
+    ghost use Rattle.script_text.specs.declared.line.What.{What};
+
+    ghost Value = { What };
+
+    ghost use Rattle.script_text.specs.Kept.{kept_what};
+
+    ghost view = { λ a. kept_what a.kept };
+}
+
+/// A transaction of one operation.
+pub fn change(alloc: Global, coll: CollName, op: Op) -> Result<What, AllocError>
+    ensures { IfOk result (λ what. what ≡ op_line coll op) }
+{
+    match Transaction::new(alloc, coll, op) {
+        Ok(change) => Ok(What::Command(Command::Change(change))),
+        Err(_) => Err(AllocError),
+    }
+}
+
+impl Said {
+    /// What is said as it is.
+    pub fn of(what: What) -> Said
+        ensures { result ≡ what }
+    {
+        Said {
+            kept: Kept::Other(what),
+        }
+    }
+
+    /// A write of these bytes.
+    pub fn write(coll: CollName, object: Name, off: u64, bytes: Data) -> Said
+        ensures { result ≡ op_line coll (Write object off bytes) }
+    {
+        Said {
+            kept: Kept::Write {
+                coll,
+                object,
+                off,
+                bytes,
+            },
+        }
+    }
+
+    /// 1 for a command, and 0 for `wait`.
+    pub fn command_count(&self) -> u32
+        ensures { result ≡ command_count self.now }
+    {
+        match &self.kept {
+            Kept::Write { .. } => 1,
+            Kept::Other(what) => what.command_count(),
+        }
+    }
+
+    /// Whether it is a `wait`.
+    pub fn is_wait(&self) -> bool
+        ensures { result ≡ is_wait self.now }
+    {
+        matches!(&self.kept, Kept::Other(What::Wait))
+    }
+
+    /// What it says, with its data written out: this takes their memory.
+    pub fn into_what(self, alloc: Global) -> Result<What, AllocError>
+        ensures { IfOk result (λ what. what ≡ self) }
+    {
+        match self.kept {
+            Kept::Write {
+                coll,
+                object,
+                off,
+                bytes,
+            } => {
+                let bytes = bytes.into_bytes(alloc)?;
+                change(alloc, coll, Op::Write { object, off, bytes })
+            }
+            Kept::Other(what) => Ok(what),
+        }
+    }
+}

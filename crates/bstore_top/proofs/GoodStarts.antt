@@ -29,7 +29,6 @@ use Rattle.bstore_top.specs.Choice.{Position}
 use Rattle.bstore_top.specs.GoodStart.{HasGoodStore, IsGoodStart, HasNoFault}
 use Rattle.run_texts.specs.Printed.{Output, Printed}
 use Rattle.run_texts.specs.Replies.{has_csum}
-use Rattle.run_texts.specs.
 use Rattle.run_texts.specs.StepTexts.{end_status, step_number, step_text}
 use Rattle.bstore_top.specs.StepRun.{EndsAt, Seen, FailsBefore, FailsToMount, HasCounted, EndsOpened, IsStepDone, RanStep}
 use Rattle.bstore_top.proofs.RunLaws.{clean_of_none}
@@ -154,7 +153,7 @@ module _ (dev script : List ℕ) (bay : BayView) (start : IsGoodStart dev script
   unopened_ends (Done free) sources before now none same fails = absurd fails
   unopened_ends (BadLine n) sources before now none same fails =
       let under : finite.get start.names.texts script ≡ Some fails.0.text =
-      subst (λ (o : Option Names). IfSome o (λ m. finite.get m.texts script ≡ Some fails.text)) start.told fails.under in
+      subst (λ (o : Option Names). IfSome o (λ m. finite.get m.texts script ≡ Some fails.0.text)) start.told fails.0.under in
       let text : fails.0.text ≡ start.text = same_Some fails.0.text start.text (sym under ∙ start.under_script) in
       absurd (script_has_no_bad start.text start.lines n start.is_script (subst (λ (t : List ℕ). IsBadAt t n) text fails.0.bad))
   unopened_ends NoSuper sources before now none same fails = absurd fails

@@ -53,7 +53,6 @@ use Rattle.run_texts.specs.declared.work_end.WorkEnd.TheVariants.{DeviceFault, O
 use Rattle.bstore_top.specs.Choice.{ready_list, Position, IsDrawnRun}
 use Rattle.run_texts.specs.Printed.{Output, TookAll, Printed}
 use Rattle.run_texts.specs.Replies.{is_csum, has_csum}
-use Rattle.run_texts.specs.
 use Rattle.run_texts.specs.StepTexts.{end_status, step_number, step_text}
 use Rattle.bstore_top.specs.StepRun.{Seen, AskedUpTo, RunsScript, WorksOn, EndsOpened, IsStepDone, RanStep}
 use Rattle.bstore_top.specs.Standing.{HasFree, IsFinished, IsComplete}

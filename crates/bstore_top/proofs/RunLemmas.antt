@@ -583,3 +583,10 @@ module _ (x0 : ℕ) (lines asked : List Line) (s0 : State) (d0 : Disk) (x : ℕ)
   -- or a step fails there
   pub script_fails : (e : StepFail) → (y : ℕ) × Drains (Some e) x s d y s' d' → RunsUpTo (Some (fail_of e)) x0 asked s0 d0 s' d'
   script_fails e drains = script_stops (fail_of e) (drain_fails e x s d s' d' drains)
+
+-- there was no memory for what the next line says
+pub script_stays : (x0 : ℕ) (lines asked : List Line) (s0 : State) (d0 : Disk) (x : ℕ) (left : List Line) (s : State) (d : Disk) → lines ≡ asked
+    → IsRunning x0 lines s0 d0 x left s d → RunsUpTo (Some run.Memory) x0 asked s0 d0 s d
+script_stays x0 lines asked s0 d0 x left s d same so_far =
+    script_stops x0 lines asked s0 d0 x left s d s d same so_far run.Memory
+    (x, record { leads = λ asks. stays (at_position x asks s d); ended = so_far.up; entries = refl })

@@ -1,7 +1,7 @@
 -- The work of `step`, part by part.
-use Rattle.std.proofs.Common.{◌≡◌, inl, inr, ℕ, ◌+◌, ◌<◌, ◌≤◌, List, [], ◌∷◌, ◌++◌, map, length, Option, Some, None, Result, Ok, Err, IsSome, IfSome}
+use Rattle.std.proofs.Common.{◌≡◌, inl, inr, ℕ, ◌+◌, ◌<◌, ◌≤◌, Bool, true, false, if◌then◌else◌, List, [], ◌∷◌, ◌++◌, map, length, Option, Some, None, Result, Ok, Err, IsSome, IfSome}
 use Rattle.std.proofs.Common.{MatchResult, ap, ◌∙◌, sym, refl, subst, arith, append_assoc, length-append}
-use Rattle.std.specs.Prelude.{Any}
+use Rattle.std.specs.Prelude.{Any, IsErrOf}
 use Rattle.std.specs.List.{AllByRecursion}
 use Rattle.std.specs.FinMap as finite
 use Rattle.block_device.specs.Disk.{Disk, History, grown, Rose}
@@ -10,8 +10,8 @@ use Rattle.end_points.specs.Bay.{Names}
 use Rattle.object_model.specs.declared.command.Command.TheVariants as command
 use Rattle.object_model.specs.declared.book.Book.{Book}
 use Rattle.unit_allocator.specs.Units.{Space}
-use Rattle.script_text.specs.Grammar.{command_count}
-use Rattle.script_text.specs.Script.{EachSays, commands, numbered, IsScript, IsBadAt, IsTextOf}
+use Rattle.script_text.specs.Grammar.{command_count, is_wait}
+use Rattle.script_text.specs.Script.{EachSays, commands, numbered, kept_behind, waits_once, IsScript, IsBadAt, IsTextOf}
 use Rattle.script_text.specs.Reading.{IfLine}
 use Rattle.script_text.specs.declared.fail.ScriptFail.{ScriptFail}
 use Rattle.script_text.specs.declared.fail.ScriptFail.TheVariants as script
@@ -60,6 +60,34 @@ few_asked n [] = omega arith
 few_asked n (None ∷ more) = few_asked (n + 1) more
 few_asked n (Some w ∷ more) = omega (arith, length-append (asked n w) (asks_of (numbered (n + 1) more)), asked_few n w, few_asked (n + 1) more)
 
+-- a line that isn't kept asks for nothing
+few_behind : (waits b : Bool) (l : Line) (rest ls : List Line) → is_wait l.what ≡ b → length (asks_of rest) ≤ length (asks_of ls)
+    → length (asks_of (kept_behind waits l ++ rest)) ≤ length (asks_of (l ∷ ls))
+few_behind false b l rest ls is few =
+    omega (arith, few, length-append (asked l.line l.what) (asks_of rest), length-append (asked l.line l.what) (asks_of ls))
+few_behind true true l rest ls is few =
+    subst (λ (t : Bool). length (asks_of ((if t then [] else l ∷ []) ++ rest)) ≤ length (asks_of (l ∷ ls))) (sym is)
+    (omega (arith, few, length-append (asked l.line l.what) (asks_of ls)))
+few_behind true false l rest ls is few =
+    subst (λ (t : Bool). length (asks_of ((if t then [] else l ∷ []) ++ rest)) ≤ length (asks_of (l ∷ ls))) (sym is)
+    (omega (arith, few, length-append (asked l.line l.what) (asks_of rest), length-append (asked l.line l.what) (asks_of ls)))
+
+kept_few : (waits : Bool) (ls : List Line) → length (asks_of (waits_once waits ls)) ≤ length (asks_of ls)
+kept_few waits [] = omega arith
+kept_few waits (l ∷ ls) = few_behind waits (is_wait l.what) l (waits_once (is_wait l.what) ls) ls refl (kept_few (is_wait l.what) ls)
+
+fit_behind : (waits b : Bool) (l : Line) (rest : List Line) → is_wait l.what ≡ b → FitsLine l → AllByRecursion FitsLine rest
+    → AllByRecursion FitsLine (kept_behind waits l ++ rest)
+fit_behind false b l rest is fits all = (fits, all)
+fit_behind true true l rest is fits all = subst (λ (t : Bool). AllByRecursion FitsLine ((if t then [] else l ∷ []) ++ rest)) (sym is) all
+fit_behind true false l rest is fits all =
+    subst (λ (t : Bool). AllByRecursion FitsLine ((if t then [] else l ∷ []) ++ rest)) (sym is) (fits, all)
+
+kept_fit : (waits : Bool) (ls : List Line) → AllByRecursion FitsLine ls → AllByRecursion FitsLine (waits_once waits ls)
+kept_fit waits [] all = tt
+kept_fit waits (l ∷ ls) all =
+    fit_behind waits (is_wait l.what) l (waits_once (is_wait l.what) ls) refl all.0 (kept_fit (is_wait l.what) ls all.1)
+
 all_fit : (texts : List (List ℕ)) (n : ℕ) (said : List (Option What)) → EachSays texts said → AllByRecursion FitsLine (numbered n said)
 all_fit [] n [] says = tt
 all_fit (text ∷ texts) n (None ∷ more) says = all_fit texts (n + 1) more says.1
@@ -70,8 +98,10 @@ all_fit (text ∷ texts) n [] says = absurd says
 -- the lines of a script are such as it can have, and few
 pub script_fits : (text : List ℕ) (lines : List Line) → IsScript text lines → AllByRecursion FitsLine lines × (length (asks_of lines) ≤ 1048576)
 script_fits text lines is_script = (
-  subst (λ (l : List Line). AllByRecursion FitsLine l) (sym is_script.numbers) (all_fit _ 1 is_script.said is_script.good.says),
-  omega (arith, ap (λ (l : List Line). length (asks_of l)) is_script.numbers, few_asked 1 is_script.said, is_script.good.few),
+  subst (λ (l : List Line). AllByRecursion FitsLine l) (sym is_script.numbers)
+      (kept_fit false (numbered 1 is_script.said) (all_fit _ 1 is_script.said is_script.good.says)),
+  omega (arith, ap (λ (l : List Line). length (asks_of l)) is_script.numbers, kept_few false (numbered 1 is_script.said),
+      few_asked 1 is_script.said, is_script.good.few),
 )
 
 -- the text that a source gave is that under the name
@@ -91,17 +121,17 @@ pub one_source : {S : Type 0} (f : S → ℕ) (new mid old : List S) (x : S) →
 one_source {S} f new mid old x pushed same none = ap (λ (l : List S). map f l) (pushed ∙ ap (λ (l : List S). l ++ (x ∷ [])) (same ∙ none))
 
 -- why the script wasn't read
-pub script_fails : (e : ScriptFail) (names : Option Names) (name : List ℕ) (left : Option (List ℕ)) (none some before now : ℕ) (faults : List ℕ)
-    → IfLine e (λ n. (text : List ℕ) × IsTextOf left text × IsBadAt text n)
-    → (e ≡ script.ReadFault → Rose none some) → (¬ (e ≡ script.ReadFault) → some ≡ none) → now ≡ before → none ≡ 0 → IfSome names (λ n. IsSome left × (left ≡ finite.get n.texts name)) → faults ≡ some ∷ []
+pub script_fails : {T : Type 0} (e : ScriptFail) (names : Option Names) (name : List ℕ) (left : Option (List ℕ)) (none some before now : ℕ)
+    (faults : List ℕ) → IfLine e (λ n. (text : List ℕ) × IsTextOf left text × IsBadAt text n)
+    → (e ≡ script.ReadFault → Rose none some) → (¬ IsErrOf {T = T} (Err e) script.ReadFault → some ≡ none) → now ≡ before → none ≡ 0 → IfSome names (λ n. IsSome left × (left ≡ finite.get n.texts name)) → faults ≡ some ∷ []
     → FailsBefore (end_of_script e) names name faults before now
-script_fails script.Memory names name left none some before now faults bad rose kept same is told all = tt
-script_fails (script.Line n) names name left none some before now faults bad rose kept same is told all =
+script_fails {T} script.Memory names name left none some before now faults bad rose kept same is told all = tt
+script_fails {T} (script.Line n) names name left none some before now faults bad rose kept same is told all =
     (
       record { text = bad.0; under = text_under names name left bad.0 told bad.1; bad = bad.2 },
-      record { source = all ∙ ap (λ (k : ℕ). k ∷ []) (kept (λ ()) ∙ is); bay = same },
+      record { source = all ∙ ap (λ (k : ℕ). k ∷ []) (kept (λ e. absurd cc) ∙ is); bay = same },
     )
-script_fails script.ReadFault names name left none some before now faults bad rose kept same is told all = inl (counted_one none some faults is (rose refl) all)
+script_fails {T} script.ReadFault names name left none some before now faults bad rose kept same is told all = inl (counted_one none some faults is (rose refl) all)
 
 -- ---- mounting
 

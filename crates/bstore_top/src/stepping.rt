@@ -1,5 +1,5 @@
 //! A script, run on a mounted store: before each call it is drawn which one comes next.
-ghost use Rattle.std.specs.Prelude.{◌≡◌, ◌<◌, ◌≤◌, ◌+◌, ℕ, Some, None, [], length, filter, slice_get, IsErrOf, MatchOption, MatchResult};
+ghost use Rattle.std.specs.Prelude.{◌≡◌, ◌<◌, ◌≤◌, ◌+◌, ℕ, Some, None, [], length, filter, slice_get, IfOk, IfErr, IsErrOf, MatchOption, MatchResult};
 ghost use Rattle.std.specs.List.{AllByRecursion};
 ghost use Rattle.block_device.specs.Disk.{IsSound, Rose};
 ghost use Rattle.object_model.specs.declared.command.Command.TheVariants as command;
@@ -15,7 +15,7 @@ use crate::generator::Generator;
 use crate::run_fail::RunFail;
 use block_device::Device;
 use object_model::{Command, Transaction};
-use script_text::{Line, What};
+use script_text::{Line, Said, What};
 use std::alloc::Global;
 use store_kernel::{Kernel, Refused, StepFail, Unanswered};
 use store_steps::Step;
@@ -228,6 +228,17 @@ fn ask<D: Device>(
     make(alloc, kernel, line, command)
 }
 
+/// What a line says, with its data written out.
+fn written_out(alloc: Global, said: Said) -> Result<What, RunFail>
+    ensures same { IfOk result (λ what. what ≡ said) }
+    ensures fail { IfErr result (λ fail. fail ≡ RunFail.Memory) }
+{
+    match said.into_what(alloc) {
+        Ok(what) => Ok(what),
+        Err(_) => Err(RunFail::Memory),
+    }
+}
+
 /// The command of a line, which is a `wait` where it has none.
 fn command(said: What) -> Option<Command>
     ensures { MatchOption result (said ≡ what.Wait) (λ command. said ≡ what.Command command) }
@@ -239,7 +250,8 @@ fn command(said: What) -> Option<Command>
 }
 
 /// Runs the lines of a script, as client 0, until all its commands are made and the kernel is drained. A `wait` takes no draw: the
-/// kernel is drained before each command. After a read that the device failed no more commands are made; nothing is left to do then.
+/// kernel is drained before each command. The data of a line are written out when its turn comes. After a read that the device
+/// failed no more commands are made; nothing is left to do then.
 pub fn run_script<D: Device>(
     alloc: Global,
     kernel: &mut Kernel<D>,
@@ -261,7 +273,8 @@ pub fn run_script<D: Device>(
     let _ = kernel.drained();
     'lines: while let Some(next) = lines.next() {
         let Line { line, what } = next;
-        let Some(command) = command(what) else {
+        let said = written_out(alloc, what)?;
+        let Some(command) = command(said) else {
             continue;
         };
         ask(alloc, kernel, &mut generator, line, command)?;

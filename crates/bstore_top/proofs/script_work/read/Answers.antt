@@ -9,6 +9,6 @@ returns-in-Ok-lines-clause-fits g c = script_fits c.in-Ok-lines.ensures.lines.0 
 pub returns-in-Err-clause-cause : goal.returns-in-Err-clause-cause
 returns-in-Err-clause-cause g c =
     rw c.unread.ensures (script_fails c.in-Err.fail _ _ _ _ _ _ _ _ c.in-Err.ensures.bad
-    (λ is. c.in-Err.ensures.cause (ap (λ (e : ScriptFail). Err e) is)) c.in-Ok-script.ensures.ok.no_faults
+    (λ is. c.in-Err.ensures.cause (ap (λ (e : ScriptFail). Err e) is)) c.in-Err.ensures.kept c.in-Ok-script.ensures.kept c.in-Ok-script.ensures.ok.no_faults
     (rw c.as_str.ensures at c.in-Ok-script.ensures.ok.text) (one_source g.B.Src.Source.faults _ _ _ _ c.push_reserved.ensures.items
     c.in-Ok.ensures.items c.requires))

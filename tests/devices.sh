@@ -321,6 +321,19 @@ is_refused_whole() {
     ended 7 'stopped 7' && fill "$1" wanted_bytes && cmp -s "$device" wanted_bytes && cmp -s "DISK_$1" wanted_bytes
 }
 
+# The system has the pages of the device in memory, and the disk below has another byte in the object's page: byte 100 of unit
+# 18. An opening that settles the device reads what the disk has.
+reads_what_the_disk_has() {
+    exec {keeper}<"$device"
+    cat "$device" >pages
+    printf 'X' | dd of=DISK_262144 bs=1 seek=$((4096 * 18 + 100)) conv=notrunc,fsync status=none
+    says 'a block device: the system has its pages' cmp -s "$device" pages
+    run dump "$device"
+    says 'a block device: what the disk has is read' ended 4 'coll 1.0_head' \
+        'object a size 4096 E14 Csum unit=18 kept=37f18c49 found=23508045' 'end'
+    exec {keeper}<&-
+}
+
 block_devices() {
     loop_device 262144 || {
         skips 'block devices' 'no loop device can be had here'
@@ -337,6 +350,7 @@ block_devices() {
     says 'a block device: dump' ended 0 'coll 1.0_head' 'object a size 4096 crc 37f18c49' 'end'
     run step FILE --seed 1 script
     says 'a block device: the same bytes as in a file again' cmp -s "DISK_262144" FILE
+    reads_what_the_disk_has
     says 'a block device of 63 units' is_refused_whole 258048
     says 'a block device of 100 units' is_refused_whole 409600
     loop_device 262656

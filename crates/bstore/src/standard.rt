@@ -27,11 +27,7 @@ pub struct StandardDescriptors {
 impl StandardDescriptors {
     /// Makes sure of the three. Where the system refuses an opening there is no such promise.
     pub fn keep<R: Files<File = File>>(rt: &R) -> io::Result<StandardDescriptors> {
-        let kept = [
-            open_idle(rt)?,
-            open_idle(rt)?,
-            open_idle(rt)?,
-        ];
+        let kept = [open_idle(rt)?, open_idle(rt)?, open_idle(rt)?];
         Ok(StandardDescriptors { _kept: kept })
     }
 }

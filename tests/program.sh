@@ -1,59 +1,8 @@
 #!/usr/bin/env bash
 # Runs the built program as a user would, and says of each case whether it came as wanted. Ends with status 1 where one
-# didn't. It takes the program that the gate or ./bstore left, and has ./bstore build one where there is none. It needs
-# python3.
+# didn't. It needs python3.
 
-set -u
-top=$(cd -- "$(dirname -- "$0")/.." && pwd -P)
-program=$top/crates/bstore/out/bstore
-[ -x "$program" ] || "$top/bstore" >/dev/null
-[ -x "$program" ] || exit 1
-room=$(mktemp -d)
-trap 'rm -rf "$room"' EXIT
-cd "$room" || exit 1
-passed=0
-failed=0
-
-# says NAME TEST..: runs the test, and says how the case came out.
-says() {
-    local name=$1
-    shift
-    if "$@"; then
-        echo "ok      $name"
-        passed=$((passed + 1))
-    else
-        echo "FAILED  $name"
-        failed=$((failed + 1))
-    fi
-}
-
-# Runs the program with these words: its output, what it wrote to standard error, and its status.
-run() {
-    "$program" "$@" >output 2>complaints </dev/null
-    status=$?
-}
-
-# ended STATUS LINE..: the last run ended so, with these lines as its output, and wrote nothing to standard error.
-ended() {
-    local wanted=$1
-    shift
-    printf '%s\n' "$@" >wanted
-    [ "$status" = "$wanted" ] && cmp -s output wanted && [ ! -s complaints ]
-}
-
-# fill BYTES FILE: so many bytes FF.
-fill() {
-    head -c "$1" /dev/zero | tr '\0' '\377' >"$2"
-}
-
-# Whether a file has so many bytes.
-is_long() {
-    [ "$(stat -c %s "$1")" = "$2" ]
-}
-
-# The words of a command line that makes a store of 64 units.
-small=(--half 8 --units 64)
-made='mkfs units=64 half=8 data=46'
+. "$(dirname -- "$0")/cases.sh"
 
 run mkfs FRESH "${small[@]}"
 says 'a new file: its line' ended 0 "$made"
@@ -86,14 +35,6 @@ run mkfs SMALL --half 8 --units 18
 says 'too few units' ended 4 'mkfs TooSmall units=18 need=19' 'stopped 4'
 run mkfs LEAST --half 8 --units 19
 says 'just enough units' ended 0 'mkfs units=19 half=8 data=1'
-
-# is_one_of STATUS..: the last run ended with one of these.
-is_one_of() {
-    case " $* " in
-        *" $status "*) ;;
-        *) false ;;
-    esac
-}
 
 "$program" mkfs FULL "${small[@]}" >/dev/full 2>complaints </dev/null
 status=$?
@@ -491,5 +432,4 @@ for seed in 4294967296 01 -1 '' x; do
     says "step: seed '$seed'" is_refused step DEV --seed "$seed" script
 done
 
-echo "$passed passed, $failed failed"
-[ "$failed" = 0 ]
+counts

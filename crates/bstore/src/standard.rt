@@ -4,10 +4,16 @@ use std::fs::File;
 use std::io;
 use std::rt::Files;
 
-// What reads as an empty file and takes no bytes, since it is opened for reads alone.
-const EMPTY: &str = "/dev/null";
+// A file that stays as it is, whatever is done by its descriptor, since it is opened for reads alone: an empty one, and where
+// that isn't there, as in a bare root, a folder.
+fn open_idle<R: Files<File = File>>(rt: &R) -> io::Result<File> {
+    File::open(rt, "/dev/null")
+        .or_else(|_| File::open(rt, "/"))
+        .or_else(|_| File::open(rt, "."))
+}
 
-/// Three openings of `/dev/null`: for as long as they are kept, none of the descriptors 0, 1 and 2 is free.
+/// Three openings of `/dev/null`, or of a folder where it isn't there: for as long as they are kept, none of the descriptors
+/// 0, 1 and 2 is free.
 ///
 /// A program may be started with some of them closed, as by `>&-`. The system gives each opening the lowest number that is
 /// free, so a device that is opened then could stand under number 1, and the program's text would be written into the
@@ -21,11 +27,7 @@ pub struct StandardDescriptors {
 impl StandardDescriptors {
     /// Makes sure of the three. Where the system refuses an opening there is no such promise.
     pub fn keep<R: Files<File = File>>(rt: &R) -> io::Result<StandardDescriptors> {
-        let kept = [
-            File::open(rt, EMPTY)?,
-            File::open(rt, EMPTY)?,
-            File::open(rt, EMPTY)?,
-        ];
+        let kept = [open_idle(rt)?, open_idle(rt)?, open_idle(rt)?];
         Ok(StandardDescriptors { _kept: kept })
     }
 }

@@ -2,6 +2,7 @@
 //! proof. What a file keeps can't be said in a clause, so these devices tell neither contents nor log.
 #![tactic(auto)]
 
+mod opening;
 mod sync;
 
 pub use sync::SyncFile;

@@ -5,20 +5,17 @@ ghost use Rattle.std.specs.VecDeque.{deque_capacity};
 ghost use Rattle.block_device.specs.Disk.{Reaped, Waited, Rose};
 ghost use Rattle.device_file.specs.FileDisk.{fresh_file};
 
+use crate::opening::{make_file, offset_of, open_file};
 use block_device::{Back, Device, Done, Failed, Ticket};
 use std::alloc::{AllocError, Global};
 use std::collections::VecDeque;
-use std::fs::{File, OpenOptions};
-use std::io::{self, ErrorKind, Seek, SeekFrom};
+use std::fs::File;
+use std::io::{self, ErrorKind};
 use std::marker::Model;
 use std::os::unix::fs::FileExt;
 use std::rt::Files;
 
 const DEPTH: u32 = 64;
-
-const UNIT_BYTES: u64 = 4096;
-
-const MOST_UNITS: u64 = 1_048_576;
 
 // A submission that was worked and waits to be reaped. A flush has no bytes.
 #[derive(Clone, Copy)]
@@ -39,8 +36,8 @@ struct Pending {
 /// A call of the system that fails is a fault: a write or a flush ends with `ok` false, and a read is refused. After a
 /// failing flush the system may drop what it could not write, and call a later flush good: no promise goes past a bad end.
 ///
-/// A flush ends well at once, without a call of the system, where no write was submitted since a flush that ended well. The
-/// first flush after the opening always calls: what the file held before may not be stable yet.
+/// A flush ends well at once, without a call of the system, where no write was submitted since a flush that ended well, be it
+/// the one of the opening.
 #[derive(Drop)]
 pub struct SyncFile {
     file: File,
@@ -49,7 +46,7 @@ pub struct SyncFile {
     events: u64,
     fault_count: u64,
 
-    // Whether a write may have been submitted since the last flush that ended well.
+    // Whether a write was submitted since the last flush that ended well. The opening ends with such a flush.
     unflushed: bool,
 }
 
@@ -72,13 +69,6 @@ fn is_good(outcome: &io::Result<()>) -> bool
     outcome.is_ok()
 }
 
-// The place in the file of a unit.
-fn offset_of(unit: u32) -> u64
-    ensures { result ≡ 4096 * unit }
-{
-    UNIT_BYTES * unit as u64
-}
-
 // One fault more where a call went wrong.
 fn faults_after(faults: u64, ok: bool) -> u64
     ensures later { faults ≤ result }
@@ -96,35 +86,33 @@ fn take_first(pending: &mut VecDeque<Pending>) -> Option<Pending>
     pending.pop_front()
 }
 
-// Makes the file exactly so many units long: it is made where it is missing, and else keeps what it held, cut or filled
-// with zeros. Its length and its being there are stable before this returns.
-fn make_file<R: Files<File = File>>(rt: &R, path: &str, units: u32) -> io::Result<File> {
-    let file = OpenOptions::new()
-        .read(true)
-        .write(true)
-        .create(true)
-        .open(rt, path)?;
-    file.set_len(offset_of(units))?;
-    file.sync_all()?;
-    Ok(file)
-}
-
-// Opens what is there, with the number of its whole units. The end is sought, since a block device has no length.
-fn open_file<R: Files<File = File>>(rt: &R, path: &str) -> io::Result<(File, u32)>
-    ensures { IfOk result (λ opened. opened.1 ≤ 1048576) }
-{
-    let mut file = OpenOptions::new().read(true).write(true).open(rt, path)?;
-    let units = file.seek(SeekFrom::End(0))? / UNIT_BYTES;
-    if units > MOST_UNITS {
-        return Err(io::Error::from(ErrorKind::FileTooLarge));
+// Why a call of the system failed: memory ran out, or a fault.
+fn cause_of(error: &io::Error) -> Failed {
+    match error.kind() {
+        ErrorKind::OutOfMemory => Failed::Memory,
+        _ => Failed::Fault,
     }
-    Ok((file, units as u32))
 }
 
 impl SyncFile {
-    /// Opens the file as a device. `Some(n)` makes a device of exactly n units, which keeps what the file held, cut or filled
-    /// with zeros, and makes the file where it is missing. None opens what is there: its whole units are the device, a rest of
-    /// less than a unit is left alone, and more than 1048576 units are a fault. Any call of the system that fails is a fault.
+    /// Opens a file, or a block device of the system, as a device. `Some(n)` makes a device of exactly n units, which keeps
+    /// what it held: a file is made where it is missing, and else cut or filled with zeros; a block device, which can't be cut
+    /// or grown, has to have exactly n whole units. None opens what is there. Its whole units are the device, a rest of less
+    /// than a unit is left alone, and more than 1048576 units are a fault.
+    ///
+    /// The steps come in this order, and the first call of the system that fails ends them, as a fault:
+    ///
+    /// - It is opened. What is neither a regular file nor a block device is a fault, and isn't opened at all.
+    /// - It is locked, for as long as this value lives, since two programs that write one store at once lose what each of
+    ///   them acknowledged. What another opening has locked is a fault, and nothing of it was read or changed.
+    /// - A file that is made gets its length.
+    /// - It is flushed, since a program that was killed leaves its last writes in the system's cache: they read as if they
+    ///   were stable, and are gone after a loss of power.
+    /// - The system is told to drop its pages of it, since after a failed flush it keeps a page that isn't on the disk, and
+    ///   calls it clean.
+    /// - Of a file that is made, the folder is flushed too, so that its being there is stable.
+    ///
+    /// What is read from here on is stable, so the first flush has nothing to do unless something was written before it.
     pub fn open<R: Files<File = File>>(
         rt: &R,
         alloc: Global,
@@ -140,20 +128,20 @@ impl SyncFile {
             return Err(Failed::Memory);
         };
         let opened = match make {
-            Some(units) => make_file(rt, path, units).map(|file| (file, units)),
+            Some(units) => make_file(rt, alloc, path, units).map(|file| (file, units)),
             None => open_file(rt, path),
         };
-        let Ok((file, units)) = opened else {
-            return Err(Failed::Fault);
-        };
-        Ok(SyncFile {
-            file,
-            units,
-            pending,
-            events: 0,
-            fault_count: 0,
-            unflushed: true,
-        })
+        match opened {
+            Ok((file, units)) => Ok(SyncFile {
+                file,
+                units,
+                pending,
+                events: 0,
+                fault_count: 0,
+                unflushed: false,
+            }),
+            Err(error) => Err(cause_of(&error)),
+        }
     }
 }
 

@@ -100,6 +100,22 @@ fn a_flush_with_nothing_to_flush(rt: HostRuntime) -> Result<(), Fail> {
     Ok(())
 }
 
+// A device is locked while it is open: another opening is a fault, and doesn't cut it.
+#[test]
+fn a_second_opening_is_a_fault(rt: HostRuntime) -> Result<(), Fail> {
+    let first = SyncFile::open(&rt, rt.alloc(), "locked", Some(2))?;
+    for make in [None, Some(1)] {
+        let second = SyncFile::open(&rt, rt.alloc(), "locked", make);
+        assert_eq!(rt; second.err(), Some(Failed::Fault));
+    }
+    assert_eq!(rt; fs::metadata(&rt, "locked")?.len(), 8192);
+    drop(first);
+    let after = SyncFile::open(&rt, rt.alloc(), "locked", Some(1))?;
+    assert_eq!(rt; after.units(), 1);
+    fs::remove_file(&rt, "locked")?;
+    Ok(())
+}
+
 // Opens the file and looks at all its bytes.
 fn opens_as(
     rt: &(impl Abort + AllocGlobal + Files<File = File>),
@@ -135,6 +151,8 @@ fn what_is_no_file_is_a_fault(rt: HostRuntime) {
         (".", Some(1)),
         ("absent", None),
         ("absent/file", Some(1)),
+        ("/dev/null", None),
+        ("/dev/zero", Some(1)),
     ] {
         let opened = SyncFile::open(&rt, rt.alloc(), path, make);
         assert_eq!(rt; opened.err(), Some(Failed::Fault), "{path}");

@@ -1,0 +1,115 @@
+//! How a device over a file begins: the file is opened, locked, brought to its size, and settled.
+
+ghost use Rattle.std.specs.Prelude.{◌≡◌, ◌*◌, ◌≤◌, IfOk};
+
+use std::alloc::Global;
+use std::fs::{self, File, Metadata, OpenOptions};
+use std::io::{self, ErrorKind, Seek, SeekFrom};
+use std::os::fd::AsRawFd;
+use std::os::unix::fs::FileTypeExt;
+use std::path::Path;
+use std::rt::Files;
+
+const UNIT_BYTES: u64 = 4096;
+
+const MOST_UNITS: u64 = 1_048_576;
+
+// The place in the file of a unit.
+pub(crate) fn offset_of(unit: u32) -> u64
+    ensures { result ≡ 4096 * unit }
+{
+    UNIT_BYTES * unit as u64
+}
+
+// Only a regular file and a block device hold units.
+fn holds_units(found: &Metadata) -> bool {
+    found.is_file() || found.file_type().is_block_device()
+}
+
+// Opens a regular file or a block device for reads and writes, made as an empty file where it is missing and `create` says
+// so, and locks it before anything of it is read or changed. What stands under the path is looked at before it is opened
+// too, since opening some other things waits, or does something by itself.
+fn open_locked<R: Files<File = File>>(rt: &R, path: &str, create: bool) -> io::Result<File> {
+    if fs::metadata(rt, path).is_ok_and(|found| !holds_units(&found)) {
+        return Err(io::Error::from(ErrorKind::Unsupported));
+    }
+    let file = OpenOptions::new()
+        .read(true)
+        .write(true)
+        .create(create)
+        .open(rt, path)?;
+    if !holds_units(&file.metadata()?) {
+        return Err(io::Error::from(ErrorKind::Unsupported));
+    }
+    file.try_lock()?;
+    Ok(file)
+}
+
+// Flushes what the system holds of the file, and then has it drop its pages, so that reads from here on give what is stable.
+fn settle(file: &File) -> io::Result<()> {
+    file.sync_all()?;
+    match libc::posix_fadvise(file.as_raw_fd(), 0, 0, libc::POSIX_FADV_DONTNEED) {
+        0 => Ok(()),
+        error => Err(io::Error::from_raw_os_error(error)),
+    }
+}
+
+// The number of whole units. The end is sought, since a block device has no length.
+fn whole_units(mut file: &File) -> io::Result<u32>
+    ensures { IfOk result (λ units. units ≤ 1048576) }
+{
+    let units = file.seek(SeekFrom::End(0))? / UNIT_BYTES;
+    if units > MOST_UNITS {
+        return Err(io::Error::from(ErrorKind::FileTooLarge));
+    }
+    Ok(units as u32)
+}
+
+// Flushes the folder that a path is in.
+fn sync_folder<R: Files<File = File>>(rt: &R, path: &str) -> io::Result<()> {
+    match Path::new(path).parent() {
+        Some(folder) if !folder.as_str().is_empty() => File::open(rt, folder)?.sync_all(),
+        _ => File::open(rt, ".")?.sync_all(),
+    }
+}
+
+// Flushes the folder that the file is in. Where the path is a link, that is the folder of the file that it leads to.
+fn sync_name<R: Files<File = File>>(rt: &R, alloc: Global, path: &str) -> io::Result<()> {
+    if !fs::symlink_metadata(rt, path)?.is_symlink() {
+        return sync_folder(rt, path);
+    }
+    let real = rt.canonicalize(alloc, path)?;
+    sync_folder(rt, real.as_str())
+}
+
+// Opens a device of exactly so many units. A file is made where it is missing, and else cut or filled with zeros; then its
+// length and its being there are stable before this returns. A block device can't be cut or grown, so it is taken where it
+// has just so many whole units.
+pub(crate) fn make_file<R: Files<File = File>>(
+    rt: &R,
+    alloc: Global,
+    path: &str,
+    units: u32,
+) -> io::Result<File> {
+    let file = open_locked(rt, path, true)?;
+    if file.metadata()?.is_file() {
+        file.set_len(offset_of(units))?;
+        settle(&file)?;
+        sync_name(rt, alloc, path)?;
+    } else if whole_units(&file)? == units {
+        settle(&file)?;
+    } else {
+        return Err(io::Error::from(ErrorKind::InvalidInput));
+    }
+    Ok(file)
+}
+
+// Opens what is there, with the number of its whole units.
+pub(crate) fn open_file<R: Files<File = File>>(rt: &R, path: &str) -> io::Result<(File, u32)>
+    ensures { IfOk result (λ opened. opened.1 ≤ 1048576) }
+{
+    let file = open_locked(rt, path, false)?;
+    settle(&file)?;
+    let units = whole_units(&file)?;
+    Ok((file, units))
+}

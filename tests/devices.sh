@@ -17,15 +17,15 @@ stopped=()
 mounts=()
 loops=()
 
-# Prints the calls on a device in a trace as words, in order: 'lock', 'cut' (its length is set), 'flush', 'drop' (of its pages in
-# memory), 'read', and 'slot', 'log' or 'data' for a write, by its place in a store whose halves have eight units; 'folder' is a
-# flush of anything else. One that failed has 'bad-' in front. Neighbours of one kind are one word, but for flushes. 'early'
-# stands where more replies said ok than records were flushed before.
+# Prints the calls on a device in a trace as words, in order: 'lock', 'cut' (its length is set), 'flush', 'read', and 'slot',
+# 'log' or 'data' for a write, by its place in a store whose halves have eight units; 'folder' is a flush of anything else. One
+# that failed has 'bad-' in front. Neighbours of one kind are one word, but for flushes. 'early' stands where more replies said
+# ok than records were flushed before.
 cat >calls.py <<'END'
 import re
 import sys
 
-KINDS = {"flock": "lock", "ftruncate": "cut", "fadvise64": "drop", "pread64": "read", "fsync": "flush", "fdatasync": "flush"}
+KINDS = {"flock": "lock", "ftruncate": "cut", "pread64": "read", "fsync": "flush", "fdatasync": "flush"}
 device, words, waiting, stable, told = sys.argv[1], [], [], 0, 0
 for line in open(sys.argv[2]):
     call = re.match(r"(\w+)\((\d+)<([^>]*)>(.*)\) += (-?\d+)", line)
@@ -42,8 +42,6 @@ for line in open(sys.argv[2]):
     if name == "pwrite64":
         unit = int(given.split(", ")[-1]) // 4096
         word = "slot" if unit < 2 else "log" if unit < 18 else "data"
-    elif name == "fadvise64" and "POSIX_FADV_DONTNEED" not in given:
-        word = "advise"
     else:
         word = KINDS[name]
     if not is_device and word != "flush":
@@ -67,7 +65,7 @@ inject=()
 trace() {
     # The braces keep back what the shell says of a program that a signal ended.
     {
-        timeout 60 strace -qq -y -s 1000000 -o trace -e trace=flock,ftruncate,fadvise64,fsync,fdatasync,pread64,pwrite64,write \
+        timeout 60 strace -qq -y -s 1000000 -o trace -e trace=flock,ftruncate,fsync,fdatasync,pread64,pwrite64,write \
             "${inject[@]}" "$program" "$@" >output 2>complaints </dev/null
     } 2>shell_words
     status=$?
@@ -94,9 +92,9 @@ says 'two transactions' ended 0 '0:1 ok' '0:2 ok' 'done accepted=2 refused=0 rea
 # data, between data and record and behind the record, and one for each without
 
 calls_of_good_runs() {
-    local settled='lock flush drop' flushed='log flush' with_data='data flush log flush'
+    local settled='lock flush' flushed='log flush' with_data='data flush log flush'
     trace mkfs CALLS "${small[@]}"
-    says 'calls: a store is made' made_calls CALLS lock cut flush drop folder read slot flush slot flush
+    says 'calls: a store is made' made_calls CALLS lock cut flush folder read slot flush slot flush
     printf 'mkcoll 1.0_head\ntouch 1.0_head a\nwrite 1.0_head a 0 fill:5a:4096\nwrite 1.0_head b 4096 fill:5b:81920\n' >calls
     trace step CALLS --seed 1 calls
     says 'calls: transactions without data and with' made_calls CALLS $settled read $flushed $flushed $with_data $with_data
@@ -122,9 +120,19 @@ calls_of_seeds() {
     for seed in 0 7 4294967295; do
         cp NEW SEED
         trace step SEED --seed "$seed" script
-        made_calls SEED lock flush drop read log flush data flush log flush || same=no
+        made_calls SEED lock flush read log flush data flush log flush || same=no
     done
     says 'calls: other seeds' test "$same" = yes
+}
+
+# The script bstore has the system write what it holds of a device, and drop its pages, before the program runs.
+script_drops_pages() {
+    cp TWO PAGES
+    timeout 60 strace -f -qq -y -o trace -e trace=fadvise64,fsync,fdatasync,pread64 "$top/bstore" dump PAGES >output 2>complaints </dev/null
+    status=$?
+    says 'the script: the dump' ended 0 'coll 1.0_head' 'object a size 4096 crc 37f18c49' 'end'
+    says 'the script: written, dropped, and then flushed and read' test "$(grep '/PAGES>' trace |
+        sed -E 's/^[0-9]+ +//; s/.*DONTNEED.*/drop/; s/\(.*//' | uniq | tr '\n' ' ')" = 'fdatasync drop fsync pread64 '
 }
 
 # ---- calls that fail
@@ -196,8 +204,8 @@ killed_runs() {
         inject=()
         says "killed at flush $number" is_one_of 137
         trace step KILLED --seed 2 script
-        first=$(python3 calls.py KILLED trace | cut -d' ' -f1-4)
-        says "killed at flush $number: the next run flushes first" test "$first" = 'lock flush drop read'
+        first=$(python3 calls.py KILLED trace | cut -d' ' -f1-3)
+        says "killed at flush $number: the next run flushes first" test "$first" = 'lock flush read'
         says "killed at flush $number: the next run ends well" is_one_of 0
         number=$((number + 1))
     done
@@ -322,13 +330,14 @@ is_refused_whole() {
 }
 
 # The system has the pages of the device in memory, and the disk below has another byte in the object's page: byte 100 of unit
-# 18. An opening that settles the device reads what the disk has.
+# 18. The script bstore has the pages dropped, so that the program reads what the disk has.
 reads_what_the_disk_has() {
     exec {keeper}<"$device"
     cat "$device" >pages
     printf 'X' | dd of=DISK_262144 bs=1 seek=$((4096 * 18 + 100)) conv=notrunc,fsync status=none
     says 'a block device: the system has its pages' cmp -s "$device" pages
-    run dump "$device"
+    timeout 60 "$top/bstore" dump "$device" >output 2>complaints </dev/null
+    status=$?
     says 'a block device: what the disk has is read' ended 4 'coll 1.0_head' \
         'object a size 4096 E14 Csum unit=18 kept=37f18c49 found=23508045' 'end'
     exec {keeper}<&-

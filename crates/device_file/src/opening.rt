@@ -5,7 +5,6 @@ ghost use Rattle.std.specs.Prelude.{◌≡◌, ◌*◌, ◌≤◌, IfOk};
 use std::alloc::Global;
 use std::fs::{self, File, Metadata, OpenOptions};
 use std::io::{self, ErrorKind, Seek, SeekFrom};
-use std::os::fd::AsRawFd;
 use std::os::unix::fs::FileTypeExt;
 use std::path::Path;
 use std::rt::Files;
@@ -43,15 +42,6 @@ fn open_locked<R: Files<File = File>>(rt: &R, path: &str, create: bool) -> io::R
     }
     file.try_lock()?;
     Ok(file)
-}
-
-// Flushes what the system holds of the file, and then has it drop its pages, so that reads from here on give what is stable.
-fn settle(file: &File) -> io::Result<()> {
-    file.sync_all()?;
-    match libc::posix_fadvise(file.as_raw_fd(), 0, 0, libc::POSIX_FADV_DONTNEED) {
-        0 => Ok(()),
-        error => Err(io::Error::from_raw_os_error(error)),
-    }
 }
 
 // The number of whole units. The end is sought, since a block device has no length.
@@ -94,10 +84,10 @@ pub(crate) fn make_file<R: Files<File = File>>(
     let file = open_locked(rt, path, true)?;
     if file.metadata()?.is_file() {
         file.set_len(offset_of(units))?;
-        settle(&file)?;
+        file.sync_all()?;
         sync_name(rt, alloc, path)?;
     } else if whole_units(&file)? == units {
-        settle(&file)?;
+        file.sync_all()?;
     } else {
         return Err(io::Error::from(ErrorKind::InvalidInput));
     }
@@ -109,7 +99,7 @@ pub(crate) fn open_file<R: Files<File = File>>(rt: &R, path: &str) -> io::Result
     ensures { IfOk result (λ opened. opened.1 ≤ 1048576) }
 {
     let file = open_locked(rt, path, false)?;
-    settle(&file)?;
+    file.sync_all()?;
     let units = whole_units(&file)?;
     Ok((file, units))
 }

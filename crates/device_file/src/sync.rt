@@ -108,11 +108,11 @@ impl SyncFile {
     /// - A file that is made gets its length.
     /// - It is flushed, since a program that was killed leaves its last writes in the system's cache: they read as if they
     ///   were stable, and are gone after a loss of power.
-    /// - The system is told to drop its pages of it, since after a failed flush it keeps a page that isn't on the disk, and
-    ///   calls it clean.
     /// - Of a file that is made, the folder is flushed too, so that its being there is stable.
     ///
-    /// What is read from here on is stable, so the first flush has nothing to do unless something was written before it.
+    /// What was written before is stable from here on, so the first flush has nothing to do unless something is written before
+    /// it. One thing no call here can undo: after a flush that failed, the system may keep a page that isn't on the disk and
+    /// call it clean. Who opens a device after such a run has the system drop its pages first, as the script `bstore` does.
     pub fn open<R: Files<File = File>>(
         rt: &R,
         alloc: Global,

@@ -267,7 +267,7 @@ two_programs() {
     held_up 'a dump at its first read' pread64 dump FIRST
 }
 
-for it in calls_of_good_runs calls_of_seeds failing_writes_and_flushes failing_openings killed_runs two_programs; do
+for it in calls_of_good_runs calls_of_seeds script_drops_pages failing_writes_and_flushes failing_openings killed_runs two_programs; do
     if [ "$can_trace" = yes ]; then
         "$it"
     else

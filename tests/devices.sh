@@ -175,7 +175,7 @@ failing_writes_and_flushes() {
 # Each call of the opening that fails: a run that opens a store stops before it has changed anything.
 failing_openings() {
     local failing command
-    for failing in flock:error=ENOLCK fsync:error=EIO fadvise64:error=EINVAL; do
+    for failing in flock:error=ENOLCK fsync:error=EIO; do
         inject=(-e "inject=$failing:when=1")
         for command in step dump; do
             cp TWO OPENING

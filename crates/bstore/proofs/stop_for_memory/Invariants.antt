@@ -1,4 +1,4 @@
-use Rattle.std.proofs.Common.{◌≡◌, ℕ, ◌≤◌, length}
+use Rattle.std.proofs.Common.{◌≡◌, ◌≤◌, length}
 use Rattle.end_points.specs.Sink.{with_bytes}
 use Rattle.bstore.specs.declared.TheConstants.{STOPPED}
 use Rattle.bstore.proofs.stop_for_memory.Given as goal

@@ -1,6 +1,5 @@
-use Rattle.std.proofs.Common.{rules, arith, ◌≡◌, ◌++◌, ◌≤◌, length, take, refl, None}
+use Rattle.std.proofs.Common.{rules, arith, take, refl}
 use Rattle.std.proofs.lemmas.Grind.{common_steps}
-use Rattle.end_points.specs.Source.{Took}
 use Rattle.bstore.proofs.source.FileSourceSource.read.Goals as goal
 
 pub returns-in-Ok-clause-ok : goal.returns-in-Ok-clause-ok

@@ -1,9 +1,8 @@
-//! The lines of replies, and what `dump` prints.
+//! What is printed of books and walks, over a sink in memory.
 
-use crate::WorkEnd;
-use crate::dump_texts::dump_text;
-use crate::step_texts::step_text;
+use crate::*;
 use byte_maps::{Bytes, Items};
+use end_points::MemorySink;
 use object_model::{Answer, Book, Command, Entry, Refusal};
 use read_facts::{BadSum, CollView, ObjectView};
 use std::alloc::Global;
@@ -68,8 +67,9 @@ fn expect(
         answer,
         acks: 0,
     })?;
-    let text = step_text(alloc, &book, &WorkEnd::DeviceFault)?;
-    assert_eq!(rt; text.as_str(), want);
+    let mut sink = MemorySink::new(alloc, 4096, 7, Vec::new(alloc))?;
+    report_step(alloc, &book, &WorkEnd::DeviceFault, &mut sink);
+    assert_eq!(rt; sink.text(), want.as_bytes());
     Ok(())
 }
 
@@ -87,19 +87,15 @@ static BYTES: [(Asked, &[u8], &str); 7] = [
     (Asked::OmapHeader, b"", "3:70 header -\nstopped 3\n"),
 ];
 
-#[test]
-fn bytes_of_replies(rt: HostRuntime) -> Result<(), Fail> {
-    let alloc = rt.alloc();
+fn bytes_of_replies(rt: &impl Abort, alloc: Global) -> Result<(), Fail> {
     for (asked, bytes, want) in &BYTES {
         let answer = Answer::Bytes(Bytes::from_slice(alloc, bytes)?);
-        expect(&rt, alloc, *asked, answer, want)?;
+        expect(rt, alloc, *asked, answer, want)?;
     }
     Ok(())
 }
 
-#[test]
-fn numbers_of_replies(rt: HostRuntime) -> Result<(), Fail> {
-    let alloc = rt.alloc();
+fn numbers_of_replies(rt: &impl Abort, alloc: Global) -> Result<(), Fail> {
     for (answer, want) in [
         (Answer::Accepted, "3:70 sent\nstopped 3\n"),
         (
@@ -130,7 +126,7 @@ fn numbers_of_replies(rt: HostRuntime) -> Result<(), Fail> {
             "3:70 E14 Csum unit=20 kept=000000ff found=e3069283\nstopped 4\n",
         ),
     ] {
-        expect(&rt, alloc, Asked::Stat, answer, want)?;
+        expect(rt, alloc, Asked::Stat, answer, want)?;
     }
     Ok(())
 }
@@ -144,11 +140,9 @@ fn names(alloc: Global, all: &[&str]) -> Result<Answer, Fail> {
     Ok(Answer::Names(names))
 }
 
-#[test]
-fn names_of_replies(rt: HostRuntime) -> Result<(), Fail> {
-    let alloc = rt.alloc();
+fn names_of_replies(rt: &impl Abort, alloc: Global) -> Result<(), Fail> {
     expect(
-        &rt,
+        rt,
         alloc,
         Asked::Stat,
         names(alloc, &[])?,
@@ -156,12 +150,19 @@ fn names_of_replies(rt: HostRuntime) -> Result<(), Fail> {
     )?;
     let some = names(alloc, &["%", "a b", "rbd_data.1-2"])?;
     expect(
-        &rt,
+        rt,
         alloc,
         Asked::Stat,
         some,
         "3:70 objects %25 a%20b rbd_data.1-2\nstopped 3\n",
     )
+}
+
+#[test]
+fn replies(rt: HostRuntime) -> Result<(), Fail> {
+    bytes_of_replies(&rt, rt.alloc())?;
+    numbers_of_replies(&rt, rt.alloc())?;
+    names_of_replies(&rt, rt.alloc())
 }
 
 /// A collection with two objects, of which the first has this checksum, or a bad unit.
@@ -183,21 +184,36 @@ fn seen(alloc: Global, seed: u32, sum: Result<u32, BadSum>) -> Result<CollView, 
     })
 }
 
-/// What is printed of a walk over an empty collection, and one with such an object, that ends so.
-fn dumped(alloc: Global, sum: Result<u32, BadSum>, end: &WorkEnd) -> Result<String, Fail> {
+/// A walk over an empty collection, and one with such an object, that ends so, is printed as this front and this end.
+fn expect_dump(
+    rt: &impl Abort,
+    alloc: Global,
+    sum: Result<u32, BadSum>,
+    end: &WorkEnd,
+    want: [&str; 2],
+) -> Result<(), Fail> {
     let empty = CollView {
         coll: CollName::new(alloc, 7, 10)?,
         objects: Items::new(alloc),
     };
     let walk = vec![in alloc; empty, seen(alloc, 0x1f, sum)?]?;
-    Ok(dump_text(alloc, walk.as_slice(), end)?)
+    let mut sink = MemorySink::new(alloc, 4096, 7, Vec::new(alloc))?;
+    report_dump(walk.as_slice(), end, &mut sink);
+    let [front, last] = want;
+    assert_eq!(rt;
+        sink.text().strip_prefix(front.as_bytes()),
+        Some(last.as_bytes())
+    );
+    Ok(())
 }
 
-#[test]
-fn ends_of_dump(rt: HostRuntime) -> Result<(), Fail> {
-    let alloc = rt.alloc();
-    let sound =
-        "coll 7.a_head\ncoll 7.1f_head\nobject a%2F%FF size 9 crc e3069283\nobject b size 0 crc 00000000\n";
+const SOUND: &str =
+    "coll 7.a_head\ncoll 7.1f_head\nobject a%2F%FF size 9 crc e3069283\nobject b size 0 crc 00000000\n";
+
+const BAD: &str =
+    "coll 7.a_head\ncoll 7.1f_head\nobject a%2F%FF size 9 E14 Csum unit=34 kept=e3069283 found=00000a0b\nobject b size 0 crc 00000000\n";
+
+fn ends_of_dump(rt: &impl Abort, alloc: Global) -> Result<(), Fail> {
     for (end, last) in [
         (WorkEnd::Done { free: 3 }, "end\n"),
         (WorkEnd::DeviceFault, "stopped 3\n"),
@@ -209,33 +225,73 @@ fn ends_of_dump(rt: HostRuntime) -> Result<(), Fail> {
             "mount NotExact unit=4294967295\nstopped 4\n",
         ),
     ] {
-        let text = dumped(alloc, Ok(0xe3069283), &end)?;
-        assert_eq!(rt; text.strip_prefix(sound), Some(last));
+        expect_dump(rt, alloc, Ok(0xe3069283), &end, [SOUND, last])?;
     }
     Ok(())
 }
 
-/// The checksum of an object with a bad unit.
-fn bad_unit() -> Result<u32, BadSum> {
-    Err(BadSum {
-        unit: UnitNo::new(34),
-        kept: 0xe3069283,
-        found: 0xa0b,
-    })
-}
-
-#[test]
-fn ends_of_dump_with_a_bad_unit(rt: HostRuntime) -> Result<(), Fail> {
-    let alloc = rt.alloc();
-    let front =
-        "coll 7.a_head\ncoll 7.1f_head\nobject a%2F%FF size 9 E14 Csum unit=34 kept=e3069283 found=00000a0b\nobject b size 0 crc 00000000\n";
+fn ends_of_dump_with_a_bad_unit(rt: &impl Abort, alloc: Global) -> Result<(), Fail> {
     for (end, last) in [
         (WorkEnd::Done { free: 3 }, "end\n"),
         (WorkEnd::DeviceFault, "stopped 4\n"),
         (WorkEnd::OutOfMemory, "stopped 4\n"),
     ] {
-        let text = dumped(alloc, bad_unit(), &end)?;
-        assert_eq!(rt; text.strip_prefix(front), Some(last));
+        let bad = BadSum {
+            unit: UnitNo::new(34),
+            kept: 0xe3069283,
+            found: 0xa0b,
+        };
+        expect_dump(rt, alloc, Err(bad), &end, [BAD, last])?;
     }
+    Ok(())
+}
+
+#[test]
+fn dumps(rt: HostRuntime) -> Result<(), Fail> {
+    ends_of_dump(&rt, rt.alloc())?;
+    ends_of_dump_with_a_bad_unit(&rt, rt.alloc())
+}
+
+/// A book with one read of so many bytes 5A, of an object `a`.
+fn long_read(alloc: Global, count: usize) -> Result<Book, Fail> {
+    let bytes = Bytes::from_vec(vec![in alloc; 0x5au8; count]?);
+    let mut book = Book::new(alloc);
+    book.entries.push(Entry {
+        client: 0,
+        line: 1,
+        command: Asked::Read.command(alloc)?,
+        answer: Answer::Bytes(bytes),
+        acks: 0,
+    })?;
+    Ok(book)
+}
+
+/// A text of many pieces: the digits of the bytes stand between the line's beginning and its end.
+#[test]
+fn a_text_of_many_pieces(rt: HostRuntime) -> Result<(), Fail> {
+    let alloc = rt.alloc();
+    let book = long_read(alloc, 20_000)?;
+    let mut sink = MemorySink::new(alloc, 65536, 65536, Vec::new(alloc))?;
+    let status = report_step(alloc, &book, &WorkEnd::BayFault, &mut sink);
+    assert_eq!(rt; status, Status::Stopped(Stop::BayFault));
+    let text = sink.text();
+    let digits = text
+        .strip_prefix(b"0:1 data ")
+        .ok_or("the line's beginning")?;
+    let digits = digits.strip_suffix(b"\nstopped 7\n").ok_or("the end")?;
+    assert_eq!(rt; digits.len(), 40_000);
+    assert!(rt; digits.chunks(2).all(|pair| pair == b"5a".as_slice()));
+    Ok(())
+}
+
+/// A sink that fails at its second call keeps the first piece, and nothing goes to it after that.
+#[test]
+fn a_sink_that_fails(rt: HostRuntime) -> Result<(), Fail> {
+    let alloc = rt.alloc();
+    let book = long_read(alloc, 20_000)?;
+    let mut sink = MemorySink::new(alloc, 65536, 65536, vec![in alloc; 1u64]?)?;
+    let status = report_step(alloc, &book, &WorkEnd::BayFault, &mut sink);
+    assert_eq!(rt; status, Status::SinkFault);
+    assert_eq!(rt; sink.text().len(), 16384);
     Ok(())
 }

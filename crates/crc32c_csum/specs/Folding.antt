@@ -19,7 +19,8 @@ sixteen place bytes = take 16 (drop place bytes)
 -- what was put on sixteen bytes of the page
 abbrev pub put_on : ℕ → List ℕ → List ℕ
 put_on t taken =
-    zip2 bit_xor (sixteen (t + 136) taken) (zip2 bit_xor (sixteen (t + 113) taken) (zip2 bit_xor (sixteen (t + 107) taken) (zip2 bit_xor (sixteen (t + 32) taken) (sixteen t taken))))
+    zip2 bit_xor (sixteen (t + 136) taken) (zip2 bit_xor (sixteen (t + 113) taken)
+    (zip2 bit_xor (sixteen (t + 107) taken) (zip2 bit_xor (sixteen (t + 32) taken) (sixteen t taken))))
 
 -- the remainder of the first bytes alone
 abbrev pub of_first : ℕ → List ℕ → ℕ
@@ -28,7 +29,8 @@ of_first n bytes = remainder 0 (take n bytes)
 -- the remainder of all that was put on the page before a place
 abbrev pub of_put_on : ℕ → List ℕ → ℕ
 of_put_on t taken =
-    bit_xor (of_first (t + 136) taken) (bit_xor (of_first (t + 113) taken) (bit_xor (of_first (t + 107) taken) (bit_xor (of_first (t + 32) taken) (of_first t taken))))
+    bit_xor (of_first (t + 136) taken) (bit_xor (of_first (t + 113) taken)
+    (bit_xor (of_first (t + 107) taken) (bit_xor (of_first (t + 32) taken) (of_first t taken))))
 
 -- the remainder of the page's bytes before a place, from those that were taken out of them
 abbrev pub of_taken : ℕ → List ℕ → ℕ

@@ -67,7 +67,8 @@ fn after_stay(r: u32, page: &[u8; PAGE], taken: &[u8; TAKEN], t: usize) -> u32
     requires room { t + 16 ≤ PAGE }
     requires last { 3792 ≤ t }
     requires zeros { drop 4082 taken.now ≡ replicate 304 0 }
-    ensures { remainder (bit_xor (of_taken (t + 16) taken.now) result) (drop (t + 16) page.now) ≡ remainder (bit_xor (of_taken t taken.now) r) (drop t page.now) }
+    ensures { remainder (bit_xor (of_taken (t + 16) taken.now) result) (drop (t + 16) page.now) ≡
+        remainder (bit_xor (of_taken t taken.now) r) (drop t page.now) }
 {
     let [
         a0,

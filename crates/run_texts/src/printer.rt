@@ -53,7 +53,8 @@ impl Printer {
 
     /// Writes what waits, and says whether the sink has failed at it or before.
     fn write_waiting<K: Sink>(&self, out: &mut K) -> bool
-        ensures { Adds [] self.now (record { bytes = []; failed = result }) (output (K.written out.old) (K.faults out.old)) (output (K.written out.new) (K.faults out.new)) }
+        ensures { Adds [] self.now (record { bytes = []; failed = result })
+            (output (K.written out.old) (K.faults out.old)) (output (K.written out.new) (K.faults out.new)) }
     {
         if self.failed {
             return true;

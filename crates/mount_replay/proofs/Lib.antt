@@ -4,6 +4,7 @@ pub mod ZeroLemmas
 pub mod StaleLemmas
 pub mod CleanLemmas
 pub mod MadeLemmas
+pub mod StopLemmas
 pub mod ClearLemmas
 pub mod OpeningLemmas
 pub mod ReplayLemmas
@@ -11,3 +12,4 @@ pub mod DurableLemmas
 pub mod MountingLemmas
 pub mod JudgeLemmas
 pub mod MountLemmas
+pub mod MountedLemmas

@@ -34,16 +34,16 @@ use Rattle.mount_replay.proofs.DurableLemmas.{no_book, still_durable, after_clea
 
 -- ---- what is told of two histories
 
-known : (P : History → Type 0) (o : Option History) (h : History) → o ≡ Some h → IfSome o P → P h
+pub known : (P : History → Type 0) (o : Option History) (h : History) → o ≡ Some h → IfSome o P → P h
 known P o h is p = subst (λ (x : Option History). IfSome x P) is p
 
 -- what follows a history that is told
-record ToldAfter (P : History → History → Type 0) (h : History) (b : Option History) : Type 0 where
-  now : History
-  told : b ≡ Some now
-  holds : P h now
+pub record ToldAfter (P : History → History → Type 0) (h : History) (b : Option History) : Type 0 where
+  pub now : History
+  pub told : b ≡ Some now
+  pub holds : P h now
 
-told_after : (P : History → History → Type 0) (b : Option History) (h : History) → Told P (Some h) b → ToldAfter P h b
+pub told_after : (P : History → History → Type 0) (b : Option History) (h : History) → Told P (Some h) b → ToldAfter P h b
 told_after P None h p = absurd p
 told_after P (Some k) h p = record { now = k; told = refl; holds = p }
 

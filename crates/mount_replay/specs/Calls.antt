@@ -1,8 +1,9 @@
 -- Calls of a device, made one at a time: each is submitted with nothing else in flight, and its end is awaited.
-use Rattle.std.specs.Prelude.{◌≡◌, ℕ, Bool, List, [], ◌∷◌, ◌++◌, length, map, Option, Some, None}
+use Rattle.std.specs.Prelude.{◌≡◌, ◌⊎◌, ℕ, Bool, true, false, List, [], ◌∷◌, ◌++◌, length, map, Option, Some, None}
+use Rattle.std.specs.List.{AllByRecursion}
 use Rattle.block_device.specs.Disk.{Disk, History, Flight, grown}
 use Rattle.block_device.specs.declared.event.Event.{Event}
-use Rattle.block_device.specs.declared.event.Event.TheVariants.{Done}
+use Rattle.block_device.specs.declared.event.Event.TheVariants.{Write, Flush, Done}
 
 -- this ticket alone is in flight
 abbrev pub IsOnly : ℕ → List Flight → Type 0
@@ -40,6 +41,29 @@ pub record GoesOn (old new : History) : Type 0 where
 pub record GoesOnBy (events : List Event) (old new : History) : Type 0 where
   pub same_start : new.start ≡ old.start
   pub more : new.log ≡ old.log ++ events
+
+-- the event isn't the bad end of a submission
+abbrev pub IsNoBadEnd : Event → Type 0
+IsNoBadEnd (Write at bytes) = Unit {0}
+IsNoBadEnd Flush = Unit {0}
+IsNoBadEnd (Done ticket ok) = ok ≡ true
+
+-- the history has gone on, and no submission ended badly
+pub record GoesOnWell (old new : History) : Type 0 where
+  pub events : List Event
+  pub by : GoesOnBy events old new
+  pub good : AllByRecursion IsNoBadEnd events
+
+-- the history has gone on to the first bad end of a submission, and there is nothing behind it
+pub record GoesOnToBadEnd (old new : History) : Type 0 where
+  pub events : List Event
+  pub ticket : ℕ
+  pub by : GoesOnBy (events ++ Done ticket false ∷ []) old new
+  pub good : AllByRecursion IsNoBadEnd events
+
+-- A call failed, and nothing was submitted after it: a read, before there was a submission, or a submission, whose end is the last event.
+abbrev pub StopsAtFault : History → History → Type 0
+StopsAtFault old new = (new ≡ old) ⊎ GoesOnToBadEnd old new
 
 -- the same device later, with nothing in flight
 pub record IsLater (old new : Disk) : Type 0 where

@@ -9,3 +9,4 @@ pub mod Made
 pub mod Opening
 pub mod FoundOn
 pub mod Mounting
+pub mod Mounted

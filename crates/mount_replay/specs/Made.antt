@@ -6,6 +6,7 @@ use Rattle.block_device.specs.Disk.{Disk, IsQuiet, Rose}
 use Rattle.meta_log.specs.Slots.{IsActiveSlot}
 use Rattle.store_image.specs.Stands.{StandsFor}
 use Rattle.store_image.specs.Exact.{IsExactImage}
+use Rattle.mount_replay.specs.Calls.{Told, StopsAtFault}
 use Rattle.mount_replay.specs.NewSuper.{new_super, units_needed}
 use Rattle.mount_replay.specs.Opening.{IsLogEmpty}
 use Rattle.mount_replay.specs.declared.making.MkfsFail.{MkfsFail}
@@ -28,3 +29,10 @@ abbrev pub FailsFor : MkfsFail → (units half before now : ℕ) → Type 0
 FailsFor Memory units half before now = units_needed half ≤ units
 FailsFor (TooSmall asked need) units half before now = (asked ≡ units) × (need ≡ units_needed half) × (units < need)
 FailsFor Fault units half before now = (units_needed half ≤ units) × Rose before now
+
+-- What a device is then: as it was, where it has too few units; and where a call failed, nothing was submitted after that. Want of memory may
+-- come anywhere on the way.
+abbrev pub LeavesDevice : MkfsFail → Disk → ℕ → Disk → ℕ → Type 0
+LeavesDevice Memory given before d now = Unit {0}
+LeavesDevice (TooSmall units need) given before d now = (d ≡ given) × (now ≡ before)
+LeavesDevice Fault given before d now = Told StopsAtFault given.history d.history

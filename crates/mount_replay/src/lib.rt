@@ -6,6 +6,7 @@
 mod calls;
 mod clearing;
 mod judging;
+mod laws;
 mod making;
 mod mounting;
 mod opening;
@@ -13,6 +14,7 @@ mod replaying;
 mod stale;
 mod zeroing;
 
+pub use laws::a_mount_opens_the_objects;
 pub use making::{MkfsFail, mkfs};
 pub use mounting::{mount, unmount};
 pub use opening::MountFail;

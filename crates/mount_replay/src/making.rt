@@ -1,10 +1,10 @@
 //! Making an empty store.
 ghost use Rattle.std.specs.Prelude.{◌≡◌, ◌≤◌, ◌<◌, ◌+◌, ◌*◌, [], IfOk, IfErr, OnOk, IsErrOf, IsOk};
 ghost use Rattle.block_device.specs.Disk.{IsQuiet, Rose};
-ghost use Rattle.mount_replay.specs.Calls.{Told, IsLater};
+ghost use Rattle.mount_replay.specs.Calls.{Told, GoesOnWell, GoesOnToBadEnd, StopsAtFault, IsLater};
 ghost use Rattle.mount_replay.specs.Cleared.{WasCleared, WasMade};
 ghost use Rattle.mount_replay.specs.NewSuper.{units_needed};
-ghost use Rattle.mount_replay.specs.Made.{HoldsEmptyStore, FailsFor};
+ghost use Rattle.mount_replay.specs.Made.{HoldsEmptyStore, FailsFor, LeavesDevice};
 
 use crate::calls::{flush_through, write_through};
 use crate::stale::stale_units;
@@ -20,10 +20,10 @@ pub enum MkfsFail {
     /// Memory ran out. The device may hold some of the zeros.
     #[error("out of memory")]
     Memory,
-    /// The device has fewer units than a store with such halves needs. Nothing was written.
+    /// The device has fewer units than a store with such halves needs. It is as it was.
     #[error("the device has {units} units, and the store needs {need}")]
     TooSmall { units: u32, need: u32 },
-    /// A call of the device failed, and it has counted that. Nothing was written after it.
+    /// A call of the device failed, and it has counted that. Nothing was submitted after it.
     #[error("the device failed")]
     Fault,
 }
@@ -35,6 +35,8 @@ fn clear<D: Device>(alloc: Global, dev: &mut D, half: u32) -> Result<(), Failed>
     requires inside { half + 2 ≤ (D.disk dev.old).units }
     ensures later { IsLater (D.disk dev.old) (D.disk dev.new) }
     ensures cleared { OnOk result (Told (WasCleared (half + 2)) (D.disk dev.old).history (D.disk dev.new).history) }
+    ensures well { OnOk result (Told GoesOnWell (D.disk dev.old).history (D.disk dev.new).history) }
+    ensures stops { IsErrOf result Failed.Fault → Told StopsAtFault (D.disk dev.old).history (D.disk dev.new).history }
     ensures faults { D.faults dev.old ≤ D.faults dev.new }
     ensures cause { IsErrOf result Failed.Fault → Rose (D.faults dev.old) (D.faults dev.new) }
 {
@@ -54,6 +56,7 @@ fn write_slot<D: Device>(alloc: Global, dev: &mut D, half: u32, prefer: u32) -> 
     requires room { units_needed half ≤ (D.disk dev.old).units }
     ensures later { IsLater (D.disk dev.old) (D.disk dev.new) }
     ensures made { OnOk result (Told (WasMade (D.disk dev.old).units half prefer) (D.disk dev.old).history (D.disk dev.new).history) }
+    ensures stops { IsErrOf result Failed.Fault → Told GoesOnToBadEnd (D.disk dev.old).history (D.disk dev.new).history }
     ensures faults { D.faults dev.old ≤ D.faults dev.new }
     ensures cause { IsErrOf result Failed.Fault → Rose (D.faults dev.old) (D.faults dev.new) }
 {
@@ -80,6 +83,7 @@ fn make<D: Device>(alloc: Global, dev: &mut D, half: u32, prefer: u32) -> Result
     requires room { units_needed half ≤ (D.disk dev.old).units }
     ensures later { IsLater (D.disk dev.old) (D.disk dev.new) }
     ensures made { OnOk result (IsQuiet (D.disk dev.old) → HoldsEmptyStore half prefer (D.disk dev.new)) }
+    ensures stops { IsErrOf result Failed.Fault → Told StopsAtFault (D.disk dev.old).history (D.disk dev.new).history }
     ensures faults { D.faults dev.old ≤ D.faults dev.new }
     ensures cause { IsErrOf result Failed.Fault → Rose (D.faults dev.old) (D.faults dev.new) }
 {
@@ -102,6 +106,7 @@ pub fn mkfs<D: Device>(alloc: Global, dev: D, half: u32, prefer: u32) -> Result<
     ensures room { IsOk result → units_needed half ≤ (D.disk dev).units }
     ensures same { IfOk result (λ d. IsLater (D.disk dev) (D.disk d) × (D.faults dev ≤ D.faults d)) }
     ensures fails { IfErr result (λ e. FailsFor e.0 (D.disk dev).units half (D.faults dev) (D.faults e.1)) }
+    ensures leaves { IfErr result (λ e. LeavesDevice e.0 (D.disk dev) (D.faults dev) (D.disk e.1) (D.faults e.1)) }
     ensures back { IfErr result (λ e. IsLater (D.disk dev) (D.disk e.1) × (D.faults dev ≤ D.faults e.1)) }
 {
     let mut dev = dev;

@@ -2,7 +2,7 @@
 ghost use Rattle.std.specs.Prelude.{◌≡◌, ◌≤◌, ◌<◌, ◌+◌, ◌*◌, ℕ, [], length, All, IfOk, IsErrOf};
 ghost use Rattle.byte_maps.specs.Units.{zeros};
 ghost use Rattle.block_device.specs.Disk.{Rose};
-ghost use Rattle.mount_replay.specs.Calls.{Told, IsLater};
+ghost use Rattle.mount_replay.specs.Calls.{Told, GoesOnToBadEnd, IsLater};
 ghost use Rattle.mount_replay.specs.Zeroing.{IsFirstRun, WasZeroed, WroteRuns, ZeroesOnly};
 
 use crate::calls::write_through;
@@ -44,6 +44,7 @@ pub fn zero_units<D: Device>(alloc: Global, dev: &mut D, units: &[u32]) -> Resul
     ensures few { IfOk result (λ runs. runs ≤ length units.now) }
     ensures only { (first end : ℕ) → All (λ unit. (first ≤ unit) × (unit < end)) units.now →
         Told (ZeroesOnly first end) (D.disk dev.old).history (D.disk dev.new).history }
+    ensures stops { IsErrOf result Failed.Fault → Told GoesOnToBadEnd (D.disk dev.old).history (D.disk dev.new).history }
     ensures faults { D.faults dev.old ≤ D.faults dev.new }
     ensures cause { IsErrOf result Failed.Fault → Rose (D.faults dev.old) (D.faults dev.new) }
 {

@@ -1,9 +1,10 @@
-use Rattle.std.proofs.Common.{◌≡◌, ℕ, List, length, ap, ◌∙◌, arith}
+use Rattle.std.proofs.Common.{Err, ◌≡◌, ℕ, List, length, ap, ◌∙◌, arith}
 use Rattle.meta_log.specs.declared.slot.Super.{Super}
 use Rattle.meta_log.specs.Slots.{super_bytes}
 use Rattle.meta_log.proofs.SlotLemmas.{length-super_bytes}
 use Rattle.mount_replay.specs.NewSuper.{new_super}
 use Rattle.mount_replay.proofs.MadeLemmas.{made}
+use Rattle.mount_replay.proofs.StopLemmas.{same_failure, well_none, well_after, bad_after}
 use Rattle.mount_replay.proofs.making.write_slot.Goals as goal
 
 -- what is written is one unit
@@ -26,3 +27,17 @@ returns-clause-made g c =
     let is : c.in-Ok.bytes.items ≡ super_bytes (new_super units c.args.half c.args.prefer) = c.in-Ok.ensures ∙ ap (λ n. super_bytes (new_super n c.args.half c.args.prefer)) c.units.ensures.value in
     made units c.args.half c.args.prefer c.in-Ok.bytes.items is (disk c.args.dev.now) (disk c.write_through.new.dev) (disk c.flush_through.new.dev) (omega (arith, c.requires.room)) c.units.ensures.sound.size_now
     c.in_ok-write_through.ensures.ok c.in_ok-flush_through.ensures.ok
+
+pub returns-in_err-write_through-clause-stops : goal.returns-in_err-write_through-clause-stops
+returns-in_err-write_through-clause-stops g c is =
+    let disk = g.D.Device.disk in
+    let old = disk c.args.dev.now in
+    bad_after _ tt old old (disk c.write_through.new.dev) (well_none old) (c.in_err-write_through.ensures.fault (ap Err (same_failure c.from_residual.result c.in_err-write_through.field-0.0 c.from_residual.ensures is)))
+
+pub returns-in_err-flush_through-clause-stops : goal.returns-in_err-flush_through-clause-stops
+returns-in_err-flush_through-clause-stops g c is =
+    let disk = g.D.Device.disk in
+    let old = disk c.args.dev.now in
+    let mid = disk c.write_through.new.dev in
+    let well = well_after _ tt old old mid (well_none old) c.in_ok-write_through.ensures.ok in
+    bad_after _ tt old mid (disk c.flush_through.new.dev) well (c.in_err-flush_through.ensures.fault (ap Err (same_failure c.from_residual-in_err-flush_through.result c.in_err-flush_through.field-0.0 c.from_residual-in_err-flush_through.ensures is)))

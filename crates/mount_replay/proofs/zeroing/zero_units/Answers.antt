@@ -5,6 +5,7 @@ use Rattle.mount_replay.specs.Calls.{Told}
 use Rattle.mount_replay.specs.Zeroing.{ZeroesOnly}
 use Rattle.mount_replay.proofs.CallLemmas.{either_failure}
 use Rattle.mount_replay.proofs.ZeroLemmas.{not_empty, none_left, zeroed_none, zeroed_tail, run_fits, only_after, wrote_all}
+use Rattle.mount_replay.proofs.StopLemmas.{same_failure, well_so_far, bad_after}
 use Rattle.mount_replay.proofs.zeroing.zero_units.Goals as goal
 
 pub runs-init : goal.runs-init
@@ -73,3 +74,11 @@ returns-clause-few g c = omega (arith, c.runs.invariant.0.few)
 
 pub returns-clause-only : goal.returns-clause-only
 returns-clause-only g c = λ first end between. (c.runs.invariant.0.only first end between).1
+
+pub returns-in_err-write_through-clause-stops : goal.returns-in_err-write_through-clause-stops
+returns-in_err-write_through-clause-stops g c is =
+    let disk = g.D.Device.disk in
+    let old = disk c.args.dev.now in
+    let mid = disk c.runs.dev in
+    let so_far = well_so_far c.args.units.now c.runs.rest.now c.runs.runs old.history mid.history c.runs.invariant.0.runs in
+    bad_after _ tt old mid (disk c.write_through.new.dev) so_far (c.in_err-write_through.ensures.fault (ap Err (same_failure c.from_residual.result c.in_err-write_through.field-0.0 c.from_residual.ensures is)))

@@ -1,33 +1,14 @@
-// Runs over a bay in memory: what they print, what they end with, and whether a device comes back.
-
-mod bitmaps;
-mod dump;
-mod printed_texts;
-mod step_reads;
-mod step_runs;
+// One run of each command over a bay in memory, and a failing call of each kind. Tables of runs are the cases of `store_cases`.
+ghost use Rattle.std.specs.Prelude.{IfOk};
+ghost use Rattle.end_points.specs.Memory.{AreContents};
 
 use super::*;
 use block_device::{Device, Kind, MemoryDevice};
 use end_points::{Bay, Call, MemoryBay, MemorySink, MemorySource, OpenGate, Plan};
+use meta_log::Super;
 use std::alloc::Global;
 use std::process::Abort;
 use std::test::*;
-
-/// Which calls of a run fail, by number.
-#[derive(Drop)]
-struct Fails {
-    device: Vec<(Kind, u64)>,
-    bay: Vec<(Call, u64)>,
-    sink: Vec<u64>,
-}
-
-fn no_fails(alloc: Global) -> Fails {
-    Fails {
-        device: Vec::new(alloc),
-        bay: Vec::new(alloc),
-        sink: Vec::new(alloc),
-    }
-}
 
 /// A run that has ended.
 #[derive(Drop)]
@@ -36,54 +17,87 @@ struct Finished {
     sink: MemorySink,
 }
 
-impl Finished {
-    /// The units of the device that came back, if one did.
-    fn units(&self) -> Option<u32> {
-        match &self.outcome.dev {
-            Some(dev) => Some(dev.units()),
-            None => None,
-        }
-    }
-}
-
 /// The run has this status, printed this text, and gave back a device of so many units, or none.
 fn expect(rt: &impl Abort, run: &Finished, status: u8, text: &str, units: Option<u32>) {
+    let back = match &run.outcome.dev {
+        Some(dev) => Some(dev.units()),
+        None => None,
+    };
     assert_eq!(rt; run.outcome.status, status, "{text}");
     assert_eq!(rt; run.sink.text(), text.as_bytes(), "{text}");
-    assert_eq!(rt; run.units(), units, "{text}");
+    assert_eq!(rt; back, units, "{text}");
 }
 
-fn words(alloc: Global, line: &str) -> Result<Vec<String>, Fail> {
+/// A call that fails.
+#[derive(Clone, Copy)]
+enum Failing {
+    None,
+    Device(Kind, u64),
+    Bay(Call, u64),
+    Source(u64),
+    Sink(u64),
+}
+
+/// A list of one value or none.
+fn list<T: Drop>(alloc: Global, value: Option<T>) -> Result<Vec<T>, Fail> {
+    let mut list = Vec::new(alloc);
+    if let Some(value) = value {
+        list.push(value)?;
+    }
+    Ok(list)
+}
+
+/// A new store of 64 units.
+fn store(alloc: Global) -> Result<Vec<u8>, Fail>
+    ensures { IfOk result (λ c. AreContents c.items) }
+{
+    let sup = Super {
+        units: 64,
+        half: 8,
+        prefer: 32768,
+        epoch: 0,
+        first: 0,
+    };
+    let mut contents = sup.write(alloc)?;
+    contents.resize(4096 * 64, 0)?;
+    Ok(contents)
+}
+
+/// A bay with that store under the name `dev`, and a script.
+fn bay(alloc: Global, failing: Failing) -> Result<MemoryBay, Fail> {
+    let (device, call, source) = match failing {
+        Failing::Device(kind, number) => (Some((kind, number)), None, None),
+        Failing::Bay(call, number) => (None, Some((call, number)), None),
+        Failing::Source(number) => (None, None, Some(number)),
+        _ => (None, None, None),
+    };
+    let plan = Plan {
+        lags: vec![in alloc; 2u8]?,
+        device_fails: list(alloc, device)?,
+        source_step: 7,
+        source_fails: list(alloc, source)?,
+        fails: list(alloc, call)?,
+    };
+    let mut bay = MemoryBay::new(alloc, plan);
+    bay.put_device("dev", store(alloc)?)?;
+    bay.put_text("script", SCRIPT.as_bytes().to_vec(alloc)?)?;
+    Ok(bay)
+}
+
+const SCRIPT: &str = "mkcoll 1.0_head\nwait\nwrite 1.0_head a 0 fill:5a:4096\nread 1.0_head a 4095 9\n";
+
+/// Runs a line of words.
+fn finish(alloc: Global, line: &str, failing: Failing) -> Result<Finished, Fail> {
     let mut words = Vec::new(alloc);
     for word in line.split(' ') {
         words.push(String::from_str(alloc, word)?)?;
     }
-    Ok(words)
-}
-
-/// A bay where the name `old` has three units of 7s.
-fn bay(
-    alloc: Global,
-    device_fails: Vec<(Kind, u64)>,
-    fails: Vec<(Call, u64)>,
-) -> Result<MemoryBay, Fail> {
-    let plan = Plan {
-        lags: vec![in alloc; 2u8]?,
-        device_fails,
-        source_step: 1,
-        source_fails: Vec::new(alloc),
-        fails,
+    let sink_fails = match failing {
+        Failing::Sink(number) => list(alloc, Some(number))?,
+        _ => Vec::new(alloc),
     };
-    let mut bay = MemoryBay::new(alloc, plan);
-    bay.put_device("old", vec![in alloc; 7u8; 12288]?)?;
-    Ok(bay)
-}
-
-/// Runs a line of words. The sink takes five bytes a call.
-fn finish(alloc: Global, line: &str, fails: Fails) -> Result<Finished, Fail> {
-    let words = words(alloc, line)?;
-    let mut bay = bay(alloc, fails.device, fails.bay)?;
-    let mut sink = MemorySink::new(alloc, 1000, 5, fails.sink)?;
+    let mut bay = bay(alloc, failing)?;
+    let mut sink = MemorySink::new(alloc, 1000, 5, sink_fails)?;
     if bay.given() != 0 {
         return Err("a new bay has given nothing".into());
     }
@@ -92,156 +106,63 @@ fn finish(alloc: Global, line: &str, fails: Fails) -> Result<Finished, Fail> {
 }
 
 #[test]
-fn made_or_too_small(rt: HostRuntime) -> Result<(), Fail> {
+fn each_command(rt: HostRuntime) -> Result<(), Fail> {
     for (line, status, text, units) in [
         (
-            "bstore mkfs DEV --half 8 --units 64",
+            "bstore mkfs new --half 8 --units 64",
             0,
             "mkfs units=64 half=8 data=46\n",
-            64,
+            Some(64),
         ),
         (
-            "bstore mkfs old --half 9 --units 25",
+            "bstore step dev --seed 1 script",
             0,
-            "mkfs units=25 half=9 data=5\n",
-            25,
+            "0:1 ok\n0:3 ok\n0:4 data 5a\ndone accepted=2 refused=0 reads=1 commits=2 free=45\n",
+            Some(64),
         ),
+        ("bstore dump dev", 0, "end\n", Some(64)),
         (
-            "bstore mkfs old --half 8 --units 19",
-            0,
-            "mkfs units=19 half=8 data=1\n",
-            19,
-        ),
-        (
-            "bstore mkfs old --half 8 --units 18",
-            4,
-            "mkfs TooSmall units=18 need=19\nstopped 4\n",
-            18,
-        ),
-        (
-            "bstore mkfs old --half 65536 --units 1",
-            4,
-            "mkfs TooSmall units=1 need=131075\nstopped 4\n",
+            "bstore",
             1,
+            "usage: bstore mkfs DEV --half H --units N\nusage: bstore step DEV --seed S SCRIPT\nusage: bstore dump DEV\n",
+            None,
         ),
     ] {
-        let run = finish(rt.alloc(), line, no_fails(rt.alloc()))?;
-        expect(&rt, &run, status, text, Some(units));
+        let run = finish(rt.alloc(), line, Failing::None)?;
+        expect(&rt, &run, status, text, units);
     }
     Ok(())
 }
 
 #[test]
-fn no_command_lines(rt: HostRuntime) -> Result<(), Fail> {
-    for line in [
-        "bstore",
-        "bstore mkfs",
-        "mkfs old --half 8 --units 64",
-        "bstore mkfs old --half 8 --units",
-        "bstore mkfs old --half 8 --units 64 64",
-        "bstore mkfs old --units 64 --half 8",
-        "bstore MKFS old --half 8 --units 64",
-        "bstore mkfs old -half 8 --units 64",
-        "bstore mkfs  --half 8 --units 64",
-        "bstore mkfs -old --half 8 --units 64",
-        "bstore mkfs old --half 7 --units 64",
-        "bstore mkfs old --half 65537 --units 64",
-        "bstore mkfs old --half 08 --units 64",
-        "bstore mkfs old --half +8 --units 64",
-        "bstore mkfs old --half  --units 64",
-        "bstore mkfs old --half 8x --units 64",
-        "bstore mkfs old --half 8 --units 0",
-        "bstore mkfs old --half 8 --units 1048577",
-        "bstore mkfs old --half 8 --units 4294967360",
-        "bstore mkfs old --half 8 --units -64",
-        "bstore step old --seed 1",
-        "bstore step old --seed 1 script script",
-        "bstore step old --seed 4294967296 script",
-        "bstore step old --seed 01 script",
-        "bstore step old --seed -1 script",
-        "bstore step --seed 1 old script",
-        "bstore step -old --seed 1 script",
-        "bstore step old --seed 1 -script",
-        "bstore step old --seed 1 ",
-        "bstore Step old --seed 1 script",
+fn a_call_fails(rt: HostRuntime) -> Result<(), Fail> {
+    let line = "bstore step dev --seed 1 script";
+    for (failing, status, text, units) in [
+        (
+            Failing::Device(Kind::Write, 0),
+            3,
+            "0:1 sent\nstopped 3\n",
+            Some(64),
+        ),
+        (
+            Failing::Device(Kind::Flush, 1),
+            3,
+            "0:1 sent\nstopped 3\n",
+            Some(64),
+        ),
+        (
+            Failing::Device(Kind::Read, 0),
+            3,
+            "stopped 3\n",
+            Some(64),
+        ),
+        (Failing::Bay(Call::Device, 0), 7, "stopped 7\n", None),
+        (Failing::Bay(Call::Script, 0), 7, "stopped 7\n", None),
+        (Failing::Source(2), 7, "stopped 7\n", None),
+        (Failing::Sink(0), 6, "", Some(64)),
+        (Failing::Sink(1), 6, "0:1 o", Some(64)),
     ] {
-        let run = finish(rt.alloc(), line, no_fails(rt.alloc()))?;
-        assert_eq!(rt; run.outcome.status, 1, "{line}");
-        assert_eq!(rt; run.units(), None, "{line}");
-        assert!(rt; run.sink.text().starts_with(b"usage: "), "{line}");
-    }
-    Ok(())
-}
-
-/// The README's run, with one call that fails.
-fn failed(
-    alloc: Global,
-    device: Option<(Kind, u64)>,
-    bay: Option<(Call, u64)>,
-    sink: Option<u64>,
-) -> Result<Finished, Fail> {
-    let mut fails = no_fails(alloc);
-    if let Some(call) = device {
-        fails.device.push(call)?;
-    }
-    if let Some(call) = bay {
-        fails.bay.push(call)?;
-    }
-    if let Some(number) = sink {
-        fails.sink.push(number)?;
-    }
-    finish(alloc, "bstore mkfs old --half 8 --units 64", fails)
-}
-
-#[test]
-fn faults(rt: HostRuntime) -> Result<(), Fail> {
-    for (device, bay, sink, status, text, units) in [
-        (
-            Some((Kind::Read, 0)),
-            None,
-            None,
-            3,
-            "stopped 3\n",
-            Some(64),
-        ),
-        (
-            Some((Kind::Write, 0)),
-            None,
-            None,
-            3,
-            "stopped 3\n",
-            Some(64),
-        ),
-        (
-            Some((Kind::Flush, 0)),
-            None,
-            None,
-            3,
-            "stopped 3\n",
-            Some(64),
-        ),
-        (
-            Some((Kind::Write, 1)),
-            None,
-            None,
-            3,
-            "stopped 3\n",
-            Some(64),
-        ),
-        (
-            Some((Kind::Flush, 1)),
-            None,
-            None,
-            3,
-            "stopped 3\n",
-            Some(64),
-        ),
-        (None, Some((Call::Device, 0)), None, 7, "stopped 7\n", None),
-        (None, None, Some(0), 6, "", Some(64)),
-        (None, None, Some(1), 6, "mkfs ", Some(64)),
-        (None, Some((Call::Device, 0)), Some(1), 6, "stopp", None),
-    ] {
-        let run = failed(rt.alloc(), device, bay, sink)?;
+        let run = finish(rt.alloc(), line, failing)?;
         expect(&rt, &run, status, text, units);
     }
     Ok(())

@@ -129,11 +129,6 @@ impl Found {
             .count()
     }
 
-    /// Whether there is none of these.
-    pub fn is_empty(&self) -> bool {
-        self.len() == 0
-    }
-
     /// Whether the bitmap has the row of this number.
     pub fn has_bitmap_row(&self, number: u32) -> bool {
         self.rows

@@ -1,4 +1,4 @@
-//! Kernels over devices in memory.
+//! Kernels over devices in memory: a run, and calls of the device that fail. Tables of calls are the cases of `kernel_cases`.
 ghost use Rattle.std.specs.Prelude.{◌≡◌, ℕ, ◌<◌, ◌≤◌, ◌*◌, [], ◌∷◌, true, length, replicate, IfOk, IfSome};
 ghost use Rattle.block_device.specs.Memory.{disk_of};
 ghost use Rattle.meta_log.specs.Slots.{IsSuper};
@@ -241,46 +241,6 @@ fn a_collection_and_a_page(rt: HostRuntime) -> Result<(), Fail> {
 }
 
 #[test]
-fn refusals(rt: HostRuntime) -> Result<(), Fail> {
-    let alloc = rt.alloc();
-    let mut kernel = kernel(alloc, 19, &[])?;
-    assert_eq!(rt;
-        ask(alloc, &mut kernel, page(alloc, b'a')?)?,
-        ("no collection", 0, 0)
-    );
-    for (name, answer) in [
-        (b'-', ("accepted", 1, 0)),
-        (b'a', ("accepted", 2, 0)),
-        (b'b', ("no space", 1, 0)),
-    ] {
-        let txn = if name == b'-' {
-            mkcoll(alloc, 0)?
-        } else {
-            page(alloc, name)?
-        };
-        assert_eq!(rt; ask(alloc, &mut kernel, txn)?, answer);
-        let _ = run(alloc, &mut kernel)?;
-    }
-    assert_eq!(rt;
-        ask(alloc, &mut kernel, mkcoll(alloc, 0)?)?,
-        ("collection exists", 0, 0)
-    );
-    for seed in 1..7u32 {
-        assert_eq!(rt;
-            ask(alloc, &mut kernel, mkcoll(alloc, seed)?)?,
-            ("accepted", seed + 4, 0)
-        );
-        let _ = run(alloc, &mut kernel)?;
-    }
-    assert_eq!(rt;
-        ask(alloc, &mut kernel, mkcoll(alloc, 7)?)?,
-        ("log full", 1, 0)
-    );
-    assert!(rt; kernel.drained() && kernel.entries().len() == 12 && kernel.commits().len() == 8);
-    Ok(())
-}
-
-#[test]
 fn a_flush_that_fails(rt: HostRuntime) -> Result<(), Fail> {
     let alloc = rt.alloc();
     for (number, steps) in [(0, 3), (1, 8)] {
@@ -295,90 +255,6 @@ fn a_flush_that_fails(rt: HostRuntime) -> Result<(), Fail> {
         );
         assert!(rt; kernel.down().is_some() && kernel.drained() && !kernel.acked(0));
     }
-    Ok(())
-}
-
-// So many data steps stand at the front, and as many reaps behind them.
-fn begins_with(done: &[Step], writes: usize) -> bool {
-    let front = done.iter().take_while(|step| **step == Step::Data).count();
-    let ends = done
-        .iter()
-        .skip(front)
-        .take_while(|step| **step == Step::Reap)
-        .count();
-    front == writes && ends == writes
-}
-
-#[test]
-fn data_go_in_runs(rt: HostRuntime) -> Result<(), Fail> {
-    let alloc = rt.alloc();
-    let mut kernel = kernel(alloc, 18 + 140, &[])?;
-    let _ = ask(alloc, &mut kernel, mkcoll(alloc, 0)?)?;
-    let _ = run(alloc, &mut kernel)?;
-    // Units 18 to 147 are runs of 64, 64 and 2; then unit 148, and 18 to 20 and 149.
-    for (name, first, count, writes) in [
-        (b'a', 0u16, 130u16, 3usize),
-        (b'b', 0, 1, 1),
-        (b'a', 0, 3, 1),
-        (b'c', 5, 4, 2),
-        (b'c', 0, 0, 0),
-    ] {
-        let txn = change(alloc, name, first, count)?;
-        assert_eq!(rt; ask(alloc, &mut kernel, txn)?.0, "accepted");
-        let done = run(alloc, &mut kernel)?;
-        assert!(rt; begins_with(&done, writes), "{writes} writes");
-        assert!(rt; kernel.drained());
-    }
-    assert_eq!(rt; kernel.free_units(), 140 - 130 - 1 - 4);
-    assert_eq!(rt;
-        ask(alloc, &mut kernel, pages(alloc, b'd', 0, 6)?)?,
-        ("no space", 6, 5)
-    );
-    Ok(())
-}
-
-// The limit of a transaction is 256 pages, that of an object 32768.
-#[test]
-fn too_big(rt: HostRuntime) -> Result<(), Fail> {
-    let alloc = rt.alloc();
-    let mut kernel = kernel(alloc, 300, &[])?;
-    assert_eq!(rt; ask(alloc, &mut kernel, mkcoll(alloc, 0)?)?.0, "accepted");
-    let _ = run(alloc, &mut kernel)?;
-    for (first, count, answer) in [
-        (0u16, 257u16, "too big"),
-        (32767, 2, "too big"),
-        (32768, 1, "too big"),
-        (32767, 1, "accepted"),
-    ] {
-        let txn = change(alloc, b'a', first, count)?;
-        assert_eq!(rt; ask(alloc, &mut kernel, txn)?.0, answer);
-        let _ = run(alloc, &mut kernel)?;
-    }
-    Ok(())
-}
-
-// Writes 2 and 3 since the start are the second and the third of the data: the kernel is down by the second.
-#[test]
-fn two_writes_that_fail(rt: HostRuntime) -> Result<(), Fail> {
-    let alloc = rt.alloc();
-    let mut kernel = kernel(alloc, 18 + 140, &[(Kind::Write, 2), (Kind::Write, 3)])?;
-    let _ = ask(alloc, &mut kernel, mkcoll(alloc, 0)?)?;
-    let _ = run(alloc, &mut kernel)?;
-    assert_eq!(rt;
-        ask(alloc, &mut kernel, pages(alloc, b'a', 0, 140)?)?,
-        ("accepted", 1, 0)
-    );
-    assert_eq!(rt; run(alloc, &mut kernel)?.len(), 6);
-    let Some(ticket) = kernel.down() else {
-        return Err("not down".into());
-    };
-    // Six events are those of the collection.
-    assert_eq!(rt; ticket.place, 7);
-    assert_eq!(rt;
-        ask(alloc, &mut kernel, touch(alloc, b'a')?)?,
-        ("down", 7, 0)
-    );
-    assert!(rt; kernel.drained() && kernel.entries().len() == 2 && !kernel.acked(1));
     Ok(())
 }
 
@@ -543,28 +419,6 @@ fn three_pages(alloc: Global) -> Result<Vec<u8>, Fail> {
 }
 
 #[test]
-fn reads_that_are_refused(rt: HostRuntime) -> Result<(), Fail> {
-    let alloc = rt.alloc();
-    let mut kernel = with_a_page(alloc, 20, &[])?;
-    let far = Asked::Bytes {
-        off: 134217728,
-        len: 1,
-    };
-    for (seed, name, asked, answer) in [
-        (1u32, b'a', Asked::Size, "no collection"),
-        (1, b'a', Asked::Names, "no collection"),
-        (0, b'b', Asked::Sum, "no object"),
-        (0, b'b', far, "no object"),
-        (0, b'a', far, "bad range"),
-    ] {
-        let command = question(alloc, seed, name, asked)?;
-        assert_eq!(rt; read(alloc, &mut kernel, command)?, ((answer, 0, 0), 2));
-    }
-    assert!(rt; kernel.drained() && kernel.entries().len() == 7 && kernel.commits().len() == 2);
-    Ok(())
-}
-
-#[test]
 fn a_read_that_fails(rt: HostRuntime) -> Result<(), Fail> {
     let alloc = rt.alloc();
     let mut kernel = with_a_page(alloc, 20, &[(Kind::Read, 0)])?;
@@ -576,29 +430,6 @@ fn a_read_that_fails(rt: HostRuntime) -> Result<(), Fail> {
     assert_eq!(rt;
         read_of(alloc, &mut kernel, b'b', Asked::Size)?,
         (("size", 4096, 0), 3)
-    );
-    Ok(())
-}
-
-#[test]
-fn no_read_while_down(rt: HostRuntime) -> Result<(), Fail> {
-    let alloc = rt.alloc();
-    let mut kernel = kernel(alloc, 20, &[(Kind::Flush, 0)])?;
-    assert_eq!(rt;
-        ask(alloc, &mut kernel, mkcoll(alloc, 0)?)?,
-        ("accepted", 0, 0)
-    );
-    let _ = run(alloc, &mut kernel)?;
-    assert_eq!(rt;
-        read_of(alloc, &mut kernel, b'a', Asked::Size)?,
-        (("down", 0, 0), 0)
-    );
-    assert!(rt; kernel.entries().len() == 1);
-    assert!(rt;
-        matches!(
-            kernel.next_collection(alloc, None),
-            Err(WalkFail::Down { .. })
-        )
     );
     Ok(())
 }

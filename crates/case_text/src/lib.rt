@@ -1,0 +1,20 @@
+//! Cases in text: what devices hold, what scripts say, how the ends of a store behave, and which calls fail. A program reads such
+//! cases from files and prints what each comes to, so that a new case is a few lines of text.
+//!
+//! This crate promises little: it is safe and returns, and what a case prints is compared with what was written by hand.
+#![tactic(auto)]
+
+mod contents;
+mod ends;
+mod error;
+mod named;
+mod printing;
+mod setup;
+mod words;
+
+pub use ends::Fails;
+pub use error::CaseError;
+pub use named::{Named, bytes_of, put};
+pub use printing::{print_bytes, print_text};
+pub use setup::Setup;
+pub use words::{byte, number, small, words_of};

@@ -1,0 +1,120 @@
+//! Stores that are opened after each crash of a run, and every cut of what is done then.
+
+use crate::history::{apply_front, objects_behind};
+use crate::sweep::{Sweep, tear_of};
+use crate::swept::{Counts, print_counts};
+use block_device::Tear;
+use case_text::{CaseError, bytes_of, number, put};
+use std::alloc::Global;
+use std::fmt::Write;
+
+/// What is done after each crash: a script with a seed.
+#[derive(Clone, Copy)]
+struct Next<'a> {
+    seed: &'a str,
+    script: &'a str,
+}
+
+/// What came of it: the images looked at, those of no front, and the last lines of the runs, each once.
+#[derive(Drop)]
+struct Seen {
+    crashes: u64,
+    counts: Counts,
+    bad: String,
+    ends: Vec<String>,
+}
+
+impl Seen {
+    fn new(alloc: Global) -> Seen {
+        Seen {
+            crashes: 0,
+            counts: Counts::new(),
+            bad: String::new(alloc),
+            ends: Vec::new(alloc),
+        }
+    }
+
+    /// Adds the last line of a text.
+    fn push_end(&mut self, alloc: Global, text: &[u8]) -> Result<(), CaseError> {
+        let Ok(text) = str::from_utf8(text) else {
+            return Err(CaseError::Line("what was printed isn't text"));
+        };
+        let end = last_line(text);
+        if self.ends.iter().all(|seen| seen.as_str() != end) {
+            self.ends.push(String::from_str(alloc, end)?)?;
+        }
+        Ok(())
+    }
+
+    fn print(&self, least: u64, out: &mut String) -> Result<(), CaseError> {
+        write!(out, "{} crashes, ", self.crashes)?;
+        print_counts(&self.counts, Some(least), self.bad.as_str(), out)?;
+        for end in &self.ends {
+            writeln!(out, "| {end}")?;
+        }
+        Ok(())
+    }
+}
+
+fn last_line(text: &str) -> &str {
+    let mut last = "";
+    for line in text.lines() {
+        last = line;
+    }
+    last
+}
+
+impl Sweep {
+    /// A run on what a crash of the last run leaves.
+    fn after(&self, cut: u64, tear: Tear, next: &Next<'_>) -> Result<Sweep, CaseError> {
+        let alloc = self.alloc;
+        let image = self.image(cut, tear)?;
+        let Some(count) = self.commits_in(&image)? else {
+            return Err(CaseError::Line("a crash of no front"));
+        };
+        let Some(script) = bytes_of(&self.case.setup.scripts, next.script) else {
+            return Err(CaseError::Line("no such script"));
+        };
+        let mut plain = objects_behind(alloc, &self.history)?;
+        apply_front(alloc, &mut plain, self.book()?, count)?;
+        let mut second = Sweep::new(alloc)?;
+        second.case.setup.lags = self.case.setup.lags.to_vec(alloc)?;
+        second.case.setup.put_device("dev", image)?;
+        let script = script.to_vec(alloc)?;
+        put(alloc, &mut second.case.setup.scripts, "script", script)?;
+        second.step_from(next.seed, "script", plain)?;
+        Ok(second)
+    }
+
+    /// Looks at each cut of what is done after each crash that tears the log of the last run in this way.
+    fn again(&self, tear: Tear, next: &Next<'_>) -> Result<Seen, CaseError> {
+        let mut seen = Seen::new(self.alloc);
+        for cut in 0..=self.events()? {
+            let second = self.after(cut, tear, next)?;
+            seen.crashes = seen.crashes.wrapping_add(1);
+            seen.push_end(self.alloc, &second.case.text)?;
+            if second.leaked != self.leaked {
+                writeln!(seen.bad, "cut {cut}: other units are leaked")?;
+            }
+            second.sweep(1, 0, &mut seen.counts, &mut seen.bad)?;
+        }
+        Ok(seen)
+    }
+
+    /// Follows `again TEAR SEED SCRIPT LEAST`: shows how many crashes and images there were, of the latter only that they are more
+    /// than so many, and each last line that the runs after the crashes printed.
+    pub fn again_line(
+        &self,
+        line: &str,
+        words: &[&str],
+        out: &mut String,
+    ) -> Result<bool, CaseError> {
+        let ["again", tear, seed, script, least] = words else {
+            return Ok(false);
+        };
+        writeln!(out, "{line}")?;
+        let seen = self.again(tear_of(tear)?, &Next { seed, script })?;
+        seen.print(number(least)?, out)?;
+        Ok(true)
+    }
+}

@@ -1,0 +1,109 @@
+//! What `dump` shows of each image that a crash leaves: plain objects after a front of the commits, as they print.
+
+use crate::history::{acknowledged, apply_commit, objects_behind};
+use crate::spelled::{COLL, NAMES, coll, name};
+use crate::sweep::{Sweep, TEARS};
+use crate::swept::{Counts, print_counts};
+use case_runs::Case;
+use case_text::CaseError;
+use crc32c_csum::crc32c;
+use object_model::Plain;
+use std::alloc::Global;
+use std::fmt::Write;
+
+/// What `dump` is to print of plain objects.
+fn shown(alloc: Global, plain: &Plain) -> Result<Vec<u8>, CaseError> {
+    let mut out = Vec::new(alloc);
+    let coll = coll(alloc)?;
+    if plain.collection(&coll).is_ok() {
+        out.extend_from_slice(b"coll ")?;
+        out.extend_from_slice(COLL)?;
+        out.push(b'\n')?;
+    }
+    for bytes in NAMES {
+        let Some(object) = plain.find(&coll, &name(alloc, bytes)?) else {
+            continue;
+        };
+        out.extend_from_slice(b"object ")?;
+        out.extend_from_slice(bytes)?;
+        let sum = crc32c(object.bytes.as_slice());
+        let rest = format!(in alloc; " size {} crc {sum:08x}\n", object.bytes.len())?;
+        out.extend_from_slice(rest.as_bytes())?;
+    }
+    out.extend_from_slice(b"end\n")?;
+    Ok(out)
+}
+
+impl Sweep {
+    /// What `dump` is to print after each number of commits of the last run.
+    fn shown_texts(&self) -> Result<Vec<Vec<u8>>, CaseError> {
+        let book = self.book()?;
+        let mut plain = objects_behind(self.alloc, &self.history)?;
+        let mut texts = Vec::new(self.alloc);
+        texts.push(shown(self.alloc, &plain)?)?;
+        for at in 0..book.commits.len() {
+            apply_commit(self.alloc, &mut plain, book, at)?;
+            texts.push(shown(self.alloc, &plain)?)?;
+        }
+        Ok(texts)
+    }
+
+    /// What `dump` prints of a device with these contents, where it ends with 0.
+    fn dumped(&self, contents: Vec<u8>) -> Result<Option<Vec<u8>>, CaseError> {
+        let mut case = Case::new(self.alloc)?;
+        case.setup.put_device("dev", contents)?;
+        case.run_line(&["bstore", "dump", "dev"])?;
+        let good = case.outcome.is_some_and(|outcome| outcome.status == 0);
+        Ok(if good { Some(case.text) } else { None })
+    }
+
+    /// Dumps each image of a cut, and shows those whose text is that of no front with all that were acknowledged, or whose bitmap
+    /// isn't exact.
+    fn dump_cut(
+        &self,
+        texts: &[Vec<u8>],
+        cut: u64,
+        counts: &mut Counts,
+        bad: &mut String,
+    ) -> Result<(), CaseError> {
+        let least = acknowledged(self.book()?, cut, 0);
+        counts.cuts = counts.cuts.wrapping_add(1);
+        for tear in TEARS {
+            let image = self.image(cut, tear)?;
+            let leaked = self.leaked_in(&image)?;
+            let exact = leaked.is_some_and(|units| units == self.leaked);
+            counts.images = counts.images.wrapping_add(1);
+            let text = self.dumped(image)?;
+            let stands = text.is_some_and(|text| texts
+                .iter()
+                .skip(least)
+                .any(|front| *front == text));
+            if !exact || !stands {
+                counts.bad = counts.bad.wrapping_add(1);
+                writeln!(bad, "cut {cut} {tear:?}: not of such a front")?;
+            }
+        }
+        Ok(())
+    }
+
+    /// Follows `dumps`, which dumps each image of each cut of the last run.
+    pub fn dump_line(
+        &self,
+        line: &str,
+        words: &[&str],
+        out: &mut String,
+    ) -> Result<bool, CaseError> {
+        let ["dumps"] = words else {
+            return Ok(false);
+        };
+        let texts = self.shown_texts()?;
+        let mut counts = Counts::new();
+        let mut bad = String::new(self.alloc);
+        for cut in 0..=self.events()? {
+            self.dump_cut(&texts, cut, &mut counts, &mut bad)?;
+        }
+        writeln!(out, "{line}")?;
+        print_counts(&counts, None, bad.as_str(), out)?;
+        Ok(true)
+    }
+}

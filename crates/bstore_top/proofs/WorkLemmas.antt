@@ -100,8 +100,13 @@ pub script_fits : (text : List ℕ) (lines : List Line) → IsScript text lines 
 script_fits text lines is_script = (
   subst (λ (l : List Line). AllByRecursion FitsLine l) (sym is_script.numbers)
       (kept_fit false (numbered 1 is_script.said) (all_fit _ 1 is_script.said is_script.good.says)),
-  omega (arith, ap (λ (l : List Line). length (asks_of l)) is_script.numbers, kept_few false (numbered 1 is_script.said),
-      few_asked 1 is_script.said, is_script.good.few),
+  omega (
+    arith,
+    ap (λ (l : List Line). length (asks_of l)) is_script.numbers,
+    kept_few false (numbered 1 is_script.said),
+    few_asked 1 is_script.said,
+    is_script.good.few,
+  ),
 )
 
 -- the text that a source gave is that under the name
@@ -126,11 +131,10 @@ pub script_fails : {T : Type 0} (e : ScriptFail) (names : Option Names) (name : 
     → (e ≡ script.ReadFault → Rose none some) → (¬ IsErrOf {T = T} (Err e) script.ReadFault → some ≡ none) → now ≡ before → none ≡ 0 → IfSome names (λ n. IsSome left × (left ≡ finite.get n.texts name)) → faults ≡ some ∷ []
     → FailsBefore (end_of_script e) names name faults before now
 script_fails {T} script.Memory names name left none some before now faults bad rose kept same is told all = tt
-script_fails {T} (script.Line n) names name left none some before now faults bad rose kept same is told all =
-    (
-      record { text = bad.0; under = text_under names name left bad.0 told bad.1; bad = bad.2 },
-      record { source = all ∙ ap (λ (k : ℕ). k ∷ []) (kept (λ e. absurd cc) ∙ is); bay = same },
-    )
+script_fails {T} (script.Line n) names name left none some before now faults bad rose kept same is told all = (
+  record { text = bad.0; under = text_under names name left bad.0 told bad.1; bad = bad.2 },
+  record { source = all ∙ ap (λ (k : ℕ). k ∷ []) (kept (λ e. absurd cc) ∙ is); bay = same },
+)
 script_fails {T} script.ReadFault names name left none some before now faults bad rose kept same is told all = inl (counted_one none some faults is (rose refl) all)
 
 -- ---- mounting

@@ -84,7 +84,8 @@ fn bay(alloc: Global, failing: Failing) -> Result<MemoryBay, Fail> {
     Ok(bay)
 }
 
-const SCRIPT: &str = "mkcoll 1.0_head\nwait\nwrite 1.0_head a 0 fill:5a:4096\nread 1.0_head a 4095 9\n";
+const SCRIPT: &str =
+    "mkcoll 1.0_head\nwait\nwrite 1.0_head a 0 fill:5a:4096\nread 1.0_head a 4095 9\n";
 
 /// Runs a line of words.
 fn finish(alloc: Global, line: &str, failing: Failing) -> Result<Finished, Fail> {
@@ -150,12 +151,7 @@ fn a_call_fails(rt: HostRuntime) -> Result<(), Fail> {
             "0:1 sent\nstopped 3\n",
             Some(64),
         ),
-        (
-            Failing::Device(Kind::Read, 0),
-            3,
-            "stopped 3\n",
-            Some(64),
-        ),
+        (Failing::Device(Kind::Read, 0), 3, "stopped 3\n", Some(64)),
         (Failing::Bay(Call::Device, 0), 7, "stopped 7\n", None),
         (Failing::Bay(Call::Script, 0), 7, "stopped 7\n", None),
         (Failing::Source(2), 7, "stopped 7\n", None),

@@ -5,7 +5,7 @@ use crate::sweep::{Sweep, tear_of};
 use crate::swept::{Counts, print_counts};
 use block_device::Tear;
 use case_text::{CaseError, bytes_of, number, put};
-use std::alloc::Global;
+use std::alloc::{AllocError, Global};
 use std::fmt::Write;
 
 /// What is done after each crash: a script with a seed.
@@ -39,9 +39,9 @@ impl Seen {
         let Ok(text) = str::from_utf8(text) else {
             return Err(CaseError::Line("what was printed isn't text"));
         };
-        let end = last_line(text);
-        if self.ends.iter().all(|seen| seen.as_str() != end) {
-            self.ends.push(String::from_str(alloc, end)?)?;
+        let end = last_line(alloc, text)?;
+        if self.ends.iter().all(|seen| seen.as_str() != end.as_str()) {
+            self.ends.push(end)?;
         }
         Ok(())
     }
@@ -56,12 +56,12 @@ impl Seen {
     }
 }
 
-fn last_line(text: &str) -> &str {
-    let mut last = "";
+fn last_line(alloc: Global, text: &str) -> Result<String, AllocError> {
+    let mut last = String::new(alloc);
     for line in text.lines() {
-        last = line;
+        last = String::from_str(alloc, line)?;
     }
-    last
+    Ok(last)
 }
 
 impl Sweep {

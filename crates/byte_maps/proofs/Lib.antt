@@ -2,4 +2,5 @@ pub mod Laws
 pub mod Places
 pub mod Sums
 pub mod UnitLemmas
+pub mod ZeroLanes
 mod Ranges

@@ -7,11 +7,13 @@ mod byte_map;
 mod bytes;
 mod items;
 mod theorems;
+mod zero_test;
 
 pub use byte_map::ByteMap;
 pub use bytes::{Bytes, Duplicate};
 pub use items::Items;
 pub use theorems::{answers_without_range, equal_unit_by_unit, equal_where_alike};
+pub use zero_test::is_zero;
 
 #[cfg(test)]
 mod tests {
@@ -59,6 +61,21 @@ mod tests {
             copy.get([b'k', 3].as_slice())
                 .is_some_and(|value| value.len() == 1)
         );
+        Ok(())
+    }
+
+    #[test]
+    fn finds_the_byte_that_is_not_zero(rt: HostRuntime) -> Result<(), Fail> {
+        let zeros = [0u8; 300];
+        for len in 0..300usize {
+            assert!(rt; is_zero(&zeros[..len]));
+        }
+        for at in 0..300usize {
+            let mut bytes = zeros;
+            bytes[at] = 128;
+            assert!(rt; !is_zero(bytes.as_slice()));
+            assert!(rt; is_zero(&bytes[..at]));
+        }
         Ok(())
     }
 

@@ -1,6 +1,6 @@
 -- What each step of reading a record tells.
-use Rattle.std.proofs.Common.{◌≡◌, ℕ, ◌+◌, ◌-◌, ◌*◌, ◌<◌, ◌≤◌, ◌^◌, List, [], ◌∷◌, ◌++◌, length, drop, refl, sym, ap, ap₂, subst, ◌∙◌, append_assoc, arith}
-use Rattle.std.specs.Prelude.{All}
+use Rattle.std.proofs.Common.{◌≡◌, ℕ, ◌+◌, ◌-◌, ◌*◌, ◌<◌, ◌≤◌, ◌^◌, List, [], ◌∷◌, ◌++◌, length, take, drop, take-append-drop, refl, sym, ap, ap₂, subst, ◌∙◌, append_assoc, arith}
+use Rattle.std.specs.Prelude.{◌≢◌, All}
 use Rattle.std.specs.Int.{w32, w64, to_le_bytes}
 use Rattle.std.proofs.lemmas.List.{length-append, drop_at}
 use Rattle.crc32c_csum.specs.Crc32c.{crc32c}
@@ -13,7 +13,7 @@ use Rattle.meta_rows.specs.Reading.{SpellOps}
 use Rattle.meta_rows.proofs.FieldLemmas.{same_front, number_front, wide32, wide64}
 use Rattle.meta_rows.proofs.Ops.{ops_bytes-same}
 use Rattle.meta_log.specs.Records.{head_of, unit_count, BeginsWithRecord}
-use Rattle.meta_log.specs.Scanning.{parts_bytes, BeginsWithParts, IsCut}
+use Rattle.meta_log.specs.Scanning.{parts_bytes, BeginsWithParts, IsCut, BeginsNoRecord, TakesUnits}
 use Rattle.meta_log.proofs.RecordLemmas.{count_below}
 use Rattle.meta_log.proofs.SlotReading.{all_of_zeros, zeros_of_all}
 
@@ -215,3 +215,31 @@ zeros_there left body pad rest its_rest count read is stands =
     let size : length pad ≡ length (padding body) =
     read.size ∙ is ∙ sym (length-zeros (4096 * units_for (24 + length body) - (24 + length body))) in
     all_of_zeros _ pad (same_front pad (padding body) rest its_rest size (sym read.parts ∙ stands)).0
+
+-- ---- what the head says
+
+-- the head of the record that bytes with these at their front begin with
+head_there : (bytes head more : List ℕ) (number : ℕ) (ops : List RowOp) (rest : List ℕ) → head ≡ take 20 bytes → length head ≡ 20
+    → BeginsWithRecord (bytes ++ more) number ops rest → head ≡ head_of number (length ops) (length (ops_bytes ops))
+head_there bytes head more number ops rest front size here =
+    let cut : bytes ++ more ≡ head ++ (drop 20 bytes ++ more) =
+    ap (λ (b : List ℕ). b ++ more) (sym (take-append-drop 20 bytes)) ∙ append_assoc (take 20 bytes) (drop 20 bytes) more
+    ∙ ap (λ (h : List ℕ). h ++ (drop 20 bytes ++ more)) (sym front) in
+    let read : ReadsBytes 20 (bytes ++ more) (drop 20 bytes ++ more) head = record { size = size; parts = cut } in
+    (after_head (bytes ++ more) (drop 20 bytes ++ more) head number (length ops) (ops_bytes ops) rest read
+    (parts_of_record (bytes ++ more) number ops rest here)).0
+
+-- where no head of this number stands, there is no record
+pub no_head : (bytes head : List ℕ) (number : ℕ) → head ≡ take 20 bytes → length head ≡ 20
+    → ((count size : ℕ) → head ≢ head_of number count size) → BeginsNoRecord bytes number
+no_head bytes head number front size none more ops rest here =
+    none (length ops) (length (ops_bytes ops)) (head_there bytes head more number ops rest front size here)
+
+-- a record with this head takes as many units as it says
+pub units_said : (bytes head : List ℕ) (number count said units : ℕ) → head ≡ take 20 bytes → length head ≡ 20
+    → head ≡ head_of number count said → said < 2 ^ 32 → units ≡ units_for (24 + said) → TakesUnits bytes number units
+units_said bytes head number count said units front size is below takes more ops rest here =
+    let same : head_of number count said ≡ head_of number (length ops) (length (ops_bytes ops)) =
+    sym is ∙ head_there bytes head more number ops rest front size here in
+    let sizes = number_front w32 (2 ^ 32) wide32 said (length (ops_bytes ops)) _ _ below here.body_below (ap (drop 4) same) in
+    ap units_for (length-parts_bytes number (length ops) (ops_bytes ops)) ∙ ap (λ (n : ℕ). units_for (24 + n)) (sym sizes.0) ∙ sym takes

@@ -59,12 +59,24 @@ units_of_range first count bytes =
     let start : first * 4096 ≡ 4096 * first = omega arith in
     ap₂ (λ (n m : ℕ). take n (drop m bytes)) size start
 
-pub as_spelled : (number : ℕ) (ops held : List RowOp) (bytes : List ℕ) → IsSealable number ops → held ≡ ops → bytes ≡ record_units number ops
-    → IsSpelled number held bytes
-as_spelled number ops held bytes sealable same is = record {
+pub as_spelled : (number units : ℕ) (ops held : List RowOp) (bytes : List ℕ) → IsSealable number ops → held ≡ ops → units ≡ unit_count number ops
+    → (64 < units → bytes ≡ record_units number ops) → IsSpelled number held units bytes
+as_spelled number units ops held bytes sealable same counted is = record {
   sealable = subst (IsSealable number) (sym same) sealable;
-  spelled = is ∙ ap (record_units number) (sym same);
+  counted = counted ∙ ap (unit_count number) (sym same);
+  spelled = λ several. is several ∙ ap (record_units number) (sym same);
 }
+
+-- the only piece is the record
+pub only_piece : (made : Sealed) (k : ℕ) → sealed_units made ≤ 64 → k < piece_count (sealed_units made)
+    → record_units made.number made.ops ≡ piece_bytes made k
+unfolding units_from
+only_piece made k few counted =
+    let whole : List ℕ = record_units made.number made.ops in
+    let first : 0 ≡ piece_first (sealed_units made) k = omega (arith, few, counted) in
+    let count : sealed_units made ≡ piece_units (sealed_units made) k = omega (arith, few, counted) in
+    sym (take_all (4096 * sealed_units made) whole (omega (arith, length-record_units made.number made.ops)))
+    ∙ ap₂ (λ (a b : ℕ). take (4096 * b) (drop (4096 * a) whole)) first count
 
 pub piece_is : (made : Sealed) (k first count : ℕ) (bytes : List ℕ) → first ≡ piece_first (sealed_units made) k
     → count ≡ piece_units (sealed_units made) k → bytes ≡ record_units made.number made.ops

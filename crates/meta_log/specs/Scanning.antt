@@ -29,6 +29,15 @@ pub record IsAtFront (bytes : List ℕ) (number : ℕ) (found : FoundRecord) : T
   pub stands : BeginsWithRecord bytes number found.ops (drop (4096 * found.units) bytes)
   pub size : found.units ≡ unit_count number found.ops
 
+-- whatever follows these bytes, no valid record of this number stands at their front
+abbrev pub BeginsNoRecord : List ℕ → ℕ → Type 0
+BeginsNoRecord bytes number = (more : List ℕ) (ops : List RowOp) (rest : List ℕ) → ¬ BeginsWithRecord (bytes ++ more) number ops rest
+
+-- whatever follows these bytes, the valid record of this number at their front, if there is one, takes so many units
+abbrev pub TakesUnits : List ℕ → ℕ → ℕ → Type 0
+TakesUnits bytes number units = (more : List ℕ) (ops : List RowOp) (rest : List ℕ) → BeginsWithRecord (bytes ++ more) number ops rest
+    → unit_count number ops ≡ units
+
 -- how many units the records of consecutive numbers from this one on take
 abbrev pub units_of_records : ℕ → List (List RowOp) → ℕ
 units_of_records number [] = 0

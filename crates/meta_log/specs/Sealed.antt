@@ -25,7 +25,8 @@ sealed_units made = unit_count made.number made.ops
 abbrev pub piece_bytes : Sealed → ℕ → List ℕ
 piece_bytes made k = units_from (piece_first (sealed_units made) k) (piece_units (sealed_units made) k) (record_units made.number made.ops)
 
--- these bytes are the record of this number and these operations
-pub record IsSpelled (number : ℕ) (ops : List RowOp) (bytes : List ℕ) : Type 0 where
+-- the record of this number and these operations has so many units, and these are its bytes where it has several pieces
+pub record IsSpelled (number : ℕ) (ops : List RowOp) (units : ℕ) (bytes : List ℕ) : Type 0 where
   pub sealable : IsSealable number ops
-  pub spelled : bytes ≡ record_units number ops
+  pub counted : units ≡ unit_count number ops
+  pub spelled : 64 < units → bytes ≡ record_units number ops

@@ -13,7 +13,7 @@ pub use laws::{
     one_list_of_records, one_more_record, one_super_in_a_slot, pieces_lie_in_a_row,
     units_of_a_record,
 };
-pub use scanning::{FoundLog, FoundRecord, read_record, scan};
+pub use scanning::{FoundLog, FoundRecord, read_record, record_units, scan};
 pub use sealed::SealedRecord;
 pub use slot::Super;
 

@@ -5,11 +5,11 @@ ghost use Rattle.byte_maps.specs.Units.{units_for};
 ghost use Rattle.crc32c_csum.specs.Crc32c.{crc32c};
 ghost use Rattle.meta_rows.specs.declared.row_op.RowOp.{RowOp};
 ghost use Rattle.meta_log.specs.Records.{head_of, BeginsWithRecord};
-ghost use Rattle.meta_log.specs.Scanning.{BeginsWithParts, IsCut, IsAtFront, IsLogOf};
+ghost use Rattle.meta_log.specs.Scanning.{BeginsWithParts, IsCut, IsAtFront, BeginsNoRecord, TakesUnits, IsLogOf};
 
 use crate::sealed::{HEAD_BYTES, MAGIC, sum_of, units_of};
-use crate::slot::{NUMBER_LIMIT, is_zero};
-use byte_maps::Items;
+use crate::slot::NUMBER_LIMIT;
+use byte_maps::{Items, is_zero};
 use meta_rows::{RowOp, decode};
 use std::alloc::{AllocError, Global};
 use unit_fields::Fields;
@@ -127,6 +127,17 @@ pub fn read_record(
     } else {
         Ok(None)
     }
+}
+
+/// How many units the record of this number takes that stands at the front of these bytes, as its head says; or None where no valid one
+/// stands there, whatever follows. The bytes are the beginning of a record, and may be less than all of it, so that one who has a part of
+/// the log in memory learns how much `read_record` needs. It looks at the head alone.
+pub fn record_units(bytes: &[u8], number: u64) -> Option<u32>
+    requires { 20 ≤ length bytes.now }
+    ensures { MatchOption result (BeginsNoRecord bytes.now number) (TakesUnits bytes.now number) }
+{
+    let head = read_head(&bytes[..SUMMED_HEAD], number)?;
+    Some(units_of(HEAD_BYTES + head.size as usize) as u32)
 }
 
 // The bytes behind so many units.

@@ -1,14 +1,15 @@
 //! Records of the log, made and cut into pieces.
-ghost use Rattle.std.specs.Prelude.{◌≡◌, ◌+◌, ◌-◌, ◌*◌, ◌/◌, ◌^◌, ◌<◌, ◌≤◌, ◌++◌, length, IfOk, OnOk};
+ghost use Rattle.std.specs.Prelude.{◌≡◌, ℕ, ◌+◌, ◌-◌, ◌*◌, ◌/◌, ◌^◌, ◌<◌, ◌≤◌, ◌++◌, length, IfOk, OnOk};
 ghost use Rattle.byte_maps.specs.Units.{units_for, units_from, in_units};
 ghost use Rattle.crc32c_csum.specs.Crc32c.{crc32c};
-ghost use Rattle.meta_log.specs.Records.{head_of, record_units};
+ghost use Rattle.meta_rows.specs.Spelling.{ops_bytes};
+ghost use Rattle.meta_log.specs.Records.{head_of, record_units, unit_count};
 ghost use Rattle.meta_log.specs.Pieces.{piece_count, piece_first};
 ghost use Rattle.meta_log.specs.Sealed.{IsSealable, sealed_units, piece_bytes};
 
 use byte_maps::Duplicate;
 use crc32c_csum::Digest;
-use meta_rows::{RowOp, encode};
+use meta_rows::{RowOp, encode, encoded_len};
 use std::alloc::{AllocError, Global};
 use std::marker::Model;
 use unit_fields::limits::{PIECE_UNITS, UNIT_BYTES};
@@ -19,13 +20,15 @@ pub(crate) const MAGIC: [u8; 4] = *b"BREC";
 // The bytes of a record before its body.
 pub(crate) const HEAD_BYTES: usize = 24;
 
-/// A record of the log, ready to be written: its number, its operations and its bytes. It is seen as the number and the operations.
+/// A record of the log, ready to be written: its number and its operations. It is seen as these two.
 ///
 /// In Ceph it is a record of RocksDB's write-ahead log, for one synchronized write batch.
 #[derive(Debug, Drop)]
 pub struct SealedRecord {
     number: u64,
     ops: Vec<RowOp>,
+    units: u32,
+    // The bytes of a record of several pieces. Those of a record of one piece are made where it is written, and not kept.
     bytes: Vec<u8>,
 }
 
@@ -36,7 +39,7 @@ impl Model for SealedRecord {
 
     ghost view = { λ a. record { number = a.number; ops = a.ops.items } };
 
-    ghost invariant = { λ a. IsSpelled a.number a.ops.items a.bytes.items };
+    ghost invariant = { λ a. IsSpelled a.number a.ops.items a.units a.bytes.items };
 }
 
 // How many units hold so many bytes.
@@ -103,6 +106,26 @@ fn spelled(alloc: Global, number: u64, ops: &[RowOp]) -> Result<Vec<u8>, AllocEr
     Ok(bytes)
 }
 
+// The units of the record that these operations make.
+fn units_of_ops(ops: &[RowOp]) -> u32
+    requires { length (ops_bytes ops.now) < 2 ^ 32 }
+    ensures { (number : ℕ) → result ≡ unit_count number ops.now }
+{
+    units_of(HEAD_BYTES + encoded_len(ops)) as u32
+}
+
+// The bytes of a record that are kept: of several pieces all, and of one piece none.
+fn kept(alloc: Global, number: u64, ops: &[RowOp], units: u32) -> Result<Vec<u8>, AllocError>
+    requires { IsSealable number ops.now }
+    ensures { IfOk result (λ bytes. 64 < units → bytes.items ≡ record_units number ops.now) }
+{
+    if units > PIECE_UNITS {
+        spelled(alloc, number, ops)
+    } else {
+        Ok(Vec::new(alloc))
+    }
+}
+
 fn copied(alloc: Global, ops: &[RowOp]) -> Result<Vec<RowOp>, AllocError>
     ensures { IfOk result (λ copy. copy.items ≡ ops.now) }
 {
@@ -119,9 +142,15 @@ impl SealedRecord {
         requires { IsSealable number ops.now }
         ensures { IfOk result (λ made. made ≡ record { number = number; ops = ops.now }) }
     {
-        let bytes = spelled(alloc, number, ops)?;
+        let units = units_of_ops(ops);
+        let bytes = kept(alloc, number, ops, units)?;
         let ops = copied(alloc, ops)?;
-        Ok(SealedRecord { number, ops, bytes })
+        Ok(SealedRecord {
+            number,
+            ops,
+            units,
+            bytes,
+        })
     }
 
     /// The units that it takes in the log, at least one.
@@ -129,7 +158,7 @@ impl SealedRecord {
         ensures units { result ≡ sealed_units self.now }
         ensures sealable { IsSealable self.now.number self.now.ops }
     {
-        (self.bytes.len() / UNIT_BYTES) as u32
+        self.units
     }
 
     /// Its number. Those of the active half are consecutive.
@@ -160,14 +189,17 @@ impl SealedRecord {
         (self.units() + (PIECE_UNITS - 1)) / PIECE_UNITS
     }
 
-    /// A piece, by its place in the order of writing: its first unit within the record, and a copy of its bytes. The last one
-    /// begins at unit 0, so that the head of a record comes to the device behind its body.
+    /// A piece, by its place in the order of writing: its first unit within the record, and its bytes, which are made here where it is the
+    /// only one. The last one begins at unit 0, so that the head of a record comes to the device behind its body.
     pub fn piece(&self, alloc: Global, k: u32) -> Result<(u32, Vec<u8>), AllocError>
         requires { k < piece_count (sealed_units self.now) }
         ensures first { IfOk result (λ piece. piece.0 ≡ piece_first (sealed_units self.now) k) }
         ensures bytes { IfOk result (λ piece. piece.1.items ≡ piece_bytes self.now k) }
     {
         let units = self.units();
+        if units <= PIECE_UNITS {
+            return Ok((0, spelled(alloc, self.number, &self.ops)?));
+        }
         let first = (self.pieces() - 1 - k) * PIECE_UNITS;
         let count = PIECE_UNITS.min(units - first);
         let bytes = units_at(&self.bytes, first, count);

@@ -1,9 +1,10 @@
 //! What a superblock slot says, and its one spelling.
-ghost use Rattle.std.specs.Prelude.{◌≡◌, ◌≢◌, ◌↔◌, ◌<◌, ◌++◌, ℕ, List, length, IsTrue, All, IfOk, OnOk, MatchOption};
+ghost use Rattle.std.specs.Prelude.{◌≡◌, ◌≢◌, ◌↔◌, ◌<◌, ◌++◌, ℕ, List, length, IsTrue, IfOk, OnOk, MatchOption};
 ghost use Rattle.byte_maps.specs.Units.{zeros};
 ghost use Rattle.meta_log.specs.declared.slot.Super.{Super};
 ghost use Rattle.meta_log.specs.Slots.{version_bytes, field_bytes, super_front, super_bytes, IsSummed, IsSuper, IsSlotOf};
 
+use byte_maps::is_zero;
 use crc32c_csum::crc32c;
 use std::alloc::{AllocError, Global};
 use unit_fields::limits::{LEAST_HALF, MOST_HALF, MOST_PREFER, MOST_UNITS, UNIT_BYTES};
@@ -85,12 +86,6 @@ fn read_front(fields: &mut Fields) -> Option<Super>
 {
     read_version(fields)?;
     read_numbers(fields)
-}
-
-pub(crate) fn is_zero(bytes: &[u8]) -> bool
-    ensures { IsTrue result ↔ All (λ byte. byte ≡ 0) bytes.now }
-{
-    bytes.iter().all(|byte| *byte == 0)
 }
 
 impl Super {

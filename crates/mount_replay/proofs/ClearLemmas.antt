@@ -1,9 +1,9 @@
 -- What is behind the records is cleared, part by part.
-use Rattle.std.proofs.Common.{◌≡◌, ◌≢◌, inl, inr, ℕ, ◌+◌, ◌-◌, ◌*◌, ◌<◌, ◌≤◌, Bool, true, List, [], ◌∷◌, ◌++◌, length, take, drop, Option, Some, None, refl, sym, ap, subst, ◌∙◌, arith}
+use Rattle.std.proofs.Common.{◌≡◌, ◌≢◌, inl, inr, ℕ, ◌+◌, ◌-◌, ◌*◌, ◌<◌, ◌≤◌, Bool, true, List, [], ◌∷◌, ◌++◌, length, drop, Option, Some, None, refl, sym, ap, subst, ◌∙◌, arith}
 use Rattle.std.specs.Prelude.{Contains, All, IfSome}
 use Rattle.std.specs.List.{AllByRecursion}
 use Rattle.std.proofs.lemmas.Bool.{cases_eq}
-use Rattle.std.proofs.lemmas.List.{length-append, drop-drop}
+use Rattle.std.proofs.lemmas.List.{length-append}
 use Rattle.std.proofs.lemmas.List.Elements.{Contains-get_or}
 use Rattle.byte_maps.specs.Units.{unit_at, IsUnits, zeros}
 use Rattle.block_device.specs.Log.{last}
@@ -20,6 +20,7 @@ use Rattle.mount_replay.proofs.RunLemmas.{told_end, answered_call, by_none, by_o
 use Rattle.mount_replay.proofs.ZeroLemmas.{told_start, goes_on_join, done_call, zero_inside, zero_outside}
 use Rattle.mount_replay.proofs.CleanLemmas.{clean_after_flush, done_where_clean, last_at-flush}
 use Rattle.mount_replay.proofs.MadeLemmas.{told_join}
+use Rattle.mount_replay.proofs.SplitLemmas.{next_unit}
 
 -- ---- what is told of calls
 
@@ -232,14 +233,8 @@ only_flush first end ok d d1 d2 only called =
 
 -- ---- both parts
 
-all_of_contained : (P : ℕ → Type 0) (xs : List ℕ) → ((x : ℕ) → Contains xs x → P x) → All P xs
+pub all_of_contained : (P : ℕ → Type 0) (xs : List ℕ) → ((x : ℕ) → Contains xs x → P x) → All P xs
 all_of_contained P xs each k d lt = each _ (Contains-get_or xs k d lt)
-
-next_unit : (bytes : List ℕ) (j : ℕ) → unit_at j (drop 4096 bytes) ≡ unit_at (1 + j) bytes
-unfolding unit_at
-next_unit bytes j =
-    let place : 4096 + 4096 * j ≡ 4096 * (1 + j) = omega arith in
-    ap (λ l. take 4096 l) (drop-drop (4096 * j) 4096 bytes ∙ ap (λ n. drop n bytes) place)
 
 module _ (first end : ℕ) (bytes units : List ℕ) (some : first < end) (are : AreNotZero (first + 1) (end - (first + 1)) (drop 4096 bytes) units) where
   pub others_between : All (λ unit. (first + 1 ≤ unit) × (unit < end)) units

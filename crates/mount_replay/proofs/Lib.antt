@@ -8,6 +8,8 @@ pub mod StopLemmas
 pub mod ClearLemmas
 pub mod OpeningLemmas
 pub mod ReplayLemmas
+pub mod HalfLemmas
+pub mod SplitLemmas
 pub mod DurableLemmas
 pub mod MountingLemmas
 pub mod JudgeLemmas

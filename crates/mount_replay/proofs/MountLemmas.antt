@@ -1,6 +1,6 @@
 -- A kernel is opened on the store that was found, or the device comes back.
-use Rattle.std.proofs.Common.{◌≡◌, ℕ, ◌+◌, ◌*◌, ◌≤◌, List, [], length, take, drop, Option, Some, None, refl, sym, ap, subst, ◌∙◌, arith}
-use Rattle.std.specs.Prelude.{IfSome}
+use Rattle.std.proofs.Common.{◌≡◌, ℕ, ◌+◌, ◌*◌, ◌<◌, ◌≤◌, List, [], length, take, drop, Option, Some, None, refl, sym, ap, subst, ◌∙◌, arith}
+use Rattle.std.specs.Prelude.{IfSome, All, Contains}
 use Rattle.std.proofs.lemmas.List.{take_at}
 use Rattle.byte_maps.specs.Units.{IsUnits}
 use Rattle.block_device.specs.Log.{last, IsClean}
@@ -21,14 +21,14 @@ use Rattle.mount_replay.specs.Calls.{Told, IsLater}
 use Rattle.mount_replay.specs.Cleared.{IsAllClean}
 use Rattle.mount_replay.specs.Clearing.{AreClearing, IsCleared, ClearsSoFar}
 use Rattle.mount_replay.specs.Opening.{IsAbout, IsFoundIn, IsRefused, IsUnopenable, FailsMount}
-use Rattle.mount_replay.specs.FoundOn.{IsFoundOn, IsJudged, as_found, first_behind, half_end, rest_of_half, IsLogCleared, ClearsLog}
+use Rattle.mount_replay.specs.FoundOn.{IsFoundOn, IsJudged, as_found, first_behind, half_end, rest_of, AreStaleOf, IsLogCleared, ClearsLog}
 use Rattle.mount_replay.specs.Mounting.{behind_records, WasOpened, IsOpenedOn, StaysDurable}
 use Rattle.mount_replay.specs.declared.opening.MountFail.{MountFail}
 use Rattle.mount_replay.specs.declared.opening.MountFail.TheVariants.{Memory, NoSuper, BadRow, NotExact, WornOut, Fault}
 use Rattle.mount_replay.specs.declared.replaying.FoundStore.{FoundStore}
 use Rattle.mount_replay.proofs.RunLemmas.{by_length}
 use Rattle.mount_replay.proofs.ZeroLemmas.{told_map, goes_on_same}
-use Rattle.mount_replay.proofs.ClearLemmas.{told_both}
+use Rattle.mount_replay.proofs.ClearLemmas.{told_both, all_of_contained}
 use Rattle.mount_replay.proofs.OpeningLemmas.{about_all, about_more}
 use Rattle.mount_replay.proofs.DurableLemmas.{no_book, still_durable, after_clearing, is_mounted}
 
@@ -70,16 +70,21 @@ stays_same d sound h opening told clean stands = record {
 
 -- ---- a store that was found
 
+pub stale_between : (s : FoundStore) (half units : List ℕ) → units ≡ s.stale.items → s.log.tail ≤ s.sup.half → AreStaleOf half s
+    → All (λ unit. (first_behind s ≤ unit) × (unit < half_end s)) units
+stale_between s half units is tail stale = all_of_contained (λ unit. (first_behind s ≤ unit) × (unit < half_end s)) units
+    (λ unit here. let there = stale.each unit (subst (λ (l : List ℕ). Contains l unit) is here) in (there.from, omega (arith, there.to, tail)))
+
 module _ (s : FoundStore) (d : Disk) (sound : IsSound d) (found : IsFoundOn d s) (good : AreGoodRows s.sup s.log.rows.rows s.log.rows.rows) where
   f : Found
   f = as_found s
 
   -- what its contents hold, where nothing is dirty
-  holds : (h : History) → d.history ≡ Some h → IsAllClean h → IsFoundIn (last h.start h.log) (as_found s) × (s.half.items ≡ active_half (last h.start h.log) s.sup)
+  holds : (h : History) → d.history ≡ Some h → IsAllClean h → IsFoundIn (last h.start h.log) (as_found s) × (found.half ≡ active_half (last h.start h.log) s.sup)
   holds h told clean =
-      known (λ g. IsAllClean g → IsFoundIn (last g.start g.log) (as_found s) × (s.half.items ≡ active_half (last g.start g.log) s.sup)) d.history h told found.about clean
+      known (λ g. IsAllClean g → IsFoundIn (last g.start g.log) (as_found s) × (found.half ≡ active_half (last g.start g.log) s.sup)) d.history h told found.about clean
 
-  rest_is : (h : History) → d.history ≡ Some h → IsAllClean h → rest_of_half s ≡ behind_records (last h.start h.log) (as_found s)
+  rest_is : (h : History) → d.history ≡ Some h → IsAllClean h → rest_of found.half s ≡ behind_records (last h.start h.log) (as_found s)
   rest_is h told clean = ap (λ l. drop (4096 * s.log.tail) l) (holds h told clean).1
 
   whole : (h : History) → d.history ≡ Some h → IsUnits s.sup.units h.start
@@ -89,7 +94,7 @@ module _ (s : FoundStore) (d : Disk) (sound : IsSound d) (found : IsFoundOn d s)
   whole_now h told =
       subst (λ n. IsUnits n (last h.start h.log)) (sym found.units_are) (known (λ g. IsUnits d.units (last g.start g.log)) d.history h told sound.size_now)
 
-  stays_by : (h k : History) (opening : Objects) → d.history ≡ Some h → IsAllClean h → StandsFor (last h.start h.log) opening → ClearsLog s h k
+  stays_by : (h k : History) (opening : Objects) → d.history ≡ Some h → IsAllClean h → StandsFor (last h.start h.log) opening → ClearsLog s found.half h k
       → EachCutStands (length h.log) k opening no_book
   stays_by h k opening told clean stands so_far =
       let contents = last h.start h.log in
@@ -97,9 +102,9 @@ module _ (s : FoundStore) (d : Disk) (sound : IsSound d) (found : IsFoundOn d s)
       let same = subst (λ l. ClearsSoFar (first_behind s) (half_end s) l h k) (rest_is h told clean) so_far in
       (after_clearing (as_found s) h opening clean (whole h told) (whole_now h told) found.limits good.good here stands k same).cuts
 
-  pub stays_begun : (now : Disk) → Told (ClearsLog s) d.history now.history → StaysDurable d now
+  pub stays_begun : (now : Disk) → Told (ClearsLog s found.half) d.history now.history → StaysDurable d now
   stays_begun now told h opening is clean stands =
-      let after = told_after (ClearsLog s) now.history h (subst (λ o. Told (ClearsLog s) o now.history) is told) in record {
+      let after = told_after (ClearsLog s found.half) now.history h (subst (λ o. Told (ClearsLog s found.half) o now.history) is told) in record {
         history = after.now;
         told = after.told;
         goes_on = record { same_start = after.holds.by.same_start; events = after.holds.events; more = after.holds.by.more };
@@ -110,7 +115,7 @@ module _ (s : FoundStore) (d : Disk) (sound : IsSound d) (found : IsFoundOn d s)
 
   -- both facts of the clearing
   abbrev Both : ℕ → History → History → Type 0
-  Both count h k = ClearsLog s h k × IsLogCleared s count h k
+  Both count h k = ClearsLog s found.half h k × IsLogCleared s found.half count h k
 
   mounted_by : (count : ℕ) (h k : History) (base : ℕ) (opening : Objects) → d.history ≡ Some h → Both count h k → length k.log ≡ base + count
       → IsStart base k opening → IsMounted base opening (as_found s) count k
@@ -131,14 +136,14 @@ module _ (s : FoundStore) (d : Disk) (sound : IsSound d) (found : IsFoundOn d s)
       (subst (λ l. ClearsSoFar (first_behind s) (half_end s) l h k) rest so_far)
       (subst (λ l. IsCleared (first_behind s) (half_end s) l count h k) rest cleared) good.exact)
 
-  pub opened_durable : (space : Space) (count : ℕ) (now : Disk) → now.flights ≡ [] → Told (ClearsLog s) d.history now.history
-      → Told (IsLogCleared s count) d.history now.history → KeepsDurable (opened (as_found s) space count) now
+  pub opened_durable : (space : Space) (count : ℕ) (now : Disk) → now.flights ≡ [] → Told (ClearsLog s found.half) d.history now.history
+      → Told (IsLogCleared s found.half count) d.history now.history → KeepsDurable (opened (as_found s) space count) now
   opened_durable space count now idle so_far cleared = mounted_keeps (as_found s) space count now idle (λ k base opening told counted start.
-      let both = told_both (ClearsLog s) (IsLogCleared s count) (Both count) d.history now.history (λ h k p q. (p, q)) so_far cleared in
+      let both = told_both (ClearsLog s found.half) (IsLogCleared s found.half count) (Both count) d.history now.history (λ h k p q. (p, q)) so_far cleared in
       let before = told_before (Both count) d.history k (subst (λ o. Told (Both count) d.history o) told both) in
       mounted_by count before.old k base opening before.told before.holds counted start)
 
-  was_opened : (count : ℕ) (h k : History) → d.history ≡ Some h → IsLogCleared s count h k → WasOpened (as_found s) count h k
+  was_opened : (count : ℕ) (h k : History) → d.history ≡ Some h → IsLogCleared s found.half count h k → WasOpened (as_found s) count h k
   was_opened count h k told cleared = record {
     events = cleared.events;
     by = cleared.by;
@@ -164,24 +169,24 @@ module _ (s : FoundStore) (d : Disk) (sound : IsSound d) (found : IsFoundOn d s)
       kept_open (as_found s) space count now now_sound idle (omega (arith, few)) (openable space now.units (found.units_are ∙ sym same) judged)
 
   pub opened_on : (space : Space) (count : ℕ) (now : Disk) (state : State) → IsJudged (as_found s) space → IsLater d now
-      → Told (IsLogCleared s count) d.history now.history → state ≡ opened (as_found s) space count → IsOpenedOn d (as_found s) space now state
+      → Told (IsLogCleared s found.half count) d.history now.history → state ≡ opened (as_found s) space count → IsOpenedOn d (as_found s) space now state
   opened_on space count now state judged later cleared is = record {
     openable = openable space d.units found.units_are judged;
     unmarked = judged.unmarked;
     numbers = judged.numbers;
-    found = about_more d (λ contents. IsFoundIn contents (as_found s) × (s.half.items ≡ active_half contents s.sup)) (λ contents. IsFoundIn contents (as_found s))
+    found = about_more d (λ contents. IsFoundIn contents (as_found s) × (found.half ≡ active_half contents s.sup)) (λ contents. IsFoundIn contents (as_found s))
         (λ contents both. both.0) found.about;
     events = count;
     state = is;
     later = later;
-    told = told_map (IsLogCleared s count) (WasOpened (as_found s) count) d.history now.history (λ h k told p. was_opened count h k told p) cleared;
+    told = told_map (IsLogCleared s found.half count) (WasOpened (as_found s) count) d.history now.history (λ h k told p. was_opened count h k told p) cleared;
   }
 
 -- ---- a store that is refused
 
 found_about : (s : FoundStore) (d : Disk) → IsFoundOn d s → (P : List ℕ → Type 0) → ((contents : List ℕ) → IsFoundIn contents (as_found s) → P contents) → IsAbout d P
 found_about s d found P then =
-    about_more d (λ contents. IsFoundIn contents (as_found s) × (s.half.items ≡ active_half contents s.sup)) P (λ contents both. then contents both.0) found.about
+    about_more d (λ contents. IsFoundIn contents (as_found s) × (found.half ≡ active_half contents s.sup)) P (λ contents both. then contents both.0) found.about
 
 pub refused_fails : (s : FoundStore) (d : Disk) (before now : ℕ) (fail : MountFail) → IsFoundOn d s → IsRefused fail (as_found s) → FailsMount fail d before now
 refused_fails s d before now Memory found refused = about_all d (λ contents. Unit {0}) (λ contents. tt)

@@ -12,16 +12,13 @@ use Rattle.meta_log.specs.Slots.{IsSlotOf, IsValidSlot, IsActiveSlot}
 use Rattle.meta_log.proofs.SlotLemmas.{same_slot}
 use Rattle.mount_replay.specs.Cleared.{IsAllClean}
 use Rattle.mount_replay.specs.Opening.{IsAbout, HasNoSuper, newer_of}
+use Rattle.mount_replay.specs.HalfReading.{HasPiece}
 
 -- P of what was last written, where that is told and no unit is dirty
 abbrev AboutTold : Option History → (List ℕ → Type 0) → Type 0
 AboutTold o P = IfSome o (λ h. IsAllClean h → P (last h.start h.log))
 
 -- ---- units that were read where nothing is dirty
-
--- the units from one on have these bytes
-abbrev pub HasPiece : ℕ → ℕ → List ℕ → List ℕ → Type 0
-HasPiece at count bytes contents = (k : ℕ) → k < count → unit_at (at + k) contents ≡ unit_at k bytes
 
 units_read : (o : Option History) (at count : ℕ) (bytes : List ℕ) (P : List ℕ → Type 0) → IfSome o (λ h. IsAnsweredOnce h.log)
     → IfSome o (λ h. (k : ℕ) → k < count → HasNoBadDone h.log (at + k) → unit_at k bytes ≡ unit_at (at + k) (last h.start h.log))

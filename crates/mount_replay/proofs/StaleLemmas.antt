@@ -4,13 +4,16 @@ use Rattle.std.specs.Prelude.{◌⊎◌, ◌≢◌, Contains, All, IfSome, repli
 use Rattle.std.proofs.lemmas.Bool.{cases_lt}
 use Rattle.std.proofs.lemmas.List.{get_or-replicate, ext_get_or, get_or_append_left, get_or-append-add, length-append}
 use Rattle.std.proofs.lemmas.List.Elements.{All-get_or, All-replicate, All-push, All-weaker, All-from_recursion, Contains-append_left, Contains-append_cases, Contains-push}
-use Rattle.byte_maps.specs.Units.{unit_at, zeros}
-use Rattle.byte_maps.proofs.UnitLemmas.{length-zeros}
-use Rattle.block_device.specs.Log.{last, IsClean, HasNoBadDone, IsAnsweredOnce}
+use Rattle.byte_maps.specs.Units.{unit_at, zeros, IsUnits}
+use Rattle.byte_maps.proofs.UnitLemmas.{length-zeros, unit_at-append_front, unit_at-append_back}
+use Rattle.block_device.specs.Log.{last, IsClean}
 use Rattle.block_device.specs.Disk.{Disk, History, HasRead, IsSound}
-use Rattle.block_device.proofs.ReadLemmas.{clean_good}
+use Rattle.mount_replay.specs.Cleared.{IsAllClean}
 use Rattle.mount_replay.specs.Zeroing.{IsZero}
 use Rattle.mount_replay.specs.Stale.{AreStale, Ascend, IsNotZero, AddsStale, AreNotZero}
+use Rattle.mount_replay.specs.HalfReading.{HasPiece, AreUnits, left_of, IsReader, AddsUnits, HasStale}
+use Rattle.mount_replay.specs.declared.half_reader.HalfReader.{HalfReader}
+use Rattle.mount_replay.proofs.HalfLemmas.{no_units, units_read, between_join}
 
 pub zeros-from_all : (n : ℕ) (xs : List ℕ) → length xs ≡ n → All (λ b. b ≡ 0) xs → xs ≡ zeros n
 unfolding zeros
@@ -126,47 +129,124 @@ only_these at count bytes old new none adds = record {
 pub all_below : (at : ℕ) → All (λ unit. unit < at) []
 all_below at = All-from_recursion (λ unit. unit < at) [] tt
 
--- ---- piece by piece
+-- ---- more units
 
-no_others : (o : Option History) → IfSome o (λ h. ((unit : ℕ) → IsClean h.log unit) → (unit : ℕ) → unit < 2 → ¬ Contains (0 ∷ 1 ∷ []) unit → IsZero h unit)
-no_others None = tt
-no_others (Some h) = λ clean unit below not. absurd (slot_here unit below not)
-  where
-    slot_here : (unit : ℕ) → unit < 2 → ¬ Contains (0 ∷ 1 ∷ []) unit → ⊥
-    slot_here zero below not = not (0, omega arith, refl)
-    slot_here (suc zero) below not = not (1, omega arith, refl)
-    slot_here (suc (suc n)) below not = omega (arith, below)
-
-pub slots_are_stale : (d : Disk) (units : List ℕ) → units ≡ 0 ∷ 1 ∷ [] → AreStale 2 d units
-slots_are_stale d units is = subst (AreStale 2 d) (sym is) (record {
-  within = All-from_recursion (λ unit. unit < 2) (0 ∷ 1 ∷ []) (omega arith, (omega arith, tt));
+adds_none : (at count : ℕ) (old : List ℕ) → count ≡ 0 → All (λ unit. unit < at) old → AddsStale at count [] old old
+adds_none at count old none below = record {
+  within = all_more at (at + count) old (omega arith) below;
+  keeps = λ unit here. here;
+  adds = λ k lt. absurd (omega (arith, lt, none));
+  only = λ unit here. inl here;
+  ascend = λ ascend. ascend;
   many = omega arith;
-  slot_0 = (0, omega arith, refl);
-  slot_1 = (1, omega arith, refl);
-  others = no_others d.history;
-})
+}
 
-module _ (at count : ℕ) (bytes old new : List ℕ) (adds : AddsStale at count bytes old new) where
-  others_more : (o : Option History)
-      → IfSome o (λ h. ((unit : ℕ) → IsClean h.log unit) → (unit : ℕ) → unit < at → ¬ Contains old unit → IsZero h unit)
-      → IfSome o (λ h. (k : ℕ) → k < count → HasNoBadDone h.log (at + k) → unit_at k bytes ≡ unit_at (at + k) (last h.start h.log))
-      → IfSome o (λ h. IsAnsweredOnce h.log)
-      → IfSome o (λ h. ((unit : ℕ) → IsClean h.log unit) → (unit : ℕ) → unit < at + count → ¬ Contains new unit → IsZero h unit)
-  others_more None before read once = tt
-  others_more (Some h) before read once = λ clean unit below not. elim (cases_lt unit at) [
-    | inl lt ↦ before clean unit lt (λ here. not (adds.keeps unit here))
+-- those of some units were added, and then those of the next ones
+adds_join : (at n m : ℕ) (a b old mid new : List ℕ) → IsUnits n a → AddsStale at n a old mid → AddsStale (at + n) m b mid new
+    → AddsStale at (n + m) (a ++ b) old new
+adds_join at n m a b old mid new size first second = record {
+  within = all_more (at + n + m) (at + (n + m)) new (omega arith) second.within;
+  keeps = λ unit here. second.keeps unit (first.keeps unit here);
+  adds = λ k lt not. elim (cases_lt k n) [
+    | inl front ↦ unit_at-append_front k a b (omega (arith, size, front)) ∙ first.adds k front (λ here. not (second.keeps (at + k) here))
     | inr ge ↦
-        let k = unit - at in
-        let is : at + k ≡ unit = omega (arith, ge) in
-        let lt : k < count = omega (arith, ge, below) in
-        subst (IsZero h) is (sym (read k lt (clean_good h.log (at + k) once (clean (at + k)))) ∙ adds.adds k lt (λ here. not (subst (Contains new) is here)))
-  ]
+        let j = k - n in
+        let place : at + n + j ≡ at + k = omega (arith, ge) in
+        unit_at-append_back n k j a b size (omega (arith, ge))
+        ∙ second.adds j (omega (arith, lt, ge)) (λ here. not (subst (Contains new) place here))
+  ];
+  only = λ unit here. elim (second.only unit here) [
+    | inl before ↦ elim (first.only unit before) [
+      | inl older ↦ inl older
+      | inr is ↦ inr (record {
+        from = is.from;
+        to = omega (arith, is.to);
+        holds = λ zero_there. is.holds (sym (unit_at-append_front (unit - at) a b (omega (arith, size, is.from, is.to))) ∙ zero_there);
+      })
+    ]
+    | inr is ↦ inr (record {
+      from = omega (arith, is.from);
+      to = omega (arith, is.to);
+      holds = λ zero_there. is.holds (sym (unit_at-append_back n (unit - at) (unit - (at + n)) a b size (omega (arith, is.from))) ∙ zero_there);
+    })
+  ];
+  ascend = λ ascend. second.ascend (first.ascend ascend);
+  many = omega (arith, first.many, second.many);
+}
 
-  pub stale_more : (d : Disk) → IsSound d → HasRead d at count bytes → AreStale at d old → AreStale (at + count) d new
-  stale_more d sound read stale = record {
-    within = adds.within;
-    many = omega (arith, adds.many, stale.many);
-    slot_0 = adds.keeps 0 stale.slot_0;
-    slot_1 = adds.keeps 1 stale.slot_1;
-    others = others_more d.history stale.others read.units sound.once;
-  }
+adds_between : (first mid end : ℕ) (a b old now new : List ℕ) → first ≤ mid → mid ≤ end → IsUnits (mid - first) a
+    → AddsStale first (mid - first) a old now → AddsStale mid (end - mid) b now new → AddsStale first (end - first) (a ++ b) old new
+adds_between first mid end a b old now new le more size p q =
+    let place : mid ≡ first + (mid - first) = omega (arith, le) in
+    let count : mid - first + (end - mid) ≡ end - first = omega (arith, le, more) in
+    subst (λ (n : ℕ). AddsStale first n (a ++ b) old new) count
+    (adds_join first (mid - first) (end - mid) a b old now new size p (subst (λ (n : ℕ). AddsStale n (end - mid) b now new) place q))
+
+pub adds_no_units : (d : Disk) (first : ℕ) (old : List ℕ) → All (λ unit. unit < first) old → AddsUnits d first first old old
+adds_no_units d first old below = record {
+  bytes = [];
+  units = no_units first (first - first) d (omega arith);
+  adds = adds_none first (first - first) old (omega arith) below;
+}
+
+pub adds_more_units : (d : Disk) (first at count : ℕ) (bytes old mid new : List ℕ) → first ≤ at → IsSound d → HasRead d at count bytes
+    → AddsStale at count bytes mid new → AddsUnits d first at old mid → AddsUnits d first (at + count) old new
+adds_more_units d first at count bytes old mid new le sound read adds so_far =
+    let many : count ≡ at + count - at = omega arith in
+    record {
+      bytes = so_far.bytes ++ bytes;
+      units = between_join first at (at + count) so_far.bytes bytes d le (omega arith) so_far.units
+          (subst (λ (n : ℕ). AreUnits at n bytes d) many (units_read d at count bytes sound read));
+      adds = adds_between first at (at + count) so_far.bytes bytes old mid new le (omega arith) so_far.units.size so_far.adds
+          (subst (λ (n : ℕ). AddsStale at n bytes mid new) many adds);
+    }
+
+-- those before the next unit
+pub all_before : (d : Disk) (first at : ℕ) (old new : List ℕ) → first ≤ at → AddsUnits d first at old new → All (λ unit. unit < at) new
+all_before d first at old new le so_far = all_more (first + (at - first)) at new (omega (arith, le)) so_far.adds.within
+
+-- ---- the units behind the records
+
+pub stale_found : (d : Disk) (h : HalfReader) (count : ℕ) (none mid new : List ℕ) → none ≡ [] → IsReader h → count ≡ h.next - h.at
+    → AddsStale h.at count (left_of h) none mid → AddsUnits d h.next h.end mid new → HasStale d h new
+stale_found d h count none mid new nothing reader many first later = record {
+  more = later.bytes;
+  read = later.units;
+  stale = only_these h.at (h.end - h.at) (left_of h ++ later.bytes) none new nothing
+      (adds_between h.at h.next h.end (left_of h) later.bytes none mid new reader.read reader.more reader.size
+      (subst (λ (n : ℕ). AddsStale h.at n (left_of h) none mid) many first) later.adds);
+}
+
+-- ---- the units of a new store
+
+module _ (below : ℕ) (bytes new : List ℕ) (adds : AddsStale 2 (below - 2) bytes (0 ∷ 1 ∷ []) new) where
+  others_zero : (o : Option History) → IfSome o (λ h. IsAllClean h → HasPiece 2 (below - 2) bytes (last h.start h.log))
+      → IfSome o (λ h. ((unit : ℕ) → IsClean h.log unit) → (unit : ℕ) → unit < below → ¬ Contains new unit → IsZero h unit)
+  others_zero None read = tt
+  others_zero (Some h) read = λ clean unit lt not. elim (cases_lt unit 2) [
+    | inl slot ↦ absurd (not (adds.keeps unit (slot_there unit slot)))
+    | inr ge ↦
+        let k = unit - 2 in
+        let is : 2 + k ≡ unit = omega (arith, ge) in
+        let within : k < below - 2 = omega (arith, ge, lt) in
+        subst (IsZero h) is (read clean k within ∙ adds.adds k within (λ here. not (subst (Contains new) is here)))
+  ]
+    where
+      slot_there : (unit : ℕ) → unit < 2 → Contains (0 ∷ 1 ∷ []) unit
+      slot_there zero lt = (0, omega arith, refl)
+      slot_there (suc zero) lt = (1, omega arith, refl)
+      slot_there (suc (suc n)) lt = absurd (omega (arith, lt))
+
+pub slots_below : (units : List ℕ) → units ≡ 0 ∷ 1 ∷ [] → All (λ unit. unit < 2) units
+slots_below units is = subst (All (λ unit. unit < 2)) (sym is) (All-from_recursion (λ unit. unit < 2) (0 ∷ 1 ∷ []) (omega arith, (omega arith, tt)))
+
+pub are_stale : (d : Disk) (below : ℕ) (units new : List ℕ) → units ≡ 0 ∷ 1 ∷ [] → 2 ≤ below → AddsUnits d 2 below units new → AreStale below d new
+are_stale d below units new is le found =
+    let adds : AddsStale 2 (below - 2) found.bytes (0 ∷ 1 ∷ []) new = subst (λ (l : List ℕ). AddsStale 2 (below - 2) found.bytes l new) is found.adds in
+    record {
+      within = all_more (2 + (below - 2)) below new (omega (arith, le)) adds.within;
+      many = omega (arith, adds.many, le);
+      slot_0 = adds.keeps 0 (0, omega arith, refl);
+      slot_1 = adds.keeps 1 (1, omega arith, refl);
+      others = others_zero below found.bytes new adds d.history found.units.pieces;
+    }

@@ -1,5 +1,5 @@
 -- What is behind the records is cleared: first the unit behind the last one, then the others.
-use Rattle.std.specs.Prelude.{◌≡◌, ◌≢◌, ◌⊎◌, ℕ, ◌+◌, ◌-◌, ◌*◌, ◌<◌, ◌≤◌, List, [], ◌∷◌, ◌++◌, length, drop, Contains, true}
+use Rattle.std.specs.Prelude.{◌≡◌, ◌≢◌, ◌⊎◌, ℕ, ◌+◌, ◌-◌, ◌*◌, ◌<◌, ◌≤◌, List, [], ◌∷◌, ◌++◌, length, drop, Contains, Bool, true, false}
 use Rattle.std.specs.List.{AllByRecursion}
 use Rattle.byte_maps.specs.Units.{unit_at, zeros}
 use Rattle.block_device.specs.Disk.{History}
@@ -46,6 +46,18 @@ pub record AreBothParts (place first end : ℕ) (bytes : List ℕ) (events : Lis
 -- The events that clear the units from one to before another. Where there is no unit there is no event.
 abbrev pub AreClearing : ℕ → ℕ → ℕ → List ℕ → List Event → Type 0
 AreClearing place first end bytes events = ((end ≤ first) × (events ≡ [])) ⊎ ((first < end) × AreBothParts place first end bytes events)
+
+-- ---- the units that aren't zero
+
+-- whether the first unit isn't
+abbrev pub IsFirstStale : Bool → List ℕ → Type 0
+IsFirstStale true bytes = unit_at 0 bytes ≢ zeros 4096
+IsFirstStale false bytes = unit_at 0 bytes ≡ zeros 4096
+
+-- whether the units begin with this one, and the others
+abbrev pub AreParts : List ℕ → ℕ → Bool → List ℕ → Type 0
+AreParts units unit true others = units ≡ unit ∷ others
+AreParts units unit false others = (others ≡ units) × ((more : List ℕ) → units ≢ unit ∷ more)
 
 -- ---- what they do
 

@@ -7,6 +7,7 @@ pub mod Clearing
 pub mod Replaying
 pub mod Made
 pub mod Opening
+pub mod HalfReading
 pub mod FoundOn
 pub mod Mounting
 pub mod Mounted

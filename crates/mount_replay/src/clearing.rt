@@ -4,15 +4,13 @@
 //! cleared first, and is stable before any other is: otherwise a record behind it could come to follow the records while zeros
 //! are torn.
 ghost use Rattle.std.specs.Prelude.{◌≡◌, ◌≤◌, ◌<◌, ◌+◌, ◌-◌, ℕ, List, [], length, All, OnOk, IfOk, IsErrOf};
-ghost use Rattle.byte_maps.specs.Units.{IsUnits};
 ghost use Rattle.block_device.specs.Disk.{Rose};
 ghost use Rattle.mount_replay.specs.Calls.{Told, IsLater};
 ghost use Rattle.mount_replay.specs.Zeroing.{ZeroesOnly};
-ghost use Rattle.mount_replay.specs.Clearing.{IsUnitCleared, IsFirstCleared, AreOthersCleared, IsCleared, ClearsSoFar};
+ghost use Rattle.mount_replay.specs.Stale.{AreNotZero};
+ghost use Rattle.mount_replay.specs.Clearing.{AreParts, IsFirstStale, IsUnitCleared, IsFirstCleared, AreOthersCleared, IsCleared, ClearsSoFar};
 
 use crate::calls::{flush_through, write_through};
-use crate::replaying::bytes_behind;
-use crate::stale::{is_zero_unit, units_not_zero};
 use crate::zeroing::{zero_bytes, zero_units};
 use block_device::{Device, Failed};
 use std::alloc::Global;
@@ -36,25 +34,35 @@ fn clear_unit<D: Device>(alloc: Global, dev: &mut D, unit: u32) -> Result<(), Fa
     Ok(())
 }
 
-/// Zeros over the first unit, stable, where its bytes aren't zero. Says how many events that took.
+/// Whether the units begin with this one, and the others.
+fn split(units: &[u32], unit: u32) -> (bool, &[u32])
+    ensures { AreParts units.now unit result.0 result.1.now }
+{
+    match units {
+        [first, others @ ..] if *first == unit => (true, others),
+        _ => (false, units),
+    }
+}
+
+/// Zeros over the first unit, stable, where it isn't zero. Says how many events that took.
 fn clear_first<D: Device>(
     alloc: Global,
     dev: &mut D,
     unit: u32,
-    bytes: &[u8],
+    is_stale: bool,
 ) -> Result<u64, Failed>
     requires idle { (D.disk dev.old).flights ≡ [] }
     requires inside { unit < (D.disk dev.old).units }
-    requires some { 4096 ≤ length bytes.now }
     ensures later { IsLater (D.disk dev.old) (D.disk dev.new) }
-    ensures cleared { IfOk result (λ events. Told (IsFirstCleared unit bytes.now events) (D.disk dev.old).history (D.disk dev.new).history) }
+    ensures cleared { IfOk result (λ events. (bytes : List ℕ) → IsFirstStale is_stale bytes →
+        Told (IsFirstCleared unit bytes events) (D.disk dev.old).history (D.disk dev.new).history) }
     ensures few { IfOk result (λ events. events ≤ 4) }
-    ensures only { Told (ClearsSoFar unit (unit + 1) bytes.now) (D.disk dev.old).history (D.disk dev.new).history }
+    ensures only { (bytes : List ℕ) → Told (ClearsSoFar unit (unit + 1) bytes) (D.disk dev.old).history (D.disk dev.new).history }
     ensures faults { D.faults dev.old ≤ D.faults dev.new }
     ensures cause { IsErrOf result Failed.Fault → Rose (D.faults dev.old) (D.faults dev.new) }
 {
     let _ = dev.units();
-    if is_zero_unit(bytes, 0) {
+    if !is_stale {
         return Ok(0);
     }
     clear_unit(alloc, dev, unit)?;
@@ -83,23 +91,25 @@ fn clear_others<D: Device>(alloc: Global, dev: &mut D, units: &[u32]) -> Result<
     Ok(2 * runs as u64 + 2)
 }
 
-/// Clears the units from `first` to before `end`, whose bytes these are: the first one, then the others, each only where it isn't zero.
-/// Says how many events that took.
+/// Clears the units from `first` to before `end`, of which these aren't zero: the first one, then the others. Says how many events that took.
 pub fn clear_behind<D: Device>(
     alloc: Global,
     dev: &mut D,
     first: u32,
     end: u32,
-    bytes: &[u8],
+    stale: &[u32],
 ) -> Result<u64, Failed>
     requires idle { (D.disk dev.old).flights ≡ [] }
     requires order { first ≤ end }
     requires inside { end ≤ (D.disk dev.old).units }
-    requires size { IsUnits (end - first) bytes.now }
+    requires between { All (λ unit. (first ≤ unit) × (unit < end)) stale.now }
+    requires many { length stale.now ≤ 1048576 }
     ensures later { IsLater (D.disk dev.old) (D.disk dev.new) }
-    ensures cleared { IfOk result (λ events. Told (IsCleared first end bytes.now events) (D.disk dev.old).history (D.disk dev.new).history) }
+    ensures cleared { IfOk result (λ events. (bytes : List ℕ) → AreNotZero first (end - first) bytes stale.now →
+        Told (IsCleared first end bytes events) (D.disk dev.old).history (D.disk dev.new).history) }
     ensures few { IfOk result (λ events. events ≤ 4194308) }
-    ensures only { Told (ClearsSoFar first end bytes.now) (D.disk dev.old).history (D.disk dev.new).history }
+    ensures only { (bytes : List ℕ) → AreNotZero first (end - first) bytes stale.now →
+        Told (ClearsSoFar first end bytes) (D.disk dev.old).history (D.disk dev.new).history }
     ensures faults { D.faults dev.old ≤ D.faults dev.new }
     ensures cause { IsErrOf result Failed.Fault → Rose (D.faults dev.old) (D.faults dev.new) }
 {
@@ -107,11 +117,8 @@ pub fn clear_behind<D: Device>(
     if first == end {
         return Ok(0);
     }
-    let behind = bytes_behind(bytes, 1);
-    let Ok(others) = units_not_zero(alloc, first + 1, end - (first + 1), behind) else {
-        return Err(Failed::Memory);
-    };
-    let first_events = clear_first(alloc, dev, first, bytes)?;
-    let other_events = clear_others(alloc, dev, &others)?;
+    let (is_stale, others) = split(stale, first);
+    let first_events = clear_first(alloc, dev, first, is_stale)?;
+    let other_events = clear_others(alloc, dev, others)?;
     Ok(first_events + other_events)
 }

@@ -5,6 +5,7 @@
 
 mod calls;
 mod clearing;
+mod half_reader;
 mod judging;
 mod laws;
 mod making;

@@ -1,5 +1,5 @@
 //! Mounting a store and unmounting it.
-ghost use Rattle.std.specs.Prelude.{◌≡◌, ◌≢◌, ◌≤◌, [], true, false, IfOk, IfErr, IsErrOf, MatchResult};
+ghost use Rattle.std.specs.Prelude.{◌≡◌, ◌≢◌, ◌≤◌, ℕ, List, [], true, false, IfOk, IfErr, IsErrOf, MatchResult};
 ghost use Rattle.block_device.specs.Disk.{IsSound, Rose};
 ghost use Rattle.unit_allocator.specs.Units.{Space};
 ghost use Rattle.store_steps.specs.declared.step.Step.TheVariants.{Reap};
@@ -9,13 +9,13 @@ ghost use Rattle.store_steps.specs.Ready.{is_ready};
 ghost use Rattle.store_steps.specs.Runs.{Calls, stepping};
 ghost use Rattle.mount_replay.specs.Calls.{Told, IsLater};
 ghost use Rattle.mount_replay.specs.Opening.{FailsMount, SubmitsNothing};
-ghost use Rattle.mount_replay.specs.FoundOn.{IsFoundOn, IsJudged, IsLogCleared, ClearsLog, as_found};
+ghost use Rattle.mount_replay.specs.FoundOn.{IsFoundOn, IsJudged, AreStaleOf, IsLogCleared, ClearsLog, as_found};
 ghost use Rattle.mount_replay.specs.Mounting.{IsOpenedOn, StaysDurable, IsReapedTo};
 
 use crate::clearing::clear_behind;
 use crate::judging::judge;
 use crate::opening::{MountFail, failed};
-use crate::replaying::{FoundStore, bytes_behind, find_store};
+use crate::replaying::{FoundStore, find_store};
 use block_device::{Device, Failed};
 use meta_rows::RowTable;
 use meta_store::MetaStore;
@@ -30,21 +30,21 @@ fn clear_log<D: Device>(alloc: Global, dev: &mut D, found: &FoundStore) -> Resul
     requires idle { (D.disk dev.old).flights ≡ [] }
     requires found { IsFoundOn (D.disk dev.old) found.now }
     ensures later { IsLater (D.disk dev.old) (D.disk dev.new) }
-    ensures cleared { IfOk result (λ events. Told (IsLogCleared found.now events) (D.disk dev.old).history (D.disk dev.new).history) }
+    ensures cleared { IfOk result (λ events. (half : List ℕ) → AreStaleOf half found.now →
+        Told (IsLogCleared found.now half events) (D.disk dev.old).history (D.disk dev.new).history) }
     ensures few { IfOk result (λ events. events ≤ 4194308) }
-    ensures only { Told (ClearsLog found.now) (D.disk dev.old).history (D.disk dev.new).history }
+    ensures only { (half : List ℕ) → AreStaleOf half found.now → Told (ClearsLog found.now half) (D.disk dev.old).history (D.disk dev.new).history }
     ensures faults { D.faults dev.old ≤ D.faults dev.new }
     ensures cause { IsErrOf result Failed.Fault → Rose (D.faults dev.old) (D.faults dev.new) }
 {
     let _ = dev.units();
     let active = 2 + found.sup.half * (found.sup.epoch % 2) as u32;
-    let behind = bytes_behind(&found.half, found.log.tail);
     clear_behind(
         alloc,
         dev,
         active + found.log.tail,
         active + found.sup.half,
-        behind,
+        &found.stale,
     )
 }
 
@@ -74,7 +74,7 @@ fn open_on<D: Device>(
         Err(why) => return Err((failed(why), dev)),
     };
     let _ = dev.units();
-    let FoundStore { sup, half: _, log } = found;
+    let FoundStore { sup, log, stale: _ } = found;
     let meta = MetaStore::open(&sup, log.rows, log.tail, log.number);
     Ok(Kernel::open(alloc, dev, meta, view, space, events))
 }

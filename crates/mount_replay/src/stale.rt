@@ -2,21 +2,17 @@
 ghost use Rattle.std.specs.Prelude.{◌≡◌, ◌≤◌, ◌<◌, ◌+◌, ◌*◌, ◌↔◌, ◌∷◌, [], length, All, OnOk, IfOk, IsErrOf, IsTrue};
 ghost use Rattle.byte_maps.specs.Units.{unit_at, zeros, IsUnits};
 ghost use Rattle.block_device.specs.Disk.{Rose};
-ghost use Rattle.mount_replay.specs.Stale.{AreStale, AddsStale, AreNotZero};
+ghost use Rattle.mount_replay.specs.Stale.{AreStale, AddsStale};
+ghost use Rattle.mount_replay.specs.HalfReading.{AddsUnits};
 
 use block_device::{Device, Failed};
+use byte_maps::is_zero;
 use std::alloc::{AllocError, Global};
 
 /// The most units of one read.
 const MOST_UNITS: u32 = 64;
 
-pub fn is_zero(bytes: &[u8]) -> bool
-    ensures { IsTrue result ↔ All (λ b. b ≡ 0) bytes.now }
-{
-    bytes.iter().all(|b| *b == 0)
-}
-
-pub fn is_zero_unit(bytes: &[u8], k: usize) -> bool
+fn is_zero_unit(bytes: &[u8], k: usize) -> bool
     requires { 4096 * k + 4096 ≤ length bytes.now }
     ensures { IsTrue result ↔ (unit_at k bytes.now ≡ zeros 4096) }
 {
@@ -24,7 +20,7 @@ pub fn is_zero_unit(bytes: &[u8], k: usize) -> bool
 }
 
 /// Adds the units that aren't zero, of so many from unit `at` on, which have these bytes.
-fn add_stale(stale: &mut Vec<u32>, at: u32, count: u32, bytes: &[u8]) -> Result<(), AllocError>
+pub fn add_stale(stale: &mut Vec<u32>, at: u32, count: u32, bytes: &[u8]) -> Result<(), AllocError>
     requires size { IsUnits count bytes.now }
     requires fits { at + count ≤ 1048576 }
     requires before { All (λ unit. unit < at) stale.old.items }
@@ -38,20 +34,35 @@ fn add_stale(stale: &mut Vec<u32>, at: u32, count: u32, bytes: &[u8]) -> Result<
     Ok(())
 }
 
-/// The units of these bytes that aren't zero, ascending; the first of them is unit `at`.
-pub fn units_not_zero(
+/// Adds the units from `first` to before `end` that aren't zero. They are read in pieces.
+pub fn add_stale_between<D: Device>(
     alloc: Global,
-    at: u32,
-    count: u32,
-    bytes: &[u8],
-) -> Result<Vec<u32>, AllocError>
-    requires size { IsUnits count bytes.now }
-    requires fits { at + count ≤ 1048576 }
-    ensures { IfOk result (λ units. AreNotZero at count bytes.now units.items) }
+    dev: &mut D,
+    stale: &mut Vec<u32>,
+    first: u32,
+    end: u32,
+) -> Result<(), Failed>
+    requires idle { (D.disk dev.old).flights ≡ [] }
+    requires order { first ≤ end }
+    requires inside { end ≤ (D.disk dev.old).units }
+    requires before { All (λ unit. unit < first) stale.old.items }
+    ensures same { D.disk dev.new ≡ D.disk dev.old }
+    ensures stale { OnOk result (AddsUnits (D.disk dev.old) first end stale.old.items stale.new.items) }
+    ensures faults { D.faults dev.old ≤ D.faults dev.new }
+    ensures cause { IsErrOf result Failed.Fault → Rose (D.faults dev.old) (D.faults dev.new) }
 {
-    let mut units = Vec::new(alloc);
-    add_stale(&mut units, at, count, bytes)?;
-    Ok(units)
+    let _ = dev.units();
+    let mut bytes = Vec::new(alloc);
+    let mut at = first;
+    'pieces: while at < end {
+        let count = (end - at).min(MOST_UNITS);
+        dev.read(at, count, &mut bytes)?;
+        let Ok(()) = add_stale(stale, at, count, &bytes) else {
+            return Err(Failed::Memory);
+        };
+        at += count;
+    }
+    Ok(())
 }
 
 fn slots(alloc: Global) -> Result<Vec<u32>, AllocError>
@@ -74,15 +85,6 @@ pub fn stale_units<D: Device>(alloc: Global, dev: &mut D, below: u32) -> Result<
     let Ok(mut stale) = slots(alloc) else {
         return Err(Failed::Memory);
     };
-    let mut bytes = Vec::new(alloc);
-    let mut at = 2;
-    'pieces: while at < below {
-        let count = (below - at).min(MOST_UNITS);
-        dev.read(at, count, &mut bytes)?;
-        let Ok(()) = add_stale(&mut stale, at, count, &bytes) else {
-            return Err(Failed::Memory);
-        };
-        at += count;
-    }
+    add_stale_between(alloc, dev, &mut stale, 2, below)?;
     Ok(stale)
 }

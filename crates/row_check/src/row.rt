@@ -1,5 +1,5 @@
 //! Keys and values read as rows.
-ghost use Rattle.std.specs.Prelude.{◌≡◌, ◌↔◌, ◌<◌, false, length, All, IsTrue, IfOk, MatchOption};
+ghost use Rattle.std.specs.Prelude.{◌≡◌, ◌↔◌, ◌<◌, false, length, IsTrue, IfOk, MatchOption};
 ghost use Rattle.meta_rows.specs.Rows.{all_zero};
 ghost use Rattle.unit_fields.specs.Names.{IsName, IsCollName};
 ghost use Rattle.row_format.specs.Keys.{onode_key, shard_key, bitmap_key};
@@ -7,7 +7,7 @@ ghost use Rattle.row_format.specs.Extents.{BeginsAt};
 ghost use Rattle.row_check.specs.Reading.{row_of, SpellsRow, IsNoRow};
 
 use crate::key::{Part, RowKey, read_key};
-use byte_maps::{Bytes, Items};
+use byte_maps::{Bytes, Items, is_zero};
 use onode_codec::{Extent, Onode, decode_extents};
 use std::alloc::{AllocError, Global};
 use unit_fields::{CollName, Name};
@@ -94,13 +94,6 @@ fn read_shard(
         page,
         extents,
     }))
-}
-
-// Whether no byte is other than zero.
-fn is_zero(bytes: &[u8]) -> bool
-    ensures { IsTrue result ↔ All (λ byte. byte ≡ 0) bytes.now }
-{
-    bytes.iter().all(|byte| *byte == 0)
 }
 
 // Whether this is the value of a row of the bitmap.

@@ -5,6 +5,8 @@ use Rattle.unit_allocator.specs.Units.{Space}
 use Rattle.store_steps.specs.Opened.{Found}
 use Rattle.mount_replay.specs.FoundOn.{as_found}
 use Rattle.mount_replay.specs.Mounting.{IsOpenedOn, StaysDurable}
+use Rattle.mount_replay.specs.Calls.{IsLater}
+use Rattle.mount_replay.proofs.ZeroLemmas.{later_same}
 use Rattle.mount_replay.proofs.MountLemmas.{stays_same, refused_fails}
 use Rattle.mount_replay.proofs.mounting.mount.Goals as goal
 
@@ -21,6 +23,16 @@ pub returns-in-Err-judge-clause-durable : goal.returns-in-Err-judge-clause-durab
 returns-in-Err-judge-clause-durable g c =
     let old = g.D.Device.disk c.args.dev in
     subst (λ (d : Disk). StaysDurable old d) (sym c.find_store.ensures.same) (stays_same old c.units.ensures.sound)
+
+pub returns-in-Err-judge-clause-back : goal.returns-in-Err-judge-clause-back
+returns-in-Err-judge-clause-back g c =
+    let old = g.D.Device.disk c.args.dev in
+    subst (λ (d : Disk). IsLater old d) (sym c.find_store.ensures.same) (later_same old c.requires.idle)
+
+pub returns-in_default-clause-back : goal.returns-in_default-clause-back
+returns-in_default-clause-back g c =
+    let old = g.D.Device.disk c.args.dev in
+    subst (λ (d : Disk). IsLater old d) (sym c.find_store.ensures.same) (later_same old c.requires.idle)
 
 pub returns-in_default-clause-durable : goal.returns-in_default-clause-durable
 returns-in_default-clause-durable g c =

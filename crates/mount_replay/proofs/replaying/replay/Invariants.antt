@@ -1,10 +1,14 @@
-use Rattle.std.proofs.Common.{length}
-use Rattle.mount_replay.proofs.ReplayLemmas.{ReplayedSoFar}
+use Rattle.std.proofs.Common.{◌≡◌, ◌≤◌, ◌-◌}
+use Rattle.mount_replay.proofs.HalfLemmas.{ReplayedHalf}
 use Rattle.mount_replay.proofs.replaying.replay.Given as goal
 
 -- the records so far were applied
 abbrev pub invariant-records : goal.invariant-records
-invariant-records l = ReplayedSoFar l.half l.fn.first l.left l.rows.rows l.tail l.number
+invariant-records g l =
+    let disk = g.D.Device.disk in
+    let faults = g.D.Device.faults in
+    (disk l.dev ≡ disk l.initial.dev) × (faults l.initial.dev ≤ faults l.dev)
+    × ReplayedHalf (disk l.initial.dev) l.initial.half l.fn.first l.half l.rows.rows l.tail l.number
 
 abbrev pub decreases-records : goal.decreases-records
-decreases-records l = length l.left
+decreases-records g l = l.half.end - l.half.at

@@ -1,7 +1,9 @@
-//! Times the two long calls of opening a store. `log_bench scan UNITS ROWS` reads a full half of the log, whose records have a unit
-//! each and set so many rows; `log_bench apply ROWS ascending` and `log_bench apply ROWS scrambled` apply that many sets to no
-//! rows. Each prints the nanoseconds that the call took, the records that were found or whether the last row is there, and the
-//! bytes that went in. With no arguments it does nothing.
+//! Times the long calls of opening a store, and rows that come one by one. `log_bench scan UNITS ROWS` reads a full half of the log,
+//! whose records have a unit each and set so many rows. `log_bench apply ROWS ORDER` applies that many sets to no rows, in one batch
+//! for which room was made; `log_bench all ROWS ORDER` the same by the call that makes its own; `log_bench grow ROWS ORDER` one by
+//! one. ORDER is `ascending`, `falling` or `scrambled`. Each prints the nanoseconds that the call took, the records that were found
+//! or whether the last row is there, and the bytes that went in; `grow` the nanoseconds of all rows, and of the last thousand. With
+//! no arguments it does nothing.
 #![tactic(auto)]
 
 use byte_maps::Bytes;
@@ -24,6 +26,34 @@ const SET_BYTES: usize = 7;
 
 // The bytes of a value, where not the record's size sets it.
 const VALUE_BYTES: usize = 100;
+
+// In which order the keys come.
+#[derive(Clone, Copy)]
+enum Order {
+    Ascending,
+    Falling,
+    Scrambled,
+}
+
+fn order_of(word: Option<String>) -> Order {
+    let Some(word) = word else {
+        return Order::Ascending;
+    };
+    match word.as_str() {
+        "falling" => Order::Falling,
+        "scrambled" => Order::Scrambled,
+        _ => Order::Ascending,
+    }
+}
+
+// The number of the key that comes at a place.
+fn number_at(place: u32, rows: u32, order: Order) -> u64 {
+    match order {
+        Order::Ascending => u64::from(place),
+        Order::Falling => u64::from(rows).wrapping_sub(u64::from(place) + 1),
+        Order::Scrambled => u64::from(place) * 7919 % u64::from(rows.max(1)),
+    }
+}
 
 // The number in an argument, if there is one and it is a number.
 fn number(word: Option<String>) -> Option<u32> {
@@ -78,17 +108,11 @@ fn full_half(alloc: Global, units: u32, rows: u32) -> Result<Vec<u8>, AllocError
     Ok(half)
 }
 
-// Sets of so many rows, in the order of their keys or in another one in which each comes once.
-fn sets(alloc: Global, rows: u32, is_scrambled: bool) -> Result<Vec<RowOp>, AllocError> {
+// Sets of so many rows, each key once.
+fn sets(alloc: Global, rows: u32, order: Order) -> Result<Vec<RowOp>, AllocError> {
     let mut ops = Vec::with_capacity(alloc, rows as usize)?;
     for i in 0..rows {
-        let place = u64::from(i);
-        let number = if is_scrambled {
-            place.wrapping_mul(7919) % u64::from(rows)
-        } else {
-            place
-        };
-        let key = Bytes::from_vec(key(alloc, number)?);
+        let key = Bytes::from_vec(key(alloc, number_at(i, rows, order))?);
         let value = Bytes::from_vec(vec![in alloc; 0x5au8; VALUE_BYTES]?);
         ops.push(RowOp::Set { key, value })?;
     }
@@ -103,25 +127,35 @@ fn time_scan(rt: HostRuntime, units: u32, rows: u32) -> io::Result<()> {
     println!(rt; "{} {} {}", taken.as_nanos(), log.records.len(), half.len())
 }
 
-fn time_apply(rt: HostRuntime, rows: u32, is_scrambled: bool) -> io::Result<()> {
-    let ops = sets(rt.alloc(), rows, is_scrambled)?;
+// Prints what a batch took.
+fn print_batch(rt: HostRuntime, taken: u128, rows: u32, table: &RowTable) -> io::Result<()> {
+    let last = key(rt.alloc(), u64::from(rows.saturating_sub(1)))?;
+    let bytes = u64::from(rows) * (KEY_BYTES + VALUE_BYTES) as u64;
+    println!(rt; "{} {} {bytes}", taken, table.get(&last).is_some())
+}
+
+fn time_apply(rt: HostRuntime, rows: u32, order: Order) -> io::Result<()> {
+    let ops = sets(rt.alloc(), rows, order)?;
     let mut table = RowTable::new(rt.alloc());
     table.reserve(ops.len())?;
     let start = Instant::now(&rt)?;
     table.apply(ops);
     let taken = start.elapsed(&rt)?;
-    let last = key(rt.alloc(), u64::from(rows.saturating_sub(1)))?;
-    let bytes = u64::from(rows) * (KEY_BYTES + VALUE_BYTES) as u64;
-    println!(rt;
-        "{} {} {bytes}",
-        taken.as_nanos(),
-        table.get(&last).is_some()
-    )
+    print_batch(rt, taken.as_nanos(), rows, &table)
+}
+
+fn time_all(rt: HostRuntime, rows: u32, order: Order) -> io::Result<()> {
+    let ops = sets(rt.alloc(), rows, order)?;
+    let mut table = RowTable::new(rt.alloc());
+    let start = Instant::now(&rt)?;
+    table.apply_all(rt.alloc(), ops)?;
+    let taken = start.elapsed(&rt)?;
+    print_batch(rt, taken.as_nanos(), rows, &table)
 }
 
 // Rows that come one by one, each by its own `reserve` and `apply`: the nanoseconds of all, and of the last thousand.
-fn time_grow(rt: HostRuntime, rows: u32, is_scrambled: bool) -> io::Result<()> {
-    let ops = sets(rt.alloc(), rows, is_scrambled)?;
+fn time_grow(rt: HostRuntime, rows: u32, order: Order) -> io::Result<()> {
+    let ops = sets(rt.alloc(), rows, order)?;
     let mut table = RowTable::new(rt.alloc());
     let start = Instant::now(&rt)?;
     let mut late = start;
@@ -149,16 +183,9 @@ fn main(rt: HostRuntime) -> io::Result<()> {
     let how = words.next();
     match what.as_str() {
         "scan" => time_scan(rt, count, number(how).unwrap_or(1)),
-        "apply" => time_apply(
-            rt,
-            count,
-            how.is_some_and(|how| how.as_str() == "scrambled"),
-        ),
-        "grow" => time_grow(
-            rt,
-            count,
-            how.is_some_and(|how| how.as_str() == "scrambled"),
-        ),
+        "apply" => time_apply(rt, count, order_of(how)),
+        "all" => time_all(rt, count, order_of(how)),
+        "grow" => time_grow(rt, count, order_of(how)),
         _ => Ok(()),
     }
 }

@@ -1,24 +1,22 @@
 -- Rows in chunks: which chunk a key belongs into, and what a change of one chunk makes of all.
-use Rattle.std.proofs.Common.{◌≡◌, ℕ, zero, suc, ◌+◌, ◌-◌, ◌*◌, ◌<◌, ◌≤◌, ◌%◌, Bool, true, false, T, List, [], ◌∷◌, ◌++◌, length, get_or, set, take, drop, refl, sym, ap, ap₂, subst, ◌∙◌, arith, append_assoc, append-nil}
-use Rattle.std.specs.Prelude.{◌&&◌}
+use Rattle.std.proofs.Common.{◌≡◌, ◌⊎◌, ℕ, zero, suc, ◌+◌, ◌-◌, ◌*◌, ◌<◌, ◌≤◌, ◌%◌, T, List, [], ◌∷◌, ◌++◌, length, get_or, set, take, drop, refl, sym, ap, ap₂, subst, ◌∙◌, arith, append_assoc, append-nil, inl, inr}
 use Rattle.std.specs.List.{AllByRecursion, HoldsAt, remove}
 use Rattle.std.specs.List.Sorted.{IsNonDecreasingBy, IsPartitionPoint}
 use Rattle.std.specs.Ordering.{is_lt, ordering_index, ordering_reverse}
 use Rattle.std.specs.declared.cmp.Ordering.{Ordering}
 use Rattle.std.specs.declared.cmp.Ordering.TheVariants.{Less, Equal, Greater}
 use Rattle.std.specs.Cmp.Lexicographic.{nat_list_cmp_total}
-use Rattle.std.specs.FinMap as map
 use Rattle.std.specs.FinMap.{is_sorted, find}
 use Rattle.std.specs.FinMap.Entries.{below_all}
 use Rattle.std.specs.Vec.{vec_len, vec_capacity}
-use Rattle.std.proofs.lemmas.List.{length-append, length-take-le, take_at, get_or_at, get_or-drop, set_at}
+use Rattle.std.proofs.lemmas.List.{length-append, length-take-le, take_at, get_or_at, get_or-drop, set_at, drop_all, get_or_read}
 use Rattle.byte_maps.specs.ByteMap.{byte_order}
 use Rattle.byte_maps.proofs.Places.{same_bytes, both_first, both_second, below_more}
 use Rattle.meta_rows.specs.Rows.{key_of}
 use Rattle.meta_rows.specs.Table.{AllBelow, entries_after, list_size, GrowsBy}
-use Rattle.meta_rows.specs.Chunks.{Entry, joined, first_order, beyond_parts, crowd, NoneEmpty, NoneLonger, AllEmpty, BelongsIn, IsChunked, HasRoom, IsOpen, IsSplit}
+use Rattle.meta_rows.specs.Chunks.{Entry, joined, first_order, IsPastLast, beyond_parts, crowd, NoneEmpty, NoneLonger, AllEmpty, BelongsIn, IsChunked, HasRoom, IsOpen, IsSplit, IsRearranged}
 use Rattle.meta_rows.specs.declared.chunk_list.ChunkList.{ChunkList}
-use Rattle.meta_rows.proofs.PartLemmas.{both, less, holds, so, turned, sorted_front, sorted_back, find_part, after_part, after_sorted, after_long}
+use Rattle.meta_rows.proofs.PartLemmas.{both, less, holds, so, sorted_front, sorted_back, find_part, after_part, after_sorted, after_long}
 use Rattle.meta_rows.proofs.ListSizes.{part_grows}
 use Rattle.meta_rows.specs.declared.row_op.RowOp.{RowOp}
 
@@ -35,6 +33,12 @@ module _ {X : Type 0} where
   drop_past [] x back (suc n) is = absurd (omega (arith, is))
   drop_past (y ∷ front) x back zero is = absurd (omega (arith, is))
   drop_past (y ∷ front) x back (suc n) is = drop_past front x back n (omega (arith, is))
+
+  cut_two : (xs : List X) (i : ℕ) (d : X) → suc i < length xs → xs ≡ take i xs ++ get_or xs i d ∷ get_or xs (suc i) d ∷ drop (suc (suc i)) xs
+  cut_two [] i d l = absurd (omega arith)
+  cut_two (x ∷ []) i d l = absurd (omega arith)
+  cut_two (x ∷ y ∷ xs) zero d l = refl
+  cut_two (x ∷ y ∷ xs) (suc i) d l = ap (λ (t : List X). x ∷ t) (cut_two (y ∷ xs) i d (omega arith))
 
   module _ (P : X → Type 0) where
     pub all_front : (a b : List X) → AllByRecursion P (a ++ b) → AllByRecursion P a
@@ -63,6 +67,14 @@ pub joined-append : (a b : List (List Entry)) → joined (a ++ b) ≡ joined a +
 joined-append [] b = refl
 joined-append (c ∷ a) b = ap (λ (l : List Entry). c ++ l) (joined-append a b) ∙ sym (append_assoc c (joined a) (joined b))
 
+pub joined_more : (chunks : List (List Entry)) (i : ℕ) (d : List Entry) → i < length chunks → length (joined (take (suc i) chunks)) ≡ length (joined (take i chunks)) + length (get_or chunks i d)
+joined_more [] i d l = absurd (omega arith)
+joined_more (c ∷ chunks) zero d l = let g : length (c ++ []) ≡ 0 + length c = omega (arith, length-append c []) in g
+joined_more (c ∷ chunks) (suc i) d l =
+    let rest = joined_more chunks i d (omega arith) in
+    let g : length (c ++ joined (take (suc i) chunks)) ≡ length (c ++ joined (take i chunks)) + length (get_or chunks i d) =
+    omega (arith, rest, length-append c (joined (take (suc i) chunks)), length-append c (joined (take i chunks))) in g
+
 -- the rows before a chunk, its own and those behind it
 pub parts : (chunks front : List (List Entry)) (chunk : List Entry) (back : List (List Entry)) → chunks ≡ front ++ chunk ∷ back
     → joined chunks ≡ joined front ++ (chunk ++ joined back)
@@ -71,7 +83,7 @@ parts chunks front chunk back is = ap joined is ∙ joined-append front (chunk �
 -- ---- rows before a row that isn't above, and behind one that is
 
 module _ (key : List ℕ) where
-  before_key : (x e : List ℕ) → byte_order x e ≡ Less → (byte_order e key ≡ Greater → ⊥) → byte_order x key ≡ Less
+  pub before_key : (x e : List ℕ) → byte_order x e ≡ Less → (byte_order e key ≡ Greater → ⊥) → byte_order x key ≡ Less
   before_key x e p low =
       elim (byte_order e key) as (λ o. byte_order e key ≡ o → byte_order x key ≡ Less) [
         | Less ↦ λ q. nat_list_cmp_total.trans x e key p q
@@ -83,7 +95,7 @@ module _ (key : List ℕ) where
   in_below x [] b e h = less _ (holds _ (both_first _ _ h))
   in_below x (y ∷ a) b e h = in_below x a b e (both_second _ _ h)
 
-  all_before : (a b : List Entry) (e : Entry) → T (is_sorted byte_order (a ++ e ∷ b)) → (byte_order e.0 key ≡ Greater → ⊥) → AllBelow key a
+  pub all_before : (a b : List Entry) (e : Entry) → T (is_sorted byte_order (a ++ e ∷ b)) → (byte_order e.0 key ≡ Greater → ⊥) → AllBelow key a
   all_before [] b e h low = tt
   all_before (x ∷ a) b e h low = (ap is_lt (before_key x.0 e.0 (in_below x.0 a b e (both_first _ _ h)) low), all_before a b e (both_second _ _ h) low)
 
@@ -133,6 +145,22 @@ no_higher x y k p =
       | Equal ↦ λ q. omega (arith, ap ordering_index (subst (λ (z : List ℕ). byte_order x z ≡ Less) (same_bytes y k q) p))
       | Greater ↦ λ q. at_most_two (byte_order x k)
     ] refl
+
+zero_is_less : (o : Ordering) → ordering_index o ≤ 0 → o ≡ Less
+zero_is_less Less h = refl
+zero_is_less Equal h = absurd (omega (arith, h))
+zero_is_less Greater h = absurd (omega (arith, h))
+
+-- a key above the last one comes behind all
+pub past_all : (key : List ℕ) (es : List Entry) → IsPastLast key es → IsNonDecreasingBy (λ e. ordering_index (byte_order e.0 key)) es
+    → IsPartitionPoint (λ e. byte_order e.0 key ≡ Less) (λ e. byte_order e.0 key ≡ Greater) es (length es)
+past_all key es past up = (
+  λ k d a b.
+      let le = up k (length es - 1) d (omega arith) (omega (arith, past.0)) in
+      let last = ap ordering_index (past.1 d) in
+      zero_is_less (byte_order (get_or es k d).0 key) (omega (arith, le, last)),
+  λ k d a b. absurd (omega arith),
+)
 
 module _ (key : List ℕ) where
   later : (x : List ℕ) (chunks : List (List Entry)) (j : ℕ) (d : List Entry) → NoneEmpty chunks → T (below_all byte_order x (joined chunks)) → j < length chunks
@@ -220,6 +248,18 @@ module _ (key : List ℕ) where
         next i l above =
             let same = get_or-drop (suc i) chunks 0 [] in
             ap (first_order key) same ∙ above (suc i + 0) [] (omega arith) (omega (arith, long_drop (suc i) chunks l))
+
+    -- a chunk that doesn't begin above the key, and of which the next one does
+    pub belongs_here : (at : ℕ) → at < length chunks → (0 < at → first_order key (get_or chunks at []) ≡ Greater → ⊥)
+        → (at + 1 ≡ length chunks) ⊎ (first_order key (get_or chunks (at + 1) []) ≡ Greater) → BelongsIn key chunks at
+    belongs_here at l low (inl last) = belongs at l low
+        (subst (λ (r : List (List Entry)). T (below_all byte_order key (joined r))) (sym (drop_all (suc at) chunks (omega (arith, last)))) tt)
+    belongs_here at l low (inr next) = belongs at l low
+        (chunks_above key (drop (suc at) chunks) (sorted_back (get_or chunks at []) _ (sorted_back (joined (take at chunks)) _ (order_at at l)))
+        (λ some. ap (first_order key) (get_or-drop (suc at) chunks 0 [] ∙ ap (λ (n : ℕ). get_or chunks n []) (on at)) ∙ next))
+      where
+        on : (at : ℕ) → suc at + 0 ≡ at + 1
+        on at = omega arith
 
 -- ---- the chunk of a key
 
@@ -526,3 +566,138 @@ module _ (op : RowOp) (old mid : ChunkList) (at : ℕ) (was : IsChunked old) (o 
           let most = crowd_most (o.belongs.front ++ o.belongs.back) in
           let rest = beyond_parts-append o.belongs.front o.belongs.back in
           omega (arith, left, before, now, most, rest, more)
+
+-- ---- two neighbours joined
+
+-- in a list of chunks
+module _ (front : List (List Entry)) (a b : List Entry) (back : List (List Entry)) (at : ℕ) (place : length front ≡ at) where
+  in_parts : front ++ a ∷ b ∷ back ≡ (front ++ a ∷ []) ++ b ∷ back
+  in_parts = sym (append_assoc front (a ∷ []) (b ∷ back))
+
+  next : length (front ++ a ∷ []) ≡ at + 1
+  next = omega (arith, length-append front (a ∷ []), place)
+
+  without_second : remove (front ++ a ∷ b ∷ back) (at + 1) ≡ front ++ a ∷ back
+  without_second =
+      ap (λ (l : List (List Entry)). remove l (at + 1)) in_parts
+      ∙ ap₂ (λ (f r : List (List Entry)). f ++ r) (take_at (front ++ a ∷ []) (b ∷ back) (at + 1) next) (drop_past (front ++ a ∷ []) b back (at + 1) next)
+      ∙ append_assoc front (a ∷ []) back
+
+  joined_once : set (remove (front ++ a ∷ b ∷ back) (at + 1)) at (a ++ b) ≡ front ++ (a ++ b) ∷ back
+  joined_once = ap (λ (l : List (List Entry)). set l at (a ++ b)) without_second ∙ set_at front a back (a ++ b) at place
+
+  same_rows : joined (front ++ (a ++ b) ∷ back) ≡ joined (front ++ a ∷ b ∷ back)
+  same_rows =
+      joined-append front ((a ++ b) ∷ back)
+      ∙ ap (λ (l : List Entry). joined front ++ l) (append_assoc a b (joined back))
+      ∙ sym (joined-append front (a ∷ b ∷ back))
+
+  no_more : length a + length b ≤ 64 → crowd (front ++ (a ++ b) ∷ back) ≤ crowd (front ++ a ∷ b ∷ back)
+  no_more few = omega (arith, few, crowd_some front (a ++ b) back, crowd_some front a (b ∷ back), length-append a b)
+
+module _ (old new : ChunkList) (at : ℕ) (was : IsChunked old) (within : at + 1 < length old.list.items)
+    (few : length (get_or old.list.items at []) + length (get_or old.list.items (at + 1) []) ≤ 64) where
+  on : at + 1 ≡ suc at
+  on = omega arith
+
+  abbrev one : List Entry
+  one = get_or old.list.items at []
+
+  abbrev two : List Entry
+  two = get_or old.list.items (at + 1) []
+
+  abbrev front : List (List Entry)
+  front = take at old.list.items
+
+  abbrev back : List (List Entry)
+  back = drop (suc (suc at)) old.list.items
+
+  as_two : old.list.items ≡ front ++ one ∷ two ∷ back
+  as_two = cut_two old.list.items at [] (omega (arith, within)) ∙ ap (λ (k : ℕ). front ++ one ∷ get_or old.list.items k [] ∷ back) (sym on)
+
+  place : length front ≡ at
+  place = length-take-le at old.list.items (omega (arith, within))
+
+  module _ (a b ab gone : List Entry) (second : b ≡ get_or old.list.items (at + 1) b) (first : a ≡ get_or (remove old.list.items (at + 1)) at a) (both_is : ab ≡ a ++ b)
+      (list : new.list.items ≡ set (remove old.list.items (at + 1)) at ab) where
+    b_is : b ≡ two
+    b_is = get_or_read old.list.items (at + 1) b within second []
+
+    a_is : a ≡ one
+    a_is = first ∙ ap (λ (l : List (List Entry)). get_or l at a) (ap (λ (l : List (List Entry)). remove l (at + 1)) as_two ∙ without_second front one two back at place)
+        ∙ get_or_at front one back a at place
+
+    list_is : new.list.items ≡ front ++ (one ++ two) ∷ back
+    list_is = list
+        ∙ ap₂ (λ (l : List (List Entry)) (c : List Entry). set (remove l (at + 1)) at c) as_two (both_is ∙ ap₂ (λ (x y : List Entry). x ++ y) a_is b_is)
+        ∙ joined_once front one two back at place
+
+    rows_kept : joined new.list.items ≡ joined old.list.items
+    rows_kept = ap joined list_is ∙ same_rows front one two back at place ∙ ap joined (sym as_two)
+
+    pub joins : gone ≡ [] → new.spare.items ≡ old.spare.items ++ gone ∷ [] → vec_len new.list + 1 ≡ vec_len old.list → vec_len new.spare ≡ vec_len old.spare + 1
+        → vec_capacity new.list ≡ vec_capacity old.list → vec_capacity new.spare ≡ vec_capacity old.spare → IsRearranged old new
+    joins empty spare many free places spares =
+        let some = subst NoneEmpty as_two was.some in
+        let most = subst NoneLonger as_two was.most in
+        let low = all_back (λ (c : List Entry). 0 < length c) front (one ∷ two ∷ back) some in
+        let high = all_back (λ (c : List Entry). length c ≤ 128) front (one ∷ two ∷ back) most in
+        let sum = length-append one two in
+        record {
+          rows = rows_kept;
+          chunked = record {
+            order = subst (λ (es : List Entry). T (is_sorted byte_order es)) (sym rows_kept) was.order;
+            some = subst NoneEmpty (sym list_is) (all_both (λ (c : List Entry). 0 < length c) front ((one ++ two) ∷ back)
+                (all_front (λ (c : List Entry). 0 < length c) front (one ∷ two ∷ back) some) (omega (arith, low.0, sum), low.1.1));
+            most = subst NoneLonger (sym list_is) (all_both (λ (c : List Entry). length c ≤ 128) front ((one ++ two) ∷ back)
+                (all_front (λ (c : List Entry). length c ≤ 128) front (one ∷ two ∷ back) most) (omega (arith, few, sum), high.1.1));
+            free = subst AllEmpty (sym spare) (all_both (λ (c : List Entry). c ≡ []) old.spare.items (gone ∷ []) was.free (empty, tt));
+            places = omega (arith, was.places, many, free, places);
+            spares = omega (arith, was.spares, many, free, spares);
+          };
+          room = λ n room lt.
+              let left = room (omega (arith, lt, free)) in
+              let before = ap crowd as_two in
+              let now = ap crowd list_is in
+              let less = no_more front one two back at place few in
+              omega (arith, left, before, now, less, free);
+        }
+
+-- nothing changed
+pub as_it_was : (g : ChunkList) → IsChunked g → IsRearranged g g
+as_it_was g was = record { rows = refl; chunked = was; room = λ n room. room }
+
+pub rearranged_twice : (a b c : ChunkList) → IsRearranged a b → IsRearranged b c → IsRearranged a c
+rearranged_twice a b c first second = record {
+  rows = second.rows ∙ first.rows;
+  chunked = second.chunked;
+  room = λ n room. second.room n (first.room n room);
+}
+
+-- ---- spare chunks given back
+
+left_room : (old new held room most want many : ℕ) → new + (old - most) ≡ old → want ≤ most → (want < room → room + 32 + 32 * many ≤ 32 * want) → held ≤ 32 + 32 * many
+    → (old < room → room + held ≤ 32 * old) → new < room → room + held ≤ 32 * new
+left_room old new held room most want many len enough wants bound was few = grind (arith, len, enough, wants, bound, was, few)
+
+module _ (old new : ChunkList) (was : IsChunked old) (list : new.list ≡ old.list) (most : ℕ) (spare : new.spare.items ≡ take most old.spare.items)
+    (len : vec_len new.spare + (vec_len old.spare - most) ≡ vec_len old.spare) (places : vec_capacity new.spare ≡ vec_capacity old.spare) where
+  items : new.list.items ≡ old.list.items
+  items = ap (λ l. l.items) list
+
+  pub given_back : IsChunked new
+  given_back = record {
+    order = subst (λ (l : List (List Entry)). T (is_sorted byte_order (joined l))) (sym items) was.order;
+    some = subst NoneEmpty (sym items) was.some;
+    most = subst NoneLonger (sym items) was.most;
+    free = subst AllEmpty (sym spare) (all_take (λ (c : List Entry). c ≡ []) most old.spare.items was.free);
+    places = omega (arith, was.places, ap vec_len list, ap vec_capacity list, len);
+    spares = omega (arith, was.spares, ap vec_len list, places, len);
+  }
+
+  pub room_left : (room want many : ℕ) → want ≤ most → length old.list.items ≡ many → (want < room → room + 32 + 32 * many ≤ 32 * want) → HasRoom room old → HasRoom room new
+  room_left room want many enough long wants had few =
+      let bound : crowd new.list.items ≤ 32 + 32 * many =
+      omega (arith, crowd_most new.list.items, beyond_parts_most new.list.items given_back.most, ap length items, long) in
+      let before = ap crowd items in
+      left_room (vec_len old.spare) (vec_len new.spare) (crowd new.list.items) room most want many len enough wants bound (λ l. omega (arith, had l, before)) few

@@ -8,4 +8,7 @@ pub mod ListSizes
 pub mod PartLemmas
 pub mod ChunkLemmas
 pub mod TableLemmas
+pub mod BatchLemmas
+pub mod FillLemmas
+pub mod MergeLemmas
 pub mod OpReading

@@ -1,5 +1,5 @@
 -- Rows in the order of their keys, in parts: what a change in one part leaves of the whole.
-use Rattle.std.proofs.Common.{◌≡◌, ℕ, zero, suc, ◌+◌, ◌≤◌, Bool, true, false, cond, T, not, List, [], ◌∷◌, ◌++◌, length, get_or, set, Option, Some, None, refl, sym, ap, ap₂, subst, ◌∙◌, arith}
+use Rattle.std.proofs.Common.{◌≡◌, ℕ, zero, suc, ◌+◌, ◌≤◌, Bool, true, false, cond, T, not, List, [], ◌∷◌, ◌++◌, length, get_or, set, Option, Some, None, refl, sym, ap, subst, ◌∙◌, arith}
 use Rattle.std.specs.Prelude.{◌&&◌}
 use Rattle.std.specs.List.{remove}
 use Rattle.std.specs.Ordering.{is_lt, is_eq, ordering_reverse}
@@ -10,10 +10,10 @@ use Rattle.std.specs.FinMap as map
 use Rattle.std.specs.FinMap.{find, put, is_sorted, get-from_sorted}
 use Rattle.std.specs.FinMap.Entries.{below_all, by_order}
 use Rattle.byte_maps.specs.ByteMap.{byte_order}
-use Rattle.byte_maps.proofs.Places.{same_bytes, both_first, both_second, below_more, find_below, without, sorted_put, put_is_insert, sorted_without, without_is_remove, Stands, Lacks}
+use Rattle.byte_maps.proofs.Places.{both_first, both_second, find_below, without, sorted_put, put_is_insert, sorted_without, without_is_remove, Stands, Lacks}
 use Rattle.byte_maps.proofs.Laws.{insert-remove}
 use Rattle.meta_rows.specs.Rows.{Rows, xor_bytes, all_zero, row, row_after, key_of}
-use Rattle.meta_rows.specs.Table.{AllBelow, NoneBelow, with_left, value_left, with_value, entries_after, left_at, come_at}
+use Rattle.meta_rows.specs.Table.{AllBelow, with_left, value_left, with_value, entries_after, left_at, come_at}
 use Rattle.meta_rows.specs.declared.row_op.RowOp.{RowOp}
 use Rattle.meta_rows.specs.declared.row_op.RowOp.TheVariants.{Set, Drop, Flip}
 

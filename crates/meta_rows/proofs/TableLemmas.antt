@@ -1,8 +1,8 @@
 -- Places among the rows of chunks, and the rows between two.
-use Rattle.std.proofs.Common.{◌≡◌, ℕ, zero, suc, ◌+◌, ◌-◌, ◌<◌, ◌≤◌, T, List, [], ◌∷◌, ◌++◌, length, get_or, take, drop, Option, Some, None, refl, sym, ap, ap₂, subst, ◌∙◌, arith, append_assoc, append-nil}
+use Rattle.std.proofs.Common.{◌≡◌, ℕ, zero, suc, ◌+◌, ◌-◌, ◌<◌, ◌≤◌, T, List, [], ◌∷◌, ◌++◌, length, get_or, take, drop, Option, Some, None, refl, sym, ap, ap₂, subst, ◌∙◌, arith, append_assoc}
 use Rattle.std.specs.Ordering.{is_lt}
 use Rattle.std.specs.FinMap.{is_sorted}
-use Rattle.std.proofs.lemmas.List.{length-append, length-take-le, take_at, drop-drop, get_or-drop, take-append-le, drop-append-le, drop_all}
+use Rattle.std.proofs.lemmas.List.{length-append, length-take-le, take_at, get_or-drop, take-append-le, drop-append-le, drop_all}
 use Rattle.std.specs.Prelude.{true, false}
 use Rattle.byte_maps.specs.ByteMap.{byte_order}
 use Rattle.meta_rows.specs.Table.{AllBelow, NoneBelow, StartsAt, EndsAt}

@@ -24,6 +24,10 @@ abbrev pub first_order : List ℕ → List Entry → Ordering
 first_order key [] = Less
 first_order key (row ∷ rows) = byte_order row.0 key
 
+-- `key` is above the last key, and so above all where they are in order
+abbrev pub IsPastLast : List ℕ → List Entry → Type 0
+IsPastLast key rows = (0 < length rows) × ((d : Entry) → byte_order (get_or rows (length rows - 1) d).0 key ≡ Less)
+
 -- the rows that chunks have beyond the 96 that either part of a split one has at most
 abbrev pub beyond_parts : List (List Entry) → ℕ
 beyond_parts [] = 0
@@ -93,6 +97,12 @@ pub record IsSplit (at : ℕ) (old new : ChunkList) : Type 0 where
   pub spare : vec_len new.spare + 1 ≡ vec_len old.spare
   pub places : vec_capacity new.list ≡ vec_capacity old.list
   pub spares : vec_capacity new.spare ≡ vec_capacity old.spare
+
+-- the same rows in chunks once more, with as much room
+pub record IsRearranged (old new : ChunkList) : Type 0 where
+  pub rows : joined new.list.items ≡ joined old.list.items
+  pub chunked : IsChunked new
+  pub room : (n : ℕ) → HasRoom n old → HasRoom n new
 
 -- a chunk, and a place among its rows or behind them
 abbrev pub IsPlace : List (List Entry) → ℕ × ℕ → Type 0

@@ -7,7 +7,7 @@ ghost use Rattle.std.specs.List.Sorted.{IsSearchInRange, IsBinarySearchResult};
 ghost use Rattle.byte_maps.specs.ByteMap.{byte_order};
 ghost use Rattle.meta_rows.specs.Rows.{key_of};
 ghost use Rattle.meta_rows.specs.Table.{entries_after, value_left, left_at, come_at, GrowsBy, StartsAt};
-ghost use Rattle.meta_rows.specs.Chunks.{first_order};
+ghost use Rattle.meta_rows.specs.Chunks.{first_order, IsPastLast};
 
 use crate::row_change::left_by;
 use crate::row_op::RowOp;
@@ -48,6 +48,28 @@ fn place_of(entries: &[(Bytes, Bytes)], key: &[u8]) -> Result<usize, usize>
     entries.binary_search_by(|entry| entry.0.as_slice().cmp(key))
 }
 
+// Whether a key is above all others.
+fn is_above_all(entries: &[(Bytes, Bytes)], key: &[u8]) -> bool
+    ensures { IsTrue result → IsPastLast key.now entries.now }
+{
+    match entries.last() {
+        Some(last) => matches!(last.0.as_slice().cmp(key), Ordering::Less),
+        None => false,
+    }
+}
+
+// The same place as `place_of` finds, by one comparison where the key comes behind all others.
+fn place_for(entries: &[(Bytes, Bytes)], key: &[u8]) -> Result<usize, usize>
+    ensures bound { IsSearchInRange result (length entries.now) }
+    ensures position { IsBinarySearchResult (λ e. byte_order e.0 key.now) entries.now result }
+{
+    if is_above_all(entries, key) {
+        Err(entries.len())
+    } else {
+        place_of(entries, key)
+    }
+}
+
 /// Where the keys begin that are at least this one.
 pub fn start_of(entries: &[(Bytes, Bytes)], key: &[u8]) -> usize
     requires { T (map.is_sorted byte_order entries.now) }
@@ -59,8 +81,8 @@ pub fn start_of(entries: &[(Bytes, Bytes)], key: &[u8]) -> usize
     }
 }
 
-// The bytes of a row, spelled as an operation that sets it.
-fn row_size(key: &Bytes, value: &Bytes) -> u64
+/// The bytes of a row, spelled as an operation that sets it.
+pub fn row_size(key: &Bytes, value: &Bytes) -> u64
     ensures { result ≡ (7 + length key.now + length value.now) % 2 ^ 64 }
 {
     7u64.wrapping_add(key.len() as u64)
@@ -162,6 +184,20 @@ impl Chunk {
         self.rows.as_slice()
     }
 
+    /// How many rows there are.
+    pub fn len(&self) -> usize
+        ensures { result ≡ length self.now }
+    {
+        self.rows.as_slice().len()
+    }
+
+    /// The rows.
+    pub fn into_rows(self) -> Vec<(Bytes, Bytes)>
+        ensures { result.items ≡ self }
+    {
+        self.rows
+    }
+
     /// Whether there is no row.
     pub fn is_empty(&self) -> bool
         ensures none { IsTrue result → self.now ≡ [] }
@@ -206,7 +242,7 @@ impl Chunk {
         ensures rows { self.new ≡ entries_after self.old op }
         ensures grows { GrowsBy result self.old self.new }
     {
-        match place_of(&self.rows, op.key()) {
+        match place_for(&self.rows, op.key()) {
             Ok(at) => change_there(&mut self.rows, at, op),
             Err(at) => come_in(&mut self.rows, at, op),
         }
@@ -221,5 +257,25 @@ impl Chunk {
         ensures lower { length self.new ≡ from }
     {
         move_upper(&mut self.rows, from, &mut upper.rows);
+    }
+
+    /// Puts a row behind the others.
+    pub fn push(&mut self, row: (Bytes, Bytes))
+        requires { length self.old < 128 }
+        ensures { self.new ≡ self.old ++ row ∷ [] }
+    {
+        self.rows.push_reserved(row);
+    }
+
+    /// Takes the rows of the chunk behind, which has none then.
+    pub fn take_from(&mut self, behind: &mut Chunk)
+        requires { length self.old + length behind.old ≤ 128 }
+        ensures rows { self.new ≡ self.old ++ behind.old }
+        ensures none { behind.new ≡ [] }
+    {
+        match self.rows.append(&mut behind.rows) {
+            Ok(()) => {}
+            Err(_) => unreachable!(),
+        }
     }
 }

@@ -1,12 +1,13 @@
 //! The chunks of the table, and spare ones.
-ghost use Rattle.std.specs.Prelude.{◌≡◌, ◌↔◌, ◌+◌, ◌%◌, ◌^◌, ◌<◌, ◌≤◌, ℕ, suc, List, [], ◌++◌, length, get_or, T, OnOk, IsTrue, option_copied};
+ghost use Rattle.std.specs.Prelude.{◌≡◌, ◌↔◌, ◌+◌, ◌-◌, ◌%◌, ◌^◌, ◌<◌, ◌≤◌, ℕ, suc, List, [], ◌++◌, length, take, get_or, T, false, OnOk, IsTrue, option_copied};
 ghost use Rattle.std.specs.FinMap as map;
 ghost use Rattle.std.specs.FinMap.{find};
 ghost use Rattle.std.specs.Vec.{vec_len, vec_capacity};
 ghost use Rattle.std.specs.List.Sorted.{IsSearchInRange, IsBinarySearchResult};
 ghost use Rattle.byte_maps.specs.ByteMap.{byte_order};
 ghost use Rattle.meta_rows.specs.Table.{entries_after, GrowsBy};
-ghost use Rattle.meta_rows.specs.Chunks.{joined, first_order, NoneEmpty, BelongsIn, IsChunked, HasRoom, IsOpen, IsSplit};
+ghost use Rattle.std.specs.declared.cmp.Ordering.TheVariants.{Greater};
+ghost use Rattle.meta_rows.specs.Chunks.{joined, first_order, NoneEmpty, BelongsIn, IsChunked, HasRoom, IsOpen, IsSplit, IsRearranged};
 
 use crate::chunk::Chunk;
 use crate::row_op::RowOp;
@@ -21,12 +22,17 @@ pub struct ChunkList {
     pub list: Vec<Chunk>,
     /// Those that hold none.
     pub spare: Vec<Chunk>,
+    /// The chunk of the operation before, or any number: the next one is looked for there first.
+    pub near: usize,
 }
 
 // The rows that the lower part of a split chunk keeps: half of them, or more where rows come in the order of their keys.
 const HALF: usize = 64;
 
 const MORE: usize = 96;
+
+// The most rows of two neighbours that are joined. Those of a split chunk have twice as many.
+const FEW: usize = 64;
 
 /// The rows that either part of a split chunk takes at least before it is full.
 pub const FEWEST: usize = 32;
@@ -50,6 +56,49 @@ pub fn chunk_of(chunks: &[Chunk], key: &[u8]) -> usize
         Ok(at) => at,
         Err(0) => 0,
         Err(at) => at - 1,
+    }
+}
+
+// Whether the chunk at a place, if there is one, begins with a key above this one.
+fn begins_above(chunks: &[Chunk], at: usize, key: &[u8]) -> bool
+    ensures above { IsTrue result → first_order key.now (get_or chunks.now at []) ≡ Greater }
+    ensures not_above { result ≡ false → first_order key.now (get_or chunks.now at []) ≡ Greater → ⊥ }
+{
+    match chunks.get(at) {
+        Some(chunk) => matches!(chunk.first_order(key), Ordering::Greater),
+        None => false,
+    }
+}
+
+// Whether a key belongs into the chunk at a place.
+fn is_chunk_of(chunks: &[Chunk], at: usize, key: &[u8]) -> bool
+    requires none_empty { NoneEmpty chunks.now }
+    requires order { T (map.is_sorted byte_order (joined chunks.now)) }
+    ensures { IsTrue result → BelongsIn key.now chunks.now at }
+{
+    if chunks.len() <= at {
+        return false;
+    }
+    if 0 < at && begins_above(chunks, at, key) {
+        return false;
+    }
+    if at + 1 == chunks.len() {
+        return true;
+    }
+    begins_above(chunks, at + 1, key)
+}
+
+// The chunk that a key belongs into, where it may be the one at a place: two comparisons tell.
+fn chunk_near(chunks: &[Chunk], at: usize, key: &[u8]) -> usize
+    requires some { 0 < length chunks.now }
+    requires none_empty { NoneEmpty chunks.now }
+    requires order { T (map.is_sorted byte_order (joined chunks.now)) }
+    ensures { BelongsIn key.now chunks.now result }
+{
+    if is_chunk_of(chunks, at, key) {
+        at
+    } else {
+        chunk_of(chunks, key)
     }
 }
 
@@ -125,7 +174,7 @@ impl ChunkList {
             self.begin();
             return 0;
         }
-        let at = chunk_of(self.list.as_slice(), key);
+        let at = chunk_near(self.list.as_slice(), self.near, key);
         if !self.list[at].is_full() {
             return at;
         }
@@ -137,7 +186,77 @@ impl ChunkList {
         }
     }
 
-    /// The rows after an operation, and by how many bytes they grew, in 64 bits.
+    // The rows after an operation, by how many bytes they grew, in 64 bits, and the chunk that has fewer rows than before, if one has.
+    fn change(&mut self, op: RowOp) -> (u64, Option<usize>)
+        requires chunked { IsChunked self.old }
+        requires room { HasRoom 1 self.old }
+        ensures rows { joined self.new.list.items ≡ entries_after (joined self.old.list.items) op }
+        ensures chunked { IsChunked self.new }
+        ensures room { (n : ℕ) → HasRoom (suc n) self.old → HasRoom n self.new }
+        ensures grows { GrowsBy result.0 (joined self.old.list.items) (joined self.new.list.items) }
+    {
+        let at = self.open(op.key());
+        self.near = at;
+        let had = self.len_at(at);
+        let more = self.list[at].change(op);
+        if self.list[at].is_empty() {
+            let chunk = self.list.remove(at);
+            self.spare.push_reserved(chunk);
+            return (more, None);
+        }
+        let is_fewer = self.len_at(at) < had;
+        (more, is_fewer.then_some(at))
+    }
+
+    // How many rows a chunk has; none where there is no chunk.
+    fn len_at(&self, at: usize) -> usize
+        ensures { result ≡ length (get_or self.now.list.items at []) }
+    {
+        match self.list.as_slice().get(at) {
+            Some(chunk) => chunk.len(),
+            None => 0,
+        }
+    }
+
+    // Joins a chunk and the one behind it. The buffer of that one is spare then.
+    fn join_next(&mut self, at: usize)
+        requires chunked { IsChunked self.old }
+        requires place { at + 1 < vec_len self.old.list }
+        requires few { length (get_or self.old.list.items at []) + length (get_or self.old.list.items (at + 1) []) ≤ 64 }
+        ensures { IsRearranged self.old self.new }
+    {
+        let mut behind = self.list.remove(at + 1);
+        self.list[at].take_from(&mut behind);
+        self.spare.push_reserved(behind);
+    }
+
+    // The same where they have few rows together, and there are both.
+    fn join_if_few(&mut self, at: usize)
+        requires { IsChunked self.old }
+        ensures { IsRearranged self.old self.new }
+    {
+        if self.list.len().saturating_sub(at) < 2 {
+            return;
+        }
+        if self.len_at(at) + self.len_at(at + 1) <= FEW {
+            self.join_next(at);
+        }
+    }
+
+    // Joins a chunk that lost a row with the one behind it and the one before it, where they have few rows together.
+    fn join_around(&mut self, at: usize)
+        requires { IsChunked self.old }
+        ensures { IsRearranged self.old self.new }
+    {
+        self.join_if_few(at);
+        if at == 0 {
+            return;
+        }
+        self.join_if_few(at - 1);
+    }
+
+    /// The rows after an operation, and by how many bytes they grew, in 64 bits. A chunk that loses a row is joined with a neighbour where
+    /// both have 64 rows at most, so that any two neighbours have more.
     pub fn apply_one(&mut self, op: RowOp) -> u64
         requires chunked { IsChunked self.old }
         requires room { HasRoom 1 self.old }
@@ -146,13 +265,22 @@ impl ChunkList {
         ensures room { (n : ℕ) → HasRoom (suc n) self.old → HasRoom n self.new }
         ensures grows { GrowsBy result (joined self.old.list.items) (joined self.new.list.items) }
     {
-        let at = self.open(op.key());
-        let more = self.list[at].change(op);
-        if self.list[at].is_empty() {
-            let chunk = self.list.remove(at);
-            self.spare.push_reserved(chunk);
-        }
+        let (more, fewer) = self.change(op);
+        let Some(at) = fewer else {
+            return more;
+        };
+        self.join_around(at);
         more
+    }
+
+    /// Gives spare chunks back until there are so many at most.
+    pub fn give_back(&mut self, most: usize)
+        ensures list { self.new.list ≡ self.old.list }
+        ensures items { self.new.spare.items ≡ take most self.old.spare.items }
+        ensures len { vec_len self.new.spare + (vec_len self.old.spare - most) ≡ vec_len self.old.spare }
+        ensures places { vec_capacity self.new.spare ≡ vec_capacity self.old.spare }
+    {
+        self.spare.truncate(most);
     }
 
     /// Makes spare chunks until there are so many, and places for all.

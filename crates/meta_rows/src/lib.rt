@@ -5,7 +5,9 @@
 
 mod chunk;
 mod chunk_list;
+mod filling;
 mod laws;
+mod merging;
 mod reading;
 mod row_change;
 mod row_op;

@@ -1,25 +1,31 @@
 //! The rows in memory, in the order of their keys.
-ghost use Rattle.std.specs.Prelude.{◌≡◌, ◌↔◌, ◌+◌, ◌*◌, ◌^◌, ◌<◌, ◌≤◌, length, take, drop, T, IsTrue, IfOk, OnOk, OnErr, option_copied};
+ghost use Rattle.std.specs.Prelude.{◌≡◌, ◌↔◌, ◌+◌, ◌*◌, ◌^◌, ◌<◌, ◌≤◌, length, take, drop, T, IsTrue, IfOk, IfSome, OnOk, OnErr, option_copied};
 ghost use Rattle.std.specs.FinMap as map;
 ghost use Rattle.byte_maps.specs.ByteMap.{byte_order};
-ghost use Rattle.meta_rows.specs.Rows.{row_after, rows_after};
+ghost use Rattle.meta_rows.specs.Rows.{Rows, row_after, rows_after};
 ghost use Rattle.meta_rows.specs.Table.{rows_size, rows_from_to, StartsAt, EndsAt};
+ghost use Rattle.meta_rows.specs.Filling.{Rises};
 ghost use Rattle.meta_rows.specs.Chunks.{joined, NoneEmpty, IsPlace, rows_before};
 
 use crate::chunk::{Chunk, start_of};
 use crate::chunk_list::{ChunkList, FEWEST, chunk_of};
+use crate::filling::Filling;
+use crate::merging::Merging;
 use crate::row_op::RowOp;
 use crate::row_range::RowRange;
 use byte_maps::Bytes;
 use std::alloc::{AllocError, Global};
 use std::marker::Model;
+use std::mem::replace;
 
 /// The rows of the store in memory, seen as the finite map and how many more operations it takes without memory.
 ///
 /// They lie in chunks of 1 to 128 rows in the order of their keys. A look-up bisects the chunks by their first keys, and then one
-/// chunk; a row that comes or goes moves those behind it in its chunk alone, 48 bytes each. A chunk of 128 rows is split before one
-/// more comes, into a spare chunk of 6144 bytes: in halves, or 96 to 32 where the key is the greatest of all, so that rows that come in
-/// the order of their keys leave no chunk half empty. A chunk without rows is spare again. In Ceph it is RocksDB that holds the rows.
+/// chunk; an operation looks first into the chunk of the one before. A row that comes or goes moves those behind it in its chunk
+/// alone, 48 bytes each. A chunk of 128 rows is split before one more comes, into a spare chunk of 6144 bytes: in halves, or 96 to 32
+/// where the key is the greatest of all, so that rows that come in the order of their keys leave no chunk half empty. A chunk that
+/// loses a row is joined with a neighbour where they have 64 rows together or fewer, and is spare again. Spare chunks that no operation
+/// for which there is room needs are given back, but for 32. In Ceph it is RocksDB that holds the rows.
 #[derive(Debug, Drop)]
 pub struct RowTable {
     all: ChunkList,
@@ -74,6 +80,12 @@ fn end_of(chunks: &[Chunk], end: Option<&[u8]>) -> (usize, usize)
     }
 }
 
+// The spare chunks that stay where no operation needs them, so that small batches don't make and give back the same ones over and over.
+const KEPT: usize = 32;
+
+// The operations for each chunk from which on all rows are merged with them: there are at most eight times as many rows then.
+const MANY: usize = 16;
+
 // The rows of one chunk from one place up to another.
 fn part_of(rows: &[(Bytes, Bytes)], from: usize, to: usize) -> &[(Bytes, Bytes)]
     requires { to ≤ length rows.now }
@@ -108,6 +120,27 @@ fn spare_for(ops: usize, chunks: usize) -> usize
     if ops < many { ops } else { many }
 }
 
+// The operations in the order of their keys, those of one key in the order in which they stand.
+fn by_key(ops: Vec<RowOp>) -> Result<Vec<RowOp>, AllocError>
+    ensures rows { IfOk result (λ sorted. (rows : Rows) → rows_after rows sorted.items ≡ rows_after rows ops.items) }
+    ensures rises { IfOk result (λ sorted. Rises sorted.items) }
+{
+    let mut sorted = ops;
+    sorted.sort_by(|one, other| one.key().cmp(other.key()))?;
+    Ok(sorted)
+}
+
+// The chunks' rows and so many operations together, if 64 bits hold the number.
+fn merged_at_most(chunks: &[Chunk], ops: usize) -> Option<usize>
+    ensures { IfSome result (λ n. n ≡ length (joined chunks.now) + ops) }
+{
+    let mut sum = ops;
+    for chunk in chunks {
+        sum = sum.checked_add(chunk.len())?;
+    }
+    Some(sum)
+}
+
 // The chunks once more.
 fn copied(chunks: &[Chunk], alloc: Global) -> Result<Vec<Chunk>, AllocError>
     ensures { IfOk result (λ v. v.items ≡ chunks.now) }
@@ -128,6 +161,7 @@ impl RowTable {
             all: ChunkList {
                 list: Vec::new(alloc),
                 spare: Vec::new(alloc),
+                near: 0,
             },
             room: 0,
             size: 0,
@@ -141,7 +175,11 @@ impl RowTable {
         let list = copied(self.all.list.as_slice(), alloc)?;
         let spare = Vec::with_capacity(alloc, list.len())?;
         Ok(RowTable {
-            all: ChunkList { list, spare },
+            all: ChunkList {
+                list,
+                spare,
+                near: 0,
+            },
             room: 0,
             size: self.size,
         })
@@ -183,8 +221,9 @@ impl RowTable {
         self.size
     }
 
-    /// Makes room for so many operations, so that `apply` takes no memory. Each may have to split a chunk, so there is a spare chunk for
-    /// each operation; for more operations than there are chunks one for each chunk, two, and one for each 32 operations.
+    /// Makes room for so many operations, so that `apply` takes no memory, and for no more than these. Each may have to split a chunk,
+    /// so there is a spare chunk for each operation; for more operations than there are chunks one for each chunk, two, and one for
+    /// each 32 operations.
     pub fn reserve(&mut self, ops: usize) -> Result<(), AllocError>
         ensures rows { self.new.rows ≡ self.old.rows }
         ensures ok { OnOk result (ops ≤ self.new.room) }
@@ -193,9 +232,7 @@ impl RowTable {
         let alloc = *self.all.list.allocator();
         let chunks = self.all.list.len();
         self.all.reserve(alloc, spare_for(ops, chunks))?;
-        if self.room < ops {
-            self.room = ops;
-        }
+        self.room = ops;
         Ok(())
     }
 
@@ -209,6 +246,14 @@ impl RowTable {
         self.room -= 1;
     }
 
+    // Gives the spare chunks back that no operation for which there is room needs, but for some.
+    fn give_back(&mut self)
+        ensures { self.new ≡ self.old }
+    {
+        let most = spare_for(self.room, self.all.list.len()).saturating_add(KEPT);
+        self.all.give_back(most);
+    }
+
     /// The rows after these operations, one after the other, by room that `reserve` made. It takes no memory: a set row keeps the
     /// buffers that are moved in, and a flipped one the longer of its value and its mask. (Ceph: the memtable after a write batch.)
     pub fn apply(&mut self, ops: Vec<RowOp>)
@@ -219,5 +264,59 @@ impl RowTable {
         for op in ops {
             self.apply_one(op);
         }
+        self.give_back();
+    }
+
+    // The rows after operations in the order of their keys, in new chunks.
+    fn merge(&mut self, alloc: Global, sorted: Vec<RowOp>) -> Result<(), AllocError>
+        requires rises { Rises sorted.items }
+        ensures rows { OnOk result (self.new.rows ≡ rows_after self.old.rows sorted.items) }
+        ensures kept { OnErr result (self.new ≡ self.old) }
+    {
+        let Some(most) = merged_at_most(self.all.list.as_slice(), sorted.len()) else {
+            return Err(AllocError);
+        };
+        let merging = Merging::new(Filling::new(alloc, most)?, sorted);
+        let chunks = replace(&mut self.all.list, Vec::new(alloc));
+        let (all, size) = merging.take_all(chunks).finish();
+        self.all = all;
+        self.room = 0;
+        self.size = size;
+        self.give_back();
+        Ok(())
+    }
+
+    /// The rows after these operations, one after the other, however many they are, with what memory that takes: for the replay of
+    /// the log, when a store is opened. They are brought into the order of their keys first, those of one key in the order in which
+    /// they stand: by as many comparisons as there are operations where their keys ascend already, else by as many for each as their
+    /// number has bits. Where they are an eighth of the rows or more they are merged with them, by one comparison or two for each
+    /// row and each operation, into new chunks of 96 rows, one for each 96 of both;
+    /// else they are applied in that order.
+    /// Where memory is wanting the table stays as it was, and the operations are lost. (Ceph: RocksDB's replay of its log.)
+    pub fn apply_all(&mut self, alloc: Global, ops: Vec<RowOp>) -> Result<(), AllocError>
+        ensures rows { OnOk result (self.new.rows ≡ rows_after self.old.rows ops.items) }
+        ensures err { OnErr result (self.new.rows ≡ self.old.rows) }
+        ensures kept { OnErr result (self.new ≡ self.old) }
+    {
+        let sorted = by_key(ops)?;
+        if self.all.list.len() <= sorted.len() / MANY {
+            return self.merge(alloc, sorted);
+        }
+        self.reserve(sorted.len())?;
+        self.apply(sorted);
+        Ok(())
+    }
+}
+
+#[cfg(test)]
+impl RowTable {
+    /// How many chunks hold rows.
+    pub fn chunks(&self) -> usize {
+        self.all.list.len()
+    }
+
+    /// How many hold none.
+    pub fn spare_chunks(&self) -> usize {
+        self.all.spare.len()
     }
 }

@@ -266,6 +266,30 @@ fn one_by_one(rt: HostRuntime) -> Result<(), Fail> {
     Ok(())
 }
 
+fn apply_steps_by_key(
+    alloc: Global,
+    rows: &mut RowTable,
+    steps: &[Step],
+) -> Result<(), AllocError> {
+    let mut ops = Vec::new(alloc);
+    for step in steps {
+        ops.push(made(alloc, step)?)?;
+    }
+    rows.apply_all(alloc, ops)
+}
+
+#[test]
+fn a_large_batch_by_key(rt: HostRuntime) -> Result<(), Fail> {
+    let alloc = rt.alloc();
+    let mut rows = RowTable::new(alloc);
+    apply_steps_by_key(alloc, &mut rows, &[])?;
+    assert!(rt; rows.is_empty());
+    apply_steps_by_key(alloc, &mut rows, EARLIER)?;
+    apply_steps_by_key(alloc, &mut rows, BATCH)?;
+    assert!(rt; are_rows(&rows, LATER));
+    Ok(())
+}
+
 // The keys are two bytes, most significant first, so that each byte string is its number.
 fn apply_to_each(
     alloc: Global,
@@ -279,6 +303,36 @@ fn apply_to_each(
     }
     rows.reserve(ops.len())?;
     rows.apply(ops);
+    Ok(())
+}
+
+fn merge_with_each(
+    alloc: Global,
+    rows: &mut RowTable,
+    kind: Kind,
+    keys: &[u16],
+) -> Result<(), AllocError> {
+    let mut ops = Vec::new(alloc);
+    for key in keys {
+        ops.push(made(alloc, &(kind, &key.to_be_bytes(), b"v"))?)?;
+    }
+    rows.apply_all(alloc, ops)
+}
+
+#[test]
+fn merged_batches(rt: HostRuntime) -> Result<(), Fail> {
+    let alloc = rt.alloc();
+    let mut rows = RowTable::new(alloc);
+    let even: Vec<u16> = (0..600).filter(|n| n % 2 == 0).collect(alloc)?;
+    let falling: Vec<u16> = (0..600).rev().filter(|n| n % 3 == 0).collect(alloc)?;
+    merge_with_each(alloc, &mut rows, Kind::Set, &even)?;
+    assert!(rt; are_so_many(rows.range(b"", None), 300));
+    merge_with_each(alloc, &mut rows, Kind::Flip, &falling)?;
+    assert!(rt; are_so_many(rows.range(b"", None), 300));
+    assert!(rt; rows.get(b"\x01\x02").is_none() && has(&rows, b"\x01\x05", b"v"));
+    assert!(rt; has(&rows, b"\x01\x04", b"v") && rows.get(b"\x01\x01").is_none());
+    merge_with_each(alloc, &mut rows, Kind::Drop, &[0x0104])?;
+    assert!(rt; rows.get(b"\x01\x04").is_none() && are_so_many(rows.range(b"", None), 299));
     Ok(())
 }
 
@@ -296,5 +350,60 @@ fn batches_of_hundreds(rt: HostRuntime) -> Result<(), Fail> {
     assert!(rt; are_so_many(rows.range(b"\x01", Some(b"\x02")), 171));
     apply_to_each(alloc, &mut rows, Kind::Flip, &all)?;
     assert!(rt; are_so_many(rows.range(b"", None), 200));
+    Ok(())
+}
+
+// Operations of the numbers below 100,000, each hundredth left out or not. The keys are four bytes, most significant first.
+fn apply_to_numbers(
+    alloc: Global,
+    rows: &mut RowTable,
+    kind: Kind,
+    is_hundredth_too: bool,
+) -> Result<(), AllocError> {
+    let mut ops = Vec::new(alloc);
+    for number in 0..100_000u32 {
+        if is_hundredth_too || number % 100 != 0 {
+            ops.push(made(alloc, &(kind, &number.to_be_bytes(), b"v"))?)?;
+        }
+    }
+    rows.reserve(ops.len())?;
+    rows.apply(ops);
+    Ok(())
+}
+
+#[test]
+fn few_rows_have_few_chunks(rt: HostRuntime) -> Result<(), Fail> {
+    let alloc = rt.alloc();
+    let mut rows = RowTable::new(alloc);
+    apply_to_numbers(alloc, &mut rows, Kind::Set, true)?;
+    assert!(rt; 100_000 / 128 < rows.chunks());
+    apply_to_numbers(alloc, &mut rows, Kind::Drop, false)?;
+    assert!(rt; are_so_many(rows.range(b"", None), 1000));
+    assert!(rt; rows.chunks() <= 1000 * 2 / 65 + 1);
+    Ok(())
+}
+
+fn ten(alloc: Global) -> Result<Vec<RowOp>, AllocError> {
+    let mut ops = Vec::new(alloc);
+    for number in 0..10u8 {
+        ops.push(made(alloc, &(Kind::Set, &[number], b"v"))?)?;
+    }
+    Ok(ops)
+}
+
+#[test]
+fn spare_chunks_are_given_back(rt: HostRuntime) -> Result<(), Fail> {
+    let alloc = rt.alloc();
+    let mut rows = RowTable::new(alloc);
+    let ops = ten(alloc)?;
+    assert!(rt; ops.len() <= 100_000);
+    rows.reserve(100_000)?;
+    rows.apply(ops);
+    assert!(rt; 3000 < rows.spare_chunks());
+    let ops = ten(alloc)?;
+    rows.reserve(ops.len())?;
+    rows.apply(ops);
+    assert!(rt; rows.spare_chunks() <= 32);
+    assert!(rt; are_so_many(rows.range(b"", None), 10));
     Ok(())
 }

@@ -1,8 +1,8 @@
-use Rattle.std.proofs.Common.{◌≡◌, ◌∙◌, ap, sym, get_or, subst, T}
+use Rattle.std.proofs.Common.{sym, subst, T}
 use Rattle.std.specs.FinMap.{is_sorted}
 use Rattle.byte_maps.specs.ByteMap.{byte_order}
 use Rattle.meta_rows.specs.Table.{StartsAt}
-use Rattle.meta_rows.proofs.TableLemmas.{rows_order, begins_there, place_there}
+use Rattle.meta_rows.proofs.TableLemmas.{rows_order, begins_there}
 use Rattle.meta_rows.proofs.row_table.begin_of.Goals as goal
 
 pub start_of-requires : goal.start_of-requires

@@ -8,17 +8,17 @@ returns-then-is_empty c = c.begin.ensures c.args.key.now
 
 pub returns-then-not-is_full : goal.returns-then-not-is_full
 returns-then-not-is_full c =
-    let at = c.chunk_of-at.result in
-    let b = subst (λ chunks. BelongsIn c.args.key.now chunks at) c.as_slice-2.ensures.value c.chunk_of-at.ensures in
+    let at = c.chunk_near-at.result in
+    let b = subst (λ chunks. BelongsIn c.args.key.now chunks at) c.as_slice-2.ensures.value c.chunk_near-at.ensures in
     let short = c.is_full.ensures.short c.if-not-is_full.true in
     let here = ap length (c.index.ensures ∙ chunk_is b c.index.result.now) in
     open_as_is c.args.key.now c.args.self.now at c.requires.chunked b (omega (arith, short, here))
 
 pub returns-in-Greater : goal.returns-in-Greater
 returns-in-Greater c =
-    let at = c.chunk_of-at.result in
+    let at = c.chunk_near-at.result in
     let key = c.args.key.now in
-    let b = subst (λ chunks. BelongsIn key chunks at) c.as_slice-2.ensures.value c.chunk_of-at.ensures in
+    let b = subst (λ chunks. BelongsIn key chunks at) c.as_slice-2.ensures.value c.chunk_near-at.ensures in
     let full = c.is_full.ensures.full c.if-not-is_full.false in
     let here = ap length (c.index.ensures ∙ chunk_is b c.index.result.now) in
     let long : 128 ≤ length b.chunk = omega (arith, full, here) in
@@ -27,9 +27,9 @@ returns-in-Greater c =
 
 pub returns-in_default : goal.returns-in_default
 returns-in_default c =
-    let at = c.chunk_of-at.result in
+    let at = c.chunk_near-at.result in
     let key = c.args.key.now in
-    let b = subst (λ chunks. BelongsIn key chunks at) c.as_slice-2.ensures.value c.chunk_of-at.ensures in
+    let b = subst (λ chunks. BelongsIn key chunks at) c.as_slice-2.ensures.value c.chunk_near-at.ensures in
     let full = c.is_full.ensures.full c.if-not-is_full.false in
     let here = ap length (c.index.ensures ∙ chunk_is b c.index.result.now) in
     let long : 128 ≤ length b.chunk = omega (arith, full, here) in

@@ -3,12 +3,11 @@ use Rattle.std.proofs.Common.{◌≡◌, ℕ, zero, suc, ◌+◌, ◌-◌, ◌/�
 use Rattle.std.specs.Prelude.{bit_xor}
 use Rattle.std.specs.Int.Bits.{xor_assoc, xor_self, xor_zero_l, xor_zero_r}
 use Rattle.std.specs.Simd.Lanes.{zip2}
-use Rattle.std.proofs.lemmas.Simd.{chunk-drop, length-chunk, length-zip2, pick_l_whole, length-put_chunk, put_chunk_whole}
-use Rattle.std.proofs.lemmas.Slice.{drop-put_mid}
+use Rattle.std.proofs.lemmas.Simd.{chunk-drop, length-chunk, length-zip2, pick_l_whole, put_chunk_whole}
 use lib.Lanes.{pick_l, put_chunk}
 use borrow.Rule.Slice.PartMut.{put_mid, mid_of, post_of}
 use Rattle.std.specs.List.{range_with_len}
-use Rattle.std.proofs.lemmas.List.{take-append-le, take-replicate, drop-replicate, drop_all, get_or_default}
+use Rattle.std.proofs.lemmas.List.{take-append-le, take-replicate, drop-replicate, drop_all, drop_at, get_or_default}
 use Rattle.std.proofs.lemmas.List.Elements.{All-take}
 use Rattle.crc32c_csum.specs.Crc32c.{after_bits, after_byte, remainder}
 use Rattle.crc32c_csum.specs.Steps.{after_zeros}
@@ -118,16 +117,63 @@ stays t r next taken page s long enough is none e =
     ∙ sym back.0
     ∙ ap (λ y. remainder y (drop t page)) (sym (left x (of_put_on t taken) r))
 
--- where all are taken out but the last 304, nothing of them is left
-pub none_left : (taken : List ℕ) → length taken ≡ 4386 → All (λ b. b < 256) taken → drop 4082 taken ≡ replicate 304 0 → of_taken 4096 taken ≡ 0
+-- two that are each the exclusive or of two
+joined : (a b z y n m : ℕ) → a ≡ bit_xor z n → b ≡ bit_xor y m → bit_xor a b ≡ bit_xor (bit_xor z y) (bit_xor n m)
+joined a b z y n m e f = ap₂ bit_xor e f ∙ swap4 z n y m
+
+-- so are the six terms of the multiple together
+six : (a z n : ℕ → ℕ) (x : ℕ) → ((k : ℕ) → k ≤ 290 → a k ≡ bit_xor (z k) (n k))
+    → bit_xor (a 290) (bit_xor (a 136) (bit_xor (a 113) (bit_xor (a 107) (bit_xor (a 32) x))))
+    ≡ bit_xor (bit_xor (z 290) (bit_xor (z 136) (bit_xor (z 113) (bit_xor (z 107) (bit_xor (z 32) x)))))
+    (bit_xor (n 290) (bit_xor (n 136) (bit_xor (n 113) (bit_xor (n 107) (bit_xor (n 32) 0)))))
+six a z n x at =
+    let a1 : ℕ = bit_xor (a 32) x in
+    let z1 : ℕ = bit_xor (z 32) x in
+    let n1 : ℕ = bit_xor (n 32) 0 in
+    let a2 : ℕ = bit_xor (a 107) a1 in
+    let z2 : ℕ = bit_xor (z 107) z1 in
+    let n2 : ℕ = bit_xor (n 107) n1 in
+    let a3 : ℕ = bit_xor (a 113) a2 in
+    let z3 : ℕ = bit_xor (z 113) z2 in
+    let n3 : ℕ = bit_xor (n 113) n2 in
+    let a4 : ℕ = bit_xor (a 136) a3 in
+    let z4 : ℕ = bit_xor (z 136) z3 in
+    let n4 : ℕ = bit_xor (n 136) n3 in
+    let e1 : a1 ≡ bit_xor z1 n1 = joined (a 32) x (z 32) x (n 32) 0 (at 32 (lit≤ tt)) (sym (xor_zero_r x)) in
+    let e2 : a2 ≡ bit_xor z2 n2 = joined (a 107) a1 (z 107) z1 (n 107) n1 (at 107 (lit≤ tt)) e1 in
+    let e3 : a3 ≡ bit_xor z3 n3 = joined (a 113) a2 (z 113) z2 (n 113) n2 (at 113 (lit≤ tt)) e2 in
+    let e4 : a4 ≡ bit_xor z4 n4 = joined (a 136) a3 (z 136) z3 (n 136) n3 (at 136 (lit≤ tt)) e3 in
+    joined (a 290) a4 (z 290) z4 (n 290) n4 (at 290 (lit≤ tt)) e4
+
+-- the last 290 bytes that were taken out tell as much as all of them, since the multiple of what is in front of them is zero
+pub moved : (t : ℕ) (taken last rest : List ℕ) → t + 290 ≤ length taken → All (λ b. b < 256) taken → last ≡ take 290 (drop t taken) → of_taken 0 (last ++ rest) ≡ of_taken t taken
+unfolding multiple
+moved t taken last rest long bytes is =
+    let x : ℕ = of_first t taken in
+    let new : List ℕ = last ++ rest in
+    let many : length last ≡ 290 = ap (λ l. length l) is ∙ length-chunk t 290 taken long in
+    let longer : 290 ≤ length new = omega (arith, many, length-append last rest) in
+    let at : (k : ℕ) → k ≤ 290 → of_first (t + k) taken ≡ bit_xor (after_zeros k x) (of_first k new) = λ k le.
+    let front : take k (drop t taken) ≡ take k new =
+    sym (take-append-le k last rest (omega (arith, many, le)) ∙ ap (take k) is ∙ take-take k 290 (drop t taken) le) in
+    sym (of_first_more t k taken)
+    ∙ ap₂ remainder (sym (xor_zero_r x)) front
+    ∙ remainder-xor (take k new) x 0
+    ∙ ap (λ n. bit_xor (after_zeros n x) (of_first k new)) (length-take-le k new (omega (arith, longer, le))) in
+    sym (six (λ k. of_first (t + k) taken) (λ k. after_zeros k x) (λ k. of_first k new) x at
+    ∙ ap (λ y. bit_xor y (of_taken 0 new)) (multiple_is_zero 32 x (lit≤ tt) (remainder_fits (take t taken) 0 (lit< tt) (All-take (λ b. b < 256) t taken bytes)))
+    ∙ xor_zero_l (of_taken 0 new))
+
+-- where only zeros were taken out of the last 304 bytes, nothing of all is left
+none_left : (taken : List ℕ) → length taken ≡ 594 → All (λ b. b < 256) taken → drop 290 taken ≡ replicate 304 0 → of_taken 304 taken ≡ 0
 unfolding multiple
 none_left taken long bytes none =
-    let x : ℕ = of_first 4096 taken in
-    let zeros : drop 4096 taken ≡ replicate 290 0 = sym (drop-drop 14 4082 taken) ∙ ap (drop 14) none ∙ drop-replicate 14 304 0 in
-    let at : (j : ℕ) → j ≤ 290 → of_first (4096 + j) taken ≡ after_zeros j x =
-    λ j le. sym (of_first_more 4096 j taken) ∙ ap (remainder x) (ap (take j) zeros ∙ take-replicate j 290 0 le) ∙ remainder-zeros j x in
+    let x : ℕ = of_first 304 taken in
+    let zeros : drop 304 taken ≡ replicate 290 0 = sym (drop-drop 14 290 taken) ∙ ap (drop 14) none ∙ drop-replicate 14 304 0 in
+    let at : (j : ℕ) → j ≤ 290 → of_first (304 + j) taken ≡ after_zeros j x =
+    λ j le. sym (of_first_more 304 j taken) ∙ ap (remainder x) (ap (take j) zeros ∙ take-replicate j 290 0 le) ∙ remainder-zeros j x in
     ap₂ bit_xor (at 290 (lit≤ tt)) (ap₂ bit_xor (at 136 (lit≤ tt)) (ap₂ bit_xor (at 113 (lit≤ tt)) (ap₂ bit_xor (at 107 (lit≤ tt)) (ap (λ y. bit_xor y x) (at 32 (lit≤ tt))))))
-    ∙ multiple_is_zero 32 x (lit≤ tt) (remainder_fits (take 4096 taken) 0 (lit< tt) (All-take (λ b. b < 256) 4096 taken bytes))
+    ∙ multiple_is_zero 32 x (lit≤ tt) (remainder_fits (take 304 taken) 0 (lit< tt) (All-take (λ b. b < 256) 304 taken bytes))
 
 -- the bytes of a remainder leave it
 byte_of : (n r : ℕ) (bytes : List ℕ) → length bytes ≡ n → remainder 0 bytes ≡ after_zeros n (r / 256) → remainder 0 (r % 256 ∷ bytes) ≡ after_zeros (suc n) r
@@ -149,41 +195,57 @@ alone a b c d e x zero_all =
     ap (bit_xor a) (ap (bit_xor b) (ap (bit_xor c) (sym (xor_assoc d e y)) ∙ sym (xor_assoc c (bit_xor d e) y)) ∙ sym (xor_assoc b (bit_xor c (bit_xor d e)) y)) ∙ sym (xor_assoc a (bit_xor b (bit_xor c (bit_xor d e))) y) in
     out 0 ∙ xor_zero_r five ∙ sym (xor_twice five x) ∙ ap (λ y. bit_xor y x) (sym (out x) ∙ zero_all) ∙ xor_zero_l x
 
--- the remainder before the page, as bytes that were taken out before it
-pub begun : (r : ℕ) (taken : List ℕ) → r < 2 ^ 32 → taken ≡ r % 256 ∷ r / 256 % 256 ∷ r / 256 / 256 % 256 ∷ r / 256 / 256 / 256 % 256 ∷ replicate 4382 0 → of_taken 0 taken ≡ r
+-- the remainder before all bytes, as bytes that were taken out before them
+pub begun : (n r : ℕ) (taken : List ℕ) → 286 ≤ n → r < 2 ^ 32 → taken ≡ r % 256 ∷ r / 256 % 256 ∷ r / 256 / 256 % 256 ∷ r / 256 / 256 / 256 % 256 ∷ replicate n 0 → of_taken 0 taken ≡ r
 unfolding multiple after_zeros
-begun r taken fits is =
+begun n r taken many fits is =
     let none : 0 ≡ r / 256 / 256 / 256 / 256 = omega (arith, fits) in
     let bytes : List ℕ = r % 256 ∷ r / 256 % 256 ∷ r / 256 / 256 % 256 ∷ r / 256 / 256 / 256 % 256 ∷ [] in
     let four : remainder 0 bytes ≡ after_zeros 4 r = byte_of 3 r (r / 256 % 256 ∷ r / 256 / 256 % 256 ∷ r / 256 / 256 / 256 % 256 ∷ []) refl (byte_of 2 (r / 256) (r / 256 / 256 % 256 ∷ r / 256 / 256 / 256 % 256 ∷ []) refl (byte_of 1 (r / 256 / 256) (r / 256 / 256 / 256 % 256 ∷ []) refl (byte_of 0 (r / 256 / 256 / 256) [] refl none))) in
-    let at : (j : ℕ) → j ≤ 4382 → of_first (suc (suc (suc (suc j)))) taken ≡ after_zeros (suc (suc (suc (suc j)))) r = λ j le.
-    ap (of_first (suc (suc (suc (suc j))))) is ∙ ap (λ l. remainder 0 (r % 256 ∷ r / 256 % 256 ∷ r / 256 / 256 % 256 ∷ r / 256 / 256 / 256 % 256 ∷ l)) (take-replicate j 4382 0 le)
+    let at : (j : ℕ) → j ≤ 286 → of_first (suc (suc (suc (suc j)))) taken ≡ after_zeros (suc (suc (suc (suc j)))) r = λ j le.
+    ap (of_first (suc (suc (suc (suc j))))) is ∙ ap (λ l. remainder 0 (r % 256 ∷ r / 256 % 256 ∷ r / 256 / 256 % 256 ∷ r / 256 / 256 / 256 % 256 ∷ l)) (take-replicate j n 0 (omega (arith, many, le)))
     ∙ ap (λ y. remainder y (replicate j 0)) four ∙ remainder-zeros j (after_zeros 4 r) in
     ap₂ bit_xor (at 286 (lit≤ tt)) (ap₂ bit_xor (at 132 (lit≤ tt)) (ap₂ bit_xor (at 109 (lit≤ tt)) (ap₂ bit_xor (at 103 (lit≤ tt)) (ap (λ y. bit_xor y 0) (at 28 (lit≤ tt))))))
     ∙ alone (after_zeros 290 r) (after_zeros 136 r) (after_zeros 113 r) (after_zeros 107 r) (after_zeros 32 r) r (multiple_is_zero 32 r (lit≤ tt) fits)
 
--- the zeros behind what was taken out
-pub zeros_behind : (t k : ℕ) (taken s : List ℕ) → t + 306 ≤ length taken → k ≡ 16 → drop (t + 290) taken ≡ replicate (4096 - t) 0
-    → drop (t + 16 + 290) (put_mid (t + 290) k taken (put_chunk 0 (mid_of (t + 290) k taken) s)) ≡ replicate (4096 - (t + 16)) 0
-zeros_behind t k taken s long e zeros =
-    let mid : length (put_chunk 0 (mid_of (t + 290) k taken) s) ≡ k = length-put_chunk 0 (mid_of (t + 290) k taken) s ∙ length-chunk (t + 290) k taken (omega (arith, long, e)) in
-    drop-put_mid (t + 290) k taken (put_chunk 0 (mid_of (t + 290) k taken) s) (t + 16 + 290) (omega (arith, e)) (omega (arith, long)) mid
-    ∙ ap (λ j. drop j taken) (omega arith) ∙ sym (drop-drop 16 (t + 290) taken) ∙ ap (drop 16) zeros ∙ drop-replicate 16 (4096 - t) 0 ∙ ap (λ j. replicate j 0) (omega arith)
-
--- at the last ones there are only zeros in the place of what was taken out
-pub sixteen_zeros : (t : ℕ) (taken : List ℕ) → 3792 ≤ t → t + 16 ≤ 4096 → drop 4082 taken ≡ replicate 304 0 → sixteen (t + 290) taken ≡ replicate 16 0
-sixteen_zeros t taken from to e =
-    ap (take 16) (ap (λ k. drop k taken) (omega (arith, from)) ∙ sym (drop-drop (t - 3792) 4082 taken) ∙ ap (drop (t - 3792)) e ∙ drop-replicate (t - 3792) 304 0)
-    ∙ take-replicate 16 (304 - (t - 3792)) 0 (omega (arith, from, to))
+-- of the last 304 bytes nothing was taken out
+pub sixteen_zeros : (t : ℕ) (taken : List ℕ) → t + 16 ≤ 304 → drop 290 taken ≡ replicate 304 0 → sixteen (t + 290) taken ≡ replicate 16 0
+sixteen_zeros t taken to e =
+    ap (take 16) (ap (λ k. drop k taken) (omega arith) ∙ sym (drop-drop t 290 taken) ∙ ap (drop t) e ∙ drop-replicate t 304 0)
+    ∙ take-replicate 16 (304 - t) 0 (omega (arith, to))
 
 pub whole_and_more : (n r : ℕ) (bytes : List ℕ) → remainder (remainder r (take n bytes)) (drop n bytes) ≡ remainder r bytes
 whole_and_more n r bytes = sym (remainder-append (take n bytes) (drop n bytes) r) ∙ ap (remainder r) (take-append-drop n bytes)
 
 -- behind the last byte only the remainder of those that stayed is left
-pub all_done : (r : ℕ) (taken page : List ℕ) → length taken ≡ 4386 → ((i : ℕ) → get_or taken i 0 < 256) → length page ≡ 4096 → drop 4082 taken ≡ replicate 304 0
-    → r ≡ remainder (bit_xor (of_taken 4096 taken) r) (drop 4096 page)
-all_done r taken page long bytes enough zeros =
+pub all_done : (r : ℕ) (taken stay : List ℕ) → length taken ≡ 594 → ((i : ℕ) → get_or taken i 0 < 256) → length stay ≡ 304 → drop 290 taken ≡ replicate 304 0
+    → r ≡ remainder (bit_xor (of_taken 304 taken) r) (drop 304 stay)
+all_done r taken stay long bytes enough zeros =
     let small : All (λ b. b < 256) taken = λ k d lt. omega (arith, get_or_default taken k d 0 lt, bytes k) in
     sym (xor_zero_l r)
     ∙ ap (λ y. bit_xor y r) (sym (none_left taken long small zeros))
-    ∙ ap (remainder (bit_xor (of_taken 4096 taken) r)) (sym (drop_all 4096 page (omega (arith, enough))))
+    ∙ ap (remainder (bit_xor (of_taken 304 taken) r)) (sym (drop_all 304 stay (omega (arith, enough))))
+
+-- the last bytes that were taken out, at the front
+pub at_front : (t : ℕ) (taken last rest new : List ℕ) → t + 290 ≤ length taken → ((i : ℕ) → get_or taken i 0 < 256) → last ≡ take 290 (drop t taken) → new ≡ last ++ rest
+    → of_taken 0 new ≡ of_taken t taken
+at_front t taken last rest new long bytes is laid =
+    let small : All (λ b. b < 256) taken = λ k d lt. omega (arith, get_or_default taken k d 0 lt, bytes k) in
+    ap (of_taken 0) laid ∙ moved t taken last rest long small is
+
+-- one more piece is taken out, and then stands at the front
+pub piece_out : (n r r2 : ℕ) (left piece rest taken1 : List ℕ) → piece ≡ take n left → rest ≡ drop n left → n ≤ length left → of_taken (length piece) taken1 ≡ remainder r piece → r2 ≡ of_taken n taken1
+    → remainder r2 rest ≡ remainder r left
+piece_out n r r2 left piece rest taken1 front back long out moved =
+    let many : length piece ≡ n = ap (λ l. length l) front ∙ length-take-le n left long in
+    ap₂ remainder (moved ∙ ap (λ k. of_taken k taken1) (sym many) ∙ out ∙ ap (remainder r) front) back ∙ whole_and_more n r left
+
+-- zeros behind the last bytes that were taken out
+pub zeros_behind : (last new : List ℕ) → length last ≡ 290 → new ≡ last ++ drop 290 (replicate 594 0) → drop 290 new ≡ replicate 304 0
+zeros_behind last new many is = ap (drop 290) is ∙ drop_at last (drop 290 (replicate 594 0)) 290 many ∙ drop-replicate 290 594 0
+
+-- the last piece is taken out, and what stays is left to the tables
+pub last_out : (n r r1 r2 : ℕ) (bytes piece rest stay left taken1 : List ℕ) → piece ≡ take n bytes → rest ≡ drop n bytes → n ≤ length bytes → stay ≡ take 304 rest → left ≡ drop 304 rest
+    → of_taken (length piece) taken1 ≡ remainder r piece → r1 ≡ of_taken n taken1 → r2 ≡ remainder r1 stay → remainder r2 left ≡ remainder r bytes
+last_out n r r1 r2 bytes piece rest stay left taken1 front back long front2 back2 out moved is =
+    ap₂ remainder (is ∙ ap (remainder r1) front2) back2 ∙ whole_and_more 304 r1 rest ∙ piece_out n r r1 bytes piece rest taken1 front back long out moved

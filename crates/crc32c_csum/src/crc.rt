@@ -1,11 +1,11 @@
-//! The checksum itself: whole pages by folding, and what is left by tables, sixteen bytes a step.
+//! The checksum itself: many bytes by folding, and what is left by tables, sixteen bytes a step.
 
 ghost use Rattle.std.specs.Prelude.{◌≡◌, ◌∷◌, [], ◌++◌, ◌<◌, ◌+◌, ℕ, List, length, bit_xor};
 ghost use Rattle.crc32c_csum.specs.Crc32c.{all_ones, remainder, crc32c};
 ghost use Rattle.crc32c_csum.specs.Steps.{after_zeros, by_tables, listed};
 
 use crate::behind::behind_page;
-use crate::fold::after_pages;
+use crate::fold::after_folding;
 use crate::tables::AFTER;
 use std::marker::Model;
 
@@ -96,7 +96,7 @@ fn after_steps(r: u32, bytes: &[u8]) -> (u32, &[u8])
 fn after_bytes(r: u32, bytes: &[u8]) -> u32
     ensures { result ≡ remainder r bytes.now }
 {
-    let (r, left) = after_pages(r, bytes);
+    let (r, left) = after_folding(r, bytes);
     let (mut r, left) = after_steps(r, left);
     for byte in left {
         r = after_one(r, *byte);

@@ -1,4 +1,4 @@
-//! Vectors of others, and the lengths round a step of the tables and round a page against the division written out.
+//! Vectors of others, and the lengths round a step of the tables and of the folding against the division written out.
 
 use super::*;
 use std::test::Fail;
@@ -67,7 +67,19 @@ fn scattered() -> [u8; 8200] {
 #[test]
 fn lengths_round_a_page(rt: HostRuntime) {
     let bytes = scattered();
-    for length in [4095usize, 4096, 4097, 8191, 8192, 8200] {
+    for length in [4092usize, 4095, 4096, 4097, 8191, 8192, 8200] {
+        if let Some(part) = bytes.get(..length) {
+            assert_eq!(rt; crc32c(part), by_division(part), "at {length}");
+        }
+    }
+}
+
+#[test]
+fn lengths_round_the_folding(rt: HostRuntime) {
+    let bytes = scattered();
+    for length in [
+        767usize, 768, 769, 783, 784, 1024, 1500, 1568, 1569, 1583, 1584, 2832, 2833,
+    ] {
         if let Some(part) = bytes.get(..length) {
             assert_eq!(rt; crc32c(part), by_division(part), "at {length}");
         }

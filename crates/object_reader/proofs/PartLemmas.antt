@@ -1,11 +1,12 @@
 -- Runs of pages, and what reads of them give.
-use Rattle.std.proofs.Common.{◌≡◌, inl, inr, ℕ, ◌+◌, ◌-◌, ◌*◌, ◌<◌, ◌≤◌, List, [], ◌++◌, length, take, Option, Some, None, refl, sym, subst, ◌∙◌, arith, length-append}
-use Rattle.std.specs.Prelude.{IfSome, IfNone, All, Result, Ok, Err, IfErr, IsErr}
+use Rattle.std.proofs.Common.{◌≡◌, inl, inr, ℕ, ◌+◌, ◌-◌, ◌*◌, ◌<◌, ◌≤◌, List, [], ◌++◌, length, take, set, get_or, Option, Some, None, refl, sym, ap, subst, ◌∙◌, arith, length-append}
+use Rattle.std.specs.Prelude.{IfSome, All, Result, Ok, Err, IfErr, IsErr}
 use Rattle.std.specs.Result.{IsErrAnd}
 use Rattle.std.proofs.lemmas.Bool.{cases_lt}
-use Rattle.std.proofs.lemmas.List.{length-take-le}
+use Rattle.std.proofs.lemmas.List.{length-take-le, get_or-set_same, get_or-set_other}
 use Rattle.byte_maps.specs.Units.{unit_at, zeros, IsUnits}
 use Rattle.byte_maps.proofs.UnitLemmas.{length-unit_at, length-zeros, unit_at-zeros, piece_of_front}
+use Rattle.crc32c_csum.specs.Crc32c.{after_bits, crc32c}
 use Rattle.block_device.specs.Log.{last, HasNoBadDone}
 use Rattle.block_device.specs.Disk.{Disk, History, HasRead, IsApart, IsNotInFlight}
 use Rattle.block_device.specs.Facts.{last_at}
@@ -19,7 +20,7 @@ use Rattle.read_facts.specs.PageReads.{IsHeldAt, IsGoodPage, hole, mapped, AreGo
 use Rattle.read_facts.proofs.Pages.{good_appended, none_good, bad_behind_good}
 use Rattle.object_reader.specs.declared.parts.PartFail.{PartFail}
 use Rattle.object_reader.specs.declared.parts.PartFail.TheVariants as why
-use Rattle.object_reader.specs.Parts.{HaveFewUnits, CanRead, IsOnUnit, AreHoles, AreOnUnits, IsChecked, AreChecked, IsMismatch, GivesPages, GivesBad, IsPartFail}
+use Rattle.object_reader.specs.Parts.{HaveFewUnits, CanRead, AreHoles, AreOnUnits, AreKept, IsChecked, AreChecked, AreSums, IsMismatch, GivesPages, GivesBad, IsPartFail, IsUnitsFail}
 
 -- so each of the units has a number of 32 bits
 pub has_unit : (pages : List Extent) (page : ℕ) → HaveFewUnits pages → HasUnit pages page
@@ -50,28 +51,39 @@ pub hole_more : (pages : List Extent) (first n : ℕ) → AreHoles pages first n
 hole_more pages first n are is = each_and_next (λ i. place_found pages (first + i) ≡ None) n are is
 
 -- of a run of units the first is one
-pub one_unit : (pages : List Extent) (first at : ℕ) → IsOnUnit pages first at → AreOnUnits pages first at 1
-one_unit pages first at is =
+pub one_kept : (pages : List Extent) (first at : ℕ) (sums : List ℕ) → place_found pages first ≡ Some (own at (get_or sums 0 0)) → AreKept pages first at 1 sums
+one_kept pages first at sums is =
     let page : first ≡ first + 0 = omega arith in
     let unit : at ≡ at + 0 = omega arith in
-    each_of_one (λ i. IsOnUnit pages (first + i) (at + i)) (subst (λ (u : ℕ). IsOnUnit pages (first + 0) u) unit
-    (subst (λ (p : ℕ). IsOnUnit pages p at) page is))
+    each_of_one (λ i. place_found pages (first + i) ≡ Some (own (at + i) (get_or sums i 0)))
+    (subst (λ (u : ℕ). place_found pages (first + 0) ≡ Some (own u (get_or sums 0 0))) unit
+    (subst (λ (p : ℕ). place_found pages p ≡ Some (own at (get_or sums 0 0))) page is))
 
 -- one unit more
-pub unit_more : (pages : List Extent) (first at n : ℕ) → AreOnUnits pages first at n → IsOnUnit pages (first + n) (at + n) → AreOnUnits pages first
-    at (n + 1)
-unit_more pages first at n are is = each_and_next (λ i. IsOnUnit pages (first + i) (at + i)) n are is
+pub kept_more : (pages : List Extent) (first at n csum : ℕ) (sums : List ℕ) → n < length sums → AreKept pages first at n sums
+    → place_found pages (first + n) ≡ Some (own (at + n) csum) → AreKept pages first at (n + 1) (set sums n csum)
+kept_more pages first at n csum sums fits are is =
+    let P : ℕ → Type 0 = λ i. place_found pages (first + i) ≡ Some (own (at + i) (get_or (set sums n csum) i 0)) in
+    each_and_next P n
+    (λ i lt. are i lt ∙ ap (λ k. Some (own (at + i) k)) (sym (get_or-set_other sums n i csum 0 (omega (arith, lt)))))
+    (is ∙ ap (λ k. Some (own (at + n) k)) (sym (get_or-set_same sums n csum 0 fits)))
+
+-- so they stand on consecutive units
+pub on_units : (pages : List Extent) (first at count : ℕ) (sums : List ℕ) → AreKept pages first at count sums → AreOnUnits pages first at count
+on_units pages first at count sums kept i lt = (get_or sums i 0, kept i lt)
 
 -- where a page stands
-pub stands_where : (pages : List Extent) (page unit at csum : ℕ) → place_found pages page ≡ Some (own at csum) → unit ≡ at → IsOnUnit pages page unit
-stands_where pages page unit at csum is same =
-    (csum, subst (λ (u : ℕ). place_found pages page ≡ Some (own u csum)) (sym same) is)
+pub stands_where : (pages : List Extent) (page unit at csum : ℕ) → place_found pages page ≡ Some (own at csum) → unit ≡ at → place_found pages page ≡ Some (own unit csum)
+stands_where pages page unit at csum is same = subst (λ (u : ℕ). place_found pages page ≡ Some (own u csum)) (sym same) is
 
--- one page more is checked
-pub checked_more : (pages : List Extent) (first n : ℕ) (bytes page : List ℕ) → AreChecked pages first n bytes → page ≡ unit_at n bytes
-    → IsChecked pages (first + n) page → AreChecked pages first (n + 1) bytes
-checked_more pages first n bytes page are same is =
-    each_and_next (λ i. IsChecked pages (first + i) (unit_at i bytes)) n are (subst (IsChecked pages (first + n)) same is)
+same_csum : (unit csum at kept : ℕ) → Some (own unit csum) ≡ Some (own at kept) → csum ≡ kept
+same_csum unit csum at kept is = cc
+
+-- pages with the checksums that are kept for them are checked
+pub sums_checked : (pages : List Extent) (first at count n : ℕ) (bytes sums : List ℕ) → n ≤ count → AreKept pages first at count sums → AreSums n bytes sums
+    → AreChecked pages first n bytes
+sums_checked pages first at count n bytes sums le kept are i lt unit csum there =
+    sym (are i lt) ∙ sym (same_csum unit csum (at + i) (get_or sums i 0) (sym there ∙ kept i (omega (arith, lt, le))))
 
 -- the units of a run lie inside the device
 pub run_inside : (d : Disk) (pages : List Extent) (first at count : ℕ) → CanRead d pages → AreOnUnits pages first at count → 0 < count
@@ -133,26 +145,34 @@ same_unit : (unit csum at kept : ℕ) → Some (own unit csum) ≡ Some (own at 
 same_unit unit csum at kept is = cc
 
 -- the first mismatch of pages that were read is the first bad page
-pub bad_unit : (d : Disk) (pages : List Extent) (first at count : ℕ) (bytes : List ℕ) (bad : BadSum) → AreOnUnits pages first at count
-    → HasRead d at count bytes → IsMismatch pages first count bytes bad → GivesBad d pages first count bad
-bad_unit d pages first at count bytes bad on read m rows c o is =
-    let stand = on m.index m.within in
-    let unit : at + m.index ≡ bad.unit = same_unit (at + m.index) stand.0 bad.unit bad.kept (sym stand.1 ∙ m.at.stands) in
+pub bad_unit : (d : Disk) (pages : List Extent) (first at count : ℕ) (bytes sums : List ℕ) (bad : BadSum) → AreKept pages first at count sums
+    → HasRead d at count bytes → IsMismatch at count bytes sums bad → GivesBad d pages first count bad
+bad_unit d pages first at count bytes sums bad kept read m rows c o is =
+    let there : place_found pages (first + m.index) ≡ Some (own bad.unit bad.kept) =
+    kept m.index m.within ∙ ap (λ u. Some (own u (get_or sums m.index 0))) (sym m.unit) ∙ ap (λ k. Some (own bad.unit k)) (sym m.is_kept) in
     let whole : 4096 * m.index + 4096 ≤ length bytes = omega (arith, m.within, read.size) in
     record {
       index = m.index;
       within = m.within;
       before = take (4096 * m.index) bytes;
-      good = good_front d pages first at count m.index bytes rows c o on read is m.within m.before;
+      good = good_front d pages first at count m.index bytes rows c o (on_units pages first at count sums kept) read is m.within
+          (sums_checked pages first at count m.index bytes sums (omega (arith, m.within)) kept m.before);
       bad = record {
-        is_on = on_own rows c o (first + m.index) bad.unit bad.kept ((is (first + m.index) (own bad.unit bad.kept)).0 m.at.stands);
+        is_on = on_own rows c o (first + m.index) bad.unit bad.kept ((is (first + m.index) (own bad.unit bad.kept)).0 there);
         bytes = unit_at m.index bytes;
         size = length-unit_at m.index bytes whole;
-        held = subst (λ (u : ℕ). IsHeldAt d u (unit_at m.index bytes)) unit (held d at count m.index bytes read m.within);
-        is_found = m.at.is_found;
-        differs = m.at.differs;
+        held = subst (λ (u : ℕ). IsHeldAt d u (unit_at m.index bytes)) (sym m.unit) (held d at count m.index bytes read m.within);
+        is_found = m.is_found;
+        differs = m.differs;
       };
     }
+
+-- so a failed read of units is one of the pages that stand on them
+pub units_fail : (d : Disk) (pages : List Extent) (first at count : ℕ) (sums : List ℕ) (fail : PartFail) → AreKept pages first at count sums
+    → IsUnitsFail d at count sums fail → IsPartFail d pages first count fail
+units_fail d pages first at count sums (why.BadPage bad) kept is = bad_unit d pages first at count is.0 sums bad kept is.1 is.2
+units_fail d pages first at count sums why.Memory kept is = tt
+units_fail d pages first at count sums why.Fault kept is = tt
 
 -- holes are good, with zeros
 pub good_holes : (d : Disk) (pages : List Extent) (first count : ℕ) (bytes : List ℕ) → AreHoles pages first count → bytes ≡ zeros (4096 * count)
@@ -229,8 +249,18 @@ pub handed_on : {T : Type 0} (P : PartFail → Type 0) (result : Result T PartFa
 handed_on P (Ok x) fail is holds = tt
 handed_on P (Err e) fail is holds = subst P (sym is.1) holds
 
--- where no mismatch was found there is none
-pub none_differs : (pages : List Extent) (page : ℕ) (bytes : List ℕ) (found : Option BadSum) → found ≡ None → IfNone found (IsChecked pages page bytes)
-    → IsChecked pages page bytes
-none_differs pages page bytes None is checked = checked
-none_differs pages page bytes (Some bad) is checked = absurd cc
+-- ---- checksums of pages
+
+-- of a page of zeros, by computing
+pub sum_of_zeros : 0x98f94189 ≡ crc32c (zeros 4096)
+unfolding crc32c zeros after_bits
+sum_of_zeros = refl
+
+-- of holes
+pub hole_sums : (count : ℕ) (bytes sums : List ℕ) → bytes ≡ zeros (4096 * count) → ((i : ℕ) → i < count → get_or sums i 0 ≡ crc32c (zeros 4096)) → AreSums count bytes sums
+hole_sums count bytes sums is are i lt =
+    are i lt ∙ ap crc32c (sym (ap (unit_at i) is ∙ unit_at-zeros i (4096 * count) (omega (arith, lt))))
+
+-- one page more has its checksum
+pub sums_more : (n : ℕ) (bytes sums : List ℕ) → AreSums n bytes sums → get_or sums n 0 ≡ crc32c (unit_at n bytes) → AreSums (n + 1) bytes sums
+sums_more n bytes sums are is = each_and_next (λ i. get_or sums i 0 ≡ crc32c (unit_at i bytes)) n are is

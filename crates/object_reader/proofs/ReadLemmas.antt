@@ -1,16 +1,18 @@
 -- Ranges of an object, and its checksum.
-use Rattle.std.proofs.Common.{◌≡◌, ℕ, zero, suc, ◌+◌, ◌-◌, ◌*◌, ◌/◌, ◌%◌, ◌<◌, ◌≤◌, Bool, true, false, cond, List, [], ◌++◌, length, take, drop, refl, sym, ap, subst, ◌∙◌, arith}
-use Rattle.std.specs.Prelude.{nat_lt, bit_xor}
+use Rattle.std.proofs.Common.{◌≡◌, ℕ, zero, suc, ◌+◌, ◌-◌, ◌*◌, ◌/◌, ◌%◌, ◌<◌, ◌≤◌, Bool, true, false, cond, List, [], ◌++◌, length, take, drop, take-add, take-append-drop, get_or, refl, sym, ap, subst, ◌∙◌, arith}
+use Rattle.std.specs.Prelude.{nat_lt, bit_xor, min}
 use Rattle.std.proofs.lemmas.Bool.{ltb-true, ltb-false}
-use Rattle.std.proofs.lemmas.List.{take_all}
+use Rattle.std.proofs.lemmas.List.{take_all, length-take}
 use Rattle.std.proofs.Math.Seq.{take-append-add}
+use Rattle.byte_maps.specs.Units.{unit_at, IsUnits}
+use Rattle.byte_maps.proofs.UnitLemmas.{length-unit_at, piece_of_front}
 use Rattle.crc32c_csum.specs.Crc32c.{crc32c, remainder, all_ones}
 use Rattle.crc32c_csum.proofs.Linear.{remainder-append}
 use Rattle.block_device.specs.Disk.{Disk}
 use Rattle.store_image.specs.Pages.{pages_of}
 use Rattle.row_format.specs.Extents.{Extent}
 use Rattle.read_facts.specs.PageReads.{read_end, pages_read}
-use Rattle.object_reader.specs.Parts.{GivesPages, IsPartFail, GivesRange, IsDigestOf, GivesSum}
+use Rattle.object_reader.specs.Parts.{AreSums, GivesPages, IsPartFail, GivesRange, IsDigestOf, GivesSum}
 use Rattle.object_reader.specs.declared.parts.PartFail.{PartFail}
 use Rattle.object_reader.proofs.PartLemmas.{no_pages, more_pages, fails_behind}
 
@@ -94,6 +96,30 @@ digest_of_more d pages size next count digest part front fits is so_far more =
       remains = ap (λ r. remainder r front) before ∙ sym (remainder-append so_far.whole front all_ones) ∙ ap (remainder all_ones) (sym both);
     }
 
+-- the checksums of the whole pages at the front of a part
+pub sums_of_front : (count left : ℕ) (part front sums : List ℕ) → front ≡ take left part → IsUnits count part → AreSums count part sums
+    → AreSums (length front / 4096) front sums
+unfolding unit_at
+sums_of_front count left part front sums is size are i lt =
+    let long : length front ≡ min left (length part) = ap (λ l. length l) is ∙ length-take left part in
+    let most : length front ≤ left = omega (arith, long) in
+    let fits : length front ≤ length part = omega (arith, long) in
+    are i (omega (arith, lt, fits, size))
+    ∙ ap crc32c (sym (ap (unit_at i) is ∙ piece_of_front (4096 * i) 4096 left part (omega (arith, lt, most))))
+
+-- one whole page more is taken in by its checksum
+pub page_in : (i start digest new : ℕ) (front sums : List ℕ) → digest ≡ remainder start (take (4096 * i) front)
+    → ((page : List ℕ) → length page ≡ 4096 → get_or sums i 0 ≡ crc32c page → new ≡ remainder digest page) → AreSums (length front / 4096) front sums → i < length front / 4096
+    → new ≡ remainder start (take (4096 * (i + 1)) front)
+unfolding unit_at
+page_in i start digest new front sums before taken are lt =
+    let whole : 4096 * i + 4096 ≤ length front = omega (arith, lt) in
+    taken (unit_at i front) (length-unit_at i front whole) (are i lt)
+    ∙ ap (λ r. remainder r (unit_at i front)) before
+    ∙ sym (remainder-append (take (4096 * i) front) (unit_at i front) start)
+    ∙ ap (remainder start) (sym (take-add (4096 * i) 4096 front))
+    ∙ ap (λ n. remainder start (take n front)) (omega arith)
+
 -- the pages of a whole object
 end_of_all : (size : ℕ) → read_end size 0 size ≡ size
 end_of_all size = omega arith
@@ -138,3 +164,7 @@ sum_fails_behind d pages size next end digest fail is below so_far fails =
   where
     from_end : end ≡ end - 0
     from_end = omega arith
+
+-- the bytes behind the front, taken in behind it
+pub rest_in : (n start : ℕ) (bytes : List ℕ) → remainder (remainder start (take n bytes)) (drop n bytes) ≡ remainder start bytes
+rest_in n start bytes = sym (remainder-append (take n bytes) (drop n bytes) start) ∙ ap (remainder start) (take-append-drop n bytes)

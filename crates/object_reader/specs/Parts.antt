@@ -1,8 +1,8 @@
 -- Pages of an object read some at a time, each where it is found among the object's extents.
-use Rattle.std.specs.Prelude.{◌≡◌, ◌≢◌, ℕ, ◌+◌, ◌-◌, ◌/◌, ◌%◌, ◌<◌, ◌≤◌, List, [], take, drop, Some, None}
-use Rattle.byte_maps.specs.Units.{unit_at, IsUnits}
+use Rattle.std.specs.Prelude.{◌≡◌, ◌≢◌, ℕ, ◌+◌, ◌-◌, ◌/◌, ◌%◌, ◌<◌, ◌≤◌, List, [], take, drop, get_or, Some, None}
+use Rattle.byte_maps.specs.Units.{unit_at, zeros, IsUnits}
 use Rattle.crc32c_csum.specs.Crc32c.{crc32c, remainder, all_ones}
-use Rattle.block_device.specs.Disk.{Disk}
+use Rattle.block_device.specs.Disk.{Disk, HasRead}
 use Rattle.meta_rows.specs.Rows.{Rows}
 use Rattle.row_format.specs.Extents.{Extent, own}
 use Rattle.page_lookup.specs.Found.{place_found}
@@ -36,10 +36,19 @@ AreHoles pages first count = (i : ℕ) → i < count → place_found pages (firs
 abbrev pub AreOnUnits : List Extent → ℕ → ℕ → ℕ → Type 0
 AreOnUnits pages first at count = (i : ℕ) → i < count → IsOnUnit pages (first + i) (at + i)
 
--- the pages of a run, at least one and at most so many
-abbrev pub IsRun : List Extent → ℕ → ℕ → Run → Type 0
-IsRun pages first most (Hole count) = (0 < count) × (count ≤ most) × AreHoles pages first count
-IsRun pages first most (Units at count) = (0 < count) × (count ≤ most) × AreOnUnits pages first at count
+-- so they do, and these checksums are kept for them
+abbrev pub AreKept : List Extent → ℕ → ℕ → ℕ → List ℕ → Type 0
+AreKept pages first at count sums = (i : ℕ) → i < count → place_found pages (first + i) ≡ Some (own (at + i) (get_or sums i 0))
+
+-- the checksums of so many pages that lie one behind the other
+abbrev pub AreSums : ℕ → List ℕ → List ℕ → Type 0
+AreSums count bytes sums = (i : ℕ) → i < count → get_or sums i 0 ≡ crc32c (unit_at i bytes)
+
+-- the pages of a run, at least one and at most so many, and the checksums that they must have
+abbrev pub IsRun : List Extent → ℕ → ℕ → List ℕ → Run → Type 0
+IsRun pages first most sums (Hole count) = (0 < count) × (count ≤ most) × AreHoles pages first count
+    × ((i : ℕ) → i < count → get_or sums i 0 ≡ crc32c (zeros 4096))
+IsRun pages first most sums (Units at count) = (0 < count) × (count ≤ most) × AreKept pages first at count sums
 
 -- a page that isn't a hole has bytes with the checksum that is kept for it
 abbrev pub IsChecked : List Extent → ℕ → List ℕ → Type 0
@@ -49,18 +58,15 @@ IsChecked pages page bytes = (unit csum : ℕ) → place_found pages page ≡ So
 abbrev pub AreChecked : List Extent → ℕ → ℕ → List ℕ → Type 0
 AreChecked pages first count bytes = (i : ℕ) → i < count → IsChecked pages (first + i) (unit_at i bytes)
 
--- a page has bytes with another checksum
-pub record IsBad (pages : List Extent) (page : ℕ) (bytes : List ℕ) (bad : BadSum) : Type 0 where
-  pub stands : place_found pages page ≡ Some (own bad.unit bad.kept)
-  pub is_found : bad.found ≡ crc32c bytes
-  pub differs : bad.found ≢ bad.kept
-
--- the first page of so many that has
-pub record IsMismatch (pages : List Extent) (first count : ℕ) (bytes : List ℕ) (bad : BadSum) : Type 0 where
+-- of units from `at` on that lie one behind the other, the first one whose bytes have another checksum than these
+pub record IsMismatch (at count : ℕ) (bytes sums : List ℕ) (bad : BadSum) : Type 0 where
   pub index : ℕ
   pub within : index < count
-  pub before : AreChecked pages first index bytes
-  pub at : IsBad pages (first + index) (unit_at index bytes) bad
+  pub before : AreSums index bytes sums
+  pub unit : bad.unit ≡ at + index
+  pub is_kept : bad.kept ≡ get_or sums index 0
+  pub is_found : bad.found ≡ crc32c (unit_at index bytes)
+  pub differs : bad.found ≢ bad.kept
 
 -- of each object with these pages, so many pages from the first on are good, and these are their bytes
 pub record GivesPages (d : Disk) (pages : List Extent) (first count : ℕ) (bytes : List ℕ) : Type 0 where
@@ -76,6 +82,11 @@ GivesBad d pages first count bad =
 abbrev pub IsPartFail : Disk → List Extent → ℕ → ℕ → PartFail → Type 0
 IsPartFail d pages first count (why.BadPage bad) = GivesBad d pages first count bad
 IsPartFail d pages first count fail = Unit {0}
+
+-- what a failed read of so many units says of them
+abbrev pub IsUnitsFail : Disk → ℕ → ℕ → List ℕ → PartFail → Type 0
+IsUnitsFail d at count sums (why.BadPage bad) = (bytes : List ℕ) × HasRead d at count bytes × IsMismatch at count bytes sums bad
+IsUnitsFail d at count sums fail = Unit {0}
 
 -- of each object of this size with these pages, the bytes of a range
 pub record GivesRange (d : Disk) (pages : List Extent) (size off len : ℕ) (bytes : List ℕ) : Type 0 where

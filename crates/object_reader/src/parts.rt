@@ -1,10 +1,11 @@
 //! Pages read from the device, some at a time.
-ghost use Rattle.std.specs.Prelude.{◌≡◌, ◌≢◌, ◌+◌, ◌-◌, ◌*◌, ◌^◌, ◌<◌, ◌≤◌, None, Some, IsTrue, IfOk, IfErr, IfNone, IfSome, IsErrOf, OnOk, length, min};
+ghost use Rattle.std.specs.Prelude.{◌≡◌, ◌+◌, ◌-◌, ◌*◌, ◌^◌, ◌<◌, ◌≤◌, None, Some, IsTrue, IfOk, IfErr, IfNone, IfSome, IsErrOf, OnOk, ℕ, length, get_or, min};
 ghost use Rattle.byte_maps.specs.Units.{unit_at, zeros, IsUnits};
 ghost use Rattle.page_lookup.specs.Found.{place_found};
 ghost use Rattle.crc32c_csum.specs.Crc32c.{crc32c};
-ghost use Rattle.block_device.specs.Disk.{Rose};
-ghost use Rattle.object_reader.specs.Parts.{HaveFewUnits, CanRead, AreHoles, AreOnUnits, IsRun, IsOnUnit, AreChecked, IsChecked, IsBad, IsMismatch, GivesPages, IsPartFail};
+ghost use Rattle.row_format.specs.Extents.{own};
+ghost use Rattle.block_device.specs.Disk.{HasRead, IsNotInFlight, Rose};
+ghost use Rattle.object_reader.specs.Parts.{HaveFewUnits, CanRead, AreHoles, AreKept, AreSums, IsRun, IsMismatch, IsUnitsFail, GivesPages, IsPartFail};
 ghost use Rattle.object_reader.specs.PartFails.{part_fail_of};
 ghost use Rattle.object_reader.specs.declared.parts.PartFail.TheVariants.{Memory};
 
@@ -18,6 +19,12 @@ use unit_fields::limits::UNIT_BYTES;
 
 // The most units of one read.
 const MOST_UNITS: u32 = 64;
+
+// The checksum of a page of zeros.
+const ZEROS_SUM: u32 = 0x98f9_4189;
+
+/// Checksums of the pages of a part, from its first page on.
+pub type Sums = [u32; 64];
 
 /// Why pages weren't read.
 #[derive(Clone, Copy, Debug, PartialEq, Eq)]
@@ -55,17 +62,6 @@ enum Run {
     Units { at: u32, count: u32 },
 }
 
-// The unit that a page stands on. None: it is a hole.
-fn unit_of(pages: &mut ShardPages, page: u32) -> Option<u32>
-    requires { HaveFewUnits pages.old }
-    ensures none { IfNone result (place_found pages.old page ≡ None) }
-    ensures some { IfSome result (IsOnUnit pages.old page) }
-    ensures kept { pages.new ≡ pages.old }
-{
-    let place = pages.find(page)?;
-    Some(place.unit.number())
-}
-
 fn is_hole(pages: &mut ShardPages, page: u32) -> bool
     requires { HaveFewUnits pages.old }
     ensures hole { IsTrue result → place_found pages.old page ≡ None }
@@ -93,52 +89,68 @@ fn hole_pages(pages: &mut ShardPages, first: u32, most: u32) -> u32
     most
 }
 
-fn stands_on(pages: &mut ShardPages, page: u32, unit: u32) -> bool
+// The kept checksum of a page that stands on this unit. None: it is a hole, or stands elsewhere.
+fn csum_on(pages: &mut ShardPages, page: u32, unit: u32) -> Option<u32>
     requires { HaveFewUnits pages.old }
-    ensures stands { IsTrue result → IsOnUnit pages.old page unit }
+    ensures stands { IfSome result (λ csum. place_found pages.old page ≡ Some (own unit csum)) }
     ensures kept { pages.new ≡ pages.old }
 {
-    match pages.find(page) {
-        Some(place) => place.unit.number() == unit,
-        None => false,
+    let place = pages.find(page)?;
+    if place.unit.number() == unit {
+        return Some(place.csum);
     }
+    None
 }
 
-// How many of the pages from the first on, which stands on unit `at`, stand on consecutive units.
-fn unit_pages(pages: &mut ShardPages, first: u32, at: u32, most: u32) -> u32
+// How many of the pages from the first on, which stands on unit `at`, stand on consecutive units. The checksums that are kept for
+// them go into `sums`, where that of the first one is.
+fn unit_pages(pages: &mut ShardPages, first: u32, at: u32, most: u32, sums: &mut Sums) -> u32
     requires inside { HaveFewUnits pages.old }
-    requires stands { IsOnUnit pages.old first at }
+    requires stands { AreKept pages.old first at 1 sums.old }
     requires some { 0 < most }
+    requires few { most ≤ 64 }
     requires fits { first + most ≤ 2 ^ 32 }
     requires units_fit { at + most ≤ 2 ^ 32 }
     ensures some { 0 < result }
     ensures few { result ≤ most }
-    ensures units { AreOnUnits pages.old first at result }
+    ensures units { AreKept pages.old first at result sums.new }
     ensures kept { pages.new ≡ pages.old }
 {
     for i in 1..most {
-        if !stands_on(pages, first + i, at + i) {
-            return i;
+        match csum_on(pages, first + i, at + i) {
+            Some(csum) => sums[i as usize] = csum,
+            None => return i,
         }
     }
     most
 }
 
-// The run of pages from the first on, below the end. It looks ahead, and leaves the look-ups where they are.
-fn run_from(pages: &ShardPages, first: u32, end: u32) -> Run
-    requires some { first < end }
-    requires inside { HaveFewUnits pages.now }
-    ensures { IsRun pages.now first (min (end - first) 64) result }
+// The checksum of a page of zeros for each page of a part.
+fn lay_zeros_sums(sums: &mut Sums)
+    ensures { (i : ℕ) → i < 64 → get_or sums.new i 0 ≡ crc32c (zeros 4096) }
 {
-    let mut ahead = pages.again();
+    *sums = [ZEROS_SUM; 64];
+}
+
+// The run of pages from the first on, below the end. The checksums that are kept for its pages go into `sums`, and for holes that of
+// a page of zeros.
+fn run_from(pages: &mut ShardPages, first: u32, end: u32, sums: &mut Sums) -> Run
+    requires some { first < end }
+    requires inside { HaveFewUnits pages.old }
+    ensures run { IsRun pages.old first (min (end - first) 64) sums.new result }
+    ensures kept { pages.new ≡ pages.old }
+{
     let most = (end - first).min(MOST_UNITS);
-    match unit_of(&mut ahead, first) {
-        Some(at) => {
-            let count = unit_pages(&mut ahead, first, at, most);
+    match pages.find(first) {
+        Some(place) => {
+            let at = place.unit.number();
+            sums[0] = place.csum;
+            let count = unit_pages(pages, first, at, most, sums);
             Run::Units { at, count }
         }
         None => {
-            let count = hole_pages(&mut ahead, first, most);
+            lay_zeros_sums(sums);
+            let count = hole_pages(pages, first, most);
             Run::Hole { count }
         }
     }
@@ -160,76 +172,60 @@ fn page_at(bytes: &[u8], i: usize) -> &[u8]
     &bytes[UNIT_BYTES * i..UNIT_BYTES * i + UNIT_BYTES]
 }
 
-// The checksums of a page's bytes and of its place, where it has one and they differ.
-fn mismatch(pages: &mut ShardPages, page: u32, bytes: &[u8]) -> Option<BadSum>
-    requires { HaveFewUnits pages.old }
-    ensures none { IfNone result (IsChecked pages.old page bytes.now) }
-    ensures some { IfSome result (IsBad pages.old page bytes.now) }
-    ensures kept { pages.new ≡ pages.old }
-{
-    let place = pages.find(page)?;
-    let found = crc32c(bytes);
-    if found == place.csum {
-        return None;
-    }
-    Some(BadSum {
-        unit: place.unit,
-        kept: place.csum,
-        found,
-    })
-}
-
-// The first page of so many whose bytes have another checksum than the one that is kept.
-fn first_mismatch(pages: &mut ShardPages, first: u32, count: u32, part: &[u8]) -> Option<BadSum>
-    requires inside { HaveFewUnits pages.old }
+// The first of so many pages, which stand on consecutive units, whose bytes have another checksum than the one that is kept.
+fn first_mismatch(at: u32, count: u32, sums: &Sums, part: &[u8]) -> Option<BadSum>
     requires whole { IsUnits count part.now }
-    requires fits { first + count ≤ 2 ^ 32 }
-    ensures none { IfNone result (AreChecked pages.old first count part.now) }
-    ensures some { IfSome result (IsMismatch pages.old first count part.now) }
-    ensures kept { pages.new ≡ pages.old }
+    requires few { count ≤ 64 }
+    requires units_fit { at + count ≤ 2 ^ 32 }
+    ensures none { IfNone result (AreSums count part.now sums.now) }
+    ensures some { IfSome result (IsMismatch at count part.now sums.now) }
 {
     for i in 0..count {
-        if let Some(bad) = mismatch(pages, first + i, page_at(part, i as usize)) {
-            return Some(bad);
+        let kept = sums[i as usize];
+        let found = crc32c(page_at(part, i as usize));
+        if found != kept {
+            let unit = UnitNo::new(at + i);
+            return Some(BadSum { unit, kept, found });
         }
     }
     None
 }
 
-// Reads pages that stand on consecutive units, and compares the checksum of each.
+// Reads consecutive units, and compares the checksum of each.
 fn read_units<D: Device>(
     device: &mut D,
-    pages: &mut ShardPages,
-    first: u32,
     at: u32,
     count: u32,
+    sums: &Sums,
     part: &mut Vec<u8>,
 ) -> Result<(), PartFail>
-    requires can { CanRead (D.disk device.old) pages.old }
-    requires stand { AreOnUnits pages.old first at count }
-    requires some { 0 < count }
-    requires fits { first + count ≤ 2 ^ 32 }
-    ensures good { OnOk result (GivesPages (D.disk device.old) pages.old first count part.new.items) }
-    ensures fail { IfErr result (IsPartFail (D.disk device.old) pages.old first count) }
+    requires few { count ≤ 64 }
+    requires inside { at + count ≤ (D.disk device.old).units }
+    requires units_fit { at + count ≤ 2 ^ 32 }
+    requires free { IsNotInFlight (D.disk device.old) at (4096 * count) }
+    ensures read { OnOk result (HasRead (D.disk device.old) at count part.new.items) }
+    ensures good { OnOk result (AreSums count part.new.items sums.now) }
+    ensures fail { IfErr result (IsUnitsFail (D.disk device.old) at count sums.now) }
     ensures same { D.disk device.new ≡ D.disk device.old }
     ensures later { D.faults device.old ≤ D.faults device.new }
     ensures cause { IsErrOf result PartFail.Fault → Rose (D.faults device.old) (D.faults device.new) }
-    ensures kept { pages.new ≡ pages.old }
 {
     device.read(at, count, part)?;
-    match first_mismatch(pages, first, count, part) {
+    match first_mismatch(at, count, sums, part) {
         Some(bad) => Err(PartFail::BadPage(bad)),
         None => Ok(()),
     }
 }
 
 /// Reads a run of pages of an object, from the first on and below the end, in place of what `part` held, and gives how many: at most 64
-/// that are holes, or that stand on consecutive units, which one call of the device reads. A bad page is the first one of the run.
+/// that are holes, or that stand on consecutive units, which one call of the device reads. Their checksums go into `sums`. A bad page is
+/// the first one of the run.
 pub fn read_part<D: Device>(
     device: &mut D,
     pages: &mut ShardPages,
     first: u32,
     end: u32,
+    sums: &mut Sums,
     part: &mut Vec<u8>,
 ) -> Result<u32, PartFail>
     requires can { CanRead (D.disk device.old) pages.old }
@@ -237,19 +233,20 @@ pub fn read_part<D: Device>(
     ensures some { IfOk result (λ count. 0 < count) }
     ensures few { IfOk result (λ count. (count ≤ 64) × (first + count ≤ end)) }
     ensures good { IfOk result (λ count. GivesPages (D.disk device.old) pages.old first count part.new.items) }
+    ensures sums { IfOk result (λ count. AreSums count part.new.items sums.new) }
     ensures fail { IfErr result (IsPartFail (D.disk device.old) pages.old first (end - first)) }
     ensures same { D.disk device.new ≡ D.disk device.old }
     ensures later { D.faults device.old ≤ D.faults device.new }
     ensures cause { IsErrOf result PartFail.Fault → Rose (D.faults device.old) (D.faults device.new) }
     ensures kept { pages.new ≡ pages.old }
 {
-    match run_from(pages, first, end) {
+    match run_from(pages, first, end, sums) {
         Run::Hole { count } => {
             lay_zeros(part, count)?;
             Ok(count)
         }
         Run::Units { at, count } => {
-            read_units(device, pages, first, at, count, part)?;
+            read_units(device, at, count, sums, part)?;
             Ok(count)
         }
     }

@@ -1,12 +1,13 @@
 //! Bytes of an object, and their checksum.
-ghost use Rattle.std.specs.Prelude.{◌≡◌, ◌+◌, ◌-◌, ◌/◌, ◌≤◌, ◌<◌, IfOk, IfErr, IsErrOf, length, take, drop};
+ghost use Rattle.std.specs.Prelude.{◌≡◌, ◌+◌, ◌-◌, ◌*◌, ◌/◌, ◌≤◌, ◌<◌, IfOk, IfErr, IsErrOf, length, take, drop};
 ghost use Rattle.block_device.specs.Disk.{Rose};
+ghost use Rattle.crc32c_csum.specs.Crc32c.{remainder};
 ghost use Rattle.object_model.specs.Effect.{object_limit};
 ghost use Rattle.store_image.specs.Pages.{pages_of};
 ghost use Rattle.read_facts.specs.PageReads.{pages_read};
-ghost use Rattle.object_reader.specs.Parts.{CanRead, GivesPages, IsPartFail, GivesRange, GivesSum};
+ghost use Rattle.object_reader.specs.Parts.{CanRead, AreSums, GivesPages, IsPartFail, GivesRange, GivesSum};
 
-use crate::parts::{PartFail, read_part};
+use crate::parts::{PartFail, Sums, read_part};
 use block_device::Device;
 use crc32c_csum::Digest;
 use page_lookup::ShardPages;
@@ -24,7 +25,8 @@ fn pages_of(size: u64) -> u32
     ((size + (PAGE_BYTES - 1)) / PAGE_BYTES) as u32
 }
 
-// Reads the pages from the first on and below the end, laid together in one buffer.
+// Reads the pages from the first on and below the end, laid together in one buffer. The first run is read where it stays, and the others
+// are laid behind it.
 fn read_pages<D: Device>(
     alloc: Global,
     device: &mut D,
@@ -33,7 +35,7 @@ fn read_pages<D: Device>(
     end: u32,
 ) -> Result<Vec<u8>, PartFail>
     requires can { CanRead (D.disk device.old) pages.old }
-    requires below { first ≤ end }
+    requires below { first < end }
     ensures good { IfOk result (λ bytes. GivesPages (D.disk device.old) pages.old first (end - first) bytes.items) }
     ensures fail { IfErr result (IsPartFail (D.disk device.old) pages.old first (end - first)) }
     ensures same { D.disk device.new ≡ D.disk device.old }
@@ -41,10 +43,12 @@ fn read_pages<D: Device>(
     ensures cause { IsErrOf result PartFail.Fault → Rose (D.faults device.old) (D.faults device.new) }
 {
     let mut bytes = Vec::with_capacity(alloc, (end - first) as usize * UNIT_BYTES)?;
+    let mut sums = [0; 64];
+    let front = read_part(device, pages, first, end, &mut sums, &mut bytes)?;
     let mut part = Vec::new(alloc);
-    let mut next = first;
+    let mut next = first + front;
     'parts: while next < end {
-        let count = read_part(device, pages, next, end, &mut part)?;
+        let count = read_part(device, pages, next, end, &mut sums, &mut part)?;
         bytes.extend_from_slice(&part)?;
         next += count;
     }
@@ -100,7 +104,22 @@ fn front(bytes: &[u8], most: u64) -> &[u8]
     bytes
 }
 
-/// The CRC-32C of the bytes of an object of this size with these pages. It reads the pages part by part, and holds one part at a time.
+// Takes in the front of a part: whole pages by their checksums, and what is left by its bytes.
+fn take_in(digest: &mut Digest, front: &[u8], sums: &Sums)
+    requires few { length front.now ≤ 4096 * 64 }
+    requires sums { AreSums (length front.now / 4096) front.now sums.now }
+    ensures { digest.new ≡ remainder digest.old front.now }
+{
+    let whole = front.len() / UNIT_BYTES;
+    for i in 0..whole {
+        digest.update_page(sums[i]);
+    }
+    let (_, rest) = front.split_at(UNIT_BYTES * whole);
+    digest.update(rest);
+}
+
+/// The CRC-32C of the bytes of an object of this size with these pages. It reads the pages part by part, and holds one part at a time. The
+/// bytes of a whole page aren't summed again: its checksum, which was compared, is taken in.
 pub fn sum<D: Device>(
     alloc: Global,
     device: &mut D,
@@ -118,11 +137,12 @@ pub fn sum<D: Device>(
     let end = pages_of(size);
     let mut digest = Digest::new();
     let mut part = Vec::new(alloc);
+    let mut sums = [0; 64];
     let mut next = 0;
     'parts: while next < end {
-        let count = read_part(device, pages, next, end, &mut part)?;
+        let count = read_part(device, pages, next, end, &mut sums, &mut part)?;
         let left = size - next as u64 * PAGE_BYTES;
-        digest.update(front(&part, left));
+        take_in(&mut digest, front(&part, left), &sums);
         next += count;
     }
     Ok(digest.finish())

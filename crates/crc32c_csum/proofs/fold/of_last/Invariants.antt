@@ -5,4 +5,4 @@ use Rattle.crc32c_csum.specs.Folding.{of_taken}
 use Rattle.crc32c_csum.proofs.fold.of_last.Given as goal
 
 abbrev pub invariant-loop-i : goal.invariant-loop-i
-invariant-loop-i l = remainder (bit_xor (of_taken (16 * l.i) l.taken) l.r) (drop (16 * l.i) l.page) ≡ remainder (of_taken 3792 l.taken) (drop 3792 l.page)
+invariant-loop-i l = remainder (bit_xor (of_taken (16 * l.i) l.last) l.r) (drop (16 * l.i) l.stay) ≡ remainder (of_taken 0 l.last) l.stay

@@ -1,20 +1,23 @@
-use Rattle.std.proofs.Common.{◌+◌, ◌∙◌, refl, sym, subst, arith}
-use Rattle.object_reader.specs.Parts.{HaveFewUnits, IsChecked}
-use Rattle.object_reader.proofs.PartLemmas.{checked_more, none_differs}
+use Rattle.std.proofs.Common.{◌∙◌, ap, refl, sym, arith}
+use Rattle.crc32c_csum.specs.Crc32c.{crc32c}
+use Rattle.object_reader.proofs.PartLemmas.{sums_more}
 use Rattle.object_reader.proofs.parts.first_mismatch.Goals as goal
 
 pub loop-i-init : goal.loop-i-init
-loop-i-init c = (refl, λ i lt. absurd (omega (arith, lt)))
-
-pub mismatch-requires : goal.mismatch-requires
-mismatch-requires c = subst HaveFewUnits (sym c.loop-i.invariant.0) c.requires.inside
+loop-i-init c = λ i lt. absurd (omega (arith, lt))
 
 pub loop-i-preserved : goal.loop-i-preserved
 loop-i-preserved c =
-    let was = c.loop-i.invariant in
-    let page = c.args.first + c.loop-i.i in (
-      c.mismatch.ensures.kept ∙ was.0,
-      checked_more c.args.pages.now c.args.first c.loop-i.i c.args.part.now c.page_at.result.now was.1 c.page_at.ensures
-          (subst (λ ps. IsChecked ps page c.page_at.result.now) was.0
-          (none_differs c.loop-i.pages page c.page_at.result.now c.mismatch.result c.in_default.is c.mismatch.ensures.none)),
-    )
+    sums_more c.loop-i.i c.args.part.now c.args.sums.now c.loop-i.invariant
+    (sym c.if-found-kept.false ∙ c.crc32c-found.ensures ∙ ap crc32c c.page_at.ensures)
+
+pub returns-then-found-kept-clause-some : goal.returns-then-found-kept-clause-some
+returns-then-found-kept-clause-some c = record {
+  index = c.loop-i.i;
+  within = c.loop-i-test.true;
+  before = c.loop-i.invariant;
+  unit = c.new-unit.ensures;
+  is_kept = refl;
+  is_found = c.crc32c-found.ensures ∙ ap crc32c c.page_at.ensures;
+  differs = c.if-found-kept.true;
+}

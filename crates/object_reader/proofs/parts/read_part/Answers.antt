@@ -1,20 +1,36 @@
 use Rattle.std.proofs.Common.{◌-◌, arith}
 use Rattle.object_reader.specs.Parts.{IsPartFail}
-use Rattle.object_reader.proofs.PartLemmas.{good_holes, fails_of_more, handed_on}
+use Rattle.object_reader.proofs.PartLemmas.{good_holes, good_units, on_units, sums_checked, hole_sums, units_fail, fails_of_more, handed_on}
 use Rattle.object_reader.proofs.parts.read_part.Goals as goal
 
-pub returns-in_err-read_units-in-Units-clause-fail :
-    goal.returns-in_err-read_units-in-Units-clause-fail
+pub returns-in_err-read_units-in-Units-clause-fail : goal.returns-in_err-read_units-in-Units-clause-fail
 returns-in_err-read_units-in-Units-clause-fail g c =
     let d = g.D.Device.disk c.args.device.now in
+    let pages = c.args.pages.now in
+    let first = c.args.first in
+    let count = c.in-Units.count in
     let why = c.in_err-read_units-in-Units.field-0.0 in
-    let n = c.args.end - c.args.first in
-    handed_on (IsPartFail d c.args.pages.now c.args.first n) c.from_residual-in_err-read_units-in-Units.result why
+    handed_on (IsPartFail d pages first (c.args.end - first)) c.from_residual-in_err-read_units-in-Units.result why
     c.from_residual-in_err-read_units-in-Units.ensures
-    (fails_of_more d c.args.pages.now c.args.first c.in-Units.count n why (omega (arith, c.in-Units.ensures.1))
-    c.in_err-read_units-in-Units.ensures.fail)
+    (fails_of_more d pages first count (c.args.end - first) why (omega (arith, c.in-Units.ensures.run.1))
+    (units_fail d pages first c.in-Units.at count c.run_from.new.sums why c.in-Units.ensures.run.2 c.in_err-read_units-in-Units.ensures.fail))
 
 pub returns-in_ok-lay_zeros-in-Hole-clause-good : goal.returns-in_ok-lay_zeros-in-Hole-clause-good
 returns-in_ok-lay_zeros-in-Hole-clause-good g c =
-    good_holes (g.D.Device.disk c.args.device.now) c.args.pages.now c.args.first c.in-Hole.count c.lay_zeros.new.part.items c.in-Hole.ensures.2
+    good_holes (g.D.Device.disk c.args.device.now) c.args.pages.now c.args.first c.in-Hole.count c.lay_zeros.new.part.items c.in-Hole.ensures.run.2
     c.in_ok-lay_zeros-in-Hole.ensures
+
+pub returns-in_ok-lay_zeros-in-Hole-clause-sums : goal.returns-in_ok-lay_zeros-in-Hole-clause-sums
+returns-in_ok-lay_zeros-in-Hole-clause-sums g c =
+    hole_sums c.in-Hole.count c.lay_zeros.new.part.items c.run_from.new.sums c.in_ok-lay_zeros-in-Hole.ensures c.in-Hole.ensures.run.3
+
+pub returns-in_ok-read_units-in-Units-clause-good : goal.returns-in_ok-read_units-in-Units-clause-good
+returns-in_ok-read_units-in-Units-clause-good g c =
+    let pages = c.args.pages.now in
+    let count = c.in-Units.count in
+    let bytes = c.read_units.new.part.items in
+    let sums = c.run_from.new.sums in
+    let kept = c.in-Units.ensures.run.2 in
+    good_units (g.D.Device.disk c.args.device.now) pages c.args.first c.in-Units.at count bytes (on_units pages c.args.first c.in-Units.at count sums kept)
+    c.in_ok-read_units-in-Units.ensures.read
+    (sums_checked pages c.args.first c.in-Units.at count count bytes sums (omega arith) kept c.in_ok-read_units-in-Units.ensures.good)

@@ -1,18 +1,21 @@
-use Rattle.std.proofs.Common.{◌+◌, ◌∙◌, refl, sym, subst}
-use Rattle.object_reader.specs.Parts.{HaveFewUnits, IsOnUnit}
-use Rattle.object_reader.proofs.PartLemmas.{one_unit, unit_more}
+use Rattle.std.proofs.Common.{◌≡◌, ◌+◌, ◌∙◌, Some, refl, sym, subst, arith}
+use Rattle.row_format.specs.Extents.{own}
+use Rattle.page_lookup.specs.Found.{place_found}
+use Rattle.object_reader.specs.Parts.{HaveFewUnits}
+use Rattle.object_reader.proofs.PartLemmas.{kept_more}
 use Rattle.object_reader.proofs.parts.unit_pages.Goals as goal
 
 pub loop-i-init : goal.loop-i-init
-loop-i-init c = (refl, one_unit c.args.pages.now c.args.first c.args.at c.requires.stands)
+loop-i-init c = (refl, c.requires.stands)
 
-pub stands_on-requires : goal.stands_on-requires
-stands_on-requires c = subst HaveFewUnits (sym c.loop-i.invariant.0) c.requires.inside
+pub csum_on-requires : goal.csum_on-requires
+csum_on-requires c = subst HaveFewUnits (sym c.loop-i.invariant.0) c.requires.inside
 
 pub loop-i-preserved : goal.loop-i-preserved
 loop-i-preserved c =
-    let was = c.loop-i.invariant in (
-      c.stands_on.ensures.kept ∙ was.0,
-      unit_more c.args.pages.now c.args.first c.args.at c.loop-i.i was.1
-          (subst (λ ps. IsOnUnit ps (c.args.first + c.loop-i.i) (c.args.at + c.loop-i.i)) was.0 (c.stands_on.ensures.stands c.if-not-stands_on.false)),
+    let was = c.loop-i.invariant in
+    let i = c.loop-i.i in (
+      c.csum_on.ensures.kept ∙ was.0,
+      kept_more c.args.pages.now c.args.first c.args.at i c.in-Some.csum c.loop-i.sums (omega (arith, c.loop-i-test.true, c.requires.few)) was.1
+          (subst (λ ps. place_found ps (c.args.first + i) ≡ Some (own (c.args.at + i) c.in-Some.csum)) was.0 c.in-Some.ensures.stands),
     )

@@ -1,38 +1,34 @@
-use Rattle.std.proofs.Common.{◌≡◌, ◌-◌, ℕ, refl, arith, subst, sym, ◌∙◌}
-use Rattle.object_reader.specs.Parts.{CanRead, GivesPages, IsPartFail}
-use Rattle.object_reader.proofs.PartLemmas.{no_pages, more_pages, fails_behind, handed_on}
+use Rattle.std.proofs.Common.{◌≡◌, ◌+◌, ◌-◌, ℕ, arith, subst, ◌∙◌}
+use Rattle.object_reader.specs.Parts.{GivesPages, IsPartFail}
+use Rattle.object_reader.proofs.PartLemmas.{more_pages, fails_behind, handed_on}
 use Rattle.object_reader.proofs.reading.read_pages.Goals as goal
 
 pub parts-init : goal.parts-init
-parts-init g c = (
-  refl,
-  omega arith,
-  omega arith,
-  c.requires.below,
-  no_pages (g.D.Device.disk c.args.device.now) c.args.pages.now c.args.first
-      (c.args.first - c.args.first) c.in_ok-bytes.bytes.items (omega arith) c.in_ok-bytes.ensures.items,
-  refl,
-)
-
-pub read_part-requires-clause-can : goal.read_part-requires-clause-can
-read_part-requires-clause-can g c =
-    subst (λ ps. CanRead (g.D.Device.disk c.parts.device) ps) (sym c.parts.invariant.5)
-    (subst (λ d. CanRead d c.args.pages.now) (sym c.parts.invariant.0) c.requires.can)
+parts-init g c =
+    let n = c.in_ok-front.front in
+    let many : n ≡ c.args.first + n - c.args.first = omega arith in (
+      c.read_part.ensures.same,
+      c.read_part.ensures.later,
+      omega arith,
+      c.in_ok-front.ensures.few.1,
+      subst (λ (n : ℕ). GivesPages (g.D.Device.disk c.args.device.now) c.args.pages.now c.args.first n c.read_part.new.part.items) many c.in_ok-front.ensures.good,
+      c.read_part.ensures.kept,
+    )
 
 pub parts-preserved : goal.parts-preserved
 parts-preserved g c =
     let disk = g.D.Device.disk in
     let was = c.parts.invariant in
     let n = c.in_ok-count.count in
-    let more = subst (λ ps. GivesPages (disk c.args.device.now) ps c.parts.next n c.read_part.new.part.items) was.5
-    (subst (λ d. GivesPages d c.parts.pages c.parts.next n c.read_part.new.part.items) was.0 c.in_ok-count.ensures.good) in (
-      c.read_part.ensures.same ∙ was.0,
-      omega (arith, was.1, c.read_part.ensures.later),
+    let more = subst (λ ps. GivesPages (disk c.args.device.now) ps c.parts.next n c.read_part-in-parts.new.part.items) was.5
+    (subst (λ d. GivesPages d c.parts.pages c.parts.next n c.read_part-in-parts.new.part.items) was.0 c.in_ok-count.ensures.good) in (
+      c.read_part-in-parts.ensures.same ∙ was.0,
+      omega (arith, was.1, c.read_part-in-parts.ensures.later),
       omega (arith, was.2),
       omega (arith, c.in_ok-count.ensures.few.1),
-      more_pages (disk c.args.device.now) c.args.pages.now c.args.first c.parts.next n c.parts.bytes.items c.read_part.new.part.items _ was.2
+      more_pages (disk c.args.device.now) c.args.pages.now c.args.first c.parts.next n c.parts.bytes.items c.read_part-in-parts.new.part.items _ was.2
           (rw c.deref.ensures.value at c.in_ok-extend_from_slice.ensures.items) was.4 more,
-      c.read_part.ensures.kept ∙ was.5,
+      c.read_part-in-parts.ensures.kept ∙ was.5,
     )
 
 pub returns-in_err-count-clause-fail : goal.returns-in_err-count-clause-fail

@@ -7,8 +7,8 @@ abbrev pub invariant-parts : goal.invariant-parts
 invariant-parts g l =
     let disk = g.D.Device.disk in
     let faults = g.D.Device.faults in
-    (disk l.device ≡ disk l.initial.device) × (faults l.initial.device ≤ faults l.device) × (l.first ≤ l.next) × (l.next ≤ l.end)
-    × GivesPages (disk l.initial.device) l.initial.pages l.first (l.next - l.first) l.bytes.items × (l.pages ≡ l.initial.pages)
+    (disk l.device ≡ disk l.fn.device) × (faults l.fn.device ≤ faults l.device) × (l.first ≤ l.next) × (l.next ≤ l.end)
+    × GivesPages (disk l.fn.device) l.fn.pages l.first (l.next - l.first) l.bytes.items × (l.pages ≡ l.fn.pages)
 
 abbrev pub decreases-parts : goal.decreases-parts
 decreases-parts g l = l.end - l.next

@@ -2,7 +2,7 @@ use Rattle.std.proofs.Common.{◌≡◌, ◌-◌, ◌+◌, ◌*◌, ◌≤◌, t
 use Rattle.read_facts.specs.PageReads.{pages_read}
 use Rattle.object_reader.specs.Parts.{CanRead, GivesPages, IsPartFail, IsDigestOf}
 use Rattle.object_reader.proofs.PartLemmas.{handed_on}
-use Rattle.object_reader.proofs.ReadLemmas.{digest_of_none, digest_of_more, sum_of_all, sum_fails_behind}
+use Rattle.object_reader.proofs.ReadLemmas.{digest_of_none, digest_of_more, sums_of_front, sum_of_all, sum_fails_behind}
 use Rattle.object_reader.proofs.reading.sum.Goals as goal
 
 pub parts-init : goal.parts-init
@@ -19,6 +19,13 @@ pub read_part-requires-clause-can : goal.read_part-requires-clause-can
 read_part-requires-clause-can g c =
     subst (λ ps. CanRead (g.D.Device.disk c.parts.device) ps) (sym c.parts.invariant.4)
     (subst (λ d. CanRead d c.args.pages.now) (sym c.parts.invariant.0) c.requires.can)
+
+pub take_in-requires-clause-sums : goal.take_in-requires-clause-sums
+take_in-requires-clause-sums g c =
+    let part = c.read_part.new.part.items in
+    let left = c.args.size - c.parts.next * 4096 in
+    sums_of_front c.in_ok-count.count left part c.front.result.now c.read_part.new.sums (c.front.ensures ∙ ap (take left) c.deref.ensures.value)
+    c.in_ok-count.ensures.good.size c.in_ok-count.ensures.sums
 
 pub parts-preserved : goal.parts-preserved
 parts-preserved g c =
@@ -39,7 +46,7 @@ parts-preserved g c =
       c.read_part.ensures.same ∙ was.0,
       omega (arith, was.1, c.read_part.ensures.later),
       omega (arith, c.in_ok-count.ensures.few.1),
-      subst (IsDigestOf d pages size (next + n)) (sym c.update.ensures)
+      subst (IsDigestOf d pages size (next + n)) (sym c.take_in.ensures)
           (digest_of_more d pages size next n c.parts.digest part c.front.result.now fits front was.3 more),
       c.read_part.ensures.kept ∙ was.4,
     )

@@ -7,7 +7,7 @@ use crate::swept::{Counts, print_counts};
 use case_runs::Case;
 use case_text::CaseError;
 use crc32c_csum::crc32c;
-use object_model::Plain;
+use plain_store::Plain;
 use std::alloc::Global;
 use std::fmt::Write;
 

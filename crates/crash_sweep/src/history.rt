@@ -1,7 +1,8 @@
 //! The runs that a store has behind it, and the objects that it is to have.
 
 use case_text::CaseError;
-use object_model::{Book, Command, Entry, Plain};
+use object_model::{Book, Command, Entry};
+use plain_store::Plain;
 use std::alloc::Global;
 
 /// A run whose first commits a store has.

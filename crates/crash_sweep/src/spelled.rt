@@ -3,7 +3,7 @@
 use crate::image::Found;
 use crate::object::Object;
 use case_text::CaseError;
-use object_model::Plain;
+use plain_store::Plain;
 use std::alloc::{AllocError, Global};
 use unit_fields::{CollName, Name};
 

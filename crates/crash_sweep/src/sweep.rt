@@ -6,7 +6,8 @@ use crate::spelled::spelled_plain;
 use block_device::Tear;
 use case_runs::Case;
 use case_text::{CaseError, words_of};
-use object_model::{Book, Plain};
+use object_model::Book;
+use plain_store::Plain;
 use std::alloc::Global;
 
 pub const TEARS: [Tear; 5] = [Tear::Old, Tear::New, Tear::First, Tear::Odd, Tear::Noise];

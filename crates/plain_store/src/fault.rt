@@ -1,8 +1,8 @@
 //! Why a transaction was not applied.
 ghost use Rattle.std.specs.Prelude.{◌≡◌};
-ghost use Rattle.object_model.specs.declared.fault.ArgFault.TheVariants.{Memory, Refused};
+ghost use Rattle.plain_store.specs.declared.fault.ArgFault.TheVariants.{Memory, Refused};
 
-use crate::op::Refusal;
+use object_model::Refusal;
 use std::alloc::{AllocError, AllocFailed};
 
 /// A transaction was refused, or memory ran out before that was known.

@@ -3,8 +3,8 @@ ghost use Rattle.std.specs.Prelude.{◌≡◌, ◌+◌, ◌<◌, ◌^◌, length
 ghost use Rattle.object_model.specs.Objects.{empty_object};
 ghost use Rattle.object_model.specs.Effect.{resized, overwritten, with_pairs, without_keys, without_range};
 
-use crate::op::Pair;
 use byte_maps::{ByteMap, Bytes, Duplicate};
+use object_model::Pair;
 use std::alloc::{AllocError, Global};
 use std::marker::Model;
 use unit_fields::Name;

@@ -6,16 +6,15 @@ ghost use Rattle.object_model.specs.declared.op.Refusal.TheVariants.{BadRange};
 ghost use Rattle.crc32c_csum.specs.Crc32c.{crc32c};
 ghost use Rattle.object_model.specs.Effect.{object_limit};
 ghost use Rattle.object_model.specs.Reply.{reply_of, value_of};
-ghost use Rattle.object_model.specs.Gives.{Answers};
+ghost use Rattle.plain_store.specs.Gives.{Answers};
 
-use crate::collection::{Collection, ends_too_far};
-use crate::command::{Answer, Command};
+use crate::collection::Collection;
 use crate::fault::ArgFault;
 use crate::object::PlainObject;
-use crate::op::Refusal;
 use crate::plain::Plain;
 use byte_maps::{ByteMap, Bytes, Duplicate, Items};
 use crc32c_csum::crc32c;
+use object_model::{Answer, Command, Refusal, ends_too_far};
 use std::alloc::{AllocError, Global};
 use unit_fields::{CollName, Name};
 
@@ -68,7 +67,7 @@ impl Plain {
     {
         match command {
             Command::Change(change) => {
-                change.check(alloc, self)?;
+                self.check(alloc, change)?;
                 Ok(Answer::Accepted)
             }
             Command::Read {

@@ -4,12 +4,12 @@ ghost use Rattle.std.specs.FinMap as finite;
 ghost use Rattle.object_model.specs.declared.op.Op.TheVariants as does;
 ghost use Rattle.object_model.specs.Objects.{empty_object};
 ghost use Rattle.object_model.specs.Effect.{effect_on, object_limit, any_value_long, is_same, overwritten, resized};
-ghost use Rattle.object_model.specs.Gives.{GivesBy};
+ghost use Rattle.plain_store.specs.Gives.{GivesBy};
 
 use crate::fault::ArgFault;
 use crate::object::{PlainObject, overwritten, resized, with_pairs, without_keys, without_range};
-use crate::op::{Pair, Refusal};
 use byte_maps::{ByteMap, Bytes, Duplicate};
+use object_model::{Pair, Refusal, ends_too_far};
 use std::alloc::{AllocError, Global};
 use std::cmp::Ordering;
 use unit_fields::Name;
@@ -17,13 +17,6 @@ use unit_fields::limits::{OBJECT_LIMIT, VALUE_LIMIT};
 
 /// The objects of one collection, by name.
 pub type Collection = ByteMap<PlainObject>;
-
-/// Whether a range ends past the limit of an object.
-pub fn ends_too_far(off: u64, len: u64) -> bool
-    ensures { result ≡ nat_lt object_limit (off + len) }
-{
-    OBJECT_LIMIT < len || OBJECT_LIMIT - len < off
-}
 
 fn is_same(a: &Name, b: &Name) -> bool
     ensures { result ≡ is_same a.now b.now }

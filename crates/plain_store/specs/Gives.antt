@@ -3,8 +3,8 @@ use Rattle.std.specs.Prelude.{◌≡◌, Result, Ok, Err, IsOk}
 use Rattle.object_model.specs.declared.op.Refusal.{Refusal}
 use Rattle.object_model.specs.declared.command.Answer.{Answer}
 use Rattle.object_model.specs.declared.command.Answer.TheVariants as answer
-use Rattle.object_model.specs.declared.fault.ArgFault.{ArgFault}
-use Rattle.object_model.specs.declared.fault.ArgFault.TheVariants.{Memory, Refused}
+use Rattle.plain_store.specs.declared.fault.ArgFault.{ArgFault}
+use Rattle.plain_store.specs.declared.fault.ArgFault.TheVariants.{Memory, Refused}
 
 -- a refusal is the definition's, and nothing is said of want of memory
 abbrev pub FailsAs : {A : Type 0} → ArgFault → Result A Refusal → Type 0

@@ -1,12 +1,12 @@
 //! The effect of an operation on what stands under the name of its collection.
 ghost use Rattle.std.specs.Prelude.{Some};
 ghost use Rattle.object_model.specs.Effect.{effect, effect_on, effects};
-ghost use Rattle.object_model.specs.Gives.{Gives};
+ghost use Rattle.plain_store.specs.Gives.{Gives};
 
 use crate::collection::*;
 use crate::fault::ArgFault;
-use crate::op::{Op, Refusal};
 use byte_maps::ByteMap;
+use object_model::{Op, Refusal};
 use std::alloc::Global;
 
 // The operations on a collection that is there and stays.

@@ -1,6 +1,6 @@
 use Rattle.std.proofs.Common.{◌≡◌, drop}
 use Rattle.object_model.specs.Effect.{with_pairs}
-use Rattle.object_model.proofs.object.with_pairs.Given as goal
+use Rattle.plain_store.proofs.object.with_pairs.Given as goal
 
 abbrev pub invariant-loop-pair : goal.invariant-loop-pair
 invariant-loop-pair l = with_pairs l.m (drop l.pair-index l.pairs) ≡ with_pairs l.fn.omap l.pairs

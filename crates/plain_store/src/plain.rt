@@ -4,15 +4,14 @@ ghost use Rattle.std.specs.FinMap as finite;
 ghost use Rattle.object_model.specs.Effect.{effects, transaction_effect, object_under};
 ghost use Rattle.object_model.specs.Limits.{submitted_effect};
 ghost use Rattle.object_model.specs.Reply.{found_collection, found_object};
-ghost use Rattle.object_model.specs.Gives.{Gives, GivesExactly, Applies, Passes};
+ghost use Rattle.plain_store.specs.Gives.{Gives, GivesExactly, Applies, Passes};
 
 use crate::applying::effects;
 use crate::collection::Collection;
 use crate::fault::ArgFault;
 use crate::object::PlainObject;
-use crate::op::Refusal;
-use crate::transaction::Transaction;
 use byte_maps::{ByteMap, Bytes, Duplicate};
+use object_model::{Refusal, Transaction};
 use std::alloc::{AllocError, Global};
 use std::marker::Model;
 use unit_fields::{CollName, Name};
@@ -116,17 +115,15 @@ impl Plain {
             }
         }
     }
-}
 
-impl Transaction {
-    /// Whether the store would accept it: whether it is too large, and then the first refusal of its operations.
-    pub fn check(&self, alloc: Global, plain: &Plain) -> Result<(), ArgFault>
-        ensures { Passes result (submitted_effect self.now plain.now) }
+    /// Whether the store would accept a transaction: whether it is too large, and then the first refusal of its operations.
+    pub fn check(&self, alloc: Global, change: &Transaction) -> Result<(), ArgFault>
+        ensures { Passes result (submitted_effect change.now self.now) }
     {
-        if self.is_too_large() {
+        if change.is_too_large() {
             return Err(ArgFault::Refused(Refusal::TooBig));
         }
-        let _after = plain.collection_after(alloc, self)?;
+        let _after = self.collection_after(alloc, change)?;
         Ok(())
     }
 }

@@ -13,7 +13,7 @@ use Rattle.row_format.specs.Extents.{Extent, page_end}
 use Rattle.row_format.specs.Row as format
 use Rattle.row_format.specs.Row.{collection, onode, shard, bitmap}
 use Rattle.row_format.proofs.KeyLemmas.{coll_no_object, bitmap_no_object, same_place}
-use Rattle.row_format.proofs.ExtentLemmas.{extents-same}
+use Rattle.row_format.proofs.ExtentReading.{extents-same}
 use Rattle.row_format.proofs.RowLemmas.{same_row}
 use Rattle.store_image.specs.Pages.{HasRow}
 use Rattle.store_image.specs.BadRows.{IsInPlace, IsShardInPlace, IsGoodRow}

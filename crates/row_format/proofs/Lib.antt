@@ -1,3 +1,4 @@
 pub mod KeyLemmas
-pub mod ExtentLemmas
+pub mod ThingLemmas
+pub mod ExtentReading
 pub mod RowLemmas

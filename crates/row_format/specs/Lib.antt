@@ -1,4 +1,6 @@
 pub mod Keys
 pub mod Extents
 pub mod Bits
+pub mod Things
+pub mod ExtentReading
 pub mod Row

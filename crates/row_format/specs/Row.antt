@@ -1,13 +1,15 @@
 -- Rows as what they say. The kinds here are collections, onodes, shards of extents and rows of the freelist's bitmap; the others of the keys' table are
 -- to be further cases.
-use Rattle.std.specs.Prelude.{◌≡◌, ℕ, ◌<◌, ◌^◌, List, [], length, false}
+use Rattle.std.specs.Prelude.{◌≡◌, ℕ, ◌<◌, ◌^◌, List, [], length, false, Option, Some, None}
 use Rattle.std.specs.List.{flat_map, AllByRecursion}
-use Rattle.std.specs.Int.{w64, to_le_bytes}
+use Rattle.std.specs.Int.{w64, to_le_bytes, from_le_bytes}
 use Rattle.unit_fields.specs.Names.{IsName, IsCollName}
 use Rattle.meta_rows.specs.Rows.{all_zero}
 use Rattle.row_format.specs.Bits.{bit_rows}
 use Rattle.row_format.specs.Keys.{coll_key, onode_key, shard_key, bitmap_key}
 use Rattle.row_format.specs.Extents.{Extent, extent_bytes, FitsExtent, BeginsAt}
+use Rattle.row_format.specs.ExtentReading.{extents_read}
+use Rattle.row_format.specs.Things.{Thing, a_collection, an_onode, a_shard, a_bitmap_row}
 
 pub data Row : Type 0 where
   collection : (c : List ℕ) → Row
@@ -48,10 +50,21 @@ FitsRow (onode c o size) = IsCollName c × IsName o × (size < 2 ^ 64)
 FitsRow (shard c o page extents) = FitsShard c o page extents
 FitsRow (bitmap r bits) = FitsBitmap r bits
 
+-- what a row is of
+abbrev pub row_thing : Row → Thing
+row_thing (collection c) = a_collection c
+row_thing (onode c o size) = an_onode c o
+row_thing (shard c o page extents) = a_shard c o page
+row_thing (bitmap r bits) = a_bitmap_row r
+
 -- two rows say something of the same thing
 abbrev pub IsOfSameThing : Row → Row → Type 0
-IsOfSameThing (collection c) (collection d) = c ≡ d
-IsOfSameThing (onode c o size) (onode d u other) = (c ≡ d) × (o ≡ u)
-IsOfSameThing (shard c o page es) (shard d u other fs) = (c ≡ d) × (o ≡ u) × (page ≡ other)
-IsOfSameThing (bitmap r bits) (bitmap q others) = r ≡ q
-IsOfSameThing _ _ = ⊥
+IsOfSameThing a b = row_thing a ≡ row_thing b
+
+-- the row of a thing that a value says, where rows of its kind are there
+abbrev pub row_of : Thing → List ℕ → Option Row
+row_of (a_collection c) value = Some (collection c)
+row_of (an_onode c o) value = Some (onode c o (from_le_bytes w64 value))
+row_of (a_shard c o page) value = Some (shard c o page (extents_read value))
+row_of (a_bitmap_row r) value = Some (bitmap r value)
+row_of _ value = None

@@ -6,4 +6,7 @@
 
 mod laws;
 
-pub use laws::{different_things_have_different_keys, one_row_for_a_spelling};
+pub use laws::{
+    different_things_have_different_keys, keys_of_numbers_are_read, keys_of_objects_are_read,
+    one_row_for_a_spelling,
+};

@@ -8,7 +8,7 @@ use Rattle.meta_rows.specs.Rows.{Rows}
 use Rattle.meta_log.specs.declared.slot.Super.{Super}
 use Rattle.row_format.specs.Extents.{Extent, page_end, Place, place_in, place_of, Ascend, BeginsAt}
 use Rattle.row_format.specs.Row.{Row, shard, row_key, row_value}
-use Rattle.row_format.proofs.ExtentLemmas.{extents-same}
+use Rattle.row_format.proofs.ExtentReading.{extents-same}
 use Rattle.row_format.proofs.RowLemmas.{same_row}
 use Rattle.store_image.specs.Pages.{HasRow, IsPageAt}
 use Rattle.store_image.specs.BadRows.{IsInPlace, NoBadRow}

@@ -7,7 +7,7 @@ use Rattle.std.proofs.lemmas.Bool.Decides.{nat_tests}
 use Rattle.std.proofs.lemmas.List.{length_push, get_or_append_left, get_or_at, map-append}
 use Rattle.row_format.specs.Extents.{Extent, Body, private, Place, own, place_in, page_count, page_end}
 use Rattle.blob_map.specs.Pages.{extent_pages}
-use Rattle.blob_map.specs.Normal.{alone, single, is_next, follows, longer, more, grown, extents_of}
+use Rattle.blob_map.specs.Normal.{single, is_next, follows, longer, more, grown, extents_of}
 
 same_number : (a b : ℕ) → (a == b) ≡ true → a ≡ b
 same_number a b is = grind (arith, nat_tests, is)
@@ -78,8 +78,8 @@ map_range_same f g a zero same = refl
 map_range_same f g a (suc n) same = ap (λ x. x ∷ map f (range_with_len (a + 1) n)) (same a (omega arith) (omega arith))
     ∙ ap (λ xs. g a ∷ xs) (map_range_same f g (a + 1) n (λ k le lt. same k (omega (arith, le)) (omega (arith, lt))))
 
-pages_more : (e : Extent) (p : ℕ × Place) → IsNext e p → extent_pages (more e p) ≡ extent_pages e ++ p ∷ []
-pages_more e p next =
+pub pages_more : (e : Extent) (p : ℕ × Place) → p.0 ≡ page_end e → IsNextPlace e.body p.1 → extent_pages (more e p) ≡ extent_pages e ++ p ∷ []
+pages_more e p page place =
     let count : ℕ = page_count e.body in
     let f : ℕ → ℕ × Place = λ k. (e.first + k, place_in (longer e.body p.1) k) in
     ap (λ n. map f (range_with_len 0 n)) (longer_by_one e.body p.1)
@@ -88,8 +88,8 @@ pages_more e p next =
     ∙ ap (λ xs. xs ++ f (0 + count) ∷ []) (map_range_same f (λ k. (e.first + k, place_in e.body k)) 0 count
     (λ k _ lt. ap (λ q. (e.first + k, q)) (place_kept e.body p.1 k (omega (arith, lt)))))
     ∙ ap (λ n. extent_pages e ++ (e.first + n, place_in (longer e.body p.1) n) ∷ []) (let none : 0 + count ≡ count = omega arith in none)
-    ∙ ap (λ q. extent_pages e ++ (e.first + count, q) ∷ []) (place_new e.body p.1 next.place)
-    ∙ ap (λ n. extent_pages e ++ (n, p.1) ∷ []) (sym next.page)
+    ∙ ap (λ q. extent_pages e ++ (e.first + count, q) ∷ []) (place_new e.body p.1 place)
+    ∙ ap (λ n. extent_pages e ++ (n, p.1) ∷ []) (sym page)
 
 single_pages : (page : ℕ) (place : Place) → extent_pages (single (page, place)) ≡ (page, place) ∷ []
 single_pages page (own at csum) =
@@ -105,7 +105,7 @@ grown_back [] e = refl
 grown_back (p ∷ ps) e = elim (cases_Bool (follows e p)) [
   | inl is ↦
       ap (λ t. flat_map extent_pages (cond t (grown (more e p) ps) (e ∷ grown (single p) ps))) is ∙ grown_back ps (more e p)
-      ∙ ap (λ xs. xs ++ ps) (pages_more e p (follows_means e p is)) ∙ append_assoc (extent_pages e) (p ∷ []) ps
+      ∙ ap (λ xs. xs ++ ps) (pages_more e p (follows_means e p is).page (follows_means e p is).place) ∙ append_assoc (extent_pages e) (p ∷ []) ps
   | inr is ↦
       ap (λ t. flat_map extent_pages (cond t (grown (more e p) ps) (e ∷ grown (single p) ps))) is
       ∙ ap (λ xs. extent_pages e ++ xs) (grown_back ps (single p) ∙ ap (λ xs. xs ++ ps) (pages_single p))

@@ -1,5 +1,5 @@
 -- Pages put in their places one after the other, and where each page stands then.
-use Rattle.std.proofs.Common.{◌≡◌, ◌≢◌, ◌⊎◌, inl, inr, ℕ, zero, suc, ◌+◌, ◌-◌, ◌<◌, ◌≤◌, List, ◌∷◌, length, get_or, map, Some, refl, sym, ap, ◌∙◌, arith}
+use Rattle.std.proofs.Common.{◌≡◌, ◌≢◌, ◌⊎◌, inl, inr, ℕ, zero, suc, ◌+◌, ◌-◌, ◌<◌, ◌≤◌, List, [], ◌∷◌, ◌++◌, length, get_or, map, Some, refl, sym, ap, ◌∙◌, arith}
 use Rattle.std.specs.List.{range_with_len}
 use Rattle.std.specs.FinMap as finite
 use Rattle.std.proofs.lemmas.Bool.{cases_lt}
@@ -8,14 +8,10 @@ use Rattle.number_map.proofs.Laws.{get_same, get_other}
 use Rattle.row_format.specs.Extents.{Extent, Place, place_in}
 use Rattle.blob_map.specs.Pages.{PageMap, laid}
 
-range_step : (k n : ℕ) → k < n → range_with_len k (n - k) ≡ k ∷ range_with_len (k + 1) (n - (k + 1))
-range_step k n lt = let e : n - k ≡ suc (n - (k + 1)) = omega (arith, lt) in ap (range_with_len k) e
-
--- one page is put, and fewer are left
-pub lay_step : (f : ℕ → ℕ × Place) (pages after target : PageMap) (k n : ℕ) → k < n → after ≡ finite.insert pages (f k).0 (f k).1
-    → laid pages (map f (range_with_len k (n - k))) ≡ target → laid after (map f (range_with_len (k + 1) (n - (k + 1)))) ≡ target
-lay_step f pages after target k n lt is so =
-    ap (λ w. laid w (map f (range_with_len (k + 1) (n - (k + 1))))) is ∙ ap (λ xs. laid pages (map f xs)) (sym (range_step k n lt)) ∙ so
+-- one list behind the other
+pub laid_append : (pages : PageMap) (ps qs : List (ℕ × Place)) → laid pages (ps ++ qs) ≡ laid (laid pages ps) qs
+laid_append pages [] qs = refl
+laid_append pages (p ∷ ps) qs = laid_append (finite.insert pages p.0 p.1) ps qs
 
 module _ (e : Extent) where
   abbrev pub page_at : ℕ → ℕ × Place

@@ -1,13 +1,14 @@
 -- The place of a page, by the extents one after the other.
-use Rattle.std.proofs.Common.{◌≡◌, ◌⊎◌, inl, inr, ℕ, zero, suc, ◌+◌, ◌-◌, ◌<◌, ◌≤◌, true, false, cond, List, [], ◌∷◌, ◌++◌, length, get_or, take, Some, sym, ap, ◌∙◌, arith}
+use Rattle.std.proofs.Common.{◌≡◌, ◌⊎◌, inl, inr, ℕ, ◌+◌, ◌-◌, ◌<◌, ◌≤◌, true, false, cond, List, [], ◌∷◌, Option, Some, None, refl, sym, ap, ◌∙◌, arith}
 use Rattle.std.specs.Prelude.{nat_le, nat_lt, ◌&&◌}
-use Rattle.std.specs.List.{AllByRecursion}
+use Rattle.std.specs.List.{flat_map, AllByRecursion}
+use Rattle.std.specs.Ordering.{nat_cmp}
 use Rattle.std.specs.FinMap as finite
 use Rattle.std.proofs.lemmas.Bool.{cases_lt}
 use Rattle.std.proofs.lemmas.Bool.Decides.{nat_tests}
-use Rattle.row_format.specs.Extents.{Extent, place_in, place_of, page_count, page_end, Ascend}
+use Rattle.row_format.specs.Extents.{Extent, Place, place_in, place_of, page_count, page_end, Ascend}
 use Rattle.blob_map.specs.Pages.{PageMap, laid, extent_pages}
-use Rattle.blob_map.proofs.Lay.{laid_outside, laid_inside}
+use Rattle.blob_map.proofs.Lay.{laid_append, laid_outside, laid_inside}
 
 inside_is : (from end page : ℕ) → from ≤ page → page < end → (nat_le from page && nat_lt page end) ≡ true
 inside_is from end page le lt = grind (arith, nat_tests)
@@ -33,39 +34,43 @@ module _ (e : Extent) (es : List Extent) (page : ℕ) where
   place_behind out = ap (λ b. cond b (Some (place_in e.body (page - e.first))) (place_of es page))
       (elim out [ inl lt ↦ low_is e.first (page_end e) page lt | inr le ↦ high_is e.first (page_end e) page le ])
 
-module _ (e : Extent) (page : ℕ) where
-  -- the last extent has the page, and those before end below it
-  last_has : (xs : List Extent) → AllByRecursion (λ x. page_end x ≤ e.first) xs → e.first ≤ page → page < page_end e
-      → place_of (xs ++ e ∷ []) page ≡ Some (place_in e.body (page - e.first))
-  last_has [] below le lt = place_here e [] page le lt
-  last_has (x ∷ xs) below le lt = place_behind x (xs ++ e ∷ []) page (inr (omega (arith, below.0, le))) ∙ last_has xs below.1 le lt
+-- no extent that begins behind a page has it
+none_behind : (es : List Extent) (page n : ℕ) → page < n → AllByRecursion (λ later. n ≤ later.first) es → place_of es page ≡ None
+none_behind [] page n lt all = refl
+none_behind (e ∷ es) page n lt all = place_behind e es page (inl (omega (arith, lt, all.0))) ∙ none_behind es page n lt all.1
 
-  -- the last extent hasn't the page
-  last_lacks : (xs : List Extent) → (page < e.first) ⊎ (page_end e ≤ page) → place_of (xs ++ e ∷ []) page ≡ place_of xs page
-  last_lacks [] out = place_behind e [] page out
-  last_lacks (x ∷ xs) out = ap (λ r. cond (nat_le x.first page && nat_lt page (page_end x)) (Some (place_in x.body (page - x.first))) r) (last_lacks xs out)
+-- a place, or else another
+unfoldable either : Option Place → Option Place → Option Place
+either None other = other
+either (Some place) other = Some place
 
--- the pages of an extent behind others, put into the map of the others
-pub extent_put : (xs : List Extent) (e : Extent) (pages : PageMap) → AllByRecursion (λ x. page_end x ≤ e.first) xs
-    → ((page : ℕ) → finite.get pages page ≡ place_of xs page)
-    → (page : ℕ) → finite.get (laid pages (extent_pages e)) page ≡ place_of (xs ++ e ∷ []) page
-extent_put xs e pages below same page = elim (page_cases e page) [
-  | inl has ↦
-      laid_inside e (page_count e.body) 0 pages page (omega (arith, has.0)) (omega (arith, has.1))
-      ∙ sym (last_has e page xs below has.0 has.1)
-  | inr out ↦
-      let bounds : (page < e.first + 0) ⊎ (e.first + 0 + page_count e.body ≤ page) =
-      elim out [ inl lt ↦ inl (omega (arith, lt)) | inr le ↦ inr (omega (arith, le)) ] in
-      laid_outside e (page_count e.body) 0 pages page bounds ∙ same page ∙ sym (last_lacks e page xs out)
-]
+-- the pages of extents that ascend, put into a map
+laid_over : (es : List Extent) (pages : PageMap) → Ascend es → (page : ℕ)
+    → finite.get (laid pages (flat_map extent_pages es)) page ≡ either (place_of es page) (finite.get pages page)
+unfolding either
+laid_over [] pages ascend page = refl
+laid_over (e ∷ es) pages ascend page =
+    let now : PageMap = laid pages (extent_pages e) in
+    ap (λ m. finite.get m page) (laid_append pages (extent_pages e) (flat_map extent_pages es))
+    ∙ laid_over es now ascend.1 page
+    ∙ elim (page_cases e page) [
+      | inl has ↦
+          ap (λ r. either r (finite.get now page)) (none_behind es page (page_end e) has.1 ascend.0)
+          ∙ laid_inside e (page_count e.body) 0 pages page (omega (arith, has.0)) (omega (arith, has.1))
+          ∙ ap (λ r. either r (finite.get pages page)) (sym (place_here e es page has.0 has.1))
+      | inr out ↦
+          let bounds : (page < e.first + 0) ⊎ (e.first + 0 + page_count e.body ≤ page) =
+          elim out [ inl lt ↦ inl (omega (arith, lt)) | inr le ↦ inr (omega (arith, le)) ] in
+          ap (λ r. either (place_of es page) r) (laid_outside e (page_count e.body) 0 pages page bounds)
+          ∙ ap (λ r. either r (finite.get pages page)) (sym (place_behind e es page out))
+    ]
 
--- the extents before one end where it begins, or before
-pub ends_before : (es : List Extent) (i : ℕ) (d : Extent) → Ascend es → i < length es → AllByRecursion (λ x. page_end x ≤ (get_or es i d).first) (take i es)
-ends_before [] i d ascend lt = absurd (omega (arith, lt))
-ends_before (e ∷ es) zero d ascend lt = tt
-ends_before (e ∷ es) (suc i) d ascend lt = (later es i ascend.0 (omega (arith, lt)), ends_before es i d ascend.1 (omega (arith, lt)))
-  where
-    later : (es : List Extent) (i : ℕ) → AllByRecursion (λ x. page_end e ≤ x.first) es → i < length es → page_end e ≤ (get_or es i d).first
-    later [] i all lt = absurd (omega (arith, lt))
-    later (x ∷ es) zero all lt = all.0
-    later (x ∷ es) (suc i) all lt = later es i all.1 (omega (arith, lt))
+or_none : (r : Option Place) → either r None ≡ r
+unfolding either
+or_none None = refl
+or_none (Some place) = refl
+
+-- into the empty one: each page stands where they say
+pub laid_alone : (es : List Extent) → Ascend es → (page : ℕ) → finite.get (laid finite.empty (flat_map extent_pages es)) page ≡ place_of es page
+laid_alone es ascend page =
+    laid_over es finite.empty ascend page ∙ ap (either (place_of es page)) (finite.get-empty nat_cmp page) ∙ or_none (place_of es page)

@@ -26,6 +26,10 @@ coded_place = code_by (ℕ × ℕ) (coded× coded_ℕ coded_ℕ) numbers_of (λ 
 abbrev pub first_unit : Body → ℕ
 first_unit (private unit csums) = unit
 
+-- the checksum that is kept of a place
+abbrev pub csum_of : Place → ℕ
+csum_of (own unit csum) = csum
+
 -- the pages of an extent, each with its place
 abbrev pub extent_pages : Extent → List (ℕ × Place)
 extent_pages e = map (λ i. (e.first + i, place_in e.body i)) (range_with_len 0 (page_count e.body))

@@ -1,7 +1,8 @@
 //! The page map of an object: where each of its pages stands, and the extents that say so in rows.
 //!
-//! In Ceph's BlueStore this is `ExtentMap` with its blobs. Here the map goes from page to place, and extents are made from it when rows
-//! are written: there is one list of extents for a map, so that nothing has to be kept in order meanwhile.
+//! In Ceph's BlueStore this is `ExtentMap` with its blobs. Here the map goes from page to place, and the extents are written from it into
+//! rows: there is one list of extents for a map, so that nothing has to be kept in order meanwhile. Rows are read straight into the map, and
+//! written straight from it, without the extents between.
 #![tactic(auto)]
 
 mod extents;
@@ -9,6 +10,8 @@ mod laws;
 mod page_map;
 mod place;
 mod put_pages;
+mod value_reading;
+mod value_writing;
 
 pub use laws::{bounds_of_extents, normal_form, one_map_for_extents};
 pub use page_map::PageMap;

@@ -1,17 +1,22 @@
 //! The page map of an object.
-ghost use Rattle.std.specs.Prelude.{◌≡◌, ◌<◌, ◌≤◌, ◌+◌, ◌^◌, ◌⊎◌, ℕ, Some, length, slice_index_or, not, OnOk, OnErr, IfOk};
+ghost use Rattle.std.specs.Prelude.{◌≡◌, ◌<◌, ◌≤◌, ◌+◌, ◌^◌, ◌⊎◌, ℕ, Some, length, slice_index_or, not, List, OnOk, OnErr, IfOk};
 ghost use Rattle.std.specs.Ordering.{nat_cmp};
-ghost use Rattle.std.specs.List.{AllByRecursion};
+ghost use Rattle.std.specs.List.{flat_map, AllByRecursion};
 ghost use Rattle.std.specs.FinMap as map;
 ghost use Rattle.std.specs.FinMap.Entries.{where_key};
 ghost use Rattle.number_map.specs.NumberMap.{is_in};
-ghost use Rattle.row_format.specs.Extents.{Place, place_of, Ascend, FitsExtent};
-ghost use Rattle.blob_map.specs.Pages.{HasNumbers};
+ghost use Rattle.row_format.specs.Extents.{Extent, Place, extent_bytes, FitsExtent};
+ghost use Rattle.onode_codec.specs.Reading.{SpellExtents};
+ghost use Rattle.blob_map.specs.Pages.{extent_pages, laid};
+ghost use Rattle.blob_map.specs.Values.{SpellPages};
 ghost use Rattle.blob_map.specs.Normal.{extents_of};
 
 use crate::extents::extents_of;
 use crate::place::Place;
-use crate::put_pages::{put_extent, put_places};
+use crate::put_pages::put_places;
+use crate::value_reading::put_value;
+use crate::value_writing::value_of;
+use byte_maps::Bytes;
 use number_map::NumberMap;
 use onode_codec::Extent;
 use std::alloc::{AllocError, Global};
@@ -47,17 +52,13 @@ impl PageMap {
         }
     }
 
-    /// The page map that these extents say. They ascend, as the extents of an object's shards do.
-    pub fn from_extents(alloc: Global, extents: &[Extent]) -> Result<PageMap, AllocError>
-        requires ascend { Ascend extents.now }
-        requires numbers { AllByRecursion HasNumbers extents.now }
-        ensures { IfOk result (λ pages. (page : ℕ) → map.get pages page ≡ place_of extents.now page) }
+    /// Puts the pages that the value of a shard's row spells in their places, wherever they stood. Where memory runs out, some of them are
+    /// put.
+    pub fn put_value(&mut self, value: &[u8]) -> Result<(), AllocError>
+        requires { SpellPages value.now }
+        ensures { OnOk result ((es : List Extent) → SpellExtents value.now es → self.new ≡ laid self.old (flat_map extent_pages es)) }
     {
-        let mut pages = NumberMap::new(alloc);
-        for extent in extents {
-            put_extent(&mut pages, extent)?;
-        }
-        Ok(PageMap { pages })
+        put_value(&mut self.pages, value)
     }
 
     /// Where a page stands. None: it is a hole.
@@ -127,5 +128,12 @@ impl PageMap {
         ensures fit { IfOk result (λ es. AllByRecursion FitsExtent es.items) }
     {
         extents_of(alloc, self.pages.entries())
+    }
+
+    /// The value of the row of a shard with all pages of the map: what its extents spell.
+    pub fn to_value(&self, alloc: Global) -> Result<Bytes, AllocError>
+        ensures { IfOk result (λ bytes. bytes ≡ flat_map extent_bytes (extents_of (map.entries self.now))) }
+    {
+        value_of(alloc, self.pages.entries())
     }
 }

@@ -1,11 +1,7 @@
 //! Page maps made by hand, and their extents.
-ghost use Rattle.std.specs.Prelude.{◌≡◌, IfOk};
-ghost use Rattle.row_format.specs.Extents.{private};
-
 use super::*;
-use byte_maps::Items;
 use onode_codec::{Body, Extent};
-use std::alloc::{AllocError, Global};
+use std::alloc::Global;
 use std::test::*;
 use unit_fields::UnitNo;
 
@@ -67,32 +63,37 @@ fn long_runs(rt: HostRuntime) -> Result<(), Fail> {
     Ok(())
 }
 
-fn extent(alloc: Global, first: u32, unit: u32, csums: &[u32]) -> Result<Extent, AllocError>
-    ensures { IfOk result (λ e. e ≡ record { first = first; body = private unit csums.now }) }
-{
-    let csums = Items::from_slice(alloc, csums)?;
-    let unit = UnitNo::new(unit);
-    let body = Body::Private { unit, csums };
-    Ok(Extent { first, body })
+// The value of a shard with pages 3 and 4 on units 40 and 41, and with page 7 on unit 60.
+const TWO_EXTENTS: &[u8] =
+    b"\x03\0\0\0\x02\0\0\x28\0\0\0\x14\0\0\0\x14\0\0\0\x07\0\0\0\x01\0\0\x3c\0\0\0\x1e\0\0\0";
+
+#[test]
+fn values_written(rt: HostRuntime) -> Result<(), Fail> {
+    let alloc = rt.alloc();
+    let map = map_of(alloc, &[(7, 60), (3, 40), (4, 41)])?;
+    assert_eq!(rt; map.to_value(alloc)?.as_slice(), TWO_EXTENTS);
+    assert_eq!(rt;
+        PageMap::new(alloc).to_value(alloc)?.as_slice(),
+        b"".as_slice()
+    );
+    Ok(())
 }
 
-// Pages 3 and 4 on units 40 and 41, and page 7 on unit 60.
-fn made_of_two(alloc: Global) -> Result<PageMap, AllocError> {
-    let low = extent(alloc, 3, 40, &[1, 2])?;
-    let high = extent(alloc, 7, 60, &[3])?;
-    PageMap::from_extents(alloc, &[low, high])
+// What the value of a shard says, put into a map that has page 4 on unit 70 and page 5 on unit 71.
+fn read_over(alloc: Global) -> Result<PageMap, Fail> {
+    let mut map = map_of(alloc, &[(4, 70), (5, 71)])?;
+    map.put_value(TWO_EXTENTS)?;
+    Ok(map)
 }
 
 #[test]
-fn there_and_back(rt: HostRuntime) -> Result<(), Fail> {
+fn values_read(rt: HostRuntime) -> Result<(), Fail> {
     let alloc = rt.alloc();
-    let map = made_of_two(alloc)?.copy(alloc)?;
-    let wanted = [(3, 2, 40), (7, 1, 60)];
+    let map = read_over(alloc)?.copy(alloc)?;
+    let wanted = [(3, 2, 40), (5, 1, 71), (7, 1, 60)];
     assert_eq!(rt; shapes(alloc, &map)?.as_slice(), wanted.as_slice());
-    let unit = UnitNo::new(41);
-    assert_eq!(rt; map.find(4), Some(Place { unit, csum: 2 }));
-    assert_eq!(rt; map.find(5), None);
-    assert_eq!(rt; map.pages().len(), 3);
+    assert_eq!(rt; (map.find(4), map.find(6)), (Some(place(41)), None));
+    assert_eq!(rt; map.pages().len(), 4);
     Ok(())
 }
 

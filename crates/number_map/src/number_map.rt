@@ -10,7 +10,8 @@ use std::marker::Model;
 
 /// A map from numbers below 2^32, seen as a finite map: pages to places, units to bytes, and the like.
 ///
-/// It is a list of entries in ascending order: a look-up bisects it, and an insert or a removal moves the entries behind.
+/// It is a list of entries in ascending order: a look-up bisects it, and an insert or a removal moves the entries behind. A key above all
+/// others is put behind them at once.
 #[derive(Debug, Drop)]
 pub struct NumberMap<V> {
     entries: Vec<(u32, V)>,
@@ -31,6 +32,21 @@ impl<V> Model for NumberMap<V> {
     ghost invariant = { λ a. T (map.is_sorted nat_cmp a.entries.items) };
 }
 
+// Keys that are below this one, as far as the last key tells: all of them, or none. The keys of a map that is made in order are each
+// behind all others.
+fn surely_below<V>(entries: &[(u32, V)], key: u32) -> usize
+    requires { T (map.is_sorted nat_cmp entries.now) }
+    ensures within { result ≤ length entries.now }
+    ensures front { IsFront key result entries.now }
+{
+    let count = entries.len();
+    if count > 0 && entries[count - 1].0 < key {
+        count
+    } else {
+        0
+    }
+}
+
 // How many keys are below this one.
 fn below<V>(entries: &[(u32, V)], key: u32) -> usize
     requires { T (map.is_sorted nat_cmp entries.now) }
@@ -38,7 +54,7 @@ fn below<V>(entries: &[(u32, V)], key: u32) -> usize
     ensures front { IsFront key result entries.now }
     ensures back { IsBack key result entries.now }
 {
-    let mut low = 0;
+    let mut low = surely_below(entries, key);
     let mut high = entries.len();
     while low < high {
         let mid = low + (high - low) / 2;

@@ -3,7 +3,7 @@ use Rattle.std.proofs.Common.{◌≡◌, ◌≢◌, ℕ, List, length, Option, S
 use Rattle.std.specs.Int.{w64, from_le_bytes}
 use Rattle.std.proofs.lemmas.Nat.{from_le_bytes-to_le_bytes_8}
 use Rattle.row_format.specs.Extents.{Extent}
-use Rattle.row_format.proofs.ExtentLemmas.{extents-same}
+use Rattle.row_format.proofs.ExtentReading.{extents-same}
 use Rattle.onode_codec.specs.declared.onode.Onode.{Onode}
 use Rattle.onode_codec.specs.Reading.{SpellsOnode, SpellExtents}
 

@@ -1,9 +1,9 @@
 //! An object's extents, and their one spelling.
-ghost use Rattle.std.specs.Prelude.{◌≡◌, ◌<◌, ◌*◌, ◌++◌, ℕ, List, length, IfOk, OnOk, MatchOption};
+ghost use Rattle.std.specs.Prelude.{◌≡◌, ◌<◌, ◌≤◌, ◌*◌, ◌++◌, ℕ, List, length, IfOk, OnOk, MatchOption};
 ghost use Rattle.std.specs.Int.{w32, to_le_bytes};
 ghost use Rattle.std.specs.List.{flat_map, AllByRecursion};
-ghost use Rattle.row_format.specs.Extents.{Extent, extent_bytes, FitsExtent};
-ghost use Rattle.onode_codec.specs.Reading.{BeginsWithNoExtent, ReadsHead, ReadsNumbers, ReadsExtent, SpellExtents};
+ghost use Rattle.row_format.specs.Extents.{Extent, private, extent_bytes, FitsExtent};
+ghost use Rattle.onode_codec.specs.Reading.{head_bytes, BeginsWithNoExtent, ReadsHead, ReadsNumbers, ReadsExtent, SpellExtents};
 
 use byte_maps::{Bytes, Items};
 use std::alloc::{AllocError, Global};
@@ -39,12 +39,42 @@ impl Model for Extent {
     ghost view = { λ a. record { first = a.first; body = body_of a.body } };
 }
 
-// The fields of an extent before its checksums.
-#[derive(Clone, Copy)]
-struct Head {
-    first: u32,
-    count: u16,
-    unit: u32,
+/// The fields of an extent on units of the object's own, in front of its checksums.
+#[derive(Clone, Copy, Debug, PartialEq, Eq)]
+pub struct Head {
+    /// The first page.
+    pub first: u32,
+    /// How many pages there are. As many checksums follow.
+    pub count: u16,
+    /// The unit of the first page.
+    pub unit: UnitNo,
+}
+
+impl Head {
+    /// The head at the front. None: no extent of 1 to 256 pages stands there, and some of the fields may be read.
+    pub fn read(fields: &mut Fields) -> Option<Head>
+        ensures { MatchOption result (BeginsWithNoExtent fields.old) (ReadsHead fields.old fields.new) }
+    {
+        let first = fields.u32()?;
+        let count = fields.u16()?;
+        let kind = fields.u8()?;
+        let unit = UnitNo::new(fields.u32()?);
+        if kind == PRIVATE && count > 0 && count <= EXTENT_PAGES {
+            Some(Head { first, count, unit })
+        } else {
+            None
+        }
+    }
+
+    /// Writes the head behind what is there.
+    pub fn push(&self, out: &mut Vec<u8>) -> Result<(), AllocError>
+        ensures { OnOk result (out.new.items ≡ out.old.items ++ head_bytes self.now) }
+    {
+        push_u32_le(out, self.first)?;
+        push_u16_le(out, self.count)?;
+        out.push(PRIVATE)?;
+        push_u32_le(out, self.unit.number())
+    }
 }
 
 fn push_numbers(out: &mut Vec<u8>, numbers: &[u32]) -> Result<(), AllocError>
@@ -56,16 +86,31 @@ fn push_numbers(out: &mut Vec<u8>, numbers: &[u32]) -> Result<(), AllocError>
     Ok(())
 }
 
+// Writes an extent on units of the object's own.
+fn push_private(
+    out: &mut Vec<u8>,
+    first: u32,
+    unit: UnitNo,
+    csums: &[u32],
+) -> Result<(), AllocError>
+    requires { length csums.now ≤ 256 }
+    ensures { OnOk result (out.new.items ≡ out.old.items ++ extent_bytes (record { first = first; body = private unit csums.now })) }
+{
+    let head = Head {
+        first,
+        count: csums.len() as u16,
+        unit,
+    };
+    head.push(out)?;
+    push_numbers(out, csums)
+}
+
 fn push_extent(out: &mut Vec<u8>, extent: &Extent) -> Result<(), AllocError>
     requires { FitsExtent extent.now }
     ensures { OnOk result (out.new.items ≡ out.old.items ++ extent_bytes extent.now) }
 {
     let Body::Private { unit, csums } = &extent.body;
-    push_u32_le(out, extent.first)?;
-    push_u16_le(out, csums.len() as u16)?;
-    out.push(PRIVATE)?;
-    push_u32_le(out, unit.number())?;
-    push_numbers(out, csums.as_slice())
+    push_private(out, extent.first, *unit, csums.as_slice())
 }
 
 /// The value of a shard's row: its extents, one behind the other. Each has 1 to 256 pages.
@@ -78,20 +123,6 @@ pub fn encode_extents(alloc: Global, extents: &[Extent]) -> Result<Bytes, AllocE
         push_extent(&mut out, extent)?;
     }
     Ok(Bytes::from_vec(out))
-}
-
-fn read_head(fields: &mut Fields) -> Option<Head>
-    ensures { MatchOption result (BeginsWithNoExtent fields.old) (ReadsHead fields.old fields.new) }
-{
-    let first = fields.u32()?;
-    let count = fields.u16()?;
-    let kind = fields.u8()?;
-    let unit = fields.u32()?;
-    if kind == PRIVATE && count > 0 && count <= EXTENT_PAGES {
-        Some(Head { first, count, unit })
-    } else {
-        None
-    }
 }
 
 fn read_numbers(
@@ -114,18 +145,19 @@ fn read_numbers(
 fn read_extent(alloc: Global, fields: &mut Fields) -> Result<Option<Extent>, AllocError>
     ensures { IfOk result (λ found. MatchOption found (BeginsWithNoExtent fields.old) (ReadsExtent fields.old fields.new)) }
 {
-    let Some(head) = read_head(fields) else {
+    let Some(head) = Head::read(fields) else {
         return Ok(None);
     };
     let Some(csums) = read_numbers(alloc, fields, head.count)? else {
         return Ok(None);
     };
-    let unit = UnitNo::new(head.unit);
+    let Head {
+        first,
+        count: _,
+        unit,
+    } = head;
     let body = Body::Private { unit, csums };
-    Ok(Some(Extent {
-        first: head.first,
-        body,
-    }))
+    Ok(Some(Extent { first, body }))
 }
 
 /// The extents that a shard's value spells. None: it is no spelling of any extents of 1 to 256 pages each. Whether the extents

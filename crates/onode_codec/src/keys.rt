@@ -66,10 +66,12 @@ fn of_object(
     ensures key { IfOk result (λ key. key ≡ of_object kind coll.now object.now rest.now) }
     ensures size { IfOk result IsKey }
 {
-    let mut key = Vec::new(alloc);
+    let coll = coll.as_slice();
+    let object = object.as_slice();
+    let mut key = Vec::with_capacity(alloc, coll.len() + object.len() + rest.len() + 3)?;
     key.push(kind)?;
-    push_name(&mut key, coll.as_slice())?;
-    push_name(&mut key, object.as_slice())?;
+    push_name(&mut key, coll)?;
+    push_name(&mut key, object)?;
     key.extend_from_slice(rest)?;
     Ok(Bytes::from_vec(key))
 }
@@ -90,9 +92,10 @@ pub fn coll_key(alloc: Global, coll: &CollName) -> Result<Bytes, AllocError>
     ensures key { IfOk result (λ key. key ≡ coll_key coll.now) }
     ensures size { IfOk result IsKey }
 {
-    let mut key = Vec::new(alloc);
+    let coll = coll.as_slice();
+    let mut key = Vec::with_capacity(alloc, coll.len() + 1)?;
     key.push(COLLECTION)?;
-    key.extend_from_slice(coll.as_slice())?;
+    key.extend_from_slice(coll)?;
     Ok(Bytes::from_vec(key))
 }
 
@@ -126,10 +129,8 @@ pub fn shard_key(
     ensures key { IfOk result (λ key. key ≡ shard_key coll.now object.now page) }
     ensures size { IfOk result IsKey }
 {
-    let mut rest = Vec::new(alloc);
-    rest.push(b'o')?;
-    push_u32_be(&mut rest, page)?;
-    rest.push(b'x')?;
+    let mut rest = [b'o', 0, 0, 0, 0, b'x'];
+    rest[1..5].copy_from_slice(&page.to_be_bytes());
     of_object(alloc, OBJECT, coll, object, &rest)
 }
 

@@ -1,10 +1,16 @@
 -- Shards read one after the other.
 use Rattle.std.proofs.Common.{◌≡◌, ℕ, zero, suc, ◌+◌, ◌<◌, ◌≤◌, List, [], ◌∷◌, ◌++◌, length, get_or, map, take, refl, sym, ap, subst, ◌∙◌, append_assoc, append-nil, arith}
-use Rattle.std.specs.List.{AllByRecursion}
+use Rattle.std.specs.List.{flat_map, AllByRecursion}
+use Rattle.std.specs.FinMap as finite
 use Rattle.std.proofs.lemmas.List.{take_more, take_all}
-use Rattle.row_format.specs.Extents.{Extent, BeginsAt}
-use Rattle.onode_codec.specs.Reading.{SpellExtents}
+use Rattle.std.proofs.lemmas.List.Concat.{flat_map-cons, flat_map-append}
+use Rattle.row_format.specs.Extents.{Extent, Body, private, extent_bytes, FitsExtent, BeginsAt}
+use Rattle.onode_codec.specs.declared.extent.Head.{Head}
+use Rattle.onode_codec.specs.Reading.{BeginsWithNoExtent, ReadsHead, SpellExtents}
 use Rattle.onode_codec.proofs.Again.{same_extents}
+use Rattle.onode_codec.proofs.ExtentReading.{head_front}
+use Rattle.blob_map.specs.Pages.{PageMap, HasNumbers, extent_pages, laid}
+use Rattle.blob_map.proofs.Lay.{laid_append}
 use Rattle.object_rows.specs.Maps.{extents_in, first_pages}
 use Rattle.object_rows.proofs.Ops.{all_append}
 use Rattle.onode_state.specs.Objects.{IsShardValue, AddsShard}
@@ -14,12 +20,17 @@ abbrev Entry : Type 0
 Entry = List ℕ × List ℕ
 
 -- the entries are these shards' rows
-pub record AreRead (c o : List ℕ) (entries : List (List ℕ × List ℕ)) (firsts : List ℕ) (extents : List Extent) : Type 0 where
+pub record AreRead (c o : List ℕ) (entries : List (List ℕ × List ℕ)) (firsts : List ℕ) (pages : PageMap) : Type 0 where
   pub shards : List (ℕ × List Extent)
   pub fit : AllByRecursion (FitsAsShard c o) shards
   pub entries_are : entries ≡ map (shard_entry c o) shards
   pub firsts_are : firsts ≡ first_pages shards
-  pub extents_are : extents ≡ extents_in shards
+  pub pages_are : pages ≡ laid finite.empty (flat_map extent_pages (extents_in shards))
+
+-- nothing is read yet
+pub none_read : (c o : List ℕ) (firsts : List ℕ) (pages : PageMap) → firsts ≡ [] → pages ≡ finite.empty → AreRead c o [] firsts pages
+none_read c o firsts pages firsts_are pages_are =
+    record { shards = []; fit = tt; entries_are = refl; firsts_are = firsts_are; pages_are = pages_are }
 
 -- the entry at a place is a shard's where all are
 pub entry_at : (c o : List ℕ) (es : List Entry) (i : ℕ) (e : Entry) → AllByRecursion (IsShardEntry c o) es → i < length es → e ≡ get_or es i e
@@ -28,14 +39,44 @@ entry_at c o [] i e all lt is = absurd (omega (arith, lt))
 entry_at c o (x ∷ es) zero e all lt is = subst (IsShardEntry c o) (sym is) all.0
 entry_at c o (x ∷ es) (suc i) e all lt is = entry_at c o es i e all.1 (omega (arith, lt)) is
 
--- its value is one of a shard
-pub value_of_entry : (c o value : List ℕ) (e : Entry) → IsShardEntry c o e → value ≡ e.1 → IsShardValue value
-value_of_entry c o value e entry is = record {
-  page = entry.page;
-  extents = entry.extents;
-  begins = entry.fits.begins;
-  spelled = record { fit = entry.fits.fit; spelled = is ∙ ap (λ (x : Entry). x.1) entry.is };
+-- the shards that entries are the rows of
+pub record AreEntriesOf (c o : List ℕ) (entries : List (List ℕ × List ℕ)) (shards : List (ℕ × List Extent)) : Type 0 where
+  pub fit : AllByRecursion (FitsAsShard c o) shards
+  pub entries_are : entries ≡ map (shard_entry c o) shards
+
+pub shards_by_entries : (c o : List ℕ) (es : List Entry) → AllByRecursion (IsShardEntry c o) es → (shards : List (ℕ × List Extent)) × AreEntriesOf c o es shards
+shards_by_entries c o [] all = ([], record { fit = tt; entries_are = refl })
+shards_by_entries c o (e ∷ es) all =
+    let others = shards_by_entries c o es all.1 in
+    let entry = all.0 in (
+      (entry.page, entry.extents) ∷ others.0,
+      record { fit = (entry.fits, others.1.fit); entries_are = λ i. entry.is i ∷ others.1.entries_are i },
+    )
+
+all_split : {X : Type 0} (P : X → Type 0) (xs ys : List X) → AllByRecursion P (xs ++ ys) → AllByRecursion P xs × AllByRecursion P ys
+all_split P [] ys all = (tt, all)
+all_split P (x ∷ xs) ys all = let others = all_split P xs ys all.1 in ((all.0, others.0), others.1)
+
+-- the value of one of the rows is a shard's
+value_among : (c o value : List ℕ) (shards : List (ℕ × List Extent)) (i : ℕ) (e : Entry) → AllByRecursion (FitsAsShard c o) shards
+    → AllByRecursion HasNumbers (extents_in shards) → i < length (map (shard_entry c o) shards) → e ≡ get_or (map (shard_entry c o) shards) i e
+    → value ≡ e.1 → IsShardValue value
+value_among c o value [] i e fit numbers lt is value_is = absurd (omega (arith, lt))
+value_among c o value (x ∷ xs) zero e fit numbers lt is value_is = record {
+  page = x.0;
+  extents = x.1;
+  begins = fit.0.begins;
+  spelled = record { fit = fit.0.fit; spelled = value_is ∙ ap (λ (y : Entry). y.1) is };
+  numbers = (all_split HasNumbers x.1 (extents_in xs) numbers).0;
 }
+value_among c o value (x ∷ xs) (suc i) e fit numbers lt is value_is =
+    value_among c o value xs i e fit.1 (all_split HasNumbers x.1 (extents_in xs) numbers).1 (omega (arith, lt)) is value_is
+
+pub value_at : (c o value : List ℕ) (es : List Entry) (shards : List (ℕ × List Extent)) (i : ℕ) (e : Entry) → AreEntriesOf c o es shards
+    → AllByRecursion HasNumbers (extents_in shards) → i < length es → e ≡ get_or es i e → value ≡ e.1 → IsShardValue value
+value_at c o value es shards i e are numbers lt is value_is =
+    value_among c o value shards i e are.fit numbers (subst (λ (l : List Entry). i < length l) are.entries_are lt)
+    (subst (λ (l : List Entry). e ≡ get_or l i e) are.entries_are is) value_is
 
 map_append : {X Y : Type 0} (f : X → Y) (xs ys : List X) → map f (xs ++ ys) ≡ map f xs ++ map f ys
 map_append f [] ys = refl
@@ -53,10 +94,10 @@ same_begin (e ∷ es) fs a b same p q = sym p ∙ begins (subst (BeginsAt b) (sy
     begins h = h
 
 -- one entry more is read
-pub read_more : (c o value : List ℕ) (es : List Entry) (i : ℕ) (e : Entry) (firsts firsts' : List ℕ) (extents extents' : List Extent)
+pub read_more : (c o value : List ℕ) (es : List Entry) (i : ℕ) (e : Entry) (firsts firsts' : List ℕ) (pages pages' : PageMap)
     → AllByRecursion (IsShardEntry c o) es → i < length es → e ≡ get_or es i e → value ≡ e.1
-    → AddsShard value firsts extents firsts' extents' → AreRead c o (take i es) firsts extents → AreRead c o (take (i + 1) es) firsts' extents'
-read_more c o value es i e firsts firsts' extents extents' all lt is value_is adds read =
+    → AddsShard value firsts pages firsts' pages' → AreRead c o (take i es) firsts pages → AreRead c o (take (i + 1) es) firsts' pages'
+read_more c o value es i e firsts firsts' pages pages' all lt is value_is adds read =
     let entry = entry_at c o es i e all lt is in
     let spelled : SpellExtents value entry.extents =
     record { fit = entry.fits.fit; spelled = value_is ∙ ap (λ (x : Entry). x.1) entry.is } in
@@ -71,11 +112,32 @@ read_more c o value es i e firsts firsts' extents extents' all lt is value_is ad
           ∙ sym (map_append (shard_entry c o) read.shards (x ∷ []));
       firsts_are = adds.firsts_are ∙ ap (λ l. l ++ adds.page ∷ []) read.firsts_are ∙ ap (λ (n : ℕ). first_pages read.shards ++ n ∷ []) page
           ∙ sym (map_append (λ (y : ℕ × List Extent). y.0) read.shards (x ∷ []));
-      extents_are = adds.extents_are ∙ ap (λ l. l ++ adds.own) read.extents_are ∙ ap (λ l. extents_in read.shards ++ l) own
-          ∙ sym (extents_behind read.shards x);
+      pages_are = adds.pages_are ∙ ap (λ m. laid m (flat_map extent_pages adds.own)) read.pages_are
+          ∙ ap (λ es. laid (laid finite.empty (flat_map extent_pages (extents_in read.shards))) (flat_map extent_pages es)) own
+          ∙ sym (laid_append finite.empty (flat_map extent_pages (extents_in read.shards)) (flat_map extent_pages x.1))
+          ∙ ap (laid finite.empty) (sym (flat_map-append extent_pages (extents_in read.shards) x.1))
+          ∙ ap (λ es. laid finite.empty (flat_map extent_pages es)) (sym (extents_behind read.shards x));
     }
 
 -- all are read
-pub all_read : (c o firsts : List ℕ) (es : List Entry) (i : ℕ) (extents : List Extent) → length es ≤ i → AreRead c o (take i es) firsts extents
-    → AreRead c o es firsts extents
-all_read c o firsts es i extents le read = subst (λ l. AreRead c o l firsts extents) (take_all i es le) read
+pub all_read : (c o firsts : List ℕ) (es : List Entry) (i : ℕ) (pages : PageMap) → length es ≤ i → AreRead c o (take i es) firsts pages
+    → AreRead c o es firsts pages
+all_read c o firsts es i pages le read = subst (λ l. AreRead c o l firsts pages) (take_all i es le) read
+
+-- the first page of a shard is that of the head in its value
+first_read : (value mid rest : List ℕ) (h : Head) (first : ℕ) (b : Body) → ReadsHead value mid h → FitsExtent (record { first = first; body = b })
+    → value ≡ extent_bytes (record { first = first; body = b }) ++ rest → first ≡ h.first
+first_read value mid rest h first (private unit csums) read fits is = sym (head_front value mid rest h first unit csums read fits is).first_is
+
+pub page_read : (value mid : List ℕ) (h : Head) → ReadsHead value mid h → (es : List Extent) → SpellExtents value es → BeginsAt h.first es
+page_read value mid h read [] spelled = absurd (omega (arith, ap length (sym read.spelled ∙ spelled.spelled)))
+page_read value mid h read (e ∷ es) spelled =
+    first_read value mid (flat_map extent_bytes es) h e.first e.body read spelled.fit.0 (spelled.spelled ∙ flat_map-cons extent_bytes e es)
+
+-- there is one
+pub head_there : (value : List ℕ) → IsShardValue value → BeginsWithNoExtent value → ⊥
+head_there value of_shard none = there of_shard.extents of_shard.begins of_shard.spelled
+  where
+    there : (es : List Extent) → BeginsAt of_shard.page es → SpellExtents value es → ⊥
+    there [] begins spelled = begins
+    there (e ∷ es) begins spelled = none e (flat_map extent_bytes es) spelled.fit.0 (spelled.spelled ∙ flat_map-cons extent_bytes e es)

@@ -6,7 +6,7 @@ use Rattle.meta_rows.specs.Rows.{Rows}
 use Rattle.unit_fields.specs.Names.{IsName, IsCollName}
 use Rattle.unit_fields.specs.UnitSet.{Ascends}
 use Rattle.row_format.specs.Keys.{onode_key, shard_key}
-use Rattle.row_format.specs.Extents.{Extent, Ascend, place_of}
+use Rattle.row_format.specs.Extents.{Extent, place_of}
 use Rattle.row_format.specs.Row.{Row, collection, onode, shard, bitmap, row_key, row_value}
 use Rattle.row_format.proofs.KeyLemmas.{same_onode, onode_no_shard, coll_no_object, bitmap_no_object}
 use Rattle.onode_codec.specs.Reading.{SpellsOnode}
@@ -14,6 +14,7 @@ use Rattle.onode_codec.proofs.Again.{same_onode as same_size}
 use Rattle.store_image.specs.Pages.{HasKey, HasRow}
 use Rattle.store_image.proofs.PageMap.{in_place}
 use Rattle.blob_map.specs.Pages.{PageMap, HasNumbers}
+use Rattle.blob_map.proofs.Places.{laid_alone}
 use Rattle.object_rows.specs.Operations.{AreShards, Climb}
 use Rattle.object_rows.specs.Maps.{AreShardsOf, extents_in, first_pages, IsMapOf}
 use Rattle.object_rows.specs.Writes.{IsSizeOf, missing, there}
@@ -63,7 +64,7 @@ module _ (rows : Rows) (c o : List ℕ) (coll : IsCollName c) (name : IsName o) 
         | Some value ↦ λ p t. let found = onode_under value p in (found.size, found.has)
       ] refl has
 
-  numbers_of : (shards : List (ℕ × List Extent)) → AreShardsOf rows c o shards → AllByRecursion HasNumbers (extents_in shards)
+  pub numbers_of : (shards : List (ℕ × List Extent)) → AreShardsOf rows c o shards → AllByRecursion HasNumbers (extents_in shards)
   numbers_of [] are = tt
   numbers_of (x ∷ xs) are =
       let size = onode_there (in_place store.sup rows (shard c o x.0 x.1) store.good are.there.0).has_onode in
@@ -78,16 +79,18 @@ module _ (rows : Rows) (c o : List ℕ) (coll : IsCollName c) (name : IsName o) 
   keys_there [] has = tt
   keys_there (x ∷ xs) has = (ap is_some has.0.stands, keys_there xs has.1)
 
-  module _ (firsts : List ℕ) (extents : List Extent) (has : HasShards rows c o firsts extents) where
-    pub extents_ascend : Ascend extents
-    extents_ascend = subst Ascend (sym has.extents_are) (by_shards_ascend store.sup rows c o store.good has.shards has.are)
+  module _ (firsts : List ℕ) (pages : PageMap) (has : HasShards rows c o firsts pages) where
+    map_is : IsMapOf rows c o pages
+    map_is page place =
+        let extents = extents_in has.shards in
+        let ascend = by_shards_ascend store.sup rows c o store.good has.shards has.are in
+        let said : finite.get pages page ≡ place_of extents page =
+        ap (λ m. finite.get m page) has.pages_are ∙ laid_alone extents ascend page in
+        let by = by_shards_pages store.sup rows c o store.good has.shards has.are page place in
+        (λ get. by.0 (sym said ∙ get), λ at. said ∙ by.1 at)
 
-    pub extents_number : AllByRecursion HasNumbers extents
-    extents_number = subst (AllByRecursion HasNumbers) (sym has.extents_are) (numbers_of has.shards has.are)
-
-    pub state_of : (size : ℕ) (pages : PageMap) → IsSizeOf rows c o size → ((page : ℕ) → finite.get pages page ≡ place_of extents page)
-        → IsStateOf rows c o size pages firsts
-    state_of size pages was is = record {
+    pub state_of : (size : ℕ) → IsSizeOf rows c o size → IsStateOf rows c o size pages firsts
+    state_of size was = record {
       was_long = was;
       are_pages = map_is;
       are_shards = subst (λ ps. AreShards rows c o ps) (sym has.firsts_are)
@@ -95,9 +98,3 @@ module _ (rows : Rows) (c o : List ℕ) (coll : IsCollName c) (name : IsName o) 
       there = subst (AllByRecursion (λ page. HasKey rows (shard_key c o page))) (sym has.firsts_are) (keys_there has.shards has.are.there);
       in_order = subst Ascends (sym has.firsts_are) (climbs (first_pages has.shards) (first_pages_climb has.shards has.are.rise));
     }
-      where
-        map_is : IsMapOf rows c o pages
-        map_is page place =
-            let said : finite.get pages page ≡ place_of (extents_in has.shards) page = is page ∙ ap (λ es. place_of es page) has.extents_are in
-            let by = by_shards_pages store.sup rows c o store.good has.shards has.are page place in
-            (λ get. by.0 (sym said ∙ get), λ at. said ∙ by.1 at)

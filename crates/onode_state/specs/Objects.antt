@@ -1,6 +1,7 @@
 -- An object as its rows have it, and its shards as they are read.
 use Rattle.std.specs.Prelude.{◌≡◌, ◌↔◌, ℕ, List, [], ◌∷◌, ◌++◌, Some}
-use Rattle.std.specs.List.{AllByRecursion}
+use Rattle.std.specs.List.{flat_map, AllByRecursion}
+use Rattle.std.specs.FinMap as finite
 use Rattle.meta_rows.specs.Rows.{Rows}
 use Rattle.meta_log.specs.declared.slot.Super.{Super}
 use Rattle.meta_log.specs.Slots.{IsSuper}
@@ -10,7 +11,7 @@ use Rattle.row_format.specs.Extents.{Extent, Place, BeginsAt}
 use Rattle.onode_codec.specs.Reading.{SpellExtents}
 use Rattle.store_image.specs.Pages.{HasKey, IsPageAt}
 use Rattle.store_image.specs.BadRows.{NoBadRow}
-use Rattle.blob_map.specs.Pages.{PageMap}
+use Rattle.blob_map.specs.Pages.{PageMap, HasNumbers, extent_pages, laid}
 use Rattle.page_lookup.specs.Found.{place_found}
 use Rattle.object_rows.specs.Operations.{AreShards}
 use Rattle.object_rows.specs.Maps.{AreShardsOf, extents_in, first_pages, IsMapOf}
@@ -28,22 +29,23 @@ pub record IsShardValue (value : List ℕ) : Type 0 where
   pub extents : List Extent
   pub begins : BeginsAt page extents
   pub spelled : SpellExtents value extents
+  pub numbers : AllByRecursion HasNumbers extents
 
--- one shard more, behind the others: the value of its row spells its extents, and its first page is theirs
-pub record AddsShard (value firsts : List ℕ) (extents : List Extent) (firsts' : List ℕ) (extents' : List Extent) : Type 0 where
+-- one shard more, behind the others: the value of its row spells its extents, its first page is theirs, and their pages are put in the map
+pub record AddsShard (value firsts : List ℕ) (pages : PageMap) (firsts' : List ℕ) (pages' : PageMap) : Type 0 where
   pub page : ℕ
   pub own : List Extent
   pub begins : BeginsAt page own
   pub spelled : SpellExtents value own
   pub firsts_are : firsts' ≡ firsts ++ page ∷ []
-  pub extents_are : extents' ≡ extents ++ own
+  pub pages_are : pages' ≡ laid pages (flat_map extent_pages own)
 
--- the object's shards have these first pages, and these extents in all
-pub record HasShards (rows : Rows) (c o : List ℕ) (firsts : List ℕ) (extents : List Extent) : Type 0 where
+-- the object's shards have these first pages, and their pages put in a map are these
+pub record HasShards (rows : Rows) (c o : List ℕ) (firsts : List ℕ) (pages : PageMap) : Type 0 where
   pub shards : List (ℕ × List Extent)
   pub are : AreShardsOf rows c o shards
   pub firsts_are : firsts ≡ first_pages shards
-  pub extents_are : extents ≡ extents_in shards
+  pub pages_are : pages ≡ laid finite.empty (flat_map extent_pages (extents_in shards))
 
 -- the object has so many bytes, its pages stand where the map says, and its shards begin at these pages
 pub record IsStateOf (rows : Rows) (c o : List ℕ) (size : ℕ) (pages : PageMap) (firsts : List ℕ) : Type 0 where

@@ -1,7 +1,7 @@
 //! What the rows say of an object: its size, where its pages stand, and which shards it has.
 ghost use Rattle.std.specs.Prelude.{◌≡◌, ℕ, Some, [], ◌∷◌, List, IfOk, OnOk};
 ghost use Rattle.meta_rows.specs.Table.{rows_from_to};
-ghost use Rattle.row_format.specs.Extents.{Extent};
+ghost use Rattle.row_format.specs.Extents.{Extent, BeginsAt};
 ghost use Rattle.row_format.specs.Keys.{of_object, shard_key};
 ghost use Rattle.onode_codec.specs.Reading.{SpellsOnode, SpellExtents};
 ghost use Rattle.object_rows.specs.Writes.{IsSizeOf};
@@ -13,10 +13,10 @@ use crate::names::{coll_name_is_one, name_is_one};
 use blob_map::PageMap;
 use byte_maps::Bytes;
 use meta_rows::{RowRange, RowTable};
-use onode_codec::{Extent, Onode, decode_extents, onode_key, shard_key, shards_end};
+use onode_codec::{Head, Onode, onode_key, shard_key, shards_end};
 use page_lookup::ShardPages;
 use std::alloc::{AllocError, Global};
-use unit_fields::{CollName, Name};
+use unit_fields::{CollName, Fields, Name};
 
 /// An object as its rows have it. A missing one has no bytes, pages or shards.
 #[derive(Drop)]
@@ -29,11 +29,11 @@ pub struct ObjectState {
     pub shards: Vec<u32>,
 }
 
-// An object's shards: the first page of each, and the extents of all of them, one shard's behind the other's.
+// An object's shards: the first page of each, and where the pages of all of them stand.
 #[derive(Drop)]
 struct Shards {
     firsts: Vec<u32>,
-    extents: Vec<Extent>,
+    pages: PageMap,
 }
 
 // The size that the value of an onode's row says.
@@ -97,25 +97,24 @@ pub fn object_pages<'a>(
     Ok(ShardPages::new(shard_rows(alloc, rows, coll, object)?))
 }
 
-// The extents that the value of a shard's row spells.
-fn extents_in(alloc: Global, value: &[u8]) -> Result<Vec<Extent>, AllocError>
-    requires { (es : List Extent) × SpellExtents value.now es }
-    ensures { IfOk result (λ extents. SpellExtents value.now extents.items) }
+// The first page of the extents that the value of a shard's row spells.
+fn first_page(value: &[u8]) -> u32
+    requires { IsShardValue value.now }
+    ensures { (es : List Extent) → SpellExtents value.now es → BeginsAt result es }
 {
-    match decode_extents(alloc, value)? {
-        Some(extents) => Ok(extents),
+    match Head::read(&mut Fields::new(value)) {
+        Some(head) => head.first,
         None => unreachable!(),
     }
 }
 
 // One shard more, behind the others.
-fn add_shard(alloc: Global, shards: &mut Shards, value: &[u8]) -> Result<(), AllocError>
+fn add_shard(shards: &mut Shards, value: &[u8]) -> Result<(), AllocError>
     requires { IsShardValue value.now }
-    ensures { OnOk result (AddsShard value.now shards.old.firsts.items shards.old.extents.items shards.new.firsts.items shards.new.extents.items) }
+    ensures { OnOk result (AddsShard value.now shards.old.firsts.items shards.old.pages shards.new.firsts.items shards.new.pages) }
 {
-    let mut extents = extents_in(alloc, value)?;
-    shards.firsts.push(extents[0].first)?;
-    shards.extents.append(&mut extents)
+    shards.firsts.push(first_page(value))?;
+    shards.pages.put_value(value)
 }
 
 fn shards_of(
@@ -125,21 +124,21 @@ fn shards_of(
     object: &Name,
 ) -> Result<Shards, AllocError>
     requires { AreRowsOfAStore rows.now.rows }
-    ensures { IfOk result (λ shards. HasShards rows.now.rows coll.now object.now shards.firsts.items shards.extents.items) }
+    ensures { IfOk result (λ shards. HasShards rows.now.rows coll.now object.now shards.firsts.items shards.pages) }
 {
     coll_name_is_one(coll);
     name_is_one(object);
     let mut shards = Shards {
         firsts: Vec::new(alloc),
-        extents: Vec::new(alloc),
+        pages: PageMap::new(alloc),
     };
     for (_, value) in shard_rows(alloc, rows, coll, object)? {
-        add_shard(alloc, &mut shards, value.as_slice())?;
+        add_shard(&mut shards, value.as_slice())?;
     }
     Ok(shards)
 }
 
-/// The object as the rows have it. One range of rows has its shards, and each is looked at once.
+/// The object as the rows have it. One range of rows has its shards, and each is read once, straight into the map.
 pub fn object_state(
     alloc: Global,
     rows: &RowTable,
@@ -152,8 +151,7 @@ pub fn object_state(
     coll_name_is_one(coll);
     name_is_one(object);
     let size = object_size(alloc, rows, coll, object)?;
-    let Shards { firsts, extents } = shards_of(alloc, rows, coll, object)?;
-    let pages = PageMap::from_extents(alloc, &extents)?;
+    let Shards { firsts, pages } = shards_of(alloc, rows, coll, object)?;
     Ok(ObjectState {
         size,
         pages,

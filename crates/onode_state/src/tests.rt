@@ -1,6 +1,7 @@
 //! Objects by rows that are spelled by hand.
-ghost use Rattle.std.specs.Prelude.{IfOk, IsTrue};
+ghost use Rattle.std.specs.Prelude.{ℕ, IfOk, IsTrue};
 ghost use Rattle.meta_log.specs.Slots.{IsSuper};
+ghost use Rattle.page_lookup.specs.Found.{HasUnit};
 ghost use Rattle.onode_state.specs.Objects.{AreRowsOfAStore};
 
 use super::*;
@@ -8,6 +9,7 @@ use blob_map::Place;
 use byte_maps::Bytes;
 use meta_log::Super;
 use meta_rows::{RowOp, RowTable};
+use page_lookup::ShardPages;
 use row_check::find_bad_row;
 use std::alloc::{AllocError, Global};
 use std::test::*;
@@ -118,6 +120,15 @@ fn no_shards(rt: HostRuntime) -> Result<(), Fail> {
     Ok(())
 }
 
+// Where two pages stand, looked up one behind the other.
+fn looked_up(pages: &ShardPages, first: u32, then: u32) -> (Option<Place>, Option<Place>)
+    requires { (page : ℕ) → HasUnit pages.now page }
+{
+    let mut ahead = pages.again();
+    let found = ahead.find(first);
+    (found, ahead.find(then))
+}
+
 #[test]
 fn pages_looked_up(rt: HostRuntime) -> Result<(), Fail> {
     let rows = rows(rt.alloc())?;
@@ -126,12 +137,15 @@ fn pages_looked_up(rt: HostRuntime) -> Result<(), Fail> {
     }
     let coll = CollName::new(rt.alloc(), 1, 0)?;
     let name = Name::read(rt.alloc(), b"a")?.ok_or("a name")?;
-    let mut pages = object_pages(rt.alloc(), &rows, &coll, &name)?;
-    let mut ahead = pages.again();
-    assert_eq!(rt; ahead.find(5), Some(place(20, 0x65656565)));
-    assert_eq!(rt; ahead.find(1), Some(place(19, 0x64646464)));
-    assert_eq!(rt; ahead.find(6), None);
-    assert_eq!(rt; pages.find(0), Some(place(18, 0x63636363)));
-    assert_eq!(rt; pages.find(2), None);
+    let pages = object_pages(rt.alloc(), &rows, &coll, &name)?;
+    let last = Some(place(20, 0x65656565));
+    let second = Some(place(19, 0x64646464));
+    assert_eq!(rt; looked_up(&pages, 5, 1), (last, second), "back");
+    assert_eq!(rt; looked_up(&pages, 1, 6), (second, None), "past the end");
+    assert_eq!(rt;
+        looked_up(&pages, 0, 2),
+        (Some(place(18, 0x63636363)), None),
+        "a hole"
+    );
     Ok(())
 }

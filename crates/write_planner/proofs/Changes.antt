@@ -1,10 +1,12 @@
 -- The operations on an object's shards, one part behind the other.
-use Rattle.std.proofs.Common.{◌≡◌, ℕ, List, [], ◌∷◌, ◌++◌, Some, None, Result, Ok, Err, OnOk, refl, sym, ap, ◌∙◌, append_assoc}
+use Rattle.std.proofs.Common.{◌≡◌, inl, inr, cond, ℕ, List, [], ◌∷◌, ◌++◌, Some, None, Result, Ok, Err, OnOk, refl, sym, ap, ◌∙◌, append_assoc}
 use Rattle.std.specs.Prelude.{filter, slice_get}
 use Rattle.meta_rows.specs.declared.row_op.RowOp.{RowOp}
-use Rattle.row_format.specs.Extents.{Extent}
+use Rattle.std.proofs.lemmas.Bool.{cases_Bool}
+use Rattle.row_format.specs.Extents.{Extent, Place}
 use Rattle.row_format.specs.Row.{shard}
 use Rattle.row_facts.specs.Operations.{set_row}
+use Rattle.blob_map.specs.Normal.{single, follows, more, grown, extents_of}
 use Rattle.object_rows.specs.Operations.{drops, shard_ops}
 use Rattle.write_planner.specs.declared.object_change.Part.TheVariants as part
 use Rattle.write_planner.specs.Parts.{is_of}
@@ -18,13 +20,27 @@ all_of : (ps : List ℕ) → filter (is_of part.All) ps ≡ ps
 all_of [] = refl
 all_of (p ∷ ps) = ap (λ l. p ∷ l) (all_of ps)
 
-pub none_first : (es : List Extent) → None ≡ slice_get es 0 → es ≡ []
+-- where there is no page there is no extent, and the first extent begins with the first page
+pub none_first : (ps : List (ℕ × Place)) → None ≡ slice_get ps 0 → extents_of ps ≡ []
 none_first [] is = refl
-none_first (e ∷ es) is = absurd cc
+none_first (p ∷ ps) is = absurd cc
 
-pub some_first : (es : List Extent) (e : Extent) → Some e ≡ slice_get es 0 → (rest : List Extent) × (es ≡ e ∷ rest)
-some_first [] e is = absurd cc
-some_first (x ∷ xs) e is = let same : x ≡ e = cc in (xs, λ i. same i ∷ xs)
+grown_first : (ps : List (ℕ × Place)) (e : Extent) → (x : Extent) × (rest : List Extent) × (x.first ≡ e.first) × (grown e ps ≡ x ∷ rest)
+grown_first [] e = (e, [], refl, refl)
+grown_first (p ∷ ps) e = elim (cases_Bool (follows e p)) [
+  | inl is ↦
+      let found = grown_first ps (more e p) in
+      (found.0, found.1, found.2, ap (λ t. cond t (grown (more e p) ps) (e ∷ grown (single p) ps)) is ∙ found.3)
+  | inr is ↦ (e, grown (single p) ps, refl, ap (λ t. cond t (grown (more e p) ps) (e ∷ grown (single p) ps)) is)
+]
+
+pub some_first : (ps : List (ℕ × Place)) (p : ℕ × Place) → Some p ≡ slice_get ps 0
+    → (e : Extent) × (rest : List Extent) × (e.first ≡ p.0) × (extents_of ps ≡ e ∷ rest)
+some_first [] p is = absurd cc
+some_first (q ∷ ps) p is =
+    let same : q ≡ p = cc in
+    let found = grown_first ps (single q) in
+    (found.0, found.1, found.2 ∙ ap (λ (x : ℕ × Place). x.0) same, found.3)
 
 module _ (c o : List ℕ) (extents : List Extent) (present : List ℕ) (ops : List RowOp) where
   -- without extents all shards go

@@ -3,7 +3,6 @@ use Rattle.std.proofs.Common.{◌≡◌, ℕ, ◌+◌, ◌*◌, List, ◌++◌, 
 use Rattle.std.specs.FinMap as finite
 use Rattle.meta_rows.specs.Rows.{Rows}
 use Rattle.meta_rows.specs.declared.row_op.RowOp.{RowOp}
-use Rattle.row_format.specs.Extents.{Extent}
 use Rattle.blob_map.specs.Pages.{PageMap, laid}
 use Rattle.blob_map.specs.Normal.{extents_of}
 use Rattle.object_rows.specs.Operations.{object_ops}
@@ -11,12 +10,12 @@ use Rattle.object_rows.specs.Plans.{new_pages, units_between, TurnsBits, WritesP
 use Rattle.onode_state.specs.Objects.{IsStateOf}
 
 pub writes_pages : (rows : Rows) (c o : List ℕ) (first : ℕ) (bytes units firsts : List ℕ) (size most : ℕ) (pages after : PageMap)
-    (extents : List Extent) (ops flips all : List RowOp) (released : List ℕ) → IsStateOf rows c o size pages firsts
-    → after ≡ laid pages (new_pages first 0 units bytes) → extents ≡ extents_of (finite.entries after)
-    → most ≡ max size (4096 * (first + length units)) → ops ≡ object_ops rows c o most extents firsts
+    (ops flips all : List RowOp) (released : List ℕ) → IsStateOf rows c o size pages firsts
+    → after ≡ laid pages (new_pages first 0 units bytes)
+    → most ≡ max size (4096 * (first + length units)) → ops ≡ object_ops rows c o most (extents_of (finite.entries after)) firsts
     → released ≡ units_between pages first (length units) → TurnsBits units released flips → all ≡ ops ++ flips
     → WritesPages rows c o first bytes units all released
-writes_pages rows c o first bytes units firsts size most pages after extents ops flips all released state after_is extents_is most_is ops_is
+writes_pages rows c o first bytes units firsts size most pages after ops flips all released state after_is most_is ops_is
     gone_is turns all_is = record {
       pages = pages;
       are_pages = state.are_pages;
@@ -29,8 +28,7 @@ writes_pages rows c o first bytes units firsts size most pages after extents ops
       flips = flips;
       turns = turns;
       ops_are = all_is
-          ∙ ap (λ l. l ++ flips) (ops_is ∙ ap (λ n. object_ops rows c o n extents firsts) most_is
-          ∙ ap (λ es. object_ops rows c o (max size (4096 * (first + length units))) es firsts)
-          (extents_is ∙ ap (λ m. extents_of (finite.entries m)) after_is));
+          ∙ ap (λ l. l ++ flips) (ops_is ∙ ap (λ n. object_ops rows c o n (extents_of (finite.entries after)) firsts) most_is
+          ∙ ap (λ m. object_ops rows c o (max size (4096 * (first + length units))) (extents_of (finite.entries m)) firsts) after_is);
       released_are = gone_is;
     }

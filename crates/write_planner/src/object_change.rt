@@ -1,20 +1,20 @@
-//! The row operations that replace an object's onode and extents.
+//! The row operations that replace an object's onode and its shards.
 ghost use Rattle.std.specs.Prelude.{◌≡◌, ◌++◌, false, filter, IfOk, OnOk};
-ghost use Rattle.std.specs.List.{AllByRecursion};
 ghost use Rattle.std.specs.Option.{option_map_or};
 ghost use Rattle.std.specs.FinMap as finite;
 ghost use Rattle.meta_rows.specs.declared.row_op.RowOp.TheVariants.{Drop};
 ghost use Rattle.object_model.specs.Effect.{is_same};
-ghost use Rattle.row_format.specs.Extents.{FitsExtent};
 ghost use Rattle.row_format.specs.Keys.{shard_key};
 ghost use Rattle.row_format.specs.Row.{shard};
 ghost use Rattle.row_facts.specs.Operations.{set_row};
+ghost use Rattle.blob_map.specs.Normal.{extents_of};
 ghost use Rattle.object_rows.specs.Operations.{drops, onode_ops, shard_ops, object_ops};
 ghost use Rattle.write_planner.specs.Parts.{is_of};
 
+use blob_map::PageMap;
 use byte_maps::{Bytes, Items};
 use meta_rows::{RowOp, RowTable};
-use onode_codec::{Extent, Onode, encode_extents, onode_key, shard_key};
+use onode_codec::{Onode, onode_key, shard_key};
 use std::alloc::{AllocError, Global};
 use std::cmp::Ordering;
 use unit_fields::{CollName, Name};
@@ -107,51 +107,48 @@ fn shard_set(
     coll: &CollName,
     object: &Name,
     first: u32,
-    extents: &[Extent],
+    pages: &PageMap,
 ) -> Result<RowOp, AllocError>
-    requires { AllByRecursion FitsExtent extents.now }
-    ensures { IfOk result (λ op. op ≡ set_row (shard coll.now object.now first extents.now)) }
+    ensures { IfOk result (λ op. op ≡ set_row (shard coll.now object.now first (extents_of (finite.entries pages.now)))) }
 {
     let key = shard_key(alloc, coll, object, first)?;
-    let value = encode_extents(alloc, extents)?;
+    let value = pages.to_value(alloc)?;
     Ok(RowOp::Set { key, value })
 }
 
-// The one shard with these extents takes the place of the present ones, where it would stand among them. Without extents there is none.
+// The one shard with these pages takes the place of the present ones, where it would stand among them. Without pages there is none.
 fn replace_shards(
     alloc: Global,
     ops: &mut Items<RowOp>,
     coll: &CollName,
     object: &Name,
-    extents: &[Extent],
+    pages: &PageMap,
     present: &[u32],
 ) -> Result<(), AllocError>
-    requires { AllByRecursion FitsExtent extents.now }
-    ensures { OnOk result (ops.new ≡ ops.old ++ shard_ops coll.now object.now extents.now present.now) }
+    ensures { OnOk result (ops.new ≡ ops.old ++ shard_ops coll.now object.now (extents_of (finite.entries pages.now)) present.now) }
 {
-    let Some(lowest) = extents.first() else {
+    let Some(lowest) = pages.pages().first() else {
         return drop_shards(alloc, ops, coll, object, present, Part::All);
     };
-    let first = lowest.first;
+    let first = lowest.0;
     drop_shards(alloc, ops, coll, object, present, Part::Below(first))?;
-    ops.push(shard_set(alloc, coll, object, first, extents)?)?;
+    ops.push(shard_set(alloc, coll, object, first, pages)?)?;
     drop_shards(alloc, ops, coll, object, present, Part::Above(first))
 }
 
-/// What gives an object this size and these extents in the place of what the rows have of it. `present` are the first pages of its shards.
+/// What gives an object this size and these pages in the place of what the rows have of it. `present` are the first pages of its shards.
 pub fn object_ops(
     alloc: Global,
     rows: &RowTable,
     coll: &CollName,
     object: &Name,
     size: u64,
-    extents: &[Extent],
+    pages: &PageMap,
     present: &[u32],
 ) -> Result<Items<RowOp>, AllocError>
-    requires { AllByRecursion FitsExtent extents.now }
-    ensures { IfOk result (λ ops. ops ≡ object_ops rows.now.rows coll.now object.now size extents.now present.now) }
+    ensures { IfOk result (λ ops. ops ≡ object_ops rows.now.rows coll.now object.now size (extents_of (finite.entries pages.now)) present.now) }
 {
     let mut ops = onode_ops(alloc, rows, coll, object, size)?;
-    replace_shards(alloc, &mut ops, coll, object, extents, present)?;
+    replace_shards(alloc, &mut ops, coll, object, pages, present)?;
     Ok(ops)
 }

@@ -224,9 +224,8 @@ fn pages_on(
     let count = units.len() as u32;
     let released = units_between(alloc, pages.pages(), first, first + count)?;
     lay_pages(&mut pages, first, units, bytes)?;
-    let extents = pages.extents(alloc)?;
     let end = UNIT_BYTES as u64 * (u64::from(first) + u64::from(count));
-    let ops = object_ops(alloc, rows, coll, object, size.max(end), &extents, &shards)?;
+    let ops = object_ops(alloc, rows, coll, object, size.max(end), &pages, &shards)?;
     let mut flips = turned_bits(alloc, units, released.as_slice())?;
     let mut all = ops.into_vec();
     all.append(&mut flips)?;

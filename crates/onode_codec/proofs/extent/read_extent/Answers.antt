@@ -4,5 +4,5 @@ use Rattle.onode_codec.proofs.extent.read_extent.Goals as goal
 
 pub returns-in_default-2 : goal.returns-in_default-2
 returns-in_default-2 c =
-    let few : length c.read_head.new.fields < 4 * c.in-Some.head.count = search rules in
-    csums_missing c.args.fields.now c.read_head.new.fields c.in-Some.head c.in-Some.ensures few
+    let few : length c.read.new.fields < 4 * c.in-Some.head.count = search rules in
+    csums_missing c.args.fields.now c.read.new.fields c.in-Some.head c.in-Some.ensures few

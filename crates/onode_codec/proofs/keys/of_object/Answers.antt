@@ -7,4 +7,4 @@ use Rattle.onode_codec.proofs.keys.of_object.Goals as goal
 pub returns-clause-size : goal.returns-clause-size
 returns-clause-size c =
     let is : c.from_vec.result ≡ of_object c.args.kind c.args.coll.now c.args.object.now c.args.rest.now = grind (arith, common_steps) in
-    rw is (of_object-size c.args.kind c.args.coll.now c.args.object.now c.args.rest.now c.as_slice.ensures.name c.as_slice-2.ensures.name c.requires)
+    rw is (of_object-size c.args.kind c.args.coll.now c.args.object.now c.args.rest.now c.as_slice-coll.ensures.name c.as_slice-object.ensures.name c.requires)

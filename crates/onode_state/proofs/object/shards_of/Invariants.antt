@@ -11,5 +11,5 @@ invariant-loop-value l = record {
   at : ℕ;
   left : l.value-iterator ≡ drop at (rows_from_to l.fn.rows.rows (shard_key l.fn.coll l.fn.object 0) (Some (of_object 0x4f l.fn.coll l.fn.object (0x70 ∷ []))));
   read : AreRead l.fn.coll l.fn.object (take at (rows_from_to l.fn.rows.rows (shard_key l.fn.coll l.fn.object 0) (Some (of_object 0x4f l.fn.coll l.fn.object (0x70 ∷ []))))) l.shards.firsts.items
-      l.shards.extents.items;
+      l.shards.pages;
 }

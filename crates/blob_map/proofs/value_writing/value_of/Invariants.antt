@@ -1,0 +1,11 @@
+use Rattle.std.proofs.Common.{◌≡◌, ◌++◌, length}
+use Rattle.std.specs.List.{flat_map}
+use Rattle.row_format.specs.Extents.{extent_bytes}
+use Rattle.blob_map.specs.Normal.{extents_of}
+use Rattle.blob_map.proofs.value_writing.value_of.Given as goal
+
+abbrev pub invariant-runs : goal.invariant-runs
+invariant-runs l = l.out.items ++ flat_map extent_bytes (extents_of l.left) ≡ flat_map extent_bytes (extents_of l.pages)
+
+abbrev pub decreases-runs : goal.decreases-runs
+decreases-runs l = length l.left

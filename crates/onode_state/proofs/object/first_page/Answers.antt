@@ -1,0 +1,12 @@
+use Rattle.std.proofs.Common.{subst}
+use Rattle.onode_codec.specs.Reading.{BeginsWithNoExtent, ReadsHead}
+use Rattle.onode_state.proofs.ReadShards.{page_read, head_there}
+use Rattle.onode_state.proofs.object.first_page.Goals as goal
+
+pub unreachable-requires : goal.unreachable-requires
+unreachable-requires c = head_there c.args.value.now c.requires (subst BeginsWithNoExtent c.new.ensures c.in-None.ensures)
+
+pub returns : goal.returns
+returns c es spelled =
+    page_read c.args.value.now c.read.new.fields c.in-Some.head (subst (λ l. ReadsHead l c.read.new.fields c.in-Some.head) c.new.ensures c.in-Some.ensures)
+    es spelled

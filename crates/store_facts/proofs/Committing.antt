@@ -18,7 +18,7 @@ use Rattle.store_steps.specs.Changes.{down_by, landed, after_good, flying_of, ta
 use Rattle.store_steps.specs.Ready.{applied_count, is_ready_up, is_empty}
 use Rattle.store_steps.specs.Steps.{Takes, DoesTake, DoesCommit, DoesFinish}
 use Rattle.store_facts.specs.Flights.{AreFlights}
-use Rattle.store_facts.specs.Work.{sum_work, batch_work, work_left}
+use Rattle.store_facts.specs.Work.{entry_work, sum_work, batch_work, work_left}
 use Rattle.store_facts.specs.Kept.{IsAlwaysKept}
 use Rattle.store_facts.proofs.Stages.{Stage, idle, waits, opens, synced, AreWritten, at, far_at}
 use Rattle.store_facts.proofs.Pieces.{units_needed}
@@ -72,7 +72,7 @@ take_waits s d s' x h' was is =
           acks = acks_push s.book.commits (commit_of x) s.acked a.book.acks (omega (arith, a.book.within)) refl;
           within = omega (arith, more, a.book.within);
         };
-        events = few (work_left u) (work_left t) s.events (2 ^ 61 + 4096 * length s.book.entries) falls a.events;
+        events = few (work_left u) (work_left t) s.events (2 ^ 61 + entry_work * length s.book.entries) falls a.events;
       };
       up = refl;
       far = far_at s.log.number (opens x false) h';
@@ -131,7 +131,7 @@ commit_synced s d s' x pieces was what =
           entries = a.numbers.entries;
         };
         book = record { acks = a.book.acks; within = omega (arith, a.book.within) };
-        events = few (work_left u) (work_left t) s.events (2 ^ 61 + 4096 * length s.book.entries) falls a.events;
+        events = few (work_left u) (work_left t) s.events (2 ^ 61 + entry_work * length s.book.entries) falls a.events;
       };
       up = refl;
       far = far_at (s.log.number + 1) idle tt;
@@ -203,7 +203,7 @@ finish_steps s d s' d' depth a standing ready does =
           acks = acks_more s.events s.book.commits s.acked a.book.acks;
           within = subst (λ (n : ℕ). s.acked + 1 ≤ n - batch) (sym same) (next s.acked (length s.book.commits - batch) below);
         };
-        events = few (work_left (finished s)) (work_left s) s.events (2 ^ 61 + 4096 * length s.book.entries) falls a.events;
+        events = few (work_left (finished s)) (work_left s) s.events (2 ^ 61 + entry_work * length s.book.entries) falls a.events;
       };
       up = refl;
       far = standing.far;
@@ -276,7 +276,7 @@ falls_with s d d' ticket ok down sound a ended some =
         flights = land.flights;
         numbers = record { number = a.numbers.number; commits = a.numbers.commits; entries = a.numbers.entries };
         book = record { acks = a.book.acks; within = a.book.within };
-        events = few (work_left u) (work_left s) s.events (2 ^ 61 + 4096 * length s.book.entries) falls a.events;
+        events = few (work_left u) (work_left s) s.events (2 ^ 61 + entry_work * length s.book.entries) falls a.events;
       };
       down = some;
       falls = falls;

@@ -21,7 +21,7 @@ use Rattle.store_steps.specs.Ready.{is_ready_up, is_ready_down, is_ready, applie
 use Rattle.store_facts.specs.Flights.{IsWaiting}
 use Rattle.store_facts.specs.Room.{FitsRecord, HasRoomFor}
 use Rattle.store_facts.specs.Space.{uncommitted}
-use Rattle.store_facts.specs.Work.{work_left}
+use Rattle.store_facts.specs.Work.{entry_work, work_left}
 use Rattle.store_facts.specs.Kept.{IsAlwaysKept}
 use Rattle.store_facts.proofs.Stages.{Stage, idle, opens, flushes, flushed, writes, synced, pending_of, batch_of, begun_of, flying_at, record_with, pieces_at, Holds, at, IsFar, by_stage}
 use Rattle.store_facts.proofs.Pieces.{batch_fits, units_needed, short_body}
@@ -339,7 +339,7 @@ finish_ready s d depth a ready =
 pub events_fit : (s : State) (d : Disk) → IsAlwaysKept s d → s.events + 1 < 2 ^ 64
 events_fit s d a = few s.events (work_left s) (length s.book.entries) a.events a.numbers.entries
   where
-    few : (e w entries : ℕ) → e + w ≤ 2 ^ 61 + 4096 * entries → entries ≤ 1048576 → e + 1 < 2 ^ 64
+    few : (e w entries : ℕ) → e + w ≤ 2 ^ 61 + entry_work * entries → entries ≤ 1048576 → e + 1 < 2 ^ 64
     few e w entries le most = omega arith
 
 -- ---- a drained kernel

@@ -28,7 +28,7 @@ use Rattle.store_steps.specs.Steps.{DoesData, Takes, DoesFlush, DoesSeal, DoesRe
 use Rattle.store_facts.specs.Flights.{AreFlights, IsWaiting, IsDataOf, units_of, flying_units, IsUnsentUnflown, IsRestUnflown, IsNextUnflown}
 use Rattle.store_facts.specs.Room.{FitsRecord, HasRoomFor}
 use Rattle.store_facts.specs.Space.{uncommitted}
-use Rattle.store_facts.specs.Work.{work_left}
+use Rattle.store_facts.specs.Work.{entry_work, work_left}
 use Rattle.store_facts.specs.Kept.{IsAlwaysKept}
 use Rattle.store_facts.proofs.Stages.{Stage, waits, opens, flushes, flushed, writes, syncs, synced, pending_of, batch_of, flying_at, one_flight, record_with, record_at, pieces_at, Holds, at, IsFar, far_at, by_stage}
 use Rattle.store_facts.proofs.Pieces.{pieces_needed, given_fits, done_fits, rest_unflown, all_given, none_given}
@@ -106,7 +106,7 @@ moved s d d' g g' e was h' like does less more =
           entries = a.numbers.entries;
         };
         book = record { acks = a.book.acks; within = subst (λ (n : ℕ). s.acked ≤ length s.book.commits - n) (sym like.in_batch) a.book.within };
-        events = few_events s.events e (work_left (at s g)) (work_left (at s g')) (2 ^ 61 + 4096 * length s.book.entries) a.events falls more;
+        events = few_events s.events e (work_left (at s g)) (work_left (at s g')) (2 ^ 61 + entry_work * length s.book.entries) a.events falls more;
       };
       up = refl;
       far = far_at s.log.number g' h';

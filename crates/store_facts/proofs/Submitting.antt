@@ -23,7 +23,7 @@ use Rattle.store_steps.specs.Opened.{Found, opened}
 use Rattle.store_facts.specs.Flights.{IsUnsentUnflown}
 use Rattle.store_facts.specs.Room.{FitsRecord, HasRoomFor}
 use Rattle.store_facts.specs.Space.{uncommitted}
-use Rattle.store_facts.specs.Work.{work_left}
+use Rattle.store_facts.specs.Work.{entry_work, work_left}
 use Rattle.store_facts.specs.Kept.{IsAlwaysKept, IsOpenable}
 use Rattle.store_facts.proofs.Stages.{Stage, idle, waits, Holds, at, IsFar, far_at, by_stage}
 use Rattle.store_facts.proofs.Readiness.{none_ready, ready_up, drained_idle}
@@ -36,7 +36,7 @@ use Rattle.store_facts.proofs.SpaceUnits.{space_taken}
 pub record Admitted (s s' : State) (d : Disk) : Type 0 where
   pub always : IsAlwaysKept s' d
   pub standing : IsStanding s' d
-  pub more : work_left s' ≤ work_left s + 4096
+  pub more : work_left s' ≤ work_left s + entry_work
 
 -- ---- a drained kernel
 
@@ -74,7 +74,7 @@ accepted_idle s d client line change plan record_fits few up fits below a room =
     let entries : length (s.book.entries ++ entry ∷ []) ≡ length s.book.entries + 1 = length-append s.book.entries (entry ∷ []) in
     let was : work_left t ≡ 0 + unacked s idle = work_at s idle tt tt in
     let is : work_left u ≡ stage_work (waits x []) + unacked s (waits x []) = work_at u (waits x []) h (record_fits, tt) in
-    let more : work_left u ≤ work_left t + 4096 =
+    let more : work_left u ≤ work_left t + entry_work =
     few_more (work_left u) (work_left t) (length plan.fresh) (need_of t.log plan) s.log.sup.half (s.log.tail + s.log.reserved)
     (unacked s idle) few fits
     a.limits.half_most is was in
@@ -111,16 +111,16 @@ accepted_idle s d client line change plan record_fits few up fits below a room =
     few_pieces need half taken fits most = omega (arith, fits, most)
 
     few_work : (w w' fresh pieces left : ℕ) → fresh ≤ 256 → pieces ≤ 1024 → w ≡ (0 + 2 * (fresh - 0) + 8 + 2 * pieces) + left → w' ≡ 0 + left
-        → w ≤ w' + 4096
+        → w ≤ w' + entry_work
     few_work w w' fresh pieces left few few_pieces is was = omega (arith, few, few_pieces, is, was)
 
     few_more : (w w' fresh need half taken left : ℕ) → fresh ≤ 256 → need ≤ half - taken → half ≤ 65536
-        → w ≡ (0 + 2 * (fresh - 0) + 8 + 2 * piece_count need) + left → w' ≡ 0 + left → w ≤ w' + 4096
+        → w ≡ (0 + 2 * (fresh - 0) + 8 + 2 * piece_count need) + left → w' ≡ 0 + left → w ≤ w' + entry_work
     few_more w w' fresh need half taken left few fits most is was =
         few_work w w' fresh (piece_count need) left few (few_pieces need half taken fits most) is was
 
-    few_events : (w w' e entries entries' : ℕ) → w ≤ w' + 4096 → entries' ≡ entries + 1 → e + w' ≤ 2 ^ 61 + 4096 * entries
-        → e + w ≤ 2 ^ 61 + 4096 * entries'
+    few_events : (w w' e entries entries' : ℕ) → w ≤ w' + entry_work → entries' ≡ entries + 1 → e + w' ≤ 2 ^ 61 + entry_work * entries
+        → e + w ≤ 2 ^ 61 + entry_work * entries'
     few_events w w' e entries entries' more one le = omega (arith, more, one, le)
 
     needed : (reserved need : ℕ) → reserved ≡ 0 → reserved + need ≡ need + 0
@@ -174,10 +174,10 @@ entered_keeps s d client line command a kept standing below =
       more = most (work_left s);
     }
   where
-    few_events : (w e entries entries' : ℕ) → entries' ≡ entries + 1 → e + w ≤ 2 ^ 61 + 4096 * entries → e + w ≤ 2 ^ 61 + 4096 * entries'
+    few_events : (w e entries entries' : ℕ) → entries' ≡ entries + 1 → e + w ≤ 2 ^ 61 + entry_work * entries → e + w ≤ 2 ^ 61 + entry_work * entries'
     few_events w e entries entries' one le = omega (arith, one, le)
 
-    most : (w : ℕ) → w ≤ w + 4096
+    most : (w : ℕ) → w ≤ w + entry_work
     most w = omega arith
 
 pub refuses_keeps : (s : State) (d : Disk) (client line : ℕ) (change : Change) (a : Answer) (s' : State) → IsAlwaysKept s d → IsStanding s d

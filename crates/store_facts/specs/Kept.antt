@@ -8,7 +8,7 @@ use Rattle.store_steps.specs.Opened.{Found}
 use Rattle.store_facts.specs.Flights.{AreFlights, IsOneAtATime, IsNextUnflown}
 use Rattle.store_facts.specs.Space.{uncommitted, rows_with, AreGoodRows, IsSpaceOf, IsFreeExactly, ReleasesExactly}
 use Rattle.store_facts.specs.Room.{HasRoomFor, AreNumbersLow, IsBookKept}
-use Rattle.store_facts.specs.Work.{work_left}
+use Rattle.store_facts.specs.Work.{entry_work, work_left}
 
 -- what it keeps always, also while it is down
 pub record IsAlwaysKept (s : State) (d : Disk) : Type 0 where
@@ -19,7 +19,7 @@ pub record IsAlwaysKept (s : State) (d : Disk) : Type 0 where
   pub flights : AreFlights s.flying d.flights
   pub numbers : AreNumbersLow s
   pub book : IsBookKept s
-  pub events : s.events + work_left s ≤ 2 ^ 61 + 4096 * length s.book.entries
+  pub events : s.events + work_left s ≤ 2 ^ 61 + entry_work * length s.book.entries
 
 -- what it keeps while it isn't
 pub record IsKeptUp (s : State) (d : Disk) : Type 0 where

@@ -36,3 +36,7 @@ work_left s = length s.flying + sum_work s.pending + option_map_or (batch_work s
 -- what a run of steps lowers: work, or the answers None that a device may still give in a row
 abbrev pub measure : State → ℕ → ℕ
 measure s waits = 65 * work_left s + (64 - waits)
+
+-- more than one entry of the book adds: a transaction has at most 256 operations, and none touches more than the 32768 pages of an object
+abbrev pub entry_work : ℕ
+entry_work = 8388608

@@ -12,3 +12,4 @@ pub mod Selecting
 pub mod Applied
 pub mod FreeCounts
 pub mod Rooms
+pub mod Demand

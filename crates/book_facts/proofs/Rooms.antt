@@ -123,7 +123,7 @@ taken_append : (xs ys : List Change) → units_taken_by (xs ++ ys) ≡ units_tak
 taken_append [] ys = omega arith
 taken_append (x ∷ xs) ys = let more = taken_append xs ys in omega (arith, more)
 
-taken_push : (es : List Entry) (e : Entry) → taken_by (es ++ e ∷ []) ≡ taken_by es + taken_by (e ∷ [])
+pub taken_push : (es : List Entry) (e : Entry) → taken_by (es ++ e ∷ []) ≡ taken_by es + taken_by (e ∷ [])
 taken_push es e = ap units_taken_by (accepted_push es e) ∙ taken_append (accepted es) (accepted (e ∷ []))
 
 -- one that isn't accepted takes nothing
@@ -167,7 +167,7 @@ module _ (s : State) (d : Disk) (client line : ℕ) (change : Change) (s' : Stat
   refused_space a does = subst (KeepsSpace s) (sym does.after) (
       entered_space s client line (ask.Change change) a (cause_refuses change s a does.cause))
 
-call_space : (call : Call) (s s' : State) (d d' : Disk) → IsKept s d → Calls call s d s' d' → KeepsSpace s s'
+pub call_space : (call : Call) (s s' : State) (d d' : Disk) → IsKept s d → Calls call s d s' d' → KeepsSpace s s'
 call_space (submitting client line change) s s' d d' kept made = elim made.1 [
   | inl does ↦ accepted_space s d client line change s' kept made.0 does
   | inr (inl refuses) ↦ refused_space s d client line change s' kept made.0 refuses.0 refuses.1

@@ -1,10 +1,14 @@
 -- What accepted transactions take of the units that are free when the kernel is opened, and of the room in the log.
 use mathlib.Core.Logic.{inl, inr}
-use Rattle.std.specs.Prelude.{ℕ, ◌+◌, List, [], ◌∷◌}
+use Rattle.std.specs.Prelude.{ℕ, ◌+◌, Bool, true, false, ◌||◌, List, [], ◌∷◌, map}
 use Rattle.block_device.specs.Disk.{Disk}
 use Rattle.object_model.specs.Effect.{Change}
 use Rattle.object_model.specs.Book.{accepted}
 use Rattle.object_model.specs.declared.book.Entry.{Entry}
+use Rattle.object_model.specs.declared.command.Answer.{Answer}
+use Rattle.object_model.specs.declared.command.Answer.TheVariants as answer
+use Rattle.object_model.specs.declared.command.Command.{Command}
+use Rattle.object_model.specs.declared.command.Command.TheVariants as ask
 use Rattle.store_steps.specs.Planning.{units_taken}
 use Rattle.store_steps.specs.Runs.{Call, submitting, reading, stepping, Submits, IsRun}
 use Rattle.store_steps.specs.State.{State}
@@ -18,6 +22,29 @@ units_taken_by (change ∷ changes) = units_taken change.ops + units_taken_by ch
 -- those that the accepted transactions of entries took
 abbrev pub taken_by : List Entry → ℕ
 taken_by entries = units_taken_by (accepted entries)
+
+-- the units that a command asks for: the pages that its write touches
+abbrev pub units_asked : Command → ℕ
+units_asked (ask.Change change) = units_taken change.ops
+units_asked other = 0
+
+-- those that commands ask for together, also where they are refused
+abbrev pub demand_of : List Command → ℕ
+demand_of [] = 0
+demand_of (command ∷ commands) = units_asked command + demand_of commands
+
+-- those that the commands of entries asked for
+abbrev pub demanded_by : List Entry → ℕ
+demanded_by entries = demand_of (map (λ e. e.command) entries)
+
+abbrev pub is_no_space : Answer → Bool
+is_no_space (answer.NoSpace need free) = true
+is_no_space other = false
+
+-- a transaction was refused for want of units
+abbrev pub any_no_space : List Entry → Bool
+any_no_space [] = false
+any_no_space (e ∷ es) = is_no_space e.answer || any_no_space es
 
 -- the units of the log that a submitted transaction needs, if it is accepted
 abbrev pub need_if_accepted : (client line : ℕ) (change : Change) (s s' : State) → Submits client line change s s' → ℕ

@@ -15,7 +15,7 @@ ghost use Rattle.store_steps.specs.Submit.{need_of, room_of, free_count, Accepts
 ghost use Rattle.store_steps.specs.Runs.{MaySubmit, DoesOrFails, Call, Calls, IsRun};
 ghost use Rattle.store_facts.specs.Kept.{IsKept};
 ghost use Rattle.book_facts.specs.BookFacts.{StandSomehow, KnownOfBook, IsInOrder};
-ghost use Rattle.book_facts.specs.Rooms.{taken_by, needs_in};
+ghost use Rattle.book_facts.specs.Rooms.{taken_by, needs_in, demanded_by, any_no_space};
 
 /// What the kernel keeps it keeps along a run.
 #[tactic(auto, using(crate::proofs::KeptCalls::kept_run))]
@@ -64,6 +64,13 @@ pub fn space_suffices()
     ensures refused { (calls : List Call) (s s' t : State) (d d' : Disk) (client line need free : ℕ) (change : Change) → IsKept s d
         → s.book.entries ≡ [] → IsRun s d calls s' d' → Refuses client line change (answer.NoSpace need free) s' t
         → free_count s.space < taken_by s'.book.entries + need }
+{}
+
+/// In a run whose commands together ask for at most as many units as were free when it began, no transaction is refused for want of
+/// units.
+pub fn want_of_space_is_beyond_the_demand()
+    ensures { (calls : List Call) (s s' : State) (d d' : Disk) → IsKept s d → s.book.entries ≡ [] → IsRun s d calls s' d'
+        → any_no_space s'.book.entries ≡ true → free_count s.space < demanded_by s'.book.entries }
 {}
 
 /// An accepted transaction lowers the room in the log by its need, and no step or read lowers it. So want of room comes only where the needs of

@@ -2,6 +2,7 @@ pub mod DrawLemmas
 pub mod RunLemmas
 pub mod FreeLemmas
 pub mod RunLaws
+pub mod Demand
 pub mod WorkLemmas
 pub mod Keeping
 pub mod GoodStarts

@@ -23,7 +23,7 @@ use Rattle.store_steps.specs.declared.step.Step.TheVariants.{Data, Reap, Take, F
 use Rattle.store_steps.specs.State.{State}
 use Rattle.store_steps.specs.Opened.{Found}
 use Rattle.store_steps.specs.Submit.{free_count}
-use Rattle.store_steps.specs.Runs.{Call, submitting, reading, stepping, DoesOrFails, Calls}
+use Rattle.store_steps.specs.Runs.{Call, submitting, reading, stepping, DoesOrFails, Calls, IsRun}
 use Rattle.store_facts.specs.Kept.{IsKept}
 use Rattle.crash_facts.specs.Store.{KeepsDurable}
 use Rattle.mount_replay.specs.Calls.{Told, GoesOn, IsLater}
@@ -37,10 +37,11 @@ use Rattle.bstore_top.specs.declared.run_fail.RunFail.{RunFail}
 use Rattle.bstore_top.specs.declared.run_fail.RunFail.TheVariants as run
 use Rattle.run_texts.specs.declared.work_end.WorkEnd.{WorkEnd}
 use Rattle.bstore_top.specs.Choice.{asked, asks_of, Position, at_position, IsDrawnRun}
-use Rattle.bstore_top.specs.StepRun.{asked_in, asked_by, IsTextUnder, FailsBefore, end_of_script, EndsAt, FailsToMount, LeftByMount, HasCounted}
+use Rattle.bstore_top.specs.StepRun.{asked_in, asked_by, AskedUpTo, IsTextUnder, FailsBefore, end_of_script, EndsAt, FailsToMount, LeftByMount, HasCounted}
 use Rattle.bstore_top.specs.StepRun.{end_of_mount, end_of_run}
 use Rattle.bstore_top.specs.Stepping.{LeadsTo, RunsUpTo, FitsLine}
 use Rattle.bstore_top.proofs.RunLaws.{drawn_run, joined_run, legal_of, RanKept}
+use Rattle.bstore_top.proofs.Demand.{found_within}
 
 -- ---- the script
 
@@ -254,6 +255,20 @@ pub record IsMountedOn (given : Disk) (f : Found) (space : Space) (start : Disk)
 module _ (seed : ℕ) (lines : List Line) (given : Disk) (f : Found) (space : Space) (start : Disk) (s : State) (s' : State) (d' : Disk) (book : Book)
     (disk : Disk)
     (known : IsMountedOn given f space start s) (closed : IsClosed s' d' book disk) where
+  -- the entries are the script's first commands
+  commands_asked : (failed : Option RunFail) (ran : RunsUpTo failed seed lines s start s' d') → AskedUpTo lines book.entries ran.left
+  commands_asked failed ran =
+      ap (λ (z : State). map asked_in z.book.entries ++ map asked_by (asks_of lines)) (sym known.mounted.state)
+      ∙ (ran.entries ∙ ap (λ (b : Book). map asked_in b.entries ++ map asked_by ran.left) (sym closed.same))
+
+  -- the run, with the ends that unmounting takes
+  closed_run : (failed : Option RunFail) (ran : RunsUpTo failed seed lines s start s' d')
+      → IsRun s start (ran.leads.calls ++ closed.reaped.calls) closed.closed disk
+  closed_run failed ran =
+      joined_run ran.leads.calls closed.reaped.calls s s' closed.closed start d' disk
+      (drawn_run (at_position seed (asks_of lines) s start) ran.leads.calls (at_position ran.x_last ran.left s' d') ran.leads.run)
+      closed.reaped.run
+
   runs_script : (failed : Option RunFail) (end : WorkEnd) (ran : RunsUpTo failed seed lines s start s' d')
       → EndsAt end (at_position ran.x_last ran.left s' d') → RanKept seed lines given end book disk
   runs_script failed end ran ends = record {
@@ -267,17 +282,14 @@ module _ (seed : ℕ) (lines : List Line) (given : Disk) (f : Found) (space : Sp
       last = at_position ran.x_last ran.left s' d';
       drawn = ran.leads.run;
       ended = ends;
-      entries =
-          ap (λ (z : State). map asked_in z.book.entries ++ map asked_by (asks_of lines)) (sym known.mounted.state)
-          ∙ (ran.entries ∙ ap (λ (b : Book). map asked_in b.entries ++ map asked_by ran.left) (sym closed.same));
+      entries = commands_asked failed ran;
       closed = closed.closed;
       reaped = closed.reaped;
       book_is = closed.book_is;
       legal = legal_of given f space start s closed.closed disk (ran.leads.calls ++ closed.reaped.calls) book known.mounted known.kept
-          (joined_run ran.leads.calls closed.reaped.calls s s' closed.closed start d' disk
-          (drawn_run (at_position seed (asks_of lines) s start) ran.leads.calls (at_position ran.x_last ran.left s' d') ran.leads.run)
-          closed.reaped.run)
-          closed.book_is;
+          (closed_run failed ran) closed.book_is;
+      within = found_within lines given f space start s closed.closed disk (ran.leads.calls ++ closed.reaped.calls) book ran.left known.mounted known.kept
+          (closed_run failed ran) closed.book_is (commands_asked failed ran);
     };
     kept = known.kept;
     durable = known.durable;

@@ -1,5 +1,5 @@
 -- What a run of `step` does: it reads a script, mounts a store, and runs the script on it.
-use Rattle.std.specs.Prelude.{◌≡◌, ◌⊎◌, ℕ, ◌<◌, List, [], ◌∷◌, ◌++◌, map, Any, Option, Some, None, Result, Ok, Err, is_some, true, IfSome}
+use Rattle.std.specs.Prelude.{◌≡◌, ◌⊎◌, ℕ, ◌<◌, ◌≤◌, List, [], ◌∷◌, ◌++◌, map, Any, Option, Some, None, Result, Ok, Err, is_some, true, false, IfSome}
 use Rattle.std.specs.FinMap as finite
 use Rattle.block_device.specs.Disk.{Disk, IsSound, Rose}
 use Rattle.end_points.specs.Bay.{BayView, Names, HandedOut}
@@ -16,6 +16,7 @@ use Rattle.script_text.specs.declared.line.Line.{Line}
 use Rattle.store_steps.specs.State.{State}
 use Rattle.store_steps.specs.Opened.{Found}
 use Rattle.book_facts.specs.BookFacts.{StandSomehow}
+use Rattle.book_facts.specs.Rooms.{demand_of, any_no_space}
 use Rattle.store_steps.specs.Submit.{free_count}
 use Rattle.store_steps.specs.Runs.{Call}
 use Rattle.mount_replay.specs.Calls.{IsLater}
@@ -72,6 +73,10 @@ asked_by a = record { client = 0; line = a.line; command = a.command }
 abbrev pub AskedUpTo : List Line → List Entry → List Ask → Type 0
 AskedUpTo lines entries left = map asked_by (asks_of lines) ≡ map asked_in entries ++ map asked_by left
 
+-- the units that its commands ask for together: the pages that its writes touch
+abbrev pub script_demand : List Line → ℕ
+script_demand lines = demand_of (map (λ a. a.command) (asks_of lines))
+
 -- where a run ended: with all commands in the book and nothing left to do, at a bad end of a submission or, with nothing left to do, at a read
 -- that failed, or for want of memory
 abbrev pub EndsAt : WorkEnd → Position → Type 0
@@ -81,7 +86,8 @@ EndsAt OutOfMemory p = p.state.down ≡ None
 EndsAt end p = ⊥
 
 -- A script was run on a store: the calls that were drawn lead from the mounted kernel, over the device as the mount left it, to the last one,
--- whose book it is. But for the bytes that reads gave, the book is legal for all objects that the rows which were found stand for.
+-- whose book it is. But for the bytes that reads gave, the book is legal for all objects that the rows which were found stand for. If the script
+-- asks for no more units than were free, no transaction was refused for want of units.
 pub record RunsScript (seed : ℕ) (lines : List Line) (given : Disk) (end : WorkEnd) (book : Book) (disk : Disk) : Type 0 where
   pub found : Found
   pub space : Space
@@ -97,6 +103,7 @@ pub record RunsScript (seed : ℕ) (lines : List Line) (given : Disk) (end : Wor
   pub reaped : IsReapedTo last.state last.disk closed disk
   pub book_is : book ≡ closed.book
   pub legal : (objects : Objects) → StandSomehow found.rows objects → IsLegalButBytes objects book
+  pub within : script_demand lines ≤ free_count first.space → any_no_space book.entries ≡ false
 
 -- ---- the whole
 

@@ -1,10 +1,16 @@
 //! What a run of a script on a store comes to, whatever the seed is and whatever the device answers. Each function has a law for its
 //! contract and does nothing.
-ghost use Rattle.std.specs.Prelude.{◌≡◌, ◌⊎◌, ℕ, List};
+ghost use Rattle.std.specs.Prelude.{◌≡◌, ◌⊎◌, ◌≤◌, ℕ, List, false};
+ghost use Rattle.block_device.specs.Disk.{Disk};
+ghost use Rattle.object_model.specs.declared.book.Book.{Book};
+ghost use Rattle.script_text.specs.declared.line.Line.{Line};
+ghost use Rattle.store_steps.specs.Submit.{free_count};
+ghost use Rattle.book_facts.specs.Rooms.{any_no_space};
+ghost use Rattle.run_texts.specs.declared.work_end.WorkEnd.{WorkEnd};
 ghost use Rattle.end_points.specs.Bay.{BayView};
 ghost use Rattle.store_steps.specs.Runs.{Call, IsRun};
 ghost use Rattle.bstore_top.specs.Choice.{Position, IsDrawnRun};
-ghost use Rattle.bstore_top.specs.StepRun.{RanStep, Seen};
+ghost use Rattle.bstore_top.specs.StepRun.{RanStep, RunsScript, Seen, script_demand};
 ghost use Rattle.bstore_top.specs.DumpRun.{RanDump, Dumped};
 ghost use Rattle.run_texts.specs.Printed.{Output};
 ghost use Rattle.bstore_top.specs.Finished.{Succeeded};
@@ -30,6 +36,13 @@ pub fn a_good_start_ends_well()
     ensures { (dev script : List ℕ) (seed status : ℕ) (seen : Seen) (bay_old bay_new : BayView) (before now : ℕ) (old new : Output) →
         RanStep dev script seed status seen bay_old bay_new before now old new → IsGoodStart dev script bay_old →
         HasNoFault seen before now old new → (status ≡ 0) ⊎ (status ≡ 5) }
+{}
+
+/// A run of a script that asks for no more units than are free when the store is opened refuses no transaction for want of units, whatever
+/// the seed is: in a book that such a run leaves there is no `NoSpace`.
+pub fn a_script_within_the_free_units_has_no_want_of_them()
+    ensures { (seed : ℕ) (lines : List Line) (given : Disk) (end : WorkEnd) (book : Book) (disk : Disk) →
+        (ran : RunsScript seed lines given end book disk) → script_demand lines ≤ free_count ran.first.space → any_no_space book.entries ≡ false }
 {}
 
 /// A run of `dump` that returns 0 has printed each collection and each object that there is. Where the bay tells what stands under its names,

@@ -15,6 +15,7 @@ mod stepping;
 pub use laws::{
     a_drawn_run_is_a_run, a_dump_that_returns_0_shows_all, a_good_dump_ends_well,
     a_good_start_ends_well, a_run_that_returns_0_has_succeeded,
+    a_script_within_the_free_units_has_no_want_of_them,
 };
 pub use outcome::Outcome;
 pub use running::{solo, top};

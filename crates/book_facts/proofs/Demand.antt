@@ -1,0 +1,138 @@
+-- Want of space comes only where a run's commands ask for more units than were free when it began.
+use Rattle.std.proofs.Common.{◌≡◌, inl, inr, ℕ, ◌+◌, ◌<◌, ◌≤◌, Bool, true, false, List, [], ◌∷◌, ◌++◌, map}
+use Rattle.std.proofs.Common.{None, refl, sym, ap, subst, ◌∙◌, arith}
+use Rattle.std.specs.Prelude.{◌||◌}
+use Rattle.block_device.specs.Disk.{Disk}
+use Rattle.object_model.specs.declared.book.Entry.{Entry}
+use Rattle.object_model.specs.declared.command.Answer.{Answer}
+use Rattle.object_model.specs.declared.command.Answer.TheVariants as answer
+use Rattle.object_model.specs.declared.command.Command.{Command}
+use Rattle.object_model.specs.declared.command.Command.TheVariants as ask
+use Rattle.object_model.specs.Effect.{Change}
+use Rattle.read_facts.specs.Answers.{HasReadNames, IsAnswerOf}
+use Rattle.store_steps.specs.Planning.{units_taken}
+use Rattle.store_steps.specs.Runs.{Call, submitting, reading, stepping, Calls, IsRun}
+use Rattle.store_steps.specs.State.{State}
+use Rattle.store_steps.specs.Submit.{free_count, entered, IsCause}
+use Rattle.store_facts.specs.Kept.{IsKept}
+use Rattle.book_facts.specs.Rooms.{taken_by, units_asked, demand_of, demanded_by, is_no_space, any_no_space}
+use Rattle.book_facts.proofs.KeptCalls.{kept_call}
+use Rattle.book_facts.proofs.Rooms.{KeepsSpace, call_space, taken_push, step_room}
+
+-- ---- entries
+
+demanded_push : (es : List Entry) (e : Entry) → demanded_by (es ++ e ∷ []) ≡ demanded_by es + units_asked e.command
+demanded_push [] e = omega arith
+demanded_push (x ∷ es) e = let rest = demanded_push es e in omega (arith, rest)
+
+or_false : (b : Bool) → (b || false) ≡ b
+or_false true = refl
+or_false false = refl
+
+no_space_push : (es : List Entry) (e : Entry) → is_no_space e.answer ≡ false → any_no_space (es ++ e ∷ []) ≡ any_no_space es
+no_space_push [] e is = ap (λ (b : Bool). b || false) is
+no_space_push (x ∷ es) e is = ap (λ (b : Bool). is_no_space x.answer || b) (no_space_push es e is)
+
+-- an entry takes no more than it asks for
+entry_asks : (e : Entry) → taken_by (e ∷ []) ≤ units_asked e.command
+entry_asks e = by e.command e.answer
+  where
+    by : (command : Command) (a : Answer)
+        → taken_by (record { client = e.client; line = e.line; command = command; answer = a; acks = e.acks } ∷ []) ≤ units_asked command
+    by (ask.Change change) answer.Accepted = omega arith
+    by command a = omega arith
+
+-- ---- each call
+
+-- so many units were free when the run began
+pub record IsWithin (free : ℕ) (s : State) : Type 0 where
+  pub taken : free ≤ free_count s.space + taken_by s.book.entries
+  pub asked : taken_by s.book.entries ≤ demanded_by s.book.entries
+  pub want : any_no_space s.book.entries ≡ true → free < demanded_by s.book.entries
+
+module _ (free : ℕ) (s s' : State) (within : IsWithin free s) (keeps : KeepsSpace s s') where
+  -- one more entry: it wasn't refused for want of units, or it asked for more than were free
+  entry_within : (e : Entry) → s'.book.entries ≡ s.book.entries ++ e ∷ []
+      → (is_no_space e.answer ≡ true → free_count s.space < units_asked e.command) → IsWithin free s'
+  entry_within e entries wants = record {
+    taken = omega (arith, within.taken, keeps);
+    asked = omega (arith, within.asked, ap taken_by entries, ap demanded_by entries, taken_push s.book.entries e, demanded_push s.book.entries e, entry_asks e);
+    want = by (is_no_space e.answer) refl;
+  }
+    where
+      by : (b : Bool) → is_no_space e.answer ≡ b → any_no_space s'.book.entries ≡ true → free < demanded_by s'.book.entries
+      by true is any = omega (arith, wants is, within.taken, within.asked, ap demanded_by entries, demanded_push s.book.entries e)
+      by false is any =
+          let before : any_no_space s.book.entries ≡ true = sym (ap any_no_space entries ∙ no_space_push s.book.entries e is) ∙ any in
+          omega (arith, within.want before, ap demanded_by entries, demanded_push s.book.entries e)
+
+  -- no entry
+  same_within : s'.book.entries ≡ s.book.entries → IsWithin free s'
+  same_within entries = record {
+    taken = omega (arith, within.taken, keeps);
+    asked = omega (arith, within.asked, ap taken_by entries, ap demanded_by entries);
+    want = λ any. let before = within.want (sym (ap any_no_space entries) ∙ any) in omega (arith, before, ap demanded_by entries);
+  }
+
+-- a cause of this kind tells both numbers
+cause_wants : (change : Change) (s : State) (a : Answer) → IsCause a change s → is_no_space a ≡ true → free_count s.space < units_taken change.ops
+cause_wants change s (answer.NoSpace need free) cause is = omega (arith, cause.1, cause.2, cause.3)
+cause_wants change s (answer.Refused refusal) cause is = absurd cc
+cause_wants change s (answer.MetaFull need room) cause is = absurd cc
+cause_wants change s a cause is = absurd cause
+
+-- a read isn't answered so
+read_wants : (d : Disk) (s : State) (command : Command) (a : Answer) → HasReadNames command → IsAnswerOf d s.view command a → is_no_space a ≡ true
+    → free_count s.space < units_asked command
+read_wants d s (ask.Read c o off len) (answer.NoSpace need free) names given is = absurd given.1
+read_wants d s (ask.Sum c o) (answer.NoSpace need free) names given is = absurd given.1
+read_wants d s (ask.Stat c o) (answer.NoSpace need free) names given is = absurd given.1
+read_wants d s (ask.List c) (answer.NoSpace need free) names given is = absurd given.1
+read_wants d s command (answer.NoSpace need free) names given is = absurd names
+read_wants d s command a names given is = absurd cc
+
+call_within : (free : ℕ) (call : Call) (s s' : State) (d d' : Disk) → IsKept s d → Calls call s d s' d' → IsWithin free s → IsWithin free s'
+call_within free (submitting client line change) s s' d d' kept made within =
+    let keeps = call_space (submitting client line change) s s' d d' kept made in
+    elim made.1 [
+      | inl does ↦ entry_within free s s' within keeps
+          (record { client = client; line = line; command = ask.Change change; answer = answer.Accepted; acks = s.acked })
+          (ap (λ (z : State). z.book.entries) does.after) (λ is. absurd cc)
+      | inr (inl refuses) ↦ entry_within free s s' within keeps
+          (record { client = client; line = line; command = ask.Change change; answer = refuses.0; acks = s.acked })
+          (ap (λ (z : State). z.book.entries) refuses.1.after) (cause_wants change s refuses.0 refuses.1.cause)
+      | inr (inr away) ↦ same_within free s s' within keeps (ap (λ (z : State). z.book.entries) away.same)
+    ]
+call_within free (reading client line command) s s' d d' kept made within =
+    let keeps = call_space (reading client line command) s s' d d' kept made in
+    elim made.1 [
+      | inl is ↦ entry_within free s s' within keeps
+          (record { client = client; line = line; command = command; answer = is.0; acks = s.acked })
+          (ap (λ (z : State). z.book.entries) is.1.after) (read_wants d s command is.0 is.1.names is.1.given)
+      | inr away ↦ same_within free s s' within keeps (ap (λ (z : State). z.book.entries) away.same)
+    ]
+call_within free (stepping step) s s' d d' kept made within =
+    let leaves = step_room s d s' d' step kept made.0 made.1 in
+    same_within free s s' within (call_space (stepping step) s s' d d' kept made) leaves.entries
+
+-- ---- runs
+
+run_within : (free : ℕ) (calls : List Call) (s s' : State) (d d' : Disk) → IsKept s d → IsRun s d calls s' d' → IsWithin free s → IsWithin free s'
+run_within free [] s s' d d' kept run within = subst (IsWithin free) (sym run.0) within
+run_within free (call ∷ calls) s s' d d' kept run within =
+    let t : State = run.0 in
+    let e : Disk = run.1.0 in
+    run_within free calls t s' e d' (kept_call call s t d e kept run.1.1.0 run.1.1.1.0) run.1.1.1.1
+    (call_within free call s t d e kept run.1.1.0 within)
+
+none_within : (s : State) → s.book.entries ≡ [] → IsWithin (free_count s.space) s
+none_within s empty = record {
+  taken = omega arith;
+  asked = omega (arith, ap taken_by empty, ap demanded_by empty);
+  want = λ any. let none : any_no_space s.book.entries ≡ false = ap any_no_space empty in absurd cc;
+}
+
+pub want_is_beyond_the_demand : (calls : List Call) (s s' : State) (d d' : Disk) → IsKept s d → s.book.entries ≡ [] → IsRun s d calls s' d'
+    → any_no_space s'.book.entries ≡ true → free_count s.space < demanded_by s'.book.entries
+want_is_beyond_the_demand calls s s' d d' kept empty run =
+    (run_within (free_count s.space) calls s s' d d' kept run (none_within s empty)).want

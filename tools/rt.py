@@ -1,6 +1,9 @@
 #!/usr/bin/env python3
 """Runs the kit's command rt with these words, faster where a crate stands on many others.
 
+With the words `below NAME --jobs N` it proves the libraries that a crate stands on, each as soon as those below it are proved,
+and shares N processors among those under way: rt gives each one processor, or does one after the other.
+
 rt knows by a stamp whether a library is as it was: a sum of its sources and of the stamps of all libraries that it names. It
 reckons each of them anew wherever one is named, which for the program bstore takes longer than the proofs. Here the stamp of a
 folder is reckoned once a run, so the sources must not change meanwhile. Where the kit's rt is built otherwise, it runs as it is.
@@ -8,8 +11,11 @@ folder is reckoned once a run, so the sources must not change meanwhile. Where t
 import importlib.machinery
 import importlib.util
 import os
+import queue
 import shutil
 import sys
+import tempfile
+import threading
 
 
 def with_kept_stamps(file):
@@ -31,6 +37,67 @@ def with_kept_stamps(file):
     return kit
 
 
+def size_of(crate):
+    """The bytes of a crate's sources, which its proof takes about as long as."""
+    parts = (os.path.join(crate.folder, part) for part in ("src", "specs", "proofs"))
+    files = (os.path.join(place, name) for part in parts for place, _, names in os.walk(part) for name in names)
+    return sum(map(os.path.getsize, files))
+
+
+def longest_chains(crates):
+    """The bytes of the longest chain of crates from each one up, itself counted. Lower crates come first in the list."""
+    chains = {}
+    for crate in reversed(crates):
+        chains[crate] = size_of(crate) + max((chains[it] for it in crates if crate in it.deps), default=0)
+    return chains
+
+
+def prove_one(crate, jobs, ended):
+    """Proves a library with so many jobs, and tells its status and what it printed."""
+    status, said = 1, ""
+    try:
+        os.makedirs(os.path.join(crate.folder, "out"), exist_ok=True)
+        with tempfile.TemporaryFile("a+", errors="replace") as crate.out:
+            status = crate.build_rlib(["--jobs", str(jobs)], anew=False)
+            crate.out.seek(0)
+            said = crate.out.read()
+    finally:
+        ended.put((crate, jobs, status, said))
+
+
+def prove_below(kit, name, processors):
+    """Proves what a crate stands on. Those with the longest chains above them come first."""
+    kit.rtlib.guarded()  # it can't be called first in a thread
+    crates = kit.rtlib.crates_below(os.getcwd())
+    todo = next(it for it in crates if it.name == name).below()
+    held = kit.rtlib.lock(todo)
+    chains, done, ended, free, failed = longest_chains(todo), set(), queue.Queue(), processors, 0
+    while free < processors or todo and not failed:
+        ready = [] if failed else [it for it in todo if done.issuperset(it.below())]
+        ready.sort(key=chains.get)
+        while ready and free:
+            jobs = max(1, free // len(ready))
+            crate = ready.pop()
+            todo.remove(crate)
+            free -= jobs
+            threading.Thread(target=prove_one, args=(crate, jobs, ended), daemon=True).start()
+        crate, jobs, status, said = ended.get()
+        free += jobs
+        failed = failed or status
+        if not status:
+            done.add(crate)
+        print(f"{said}== {crate.name}{f': failed ({status})' if status else ''}", flush=True)
+    for it in held:
+        os.close(it)
+    return failed
+
+
+def run(kit, words):
+    if words[:1] == ["below"]:
+        return prove_below(kit, words[1], int(words[3]))
+    return kit.main(words)
+
+
 def main():
     found = shutil.which("rt")
     if found is None:
@@ -39,7 +106,7 @@ def main():
         kit = with_kept_stamps(os.path.realpath(found))
     except (AttributeError, ImportError, OSError, SyntaxError):
         os.execv(found, [found, *sys.argv[1:]])
-    sys.exit(kit.main(sys.argv[1:]))
+    sys.exit(run(kit, sys.argv[1:]))
 
 
 if __name__ == "__main__":

@@ -4,10 +4,12 @@
 # alternation. Usage: bench/crc32c.sh [BYTES A ROUND] [ROUNDS]
 set -eu
 here=$(cd "$(dirname "${BASH_SOURCE[0]}")" && pwd)
+. "$here/about.sh"
 bytes=${1:-4096}
 rounds=${2:-100000}
 made=$(mktemp -d)
 trap 'rm -rf "$made"' EXIT
+about
 gcc -O2 -o "$made/crc32c" "$here/crc32c.c"
 (cd "$here/../crates/crc_bench" && rt run >"$made/log" 2>&1) || { tail -20 "$made/log"; exit 1; }
 ours=$here/../crates/crc_bench/out/crc_bench

@@ -4,10 +4,12 @@
 # alternation: milliseconds of each, and how many times as long as the copy it took. Usage: bench/log.sh [UNITS] [ROWS]
 set -eu
 here=$(cd "$(dirname "${BASH_SOURCE[0]}")" && pwd)
+. "$here/about.sh"
 units=${1:-65536}
 rows=${2:-100000}
 made=$(mktemp -d)
 trap 'rm -rf "$made"' EXIT
+about
 gcc -O2 -o "$made/copy" "$here/log.c"
 (cd "$here/../crates/log_bench" && rt run >"$made/log" 2>&1) || { tail -20 "$made/log"; exit 1; }
 ours=$here/../crates/log_bench/out/log_bench

@@ -4,11 +4,12 @@
 # as many records as are asked for. Three turns, the best of each. Usage: bench/mount.sh [RECORDS] [FOLDER ON THE DISK]
 set -eu
 here=$(cd "$(dirname "${BASH_SOURCE[0]}")" && pwd)
+. "$here/about.sh"
 count=${1:-16000}
 made=$(mktemp -d "${2:-$here}/mount.XXXXXX")
 trap 'rm -rf "$made"' EXIT
-"$here/../bstore" >/dev/null || [ $? = 1 ]
-program=$here/../crates/bstore/out/bstore
+program=$(program_of)
+about
 : >"$made/empty"
 
 now() { date +%s%N; }

@@ -5,11 +5,12 @@
 # units, beside dd of the same file. Three turns in alternation, the best of each. Usage: bench/read.sh [FOLDER ON THE DISK]
 set -eu
 here=$(cd "$(dirname "${BASH_SOURCE[0]}")" && pwd)
+. "$here/about.sh"
 made=$(mktemp -d "${1:-$here}/read.XXXXXX")
 trap 'rm -rf "$made"' EXIT
 gcc -O2 -o "$made/loop" "$here/read.c"
-"$here/../bstore" >/dev/null || [ $? = 1 ]
-program=$here/../crates/bstore/out/bstore
+program=$(program_of)
+about
 : >"$made/empty"
 peak=0
 

@@ -1,0 +1,70 @@
+#!/usr/bin/env bash
+# Tells what grows: the processor time of one operation, on a file in memory, beside stores of more and more objects whose names came
+# in falling, rising and scrambled order, and beside an object of more and more pages; and what opening each store takes. What
+# opening takes is taken off from the operations. The least of three runs. Usage: bench/growth.sh [MOST OBJECTS] [FOLDER] [ANOTHER PROGRAM]
+set -eu
+here=$(cd "$(dirname "${BASH_SOURCE[0]}")" && pwd)
+. "$here/about.sh"
+most=${1:-60000}
+made=$(mktemp -d "${2:-/dev/shm}/growth.XXXXXX")
+trap 'rm -rf "$made"' EXIT
+program=$(program_of "${3:-}")
+: >"$made/empty"
+
+# took SCRIPT: the least processor time of three runs of a script on a copy of the device, in milliseconds, and the peak memory in KiB.
+took() {
+  local TIMEFORMAT='%3U %3S' turn
+  for turn in 1 2 3; do
+    cp --sparse=always "$made/disk" "$made/work"
+    { time /usr/bin/env time -f %M -o "$made/memory" "$program" step "$made/work" --seed "$turn" "$1" >"$made/output"; } 2>>"$made/times" ||
+      { tail -n 2 "$made/output" >&2; exit 1; }
+  done
+  awk '{ t = 1000 * ($1 + $2); if (NR == 1 || t < least) least = t } END { printf "%d", least }' "$made/times"
+  rm "$made/times"
+}
+
+# names ORDER COUNT: the numbers of so many objects in this order.
+names() {
+  awk -v order="$1" -v n="$2" 'BEGIN {
+    for (i = 0; i < n; i++) printf "%06d\n", 10 * (order == "rising" ? i : order == "falling" ? n - 1 - i : (i * 7919) % n)
+  }'
+}
+
+# A script has at most 16384 commands, so a store of more objects is made by several.
+set_up() {
+  local part
+  "$program" mkfs "$made/disk" --half 65536 --units 262144 >/dev/null
+  rm -f "$made"/part.*
+  split -l 16000 - "$made/part."
+  for part in "$made"/part.*; do
+    "$program" step "$made/disk" --seed 1 "$part" >"$made/output" || { tail -n 2 "$made/output" >&2; exit 1; }
+  done
+}
+
+about
+printf '%-34s %12s %14s\n' 'objects of a page' 'opening, ms' 'a new one, us'
+for order in rising falling scrambled; do
+  for count in 1000 40000 "$most"; do
+    [ "$count" -le "$most" ] || continue
+    { echo 'mkcoll 1.0_head'; names "$order" "$count" | sed 's/.*/write 1.0_head o& 0 fill:5a:4096/'; } | set_up
+    for ((i = 0; i < 1000; i++)); do printf 'write 1.0_head o%06d 0 fill:5b:4096\n' $((i * 7907 % count * 10 + 1 + i / count)); done >"$made/script"
+    opening=$(took "$made/empty")
+    all=$(took "$made/script")
+    awk -v o="$order" -v n="$count" -v a="$all" -v b="$opening" 'BEGIN { printf "%-34s %12d %14.1f\n", n " " o, b, (a - b) }'
+  done
+done
+printf '%-34s %12s %14s %12s\n' 'pages of an object' 'opening, ms' 'a page, us' 'a read, us'
+for pages in 1 16 512 4096 32768; do
+  {
+    echo 'mkcoll 1.0_head'
+    for ((i = 0; i < pages; i += 128)); do
+      printf 'write 1.0_head a %d fill:5a:%d\n' $((i * 4096)) $(((pages - i < 128 ? pages - i : 128) * 4096))
+    done
+  } | set_up
+  opening=$(took "$made/empty")
+  for ((i = 0; i < 500; i++)); do printf 'write 1.0_head a %d fill:5b:4096\n' $((i * 7919 % pages * 4096)); done >"$made/script"
+  writes=$(took "$made/script")
+  for ((i = 0; i < 2000; i++)); do printf 'read 1.0_head a %d 4096\n' $((i * 7919 % pages * 4096)); done >"$made/script"
+  reads=$(took "$made/script")
+  awk -v n="$pages" -v o="$opening" -v w="$writes" -v r="$reads" 'BEGIN { printf "%-34s %12d %14.1f %12.1f\n", n, o, (w - o) * 2, (r - o) / 2 }'
+done

@@ -1,0 +1,99 @@
+#!/usr/bin/env bash
+# Counts the instructions of one operation of each kind by callgrind, which a busy machine doesn't change: what a script with twice as
+# many of them takes more, so that starting, opening the store and what is done once are off. Reading and printing its line is in it,
+# and is told by itself as the count of a refused line. Each count has a bound here: a change that passes one says so, and why.
+# Usage: bench/instructions.sh [ANOTHER PROGRAM]
+set -eu
+here=$(cd "$(dirname "${BASH_SOURCE[0]}")" && pwd)
+. "$here/about.sh"
+made=$(mktemp -d "${TMPDIR:-/tmp}/instructions.XXXXXX")
+trap 'rm -rf "$made"' EXIT
+program=$(program_of "${1:-}")
+
+# counted SCRIPT: the instructions of a run of the script on a copy of the device that is set up.
+counted() {
+  cp --sparse=always "$made/disk" "$made/work"
+  valgrind --tool=callgrind --callgrind-out-file="$made/counts" "$program" step "$made/work" --seed 1 "$1" >"$made/output" 2>"$made/said" ||
+    { tail -n 2 "$made/output" "$made/said" >&2; exit 1; }
+  awk '$1 == "summary:" || $1 == "totals:" { n = $2 } END { print n }' "$made/counts"
+}
+
+# set_up HALF UNITS: a store after the commands on standard input, by scripts of at most 16384 each.
+set_up() {
+  local part
+  "$program" mkfs "$made/disk" --half "$1" --units "$2" >/dev/null
+  rm -f "$made"/part.*
+  split -l 16000 - "$made/part."
+  for part in "$made"/part.*; do
+    "$program" step "$made/disk" --seed 1 "$part" >"$made/output" || { tail -n 2 "$made/output" >&2; exit 1; }
+  done
+}
+
+# told NAME BOUND COUNT
+told() {
+  local verdict=within
+  [ "$3" -le "$2" ] || verdict=BEYOND
+  printf '%-52s %11d  %s %d\n' "$1" "$3" "$verdict" "$2" | tee -a "$made/told"
+}
+
+# each NAME BOUND COUNT: the instructions of one line, of a script of so many from standard input and of one of half as many.
+each() {
+  local once twice
+  cat >"$made/all"
+  head -n $(($3 / 2)) "$made/all" >"$made/half"
+  once=$(counted "$made/half")
+  twice=$(counted "$made/all")
+  told "$1" "$2" $(((twice - once) / ($3 - $3 / 2)))
+}
+
+about
+set_up 4096 12000 <<<'mkcoll 1.0_head'
+for ((i = 0; i < 400; i++)); do echo 'mkcoll 1.0_head'; done | each 'a line that is refused' 4000 400
+
+{
+  echo 'mkcoll 1.0_head'
+  for ((i = 0; i < 100; i++)); do printf 'write 1.0_head o%d 0 fill:%02x:4096\n' "$i" "$i"; done
+} | set_up 4096 12000
+for ((i = 0; i < 400; i++)); do printf 'write 1.0_head o%d 0 fill:%02x:4096\n' $((i % 100)) $((i % 256)); done |
+  each 'a page over a page, 100 objects' 50000 400
+
+for many in 2000 40000; do
+  {
+    echo 'mkcoll 1.0_head'
+    for ((i = 0; i < many; i++)); do printf 'write 1.0_head o%06d 0 fill:%02x:4096\n' $((i * 37 % many * 10)) $((i % 256)); done
+  } | set_up 65536 200000
+  for ((i = 0; i < 200; i++)); do printf 'write 1.0_head o%06d 0 fill:%02x:4096\n' $((i * 97 * many / 2000 % many * 10 + 5)) "$i"; done |
+    each "a page of a new object, among $many" 60000 200
+done
+
+{
+  echo 'mkcoll 1.0_head'
+  for ((i = 0; i < 512; i++)); do printf 'write 1.0_head a %d fill:%02x:4096\n' $((i * 211 % 512 * 4096)) $((i % 256)); done
+} | set_up 4096 12000
+for ((i = 0; i < 100; i++)); do printf 'write 1.0_head a %d fill:%02x:4096\n' $((i * 131 % 512 * 4096)) "$i"; done |
+  each 'a page over a page of 512 scattered ones' 500000 100
+
+set_up 4096 24000 <<<'mkcoll 1.0_head'
+for ((i = 0; i < 12; i++)); do printf 'write 1.0_head o%d 0 fill:%02x:1044480\n' "$i" "$i"; done |
+  each 'a write of 255 pages' 6000000 12
+
+{
+  echo 'mkcoll 1.0_head'
+  for ((i = 0; i < 16; i++)); do printf 'write 1.0_head a %d fill:%02x:4096\n' $((i * 4096)) "$i"; done
+  for ((i = 0; i < 128; i++)); do printf 'write 1.0_head b %d fill:%02x:1048576\n' $((i * 1048576)) "$i"; done
+} | sed 's/1048576$/1044480/' | set_up 4096 60000
+for ((i = 0; i < 200; i++)); do printf 'read 1.0_head a %d 4096\n' $((i % 16 * 4096)); done | each 'a read of 4 KiB of 16 pages' 60000 200
+for ((i = 0; i < 200; i++)); do printf 'read 1.0_head b %d 4096\n' $((i * 131 % 128 * 1048576)); done |
+  each 'a read of 4 KiB of an object of 128 MiB' 150000 200
+for ((i = 0; i < 12; i++)); do printf 'read 1.0_head b %d 1044480\n' $((i * 1048576)); done | each 'a read of 255 pages' 12000000 12
+printf 'sum 1.0_head b\nsum 1.0_head b\n' | each 'a sum of 128 MiB' 500000000 2
+
+: >"$made/empty"
+"$program" mkfs "$made/disk" --half 65536 --units 200000 >/dev/null
+told 'opening an empty half of 65536 units' 1100000000 "$(counted "$made/empty")"
+{
+  echo 'mkcoll 1.0_head'
+  for ((i = 0; i < 8000; i++)); do printf 'write 1.0_head o%05d 0 fill:%02x:4096\n' $((i * 2477 % 8000)) $((i % 256)); done
+} | set_up 8192 30000
+told 'opening 8000 objects of a record each, scrambled' 300000000 "$(counted "$made/empty")"
+! grep -q BEYOND "$made/told"

@@ -2,8 +2,9 @@
 """Tells what a run of rt ci spends, crate by crate, by looking at its provers once a second.
 
 Usage: bench/gate_sample.py FOLDER, where FOLDER is the repository in which rt ci runs, or is about to. It ends with that run, and
-prints the processor seconds of each crate's proof, tests and edits as lines of the table in docs/gate.md. What a prover spends in
-its last second is lost, and so is one that is gone within a second.
+prints the processor seconds of each crate's proof, tests and edits as lines of the table in docs/gate.md, and then the dearest runs
+of a prover, each edit by its number in the order of names, and the checks of an unchanged crate that its edits begin and end with.
+What a prover spends in its last second is lost, and so is one that is gone within a second.
 """
 import collections
 import os
@@ -11,6 +12,7 @@ import sys
 import time
 
 TICK = os.sysconf("SC_CLK_TCK")
+DEAREST = 40
 
 
 def words_of(process):
@@ -43,6 +45,14 @@ def find_ci(folder):
     return None
 
 
+def kind_of(process, words):
+    """Whether a prover proves a crate, its tests or an edit, and which edit: rt begins each over a folder with its number."""
+    if os.path.basename(os.readlink(f"/proc/{process}/cwd")).startswith("rt-edit"):
+        begins = words[words.index("--incremental") + 1] if "--incremental" in words else "alone"
+        return "edits", os.path.basename(begins)
+    return ("tests" if "--test" in words else "proof"), ""
+
+
 def look(ci, spent):
     """Notes what each prover below rt ci has spent so far."""
     for process in filter(str.isdigit, os.listdir("/proc")):
@@ -51,11 +61,10 @@ def look(ci, spent):
             if not words[0].endswith("/rattle") or "--crate-name" not in words or not is_below(process, ci):
                 continue
             numbers = numbers_of(process)
-            is_edit = os.path.basename(os.readlink(f"/proc/{process}/cwd")).startswith("rt-edit")
+            kind = kind_of(process, words)
         except OSError:
             continue
-        kind = "edits" if is_edit else "tests" if "--test" in words else "proof"
-        key = words[words.index("--crate-name") + 1], kind, process, numbers[19]
+        key = words[words.index("--crate-name") + 1], *kind, process, numbers[19]
         spent[key] = sum(map(int, numbers[11:15])) / TICK
 
 
@@ -68,12 +77,15 @@ def main():
     while os.path.isdir(f"/proc/{ci}"):
         look(ci, spent)
         time.sleep(1)
-    rows = collections.defaultdict(collections.Counter)
-    for (crate, kind, _, _), seconds in spent.items():
+    rows, runs = collections.defaultdict(collections.Counter), collections.Counter()
+    for (crate, kind, which, _, _), seconds in spent.items():
         rows[crate][kind] += seconds
+        runs[crate, kind, which] += seconds
     for crate in sorted(rows):
         proof, tests, edits = (rows[crate][kind] for kind in ("proof", "tests", "edits"))
         print(f"| `{crate}` | {proof:.0f} | {tests:.0f} | {edits:.0f} | {proof + tests + edits:.0f} |")
+    for (crate, kind, which), seconds in runs.most_common(DEAREST):
+        print(f"{seconds:6.0f} {crate} {kind} {which}".rstrip())
 
 
 if __name__ == "__main__":

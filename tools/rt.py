@@ -1,8 +1,9 @@
 #!/usr/bin/env python3
 """Runs the kit's command rt with these words, faster where a crate stands on many others.
 
-With the words `below NAME --jobs N` it proves the libraries that a crate stands on, each as soon as those below it are proved,
-and shares N processors among those under way: rt gives each one processor, or does one after the other.
+With the words `below NAME --jobs N` it proves the libraries that a crate stands on, each as soon as those below it are proved, at
+most N at a time: rt gives each one processor, or does one after the other. The one with the longest chain of crates above it may
+use all N processors, and goes before the others, since nothing is done before that chain is.
 
 rt knows by a stamp whether a library is as it was: a sum of its sources and of the stamps of all libraries that it names. It
 reckons each of them anew wherever one is named, which for the program bstore takes longer than the proofs. Here the stamp of a
@@ -52,37 +53,40 @@ def longest_chains(crates):
     return chains
 
 
-def prove_one(crate, jobs, ended):
+def prove_one(crate, jobs, is_first, ended):
     """Proves a library with so many jobs, and tells its status and what it printed."""
     status, said = 1, ""
     try:
+        if not is_first:
+            os.nice(10)  # this thread alone, and what it starts
         os.makedirs(os.path.join(crate.folder, "out"), exist_ok=True)
         with tempfile.TemporaryFile("a+", errors="replace") as crate.out:
             status = crate.build_rlib(["--jobs", str(jobs)], anew=False)
             crate.out.seek(0)
             said = crate.out.read()
     finally:
-        ended.put((crate, jobs, status, said))
+        ended.put((crate, status, said))
 
 
-def prove_below(kit, name, processors):
+def prove_below(kit, name, most):
     """Proves what a crate stands on. Those with the longest chains above them come first."""
     kit.rtlib.guarded()  # it can't be called first in a thread
     crates = kit.rtlib.crates_below(os.getcwd())
     todo = next(it for it in crates if it.name == name).below()
     held = kit.rtlib.lock(todo)
-    chains, done, ended, free, failed = longest_chains(todo), set(), queue.Queue(), processors, 0
-    while free < processors or todo and not failed:
+    chains, done, ended, busy, failed = longest_chains(todo), set(), queue.Queue(), set(), 0
+    while busy or todo and not failed:
         ready = [] if failed else [it for it in todo if done.issuperset(it.below())]
         ready.sort(key=chains.get)
-        while ready and free:
-            jobs = max(1, free // len(ready))
+        while ready and len(busy) < most:
             crate = ready.pop()
+            is_first = chains[crate] >= max(map(chains.get, busy | set(todo)))
             todo.remove(crate)
-            free -= jobs
-            threading.Thread(target=prove_one, args=(crate, jobs, ended), daemon=True).start()
-        crate, jobs, status, said = ended.get()
-        free += jobs
+            busy.add(crate)
+            jobs = most if is_first else max(1, most // (len(ready) + len(busy)))
+            threading.Thread(target=prove_one, args=(crate, jobs, is_first, ended), daemon=True).start()
+        crate, status, said = ended.get()
+        busy.remove(crate)
         failed = failed or status
         if not status:
             done.add(crate)

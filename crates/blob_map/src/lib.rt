@@ -16,6 +16,3 @@ mod value_writing;
 pub use laws::{bounds_of_extents, normal_form, one_map_for_extents};
 pub use page_map::PageMap;
 pub use place::Place;
-
-#[cfg(test)]
-mod tests;

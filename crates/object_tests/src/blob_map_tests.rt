@@ -1,8 +1,9 @@
-//! Page maps made by hand, and their extents.
-use super::*;
+//! Page maps made by hand, their extents, and the values of shards' rows.
+
+use blob_map::{PageMap, Place};
 use onode_codec::{Body, Extent};
-use std::alloc::Global;
-use std::test::*;
+use std::alloc::{AllocError, Global};
+use std::test::Fail;
 use unit_fields::UnitNo;
 
 fn place(unit: u32) -> Place {
@@ -13,7 +14,7 @@ fn place(unit: u32) -> Place {
 }
 
 // The map of these pages, each with its unit.
-fn map_of(alloc: Global, pages: &[(u32, u32)]) -> Result<PageMap, Fail> {
+fn map_of(alloc: Global, pages: &[(u32, u32)]) -> Result<PageMap, AllocError> {
     let mut map = PageMap::new(alloc);
     for (page, unit) in pages {
         map.set(*page, place(*unit))?;
@@ -22,12 +23,14 @@ fn map_of(alloc: Global, pages: &[(u32, u32)]) -> Result<PageMap, Fail> {
 }
 
 // The first page, the number of pages and the first unit of an extent.
-fn shape(extent: &Extent) -> (u32, usize, u32) {
+type Shape = (u32, usize, u32);
+
+fn shape(extent: &Extent) -> Shape {
     let Body::Private { unit, csums } = &extent.body;
     (extent.first, csums.len(), unit.number())
 }
 
-fn shapes(alloc: Global, map: &PageMap) -> Result<Vec<(u32, usize, u32)>, Fail> {
+fn shapes(alloc: Global, map: &PageMap) -> Result<Vec<Shape>, AllocError> {
     let mut shapes = Vec::new(alloc);
     for extent in map.extents(alloc)?.as_slice() {
         shapes.push(shape(extent))?;
@@ -36,30 +39,41 @@ fn shapes(alloc: Global, map: &PageMap) -> Result<Vec<(u32, usize, u32)>, Fail> 
 }
 
 #[test]
-fn runs(rt: HostRuntime) -> Result<(), Fail> {
+fn extents(rt: HostRuntime) -> Result<(), Fail> {
     let alloc = rt.alloc();
-    let map = map_of(
+    let mut map = map_of(
         alloc,
         &[(4, 31), (0, 20), (1, 21), (2, 22), (5, 32), (6, 34)],
     )?;
     let wanted = [(0, 3, 20), (4, 2, 31), (6, 1, 34)];
     assert_eq!(rt; shapes(alloc, &map)?.as_slice(), wanted.as_slice());
+    map.put(alloc, 1, &[place(60), place(61)])?;
+    let wanted = [(0, 1, 20), (1, 2, 60), (4, 2, 31), (6, 1, 34)];
+    assert_eq!(rt; shapes(alloc, &map)?.as_slice(), wanted.as_slice());
+    let gone = map.punch(alloc, 2, 3)?;
+    assert_eq!(rt;
+        gone.as_slice(),
+        [(2, place(61)), (4, place(31))].as_slice()
+    );
+    let wanted = [(0, 1, 20), (1, 1, 60), (5, 1, 32), (6, 1, 34)];
+    assert_eq!(rt; shapes(alloc, &map)?.as_slice(), wanted.as_slice());
     Ok(())
+}
+
+// So many pages on consecutive units.
+fn one_run(alloc: Global, count: u32) -> Result<PageMap, AllocError> {
+    let mut map = PageMap::new(alloc);
+    for page in 0..count {
+        map.set(page, place(page.saturating_add(50)))?;
+    }
+    Ok(map)
 }
 
 #[test]
 fn long_runs(rt: HostRuntime) -> Result<(), Fail> {
-    let alloc = rt.alloc();
-    let mut map = PageMap::new(alloc);
-    for page in 0..300u32 {
-        map.set(page, place(page + 50))?;
-    }
+    let map = one_run(rt.alloc(), 300)?;
     let wanted = [(0, 256, 50), (256, 44, 306)];
-    assert_eq!(rt; shapes(alloc, &map)?.as_slice(), wanted.as_slice());
-    let gone = map.punch(alloc, 10, 280)?;
-    assert_eq!(rt; gone.len(), 280);
-    let wanted = [(0, 10, 50), (290, 10, 340)];
-    assert_eq!(rt; shapes(alloc, &map)?.as_slice(), wanted.as_slice());
+    assert_eq!(rt; shapes(rt.alloc(), &map)?.as_slice(), wanted.as_slice());
     Ok(())
 }
 
@@ -80,7 +94,7 @@ fn values_written(rt: HostRuntime) -> Result<(), Fail> {
 }
 
 // What the value of a shard says, put into a map that has page 4 on unit 70 and page 5 on unit 71.
-fn read_over(alloc: Global) -> Result<PageMap, Fail> {
+fn read_over(alloc: Global) -> Result<PageMap, AllocError> {
     let mut map = map_of(alloc, &[(4, 70), (5, 71)])?;
     map.put_value(TWO_EXTENTS)?;
     Ok(map)
@@ -90,19 +104,13 @@ fn read_over(alloc: Global) -> Result<PageMap, Fail> {
 fn values_read(rt: HostRuntime) -> Result<(), Fail> {
     let alloc = rt.alloc();
     let map = read_over(alloc)?.copy(alloc)?;
-    let wanted = [(3, 2, 40), (5, 1, 71), (7, 1, 60)];
-    assert_eq!(rt; shapes(alloc, &map)?.as_slice(), wanted.as_slice());
+    let wanted = [
+        (3, place(40)),
+        (4, place(41)),
+        (5, place(71)),
+        (7, place(60)),
+    ];
+    assert_eq!(rt; map.pages(), wanted.as_slice());
     assert_eq!(rt; (map.find(4), map.find(6)), (Some(place(41)), None));
-    assert_eq!(rt; map.pages().len(), 4);
-    Ok(())
-}
-
-#[test]
-fn runs_put(rt: HostRuntime) -> Result<(), Fail> {
-    let alloc = rt.alloc();
-    let mut map = map_of(alloc, &[(0, 20), (1, 21), (2, 22), (3, 23)])?;
-    map.put(alloc, 1, &[place(60), place(61)])?;
-    let wanted = [(0, 1, 20), (1, 2, 60), (3, 1, 23)];
-    assert_eq!(rt; shapes(alloc, &map)?.as_slice(), wanted.as_slice());
     Ok(())
 }

@@ -1,6 +1,6 @@
 use Rattle.std.proofs.Common.{◌∷◌, [], refl, arith}
 use Rattle.row_format.specs.Extents.{private}
-use Rattle.blob_map.proofs.tests.read_over.Goals as goal
+use Rattle.object_tests.proofs.blob_map_tests.read_over.Goals as goal
 
 pub put_value-requires : goal.put_value-requires
 put_value-requires c = record {

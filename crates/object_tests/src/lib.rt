@@ -1,0 +1,6 @@
+//! Tests of the crates that turn objects into rows, read them and plan writes, and of the texts of runs. They stand above the crates
+//! that they test, so that each of those is proved once.
+#![tactic(auto)]
+
+#[cfg(test)]
+mod blob_map_tests;

@@ -13,6 +13,3 @@ pub use laws::{
     flips_turn_their_units, flips_twice_restore, good_bitmaps, record_of_flips,
 };
 pub use marks::read;
-
-#[cfg(test)]
-mod tests;

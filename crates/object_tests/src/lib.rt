@@ -3,4 +3,8 @@
 #![tactic(auto)]
 
 #[cfg(test)]
+mod bitmap_freelist_tests;
+#[cfg(test)]
 mod blob_map_tests;
+#[cfg(test)]
+mod rows;

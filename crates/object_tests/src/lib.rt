@@ -7,4 +7,6 @@ mod bitmap_freelist_tests;
 #[cfg(test)]
 mod blob_map_tests;
 #[cfg(test)]
+mod row_check_tests;
+#[cfg(test)]
 mod rows;

@@ -16,8 +16,3 @@ pub use bad::find_bad_row;
 pub use bitmap::marked_units;
 pub use key::{Part, RowKey, read_key};
 pub use row::{Row, read_row};
-
-#[cfg(test)]
-mod reading_tests;
-#[cfg(test)]
-mod store_tests;

@@ -9,6 +9,3 @@ mod object;
 
 pub use names::{coll_name_is_one, name_is_one};
 pub use object::{ObjectState, object_pages, object_size, object_state};
-
-#[cfg(test)]
-mod tests;

@@ -15,8 +15,3 @@ pub use answering::answer;
 pub use fail::ReadFail;
 pub use names::next_collection;
 pub use view::next_object;
-
-#[cfg(test)]
-mod names_tests;
-#[cfg(test)]
-mod tests;

@@ -14,3 +14,5 @@ mod onode_state_tests;
 mod row_check_tests;
 #[cfg(test)]
 mod rows;
+#[cfg(test)]
+mod write_planner_tests;

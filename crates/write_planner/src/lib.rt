@@ -11,6 +11,3 @@ mod planning;
 mod turns;
 
 pub use planning::{PlanFail, plan};
-
-#[cfg(test)]
-mod tests;

@@ -15,4 +15,6 @@ mod row_check_tests;
 #[cfg(test)]
 mod rows;
 #[cfg(test)]
+mod run_texts_tests;
+#[cfg(test)]
 mod write_planner_tests;

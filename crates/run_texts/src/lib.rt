@@ -17,6 +17,3 @@ mod work_end;
 pub use reports::{report_dump, report_mkfs, report_step, show_usage};
 pub use status::{Status, Stop};
 pub use work_end::WorkEnd;
-
-#[cfg(test)]
-mod tests;

@@ -7,5 +7,3 @@ pub mod Ending
 pub mod Opening
 pub mod Keeping
 pub mod Reading
-pub mod ZeroDevice
-pub mod NoRecords

@@ -86,27 +86,6 @@ impl<D: Device> Model for Kernel<D> {
         (state_of k.meta k.view.rows k.pending k.batch k.flying.items k.down k.events k.space k.entries.items k.commits.items k.acked) (D.disk k.device) };
 }
 
-// Tests let a kernel go at any moment; a mounted one is closed.
-#[cfg(test)]
-impl<D: Device + Drop> Drop for Kernel<D> {
-    fn drop(self) {
-        let Kernel {
-            device: _,
-            meta: _,
-            view: _,
-            pending: _,
-            batch: _,
-            flying: _,
-            down: _,
-            events: _,
-            space: _,
-            entries: _,
-            commits: _,
-            acked: _,
-        } = self;
-    }
-}
-
 impl<D: Device> Kernel<D> {
     /// The kernel of a store whose rows and log are these, over a device on which nothing is in flight. The submitted rows are a copy
     /// of the committed ones, and `space` has the data units that the bitmap leaves free. `events` is how many events the device has

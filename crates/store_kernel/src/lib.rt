@@ -21,6 +21,3 @@ pub use kernel::Kernel;
 pub use refused::Refused;
 pub use step_fail::StepFail;
 pub use unanswered::{Unanswered, WalkFail};
-
-#[cfg(test)]
-mod tests;

@@ -19,8 +19,3 @@ pub use laws::a_mount_opens_the_objects;
 pub use making::{MkfsFail, mkfs};
 pub use mounting::{mount, unmount};
 pub use opening::MountFail;
-
-#[cfg(test)]
-mod mount_tests;
-#[cfg(test)]
-mod tests;

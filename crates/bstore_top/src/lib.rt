@@ -19,6 +19,3 @@ pub use laws::{
 };
 pub use outcome::Outcome;
 pub use running::{solo, top};
-
-#[cfg(test)]
-mod tests;

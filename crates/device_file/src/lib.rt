@@ -6,6 +6,3 @@ mod opening;
 mod sync;
 
 pub use sync::SyncFile;
-
-#[cfg(test)]
-mod tests;

@@ -2,8 +2,8 @@
 
 ghost use Rattle.std.specs.Prelude.{◌≤◌, IfSome};
 
-use super::*;
 use block_device::{Device, Failed};
+use device_file::SyncFile;
 use std::fs;
 use std::fs::File;
 use std::process::Abort;

@@ -19,6 +19,3 @@ pub use laws::{
     stable_is_good, torn_is_crash, write_dirties,
 };
 pub use memory::MemoryDevice;
-
-#[cfg(test)]
-mod tests;

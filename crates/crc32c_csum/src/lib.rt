@@ -10,6 +10,3 @@ mod unit;
 
 pub use crc::{Digest, crc32c};
 pub use unit::CheckedUnit;
-
-#[cfg(test)]
-mod tests;

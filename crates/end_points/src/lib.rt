@@ -17,6 +17,3 @@ pub use memory_sink::MemorySink;
 pub use memory_source::MemorySource;
 pub use sink::{Fault, Sink};
 pub use source::Source;
-
-#[cfg(test)]
-mod tests;

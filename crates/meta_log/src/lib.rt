@@ -16,10 +16,3 @@ pub use laws::{
 pub use scanning::{FoundLog, FoundRecord, read_record, record_units, scan};
 pub use sealed::SealedRecord;
 pub use slot::Super;
-
-#[cfg(test)]
-mod record_tests;
-#[cfg(test)]
-mod scan_tests;
-#[cfg(test)]
-mod tests;

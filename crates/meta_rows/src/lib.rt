@@ -24,8 +24,3 @@ pub use row_op::RowOp;
 pub use row_range::RowRange;
 pub use row_table::RowTable;
 pub use writing::{encode, encoded_len};
-
-#[cfg(test)]
-mod reading_tests;
-#[cfg(test)]
-mod tests;

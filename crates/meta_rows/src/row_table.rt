@@ -307,16 +307,3 @@ impl RowTable {
         Ok(())
     }
 }
-
-#[cfg(test)]
-impl RowTable {
-    /// How many chunks hold rows.
-    pub fn chunks(&self) -> usize {
-        self.all.list.len()
-    }
-
-    /// How many hold none.
-    pub fn spare_chunks(&self) -> usize {
-        self.all.spare.len()
-    }
-}

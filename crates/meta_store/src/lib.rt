@@ -9,6 +9,3 @@ mod store;
 
 pub use full::MetaFull;
 pub use store::MetaStore;
-
-#[cfg(test)]
-mod tests;

@@ -15,6 +15,3 @@ pub use keys::{
 };
 pub use laws::{one_list_of_extents_for_a_spelling, one_onode_for_a_spelling};
 pub use onode::Onode;
-
-#[cfg(test)]
-mod tests;

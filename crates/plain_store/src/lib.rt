@@ -14,6 +14,3 @@ pub use collection::Collection;
 pub use fault::ArgFault;
 pub use object::{PlainObject, overwritten, resized};
 pub use plain::Plain;
-
-#[cfg(test)]
-mod tests;

@@ -23,6 +23,3 @@ pub use laws::{
 pub use line::{Line, What};
 pub use said::Said;
 pub use script::read_script;
-
-#[cfg(test)]
-mod tests;

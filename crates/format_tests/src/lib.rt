@@ -1,0 +1,30 @@
+//! Tests of the crates below the store's objects: what no clause of theirs says. Each module is of the crate that it is named after, and makes
+//! its public calls. They stand here and not in those crates, since a crate that has tests is proved twice.
+#![tactic(auto)]
+
+#[cfg(test)]
+mod block_device_tests;
+#[cfg(test)]
+mod byte_maps_tests;
+#[cfg(test)]
+mod crc32c_csum_tests;
+#[cfg(test)]
+mod end_points_tests;
+#[cfg(test)]
+mod meta_log_tests;
+#[cfg(test)]
+mod meta_rows_tests;
+#[cfg(test)]
+mod meta_store_tests;
+#[cfg(test)]
+mod number_map_tests;
+#[cfg(test)]
+mod onode_codec_tests;
+#[cfg(test)]
+mod plain_store_tests;
+#[cfg(test)]
+mod script_text_tests;
+#[cfg(test)]
+mod unit_allocator_tests;
+#[cfg(test)]
+mod unit_fields_tests;

@@ -3,6 +3,7 @@ pub mod RowReading
 pub mod KeyOrder
 pub mod Walk
 pub mod Shards
+pub mod Before
 pub mod Ascending
 pub mod Collected
 pub mod MarkSteps

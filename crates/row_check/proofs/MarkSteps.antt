@@ -1,43 +1,111 @@
 -- The steps of marking, as the loops see them.
-use Rattle.std.proofs.Common.{◌≡◌, ℕ, zero, suc, ◌+◌, ◌<◌, ◌≤◌, List, [], ◌∷◌, length, get_or, drop, refl, sym, ap, subst, ◌∙◌, arith}
-use Rattle.std.specs.List.{AllByRecursion}
-use Rattle.std.proofs.lemmas.List.{length-set, drop_more, drop_all}
-use Rattle.row_format.specs.Extents.{Body, private, Extent}
-use Rattle.row_check.specs.Marks.{Marks, run_marked, body_marked, extents_marked, EndsBy, AllEndBy}
+use Rattle.std.proofs.Common.{◌≡◌, ℕ, zero, suc, ◌+◌, ◌*◌, ◌<◌, ◌≤◌, List, [], ◌∷◌, ◌++◌, length, drop, refl, sym, ap, subst, ◌∙◌, arith}
+use Rattle.std.specs.List.{flat_map, AllByRecursion}
+use Rattle.std.specs.Int.{w32, to_le_bytes}
+use Rattle.std.proofs.lemmas.List.{length-append, length-set, drop_at}
+use Rattle.std.proofs.lemmas.List.Concat.{flat_map-cons}
+use Rattle.unit_fields.specs.Fields.{ReadsBytes}
+use Rattle.row_format.specs.Extents.{Body, private, Extent, extent_bytes, FitsExtent}
+use Rattle.onode_codec.specs.declared.extent.Head.{Head}
+use Rattle.onode_codec.specs.Reading.{BeginsWithNoExtent, ReadsHead, SpellExtents}
+use Rattle.onode_codec.proofs.Again.{same_extents}
+use Rattle.onode_codec.proofs.ExtentReading.{head_front, length-numbers}
+use Rattle.row_check.specs.Marks.{Marks, run_marked, extents_marked, AllEndBy, SpellExtentsBelow}
 
 pub length-run : (m : Marks) (first n : ℕ) → length (run_marked m first n).owned ≡ length m.owned
 length-run m first zero = refl
 length-run m first (suc n) = length-set _ (first + n) _ ∙ length-run m first n
 
-length-body : (m : Marks) (body : Body) → length (body_marked m body).owned ≡ length m.owned
-length-body m (private unit csums) = length-run m unit (length csums)
+-- the head of the first of these extents was read
+record IsFirst (mid : List ℕ) (h : Head) (left : List Extent) : Type 0 where
+  pub csums : List ℕ
+  pub count_is : h.count ≡ length csums
+  pub rest : List Extent
+  pub is : left ≡ record { first = h.first; body = private h.unit csums } ∷ rest
+  pub behind : mid ≡ flat_map (to_le_bytes w32) csums ++ flat_map extent_bytes rest
+  pub fit : AllByRecursion FitsExtent rest
 
--- the extents before this place were marked
-pub record IsMarkedTo (old : Marks) (es : List Extent) (i : ℕ) (m : Marks) : Type 0 where
-  pub rest : extents_marked m (drop i es) ≡ extents_marked old es
-  pub many : length m.owned ≡ length old.owned
+first_is : (fields mid : List ℕ) (h : Head) (left : List Extent) → SpellExtents fields left → ReadsHead fields mid h → IsFirst mid h left
+first_is fields mid h [] spelled read = absurd (omega (arith, ap length (sym spelled.spelled ∙ read.spelled)))
+first_is fields mid h (e ∷ es) spelled read = by e.first e.body spelled.fit.0 (spelled.spelled ∙ flat_map-cons extent_bytes e es)
+  where
+    by : (first : ℕ) (b : Body) → FitsExtent (record { first = first; body = b })
+        → fields ≡ extent_bytes (record { first = first; body = b }) ++ flat_map extent_bytes es → IsFirst mid h (record { first = first; body = b } ∷ es)
+    by first (private unit csums) fits is =
+        let at = head_front fields mid (flat_map extent_bytes es) h first unit csums read fits is in
+        record {
+          csums = csums;
+          count_is = at.count_is;
+          rest = es;
+          is = λ i. record { first = sym at.first_is i; body = private (sym at.unit_is i) csums } ∷ es;
+          behind = at.behind;
+          fit = spelled.fit.1;
+        }
 
-pub at_start : (m : Marks) (es : List Extent) → IsMarkedTo m es 0 m
-at_start m es = record { rest = refl; many = refl }
+-- the extents that bytes spell are marked but for those that are left
+pub record AreMarkedTo (old : Marks) (bytes fields : List ℕ) (m : Marks) : Type 0 where
+  pub all : List Extent
+  pub whole : SpellExtents bytes all
+  pub left : List Extent
+  pub spelled : SpellExtents fields left
+  pub below : AllEndBy (length m.owned) left
+  pub marked : extents_marked m left ≡ extents_marked old all
 
-pub one_of_all : {X : Type 0} (P : X → Type 0) (xs : List X) (i : ℕ) (d : X) → AllByRecursion P xs → i < length xs → P (get_or xs i d)
-one_of_all P [] i d all lt = absurd (omega (arith, lt))
-one_of_all P (x ∷ xs) zero d all lt = all.0
-one_of_all P (x ∷ xs) (suc i) d all lt = one_of_all P xs i d all.1 (omega (arith, lt))
-
-pub extent_step : (old : Marks) (es : List Extent) (i : ℕ) (m new : Marks) (e : Extent) → IsMarkedTo old es i m → i < length es → e ≡ get_or es i e
-    → new ≡ body_marked m e.body → IsMarkedTo old es (i + 1) new
-extent_step old es i m new e before lt is marked = record {
-  rest = ap (λ x. extents_marked x (drop (i + 1) es)) (marked ∙ ap (λ (x : Extent). body_marked m x.body) is)
-      ∙ sym (ap (extents_marked m) (drop_more es i e lt)) ∙ before.rest;
-  many = ap (λ (x : Marks). length x.owned) marked ∙ length-body m e.body ∙ before.many;
+pub none_marked : (old : Marks) (bytes fields : List ℕ) → SpellExtentsBelow bytes (length old.owned) → fields ≡ bytes → AreMarkedTo old bytes fields old
+none_marked old bytes fields spell is = record {
+  all = spell.extents;
+  whole = spell.spelled;
+  left = spell.extents;
+  spelled = subst (λ l. SpellExtents l spell.extents) (sym is) spell.spelled;
+  below = spell.below;
+  marked = refl;
 }
 
-pub extents_done : (old : Marks) (es : List Extent) (i : ℕ) (m : Marks) → IsMarkedTo old es i m → length es ≤ i → m ≡ extents_marked old es
-extents_done old es i m before end = sym (ap (extents_marked m) (drop_all i es end)) ∙ before.rest
+module _ (old : Marks) (bytes fields : List ℕ) (m : Marks) (so_far : AreMarkedTo old bytes fields m) where
+  module _ (mid : List ℕ) (h : Head) (read : ReadsHead fields mid h) where
+    first : IsFirst mid h so_far.left
+    first = first_is fields mid h so_far.left so_far.spelled read
 
--- the next extent's units have marks
-pub extent_ends : (old : Marks) (es : List Extent) (i : ℕ) (m : Marks) (e : Extent) → IsMarkedTo old es i m → AllEndBy (length old.owned) es
-    → i < length es → e ≡ get_or es i e → EndsBy (length m.owned) e.body
-extent_ends old es i m e before all lt is = subst (λ n. EndsBy n e.body) (sym before.many)
-    (subst (λ (x : Extent). EndsBy (length old.owned) x.body) (sym is) (one_of_all (λ (x : Extent). EndsBy (length old.owned) x.body) es i e all lt))
+    ends : AllEndBy (length m.owned) (record { first = h.first; body = private h.unit first.csums } ∷ first.rest)
+    ends = subst (AllEndBy (length m.owned)) first.is so_far.below
+
+    pub units_there : h.unit + h.count ≤ length m.owned
+    units_there = let here = ends.0 in omega (arith, here, first.count_is)
+
+    pub csums_there : 4 * h.count ≤ length mid
+    csums_there = omega (
+      arith,
+      first.count_is,
+      ap length first.behind,
+      length-append (flat_map (to_le_bytes w32) first.csums) (flat_map extent_bytes first.rest),
+      length-numbers first.csums,
+    )
+
+    module _ (new piece : List ℕ) (passed : ReadsBytes (4 * h.count) mid new piece) where
+      pub fewer : length new < length fields
+      fewer = omega (arith, ap length read.spelled, ap length passed.parts, length-append piece new)
+
+      rest_spelled : new ≡ flat_map extent_bytes first.rest
+      rest_spelled =
+          let n : ℕ = 4 * h.count in
+          let size : length (flat_map (to_le_bytes w32) first.csums) ≡ n = omega (arith, length-numbers first.csums, first.count_is) in
+          sym (drop_at piece new n passed.size) ∙ ap (drop n) (sym passed.parts ∙ first.behind)
+          ∙ drop_at (flat_map (to_le_bytes w32) first.csums) (flat_map extent_bytes first.rest) n size
+
+      pub one_marked : (then : Marks) → then ≡ run_marked m h.unit h.count → AreMarkedTo old bytes new then
+      one_marked then is = record {
+        all = so_far.all;
+        whole = so_far.whole;
+        left = first.rest;
+        spelled = record { fit = first.fit; spelled = rest_spelled };
+        below = subst (λ n. AllEndBy n first.rest) (sym (ap (λ (x : Marks). length x.owned) is ∙ length-run m h.unit h.count)) ends.1;
+        marked = ap (λ x. extents_marked x first.rest) (is ∙ ap (run_marked m h.unit) first.count_is)
+            ∙ sym (ap (extents_marked m) first.is) ∙ so_far.marked;
+      }
+
+  pub all_marked : BeginsWithNoExtent fields → (es : List Extent) → SpellExtents bytes es → m ≡ extents_marked old es
+  all_marked none es spelled = by so_far.left so_far.spelled so_far.marked ∙ ap (extents_marked old) (same_extents bytes so_far.all es so_far.whole spelled)
+    where
+      by : (left : List Extent) → SpellExtents fields left → extents_marked m left ≡ extents_marked old so_far.all → m ≡ extents_marked old so_far.all
+      by [] spelled is = is
+      by (e ∷ left) spelled is = absurd (none e (flat_map extent_bytes left) spelled.fit.0 (spelled.spelled ∙ flat_map-cons extent_bytes e left))

@@ -1,5 +1,5 @@
 -- What the marks of the rows that were gone through tell.
-use Rattle.std.proofs.Common.{◌≡◌, ◌⊎◌, ◌↔◌, inl, inr, ℕ, ◌+◌, ◌<◌, ◌≤◌, false, List, [], ◌∷◌, length, get_or, replicate, Some, refl, sym, ap, subst, ◌∙◌, arith}
+use Rattle.std.proofs.Common.{◌≡◌, ◌⊎◌, ◌↔◌, inl, inr, ℕ, ◌+◌, ◌<◌, ◌≤◌, true, false, List, [], ◌∷◌, length, get_or, replicate, Some, refl, sym, ap, subst, ◌∙◌, arith}
 use Rattle.std.specs.List.{AllByRecursion}
 use Rattle.std.specs.declared.cmp.Ordering.TheVariants.{Less}
 use Rattle.std.specs.FinMap as map
@@ -15,13 +15,14 @@ use Rattle.row_format.specs.Row as format
 use Rattle.row_format.specs.Row.{collection, onode, shard, bitmap}
 use Rattle.row_format.proofs.RowLemmas.{same_row}
 use Rattle.store_image.specs.Pages.{HasRow, IsPageAt}
-use Rattle.store_image.specs.BadRows.{IsOnData, IsShardInPlace, NoBadRow}
+use Rattle.store_image.specs.BadRows.{IsOnData, IsShardInPlace, IsGoodRow, NoBadRow}
 use Rattle.store_image.specs.Owners.{Owner, page_of, Owns}
 use Rattle.store_image.proofs.PageMap.{in_place}
 use Rattle.store_image.proofs.ByteLemmas.{equal_or_not}
 use Rattle.row_check.specs.Reading.{SpellsRow}
-use Rattle.row_check.specs.Marks.{Marks, no_marks, EndsBy, AllEndBy, RowEndsBy}
-use Rattle.row_check.specs.Owned.{AreMarked, AreMarkedOn, SpellsWithin}
+use Rattle.onode_codec.specs.Reading.{SpellExtents}
+use Rattle.row_check.specs.Marks.{Marks, no_marks, extents_marked, EndsBy, AllEndBy, RowEndsBy, SpellExtentsBelow}
+use Rattle.row_check.specs.Owned.{AreMarked, AreMarkedOn, SpellsRowWithin, IsShard, TellsShard}
 use Rattle.row_check.proofs.Walk.{AreRows, rising, entry_is, has_spelled}
 use Rattle.row_check.proofs.OneMark.{Tells, HasUnits, tells_same}
 use Rattle.row_check.proofs.RunMarks.{ExtentsOwn, RowOwns, RowAscends, row_tells, row_units, page_below, page_of_shard}
@@ -62,6 +63,29 @@ none_marked es units = record {
 }
 
 -- ---- one row
+
+-- the pages of a row that is a shard are marked, and another row has none
+pub shard_below : (key value : List ℕ) (units : ℕ) → SpellsRowWithin key value units → TellsShard key value true → SpellExtentsBelow value units
+shard_below key value units w told = by w.row w.spells w.within
+  where
+    by : (row : format.Row) → SpellsRow key value row → RowEndsBy units row → SpellExtentsBelow value units
+    by (collection c) s within = absurd ((told (collection c) s).0 refl)
+    by (onode c o size) s within = absurd ((told (onode c o size) s).0 refl)
+    by (shard c o page es) s within = record { extents = es; spelled = record { fit = s.fits.fit; spelled = s.value_is }; below = within }
+    by (bitmap r bits) s within = absurd ((told (bitmap r bits) s).0 refl)
+
+pub shard_marked : (key value : List ℕ) (old new : Marks) → TellsShard key value true
+    → ((es : List Extent) → SpellExtents value es → new ≡ extents_marked old es) → AreMarkedOn key value old new
+shard_marked key value old new told all (collection c) s = absurd ((told (collection c) s).0 refl)
+shard_marked key value old new told all (onode c o size) s = absurd ((told (onode c o size) s).0 refl)
+shard_marked key value old new told all (shard c o page es) s = all es (record { fit = s.fits.fit; spelled = s.value_is })
+shard_marked key value old new told all (bitmap r bits) s = absurd ((told (bitmap r bits) s).0 refl)
+
+pub no_shard_marked : (key value : List ℕ) (old : Marks) → TellsShard key value false → AreMarkedOn key value old old
+no_shard_marked key value old told (collection c) s = refl
+no_shard_marked key value old told (onode c o size) s = refl
+no_shard_marked key value old told (shard c o page es) s = absurd (let is = (told (shard c o page es) s).1 tt in cc)
+no_shard_marked key value old told (bitmap r bits) s = refl
 
 pub same_spelled : (key value : List ℕ) (a b : format.Row) → SpellsRow key value a → SpellsRow key value b → a ≡ b
 same_spelled key value a b p q = same_row a b p.fits q.fits (sym p.key_is ∙ q.key_is) (sym p.value_is ∙ q.value_is)
@@ -157,8 +181,16 @@ module _ (s : Super) (rows : Rows) (good : NoBadRow s rows) where
     has_here : (row : format.Row) → SpellsRow key value row → HasRow rows row
     has_here row spells = has_spelled rows es are i x row l (at_here row spells x)
 
-    pub spells_within : SpellsWithin key value s.units
-    spells_within row spells = row_ends row (has_here row spells)
+    -- the row at this place is good
+    good_here : IsGoodRow s rows key value
+    good_here = good key value (subst (λ (e : List ℕ × List ℕ). map.get rows e.0 ≡ Some e.1) (pair x) (are.has i x l))
+
+    spelled_here : SpellsRow key value good_here.row
+    spelled_here = record { fits = good_here.fits; key_is = good_here.key_is; value_is = good_here.value_is }
+
+    pub spells_within : SpellsRowWithin key value s.units
+    spells_within =
+        record { row = good_here.row; spells = spelled_here; within = row_ends good_here.row (has_here good_here.row spelled_here) }
 
     fresh : (row : format.Row) → SpellsRow key value row → (a : Owner) (u w : ℕ) → RowOwns row a u → OwnsBefore es i a w → ⊥
     fresh row spells a u w owns b =
@@ -186,13 +218,12 @@ module _ (s : Super) (rows : Rows) (good : NoBadRow s rows) where
 
     pub row_step : (m new : Marks) → MarkedTo es i s.units m → AreMarkedOn key value m new → MarkedTo es (i + 1) s.units new
     row_step m new old on =
-        let g = good key value (subst (λ (e : List ℕ × List ℕ). map.get rows e.0 ≡ Some e.1) (pair x) (are.has i x l)) in
-        let spells : SpellsRow key value g.row = record { fits = g.fits; key_is = g.key_is; value_is = g.value_is } in
-        let has = has_here g.row spells in
-        subst (MarkedTo es (i + 1) s.units) (sym (on g.row spells)) (record {
-          told = tells_same _ _ _ (more g.row spells)
-              (row_tells g.row (OwnsBefore es i) m s.units old.told old.has (row_ends g.row has) (row_ascends g.row has) (fresh g.row spells));
-          has = row_units s.units g.row m old.has;
+        let row = good_here.row in
+        let has = has_here row spelled_here in
+        subst (MarkedTo es (i + 1) s.units) (sym (on row spelled_here)) (record {
+          told = tells_same _ _ _ (more row spelled_here)
+              (row_tells row (OwnsBefore es i) m s.units old.told old.has (row_ends row has) (row_ascends row has) (fresh row spelled_here));
+          has = row_units s.units row m old.has;
         })
 
 -- ---- all rows

@@ -49,6 +49,17 @@ abbrev pub EndsBefore : Option Row → List ℕ → List ℕ → ℕ → Type 0
 EndsBefore (Some (rows.Shard d u first es)) c o page = d ≡ c → u ≡ o → AllByRecursion (λ e. page_end e ≤ page) es
 EndsBefore _ c o page = Unit {0}
 
+-- this row is of an object of the collection
+abbrev pub IsOfObjectIn : Option Row → List ℕ → Type 0
+IsOfObjectIn (Some (rows.Onode d u size)) c = d ≡ c
+IsOfObjectIn (Some (rows.Shard d u first es)) c = d ≡ c
+IsOfObjectIn _ c = ⊥
+
+-- this row is the object's onode, and says this size
+abbrev pub IsOnodeOf : Option Row → List ℕ → List ℕ → ℕ → Type 0
+IsOnodeOf (Some (rows.Onode d u own)) c o size = (d ≡ c) × (u ≡ o) × (own ≡ size)
+IsOnodeOf _ c o size = ⊥
+
 -- the object is there, and the extents end within its size
 pub record IsWithinOnode (rows : Rows) (c o : List ℕ) (extents : List Extent) : Type 0 where
   pub has_onode : HasKey rows (onode_key c o)

@@ -4,6 +4,7 @@ use Rattle.std.specs.List.{AllByRecursion}
 use Rattle.std.specs.Coded.{Coded, code_by, coded×, coded_list, coded_bool}
 use Rattle.row_format.specs.Extents.{Body, private, Extent}
 use Rattle.row_format.specs.Row as format
+use Rattle.onode_codec.specs.Reading.{SpellExtents}
 
 -- the first and the second mark of each unit
 pub record Marks : Type 0 where
@@ -53,3 +54,9 @@ AllEndBy units es = AllByRecursion (λ e. EndsBy units e.body) es
 abbrev pub RowEndsBy : ℕ → format.Row → Type 0
 RowEndsBy units (format.shard c o page es) = AllEndBy units es
 RowEndsBy units row = Unit {0}
+
+-- the bytes spell extents, the units of whose pages are below this one
+pub record SpellExtentsBelow (bytes : List ℕ) (units : ℕ) : Type 0 where
+  pub extents : List Extent
+  pub spelled : SpellExtents bytes extents
+  pub below : AllEndBy units extents

@@ -1,5 +1,5 @@
 -- The units that have owners, and those that have more than one.
-use Rattle.std.specs.Prelude.{◌≡◌, ◌↔◌, ℕ, true, false, IsTrue, List, slice_index_or}
+use Rattle.std.specs.Prelude.{◌≡◌, ◌↔◌, ℕ, Bool, true, false, IsTrue, List, slice_index_or}
 use Rattle.std.specs.FinSet as set
 use Rattle.std.specs.Ordering.{nat_cmp}
 use Rattle.meta_rows.specs.Rows.{Rows}
@@ -25,6 +25,16 @@ pub record AreMarked (rows : Rows) (m : Marks) : Type 0 where
 abbrev pub AreMarkedOn : List ℕ → List ℕ → Marks → Marks → Type 0
 AreMarkedOn key value old new = (row : format.Row) → SpellsRow key value row → new ≡ row_marked old row
 
--- the units of the row that a key and a value spell are below this one
-abbrev pub SpellsWithin : List ℕ → List ℕ → ℕ → Type 0
-SpellsWithin key value units = (row : format.Row) → SpellsRow key value row → RowEndsBy units row
+-- a key and a value spell a row, and its units are below this one
+pub record SpellsRowWithin (key value : List ℕ) (units : ℕ) : Type 0 where
+  pub row : format.Row
+  pub spells : SpellsRow key value row
+  pub within : RowEndsBy units row
+
+abbrev pub IsShard : format.Row → Type 0
+IsShard (format.shard c o page es) = Unit {0}
+IsShard row = ⊥
+
+-- whether the row that a key and a value spell is a shard
+abbrev pub TellsShard : List ℕ → List ℕ → Bool → Type 0
+TellsShard key value told = (row : format.Row) → SpellsRow key value row → IsTrue told ↔ IsShard row

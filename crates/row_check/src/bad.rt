@@ -4,11 +4,34 @@ ghost use Rattle.store_image.specs.BadRows.{IsGoodRow, NoBadRow};
 ghost use Rattle.row_check.specs.Bad.{IsLeastBad, IsWalkedTo, IsGood};
 
 use crate::in_place::is_in_place;
-use crate::row::{Row, read_row};
+use crate::row::{Row, read_row_after};
 use byte_maps::Bytes;
 use meta_log::Super;
 use meta_rows::RowTable;
 use std::alloc::{AllocError, Global};
+use unit_fields::CollName;
+
+// The collection of an object that a row is of.
+fn coll_of(row: &Option<Row>) -> Option<&CollName> {
+    match row {
+        Some(
+            Row::Onode {
+                coll,
+                object: _object,
+                size: _size,
+            },
+        ) => Some(coll),
+        Some(
+            Row::Shard {
+                coll,
+                object: _object,
+                page: _page,
+                extents: _extents,
+            },
+        ) => Some(coll),
+        _ => None,
+    }
+}
 
 // The row that a key and a value are, where it is good. The rows before it are good, and `last` is the last of them.
 fn good_row(
@@ -23,7 +46,7 @@ fn good_row(
     ensures { IfOk result (λ found. MatchOption found (¬ (IsGoodRow sup.now rows.now.rows key.now value.now))
         (IsGood sup.now rows.now.rows key.now value.now)) }
 {
-    let Some(row) = read_row(alloc, key, value)? else {
+    let Some(row) = read_row_after(alloc, coll_of(last), key, value)? else {
         return Ok(None);
     };
     if is_in_place(alloc, sup, rows, last, &row)? {

@@ -1,5 +1,5 @@
 //! Whether a row is in its place among the rows of a store.
-ghost use Rattle.std.specs.Prelude.{◌≡◌, ◌↔◌, ◌≤◌, ◌<◌, ℕ, IsTrue, IfOk, length};
+ghost use Rattle.std.specs.Prelude.{◌≡◌, ◌↔◌, ◌≤◌, ◌<◌, ℕ, IsTrue, IfOk, IfSome, length};
 ghost use Rattle.std.specs.List.{AllByRecursion};
 ghost use Rattle.unit_fields.specs.Names.{IsName, IsCollName};
 ghost use Rattle.row_format.specs.Keys.{coll_key, onode_key};
@@ -10,7 +10,7 @@ ghost use Rattle.store_image.specs.BadRows.{IsOnData, AreOfData, IsInPlace};
 ghost use Rattle.store_image.specs.Owners.{IsDataUnit};
 ghost use Rattle.onode_codec.specs.Reading.{SpellsOnode};
 ghost use Rattle.row_check.specs.Reading.{row_of};
-ghost use Rattle.row_check.specs.Bad.{EndsBefore, IsWithinOnode, ShardStands, IsWalkedTo};
+ghost use Rattle.row_check.specs.Bad.{EndsBefore, IsOfObjectIn, IsOnodeOf, IsWithinOnode, ShardStands, IsWalkedTo};
 ghost use Rattle.row_check.specs.DataBits.{bit_at_place, IsBitOfData};
 
 use crate::row::Row;
@@ -96,11 +96,52 @@ fn ends_before(last: &Option<Row>, coll: &CollName, object: &Name, page: u32) ->
     }
 }
 
-fn has_collection(alloc: Global, rows: &RowTable, coll: &CollName) -> Result<bool, AllocError>
+// Whether the row before is of an object of this collection.
+fn is_of_object_in(last: &Option<Row>, coll: &CollName) -> bool
+    ensures { IsTrue result → IsOfObjectIn last.now coll.now }
+{
+    match last {
+        Some(
+            Row::Onode {
+                coll: of_coll,
+                object: _object,
+                size: _size,
+            },
+        ) => of_coll.as_slice() == coll.as_slice(),
+        Some(
+            Row::Shard {
+                coll: of_coll,
+                object: _object,
+                page: _page,
+                extents: _extents,
+            },
+        ) => of_coll.as_slice() == coll.as_slice(),
+        _ => false,
+    }
+}
+
+// Whether the collection is there. Where the row before is good and of one of its objects, it is.
+fn has_collection(
+    alloc: Global,
+    rows: &RowTable,
+    last: &Option<Row>,
+    coll: &CollName,
+) -> Result<bool, AllocError>
+    requires { IsOfObjectIn last.now coll.now → HasKey rows.now.rows (coll_key coll.now) }
     ensures { IfOk result (λ there. IsTrue there ↔ HasKey rows.now.rows (coll_key coll.now)) }
 {
+    if is_of_object_in(last, coll) {
+        return Ok(true);
+    }
     let key = coll_key(alloc, coll)?;
     Ok(rows.get(key.as_slice()).is_some())
+}
+
+// Whether the extents end within an object of this size.
+fn are_within_size(extents: &[Extent], size: u64) -> bool
+    ensures { IsTrue result ↔ AllByRecursion (λ e. page_end e ≤ pages_of size) extents.now }
+{
+    all_end_by(extents, size.div_ceil(UNIT_BYTES as u64))
 }
 
 // Whether the extents end within the size that this value of an onode says. A value that says none bounds nothing: its own row is bad.
@@ -108,23 +149,44 @@ fn are_within(extents: &[Extent], onode: &[u8]) -> bool
     ensures { IsTrue result ↔ ((size : ℕ) → SpellsOnode onode.now size → AllByRecursion (λ e. page_end e ≤ pages_of size) extents.now) }
 {
     match Onode::decode(onode) {
-        Some(onode) => all_end_by(extents, onode.size.div_ceil(UNIT_BYTES as u64)),
+        Some(onode) => are_within_size(extents, onode.size),
         None => true,
     }
 }
 
-// Whether the object is there, and the extents end within its size.
+// The size of the object, where the row before is its onode.
+fn size_of(last: &Option<Row>, coll: &CollName, object: &Name) -> Option<u64>
+    ensures { IfSome result (IsOnodeOf last.now coll.now object.now) }
+{
+    match last {
+        Some(
+            Row::Onode {
+                coll: of_coll,
+                object: of_object,
+                size,
+            },
+        ) if is_of_object(of_coll, of_object, coll, object) => Some(*size),
+        _ => None,
+    }
+}
+
+// Whether the object is there, and the extents end within its size. Where the row before is the object's onode, it says the size.
 fn are_within_object(
     alloc: Global,
     rows: &RowTable,
+    last: &Option<Row>,
     coll: &CollName,
     object: &Name,
     extents: &[Extent],
 ) -> Result<bool, AllocError>
     requires coll { IsCollName coll.now }
     requires object { IsName object.now }
+    requires before { (size : ℕ) → IsOnodeOf last.now coll.now object.now size → HasRow rows.now.rows (onode coll.now object.now size) }
     ensures { IfOk result (λ within. IsTrue within ↔ IsWithinOnode rows.now.rows coll.now object.now extents.now) }
 {
+    if let Some(size) = size_of(last, coll, object) {
+        return Ok(are_within_size(extents, size));
+    }
     let key = onode_key(alloc, coll, object)?;
     match rows.get(key.as_slice()) {
         Some(value) => Ok(are_within(extents, value.as_slice())),
@@ -137,16 +199,19 @@ fn shard_stands(
     alloc: Global,
     sup: &Super,
     rows: &RowTable,
+    last: &Option<Row>,
     coll: &CollName,
     object: &Name,
     extents: &[Extent],
 ) -> Result<bool, AllocError>
     requires coll { IsCollName coll.now }
     requires object { IsName object.now }
+    requires collection { IsOfObjectIn last.now coll.now → HasKey rows.now.rows (coll_key coll.now) }
+    requires before { (size : ℕ) → IsOnodeOf last.now coll.now object.now size → HasRow rows.now.rows (onode coll.now object.now size) }
     ensures { IfOk result (λ stands. IsTrue stands ↔ ShardStands sup.now rows.now.rows coll.now object.now extents.now) }
 {
-    if ascend(extents) && all_on_data(sup, extents) && has_collection(alloc, rows, coll)? {
-        are_within_object(alloc, rows, coll, object, extents)
+    if ascend(extents) && all_on_data(sup, extents) && has_collection(alloc, rows, last, coll)? {
+        are_within_object(alloc, rows, last, coll, object, extents)
     } else {
         Ok(false)
     }
@@ -208,7 +273,7 @@ pub fn is_in_place(
             coll,
             object: _object,
             size,
-        } => Ok(*size <= OBJECT_LIMIT && has_collection(alloc, rows, coll)?),
+        } => Ok(*size <= OBJECT_LIMIT && has_collection(alloc, rows, last, coll)?),
         Row::Shard {
             coll,
             object,
@@ -216,7 +281,7 @@ pub fn is_in_place(
             extents,
         } => {
             if ends_before(last, coll, object, *page) {
-                shard_stands(alloc, sup, rows, coll, object, extents.as_slice())
+                shard_stands(alloc, sup, rows, last, coll, object, extents.as_slice())
             } else {
                 Ok(false)
             }

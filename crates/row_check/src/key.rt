@@ -2,6 +2,7 @@
 ghost use Rattle.std.specs.Prelude.{◌≡◌, ◌≢◌, ◌<◌, ◌++◌, ◌∷◌, ℕ, List, length, slice_index, IfOk, IfNone, IfSome, MatchOption};
 ghost use Rattle.std.specs.List.{AllByRecursion};
 ghost use Rattle.std.specs.Int.{w32, to_be_bytes};
+ghost use Rattle.unit_fields.specs.Names.{IsCollName};
 ghost use Rattle.row_check.specs.Reading.{IsPart, part_bytes, IsNoObject, IsNoKey, SpellsObject, SpellsKey};
 ghost use Rattle.row_check.specs.declared.key.Part.{Part};
 
@@ -11,7 +12,8 @@ use unit_fields::{CollName, Fields, Name};
 // The first byte of a key: the kind of its row.
 const COLLECTION: u8 = b'C';
 
-const OBJECT: u8 = b'O';
+/// The same of an object's own rows.
+pub(crate) const OBJECT: u8 = b'O';
 
 const BITMAP: u8 = b'b';
 
@@ -90,8 +92,26 @@ fn read_part(bytes: &[u8]) -> Option<Part>
     }
 }
 
+// The collection's name with these bytes, if they are one. It is copied where it is one that was read before.
+fn read_coll(
+    alloc: Global,
+    known: Option<&CollName>,
+    bytes: &[u8],
+) -> Result<Option<CollName>, AllocError>
+    ensures { IfOk result (λ found. MatchOption found (¬ (IsCollName bytes.now)) (λ name. (name ≡ bytes.now) × IsCollName bytes.now)) }
+{
+    match known {
+        Some(name) if name.as_slice() == bytes => Ok(Some(name.copy(alloc)?)),
+        _ => CollName::read(alloc, bytes),
+    }
+}
+
 // The key of an object's row behind its first byte.
-fn read_object(alloc: Global, bytes: &[u8]) -> Result<Option<RowKey>, AllocError>
+fn read_object(
+    alloc: Global,
+    known: Option<&CollName>,
+    bytes: &[u8],
+) -> Result<Option<RowKey>, AllocError>
     ensures { IfOk result (λ found. MatchOption found (IsNoObject bytes.now) (SpellsObject bytes.now)) }
 {
     let Some((coll, rest)) = until_zero(bytes) else {
@@ -103,7 +123,7 @@ fn read_object(alloc: Global, bytes: &[u8]) -> Result<Option<RowKey>, AllocError
     let Some(part) = read_part(rest) else {
         return Ok(None);
     };
-    let Some(coll) = CollName::read(alloc, coll)? else {
+    let Some(coll) = read_coll(alloc, known, coll)? else {
         return Ok(None);
     };
     let Some(object) = Name::read(alloc, object)? else {
@@ -130,6 +150,17 @@ fn read_bit_row(bytes: &[u8]) -> Option<u32>
 pub fn read_key(alloc: Global, key: &[u8]) -> Result<Option<RowKey>, AllocError>
     ensures { IfOk result (λ found. MatchOption found (IsNoKey key.now) (SpellsKey key.now)) }
 {
+    read_key_after(alloc, None, key)
+}
+
+/// The same, sooner where it names an object of a collection that is known.
+pub(crate) fn read_key_after(
+    alloc: Global,
+    known: Option<&CollName>,
+    key: &[u8],
+) -> Result<Option<RowKey>, AllocError>
+    ensures { IfOk result (λ found. MatchOption found (IsNoKey key.now) (SpellsKey key.now)) }
+{
     let Some((kind, rest)) = key.split_first() else {
         return Ok(None);
     };
@@ -138,7 +169,7 @@ pub fn read_key(alloc: Global, key: &[u8]) -> Result<Option<RowKey>, AllocError>
             Some(coll) => Ok(Some(RowKey::Collection { coll })),
             None => Ok(None),
         },
-        OBJECT => read_object(alloc, rest),
+        OBJECT => read_object(alloc, known, rest),
         BITMAP => match read_bit_row(rest) {
             Some(row) => Ok(Some(RowKey::Bitmap { row })),
             None => Ok(None),

@@ -1,19 +1,20 @@
 //! The units that the rows own.
-ghost use Rattle.std.specs.Prelude.{ℕ, ◌≡◌, ◌<◌, ◌^◌, IfOk, OnOk, OnErr, false, length, slice_index_or};
+ghost use Rattle.std.specs.Prelude.{ℕ, ◌≡◌, ◌<◌, ◌^◌, IfOk, false, length, slice_index_or};
 ghost use Rattle.std.specs.FinSet as set;
 ghost use Rattle.meta_log.specs.Slots.{IsSuper};
 ghost use Rattle.store_image.specs.BadRows.{NoBadRow};
 ghost use Rattle.store_image.specs.Owners.{IsOwned};
-ghost use Rattle.row_check.specs.Reading.{row_of};
-ghost use Rattle.row_check.specs.Marks.{row_marked, RowEndsBy};
-ghost use Rattle.row_check.specs.Owned.{AreOwned, AreShared, AreMarked, AreMarkedOn, SpellsWithin};
+ghost use Rattle.row_check.specs.Owned.{AreOwned, AreShared, AreMarked, AreMarkedOn, SpellsRowWithin, TellsShard};
 
-use crate::row::{Row, read_row};
+use crate::key::OBJECT;
 use crate::unit_marks::UnitMarks;
 use meta_log::Super;
 use meta_rows::RowTable;
 use std::alloc::{AllocError, Global};
 use unit_fields::UnitSet;
+
+// The bytes of an onode's value.
+const ONODE_BYTES: usize = 8;
 
 /// The units that the rows own, and those of them that have two owners or more.
 #[derive(Debug, Drop)]
@@ -24,46 +25,24 @@ pub(crate) struct OwnedUnits {
     pub(crate) shared: UnitSet,
 }
 
-// Marks the units of a row's pages.
-fn mark_pages(marks: &mut UnitMarks, row: &Row)
-    requires { RowEndsBy (length marks.old.owned) (row_of row.now) }
-    ensures { marks.new ≡ row_marked marks.old (row_of row.now) }
+// Whether the row that a key and a value spell is a shard: of an object's other row, its onode, the value has eight bytes.
+fn is_shard(key: &[u8], value: &[u8]) -> bool
+    ensures { TellsShard key.now value.now result }
 {
-    match row {
-        Row::Collection { coll: _coll } => {}
-        Row::Onode {
-            coll: _coll,
-            object: _object,
-            size: _size,
-        } => {}
-        Row::Shard {
-            coll: _coll,
-            object: _object,
-            page: _page,
-            extents,
-        } => marks.mark_extents(extents.as_slice()),
-        Row::Bitmap {
-            row: _row,
-            bits: _bits,
-        } => {}
+    match key.split_first() {
+        Some((kind, _)) => *kind == OBJECT && value.len() != ONODE_BYTES,
+        None => false,
     }
 }
 
 // Marks the units of the pages of the row that a key and a value spell.
-fn mark_row(
-    alloc: Global,
-    marks: &mut UnitMarks,
-    key: &[u8],
-    value: &[u8],
-) -> Result<(), AllocError>
-    requires { SpellsWithin key.now value.now (length marks.old.owned) }
-    ensures ok { OnOk result (AreMarkedOn key.now value.now marks.old marks.new) }
-    ensures err { OnErr result (marks.new ≡ marks.old) }
+fn mark_row(marks: &mut UnitMarks, key: &[u8], value: &[u8])
+    requires { SpellsRowWithin key.now value.now (length marks.old.owned) }
+    ensures { AreMarkedOn key.now value.now marks.old marks.new }
 {
-    if let Some(row) = read_row(alloc, key, value)? {
-        mark_pages(marks, &row);
+    if is_shard(key, value) {
+        marks.mark_spelled(value);
     }
-    Ok(())
 }
 
 // Marks the units of all pages.
@@ -73,7 +52,7 @@ fn marks_of(alloc: Global, sup: &Super, rows: &RowTable) -> Result<UnitMarks, Al
 {
     let mut marks = UnitMarks::new(alloc, sup.units)?;
     for (key, value) in rows.range(b"", None) {
-        mark_row(alloc, &mut marks, key.as_slice(), value.as_slice())?;
+        mark_row(&mut marks, key.as_slice(), value.as_slice());
     }
     Ok(marks)
 }

@@ -6,7 +6,7 @@ ghost use Rattle.row_format.specs.Keys.{onode_key, shard_key, bitmap_key};
 ghost use Rattle.row_format.specs.Extents.{BeginsAt};
 ghost use Rattle.row_check.specs.Reading.{row_of, SpellsRow, IsNoRow};
 
-use crate::key::{Part, RowKey, read_key};
+use crate::key::{Part, RowKey, read_key_after};
 use byte_maps::{Bytes, Items, is_zero};
 use onode_codec::{Extent, Onode, decode_extents};
 use std::alloc::{AllocError, Global};
@@ -121,7 +121,19 @@ fn read_bits(alloc: Global, row: u32, value: &[u8]) -> Result<Option<Row>, Alloc
 pub fn read_row(alloc: Global, key: &[u8], value: &[u8]) -> Result<Option<Row>, AllocError>
     ensures { IfOk result (λ found. MatchOption found (IsNoRow key.now value.now) (λ row. SpellsRow key.now value.now (row_of row))) }
 {
-    match read_key(alloc, key)? {
+    read_row_after(alloc, None, key, value)
+}
+
+/// The same, sooner where it is the row of an object of a collection that is known.
+pub(crate) fn read_row_after(
+    alloc: Global,
+    known: Option<&CollName>,
+    key: &[u8],
+    value: &[u8],
+) -> Result<Option<Row>, AllocError>
+    ensures { IfOk result (λ found. MatchOption found (IsNoRow key.now value.now) (λ row. SpellsRow key.now value.now (row_of row))) }
+{
+    match read_key_after(alloc, known, key)? {
         None => Ok(None),
         Some(RowKey::Collection { coll }) if value.is_empty() => Ok(Some(Row::Collection { coll })),
         Some(RowKey::Collection { .. }) => Ok(None),

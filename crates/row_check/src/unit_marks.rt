@@ -1,11 +1,17 @@
 //! Marks at the units where pages stand.
-ghost use Rattle.std.specs.Prelude.{◌≡◌, ◌+◌, ◌<◌, ◌≤◌, IfOk, false, length, replicate};
-ghost use Rattle.row_check.specs.Marks.{no_marks, one_more, run_marked, body_marked, extents_marked, EndsBy, AllEndBy};
+ghost use Rattle.std.specs.Prelude.{◌≡◌, ◌+◌, ◌<◌, ◌≤◌, List, IfOk, false, length, replicate};
+ghost use Rattle.row_format.specs.Extents.{Extent};
+ghost use Rattle.onode_codec.specs.Reading.{SpellExtents};
+ghost use Rattle.row_check.specs.Marks.{no_marks, one_more, run_marked, extents_marked, SpellExtentsBelow};
 
-use onode_codec::{Body, Extent};
+use onode_codec::Head;
 use std::alloc::{AllocError, Global};
 use std::marker::Model;
 use std::mem::replace;
+use unit_fields::Fields;
+
+// The bytes of a checksum in the value of a shard.
+const CSUM_BYTES: usize = 4;
 
 /// For each unit of a device a mark where a page stands on it, and a second one where another page does too.
 #[derive(Drop)]
@@ -64,22 +70,18 @@ impl UnitMarks {
         }
     }
 
-    // The pages of an extent stand on their units.
-    fn mark_extent(&mut self, extent: &Extent)
-        requires { EndsBy (length self.old.owned) extent.now.body }
-        ensures { self.new ≡ body_marked self.old extent.now.body }
+    /// The pages of the extents that these bytes spell stand on their units. Their checksums are passed over.
+    pub fn mark_spelled(&mut self, bytes: &[u8])
+        requires { SpellExtentsBelow bytes.now (length self.old.owned) }
+        ensures { (es : List Extent) → SpellExtents bytes.now es → self.new ≡ extents_marked self.old es }
     {
-        let Body::Private { unit, csums } = &extent.body;
-        self.mark_run(unit.number() as usize, csums.len());
-    }
-
-    /// The pages of these extents stand on their units.
-    pub fn mark_extents(&mut self, extents: &[Extent])
-        requires { AllEndBy (length self.old.owned) extents.now }
-        ensures { self.new ≡ extents_marked self.old extents.now }
-    {
-        for extent in extents {
-            self.mark_extent(extent);
+        let _marks = &self.owned;
+        let mut fields = Fields::new(bytes);
+        'extents: while let Some(head) = Head::read(&mut fields) {
+            self.mark_run(head.unit.number() as usize, usize::from(head.count));
+            let Some(_csums) = fields.bytes(CSUM_BYTES * usize::from(head.count)) else {
+                unreachable!();
+            };
         }
     }
 

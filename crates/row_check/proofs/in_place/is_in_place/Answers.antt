@@ -1,7 +1,22 @@
 use Rattle.std.proofs.Common.{◌≡◌, true, false, sym, ◌∙◌}
 use Rattle.row_check.specs.Bad.{EndsBefore}
+use Rattle.row_format.specs.Row.{row_key}
+use Rattle.row_check.specs.Reading.{row_of}
 use Rattle.row_check.proofs.Shards.{shard_answer, shard_refused}
+use Rattle.row_check.proofs.Before.{collection_before, onode_before}
 use Rattle.row_check.proofs.in_place.is_in_place.Goals as goal
+
+pub has_collection-requires : goal.has_collection-requires
+has_collection-requires c =
+    collection_before c.args.sup.now c.args.rows.now.rows (row_key (row_of c.args.row.now)) c.args.last.now c.in-Onode.coll c.requires.walked
+
+pub shard_stands-requires-clause-collection : goal.shard_stands-requires-clause-collection
+shard_stands-requires-clause-collection c =
+    collection_before c.args.sup.now c.args.rows.now.rows (row_key (row_of c.args.row.now)) c.args.last.now c.in-Shard.coll c.requires.walked
+
+pub shard_stands-requires-clause-before : goal.shard_stands-requires-clause-before
+shard_stands-requires-clause-before c = λ size.
+    onode_before c.args.sup.now c.args.rows.now.rows (row_key (row_of c.args.row.now)) c.args.last.now c.in-Shard.coll c.in-Shard.object size c.requires.walked
 
 pub returns-then-ends_before : goal.returns-then-ends_before
 returns-then-ends_before c =

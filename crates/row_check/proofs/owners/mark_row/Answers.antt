@@ -1,11 +1,19 @@
-use Rattle.std.proofs.Common.{ap, ◌∙◌}
-use Rattle.row_check.specs.Reading.{row_of, SpellsRow}
-use Rattle.row_check.specs.Marks.{row_marked}
-use Rattle.row_check.proofs.MarkedRows.{same_spelled}
+use Rattle.std.proofs.Common.{◌≡◌, true, false, sym, subst}
+use Rattle.row_check.specs.Owned.{TellsShard}
+use Rattle.row_check.proofs.MarkedRows.{shard_below, shard_marked, no_shard_marked}
 use Rattle.row_check.proofs.owners.mark_row.Goals as goal
 
-pub returns-in-Some-clause-ok : goal.returns-in-Some-clause-ok
-returns-in-Some-clause-ok c = λ row spells.
-    let read = row_of c.in-Some.row in
-    let own : SpellsRow c.args.key.now c.args.value.now read = rw c.in-Some.is at c.in_ok-row.ensures in
-    c.mark_pages.ensures ∙ ap (row_marked c.args.marks.now) (same_spelled c.args.key.now c.args.value.now read row own spells)
+pub mark_spelled-requires : goal.mark_spelled-requires
+mark_spelled-requires c =
+    let told : TellsShard c.args.key.now c.args.value.now true = subst (TellsShard c.args.key.now c.args.value.now) c.if-is_shard.true c.is_shard.ensures in
+    shard_below c.args.key.now c.args.value.now _ c.requires told
+
+pub returns-then-is_shard : goal.returns-then-is_shard
+returns-then-is_shard c =
+    let told : TellsShard c.args.key.now c.args.value.now true = subst (TellsShard c.args.key.now c.args.value.now) c.if-is_shard.true c.is_shard.ensures in
+    shard_marked c.args.key.now c.args.value.now c.args.marks.now c.mark_spelled.new.self told c.mark_spelled.ensures
+
+pub returns-else-is_shard : goal.returns-else-is_shard
+returns-else-is_shard c =
+    let told : TellsShard c.args.key.now c.args.value.now false = subst (TellsShard c.args.key.now c.args.value.now) c.if-is_shard.false c.is_shard.ensures in
+    no_shard_marked c.args.key.now c.args.value.now c.args.marks.now told

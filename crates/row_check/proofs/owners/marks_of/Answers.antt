@@ -1,7 +1,7 @@
 use Rattle.std.proofs.Common.{◌≡◌, ◌+◌, [], None, refl, sym, subst, ◌∙◌, arith}
 use Rattle.meta_rows.specs.Table.{rows_from_to}
 use Rattle.meta_rows.proofs.RangeLemmas.{left_more, left_none}
-use Rattle.row_check.specs.Owned.{SpellsWithin}
+use Rattle.row_check.specs.Owned.{SpellsRowWithin}
 use Rattle.row_check.proofs.Walk.{AreRows, are_rows}
 use Rattle.row_check.proofs.MarkedRows.{MarkedTo, none_marked, spells_within, row_step, all_marked}
 use Rattle.row_check.proofs.owners.marks_of.Goals as goal
@@ -24,7 +24,7 @@ mark_row-requires c =
     let more = left_more es c.loop-key.invariant.at x c.next.new.self (sym c.loop-key.invariant.left ∙ c.in-Some.ensures.steps) in
     let key = c.as_slice.result.now in
     let value = c.as_slice-in-loop-key.result.now in
-    subst (SpellsWithin key value) (sym c.loop-key.invariant.marked.has.owned)
+    subst (SpellsRowWithin key value) (sym c.loop-key.invariant.marked.has.owned)
     (spells_within c.args.sup.now rows c.requires es are c.loop-key.invariant.at x key value more.0 more.1 c.as_slice.ensures c.as_slice-in-loop-key.ensures)
 
 pub loop-key-preserved : goal.loop-key-preserved
@@ -41,7 +41,7 @@ loop-key-preserved c =
       at = at + 1;
       left = more.2;
       marked = row_step c.args.sup.now rows c.requires es are at x c.as_slice.result.now c.as_slice-in-loop-key.result.now more.0 more.1 c.as_slice.ensures
-          c.as_slice-in-loop-key.ensures c.loop-key.marks c.mark_row.new.marks c.loop-key.invariant.marked c.in_ok-mark_row.ensures.ok;
+          c.as_slice-in-loop-key.ensures c.loop-key.marks c.mark_row.new.marks c.loop-key.invariant.marked c.mark_row.ensures;
     }
 
 pub returns : goal.returns

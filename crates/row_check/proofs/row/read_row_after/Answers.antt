@@ -1,8 +1,8 @@
 use Rattle.row_check.specs.Reading.{IsNoKey}
 use Rattle.row_check.proofs.RowReading.{no_row}
-use Rattle.row_check.proofs.row.read_row.Goals as goal
+use Rattle.row_check.proofs.row.read_row_after.Goals as goal
 
 pub returns-in-None : goal.returns-in-None
 returns-in-None c =
-    let none : IsNoKey c.args.key.now = rw c.in-None.is at c.in_ok-read_key.ensures in
+    let none : IsNoKey c.args.key.now = rw c.in-None.is at c.in_ok-read_key_after.ensures in
     no_row c.args.key.now c.args.value.now none

@@ -3,7 +3,7 @@ use Rattle.std.proofs.Common.{◌≡◌, inl, inr, ℕ, ◌+◌, ◌-◌, ◌*�
 use Rattle.std.specs.Prelude.{MatchOption}
 use Rattle.std.specs.FinMap as map
 use Rattle.std.proofs.lemmas.Bool.{cases_lt}
-use Rattle.std.proofs.lemmas.List.{length-append, append-nil, drop-drop, drop-append-le, take-append-le, take_at, drop_at}
+use Rattle.std.proofs.lemmas.List.{length-append, append-nil, drop-drop, drop-append-le, take-append-le, take_at, drop_at, drop_all}
 use Rattle.byte_maps.specs.Units.{unit_at, units_from, IsUnits}
 use Rattle.byte_maps.proofs.UnitLemmas.{unit_at-append_front, unit_at-append_back}
 use Rattle.block_device.specs.Disk.{Disk, HasRead, IsSound}
@@ -110,6 +110,29 @@ reads_join d a b c p q = record {
   left = q.left ∙ ap (λ (l : List ℕ). l ++ q.bytes) p.left ∙ append_assoc (left_of a) p.bytes q.bytes;
   units = between_join a.next b.next c.next p.bytes q.bytes d p.order q.order p.units q.units;
 }
+
+-- one piece, over bytes that were all passed over
+pub reads_over : (d : Disk) (old new : HalfReader) (count : ℕ) (piece : List ℕ) → IsSound d → IsReader old → HasRead d old.next count piece
+    → old.next + count ≤ old.end → length old.bytes.items ≤ old.start → new.bytes.items ≡ piece → new.start ≡ 0 → new.at ≡ old.at
+    → new.next ≡ old.next + count → new.end ≡ old.end → ReadsOn d old new
+reads_over d old new count piece sound reader read inside over bytes start at next end_is =
+    let none : left_of old ≡ [] = drop_all old.start old.bytes.items over in
+    let left : left_of new ≡ left_of old ++ piece = ap₂ (λ (n : ℕ) (l : List ℕ). drop n l) start bytes ∙ ap (λ (l : List ℕ). l ++ piece) (sym none) in
+    let many : count ≡ new.next - old.next = omega (arith, next) in
+    record {
+      reader = record {
+        read = omega (arith, reader.read, at, next);
+        more = omega (arith, inside, next, end_is);
+        start = omega (arith, start);
+        size = omega (arith, ap length left, length-append (left_of old) piece, reader.size, reader.read, read.size, at, next);
+      };
+      at = at;
+      end_is = end_is;
+      order = omega (arith, next);
+      bytes = piece;
+      left = left;
+      units = subst (λ (n : ℕ). AreUnits old.next n piece d) many (units_read d old.next count piece sound read);
+    }
 
 -- one piece more
 pub reads_piece : (d : Disk) (old new : HalfReader) (count : ℕ) (piece : List ℕ) → IsSound d → IsReader old → HasRead d old.next count piece

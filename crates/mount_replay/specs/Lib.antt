@@ -5,6 +5,7 @@ pub mod NewSuper
 pub mod Cleared
 pub mod Clearing
 pub mod Replaying
+pub mod Gathering
 pub mod Made
 pub mod Opening
 pub mod HalfReading

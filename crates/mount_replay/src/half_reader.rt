@@ -37,7 +37,7 @@ pub struct HalfReader {
     pub next: u32,
     /// The unit behind the half.
     pub end: u32,
-    /// A buffer for one read.
+    /// A buffer for one read behind bytes that are left.
     pub piece: Vec<u8>,
 }
 
@@ -74,19 +74,42 @@ impl HalfReader {
         self.at += units;
     }
 
-    // Lets go of the bytes that were passed over.
+    // Lets go of the bytes that were passed over, if others are left.
     fn shrink(&mut self)
         requires { IsReader self.old }
         ensures reader { IsReader self.new }
         ensures left { left_of self.new ≡ left_of self.old }
         ensures places { (self.new.at ≡ self.old.at) × (self.new.next ≡ self.old.next) × (self.new.end ≡ self.old.end) }
     {
+        if self.start == self.bytes.len() {
+            return;
+        }
         cut_front(&mut self.bytes, self.start);
         self.start = 0;
     }
 
-    // Reads the next units, at most 64.
-    fn read_piece<D: Device>(&mut self, dev: &mut D) -> Result<(), Failed>
+    // Reads the next units, at most 64, over bytes that were all passed over.
+    fn read_over<D: Device>(&mut self, dev: &mut D) -> Result<(), Failed>
+        requires idle { (D.disk dev.old).flights ≡ [] }
+        requires reader { IsReader self.old }
+        requires inside { self.old.end ≤ (D.disk dev.old).units }
+        requires more { self.old.next < self.old.end }
+        requires over { length self.old.bytes.items ≤ self.old.start }
+        ensures same { D.disk dev.new ≡ D.disk dev.old }
+        ensures read { OnOk result (ReadsOn (D.disk dev.old) self.old self.new × (self.old.next < self.new.next)) }
+        ensures faults { D.faults dev.old ≤ D.faults dev.new }
+        ensures cause { IsErrOf result Failed.Fault → Rose (D.faults dev.old) (D.faults dev.new) }
+    {
+        let _ = dev.units();
+        let count = (self.end - self.next).min(MOST_UNITS);
+        self.start = 0;
+        dev.read(self.next, count, &mut self.bytes)?;
+        self.next += count;
+        Ok(())
+    }
+
+    // The same behind bytes that are left.
+    fn read_behind<D: Device>(&mut self, dev: &mut D) -> Result<(), Failed>
         requires idle { (D.disk dev.old).flights ≡ [] }
         requires reader { IsReader self.old }
         requires inside { self.old.end ≤ (D.disk dev.old).units }
@@ -104,6 +127,23 @@ impl HalfReader {
         };
         self.next += count;
         Ok(())
+    }
+
+    // Reads the next units, at most 64.
+    fn read_piece<D: Device>(&mut self, dev: &mut D) -> Result<(), Failed>
+        requires idle { (D.disk dev.old).flights ≡ [] }
+        requires reader { IsReader self.old }
+        requires inside { self.old.end ≤ (D.disk dev.old).units }
+        requires more { self.old.next < self.old.end }
+        ensures same { D.disk dev.new ≡ D.disk dev.old }
+        ensures read { OnOk result (ReadsOn (D.disk dev.old) self.old self.new × (self.old.next < self.new.next)) }
+        ensures faults { D.faults dev.old ≤ D.faults dev.new }
+        ensures cause { IsErrOf result Failed.Fault → Rose (D.faults dev.old) (D.faults dev.new) }
+    {
+        if self.bytes.len() <= self.start {
+            return self.read_over(dev);
+        }
+        self.read_behind(dev)
     }
 
     // Reads on until so many units are there.

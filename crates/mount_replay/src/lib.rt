@@ -5,6 +5,7 @@
 
 mod calls;
 mod clearing;
+mod gathering;
 mod half_reader;
 mod judging;
 mod laws;

@@ -3,18 +3,17 @@ ghost use Rattle.std.specs.Prelude.{◌≡◌, ◌≤◌, ◌+◌, [], OnOk, IfO
 ghost use Rattle.block_device.specs.Disk.{Rose};
 ghost use Rattle.meta_log.specs.declared.slot.Super.{Super};
 ghost use Rattle.meta_log.specs.Slots.{IsSuper, IsActiveSlot};
-ghost use Rattle.meta_rows.specs.Rows.{rows_after};
 ghost use Rattle.mount_replay.specs.Opening.{IsAbout, FailsMount};
 ghost use Rattle.mount_replay.specs.HalfReading.{IsNew, HasReplayed, IsHalfRead};
 ghost use Rattle.mount_replay.specs.FoundOn.{IsFoundOn};
 
+use crate::gathering::Gathered;
 use crate::half_reader::HalfReader;
 use crate::opening::{MountFail, failed, find_super};
 use block_device::{Device, Failed};
-use byte_maps::Items;
 use meta_log::Super;
-use meta_rows::{RowOp, RowTable};
-use std::alloc::{AllocError, Global};
+use meta_rows::RowTable;
+use std::alloc::Global;
 
 /// The rows that the records of a log make, and where the next record goes.
 #[derive(Debug, Drop)]
@@ -38,18 +37,8 @@ pub struct FoundStore {
     pub stale: Vec<u32>,
 }
 
-/// The rows after the operations of one record.
-fn apply(rows: &mut RowTable, ops: Items<RowOp>) -> Result<(), AllocError>
-    ensures { OnOk result (rows.new.rows ≡ rows_after rows.old.rows ops) }
-{
-    let ops = ops.into_vec();
-    rows.reserve(ops.len())?;
-    rows.apply(ops);
-    Ok(())
-}
-
-/// The rows that the records of a half of the log make, of consecutive numbers from `first` on. Each record's operations are applied
-/// before the next record is read, so that those of one record at a time are in memory.
+/// The rows that the records of a half of the log make, of consecutive numbers from `first` on. The operations of many
+/// records are applied together, by one merge with the rows.
 fn replay<D: Device>(
     alloc: Global,
     dev: &mut D,
@@ -66,17 +55,20 @@ fn replay<D: Device>(
     ensures cause { IsErrOf result Failed.Fault → Rose (D.faults dev.old) (D.faults dev.new) }
 {
     let _ = dev.units();
-    let mut rows = RowTable::new(alloc);
+    let mut gathered = Gathered::new(alloc);
     let mut tail = 0;
     let mut number = first;
     'records: while let Some(found) = half.record(alloc, dev, number)? {
         half.skip(found.units);
         tail += found.units;
         number += 1;
-        let Ok(()) = apply(&mut rows, found.ops) else {
+        let Ok(()) = gathered.take(alloc, found) else {
             return Err(Failed::Memory);
         };
     }
+    let Ok(rows) = gathered.finish(alloc) else {
+        return Err(Failed::Memory);
+    };
     Ok(Replayed { rows, tail, number })
 }
 

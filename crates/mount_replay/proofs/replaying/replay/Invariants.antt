@@ -1,4 +1,5 @@
 use Rattle.std.proofs.Common.{◌≡◌, ◌≤◌, ◌-◌}
+use Rattle.mount_replay.specs.Gathering.{rows_so_far}
 use Rattle.mount_replay.proofs.HalfLemmas.{ReplayedHalf}
 use Rattle.mount_replay.proofs.replaying.replay.Given as goal
 
@@ -8,7 +9,7 @@ invariant-records g l =
     let disk = g.D.Device.disk in
     let faults = g.D.Device.faults in
     (disk l.dev ≡ disk l.initial.dev) × (faults l.initial.dev ≤ faults l.dev)
-    × ReplayedHalf (disk l.initial.dev) l.initial.half l.fn.first l.half l.rows.rows l.tail l.number
+    × ReplayedHalf (disk l.initial.dev) l.initial.half l.fn.first l.half (rows_so_far l.gathered) l.tail l.number
 
 abbrev pub decreases-records : goal.decreases-records
 decreases-records g l = l.half.end - l.half.at

@@ -1,6 +1,6 @@
 use Rattle.std.proofs.Common.{refl, arith}
 use Rattle.mount_replay.proofs.HalfLemmas.{reads_piece}
-use Rattle.mount_replay.proofs.half_reader.HalfReader.read_piece.Goals as goal
+use Rattle.mount_replay.proofs.half_reader.HalfReader.read_behind.Goals as goal
 
 pub returns-clause-read : goal.returns-clause-read
 returns-clause-read g c = (

@@ -16,7 +16,8 @@ use Rattle.meta_rows.specs.Rows.{Rows}
 use Rattle.unit_allocator.specs.Units.{Space}
 use Rattle.store_steps.specs.declared.context.Context.{Context}
 use Rattle.store_steps.specs.declared.flight.Flying.{Flying}
-use Rattle.store_steps.specs.State.{Begun, Batch, State}
+use Rattle.meta_store.specs.Store.{Begun}
+use Rattle.store_steps.specs.State.{Batch, State}
 use Rattle.store_steps.specs.Contexts.{without_context, is_done, chosen}
 use Rattle.store_steps.specs.Opened.{Found, opened}
 use Rattle.store_steps.specs.Changes.{commit_of, taken_up, acknowledged, finished, committed_batch}

@@ -25,7 +25,8 @@ use Rattle.store_steps.specs.Planning.{units_taken}
 use Rattle.store_steps.specs.Ready.{is_ready}
 use Rattle.store_steps.specs.Runs.{Call, submitting, reading, stepping, DoesOrFails, MaySubmit, Submits, Reads, Calls, IsRun}
 use Rattle.store_steps.specs.Steps.{Takes, DoesReap}
-use Rattle.store_steps.specs.Submit.{need_of, room_of, free_count, entered, Accepts, Refuses}
+use Rattle.meta_store.specs.Store.{room_of}
+use Rattle.store_steps.specs.Submit.{need_of, free_count, entered, Accepts, Refuses}
 use Rattle.store_facts.specs.Kept.{IsKept, IsKeptUp}
 use Rattle.store_facts.proofs.Conditions.{ready_not_down, ready_by_table, ReadyCommit, commit_ready}
 use Rattle.store_facts.proofs.RowsPlans.{units_of, plan_takes_free, plan_count}

@@ -15,7 +15,8 @@ use Rattle.store_steps.specs.declared.flight.FlushState.TheVariants as flush
 use Rattle.store_steps.specs.declared.flight.Flying.{Flying}
 use Rattle.store_steps.specs.declared.step.Step.{Step}
 use Rattle.store_steps.specs.declared.step.Step.TheVariants.{Data, Reap, Flush, Seal, Record, Sync, Commit, Finish}
-use Rattle.store_steps.specs.State.{Begun, Batch, State}
+use Rattle.meta_store.specs.Store.{Begun}
+use Rattle.store_steps.specs.State.{Batch, State}
 use Rattle.store_steps.specs.Contexts.{Unsent, unsent_units, run_bytes, next_unsent, batch_ops, sum_needs}
 use Rattle.store_steps.specs.Ready.{is_ready_up, is_ready_down, is_ready, applied_count, is_drained}
 use Rattle.store_facts.specs.Flights.{IsWaiting}

@@ -14,7 +14,8 @@ use Rattle.unit_allocator.specs.Units.{Space, IsWithin, is_free, given}
 use Rattle.unit_allocator.proofs.Lists.{Contains-head}
 use Rattle.store_steps.specs.declared.context.Context.{Context}
 use Rattle.store_steps.specs.declared.flight.Flying.{Flying}
-use Rattle.store_steps.specs.State.{Begun, Batch, State}
+use Rattle.meta_store.specs.Store.{Begun}
+use Rattle.store_steps.specs.State.{Batch, State}
 use Rattle.store_steps.specs.Contexts.{batch_ops, batch_released}
 use Rattle.store_steps.specs.Changes.{committed_batch}
 use Rattle.store_steps.specs.Steps.{DoesCommit}

@@ -9,7 +9,8 @@ use Rattle.store_steps.specs.declared.context.Context.{Context}
 use Rattle.store_steps.specs.declared.flight.Flying.{Flying}
 use Rattle.store_steps.specs.declared.flight.Job.{Job}
 use Rattle.store_steps.specs.declared.flight.Job.TheVariants as job
-use Rattle.store_steps.specs.State.{Begun, Batch, State}
+use Rattle.meta_store.specs.Store.{Begun}
+use Rattle.store_steps.specs.State.{Batch, State}
 use Rattle.store_steps.specs.Contexts.{unsent_units, is_done, chosen, with_context, without_context, given_more, done_more}
 use Rattle.store_steps.specs.Changes.{data_sent, flush_sent, sync_sent, first_flushed, second_flushed, after_done, after_good, flying_of, landed, reaped, taken_up}
 use Rattle.store_steps.specs.Steps.{DoesData, DoesReap, DoesTake, DoesFlush, DoesSeal, DoesRecord, DoesSync, DoesFinish}

@@ -11,7 +11,8 @@ use Rattle.store_steps.specs.declared.flight.FlushState.TheVariants as flush
 use Rattle.store_steps.specs.declared.flight.Flying.{Flying}
 use Rattle.store_steps.specs.declared.flight.Job.{Job}
 use Rattle.store_steps.specs.declared.flight.Job.TheVariants as job
-use Rattle.store_steps.specs.State.{Begun, Batch, State}
+use Rattle.meta_store.specs.Store.{Begun}
+use Rattle.store_steps.specs.State.{Batch, State}
 use Rattle.store_facts.specs.Flights.{IsWaiting, IsNotGiven, IsWriting, IsWritten, IsUnderWay, IsOpen, IsOneAtATime}
 
 -- The stages of a transaction, in their order. While a context waits, or while its record is written, several of its writes may be in flight.

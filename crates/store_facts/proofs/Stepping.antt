@@ -20,7 +20,8 @@ use Rattle.store_steps.specs.declared.flight.Flying.{Flying}
 use Rattle.store_steps.specs.declared.flight.Job.{Job}
 use Rattle.store_steps.specs.declared.flight.Job.TheVariants as job
 use Rattle.store_steps.specs.declared.step.Step.TheVariants.{Reap, Flush, Seal, Record, Sync}
-use Rattle.store_steps.specs.State.{Begun, Log, Batch, State}
+use Rattle.meta_store.specs.Store.{Meta, Begun}
+use Rattle.store_steps.specs.State.{Batch, State}
 use Rattle.store_steps.specs.Contexts.{given_more, done_more, sum_needs, with_context, unsent_units, run_bytes, Unsent}
 use Rattle.store_steps.specs.Changes.{sent, data_sent, flush_sent, record_sent, sync_sent, after_done, sealed}
 use Rattle.store_steps.specs.Ready.{is_ready_up, is_empty}
@@ -78,7 +79,7 @@ pub record IsAt (s : State) (d : Disk) (g : Stage) : Type 0 where
   pub room : HasRoomFor (at s g).log (contexts_of g)
 
 -- what a step does at the device, as far as this matters
-record IsMoved (d d' : Disk) (g' : Stage) (m : Log) : Type 0 where
+record IsMoved (d d' : Disk) (g' : Stage) (m : Meta) : Type 0 where
   sound : IsSound d'
   units : d'.units ≡ d.units
   flights : AreFlights (flying_at g') d'.flights
@@ -221,7 +222,7 @@ data_steps s d s' d' sound = by_stages (λ t. DoesData t d s' d') s d s' d' (dat
 -- ---- Flush
 
 -- a record of which nothing was given has nothing that is in flight
-unmade_rest : (m : Log) (x : Context) (made : Bool) (flights : List Flight) → IfSome (record_at x made) (IsRestUnflown flights m)
+unmade_rest : (m : Meta) (x : Context) (made : Bool) (flights : List Flight) → IfSome (record_at x made) (IsRestUnflown flights m)
 unmade_rest m x true flights = none_given flights m (record_with x 0 0) refl
 unmade_rest m x false flights = tt
 
@@ -271,7 +272,7 @@ seal_to s d s' g g' was h' like after flights unflown less =
     less (omega arith))
 
 -- nothing of it was given
-sealed_rest : (m : Log) (x : Context) (flights : List Flight) → m.begun ≡ Some (record_with x 0 0) → IsNextUnflown m [] flights
+sealed_rest : (m : Meta) (x : Context) (flights : List Flight) → m.begun ≡ Some (record_with x 0 0) → IsNextUnflown m [] flights
 sealed_rest m x flights is = record {
   unsent = tt;
   rest = subst (λ (o : Option Begun). IfSome o (IsRestUnflown flights m)) (sym is) (none_given flights m (record_with x 0 0) refl);
@@ -305,7 +306,7 @@ seal_steps s d s' d' a standing ready does =
 -- ---- Record
 
 -- the rest of a record of which one more piece is given lies before that piece, and is apart from what it was apart from before
-pub before_piece : (m : Log) (r : Begun) (d d' : Disk) (ticket : Ticket) → r.given < piece_count (unit_count m.number r.ops)
+pub before_piece : (m : Meta) (r : Begun) (d d' : Disk) (ticket : Ticket) → r.given < piece_count (unit_count m.number r.ops)
     → (r.given ≡ 0 → d.flights ≡ []) → IsRestUnflown d.flights m r
     → d'.flights ≡ d.flights ++ flight_of ticket.place (event.Write (piece_unit m r) (piece_bytes m.number r)) ∷ []
     → IsRestUnflown d'.flights m (record r { given = r.given + 1 })

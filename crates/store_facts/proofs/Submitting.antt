@@ -18,7 +18,8 @@ use Rattle.store_steps.specs.declared.step.Step.{Step}
 use Rattle.store_steps.specs.declared.plan.Plan.{Plan}
 use Rattle.store_steps.specs.State.{State}
 use Rattle.store_steps.specs.Ready.{is_ready_up, is_drained}
-use Rattle.store_steps.specs.Submit.{Accepts, Refuses, entry_limit, need_of, room_of, context_of, entered, accepted_with}
+use Rattle.meta_store.specs.Store.{room_of}
+use Rattle.store_steps.specs.Submit.{Accepts, Refuses, entry_limit, need_of, context_of, entered, accepted_with}
 use Rattle.store_steps.specs.Opened.{Found, opened}
 use Rattle.store_facts.specs.Flights.{IsUnsentUnflown}
 use Rattle.store_facts.specs.Room.{FitsRecord, HasRoomFor}

@@ -9,7 +9,7 @@ use Rattle.block_device.specs.declared.event.Event.TheVariants as event
 use Rattle.block_device.proofs.FlightLemmas.{all_without}
 use Rattle.store_steps.specs.declared.context.Context.{Context}
 use Rattle.store_steps.specs.declared.context.FreshUnit.{FreshUnit}
-use Rattle.store_steps.specs.State.{Begun, Log}
+use Rattle.meta_store.specs.Store.{Meta, Begun}
 use Rattle.store_facts.specs.Flights.{IsUnsentUnflown, IsRestUnflown}
 
 -- ---- lists
@@ -65,5 +65,5 @@ left_unsent flights ticket x all =
     all_then (λ (f : FreshUnit). IsUnflown flights f.unit) (λ (f : FreshUnit). IsUnflown (without ticket flights) f.unit)
     (λ f. left_unflown flights ticket f.unit) _ all
 
-pub left_rest : (flights : List Flight) (ticket : ℕ) (m : Log) (r : Begun) → IsRestUnflown flights m r → IsRestUnflown (without ticket flights) m r
+pub left_rest : (flights : List Flight) (ticket : ℕ) (m : Meta) (r : Begun) → IsRestUnflown flights m r → IsRestUnflown (without ticket flights) m r
 left_rest flights ticket m r rest some j below = left_unflown flights ticket _ (rest some j below)

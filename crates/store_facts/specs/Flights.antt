@@ -13,7 +13,8 @@ use Rattle.store_steps.specs.declared.flight.FlushState.TheVariants as flush
 use Rattle.store_steps.specs.declared.flight.Flying.{Flying}
 use Rattle.store_steps.specs.declared.flight.Job.{Job}
 use Rattle.store_steps.specs.declared.flight.Job.TheVariants as job
-use Rattle.store_steps.specs.State.{Begun, Log, Batch}
+use Rattle.meta_store.specs.Store.{Meta, Begun}
+use Rattle.store_steps.specs.State.{Batch}
 use Rattle.store_steps.specs.Contexts.{batch_ops}
 
 -- the tickets are those of the device's flights, in their order
@@ -87,11 +88,11 @@ abbrev pub IsUnsentUnflown : List Flight → Context → Type 0
 IsUnsentUnflown flights x = AllByRecursion (λ f. IsUnflown flights f.unit) (drop x.given x.fresh)
 
 -- nor a unit of a record of which a piece was given that is still to be
-abbrev pub IsRestUnflown : List Flight → Log → Begun → Type 0
+abbrev pub IsRestUnflown : List Flight → Meta → Begun → Type 0
 IsRestUnflown flights m r = 0 < r.given → (j : ℕ) → j < given_from (unit_count m.number r.ops) r.given
     → IsUnflown flights (active_unit m.sup + (m.tail + j))
 
 -- what is written next isn't in flight
-pub record IsNextUnflown (m : Log) (pending : List Context) (flights : List Flight) : Type 0 where
+pub record IsNextUnflown (m : Meta) (pending : List Context) (flights : List Flight) : Type 0 where
   pub unsent : AllByRecursion (IsUnsentUnflown flights) pending
   pub rest : IfSome m.begun (IsRestUnflown flights m)

@@ -7,7 +7,8 @@ use Rattle.meta_rows.specs.Spelling.{AllFit}
 use Rattle.meta_log.specs.Records.{unit_count}
 use Rattle.object_model.specs.declared.book.Commit.{Commit}
 use Rattle.store_steps.specs.declared.context.Context.{Context}
-use Rattle.store_steps.specs.State.{Log, State}
+use Rattle.meta_store.specs.Store.{Meta}
+use Rattle.store_steps.specs.State.{State}
 use Rattle.store_steps.specs.Contexts.{sum_needs}
 use Rattle.store_steps.specs.Ready.{applied_count}
 
@@ -20,7 +21,7 @@ pub record FitsRecord (x : Context) : Type 0 where
   pub ascend : Ascends (map (λ f. f.unit) x.fresh)
 
 -- what is reserved is what the contexts need, and it fits behind the tail
-pub record HasRoomFor (m : Log) (contexts : List Context) : Type 0 where
+pub record HasRoomFor (m : Meta) (contexts : List Context) : Type 0 where
   pub fits : AllByRecursion FitsRecord contexts
   pub reserved : m.reserved ≡ sum_needs contexts
   pub room : m.tail + m.reserved ≤ m.sup.half

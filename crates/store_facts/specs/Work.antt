@@ -4,7 +4,8 @@ use Rattle.std.specs.Option.{option_map_or}
 use Rattle.meta_log.specs.Records.{unit_count}
 use Rattle.meta_log.specs.Pieces.{piece_count}
 use Rattle.store_steps.specs.declared.context.Context.{Context}
-use Rattle.store_steps.specs.State.{Log, Batch, State}
+use Rattle.meta_store.specs.Store.{Meta}
+use Rattle.store_steps.specs.State.{Batch, State}
 use Rattle.store_steps.specs.Contexts.{batch_ops}
 use Rattle.store_steps.specs.Ready.{is_not_sent, applied_count}
 
@@ -21,12 +22,12 @@ abbrev pub flush_work : Batch → ℕ
 flush_work b = (if is_not_sent b.first then 2 else 0) + (if is_not_sent b.second then 2 else 0)
 
 -- Seal, and the pieces of the record that aren't submitted yet, and end
-abbrev pub record_work : Log → Batch → ℕ
+abbrev pub record_work : Meta → Batch → ℕ
 record_work m b = option_map_or (λ r. 2 * (piece_count (unit_count m.number r.ops) - r.given)) m.begun
     (1 + 2 * piece_count (unit_count m.number (batch_ops b)))
 
 -- Commit, and a Finish for each context
-abbrev pub batch_work : Log → Batch → ℕ
+abbrev pub batch_work : Meta → Batch → ℕ
 batch_work m b = flush_work b + record_work m b + 1 + length b.contexts
 
 -- with what is in flight, and the commits that aren't acknowledged

@@ -18,7 +18,7 @@ use Rattle.store_steps.specs.declared.flight.Flying.{Flying}
 use Rattle.store_steps.specs.declared.plan.Plan.{Plan}
 use Rattle.store_steps.specs.Planning.{as_planned}
 use Rattle.store_steps.specs.State.{State}
-use Rattle.store_steps.specs.Submit.{IsKnown, CanNote, Accepts, need_of, room_of}
+use Rattle.store_steps.specs.Submit.{IsKnown, CanNote, Accepts, need_of}
 use Rattle.store_steps.specs.Runs.{MaySubmit}
 use Rattle.store_facts.specs.Kept.{IsKept}
 use Rattle.store_facts.proofs.Kept.{idle_of}
@@ -29,7 +29,7 @@ use Rattle.write_planner.specs.PlanFails.{IsPlanFor}
 use Rattle.store_kernel.specs.declared.batch.OpenBatch.{OpenBatch}
 use Rattle.store_kernel.specs.declared.prepared.Prepared.{Prepared}
 use Rattle.store_kernel.specs.Prepared.{IsPrepared, context_at}
-use Rattle.store_kernel.specs.Seen.{listed, log_of, state_of}
+use Rattle.store_kernel.specs.Seen.{listed, state_of}
 use Rattle.store_kernel.specs.Units.{CanBeTaken}
 
 -- ---- preparing
@@ -49,13 +49,9 @@ planned_fits s d change plan kept can known is =
     is.not_refused is.plans in
     plan_fits s.log.sup s.view s.space change.coll change.ops plan rows.good.good known is.not_refused is.plans one
 
--- the room of the log in both words
-pub same_room : (m : meta.Meta) → meta.room_of m ≡ room_of (log_of m)
-same_room m = omega arith
-
--- a record that fits into the one fits into the other
-pub enough : (m : meta.Meta) (plan : Plan) (need room : ℕ) → need ≡ need_of (log_of m) plan → room ≡ meta.room_of m → need ≤ room
-    → need_of (log_of m) plan ≤ room_of (log_of m)
+-- a record that fits into the room that was counted fits into the log
+pub enough : (m : meta.Meta) (plan : Plan) (need room : ℕ) → need ≡ need_of m plan → room ≡ meta.room_of m → need ≤ room
+    → need_of m plan ≤ meta.room_of m
 enough m plan need room is_need is_room fits = rw (← is_need) (omega (arith, is_room, fits))
 
 -- ---- accepting

@@ -16,7 +16,7 @@ use Rattle.meta_store.specs.Store as meta
 use Rattle.unit_allocator.specs.Units.{given}
 use Rattle.store_steps.specs.declared.context.Context.{Context}
 use Rattle.store_steps.specs.declared.flight.FlushState.TheVariants as flush
-use Rattle.store_steps.specs.State.{Begun, Log, State}
+use Rattle.store_steps.specs.State.{State}
 use Rattle.store_steps.specs.Contexts.{chosen, without_context, batch_ops, batch_released}
 use Rattle.store_steps.specs.Changes.{commit_of, log_after, committed_batch, acknowledged}
 use Rattle.store_steps.specs.Ready.{is_ready}
@@ -30,7 +30,7 @@ use Rattle.store_facts.proofs.SpaceUnits.{data_within, space_given}
 use Rattle.store_facts.proofs.RowsFacts.{back_data, back_in_turn}
 use Rattle.store_image.specs.Owners.{IsDataUnit}
 use Rattle.store_kernel.specs.declared.batch.OpenBatch.{OpenBatch}
-use Rattle.store_kernel.specs.Seen.{batch_of, begun_of, log_of}
+use Rattle.store_kernel.specs.Seen.{batch_of}
 use Rattle.store_kernel.specs.Units.{CanBeGiven}
 use Rattle.store_steps.specs.declared.step.Step.TheVariants as step
 
@@ -73,36 +73,32 @@ pub record Written (m : meta.Meta) (b : OpenBatch) : Type 0 where
   pub ops : now.ops ≡ b.context.ops
   pub all : now.written ≡ meta.piece_count_of m now
 
-written_of : (m : meta.Meta) (b : OpenBatch) (r : Begun) (o : Option meta.Begun) → m.begun ≡ o → option_map begun_of o ≡ Some r
-    → r.ops ≡ batch_ops (batch_of b) → r.written ≡ piece_count (unit_count m.number (batch_ops (batch_of b))) → Written m b
-written_of m b r None is found ops written = absurd cc
-written_of m b r (Some w) is found ops written =
-    let same : begun_of w ≡ r = same_Some (begun_of w) r found in
-    let same_ops : w.ops ≡ batch_ops (batch_of b) = ap (λ (k : Begun). k.ops) same ∙ ops in
-    record {
-      now = w;
-      begun = is;
-      ops = same_ops ∙ append-nil b.context.ops;
-      all = ap (λ (k : Begun). k.written) same ∙ written ∙ ap (λ (l : List RowOp). piece_count (unit_count m.number l)) (sym same_ops);
-    }
+written_of : (m : meta.Meta) (b : OpenBatch) (r : meta.Begun) → m.begun ≡ Some r → r.ops ≡ batch_ops (batch_of b)
+    → r.written ≡ piece_count (unit_count m.number (batch_ops (batch_of b))) → Written m b
+written_of m b r is ops written = record {
+  now = r;
+  begun = is;
+  ops = ops ∙ append-nil b.context.ops;
+  all = written ∙ ap (λ (l : List RowOp). piece_count (unit_count m.number l)) (sym ops);
+}
 
 pub is_written : (s : State) (d : Disk) (m : meta.Meta) (b : OpenBatch) → IsKept s d → is_ready step.Commit d.depth s ≡ true
-    → s.batch ≡ Some (batch_of b) → s.log ≡ log_of m → Written m b
+    → s.batch ≡ Some (batch_of b) → s.log ≡ m → Written m b
 is_written s d m b kept ready batch log =
     let facts : ReadyCommit s (batch_of b) = known_commit s d (batch_of b) kept ready batch in
-    written_of m b facts.writing m.begun refl (ap (λ (l : Log). l.begun) (sym log) ∙ facts.begun) facts.ops
-    (subst (λ (l : Log). facts.writing.written ≡ piece_count (unit_count l.number (batch_ops (batch_of b)))) log facts.written)
+    written_of m b facts.writing (ap (λ (l : meta.Meta). l.begun) (sym log) ∙ facts.begun) facts.ops
+    (subst (λ (l : meta.Meta). facts.writing.written ≡ piece_count (unit_count l.number (batch_ops (batch_of b)))) log facts.written)
 
 pub can_flush : (m : meta.Meta) (b : OpenBatch) → Written m b → meta.IsAllWritten m
 can_flush m b w = subst (λ (o : Option meta.Begun). MatchOption o ⊥ (λ (r : meta.Begun). r.written ≡ meta.piece_count_of m r)) (sym w.begun) w.all
 
 -- what the contexts had reserved is reserved
-pub can_release : (s : State) (d : Disk) (m : meta.Meta) (b : OpenBatch) → IsKept s d → is_ready step.Commit d.depth s ≡ true → s.batch ≡ Some (batch_of b) → s.log ≡ log_of m
+pub can_release : (s : State) (d : Disk) (m : meta.Meta) (b : OpenBatch) → IsKept s d → is_ready step.Commit d.depth s ≡ true → s.batch ≡ Some (batch_of b) → s.log ≡ m
     → b.context.need ≤ (meta.after_flush m m.begun).reserved
 can_release s d m b kept ready batch log =
     let facts : ReadyCommit s (batch_of b) = known_commit s d (batch_of b) kept ready batch in
     let w : Written m b = is_written s d m b kept ready batch log in
-    let same : (meta.after_flush m m.begun).reserved ≡ s.log.reserved = ap (λ (o : Option meta.Begun). (meta.after_flush m o).reserved) w.begun ∙ ap (λ (l : Log). l.reserved) (sym log) in
+    let same : (meta.after_flush m m.begun).reserved ≡ s.log.reserved = ap (λ (o : Option meta.Begun). (meta.after_flush m o).reserved) w.begun ∙ ap (λ (l : meta.Meta). l.reserved) (sym log) in
     omega (arith, facts.needs, same)
 
 -- the released units can come back
@@ -127,9 +123,9 @@ come_back s d b kept ready batch front rest u is = record {
     below : (u units : ℕ) → u < units → units ≤ 1048576 → u + 1 < 2 ^ 32
     below u units lt most = omega (arith, lt, most)
 
-pub commit_does : (s : State) (d : Disk) (m : meta.Meta) (b : OpenBatch) → IsKept s d → is_ready step.Commit d.depth s ≡ true → s.batch ≡ Some (batch_of b) → s.log ≡ log_of m
+pub commit_does : (s : State) (d : Disk) (m : meta.Meta) (b : OpenBatch) → IsKept s d → is_ready step.Commit d.depth s ≡ true → s.batch ≡ Some (batch_of b) → s.log ≡ m
     → DoesCommit s d (record s {
-      log = (let flushed : meta.Meta = meta.after_flush m m.begun in log_of (record flushed { reserved = flushed.reserved - b.context.need }));
+      log = (let flushed : meta.Meta = meta.after_flush m m.begun in (record flushed { reserved = flushed.reserved - b.context.need }));
       batch = None;
       space = given s.space b.context.released;
     }) d
@@ -144,26 +140,26 @@ commit_does s d m b kept ready batch log = record { batch = batch_of b; begun = 
     none_more : (n : ℕ) → n ≡ n + 0
     none_more n = omega arith
 
-    log_same : (let flushed : meta.Meta = meta.after_flush m m.begun in log_of (record flushed { reserved = flushed.reserved - b.context.need })) ≡ log_after (batch_of b) s.log
+    log_same : (let flushed : meta.Meta = meta.after_flush m m.begun in (record flushed { reserved = flushed.reserved - b.context.need })) ≡ log_after (batch_of b) s.log
     log_same =
-        ap (λ (o : Option meta.Begun). let flushed : meta.Meta = meta.after_flush m o in log_of (record flushed { reserved = flushed.reserved - b.context.need })) w.begun
-        ∙ ap (λ (ops : List RowOp). let l : Log = record (log_of m) {
+        ap (λ (o : Option meta.Begun). let flushed : meta.Meta = meta.after_flush m o in (record flushed { reserved = flushed.reserved - b.context.need })) w.begun
+        ∙ ap (λ (ops : List RowOp). let l : meta.Meta = record m {
           rows = rows_after m.rows ops;
           tail = m.tail + unit_count m.number ops;
           number = m.number + 1;
           reserved = m.reserved - b.context.need;
           begun = None;
         } in l) ops_same
-        ∙ ap (λ (need : ℕ). let l : Log = record (log_after (batch_of b) (log_of m)) { reserved = m.reserved - need } in l) (none_more b.context.need)
+        ∙ ap (λ (need : ℕ). let l : meta.Meta = record (log_after (batch_of b) m) { reserved = m.reserved - need } in l) (none_more b.context.need)
         ∙ ap (log_after (batch_of b)) (sym log)
 
     after : (let later : State = record s {
-      log = (let flushed : meta.Meta = meta.after_flush m m.begun in log_of (record flushed { reserved = flushed.reserved - b.context.need }));
+      log = (let flushed : meta.Meta = meta.after_flush m m.begun in (record flushed { reserved = flushed.reserved - b.context.need }));
       batch = None;
       space = given s.space b.context.released;
     } in later) ≡ committed_batch (batch_of b) s
     after =
-        ap (λ (l : Log). let later : State = record s { log = l; batch = None; space = given s.space b.context.released } in later) log_same
+        ap (λ (l : meta.Meta). let later : State = record s { log = l; batch = None; space = given s.space b.context.released } in later) log_same
         ∙ ap (λ (units : List ℕ). let later : State = record s { log = log_after (batch_of b) s.log; batch = None; space = given s.space units } in later) (sym (append-nil b.context.released))
 
 -- ---- Finish

@@ -11,7 +11,7 @@ use Rattle.store_steps.specs.declared.flight.FlushState.TheVariants as flush
 use Rattle.store_steps.specs.declared.flight.Flying.{Flying}
 use Rattle.store_steps.specs.declared.flight.Job.{Job}
 use Rattle.store_steps.specs.declared.flight.Job.TheVariants as job
-use Rattle.store_steps.specs.State.{Begun, Log, Batch, State}
+use Rattle.store_steps.specs.State.{Batch, State}
 use Rattle.store_steps.specs.Contexts.{with_context, done_more}
 use Rattle.store_steps.specs.Changes.{after_done, after_good, first_flushed, second_flushed, written_more, down_by, flying_of, landed}
 use Rattle.store_steps.specs.Steps.{Takes}
@@ -20,7 +20,7 @@ use Rattle.store_facts.specs.Kept.{IsKept}
 use Rattle.store_facts.proofs.Flying.{others_of, Landed, landed_flight, reaped_good, found_holds}
 use Rattle.store_facts.proofs.Stages.{Stage, idle, waits, opens, flushes, flushed, writes, syncs, synced, one_flight, begun_of, flying_at, Holds, by_stage}
 use Rattle.store_kernel.specs.declared.batch.OpenBatch.{OpenBatch}
-use Rattle.store_kernel.specs.Seen.{listed, batch_of, log_of}
+use Rattle.store_kernel.specs.Seen.{listed, batch_of}
 use Rattle.store_kernel.specs.Seen as seen
 use Rattle.store_kernel.specs.Ends.{with_first, with_second, pending_after, batch_after, meta_after}
 use Rattle.store_kernel.proofs.Sending.{with_one, WaitsAlone, waits_alone}
@@ -140,28 +140,23 @@ piece_out_at number (syncs x pieces ticket) f t h found is some =
     absurd (let never : job.RecordFlush ≡ job.Record = sym own ∙ is in cc)
 piece_out_at number (synced x pieces) f t h found is some = absurd (omega (arith, some))
 
-pub piece_out : (s : State) (d d' : Disk) (m : meta.Meta) (t : Ticket) (j : Job) → IsKept s d → s.down ≡ None → s.log ≡ log_of m
+pub piece_out : (s : State) (d d' : Disk) (m : meta.Meta) (t : Ticket) (j : Job) → IsKept s d → s.down ≡ None → s.log ≡ m
     → EndedFor s d d' t j → j ≡ job.Record → meta.IsPieceOut m
 piece_out s d d' m t j kept down log ended is =
-    of_begun m.begun (subst (λ (l : Log). MatchOption l.begun ⊥ (λ (r : Begun). r.written < r.given)) log
+    subst (λ (l : meta.Meta). MatchOption l.begun ⊥ (λ (r : meta.Begun). r.written < r.given)) log
     (by_stage (λ u. flying_of t u.flying ≡ Some ended.flight → 0 < length u.flying → MatchOption u.log.begun ⊥ (λ r. r.written < r.given)) s
-    (λ g h found some. piece_out_at s.log.number g ended.flight t h found (ended.its_job ∙ is) some) (kept.up down).far ended.found ended.some))
-  where
-    of_begun : (o : Option meta.Begun) → MatchOption (option_map seen.begun_of o) ⊥ (λ (r : Begun). r.written < r.given)
-        → MatchOption o ⊥ (λ (b : meta.Begun). b.written < b.given)
-    of_begun None out = out
-    of_begun (Some b) out = out
+    (λ g h found some. piece_out_at s.log.number g ended.flight t h found (ended.its_job ∙ is) some) (kept.up down).far ended.found ended.some)
 
 -- ---- what a good end does, job by job
 
 -- the state with these parts
-abbrev with_parts : State → List Flying → Log → List Context → Option Batch → State
+abbrev with_parts : State → List Flying → meta.Meta → List Context → Option Batch → State
 with_parts s flying l p b = record s { log = l; pending = p; batch = b; flying = flying; events = s.events + 1 }
 
-same_parts : (s : State) (flying : List Flying) (l l' : Log) (p p' : List Context) (b b' : Option Batch) → l ≡ l' → p ≡ p' → b ≡ b'
+same_parts : (s : State) (flying : List Flying) (l l' : meta.Meta) (p p' : List Context) (b b' : Option Batch) → l ≡ l' → p ≡ p' → b ≡ b'
     → with_parts s flying l p b ≡ with_parts s flying l' p' b'
 same_parts s flying l l' p p' b b' one two three =
-    ap (λ (x : Log). with_parts s flying x p b) one
+    ap (λ (x : meta.Meta). with_parts s flying x p b) one
     ∙ ap (λ (x : List Context). with_parts s flying l' x b) two
     ∙ ap (λ (x : Option Batch). with_parts s flying l' p' x) three
 
@@ -172,14 +167,6 @@ first_of (Some b) = refl
 second_of : (b : Option OpenBatch) → option_map batch_of (option_map (with_second flush.Flushed) b) ≡ option_map second_flushed (option_map batch_of b)
 second_of None = refl
 second_of (Some b) = refl
-
-begun_written : (o : Option meta.Begun) → option_map seen.begun_of (option_map (λ (b : meta.Begun). record b { written = b.written + 1 }) o)
-    ≡ option_map written_more (option_map seen.begun_of o)
-begun_written None = refl
-begun_written (Some r) = refl
-
-written_of : (m : meta.Meta) → log_of (meta.with_written m) ≡ (let l : Log = record (log_of m) { begun = option_map written_more (log_of m).begun } in l)
-written_of m = ap (λ (o : Option Begun). let l : Log = record (log_of m) { begun = o } in l) (begun_written m.begun)
 
 -- the one context has the place of the data write
 place_of : (s : State) (d d' : Disk) (x : Context) (t : Ticket) (place count : ℕ) → IsKept s d → s.down ≡ None → s.pending ≡ x ∷ []
@@ -198,26 +185,26 @@ counted s d d' (Some x) t place count kept down pending ended =
     ∙ with_one x place (done_more count) (place_of s d d' x t place count kept down pending ended))
 
 done_is : (s : State) (d d' : Disk) (m : meta.Meta) (p : Option Context) (b : Option OpenBatch) (t : Ticket) (j : Job) → IsKept s d → s.down ≡ None
-    → s.log ≡ log_of m → s.pending ≡ listed p → s.batch ≡ option_map batch_of b → EndedFor s d d' t j
-    → with_parts s (others_of t s.flying) (log_of (meta_after j m)) (listed (pending_after j p)) (option_map batch_of (batch_after j b))
+    → s.log ≡ m → s.pending ≡ listed p → s.batch ≡ option_map batch_of b → EndedFor s d d' t j
+    → with_parts s (others_of t s.flying) ((meta_after j m)) (listed (pending_after j p)) (option_map batch_of (batch_after j b))
     ≡ after_done j (landed t s)
 done_is s d d' m p b t (job.Data place count) kept down log pending batch ended =
-    same_parts s (others_of t s.flying) (log_of m) s.log _ _ _ s.batch (sym log) (counted s d d' p t place count kept down pending ended) (sym batch)
+    same_parts s (others_of t s.flying) m s.log _ _ _ s.batch (sym log) (counted s d d' p t place count kept down pending ended) (sym batch)
 done_is s d d' m p b t job.DataFlush kept down log pending batch ended =
-    same_parts s (others_of t s.flying) (log_of m) s.log _ s.pending _ _ (sym log) (sym pending)
+    same_parts s (others_of t s.flying) m s.log _ s.pending _ _ (sym log) (sym pending)
     (first_of b ∙ ap (option_map first_flushed) (sym batch))
 done_is s d d' m p b t job.Record kept down log pending batch ended =
-    same_parts s (others_of t s.flying) (log_of (meta.with_written m)) _ _ s.pending _ s.batch
-    (written_of m ∙ ap (λ (l : Log). let k : Log = record l { begun = option_map written_more l.begun } in k) (sym log)) (sym pending) (sym batch)
+    same_parts s (others_of t s.flying) ((meta.with_written m)) _ _ s.pending _ s.batch
+    (ap (λ (l : meta.Meta). let k : meta.Meta = record l { begun = option_map written_more l.begun } in k) (sym log)) (sym pending) (sym batch)
 done_is s d d' m p b t job.RecordFlush kept down log pending batch ended =
-    same_parts s (others_of t s.flying) (log_of m) s.log _ s.pending _ _ (sym log) (sym pending)
+    same_parts s (others_of t s.flying) m s.log _ s.pending _ _ (sym log) (sym pending)
     (second_of b ∙ ap (option_map second_flushed) (sym batch))
 
 pub good_takes : (s : State) (d d' : Disk) (t : Ticket) (j : Job) (m : meta.Meta) (p : Option Context) (b : Option OpenBatch) (flying : List Flying)
-    → IsKept s d → s.down ≡ None → s.log ≡ log_of m → s.pending ≡ listed p → s.batch ≡ option_map batch_of b → flying ≡ others_of t s.flying
+    → IsKept s d → s.down ≡ None → s.log ≡ m → s.pending ≡ listed p → s.batch ≡ option_map batch_of b → flying ≡ others_of t s.flying
     → option_map (λ (f : Flying). f.job) (flying_of t s.flying) ≡ Some j → Reaped d t.place true d'
     → Takes s d true (record s {
-      log = log_of (meta_after j m);
+      log = (meta_after j m);
       pending = listed (pending_after j p);
       batch = option_map batch_of (batch_after j b);
       flying = flying;
@@ -229,7 +216,7 @@ good_takes s d d' t j m p b flying kept down log pending batch left is ended =
       ticket = t;
       ended = ended;
       after =
-          ap (λ (l : List Flying). with_parts s l (log_of (meta_after j m)) (listed (pending_after j p)) (option_map batch_of (batch_after j b))) left
+          ap (λ (l : List Flying). with_parts s l ((meta_after j m)) (listed (pending_after j p)) (option_map batch_of (batch_after j b))) left
           ∙ done_is s d d' m p b t j kept down log pending batch out
           ∙ ap (λ (k : Job). after_done k (landed t s)) (sym out.its_job)
           ∙ sym (reaped_good s t out.flight down out.found);

@@ -18,7 +18,7 @@ use Rattle.store_steps.specs.declared.context.FreshUnit.{FreshUnit}
 use Rattle.store_steps.specs.declared.flight.FlushState.TheVariants as flush
 use Rattle.store_steps.specs.declared.flight.Job.TheVariants as job
 use Rattle.store_steps.specs.declared.step.Step.TheVariants.{Data, Flush, Seal, Record, Sync}
-use Rattle.store_steps.specs.State.{Begun, Log, Batch, State}
+use Rattle.store_steps.specs.State.{Batch, State}
 use Rattle.store_steps.specs.Contexts.{Unsent, unsent_units, run_bytes, next_unsent, with_context, given_more, batch_ops}
 use Rattle.store_steps.specs.Changes.{data_sent}
 use Rattle.store_steps.specs.Ready.{is_ready}
@@ -36,7 +36,7 @@ use Rattle.store_facts.proofs.Unflown.{all_then}
 use Rattle.store_kernel.specs.declared.batch.OpenBatch.{OpenBatch}
 use Rattle.store_kernel.specs.declared.pending.NextWrite.{NextWrite}
 use Rattle.store_kernel.specs.Runs.{IsWriteOf}
-use Rattle.store_kernel.specs.Seen.{listed, batch_of, begun_of, log_of}
+use Rattle.store_kernel.specs.Seen.{listed, batch_of}
 use Rattle.store_kernel.specs.Ends.{with_first, with_second}
 
 -- what the device asks of a write of these bytes from this unit on
@@ -76,7 +76,7 @@ waits_alone s d x kept down pending = record { waiting = of_batch s.batch s.log.
     far : IsOneAtATime s.log.number (x ∷ []) s.batch s.log.begun s.flying
     far = subst (λ (xs : List Context). IsOneAtATime s.log.number xs s.batch s.log.begun s.flying) pending up.far
 
-    of_batch : (b : Option Batch) (begun : Option Begun) → IsOneAtATime s.log.number (x ∷ []) b begun s.flying → IsWaiting x s.flying
+    of_batch : (b : Option Batch) (begun : Option meta.Begun) → IsOneAtATime s.log.number (x ∷ []) b begun s.flying → IsWaiting x s.flying
     of_batch None begun h = h.1
     of_batch (Some b) begun h = absurd h
 
@@ -251,22 +251,22 @@ seal_does s d b batch = record {
 -- ---- Record
 
 -- the piece that the metadata store makes is the next one of the log's record
-pub record IsPieceOf (l : Log) (unit : ℕ) (bytes : List ℕ) : Type 0 where
-  pub writing : Begun
+pub record IsPieceOf (l : meta.Meta) (unit : ℕ) (bytes : List ℕ) : Type 0 where
+  pub writing : meta.Begun
   pub begun : l.begun ≡ Some writing
   pub unit_is : unit ≡ piece_unit l writing
   pub bytes_are : bytes ≡ steps.piece_bytes l.number writing
 
-pub piece_of : (l : Log) (m : meta.Meta) (unit : ℕ) (bytes : List ℕ) → l ≡ log_of m → meta.IsNextPiece m unit bytes → IsPieceOf l unit bytes
-piece_of l m unit bytes log next = subst (λ (k : Log). IsPieceOf k unit bytes) (sym log) (record {
-  writing = begun_of next.now;
-  begun = ap (option_map begun_of) next.is_begun;
+pub piece_of : (l : meta.Meta) (m : meta.Meta) (unit : ℕ) (bytes : List ℕ) → l ≡ m → meta.IsNextPiece m unit bytes → IsPieceOf l unit bytes
+piece_of l m unit bytes log next = subst (λ (k : meta.Meta). IsPieceOf k unit bytes) (sym log) (record {
+  writing = next.now;
+  begun = next.is_begun;
   unit_is = next.unit_is;
   bytes_are = next.bytes_are;
 })
 
 pub can_write_record : (s : State) (d : Disk) (m : meta.Meta) (unit : ℕ) (bytes : List ℕ) → IsKept s d → is_ready Record d.depth s ≡ true
-    → s.log ≡ log_of m → meta.IsNextPiece m unit bytes → meta.LiesBehindTail m unit bytes → CanWrite d unit (length bytes)
+    → s.log ≡ m → meta.IsNextPiece m unit bytes → meta.LiesBehindTail m unit bytes → CanWrite d unit (length bytes)
 can_write_record s d m unit bytes kept ready log next lies =
     let piece : IsPieceOf s.log unit bytes = piece_of s.log m unit bytes log next in
     let free : IsNotInFlight d (piece_unit s.log piece.writing) (length (steps.piece_bytes s.log.number piece.writing)) =
@@ -276,15 +276,15 @@ can_write_record s d m unit bytes kept ready log next lies =
       some = lies.some;
       few = lies.few;
       whole = lies.whole;
-      inside = omega (arith, lies.in_log, ap (λ (l : Log). l.sup.half) log, ap (λ (l : Log). l.sup.units) log, kept.always.units, kept.always.limits.room);
+      inside = omega (arith, lies.in_log, ap (λ (l : meta.Meta). l.sup.half) log, ap (λ (l : meta.Meta). l.sup.units) log, kept.always.units, kept.always.limits.room);
       free = subst (λ (b : List ℕ). IsNotInFlight d unit (length b)) (sym piece.bytes_are)
           (subst (λ (u : ℕ). IsNotInFlight d u (length (steps.piece_bytes s.log.number piece.writing))) (sym piece.unit_is) free);
     }
 
-pub record_does : (s : State) (d d' : Disk) (m : meta.Meta) (unit : ℕ) (bytes : List ℕ) (t : Ticket) → s.log ≡ log_of m
+pub record_does : (s : State) (d d' : Disk) (m : meta.Meta) (unit : ℕ) (bytes : List ℕ) (t : Ticket) → s.log ≡ m
     → meta.IsNextPiece m unit bytes → Submitted d t.place (event.Write unit bytes) d'
     → DoesRecord s d (record s {
-      log = log_of (meta.with_given m);
+      log = (meta.with_given m);
       flying = s.flying ++ record { ticket = t; job = job.Record } ∷ [];
       events = s.events + 1;
     }) d'
@@ -294,7 +294,7 @@ record_does s d d' m unit bytes t log next submitted = record {
   begun = begun;
   submitted = subst (λ (b : List ℕ). Submitted d t.place (event.Write (piece_unit s.log w) b) d') piece.bytes_are
       (subst (λ (u : ℕ). Submitted d t.place (event.Write u bytes) d') piece.unit_is submitted);
-  after = ap (λ (l : Log). let later : State = record s {
+  after = ap (λ (l : meta.Meta). let later : State = record s {
     log = l;
     flying = s.flying ++ record { ticket = t; job = job.Record } ∷ [];
     events = s.events + 1;
@@ -304,19 +304,16 @@ record_does s d d' m unit bytes t log next submitted = record {
     piece : IsPieceOf s.log unit bytes
     piece = piece_of s.log m unit bytes log next
 
-    w : Begun
+    w : meta.Begun
     w = piece.writing
 
     begun : s.log.begun ≡ Some w
     begun = piece.begun
 
-    of_begun : (o : Option meta.Begun) → option_map begun_of o ≡ Some w
-        → option_map begun_of (option_map (λ (b : meta.Begun). record b { given = b.given + 1 }) o) ≡ Some (record w { given = w.given + 1 })
-    of_begun None is = absurd cc
-    of_begun (Some r) is = ap (λ (b : Begun). Some (record b { given = b.given + 1 })) (same_Some (begun_of r) w is)
+    one_given : Option meta.Begun → Option meta.Begun
+    one_given o = option_map (λ (b : meta.Begun). record b { given = b.given + 1 }) o
 
-    log_later : log_of (meta.with_given m) ≡ (let l : Log = record s.log { begun = Some (record w { given = w.given + 1 }) } in l)
+    log_later : (meta.with_given m) ≡ (let l : meta.Meta = record s.log { begun = Some (record w { given = w.given + 1 }) } in l)
     log_later =
-        ap (λ (o : Option Begun). let l : Log = record (log_of m) { begun = o } in l)
-        (of_begun m.begun (ap (λ (l : Log). l.begun) (sym log) ∙ begun))
-        ∙ ap (λ (k : Log). let l : Log = record k { begun = Some (record w { given = w.given + 1 }) } in l) (sym log)
+        ap (λ (o : Option meta.Begun). let l : meta.Meta = record m { begun = one_given o } in l) (ap (λ (l : meta.Meta). l.begun) (sym log) ∙ begun)
+        ∙ ap (λ (k : meta.Meta). let l : meta.Meta = record k { begun = Some (record w { given = w.given + 1 }) } in l) (sym log)

@@ -3,7 +3,8 @@ use Rattle.std.specs.Prelude.{◌≡◌, ℕ, ◌≤◌}
 use Rattle.object_model.specs.Effect.{Change}
 use Rattle.store_steps.specs.declared.context.Context.{Context}
 use Rattle.store_steps.specs.State.{State}
-use Rattle.store_steps.specs.Submit.{need_of, room_of}
+use Rattle.meta_store.specs.Store.{room_of}
+use Rattle.store_steps.specs.Submit.{need_of}
 use Rattle.write_planner.specs.PlanFails.{IsPlanFor}
 use Rattle.store_kernel.specs.declared.prepared.Prepared.{Prepared}
 

@@ -11,7 +11,7 @@ use Rattle.meta_store.specs.Store as meta
 use Rattle.unit_allocator.specs.Units.{Space}
 use Rattle.store_steps.specs.declared.context.Context.{Context}
 use Rattle.store_steps.specs.declared.flight.Flying.{Flying}
-use Rattle.store_steps.specs.State.{Begun, Log, Batch, State}
+use Rattle.store_steps.specs.State.{Batch, State}
 use Rattle.store_steps.specs.Opened.{Found}
 use Rattle.store_kernel.specs.declared.batch.OpenBatch.{OpenBatch}
 
@@ -23,20 +23,6 @@ listed (Some x) = x ∷ []
 -- an open batch has one context
 abbrev pub batch_of : OpenBatch → Batch
 batch_of b = record { contexts = b.context ∷ []; first = b.first; second = b.second }
-
--- the record that is being written, and the log, as the metadata store has them
-abbrev pub begun_of : meta.Begun → Begun
-begun_of r = record { ops = r.ops; given = r.given; written = r.written }
-
-abbrev pub log_of : meta.Meta → Log
-log_of m = record {
-  sup = m.sup;
-  rows = m.rows;
-  tail = m.tail;
-  number = m.number;
-  reserved = m.reserved;
-  begun = option_map begun_of m.begun;
-}
 
 -- what a metadata store has that nobody has used yet: the super, the rows, and where the log stands
 abbrev pub found_of : meta.Meta → Found
@@ -51,7 +37,7 @@ pub record IsUnused (m : meta.Meta) : Type 0 where
 abbrev pub state_of : meta.Meta → Rows → Option Context → Option OpenBatch → List Flying → Option Ticket → ℕ → Space
     → List Entry → List Commit → ℕ → State
 state_of m view pending batch flying down events space entries commits acked = record {
-  log = log_of m;
+  log = m;
   view = view;
   pending = listed pending;
   batch = option_map batch_of batch;

@@ -11,7 +11,8 @@ use Rattle.store_steps.specs.declared.flight.FlushState.TheVariants as flush
 use Rattle.store_steps.specs.declared.flight.Flying.{Flying}
 use Rattle.store_steps.specs.declared.flight.Job.{Job}
 use Rattle.store_steps.specs.declared.flight.Job.TheVariants as job
-use Rattle.store_steps.specs.State.{Begun, Log, Batch, State}
+use Rattle.meta_store.specs.Store.{Meta, Begun}
+use Rattle.store_steps.specs.State.{Batch, State}
 use Rattle.store_steps.specs.Contexts.{with_context, without_context, given_more, done_more, batch_ops, batch_released, sum_needs}
 
 -- ---- submissions
@@ -99,7 +100,7 @@ abbrev pub sealed : Batch → State → State
 sealed b s = record s { log = record s.log { begun = Some (record { ops = batch_ops b; given = 0; written = 0 }) } }
 
 -- the log behind a batch's record: its operations are applied, and what its contexts had reserved is used
-abbrev pub log_after : Batch → Log → Log
+abbrev pub log_after : Batch → Meta → Meta
 log_after b m = record m {
   rows = rows_after m.rows (batch_ops b);
   tail = m.tail + unit_count m.number (batch_ops b);

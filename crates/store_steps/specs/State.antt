@@ -2,29 +2,12 @@
 use Rattle.std.specs.Prelude.{ℕ, List, Option}
 use Rattle.block_device.specs.declared.device.Ticket.{Ticket}
 use Rattle.object_model.specs.declared.book.Book.{Book}
-use Rattle.meta_rows.specs.declared.row_op.RowOp.{RowOp}
 use Rattle.meta_rows.specs.Rows.{Rows}
-use Rattle.meta_log.specs.declared.slot.Super.{Super}
+use Rattle.meta_store.specs.Store.{Meta}
 use Rattle.unit_allocator.specs.Units.{Space}
 use Rattle.store_steps.specs.declared.context.Context.{Context}
 use Rattle.store_steps.specs.declared.flight.FlushState.{FlushState}
 use Rattle.store_steps.specs.declared.flight.Flying.{Flying}
-
--- the record that is being written: its operations, how many of its pieces were submitted, and how many of these have ended well
-pub record Begun : Type 0 where
-  pub ops : List RowOp
-  pub given : ℕ
-  pub written : ℕ
-
--- Where the log stands: the committed rows, the units of the active half that records take, the number of the next record,
--- and the units that are reserved for the records of transactions that aren't committed.
-pub record Log : Type 0 where
-  pub sup : Super
-  pub rows : Rows
-  pub tail : ℕ
-  pub number : ℕ
-  pub reserved : ℕ
-  pub begun : Option Begun
 
 -- the open batch: its contexts, and how far its two flushes are
 pub record Batch : Type 0 where
@@ -32,11 +15,12 @@ pub record Batch : Type 0 where
   pub first : FlushState
   pub second : FlushState
 
--- `view` is the submitted rows: the committed ones with the operations of all contexts. `pending` are the contexts in no batch, by
--- place. `flying` is in the order of the device's flights. `events` counts the device's events since the mount began, `acked`
--- the acknowledged commits.
+-- `log` is the committed rows and where the log stands, with the units of it that are reserved for the records of transactions that
+-- aren't committed. `view` is the submitted rows: the committed ones with the operations of all contexts. `pending` are the contexts
+-- in no batch, by place. `flying` is in the order of the device's flights. `events` counts the device's events since the mount
+-- began, `acked` the acknowledged commits.
 pub record State : Type 0 where
-  pub log : Log
+  pub log : Meta
   pub view : Rows
   pub pending : List Context
   pub batch : Option Batch

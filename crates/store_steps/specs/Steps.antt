@@ -10,12 +10,13 @@ use Rattle.meta_log.specs.Pieces.{piece_first, piece_units}
 use Rattle.store_steps.specs.declared.context.Context.{Context}
 use Rattle.store_steps.specs.declared.step.Step.{Step}
 use Rattle.store_steps.specs.declared.step.Step.TheVariants.{Data, Reap, Take, Flush, Seal, Record, Sync, Commit, Finish}
-use Rattle.store_steps.specs.State.{Begun, Log, Batch, State}
+use Rattle.meta_store.specs.Store.{Meta, Begun}
+use Rattle.store_steps.specs.State.{Batch, State}
 use Rattle.store_steps.specs.Contexts.{Unsent, unsent_units, run_bytes, next_unsent, chosen}
 use Rattle.store_steps.specs.Changes.{data_sent, flush_sent, record_sent, sync_sent, reaped, taken_up, sealed, committed_batch, finished}
 
 -- where the next piece of a record goes, and its bytes
-abbrev pub piece_unit : Log → Begun → ℕ
+abbrev pub piece_unit : Meta → Begun → ℕ
 piece_unit m r = active_unit m.sup + m.tail + piece_first (unit_count m.number r.ops) r.given
 
 abbrev pub piece_bytes : ℕ → Begun → List ℕ

@@ -18,7 +18,8 @@ use Rattle.unit_fields.specs.Names.{IsName, IsCollName}
 use Rattle.row_format.specs.Keys.{coll_key}
 use Rattle.unit_allocator.specs.Units.{Space, free_units, taken}
 use Rattle.store_steps.specs.declared.context.Context.{Context}
-use Rattle.store_steps.specs.State.{Log, State}
+use Rattle.meta_store.specs.Store.{Meta, room_of}
+use Rattle.store_steps.specs.State.{State}
 use Rattle.store_steps.specs.declared.plan.Plan.{Plan}
 use Rattle.store_steps.specs.Planning.{Plans, units_taken}
 
@@ -47,12 +48,8 @@ abbrev pub refusal_of : Rows → Change → Option Refusal
 refusal_of rows change = if is_too_large change then Some TooBig else ops_refusal rows change.coll change.ops
 
 -- the units of the log that the record of these operations alone takes: they are as many for each number
-abbrev pub need_of : Log → Plan → ℕ
+abbrev pub need_of : Meta → Plan → ℕ
 need_of m plan = unit_count m.number plan.ops
-
--- the units of the active half that are neither taken nor reserved
-abbrev pub room_of : Log → ℕ
-room_of m = m.sup.half - (m.tail + m.reserved)
 
 abbrev pub free_count : Space → ℕ
 free_count space = length (free_units space)
@@ -62,7 +59,7 @@ abbrev pub entry_limit : ℕ
 entry_limit = 1048576
 
 -- the context of an accepted transaction
-abbrev pub context_of : ℕ → Change → Log → Plan → Context
+abbrev pub context_of : ℕ → Change → Meta → Plan → Context
 context_of place change m plan = record {
   place = place;
   coll = change.coll;

@@ -27,7 +27,8 @@ use Rattle.store_steps.specs.declared.flight.Job.{Job}
 use Rattle.store_steps.specs.declared.flight.Job.TheVariants as job
 use Rattle.store_steps.specs.declared.step.Step.{Step}
 use Rattle.store_steps.specs.declared.step.Step.TheVariants.{Data, Reap, Take, Flush, Seal, Record, Sync, Commit, Finish}
-use Rattle.store_steps.specs.State.{Begun, Batch, State}
+use Rattle.meta_store.specs.Store.{Begun}
+use Rattle.store_steps.specs.State.{Batch, State}
 use Rattle.store_steps.specs.Contexts.{Unsent, unsent_units, sum_needs, given_more, done_more, with_context, without_context}
 use Rattle.store_steps.specs.Changes.{sent, data_sent, flush_sent, record_sent, sync_sent, after_done, flying_of, taken_up, commit_of, sealed}
 use Rattle.store_steps.specs.Changes.{committed_batch, finished}

@@ -8,7 +8,8 @@ use Rattle.meta_rows.specs.Rows.{Rows}
 use Rattle.meta_log.specs.declared.slot.Super.{Super}
 use Rattle.meta_log.specs.Slots.{active_unit}
 use Rattle.store_steps.specs.declared.context.Context.{Context}
-use Rattle.store_steps.specs.State.{Begun, State}
+use Rattle.meta_store.specs.Store.{Begun}
+use Rattle.store_steps.specs.State.{State}
 use Rattle.store_steps.specs.Ready.{is_drained}
 use Rattle.store_steps.specs.Runs.{Call, submitting, reading, stepping, Calls, Submits, IsRun}
 use Rattle.store_facts.specs.Space.{uncommitted}

@@ -35,7 +35,8 @@ use Rattle.store_steps.specs.declared.context.Context.{Context}
 use Rattle.store_steps.specs.declared.context.FreshUnit.{FreshUnit}
 use Rattle.store_steps.specs.declared.flight.FlushState.TheVariants as flush
 use Rattle.store_steps.specs.declared.flight.Flying.{Flying}
-use Rattle.store_steps.specs.State.{Begun, Log, Batch, State}
+use Rattle.meta_store.specs.Store.{Meta, Begun}
+use Rattle.store_steps.specs.State.{Batch, State}
 use Rattle.store_steps.specs.Contexts.{given_more, done_more, run_bytes, Unsent, unsent_units}
 use Rattle.store_steps.specs.declared.plan.Plan.{Plan}
 use Rattle.store_steps.specs.Submit.{accepted_with}
@@ -207,7 +208,7 @@ flush_done_known base s x made ticket d d' h ended known =
 -- ---- the record: it is made, written and flushed
 
 -- the half, with a record of which no unit was submitted
-pub sealed_half : (h : History) (m : Log) (x : Context) → m.number < 2 ^ 62 → FitsRecord x → m.tail + x.need ≤ m.sup.half → m.sup.half ≤ 65536
+pub sealed_half : (h : History) (m : Meta) (x : Context) → m.number < 2 ^ 62 → FitsRecord x → m.tail + x.need ≤ m.sup.half → m.sup.half ≤ 65536
     → HalfIsKnown h (record m { begun = None }) not_sent → HalfIsKnown h (record m { begun = Some (record_with x 0 0) }) not_sent
 sealed_half h m x number fits room most half =
     let ops : List RowOp = x.ops ++ [] in

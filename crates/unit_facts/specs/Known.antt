@@ -9,7 +9,8 @@ use Rattle.meta_log.specs.Pieces.{given_from}
 use Rattle.log_facts.specs.Flushing.{FlushState, not_sent}
 use Rattle.log_facts.specs.SlotFacts.{SlotsStand}
 use Rattle.log_facts.specs.HalfFacts.{ActiveHalfStands}
-use Rattle.store_steps.specs.State.{Begun, Log, Batch, State}
+use Rattle.meta_store.specs.Store.{Meta, Begun}
+use Rattle.store_steps.specs.State.{Batch, State}
 use Rattle.store_facts.specs.Space.{uncommitted}
 use Rattle.unit_facts.specs.DataUnits.{flush_of, given_fresh, OtherUnitsAreClean, HeldBytesAreLast, BatchUnitsAreFlushed}
 
@@ -32,7 +33,7 @@ pub record IsAnsweredSince (base : ℕ) (h : History) (flights : List Flight) (e
   pub counted : length h.log ≡ base + events
 
 -- some records are known to stand in the active half, and behind them the record that is being written, as far as it was submitted
-pub record HalfIsKnown (h : History) (m : Log) (second : FlushState) : Type 0 where
+pub record HalfIsKnown (h : History) (m : Meta) (second : FlushState) : Type 0 where
   pub recs : List (List RowOp)
   pub stands : ActiveHalfStands h m.sup m.rows m.tail m.number (begun_ops m.begun) (submitted_from m.number m.begun) second recs
 

@@ -1,5 +1,4 @@
-use Rattle.std.proofs.Common.{◌∙◌}
-use Rattle.store_kernel.proofs.Admitting.{same_room, enough}
+use Rattle.store_kernel.proofs.Admitting.{enough}
 use Rattle.store_kernel.proofs.kernel.Kernel.prepare.Goals as goal
 
 pub returns-then-room-need-clause-err : goal.returns-then-room-need-clause-err
@@ -7,8 +6,7 @@ returns-then-room-need-clause-err g c =
     let k = c.self.inside in
     let planned = rw (← c.self.view_is) at c.in_ok-plan.ensures.ok in
     let need = rw c.as_slice.ensures at c.units_needed-need.ensures in
-    let room = c.room-room.ensures ∙ same_room k.meta in
-    rw (← c.self.view_is) (planned.not_refused, (c.in_ok-plan.plan, (planned.plans, need k.meta.number)), room, c.if-room-need.true)
+    rw (← c.self.view_is) (planned.not_refused, (c.in_ok-plan.plan, (planned.plans, need k.meta.number)), c.room-room.ensures, c.if-room-need.true)
 
 pub returns-clause-ok : goal.returns-clause-ok
 returns-clause-ok g c =

@@ -88,7 +88,7 @@ committed_room s b ready = record {
 }
   where
     by_number : (half tail units reserved needs : ℕ) → units ≤ needs → needs ≤ reserved
-        → half - (tail + reserved) ≤ half - (tail + units + (reserved - needs))
+        → half - tail - reserved ≤ half - (tail + units) - (reserved - needs)
     by_number half tail units reserved needs few enough = omega (arith, few, enough)
 
 module _ (s : State) (d : Disk) (s' : State) (d' : Disk) where
@@ -209,7 +209,7 @@ accepted_room s s' d client line change kept may a =
     ap (λ (t : State). room_of t.log + need_of s.log a.plan) a.after
     ∙ by_number s.log.sup.half s.log.tail s.log.reserved (need_of s.log a.plan) a.fits
   where
-    by_number : (half tail reserved need : ℕ) → need ≤ half - (tail + reserved) → half - (tail + (reserved + need)) + need ≡ half - (tail + reserved)
+    by_number : (half tail reserved need : ℕ) → need ≤ half - tail - reserved → half - tail - (reserved + need) + need ≡ half - tail - reserved
     by_number half tail reserved need fits = omega (arith, fits)
 
 pub steps_room : (step : Step) (s s' : State) (d d' : Disk) → IsKept s d → is_ready step d.depth s ≡ true → DoesOrFails step s d s' d' → IsSound d'

@@ -1,24 +1,16 @@
 //! The program: it makes the ends of a store over files and standard output, lets `bstore_top` do the work, and ends with
 //! its status. All text goes to standard output, and none to standard error.
-//!
-//! Of a file or an output no clause can say what it gives or takes. So this edge is thin: what it promises is the counts
-//! that the crates below rest on, and the rest is what the system does.
 #![tactic(auto)]
 
 ghost use Rattle.std.specs.Prelude.{◌≡◌, ◌⊎◌};
 ghost use Rattle.block_device.specs.Disk.{Rose};
 ghost use Rattle.end_points.specs.Sink.{with_bytes};
 
-mod bay;
-mod sink;
-mod source;
-mod standard;
 mod words;
 
-use bay::FileBay;
 use bstore_top::top;
 use end_points::{OpenGate, Sink};
-use sink::OutSink;
+use file_ends::{FileBay, OutSink};
 use std::alloc::AllocError;
 use std::process::ExitCode;
 use words::words;
@@ -50,6 +42,3 @@ fn main(rt: HostRuntime) -> ExitCode {
     };
     ExitCode::from(status)
 }
-
-#[cfg(test)]
-mod tests;

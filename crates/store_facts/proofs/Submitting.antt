@@ -76,7 +76,7 @@ accepted_idle s d client line change plan record_fits few up fits below a room =
     let was : work_left t ≡ 0 + unacked s idle = work_at s idle tt tt in
     let is : work_left u ≡ stage_work (waits x []) + unacked s (waits x []) = work_at u (waits x []) h (record_fits, tt) in
     let more : work_left u ≤ work_left t + entry_work =
-    few_more (work_left u) (work_left t) (length plan.fresh) (need_of t.log plan) s.log.sup.half (s.log.tail + s.log.reserved)
+    few_more (work_left u) (work_left t) (length plan.fresh) (need_of t.log plan) s.log.sup.half s.log.tail s.log.reserved
     (unacked s idle) few fits
     a.limits.half_most is was in
     record {
@@ -108,17 +108,17 @@ accepted_idle s d client line change plan record_fits few up fits below a room =
       more = more;
     }
   where
-    few_pieces : (need half taken : ℕ) → need ≤ half - taken → half ≤ 65536 → piece_count need ≤ 1024
-    few_pieces need half taken fits most = omega (arith, fits, most)
+    few_pieces : (need half tail reserved : ℕ) → need ≤ half - tail - reserved → half ≤ 65536 → piece_count need ≤ 1024
+    few_pieces need half tail reserved fits most = omega (arith, fits, most)
 
     few_work : (w w' fresh pieces left : ℕ) → fresh ≤ 256 → pieces ≤ 1024 → w ≡ (0 + 2 * (fresh - 0) + 8 + 2 * pieces) + left → w' ≡ 0 + left
         → w ≤ w' + entry_work
     few_work w w' fresh pieces left few few_pieces is was = omega (arith, few, few_pieces, is, was)
 
-    few_more : (w w' fresh need half taken left : ℕ) → fresh ≤ 256 → need ≤ half - taken → half ≤ 65536
+    few_more : (w w' fresh need half tail reserved left : ℕ) → fresh ≤ 256 → need ≤ half - tail - reserved → half ≤ 65536
         → w ≡ (0 + 2 * (fresh - 0) + 8 + 2 * piece_count need) + left → w' ≡ 0 + left → w ≤ w' + entry_work
-    few_more w w' fresh need half taken left few fits most is was =
-        few_work w w' fresh (piece_count need) left few (few_pieces need half taken fits most) is was
+    few_more w w' fresh need half tail reserved left few fits most is was =
+        few_work w w' fresh (piece_count need) left few (few_pieces need half tail reserved fits most) is was
 
     few_events : (w w' e entries entries' : ℕ) → w ≤ w' + entry_work → entries' ≡ entries + 1 → e + w' ≤ 2 ^ 61 + entry_work * entries
         → e + w ≤ 2 ^ 61 + entry_work * entries'
@@ -127,7 +127,7 @@ accepted_idle s d client line change plan record_fits few up fits below a room =
     needed : (reserved need : ℕ) → reserved ≡ 0 → reserved + need ≡ need + 0
     needed reserved need none = omega (arith, none)
 
-    behind : (tail reserved half need : ℕ) → need ≤ half - (tail + reserved) → tail + reserved ≤ half → tail + (reserved + need) ≤ half
+    behind : (tail reserved half need : ℕ) → need ≤ half - tail - reserved → tail + reserved ≤ half → tail + (reserved + need) ≤ half
     behind tail reserved half need fits le = omega (arith, fits, le)
 
 pub accepts_keeps : (s : State) (d : Disk) (client line : ℕ) (change : Change) (s' : State) → IsAlwaysKept s d → IsStanding s d

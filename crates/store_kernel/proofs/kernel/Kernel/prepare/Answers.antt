@@ -1,3 +1,4 @@
+use Rattle.std.proofs.Common.{◌∙◌}
 use Rattle.store_kernel.proofs.Admitting.{enough}
 use Rattle.store_kernel.proofs.kernel.Kernel.prepare.Goals as goal
 

@@ -3,7 +3,7 @@ ghost use Rattle.std.specs.Prelude.{◌≡◌, ◌+◌, ◌<◌, ◌≤◌, ◌^
 ghost use Rattle.block_device.specs.Disk.{Rose};
 ghost use Rattle.device_file.specs.FileDisk.{fresh_file};
 ghost use Rattle.end_points.specs.Bay.{HandedOut, Opened, IsFewUnits, HasAskedUnits};
-ghost use Rattle.bstore.specs.Shelf.{view_of};
+ghost use Rattle.file_ends.specs.Shelf.{view_of};
 
 use crate::source::FileSource;
 use crate::standard::StandardDescriptors;
@@ -29,7 +29,7 @@ pub struct FileBay<R: Files<File = File> + Copy> {
 }
 
 impl<R: Files<File = File> + Copy> Model for FileBay<R> {
-    ghost use Rattle.bstore.specs.Shelf.{Shelf};
+    ghost use Rattle.file_ends.specs.Shelf.{Shelf};
 
     ghost Value = { Shelf };
 

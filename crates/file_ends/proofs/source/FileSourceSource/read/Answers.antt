@@ -1,6 +1,6 @@
 use Rattle.std.proofs.Common.{rules, arith, take, refl}
 use Rattle.std.proofs.lemmas.Grind.{common_steps}
-use Rattle.bstore.proofs.source.FileSourceSource.read.Goals as goal
+use Rattle.file_ends.proofs.source.FileSourceSource.read.Goals as goal
 
 pub returns-in-Ok-clause-ok : goal.returns-in-Ok-clause-ok
 returns-in-Ok-clause-ok c = record {

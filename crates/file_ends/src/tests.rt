@@ -2,7 +2,6 @@
 ghost use Rattle.end_points.specs.Bay.{IsFewUnits};
 
 use super::*;
-use crate::standard::StandardDescriptors;
 use block_device::{Device, Failed};
 use end_points::{Bay, Fault, How, Sink, Source};
 use std::alloc::Global;

@@ -13,6 +13,3 @@ pub use bay::FileBay;
 pub use sink::OutSink;
 pub use source::FileSource;
 pub use standard::StandardDescriptors;
-
-#[cfg(test)]
-mod tests;

@@ -1,9 +1,9 @@
 //! Over files of the folder that the tests run in.
 ghost use Rattle.end_points.specs.Bay.{IsFewUnits};
 
-use super::*;
 use block_device::{Device, Failed};
 use end_points::{Bay, Fault, How, Sink, Source};
+use file_ends::{FileBay, OutSink, StandardDescriptors};
 use std::alloc::Global;
 use std::fs::{self, File, OpenOptions};
 use std::process::Abort;

@@ -4,7 +4,7 @@ use Rattle.std.specs.Prelude.{unwrap_or}
 use Rattle.meta_rows.specs.Rows.{Rows, rows_after}
 use Rattle.meta_rows.specs.declared.row_op.RowOp.{RowOp}
 use Rattle.object_model.specs.Objects.{Object, Objects}
-use Rattle.row_format.specs.Keys.{of_object, coll_key, onode_key, attr_key, header_key, omap_key}
+use Rattle.row_format.specs.Keys.{object_key, coll_key, onode_key, attr_key, header_key, omap_key}
 use Rattle.row_format.specs.Extents.{Place, own}
 use Rattle.row_format.specs.Row.{Row, onode, shard, row_key}
 use Rattle.row_format.proofs.KeyLemmas.{same_head}
@@ -22,7 +22,7 @@ other_first : (kind : ℕ) (rest : List ℕ) → kind ≢ 0x62 → IsOtherKey (k
 other_first kind rest apart r below e = apart (same_head kind 0x62 rest _ e)
 
 -- a key of an object's rows
-pub object_key_is_other : (kind : ℕ) (c o rest : List ℕ) → kind ≢ 0x62 → IsOtherKey (of_object kind c o rest)
+pub object_key_is_other : (kind : ℕ) (c o rest : List ℕ) → kind ≢ 0x62 → IsOtherKey (object_key kind c o rest)
 object_key_is_other kind c o rest apart = other_first kind _ apart
 
 -- a collection's key
@@ -30,15 +30,15 @@ pub coll_key_is_other : (c : List ℕ) → IsOtherKey (coll_key c)
 coll_key_is_other c = other_first 0x43 c (λ e. absurd (omega (arith, e)))
 
 -- the keys of onodes and shards
-onode_keys : (c o rest : List ℕ) → IsOtherKey (of_object 0x4f c o rest)
+onode_keys : (c o rest : List ℕ) → IsOtherKey (object_key 0x4f c o rest)
 onode_keys c o rest = object_key_is_other 0x4f c o rest (λ e. absurd (omega (arith, e)))
 
 -- those of attributes
-attr_keys : (c o rest : List ℕ) → IsOtherKey (of_object 0x41 c o rest)
+attr_keys : (c o rest : List ℕ) → IsOtherKey (object_key 0x41 c o rest)
 attr_keys c o rest = object_key_is_other 0x41 c o rest (λ e. absurd (omega (arith, e)))
 
 -- and those of headers and omaps
-omap_keys : (c o rest : List ℕ) → IsOtherKey (of_object 0x4d c o rest)
+omap_keys : (c o rest : List ℕ) → IsOtherKey (object_key 0x4d c o rest)
 omap_keys c o rest = object_key_is_other 0x4d c o rest (λ e. absurd (omega (arith, e)))
 
 -- ---- rows that are alike

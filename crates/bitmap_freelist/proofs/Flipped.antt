@@ -5,7 +5,7 @@ use Rattle.std.specs.List.{AllByRecursion}
 use Rattle.std.specs.FinSet as set
 use Rattle.std.proofs.lemmas.Bool.{cases_lt}
 use Rattle.unit_fields.specs.UnitSet.{Ascends}
-use Rattle.meta_rows.specs.Spelling.{Fits, AllFit}
+use Rattle.meta_rows.specs.Spelling.{FitsRowOp, AllFit}
 use Rattle.meta_rows.specs.declared.row_op.RowOp.{RowOp}
 use Rattle.meta_rows.specs.declared.row_op.RowOp.TheVariants.{Flip}
 use Rattle.row_format.specs.Keys.{bitmap_key}
@@ -118,6 +118,6 @@ end units [] ops f none =
 end units (u ∷ left) ops f none = absurd (omega arith)
 
 -- one more operation that fits
-pub fits_on : (ops : List RowOp) (op : RowOp) → AllFit ops → Fits op → AllFit (ops ++ op ∷ [])
+pub fits_on : (ops : List RowOp) (op : RowOp) → AllFit ops → FitsRowOp op → AllFit (ops ++ op ∷ [])
 fits_on [] op all own = (own, tt)
 fits_on (o ∷ ops) op all own = (all.0, fits_on ops op all.1 own)

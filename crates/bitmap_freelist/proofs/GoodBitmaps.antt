@@ -8,7 +8,7 @@ use Rattle.meta_rows.specs.Rows.{Rows, rows_after}
 use Rattle.meta_rows.specs.declared.row_op.RowOp.{RowOp}
 use Rattle.meta_log.specs.declared.slot.Super.{Super}
 use Rattle.row_format.specs.Bits.{bit_in}
-use Rattle.row_format.specs.Keys.{of_object, bitmap_key, coll_key, onode_key}
+use Rattle.row_format.specs.Keys.{object_key, bitmap_key, coll_key, onode_key}
 use Rattle.row_format.specs.Row.{Row, collection, onode, shard, bitmap, row_key, row_value, FitsRow, FitsBitmap}
 use Rattle.row_format.proofs.KeyLemmas.{same_head}
 use Rattle.store_image.specs.Pages.{HasKey, HasRow}
@@ -75,7 +75,7 @@ module _ (s : Super) (rows other : Rows) (alike : AreAlikeButBits rows other) wh
   has_key key is_other has = ap is_some (alike key is_other) ∙ has
 
   -- the rows of an object
-  keys : (c o rest : List ℕ) → IsOtherKey (of_object 0x4f c o rest)
+  keys : (c o rest : List ℕ) → IsOtherKey (object_key 0x4f c o rest)
   keys c o rest = object_key_is_other 0x4f c o rest (λ e. absurd (omega (arith, e)))
 
   -- one that was there

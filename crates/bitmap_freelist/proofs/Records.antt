@@ -4,7 +4,7 @@ use Rattle.std.proofs.lemmas.List.{length-append}
 use Rattle.std.proofs.lemmas.List.Concat.{flat_map-cons}
 use Rattle.meta_rows.specs.declared.row_op.RowOp.{RowOp}
 use Rattle.meta_rows.specs.declared.row_op.RowOp.TheVariants.{Flip}
-use Rattle.meta_rows.specs.Spelling.{key_bytes, value_bytes, op_bytes, ops_bytes, Fits, AllFit}
+use Rattle.meta_rows.specs.Spelling.{key_bytes, value_bytes, op_bytes, ops_bytes, FitsRowOp, AllFit}
 use Rattle.row_format.specs.Keys.{bitmap_key}
 use Rattle.bitmap_freelist.specs.Bitmap.{Units, IsFlipOfNext, AreFlipsFrom, AreFlips}
 
@@ -13,12 +13,12 @@ key_size : (r : ℕ) → length (bitmap_key r) ≡ 5
 key_size r = refl
 
 -- one operation
-one_fits : (units : Units) (from r : ℕ) (op : RowOp) → IsFlipOfNext units from r op → Fits op
+one_fits : (units : Units) (from r : ℕ) (op : RowOp) → IsFlipOfNext units from r op → FitsRowOp op
 one_fits units from r op next =
     let size = key_size r in
-    let fits : Fits (Flip (bitmap_key r) next.mask)
+    let fits : FitsRowOp (Flip (bitmap_key r) next.mask)
     = (record { some = omega (arith, size); short = omega (arith, size) }, omega (arith, next.exact.size)) in
-    subst Fits (sym next.is) fits
+    subst FitsRowOp (sym next.is) fits
 
 fits_from : (units : Units) (from : ℕ) (ops : List RowOp) → AreFlipsFrom units from ops → AllFit ops
 fits_from units from [] are = tt

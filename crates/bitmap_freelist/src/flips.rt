@@ -1,6 +1,6 @@
 //! The row operations that turn units' bits.
 ghost use Rattle.std.specs.Prelude.{◌≡◌, IfOk};
-ghost use Rattle.meta_rows.specs.Spelling.{Fits, AllFit};
+ghost use Rattle.meta_rows.specs.Spelling.{FitsRowOp, AllFit};
 ghost use Rattle.meta_rows.specs.declared.row_op.RowOp.TheVariants.{Flip};
 ghost use Rattle.row_format.specs.Keys.{bitmap_key};
 ghost use Rattle.bitmap_freelist.specs.Bitmap.{AreFlips};
@@ -47,7 +47,7 @@ fn row_mask(units: &[u32]) -> [u8; ROW_BYTES]
 // The operation that turns the bits of these units of a row.
 fn flip(alloc: Global, row: u32, units: &[u32]) -> Result<RowOp, AllocError>
     ensures is { IfOk result (λ op. op ≡ Flip (bitmap_key row) (mask_of units.now)) }
-    ensures fits { IfOk result Fits }
+    ensures fits { IfOk result FitsRowOp }
 {
     let key = bitmap_key(alloc, row)?;
     let mask = Bytes::from_slice(alloc, &row_mask(units))?;

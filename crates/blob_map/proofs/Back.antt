@@ -7,7 +7,7 @@ use Rattle.std.proofs.lemmas.Bool.Decides.{nat_tests}
 use Rattle.std.proofs.lemmas.List.{length_push, get_or_append_left, get_or_at, map-append}
 use Rattle.row_format.specs.Extents.{Extent, Body, private, Place, own, place_in, page_count, page_end}
 use Rattle.blob_map.specs.Pages.{extent_pages}
-use Rattle.blob_map.specs.Normal.{single, is_next, follows, longer, more, grown, extents_of}
+use Rattle.blob_map.specs.Normal.{single, is_next, follows, longer, more, extents_from, extents_of}
 
 same_number : (a b : ℕ) → (a == b) ≡ true → a ≡ b
 same_number a b is = grind (arith, nat_tests, is)
@@ -100,14 +100,14 @@ single_pages page (own at csum) =
 pages_single : (p : ℕ × Place) → extent_pages (single p) ≡ p ∷ []
 pages_single p = single_pages p.0 p.1
 
-pub grown_back : (ps : List (ℕ × Place)) (e : Extent) → flat_map extent_pages (grown e ps) ≡ extent_pages e ++ ps
+pub grown_back : (ps : List (ℕ × Place)) (e : Extent) → flat_map extent_pages (extents_from e ps) ≡ extent_pages e ++ ps
 grown_back [] e = refl
 grown_back (p ∷ ps) e = elim (cases_Bool (follows e p)) [
   | inl is ↦
-      ap (λ t. flat_map extent_pages (cond t (grown (more e p) ps) (e ∷ grown (single p) ps))) is ∙ grown_back ps (more e p)
+      ap (λ t. flat_map extent_pages (cond t (extents_from (more e p) ps) (e ∷ extents_from (single p) ps))) is ∙ grown_back ps (more e p)
       ∙ ap (λ xs. xs ++ ps) (pages_more e p (follows_means e p is).page (follows_means e p is).place) ∙ append_assoc (extent_pages e) (p ∷ []) ps
   | inr is ↦
-      ap (λ t. flat_map extent_pages (cond t (grown (more e p) ps) (e ∷ grown (single p) ps))) is
+      ap (λ t. flat_map extent_pages (cond t (extents_from (more e p) ps) (e ∷ extents_from (single p) ps))) is
       ∙ ap (λ xs. extent_pages e ++ xs) (grown_back ps (single p) ∙ ap (λ xs. xs ++ ps) (pages_single p))
 ]
 

@@ -9,9 +9,9 @@ use Rattle.std.proofs.lemmas.Bool.{cases_Bool, cases_lt}
 use Rattle.number_map.proofs.Laws.{same}
 use Rattle.number_map.proofs.Places.{both_first, both_second}
 use Rattle.number_map.proofs.Search.{cmp_equal, cmp_less, cmp_greater, less_is}
-use Rattle.row_format.specs.Extents.{Extent, Body, private, Place, own, place_in, place_of, page_count, page_end, Ascend, FitsBody, FitsExtent}
+use Rattle.row_format.specs.Extents.{Extent, Body, private, Place, own, place_in, place_of, page_count, page_end, ExtentsAscend, FitsBody, FitsExtent}
 use Rattle.blob_map.specs.Pages.{PageMap, FitsPlace, FitsPage, StandsWithin, first_unit, extent_pages}
-use Rattle.blob_map.specs.Normal.{alone, single, follows, longer, more, grown, extents_of, NoneJoins}
+use Rattle.blob_map.specs.Normal.{alone, single, follows, longer, more, extents_from, extents_of, NoneJoins}
 use Rattle.blob_map.proofs.Lay.{page_at}
 use Rattle.blob_map.proofs.Places.{page_cases, place_here, place_behind}
 use Rattle.blob_map.proofs.Back.{IsNextPlace, follows_means, next_follows, longer_by_one, extents_back}
@@ -39,12 +39,12 @@ fits_more e p lt is fits = record { first = fits.first; body = fits_longer e.bod
 -- what holds of the extent of one page, and is kept by a page more, holds of all extents
 module _ (P : Extent → Type 0) (Q : ℕ × Place → Type 0) (of_single : (p : ℕ × Place) → Q p → P (single p))
     (of_more : (e : Extent) (p : ℕ × Place) → follows e p ≡ true → P e → Q p → P (more e p)) where
-  grown_all : (ps : List (ℕ × Place)) (e : Extent) → P e → AllByRecursion Q ps → AllByRecursion P (grown e ps)
+  grown_all : (ps : List (ℕ × Place)) (e : Extent) → P e → AllByRecursion Q ps → AllByRecursion P (extents_from e ps)
   grown_all [] e has all = (has, tt)
   grown_all (p ∷ ps) e has all = elim (cases_Bool (follows e p)) [
-    | inl is ↦ subst (λ t. AllByRecursion P (cond t (grown (more e p) ps) (e ∷ grown (single p) ps))) (sym is)
+    | inl is ↦ subst (λ t. AllByRecursion P (cond t (extents_from (more e p) ps) (e ∷ extents_from (single p) ps))) (sym is)
         (grown_all ps (more e p) (of_more e p is has all.0) all.1)
-    | inr is ↦ subst (λ t. AllByRecursion P (cond t (grown (more e p) ps) (e ∷ grown (single p) ps))) (sym is)
+    | inr is ↦ subst (λ t. AllByRecursion P (cond t (extents_from (more e p) ps) (e ∷ extents_from (single p) ps))) (sym is)
         (has, grown_all ps (single p) (of_single p all.0) all.1)
   ]
 
@@ -102,7 +102,7 @@ from_lower n m [] le all = tt
 from_lower n m (p ∷ ps) le all = (omega (arith, le, all.0), from_lower n m ps le all.1)
 
 grown_ascend : (ps : List (ℕ × Place)) (e : Extent) (n : ℕ) → T (is_sorted nat_cmp ps) → From (page_end e) ps → n ≤ e.first
-    → AllByRecursion (λ later. n ≤ later.first) (grown e ps) × Ascend (grown e ps)
+    → AllByRecursion (λ later. n ≤ later.first) (extents_from e ps) × ExtentsAscend (extents_from e ps)
 grown_ascend [] e n sorted from le = ((le, tt), (tt, tt))
 grown_ascend (p ∷ ps) e n sorted from le =
     let rest = both_second (below_all nat_cmp p.0 ps) _ sorted in
@@ -112,23 +112,23 @@ grown_ascend (p ∷ ps) e n sorted from le =
     elim (cases_Bool (follows e p)) [
       | inl is ↦
           let end : page_end (more e p) ≡ p.0 + 1 = omega (arith, longer_by_one e.body p.1, (follows_means e p is).page) in
-          subst (λ t. AllByRecursion (λ later. n ≤ later.first) (cond t (grown (more e p) ps) (e ∷ grown (single p) ps)) × Ascend (cond t (grown (more e p) ps) (e ∷ grown (single p) ps))) (sym is)
+          subst (λ t. AllByRecursion (λ later. n ≤ later.first) (cond t (extents_from (more e p) ps) (e ∷ extents_from (single p) ps)) × ExtentsAscend (cond t (extents_from (more e p) ps) (e ∷ extents_from (single p) ps))) (sym is)
           (grown_ascend ps (more e p) n rest (subst (λ m. From m ps) (sym end) later) le)
       | inr is ↦
           let some = grown_ascend ps (single p) n rest behind_one (omega (arith, from.0, le)) in
           let behind = grown_ascend ps (single p) (page_end e) rest behind_one from.0 in
-          subst (λ t. AllByRecursion (λ later. n ≤ later.first) (cond t (grown (more e p) ps) (e ∷ grown (single p) ps)) × Ascend (cond t (grown (more e p) ps) (e ∷ grown (single p) ps))) (sym is)
+          subst (λ t. AllByRecursion (λ later. n ≤ later.first) (cond t (extents_from (more e p) ps) (e ∷ extents_from (single p) ps)) × ExtentsAscend (cond t (extents_from (more e p) ps) (e ∷ extents_from (single p) ps))) (sym is)
           ((le, some.0), (behind.0, behind.1))
     ]
 
-sorted_ascend : (ps : List (ℕ × Place)) → T (is_sorted nat_cmp ps) → Ascend (extents_of ps)
+sorted_ascend : (ps : List (ℕ × Place)) → T (is_sorted nat_cmp ps) → ExtentsAscend (extents_of ps)
 sorted_ascend [] sorted = tt
 sorted_ascend (p ∷ ps) sorted =
     let one : page_end (single p) ≡ p.0 + 1 = omega (arith, alone_count p.1) in
     let later = subst (λ m. From m ps) (sym one) (all_later p.0 ps (both_first _ (is_sorted nat_cmp ps) sorted)) in
     (grown_ascend ps (single p) 0 (both_second (below_all nat_cmp p.0 ps) _ sorted) later (omega arith)).1
 
-pub extents_ascend : (pages : PageMap) → Ascend (extents_of (entries pages))
+pub extents_ascend : (pages : PageMap) → ExtentsAscend (extents_of (entries pages))
 extents_ascend pages = sorted_ascend (entries pages) (entries_sorted pages)
 
 -- ---- they are as long as they get
@@ -141,13 +141,13 @@ record BeginsAs (e : Extent) (es : List Extent) : Type 0 where
   pub first : head.first ≡ e.first
   pub unit : first_unit head.body ≡ first_unit e.body
 
-grown_begins : (ps : List (ℕ × Place)) (e : Extent) → BeginsAs e (grown e ps)
+grown_begins : (ps : List (ℕ × Place)) (e : Extent) → BeginsAs e (extents_from e ps)
 grown_begins [] e = record { head = e; others = []; are = refl; first = refl; unit = refl }
 grown_begins (p ∷ ps) e = elim (cases_Bool (follows e p)) [
   | inl is ↦
       let b = grown_begins ps (more e p) in
-      record { head = b.head; others = b.others; are = ap (λ t. cond t (grown (more e p) ps) (e ∷ grown (single p) ps)) is ∙ b.are; first = b.first; unit = b.unit ∙ unit_kept e.body p.1 }
-  | inr is ↦ record { head = e; others = grown (single p) ps; are = ap (λ t. cond t (grown (more e p) ps) (e ∷ grown (single p) ps)) is; first = refl; unit = refl }
+      record { head = b.head; others = b.others; are = ap (λ t. cond t (extents_from (more e p) ps) (e ∷ extents_from (single p) ps)) is ∙ b.are; first = b.first; unit = b.unit ∙ unit_kept e.body p.1 }
+  | inr is ↦ record { head = e; others = extents_from (single p) ps; are = ap (λ t. cond t (extents_from (more e p) ps) (e ∷ extents_from (single p) ps)) is; first = refl; unit = refl }
 ]
 
 next_alone : (body : Body) (p : Place) → first_unit (alone p) ≡ first_unit body + page_count body → IsNextPlace body p
@@ -160,12 +160,12 @@ behind_joins e p es apart b none =
       subst NoneJoins b.are none,
     )
 
-grown_longest : (ps : List (ℕ × Place)) (e : Extent) → NoneJoins (grown e ps)
+grown_longest : (ps : List (ℕ × Place)) (e : Extent) → NoneJoins (extents_from e ps)
 grown_longest [] e = tt
 grown_longest (p ∷ ps) e = elim (cases_Bool (follows e p)) [
-  | inl is ↦ subst (λ t. NoneJoins (cond t (grown (more e p) ps) (e ∷ grown (single p) ps))) (sym is) (grown_longest ps (more e p))
-  | inr is ↦ subst (λ t. NoneJoins (cond t (grown (more e p) ps) (e ∷ grown (single p) ps))) (sym is)
-      (behind_joins e p (grown (single p) ps) is (grown_begins ps (single p)) (grown_longest ps (single p)))
+  | inl is ↦ subst (λ t. NoneJoins (cond t (extents_from (more e p) ps) (e ∷ extents_from (single p) ps))) (sym is) (grown_longest ps (more e p))
+  | inr is ↦ subst (λ t. NoneJoins (cond t (extents_from (more e p) ps) (e ∷ extents_from (single p) ps))) (sym is)
+      (behind_joins e p (extents_from (single p) ps) is (grown_begins ps (single p)) (grown_longest ps (single p)))
 ]
 
 pub extents_longest : (ps : List (ℕ × Place)) → NoneJoins (extents_of ps)

@@ -6,10 +6,10 @@ use Rattle.std.proofs.lemmas.Bool.{cases_lt}
 use Rattle.std.proofs.lemmas.List.{get_or_default}
 use Rattle.number_map.proofs.Laws.{get_same, get_other}
 use Rattle.row_format.specs.Extents.{Extent, Place, place_in}
-use Rattle.blob_map.specs.Pages.{PageMap, laid}
+use Rattle.blob_map.specs.Pages.{PageMap, with_pages}
 
 -- one list behind the other
-pub laid_append : (pages : PageMap) (ps qs : List (ℕ × Place)) → laid pages (ps ++ qs) ≡ laid (laid pages ps) qs
+pub laid_append : (pages : PageMap) (ps qs : List (ℕ × Place)) → with_pages pages (ps ++ qs) ≡ with_pages (with_pages pages ps) qs
 laid_append pages [] qs = refl
 laid_append pages (p ∷ ps) qs = laid_append (finite.insert pages p.0 p.1) ps qs
 
@@ -18,7 +18,7 @@ module _ (e : Extent) where
   page_at i = (e.first + i, place_in e.body i)
 
   pub laid_outside : (n k : ℕ) (pages : PageMap) (q : ℕ) → (q < e.first + k) ⊎ (e.first + k + n ≤ q)
-      → finite.get (laid pages (map page_at (range_with_len k n))) q ≡ finite.get pages q
+      → finite.get (with_pages pages (map page_at (range_with_len k n))) q ≡ finite.get pages q
   laid_outside zero k pages q out = refl
   laid_outside (suc n) k pages q out =
       let later : (q < e.first + (k + 1)) ⊎ (e.first + (k + 1) + n ≤ q) = elim out [ inl lt ↦ inl (omega (arith, lt)) | inr le ↦ inr (omega (arith, le)) ] in
@@ -27,7 +27,7 @@ module _ (e : Extent) where
       ∙ get_other pages (e.first + k) (place_in e.body k) q apart
 
   pub laid_inside : (n k : ℕ) (pages : PageMap) (q : ℕ) → e.first + k ≤ q → q < e.first + k + n
-      → finite.get (laid pages (map page_at (range_with_len k n))) q ≡ Some (place_in e.body (q - e.first))
+      → finite.get (with_pages pages (map page_at (range_with_len k n))) q ≡ Some (place_in e.body (q - e.first))
   laid_inside zero k pages q le lt = absurd (omega (arith, le, lt))
   laid_inside (suc n) k pages q le lt = elim (cases_lt (e.first + k) q) [
     | inl less ↦ laid_inside n (k + 1) (finite.insert pages (e.first + k) (place_in e.body k)) q (omega (arith, less)) (omega (arith, lt))

@@ -6,8 +6,8 @@ use Rattle.std.specs.Ordering.{nat_cmp}
 use Rattle.std.specs.FinMap as finite
 use Rattle.std.proofs.lemmas.Bool.{cases_lt}
 use Rattle.std.proofs.lemmas.Bool.Decides.{nat_tests}
-use Rattle.row_format.specs.Extents.{Extent, Place, place_in, place_of, page_count, page_end, Ascend}
-use Rattle.blob_map.specs.Pages.{PageMap, laid, extent_pages}
+use Rattle.row_format.specs.Extents.{Extent, Place, place_in, place_of, page_count, page_end, ExtentsAscend}
+use Rattle.blob_map.specs.Pages.{PageMap, with_pages, extent_pages}
 use Rattle.blob_map.proofs.Lay.{laid_append, laid_outside, laid_inside}
 
 inside_is : (from end page : ℕ) → from ≤ page → page < end → (nat_le from page && nat_lt page end) ≡ true
@@ -45,12 +45,12 @@ either None other = other
 either (Some place) other = Some place
 
 -- the pages of extents that ascend, put into a map
-laid_over : (es : List Extent) (pages : PageMap) → Ascend es → (page : ℕ)
-    → finite.get (laid pages (flat_map extent_pages es)) page ≡ either (place_of es page) (finite.get pages page)
+laid_over : (es : List Extent) (pages : PageMap) → ExtentsAscend es → (page : ℕ)
+    → finite.get (with_pages pages (flat_map extent_pages es)) page ≡ either (place_of es page) (finite.get pages page)
 unfolding either
 laid_over [] pages ascend page = refl
 laid_over (e ∷ es) pages ascend page =
-    let now : PageMap = laid pages (extent_pages e) in
+    let now : PageMap = with_pages pages (extent_pages e) in
     ap (λ m. finite.get m page) (laid_append pages (extent_pages e) (flat_map extent_pages es))
     ∙ laid_over es now ascend.1 page
     ∙ elim (page_cases e page) [
@@ -71,6 +71,6 @@ or_none None = refl
 or_none (Some place) = refl
 
 -- into the empty one: each page stands where they say
-pub laid_alone : (es : List Extent) → Ascend es → (page : ℕ) → finite.get (laid finite.empty (flat_map extent_pages es)) page ≡ place_of es page
+pub laid_alone : (es : List Extent) → ExtentsAscend es → (page : ℕ) → finite.get (with_pages finite.empty (flat_map extent_pages es)) page ≡ place_of es page
 laid_alone es ascend page =
     laid_over es finite.empty ascend page ∙ ap (either (place_of es page)) (finite.get-empty nat_cmp page) ∙ or_none (place_of es page)

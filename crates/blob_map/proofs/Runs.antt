@@ -6,10 +6,10 @@ use Rattle.std.proofs.lemmas.List.{drop_more, drop_all, take_more, length-take, 
 use Rattle.std.proofs.lemmas.List.Concat.{flat_map-cons}
 use Rattle.row_format.specs.Extents.{Body, private, Place, own, extent_bytes}
 use Rattle.onode_codec.specs.declared.extent.Head.{Head}
-use Rattle.onode_codec.specs.Reading.{head_bytes}
+use Rattle.onode_codec.specs.Reading.{extent_head}
 use Rattle.onode_codec.proofs.ExtentReading.{head_then_csums}
 use Rattle.blob_map.specs.Pages.{csum_of}
-use Rattle.blob_map.specs.Normal.{single, longer, more, follows, grown, extents_of}
+use Rattle.blob_map.specs.Normal.{single, longer, more, follows, extents_from, extents_of}
 use Rattle.blob_map.specs.Values.{extent_with, csums_of, IsFirstRun, WritesRun}
 use Rattle.blob_map.proofs.Back.{follows_means}
 
@@ -18,7 +18,7 @@ pub record Grows (ps : List (ℕ × Place)) (h : Head) : Type 0 where
   pub some : 0 < h.count
   pub most : h.count ≤ 256
   pub within : h.count ≤ length ps
-  pub grown : extents_of ps ≡ grown (extent_with h (csums_of (take h.count ps))) (drop h.count ps)
+  pub extents_from : extents_of ps ≡ extents_from (extent_with h (csums_of (take h.count ps))) (drop h.count ps)
 
 pub one_grows : (ps : List (ℕ × Place)) (h : Head) (csum : ℕ) (d : ℕ × Place) → 0 < length ps → h.count ≡ 1
     → (h.first, own h.unit csum) ≡ get_or ps 0 d → Grows ps h
@@ -27,9 +27,9 @@ one_grows (p ∷ ps) h csum d lt one is = record {
   some = omega (arith, one);
   most = omega (arith, one);
   within = omega (arith, one);
-  grown = ap (λ x. grown (single x) ps) (sym is)
-      ∙ ap (λ x. grown (extent_with h (csum_of x.1 ∷ [])) ps) is
-      ∙ ap (λ n. grown (extent_with h (csums_of (take n (p ∷ ps)))) (drop n (p ∷ ps))) (sym one);
+  extents_from = ap (λ x. extents_from (single x) ps) (sym is)
+      ∙ ap (λ x. extents_from (extent_with h (csum_of x.1 ∷ [])) ps) is
+      ∙ ap (λ n. extents_from (extent_with h (csums_of (take n (p ∷ ps)))) (drop n (p ∷ ps))) (sym one);
 }
 
 longer_csums : (unit : ℕ) (csums : List ℕ) (place : Place) → longer (private unit csums) place ≡ private unit (csums ++ csum_of place ∷ [])
@@ -57,11 +57,11 @@ module _ (ps : List (ℕ × Place)) (h : Head) (q : ℕ × Place) (g : Grows ps 
         some = omega arith;
         most = omega (arith, few, size);
         within = omega (arith, lt);
-        grown = g.grown ∙ ap (grown (extent_with h (csums_of (take h.count ps)))) left_is
-            ∙ ap (λ t. cond t (grown (more (extent_with h (csums_of (take h.count ps))) q) (drop (h.count + 1) ps))
-            (extent_with h (csums_of (take h.count ps)) ∷ grown (single q) (drop (h.count + 1) ps))) does
-            ∙ ap (λ (b : Body). grown (record { first = h.first; body = b }) (drop (h.count + 1) ps)) (longer_csums h.unit (csums_of (take h.count ps)) q.1)
-            ∙ ap (λ cs. grown (extent_with h cs) (drop (h.count + 1) ps)) (sym csums_more);
+        extents_from = g.grown ∙ ap (extents_from (extent_with h (csums_of (take h.count ps)))) left_is
+            ∙ ap (λ t. cond t (extents_from (more (extent_with h (csums_of (take h.count ps))) q) (drop (h.count + 1) ps))
+            (extent_with h (csums_of (take h.count ps)) ∷ extents_from (single q) (drop (h.count + 1) ps))) does
+            ∙ ap (λ (b : Body). extents_from (record { first = h.first; body = b }) (drop (h.count + 1) ps)) (longer_csums h.unit (csums_of (take h.count ps)) q.1)
+            ∙ ap (λ cs. extents_from (extent_with h cs) (drop (h.count + 1) ps)) (sym csums_more);
       } in subst (Grows ps) (sym is') more_is
 
   pub ends_here : follows (extent_with h (csums_of (take h.count ps))) q ≡ false → IsFirstRun ps h
@@ -69,9 +69,9 @@ module _ (ps : List (ℕ × Place)) (h : Head) (q : ℕ × Place) (g : Grows ps 
     some = g.some;
     most = g.most;
     within = g.within;
-    run = g.grown ∙ ap (grown (extent_with h (csums_of (take h.count ps)))) left_is
-        ∙ ap (λ t. cond t (grown (more (extent_with h (csums_of (take h.count ps))) q) (drop (h.count + 1) ps))
-        (extent_with h (csums_of (take h.count ps)) ∷ grown (single q) (drop (h.count + 1) ps))) doesnt
+    run = g.grown ∙ ap (extents_from (extent_with h (csums_of (take h.count ps)))) left_is
+        ∙ ap (λ t. cond t (extents_from (more (extent_with h (csums_of (take h.count ps))) q) (drop (h.count + 1) ps))
+        (extent_with h (csums_of (take h.count ps)) ∷ extents_from (single q) (drop (h.count + 1) ps))) doesnt
         ∙ ap (λ l. extent_with h (csums_of (take h.count ps)) ∷ extents_of l) (sym left_is);
   }
 
@@ -83,12 +83,12 @@ ends_with_all ps h g le =
       some = g.some;
       most = g.most;
       within = g.within;
-      run = g.grown ∙ ap (grown (extent_with h (csums_of (take h.count ps)))) none
+      run = g.grown ∙ ap (extents_from (extent_with h (csums_of (take h.count ps)))) none
           ∙ ap (λ l. extent_with h (csums_of (take h.count ps)) ∷ extents_of l) (sym none);
     }
 
 pub run_written : (ps : List (ℕ × Place)) (h : Head) (count : ℕ) (old mid new : List ℕ) → IsFirstRun ps h → count ≡ h.count
-    → mid ≡ old ++ head_bytes h → new ≡ mid ++ flat_map (to_le_bytes w32) (csums_of (take count ps)) → WritesRun ps count old new
+    → mid ≡ old ++ extent_head h → new ≡ mid ++ flat_map (to_le_bytes w32) (csums_of (take count ps)) → WritesRun ps count old new
 run_written ps h count old mid new run is head csums = record {
   some = omega (arith, is, run.some);
   most = omega (arith, is, run.most);
@@ -96,8 +96,8 @@ run_written ps h count old mid new run is head csums = record {
   extent = extent_with h (csums_of (take h.count ps));
   run = run.run ∙ ap (λ n. extent_with h (csums_of (take h.count ps)) ∷ extents_of (drop n ps)) (sym is);
   written = csums ∙ ap (λ l. l ++ flat_map (to_le_bytes w32) (csums_of (take count ps))) head
-      ∙ append_assoc old (head_bytes h) (flat_map (to_le_bytes w32) (csums_of (take count ps)))
-      ∙ ap (λ n. old ++ (head_bytes h ++ flat_map (to_le_bytes w32) (csums_of (take n ps)))) is
+      ∙ append_assoc old (extent_head h) (flat_map (to_le_bytes w32) (csums_of (take count ps)))
+      ∙ ap (λ n. old ++ (extent_head h ++ flat_map (to_le_bytes w32) (csums_of (take n ps)))) is
       ∙ ap (λ l. old ++ l) (head_then_csums h (csums_of (take h.count ps)) (count_csums h.count ps run.within));
 }
 

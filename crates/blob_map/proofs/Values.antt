@@ -10,7 +10,7 @@ use Rattle.onode_codec.specs.declared.extent.Head.{Head}
 use Rattle.onode_codec.specs.Reading.{BeginsWithNoExtent, ReadsHead, SpellExtents}
 use Rattle.onode_codec.proofs.Again.{same_extents}
 use Rattle.onode_codec.proofs.ExtentReading.{length-numbers, head_front, numbers_more, extent_read, some_bytes, spelled_behind}
-use Rattle.blob_map.specs.Pages.{PageMap, HasNumbers, extent_pages, laid}
+use Rattle.blob_map.specs.Pages.{PageMap, HasNumbers, extent_pages, with_pages}
 use Rattle.blob_map.specs.Values.{SpellPages, BeginsWithPages, extent_with, PutsFirst, PutsExtent}
 use Rattle.blob_map.proofs.Lay.{laid_append}
 use Rattle.blob_map.proofs.Back.{pages_more}
@@ -56,7 +56,7 @@ puts_next h count csum old mid new pages now after lt is after_is puts =
       csums = puts.csums ++ csum ∷ [];
       read = numbers_more count csum old mid new puts.csums lt is puts.read;
       put = after_is ∙ ap (λ m. finite.insert m (h.first + count) (own (h.unit + count) csum)) puts.put
-          ∙ sym (laid_append pages (extent_pages e) (p ∷ [])) ∙ ap (laid pages) (sym (pages_more e p page unit));
+          ∙ sym (laid_append pages (extent_pages e) (p ∷ [])) ∙ ap (with_pages pages) (sym (pages_more e p page unit));
     }
 
 -- fewer bytes than a checksum's are left only behind the last
@@ -85,14 +85,14 @@ pub record AreLeft (bytes fields : List ℕ) (pages now : PageMap) : Type 0 wher
   pub left : List Extent
   pub spelled : SpellExtents fields left
   pub numbers : AllByRecursion HasNumbers left
-  pub put : (es : List Extent) → SpellExtents bytes es → laid now (flat_map extent_pages left) ≡ laid pages (flat_map extent_pages es)
+  pub put : (es : List Extent) → SpellExtents bytes es → with_pages now (flat_map extent_pages left) ≡ with_pages pages (flat_map extent_pages es)
 
 pub all_left : (bytes fields : List ℕ) (pages : PageMap) → SpellPages bytes → fields ≡ bytes → AreLeft bytes fields pages pages
 all_left bytes fields pages spell is = record {
   left = spell.extents;
   spelled = subst (λ l. SpellExtents l spell.extents) (sym is) spell.spelled;
   numbers = spell.numbers;
-  put = λ es spelled. ap (λ l. laid pages (flat_map extent_pages l)) (same_extents bytes spell.extents es spell.spelled spelled);
+  put = λ es spelled. ap (λ l. with_pages pages (flat_map extent_pages l)) (same_extents bytes spell.extents es spell.spelled spelled);
 }
 
 begins_with : (bytes : List ℕ) (left : List Extent) → SpellExtents bytes left → AllByRecursion HasNumbers left → bytes ≢ [] → BeginsWithPages bytes
@@ -118,14 +118,14 @@ module _ (bytes fields : List ℕ) (pages now : PageMap) (are : AreLeft bytes fi
         spelled = behind.spelled;
         numbers = numbers.1;
         put = λ es spelled.
-            ap (λ m. laid m (flat_map extent_pages behind.rest)) puts.put
+            ap (λ m. with_pages m (flat_map extent_pages behind.rest)) puts.put
             ∙ sym (laid_append now (extent_pages puts.extent) (flat_map extent_pages behind.rest))
-            ∙ ap (laid now) (sym (flat_map-cons extent_pages puts.extent behind.rest))
-            ∙ ap (λ l. laid now (flat_map extent_pages l)) (sym behind.are) ∙ are.put es spelled;
+            ∙ ap (with_pages now) (sym (flat_map-cons extent_pages puts.extent behind.rest))
+            ∙ ap (λ l. with_pages now (flat_map extent_pages l)) (sym behind.are) ∙ are.put es spelled;
       }
 
-  pub all_put : fields ≡ [] → (es : List Extent) → SpellExtents bytes es → now ≡ laid pages (flat_map extent_pages es)
-  all_put empty es spelled = ap (λ l. laid now (flat_map extent_pages l)) (sym (none are.left are.spelled)) ∙ are.put es spelled
+  pub all_put : fields ≡ [] → (es : List Extent) → SpellExtents bytes es → now ≡ with_pages pages (flat_map extent_pages es)
+  all_put empty es spelled = ap (λ l. with_pages now (flat_map extent_pages l)) (sym (none are.left are.spelled)) ∙ are.put es spelled
     where
       none : (left : List Extent) → SpellExtents fields left → left ≡ []
       none [] said = refl

@@ -28,19 +28,19 @@ abbrev pub more : Extent → ℕ × Place → Extent
 more e p = record { first = e.first; body = longer e.body p.1 }
 
 -- the extents of pages that come after an extent, with that extent
-abbrev pub grown : Extent → List (ℕ × Place) → List Extent
-grown e [] = e ∷ []
-grown e (p ∷ ps) = if follows e p then grown (more e p) ps else e ∷ grown (single p) ps
+abbrev pub extents_from : Extent → List (ℕ × Place) → List Extent
+extents_from e [] = e ∷ []
+extents_from e (p ∷ ps) = if follows e p then extents_from (more e p) ps else e ∷ extents_from (single p) ps
 
 -- the extents of pages
 abbrev pub extents_of : List (ℕ × Place) → List Extent
 extents_of [] = []
-extents_of (p ∷ ps) = grown (single p) ps
+extents_of (p ∷ ps) = extents_from (single p) ps
 
 -- the same where there may be an extent already that the first page follows
 abbrev pub finished : Option Extent → List (ℕ × Place) → List Extent
 finished None ps = extents_of ps
-finished (Some e) ps = grown e ps
+finished (Some e) ps = extents_from e ps
 
 -- the second extent begins where the first ends, on the next unit, and the first has fewer than 256 pages
 pub record Joins (e f : Extent) : Type 0 where

@@ -35,9 +35,9 @@ abbrev pub extent_pages : Extent → List (ℕ × Place)
 extent_pages e = map (λ i. (e.first + i, place_in e.body i)) (range_with_len 0 (page_count e.body))
 
 -- a map after pages are put in their places, one after the other
-abbrev pub laid : PageMap → List (ℕ × Place) → PageMap
-laid pages [] = pages
-laid pages (p ∷ ps) = laid (finite.insert pages p.0 p.1) ps
+abbrev pub with_pages : PageMap → List (ℕ × Place) → PageMap
+with_pages pages [] = pages
+with_pages pages (p ∷ ps) = with_pages (finite.insert pages p.0 p.1) ps
 
 -- the pages and the units of an extent have numbers below 2^32
 pub record HasNumbers (e : Extent) : Type 0 where

@@ -4,7 +4,7 @@ use Rattle.std.specs.List.{AllByRecursion}
 use Rattle.row_format.specs.Extents.{Extent, private, Place, extent_bytes, FitsExtent}
 use Rattle.onode_codec.specs.declared.extent.Head.{Head}
 use Rattle.onode_codec.specs.Reading.{ReadsNumbers, ReadsExtent, SpellExtents}
-use Rattle.blob_map.specs.Pages.{PageMap, HasNumbers, csum_of, extent_pages, laid}
+use Rattle.blob_map.specs.Pages.{PageMap, HasNumbers, csum_of, extent_pages, with_pages}
 use Rattle.blob_map.specs.Normal.{extents_of}
 
 -- the bytes spell extents whose pages and units have numbers below 2^32
@@ -29,13 +29,13 @@ extent_with h csums = record { first = h.first; body = private h.unit csums }
 pub record PutsFirst (h : Head) (count : ℕ) (old new : List ℕ) (pages pages' : PageMap) : Type 0 where
   pub csums : List ℕ
   pub read : ReadsNumbers count old new csums
-  pub put : pages' ≡ laid pages (extent_pages (extent_with h csums))
+  pub put : pages' ≡ with_pages pages (extent_pages (extent_with h csums))
 
 -- an extent was read, and its pages are put in their places
 pub record PutsExtent (old new : List ℕ) (pages pages' : PageMap) : Type 0 where
   pub extent : Extent
   pub read : ReadsExtent old new extent
-  pub put : pages' ≡ laid pages (extent_pages extent)
+  pub put : pages' ≡ with_pages pages (extent_pages extent)
 
 -- the checksums of pages
 abbrev pub csums_of : List (ℕ × Place) → List ℕ

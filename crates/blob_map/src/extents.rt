@@ -2,7 +2,7 @@
 ghost use Rattle.std.specs.Prelude.{◌≡◌, ◌++◌, ◌∷◌, ℕ, true, List, IfOk, IfSome, OnOk};
 ghost use Rattle.std.specs.List.{AllByRecursion};
 ghost use Rattle.row_format.specs.Extents.{Place, FitsExtent};
-ghost use Rattle.blob_map.specs.Normal.{single, follows, more, grown, extents_of, finished};
+ghost use Rattle.blob_map.specs.Normal.{single, follows, more, extents_from, extents_of, finished};
 
 use crate::place::Place;
 use byte_maps::Items;
@@ -59,7 +59,7 @@ fn next(
     requires fit { AllByRecursion FitsExtent done.old.items }
     requires last_fits { IfSome last FitsExtent }
     ensures same { IfOk result (λ e. (ps : List (ℕ × Place)) →
-        done.new.items ++ grown e ps ≡ done.old.items ++ finished last ((page, place.now) ∷ ps)) }
+        done.new.items ++ extents_from e ps ≡ done.old.items ++ finished last ((page, place.now) ∷ ps)) }
     ensures fits { IfOk result FitsExtent }
     ensures fit { OnOk result (AllByRecursion FitsExtent done.new.items) }
 {

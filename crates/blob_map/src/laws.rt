@@ -2,7 +2,7 @@
 ghost use Rattle.std.specs.Prelude.{Some, ◌≡◌, ◌<◌, ◌≤◌, ◌+◌, ℕ, List};
 ghost use Rattle.std.specs.List.{flat_map, AllByRecursion};
 ghost use Rattle.std.specs.FinMap as map;
-ghost use Rattle.row_format.specs.Extents.{Extent, Place, place_of, page_count, page_end, Ascend, FitsExtent};
+ghost use Rattle.row_format.specs.Extents.{Extent, Place, place_of, page_count, page_end, ExtentsAscend, FitsExtent};
 ghost use Rattle.blob_map.specs.Pages.{PageMap, FitsPage, StandsWithin, first_unit, extent_pages};
 ghost use Rattle.blob_map.specs.Normal.{extents_of, NoneJoins};
 
@@ -12,7 +12,7 @@ pub fn normal_form()
     ensures back { (ps : List (ℕ × Place)) → flat_map extent_pages (extents_of ps) ≡ ps }
     ensures places { (pages : PageMap) (page : ℕ) → place_of (extents_of (map.entries pages)) page ≡ map.get pages page }
     ensures fit { (ps : List (ℕ × Place)) → AllByRecursion FitsPage ps → AllByRecursion FitsExtent (extents_of ps) }
-    ensures ascend { (pages : PageMap) → Ascend (extents_of (map.entries pages)) }
+    ensures ascend { (pages : PageMap) → ExtentsAscend (extents_of (map.entries pages)) }
     ensures longest { (ps : List (ℕ × Place)) → NoneJoins (extents_of ps) }
 {}
 

@@ -7,7 +7,7 @@ ghost use Rattle.std.specs.FinMap.Entries.{where_key};
 ghost use Rattle.number_map.specs.NumberMap.{is_in};
 ghost use Rattle.row_format.specs.Extents.{Extent, Place, extent_bytes, FitsExtent};
 ghost use Rattle.onode_codec.specs.Reading.{SpellExtents};
-ghost use Rattle.blob_map.specs.Pages.{extent_pages, laid};
+ghost use Rattle.blob_map.specs.Pages.{extent_pages, with_pages};
 ghost use Rattle.blob_map.specs.Values.{SpellPages};
 ghost use Rattle.blob_map.specs.Normal.{extents_of};
 
@@ -56,7 +56,7 @@ impl PageMap {
     /// put.
     pub fn put_value(&mut self, value: &[u8]) -> Result<(), AllocError>
         requires { SpellPages value.now }
-        ensures { OnOk result ((es : List Extent) → SpellExtents value.now es → self.new ≡ laid self.old (flat_map extent_pages es)) }
+        ensures { OnOk result ((es : List Extent) → SpellExtents value.now es → self.new ≡ with_pages self.old (flat_map extent_pages es)) }
     {
         put_value(&mut self.pages, value)
     }

@@ -3,7 +3,7 @@ ghost use Rattle.std.specs.Prelude.{◌≡◌, ◌+◌, ◌*◌, ◌≤◌, ◌^
 ghost use Rattle.std.specs.List.{flat_map};
 ghost use Rattle.row_format.specs.Extents.{Extent};
 ghost use Rattle.onode_codec.specs.Reading.{SpellExtents};
-ghost use Rattle.blob_map.specs.Pages.{extent_pages, laid};
+ghost use Rattle.blob_map.specs.Pages.{extent_pages, with_pages};
 ghost use Rattle.blob_map.specs.Values.{SpellPages, BeginsWithPages, PutsFirst, PutsExtent};
 
 use crate::place::Place;
@@ -44,7 +44,7 @@ fn put_extent(pages: &mut NumberMap<Place>, fields: &mut Fields) -> Result<(), A
 /// are put.
 pub fn put_value(pages: &mut NumberMap<Place>, bytes: &[u8]) -> Result<(), AllocError>
     requires { SpellPages bytes.now }
-    ensures { OnOk result ((es : List Extent) → SpellExtents bytes.now es → pages.new ≡ laid pages.old (flat_map extent_pages es)) }
+    ensures { OnOk result ((es : List Extent) → SpellExtents bytes.now es → pages.new ≡ with_pages pages.old (flat_map extent_pages es)) }
 {
     let mut fields = Fields::new(bytes);
     'extents: while !fields.is_empty() {

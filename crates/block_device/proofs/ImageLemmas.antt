@@ -4,7 +4,7 @@ use Rattle.std.specs.Prelude.{slice_get, if◌then◌else◌, nat_lt, ◌==◌, 
 use Rattle.std.proofs.lemmas.Bool.{cases_lt, cases_Bool, lt-ltb, le-ltb, false≢true}
 use Rattle.std.proofs.lemmas.Bool.Decides.{nat_tests}
 use Rattle.std.proofs.lemmas.List.{length-take-le, get_or-replicate, length-replicate, take_more, take_all}
-use Rattle.byte_maps.specs.Units.{unit_at, laid, Covers, IsUnits}
+use Rattle.byte_maps.specs.Units.{unit_at, overlaid, Covers, IsUnits}
 use Rattle.byte_maps.proofs.UnitLemmas.{length-laid, unit_at-laid_inside}
 use Rattle.block_device.specs.Log.{after_event, last, WritesUnit, IsClean, IsCrashImage}
 use Rattle.block_device.specs.Tests.{covers, is_stable, first_unstable, is_dirty}
@@ -196,7 +196,7 @@ image_filled n start log image image' marks all s size others filled = record {
 }
 
 -- one torn unit more is filled
-pub filled_more : (k : ℕ) (filling image image' old : List ℕ) (torn : List Bool) → length filling ≡ 4096 → 4096 * k + 4096 ≤ length image → mark torn k ≡ true → image' ≡ laid k filling image
+pub filled_more : (k : ℕ) (filling image image' old : List ℕ) (torn : List Bool) → length filling ≡ 4096 → 4096 * k + 4096 ≤ length image → mark torn k ≡ true → image' ≡ overlaid k filling image
     → ((unit : ℕ) → mark torn unit ≡ false → unit_at unit image ≡ unit_at unit old) → (unit : ℕ) → mark torn unit ≡ false → unit_at unit image' ≡ unit_at unit old
 filled_more k filling image image' old torn size fits is_torn is before unit whole =
     ap (λ (l : List ℕ). unit_at unit l) is ∙ unit_at-laid_one k unit filling image size fits (λ same. false≢true (sym whole ∙ ap (λ (n : ℕ). mark torn n) same ∙ is_torn)) ∙ before unit whole
@@ -210,7 +210,7 @@ length-last start (e ∷ log) fits =
     length-last (after_event start e) log (λ place event there. subst (λ (n : ℕ). IsWhole n event) (sym size) (fits (suc place) event there)) ∙ size
   where
     length_whole : (e : Event) (bytes : List ℕ) → IsWhole (length bytes) e → length (after_event bytes e) ≡ length bytes
-    length_whole (Write at piece) bytes whole = length-laid at piece bytes whole.0
+    length_whole (Write at piece) bytes whole = length-overlaid at piece bytes whole.0
     length_whole Flush bytes whole = refl
     length_whole (Done ticket ok) bytes whole = refl
 
@@ -225,7 +225,7 @@ landed_last reached k n held bytes (e ∷ log) fits is all =
     (λ i event j there c. ap (λ (m : ℕ). reached m j) (omega arith) ∙ all (suc i) event j there c)
   where
     size : (e : Event) → IsWhole (length bytes) e → length (after_event bytes e) ≡ length bytes
-    size (Write at piece) whole = length-laid at piece bytes whole.0
+    size (Write at piece) whole = length-overlaid at piece bytes whole.0
     size Flush whole = refl
     size (Done ticket ok) whole = refl
 

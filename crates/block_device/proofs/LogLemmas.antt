@@ -7,7 +7,7 @@ use Rattle.std.proofs.lemmas.List.Elements.{Contains-append_left, Contains-push}
 use Rattle.byte_maps.specs.Units.{unit_at}
 use Rattle.block_device.specs.Log.{after_event, last, WritesUnit, IsFlushAfter, IsStable, IsClean, IsCrashImage, EachCut}
 use Rattle.block_device.specs.Disk.{History}
-use Rattle.block_device.specs.Facts.{with_event, last_at, SurelyHolds, IsPending, Fits}
+use Rattle.block_device.specs.Facts.{with_event, last_at, SurelyHolds, IsPending, EventFits}
 use Rattle.byte_maps.proofs.UnitLemmas.{length-laid, unit_at-laid_before, unit_at-laid_behind, unit_at-laid_inside}
 use Rattle.block_device.specs.declared.event.Event.{Event}
 use Rattle.block_device.specs.declared.event.Event.TheVariants.{Write, Flush, Done}
@@ -17,7 +17,7 @@ last-push start [] event = refl
 last-push start (e ∷ log) event = last-push (after_event start e) log event
 
 -- an event that doesn't write unit k leaves it
-pub unit_at-after_event : (k : ℕ) (event : Event) (bytes : List ℕ) → Fits (length bytes) event → ¬ WritesUnit k event → unit_at k (after_event bytes event) ≡ unit_at k bytes
+pub unit_at-after_event : (k : ℕ) (event : Event) (bytes : List ℕ) → EventFits (length bytes) event → ¬ WritesUnit k event → unit_at k (after_event bytes event) ≡ unit_at k bytes
 unit_at-after_event k (Write at piece) bytes fits spared =
     elim (cases_lt k at) [
       | inl before ↦ unit_at-laid_before at k piece bytes fits before
@@ -30,7 +30,7 @@ unit_at-after_event k (Write at piece) bytes fits spared =
 unit_at-after_event k Flush bytes fits spared = refl
 unit_at-after_event k (Done ticket ok) bytes fits spared = refl
 
-pub length-after_event : (event : Event) (bytes : List ℕ) → Fits (length bytes) event → length (after_event bytes event) ≡ length bytes
+pub length-after_event : (event : Event) (bytes : List ℕ) → EventFits (length bytes) event → length (after_event bytes event) ≡ length bytes
 length-after_event (Write at piece) bytes fits = length-laid at piece bytes fits
 length-after_event Flush bytes fits = refl
 length-after_event (Done ticket ok) bytes fits = refl
@@ -98,17 +98,17 @@ clean_push log event k clean spared write e there covers =
 
 module _ (h : History) (event : Event) where
   -- the bytes last written to a unit that this event doesn't write
-  last_at-push : (k : ℕ) → Fits (length (last h.start h.log)) event → ¬ WritesUnit k event → last_at (with_event h event) k ≡ last_at h k
+  last_at-push : (k : ℕ) → EventFits (length (last h.start h.log)) event → ¬ WritesUnit k event → last_at (with_event h event) k ≡ last_at h k
   last_at-push k fits spared =
       ap (λ (l : List ℕ). unit_at k l) (last-push h.start h.log event) ∙ unit_at-after_event k event (last h.start h.log) fits spared
 
-  pub surely_push : (k : ℕ) (P : List ℕ → Type 0) → SurelyHolds h k P → Fits (length (last h.start h.log)) event → ¬ WritesUnit k event → SurelyHolds (with_event h event) k P
+  pub surely_push : (k : ℕ) (P : List ℕ → Type 0) → SurelyHolds h k P → EventFits (length (last h.start h.log)) event → ¬ WritesUnit k event → SurelyHolds (with_event h event) k P
   surely_push k P s fits spared = record {
     clean = clean_push h.log event k s.clean spared;
     last = rw (last_at-push k fits spared) s.last;
   }
 
-  pub pending_push : (k write : ℕ) (P : List ℕ → Type 0) → IsPending h k write P → Fits (length (last h.start h.log)) event → ¬ WritesUnit k event → IsPending (with_event h event) k write P
+  pub pending_push : (k write : ℕ) (P : List ℕ → Type 0) → IsPending h k write P → EventFits (length (last h.start h.log)) event → ¬ WritesUnit k event → IsPending (with_event h event) k write P
   pending_push k write P p fits spared = record {
     others = λ place e there covers.
         elim (slice_get-push_cases h.log event e place there) [

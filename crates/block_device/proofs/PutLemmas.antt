@@ -3,7 +3,7 @@ use Rattle.std.proofs.Common.{◌≡◌, ◌≢◌, inl, inr, ℕ, ◌+◌, ◌-
 use Rattle.std.specs.Prelude.{if◌then◌else◌}
 use Rattle.std.proofs.lemmas.Bool.{cases_lt, cases_eq}
 use Rattle.std.proofs.lemmas.List.{get_or-set_same, get_or-set_other, length-set, length-take-le}
-use Rattle.byte_maps.specs.Units.{unit_at, laid, IsUnits}
+use Rattle.byte_maps.specs.Units.{unit_at, overlaid, IsUnits}
 use Rattle.byte_maps.proofs.UnitLemmas.{length-laid, unit_at-laid_before, unit_at-laid_behind, unit_at-laid_inside, unit_at-whole}
 use Rattle.block_device.specs.Laying.{is_laid, mark, laid_unit, IsPut}
 use Rattle.block_device.specs.declared.image.Tear.{Tear}
@@ -22,13 +22,13 @@ pub record IsPutUpTo (tear : Tear) (j at : ℕ) (bytes : List ℕ) (stable : Boo
   pub torn : (k : ℕ) → IsAmongFirst at j k → mark torn_new k ≡ (mark torn_old k || not stable)
 
 -- one unit laid leaves the others
-pub unit_at-laid_one : (at k : ℕ) (piece old : List ℕ) → length piece ≡ 4096 → 4096 * at + 4096 ≤ length old → k ≢ at → unit_at k (laid at piece old) ≡ unit_at k old
+pub unit_at-laid_one : (at k : ℕ) (piece old : List ℕ) → length piece ≡ 4096 → 4096 * at + 4096 ≤ length old → k ≢ at → unit_at k (overlaid at piece old) ≡ unit_at k old
 unit_at-laid_one at k piece old size fits other = elim (cases_lt k at) [
   | inl before ↦ unit_at-laid_before at k piece old (omega arith) before
   | inr behind ↦ unit_at-laid_behind at k piece old (omega arith) (omega arith)
 ]
 
-pub unit_at-laid_itself : (at : ℕ) (piece old : List ℕ) → length piece ≡ 4096 → 4096 * at + 4096 ≤ length old → unit_at at (laid at piece old) ≡ piece
+pub unit_at-laid_itself : (at : ℕ) (piece old : List ℕ) → length piece ≡ 4096 → 4096 * at + 4096 ≤ length old → unit_at at (overlaid at piece old) ≡ piece
 unit_at-laid_itself at piece old size fits = unit_at-laid_inside at at 0 piece old (omega arith) (omega arith) (omega arith) ∙ unit_at-whole piece size
 
 -- the piece that the code takes
@@ -52,7 +52,7 @@ put_none tear at bytes stable old torn = record {
 
 -- the image after unit j: laid, or as it was
 abbrev pub put_one : Bool → ℕ → List ℕ → List ℕ → List ℕ
-put_one true k piece image = laid k piece image
+put_one true k piece image = overlaid k piece image
 put_one false k piece image = image
 
 unit_at-put_other : (taken : Bool) (at k : ℕ) (piece image : List ℕ) → length piece ≡ 4096 → 4096 * at + 4096 ≤ length image → k ≢ at → unit_at k (put_one taken at piece image) ≡ unit_at k image
@@ -64,7 +64,7 @@ unit_at-put_here true at piece image size fits = unit_at-laid_itself at piece im
 unit_at-put_here false at piece image size fits = refl
 
 length-put_one : (taken : Bool) (at : ℕ) (piece image : List ℕ) → length piece ≡ 4096 → 4096 * at + 4096 ≤ length image → length (put_one taken at piece image) ≡ length image
-length-put_one true at piece image size fits = length-laid at piece image (omega arith)
+length-put_one true at piece image size fits = length-overlaid at piece image (omega arith)
 length-put_one false at piece image size fits = refl
 
 -- unit j of a write is put or not, and marked

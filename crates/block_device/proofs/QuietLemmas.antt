@@ -9,7 +9,7 @@ use Rattle.byte_maps.specs.Units.{unit_at}
 use Rattle.byte_maps.proofs.UnitLemmas.{unit_at-laid_inside}
 use Rattle.block_device.specs.Log.{last, WritesUnit, IsStable, IsClean, IsAnsweredOnce, HasNoBadDone}
 use Rattle.block_device.specs.Disk.{History, Flight, flight_of, find_flight, without, IsApart}
-use Rattle.block_device.specs.Facts.{with_event, last_at, IsCovered, IsSubmission, EachWriteIsAnswered, QuietAt, IsUnflown}
+use Rattle.block_device.specs.Facts.{with_event, last_at, IsCovered, IsSubmission, EachWriteIsAnswered, QuietAt, IsUntouched}
 use Rattle.block_device.proofs.LogLemmas.{last-push, slice_get-push_cases, stable_push}
 use Rattle.block_device.proofs.AnswerLemmas.{once_good}
 use Rattle.block_device.proofs.ReadLemmas.{stable_good}
@@ -120,35 +120,35 @@ not_apart k n Flush covers apart = covers
 not_apart k n (Done t ok) covers apart = covers
 
 -- each write of it is stable, or has a good Done
-pub each_settled : (base : ℕ) (h : History) (fl : List Flight) (k : ℕ) → QuietAt base h → EachWriteIsAnswered base h fl → IsUnflown fl k
+pub each_settled : (base : ℕ) (h : History) (fl : List Flight) (k : ℕ) → QuietAt base h → EachWriteIsAnswered base h fl → IsUntouched fl k
     → (write : ℕ) (event : Event) → slice_get h.log write ≡ Some event → WritesUnit k event → IsStable h.log write ⊎ Contains h.log (Done write true)
-each_settled base h fl k quiet each unflown write event there covers = elim (cases_lt write base) [
+each_settled base h fl k quiet each untouched write event there covers = elim (cases_lt write base) [
   | inl before ↦ inl (stable_front base h.log write (quiet k write event (slice_get-take_below base h.log write event before there) covers))
   | inr since ↦
       elim (each write event since there (is_submission k event covers)) [
         | inr good ↦ inr good
         | inl flying ↦
-            let found = subst (λ o. IfSome o (λ f. IsApart k 4096 f × (f.ticket ≡ write))) flying (found_all (IsApart k 4096) write fl unflown) in
+            let found = subst (λ o. IfSome o (λ f. IsApart k 4096 f × (f.ticket ≡ write))) flying (found_all (IsApart k 4096) write fl untouched) in
             absurd (not_apart k write event covers found.0)
       ]
 ]
 
 -- so a flush submitted now covers it
-pub flush_covers_unit : (base : ℕ) (h : History) (fl : List Flight) (k : ℕ) → QuietAt base h → EachWriteIsAnswered base h fl → IsUnflown fl k → IsCovered (h.log ++ Flush ∷ []) (length h.log) k
-flush_covers_unit base h fl k quiet each unflown = flush_covers h.log k (each_settled base h fl k quiet each unflown)
+pub flush_covers_unit : (base : ℕ) (h : History) (fl : List Flight) (k : ℕ) → QuietAt base h → EachWriteIsAnswered base h fl → IsUntouched fl k → IsCovered (h.log ++ Flush ∷ []) (length h.log) k
+flush_covers_unit base h fl k quiet each untouched = flush_covers h.log k (each_settled base h fl k quiet each untouched)
 
 -- and it reads as last written
-pub read_good : (base : ℕ) (h : History) (fl : List Flight) (k : ℕ) → QuietAt base h → EachWriteIsAnswered base h fl → IsUnflown fl k → IsAnsweredOnce h.log → HasNoBadDone h.log k
-read_good base h fl k quiet each unflown once write event there covers = elim (each_settled base h fl k quiet each unflown write event there covers) [
+pub read_good : (base : ℕ) (h : History) (fl : List Flight) (k : ℕ) → QuietAt base h → EachWriteIsAnswered base h fl → IsUntouched fl k → IsAnsweredOnce h.log → HasNoBadDone h.log k
+read_good base h fl k quiet each untouched once write event there covers = elim (each_settled base h fl k quiet each untouched write event there covers) [
   | inl stable ↦ once_good h.log write once (stable_good h.log write stable)
   | inr good ↦ once_good h.log write once good
 ]
 
-pub unflown_submit : (fl : List Flight) (n k : ℕ) (event : Event) → IsUnflown fl k → IsApart k 4096 (flight_of n event) → IsUnflown (fl ++ flight_of n event ∷ []) k
-unflown_submit fl n k event unflown apart = All-push (IsApart k 4096) fl (flight_of n event) unflown apart
+pub untouched_submit : (fl : List Flight) (n k : ℕ) (event : Event) → IsUntouched fl k → IsApart k 4096 (flight_of n event) → IsUntouched (fl ++ flight_of n event ∷ []) k
+untouched_submit fl n k event untouched apart = All-push (IsApart k 4096) fl (flight_of n event) untouched apart
 
-pub unflown_done : (fl : List Flight) (t k : ℕ) → IsUnflown fl k → IsUnflown (without t fl) k
-unflown_done fl t k unflown = all_without (IsApart k 4096) t fl unflown
+pub untouched_done : (fl : List Flight) (t k : ℕ) → IsUntouched fl k → IsUntouched (without t fl) k
+untouched_done fl t k untouched = all_without (IsApart k 4096) t fl untouched
 
 -- unit j of a write, once it is submitted
 pub written_unit : (h : History) (at j : ℕ) (bytes : List ℕ) → 4096 * at + length bytes ≤ length (last h.start h.log) → 4096 * j + 4096 ≤ length bytes → last_at (with_event h (Write at bytes)) (at + j) ≡ unit_at j bytes

@@ -31,9 +31,9 @@ pub record IsFresh (d : Disk) : Type 0 where
   pub log : IfSome d.history (λ h. h.log ≡ [])
 
 -- the history with one more event
-abbrev pub grown : Option History → Event → Option History
-grown None event = None
-grown (Some h) event = Some (record { start = h.start; log = h.log ++ event ∷ [] })
+abbrev pub history_after : Option History → Event → Option History
+history_after None event = None
+history_after (Some h) event = Some (record { start = h.start; log = h.log ++ event ∷ [] })
 
 -- the flight of a submission
 abbrev pub flight_of : ℕ → Event → Flight
@@ -71,13 +71,13 @@ pub record IsSound (d : Disk) : Type 0 where
 pub record Submitted (old : Disk) (ticket : ℕ) (event : Event) (new : Disk) : Type 0 where
   pub is_new : find_flight ticket old.flights ≡ None
   pub place : IfSome old.history (λ h. ticket ≡ length h.log)
-  pub after : new ≡ record old { flights = old.flights ++ flight_of ticket event ∷ []; history = grown old.history event }
+  pub after : new ≡ record old { flights = old.flights ++ flight_of ticket event ∷ []; history = history_after old.history event }
 
 -- a ticket in flight is done
 pub record Reaped (old : Disk) (ticket : ℕ) (ok : Bool) (new : Disk) : Type 0 where
   pub was_open : IsSome (find_flight ticket old.flights)
   pub fewer : length new.flights + 1 ≡ length old.flights
-  pub after : new ≡ record old { flights = without ticket old.flights; waits = 0; history = grown old.history (Done ticket ok) }
+  pub after : new ≡ record old { flights = without ticket old.flights; waits = 0; history = history_after old.history (Done ticket ok) }
 
 -- no answer: nothing is in flight, or this is at most the 64th time in a row
 abbrev pub Waited : Disk → Disk → Type 0

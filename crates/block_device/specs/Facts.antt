@@ -46,11 +46,11 @@ abbrev pub QuietAt : ℕ → History → Type 0
 QuietAt base h = (k : ℕ) → IsClean (take base h.log) k
 
 -- no write in flight touches unit k
-abbrev pub IsUnflown : List Flight → ℕ → Type 0
-IsUnflown flights k = All (IsApart k 4096) flights
+abbrev pub IsUntouched : List Flight → ℕ → Type 0
+IsUntouched flights k = All (IsApart k 4096) flights
 
 -- the event's bytes lie inside a device of this length
-abbrev pub Fits : ℕ → Event → Type 0
-Fits size (Write at bytes) = 4096 * at + length bytes ≤ size
-Fits size Flush = Unit {0}
-Fits size (Done ticket ok) = Unit {0}
+abbrev pub EventFits : ℕ → Event → Type 0
+EventFits size (Write at bytes) = 4096 * at + length bytes ≤ size
+EventFits size Flush = Unit {0}
+EventFits size (Done ticket ok) = Unit {0}

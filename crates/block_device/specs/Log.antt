@@ -1,12 +1,12 @@
 -- The log of a device, and what a crash after a part of it may leave.
 use Rattle.std.specs.Prelude.{◌≡◌, ℕ, ◌≤◌, List, [], ◌∷◌, length, take, Contains, slice_get, Some, Bool, true, false}
-use Rattle.byte_maps.specs.Units.{unit_at, laid, Covers}
+use Rattle.byte_maps.specs.Units.{unit_at, overlaid, Covers}
 use Rattle.block_device.specs.declared.event.Event.{Event}
 use Rattle.block_device.specs.declared.event.Event.TheVariants.{Write, Flush, Done}
 
 -- the contents after one event
 abbrev pub after_event : List ℕ → Event → List ℕ
-after_event bytes (Write at piece) = laid at piece bytes
+after_event bytes (Write at piece) = overlaid at piece bytes
 after_event bytes Flush = bytes
 after_event bytes (Done ticket ok) = bytes
 

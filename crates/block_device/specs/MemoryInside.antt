@@ -20,7 +20,7 @@ memory_disk m = record {
 }
 
 -- the present contents follow from the log, which has the room of the Dones that are to come
-pub record IsKept (m : Inside) : Type 0 where
+pub record IsMemoryKept (m : Inside) : Type 0 where
   pub facts : IsMemoryDisk (memory_disk m)
   pub contents : m.contents.items ≡ last m.start.items m.log.items
   pub same_size : length m.contents.items ≡ length m.start.items

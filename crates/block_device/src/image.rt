@@ -1,6 +1,6 @@
 // What a crash may leave of a device in memory.
 ghost use Rattle.std.specs.Prelude.{◌≡◌, ◌≢◌, ◌⊎◌, ◌↔◌, ◌+◌, ◌-◌, ◌*◌, ◌<◌, ◌≤◌, ◌/◌, ℕ, Bool, true, false, length, take, IsTrue, IfOk, Contains, slice_index_or, replicate};
-ghost use Rattle.byte_maps.specs.Units.{unit_at, laid, IsUnits, Covers};
+ghost use Rattle.byte_maps.specs.Units.{unit_at, overlaid, IsUnits, Covers};
 ghost use Rattle.block_device.specs.Log.{IsStable, IsCrashImage};
 ghost use Rattle.block_device.specs.Image.{AllFit, IsTornImage, noise};
 ghost use Rattle.block_device.specs.Laying.{IsPut, IsLastGoodFlush, is_laid, mark};
@@ -28,7 +28,7 @@ pub enum Tear {
 // Lays bytes over the contents, from unit `at` on.
 pub fn lay(contents: &mut [u8], at: usize, bytes: &[u8])
     requires { 4096 * at + length bytes.now ≤ length contents.old }
-    ensures { contents.new ≡ laid at bytes.now contents.old }
+    ensures { contents.new ≡ overlaid at bytes.now contents.old }
 {
     let from = 4096 * at;
     contents[from..from + bytes.len()].copy_from_slice(bytes);

@@ -41,11 +41,11 @@ impl Model for MemoryDevice {
 
     ghost Value = { MemoryDisk };
 
-    ghost use Rattle.block_device.specs.MemoryInside.{memory_disk, IsKept};
+    ghost use Rattle.block_device.specs.MemoryInside.{memory_disk, IsMemoryKept};
 
     ghost view = { memory_disk };
 
-    ghost invariant = { IsKept };
+    ghost invariant = { IsMemoryKept };
 }
 
 // Whether a call is listed to fail.

@@ -34,7 +34,7 @@ use Rattle.store_steps.specs.declared.plan.Plan.{Plan}
 use Rattle.store_steps.specs.State.{State}
 use Rattle.store_steps.specs.Planning.{pair_of, as_planned}
 use Rattle.store_steps.specs.Submit.{IsKnown, refusal_of, context_of, entered, noted, accepted_with, IsCause, Accepts}
-use Rattle.store_steps.specs.Runs.{MaySubmit, IsAnswered}
+use Rattle.store_steps.specs.Runs.{MaySubmit, AnswersRead}
 use Rattle.store_facts.specs.Space.{uncommitted}
 use Rattle.store_facts.specs.Kept.{IsKept}
 use Rattle.store_facts.proofs.RowsPlans.{units_of, units_of_pairs, planned}
@@ -234,7 +234,7 @@ read_accepts_none (ask.List c) a names = refl
 read_accepts_none command a names = absurd names
 
 pub book_answers : (opening : Objects) (s : State) (d : Disk) (client line : ℕ) (command : Command) (a : Answer) (s' : State) → KnownOfBook opening s
-    → IsAnswered client line command a s d s' → KnownOfBook opening s'
+    → AnswersRead client line command a s d s' → KnownOfBook opening s'
 book_answers opening s d client line command a s' book is =
     subst (KnownOfBook opening) (sym is.after)
     (book_enters opening s client line command a (read_accepts_none command a is.names) book

@@ -4,7 +4,7 @@ use Rattle.std.proofs.Common.{Result, Ok, Err, OnOk, IfErr, MatchResult, ap, ◌
 use Rattle.std.specs.List.{AllByRecursion}
 use Rattle.object_model.specs.declared.op.Op.{Op}
 use Rattle.object_model.specs.declared.op.Op.TheVariants as op
-use Rattle.script_text.specs.Grammar.{Fits, HasWholePages}
+use Rattle.script_text.specs.Grammar.{FitsWhat, HasWholePages}
 use Rattle.script_text.specs.declared.line.Line.{Line}
 use Rattle.script_text.specs.declared.line.What.{What}
 use Rattle.script_text.specs.declared.line.What.TheVariants as what
@@ -27,7 +27,7 @@ use Rattle.store_steps.specs.Changes.{landed, after_done, after_good, flying_of,
 use Rattle.store_steps.specs.Ready.{is_drained, is_empty}
 use Rattle.store_steps.specs.Steps.{Takes, Does}
 use Rattle.store_steps.specs.Submit.{IsKnown, entered, Accepts, Refuses, IsDownBy, IsBookFull}
-use Rattle.store_steps.specs.Runs.{Call, reading, stepping, MaySubmit, MayRead, IsAnswered, DoesOrFails, Calls}
+use Rattle.store_steps.specs.Runs.{Call, reading, stepping, MaySubmit, MayRead, AnswersRead, DoesOrFails, Calls}
 use Rattle.read_facts.specs.Answers.{IsKnownRead}
 use Rattle.store_kernel.specs.Submitting.{RefusesBy}
 use Rattle.store_kernel.specs.Reading.{UnansweredBy, IsDeviceRead}
@@ -213,7 +213,7 @@ known_ops (op.Write o off bytes ∷ []) pages = pages
 known_ops ops pages = absurd pages
 
 -- a transaction that scripts can have may be submitted where nothing is ready
-pub may_submit : (change : Change) (s : State) (d : Disk) → ready_list d.depth s ≡ [] → Fits (what.Command (command.Change change))
+pub may_submit : (change : Change) (s : State) (d : Disk) → ready_list d.depth s ≡ [] → FitsWhat (what.Command (command.Change change))
     → MaySubmit change s d
 may_submit change s d none fits = record { drained = λ up. none_drained d.depth s none; known = known_ops change.ops fits }
 
@@ -234,7 +234,7 @@ other_read (command.OmapHeader coll object) other = tt
 other_read (command.List coll) other = tt
 
 -- a read that scripts can have is known to the store
-known_read : (c : Command) → IsRead c → Fits (what.Command c) → IsKnownRead c
+known_read : (c : Command) → IsRead c → FitsWhat (what.Command c) → IsKnownRead c
 known_read (command.Read coll object off len) is fits = tt
 known_read (command.Sum coll object) is fits = tt
 known_read (command.Stat coll object) is fits = tt
@@ -245,7 +245,7 @@ known_read (command.OmapGet coll object key) is fits = absurd fits
 known_read (command.OmapHeader coll object) is fits = absurd fits
 
 -- a command that scripts can have, and that is no transaction, is a read that the store knows
-pub known_other : (c : Command) → ((change : Change) → c ≡ command.Change change → ⊥) → Fits (what.Command c) → IsKnownRead c
+pub known_other : (c : Command) → ((change : Change) → c ≡ command.Change change → ⊥) → FitsWhat (what.Command c) → IsKnownRead c
 known_other c other fits = known_read c (other_read c other) fits
 
 -- it may be asked where nothing is ready
@@ -350,7 +350,7 @@ unanswered_same e why c s d s' d' away same is = absurd is
 -- what a read makes, by its end
 pub replied_ends : (line : ℕ) (c : Command) (r : Result ℕ Unanswered) (out : Result (Unit {0}) RunFail) (s : State) (d : Disk) (s' : State)
     (d' : Disk)
-    → s.down ≡ None → MayRead c s d → d' ≡ d → OnOk r ((a : Answer) × IsAnswered 0 line c a s d s') → IfErr r (λ why. UnansweredBy why c s s')
+    → s.down ≡ None → MayRead c s d → d' ≡ d → OnOk r ((a : Answer) × AnswersRead 0 line c a s d s') → IfErr r (λ why. UnansweredBy why c s s')
     → MatchResult out (λ _. IsReplied r) (λ e. IsFailOf e r) → MatchResult out (λ _. IsMade line c s d s' d') (λ e. IsUnmade e s d s' d')
 replied_ends line c (Ok place) (Ok u) s d s' d' up may same answered away replied =
     let called : Calls (call_of line c) s d s' d' =
@@ -508,7 +508,7 @@ wait_passed x0 lines s0 d0 x items left next s d so_far is waits =
 -- what a line asks of the kernel
 pub record CanAsk (c : Command) (s : State) : Type 0 where
   pub up : s.down ≡ None
-  pub fits : Fits (what.Command c)
+  pub fits : FitsWhat (what.Command c)
   pub room : length s.book.entries < 1048576
 
 -- a line with a command can be asked

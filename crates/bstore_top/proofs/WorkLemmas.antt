@@ -4,7 +4,7 @@ use Rattle.std.proofs.Common.{MatchResult, ap, ◌∙◌, sym, refl, subst, arit
 use Rattle.std.specs.Prelude.{Any, IsErrOf}
 use Rattle.std.specs.List.{AllByRecursion}
 use Rattle.std.specs.FinMap as finite
-use Rattle.block_device.specs.Disk.{Disk, History, grown, Rose}
+use Rattle.block_device.specs.Disk.{Disk, History, history_after, Rose}
 use Rattle.block_device.specs.declared.event.Event.{Event}
 use Rattle.end_points.specs.Bay.{Names}
 use Rattle.object_model.specs.declared.command.Command.TheVariants as command
@@ -183,14 +183,14 @@ went_trans a b c first second = record {
   told = told_join GoesOn GoesOn GoesOn a.history b.history c.history (λ h k m is_h is_k is_m p q. goes_on_trans h k m p q) first.told second.told;
 }
 
-told_grown : (h : Option History) (event : Event) → Told GoesOn h (grown h event)
+told_grown : (h : Option History) (event : Event) → Told GoesOn h (history_after h event)
 told_grown None event = tt
 told_grown (Some h) event = record { same_start = refl; events = event ∷ []; more = refl }
 
 went_equal : (d d' : Disk) → d' ≡ d → WentOn d d'
 went_equal d d' same = subst (λ (z : Disk). WentOn d z) (sym same) (went_same d)
 
-grown_by : (d e d' : Disk) (event : Event) → d' ≡ e → e.units ≡ d.units → e.depth ≡ d.depth → e.history ≡ grown d.history event → WentOn d d'
+grown_by : (d e d' : Disk) (event : Event) → d' ≡ e → e.units ≡ d.units → e.depth ≡ d.depth → e.history ≡ history_after d.history event → WentOn d d'
 grown_by d e d' event same units depth history =
     let told : Told GoesOn d.history e.history =
     subst (λ (h : Option History). Told GoesOn d.history h) (sym history) (told_grown d.history event) in

@@ -1,7 +1,7 @@
 -- Parts of a run on a mounted store.
 use Rattle.std.specs.Prelude.{◌≡◌, ℕ, List, [], ◌∷◌, ◌++◌, map, Option, Some, None, Result, Ok, Err, is_some, true}
 use Rattle.block_device.specs.Disk.{Disk}
-use Rattle.script_text.specs.Grammar.{Fits}
+use Rattle.script_text.specs.Grammar.{FitsWhat}
 use Rattle.script_text.specs.declared.line.Line.{Line}
 use Rattle.store_steps.specs.State.{State}
 use Rattle.store_steps.specs.declared.step.Step.{Step}
@@ -126,4 +126,4 @@ pub record RunsUpTo (fail : Option RunFail) (x : ℕ) (lines : List Line) (s : S
 
 -- a line says something that scripts can say
 abbrev pub FitsLine : Line → Type 0
-FitsLine l = Fits l.what
+FitsLine l = FitsWhat l.what

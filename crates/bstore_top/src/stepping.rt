@@ -4,7 +4,7 @@ ghost use Rattle.std.specs.List.{AllByRecursion};
 ghost use Rattle.block_device.specs.Disk.{IsSound, Rose};
 ghost use Rattle.object_model.specs.declared.command.Command.TheVariants as command;
 ghost use Rattle.read_facts.specs.Answers.{IsKnownRead};
-ghost use Rattle.script_text.specs.Grammar.{Fits};
+ghost use Rattle.script_text.specs.Grammar.{FitsWhat};
 ghost use Rattle.script_text.specs.declared.line.What.TheVariants as what;
 ghost use Rattle.store_steps.specs.Ready.{is_ready};
 ghost use Rattle.bstore_top.specs.Choice.{ready_list, asks_of};
@@ -140,7 +140,7 @@ fn submit<D: Device>(
 ) -> Result<(), RunFail>
     requires up { kernel.old.state.down ≡ None }
     requires drained { ready_list (D.disk kernel.old.device).depth kernel.old.state ≡ [] }
-    requires fits { Fits (what.Command (command.Change txn)) }
+    requires fits { FitsWhat (what.Command (command.Change txn)) }
     requires room { length kernel.old.state.book.entries < 1048576 }
     ensures made { MatchResult result
         (λ _. IsMade line (command.Change txn) kernel.old.state (D.disk kernel.old.device) kernel.new.state (D.disk kernel.new.device))
@@ -186,7 +186,7 @@ fn make<D: Device>(
 ) -> Result<(), RunFail>
     requires up { kernel.old.state.down ≡ None }
     requires drained { ready_list (D.disk kernel.old.device).depth kernel.old.state ≡ [] }
-    requires fits { Fits (what.Command command) }
+    requires fits { FitsWhat (what.Command command) }
     requires room { length kernel.old.state.book.entries < 1048576 }
     ensures made { MatchResult result
         (λ _. IsMade line command kernel.old.state (D.disk kernel.old.device) kernel.new.state (D.disk kernel.new.device))
@@ -210,7 +210,7 @@ fn ask<D: Device>(
     command: Command,
 ) -> Result<(), RunFail>
     requires up { kernel.old.state.down ≡ None }
-    requires fits { Fits (what.Command command) }
+    requires fits { FitsWhat (what.Command command) }
     requires room { length kernel.old.state.book.entries < 1048576 }
     ensures ran { MatchResult result
         (λ _. Makes (record { line = line; command = command }) generator.old.x kernel.old.state (D.disk kernel.old.device)

@@ -2,11 +2,11 @@
 use Rattle.std.proofs.Common.{◌≡◌, ℕ, zero, suc, ◌+◌, ◌-◌, ◌*◌, ◌<◌, ◌≤◌, List, [], ◌++◌, length, take, drop, sym, ◌∙◌, ap, arith, length-append, length-drop, refl}
 use Rattle.std.proofs.lemmas.List.{length-take-le, length-replicate, take_all, take-take, drop-take, drop-drop, take_at, take-append-le, take-append-drop, take-replicate, drop_at, drop-append-le, drop_all, drop-replicate, append-nil, replicate-append-replicate, append_assoc}
 use Rattle.std.proofs.Math.Seq.{take-append-add}
-use Rattle.byte_maps.specs.Units.{unit_at, units_from, laid, IsUnits, zeros, units_for, in_units}
+use Rattle.byte_maps.specs.Units.{unit_at, units_from, overlaid, IsUnits, zeros, units_for, in_units}
 
-pub length-laid : (at : ℕ) (bytes old : List ℕ) → 4096 * at + length bytes ≤ length old → length (laid at bytes old) ≡ length old
-unfolding laid
-length-laid at bytes old fits = omega (arith, length-append (take (4096 * at) old ++ bytes) (drop (4096 * at + length bytes) old), length-append (take (4096 * at) old) bytes, length-take-le (4096 * at) old (omega arith), length-drop (4096 * at + length bytes) old)
+pub length-overlaid : (at : ℕ) (bytes old : List ℕ) → 4096 * at + length bytes ≤ length old → length (overlaid at bytes old) ≡ length old
+unfolding overlaid
+length-overlaid at bytes old fits = omega (arith, length-append (take (4096 * at) old ++ bytes) (drop (4096 * at + length bytes) old), length-append (take (4096 * at) old) bytes, length-take-le (4096 * at) old (omega arith), length-drop (4096 * at + length bytes) old)
 
 -- a piece of a front is that piece of the whole
 pub piece_of_front : (a b n : ℕ) (xs : List ℕ) → a + b ≤ n → take b (drop a (take n xs)) ≡ take b (drop a xs)
@@ -25,8 +25,8 @@ unit_at-part at count k xs below =
     ∙ ap (λ (m : ℕ). take 4096 (drop m xs)) (omega arith)
 
 -- a unit before the bytes that were laid
-pub unit_at-laid_before : (at k : ℕ) (bytes old : List ℕ) → 4096 * at + length bytes ≤ length old → k < at → unit_at k (laid at bytes old) ≡ unit_at k old
-unfolding unit_at laid
+pub unit_at-laid_before : (at k : ℕ) (bytes old : List ℕ) → 4096 * at + length bytes ≤ length old → k < at → unit_at k (overlaid at bytes old) ≡ unit_at k old
+unfolding unit_at overlaid
 unit_at-laid_before at k bytes old fits before =
     let front = take (4096 * at) old in
     let rest = drop (4096 * at + length bytes) old in
@@ -37,8 +37,8 @@ unit_at-laid_before at k bytes old fits before =
     ∙ piece_of_front (4096 * k) 4096 (4096 * at) old (omega arith)
 
 -- a unit of the bytes that were laid
-pub unit_at-laid_inside : (at k j : ℕ) (bytes old : List ℕ) → 4096 * at + length bytes ≤ length old → k ≡ at + j → 4096 * j + 4096 ≤ length bytes → unit_at k (laid at bytes old) ≡ unit_at j bytes
-unfolding unit_at laid
+pub unit_at-laid_inside : (at k j : ℕ) (bytes old : List ℕ) → 4096 * at + length bytes ≤ length old → k ≡ at + j → 4096 * j + 4096 ≤ length bytes → unit_at k (overlaid at bytes old) ≡ unit_at j bytes
+unfolding unit_at overlaid
 unit_at-laid_inside at k j bytes old fits is inside =
     let front = take (4096 * at) old in
     let rest = drop (4096 * at + length bytes) old in
@@ -51,8 +51,8 @@ unit_at-laid_inside at k j bytes old fits is inside =
     ∙ take-append-le 4096 (drop (4096 * j) bytes) rest (omega (arith, length-drop (4096 * j) bytes))
 
 -- a unit behind the bytes that were laid
-pub unit_at-laid_behind : (at k : ℕ) (bytes old : List ℕ) → 4096 * at + length bytes ≤ length old → 4096 * at + length bytes ≤ 4096 * k → unit_at k (laid at bytes old) ≡ unit_at k old
-unfolding unit_at laid
+pub unit_at-laid_behind : (at k : ℕ) (bytes old : List ℕ) → 4096 * at + length bytes ≤ length old → 4096 * at + length bytes ≤ 4096 * k → unit_at k (overlaid at bytes old) ≡ unit_at k old
+unfolding unit_at overlaid
 unit_at-laid_behind at k bytes old fits behind =
     let front = take (4096 * at) old in
     let end = 4096 * at + length bytes in
@@ -181,8 +181,8 @@ same_units (suc count) xs ys whole_xs whole_ys alike =
 
 -- ---- what was laid
 
-pub units_from-laid_same : (at count : ℕ) (bytes old : List ℕ) → IsUnits count bytes → 4096 * at + length bytes ≤ length old → units_from at count (laid at bytes old) ≡ bytes
-unfolding units_from laid
+pub units_from-laid_same : (at count : ℕ) (bytes old : List ℕ) → IsUnits count bytes → 4096 * at + length bytes ≤ length old → units_from at count (overlaid at bytes old) ≡ bytes
+unfolding units_from overlaid
 units_from-laid_same at count bytes old whole fits =
     let front = take (4096 * at) old in
     let rest = drop (4096 * at + length bytes) old in
@@ -190,16 +190,16 @@ units_from-laid_same at count bytes old whole fits =
     ∙ ap (λ (l : List ℕ). take (4096 * count) l) (drop_at front (bytes ++ rest) (4096 * at) (length-take-le (4096 * at) old (omega arith)))
     ∙ take_at bytes rest (4096 * count) whole
 
-pub laid-none : (at : ℕ) (old : List ℕ) → laid at [] old ≡ old
-unfolding laid
+pub laid-none : (at : ℕ) (old : List ℕ) → overlaid at [] old ≡ old
+unfolding overlaid
 laid-none at old =
     append_assoc (take (4096 * at) old) [] (drop (4096 * at + 0) old)
     ∙ ap (λ (n : ℕ). take (4096 * at) old ++ drop n old) (omega arith)
     ∙ take-append-drop (4096 * at) old
 
 -- bytes that cover all
-pub laid-whole : (bytes old : List ℕ) → length bytes ≡ length old → laid 0 bytes old ≡ bytes
-unfolding laid
+pub laid-whole : (bytes old : List ℕ) → length bytes ≡ length old → overlaid 0 bytes old ≡ bytes
+unfolding overlaid
 laid-whole bytes old size =
     ap (λ (l : List ℕ). bytes ++ l) (drop_all (4096 * 0 + length bytes) old (omega arith))
     ∙ append-nil bytes

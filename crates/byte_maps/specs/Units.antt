@@ -10,8 +10,8 @@ unfoldable pub units_from : ℕ → ℕ → List ℕ → List ℕ
 units_from first count bytes = take (4096 * count) (drop (4096 * first) bytes)
 
 -- the old bytes with these laid over them, from unit `at` on
-unfoldable pub laid : ℕ → List ℕ → List ℕ → List ℕ
-laid at bytes old = take (4096 * at) old ++ bytes ++ drop (4096 * at + length bytes) old
+unfoldable pub overlaid : ℕ → List ℕ → List ℕ → List ℕ
+overlaid at bytes old = take (4096 * at) old ++ bytes ++ drop (4096 * at + length bytes) old
 
 -- bytes laid at unit `at` cover unit k
 abbrev pub Covers : ℕ → List ℕ → ℕ → Type 0

@@ -19,7 +19,7 @@ use Rattle.read_facts.proofs.Seen.{seen_answer}
 use Rattle.read_facts.specs.Alike.{IsNoCsum, AnswersAlikeFrom, IsLegalButBytes}
 use Rattle.store_steps.specs.State.{State}
 use Rattle.store_steps.specs.Submit.{IsCause}
-use Rattle.store_steps.specs.Runs.{Call, submitting, reading, stepping, MayRead, IsAnswered, Reads, Submits, Calls}
+use Rattle.store_steps.specs.Runs.{Call, submitting, reading, stepping, MayRead, AnswersRead, Reads, Submits, Calls}
 use Rattle.store_facts.specs.Kept.{IsKept}
 use Rattle.book_facts.specs.BookFacts.{KnownOfBook}
 use Rattle.book_facts.proofs.Books.{known_legal}
@@ -98,7 +98,7 @@ submit_answers opening client line change s s' are book (inr (inr turned)) =
 
 -- of a drained kernel gives what plain objects have
 read_is_plain : (base : ℕ) (opening : Objects) (client line : ℕ) (command : Command) (a : Answer) (s s' : State) (d : Disk) (h : History) → IsKept s d
-    → MayRead command s d → KnownOfStore base opening s d h → IsAnswered client line command a s d s'
+    → MayRead command s d → KnownOfStore base opening s d h → AnswersRead client line command a s d s'
     → a ≡ reply_of command (replay opening (accepted s.book.entries))
 read_is_plain base opening client line command a s s' d h kept may known is =
     let up : s.down ≡ None = is.can_note.up in

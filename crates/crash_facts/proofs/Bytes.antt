@@ -4,7 +4,7 @@ use Rattle.std.specs.List.{AllByRecursion}
 use Rattle.std.proofs.lemmas.Bool.{cases_eq, eq-eqb, ne_eqb}
 use Rattle.block_device.specs.Log.{last, WritesUnit, WritesNothing}
 use Rattle.block_device.specs.Disk.{History}
-use Rattle.block_device.specs.Facts.{with_event, last_at, Fits}
+use Rattle.block_device.specs.Facts.{with_event, last_at, EventFits}
 use Rattle.block_device.specs.declared.event.Event.{Event}
 use Rattle.log_facts.proofs.Keeping.{last_push}
 use Rattle.store_steps.specs.declared.context.Context.{Context}
@@ -64,7 +64,7 @@ fresh_or_not (f ∷ fs) unit = elim (cases_eq f.unit unit) [
 ]
 
 -- that writes none but fresh units
-pub held_over : (h : History) (e : Event) (fs : List FreshUnit) (unit : ℕ) → Fits (length (last h.start h.log)) e
+pub held_over : (h : History) (e : Event) (fs : List FreshUnit) (unit : ℕ) → EventFits (length (last h.start h.log)) e
     → (AllByRecursion (λ f. f.unit ≢ unit) fs → ¬ WritesUnit unit e) → bytes_with fs (last_at h) unit ≡ bytes_with fs (last_at (with_event h e)) unit
 held_over h e fs unit fits spared = elim (fresh_or_not fs unit) [
   | inl others ↦ with_same fs (last_at h) (last_at (with_event h e)) unit (sym (last_push h e unit fits (spared others)))

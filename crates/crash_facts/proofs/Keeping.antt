@@ -4,7 +4,7 @@ use Rattle.std.proofs.Common.{is_some, refl, sym, ap, subst, ◌∙◌, arith, l
 use Rattle.std.proofs.lemmas.Option.{same_Some}
 use Rattle.std.proofs.lemmas.List.{take-append-le}
 use Rattle.block_device.specs.Log.{last, IsClean}
-use Rattle.block_device.specs.Disk.{Disk, History, IsSound, Waited, grown}
+use Rattle.block_device.specs.Disk.{Disk, History, IsSound, Waited, history_after}
 use Rattle.block_device.specs.Facts.{with_event}
 use Rattle.block_device.specs.declared.device.Ticket.{Ticket}
 use Rattle.block_device.specs.declared.event.Event.{Event}
@@ -36,7 +36,7 @@ record IsNoEvent (s s' : State) (d d' : Disk) : Type 0 where
 
 record IsOneEvent (s s' : State) (d d' : Disk) : Type 0 where
   event : Event
-  more : d'.history ≡ grown d.history event
+  more : d'.history ≡ history_after d.history event
   counted : s'.events ≡ s.events + 1
 
 abbrev IsAtMostOne : State → State → Disk → Disk → Type 0
@@ -150,9 +150,9 @@ module _ (base : ℕ) (opening : Objects) (s s' : State) (d d' : Disk) (h : Hist
           (earlier_start base g one.event opening (omega (arith, before)) (subst (λ (k : History). IsStart base k opening) (sym grew) start))
 
       of_history : (o : Option History) → d.history ≡ o → IsDurable base opening s d
-      of_history None was = let never : None ≡ Some h = sym (one.more ∙ ap (λ (x : Option History). grown x one.event) was) ∙ told in absurd (cc)
+      of_history None was = let never : None ≡ Some h = sym (one.more ∙ ap (λ (x : Option History). history_after x one.event) was) ∙ told in absurd (cc)
       of_history (Some g) was =
-          of_told g was (same_Some (with_event g one.event) h (sym (one.more ∙ ap (λ (x : Option History). grown x one.event) was) ∙ told))
+          of_told g was (same_Some (with_event g one.event) h (sym (one.more ∙ ap (λ (x : Option History). history_after x one.event) was) ∙ told))
 
 pub call_keeps : (call : Call) (s s' : State) (d d' : Disk) → IsKept s d → IsSound d' → KeepsDurable s d → Calls call s d s' d' → KeepsDurable s' d'
 call_keeps call s s' d d' kept sound keeps made h base opening told counted start =

@@ -5,7 +5,7 @@ use Rattle.std.proofs.Common.{◌∙◌, arith, length-append}
 use Rattle.std.proofs.lemmas.Option.{same_Some}
 use Rattle.std.proofs.lemmas.List.{take_all}
 use Rattle.block_device.specs.Log.{last, IsClean}
-use Rattle.block_device.specs.Disk.{Disk, History, IsSound, Reaped, Waited, grown}
+use Rattle.block_device.specs.Disk.{Disk, History, IsSound, Reaped, Waited, history_after}
 use Rattle.block_device.specs.Facts.{with_event, last_at}
 use Rattle.block_device.specs.declared.device.Ticket.{Ticket}
 use Rattle.block_device.specs.declared.event.Event.{Event}
@@ -169,11 +169,11 @@ module _ (base : ℕ) (opening : Objects) (call : Call) (s s' : State) (d d' : D
 
   -- one that leaves it down: it takes an end
   durable_ended : (s'.down ≡ None → ⊥) → Ends s d s' d' → IsDurable base opening s' d'
-  durable_ended fallen end =
+  durable_ended gone end =
       let h : History = durable.history in
       let e : Event = Done end.ticket end.ok in
       let told : d'.history ≡ Some (with_event h e) =
-      ap (λ (x : Disk). x.history) end.ended.after ∙ ap (λ (o : Option History). grown o e) durable.told in
+      ap (λ (x : Disk). x.history) end.ended.after ∙ ap (λ (o : Option History). history_after o e) durable.told in
       let all : take (length h.log) h.log ≡ h.log = take_all (length h.log) h.log (omega arith) in
       let last_cut : LeavesPrefix base h.start opening s.book h.log =
       subst (LeavesPrefix base h.start opening s.book) all (durable.cuts (length h.log) (omega (arith, durable.counted)) (omega arith)) in
@@ -189,12 +189,12 @@ module _ (base : ℕ) (opening : Objects) (call : Call) (s s' : State) (d d' : D
         answers = answered'.answers;
         no_csum = answered'.no_csum;
         cuts = subst (EachCutStands base (with_event h e) opening) (sym end.book) cuts;
-        up = λ none. absurd (fallen none);
+        up = λ none. absurd (gone none);
       }
 
   -- or nothing happens
   durable_still : (s'.down ≡ None → ⊥) → IsStill s d s' d' → IsDurable base opening s' d'
-  durable_still fallen still = record {
+  durable_still gone still = record {
     history = durable.history;
     told = still.history ∙ durable.told;
     counted = durable.counted ∙ ap (λ (t : State). base + t.events) (sym still.state);
@@ -202,21 +202,21 @@ module _ (base : ℕ) (opening : Objects) (call : Call) (s s' : State) (d d' : D
     answers = answered'.answers;
     no_csum = answered'.no_csum;
     cuts = subst (λ (t : State). EachCutStands base durable.history opening t.book) (sym still.state) durable.cuts;
-    up = λ none. absurd (fallen none);
+    up = λ none. absurd (gone none);
   }
 
   durable_down : (first : Ticket) → s'.down ≡ Some first → IsDurable base opening s' d'
   durable_down first down = elim (call_down call s d s' d' made) [
-    | inr ended ↦ durable_ended fallen (bad_end s d s' d' ended)
+    | inr ended ↦ durable_ended gone (bad_end s d s' d' ended)
     | inl same ↦
         elim (down_call call s d s' d' first (sym same ∙ down) made) [
-          | inl end ↦ durable_ended fallen end
-          | inr still ↦ durable_still fallen still
+          | inl end ↦ durable_ended gone end
+          | inr still ↦ durable_still gone still
         ]
   ]
     where
-      fallen : s'.down ≡ None → ⊥
-      fallen none = not_both s'.down first none down
+      gone : s'.down ≡ None → ⊥
+      gone none = not_both s'.down first none down
 
   pub call_durable : IsDurable base opening s' d'
   call_durable = of_down s'.down refl

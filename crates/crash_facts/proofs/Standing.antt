@@ -6,7 +6,7 @@ use Rattle.std.specs.Option.{option_map_or}
 use Rattle.std.proofs.lemmas.List.{take_all}
 use Rattle.block_device.specs.Log.{last, WritesUnit, WritesNothing}
 use Rattle.block_device.specs.Disk.{Disk, History}
-use Rattle.block_device.specs.Facts.{with_event, last_at, Fits}
+use Rattle.block_device.specs.Facts.{with_event, last_at, EventFits}
 use Rattle.block_device.specs.declared.event.Event.{Event}
 use Rattle.object_model.specs.Objects.{Objects}
 use Rattle.object_model.specs.Effect.{Change, replay}
@@ -78,7 +78,7 @@ quiet_stand h e rows x y objects entries none ops place fresh stand =
 -- ---- the write of a run of fresh units
 
 pub data_stand : (h : History) (n : Unsent) (rows : Rows) (x : Context) (objects : Objects) (entries : List Entry) → FitsRecord x → IsRunOf x n
-    → Fits (length (last h.start h.log)) (run_write n) → SelectionsStand (held_or_last h (x ∷ [])) rows (x ∷ []) objects entries
+    → EventFits (length (last h.start h.log)) (run_write n) → SelectionsStand (held_or_last h (x ∷ [])) rows (x ∷ []) objects entries
     → (let y : Context = given_more (length (unsent_units n)) x in
     SelectionsStand (held_or_last (with_event h (run_write n)) (y ∷ [])) rows (y ∷ []) objects entries)
 data_stand h n rows x objects entries fits run fit stand =

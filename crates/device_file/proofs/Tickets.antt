@@ -6,23 +6,23 @@ use Rattle.std.proofs.lemmas.List.Elements.{All-head, All-tail, All-push, All-co
 use Rattle.block_device.specs.Disk.{find_flight, flight_of, without, Submitted, Reaped}
 use Rattle.block_device.specs.declared.event.Event.{Event}
 use Rattle.device_file.specs.FileDisk.{FileDisk, silent}
-use Rattle.device_file.specs.Sync.{flight, Ascend}
+use Rattle.device_file.specs.Sync.{flight, PendingAscend}
 use Rattle.device_file.specs.declared.sync.Pending.{Pending}
 
 -- a later next ticket serves as well
-pub ascend_later : (n m : ℕ) (ps : List Pending) → n ≤ m → Ascend n ps → Ascend m ps
+pub ascend_later : (n m : ℕ) (ps : List Pending) → n ≤ m → PendingAscend n ps → PendingAscend m ps
 ascend_later n m [] le ps = tt
 ascend_later n m (p ∷ ps) le all = (omega (arith, all.0), all.1, ascend_later n m ps le all.2)
 
 -- the next ticket is none of them
-next_is_new : (n : ℕ) (ps : List Pending) → Ascend n ps → find_flight n (map flight ps) ≡ None
+next_is_new : (n : ℕ) (ps : List Pending) → PendingAscend n ps → find_flight n (map flight ps) ≡ None
 next_is_new n [] all = refl
 next_is_new n (p ∷ ps) all =
     let other : eqb p.ticket n ≡ false = grind (arith, nat_tests, all.0) in
     rw other (next_is_new n ps all.2)
 
 -- it goes behind them
-ascend_push : (n : ℕ) (ps : List Pending) (p : Pending) → p.ticket ≡ n → Ascend n ps → Ascend (n + 1) (ps ++ p ∷ [])
+ascend_push : (n : ℕ) (ps : List Pending) (p : Pending) → p.ticket ≡ n → PendingAscend n ps → PendingAscend (n + 1) (ps ++ p ∷ [])
 ascend_push n [] p is all = (omega (arith, is), (λ k d lt. absurd (omega (arith, lt))), tt)
 ascend_push n (q ∷ ps) p is all =
     (omega (arith, all.0), All-push (λ r. q.ticket < r.ticket) ps p all.1 (omega (arith, is, all.0)), ascend_push n ps p is all.2)
@@ -36,7 +36,7 @@ without_first t (p ∷ ps) all =
     rw other (ap (λ fs. flight p ∷ fs) (without_first t ps (All-tail (λ q. t < q.ticket) p ps all)))
 
 -- what a submission makes of the disk
-pub submitted : (units next : ℕ) (old new : List Pending) (p : Pending) (event : Event) → Ascend next old → new ≡ old ++ p ∷ [] → flight p ≡ flight_of next event
+pub submitted : (units next : ℕ) (old new : List Pending) (p : Pending) (event : Event) → PendingAscend next old → new ≡ old ++ p ∷ [] → flight p ≡ flight_of next event
     → Submitted (silent units (map flight old)) next event (silent units (map flight new))
 submitted units next old new p event all is same = record {
   is_new = next_is_new next old all;
@@ -45,7 +45,7 @@ submitted units next old new p event all is same = record {
 }
 
 -- what is left after the first was reaped
-reaped_first : (units next : ℕ) (ps : List Pending) (p : Pending) (ok : Bool) → Ascend next (p ∷ ps)
+reaped_first : (units next : ℕ) (ps : List Pending) (p : Pending) (ok : Bool) → PendingAscend next (p ∷ ps)
     → Reaped (silent units (map flight (p ∷ ps))) p.ticket ok (silent units (map flight ps))
 reaped_first units next ps p ok all =
     let same : eqb p.ticket p.ticket ≡ true = grind (arith, nat_tests) in
@@ -56,26 +56,26 @@ reaped_first units next ps p ok all =
       after = ap (silent units) (sym gone);
     }
 
-pub reaped : (units next : ℕ) (old new : List Pending) (p : Pending) (ok : Bool) → Ascend next old → old ≡ p ∷ new
+pub reaped : (units next : ℕ) (old new : List Pending) (p : Pending) (ok : Bool) → PendingAscend next old → old ≡ p ∷ new
     → Reaped (silent units (map flight old)) p.ticket ok (silent units (map flight new))
 reaped units next old new p ok all is =
     let P : List Pending → Type 0 = λ ps. Reaped (silent units (map flight ps)) p.ticket ok (silent units (map flight new)) in
-    subst P (sym is) (reaped_first units next new p ok (subst (Ascend next) is all))
+    subst P (sym is) (reaped_first units next new p ok (subst (PendingAscend next) is all))
 
 -- the others ascend
-pub ascend_rest : (next : ℕ) (old new : List Pending) (p : Pending) → old ≡ p ∷ new → Ascend next old → Ascend next new
-ascend_rest next old new p is all = (subst (Ascend next) is all).2
+pub ascend_rest : (next : ℕ) (old new : List Pending) (p : Pending) → old ≡ p ∷ new → PendingAscend next old → PendingAscend next new
+ascend_rest next old new p is all = (subst (PendingAscend next) is all).2
 
 -- the new one goes behind
-pub ascend_more : (next : ℕ) (old new : List Pending) (p : Pending) → new ≡ old ++ p ∷ [] → p.ticket ≡ next → Ascend next old → Ascend (next + 1) new
-ascend_more next old new p is ticket all = subst (Ascend (next + 1)) (sym is) (ascend_push next old p ticket all)
+pub ascend_more : (next : ℕ) (old new : List Pending) (p : Pending) → new ≡ old ++ p ∷ [] → p.ticket ≡ next → PendingAscend next old → PendingAscend (next + 1) new
+ascend_more next old new p is ticket all = subst (PendingAscend (next + 1)) (sym is) (ascend_push next old p ticket all)
 
 -- the first is the least
-pub first_is_least : (units next : ℕ) (old new : List Pending) (p : Pending) → old ≡ p ∷ new → Ascend next old
+pub first_is_least : (units next : ℕ) (old new : List Pending) (p : Pending) → old ≡ p ∷ new → PendingAscend next old
     → All (λ f. p.ticket ≤ f.ticket) (map flight old)
 first_is_least units next old new p is all =
     let P : List Pending → Type 0 = λ ps. All (λ f. p.ticket ≤ f.ticket) (map flight ps) in
-    subst P (sym is) (least new p (subst (Ascend next) is all).1)
+    subst P (sym is) (least new p (subst (PendingAscend next) is all).1)
   where
     weak : (ps : List Pending) (t : ℕ) → All (λ q. t < q.ticket) ps → All (λ f. t ≤ f.ticket) (map flight ps)
     weak [] t all = λ k d lt. absurd (omega (arith, lt))

@@ -11,17 +11,17 @@ abbrev pub flight : Pending → Flight
 flight p = record { ticket = p.ticket; first = p.first; bytes = p.bytes }
 
 -- the tickets ascend, all below the next one
-abbrev pub Ascend : ℕ → List Pending → Type 0
-Ascend next [] = Unit {0}
-Ascend next (p ∷ ps) = (p.ticket < next) × All (λ q. p.ticket < q.ticket) ps × Ascend next ps
+abbrev pub PendingAscend : ℕ → List Pending → Type 0
+PendingAscend next [] = Unit {0}
+PendingAscend next (p ∷ ps) = (p.ticket < next) × All (λ q. p.ticket < q.ticket) ps × PendingAscend next ps
 
 -- what is seen of the fields
 abbrev pub file_disk : Inside → FileDisk
 file_disk f = record { disk = silent f.units (map flight f.pending.items); faults = f.fault_count }
 
 -- what the fields keep
-pub record IsKept (f : Inside) : Type 0 where
+pub record IsSyncKept (f : Inside) : Type 0 where
   pub units : f.units ≤ 1048576
   pub few : length f.pending.items ≤ 64
   pub room : 64 ≤ deque_capacity f.pending
-  pub ascend : Ascend f.events f.pending.items
+  pub ascend : PendingAscend f.events f.pending.items

@@ -55,11 +55,11 @@ impl Model for SyncFile {
 
     ghost Value = { FileDisk };
 
-    ghost use Rattle.device_file.specs.Sync.{file_disk, IsKept};
+    ghost use Rattle.device_file.specs.Sync.{file_disk, IsSyncKept};
 
     ghost view = { file_disk };
 
-    ghost invariant = { IsKept };
+    ghost invariant = { IsSyncKept };
 }
 
 // Whether a call of the system did what it was asked.

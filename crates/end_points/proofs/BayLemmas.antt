@@ -10,17 +10,17 @@ use Rattle.byte_maps.specs.ByteMap.{ByteMap, byte_order}
 use Rattle.byte_maps.specs.Units.{zeros}
 use Rattle.byte_maps.proofs.Laws.{after_insert}
 use Rattle.block_device.specs.Memory.{MemoryDisk, fresh_memory, disk_of}
-use Rattle.end_points.specs.Bay.{HandedOut, IsFewUnits, HasAskedUnits, StartsWith, resized, start_of}
+use Rattle.end_points.specs.Bay.{HandedOut, IsFewUnits, HasAskedUnits, StartsWith, cut_or_filled, start_of}
 use Rattle.end_points.specs.Memory.{MemoryShelf, IsShelf, AreContents, IsStarted, view_of, after_device}
 use Rattle.end_points.specs.declared.bay.How.{How}
 use Rattle.end_points.specs.declared.bay.How.TheVariants.{Make, Plain, Queued}
 
-pub length-resized : (size : ℕ) (bytes : List ℕ) → length (resized size bytes) ≡ size
+pub length-cut_or_filled : (size : ℕ) (bytes : List ℕ) → length (cut_or_filled size bytes) ≡ size
 unfolding zeros
-length-resized size bytes = omega (arith, length-append (take size bytes) (replicate (size - length bytes) 0), length-take size bytes, length-replicate {A = ℕ} (size - length bytes) 0)
+length-cut_or_filled size bytes = omega (arith, length-append (take size bytes) (replicate (size - length bytes) 0), length-take size bytes, length-replicate {A = ℕ} (size - length bytes) 0)
 
 -- a front of the bytes, cut or filled up
-pub resized_front : (size n : ℕ) (bytes front : List ℕ) → front ≡ take (min (length bytes) size) bytes → n ≡ length front → take size front ++ replicate (size - n) 0 ≡ resized size bytes
+pub resized_front : (size n : ℕ) (bytes front : List ℕ) → front ≡ take (min (length bytes) size) bytes → n ≡ length front → take size front ++ replicate (size - n) 0 ≡ cut_or_filled size bytes
 unfolding zeros
 resized_front size n bytes front is count = elim (cases_lt size (length bytes)) [
   | inl longer ↦
@@ -58,8 +58,8 @@ no_contents m is name bytes got =
 pub start_contents : (s : MemoryShelf) (name start : List ℕ) (how : How) → IsShelf s → IsFewUnits how → start_of s.names name how ≡ Some start → AreContents start
 start_contents s name start (Make units) shelf few is =
     let held = unwrap_or (map.get s.names.devices name) [] in
-    let same : resized (4096 * units) held ≡ start = cc in
-    let size : length start ≡ 4096 * units = ap length (sym same) ∙ length-resized (4096 * units) held in
+    let same : cut_or_filled (4096 * units) held ≡ start = cc in
+    let size : length start ≡ 4096 * units = ap length (sym same) ∙ length-cut_or_filled (4096 * units) held in
     (omega arith, omega arith)
 start_contents s name start Plain shelf few is = shelf.contents name start is
 start_contents s name start Queued shelf few is = shelf.contents name start is
@@ -67,8 +67,8 @@ start_contents s name start Queued shelf few is = shelf.contents name start is
 asked_units : (s : MemoryShelf) (name start : List ℕ) (how : How) → start_of s.names name how ≡ Some start → HasAskedUnits how (length start / 4096)
 asked_units s name start (Make units) is =
     let held = unwrap_or (map.get s.names.devices name) [] in
-    let same : resized (4096 * units) held ≡ start = cc in
-    let size : length start ≡ 4096 * units = ap length (sym same) ∙ length-resized (4096 * units) held in
+    let same : cut_or_filled (4096 * units) held ≡ start = cc in
+    let size : length start ≡ 4096 * units = ap length (sym same) ∙ length-cut_or_filled (4096 * units) held in
     omega arith
 asked_units s name start Plain is = tt
 asked_units s name start Queued is = tt

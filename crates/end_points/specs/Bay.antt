@@ -18,12 +18,12 @@ pub record BayView : Type 0 where
   pub names : Option Names
 
 -- bytes cut, or filled up with zeros, to so many
-abbrev pub resized : ℕ → List ℕ → List ℕ
-resized size bytes = take size bytes ++ zeros (size - length bytes)
+abbrev pub cut_or_filled : ℕ → List ℕ → List ℕ
+cut_or_filled size bytes = take size bytes ++ zeros (size - length bytes)
 
 -- what a device starts with, of what stands under its name: cut or filled where it is made
 abbrev pub start_from : Option (List ℕ) → How → Option (List ℕ)
-start_from held (Make units) = Some (resized (4096 * units) (unwrap_or held []))
+start_from held (Make units) = Some (cut_or_filled (4096 * units) (unwrap_or held []))
 start_from held Plain = held
 start_from held Queued = held
 

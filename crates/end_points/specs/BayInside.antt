@@ -16,5 +16,5 @@ memory_shelf b = record {
   fails = b.plan.fails.items;
 }
 
-abbrev pub IsKept : Inside → Type 0
-IsKept b = IsShelf (memory_shelf b)
+abbrev pub IsBayKept : Inside → Type 0
+IsBayKept b = IsShelf (memory_shelf b)

@@ -6,6 +6,6 @@ use Rattle.end_points.specs.declared.memory_source.MemorySource.TheInside.{Insid
 abbrev pub memory_text : Inside → MemoryText
 memory_text s = record { left = drop s.at s.text.items; step = s.step; fails = s.fails.items; calls = s.calls; faults = s.fault_count }
 
-pub record IsKept (s : Inside) : Type 0 where
+pub record IsSourceKept (s : Inside) : Type 0 where
   pub inside : s.at ≤ length s.text.items
   pub step : 0 < s.step

@@ -4,7 +4,7 @@ ghost use Rattle.std.specs.FinMap as map;
 ghost use Rattle.block_device.specs.Disk.{Rose};
 ghost use Rattle.block_device.specs.Memory.{disk_of};
 ghost use Rattle.block_device.specs.Fails.{counted};
-ghost use Rattle.end_points.specs.Bay.{HandedOut, Opened, IsFewUnits, resized, start_from, start_of};
+ghost use Rattle.end_points.specs.Bay.{HandedOut, Opened, IsFewUnits, cut_or_filled, start_from, start_of};
 ghost use Rattle.end_points.specs.Memory.{view_of, is_listed, RefusesDevice, RefusesScript, IsStarted, IsOpened, AreContents, with_device, with_text, after_device, after_refused_device, after_script, after_refused_script};
 
 use crate::{Bay, How, MemorySource};
@@ -59,11 +59,11 @@ impl Model for MemoryBay {
 
     ghost coded = { Prim.hlevel (codes, coded_names) };
 
-    ghost use Rattle.end_points.specs.BayInside.{memory_shelf, IsKept};
+    ghost use Rattle.end_points.specs.BayInside.{memory_shelf, IsBayKept};
 
     ghost view = { memory_shelf };
 
-    ghost invariant = { IsKept };
+    ghost invariant = { IsBayKept };
 }
 
 // Whether a call is listed to fail.
@@ -86,7 +86,7 @@ fn copy<T: Copy>(alloc: Global, items: &[T]) -> Result<Vec<T>, Failed>
 
 // Bytes cut, or filled up with zeros, to a size.
 fn resize(alloc: Global, bytes: &[u8], size: usize) -> Result<Vec<u8>, AllocError>
-    ensures { IfOk result (λ made. made.items ≡ resized size bytes.now) }
+    ensures { IfOk result (λ made. made.items ≡ cut_or_filled size bytes.now) }
 {
     let mut made = Vec::with_capacity(alloc, size)?;
     made.extend_from_slice(&bytes[..bytes.len().min(size)])?;

@@ -26,11 +26,11 @@ impl Model for MemorySink {
 
     ghost Value = { MemoryOutput };
 
-    ghost use Rattle.end_points.specs.SinkInside.{memory_output, IsKept};
+    ghost use Rattle.end_points.specs.SinkInside.{memory_output, IsSinkKept};
 
     ghost view = { memory_output };
 
-    ghost invariant = { IsKept };
+    ghost invariant = { IsSinkKept };
 }
 
 impl MemorySink {

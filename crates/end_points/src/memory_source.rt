@@ -24,11 +24,11 @@ impl Model for MemorySource {
 
     ghost Value = { MemoryText };
 
-    ghost use Rattle.end_points.specs.SourceInside.{memory_text, IsKept};
+    ghost use Rattle.end_points.specs.SourceInside.{memory_text, IsSourceKept};
 
     ghost view = { memory_text };
 
-    ghost invariant = { IsKept };
+    ghost invariant = { IsSourceKept };
 }
 
 // Whether the call of this number is listed.

@@ -73,7 +73,7 @@ fn piece_written(alloc: Global, store: &mut MetaStore) -> Result<Option<u32>, Al
     let _ = store.tail();
     match store.next_piece(alloc)? {
         Some((unit, _bytes)) => {
-            store.gave();
+            store.note_given();
             store.written();
             Ok(Some(unit.number()))
         }

@@ -6,7 +6,7 @@ use Rattle.byte_maps.specs.Units.{unit_at, units_from, IsUnits}
 use Rattle.byte_maps.proofs.UnitLemmas.{length-units_from, unit_at-units_from, unit_at-append_front}
 use Rattle.block_device.specs.Log.{last, IsClean, IsCrashImage}
 use Rattle.block_device.specs.Disk.{History}
-use Rattle.block_device.specs.Facts.{with_event, last_at, Fits}
+use Rattle.block_device.specs.Facts.{with_event, last_at, EventFits}
 use Rattle.block_device.specs.declared.event.Event.{Event}
 use Rattle.block_device.proofs.LogLemmas.{surely_image}
 use Rattle.object_model.specs.Objects.{Objects}
@@ -67,7 +67,7 @@ found_records h s recs clean limits whole are =
 -- ---- an event behind them
 
 pub records_push : (h : History) (s : Super) (rows : Rows) (tail number : ℕ) (recs : List (List RowOp)) (event : Event)
-    → Fits (length (last h.start h.log)) event → WritesNoneOf (active_unit s) tail event → RecordsStand h s rows tail number recs
+    → EventFits (length (last h.start h.log)) event → WritesNoneOf (active_unit s) tail event → RecordsStand h s rows tail number recs
     → RecordsStand (with_event h event) s rows tail number recs
 records_push h s rows tail number recs event fits spared stand = record {
   made = stand.made;

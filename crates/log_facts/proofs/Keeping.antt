@@ -5,7 +5,7 @@ use Rattle.std.proofs.Math.Nat.{mul-le-mul_left}
 use Rattle.byte_maps.specs.Units.{unit_at, zeros}
 use Rattle.block_device.specs.Log.{last, WritesUnit, WritesNothing}
 use Rattle.block_device.specs.Disk.{History, Flight}
-use Rattle.block_device.specs.Facts.{with_event, last_at, SurelyHolds, EachWriteIsAnswered, QuietAt, IsUnflown, Fits}
+use Rattle.block_device.specs.Facts.{with_event, last_at, SurelyHolds, EachWriteIsAnswered, QuietAt, IsUntouched, EventFits}
 use Rattle.block_device.proofs.LogLemmas.{last-push, unit_at-after_event, clean_push, surely_push}
 use Rattle.block_device.proofs.LawLemmas.{covered_push, covered_done}
 use Rattle.block_device.proofs.QuietLemmas.{flush_covers_unit}
@@ -58,18 +58,18 @@ half_spares_data s at unit bytes inside behind covers = omega (arith, covers.1, 
 
 -- ---- one unit
 
-pub last_push : (h : History) (event : Event) (unit : ℕ) → Fits (length (last h.start h.log)) event → ¬ WritesUnit unit event
+pub last_push : (h : History) (event : Event) (unit : ℕ) → EventFits (length (last h.start h.log)) event → ¬ WritesUnit unit event
     → last_at (with_event h event) unit ≡ last_at h unit
 last_push h event unit fits spared =
     ap (λ (l : List ℕ). unit_at unit l) (last-push h.start h.log event) ∙ unit_at-after_event unit event (last h.start h.log) fits spared
 
 -- a unit of the half that surely is zero
-pub zero_push : (h : History) (event : Event) (s : Super) (k : ℕ) → Fits (length (last h.start h.log)) event → ¬ WritesUnit (active_unit s + k) event
+pub zero_push : (h : History) (event : Event) (s : Super) (k : ℕ) → EventFits (length (last h.start h.log)) event → ¬ WritesUnit (active_unit s + k) event
     → IsSurelyZero h s k → IsSurelyZero (with_event h event) s k
 zero_push h event s k fits spared zeroed = surely_push h event (active_unit s + k) (λ unit. unit ≡ zeros 4096) zeroed fits spared
 
 -- or surely is a unit of these bytes
-pub front_push : (h : History) (event : Event) (s : Super) (k : ℕ) (bytes : List ℕ) → Fits (length (last h.start h.log)) event
+pub front_push : (h : History) (event : Event) (s : Super) (k : ℕ) (bytes : List ℕ) → EventFits (length (last h.start h.log)) event
     → ¬ WritesUnit (active_unit s + k) event → SurelyHolds h (active_unit s + k) (λ unit. unit ≡ unit_at k bytes)
     → SurelyHolds (with_event h event) (active_unit s + k) (λ unit. unit ≡ unit_at k bytes)
 front_push h event s k bytes fits spared holds = surely_push h event (active_unit s + k) (λ unit. unit ≡ unit_at k bytes) holds fits spared
@@ -84,8 +84,8 @@ flushed_push h event flushed unit spared is = clean_push h.log event unit is spa
 
 -- submitted while no write of the unit is in flight it covers it
 pub flush_sent : (h : History) (base : ℕ) (flights : List Flight) (unit : ℕ) → QuietAt base h → EachWriteIsAnswered base h flights
-    → IsUnflown flights unit → IsFlushed (with_event h Flush).log (sent (length h.log)) unit
-flush_sent h base flights unit quiet each unflown = flush_covers_unit base h flights unit quiet each unflown
+    → IsUntouched flights unit → IsFlushed (with_event h Flush).log (sent (length h.log)) unit
+flush_sent h base flights unit quiet each untouched = flush_covers_unit base h flights unit quiet each untouched
 
 -- and at its good end it cleans it
 pub flush_ended : (h : History) (flush unit : ℕ) → IsFlushed h.log (sent flush) unit → IsFlushed (with_event h (Done flush true)).log flushed unit
@@ -93,7 +93,7 @@ flush_ended h flush unit is = covered_done h.log flush unit is
 
 -- ---- slots and half
 
-pub slots_push : (h : History) (s : Super) (event : Event) → Fits (length (last h.start h.log)) event → WritesNoneOf 0 2 event
+pub slots_push : (h : History) (s : Super) (event : Event) → EventFits (length (last h.start h.log)) event → WritesNoneOf 0 2 event
     → SlotsStand h s → SlotsStand (with_event h event) s
 slots_push h s event fits spared stands = record {
   limits = stands.limits;
@@ -103,7 +103,7 @@ slots_push h s event fits spared stands = record {
 
 module _ (h : History) (s : Super) (rows : Rows) (tail number : ℕ) (begun : Option (List RowOp)) (given_from : ℕ)
     (second : FlushState) (recs : List (List RowOp)) where
-  pub half_push : (event : Event) → Fits (length (last h.start h.log)) event → WritesNoneOf (active_unit s) s.half event
+  pub half_push : (event : Event) → EventFits (length (last h.start h.log)) event → WritesNoneOf (active_unit s) s.half event
       → ActiveHalfStands h s rows tail number begun given_from second recs
       → ActiveHalfStands (with_event h event) s rows tail number begun given_from second recs
   half_push event fits spared stands =
@@ -129,7 +129,7 @@ module _ (h : History) (s : Super) (rows : Rows) (tail number : ℕ) (begun : Op
 
 -- ---- an event that writes nothing
 
-fits_nothing : (size : ℕ) (event : Event) → WritesNothing event → Fits size event
+fits_nothing : (size : ℕ) (event : Event) → WritesNothing event → EventFits size event
 fits_nothing size (Write at bytes) none = absurd none
 fits_nothing size Flush none = tt
 fits_nothing size (Done ticket ok) none = tt

@@ -7,7 +7,7 @@ use Rattle.byte_maps.specs.Units.{unit_at, units_from}
 use Rattle.byte_maps.proofs.UnitLemmas.{length-units_from, unit_at-units_from, unit_at-append_front, unit_at-append_back}
 use Rattle.block_device.specs.Log.{last, WritesUnit, IsClean}
 use Rattle.block_device.specs.Disk.{History, Flight}
-use Rattle.block_device.specs.Facts.{with_event, last_at, EachWriteIsAnswered, QuietAt, IsUnflown}
+use Rattle.block_device.specs.Facts.{with_event, last_at, EachWriteIsAnswered, QuietAt, IsUntouched}
 use Rattle.block_device.proofs.QuietLemmas.{written_unit}
 use Rattle.block_device.specs.declared.event.Event.TheVariants.{Write, Flush, Done}
 use Rattle.meta_rows.specs.declared.row_op.RowOp.{RowOp}
@@ -114,13 +114,13 @@ module _ (h : History) (s : Super) (rows : Rows) (tail number : ℕ) (ops : List
   }
 
   pub half_sync : (base : ℕ) (flights : List Flight) (given_from : ℕ) → QuietAt base h → EachWriteIsAnswered base h flights
-      → ((j : ℕ) → given_from ≤ j → j < unit_count number ops → IsUnflown flights (active_unit s + (tail + j)))
+      → ((j : ℕ) → given_from ≤ j → j < unit_count number ops → IsUntouched flights (active_unit s + (tail + j)))
       → ActiveHalfStands h s rows tail number (Some ops) given_from not_sent recs
       → ActiveHalfStands (with_event h Flush) s rows tail number (Some ops) given_from (sent (length h.log)) recs
-  half_sync base flights given_from quiet each unflown stands =
+  half_sync base flights given_from quiet each untouched stands =
       flush_moves (with_event h Flush) given_from not_sent (sent (length h.log))
       (half_quiet h s rows tail number (Some ops) given_from not_sent recs Flush tt stands)
-      (λ j from below. flush_sent h base flights (active_unit s + (tail + j)) quiet each (unflown j from below))
+      (λ j from below. flush_sent h base flights (active_unit s + (tail + j)) quiet each (untouched j from below))
 
   pub half_synced : (flush given_from : ℕ) → ActiveHalfStands h s rows tail number (Some ops) given_from (sent flush) recs
       → ActiveHalfStands (with_event h (Done flush true)) s rows tail number (Some ops) given_from flushed recs

@@ -5,7 +5,7 @@ ghost use Rattle.std.specs.FinMap as map;
 ghost use Rattle.byte_maps.specs.Units.{units_from, zeros, IsUnits};
 ghost use Rattle.block_device.specs.Log.{last, WritesUnit, IsClean, IsCrashImage};
 ghost use Rattle.block_device.specs.Disk.{History, Flight};
-ghost use Rattle.block_device.specs.Facts.{with_event, last_at, Fits, EachWriteIsAnswered, QuietAt, IsUnflown};
+ghost use Rattle.block_device.specs.Facts.{with_event, last_at, EventFits, EachWriteIsAnswered, QuietAt, IsUntouched};
 ghost use Rattle.block_device.specs.declared.event.Event.{Event};
 ghost use Rattle.block_device.specs.declared.event.Event.TheVariants.{Write, Flush, Done};
 ghost use Rattle.object_model.specs.Objects.{Objects};
@@ -33,7 +33,7 @@ ghost use Rattle.log_facts.specs.Soundness.{SoundFor};
 
 /// What is known of the slots stays known over an event that writes neither.
 pub fn an_event_elsewhere_keeps_the_slots()
-    ensures { (h : History) (s : Super) (event : Event) → Fits (length (last h.start h.log)) event → WritesNoneOf 0 2 event →
+    ensures { (h : History) (s : Super) (event : Event) → EventFits (length (last h.start h.log)) event → WritesNoneOf 0 2 event →
         SlotsStand h s → SlotsStand (with_event h event) s }
 {}
 
@@ -41,7 +41,7 @@ pub fn an_event_elsewhere_keeps_the_slots()
 pub fn an_event_elsewhere_keeps_the_half()
     ensures { (h : History) (s : Super) (rows : Rows) (tail number : ℕ) (begun : Option (List RowOp)) (given_from : ℕ)
         (second : FlushState) (recs : List (List RowOp)) (event : Event) →
-        Fits (length (last h.start h.log)) event → WritesNoneOf (active_unit s) s.half event →
+        EventFits (length (last h.start h.log)) event → WritesNoneOf (active_unit s) s.half event →
         ActiveHalfStands h s rows tail number begun given_from second recs →
         ActiveHalfStands (with_event h event) s rows tail number begun given_from second recs }
 {}
@@ -66,7 +66,7 @@ pub fn a_log_that_is_found()
 /// They stand on over an event that writes none of their units.
 pub fn an_event_behind_the_records()
     ensures { (h : History) (s : Super) (rows : Rows) (tail number : ℕ) (recs : List (List RowOp)) (event : Event) →
-        Fits (length (last h.start h.log)) event → WritesNoneOf (active_unit s) tail event →
+        EventFits (length (last h.start h.log)) event → WritesNoneOf (active_unit s) tail event →
         RecordsStand h s rows tail number recs → RecordsStand (with_event h event) s rows tail number recs }
 {}
 
@@ -100,7 +100,7 @@ pub fn a_flush_of_a_unit()
     ensures elsewhere { (h : History) (event : Event) (state : FlushState) (unit : ℕ) → ¬ WritesUnit unit event →
         IsFlushed h.log state unit → IsFlushed (with_event h event).log state unit }
     ensures submitted { (h : History) (base : ℕ) (flights : List Flight) (unit : ℕ) → QuietAt base h → EachWriteIsAnswered base h flights →
-        IsUnflown flights unit → IsFlushed (with_event h Flush).log (sent (length h.log)) unit }
+        IsUntouched flights unit → IsFlushed (with_event h Flush).log (sent (length h.log)) unit }
     ensures ended { (h : History) (flush unit : ℕ) → IsFlushed h.log (sent flush) unit →
         IsFlushed (with_event h (Done flush true)).log flushed unit }
 {}
@@ -128,7 +128,7 @@ pub fn a_piece_is_given()
 pub fn the_flush_of_a_record()
     ensures { (h : History) (s : Super) (rows : Rows) (tail number : ℕ) (ops : List RowOp) (recs : List (List RowOp))
         (base : ℕ) (flights : List Flight) (given_from : ℕ) → QuietAt base h → EachWriteIsAnswered base h flights →
-        ((j : ℕ) → given_from ≤ j → j < unit_count number ops → IsUnflown flights (active_unit s + (tail + j))) →
+        ((j : ℕ) → given_from ≤ j → j < unit_count number ops → IsUntouched flights (active_unit s + (tail + j))) →
         ActiveHalfStands h s rows tail number (Some ops) given_from not_sent recs →
         ActiveHalfStands (with_event h Flush) s rows tail number (Some ops) given_from (sent (length h.log)) recs }
 {}

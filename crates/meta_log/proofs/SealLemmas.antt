@@ -9,14 +9,14 @@ use Rattle.byte_maps.specs.Units.{zeros, units_for, units_from, in_units}
 use Rattle.byte_maps.proofs.UnitLemmas.{length-in_units, length-units_from}
 use Rattle.meta_rows.specs.declared.row_op.RowOp.{RowOp}
 use Rattle.meta_rows.specs.Spelling.{ops_bytes}
-use Rattle.meta_log.specs.Records.{head_of, head_bytes, record_bytes, record_units, unit_count}
+use Rattle.meta_log.specs.Records.{head_of, record_head, record_bytes, record_units, unit_count}
 use Rattle.meta_log.specs.Pieces.{piece_count, piece_first, piece_units}
 use Rattle.meta_log.specs.Sealed.{Sealed, IsSealable, IsSpelled, sealed_units, piece_bytes}
 use Rattle.meta_log.proofs.PieceLemmas.{lies}
 
 pub length-record_bytes : (number : ℕ) (ops : List RowOp) → length (record_bytes number ops) ≡ 24 + length (ops_bytes ops)
 length-record_bytes number ops =
-    length-append (head_bytes number ops ++ to_le_bytes w32 (crc32c (head_bytes number ops ++ ops_bytes ops))) (ops_bytes ops)
+    length-append (record_head number ops ++ to_le_bytes w32 (crc32c (record_head number ops ++ ops_bytes ops))) (ops_bytes ops)
 
 -- a record is whole units
 pub length-record_units : (number : ℕ) (ops : List RowOp) → length (record_units number ops) ≡ 4096 * unit_count number ops
@@ -43,8 +43,8 @@ pub record_of_parts : (number : ℕ) (ops : List RowOp) (body head summed whole 
     → head ≡ head_of number (length ops) (length body)
     → sum ≡ crc32c (head ++ body) → summed ≡ head ++ to_le_bytes w32 sum → whole ≡ summed ++ body → all ≡ in_units whole → all ≡ record_units number ops
 record_of_parts number ops body head summed whole all sum body_is head_is sum_is summed_is whole_is all_is =
-    let h : head ≡ head_bytes number ops = head_is ∙ ap (λ (b : List ℕ). head_of number (length ops) (length b)) body_is in
-    let s : sum ≡ crc32c (head_bytes number ops ++ ops_bytes ops) = sum_is ∙ ap₂ (λ (a b : List ℕ). crc32c (a ++ b)) h body_is in
+    let h : head ≡ record_head number ops = head_is ∙ ap (λ (b : List ℕ). head_of number (length ops) (length b)) body_is in
+    let s : sum ≡ crc32c (record_head number ops ++ ops_bytes ops) = sum_is ∙ ap₂ (λ (a b : List ℕ). crc32c (a ++ b)) h body_is in
     let r : whole ≡ record_bytes number ops =
     whole_is ∙ ap₂ (λ (a b : List ℕ). a ++ b) (summed_is ∙ ap₂ (λ (a : List ℕ) (n : ℕ). a ++ to_le_bytes w32 n) h s) body_is
     in

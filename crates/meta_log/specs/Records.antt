@@ -15,12 +15,12 @@ abbrev pub head_of : ℕ → ℕ → ℕ → List ℕ
 head_of number count body = 0x42 ∷ 0x52 ∷ 0x45 ∷ 0x43 ∷ to_le_bytes w32 body ++ to_le_bytes w64 number ++ to_le_bytes w32 count
 
 -- the head of the record of these operations
-abbrev pub head_bytes : ℕ → List RowOp → List ℕ
-head_bytes number ops = head_of number (length ops) (length (ops_bytes ops))
+abbrev pub record_head : ℕ → List RowOp → List ℕ
+record_head number ops = head_of number (length ops) (length (ops_bytes ops))
 
 -- the head, a checksum of head and body, and the body: the operations, one after another
 abbrev pub record_bytes : ℕ → List RowOp → List ℕ
-record_bytes number ops = head_bytes number ops ++ to_le_bytes w32 (crc32c (head_bytes number ops ++ ops_bytes ops)) ++ ops_bytes ops
+record_bytes number ops = record_head number ops ++ to_le_bytes w32 (crc32c (record_head number ops ++ ops_bytes ops)) ++ ops_bytes ops
 
 -- in whole units, the rest of the last one zeros
 abbrev pub record_units : ℕ → List RowOp → List ℕ

@@ -4,7 +4,7 @@ use Rattle.std.proofs.lemmas.List.{length-append}
 use Rattle.std.proofs.lemmas.List.Concat.{flat_map-cons}
 use Rattle.meta_rows.specs.declared.row_op.RowOp.{RowOp}
 use Rattle.meta_rows.specs.declared.row_op.RowOp.TheVariants.{Set, Drop, Flip}
-use Rattle.meta_rows.specs.Spelling.{key_bytes, value_bytes, op_bytes, ops_bytes, IsKey, Fits, AllFit}
+use Rattle.meta_rows.specs.Spelling.{key_bytes, value_bytes, op_bytes, ops_bytes, IsKey, FitsRowOp, AllFit}
 use Rattle.meta_rows.specs.Reading.{IsValue, BeginsWithNo, Reads, SpellOps}
 use Rattle.meta_rows.proofs.Ops.{key_front, op_front, length-op_bytes}
 
@@ -16,7 +16,7 @@ value_there key mid k v rest is_key is_k short is none =
 
 -- where there is none, no operation stands there but a drop
 pub value_missing : (code : ℕ) (bytes behind mid key : List ℕ) → bytes ≡ code ∷ behind → Reads IsKey key_bytes behind mid key → code ≢ 2
-    → BeginsWithNo IsValue value_bytes mid → BeginsWithNo Fits op_bytes bytes
+    → BeginsWithNo IsValue value_bytes mid → BeginsWithNo FitsRowOp op_bytes bytes
 value_missing code bytes behind mid key is read other none (Set k v) rest fits e =
     value_there key mid k v rest read.fits fits.0 fits.1 (let same : behind ≡ (key_bytes k ++ value_bytes v) ++ rest = cc in sym read.spelled ∙ same) none
 value_missing code bytes behind mid key is read other none (Drop k) rest fits e = let two : code ≡ 2 = cc in other two
@@ -30,7 +30,7 @@ some_bytes : (op : RowOp) (rest : List ℕ) → 0 < length (op_bytes op ++ rest)
 some_bytes op rest = omega (arith, length-append (op_bytes op) rest, length-op_bytes op)
 
 -- where no operation stands behind those that were read, the whole is no spelling
-no_more : (read ops : List RowOp) (left : List ℕ) → AllFit read → AllFit ops → left ≢ [] → BeginsWithNo Fits op_bytes left
+no_more : (read ops : List RowOp) (left : List ℕ) → AllFit read → AllFit ops → left ≢ [] → BeginsWithNo FitsRowOp op_bytes left
     → ops_bytes read ++ left ≢ ops_bytes ops
 no_more [] [] left fits fit some none e = some e
 no_more [] (op ∷ ops) left fits fit some none e = none op (ops_bytes ops) fit.0 (e ∙ flat_map-cons op_bytes op ops)
@@ -41,5 +41,5 @@ no_more (o ∷ read) (op ∷ ops) left fits fit some none e =
     no_more read ops left fits.1 fit.1 some none first.1
 
 pub no_spelling : (bytes left : List ℕ) (read ops : List RowOp) → bytes ≡ ops_bytes read ++ left → AllFit read → left ≢ []
-    → BeginsWithNo Fits op_bytes left → ¬ (SpellOps bytes ops)
+    → BeginsWithNo FitsRowOp op_bytes left → ¬ (SpellOps bytes ops)
 no_spelling bytes left read ops is fits some none spelled = no_more read ops left fits spelled.fit some none (sym is ∙ spelled.spelled)

@@ -5,7 +5,7 @@ use Rattle.std.proofs.lemmas.List.{length-append}
 use Rattle.std.proofs.lemmas.List.Concat.{flat_map-cons}
 use Rattle.meta_rows.specs.declared.row_op.RowOp.{RowOp}
 use Rattle.meta_rows.specs.declared.row_op.RowOp.TheVariants.{Set, Drop, Flip}
-use Rattle.meta_rows.specs.Spelling.{key_bytes, value_bytes, op_bytes, ops_bytes, IsKey, Fits, AllFit}
+use Rattle.meta_rows.specs.Spelling.{key_bytes, value_bytes, op_bytes, ops_bytes, IsKey, FitsRowOp, AllFit}
 use Rattle.meta_rows.proofs.FieldLemmas.{text_front, wide16, wide32}
 
 rest_of : (a b : ℕ) (x y : List ℕ) → a ∷ x ≡ b ∷ y → x ≡ y
@@ -20,7 +20,7 @@ both_front a b v w x y fa fb fv fw e =
     let r = text_front w32 (2 ^ 32) wide32 v w x y fv fw k.1 in
     (k.0, r.0, r.1)
 
-pub op_front : (a b : RowOp) (x y : List ℕ) → Fits a → Fits b → op_bytes a ++ x ≡ op_bytes b ++ y → (a ≡ b) × (x ≡ y)
+pub op_front : (a b : RowOp) (x y : List ℕ) → FitsRowOp a → FitsRowOp b → op_bytes a ++ x ≡ op_bytes b ++ y → (a ≡ b) × (x ≡ y)
 op_front (Set k v) (Set l w) x y fa fb e = let f = both_front k l v w x y fa.0 fb.0 fa.1 fb.1 (rest_of _ _ _ _ e) in (λ i. Set (f.0 i) (f.1 i), f.2)
 op_front (Set k v) (Drop l) x y fa fb e = absurd cc
 op_front (Set k v) (Flip l w) x y fa fb e = absurd cc

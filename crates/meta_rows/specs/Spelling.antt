@@ -24,10 +24,10 @@ pub record IsKey (key : List ℕ) : Type 0 where
   pub short : length key ≤ 1024
 
 -- what has a spelling
-abbrev pub Fits : RowOp → Type 0
-Fits (Set key value) = IsKey key × (length value < 2 ^ 32)
-Fits (Drop key) = IsKey key
-Fits (Flip key mask) = IsKey key × (length mask < 2 ^ 32)
+abbrev pub FitsRowOp : RowOp → Type 0
+FitsRowOp (Set key value) = IsKey key × (length value < 2 ^ 32)
+FitsRowOp (Drop key) = IsKey key
+FitsRowOp (Flip key mask) = IsKey key × (length mask < 2 ^ 32)
 
 abbrev pub AllFit : List RowOp → Type 0
-AllFit ops = AllByRecursion Fits ops
+AllFit ops = AllByRecursion FitsRowOp ops

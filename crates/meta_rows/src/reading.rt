@@ -1,7 +1,7 @@
 //! Row operations read from bytes.
 ghost use Rattle.std.specs.Prelude.{ℕ, List, IfOk, MatchOption};
 ghost use Rattle.meta_rows.specs.declared.row_op.RowOp.{RowOp};
-ghost use Rattle.meta_rows.specs.Spelling.{key_bytes, value_bytes, op_bytes, IsKey, Fits};
+ghost use Rattle.meta_rows.specs.Spelling.{key_bytes, value_bytes, op_bytes, IsKey, FitsRowOp};
 ghost use Rattle.meta_rows.specs.Reading.{IsValue, BeginsWithNo, Reads, SpellOps};
 
 use crate::row_op::RowOp;
@@ -32,7 +32,7 @@ fn read_value<'a>(fields: &mut Fields<'a>) -> Option<&'a [u8]>
 }
 
 fn read_op(alloc: Global, fields: &mut Fields) -> Result<Option<RowOp>, AllocError>
-    ensures { IfOk result (λ found. MatchOption found (BeginsWithNo Fits op_bytes fields.old) (Reads Fits op_bytes fields.old fields.new)) }
+    ensures { IfOk result (λ found. MatchOption found (BeginsWithNo FitsRowOp op_bytes fields.old) (Reads FitsRowOp op_bytes fields.old fields.new)) }
 {
     let Some(code) = fields.u8() else {
         return Ok(None);

@@ -1,6 +1,6 @@
 //! Row operations as bytes.
 ghost use Rattle.std.specs.Prelude.{◌≡◌, ◌<◌, ◌^◌, ◌++◌, ℕ, List, length, IfOk, OnOk};
-ghost use Rattle.meta_rows.specs.Spelling.{key_bytes, value_bytes, op_bytes, ops_bytes, IsKey, Fits, AllFit};
+ghost use Rattle.meta_rows.specs.Spelling.{key_bytes, value_bytes, op_bytes, ops_bytes, IsKey, FitsRowOp, AllFit};
 
 use crate::row_op::RowOp;
 use byte_maps::Bytes;
@@ -30,7 +30,7 @@ fn push_value(out: &mut Vec<u8>, value: &Bytes) -> Result<(), AllocError>
 }
 
 fn push_op(out: &mut Vec<u8>, op: &RowOp) -> Result<(), AllocError>
-    requires { Fits op.now }
+    requires { FitsRowOp op.now }
     ensures { OnOk result (out.new.items ≡ out.old.items ++ op_bytes op.now) }
 {
     match op {

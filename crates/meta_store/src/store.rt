@@ -167,7 +167,7 @@ impl MetaStore {
     }
 
     /// The next piece of the record that is being written, and the unit of the device from which on it goes; None where there is none.
-    /// It counts as given only with the call of `gave`, so that a submission that the device refused can be made again.
+    /// It counts as given only with the call of `note_given`, so that a submission that the device refused can be made again.
     pub fn next_piece(&self, alloc: Global) -> Result<Option<(UnitNo, Vec<u8>)>, AllocError>
         ensures next { IfOk result (λ found. MatchOption found (IsAllGiven self.now) (λ piece. IsNextPiece self.now piece.0 piece.1.items)) }
         ensures left { IfOk result (λ found. OnSome found (IsPieceLeft self.now)) }
@@ -194,7 +194,7 @@ impl MetaStore {
     }
 
     /// The next piece was given to the device.
-    pub fn gave(&mut self)
+    pub fn note_given(&mut self)
         requires { IsPieceLeft self.old }
         ensures { self.new ≡ with_given self.old }
     {

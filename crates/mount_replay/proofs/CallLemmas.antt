@@ -3,7 +3,7 @@ use Rattle.std.proofs.Common.{◌≡◌, inl, inr, ℕ, ◌+◌, ◌<◌, Bool, 
 use Rattle.std.specs.Prelude.{IsSome}
 use Rattle.std.proofs.lemmas.Bool.{cases_eq}
 use Rattle.std.proofs.lemmas.Bool.Decides.{nat_tests}
-use Rattle.block_device.specs.Disk.{Disk, Flight, grown, find_flight, without, Reaped, Waited}
+use Rattle.block_device.specs.Disk.{Disk, Flight, history_after, find_flight, without, Reaped, Waited}
 use Rattle.block_device.specs.declared.event.Event.TheVariants.{Done}
 use Rattle.block_device.specs.declared.device.Failed.{Failed}
 use Rattle.block_device.specs.declared.device.Failed.TheVariants.{Memory, Fault}
@@ -23,9 +23,9 @@ ended old mid new ticket t waits ok only is reaped =
     let flights : mid.flights ≡ old.flights = ap (λ (d : Disk). d.flights) is in
     let found = found_only mid.flights ticket t (ap (λ (l : List Flight). map (λ f. f.ticket) l) flights ∙ only) reaped.was_open in
     reaped.after
-    ∙ ap (λ (d : Disk). record d { flights = without t mid.flights; waits = 0; history = grown d.history (Done t ok) }) is
-    ∙ ap (λ l. record old { flights = l; waits = 0; history = grown old.history (Done t ok) }) found.1
-    ∙ ap (λ n. record old { flights = []; waits = 0; history = grown old.history (Done n ok) }) found.0
+    ∙ ap (λ (d : Disk). record d { flights = without t mid.flights; waits = 0; history = history_after d.history (Done t ok) }) is
+    ∙ ap (λ l. record old { flights = l; waits = 0; history = history_after old.history (Done t ok) }) found.1
+    ∙ ap (λ n. record old { flights = []; waits = 0; history = history_after old.history (Done n ok) }) found.0
 
 pub waited : (old mid new : Disk) (ticket waits : ℕ) → IsOnly ticket old.flights → mid ≡ record old { waits = waits } → Waited mid new → (waits < 64) × (new ≡ record old { waits = waits + 1 })
 waited old mid new ticket waits only is (inl idle) =

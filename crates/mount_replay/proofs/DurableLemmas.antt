@@ -7,7 +7,7 @@ use Rattle.byte_maps.specs.Units.{unit_at, zeros, IsUnits}
 use Rattle.byte_maps.proofs.UnitLemmas.{length-zeros, unit_at-zeros, unit_at-units_from}
 use Rattle.block_device.specs.Log.{last, WritesUnit, IsClean}
 use Rattle.block_device.specs.Disk.{History}
-use Rattle.block_device.specs.Facts.{with_event, last_at, Fits}
+use Rattle.block_device.specs.Facts.{with_event, last_at, EventFits}
 use Rattle.block_device.specs.declared.event.Event.{Event}
 use Rattle.block_device.specs.declared.event.Event.TheVariants.{Write, Flush, Done}
 use Rattle.block_device.proofs.LogLemmas.{last-push, length-after_event, clean_push, each_cut_push, slice_get-lt}
@@ -88,7 +88,7 @@ module _ (f : Found) (recs : List (List RowOp)) (objects : Objects) where
   abbrev Zeroes : Event → Type 0
   Zeroes event = IsZeroing (active_unit f.sup + f.tail) (active_unit f.sup + f.sup.half) event
 
-  fits : (h : History) (event : Event) → StoreStands f recs objects h → Zeroes event → Fits (length (last h.start h.log)) event
+  fits : (h : History) (event : Event) → StoreStands f recs objects h → Zeroes event → EventFits (length (last h.start h.log)) event
   fits h (Write at bytes) stands is =
       let inside = half_inside f.sup (last h.start h.log) stands.slots.limits stands.whole_now in
       omega (arith, inside, is.3, ap length is.1 ∙ length-zeros (4096 * is.0))

@@ -5,7 +5,7 @@ use Rattle.std.proofs.lemmas.List.Elements.{All-push, All-from_recursion}
 use Rattle.block_device.specs.declared.device.Ticket.{Ticket}
 use Rattle.block_device.specs.declared.event.Event.{Event}
 use Rattle.block_device.specs.declared.event.Event.TheVariants.{Done}
-use Rattle.block_device.specs.Disk.{Disk, IsSound, History, grown, Waited}
+use Rattle.block_device.specs.Disk.{Disk, IsSound, History, history_after, Waited}
 use Rattle.store_steps.specs.declared.step.Step.TheVariants.{Reap}
 use Rattle.store_steps.specs.declared.flight.Flying.{Flying}
 use Rattle.store_steps.specs.declared.flight.Job.{Job}
@@ -52,7 +52,7 @@ reaped_book ticket true s = by_test (is_some s.down)
     by_test false = good_book (flying_of ticket s.flying) (landed ticket s)
 
 -- the history with one more event goes on
-told_grown : (o : Option History) (event : Event) → Told GoesOn o (grown o event)
+told_grown : (o : Option History) (event : Event) → Told GoesOn o (history_after o event)
 told_grown None event = tt
 told_grown (Some h) event = record { same_start = refl; events = event ∷ []; more = refl }
 

@@ -5,7 +5,7 @@ use Rattle.std.proofs.lemmas.Grind.{get_or_default_zero}
 use Rattle.std.proofs.lemmas.List.{drop-drop}
 use Rattle.std.proofs.lemmas.List.Elements.{Contains-get_or, All-tail}
 use Rattle.byte_maps.specs.Units.{unit_at, zeros}
-use Rattle.mount_replay.specs.Stale.{Ascend, IsNotZero, AreNotZero}
+use Rattle.mount_replay.specs.Stale.{UnitsAscend, IsNotZero, AreNotZero}
 use Rattle.mount_replay.specs.Clearing.{IsFirstStale, AreParts}
 
 pub next_unit : (bytes : List ℕ) (j : ℕ) → unit_at j (drop 4096 bytes) ≡ unit_at (1 + j) bytes
@@ -15,14 +15,14 @@ next_unit bytes j =
     ap (λ l. take 4096 l) (drop-drop (4096 * j) 4096 bytes ∙ ap (λ n. drop n bytes) place)
 
 -- units that ascend from one on are at least as far from it as they are many
-at_least : (low : ℕ) (units : List ℕ) → Ascend units → ((unit : ℕ) → Contains units unit → low ≤ unit) → (i : ℕ) → i < length units → low + i ≤ get_or units i 0
+at_least : (low : ℕ) (units : List ℕ) → UnitsAscend units → ((unit : ℕ) → Contains units unit → low ≤ unit) → (i : ℕ) → i < length units → low + i ≤ get_or units i 0
 at_least low units ascend from zero within = let least : low ≤ get_or units 0 0 = from (get_or units 0 0) (Contains-get_or units 0 0 within) in omega (arith, least)
 at_least low units ascend from (suc i) within =
     let before : low + i ≤ get_or units i 0 = at_least low units ascend from i (omega (arith, within)) in
     let more : get_or units i 0 < get_or units (suc i) 0 = ascend i (suc i) (omega arith) within in
     omega (arith, before, more)
 
-few : (low high : ℕ) (units : List ℕ) → Ascend units → ((unit : ℕ) → Contains units unit → low ≤ unit) → ((unit : ℕ) → Contains units unit → unit < high)
+few : (low high : ℕ) (units : List ℕ) → UnitsAscend units → ((unit : ℕ) → Contains units unit → low ≤ unit) → ((unit : ℕ) → Contains units unit → unit < high)
     → low ≤ high → length units ≤ high - low
 few low high [] ascend from to le = omega arith
 few low high (unit ∷ units) ascend from to le =
@@ -87,7 +87,7 @@ module _ (first end : ℕ) (bytes : List ℕ) (some : first < end) where
         },
       )
     where
-      apart : (units : List ℕ) → ((more : List ℕ) → units ≢ first ∷ more) → Ascend units → ((unit : ℕ) → Contains units unit → first ≤ unit)
+      apart : (units : List ℕ) → ((more : List ℕ) → units ≢ first ∷ more) → UnitsAscend units → ((unit : ℕ) → Contains units unit → first ≤ unit)
           → Contains units first → ⊥
       apart [] none ascend from here = omega (arith, here.1)
       apart (unit ∷ units) none ascend from (zero, within, is) = none units (ap (λ n. n ∷ units) is)

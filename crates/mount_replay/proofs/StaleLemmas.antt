@@ -10,7 +10,7 @@ use Rattle.block_device.specs.Log.{last, IsClean}
 use Rattle.block_device.specs.Disk.{Disk, History, HasRead, IsSound}
 use Rattle.mount_replay.specs.Cleared.{IsAllClean}
 use Rattle.mount_replay.specs.Zeroing.{IsZero}
-use Rattle.mount_replay.specs.Stale.{AreStale, Ascend, IsNotZero, AddsStale, AreNotZero}
+use Rattle.mount_replay.specs.Stale.{AreStale, UnitsAscend, IsNotZero, AddsStale, AreNotZero}
 use Rattle.mount_replay.specs.HalfReading.{HasPiece, AreUnits, left_of, IsReader, AddsUnits, HasStale}
 use Rattle.mount_replay.specs.declared.half_reader.HalfReader.{HalfReader}
 use Rattle.mount_replay.proofs.HalfLemmas.{no_units, units_read, between_join}
@@ -26,7 +26,7 @@ all_of_zeros n xs is = subst (All (λ b. b ≡ 0)) (sym is) (All-replicate (λ b
 -- ---- the units of one piece
 
 -- a unit behind those that ascend
-ascend-push : (xs : List ℕ) (x : ℕ) → All (λ y. y < x) xs → Ascend xs → Ascend (xs ++ x ∷ [])
+ascend-push : (xs : List ℕ) (x : ℕ) → All (λ y. y < x) xs → UnitsAscend xs → UnitsAscend (xs ++ x ∷ [])
 ascend-push xs x below ascend i j before within =
     let size : length (xs ++ x ∷ []) ≡ length xs + 1 = length-append xs (x ∷ []) in
     let lower : get_or (xs ++ x ∷ []) i 0 ≡ get_or xs i 0 = get_or_append_left xs (x ∷ []) 0 i (omega (arith, before, within, size)) in
@@ -45,7 +45,7 @@ pub record AddedSoFar (at done : ℕ) (bytes old new : List ℕ) : Type 0 where
   pub keeps : (unit : ℕ) → Contains old unit → Contains new unit
   pub adds : (k : ℕ) → k < done → ¬ Contains new (at + k) → unit_at k bytes ≡ zeros 4096
   pub only : (unit : ℕ) → Contains new unit → Contains old unit ⊎ IsNotZero at done bytes unit
-  pub ascend : Ascend old → Ascend new
+  pub ascend : UnitsAscend old → UnitsAscend new
   pub many : length new ≤ length old + done
 
 all_more : (n m : ℕ) (xs : List ℕ) → n ≤ m → All (λ unit. unit < n) xs → All (λ unit. unit < m) xs
@@ -119,7 +119,7 @@ only_these at count bytes old new none adds = record {
     | inr new_one ↦ new_one
   ];
   others = adds.adds;
-  ascend = adds.ascend (subst Ascend (sym none) (λ i j before within. absurd (omega (arith, within))));
+  ascend = adds.ascend (subst UnitsAscend (sym none) (λ i j before within. absurd (omega (arith, within))));
   many = omega (arith, adds.many, ap length none);
 }
   where

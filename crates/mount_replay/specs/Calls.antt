@@ -1,7 +1,7 @@
 -- Calls of a device, made one at a time: each is submitted with nothing else in flight, and its end is awaited.
 use Rattle.std.specs.Prelude.{◌≡◌, ◌⊎◌, ℕ, Bool, true, false, List, [], ◌∷◌, ◌++◌, length, map, Option, Some, None}
 use Rattle.std.specs.List.{AllByRecursion}
-use Rattle.block_device.specs.Disk.{Disk, History, Flight, grown}
+use Rattle.block_device.specs.Disk.{Disk, History, Flight, history_after}
 use Rattle.block_device.specs.declared.event.Event.{Event}
 use Rattle.block_device.specs.declared.event.Event.TheVariants.{Write, Flush, Done}
 
@@ -11,7 +11,7 @@ IsOnly ticket flights = map (λ f. f.ticket) flights ≡ ticket ∷ []
 
 -- the ticket in flight has ended
 abbrev pub Ended : Disk → ℕ → Bool → Disk → Type 0
-Ended old ticket ok new = new ≡ record old { flights = []; waits = 0; history = grown old.history (Done ticket ok) }
+Ended old ticket ok new = new ≡ record old { flights = []; waits = 0; history = history_after old.history (Done ticket ok) }
 
 -- the history with a submission and its end
 abbrev pub after_call : Event → Bool → History → History

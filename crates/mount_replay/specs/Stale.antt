@@ -14,8 +14,8 @@ pub record AreStale (below : ℕ) (d : Disk) (units : List ℕ) : Type 0 where
   pub others : IfSome d.history (λ h. ((unit : ℕ) → IsClean h.log unit) → (unit : ℕ) → unit < below → ¬ Contains units unit → IsZero h unit)
 
 -- the units ascend
-abbrev pub Ascend : List ℕ → Type 0
-Ascend units = (i j : ℕ) → i < j → j < length units → slice_index units i < slice_index units j
+abbrev pub UnitsAscend : List ℕ → Type 0
+UnitsAscend units = (i j : ℕ) → i < j → j < length units → slice_index units i < slice_index units j
 
 -- a unit of these bytes that isn't zero; the first is unit `at`
 pub record IsNotZero (at count : ℕ) (bytes : List ℕ) (unit : ℕ) : Type 0 where
@@ -29,12 +29,12 @@ pub record AddsStale (at count : ℕ) (bytes old new : List ℕ) : Type 0 where
   pub keeps : (unit : ℕ) → Contains old unit → Contains new unit
   pub adds : (k : ℕ) → k < count → ¬ Contains new (at + k) → unit_at k bytes ≡ zeros 4096
   pub only : (unit : ℕ) → Contains new unit → Contains old unit ⊎ IsNotZero at count bytes unit
-  pub ascend : Ascend old → Ascend new
+  pub ascend : UnitsAscend old → UnitsAscend new
   pub many : length new ≤ length old + count
 
 -- these are the units of the bytes that aren't zero, ascending
 pub record AreNotZero (at count : ℕ) (bytes units : List ℕ) : Type 0 where
   pub each : (unit : ℕ) → Contains units unit → IsNotZero at count bytes unit
   pub others : (k : ℕ) → k < count → ¬ Contains units (at + k) → unit_at k bytes ≡ zeros 4096
-  pub ascend : Ascend units
+  pub ascend : UnitsAscend units
   pub many : length units ≤ count

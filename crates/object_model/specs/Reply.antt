@@ -33,8 +33,8 @@ abbrev pub found_object : Objects → List ℕ → List ℕ → Result Object Re
 found_object objects c o = option_map_or (λ found. option_map_or (λ b. Ok b) (finite.get found o) (Err NoObject)) (finite.get objects c) (Err NoCollection)
 
 -- a read of an object
-abbrev pub of_object : Objects → List ℕ → List ℕ → (Object → Answer) → Answer
-of_object objects c o read = answer_from (found_object objects c o) read
+abbrev pub answer_of_object : Objects → List ℕ → List ℕ → (Object → Answer) → Answer
+answer_of_object objects c o read = answer_from (found_object objects c o) read
 
 -- the value under a name, refused where there is none
 abbrev pub value_of : ByteMap (List ℕ) → List ℕ → Answer
@@ -43,11 +43,11 @@ value_of m name = option_map_or (λ value. answer.Bytes value) (finite.get m nam
 -- The answer of plain objects to each command. A read is cut at the object's size.
 abbrev pub reply_of : Command → Objects → Answer
 reply_of (ask.Change change) objects = accepted_if (submitted_effect change objects)
-reply_of (ask.Read c o off len) objects = of_object objects c o (λ b.
+reply_of (ask.Read c o off len) objects = answer_of_object objects c o (λ b.
     if nat_lt object_limit (off + len) then answer.Refused BadRange else answer.Bytes (take len (drop off b.bytes)))
-reply_of (ask.Sum c o) objects = of_object objects c o (λ b. answer.Sum (length b.bytes) (crc32c b.bytes))
-reply_of (ask.Stat c o) objects = of_object objects c o (λ b. answer.Size (length b.bytes))
-reply_of (ask.GetAttr c o name) objects = of_object objects c o (λ b. value_of b.attrs name)
-reply_of (ask.OmapGet c o key) objects = of_object objects c o (λ b. value_of b.omap key)
-reply_of (ask.OmapHeader c o) objects = of_object objects c o (λ b. answer.Bytes b.header)
+reply_of (ask.Sum c o) objects = answer_of_object objects c o (λ b. answer.Sum (length b.bytes) (crc32c b.bytes))
+reply_of (ask.Stat c o) objects = answer_of_object objects c o (λ b. answer.Size (length b.bytes))
+reply_of (ask.GetAttr c o name) objects = answer_of_object objects c o (λ b. value_of b.attrs name)
+reply_of (ask.OmapGet c o key) objects = answer_of_object objects c o (λ b. value_of b.omap key)
+reply_of (ask.OmapHeader c o) objects = answer_of_object objects c o (λ b. answer.Bytes b.header)
 reply_of (ask.List c) objects = answer_from (found_collection objects c) (λ found. answer.Names (finite.keys found))

@@ -8,7 +8,7 @@ use Rattle.meta_log.specs.declared.slot.Super.{Super}
 use Rattle.object_model.specs.Effect.{object_limit}
 use Rattle.unit_fields.specs.Names.{IsName, IsCollName}
 use Rattle.row_format.specs.Keys.{coll_key, onode_key, shard_key, bitmap_key}
-use Rattle.row_format.specs.Extents.{Extent, FitsExtent, BeginsAt, Ascend, Place, own, place_of, page_end}
+use Rattle.row_format.specs.Extents.{Extent, FitsExtent, BeginsAt, ExtentsAscend, Place, own, place_of, page_end}
 use Rattle.row_format.specs.Row.{Row, collection, onode, shard, bitmap, row_key, row_value, FitsRow, FitsShard}
 use Rattle.row_format.proofs.KeyLemmas.{same_head, same_onode, same_shard, coll_no_object, onode_no_shard, bitmap_no_object}
 use Rattle.row_format.proofs.RowLemmas.{same_row}
@@ -200,7 +200,7 @@ module _ (rows after : Rows) (c o : List ℕ) (size : ℕ) (extents : List Exten
 
   -- ---- no row is bad
 
-  module _ (s : Super) (good : NoBadRow s rows) (has_collection : HasKey rows (coll_key c)) (ascend : Ascend extents)
+  module _ (s : Super) (good : NoBadRow s rows) (has_collection : HasKey rows (coll_key c)) (ascend : ExtentsAscend extents)
       (within : AllByRecursion (λ e. page_end e ≤ pages_of size) extents) (on_data : AllByRecursion (λ e. IsOnData s e.body) extents) where
     coll_there : HasKey after (coll_key c)
     coll_there = ap is_some (coll_same c) ∙ has_collection

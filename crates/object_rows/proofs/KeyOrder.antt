@@ -13,7 +13,7 @@ use Rattle.meta_rows.specs.Rows.{Rows, key_of}
 use Rattle.meta_rows.specs.declared.row_op.RowOp.{RowOp}
 use Rattle.meta_rows.specs.declared.row_op.RowOp.TheVariants.{Drop}
 use Rattle.meta_log.specs.declared.slot.Super.{Super}
-use Rattle.row_format.specs.Keys.{of_object, onode_key, shard_key, bitmap_key}
+use Rattle.row_format.specs.Keys.{object_key, onode_key, shard_key, bitmap_key}
 use Rattle.row_format.specs.Extents.{Extent, FitsExtent}
 use Rattle.row_format.specs.Row.{onode, shard}
 use Rattle.row_facts.specs.Operations.{set_row}
@@ -69,7 +69,7 @@ number_less a b xs ys lt fits =
 
 module _ (c o : List ℕ) where
   -- keys of one object, by what stands behind its names
-  names_same : (xs ys : List ℕ) → byte_order xs ys ≡ Less → byte_order (of_object 0x4f c o xs) (of_object 0x4f c o ys) ≡ Less
+  names_same : (xs ys : List ℕ) → byte_order xs ys ≡ Less → byte_order (object_key 0x4f c o xs) (object_key 0x4f c o ys) ≡ Less
   names_same xs ys less =
       head_same 0x4f 0x4f (c ++ 0 ∷ (o ++ 0 ∷ xs)) (c ++ 0 ∷ (o ++ 0 ∷ ys)) refl
       (behind c (0 ∷ (o ++ 0 ∷ xs)) (0 ∷ (o ++ 0 ∷ ys))

@@ -9,11 +9,11 @@ use Rattle.std.proofs.lemmas.Grind.{flat_map-append}
 use Rattle.meta_rows.specs.Rows.{Rows}
 use Rattle.meta_rows.specs.declared.row_op.RowOp.{RowOp}
 use Rattle.meta_rows.specs.declared.row_op.RowOp.TheVariants.{Drop}
-use Rattle.meta_rows.specs.Spelling.{key_bytes, value_bytes, op_bytes, ops_bytes, IsKey, Fits, AllFit}
+use Rattle.meta_rows.specs.Spelling.{key_bytes, value_bytes, op_bytes, ops_bytes, IsKey, FitsRowOp, AllFit}
 use Rattle.meta_log.specs.declared.slot.Super.{Super}
 use Rattle.unit_fields.specs.Names.{IsName, IsCollName}
 use Rattle.row_format.specs.Keys.{onode_key, shard_key}
-use Rattle.row_format.specs.Extents.{Extent, Body, private, page_count, page_end, body_bytes, extent_bytes, FitsBody, FitsExtent, Ascend}
+use Rattle.row_format.specs.Extents.{Extent, Body, private, page_count, page_end, body_bytes, extent_bytes, FitsBody, FitsExtent, ExtentsAscend}
 use Rattle.row_format.specs.Row.{Row, onode, shard, row_key, row_value}
 use Rattle.store_image.specs.Pages.{pages_of}
 use Rattle.row_facts.specs.Operations.{set_row}
@@ -42,7 +42,7 @@ pub has_page : (body : Body) → FitsBody body → 0 < page_count body
 has_page (private unit csums) fits = fits.1
 
 -- ascending extents take at most fifteen bytes for each page from the first on
-length-extents : (es : List Extent) (n limit : ℕ) → n ≤ limit → Ascend es → AllByRecursion (λ e. n ≤ e.first) es
+length-extents : (es : List Extent) (n limit : ℕ) → n ≤ limit → ExtentsAscend es → AllByRecursion (λ e. n ≤ e.first) es
     → AllByRecursion (λ e. page_end e ≤ limit) es → AllByRecursion FitsExtent es → length (flat_map extent_bytes es) + 15 * n ≤ 15 * limit
 length-extents [] n limit le ascend from within fit = omega (arith, le)
 length-extents (e ∷ es) n limit le ascend from within fit = omega (
@@ -131,7 +131,7 @@ module _ (c o : List ℕ) (coll : IsCollName c) (name : IsName o) where
   module _ (present : List ℕ) where
     shard_ops_fit : (extents : List Extent) → length (flat_map extent_bytes extents) < 2 ^ 32 → AllFit (shard_ops c o extents present)
     shard_ops_fit [] short = drops_fit present
-    shard_ops_fit (e ∷ es) short = all_append Fits (drops c o (filter (λ page. nat_lt page e.first) present)) _ (drops_fit _)
+    shard_ops_fit (e ∷ es) short = all_append FitsRowOp (drops c o (filter (λ page. nat_lt page e.first) present)) _ (drops_fit _)
         ((shard_fits e.first, short), drops_fit _)
 
     length-shard_ops : (extents : List Extent) → length (ops_bytes (shard_ops c o extents present)) ≤ 405 + length (flat_map extent_bytes extents) + 401 * length present
@@ -162,7 +162,7 @@ module _ (s : Super) (rows : Rows) (c o : List ℕ) (size : ℕ) (extents : List
   value_fits = let pages : pages_of size ≤ 32768 = omega (arith, can.size_most) in omega (arith, value_short, pages)
 
   pub object_ops_fit : AllFit (object_ops rows c o size extents present)
-  object_ops_fit = all_append Fits (onode_ops rows c o size) (shard_ops c o extents present) (onode_ops_fit c o can.coll_name can.object_name rows size)
+  object_ops_fit = all_append FitsRowOp (onode_ops rows c o size) (shard_ops c o extents present) (onode_ops_fit c o can.coll_name can.object_name rows size)
       (shard_ops_fit c o can.coll_name can.object_name present extents value_fits)
 
   pub length-object_ops : length (ops_bytes (object_ops rows c o size extents present)) ≤ 813 + 15 * pages_of size + 401 * length present

@@ -10,11 +10,11 @@ use Rattle.std.proofs.lemmas.Grind.{flat_map-append}
 use Rattle.byte_maps.specs.Units.{unit_at, units_for}
 use Rattle.crc32c_csum.specs.Crc32c.{crc32c}
 use Rattle.meta_rows.specs.Rows.{Rows, rows_after}
-use Rattle.meta_rows.specs.Spelling.{op_bytes, ops_bytes, Fits, AllFit}
+use Rattle.meta_rows.specs.Spelling.{op_bytes, ops_bytes, FitsRowOp, AllFit}
 use Rattle.meta_rows.specs.declared.row_op.RowOp.{RowOp}
 use Rattle.meta_rows.proofs.Folds.{rows_after-append}
 use Rattle.meta_log.specs.declared.slot.Super.{Super}
-use Rattle.meta_log.specs.Records.{head_bytes, record_bytes, unit_count}
+use Rattle.meta_log.specs.Records.{record_head, record_bytes, unit_count}
 use Rattle.object_model.specs.Objects.{Objects}
 use Rattle.object_model.specs.Effect.{Change, object_limit, transaction_effect}
 use Rattle.object_model.specs.Limits.{submitted_effect}
@@ -36,7 +36,7 @@ use Rattle.bitmap_freelist.proofs.Alike.{flips_alike, alike_owns, alike_stand}
 use Rattle.bitmap_freelist.proofs.GoodBitmaps.{turned_good}
 use Rattle.bitmap_freelist.proofs.Records.{flips_fit, flips_size, flips_count}
 use Rattle.bitmap_freelist.proofs.Turning.{turn_their_units}
-use Rattle.blob_map.specs.Pages.{PageMap, laid}
+use Rattle.blob_map.specs.Pages.{PageMap, with_pages}
 use Rattle.blob_map.specs.Normal.{extents_of}
 use Rattle.object_rows.specs.Operations.{CanReplace, object_ops, replaced, Climb, KeysAscend}
 use Rattle.object_rows.specs.Maps.{IsMapWritten, CanWrite}
@@ -76,7 +76,7 @@ climbs (p ∷ ps) order = (order.0, climbs ps order.1)
 -- ---- records
 
 length-record : (number : ℕ) (ops : List RowOp) → length (record_bytes number ops) ≡ 24 + length (ops_bytes ops)
-length-record number ops = length-append (head_bytes number ops ++ to_le_bytes w32 (crc32c (head_bytes number ops ++ ops_bytes ops))) (ops_bytes ops)
+length-record number ops = length-append (record_head number ops ++ to_le_bytes w32 (crc32c (record_head number ops ++ ops_bytes ops))) (ops_bytes ops)
 
 pub count_is : (number : ℕ) (ops : List RowOp) → unit_count number ops ≡ units_for (24 + length (ops_bytes ops))
 count_is number ops = ap units_for (length-record number ops)
@@ -92,7 +92,7 @@ module _ (s : Super) (rows : Rows) (c o : List ℕ) (first : ℕ) (bytes units :
   size = max w.before (4096 * (first + length units))
 
   abbrev new : PageMap
-  new = laid w.pages (new_pages first 0 units bytes)
+  new = with_pages w.pages (new_pages first 0 units bytes)
 
   abbrev extents : List Extent
   extents = extents_of (finite.entries new)
@@ -203,7 +203,7 @@ module _ (s : Super) (rows : Rows) (c o : List ℕ) (first : ℕ) (bytes units :
         (then_good s rows c o size extents w.present can_replace))
 
     write_fits : AllFit ops
-    write_fits = subst AllFit (sym w.ops_are) (all_append Fits first_ops w.flips (object_ops_fit s rows c o size extents w.present can_replace)
+    write_fits = subst AllFit (sym w.ops_are) (all_append FitsRowOp first_ops w.flips (object_ops_fit s rows c o size extents w.present can_replace)
         (flips_fit w.turns.units w.flips w.turns.are_flips))
 
     write_order : KeysAscend ops

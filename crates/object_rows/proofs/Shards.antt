@@ -9,7 +9,7 @@ use Rattle.meta_log.specs.declared.slot.Super.{Super}
 use Rattle.meta_log.specs.Slots.{data_unit}
 use Rattle.unit_fields.specs.Names.{IsName, IsCollName}
 use Rattle.row_format.specs.Keys.{shard_key}
-use Rattle.row_format.specs.Extents.{Extent, Body, private, page_count, page_end, place_in, place_of, Place, Ascend, BeginsAt, FitsExtent}
+use Rattle.row_format.specs.Extents.{Extent, Body, private, page_count, page_end, place_in, place_of, Place, ExtentsAscend, BeginsAt, FitsExtent}
 use Rattle.row_format.specs.Row.{Row, collection, onode, shard, bitmap, row_key}
 use Rattle.row_format.proofs.KeyLemmas.{same_shard, coll_no_object, onode_no_shard, bitmap_no_object}
 use Rattle.store_image.specs.Pages.{HasKey, HasRow, IsPageAt, pages_of}
@@ -21,13 +21,13 @@ use Rattle.object_rows.specs.Maps.{Rise, AreShardsOf, extents_in}
 use Rattle.object_rows.proofs.Ops.{all_append}
 use Rattle.object_rows.proofs.GoodPages.{all_map}
 
-ascend_append : (xs ys : List Extent) → Ascend xs → Ascend ys → AllByRecursion (λ x. AllByRecursion (λ y. page_end x ≤ y.first) ys) xs → Ascend (xs ++ ys)
+ascend_append : (xs ys : List Extent) → ExtentsAscend xs → ExtentsAscend ys → AllByRecursion (λ x. AllByRecursion (λ y. page_end x ≤ y.first) ys) xs → ExtentsAscend (xs ++ ys)
 ascend_append [] ys p q below = q
 ascend_append (x ∷ xs) ys p q below =
     (all_append (λ later. page_end x ≤ later.first) xs ys p.0 below.0, ascend_append xs ys p.1 q below.1)
 
 -- the extents of a shard begin at its page
-from_first : (page : ℕ) (es : List Extent) → BeginsAt page es → Ascend es → AllByRecursion (λ e. page ≤ e.first) es
+from_first : (page : ℕ) (es : List Extent) → BeginsAt page es → ExtentsAscend es → AllByRecursion (λ e. page ≤ e.first) es
 from_first page [] begins ascend = tt
 from_first page (e ∷ es) begins ascend =
     (omega (arith, begins), all_map (λ later. page_end e ≤ later.first) (λ later. page ≤ later.first) (λ x le. omega (arith, le, begins)) es ascend.0)
@@ -107,7 +107,7 @@ module _ (s : Super) (rows : Rows) (c o : List ℕ) (good : NoBadRow s rows) whe
   ends_below x [] has all rise = tt
   ends_below x (y ∷ ys) has all rise = ((shard_in y all.0).behind x.0 x.1 rise.0 has, ends_below x ys has all.1 rise.1)
 
-  shards_ascend : (xs : List (ℕ × List Extent)) → AllByRecursion IsThere xs → Rise xs → Ascend (extents_in xs)
+  shards_ascend : (xs : List (ℕ × List Extent)) → AllByRecursion IsThere xs → Rise xs → ExtentsAscend (extents_in xs)
   shards_ascend [] has rise = tt
   shards_ascend (x ∷ xs) has rise = ascend_append x.1 (extents_in xs) (shard_in x has.0).ascend (shards_ascend xs has.1 rise.1)
       (all_map (λ e. AllByRecursion (λ later. page_end e ≤ later.0) xs) (λ e. AllByRecursion (λ y. page_end e ≤ y.first) (extents_in xs))
@@ -174,7 +174,7 @@ module _ (s : Super) (rows : Rows) (c o : List ℕ) (good : NoBadRow s rows) whe
     ]
 
   module _ (shards : List (ℕ × List Extent)) (are : AreShardsOf rows c o shards) where
-    pub by_shards_ascend : Ascend (extents_in shards)
+    pub by_shards_ascend : ExtentsAscend (extents_in shards)
     by_shards_ascend = shards_ascend shards are.there are.rise
 
     pub by_shards_within : (size : ℕ) → HasRow rows (onode c o size) → AllByRecursion (λ e. page_end e ≤ pages_of size) (extents_in shards)

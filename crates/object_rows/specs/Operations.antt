@@ -12,7 +12,7 @@ use Rattle.meta_log.specs.declared.slot.Super.{Super}
 use Rattle.object_model.specs.Effect.{object_limit, is_same}
 use Rattle.unit_fields.specs.Names.{IsName, IsCollName}
 use Rattle.row_format.specs.Keys.{coll_key, onode_key, shard_key}
-use Rattle.row_format.specs.Extents.{Extent, FitsExtent, Ascend, own, place_of, page_end}
+use Rattle.row_format.specs.Extents.{Extent, FitsExtent, ExtentsAscend, own, place_of, page_end}
 use Rattle.row_format.specs.Row.{Row, onode, shard, row_key, row_value}
 use Rattle.store_image.specs.Pages.{HasKey, pages_of}
 use Rattle.store_image.specs.BadRows.{NoBadRow, IsOnData}
@@ -56,7 +56,7 @@ pub record CanReplace (s : Super) (rows : Rows) (c o : List ℕ) (size : ℕ) (e
   pub has_collection : HasKey rows (coll_key c)
   pub size_most : size ≤ object_limit
   pub fit : AllByRecursion FitsExtent extents
-  pub ascend : Ascend extents
+  pub ascend : ExtentsAscend extents
   pub within : AllByRecursion (λ e. page_end e ≤ pages_of size) extents
   pub on_data : AllByRecursion (λ e. IsOnData s e.body) extents
   pub shards : AreShards rows c o present

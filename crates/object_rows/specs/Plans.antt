@@ -14,7 +14,7 @@ use Rattle.row_format.specs.Keys.{onode_key, shard_key}
 use Rattle.store_image.specs.Pages.{HasKey}
 use Rattle.row_format.specs.Extents.{Place, own}
 use Rattle.bitmap_freelist.specs.Bitmap.{Units, Has, AreFlips}
-use Rattle.blob_map.specs.Pages.{PageMap, laid}
+use Rattle.blob_map.specs.Pages.{PageMap, with_pages}
 use Rattle.blob_map.specs.Normal.{extents_of}
 use Rattle.object_rows.specs.Operations.{object_ops, AreShards}
 use Rattle.object_rows.specs.Maps.{IsMapOf}
@@ -55,7 +55,7 @@ pub record WritesPages (rows : Rows) (c o : List ℕ) (first : ℕ) (bytes units
   pub flips : List RowOp
   pub turns : TurnsBits units released flips
   pub ops_are : ops ≡ object_ops rows c o (max before (4096 * (first + length units)))
-      (extents_of (finite.entries (laid pages (new_pages first 0 units bytes)))) present ++ flips
+      (extents_of (finite.entries (with_pages pages (new_pages first 0 units bytes)))) present ++ flips
   pub released_are : released ≡ units_between pages first (length units)
 
 -- what touching an object is turned into: nothing where it is there, and an onode of no bytes where it isn't

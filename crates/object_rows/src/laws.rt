@@ -9,7 +9,7 @@ ghost use Rattle.object_model.specs.Objects.{Objects};
 ghost use Rattle.object_model.specs.Effect.{transaction_effect};
 ghost use Rattle.unit_fields.specs.Names.{IsName, IsCollName};
 ghost use Rattle.row_format.specs.Keys.{coll_key, onode_key};
-ghost use Rattle.row_format.specs.Extents.{Extent, Place, place_of, page_end, Ascend, FitsExtent};
+ghost use Rattle.row_format.specs.Extents.{Extent, Place, place_of, page_end, ExtentsAscend, FitsExtent};
 ghost use Rattle.row_format.specs.Row.{onode};
 ghost use Rattle.store_image.specs.Pages.{HasKey, HasRow, IsPageAt, pages_of};
 ghost use Rattle.store_image.specs.BadRows.{IsOnData, NoBadRow};
@@ -116,7 +116,7 @@ pub fn made_object()
 /// place; and the shards' first pages are those that a replacement asks for.
 pub fn object_by_shards()
     ensures ascend { (s : Super) (rows : Rows) (c o : List ℕ) (shards : List (ℕ × List Extent)) → NoBadRow s rows → AreShardsOf rows c o shards
-        → Ascend (extents_in shards) }
+        → ExtentsAscend (extents_in shards) }
     ensures fit { (rows : Rows) (c o : List ℕ) (shards : List (ℕ × List Extent)) → AreShardsOf rows c o shards
         → AllByRecursion FitsExtent (extents_in shards) }
     ensures within { (s : Super) (rows : Rows) (c o : List ℕ) (shards : List (ℕ × List Extent)) (size : ℕ)

@@ -17,4 +17,4 @@ mod rows;
 #[cfg(test)]
 mod run_texts_tests;
 #[cfg(test)]
-mod write_planner_tests;
+mod txn_planner_tests;

@@ -8,7 +8,7 @@ use Rattle.meta_rows.proofs.FieldLemmas.{number_front, wide16, wide32}
 use Rattle.row_format.specs.Extents.{Body, private, Extent, page_count, body_bytes, extent_bytes, FitsExtent}
 use Rattle.row_format.proofs.ExtentReading.{extent_front}
 use Rattle.onode_codec.specs.declared.extent.Head.{Head}
-use Rattle.onode_codec.specs.Reading.{head_bytes, BeginsWithNoExtent, ReadsHead, ReadsNumbers, ReadsExtent, SpellExtents}
+use Rattle.onode_codec.specs.Reading.{extent_head, BeginsWithNoExtent, ReadsHead, ReadsNumbers, ReadsExtent, SpellExtents}
 
 pub length-numbers : (ns : List ℕ) → length (flat_map (to_le_bytes w32) ns) ≡ 4 * length ns
 length-numbers [] = refl
@@ -19,7 +19,7 @@ length-numbers (n ∷ ns) =
 
 -- a head and its checksums are an extent
 pub head_then_csums : (h : Head) (csums : List ℕ) → length csums ≡ h.count
-    → head_bytes h ++ flat_map (to_le_bytes w32) csums ≡ extent_bytes (record { first = h.first; body = private h.unit csums })
+    → extent_head h ++ flat_map (to_le_bytes w32) csums ≡ extent_bytes (record { first = h.first; body = private h.unit csums })
 head_then_csums h csums size =
     ap (λ n. to_le_bytes w32 h.first ++ (to_le_bytes w16 n ++ (0 ∷ (to_le_bytes w32 h.unit ++ flat_map (to_le_bytes w32) csums)))) (sym size)
 
@@ -35,7 +35,7 @@ pub head_front : (old mid rest : List ℕ) (h : Head) (first unit : ℕ) (csums 
     → IsHeadOf h unit csums rest mid first
 head_front old mid rest h first unit csums read fits is =
     let numbers = flat_map (to_le_bytes w32) csums in
-    let both : head_bytes h ++ mid ≡ extent_bytes (record { first = first; body = private unit csums }) ++ rest = sym read.spelled ∙ is in
+    let both : extent_head h ++ mid ≡ extent_bytes (record { first = first; body = private unit csums }) ++ rest = sym read.spelled ∙ is in
     let one = number_front w32 (2 ^ 32) wide32 h.first first (to_le_bytes w16 h.count ++ (0 ∷ (to_le_bytes w32 h.unit ++ mid)))
     (to_le_bytes w16 (length csums) ++ (0 ∷ (to_le_bytes w32 unit ++ (numbers ++ rest)))) read.first_below fits.first both in
     let two = number_front w16 (2 ^ 16) wide16 h.count (length csums) (0 ∷ (to_le_bytes w32 h.unit ++ mid))
@@ -66,8 +66,8 @@ extent_read old mid new csums h head numbers = record {
     first = head.first_below;
     body = (head.unit_below, omega (arith, numbers.size, head.some), omega (arith, numbers.size, head.most), numbers.below);
   };
-  spelled = head.spelled ∙ ap (λ l. head_bytes h ++ l) numbers.spelled
-      ∙ sym (append_assoc (head_bytes h) (flat_map (to_le_bytes w32) csums) new)
+  spelled = head.spelled ∙ ap (λ l. extent_head h ++ l) numbers.spelled
+      ∙ sym (append_assoc (extent_head h) (flat_map (to_le_bytes w32) csums) new)
       ∙ ap (λ l. l ++ new) (head_then_csums h csums numbers.size);
 }
 

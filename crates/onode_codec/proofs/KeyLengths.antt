@@ -2,8 +2,8 @@
 use Rattle.std.proofs.Common.{ℕ, zero, suc, ◌+◌, ◌/◌, ◌%◌, ◌≤◌, Bool, true, false, cond, ◌==◌, List, [], ◌∷◌, ◌++◌, length, subst, sym, arith, length-append}
 use Rattle.std.specs.Fmt.{digits, digits_onto, digit_glyph, decimal}
 use Rattle.meta_rows.specs.Spelling.{IsKey}
-use Rattle.unit_fields.specs.Names.{IsName, IsCollName, head_bytes}
-use Rattle.row_format.specs.Keys.{of_object}
+use Rattle.unit_fields.specs.Names.{IsName, IsCollName, head_suffix}
+use Rattle.row_format.specs.Keys.{object_key}
 
 -- as many digits as there are steps
 digits_onto-most : (k base : ℕ) (upper : Bool) (n : ℕ) (acc : List ℕ) → length (digits_onto k base upper n acc) ≤ k + length acc
@@ -26,14 +26,14 @@ coll_name-most c is =
       arith,
       digits-most 10 false is.pool,
       digits-most 16 false is.seed,
-      length-append (decimal is.pool) (0x2e ∷ (digits 16 false is.seed ++ head_bytes)),
-      length-append (digits 16 false is.seed) head_bytes,
+      length-append (decimal is.pool) (0x2e ∷ (digits 16 false is.seed ++ head_suffix)),
+      length-append (digits 16 false is.seed) head_suffix,
     ))
 
 pub coll_key-size : (c : List ℕ) → IsCollName c → IsKey (0x43 ∷ c)
 coll_key-size c is = record { some = omega arith; short = omega (arith, coll_name-most c is) }
 
-pub of_object-size : (kind : ℕ) (c o rest : List ℕ) → IsCollName c → IsName o → length rest ≤ 256 → IsKey (of_object kind c o rest)
+pub of_object-size : (kind : ℕ) (c o rest : List ℕ) → IsCollName c → IsName o → length rest ≤ 256 → IsKey (object_key kind c o rest)
 of_object-size kind c o rest c_name o_name few = record {
   some = omega arith;
   short = omega (arith, coll_name-most c c_name, o_name.short, length-append c (0 ∷ (o ++ 0 ∷ rest)), length-append o (0 ∷ rest));

@@ -11,8 +11,8 @@ pub record SpellsOnode (bytes : List ℕ) (size : ℕ) : Type 0 where
   pub spelled : bytes ≡ to_le_bytes w64 size
 
 -- the bytes of a private extent before its checksums: the first page, the number of pages, the kind 0, and the first unit
-abbrev pub head_bytes : Head → List ℕ
-head_bytes h = to_le_bytes w32 h.first ++ (to_le_bytes w16 h.count ++ (0 ∷ to_le_bytes w32 h.unit))
+abbrev pub extent_head : Head → List ℕ
+extent_head h = to_le_bytes w32 h.first ++ (to_le_bytes w16 h.count ++ (0 ∷ to_le_bytes w32 h.unit))
 
 -- no extent stands at the front
 abbrev pub BeginsWithNoExtent : List ℕ → Type 0
@@ -24,7 +24,7 @@ pub record ReadsHead (old new : List ℕ) (h : Head) : Type 0 where
   pub unit_below : h.unit < 2 ^ 32
   pub some : 0 < h.count
   pub most : h.count ≤ 256
-  pub spelled : old ≡ head_bytes h ++ new
+  pub spelled : old ≡ extent_head h ++ new
 
 -- so many little-endian numbers of four bytes were read
 pub record ReadsNumbers (count : ℕ) (old new numbers : List ℕ) : Type 0 where

@@ -3,7 +3,7 @@ ghost use Rattle.std.specs.Prelude.{◌≡◌, ◌<◌, ◌≤◌, ◌*◌, ◌+
 ghost use Rattle.std.specs.Int.{w32, to_le_bytes};
 ghost use Rattle.std.specs.List.{flat_map, AllByRecursion};
 ghost use Rattle.row_format.specs.Extents.{Extent, private, extent_bytes, FitsExtent};
-ghost use Rattle.onode_codec.specs.Reading.{head_bytes, BeginsWithNoExtent, ReadsHead, ReadsNumbers, ReadsExtent, SpellExtents};
+ghost use Rattle.onode_codec.specs.Reading.{extent_head, BeginsWithNoExtent, ReadsHead, ReadsNumbers, ReadsExtent, SpellExtents};
 
 use byte_maps::{Bytes, Items};
 use std::alloc::{AllocError, Global};
@@ -68,7 +68,7 @@ impl Head {
 
     /// Writes the head behind what is there.
     pub fn push(&self, out: &mut Vec<u8>) -> Result<(), AllocError>
-        ensures { OnOk result (out.new.items ≡ out.old.items ++ head_bytes self.now) }
+        ensures { OnOk result (out.new.items ≡ out.old.items ++ extent_head self.now) }
     {
         push_u32_le(out, self.first)?;
         push_u16_le(out, self.count)?;

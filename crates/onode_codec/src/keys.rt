@@ -5,7 +5,7 @@ ghost use Rattle.std.specs.Option.{option_copied};
 ghost use Rattle.unit_fields.specs.Names.{IsName};
 ghost use Rattle.meta_rows.specs.Spelling.{IsKey};
 ghost use Rattle.row_format.specs.Keys.{
-  of_object,
+  object_key,
   coll_key,
   onode_key,
   shard_key,
@@ -55,7 +55,7 @@ fn push_name(key: &mut Vec<u8>, name: &[u8]) -> Result<(), AllocError>
 }
 
 // A kind, the names of a collection and of an object in it, and what stands behind.
-fn of_object(
+fn object_key(
     alloc: Global,
     kind: u8,
     coll: &CollName,
@@ -63,7 +63,7 @@ fn of_object(
     rest: &[u8],
 ) -> Result<Bytes, AllocError>
     requires { length rest.now ≤ 256 }
-    ensures key { IfOk result (λ key. key ≡ of_object kind coll.now object.now rest.now) }
+    ensures key { IfOk result (λ key. key ≡ object_key kind coll.now object.now rest.now) }
     ensures size { IfOk result IsKey }
 {
     let coll = coll.as_slice();
@@ -116,7 +116,7 @@ pub fn onode_key(alloc: Global, coll: &CollName, object: &Name) -> Result<Bytes,
     ensures key { IfOk result (λ key. key ≡ onode_key coll.now object.now) }
     ensures size { IfOk result IsKey }
 {
-    of_object(alloc, OBJECT, coll, object, b"o")
+    object_key(alloc, OBJECT, coll, object, b"o")
 }
 
 /// The key of the shard of an object's extents that begins at this page.
@@ -131,15 +131,15 @@ pub fn shard_key(
 {
     let mut rest = [b'o', 0, 0, 0, 0, b'x'];
     rest[1..5].copy_from_slice(&page.to_be_bytes());
-    of_object(alloc, OBJECT, coll, object, &rest)
+    object_key(alloc, OBJECT, coll, object, &rest)
 }
 
 /// The end of the keys of an object's shards: they are those from `shard_key` of page 0 on that are below it.
 pub fn shards_end(alloc: Global, coll: &CollName, object: &Name) -> Result<Bytes, AllocError>
-    ensures key { IfOk result (λ key. key ≡ of_object 0x4f coll.now object.now (0x70 ∷ [])) }
+    ensures key { IfOk result (λ key. key ≡ object_key 0x4f coll.now object.now (0x70 ∷ [])) }
     ensures size { IfOk result IsKey }
 {
-    of_object(alloc, OBJECT, coll, object, b"p")
+    object_key(alloc, OBJECT, coll, object, b"p")
 }
 
 // The front of the keys of a collection's objects, with this byte behind the collection's name.
@@ -188,7 +188,7 @@ pub fn attr_key(
     ensures key { IfOk result (λ key. key ≡ attr_key coll.now object.now attr.now) }
     ensures size { IfOk result IsKey }
 {
-    of_object(alloc, ATTRIBUTE, coll, object, attr.as_slice())
+    object_key(alloc, ATTRIBUTE, coll, object, attr.as_slice())
 }
 
 /// The key of an object's omap header.
@@ -196,7 +196,7 @@ pub fn header_key(alloc: Global, coll: &CollName, object: &Name) -> Result<Bytes
     ensures key { IfOk result (λ key. key ≡ header_key coll.now object.now) }
     ensures size { IfOk result IsKey }
 {
-    of_object(alloc, OMAP, coll, object, b"-")
+    object_key(alloc, OMAP, coll, object, b"-")
 }
 
 /// The key of a pair of an object's omap. It stands behind the key of the omap's header.
@@ -212,7 +212,7 @@ pub fn omap_key(
     let mut rest = Vec::new(alloc);
     rest.push(b'.')?;
     rest.extend_from_slice(key.as_slice())?;
-    of_object(alloc, OMAP, coll, object, &rest)
+    object_key(alloc, OMAP, coll, object, &rest)
 }
 
 /// The key of a deferred write, by its sequence number.

@@ -4,7 +4,7 @@ use Rattle.std.specs.List.{flat_map, AllByRecursion}
 use Rattle.meta_rows.specs.Rows.{Rows}
 use Rattle.meta_rows.specs.Table.{rows_from_to}
 use Rattle.unit_fields.specs.Names.{IsName, IsCollName}
-use Rattle.row_format.specs.Keys.{of_object, shard_key}
+use Rattle.row_format.specs.Keys.{object_key, shard_key}
 use Rattle.row_format.specs.Extents.{Extent, own, extent_bytes, place_of}
 use Rattle.row_format.specs.Row.{shard}
 use Rattle.store_image.proofs.PageMap.{in_place}
@@ -49,7 +49,7 @@ read_shards c o (x ∷ xs) fit =
 
 -- the pages of the object are found in the range of its shards
 pub pages_found : (rows : Rows) (c o : List ℕ) (entries : List Entry) → IsCollName c → IsName o → AreRowsOfAStore rows
-    → entries ≡ rows_from_to rows (shard_key c o 0) (Some (of_object 0x4f c o (0x70 ∷ []))) → FindPagesOf rows c o (rows_read entries)
+    → entries ≡ rows_from_to rows (shard_key c o 0) (Some (object_key 0x4f c o (0x70 ∷ []))) → FindPagesOf rows c o (rows_read entries)
 pages_found rows c o entries coll name store is page place =
     let all : AllByRecursion (IsShardEntry c o) entries =
     subst (AllByRecursion (IsShardEntry c o)) (sym is) (range_is_shards c o coll name store.sup rows store.good) in

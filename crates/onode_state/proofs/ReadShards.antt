@@ -9,7 +9,7 @@ use Rattle.onode_codec.specs.declared.extent.Head.{Head}
 use Rattle.onode_codec.specs.Reading.{BeginsWithNoExtent, ReadsHead, SpellExtents}
 use Rattle.onode_codec.proofs.Again.{same_extents}
 use Rattle.onode_codec.proofs.ExtentReading.{head_front}
-use Rattle.blob_map.specs.Pages.{PageMap, HasNumbers, extent_pages, laid}
+use Rattle.blob_map.specs.Pages.{PageMap, HasNumbers, extent_pages, with_pages}
 use Rattle.blob_map.proofs.Lay.{laid_append}
 use Rattle.object_rows.specs.Maps.{extents_in, first_pages}
 use Rattle.object_rows.proofs.Ops.{all_append}
@@ -25,7 +25,7 @@ pub record AreRead (c o : List ℕ) (entries : List (List ℕ × List ℕ)) (fir
   pub fit : AllByRecursion (FitsAsShard c o) shards
   pub entries_are : entries ≡ map (shard_entry c o) shards
   pub firsts_are : firsts ≡ first_pages shards
-  pub pages_are : pages ≡ laid finite.empty (flat_map extent_pages (extents_in shards))
+  pub pages_are : pages ≡ with_pages finite.empty (flat_map extent_pages (extents_in shards))
 
 -- nothing is read yet
 pub none_read : (c o : List ℕ) (firsts : List ℕ) (pages : PageMap) → firsts ≡ [] → pages ≡ finite.empty → AreRead c o [] firsts pages
@@ -112,11 +112,11 @@ read_more c o value es i e firsts firsts' pages pages' all lt is value_is adds r
           ∙ sym (map_append (shard_entry c o) read.shards (x ∷ []));
       firsts_are = adds.firsts_are ∙ ap (λ l. l ++ adds.page ∷ []) read.firsts_are ∙ ap (λ (n : ℕ). first_pages read.shards ++ n ∷ []) page
           ∙ sym (map_append (λ (y : ℕ × List Extent). y.0) read.shards (x ∷ []));
-      pages_are = adds.pages_are ∙ ap (λ m. laid m (flat_map extent_pages adds.own)) read.pages_are
-          ∙ ap (λ es. laid (laid finite.empty (flat_map extent_pages (extents_in read.shards))) (flat_map extent_pages es)) own
+      pages_are = adds.pages_are ∙ ap (λ m. with_pages m (flat_map extent_pages adds.own)) read.pages_are
+          ∙ ap (λ es. with_pages (with_pages finite.empty (flat_map extent_pages (extents_in read.shards))) (flat_map extent_pages es)) own
           ∙ sym (laid_append finite.empty (flat_map extent_pages (extents_in read.shards)) (flat_map extent_pages x.1))
-          ∙ ap (laid finite.empty) (sym (flat_map-append extent_pages (extents_in read.shards) x.1))
-          ∙ ap (λ es. laid finite.empty (flat_map extent_pages es)) (sym (extents_behind read.shards x));
+          ∙ ap (with_pages finite.empty) (sym (flat_map-append extent_pages (extents_in read.shards) x.1))
+          ∙ ap (λ es. with_pages finite.empty (flat_map extent_pages es)) (sym (extents_behind read.shards x));
     }
 
 -- all are read

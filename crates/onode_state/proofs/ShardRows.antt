@@ -16,7 +16,7 @@ use Rattle.meta_rows.specs.Rows.{Rows}
 use Rattle.meta_rows.specs.Table.{rows_from_to}
 use Rattle.meta_log.specs.declared.slot.Super.{Super}
 use Rattle.unit_fields.specs.Names.{IsName, IsCollName}
-use Rattle.row_format.specs.Keys.{of_object, onode_key, shard_key, bitmap_key}
+use Rattle.row_format.specs.Keys.{object_key, onode_key, shard_key, bitmap_key}
 use Rattle.row_format.specs.Extents.{Extent, extent_bytes}
 use Rattle.row_format.specs.Row.{Row, collection, onode, shard, bitmap, row_key, row_value, FitsShard}
 use Rattle.row_format.proofs.KeyLemmas.{same_place, same_shard, coll_no_object, bitmap_no_object}
@@ -135,7 +135,7 @@ module _ (c o : List ℕ) where
   abbrev names_front : List ℕ
   names_front = 0x4f ∷ (c ++ 0 ∷ (o ++ 0 ∷ []))
 
-  fronted : (rest : List ℕ) → names_front ++ rest ≡ of_object 0x4f c o rest
+  fronted : (rest : List ℕ) → names_front ++ rest ≡ object_key 0x4f c o rest
   fronted rest = ap (λ (l : List ℕ). 0x4f ∷ l)
       (append_assoc c (0 ∷ (o ++ 0 ∷ [])) rest ∙ ap (λ (l : List ℕ). c ++ 0 ∷ l) (append_assoc o (0 ∷ []) rest))
 
@@ -143,13 +143,13 @@ module _ (c o : List ℕ) where
   shards_first = shard_key c o 0
 
   abbrev shards_end : List ℕ
-  shards_end = of_object 0x4f c o (0x70 ∷ [])
+  shards_end = object_key 0x4f c o (0x70 ∷ [])
 
   abbrev is_between : List ℕ → Bool
   is_between key = in_range shards_first shards_end key
 
   -- a key between is one of the object
-  of_this : (key : List ℕ) → is_between key ≡ true → (rest : List ℕ) × (key ≡ of_object 0x4f c o rest)
+  of_this : (key : List ℕ) → is_between key ≡ true → (rest : List ℕ) × (key ≡ object_key 0x4f c o rest)
   of_this key is =
       let up : byte_order key (names_front ++ (0x6f ∷ to_be_bytes w32 0 ++ 0x78 ∷ [])) ≢ Less =
       subst (λ k. byte_order key k ≢ Less) (sym (fronted (0x6f ∷ to_be_bytes w32 0 ++ 0x78 ∷ [])))

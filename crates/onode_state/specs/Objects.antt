@@ -11,7 +11,7 @@ use Rattle.row_format.specs.Extents.{Extent, Place, BeginsAt}
 use Rattle.onode_codec.specs.Reading.{SpellExtents}
 use Rattle.store_image.specs.Pages.{HasKey, IsPageAt}
 use Rattle.store_image.specs.BadRows.{NoBadRow}
-use Rattle.blob_map.specs.Pages.{PageMap, HasNumbers, extent_pages, laid}
+use Rattle.blob_map.specs.Pages.{PageMap, HasNumbers, extent_pages, with_pages}
 use Rattle.page_lookup.specs.Found.{place_found}
 use Rattle.object_rows.specs.Operations.{AreShards}
 use Rattle.object_rows.specs.Maps.{AreShardsOf, extents_in, first_pages, IsMapOf}
@@ -38,14 +38,14 @@ pub record AddsShard (value firsts : List ℕ) (pages : PageMap) (firsts' : List
   pub begins : BeginsAt page own
   pub spelled : SpellExtents value own
   pub firsts_are : firsts' ≡ firsts ++ page ∷ []
-  pub pages_are : pages' ≡ laid pages (flat_map extent_pages own)
+  pub pages_are : pages' ≡ with_pages pages (flat_map extent_pages own)
 
 -- the object's shards have these first pages, and their pages put in a map are these
 pub record HasShards (rows : Rows) (c o : List ℕ) (firsts : List ℕ) (pages : PageMap) : Type 0 where
   pub shards : List (ℕ × List Extent)
   pub are : AreShardsOf rows c o shards
   pub firsts_are : firsts ≡ first_pages shards
-  pub pages_are : pages ≡ laid finite.empty (flat_map extent_pages (extents_in shards))
+  pub pages_are : pages ≡ with_pages finite.empty (flat_map extent_pages (extents_in shards))
 
 -- the object has so many bytes, its pages stand where the map says, and its shards begin at these pages
 pub record IsStateOf (rows : Rows) (c o : List ℕ) (size : ℕ) (pages : PageMap) (firsts : List ℕ) : Type 0 where

@@ -2,7 +2,7 @@
 ghost use Rattle.std.specs.Prelude.{◌≡◌, ℕ, Some, [], ◌∷◌, List, IfOk, OnOk};
 ghost use Rattle.meta_rows.specs.Table.{rows_from_to};
 ghost use Rattle.row_format.specs.Extents.{Extent, BeginsAt};
-ghost use Rattle.row_format.specs.Keys.{of_object, shard_key};
+ghost use Rattle.row_format.specs.Keys.{object_key, shard_key};
 ghost use Rattle.onode_codec.specs.Reading.{SpellsOnode, SpellExtents};
 ghost use Rattle.object_rows.specs.Writes.{IsSizeOf};
 ghost use Rattle.page_lookup.specs.Found.{HasUnit};
@@ -74,7 +74,7 @@ fn shard_rows<'a>(
     object: &Name,
 ) -> Result<RowRange<'a>, AllocError>
     ensures { IfOk result (λ found.
-        found ≡ rows_from_to rows.now.rows (shard_key coll.now object.now 0) (Some (of_object 0x4f coll.now object.now (0x70 ∷ [])))) }
+        found ≡ rows_from_to rows.now.rows (shard_key coll.now object.now 0) (Some (object_key 0x4f coll.now object.now (0x70 ∷ [])))) }
 {
     let first = shard_key(alloc, coll, object, 0)?;
     let end = shards_end(alloc, coll, object)?;

@@ -3,7 +3,7 @@ use Rattle.std.proofs.Common.{◌≡◌, inl, inr, ℕ, ◌-◌, ◌<◌, ◌≤
 use Rattle.std.specs.Prelude.{nat_lt, nat_le, ◌&&◌}
 use Rattle.std.specs.List.{AllByRecursion}
 use Rattle.std.proofs.lemmas.Bool.{lt-ltb, le-ltb, lt-leb, le-leb, cases_lt, cond-true, cond-false, and_left, and_right, and_from}
-use Rattle.row_format.specs.Extents.{Extent, Place, place_in, page_end, place_of, Ascend}
+use Rattle.row_format.specs.Extents.{Extent, Place, place_in, page_end, place_of, ExtentsAscend}
 use Rattle.page_lookup.specs.Found.{place_found, EndBehind, FindAlikeBefore}
 
 -- what is looked for behind the first extent's first page
@@ -44,7 +44,7 @@ later_before e page lt [] from = tt
 later_before e page lt (x ∷ es) from = (omega (arith, lt, from.0), later_before e page lt es from.1)
 
 -- the place that is found is the page's
-pub found_is : (es : List Extent) (page : ℕ) → Ascend es → place_found es page ≡ place_of es page
+pub found_is : (es : List Extent) (page : ℕ) → ExtentsAscend es → place_found es page ≡ place_of es page
 found_is [] page ascend = refl
 found_is (e ∷ es) page ascend = elim (cases_lt page e.first) [
   | inl lt ↦ found_before e es page lt ∙ sym (place_before e es page lt ∙ no_place es page (later_before e page lt es ascend.0))

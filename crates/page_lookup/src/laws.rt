@@ -1,6 +1,6 @@
 //! What look-ups come to: the extents that are read from a spelling are those that it spells, and a page that is found stands there.
 ghost use Rattle.std.specs.Prelude.{◌≡◌, ℕ, List};
-ghost use Rattle.row_format.specs.Extents.{Extent, Ascend, place_of};
+ghost use Rattle.row_format.specs.Extents.{Extent, ExtentsAscend, place_of};
 ghost use Rattle.onode_codec.specs.Reading.{SpellExtents};
 ghost use Rattle.page_lookup.specs.Bytes.{extents_read};
 ghost use Rattle.page_lookup.specs.Found.{place_found};
@@ -12,5 +12,5 @@ pub fn spelled_is_read()
 
 /// Of extents that ascend, the place that is found for a page is its place.
 pub fn found_is_the_place()
-    ensures { (es : List Extent) (page : ℕ) → Ascend es → place_found es page ≡ place_of es page }
+    ensures { (es : List Extent) (page : ℕ) → ExtentsAscend es → place_found es page ≡ place_of es page }
 {}

@@ -3,7 +3,7 @@ use Rattle.std.proofs.Common.{◌≡◌, inl, inr, subst, ℕ, zero, suc, ◌+�
 use Rattle.std.specs.List.{AllByRecursion}
 use Rattle.std.proofs.lemmas.Bool.{cases_lt}
 use Rattle.std.proofs.lemmas.List.{get_or_default}
-use Rattle.row_format.specs.Extents.{Extent, page_end, Ascend}
+use Rattle.row_format.specs.Extents.{Extent, page_end, ExtentsAscend}
 
 -- of the first n extents each ends where the next begins, or before
 abbrev pub InSteps : List Extent → ℕ → Type 0
@@ -18,7 +18,7 @@ all_from n f (g ∷ fs) le h =
     let step : page_end f ≤ g.first = h 0 f (omega arith) in
     (le, all_from n g fs (omega (arith, le, step)) (rest_steps f (g ∷ fs) h))
 
-steps_ascend : (es : List Extent) → InSteps es (length es) → Ascend es
+steps_ascend : (es : List Extent) → InSteps es (length es) → ExtentsAscend es
 steps_ascend [] h = tt
 steps_ascend (e ∷ []) h = (tt, tt)
 steps_ascend (e ∷ f ∷ es) h =
@@ -30,17 +30,17 @@ all_at n [] k d all lt = absurd (omega arith)
 all_at n (e ∷ es) zero d all lt = all.0
 all_at n (e ∷ es) (suc k) d all lt = all_at n es k d all.1 (omega arith)
 
-ascend_steps : (es : List Extent) → Ascend es → InSteps es (length es)
+ascend_steps : (es : List Extent) → ExtentsAscend es → InSteps es (length es)
 ascend_steps [] up k d lt = absurd (omega arith)
 ascend_steps (e ∷ es) up zero d lt = all_at (page_end e) es 0 d up.0 (omega arith)
 ascend_steps (e ∷ es) up (suc k) d lt = ascend_steps es up.1 k d (omega arith)
 
 -- the neighbours were all looked at
-pub ascending : (es : List Extent) (n : ℕ) → length es ≤ n → InSteps es n → Ascend es
+pub ascending : (es : List Extent) (n : ℕ) → length es ≤ n → InSteps es n → ExtentsAscend es
 ascending es n le h = steps_ascend es (λ k d lt. h k d (omega arith))
 
 -- two neighbours overlap
-pub overlapping : (es : List Extent) (i j : ℕ) (a b : Extent) → suc i ≡ j → j < length es → a ≡ get_or es i a → b ≡ get_or es j b → ¬ (page_end a ≤ b.first) → ¬ (Ascend es)
+pub overlapping : (es : List Extent) (i j : ℕ) (a b : Extent) → suc i ≡ j → j < length es → a ≡ get_or es i a → b ≡ get_or es j b → ¬ (page_end a ≤ b.first) → ¬ (ExtentsAscend es)
 overlapping es i j a b next lt is then apart up =
     let first : page_end (get_or es i a) ≤ (get_or es (suc i) a).first = ascend_steps es up i a (omega (arith, next, lt)) in
     let second : get_or es (suc i) a ≡ b = get_or_default es (suc i) a b (omega (arith, next, lt)) ∙ ap (λ n. get_or es n b) next ∙ sym then in

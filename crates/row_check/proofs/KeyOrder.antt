@@ -10,7 +10,7 @@ use Rattle.std.proofs.lemmas.Nat.{from_be_bytes-to_be_bytes_4}
 use Rattle.byte_maps.specs.ByteMap.{byte_order}
 use Rattle.byte_maps.proofs.Places.{same_bytes}
 use Rattle.unit_fields.specs.Names.{IsName, IsCollName}
-use Rattle.row_format.specs.Keys.{of_object, onode_key, shard_key}
+use Rattle.row_format.specs.Keys.{object_key, onode_key, shard_key}
 use Rattle.row_format.proofs.KeyLemmas.{same_shard}
 
 -- ---- byte strings with a common front
@@ -75,7 +75,7 @@ number_less m n x lm ln is =
 
 -- ---- keys
 
-pub onode_front : (c o rest : List ℕ) → onode_key c o ++ rest ≡ of_object 0x4f c o (0x6f ∷ rest)
+pub onode_front : (c o rest : List ℕ) → onode_key c o ++ rest ≡ object_key 0x4f c o (0x6f ∷ rest)
 onode_front c o rest =
     ap (λ (l : List ℕ). 0x4f ∷ l) (append_assoc c (0 ∷ (o ++ 0 ∷ (0x6f ∷ []))) rest ∙ ap (λ (l : List ℕ). c ++ 0 ∷ l) (append_assoc o (0 ∷ 0x6f ∷ []) rest))
 

@@ -4,7 +4,7 @@ use Rattle.std.specs.Prelude.{nat_le, nat_lt, ◌&&◌, slice_index}
 use Rattle.std.specs.List.{AllByRecursion}
 use Rattle.std.proofs.lemmas.Bool.{cases_Bool, cases_lt, ltb-true, leb-true, lt-ltb, le-leb}
 use Rattle.std.proofs.lemmas.List.{length-set}
-use Rattle.row_format.specs.Extents.{Body, private, page_count, Extent, page_end, Ascend, Place, own, place_in, place_of, BeginsAt}
+use Rattle.row_format.specs.Extents.{Body, private, page_count, Extent, page_end, ExtentsAscend, Place, own, place_in, place_of, BeginsAt}
 use Rattle.row_format.specs.Row as format
 use Rattle.row_format.specs.Row.{collection, onode, shard, bitmap}
 use Rattle.store_image.specs.Owners.{Owner, page_of}
@@ -127,7 +127,7 @@ page_below (e ∷ es) page limit place is all = elim (place_cases e es page plac
 ]
 
 -- the pages of a shard begin at the page of its key
-pub page_of_shard : (es : List Extent) (page first : ℕ) (place : Place) → place_of es page ≡ Some place → BeginsAt first es → Ascend es → first ≤ page
+pub page_of_shard : (es : List Extent) (page first : ℕ) (place : Place) → place_of es page ≡ Some place → BeginsAt first es → ExtentsAscend es → first ≤ page
 page_of_shard [] page first place is begins ascend = absurd begins
 page_of_shard (e ∷ es) page first place is begins ascend = elim (place_cases e es page place is) [
   | inl h ↦ omega (arith, h.2, begins)
@@ -199,7 +199,7 @@ module _ (c o : List ℕ) where
         ],
       )
 
-  extents_tells : (es : List Extent) (P : Owner → ℕ → Type 0) (m : Marks) (units : ℕ) → Tells P m → HasUnits units m → AllEndBy units es → Ascend es
+  extents_tells : (es : List Extent) (P : Owner → ℕ → Type 0) (m : Marks) (units : ℕ) → Tells P m → HasUnits units m → AllEndBy units es → ExtentsAscend es
       → ((a : Owner) (v w : ℕ) → ExtentsOwn es a v → P a w → ⊥) → Tells (λ a v. P a v ⊎ ExtentsOwn es a v) (extents_marked m es)
   extents_tells [] P m units old has ends ascend apart =
       tells_same P _ m (λ a v. (inl, λ q. elim q [ inl p ↦ p | inr x ↦ absurd (let t = x.found in cc) ])) old
@@ -263,7 +263,7 @@ RowOwns (shard c o page es) a v = ExtentsOwn c o es a v
 RowOwns row a v = ⊥
 
 abbrev pub RowAscends : format.Row → Type 0
-RowAscends (shard c o page es) = Ascend es
+RowAscends (shard c o page es) = ExtentsAscend es
 RowAscends row = Unit {0}
 
 nothing_more : (P : Owner → ℕ → Type 0) (a : Owner) (v : ℕ) → P a v ↔ (P a v ⊎ ⊥)

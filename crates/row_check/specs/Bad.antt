@@ -7,7 +7,7 @@ use Rattle.byte_maps.specs.ByteMap.{byte_order}
 use Rattle.meta_rows.specs.Rows.{Rows}
 use Rattle.meta_log.specs.declared.slot.Super.{Super}
 use Rattle.row_format.specs.Keys.{coll_key, onode_key}
-use Rattle.row_format.specs.Extents.{Extent, page_end, Ascend}
+use Rattle.row_format.specs.Extents.{Extent, page_end, ExtentsAscend}
 use Rattle.row_format.specs.Row as format
 use Rattle.store_image.specs.Pages.{HasKey, HasRow, pages_of}
 use Rattle.store_image.specs.BadRows.{IsOnData, IsInPlace, IsGoodRow, IsBadRow}
@@ -67,7 +67,7 @@ pub record IsWithinOnode (rows : Rows) (c o : List ℕ) (extents : List Extent) 
 
 -- what a shard needs beside extents that begin behind those of the earlier shards
 pub record ShardStands (s : Super) (rows : Rows) (c o : List ℕ) (extents : List Extent) : Type 0 where
-  pub ascend : Ascend extents
+  pub ascend : ExtentsAscend extents
   pub on_data : AllByRecursion (λ e. IsOnData s e.body) extents
   pub has_collection : HasKey rows (coll_key c)
   pub within_onode : IsWithinOnode rows c o extents

@@ -2,7 +2,7 @@
 use Rattle.std.specs.Prelude.{◌≡◌, ℕ, ◌<◌, ◌^◌, List, [], ◌∷◌, ◌++◌}
 use Rattle.std.specs.Int.{w32, to_be_bytes}
 use Rattle.unit_fields.specs.Names.{IsName, IsCollName}
-use Rattle.row_format.specs.Keys.{coll_key, of_object, bitmap_key}
+use Rattle.row_format.specs.Keys.{coll_key, object_key, bitmap_key}
 use Rattle.row_format.specs.Bits.{bit_rows}
 use Rattle.row_format.specs.Row as format
 use Rattle.row_check.specs.declared.key.Part.{Part}
@@ -29,7 +29,7 @@ pub record IsPart (bytes : List ℕ) (part : Part) : Type 0 where
 -- the key of what is named
 abbrev pub key_bytes : RowKey → List ℕ
 key_bytes (Collection c) = coll_key c
-key_bytes (Object c o part) = of_object 0x4f c o (part_bytes part)
+key_bytes (Object c o part) = object_key 0x4f c o (part_bytes part)
 key_bytes (Bitmap r) = bitmap_key r
 
 abbrev pub FitsKey : RowKey → Type 0

@@ -4,7 +4,7 @@ ghost use Rattle.std.specs.List.{AllByRecursion};
 ghost use Rattle.unit_fields.specs.Names.{IsName, IsCollName};
 ghost use Rattle.row_format.specs.Keys.{coll_key, onode_key};
 ghost use Rattle.row_format.specs.Row.{onode, row_key, FitsRow};
-ghost use Rattle.row_format.specs.Extents.{page_end, Ascend};
+ghost use Rattle.row_format.specs.Extents.{page_end, ExtentsAscend};
 ghost use Rattle.store_image.specs.Pages.{HasKey, HasRow, pages_of};
 ghost use Rattle.store_image.specs.BadRows.{IsOnData, AreOfData, IsInPlace};
 ghost use Rattle.store_image.specs.Owners.{IsDataUnit};
@@ -43,7 +43,7 @@ fn all_end_by(extents: &[Extent], page: u64) -> bool
 
 // Whether the extents ascend, and none reaches into the next.
 fn ascend(extents: &[Extent]) -> bool
-    ensures { IsTrue result ↔ Ascend extents.now }
+    ensures { IsTrue result ↔ ExtentsAscend extents.now }
 {
     for i in 1..extents.len() {
         let next = &extents[i];

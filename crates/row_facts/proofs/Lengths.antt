@@ -6,7 +6,7 @@ use Rattle.std.specs.Fmt.{digits, digits_onto, digit_glyph}
 use Rattle.crc32c_csum.specs.Crc32c.{crc32c}
 use Rattle.meta_rows.specs.declared.row_op.RowOp.{RowOp}
 use Rattle.meta_rows.specs.Spelling.{key_bytes, value_bytes, op_bytes, ops_bytes, AllFit}
-use Rattle.meta_log.specs.Records.{head_bytes, record_bytes, unit_count}
+use Rattle.meta_log.specs.Records.{record_head, record_bytes, unit_count}
 use Rattle.unit_fields.specs.Names as names
 use Rattle.unit_fields.specs.Names.{coll_name, IsName, IsCollName}
 use Rattle.row_format.specs.Row.{Row, collection, row_key, row_value}
@@ -54,7 +54,7 @@ coll_fits c name = ((record { some = omega arith; short = omega (arith, length-c
 -- ---- records
 
 length-record : (number : ℕ) (ops : List RowOp) → length (record_bytes number ops) ≡ 24 + length (ops_bytes ops)
-length-record number ops = length-append (head_bytes number ops ++ to_le_bytes w32 (crc32c (head_bytes number ops ++ ops_bytes ops))) (ops_bytes ops)
+length-record number ops = length-append (record_head number ops ++ to_le_bytes w32 (crc32c (record_head number ops ++ ops_bytes ops))) (ops_bytes ops)
 
 pub coll_unit : (number : ℕ) (c : List ℕ) → IsCollName c → unit_count number (coll_ops c) ≡ 1
 coll_unit number c name = omega (arith, length-record number (coll_ops c), coll_short c name)

@@ -5,7 +5,7 @@ use Rattle.std.specs.Int.{w32, to_be_bytes, from_be_bytes}
 use Rattle.std.proofs.lemmas.Nat.{from_be_bytes-to_be_bytes_4}
 use Rattle.meta_rows.proofs.FieldLemmas.{same_front}
 use Rattle.unit_fields.specs.Names.{IsName, IsCollName}
-use Rattle.row_format.specs.Keys.{of_object, coll_key, onode_key, shard_key, bitmap_key}
+use Rattle.row_format.specs.Keys.{object_key, coll_key, onode_key, shard_key, bitmap_key}
 use Rattle.row_format.specs.Bits.{bit_rows}
 use Rattle.unit_fields.proofs.CollNames.{no_zero_in_coll}
 
@@ -28,20 +28,20 @@ first_zero (n ∷ a) (m ∷ b) x y p q e =
     (λ i. first i ∷ others.0 i, others.1)
 
 -- one kind, two objects
-pub same_place : (kind : ℕ) (c o d u x y : List ℕ) → IsCollName c → IsName o → IsCollName d → IsName u → of_object kind c o x ≡ of_object kind d u y → (c ≡ d) × (o ≡ u) × (x ≡ y)
+pub same_place : (kind : ℕ) (c o d u x y : List ℕ) → IsCollName c → IsName o → IsCollName d → IsName u → object_key kind c o x ≡ object_key kind d u y → (c ≡ d) × (o ≡ u) × (x ≡ y)
 same_place kind c o d u x y c_name o_name d_name u_name e =
     let colls = first_zero c d (o ++ 0 ∷ x) (u ++ 0 ∷ y) (no_zero_in_coll c c_name) (no_zero_in_coll d d_name) (ap (drop 1) e) in
     let objects = first_zero o u x y o_name.no_zero u_name.no_zero colls.1 in
     (colls.0, objects.0, objects.1)
 
 -- two kinds
-pub other_kind : (k l : ℕ) (c o d u x y : List ℕ) → k ≢ l → of_object k c o x ≢ of_object l d u y
+pub other_kind : (k l : ℕ) (c o d u x y : List ℕ) → k ≢ l → object_key k c o x ≢ object_key l d u y
 other_kind k l c o d u x y apart e = apart (same_head _ _ _ _ e)
 
 pub same_coll : (c d : List ℕ) → coll_key c ≡ coll_key d → c ≡ d
 same_coll c d e = ap (drop 1) e
 
-pub coll_no_object : (c d u x : List ℕ) → coll_key c ≢ of_object 0x4f d u x
+pub coll_no_object : (c d u x : List ℕ) → coll_key c ≢ object_key 0x4f d u x
 coll_no_object c d u x e = omega (arith, same_head _ _ _ _ e)
 
 pub same_onode : (c o d u : List ℕ) → IsCollName c → IsName o → IsCollName d → IsName u → onode_key c o ≡ onode_key d u → (c ≡ d) × (o ≡ u)
@@ -67,5 +67,5 @@ same_bitmap r q lr lq e =
 pub bitmap_no_coll : (r : ℕ) (c : List ℕ) → bitmap_key r ≢ coll_key c
 bitmap_no_coll r c e = omega (arith, same_head _ _ _ _ e)
 
-pub bitmap_no_object : (r : ℕ) (d u x : List ℕ) → bitmap_key r ≢ of_object 0x4f d u x
+pub bitmap_no_object : (r : ℕ) (d u x : List ℕ) → bitmap_key r ≢ object_key 0x4f d u x
 bitmap_no_object r d u x e = omega (arith, same_head _ _ _ _ e)

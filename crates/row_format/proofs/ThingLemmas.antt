@@ -5,7 +5,7 @@ use Rattle.std.specs.Int.{w32, w64, to_be_bytes, from_be_bytes}
 use Rattle.std.proofs.lemmas.Nat.{from_be_bytes-to_be_bytes_4, from_be_bytes-to_be_bytes_8}
 use Rattle.unit_fields.specs.Names.{IsName, IsCollName}
 use Rattle.unit_fields.proofs.CollNames.{no_zero_in_coll}
-use Rattle.row_format.specs.Keys.{of_object, coll_key, onode_key, shard_key, attr_key, header_key, omap_key, deferred_key, shared_key, bitmap_key}
+use Rattle.row_format.specs.Keys.{object_key, coll_key, onode_key, shard_key, attr_key, header_key, omap_key, deferred_key, shared_key, bitmap_key}
 use Rattle.row_format.specs.Things.{Thing, a_collection, an_onode, a_shard, an_attribute, an_omap_header, an_omap_pair, a_deferred_write, a_shared_blob, a_bitmap_row}
 use Rattle.row_format.specs.Things.{name_in, behind_name, object_thing, onode_or_shard, thing_of}
 

@@ -39,9 +39,9 @@ pub record FitsExtent (e : Extent) : Type 0 where
   pub body : FitsBody e.body
 
 -- the extents ascend, and none reaches into the next
-abbrev pub Ascend : List Extent → Type 0
-Ascend [] = Unit {0}
-Ascend (e ∷ es) = AllByRecursion (λ later. page_end e ≤ later.first) es × Ascend es
+abbrev pub ExtentsAscend : List Extent → Type 0
+ExtentsAscend [] = Unit {0}
+ExtentsAscend (e ∷ es) = AllByRecursion (λ later. page_end e ≤ later.first) es × ExtentsAscend es
 
 -- the first extent begins at this page
 abbrev pub BeginsAt : ℕ → List Extent → Type 0

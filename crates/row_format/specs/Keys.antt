@@ -3,8 +3,8 @@ use Rattle.std.specs.Prelude.{ℕ, List, [], ◌∷◌, ◌++◌}
 use Rattle.std.specs.Int.{w32, w64, to_be_bytes}
 
 -- a kind, the names of a collection and of an object in it, each ended by a zero, and what stands behind
-abbrev pub of_object : ℕ → List ℕ → List ℕ → List ℕ → List ℕ
-of_object kind c o rest = kind ∷ (c ++ 0 ∷ (o ++ 0 ∷ rest))
+abbrev pub object_key : ℕ → List ℕ → List ℕ → List ℕ → List ℕ
+object_key kind c o rest = kind ∷ (c ++ 0 ∷ (o ++ 0 ∷ rest))
 
 -- "C": a collection
 abbrev pub coll_key : List ℕ → List ℕ
@@ -12,23 +12,23 @@ coll_key c = 0x43 ∷ c
 
 -- "O", "o": an object's onode
 abbrev pub onode_key : List ℕ → List ℕ → List ℕ
-onode_key c o = of_object 0x4f c o (0x6f ∷ [])
+onode_key c o = object_key 0x4f c o (0x6f ∷ [])
 
 -- "O", "o", a page, "x": the shard of the object's extents that begins at the page
 abbrev pub shard_key : List ℕ → List ℕ → ℕ → List ℕ
-shard_key c o page = of_object 0x4f c o (0x6f ∷ to_be_bytes w32 page ++ 0x78 ∷ [])
+shard_key c o page = object_key 0x4f c o (0x6f ∷ to_be_bytes w32 page ++ 0x78 ∷ [])
 
 -- "A": an attribute
 abbrev pub attr_key : List ℕ → List ℕ → List ℕ → List ℕ
-attr_key c o name = of_object 0x41 c o name
+attr_key c o name = object_key 0x41 c o name
 
 -- "M", "-": an object's omap header
 abbrev pub header_key : List ℕ → List ℕ → List ℕ
-header_key c o = of_object 0x4d c o (0x2d ∷ [])
+header_key c o = object_key 0x4d c o (0x2d ∷ [])
 
 -- "M", ".": a pair of an object's omap
 abbrev pub omap_key : List ℕ → List ℕ → List ℕ → List ℕ
-omap_key c o key = of_object 0x4d c o (0x2e ∷ key)
+omap_key c o key = object_key 0x4d c o (0x2e ∷ key)
 
 -- "L": a deferred write, by its sequence number
 abbrev pub deferred_key : ℕ → List ℕ

@@ -49,21 +49,21 @@ names_text [] = []
 names_text (name ∷ names) = 0x20 ∷ (escaped name ++ names_text names)
 
 -- the reply to a command whose commit is acknowledged, or not
-abbrev pub reply_of : Bool → Command → Answer → List ℕ
-reply_of acked command answer.Accepted = if acked then codes "ok" else codes "sent"
-reply_of acked command (answer.Refused refusal) = refusal_text refusal
-reply_of acked command (answer.NoSpace need free) = codes "E9 NoSpace need=" ++ decimal need ++ codes " free=" ++ decimal free
-reply_of acked command (answer.MetaFull need room) = codes "E10 MetaFull need=" ++ decimal need ++ codes " room=" ++ decimal room
-reply_of acked command (answer.Csum unit kept found) = csum_text unit kept found
-reply_of acked command (answer.Bytes bytes) = bytes_word command ++ hex_or_dash bytes
-reply_of acked command (answer.Size size) = codes "size " ++ decimal size
-reply_of acked command (answer.Sum size crc) = codes "sum " ++ decimal size ++ codes " " ++ hex_sum crc
-reply_of acked command (answer.Names names) = codes "objects" ++ names_text names
+abbrev pub reply_text : Bool → Command → Answer → List ℕ
+reply_text acked command answer.Accepted = if acked then codes "ok" else codes "sent"
+reply_text acked command (answer.Refused refusal) = refusal_text refusal
+reply_text acked command (answer.NoSpace need free) = codes "E9 NoSpace need=" ++ decimal need ++ codes " free=" ++ decimal free
+reply_text acked command (answer.MetaFull need room) = codes "E10 MetaFull need=" ++ decimal need ++ codes " room=" ++ decimal room
+reply_text acked command (answer.Csum unit kept found) = csum_text unit kept found
+reply_text acked command (answer.Bytes bytes) = bytes_word command ++ hex_or_dash bytes
+reply_text acked command (answer.Size size) = codes "size " ++ decimal size
+reply_text acked command (answer.Sum size crc) = codes "sum " ++ decimal size ++ codes " " ++ hex_sum crc
+reply_text acked command (answer.Names names) = codes "objects" ++ names_text names
 
 -- the client's number, the line of the command in its script, and the reply: of an entry whose commit is acknowledged, or not
 abbrev pub entry_line : Bool → Entry → List ℕ
 entry_line acked e =
-    decimal e.client ++ codes ":" ++ decimal e.line ++ codes " " ++ reply_of acked e.command e.answer
+    decimal e.client ++ codes ":" ++ decimal e.line ++ codes " " ++ reply_text acked e.command e.answer
 
 -- the lines of entries, of which the first is at this place
 abbrev pub entry_lines : List Commit → ℕ → List Entry → List (List ℕ)
@@ -76,12 +76,12 @@ is_accepted answer.Accepted = true
 is_accepted a = false
 
 -- a command was refused, or met a bad unit
-abbrev pub is_refused : Answer → Bool
-is_refused (answer.Refused refusal) = true
-is_refused (answer.NoSpace need free) = true
-is_refused (answer.MetaFull need room) = true
-is_refused (answer.Csum unit kept found) = true
-is_refused a = false
+abbrev pub counts_as_refused : Answer → Bool
+counts_as_refused (answer.Refused refusal) = true
+counts_as_refused (answer.NoSpace need free) = true
+counts_as_refused (answer.MetaFull need room) = true
+counts_as_refused (answer.Csum unit kept found) = true
+counts_as_refused a = false
 
 -- a bad unit was met
 abbrev pub is_csum : Answer → Bool
@@ -99,7 +99,7 @@ is_read a = false
 -- an answer of this kind was given
 abbrev pub is_of : Kind → Answer → Bool
 is_of Accepted a = is_accepted a
-is_of Refused a = is_refused a
+is_of Refused a = counts_as_refused a
 is_of Read a = is_read a
 
 -- a reply names a bad unit

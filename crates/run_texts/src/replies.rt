@@ -4,8 +4,8 @@ ghost use Rattle.run_texts.specs.Texts.{as_text};
 ghost use Rattle.run_texts.specs.Hex.{hex_or_dash, hex_sum};
 ghost use Rattle.run_texts.specs.Printed.{output};
 ghost use Rattle.run_texts.specs.Printing.{Adds};
-ghost use Rattle.run_texts.specs.Replies.{refusal_text, is_acked, bytes_word, csum_text, names_text, reply_of, entry_line, entry_lines};
-ghost use Rattle.run_texts.specs.Replies.{is_accepted, is_refused, is_csum, is_read, is_of, has_csum, answers_of, done_line};
+ghost use Rattle.run_texts.specs.Replies.{refusal_text, is_acked, bytes_word, csum_text, names_text, reply_text, entry_line, entry_lines};
+ghost use Rattle.run_texts.specs.Replies.{is_accepted, counts_as_refused, is_csum, is_read, is_of, has_csum, answers_of, done_line};
 
 use crate::hex::{push_hex_or_dash, push_hex_sum};
 use crate::names::push_name;
@@ -141,7 +141,7 @@ fn push_objects<K: Sink>(text: &mut Printer, out: &mut K, names: &[Bytes])
 
 /// Adds the reply to the entry's command, whose commit is acknowledged, or not.
 fn push_reply<K: Sink>(text: &mut Printer, out: &mut K, acked: bool, entry: &Entry)
-    ensures { Adds (reply_of acked entry.now.command entry.now.answer) text.old text.new
+    ensures { Adds (reply_text acked entry.now.command entry.now.answer) text.old text.new
         (output (K.written out.old) (K.faults out.old)) (output (K.written out.new) (K.faults out.new)) }
 {
     match &entry.answer {
@@ -220,8 +220,8 @@ fn is_accepted(answer: &Answer) -> bool
     matches!(answer, Answer::Accepted)
 }
 
-fn is_refused(answer: &Answer) -> bool
-    ensures { result ≡ is_refused answer.now }
+fn counts_as_refused(answer: &Answer) -> bool
+    ensures { result ≡ counts_as_refused answer.now }
 {
     match answer {
         Answer::Refused(_) | Answer::NoSpace { .. } => true,
@@ -251,7 +251,7 @@ fn is_of(kind: Kind, answer: &Answer) -> bool
 {
     match kind {
         Kind::Accepted => is_accepted(answer),
-        Kind::Refused => is_refused(answer),
+        Kind::Refused => counts_as_refused(answer),
         Kind::Read => is_read(answer),
     }
 }

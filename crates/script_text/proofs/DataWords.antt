@@ -3,7 +3,7 @@ use Rattle.std.proofs.Common.{◌≡◌, ◌≢◌, inl, inr, ℕ, ◌/◌, ◌<
 use Rattle.std.proofs.Common.{refl, sym, ap, subst, ◌∙◌, arith}
 use Rattle.std.proofs.lemmas.List.{length-replicate}
 use Rattle.std.specs.Prelude.{codes, decimal}
-use Rattle.script_text.specs.Grammar.{HasNo, AreBytes, IsDataWord, IsFill, IsNumber, hex_pair, spelled_by}
+use Rattle.script_text.specs.Grammar.{HasNo, EachIsByte, IsDataWord, IsFill, IsNumber, hex_pair, spelled_by}
 use Rattle.script_text.proofs.Splits.{has_no-append, has_none}
 use Rattle.script_text.proofs.Spelled.{spelled-has_no, spelled_same, length-spelled}
 use Rattle.script_text.proofs.Digits.{pair_code, pair_no, pair_parts, length-pair}
@@ -64,13 +64,13 @@ data_no_space word bytes (inr fill) =
     (has_none 0x20 (codes "fill:") refl) (fill_no_space fill.text fill.byte fill.count fill.fill))
 
 -- behind `hex:`, and behind `fill:`
-pub hex_behind : (word digits bytes : List ℕ) → word ≡ codes "hex:" ++ digits → IsDataWord word bytes → AreBytes bytes × (digits ≡ spelled_by (hex_pair 0x61) bytes)
+pub hex_behind : (word digits bytes : List ℕ) → word ≡ codes "hex:" ++ digits → IsDataWord word bytes → EachIsByte bytes × (digits ≡ spelled_by (hex_pair 0x61) bytes)
 hex_behind word digits bytes cut (inl hex) = (hex.are_bytes, (let e : codes "hex:" ++ digits ≡ codes "hex:" ++ spelled_by (hex_pair 0x61) bytes = sym cut ∙ hex.spelled in cc))
 hex_behind word digits bytes cut (inr fill) = absurd (hex_or_fill digits fill.text (sym cut ∙ fill.spelled))
 
 -- what was read behind `hex:` is the data
 pub hex_read : (word digits : List ℕ) (o : Option (List ℕ)) → word ≡ codes "hex:" ++ digits
-    → MatchOption o ((bytes : List ℕ) → AreBytes bytes → digits ≢ spelled_by (hex_pair 0x61) bytes) (λ bytes. AreBytes bytes × (digits ≡ spelled_by (hex_pair 0x61) bytes))
+    → MatchOption o ((bytes : List ℕ) → EachIsByte bytes → digits ≢ spelled_by (hex_pair 0x61) bytes) (λ bytes. EachIsByte bytes × (digits ≡ spelled_by (hex_pair 0x61) bytes))
     → (bytes : List ℕ) → IsDataWord word bytes → o ≡ Some bytes
 hex_read word digits None cut none bytes is = let hex = hex_behind word digits bytes cut is in absurd (none bytes hex.0 hex.1)
 hex_read word digits (Some read) cut found bytes is =

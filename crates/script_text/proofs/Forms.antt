@@ -4,13 +4,13 @@ use Rattle.std.proofs.Common.{refl, sym, ap, subst, ◌∙◌, arith}
 use Rattle.std.specs.Prelude.{codes, IfOk, decimal}
 use Rattle.std.specs.Fmt.{digits}
 use Rattle.std.proofs.lemmas.Fmt.{digits_is_IsNumeral, decimal_is_IsNumeral}
-use Rattle.unit_fields.specs.Names.{IsCollName, head_bytes}
+use Rattle.unit_fields.specs.Names.{IsCollName, head_suffix}
 use Rattle.object_model.specs.Effect.{Change}
 use Rattle.object_model.specs.declared.op.Op.{Op}
 use Rattle.object_model.specs.declared.op.Op.TheVariants.{MkColl, Touch, Write}
 use Rattle.object_model.specs.declared.command.Command.TheVariants as command
 use Rattle.script_text.specs.Grammar.{HasNo, AreWords, in_words, IsNameWord, IsNumber, IsDataWord, op_word, AreTouchArgs, AreWriteArgs, AreArgs, AreChangeWords}
-use Rattle.script_text.specs.Grammar.{AreReadWords, AreObjectWords, AreListWords, AreWordsOf, HasWholePages, Fits, IsLineOf, op_line, IsPassedOver}
+use Rattle.script_text.specs.Grammar.{AreReadWords, AreObjectWords, AreListWords, AreWordsOf, HasWholePages, FitsWhat, IsLineOf, op_line, IsPassedOver}
 use Rattle.script_text.specs.Reading.{NamesObject, Reads, ReadsWords}
 use Rattle.script_text.specs.declared.line.What.{What}
 use Rattle.script_text.specs.declared.line.What.TheVariants.{Command, Wait}
@@ -32,8 +32,8 @@ coll_no_space name is =
     let pool = no_space_digits 10 (omega arith) (decimal is.pool) (decimal_is_IsNumeral is.pool is.pool_fits).0.1 in
     let seed = no_space_digits 16 (omega arith) (digits 16 false is.seed)
     (digits_is_IsNumeral 16 false (omega arith) (omega arith) is.seed (let fits = is.seed_fits in omega arith)).0.1 in
-    let back = has_no-append 0x20 (digits 16 false is.seed) head_bytes seed (has_none 0x20 head_bytes refl) in
-    subst (λ (l : List ℕ). HasNo 0x20 l) (sym is.spelled) (has_no-append 0x20 (decimal is.pool) (0x2e ∷ (digits 16 false is.seed ++ head_bytes)) pool
+    let back = has_no-append 0x20 (digits 16 false is.seed) head_suffix seed (has_none 0x20 head_suffix refl) in
+    subst (λ (l : List ℕ). HasNo 0x20 l) (sym is.spelled) (has_no-append 0x20 (decimal is.pool) (0x2e ∷ (digits 16 false is.seed ++ head_suffix)) pool
     ((λ same. absurd (omega (arith, same))), back))
 
 -- ---- each line begins with a word, which begins with a letter
@@ -481,10 +481,10 @@ four_args n coll args (Write object off bytes) word about page is named = record
 }
 four_args n coll args op word about page is named = absurd about
 
-four_words : (n : List ℕ) (ws : List (List ℕ)) (what : What) → AreWordsOf (codes "write" ∷ n ∷ ws) what → Fits what → AreFour n ws
+four_words : (n : List ℕ) (ws : List (List ℕ)) (what : What) → AreWordsOf (codes "write" ∷ n ∷ ws) what → FitsWhat what → AreFour n ws
 four_words n ws what say fits =
     let of = change_only (codes "write") (n ∷ ws) what refl refl refl refl refl say in
-    let pages : HasWholePages of.change.ops = subst Fits of.says fits in
+    let pages : HasWholePages of.change.ops = subst FitsWhat of.says fits in
     let both : codes "write" ∷ n ∷ ws ≡ op_word of.are.op ∷ of.change.coll ∷ of.are.args = of.are.whole in
     let word : codes "write" ≡ op_word of.are.op = cc in
     let coll : of.change.coll ≡ n = cc in
@@ -492,7 +492,7 @@ four_words n ws what say fits =
     subst (λ (l : List (List ℕ)). AreFour n l) args
     (four_args n of.change.coll of.are.args of.are.op word of.are.about (subst HasWholePages of.are.alone pages) coll of.are.named)
 
-pub write_words : (coll object off holds : List ℕ) (what : What) → AreWordsOf (codes "write" ∷ coll ∷ object ∷ off ∷ holds ∷ []) what → Fits what
+pub write_words : (coll object off holds : List ℕ) (what : What) → AreWordsOf (codes "write" ∷ coll ∷ object ∷ off ∷ holds ∷ []) what → FitsWhat what
     → IsWrite coll object off holds
 write_words coll object off holds what say fits =
     let of = four_words coll (object ∷ off ∷ holds ∷ []) what say fits in
@@ -505,9 +505,9 @@ write_words coll object off holds what say fits =
 
 pub write_say : (coll object off holds c o : List ℕ) (n : ℕ) (bytes : List ℕ) (what : What) → c ≡ coll → IsCollName coll → IsNameWord object o → IsNumber off n
     → IsDataWord holds bytes → (n % 4096 ≡ 0) × (length bytes % 4096 ≡ 0) × (0 < length bytes) → what ≡ op_line c (Write o n bytes)
-    → AreWordsOf (codes "write" ∷ coll ∷ object ∷ off ∷ holds ∷ []) what × Fits what
+    → AreWordsOf (codes "write" ∷ coll ∷ object ∷ off ∷ holds ∷ []) what × FitsWhat what
 write_say coll object off holds c o n bytes what is named names offset spelled page says =
-    subst (λ (w : What). AreWordsOf (codes "write" ∷ coll ∷ object ∷ off ∷ holds ∷ []) w × Fits w)
+    subst (λ (w : What). AreWordsOf (codes "write" ∷ coll ∷ object ∷ off ∷ holds ∷ []) w × FitsWhat w)
     (sym (says ∙ ap (λ (l : List ℕ). op_line l (Write o n bytes)) is)) (
       record {
         op = Write o n bytes;

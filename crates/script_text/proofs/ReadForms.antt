@@ -4,7 +4,7 @@ use Rattle.std.specs.Prelude.{codes}
 use Rattle.unit_fields.specs.Names.{IsCollName}
 use Rattle.object_model.specs.declared.command.Command.{Command as Asked}
 use Rattle.object_model.specs.declared.command.Command.TheVariants as command
-use Rattle.script_text.specs.Grammar.{AreWords, in_words, IsNameWord, IsNumber, AreObjectWords, AreWordsOf, Fits, IsLineOf}
+use Rattle.script_text.specs.Grammar.{AreWords, in_words, IsNameWord, IsNumber, AreObjectWords, AreWordsOf, FitsWhat, IsLineOf}
 use Rattle.script_text.specs.Reading.{NamesObject}
 use Rattle.script_text.specs.declared.line.What.{What}
 use Rattle.script_text.specs.declared.line.What.TheVariants.{Command}
@@ -114,7 +114,7 @@ read_words coll object off len what say =
 
 -- four good words behind `read` say a read
 pub read_say : (coll object off len c o : List ℕ) (n k : ℕ) → c ≡ coll → IsCollName coll → IsNameWord object o → IsNumber off n → IsNumber len k
-    → AreWordsOf (codes "read" ∷ coll ∷ object ∷ off ∷ len ∷ []) (Command (command.Read c o n k)) × Fits (Command (command.Read c o n k))
+    → AreWordsOf (codes "read" ∷ coll ∷ object ∷ off ∷ len ∷ []) (Command (command.Read c o n k)) × FitsWhat (Command (command.Read c o n k))
 read_say coll object off len c o n k is named names offset size = (
   record {
     object_word = object;

@@ -1,7 +1,7 @@
 -- Bytes spelled one by one, each by its code: no two lists of bytes have one spelling.
 use Rattle.std.proofs.Common.{◌≡◌, ◌≢◌, ◌⊎◌, inl, inr, ℕ, ◌*◌, ◌<◌, ◌≤◌, List, [], ◌∷◌, ◌++◌, length, refl, sym, ap, subst, ◌∙◌, arith}
 use Rattle.std.proofs.Common.{append_assoc, append-nil, length-append}
-use Rattle.script_text.specs.Grammar.{HasNo, AreBytes, spelled_by}
+use Rattle.script_text.specs.Grammar.{HasNo, EachIsByte, spelled_by}
 use Rattle.script_text.proofs.Splits.{has_no-append}
 
 -- no code begins another, and none is empty
@@ -54,8 +54,8 @@ spelled-push code [] b = append-nil (code b)
 spelled-push code (x ∷ xs) b = ap (λ (l : List ℕ). code x ++ l) (spelled-push code xs b) ∙ sym (append_assoc (code x) (spelled_by code xs) (code b))
 
 -- what is left of a spelling, where its first bytes are read
-spelled_rest : (code : ℕ → List ℕ) → IsCode code → (read bytes rest : List ℕ) → AreBytes bytes → spelled_by code read ++ rest ≡ spelled_by code bytes
-    → (more : List ℕ) × AreBytes more × (rest ≡ spelled_by code more)
+spelled_rest : (code : ℕ → List ℕ) → IsCode code → (read bytes rest : List ℕ) → EachIsByte bytes → spelled_by code read ++ rest ≡ spelled_by code bytes
+    → (more : List ℕ) × EachIsByte more × (rest ≡ spelled_by code more)
 unfolding spelled_by
 spelled_rest code is [] bytes rest are same = (bytes, are, same)
 spelled_rest code is (b ∷ bs) [] rest are same =
@@ -65,7 +65,7 @@ spelled_rest code is (b ∷ bs) (c ∷ cs) rest are same =
     spelled_rest code is bs cs rest are.1 both.1
 
 -- and nothing is left, or a byte
-spelled_next : (code : ℕ → List ℕ) (more : List ℕ) → AreBytes more
+spelled_next : (code : ℕ → List ℕ) (more : List ℕ) → EachIsByte more
     → (more ≡ []) ⊎ ((b : ℕ) × (rest : List ℕ) × (b < 256) × (spelled_by code more ≡ code b ++ rest))
 unfolding spelled_by
 spelled_next code [] are = inl refl
@@ -78,32 +78,32 @@ some_shorter (x ∷ xs) rest some = omega (arith, length-append xs rest)
 pub code_behind : (code : ℕ → List ℕ) → IsCode code → (b : ℕ) (text rest : List ℕ) → text ≡ code b ++ rest → length rest < length text
 code_behind code is b text rest same = subst (λ (l : List ℕ). length rest < length l) (sym same) (some_shorter (code b) rest (is.some b []))
 
-bytes_and : (xs : List ℕ) (b : ℕ) → AreBytes xs → b < 256 → AreBytes (xs ++ (b ∷ []))
+bytes_and : (xs : List ℕ) (b : ℕ) → EachIsByte xs → b < 256 → EachIsByte (xs ++ (b ∷ []))
 bytes_and [] b are fits = (fits, tt)
 bytes_and (x ∷ xs) b are fits = (are.0, bytes_and xs b are.1 fits)
 
 -- some bytes of a word are read, and this is left of it
 pub record IsReadOf (code : ℕ → List ℕ) (word bytes rest : List ℕ) : Type 0 where
-  pub are_bytes : AreBytes bytes
+  pub are_bytes : EachIsByte bytes
   pub whole : word ≡ spelled_by code bytes ++ rest
 
 pub read_none : (code : ℕ → List ℕ) (word bytes : List ℕ) → bytes ≡ [] → IsReadOf code word bytes word
 read_none code word bytes is = record {
-  are_bytes = subst AreBytes (sym is) tt;
+  are_bytes = subst EachIsByte (sym is) tt;
   whole = sym (ap (λ (l : List ℕ). l ++ word) (ap (λ (l : List ℕ). spelled_by code l) is ∙ spelled_nil code));
 }
 
 pub read_more : (code : ℕ → List ℕ) (word bytes rest behind more : List ℕ) (b : ℕ) → IsReadOf code word bytes rest → b < 256 → rest ≡ code b ++ behind
     → more ≡ bytes ++ (b ∷ []) → IsReadOf code word more behind
 read_more code word bytes rest behind more b so_far fits next pushed = record {
-  are_bytes = subst AreBytes (sym pushed) (bytes_and bytes b so_far.are_bytes fits);
+  are_bytes = subst EachIsByte (sym pushed) (bytes_and bytes b so_far.are_bytes fits);
   whole = so_far.whole ∙ ap (λ (l : List ℕ). spelled_by code bytes ++ l) next ∙ sym (append_assoc (spelled_by code bytes) (code b) behind)
       ∙ ap (λ (l : List ℕ). l ++ behind) (sym (spelled-push code bytes b)) ∙ ap (λ (l : List ℕ). spelled_by code l ++ behind) (sym pushed);
 }
 
 -- something is left, and no byte stands at its front
 pub read_no_more : (code : ℕ → List ℕ) → IsCode code → (word bytes rest other : List ℕ) → IsReadOf code word bytes rest → rest ≢ []
-    → ((b : ℕ) (more : List ℕ) → b < 256 → rest ≢ code b ++ more) → AreBytes other → word ≢ spelled_by code other
+    → ((b : ℕ) (more : List ℕ) → b < 256 → rest ≢ code b ++ more) → EachIsByte other → word ≢ spelled_by code other
 read_no_more code is word bytes rest other so_far some none are same =
     let left = spelled_rest code is bytes other rest are (sym so_far.whole ∙ same) in
     elim (spelled_next code left.0 left.1) [
@@ -112,6 +112,6 @@ read_no_more code is word bytes rest other so_far some none are same =
     ]
 
 -- nothing is left
-pub read_all : (code : ℕ → List ℕ) (word bytes rest : List ℕ) → IsReadOf code word bytes rest → rest ≡ [] → AreBytes bytes × (word ≡ spelled_by code bytes)
+pub read_all : (code : ℕ → List ℕ) (word bytes rest : List ℕ) → IsReadOf code word bytes rest → rest ≡ [] → EachIsByte bytes × (word ≡ spelled_by code bytes)
 read_all code word bytes rest so_far nil =
     (so_far.are_bytes, so_far.whole ∙ ap (λ (l : List ℕ). spelled_by code bytes ++ l) nil ∙ append-nil (spelled_by code bytes))

@@ -17,8 +17,8 @@ abbrev pub HasNo : ℕ → List ℕ → Type 0
 HasNo c bytes = AllByRecursion (λ b. b ≢ c) bytes
 
 -- numbers of eight bits
-abbrev pub AreBytes : List ℕ → Type 0
-AreBytes bytes = AllByRecursion (λ b. b < 256) bytes
+abbrev pub EachIsByte : List ℕ → Type 0
+EachIsByte bytes = AllByRecursion (λ b. b < 256) bytes
 
 -- none has a space in it
 abbrev pub AreWords : List (List ℕ) → Type 0
@@ -36,12 +36,12 @@ spelled_by code [] = []
 spelled_by code (b ∷ bs) = code b ++ spelled_by code bs
 
 -- a hexadecimal digit, where the letter for ten is `A` or `a`
-abbrev pub hex_digit : ℕ → ℕ → ℕ
-hex_digit ten d = if nat_lt d 10 then 0x30 + d else ten + (d - 10)
+abbrev pub hex_digit_from : ℕ → ℕ → ℕ
+hex_digit_from ten d = if nat_lt d 10 then 0x30 + d else ten + (d - 10)
 
 -- a byte as two hexadecimal digits
 unfoldable pub hex_pair : ℕ → ℕ → List ℕ
-hex_pair ten b = hex_digit ten (b / 16) ∷ hex_digit ten (b % 16) ∷ []
+hex_pair ten b = hex_digit_from ten (b / 16) ∷ hex_digit_from ten (b % 16) ∷ []
 
 -- ---- numbers and names
 
@@ -68,14 +68,14 @@ escaped name = spelled_by escape name
 -- the word spells this name
 pub record IsNameWord (word name : List ℕ) : Type 0 where
   pub named : IsName name
-  pub are_bytes : AreBytes name
+  pub are_bytes : EachIsByte name
   pub spelled : word ≡ escaped name
 
 -- ---- data
 
 -- `hex:` and two digits with small letters for each byte
 pub record IsHexWord (word bytes : List ℕ) : Type 0 where
-  pub are_bytes : AreBytes bytes
+  pub are_bytes : EachIsByte bytes
   pub spelled : word ≡ codes "hex:" ++ spelled_by (hex_pair 0x61) bytes
 
 -- a byte, as two such digits, and how often it stands
@@ -179,21 +179,21 @@ HasWholePages (Write object off bytes ∷ []) = (off % 4096 ≡ 0) × (length by
 HasWholePages ops = ⊥
 
 -- what the kernel can do so far, each of these reads too: any other line is a bad one
-abbrev pub Fits : What → Type 0
-Fits (Command (command.Change change)) = HasWholePages change.ops
-Fits (Command (command.Read coll object off len)) = Unit {0}
-Fits (Command (command.Sum coll object)) = Unit {0}
-Fits (Command (command.Stat coll object)) = Unit {0}
-Fits (Command (command.List coll)) = Unit {0}
-Fits Wait = Unit {0}
-Fits what = ⊥
+abbrev pub FitsWhat : What → Type 0
+FitsWhat (Command (command.Change change)) = HasWholePages change.ops
+FitsWhat (Command (command.Read coll object off len)) = Unit {0}
+FitsWhat (Command (command.Sum coll object)) = Unit {0}
+FitsWhat (Command (command.Stat coll object)) = Unit {0}
+FitsWhat (Command (command.List coll)) = Unit {0}
+FitsWhat Wait = Unit {0}
+FitsWhat what = ⊥
 
 -- the text of a line says this
 pub record IsLineOf (text : List ℕ) (what : What) : Type 0 where
   pub words : List (List ℕ)
   pub whole : text ≡ in_words words
   pub say : AreWordsOf words what
-  pub fits : Fits what
+  pub fits : FitsWhat what
 
 -- a transaction of this operation
 abbrev pub op_line : List ℕ → Op → What

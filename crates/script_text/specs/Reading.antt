@@ -2,7 +2,7 @@
 use Rattle.std.specs.Prelude.{◌≡◌, ◌⊎◌, slice_index, ℕ, ◌+◌, ◌≤◌, Bool, true, false, List, [], ◌∷◌, ◌++◌, length, Option, Some, None, MatchOption, IfSome}
 use Rattle.std.specs.List.{AllByRecursion}
 use Rattle.unit_fields.specs.Names.{IsCollName}
-use Rattle.script_text.specs.Grammar.{HasNo, in_words, IsNameWord, AreWordsOf, Fits, IsLineOf, IsPassedOver, is_wait}
+use Rattle.script_text.specs.Grammar.{HasNo, in_words, IsNameWord, AreWordsOf, FitsWhat, IsLineOf, IsPassedOver, is_wait}
 use Rattle.script_text.specs.Script.{script_limit, line_limit, command_limit, ended, commands, kept_lines}
 use Rattle.script_text.specs.Script.{AreGood, IsOutside, IsOneTooMany, IsScript, IsBadAt, IsTextOf}
 use Rattle.script_text.specs.declared.fail.ScriptFail.{ScriptFail}
@@ -26,7 +26,7 @@ Reads text found = MatchOption found ((what : What) → ¬ (IsLineOf text what))
 
 -- what words were found to say
 abbrev pub ReadsWords : List (List ℕ) → Option What → Type 0
-ReadsWords words found = MatchOption found ((what : What) → AreWordsOf words what → ¬ (Fits what)) (λ what. AreWordsOf words what × Fits what)
+ReadsWords words found = MatchOption found ((what : What) → AreWordsOf words what → ¬ (FitsWhat what)) (λ what. AreWordsOf words what × FitsWhat what)
 
 -- the text is a collection's name and a word of an object's name
 pub record NamesObject (text coll object : List ℕ) : Type 0 where

@@ -1,6 +1,6 @@
 //! Data as it is spelled.
 ghost use Rattle.std.specs.Prelude.{◌≡◌, ◌≢◌, ℕ, List, Some, length, replicate, IfOk, IfSome, MatchOption};
-ghost use Rattle.script_text.specs.Grammar.{AreBytes, hex_pair, spelled_by, IsDataWord, IsFill};
+ghost use Rattle.script_text.specs.Grammar.{EachIsByte, hex_pair, spelled_by, IsDataWord, IsFill};
 
 use crate::hex::{read_hex, split_pair};
 use crate::number::read_number;
@@ -108,8 +108,8 @@ pub fn data_size(word: &[u8]) -> Option<u64>
 
 /// The data that digits spell.
 fn read_digits(alloc: Global, digits: &[u8]) -> Result<Option<Data>, AllocError>
-    ensures { IfOk result (λ found. MatchOption found ((bytes : List ℕ) → AreBytes bytes → digits.now ≢ spelled_by (hex_pair 0x61) bytes)
-        (λ bytes. AreBytes bytes × (digits.now ≡ spelled_by (hex_pair 0x61) bytes))) }
+    ensures { IfOk result (λ found. MatchOption found ((bytes : List ℕ) → EachIsByte bytes → digits.now ≢ spelled_by (hex_pair 0x61) bytes)
+        (λ bytes. EachIsByte bytes × (digits.now ≡ spelled_by (hex_pair 0x61) bytes))) }
 {
     match read_hex(alloc, digits)? {
         Some(bytes) => Ok(Some(Data::hex(bytes))),

@@ -1,6 +1,6 @@
 //! Names as they are spelled.
 ghost use Rattle.std.specs.Prelude.{◌≡◌, ◌≢◌, ◌++◌, ◌∷◌, ◌<◌, ℕ, List, IfOk, MatchOption};
-ghost use Rattle.script_text.specs.Grammar.{AreBytes, IsNameWord, is_plain, hex_digit, escape, escaped};
+ghost use Rattle.script_text.specs.Grammar.{EachIsByte, IsNameWord, is_plain, hex_digit_from, escape, escaped};
 
 use crate::hex::split_pair;
 use crate::split::split_first;
@@ -44,8 +44,8 @@ fn split_byte(text: &[u8]) -> Option<(u8, &[u8])>
 
 /// The bytes that a word spells.
 fn unescaped(alloc: Global, word: &[u8]) -> Result<Option<Vec<u8>>, AllocError>
-    ensures { IfOk result (λ found. MatchOption found ((bytes : List ℕ) → AreBytes bytes → word.now ≢ escaped bytes)
-        (λ bytes. AreBytes bytes.items × (word.now ≡ escaped bytes.items))) }
+    ensures { IfOk result (λ found. MatchOption found ((bytes : List ℕ) → EachIsByte bytes → word.now ≢ escaped bytes)
+        (λ bytes. EachIsByte bytes.items × (word.now ≡ escaped bytes.items))) }
 {
     let mut bytes = Vec::new(alloc);
     let mut rest = word;
@@ -75,7 +75,7 @@ pub fn read_name(alloc: Global, word: &[u8]) -> Result<Option<Name>, AllocError>
 /// A digit of sixteen, where those from ten on are capital letters.
 fn capital_digit(value: u8) -> u8
     requires { value < 16 }
-    ensures { result ≡ hex_digit 0x41 value }
+    ensures { result ≡ hex_digit_from 0x41 value }
 {
     if value < 10 {
         b'0' + value

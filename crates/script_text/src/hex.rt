@@ -1,6 +1,6 @@
 //! Bytes as pairs of hexadecimal digits.
 ghost use Rattle.std.specs.Prelude.{◌≡◌, ◌≢◌, ◌++◌, ◌<◌, ◌≤◌, ℕ, List, IfOk, MatchOption};
-ghost use Rattle.script_text.specs.Grammar.{AreBytes, hex_digit, hex_pair, spelled_by};
+ghost use Rattle.script_text.specs.Grammar.{EachIsByte, hex_digit_from, hex_pair, spelled_by};
 
 use crate::split::split_first;
 use byte_maps::Bytes;
@@ -9,7 +9,7 @@ use std::alloc::{AllocError, Global};
 /// The value of a hexadecimal digit, where the letter for ten is `A` or `a`.
 fn digit_of(ten: u8, byte: u8) -> Option<u8>
     requires { 0x41 ≤ ten }
-    ensures { MatchOption result ((d : ℕ) → d < 16 → byte ≢ hex_digit ten d) (λ d. (d < 16) × (byte ≡ hex_digit ten d)) }
+    ensures { MatchOption result ((d : ℕ) → d < 16 → byte ≢ hex_digit_from ten d) (λ d. (d < 16) × (byte ≡ hex_digit_from ten d)) }
 {
     if byte.is_ascii_digit() {
         Some(byte - b'0')
@@ -43,8 +43,8 @@ pub fn split_pair(ten: u8, text: &[u8]) -> Option<(u8, &[u8])>
 
 /// The bytes that pairs of digits with small letters spell.
 pub fn read_hex(alloc: Global, digits: &[u8]) -> Result<Option<Bytes>, AllocError>
-    ensures { IfOk result (λ found. MatchOption found ((bytes : List ℕ) → AreBytes bytes → digits.now ≢ spelled_by (hex_pair 0x61) bytes)
-        (λ bytes. AreBytes bytes × (digits.now ≡ spelled_by (hex_pair 0x61) bytes))) }
+    ensures { IfOk result (λ found. MatchOption found ((bytes : List ℕ) → EachIsByte bytes → digits.now ≢ spelled_by (hex_pair 0x61) bytes)
+        (λ bytes. EachIsByte bytes × (digits.now ≡ spelled_by (hex_pair 0x61) bytes))) }
 {
     let mut bytes = Vec::with_capacity(alloc, digits.len() / 2)?;
     let mut rest = digits;

@@ -76,7 +76,7 @@ take_waits s d s' x h' was is =
       };
       up = refl;
       far = far_at s.log.number (opens x false) h';
-      unflown = record { unsent = tt; rest = tt };
+      untouched = record { unsent = tt; rest = tt };
       room = record { fits = was.room.fits; reserved = was.room.reserved; room = was.room.room };
       falls = falls;
     })
@@ -135,7 +135,7 @@ commit_synced s d s' x pieces was what =
       };
       up = refl;
       far = far_at (s.log.number + 1) idle tt;
-      unflown = record { unsent = tt; rest = tt };
+      untouched = record { unsent = tt; rest = tt };
       room = record {
         fits = tt;
         reserved = rest s.log.reserved (x.need + 0) was.room.reserved;
@@ -207,7 +207,7 @@ finish_steps s d s' d' depth a standing ready does =
       };
       up = refl;
       far = standing.far;
-      unflown = record { unsent = standing.unflown.unsent; rest = standing.unflown.rest };
+      untouched = record { unsent = standing.untouched.unsent; rest = standing.untouched.rest };
       room = record { fits = standing.room.fits; reserved = standing.room.reserved; room = standing.room.room };
       falls = falls;
     }))
@@ -246,23 +246,23 @@ waited_more s d d' are some (inl none) = absurd (flown s.flying d.flights are so
 waited_more s d d' are some (inr more) = (more.1, ap (λ (e : Disk). e.waits) more.2)
 
 -- what is left where the kernel is down
-pub record Fallen (s s' : State) (d' : Disk) : Type 0 where
+pub record GoneDown (s s' : State) (d' : Disk) : Type 0 where
   pub always : IsAlwaysKept s' d'
   pub down : is_some s'.down ≡ true
   pub falls : work_left s' < work_left s
 
-fallen_down : (o : Option Ticket) (ticket : Ticket) → is_some (down_by o ticket) ≡ true
-fallen_down None ticket = refl
-fallen_down (Some first) ticket = refl
+down_is_some : (o : Option Ticket) (ticket : Ticket) → is_some (down_by o ticket) ≡ true
+down_is_some None ticket = refl
+down_is_some (Some first) ticket = refl
 
 -- a submission has ended, and counts for nothing
-abbrev pub fallen_with : State → Ticket → Option Ticket → State
-fallen_with s ticket down = record s { flying = others_of ticket s.flying; events = s.events + 1; down = down }
+abbrev pub down_with : State → Ticket → Option Ticket → State
+down_with s ticket down = record s { flying = others_of ticket s.flying; events = s.events + 1; down = down }
 
 falls_with : (s : State) (d d' : Disk) (ticket : Ticket) (ok : Bool) (down : Option Ticket) → IsSound d' → IsAlwaysKept s d
-    → Reaped d ticket.place ok d' → is_some down ≡ true → Fallen s (fallen_with s ticket down) d'
+    → Reaped d ticket.place ok d' → is_some down ≡ true → GoneDown s (down_with s ticket down) d'
 falls_with s d d' ticket ok down sound a ended some =
-    let u : State = fallen_with s ticket down in
+    let u : State = down_with s ticket down in
     let land : Landed s.flying ticket d d' = landed_flight d d' ticket ok s.flying a.flights ended in
     let falls : work_left u < work_left s =
     less (length (others_of ticket s.flying)) (length s.flying) (sum_work s.pending) (option_map_or (batch_work s.log) s.batch 0)
@@ -289,15 +289,15 @@ falls_with s d d' ticket ok down sound a ended some =
     few w w' e most lt le = omega arith
 
 -- one ended badly
-pub bad_steps : (s : State) (d : Disk) (s' : State) (d' : Disk) → IsSound d' → IsAlwaysKept s d → Takes s d false s' d' → Fallen s s' d'
+pub bad_steps : (s : State) (d : Disk) (s' : State) (d' : Disk) → IsSound d' → IsAlwaysKept s d → Takes s d false s' d' → GoneDown s s' d'
 bad_steps s d s' d' sound a ended =
-    subst (λ (z : State). Fallen s z d') (sym ended.after)
-    (falls_with s d d' ended.ticket false (down_by s.down ended.ticket) sound a ended.ended (fallen_down s.down ended.ticket))
+    subst (λ (z : State). GoneDown s z d') (sym ended.after)
+    (falls_with s d d' ended.ticket false (down_by s.down ended.ticket) sound a ended.ended (down_is_some s.down ended.ticket))
 
 -- one ended well, while the kernel is down
 pub late_steps : (s : State) (d : Disk) (s' : State) (d' : Disk) → IsSound d' → IsAlwaysKept s d → is_some s.down ≡ true → Takes s d true s' d'
-    → Fallen s s' d'
+    → GoneDown s s' d'
 late_steps s d s' d' sound a some ended =
-    let after : s' ≡ fallen_with s ended.ticket s.down =
+    let after : s' ≡ down_with s ended.ticket s.down =
     ended.after ∙ ap (λ (b : Bool). cond b (landed ended.ticket s) (after_good (flying_of ended.ticket s.flying) (landed ended.ticket s))) some in
-    subst (λ (z : State). Fallen s z d') (sym after) (falls_with s d d' ended.ticket true s.down sound a ended.ended some)
+    subst (λ (z : State). GoneDown s z d') (sym after) (falls_with s d d' ended.ticket true s.down sound a ended.ended some)

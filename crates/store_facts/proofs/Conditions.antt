@@ -24,7 +24,7 @@ use Rattle.store_facts.specs.Room.{FitsRecord, HasRoomFor}
 use Rattle.store_facts.specs.Space.{uncommitted}
 use Rattle.store_facts.specs.Work.{entry_work, work_left}
 use Rattle.store_facts.specs.Kept.{IsAlwaysKept}
-use Rattle.store_facts.proofs.Stages.{Stage, idle, opens, flushes, flushed, writes, synced, pending_of, batch_of, begun_of, flying_at, record_with, pieces_at, Holds, at, IsFar, by_stage}
+use Rattle.store_facts.proofs.Stages.{Stage, idle, opens, flushes, flushed, writes, synced, pending_of, batch_of, begun_of, flying_at, record_with, pieces_at, Holds, at, IsAtStage, by_stage}
 use Rattle.store_facts.proofs.Pieces.{batch_fits, units_needed, short_body}
 use Rattle.store_facts.proofs.RunUnits.{IsRunOf, row_bytes, all_drop, all_front}
 use Rattle.store_facts.proofs.Readiness.{contexts_of, no_flying, next_write, ready_flush, ready_record, ready_sync, next_commit, none_ready, ready_up}
@@ -82,13 +82,13 @@ sync_room s d a ready = room_at_device s d a (and_parts _ (nat_lt (length s.flyi
 
 -- ---- nothing flies where a flush is ready
 
-pub flush_idle : (s : State) (depth : ℕ) → IsFar s → is_ready_up Flush depth s ≡ true → s.flying ≡ []
+pub flush_idle : (s : State) (depth : ℕ) → IsAtStage s → is_ready_up Flush depth s ≡ true → s.flying ≡ []
 flush_idle s depth far ready = by_stage (λ t. is_ready_up Flush depth t ≡ true → t.flying ≡ []) s every far ready
   where
     every : (g : Stage) → Holds s.log.number g → is_ready_up Flush depth (at s g) ≡ true → flying_at g ≡ []
     every g h ready = ap flying_at (ready_flush s g depth ready).stage
 
-pub sync_idle : (s : State) (depth : ℕ) → IsFar s → is_ready_up Sync depth s ≡ true → s.flying ≡ []
+pub sync_idle : (s : State) (depth : ℕ) → IsAtStage s → is_ready_up Sync depth s ≡ true → s.flying ≡ []
 sync_idle s depth far ready = by_stage (λ t. is_ready_up Sync depth t ≡ true → t.flying ≡ []) s every far ready
   where
     every : (g : Stage) → Holds s.log.number g → is_ready_up Sync depth (at s g) ≡ true → flying_at g ≡ []
@@ -115,7 +115,7 @@ whole_run x n fits run =
     (subst (λ (fs : List FreshUnit). AllByRecursion (λ f. length f.bytes ≡ 4096) fs) run.left
     (all_drop (λ f. length f.bytes ≡ 4096) x.given x.fresh fits.whole))
 
-pub data_ready : (s : State) (n : Unsent) → IsFar s → HasRoomFor s.log (uncommitted s) → next_unsent s.pending ≡ Some n → ReadyData s n
+pub data_ready : (s : State) (n : Unsent) → IsAtStage s → HasRoomFor s.log (uncommitted s) → next_unsent s.pending ≡ Some n → ReadyData s n
 data_ready s n far room is = by_stage (λ t. HasRoomFor t.log (uncommitted t) → next_unsent t.pending ≡ Some n → ReadyData t n) s every far room is
   where
     every : (g : Stage) → Holds s.log.number g → HasRoomFor (at s g).log (contexts_of g) → next_unsent (pending_of g) ≡ Some n → ReadyData (at s g) n
@@ -197,7 +197,7 @@ seal_ready_at s d (flushed x) b a room none is =
     (ap batch_ops (sym (same_Some (record { contexts = x ∷ []; first = flush.Flushed; second = flush.NotSent }) b is))) refl
 seal_ready_at s d g b a room none is = absurd (cc)
 
-pub seal_ready : (s : State) (d : Disk) (b : Batch) → IsFar s → IsAlwaysKept s d → HasRoomFor s.log (uncommitted s)
+pub seal_ready : (s : State) (d : Disk) (b : Batch) → IsAtStage s → IsAlwaysKept s d → HasRoomFor s.log (uncommitted s)
     → is_ready_up Seal d.depth s ≡ true
     → s.batch ≡ Some b → ReadySeal s b
 seal_ready s d b far a room ready is = by_stage
@@ -247,7 +247,7 @@ record_writes s x given written flying r h more has is =
       room = room_behind s.log.tail s.log.reserved s.log.sup.half x.need (unit_count s.log.number (x.ops ++ [])) has.room has.reserved units;
     })
 
-pub record_ready : (s : State) (depth : ℕ) (r : Begun) → IsFar s → HasRoomFor s.log (uncommitted s) → is_ready_up Record depth s ≡ true
+pub record_ready : (s : State) (depth : ℕ) (r : Begun) → IsAtStage s → HasRoomFor s.log (uncommitted s) → is_ready_up Record depth s ≡ true
     → s.log.begun ≡ Some r → ReadyRecord s r
 record_ready s depth r far room ready is =
     by_stage (λ t. HasRoomFor t.log (uncommitted t) → is_ready_up Record depth t ≡ true → t.log.begun ≡ Some r → ReadyRecord t r)
@@ -308,7 +308,7 @@ commit_synced s x pieces b h has is =
       flying = refl;
     })
 
-pub commit_ready : (s : State) (depth : ℕ) (b : Batch) → IsFar s → HasRoomFor s.log (uncommitted s) → is_ready_up Commit depth s ≡ true
+pub commit_ready : (s : State) (depth : ℕ) (b : Batch) → IsAtStage s → HasRoomFor s.log (uncommitted s) → is_ready_up Commit depth s ≡ true
     → s.batch ≡ Some b
     → ReadyCommit s b
 commit_ready s depth b far room ready is =
@@ -353,7 +353,7 @@ pub record IsIdle (s : State) : Type 0 where
   pub acked : s.acked ≡ length s.book.commits
   pub uncommitted : uncommitted s ≡ []
 
-pub drained_is_idle : (s : State) (d : Disk) → IsFar s → IsAlwaysKept s d → s.down ≡ None → is_drained d.depth s ≡ true → IsIdle s
+pub drained_is_idle : (s : State) (d : Disk) → IsAtStage s → IsAlwaysKept s d → s.down ≡ None → is_drained d.depth s ≡ true → IsIdle s
 drained_is_idle s d far a up drained =
     drained_stage (λ t. t.acked ≤ applied_count t → applied_count t ≤ t.acked → IsIdle t) s d far a up drained here a.book.within
     (ltb-false s.acked (applied_count s) (sym (ready_up Finish d.depth s up) ∙ none_ready d.depth s drained Finish))

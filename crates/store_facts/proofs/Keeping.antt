@@ -7,11 +7,11 @@ use Rattle.store_steps.specs.declared.step.Step.TheVariants.{Data, Reap, Take, F
 use Rattle.store_steps.specs.State.{State}
 use Rattle.store_steps.specs.Ready.{is_ready, is_ready_up, is_ready_down, is_empty}
 use Rattle.store_steps.specs.Runs.{DoesOrFails}
-use Rattle.store_facts.specs.Flights.{IsNextUnflown}
+use Rattle.store_facts.specs.Flights.{IsNextUntouched}
 use Rattle.store_facts.specs.Work.{measure}
 use Rattle.store_facts.specs.Kept.{IsAlwaysKept, IsKeptUp, IsKept}
 use Rattle.store_facts.proofs.Stepping.{IsStanding, Stepped, data_steps, flush_steps, seal_steps, record_steps, sync_steps, reap_steps}
-use Rattle.store_facts.proofs.Committing.{take_steps, commit_steps, finish_steps, waited_keeps, waited_more, Fallen, bad_steps, late_steps}
+use Rattle.store_facts.proofs.Committing.{take_steps, commit_steps, finish_steps, waited_keeps, waited_more, GoneDown, bad_steps, late_steps}
 use Rattle.store_facts.proofs.Submitting.{Admitted, IsOpened}
 use Rattle.store_facts.proofs.Conditions.{Readiness, while_up, while_down, ready_cases}
 use Rattle.store_facts.proofs.RowsKept.{AreRowsKept}
@@ -19,23 +19,23 @@ use Rattle.store_facts.proofs.Working.{measure_falls, measure_waits}
 
 -- What a step that was ready leaves: it has stepped, while the kernel was up; or something flies and the device gave no end of it; or a
 -- submission ended badly, or while the kernel was down.
-pub data Leaves (s : State) (d : Disk) (s' : State) (d' : Disk) : Type 0 where
-  has_stepped : s.down ≡ None → Stepped s s' d' → Leaves s d s' d'
-  has_waited : Waited d d' → s' ≡ s → not (is_empty s.flying) ≡ true → Leaves s d s' d'
-  has_fallen : Fallen s s' d' → Leaves s d s' d'
+pub data StepOutcome (s : State) (d : Disk) (s' : State) (d' : Disk) : Type 0 where
+  has_stepped : s.down ≡ None → Stepped s s' d' → StepOutcome s d s' d'
+  has_waited : Waited d d' → s' ≡ s → not (is_empty s.flying) ≡ true → StepOutcome s d s' d'
+  has_gone_down : GoneDown s s' d' → StepOutcome s d s' d'
 
 pub standing_of : (s : State) (d : Disk) → IsKept s d → s.down ≡ None → IsStanding s d
 standing_of s d kept down =
     let up : IsKeptUp s d = kept.up down in
-    record { up = down; far = up.far; unflown = up.unflown; room = up.room }
+    record { up = down; far = up.far; untouched = up.untouched; room = up.room }
 
 up_leaves : (step : Step) (s : State) (d : Disk) (s' : State) (d' : Disk) → IsSound d' → IsAlwaysKept s d → IsStanding s d
     → is_ready_up step d.depth s ≡ true
-    → DoesOrFails step s d s' d' → Leaves s d s' d'
+    → DoesOrFails step s d s' d' → StepOutcome s d s' d'
 up_leaves Data s d s' d' sound a up ready does = has_stepped up.up (data_steps s d s' d' sound a up does)
 up_leaves Reap s d s' d' sound a up ready (inl (inl ended)) = has_stepped up.up (reap_steps s d s' d' d.depth sound a up ready ended)
 up_leaves Reap s d s' d' sound a up ready (inl (inr none)) = has_waited none.0 none.1 ready
-up_leaves Reap s d s' d' sound a up ready (inr ended) = has_fallen (bad_steps s d s' d' sound a ended)
+up_leaves Reap s d s' d' sound a up ready (inr ended) = has_gone_down (bad_steps s d s' d' sound a ended)
 up_leaves Take s d s' d' sound a up ready does = has_stepped up.up (take_steps s d s' d' a up does)
 up_leaves Flush s d s' d' sound a up ready does = has_stepped up.up (flush_steps s d s' d' d.depth sound a up ready does)
 up_leaves Seal s d s' d' sound a up ready does = has_stepped up.up (seal_steps s d s' d' a up ready does)
@@ -45,13 +45,13 @@ up_leaves Commit s d s' d' sound a up ready does = has_stepped up.up (commit_ste
 up_leaves Finish s d s' d' sound a up ready does = has_stepped up.up (finish_steps s d s' d' d.depth a up ready does)
 
 down_leaves : (s : State) (d : Disk) (s' : State) (d' : Disk) → IsSound d' → IsAlwaysKept s d → is_some s.down ≡ true → not (is_empty s.flying) ≡ true
-    → DoesOrFails Reap s d s' d' → Leaves s d s' d'
-down_leaves s d s' d' sound a down some (inl (inl ended)) = has_fallen (late_steps s d s' d' sound a down ended)
+    → DoesOrFails Reap s d s' d' → StepOutcome s d s' d'
+down_leaves s d s' d' sound a down some (inl (inl ended)) = has_gone_down (late_steps s d s' d' sound a down ended)
 down_leaves s d s' d' sound a down some (inl (inr none)) = has_waited none.0 none.1 some
-down_leaves s d s' d' sound a down some (inr ended) = has_fallen (bad_steps s d s' d' sound a ended)
+down_leaves s d s' d' sound a down some (inr ended) = has_gone_down (bad_steps s d s' d' sound a ended)
 
 pub step_leaves : (step : Step) (s : State) (d : Disk) (s' : State) (d' : Disk) → IsKept s d → is_ready step d.depth s ≡ true → IsSound d'
-    → DoesOrFails step s d s' d' → Leaves s d s' d'
+    → DoesOrFails step s d s' d' → StepOutcome s d s' d'
 step_leaves step s d s' d' kept ready sound does = of_cases (ready_cases step d.depth s ready)
   where
     -- Reap is ready where something flies, up or down
@@ -62,7 +62,7 @@ step_leaves step s d s' d' kept ready sound does = of_cases (ready_cases step d.
           | Some t ↦ λ e. e
         ] r
 
-    of_cases : Readiness step d.depth s → Leaves s d s' d'
+    of_cases : Readiness step d.depth s → StepOutcome s d s' d'
     of_cases (while_up up r) = up_leaves step s d s' d' sound kept.always (standing_of s d kept up) r does
     of_cases (while_down down is) =
         down_leaves s d s' d' sound kept.always down (some_flies down (subst (λ (x : Step). is_ready x d.depth s ≡ true) is ready))
@@ -74,9 +74,9 @@ pub work_falls : (step : Step) (s : State) (d : Disk) (s' : State) (d' : Disk) �
     → measure s' d'.waits < measure s d.waits
 work_falls step s d s' d' kept ready sound does = of_leaves (step_leaves step s d s' d' kept ready sound does)
   where
-    of_leaves : Leaves s d s' d' → measure s' d'.waits < measure s d.waits
+    of_leaves : StepOutcome s d s' d' → measure s' d'.waits < measure s d.waits
     of_leaves (has_stepped up stepped) = measure_falls s s' d.waits d'.waits stepped.falls
-    of_leaves (has_fallen fallen) = measure_falls s s' d.waits d'.waits fallen.falls
+    of_leaves (has_gone_down gone) = measure_falls s s' d.waits d'.waits gone.falls
     of_leaves (has_waited none same some) =
         let more = waited_more s d d' kept.always.flights some none in
         subst (λ (t : State). measure t d'.waits < measure s d.waits) (sym same)
@@ -84,15 +84,15 @@ work_falls step s d s' d' kept ready sound does = of_leaves (step_leaves step s 
 
 -- ---- with what is known of the rows, the state is kept
 
-not_fallen : {A : Type 0} (o : Option A) → o ≡ None → is_some o ≡ true → ⊥
-not_fallen o none some = let e : is_some o ≡ false = ap is_some none in cc
+not_down : {A : Type 0} (o : Option A) → o ≡ None → is_some o ≡ true → ⊥
+not_down o none some = let e : is_some o ≡ false = ap is_some none in cc
 
 pub kept_of : (s : State) (d : Disk) → IsAlwaysKept s d → IsStanding s d → AreRowsKept s → IsKept s d
 kept_of s d always standing rows = record {
   always = always;
   up = λ _. record {
     far = standing.far;
-    unflown = standing.unflown;
+    untouched = standing.untouched;
     view = rows.view;
     committed = rows.committed;
     good = rows.good;
@@ -103,7 +103,7 @@ kept_of s d always standing rows = record {
 }
 
 pub stepped_kept : (s s' : State) (d' : Disk) → s.down ≡ None → Stepped s s' d' → AreRowsKept s' → IsKept s' d'
-stepped_kept s s' d' up t rows = kept_of s' d' t.always (record { up = t.up ∙ up; far = t.far; unflown = t.unflown; room = t.room }) rows
+stepped_kept s s' d' up t rows = kept_of s' d' t.always (record { up = t.up ∙ up; far = t.far; untouched = t.untouched; room = t.room }) rows
 
 pub admitted_kept : (s s' : State) (d : Disk) → Admitted s s' d → AreRowsKept s' → IsKept s' d
 admitted_kept s s' d t rows = kept_of s' d t.always t.standing rows
@@ -112,8 +112,8 @@ pub opened_kept : (s : State) (d : Disk) → IsOpened s d → AreRowsKept s → 
 opened_kept s d t rows = kept_of s d t.always t.standing rows
 
 -- where the kernel is down the rows don't matter
-pub fallen_kept : (s s' : State) (d' : Disk) → Fallen s s' d' → IsKept s' d'
-fallen_kept s s' d' t = record { always = t.always; up = λ none. absurd (not_fallen s'.down none t.down) }
+pub down_kept : (s s' : State) (d' : Disk) → GoneDown s s' d' → IsKept s' d'
+down_kept s s' d' t = record { always = t.always; up = λ none. absurd (not_down s'.down none t.down) }
 
 -- an answer None leaves what is in flight as it is
 pub waited_kept : (s : State) (d d' : Disk) → IsSound d' → IsKept s d → Waited d d' → IsKept s d'
@@ -124,7 +124,7 @@ waited_kept s d d' sound kept (inr more) = record {
       let up : IsKeptUp s d = kept.up down in
       record {
         far = up.far;
-        unflown = subst (λ (e : Disk). IsNextUnflown s.log s.pending e.flights) (sym more.2) up.unflown;
+        untouched = subst (λ (e : Disk). IsNextUntouched s.log s.pending e.flights) (sym more.2) up.untouched;
         view = up.view;
         committed = up.committed;
         good = up.good;

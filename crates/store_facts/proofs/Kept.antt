@@ -15,13 +15,13 @@ use Rattle.store_steps.specs.Changes.{down_by}
 use Rattle.store_steps.specs.Ready.{is_ready}
 use Rattle.store_steps.specs.Submit.{entered, Accepts, Refuses}
 use Rattle.store_steps.specs.Opened.{Found, opened}
-use Rattle.store_steps.specs.Runs.{DoesOrFails, MaySubmit, MayRead, IsAnswered, Reads}
+use Rattle.store_steps.specs.Runs.{DoesOrFails, MaySubmit, MayRead, AnswersRead, Reads}
 use Rattle.store_facts.specs.Space.{uncommitted}
 use Rattle.store_facts.specs.Work.{measure}
 use Rattle.store_facts.specs.Kept.{IsKept, IsKeptUp, IsOpenable}
 use Rattle.store_facts.proofs.Conditions.{IsIdle, drained_is_idle}
 use Rattle.store_facts.proofs.Submitting.{accepts_keeps, entered_keeps, refuses_keeps, opened_keeps}
-use Rattle.store_facts.proofs.Keeping.{Leaves, has_stepped, has_waited, has_fallen, standing_of, step_leaves, stepped_kept, admitted_kept, opened_kept, fallen_kept, waited_kept, work_falls}
+use Rattle.store_facts.proofs.Keeping.{StepOutcome, has_stepped, has_waited, has_gone_down, standing_of, step_leaves, stepped_kept, admitted_kept, opened_kept, down_kept, waited_kept, work_falls}
 use Rattle.store_facts.proofs.RowsKept.{AreRowsKept, rows_of_kept, HaveSameRows, rows_stay, like_itself}
 use Rattle.store_facts.proofs.RowsSteps.{data_same, reap_same, flush_same, sync_same, seal_same, record_same, finish_same, take_same}
 use Rattle.store_facts.proofs.RowsCommitted.{commit_rows}
@@ -35,7 +35,7 @@ stays_down : (o : Option Ticket) (ticket : Ticket) → down_by o ticket ≡ None
 stays_down None ticket e = cc
 stays_down (Some first) ticket e = cc
 
--- the rows and the free units after a step that has stepped; one that ended badly has fallen, and the rows don't matter
+-- the rows and the free units after a step that has stepped; one that ended badly has gone, and the rows don't matter
 stepped_rows : (step : Step) (s : State) (d : Disk) (s' : State) (d' : Disk) → IsSuper s.log.sup → AreRowsKept s → IsKeptUp s d → s'.down ≡ None
     → DoesOrFails step s d s' d'
     → AreRowsKept s'
@@ -55,11 +55,11 @@ pub kept_step : (step : Step) (s s' : State) (d d' : Disk) → IsKept s d → is
     → IsKept s' d'
 kept_step step s s' d d' kept ready does sound = of_leaves (step_leaves step s d s' d' kept ready sound does)
   where
-    of_leaves : Leaves s d s' d' → IsKept s' d'
+    of_leaves : StepOutcome s d s' d' → IsKept s' d'
     of_leaves (has_stepped up stepped) = stepped_kept s s' d' up stepped
         (stepped_rows step s d s' d' kept.always.limits (rows_of_kept s d kept up) (kept.up up) (stepped.up ∙ up) does)
     of_leaves (has_waited none same some) = subst (λ (t : State). IsKept t d') (sym same) (waited_kept s d d' sound kept none)
-    of_leaves (has_fallen fallen) = fallen_kept s s' d' fallen
+    of_leaves (has_gone_down gone) = down_kept s s' d' gone
 
 -- ---- submitting
 
@@ -97,7 +97,7 @@ kept_refuse s s' d client line change a kept may does =
 
 -- a read that is answered adds an entry to the book
 pub kept_answer : (s s' : State) (d : Disk) (client line : ℕ) (command : Command) (a : Answer) → IsKept s d
-    → IsAnswered client line command a s d s' → IsKept s' d
+    → AnswersRead client line command a s d s' → IsKept s' d
 kept_answer s s' d client line command a kept is =
     let up : s.down ≡ None = is.can_note.up in
     subst (λ (t : State). IsKept t d) (sym is.after)

@@ -3,7 +3,7 @@ use Rattle.std.proofs.Common.{◌≡◌, ℕ, zero, suc, ◌+◌, ◌-◌, ◌*�
 use Rattle.std.specs.List.{AllByRecursion}
 use Rattle.byte_maps.proofs.UnitLemmas.{length-units_from}
 use Rattle.block_device.specs.Disk.{Disk, IsNotInFlight}
-use Rattle.block_device.specs.Facts.{IsUnflown}
+use Rattle.block_device.specs.Facts.{IsUntouched}
 use Rattle.meta_rows.specs.Spelling.{ops_bytes, AllFit}
 use Rattle.meta_log.specs.declared.slot.Super.{Super}
 use Rattle.meta_log.specs.Slots.{IsSuper, active_unit}
@@ -23,9 +23,9 @@ use Rattle.store_steps.specs.Steps.{piece_unit, piece_bytes}
 use Rattle.store_facts.specs.Flights.{IsUnsentUnflown, IsRestUnflown}
 use Rattle.store_facts.specs.Kept.{IsKept, IsKeptUp}
 use Rattle.store_facts.proofs.Numbers.{NextAcked}
-use Rattle.store_facts.proofs.Pieces.{rest_unflown}
+use Rattle.store_facts.proofs.Pieces.{rest_untouched}
 use Rattle.store_facts.proofs.RunUnits.{row_at, all_front}
-use Rattle.store_facts.proofs.Unflown.{run_unflown}
+use Rattle.store_facts.proofs.Unflown.{run_untouched}
 use Rattle.store_facts.proofs.RowsFacts.{next_on_data}
 use Rattle.store_facts.proofs.Conditions.{ready_not_down, ready_by_table, data_room, flush_room, record_room, sync_room, flush_idle, sync_idle, ReadyData, data_ready, ReadySeal, seal_ready, ReadyRecord, record_idle, record_ready, ReadyCommit, commit_ready, finish_ready, events_fit, IsIdle, drained_is_idle, drained_device}
 
@@ -100,22 +100,22 @@ known_idle s d kept down drained = drained_is_idle s d (kept.up down).far kept.a
 -- ---- the next data write
 
 -- no unit of it is in flight
-pub data_unflown : (s : State) (d : Disk) (n : Unsent) → IsKept s d → is_ready Data d.depth s ≡ true → next_unsent s.pending ≡ Some n
-    → (k : ℕ) → n.first.unit ≤ k → k < n.first.unit + length (unsent_units n) → IsUnflown d.flights k
-data_unflown s d n kept ready is =
+pub data_untouched : (s : State) (d : Disk) (n : Unsent) → IsKept s d → is_ready Data d.depth s ≡ true → next_unsent s.pending ≡ Some n
+    → (k : ℕ) → n.first.unit ≤ k → k < n.first.unit + length (unsent_units n) → IsUntouched d.flights k
+data_untouched s d n kept ready is =
     let up : IsKeptUp s d = kept.up (ready_not_down s d.depth Data refl ready) in
     let known : ReadyData s n = data_ready s n up.far up.room is in
     let unsent : IsUnsentUnflown d.flights known.x =
-    (subst (λ (xs : List Context). AllByRecursion (IsUnsentUnflown d.flights) xs) known.pending up.unflown.unsent).0 in
-    row_at (IsUnflown d.flights) n.first.unit (unsent_units n) known.run.row
-    (all_front (λ (f : FreshUnit). IsUnflown d.flights f.unit) (unsent_units n) _
-    (subst (λ (fs : List FreshUnit). AllByRecursion (λ (f : FreshUnit). IsUnflown d.flights f.unit) fs) known.run.left unsent))
+    (subst (λ (xs : List Context). AllByRecursion (IsUnsentUnflown d.flights) xs) known.pending up.untouched.unsent).0 in
+    row_at (IsUntouched d.flights) n.first.unit (unsent_units n) known.run.row
+    (all_front (λ (f : FreshUnit). IsUntouched d.flights f.unit) (unsent_units n) _
+    (subst (λ (fs : List FreshUnit). AllByRecursion (λ (f : FreshUnit). IsUntouched d.flights f.unit) fs) known.run.left unsent))
 
-pub next_data_unflown : (s : State) (d : Disk) (n : Unsent) → IsKept s d → is_ready Data d.depth s ≡ true → next_unsent s.pending ≡ Some n
+pub next_data_untouched : (s : State) (d : Disk) (n : Unsent) → IsKept s d → is_ready Data d.depth s ≡ true → next_unsent s.pending ≡ Some n
     → IsNotInFlight d n.first.unit (length (run_bytes (unsent_units n)))
-next_data_unflown s d n kept ready is =
+next_data_untouched s d n kept ready is =
     subst (λ (size : ℕ). IsNotInFlight d n.first.unit size) (sym (known_data s d n kept ready is).size)
-    (run_unflown d.flights n.first.unit (length (unsent_units n)) (omega arith) (data_unflown s d n kept ready is))
+    (run_untouched d.flights n.first.unit (length (unsent_units n)) (omega arith) (data_untouched s d n kept ready is))
 
 -- it lies on the device
 pub data_inside : (s : State) (d : Disk) (n : Unsent) → IsKept s d → is_ready Data d.depth s ≡ true → next_unsent s.pending ≡ Some n
@@ -150,25 +150,25 @@ piece_size s d r kept ready is =
     within first count units size le is = omega (arith, le, is)
 
 -- no unit of what isn't given yet of the record is in flight
-pub record_unflown : (s : State) (d : Disk) (r : Begun) → IsKept s d → is_ready Record d.depth s ≡ true → s.log.begun ≡ Some r
-    → (j : ℕ) → j < given_from (unit_count s.log.number r.ops) r.given → IsUnflown d.flights (active_unit s.log.sup + (s.log.tail + j))
-record_unflown s d r kept ready is =
+pub record_untouched : (s : State) (d : Disk) (r : Begun) → IsKept s d → is_ready Record d.depth s ≡ true → s.log.begun ≡ Some r
+    → (j : ℕ) → j < given_from (unit_count s.log.number r.ops) r.given → IsUntouched d.flights (active_unit s.log.sup + (s.log.tail + j))
+record_untouched s d r kept ready is =
     let up : IsKeptUp s d = kept.up (ready_not_down s d.depth Record refl ready) in
-    rest_unflown d.flights s.log r
+    rest_untouched d.flights s.log r
     (λ none. drained_device s d kept.always (record_idle s r (known_record s d r kept ready is) none))
-    (subst (λ (o : Option Begun). IfSome o (IsRestUnflown d.flights s.log)) is up.unflown.rest)
+    (subst (λ (o : Option Begun). IfSome o (IsRestUnflown d.flights s.log)) is up.untouched.rest)
 
-pub next_piece_unflown : (s : State) (d : Disk) (r : Begun) → IsKept s d → is_ready Record d.depth s ≡ true → s.log.begun ≡ Some r
+pub next_piece_untouched : (s : State) (d : Disk) (r : Begun) → IsKept s d → is_ready Record d.depth s ≡ true → s.log.begun ≡ Some r
     → IsNotInFlight d (piece_unit s.log r) (length (piece_bytes s.log.number r))
-next_piece_unflown s d r kept ready is =
+next_piece_untouched s d r kept ready is =
     let units : ℕ = unit_count s.log.number r.ops in
     let first : ℕ = piece_first units r.given in
     let lying : LiesInRecord units r.given = piece_lies s d r kept ready is in
     subst (λ (size : ℕ). IsNotInFlight d (piece_unit s.log r) size) (sym (piece_size s d r kept ready is))
-    (run_unflown d.flights (piece_unit s.log r) (piece_units units r.given) lying.some
+    (run_untouched d.flights (piece_unit s.log r) (piece_units units r.given) lying.some
     (λ k from to.
     let place = in_record k (active_unit s.log.sup) s.log.tail first (piece_units units r.given) (given_from units r.given) lying.ends from to in
-    subst (λ (u : ℕ). IsUnflown d.flights u) (sym place.1.0) (record_unflown s d r kept ready is place.0 place.1.1)))
+    subst (λ (u : ℕ). IsUntouched d.flights u) (sym place.1.0) (record_untouched s d r kept ready is place.0 place.1.1)))
   where
     in_record : (k active tail first count end : ℕ) → first + count ≡ end → active + tail + first ≤ k → k < active + tail + first + count
         → (j : ℕ) × ((k ≡ active + (tail + j)) × (j < end))

@@ -5,10 +5,10 @@ use Rattle.std.specs.Int.{w32, to_le_bytes}
 use Rattle.std.proofs.lemmas.Bool.{cases_lt}
 use Rattle.crc32c_csum.specs.Crc32c.{crc32c}
 use Rattle.block_device.specs.Disk.{Flight}
-use Rattle.block_device.specs.Facts.{IsUnflown}
+use Rattle.block_device.specs.Facts.{IsUntouched}
 use Rattle.meta_rows.specs.declared.row_op.RowOp.{RowOp}
 use Rattle.meta_rows.specs.Spelling.{ops_bytes, AllFit}
-use Rattle.meta_log.specs.Records.{head_bytes, record_bytes, unit_count}
+use Rattle.meta_log.specs.Records.{record_head, record_bytes, unit_count}
 use Rattle.meta_log.specs.Pieces.{piece_count, given_from}
 use Rattle.meta_log.specs.Slots.{active_unit}
 use Rattle.store_steps.specs.declared.context.Context.{Context}
@@ -34,7 +34,7 @@ pieces_needed x fits number = ap piece_count (units_needed x fits number)
 -- ---- units and pieces of any record
 
 pub length-record : (number : ℕ) (ops : List RowOp) → length (record_bytes number ops) ≡ 24 + length (ops_bytes ops)
-length-record number ops = length-append (head_bytes number ops ++ to_le_bytes w32 (crc32c (head_bytes number ops ++ ops_bytes ops))) (ops_bytes ops)
+length-record number ops = length-append (record_head number ops ++ to_le_bytes w32 (crc32c (record_head number ops ++ ops_bytes ops))) (ops_bytes ops)
 
 -- whatever its number is it takes as many units
 pub same_units : (a b : ℕ) (ops : List RowOp) → unit_count a ops ≡ unit_count b ops
@@ -57,11 +57,11 @@ short_body number ops most = omega (arith, length-record number ops, most)
 -- ---- what isn't given of it is not in flight
 
 -- also where nothing of it is given, since nothing is in flight then
-pub rest_unflown : (flights : List Flight) (m : Meta) (r : Begun) → (r.given ≡ 0 → flights ≡ []) → IsRestUnflown flights m r
-    → (j : ℕ) → j < given_from (unit_count m.number r.ops) r.given → IsUnflown flights (active_unit m.sup + (m.tail + j))
-rest_unflown flights m r none rest j below = elim (cases_lt 0 r.given) [
+pub rest_untouched : (flights : List Flight) (m : Meta) (r : Begun) → (r.given ≡ 0 → flights ≡ []) → IsRestUnflown flights m r
+    → (j : ℕ) → j < given_from (unit_count m.number r.ops) r.given → IsUntouched flights (active_unit m.sup + (m.tail + j))
+rest_untouched flights m r none rest j below = elim (cases_lt 0 r.given) [
   | inl some ↦ rest some j below
-  | inr zero_given ↦ subst (λ (fs : List Flight). IsUnflown fs (active_unit m.sup + (m.tail + j))) (sym (none (omega (arith, zero_given))))
+  | inr zero_given ↦ subst (λ (fs : List Flight). IsUntouched fs (active_unit m.sup + (m.tail + j))) (sym (none (omega (arith, zero_given))))
       (λ i f lt. absurd (omega (arith, lt)))
 ]
 

@@ -110,8 +110,8 @@ Holds number (synced x pieces) = IsRecorded number x pieces
 abbrev pub at : State → Stage → State
 at s g = record s { log = record s.log { begun = begun_of g }; pending = pending_of g; batch = batch_of g; flying = flying_at g }
 
-abbrev pub IsFar : State → Type 0
-IsFar s = IsOneAtATime s.log.number s.pending s.batch s.log.begun s.flying
+abbrev pub IsAtStage : State → Type 0
+IsAtStage s = IsOneAtATime s.log.number s.pending s.batch s.log.begun s.flying
 
 -- ---- a stage is kept
 
@@ -214,7 +214,7 @@ by_parts number P every (x ∷ y ∷ ys) None begun flying h = absurd h
 by_parts number P every (x ∷ y ∷ ys) (Some b) begun flying h = absurd h
 
 -- what holds at each stage holds of each state that is kept
-pub by_stage : (P : State → Type 0) (s : State) → ((g : Stage) → Holds s.log.number g → P (at s g)) → IsFar s → P s
+pub by_stage : (P : State → Type 0) (s : State) → ((g : Stage) → Holds s.log.number g → P (at s g)) → IsAtStage s → P s
 by_stage P s every far = by_parts s.log.number
     (λ pending batch begun flying. P (record s { log = record s.log { begun = begun }; pending = pending; batch = batch; flying = flying }))
     every s.pending s.batch s.log.begun s.flying far

@@ -5,7 +5,7 @@ use Rattle.std.proofs.lemmas.Bool.{eq-eqb}
 use Rattle.std.proofs.lemmas.Option.{same_Some}
 use Rattle.unit_fields.specs.UnitSet.{Ascends}
 use Rattle.block_device.specs.Disk.{Disk, Flight, flight_of, without, IsSound, Submitted}
-use Rattle.block_device.specs.Facts.{IsUnflown}
+use Rattle.block_device.specs.Facts.{IsUntouched}
 use Rattle.block_device.specs.declared.device.Ticket.{Ticket}
 use Rattle.block_device.specs.declared.event.Event.{Event}
 use Rattle.block_device.specs.declared.event.Event.TheVariants as event
@@ -26,15 +26,15 @@ use Rattle.store_steps.specs.Contexts.{given_more, done_more, sum_needs, with_co
 use Rattle.store_steps.specs.Changes.{sent, data_sent, flush_sent, record_sent, sync_sent, after_done, sealed}
 use Rattle.store_steps.specs.Ready.{is_ready_up, is_empty}
 use Rattle.store_steps.specs.Steps.{DoesData, Takes, DoesFlush, DoesSeal, DoesRecord, DoesSync, piece_unit, piece_bytes}
-use Rattle.store_facts.specs.Flights.{AreFlights, IsWaiting, IsDataOf, units_of, flying_units, IsUnsentUnflown, IsRestUnflown, IsNextUnflown}
+use Rattle.store_facts.specs.Flights.{AreFlights, IsWaiting, IsDataOf, units_of, flying_units, IsUnsentUnflown, IsRestUnflown, IsNextUntouched}
 use Rattle.store_facts.specs.Room.{FitsRecord, HasRoomFor}
 use Rattle.store_facts.specs.Space.{uncommitted}
 use Rattle.store_facts.specs.Work.{entry_work, work_left}
 use Rattle.store_facts.specs.Kept.{IsAlwaysKept}
-use Rattle.store_facts.proofs.Stages.{Stage, waits, opens, flushes, flushed, writes, syncs, synced, pending_of, batch_of, flying_at, one_flight, record_with, record_at, pieces_at, Holds, at, IsFar, far_at, by_stage}
-use Rattle.store_facts.proofs.Pieces.{pieces_needed, given_fits, done_fits, rest_unflown, all_given, none_given}
+use Rattle.store_facts.proofs.Stages.{Stage, waits, opens, flushes, flushed, writes, syncs, synced, pending_of, batch_of, flying_at, one_flight, record_with, record_at, pieces_at, Holds, at, IsAtStage, far_at, by_stage}
+use Rattle.store_facts.proofs.Pieces.{pieces_needed, given_fits, done_fits, rest_untouched, all_given, none_given}
 use Rattle.store_facts.proofs.RunUnits.{IsRunOf, row_bytes, row_behind, ascend_drop, all_drop, all_front, all_behind, all_both}
-use Rattle.store_facts.proofs.Unflown.{all_then, sent_unflown, apart_before, apart_behind, left_unsent, left_rest}
+use Rattle.store_facts.proofs.Unflown.{all_then, sent_untouched, apart_before, apart_behind, left_unsent, left_rest}
 use Rattle.store_facts.proofs.Readiness.{contexts_of, no_flying, next_write, ready_flush, ready_record, ready_sync}
 use Rattle.store_facts.proofs.Flying.{idle_device, sent_flights, sent_flight, sent_units, others_of, found_holds, others_hold, Landed, landed_flight, reaped_good}
 use Rattle.store_facts.proofs.Working.{stage_work, batched, unacked, work_at}
@@ -42,16 +42,16 @@ use Rattle.store_facts.proofs.Working.{stage_work, batched, unacked, work_at}
 -- what is kept of a kernel that isn't down, but for the rows
 pub record IsStanding (s : State) (d : Disk) : Type 0 where
   pub up : s.down ≡ None
-  pub far : IsFar s
-  pub unflown : IsNextUnflown s.log s.pending d.flights
+  pub far : IsAtStage s
+  pub untouched : IsNextUntouched s.log s.pending d.flights
   pub room : HasRoomFor s.log (uncommitted s)
 
 -- what a step leaves, of the facts that rows have no part in
 pub record Stepped (s s' : State) (d' : Disk) : Type 0 where
   pub always : IsAlwaysKept s' d'
   pub up : s'.down ≡ s.down
-  pub far : IsFar s'
-  pub unflown : IsNextUnflown s'.log s'.pending d'.flights
+  pub far : IsAtStage s'
+  pub untouched : IsNextUntouched s'.log s'.pending d'.flights
   pub room : HasRoomFor s'.log (uncommitted s')
   pub falls : work_left s' < work_left s
 
@@ -75,7 +75,7 @@ pub record IsAt (s : State) (d : Disk) (g : Stage) : Type 0 where
   pub holds : Holds s.log.number g
   pub always : IsAlwaysKept (at s g) d
   pub up : s.down ≡ None
-  pub unflown : IsNextUnflown (at s g).log (pending_of g) d.flights
+  pub untouched : IsNextUntouched (at s g).log (pending_of g) d.flights
   pub room : HasRoomFor (at s g).log (contexts_of g)
 
 -- what a step does at the device, as far as this matters
@@ -83,7 +83,7 @@ record IsMoved (d d' : Disk) (g' : Stage) (m : Meta) : Type 0 where
   sound : IsSound d'
   units : d'.units ≡ d.units
   flights : AreFlights (flying_at g') d'.flights
-  unflown : IsNextUnflown m (pending_of g') d'.flights
+  untouched : IsNextUntouched m (pending_of g') d'.flights
 
 moved : (s : State) (d d' : Disk) (g g' : Stage) (e : ℕ) → IsAt s d g → Holds s.log.number g' → IsLike g g' → IsMoved d d' g' (at s g').log
     → stage_work g' < stage_work g → e ≤ s.events + 1 → Stepped (at s g) (record (at s g') { events = e }) d'
@@ -111,7 +111,7 @@ moved s d d' g g' e was h' like does less more =
       };
       up = refl;
       far = far_at s.log.number g' h';
-      unflown = record { unsent = does.unflown.unsent; rest = does.unflown.rest };
+      untouched = record { unsent = does.untouched.unsent; rest = does.untouched.rest };
       room = record { fits = fits; reserved = (was.room).reserved ∙ sym like.needs; room = (was.room).room };
       falls = falls;
     }
@@ -123,9 +123,9 @@ AtStage does s d s' d' g = IsAt s d g → does (at s g) → Stepped (at s g) s' 
 pub by_stages : (does : State → Type 0) (s : State) (d : Disk) (s' : State) (d' : Disk) → ((g : Stage) → AtStage does s d s' d' g)
     → IsAlwaysKept s d → IsStanding s d → does s → Stepped s s' d'
 by_stages does s d s' d' every a standing what =
-    by_stage (λ t. IsAlwaysKept t d → IsNextUnflown t.log t.pending d.flights → HasRoomFor t.log (uncommitted t) → does t → Stepped t s' d') s
-    (λ g h kept unflown room. every g (record { holds = h; always = kept; up = standing.up; unflown = unflown; room = room }))
-    standing.far a standing.unflown standing.room what
+    by_stage (λ t. IsAlwaysKept t d → IsNextUntouched t.log t.pending d.flights → HasRoomFor t.log (uncommitted t) → does t → Stepped t s' d') s
+    (λ g h kept untouched room. every g (record { holds = h; always = kept; up = standing.up; untouched = untouched; room = room }))
+    standing.far a standing.untouched standing.room what
 
 same_place : (x : Context) (change : Context → Context) → with_context x.place change (x ∷ []) ≡ change x ∷ []
 same_place x change = ap (λ (b : Bool). cond b (change x) x ∷ []) (eq-eqb x.place x.place refl)
@@ -147,7 +147,7 @@ units_push (g ∷ fs) f = omega (arith, units_push fs f)
 pub behind_run : (x : Context) (n : Unsent) (d d' : Disk) (ticket : Ticket) → FitsRecord x → IsRunOf x n → IsUnsentUnflown d.flights x
     → d'.flights ≡ d.flights ++ flight_of ticket.place (event.Write n.first.unit (run_bytes (unsent_units n))) ∷ []
     → IsUnsentUnflown d'.flights (given_more (length (unsent_units n)) x)
-behind_run x n d d' ticket fits run unflown are =
+behind_run x n d d' ticket fits run untouched are =
     let units : List FreshUnit = unsent_units n in
     let rest : List FreshUnit = drop (x.given + length units) x.fresh in
     let whole : AllByRecursion (λ (f : FreshUnit). length f.bytes ≡ 4096) (units ++ rest) =
@@ -155,13 +155,13 @@ behind_run x n d d' ticket fits run unflown are =
     let size : length (run_bytes units) ≡ 4096 * length units = row_bytes units (all_front _ units rest whole) in
     let ascend : Ascends (map (λ (f : FreshUnit). f.unit) (units ++ rest)) =
     subst (λ (fs : List FreshUnit). Ascends (map (λ (f : FreshUnit). f.unit) fs)) run.left (ascend_drop x.given x.fresh fits.ascend) in
-    let before : AllByRecursion (λ (f : FreshUnit). IsUnflown d.flights f.unit) rest =
-    all_behind (λ (f : FreshUnit). IsUnflown d.flights f.unit) units rest
-    (subst (λ (fs : List FreshUnit). AllByRecursion (λ (f : FreshUnit). IsUnflown d.flights f.unit) fs) run.left unflown) in
-    subst (λ (fs : List Flight). AllByRecursion (λ (f : FreshUnit). IsUnflown fs f.unit) rest) (sym are)
-    (all_both (λ (f : FreshUnit). IsUnflown d.flights f.unit) (λ (f : FreshUnit). n.first.unit + length units ≤ f.unit)
-    (λ (f : FreshUnit). IsUnflown (d.flights ++ flight_of ticket.place (event.Write n.first.unit (run_bytes units)) ∷ []) f.unit)
-    (λ f free past. sent_unflown d.flights (flight_of ticket.place (event.Write n.first.unit (run_bytes units))) f.unit free
+    let before : AllByRecursion (λ (f : FreshUnit). IsUntouched d.flights f.unit) rest =
+    all_behind (λ (f : FreshUnit). IsUntouched d.flights f.unit) units rest
+    (subst (λ (fs : List FreshUnit). AllByRecursion (λ (f : FreshUnit). IsUntouched d.flights f.unit) fs) run.left untouched) in
+    subst (λ (fs : List Flight). AllByRecursion (λ (f : FreshUnit). IsUntouched fs f.unit) rest) (sym are)
+    (all_both (λ (f : FreshUnit). IsUntouched d.flights f.unit) (λ (f : FreshUnit). n.first.unit + length units ≤ f.unit)
+    (λ (f : FreshUnit). IsUntouched (d.flights ++ flight_of ticket.place (event.Write n.first.unit (run_bytes units)) ∷ []) f.unit)
+    (λ f free past. sent_untouched d.flights (flight_of ticket.place (event.Write n.first.unit (run_bytes units))) f.unit free
     (apart_behind ticket.place n.first.unit (length units) f.unit (run_bytes units) size past)) rest before
     (row_behind n.first.unit units rest run.row (least n.first (n.more ++ rest) ascend) ascend))
   where
@@ -195,8 +195,8 @@ data_waits s d s' d' sound x flying n run ticket submitted is was =
       sound = sound;
       units = sent_units d d' ticket.place e submitted;
       flights = sent_flight flying d d' ticket (job.Data x.place count) e was.always.flights submitted;
-      unflown = record {
-        unsent = (behind_run x n d d' ticket was.room.fits.0 run was.unflown.unsent.0 (sent_flights d d' ticket.place e submitted), tt);
+      untouched = record {
+        unsent = (behind_run x n d d' ticket was.room.fits.0 run was.untouched.unsent.0 (sent_flights d d' ticket.place e submitted), tt);
         rest = tt;
       };
     })
@@ -241,7 +241,7 @@ flush_opens s d s' d' sound x made was does =
       sound = sound;
       units = sent_units d d' does.ticket.place event.Flush does.submitted;
       flights = sent_flight [] d d' does.ticket job.DataFlush event.Flush was.always.flights does.submitted;
-      unflown = record { unsent = tt; rest = unmade_rest (at s g').log x made d'.flights };
+      untouched = record { unsent = tt; rest = unmade_rest (at s g').log x made d'.flights };
     }) (less made) (omega arith))
   where
     less : (made : Bool) → stage_work (flushes x made does.ticket) < stage_work (opens x made)
@@ -264,15 +264,15 @@ seal_is : (b c : Batch) (t : State) → Some b ≡ Some c → sealed c t ≡ sea
 seal_is b c t same = ap (λ (e : Batch). sealed e t) (sym (same_Some b c same))
 
 seal_to : (s : State) (d : Disk) (s' : State) (g g' : Stage) → IsAt s d g → Holds s.log.number g' → IsLike g g'
-    → s' ≡ at s g' → AreFlights (flying_at g') d.flights → IsNextUnflown (at s g').log (pending_of g') d.flights → stage_work g' < stage_work g
+    → s' ≡ at s g' → AreFlights (flying_at g') d.flights → IsNextUntouched (at s g').log (pending_of g') d.flights → stage_work g' < stage_work g
     → Stepped (at s g) s' d
-seal_to s d s' g g' was h' like after flights unflown less =
+seal_to s d s' g g' was h' like after flights untouched less =
     subst (λ (z : State). Stepped (at s g) z d) (sym after)
-    (moved s d d g g' s.events was h' like (record { sound = was.always.device; units = refl; flights = flights; unflown = unflown })
+    (moved s d d g g' s.events was h' like (record { sound = was.always.device; units = refl; flights = flights; untouched = untouched })
     less (omega arith))
 
 -- nothing of it was given
-sealed_rest : (m : Meta) (x : Context) (flights : List Flight) → m.begun ≡ Some (record_with x 0 0) → IsNextUnflown m [] flights
+sealed_rest : (m : Meta) (x : Context) (flights : List Flight) → m.begun ≡ Some (record_with x 0 0) → IsNextUntouched m [] flights
 sealed_rest m x flights is = record {
   unsent = tt;
   rest = subst (λ (o : Option Begun). IfSome o (IsRestUnflown flights m)) (sym is) (none_given flights m (record_with x 0 0) refl);
@@ -316,9 +316,9 @@ before_piece m r d d' ticket more none rest are some j below =
     let first : j < piece_first units r.given = subst (λ (k : ℕ). j < k) (sym lying.begins) below in
     let within : j < given_from units r.given =
     inside j (piece_first units r.given) (piece_units units r.given) (given_from units r.given) first lying.ends in
-    subst (λ (fs : List Flight). IsUnflown fs (active_unit m.sup + (m.tail + j))) (sym are)
-    (sent_unflown d.flights (flight_of ticket.place (event.Write (piece_unit m r) (piece_bytes m.number r))) (active_unit m.sup + (m.tail + j))
-    (rest_unflown d.flights m r none rest j within)
+    subst (λ (fs : List Flight). IsUntouched fs (active_unit m.sup + (m.tail + j))) (sym are)
+    (sent_untouched d.flights (flight_of ticket.place (event.Write (piece_unit m r) (piece_bytes m.number r))) (active_unit m.sup + (m.tail + j))
+    (rest_untouched d.flights m r none rest j within)
     (apart_before ticket.place (piece_unit m r) (active_unit m.sup + (m.tail + j)) (piece_bytes m.number r)
     (ahead (active_unit m.sup) m.tail j (piece_first units r.given) first)))
   where
@@ -354,12 +354,12 @@ record_writes s d s' d' sound x given written flying more was does =
       sound = sound;
       units = sent_units d d' does.ticket.place e submitted;
       flights = sent_flight flying d d' does.ticket job.Record e was.always.flights submitted;
-      unflown = record {
+      untouched = record {
         unsent = tt;
         rest = before_piece t.log r d d' does.ticket more
             (λ zero_given. idle_device flying d.flights was.always.flights
             (no_flying flying (none_fly written (length flying) given was.holds.counted zero_given)))
-            was.unflown.rest (sent_flights d d' does.ticket.place e submitted);
+            was.untouched.rest (sent_flights d d' does.ticket.place e submitted);
       };
     })
     (less (length flying) _ (pieces_at s.log.number x) (piece_count x.need) given (length_push flying f)
@@ -407,7 +407,7 @@ sync_written s d s' d' sound x pieces all was does =
       sound = sound;
       units = sent_units d d' does.ticket.place event.Flush does.submitted;
       flights = sent_flight [] d d' does.ticket job.RecordFlush event.Flush was.always.flights does.submitted;
-      unflown = record { unsent = tt; rest = all_given d'.flights t.log (record_with x pieces pieces) all };
+      untouched = record { unsent = tt; rest = all_given d'.flights t.log (record_with x pieces pieces) all };
     }) (omega arith) (omega arith))
 
 pub sync_steps : (s : State) (d : Disk) (s' : State) (d' : Disk) (depth : ℕ) → IsSound d' → IsAlwaysKept s d → IsStanding s d
@@ -429,16 +429,16 @@ ended_with s ticket j = let t : State = record s { flying = others_of ticket s.f
 -- the end of what flies at a stage leads to another stage
 reap_to : (s : State) (d : Disk) (s' : State) (d' : Disk) (g g' : Stage) → IsSound d' → IsAt s d g → (ended : Takes (at s g) d true s' d')
     → (land : Landed (flying_at g) ended.ticket d d') → Holds s.log.number g' → IsLike g g' → flying_at g' ≡ others_of ended.ticket (flying_at g)
-    → IsNextUnflown (at s g').log (pending_of g') (without ended.ticket.place d.flights)
+    → IsNextUntouched (at s g').log (pending_of g') (without ended.ticket.place d.flights)
     → stage_work g' < stage_work g → ended_with (at s g) ended.ticket land.flight.job ≡ record (at s g') { events = s.events + 1 }
     → Stepped (at s g) s' d'
-reap_to s d s' d' g g' sound was ended land h' like left unflown less becomes =
+reap_to s d s' d' g g' sound was ended land h' like left untouched less becomes =
     subst (λ (z : State). Stepped (at s g) z d') (sym (ended.after ∙ reaped_good (at s g) ended.ticket land.flight was.up land.found ∙ becomes))
     (moved s d d' g g' (s.events + 1) was h' like (record {
       sound = sound;
       units = land.units;
       flights = subst (λ (fs : List Flying). AreFlights fs d'.flights) (sym left) land.flights;
-      unflown = subst (λ (fs : List Flight). IsNextUnflown (at s g').log (pending_of g') fs) (sym land.are_left) unflown;
+      untouched = subst (λ (fs : List Flight). IsNextUntouched (at s g').log (pending_of g') fs) (sym land.are_left) untouched;
     }) less (omega arith))
 
 one_fewer : (n m : ℕ) → n + 1 ≡ m → m ≡ 1 → n ≡ 0
@@ -479,7 +479,7 @@ reap_waits s d s' d' sound x flying was ended = of_job land.flight.job refl own
         } in
         reap_to s d s' d' (waits x flying) g' sound was ended land h
         (record { fits = λ fits. (done_fits count x fits.0, tt); needs = refl; waiting = refl; in_batch = refl }) refl
-        (record { unsent = (left_unsent d.flights ticket.place x was.unflown.unsent.0, tt); rest = tt })
+        (record { unsent = (left_unsent d.flights ticket.place x was.untouched.unsent.0, tt); rest = tt })
         (less (length (others_of ticket flying)) (length flying) (2 * (length x.fresh - x.given)) land.fewer)
         (ap (λ (k : Job). ended_with t ticket k) is ∙ ap (λ (place : ℕ). ended_with t ticket (job.Data place count)) own.0
         ∙ ap (λ (xs : List Context). record (at s g') { pending = xs; events = s.events + 1 }) (same_place x (done_more count)))
@@ -505,7 +505,7 @@ reap_writes s d s' d' sound x given written flying was ended =
     } in
     reap_to s d s' d' (writes x given written flying) g' sound was ended land h
     (record { fits = λ fits. fits; needs = refl; waiting = refl; in_batch = refl }) refl
-    (record { unsent = tt; rest = left_rest d.flights ticket.place t.log (record_with x given written) was.unflown.rest })
+    (record { unsent = tt; rest = left_rest d.flights ticket.place t.log (record_with x given written) was.untouched.rest })
     (less (length (others_of ticket flying)) (length flying) (2 * (piece_count x.need - given)) land.fewer)
     (ap (λ (k : Job). ended_with t ticket k) own)
   where
@@ -518,10 +518,10 @@ reap_writes s d s' d' sound x given written flying was ended =
 -- a flush
 reap_flush : (s : State) (d : Disk) (s' : State) (d' : Disk) → IsSound d' → (g g' : Stage) (flushing : Job) (f : Ticket) → IsAt s d g
     → Takes (at s g) d true s' d' → flying_at g ≡ one_flight f flushing → Holds s.log.number g' → IsLike g g' → flying_at g' ≡ []
-    → ((flights : List Flight) → IsNextUnflown (at s g').log (pending_of g') flights) → stage_work g' < stage_work g
+    → ((flights : List Flight) → IsNextUntouched (at s g').log (pending_of g') flights) → stage_work g' < stage_work g
     → (let t : State = record (at s g) { flying = []; events = s.events + 1 } in after_done flushing t ≡ record (at s g') { events = s.events + 1 })
     → Stepped (at s g) s' d'
-reap_flush s d s' d' sound g g' flushing f was ended flies h' like none unflown less becomes =
+reap_flush s d s' d' sound g g' flushing f was ended flies h' like none untouched less becomes =
     let ticket : Ticket = ended.ticket in
     let land : Landed (flying_at g) ticket d d' = landed_flight d d' ticket true (flying_at g) was.always.flights ended.ended in
     let own : land.flight.job ≡ flushing = found_holds ticket (λ (k : Flying). k.job ≡ flushing) (flying_at g) land.flight
@@ -529,7 +529,7 @@ reap_flush s d s' d' sound g g' flushing f was ended flies h' like none unflown 
     let left : others_of ticket (flying_at g) ≡ [] =
     no_flying _ (one_fewer (length (others_of ticket (flying_at g))) (length (flying_at g)) land.fewer
     (ap (λ (fs : List Flying). length fs) flies)) in
-    reap_to s d s' d' g g' sound was ended land h' like (none ∙ sym left) (unflown (without ticket.place d.flights)) less
+    reap_to s d s' d' g g' sound was ended land h' like (none ∙ sym left) (untouched (without ticket.place d.flights)) less
     (ap (λ (k : Job). ended_with (at s g) ticket k) own
     ∙ ap (λ (fs : List Flying). let t : State = record (at s g) { flying = fs; events = s.events + 1 } in after_done flushing t) left ∙ becomes)
 

@@ -3,7 +3,7 @@
 use Rattle.std.proofs.Common.{◌≡◌, ℕ, ◌+◌, ◌-◌, ◌*◌, ◌^◌, ◌<◌, ◌≤◌, true, false, List, [], ◌∷◌, ◌++◌, length, map, None, refl, sym, ap, subst, ◌∙◌, arith, length-append}
 use Rattle.std.specs.List.{AllByRecursion}
 use Rattle.block_device.specs.Disk.{Disk, Flight, IsSound}
-use Rattle.block_device.specs.Facts.{IsUnflown}
+use Rattle.block_device.specs.Facts.{IsUntouched}
 use Rattle.object_model.specs.Effect.{Change}
 use Rattle.object_model.specs.declared.command.Command.{Command}
 use Rattle.object_model.specs.declared.command.Command.TheVariants as ask
@@ -26,7 +26,7 @@ use Rattle.store_facts.specs.Room.{FitsRecord, HasRoomFor}
 use Rattle.store_facts.specs.Space.{uncommitted}
 use Rattle.store_facts.specs.Work.{entry_work, work_left}
 use Rattle.store_facts.specs.Kept.{IsAlwaysKept, IsOpenable}
-use Rattle.store_facts.proofs.Stages.{Stage, idle, waits, Holds, at, IsFar, far_at, by_stage}
+use Rattle.store_facts.proofs.Stages.{Stage, idle, waits, Holds, at, IsAtStage, far_at, by_stage}
 use Rattle.store_facts.proofs.Readiness.{none_ready, ready_up, drained_idle}
 use Rattle.store_facts.proofs.Flying.{idle_device}
 use Rattle.store_facts.proofs.Working.{stage_work, unacked, work_at}
@@ -42,7 +42,7 @@ pub record Admitted (s s' : State) (d : Disk) : Type 0 where
 -- ---- a drained kernel
 
 -- nothing is under way
-pub drained_stage : (P : State → Type 0) (s : State) (d : Disk) → IsFar s → IsAlwaysKept s d → s.down ≡ None → is_drained d.depth s ≡ true
+pub drained_stage : (P : State → Type 0) (s : State) (d : Disk) → IsAtStage s → IsAlwaysKept s d → s.down ≡ None → is_drained d.depth s ≡ true
     → P (at s idle) → P s
 drained_stage P s d far a up drained here =
     by_stage (λ t. ((step : Step) → is_ready_up step d.depth t ≡ false) → P t) s every far
@@ -57,7 +57,7 @@ drained_stage P s d far a up drained here =
 none_flown : (flights : List Flight) (x : Context) → flights ≡ [] → IsUnsentUnflown flights x
 none_flown flights x none = subst (λ (fs : List Flight). IsUnsentUnflown fs x) (sym none) (each _)
   where
-    each : (fs : List FreshUnit) → AllByRecursion (λ (f : FreshUnit). IsUnflown [] f.unit) fs
+    each : (fs : List FreshUnit) → AllByRecursion (λ (f : FreshUnit). IsUntouched [] f.unit) fs
     each [] = tt
     each (f ∷ fs) = (λ i g below. absurd (omega (arith, below)), each fs)
 
@@ -98,7 +98,7 @@ accepted_idle s d client line change plan record_fits few up fits below a room =
       standing = record {
         up = up;
         far = far_at s.log.number (waits x []) h;
-        unflown = record { unsent = (none_flown d.flights x (idle_device [] d.flights a.flights refl), tt); rest = tt };
+        untouched = record { unsent = (none_flown d.flights x (idle_device [] d.flights a.flights refl), tt); rest = tt };
         room = record {
           fits = (record_fits, tt);
           reserved = needed s.log.reserved (need_of t.log plan) room.reserved;
@@ -169,7 +169,7 @@ entered_keeps s d client line command a kept standing below =
       standing = record {
         up = standing.up;
         far = standing.far;
-        unflown = record { unsent = standing.unflown.unsent; rest = standing.unflown.rest };
+        untouched = record { unsent = standing.untouched.unsent; rest = standing.untouched.rest };
         room = record { fits = standing.room.fits; reserved = standing.room.reserved; room = standing.room.room };
       };
       more = most (work_left s);
@@ -209,7 +209,7 @@ opened_keeps f space events d sound none few is = record {
   standing = record {
     up = refl;
     far = (refl, refl);
-    unflown = record { unsent = tt; rest = tt };
+    untouched = record { unsent = tt; rest = tt };
     room = record { fits = tt; reserved = refl; room = omega (arith, is.tail) };
   };
 }

@@ -4,7 +4,7 @@ use Rattle.std.specs.List.{AllByRecursion}
 use Rattle.std.proofs.lemmas.Bool.{cases_lt}
 use Rattle.std.proofs.lemmas.List.Elements.{All-append, All-cons, All-nil}
 use Rattle.block_device.specs.Disk.{Flight, flight_of, without, IsApart}
-use Rattle.block_device.specs.Facts.{IsUnflown}
+use Rattle.block_device.specs.Facts.{IsUntouched}
 use Rattle.block_device.specs.declared.event.Event.TheVariants as event
 use Rattle.block_device.proofs.FlightLemmas.{all_without}
 use Rattle.store_steps.specs.declared.context.Context.{Context}
@@ -40,13 +40,13 @@ run_apart u n f some each = elim (cases_lt f.first u) [
     of_inside (inr (inl before)) = inl (omega (arith, before))
     of_inside (inr (inr behind)) = absurd (omega (arith, behind))
 
-pub run_unflown : (flights : List Flight) (u n : ℕ) → 0 < n → ((k : ℕ) → u ≤ k → k < u + n → IsUnflown flights k) → All (IsApart u (4096 * n)) flights
-run_unflown flights u n some each = λ i f below. run_apart u n (get_or flights i f) some (λ k from to. each k from to i f below)
+pub run_untouched : (flights : List Flight) (u n : ℕ) → 0 < n → ((k : ℕ) → u ≤ k → k < u + n → IsUntouched flights k) → All (IsApart u (4096 * n)) flights
+run_untouched flights u n some each = λ i f below. run_apart u n (get_or flights i f) some (λ k from to. each k from to i f below)
 
 -- ---- one more flight
 
-pub sent_unflown : (flights : List Flight) (f : Flight) (k : ℕ) → IsUnflown flights k → IsApart k 4096 f → IsUnflown (flights ++ f ∷ []) k
-sent_unflown flights f k all apart =
+pub sent_untouched : (flights : List Flight) (f : Flight) (k : ℕ) → IsUntouched flights k → IsApart k 4096 f → IsUntouched (flights ++ f ∷ []) k
+sent_untouched flights f k all apart =
     All-append (IsApart k 4096) flights (f ∷ []) all (All-cons (IsApart k 4096) f [] apart (All-nil (IsApart k 4096)))
 
 pub apart_before : (ticket u k : ℕ) (bytes : List ℕ) → k < u → IsApart k 4096 (flight_of ticket (event.Write u bytes))
@@ -57,13 +57,13 @@ apart_behind ticket u n k bytes size past = inr (inl (omega (arith, size, past))
 
 -- ---- what is left of the flights
 
-pub left_unflown : (flights : List Flight) (ticket k : ℕ) → IsUnflown flights k → IsUnflown (without ticket flights) k
-left_unflown flights ticket k all = all_without (IsApart k 4096) ticket flights all
+pub left_untouched : (flights : List Flight) (ticket k : ℕ) → IsUntouched flights k → IsUntouched (without ticket flights) k
+left_untouched flights ticket k all = all_without (IsApart k 4096) ticket flights all
 
 pub left_unsent : (flights : List Flight) (ticket : ℕ) (x : Context) → IsUnsentUnflown flights x → IsUnsentUnflown (without ticket flights) x
 left_unsent flights ticket x all =
-    all_then (λ (f : FreshUnit). IsUnflown flights f.unit) (λ (f : FreshUnit). IsUnflown (without ticket flights) f.unit)
-    (λ f. left_unflown flights ticket f.unit) _ all
+    all_then (λ (f : FreshUnit). IsUntouched flights f.unit) (λ (f : FreshUnit). IsUntouched (without ticket flights) f.unit)
+    (λ f. left_untouched flights ticket f.unit) _ all
 
 pub left_rest : (flights : List Flight) (ticket : ℕ) (m : Meta) (r : Begun) → IsRestUnflown flights m r → IsRestUnflown (without ticket flights) m r
-left_rest flights ticket m r rest some j below = left_unflown flights ticket _ (rest some j below)
+left_rest flights ticket m r rest some j below = left_untouched flights ticket _ (rest some j below)

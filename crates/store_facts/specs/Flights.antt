@@ -2,7 +2,7 @@
 use Rattle.std.specs.Prelude.{◌≡◌, ℕ, ◌+◌, ◌<◌, ◌≤◌, List, [], ◌∷◌, length, map, drop, Option, Some, None, IfSome}
 use Rattle.std.specs.List.{AllByRecursion}
 use Rattle.block_device.specs.Disk.{Flight}
-use Rattle.block_device.specs.Facts.{IsUnflown}
+use Rattle.block_device.specs.Facts.{IsUntouched}
 use Rattle.meta_rows.specs.declared.row_op.RowOp.{RowOp}
 use Rattle.meta_log.specs.Records.{unit_count}
 use Rattle.meta_log.specs.Slots.{active_unit}
@@ -85,14 +85,14 @@ IsOneAtATime number pending batch begun flying = ⊥
 
 -- no write in flight touches a unit of the context that is still to be given to the device
 abbrev pub IsUnsentUnflown : List Flight → Context → Type 0
-IsUnsentUnflown flights x = AllByRecursion (λ f. IsUnflown flights f.unit) (drop x.given x.fresh)
+IsUnsentUnflown flights x = AllByRecursion (λ f. IsUntouched flights f.unit) (drop x.given x.fresh)
 
 -- nor a unit of a record of which a piece was given that is still to be
 abbrev pub IsRestUnflown : List Flight → Meta → Begun → Type 0
 IsRestUnflown flights m r = 0 < r.given → (j : ℕ) → j < given_from (unit_count m.number r.ops) r.given
-    → IsUnflown flights (active_unit m.sup + (m.tail + j))
+    → IsUntouched flights (active_unit m.sup + (m.tail + j))
 
 -- what is written next isn't in flight
-pub record IsNextUnflown (m : Meta) (pending : List Context) (flights : List Flight) : Type 0 where
+pub record IsNextUntouched (m : Meta) (pending : List Context) (flights : List Flight) : Type 0 where
   pub unsent : AllByRecursion (IsUnsentUnflown flights) pending
   pub rest : IfSome m.begun (IsRestUnflown flights m)

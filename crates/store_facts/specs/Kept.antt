@@ -5,7 +5,7 @@ use Rattle.meta_log.specs.Slots.{IsSuper}
 use Rattle.unit_allocator.specs.Units.{Space}
 use Rattle.store_steps.specs.State.{State}
 use Rattle.store_steps.specs.Opened.{Found}
-use Rattle.store_facts.specs.Flights.{AreFlights, IsOneAtATime, IsNextUnflown}
+use Rattle.store_facts.specs.Flights.{AreFlights, IsOneAtATime, IsNextUntouched}
 use Rattle.store_facts.specs.Space.{uncommitted, rows_with, AreGoodRows, IsSpaceOf, IsFreeExactly, ReleasesExactly}
 use Rattle.store_facts.specs.Room.{HasRoomFor, AreNumbersLow, IsBookKept}
 use Rattle.store_facts.specs.Work.{entry_work, work_left}
@@ -24,7 +24,7 @@ pub record IsAlwaysKept (s : State) (d : Disk) : Type 0 where
 -- what it keeps while it isn't
 pub record IsKeptUp (s : State) (d : Disk) : Type 0 where
   pub far : IsOneAtATime s.log.number s.pending s.batch s.log.begun s.flying
-  pub unflown : IsNextUnflown s.log s.pending d.flights
+  pub untouched : IsNextUntouched s.log s.pending d.flights
   pub view : s.view ≡ rows_with s.log.rows (uncommitted s)
   pub committed : AreGoodRows s.log.sup s.log.rows s.log.rows
   pub good : AreGoodRows s.log.sup s.log.rows s.view

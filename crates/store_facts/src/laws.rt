@@ -74,7 +74,7 @@ pub fn submissions_are_alone()
 {}
 
 /// Several data writes of a transaction may be in flight at once, and several pieces of its record: none touches a unit of another.
-pub fn next_is_unflown()
+pub fn next_is_untouched()
     ensures data { (s : State) (d : Disk) (next : Unsent) → IsKept s d → is_ready Data d.depth s ≡ true → next_unsent s.pending ≡ Some next
         → IsNotInFlight d next.first.unit (length (run_bytes (unsent_units next))) }
     ensures record { (s : State) (d : Disk) (writing : Begun) → IsKept s d → is_ready Record d.depth s ≡ true → s.log.begun ≡ Some writing

@@ -6,7 +6,7 @@ use Rattle.std.specs.FinMap as map
 use Rattle.std.proofs.lemmas.Bool.{ltb-true, leb-true, cases_lt}
 use Rattle.meta_rows.specs.Rows.{Rows}
 use Rattle.meta_log.specs.declared.slot.Super.{Super}
-use Rattle.row_format.specs.Extents.{Extent, page_end, Place, place_in, place_of, Ascend, BeginsAt}
+use Rattle.row_format.specs.Extents.{Extent, page_end, Place, place_in, place_of, ExtentsAscend, BeginsAt}
 use Rattle.row_format.specs.Row.{Row, shard, row_key, row_value}
 use Rattle.row_format.proofs.ExtentReading.{extents-same}
 use Rattle.row_format.proofs.RowLemmas.{same_row}
@@ -49,7 +49,7 @@ not_lower e [] all = tt
 not_lower e (l ∷ es) all = (omega (arith, all.0), not_lower e es all.1)
 
 -- the pages of a shard begin at the page of its key
-page_of_shard : (es : List Extent) (page first : ℕ) (place : Place) → place_of es page ≡ Some place → BeginsAt first es → Ascend es → first ≤ page
+page_of_shard : (es : List Extent) (page first : ℕ) (place : Place) → place_of es page ≡ Some place → BeginsAt first es → ExtentsAscend es → first ≤ page
 page_of_shard [] page first place is begins ascend = absurd begins
 page_of_shard (e ∷ es) page first place is begins ascend = elim (place_cases e es page place is) [
   | inl h ↦ omega (arith, h.0, begins)

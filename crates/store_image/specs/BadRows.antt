@@ -6,7 +6,7 @@ use Rattle.meta_rows.specs.Rows.{Rows}
 use Rattle.meta_log.specs.declared.slot.Super.{Super}
 use Rattle.meta_log.specs.Slots.{data_unit}
 use Rattle.row_format.specs.Keys.{coll_key, onode_key}
-use Rattle.row_format.specs.Extents.{Body, private, Extent, page_end, Ascend}
+use Rattle.row_format.specs.Extents.{Body, private, Extent, page_end, ExtentsAscend}
 use Rattle.row_format.specs.Bits.{bit_row, bit_in}
 use Rattle.row_format.specs.Row.{Row, collection, onode, shard, bitmap, row_key, row_value, FitsRow}
 use Rattle.store_image.specs.Pages.{HasKey, HasRow, pages_of}
@@ -21,7 +21,7 @@ IsOnData s (private unit csums) = (data_unit s ≤ unit) × (unit + length csums
 pub record IsShardInPlace (s : Super) (rows : Rows) (c o : List ℕ) (page : ℕ) (extents : List Extent) : Type 0 where
   pub has_collection : HasKey rows (coll_key c)
   pub has_onode : HasKey rows (onode_key c o)
-  pub ascend : Ascend extents
+  pub ascend : ExtentsAscend extents
   pub behind : (earlier : ℕ) (es : List Extent) → earlier < page → HasRow rows (shard c o earlier es) → AllByRecursion (λ e. page_end e ≤ page) es
   pub within : (size : ℕ) → HasRow rows (onode c o size) → AllByRecursion (λ e. page_end e ≤ pages_of size) extents
   pub on_data : AllByRecursion (λ e. IsOnData s e.body) extents

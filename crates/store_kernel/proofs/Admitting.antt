@@ -25,7 +25,7 @@ use Rattle.store_facts.proofs.Kept.{idle_of}
 use Rattle.store_facts.proofs.RowsKept.{AreRowsKept, rows_of_kept}
 use Rattle.store_facts.proofs.RowsPlans.{units_of, plan_takes_free, planned, PlanFits, plan_fits}
 use Rattle.onode_state.specs.Objects.{AreRowsOfAStore}
-use Rattle.write_planner.specs.PlanFails.{IsPlanFor}
+use Rattle.txn_planner.specs.PlanFails.{IsPlanFor}
 use Rattle.store_kernel.specs.declared.batch.OpenBatch.{OpenBatch}
 use Rattle.store_kernel.specs.declared.prepared.Prepared.{Prepared}
 use Rattle.store_kernel.specs.Prepared.{IsPrepared, context_at}

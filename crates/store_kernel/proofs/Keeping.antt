@@ -8,7 +8,7 @@ use Rattle.store_steps.specs.declared.step.Step.{Step}
 use Rattle.store_steps.specs.State.{State}
 use Rattle.store_steps.specs.Ready.{is_ready}
 use Rattle.store_steps.specs.Submit.{Accepts, Refuses}
-use Rattle.store_steps.specs.Runs.{submitting, reading, stepping, DoesOrFails, MaySubmit, Submits, MayRead, IsAnswered}
+use Rattle.store_steps.specs.Runs.{submitting, reading, stepping, DoesOrFails, MaySubmit, Submits, MayRead, AnswersRead}
 use Rattle.store_facts.proofs.Kept.{kept_step, kept_accept, kept_refuse, kept_answer}
 use Rattle.crash_facts.specs.Store.{KeepsDurable}
 use Rattle.crash_facts.proofs.Keeping.{call_keeps}
@@ -42,7 +42,7 @@ known_refuse s s' d client line change a known may refuses = record {
 
 -- an answer to a read changes nothing but the book
 pub known_answer : (s s' : State) (d : Disk) (client line : ℕ) (command : Command) (a : Answer) → KnownOfKernel s d → MayRead command s d
-    → IsAnswered client line command a s d s' → KnownOfKernel s' d
+    → AnswersRead client line command a s d s' → KnownOfKernel s' d
 known_answer s s' d client line command a known may is = record {
   kept = kept_answer s s' d client line command a known.kept is;
   durable = call_keeps (reading client line command) s s' d d known.kept known.kept.always.device known.durable (may, inl (a, is), refl);

@@ -28,7 +28,7 @@ use Rattle.store_facts.specs.Flights.{IsWaiting, IsOneAtATime}
 use Rattle.store_facts.specs.Room.{FitsRecord}
 use Rattle.store_facts.specs.Kept.{IsKept, IsKeptUp}
 use Rattle.store_facts.proofs.Conditions.{ready_not_down, ready_by_table, ReadySeal}
-use Rattle.store_facts.proofs.Known.{known_data_room, known_record_room, known_seal, next_data_unflown, data_inside, few_units, whole_units, next_piece_unflown}
+use Rattle.store_facts.proofs.Known.{known_data_room, known_record_room, known_seal, next_data_untouched, data_inside, few_units, whole_units, next_piece_untouched}
 use Rattle.store_facts.proofs.Readiness.{unsent_alone}
 use Rattle.store_facts.proofs.RowsFacts.{pending_on_data}
 use Rattle.store_facts.proofs.RunUnits.{run_of_left}
@@ -121,7 +121,7 @@ can_write_data s d w kept ready is =
       inside = there n.first.unit w.unit (length (run_bytes (unsent_units n))) (length w.bytes.items) d.units is.unit same
           (data_inside s d n kept ready is.is_next);
       free = subst (λ (size : ℕ). IsNotInFlight d w.unit size) (sym same)
-          (subst (λ (u : ℕ). IsNotInFlight d u (length (run_bytes (unsent_units n)))) (sym is.unit) (next_data_unflown s d n kept ready is.is_next));
+          (subst (λ (u : ℕ). IsNotInFlight d u (length (run_bytes (unsent_units n)))) (sym is.unit) (next_data_untouched s d n kept ready is.is_next));
     }
   where
     some_bytes : (count size : ℕ) → size ≡ 4096 * count → 0 < count → 0 < size
@@ -270,7 +270,7 @@ pub can_write_record : (s : State) (d : Disk) (m : meta.Meta) (unit : ℕ) (byte
 can_write_record s d m unit bytes kept ready log next lies =
     let piece : IsPieceOf s.log unit bytes = piece_of s.log m unit bytes log next in
     let free : IsNotInFlight d (piece_unit s.log piece.writing) (length (steps.piece_bytes s.log.number piece.writing)) =
-    next_piece_unflown s d piece.writing kept ready piece.begun in
+    next_piece_untouched s d piece.writing kept ready piece.begun in
     record {
       room = known_record_room s d kept ready;
       some = lies.some;

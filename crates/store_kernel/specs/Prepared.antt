@@ -5,7 +5,7 @@ use Rattle.store_steps.specs.declared.context.Context.{Context}
 use Rattle.store_steps.specs.State.{State}
 use Rattle.meta_store.specs.Store.{room_of}
 use Rattle.store_steps.specs.Submit.{need_of}
-use Rattle.write_planner.specs.PlanFails.{IsPlanFor}
+use Rattle.txn_planner.specs.PlanFails.{IsPlanFor}
 use Rattle.store_kernel.specs.declared.prepared.Prepared.{Prepared}
 
 -- what it needs fits, and the copies are copies

@@ -39,7 +39,7 @@ abbrev pub Submits : ℕ → ℕ → Change → State → State → Type 0
 Submits client line change s s' = Accepts client line change s s' ⊎ ((a : Answer) × Refuses client line change a s s') ⊎ TurnsAway s s'
 
 -- A read is answered by the submitted rows and by what the device holds. Nothing but the book changes.
-pub record IsAnswered (client line : ℕ) (command : Command) (a : Answer) (s : State) (d : Disk) (s' : State) : Type 0 where
+pub record AnswersRead (client line : ℕ) (command : Command) (a : Answer) (s : State) (d : Disk) (s' : State) : Type 0 where
   pub can_note : CanNote s
   pub names : HasReadNames command
   pub given : IsAnswerOf d s.view command a
@@ -47,7 +47,7 @@ pub record IsAnswered (client line : ℕ) (command : Command) (a : Answer) (s : 
 
 -- it is answered, or turned away
 abbrev pub Reads : ℕ → ℕ → Command → State → Disk → State → Type 0
-Reads client line command s d s' = ((a : Answer) × IsAnswered client line command a s d s') ⊎ TurnsAway s s'
+Reads client line command s d s' = ((a : Answer) × AnswersRead client line command a s d s') ⊎ TurnsAway s s'
 
 -- a step, but for one that takes the end of a submission that ended badly
 abbrev pub DoesOrFails : Step → State → Disk → State → Disk → Type 0

@@ -62,11 +62,11 @@ pub stays_down : (o : Option Ticket) (ticket : Ticket) → down_by o ticket ≡ 
 stays_down None ticket e = cc
 stays_down (Some first) ticket e = cc
 
-pub fallen_not_up : (s : State) (d : Disk) (s' : State) (d' : Disk) → Takes s d false s' d' → s'.down ≡ None → ⊥
-fallen_not_up s d s' d' ended up = stays_down s.down ended.ticket (sym (ap (λ (t : State). t.down) ended.after) ∙ up)
+pub down_not_up : (s : State) (d : Disk) (s' : State) (d' : Disk) → Takes s d false s' d' → s'.down ≡ None → ⊥
+down_not_up s d s' d' ended up = stays_down s.down ended.ticket (sym (ap (λ (t : State). t.down) ended.after) ∙ up)
 
 pub was_up : (call : Call) (s : State) (d : Disk) (s' : State) (d' : Disk) → Calls call s d s' d' → s'.down ≡ None → s.down ≡ None
 was_up call s d s' d' made up = elim (call_down call s d s' d' made) [
   | inl same ↦ sym same ∙ up
-  | inr ended ↦ absurd (fallen_not_up s d s' d' ended up)
+  | inr ended ↦ absurd (down_not_up s d s' d' ended up)
 ]

@@ -2,7 +2,7 @@
 use Rattle.std.proofs.Common.{◌≡◌, ℕ, ◌+◌, ◌≤◌, true, [], ◌∷◌, ◌++◌, length, Option, Some, None, sym, ap, subst, ◌∙◌, arith}
 use Rattle.std.specs.Prelude.{IfSome}
 use Rattle.std.proofs.lemmas.List.{length-append}
-use Rattle.block_device.specs.Disk.{Disk, History, grown, flight_of, find_flight, without, Submitted, Reaped}
+use Rattle.block_device.specs.Disk.{Disk, History, history_after, flight_of, find_flight, without, Submitted, Reaped}
 use Rattle.block_device.specs.Facts.{with_event, EachWriteIsAnswered}
 use Rattle.block_device.specs.declared.event.Event.{Event}
 use Rattle.block_device.specs.declared.event.Event.TheVariants.{Done}
@@ -21,7 +21,7 @@ module _ (base events : ℕ) (h : History) (d d' : Disk) (told : d.history ≡ S
 
   module _ (ticket : ℕ) (e : Event) (sent : Submitted d ticket e d') where
     pub told_sent : d'.history ≡ Some (with_event h e)
-    told_sent = ap (λ (x : Disk). x.history) sent.after ∙ ap (λ (o : Option History). grown o e) told
+    told_sent = ap (λ (x : Disk). x.history) sent.after ∙ ap (λ (o : Option History). history_after o e) told
 
     pub place_sent : ticket ≡ length h.log
     place_sent = subst (λ (o : Option History). IfSome o (λ k. ticket ≡ length k.log)) told sent.place
@@ -41,7 +41,7 @@ module _ (base events : ℕ) (h : History) (d d' : Disk) (told : d.history ≡ S
 
   module _ (ticket : ℕ) (ended : Reaped d ticket true d') where
     pub told_ended : d'.history ≡ Some (with_event h (Done ticket true))
-    told_ended = ap (λ (x : Disk). x.history) ended.after ∙ ap (λ (o : Option History). grown o (Done ticket true)) told
+    told_ended = ap (λ (x : Disk). x.history) ended.after ∙ ap (λ (o : Option History). history_after o (Done ticket true)) told
 
     pub answered_ended : IsAnsweredSince base (with_event h (Done ticket true)) d'.flights (events + 1)
     answered_ended =

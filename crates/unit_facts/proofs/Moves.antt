@@ -42,7 +42,7 @@ use Rattle.store_facts.specs.Room.{FitsRecord, HasRoomFor}
 use Rattle.store_facts.specs.Space.{uncommitted}
 use Rattle.store_facts.specs.Kept.{IsAlwaysKept, IsKept}
 use Rattle.store_facts.proofs.Stages.{Stage, idle, waits, opens, flushes, flushed, writes, syncs, synced, one_flight, pending_of, batch_of, begun_of}
-use Rattle.store_facts.proofs.Stages.{record_with, pieces_at, AreWritten, Holds, at, IsFar, by_stage}
+use Rattle.store_facts.proofs.Stages.{record_with, pieces_at, AreWritten, Holds, at, IsAtStage, by_stage}
 use Rattle.store_facts.proofs.Pieces.{units_needed}
 use Rattle.store_facts.proofs.RunUnits.{IsRunOf}
 use Rattle.store_facts.proofs.Readiness.{contexts_of, no_flying, next_write, next_taken, ready_flush, ready_record, ready_sync, next_commit, ready_up}
@@ -54,7 +54,7 @@ use Rattle.unit_facts.specs.Known.{second_flush}
 use Rattle.unit_facts.proofs.Units.{AreOnData, fresh_on_data}
 use Rattle.unit_facts.proofs.RunWrites.{run_write, run_has}
 use Rattle.unit_facts.proofs.Steps.{piece_of, after_flush}
-use Rattle.unit_facts.proofs.Downs.{was_up, fallen_not_up}
+use Rattle.unit_facts.proofs.Downs.{was_up, down_not_up}
 
 -- the batch once both of its flushes have ended
 abbrev pub flushed_batch : Context → Batch
@@ -139,7 +139,7 @@ abbrev AtStage : (State → Type 0) → State → Disk → History → State →
 AtStage does s d h s' d' g = Holds s.log.number g → Before (at s g) d h → does (at s g) → Goes (at s g) d h s' d'
 
 by_stages : (does : State → Type 0) (s : State) (d : Disk) (h : History) (s' : State) (d' : Disk)
-    → ((g : Stage) → AtStage does s d h s' d' g) → IsFar s → Before s d h → does s → Goes s d h s' d'
+    → ((g : Stage) → AtStage does s d h s' d' g) → IsAtStage s → Before s d h → does s → Goes s d h s' d'
 by_stages does s d h s' d' every far before what =
     by_stage (λ t. Before t d h → does t → Goes t d h s' d') s every far before what
 
@@ -177,7 +177,7 @@ data_at s d h s' d' g holds b does =
     → Goes (at s k) d h s' d')
     (sym next.stage) (data_waits s d h s' d' next.x next.flying does.next next.run does.ticket does.submitted) does.after b
 
-data_goes_on : (s : State) (d : Disk) (h : History) (s' : State) (d' : Disk) → IsFar s → Before s d h → DoesData s d s' d'
+data_goes_on : (s : State) (d : Disk) (h : History) (s' : State) (d' : Disk) → IsAtStage s → Before s d h → DoesData s d s' d'
     → Goes s d h s' d'
 data_goes_on s d h s' d' = by_stages (λ t. DoesData t d s' d') s d h s' d' (data_at s d h s' d')
 
@@ -202,7 +202,7 @@ take_at s d h s' d' g holds b does =
     subst (λ (k : Stage). s' ≡ taken_up does.context (at s k) → Goes (at s k) d h s' d') (sym next.stage)
     (take_waits s d h s' d' does.context does.same) does.after
 
-take_goes_on : (s : State) (d : Disk) (h : History) (s' : State) (d' : Disk) → IsFar s → Before s d h → DoesTake s d s' d'
+take_goes_on : (s : State) (d : Disk) (h : History) (s' : State) (d' : Disk) → IsAtStage s → Before s d h → DoesTake s d s' d'
     → Goes s d h s' d'
 take_goes_on s d h s' d' = by_stages (λ t. DoesTake t d s' d') s d h s' d' (take_at s d h s' d')
 
@@ -225,7 +225,7 @@ flush_at s d h s' d' g holds before what =
     subst (AtStage (λ t. DoesFlush t d s' d') s d h s' d') (sym next.stage) (flush_opens s d h s' d' next.x next.made)
     holds before what.1
 
-flush_goes_on : (s : State) (d : Disk) (h : History) (s' : State) (d' : Disk) → IsFar s → Before s d h
+flush_goes_on : (s : State) (d : Disk) (h : History) (s' : State) (d' : Disk) → IsAtStage s → Before s d h
     → (is_ready_up Flush d.depth s ≡ true) × DoesFlush s d s' d' → Goes s d h s' d'
 flush_goes_on s d h s' d' =
     by_stages (λ t. (is_ready_up Flush d.depth t ≡ true) × DoesFlush t d s' d') s d h s' d' (flush_at s d h s' d')
@@ -272,7 +272,7 @@ seal_at s d h s' d' (flushed x) holds b what =
     (what.1.after ∙ seal_is c what.1.batch (at s (flushed x)) what.1.begun) what.1.same refl refl refl refl refl refl
 seal_at s d h s' d' g holds b what = absurd (let ready = what.0 in cc)
 
-seal_goes_on : (s : State) (d : Disk) (h : History) (s' : State) (d' : Disk) → IsFar s → Before s d h
+seal_goes_on : (s : State) (d : Disk) (h : History) (s' : State) (d' : Disk) → IsAtStage s → Before s d h
     → (is_ready_up Seal d.depth s ≡ true) × DoesSeal s d s' d' → Goes s d h s' d'
 seal_goes_on s d h s' d' =
     by_stages (λ t. (is_ready_up Seal d.depth t ≡ true) × DoesSeal t d s' d') s d h s' d' (seal_at s d h s' d')
@@ -302,7 +302,7 @@ record_at s d h s' d' g holds b what =
     subst (AtStage (λ t. DoesRecord t d s' d') s d h s' d') (sym next.stage)
     (record_writes s d h s' d' next.x next.given next.written next.flying next.more) holds b what.1
 
-record_goes_on : (s : State) (d : Disk) (h : History) (s' : State) (d' : Disk) → IsFar s → Before s d h
+record_goes_on : (s : State) (d : Disk) (h : History) (s' : State) (d' : Disk) → IsAtStage s → Before s d h
     → (is_ready_up Record d.depth s ≡ true) × DoesRecord s d s' d' → Goes s d h s' d'
 record_goes_on s d h s' d' =
     by_stages (λ t. (is_ready_up Record d.depth t ≡ true) × DoesRecord t d s' d') s d h s' d' (record_at s d h s' d')
@@ -325,7 +325,7 @@ sync_at s d h s' d' g holds b what =
     let next = ready_sync s g d.depth holds what.0 in
     subst (AtStage (λ t. DoesSync t d s' d') s d h s' d') (sym next.stage) (sync_written s d h s' d' next.x next.pieces) holds b what.1
 
-sync_goes_on : (s : State) (d : Disk) (h : History) (s' : State) (d' : Disk) → IsFar s → Before s d h
+sync_goes_on : (s : State) (d : Disk) (h : History) (s' : State) (d' : Disk) → IsAtStage s → Before s d h
     → (is_ready_up Sync d.depth s ≡ true) × DoesSync s d s' d' → Goes s d h s' d'
 sync_goes_on s d h s' d' =
     by_stages (λ t. (is_ready_up Sync d.depth t ≡ true) × DoesSync t d s' d') s d h s' d' (sync_at s d h s' d')
@@ -347,7 +347,7 @@ commit_at s d h s' d' g holds b what =
     let next = next_commit g what.0 in
     subst (AtStage (λ t. DoesCommit t d s' d') s d h s' d') (sym next.stage) (commit_synced s d h s' d' next.x next.pieces) holds b what.1
 
-commit_goes_on : (s : State) (d : Disk) (h : History) (s' : State) (d' : Disk) → IsFar s → Before s d h
+commit_goes_on : (s : State) (d : Disk) (h : History) (s' : State) (d' : Disk) → IsAtStage s → Before s d h
     → (is_ready_up Commit d.depth s ≡ true) × DoesCommit s d s' d' → Goes s d h s' d'
 commit_goes_on s d h s' d' =
     by_stages (λ t. (is_ready_up Commit d.depth t ≡ true) × DoesCommit t d s' d') s d h s' d' (commit_at s d h s' d')
@@ -450,19 +450,19 @@ reap_at s d h s' d' (syncs x pieces ticket) holds b what =
     (sync_ends s x pieces ticket d d' h one.ended)
 reap_at s d h s' d' g holds b what = absurd (let ready = what.0 in cc)
 
-reap_goes_on : (s : State) (d : Disk) (h : History) (s' : State) (d' : Disk) → IsFar s → Before s d h
+reap_goes_on : (s : State) (d : Disk) (h : History) (s' : State) (d' : Disk) → IsAtStage s → Before s d h
     → (not (is_empty s.flying) ≡ true) × Takes s d true s' d' → Goes s d h s' d'
 reap_goes_on s d h s' d' =
     by_stages (λ t. (not (is_empty t.flying) ≡ true) × Takes t d true s' d') s d h s' d' (reap_at s d h s' d')
 
 -- ---- a step
 
-step_goes_on : (step : Step) (s : State) (d : Disk) (h : History) (s' : State) (d' : Disk) → IsFar s → Before s d h
+step_goes_on : (step : Step) (s : State) (d : Disk) (h : History) (s' : State) (d' : Disk) → IsAtStage s → Before s d h
     → is_ready_up step d.depth s ≡ true → s'.down ≡ None → DoesOrFails step s d s' d' → Goes s d h s' d'
 step_goes_on Data s d h s' d' far b ready up does = data_goes_on s d h s' d' far b does
 step_goes_on Reap s d h s' d' far b ready up (inl (inl ended)) = reap_goes_on s d h s' d' far b (ready, ended)
 step_goes_on Reap s d h s' d' far b ready up (inl (inr none)) = goes s s s' d d' h h none.1 (rests s d d' h none.0)
-step_goes_on Reap s d h s' d' far b ready up (inr ended) = absurd (fallen_not_up s d s' d' ended up)
+step_goes_on Reap s d h s' d' far b ready up (inr ended) = absurd (down_not_up s d s' d' ended up)
 step_goes_on Take s d h s' d' far b ready up does = take_goes_on s d h s' d' far b does
 step_goes_on Flush s d h s' d' far b ready up does = flush_goes_on s d h s' d' far b (ready, does)
 step_goes_on Seal s d h s' d' far b ready up does = seal_goes_on s d h s' d' far b (ready, does)

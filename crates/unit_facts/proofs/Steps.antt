@@ -10,7 +10,7 @@ use Rattle.byte_maps.specs.Units.{units_from, IsUnits}
 use Rattle.byte_maps.proofs.UnitLemmas.{length-units_from}
 use Rattle.block_device.specs.Log.{last, WritesUnit, WritesNothing, IsClean}
 use Rattle.block_device.specs.Disk.{Disk, History, Flight, Submitted, Reaped, Waited, IsApart}
-use Rattle.block_device.specs.Facts.{with_event, last_at, Fits, IsUnflown}
+use Rattle.block_device.specs.Facts.{with_event, last_at, EventFits, IsUntouched}
 use Rattle.block_device.specs.declared.device.Ticket.{Ticket}
 use Rattle.block_device.specs.declared.event.Event.{Event}
 use Rattle.block_device.specs.declared.event.Event.TheVariants.{Write, Flush, Done}
@@ -105,7 +105,7 @@ module _ (base : ℕ) (s : State) (x : Context) (n : Unsent) (d d' : Disk) (h : 
   given_then : take (x.given + length next_units) x.fresh ++ [] ≡ given_units ++ next_units
   given_then = append-nil (take (x.given + length next_units) x.fresh) ∙ more_given x n run
 
-  data_fits : AreOnData s.log.sup next_units → IsUnits s.log.sup.units (last h.start h.log) → Fits (length (last h.start h.log)) (run_write n)
+  data_fits : AreOnData s.log.sup next_units → IsUnits s.log.sup.units (last h.start h.log) → EventFits (length (last h.start h.log)) (run_write n)
   data_fits are size = omega (arith, run_inside x n run s.log.sup fits are, size)
 
   data_clean : OtherUnitsAreClean h s.log.sup (given_units ++ [])
@@ -116,7 +116,7 @@ module _ (base : ℕ) (s : State) (x : Context) (n : Unsent) (d d' : Disk) (h : 
       (clean unit is (subst (AllByRecursion P) (sym (append-nil given_units)) (all_front P given_units next_units other)))
       (row_spares n.first.unit unit next_units run.row (run_whole x n run fits) (all_rest P given_units next_units other))
 
-  data_held : Fits (length (last h.start h.log)) (run_write n) → HeldBytesAreLast h (given_units ++ [])
+  data_held : EventFits (length (last h.start h.log)) (run_write n) → HeldBytesAreLast h (given_units ++ [])
       → HeldBytesAreLast (with_event h (run_write n)) (given_units ++ next_units)
   data_held fit held = all_join (λ (f : FreshUnit). last_at (with_event h (run_write n)) f.unit ≡ f.bytes) given_units next_units
       (held_on h (run_write n) given_units fit (earlier_spared n.first.unit (run_bytes next_units) given_units (given_before x n run fits))
@@ -127,7 +127,7 @@ module _ (base : ℕ) (s : State) (x : Context) (n : Unsent) (d d' : Disk) (h : 
       → Submitted d ticket.place (run_write n) d' → KnownOfUnits base (at s (waits x flying)) d h
       → KnownOfUnits base (record (at s (waits (given_more (length next_units) x) flying')) { events = s.events + 1 }) d' (with_event h (run_write n))
   data_known flying flying' ticket are size submitted known =
-      let fit : Fits (length (last h.start h.log)) (run_write n) = data_fits are size in
+      let fit : EventFits (length (last h.start h.log)) (run_write n) = data_fits are size in
       record {
         told = told_sent base s.events h d d' known.told known.answered ticket.place (run_write n) submitted;
         answered = answered_sent base s.events h d d' known.told known.answered ticket.place (run_write n) submitted;
@@ -164,8 +164,8 @@ take_known base s book x d h known = record {
   flushed = none_flushed h (x.fresh ++ []);
 }
 
-none_unflown : (flights : List Flight) (unit : ℕ) → flights ≡ [] → IsUnflown flights unit
-none_unflown flights unit none = subst (λ (fs : List Flight). IsUnflown fs unit) (sym none) (All-nil (IsApart unit 4096))
+none_untouched : (flights : List Flight) (unit : ℕ) → flights ≡ [] → IsUntouched flights unit
+none_untouched flights unit none = subst (λ (fs : List Flight). IsUntouched fs unit) (sym none) (All-nil (IsApart unit 4096))
 
 pub flush_known : (base : ℕ) (s : State) (x : Context) (made : Bool) (ticket : Ticket) (d d' : Disk) (h : History) → d.flights ≡ []
     → Submitted d ticket.place Flush d' → KnownOfUnits base (at s (opens x made)) d h
@@ -174,7 +174,7 @@ flush_known base s x made ticket d d' h none submitted known =
     let k = flush_quiet base (at s (opens x made)) d d' h ticket.place submitted known in
     let place : ticket.place ≡ length h.log = place_sent base s.events h d d' known.told known.answered ticket.place Flush submitted in
     let covered : UnitsAreFlushed (with_event h Flush) (sent (length h.log)) (x.fresh ++ []) =
-    units_covered h base d.flights (x.fresh ++ []) known.answered.quiet known.answered.each (λ unit. none_unflown d.flights unit none) in
+    units_covered h base d.flights (x.fresh ++ []) known.answered.quiet known.answered.each (λ unit. none_untouched d.flights unit none) in
     record {
       told = k.told;
       answered = k.answered;
@@ -316,7 +316,7 @@ module _ (base : ℕ) (s : State) (x : Context) (given : ℕ) (d d' : Disk) (h :
         inside active tail first count units half size within room is = omega (arith, within, room, is)
 
     pub piece_fits : s.log.tail + units ≤ s.log.sup.half → IsUnits s.log.sup.units (last h.start h.log) → IsSuper s.log.sup
-        → Fits (length (last h.start h.log)) (piece_of s x given)
+        → EventFits (length (last h.start h.log)) (piece_of s x given)
     piece_fits room size limits = omega (arith, piece_inside room, half_before_data s.log.sup, limits.room, size)
 
     -- and spares all else
@@ -386,7 +386,7 @@ module _ (base : ℕ) (s : State) (x : Context) (pieces : ℕ) (d d' : Disk) (h 
       let stands : ActiveHalfStands (with_event h Flush) s.log.sup s.log.rows s.log.tail s.log.number (Some whole) left (sent (length h.log))
       known.half.recs =
       half_sync h s.log.sup s.log.rows s.log.tail s.log.number whole known.half.recs base d.flights left known.answered.quiet known.answered.each
-      (λ j low high. none_unflown d.flights (active_unit s.log.sup + (s.log.tail + j)) none) known.half.stands in
+      (λ j low high. none_untouched d.flights (active_unit s.log.sup + (s.log.tail + j)) none) known.half.stands in
       record {
         told = k.told;
         answered = k.answered;

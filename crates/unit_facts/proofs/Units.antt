@@ -7,7 +7,7 @@ use Rattle.std.proofs.lemmas.Bool.{cases_eq}
 use Rattle.std.proofs.lemmas.List.Elements.{Contains-append_left, Contains-append_right}
 use Rattle.block_device.specs.Log.{last, WritesUnit, WritesNothing, IsClean}
 use Rattle.block_device.specs.Disk.{History, Flight}
-use Rattle.block_device.specs.Facts.{with_event, Fits, EachWriteIsAnswered, QuietAt, IsUnflown}
+use Rattle.block_device.specs.Facts.{with_event, EventFits, EachWriteIsAnswered, QuietAt, IsUntouched}
 use Rattle.block_device.specs.declared.event.Event.{Event}
 use Rattle.block_device.specs.declared.event.Event.TheVariants.{Write, Flush, Done}
 use Rattle.block_device.proofs.LogLemmas.{clean_push}
@@ -93,7 +93,7 @@ pub spares_all : (e : Event) (fresh : List FreshUnit) → WritesNothing e → Sp
 spares_all e [] none = tt
 spares_all e (f ∷ fresh) none = (none_written e f.unit none, spares_all e fresh none)
 
-pub fits_quiet : (size : ℕ) (e : Event) → WritesNothing e → Fits size e
+pub fits_quiet : (size : ℕ) (e : Event) → WritesNothing e → EventFits size e
 fits_quiet size (Write at bytes) none = absurd none
 fits_quiet size Flush none = tt
 fits_quiet size (Done ticket ok) none = tt
@@ -102,7 +102,7 @@ pub clean_on : (h : History) (s : Super) (e : Event) (given : List FreshUnit) �
     → OtherUnitsAreClean h s given → OtherUnitsAreClean (with_event h e) s given
 clean_on h s e given spared clean unit is other = clean_push h.log e unit (clean unit is other) (spared unit is)
 
-pub held_on : (h : History) (e : Event) (given : List FreshUnit) → Fits (length (last h.start h.log)) e → Spares e given
+pub held_on : (h : History) (e : Event) (given : List FreshUnit) → EventFits (length (last h.start h.log)) e → Spares e given
     → HeldBytesAreLast h given → HeldBytesAreLast (with_event h e) given
 held_on h e [] fits spared held = tt
 held_on h e (f ∷ given) fits spared held = (last_push h e f.unit fits spared.0 ∙ held.0, held_on h e given fits spared.1 held.1)
@@ -126,10 +126,10 @@ none_flushed h (f ∷ fresh) = (tt, none_flushed h fresh)
 
 -- it is submitted while nothing is in flight
 pub units_covered : (h : History) (base : ℕ) (flights : List Flight) (fresh : List FreshUnit) → QuietAt base h → EachWriteIsAnswered base h flights
-    → ((unit : ℕ) → IsUnflown flights unit) → UnitsAreFlushed (with_event h Flush) (sent (length h.log)) fresh
-units_covered h base flights [] quiet each unflown = tt
-units_covered h base flights (f ∷ fresh) quiet each unflown =
-    (flush_sent h base flights f.unit quiet each (unflown f.unit), units_covered h base flights fresh quiet each unflown)
+    → ((unit : ℕ) → IsUntouched flights unit) → UnitsAreFlushed (with_event h Flush) (sent (length h.log)) fresh
+units_covered h base flights [] quiet each untouched = tt
+units_covered h base flights (f ∷ fresh) quiet each untouched =
+    (flush_sent h base flights f.unit quiet each (untouched f.unit), units_covered h base flights fresh quiet each untouched)
 
 -- it has ended well
 pub units_cleaned : (h : History) (flush : ℕ) (fresh : List FreshUnit) → UnitsAreFlushed h (sent flush) fresh

@@ -12,7 +12,7 @@ use Rattle.std.proofs.lemmas.Str.{IsAscii-append, IsUtf8-from_ascii}
 use Rattle.std.proofs.lemmas.Str.Parse.{without_leading_plus_none}
 use Rattle.std.proofs.lemmas.Str.Pattern.{IsSplitOnceResult, split_after}
 use denote.Ref.{Bor}
-use Rattle.unit_fields.specs.Names.{coll_name, head_bytes, IsCollName}
+use Rattle.unit_fields.specs.Names.{coll_name, head_suffix, IsCollName}
 
 below_ascii : (c : ℕ) → digit_value c < 36 → c < 128
 below_ascii c is = grind (arith, nat_tests)
@@ -62,21 +62,21 @@ module _ (pool seed : ℕ) (pool_fits : pool < 2 ^ 64) (seed_fits : seed < 2 ^ 3
   hex = digits_is_IsNumeral 16 false (omega arith) (omega arith) seed (omega arith)
 
   pub coll_name-utf8 : IsUtf8 (coll_name pool seed)
-  coll_name-utf8 = IsUtf8-from_ascii _ (IsAscii-append (decimal pool) _ (IsAscii-decimal pool pool_fits) (IsAscii-append (0x2e ∷ []) (digits 16 false seed ++ head_bytes) (ascii_bytes (0x2e ∷ []) (omega arith, tt)) (
-      IsAscii-append (digits 16 false seed) head_bytes (ascii_digits 16 (omega arith) (digits 16 false seed) hex.0.1) (ascii_bytes head_bytes (omega arith, (omega arith, (omega arith, (omega arith, (omega arith, tt)))))))))
+  coll_name-utf8 = IsUtf8-from_ascii _ (IsAscii-append (decimal pool) _ (IsAscii-decimal pool pool_fits) (IsAscii-append (0x2e ∷ []) (digits 16 false seed ++ head_suffix) (ascii_bytes (0x2e ∷ []) (omega arith, tt)) (
+      IsAscii-append (digits 16 false seed) head_suffix (ascii_digits 16 (omega arith) (digits 16 false seed) hex.0.1) (ascii_bytes head_suffix (omega arith, (omega arith, (omega arith, (omega arith, (omega arith, tt)))))))))
 
   pub coll_name-no_zero : AllByRecursion (λ b. 0 < b) (coll_name pool seed)
-  coll_name-no_zero = positive-append (decimal pool) (0x2e ∷ (digits 16 false seed ++ head_bytes)) (positive_digits 10 (omega arith) (decimal pool) pool_digits) (
+  coll_name-no_zero = positive-append (decimal pool) (0x2e ∷ (digits 16 false seed ++ head_suffix)) (positive_digits 10 (omega arith) (decimal pool) pool_digits) (
     omega arith,
-    positive-append (digits 16 false seed) head_bytes (positive_digits 16 (omega arith) (digits 16 false seed) hex.0.1) (omega arith, (omega arith, (omega arith, (omega arith, (omega arith, tt))))),
+    positive-append (digits 16 false seed) head_suffix (positive_digits 16 (omega arith) (digits 16 false seed) hex.0.1) (omega arith, (omega arith, (omega arith, (omega arith, (omega arith, tt))))),
   )
 
   -- the pool stands before the first dot
-  pub split_at_dot : (text : List ℕ) (r : Option (Bor (List ℕ) × Bor (List ℕ))) → text ≡ coll_name pool seed → IsSplitOnceResult 0x2e text r → MatchOption r ⊥ (λ x. (x.0.now ≡ decimal pool) × (x.1.now ≡ digits 16 false seed ++ head_bytes))
-  split_at_dot text r is found = split_after 0x2e text (decimal pool) (digits 16 false seed ++ head_bytes) r found (omega arith) is (not_among 10 0x2e (omega arith) (decimal pool) pool_digits)
+  pub split_at_dot : (text : List ℕ) (r : Option (Bor (List ℕ) × Bor (List ℕ))) → text ≡ coll_name pool seed → IsSplitOnceResult 0x2e text r → MatchOption r ⊥ (λ x. (x.0.now ≡ decimal pool) × (x.1.now ≡ digits 16 false seed ++ head_suffix))
+  split_at_dot text r is found = split_after 0x2e text (decimal pool) (digits 16 false seed ++ head_suffix) r found (omega arith) is (not_among 10 0x2e (omega arith) (decimal pool) pool_digits)
 
   -- and the seed before the low line behind it
-  pub split_at_line : (rest : List ℕ) (r : Option (Bor (List ℕ) × Bor (List ℕ))) → rest ≡ digits 16 false seed ++ head_bytes → IsSplitOnceResult 0x5f rest r → MatchOption r ⊥ (λ x. x.0.now ≡ digits 16 false seed)
+  pub split_at_line : (rest : List ℕ) (r : Option (Bor (List ℕ) × Bor (List ℕ))) → rest ≡ digits 16 false seed ++ head_suffix → IsSplitOnceResult 0x5f rest r → MatchOption r ⊥ (λ x. x.0.now ≡ digits 16 false seed)
   split_at_line rest r is found =
       front r (split_after 0x5f rest (digits 16 false seed) (0x68 ∷ 0x65 ∷ 0x61 ∷ 0x64 ∷ []) r found (omega arith) is (not_among 16 0x5f (omega arith) (digits 16 false seed) hex.0.1))
     where

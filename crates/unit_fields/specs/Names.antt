@@ -10,12 +10,12 @@ pub record IsName (name : List ℕ) : Type 0 where
   pub no_zero : AllByRecursion (λ b. 0 < b) name
 
 -- "_head"
-abbrev pub head_bytes : List ℕ
-head_bytes = 0x5f ∷ 0x68 ∷ 0x65 ∷ 0x61 ∷ 0x64 ∷ []
+abbrev pub head_suffix : List ℕ
+head_suffix = 0x5f ∷ 0x68 ∷ 0x65 ∷ 0x61 ∷ 0x64 ∷ []
 
 -- how a collection is named: its pool in decimal, a dot, its seed in lower-case hexadecimal, and "_head"
 abbrev pub coll_name : ℕ → ℕ → List ℕ
-coll_name pool seed = decimal pool ++ (0x2e ∷ (digits 16 false seed ++ head_bytes))
+coll_name pool seed = decimal pool ++ (0x2e ∷ (digits 16 false seed ++ head_suffix))
 
 -- the bytes name a collection, of some pool and seed
 pub record IsCollName (name : List ℕ) : Type 0 where

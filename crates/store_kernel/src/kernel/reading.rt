@@ -3,7 +3,7 @@ ghost use Rattle.std.specs.Prelude.{◌≡◌, ◌≤◌, length, OnOk, IfOk, If
 ghost use Rattle.block_device.specs.Disk.{Rose};
 ghost use Rattle.object_model.specs.declared.command.Answer.{Answer};
 ghost use Rattle.read_facts.specs.Answers.{HasReadNames, IsAnswerOf};
-ghost use Rattle.store_steps.specs.Runs.{MayRead, IsAnswered};
+ghost use Rattle.store_steps.specs.Runs.{MayRead, AnswersRead};
 ghost use Rattle.store_steps.specs.Submit.{CanNote};
 ghost use Rattle.store_kernel.specs.Reading.{UnansweredBy, IsDeviceRead};
 
@@ -28,7 +28,7 @@ impl<D: Device> Kernel<D> {
     ) -> Result<u32, Unanswered>
         requires { MayRead command self.old.state (D.disk self.old.device) }
         ensures place { IfOk result (λ place. place ≡ length self.old.state.book.entries) }
-        ensures answered { OnOk result ((a : Answer) × IsAnswered client line command a self.old.state (D.disk self.old.device) self.new.state) }
+        ensures answered { OnOk result ((a : Answer) × AnswersRead client line command a self.old.state (D.disk self.old.device) self.new.state) }
         ensures unanswered { IfErr result (λ why. UnansweredBy why command self.old.state self.new.state) }
         ensures disk { D.disk self.new.device ≡ D.disk self.old.device }
         ensures later { D.faults self.old.device ≤ D.faults self.new.device }
@@ -80,7 +80,7 @@ impl<D: Device> Kernel<D> {
         requires names { HasReadNames command }
         requires given { IsAnswerOf (D.disk self.old.device) self.old.state.view command answer }
         ensures place { IfOk result (λ place. place ≡ length self.old.state.book.entries) }
-        ensures ok { OnOk result (IsAnswered client line command answer self.old.state (D.disk self.old.device) self.new.state) }
+        ensures ok { OnOk result (AnswersRead client line command answer self.old.state (D.disk self.old.device) self.new.state) }
         ensures err { IfErr result (λ back. (back ≡ command) × (self.new.state ≡ self.old.state)) }
         ensures disk { D.disk self.new.device ≡ D.disk self.old.device }
         ensures faults { D.faults self.new.device ≡ D.faults self.old.device }

@@ -164,7 +164,7 @@ impl<D: Device> Kernel<D> {
         let Ok(ticket) = self.device.submit_write(unit.number(), bytes) else {
             return Err(StepFail::Memory);
         };
-        self.meta.gave();
+        self.meta.note_given();
         self.flying.push_reserved(Flying {
             ticket,
             job: Job::Record,

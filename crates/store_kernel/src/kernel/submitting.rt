@@ -3,7 +3,7 @@ ghost use Rattle.std.specs.Prelude.{◌≡◌, ◌<◌, ◌^◌, length, OnOk, O
 ghost use Rattle.meta_rows.specs.Spelling.{ops_bytes, AllFit};
 ghost use Rattle.store_steps.specs.Submit.{IsCause, CanNote, Accepts, Refuses};
 ghost use Rattle.store_steps.specs.Runs.{MaySubmit};
-ghost use Rattle.write_planner.specs.PlanFails.{IsPlanFor};
+ghost use Rattle.txn_planner.specs.PlanFails.{IsPlanFor};
 ghost use Rattle.store_kernel.specs.Prepared.{IsPrepared};
 ghost use Rattle.store_kernel.specs.Submitting.{IsCauseOf, RefusesBy};
 
@@ -17,7 +17,7 @@ use object_model::{Answer, Command, Entry, Transaction};
 use std::alloc::Global;
 use store_steps::Plan;
 use unit_fields::limits::BOOK_LIMIT;
-use write_planner::{PlanFail, plan};
+use txn_planner::{PlanFail, plan};
 
 impl<D: Device> Kernel<D> {
     /// Accepts a transaction, or refuses it for a cause. Either makes an entry of the book, into which the transaction is moved;

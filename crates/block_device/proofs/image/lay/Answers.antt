@@ -1,11 +1,11 @@
 use Rattle.std.proofs.Common.{ℕ, ◌+◌, ◌*◌, ◌-◌, ◌≡◌, List, ◌++◌, length, take, drop, refl, ◌∙◌, ap, arith}
 use Rattle.std.proofs.lemmas.List.{take_all}
 use Rattle.std.proofs.lemmas.Slice.{put_mid-paste}
-use Rattle.byte_maps.specs.Units.{laid}
+use Rattle.byte_maps.specs.Units.{overlaid}
 use Rattle.block_device.proofs.image.lay.Goals as goal
 
 pub returns : goal.returns
-unfolding laid
+unfolding overlaid
 returns c =
     let n = length c.args.bytes.now in
     let at = 4096 * c.args.at in

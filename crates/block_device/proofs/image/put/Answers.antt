@@ -1,5 +1,5 @@
 use Rattle.std.proofs.Common.{◌≡◌, set, ◌+◌, ◌*◌, ◌≤◌, length, ℕ, List, Bool, not, ◌||◌, refl, sym, ◌∙◌, ap, arith}
-use Rattle.byte_maps.specs.Units.{unit_at, laid}
+use Rattle.byte_maps.specs.Units.{unit_at, overlaid}
 use Rattle.block_device.specs.Laying.{is_laid, mark}
 use Rattle.block_device.proofs.PutLemmas.{put_none, put_one, put_more, put_all, unit_piece, length-unit_at}
 use Rattle.block_device.proofs.image.put.Goals as goal
@@ -16,7 +16,7 @@ loop-j-preserved c =
     let piece = unit_at c.loop-j.j c.args.bytes.now in
     let puts : c.if-takes.image ≡ put_one (is_laid c.args.tear c.args.stable (mark c.loop-j.torn k) c.loop-j.j) k piece c.loop-j.image =
     elim c.if-takes.branch [
-      | then-takes w ↦ w.image-is ∙ w.lay.ensures ∙ ap (λ (l : List ℕ). laid k l c.loop-j.image) (unit_piece c.loop-j.j c.args.bytes.now)
+      | then-takes w ↦ w.image-is ∙ w.lay.ensures ∙ ap (λ (l : List ℕ). overlaid k l c.loop-j.image) (unit_piece c.loop-j.j c.args.bytes.now)
           ∙ ap (λ (b : Bool). put_one b k piece c.loop-j.image) (sym w.if-takes.true ∙ c.takes.ensures)
       | else-takes w ↦ w.image-is ∙ ap (λ (b : Bool). put_one b k piece c.loop-j.image) (sym w.if-takes.false ∙ c.takes.ensures)
     ] in

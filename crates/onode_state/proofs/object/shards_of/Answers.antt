@@ -2,7 +2,7 @@ use Rattle.std.proofs.Common.{◌+◌, ◌∷◌, [], Some, sym, ◌∙◌}
 use Rattle.std.specs.List.{AllByRecursion}
 use Rattle.meta_rows.specs.Table.{rows_from_to}
 use Rattle.meta_rows.proofs.RangeLemmas.{left_more, left_none}
-use Rattle.row_format.specs.Keys.{of_object, shard_key}
+use Rattle.row_format.specs.Keys.{object_key, shard_key}
 use Rattle.onode_state.proofs.ShardRows.{IsShardEntry, range_is_shards, range_has_all}
 use Rattle.onode_state.proofs.ReadShards.{AreRead, none_read, shards_by_entries, value_at, read_more, all_read}
 use Rattle.onode_state.proofs.States.{numbers_of}
@@ -21,7 +21,7 @@ pub add_shard-requires : goal.add_shard-requires
 add_shard-requires c =
     let coll = c.args.coll.now in
     let object = c.args.object.now in
-    let es = rows_from_to c.args.rows.now.rows (shard_key coll object 0) (Some (of_object 0x4f coll object (0x70 ∷ []))) in
+    let es = rows_from_to c.args.rows.now.rows (shard_key coll object 0) (Some (object_key 0x4f coll object (0x70 ∷ []))) in
     let x = c.in-Some.field-0.now in
     let all : AllByRecursion (IsShardEntry coll object) es = range_is_shards coll object c.coll_name_is_one.ensures c.name_is_one.ensures c.requires.sup c.args.rows.now.rows c.requires.good in
     let more = left_more es c.loop-value.invariant.at x c.next.new.self (sym c.loop-value.invariant.left ∙ c.in-Some.ensures.steps) in
@@ -35,7 +35,7 @@ pub loop-value-preserved : goal.loop-value-preserved
 loop-value-preserved c =
     let coll = c.args.coll.now in
     let object = c.args.object.now in
-    let es = rows_from_to c.args.rows.now.rows (shard_key coll object 0) (Some (of_object 0x4f coll object (0x70 ∷ []))) in
+    let es = rows_from_to c.args.rows.now.rows (shard_key coll object 0) (Some (object_key 0x4f coll object (0x70 ∷ []))) in
     let at = c.loop-value.invariant.at in
     let x = c.in-Some.field-0.now in
     let all : AllByRecursion (IsShardEntry coll object) es = range_is_shards coll object c.coll_name_is_one.ensures c.name_is_one.ensures c.requires.sup c.args.rows.now.rows c.requires.good in
@@ -54,7 +54,7 @@ pub returns : goal.returns
 returns c =
     let coll = c.args.coll.now in
     let object = c.args.object.now in
-    let es = rows_from_to c.args.rows.now.rows (shard_key coll object 0) (Some (of_object 0x4f coll object (0x70 ∷ []))) in
+    let es = rows_from_to c.args.rows.now.rows (shard_key coll object 0) (Some (object_key 0x4f coll object (0x70 ∷ []))) in
     let at = c.loop-value.invariant.at in
     let firsts = c.loop-value.shards.firsts.items in
     let pages = c.loop-value.shards.pages in

@@ -1,6 +1,6 @@
 use Rattle.std.proofs.Common.{◌≡◌, ℕ, Some, ◌∷◌, [], take, drop}
 use Rattle.meta_rows.specs.Table.{rows_from_to}
-use Rattle.row_format.specs.Keys.{of_object, shard_key}
+use Rattle.row_format.specs.Keys.{object_key, shard_key}
 use Rattle.onode_state.proofs.ReadShards.{AreRead}
 use Rattle.onode_state.proofs.object.shards_of.Given as goal
 
@@ -9,7 +9,7 @@ invariant-loop-value l = record {
   can_next : (goal.iterator-loop-value).can_next l.value-iterator;
   finite : (goal.iterator-loop-value).is_finite l.value-iterator;
   at : ℕ;
-  left : l.value-iterator ≡ drop at (rows_from_to l.fn.rows.rows (shard_key l.fn.coll l.fn.object 0) (Some (of_object 0x4f l.fn.coll l.fn.object (0x70 ∷ []))));
-  read : AreRead l.fn.coll l.fn.object (take at (rows_from_to l.fn.rows.rows (shard_key l.fn.coll l.fn.object 0) (Some (of_object 0x4f l.fn.coll l.fn.object (0x70 ∷ []))))) l.shards.firsts.items
+  left : l.value-iterator ≡ drop at (rows_from_to l.fn.rows.rows (shard_key l.fn.coll l.fn.object 0) (Some (object_key 0x4f l.fn.coll l.fn.object (0x70 ∷ []))));
+  read : AreRead l.fn.coll l.fn.object (take at (rows_from_to l.fn.rows.rows (shard_key l.fn.coll l.fn.object 0) (Some (object_key 0x4f l.fn.coll l.fn.object (0x70 ∷ []))))) l.shards.firsts.items
       l.shards.pages;
 }

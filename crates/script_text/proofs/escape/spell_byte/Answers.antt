@@ -1,5 +1,5 @@
 use Rattle.std.proofs.Common.{ℕ, List, [], ◌∷◌, ◌++◌, ◌/◌, ◌%◌, ap, sym, ◌∙◌}
-use Rattle.script_text.specs.Grammar.{hex_digit, hex_pair}
+use Rattle.script_text.specs.Grammar.{hex_digit_from, hex_pair}
 use Rattle.script_text.proofs.Names.{escape_plain, escape_other}
 use Rattle.script_text.proofs.escape.spell_byte.Goals as goal
 
@@ -17,5 +17,5 @@ returns-else-is_plain_byte c =
     (c.push-else-is_plain_byte-2.ensures.items ∙ ap (λ (l : List ℕ). l ++ (c.capital_digit.result ∷ []))
     (c.push-else-is_plain_byte.ensures.items ∙ ap (λ (l : List ℕ). l ++ (0x25 ∷ [])) c.new-spelling.ensures))
     ∙ ap (λ (h : ℕ). 0x25 ∷ h ∷ c.capital_digit-else-is_plain_byte.result ∷ []) c.capital_digit.ensures
-    ∙ ap (λ (l : ℕ). 0x25 ∷ hex_digit 0x41 (byte / 16) ∷ l ∷ []) c.capital_digit-else-is_plain_byte.ensures
+    ∙ ap (λ (l : ℕ). 0x25 ∷ hex_digit_from 0x41 (byte / 16) ∷ l ∷ []) c.capital_digit-else-is_plain_byte.ensures
     ∙ sym (escape_other byte (sym c.is_plain_byte.ensures ∙ c.if-is_plain_byte.false))

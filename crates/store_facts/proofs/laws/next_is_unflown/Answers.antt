@@ -1,8 +1,8 @@
-use Rattle.store_facts.proofs.Known.{next_data_unflown, next_piece_unflown}
-use Rattle.store_facts.proofs.laws.next_is_unflown.Goals as goal
+use Rattle.store_facts.proofs.Known.{next_data_untouched, next_piece_untouched}
+use Rattle.store_facts.proofs.laws.next_is_untouched.Goals as goal
 
 pub returns-clause-data : goal.returns-clause-data
-returns-clause-data c = next_data_unflown
+returns-clause-data c = next_data_untouched
 
 pub returns-clause-record : goal.returns-clause-record
-returns-clause-record c = next_piece_unflown
+returns-clause-record c = next_piece_untouched

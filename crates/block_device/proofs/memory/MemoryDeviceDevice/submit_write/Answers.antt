@@ -1,7 +1,7 @@
 use Rattle.std.proofs.Common.{◌≡◌, ◌+◌, ◌*◌, ◌/◌, ◌≤◌, length, ◌∙◌, ap, arith}
 use Rattle.std.proofs.lemmas.List.{length_push, with_items_is}
 use Rattle.std.specs.Vec.{with_items}
-use Rattle.byte_maps.specs.Units.{laid}
+use Rattle.byte_maps.specs.Units.{overlaid}
 use Rattle.byte_maps.proofs.UnitLemmas.{length-laid}
 use Rattle.block_device.specs.Memory.{MemoryDisk}
 use Rattle.block_device.specs.MemoryInside.{memory_disk}
@@ -22,9 +22,9 @@ invariant_of-self-2 c =
     let units : m.units ≡ c.args.self.now.units = ap (λ (d : MemoryDisk). d.units) c.self.view_is in
     let inside : 4096 * c.args.at + length bytes ≤ length m.start.items = omega (arith, c.requires.inside, s.facts.size) in
     let fits : 4096 * c.args.at + length bytes ≤ length m.contents.items = omega (arith, inside, s.same_size) in
-    let written : c.lay.new.contents ≡ laid c.args.at bytes m.contents.items = rw (c.deref-3.ensures.value, c.deref_mut.ensures.value) at c.lay.ensures in
-    let size : length (laid c.args.at bytes m.contents.items) ≡ length m.contents.items = length-laid c.args.at bytes m.contents.items fits in
-    let now : (with_items m.contents c.lay.new.contents).items ≡ laid c.args.at bytes m.contents.items = with_items_is m.contents c.lay.new.contents (omega (arith, ap length written, size)) ∙ written in
+    let written : c.lay.new.contents ≡ overlaid c.args.at bytes m.contents.items = rw (c.deref-3.ensures.value, c.deref_mut.ensures.value) at c.lay.ensures in
+    let size : length (overlaid c.args.at bytes m.contents.items) ≡ length m.contents.items = length-overlaid c.args.at bytes m.contents.items fits in
+    let now : (with_items m.contents c.lay.new.contents).items ≡ overlaid c.args.at bytes m.contents.items = with_items_is m.contents c.lay.new.contents (omega (arith, ap length written, size)) ∙ written in
     record {
       facts = kept_submit (memory_disk m) event _ _ _ (m.writes + 1) m.flushes s.facts (few_flights (memory_disk m) c.args.self.now c.self.view_is c.requires.room)
           (inside, length bytes / 4096, omega (arith, c.requires.whole)) (λ t o is. cc is) place c.lag_of.ensures.low (omega arith) log pending;

@@ -36,7 +36,7 @@ invariant_of-self-2 g c =
     let next = rw c.in-Some.is at c.in-Ok.ensures.next in
     let sent = subst (λ (u : ℕ). Submitted (g.D.Device.disk k.device) c.in-Ok-submit_write.ticket.place (Write u c.in-Some.piece.1.items) (g.D.Device.disk c.submit_write.new.self))
     c.number.ensures c.in-Ok-submit_write.ensures.ok in
-    rw (c.gave.ensures, c.push_reserved.ensures.items, c.reserve.ensures.items)
+    rw (c.note_given.ensures, c.push_reserved.ensures.items, c.reserve.ensures.items)
     (known_step Record _ _ _ _ c.self.invariant ready (record_does _ _ _ k.meta c.in-Some.piece.0 c.in-Some.piece.1.items c.in-Ok-submit_write.ticket refl next sent) c.units.ensures.sound)
 
 pub returns-clause-ok : goal.returns-clause-ok
@@ -45,5 +45,5 @@ returns-clause-ok g c =
     let next = rw c.in-Some.is at c.in-Ok.ensures.next in
     let sent = subst (λ (u : ℕ). Submitted (g.D.Device.disk k.device) c.in-Ok-submit_write.ticket.place (Write u c.in-Some.piece.1.items) (g.D.Device.disk c.submit_write.new.self))
     c.number.ensures c.in-Ok-submit_write.ensures.ok in
-    rw (c.gave.ensures, c.push_reserved.ensures.items, c.reserve.ensures.items, ← c.self.view_is)
+    rw (c.note_given.ensures, c.push_reserved.ensures.items, c.reserve.ensures.items, ← c.self.view_is)
     (record_does _ _ _ k.meta c.in-Some.piece.0 c.in-Some.piece.1.items c.in-Ok-submit_write.ticket refl next sent)

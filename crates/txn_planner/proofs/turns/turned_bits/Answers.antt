@@ -1,0 +1,15 @@
+use Rattle.std.proofs.lemmas.Result.{IfOk-weaker}
+use Rattle.bitmap_freelist.specs.Bitmap.{AreFlips}
+use Rattle.object_rows.specs.Plans.{TurnsBits}
+use Rattle.txn_planner.proofs.Turned.{turns_both}
+use Rattle.txn_planner.proofs.turns.turned_bits.Goals as goal
+
+pub returns : goal.returns
+returns c =
+    let taken = c.args.taken.now in
+    let released = c.args.released.now in
+    let all = c.insert_all-2.new.set in
+    IfOk-weaker c.flip_ops.result (λ ops. AreFlips all ops.items) (λ ops. TurnsBits taken released ops.items)
+    (λ ops. turns_both taken released c.new-units.result c.insert_all.new.set all ops.items c.new-units.ensures c.in_ok-insert_all.ensures
+    c.in_ok-insert_all-2.ensures)
+    c.flip_ops.ensures.flips

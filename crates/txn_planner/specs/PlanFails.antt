@@ -1,0 +1,23 @@
+-- What planning answers: a plan of a transaction that the rows take, or why there is none.
+use Rattle.std.specs.Prelude.{◌≡◌, ◌<◌, None, Some}
+use Rattle.object_model.specs.Effect.{Change}
+use Rattle.meta_rows.specs.Rows.{Rows}
+use Rattle.unit_allocator.specs.Units.{Space}
+use Rattle.store_steps.specs.declared.plan.Plan.{Plan}
+use Rattle.store_steps.specs.Planning.{Plans, units_taken}
+use Rattle.store_steps.specs.Submit.{HasNames, refusal_of, free_count}
+use Rattle.txn_planner.specs.declared.planning.PlanFail.{PlanFail}
+use Rattle.txn_planner.specs.declared.planning.PlanFail.TheVariants as fail
+
+-- the rows don't refuse the transaction, its names are names, and this is its plan
+pub record IsPlanFor (change : Change) (rows : Rows) (space : Space) (plan : Plan) : Type 0 where
+  pub not_refused : refusal_of rows change ≡ None
+  pub names : HasNames change.coll change.ops
+  pub plans : Plans change.coll change.ops rows space plan
+
+-- why there is no plan; want of memory comes of nothing that a clause sees
+abbrev pub IsPlanFail : Change → Rows → Space → PlanFail → Type 0
+IsPlanFail change rows space (fail.Refusal refusal) = refusal_of rows change ≡ Some refusal
+IsPlanFail change rows space (fail.NoSpace need free) =
+    (refusal_of rows change ≡ None) × (need ≡ units_taken change.ops) × (free ≡ free_count space) × (free < need)
+IsPlanFail change rows space fail.Memory = Unit {0}

@@ -1,0 +1,267 @@
+//! What a transaction is turned into before it is accepted: its plan, or why there is none.
+ghost use Rattle.std.specs.Prelude.{◌≡◌, ◌+◌, ◌*◌, ◌≤◌, [], ◌∷◌, length, IfOk, IfErr};
+ghost use Rattle.std.specs.FinMap as finite;
+ghost use Rattle.object_model.specs.Effect.{object_limit};
+ghost use Rattle.object_model.specs.declared.op.Op.TheVariants.{MkColl, Touch, Write};
+ghost use Rattle.row_format.specs.Keys.{coll_key, onode_key};
+ghost use Rattle.row_facts.specs.Operations.{coll_ops};
+ghost use Rattle.object_rows.specs.Plans.{touch_ops};
+ghost use Rattle.store_steps.specs.Submit.{IsKnown};
+ghost use Rattle.onode_state.specs.Objects.{AreRowsOfAStore};
+ghost use Rattle.txn_planner.specs.PlanFails.{IsPlanFor, IsPlanFail};
+ghost use Rattle.txn_planner.specs.Ops.{fail_of, IsOpPlan, IsOpFail, WritesOn};
+ghost use Rattle.txn_planner.specs.declared.planning.PlanFail.TheVariants.{Memory};
+
+use crate::object_change::{object_ops, onode_ops};
+use crate::pages::{fresh_units, lay_pages, units_between};
+use crate::turns::turned_bits;
+use byte_maps::{Bytes, Items};
+use meta_rows::{RowOp, RowTable};
+use object_model::{Op, Refusal, Transaction, ends_too_far};
+use onode_codec::{coll_key, onode_key};
+use onode_state::{ObjectState, coll_name_is_one, name_is_one, object_state};
+use std::alloc::{AllocError, Global};
+use store_steps::Plan;
+use unit_allocator::{Allocator, TakeFail};
+use unit_fields::limits::UNIT_BYTES;
+use unit_fields::{CollName, Name, UnitNo};
+
+/// Why there is no plan.
+#[derive(Clone, Copy, Debug, PartialEq, Eq)]
+pub enum PlanFail {
+    /// The submitted rows refuse the transaction, or it is too large as a whole.
+    Refusal(Refusal),
+    /// It takes more units than are free (ENOSPC).
+    NoSpace { need: u32, free: u32 },
+    /// Memory ran out.
+    Memory,
+}
+
+impl From<AllocError> for PlanFail {
+    ghost from_gives = { λ _ e. e ≡ Memory };
+
+    fn from(_e: AllocError) -> PlanFail {
+        PlanFail::Memory
+    }
+}
+
+impl From<TakeFail> for PlanFail {
+    ghost from_gives = { λ why e. e ≡ fail_of why };
+
+    fn from(why: TakeFail) -> PlanFail {
+        match why {
+            TakeFail::NoSpace { need, free } => PlanFail::NoSpace { need, free },
+            TakeFail::Memory => PlanFail::Memory,
+        }
+    }
+}
+
+/// The plan of a transaction over the submitted rows and the free units. `submit` calls it before it changes anything.
+///
+/// Each page takes the lowest free unit that is left, and releases the one that it stood on. The bits of both in the freelist are turned by
+/// the last operations. The bytes are copied once.
+pub fn plan(
+    alloc: Global,
+    rows: &RowTable,
+    space: &Allocator,
+    txn: &Transaction,
+) -> Result<Plan, PlanFail>
+    requires known { IsKnown txn.now.ops }
+    requires good { AreRowsOfAStore rows.now.rows }
+    ensures ok { IfOk result (IsPlanFor txn.now rows.now.rows space.now) }
+    ensures fail { IfErr result (IsPlanFail txn.now rows.now.rows space.now) }
+{
+    if txn.is_too_large() {
+        return Err(PlanFail::Refusal(Refusal::TooBig));
+    }
+    match txn.ops() {
+        [op] => plan_op(alloc, rows, space, txn.coll(), op),
+        _ => unreachable!(),
+    }
+}
+
+fn plan_op(
+    alloc: Global,
+    rows: &RowTable,
+    space: &Allocator,
+    coll: &CollName,
+    op: &Op,
+) -> Result<Plan, PlanFail>
+    requires known { IsKnown (op.now ∷ []) }
+    requires good { AreRowsOfAStore rows.now.rows }
+    ensures ok { IfOk result (IsOpPlan coll.now op.now rows.now.rows space.now) }
+    ensures fail { IfErr result (IsOpFail coll.now op.now rows.now.rows space.now) }
+{
+    match op {
+        Op::MkColl => plan_collection(alloc, rows, space, coll),
+        Op::Touch { object } => plan_touch(alloc, rows, space, coll, object),
+        Op::Write { object, off, bytes } => {
+            plan_write(alloc, rows, space, coll, object, *off, bytes)
+        }
+        _ => unreachable!(),
+    }
+}
+
+fn has_row(rows: &RowTable, key: &Bytes) -> bool
+    ensures { result ≡ finite.contains_key rows.now.rows key.now }
+{
+    rows.get(key.as_slice()).is_some()
+}
+
+fn has_collection(alloc: Global, rows: &RowTable, coll: &CollName) -> Result<bool, AllocError>
+    ensures { IfOk result (λ there. there ≡ finite.contains_key rows.now.rows (coll_key coll.now)) }
+{
+    let key = coll_key(alloc, coll)?;
+    Ok(has_row(rows, &key))
+}
+
+fn has_onode(
+    alloc: Global,
+    rows: &RowTable,
+    coll: &CollName,
+    object: &Name,
+) -> Result<bool, AllocError>
+    ensures { IfOk result (λ there. there ≡ finite.contains_key rows.now.rows (onode_key coll.now object.now)) }
+{
+    let key = onode_key(alloc, coll, object)?;
+    Ok(has_row(rows, &key))
+}
+
+// The operation that makes a collection.
+fn collection_made(alloc: Global, coll: &CollName) -> Result<Items<RowOp>, AllocError>
+    ensures { IfOk result (λ ops. ops ≡ coll_ops coll.now) }
+{
+    let key = coll_key(alloc, coll)?;
+    let value = Bytes::new(alloc);
+    let mut ops = Items::new(alloc);
+    ops.push(RowOp::Set { key, value })?;
+    Ok(ops)
+}
+
+// A plan that takes no unit.
+fn rows_alone(alloc: Global, ops: Items<RowOp>) -> Plan
+    ensures { result ≡ record { ops = ops; fresh = []; released = [] } }
+{
+    Plan {
+        ops,
+        fresh: Items::new(alloc),
+        released: Items::new(alloc),
+    }
+}
+
+fn plan_collection(
+    alloc: Global,
+    rows: &RowTable,
+    space: &Allocator,
+    coll: &CollName,
+) -> Result<Plan, PlanFail>
+    ensures ok { IfOk result (IsOpPlan coll.now MkColl rows.now.rows space.now) }
+    ensures fail { IfErr result (IsOpFail coll.now MkColl rows.now.rows space.now) }
+{
+    coll_name_is_one(coll);
+    if has_collection(alloc, rows, coll)? {
+        return Err(PlanFail::Refusal(Refusal::CollectionExists));
+    }
+    let ops = collection_made(alloc, coll)?;
+    Ok(rows_alone(alloc, ops))
+}
+
+// What makes an object where it is missing.
+fn object_made(
+    alloc: Global,
+    rows: &RowTable,
+    coll: &CollName,
+    object: &Name,
+) -> Result<Items<RowOp>, AllocError>
+    ensures { IfOk result (λ ops. ops ≡ touch_ops rows.now.rows coll.now object.now) }
+{
+    if has_onode(alloc, rows, coll, object)? {
+        Ok(Items::new(alloc))
+    } else {
+        onode_ops(alloc, rows, coll, object, 0)
+    }
+}
+
+fn plan_touch(
+    alloc: Global,
+    rows: &RowTable,
+    space: &Allocator,
+    coll: &CollName,
+    object: &Name,
+) -> Result<Plan, PlanFail>
+    ensures ok { IfOk result (IsOpPlan coll.now (Touch object.now) rows.now.rows space.now) }
+    ensures fail { IfErr result (IsOpFail coll.now (Touch object.now) rows.now.rows space.now) }
+{
+    coll_name_is_one(coll);
+    name_is_one(object);
+    if !has_collection(alloc, rows, coll)? {
+        return Err(PlanFail::Refusal(Refusal::NoCollection));
+    }
+    let ops = object_made(alloc, rows, coll, object)?;
+    Ok(rows_alone(alloc, ops))
+}
+
+// The write of whole pages from one on, each on its unit: what becomes of the object's rows and of the units' bits, and which units go.
+fn pages_on(
+    alloc: Global,
+    rows: &RowTable,
+    coll: &CollName,
+    object: &Name,
+    first: u32,
+    bytes: &[u8],
+    units: &[UnitNo],
+) -> Result<Plan, AllocError>
+    requires good { AreRowsOfAStore rows.now.rows }
+    requires whole { length bytes.now ≡ 4096 * length units.now }
+    requires within { 4096 * first + length bytes.now ≤ object_limit }
+    ensures { IfOk result (WritesOn rows.now.rows coll.now object.now first bytes.now units.now) }
+{
+    let ObjectState {
+        size,
+        mut pages,
+        shards,
+    } = object_state(alloc, rows, coll, object)?;
+    let count = units.len() as u32;
+    let released = units_between(alloc, pages.pages(), first, first + count)?;
+    lay_pages(&mut pages, first, units, bytes)?;
+    let end = UNIT_BYTES as u64 * (u64::from(first) + u64::from(count));
+    let ops = object_ops(alloc, rows, coll, object, size.max(end), &pages, &shards)?;
+    let mut flips = turned_bits(alloc, units, released.as_slice())?;
+    let mut all = ops.into_vec();
+    all.append(&mut flips)?;
+    let fresh = fresh_units(alloc, units, bytes)?;
+    Ok(Plan {
+        ops: Items::from_vec(all),
+        fresh,
+        released,
+    })
+}
+
+fn plan_write(
+    alloc: Global,
+    rows: &RowTable,
+    space: &Allocator,
+    coll: &CollName,
+    object: &Name,
+    off: u64,
+    bytes: &Bytes,
+) -> Result<Plan, PlanFail>
+    requires known { IsKnown (Write object.now off bytes.now ∷ []) }
+    requires good { AreRowsOfAStore rows.now.rows }
+    ensures ok { IfOk result (IsOpPlan coll.now (Write object.now off bytes.now) rows.now.rows space.now) }
+    ensures fail { IfErr result (IsOpFail coll.now (Write object.now off bytes.now) rows.now.rows space.now) }
+{
+    coll_name_is_one(coll);
+    name_is_one(object);
+    if !has_collection(alloc, rows, coll)? {
+        return Err(PlanFail::Refusal(Refusal::NoCollection));
+    }
+    let bytes = bytes.as_slice();
+    if ends_too_far(off, bytes.len() as u64) {
+        return Err(PlanFail::Refusal(Refusal::TooBig));
+    }
+    let need = bytes.len() / UNIT_BYTES;
+    let units = space.lowest_units(alloc, need as u32)?;
+    let first = off / UNIT_BYTES as u64;
+    Ok(pages_on(alloc, rows, coll, object, first as u32, bytes, &units)?)
+}

@@ -1,0 +1,35 @@
+//! The operations on the freelist's bitmap that go with a write.
+//!
+//! In Ceph's BlueStore `_txc_finalize_kv` calls `allocate` and `release` of the freelist for the units of a transaction.
+ghost use Rattle.std.specs.Prelude.{IfOk, OnOk};
+ghost use Rattle.object_rows.specs.Plans.{TurnsBits};
+ghost use Rattle.txn_planner.specs.Turns.{AddsUnits};
+
+use bitmap_freelist::flip_ops;
+use meta_rows::RowOp;
+use std::alloc::{AllocError, Global};
+use unit_fields::{UnitNo, UnitSet};
+
+// Puts these units in the set, in whichever order they come.
+fn insert_all(set: &mut UnitSet, units: &[UnitNo]) -> Result<(), AllocError>
+    ensures { OnOk result (AddsUnits units.now set.old set.new) }
+{
+    for unit in units {
+        set.insert(unit.number())?;
+    }
+    Ok(())
+}
+
+/// The operations that turn the bits of the units that a write takes and of those that it releases, each bit once.
+pub fn turned_bits(
+    alloc: Global,
+    taken: &[UnitNo],
+    released: &[UnitNo],
+) -> Result<Vec<RowOp>, AllocError>
+    ensures { IfOk result (λ flips. TurnsBits taken.now released.now flips.items) }
+{
+    let mut units = UnitSet::new(alloc);
+    insert_all(&mut units, taken)?;
+    insert_all(&mut units, released)?;
+    flip_ops(alloc, &units)
+}

@@ -1,9 +1,0 @@
-use Rattle.std.proofs.Common.{◌≡◌, ◌++◌, drop}
-use Rattle.std.specs.Prelude.{filter}
-use Rattle.object_rows.specs.Operations.{drops}
-use Rattle.write_planner.specs.Parts.{is_of}
-use Rattle.write_planner.proofs.object_change.drop_shards.Given as goal
-
-abbrev pub invariant-loop-page : goal.invariant-loop-page
-invariant-loop-page l = l.ops ++ drops l.coll l.object (filter (is_of l.part) (drop l.page-index l.present))
-    ≡ l.fn.ops ++ drops l.coll l.object (filter (is_of l.part) l.present)

@@ -1,5 +1,0 @@
-use Rattle.write_planner.proofs.Turned.{AddsFirst}
-use Rattle.write_planner.proofs.turns.insert_all.Given as goal
-
-abbrev pub invariant-loop-unit : goal.invariant-loop-unit
-invariant-loop-unit l = AddsFirst l.unit-index l.units l.fn.set l.set

@@ -5,7 +5,7 @@ use Rattle.std.proofs.lemmas.Bool.{cases_lt, cases_Bool, lt-ltb, le-ltb, falseâ‰
 use Rattle.std.proofs.lemmas.Bool.Decides.{nat_tests}
 use Rattle.std.proofs.lemmas.List.{length-take-le, get_or-replicate, length-replicate, take_more, take_all}
 use Rattle.byte_maps.specs.Units.{unit_at, overlaid, Covers, IsUnits}
-use Rattle.byte_maps.proofs.UnitLemmas.{length-laid, unit_at-laid_inside}
+use Rattle.byte_maps.proofs.UnitLemmas.{length-overlaid, unit_at-laid_inside}
 use Rattle.block_device.specs.Log.{after_event, last, WritesUnit, IsClean, IsCrashImage}
 use Rattle.block_device.specs.Tests.{covers, is_stable, first_unstable, is_dirty}
 use Rattle.block_device.specs.Image.{reaches, held_after, held_from, landed_unit, torn_unit, noise, IsTornImage, IsWhole, AllFit}

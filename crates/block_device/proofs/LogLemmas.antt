@@ -8,7 +8,7 @@ use Rattle.byte_maps.specs.Units.{unit_at}
 use Rattle.block_device.specs.Log.{after_event, last, WritesUnit, IsFlushAfter, IsStable, IsClean, IsCrashImage, EachCut}
 use Rattle.block_device.specs.Disk.{History}
 use Rattle.block_device.specs.Facts.{with_event, last_at, SurelyHolds, IsPending, EventFits}
-use Rattle.byte_maps.proofs.UnitLemmas.{length-laid, unit_at-laid_before, unit_at-laid_behind, unit_at-laid_inside}
+use Rattle.byte_maps.proofs.UnitLemmas.{length-overlaid, unit_at-laid_before, unit_at-laid_behind, unit_at-laid_inside}
 use Rattle.block_device.specs.declared.event.Event.{Event}
 use Rattle.block_device.specs.declared.event.Event.TheVariants.{Write, Flush, Done}
 
@@ -31,7 +31,7 @@ unit_at-after_event k Flush bytes fits spared = refl
 unit_at-after_event k (Done ticket ok) bytes fits spared = refl
 
 pub length-after_event : (event : Event) (bytes : List ℕ) → EventFits (length bytes) event → length (after_event bytes event) ≡ length bytes
-length-after_event (Write at piece) bytes fits = length-laid at piece bytes fits
+length-after_event (Write at piece) bytes fits = length-overlaid at piece bytes fits
 length-after_event Flush bytes fits = refl
 length-after_event (Done ticket ok) bytes fits = refl
 

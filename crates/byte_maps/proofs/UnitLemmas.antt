@@ -190,17 +190,17 @@ units_from-laid_same at count bytes old whole fits =
     ∙ ap (λ (l : List ℕ). take (4096 * count) l) (drop_at front (bytes ++ rest) (4096 * at) (length-take-le (4096 * at) old (omega arith)))
     ∙ take_at bytes rest (4096 * count) whole
 
-pub laid-none : (at : ℕ) (old : List ℕ) → overlaid at [] old ≡ old
+pub overlaid-none : (at : ℕ) (old : List ℕ) → overlaid at [] old ≡ old
 unfolding overlaid
-laid-none at old =
+overlaid-none at old =
     append_assoc (take (4096 * at) old) [] (drop (4096 * at + 0) old)
     ∙ ap (λ (n : ℕ). take (4096 * at) old ++ drop n old) (omega arith)
     ∙ take-append-drop (4096 * at) old
 
 -- bytes that cover all
-pub laid-whole : (bytes old : List ℕ) → length bytes ≡ length old → overlaid 0 bytes old ≡ bytes
+pub overlaid-whole : (bytes old : List ℕ) → length bytes ≡ length old → overlaid 0 bytes old ≡ bytes
 unfolding overlaid
-laid-whole bytes old size =
+overlaid-whole bytes old size =
     ap (λ (l : List ℕ). bytes ++ l) (drop_all (4096 * 0 + length bytes) old (omega arith))
     ∙ append-nil bytes
 

@@ -13,12 +13,12 @@ use Rattle.row_format.specs.Keys.{coll_key, onode_key}
 use Rattle.row_format.specs.Row.{Row, collection, onode, shard, bitmap, row_key, FitsRow}
 use Rattle.row_format.proofs.KeyLemmas.{same_head, first_zero, same_coll, coll_no_object, same_place, bitmap_no_coll}
 use Rattle.onode_codec.specs.Fronts.{colls_first, colls_end, objects_first, objects_end}
-use Rattle.row_check.proofs.KeyOrder.{page_bytes, onode_before}
-use Rattle.row_check.specs.Reading.{IsNoKey, SpellsKey, part_bytes}
-use Rattle.row_check.specs.declared.key.Part.{Part}
-use Rattle.row_check.specs.declared.key.Part.TheVariants.{Onode}
-use Rattle.row_check.specs.declared.key.RowKey.{RowKey}
-use Rattle.row_check.specs.declared.key.RowKey.TheVariants.{Collection, Object}
+use Rattle.row_reading.proofs.KeyOrder.{page_bytes, onode_before}
+use Rattle.row_reading.specs.Reading.{IsNoKey, SpellsKey, part_bytes}
+use Rattle.row_reading.specs.declared.key.Part.{Part}
+use Rattle.row_reading.specs.declared.key.Part.TheVariants.{Onode}
+use Rattle.row_reading.specs.declared.key.RowKey.{RowKey}
+use Rattle.row_reading.specs.declared.key.RowKey.TheVariants.{Collection, Object}
 use Rattle.store_image.specs.Pages.{HasKey}
 use Rattle.store_image.specs.BadRows.{IsGoodRow, IsInPlace, NoBadRow}
 use Rattle.read_facts.specs.Walks.{IsCollection, IsObject, IsBehind, IsNextOf, IsPast}

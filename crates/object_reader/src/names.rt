@@ -11,7 +11,7 @@ use byte_maps::Bytes;
 use meta_rows::RowTable;
 use onode_codec::{COLLS_END, colls_first, objects_end, objects_first};
 use onode_state::coll_name_is_one;
-use row_check::{RowKey, read_key};
+use row_reading::{RowKey, read_key};
 use std::alloc::{AllocError, Global};
 use unit_fields::{CollName, Name};
 

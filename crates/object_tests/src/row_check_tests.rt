@@ -2,7 +2,8 @@
 
 use crate::rows::{Entry, superblock, table_of};
 use meta_rows::RowTable;
-use row_check::{Part, Row, RowKey, find_bad_row, marked_units, read_key, read_row};
+use row_check::{find_bad_row, marked_units};
+use row_reading::{Part, Row, RowKey, read_key, read_row};
 use std::alloc::{AllocError, Global};
 use std::test::Fail;
 use unit_fields::{CollName, Name, UnitNo, UnitSet};

@@ -7,7 +7,7 @@ use byte_maps::Bytes;
 use meta_rows::RowOp;
 use object_model::{Op, Transaction};
 use onode_codec::{Body, Extent};
-use row_check::{Part, Row, RowKey, read_key, read_row};
+use row_reading::{Part, Row, RowKey, read_key, read_row};
 use std::alloc::{AllocError, Global};
 use std::fmt::Write;
 use std::test::Fail;

@@ -21,8 +21,8 @@ use Rattle.row_format.specs.Extents.{Extent, extent_bytes}
 use Rattle.row_format.specs.Row.{Row, collection, onode, shard, bitmap, row_key, row_value, FitsShard}
 use Rattle.row_format.proofs.KeyLemmas.{same_place, same_shard, coll_no_object, bitmap_no_object}
 use Rattle.row_format.proofs.ExtentReading.{extents-same}
-use Rattle.row_check.proofs.KeyOrder.{after_front, has_front, lesser_page, onode_before}
-use Rattle.row_check.proofs.Walk.{AreRows, all_rows, are_rows}
+use Rattle.row_reading.proofs.KeyOrder.{after_front, has_front, lesser_page, onode_before}
+use Rattle.row_reading.proofs.Entries.{AreRows, all_rows, are_rows}
 use Rattle.store_image.specs.Pages.{HasRow}
 use Rattle.store_image.specs.BadRows.{IsGoodRow, NoBadRow}
 use Rattle.object_rows.specs.Maps.{Rise, AreShardsOf}

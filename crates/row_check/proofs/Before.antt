@@ -15,8 +15,8 @@ use Rattle.store_image.specs.Pages.{HasKey, HasRow, pages_of}
 use Rattle.store_image.specs.BadRows.{IsInPlace, IsShardInPlace}
 use Rattle.onode_codec.specs.Reading.{SpellsOnode}
 use Rattle.onode_codec.proofs.Again.{same_onode}
-use Rattle.row_check.specs.declared.row.Row.{Row}
-use Rattle.row_check.specs.declared.row.Row.TheVariants as read
+use Rattle.row_reading.specs.declared.row.Row.{Row}
+use Rattle.row_reading.specs.declared.row.Row.TheVariants as read
 use Rattle.row_check.specs.Bad.{IsRightBefore, IsWalkedTo, IsOfObjectIn, IsOnodeOf, IsWithinOnode}
 use Rattle.row_check.proofs.Shards.{good_in_place}
 

@@ -1,6 +1,3 @@
-pub mod KeyReading
-pub mod RowReading
-pub mod KeyOrder
 pub mod Walk
 pub mod Shards
 pub mod Before

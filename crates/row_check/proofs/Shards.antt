@@ -17,11 +17,11 @@ use Rattle.row_format.proofs.ExtentReading.{extents-same}
 use Rattle.row_format.proofs.RowLemmas.{same_row}
 use Rattle.store_image.specs.Pages.{HasRow}
 use Rattle.store_image.specs.BadRows.{IsInPlace, IsShardInPlace, IsGoodRow}
-use Rattle.row_check.specs.declared.row.Row.{Row}
-use Rattle.row_check.specs.declared.row.Row.TheVariants as read
-use Rattle.row_check.specs.Reading.{row_of, SpellsRow}
+use Rattle.row_reading.specs.declared.row.Row.{Row}
+use Rattle.row_reading.specs.declared.row.Row.TheVariants as read
+use Rattle.row_reading.specs.Reading.{row_of, SpellsRow}
 use Rattle.row_check.specs.Bad.{IsRightBefore, IsWalkedTo, EndsBefore, ShardStands}
-use Rattle.row_check.proofs.KeyOrder.{has_front, onode_front, shard_front, page_bytes, lesser_page, lesser_shard, onode_before}
+use Rattle.row_reading.proofs.KeyOrder.{has_front, onode_front, shard_front, page_bytes, lesser_page, lesser_shard, onode_before}
 
 -- a good row is in its place
 pub good_in_place : (s : Super) (rows : Rows) (r : format.Row) → HasRow rows r → IsGoodRow s rows (format.row_key r) (format.row_value r) → IsInPlace s rows r

@@ -11,9 +11,9 @@ use Rattle.row_format.specs.Extents.{Extent, page_end, ExtentsAscend}
 use Rattle.row_format.specs.Row as format
 use Rattle.store_image.specs.Pages.{HasKey, HasRow, pages_of}
 use Rattle.store_image.specs.BadRows.{IsOnData, IsInPlace, IsGoodRow, IsBadRow}
-use Rattle.row_check.specs.declared.row.Row.{Row}
-use Rattle.row_check.specs.declared.row.Row.TheVariants as rows
-use Rattle.row_check.specs.Reading.{row_of, SpellsRow}
+use Rattle.row_reading.specs.declared.row.Row.{Row}
+use Rattle.row_reading.specs.declared.row.Row.TheVariants as rows
+use Rattle.row_reading.specs.Reading.{row_of, SpellsRow}
 
 -- each row whose key is below this one is good
 abbrev pub AreGoodBefore : Super → Rows → List ℕ → Type 0

@@ -1,4 +1,3 @@
-pub mod Reading
 pub mod Bad
 pub mod Marks
 pub mod Owned

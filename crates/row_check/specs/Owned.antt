@@ -5,7 +5,7 @@ use Rattle.std.specs.Ordering.{nat_cmp}
 use Rattle.meta_rows.specs.Rows.{Rows}
 use Rattle.row_format.specs.Row as format
 use Rattle.store_image.specs.Owners.{IsOwned, HasSoleOwner}
-use Rattle.row_check.specs.Reading.{SpellsRow}
+use Rattle.row_reading.specs.Reading.{SpellsRow}
 use Rattle.row_check.specs.Marks.{Marks, row_marked, RowEndsBy}
 
 -- the set is the units that have an owner

@@ -4,10 +4,10 @@ ghost use Rattle.store_image.specs.BadRows.{IsGoodRow, NoBadRow};
 ghost use Rattle.row_check.specs.Bad.{IsLeastBad, IsWalkedTo, IsGood};
 
 use crate::in_place::is_in_place;
-use crate::row::{Row, read_row_after};
 use byte_maps::Bytes;
 use meta_log::Super;
 use meta_rows::RowTable;
+use row_reading::{Row, read_row_after};
 use std::alloc::{AllocError, Global};
 use unit_fields::CollName;
 

@@ -9,14 +9,14 @@ ghost use Rattle.store_image.specs.Pages.{HasKey, HasRow, pages_of};
 ghost use Rattle.store_image.specs.BadRows.{IsOnData, AreOfData, IsInPlace};
 ghost use Rattle.store_image.specs.Owners.{IsDataUnit};
 ghost use Rattle.onode_codec.specs.Reading.{SpellsOnode};
-ghost use Rattle.row_check.specs.Reading.{row_of};
+ghost use Rattle.row_reading.specs.Reading.{row_of};
 ghost use Rattle.row_check.specs.Bad.{EndsBefore, IsOfObjectIn, IsOnodeOf, IsWithinOnode, ShardStands, IsWalkedTo};
 ghost use Rattle.row_check.specs.DataBits.{bit_at_place, IsBitOfData};
 
-use crate::row::Row;
 use meta_log::Super;
 use meta_rows::RowTable;
 use onode_codec::{Body, Extent, Onode, coll_key, onode_key};
+use row_reading::Row;
 use std::alloc::{AllocError, Global};
 use unit_fields::limits::{OBJECT_LIMIT, UNIT_BYTES};
 use unit_fields::{CollName, Name};

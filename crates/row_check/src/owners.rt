@@ -6,10 +6,10 @@ ghost use Rattle.store_image.specs.BadRows.{NoBadRow};
 ghost use Rattle.store_image.specs.Owners.{IsOwned};
 ghost use Rattle.row_check.specs.Owned.{AreOwned, AreShared, AreMarked, AreMarkedOn, SpellsRowWithin, TellsShard};
 
-use crate::key::OBJECT;
 use crate::unit_marks::UnitMarks;
 use meta_log::Super;
 use meta_rows::RowTable;
+use row_reading::OBJECT;
 use std::alloc::{AllocError, Global};
 use unit_fields::UnitSet;
 

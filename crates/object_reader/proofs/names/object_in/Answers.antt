@@ -1,5 +1,5 @@
 use Rattle.std.proofs.Common.{◌≡◌, Some}
-use Rattle.row_check.specs.declared.key.RowKey.TheVariants.{Object}
+use Rattle.row_reading.specs.declared.key.RowKey.TheVariants.{Object}
 use Rattle.object_reader.proofs.NamesNext.{onode_is_read, onode_reads_no_coll, reads_object}
 use Rattle.object_reader.proofs.names.object_in.Goals as goal
 

@@ -3,7 +3,8 @@ use Rattle.meta_rows.specs.Table.{rows_from_to}
 use Rattle.meta_rows.proofs.RangeLemmas.{left_more, left_none}
 use Rattle.store_image.specs.BadRows.{IsGoodRow}
 use Rattle.row_check.specs.Bad.{IsLeastBad, IsGood}
-use Rattle.row_check.proofs.Walk.{AreRows, are_rows, at_start, step_to, step_on, step_bad, all_good}
+use Rattle.row_reading.proofs.Entries.{AreRows, are_rows}
+use Rattle.row_check.proofs.Walk.{at_start, step_to, step_on, step_bad, all_good}
 use Rattle.row_check.proofs.bad.find_bad_row.Goals as goal
 
 pub loop-key-init : goal.loop-key-init

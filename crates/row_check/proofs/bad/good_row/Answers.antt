@@ -1,6 +1,6 @@
 use Rattle.std.proofs.Common.{◌≡◌, true, false, sym, ◌∙◌}
 use Rattle.store_image.specs.BadRows.{IsInPlace}
-use Rattle.row_check.specs.Reading.{row_of, SpellsRow}
+use Rattle.row_reading.specs.Reading.{row_of, SpellsRow}
 use Rattle.row_check.proofs.Shards.{no_good}
 use Rattle.row_check.proofs.bad.good_row.Goals as goal
 

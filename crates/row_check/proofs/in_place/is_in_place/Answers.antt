@@ -1,7 +1,7 @@
 use Rattle.std.proofs.Common.{◌≡◌, true, false, sym, ◌∙◌}
 use Rattle.row_check.specs.Bad.{EndsBefore}
 use Rattle.row_format.specs.Row.{row_key}
-use Rattle.row_check.specs.Reading.{row_of}
+use Rattle.row_reading.specs.Reading.{row_of}
 use Rattle.row_check.proofs.Shards.{shard_answer, shard_refused}
 use Rattle.row_check.proofs.Before.{collection_before, onode_before}
 use Rattle.row_check.proofs.in_place.is_in_place.Goals as goal

@@ -2,7 +2,7 @@ use Rattle.std.proofs.Common.{◌≡◌, ◌+◌, [], None, refl, sym, subst, �
 use Rattle.meta_rows.specs.Table.{rows_from_to}
 use Rattle.meta_rows.proofs.RangeLemmas.{left_more, left_none}
 use Rattle.row_check.specs.Owned.{SpellsRowWithin}
-use Rattle.row_check.proofs.Walk.{AreRows, are_rows}
+use Rattle.row_reading.proofs.Entries.{AreRows, are_rows}
 use Rattle.row_check.proofs.MarkedRows.{MarkedTo, none_marked, spells_within, row_step, all_marked}
 use Rattle.row_check.proofs.owners.marks_of.Goals as goal
 

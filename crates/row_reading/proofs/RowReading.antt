@@ -9,9 +9,9 @@ use Rattle.row_format.specs.Row.{collection, onode, shard, bitmap}
 use Rattle.row_format.proofs.KeyLemmas.{coll_no_object, same_shard, onode_no_shard, bitmap_no_coll, bitmap_no_object}
 use Rattle.onode_codec.specs.Reading.{SpellExtents}
 use Rattle.onode_codec.proofs.Again.{same_extents}
-use Rattle.row_check.specs.declared.key.Part.TheVariants.{Onode, Shard}
-use Rattle.row_check.specs.declared.key.RowKey.TheVariants.{Collection, Object, Bitmap}
-use Rattle.row_check.specs.Reading.{IsNoKey, SpellsRow, IsNoRow}
+use Rattle.row_reading.specs.declared.key.Part.TheVariants.{Onode, Shard}
+use Rattle.row_reading.specs.declared.key.RowKey.TheVariants.{Collection, Object, Bitmap}
+use Rattle.row_reading.specs.Reading.{IsNoKey, SpellsRow, IsNoRow}
 
 -- the key of a row names something
 pub no_row : (key value : List ℕ) → IsNoKey key → IsNoRow key value

@@ -1,7 +1,7 @@
 use Rattle.std.proofs.Common.{refl}
 use Rattle.meta_rows.proofs.XorLemmas.{zeros_or_not}
-use Rattle.row_check.proofs.RowReading.{bits_test}
-use Rattle.row_check.proofs.row.are_bits.Goals as goal
+use Rattle.row_reading.proofs.RowReading.{bits_test}
+use Rattle.row_reading.proofs.row.are_bits.Goals as goal
 
 pub returns-then-value-eq-ROW_BYTES : goal.returns-then-value-eq-ROW_BYTES
 returns-then-value-eq-ROW_BYTES c =

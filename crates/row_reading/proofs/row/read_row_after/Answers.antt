@@ -1,6 +1,6 @@
-use Rattle.row_check.specs.Reading.{IsNoKey}
-use Rattle.row_check.proofs.RowReading.{no_row}
-use Rattle.row_check.proofs.row.read_row_after.Goals as goal
+use Rattle.row_reading.specs.Reading.{IsNoKey}
+use Rattle.row_reading.proofs.RowReading.{no_row}
+use Rattle.row_reading.proofs.row.read_row_after.Goals as goal
 
 pub returns-in-None : goal.returns-in-None
 returns-in-None c =

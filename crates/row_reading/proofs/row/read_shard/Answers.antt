@@ -1,8 +1,8 @@
 use Rattle.std.proofs.Common.{◌≡◌, true, false, List, sym, subst, ◌∙◌}
 use Rattle.row_format.specs.Extents.{Extent, BeginsAt}
 use Rattle.onode_codec.specs.Reading.{SpellExtents}
-use Rattle.row_check.proofs.RowReading.{no_extents, other_page}
-use Rattle.row_check.proofs.row.read_shard.Goals as goal
+use Rattle.row_reading.proofs.RowReading.{no_extents, other_page}
+use Rattle.row_reading.proofs.row.read_shard.Goals as goal
 
 pub returns-in_default : goal.returns-in_default
 returns-in_default c =

@@ -3,8 +3,8 @@ ghost use Rattle.std.specs.Prelude.{◌≡◌, ◌≢◌, ◌<◌, ◌++◌, ◌
 ghost use Rattle.std.specs.List.{AllByRecursion};
 ghost use Rattle.std.specs.Int.{w32, to_be_bytes};
 ghost use Rattle.unit_fields.specs.Names.{IsCollName};
-ghost use Rattle.row_check.specs.Reading.{IsPart, part_bytes, IsNoObject, IsNoKey, SpellsObject, SpellsKey};
-ghost use Rattle.row_check.specs.declared.key.Part.{Part};
+ghost use Rattle.row_reading.specs.Reading.{IsPart, part_bytes, IsNoObject, IsNoKey, SpellsObject, SpellsKey};
+ghost use Rattle.row_reading.specs.declared.key.Part.{Part};
 
 use std::alloc::{AllocError, Global};
 use unit_fields::{CollName, Fields, Name};
@@ -13,7 +13,7 @@ use unit_fields::{CollName, Fields, Name};
 const COLLECTION: u8 = b'C';
 
 /// The same of an object's own rows.
-pub(crate) const OBJECT: u8 = b'O';
+pub const OBJECT: u8 = b'O';
 
 const BITMAP: u8 = b'b';
 
@@ -154,7 +154,7 @@ pub fn read_key(alloc: Global, key: &[u8]) -> Result<Option<RowKey>, AllocError>
 }
 
 /// The same, sooner where it names an object of a collection that is known.
-pub(crate) fn read_key_after(
+pub fn read_key_after(
     alloc: Global,
     known: Option<&CollName>,
     key: &[u8],

@@ -5,12 +5,12 @@ use Rattle.unit_fields.specs.Names.{IsName, IsCollName}
 use Rattle.row_format.specs.Keys.{coll_key, object_key, bitmap_key}
 use Rattle.row_format.specs.Bits.{bit_rows}
 use Rattle.row_format.specs.Row as format
-use Rattle.row_check.specs.declared.key.Part.{Part}
-use Rattle.row_check.specs.declared.key.Part.TheVariants.{Onode, Shard}
-use Rattle.row_check.specs.declared.key.RowKey.{RowKey}
-use Rattle.row_check.specs.declared.key.RowKey.TheVariants.{Collection, Object, Bitmap}
-use Rattle.row_check.specs.declared.row.Row as row
-use Rattle.row_check.specs.declared.row.Row.TheVariants as rows
+use Rattle.row_reading.specs.declared.key.Part.{Part}
+use Rattle.row_reading.specs.declared.key.Part.TheVariants.{Onode, Shard}
+use Rattle.row_reading.specs.declared.key.RowKey.{RowKey}
+use Rattle.row_reading.specs.declared.key.RowKey.TheVariants.{Collection, Object, Bitmap}
+use Rattle.row_reading.specs.declared.row.Row as row
+use Rattle.row_reading.specs.declared.row.Row.TheVariants as rows
 
 -- what stands behind the names in the key of an onode, and of a shard
 abbrev pub part_bytes : Part → List ℕ

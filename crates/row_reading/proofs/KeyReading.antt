@@ -4,9 +4,9 @@ use Rattle.std.specs.List.{AllByRecursion}
 use Rattle.unit_fields.specs.Names.{IsName, IsCollName}
 use Rattle.unit_fields.proofs.CollNames.{no_zero_in_coll}
 use Rattle.row_format.proofs.KeyLemmas.{same_head, first_zero}
-use Rattle.row_check.specs.declared.key.Part.{Part}
-use Rattle.row_check.specs.declared.key.RowKey.TheVariants.{Collection, Object, Bitmap}
-use Rattle.row_check.specs.Reading.{part_bytes, IsNoObject}
+use Rattle.row_reading.specs.declared.key.Part.{Part}
+use Rattle.row_reading.specs.declared.key.RowKey.TheVariants.{Collection, Object, Bitmap}
+use Rattle.row_reading.specs.Reading.{part_bytes, IsNoObject}
 
 positive : (xs : List ℕ) → AllByRecursion (λ b. b ≢ 0) xs → AllByRecursion (λ b. 0 < b) xs
 positive [] none = tt

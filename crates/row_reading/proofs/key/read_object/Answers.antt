@@ -1,6 +1,6 @@
 use Rattle.unit_fields.specs.Names.{IsName, IsCollName}
-use Rattle.row_check.proofs.KeyReading.{cut_twice, no_first_zero, no_second_zero, no_part, no_coll, no_object}
-use Rattle.row_check.proofs.key.read_object.Goals as goal
+use Rattle.row_reading.proofs.KeyReading.{cut_twice, no_first_zero, no_second_zero, no_part, no_coll, no_object}
+use Rattle.row_reading.proofs.key.read_object.Goals as goal
 
 pub returns-in_default : goal.returns-in_default
 returns-in_default c = no_first_zero c.args.bytes.now c.in_default.ensures

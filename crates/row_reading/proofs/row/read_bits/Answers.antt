@@ -1,6 +1,6 @@
 use Rattle.std.proofs.Common.{◌≡◌, false, true}
-use Rattle.row_check.proofs.RowReading.{no_bits}
-use Rattle.row_check.proofs.row.read_bits.Goals as goal
+use Rattle.row_reading.proofs.RowReading.{no_bits}
+use Rattle.row_reading.proofs.row.read_bits.Goals as goal
 
 pub returns-then-not-are_bits : goal.returns-then-not-are_bits
 returns-then-not-are_bits c =

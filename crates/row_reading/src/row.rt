@@ -4,7 +4,7 @@ ghost use Rattle.meta_rows.specs.Rows.{all_zero};
 ghost use Rattle.unit_fields.specs.Names.{IsName, IsCollName};
 ghost use Rattle.row_format.specs.Keys.{onode_key, shard_key, bitmap_key};
 ghost use Rattle.row_format.specs.Extents.{BeginsAt};
-ghost use Rattle.row_check.specs.Reading.{row_of, SpellsRow, IsNoRow};
+ghost use Rattle.row_reading.specs.Reading.{row_of, SpellsRow, IsNoRow};
 
 use crate::key::{Part, RowKey, read_key_after};
 use byte_maps::{Bytes, Items, is_zero};
@@ -125,7 +125,7 @@ pub fn read_row(alloc: Global, key: &[u8], value: &[u8]) -> Result<Option<Row>, 
 }
 
 /// The same, sooner where it is the row of an object of a collection that is known.
-pub(crate) fn read_row_after(
+pub fn read_row_after(
     alloc: Global,
     known: Option<&CollName>,
     key: &[u8],

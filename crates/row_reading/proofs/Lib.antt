@@ -1,0 +1,4 @@
+pub mod KeyReading
+pub mod RowReading
+pub mod KeyOrder
+pub mod Entries

@@ -1,4 +1,5 @@
 //! A device in memory: its images, its waits and its failing calls.
+ghost use Rattle.std.specs.Prelude.{◌≤◌, All};
 
 use block_device::{Device, Kind, MemoryDevice, Tear};
 use std::alloc::{AllocError, Global};
@@ -15,9 +16,10 @@ enum Step {
     Read(u32),
 }
 
-// A device of four units of ones. Of two submissions the first waits for so many reaps, and the second for none.
-fn device(alloc: Global, lag: u8, fails: Vec<(Kind, u64)>) -> Result<MemoryDevice, AllocError> {
-    let lags = vec![in alloc; lag.min(2), 0]?;
+// A device of four units of ones, with these waits and failing calls.
+fn device(alloc: Global, lags: Vec<u8>, fails: Vec<(Kind, u64)>) -> Result<MemoryDevice, AllocError>
+    requires { All (λ lag. lag ≤ 63) lags.items }
+{
     MemoryDevice::new(alloc, vec![in alloc; 1u8; 16384]?, lags, fails)
 }
 
@@ -102,7 +104,7 @@ fn image(device: &MemoryDevice, cut: u64, tear: Tear) -> Result<[u8; 4], AllocEr
 #[test]
 fn each_tear(rt: HostRuntime) -> Result<(), Fail> {
     let alloc = rt.alloc();
-    let mut device = device(alloc, 0, Vec::new(alloc))?;
+    let mut device = device(alloc, Vec::new(alloc), Vec::new(alloc))?;
     assert!(rt;
         comes_to(
             alloc,
@@ -135,7 +137,7 @@ fn each_tear(rt: HostRuntime) -> Result<(), Fail> {
 #[test]
 fn waits(rt: HostRuntime) -> Result<(), Fail> {
     let alloc = rt.alloc();
-    let mut device = device(alloc, 2, Vec::new(alloc))?;
+    let mut device = device(alloc, vec![in alloc; 2u8, 0]?, Vec::new(alloc))?;
     assert!(rt;
         comes_to(
             alloc,
@@ -158,7 +160,7 @@ fn waits(rt: HostRuntime) -> Result<(), Fail> {
 fn failing_calls(rt: HostRuntime) -> Result<(), Fail> {
     let alloc = rt.alloc();
     let fails = vec![in alloc; (Kind::Write, 1), (Kind::Flush, 0), (Kind::Read, 1)]?;
-    let mut device = device(alloc, 0, fails)?;
+    let mut device = device(alloc, Vec::new(alloc), fails)?;
     assert!(rt;
         comes_to(
             alloc,

@@ -31,7 +31,10 @@ fn keys_in_order(rt: HostRuntime) -> Result<(), Fail> {
     let copy = map.duplicate(alloc)?;
     map.remove_range(b"k\x02", b"k\x09");
     assert_eq!(rt; keys(alloc, &map)?.as_slice(), [0, 9, 255].as_slice());
-    assert_eq!(rt; keys(alloc, &copy)?.as_slice(), [0, 2, 7, 9, 255].as_slice());
+    assert_eq!(rt;
+        keys(alloc, &copy)?.as_slice(),
+        [0, 2, 7, 9, 255].as_slice()
+    );
     Ok(())
 }
 

@@ -4,7 +4,7 @@ ghost use Rattle.meta_rows.specs.Spelling.{IsKey};
 
 use byte_maps::Bytes;
 use crc32c_csum::crc32c;
-use meta_log::{SealedRecord, Super, scan};
+use meta_log::{FoundLog, SealedRecord, Super, scan};
 use meta_rows::RowOp;
 use std::alloc::{AllocError, Global};
 use std::test::*;
@@ -109,9 +109,13 @@ fn other_slots(rt: HostRuntime) -> Result<(), Fail> {
     Ok(())
 }
 
+fn scanned(alloc: Global, half: &[u8], first: u64) -> Result<FoundLog, AllocError> {
+    scan(alloc, half, first)
+}
+
 // How many records are found, the next number, and the next unit.
 fn found(alloc: Global, half: &[u8], first: u64) -> Result<(usize, u64, u64), AllocError> {
-    let log = scan(alloc, half, first)?;
+    let log = scanned(alloc, half, first)?;
     Ok((log.records.len(), log.next_number, log.next_unit))
 }
 
@@ -127,7 +131,7 @@ fn found_in(
 
 // Whether one record is found, and makes this row and no other.
 fn makes(alloc: Global, half: &[u8], first: u64, row: &[u8]) -> Result<bool, AllocError> {
-    let log = scan(alloc, half, first)?;
+    let log = scanned(alloc, half, first)?;
     let [ops] = log.records.as_slice() else {
         return Ok(false);
     };
@@ -144,8 +148,20 @@ fn around_a_record(rt: HostRuntime) -> Result<(), Fail> {
         ("as it is", (0, b"B"), 8192, 7, (1, 8, 1)),
         ("another number", (0, b"B"), 8192, 6, (0, 6, 0)),
         ("a byte behind the body", (40, b"\x01"), 8192, 7, (0, 7, 0)),
-        ("a byte at the unit's end", (4095, b"\x01"), 8192, 7, (0, 7, 0)),
-        ("a byte in the next unit", (4096, b"\x01"), 8192, 7, (1, 8, 1)),
+        (
+            "a byte at the unit's end",
+            (4095, b"\x01"),
+            8192,
+            7,
+            (0, 7, 0),
+        ),
+        (
+            "a byte in the next unit",
+            (4096, b"\x01"),
+            8192,
+            7,
+            (1, 8, 1),
+        ),
         ("a byte less than a unit", (0, b"B"), 4095, 7, (0, 7, 0)),
         ("a unit and a part of one", (0, b"B"), 5000, 7, (1, 8, 1)),
     ];
@@ -228,7 +244,12 @@ fn consecutive_numbers(rt: HostRuntime) -> Result<(), Fail> {
 }
 
 // The record of this number that sets one row.
-fn sealed(alloc: Global, number: u64, key: &[u8], value: Vec<u8>) -> Result<SealedRecord, AllocError>
+fn sealed(
+    alloc: Global,
+    number: u64,
+    key: &[u8],
+    value: Vec<u8>,
+) -> Result<SealedRecord, AllocError>
     requires number { number < 2 ^ 62 }
     requires key { IsKey key.now }
     requires value { length value.items < 2000000 }
@@ -258,7 +279,10 @@ fn written(
 fn a_record_by_hand(rt: HostRuntime) -> Result<(), Fail> {
     let alloc = rt.alloc();
     let made = sealed(alloc, 7, b"C1.0_head", Vec::new(alloc))?;
-    assert_eq!(rt; written(alloc, 1, &made, 1)?, laid(alloc, 1, &[(0, RECORD)])?);
+    assert_eq!(rt;
+        written(alloc, 1, &made, 1)?,
+        laid(alloc, 1, &[(0, RECORD)])?
+    );
     Ok(())
 }
 
@@ -293,7 +317,11 @@ fn torn_records(rt: HostRuntime) -> Result<(), Fail> {
         (66, 2, 255, (0, 1, 0)),
     ] {
         let count = found_of(rt.alloc(), more, pieces, missing)?;
-        assert_eq!(rt; count, wanted, "{pieces} pieces of {more} and a unit, without {missing}");
+        assert_eq!(rt;
+            count,
+            wanted,
+            "{pieces} pieces of {more} and a unit, without {missing}"
+        );
     }
     Ok(())
 }

@@ -24,10 +24,14 @@ fn is(op: Option<&RowOp>, name: &str, key: &[u8], value: &[u8]) -> bool {
     }
 }
 
+fn decoded(alloc: Global, bytes: &[u8]) -> Result<Option<Vec<RowOp>>, AllocError> {
+    decode(alloc, bytes)
+}
+
 #[test]
 fn operations_by_hand(rt: HostRuntime) -> Result<(), Fail> {
     let alloc = rt.alloc();
-    let ops = decode(alloc, BY_HAND)?.unwrap_or(Vec::new(alloc));
+    let ops = decoded(alloc, BY_HAND)?.unwrap_or(Vec::new(alloc));
     assert_eq!(rt; ops.len(), 3);
     for (at, name, key, value) in [
         (0usize, "set", b"C1.0_head".as_slice(), b"".as_slice()),
@@ -150,6 +154,10 @@ fn apply(rows: &mut RowTable, ops: Vec<RowOp>, room: usize) -> Result<(), AllocE
     Ok(())
 }
 
+fn apply_all(alloc: Global, rows: &mut RowTable, ops: Vec<RowOp>) -> Result<(), AllocError> {
+    rows.apply_all(alloc, ops)
+}
+
 // Whether these rows stand from the one key on, below the other.
 fn stand(rows: &RowTable, first: &[u8], end: Option<&[u8]>, wanted: &[(&[u8], &[u8])]) -> bool {
     let mut left = wanted;
@@ -222,7 +230,7 @@ fn a_batch_by_key(rt: HostRuntime) -> Result<(), Fail> {
     let mut rows = RowTable::new(alloc);
     let one: &[Step] = &[(Kind::Drop, b"none", b"")];
     for steps in [&[], EARLIER, BATCH, one] {
-        rows.apply_all(alloc, operations(alloc, steps)?)?;
+        apply_all(alloc, &mut rows, operations(alloc, steps)?)?;
     }
     assert!(rt; stand(&rows, b"", None, LATER));
     Ok(())
@@ -241,7 +249,11 @@ fn ranges_of_rows(rt: HostRuntime) -> Result<(), Fail> {
     ];
     apply(&mut rows, operations(alloc, steps)?, 0)?;
     let cases: [(&[u8], Option<&[u8]>, &[(&[u8], &[u8])]); 5] = [
-        (b"O", Some(b"P"), &[(b"Oa", b"2"), (b"Oa\x00x", b"3"), (b"Ob", b"4")]),
+        (
+            b"O",
+            Some(b"P"),
+            &[(b"Oa", b"2"), (b"Oa\x00x", b"3"), (b"Ob", b"4")],
+        ),
         (b"Oa", Some(b"Ob"), &[(b"Oa", b"2"), (b"Oa\x00x", b"3")]),
         (b"Ob", None, &[(b"Ob", b"4"), (b"b", b"5")]),
         (b"P", Some(b"O"), &[]),
@@ -267,8 +279,14 @@ fn of_numbers(alloc: Global, kind: Kind, is_hundredth_too: bool) -> Result<Vec<R
 // How many chunks hold rows, and how many are spare, as the table's debug text shows them.
 fn chunks(alloc: Global, rows: &RowTable) -> Result<(usize, usize), Fail> {
     let text = format!(in alloc; "{rows:?}")?;
-    let (held, spare) = text.as_str().split_once("spare: ").ok_or("no spare chunks")?;
-    Ok((held.matches("Chunk {").count(), spare.matches("Chunk {").count()))
+    let (held, spare) = text
+        .as_str()
+        .split_once("spare: ")
+        .ok_or("no spare chunks")?;
+    Ok((
+        held.matches("Chunk {").count(),
+        spare.matches("Chunk {").count(),
+    ))
 }
 
 #[test]

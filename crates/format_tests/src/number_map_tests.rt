@@ -20,7 +20,10 @@ fn keys_in_order(rt: HostRuntime) -> Result<(), Fail> {
         map.insert(key, value)?;
     }
     let copy = map.copy(alloc)?;
-    assert_eq!(rt; map.cut(alloc, 2, 4)?.as_slice(), [(2, 5), (3, 6)].as_slice());
+    assert_eq!(rt;
+        map.cut(alloc, 2, 4)?.as_slice(),
+        [(2, 5), (3, 6)].as_slice()
+    );
     assert_eq!(rt; keys(alloc, &map)?.as_slice(), [1, 4, 5].as_slice());
     assert_eq!(rt; keys(alloc, &copy)?.as_slice(), [1, 2, 3, 4, 5].as_slice());
     Ok(())

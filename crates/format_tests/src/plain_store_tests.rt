@@ -4,7 +4,7 @@
 use byte_maps::Bytes;
 use object_model::{Answer, Command, Op, Refusal, Transaction};
 use plain_store::{ArgFault, Plain};
-use std::alloc::Global;
+use std::alloc::{AllocError, Global};
 use std::test::*;
 use unit_fields::{CollName, Name};
 
@@ -19,29 +19,50 @@ fn write(alloc: Global, object: &[u8], off: u64, text: &[u8]) -> Result<Op, Fail
     Ok(Op::Write { object, off, bytes })
 }
 
-// The transaction that makes the collection, and an object with bytes at an offset.
-fn made(alloc: Global, off: u64, text: &[u8]) -> Result<Transaction, Fail> {
+// The transaction that makes the collection.
+fn begun(alloc: Global) -> Result<Transaction, AllocError> {
     let coll = CollName::new(alloc, 1, 0)?;
-    let mut change = Transaction::new(alloc, coll, Op::MkColl).map_err(|_| "memory")?;
-    change
-        .push(write(alloc, b"a", off, text)?)
-        .map_err(|_| "memory")?;
-    Ok(change)
+    match Transaction::new(alloc, coll, Op::MkColl) {
+        Ok(change) => Ok(change),
+        Err(_) => Err(AllocError),
+    }
 }
 
-// Whether the transaction is applied, or None for want of memory.
-fn refusal(alloc: Global, plain: &mut Plain, change: &Transaction) -> Result<Option<Refusal>, Fail> {
-    match plain.apply(alloc, change) {
+// The same with an object that has bytes at an offset.
+fn made(alloc: Global, off: u64, text: &[u8]) -> Result<Transaction, Fail> {
+    let mut change = begun(alloc)?;
+    match change.push(write(alloc, b"a", off, text)?) {
+        Ok(()) => Ok(change),
+        Err(_) => Err("memory".into()),
+    }
+}
+
+fn apply(alloc: Global, plain: &mut Plain, change: &Transaction) -> Result<(), ArgFault> {
+    plain.apply(alloc, change)
+}
+
+// Why the transaction isn't applied, if it isn't.
+fn refusal(
+    alloc: Global,
+    plain: &mut Plain,
+    change: &Transaction,
+) -> Result<Option<Refusal>, Fail> {
+    match apply(alloc, plain, change) {
         Ok(()) => Ok(None),
         Err(ArgFault::Refused(refusal)) => Ok(Some(refusal)),
         Err(ArgFault::Memory) => Err("memory".into()),
     }
 }
 
-fn sum(alloc: Global, plain: &Plain) -> Result<Option<(u64, u32)>, Fail> {
+// The reply to a command for the sum of the object.
+fn reply(alloc: Global, plain: &Plain) -> Result<Answer, Fail> {
     let coll = CollName::new(alloc, 1, 0)?;
     let object = name(alloc, b"a")?;
-    match plain.reply(alloc, &Command::Sum { coll, object })? {
+    Ok(plain.reply(alloc, &Command::Sum { coll, object })?)
+}
+
+fn sum(alloc: Global, plain: &Plain) -> Result<Option<(u64, u32)>, Fail> {
+    match reply(alloc, plain)? {
         Answer::Sum { size, crc } => Ok(Some((size, crc))),
         _ => Ok(None),
     }

@@ -62,11 +62,15 @@ fn show_lines(alloc: Global, lines: Vec<Line>) -> Result<String, AllocError> {
     Ok(text)
 }
 
+fn read(alloc: Global, source: &mut MemorySource) -> Result<Vec<Line>, ScriptFail> {
+    read_script(alloc, source)
+}
+
 // What comes of a text, at most `step` bytes a read.
 fn outcome(alloc: Global, text: &[u8], step: u32, fails: Vec<u64>) -> Result<String, AllocError> {
     let text = Vec::from_slice(alloc, text)?;
     let mut source = MemorySource::new(text, step.max(1), fails);
-    match read_script(alloc, &mut source) {
+    match read(alloc, &mut source) {
         Ok(lines) => show_lines(alloc, lines),
         Err(ScriptFail::Memory) => Err(AllocError),
         Err(fail) => format!(in alloc; "{fail}"),
@@ -202,7 +206,7 @@ fn lines_of(alloc: Global, line: &[u8], count: u32) -> Result<Option<usize>, All
         text.extend_from_slice(line)?;
     }
     let mut source = MemorySource::new(text, 65536, Vec::new(alloc));
-    Ok(match read_script(alloc, &mut source) {
+    Ok(match read(alloc, &mut source) {
         Ok(lines) => Some(lines.len()),
         Err(_) => None,
     })

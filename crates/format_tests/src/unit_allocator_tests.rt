@@ -36,8 +36,17 @@ fn are_runs(runs: &[Run], wanted: &[(u32, u32)]) -> bool {
     true
 }
 
-fn takes(alloc: Global, space: &mut Allocator, n: u32, wanted: &[(u32, u32)]) -> Result<bool, Fail> {
-    let runs = space.take(alloc, n)?;
+fn take(alloc: Global, space: &mut Allocator, n: u32) -> Result<Vec<Run>, TakeFail> {
+    space.take(alloc, n)
+}
+
+fn takes(
+    alloc: Global,
+    space: &mut Allocator,
+    n: u32,
+    wanted: &[(u32, u32)],
+) -> Result<bool, Fail> {
+    let runs = take(alloc, space, n)?;
     Ok(are_runs(&runs, wanted))
 }
 
@@ -121,7 +130,7 @@ fn no_space(rt: HostRuntime) -> Result<(), Fail> {
     assert_eq!(rt; space.lowest_units(alloc, 3)?.as_slice(), wanted.as_slice());
     let fail = TakeFail::NoSpace { need: 5, free: 4 };
     assert_eq!(rt; space.lowest_units(alloc, 5).err().as_ref(), Some(&fail));
-    assert_eq!(rt; space.take(alloc, 5).err().as_ref(), Some(&fail));
+    assert_eq!(rt; take(alloc, &mut space, 5).err().as_ref(), Some(&fail));
     Ok(())
 }
 
@@ -159,10 +168,10 @@ fn gives_every_other(space: &mut Allocator, runs: &[Run]) -> bool {
 fn a_million_units(rt: HostRuntime) -> Result<(), Fail> {
     let alloc = rt.alloc();
     let mut space = largest(alloc)?;
-    let runs = space.take(alloc, 100_000)?;
+    let runs = take(alloc, &mut space, 100_000)?;
     assert_eq!(rt; runs.len(), 1011);
     assert!(rt; gives_every_other(&mut space, &runs));
     assert_eq!(rt; space.free_count(), 988_078);
-    assert_eq!(rt; space.take(alloc, 50_005)?.len(), 506);
+    assert_eq!(rt; take(alloc, &mut space, 50_005)?.len(), 506);
     Ok(())
 }

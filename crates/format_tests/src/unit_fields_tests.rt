@@ -3,8 +3,10 @@
 use byte_maps::Duplicate;
 use std::alloc::{AllocError, Global};
 use std::test::*;
-use unit_fields::{CollName, Fields, Name, UnitSet};
-use unit_fields::{push_u16_le, push_u32_be, push_u32_le, push_u64_be, push_u64_le};
+use unit_fields::{
+    CollName, Fields, Name, UnitSet, push_u16_le, push_u32_be, push_u32_le, push_u64_be,
+    push_u64_le,
+};
 
 fn is_coll_name(alloc: Global, bytes: &[u8]) -> Result<bool, AllocError> {
     match CollName::read(alloc, bytes)? {
@@ -70,7 +72,8 @@ fn written(alloc: Global) -> Result<Vec<u8>, AllocError> {
     Ok(out)
 }
 
-const WRITTEN: &[u8] = b"\x02\x01\x04\x03\x02\x01\x08\x07\x06\x05\x04\x03\x02\x01\x01\x02\x03\x04\x01\x02\x03\x04\x05\x06\x07\x08";
+const WRITTEN: &[u8] =
+    b"\x02\x01\x04\x03\x02\x01\x08\x07\x06\x05\x04\x03\x02\x01\x01\x02\x03\x04\x01\x02\x03\x04\x05\x06\x07\x08";
 
 fn values(fields: &mut Fields) -> (Option<u16>, Option<u32>, Option<u64>) {
     (fields.u16(), fields.u32(), fields.u64())

@@ -2,32 +2,11 @@
 ghost use Rattle.std.specs.Prelude.{◌≡◌, ◌≤◌, [], IfOk, All};
 ghost use Rattle.block_device.specs.Memory.{disk_of};
 
-use crate::{CaseError, Named, Setup};
-use block_device::{Kind, MemoryDevice};
-use end_points::{Call, MemoryBay, MemorySink, Plan};
+use crate::{CaseError, Fails, Named, Setup};
+use block_device::MemoryDevice;
+use end_points::{MemoryBay, MemorySink, Plan};
 use std::alloc::Global;
 use std::mem;
-
-/// The calls of the next run that fail, by number from 0 within their kind.
-#[derive(Drop)]
-pub struct Fails {
-    pub device: Vec<(Kind, u64)>,
-    pub bay: Vec<(Call, u64)>,
-    pub source: Vec<u64>,
-    pub sink: Vec<u64>,
-}
-
-impl Fails {
-    /// No call fails.
-    pub fn new(alloc: Global) -> Fails {
-        Fails {
-            device: Vec::new(alloc),
-            bay: Vec::new(alloc),
-            source: Vec::new(alloc),
-            sink: Vec::new(alloc),
-        }
-    }
-}
 
 /// Puts contents that are whole units into a bay.
 fn put_into(alloc: Global, bay: &mut MemoryBay, device: &Named) -> Result<(), CaseError> {

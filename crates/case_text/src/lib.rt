@@ -7,14 +7,17 @@
 mod contents;
 mod ends;
 mod error;
+mod fails;
+mod files;
 mod named;
 mod printing;
 mod setup;
 mod words;
 
-pub use ends::Fails;
 pub use error::CaseError;
+pub use fails::Fails;
+pub use files::{Follow, run_files};
 pub use named::{Named, bytes_of, put};
 pub use printing::{print_bytes, print_text};
 pub use setup::Setup;
-pub use words::{byte, number, small, words_of};
+pub use words::{Words, kind_of, look_up, number, small};

@@ -1,24 +1,65 @@
 //! What a case has set up, and the lines that say it.
 
-use crate::contents::{filled, lay, put_record, put_slot, slot, turn};
+use crate::contents::{Change, filled, lay, make_change, slot};
 use crate::named::{bytes_of, put};
-use crate::words::{byte, number, read_hex, small, words_of};
+use crate::words::{Words, kind_of};
 use crate::{CaseError, Fails, Named};
-use block_device::Kind;
-use end_points::Call;
 use std::alloc::Global;
 
-/// Words with a space between two.
-fn joined(alloc: Global, words: &[&str]) -> Result<String, CaseError> {
-    let mut text = String::new(alloc);
-    for word in words {
-        if !text.is_empty() {
-            text.push(' ')?;
-        }
-        text.push_str(word)?;
-    }
-    Ok(text)
+/// The kinds of lines that set something up.
+#[derive(Clone, Copy)]
+enum LineKind {
+    /// `device NAME UNITS`: a device of zeros.
+    Device,
+    /// `store NAME HALF UNITS EPOCH`: an empty store.
+    Store,
+    /// `copy NAME NAME`: a device under another name too.
+    Copy,
+    /// `WORD NAME ..`: a device that is changed.
+    Change(Change),
+    /// `script NAME`: begins a script without text.
+    Script,
+    /// `| TEXT`, and `|` alone: a line of the last script.
+    Line,
+    /// `> "TEXT"`: adds text without an end of line to the last script.
+    Text,
+    /// `repeat COUNT WORD`: adds the word so many times.
+    Repeat,
+    /// `lines COUNT TEXT`: adds the text so many times, each with an end of line.
+    Lines,
+    /// `digits DIGITS`: adds these bytes.
+    Digits,
+    /// `lags N N ..`: how many reaps a device's submissions wait.
+    Lags,
+    /// `source STEP`: the most bytes of a read of a script.
+    Source,
+    /// `sink ROOM STEP`: the sink's room, and the most bytes of a write.
+    Sink,
+    /// `fail WHAT NUMBER`: a call of the next run that fails.
+    Fail,
 }
+
+/// The first words of these lines.
+static LINE_KINDS: [(&str, LineKind); 18] = [
+    ("device", LineKind::Device),
+    ("store", LineKind::Store),
+    ("copy", LineKind::Copy),
+    ("bytes", LineKind::Change(Change::Bytes)),
+    ("fill", LineKind::Change(Change::Fill)),
+    ("turn", LineKind::Change(Change::Turn)),
+    ("slot", LineKind::Change(Change::Slot)),
+    ("record", LineKind::Change(Change::Record)),
+    ("script", LineKind::Script),
+    ("|", LineKind::Line),
+    (">", LineKind::Text),
+    ("repeat", LineKind::Repeat),
+    ("lines", LineKind::Lines),
+    ("digits", LineKind::Digits),
+    ("lags", LineKind::Lags),
+    ("source", LineKind::Source),
+    ("sink", LineKind::Sink),
+    ("fail", LineKind::Fail),
+];
 
 /// What a case has set up. At first there is no device and no script; submissions wait for two reaps, a read of a script gives
 /// 7 bytes, and the sink has room for 4000 bytes, of which a call takes at most 50.
@@ -52,34 +93,35 @@ impl Setup {
 
     /// Follows a line that sets something up, a comment or an empty line; false where it is none of these.
     pub fn follow(&mut self, line: &str) -> Result<bool, CaseError> {
-        if line.is_empty() || line.starts_with("#") {
+        if line.is_empty() || line.starts_with('#') {
             return Ok(true);
         }
-        if self.follow_text(line)? {
-            return Ok(true);
+        match kind_of(&LINE_KINDS, line) {
+            Some((kind, words)) => {
+                self.set(kind, words)?;
+                Ok(true)
+            }
+            None => Ok(false),
         }
-        let words = words_of(self.alloc, line)?;
-        Ok(self.set_device(&words)? || self.set_script(&words)? || self.set_ends(&words)?)
     }
 
-    /// Follows a line of a script: `|` is an empty one, `| TEXT` any, and `> "TEXT"` has no end.
-    fn follow_text(&mut self, line: &str) -> Result<bool, CaseError> {
-        if line == "|" {
-            self.add_text("", "\n")?;
-            return Ok(true);
+    fn set(&mut self, kind: LineKind, words: Words<'_>) -> Result<(), CaseError> {
+        match kind {
+            LineKind::Device => self.set_device(words),
+            LineKind::Store => self.set_store(words),
+            LineKind::Copy => self.set_copy(words),
+            LineKind::Change(how) => self.set_changed(how, words),
+            LineKind::Script => self.set_script(words),
+            LineKind::Line => self.add_text(words.text(), "\n"),
+            LineKind::Text => self.add_text(words.quoted()?, ""),
+            LineKind::Repeat => self.add_repeated(words),
+            LineKind::Lines => self.add_lines(words),
+            LineKind::Digits => self.add_digits(words),
+            LineKind::Lags => self.set_lags(words),
+            LineKind::Source => self.set_source(words),
+            LineKind::Sink => self.set_sink(words),
+            LineKind::Fail => self.fails.follow(words),
         }
-        if let Some(text) = line.strip_prefix("| ") {
-            self.add_text(text, "\n")?;
-            return Ok(true);
-        }
-        let Some(rest) = line.strip_prefix("> \"") else {
-            return Ok(false);
-        };
-        let Some(text) = rest.strip_suffix("\"") else {
-            return Err(CaseError::Line("no end of the text"));
-        };
-        self.add_text(text, "")?;
-        Ok(true)
     }
 
     /// A copy of the contents under a name.
@@ -95,6 +137,12 @@ impl Setup {
         Ok(put(self.alloc, &mut self.devices, name, contents)?)
     }
 
+    /// Puts a script of this text under a name.
+    pub fn put_script(&mut self, name: &str, text: &[u8]) -> Result<(), CaseError> {
+        let text = text.to_vec(self.alloc)?;
+        Ok(put(self.alloc, &mut self.scripts, name, text)?)
+    }
+
     /// A device of so many units of zeros, with a slot at its front if there is one.
     fn make_device(&mut self, name: &str, units: u32, front: &[u8]) -> Result<(), CaseError> {
         let mut contents = filled(self.alloc, 4096 * u64::from(units), 0)?;
@@ -102,72 +150,41 @@ impl Setup {
         self.put_device(name, contents)
     }
 
-    /// Follows a line that says what a device holds:
-    /// `device NAME UNITS` (zeros), `store NAME HALF UNITS EPOCH` (an empty store), `bytes NAME AT DIGITS`,
-    /// `fill NAME AT COUNT BYTE`, `turn NAME AT DIGITS` (exclusive-or), `slot NAME UNIT HALF UNITS EPOCH FIRST`,
-    /// `record NAME UNIT NUMBER OPERATIONS`, `copy NAME NAME`.
-    fn set_device(&mut self, words: &[&str]) -> Result<bool, CaseError> {
-        let alloc = self.alloc;
-        match words {
-            ["device", name, units] => self.make_device(name, small(units)?, &[])?,
-            ["store", name, half, units, epoch] => {
-                let slot = slot(alloc, small(half)?, small(units)?, number(epoch)?, 0)?;
-                self.make_device(name, small(units)?, &slot)?;
-            }
-            ["copy", from, to] => {
-                let contents = self.contents(from)?;
-                self.put_device(to, contents)?;
-            }
-            ["bytes" | "fill" | "turn" | "slot" | "record", name, ..] => {
-                let mut contents = self.contents(name)?;
-                self.change(&mut contents, words)?;
-                self.put_device(name, contents)?;
-            }
-            _ => return Ok(false),
-        }
-        Ok(true)
+    fn set_device(&mut self, mut words: Words<'_>) -> Result<(), CaseError> {
+        let name = words.next()?;
+        let units = words.small()?;
+        words.end()?;
+        self.make_device(name, units, &[])
     }
 
-    /// Changes contents as a line says.
-    fn change(&self, contents: &mut [u8], words: &[&str]) -> Result<(), CaseError> {
-        let alloc = self.alloc;
-        match words {
-            ["bytes", _, at, digits] => {
-                lay(contents, number(at)? as usize, &read_hex(alloc, digits)?)
-            }
-            ["fill", _, at, count, value] => {
-                let bytes = filled(alloc, number(count)?, byte(value)?)?;
-                lay(contents, number(at)? as usize, &bytes)
-            }
-            ["turn", _, at, digits] => {
-                turn(contents, number(at)? as usize, &read_hex(alloc, digits)?)
-            }
-            ["slot", _, unit, fields @ ..] => put_slot(alloc, contents, unit, fields),
-            ["record", _, unit, own, ops @ ..] => put_record(alloc, contents, unit, own, ops),
-            _ => Err(CaseError::Line("words are missing")),
-        }
+    fn set_store(&mut self, mut words: Words<'_>) -> Result<(), CaseError> {
+        let name = words.next()?;
+        let half = words.small()?;
+        let units = words.small()?;
+        let epoch = words.number()?;
+        words.end()?;
+        let slot = slot(self.alloc, half, units, epoch, 0)?;
+        self.make_device(name, units, &slot)
     }
 
-    /// Follows `script NAME`, which begins a script without text, and what adds to the last one: `repeat COUNT WORD`, the word so
-    /// many times; `lines COUNT TEXT`, the text so many times, each with an end of line; `digits DIGITS`, these bytes.
-    fn set_script(&mut self, words: &[&str]) -> Result<bool, CaseError> {
-        match words {
-            ["script", name] => {
-                let none = Vec::new(self.alloc);
-                put(self.alloc, &mut self.scripts, name, none)?;
-            }
-            ["repeat", count, word] => self.repeat(small(count)?, word, "")?,
-            ["lines", count, words @ ..] => {
-                let text = joined(self.alloc, words)?;
-                self.repeat(small(count)?, text.as_str(), "\n")?;
-            }
-            ["digits", digits] => {
-                let bytes = read_hex(self.alloc, digits)?;
-                self.last_script()?.extend_from_slice(&bytes)?;
-            }
-            _ => return Ok(false),
-        }
-        Ok(true)
+    fn set_copy(&mut self, mut words: Words<'_>) -> Result<(), CaseError> {
+        let contents = self.contents(words.next()?)?;
+        let to = words.next()?;
+        words.end()?;
+        self.put_device(to, contents)
+    }
+
+    fn set_changed(&mut self, how: Change, mut words: Words<'_>) -> Result<(), CaseError> {
+        let name = words.next()?;
+        let mut contents = self.contents(name)?;
+        make_change(self.alloc, how, &mut contents, words)?;
+        self.put_device(name, contents)
+    }
+
+    fn set_script(&mut self, mut words: Words<'_>) -> Result<(), CaseError> {
+        let name = words.next()?;
+        words.end()?;
+        self.put_script(name, &[])
     }
 
     /// The text of the last script.
@@ -193,25 +210,28 @@ impl Setup {
         Ok(())
     }
 
-    /// Follows a line that says how the ends behave: `lags N N ..`, `source STEP`, `sink ROOM STEP`, and `fail WHAT NUMBER` for
-    /// the next run.
-    fn set_ends(&mut self, words: &[&str]) -> Result<bool, CaseError> {
-        match words {
-            ["lags", lags @ ..] => self.set_lags(lags)?,
-            ["source", step] => self.source_step = small(step)?,
-            ["sink", room, step] => {
-                self.room = small(room)? as usize;
-                self.sink_step = small(step)?;
-            }
-            ["fail", what, at] => self.fail(what, number(at)?)?,
-            _ => return Ok(false),
-        }
-        Ok(true)
+    fn add_repeated(&mut self, mut words: Words<'_>) -> Result<(), CaseError> {
+        let count = words.small()?;
+        let word = words.next()?;
+        words.end()?;
+        self.repeat(count, word, "")
     }
 
-    fn set_lags(&mut self, words: &[&str]) -> Result<(), CaseError> {
+    fn add_lines(&mut self, mut words: Words<'_>) -> Result<(), CaseError> {
+        let count = words.small()?;
+        self.repeat(count, words.text(), "\n")
+    }
+
+    fn add_digits(&mut self, mut words: Words<'_>) -> Result<(), CaseError> {
+        let bytes = words.hex(self.alloc)?;
+        words.end()?;
+        self.last_script()?.extend_from_slice(&bytes)?;
+        Ok(())
+    }
+
+    fn set_lags(&mut self, words: Words<'_>) -> Result<(), CaseError> {
         let mut lags = Vec::new(self.alloc);
-        for word in words {
+        for word in words.list(self.alloc)? {
             match word.parse::<u8>() {
                 Ok(lag) => lags.push(lag)?,
                 Err(_) => return Err(CaseError::Line("no lag")),
@@ -221,17 +241,15 @@ impl Setup {
         Ok(())
     }
 
-    fn fail(&mut self, what: &str, at: u64) -> Result<(), CaseError> {
-        match what {
-            "read" => self.fails.device.push((Kind::Read, at))?,
-            "write" => self.fails.device.push((Kind::Write, at))?,
-            "flush" => self.fails.device.push((Kind::Flush, at))?,
-            "device" => self.fails.bay.push((Call::Device, at))?,
-            "script" => self.fails.bay.push((Call::Script, at))?,
-            "source" => self.fails.source.push(at)?,
-            "sink" => self.fails.sink.push(at)?,
-            _ => return Err(CaseError::Line("no such call")),
-        }
-        Ok(())
+    fn set_source(&mut self, mut words: Words<'_>) -> Result<(), CaseError> {
+        self.source_step = words.small()?;
+        words.end()
+    }
+
+    fn set_sink(&mut self, mut words: Words<'_>) -> Result<(), CaseError> {
+        let room = words.small()?;
+        self.sink_step = words.small()?;
+        self.room = room as usize;
+        words.end()
     }
 }

@@ -1,15 +1,117 @@
-//! The words of a line, and the numbers and bytes that they spell.
+//! The words of a line, taken one after another, and the numbers and bytes that they spell.
 
 use crate::CaseError;
 use std::alloc::Global;
 
-/// The words of a line, with one space between two. The word `''` is the empty one.
-pub fn words_of<'a>(alloc: Global, line: &'a str) -> Result<Vec<&'a str>, CaseError> {
-    let mut words = Vec::new(alloc);
-    for word in line.split(' ') {
-        words.push(if word == "''" { "" } else { word })?;
+/// The words of a line that aren't taken yet, with one space between two. The word `''` is the empty one.
+#[derive(Drop)]
+pub struct Words<'a> {
+    rest: &'a str,
+}
+
+/// The first word of a text, and what stands behind the space that ends it.
+fn cut(text: &str) -> (&str, &str) {
+    text.split_once(' ').unwrap_or((text, ""))
+}
+
+/// A word, where `''` is the empty one.
+fn unquoted(word: &str) -> &str {
+    if word == "''" { "" } else { word }
+}
+
+impl<'a> Words<'a> {
+    /// All words of a line.
+    pub fn new(line: &'a str) -> Words<'a> {
+        Words { rest: line }
     }
-    Ok(words)
+
+    /// The next word.
+    pub fn next(&mut self) -> Result<&'a str, CaseError> {
+        if self.rest.is_empty() {
+            return Err(CaseError::Line("words are missing"));
+        }
+        let (word, rest) = cut(self.rest);
+        self.rest = rest;
+        Ok(unquoted(word))
+    }
+
+    /// An error, unless all words are taken.
+    pub fn end(&self) -> Result<(), CaseError> {
+        if self.rest.is_empty() {
+            Ok(())
+        } else {
+            Err(CaseError::Line("words are left"))
+        }
+    }
+
+    /// Whether all words are taken.
+    pub fn is_empty(&self) -> bool {
+        self.rest.is_empty()
+    }
+
+    /// What is left of the line, as it stands there.
+    pub fn text(&self) -> &'a str {
+        self.rest
+    }
+
+    /// The text that is left, between two quotation marks.
+    pub fn quoted(&self) -> Result<&'a str, CaseError> {
+        match self.rest.strip_prefix('"').and_then(|text| text.strip_suffix('"')) {
+            Some(text) => Ok(text),
+            None => Err(CaseError::Line("no end of the text")),
+        }
+    }
+
+    /// The words that are left.
+    pub fn list(&self, alloc: Global) -> Result<Vec<&'a str>, CaseError> {
+        let mut words = Vec::new(alloc);
+        if self.rest.is_empty() {
+            return Ok(words);
+        }
+        for word in self.rest.split(' ') {
+            words.push(unquoted(word))?;
+        }
+        Ok(words)
+    }
+
+    /// The next word, as a number in decimal.
+    pub fn number(&mut self) -> Result<u64, CaseError> {
+        number(self.next()?)
+    }
+
+    /// The next word, as a number of 32 bits in decimal.
+    pub fn small(&mut self) -> Result<u32, CaseError> {
+        small(self.next()?)
+    }
+
+    /// The next word, as a byte of two digits of base 16.
+    pub fn byte(&mut self) -> Result<u8, CaseError> {
+        byte(self.next()?)
+    }
+
+    /// The next word, as bytes of two digits of base 16 each; `-` is none.
+    pub fn hex(&mut self, alloc: Global) -> Result<Vec<u8>, CaseError> {
+        read_hex(alloc, self.next()?)
+    }
+}
+
+/// What a table has beside a word.
+pub fn look_up<K: Copy>(table: &[(&str, K)], word: &str) -> Option<K> {
+    for (name, kind) in table {
+        if *name == word {
+            return Some(*kind);
+        }
+    }
+    None
+}
+
+/// What a table has beside the first word of a line, and the words behind that.
+pub fn kind_of<'a, K: Copy>(table: &[(&str, K)], line: &'a str) -> Option<(K, Words<'a>)> {
+    let (word, rest) = cut(line);
+    match look_up(table, word) {
+        Some(kind) => Some((kind, Words { rest })),
+        None => None,
+    }
 }
 
 /// A number in decimal.
@@ -28,8 +130,7 @@ pub fn small(word: &str) -> Result<u32, CaseError> {
     }
 }
 
-/// A byte as two digits of base 16.
-pub fn byte(word: &str) -> Result<u8, CaseError> {
+fn byte(word: &str) -> Result<u8, CaseError> {
     match word.as_bytes() {
         [high, low] => pair(*high, *low),
         _ => Err(CaseError::Line("no byte")),

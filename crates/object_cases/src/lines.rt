@@ -3,7 +3,7 @@
 use crate::answers::print_answer;
 use crate::operations::operation;
 use crate::questions::{question, the_collection};
-use case_text::{CaseError, small, words_of};
+use case_text::{CaseError, Follow, Words};
 use object_model::{Answer, Command, Op, Transaction};
 use plain_store::{ArgFault, Plain};
 use std::alloc::Global;
@@ -35,33 +35,40 @@ fn with_operation(
     Ok(change)
 }
 
-/// Adds an operation, so many times.
+/// Adds the operation of a text, so many times.
 fn add(
     alloc: Global,
     made: Option<Transaction>,
-    words: &[&str],
+    text: &str,
     times: u32,
 ) -> Result<Option<Transaction>, CaseError> {
     let mut made = made;
     for _ in 0..times {
-        let op = operation(alloc, words)?;
+        let op = operation(alloc, text)?;
         made = Some(with_operation(alloc, made, op)?);
     }
     Ok(made)
 }
 
-/// The transaction of a line. An operation behind `repeat COUNT` comes so many times.
+/// Adds a part of a line. An operation behind `repeat COUNT` comes so many times.
+fn add_part(
+    alloc: Global,
+    made: Option<Transaction>,
+    part: &str,
+) -> Result<Option<Transaction>, CaseError> {
+    let mut words = Words::new(part);
+    if words.next()? != "repeat" {
+        return add(alloc, made, part, 1);
+    }
+    let times = words.small()?.min(MOST_REPEATS);
+    add(alloc, made, words.text(), times)
+}
+
+/// The transaction of a line.
 fn transaction(alloc: Global, line: &str) -> Result<Transaction, CaseError> {
     let mut made = None;
     for part in line.split("; ") {
-        let words = words_of(alloc, part)?;
-        made = match words.as_slice() {
-            ["repeat", times, words @ ..] => {
-                let times = small(times)?.min(MOST_REPEATS);
-                add(alloc, made, words, times)?
-            }
-            words => add(alloc, made, words, 1)?,
-        };
+        made = add_part(alloc, made, part)?;
     }
     match made {
         Some(change) => Ok(change),
@@ -69,15 +76,15 @@ fn transaction(alloc: Global, line: &str) -> Result<Transaction, CaseError> {
     }
 }
 
-impl Lines {
-    /// A store without collections.
-    pub fn new(alloc: Global) -> Lines {
-        Lines {
-            alloc,
-            plain: Plain::new(alloc),
-        }
+/// The command of a line.
+fn command(alloc: Global, line: &str) -> Result<Command, CaseError> {
+    match question(alloc, line)? {
+        Some(command) => Ok(command),
+        None => Ok(Command::Change(transaction(alloc, line)?)),
     }
+}
 
+impl Lines {
     /// The answer to a command. A transaction that is accepted is applied.
     fn answer(&mut self, command: &Command) -> Result<Answer, CaseError> {
         let Ok(answer) = self.plain.reply(self.alloc, command) else {
@@ -93,14 +100,28 @@ impl Lines {
         Ok(answer)
     }
 
-    /// Follows a line of a case, and shows it and its answer.
-    pub fn follow(&mut self, line: &str, out: &mut String) -> Result<(), CaseError> {
-        let words = words_of(self.alloc, line)?;
-        let command = match question(self.alloc, &words)? {
-            Some(command) => command,
-            None => Command::Change(transaction(self.alloc, line)?),
-        };
-        let answer = self.answer(&command)?;
+    /// The answer to the command of a line.
+    fn reply(&mut self, line: &str) -> Result<Answer, CaseError> {
+        let command = command(self.alloc, line)?;
+        self.answer(&command)
+    }
+}
+
+impl Follow for Lines {
+    /// A store without collections.
+    fn begin(alloc: Global) -> Result<Lines, CaseError> {
+        Ok(Lines {
+            alloc,
+            plain: Plain::new(alloc),
+        })
+    }
+
+    /// Follows a line of a case, and shows it and its answer; nothing of a comment and an empty line.
+    fn follow(&mut self, line: &str, out: &mut String) -> Result<(), CaseError> {
+        if line.is_empty() || line.starts_with('#') {
+            return Ok(());
+        }
+        let answer = self.reply(line)?;
         writeln!(out, "{line}")?;
         print_answer(self.alloc, &answer, out)
     }

@@ -1,139 +1,217 @@
 //! Operations of a transaction.
 
-use byte_maps::{Bytes, Items};
-use case_text::{CaseError, number};
-use object_model::{Op, Pair};
+use crate::reading::{keys, last_bytes, last_name, next_name, pairs};
+use case_text::{CaseError, Words, kind_of};
+use object_model::Op;
 use std::alloc::Global;
 use unit_fields::Name;
 
-/// A name of an object, an attribute or a key.
-pub fn name(alloc: Global, word: &str) -> Result<Name, CaseError> {
-    match Name::read(alloc, word.as_bytes())? {
-        Some(name) => Ok(name),
-        None => Err(CaseError::Line("no name")),
-    }
+/// The operations, by what stands behind their words.
+#[derive(Clone, Copy)]
+enum OpKind {
+    /// `mkcoll`
+    MkColl,
+    /// `rmcoll`
+    RmColl,
+    /// `WORD NAME ..`: an operation on an object.
+    Object(ObjectOp),
 }
 
-/// The most zeros of a word.
-const MOST_ZEROS: u64 = 1 << 24;
-
-/// The bytes of a word: none for `-`, so many zeros for `fill:COUNT`, else the word's own.
-fn bytes(alloc: Global, word: &str) -> Result<Bytes, CaseError> {
-    if word == "-" {
-        return Ok(Bytes::new(alloc));
-    }
-    let Some(count) = word.strip_prefix("fill:") else {
-        return Ok(Bytes::from_slice(alloc, word.as_bytes())?);
-    };
-    let count = number(count)?;
-    if count > MOST_ZEROS {
-        return Err(CaseError::Line("too many zeros"));
-    }
-    Ok(Bytes::from_vec(vec![in alloc; 0u8; count as usize]?))
+/// The operations on an object.
+#[derive(Clone, Copy)]
+enum ObjectOp {
+    /// `touch NAME`
+    Touch,
+    /// `write NAME OFF BYTES`
+    Write,
+    /// `zero NAME OFF LEN`
+    Zero,
+    /// `truncate NAME SIZE`
+    Truncate,
+    /// `remove NAME`
+    Remove,
+    /// `clone NAME TO`
+    Clone,
+    /// `clonerange NAME TO SRC LEN DST`
+    CloneRange,
+    /// `setattr NAME ATTR BYTES`
+    SetAttr,
+    /// `rmattr NAME ATTR`
+    RmAttr,
+    /// `rmattrs NAME`
+    RmAttrs,
+    /// `omapset NAME KEY BYTES ..`
+    OmapSet,
+    /// `omaprm NAME KEY ..`
+    OmapRm,
+    /// `omaprmrange NAME FIRST LAST`
+    OmapRmRange,
+    /// `omapheader NAME BYTES`
+    OmapHeader,
+    /// `omapclear NAME`
+    OmapClear,
 }
 
-/// Keys and values, one behind the other.
-fn pairs(alloc: Global, words: &[&str]) -> Result<Items<Pair>, CaseError> {
-    let mut pairs = Items::new(alloc);
-    for pair in words.chunks(2) {
-        let [key, value] = pair else {
-            return Err(CaseError::Line("a key without a value"));
-        };
-        let key = name(alloc, key)?;
-        let value = bytes(alloc, value)?;
-        pairs.push(Pair { key, value })?;
-    }
-    Ok(pairs)
+static OPERATIONS: [(&str, OpKind); 17] = [
+    ("mkcoll", OpKind::MkColl),
+    ("rmcoll", OpKind::RmColl),
+    ("touch", OpKind::Object(ObjectOp::Touch)),
+    ("write", OpKind::Object(ObjectOp::Write)),
+    ("zero", OpKind::Object(ObjectOp::Zero)),
+    ("truncate", OpKind::Object(ObjectOp::Truncate)),
+    ("remove", OpKind::Object(ObjectOp::Remove)),
+    ("clone", OpKind::Object(ObjectOp::Clone)),
+    ("clonerange", OpKind::Object(ObjectOp::CloneRange)),
+    ("setattr", OpKind::Object(ObjectOp::SetAttr)),
+    ("rmattr", OpKind::Object(ObjectOp::RmAttr)),
+    ("rmattrs", OpKind::Object(ObjectOp::RmAttrs)),
+    ("omapset", OpKind::Object(ObjectOp::OmapSet)),
+    ("omaprm", OpKind::Object(ObjectOp::OmapRm)),
+    ("omaprmrange", OpKind::Object(ObjectOp::OmapRmRange)),
+    ("omapheader", OpKind::Object(ObjectOp::OmapHeader)),
+    ("omapclear", OpKind::Object(ObjectOp::OmapClear)),
+];
+
+/// The object, where no words are left.
+fn alone(object: Name, words: Words<'_>) -> Result<Name, CaseError> {
+    words.end()?;
+    Ok(object)
 }
 
-fn keys(alloc: Global, words: &[&str]) -> Result<Items<Name>, CaseError> {
-    let mut keys = Items::new(alloc);
-    for word in words {
-        keys.push(name(alloc, word)?)?;
-    }
-    Ok(keys)
+fn write(alloc: Global, object: Name, mut words: Words<'_>) -> Result<Op, CaseError> {
+    let off = words.number()?;
+    let bytes = last_bytes(alloc, words)?;
+    Ok(Op::Write { object, off, bytes })
 }
 
-/// An operation on an object's bytes, `WORD NAME ..`, or on the object as a whole.
-fn on_bytes(alloc: Global, object: Name, words: &[&str]) -> Result<Op, CaseError> {
-    Ok(match words {
-        ["touch", _] => Op::Touch { object },
-        ["write", _, off, text] => Op::Write {
-            object,
-            off: number(off)?,
-            bytes: bytes(alloc, text)?,
-        },
-        ["zero", _, off, len] => Op::Zero {
-            object,
-            off: number(off)?,
-            len: number(len)?,
-        },
-        ["truncate", _, size] => Op::Truncate {
-            object,
-            size: number(size)?,
-        },
-        ["remove", _] => Op::Remove { object },
-        ["clone", _, to] => Op::Clone {
-            object,
-            to: name(alloc, to)?,
-        },
-        ["clonerange", _, to, src, len, dst] => Op::CloneRange {
-            object,
-            to: name(alloc, to)?,
-            src: number(src)?,
-            len: number(len)?,
-            dst: number(dst)?,
-        },
-        _ => return Err(CaseError::Line("no operation")),
+fn zero(object: Name, mut words: Words<'_>) -> Result<Op, CaseError> {
+    let off = words.number()?;
+    let len = words.number()?;
+    words.end()?;
+    Ok(Op::Zero { object, off, len })
+}
+
+fn truncate(object: Name, mut words: Words<'_>) -> Result<Op, CaseError> {
+    let size = words.number()?;
+    words.end()?;
+    Ok(Op::Truncate { object, size })
+}
+
+fn clone(alloc: Global, object: Name, words: Words<'_>) -> Result<Op, CaseError> {
+    let to = last_name(alloc, words)?;
+    Ok(Op::Clone { object, to })
+}
+
+fn clone_range(alloc: Global, object: Name, mut words: Words<'_>) -> Result<Op, CaseError> {
+    let to = next_name(alloc, &mut words)?;
+    let src = words.number()?;
+    let len = words.number()?;
+    let dst = words.number()?;
+    words.end()?;
+    Ok(Op::CloneRange {
+        object,
+        to,
+        src,
+        len,
+        dst,
     })
 }
 
-/// An operation on an object's attributes or its omap, `WORD NAME ..`.
-fn on_maps(alloc: Global, object: Name, words: &[&str]) -> Result<Op, CaseError> {
-    Ok(match words {
-        ["setattr", _, attr, value] => Op::SetAttr {
-            object,
-            name: name(alloc, attr)?,
-            value: bytes(alloc, value)?,
-        },
-        ["rmattr", _, attr] => Op::RmAttr {
-            object,
-            name: name(alloc, attr)?,
-        },
-        ["rmattrs", _] => Op::RmAttrs { object },
-        ["omapset", _, given @ ..] => Op::OmapSet {
-            object,
-            pairs: pairs(alloc, given)?,
-        },
-        ["omaprm", _, given @ ..] => Op::OmapRm {
-            object,
-            keys: keys(alloc, given)?,
-        },
-        ["omaprmrange", _, first, last] => Op::OmapRmRange {
-            object,
-            first: name(alloc, first)?,
-            last: name(alloc, last)?,
-        },
-        ["omapheader", _, value] => Op::OmapHeader {
-            object,
-            value: bytes(alloc, value)?,
-        },
-        ["omapclear", _] => Op::OmapClear { object },
-        _ => return Err(CaseError::Line("no operation")),
+fn set_attr(alloc: Global, object: Name, mut words: Words<'_>) -> Result<Op, CaseError> {
+    let name = next_name(alloc, &mut words)?;
+    let value = last_bytes(alloc, words)?;
+    Ok(Op::SetAttr {
+        object,
+        name,
+        value,
     })
 }
 
-/// The operation of these words.
-pub fn operation(alloc: Global, words: &[&str]) -> Result<Op, CaseError> {
-    match words {
-        ["mkcoll"] => Ok(Op::MkColl),
-        ["rmcoll"] => Ok(Op::RmColl),
-        [
-            "touch" | "write" | "zero" | "truncate" | "remove" | "clone" | "clonerange",
-            object,
-            ..
-        ] => { on_bytes(alloc, name(alloc, object)?, words) }
-        [_, object, ..] => on_maps(alloc, name(alloc, object)?, words),
-        _ => Err(CaseError::Line("no operation")),
+fn rm_attr(alloc: Global, object: Name, words: Words<'_>) -> Result<Op, CaseError> {
+    let name = last_name(alloc, words)?;
+    Ok(Op::RmAttr { object, name })
+}
+
+fn omap_set(alloc: Global, object: Name, words: Words<'_>) -> Result<Op, CaseError> {
+    let pairs = pairs(alloc, words)?;
+    Ok(Op::OmapSet { object, pairs })
+}
+
+fn omap_rm(alloc: Global, object: Name, words: Words<'_>) -> Result<Op, CaseError> {
+    let keys = keys(alloc, words)?;
+    Ok(Op::OmapRm { object, keys })
+}
+
+fn omap_rm_range(alloc: Global, object: Name, mut words: Words<'_>) -> Result<Op, CaseError> {
+    let first = next_name(alloc, &mut words)?;
+    let last = last_name(alloc, words)?;
+    Ok(Op::OmapRmRange {
+        object,
+        first,
+        last,
+    })
+}
+
+fn omap_header(alloc: Global, object: Name, words: Words<'_>) -> Result<Op, CaseError> {
+    let value = last_bytes(alloc, words)?;
+    Ok(Op::OmapHeader { object, value })
+}
+
+/// An operation on an object, from its third word on.
+fn on_object(
+    alloc: Global,
+    kind: ObjectOp,
+    object: Name,
+    words: Words<'_>,
+) -> Result<Op, CaseError> {
+    match kind {
+        ObjectOp::Touch => Ok(Op::Touch {
+            object: alone(object, words)?,
+        }),
+        ObjectOp::Write => write(alloc, object, words),
+        ObjectOp::Zero => zero(object, words),
+        ObjectOp::Truncate => truncate(object, words),
+        ObjectOp::Remove => Ok(Op::Remove {
+            object: alone(object, words)?,
+        }),
+        ObjectOp::Clone => clone(alloc, object, words),
+        ObjectOp::CloneRange => clone_range(alloc, object, words),
+        ObjectOp::SetAttr => set_attr(alloc, object, words),
+        ObjectOp::RmAttr => rm_attr(alloc, object, words),
+        ObjectOp::RmAttrs => Ok(Op::RmAttrs {
+            object: alone(object, words)?,
+        }),
+        ObjectOp::OmapSet => omap_set(alloc, object, words),
+        ObjectOp::OmapRm => omap_rm(alloc, object, words),
+        ObjectOp::OmapRmRange => omap_rm_range(alloc, object, words),
+        ObjectOp::OmapHeader => omap_header(alloc, object, words),
+        ObjectOp::OmapClear => Ok(Op::OmapClear {
+            object: alone(object, words)?,
+        }),
+    }
+}
+
+fn of_kind(alloc: Global, kind: OpKind, mut words: Words<'_>) -> Result<Op, CaseError> {
+    match kind {
+        OpKind::MkColl => {
+            words.end()?;
+            Ok(Op::MkColl)
+        }
+        OpKind::RmColl => {
+            words.end()?;
+            Ok(Op::RmColl)
+        }
+        OpKind::Object(kind) => {
+            let object = next_name(alloc, &mut words)?;
+            on_object(alloc, kind, object, words)
+        }
+    }
+}
+
+/// The operation of a text.
+pub fn operation(alloc: Global, text: &str) -> Result<Op, CaseError> {
+    match kind_of(&OPERATIONS, text) {
+        Some((kind, words)) => of_kind(alloc, kind, words),
+        None => Err(CaseError::Line("no operation")),
     }
 }

@@ -2,9 +2,39 @@
 
 use block_device::MemoryDevice;
 use bstore_top::Outcome;
-use case_text::{CaseError, Setup, words_of};
+use case_text::{CaseError, Follow, Setup, kind_of};
 use end_points::MemorySource;
 use std::alloc::Global;
+
+/// The kinds of lines that run something or show more of the last run.
+#[derive(Clone, Copy)]
+pub enum LineKind {
+    /// `run WORDS`: a command line.
+    Run,
+    /// `runs FIRST END WORDS`: a run for each number from FIRST on and before END, which stands in the place of the word `N`.
+    Runs,
+    /// `usage WORDS`: what is to be no command line.
+    Usage,
+    /// `bad "TEXT"`: a script whose first line is to be bad.
+    Bad,
+    /// `keep NAME`: puts the device that came back under a name.
+    Keep,
+    /// `fail-behind-mount NAME NUMBER`: a read of the next run fails, counted from those of a mount on.
+    FailBehindMount,
+    /// `show WHAT`: more of the last run.
+    Show,
+}
+
+/// The first words of these lines.
+static LINE_KINDS: [(&str, LineKind); 7] = [
+    ("run", LineKind::Run),
+    ("runs", LineKind::Runs),
+    ("usage", LineKind::Usage),
+    ("bad", LineKind::Bad),
+    ("keep", LineKind::Keep),
+    ("fail-behind-mount", LineKind::FailBehindMount),
+    ("show", LineKind::Show),
+];
 
 /// What a case has set up, and what its last run left.
 #[derive(Drop)]
@@ -17,31 +47,30 @@ pub struct Case {
 }
 
 impl Case {
-    /// A case with nothing set up.
-    pub fn new(alloc: Global) -> Result<Case, CaseError> {
-        Ok(Case {
+    /// A case with this set up, before its first run.
+    pub fn of(setup: Setup) -> Case {
+        let alloc = setup.alloc;
+        Case {
             alloc,
-            setup: Setup::new(alloc)?,
+            setup,
             outcome: None,
             text: Vec::new(alloc),
-        })
+        }
+    }
+}
+
+impl Follow for Case {
+    fn begin(alloc: Global) -> Result<Case, CaseError> {
+        Ok(Case::of(Setup::new(alloc)?))
     }
 
-    /// Follows a line of a case, and adds what it shows to the text.
-    pub fn follow(&mut self, line: &str, out: &mut String) -> Result<(), CaseError> {
+    fn follow(&mut self, line: &str, out: &mut String) -> Result<(), CaseError> {
         if self.setup.follow(line)? {
             return Ok(());
         }
-        if let Some(rest) = line.strip_prefix("bad \"") {
-            return match rest.strip_suffix("\"") {
-                Some(text) => self.bad_line(line, text, out),
-                None => Err(CaseError::Line("no end of the text")),
-            };
+        match kind_of(&LINE_KINDS, line) {
+            Some((kind, words)) => self.act(kind, line, words, out),
+            None => Err(CaseError::Line("no such line")),
         }
-        let words = words_of(self.alloc, line)?;
-        if self.act(line, &words, out)? || self.show(&words, out)? {
-            return Ok(());
-        }
-        Err(CaseError::Line("no such line"))
     }
 }

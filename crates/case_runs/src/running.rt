@@ -1,25 +1,68 @@
 //! Runs of commands over what a case has set up.
 
 use crate::Case;
-use block_device::{Device, Kind, Tear};
+use crate::case::LineKind;
+use block_device::{Device, MemoryDevice, Tear};
 use bstore_top::{Outcome, top};
-use case_text::{CaseError, number, print_text, put, small};
-use end_points::{Bay, OpenGate};
+use case_text::{CaseError, Setup, Words, print_text};
+use end_points::{Bay, MemoryBay, MemorySink, MemorySource, OpenGate};
+use std::alloc::{AllocError, Global};
 use std::fmt::Write;
 
 /// What `step` prints where the first line of its script is bad.
 const BAD_LINE: &str = "script 0 line 1\nstopped 2\n";
 
+/// The words of a run of the script `script`.
+const STEP_WORDS: [&str; 6] = ["bstore", "step", "dev", "--seed", "1", "script"];
+
+/// Shows a status, and how many units the device has that came back.
+fn print_ended(
+    status: u8,
+    dev: Option<&MemoryDevice>,
+    out: &mut String,
+) -> Result<(), AllocError> {
+    let Some(dev) = dev else {
+        return writeln!(out, "status {status}, no device");
+    };
+    writeln!(out, "status {status}, a device of {} units", dev.units())?;
+    if dev.in_flight() != 0 {
+        writeln!(out, "{} calls in flight", dev.in_flight())?;
+    }
+    Ok(())
+}
+
+fn last_written(dev: &MemoryDevice) -> Result<Vec<u8>, AllocError> {
+    dev.image(dev.events(), Tear::New)
+}
+
+/// What a run leaves.
+type Left = Outcome<MemoryDevice, MemorySource>;
+
+/// Runs a command line over these ends, of which nothing was asked yet.
+fn run_over(
+    alloc: Global,
+    words: &Vec<String>,
+    bay: &mut MemoryBay,
+    sink: &mut MemorySink,
+) -> Result<Left, CaseError> {
+    if bay.given() != 0 {
+        return Err(CaseError::Line("a new bay has given something"));
+    }
+    Ok(top(alloc, words, bay, sink, &OpenGate))
+}
+
+/// A copy of what a sink took.
+fn taken(alloc: Global, sink: &MemorySink) -> Result<Vec<u8>, AllocError> {
+    sink.text().to_vec(alloc)
+}
+
 impl Case {
     /// Runs a command line over what is set up, and keeps what came. The calls that were to fail are those of this run alone.
     pub fn run(&mut self, words: &Vec<String>) -> Result<(), CaseError> {
         let (mut bay, mut sink) = self.setup.ends()?;
-        if bay.given() != 0 {
-            return Err(CaseError::Line("a new bay has given something"));
-        }
-        let outcome = top(self.alloc, words, &mut bay, &mut sink, &OpenGate);
-        self.outcome = Some(outcome);
-        self.text = sink.text().to_vec(self.alloc)?;
+        let left = run_over(self.alloc, words, &mut bay, &mut sink)?;
+        self.outcome = Some(left);
+        self.text = taken(self.alloc, &sink)?;
         Ok(())
     }
 
@@ -37,22 +80,9 @@ impl Case {
     /// Shows the status of the last run, and how many units the device has that came back.
     fn print_status(&self, out: &mut String) -> Result<(), CaseError> {
         match &self.outcome {
-            Some(
-                Outcome {
-                    status,
-                    dev: Some(dev),
-                    ..
-                },
-            ) => {
-                writeln!(out, "status {status}, a device of {} units", dev.units())?;
-                if dev.in_flight() != 0 {
-                    writeln!(out, "{} calls in flight", dev.in_flight())?;
-                }
-            }
-            Some(outcome) => writeln!(out, "status {}, no device", outcome.status)?,
-            None => return Err(CaseError::Line("there was no run")),
+            Some(outcome) => Ok(print_ended(outcome.status, outcome.dev.as_ref(), out)?),
+            None => Err(CaseError::Line("there was no run")),
         }
-        Ok(())
     }
 
     /// Shows a line of the case, what its run printed, and how it ended.
@@ -62,39 +92,49 @@ impl Case {
         self.print_status(out)
     }
 
-    /// Follows a line that runs something: `run WORDS`; `runs FIRST END WORDS`, a run for each number from FIRST on and before
-    /// END, which stands in the place of `N`; `usage WORDS`, which is to be no command line; `keep NAME`, which puts the device
-    /// that came back under a name; `fail-behind-mount NAME NUMBER`, for a read of the next run, counted from those of a mount on.
-    pub fn act(&mut self, line: &str, words: &[&str], out: &mut String) -> Result<bool, CaseError> {
-        match words {
-            ["run", words @ ..] => {
-                self.run_line(words)?;
-                self.print_run(line, out)?;
-            }
-            ["runs", first, end, words @ ..] => {
-                self.run_each(small(first)?, small(end)?, words)?;
-                self.print_run(line, out)?;
-            }
-            ["usage", words @ ..] => {
-                self.run_line(words)?;
-                self.print_usage(line, out)?;
-            }
-            ["keep", name] => {
-                let left = self.left()?;
-                self.setup.put_device(name, left)?;
-            }
-            ["fail-behind-mount", name, at] => {
-                let reads = self.reads_of_a_mount(name)?;
-                let at = reads.saturating_add(number(at)?);
-                self.setup.fails.device.push((Kind::Read, at))?;
-            }
-            _ => return Ok(false),
+    /// Follows a line that runs something or shows more of the last run, from its second word on.
+    pub fn act(
+        &mut self,
+        kind: LineKind,
+        line: &str,
+        words: Words<'_>,
+        out: &mut String,
+    ) -> Result<(), CaseError> {
+        match kind {
+            LineKind::Run => self.run_words(line, words, out),
+            LineKind::Runs => self.run_each(line, words, out),
+            LineKind::Usage => self.run_usage(line, words, out),
+            LineKind::Bad => self.run_bad(line, words.quoted()?, out),
+            LineKind::Keep => self.keep(words),
+            LineKind::FailBehindMount => self.fail_behind_mount(words),
+            LineKind::Show => self.show(words, out),
         }
-        Ok(true)
+    }
+
+    fn run_words(
+        &mut self,
+        line: &str,
+        words: Words<'_>,
+        out: &mut String,
+    ) -> Result<(), CaseError> {
+        self.run_line(&words.list(self.alloc)?)?;
+        self.print_run(line, out)
+    }
+
+    fn run_each(
+        &mut self,
+        line: &str,
+        mut words: Words<'_>,
+        out: &mut String,
+    ) -> Result<(), CaseError> {
+        let first = words.small()?;
+        let end = words.small()?;
+        self.run_range(first, end, &words.list(self.alloc)?)?;
+        self.print_run(line, out)
     }
 
     /// A run for each of these numbers, in the place of the word `N`. All must come to the same; the last one is kept.
-    fn run_each(&mut self, first: u32, end: u32, words: &[&str]) -> Result<(), CaseError> {
+    fn run_range(&mut self, first: u32, end: u32, words: &[&str]) -> Result<(), CaseError> {
         let mut before = None;
         for number in first..end {
             let digits = format!(in self.alloc; "{number}")?;
@@ -117,39 +157,44 @@ impl Case {
         self.run(&all)
     }
 
+    /// Whether the last run had this status.
+    pub fn has_status(&self, status: u8) -> bool {
+        match &self.outcome {
+            Some(outcome) => outcome.status == status,
+            None => false,
+        }
+    }
+
+    /// Whether the last run had this status, and no device came back.
+    fn has_ended_with(&self, status: u8) -> bool {
+        match &self.outcome {
+            Some(outcome) => outcome.status == status && outcome.dev.is_none(),
+            None => false,
+        }
+    }
+
     /// Shows that the words were no command line: status 1, no device, and a text that begins so. Else shows the run.
-    fn print_usage(&self, line: &str, out: &mut String) -> Result<(), CaseError> {
-        let is_usage = self.text.starts_with(b"usage: ")
-            && self
-                .outcome
-                .as_ref()
-                .is_some_and(|outcome| outcome.status == 1 && outcome.dev.is_none());
-        if is_usage {
-            writeln!(out, "{line}")?;
-            return Ok(());
+    fn run_usage(
+        &mut self,
+        line: &str,
+        words: Words<'_>,
+        out: &mut String,
+    ) -> Result<(), CaseError> {
+        self.run_line(&words.list(self.alloc)?)?;
+        if self.text.starts_with(b"usage: ") && self.has_ended_with(1) {
+            return Ok(writeln!(out, "{line}")?);
         }
         self.print_run(line, out)
     }
 
-    /// Whether the last run said that line 1 of its script is bad, and asked for no device.
-    fn is_bad_line(&self) -> bool {
-        self.text.as_slice() == BAD_LINE.as_bytes()
-            && self
-                .outcome
-                .as_ref()
-                .is_some_and(|outcome| outcome.status == 2 && outcome.dev.is_none())
-    }
-
-    /// Follows `bad "TEXT"`: the text is a script whose first line is bad, read by one byte, by three, and at once. Shows a run
-    /// that says something else.
-    pub fn bad_line(&mut self, line: &str, text: &str, out: &mut String) -> Result<(), CaseError> {
+    /// Runs a script whose first line is to be bad, read by one byte, by three, and at once. Shows a run that says something else.
+    fn run_bad(&mut self, line: &str, text: &str, out: &mut String) -> Result<(), CaseError> {
         writeln!(out, "{line}")?;
+        self.setup.put_script("script", text.as_bytes())?;
         for step in [1, 3, 100000] {
             self.setup.source_step = step;
-            let text = text.as_bytes().to_vec(self.alloc)?;
-            put(self.alloc, &mut self.setup.scripts, "script", text)?;
-            self.run_line(&["bstore", "step", "dev", "--seed", "1", "script"])?;
-            if !self.is_bad_line() {
+            self.run_line(&STEP_WORDS)?;
+            if self.text.as_slice() != BAD_LINE.as_bytes() || !self.has_ended_with(2) {
                 print_text(out, &self.text)?;
                 self.print_status(out)?;
             }
@@ -160,24 +205,48 @@ impl Case {
     /// The bytes that the device that came back was last written.
     pub fn left(&self) -> Result<Vec<u8>, CaseError> {
         match &self.outcome {
-            Some(Outcome { dev: Some(dev), .. }) => Ok(dev.image(dev.events(), Tear::New)?),
+            Some(Outcome { dev: Some(dev), .. }) => Ok(last_written(dev)?),
             _ => Err(CaseError::Line("no device came back")),
         }
+    }
+
+    fn keep(&mut self, mut words: Words<'_>) -> Result<(), CaseError> {
+        let name = words.next()?;
+        words.end()?;
+        let left = self.left()?;
+        self.setup.put_device(name, left)
+    }
+
+    fn fail_behind_mount(&mut self, mut words: Words<'_>) -> Result<(), CaseError> {
+        let reads = self.reads_of_a_mount(words.next()?)?;
+        let at = reads.saturating_add(words.number()?);
+        words.end()?;
+        Ok(self.setup.fails.fail_read(at)?)
     }
 
     /// How many reads a mount of a device makes: a run of no commands meets the failure of no others.
     fn reads_of_a_mount(&self, name: &str) -> Result<u64, CaseError> {
         for number in 0..100u64 {
-            let mut other = Case::new(self.alloc)?;
-            other.setup.put_device("dev", self.setup.contents(name)?)?;
-            let none = Vec::new(self.alloc);
-            put(self.alloc, &mut other.setup.scripts, "script", none)?;
-            other.setup.fails.device.push((Kind::Read, number))?;
-            other.run_line(&["bstore", "step", "dev", "--seed", "1", "script"])?;
-            if other.outcome.is_some_and(|outcome| outcome.status == 0) {
+            if self.mounts_behind(name, number)? {
                 return Ok(number);
             }
         }
         Err(CaseError::Line("a mount makes fewer reads"))
+    }
+
+    /// What is set up for a run of no commands on a device, in which the read of this number fails.
+    fn setup_of_a_mount(&self, name: &str, number: u64) -> Result<Setup, CaseError> {
+        let mut setup = Setup::new(self.alloc)?;
+        setup.put_device("dev", self.setup.contents(name)?)?;
+        setup.put_script("script", &[])?;
+        setup.fails.fail_read(number)?;
+        Ok(setup)
+    }
+
+    /// Whether a device is mounted though the read of this number fails.
+    fn mounts_behind(&self, name: &str, number: u64) -> Result<bool, CaseError> {
+        let mut other = Case::of(self.setup_of_a_mount(name, number)?);
+        other.run_line(&STEP_WORDS)?;
+        Ok(other.has_status(0))
     }
 }

@@ -2,37 +2,69 @@
 ghost use Rattle.std.specs.Prelude.{◌≡◌, IfOk};
 ghost use Rattle.read_facts.specs.Answers.{IsKnownRead};
 
-use crate::submitting::{coll_of, object_of};
+use crate::submitting::{coll_of, last_object, object_of};
 use block_device::MemoryDevice;
-use case_text::{CaseError, number, print_bytes};
+use case_text::{CaseError, Words, look_up, print_bytes};
 use object_model::{Answer, Command};
 use std::alloc::{AllocError, Global};
 use std::fmt::Write;
 use store_kernel::{Kernel, Unanswered};
+use unit_fields::CollName;
 
-/// The command of these words: `read COLL NAME OFF LEN`, `sum COLL NAME`, `stat COLL NAME` or `list COLL`.
-fn question(alloc: Global, words: &[&str]) -> Result<Command, CaseError>
+/// What a read asks for.
+#[derive(Clone, Copy)]
+enum ReadKind {
+    /// `read COLL NAME OFF LEN`
+    Bytes,
+    /// `sum COLL NAME`
+    Sum,
+    /// `stat COLL NAME`
+    Stat,
+    /// `list COLL`
+    List,
+}
+
+static READ_KINDS: [(&str, ReadKind); 4] = [
+    ("read", ReadKind::Bytes),
+    ("sum", ReadKind::Sum),
+    ("stat", ReadKind::Stat),
+    ("list", ReadKind::List),
+];
+
+/// The read of these words.
+fn question(alloc: Global, mut words: Words<'_>) -> Result<Command, CaseError>
     ensures { IfOk result (λ command. IsKnownRead command) }
 {
-    Ok(match words {
-        ["read", coll, object, off, len] => Command::Read {
-            coll: coll_of(alloc, coll)?,
-            object: object_of(alloc, object)?,
-            off: number(off)?,
-            len: number(len)?,
-        },
-        ["sum", coll, object] => Command::Sum {
-            coll: coll_of(alloc, coll)?,
-            object: object_of(alloc, object)?,
-        },
-        ["stat", coll, object] => Command::Stat {
-            coll: coll_of(alloc, coll)?,
-            object: object_of(alloc, object)?,
-        },
-        ["list", coll] => Command::List {
-            coll: coll_of(alloc, coll)?,
-        },
-        _ => return Err(CaseError::Line("no read")),
+    let Some(kind) = look_up(&READ_KINDS, words.next()?) else {
+        return Err(CaseError::Line("no read"));
+    };
+    let coll = coll_of(alloc, words.next()?)?;
+    match kind {
+        ReadKind::Bytes => bytes_question(alloc, coll, words),
+        ReadKind::Sum => Ok(Command::Sum {
+            coll,
+            object: last_object(alloc, words)?,
+        }),
+        ReadKind::Stat => Ok(Command::Stat {
+            coll,
+            object: last_object(alloc, words)?,
+        }),
+        ReadKind::List => Ok(Command::List { coll }),
+    }
+}
+
+fn bytes_question(alloc: Global, coll: CollName, mut words: Words<'_>) -> Result<Command, CaseError>
+    ensures { IfOk result (λ command. IsKnownRead command) }
+{
+    let object = object_of(alloc, words.next()?)?;
+    let off = words.number()?;
+    let len = words.number()?;
+    words.end()?;
+    Ok(Command::Read {
+        coll,
+        object,
+        off,
+        len,
     })
 }
 
@@ -82,23 +114,30 @@ fn print_unanswered(why: &Unanswered, out: &mut String) -> Result<(), CaseError>
     Ok(())
 }
 
-/// Follows `ask READ`, as client 3 at line 7.
-pub fn ask_line(
+/// Asks for a read, as client 3 at line 7.
+fn answered(
     alloc: Global,
     kernel: &mut Kernel<MemoryDevice>,
-    words: &[&str],
-    out: &mut String,
-) -> Result<bool, CaseError> {
-    let ["ask", words @ ..] = words else {
-        return Ok(false);
-    };
-    let command = question(alloc, words)?;
+    command: Command,
+) -> Result<Result<u32, Unanswered>, CaseError>
+    requires { IsKnownRead command }
+{
     if kernel.down().is_none() && !kernel.drained() {
         return Err(CaseError::Line("the kernel isn't drained"));
     }
-    match kernel.ask(alloc, 3, 7, command) {
-        Ok(place) => print_entry(alloc, kernel, place, out)?,
-        Err(why) => print_unanswered(&why, out)?,
+    Ok(kernel.ask(alloc, 3, 7, command))
+}
+
+/// Follows `ask READ`, from its second word on.
+pub fn ask(
+    alloc: Global,
+    kernel: &mut Kernel<MemoryDevice>,
+    words: Words<'_>,
+    out: &mut String,
+) -> Result<(), CaseError> {
+    let command = question(alloc, words)?;
+    match answered(alloc, kernel, command)? {
+        Ok(place) => print_entry(alloc, kernel, place, out),
+        Err(why) => print_unanswered(&why, out),
     }
-    Ok(true)
 }

@@ -1,15 +1,40 @@
 //! The lines of a case, and what they work on.
 
-use crate::asking::ask_line;
-use crate::mounted::Mounted;
-use crate::stepping::step_line;
-use crate::submitting::submit_line;
-use crate::walking::walk_line;
-use block_device::MemoryDevice;
-use case_text::{CaseError, Setup, words_of};
+use crate::mounted::{KernelCall, Mounted};
+use case_text::{CaseError, Follow, Setup, Words, kind_of};
 use std::alloc::Global;
 use std::fmt::Write;
-use store_kernel::Kernel;
+
+/// The kinds of lines that are shown.
+#[derive(Clone, Copy)]
+pub enum LineKind {
+    /// `make NAME HALF`: a store on a device.
+    Make,
+    /// `mount NAME`
+    Mount,
+    /// `unmount NAME`: keeps the device under the name.
+    Unmount,
+    /// `see NAME AT COUNT`: bytes of a device.
+    See,
+    /// What the store is called for that is mounted.
+    Call(KernelCall),
+}
+
+/// The first words of these lines.
+static LINE_KINDS: [(&str, LineKind); 12] = [
+    ("make", LineKind::Make),
+    ("mount", LineKind::Mount),
+    ("unmount", LineKind::Unmount),
+    ("see", LineKind::See),
+    ("submit", LineKind::Call(KernelCall::Submit)),
+    ("ask", LineKind::Call(KernelCall::Ask)),
+    ("step", LineKind::Call(KernelCall::Step)),
+    ("drain", LineKind::Call(KernelCall::Drain)),
+    ("ready", LineKind::Call(KernelCall::Ready)),
+    ("state", LineKind::Call(KernelCall::State)),
+    ("acked", LineKind::Call(KernelCall::Acked)),
+    ("walk", LineKind::Call(KernelCall::Walk)),
+];
 
 /// What is set up, and the store that is mounted, if one is.
 #[derive(Drop)]
@@ -19,24 +44,33 @@ pub struct Lines {
     pub mounted: Option<Mounted>,
 }
 
-/// Follows a line that is a call of the kernel.
-fn call(
-    alloc: Global,
-    kernel: &mut Kernel<MemoryDevice>,
-    words: &[&str],
-    out: &mut String,
-) -> Result<bool, CaseError> {
-    Ok(
-        submit_line(alloc, kernel, words, out)?
-            || ask_line(alloc, kernel, words, out)?
-            || step_line(alloc, kernel, words, out)?
-            || walk_line(alloc, kernel, words, out)?,
-    )
+impl Lines {
+    fn call(
+        &mut self,
+        call: KernelCall,
+        words: Words<'_>,
+        out: &mut String,
+    ) -> Result<(), CaseError> {
+        match &mut self.mounted {
+            Some(mounted) => mounted.call(call, words, out),
+            None => Err(CaseError::Line("nothing is mounted")),
+        }
+    }
+
+    fn act(&mut self, kind: LineKind, words: Words<'_>, out: &mut String) -> Result<(), CaseError> {
+        match kind {
+            LineKind::Make => self.make(words, out),
+            LineKind::Mount => self.mount(words, out),
+            LineKind::Unmount => self.unmount(words, out),
+            LineKind::See => self.see(words, out),
+            LineKind::Call(call) => self.call(call, words, out),
+        }
+    }
 }
 
-impl Lines {
+impl Follow for Lines {
     /// A case with nothing set up, whose devices answer at once.
-    pub fn new(alloc: Global) -> Result<Lines, CaseError> {
+    fn begin(alloc: Global) -> Result<Lines, CaseError> {
         let mut setup = Setup::new(alloc)?;
         setup.lags = Vec::new(alloc);
         Ok(Lines {
@@ -47,20 +81,16 @@ impl Lines {
     }
 
     /// Follows a line of a case, and shows it and what it comes to. A line that sets something up shows nothing.
-    pub fn follow(&mut self, line: &str, out: &mut String) -> Result<(), CaseError> {
-        let words = words_of(self.alloc, line)?;
-        let mut shown = String::new(self.alloc);
-        let follows = match &mut self.mounted {
-            Some(mounted) => call(self.alloc, &mut mounted.kernel, &words, &mut shown)?,
-            None => false,
-        };
-        if follows || self.device_line(&words, &mut shown)? {
-            writeln!(out, "{line}")?;
-            return Ok(out.push_str(shown.as_str())?);
-        }
+    fn follow(&mut self, line: &str, out: &mut String) -> Result<(), CaseError> {
         if self.setup.follow(line)? {
             return Ok(());
         }
-        Err(CaseError::Line("no such line"))
+        let Some((kind, words)) = kind_of(&LINE_KINDS, line) else {
+            return Err(CaseError::Line("no such line"));
+        };
+        let mut shown = String::new(self.alloc);
+        self.act(kind, words, &mut shown)?;
+        writeln!(out, "{line}")?;
+        Ok(out.push_str(shown.as_str())?)
     }
 }

@@ -1,10 +1,7 @@
 //! The steps of the kernel, by name.
-ghost use Rattle.std.specs.Prelude.{◌≡◌, true, IfSome};
-ghost use Rattle.block_device.specs.Memory.{disk_of};
-ghost use Rattle.store_steps.specs.Ready.{is_ready};
 
 use block_device::MemoryDevice;
-use case_text::{CaseError, small};
+use case_text::{CaseError, Words, look_up};
 use std::alloc::{AllocError, Global};
 use std::fmt::Write;
 use store_kernel::{Kernel, StepFail};
@@ -26,67 +23,72 @@ const STEPS: [Step; 9] = [
 /// The most steps of one `drain`.
 const MOST_STEPS: u32 = 1000;
 
-fn step_of(word: &str) -> Result<Step, CaseError> {
-    Ok(match word {
-        "Data" => Step::Data,
-        "Reap" => Step::Reap,
-        "Take" => Step::Take,
-        "Flush" => Step::Flush,
-        "Seal" => Step::Seal,
-        "Record" => Step::Record,
-        "Sync" => Step::Sync,
-        "Commit" => Step::Commit,
-        "Finish" => Step::Finish,
-        _ => return Err(CaseError::Line("no such step")),
-    })
-}
+/// Their names.
+static STEP_NAMES: [(&str, Step); 9] = [
+    ("Data", Step::Data),
+    ("Reap", Step::Reap),
+    ("Take", Step::Take),
+    ("Flush", Step::Flush),
+    ("Seal", Step::Seal),
+    ("Record", Step::Record),
+    ("Sync", Step::Sync),
+    ("Commit", Step::Commit),
+    ("Finish", Step::Finish),
+];
 
-/// The first ready step in the order of the table.
-fn first_ready(kernel: &Kernel<MemoryDevice>) -> Option<Step>
-    ensures { IfSome result (λ step. is_ready step (disk_of kernel.now.device).depth kernel.now.state ≡ true) }
-{
-    for step in STEPS {
-        if kernel.ready(step) {
-            return Some(step);
-        }
+/// Shows a step, and whether it failed.
+fn show_step(did: Result<(), StepFail>, step: Step, out: &mut String) -> Result<(), CaseError> {
+    match did {
+        Ok(()) => Ok(write!(out, " {step:?}")?),
+        Err(StepFail::Fault) => Ok(write!(out, " {step:?}=failed")?),
+        Err(StepFail::Memory) => Err(CaseError::OutOfMemory),
     }
-    None
 }
 
-/// Does a step that is ready, and shows it.
-fn do_step(
+/// Does a step, if it is ready.
+fn step_if_ready(
     alloc: Global,
     kernel: &mut Kernel<MemoryDevice>,
     step: Step,
-    out: &mut String,
-) -> Result<(), CaseError>
-    requires { is_ready step (disk_of kernel.old.device).depth kernel.old.state ≡ true }
-{
-    match kernel.step(alloc, step) {
-        Ok(()) => write!(out, " {step:?}")?,
-        Err(StepFail::Fault) => write!(out, " {step:?}=failed")?,
-        Err(StepFail::Memory) => return Err(CaseError::OutOfMemory),
+) -> Option<Result<(), StepFail>> {
+    if !kernel.ready(step) {
+        return None;
     }
-    Ok(())
+    Some(kernel.step(alloc, step))
 }
 
-/// Does the first ready step until none is ready.
-fn drain(
+/// Does the first ready step in the order of the table, and shows it; false where none is ready.
+fn step_first(
+    alloc: Global,
+    kernel: &mut Kernel<MemoryDevice>,
+    out: &mut String,
+) -> Result<bool, CaseError> {
+    for step in STEPS {
+        if let Some(did) = step_if_ready(alloc, kernel, step) {
+            show_step(did, step, out)?;
+            return Ok(true);
+        }
+    }
+    Ok(false)
+}
+
+/// Follows `drain`: does the first ready step until none is ready.
+pub fn drain(
     alloc: Global,
     kernel: &mut Kernel<MemoryDevice>,
     out: &mut String,
 ) -> Result<(), CaseError> {
     out.push_str("steps")?;
     for _ in 0..MOST_STEPS {
-        let Some(step) = first_ready(kernel) else {
+        if !step_first(alloc, kernel, out)? {
             return Ok(out.push('\n')?);
-        };
-        do_step(alloc, kernel, step, out)?;
+        }
     }
     Err(CaseError::Line("it isn't drained"))
 }
 
-fn print_ready(kernel: &Kernel<MemoryDevice>, out: &mut String) -> Result<(), AllocError> {
+/// Follows `ready`.
+pub fn print_ready(kernel: &Kernel<MemoryDevice>, out: &mut String) -> Result<(), AllocError> {
     out.push_str("ready")?;
     for step in STEPS {
         if kernel.ready(step) {
@@ -96,7 +98,8 @@ fn print_ready(kernel: &Kernel<MemoryDevice>, out: &mut String) -> Result<(), Al
     out.push('\n')
 }
 
-fn print_state(kernel: &Kernel<MemoryDevice>, out: &mut String) -> Result<(), AllocError> {
+/// Follows `state`.
+pub fn print_state(kernel: &Kernel<MemoryDevice>, out: &mut String) -> Result<(), AllocError> {
     match kernel.down() {
         Some(ticket) => write!(out, "down by {}", ticket.place)?,
         None => out.push_str("up")?,
@@ -111,29 +114,32 @@ fn print_state(kernel: &Kernel<MemoryDevice>, out: &mut String) -> Result<(), Al
     )
 }
 
-/// Follows `step NAME`, `drain`, `ready`, `state`, and `acked PLACE`.
-pub fn step_line(
+/// Follows `step NAME`, from its second word on.
+pub fn step(
     alloc: Global,
     kernel: &mut Kernel<MemoryDevice>,
-    words: &[&str],
+    mut words: Words<'_>,
     out: &mut String,
-) -> Result<bool, CaseError> {
-    match words {
-        ["step", name] => {
-            let step = step_of(name)?;
-            if !kernel.ready(step) {
-                writeln!(out, "not ready")?;
-                return Ok(true);
-            }
-            out.push_str("steps")?;
-            do_step(alloc, kernel, step, out)?;
-            out.push('\n')?;
-        }
-        ["drain"] => drain(alloc, kernel, out)?,
-        ["ready"] => print_ready(kernel, out)?,
-        ["state"] => print_state(kernel, out)?,
-        ["acked", place] => writeln!(out, "{}", kernel.acked(small(place)?))?,
-        _ => return Ok(false),
-    }
-    Ok(true)
+) -> Result<(), CaseError> {
+    let Some(step) = look_up(&STEP_NAMES, words.next()?) else {
+        return Err(CaseError::Line("no such step"));
+    };
+    words.end()?;
+    let Some(did) = step_if_ready(alloc, kernel, step) else {
+        return Ok(out.push_str("not ready\n")?);
+    };
+    out.push_str("steps")?;
+    show_step(did, step, out)?;
+    Ok(out.push('\n')?)
+}
+
+/// Follows `acked PLACE`, from its second word on.
+pub fn print_acked(
+    kernel: &Kernel<MemoryDevice>,
+    mut words: Words<'_>,
+    out: &mut String,
+) -> Result<(), CaseError> {
+    let place = words.small()?;
+    words.end()?;
+    Ok(writeln!(out, "{}", kernel.acked(place))?)
 }

@@ -1,10 +1,10 @@
 //! Transactions that are submitted.
-ghost use Rattle.std.specs.Prelude.{◌≡◌, ◌<◌, [], ◌∷◌, IfOk};
+ghost use Rattle.std.specs.Prelude.{◌≡◌, ◌<◌, ◌%◌, [], ◌∷◌, length, IfOk};
 ghost use Rattle.store_steps.specs.Submit.{IsKnown};
 
 use block_device::MemoryDevice;
 use byte_maps::Bytes;
-use case_text::{CaseError, byte};
+use case_text::{CaseError, Words, look_up};
 use object_model::{Op, Transaction};
 use std::alloc::Global;
 use std::fmt::Write;
@@ -27,14 +27,22 @@ pub fn object_of(alloc: Global, word: &str) -> Result<Name, CaseError> {
     }
 }
 
-fn one(alloc: Global, coll: &str, op: Op) -> Result<Transaction, CaseError>
+/// A transaction of one operation.
+fn one(alloc: Global, coll: CollName, op: Op) -> Result<Transaction, CaseError>
     requires { IsKnown (op ∷ []) }
     ensures { IfOk result (λ t. IsKnown t.ops) }
 {
-    match Transaction::new(alloc, coll_of(alloc, coll)?, op) {
+    match Transaction::new(alloc, coll, op) {
         Ok(txn) => Ok(txn),
         Err(_) => Err(CaseError::OutOfMemory),
     }
+}
+
+/// The object that the last word names.
+pub fn last_object(alloc: Global, mut words: Words<'_>) -> Result<Name, CaseError> {
+    let object = object_of(alloc, words.next()?)?;
+    words.end()?;
+    Ok(object)
 }
 
 /// The number of pages in a word.
@@ -45,42 +53,61 @@ fn pages_of(word: &str) -> Result<u16, CaseError> {
     }
 }
 
-/// A write of so many pages, each byte of them this one.
-fn write(
-    alloc: Global,
-    coll: &str,
-    object: &str,
-    first: u16,
-    count: u16,
-    value: u8,
-) -> Result<Transaction, CaseError>
-    requires { 0 < count }
+/// The bytes of so many pages, each of them this one.
+fn pages(alloc: Global, count: u16, value: u8) -> Result<Bytes, CaseError>
+    ensures { IfOk result (λ bytes. (length bytes % 4096 ≡ 0) × (0 < length bytes)) }
+{
+    if count == 0 {
+        return Err(CaseError::Line("no pages"));
+    }
+    Ok(Bytes::from_vec(vec![in alloc; value; 4096 * usize::from(count)]?))
+}
+
+/// A write of the words NAME, FIRST, COUNT and BYTE, in pages.
+fn write(alloc: Global, coll: CollName, mut words: Words<'_>) -> Result<Transaction, CaseError>
     ensures { IfOk result (λ t. IsKnown t.ops) }
 {
-    let object = object_of(alloc, object)?;
+    let object = object_of(alloc, words.next()?)?;
+    let first = pages_of(words.next()?)?;
+    let count = pages_of(words.next()?)?;
+    let bytes = pages(alloc, count, words.byte()?)?;
+    words.end()?;
     let off = 4096 * u64::from(first);
-    let bytes = Bytes::from_vec(vec![in alloc; value; 4096 * usize::from(count)]?);
     one(alloc, coll, Op::Write { object, off, bytes })
 }
 
-/// The transaction of these words: `mkcoll COLL`, `touch COLL NAME`, or `write COLL NAME FIRST COUNT BYTE`, in pages.
-fn transaction(alloc: Global, words: &[&str]) -> Result<Transaction, CaseError>
+/// What a transaction does.
+#[derive(Clone, Copy)]
+enum TransactionKind {
+    /// `mkcoll COLL`
+    MkColl,
+    /// `touch COLL NAME`
+    Touch,
+    /// `write COLL NAME FIRST COUNT BYTE`: so many pages of one byte.
+    Write,
+}
+
+static TRANSACTION_KINDS: [(&str, TransactionKind); 3] = [
+    ("mkcoll", TransactionKind::MkColl),
+    ("touch", TransactionKind::Touch),
+    ("write", TransactionKind::Write),
+];
+
+/// The transaction of these words.
+fn transaction(alloc: Global, mut words: Words<'_>) -> Result<Transaction, CaseError>
     ensures { IfOk result (λ t. IsKnown t.ops) }
 {
-    match words {
-        ["mkcoll", coll] => one(alloc, coll, Op::MkColl),
-        ["touch", coll, object] => {
-            let object = object_of(alloc, object)?;
+    let Some(kind) = look_up(&TRANSACTION_KINDS, words.next()?) else {
+        return Err(CaseError::Line("no transaction"));
+    };
+    let coll = coll_of(alloc, words.next()?)?;
+    match kind {
+        TransactionKind::MkColl => one(alloc, coll, Op::MkColl),
+        TransactionKind::Touch => {
+            let object = last_object(alloc, words)?;
             one(alloc, coll, Op::Touch { object })
         }
-        ["write", coll, object, first, count, value] => {
-            let count = pages_of(count)?;
-            if count == 0 {
-                return Err(CaseError::Line("no pages"));
-            }
-            write(alloc, coll, object, pages_of(first)?, count, byte(value)?)
-        }
-        _ => Err(CaseError::Line("no transaction")),
+        TransactionKind::Write => write(alloc, coll, words),
     }
 }
 
@@ -96,23 +123,30 @@ fn print_refused(why: &Refused, out: &mut String) -> Result<(), CaseError> {
     Ok(())
 }
 
-/// Follows `submit TRANSACTION`, and shows the transaction's place in the book.
-pub fn submit_line(
+/// Submits a transaction, as client 0 at line 1.
+fn submitted(
     alloc: Global,
     kernel: &mut Kernel<MemoryDevice>,
-    words: &[&str],
-    out: &mut String,
-) -> Result<bool, CaseError> {
-    let ["submit", words @ ..] = words else {
-        return Ok(false);
-    };
-    let txn = transaction(alloc, words)?;
+    txn: Transaction,
+) -> Result<Result<u32, Refused>, CaseError>
+    requires { IsKnown txn.ops }
+{
     if kernel.down().is_none() && !kernel.drained() {
         return Err(CaseError::Line("the kernel isn't drained"));
     }
-    match kernel.submit(alloc, 0, 1, txn) {
-        Ok(place) => writeln!(out, "accepted {place}")?,
-        Err(why) => print_refused(&why, out)?,
+    Ok(kernel.submit(alloc, 0, 1, txn))
+}
+
+/// Follows `submit TRANSACTION`, from its second word on, and shows the transaction's place in the book.
+pub fn submit(
+    alloc: Global,
+    kernel: &mut Kernel<MemoryDevice>,
+    words: Words<'_>,
+    out: &mut String,
+) -> Result<(), CaseError> {
+    let txn = transaction(alloc, words)?;
+    match submitted(alloc, kernel, txn)? {
+        Ok(place) => Ok(writeln!(out, "accepted {place}")?),
+        Err(why) => print_refused(&why, out),
     }
-    Ok(true)
 }

@@ -32,6 +32,26 @@ fn print_object(view: &ObjectView, out: &mut String) -> Result<(), CaseError> {
     Ok(())
 }
 
+/// The next object of a collection; None behind the last one, and where a read fails, which is shown.
+fn next_object(
+    alloc: Global,
+    kernel: &mut Kernel<MemoryDevice>,
+    coll: &CollName,
+    after: Option<&Name>,
+    out: &mut String,
+) -> Result<Option<ObjectView>, CaseError> {
+    if kernel.down().is_none() && !kernel.drained() {
+        return Err(CaseError::Line("the kernel isn't drained"));
+    }
+    match kernel.next_object(alloc, coll, after) {
+        Ok(found) => Ok(found),
+        Err(why) => {
+            print_fail(why, out)?;
+            Ok(None)
+        }
+    }
+}
+
 fn walk_objects(
     alloc: Global,
     kernel: &mut Kernel<MemoryDevice>,
@@ -40,54 +60,52 @@ fn walk_objects(
 ) -> Result<(), CaseError> {
     let mut after: Option<Name> = None;
     for _ in 0..MOST_SHOWN {
-        if kernel.down().is_none() && !kernel.drained() {
-            return Err(CaseError::Line("the kernel isn't drained"));
-        }
-        match kernel.next_object(alloc, coll, after.as_ref()) {
-            Ok(None) => return Ok(()),
-            Ok(Some(view)) => {
-                print_object(&view, out)?;
-                after = Some(view.name);
-            }
-            Err(why) => return print_fail(why, out),
-        }
+        let Some(view) = next_object(alloc, kernel, coll, after.as_ref(), out)? else {
+            return Ok(());
+        };
+        print_object(&view, out)?;
+        after = Some(view.name);
     }
     Err(CaseError::Line("too many objects"))
 }
 
-fn walk(
+/// The next collection; None behind the last one, and where the kernel is down, which is shown.
+fn next_collection(
+    alloc: Global,
+    kernel: &Kernel<MemoryDevice>,
+    after: Option<&CollName>,
+    out: &mut String,
+) -> Result<Option<CollName>, CaseError> {
+    match kernel.next_collection(alloc, after) {
+        Ok(found) => Ok(found),
+        Err(why) => {
+            print_fail(why, out)?;
+            Ok(None)
+        }
+    }
+}
+
+fn print_collection(coll: &CollName, out: &mut String) -> Result<(), CaseError> {
+    let Ok(name) = str::from_utf8(coll.as_slice()) else {
+        return Err(CaseError::Line("a name that isn't text"));
+    };
+    Ok(writeln!(out, "coll {name}")?)
+}
+
+/// Follows `walk`.
+pub fn walk(
     alloc: Global,
     kernel: &mut Kernel<MemoryDevice>,
     out: &mut String,
 ) -> Result<(), CaseError> {
     let mut after: Option<CollName> = None;
     for _ in 0..MOST_SHOWN {
-        match kernel.next_collection(alloc, after.as_ref()) {
-            Ok(None) => return Ok(()),
-            Ok(Some(coll)) => {
-                let Ok(name) = str::from_utf8(coll.as_slice()) else {
-                    return Err(CaseError::Line("a name that isn't text"));
-                };
-                writeln!(out, "coll {name}")?;
-                walk_objects(alloc, kernel, &coll, out)?;
-                after = Some(coll);
-            }
-            Err(why) => return print_fail(why, out),
-        }
+        let Some(coll) = next_collection(alloc, kernel, after.as_ref(), out)? else {
+            return Ok(());
+        };
+        print_collection(&coll, out)?;
+        walk_objects(alloc, kernel, &coll, out)?;
+        after = Some(coll);
     }
     Err(CaseError::Line("too many collections"))
-}
-
-/// Follows `walk`.
-pub fn walk_line(
-    alloc: Global,
-    kernel: &mut Kernel<MemoryDevice>,
-    words: &[&str],
-    out: &mut String,
-) -> Result<bool, CaseError> {
-    let ["walk"] = words else {
-        return Ok(false);
-    };
-    walk(alloc, kernel, out)?;
-    Ok(true)
 }

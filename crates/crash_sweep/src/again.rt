@@ -4,7 +4,8 @@ use crate::history::{apply_front, objects_behind};
 use crate::sweep::{Sweep, tear_of};
 use crate::swept::{Counts, print_counts};
 use block_device::Tear;
-use case_text::{CaseError, bytes_of, number, put};
+use case_text::{CaseError, Setup, Words, bytes_of};
+use plain_store::Plain;
 use std::alloc::{AllocError, Global};
 use std::fmt::Write;
 
@@ -65,56 +66,79 @@ fn last_line(alloc: Global, text: &str) -> Result<String, AllocError> {
 }
 
 impl Sweep {
-    /// A run on what a crash of the last run leaves.
-    fn after(&self, cut: u64, tear: Tear, next: &Next<'_>) -> Result<Sweep, CaseError> {
-        let alloc = self.alloc;
-        let image = self.image(cut, tear)?;
-        let Some(count) = self.commits_in(&image)? else {
+    /// The objects after a crash that leaves this image.
+    fn objects_after(&self, image: &[u8]) -> Result<Plain, CaseError> {
+        let Some(count) = self.commits_in(image)? else {
             return Err(CaseError::Line("a crash of no front"));
         };
-        let Some(script) = bytes_of(&self.case.setup.scripts, next.script) else {
+        let mut plain = objects_behind(self.alloc, &self.history)?;
+        apply_front(self.alloc, &mut plain, self.book()?, count)?;
+        Ok(plain)
+    }
+
+    /// What is set up for a second run: this image as the store `dev`, a script of this case, and its lags.
+    fn second_setup(&self, image: Vec<u8>, script: &str) -> Result<Setup, CaseError> {
+        let Some(script) = bytes_of(&self.case.setup.scripts, script) else {
             return Err(CaseError::Line("no such script"));
         };
-        let mut plain = objects_behind(alloc, &self.history)?;
-        apply_front(alloc, &mut plain, self.book()?, count)?;
-        let mut second = Sweep::new(alloc)?;
-        second.case.setup.lags = self.case.setup.lags.to_vec(alloc)?;
-        second.case.setup.put_device("dev", image)?;
-        let script = script.to_vec(alloc)?;
-        put(alloc, &mut second.case.setup.scripts, "script", script)?;
+        let mut setup = Setup::new(self.alloc)?;
+        setup.lags = self.case.setup.lags.to_vec(self.alloc)?;
+        setup.put_device("dev", image)?;
+        setup.put_script("script", script)?;
+        Ok(setup)
+    }
+
+    /// A run on what a crash of the last run leaves.
+    fn after(&self, cut: u64, tear: Tear, next: &Next<'_>) -> Result<Sweep, CaseError> {
+        let image = self.image(cut, tear)?;
+        let plain = self.objects_after(&image)?;
+        let setup = self.second_setup(image, next.script)?;
+        let mut second = Sweep::of(setup);
         second.step_from(next.seed, "script", plain)?;
         Ok(second)
+    }
+
+    /// Looks at each cut of what is done after a crash.
+    fn sweep_after(
+        &self,
+        cut: u64,
+        tear: Tear,
+        next: &Next<'_>,
+        seen: &mut Seen,
+    ) -> Result<(), CaseError> {
+        let second = self.after(cut, tear, next)?;
+        seen.crashes = seen.crashes.wrapping_add(1);
+        seen.push_end(self.alloc, &second.case.text)?;
+        if second.leaked != self.leaked {
+            writeln!(seen.bad, "cut {cut}: other units are leaked")?;
+        }
+        second.sweep(1, 0, &mut seen.counts, &mut seen.bad)
     }
 
     /// Looks at each cut of what is done after each crash that tears the log of the last run in this way.
     fn again(&self, tear: Tear, next: &Next<'_>) -> Result<Seen, CaseError> {
         let mut seen = Seen::new(self.alloc);
         for cut in 0..=self.events()? {
-            let second = self.after(cut, tear, next)?;
-            seen.crashes = seen.crashes.wrapping_add(1);
-            seen.push_end(self.alloc, &second.case.text)?;
-            if second.leaked != self.leaked {
-                writeln!(seen.bad, "cut {cut}: other units are leaked")?;
-            }
-            second.sweep(1, 0, &mut seen.counts, &mut seen.bad)?;
+            self.sweep_after(cut, tear, next, &mut seen)?;
         }
         Ok(seen)
     }
 
     /// Follows `again TEAR SEED SCRIPT LEAST`: shows how many crashes and images there were, of the latter only that they are more
     /// than so many, and each last line that the runs after the crashes printed.
-    pub fn again_line(
+    pub fn sweep_again(
         &self,
         line: &str,
-        words: &[&str],
+        mut words: Words<'_>,
         out: &mut String,
-    ) -> Result<bool, CaseError> {
-        let ["again", tear, seed, script, least] = words else {
-            return Ok(false);
-        };
+    ) -> Result<(), CaseError> {
         writeln!(out, "{line}")?;
-        let seen = self.again(tear_of(tear)?, &Next { seed, script })?;
-        seen.print(number(least)?, out)?;
-        Ok(true)
+        let tear = tear_of(words.next()?)?;
+        let seed = words.next()?;
+        let script = words.next()?;
+        let least = words.number()?;
+        words.end()?;
+        let seen = self.again(tear, &Next { seed, script })?;
+        seen.print(least, out)
     }
 }

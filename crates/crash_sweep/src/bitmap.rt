@@ -1,9 +1,9 @@
 //! What the rows say of each data unit: its bit in the freelist's bitmap, and the pages that stand on it.
 
 use crate::object::{is_shard_key, read_head};
+use crate::reader::Reader;
 use byte_maps::Bytes;
 use std::alloc::{AllocError, Global};
-use unit_fields::Fields;
 
 /// Turns the mark of a unit, which must be the other one so far. The marks are those of the data units, from the first one on.
 fn turn(marks: &mut [bool], first: u32, unit: u32, to: bool) -> Option<()> {
@@ -30,7 +30,7 @@ fn mark_row(marks: &mut [bool], first: u32, number: u32, bits: &[u8]) -> Option<
 }
 
 /// Takes away the marks of an extent's units.
-fn unmark_extent(marks: &mut [bool], first: u32, fields: &mut Fields<'_>) -> Option<()> {
+fn unmark_extent(marks: &mut [bool], first: u32, fields: &mut Reader<'_>) -> Option<()> {
     let head = read_head(fields)?;
     let _sums = fields.bytes(4 * head.count as usize)?;
     for i in 0..head.count {
@@ -41,7 +41,7 @@ fn unmark_extent(marks: &mut [bool], first: u32, fields: &mut Fields<'_>) -> Opt
 
 /// Takes away the marks of a shard's units.
 fn unmark_shard(marks: &mut [bool], first: u32, shard: &[u8]) -> Option<()> {
-    let mut fields = Fields::new(shard);
+    let mut fields = Reader::new(shard);
     for _ in 0..shard.len() {
         if fields.is_empty() {
             break;
@@ -54,7 +54,7 @@ fn unmark_shard(marks: &mut [bool], first: u32, shard: &[u8]) -> Option<()> {
 /// The number of the bitmap's row that has this key.
 pub fn row_number(key: &[u8]) -> Option<u32> {
     match key {
-        [b'b', number @ ..] if number.len() == 4 => Fields::new(number).u32_be(),
+        [b'b', a, b, c, d] => Some(u32::from_be_bytes([*a, *b, *c, *d])),
         _ => None,
     }
 }

@@ -3,9 +3,9 @@
 use crate::history::{acknowledged, apply_commit, objects_behind};
 use crate::spelled::{COLL, NAMES, coll, name};
 use crate::sweep::{Sweep, TEARS};
-use crate::swept::{Counts, print_counts};
+use crate::swept::{Counts, print_bad, print_counts};
 use case_runs::Case;
-use case_text::CaseError;
+use case_text::{CaseError, Setup, Words};
 use crc32c_csum::crc32c;
 use plain_store::Plain;
 use std::alloc::Global;
@@ -50,11 +50,28 @@ impl Sweep {
 
     /// What `dump` prints of a device with these contents, where it ends with 0.
     fn dumped(&self, contents: Vec<u8>) -> Result<Option<Vec<u8>>, CaseError> {
-        let mut case = Case::new(self.alloc)?;
-        case.setup.put_device("dev", contents)?;
+        let mut setup = Setup::new(self.alloc)?;
+        setup.put_device("dev", contents)?;
+        let mut case = Case::of(setup);
         case.run_line(&["bstore", "dump", "dev"])?;
-        let good = case.outcome.is_some_and(|outcome| outcome.status == 0);
+        let good = case.has_status(0);
         Ok(if good { Some(case.text) } else { None })
+    }
+
+    /// Whether `dump` shows a front of the commits, with so many of them at least, and the bitmap is exact.
+    fn dumps_front(
+        &self,
+        texts: &[Vec<u8>],
+        least: usize,
+        image: Vec<u8>,
+    ) -> Result<bool, CaseError> {
+        if !self.is_exact(&image)? {
+            return Ok(false);
+        }
+        match self.dumped(image)? {
+            Some(text) => Ok(texts.iter().skip(least).any(|front| *front == text)),
+            None => Ok(false),
+        }
     }
 
     /// Dumps each image of a cut, and shows those whose text is that of no front with all that were acknowledged, or whose bitmap
@@ -70,32 +87,23 @@ impl Sweep {
         counts.cuts = counts.cuts.wrapping_add(1);
         for tear in TEARS {
             let image = self.image(cut, tear)?;
-            let leaked = self.leaked_in(&image)?;
-            let exact = leaked.is_some_and(|units| units == self.leaked);
-            counts.images = counts.images.wrapping_add(1);
-            let text = self.dumped(image)?;
-            let stands = text.is_some_and(|text| texts
-                .iter()
-                .skip(least)
-                .any(|front| *front == text));
-            if !exact || !stands {
-                counts.bad = counts.bad.wrapping_add(1);
-                writeln!(bad, "cut {cut} {tear:?}: not of such a front")?;
+            let good = self.dumps_front(texts, least, image)?;
+            counts.count(good);
+            if !good {
+                print_bad(cut, tear, bad)?;
             }
         }
         Ok(())
     }
 
     /// Follows `dumps`, which dumps each image of each cut of the last run.
-    pub fn dump_line(
+    pub fn dump_all(
         &self,
         line: &str,
-        words: &[&str],
+        words: Words<'_>,
         out: &mut String,
-    ) -> Result<bool, CaseError> {
-        let ["dumps"] = words else {
-            return Ok(false);
-        };
+    ) -> Result<(), CaseError> {
+        words.end()?;
         let texts = self.shown_texts()?;
         let mut counts = Counts::new();
         let mut bad = String::new(self.alloc);
@@ -103,7 +111,6 @@ impl Sweep {
             self.dump_cut(&texts, cut, &mut counts, &mut bad)?;
         }
         writeln!(out, "{line}")?;
-        print_counts(&counts, None, bad.as_str(), out)?;
-        Ok(true)
+        print_counts(&counts, None, bad.as_str(), out)
     }
 }

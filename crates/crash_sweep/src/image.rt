@@ -2,11 +2,11 @@
 
 use crate::bitmap::{leaked_units, row_number};
 use crate::object::{Object, read_object};
+use crate::reader::{are_zeros, number_at, small_at};
 use crate::record::{Rows, make_all, read_record};
 use byte_maps::Bytes;
 use crc32c_csum::crc32c;
 use std::alloc::{AllocError, Global};
-use unit_fields::Fields;
 
 /// The rows of a store in an image.
 #[derive(Drop)]
@@ -18,7 +18,7 @@ pub struct Found {
 }
 
 /// A valid superblock slot.
-#[derive(Drop)]
+#[derive(Clone, Copy)]
 struct Slot {
     units: u32,
     half: u32,
@@ -32,32 +32,37 @@ pub fn unit(image: &[u8], at: u32) -> Option<&[u8]> {
     image.get(from..from + 4096)
 }
 
+/// Whether a unit is a slot of version 1 by its first bytes, with zeros behind the fields and a right checksum.
+fn is_slot(unit: &[u8]) -> bool {
+    let Some((body, sum)) = unit.split_at_checked(4092) else {
+        return false;
+    };
+    body.starts_with(b"BSTORE01")
+        && small_at(body, 8) == 1
+        && are_zeros(body, 40)
+        && small_at(sum, 0) == crc32c(body)
+}
+
+impl Slot {
+    /// Whether the slot of this number may say this of an image of so many bytes.
+    fn fits(&self, len: usize, at: u32) -> bool {
+        len == 4096 * self.units as usize
+            && 2 * self.half as usize + 3 <= self.units as usize
+            && self.epoch % 2 == at as u64
+    }
+}
+
 /// The slot of this number, where it is valid.
 fn read_slot(image: &[u8], at: u32) -> Option<Slot> {
-    let (body, sum) = unit(image, at)?.split_at_checked(4092)?;
-    let kept = Fields::new(sum).u32()?;
-    let mut fields = Fields::new(body);
-    let magic = fields.bytes(8)?;
-    let version = fields.u32()?;
-    let units = fields.u32()?;
-    let half = fields.u32()?;
-    let _prefer = fields.u32()?;
-    let epoch = fields.u64()?;
-    let first = fields.u64()?;
-    let valid = magic == b"BSTORE01".as_slice()
-        && version == 1
-        && kept == crc32c(body)
-        && fields.rest().iter().all(|byte| *byte == 0)
-        && image.len() == 4096 * units as usize
-        && 2 * half as usize + 3 <= units as usize
-        && epoch % 2 == at as u64;
-    if valid {
-        Some(Slot {
-            units,
-            half,
-            epoch,
-            first,
-        })
+    let unit = unit(image, at)?;
+    let slot = Slot {
+        units: small_at(unit, 12),
+        half: small_at(unit, 16),
+        epoch: number_at(unit, 24),
+        first: number_at(unit, 32),
+    };
+    if is_slot(unit) && slot.fits(image.len(), at) {
+        Some(slot)
     } else {
         None
     }

@@ -4,19 +4,26 @@ use crate::history::{Past, acknowledged};
 use crate::image::Found;
 use crate::spelled::spelled;
 use crate::sweep::{Sweep, tear_of};
-use case_text::{CaseError, small};
+use case_text::{CaseError, Words, small};
 use object_model::Book;
 use std::fmt::Write;
 use std::mem;
 
 impl Sweep {
+    /// The objects in contents, spelled; None where there is no store, or it has something else.
+    pub fn objects_in(&self, contents: &[u8]) -> Result<Option<Vec<u8>>, CaseError> {
+        match Found::read(self.alloc, contents)? {
+            Some(found) => spelled(self.alloc, &found, contents),
+            None => Ok(None),
+        }
+    }
+
     /// How many commits of the last run contents have, where they stand for a front of them.
     pub fn commits_in(&self, contents: &[u8]) -> Result<Option<usize>, CaseError> {
-        let Some(found) = Found::read(self.alloc, contents)? else {
-            return Ok(None);
-        };
-        let objects = spelled(self.alloc, &found, contents)?;
-        Ok(objects.and_then(|objects| self.states.iter().position(|state| *state == objects)))
+        match self.objects_in(contents)? {
+            Some(objects) => Ok(self.states.iter().position(|state| *state == objects)),
+            None => Ok(None),
+        }
     }
 
     /// Takes the last run's first commits into the history.
@@ -29,62 +36,67 @@ impl Sweep {
         Ok(self.history.push(Past { book, count })?)
     }
 
-    /// Puts what a crash of the last run leaves under the name `dev`: later runs are on that.
-    fn crash(&mut self, cut: &str, tear: &str, out: &mut String) -> Result<(), CaseError> {
-        let image = self.image(self.cut_of(cut)?, tear_of(tear)?)?;
-        let all = self.book()?.commits.len();
-        let Some(count) = self.commits_in(&image)? else {
-            return Err(CaseError::Line("the image is of no front"));
-        };
-        writeln!(out, "{count} of {all} commits")?;
+    /// Follows `crash CUT TEAR`, from its second word on: puts what a crash of the last run leaves under the name `dev`, so that
+    /// later runs are on that.
+    pub fn crash(
+        &mut self,
+        line: &str,
+        mut words: Words<'_>,
+        out: &mut String,
+    ) -> Result<(), CaseError> {
+        writeln!(out, "{line}")?;
+        let cut = self.cut_of(words.next()?)?;
+        let tear = tear_of(words.next()?)?;
+        words.end()?;
+        let image = self.image(cut, tear)?;
+        let count = self.show_front(&image, out)?;
         self.remember(count)?;
         self.case.setup.put_device("dev", image)
     }
 
-    /// Shows of how many commits a device is, how many it must have at least at the run's end, and whether its bitmap is exact but
-    /// for what was leaked before the run.
-    fn judge(&self, name: &str, out: &mut String) -> Result<(), CaseError> {
-        let contents = self.case.setup.contents(name)?;
+    /// Shows how many of the last run's commits an image has.
+    fn show_front(&self, image: &[u8], out: &mut String) -> Result<usize, CaseError> {
+        let all = self.book()?.commits.len();
+        let Some(count) = self.commits_in(image)? else {
+            return Err(CaseError::Line("the image is of no front"));
+        };
+        writeln!(out, "{count} of {all} commits")?;
+        Ok(count)
+    }
+
+    /// Follows `judge NAME`, from its second word on: shows of how many commits a device is, how many it must have at least at the
+    /// run's end, and whether its bitmap is exact but for what was leaked before the run.
+    pub fn judge(
+        &self,
+        line: &str,
+        mut words: Words<'_>,
+        out: &mut String,
+    ) -> Result<(), CaseError> {
+        writeln!(out, "{line}")?;
+        let contents = self.case.setup.contents(words.next()?)?;
+        words.end()?;
         let least = acknowledged(self.book()?, self.events()?, 0);
         match self.commits_in(&contents)? {
             Some(count) => write!(out, "{count} commits of at least {least}")?,
-            None => write!(out, "of no front")?,
+            None => out.push_str("of no front")?,
         }
-        let leaked = self.leaked_in(&contents)?;
-        let exact = leaked.is_some_and(|units| units == self.leaked);
-        writeln!(out, "{}", if exact { ", exact" } else { ", not exact" })?;
-        Ok(())
+        let exact = self.is_exact(&contents)?;
+        Ok(out.push_str(if exact { ", exact\n" } else { ", not exact\n" })?)
     }
 
-    /// Follows `crash CUT TEAR`, `judge NAME`, and what makes a judgement wrong: `forget`, which drops the last run's last state,
-    /// and `leaked UNITS`, which says what was leaked before it.
-    pub fn judge_line(
-        &mut self,
-        line: &str,
-        words: &[&str],
-        out: &mut String,
-    ) -> Result<bool, CaseError> {
-        match words {
-            ["crash", cut, tear] => {
-                writeln!(out, "{line}")?;
-                self.crash(cut, tear, out)?;
-            }
-            ["judge", name] => {
-                writeln!(out, "{line}")?;
-                self.judge(name, out)?;
-            }
-            ["forget"] => {
-                let _last = self.states.pop();
-            }
-            ["leaked", units @ ..] => {
-                let mut leaked = Vec::new(self.alloc);
-                for unit in units {
-                    leaked.push(small(unit)?)?;
-                }
-                self.leaked = leaked;
-            }
-            _ => return Ok(false),
+    /// Follows `forget`, which makes a judgement wrong: drops the last run's last state.
+    pub fn forget(&mut self, words: Words<'_>) -> Result<(), CaseError> {
+        let _last = self.states.pop();
+        words.end()
+    }
+
+    /// Follows `leaked UNIT ..`, from its second word on, which makes a judgement wrong: says what was leaked before the last run.
+    pub fn set_leaked(&mut self, words: Words<'_>) -> Result<(), CaseError> {
+        let mut leaked = Vec::new(self.alloc);
+        for unit in words.list(self.alloc)? {
+            leaked.push(small(unit)?)?;
         }
-        Ok(true)
+        self.leaked = leaked;
+        Ok(())
     }
 }

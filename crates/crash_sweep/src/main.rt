@@ -9,58 +9,19 @@ mod dumped;
 mod history;
 mod image;
 mod judged;
+mod lines;
 mod object;
+mod reader;
 mod record;
 mod shown;
 mod spelled;
 mod sweep;
 mod swept;
 
-use case_text::CaseError;
-use std::alloc::Global;
-use std::fmt::Write;
-use std::rt::Files;
-use std::{env, fs, io};
+use case_text::run_files;
+use std::io;
 use sweep::Sweep;
 
-/// Follows a line, and shows what is wrong with it where it can't be followed.
-fn follow(sweep: &mut Sweep, line: &str, out: &mut String) -> Result<(), CaseError> {
-    match sweep.follow(line, out) {
-        Ok(()) => Ok(()),
-        Err(CaseError::OutOfMemory) => Err(CaseError::OutOfMemory),
-        Err(CaseError::Line(why)) => Ok(writeln!(out, "{why}: {line}")?),
-    }
-}
-
-/// What the cases of a text come to. A line `case WORDS` begins one, with nothing set up.
-fn cases(alloc: Global, text: &str) -> Result<String, CaseError> {
-    let mut out = String::new(alloc);
-    let mut sweep = Sweep::new(alloc)?;
-    for line in text.lines() {
-        if line.starts_with("case ") {
-            sweep = Sweep::new(alloc)?;
-            writeln!(out, "\n{line}")?;
-        } else {
-            follow(&mut sweep, line, &mut out)?;
-        }
-    }
-    Ok(out)
-}
-
-fn run_file<R: Files + Print + AllocGlobal>(rt: &R, name: &str) -> io::Result<()> {
-    let text = fs::read_to_string(rt, name)?;
-    rt.println(format_args!("file {name}"))?;
-    match cases(rt.alloc(), text.as_str()) {
-        Ok(out) => rt.print(out.as_str()),
-        Err(_) => Err(io::Error::from(io::ErrorKind::OutOfMemory)),
-    }
-}
-
 fn main(rt: HostRuntime) -> io::Result<()> {
-    let mut words = env::args(&rt)?;
-    let _program = words.next();
-    for name in words {
-        run_file(&rt, name.as_str())?;
-    }
-    Ok(())
+    run_files::<Sweep, HostRuntime>(&rt)
 }

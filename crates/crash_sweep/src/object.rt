@@ -1,11 +1,11 @@
 //! The bytes of an object, of its rows and its pages.
 
 use crate::image::unit;
+use crate::reader::{Reader, number_at};
 use crate::record::value_of;
 use byte_maps::Bytes;
 use crc32c_csum::crc32c;
 use std::alloc::{AllocError, Global};
-use unit_fields::Fields;
 
 /// What stands under two names.
 #[derive(Debug, Drop)]
@@ -75,7 +75,7 @@ pub struct Head {
 }
 
 /// The head of an extent.
-pub fn read_head(fields: &mut Fields<'_>) -> Option<Head> {
+pub fn read_head(fields: &mut Reader<'_>) -> Option<Head> {
     let page = fields.u32()?;
     let count = fields.u16()?;
     let kind = fields.u8()?;
@@ -87,7 +87,7 @@ pub fn read_head(fields: &mut Fields<'_>) -> Option<Head> {
 }
 
 /// Lays the pages of an extent over the bytes: its head, and a checksum for each page.
-fn lay_extent(image: &[u8], fields: &mut Fields<'_>, bytes: &mut [u8]) -> Option<()> {
+fn lay_extent(image: &[u8], fields: &mut Reader<'_>, bytes: &mut [u8]) -> Option<()> {
     let head = read_head(fields)?;
     for i in 0..head.count {
         let found = unit(image, head.unit.checked_add(i as u32)?)?;
@@ -101,7 +101,7 @@ fn lay_extent(image: &[u8], fields: &mut Fields<'_>, bytes: &mut [u8]) -> Option
 
 /// Lays the pages of a shard over the bytes.
 fn lay_shard(image: &[u8], shard: &[u8], bytes: &mut [u8]) -> Option<()> {
-    let mut fields = Fields::new(shard);
+    let mut fields = Reader::new(shard);
     for _ in 0..shard.len() {
         if fields.is_empty() {
             break;
@@ -113,9 +113,8 @@ fn lay_shard(image: &[u8], shard: &[u8], bytes: &mut [u8]) -> Option<()> {
 
 /// The size in an onode.
 fn size_of(onode: &[u8]) -> Option<usize> {
-    let mut fields = Fields::new(onode);
-    let size = fields.u64()?;
-    if fields.is_empty() && size <= 134_217_728 {
+    let size = number_at(onode, 0);
+    if onode.len() == 8 && size <= 134_217_728 {
         Some(size as usize)
     } else {
         None

@@ -1,9 +1,9 @@
 //! Records of the log, and the rows that their operations make.
 
+use crate::reader::{Reader, are_zeros, number_at, small_at};
 use byte_maps::Bytes;
 use crc32c_csum::Digest;
 use std::alloc::{AllocError, Global};
-use unit_fields::Fields;
 
 /// Rows by their keys, in no order.
 pub type Rows = Vec<(Bytes, Bytes)>;
@@ -25,33 +25,23 @@ enum Change<'a> {
     Flip(&'a [u8], &'a [u8]),
 }
 
-fn short<'a>(fields: &mut Fields<'a>) -> Option<&'a [u8]> {
-    let len = fields.u16()?;
-    fields.bytes(len as usize)
-}
-
-fn long<'a>(fields: &mut Fields<'a>) -> Option<&'a [u8]> {
-    let len = fields.u32()?;
-    fields.bytes(len as usize)
-}
-
-fn read_change<'a>(fields: &mut Fields<'a>) -> Option<Change<'a>> {
+fn read_change<'a>(fields: &mut Reader<'a>) -> Option<Change<'a>> {
     let code = fields.u8()?;
-    let key = short(fields)?;
+    let key = fields.short()?;
     if key.is_empty() || 1024 < key.len() {
         return None;
     }
     match code {
-        1 => Some(Change::Set(key, long(fields)?)),
+        1 => Some(Change::Set(key, fields.long()?)),
         2 => Some(Change::Drop(key)),
-        3 => Some(Change::Flip(key, long(fields)?)),
+        3 => Some(Change::Flip(key, fields.long()?)),
         _ => None,
     }
 }
 
 /// Whether the body is exactly so many operations.
 fn has_changes(body: &[u8], count: u32) -> bool {
-    let mut fields = Fields::new(body);
+    let mut fields = Reader::new(body);
     for _ in 0..count {
         if read_change(&mut fields).is_none() {
             return false;
@@ -60,27 +50,32 @@ fn has_changes(body: &[u8], count: u32) -> bool {
     fields.is_empty()
 }
 
+/// The checksum of a record, of what stands before it and of the body.
+fn sum_of(head: &[u8], body: &[u8]) -> u32 {
+    let mut digest = Digest::new();
+    digest.update(head);
+    digest.update(body);
+    digest.finish()
+}
+
+/// Whether whole units are a record of this body by their first bytes and their checksum, with zeros behind the body.
+fn is_record(whole: &[u8], body: &[u8]) -> bool {
+    let Some((head, _)) = whole.split_at_checked(20) else {
+        return false;
+    };
+    head.starts_with(b"BREC")
+        && are_zeros(whole, body.len().saturating_add(24))
+        && small_at(whole, 20) == sum_of(head, body)
+}
+
 /// The record of this number at the front of the bytes, if a valid one stands there.
 pub fn read_record(bytes: &[u8], number: u64) -> Option<Record<'_>> {
-    let mut fields = Fields::new(bytes);
-    let magic = fields.bytes(4)?;
-    let len = fields.u32()? as usize;
-    let own = fields.u64()?;
-    let count = fields.u32()?;
-    let kept = fields.u32()?;
-    let body = fields.bytes(len)?;
+    let len = small_at(bytes, 4) as usize;
     let units = (24 + len).div_ceil(4096);
-    let padding = bytes.get(24 + len..4096 * units)?;
-    let rest = bytes.get(4096 * units..)?;
-    let mut digest = Digest::new();
-    digest.update(bytes.get(..20)?);
-    digest.update(body);
-    let valid = magic == b"BREC".as_slice()
-        && own == number
-        && digest.finish() == kept
-        && padding.iter().all(|byte| *byte == 0)
-        && has_changes(body, count);
-    if valid {
+    let (whole, rest) = bytes.split_at_checked(4096 * units)?;
+    let body = whole.get(24..24 + len)?;
+    let count = small_at(whole, 16);
+    if number_at(whole, 8) == number && is_record(whole, body) && has_changes(body, count) {
         Some(Record { body, count, rest })
     } else {
         None
@@ -140,7 +135,7 @@ fn make(alloc: Global, rows: &mut Rows, change: Change<'_>) -> Result<(), AllocE
 
 /// Makes the record's changes of the rows.
 pub fn make_all(alloc: Global, rows: &mut Rows, record: &Record<'_>) -> Result<(), AllocError> {
-    let mut fields = Fields::new(record.body);
+    let mut fields = Reader::new(record.body);
     for _ in 0..record.count {
         let Some(change) = read_change(&mut fields) else {
             return Ok(());

@@ -3,40 +3,55 @@
 use crate::image::Found;
 use crate::sweep::Sweep;
 use block_device::Tear;
-use case_text::CaseError;
+use case_text::{CaseError, Words};
+use std::alloc::AllocError;
 use std::fmt::Write;
 
+fn print_leaked(units: &[u32], out: &mut String) -> Result<(), AllocError> {
+    out.push_str("leaked")?;
+    for unit in units {
+        write!(out, " {unit}")?;
+    }
+    out.push('\n')
+}
+
 impl Sweep {
-    /// Shows the units that a device has leaked.
-    fn show_leaks(&self, name: &str, out: &mut String) -> Result<(), CaseError> {
-        let contents = self.case.setup.contents(name)?;
-        let Some(leaked) = self.leaked_in(&contents)? else {
-            return Ok(writeln!(out, "not exact")?);
-        };
-        out.push_str("leaked")?;
-        for unit in leaked {
-            write!(out, " {unit}")?;
+    /// Follows `leaks NAME`, from its second word on: shows the units that a device has leaked.
+    pub fn show_leaks(
+        &self,
+        line: &str,
+        mut words: Words<'_>,
+        out: &mut String,
+    ) -> Result<(), CaseError> {
+        writeln!(out, "{line}")?;
+        let contents = self.case.setup.contents(words.next()?)?;
+        words.end()?;
+        match self.leaked_in(&contents)? {
+            Some(leaked) => Ok(print_leaked(&leaked, out)?),
+            None => Ok(out.push_str("not exact\n")?),
         }
-        Ok(out.push('\n')?)
     }
 
-    /// Shows whether a device has a collection.
-    fn show_collection(&self, name: &str, coll: &str, out: &mut String) -> Result<(), CaseError> {
-        let contents = self.case.setup.contents(name)?;
+    /// Follows `collection NAME COLL`, from its second word on: shows whether a device has a collection.
+    pub fn show_collection(
+        &self,
+        line: &str,
+        mut words: Words<'_>,
+        out: &mut String,
+    ) -> Result<(), CaseError> {
+        writeln!(out, "{line}")?;
+        let contents = self.case.setup.contents(words.next()?)?;
+        let coll = words.next()?;
+        words.end()?;
         let has = match Found::read(self.alloc, &contents)? {
             Some(found) => found.has_collection(coll.as_bytes()),
             None => false,
         };
-        writeln!(
-            out,
-            "{}",
-            if has {
-                "a collection"
-            } else {
-                "no such collection"
-            }
-        )?;
-        Ok(())
+        Ok(out.push_str(if has {
+            "a collection\n"
+        } else {
+            "no such collection\n"
+        })?)
     }
 
     /// Shows which of the bitmap's first two rows there are behind a cut, where what isn't stable is lost.
@@ -54,8 +69,9 @@ impl Sweep {
         Ok(())
     }
 
-    /// Shows them as the last run began, and as each commit was acknowledged.
-    fn show_rows(&self, out: &mut String) -> Result<(), CaseError> {
+    /// Follows `rows`: shows them as the last run began, and as each commit was acknowledged.
+    pub fn show_rows(&self, words: Words<'_>, out: &mut String) -> Result<(), CaseError> {
+        words.end()?;
         out.push_str("rows")?;
         self.show_rows_at(0, out)?;
         let commits = &self.book()?.commits;
@@ -66,27 +82,5 @@ impl Sweep {
             }
         }
         Ok(out.push('\n')?)
-    }
-
-    /// Follows `leaks NAME`, `collection NAME COLL` and `rows`.
-    pub fn show_line(
-        &self,
-        line: &str,
-        words: &[&str],
-        out: &mut String,
-    ) -> Result<bool, CaseError> {
-        match words {
-            ["leaks", name] => {
-                writeln!(out, "{line}")?;
-                self.show_leaks(name, out)?;
-            }
-            ["collection", name, coll] => {
-                writeln!(out, "{line}")?;
-                self.show_collection(name, coll, out)?;
-            }
-            ["rows"] => self.show_rows(out)?,
-            _ => return Ok(false),
-        }
-        Ok(true)
     }
 }

@@ -1,11 +1,11 @@
-//! The lines of a case, and what they work on.
+//! What the lines of a case work on.
 
 use crate::history::{Past, apply_commit, objects_behind};
 use crate::image::Found;
 use crate::spelled::spelled_plain;
-use block_device::Tear;
+use block_device::{MemoryDevice, Tear};
 use case_runs::Case;
-use case_text::{CaseError, words_of};
+use case_text::{CaseError, Setup, Words, look_up, number};
 use object_model::Book;
 use plain_store::Plain;
 use std::alloc::Global;
@@ -25,16 +25,21 @@ pub struct Sweep {
     pub states: Vec<Vec<u8>>,
 }
 
+/// Their names.
+static TEAR_NAMES: [(&str, Tear); 5] = [
+    ("Old", Tear::Old),
+    ("New", Tear::New),
+    ("First", Tear::First),
+    ("Odd", Tear::Odd),
+    ("Noise", Tear::Noise),
+];
+
 /// The tear of this name.
 pub fn tear_of(word: &str) -> Result<Tear, CaseError> {
-    Ok(match word {
-        "Old" => Tear::Old,
-        "New" => Tear::New,
-        "First" => Tear::First,
-        "Odd" => Tear::Odd,
-        "Noise" => Tear::Noise,
-        _ => return Err(CaseError::Line("no tear")),
-    })
+    match look_up(&TEAR_NAMES, word) {
+        Some(tear) => Ok(tear),
+        None => Err(CaseError::Line("no tear")),
+    }
 }
 
 /// The objects after each number of commits, from these on.
@@ -49,33 +54,16 @@ fn states(alloc: Global, mut plain: Plain, book: &Book) -> Result<Vec<Vec<u8>>, 
 }
 
 impl Sweep {
-    /// A case with nothing set up.
-    pub fn new(alloc: Global) -> Result<Sweep, CaseError> {
-        Ok(Sweep {
+    /// A case with this set up, before its first run.
+    pub fn of(setup: Setup) -> Sweep {
+        let alloc = setup.alloc;
+        Sweep {
             alloc,
-            case: Case::new(alloc)?,
+            case: Case::of(setup),
             history: Vec::new(alloc),
             leaked: Vec::new(alloc),
             states: Vec::new(alloc),
-        })
-    }
-
-    /// Follows a line of a case, and adds what it shows to the text. The lines of `Case` are lines here too.
-    pub fn follow(&mut self, line: &str, out: &mut String) -> Result<(), CaseError> {
-        let words = words_of(self.alloc, line)?;
-        if let ["step", seed, script] = words.as_slice() {
-            self.step(seed, script)?;
-            return self.case.print_run(line, out);
         }
-        if self.sweep_line(line, &words, out)?
-            || self.again_line(line, &words, out)?
-            || self.dump_line(line, &words, out)?
-            || self.judge_line(line, &words, out)?
-            || self.show_line(line, &words, out)?
-        {
-            return Ok(());
-        }
-        self.case.follow(line, out)
     }
 
     /// The book of the last run.
@@ -86,10 +74,20 @@ impl Sweep {
         }
     }
 
-    /// Runs a script on the store `dev`, whose objects are those behind the earlier runs.
-    pub fn step(&mut self, seed: &str, script: &str) -> Result<(), CaseError> {
+    /// Follows `step SEED SCRIPT`, from its second word on: runs a script on the store `dev`, whose objects are those behind the
+    /// earlier runs.
+    pub fn step(
+        &mut self,
+        line: &str,
+        mut words: Words<'_>,
+        out: &mut String,
+    ) -> Result<(), CaseError> {
+        let seed = words.next()?;
+        let script = words.next()?;
+        words.end()?;
         let plain = objects_behind(self.alloc, &self.history)?;
-        self.step_from(seed, script, plain)
+        self.step_from(seed, script, plain)?;
+        self.case.print_run(line, out)
     }
 
     /// Runs a script on the store `dev`, which has these objects.
@@ -113,25 +111,33 @@ impl Sweep {
         }
     }
 
+    /// Whether the bitmap of contents is exact but for what was leaked before the last run.
+    pub fn is_exact(&self, contents: &[u8]) -> Result<bool, CaseError> {
+        match self.leaked_in(contents)? {
+            Some(units) => Ok(units == self.leaked),
+            None => Ok(false),
+        }
+    }
+
+    /// The device that came back from the last run.
+    fn device(&self) -> Result<&MemoryDevice, CaseError> {
+        let Some(outcome) = &self.case.outcome else {
+            return Err(CaseError::Line("there was no run"));
+        };
+        match &outcome.dev {
+            Some(dev) => Ok(dev),
+            None => Err(CaseError::Line("no device came back")),
+        }
+    }
+
     /// How many events the device of the last run has.
     pub fn events(&self) -> Result<u64, CaseError> {
-        match &self.case.outcome {
-            Some(outcome) => match &outcome.dev {
-                Some(dev) => Ok(dev.events()),
-                None => Err(CaseError::Line("no device came back")),
-            },
-            None => Err(CaseError::Line("there was no run")),
-        }
+        Ok(self.device()?.events())
     }
 
     /// What a crash of the last run behind so many events leaves, torn in this way.
     pub fn image(&self, cut: u64, tear: Tear) -> Result<Vec<u8>, CaseError> {
-        let Some(outcome) = &self.case.outcome else {
-            return Err(CaseError::Line("there was no run"));
-        };
-        let Some(dev) = &outcome.dev else {
-            return Err(CaseError::Line("no device came back"));
-        };
+        let dev = self.device()?;
         if dev.events() < cut {
             return Err(CaseError::Line("the log is shorter"));
         }
@@ -143,6 +149,6 @@ impl Sweep {
         if word == "end" {
             return self.events();
         }
-        case_text::number(word)
+        number(word)
     }
 }

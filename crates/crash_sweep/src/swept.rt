@@ -1,10 +1,10 @@
 //! Every cut of a run, torn in each way: is it of a front of the commits, with all that were acknowledged?
 
 use crate::history::acknowledged;
-use crate::image::Found;
-use crate::spelled::spelled;
 use crate::sweep::{Sweep, TEARS};
-use case_text::{CaseError, number};
+use block_device::Tear;
+use case_text::{CaseError, Words};
+use std::alloc::AllocError;
 use std::fmt::Write;
 
 /// How many cuts and images were looked at, and how many of the images are no such.
@@ -24,29 +24,38 @@ impl Counts {
             bad: 0,
         }
     }
+
+    /// Counts an image.
+    pub fn count(&mut self, good: bool) {
+        self.images = self.images.wrapping_add(1);
+        if !good {
+            self.bad = self.bad.wrapping_add(1);
+        }
+    }
 }
 
 impl Sweep {
+    /// Whether objects are those of a front of the commits, with so many of them at least.
+    fn is_state(&self, objects: &Vec<u8>, least: usize) -> bool {
+        self.states
+            .iter()
+            .skip(least)
+            .any(|state| *state == *objects)
+    }
+
     /// Whether the image is that of a front of the commits, with all that were acknowledged by the cut, and its bitmap is exact
     /// but for what was leaked before the run.
     fn is_front(&self, image: &[u8], cut: u64, earlier: u64) -> Result<bool, CaseError> {
-        let Some(found) = Found::read(self.alloc, image)? else {
-            return Ok(false);
-        };
-        let leaked = found.leaked(self.alloc)?;
-        if !leaked.is_some_and(|units| units == self.leaked) {
+        if !self.is_exact(image)? {
             return Ok(false);
         }
-        let Some(objects) = spelled(self.alloc, &found, image)? else {
-            return Ok(false);
-        };
-        let least = acknowledged(self.book()?, cut, earlier);
-        Ok(
-            self.states
-                .iter()
-                .skip(least)
-                .any(|state| *state == objects),
-        )
+        match self.objects_in(image)? {
+            Some(objects) => {
+                let least = acknowledged(self.book()?, cut, earlier);
+                Ok(self.is_state(&objects, least))
+            }
+            None => Ok(false),
+        }
     }
 
     /// Looks at each image of a cut, and shows those that aren't.
@@ -60,10 +69,10 @@ impl Sweep {
         counts.cuts = counts.cuts.wrapping_add(1);
         for tear in TEARS {
             let image = self.image(cut, tear)?;
-            counts.images = counts.images.wrapping_add(1);
-            if !self.is_front(&image, cut, earlier)? {
-                counts.bad = counts.bad.wrapping_add(1);
-                writeln!(bad, "cut {cut} {tear:?}: not of such a front")?;
+            let good = self.is_front(&image, cut, earlier)?;
+            counts.count(good);
+            if !good {
+                print_bad(cut, tear, bad)?;
             }
         }
         Ok(())
@@ -86,28 +95,57 @@ impl Sweep {
         Ok(())
     }
 
-    /// Follows `sweep EVERY`, which looks at each so many-th cut and shows the images that are of no front; `sweep EVERY LEAST`, which
-    /// shows of their number only that it is more than this; and `early EVERY BY`, where each commit counts as acknowledged so many
-    /// events earlier than it was.
-    pub fn sweep_line(
+    /// Looks at the cuts, and shows what came of them.
+    fn show_swept(
         &self,
         line: &str,
-        words: &[&str],
+        every: u64,
+        earlier: u64,
+        least: Option<u64>,
         out: &mut String,
-    ) -> Result<bool, CaseError> {
-        let (every, earlier, least) = match words {
-            ["sweep", every] => (number(every)?, 0, None),
-            ["sweep", every, least] => (number(every)?, 0, Some(number(least)?)),
-            ["early", every, earlier] => (number(every)?, number(earlier)?, None),
-            _ => return Ok(false),
-        };
+    ) -> Result<(), CaseError> {
         let mut counts = Counts::new();
         let mut bad = String::new(self.alloc);
         self.sweep(every, earlier, &mut counts, &mut bad)?;
         writeln!(out, "{line}")?;
-        print_counts(&counts, least, bad.as_str(), out)?;
-        Ok(true)
+        print_counts(&counts, least, bad.as_str(), out)
     }
+
+    /// Follows `sweep EVERY`, which looks at each so many-th cut and shows the images that are of no front, and `sweep EVERY LEAST`,
+    /// which shows of their number only that it is more than this.
+    pub fn sweep_all(
+        &self,
+        line: &str,
+        mut words: Words<'_>,
+        out: &mut String,
+    ) -> Result<(), CaseError> {
+        let every = words.number()?;
+        let least = if words.is_empty() {
+            None
+        } else {
+            Some(words.number()?)
+        };
+        words.end()?;
+        self.show_swept(line, every, 0, least, out)
+    }
+
+    /// Follows `early EVERY BY`, where each commit counts as acknowledged so many events earlier than it was.
+    pub fn sweep_early(
+        &self,
+        line: &str,
+        mut words: Words<'_>,
+        out: &mut String,
+    ) -> Result<(), CaseError> {
+        let every = words.number()?;
+        let earlier = words.number()?;
+        words.end()?;
+        self.show_swept(line, every, earlier, None, out)
+    }
+}
+
+/// Shows an image that is of no front.
+pub fn print_bad(cut: u64, tear: Tear, bad: &mut String) -> Result<(), AllocError> {
+    writeln!(bad, "cut {cut} {tear:?}: not of such a front")
 }
 
 /// Shows counts, and the images that are of no front. Where a least number of images is given, only that they are more.

@@ -4,7 +4,7 @@ ghost use Rattle.block_device.specs.Memory.{disk_of};
 
 use crate::{CaseError, Fails, Named, Setup};
 use block_device::MemoryDevice;
-use end_points::{MemoryBay, MemorySink, Plan};
+use end_points::{BayPlan, MemoryBay, MemorySink};
 use std::alloc::Global;
 use std::mem;
 
@@ -51,7 +51,7 @@ impl Setup {
             source,
             sink,
         } = mem::replace(&mut self.fails, Fails::new(self.alloc));
-        let plan = Plan {
+        let plan = BayPlan {
             lags: checked_lags(self.alloc, &self.lags)?,
             device_fails: device,
             source_step: self.source_step.max(1),

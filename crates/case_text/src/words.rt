@@ -56,7 +56,11 @@ impl<'a> Words<'a> {
 
     /// The text that is left, between two quotation marks.
     pub fn quoted(&self) -> Result<&'a str, CaseError> {
-        match self.rest.strip_prefix('"').and_then(|text| text.strip_suffix('"')) {
+        match self
+            .rest
+            .strip_prefix('"')
+            .and_then(|text| text.strip_suffix('"'))
+        {
             Some(text) => Ok(text),
             None => Err(CaseError::Line("no end of the text")),
         }

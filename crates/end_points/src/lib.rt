@@ -12,7 +12,7 @@ mod source;
 
 pub use bay::{Bay, How};
 pub use gate::{Gate, OpenGate, Pass, Role};
-pub use memory_bay::{Call, MemoryBay, Plan};
+pub use memory_bay::{BayPlan, Call, MemoryBay};
 pub use memory_sink::MemorySink;
 pub use memory_source::MemorySource;
 pub use sink::{Fault, Sink};

@@ -22,7 +22,7 @@ pub enum Call {
 
 /// The lists that a bay in memory follows and hands on.
 #[derive(Drop)]
-pub struct Plan {
+pub struct BayPlan {
     /// How many reaps the submissions of each device wait, as `MemoryDevice::new` says.
     pub lags: Vec<u8>,
     /// The calls of each device that fail.
@@ -43,7 +43,7 @@ pub struct MemoryBay {
     alloc: Global,
     devices: ByteMap<Bytes>,
     texts: ByteMap<Bytes>,
-    plan: Plan,
+    plan: BayPlan,
     given: u32,
     device_calls: u64,
     script_calls: u64,
@@ -130,7 +130,7 @@ fn next(count: u64) -> u64
 
 impl MemoryBay {
     /// A bay with no name yet, which follows these lists.
-    pub fn new(alloc: Global, plan: Plan) -> MemoryBay
+    pub fn new(alloc: Global, plan: BayPlan) -> MemoryBay
         requires lags { All (λ lag. lag ≤ 63) plan.lags.items }
         requires step { 0 < plan.source_step }
         ensures names { result.names ≡ record { devices = map.empty; texts = map.empty } }

@@ -3,7 +3,9 @@ ghost use Rattle.std.specs.Prelude.{IsTrue};
 ghost use Rattle.end_points.specs.Bay.{IsFewUnits};
 
 use block_device::{Device, Failed, Kind};
-use end_points::{Bay, Call, Fault, How, MemoryBay, MemorySink, MemorySource, Plan, Sink, Source};
+use end_points::{
+    Bay, BayPlan, Call, Fault, How, MemoryBay, MemorySink, MemorySource, Sink, Source,
+};
 use std::alloc::{AllocError, Global};
 use std::test::*;
 
@@ -58,7 +60,7 @@ fn a_sink(rt: HostRuntime) -> Result<(), Fail> {
 
 // A bay with a device of two units under "d" and the text "t" under "s", whose second call for a device fails.
 fn bay(alloc: Global) -> Result<MemoryBay, AllocError> {
-    let plan = Plan {
+    let plan = BayPlan {
         lags: Vec::new(alloc),
         device_fails: vec![in alloc; (Kind::Read, 1)]?,
         source_step: 1,

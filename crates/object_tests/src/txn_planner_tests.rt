@@ -12,9 +12,9 @@ use std::alloc::{AllocError, Global};
 use std::fmt::Write;
 use std::test::Fail;
 use store_steps::{FreshUnit, Plan};
+use txn_planner::{PlanFail, plan};
 use unit_allocator::Allocator;
 use unit_fields::{CollName, Name, UnitNo, UnitSet};
-use txn_planner::{PlanFail, plan};
 
 const COLL: Entry = (b"C1.0_head", b"");
 

@@ -16,8 +16,8 @@ use byte_maps::Duplicate;
 use object_model::{Answer, Command, Entry, Transaction};
 use std::alloc::Global;
 use store_steps::Plan;
-use unit_fields::limits::BOOK_LIMIT;
 use txn_planner::{PlanFail, plan};
+use unit_fields::limits::BOOK_LIMIT;
 
 impl<D: Device> Kernel<D> {
     /// Accepts a transaction, or refuses it for a cause. Either makes an entry of the book, into which the transaction is moved;

@@ -16,11 +16,7 @@ const BAD_LINE: &str = "script 0 line 1\nstopped 2\n";
 const STEP_WORDS: [&str; 6] = ["bstore", "step", "dev", "--seed", "1", "script"];
 
 /// Shows a status, and how many units the device has that came back.
-fn print_ended(
-    status: u8,
-    dev: Option<&MemoryDevice>,
-    out: &mut String,
-) -> Result<(), AllocError> {
+fn print_ended(status: u8, dev: Option<&MemoryDevice>, out: &mut String) -> Result<(), AllocError> {
     let Some(dev) = dev else {
         return writeln!(out, "status {status}, no device");
     };

@@ -33,8 +33,8 @@ coll_name-most c is =
 pub coll_key-size : (c : List ℕ) → IsCollName c → IsKey (0x43 ∷ c)
 coll_key-size c is = record { some = omega arith; short = omega (arith, coll_name-most c is) }
 
-pub of_object-size : (kind : ℕ) (c o rest : List ℕ) → IsCollName c → IsName o → length rest ≤ 256 → IsKey (object_key kind c o rest)
-of_object-size kind c o rest c_name o_name few = record {
+pub object_key-size : (kind : ℕ) (c o rest : List ℕ) → IsCollName c → IsName o → length rest ≤ 256 → IsKey (object_key kind c o rest)
+object_key-size kind c o rest c_name o_name few = record {
   some = omega arith;
   short = omega (arith, coll_name-most c c_name, o_name.short, length-append c (0 ∷ (o ++ 0 ∷ rest)), length-append o (0 ∷ rest));
 }

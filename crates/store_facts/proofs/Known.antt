@@ -20,12 +20,12 @@ use Rattle.store_steps.specs.State.{Batch, State}
 use Rattle.store_steps.specs.Contexts.{Unsent, unsent_units, run_bytes, next_unsent, batch_ops}
 use Rattle.store_steps.specs.Ready.{is_ready, is_drained}
 use Rattle.store_steps.specs.Steps.{piece_unit, piece_bytes}
-use Rattle.store_facts.specs.Flights.{IsUnsentUnflown, IsRestUnflown}
+use Rattle.store_facts.specs.Flights.{IsUnsentUntouched, IsRestUntouched}
 use Rattle.store_facts.specs.Kept.{IsKept, IsKeptUp}
 use Rattle.store_facts.proofs.Numbers.{NextAcked}
 use Rattle.store_facts.proofs.Pieces.{rest_untouched}
 use Rattle.store_facts.proofs.RunUnits.{row_at, all_front}
-use Rattle.store_facts.proofs.Unflown.{run_untouched}
+use Rattle.store_facts.proofs.Untouched.{run_untouched}
 use Rattle.store_facts.proofs.RowsFacts.{next_on_data}
 use Rattle.store_facts.proofs.Conditions.{ready_not_down, ready_by_table, data_room, flush_room, record_room, sync_room, flush_idle, sync_idle, ReadyData, data_ready, ReadySeal, seal_ready, ReadyRecord, record_idle, record_ready, ReadyCommit, commit_ready, finish_ready, events_fit, IsIdle, drained_is_idle, drained_device}
 
@@ -105,8 +105,8 @@ pub data_untouched : (s : State) (d : Disk) (n : Unsent) → IsKept s d → is_r
 data_untouched s d n kept ready is =
     let up : IsKeptUp s d = kept.up (ready_not_down s d.depth Data refl ready) in
     let known : ReadyData s n = data_ready s n up.far up.room is in
-    let unsent : IsUnsentUnflown d.flights known.x =
-    (subst (λ (xs : List Context). AllByRecursion (IsUnsentUnflown d.flights) xs) known.pending up.untouched.unsent).0 in
+    let unsent : IsUnsentUntouched d.flights known.x =
+    (subst (λ (xs : List Context). AllByRecursion (IsUnsentUntouched d.flights) xs) known.pending up.untouched.unsent).0 in
     row_at (IsUntouched d.flights) n.first.unit (unsent_units n) known.run.row
     (all_front (λ (f : FreshUnit). IsUntouched d.flights f.unit) (unsent_units n) _
     (subst (λ (fs : List FreshUnit). AllByRecursion (λ (f : FreshUnit). IsUntouched d.flights f.unit) fs) known.run.left unsent))
@@ -156,7 +156,7 @@ record_untouched s d r kept ready is =
     let up : IsKeptUp s d = kept.up (ready_not_down s d.depth Record refl ready) in
     rest_untouched d.flights s.log r
     (λ none. drained_device s d kept.always (record_idle s r (known_record s d r kept ready is) none))
-    (subst (λ (o : Option Begun). IfSome o (IsRestUnflown d.flights s.log)) is up.untouched.rest)
+    (subst (λ (o : Option Begun). IfSome o (IsRestUntouched d.flights s.log)) is up.untouched.rest)
 
 pub next_piece_untouched : (s : State) (d : Disk) (r : Begun) → IsKept s d → is_ready Record d.depth s ≡ true → s.log.begun ≡ Some r
     → IsNotInFlight d (piece_unit s.log r) (length (piece_bytes s.log.number r))

@@ -1,6 +1,6 @@
 pub mod Stages
 pub mod Flying
-pub mod Unflown
+pub mod Untouched
 pub mod RunUnits
 pub mod Pieces
 pub mod Readiness

@@ -15,7 +15,7 @@ use Rattle.store_steps.specs.declared.context.Context.{Context}
 use Rattle.store_steps.specs.Contexts.{given_more, done_more}
 use Rattle.meta_store.specs.Store.{Meta, Begun}
 use Rattle.store_facts.specs.Room.{FitsRecord}
-use Rattle.store_facts.specs.Flights.{IsRestUnflown}
+use Rattle.store_facts.specs.Flights.{IsRestUntouched}
 use Rattle.store_facts.proofs.Stages.{pieces_at}
 
 -- ---- the record of a batch of one context
@@ -57,7 +57,7 @@ short_body number ops most = omega (arith, length-record number ops, most)
 -- ---- what isn't given of it is not in flight
 
 -- also where nothing of it is given, since nothing is in flight then
-pub rest_untouched : (flights : List Flight) (m : Meta) (r : Begun) → (r.given ≡ 0 → flights ≡ []) → IsRestUnflown flights m r
+pub rest_untouched : (flights : List Flight) (m : Meta) (r : Begun) → (r.given ≡ 0 → flights ≡ []) → IsRestUntouched flights m r
     → (j : ℕ) → j < given_from (unit_count m.number r.ops) r.given → IsUntouched flights (active_unit m.sup + (m.tail + j))
 rest_untouched flights m r none rest j below = elim (cases_lt 0 r.given) [
   | inl some ↦ rest some j below
@@ -69,11 +69,11 @@ no_rest : (units given j : ℕ) → given ≡ piece_count units → j < given_fr
 no_rest units given j all below = omega (arith, all, below)
 
 -- where all was given nothing is left
-pub all_given : (flights : List Flight) (m : Meta) (r : Begun) → r.given ≡ piece_count (unit_count m.number r.ops) → IsRestUnflown flights m r
+pub all_given : (flights : List Flight) (m : Meta) (r : Begun) → r.given ≡ piece_count (unit_count m.number r.ops) → IsRestUntouched flights m r
 all_given flights m r all some j below = absurd (no_rest (unit_count m.number r.ops) r.given j all below)
 
 -- and where nothing was there is nothing to say
-pub none_given : (flights : List Flight) (m : Meta) (r : Begun) → r.given ≡ 0 → IsRestUnflown flights m r
+pub none_given : (flights : List Flight) (m : Meta) (r : Begun) → r.given ≡ 0 → IsRestUntouched flights m r
 none_given flights m r none some j below = absurd (omega (arith, none, some))
 
 -- ---- what was given and done of a context does not matter to its record

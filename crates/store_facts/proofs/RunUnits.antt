@@ -9,7 +9,7 @@ use Rattle.unit_fields.specs.UnitSet.{Ascends}
 use Rattle.store_steps.specs.declared.context.Context.{Context}
 use Rattle.store_steps.specs.declared.context.FreshUnit.{FreshUnit}
 use Rattle.store_steps.specs.Contexts.{run_from, run_bytes, Unsent, unsent_units, run_of, unsent}
-use Rattle.store_facts.proofs.Unflown.{all_then}
+use Rattle.store_facts.proofs.Untouched.{all_then}
 
 -- the units stand one behind the other, from this one on
 abbrev pub IsInRow : ℕ → List FreshUnit → Type 0

@@ -26,7 +26,7 @@ use Rattle.store_steps.specs.Contexts.{given_more, done_more, sum_needs, with_co
 use Rattle.store_steps.specs.Changes.{sent, data_sent, flush_sent, record_sent, sync_sent, after_done, sealed}
 use Rattle.store_steps.specs.Ready.{is_ready_up, is_empty}
 use Rattle.store_steps.specs.Steps.{DoesData, Takes, DoesFlush, DoesSeal, DoesRecord, DoesSync, piece_unit, piece_bytes}
-use Rattle.store_facts.specs.Flights.{AreFlights, IsWaiting, IsDataOf, units_of, flying_units, IsUnsentUnflown, IsRestUnflown, IsNextUntouched}
+use Rattle.store_facts.specs.Flights.{AreFlights, IsWaiting, IsDataOf, units_of, flying_units, IsUnsentUntouched, IsRestUntouched, IsNextUntouched}
 use Rattle.store_facts.specs.Room.{FitsRecord, HasRoomFor}
 use Rattle.store_facts.specs.Space.{uncommitted}
 use Rattle.store_facts.specs.Work.{entry_work, work_left}
@@ -34,7 +34,7 @@ use Rattle.store_facts.specs.Kept.{IsAlwaysKept}
 use Rattle.store_facts.proofs.Stages.{Stage, waits, opens, flushes, flushed, writes, syncs, synced, pending_of, batch_of, flying_at, one_flight, record_with, record_at, pieces_at, Holds, at, IsAtStage, far_at, by_stage}
 use Rattle.store_facts.proofs.Pieces.{pieces_needed, given_fits, done_fits, rest_untouched, all_given, none_given}
 use Rattle.store_facts.proofs.RunUnits.{IsRunOf, row_bytes, row_behind, ascend_drop, all_drop, all_front, all_behind, all_both}
-use Rattle.store_facts.proofs.Unflown.{all_then, sent_untouched, apart_before, apart_behind, left_unsent, left_rest}
+use Rattle.store_facts.proofs.Untouched.{all_then, sent_untouched, apart_before, apart_behind, left_unsent, left_rest}
 use Rattle.store_facts.proofs.Readiness.{contexts_of, no_flying, next_write, ready_flush, ready_record, ready_sync}
 use Rattle.store_facts.proofs.Flying.{idle_device, sent_flights, sent_flight, sent_units, others_of, found_holds, others_hold, Landed, landed_flight, reaped_good}
 use Rattle.store_facts.proofs.Working.{stage_work, batched, unacked, work_at}
@@ -144,9 +144,9 @@ units_push [] f = omega arith
 units_push (g ∷ fs) f = omega (arith, units_push fs f)
 
 -- the units behind a run are apart from it, and what they were apart from before
-pub behind_run : (x : Context) (n : Unsent) (d d' : Disk) (ticket : Ticket) → FitsRecord x → IsRunOf x n → IsUnsentUnflown d.flights x
+pub behind_run : (x : Context) (n : Unsent) (d d' : Disk) (ticket : Ticket) → FitsRecord x → IsRunOf x n → IsUnsentUntouched d.flights x
     → d'.flights ≡ d.flights ++ flight_of ticket.place (event.Write n.first.unit (run_bytes (unsent_units n))) ∷ []
-    → IsUnsentUnflown d'.flights (given_more (length (unsent_units n)) x)
+    → IsUnsentUntouched d'.flights (given_more (length (unsent_units n)) x)
 behind_run x n d d' ticket fits run untouched are =
     let units : List FreshUnit = unsent_units n in
     let rest : List FreshUnit = drop (x.given + length units) x.fresh in
@@ -222,7 +222,7 @@ data_steps s d s' d' sound = by_stages (λ t. DoesData t d s' d') s d s' d' (dat
 -- ---- Flush
 
 -- a record of which nothing was given has nothing that is in flight
-unmade_rest : (m : Meta) (x : Context) (made : Bool) (flights : List Flight) → IfSome (record_at x made) (IsRestUnflown flights m)
+unmade_rest : (m : Meta) (x : Context) (made : Bool) (flights : List Flight) → IfSome (record_at x made) (IsRestUntouched flights m)
 unmade_rest m x true flights = none_given flights m (record_with x 0 0) refl
 unmade_rest m x false flights = tt
 
@@ -275,7 +275,7 @@ seal_to s d s' g g' was h' like after flights untouched less =
 sealed_rest : (m : Meta) (x : Context) (flights : List Flight) → m.begun ≡ Some (record_with x 0 0) → IsNextUntouched m [] flights
 sealed_rest m x flights is = record {
   unsent = tt;
-  rest = subst (λ (o : Option Begun). IfSome o (IsRestUnflown flights m)) (sym is) (none_given flights m (record_with x 0 0) refl);
+  rest = subst (λ (o : Option Begun). IfSome o (IsRestUntouched flights m)) (sym is) (none_given flights m (record_with x 0 0) refl);
 }
 
 pub seal_at : (s : State) (d : Disk) (s' : State) (g : Stage) → IsAt s d g → is_ready_up Seal d.depth (at s g) ≡ true → (batch : Batch)
@@ -307,9 +307,9 @@ seal_steps s d s' d' a standing ready does =
 
 -- the rest of a record of which one more piece is given lies before that piece, and is apart from what it was apart from before
 pub before_piece : (m : Meta) (r : Begun) (d d' : Disk) (ticket : Ticket) → r.given < piece_count (unit_count m.number r.ops)
-    → (r.given ≡ 0 → d.flights ≡ []) → IsRestUnflown d.flights m r
+    → (r.given ≡ 0 → d.flights ≡ []) → IsRestUntouched d.flights m r
     → d'.flights ≡ d.flights ++ flight_of ticket.place (event.Write (piece_unit m r) (piece_bytes m.number r)) ∷ []
-    → IsRestUnflown d'.flights m (record r { given = r.given + 1 })
+    → IsRestUntouched d'.flights m (record r { given = r.given + 1 })
 before_piece m r d d' ticket more none rest are some j below =
     let units : ℕ = unit_count m.number r.ops in
     let lying : LiesInRecord units r.given = lies units r.given more in

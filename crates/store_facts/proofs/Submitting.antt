@@ -21,7 +21,7 @@ use Rattle.store_steps.specs.Ready.{is_ready_up, is_drained}
 use Rattle.meta_store.specs.Store.{room_of}
 use Rattle.store_steps.specs.Submit.{Accepts, Refuses, entry_limit, need_of, context_of, entered, accepted_with}
 use Rattle.store_steps.specs.Opened.{Found, opened}
-use Rattle.store_facts.specs.Flights.{IsUnsentUnflown}
+use Rattle.store_facts.specs.Flights.{IsUnsentUntouched}
 use Rattle.store_facts.specs.Room.{FitsRecord, HasRoomFor}
 use Rattle.store_facts.specs.Space.{uncommitted}
 use Rattle.store_facts.specs.Work.{entry_work, work_left}
@@ -54,8 +54,8 @@ drained_stage P s d far a up drained here =
 -- ---- Accepts
 
 -- nothing is in flight
-none_flown : (flights : List Flight) (x : Context) → flights ≡ [] → IsUnsentUnflown flights x
-none_flown flights x none = subst (λ (fs : List Flight). IsUnsentUnflown fs x) (sym none) (each _)
+none_flown : (flights : List Flight) (x : Context) → flights ≡ [] → IsUnsentUntouched flights x
+none_flown flights x none = subst (λ (fs : List Flight). IsUnsentUntouched fs x) (sym none) (each _)
   where
     each : (fs : List FreshUnit) → AllByRecursion (λ (f : FreshUnit). IsUntouched [] f.unit) fs
     each [] = tt

@@ -84,15 +84,15 @@ IsOneAtATime number [] (Some b) begun flying = IsOpen number b begun flying
 IsOneAtATime number pending batch begun flying = ⊥
 
 -- no write in flight touches a unit of the context that is still to be given to the device
-abbrev pub IsUnsentUnflown : List Flight → Context → Type 0
-IsUnsentUnflown flights x = AllByRecursion (λ f. IsUntouched flights f.unit) (drop x.given x.fresh)
+abbrev pub IsUnsentUntouched : List Flight → Context → Type 0
+IsUnsentUntouched flights x = AllByRecursion (λ f. IsUntouched flights f.unit) (drop x.given x.fresh)
 
 -- nor a unit of a record of which a piece was given that is still to be
-abbrev pub IsRestUnflown : List Flight → Meta → Begun → Type 0
-IsRestUnflown flights m r = 0 < r.given → (j : ℕ) → j < given_from (unit_count m.number r.ops) r.given
+abbrev pub IsRestUntouched : List Flight → Meta → Begun → Type 0
+IsRestUntouched flights m r = 0 < r.given → (j : ℕ) → j < given_from (unit_count m.number r.ops) r.given
     → IsUntouched flights (active_unit m.sup + (m.tail + j))
 
 -- what is written next isn't in flight
 pub record IsNextUntouched (m : Meta) (pending : List Context) (flights : List Flight) : Type 0 where
-  pub unsent : AllByRecursion (IsUnsentUnflown flights) pending
-  pub rest : IfSome m.begun (IsRestUnflown flights m)
+  pub unsent : AllByRecursion (IsUnsentUntouched flights) pending
+  pub rest : IfSome m.begun (IsRestUntouched flights m)

@@ -32,7 +32,7 @@ use Rattle.store_facts.proofs.Known.{known_data_room, known_record_room, known_s
 use Rattle.store_facts.proofs.Readiness.{unsent_alone}
 use Rattle.store_facts.proofs.RowsFacts.{pending_on_data}
 use Rattle.store_facts.proofs.RunUnits.{run_of_left}
-use Rattle.store_facts.proofs.Unflown.{all_then}
+use Rattle.store_facts.proofs.Untouched.{all_then}
 use Rattle.store_kernel.specs.declared.batch.OpenBatch.{OpenBatch}
 use Rattle.store_kernel.specs.declared.pending.NextWrite.{NextWrite}
 use Rattle.store_kernel.specs.Runs.{IsWriteOf}

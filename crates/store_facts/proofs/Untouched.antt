@@ -10,7 +10,7 @@ use Rattle.block_device.proofs.FlightLemmas.{all_without}
 use Rattle.store_steps.specs.declared.context.Context.{Context}
 use Rattle.store_steps.specs.declared.context.FreshUnit.{FreshUnit}
 use Rattle.meta_store.specs.Store.{Meta, Begun}
-use Rattle.store_facts.specs.Flights.{IsUnsentUnflown, IsRestUnflown}
+use Rattle.store_facts.specs.Flights.{IsUnsentUntouched, IsRestUntouched}
 
 -- ---- lists
 
@@ -60,10 +60,10 @@ apart_behind ticket u n k bytes size past = inr (inl (omega (arith, size, past))
 pub left_untouched : (flights : List Flight) (ticket k : ℕ) → IsUntouched flights k → IsUntouched (without ticket flights) k
 left_untouched flights ticket k all = all_without (IsApart k 4096) ticket flights all
 
-pub left_unsent : (flights : List Flight) (ticket : ℕ) (x : Context) → IsUnsentUnflown flights x → IsUnsentUnflown (without ticket flights) x
+pub left_unsent : (flights : List Flight) (ticket : ℕ) (x : Context) → IsUnsentUntouched flights x → IsUnsentUntouched (without ticket flights) x
 left_unsent flights ticket x all =
     all_then (λ (f : FreshUnit). IsUntouched flights f.unit) (λ (f : FreshUnit). IsUntouched (without ticket flights) f.unit)
     (λ f. left_untouched flights ticket f.unit) _ all
 
-pub left_rest : (flights : List Flight) (ticket : ℕ) (m : Meta) (r : Begun) → IsRestUnflown flights m r → IsRestUnflown (without ticket flights) m r
+pub left_rest : (flights : List Flight) (ticket : ℕ) (m : Meta) (r : Begun) → IsRestUntouched flights m r → IsRestUntouched (without ticket flights) m r
 left_rest flights ticket m r rest some j below = left_untouched flights ticket _ (rest some j below)

@@ -30,12 +30,24 @@ fn shape(extent: &Extent) -> Shape {
     (extent.first, csums.len(), unit.number())
 }
 
-fn shapes(alloc: Global, map: &PageMap) -> Result<Vec<Shape>, AllocError> {
-    let mut shapes = Vec::new(alloc);
-    for extent in map.extents(alloc)?.as_slice() {
-        shapes.push(shape(extent))?;
-    }
-    Ok(shapes)
+// Whether the map's extents are these.
+fn has_shapes(alloc: Global, map: &PageMap, wanted: &[Shape]) -> Result<bool, AllocError> {
+    let extents = map.extents(alloc)?;
+    Ok(extents.len() == wanted.len() && extents.iter().zip(wanted).all(|(a, b)| shape(a) == *b))
+}
+
+// Puts pages 1 and 2 on units 60 and 61.
+fn put_two(alloc: Global, map: &mut PageMap) -> Result<(), AllocError> {
+    map.put(alloc, 1, &[place(60), place(61)])
+}
+
+// Makes holes of pages 2 to 4, and says whether these pages weren't holes.
+fn punch_three(
+    alloc: Global,
+    map: &mut PageMap,
+    wanted: &[(u32, Place)],
+) -> Result<bool, AllocError> {
+    Ok(map.punch(alloc, 2, 3)?.as_slice() == wanted)
 }
 
 #[test]
@@ -45,18 +57,23 @@ fn extents(rt: HostRuntime) -> Result<(), Fail> {
         alloc,
         &[(4, 31), (0, 20), (1, 21), (2, 22), (5, 32), (6, 34)],
     )?;
-    let wanted = [(0, 3, 20), (4, 2, 31), (6, 1, 34)];
-    assert_eq!(rt; shapes(alloc, &map)?.as_slice(), wanted.as_slice());
-    map.put(alloc, 1, &[place(60), place(61)])?;
-    let wanted = [(0, 1, 20), (1, 2, 60), (4, 2, 31), (6, 1, 34)];
-    assert_eq!(rt; shapes(alloc, &map)?.as_slice(), wanted.as_slice());
-    let gone = map.punch(alloc, 2, 3)?;
-    assert_eq!(rt;
-        gone.as_slice(),
-        [(2, place(61)), (4, place(31))].as_slice()
+    assert!(rt; has_shapes(alloc, &map, &[(0, 3, 20), (4, 2, 31), (6, 1, 34)])?);
+    put_two(alloc, &mut map)?;
+    assert!(rt;
+        has_shapes(
+            alloc,
+            &map,
+            &[(0, 1, 20), (1, 2, 60), (4, 2, 31), (6, 1, 34)]
+        )?
     );
-    let wanted = [(0, 1, 20), (1, 1, 60), (5, 1, 32), (6, 1, 34)];
-    assert_eq!(rt; shapes(alloc, &map)?.as_slice(), wanted.as_slice());
+    assert!(rt; punch_three(alloc, &mut map, &[(2, place(61)), (4, place(31))])?);
+    assert!(rt;
+        has_shapes(
+            alloc,
+            &map,
+            &[(0, 1, 20), (1, 1, 60), (5, 1, 32), (6, 1, 34)]
+        )?
+    );
     Ok(())
 }
 
@@ -72,8 +89,7 @@ fn one_run(alloc: Global, count: u32) -> Result<PageMap, AllocError> {
 #[test]
 fn long_runs(rt: HostRuntime) -> Result<(), Fail> {
     let map = one_run(rt.alloc(), 300)?;
-    let wanted = [(0, 256, 50), (256, 44, 306)];
-    assert_eq!(rt; shapes(rt.alloc(), &map)?.as_slice(), wanted.as_slice());
+    assert!(rt; has_shapes(rt.alloc(), &map, &[(0, 256, 50), (256, 44, 306)])?);
     Ok(())
 }
 
@@ -81,15 +97,17 @@ fn long_runs(rt: HostRuntime) -> Result<(), Fail> {
 const TWO_EXTENTS: &[u8] =
     b"\x03\0\0\0\x02\0\0\x28\0\0\0\x14\0\0\0\x14\0\0\0\x07\0\0\0\x01\0\0\x3c\0\0\0\x1e\0\0\0";
 
+// Whether the map's value is this.
+fn is_written(alloc: Global, map: &PageMap, wanted: &[u8]) -> Result<bool, AllocError> {
+    Ok(map.to_value(alloc)?.as_slice() == wanted)
+}
+
 #[test]
 fn values_written(rt: HostRuntime) -> Result<(), Fail> {
     let alloc = rt.alloc();
     let map = map_of(alloc, &[(7, 60), (3, 40), (4, 41)])?;
-    assert_eq!(rt; map.to_value(alloc)?.as_slice(), TWO_EXTENTS);
-    assert_eq!(rt;
-        PageMap::new(alloc).to_value(alloc)?.as_slice(),
-        b"".as_slice()
-    );
+    assert!(rt; is_written(alloc, &map, TWO_EXTENTS)?);
+    assert!(rt; is_written(alloc, &PageMap::new(alloc), b"")?);
     Ok(())
 }
 
@@ -100,17 +118,27 @@ fn read_over(alloc: Global) -> Result<PageMap, AllocError> {
     Ok(map)
 }
 
+// Whether a copy of the map has these pages, and each is found where it is.
+fn has_pages(alloc: Global, map: &PageMap, wanted: &[(u32, Place)]) -> Result<bool, AllocError> {
+    let copy = map.copy(alloc)?;
+    Ok(
+        copy.pages() == wanted
+            && wanted
+                .iter()
+                .all(|(page, place)| copy.find(*page) == Some(*place)),
+    )
+}
+
 #[test]
 fn values_read(rt: HostRuntime) -> Result<(), Fail> {
-    let alloc = rt.alloc();
-    let map = read_over(alloc)?.copy(alloc)?;
+    let map = read_over(rt.alloc())?;
     let wanted = [
         (3, place(40)),
         (4, place(41)),
         (5, place(71)),
         (7, place(60)),
     ];
-    assert_eq!(rt; map.pages(), wanted.as_slice());
-    assert_eq!(rt; (map.find(4), map.find(6)), (Some(place(41)), None));
+    assert!(rt; has_pages(rt.alloc(), &map, &wanted)?);
+    assert!(rt; map.find(6).is_none());
     Ok(())
 }

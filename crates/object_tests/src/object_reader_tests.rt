@@ -435,58 +435,65 @@ fn answers(rt: HostRuntime) -> Result<(), Fail> {
     Ok(())
 }
 
-// The next object behind another one.
-fn next(
-    alloc: Global,
-    device: &mut MemoryDevice,
-    rows: &RowTable,
-    after: Option<&Name>,
-) -> Result<Option<ObjectView>, Fail> {
-    if !is_readable(alloc, device, rows)? {
+// The object behind a name, where a byte of unit 60 is changed.
+fn next(alloc: Global, after: Option<&[u8]>) -> Result<Result<Option<ObjectView>, ReadFail>, Fail> {
+    let rows = rows_of(alloc, &NAMES)?;
+    let mut device = device(alloc, Some(245760), None)?;
+    let coll = coll(alloc)?;
+    let after = match after {
+        Some(bytes) => Some(name(alloc, bytes)?),
+        None => None,
+    };
+    if !is_readable(alloc, &device, &rows)? {
         return Err("a bad row, or a busy device".into());
     }
-    match next_object(alloc, device, rows, &coll(alloc)?, after) {
-        Ok(next) => Ok(next),
-        Err(_) => Err("no read".into()),
+    Ok(next_object(alloc, &mut device, &rows, &coll, after.as_ref()))
+}
+
+// An object's name, its size, and its checksum or its first bad unit.
+type View = (&'static [u8], u64, Result<u32, u32>);
+
+fn is_view(view: &ObjectView, wanted: &View) -> bool {
+    let (name, size, sum) = wanted;
+    let is_sum = match (&view.sum, sum) {
+        (Ok(crc), Ok(wanted)) => crc == wanted,
+        (Err(bad), Err(unit)) => bad.unit.number() == *unit,
+        _ => false,
+    };
+    view.name.as_slice() == *name && view.size == *size && is_sum
+}
+
+fn is_next(found: &Result<Option<ObjectView>, ReadFail>, wanted: &Option<View>) -> bool {
+    match (found, wanted) {
+        (Ok(Some(view)), Some(wanted)) => is_view(view, wanted),
+        (Ok(None), None) => true,
+        _ => false,
     }
 }
 
-// The object's checksum, or its first bad unit.
-fn sum_or_unit(view: &ObjectView) -> Result<u32, u32> {
-    match &view.sum {
-        Ok(crc) => Ok(*crc),
-        Err(bad) => Err(bad.unit.number()),
-    }
-}
-
-// The objects in byte order, with their sizes, and their checksums or a bad unit.
-static WALK: [(&[u8], u64, Result<u32, u32>); 6] = [
-    (b"\x01", 1, Ok(0x527d5351)),
-    (b"a", 12388, Err(60)),
-    (b"a.", 2, Ok(0xf16177d2)),
-    (b"aa", 0, Ok(0)),
-    (b"b", 4096, Ok(0x5c5192b4)),
-    (b"\xff", 7, Ok(0xbb3e6a6d)),
+// Names, of which one is no object's, and the objects behind them.
+static WALK: [(Option<&[u8]>, Option<View>); 8] = [
+    (None, Some((b"\x01", 1, Ok(0x527d5351)))),
+    (Some(b"\x01"), Some((b"a", 12388, Err(60)))),
+    (Some(b"a"), Some((b"a.", 2, Ok(0xf16177d2)))),
+    (Some(b"a."), Some((b"aa", 0, Ok(0)))),
+    (Some(b"aa"), Some((b"b", 4096, Ok(0x5c5192b4)))),
+    (Some(b"ab"), Some((b"b", 4096, Ok(0x5c5192b4)))),
+    (Some(b"b"), Some((b"\xff", 7, Ok(0xbb3e6a6d)))),
+    (Some(b"\xff"), None),
 ];
 
 #[test]
 fn objects_in_byte_order(rt: HostRuntime) -> Result<(), Fail> {
-    let alloc = rt.alloc();
-    let rows = rows_of(alloc, &NAMES)?;
-    let mut device = device(alloc, Some(245760), None)?;
-    let mut after: Option<Name> = None;
-    for (name, size, sum) in &WALK {
-        let view = next(alloc, &mut device, &rows, after.as_ref())?.ok_or("an object")?;
-        assert_eq!(rt; view.name.as_slice(), *name);
-        assert_eq!(rt; (view.size, sum_or_unit(&view)), (*size, *sum), "{name:?}");
-        after = Some(view.name);
+    for (after, wanted) in &WALK {
+        let found = next(rt.alloc(), *after)?;
+        assert!(rt; is_next(&found, wanted), "{after:?}");
     }
-    assert!(rt; next(alloc, &mut device, &rows, after.as_ref())?.is_none());
     Ok(())
 }
 
 // Collections, of which one's name begins as another's.
-static COLLS: [Entry; 6] = [
+const COLLS: [Entry; 6] = [
     (b"C10.1_head", b""),
     (b"C1.10_head", b""),
     (b"C1.1_head", b""),
@@ -511,23 +518,23 @@ fn follows(
     Ok(found.as_ref().map(|coll| coll.as_slice()) == next)
 }
 
-// A collection, which need not be there, and the one that is behind it.
-type Step = (Option<(u64, u32)>, Option<&'static [u8]>);
+// Rows, a collection, which need not be there, and the one that is behind it.
+type Step = (&'static [Entry], Option<(u64, u32)>, Option<&'static [u8]>);
 
-static STEPS: [Step; 6] = [
-    (None, Some(b"1.10_head")),
-    (Some((1, 0)), Some(b"1.10_head")),
-    (Some((1, 0x10)), Some(b"1.1_head")),
-    (Some((1, 1)), Some(b"10.1_head")),
-    (Some((10, 1)), Some(b"2.0_head")),
-    (Some((2, 0)), None),
+static STEPS: [Step; 7] = [
+    (&COLLS, None, Some(b"1.10_head")),
+    (&COLLS, Some((1, 0)), Some(b"1.10_head")),
+    (&COLLS, Some((1, 0x10)), Some(b"1.1_head")),
+    (&COLLS, Some((1, 1)), Some(b"10.1_head")),
+    (&COLLS, Some((10, 1)), Some(b"2.0_head")),
+    (&COLLS, Some((2, 0)), None),
+    (&[], None, None),
 ];
 
 #[test]
 fn collections_in_byte_order(rt: HostRuntime) -> Result<(), Fail> {
-    for (after, next) in &STEPS {
-        assert!(rt; follows(rt.alloc(), &COLLS, *after, *next)?, "{after:?}");
+    for (entries, after, next) in &STEPS {
+        assert!(rt; follows(rt.alloc(), entries, *after, *next)?, "{after:?}");
     }
-    assert!(rt; follows(rt.alloc(), &[], None, None)?, "no rows");
     Ok(())
 }

@@ -91,16 +91,17 @@ fn objects(rt: HostRuntime) -> Result<(), Fail> {
     Ok(())
 }
 
-// Where two pages stand, looked up one behind the other.
-fn looked_up(pages: &ShardPages, first: u32, then: u32) -> [Option<(u32, u32)>; 2]
+// A place's unit and checksum, where a page stands anywhere.
+type Found = Option<(u32, u32)>;
+
+// Whether two pages stand there, looked up one behind the other.
+fn are_found(pages: &ShardPages, one: (u32, Found), then: (u32, Found)) -> bool
     requires { (page : ℕ) → HasUnit pages.now page }
 {
     let mut ahead = pages.again();
-    let found = ahead.find(first);
-    [
-        found.map(unit_and_csum),
-        ahead.find(then).map(unit_and_csum),
-    ]
+    let first = ahead.find(one.0).map(unit_and_csum);
+    let second = ahead.find(then.0).map(unit_and_csum);
+    first == one.1 && second == then.1
 }
 
 // The pages of `a`.
@@ -113,20 +114,18 @@ fn pages_of_a<'a>(alloc: Global, rows: &'a RowTable) -> Result<ShardPages<'a>, F
     Ok(object_pages(alloc, rows, &coll, &name)?)
 }
 
+const FIRST: Found = Some((18, 0x63636363));
+
+const SECOND: Found = Some((19, 0x64646464));
+
+const LAST: Found = Some((20, 0x65656565));
+
 #[test]
 fn pages_looked_up(rt: HostRuntime) -> Result<(), Fail> {
     let rows = good_rows(rt.alloc(), &ROWS)?;
     let pages = pages_of_a(rt.alloc(), &rows)?;
-    let first = Some((18, 0x63636363));
-    let second = Some((19, 0x64646464));
-    let last = Some((20, 0x65656565));
-    // back, past the end, and a hole
-    for (one, then, wanted) in [
-        (5, 1, [last, second]),
-        (1, 6, [second, None]),
-        (0, 2, [first, None]),
-    ] {
-        assert_eq!(rt; looked_up(&pages, one, then), wanted);
-    }
+    assert!(rt; are_found(&pages, (5, LAST), (1, SECOND)), "back");
+    assert!(rt; are_found(&pages, (1, SECOND), (6, None)), "past the end");
+    assert!(rt; are_found(&pages, (0, FIRST), (2, None)), "a hole");
     Ok(())
 }

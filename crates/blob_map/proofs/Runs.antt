@@ -18,7 +18,7 @@ pub record Grows (ps : List (ℕ × Place)) (h : Head) : Type 0 where
   pub some : 0 < h.count
   pub most : h.count ≤ 256
   pub within : h.count ≤ length ps
-  pub extents_from : extents_of ps ≡ extents_from (extent_with h (csums_of (take h.count ps))) (drop h.count ps)
+  pub grown : extents_of ps ≡ extents_from (extent_with h (csums_of (take h.count ps))) (drop h.count ps)
 
 pub one_grows : (ps : List (ℕ × Place)) (h : Head) (csum : ℕ) (d : ℕ × Place) → 0 < length ps → h.count ≡ 1
     → (h.first, own h.unit csum) ≡ get_or ps 0 d → Grows ps h
@@ -27,7 +27,7 @@ one_grows (p ∷ ps) h csum d lt one is = record {
   some = omega (arith, one);
   most = omega (arith, one);
   within = omega (arith, one);
-  extents_from = ap (λ x. extents_from (single x) ps) (sym is)
+  grown = ap (λ x. extents_from (single x) ps) (sym is)
       ∙ ap (λ x. extents_from (extent_with h (csum_of x.1 ∷ [])) ps) is
       ∙ ap (λ n. extents_from (extent_with h (csums_of (take n (p ∷ ps)))) (drop n (p ∷ ps))) (sym one);
 }
@@ -57,7 +57,7 @@ module _ (ps : List (ℕ × Place)) (h : Head) (q : ℕ × Place) (g : Grows ps 
         some = omega arith;
         most = omega (arith, few, size);
         within = omega (arith, lt);
-        extents_from = g.grown ∙ ap (extents_from (extent_with h (csums_of (take h.count ps)))) left_is
+        grown = g.grown ∙ ap (extents_from (extent_with h (csums_of (take h.count ps)))) left_is
             ∙ ap (λ t. cond t (extents_from (more (extent_with h (csums_of (take h.count ps))) q) (drop (h.count + 1) ps))
             (extent_with h (csums_of (take h.count ps)) ∷ extents_from (single q) (drop (h.count + 1) ps))) does
             ∙ ap (λ (b : Body). extents_from (record { first = h.first; body = b }) (drop (h.count + 1) ps)) (longer_csums h.unit (csums_of (take h.count ps)) q.1)

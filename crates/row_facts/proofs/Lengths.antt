@@ -32,8 +32,8 @@ length-coll c is = omega (
   arith,
   length-digits 10 is.pool,
   length-digits 16 is.seed,
-  length-append (digits 10 false is.pool) (0x2e ∷ (digits 16 false is.seed ++ names.head_bytes)),
-  length-append (digits 16 false is.seed) names.head_bytes,
+  length-append (digits 10 false is.pool) (0x2e ∷ (digits 16 false is.seed ++ names.head_suffix)),
+  length-append (digits 16 false is.seed) names.head_suffix,
   ap length is.spelled,
 )
 

@@ -60,7 +60,7 @@ pub fn lay_pages(
 ) -> Result<(), AllocError>
     requires whole { length bytes.now ≡ 4096 * length units.now }
     requires fits { first + length units.now ≤ 2 ^ 32 }
-    ensures with_pages { OnOk result (pages.new ≡ with_pages pages.old (new_pages first 0 units.now bytes.now)) }
+    ensures put { OnOk result (pages.new ≡ with_pages pages.old (new_pages first 0 units.now bytes.now)) }
     ensures csums { OnOk result ((i : ℕ) → i < length units.now → crc32c (unit_at i bytes.now) < 2 ^ 32) }
 {
     for (i, unit) in units.iter().enumerate() {

@@ -23,7 +23,7 @@ returns c =
       writes = writes_pages rows c.args.coll.now c.args.object.now first c.args.bytes.now units c.in_ok-size.field-0.shards.items size
           c.max.result c.in_ok-size.field-0.pages c.lay_pages.new.pages ops flips c.from_vec.result c.in_ok-released.released
           c.in_ok-size.ensures
-          c.in_ok-lay_pages.ensures.laid
+          c.in_ok-lay_pages.ensures.put
           (c.max.ensures ∙ ap (λ n. max size (4096 * n)) sum)
           (c.in_ok-ops.ensures
           ∙ ap (λ firsts. object_ops rows c.args.coll.now c.args.object.now c.max.result (extents_of (finite.entries c.lay_pages.new.pages)) firsts)

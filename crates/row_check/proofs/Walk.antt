@@ -17,7 +17,7 @@ use Rattle.meta_log.specs.declared.slot.Super.{Super}
 use Rattle.row_format.specs.Row as format
 use Rattle.store_image.specs.Pages.{HasRow}
 use Rattle.store_image.specs.BadRows.{IsGoodRow, NoBadRow}
-use Rattle.row_reading.proofs.Entries.{rising, StandsAt, stands, entry_is, AreRows}
+use Rattle.row_reading.proofs.Entries.{rising, StandsAt, entry_is, AreRows}
 use Rattle.row_reading.specs.declared.row.Row.{Row}
 use Rattle.row_reading.specs.Reading.{row_of, SpellsRow}
 use Rattle.row_check.specs.Bad.{AreGoodBefore, IsLeastBad, IsFirst, IsRightBefore, IsWalkedTo, IsGood}

@@ -22,7 +22,7 @@ use Rattle.store_image.proofs.ByteLemmas.{equal_or_not}
 use Rattle.row_reading.specs.Reading.{SpellsRow}
 use Rattle.onode_codec.specs.Reading.{SpellExtents}
 use Rattle.row_check.specs.Marks.{Marks, no_marks, extents_marked, EndsBy, AllEndBy, RowEndsBy, SpellExtentsBelow}
-use Rattle.row_check.specs.Owned.{AreMarked, AreMarkedOn, SpellsRowWithin, IsShard, TellsShard}
+use Rattle.row_check.specs.Owned.{AreMarked, AreMarkedOn, SpellsRowWithin, TellsShard}
 use Rattle.row_reading.proofs.Entries.{AreRows, rising, entry_is}
 use Rattle.row_check.proofs.Walk.{has_spelled}
 use Rattle.row_check.proofs.OneMark.{Tells, HasUnits, tells_same}

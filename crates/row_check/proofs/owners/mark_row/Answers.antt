@@ -1,4 +1,4 @@
-use Rattle.std.proofs.Common.{◌≡◌, true, false, sym, subst}
+use Rattle.std.proofs.Common.{true, false, subst}
 use Rattle.row_check.specs.Owned.{TellsShard}
 use Rattle.row_check.proofs.MarkedRows.{shard_below, shard_marked, no_shard_marked}
 use Rattle.row_check.proofs.owners.mark_row.Goals as goal

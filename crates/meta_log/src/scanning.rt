@@ -151,8 +151,8 @@ fn behind(bytes: &[u8], units: u32) -> &[u8]
 
 /// All records of a half of the log, of consecutive numbers from `first` on, up to the first place where the record of the next
 /// number isn't valid. The half may be any bytes; where they aren't whole units, no record ends in the last part. Each unit is looked at
-/// in one record at most, but that an invalid record may be looked at up to the half's end. A mount applies the operations to the rows
-/// record by record; one that has little memory calls `read_record` so. (Ceph: RocksDB's recovery of its write-ahead log.)
+/// in one record at most, but that an invalid record may be looked at up to the half's end. A mount, which wants little memory, calls
+/// `read_record` for one after another instead. (Ceph: RocksDB's recovery of its write-ahead log.)
 pub fn scan(alloc: Global, half: &[u8], first: u64) -> Result<FoundLog, AllocError>
     ensures { IfOk result (IsLogOf half.now first) }
 {

@@ -19,15 +19,20 @@ import tempfile
 import threading
 
 
-def with_kept_stamps(file):
-    """Loads rt, and has it keep each stamp that it reckons."""
+def loaded(file):
+    """Loads a program of the kit as a module."""
     sys.dont_write_bytecode = True
-    loader = importlib.machinery.SourceFileLoader("kit_rt", file)
-    kit = importlib.util.module_from_spec(importlib.util.spec_from_loader("kit_rt", loader))
-    sys.modules["kit_rt"] = kit
+    name = f"kit_{os.path.basename(file)}"
+    loader = importlib.machinery.SourceFileLoader(name, file)
+    kit = importlib.util.module_from_spec(importlib.util.spec_from_loader(name, loader))
+    sys.modules[name] = kit
     loader.exec_module(kit)
-    crate, kept = kit.rtlib.Crate, {}
-    reckoned = crate.stamp
+    return kit
+
+
+def keep_stamps(crate):
+    """Has the kit's class of crates keep each stamp that it reckons."""
+    kept, reckoned = {}, crate.stamp
 
     def stamp(self):
         if self.folder not in kept:
@@ -35,7 +40,6 @@ def with_kept_stamps(file):
         return kept[self.folder]
 
     crate.stamp = stamp
-    return kit
 
 
 def size_of(crate):
@@ -96,10 +100,17 @@ def prove_below(kit, name, most):
     return failed
 
 
-def run(kit, words):
+def prepared(file, words):
+    """The call that runs the kit's command in this file. Its `plant` is a program of its own beside it."""
+    if words[:1] == ["plant"]:
+        kit = loaded(f"{os.path.dirname(file)}/rt-plant")
+        keep_stamps(kit.rt.Crate)
+        return lambda: kit.main(*words[1:])
+    kit = loaded(file)
+    keep_stamps(kit.rtlib.Crate)
     if words[:1] == ["below"]:
-        return prove_below(kit, words[1], int(words[3]))
-    return kit.main(words)
+        return lambda: prove_below(kit, words[1], int(words[3]))
+    return lambda: kit.main(words)
 
 
 def main():
@@ -107,10 +118,10 @@ def main():
     if found is None:
         sys.exit("rt.py: the kit's command rt isn't on the PATH")
     try:
-        kit = with_kept_stamps(os.path.realpath(found))
+        call = prepared(os.path.realpath(found), sys.argv[1:])
     except (AttributeError, ImportError, OSError, SyntaxError):
         os.execv(found, [found, *sys.argv[1:]])
-    sys.exit(run(kit, sys.argv[1:]))
+    sys.exit(call())
 
 
 if __name__ == "__main__":

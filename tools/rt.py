@@ -62,7 +62,7 @@ def prove_one(crate, jobs, is_first, ended):
     status, said = 1, ""
     try:
         if not is_first:
-            os.nice(10)  # this thread alone, and what it starts
+            os.nice(3)  # this thread alone, and what it starts; with more those next in a chain would starve
         os.makedirs(os.path.join(crate.folder, "out"), exist_ok=True)
         with tempfile.TemporaryFile("a+", errors="replace") as crate.out:
             status = crate.build_rlib(["--jobs", str(jobs)], anew=False)

@@ -3,7 +3,7 @@
 
 With the words `below NAME --jobs N` it proves the libraries that a crate stands on, each as soon as those below it are proved, at
 most N at a time: rt gives each one processor, or does one after the other. The one with the longest chain of crates above it may
-use all N processors, and goes before the others, since nothing is done before that chain is.
+use all N processors, since nothing is done before that chain is.
 
 rt knows by a stamp whether a library is as it was: a sum of its sources and of the stamps of all libraries that it names. It
 reckons each of them anew wherever one is named, which for the program bstore takes longer than the proofs. Here the stamp of a
@@ -57,12 +57,10 @@ def longest_chains(crates):
     return chains
 
 
-def prove_one(crate, jobs, is_first, ended):
+def prove_one(crate, jobs, ended):
     """Proves a library with so many jobs, and tells its status and what it printed."""
     status, said = 1, ""
     try:
-        if not is_first:
-            os.nice(3)  # this thread alone, and what it starts; with more those next in a chain would starve
         os.makedirs(os.path.join(crate.folder, "out"), exist_ok=True)
         with tempfile.TemporaryFile("a+", errors="replace") as crate.out:
             status = crate.build_rlib(["--jobs", str(jobs)], anew=False)
@@ -88,7 +86,7 @@ def prove_below(kit, name, most):
             todo.remove(crate)
             busy.add(crate)
             jobs = most if is_first else max(1, most // (len(ready) + len(busy)))
-            threading.Thread(target=prove_one, args=(crate, jobs, is_first, ended), daemon=True).start()
+            threading.Thread(target=prove_one, args=(crate, jobs, ended), daemon=True).start()
         crate, status, said = ended.get()
         busy.remove(crate)
         failed = failed or status

@@ -128,7 +128,7 @@ module _ (opening : Objects) (s : State) (client line : ℕ) (change : Change) (
   one = context_of (length s.book.entries) change s.log plan
 
   of_entry : IsOfEntry (s.book.entries ++ entry ∷ []) one
-  of_entry = record { change = change; accepted = change_last s.book.entries entry; same_coll = refl }
+  of_entry = record { change = change; accepted = change_last s.book.entries entry; same_names = refl }
 
   pub book_accepts : KnownOfBook opening (accepted_with client line change plan s)
   book_accepts = record {

@@ -1,5 +1,5 @@
 -- The transactions of the applied commits, and how far they are all that were accepted.
-use Rattle.std.proofs.Common.{◌≡◌, ℕ, zero, suc, ◌+◌, ◌-◌, ◌≤◌, Bool, true, false, cond, List, [], ◌∷◌, ◌++◌, length, take, drop, filter, Option}
+use Rattle.std.proofs.Common.{◌≡◌, ℕ, zero, suc, ◌+◌, ◌-◌, ◌≤◌, Bool, true, false, cond, List, [], ◌∷◌, ◌++◌, length, take, drop, Option}
 use Rattle.std.proofs.Common.{Some, None, refl, sym, ap, ◌∙◌, append-nil, append_assoc, length-append, arith}
 use Rattle.std.specs.Prelude.{IsSome, slice_get, option_and_then}
 use Rattle.std.specs.List.{AllByRecursion, cons_option}
@@ -9,8 +9,9 @@ use Rattle.std.proofs.lemmas.List.Elements.{filter_map-append}
 use Rattle.object_model.specs.declared.book.Entry.{Entry}
 use Rattle.object_model.specs.declared.book.Commit.{Commit}
 use Rattle.object_model.specs.Objects.{Objects}
-use Rattle.object_model.specs.Effect.{Change, replay, is_same}
+use Rattle.object_model.specs.Effect.{Change, replay, names_of, is_named, changes_on}
 use Rattle.object_model.specs.Book.{accepted, change_at, committed, is_on, places_from, committed_places}
+use Rattle.object_model.proofs.Names.{have_one_name}
 use Rattle.object_model.proofs.Replays.{replay-append, replay-by_collections}
 use Rattle.store_steps.specs.declared.context.Context.{Context}
 use Rattle.store_steps.specs.State.{Batch, State}
@@ -90,22 +91,22 @@ applied_entry es e cs n all = committed_kept es e (take n cs) (all_taken (λ c. 
 
 -- ---- a collection's transactions, by their places
 
-on_coll : (coll : List ℕ) (es : List Entry) (ps : List ℕ) → filter (λ t. is_same coll t.coll) (changes_at es ps) ≡ changes_at es (places_on coll es ps)
+on_coll : (coll : List ℕ) (es : List Entry) (ps : List ℕ) → changes_on coll (changes_at es ps) ≡ changes_at es (places_on coll es ps)
 on_coll coll es [] = refl
 on_coll coll es (p ∷ ps) = by_change (change_at es p) refl (on_coll coll es ps)
   where
-    by_change : (o : Option Change) → change_at es p ≡ o → filter (λ t. is_same coll t.coll) (changes_at es ps) ≡ changes_at es (places_on coll es ps)
-        → filter (λ t. is_same coll t.coll) (cons_option (change_at es p) (changes_at es ps)) ≡ changes_at es
+    by_change : (o : Option Change) → change_at es p ≡ o → changes_on coll (changes_at es ps) ≡ changes_at es (places_on coll es ps)
+        → changes_on coll (cons_option (change_at es p) (changes_at es ps)) ≡ changes_at es
         (cond (is_on coll (change_at es p)) (p ∷ places_on coll es ps) (places_on coll es ps))
     by_change None e more =
-        ap (λ (o : Option Change). filter (λ t. is_same coll t.coll) (cons_option o (changes_at es ps))) e ∙ more
+        ap (λ (o : Option Change). changes_on coll (cons_option o (changes_at es ps))) e ∙ more
         ∙ sym (ap (λ (o : Option Change). changes_at es (cond (is_on coll o) (p ∷ places_on coll es ps) (places_on coll es ps))) e)
     by_change (Some t) e more =
-        ap (λ (o : Option Change). filter (λ c. is_same coll c.coll) (cons_option o (changes_at es ps))) e
-        ∙ by_test (is_same coll t.coll)
+        ap (λ (o : Option Change). changes_on coll (cons_option o (changes_at es ps))) e
+        ∙ by_test (is_named coll (names_of t))
         ∙ sym (ap (λ (o : Option Change). changes_at es (cond (is_on coll o) (p ∷ places_on coll es ps) (places_on coll es ps))) e)
       where
-        by_test : (b : Bool) → cond b (t ∷ filter (λ c. is_same coll c.coll) (changes_at es ps)) (filter (λ c. is_same coll c.coll) (changes_at es ps))
+        by_test : (b : Bool) → cond b (t ∷ changes_on coll (changes_at es ps)) (changes_on coll (changes_at es ps))
             ≡ changes_at es (cond b (p ∷ places_on coll es ps) (places_on coll es ps))
         by_test true = ap (λ (l : List Change). t ∷ l) more ∙ sym (ap (λ (o : Option Change). cons_option o (changes_at es (places_on coll es ps))) e)
         by_test false = more
@@ -116,7 +117,7 @@ get_behind (y ∷ front) x back = get_behind front x back
 
 -- the accepted ones of a collection, behind other entries
 accepted_on : (coll : List ℕ) (front back : List Entry)
-    → filter (λ t. is_same coll t.coll) (accepted back) ≡ changes_at (front ++ back) (places_from coll (length front) back)
+    → changes_on coll (accepted back) ≡ changes_at (front ++ back) (places_from coll (length front) back)
 accepted_on coll front [] = refl
 accepted_on coll front (e ∷ back) = by_change (own_change e) refl (more (accepted_on coll (front ++ e ∷ []) back))
   where
@@ -129,24 +130,24 @@ accepted_on coll front (e ∷ back) = by_change (own_change e) refl (more (accep
     rest : List ℕ
     rest = places_from coll (length front + 1) back
 
-    more : filter (λ t. is_same coll t.coll) (accepted back) ≡ changes_at ((front ++ e ∷ []) ++ back) (places_from coll (length (front ++ e ∷ [])) back)
-        → filter (λ t. is_same coll t.coll) (accepted back) ≡ changes_at (front ++ e ∷ back) (places_from coll (length front + 1) back)
+    more : changes_on coll (accepted back) ≡ changes_at ((front ++ e ∷ []) ++ back) (places_from coll (length (front ++ e ∷ [])) back)
+        → changes_on coll (accepted back) ≡ changes_at (front ++ e ∷ back) (places_from coll (length front + 1) back)
     more behind = behind
         ∙ ap (λ (l : List Entry). changes_at l (places_from coll (length (front ++ e ∷ [])) back)) (append_assoc front (e ∷ []) back)
         ∙ ap (λ (n : ℕ). changes_at (front ++ e ∷ back) (places_from coll n back)) (let all = length-append front (e ∷ []) in omega (arith, all))
 
-    by_change : (o : Option Change) → own_change e ≡ o → filter (λ t. is_same coll t.coll) (accepted back) ≡ changes_at es rest
-        → filter (λ t. is_same coll t.coll) (cons_option (own_change e) (accepted back)) ≡ changes_at es
+    by_change : (o : Option Change) → own_change e ≡ o → changes_on coll (accepted back) ≡ changes_at es rest
+        → changes_on coll (cons_option (own_change e) (accepted back)) ≡ changes_at es
         (cond (is_on coll (own_change e)) (length front ∷ rest) rest)
     by_change None is same =
-        ap (λ (o : Option Change). filter (λ t. is_same coll t.coll) (cons_option o (accepted back))) is ∙ same
+        ap (λ (o : Option Change). changes_on coll (cons_option o (accepted back))) is ∙ same
         ∙ sym (ap (λ (o : Option Change). changes_at es (cond (is_on coll o) (length front ∷ rest) rest)) is)
     by_change (Some t) is same =
-        ap (λ (o : Option Change). filter (λ c. is_same coll c.coll) (cons_option o (accepted back))) is
-        ∙ by_test (is_same coll t.coll)
+        ap (λ (o : Option Change). changes_on coll (cons_option o (accepted back))) is
+        ∙ by_test (is_named coll (names_of t))
         ∙ sym (ap (λ (o : Option Change). changes_at es (cond (is_on coll o) (length front ∷ rest) rest)) is)
       where
-        by_test : (b : Bool) → cond b (t ∷ filter (λ c. is_same coll c.coll) (accepted back)) (filter (λ c. is_same coll c.coll) (accepted back))
+        by_test : (b : Bool) → cond b (t ∷ changes_on coll (accepted back)) (changes_on coll (accepted back))
             ≡ changes_at es (cond b (length front ∷ rest) rest)
         by_test true = ap (λ (l : List Change). t ∷ l) same ∙ sym (ap (λ (o : Option Change). cons_option o (changes_at es rest)) (here ∙ is))
         by_test false = same
@@ -154,8 +155,9 @@ accepted_on coll front (e ∷ back) = by_change (own_change e) refl (more (accep
 -- where nothing waits the commits are all that was accepted
 pub all_committed : (opening : Objects) (es : List Entry) (cs : List Commit) → AreQueued (record { entries = es; commits = cs }) []
     → replay opening (committed es cs) ≡ replay opening (accepted es)
-all_committed opening es cs queued = replay-by_collections opening (committed es cs) (accepted es) (λ coll.
-    ap (filter (λ t. is_same coll t.coll)) (committed_by_places es cs)
+all_committed opening es cs queued =
+    replay-by_collections opening (committed es cs) (accepted es) (have_one_name (committed es cs)) (have_one_name (accepted es)) (λ coll.
+    ap (changes_on coll) (committed_by_places es cs)
     ∙ on_coll coll es (commit_places cs)
     ∙ ap (changes_at es) (sym (places_by_places coll es cs) ∙ sym (append-nil (committed_places coll es cs)) ∙ sym (queued.in_order coll))
     ∙ sym (accepted_on coll [] es))

@@ -1,20 +1,20 @@
--- What is known of contexts that are alike in place and collection.
+-- What is known of contexts that are alike in place and in the names of their collections.
 use Rattle.std.proofs.Common.{◌≡◌, ℕ, suc, ◌==◌, Bool, true, false, cond, List, [], ◌∷◌, ◌++◌, length, Option, Some, None, refl, sym, ap}
 use Rattle.std.proofs.Common.{subst, ◌∙◌}
 use Rattle.std.specs.List.{AllByRecursion}
 use Rattle.std.specs.Option.{option_map, option_map_or}
 use Rattle.object_model.specs.declared.book.Entry.{Entry}
-use Rattle.object_model.specs.Effect.{is_same}
+use Rattle.object_model.specs.Effect.{is_named}
 use Rattle.object_model.specs.Book.{change_at}
 use Rattle.store_steps.specs.declared.context.Context.{Context}
 use Rattle.store_steps.specs.State.{Batch}
-use Rattle.store_steps.specs.Contexts.{with_context, given_more, done_more}
+use Rattle.store_steps.specs.Contexts.{with_context, given_more, done_more, colls_of}
 use Rattle.store_steps.specs.Changes.{first_flushed, second_flushed}
 use Rattle.book_facts.specs.BookFacts.{places, contexts_on, batched, IsOfEntry}
 
 pub record IsLike (x y : Context) : Type 0 where
   pub place : x.place ≡ y.place
-  pub coll : x.coll ≡ y.coll
+  pub names : colls_of x ≡ colls_of y
 
 abbrev pub AreLike : List Context → List Context → Type 0
 AreLike [] [] = Unit {0}
@@ -23,7 +23,7 @@ AreLike xs ys = ⊥
 
 pub like_itself : (xs : List Context) → AreLike xs xs
 like_itself [] = tt
-like_itself (x ∷ xs) = (record { place = refl; coll = refl }, like_itself xs)
+like_itself (x ∷ xs) = (record { place = refl; names = refl }, like_itself xs)
 
 pub like_same : (xs ys : List Context) → xs ≡ ys → AreLike xs ys
 like_same xs ys e = subst (AreLike xs) e (like_itself xs)
@@ -42,13 +42,13 @@ like_with place change same (x ∷ xs) = (one (x.place == place), like_with plac
   where
     one : (b : Bool) → IsLike (cond b (change x) x) x
     one true = same x
-    one false = record { place = refl; coll = refl }
+    one false = record { place = refl; names = refl }
 
 pub given_like : (count : ℕ) (x : Context) → IsLike (given_more count x) x
-given_like count x = record { place = refl; coll = refl }
+given_like count x = record { place = refl; names = refl }
 
 pub done_like : (count : ℕ) (x : Context) → IsLike (done_more count x) x
-done_like count x = record { place = refl; coll = refl }
+done_like count x = record { place = refl; names = refl }
 
 pub first_like : (batch : Option Batch) → AreLike (batched (option_map first_flushed batch)) (batched batch)
 first_like None = tt
@@ -82,15 +82,15 @@ on_like coll [] [] like = refl
 on_like coll [] (y ∷ ys) like = absurd like
 on_like coll (x ∷ xs) [] like = absurd like
 on_like coll (x ∷ xs) (y ∷ ys) like =
-    ap (λ (c : List ℕ). places (cond (is_same coll c) (x ∷ contexts_on coll xs) (contexts_on coll xs))) like.0.coll
-    ∙ one_on x y (is_same coll y.coll) (contexts_on coll xs) (contexts_on coll ys) like.0.place (on_like coll xs ys like.1)
+    ap (λ (names : List (List ℕ)). places (cond (is_named coll names) (x ∷ contexts_on coll xs) (contexts_on coll xs))) like.0.names
+    ∙ one_on x y (is_named coll (colls_of y)) (contexts_on coll xs) (contexts_on coll ys) like.0.place (on_like coll xs ys like.1)
 
 pub entries_like : (es : List Entry) (xs ys : List Context) → AreLike xs ys → AllByRecursion (IsOfEntry es) ys → AllByRecursion (IsOfEntry es) xs
 entries_like es [] [] like all = tt
 entries_like es [] (y ∷ ys) like all = absurd like
 entries_like es (x ∷ xs) [] like all = absurd like
 entries_like es (x ∷ xs) (y ∷ ys) like all = (
-  record { change = all.0.change; accepted = ap (change_at es) like.0.place ∙ all.0.accepted; same_coll = all.0.same_coll ∙ sym like.0.coll },
+  record { change = all.0.change; accepted = ap (change_at es) like.0.place ∙ all.0.accepted; same_names = all.0.same_names ∙ sym like.0.names },
   entries_like es xs ys like.1 all.1,
 )
 

@@ -1,6 +1,6 @@
 -- Want of space comes only where a run's commands ask for more units than were free when it began.
-use Rattle.std.proofs.Common.{◌≡◌, inl, inr, ℕ, ◌+◌, ◌<◌, ◌≤◌, Bool, true, false, List, [], ◌∷◌, ◌++◌, map}
-use Rattle.std.proofs.Common.{None, refl, sym, ap, subst, ◌∙◌, arith}
+use Rattle.std.proofs.Common.{◌≡◌, inl, inr, ℕ, ◌+◌, ◌<◌, ◌≤◌, Bool, true, false, List, [], ◌∷◌, ◌++◌}
+use Rattle.std.proofs.Common.{refl, sym, ap, subst, ◌∙◌, arith}
 use Rattle.std.specs.Prelude.{◌||◌}
 use Rattle.block_device.specs.Disk.{Disk}
 use Rattle.object_model.specs.declared.book.Entry.{Entry}
@@ -13,9 +13,9 @@ use Rattle.read_facts.specs.Answers.{HasReadNames, IsAnswerOf}
 use Rattle.store_steps.specs.Planning.{units_taken}
 use Rattle.store_steps.specs.Runs.{Call, submitting, reading, stepping, Calls, IsRun}
 use Rattle.store_steps.specs.State.{State}
-use Rattle.store_steps.specs.Submit.{free_count, entered, IsCause}
+use Rattle.store_steps.specs.Submit.{free_count, IsCause}
 use Rattle.store_facts.specs.Kept.{IsKept}
-use Rattle.book_facts.specs.Rooms.{taken_by, units_asked, demand_of, demanded_by, is_no_space, any_no_space}
+use Rattle.book_facts.specs.Rooms.{taken_by, units_asked, demanded_by, is_no_space, any_no_space}
 use Rattle.book_facts.proofs.KeptCalls.{kept_call}
 use Rattle.book_facts.proofs.Rooms.{KeepsSpace, call_space, taken_push, step_room}
 

@@ -1,6 +1,7 @@
 pub mod Entries
 pub mod Commits
 pub mod Contexts
+pub mod Names
 pub mod Answers
 pub mod Queues
 pub mod Books

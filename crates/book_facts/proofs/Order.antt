@@ -86,7 +86,7 @@ order_accepts s client line change plan known =
     let entry : Entry = record { client = client; line = line; command = ask.Change change; answer = answer.Accepted; acks = s.acked } in
     let es : List Entry = s.book.entries in
     let one : Context = context_of (length es) change s.log plan in
-    let of_entry : IsOfEntry (es ++ entry ∷ []) one = record { change = change; accepted = change_last es entry; same_coll = refl } in
+    let of_entry : IsOfEntry (es ++ entry ∷ []) one = record { change = change; accepted = change_last es entry; same_names = refl } in
     record {
       of_accepted = of_entries_push es entry s.book.commits known.of_accepted;
       queued = queued_accepted es entry s.book.commits s.pending known.of_accepted known.queued one change refl refl refl

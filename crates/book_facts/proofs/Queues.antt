@@ -10,9 +10,10 @@ use Rattle.std.proofs.lemmas.Map.Keys.{IsDistinct-push}
 use Rattle.object_model.specs.declared.book.Entry.{Entry}
 use Rattle.object_model.specs.declared.book.Commit.{Commit}
 use Rattle.object_model.specs.declared.book.Book.{Book}
-use Rattle.object_model.specs.Effect.{Change, is_same}
+use Rattle.object_model.specs.Effect.{Change, names_of, is_named}
 use Rattle.object_model.specs.Book.{change_at, is_on, places_of, committed_places, IsPrefixOf}
 use Rattle.store_steps.specs.declared.context.Context.{Context}
+use Rattle.store_steps.specs.Contexts.{colls_of}
 use Rattle.book_facts.specs.BookFacts.{places, commit_places, contexts_on, IsOfEntry, AreQueued}
 use Rattle.book_facts.proofs.Entries.{own_change, change_below, change_push, places_kept, place_if, places_push}
 use Rattle.book_facts.proofs.Commits.{all_then, all_append, AreAtPlaces, at_places, places_on, places_by_places, distinct_front, none_above}
@@ -27,7 +28,7 @@ some_is (Some x) is = (x, refl)
 pub entry_push : (es : List Entry) (e : Entry) (xs : List Context) → AllByRecursion (IsOfEntry es) xs → AllByRecursion (IsOfEntry (es ++ e ∷ [])) xs
 entry_push es e xs all =
     all_then (IsOfEntry es) (IsOfEntry (es ++ e ∷ [])) xs
-    (λ x is. record { change = is.change; accepted = change_push es e x.place is.change is.accepted; same_coll = is.same_coll }) all
+    (λ x is. record { change = is.change; accepted = change_push es e x.place is.change is.accepted; same_names = is.same_names }) all
 
 below_all : (es : List Entry) (ps : List ℕ) → AreAtPlaces es ps → AllByRecursion (λ p. p < length es) ps
 below_all es ps all =
@@ -38,17 +39,17 @@ context_places es [] all = tt
 context_places es (x ∷ xs) all = (ap is_some all.0.accepted, context_places es xs all.1)
 
 -- the place of one context, if it is on the collection
-on_one : (coll : List ℕ) (x : Context) → places (contexts_on coll (x ∷ [])) ≡ place_if (is_same coll x.coll) x.place
-on_one coll x = by_test (is_same coll x.coll)
+on_one : (coll : List ℕ) (x : Context) → places (contexts_on coll (x ∷ [])) ≡ place_if (is_named coll (colls_of x)) x.place
+on_one coll x = by_test (is_named coll (colls_of x))
   where
     by_test : (b : Bool) → places (cond b (x ∷ []) []) ≡ place_if b x.place
     by_test true = refl
     by_test false = refl
 
 on_push : (coll : List ℕ) (xs : List Context) (x : Context)
-    → places (contexts_on coll (xs ++ x ∷ [])) ≡ places (contexts_on coll xs) ++ place_if (is_same coll x.coll) x.place
+    → places (contexts_on coll (xs ++ x ∷ [])) ≡ places (contexts_on coll xs) ++ place_if (is_named coll (colls_of x)) x.place
 on_push coll xs x =
-    ap places (filter-append (λ y. is_same coll y.coll) xs (x ∷ []))
+    ap places (filter-append (λ y. is_named coll (colls_of y)) xs (x ∷ []))
     ∙ map-append (λ y. y.place) (contexts_on coll xs) (contexts_on coll (x ∷ []))
     ∙ ap (λ (l : List ℕ). places (contexts_on coll xs) ++ l) (on_one coll x)
 
@@ -66,9 +67,9 @@ module _ (es : List Entry) (e : Entry) (commits : List Commit) (pending : List C
   }
 
   -- that is, with its context
-  pub queued_accepted : (x : Context) (change : Change) → own_change e ≡ Some change → change.coll ≡ x.coll → x.place ≡ length es
+  pub queued_accepted : (x : Context) (change : Change) → own_change e ≡ Some change → names_of change ≡ colls_of x → x.place ≡ length es
       → AllByRecursion (IsOfEntry es) pending → AreQueued (record { entries = es ++ e ∷ []; commits = commits }) (pending ++ x ∷ [])
-  queued_accepted x change is same_coll here all = record { once = once; in_order = in_order }
+  queued_accepted x change is same_names here all = record { once = once; in_order = in_order }
     where
       apart : AllByRecursion (λ p. p < length es) (commit_places commits ++ places pending)
       apart = all_append (λ p. p < length es) (commit_places commits) (places pending)
@@ -88,10 +89,11 @@ module _ (es : List Entry) (e : Entry) (commits : List Commit) (pending : List C
       in_order coll =
           places_push coll es e
           ∙ ap (λ (o : Option Change). places_of coll es ++ place_if (is_on coll o) (length es)) is
-          ∙ ap (λ (l : List ℕ). l ++ place_if (is_same coll change.coll) (length es)) (queued.in_order coll)
-          ∙ append_assoc (committed_places coll es commits) (places (contexts_on coll pending)) (place_if (is_same coll change.coll) (length es))
-          ∙ ap (λ (c : List ℕ). committed_places coll es commits ++ (places (contexts_on coll pending) ++ place_if (is_same coll c) (length es))) same_coll
-          ∙ ap (λ (n : ℕ). committed_places coll es commits ++ (places (contexts_on coll pending) ++ place_if (is_same coll x.coll) n)) (sym here)
+          ∙ ap (λ (l : List ℕ). l ++ place_if (is_named coll (names_of change)) (length es)) (queued.in_order coll)
+          ∙ append_assoc (committed_places coll es commits) (places (contexts_on coll pending)) (place_if (is_named coll (names_of change)) (length es))
+          ∙ ap (λ (names : List (List ℕ)). committed_places coll es commits ++ (places (contexts_on coll pending) ++ place_if (is_named coll names) (length es)))
+          same_names
+          ∙ ap (λ (n : ℕ). committed_places coll es commits ++ (places (contexts_on coll pending) ++ place_if (is_named coll (colls_of x)) n)) (sym here)
           ∙ ap (λ (l : List ℕ). committed_places coll es commits ++ l) (sym (on_push coll pending x))
           ∙ ap (λ (l : List ℕ). l ++ places (contexts_on coll (pending ++ x ∷ []))) (sym (places_kept coll es e commits of_accepted))
 
@@ -107,8 +109,8 @@ queued_taken es commits c x same is queued = record { once = once; in_order = in
     once : IsDistinct nat_eq (commit_places (commits ++ c ∷ []) ++ [])
     once = subst (IsDistinct nat_eq) (sym (append-nil (commit_places (commits ++ c ∷ [])) ∙ one_more)) queued.once
 
-    on_it : (coll : List ℕ) → is_on coll (change_at es x.place) ≡ is_same coll x.coll
-    on_it coll = ap (is_on coll) is.accepted ∙ ap (is_same coll) is.same_coll
+    on_it : (coll : List ℕ) → is_on coll (change_at es x.place) ≡ is_named coll (colls_of x)
+    on_it coll = ap (is_on coll) is.accepted ∙ ap (is_named coll) is.same_names
 
     in_order : (coll : List ℕ) → places_of coll es ≡ committed_places coll es (commits ++ c ∷ []) ++ []
     in_order coll =

@@ -1,27 +1,21 @@
 -- The fair selections of no context and of one.
 use Rattle.std.proofs.Common.{◌≡◌, ◌⊎◌, inl, inr, ℕ, Bool, true, false, cond, List, [], ◌∷◌, ◌++◌, refl, sym, ap, subst, ◌∙◌}
 use Rattle.std.proofs.Common.{append-nil}
-use Rattle.std.specs.Ordering.{is_eq}
-use Rattle.std.specs.Cmp.{tied_itself}
-use Rattle.std.specs.Cmp.Lexicographic.{nat_list_cmp_total}
 use Rattle.object_model.specs.declared.book.Entry.{Entry}
 use Rattle.object_model.specs.Objects.{Objects}
-use Rattle.object_model.specs.Effect.{is_same, replay}
+use Rattle.object_model.specs.Effect.{replay, is_named}
 use Rattle.meta_rows.specs.Rows.{Rows, rows_after}
-use Rattle.store_image.specs.Pages.{HasPage}
 use Rattle.store_image.specs.Stands.{ObjectsStand}
-use Rattle.store_image.proofs.OwnedUnits.{objects_stand}
 use Rattle.store_steps.specs.declared.context.Context.{Context}
+use Rattle.store_steps.specs.Contexts.{colls_of}
 use Rattle.store_facts.specs.Space.{rows_with}
 use Rattle.book_facts.specs.BookFacts.{contexts_on}
 use Rattle.book_facts.specs.Selections.{IsFairSelection, changes_of, SelectionsStand}
-
-same_itself : (coll : List ℕ) → is_same coll coll ≡ true
-same_itself coll = ap is_eq (tied_itself nat_list_cmp_total coll)
+use Rattle.book_facts.proofs.Names.{is_own_coll}
 
 -- the first one selected is the first on its collection
 own_first : (y : Context) (ys : List Context) → contexts_on y.coll (y ∷ ys) ≡ y ∷ contexts_on y.coll ys
-own_first y ys = ap (λ (b : Bool). cond b (y ∷ contexts_on y.coll ys) (contexts_on y.coll ys)) (same_itself y.coll)
+own_first y ys = ap (λ (b : Bool). cond b (y ∷ contexts_on y.coll ys) (contexts_on y.coll ys)) (is_own_coll y)
 
 pub fair_none : (some : List Context) → IsFairSelection [] some → some ≡ []
 fair_none [] fair = refl
@@ -37,7 +31,7 @@ first_is x y rest false e = absurd cc
 fair_first : (x y : Context) (ys : List Context) → IsFairSelection (x ∷ []) (y ∷ ys) → x ≡ y
 fair_first x y ys fair =
     let front = fair y.coll in
-    first_is x y (contexts_on y.coll ys ++ front.0) (is_same y.coll x.coll) (front.1 ∙ ap (λ (l : List Context). l ++ front.0) (own_first y ys))
+    first_is x y (contexts_on y.coll ys ++ front.0) (is_named y.coll (colls_of x)) (front.1 ∙ ap (λ (l : List Context). l ++ front.0) (own_first y ys))
 
 no_second : (x y z : Context) (zs rest : List Context) (b : Bool) → cond b (x ∷ []) [] ≡ cond b (y ∷ z ∷ zs) (z ∷ zs) ++ rest → ⊥
 no_second x y z zs rest true e = cc
@@ -49,10 +43,10 @@ fair_one x (y ∷ []) fair = inr (ap (λ (c : Context). c ∷ []) (sym (fair_fir
 fair_one x (y ∷ z ∷ zs) fair =
     let same : x ≡ y = fair_first x y (z ∷ zs) fair in
     let front = fair z.coll in
-    let behind : contexts_on z.coll (y ∷ z ∷ zs) ≡ cond (is_same z.coll y.coll) (y ∷ z ∷ contexts_on z.coll zs) (z ∷ contexts_on z.coll zs) =
-    ap (λ (l : List Context). cond (is_same z.coll y.coll) (y ∷ l) l) (own_first z zs) in
-    absurd (no_second x y z (contexts_on z.coll zs) front.0 (is_same z.coll y.coll)
-    (ap (λ (c : Context). cond (is_same z.coll c.coll) (x ∷ []) []) (sym same) ∙ front.1 ∙ ap (λ (l : List Context). l ++ front.0) behind))
+    let behind : contexts_on z.coll (y ∷ z ∷ zs) ≡ cond (is_named z.coll (colls_of y)) (y ∷ z ∷ contexts_on z.coll zs) (z ∷ contexts_on z.coll zs) =
+    ap (λ (l : List Context). cond (is_named z.coll (colls_of y)) (y ∷ l) l) (own_first z zs) in
+    absurd (no_second x y z (contexts_on z.coll zs) front.0 (is_named z.coll (colls_of y))
+    (ap (λ (c : Context). cond (is_named z.coll (colls_of c)) (x ∷ []) []) (sym same) ∙ front.1 ∙ ap (λ (l : List Context). l ++ front.0) behind))
 
 -- ---- what stands for a selection
 
@@ -75,13 +69,6 @@ stand_one at rows x objects entries before after some fair = elim (fair_one x so
   | inl none ↦ subst (λ (xs : List Context). ObjectsStand at (rows_with rows xs) (replay objects (changes_of entries xs))) (sym none) before
   | inr one ↦ subst (λ (xs : List Context). ObjectsStand at (rows_with rows xs) (replay objects (changes_of entries xs))) (sym one) after
 ]
-
--- over other bytes of units on which no page stands
-pub stand_at : (at at' : ℕ → List ℕ) (rows : Rows) (contexts : List Context) (objects : Objects) (entries : List Entry)
-    → ((some : List Context) (unit : ℕ) → IsFairSelection contexts some → HasPage (rows_with rows some) unit → at unit ≡ at' unit)
-    → SelectionsStand at rows contexts objects entries → SelectionsStand at' rows contexts objects entries
-stand_at at at' rows contexts objects entries same stand some fair =
-    objects_stand at at' (rows_with rows some) (λ unit has. same some unit fair has) (replay objects (changes_of entries some)) (stand some fair)
 
 -- for a context of the same operations and place
 pub stand_like : (at : ℕ → List ℕ) (rows : Rows) (x y : Context) (objects : Objects) (entries : List Entry) → y.ops ≡ x.ops → y.place ≡ x.place

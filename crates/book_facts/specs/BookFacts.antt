@@ -3,7 +3,7 @@ use Rattle.std.specs.Prelude.{◌≡◌, ℕ, ◌≤◌, nat_eq, List, [], ◌++
 use Rattle.std.specs.List.{AllByRecursion, IsDistinct}
 use Rattle.std.specs.Option.{option_map_or}
 use Rattle.object_model.specs.Objects.{Objects}
-use Rattle.object_model.specs.Effect.{Change, is_same, replay}
+use Rattle.object_model.specs.Effect.{Change, replay, names_of, is_named}
 use Rattle.object_model.specs.Book.{accepted, change_at, AreAckedFrom, AreCountsWithin, acked_count, places_of, committed_places}
 use Rattle.object_model.specs.declared.book.Book.{Book}
 use Rattle.object_model.specs.declared.book.Commit.{Commit}
@@ -13,6 +13,7 @@ use Rattle.store_image.specs.Stands.{ObjectsStand}
 use Rattle.read_facts.specs.Alike.{AnswersAlikeFrom}
 use Rattle.store_steps.specs.declared.context.Context.{Context}
 use Rattle.store_steps.specs.State.{Batch, State}
+use Rattle.store_steps.specs.Contexts.{colls_of}
 use Rattle.store_steps.specs.Ready.{applied_count}
 use Rattle.store_facts.specs.Space.{uncommitted}
 
@@ -23,9 +24,9 @@ places contexts = map (λ x. x.place) contexts
 abbrev pub commit_places : List Commit → List ℕ
 commit_places commits = map (λ c. c.place) commits
 
--- the contexts on a collection
+-- the contexts that change a collection, in order
 abbrev pub contexts_on : List ℕ → List Context → List Context
-contexts_on coll contexts = filter (λ x. is_same coll x.coll) contexts
+contexts_on coll contexts = filter (λ x. is_named coll (colls_of x)) contexts
 
 -- the contexts of the open batch, if there is one
 abbrev pub batched : Option Batch → List Context
@@ -35,7 +36,7 @@ batched batch = option_map_or (λ b. b.contexts) batch []
 pub record IsOfEntry (entries : List Entry) (x : Context) : Type 0 where
   pub change : Change
   pub accepted : change_at entries x.place ≡ Some change
-  pub same_coll : change.coll ≡ x.coll
+  pub same_names : names_of change ≡ colls_of x
 
 -- Each commit is of an accepted transaction. The acknowledged ones come first, their numbers never fall and are none of later events.
 pub record AreCommits (book : Book) (acked events : ℕ) : Type 0 where

@@ -3,12 +3,14 @@
 ghost use Rattle.std.specs.Prelude.{◌≡◌, ℕ, ◌+◌, ◌<◌, ◌≤◌, true, List, []};
 ghost use Rattle.block_device.specs.Disk.{Disk, IsSound};
 ghost use Rattle.object_model.specs.Objects.{Objects};
-ghost use Rattle.object_model.specs.Effect.{Change};
+ghost use Rattle.object_model.specs.Effect.{Change, is_named, OneName};
 ghost use Rattle.object_model.specs.declared.command.Answer.TheVariants as answer;
 ghost use Rattle.unit_allocator.specs.Units.{Space};
 ghost use Rattle.read_facts.specs.Alike.{IsLegalButBytes};
+ghost use Rattle.store_steps.specs.declared.context.Context.{Context};
 ghost use Rattle.store_steps.specs.declared.step.Step.{Step};
 ghost use Rattle.store_steps.specs.State.{State};
+ghost use Rattle.store_steps.specs.Contexts.{colls_of};
 ghost use Rattle.store_steps.specs.Opened.{Found, opened};
 ghost use Rattle.store_steps.specs.Ready.{is_ready};
 ghost use Rattle.meta_store.specs.Store.{room_of};
@@ -17,6 +19,13 @@ ghost use Rattle.store_steps.specs.Runs.{MaySubmit, DoesOrFails, Call, Calls, Is
 ghost use Rattle.store_facts.specs.Kept.{IsKept};
 ghost use Rattle.book_facts.specs.BookFacts.{StandSomehow, KnownOfBook, IsInOrder};
 ghost use Rattle.book_facts.specs.Rooms.{taken_by, needs_in, demanded_by, any_no_space};
+
+/// So far each context has one name, that of its collection.
+pub fn a_context_has_one_name()
+    ensures one { (x : Context) → OneName (colls_of x) }
+    ensures own { (x : Context) → is_named x.coll (colls_of x) ≡ true }
+    ensures no_other { (x : Context) (coll : List ℕ) → OneName (colls_of x) → is_named coll (colls_of x) ≡ true → coll ≡ x.coll }
+{}
 
 /// What the kernel keeps it keeps along a run.
 #[tactic(auto, using(crate::proofs::KeptCalls::kept_run))]

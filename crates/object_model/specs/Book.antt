@@ -9,7 +9,7 @@ use Rattle.object_model.specs.declared.book.Entry.{Entry}
 use Rattle.object_model.specs.declared.book.Commit.{Commit}
 use Rattle.object_model.specs.declared.book.Book.{Book}
 use Rattle.object_model.specs.Objects.{Objects}
-use Rattle.object_model.specs.Effect.{Change, replay, is_same}
+use Rattle.object_model.specs.Effect.{Change, replay, names_of, is_named}
 use Rattle.object_model.specs.Reply.{reply_of}
 
 -- the transaction of a command that was accepted
@@ -53,10 +53,10 @@ change_at entries place = option_and_then (λ e. accepted_change e.command e.ans
 abbrev pub committed : List Entry → List Commit → List Change
 committed entries commits = filter_map (λ c. change_at entries c.place) commits
 
--- whether there is a transaction, on this collection
+-- whether there is a transaction, and it changes this collection
 abbrev pub is_on : List ℕ → Option Change → Bool
 is_on coll None = false
-is_on coll (Some change) = is_same coll change.coll
+is_on coll (Some change) = is_named coll (names_of change)
 
 -- the places of a collection's accepted entries, where the first of them all has place i
 abbrev pub places_from : List ℕ → ℕ → List Entry → List ℕ

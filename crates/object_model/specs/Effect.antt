@@ -1,6 +1,6 @@
 -- What an operation does to the collection of its transaction, and what a transaction does to the objects.
-use Rattle.std.specs.Prelude.{ℕ, ◌+◌, ◌-◌, ◌==◌, nat_lt, Bool, not, List, [], ◌∷◌, ◌++◌, length, take, drop, replicate, Option, Some, None, unwrap_or, option_and_then, Result, Ok, Err, if◌then◌else◌}
-use Rattle.std.specs.List.{list_any}
+use Rattle.std.specs.Prelude.{◌≡◌, ℕ, ◌+◌, ◌-◌, ◌==◌, nat_lt, Bool, false, not, ◌||◌, List, [], ◌∷◌, ◌++◌, length, take, drop, replicate, filter, Option, Some, None, unwrap_or, option_and_then, Result, Ok, Err, if◌then◌else◌}
+use Rattle.std.specs.List.{list_any, AllByRecursion}
 use Rattle.std.specs.Option.{option_map_or}
 use Rattle.std.specs.Ordering.{eq_by_cmp}
 use Rattle.std.specs.FinMap as finite
@@ -134,6 +134,32 @@ with_collection objects name (Some c) = finite.insert objects name c
 pub record Change : Type 0 where
   pub coll : List ℕ
   pub ops : List Op
+
+-- the names of the collections that a transaction changes
+abbrev pub names_of : Change → List (List ℕ)
+names_of change = change.coll ∷ []
+
+-- whether the collection is among these
+abbrev pub is_named : List ℕ → List (List ℕ) → Bool
+is_named coll [] = false
+is_named coll (name ∷ names) = is_named coll names || is_same coll name
+
+-- whether some of the others is among the names
+abbrev pub any_named : List (List ℕ) → List (List ℕ) → Bool
+any_named names [] = false
+any_named names (other ∷ others) = any_named names others || is_named other names
+
+-- the transactions that change a collection, in order
+abbrev pub changes_on : List ℕ → List Change → List Change
+changes_on coll changes = filter (λ change. is_named coll (names_of change)) changes
+
+-- there is one name
+abbrev pub OneName : List (List ℕ) → Type 0
+OneName names = length names ≡ 1
+
+-- each of these transactions has one name
+abbrev pub HaveOneName : List Change → Type 0
+HaveOneName changes = AllByRecursion (λ change. OneName (names_of change)) changes
 
 -- What a transaction makes of the objects, or why it is refused.
 abbrev pub transaction_effect : Change → Objects → Result Objects Refusal

@@ -12,8 +12,8 @@ mod transaction;
 pub use book::{Book, Commit, Entry};
 pub use command::{Answer, Command};
 pub use laws::{
-    replay_by_collections, replay_keeps_other_collections, replay_of_refused,
-    replay_of_two_collections, replay_of_two_lists,
+    a_transaction_has_one_name, replay_by_collections, replay_keeps_other_collections,
+    replay_of_refused, replay_of_two_collections, replay_of_two_lists,
 };
 pub use limits::ends_too_far;
 pub use op::{Op, Pair, Refusal};

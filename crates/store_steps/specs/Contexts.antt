@@ -1,9 +1,9 @@
 -- Contexts one by one, and which of them comes next.
 use Rattle.std.specs.Prelude.{ℕ, ◌+◌, ◌==◌, ◌&&◌, not, Bool, List, [], ◌∷◌, ◌++◌, length, map, filter, drop, nat_lt, Option, Some, None, if◌then◌else◌}
-use Rattle.std.specs.List.{flat_map, list_any}
-use Rattle.std.specs.Option.{option_map, option_or}
+use Rattle.std.specs.List.{flat_map}
+use Rattle.std.specs.Option.{option_or}
 use Rattle.meta_rows.specs.declared.row_op.RowOp.{RowOp}
-use Rattle.object_model.specs.Effect.{is_same}
+use Rattle.object_model.specs.Effect.{any_named}
 use Rattle.store_steps.specs.declared.context.Context.{Context}
 use Rattle.store_steps.specs.declared.context.FreshUnit.{FreshUnit}
 use Rattle.store_steps.specs.State.{Batch}
@@ -44,11 +44,15 @@ next_unsent (x ∷ xs) = option_or (unsent x) (next_unsent xs)
 abbrev pub is_done : Context → Bool
 is_done x = x.done == length x.fresh
 
--- The context that the next batch takes: the one of least place that is done and stands first in its collection.
+-- the names of the collections that a context changes
+abbrev pub colls_of : Context → List (List ℕ)
+colls_of x = x.coll ∷ []
+
+-- The context that the next batch takes: the one of least place that is done and stands first in each of its collections.
 -- The names are of the collections that earlier contexts have.
 abbrev pub chosen_behind : List (List ℕ) → List Context → Option Context
 chosen_behind names [] = None
-chosen_behind names (x ∷ xs) = if is_done x && not (list_any (is_same x.coll) names) then Some x else chosen_behind (x.coll ∷ names) xs
+chosen_behind names (x ∷ xs) = if is_done x && not (any_named (colls_of x) names) then Some x else chosen_behind (colls_of x ++ names) xs
 
 abbrev pub chosen : List Context → Option Context
 chosen xs = chosen_behind [] xs

@@ -1,5 +1,5 @@
 -- What an accepted transaction makes of the submitted rows: the row operations, the units that it takes and those that it releases.
-use Rattle.std.specs.Prelude.{◌≡◌, ℕ, ◌<◌, ◌≤◌, ◌^◌, ◌/◌, List, [], ◌∷◌, length, map, take, slice_index}
+use Rattle.std.specs.Prelude.{◌≡◌, ℕ, ◌<◌, ◌≤◌, ◌^◌, ◌/◌, List, [], ◌∷◌, length, map, take}
 use Rattle.byte_maps.specs.Units.{unit_at}
 use Rattle.crc32c_csum.specs.Crc32c.{crc32c}
 use Rattle.object_model.specs.declared.op.Op.{Op}

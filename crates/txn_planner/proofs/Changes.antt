@@ -1,13 +1,20 @@
 -- The operations on an object's shards, one part behind the other.
-use Rattle.std.proofs.Common.{◌≡◌, inl, inr, cond, ℕ, List, [], ◌∷◌, ◌++◌, Some, None, Result, Ok, Err, OnOk, refl, sym, ap, ◌∙◌, append_assoc}
+use Rattle.std.proofs.Common.{◌≡◌, inl, inr, cond, ℕ, zero, ◌<◌, Bool, false, List, [], ◌∷◌, ◌++◌, Option, Some, None, Result, Ok, Err, OnOk, refl, sym, ap, ◌∙◌, append_assoc, arith}
 use Rattle.std.specs.Prelude.{filter, slice_get}
+use Rattle.std.specs.Option.{option_map_or}
+use Rattle.std.specs.Ordering.{is_eq}
+use Rattle.std.specs.Cmp.{tied_itself}
+use Rattle.std.specs.Cmp.Lexicographic.{nat_list_cmp_total}
+use Rattle.object_model.specs.Effect.{is_same}
+use Rattle.meta_rows.specs.Rows.{Rows}
 use Rattle.meta_rows.specs.declared.row_op.RowOp.{RowOp}
 use Rattle.std.proofs.lemmas.Bool.{cases_Bool}
 use Rattle.row_format.specs.Extents.{Extent, Place}
-use Rattle.row_format.specs.Row.{shard}
+use Rattle.row_format.specs.Row.{Row, onode, shard, row_value}
 use Rattle.row_facts.specs.Operations.{set_row}
 use Rattle.blob_map.specs.Normal.{single, follows, more, extents_from, extents_of}
-use Rattle.object_rows.specs.Operations.{drops, shard_ops}
+use Rattle.object_rows.specs.Operations.{drops, onode_ops, shard_ops}
+use Rattle.object_rows.specs.Writes.{IsSizeOf, missing, there}
 use Rattle.txn_planner.specs.declared.object_change.Part.TheVariants as part
 use Rattle.txn_planner.specs.Parts.{is_of}
 
@@ -61,3 +68,11 @@ module _ (c o : List ℕ) (extents : List Extent) (present : List ℕ) (ops : Li
       ∙ ap (λ n. ops ++ (below n ++ set_row (shard c o n extents) ∷ above n)) first_is
       ∙ ap (λ es. ops ++ (below e.first ++ set_row (shard c o e.first es) ∷ above e.first)) is
       ∙ sym (ap (λ es. ops ++ shard_ops c o es present) is)
+
+-- the onode of an object that has bytes says how many
+pub size_said : (rows : Rows) (c o : List ℕ) (size : ℕ) → IsSizeOf rows c o size → 0 < size → onode_ops rows c o size ≡ []
+size_said rows c o zero (missing none) some = absurd (omega (arith, some))
+size_said rows c o n (there size has) some =
+    let row : Row = onode c o size in
+    let said : Option (List ℕ) → Bool = λ held. option_map_or (λ value. is_same value (row_value row)) held false in
+    ap (λ (b : Bool). cond b [] (set_row row ∷ [])) (ap said has.stands ∙ ap is_eq (tied_itself nat_list_cmp_total (row_value row)))

@@ -8,7 +8,8 @@ ghost use Rattle.row_format.specs.Keys.{shard_key};
 ghost use Rattle.row_format.specs.Row.{shard};
 ghost use Rattle.row_facts.specs.Operations.{set_row};
 ghost use Rattle.blob_map.specs.Normal.{extents_of};
-ghost use Rattle.object_rows.specs.Operations.{drops, onode_ops, shard_ops, object_ops};
+ghost use Rattle.object_rows.specs.Operations.{drops, onode_ops, shard_ops};
+ghost use Rattle.object_rows.specs.Writes.{IsSizeOf};
 ghost use Rattle.txn_planner.specs.Parts.{is_of};
 
 use blob_map::PageMap;
@@ -71,6 +72,24 @@ pub fn onode_ops(
     Ok(ops)
 }
 
+/// The same of an object of `before` bytes: where it keeps these, its onode isn't spelled to be compared.
+pub fn size_ops(
+    alloc: Global,
+    rows: &RowTable,
+    coll: &CollName,
+    object: &Name,
+    before: u64,
+    size: u64,
+) -> Result<Items<RowOp>, AllocError>
+    requires { IsSizeOf rows.now.rows coll.now object.now before }
+    ensures { IfOk result (λ ops. ops ≡ onode_ops rows.now.rows coll.now object.now size) }
+{
+    if 0 < size && size == before {
+        return Ok(Items::new(alloc));
+    }
+    onode_ops(alloc, rows, coll, object, size)
+}
+
 fn shard_dropped(
     alloc: Global,
     coll: &CollName,
@@ -116,8 +135,9 @@ fn shard_set(
     Ok(RowOp::Set { key, value })
 }
 
-// The one shard with these pages takes the place of the present ones, where it would stand among them. Without pages there is none.
-fn replace_shards(
+/// The one shard with these pages takes the place of the present ones, where it would stand among them. Without pages there is none.
+/// `present` are the first pages of the object's shards.
+pub fn replace_shards(
     alloc: Global,
     ops: &mut Items<RowOp>,
     coll: &CollName,
@@ -134,21 +154,4 @@ fn replace_shards(
     drop_shards(alloc, ops, coll, object, present, Part::Below(first))?;
     ops.push(shard_set(alloc, coll, object, first, pages)?)?;
     drop_shards(alloc, ops, coll, object, present, Part::Above(first))
-}
-
-/// What gives an object this size and these pages in the place of what the rows have of it. `present` are the first pages of its shards.
-pub fn object_ops(
-    alloc: Global,
-    rows: &RowTable,
-    coll: &CollName,
-    object: &Name,
-    size: u64,
-    pages: &PageMap,
-    present: &[u32],
-) -> Result<Items<RowOp>, AllocError>
-    ensures { IfOk result (λ ops. ops ≡ object_ops rows.now.rows coll.now object.now size (extents_of (finite.entries pages.now)) present.now) }
-{
-    let mut ops = onode_ops(alloc, rows, coll, object, size)?;
-    replace_shards(alloc, &mut ops, coll, object, pages, present)?;
-    Ok(ops)
 }

@@ -12,7 +12,7 @@ ghost use Rattle.txn_planner.specs.PlanFails.{IsPlanFor, IsPlanFail};
 ghost use Rattle.txn_planner.specs.Ops.{fail_of, IsOpPlan, IsOpFail, WritesOn};
 ghost use Rattle.txn_planner.specs.declared.planning.PlanFail.TheVariants.{Memory};
 
-use crate::object_change::{object_ops, onode_ops};
+use crate::object_change::{onode_ops, replace_shards, size_ops};
 use crate::pages::{fresh_units, lay_pages, units_between};
 use crate::turns::turned_bits;
 use byte_maps::{Bytes, Items};
@@ -225,7 +225,8 @@ fn pages_on(
     let released = units_between(alloc, pages.pages(), first, first + count)?;
     lay_pages(&mut pages, first, units, bytes)?;
     let end = UNIT_BYTES as u64 * (u64::from(first) + u64::from(count));
-    let ops = object_ops(alloc, rows, coll, object, size.max(end), &pages, &shards)?;
+    let mut ops = size_ops(alloc, rows, coll, object, size, size.max(end))?;
+    replace_shards(alloc, &mut ops, coll, object, &pages, &shards)?;
     let mut flips = turned_bits(alloc, units, released.as_slice())?;
     let mut all = ops.into_vec();
     all.append(&mut flips)?;

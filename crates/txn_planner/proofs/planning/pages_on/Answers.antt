@@ -5,7 +5,7 @@ use Rattle.std.specs.FinMap.Entries.{where_key}
 use Rattle.number_map.specs.NumberMap.{is_in}
 use Rattle.row_format.specs.Extents.{Place}
 use Rattle.blob_map.specs.Normal.{extents_of}
-use Rattle.object_rows.specs.Operations.{object_ops}
+use Rattle.object_rows.specs.Operations.{shard_ops, object_ops}
 use Rattle.object_rows.specs.Plans.{own_units, TurnsBits}
 use Rattle.txn_planner.proofs.Written.{writes_pages}
 use Rattle.txn_planner.proofs.planning.pages_on.Goals as goal
@@ -16,18 +16,18 @@ returns c =
     let first = c.args.first in
     let units = c.args.units.now in
     let size = c.in_ok-size.field-0.size in
-    let ops = c.in_ok-ops.ops in
+    let extents = extents_of (finite.entries c.lay_pages.new.pages) in
     let flips = c.in_ok-flips.flips.items in
     let sum : c.from.result + c.from-2.result ≡ first + length units = omega (arith, c.from.ensures, c.from-2.ensures) in
     record {
       writes = writes_pages rows c.args.coll.now c.args.object.now first c.args.bytes.now units c.in_ok-size.field-0.shards.items size
-          c.max.result c.in_ok-size.field-0.pages c.lay_pages.new.pages ops flips c.from_vec.result c.in_ok-released.released
+          c.max.result c.in_ok-size.field-0.pages c.lay_pages.new.pages c.replace_shards.new.ops flips c.from_vec.result c.in_ok-released.released
           c.in_ok-size.ensures
           c.in_ok-lay_pages.ensures.put
           (c.max.ensures ∙ ap (λ n. max size (4096 * n)) sum)
-          (c.in_ok-ops.ensures
-          ∙ ap (λ firsts. object_ops rows c.args.coll.now c.args.object.now c.max.result (extents_of (finite.entries c.lay_pages.new.pages)) firsts)
-          c.deref.ensures.value)
+          (c.in_ok-replace_shards.ensures
+          ∙ ap (λ l. l ++ shard_ops c.args.coll.now c.args.object.now extents c.deref.result.now) c.in_ok-ops.ensures
+          ∙ ap (λ firsts. object_ops rows c.args.coll.now c.args.object.now c.max.result extents firsts) c.deref.ensures.value)
           (c.in_ok-released.ensures
           ∙ ap (λ (ps : List (ℕ × Place)). flat_map (λ p. own_units p.1) (where_key nat_cmp (is_in first (first + length units)) ps)) c.pages-2.ensures)
           (subst (λ us. TurnsBits units us flips) c.as_slice.ensures c.in_ok-flips.ensures)

@@ -3,7 +3,7 @@
 
 With the words `below NAME --jobs N` it proves the libraries that a crate stands on, each as soon as those below it are proved, at
 most N at a time: rt gives each one processor, or does one after the other. The one with the longest chain of crates above it may
-use all N processors, since nothing is done before that chain is.
+use all N processors, since nothing is done before that chain is, and those that can wait give way to it.
 
 rt knows by a stamp whether a library is as it was: a sum of its sources and of the stamps of all libraries that it names. It
 reckons each of them anew wherever one is named, which for the program bstore takes longer than the proofs. Here the stamp of a
@@ -17,6 +17,9 @@ import shutil
 import sys
 import tempfile
 import threading
+
+# A crate whose chain is at least this part of the longest one doesn't give way to that, since it would be the next to wait for.
+URGENT = 0.9
 
 
 def loaded(file):
@@ -43,9 +46,8 @@ def keep_stamps(crate):
 
 
 def size_of(crate):
-    """The bytes of a crate's sources, which its proof takes about as long as."""
-    parts = (os.path.join(crate.folder, part) for part in ("src", "specs", "proofs"))
-    files = (os.path.join(place, name) for part in parts for place, _, names in os.walk(part) for name in names)
+    """The bytes of a crate's code, which its proof takes about as long as: a function costs, and lemmas take little."""
+    files = (os.path.join(place, name) for place, _, names in os.walk(os.path.join(crate.folder, "src")) for name in names)
     return sum(map(os.path.getsize, files))
 
 
@@ -57,10 +59,12 @@ def longest_chains(crates):
     return chains
 
 
-def prove_one(crate, jobs, ended):
-    """Proves a library with so many jobs, and tells its status and what it printed."""
+def prove_one(crate, jobs, nice, ended):
+    """Proves a library with so many jobs and this niceness, and tells its status and what it printed."""
     status, said = 1, ""
     try:
+        if nice:
+            os.setpriority(os.PRIO_PROCESS, threading.get_native_id(), nice)  # what the thread starts has it too
         os.makedirs(os.path.join(crate.folder, "out"), exist_ok=True)
         with tempfile.TemporaryFile("a+", errors="replace") as crate.out:
             status = crate.build_rlib(["--jobs", str(jobs)], anew=False)
@@ -82,11 +86,12 @@ def prove_below(kit, name, most):
         ready.sort(key=chains.get)
         while ready and len(busy) < most:
             crate = ready.pop()
-            is_first = chains[crate] >= max(map(chains.get, busy | set(todo)))
+            longest = max(map(chains.get, busy | set(todo)))
             todo.remove(crate)
             busy.add(crate)
-            jobs = most if is_first else max(1, most // (len(ready) + len(busy)))
-            threading.Thread(target=prove_one, args=(crate, jobs, ended), daemon=True).start()
+            jobs = most if chains[crate] == longest else max(1, most // (len(ready) + len(busy)))
+            nice = 0 if chains[crate] >= URGENT * longest else 10
+            threading.Thread(target=prove_one, args=(crate, jobs, nice, ended), daemon=True).start()
         crate, status, said = ended.get()
         busy.remove(crate)
         failed = failed or status

@@ -1,7 +1,7 @@
 -- What holds at the end of a run of a script: the run is one of the kernel, so what is known of these holds of it.
 use Rattle.std.proofs.Common.{◌≡◌, ℕ, suc, ◌+◌, ◌<◌, ◌≤◌, Bool, true, false, is_some, slice_get, length-append, List, [], ◌∷◌, ◌++◌, length}
 use Rattle.std.proofs.Common.{Option, Some, None, refl, sym, ap, subst, ◌∙◌, arith, inl, inr, append-nil}
-use Rattle.std.specs.Prelude.{◌⊎◌, ◌||◌, IfSome, All}
+use Rattle.std.specs.Prelude.{◌||◌, IfSome, All}
 use Rattle.std.specs.List.{AllByRecursion}
 use Rattle.std.proofs.lemmas.List.Elements.{All-head}
 use Rattle.std.proofs.lemmas.Bool.{lt-ltb}

@@ -1,12 +1,11 @@
 //! A script, run on a mounted store: before each call it is drawn which one comes next.
-ghost use Rattle.std.specs.Prelude.{◌≡◌, ◌<◌, ◌≤◌, ◌+◌, ℕ, Some, None, [], length, filter, slice_get, IfOk, IfErr, IsErrOf, MatchOption, MatchResult};
+ghost use Rattle.std.specs.Prelude.{◌≡◌, ◌<◌, ◌≤◌, ◌+◌, ℕ, Some, None, [], length, take, IfOk, IfErr, IsErrOf, MatchOption, MatchResult};
 ghost use Rattle.std.specs.List.{AllByRecursion};
 ghost use Rattle.block_device.specs.Disk.{IsSound, Rose};
 ghost use Rattle.object_model.specs.declared.command.Command.TheVariants as command;
 ghost use Rattle.read_facts.specs.Answers.{IsKnownRead};
 ghost use Rattle.script_text.specs.Grammar.{FitsWhat};
 ghost use Rattle.script_text.specs.declared.line.What.TheVariants as what;
-ghost use Rattle.store_steps.specs.Ready.{is_ready};
 ghost use Rattle.bstore_top.specs.Choice.{ready_list, asks_of};
 ghost use Rattle.bstore_top.specs.Stepping.{IsNext, IsNoted, IsNotNoted, IsNotTurnedAway, IsReplied, IsNoTurnAway, IsFailOf};
 ghost use Rattle.bstore_top.specs.Stepping.{fail_of, Drains, IsMade, IsUnmade, Makes, FailsAfter, RunsUpTo, FitsLine};
@@ -33,27 +32,20 @@ const STEPS: [Step; 9] = [
     Step::Finish,
 ];
 
-/// How many of these steps are ready.
-fn ready_count<D: Device>(kernel: &Kernel<D>, steps: &[Step]) -> usize
-    ensures { result ≡ length (filter (λ step. is_ready step (D.disk kernel.now.device).depth kernel.now.state) steps.now) }
+/// The ready steps in the order of their table, in front in the array, and how many they are.
+fn ready_steps<D: Device>(kernel: &Kernel<D>) -> ([Step; 9], usize)
+    ensures ready { take result.1 result.0 ≡ ready_list (D.disk kernel.now.device).depth kernel.now.state }
+    ensures few { result.1 ≤ length result.0 }
 {
-    steps.iter().filter(|step| kernel.ready(**step)).count()
-}
-
-/// The ready one of these steps that has this number, from 0 on.
-fn ready_step<D: Device>(kernel: &Kernel<D>, steps: &[Step], number: usize) -> Option<Step>
-    ensures { result ≡ slice_get (filter (λ step. is_ready step (D.disk kernel.now.device).depth kernel.now.state) steps.now) number }
-{
-    let mut left = number;
-    'steps: for step in steps {
+    let mut ready = STEPS;
+    let mut count = 0;
+    'steps: for step in STEPS.as_slice() {
         if kernel.ready(*step) {
-            if left == 0 {
-                return Some(*step);
-            }
-            left -= 1;
+            ready[count] = *step;
+            count += 1;
         }
     }
-    None
+    (ready, count)
 }
 
 /// The step that is drawn next, where one is ready.
@@ -62,13 +54,12 @@ fn draw<D: Device>(kernel: &Kernel<D>, generator: &mut Generator) -> Option<Step
         ((ready_list (D.disk kernel.now.device).depth kernel.now.state ≡ []) × (generator.new.x ≡ generator.old.x))
         (λ step. IsNext (D.disk kernel.now.device).depth kernel.now.state generator.old.x step generator.new.x) }
 {
-    let steps = STEPS.as_slice();
-    let count = ready_count(kernel, steps);
+    let (ready, count) = ready_steps(kernel);
     if count == 0 {
         return None;
     }
     generator.turn();
-    ready_step(kernel, steps, generator.item(count))
+    Some(ready[generator.item(count)])
 }
 
 /// Makes steps, each drawn from the ready ones, until none is ready.

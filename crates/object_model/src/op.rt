@@ -1,5 +1,6 @@
 //! The operations of a transaction, as the ObjectStore interface has them, and why one is refused.
 use byte_maps::{Bytes, Items};
+use bytes::Bytes as SharedBytes;
 use unit_fields::Name;
 
 /// An omap key and its value.
@@ -23,11 +24,11 @@ pub enum Op {
     Touch {
         object: Name,
     },
-    /// Replaces bytes from `off` on. The object grows to their end.
+    /// Replaces bytes from `off` on. The object grows to their end. The bytes are shared with the data writes that they become.
     Write {
         object: Name,
         off: u64,
-        bytes: Bytes,
+        bytes: SharedBytes,
     },
     /// As a write of `len` zeros.
     Zero {

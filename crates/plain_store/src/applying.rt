@@ -18,7 +18,7 @@ fn effect_on(alloc: Global, op: &Op, c: Collection) -> Result<Option<Collection>
         Op::RmColl if c.len() == 0 => return Ok(None),
         Op::RmColl => return Err(ArgFault::Refused(Refusal::NotEmpty)),
         Op::Touch { object } => touch(alloc, c, object)?,
-        Op::Write { object, off, bytes } => write(alloc, c, object, *off, bytes)?,
+        Op::Write { object, off, bytes } => write(alloc, c, object, *off, bytes.as_slice())?,
         Op::Zero { object, off, len } => zero(alloc, c, object, *off, *len)?,
         Op::Truncate { object, size } => truncate(alloc, c, object, *size)?,
         Op::Remove { object } => remove(c, object),

@@ -91,7 +91,7 @@ pub fn write(
     c: Collection,
     object: &Name,
     off: u64,
-    bytes: &Bytes,
+    bytes: &[u8],
 ) -> Result<Collection, ArgFault>
     ensures { GivesBy Some result (effect_on (does.Write object.now off bytes.now) c) }
 {
@@ -99,7 +99,7 @@ pub fn write(
         return Err(ArgFault::Refused(Refusal::TooBig));
     }
     let old = copy_or_new(alloc, &c, object)?;
-    let written = overwrite(alloc, old, off, bytes.as_slice())?;
+    let written = overwrite(alloc, old, off, bytes)?;
     Ok(put(alloc, c, object, written)?)
 }
 

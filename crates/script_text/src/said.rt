@@ -5,6 +5,7 @@ ghost use Rattle.script_text.specs.Grammar.{command_count, is_wait, op_line};
 
 use crate::What;
 use crate::data::Data;
+use bytes::Bytes as SharedBytes;
 use object_model::{Command, Op, Transaction};
 use std::alloc::{AllocError, Global};
 use std::marker::Model;
@@ -100,7 +101,7 @@ impl Said {
                 off,
                 bytes,
             } => {
-                let bytes = bytes.into_bytes(alloc)?;
+                let bytes = SharedBytes::from_vec(bytes.into_bytes(alloc)?.into_vec())?;
                 change(alloc, coll, Op::Write { object, off, bytes })
             }
             Kept::Other(what) => Ok(what),

@@ -1,6 +1,7 @@
 //! Contexts: accepted transactions on their way to the log.
 
-use byte_maps::{Bytes, Items};
+use byte_maps::Items;
+use bytes::Bytes;
 use meta_rows::RowOp;
 use unit_fields::{CollName, UnitNo};
 
@@ -8,7 +9,7 @@ use unit_fields::{CollName, UnitNo};
 #[derive(Drop)]
 pub struct FreshUnit {
     pub unit: UnitNo,
-    /// 4096 bytes.
+    /// 4096 bytes, shared with the transaction in the book.
     pub bytes: Bytes,
 }
 

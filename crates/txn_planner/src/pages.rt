@@ -12,7 +12,8 @@ ghost use Rattle.object_rows.specs.Planned.{pages_on};
 ghost use Rattle.store_steps.specs.Planning.{pair_of};
 
 use blob_map::{PageMap, Place};
-use byte_maps::{Bytes, Items};
+use byte_maps::Items;
+use bytes::Bytes;
 use crc32c_csum::crc32c;
 use std::alloc::{AllocError, Global};
 use store_steps::FreshUnit;
@@ -27,25 +28,29 @@ fn page_at(bytes: &[u8], i: usize) -> &[u8]
     &bytes[UNIT_BYTES * i..UNIT_BYTES * i + UNIT_BYTES]
 }
 
-fn fresh_unit(alloc: Global, unit: UnitNo, page: &[u8]) -> Result<FreshUnit, AllocError>
-    ensures { IfOk result (λ f. f ≡ record { unit = unit; bytes = page.now }) }
+// A unit with a page of these, which it shares.
+fn fresh_unit(unit: UnitNo, bytes: &Bytes, i: usize) -> Result<FreshUnit, AllocError>
+    requires inside { 4096 * i + 4096 ≤ length bytes.now }
+    requires few { i < 2 ^ 32 }
+    ensures { IfOk result (λ f. f ≡ record { unit = unit; bytes = unit_at i bytes.now }) }
 {
-    let bytes = Bytes::from_slice(alloc, page)?;
+    let bytes = bytes.slice(UNIT_BYTES * i..UNIT_BYTES * i + UNIT_BYTES)?;
     Ok(FreshUnit { unit, bytes })
 }
 
-/// The units, each with a copy of its page.
+/// The units, each with its page, which is shared and not copied.
 pub fn fresh_units(
     alloc: Global,
     units: &[UnitNo],
-    bytes: &[u8],
+    bytes: &Bytes,
 ) -> Result<Items<FreshUnit>, AllocError>
-    requires { length bytes.now ≡ 4096 * length units.now }
+    requires whole { length bytes.now ≡ 4096 * length units.now }
+    requires few { length units.now ≤ 2 ^ 32 }
     ensures { IfOk result (λ fresh. map pair_of fresh ≡ pages_on units.now 0 bytes.now) }
 {
     let mut fresh = Items::new(alloc);
     for (i, unit) in units.iter().enumerate() {
-        fresh.push(fresh_unit(alloc, *unit, page_at(bytes, i))?)?;
+        fresh.push(fresh_unit(*unit, bytes, i)?)?;
     }
     Ok(fresh)
 }

@@ -16,6 +16,7 @@ use crate::object_change::{onode_ops, replace_shards, size_ops};
 use crate::pages::{fresh_units, lay_pages, units_between};
 use crate::turns::turned_bits;
 use byte_maps::{Bytes, Items};
+use bytes::Bytes as SharedBytes;
 use meta_rows::{RowOp, RowTable};
 use object_model::{Op, Refusal, Transaction, ends_too_far};
 use onode_codec::{coll_key, onode_key};
@@ -59,7 +60,7 @@ impl From<TakeFail> for PlanFail {
 /// The plan of a transaction over the submitted rows and the free units. `submit` calls it before it changes anything.
 ///
 /// Each page takes the lowest free unit that is left, and releases the one that it stood on. The bits of both in the freelist are turned by
-/// the last operations. The bytes are copied once.
+/// the last operations. The bytes aren't copied.
 pub fn plan(
     alloc: Global,
     rows: &RowTable,
@@ -208,7 +209,7 @@ fn pages_on(
     coll: &CollName,
     object: &Name,
     first: u32,
-    bytes: &[u8],
+    bytes: &SharedBytes,
     units: &[UnitNo],
 ) -> Result<Plan, AllocError>
     requires good { AreRowsOfAStore rows.now.rows }
@@ -223,7 +224,7 @@ fn pages_on(
     } = object_state(alloc, rows, coll, object)?;
     let count = units.len() as u32;
     let released = units_between(alloc, pages.pages(), first, first + count)?;
-    lay_pages(&mut pages, first, units, bytes)?;
+    lay_pages(&mut pages, first, units, bytes.as_slice())?;
     let end = UNIT_BYTES as u64 * (u64::from(first) + u64::from(count));
     let mut ops = size_ops(alloc, rows, coll, object, size, size.max(end))?;
     replace_shards(alloc, &mut ops, coll, object, &pages, &shards)?;
@@ -245,7 +246,7 @@ fn plan_write(
     coll: &CollName,
     object: &Name,
     off: u64,
-    bytes: &Bytes,
+    bytes: &SharedBytes,
 ) -> Result<Plan, PlanFail>
     requires known { IsKnown (Write object.now off bytes.now ∷ []) }
     requires good { AreRowsOfAStore rows.now.rows }
@@ -257,7 +258,6 @@ fn plan_write(
     if !has_collection(alloc, rows, coll)? {
         return Err(PlanFail::Refusal(Refusal::NoCollection));
     }
-    let bytes = bytes.as_slice();
     if ends_too_far(off, bytes.len() as u64) {
         return Err(PlanFail::Refusal(Refusal::TooBig));
     }

@@ -9,7 +9,7 @@ use Rattle.byte_maps.proofs.UnitLemmas.{unit_at-append_front, unit_at-append_bac
 use Rattle.block_device.specs.Disk.{Disk, HasRead, IsSound}
 use Rattle.block_device.proofs.RangeLemmas.{units_from-same}
 use Rattle.meta_rows.specs.declared.row_op.RowOp.{RowOp}
-use Rattle.meta_rows.specs.Rows.{Rows, rows_after, rows_of_records}
+use Rattle.meta_rows.specs.Rows.{Rows, rows_after}
 use Rattle.meta_log.specs.Records.{record_units, unit_count, BeginsWithRecord, active_half}
 use Rattle.meta_log.specs.Scanning.{IsAtFront, BeginsNoRecord, TakesUnits, units_of_records}
 use Rattle.meta_log.specs.declared.scanning.FoundRecord.{FoundRecord}

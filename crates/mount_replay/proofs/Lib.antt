@@ -7,6 +7,7 @@ pub mod MadeLemmas
 pub mod StopLemmas
 pub mod ClearLemmas
 pub mod OpeningLemmas
+pub mod GatherLemmas
 pub mod ReplayLemmas
 pub mod HalfLemmas
 pub mod SplitLemmas

@@ -1,26 +1,64 @@
 //! The operations of many records, gathered so that they are applied to the rows together.
 ghost use Rattle.std.specs.Prelude.{◌≡◌, OnOk, IfOk};
 ghost use Rattle.std.specs.FinMap as map;
-ghost use Rattle.meta_rows.specs.Rows.{rows_after};
-ghost use Rattle.mount_replay.specs.Gathering.{rows_so_far};
+ghost use Rattle.meta_rows.specs.Rows.{Rows, rows_after};
+ghost use Rattle.mount_replay.specs.Gathering.{is_bitmap_key, rows_so_far};
 
 use meta_log::FoundRecord;
-use meta_rows::{RowOp, RowTable};
+use meta_rows::{RowOp, RowTable, encoded_len};
 use std::alloc::{AllocError, Global};
 use std::mem::replace;
 
-// So many operations are applied together, or those of records of so many units, so that what waits takes no more memory than
-// these and one record.
-const MANY_OPS: usize = 16384;
+// Operations wait until they take so many bytes of memory, or one record makes them more: so that few merges go over the rows that are
+// there already.
+const MANY_BYTES: usize = 8 << 20;
 
-const MANY_UNITS: u32 = 4096;
+// What an operation takes in lists, and its two buffers beside their bytes.
+const OP_BYTES: usize = 128;
+
+// The first byte of the keys of the bitmap's rows.
+const BITMAP: u8 = b'b';
+
+// What operations take of memory, about.
+fn bytes_of(ops: &[RowOp]) -> usize {
+    encoded_len(ops).saturating_add(ops.len().saturating_mul(OP_BYTES))
+}
+
+// Whether this is the key of a row of the bitmap.
+fn is_of_bitmap(key: &[u8]) -> bool
+    ensures { result ≡ is_bitmap_key key.now }
+{
+    match key.split_first() {
+        Some((kind, _)) => *kind == BITMAP,
+        None => false,
+    }
+}
+
+// The operations, those on rows of the bitmap behind the others. Names of objects and the units that they got often ascend both, but the
+// keys of a record of both kinds don't: so apart each part is sorted already.
+fn parted(alloc: Global, ops: Vec<RowOp>) -> Result<Vec<RowOp>, AllocError>
+    ensures { IfOk result (λ parted. (rows : Rows) → rows_after rows parted.items ≡ rows_after rows ops.items) }
+{
+    let mut others = Vec::with_capacity(alloc, ops.len())?;
+    let mut bits = Vec::new(alloc);
+    for op in ops {
+        if is_of_bitmap(op.key()) {
+            bits.push(op)?;
+        } else {
+            others.push(op)?;
+        }
+    }
+    others.append(&mut bits)?;
+    Ok(others)
+}
 
 /// Rows, and operations of records behind those that made them.
 #[derive(Debug, Drop)]
 pub(crate) struct Gathered {
     rows: RowTable,
     ops: Vec<RowOp>,
-    units: u32,
+    // What the operations take of memory, about.
+    bytes: usize,
 }
 
 impl Gathered {
@@ -31,7 +69,7 @@ impl Gathered {
         Gathered {
             rows: RowTable::new(alloc),
             ops: Vec::new(alloc),
-            units: 0,
+            bytes: 0,
         }
     }
 
@@ -41,7 +79,8 @@ impl Gathered {
         ensures same { OnOk result (rows_so_far self.new ≡ rows_so_far self.old) }
     {
         let ops = replace(&mut self.ops, Vec::new(alloc));
-        self.units = 0;
+        self.bytes = 0;
+        let ops = parted(alloc, ops)?;
         self.rows.apply_all(alloc, ops)
     }
 
@@ -49,10 +88,9 @@ impl Gathered {
     fn add(&mut self, found: FoundRecord) -> Result<(), AllocError>
         ensures { OnOk result (rows_so_far self.new ≡ rows_after (rows_so_far self.old) found.ops) }
     {
-        let FoundRecord { ops, units } = found;
-        let mut more = ops.into_vec();
+        let mut more = found.ops.into_vec();
+        self.bytes = self.bytes.saturating_add(bytes_of(&more));
         self.ops.append(&mut more)?;
-        self.units = self.units.saturating_add(units);
         Ok(())
     }
 
@@ -61,7 +99,7 @@ impl Gathered {
         ensures { OnOk result (rows_so_far self.new ≡ rows_after (rows_so_far self.old) found.ops) }
     {
         self.add(found)?;
-        if MANY_OPS <= self.ops.len() || MANY_UNITS <= self.units {
+        if MANY_BYTES <= self.bytes {
             return self.apply(alloc);
         }
         Ok(())

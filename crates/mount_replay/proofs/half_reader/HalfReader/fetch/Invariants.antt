@@ -1,4 +1,4 @@
-use Rattle.std.proofs.Common.{◌≡◌, ◌+◌, ◌≤◌, ◌-◌}
+use Rattle.std.proofs.Common.{◌≡◌, ◌≤◌, ◌-◌}
 use Rattle.mount_replay.specs.HalfReading.{ReadsOn}
 use Rattle.mount_replay.proofs.half_reader.HalfReader.fetch.Given as goal
 

@@ -1,4 +1,4 @@
-use Rattle.std.proofs.Common.{Bool, List, ℕ, ◌++◌, subst}
+use Rattle.std.proofs.Common.{Bool, List, ℕ, subst}
 use Rattle.std.specs.Prelude.{MatchOption}
 use Rattle.meta_rows.specs.declared.row_op.RowOp.{RowOp}
 use Rattle.meta_log.specs.Records.{BeginsWithRecord}

@@ -25,7 +25,7 @@ use Rattle.crash_facts.specs.Store.{KnownOfStore, IsDurable, KeepsDurable}
 use Rattle.crash_facts.proofs.Idle.{drained_view, drained_good}
 use Rattle.store_kernel.specs.declared.unanswered.WalkFail.{WalkFail}
 use Rattle.store_kernel.specs.declared.unanswered.WalkFail.TheVariants as walk
-use Rattle.mount_replay.specs.Calls.{IsLater}
+use Rattle.log_replay.specs.Calls.{IsLater}
 use Rattle.mount_replay.specs.Mounting as mounting
 use Rattle.mount_replay.specs.Mounting.{IsOpenedOn, IsReapedTo}
 use Rattle.run_texts.specs.declared.work_end.WorkEnd.{WorkEnd}

@@ -20,8 +20,8 @@ use Rattle.store_image.specs.Owners.{IsLeaked, IsExactBut}
 use Rattle.store_image.proofs.ExactLemmas.{no_inexact}
 use Rattle.store_image.proofs.OneObjects.{same_rows}
 use Rattle.store_steps.specs.Opened.{Found}
-use Rattle.mount_replay.specs.Opening.{IsAbout, IsFoundIn, IsUnopenable}
-use Rattle.mount_replay.specs.declared.opening.MountFail.TheVariants as fail
+use Rattle.log_replay.specs.Opening.{IsAbout, IsFoundIn, IsUnopenable}
+use Rattle.log_replay.specs.declared.opening.MountFail.TheVariants as fail
 use Rattle.run_texts.specs.declared.work_end.WorkEnd.{WorkEnd}
 use Rattle.run_texts.specs.declared.work_end.WorkEnd.TheVariants.{Done, BadLine, NoSuper, BadRow, NotExact, WornOut}
 use Rattle.run_texts.specs.declared.work_end.WorkEnd.TheVariants.{DeviceFault, OutOfMemory, BayFault}

@@ -12,11 +12,11 @@ use Rattle.object_model.specs.declared.book.Book.{Book}
 use Rattle.object_model.proofs.Books.{IsLegal-empty}
 use Rattle.store_image.specs.Stands.{StandsFor}
 use Rattle.store_image.specs.Durability.{EachCutStands}
-use Rattle.mount_replay.specs.Calls.{IsLater}
+use Rattle.log_replay.specs.Calls.{IsLater}
 use Rattle.crash_facts.specs.Store.{IsDurable}
-use Rattle.mount_replay.specs.Opening.{FailsMount}
+use Rattle.log_replay.specs.Opening.{FailsMount}
 use Rattle.mount_replay.specs.Mounting as mounting
-use Rattle.mount_replay.specs.declared.opening.MountFail.{MountFail}
+use Rattle.log_replay.specs.declared.opening.MountFail.{MountFail}
 use Rattle.script_text.specs.declared.line.Line.{Line}
 use Rattle.command_words.specs.declared.command_line.CommandLine.TheVariants.{Step}
 use Rattle.run_texts.specs.declared.work_end.WorkEnd.{WorkEnd}

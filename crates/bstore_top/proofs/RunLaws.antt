@@ -45,7 +45,7 @@ use Rattle.crash_facts.specs.Store.{KnownOfStore, IsDurable, KeepsDurable}
 use Rattle.crash_facts.proofs.Answered.{durable_legal, durable_sums}
 use Rattle.crash_facts.proofs.Runs.{run_durable, drained_stands, drained_exact}
 use Rattle.read_facts.specs.Alike.{IsNoCsum, IsLegalButBytes}
-use Rattle.mount_replay.specs.Calls.{Told, GoesOn, IsLater}
+use Rattle.log_replay.specs.Calls.{Told, GoesOn, IsLater}
 use Rattle.mount_replay.specs.Mounting.{IsOpenedOn, WasOpened}
 use Rattle.run_texts.specs.declared.work_end.WorkEnd.{WorkEnd}
 use Rattle.run_texts.specs.declared.work_end.WorkEnd.TheVariants.{Done, BadLine, NoSuper, BadRow, NotExact, WornOut}

@@ -26,13 +26,13 @@ use Rattle.store_steps.specs.Submit.{free_count}
 use Rattle.store_steps.specs.Runs.{Call, submitting, reading, stepping, DoesOrFails, Calls, IsRun}
 use Rattle.store_facts.specs.Kept.{IsKept}
 use Rattle.crash_facts.specs.Store.{KeepsDurable}
-use Rattle.mount_replay.specs.Calls.{Told, GoesOn, IsLater}
-use Rattle.mount_replay.specs.Opening.{FailsMount, SubmitsNothing}
+use Rattle.log_replay.specs.Calls.{Told, GoesOn, IsLater}
+use Rattle.log_replay.specs.Opening.{FailsMount, SubmitsNothing}
 use Rattle.mount_replay.specs.Mounting.{IsOpenedOn, IsReapedTo}
-use Rattle.mount_replay.specs.declared.opening.MountFail.{MountFail}
-use Rattle.mount_replay.specs.declared.opening.MountFail.TheVariants as fail
-use Rattle.mount_replay.proofs.ZeroLemmas.{told_start, goes_on_same}
-use Rattle.mount_replay.proofs.MadeLemmas.{told_join}
+use Rattle.log_replay.specs.declared.opening.MountFail.{MountFail}
+use Rattle.log_replay.specs.declared.opening.MountFail.TheVariants as fail
+use Rattle.log_replay.proofs.ZeroLemmas.{told_start, goes_on_same}
+use Rattle.log_replay.proofs.MadeLemmas.{told_join}
 use Rattle.bstore_top.specs.declared.run_fail.RunFail.{RunFail}
 use Rattle.bstore_top.specs.declared.run_fail.RunFail.TheVariants as run
 use Rattle.run_texts.specs.declared.work_end.WorkEnd.{WorkEnd}

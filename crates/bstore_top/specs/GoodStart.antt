@@ -7,7 +7,7 @@ use Rattle.object_model.specs.Objects.{Objects}
 use Rattle.store_image.specs.Owners.{IsExactAs}
 use Rattle.store_image.specs.Stands.{StandsFor}
 use Rattle.store_steps.specs.Opened.{Found}
-use Rattle.mount_replay.specs.Opening.{IsFoundIn, HasLowNumbers}
+use Rattle.log_replay.specs.Opening.{IsFoundIn, HasLowNumbers}
 use Rattle.script_text.specs.Script.{IsScript}
 use Rattle.script_text.specs.declared.line.Line.{Line}
 use Rattle.run_texts.specs.Printed.{Output}

@@ -5,9 +5,9 @@ use Rattle.block_device.specs.Disk.{Disk, Rose}
 use Rattle.end_points.specs.Bay.{BayView, HandedOut}
 use Rattle.end_points.specs.declared.bay.How.{How}
 use Rattle.end_points.specs.declared.bay.How.TheVariants.{Make, Plain}
-use Rattle.mount_replay.specs.Calls.{IsLater}
-use Rattle.mount_replay.specs.NewSuper.{units_needed}
-use Rattle.mount_replay.specs.Made.{HoldsEmptyStore}
+use Rattle.log_replay.specs.Calls.{IsLater}
+use Rattle.log_replay.specs.NewSuper.{units_needed}
+use Rattle.log_replay.specs.Made.{HoldsEmptyStore}
 use Rattle.object_model.specs.Objects.{Objects}
 use Rattle.object_model.specs.declared.book.Book.{Book}
 use Rattle.store_image.specs.Stands.{StandsFor}

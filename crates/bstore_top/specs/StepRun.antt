@@ -19,14 +19,14 @@ use Rattle.book_facts.specs.BookFacts.{StandSomehow}
 use Rattle.book_facts.specs.Rooms.{demand_of, any_no_space}
 use Rattle.store_steps.specs.Submit.{free_count}
 use Rattle.store_steps.specs.Runs.{Call}
-use Rattle.mount_replay.specs.Calls.{IsLater}
-use Rattle.mount_replay.specs.Opening.{FailsMount}
+use Rattle.log_replay.specs.Calls.{IsLater}
+use Rattle.log_replay.specs.Opening.{FailsMount}
 use Rattle.mount_replay.specs.Mounting.{IsOpenedOn, IsReapedTo}
 use Rattle.read_facts.specs.Alike.{IsLegalButBytes}
 use Rattle.bstore_top.specs.declared.run_fail.RunFail.{RunFail}
 use Rattle.bstore_top.specs.declared.run_fail.RunFail.TheVariants as run
-use Rattle.mount_replay.specs.declared.opening.MountFail.{MountFail}
-use Rattle.mount_replay.specs.declared.opening.MountFail.TheVariants as fail
+use Rattle.log_replay.specs.declared.opening.MountFail.{MountFail}
+use Rattle.log_replay.specs.declared.opening.MountFail.TheVariants as fail
 use Rattle.block_device.specs.declared.device.Failed.{Failed}
 use Rattle.block_device.specs.declared.device.Failed.TheVariants as failed
 use Rattle.run_texts.specs.declared.work_end.WorkEnd.{WorkEnd}

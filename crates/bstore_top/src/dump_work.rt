@@ -6,7 +6,7 @@ ghost use Rattle.unit_fields.specs.Names.{IsCollName};
 ghost use Rattle.read_facts.specs.Walks.{last_of};
 ghost use Rattle.read_facts.specs.Views.{IsViewed, IsWhole, WalksTo, WalksAll, object_names, coll_names};
 ghost use Rattle.store_steps.specs.Ready.{is_drained};
-ghost use Rattle.mount_replay.specs.Calls.{IsLater};
+ghost use Rattle.log_replay.specs.Calls.{IsLater};
 ghost use Rattle.command_words.specs.declared.command_line.CommandLine.TheVariants.{Dump};
 ghost use Rattle.bstore_top.specs.Dumping.{IsOfUp, end_of_walk};
 ghost use Rattle.bstore_top.specs.DumpRun.{DumpsOn, ShowsObjects, IsDumpDone};

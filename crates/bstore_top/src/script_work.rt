@@ -8,7 +8,7 @@ ghost use Rattle.bstore_top.specs.Choice.{asks_of};
 ghost use Rattle.bstore_top.specs.Keeping.{KeepsStore};
 ghost use Rattle.bstore_top.specs.Stepping.{FitsLine};
 ghost use Rattle.bstore_top.specs.StepRun.{HasScript, IsReadWhole, FailsBefore, WorksOn, IsStepDone, seen, end_of_mount, end_of_run, end_of_bay, end_of_script};
-ghost use Rattle.mount_replay.specs.Calls.{IsLater};
+ghost use Rattle.log_replay.specs.Calls.{IsLater};
 ghost use Rattle.bstore_top.specs.Run.{ComesBack};
 
 use crate::run_fail::RunFail;

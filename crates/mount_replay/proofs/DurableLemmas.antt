@@ -40,12 +40,12 @@ use Rattle.log_facts.proofs.Found.{found_records, records_push, records_left, ob
 use Rattle.store_steps.specs.Opened.{Found}
 use Rattle.store_facts.proofs.RowsPages.{owned_on_data}
 use Rattle.crash_facts.specs.Store.{contents_at, IsMounted}
-use Rattle.mount_replay.specs.Cleared.{IsAllClean}
-use Rattle.mount_replay.specs.Zeroing.{IsZeroing}
-use Rattle.mount_replay.specs.Clearing.{IsCleared, ClearsSoFar}
-use Rattle.mount_replay.specs.Opening.{IsFoundIn}
+use Rattle.log_replay.specs.Cleared.{IsAllClean}
+use Rattle.log_replay.specs.Zeroing.{IsZeroing}
+use Rattle.log_replay.specs.Clearing.{IsCleared, ClearsSoFar}
+use Rattle.log_replay.specs.Opening.{IsFoundIn}
 use Rattle.mount_replay.specs.Mounting.{behind_records}
-use Rattle.mount_replay.proofs.RunLemmas.{by_length}
+use Rattle.log_replay.proofs.RunLemmas.{by_length}
 
 abbrev pub no_book : Book
 no_book = record { entries = []; commits = [] }

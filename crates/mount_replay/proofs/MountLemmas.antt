@@ -17,19 +17,19 @@ use Rattle.store_facts.specs.Kept.{IsOpenable, IsKept}
 use Rattle.store_facts.proofs.Kept.{kept_open}
 use Rattle.crash_facts.specs.Store.{KeepsDurable, IsMounted}
 use Rattle.crash_facts.proofs.Keeping.{mounted_keeps}
-use Rattle.mount_replay.specs.Calls.{Told, IsLater}
-use Rattle.mount_replay.specs.Cleared.{IsAllClean}
-use Rattle.mount_replay.specs.Clearing.{AreClearing, IsCleared, ClearsSoFar}
-use Rattle.mount_replay.specs.Opening.{IsAbout, IsFoundIn, IsRefused, IsUnopenable, FailsMount}
-use Rattle.mount_replay.specs.FoundOn.{IsFoundOn, IsJudged, as_found, first_behind, half_end, rest_of, AreStaleOf, IsLogCleared, ClearsLog}
+use Rattle.log_replay.specs.Calls.{Told, IsLater}
+use Rattle.log_replay.specs.Cleared.{IsAllClean}
+use Rattle.log_replay.specs.Clearing.{AreClearing, IsCleared, ClearsSoFar}
+use Rattle.log_replay.specs.Opening.{IsAbout, IsFoundIn, IsRefused, IsUnopenable, FailsMount}
+use Rattle.log_replay.specs.FoundOn.{IsFoundOn, IsJudged, as_found, first_behind, half_end, rest_of, AreStaleOf, IsLogCleared, ClearsLog}
 use Rattle.mount_replay.specs.Mounting.{behind_records, WasOpened, IsOpenedOn, StaysDurable}
-use Rattle.mount_replay.specs.declared.opening.MountFail.{MountFail}
-use Rattle.mount_replay.specs.declared.opening.MountFail.TheVariants.{Memory, NoSuper, BadRow, NotExact, WornOut, Fault}
-use Rattle.mount_replay.specs.declared.replaying.FoundStore.{FoundStore}
-use Rattle.mount_replay.proofs.RunLemmas.{by_length}
-use Rattle.mount_replay.proofs.ZeroLemmas.{told_map, goes_on_same}
-use Rattle.mount_replay.proofs.ClearLemmas.{told_both, all_of_contained}
-use Rattle.mount_replay.proofs.OpeningLemmas.{about_all, about_more}
+use Rattle.log_replay.specs.declared.opening.MountFail.{MountFail}
+use Rattle.log_replay.specs.declared.opening.MountFail.TheVariants.{Memory, NoSuper, BadRow, NotExact, WornOut, Fault}
+use Rattle.log_replay.specs.declared.replaying.FoundStore.{FoundStore}
+use Rattle.log_replay.proofs.RunLemmas.{by_length}
+use Rattle.log_replay.proofs.ZeroLemmas.{told_map, goes_on_same}
+use Rattle.log_replay.proofs.ClearLemmas.{told_both, all_of_contained}
+use Rattle.log_replay.proofs.OpeningLemmas.{about_all, about_more}
 use Rattle.mount_replay.proofs.DurableLemmas.{no_book, still_durable, after_clearing, is_mounted}
 
 -- ---- what is told of two histories

@@ -20,17 +20,17 @@ use Rattle.store_image.proofs.OneObjects.{same_rows}
 use Rattle.unit_allocator.specs.Units.{Space}
 use Rattle.store_steps.specs.State.{State}
 use Rattle.store_steps.specs.Opened.{Found}
-use Rattle.mount_replay.specs.Calls.{Told, GoesOnBy}
-use Rattle.mount_replay.specs.Cleared.{IsAllClean}
-use Rattle.mount_replay.specs.Zeroing.{UnitRun, AreRuns, run_events, IsZeroing}
-use Rattle.mount_replay.specs.Clearing.{IsFirstPart, flushed_runs, AreClearing, ClearsSoFar}
-use Rattle.mount_replay.specs.Opening.{IsAbout, IsFoundIn, IsUnopenable, FailsMount}
+use Rattle.log_replay.specs.Calls.{Told, GoesOnBy}
+use Rattle.log_replay.specs.Cleared.{IsAllClean}
+use Rattle.log_replay.specs.Zeroing.{UnitRun, AreRuns, run_events, IsZeroing}
+use Rattle.log_replay.specs.Clearing.{IsFirstPart, flushed_runs, AreClearing, ClearsSoFar}
+use Rattle.log_replay.specs.Opening.{IsAbout, IsFoundIn, IsUnopenable, FailsMount}
 use Rattle.mount_replay.specs.Mounting.{behind_records, WasOpened, IsOpenedOn}
 use Rattle.mount_replay.specs.Mounted.{HoldsObjects, BeginsWith, RefusesStore}
-use Rattle.mount_replay.specs.declared.opening.MountFail.{MountFail}
-use Rattle.mount_replay.specs.declared.opening.MountFail.TheVariants.{Memory, NoSuper, BadRow, NotExact, WornOut, Fault}
-use Rattle.mount_replay.proofs.RunLemmas.{run_zeroes, each_append}
-use Rattle.mount_replay.proofs.ClearLemmas.{others_between}
+use Rattle.log_replay.specs.declared.opening.MountFail.{MountFail}
+use Rattle.log_replay.specs.declared.opening.MountFail.TheVariants.{Memory, NoSuper, BadRow, NotExact, WornOut, Fault}
+use Rattle.log_replay.proofs.RunLemmas.{run_zeroes, each_append}
+use Rattle.log_replay.proofs.ClearLemmas.{others_between}
 use Rattle.mount_replay.proofs.DurableLemmas.{After, after_clearing}
 use Rattle.mount_replay.proofs.MountLemmas.{known, told_after}
 

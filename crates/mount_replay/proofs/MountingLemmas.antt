@@ -14,10 +14,10 @@ use Rattle.store_steps.specs.State.{State}
 use Rattle.store_steps.specs.Changes.{after_done, after_good, flying_of, landed, reaped}
 use Rattle.store_steps.specs.Steps.{Takes}
 use Rattle.store_steps.specs.Runs.{Call, stepping, Calls, IsRun}
-use Rattle.mount_replay.specs.Calls.{Told, GoesOn, IsLater}
+use Rattle.log_replay.specs.Calls.{Told, GoesOn, IsLater}
 use Rattle.mount_replay.specs.Mounting.{IsReapedTo}
-use Rattle.mount_replay.proofs.ZeroLemmas.{told_start, goes_on_same, goes_on_join}
-use Rattle.mount_replay.proofs.MadeLemmas.{told_join}
+use Rattle.log_replay.proofs.ZeroLemmas.{told_start, goes_on_same, goes_on_join}
+use Rattle.log_replay.proofs.MadeLemmas.{told_join}
 
 -- ---- runs
 

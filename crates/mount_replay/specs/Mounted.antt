@@ -9,11 +9,11 @@ use Rattle.store_image.specs.Durability.{EachCutStands}
 use Rattle.unit_allocator.specs.Units.{Space}
 use Rattle.store_steps.specs.State.{State}
 use Rattle.store_steps.specs.Opened.{Found}
-use Rattle.mount_replay.specs.Cleared.{IsAllClean}
-use Rattle.mount_replay.specs.Opening.{IsUnopenable, FailsMount}
+use Rattle.log_replay.specs.Cleared.{IsAllClean}
+use Rattle.log_replay.specs.Opening.{IsUnopenable, FailsMount}
 use Rattle.mount_replay.specs.Mounting.{IsOpenedOn}
-use Rattle.mount_replay.specs.declared.opening.MountFail.{MountFail}
-use Rattle.mount_replay.specs.declared.opening.MountFail.TheVariants.{Memory, NoSuper, BadRow, NotExact, WornOut, Fault}
+use Rattle.log_replay.specs.declared.opening.MountFail.{MountFail}
+use Rattle.log_replay.specs.declared.opening.MountFail.TheVariants.{Memory, NoSuper, BadRow, NotExact, WornOut, Fault}
 
 -- The device tells this history, nothing of it is dirty, and its contents stand for these objects.
 pub record HoldsObjects (d : Disk) (h : History) (objects : Objects) : Type 0 where

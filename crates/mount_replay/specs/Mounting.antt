@@ -14,10 +14,10 @@ use Rattle.store_steps.specs.State.{State}
 use Rattle.store_steps.specs.Opened.{Found, opened}
 use Rattle.store_steps.specs.Runs.{Call, stepping, IsRun}
 use Rattle.store_facts.specs.Kept.{IsOpenable}
-use Rattle.mount_replay.specs.Calls.{Told, GoesOn, GoesOnBy, IsLater}
-use Rattle.mount_replay.specs.Cleared.{IsAllClean}
-use Rattle.mount_replay.specs.Clearing.{AreClearing}
-use Rattle.mount_replay.specs.Opening.{IsAbout, IsFoundIn, HasLowNumbers, AreUnmarkedFree}
+use Rattle.log_replay.specs.Calls.{Told, GoesOn, GoesOnBy, IsLater}
+use Rattle.log_replay.specs.Cleared.{IsAllClean}
+use Rattle.log_replay.specs.Clearing.{AreClearing}
+use Rattle.log_replay.specs.Opening.{IsAbout, IsFoundIn, HasLowNumbers, AreUnmarkedFree}
 
 -- the bytes of the active half behind the records
 abbrev pub behind_records : List ℕ → Found → List ℕ

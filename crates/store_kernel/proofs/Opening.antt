@@ -1,4 +1,4 @@
--- A kernel as it is opened, and the units of a new allocator.
+-- A kernel as it is opened.
 use Rattle.std.proofs.Common.{◌≡◌, ℕ, zero, suc, ◌-◌, Bool, true, false, not, ◌||◌, cond, filter, Option, None, List, [], ◌∷◌, length, replicate, get_or, refl, ap, ◌∙◌, arith}
 use Rattle.std.specs.List.{range_with_len, list_any}
 use Rattle.std.specs.FinSet as set
@@ -20,46 +20,6 @@ use Rattle.store_steps.specs.Ready.{is_empty}
 use Rattle.store_steps.specs.declared.step.Step.{Step}
 use Rattle.store_kernel.specs.Seen.{found_of, IsUnused, state_of}
 use Rattle.store_facts.specs.Space.{IsSpaceOf}
-
--- a new allocator has the range that it was made for
-same_range : (s : Space) (busy : set.FinSet nat_cmp) (units : List ℕ)
-    → ((freed_from s busy units).first ≡ s.first) × (length (freed_from s busy units).idle ≡ length s.idle)
-same_range s busy [] = (refl, refl)
-same_range s busy (u ∷ us) =
-    let here = by (set.contains busy u) in
-    let rest = same_range (cond (set.contains busy u) s (given_one s u)) busy us in
-    (rest.0 ∙ here.0, rest.1 ∙ here.1)
-  where
-    by : (b : Bool) → ((cond b s (given_one s u)).first ≡ s.first) × (length (cond b s (given_one s u)).idle ≡ length s.idle)
-    by true = (refl, refl)
-    by false = (refl, length-set s.idle (u - s.first) true)
-
-pub all_alike : (n i x : ℕ) → get_or (replicate n x) i x ≡ x
-all_alike zero i x = refl
-all_alike (suc n) zero x = refl
-all_alike (suc n) (suc i) x = all_alike n i x
-
--- all data units, none of them busy
-abbrev pub new_space : ℕ → ℕ → set.FinSet nat_cmp → Space
-new_space first end busy = freed_from (no_idle_units first (end - first)) busy (range_with_len first (end - first))
-
-pub new_space_is : (sup : Super) (first end : ℕ) (busy : set.FinSet nat_cmp) → IsSuper sup → first ≡ data_unit sup → end ≡ sup.units
-    → IsSpaceOf sup (new_space first end busy)
-new_space_is sup first end busy limits from to =
-    let range = same_range (no_idle_units first (end - first)) busy (range_with_len first (end - first)) in
-    record {
-      first = range.0 ∙ from;
-      count = omega (arith, range.1, length-replicate (end - first) false, from, to, limits.room);
-      unheld = λ unit.
-          let at : ℕ = unit - (new_space first end busy).first in
-          ap (λ (holds : List ℕ). get_or holds at 0) (new_is_unheld first (end - first) busy) ∙ all_alike (end - first) at 0;
-    }
-
--- a data unit is free there exactly where it isn't busy
-pub new_space_free : (sup : Super) (first end : ℕ) (busy : set.FinSet nat_cmp) → IsSuper sup → first ≡ data_unit sup → end ≡ sup.units
-    → (unit : ℕ) → IsDataUnit sup unit → is_free (new_space first end busy) unit ≡ not (set.contains busy unit)
-new_space_free sup first end busy limits from to unit on =
-    new_is_free first (end - first) busy unit (omega (arith, from, on.0)) (omega (arith, from, to, on.1, limits.room))
 
 -- the state of the kernel's fields as they begin
 pub opened_is : (m : Meta) (rows : Rows) (flying : List Flying) (entries : List Entry) (commits : List Commit) (space : Space) (events : ℕ)

@@ -3,10 +3,10 @@ use Rattle.std.proofs.lemmas.Result.{IfOk-weaker}
 use Rattle.block_device.specs.Disk.{Disk}
 use Rattle.unit_allocator.specs.Units.{Space}
 use Rattle.store_steps.specs.Opened.{Found}
-use Rattle.mount_replay.specs.FoundOn.{as_found}
+use Rattle.log_replay.specs.FoundOn.{as_found}
 use Rattle.mount_replay.specs.Mounting.{IsOpenedOn, StaysDurable}
-use Rattle.mount_replay.specs.Calls.{IsLater}
-use Rattle.mount_replay.proofs.ZeroLemmas.{later_same}
+use Rattle.log_replay.specs.Calls.{IsLater}
+use Rattle.log_replay.proofs.ZeroLemmas.{later_same}
 use Rattle.mount_replay.proofs.MountLemmas.{stays_same, refused_fails}
 use Rattle.mount_replay.proofs.mounting.mount.Goals as goal
 

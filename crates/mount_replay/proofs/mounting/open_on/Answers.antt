@@ -5,7 +5,7 @@ use Rattle.store_steps.specs.Opened.{opened}
 use Rattle.store_facts.specs.Kept.{IsKept}
 use Rattle.crash_facts.specs.Store.{KeepsDurable}
 use Rattle.store_kernel.specs.Seen.{found_of}
-use Rattle.mount_replay.specs.FoundOn.{as_found}
+use Rattle.log_replay.specs.FoundOn.{as_found}
 use Rattle.mount_replay.specs.Mounting.{IsOpenedOn, StaysDurable}
 use Rattle.mount_replay.proofs.MountLemmas.{stays_begun, opened_durable, opened_kept, opened_on}
 use Rattle.mount_replay.proofs.mounting.open_on.Goals as goal

@@ -1,0 +1,64 @@
+-- The free units of a store: those whose bits are 0.
+use Rattle.std.proofs.Common.{◌≡◌, ◌↔◌, inl, inr, ℕ, ◌^◌, ◌<◌, true, not, Result, Ok, Err, IfOk, sym, ap, subst, ◌∙◌, arith}
+use Rattle.std.specs.declared.alloc.AllocError.{AllocError}
+use Rattle.std.specs.FinSet as set
+use Rattle.std.specs.Ordering.{nat_cmp}
+use Rattle.std.proofs.lemmas.Bool.{cases_Bool}
+use Rattle.meta_rows.specs.Rows.{Rows}
+use Rattle.meta_log.specs.declared.slot.Super.{Super}
+use Rattle.meta_log.specs.Slots.{IsSuper, data_unit}
+use Rattle.store_image.specs.Owners.{IsDataUnit, IsMarked}
+use Rattle.bitmap_freelist.specs.Bitmap.{AreMarked}
+use Rattle.unit_allocator.specs.Units.{Space, is_free}
+use Rattle.store_facts.specs.Space.{AreGoodRows, IsSpaceOf}
+use Rattle.store_steps.specs.Opened.{Found}
+use Rattle.log_replay.specs.Opening.{HasLowNumbers}
+use Rattle.log_replay.specs.FoundOn.{IsJudged}
+use Rattle.log_replay.proofs.NewSpace.{new_space, new_space_is, new_space_free}
+
+-- ---- a new allocator
+
+pub made_units : (made : Result Space AllocError) (sup : Super) (first end : ℕ) (busy : set.FinSet nat_cmp) → IsSuper sup → first ≡ data_unit sup → end ≡ sup.units
+    → IfOk made (λ space. space ≡ new_space first end busy) → IfOk made (IsSpaceOf sup)
+made_units (Ok space) sup first end busy limits from to is = subst (IsSpaceOf sup) (sym is) (new_space_is sup first end busy limits from to)
+made_units (Err e) sup first end busy limits from to is = tt
+
+pub made_free : (made : Result Space AllocError) (sup : Super) (first end : ℕ) (busy : set.FinSet nat_cmp) → IsSuper sup → first ≡ data_unit sup → end ≡ sup.units
+    → IfOk made (λ space. space ≡ new_space first end busy)
+    → IfOk made (λ space. (unit : ℕ) → IsDataUnit sup unit → is_free space unit ≡ not (set.contains busy unit))
+made_free (Ok space) sup first end busy limits from to is = λ unit on.
+    ap (λ (s : Space). is_free s unit) is ∙ new_space_free sup first end busy limits from to unit on
+made_free (Err e) sup first end busy limits from to is = tt
+
+-- ---- units whose bits are 0
+
+module _ (sup : Super) (rows : Rows) (busy : set.FinSet nat_cmp) (space : Space) (limits : IsSuper sup) (are_marked : AreMarked rows busy)
+    (free : (unit : ℕ) → IsDataUnit sup unit → is_free space unit ≡ not (set.contains busy unit)) where
+  -- a data unit is one of those that rows can mark
+  is_unit : (unit : ℕ) → IsDataUnit sup unit → unit < 2 ^ 32
+  is_unit unit on = omega (arith, on.1, limits.units_most)
+
+  out_of_set : (unit : ℕ) → IsDataUnit sup unit → not (set.contains busy unit) ≡ true → ¬ IsMarked rows unit
+  out_of_set unit on out marked = absurd (let is = (are_marked unit).1 (is_unit unit on, marked) in cc)
+
+  not_in_set : (unit : ℕ) → ¬ IsMarked rows unit → not (set.contains busy unit) ≡ true
+  not_in_set unit none = elim (cases_Bool (set.contains busy unit)) [
+    | inl is ↦ absurd (none ((are_marked unit).0 is).1)
+    | inr other ↦ ap (λ b. not b) other
+  ]
+
+  pub unmarked : (unit : ℕ) → IsDataUnit sup unit → (is_free space unit ≡ true) ↔ (¬ IsMarked rows unit)
+  unmarked unit on = (λ is. out_of_set unit on (sym (free unit on) ∙ is), λ none. free unit on ∙ not_in_set unit none)
+
+-- a store on which a kernel can be opened
+pub judged : (f : Found) (busy : set.FinSet nat_cmp) (space : Space) → IsSuper f.sup → AreGoodRows f.sup f.rows f.rows → AreMarked f.rows busy
+    → HasLowNumbers f → IsSpaceOf f.sup space → ((unit : ℕ) → IsDataUnit f.sup unit → is_free space unit ≡ not (set.contains busy unit))
+    → IsJudged f space
+judged f busy space limits good are_marked numbers units free =
+    let each = unmarked f.sup f.rows busy space limits are_marked free in record {
+      good = good;
+      numbers = numbers;
+      units = units;
+      free = λ unit on. (λ is. let none = (each unit on).0 is in (none, none), λ both. (each unit on).1 both.0);
+      unmarked = each;
+    }

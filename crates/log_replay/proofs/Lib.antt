@@ -1,0 +1,15 @@
+pub mod CallLemmas
+pub mod RunLemmas
+pub mod ZeroLemmas
+pub mod StaleLemmas
+pub mod CleanLemmas
+pub mod MadeLemmas
+pub mod StopLemmas
+pub mod ClearLemmas
+pub mod OpeningLemmas
+pub mod GatherLemmas
+pub mod ReplayLemmas
+pub mod HalfLemmas
+pub mod SplitLemmas
+pub mod NewSpace
+pub mod JudgeLemmas

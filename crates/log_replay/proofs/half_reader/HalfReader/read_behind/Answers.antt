@@ -1,0 +1,10 @@
+use Rattle.std.proofs.Common.{refl, arith}
+use Rattle.log_replay.proofs.HalfLemmas.{reads_piece}
+use Rattle.log_replay.proofs.half_reader.HalfReader.read_behind.Goals as goal
+
+pub returns-clause-read : goal.returns-clause-read
+returns-clause-read g c = (
+  reads_piece (g.D.Device.disk c.args.dev.now) c.args.self.now _ c.min-count.result c.read.new.into.items c.units.ensures.sound c.requires.reader
+      c.in_ok-read.ensures.ok (omega arith) (rw c.deref.ensures.value at c.in-Ok.ensures.items) refl refl refl refl,
+  omega arith,
+)

@@ -1,0 +1,12 @@
+pub mod Calls
+pub mod Zeroing
+pub mod Stale
+pub mod NewSuper
+pub mod Cleared
+pub mod Clearing
+pub mod Replaying
+pub mod Gathering
+pub mod Made
+pub mod Opening
+pub mod HalfReading
+pub mod FoundOn

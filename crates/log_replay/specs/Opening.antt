@@ -1,0 +1,89 @@
+-- What a mount finds on a device, and why it doesn't open a store.
+use Rattle.std.specs.Prelude.{◌≡◌, ◌⊎◌, ◌↔◌, true, ℕ, ◌+◌, ◌^◌, ◌<◌, ◌≤◌, nat_lt, if◌then◌else◌, List, Option, Some, None, IfSome}
+use Rattle.byte_maps.specs.Units.{unit_at, zeros}
+use Rattle.block_device.specs.Log.{last}
+use Rattle.block_device.specs.Disk.{Disk, Rose}
+use Rattle.meta_log.specs.declared.slot.Super.{Super}
+use Rattle.meta_log.specs.Slots.{IsValidSlot, IsActiveSlot, active_unit}
+use Rattle.meta_log.specs.Records.{active_half}
+use Rattle.store_image.specs.BadRows.{NoBadRow}
+use Rattle.store_image.specs.Owners.{IsDataUnit, IsMarked, IsExactAs, IsLeastInexact}
+use Rattle.unit_allocator.specs.Units.{Space, is_free}
+use Rattle.row_check.specs.Bad.{IsLeastBad}
+use Rattle.store_steps.specs.Opened.{Found}
+use Rattle.log_replay.specs.Cleared.{IsAllClean}
+use Rattle.log_replay.specs.Replaying.{IsReplay}
+use Rattle.log_replay.specs.declared.opening.MountFail.{MountFail}
+use Rattle.log_replay.specs.declared.opening.MountFail.TheVariants.{Memory, NoSuper, BadRow, NotExact, WornOut, Fault}
+
+-- P holds of what was last written, where the device tells it and no unit is dirty
+abbrev pub IsAbout : Disk → (List ℕ → Type 0) → Type 0
+IsAbout d P = IfSome d.history (λ h. IsAllClean h → P (last h.start h.log))
+
+-- neither slot is valid
+abbrev pub HasNoSuper : List ℕ → Type 0
+HasNoSuper contents = (at : ℕ) (s : Super) → at < 2 → ¬ IsValidSlot contents at s
+
+-- so many units from one on are zero
+abbrev pub AreZero : ℕ → ℕ → List ℕ → Type 0
+AreZero first count contents = (unit : ℕ) → first ≤ unit → unit < first + count → unit_at unit contents ≡ zeros 4096
+
+-- of two supers the one of greater epoch
+abbrev pub newer_of : Option Super → Option Super → Option Super
+newer_of None second = second
+newer_of (Some a) None = Some a
+newer_of (Some a) (Some b) = if nat_lt a.epoch b.epoch then Some b else Some a
+
+-- the active half has no record and nothing else
+abbrev pub IsLogEmpty : List ℕ → Super → Type 0
+IsLogEmpty contents s = AreZero (active_unit s) s.half contents
+
+-- The contents are those of a store: this is its active slot, and the records of the active half make these rows, take so many units, and
+-- the next one has this number.
+pub record IsFoundIn (contents : List ℕ) (f : Found) : Type 0 where
+  pub active : IsActiveSlot contents f.sup
+  pub replay : IsReplay (active_half contents f.sup) f.sup.first f.rows f.tail f.number
+
+-- the numbers leave room for those to come, which stay below 2^62
+abbrev pub HasLowNumbers : Found → Type 0
+HasLowNumbers f = (f.sup.epoch < 2 ^ 61) × (f.number < 2 ^ 61)
+
+-- the first of the epoch and the next record's number that leaves none
+abbrev pub IsWornOut : Found → ℕ → Type 0
+IsWornOut f value = ((2 ^ 61 ≤ f.sup.epoch) × (value ≡ f.sup.epoch)) ⊎ ((f.sup.epoch < 2 ^ 61) × (2 ^ 61 ≤ f.number) × (value ≡ f.number))
+
+-- the free data units are exactly those whose bits are 0
+abbrev pub AreUnmarkedFree : Found → Space → Type 0
+AreUnmarkedFree f space = (unit : ℕ) → IsDataUnit f.sup unit → (is_free space unit ≡ true) ↔ (¬ IsMarked f.rows unit)
+
+-- Why what was found isn't opened.
+abbrev pub IsRefused : MountFail → Found → Type 0
+IsRefused Memory f = Unit {0}
+IsRefused NoSuper f = ⊥
+IsRefused (BadRow key) f = IsLeastBad f.sup f.rows key
+IsRefused (NotExact unit) f = NoBadRow f.sup f.rows × IsLeastInexact f.rows unit
+IsRefused (WornOut value) f = NoBadRow f.sup f.rows × IsExactAs f.rows f.rows × IsWornOut f value
+IsRefused Fault f = ⊥
+
+-- Why a mount opens no store, by the contents.
+abbrev pub IsUnopenable : MountFail → List ℕ → Type 0
+IsUnopenable Memory contents = Unit {0}
+IsUnopenable NoSuper contents = HasNoSuper contents
+IsUnopenable (BadRow key) contents = (f : Found) × IsFoundIn contents f × IsRefused (BadRow key) f
+IsUnopenable (NotExact unit) contents = (f : Found) × IsFoundIn contents f × IsRefused (NotExact unit) f
+IsUnopenable (WornOut value) contents = (f : Found) × IsFoundIn contents f × IsRefused (WornOut value) f
+IsUnopenable Fault contents = Unit {0}
+
+-- The cause of each answer: of a fault that the count rose, of the others what the device holds.
+abbrev pub FailsMount : MountFail → Disk → ℕ → ℕ → Type 0
+FailsMount Fault d before now = Rose before now
+FailsMount fail d before now = IsAbout d (IsUnopenable fail)
+
+-- a mount that fails so has submitted nothing
+abbrev pub SubmitsNothing : MountFail → Type 0
+SubmitsNothing Memory = ⊥
+SubmitsNothing NoSuper = Unit {0}
+SubmitsNothing (BadRow key) = Unit {0}
+SubmitsNothing (NotExact unit) = Unit {0}
+SubmitsNothing (WornOut value) = Unit {0}
+SubmitsNothing Fault = ⊥

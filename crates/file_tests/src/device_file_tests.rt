@@ -1,152 +1,135 @@
 //! On files of the folder that the tests run in.
 
-ghost use Rattle.std.specs.Prelude.{◌≤◌, IfSome};
-
 use block_device::{Device, Failed};
 use device_file::SyncFile;
+use std::alloc::{AllocError, Global};
 use std::fs;
 use std::fs::File;
-use std::process::Abort;
 use std::rt::Files;
 use std::test::Fail;
 
-// Submits a write of one unit of this byte, and then a flush, and reaps both. The tickets are the places in a log.
-fn write_and_flush(
-    rt: &(impl Abort + AllocGlobal),
-    device: &mut SyncFile,
-    at: u32,
-    byte: u8,
-    places: [u64; 2],
-) -> Result<(), Fail> {
-    assert_eq!(rt; device.in_flight(), 0);
-    assert!(rt; at < device.units());
-    let Ok(write) = device.submit_write(at, vec![in rt.alloc(); byte; 4096]?) else {
-        return Err("a write is refused".into());
-    };
-    let flush = device.submit_flush()?;
-    assert_eq!(rt; device.in_flight(), 2);
-    assert_eq!(rt; [write.place, flush.place], places);
-    for place in places {
-        let done = device.reap().ok_or("nothing is done")?;
-        assert_eq!(rt; done.ticket.place, place);
-        assert!(rt; done.ok);
-    }
-    assert!(rt; device.reap().is_none());
-    Ok(())
+// A submission to a device.
+#[derive(Clone, Copy)]
+enum Step {
+    // Writes a unit of a byte.
+    Write(u32, u8),
+    Flush,
 }
 
-// All bytes of a device of so many units.
-fn contents(
-    rt: &(impl Abort + AllocGlobal),
-    device: &mut SyncFile,
-    units: u32,
-) -> Result<Vec<u8>, Fail> {
-    assert_eq!(rt; device.units(), units);
-    assert_eq!(rt; device.in_flight(), 0);
-    let mut bytes = Vec::new(rt.alloc());
-    device.read(0, units, &mut bytes)?;
+// Whether it is taken.
+fn submits(alloc: Global, device: &mut SyncFile, step: Step) -> Result<bool, AllocError> {
+    let units = device.units();
+    if device.in_flight() > 0 {
+        return Ok(false);
+    }
+    match step {
+        Step::Flush => Ok(device.submit_flush().is_ok()),
+        Step::Write(at, byte) if at < units => {
+            let bytes = vec![in alloc; byte; 4096]?;
+            Ok(device.submit_write(at, bytes).is_ok())
+        }
+        Step::Write(..) => Ok(false),
+    }
+}
+
+fn ends_well(device: &mut SyncFile) -> bool {
+    match device.reap() {
+        Some(done) => done.ok,
+        None => false,
+    }
+}
+
+// Whether each is taken and ends well, one behind the other.
+fn end_well(alloc: Global, device: &mut SyncFile, steps: &[Step]) -> Result<bool, AllocError> {
+    for step in steps {
+        if !submits(alloc, device, *step)? || !ends_well(device) {
+            return Ok(false);
+        }
+    }
+    Ok(true)
+}
+
+// All bytes of a device on which nothing is in flight.
+fn contents(alloc: Global, device: &mut SyncFile) -> Result<Vec<u8>, Failed> {
+    let mut bytes = Vec::new(alloc);
+    let units = device.units();
+    if device.in_flight() == 0 {
+        device.read(0, units, &mut bytes)?;
+    }
     Ok(bytes)
 }
 
-// Whether the bytes are runs of these lengths and bytes, one behind the other.
-fn are_runs(bytes: &[u8], runs: &[(usize, u8)]) -> bool {
-    let mut left = bytes;
-    for (length, byte) in runs {
-        let Some((run, rest)) = left.split_at_checked(*length) else {
-            return false;
-        };
-        if !run.iter().all(|b| b == byte) {
-            return false;
-        }
-        left = rest;
-    }
-    left.is_empty()
+// All bytes of a file that is opened, or made of so many units.
+fn bytes_of(
+    rt: &(impl AllocGlobal + Files<File = File>),
+    path: &str,
+    make: Option<u16>,
+) -> Result<Vec<u8>, Failed> {
+    let make = match make {
+        Some(units) => Some(u32::from(units)),
+        None => None,
+    };
+    contents(rt.alloc(), &mut SyncFile::open(rt, rt.alloc(), path, make)?)
 }
 
+// Whether the bytes are these runs, one behind the other.
+fn are_runs(bytes: &[u8], runs: &[(usize, u8)]) -> bool {
+    let mut left = bytes.iter();
+    for (length, byte) in runs {
+        for _ in 0..*length {
+            if left.next() != Some(byte) {
+                return false;
+            }
+        }
+    }
+    left.next().is_none()
+}
+
+// A flush with nothing to flush ends as each other one does.
 #[test]
 fn what_is_written_is_there_again(rt: HostRuntime) -> Result<(), Fail> {
+    let steps = [
+        Step::Flush,
+        Step::Flush,
+        Step::Write(1, 7),
+        Step::Flush,
+        Step::Write(3, 8),
+        Step::Flush,
+        Step::Flush,
+    ];
     let mut device = SyncFile::open(&rt, rt.alloc(), "written", Some(4))?;
-    write_and_flush(&rt, &mut device, 1, 7, [0, 1])?;
-    write_and_flush(&rt, &mut device, 3, 8, [4, 5])?;
-    let runs = [(4096usize, 0u8), (4096, 7), (4096, 0), (4096, 8)];
-    assert!(rt; are_runs(&contents(&rt, &mut device, 4)?, &runs));
+    assert!(rt; end_well(rt.alloc(), &mut device, &steps)?);
     drop(device);
-    let mut again = SyncFile::open(&rt, rt.alloc(), "written", None)?;
-    assert!(rt; are_runs(&contents(&rt, &mut again, 4)?, &runs));
+    let runs = [(4096, 0), (4096, 7), (4096, 0), (4096, 8)];
+    assert!(rt; are_runs(&bytes_of(&rt, "written", None)?, &runs));
     fs::remove_file(&rt, "written")?;
     Ok(())
 }
 
-// Submits a flush and reaps it.
-fn flush(rt: &(impl Abort + AllocGlobal), device: &mut SyncFile, place: u64) -> Result<(), Fail> {
-    assert!(rt; device.in_flight() < device.depth());
-    let flush = device.submit_flush()?;
-    assert_eq!(rt; flush.place, place);
-    let done = device.reap().ok_or("nothing is done")?;
-    assert_eq!(rt; done.ticket.place, place);
-    assert!(rt; done.ok);
-    Ok(())
-}
-
-// It ends as each other flush does.
-#[test]
-fn a_flush_with_nothing_to_flush(rt: HostRuntime) -> Result<(), Fail> {
-    let mut device = SyncFile::open(&rt, rt.alloc(), "flushed", Some(2))?;
-    flush(&rt, &mut device, 0)?;
-    flush(&rt, &mut device, 2)?;
-    write_and_flush(&rt, &mut device, 1, 7, [4, 5])?;
-    flush(&rt, &mut device, 8)?;
-    fs::remove_file(&rt, "flushed")?;
-    Ok(())
-}
-
-// A device is locked while it is open: another opening is a fault, and doesn't cut it.
-#[test]
-fn a_second_opening_is_a_fault(rt: HostRuntime) -> Result<(), Fail> {
-    let first = SyncFile::open(&rt, rt.alloc(), "locked", Some(2))?;
-    for make in [None, Some(1)] {
-        let second = SyncFile::open(&rt, rt.alloc(), "locked", make);
-        assert_eq!(rt; second.err(), Some(Failed::Fault));
-    }
-    assert_eq!(rt; fs::metadata(&rt, "locked")?.len(), 8192);
-    drop(first);
-    let after = SyncFile::open(&rt, rt.alloc(), "locked", Some(1))?;
-    assert_eq!(rt; after.units(), 1);
-    fs::remove_file(&rt, "locked")?;
-    Ok(())
-}
-
-// Opens the file and looks at all its bytes.
-fn opens_as(
-    rt: &(impl Abort + AllocGlobal + Files<File = File>),
-    make: Option<u32>,
-    units: u32,
-    runs: &[(usize, u8)],
-) -> Result<(), Fail>
-    requires { IfSome make (λ n. n ≤ 1048576) }
-{
-    let mut device = SyncFile::open(rt, rt.alloc(), "kept", make)?;
-    assert!(rt;
-        are_runs(&contents(rt, &mut device, units)?, runs),
-        "{units} units"
-    );
-    Ok(())
-}
-
 // A file of one unit and a part of one, as it is, made longer, and made shorter.
+static KEPT: [(Option<u16>, &[(usize, u8)]); 3] = [
+    (None, &[(4096, 9)]),
+    (Some(3), &[(5000, 9), (7288, 0)]),
+    (Some(1), &[(4096, 9)]),
+];
+
 #[test]
 fn make_keeps_what_fits(rt: HostRuntime) -> Result<(), Fail> {
     fs::write(&rt, "kept", vec![in rt.alloc(); 9u8; 5000]?)?;
-    opens_as(&rt, None, 1, &[(4096, 9)])?;
-    opens_as(&rt, Some(3), 3, &[(5000, 9), (7288, 0)])?;
-    opens_as(&rt, Some(1), 1, &[(4096, 9)])?;
+    for (make, runs) in &KEPT {
+        assert!(rt; are_runs(&bytes_of(&rt, "kept", *make)?, runs), "{make:?}");
+    }
     fs::remove_file(&rt, "kept")?;
     Ok(())
 }
 
+// What is no file, and one that is open already: it is locked while it is open, and another opening doesn't cut it.
 #[test]
-fn what_is_no_file_is_a_fault(rt: HostRuntime) {
+fn faults_of_openings(rt: HostRuntime) -> Result<(), Fail> {
+    let first = SyncFile::open(&rt, rt.alloc(), "locked", Some(2))?;
     for (path, make) in [
+        ("locked", None),
+        ("locked", Some(1)),
         (".", None),
         (".", Some(1)),
         ("absent", None),
@@ -154,9 +137,13 @@ fn what_is_no_file_is_a_fault(rt: HostRuntime) {
         ("/dev/null", None),
         ("/dev/zero", Some(1)),
     ] {
-        let opened = SyncFile::open(&rt, rt.alloc(), path, make);
+        let opened = bytes_of(&rt, path, make);
         assert_eq!(rt; opened.err(), Some(Failed::Fault), "{path}");
     }
+    drop(first);
+    assert_eq!(rt; bytes_of(&rt, "locked", None)?.len(), 8192);
+    fs::remove_file(&rt, "locked")?;
+    Ok(())
 }
 
 // A file that was cut since it was opened has fewer bytes than its units.
@@ -164,9 +151,8 @@ fn what_is_no_file_is_a_fault(rt: HostRuntime) {
 fn a_read_past_the_end_is_a_fault(rt: HostRuntime) -> Result<(), Fail> {
     let mut device = SyncFile::open(&rt, rt.alloc(), "cut", Some(2))?;
     fs::write(&rt, "cut", "short")?;
-    let mut bytes = vec![in rt.alloc(); 1u8; 3]?;
-    assert_eq!(rt; device.read(0, 2, &mut bytes), Err(Failed::Fault));
-    assert!(rt; bytes.is_empty());
+    let read = contents(rt.alloc(), &mut device);
+    assert_eq!(rt; read.err(), Some(Failed::Fault));
     fs::remove_file(&rt, "cut")?;
     Ok(())
 }

@@ -9,8 +9,6 @@ mod blob_map_tests;
 #[cfg(test)]
 mod object_reader_tests;
 #[cfg(test)]
-mod onode_state_tests;
-#[cfg(test)]
 mod row_check_tests;
 #[cfg(test)]
 mod rows;

@@ -1,17 +1,23 @@
 //! Rows that are spelled by hand.
-ghost use Rattle.std.specs.Prelude.{◌≡◌, ◌≤◌, IfOk, OnOk};
+ghost use Rattle.std.specs.Prelude.{◌≡◌, ◌≤◌};
 ghost use Rattle.meta_log.specs.Slots.{IsSuper};
-ghost use Rattle.onode_state.specs.Objects.{AreRowsOfAStore};
 
 use byte_maps::Bytes;
 use meta_log::Super;
 use meta_rows::{RowOp, RowTable};
-use row_check::find_bad_row;
 use std::alloc::{AllocError, Global};
-use std::test::Fail;
 
 /// A key and a value.
 pub type Entry = (&'static [u8], &'static [u8]);
+
+/// The collection `1.0_head`.
+pub const COLL: Entry = (b"C1.0_head", b"");
+
+/// The key of the onode of its object `a`.
+pub const ONODE_A: &[u8] = b"O1.0_head\0a\0o";
+
+/// The key of the shard of `a` that begins at page 0.
+pub const SHARD_A0: &[u8] = b"O1.0_head\0a\0o\0\0\0\0x";
 
 /// The superblock of a store whose data units are those from 18 on.
 pub fn superblock(units: u32) -> Super
@@ -43,25 +49,5 @@ pub fn table_of(alloc: Global, entries: &[Entry]) -> Result<RowTable, AllocError
     }
     let mut rows = RowTable::new(alloc);
     rows.apply_all(alloc, ops)?;
-    Ok(rows)
-}
-
-/// That no row is bad for a store of 800 units.
-pub fn find_good(alloc: Global, rows: &RowTable) -> Result<(), Fail>
-    ensures { OnOk result (AreRowsOfAStore rows.now.rows) }
-{
-    let sup = superblock(800);
-    match find_bad_row(alloc, &sup, rows)? {
-        Some(_) => Err("a bad row".into()),
-        None => Ok(()),
-    }
-}
-
-/// The rows with these keys and values, of which none is bad for such a store.
-pub fn good_rows(alloc: Global, entries: &[Entry]) -> Result<RowTable, Fail>
-    ensures { IfOk result (λ rows. AreRowsOfAStore rows.rows) }
-{
-    let rows = table_of(alloc, entries)?;
-    find_good(alloc, &rows)?;
     Ok(rows)
 }

@@ -56,7 +56,7 @@ fn read(alloc: Global, device: &mut MemoryDevice, at: u32) -> Option<u64> {
     }
     let mut into = Vec::new(alloc);
     let _ = device.read(at, 1, &mut into);
-    into.first().map(|byte| u64::from(*byte))
+    Some(u64::from(*into.first()?))
 }
 
 // What comes of a call, and whether it ended well: the place of a ticket, or the first byte that was read.
@@ -95,10 +95,23 @@ fn image(device: &MemoryDevice, cut: u64, tear: Tear) -> Result<[u8; 4], AllocEr
     if cut > device.events() {
         return Ok([0; 4]);
     }
-    let image = device.image(cut, tear)?;
-    let byte = |k: usize| image.get(4096 * k).copied().unwrap_or(0);
-    Ok([byte(0), byte(1), byte(2), byte(3)])
+    let mut firsts = [0; 4];
+    for (unit, byte) in device.image(cut, tear)?.chunks(4096).zip(&mut firsts) {
+        *byte = unit.first().copied().unwrap_or(0);
+    }
+    Ok(firsts)
 }
+
+// How many events come before a crash, how it tears units, and what they begin with.
+static IMAGES: [(u64, Tear, [u8; 4]); 7] = [
+    (3, Tear::Old, [1; 4]),
+    (4, Tear::Old, [0x10, 0x10, 0x10, 1]),
+    (6, Tear::Old, [0x10, 0x10, 0x10, 1]),
+    (6, Tear::New, [0x10, 0x20, 0x20, 0x20]),
+    (6, Tear::First, [0x10, 0x20, 0x10, 1]),
+    (6, Tear::Odd, [0x10, 0x10, 0x20, 1]),
+    (6, Tear::Noise, [0x10, 0xA5, 0xA5, 0xA5]),
+];
 
 // Units 0 to 2 are written and flushed, then units 1 to 3 are written and not flushed.
 #[test]
@@ -119,16 +132,8 @@ fn each_tear(rt: HostRuntime) -> Result<(), Fail> {
             ],
         )?
     );
-    for (cut, tear, want) in [
-        (3, Tear::Old, [1; 4]),
-        (4, Tear::Old, [0x10, 0x10, 0x10, 1]),
-        (6, Tear::Old, [0x10, 0x10, 0x10, 1]),
-        (6, Tear::New, [0x10, 0x20, 0x20, 0x20]),
-        (6, Tear::First, [0x10, 0x20, 0x10, 1]),
-        (6, Tear::Odd, [0x10, 0x10, 0x20, 1]),
-        (6, Tear::Noise, [0x10, 0xA5, 0xA5, 0xA5]),
-    ] {
-        assert_eq!(rt; image(&device, cut, tear)?, want, "{cut} {tear:?}");
+    for (cut, tear, want) in &IMAGES {
+        assert_eq!(rt; image(&device, *cut, *tear)?, *want, "{cut} {tear:?}");
     }
     Ok(())
 }

@@ -1,4 +1,4 @@
-//! Each end in memory: where it gives or takes something, and where it fails.
+//! Each end in memory: where it gives or takes something, and where it fails. Scripts of a bay are cases of the program `store_cases`.
 ghost use Rattle.std.specs.Prelude.{IsTrue};
 ghost use Rattle.end_points.specs.Bay.{IsFewUnits};
 
@@ -58,7 +58,7 @@ fn a_sink(rt: HostRuntime) -> Result<(), Fail> {
     Ok(())
 }
 
-// A bay with a device of two units under "d" and the text "t" under "s", whose second call for a device fails.
+// A bay with a device of two units under "d", whose second call for a device fails.
 fn bay(alloc: Global) -> Result<MemoryBay, AllocError> {
     let plan = BayPlan {
         lags: Vec::new(alloc),
@@ -68,7 +68,6 @@ fn bay(alloc: Global) -> Result<MemoryBay, AllocError> {
         fails: vec![in alloc; (Call::Device, 1)]?,
     };
     let mut bay = MemoryBay::new(alloc, plan);
-    bay.put_text("s", Vec::from_slice(alloc, b"t")?)?;
     bay.put_device("d", vec![in alloc; 7u8; 8192]?)?;
     Ok(bay)
 }
@@ -94,37 +93,20 @@ fn units(bay: &mut MemoryBay, name: &str, how: How) -> Result<Option<u32>, Alloc
     }
 }
 
+static DEVICES: [(&str, How, Option<u32>); 6] = [
+    ("d", How::Plain, Some(2)),
+    ("d", How::Plain, None),
+    ("d", How::Queued, Some(2)),
+    ("e", How::Plain, None),
+    ("e", How::Make(3), Some(3)),
+    ("d", How::Make(1), Some(1)),
+];
+
 #[test]
 fn devices_of_a_bay(rt: HostRuntime) -> Result<(), Fail> {
     let mut bay = bay(rt.alloc())?;
-    for (name, how, wanted) in [
-        ("d", How::Plain, Some(2)),
-        ("d", How::Plain, None),
-        ("d", How::Queued, Some(2)),
-        ("e", How::Plain, None),
-        ("e", How::Make(3), Some(3)),
-        ("d", How::Make(1), Some(1)),
-    ] {
-        assert_eq!(rt; units(&mut bay, name, how)?, wanted, "{name} {how:?}");
-    }
-    Ok(())
-}
-
-// The front of the text under a name, or None at a fault.
-fn script(alloc: Global, bay: &mut MemoryBay, name: &str) -> Result<Option<Vec<u8>>, AllocError> {
-    match bay.script(name) {
-        Ok(mut source) => read(alloc, &mut source, 9),
-        Err(Failed::Fault) => Ok(None),
-        Err(Failed::Memory) => Err(AllocError),
-    }
-}
-
-#[test]
-fn scripts_of_a_bay(rt: HostRuntime) -> Result<(), Fail> {
-    let alloc = rt.alloc();
-    let mut bay = bay(alloc)?;
-    for (name, wanted) in [("s", Some(b"t".as_slice())), ("d", None)] {
-        assert_eq!(rt; script(alloc, &mut bay, name)?.as_deref(), wanted, "{name}");
+    for (name, how, wanted) in &DEVICES {
+        assert_eq!(rt; units(&mut bay, name, *how)?, *wanted, "{name} {how:?}");
     }
     Ok(())
 }

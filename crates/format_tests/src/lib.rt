@@ -17,11 +17,7 @@ mod meta_rows_tests;
 #[cfg(test)]
 mod meta_store_tests;
 #[cfg(test)]
-mod number_map_tests;
-#[cfg(test)]
 mod onode_codec_tests;
-#[cfg(test)]
-mod plain_store_tests;
 #[cfg(test)]
 mod script_text_tests;
 #[cfg(test)]

@@ -1,8 +1,8 @@
-//! Free units that are taken, given back and held.
+//! Free units that are taken and held, few of them and many.
 
 use std::alloc::{AllocError, Global};
 use std::test::*;
-use unit_allocator::{Allocator, Run, TakeFail};
+use unit_allocator::{Allocator, Run};
 use unit_fields::{UnitNo, UnitSet};
 
 // The units 18, 20, 21 and 30 are free, as in a store of 31 units whose first 18 are its own.
@@ -14,123 +14,29 @@ fn few(alloc: Global) -> Result<Allocator, AllocError> {
     Allocator::new(alloc, UnitNo::new(18), UnitNo::new(31), &busy)
 }
 
-// A change of an allocator.
-#[derive(Clone, Copy)]
-enum Step<'a> {
-    // Takes so many units, which are these runs: their first units and their counts.
-    Take(u32, &'a [(u32, u32)]),
-    Give(u32),
-    Hold(u32),
-    LetGo(u32),
+// A run by its first unit and its count.
+fn run(first: u32, count: u32) -> Run {
+    let first = UnitNo::new(first);
+    Run { first, count }
 }
 
-fn are_runs(runs: &[Run], wanted: &[(u32, u32)]) -> bool {
-    if runs.len() != wanted.len() {
-        return false;
-    }
-    for (run, (first, count)) in runs.iter().zip(wanted) {
-        if run.first.number() != *first || run.count != *count {
-            return false;
-        }
-    }
-    true
+// The runs are as long as they get.
+#[test]
+fn lowest_first(rt: HostRuntime) -> Result<(), Fail> {
+    let mut space = few(rt.alloc())?;
+    let runs = space.take(rt.alloc(), 3)?;
+    assert_eq!(rt; runs.as_slice(), [run(18, 1), run(20, 2)].as_slice());
+    Ok(())
 }
 
-fn take(alloc: Global, space: &mut Allocator, n: u32) -> Result<Vec<Run>, TakeFail> {
-    space.take(alloc, n)
-}
-
-fn takes(
-    alloc: Global,
-    space: &mut Allocator,
-    n: u32,
-    wanted: &[(u32, u32)],
-) -> Result<bool, Fail> {
-    let runs = take(alloc, space, n)?;
-    Ok(are_runs(&runs, wanted))
-}
-
-// Gives a unit back, if it may be given.
-fn gives(space: &mut Allocator, unit: u32) -> bool {
-    let first = UnitNo::new(unit);
-    if unit == u32::MAX || !space.contains(first) || space.is_free(first) {
-        return false;
-    }
-    space.give(Run { first, count: 1 });
-    true
-}
-
-fn holds(space: &mut Allocator, unit: u32) -> bool {
-    let unit = UnitNo::new(unit);
+fn is_held(space: &mut Allocator, unit: UnitNo) -> bool {
     space.contains(unit) && space.hold(unit).is_ok()
 }
 
-fn lets_go(space: &mut Allocator, unit: u32) -> bool {
-    let unit = UnitNo::new(unit);
-    if !space.contains(unit) || space.holds(unit) == 0 {
-        return false;
-    }
-    space.unhold(unit);
-    true
-}
-
-// Whether the change is made.
-fn makes(alloc: Global, space: &mut Allocator, step: Step) -> Result<bool, Fail> {
-    match step {
-        Step::Take(n, wanted) => takes(alloc, space, n, wanted),
-        Step::Give(unit) => Ok(gives(space, unit)),
-        Step::Hold(unit) => Ok(holds(space, unit)),
-        Step::LetGo(unit) => Ok(lets_go(space, unit)),
-    }
-}
-
 #[test]
-fn lowest_first(rt: HostRuntime) -> Result<(), Fail> {
-    let alloc = rt.alloc();
-    let mut space = few(alloc)?;
-    for (step, free) in [
-        (Step::Take(3, &[(18, 1), (20, 2)]), 1),
-        (Step::Take(0, &[]), 1),
-        (Step::Give(20), 2),
-        (Step::Give(19), 3),
-        (Step::Take(3, &[(19, 2), (30, 1)]), 0),
-    ] {
-        assert!(rt; makes(alloc, &mut space, step)?);
-        assert_eq!(rt; space.free_count(), free);
-    }
-    Ok(())
-}
-
-#[test]
-fn given_while_held(rt: HostRuntime) -> Result<(), Fail> {
-    let alloc = rt.alloc();
-    let mut space = few(alloc)?;
-    for (step, free) in [
-        (Step::Hold(20), 3),
-        (Step::Hold(20), 3),
-        (Step::Take(2, &[(18, 1), (21, 1)]), 1),
-        (Step::Hold(18), 1),
-        (Step::Give(18), 1),
-        (Step::LetGo(20), 1),
-        (Step::LetGo(20), 2),
-        (Step::LetGo(18), 3),
-        (Step::Take(3, &[(18, 1), (20, 1), (30, 1)]), 0),
-    ] {
-        assert!(rt; makes(alloc, &mut space, step)?);
-        assert_eq!(rt; space.free_count(), free);
-    }
-    Ok(())
-}
-
-#[test]
-fn no_space(rt: HostRuntime) -> Result<(), Fail> {
-    let alloc = rt.alloc();
-    let mut space = few(alloc)?;
-    let wanted = [UnitNo::new(18), UnitNo::new(20), UnitNo::new(21)];
-    assert_eq!(rt; space.lowest_units(alloc, 3)?.as_slice(), wanted.as_slice());
-    let fail = TakeFail::NoSpace { need: 5, free: 4 };
-    assert_eq!(rt; space.lowest_units(alloc, 5).err().as_ref(), Some(&fail));
-    assert_eq!(rt; take(alloc, &mut space, 5).err().as_ref(), Some(&fail));
+fn a_hold(rt: HostRuntime) -> Result<(), Fail> {
+    let mut space = few(rt.alloc())?;
+    assert!(rt; is_held(&mut space, UnitNo::new(20)));
     Ok(())
 }
 
@@ -143,35 +49,43 @@ fn largest(alloc: Global) -> Result<Allocator, AllocError> {
     Allocator::new(alloc, UnitNo::new(18), UnitNo::new(1_048_576), &busy)
 }
 
+// Gives a unit back, if it may be given.
+fn give(space: &mut Allocator, unit: u32) {
+    let first = UnitNo::new(unit);
+    if unit < u32::MAX && space.contains(first) && !space.is_free(first) {
+        space.give(Run { first, count: 1 });
+    }
+}
+
 // Gives each unit of a run back.
-fn gives_run(space: &mut Allocator, run: &Run) -> bool {
+fn give_run(space: &mut Allocator, run: &Run) {
     let first = run.first.number();
     for unit in first..first.saturating_add(run.count) {
-        if !gives(space, unit) {
-            return false;
-        }
+        give(space, unit);
     }
-    true
 }
 
 // Gives the runs at even places back.
-fn gives_every_other(space: &mut Allocator, runs: &[Run]) -> bool {
+fn give_every_other(space: &mut Allocator, runs: &[Run]) {
     for (place, run) in runs.iter().enumerate() {
-        if place % 2 == 0 && !gives_run(space, run) {
-            return false;
+        if place % 2 == 0 {
+            give_run(space, run);
         }
     }
-    true
+}
+
+// How many units are free and how many runs are taken then, once 100,000 units were taken, every other run was given back, and 50,005
+// units more were taken.
+fn after_a_million(alloc: Global) -> Result<(u32, usize), Fail> {
+    let mut space = largest(alloc)?;
+    let runs = space.take(alloc, 100_000)?;
+    give_every_other(&mut space, &runs);
+    let free = space.free_count();
+    Ok((free, space.take(alloc, 50_005)?.len()))
 }
 
 #[test]
 fn a_million_units(rt: HostRuntime) -> Result<(), Fail> {
-    let alloc = rt.alloc();
-    let mut space = largest(alloc)?;
-    let runs = take(alloc, &mut space, 100_000)?;
-    assert_eq!(rt; runs.len(), 1011);
-    assert!(rt; gives_every_other(&mut space, &runs));
-    assert_eq!(rt; space.free_count(), 988_078);
-    assert_eq!(rt; take(alloc, &mut space, 50_005)?.len(), 506);
+    assert_eq!(rt; after_a_million(rt.alloc())?, (988_078, 506));
     Ok(())
 }

@@ -1,4 +1,4 @@
-/* The peers of crates/crc_bench: CRC-32C by sixteen tables, sixteen bytes a step (`tables`), and by the processor's own
+/* The peers of crates/bench_parts: CRC-32C by sixteen tables, sixteen bytes a step (`tables`), and by the processor's own
    instruction, eight bytes a step (`instruction`). Takes the same two numbers, bytes a round and rounds, and the peer's
    name, and prints nanoseconds and the rounds' checksums together. */
 #include <nmmintrin.h>

@@ -11,8 +11,8 @@ made=$(mktemp -d)
 trap 'rm -rf "$made"' EXIT
 about
 gcc -O2 -o "$made/crc32c" "$here/crc32c.c"
-(cd "$here/../crates/crc_bench" && rt run >"$made/log" 2>&1) || { tail -20 "$made/log"; exit 1; }
-ours=$here/../crates/crc_bench/out/crc_bench
+(cd "$here/../crates/bench_parts" && rt run >"$made/log" 2>&1) || { tail -20 "$made/log"; exit 1; }
+ours=$here/../crates/bench_parts/out/bench_parts
 
 best_ours=0 best_tables=0 best_instruction=0
 # Keeps the least time of a peer: least NAME NANOSECONDS
@@ -21,7 +21,7 @@ least() {
   if [ "$best" = 0 ] || [ "$2" -lt "$best" ]; then best=$2; fi
 }
 for _ in 1 2 3 4 5 6 7; do
-  read -r time sum < <("$ours" "$bytes" "$rounds")
+  read -r time sum < <("$ours" csum "$bytes" "$rounds")
   least ours "$time"
   for peer in tables instruction; do
     read -r time sum_peer < <("$made/crc32c" "$bytes" "$rounds" "$peer")

@@ -1,4 +1,4 @@
-/* The peer of crates/log_bench: memcpy of so many bytes, ten times. Prints the nanoseconds of the fastest one. */
+/* The peer of crates/bench_parts: memcpy of so many bytes, ten times. Prints the nanoseconds of the fastest one. */
 #include <stdint.h>
 #include <stdio.h>
 #include <stdlib.h>

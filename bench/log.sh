@@ -11,8 +11,8 @@ made=$(mktemp -d)
 trap 'rm -rf "$made"' EXIT
 about
 gcc -O2 -o "$made/copy" "$here/log.c"
-(cd "$here/../crates/log_bench" && rt run >"$made/log" 2>&1) || { tail -20 "$made/log"; exit 1; }
-ours=$here/../crates/log_bench/out/log_bench
+(cd "$here/../crates/bench_parts" && rt run >"$made/log" 2>&1) || { tail -20 "$made/log"; exit 1; }
+ours=$here/../crates/bench_parts/out/bench_parts
 
 # Times one call: its name, what it must say that was done, and the program's arguments.
 measure() {

@@ -1,13 +1,16 @@
-//! Times the long calls of opening a store, and rows that come one by one. `log_bench scan UNITS ROWS` reads a full half of the log,
-//! whose records have a unit each and set so many rows. `log_bench apply ROWS ORDER` applies that many sets to no rows, in one batch
-//! for which room was made; `log_bench all ROWS ORDER` the same by the call that makes its own; `log_bench grow ROWS ORDER` one by
-//! one. ORDER is `ascending`, `falling` or `scrambled`. Each prints the nanoseconds that the call took, the records that were found
-//! or whether the last row is there, and the bytes that went in; `grow` the nanoseconds of all rows, and of the last thousand. With
-//! no arguments it does nothing.
+//! Times single calls, on data that it makes. With no arguments it does nothing.
+//!
+//! - `csum BYTES ROUNDS` makes the checksum of so many bytes, so often. It prints nanoseconds, and the checksums in one number.
+//! - `scan UNITS ROWS` reads a full half of the log, whose records have a unit each and set so many rows. It prints nanoseconds, the
+//!   records that were found, and the bytes that went in.
+//! - `apply ROWS ORDER` applies that many sets to no rows, in one batch for which room was made, and `all ROWS ORDER` the same by the
+//!   call that makes its own; ORDER is `ascending`, `falling` or `scrambled`. They print nanoseconds, whether the last row is there, and
+//!   the bytes that went in.
+//! - `grow ROWS ORDER` applies them one by one, and prints the nanoseconds of all rows, and of the last thousand.
 #![tactic(auto)]
 
 use byte_maps::Bytes;
-use crc32c_csum::Digest;
+use crc32c_csum::{Digest, crc32c};
 use meta_log::scan;
 use meta_rows::{RowOp, RowTable};
 use std::alloc::{AllocError, Global};
@@ -63,7 +66,7 @@ fn number(word: Option<String>) -> Option<u32> {
 // A key; keys are in the order of their numbers.
 fn key(alloc: Global, number: u64) -> Result<Vec<u8>, AllocError> {
     let mut key = Vec::with_capacity(alloc, KEY_BYTES)?;
-    key.extend_from_slice(b"Olog_bench_row__")?;
+    key.extend_from_slice(b"Obench_parts_row")?;
     key.extend_from_slice(&number.to_be_bytes())?;
     Ok(key)
 }
@@ -117,6 +120,35 @@ fn sets(alloc: Global, rows: u32, order: Order) -> Result<Vec<RowOp>, AllocError
         ops.push(RowOp::Set { key, value })?;
     }
     Ok(ops)
+}
+
+// Some bytes, none like its neighbour.
+fn pattern(alloc: Global, length: u32) -> Result<Vec<u8>, AllocError> {
+    let mut bytes = vec![in alloc; 0u8; length as usize]?;
+    for (i, byte) in bytes.iter_mut().enumerate() {
+        *byte = (i % 251) as u8;
+    }
+    Ok(bytes)
+}
+
+// The checksums of the rounds in one number. Each round changes the first byte, so that no round can be left out.
+fn csums(bytes: &mut [u8], rounds: u32) -> u32 {
+    let mut all = 0u32;
+    for round in 0..rounds {
+        if let Some(first) = bytes.first_mut() {
+            *first = (round % 256) as u8;
+        }
+        all = all.rotate_left(1) ^ crc32c(bytes);
+    }
+    all
+}
+
+fn time_csum(rt: HostRuntime, length: u32, rounds: u32) -> io::Result<()> {
+    let mut bytes = pattern(rt.alloc(), length)?;
+    let start = Instant::now(&rt)?;
+    let all = csums(&mut bytes, rounds);
+    let taken = start.elapsed(&rt)?;
+    println!(rt; "{} {all:08x}", taken.as_nanos())
 }
 
 fn time_scan(rt: HostRuntime, units: u32, rows: u32) -> io::Result<()> {
@@ -182,6 +214,7 @@ fn main(rt: HostRuntime) -> io::Result<()> {
     };
     let how = words.next();
     match what.as_str() {
+        "csum" => time_csum(rt, count, number(how).unwrap_or(1)),
         "scan" => time_scan(rt, count, number(how).unwrap_or(1)),
         "apply" => time_apply(rt, count, order_of(how)),
         "all" => time_all(rt, count, order_of(how)),

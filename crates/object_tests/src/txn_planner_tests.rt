@@ -4,7 +4,7 @@ ghost use Rattle.onode_state.specs.Objects.{AreRowsOfAStore};
 ghost use Rattle.store_steps.specs.Submit.{IsKnown};
 
 use crate::rows::{COLL, Entry, ONODE_A, SHARD_A0, superblock, table_of};
-use byte_maps::Bytes;
+use bytes::Bytes;
 use meta_rows::RowTable;
 use object_model::{Op, Refusal, Transaction};
 use row_check::find_bad_row;
@@ -57,7 +57,7 @@ fn op_of(alloc: Global, change: Change, object: Name) -> Result<Op, AllocError> 
         Change::Write(first, pages) => Op::Write {
             object,
             off: first.saturating_mul(4096),
-            bytes: Bytes::from_vec(vec![in alloc; 7u8; pages.saturating_mul(4096)]?),
+            bytes: Bytes::from_vec(vec![in alloc; 7u8; pages.saturating_mul(4096)]?)?,
         },
     })
 }

@@ -1,7 +1,7 @@
 //! Reads of an object over a device in memory: in as few reads of the device as it takes, and with one that fails. The store has 200
 //! units, with data units from 18 on; each holds its own number in every byte. Refusals, names, walks and changed bytes are cases of
 //! the program `store_cases`.
-ghost use Rattle.std.specs.Prelude.{◌≡◌, IfOk, IsTrue};
+ghost use Rattle.std.specs.Prelude.{IfOk, IsTrue};
 ghost use Rattle.block_device.specs.Memory.{disk_of};
 ghost use Rattle.read_facts.specs.Answers.{IsKnownRead};
 ghost use Rattle.object_reader.specs.Readable.{IsReadable};
@@ -125,18 +125,13 @@ fn told(answered: &Result<Answer, ReadFail>) -> Told {
 }
 
 // What is answered where the rows and the device can be read.
-fn answered(
-    alloc: Global,
-    device: &mut MemoryDevice,
-    rows: &RowTable,
-    command: &Command,
-) -> Result<Told, AllocError>
+fn answered(alloc: Global, device: &mut MemoryDevice, rows: &RowTable, command: &Command) -> Told
     requires { IsKnownRead command.now }
 {
     if !is_readable(alloc, device, rows)? {
-        return Ok(Ok(None));
+        return Ok(None);
     }
-    Ok(told(&answer(alloc, device, rows, command)))
+    told(&answer(alloc, device, rows, command))
 }
 
 // Pages 0, 2 and 3 of an object that ends in page 3.
@@ -174,7 +169,7 @@ fn told_of(alloc: Global, case: &Case) -> Result<Told, Fail> {
     let command = command(alloc, *asked)?;
     let rows = rows_of(alloc, object)?;
     let mut device = device(alloc, *fails)?;
-    Ok(answered(alloc, &mut device, &rows, &command)?)
+    Ok(answered(alloc, &mut device, &rows, &command))
 }
 
 #[test]

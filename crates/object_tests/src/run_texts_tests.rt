@@ -5,7 +5,7 @@ use byte_maps::Bytes;
 use end_points::MemorySink;
 use object_model::{Answer, Book, Command, Entry};
 use run_texts::{Status, WorkEnd, report_step};
-use std::alloc::{AllocError, Global};
+use std::alloc::Global;
 use std::test::Fail;
 use unit_fields::{CollName, Name};
 

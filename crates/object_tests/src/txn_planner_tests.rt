@@ -1,5 +1,5 @@
 //! Plans over rows that are spelled by hand. The store's data units are 18 to 799.
-ghost use Rattle.std.specs.Prelude.{IsTrue, IfOk, IfSome};
+ghost use Rattle.std.specs.Prelude.{IsTrue, IfOk};
 ghost use Rattle.onode_state.specs.Objects.{AreRowsOfAStore};
 ghost use Rattle.store_steps.specs.Submit.{IsKnown};
 

@@ -1,7 +1,7 @@
 //! The calls of the next run that fail.
 
 use crate::CaseError;
-use crate::words::{Words, look_up};
+use crate::words::{Words, look_up, number};
 use block_device::Kind;
 use end_points::Call;
 use std::alloc::{AllocError, Global};
@@ -35,6 +35,12 @@ static FAILING: [(&str, Failing); 7] = [
     ("sink", Failing::Sink),
 ];
 
+/// Adds an item to a list.
+fn add<T: Drop>(all: &mut Vec<T>, item: T) -> Result<(), AllocError> {
+    all.push(item)?;
+    Ok(())
+}
+
 impl Fails {
     /// No call fails.
     pub fn new(alloc: Global) -> Fails {
@@ -48,28 +54,25 @@ impl Fails {
 
     /// Has this read of a device fail.
     pub fn fail_read(&mut self, at: u64) -> Result<(), AllocError> {
-        self.device.push((Kind::Read, at))?;
-        Ok(())
+        add(&mut self.device, (Kind::Read, at))
     }
 
     fn fail(&mut self, what: Failing, at: u64) -> Result<(), AllocError> {
         match what {
-            Failing::Device(kind) => self.device.push((kind, at))?,
-            Failing::Bay(call) => self.bay.push((call, at))?,
-            Failing::Source => self.source.push(at)?,
-            Failing::Sink => self.sink.push(at)?,
+            Failing::Device(kind) => add(&mut self.device, (kind, at)),
+            Failing::Bay(call) => add(&mut self.bay, (call, at)),
+            Failing::Source => add(&mut self.source, at),
+            Failing::Sink => add(&mut self.sink, at),
         }
-        Ok(())
     }
 
     /// Follows the words WHAT and NUMBER: that call fails. WHAT is `read`, `write` or `flush` of a device, `device` or `script` of
     /// the bay, a read of a `source`, or a write of the `sink`.
-    pub fn follow(&mut self, mut words: Words<'_>) -> Result<(), CaseError> {
-        let Some(what) = look_up(&FAILING, words.next()?) else {
-            return Err(CaseError::Line("no such call"));
-        };
-        let at = words.number()?;
-        words.end()?;
-        Ok(self.fail(what, at)?)
+    pub fn follow(&mut self, words: Words<'_>) -> Result<(), CaseError> {
+        let (what, at) = words.last_two()?;
+        match look_up(&FAILING, what) {
+            Some(what) => Ok(self.fail(what, number(at)?)?),
+            None => Err(CaseError::Line("no such call")),
+        }
     }
 }

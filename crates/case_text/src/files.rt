@@ -1,9 +1,7 @@
 //! The files of cases that a program is given.
 
-use crate::CaseError;
+use crate::{CaseError, Text};
 use std::alloc::Global;
-use std::env::{self, Env};
-use std::fmt::Write;
 use std::rt::Files;
 use std::{fs, io};
 
@@ -12,54 +10,38 @@ pub trait Follow: Drop {
     /// A case with nothing set up.
     fn begin(alloc: Global) -> Result<Self, CaseError>;
 
-    /// Follows a line, and adds what it shows to the text.
-    fn follow(&mut self, line: &str, out: &mut String) -> Result<(), CaseError>;
+    /// Follows a line, and prints what it shows.
+    fn follow(&mut self, line: &str, out: &mut Text) -> Result<(), CaseError>;
 }
 
-/// Shows what is wrong with a line that can't be followed.
-fn show_wrong(
-    followed: Result<(), CaseError>,
-    line: &str,
-    out: &mut String,
-) -> Result<(), CaseError> {
-    match followed {
-        Ok(()) => Ok(()),
-        Err(CaseError::OutOfMemory) => Err(CaseError::OutOfMemory),
-        Err(CaseError::Line(why)) => Ok(writeln!(out, "{why}: {line}")?),
-    }
-}
-
-/// What the cases of a text come to. A line `case WORDS` begins one, with nothing set up.
-fn cases<F: Follow>(alloc: Global, text: &str) -> Result<String, CaseError> {
-    let mut out = String::new(alloc);
+/// Prints what the cases of a text come to. A line `case WORDS` begins one, with nothing set up; a line that can't be followed is
+/// printed with what is wrong with it.
+fn follow_all<F: Follow>(alloc: Global, text: &str, out: &mut Text) -> Result<(), CaseError> {
     let mut case = F::begin(alloc)?;
     for line in text.lines() {
         if line.starts_with("case ") {
             case = F::begin(alloc)?;
-            writeln!(out, "\n{line}")?;
-        } else {
-            let followed = case.follow(line, &mut out);
-            show_wrong(followed, line, &mut out)?;
+            out.println(format_args!("\n{line}"));
+        } else if let Err(wrong) = case.follow(line, out) {
+            out.println(format_args!("{wrong}: {line}"));
         }
     }
-    Ok(out)
+    Ok(())
 }
 
-fn run_file<F: Follow, R: Files + Print + AllocGlobal>(rt: &R, name: &str) -> io::Result<()> {
-    let text = fs::read_to_string(rt, name)?;
-    rt.println(format_args!("file {name}"))?;
+/// What the cases of a text come to.
+fn cases<F: Follow>(alloc: Global, text: &str) -> Result<String, CaseError> {
+    let mut out = Text::new(alloc);
+    follow_all::<F>(alloc, text, &mut out)?;
+    out.finish()
+}
+
+/// Prints what the cases of the file at a path come to.
+pub fn run_file<F: Follow, R: Files + Print + AllocGlobal>(rt: &R, path: &str) -> io::Result<()> {
+    let text = fs::read_to_string(rt, path)?;
+    rt.println(format_args!("file {path}"))?;
     match cases::<F>(rt.alloc(), text.as_str()) {
         Ok(out) => rt.print(out.as_str()),
         Err(_) => Err(io::Error::from(io::ErrorKind::OutOfMemory)),
     }
-}
-
-/// Prints what the cases come to of each file that the command line names.
-pub fn run_files<F: Follow, R: Env + Files + Print + AllocGlobal>(rt: &R) -> io::Result<()> {
-    let mut words = env::args(rt)?;
-    let _program = words.next();
-    for name in words {
-        run_file::<F, R>(rt, name.as_str())?;
-    }
-    Ok(())
 }

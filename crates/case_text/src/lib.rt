@@ -12,12 +12,14 @@ mod files;
 mod named;
 mod printing;
 mod setup;
+mod text;
 mod words;
 
 pub use error::CaseError;
 pub use fails::Fails;
-pub use files::{Follow, run_files};
+pub use files::{Follow, run_file};
 pub use named::{Named, bytes_of, put};
-pub use printing::{print_bytes, print_text};
+pub use printing::{print_bytes, print_piece, print_text};
 pub use setup::Setup;
+pub use text::Text;
 pub use words::{Words, kind_of, look_up, number, small};

@@ -1,87 +1,86 @@
 //! How text and bytes are shown.
 
-use crate::CaseError;
-use std::alloc::{AllocError, Global};
-use std::fmt::Write;
+use crate::{CaseError, Text};
+use std::fmt::Display;
 
 /// Longer lines are shown with their last word as runs of equal pairs.
 const LONG: usize = 200;
 
-/// Shows digits of base 16 as runs of equal pairs, `5a*3 00*2`; a pair that stands alone has no count, and so has a digit
-/// behind the last pair.
-fn print_word(out: &mut String, word: &[u8]) -> Result<(), AllocError> {
+/// Shows so many equal pairs of digits behind a space. A pair that stands alone has no count.
+fn print_run<D: Display + Drop>(out: &mut Text, pair: D, count: u64) {
+    match count {
+        0 => {}
+        1 => out.print(format_args!(" {pair}")),
+        _ => out.print(format_args!(" {pair}*{count}")),
+    }
+}
+
+/// Shows digits of base 16 as runs of equal pairs, `5a*3 00*2`; a digit behind the last pair stands alone.
+fn print_word(out: &mut Text, word: &[u8]) {
     let mut last: &[u8] = &[];
     let mut count = 0u64;
     for pair in word.chunks(2) {
         if pair != last {
-            print_run(out, last, count)?;
+            print_run(out, str::from_utf8(last).unwrap_or("?"), count);
             count = 0;
         }
         last = pair;
         count = count.saturating_add(1);
     }
-    print_run(out, last, count)
+    print_run(out, str::from_utf8(last).unwrap_or("?"), count);
 }
 
-fn print_run(out: &mut String, pair: &[u8], count: u64) -> Result<(), AllocError> {
-    if count == 0 {
-        return Ok(());
-    }
-    out.push(' ')?;
-    for byte in pair {
-        out.push(char::from(*byte))?;
-    }
-    if count != 1 {
-        write!(out, "*{count}")?;
-    }
-    Ok(())
-}
-
-fn print_long(out: &mut String, line: &str) -> Result<(), AllocError> {
+fn print_line(out: &mut Text, line: &str) {
     match line.rsplit_once(' ') {
-        Some((front, last)) => {
-            out.push_str(front)?;
-            print_word(out, last.as_bytes())
+        Some((front, last)) if LONG < line.len() => {
+            out.print(front);
+            print_word(out, last.as_bytes());
         }
-        None => print_word(out, line.as_bytes()),
-    }
-}
-
-fn print_line(out: &mut String, line: &str) -> Result<(), AllocError> {
-    if line.len() <= LONG {
-        out.push_str(line)
-    } else {
-        print_long(out, line)
+        _ => out.print(line),
     }
 }
 
 /// Shows text that a run printed, a line each: `| ` before a line, and a last one that has no end as `> "TEXT"`.
-pub fn print_text(out: &mut String, text: &[u8]) -> Result<(), CaseError> {
-    let Ok(text) = str::from_utf8(text) else {
-        return Err(CaseError::Line("what was printed isn't text"));
-    };
+pub fn print_text(out: &mut Text, text: &[u8]) {
+    let text = str::from_utf8(text).unwrap_or("no text");
     for line in text.split_inclusive('\n') {
         match line.strip_suffix("\n") {
             Some(line) => {
-                out.push_str("| ")?;
-                print_line(out, line)?;
-                out.push('\n')?;
+                out.print("| ");
+                print_line(out, line);
+                out.print("\n");
             }
             None => {
-                out.push_str("> \"")?;
-                print_line(out, line)?;
-                out.push_str("\"\n")?;
+                out.print("> \"");
+                print_line(out, line);
+                out.print("\"\n");
             }
         }
     }
-    Ok(())
 }
 
 /// Shows bytes as runs of equal ones, each behind a space: `5a*4096 00`.
-pub fn print_bytes(alloc: Global, out: &mut String, bytes: &[u8]) -> Result<(), AllocError> {
-    let mut digits = String::new(alloc);
+pub fn print_bytes(out: &mut Text, bytes: &[u8]) {
+    let mut last = 0u8;
+    let mut count = 0u64;
     for byte in bytes {
-        write!(digits, "{byte:02x}")?;
+        if *byte != last {
+            print_run(out, format_args!("{last:02x}"), count);
+            count = 0;
+        }
+        last = *byte;
+        count = count.saturating_add(1);
     }
-    print_word(out, digits.as_bytes())
+    print_run(out, format_args!("{last:02x}"), count);
+}
+
+/// Shows so many bytes from a place on, and an end of line.
+pub fn print_piece(out: &mut Text, contents: &[u8], at: u64, count: u64) -> Result<(), CaseError> {
+    let end = at.saturating_add(count) as usize;
+    let Some(bytes) = contents.get(at as usize..end) else {
+        return Err(CaseError::Line("outside the device"));
+    };
+    print_bytes(out, bytes);
+    out.print("\n");
+    Ok(())
 }

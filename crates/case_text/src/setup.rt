@@ -1,8 +1,8 @@
 //! What a case has set up, and the lines that say it.
 
-use crate::contents::{Change, filled, lay, make_change, slot};
+use crate::contents::{Change, Slot, filled, lay, make_change, spelled_slot};
 use crate::named::{bytes_of, put};
-use crate::words::{Words, kind_of};
+use crate::words::{Words, kind_of, read_hex, small};
 use crate::{CaseError, Fails, Named};
 use std::alloc::Global;
 
@@ -144,34 +144,33 @@ impl Setup {
     }
 
     /// A device of so many units of zeros, with a slot at its front if there is one.
-    fn make_device(&mut self, name: &str, units: u32, front: &[u8]) -> Result<(), CaseError> {
-        let mut contents = filled(self.alloc, 4096 * u64::from(units), 0)?;
+    fn make_device(&mut self, name: &str, units: u64, front: &[u8]) -> Result<(), CaseError> {
+        let mut contents = filled(self.alloc, units.saturating_mul(4096), 0)?;
         lay(&mut contents, 0, front)?;
         self.put_device(name, contents)
     }
 
     fn set_device(&mut self, mut words: Words<'_>) -> Result<(), CaseError> {
         let name = words.next()?;
-        let units = words.small()?;
-        words.end()?;
+        let [units] = words.numbers::<1>()?;
         self.make_device(name, units, &[])
     }
 
     fn set_store(&mut self, mut words: Words<'_>) -> Result<(), CaseError> {
         let name = words.next()?;
-        let half = words.small()?;
-        let units = words.small()?;
-        let epoch = words.number()?;
-        words.end()?;
-        let slot = slot(self.alloc, half, units, epoch, 0)?;
-        self.make_device(name, units, &slot)
+        let [half, units, epoch] = words.numbers::<3>()?;
+        let says = Slot {
+            half,
+            units,
+            epoch,
+            first: 0,
+        };
+        self.make_device(name, units, &spelled_slot(self.alloc, &says)?)
     }
 
     fn set_copy(&mut self, mut words: Words<'_>) -> Result<(), CaseError> {
         let contents = self.contents(words.next()?)?;
-        let to = words.next()?;
-        words.end()?;
-        self.put_device(to, contents)
+        self.put_device(words.last()?, contents)
     }
 
     fn set_changed(&mut self, how: Change, mut words: Words<'_>) -> Result<(), CaseError> {
@@ -181,10 +180,8 @@ impl Setup {
         self.put_device(name, contents)
     }
 
-    fn set_script(&mut self, mut words: Words<'_>) -> Result<(), CaseError> {
-        let name = words.next()?;
-        words.end()?;
-        self.put_script(name, &[])
+    fn set_script(&mut self, words: Words<'_>) -> Result<(), CaseError> {
+        self.put_script(words.last()?, &[])
     }
 
     /// The text of the last script.
@@ -199,8 +196,7 @@ impl Setup {
     fn add_text(&mut self, text: &str, end: &str) -> Result<(), CaseError> {
         let script = self.last_script()?;
         script.extend_from_slice(text.as_bytes())?;
-        script.extend_from_slice(end.as_bytes())?;
-        Ok(())
+        Ok(script.extend_from_slice(end.as_bytes())?)
     }
 
     fn repeat(&mut self, count: u32, text: &str, end: &str) -> Result<(), CaseError> {
@@ -212,9 +208,7 @@ impl Setup {
 
     fn add_repeated(&mut self, mut words: Words<'_>) -> Result<(), CaseError> {
         let count = words.small()?;
-        let word = words.next()?;
-        words.end()?;
-        self.repeat(count, word, "")
+        self.repeat(count, words.last()?, "")
     }
 
     fn add_lines(&mut self, mut words: Words<'_>) -> Result<(), CaseError> {
@@ -222,11 +216,9 @@ impl Setup {
         self.repeat(count, words.text(), "\n")
     }
 
-    fn add_digits(&mut self, mut words: Words<'_>) -> Result<(), CaseError> {
-        let bytes = words.hex(self.alloc)?;
-        words.end()?;
-        self.last_script()?.extend_from_slice(&bytes)?;
-        Ok(())
+    fn add_digits(&mut self, words: Words<'_>) -> Result<(), CaseError> {
+        let bytes = read_hex(self.alloc, words.last()?)?;
+        Ok(self.last_script()?.extend_from_slice(&bytes)?)
     }
 
     fn set_lags(&mut self, words: Words<'_>) -> Result<(), CaseError> {
@@ -241,15 +233,14 @@ impl Setup {
         Ok(())
     }
 
-    fn set_source(&mut self, mut words: Words<'_>) -> Result<(), CaseError> {
-        self.source_step = words.small()?;
-        words.end()
+    fn set_source(&mut self, words: Words<'_>) -> Result<(), CaseError> {
+        self.source_step = small(words.last()?)?;
+        Ok(())
     }
 
     fn set_sink(&mut self, mut words: Words<'_>) -> Result<(), CaseError> {
-        let room = words.small()?;
-        self.sink_step = words.small()?;
-        self.room = room as usize;
-        words.end()
+        self.room = words.small()? as usize;
+        self.sink_step = small(words.last()?)?;
+        Ok(())
     }
 }

@@ -4,7 +4,7 @@ use crate::CaseError;
 use std::alloc::Global;
 
 /// The words of a line that aren't taken yet, with one space between two. The word `''` is the empty one.
-#[derive(Drop)]
+#[derive(Clone, Copy)]
 pub struct Words<'a> {
     rest: &'a str,
 }
@@ -33,6 +33,29 @@ impl<'a> Words<'a> {
         let (word, rest) = cut(self.rest);
         self.rest = rest;
         Ok(unquoted(word))
+    }
+
+    /// The last word.
+    pub fn last(mut self) -> Result<&'a str, CaseError> {
+        let word = self.next()?;
+        self.end()?;
+        Ok(word)
+    }
+
+    /// The last two words.
+    pub fn last_two(mut self) -> Result<(&'a str, &'a str), CaseError> {
+        let first = self.next()?;
+        Ok((first, self.last()?))
+    }
+
+    /// The words that are left, as so many numbers in decimal.
+    pub fn numbers<const N: usize>(mut self) -> Result<[u64; N], CaseError> {
+        let mut numbers = [0; N];
+        for number in numbers.iter_mut() {
+            *number = self.number()?;
+        }
+        self.end()?;
+        Ok(numbers)
     }
 
     /// An error, unless all words are taken.
@@ -92,11 +115,6 @@ impl<'a> Words<'a> {
     pub fn byte(&mut self) -> Result<u8, CaseError> {
         byte(self.next()?)
     }
-
-    /// The next word, as bytes of two digits of base 16 each; `-` is none.
-    pub fn hex(&mut self, alloc: Global) -> Result<Vec<u8>, CaseError> {
-        read_hex(alloc, self.next()?)
-    }
 }
 
 /// What a table has beside a word.
@@ -134,36 +152,39 @@ pub fn small(word: &str) -> Result<u32, CaseError> {
     }
 }
 
-fn byte(word: &str) -> Result<u8, CaseError> {
-    match word.as_bytes() {
-        [high, low] => pair(*high, *low),
-        _ => Err(CaseError::Line("no byte")),
+pub fn byte(word: &str) -> Result<u8, CaseError> {
+    match byte_of(word.as_bytes()) {
+        Some(byte) => Ok(byte),
+        None => Err(CaseError::Line("no byte")),
     }
 }
 
-fn digit(byte: u8) -> Result<u8, CaseError> {
+/// The number that a digit of base 16 is.
+fn digit(byte: u8) -> Option<u8> {
     match byte {
-        b'0'..=b'9' => Ok(byte - b'0'),
-        b'a'..=b'f' => Ok(byte - b'a' + 10),
-        _ => Err(CaseError::Line("no digit of base 16")),
+        b'0'..=b'9' => Some(byte - b'0'),
+        b'a'..=b'f' => Some(byte - b'a' + 10),
+        _ => None,
     }
 }
 
-fn pair(high: u8, low: u8) -> Result<u8, CaseError> {
-    Ok(digit(high)?.wrapping_mul(16) | digit(low)?)
+/// The byte of two digits.
+fn byte_of(digits: &[u8]) -> Option<u8> {
+    match digits {
+        [high, low] => Some(digit(*high)?.wrapping_mul(16) | digit(*low)?),
+        _ => None,
+    }
 }
 
 /// Bytes as digits of base 16, two for each; `-` is none.
 pub fn read_hex(alloc: Global, word: &str) -> Result<Vec<u8>, CaseError> {
     let mut bytes = Vec::new(alloc);
-    if word == "-" {
-        return Ok(bytes);
-    }
-    for digits in word.as_bytes().chunks(2) {
-        match digits {
-            [high, low] => bytes.push(pair(*high, *low)?)?,
-            _ => return Err(CaseError::Line("an odd number of digits")),
-        }
+    let digits = if word == "-" { "" } else { word };
+    for pair in digits.as_bytes().chunks(2) {
+        let Some(byte) = byte_of(pair) else {
+            return Err(CaseError::Line("no digits of bytes"));
+        };
+        bytes.push(byte)?;
     }
     Ok(bytes)
 }

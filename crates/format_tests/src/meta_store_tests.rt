@@ -1,4 +1,4 @@
-//! What is said where the log is full. What becomes of records and rows are cases of the program `kernel_cases`.
+//! What is said where the log is full. What becomes of records and rows are cases of the program `store_cases`.
 
 use meta_store::MetaFull;
 use std::test::*;

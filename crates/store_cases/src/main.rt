@@ -1,11 +1,63 @@
-//! Runs of commands over devices in memory, as cases in text: each argument names a file of cases, and what each case comes to
-//! is printed. What must come is in the file `stdout`, written by hand from what the commands promise.
+//! Cases in text: each argument names a file of cases, and what each case comes to is printed. The folder that a file lies in says
+//! what its cases are. What must come is in the file `stdout`, written by hand from what the commands promise.
 #![tactic(auto)]
 
-use case_runs::Case;
-use case_text::run_files;
-use std::io;
+mod crashes;
+mod kernel;
+mod names;
+mod objects;
+mod runs;
+
+use case_text::{look_up, run_file};
+use crashes::Sweep;
+use kernel::KernelLines;
+use objects::ObjectLines;
+use runs::Case;
+use std::{env, io};
+
+/// What the cases of a file are.
+#[derive(Clone, Copy)]
+enum CaseKind {
+    /// Operations and reads of the reference store.
+    Objects,
+    /// Runs of commands.
+    Commands,
+    /// Calls of the kernel.
+    Kernel,
+    /// Crashes of runs.
+    Crashes,
+}
+
+/// The folders of their files.
+static CASE_KINDS: [(&str, CaseKind); 4] = [
+    ("objects", CaseKind::Objects),
+    ("commands", CaseKind::Commands),
+    ("kernel", CaseKind::Kernel),
+    ("crashes", CaseKind::Crashes),
+];
+
+/// What the cases of the file at this path are.
+fn kind_of_file(path: &str) -> Option<CaseKind> {
+    let (folders, _name) = path.rsplit_once('/')?;
+    look_up(&CASE_KINDS, folders.rsplit('/').next()?)
+}
+
+/// Prints what the cases of a file come to.
+fn follow_file(rt: &HostRuntime, path: &str) -> io::Result<()> {
+    match kind_of_file(path) {
+        Some(CaseKind::Objects) => run_file::<ObjectLines, HostRuntime>(rt, path),
+        Some(CaseKind::Commands) => run_file::<Case, HostRuntime>(rt, path),
+        Some(CaseKind::Kernel) => run_file::<KernelLines, HostRuntime>(rt, path),
+        Some(CaseKind::Crashes) => run_file::<Sweep, HostRuntime>(rt, path),
+        None => Err(io::Error::from(io::ErrorKind::InvalidInput)),
+    }
+}
 
 fn main(rt: HostRuntime) -> io::Result<()> {
-    run_files::<Case, HostRuntime>(&rt)
+    let mut words = env::args(&rt)?;
+    let _program = words.next();
+    for path in words {
+        follow_file(&rt, path.as_str())?;
+    }
+    Ok(())
 }

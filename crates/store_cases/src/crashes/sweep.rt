@@ -1,0 +1,148 @@
+//! What the lines of a case work on.
+
+use crate::crashes::history::{Past, apply_commit, objects_behind};
+use crate::crashes::image::Found;
+use crate::crashes::spelled::spelled_plain;
+use crate::runs::Case;
+use block_device::{MemoryDevice, Tear};
+use case_text::{CaseError, Setup, Text, Words, look_up, number};
+use object_model::Book;
+use plain_store::Plain;
+use std::alloc::Global;
+
+pub const TEARS: [Tear; 5] = [Tear::Old, Tear::New, Tear::First, Tear::Odd, Tear::Noise];
+
+/// A case whose runs of `step`, on the store `dev`, are compared with plain objects.
+#[derive(Drop)]
+pub struct Sweep {
+    pub alloc: Global,
+    pub case: Case,
+    /// The runs before the last one.
+    pub history: Vec<Past>,
+    /// The units that the device had leaked before the last run.
+    pub leaked: Vec<u32>,
+    /// What the objects are after each number of commits of the last run, from none to all.
+    pub states: Vec<Vec<u8>>,
+}
+
+/// Their names.
+static TEAR_NAMES: [(&str, Tear); 5] = [
+    ("Old", Tear::Old),
+    ("New", Tear::New),
+    ("First", Tear::First),
+    ("Odd", Tear::Odd),
+    ("Noise", Tear::Noise),
+];
+
+/// The tear of this name.
+pub fn tear_of(word: &str) -> Result<Tear, CaseError> {
+    match look_up(&TEAR_NAMES, word) {
+        Some(tear) => Ok(tear),
+        None => Err(CaseError::Line("no tear")),
+    }
+}
+
+/// The objects after each number of commits, from these on.
+fn states(alloc: Global, mut plain: Plain, book: &Book) -> Result<Vec<Vec<u8>>, CaseError> {
+    let mut states = Vec::new(alloc);
+    states.push(spelled_plain(alloc, &plain)?)?;
+    for at in 0..book.commits.len() {
+        apply_commit(alloc, &mut plain, book, at)?;
+        states.push(spelled_plain(alloc, &plain)?)?;
+    }
+    Ok(states)
+}
+
+impl Sweep {
+    /// A case with this set up, before its first run.
+    pub fn of(setup: Setup) -> Sweep {
+        let alloc = setup.alloc;
+        Sweep {
+            alloc,
+            case: Case::of(setup),
+            history: Vec::new(alloc),
+            leaked: Vec::new(alloc),
+            states: Vec::new(alloc),
+        }
+    }
+
+    /// The book of the last run.
+    pub fn book(&self) -> Result<&Book, CaseError> {
+        match &self.case.outcome {
+            Some(outcome) => Ok(&outcome.book),
+            None => Err(CaseError::Line("there was no run")),
+        }
+    }
+
+    /// Follows `step SEED SCRIPT`, from its second word on: runs a script on the store `dev`, whose objects are those behind the
+    /// earlier runs.
+    pub fn step(&mut self, words: Words<'_>, out: &mut Text) -> Result<(), CaseError> {
+        let (seed, script) = words.last_two()?;
+        let plain = objects_behind(self.alloc, &self.history)?;
+        self.step_from(seed, script, plain)?;
+        self.case.print_run(out);
+        Ok(())
+    }
+
+    /// Runs a script on the store `dev`, which has these objects.
+    pub fn step_from(&mut self, seed: &str, script: &str, plain: Plain) -> Result<(), CaseError> {
+        let contents = self.case.setup.contents("dev")?;
+        self.leaked = match self.leaked_in(&contents)? {
+            Some(units) => units,
+            None => return Err(CaseError::Line("the store isn't exact")),
+        };
+        self.case
+            .run_line(&["bstore", "step", "dev", "--seed", seed, script])?;
+        self.states = states(self.alloc, plain, self.book()?)?;
+        Ok(())
+    }
+
+    /// The units that contents have leaked. None where the bitmap isn't exact but for these, or there is no store.
+    pub fn leaked_in(&self, contents: &[u8]) -> Result<Option<Vec<u32>>, CaseError> {
+        match Found::read(self.alloc, contents)? {
+            Some(found) => Ok(found.leaked(self.alloc)?),
+            None => Ok(None),
+        }
+    }
+
+    /// Whether the bitmap of contents is exact but for what was leaked before the last run.
+    pub fn is_exact(&self, contents: &[u8]) -> Result<bool, CaseError> {
+        match self.leaked_in(contents)? {
+            Some(units) => Ok(units == self.leaked),
+            None => Ok(false),
+        }
+    }
+
+    /// The device that came back from the last run.
+    fn device(&self) -> Result<&MemoryDevice, CaseError> {
+        let Some(outcome) = &self.case.outcome else {
+            return Err(CaseError::Line("there was no run"));
+        };
+        match &outcome.dev {
+            Some(dev) => Ok(dev),
+            None => Err(CaseError::Line("no device came back")),
+        }
+    }
+
+    /// How many events the device of the last run has.
+    pub fn events(&self) -> Result<u64, CaseError> {
+        Ok(self.device()?.events())
+    }
+
+    /// What a crash of the last run behind so many events leaves, torn in this way.
+    pub fn image(&self, cut: u64, tear: Tear) -> Result<Vec<u8>, CaseError> {
+        let dev = self.device()?;
+        if dev.events() < cut {
+            return Err(CaseError::Line("the log is shorter"));
+        }
+        Ok(dev.image(cut, tear)?)
+    }
+
+    /// The place of a cut: a number of events, or `end`.
+    pub fn cut_of(&self, word: &str) -> Result<u64, CaseError> {
+        if word == "end" {
+            return self.events();
+        }
+        number(word)
+    }
+}

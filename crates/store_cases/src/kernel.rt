@@ -1,0 +1,11 @@
+//! Calls of the kernel over devices in memory, step by step, with making stores, mounting and unmounting them.
+
+mod asking;
+mod devices;
+mod lines;
+mod mounted;
+mod stepping;
+mod submitting;
+mod walking;
+
+pub use lines::KernelLines;

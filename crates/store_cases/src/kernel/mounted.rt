@@ -1,0 +1,79 @@
+//! A store that is mounted, and what it is called for.
+
+use crate::kernel::asking::ask;
+use crate::kernel::stepping::{drain, print_acked, print_ready, print_state, step};
+use crate::kernel::submitting::submit;
+use crate::kernel::walking::walk;
+use block_device::MemoryDevice;
+use case_text::{CaseError, Text, Words};
+use mount_replay::unmount;
+use object_model::Book;
+use std::alloc::Global;
+use store_kernel::Kernel;
+
+/// What a line calls the kernel for.
+#[derive(Clone, Copy)]
+pub enum KernelCall {
+    /// `submit TRANSACTION`: shows the transaction's place in the book.
+    Submit,
+    /// `ask READ`
+    Ask,
+    /// `step NAME`: does a step, if it is ready.
+    Step,
+    /// `drain`: does the first ready step until none is.
+    Drain,
+    /// `ready`: shows the ready steps.
+    Ready,
+    /// `state`: shows the kernel's state.
+    State,
+    /// `acked PLACE`: shows whether a transaction is acknowledged.
+    Acked,
+    /// `walk`: shows all collections and objects.
+    Walk,
+}
+
+/// A store that is mounted, and unmounted at the end.
+pub struct Mounted {
+    pub alloc: Global,
+    pub kernel: Kernel<MemoryDevice>,
+}
+
+impl Mounted {
+    /// Unmounts it.
+    pub fn close(self) -> (MemoryDevice, Book) {
+        let Mounted { alloc, kernel } = self;
+        unmount(alloc, kernel)
+    }
+
+    /// Follows a line that calls the kernel, from its second word on.
+    pub fn call(
+        &mut self,
+        call: KernelCall,
+        words: Words<'_>,
+        out: &mut Text,
+    ) -> Result<(), CaseError> {
+        match call {
+            KernelCall::Submit => submit(self.alloc, &mut self.kernel, words, out),
+            KernelCall::Ask => ask(self.alloc, &mut self.kernel, words, out),
+            KernelCall::Step => step(self.alloc, &mut self.kernel, words, out),
+            KernelCall::Drain => drain(self.alloc, &mut self.kernel, out),
+            KernelCall::Ready => {
+                print_ready(&self.kernel, out);
+                Ok(())
+            }
+            KernelCall::State => {
+                print_state(&self.kernel, out);
+                Ok(())
+            }
+            KernelCall::Acked => print_acked(&self.kernel, words, out),
+            KernelCall::Walk => walk(self.alloc, &mut self.kernel, out),
+        }
+    }
+}
+
+impl Drop for Mounted {
+    fn drop(self) {
+        let Mounted { alloc, kernel } = self;
+        let (_device, _book) = unmount(alloc, kernel);
+    }
+}

@@ -1,0 +1,72 @@
+//! The names and the bytes that words spell.
+
+use crate::names::name_of;
+use byte_maps::{Bytes, Items};
+use case_text::{CaseError, Words, number};
+use object_model::Pair;
+use std::alloc::Global;
+use unit_fields::Name;
+
+/// The name that the next word is.
+pub fn next_name(alloc: Global, words: &mut Words<'_>) -> Result<Name, CaseError> {
+    name_of(alloc, words.next()?.as_bytes())
+}
+
+/// The name that the last word is.
+pub fn last_name(alloc: Global, words: Words<'_>) -> Result<Name, CaseError> {
+    name_of(alloc, words.last()?.as_bytes())
+}
+
+/// The most zeros of a word.
+const MOST_ZEROS: u64 = 1 << 24;
+
+fn zeros(alloc: Global, count: u64) -> Result<Bytes, CaseError> {
+    if count > MOST_ZEROS {
+        return Err(CaseError::Line("too many zeros"));
+    }
+    Ok(Bytes::from_vec(vec![in alloc; 0u8; count as usize]?))
+}
+
+/// The bytes of a word: none for `-`, so many zeros for `fill:COUNT`, else the word's own.
+fn bytes(alloc: Global, word: &str) -> Result<Bytes, CaseError> {
+    if word == "-" {
+        return Ok(Bytes::new(alloc));
+    }
+    match word.strip_prefix("fill:") {
+        Some(count) => zeros(alloc, number(count)?),
+        None => Ok(Bytes::from_slice(alloc, word.as_bytes())?),
+    }
+}
+
+/// The bytes of the last word.
+pub fn last_bytes(alloc: Global, words: Words<'_>) -> Result<Bytes, CaseError> {
+    bytes(alloc, words.last()?)
+}
+
+fn pair(alloc: Global, key: &str, value: &str) -> Result<Pair, CaseError> {
+    let key = name_of(alloc, key.as_bytes())?;
+    let value = bytes(alloc, value)?;
+    Ok(Pair { key, value })
+}
+
+/// Keys and values, one behind the other.
+pub fn pairs(alloc: Global, words: Words<'_>) -> Result<Items<Pair>, CaseError> {
+    let mut pairs = Items::new(alloc);
+    let words = words.list(alloc)?;
+    for two in words.chunks(2) {
+        let [key, value] = two else {
+            return Err(CaseError::Line("a key without a value"));
+        };
+        pairs.push(pair(alloc, key, value)?)?;
+    }
+    Ok(pairs)
+}
+
+/// The keys of all words.
+pub fn keys(alloc: Global, words: Words<'_>) -> Result<Items<Name>, CaseError> {
+    let mut keys = Items::new(alloc);
+    for word in words.list(alloc)? {
+        keys.push(name_of(alloc, word.as_bytes())?)?;
+    }
+    Ok(keys)
+}

@@ -1,0 +1,83 @@
+//! What a case has set up, and what its last run left.
+
+use block_device::MemoryDevice;
+use bstore_top::Outcome;
+use case_text::{CaseError, Follow, Setup, Text, kind_of};
+use end_points::MemorySource;
+use std::alloc::Global;
+
+/// The kinds of lines that run something or show more of the last run.
+#[derive(Clone, Copy)]
+pub enum LineKind {
+    /// `keep NAME`: puts the device that came back under a name.
+    Keep,
+    /// `fail-behind-mount NAME NUMBER`: a read of the next run fails, counted from those of a mount on.
+    FailBehindMount,
+    /// `show WHAT`: more of the last run.
+    Show,
+    /// A line that runs something, and is shown before what it comes to.
+    Run(RunKind),
+}
+
+/// The kinds of lines that run something.
+#[derive(Clone, Copy)]
+pub enum RunKind {
+    /// `run WORDS`: a command line.
+    Words,
+    /// `runs FIRST END WORDS`: a run for each number from FIRST on and before END, which stands in the place of the word `N`.
+    Each,
+    /// `usage WORDS`: what is to be no command line.
+    Usage,
+    /// `bad "TEXT"`: a script whose first line is to be bad.
+    Bad,
+}
+
+/// The first words of these lines.
+static LINE_KINDS: [(&str, LineKind); 7] = [
+    ("run", LineKind::Run(RunKind::Words)),
+    ("runs", LineKind::Run(RunKind::Each)),
+    ("usage", LineKind::Run(RunKind::Usage)),
+    ("bad", LineKind::Run(RunKind::Bad)),
+    ("keep", LineKind::Keep),
+    ("fail-behind-mount", LineKind::FailBehindMount),
+    ("show", LineKind::Show),
+];
+
+/// What a case has set up, and what its last run left.
+#[derive(Drop)]
+pub struct Case {
+    pub alloc: Global,
+    pub setup: Setup,
+    /// What the last run left, and what it printed.
+    pub outcome: Option<Outcome<MemoryDevice, MemorySource>>,
+    pub text: Vec<u8>,
+}
+
+impl Case {
+    /// A case with this set up, before its first run.
+    pub fn of(setup: Setup) -> Case {
+        let alloc = setup.alloc;
+        Case {
+            alloc,
+            setup,
+            outcome: None,
+            text: Vec::new(alloc),
+        }
+    }
+}
+
+impl Follow for Case {
+    fn begin(alloc: Global) -> Result<Case, CaseError> {
+        Ok(Case::of(Setup::new(alloc)?))
+    }
+
+    fn follow(&mut self, line: &str, out: &mut Text) -> Result<(), CaseError> {
+        if self.setup.follow(line)? {
+            return Ok(());
+        }
+        match kind_of(&LINE_KINDS, line) {
+            Some((kind, words)) => self.act(kind, line, words, out),
+            None => Err(CaseError::Line("no such line")),
+        }
+    }
+}

@@ -4,7 +4,7 @@ ghost use Rattle.store_steps.specs.Submit.{IsKnown};
 
 use crate::names::{coll_of, name_of};
 use block_device::MemoryDevice;
-use byte_maps::Bytes;
+use bytes::Bytes;
 use case_text::{CaseError, Text, Words, look_up};
 use object_model::{Op, Transaction};
 use std::alloc::Global;
@@ -32,7 +32,11 @@ fn pages(alloc: Global, count: u32, value: u8) -> Result<Bytes, CaseError>
     if count == 0 || MOST_PAGES < count {
         return Err(CaseError::Line("no number of pages"));
     }
-    Ok(Bytes::from_vec(vec![in alloc; value; 4096 * count as usize]?))
+    let pages = vec![in alloc; value; 4096 * count as usize]?;
+    match Bytes::from_vec(pages) {
+        Ok(bytes) => Ok(bytes),
+        Err(_) => Err(CaseError::OutOfMemory),
+    }
 }
 
 /// A write of the words NAME, FIRST, COUNT and BYTE, in pages.

@@ -1,6 +1,7 @@
 //! Operations of a transaction.
 
 use crate::objects::reading::{keys, last_bytes, last_name, next_name, pairs};
+use bytes::Bytes as SharedBytes;
 use case_text::{CaseError, Words, kind_of};
 use object_model::Op;
 use std::alloc::Global;
@@ -80,7 +81,9 @@ fn alone(object: Name, words: Words<'_>) -> Result<Name, CaseError> {
 
 fn write(alloc: Global, object: Name, mut words: Words<'_>) -> Result<Op, CaseError> {
     let off = words.number()?;
-    let bytes = last_bytes(alloc, words)?;
+    let Ok(bytes) = SharedBytes::from_vec(last_bytes(alloc, words)?.into_vec()) else {
+        return Err(CaseError::OutOfMemory);
+    };
     Ok(Op::Write { object, off, bytes })
 }
 

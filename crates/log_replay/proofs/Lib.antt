@@ -8,6 +8,7 @@ pub mod StopLemmas
 pub mod ClearLemmas
 pub mod OpeningLemmas
 pub mod GatherLemmas
+pub mod PresortLemmas
 pub mod ReplayLemmas
 pub mod HalfLemmas
 pub mod SplitLemmas

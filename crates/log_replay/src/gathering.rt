@@ -1,16 +1,20 @@
 //! The operations of many records, gathered so that they are applied to the rows together.
-ghost use Rattle.std.specs.Prelude.{◌≡◌, OnOk, IfOk};
+ghost use Rattle.std.specs.Prelude.{◌≡◌, [], OnOk, IfOk};
 ghost use Rattle.std.specs.FinMap as map;
-ghost use Rattle.meta_rows.specs.Rows.{Rows, rows_after};
-ghost use Rattle.log_replay.specs.Gathering.{is_bitmap_key, rows_so_far};
+ghost use Rattle.meta_rows.specs.Rows.{row_after, rows_after};
+ghost use Rattle.log_replay.specs.Gathering.{is_bitmap_key, rows_so_far, IsParted};
 
+use crate::presorting::apply_presorted;
 use meta_log::FoundRecord;
 use meta_rows::{RowOp, RowTable, encoded_len};
 use std::alloc::{AllocError, Global};
 use std::mem::replace;
 
-// Operations wait until they take so many bytes of memory, or one record makes them more: so that few merges go over the rows that are
-// there already.
+// Operations on the bitmap are applied together when there are so many. They come to few rows, and their buffers are free again at once.
+const MANY_BITS: usize = 8;
+
+// Others wait until they take so many bytes of memory, or one record makes them more: so that few merges go over the rows that are there
+// already.
 const MANY_BYTES: usize = 8 << 20;
 
 // What an operation takes in lists, and its two buffers beside their bytes.
@@ -34,83 +38,120 @@ fn is_of_bitmap(key: &[u8]) -> bool
     }
 }
 
-// The operations, those on rows of the bitmap behind the others. Names of objects and the units that they got often ascend both, but the
-// keys of a record of both kinds don't: so apart each part is sorted already.
-fn parted(alloc: Global, ops: Vec<RowOp>) -> Result<Vec<RowOp>, AllocError>
-    ensures { IfOk result (λ parted. (rows : Rows) → rows_after rows parted.items ≡ rows_after rows ops.items) }
-{
-    let mut others = Vec::with_capacity(alloc, ops.len())?;
-    let mut bits = Vec::new(alloc);
-    for op in ops {
-        if is_of_bitmap(op.key()) {
-            bits.push(op)?;
-        } else {
-            others.push(op)?;
-        }
-    }
-    others.append(&mut bits)?;
-    Ok(others)
-}
-
-/// Rows, and operations of records behind those that made them.
+/// Rows, and operations of records behind those that made them: those on rows of the bitmap apart from the others. Names of objects and
+/// the units that they got often ascend both, so that apart each list is sorted already, and many units have their bits in one row.
 #[derive(Debug, Drop)]
 pub(crate) struct Gathered {
     rows: RowTable,
-    ops: Vec<RowOp>,
-    // What the operations take of memory, about.
+    others: Vec<RowOp>,
+    // What the operations since others were applied take of memory, about.
     bytes: usize,
+    bits: Vec<RowOp>,
 }
 
 impl Gathered {
     /// No rows, and no operations.
     pub(crate) fn new(alloc: Global) -> Gathered
-        ensures { rows_so_far result ≡ map.empty }
+        ensures none { rows_so_far result ≡ map.empty }
+        ensures parted { IsParted result }
     {
         Gathered {
             rows: RowTable::new(alloc),
-            ops: Vec::new(alloc),
+            others: Vec::new(alloc),
             bytes: 0,
+            bits: Vec::new(alloc),
         }
     }
 
-    // Applies the operations that wait.
-    fn apply(&mut self, alloc: Global) -> Result<(), AllocError>
-        ensures rows { OnOk result (self.new.rows.rows ≡ rows_so_far self.old) }
+    // Applies the operations on the bitmap that wait.
+    fn apply_bits(&mut self, alloc: Global) -> Result<(), AllocError>
+        requires { IsParted self.old }
+        ensures parted { OnOk result (IsParted self.new) }
         ensures same { OnOk result (rows_so_far self.new ≡ rows_so_far self.old) }
+        ensures none { OnOk result (self.new.bits.items ≡ []) }
     {
-        let ops = replace(&mut self.ops, Vec::new(alloc));
-        self.bytes = 0;
-        let ops = parted(alloc, ops)?;
-        self.rows.apply_all(alloc, ops)
+        let bits = replace(&mut self.bits, Vec::new(alloc));
+        self.rows.apply_all(alloc, bits)
     }
 
-    // The operations of one more record wait.
-    fn add(&mut self, found: FoundRecord) -> Result<(), AllocError>
-        ensures { OnOk result (rows_so_far self.new ≡ rows_after (rows_so_far self.old) found.ops) }
+    // The same where many wait.
+    fn apply_many_bits(&mut self, alloc: Global) -> Result<(), AllocError>
+        requires { IsParted self.old }
+        ensures parted { OnOk result (IsParted self.new) }
+        ensures same { OnOk result (rows_so_far self.new ≡ rows_so_far self.old) }
     {
-        let mut more = found.ops.into_vec();
-        self.bytes = self.bytes.saturating_add(bytes_of(&more));
-        self.ops.append(&mut more)?;
+        if self.bits.len() < MANY_BITS {
+            return Ok(());
+        }
+        self.apply_bits(alloc)
+    }
+
+    // Applies the others that wait, where they take much memory.
+    fn apply_many_others(&mut self, alloc: Global) -> Result<(), AllocError>
+        requires { IsParted self.old }
+        ensures parted { OnOk result (IsParted self.new) }
+        ensures same { OnOk result (rows_so_far self.new ≡ rows_so_far self.old) }
+    {
+        if self.bytes < MANY_BYTES {
+            return Ok(());
+        }
+        let others = replace(&mut self.others, Vec::new(alloc));
+        self.bytes = 0;
+        apply_presorted(&mut self.rows, alloc, others)
+    }
+
+    // One more operation waits.
+    fn add_one(&mut self, op: RowOp) -> Result<(), AllocError>
+        requires { IsParted self.old }
+        ensures parted { OnOk result (IsParted self.new) }
+        ensures rows { OnOk result (rows_so_far self.new ≡ row_after (rows_so_far self.old) op) }
+    {
+        if is_of_bitmap(op.key()) {
+            self.bits.push(op)?;
+        } else {
+            self.others.push(op)?;
+        }
+        Ok(())
+    }
+
+    // More operations wait.
+    fn add(&mut self, ops: Vec<RowOp>) -> Result<(), AllocError>
+        requires { IsParted self.old }
+        ensures parted { OnOk result (IsParted self.new) }
+        ensures rows { OnOk result (rows_so_far self.new ≡ rows_after (rows_so_far self.old) ops.items) }
+    {
+        for op in ops {
+            self.add_one(op)?;
+        }
         Ok(())
     }
 
     /// The rows after the operations of one more record.
     pub(crate) fn take(&mut self, alloc: Global, found: FoundRecord) -> Result<(), AllocError>
-        ensures { OnOk result (rows_so_far self.new ≡ rows_after (rows_so_far self.old) found.ops) }
+        requires { IsParted self.old }
+        ensures parted { OnOk result (IsParted self.new) }
+        ensures rows { OnOk result (rows_so_far self.new ≡ rows_after (rows_so_far self.old) found.ops) }
     {
-        self.add(found)?;
-        if MANY_BYTES <= self.bytes {
-            return self.apply(alloc);
-        }
-        Ok(())
+        let ops = found.ops.into_vec();
+        self.bytes = self.bytes.saturating_add(bytes_of(&ops));
+        self.add(ops)?;
+        self.apply_many_bits(alloc)?;
+        self.apply_many_others(alloc)
     }
 
     /// The rows after all operations.
     pub(crate) fn finish(self, alloc: Global) -> Result<RowTable, AllocError>
+        requires { IsParted self }
         ensures { IfOk result (λ rows. rows.rows ≡ rows_so_far self) }
     {
         let mut gathered = self;
-        gathered.apply(alloc)?;
-        Ok(gathered.rows)
+        gathered.apply_bits(alloc)?;
+        let Gathered {
+            mut rows,
+            others,
+            ..
+        } = gathered;
+        apply_presorted(&mut rows, alloc, others)?;
+        Ok(rows)
     }
 }

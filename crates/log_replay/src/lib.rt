@@ -11,6 +11,7 @@ mod half_reader;
 mod judging;
 mod making;
 mod opening;
+mod presorting;
 mod replaying;
 mod stale;
 mod zeroing;

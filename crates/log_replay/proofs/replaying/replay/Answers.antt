@@ -9,7 +9,7 @@ use Rattle.log_replay.proofs.replaying.replay.Goals as goal
 
 pub records-init : goal.records-init
 records-init g c =
-    (refl, omega arith, half_begun (g.D.Device.disk c.args.dev.now) c.args.half.now c.args.first (rows_so_far c.new-gathered.result) c.requires.begin c.requires.order c.new-gathered.ensures)
+    (refl, omega arith, half_begun (g.D.Device.disk c.args.dev.now) c.args.half.now c.args.first (rows_so_far c.new-gathered.result) c.requires.begin c.requires.order c.new-gathered.ensures.none, c.new-gathered.ensures.parted)
 
 pub record-requires-clause-reader : goal.record-requires-clause-reader
 record-requires-clause-reader g c = c.records.invariant.2.reader
@@ -38,7 +38,8 @@ records-preserved g c =
       omega (arith, was.1, c.record.ensures.faults),
       half_replayed d c.args.half.now c.args.first c.record.new.self c.skip.new.self (rows_so_far c.records.gathered) c.records.tail c.records.number c.in-Some.found
           (rows_so_far c.take.new.self) (half_read d c.args.half.now c.args.first c.records.half c.record.new.self (rows_so_far c.records.gathered) c.records.tail c.records.number
-          was.2 read) found c.skip.ensures c.in-Ok.ensures,
+          was.2 read) found c.skip.ensures c.in-Ok.ensures.rows,
+      c.in-Ok.ensures.parted,
     )
 
 pub records-smaller : goal.records-smaller

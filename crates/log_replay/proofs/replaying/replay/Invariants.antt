@@ -1,5 +1,5 @@
 use Rattle.std.proofs.Common.{◌≡◌, ◌≤◌, ◌-◌}
-use Rattle.log_replay.specs.Gathering.{rows_so_far}
+use Rattle.log_replay.specs.Gathering.{rows_so_far, IsParted}
 use Rattle.log_replay.proofs.HalfLemmas.{ReplayedHalf}
 use Rattle.log_replay.proofs.replaying.replay.Given as goal
 
@@ -10,6 +10,7 @@ invariant-records g l =
     let faults = g.D.Device.faults in
     (disk l.dev ≡ disk l.initial.dev) × (faults l.initial.dev ≤ faults l.dev)
     × ReplayedHalf (disk l.initial.dev) l.initial.half l.fn.first l.half (rows_so_far l.gathered) l.tail l.number
+    × IsParted l.gathered
 
 abbrev pub decreases-records : goal.decreases-records
 decreases-records g l = l.half.end - l.half.at

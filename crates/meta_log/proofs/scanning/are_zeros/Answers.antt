@@ -1,0 +1,28 @@
+use Rattle.std.proofs.Common.{◌≡◌, ℕ, ◌+◌, ◌-◌, ◌*◌, ◌/◌, ◌≤◌, List, length, take, drop, All, ap, subst, ◌∙◌, arith}
+use Rattle.std.proofs.lemmas.List.{drop-drop, length-drop, take_all, take-append-drop}
+use Rattle.std.proofs.lemmas.List.Elements.{All-append, All-take, All-drop}
+use Rattle.meta_log.proofs.scanning.are_zeros.Goals as goal
+
+abbrev AreZero : List ℕ → Type 0
+AreZero bytes = All (λ (b : ℕ). b ≡ 0) bytes
+
+-- two parts that overlap
+covered : (m n : ℕ) (bytes : List ℕ) → m ≤ n → AreZero (drop m bytes) → AreZero (take n bytes) → AreZero bytes
+covered m n bytes le back front =
+    let at : m + (n - m) ≡ n = omega (arith, le) in
+    let rest = subst AreZero (drop-drop (n - m) m bytes ∙ ap (λ i. drop i bytes) at) (All-drop (λ (b : ℕ). b ≡ 0) (n - m) (drop m bytes) back) in
+    subst AreZero (take-append-drop n bytes) (All-append (λ (b : ℕ). b ≡ 0) (take n bytes) (drop n bytes) front rest)
+
+whole_steps : (size : ℕ) → 128 ≤ size → size - 128 ≤ size / 128 * 128
+whole_steps size some = omega (arith, some)
+
+pub returns-then-is_zero : goal.returns-then-is_zero
+returns-then-is_zero c =
+    let bytes = c.args.bytes.now in
+    let size = length bytes in
+    let all = drop (size - 128) bytes in
+    let long : length all ≤ size - (size - 128) = omega (arith, length-drop (size - 128) bytes) in
+    let back : AreZero all = subst AreZero (take_all (size - (size - 128)) all long) (c.is_zero-2.ensures.0 c.if-is_zero.true) in (
+      λ yes. covered (size - 128) (size / 128 * 128) bytes (whole_steps size c.if-size-lt-STEP.false) back (c.is_zero-then-is_zero.ensures.0 yes),
+      λ zero. c.is_zero-then-is_zero.ensures.1 (All-take (λ (b : ℕ). b ≡ 0) (size / 128 * 128) bytes zero),
+    )

@@ -23,21 +23,20 @@ use Rattle.store_image.specs.BadRows.{NoBadRow}
 use Rattle.store_image.specs.Owners.{IsOwned, IsDataUnit}
 use Rattle.store_image.specs.Stands.{ObjectsStand}
 use Rattle.store_image.proofs.PageUnits.{page_owned}
+use Rattle.object_rows.specs.declared.plan.FreshUnit.{FreshUnit}
+use Rattle.object_rows.specs.declared.plan.Plan.{Plan}
 use Rattle.object_rows.specs.Planned.{IsPlanned, HoldsFresh}
 use Rattle.object_rows.proofs.Planned.{planned_stand, planned_fresh, planned_ascend}
 use Rattle.read_facts.specs.Alike.{IsAnsweredAlike}
 use Rattle.read_facts.specs.Answers.{HasReadNames}
 use Rattle.read_facts.proofs.Plain.{plain_answer}
 use Rattle.store_steps.specs.declared.context.Context.{Context}
-use Rattle.store_steps.specs.declared.context.FreshUnit.{FreshUnit}
-use Rattle.store_steps.specs.declared.plan.Plan.{Plan}
 use Rattle.store_steps.specs.State.{State}
-use Rattle.store_steps.specs.Planning.{pair_of, as_planned}
 use Rattle.store_steps.specs.Submit.{IsKnown, refusal_of, context_of, entered, noted, accepted_with, IsCause, Accepts}
 use Rattle.store_steps.specs.Runs.{MaySubmit, AnswersRead}
 use Rattle.store_facts.specs.Space.{uncommitted}
 use Rattle.store_facts.specs.Kept.{IsKept}
-use Rattle.store_facts.proofs.RowsPlans.{units_of, units_of_pairs, planned}
+use Rattle.store_facts.proofs.RowsPlans.{units_of, planned}
 use Rattle.book_facts.specs.BookFacts.{batched, IsOfEntry, KnownOfBook, StandSomehow}
 use Rattle.book_facts.specs.FreshBytes.{bytes_with}
 use Rattle.book_facts.proofs.Entries.{accepted_push, none_accepted, alike_push, counts_push, change_last, of_entries_push}
@@ -49,7 +48,7 @@ use Rattle.book_facts.proofs.Queues.{entry_push, queued_noted, queued_accepted}
 
 -- the rows stay good by it
 pub takes_plan : (s : State) (d : Disk) (client line : ℕ) (change : Change) (s' : State) → IsKept s d → MaySubmit change s d
-    → (does : Accepts client line change s s') → IsPlanned s.log.sup s.view change (as_planned does.plan)
+    → (does : Accepts client line change s s') → IsPlanned s.log.sup s.view change does.plan
 takes_plan s d client line change s' kept may does =
     planned s.log.sup s.log.rows s.view s.space kept.always.limits (kept.up does.can_note.up).good kept.always.space (kept.up does.can_note.up).free
     change.coll change.ops does.plan may.known does.names does.not_refused does.plans
@@ -65,28 +64,28 @@ module _ (fresh : List FreshUnit) (f : FreshUnit) (at : ℕ → List ℕ) where
 
   -- those above it hold what they held
   above_held : (gs : List FreshUnit) → AllByRecursion (λ u. f.unit < u) (units_of gs)
-      → AllByRecursion (λ p. bytes_with fresh at p.0 ≡ p.1) (map pair_of gs)
-      → AllByRecursion (λ p. bytes_with (f ∷ fresh) at p.0 ≡ p.1) (map pair_of gs)
+      → AllByRecursion (λ g. bytes_with fresh at g.unit ≡ g.bytes) gs
+      → AllByRecursion (λ g. bytes_with (f ∷ fresh) at g.unit ≡ g.bytes) gs
   above_held [] above held = tt
   above_held (g ∷ gs) above held = (others_held g.unit (λ e. omega (arith, e, above.0)) ∙ held.0, above_held gs above.1 held.1)
 
 fresh_held : (fresh : List FreshUnit) (at : ℕ → List ℕ) → Ascends (units_of fresh)
-    → AllByRecursion (λ p. bytes_with fresh at p.0 ≡ p.1) (map pair_of fresh)
+    → AllByRecursion (λ g. bytes_with fresh at g.unit ≡ g.bytes) fresh
 fresh_held [] at ascend = tt
 fresh_held (f ∷ fresh) at ascend = (here_held fresh f at, above_held fresh f at fresh ascend.0 (fresh_held fresh at ascend.1))
 
 -- a unit that is none of them holds what it held
 none_held : (sup : Super) (rows : Rows) (fresh : List FreshUnit) (at : ℕ → List ℕ) (unit : ℕ) → IsOwned rows unit
-    → AllByRecursion (λ f. IsDataUnit sup f.0 × ¬ IsOwned rows f.0 × (length f.1 ≡ 4096)) (map pair_of fresh) → bytes_with fresh at unit ≡ at unit
+    → AllByRecursion (λ f. IsDataUnit sup f.unit × ¬ IsOwned rows f.unit × (length f.bytes ≡ 4096)) fresh → bytes_with fresh at unit ≡ at unit
 none_held sup rows [] at unit owned all = refl
 none_held sup rows (f ∷ fresh) at unit owned all =
     others_held fresh f at unit (λ e. all.0.1 (subst (IsOwned rows) (sym e) owned)) ∙ none_held sup rows fresh at unit owned all.1
 
-module _ (sup : Super) (rows : Rows) (change : Change) (plan : Plan) (is : IsPlanned sup rows change (as_planned plan)) (at : ℕ → List ℕ) where
+module _ (sup : Super) (rows : Rows) (change : Change) (plan : Plan) (is : IsPlanned sup rows change plan) (at : ℕ → List ℕ) where
   pub plan_ascends : Ascends (units_of plan.fresh)
-  plan_ascends = subst Ascends (units_of_pairs plan.fresh) (planned_ascend sup rows is)
+  plan_ascends = planned_ascend sup rows is
 
-  pub plan_holds : HoldsFresh (bytes_with plan.fresh at) (as_planned plan)
+  pub plan_holds : HoldsFresh (bytes_with plan.fresh at) plan
   plan_holds = fresh_held plan.fresh at plan_ascends
 
   -- and no owned unit is fresh
@@ -120,7 +119,7 @@ goes_on opening s change book known is =
 
 module _ (opening : Objects) (s : State) (client line : ℕ) (change : Change) (plan : Plan) (known : IsKnown change.ops)
     (none : refusal_of s.view change ≡ None) (good : NoBadRow s.log.sup s.view)
-    (is_planned : IsPlanned s.log.sup s.view change (as_planned plan)) (book : KnownOfBook opening s) where
+    (is_planned : IsPlanned s.log.sup s.view change plan) (book : KnownOfBook opening s) where
   abbrev entry : Entry
   entry = record { client = client; line = line; command = ask.Change change; answer = answer.Accepted; acks = s.acked }
 

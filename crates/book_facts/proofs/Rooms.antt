@@ -12,7 +12,7 @@ use Rattle.object_model.specs.declared.command.Command.TheVariants as ask
 use Rattle.object_model.specs.Effect.{Change}
 use Rattle.object_model.specs.Book.{accepted_change, accepted}
 use Rattle.meta_log.specs.Records.{unit_count}
-use Rattle.store_steps.specs.declared.context.FreshUnit.{FreshUnit}
+use Rattle.object_rows.specs.declared.plan.FreshUnit.{FreshUnit}
 use Rattle.store_steps.specs.declared.flight.Flying.{Flying}
 use Rattle.store_steps.specs.declared.flight.Job.{Job}
 use Rattle.store_steps.specs.declared.flight.Job.TheVariants as job

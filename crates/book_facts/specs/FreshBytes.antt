@@ -1,6 +1,6 @@
 -- The bytes of units once the data writes of transactions have reached the device.
 use Rattle.std.specs.Prelude.{ℕ, ◌==◌, List, [], ◌∷◌, if◌then◌else◌}
-use Rattle.store_steps.specs.declared.context.FreshUnit.{FreshUnit}
+use Rattle.object_rows.specs.declared.plan.FreshUnit.{FreshUnit}
 
 -- the bytes of units, where fresh ones have theirs and all others those given
 abbrev pub bytes_with : List FreshUnit → (ℕ → List ℕ) → ℕ → List ℕ

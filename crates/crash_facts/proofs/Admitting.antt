@@ -19,12 +19,11 @@ use Rattle.store_image.specs.Pages.{HasPage}
 use Rattle.store_image.specs.Stands.{ObjectsStand}
 use Rattle.store_image.proofs.OwnedUnits.{objects_stand}
 use Rattle.store_image.proofs.PageUnits.{page_owned}
+use Rattle.object_rows.specs.declared.plan.FreshUnit.{FreshUnit}
+use Rattle.object_rows.specs.declared.plan.Plan.{Plan}
 use Rattle.object_rows.specs.Planned.{IsPlanned}
 use Rattle.object_rows.proofs.Planned.{planned_stand}
 use Rattle.store_steps.specs.declared.context.Context.{Context}
-use Rattle.store_steps.specs.declared.context.FreshUnit.{FreshUnit}
-use Rattle.store_steps.specs.declared.plan.Plan.{Plan}
-use Rattle.store_steps.specs.Planning.{as_planned}
 use Rattle.store_steps.specs.State.{State}
 use Rattle.store_steps.specs.Ready.{applied_count}
 use Rattle.store_steps.specs.Submit.{IsKnown, refusal_of, context_of, entered, accepted_with}
@@ -44,7 +43,7 @@ use Rattle.crash_facts.specs.Store.{ContextsStand}
 
 module _ (opening : Objects) (s : State) (client line : ℕ) (change : Change) (plan : Plan) (h : History) (known : IsKnown change.ops)
     (none : refusal_of s.view change ≡ None) (good : NoBadRow s.log.sup s.log.rows)
-    (planned : IsPlanned s.log.sup s.view change (as_planned plan)) (same : s.view ≡ s.log.rows)
+    (planned : IsPlanned s.log.sup s.view change plan) (same : s.view ≡ s.log.rows)
     (book : KnownOfBook opening (at s idle)) (stand : ContextsStand opening (at s idle) h) where
   abbrev t : State
   t = at s idle
@@ -71,8 +70,8 @@ module _ (opening : Objects) (s : State) (client line : ℕ) (change : Change) (
   now_is : now ≡ held_or_last h (one ∷ [])
   now_is = ap (λ (fresh : List FreshUnit). bytes_with fresh (last_at h)) (sym (append-nil plan.fresh))
 
-  is_planned : IsPlanned s.log.sup s.log.rows change (as_planned plan)
-  is_planned = subst (λ (rows : Rows). IsPlanned s.log.sup rows change (as_planned plan)) same planned
+  is_planned : IsPlanned s.log.sup s.log.rows change plan
+  is_planned = subst (λ (rows : Rows). IsPlanned s.log.sup rows change plan) same planned
 
   on : GoesOn opening t change
   on = goes_on opening t change book known none

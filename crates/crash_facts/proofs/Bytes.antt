@@ -7,8 +7,8 @@ use Rattle.block_device.specs.Disk.{History}
 use Rattle.block_device.specs.Facts.{with_event, last_at, EventFits}
 use Rattle.block_device.specs.declared.event.Event.{Event}
 use Rattle.log_facts.proofs.Keeping.{last_push}
+use Rattle.object_rows.specs.declared.plan.FreshUnit.{FreshUnit}
 use Rattle.store_steps.specs.declared.context.Context.{Context}
-use Rattle.store_steps.specs.declared.context.FreshUnit.{FreshUnit}
 use Rattle.book_facts.specs.FreshBytes.{bytes_with}
 use Rattle.unit_facts.specs.DataUnits.{all_fresh}
 use Rattle.crash_facts.specs.HeldBytes.{held_or_last}

@@ -31,8 +31,8 @@ use Rattle.store_image.proofs.PageUnits.{page_owned}
 use Rattle.log_facts.specs.Flushing.{flushed}
 use Rattle.log_facts.specs.Soundness.{SoundFor}
 use Rattle.log_facts.proofs.Cuts.{cut_stands}
+use Rattle.object_rows.specs.declared.plan.FreshUnit.{FreshUnit}
 use Rattle.store_steps.specs.declared.context.Context.{Context}
-use Rattle.store_steps.specs.declared.context.FreshUnit.{FreshUnit}
 use Rattle.store_steps.specs.declared.flight.FlushState.TheVariants as flush
 use Rattle.store_steps.specs.State.{Batch, State}
 use Rattle.store_steps.specs.Ready.{applied_count}

@@ -21,8 +21,8 @@ use Rattle.store_image.specs.Owners.{IsDataUnit}
 use Rattle.store_image.specs.Stands.{ObjectsStand}
 use Rattle.store_image.proofs.OwnedUnits.{objects_stand}
 use Rattle.store_image.proofs.PageUnits.{page_owned}
+use Rattle.object_rows.specs.declared.plan.FreshUnit.{FreshUnit}
 use Rattle.store_steps.specs.declared.context.Context.{Context}
-use Rattle.store_steps.specs.declared.context.FreshUnit.{FreshUnit}
 use Rattle.store_steps.specs.State.{Batch, State}
 use Rattle.store_steps.specs.Contexts.{given_more, Unsent, unsent_units}
 use Rattle.store_steps.specs.Changes.{commit_of, committed_batch, finished}

@@ -9,6 +9,7 @@ use Rattle.meta_rows.specs.Rows.{Rows}
 use Rattle.meta_log.specs.declared.slot.Super.{Super}
 use Rattle.unit_fields.specs.UnitSet.{Ascends}
 use Rattle.store_image.specs.Owners.{IsDataUnit, IsOwned}
+use Rattle.object_rows.specs.declared.plan.FreshUnit.{FreshUnit}
 use Rattle.object_rows.specs.Writes.{AreDistinct}
 use Rattle.object_rows.specs.Planned.{pages_on}
 
@@ -47,25 +48,25 @@ module _ (bytes : List ℕ) where
   length-pages_on [] i = refl
   length-pages_on (u ∷ us) i = ap suc (length-pages_on us (i + 1))
 
-  page_there : (us : List ℕ) (i k : ℕ) (d : ℕ × List ℕ) → k < length us
-      → get_or (pages_on us i bytes) k d ≡ (slice_index us k, unit_at (i + k) bytes)
+  page_there : (us : List ℕ) (i k : ℕ) (d : FreshUnit) → k < length us
+      → get_or (pages_on us i bytes) k d ≡ record { unit = slice_index us k; bytes = unit_at (i + k) bytes }
   page_there [] i k d lt = absurd (omega (arith, lt))
-  page_there (u ∷ us) i zero d lt = let pair : ℕ → ℕ × List ℕ = λ n. (u, unit_at n bytes) in ap pair (same_is i)
+  page_there (u ∷ us) i zero d lt = let page : ℕ → FreshUnit = λ n. record { unit = u; bytes = unit_at n bytes } in ap page (same_is i)
   page_there (u ∷ us) i (suc k) d lt =
-      let pair : ℕ → ℕ × List ℕ = λ n. (slice_index us k, unit_at n bytes) in
-      page_there us (i + 1) k d (omega (arith, lt)) ∙ ap pair (next_is i k)
+      let page : ℕ → FreshUnit = λ n. record { unit = slice_index us k; bytes = unit_at n bytes } in
+      page_there us (i + 1) k d (omega (arith, lt)) ∙ ap page (next_is i k)
 
   -- the fresh units are these
-  pub fresh_there : (us : List ℕ) (i v : ℕ) → Any (λ f. f.0 ≡ v) (pages_on us i bytes) ↔ ((j : ℕ) × (j < length us) × (slice_index us j ≡ v))
+  pub fresh_there : (us : List ℕ) (i v : ℕ) → Any (λ f. f.unit ≡ v) (pages_on us i bytes) ↔ ((j : ℕ) × (j < length us) × (slice_index us j ≡ v))
   fresh_there us i v = (
     λ f. let lt : f.0 < length us = omega (arith, f.2, length-pages_on us i) in
-        (f.0, lt, sym (ap (λ (p : ℕ × List ℕ). p.0) (page_there us i f.0 f.1 lt)) ∙ ap (λ (p : ℕ × List ℕ). p.0) f.3 ∙ f.4),
-    λ f. let page : ℕ × List ℕ = (slice_index us f.0, unit_at (i + f.0) bytes) in
+        (f.0, lt, sym (ap (λ (p : FreshUnit). p.unit) (page_there us i f.0 f.1 lt)) ∙ ap (λ (p : FreshUnit). p.unit) f.3 ∙ f.4),
+    λ f. let page : FreshUnit = record { unit = slice_index us f.0; bytes = unit_at (i + f.0) bytes } in
         (f.0, page, omega (arith, f.1, length-pages_on us i), page_there us i f.0 page f.1, f.2),
   )
 
   -- a unit that holds its page
-  pub held_at : (at : ℕ → List ℕ) (us : List ℕ) (i j : ℕ) → AllByRecursion (λ f. at f.0 ≡ f.1) (pages_on us i bytes) → j < length us
+  pub held_at : (at : ℕ → List ℕ) (us : List ℕ) (i j : ℕ) → AllByRecursion (λ f. at f.unit ≡ f.bytes) (pages_on us i bytes) → j < length us
       → at (slice_index us j) ≡ unit_at (i + j) bytes
   held_at at [] i j holds lt = absurd (omega (arith, lt))
   held_at at (u ∷ us) i zero holds lt = holds.0 ∙ ap (λ n. unit_at n bytes) (same_is i)
@@ -73,11 +74,11 @@ module _ (bytes : List ℕ) where
 
   pub fresh_all : (s : Super) (rows : Rows) (us : List ℕ) (i : ℕ) → AllByRecursion (λ u. IsDataUnit s u) us → AllByRecursion (λ u. ¬ IsOwned rows u) us
       → 4096 * i + 4096 * length us ≤ length bytes
-      → AllByRecursion (λ f. IsDataUnit s f.0 × ¬ IsOwned rows f.0 × (length f.1 ≡ 4096)) (pages_on us i bytes)
+      → AllByRecursion (λ f. IsDataUnit s f.unit × ¬ IsOwned rows f.unit × (length f.bytes ≡ 4096)) (pages_on us i bytes)
   fresh_all s rows [] i on free long = tt
   fresh_all s rows (u ∷ us) i on free long =
       ((on.0, free.0, length-unit_at i bytes (omega (arith, long))), fresh_all s rows us (i + 1) on.1 free.1 (omega (arith, long)))
 
-  pub units_of_pages : (us : List ℕ) (i : ℕ) → map (λ (f : ℕ × List ℕ). f.0) (pages_on us i bytes) ≡ us
+  pub units_of_pages : (us : List ℕ) (i : ℕ) → map (λ (f : FreshUnit). f.unit) (pages_on us i bytes) ≡ us
   units_of_pages [] i = refl
   units_of_pages (u ∷ us) i = ap (λ (x : List ℕ). u ∷ x) (units_of_pages us (i + 1))

@@ -38,11 +38,12 @@ use Rattle.bitmap_freelist.proofs.Records.{flips_fit, flips_size, flips_count}
 use Rattle.bitmap_freelist.proofs.Turning.{turn_their_units}
 use Rattle.blob_map.specs.Pages.{PageMap, with_pages}
 use Rattle.blob_map.specs.Normal.{extents_of}
+use Rattle.object_rows.specs.declared.plan.Plan.{Plan}
 use Rattle.object_rows.specs.Operations.{CanReplace, object_ops, replaced, Climb, KeysAscend}
 use Rattle.object_rows.specs.Maps.{IsMapWritten, CanWrite}
 use Rattle.object_rows.specs.Writes.{write_change, missing, there, IsSizeOf, IsWritten, HoldPages, AreDistinct, StoodWritten}
 use Rattle.object_rows.specs.Plans.{new_pages, WritesPages, touch_ops}
-use Rattle.object_rows.specs.Planned.{Plan, pages_on, CanPlanWrite, IsPlanned, makes_coll, touches, writes, HoldsFresh, IsFresh, StandsOnce, fresh_units}
+use Rattle.object_rows.specs.Planned.{pages_on, CanPlanWrite, IsPlanned, makes_coll, touches, writes, HoldsFresh, IsFresh, StandsOnce, fresh_units}
 use Rattle.object_rows.proofs.After.{then_good, then_bits}
 use Rattle.object_rows.proofs.Between.{at_index, between_stood, between_once}
 use Rattle.object_rows.proofs.FewShards.{few_shards}
@@ -114,7 +115,7 @@ module _ (s : Super) (rows : Rows) (c o : List ℕ) (first : ℕ) (bytes units :
   same_owns owner v = alike_owns then (rows_after rows ops) owner v alike
 
   abbrev IsFreshOf : ℕ → Type 0
-  IsFreshOf v = Any (λ f. f.0 ≡ v) (pages_on units 0 bytes)
+  IsFreshOf v = Any (λ f. f.unit ≡ v) (pages_on units 0 bytes)
 
   made : IsMapWritten w.pages new first bytes units
   made = map_written first bytes w.pages units
@@ -159,7 +160,7 @@ module _ (s : Super) (rows : Rows) (c o : List ℕ) (first : ℕ) (bytes units :
         λ either. are.1 (elim either [ inl f ↦ inl ((fresh_is v).0 f) | inr k ↦ inr k ]),
       )
 
-  fresh_held : (at : ℕ → List ℕ) → AllByRecursion (λ f. at f.0 ≡ f.1) (pages_on units 0 bytes) → (i : ℕ) → i < length units
+  fresh_held : (at : ℕ → List ℕ) → AllByRecursion (λ f. at f.unit ≡ f.bytes) (pages_on units 0 bytes) → (i : ℕ) → i < length units
       → at (slice_index units i) ≡ unit_at i bytes
   fresh_held at holds i lt = let own : 0 + i ≡ i = omega arith in held_at bytes at units 0 i holds lt ∙ ap (λ n. unit_at n bytes) own
 
@@ -227,7 +228,7 @@ module _ (s : Super) (rows : Rows) (c o : List ℕ) (first : ℕ) (bytes units :
           flips_count w.turns.units w.flips w.turns.are_flips,
         )
 
-    write_stand : (at later_at : ℕ → List ℕ) (objects after : Objects) → AllByRecursion (λ f. later_at f.0 ≡ f.1) (pages_on units 0 bytes)
+    write_stand : (at later_at : ℕ → List ℕ) (objects after : Objects) → AllByRecursion (λ f. later_at f.unit ≡ f.bytes) (pages_on units 0 bytes)
         → ((v : ℕ) → HasPage rows v → later_at v ≡ at v) → ObjectsStand at rows objects
         → transaction_effect (write_change c o first bytes) objects ≡ Ok after → ObjectsStand later_at (rows_after rows ops) after
     write_stand at later_at objects after holds same stand is =
@@ -377,7 +378,7 @@ module _ (s : Super) (rows : Rows) where
   planned_short (writes c o first bytes units ops released can w) good = write_short s rows c o first bytes units ops released can w good
 
   pub planned_fresh : {change : Change} {plan : Plan} → IsPlanned s rows change plan
-      → AllByRecursion (λ f. IsDataUnit s f.0 × ¬ IsOwned rows f.0 × (length f.1 ≡ 4096)) plan.fresh
+      → AllByRecursion (λ f. IsDataUnit s f.unit × ¬ IsOwned rows f.unit × (length f.bytes ≡ 4096)) plan.fresh
   planned_fresh (makes_coll c name none) = tt
   planned_fresh (touches c o coll name has) = tt
   planned_fresh (writes c o first bytes units ops released can w) =

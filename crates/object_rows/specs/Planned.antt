@@ -15,19 +15,15 @@ use Rattle.row_format.specs.Keys.{coll_key}
 use Rattle.store_image.specs.Pages.{HasKey}
 use Rattle.store_image.specs.Owners.{IsDataUnit, IsOwned, IsMarked}
 use Rattle.row_facts.specs.Operations.{coll_change, coll_ops}
+use Rattle.object_rows.specs.declared.plan.FreshUnit.{FreshUnit}
+use Rattle.object_rows.specs.declared.plan.Plan.{Plan}
 use Rattle.object_rows.specs.Writes.{write_change, touch_change}
 use Rattle.object_rows.specs.Plans.{WritesPages, touch_ops}
 
--- Row operations, fresh units with the bytes that must be written there before the operations are committed, and units that have no owner after.
-pub record Plan : Type 0 where
-  pub ops : List RowOp
-  pub fresh : List (ℕ × List ℕ)
-  pub released : List ℕ
-
 -- the units, each with its page of the bytes, from one on
-abbrev pub pages_on : List ℕ → ℕ → List ℕ → List (ℕ × List ℕ)
+abbrev pub pages_on : List ℕ → ℕ → List ℕ → List FreshUnit
 pages_on [] i bytes = []
-pages_on (u ∷ us) i bytes = (u, unit_at i bytes) ∷ pages_on us (i + 1) bytes
+pages_on (u ∷ us) i bytes = record { unit = u; bytes = unit_at i bytes } ∷ pages_on us (i + 1) bytes
 
 -- data units that nobody owns and whose bits are 0, ascending, whose numbers fit their fields
 pub record AreFresh (s : Super) (rows : Rows) (units : List ℕ) : Type 0 where
@@ -63,11 +59,11 @@ pub data IsPlanned (s : Super) (rows : Rows) : Change → Plan → Type 0 where
 
 -- the fresh units hold their bytes
 abbrev pub HoldsFresh : (ℕ → List ℕ) → Plan → Type 0
-HoldsFresh at plan = AllByRecursion (λ f. at f.0 ≡ f.1) plan.fresh
+HoldsFresh at plan = AllByRecursion (λ f. at f.unit ≡ f.bytes) plan.fresh
 
 -- the unit is one of the fresh ones
 abbrev pub IsFresh : Plan → ℕ → Type 0
-IsFresh plan unit = Any (λ f. f.0 ≡ unit) plan.fresh
+IsFresh plan unit = Any (λ f. f.unit ≡ unit) plan.fresh
 
 -- the unit stands at most once in the list
 abbrev pub StandsOnce : List ℕ → ℕ → Type 0
@@ -75,4 +71,4 @@ StandsOnce units unit = (i j : ℕ) → i < length units → j < length units �
 
 -- the fresh units alone
 abbrev pub fresh_units : Plan → List ℕ
-fresh_units plan = map (λ f. f.0) plan.fresh
+fresh_units plan = map (λ f. f.unit) plan.fresh

@@ -6,12 +6,14 @@
 #![tactic(auto)]
 
 mod laws;
+mod plan;
 mod plans;
 
 pub use laws::{
     made_object, object_by_shards, record_of_an_object, replaced_rows, replaced_units,
     written_by_map, written_units, wrote_pages,
 };
+pub use plan::{FreshUnit, Plan};
 pub use plans::{
     planned_bitmap, planned_owners, planned_record, planned_rows, planned_units,
     replies_by_objects_rows,

@@ -20,7 +20,8 @@ ghost use Rattle.store_image.specs.Owners.{IsDataUnit, IsOwned, IsMarked, IsExac
 ghost use Rattle.store_image.specs.Stands.{IsShape, ObjectsStand};
 ghost use Rattle.object_rows.specs.Operations.{KeysAscend};
 ghost use Rattle.object_rows.specs.Writes.{write_change, touch_change};
-ghost use Rattle.object_rows.specs.Planned.{Plan, IsPlanned, HoldsFresh, IsFresh, StandsOnce, fresh_units};
+ghost use Rattle.object_rows.specs.declared.plan.Plan.{Plan};
+ghost use Rattle.object_rows.specs.Planned.{IsPlanned, HoldsFresh, IsFresh, StandsOnce, fresh_units};
 
 /// A planned transaction is accepted, its operations leave no bad row, and rows that stand for the objects after it, once its
 /// fresh units hold their bytes, and those on which pages stand what they held.
@@ -42,7 +43,7 @@ pub fn planned_rows()
 /// goes is released, and had one. Who owns a unit after it owned it before, or the unit is fresh.
 pub fn planned_units()
     ensures fresh { (s : Super) (rows : Rows) (change : Change) (plan : Plan) → IsPlanned s rows change plan
-        → AllByRecursion (λ f. IsDataUnit s f.0 × ¬ IsOwned rows f.0 × (length f.1 ≡ 4096)) plan.fresh }
+        → AllByRecursion (λ f. IsDataUnit s f.unit × ¬ IsOwned rows f.unit × (length f.bytes ≡ 4096)) plan.fresh }
     ensures ascend { (s : Super) (rows : Rows) (change : Change) (plan : Plan) → IsPlanned s rows change plan → Ascends (fresh_units plan) }
     ensures taken { (s : Super) (rows : Rows) (change : Change) (plan : Plan) (unit : ℕ) → IsPlanned s rows change plan → NoBadRow s rows
         → IsFresh plan unit → IsOwned (rows_after rows plan.ops) unit }

@@ -7,13 +7,12 @@ use Rattle.meta_log.specs.declared.slot.Super.{Super}
 use Rattle.meta_log.specs.Slots.{IsSuper}
 use Rattle.object_model.specs.Effect.{Change}
 use Rattle.store_image.specs.Owners.{IsDataUnit, IsOwned, IsMarked}
+use Rattle.object_rows.specs.declared.plan.Plan.{Plan}
 use Rattle.object_rows.specs.Planned.{IsPlanned, StandsOnce}
 use Rattle.object_rows.proofs.Planned.{planned_good, planned_exact, planned_gone, planned_marked, planned_once, planned_left, planned_taken, planned_owned, planned_released, planned_fresh, planned_unmarked}
 use Rattle.unit_allocator.specs.Units.{Space, is_free, taken}
 use Rattle.store_steps.specs.declared.context.Context.{Context}
 use Rattle.store_steps.specs.State.{Batch, State}
-use Rattle.store_steps.specs.declared.plan.Plan.{Plan}
-use Rattle.store_steps.specs.Planning.{as_planned}
 use Rattle.store_steps.specs.Submit.{IsKnown, context_of, accepted_with, Accepts}
 use Rattle.store_facts.specs.Room.{FitsRecord}
 use Rattle.store_facts.specs.Space.{uncommitted, rows_with, AreGoodRows, IsSpaceOf, IsFreeExactly, ReleasesExactly}
@@ -26,7 +25,7 @@ one_list : {A : Type 0} (f : Context → List A) (x : Context) → flat_map f (x
 one_list f x = append-nil (f x)
 
 module _ (s : Super) (rows : Rows) (space : Space) (limits : IsSuper s) (good : AreGoodRows s rows rows) (is_space : IsSpaceOf s space)
-    (free : IsFreeExactly s rows rows space) (change : Change) (plan : Plan) (is : IsPlanned s rows change (as_planned plan)) where
+    (free : IsFreeExactly s rows rows space) (change : Change) (plan : Plan) (is : IsPlanned s rows change plan) where
   abbrev after : Rows
   after = rows_after rows plan.ops
 
@@ -94,7 +93,7 @@ module _ (s : Super) (rows : Rows) (space : Space) (limits : IsSuper s) (good : 
 
 module _ (s : State) (client line : ℕ) (change : Change) (s' : State) (limits : IsSuper s.log.sup) (kept : AreRowsKept s)
     (known : IsKnown change.ops) (does : Accepts client line change s s') where
-  pub accepted_plan : IsPlanned s.log.sup s.view change (as_planned does.plan)
+  pub accepted_plan : IsPlanned s.log.sup s.view change does.plan
   accepted_plan = planned s.log.sup s.log.rows s.view s.space limits kept.good kept.space kept.free change.coll change.ops does.plan known
       does.names does.not_refused does.plans
 
@@ -137,8 +136,8 @@ module _ (s : State) (client line : ℕ) (change : Change) (s' : State) (limits 
   free_now : IsFreeExactly s.log.sup s.log.rows s.log.rows s.space
   free_now = subst (λ view. IsFreeExactly s.log.sup s.log.rows view s.space) same_view kept.free
 
-  is_planned : IsPlanned s.log.sup s.log.rows change (as_planned plan)
-  is_planned = subst (λ rows. IsPlanned s.log.sup rows change (as_planned plan)) same_view
+  is_planned : IsPlanned s.log.sup s.log.rows change plan
+  is_planned = subst (λ rows. IsPlanned s.log.sup rows change plan) same_view
       (accepted_plan s client line change s' limits kept known does)
 
   abbrev then : Space

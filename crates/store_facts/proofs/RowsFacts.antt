@@ -9,12 +9,11 @@ use Rattle.block_device.specs.Disk.{Disk}
 use Rattle.object_model.specs.Effect.{Change}
 use Rattle.meta_log.specs.declared.slot.Super.{Super}
 use Rattle.store_image.specs.Owners.{IsDataUnit}
+use Rattle.object_rows.specs.declared.plan.FreshUnit.{FreshUnit}
 use Rattle.object_rows.specs.Planned.{IsPlanned, StandsOnce}
 use Rattle.unit_allocator.specs.Units.{IsWithin, is_free, given}
 use Rattle.unit_allocator.proofs.Lists.{Contains-head, Contains-tail}
 use Rattle.store_steps.specs.declared.context.Context.{Context}
-use Rattle.store_steps.specs.declared.context.FreshUnit.{FreshUnit}
-use Rattle.store_steps.specs.Planning.{as_planned}
 use Rattle.store_steps.specs.State.{Batch, State}
 use Rattle.store_steps.specs.Contexts.{Unsent, unsent_units, run_from, run_of, unsent, next_unsent, batch_released}
 use Rattle.store_steps.specs.Submit.{IsKnown, Accepts}
@@ -96,7 +95,7 @@ module _ (s : State) (d : Disk) (kept : IsKept s d) (up : s.down ≡ None) where
   -- ---- what an accepted transaction takes
 
   pub plan_is : (client line : ℕ) (change : Change) (s' : State) → IsKnown change.ops → (does : Accepts client line change s s')
-      → IsPlanned s.log.sup s.view change (as_planned does.plan)
+      → IsPlanned s.log.sup s.view change does.plan
   plan_is client line change s' known does = accepted_plan s client line change s' kept.always.limits (rows_of_kept s d kept up) known does
 
   pub plan_fits_of : (client line : ℕ) (change : Change) (s' : State) → IsKnown change.ops → (does : Accepts client line change s s')

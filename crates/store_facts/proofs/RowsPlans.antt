@@ -23,6 +23,8 @@ use Rattle.store_image.specs.Pages.{HasKey}
 use Rattle.store_image.specs.BadRows.{NoBadRow}
 use Rattle.store_image.specs.Owners.{IsDataUnit, IsOwned, IsMarked}
 use Rattle.row_facts.specs.Operations.{coll_change}
+use Rattle.object_rows.specs.declared.plan.FreshUnit.{FreshUnit}
+use Rattle.object_rows.specs.declared.plan.Plan.{Plan}
 use Rattle.object_rows.specs.Writes.{write_change, touch_change}
 use Rattle.object_rows.specs.Planned as planned_as
 use Rattle.object_rows.proofs.PagesOn.{units_of_pages}
@@ -30,9 +32,7 @@ use Rattle.object_rows.proofs.Planned.{planned_fits, planned_short, planned_fres
 use Rattle.unit_allocator.specs.Units.{Space, IsWithin, is_free, free_units}
 use Rattle.unit_allocator.proofs.Lists.{Contains-head, Contains-tail, Contains-cases}
 use Rattle.unit_allocator.proofs.FreeUnits.{listed_is_free, free_units_ascend}
-use Rattle.store_steps.specs.declared.context.FreshUnit.{FreshUnit}
-use Rattle.store_steps.specs.declared.plan.Plan.{Plan}
-use Rattle.store_steps.specs.Planning.{pair_of, as_planned, PlansPages, Plans, units_taken}
+use Rattle.store_steps.specs.Planning.{PlansPages, Plans, units_taken}
 use Rattle.store_steps.specs.Submit.{IsKnown, HasNames, ops_refusal, refusal_of}
 use Rattle.store_facts.specs.Space.{AreGoodRows, IsSpaceOf, IsFreeExactly}
 use Rattle.store_facts.proofs.SpaceUnits.{within_data}
@@ -61,32 +61,28 @@ pub listed_all : (P : ℕ → Type 0) (us : List ℕ) (u : ℕ) → AllByRecursi
 listed_all P [] u all c = absurd (omega (arith, c.1))
 listed_all P (v ∷ us) u all c = elim (Contains-cases v u us c) [ inl e ↦ subst P e all.0 | inr d ↦ listed_all P us u all.1 d ]
 
--- ---- fresh units in both words
+-- ---- fresh units and their numbers
 
-pub units_of_pairs : (fresh : List FreshUnit) → map (λ (f : ℕ × List ℕ). f.0) (map pair_of fresh) ≡ units_of fresh
-units_of_pairs [] = refl
-units_of_pairs (f ∷ fresh) = ap (λ (us : List ℕ). f.unit ∷ us) (units_of_pairs fresh)
-
-pub fresh_listed : (fresh : List FreshUnit) (v : ℕ) → Any (λ f. f.0 ≡ v) (map pair_of fresh) → Contains (units_of fresh) v
+pub fresh_listed : (fresh : List FreshUnit) (v : ℕ) → Any (λ f. f.unit ≡ v) fresh → Contains (units_of fresh) v
 fresh_listed [] v any = absurd (omega (arith, any.2))
 fresh_listed (f ∷ fresh) v any = by (fresh_listed fresh v) any.0 any.1 any.2 any.3 any.4
   where
-    by : (Any (λ g. g.0 ≡ v) (map pair_of fresh) → Contains (units_of fresh) v) → (k : ℕ) (p : ℕ × List ℕ)
-        → k < length (map pair_of (f ∷ fresh)) → get_or (map pair_of (f ∷ fresh)) k p ≡ p → p.0 ≡ v → Contains (units_of (f ∷ fresh)) v
-    by rest zero p below at is =
-        subst (λ (x : ℕ). Contains (units_of (f ∷ fresh)) x) (ap (λ (q : ℕ × List ℕ). q.0) at ∙ is) (Contains-head f.unit (units_of fresh))
-    by rest (suc k) p below at is = Contains-tail f.unit v (units_of fresh) (rest (k, p, omega (arith, below), at, is))
+    by : (Any (λ g. g.unit ≡ v) fresh → Contains (units_of fresh) v) → (k : ℕ) (g : FreshUnit)
+        → k < length (f ∷ fresh) → get_or (f ∷ fresh) k g ≡ g → g.unit ≡ v → Contains (units_of (f ∷ fresh)) v
+    by rest zero g below at is =
+        subst (λ (x : ℕ). Contains (units_of (f ∷ fresh)) x) (ap (λ (h : FreshUnit). h.unit) at ∙ is) (Contains-head f.unit (units_of fresh))
+    by rest (suc k) g below at is = Contains-tail f.unit v (units_of fresh) (rest (k, g, omega (arith, below), at, is))
 
-pub listed_fresh : (fresh : List FreshUnit) (v : ℕ) → Contains (units_of fresh) v → Any (λ f. f.0 ≡ v) (map pair_of fresh)
+pub listed_fresh : (fresh : List FreshUnit) (v : ℕ) → Contains (units_of fresh) v → Any (λ f. f.unit ≡ v) fresh
 listed_fresh [] v c = absurd (omega (arith, c.1))
 listed_fresh (f ∷ fresh) v c = elim (Contains-cases f.unit v (units_of fresh) c) [
-  | inl e ↦ (0, (f.unit, f.bytes), omega arith, refl, e)
+  | inl e ↦ (0, f, omega arith, refl, e)
   | inr d ↦ let any = listed_fresh fresh v d in (suc any.0, any.1, omega (arith, any.2), any.3, any.4)
 ]
 
 -- what holds of the fresh units of a plan holds of each that is listed
 pub fresh_has : (s : Super) (rows : Rows) (fresh : List FreshUnit) (v : ℕ)
-    → AllByRecursion (λ f. IsDataUnit s f.0 × ¬ IsOwned rows f.0 × (length f.1 ≡ 4096)) (map pair_of fresh) → Contains (units_of fresh) v
+    → AllByRecursion (λ f. IsDataUnit s f.unit × ¬ IsOwned rows f.unit × (length f.bytes ≡ 4096)) fresh → Contains (units_of fresh) v
     → IsDataUnit s v × ¬ IsOwned rows v
 fresh_has s rows [] v all c = absurd (omega (arith, c.1))
 fresh_has s rows (f ∷ fresh) v all c = elim (Contains-cases f.unit v (units_of fresh) c) [
@@ -95,7 +91,7 @@ fresh_has s rows (f ∷ fresh) v all c = elim (Contains-cases f.unit v (units_of
 ]
 
 fresh_whole : (s : Super) (rows : Rows) (fresh : List FreshUnit)
-    → AllByRecursion (λ f. IsDataUnit s f.0 × ¬ IsOwned rows f.0 × (length f.1 ≡ 4096)) (map pair_of fresh)
+    → AllByRecursion (λ f. IsDataUnit s f.unit × ¬ IsOwned rows f.unit × (length f.bytes ≡ 4096)) fresh
     → AllByRecursion (λ f. length f.bytes ≡ 4096) fresh
 fresh_whole s rows [] all = tt
 fresh_whole s rows (f ∷ fresh) all = (all.0.2, fresh_whole s rows fresh all.1)
@@ -105,7 +101,7 @@ fresh_whole s rows (f ∷ fresh) all = (all.0.2, fresh_whole s rows fresh all.1)
 pages_take : (c o : List ℕ) (off : ℕ) (bytes : List ℕ) (rows : Rows) (space : Space) (plan : Plan) → PlansPages c o off bytes rows space plan
     → units_of plan.fresh ≡ take (length bytes / 4096) (free_units space)
 pages_take c o off bytes rows space plan p =
-    sym (units_of_pairs plan.fresh) ∙ ap (map (λ (f : ℕ × List ℕ). f.0)) p.fresh ∙ units_of_pages bytes p.units 0 ∙ p.lowest
+    ap units_of p.fresh ∙ units_of_pages bytes p.units 0 ∙ p.lowest
 
 -- those that it takes are the lowest free ones, as many as the transaction takes
 pub plan_takes : (c : List ℕ) (ops : List Op) (rows : Rows) (space : Space) (plan : Plan) → IsKnown ops → Plans c ops rows space plan
@@ -232,21 +228,21 @@ module _ (s : Super) (committed rows : Rows) (space : Space) (limits : IsSuper s
       csums_fit = p.csums_fit;
     }
 
-    pages_planned : planned_as.IsPlanned s rows (record { coll = c; ops = Write o off bytes ∷ [] }) (as_planned plan)
+    pages_planned : planned_as.IsPlanned s rows (record { coll = c; ops = Write o off bytes ∷ [] }) plan
     pages_planned =
         let here : 4096 * (off / 4096) ≡ off = omega (arith, known.0) in
         let by = planned_as.writes c o (off / 4096) bytes p.units plan.ops plan.released can_plan p.writes in
-        subst (λ (n : ℕ). planned_as.IsPlanned s rows (record { coll = c; ops = Write o n bytes ∷ [] }) (as_planned plan)) here
-        (subst (λ (fs : List (ℕ × List ℕ)). planned_as.IsPlanned s rows (write_change c o (off / 4096) bytes)
+        subst (λ (n : ℕ). planned_as.IsPlanned s rows (record { coll = c; ops = Write o n bytes ∷ [] }) plan) here
+        (subst (λ (fs : List FreshUnit). planned_as.IsPlanned s rows (write_change c o (off / 4096) bytes)
         (record { ops = plan.ops; fresh = fs; released = plan.released })) (sym p.fresh) by)
 
   pub planned : (c : List ℕ) (ops : List Op) (plan : Plan) → IsKnown ops → HasNames c ops → refusal_of rows (record { coll = c; ops = ops }) ≡ None
-      → Plans c ops rows space plan → planned_as.IsPlanned s rows (record { coll = c; ops = ops }) (as_planned plan)
+      → Plans c ops rows space plan → planned_as.IsPlanned s rows (record { coll = c; ops = ops }) plan
   planned c (MkColl ∷ []) plan known names accepted plans =
-      subst (planned_as.IsPlanned s rows (coll_change c)) (ap as_planned (sym plans))
+      subst (planned_as.IsPlanned s rows (coll_change c)) (sym plans)
       (planned_as.makes_coll c names (no_key rows c CollectionExists (ops_taken rows c (MkColl ∷ []) accepted)))
   planned c (Touch o ∷ []) plan known names accepted plans =
-      subst (planned_as.IsPlanned s rows (touch_change c o)) (ap as_planned (sym plans))
+      subst (planned_as.IsPlanned s rows (touch_change c o)) (sym plans)
       (planned_as.touches c o names.0 names.1 (some_key rows c None NoCollection (ops_taken rows c (Touch o ∷ []) accepted)).0)
   planned c (Write o off bytes ∷ []) plan known names accepted plans =
       pages_planned c o off bytes plan known names.0 names.1 (write_taken rows c o off bytes accepted) plans
@@ -265,11 +261,11 @@ pub record PlanFits (plan : Plan) : Type 0 where
 
 pub plan_fits : (s : Super) (rows : Rows) (space : Space) (c : List ℕ) (ops : List Op) (plan : Plan) → NoBadRow s rows → IsKnown ops
     → refusal_of rows (record { coll = c; ops = ops }) ≡ None → Plans c ops rows space plan
-    → planned_as.IsPlanned s rows (record { coll = c; ops = ops }) (as_planned plan) → PlanFits plan
+    → planned_as.IsPlanned s rows (record { coll = c; ops = ops }) plan → PlanFits plan
 plan_fits s rows space c ops plan good known accepted plans is = record {
   few = omega (arith, plan_count c ops rows space plan known plans, few_taken c ops rows known accepted);
   whole = fresh_whole s rows plan.fresh (planned_fresh s rows is);
-  ascend = subst Ascends (units_of_pairs plan.fresh) (planned_ascend s rows is);
+  ascend = planned_ascend s rows is;
   fit = planned_fits s rows is good;
   short = planned_short s rows is good;
   count = λ number other. same_count number other plan.ops;

@@ -13,8 +13,8 @@ use Rattle.meta_log.specs.Records.{unit_count}
 use Rattle.meta_log.specs.Slots.{active_unit}
 use Rattle.meta_log.specs.Pieces.{piece_count, given_from, piece_first, piece_units, LiesInRecord}
 use Rattle.meta_log.proofs.PieceLemmas.{lies}
+use Rattle.object_rows.specs.declared.plan.FreshUnit.{FreshUnit}
 use Rattle.store_steps.specs.declared.context.Context.{Context}
-use Rattle.store_steps.specs.declared.context.FreshUnit.{FreshUnit}
 use Rattle.store_steps.specs.declared.flight.FlushState.TheVariants as flush
 use Rattle.store_steps.specs.declared.flight.Flying.{Flying}
 use Rattle.store_steps.specs.declared.flight.Job.{Job}

@@ -11,11 +11,11 @@ use Rattle.object_model.specs.declared.command.Answer.{Answer}
 use Rattle.object_model.specs.declared.command.Answer.TheVariants as answer
 use Rattle.object_model.specs.declared.book.Entry.{Entry}
 use Rattle.meta_log.specs.Pieces.{piece_count}
+use Rattle.object_rows.specs.declared.plan.FreshUnit.{FreshUnit}
+use Rattle.object_rows.specs.declared.plan.Plan.{Plan}
 use Rattle.unit_allocator.specs.Units.{Space}
 use Rattle.store_steps.specs.declared.context.Context.{Context}
-use Rattle.store_steps.specs.declared.context.FreshUnit.{FreshUnit}
 use Rattle.store_steps.specs.declared.step.Step.{Step}
-use Rattle.store_steps.specs.declared.plan.Plan.{Plan}
 use Rattle.store_steps.specs.State.{State}
 use Rattle.store_steps.specs.Ready.{is_ready_up, is_drained}
 use Rattle.meta_store.specs.Store.{room_of}

@@ -7,8 +7,8 @@ use Rattle.block_device.specs.Disk.{Flight, flight_of, without, IsApart}
 use Rattle.block_device.specs.Facts.{IsUntouched}
 use Rattle.block_device.specs.declared.event.Event.TheVariants as event
 use Rattle.block_device.proofs.FlightLemmas.{all_without}
+use Rattle.object_rows.specs.declared.plan.FreshUnit.{FreshUnit}
 use Rattle.store_steps.specs.declared.context.Context.{Context}
-use Rattle.store_steps.specs.declared.context.FreshUnit.{FreshUnit}
 use Rattle.meta_store.specs.Store.{Meta, Begun}
 use Rattle.store_facts.specs.Flights.{IsUnsentUntouched, IsRestUntouched}
 

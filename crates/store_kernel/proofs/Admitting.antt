@@ -11,12 +11,11 @@ use Rattle.object_model.specs.declared.command.Answer.TheVariants as answer
 use Rattle.meta_rows.specs.Rows.{Rows, rows_after}
 use Rattle.meta_store.specs.Store as meta
 use Rattle.unit_allocator.specs.Units.{Space, IsWithin, is_free, taken}
+use Rattle.object_rows.specs.declared.plan.FreshUnit.{FreshUnit}
+use Rattle.object_rows.specs.declared.plan.Plan.{Plan}
 use Rattle.object_rows.specs.Planned.{IsPlanned}
 use Rattle.store_steps.specs.declared.context.Context.{Context}
-use Rattle.store_steps.specs.declared.context.FreshUnit.{FreshUnit}
 use Rattle.store_steps.specs.declared.flight.Flying.{Flying}
-use Rattle.store_steps.specs.declared.plan.Plan.{Plan}
-use Rattle.store_steps.specs.Planning.{as_planned}
 use Rattle.store_steps.specs.State.{State}
 use Rattle.store_steps.specs.Submit.{IsKnown, CanNote, Accepts, need_of}
 use Rattle.store_steps.specs.Runs.{MaySubmit}
@@ -44,7 +43,7 @@ pub planned_fits : (s : State) (d : Disk) (change : Change) (plan : Plan) → Is
     → IsPlanFor change s.view s.space plan → PlanFits plan
 planned_fits s d change plan kept can known is =
     let rows : AreRowsKept s = rows_of_kept s d kept can.up in
-    let one : IsPlanned s.log.sup s.view change (as_planned plan) =
+    let one : IsPlanned s.log.sup s.view change plan =
     planned s.log.sup s.log.rows s.view s.space kept.always.limits rows.good rows.space rows.free change.coll change.ops plan known is.names
     is.not_refused is.plans in
     plan_fits s.log.sup s.view s.space change.coll change.ops plan rows.good.good known is.not_refused is.plans one

@@ -13,8 +13,8 @@ use Rattle.meta_log.specs.Records.{unit_count}
 use Rattle.meta_log.specs.Sealed.{IsSealable}
 use Rattle.meta_store.specs.Store as meta
 use Rattle.store_image.specs.Owners.{IsDataUnit}
+use Rattle.object_rows.specs.declared.plan.FreshUnit.{FreshUnit}
 use Rattle.store_steps.specs.declared.context.Context.{Context}
-use Rattle.store_steps.specs.declared.context.FreshUnit.{FreshUnit}
 use Rattle.store_steps.specs.declared.flight.FlushState.TheVariants as flush
 use Rattle.store_steps.specs.declared.flight.Job.TheVariants as job
 use Rattle.store_steps.specs.declared.step.Step.TheVariants.{Data, Flush, Seal, Record, Sync}

@@ -4,8 +4,8 @@ use Rattle.std.specs.List.{flat_map}
 use Rattle.std.specs.Option.{option_or}
 use Rattle.meta_rows.specs.declared.row_op.RowOp.{RowOp}
 use Rattle.object_model.specs.Effect.{any_named}
+use Rattle.object_rows.specs.declared.plan.FreshUnit.{FreshUnit}
 use Rattle.store_steps.specs.declared.context.Context.{Context}
-use Rattle.store_steps.specs.declared.context.FreshUnit.{FreshUnit}
 use Rattle.store_steps.specs.State.{Batch}
 
 -- the longest front of fresh units that stand one behind the other from this unit on, below an end

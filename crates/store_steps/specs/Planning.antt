@@ -1,23 +1,15 @@
 -- What an accepted transaction makes of the submitted rows: the row operations, the units that it takes and those that it releases.
-use Rattle.std.specs.Prelude.{◌≡◌, ℕ, ◌<◌, ◌≤◌, ◌^◌, ◌/◌, List, [], ◌∷◌, length, map, take}
+use Rattle.std.specs.Prelude.{◌≡◌, ℕ, ◌<◌, ◌≤◌, ◌^◌, ◌/◌, List, [], ◌∷◌, length, take}
 use Rattle.byte_maps.specs.Units.{unit_at}
 use Rattle.crc32c_csum.specs.Crc32c.{crc32c}
 use Rattle.object_model.specs.declared.op.Op.{Op}
 use Rattle.object_model.specs.declared.op.Op.TheVariants.{MkColl, Touch, Write}
 use Rattle.meta_rows.specs.Rows.{Rows}
 use Rattle.row_facts.specs.Operations.{coll_ops}
+use Rattle.object_rows.specs.declared.plan.Plan.{Plan}
 use Rattle.object_rows.specs.Plans.{WritesPages, touch_ops}
-use Rattle.object_rows.specs.Planned as planned
+use Rattle.object_rows.specs.Planned.{pages_on}
 use Rattle.unit_allocator.specs.Units.{Space, free_units}
-use Rattle.store_steps.specs.declared.context.FreshUnit.{FreshUnit}
-use Rattle.store_steps.specs.declared.plan.Plan.{Plan}
-
--- a fresh unit as a pair, and a plan of these
-abbrev pub pair_of : FreshUnit → ℕ × List ℕ
-pair_of f = (f.unit, f.bytes)
-
-abbrev pub as_planned : Plan → planned.Plan
-as_planned plan = record { ops = plan.ops; fresh = map pair_of plan.fresh; released = plan.released }
 
 -- Each page takes the lowest free unit that is left, and releases the one that it stood on.
 pub record PlansPages (c o : List ℕ) (off : ℕ) (bytes : List ℕ) (rows : Rows) (space : Space) (plan : Plan) : Type 0 where
@@ -25,7 +17,7 @@ pub record PlansPages (c o : List ℕ) (off : ℕ) (bytes : List ℕ) (rows : Ro
   pub enough : length bytes / 4096 ≤ length (free_units space)
   pub lowest : units ≡ take (length bytes / 4096) (free_units space)
   pub writes : WritesPages rows c o (off / 4096) bytes units plan.ops plan.released
-  pub fresh : map pair_of plan.fresh ≡ planned.pages_on units 0 bytes
+  pub fresh : plan.fresh ≡ pages_on units 0 bytes
   pub csums_fit : (i : ℕ) → i < length units → crc32c (unit_at i bytes) < 2 ^ 32
 
 -- The plans of the transactions that the store knows so far: one makes a collection, one makes an object, one writes whole pages.

@@ -16,11 +16,11 @@ use Rattle.meta_rows.specs.Rows.{Rows, rows_after}
 use Rattle.meta_log.specs.Records.{unit_count}
 use Rattle.unit_fields.specs.Names.{IsName, IsCollName}
 use Rattle.row_format.specs.Keys.{coll_key}
+use Rattle.object_rows.specs.declared.plan.Plan.{Plan}
 use Rattle.unit_allocator.specs.Units.{Space, free_units, taken}
 use Rattle.store_steps.specs.declared.context.Context.{Context}
 use Rattle.meta_store.specs.Store.{Meta, room_of}
 use Rattle.store_steps.specs.State.{State}
-use Rattle.store_steps.specs.declared.plan.Plan.{Plan}
 use Rattle.store_steps.specs.Planning.{Plans, units_taken}
 
 -- The transactions that the store knows so far: one makes a collection, one makes an object, one writes whole pages from a page's start on.

@@ -1,17 +1,9 @@
 //! Contexts: accepted transactions on their way to the log.
 
 use byte_maps::Items;
-use bytes::Bytes;
 use meta_rows::RowOp;
+use object_rows::FreshUnit;
 use unit_fields::{CollName, UnitNo};
-
-/// A unit that a transaction took, and the bytes that are written to it.
-#[derive(Drop)]
-pub struct FreshUnit {
-    pub unit: UnitNo,
-    /// 4096 bytes, shared with the transaction in the book.
-    pub bytes: Bytes,
-}
 
 /// An accepted transaction that isn't committed. (Ceph's `TransContext`.)
 #[derive(Drop)]

@@ -7,10 +7,9 @@
 
 mod context;
 mod flight;
-mod plan;
 mod step;
 
-pub use context::{Context, FreshUnit};
+pub use context::Context;
 pub use flight::{FlushState, Flying, Job};
-pub use plan::Plan;
+pub use object_rows::{FreshUnit, Plan};
 pub use step::Step;

@@ -1,16 +1,16 @@
 -- What planning one operation answers, once the transaction isn't too large as a whole.
-use Rattle.std.specs.Prelude.{◌≡◌, ℕ, ◌<◌, ◌^◌, List, [], ◌∷◌, length, map, None, Some}
+use Rattle.std.specs.Prelude.{◌≡◌, ℕ, ◌<◌, ◌^◌, List, [], ◌∷◌, length, None, Some}
 use Rattle.byte_maps.specs.Units.{unit_at}
 use Rattle.crc32c_csum.specs.Crc32c.{crc32c}
 use Rattle.object_model.specs.declared.op.Op.{Op}
 use Rattle.meta_rows.specs.Rows.{Rows}
+use Rattle.object_rows.specs.declared.plan.Plan.{Plan}
 use Rattle.object_rows.specs.Plans.{WritesPages}
 use Rattle.object_rows.specs.Planned.{pages_on}
 use Rattle.unit_allocator.specs.declared.allocator.TakeFail.{TakeFail}
 use Rattle.unit_allocator.specs.declared.allocator.TakeFail.TheVariants as take
 use Rattle.unit_allocator.specs.Units.{Space}
-use Rattle.store_steps.specs.declared.plan.Plan.{Plan}
-use Rattle.store_steps.specs.Planning.{Plans, pair_of, units_taken}
+use Rattle.store_steps.specs.Planning.{Plans, units_taken}
 use Rattle.store_steps.specs.Submit.{HasNames, ops_refusal, free_count}
 use Rattle.txn_planner.specs.declared.planning.PlanFail.{PlanFail}
 use Rattle.txn_planner.specs.declared.planning.PlanFail.TheVariants as fail
@@ -36,5 +36,5 @@ IsOpFail c op rows space fail.Memory = Unit {0}
 -- the pages from one on are written on these units
 pub record WritesOn (rows : Rows) (c o : List ℕ) (first : ℕ) (bytes units : List ℕ) (plan : Plan) : Type 0 where
   pub writes : WritesPages rows c o first bytes units plan.ops plan.released
-  pub fresh : map pair_of plan.fresh ≡ pages_on units 0 bytes
+  pub fresh : plan.fresh ≡ pages_on units 0 bytes
   pub csums_fit : (i : ℕ) → i < length units → crc32c (unit_at i bytes) < 2 ^ 32

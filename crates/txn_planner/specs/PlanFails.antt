@@ -2,8 +2,8 @@
 use Rattle.std.specs.Prelude.{◌≡◌, ◌<◌, None, Some}
 use Rattle.object_model.specs.Effect.{Change}
 use Rattle.meta_rows.specs.Rows.{Rows}
+use Rattle.object_rows.specs.declared.plan.Plan.{Plan}
 use Rattle.unit_allocator.specs.Units.{Space}
-use Rattle.store_steps.specs.declared.plan.Plan.{Plan}
 use Rattle.store_steps.specs.Planning.{Plans, units_taken}
 use Rattle.store_steps.specs.Submit.{HasNames, refusal_of, free_count}
 use Rattle.txn_planner.specs.declared.planning.PlanFail.{PlanFail}

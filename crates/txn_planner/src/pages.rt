@@ -1,5 +1,5 @@
 //! The pages that a write puts on fresh units, and the units that they stood on.
-ghost use Rattle.std.specs.Prelude.{◌≡◌, ◌+◌, ◌*◌, ◌<◌, ◌≤◌, ◌^◌, ℕ, length, map, IfOk, OnOk};
+ghost use Rattle.std.specs.Prelude.{◌≡◌, ◌+◌, ◌*◌, ◌<◌, ◌≤◌, ◌^◌, ℕ, length, IfOk, OnOk};
 ghost use Rattle.std.specs.Ordering.{nat_cmp};
 ghost use Rattle.std.specs.List.{flat_map};
 ghost use Rattle.std.specs.FinMap.Entries.{where_key};
@@ -9,7 +9,6 @@ ghost use Rattle.number_map.specs.NumberMap.{is_in};
 ghost use Rattle.blob_map.specs.Pages.{with_pages};
 ghost use Rattle.object_rows.specs.Plans.{new_pages, own_units};
 ghost use Rattle.object_rows.specs.Planned.{pages_on};
-ghost use Rattle.store_steps.specs.Planning.{pair_of};
 
 use blob_map::{PageMap, Place};
 use byte_maps::Items;
@@ -46,7 +45,7 @@ pub fn fresh_units(
 ) -> Result<Items<FreshUnit>, AllocError>
     requires whole { length bytes.now ≡ 4096 * length units.now }
     requires few { length units.now ≤ 2 ^ 32 }
-    ensures { IfOk result (λ fresh. map pair_of fresh ≡ pages_on units.now 0 bytes.now) }
+    ensures { IfOk result (λ fresh. fresh ≡ pages_on units.now 0 bytes.now) }
 {
     let mut fresh = Items::new(alloc);
     for (i, unit) in units.iter().enumerate() {

@@ -14,8 +14,8 @@ use Rattle.block_device.specs.declared.event.Event.TheVariants.{Write}
 use Rattle.block_device.proofs.QuietLemmas.{written_unit}
 use Rattle.meta_log.specs.declared.slot.Super.{Super}
 use Rattle.store_image.specs.Owners.{IsDataUnit}
+use Rattle.object_rows.specs.declared.plan.FreshUnit.{FreshUnit}
 use Rattle.store_steps.specs.declared.context.Context.{Context}
-use Rattle.store_steps.specs.declared.context.FreshUnit.{FreshUnit}
 use Rattle.store_steps.specs.Contexts.{run_bytes, Unsent, unsent_units}
 use Rattle.store_facts.specs.Room.{FitsRecord}
 use Rattle.store_facts.proofs.RunUnits.{IsInRow, IsRunOf, row_bytes, row_at, all_drop, all_front}

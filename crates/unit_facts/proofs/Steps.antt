@@ -30,15 +30,15 @@ use Rattle.log_facts.proofs.Keeping.{data_spares_slots, data_spares_half, half_s
 use Rattle.log_facts.proofs.Keeping.{slots_push, half_push, slots_quiet, half_quiet}
 use Rattle.log_facts.proofs.Writing.{half_begin, half_piece, half_sync, half_synced, half_commit}
 use Rattle.log_facts.proofs.Joins.{length-record_units}
+use Rattle.object_rows.specs.declared.plan.FreshUnit.{FreshUnit}
+use Rattle.object_rows.specs.declared.plan.Plan.{Plan}
 use Rattle.unit_allocator.specs.Units.{Space}
 use Rattle.store_steps.specs.declared.context.Context.{Context}
-use Rattle.store_steps.specs.declared.context.FreshUnit.{FreshUnit}
 use Rattle.store_steps.specs.declared.flight.FlushState.TheVariants as flush
 use Rattle.store_steps.specs.declared.flight.Flying.{Flying}
 use Rattle.meta_store.specs.Store.{Meta, Begun}
 use Rattle.store_steps.specs.State.{Batch, State}
 use Rattle.store_steps.specs.Contexts.{given_more, done_more, run_bytes, Unsent, unsent_units}
-use Rattle.store_steps.specs.declared.plan.Plan.{Plan}
 use Rattle.store_steps.specs.Submit.{accepted_with}
 use Rattle.store_steps.specs.Opened.{Found, opened}
 use Rattle.store_steps.specs.Changes.{committed_batch}

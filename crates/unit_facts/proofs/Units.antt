@@ -16,9 +16,9 @@ use Rattle.meta_log.specs.Slots.{active_unit}
 use Rattle.store_image.specs.Owners.{IsDataUnit}
 use Rattle.log_facts.specs.Flushing.{FlushState, not_sent, sent, flushed}
 use Rattle.log_facts.proofs.Keeping.{last_push, flushed_push, flush_sent, flush_ended, nothing_written, half_before_data}
+use Rattle.object_rows.specs.declared.plan.FreshUnit.{FreshUnit}
 use Rattle.unit_allocator.proofs.Lists.{Contains-head, Contains-tail}
 use Rattle.store_steps.specs.declared.context.Context.{Context}
-use Rattle.store_steps.specs.declared.context.FreshUnit.{FreshUnit}
 use Rattle.store_steps.specs.State.{Batch}
 use Rattle.store_facts.proofs.SpaceUnits.{AreData}
 use Rattle.store_facts.proofs.RowsPlans.{units_of}

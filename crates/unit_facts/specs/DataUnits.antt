@@ -7,8 +7,8 @@ use Rattle.block_device.specs.Facts.{last_at}
 use Rattle.meta_log.specs.declared.slot.Super.{Super}
 use Rattle.meta_log.specs.Slots.{active_unit}
 use Rattle.log_facts.specs.Flushing.{FlushState, not_sent, sent, flushed, IsFlushed}
+use Rattle.object_rows.specs.declared.plan.FreshUnit.{FreshUnit}
 use Rattle.store_steps.specs.declared.context.Context.{Context}
-use Rattle.store_steps.specs.declared.context.FreshUnit.{FreshUnit}
 use Rattle.store_steps.specs.declared.flight.FlushState.{FlushState as StepFlush}
 use Rattle.store_steps.specs.declared.flight.FlushState.TheVariants as flush
 use Rattle.store_steps.specs.State.{Batch}

@@ -1,9 +1,17 @@
 //! What a transaction is turned into before it is accepted.
 
-use crate::context::FreshUnit;
 use byte_maps::Items;
+use bytes::Bytes;
 use meta_rows::RowOp;
 use unit_fields::UnitNo;
+
+/// A unit that a transaction took, and the bytes that are written to it.
+#[derive(Drop)]
+pub struct FreshUnit {
+    pub unit: UnitNo,
+    /// 4096 bytes, shared with the transaction in the book.
+    pub bytes: Bytes,
+}
 
 /// What accepting a transaction takes: the rows that it changes, the units that it writes, and those that it frees.
 #[derive(Drop)]

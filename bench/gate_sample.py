@@ -4,7 +4,7 @@
 Usage: bench/gate_sample.py FOLDER, where FOLDER is the repository in which rt ci runs, or is about to. It ends with that run, and
 prints the processor seconds of each crate's proof, tests and edits as lines of the table in docs/gate.md, and then the dearest runs
 of a prover, each edit by its number in the order of names, and the checks of an unchanged crate that its edits begin and end with.
-What a prover spends in its last second is lost, and so is one that is gone within a second.
+What a prover spends in its last second is lost, and so is one that is gone within a second. What builds a program isn't counted.
 """
 import collections
 import os
@@ -65,7 +65,7 @@ def look(ci, spent):
         except OSError:
             continue
         key = words[words.index("--crate-name") + 1], *kind, process, numbers[19]
-        spent[key] = sum(map(int, numbers[11:15])) / TICK
+        spent[key] = sum(map(int, numbers[11:13])) / TICK  # without what it waited for: those provers are looked at themselves
 
 
 def main():

@@ -48,9 +48,9 @@ use Rattle.book_facts.proofs.Queues.{entry_push, queued_noted, queued_accepted}
 
 -- the rows stay good by it
 pub takes_plan : (s : State) (d : Disk) (client line : ℕ) (change : Change) (s' : State) → IsKept s d → MaySubmit change s d
-    → (does : Accepts client line change s s') → IsPlanned s.log.sup s.view change does.plan
+    → (does : Accepts client line change s s') → IsPlanned s.log.sup s.submitted change does.plan
 takes_plan s d client line change s' kept may does =
-    planned s.log.sup s.log.rows s.view s.space kept.always.limits (kept.up does.can_note.up).good kept.always.space (kept.up does.can_note.up).free
+    planned s.log.sup s.log.rows s.submitted s.space kept.always.limits (kept.up does.can_note.up).good kept.always.space (kept.up does.can_note.up).free
     change.coll change.ops does.plan may.known does.names does.not_refused does.plans
 
 -- ---- fresh units have their bytes
@@ -109,17 +109,17 @@ pub record GoesOn (opening : Objects) (s : State) (change : Change) : Type 0 whe
   pub replays : replay opening (accepted s.book.entries ++ change ∷ []) ≡ after
 
 pub goes_on : (opening : Objects) (s : State) (change : Change) → KnownOfBook opening s → IsKnown change.ops
-    → refusal_of s.view change ≡ None → GoesOn opening s change
+    → refusal_of s.submitted change ≡ None → GoesOn opening s change
 goes_on opening s change book known is =
     let objects = replay opening (accepted s.book.entries) in
-    let found = after_of (transaction_effect change objects) (not_refused s.view objects change book.stand.1.shape known is) in
+    let found = after_of (transaction_effect change objects) (not_refused s.submitted objects change book.stand.1.shape known is) in
     record { after = found.0; effect = found.1; replays = replay_one opening (accepted s.book.entries) change found.0 found.1 }
 
 -- ---- it is accepted
 
 module _ (opening : Objects) (s : State) (client line : ℕ) (change : Change) (plan : Plan) (known : IsKnown change.ops)
-    (none : refusal_of s.view change ≡ None) (good : NoBadRow s.log.sup s.view)
-    (is_planned : IsPlanned s.log.sup s.view change plan) (book : KnownOfBook opening s) where
+    (none : refusal_of s.submitted change ≡ None) (good : NoBadRow s.log.sup s.submitted)
+    (is_planned : IsPlanned s.log.sup s.submitted change plan) (book : KnownOfBook opening s) where
   abbrev entry : Entry
   entry = record { client = client; line = line; command = ask.Change change; answer = answer.Accepted; acks = s.acked }
 
@@ -132,7 +132,7 @@ module _ (opening : Objects) (s : State) (client line : ℕ) (change : Change) (
   pub book_accepts : KnownOfBook opening (accepted_with client line change plan s)
   book_accepts = record {
     answers = alike_push opening s.book.entries entry book.answers
-        (inl (sym (reply_accepted s.view (replay opening (accepted s.book.entries)) change book.stand.1.shape known none)));
+        (inl (sym (reply_accepted s.submitted (replay opening (accepted s.book.entries)) change book.stand.1.shape known none)));
     counts = counts_push 0 s.acked s.book.entries entry (omega arith) book.counts refl;
     commits = record {
       of_accepted = of_entries_push s.book.entries entry s.book.commits book.commits.of_accepted;
@@ -158,13 +158,13 @@ module _ (opening : Objects) (s : State) (client line : ℕ) (change : Change) (
       now : ℕ → List ℕ
       now = bytes_with plan.fresh book.stand.0
 
-      stand : StandSomehow (rows_after s.view plan.ops) (replay opening (accepted (s.book.entries ++ entry ∷ [])))
+      stand : StandSomehow (rows_after s.submitted plan.ops) (replay opening (accepted (s.book.entries ++ entry ∷ [])))
       stand = (
         now,
-        subst (ObjectsStand now (rows_after s.view plan.ops)) (sym objects_are)
-            (planned_stand s.log.sup s.view book.stand.0 now (replay opening (accepted s.book.entries)) on.after is_planned good
-            (plan_holds s.log.sup s.view change plan is_planned book.stand.0)
-            (λ unit has. plan_spares s.log.sup s.view change plan is_planned book.stand.0 unit (page_owned s.view unit has))
+        subst (ObjectsStand now (rows_after s.submitted plan.ops)) (sym objects_are)
+            (planned_stand s.log.sup s.submitted book.stand.0 now (replay opening (accepted s.book.entries)) on.after is_planned good
+            (plan_holds s.log.sup s.submitted change plan is_planned book.stand.0)
+            (λ unit has. plan_spares s.log.sup s.submitted change plan is_planned book.stand.0 unit (page_owned s.submitted unit has))
             book.stand.1 on.effect),
       )
 
@@ -188,7 +188,7 @@ module _ (opening : Objects) (s : State) (client line : ℕ) (command : Command)
     queued = queued_noted s.book.entries more s.book.commits s.pending book.commits.of_accepted book.queued none;
     contexts = entry_push s.book.entries more (uncommitted s) book.contexts;
     last_committed = book.last_committed;
-    stand = (book.stand.0, subst (λ (l : List Change). ObjectsStand book.stand.0 s.view (replay opening l)) (sym same) book.stand.1);
+    stand = (book.stand.0, subst (λ (l : List Change). ObjectsStand book.stand.0 s.submitted (replay opening l)) (sym same) book.stand.1);
   }
     where
       same : accepted (s.book.entries ++ more ∷ []) ≡ accepted s.book.entries
@@ -210,11 +210,11 @@ module _ (opening : Objects) (s : State) (client line : ℕ) (change : Change) (
   abbrev objects_now : Objects
   objects_now = replay opening (accepted s.book.entries)
 
-  not_refused_now : refusal_of s.view change ≡ None → IsTrue (not (is_refused (reply_of (ask.Change change) objects_now)))
-  not_refused_now none = ap (λ (a : Answer). not (is_refused a)) (reply_accepted s.view objects_now change book.stand.1.shape known none)
+  not_refused_now : refusal_of s.submitted change ≡ None → IsTrue (not (is_refused (reply_of (ask.Change change) objects_now)))
+  not_refused_now none = ap (λ (a : Answer). not (is_refused a)) (reply_accepted s.submitted objects_now change book.stand.1.shape known none)
 
   cause_answers : (a : Answer) → IsCause a change s → IsAnsweredAlike objects_now (noting a)
-  cause_answers (answer.Refused refusal) cause = inl (sym (reply_refused s.view objects_now change book.stand.1.shape known refusal cause))
+  cause_answers (answer.Refused refusal) cause = inl (sym (reply_refused s.submitted objects_now change book.stand.1.shape known refusal cause))
   cause_answers (answer.NoSpace need free) cause = inr (refl, not_refused_now cause.0)
   cause_answers (answer.MetaFull need room) cause = inr (refl, not_refused_now cause.0)
   cause_answers a cause = absurd cause
@@ -237,4 +237,4 @@ pub book_answers : (opening : Objects) (s : State) (d : Disk) (client line : ℕ
 book_answers opening s d client line command a s' book is =
     subst (KnownOfBook opening) (sym is.after)
     (book_enters opening s client line command a (read_accepts_none command a is.names) book
-    (plain_answer s.view (replay opening (accepted s.book.entries)) book.stand.1.shape d command a is.names is.given))
+    (plain_answer s.submitted (replay opening (accepted s.book.entries)) book.stand.1.shape d command a is.names is.given))

@@ -30,16 +30,16 @@ use Rattle.book_facts.proofs.Accepted.{takes_plan, book_accepts, book_notes, boo
 -- ---- steps that leave the book
 
 -- the states differ in other parts
-same_book : (s t : State) → t.book ≡ s.book → t.acked ≡ s.acked → t.view ≡ s.view → s.events ≤ t.events → t.pending ≡ s.pending
+same_book : (s t : State) → t.book ≡ s.book → t.acked ≡ s.acked → t.submitted ≡ s.submitted → s.events ≤ t.events → t.pending ≡ s.pending
     → AreLike (batched t.batch) (batched s.batch) → KeepBook s t
-same_book s t book acked view events pending batch =
-    record { book = book; acked = acked; view = view; events = events; pending = like_same t.pending s.pending pending; batch = batch }
+same_book s t book acked submitted events pending batch =
+    record { book = book; acked = acked; submitted = submitted; events = events; pending = like_same t.pending s.pending pending; batch = batch }
 
 done_keeps : (j : Job) (s : State) → KeepBook s (after_done j s)
 done_keeps (job.Data place count) s = record {
   book = refl;
   acked = refl;
-  view = refl;
+  submitted = refl;
   events = omega arith;
   pending = like_with place (done_more count) (done_like count) s.pending;
   batch = like_itself (batched s.batch);
@@ -64,7 +64,7 @@ reaped_keeps true ticket s = by_down (is_some s.down)
         record {
           book = after.book;
           acked = after.acked;
-          view = after.view;
+          submitted = after.submitted;
           events = (let more = after.events in omega (arith, more));
           pending = after.pending;
           batch = after.batch;
@@ -86,7 +86,7 @@ module _ (s : State) (d : Disk) (s' : State) (d' : Disk) where
   data_keeps does = to_state (data_sent does.next.place (length (unsent_units does.next)) does.ticket s) does.after (record {
     book = refl;
     acked = refl;
-    view = refl;
+    submitted = refl;
     events = omega arith;
     pending = like_with does.next.place (given_more (length (unsent_units does.next))) (given_like (length (unsent_units does.next))) s.pending;
     batch = like_itself (batched s.batch);

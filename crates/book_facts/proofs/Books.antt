@@ -65,7 +65,7 @@ book_opened opening f space events stand = record {
 pub record KeepBook (s s' : State) : Type 0 where
   pub book : s'.book ≡ s.book
   pub acked : s'.acked ≡ s.acked
-  pub view : s'.view ≡ s.view
+  pub submitted : s'.submitted ≡ s.submitted
   pub events : s.events ≤ s'.events
   pub pending : AreLike s'.pending s.pending
   pub batch : AreLike (batched s'.batch) (batched s.batch)
@@ -96,17 +96,17 @@ kept_parts opening s pending batch events later like like_batch known = record {
 }
 
 -- what is known of the book reads these parts alone
-by_parts : (opening : Objects) (s s' : State) → s'.book ≡ s.book → s'.acked ≡ s.acked → s'.view ≡ s.view
-    → KnownOfBook opening (record s' { book = s.book; acked = s.acked; view = s.view }) → KnownOfBook opening s'
-by_parts opening s s' book acked view known =
+by_parts : (opening : Objects) (s s' : State) → s'.book ≡ s.book → s'.acked ≡ s.acked → s'.submitted ≡ s.submitted
+    → KnownOfBook opening (record s' { book = s.book; acked = s.acked; submitted = s.submitted }) → KnownOfBook opening s'
+by_parts opening s s' book acked submitted known =
     subst (λ (b : Book). KnownOfBook opening (record s' { book = b })) (sym book)
     (subst (λ (n : ℕ). KnownOfBook opening (record s' { book = s.book; acked = n })) (sym acked)
-    (subst (λ (rows : Rows). KnownOfBook opening (record s' { book = s.book; acked = s.acked; view = rows })) (sym view) known))
+    (subst (λ (rows : Rows). KnownOfBook opening (record s' { book = s.book; acked = s.acked; submitted = rows })) (sym submitted) known))
 
 pub book_stays : (opening : Objects) (s s' : State) → KeepBook s s' → KnownOfBook opening s → KnownOfBook opening s'
 book_stays opening s s' keep known =
     let kept = kept_parts opening s s'.pending s'.batch s'.events keep.events keep.pending keep.batch known in
-    by_parts opening s s' keep.book keep.acked keep.view (record {
+    by_parts opening s s' keep.book keep.acked keep.submitted (record {
       answers = kept.answers;
       counts = kept.counts;
       commits = kept.commits;

@@ -82,7 +82,7 @@ cause_wants change s (answer.MetaFull need room) cause is = absurd cc
 cause_wants change s a cause is = absurd cause
 
 -- a read isn't answered so
-read_wants : (d : Disk) (s : State) (command : Command) (a : Answer) → HasReadNames command → IsAnswerOf d s.view command a → is_no_space a ≡ true
+read_wants : (d : Disk) (s : State) (command : Command) (a : Answer) → HasReadNames command → IsAnswerOf d s.submitted command a → is_no_space a ≡ true
     → free_count s.space < units_asked command
 read_wants d s (ask.Read c o off len) (answer.NoSpace need free) names given is = absurd given.1
 read_wants d s (ask.Sum c o) (answer.NoSpace need free) names given is = absurd given.1

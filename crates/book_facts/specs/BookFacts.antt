@@ -65,7 +65,7 @@ pub record KnownOfBook (opening : Objects) (s : State) : Type 0 where
   pub queued : AreQueued s.book s.pending
   pub contexts : AllByRecursion (IsOfEntry s.book.entries) (uncommitted s)
   pub last_committed : drop (applied_count s) (commit_places s.book.commits) ≡ places (batched s.batch)
-  pub stand : StandSomehow s.view (replay opening (accepted s.book.entries))
+  pub stand : StandSomehow s.submitted (replay opening (accepted s.book.entries))
 
 -- What is known of the order alone, whatever objects the rows stand for: the commits are of accepted transactions, each collection's are
 -- in order, and each context is of its entry.

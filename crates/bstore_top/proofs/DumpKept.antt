@@ -103,8 +103,8 @@ module _ (given : Disk) (f : Found) (space : Space) (start : Disk) (s : State) (
   opened_is_up = ap (λ (z : State). z.down) mounted.state
 
   -- its rows are those that were found
-  view_is : s.view ≡ f.rows
-  view_is = ap (λ (z : State). z.view) mounted.state
+  rows_are : s.submitted ≡ f.rows
+  rows_are = ap (λ (z : State). z.submitted) mounted.state
 
   -- unmounting it takes no end, so the device stays as the mount left it
   module _ (s' : State) (d' disk : Disk) (closed : State) (same : s' ≡ s) (device : d' ≡ start) (reaped : IsReapedTo s' d' closed disk) where
@@ -123,15 +123,15 @@ module _ (given : Disk) (f : Found) (space : Space) (start : Disk) (s : State) (
     durable_unmounted fresh stays = subst (StaysDurable given empty_book) (sym device_same) (stays_durable given start fresh stays)
 
     -- what came of the walk
-    pub store_walked : (r : Result (Unit {0}) WalkFail) (free : ℕ) (colls : List CollView) → IfErr r IsOfUp → WalksTo start s.view colls
-        → OnOk r (WalksAll start s.view colls) → WalksStore given (end_of_walk r free) colls disk
+    pub store_walked : (r : Result (Unit {0}) WalkFail) (free : ℕ) (colls : List CollView) → IfErr r IsOfUp → WalksTo start s.submitted colls
+        → OnOk r (WalksAll start s.submitted colls) → WalksStore given (end_of_walk r free) colls disk
     store_walked r free colls up so_far all = record {
       found = f;
       space = space;
       first = s;
       mounted = subst (λ (x : Disk). IsOpenedOn given f space x s) (sym device_same) mounted;
       walked = subst (λ (x : Disk). Walked (end_of_walk r free) x f.rows colls) (sym device_same)
-          (subst (λ (rows : Rows). Walked (end_of_walk r free) start rows colls) view_is (walked_as r free start s.view colls up so_far all));
+          (subst (λ (rows : Rows). Walked (end_of_walk r free) start rows colls) rows_are (walked_as r free start s.submitted colls up so_far all));
     }
 
   -- ---- what it shows
@@ -150,8 +150,8 @@ module _ (given : Disk) (f : Found) (space : Space) (start : Disk) (s : State) (
     none_accepted = ap (λ (z : State). replay objects (accepted z.book.entries)) mounted.state
 
     -- the rows and the units stand for the objects
-    stand : ObjectsStand (last_at durable.history) s.view objects
-    stand = subst (ObjectsStand (last_at durable.history) s.view) none_accepted
+    stand : ObjectsStand (last_at durable.history) s.submitted objects
+    stand = subst (ObjectsStand (last_at durable.history) s.submitted) none_accepted
         (drained_view 0 objects s start durable.history kept opened_is_up opened_drained known)
 
     -- no write ended badly
@@ -159,20 +159,20 @@ module _ (given : Disk) (f : Found) (space : Space) (start : Disk) (s : State) (
     answered = drained_good 0 objects s start durable.history kept opened_is_up opened_drained known
 
     -- no row is bad
-    good_rows : NoBadRow f.sup s.view
-    good_rows = subst (NoBadRow f.sup) (sym view_is) mounted.openable.good.good
+    good_rows : NoBadRow f.sup s.submitted
+    good_rows = subst (NoBadRow f.sup) (sym rows_are) mounted.openable.good.good
 
     -- a walk to the end shows just these objects
-    shows_all : (colls : List CollView) → WalksAll start s.view colls → colls ≡ views_of objects
-    shows_all colls all = walk_is start durable.history durable.told answered s.view objects stand f.sup good_rows colls all
+    shows_all : (colls : List CollView) → WalksAll start s.submitted colls → colls ≡ views_of objects
+    shows_all colls all = walk_is start durable.history durable.told answered s.submitted objects stand f.sup good_rows colls all
 
     -- and no walk shows a bad unit
-    shows_good : (colls : List CollView) → WalksTo start s.view colls → AllByRecursion HasGoodViews colls
-    shows_good colls so_far = walk_good start durable.history durable.told answered s.view objects stand colls so_far
+    shows_good : (colls : List CollView) → WalksTo start s.submitted colls → AllByRecursion HasGoodViews colls
+    shows_good colls so_far = walk_good start durable.history durable.told answered s.submitted objects stand colls so_far
 
     -- so it is of the walk, whatever its end
-    pub walk_shows : (r : Result (Unit {0}) WalkFail) (free : ℕ) (colls : List CollView) → WalksTo start s.view colls
-        → OnOk r (WalksAll start s.view colls) → Shows (end_of_walk r free) objects colls
+    pub walk_shows : (r : Result (Unit {0}) WalkFail) (free : ℕ) (colls : List CollView) → WalksTo start s.submitted colls
+        → OnOk r (WalksAll start s.submitted colls) → Shows (end_of_walk r free) objects colls
     walk_shows (Ok u) free colls so_far all = (shows_all colls all, shows_good colls so_far)
     walk_shows (Err walk.Memory) free colls so_far all = shows_good colls so_far
     walk_shows (Err walk.DeviceRead) free colls so_far all = shows_good colls so_far

@@ -148,20 +148,20 @@ module _ (Is : List ℕ → Type 0) where
       subst (IsPast Is) same (subst (λ (f : Option X). MatchOption f (IsPast Is after) Next) is next)
 
 -- a collection that was found is the next one
-pub coll_found : (rows view : Rows) (found : Option (List ℕ)) (after last : Option (List ℕ)) (c : List ℕ) → view ≡ rows → after ≡ last
-    → found ≡ Some c → MatchOption found (IsPast (IsCollection view) after) (IsNextOf (IsCollection view) after) → IsNextOf (IsCollection rows) last c
-coll_found rows view found after last c same last_is is next =
-    subst (λ (r : Rows). IsNextOf (IsCollection r) last c) same (next_found (IsCollection view) found after last c last_is is next)
+pub coll_found : (rows later : Rows) (found : Option (List ℕ)) (after last : Option (List ℕ)) (c : List ℕ) → later ≡ rows → after ≡ last
+    → found ≡ Some c → MatchOption found (IsPast (IsCollection later) after) (IsNextOf (IsCollection later) after) → IsNextOf (IsCollection rows) last c
+coll_found rows later found after last c same last_is is next =
+    subst (λ (r : Rows). IsNextOf (IsCollection r) last c) same (next_found (IsCollection later) found after last c last_is is next)
 
 -- an object that was found is the next one, and the view is of it
-pub view_found : (d e : Disk) (rows view : Rows) (c : List ℕ) (found : Option ObjectView) (after last : Option (List ℕ)) (o : ObjectView)
-    → e ≡ d → view ≡ rows → after ≡ last → found ≡ Some o → MatchOption found (IsPast (IsObject view c) after) (IsNextView e view c after)
+pub view_found : (d e : Disk) (rows later : Rows) (c : List ℕ) (found : Option ObjectView) (after last : Option (List ℕ)) (o : ObjectView)
+    → e ≡ d → later ≡ rows → after ≡ last → found ≡ Some o → MatchOption found (IsPast (IsObject later c) after) (IsNextView e later c after)
     → IsNextView d rows c last o
-view_found d e rows view c found after last o device same last_is is next =
-    let at : IsNextView e view c after o =
-    subst (λ (f : Option ObjectView). MatchOption f (IsPast (IsObject view c) after) (IsNextView e view c after)) is next in
+view_found d e rows later c found after last o device same last_is is next =
+    let at : IsNextView e later c after o =
+    subst (λ (f : Option ObjectView). MatchOption f (IsPast (IsObject later c) after) (IsNextView e later c after)) is next in
     subst (λ (x : Option (List ℕ)). IsNextView d rows c x o) last_is
-    (subst (λ (r : Rows). IsNextView d r c after o) same (subst (λ (x : Disk). IsNextView x view c after o) device at))
+    (subst (λ (r : Rows). IsNextView d r c after o) same (subst (λ (x : Disk). IsNextView x later c after o) device at))
 
 -- ---- objects that were seen
 
@@ -221,14 +221,14 @@ module _ (d : Disk) (rows : Rows) where
   so_far colls walked = record { next = walked.next; each = whole_but_last colls walked.each }
 
   -- what was seen of a collection by rows and device that are these
-  pub whole_at : (e : Disk) (view : Rows) (v : CollView) → e ≡ d → view ≡ rows → IsWhole e view v → IsWhole d rows v
-  whole_at e view v device same whole =
-      subst (λ (r : Rows). IsWhole d r v) same (subst (λ (x : Disk). IsWhole x view v) device whole)
+  pub whole_at : (e : Disk) (later : Rows) (v : CollView) → e ≡ d → later ≡ rows → IsWhole e later v → IsWhole d rows v
+  whole_at e later v device same whole =
+      subst (λ (r : Rows). IsWhole d r v) same (subst (λ (x : Disk). IsWhole x later v) device whole)
 
   -- the same, of some objects
-  pub viewed_at : (e : Disk) (view : Rows) (v : CollView) → e ≡ d → view ≡ rows → IsViewed e view v → IsViewed d rows v
-  viewed_at e view v device same viewed =
-      subst (λ (r : Rows). IsViewed d r v) same (subst (λ (x : Disk). IsViewed x view v) device viewed)
+  pub viewed_at : (e : Disk) (later : Rows) (v : CollView) → e ≡ d → later ≡ rows → IsViewed e later v → IsViewed d rows v
+  viewed_at e later v device same viewed =
+      subst (λ (r : Rows). IsViewed d r v) same (subst (λ (x : Disk). IsViewed x later v) device viewed)
 
   -- the names of the collections with the one that comes next
   names_more : (colls more : List CollView) (v : CollView) → more ≡ colls ++ v ∷ [] → WalksWhole colls

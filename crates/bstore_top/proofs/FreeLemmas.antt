@@ -59,9 +59,9 @@ drained_free base s d h kept known up drained =
     let inside = half_inside sup contents known.slots.limits whole in
     let within : tail ≤ sup.half = omega (arith, half.room) in
     let parts = half_parts contents sup tail (records_units sup.first found.0) half.whole within inside (λ k below. (half.front k below).last) in
-    let view : s.view ≡ s.log.rows = (kept.up up).view ∙ ap (λ (xs : List Context). rows_with s.log.rows xs) idle.uncommitted in
+    let submitted : s.submitted ≡ s.log.rows = (kept.up up).submitted ∙ ap (λ (xs : List Context). rows_with s.log.rows xs) idle.uncommitted in
     let free : IsFreeExactly sup s.log.rows s.log.rows s.space =
-    subst (λ (rows : Rows). IsFreeExactly sup s.log.rows rows s.space) view (kept_free s d kept up) in
+    subst (λ (rows : Rows). IsFreeExactly sup s.log.rows rows s.space) submitted (kept_free s d kept up) in
     record {
       sup = sup;
       active = slots_read contents sup known.slots.limits whole known.slots.active.last known.slots.other.last;

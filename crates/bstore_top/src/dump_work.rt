@@ -66,8 +66,8 @@ fn walk_objects<D: Device>(
     requires named { IsCollName view.old.coll }
     requires none { view.old.objects ≡ [] }
     ensures coll { view.new.coll ≡ view.old.coll }
-    ensures viewed { IsViewed (D.disk kernel.old.device) kernel.old.state.view view.new }
-    ensures whole { OnOk result (IsWhole (D.disk kernel.old.device) kernel.old.state.view view.new) }
+    ensures viewed { IsViewed (D.disk kernel.old.device) kernel.old.state.submitted view.new }
+    ensures whole { OnOk result (IsWhole (D.disk kernel.old.device) kernel.old.state.submitted view.new) }
     ensures fails { IfErr result IsOfUp }
     ensures same { kernel.new.state ≡ kernel.old.state }
     ensures disk { D.disk kernel.new.device ≡ D.disk kernel.old.device }
@@ -95,8 +95,8 @@ fn walk_store<D: Device>(
     requires up { kernel.old.state.down ≡ None }
     requires drained { is_drained (D.disk kernel.old.device).depth kernel.old.state ≡ true }
     requires none { walk.old.items ≡ [] }
-    ensures walked { WalksTo (D.disk kernel.old.device) kernel.old.state.view walk.new.items }
-    ensures all { OnOk result (WalksAll (D.disk kernel.old.device) kernel.old.state.view walk.new.items) }
+    ensures walked { WalksTo (D.disk kernel.old.device) kernel.old.state.submitted walk.new.items }
+    ensures all { OnOk result (WalksAll (D.disk kernel.old.device) kernel.old.state.submitted walk.new.items) }
     ensures fails { IfErr result IsOfUp }
     ensures same { kernel.new.state ≡ kernel.old.state }
     ensures disk { D.disk kernel.new.device ≡ D.disk kernel.old.device }

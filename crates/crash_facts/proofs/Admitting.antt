@@ -42,8 +42,8 @@ use Rattle.crash_facts.specs.Store.{ContextsStand}
 -- ---- it is accepted
 
 module _ (opening : Objects) (s : State) (client line : ℕ) (change : Change) (plan : Plan) (h : History) (known : IsKnown change.ops)
-    (none : refusal_of s.view change ≡ None) (good : NoBadRow s.log.sup s.log.rows)
-    (planned : IsPlanned s.log.sup s.view change plan) (same : s.view ≡ s.log.rows)
+    (none : refusal_of s.submitted change ≡ None) (good : NoBadRow s.log.sup s.log.rows)
+    (planned : IsPlanned s.log.sup s.submitted change plan) (same : s.submitted ≡ s.log.rows)
     (book : KnownOfBook opening (at s idle)) (stand : ContextsStand opening (at s idle) h) where
   abbrev t : State
   t = at s idle

@@ -27,7 +27,7 @@ use Rattle.book_facts.proofs.Commits.{all_append}
 use Rattle.book_facts.proofs.Entries.{answers_push, alike_last}
 use Rattle.book_facts.proofs.Rooms.{step_room}
 use Rattle.crash_facts.specs.Store.{KnownOfStore, IsDurable}
-use Rattle.crash_facts.proofs.Idle.{drained_view, drained_good}
+use Rattle.crash_facts.proofs.Idle.{drained_submitted, drained_good}
 
 -- each entry has the answer that plain objects give, and none names a bad unit
 pub record AreAnswered (opening : Objects) (entries : List Entry) : Type 0 where
@@ -102,8 +102,8 @@ read_is_plain : (base : ℕ) (opening : Objects) (client line : ℕ) (command : 
     → a ≡ reply_of command (replay opening (accepted s.book.entries))
 read_is_plain base opening client line command a s s' d h kept may known is =
     let up : s.down ≡ None = is.can_note.up in
-    seen_answer d h known.units.told (drained_good base opening s d h kept up (may.drained up) known) s.view
-    (replay opening (accepted s.book.entries)) (drained_view base opening s d h kept up (may.drained up) known) command a is.names is.given
+    seen_answer d h known.units.told (drained_good base opening s d h kept up (may.drained up) known) s.submitted
+    (replay opening (accepted s.book.entries)) (drained_submitted base opening s d h kept up (may.drained up) known) command a is.names is.given
 
 -- what a read leaves
 read_answers : (base : ℕ) (opening : Objects) (client line : ℕ) (command : Command) (s s' : State) (d : Disk) → IsKept s d → MayRead command s d

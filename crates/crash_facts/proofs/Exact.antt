@@ -17,7 +17,7 @@ use Rattle.store_steps.specs.declared.context.Context.{Context}
 use Rattle.store_steps.specs.State.{State}
 use Rattle.store_facts.specs.Space.{uncommitted, rows_with}
 use Rattle.store_facts.specs.Kept.{IsKept}
-use Rattle.store_facts.proofs.Exactness.{kept_view}
+use Rattle.store_facts.proofs.Exactness.{kept_submitted}
 use Rattle.store_facts.proofs.Stages.{Stage, idle, waits, opens, flushes, flushed, writes, syncs, synced, Holds, at, begun_of, by_stage}
 use Rattle.store_facts.proofs.Readiness.{contexts_of}
 use Rattle.book_facts.specs.BookFacts.{contexts_on}
@@ -77,13 +77,13 @@ stage_ends leaked s (synced x pieces) holds before after = exact_one leaked s.lo
 
 module _ (before : List ℕ) (s : State) (d : Disk) (kept : IsKept s d) (up : s.down ≡ None) (exact : IsExactBut (IsLeakedIn before) s.log.rows) where
   -- the submitted rows are as exact as the committed ones
-  pub view_exact : IsExactBut (IsLeakedIn before) (rows_with s.log.rows (uncommitted s))
-  view_exact = subst (λ (rows : Rows). IsExactBut (IsLeakedIn before) rows) (kept.up up).view
-      (exact_over before s.log.rows s.view exact (kept_view s d kept up).exact)
+  pub submitted_exact : IsExactBut (IsLeakedIn before) (rows_with s.log.rows (uncommitted s))
+  submitted_exact = subst (λ (rows : Rows). IsExactBut (IsLeakedIn before) rows) (kept.up up).submitted
+      (exact_over before s.log.rows s.submitted exact (kept_submitted s d kept up).exact)
 
   -- so each selection is
   pub kept_selections : SelectionsAreExact (IsLeakedIn before) s.log.rows (uncommitted s)
-  kept_selections = by_stage (IsByEnds (IsLeakedIn before)) s (stage_ends (IsLeakedIn before) s) (kept.up up).far exact view_exact
+  kept_selections = by_stage (IsByEnds (IsLeakedIn before)) s (stage_ends (IsLeakedIn before) s) (kept.up up).far exact submitted_exact
 
 -- ---- the record that is being written
 

@@ -52,12 +52,12 @@ module _ (base : ℕ) (opening : Objects) (s : State) (d : Disk) (h : History) (
   idle = known_idle s d kept up drained
 
   -- the submitted rows are the committed ones
-  same_rows : s.view ≡ s.log.rows
-  same_rows = (kept.up up).view ∙ ap (rows_with s.log.rows) idle.uncommitted
+  same_rows : s.submitted ≡ s.log.rows
+  same_rows = (kept.up up).submitted ∙ ap (rows_with s.log.rows) idle.uncommitted
 
   -- so they stand for these objects too
-  pub drained_view : ObjectsStand (last_at h) s.view (replay opening (accepted s.book.entries))
-  drained_view = subst (λ (rows : Rows). ObjectsStand (last_at h) rows (replay opening (accepted s.book.entries))) (sym same_rows)
+  pub drained_submitted : ObjectsStand (last_at h) s.submitted (replay opening (accepted s.book.entries))
+  drained_submitted = subst (λ (rows : Rows). ObjectsStand (last_at h) rows (replay opening (accepted s.book.entries))) (sym same_rows)
       (idle_objects base opening s d h idle known)
 
   -- each ticket has one end

@@ -27,8 +27,8 @@ use Rattle.crash_facts.proofs.Standing.{quiet_stand, data_stand, log_stand, comm
 use Rattle.crash_facts.proofs.Admitting.{accept_stand, enter_stand}
 
 -- the rows that a kernel keeps
-view_of : (s : State) (d : Disk) → IsKept s d → s.down ≡ None → s.view ≡ rows_with s.log.rows (uncommitted s)
-view_of s d kept up = (kept.up up).view
+submitted_of : (s : State) (d : Disk) → IsKept s d → s.down ≡ None → s.submitted ≡ rows_with s.log.rows (uncommitted s)
+submitted_of s d kept up = (kept.up up).submitted
 
 pub move_stand : {s s' : State} {d d' : Disk} {h h' : History} (base : ℕ) (opening : Objects) → Move s d h s' d' h' → IsKept s d → s.down ≡ None
     → KnownOfUnits base s d h → KnownOfBook opening s → ContextsStand opening s h → ContextsStand opening s' h'
@@ -48,7 +48,7 @@ move_stand base opening (seals s g g' x d h number fits room most batch pending 
     seal_stand opening s g g' h batch pending stand
 move_stand base opening (record_goes s x given written flying flying' ticket d d' h more room size limits are submitted) kept up units book stand =
     let good : NoBadRow s.log.sup (rows_after s.log.rows x.ops) =
-    subst (λ (rows : Rows). NoBadRow s.log.sup rows) (view_of (at s (writes x given written flying)) d kept up) (kept.up up).good.good in
+    subst (λ (rows : Rows). NoBadRow s.log.sup rows) (submitted_of (at s (writes x given written flying)) d kept up) (kept.up up).good.good in
     log_stand h (piece_of s x given) s.log.sup s.log.rows x (replay opening (applied_changes (at s (writes x given written flying)))) s.book.entries
     (kept.up up).committed.good good
     (λ unit is. sym (last_push h (piece_of s x given) unit (piece_fits base s x given d d' h more room size limits)
@@ -66,7 +66,7 @@ move_stand base opening (commits s x pieces d h written every) kept up units boo
 move_stand base opening (finishes s d h) kept up units book stand = finish_stand opening s h stand
 move_stand base opening (accepts client line change s s' d h may does) kept up units book stand =
     accept_stand opening s client line change does.plan h may.known does.not_refused (kept.up up).committed.good
-    (takes_plan (at s idle) d client line change s' kept may does) (view_of (at s idle) d kept up) book stand
+    (takes_plan (at s idle) d client line change s' kept may does) (submitted_of (at s idle) d kept up) book stand
 move_stand base opening (enters client line command a s d h drained) kept up units book stand =
     enter_stand opening s client line command a h (known_idle s d kept up (drained up)).uncommitted book stand
 move_stand base opening (rests s d d' h waited) kept up units book stand = stand

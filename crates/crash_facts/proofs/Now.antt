@@ -151,11 +151,11 @@ given_at : (base : ℕ) (opening : Objects) (s : State) (g : Stage) (x : Context
     → UnitsAreFlushed h flushed (x.fresh ++ []) → contexts_of g ≡ x ∷ []
     → IsKept (at s g) d → (at s g).down ≡ None → KnownOfStore base opening (at s g) d h → IsGivenSound opening h (at s g)
 given_at base opening s g x b d h written is one none ops_are flushed_units contexts kept up known ops begun given =
-    let view : NoBadRow s.log.sup (rows_after s.log.rows x.ops) =
-    subst (λ (rows : Rows). NoBadRow s.log.sup rows) ((kept.up up).view ∙ ap (rows_with s.log.rows) contexts) (kept.up up).good.good in
+    let submitted : NoBadRow s.log.sup (rows_after s.log.rows x.ops) =
+    subst (λ (rows : Rows). NoBadRow s.log.sup rows) ((kept.up up).submitted ∙ ap (rows_with s.log.rows) contexts) (kept.up up).good.good in
     let found : IsGiven h s x = record {
       written = written;
-      good = view;
+      good = submitted;
       clean = subst (λ (xs : List Context). OtherUnitsAreClean h s.log.sup (given_fresh xs)) contexts known.units.clean;
       held = subst (λ (xs : List Context). HeldBytesAreLast h (given_fresh xs)) contexts known.units.held;
       flushed_units = flushed_units;

@@ -62,7 +62,7 @@ pub fn a_durable_book_is_legal()
 pub fn a_drained_store_can_be_read()
     ensures stand { (base : ℕ) (opening : Objects) (s : State) (d : Disk) (h : History) → IsKept s d → s.down ≡ None →
         is_drained d.depth s ≡ true → KnownOfStore base opening s d h →
-        ObjectsStand (last_at h) s.view (replay opening (accepted s.book.entries)) }
+        ObjectsStand (last_at h) s.submitted (replay opening (accepted s.book.entries)) }
     ensures answered { (base : ℕ) (opening : Objects) (s : State) (d : Disk) (h : History) → IsKept s d → s.down ≡ None →
         is_drained d.depth s ≡ true → KnownOfStore base opening s d h → (unit : ℕ) → HasNoBadDone h.log unit }
 {}

@@ -120,7 +120,7 @@ module _ (given now : Disk) (h : History) (objects : Objects) (f : Found) (space
         history = told.now;
         told = told.told;
         rows = subst (λ r. ObjectsStand (last_at told.now) r objects) (sym rows) after.stands.sound.stand;
-        view = ap (λ (z : State). z.view) mounted.state ∙ sym rows;
+        submitted = ap (λ (z : State). z.submitted) mounted.state ∙ sym rows;
         up = ap (λ (z : State). z.down) mounted.state;
         pending = ap (λ (z : State). z.pending) mounted.state;
         book = ap (λ (z : State). z.book) mounted.state;

@@ -27,7 +27,7 @@ pub record BeginsWith (objects : Objects) (base : ℕ) (d : Disk) (s : State) : 
   pub history : History
   pub told : d.history ≡ Some history
   pub rows : ObjectsStand (last_at history) s.log.rows objects
-  pub view : s.view ≡ s.log.rows
+  pub submitted : s.submitted ≡ s.log.rows
   pub up : s.down ≡ None
   pub pending : s.pending ≡ []
   pub book : s.book ≡ record { entries = []; commits = [] }

@@ -45,17 +45,17 @@ fn clear_log<D: Device>(alloc: Global, dev: &mut D, found: &FoundStore) -> Resul
     )
 }
 
-/// Clears what is behind the records, and opens the kernel. `view` is a copy of the rows.
+/// Clears what is behind the records, and opens the kernel. `submitted` is a copy of the rows.
 fn open_on<D: Device>(
     alloc: Global,
     dev: D,
     found: FoundStore,
-    view: RowTable,
+    submitted: RowTable,
     space: Allocator,
 ) -> Result<Kernel<D>, (MountFail, D)>
     requires idle { (D.disk dev).flights ≡ [] }
     requires found { IsFoundOn (D.disk dev) found }
-    requires view { view.rows ≡ found.log.rows.rows }
+    requires submitted { submitted.rows ≡ found.log.rows.rows }
     requires judged { IsJudged (as_found found) space }
     ensures ok { IfOk result (λ k. IsOpenedOn (D.disk dev) (as_found found) space (D.disk k.device) k.state) }
     ensures fails { IfErr result (λ e. FailsMount e.0 (D.disk dev) (D.faults dev) (D.faults e.1)) }
@@ -73,7 +73,7 @@ fn open_on<D: Device>(
     let _ = dev.units();
     let FoundStore { sup, log, stale: _ } = found;
     let meta = MetaStore::open(&sup, log.rows, log.tail, log.number);
-    Ok(Kernel::open(alloc, dev, meta, view, space, events))
+    Ok(Kernel::open(alloc, dev, meta, submitted, space, events))
 }
 
 /// Opens the store on the device: the superblock of greatest epoch tells where its log is, and the log's records make the rows. It reads
@@ -99,10 +99,10 @@ pub fn mount<D: Device>(alloc: Global, dev: D) -> Result<Kernel<D>, (MountFail, 
         Ok(space) => space,
         Err(fail) => return Err((fail, dev)),
     };
-    let Ok(view) = found.log.rows.copy(alloc) else {
+    let Ok(submitted) = found.log.rows.copy(alloc) else {
         return Err((MountFail::Memory, dev));
     };
-    open_on(alloc, dev, found, view, space)
+    open_on(alloc, dev, found, submitted, space)
 }
 
 /// Whether something is in flight.

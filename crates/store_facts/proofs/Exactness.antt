@@ -14,10 +14,10 @@ use Rattle.store_facts.proofs.RowsFacts.{taken_by}
 pub kept_committed : (s : State) (d : Disk) → IsKept s d → s.down ≡ None → AreGoodRows s.log.sup s.log.rows s.log.rows
 kept_committed s d kept up = (kept.up up).committed
 
-pub kept_view : (s : State) (d : Disk) → IsKept s d → s.down ≡ None → AreGoodRows s.log.sup s.log.rows s.view
-kept_view s d kept up = (kept.up up).good
+pub kept_submitted : (s : State) (d : Disk) → IsKept s d → s.down ≡ None → AreGoodRows s.log.sup s.log.rows s.submitted
+kept_submitted s d kept up = (kept.up up).good
 
-pub kept_free : (s : State) (d : Disk) → IsKept s d → s.down ≡ None → IsFreeExactly s.log.sup s.log.rows s.view s.space
+pub kept_free : (s : State) (d : Disk) → IsKept s d → s.down ≡ None → IsFreeExactly s.log.sup s.log.rows s.submitted s.space
 kept_free s d kept up = (kept.up up).free
 
 pub kept_space : (s : State) (d : Disk) → IsKept s d → s.down ≡ None → IsSpaceOf s.log.sup s.space
@@ -61,7 +61,7 @@ module _ (s : State) (d : Disk) (unit : ℕ) (kept : IsKept s d) (up : s.down �
   ]
 
   -- a unit that the submitted rows have marked is marked in the committed ones, or some context took it
-  marked_busy : IsMarked s.view unit → IsBusyNow
+  marked_busy : IsMarked s.submitted unit → IsBusyNow
   marked_busy marked = elim (facts.good.exact.marked unit small marked) [
     | inl owned ↦ elim (facts.releases.new unit owned) [
       | inl old ↦ inl (facts.committed.exact.owned_marked unit old)

@@ -93,7 +93,7 @@ kept_of s d always standing rows = record {
   up = λ _. record {
     far = standing.far;
     untouched = standing.untouched;
-    view = rows.view;
+    submitted = rows.submitted;
     committed = rows.committed;
     good = rows.good;
     free = rows.free;
@@ -125,7 +125,7 @@ waited_kept s d d' sound kept (inr more) = record {
       record {
         far = up.far;
         untouched = subst (λ (e : Disk). IsNextUntouched s.log s.pending e.flights) (sym more.2) up.untouched;
-        view = up.view;
+        submitted = up.submitted;
         committed = up.committed;
         good = up.good;
         free = up.free;

@@ -81,7 +81,7 @@ kept_accept s s' d client line change kept may does =
 
 -- an entry of the book changes no rows
 same_entered : (s : State) (client line : ℕ) (command : Command) (a : Answer) → HaveSameRows s (entered client line command a s)
-same_entered s client line command a = record { sup = refl; rows = refl; view = refl; space = refl; contexts = like_itself (uncommitted s) }
+same_entered s client line command a = record { sup = refl; rows = refl; submitted = refl; space = refl; contexts = like_itself (uncommitted s) }
 
 pub kept_refuse : (s s' : State) (d : Disk) (client line : ℕ) (change : Change) (a : Answer) → IsKept s d → MaySubmit change s d
     → Refuses client line change a s s' → IsKept s' d

@@ -93,12 +93,12 @@ module _ (s : Super) (rows : Rows) (space : Space) (limits : IsSuper s) (good : 
 
 module _ (s : State) (client line : ℕ) (change : Change) (s' : State) (limits : IsSuper s.log.sup) (kept : AreRowsKept s)
     (known : IsKnown change.ops) (does : Accepts client line change s s') where
-  pub accepted_plan : IsPlanned s.log.sup s.view change does.plan
-  accepted_plan = planned s.log.sup s.log.rows s.view s.space limits kept.good kept.space kept.free change.coll change.ops does.plan known
+  pub accepted_plan : IsPlanned s.log.sup s.submitted change does.plan
+  accepted_plan = planned s.log.sup s.log.rows s.submitted s.space limits kept.good kept.space kept.free change.coll change.ops does.plan known
       does.names does.not_refused does.plans
 
   pub accepted_fits : PlanFits does.plan
-  accepted_fits = plan_fits s.log.sup s.view s.space change.coll change.ops does.plan kept.good.good known does.not_refused does.plans accepted_plan
+  accepted_fits = plan_fits s.log.sup s.submitted s.space change.coll change.ops does.plan kept.good.good known does.not_refused does.plans accepted_plan
 
   -- so its context has room for its record
   pub accepted_record : FitsRecord (context_of (length s.book.entries) change s.log does.plan)
@@ -130,34 +130,34 @@ module _ (s : State) (client line : ℕ) (change : Change) (s' : State) (limits 
   abbrev t : State
   t = accepted_with client line change plan s
 
-  same_view : s.view ≡ s.log.rows
-  same_view = kept.view ∙ ap (rows_with s.log.rows) (idle_contexts s pending batch)
+  same_submitted : s.submitted ≡ s.log.rows
+  same_submitted = kept.submitted ∙ ap (rows_with s.log.rows) (idle_contexts s pending batch)
 
   free_now : IsFreeExactly s.log.sup s.log.rows s.log.rows s.space
-  free_now = subst (λ view. IsFreeExactly s.log.sup s.log.rows view s.space) same_view kept.free
+  free_now = subst (λ submitted. IsFreeExactly s.log.sup s.log.rows submitted s.space) same_submitted kept.free
 
   is_planned : IsPlanned s.log.sup s.log.rows change plan
-  is_planned = subst (λ rows. IsPlanned s.log.sup rows change plan) same_view
+  is_planned = subst (λ rows. IsPlanned s.log.sup rows change plan) same_submitted
       (accepted_plan s client line change s' limits kept known does)
 
   abbrev then : Space
   then = taken s.space (units_of plan.fresh)
 
-  later_view : rows_after s.view plan.ops ≡ rows_after s.log.rows plan.ops
-  later_view = ap (λ m. rows_after m plan.ops) same_view
+  later_rows : rows_after s.submitted plan.ops ≡ rows_after s.log.rows plan.ops
+  later_rows = ap (λ m. rows_after m plan.ops) same_submitted
 
   one_context : uncommitted t ≡ x ∷ []
   one_context = ap (λ b. option_map_or (λ (c : Batch). c.contexts) b [] ++ (s.pending ++ x ∷ [])) batch ∙ ap (λ l. l ++ x ∷ []) pending
 
   later_rows : AreRowsKept t
   later_rows = record {
-    view = later_view ∙ ap (rows_with s.log.rows) (sym one_context);
+    submitted = later_rows ∙ ap (rows_with s.log.rows) (sym one_context);
     committed = kept.committed;
-    good = subst (AreGoodRows s.log.sup s.log.rows) (sym later_view)
+    good = subst (AreGoodRows s.log.sup s.log.rows) (sym later_rows)
         (good_after s.log.sup s.log.rows s.space limits kept.committed kept.space free_now change plan is_planned);
-    free = subst (λ m. IsFreeExactly s.log.sup s.log.rows m then) (sym later_view)
+    free = subst (λ m. IsFreeExactly s.log.sup s.log.rows m then) (sym later_rows)
         (free_after s.log.sup s.log.rows s.space limits kept.committed kept.space free_now change plan is_planned);
-    releases = subst (λ m. ReleasesExactly s.log.rows m (uncommitted t)) (sym later_view)
+    releases = subst (λ m. ReleasesExactly s.log.rows m (uncommitted t)) (sym later_rows)
         (subst (ReleasesExactly s.log.rows (rows_after s.log.rows plan.ops)) (sym one_context)
         (releases_after s.log.sup s.log.rows s.space limits kept.committed kept.space free_now change plan is_planned x refl refl));
     space = space_taken s.log.sup s.space (units_of plan.fresh) kept.space;

@@ -70,11 +70,11 @@ module _ (s : State) (kept : AreRowsKept s) (far : IsOneAtATime s.log.number s.p
   ops_are = ap (λ xs. flat_map (λ (y : Context). y.ops) xs) alone.1.1 ∙ append-nil x.ops
 
   -- what is committed then are the submitted rows
-  rows_are : rows_after s.log.rows (batch_ops b) ≡ s.view
-  rows_are = ap (rows_after s.log.rows) ops_are ∙ sym (kept.view ∙ ap (rows_with s.log.rows) (contexts_are ∙ alone.1.1))
+  rows_are : rows_after s.log.rows (batch_ops b) ≡ s.submitted
+  rows_are = ap (rows_after s.log.rows) ops_are ∙ sym (kept.submitted ∙ ap (rows_with s.log.rows) (contexts_are ∙ alone.1.1))
 
-  releases : ReleasesExactly s.log.rows s.view b.contexts
-  releases = subst (ReleasesExactly s.log.rows s.view) contexts_are kept.releases
+  releases : ReleasesExactly s.log.rows s.submitted b.contexts
+  releases = subst (ReleasesExactly s.log.rows s.submitted) contexts_are kept.releases
 
   pub released_data : AreData s.log.sup (batch_released b)
   released_data v c = owned_is_data s.log.sup s.log.rows s.log.rows v kept.committed (releases.released_was v c)
@@ -99,26 +99,26 @@ module _ (s : State) (kept : AreRowsKept s) (far : IsOneAtATime s.log.number s.p
   abbrev back : Space
   back = given s.space (batch_released b)
 
-  good_back : AreGoodRows s.log.sup s.view s.view
-  good_back = record { good = kept.good.good; exact = as_itself (IsLeaked s.log.rows) s.view kept.good.exact }
+  good_back : AreGoodRows s.log.sup s.submitted s.submitted
+  good_back = record { good = kept.good.good; exact = as_itself (IsLeaked s.log.rows) s.submitted kept.good.exact }
 
   module _ (limits : IsSuper s.log.sup) where
     small : (v : ℕ) → IsDataUnit s.log.sup v → v < 2 ^ 32
     small v on = omega (arith, on.1, limits.units_most)
 
     -- what was released isn't marked in the submitted rows
-    released_unmarked : (v : ℕ) → Contains (batch_released b) v → ¬ IsMarked s.view v
+    released_unmarked : (v : ℕ) → Contains (batch_released b) v → ¬ IsMarked s.submitted v
     released_unmarked v c marked = elim (kept.good.exact.marked v (small v (released_data v c)) marked) [
       | inl owned ↦ releases.released_is_not v c owned
       | inr leaked ↦ leaked.0.unowned (releases.released_was v c)
     ]
 
     -- and what isn't marked in them was released or isn't marked in the committed ones
-    committed_unmarked : (v : ℕ) → IsDataUnit s.log.sup v → ¬ Contains (batch_released b) v → ¬ IsMarked s.view v → ¬ IsMarked s.log.rows v
-    committed_unmarked v on out none marked = elim (releases.marked v (small v on) marked) [ inl view ↦ none view | inr c ↦ out c ]
+    committed_unmarked : (v : ℕ) → IsDataUnit s.log.sup v → ¬ Contains (batch_released b) v → ¬ IsMarked s.submitted v → ¬ IsMarked s.log.rows v
+    committed_unmarked v on out none marked = elim (releases.marked v (small v on) marked) [ inl submitted ↦ none submitted | inr c ↦ out c ]
 
     -- a unit is free then exactly where it isn't marked
-    free_then : IsFreeExactly s.log.sup s.view s.view back
+    free_then : IsFreeExactly s.log.sup s.submitted s.submitted back
     free_then v on = (
       λ p. elim (in_or_not (batch_released b) v) [
         | inl c ↦ (released_unmarked v c, released_unmarked v c)
@@ -136,12 +136,12 @@ module _ (s : State) (kept : AreRowsKept s) (far : IsOneAtATime s.log.number s.p
 
     pub committed_rows : AreRowsKept (committed_batch b s)
     committed_rows = record {
-      view = sym (ap (rows_with (rows_after s.log.rows (batch_ops b))) alone.0 ∙ rows_are);
+      submitted = sym (ap (rows_with (rows_after s.log.rows (batch_ops b))) alone.0 ∙ rows_are);
       committed = subst (λ rows. AreGoodRows s.log.sup rows rows) (sym rows_are) good_back;
-      good = subst (λ rows. AreGoodRows s.log.sup rows s.view) (sym rows_are) good_back;
-      free = subst (λ rows. IsFreeExactly s.log.sup rows s.view back) (sym rows_are) free_then;
-      releases = subst (λ rows. ReleasesExactly rows s.view s.pending) (sym rows_are)
-          (subst (ReleasesExactly s.view s.view) (sym alone.0) (no_contexts s.view));
+      good = subst (λ rows. AreGoodRows s.log.sup rows s.submitted) (sym rows_are) good_back;
+      free = subst (λ rows. IsFreeExactly s.log.sup rows s.submitted back) (sym rows_are) free_then;
+      releases = subst (λ rows. ReleasesExactly rows s.submitted s.pending) (sym rows_are)
+          (subst (ReleasesExactly s.submitted s.submitted) (sym alone.0) (no_contexts s.submitted));
       space = space_given s.log.sup s.space (batch_released b) kept.space;
     }
 

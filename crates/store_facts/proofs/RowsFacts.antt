@@ -83,7 +83,7 @@ each_on_data s (x ∷ xs) all = (
 module _ (s : State) (d : Disk) (kept : IsKept s d) (up : s.down ≡ None) where
   -- they are data units
   pub taken_data : AreData s.log.sup (taken_by (uncommitted s))
-  taken_data u c = owned_is_data s.log.sup s.log.rows s.view u (kept.up up).good ((kept.up up).releases.taken_is u c)
+  taken_data u c = owned_is_data s.log.sup s.log.rows s.submitted u (kept.up up).good ((kept.up up).releases.taken_is u c)
 
   pub pending_on_data : AllByRecursion (λ x. AllByRecursion (λ f. IsDataUnit s.log.sup f.unit) x.fresh) s.pending
   pending_on_data = each_on_data s.log.sup s.pending
@@ -95,7 +95,7 @@ module _ (s : State) (d : Disk) (kept : IsKept s d) (up : s.down ≡ None) where
   -- ---- what an accepted transaction takes
 
   pub plan_is : (client line : ℕ) (change : Change) (s' : State) → IsKnown change.ops → (does : Accepts client line change s s')
-      → IsPlanned s.log.sup s.view change does.plan
+      → IsPlanned s.log.sup s.submitted change does.plan
   plan_is client line change s' known does = accepted_plan s client line change s' kept.always.limits (rows_of_kept s d kept up) known does
 
   pub plan_fits_of : (client line : ℕ) (change : Change) (s' : State) → IsKnown change.ops → (does : Accepts client line change s s')

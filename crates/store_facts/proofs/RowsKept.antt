@@ -12,18 +12,18 @@ use Rattle.store_facts.specs.Kept.{IsKept}
 
 -- the facts of rows and free units
 pub record AreRowsKept (s : State) : Type 0 where
-  pub view : s.view ≡ rows_with s.log.rows (uncommitted s)
+  pub submitted : s.submitted ≡ rows_with s.log.rows (uncommitted s)
   pub committed : AreGoodRows s.log.sup s.log.rows s.log.rows
-  pub good : AreGoodRows s.log.sup s.log.rows s.view
-  pub free : IsFreeExactly s.log.sup s.log.rows s.view s.space
-  pub releases : ReleasesExactly s.log.rows s.view (uncommitted s)
+  pub good : AreGoodRows s.log.sup s.log.rows s.submitted
+  pub free : IsFreeExactly s.log.sup s.log.rows s.submitted s.space
+  pub releases : ReleasesExactly s.log.rows s.submitted (uncommitted s)
   pub space : IsSpaceOf s.log.sup s.space
 
 pub rows_of_kept : (s : State) (d : Disk) → IsKept s d → s.down ≡ None → AreRowsKept s
 rows_of_kept s d kept up =
     let facts = kept.up up in
     record {
-      view = facts.view;
+      submitted = facts.submitted;
       committed = facts.committed;
       good = facts.good;
       free = facts.free;
@@ -69,13 +69,13 @@ lists_alike f same (x ∷ xs) [] like = absurd like
 lists_alike f same (x ∷ xs) (y ∷ ys) like =
     ap (λ l. l ++ flat_map f xs) (same x y like.0) ∙ ap (λ l. f y ++ l) (lists_alike f same xs ys like.1)
 
-releases_alike : (rows view : Rows) (xs ys : List Context) → AreLike xs ys → ReleasesExactly rows view ys → ReleasesExactly rows view xs
-releases_alike rows view xs ys like all =
+releases_alike : (rows submitted : Rows) (xs ys : List Context) → AreLike xs ys → ReleasesExactly rows submitted ys → ReleasesExactly rows submitted xs
+releases_alike rows submitted xs ys like all =
     let released : flat_map (λ x. x.released) xs ≡ flat_map (λ x. x.released) ys = lists_alike (λ x. x.released) (λ x y l. l.released) xs ys like in
     let taken = lists_alike (λ x. map (λ f. f.unit) x.fresh) (λ x y l. ap (λ fs. map (λ f. f.unit) fs) l.fresh) xs ys like in
     record {
-      owned = λ unit owned. subst (λ us. IsOwned view unit ⊎ Contains us unit) (sym released) (all.owned unit owned);
-      marked = λ unit small is. subst (λ us. IsMarked view unit ⊎ Contains us unit) (sym released) (all.marked unit small is);
+      owned = λ unit owned. subst (λ us. IsOwned submitted unit ⊎ Contains us unit) (sym released) (all.owned unit owned);
+      marked = λ unit small is. subst (λ us. IsMarked submitted unit ⊎ Contains us unit) (sym released) (all.marked unit small is);
       released_was = λ unit c. all.released_was unit (subst (λ us. Contains us unit) released c);
       released_is_not = λ unit c. all.released_is_not unit (subst (λ us. Contains us unit) released c);
       taken_was_not = λ unit c. all.taken_was_not unit (subst (λ us. Contains us unit) taken c);
@@ -89,24 +89,24 @@ releases_alike rows view xs ys like all =
 pub record HaveSameRows (s s' : State) : Type 0 where
   pub sup : s'.log.sup ≡ s.log.sup
   pub rows : s'.log.rows ≡ s.log.rows
-  pub view : s'.view ≡ s.view
+  pub submitted : s'.submitted ≡ s.submitted
   pub space : s'.space ≡ s.space
   pub contexts : AreLike (uncommitted s') (uncommitted s)
 
 pub rows_stay : (s s' : State) → HaveSameRows s s' → AreRowsKept s → AreRowsKept s'
 rows_stay s s' same kept = record {
-  view = same.view ∙ kept.view ∙ sym (rows_alike s.log.rows (uncommitted s') (uncommitted s) same.contexts)
+  submitted = same.submitted ∙ kept.submitted ∙ sym (rows_alike s.log.rows (uncommitted s') (uncommitted s) same.contexts)
       ∙ ap (λ rows. rows_with rows (uncommitted s')) (sym same.rows);
   committed = subst (λ sup. AreGoodRows sup s'.log.rows s'.log.rows) (sym same.sup)
       (subst (λ rows. AreGoodRows s.log.sup rows rows) (sym same.rows) kept.committed);
-  good = subst (λ sup. AreGoodRows sup s'.log.rows s'.view) (sym same.sup)
-      (subst (λ rows. AreGoodRows s.log.sup rows s'.view) (sym same.rows) (subst (AreGoodRows s.log.sup s.log.rows) (sym same.view) kept.good));
-  free = subst (λ sup. IsFreeExactly sup s'.log.rows s'.view s'.space) (sym same.sup)
-      (subst (λ rows. IsFreeExactly s.log.sup rows s'.view s'.space) (sym same.rows)
-      (subst (λ view. IsFreeExactly s.log.sup s.log.rows view s'.space) (sym same.view)
-      (subst (IsFreeExactly s.log.sup s.log.rows s.view) (sym same.space) kept.free)));
-  releases = subst (λ rows. ReleasesExactly rows s'.view (uncommitted s')) (sym same.rows)
-      (subst (λ view. ReleasesExactly s.log.rows view (uncommitted s')) (sym same.view)
-      (releases_alike s.log.rows s.view (uncommitted s') (uncommitted s) same.contexts kept.releases));
+  good = subst (λ sup. AreGoodRows sup s'.log.rows s'.submitted) (sym same.sup)
+      (subst (λ rows. AreGoodRows s.log.sup rows s'.submitted) (sym same.rows) (subst (AreGoodRows s.log.sup s.log.rows) (sym same.submitted) kept.good));
+  free = subst (λ sup. IsFreeExactly sup s'.log.rows s'.submitted s'.space) (sym same.sup)
+      (subst (λ rows. IsFreeExactly s.log.sup rows s'.submitted s'.space) (sym same.rows)
+      (subst (λ submitted. IsFreeExactly s.log.sup s.log.rows submitted s'.space) (sym same.submitted)
+      (subst (IsFreeExactly s.log.sup s.log.rows s.submitted) (sym same.space) kept.free)));
+  releases = subst (λ rows. ReleasesExactly rows s'.submitted (uncommitted s')) (sym same.rows)
+      (subst (λ submitted. ReleasesExactly s.log.rows submitted (uncommitted s')) (sym same.submitted)
+      (releases_alike s.log.rows s.submitted (uncommitted s') (uncommitted s) same.contexts kept.releases));
   space = subst (λ sup. IsSpaceOf sup s'.space) (sym same.sup) (subst (IsSpaceOf s.log.sup) (sym same.space) kept.space);
 }

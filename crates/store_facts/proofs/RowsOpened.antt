@@ -8,7 +8,7 @@ use Rattle.store_facts.proofs.RowsCommitted.{no_contexts}
 
 pub opened_rows : (f : Found) (space : Space) (events units : ℕ) → IsOpenable f space units → AreRowsKept (opened f space events)
 opened_rows f space events units is = record {
-  view = refl;
+  submitted = refl;
   committed = is.good;
   good = is.good;
   free = is.free;

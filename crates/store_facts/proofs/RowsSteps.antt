@@ -51,7 +51,7 @@ second_same (Some b) = refl
 -- ---- states
 
 same_itself : (s : State) → HaveSameRows s s
-same_itself s = record { sup = refl; rows = refl; view = refl; space = refl; contexts = like_itself (uncommitted s) }
+same_itself s = record { sup = refl; rows = refl; submitted = refl; space = refl; contexts = like_itself (uncommitted s) }
 
 batch_same : (s : State) (before after : Option Batch) → in_batch after ≡ in_batch before
     → AreLike (in_batch after ++ s.pending) (in_batch before ++ s.pending)
@@ -61,7 +61,7 @@ done_same : (j : Job) (s : State) → HaveSameRows s (after_done j s)
 done_same (job.Data place count) s = record {
   sup = refl;
   rows = refl;
-  view = refl;
+  submitted = refl;
   space = refl;
   contexts = like_behind (in_batch s.batch) (with_context place (done_more count) s.pending) s.pending
       (like_with place (done_more count) (done_like count) s.pending);
@@ -69,15 +69,15 @@ done_same (job.Data place count) s = record {
 done_same job.DataFlush s = record {
   sup = refl;
   rows = refl;
-  view = refl;
+  submitted = refl;
   space = refl;
   contexts = batch_same s s.batch (option_map first_flushed s.batch) (first_same s.batch);
 }
-done_same job.Record s = record { sup = refl; rows = refl; view = refl; space = refl; contexts = like_itself (uncommitted s) }
+done_same job.Record s = record { sup = refl; rows = refl; submitted = refl; space = refl; contexts = like_itself (uncommitted s) }
 done_same job.RecordFlush s = record {
   sup = refl;
   rows = refl;
-  view = refl;
+  submitted = refl;
   space = refl;
   contexts = batch_same s s.batch (option_map second_flushed s.batch) (second_same s.batch);
 }
@@ -89,10 +89,10 @@ good_same (Some f) s = done_same f.job s
 -- a good end, which counts for nothing once the kernel is down
 ended_same : (down : Bool) (ticket : Ticket) (s : State)
     → HaveSameRows s (cond down (landed ticket s) (after_good (flying_of ticket s.flying) (landed ticket s)))
-ended_same true ticket s = record { sup = refl; rows = refl; view = refl; space = refl; contexts = like_itself (uncommitted s) }
+ended_same true ticket s = record { sup = refl; rows = refl; submitted = refl; space = refl; contexts = like_itself (uncommitted s) }
 ended_same false ticket s =
     let after = good_same (flying_of ticket s.flying) (landed ticket s) in
-    record { sup = after.sup; rows = after.rows; view = after.view; space = after.space; contexts = after.contexts }
+    record { sup = after.sup; rows = after.rows; submitted = after.submitted; space = after.space; contexts = after.contexts }
 
 module _ (s : State) (d : Disk) (s' : State) (d' : Disk) where
   -- where the state after is this one
@@ -105,7 +105,7 @@ module _ (s : State) (d : Disk) (s' : State) (d' : Disk) where
       by_state (data_sent does.next.place count does.ticket s) does.after (record {
         sup = refl;
         rows = refl;
-        view = refl;
+        submitted = refl;
         space = refl;
         contexts = like_behind (in_batch s.batch) (with_context does.next.place (given_more count) s.pending) s.pending
             (like_with does.next.place (given_more count) (given_like count) s.pending);
@@ -119,7 +119,7 @@ module _ (s : State) (d : Disk) (s' : State) (d' : Disk) where
   flush_same does = by_state (flush_sent does.batch does.ticket s) does.after (record {
     sup = refl;
     rows = refl;
-    view = refl;
+    submitted = refl;
     space = refl;
     contexts = batch_same s s.batch (flush_sent does.batch does.ticket s).batch (sym (ap in_batch does.begun));
   })
@@ -128,19 +128,19 @@ module _ (s : State) (d : Disk) (s' : State) (d' : Disk) where
   sync_same does = by_state (sync_sent does.batch does.ticket s) does.after (record {
     sup = refl;
     rows = refl;
-    view = refl;
+    submitted = refl;
     space = refl;
     contexts = batch_same s s.batch (sync_sent does.batch does.ticket s).batch (sym (ap in_batch does.begun));
   })
 
   pub seal_same : DoesSeal s d s' d' → HaveSameRows s s'
-  seal_same does = by_state _ does.after (record { sup = refl; rows = refl; view = refl; space = refl; contexts = like_itself (uncommitted s) })
+  seal_same does = by_state _ does.after (record { sup = refl; rows = refl; submitted = refl; space = refl; contexts = like_itself (uncommitted s) })
 
   pub record_same : DoesRecord s d s' d' → HaveSameRows s s'
-  record_same does = by_state _ does.after (record { sup = refl; rows = refl; view = refl; space = refl; contexts = like_itself (uncommitted s) })
+  record_same does = by_state _ does.after (record { sup = refl; rows = refl; submitted = refl; space = refl; contexts = like_itself (uncommitted s) })
 
   pub finish_same : DoesFinish s d s' d' → HaveSameRows s s'
-  finish_same does = by_state _ does.after (record { sup = refl; rows = refl; view = refl; space = refl; contexts = like_itself (uncommitted s) })
+  finish_same does = by_state _ does.after (record { sup = refl; rows = refl; submitted = refl; space = refl; contexts = like_itself (uncommitted s) })
 
 -- ---- a batch is opened
 
@@ -171,7 +171,7 @@ pub take_same : (s : State) (d : Disk) (s' : State) (d' : Disk)
 take_same s d s' d' far does = by_state s d s' d' (taken_up does.context s) does.after (record {
   sup = refl;
   rows = refl;
-  view = refl;
+  submitted = refl;
   space = refl;
   contexts = like_same (uncommitted (taken_up does.context s)) (uncommitted s)
       (taken_contexts s.log.number s.pending s.batch does.context s.log.begun s.flying far does.is_chosen);

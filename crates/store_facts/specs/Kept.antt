@@ -25,11 +25,11 @@ pub record IsAlwaysKept (s : State) (d : Disk) : Type 0 where
 pub record IsKeptUp (s : State) (d : Disk) : Type 0 where
   pub far : IsOneAtATime s.log.number s.pending s.batch s.log.begun s.flying
   pub untouched : IsNextUntouched s.log s.pending d.flights
-  pub view : s.view ≡ rows_with s.log.rows (uncommitted s)
+  pub submitted : s.submitted ≡ rows_with s.log.rows (uncommitted s)
   pub committed : AreGoodRows s.log.sup s.log.rows s.log.rows
-  pub good : AreGoodRows s.log.sup s.log.rows s.view
-  pub free : IsFreeExactly s.log.sup s.log.rows s.view s.space
-  pub releases : ReleasesExactly s.log.rows s.view (uncommitted s)
+  pub good : AreGoodRows s.log.sup s.log.rows s.submitted
+  pub free : IsFreeExactly s.log.sup s.log.rows s.submitted s.space
+  pub releases : ReleasesExactly s.log.rows s.submitted (uncommitted s)
   pub room : HasRoomFor s.log (uncommitted s)
 
 pub record IsKept (s : State) (d : Disk) : Type 0 where

@@ -36,8 +36,8 @@ pub record IsSpaceOf (sup : Super) (space : Space) : Type 0 where
 -- A data unit is free exactly where its bit is 0 in the committed and in the submitted rows: who takes it turns it in the submitted ones, and who
 -- releases it leaves it 1 in the committed ones until then.
 abbrev pub IsFreeExactly : Super → Rows → Rows → Space → Type 0
-IsFreeExactly sup rows view space = (unit : ℕ) → IsDataUnit sup unit
-    → (is_free space unit ≡ true) ↔ ((¬ IsMarked rows unit) × (¬ IsMarked view unit))
+IsFreeExactly sup rows submitted space = (unit : ℕ) → IsDataUnit sup unit
+    → (is_free space unit ≡ true) ↔ ((¬ IsMarked rows unit) × (¬ IsMarked submitted unit))
 
 -- the units that are allotted to contexts, a list for each
 abbrev pub allotted : List Context → List (List ℕ)
@@ -45,12 +45,12 @@ allotted contexts = map (λ x. map (λ f. f.unit) x.fresh) contexts
 
 -- What contexts release is what they change of the owned and of the marked units, but for those that they take. What is released has no owner
 -- then, and is released once.
-pub record ReleasesExactly (rows view : Rows) (contexts : List Context) : Type 0 where
-  pub owned : (unit : ℕ) → IsOwned rows unit → IsOwned view unit ⊎ Contains (flat_map (λ x. x.released) contexts) unit
-  pub marked : (unit : ℕ) → unit < 2 ^ 32 → IsMarked rows unit → IsMarked view unit ⊎ Contains (flat_map (λ x. x.released) contexts) unit
+pub record ReleasesExactly (rows submitted : Rows) (contexts : List Context) : Type 0 where
+  pub owned : (unit : ℕ) → IsOwned rows unit → IsOwned submitted unit ⊎ Contains (flat_map (λ x. x.released) contexts) unit
+  pub marked : (unit : ℕ) → unit < 2 ^ 32 → IsMarked rows unit → IsMarked submitted unit ⊎ Contains (flat_map (λ x. x.released) contexts) unit
   pub released_was : (unit : ℕ) → Contains (flat_map (λ x. x.released) contexts) unit → IsOwned rows unit
-  pub released_is_not : (unit : ℕ) → Contains (flat_map (λ x. x.released) contexts) unit → ¬ IsOwned view unit
+  pub released_is_not : (unit : ℕ) → Contains (flat_map (λ x. x.released) contexts) unit → ¬ IsOwned submitted unit
   pub taken_was_not : (unit : ℕ) → Contains (flat_map (λ x. map (λ f. f.unit) x.fresh) contexts) unit → ¬ IsMarked rows unit
-  pub taken_is : (unit : ℕ) → Contains (flat_map (λ x. map (λ f. f.unit) x.fresh) contexts) unit → IsOwned view unit
-  pub new : (unit : ℕ) → IsOwned view unit → IsOwned rows unit ⊎ Contains (flat_map (λ x. map (λ f. f.unit) x.fresh) contexts) unit
+  pub taken_is : (unit : ℕ) → Contains (flat_map (λ x. map (λ f. f.unit) x.fresh) contexts) unit → IsOwned submitted unit
+  pub new : (unit : ℕ) → IsOwned submitted unit → IsOwned rows unit ⊎ Contains (flat_map (λ x. map (λ f. f.unit) x.fresh) contexts) unit
   pub once : (unit : ℕ) → StandsOnce (flat_map (λ x. x.released) contexts) unit

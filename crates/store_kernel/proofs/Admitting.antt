@@ -34,19 +34,19 @@ use Rattle.store_kernel.specs.Units.{CanBeTaken}
 -- ---- preparing
 
 -- no submitted row is bad
-pub rows_of_a_store : (s : State) (d : Disk) → IsKept s d → CanNote s → AreRowsOfAStore s.view
+pub rows_of_a_store : (s : State) (d : Disk) → IsKept s d → CanNote s → AreRowsOfAStore s.submitted
 rows_of_a_store s d kept can =
     record { sup = s.log.sup; limits = kept.always.limits; good = (rows_of_kept s d kept can.up).good.good }
 
 -- what a plan's record and its data writes take
 pub planned_fits : (s : State) (d : Disk) (change : Change) (plan : Plan) → IsKept s d → CanNote s → IsKnown change.ops
-    → IsPlanFor change s.view s.space plan → PlanFits plan
+    → IsPlanFor change s.submitted s.space plan → PlanFits plan
 planned_fits s d change plan kept can known is =
     let rows : AreRowsKept s = rows_of_kept s d kept can.up in
-    let one : IsPlanned s.log.sup s.view change plan =
-    planned s.log.sup s.log.rows s.view s.space kept.always.limits rows.good rows.space rows.free change.coll change.ops plan known is.names
+    let one : IsPlanned s.log.sup s.submitted change plan =
+    planned s.log.sup s.log.rows s.submitted s.space kept.always.limits rows.good rows.space rows.free change.coll change.ops plan known is.names
     is.not_refused is.plans in
-    plan_fits s.log.sup s.view s.space change.coll change.ops plan rows.good.good known is.not_refused is.plans one
+    plan_fits s.log.sup s.submitted s.space change.coll change.ops plan rows.good.good known is.not_refused is.plans one
 
 -- a record that fits into the room that was counted fits into the log
 pub enough : (m : meta.Meta) (plan : Plan) (need room : ℕ) → need ≡ need_of m plan → room ≡ meta.room_of m → need ≤ room
@@ -70,22 +70,22 @@ none_listed : (p : Option Context) → listed p ≡ [] → p ≡ None
 none_listed None none = refl
 none_listed (Some x) none = cc
 
-module _ (m : meta.Meta) (view : Rows) (pending : Option Context) (batch : Option OpenBatch) (flying : List Flying) (down : Option Ticket)
+module _ (m : meta.Meta) (submitted : Rows) (pending : Option Context) (batch : Option OpenBatch) (flying : List Flying) (down : Option Ticket)
     (events : ℕ) (space : Space) (entries : List Entry) (commits : List Commit) (acked : ℕ) where
   -- the state of these parts
   abbrev before : State
-  before = state_of m view pending batch flying down events space entries commits acked
+  before = state_of m submitted pending batch flying down events space entries commits acked
 
   -- the kernel's parts after it was accepted
   pub accepted : (d : Disk) (client line : ℕ) (change : Change) (ready : Prepared)
-      (m' : meta.Meta) (view' : Rows) (x : Context) (place : ℕ) (space' : Space) (entries' : List Entry)
+      (m' : meta.Meta) (submitted' : Rows) (x : Context) (place : ℕ) (space' : Space) (entries' : List Entry)
       → IsKept before d → MaySubmit change before d → CanNote before → IsPrepared ready change before
       → (let after : meta.Meta = record m { reserved = m.reserved + ready.need } in m' ≡ after)
-      → view' ≡ rows_after view ready.copy → x ≡ context_at ready place → place ≡ length entries
+      → submitted' ≡ rows_after submitted ready.copy → x ≡ context_at ready place → place ≡ length entries
       → space' ≡ taken space (map (λ (f : FreshUnit). f.unit) x.fresh)
       → entries' ≡ entries ++ record { client = client; line = line; command = ask.Change change; answer = answer.Accepted; acks = acked } ∷ []
-      → Accepts client line change before (state_of m' view' (Some x) batch flying down events space' entries' commits acked)
-  accepted d client line change ready m' view' x place space' entries' kept may can prepared is_meta is_view is_context is_place is_space is_entries =
+      → Accepts client line change before (state_of m' submitted' (Some x) batch flying down events space' entries' commits acked)
+  accepted d client line change ready m' submitted' x place space' entries' kept may can prepared is_meta is_submitted is_context is_place is_space is_entries =
       let idle : pending ≡ None = none_listed pending (idle_of before d change kept can.up may).pending in
       record {
         can_note = can;
@@ -94,5 +94,5 @@ module _ (m : meta.Meta) (view : Rows) (pending : Option Context) (batch : Optio
         plan = ready.plan;
         plans = prepared.plan.plans;
         fits = prepared.fits;
-        after = rw (is_meta, is_view, is_space, is_context, is_place, is_entries, prepared.copy, prepared.coll, prepared.need, idle) refl;
+        after = rw (is_meta, is_submitted, is_space, is_context, is_place, is_entries, prepared.copy, prepared.coll, prepared.need, idle) refl;
       }

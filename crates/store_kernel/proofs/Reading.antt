@@ -9,7 +9,7 @@ use Rattle.store_facts.proofs.RowsKept.{rows_of_kept}
 use Rattle.object_reader.specs.Readable.{IsReadable}
 
 -- no submitted row is bad, and nothing is in flight, where the kernel is drained and not down
-pub readable : (s : State) (d : Disk) → IsKept s d → s.down ≡ None → is_drained d.depth s ≡ true → IsReadable s.view d
+pub readable : (s : State) (d : Disk) → IsKept s d → s.down ≡ None → is_drained d.depth s ≡ true → IsReadable s.submitted d
 readable s d kept up drained = record {
   sup = s.log.sup;
   limits = kept.always.limits;

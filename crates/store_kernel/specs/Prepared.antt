@@ -10,7 +10,7 @@ use Rattle.store_kernel.specs.declared.prepared.Prepared.{Prepared}
 
 -- what it needs fits, and the copies are copies
 pub record IsPrepared (ready : Prepared) (change : Change) (s : State) : Type 0 where
-  pub plan : IsPlanFor change s.view s.space ready.plan
+  pub plan : IsPlanFor change s.submitted s.space ready.plan
   pub need : ready.need ≡ need_of s.log ready.plan
   pub fits : need_of s.log ready.plan ≤ room_of s.log
   pub copy : ready.copy ≡ ready.plan.ops

@@ -36,9 +36,9 @@ pub record IsUnused (m : meta.Meta) : Type 0 where
 -- the state, of the kernel's fields
 abbrev pub state_of : meta.Meta → Rows → Option Context → Option OpenBatch → List Flying → Option Ticket → ℕ → Space
     → List Entry → List Commit → ℕ → State
-state_of m view pending batch flying down events space entries commits acked = record {
+state_of m submitted pending batch flying down events space entries commits acked = record {
   log = m;
-  view = view;
+  submitted = submitted;
   pending = listed pending;
   batch = option_map batch_of batch;
   flying = flying;

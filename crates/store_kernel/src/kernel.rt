@@ -50,7 +50,7 @@ pub struct Kernel<D: Device> {
     // the committed rows, and the log
     meta: MetaStore,
     // the rows with the operations of all accepted transactions
-    view: RowTable,
+    submitted: RowTable,
     // accepted, and in no batch
     pending: Option<Context>,
     batch: Option<OpenBatch>,
@@ -79,11 +79,11 @@ impl<D: Device> Model for Kernel<D> {
 
     ghost view = { λ k. record {
       device = k.device;
-      state = state_of k.meta k.view.rows k.pending k.batch k.flying.items k.down k.events k.space k.entries.items k.commits.items k.acked;
+      state = state_of k.meta k.submitted.rows k.pending k.batch k.flying.items k.down k.events k.space k.entries.items k.commits.items k.acked;
     } };
 
     ghost invariant = { λ k. KnownOfKernel
-        (state_of k.meta k.view.rows k.pending k.batch k.flying.items k.down k.events k.space k.entries.items k.commits.items k.acked) (D.disk k.device) };
+        (state_of k.meta k.submitted.rows k.pending k.batch k.flying.items k.down k.events k.space k.entries.items k.commits.items k.acked) (D.disk k.device) };
 }
 
 impl<D: Device> Kernel<D> {
@@ -94,12 +94,12 @@ impl<D: Device> Kernel<D> {
         alloc: Global,
         device: D,
         meta: MetaStore,
-        view: RowTable,
+        submitted: RowTable,
         space: Allocator,
         events: u64,
     ) -> Kernel<D>
         requires fresh { IsUnused meta }
-        requires view { view.rows ≡ meta.rows }
+        requires submitted { submitted.rows ≡ meta.rows }
         requires kept { IsKept (opened (found_of meta) space events) (D.disk device) }
         requires durable { KeepsDurable (opened (found_of meta) space events) (D.disk device) }
         ensures state { result.state ≡ opened (found_of meta) space events }
@@ -108,7 +108,7 @@ impl<D: Device> Kernel<D> {
         Kernel {
             device,
             meta,
-            view,
+            submitted,
             pending: None,
             batch: None,
             flying: Vec::new(alloc),
@@ -131,7 +131,7 @@ impl<D: Device> Kernel<D> {
         let Kernel {
             device,
             meta: _,
-            view: _,
+            submitted: _,
             pending: _,
             batch: _,
             flying: _,

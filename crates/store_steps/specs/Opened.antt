@@ -16,7 +16,7 @@ pub record Found : Type 0 where
 abbrev pub opened : Found → Space → ℕ → State
 opened f space events = record {
   log = record { sup = f.sup; rows = f.rows; tail = f.tail; number = f.number; reserved = 0; begun = None };
-  view = f.rows;
+  submitted = f.rows;
   pending = [];
   batch = None;
   flying = [];

@@ -42,7 +42,7 @@ Submits client line change s s' = Accepts client line change s s' ⊎ ((a : Answ
 pub record AnswersRead (client line : ℕ) (command : Command) (a : Answer) (s : State) (d : Disk) (s' : State) : Type 0 where
   pub can_note : CanNote s
   pub names : HasReadNames command
-  pub given : IsAnswerOf d s.view command a
+  pub given : IsAnswerOf d s.submitted command a
   pub after : s' ≡ entered client line command a s
 
 -- it is answered, or turned away

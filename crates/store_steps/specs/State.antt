@@ -16,12 +16,12 @@ pub record Batch : Type 0 where
   pub second : FlushState
 
 -- `log` is the committed rows and where the log stands, with the units of it that are reserved for the records of transactions that
--- aren't committed. `view` is the submitted rows: the committed ones with the operations of all contexts. `pending` are the contexts
+-- aren't committed. `submitted` is the submitted rows: the committed ones with the operations of all contexts. `pending` are the contexts
 -- in no batch, by place. `flying` is in the order of the device's flights. `events` counts the device's events since the mount
 -- began, `acked` the acknowledged commits.
 pub record State : Type 0 where
   pub log : Meta
-  pub view : Rows
+  pub submitted : Rows
   pub pending : List Context
   pub batch : Option Batch
   pub flying : List Flying

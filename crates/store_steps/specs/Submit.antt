@@ -87,7 +87,7 @@ noted client line change a s = entered client line (ask.Change change) a s
 abbrev pub accepted_with : ℕ → ℕ → Change → Plan → State → State
 accepted_with client line change plan s = noted client line change answer.Accepted (record s {
   log = record s.log { reserved = s.log.reserved + need_of s.log plan };
-  view = rows_after s.view plan.ops;
+  submitted = rows_after s.submitted plan.ops;
   pending = s.pending ++ context_of (length s.book.entries) change s.log plan ∷ [];
   space = taken s.space (map (λ f. f.unit) plan.fresh);
 })
@@ -101,20 +101,20 @@ pub record CanNote (s : State) : Type 0 where
 pub record Accepts (client line : ℕ) (change : Change) (s s' : State) : Type 0 where
   pub can_note : CanNote s
   pub names : HasNames change.coll change.ops
-  pub not_refused : refusal_of s.view change ≡ None
+  pub not_refused : refusal_of s.submitted change ≡ None
   pub plan : Plan
-  pub plans : Plans change.coll change.ops s.view s.space plan
+  pub plans : Plans change.coll change.ops s.submitted s.space plan
   pub fits : need_of s.log plan ≤ room_of s.log
   pub after : s' ≡ accepted_with client line change plan s
 
 -- it is refused with this answer, for its cause; nothing but the book changes
 abbrev pub IsCause : Answer → Change → State → Type 0
-IsCause (answer.Refused refusal) change s = refusal_of s.view change ≡ Some refusal
+IsCause (answer.Refused refusal) change s = refusal_of s.submitted change ≡ Some refusal
 IsCause (answer.NoSpace need free) change s =
-    (refusal_of s.view change ≡ None) × (need ≡ units_taken change.ops) × (free ≡ free_count s.space) × (free < need)
+    (refusal_of s.submitted change ≡ None) × (need ≡ units_taken change.ops) × (free ≡ free_count s.space) × (free < need)
 IsCause (answer.MetaFull need room) change s =
-    (refusal_of s.view change ≡ None)
-    × ((plan : Plan) × (Plans change.coll change.ops s.view s.space plan × (need ≡ need_of s.log plan)))
+    (refusal_of s.submitted change ≡ None)
+    × ((plan : Plan) × (Plans change.coll change.ops s.submitted s.space plan × (need ≡ need_of s.log plan)))
     × (room ≡ room_of s.log) × (room < need)
 IsCause a change s = ⊥
 

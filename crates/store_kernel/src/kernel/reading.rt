@@ -58,13 +58,13 @@ impl<D: Device> Kernel<D> {
         requires may { MayRead command.now self.old.state (D.disk self.old.device) }
         requires can_note { CanNote self.old.state }
         ensures names { HasReadNames command.now }
-        ensures ok { IfOk result (IsAnswerOf (D.disk self.old.device) self.old.state.view command.now) }
+        ensures ok { IfOk result (IsAnswerOf (D.disk self.old.device) self.old.state.submitted command.now) }
         ensures same { self.new.state ≡ self.old.state }
         ensures disk { D.disk self.new.device ≡ D.disk self.old.device }
         ensures later { D.faults self.old.device ≤ D.faults self.new.device }
         ensures cause { IsErrOf result ReadFail.Fault → Rose (D.faults self.old.device) (D.faults self.new.device) }
     {
-        answer(alloc, &mut self.device, &self.view, command)
+        answer(alloc, &mut self.device, &self.submitted, command)
     }
 
     // Makes an entry of the book. The command comes back where there is no room for it.
@@ -78,7 +78,7 @@ impl<D: Device> Kernel<D> {
         requires may { MayRead command self.old.state (D.disk self.old.device) }
         requires can_note { CanNote self.old.state }
         requires names { HasReadNames command }
-        requires given { IsAnswerOf (D.disk self.old.device) self.old.state.view command answer }
+        requires given { IsAnswerOf (D.disk self.old.device) self.old.state.submitted command answer }
         ensures place { IfOk result (λ place. place ≡ length self.old.state.book.entries) }
         ensures ok { OnOk result (AnswersRead client line command answer self.old.state (D.disk self.old.device) self.new.state) }
         ensures err { IfErr result (λ back. (back ≡ command) × (self.new.state ≡ self.old.state)) }

@@ -83,12 +83,12 @@ impl<D: Device> Kernel<D> {
     fn planned(&self, alloc: Global, txn: &Transaction) -> Result<Plan, Cause>
         requires may { MaySubmit txn.now self.now.state (D.disk self.now.device) }
         requires can_note { CanNote self.now.state }
-        ensures ok { IfOk result (IsPlanFor txn.now self.now.state.view self.now.state.space) }
+        ensures ok { IfOk result (IsPlanFor txn.now self.now.state.submitted self.now.state.space) }
         ensures fit { IfOk result (λ plan. AllFit plan.ops) }
         ensures short { IfOk result (λ plan. length (ops_bytes plan.ops) < 2 ^ 32) }
         ensures err { IfErr result (λ cause. IsCauseOf cause txn.now self.now.state) }
     {
-        match plan(alloc, &self.view, &self.space, txn) {
+        match plan(alloc, &self.submitted, &self.space, txn) {
             Ok(plan) => Ok(plan),
             Err(PlanFail::Refusal(refusal)) => Err(Cause::Refusal(refusal)),
             Err(PlanFail::NoSpace { need, free }) => Err(Cause::NoSpace { need, free }),
@@ -117,7 +117,7 @@ impl<D: Device> Kernel<D> {
         if self.entries.reserve(1).is_err() {
             return Err(txn);
         }
-        if self.view.reserve(ready.copy.len()).is_err() {
+        if self.submitted.reserve(ready.copy.len()).is_err() {
             return Err(txn);
         }
         let place = self.entries.len() as u32;
@@ -125,7 +125,7 @@ impl<D: Device> Kernel<D> {
             unreachable!();
         };
         let (context, copy) = ready.split(place);
-        self.view.apply(copy);
+        self.submitted.apply(copy);
         take_fresh(&mut self.space, context.fresh.as_slice());
         self.pending = Some(context);
         self.entries.push_reserved(Entry {

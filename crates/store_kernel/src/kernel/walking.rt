@@ -23,15 +23,15 @@ impl<D: Device> Kernel<D> {
         alloc: Global,
         after: Option<&CollName>,
     ) -> Result<Option<CollName>, WalkFail>
-        ensures ok { IfOk result (λ found. MatchOption found (IsPast (IsCollection self.now.state.view) (option_copied after.entry))
-            (IsNextOf (IsCollection self.now.state.view) (option_copied after.entry))) }
+        ensures ok { IfOk result (λ found. MatchOption found (IsPast (IsCollection self.now.state.submitted) (option_copied after.entry))
+            (IsNextOf (IsCollection self.now.state.submitted) (option_copied after.entry))) }
         ensures fail { IfErr result (λ why. IsDownFail why self.now.state) }
         ensures unread { ¬ IsErrOf result WalkFail.DeviceRead }
     {
         if let Some(ticket) = self.down {
             return Err(WalkFail::Down { ticket });
         }
-        match next_collection(alloc, &self.view, after) {
+        match next_collection(alloc, &self.submitted, after) {
             Ok(found) => Ok(found),
             Err(_) => Err(WalkFail::Memory),
         }
@@ -46,8 +46,8 @@ impl<D: Device> Kernel<D> {
         after: Option<&Name>,
     ) -> Result<Option<ObjectView>, WalkFail>
         requires { (self.old.state.down ≡ None) → is_drained (D.disk self.old.device).depth self.old.state ≡ true }
-        ensures ok { IfOk result (λ found. MatchOption found (IsPast (IsObject self.old.state.view coll.now) (option_copied after.entry))
-            (IsNextView (D.disk self.old.device) self.old.state.view coll.now (option_copied after.entry))) }
+        ensures ok { IfOk result (λ found. MatchOption found (IsPast (IsObject self.old.state.submitted coll.now) (option_copied after.entry))
+            (IsNextView (D.disk self.old.device) self.old.state.submitted coll.now (option_copied after.entry))) }
         ensures fail { IfErr result (λ why. IsDownFail why self.old.state) }
         ensures same { self.new.state ≡ self.old.state }
         ensures disk { D.disk self.new.device ≡ D.disk self.old.device }
@@ -57,7 +57,7 @@ impl<D: Device> Kernel<D> {
         if let Some(ticket) = self.down {
             return Err(WalkFail::Down { ticket });
         }
-        match next_object(alloc, &mut self.device, &self.view, coll, after) {
+        match next_object(alloc, &mut self.device, &self.submitted, coll, after) {
             Ok(found) => Ok(found),
             Err(ReadFail::Memory) => Err(WalkFail::Memory),
             Err(ReadFail::Fault) => Err(WalkFail::DeviceRead),

@@ -9,7 +9,7 @@ pub objects-preserved : goal.objects-preserved
 objects-preserved g c =
     let inv = c.objects.invariant in
     let d = g.D.Device.disk c.args.kernel.now.device in
-    let rows = c.args.kernel.now.state.view in
+    let rows = c.args.kernel.now.state.submitted in
     record {
       same = c.next_object.ensures.same ∙ inv.same;
       disk = c.next_object.ensures.disk ∙ inv.disk;
@@ -18,14 +18,14 @@ objects-preserved g c =
       viewed = one_viewed d rows c.objects.view (record { coll = c.objects.view.coll; objects = c.push.new.self }) c.in-Some.object refl
           c.in-Ok.ensures.ok inv.viewed
           (view_found d _ rows _ c.objects.view.coll c.in_ok-object.field-0 (option_copied c.last_name.result) _ c.in-Some.object inv.disk
-          (ap (λ s. s.view) inv.same) c.last_name.ensures c.in-Some.is c.in_ok-object.ensures.ok);
+          (ap (λ s. s.submitted) inv.same) c.last_name.ensures c.in-Some.is c.in_ok-object.ensures.ok);
     }
 
 pub objects-smaller : goal.objects-smaller
 objects-smaller g c =
     let inv = c.objects.invariant in
     let d = g.D.Device.disk c.args.kernel.now.device in
-    let rows = c.args.kernel.now.state.view in
+    let rows = c.args.kernel.now.state.submitted in
     let named : IsCollName c.objects.view.coll = subst IsCollName (sym inv.coll) c.requires.named in
     fewer_left (length (finite.entries rows)) c.objects.view.objects c.push.new.self c.in-Some.object c.in-Ok.ensures.ok
     (few_viewed d rows (record { coll = c.objects.view.coll; objects = c.push.new.self }) named (objects-preserved g c).viewed)

@@ -9,8 +9,8 @@ invariant-objects g l = record {
   disk : g.D.Device.disk l.kernel.device ≡ g.D.Device.disk l.initial.kernel.device;
   faults : g.D.Device.faults l.initial.kernel.device ≤ g.D.Device.faults l.kernel.device;
   coll : l.view.coll ≡ l.initial.view.coll;
-  viewed : IsViewed (g.D.Device.disk l.initial.kernel.device) l.initial.kernel.state.view l.view;
+  viewed : IsViewed (g.D.Device.disk l.initial.kernel.device) l.initial.kernel.state.submitted l.view;
 }
 
 abbrev pub decreases-objects : goal.decreases-objects
-decreases-objects g l = length (finite.entries l.initial.kernel.state.view) - length l.view.objects
+decreases-objects g l = length (finite.entries l.initial.kernel.state.submitted) - length l.view.objects

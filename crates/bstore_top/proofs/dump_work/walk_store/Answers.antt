@@ -11,12 +11,12 @@ pub colls-preserved : goal.colls-preserved
 colls-preserved g c =
     let inv = c.colls.invariant in
     let d = g.D.Device.disk c.args.kernel.now.device in
-    let rows = c.args.kernel.now.state.view in
-    let view = ap (λ s. s.view) inv.same in
+    let rows = c.args.kernel.now.state.submitted in
+    let same_rows = ap (λ s. s.submitted) inv.same in
     let v : CollView = c.walk_objects-walked.new.view in
     let last = c.last_coll.ensures ∙ ap (λ (l : List CollView). last_of None (coll_names l)) c.deref.ensures.value in
     let next =
-    coll_found rows _ c.in_ok-coll.field-0 (option_copied c.last_coll.result) _ c.in-Some.coll view last c.in-Some.is c.in_ok-coll.ensures.ok in
+    coll_found rows _ c.in_ok-coll.field-0 (option_copied c.last_coll.result) _ c.in-Some.coll same_rows last c.in-Some.is c.in_ok-coll.ensures.ok in
     record {
       same = c.walk_objects-walked.ensures.same ∙ inv.same;
       disk = c.walk_objects-walked.ensures.disk ∙ inv.disk;
@@ -24,13 +24,13 @@ colls-preserved g c =
       walked = one_walked d rows c.colls.walk.items c.push_reserved.new.self.items v
           (c.push_reserved.ensures.items ∙ ap (λ (l : List CollView). l ++ v ∷ []) c.reserve.ensures.items) inv.walked
           (subst (IsNextOf (IsCollection rows) (last_of None (coll_names c.colls.walk.items))) (sym c.walk_objects-walked.ensures.coll) next)
-          (whole_at d rows _ _ v inv.disk view c.in_ok-walked.ensures.whole);
+          (whole_at d rows _ _ v inv.disk same_rows c.in_ok-walked.ensures.whole);
     }
 
 pub colls-smaller : goal.colls-smaller
 colls-smaller g c =
     let d = g.D.Device.disk c.args.kernel.now.device in
-    let rows = c.args.kernel.now.state.view in
+    let rows = c.args.kernel.now.state.submitted in
     let v : CollView = c.walk_objects-walked.new.view in
     fewer_left (length (finite.entries rows)) c.colls.walk.items c.push_reserved.new.self.items v
     (c.push_reserved.ensures.items ∙ ap (λ (l : List CollView). l ++ v ∷ []) c.reserve.ensures.items)
@@ -40,27 +40,27 @@ pub returns-in_err-walked-clause-walked : goal.returns-in_err-walked-clause-walk
 returns-in_err-walked-clause-walked g c =
     let inv = c.colls.invariant in
     let d = g.D.Device.disk c.args.kernel.now.device in
-    let rows = c.args.kernel.now.state.view in
-    let view = ap (λ s. s.view) inv.same in
+    let rows = c.args.kernel.now.state.submitted in
+    let same_rows = ap (λ s. s.submitted) inv.same in
     let v : CollView = c.walk_objects-walked.new.view in
     let last = c.last_coll.ensures ∙ ap (λ (l : List CollView). last_of None (coll_names l)) c.deref.ensures.value in
     let next =
-    coll_found rows _ c.in_ok-coll.field-0 (option_copied c.last_coll.result) _ c.in-Some.coll view last c.in-Some.is c.in_ok-coll.ensures.ok in
+    coll_found rows _ c.in_ok-coll.field-0 (option_copied c.last_coll.result) _ c.in-Some.coll same_rows last c.in-Some.is c.in_ok-coll.ensures.ok in
     part_walked d rows c.colls.walk.items c.push_reserved.new.self.items v
     (c.push_reserved.ensures.items ∙ ap (λ (l : List CollView). l ++ v ∷ []) c.reserve.ensures.items) inv.walked
     (subst (IsNextOf (IsCollection rows) (last_of None (coll_names c.colls.walk.items))) (sym c.walk_objects-walked.ensures.coll) next)
-    (viewed_at d rows _ _ v inv.disk view c.walk_objects-walked.ensures.viewed)
+    (viewed_at d rows _ _ v inv.disk same_rows c.walk_objects-walked.ensures.viewed)
 
 pub returns-in_err-coll-clause-walked : goal.returns-in_err-coll-clause-walked
 returns-in_err-coll-clause-walked g c =
-    so_far (g.D.Device.disk c.args.kernel.now.device) c.args.kernel.now.state.view c.colls.walk.items c.colls.invariant.walked
+    so_far (g.D.Device.disk c.args.kernel.now.device) c.args.kernel.now.state.submitted c.colls.walk.items c.colls.invariant.walked
 
 pub returns-in_default-reserve-clause-walked : goal.returns-in_default-reserve-clause-walked
 returns-in_default-reserve-clause-walked g c =
     let d = g.D.Device.disk c.args.kernel.now.device in
-    let rows = c.args.kernel.now.state.view in
+    let rows = c.args.kernel.now.state.submitted in
     subst (WalksTo d rows) (sym c.reserve.ensures.items) (so_far d rows c.colls.walk.items c.colls.invariant.walked)
 
 pub returns-clause-walked : goal.returns-clause-walked
 returns-clause-walked g c =
-    so_far (g.D.Device.disk c.args.kernel.now.device) c.args.kernel.now.state.view c.colls.walk.items c.colls.invariant.walked
+    so_far (g.D.Device.disk c.args.kernel.now.device) c.args.kernel.now.state.submitted c.colls.walk.items c.colls.invariant.walked

@@ -8,8 +8,8 @@ invariant-colls g l = record {
   same : l.kernel.state ≡ l.initial.kernel.state;
   disk : g.D.Device.disk l.kernel.device ≡ g.D.Device.disk l.initial.kernel.device;
   faults : g.D.Device.faults l.initial.kernel.device ≤ g.D.Device.faults l.kernel.device;
-  walked : WalksWhole (g.D.Device.disk l.initial.kernel.device) l.initial.kernel.state.view l.walk.items;
+  walked : WalksWhole (g.D.Device.disk l.initial.kernel.device) l.initial.kernel.state.submitted l.walk.items;
 }
 
 abbrev pub decreases-colls : goal.decreases-colls
-decreases-colls g l = length (finite.entries l.initial.kernel.state.view) - length l.walk.items
+decreases-colls g l = length (finite.entries l.initial.kernel.state.submitted) - length l.walk.items

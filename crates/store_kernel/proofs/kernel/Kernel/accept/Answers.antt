@@ -14,7 +14,7 @@ take_fresh-requires-clause-free g c =
     let k = c.self.inside in
     let prepared = rw (← c.self.view_is) at c.requires.prepared in
     rw (c.as_slice.ensures, c.split-context.ensures.context)
-    (fresh_is_free c.args.txn k.view.rows k.space c.args.ready.plan c.requires.may.known prepared.plan)
+    (fresh_is_free c.args.txn k.submitted.rows k.space c.args.ready.plan c.requires.may.known prepared.plan)
 
 pub invariant_of-self-2 : goal.invariant_of-self-2
 invariant_of-self-2 g c =
@@ -23,7 +23,7 @@ invariant_of-self-2 g c =
     let can = rw (← c.self.view_is) at c.requires.can_note in
     let prepared = rw (← c.self.view_is) at c.requires.prepared in
     known_accept _ _ _ c.args.client c.args.line c.args.txn c.self.invariant may
-    (accepted k.meta k.view.rows k.pending k.batch k.flying.items k.down k.events k.space k.entries.items k.commits.items k.acked
+    (accepted k.meta k.submitted.rows k.pending k.batch k.flying.items k.down k.events k.space k.entries.items k.commits.items k.acked
     _ c.args.client c.args.line c.args.txn c.args.ready _ _ _ _ _ _ c.self.invariant.kept may can prepared
     c.in-Ok.ensures.set_aside (cc) c.split-context.ensures.context (cc) (cc) (cc))
 
@@ -34,6 +34,6 @@ returns-clause-accepted g c =
     let can = rw (← c.self.view_is) at c.requires.can_note in
     let prepared = rw (← c.self.view_is) at c.requires.prepared in
     rw (← c.self.view_is)
-    (accepted k.meta k.view.rows k.pending k.batch k.flying.items k.down k.events k.space k.entries.items k.commits.items k.acked
+    (accepted k.meta k.submitted.rows k.pending k.batch k.flying.items k.down k.events k.space k.entries.items k.commits.items k.acked
     _ c.args.client c.args.line c.args.txn c.args.ready _ _ _ _ _ _ c.self.invariant.kept may can prepared
     c.in-Ok.ensures.set_aside (cc) c.split-context.ensures.context (cc) (cc) (cc))

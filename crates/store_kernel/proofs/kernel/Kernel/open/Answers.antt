@@ -6,12 +6,12 @@ use Rattle.store_kernel.proofs.kernel.Kernel.open.Goals as goal
 
 pub invariant_of-result : goal.invariant_of-result
 invariant_of-result g c =
-    let e = opened_is c.args.meta c.args.view.rows c.new.result.items c.new-2.result.items c.new-3.result.items c.args.space c.args.events
-    c.requires.fresh c.requires.view c.new.ensures.items c.new-2.ensures.items c.new-3.ensures.items in
+    let e = opened_is c.args.meta c.args.submitted.rows c.new.result.items c.new-2.result.items c.new-3.result.items c.args.space c.args.events
+    c.requires.fresh c.requires.submitted c.new.ensures.items c.new-2.ensures.items c.new-3.ensures.items in
     subst (λ (s : State). KnownOfKernel s (g.D.Device.disk c.args.device)) (sym e)
     (record { kept = c.requires.kept; durable = c.requires.durable })
 
 pub returns-clause-state : goal.returns-clause-state
 returns-clause-state g c =
-    opened_is c.args.meta c.args.view.rows c.new.result.items c.new-2.result.items c.new-3.result.items c.args.space c.args.events
-    c.requires.fresh c.requires.view c.new.ensures.items c.new-2.ensures.items c.new-3.ensures.items
+    opened_is c.args.meta c.args.submitted.rows c.new.result.items c.new-2.result.items c.new-3.result.items c.args.space c.args.events
+    c.requires.fresh c.requires.submitted c.new.ensures.items c.new-2.ensures.items c.new-3.ensures.items

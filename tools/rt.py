@@ -2,8 +2,8 @@
 """Runs the kit's command rt with these words, faster where a crate stands on many others.
 
 With the words `below NAME --jobs N` it proves the libraries that a crate stands on, each as soon as those below it are proved, at
-most N at a time: rt gives each one processor, or does one after the other. The one with the longest chain of crates above it may
-use all N processors, since nothing is done before that chain is, and those that can wait give way to it.
+most N at a time: rt gives each one processor, or does one after the other. Those with the longest chains of crates above them may
+use all N processors, since nothing is done before these chains are, and those that can wait give way to them.
 
 rt knows by a stamp whether a library is as it was: a sum of its sources and of the stamps of all libraries that it names. It
 reckons each of them anew wherever one is named, which for the program bstore takes longer than the proofs. Here the stamp of a
@@ -18,8 +18,11 @@ import sys
 import tempfile
 import threading
 
-# A crate whose chain is at least this part of the longest one doesn't give way to that, since it would be the next to wait for.
+# A crate whose chain is at least this part of the longest one would be the next to wait for: it gives way to that one alone.
 URGENT = 0.9
+
+# What proving a crate costs that doesn't depend on its code, reading what it stands on, as so many bytes of code.
+READING = 5000
 
 
 def loaded(file):
@@ -48,7 +51,7 @@ def keep_stamps(crate):
 def size_of(crate):
     """The bytes of a crate's code, which its proof takes about as long as: a function costs, and lemmas take little."""
     files = (os.path.join(place, name) for place, _, names in os.walk(os.path.join(crate.folder, "src")) for name in names)
-    return sum(map(os.path.getsize, files))
+    return READING + sum(map(os.path.getsize, files))
 
 
 def longest_chains(crates):
@@ -86,11 +89,13 @@ def prove_below(kit, name, most):
         ready.sort(key=chains.get)
         while ready and len(busy) < most:
             crate = ready.pop()
-            longest = max(map(chains.get, busy | set(todo)))
+            # of a crate that is being proved only what waits for it counts, since nobody knows how far it is
+            longest = max(map(chains.get, todo))
             todo.remove(crate)
             busy.add(crate)
-            jobs = most if chains[crate] == longest else max(1, most // (len(ready) + len(busy)))
-            nice = 0 if chains[crate] >= URGENT * longest else 10
+            is_urgent = chains[crate] >= URGENT * longest
+            jobs = most if is_urgent else max(1, most // (len(ready) + len(busy)))
+            nice = 0 if chains[crate] == longest else 5 if is_urgent else 10
             threading.Thread(target=prove_one, args=(crate, jobs, nice, ended), daemon=True).start()
         crate, status, said = ended.get()
         busy.remove(crate)

@@ -122,6 +122,9 @@ fn replied(answered: &Result<u32, Unanswered>) -> Result<(), RunFail>
     }
 }
 
+/// Drops what a read came to, with the command where it came back.
+fn discard(_answered: Result<u32, Unanswered>) {}
+
 /// Submits a transaction of client 0.
 fn submit<D: Device>(
     alloc: Global,
@@ -165,7 +168,9 @@ fn ask_read<D: Device>(
 {
     let answered = kernel.ask(alloc, 0, line, read);
     kernel.facts();
-    replied(&answered)
+    let end = replied(&answered);
+    discard(answered);
+    end
 }
 
 /// Makes a command of client 0: a transaction is submitted, and a read is asked.

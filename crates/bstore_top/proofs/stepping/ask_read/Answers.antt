@@ -4,14 +4,14 @@ use Rattle.bstore_top.proofs.stepping.ask_read.Goals as goal
 pub ask-answered-requires : goal.ask-answered-requires
 ask-answered-requires g c = may_read c.args.read _ _ c.requires.drained c.requires.known
 
-pub replied-requires : goal.replied-requires
-replied-requires g c = no_turn_away c.args.read c.ask-answered.result _ _ c.requires.up c.requires.room c.ask-answered.ensures.unanswered
+pub replied-end-requires : goal.replied-end-requires
+replied-end-requires g c = no_turn_away c.args.read c.ask-answered.result _ _ c.requires.up c.requires.room c.ask-answered.ensures.unanswered
 
 pub returns-clause-made : goal.returns-clause-made
 returns-clause-made g c =
-    replied_ends c.args.line c.args.read c.ask-answered.result c.replied.result _ _ _ _ c.requires.up
+    replied_ends c.args.line c.args.read c.ask-answered.result c.replied-end.result _ _ _ _ c.requires.up
     (may_read c.args.read _ _ c.requires.drained c.requires.known)
-    c.ask-answered.ensures.disk c.ask-answered.ensures.answered c.ask-answered.ensures.unanswered c.replied.ensures
+    c.ask-answered.ensures.disk c.ask-answered.ensures.answered c.ask-answered.ensures.unanswered c.replied-end.ensures
 
 pub returns-clause-cause : goal.returns-clause-cause
-returns-clause-cause g c = read_rose c.ask-answered.result c.replied.result _ c.ask-answered.ensures.cause c.replied.ensures
+returns-clause-cause g c = read_rose c.ask-answered.result c.replied-end.result _ c.ask-answered.ensures.cause c.replied-end.ensures

@@ -143,21 +143,21 @@ module _ (s : State) (client line : ℕ) (change : Change) (s' : State) (limits 
   abbrev then : Space
   then = taken s.space (units_of plan.fresh)
 
-  later_rows : rows_after s.submitted plan.ops ≡ rows_after s.log.rows plan.ops
-  later_rows = ap (λ m. rows_after m plan.ops) same_submitted
+  later_submitted : rows_after s.submitted plan.ops ≡ rows_after s.log.rows plan.ops
+  later_submitted = ap (λ m. rows_after m plan.ops) same_submitted
 
   one_context : uncommitted t ≡ x ∷ []
   one_context = ap (λ b. option_map_or (λ (c : Batch). c.contexts) b [] ++ (s.pending ++ x ∷ [])) batch ∙ ap (λ l. l ++ x ∷ []) pending
 
   later_rows : AreRowsKept t
   later_rows = record {
-    submitted = later_rows ∙ ap (rows_with s.log.rows) (sym one_context);
+    submitted = later_submitted ∙ ap (rows_with s.log.rows) (sym one_context);
     committed = kept.committed;
-    good = subst (AreGoodRows s.log.sup s.log.rows) (sym later_rows)
+    good = subst (AreGoodRows s.log.sup s.log.rows) (sym later_submitted)
         (good_after s.log.sup s.log.rows s.space limits kept.committed kept.space free_now change plan is_planned);
-    free = subst (λ m. IsFreeExactly s.log.sup s.log.rows m then) (sym later_rows)
+    free = subst (λ m. IsFreeExactly s.log.sup s.log.rows m then) (sym later_submitted)
         (free_after s.log.sup s.log.rows s.space limits kept.committed kept.space free_now change plan is_planned);
-    releases = subst (λ m. ReleasesExactly s.log.rows m (uncommitted t)) (sym later_rows)
+    releases = subst (λ m. ReleasesExactly s.log.rows m (uncommitted t)) (sym later_submitted)
         (subst (ReleasesExactly s.log.rows (rows_after s.log.rows plan.ops)) (sym one_context)
         (releases_after s.log.sup s.log.rows s.space limits kept.committed kept.space free_now change plan is_planned x refl refl));
     space = space_taken s.log.sup s.space (units_of plan.fresh) kept.space;

@@ -1,5 +1,5 @@
 -- The names of collections and of objects that rows have are the keys of objects that have the shape of the rows.
-use Rattle.std.proofs.Common.{◌≡◌, ℕ, List, Option, Some, None, true, is_some, refl, sym, ap, subst, ◌∙◌, option_and_then}
+use Rattle.std.proofs.Common.{◌≡◌, ℕ, List, Option, Some, None, true, false, is_some, refl, sym, ap, subst, ◌∙◌, option_and_then}
 use Rattle.std.specs.FinMap as finite
 use Rattle.meta_rows.specs.Rows.{Rows}
 use Rattle.meta_log.specs.declared.slot.Super.{Super}
@@ -27,6 +27,11 @@ coll_named c (bitmap r bits) fits is = absurd (bitmap_no_coll r c (sym is))
 pub some_of : {X : Type 0} (x : Option X) → is_some x ≡ true → (v : X) × (x ≡ Some v)
 some_of None e = absurd cc
 some_of (Some v) e = (v, refl)
+
+-- one that isn't there holds nothing
+pub none_of : {X : Type 0} (x : Option X) → is_some x ≡ false → x ≡ None
+none_of None e = refl
+none_of (Some v) e = absurd cc
 
 -- the collections
 pub coll_keys : (s : Super) (rows : Rows) (objects : Objects) → NoBadRow s rows → IsShape rows objects

@@ -13,12 +13,11 @@ use Rattle.object_model.specs.declared.command.Answer.TheVariants as answer
 use Rattle.object_model.specs.Objects.{Objects}
 use Rattle.object_model.specs.Reply.{reply_of}
 use Rattle.meta_rows.specs.Rows.{Rows}
-use Rattle.unit_fields.specs.Names.{IsName, IsCollName}
 use Rattle.store_image.specs.Stands.{page_bytes, AreObjectBytes, ObjectsStand}
 use Rattle.read_facts.specs.PageReads.{IsHeldAt, IsGoodPage, hole, mapped, IsBadPage, ReadsBytes, FailsAt}
 use Rattle.read_facts.specs.Answers.{HasReadNames, IsAnswerOf}
 use Rattle.read_facts.proofs.Cut.{cut_is}
-use Rattle.read_facts.proofs.Plain.{read_given, read_reply, sum_given, size_is, refused_reply, plain_stat, plain_list}
+use Rattle.read_facts.proofs.Plain.{read_given, sum_given, size_is, plain_stat, plain_list}
 
 module _ (d : Disk) (h : History) (tells : d.history ≡ Some h) (answered : (unit : ℕ) → HasNoBadDone h.log unit) where
   -- what a unit holds is what was last written there
@@ -53,29 +52,27 @@ module _ (d : Disk) (h : History) (tells : d.history ≡ Some h) (answered : (un
 
   module _ (rows : Rows) (objects : Objects) (stand : ObjectsStand (last_at h) rows objects) where
     -- a read of bytes is answered as the objects do
-    seen_read : (c o : List ℕ) (off len : ℕ) (a : Answer) → IsCollName c → IsName o → IsAnswerOf d rows (ask.Read c o off len) a
-        → a ≡ reply_of (ask.Read c o off len) objects
-    seen_read c o off len (answer.Refused r) coll name is =
-        sym (refused_reply rows objects stand.shape (ask.Read c o off len) r (coll, name) is)
-    seen_read c o off len (answer.Bytes bytes) coll name is =
-        let given = read_given rows objects stand.shape c o off len coll name is.0 in
+    seen_read : (c o : List ℕ) (off len : ℕ) (a : Answer) → IsAnswerOf d rows (ask.Read c o off len) a → a ≡ reply_of (ask.Read c o off len) objects
+    seen_read c o off len (answer.Refused r) is = sym (is objects stand.shape)
+    seen_read c o off len (answer.Bytes bytes) is =
+        let given = read_given objects c o off len (is.0 objects stand.shape) in
         let read : ReadsBytes d rows c o is.1.0 off len bytes = is.1.1 in
         let size : is.1.0 ≡ length given.object.bytes =
         size_is rows objects stand.shape c o given.object is.1.0 given.under read.has_size in
         let same : bytes ≡ take len (drop off given.object.bytes) =
         bytes_are rows c o given.object.bytes (stand.bytes c o given.object given.under) off len bytes
         (subst (λ (n : ℕ). ReadsBytes d rows c o n off len bytes) size read) in
-        ap answer.Bytes same ∙ sym (read_reply rows objects stand.shape c o off len is.0 ∙ given.reply)
-    seen_read c o off len (answer.Csum unit kept found) coll name is =
-        let given = read_given rows objects stand.shape c o off len coll name is.0 in
+        ap answer.Bytes same ∙ sym given.reply
+    seen_read c o off len (answer.Csum unit kept found) is =
+        let given = read_given objects c o off len (is.0 objects stand.shape) in
         absurd (none_fails rows c o given.object.bytes (stand.bytes c o given.object given.under) is.1.0 off len unit kept found is.1.1)
-    seen_read c o off len a coll name is = absurd is.1
+    seen_read c o off len a is = absurd is.1
 
     -- so is a sum
-    seen_sum : (c o : List ℕ) (a : Answer) → IsCollName c → IsName o → IsAnswerOf d rows (ask.Sum c o) a → a ≡ reply_of (ask.Sum c o) objects
-    seen_sum c o (answer.Refused r) coll name is = sym (refused_reply rows objects stand.shape (ask.Sum c o) r (coll, name) is)
-    seen_sum c o (answer.Sum size crc) coll name is =
-        let given = sum_given rows objects stand.shape c o coll name is.0 in
+    seen_sum : (c o : List ℕ) (a : Answer) → IsAnswerOf d rows (ask.Sum c o) a → a ≡ reply_of (ask.Sum c o) objects
+    seen_sum c o (answer.Refused r) is = sym (is objects stand.shape)
+    seen_sum c o (answer.Sum size crc) is =
+        let given = sum_given objects c o (is.0 objects stand.shape) in
         let bytes : List ℕ = given.object.bytes in
         let read : ReadsBytes d rows c o size 0 size is.1.0 = is.1.1.0 in
         let same_size : size ≡ length bytes = size_is rows objects stand.shape c o given.object size given.under read.has_size in
@@ -85,15 +82,15 @@ module _ (d : Disk) (h : History) (tells : d.history ≡ Some h) (answered : (un
         let crc_is : crc ≡ crc32c bytes =
         is.1.1.1 ∙ ap crc32c (same ∙ ap (λ (n : ℕ). take n bytes) same_size ∙ take_all (length bytes) bytes (omega arith)) in
         ap (λ (n : ℕ). answer.Sum n crc) same_size ∙ ap (answer.Sum (length bytes)) crc_is ∙ sym given.reply
-    seen_sum c o (answer.Csum unit kept found) coll name is =
-        let given = sum_given rows objects stand.shape c o coll name is.0 in
+    seen_sum c o (answer.Csum unit kept found) is =
+        let given = sum_given objects c o (is.0 objects stand.shape) in
         absurd (none_fails rows c o given.object.bytes (stand.bytes c o given.object given.under) is.1.0 0 is.1.0 unit kept found is.1.1)
-    seen_sum c o a coll name is = absurd is.1
+    seen_sum c o a is = absurd is.1
 
     -- a read is answered as the objects do
     pub seen_answer : (command : Command) (a : Answer) → HasReadNames command → IsAnswerOf d rows command a → a ≡ reply_of command objects
-    seen_answer (ask.Read c o off len) a names is = seen_read c o off len a names.0 names.1 is
-    seen_answer (ask.Sum c o) a names is = seen_sum c o a names.0 names.1 is
-    seen_answer (ask.Stat c o) a names is = plain_stat rows objects stand.shape d c o a names.0 names.1 is
+    seen_answer (ask.Read c o off len) a names is = seen_read c o off len a is
+    seen_answer (ask.Sum c o) a names is = seen_sum c o a is
+    seen_answer (ask.Stat c o) a names is = plain_stat rows objects stand.shape d c o a is
     seen_answer (ask.List c) a names is = plain_list rows objects stand.shape d c a names is
     seen_answer command a names is = absurd names

@@ -1,5 +1,6 @@
 pub mod Walks
 pub mod PageReads
+pub mod Refusals
 pub mod Answers
 pub mod Alike
 pub mod Views

@@ -1,0 +1,19 @@
+-- Commands that rows refuse: those that the plain objects of their shape refuse. Which cause comes first is for the plain objects to say.
+use Rattle.std.specs.Prelude.{◌≡◌, not, IsTrue}
+use Rattle.object_model.specs.declared.op.Refusal.{Refusal}
+use Rattle.object_model.specs.declared.command.Command.{Command}
+use Rattle.object_model.specs.declared.command.Answer.TheVariants as answer
+use Rattle.object_model.specs.Objects.{Objects}
+use Rattle.object_model.specs.Reply.{reply_of}
+use Rattle.object_model.specs.Book.{is_refused}
+use Rattle.meta_rows.specs.Rows.{Rows}
+use Rattle.store_image.specs.Stands.{IsShape}
+
+-- Plain objects of the rows' shape refuse the command with this, whatever their bytes are. This says something only where there are such
+-- objects: a kernel's submitted rows have the shape of those after all accepted transactions, as long as its book is known to be legal.
+abbrev pub IsRefusedBy : Rows → Command → Refusal → Type 0
+IsRefusedBy rows command refusal = (objects : Objects) → IsShape rows objects → reply_of command objects ≡ answer.Refused refusal
+
+-- and these don't refuse it
+abbrev pub IsNotRefused : Rows → Command → Type 0
+IsNotRefused rows command = (objects : Objects) → IsShape rows objects → IsTrue (not (is_refused (reply_of command objects)))

@@ -1,21 +1,16 @@
 -- What submitting a transaction does: it is accepted, or refused for a cause; either makes an entry of the book.
-use Rattle.std.specs.Prelude.{◌≡◌, ℕ, ◌+◌, ◌<◌, ◌≤◌, ◌%◌, nat_lt, List, [], ◌∷◌, ◌++◌, length, map, Option, Some, None, if◌then◌else◌}
-use Rattle.std.specs.FinMap as finite
+use Rattle.std.specs.Prelude.{◌≡◌, ℕ, ◌+◌, ◌<◌, ◌≤◌, ◌%◌, List, [], ◌∷◌, ◌++◌, length, map, Some, None}
 use Rattle.block_device.specs.declared.device.Ticket.{Ticket}
-use Rattle.object_model.specs.Effect.{Change, object_limit}
-use Rattle.object_model.specs.Limits.{is_too_large}
+use Rattle.object_model.specs.Effect.{Change}
 use Rattle.object_model.specs.declared.op.Op.{Op}
 use Rattle.object_model.specs.declared.op.Op.TheVariants.{MkColl, Touch, Write}
-use Rattle.object_model.specs.declared.op.Refusal.{Refusal}
-use Rattle.object_model.specs.declared.op.Refusal.TheVariants.{NoCollection, CollectionExists, TooBig}
 use Rattle.object_model.specs.declared.command.Command.{Command}
 use Rattle.object_model.specs.declared.command.Command.TheVariants as ask
 use Rattle.object_model.specs.declared.command.Answer.{Answer}
 use Rattle.object_model.specs.declared.command.Answer.TheVariants as answer
-use Rattle.meta_rows.specs.Rows.{Rows, rows_after}
+use Rattle.meta_rows.specs.Rows.{rows_after}
 use Rattle.meta_log.specs.Records.{unit_count}
-use Rattle.unit_fields.specs.Names.{IsName, IsCollName}
-use Rattle.row_format.specs.Keys.{coll_key}
+use Rattle.read_facts.specs.Refusals.{IsRefusedBy, IsNotRefused}
 use Rattle.object_rows.specs.declared.plan.Plan.{Plan}
 use Rattle.unit_allocator.specs.Units.{Space, free_units, taken}
 use Rattle.store_steps.specs.declared.context.Context.{Context}
@@ -29,23 +24,6 @@ IsKnown (MkColl ∷ []) = Unit {0}
 IsKnown (Touch o ∷ []) = Unit {0}
 IsKnown (Write o off bytes ∷ []) = (off % 4096 ≡ 0) × (length bytes % 4096 ≡ 0) × (0 < length bytes)
 IsKnown ops = ⊥
-
--- its names are names
-abbrev pub HasNames : List ℕ → List Op → Type 0
-HasNames c (Touch o ∷ []) = IsCollName c × IsName o
-HasNames c (Write o off bytes ∷ []) = IsCollName c × IsName o
-HasNames c ops = IsCollName c
-
--- the refusal that the submitted rows give to operations on a collection
-abbrev pub ops_refusal : Rows → List ℕ → List Op → Option Refusal
-ops_refusal rows c (MkColl ∷ []) = if finite.contains_key rows (coll_key c) then Some CollectionExists else None
-ops_refusal rows c (Write o off bytes ∷ []) =
-    if finite.contains_key rows (coll_key c) then (if nat_lt object_limit (off + length bytes) then Some TooBig else None) else Some NoCollection
-ops_refusal rows c ops = if finite.contains_key rows (coll_key c) then None else Some NoCollection
-
--- and to a transaction, which may be too large as a whole
-abbrev pub refusal_of : Rows → Change → Option Refusal
-refusal_of rows change = if is_too_large change then Some TooBig else ops_refusal rows change.coll change.ops
 
 -- the units of the log that the record of these operations alone takes: they are as many for each number
 abbrev pub need_of : Meta → Plan → ℕ
@@ -97,11 +75,10 @@ pub record CanNote (s : State) : Type 0 where
   pub up : s.down ≡ None
   pub room : length s.book.entries < entry_limit
 
--- it is accepted: no refusal holds, units and room suffice
+-- it is accepted: plain objects don't refuse it, units and room suffice
 pub record Accepts (client line : ℕ) (change : Change) (s s' : State) : Type 0 where
   pub can_note : CanNote s
-  pub names : HasNames change.coll change.ops
-  pub not_refused : refusal_of s.submitted change ≡ None
+  pub not_refused : IsNotRefused s.submitted (ask.Change change)
   pub plan : Plan
   pub plans : Plans change.coll change.ops s.submitted s.space plan
   pub fits : need_of s.log plan ≤ room_of s.log
@@ -109,11 +86,11 @@ pub record Accepts (client line : ℕ) (change : Change) (s s' : State) : Type 0
 
 -- it is refused with this answer, for its cause; nothing but the book changes
 abbrev pub IsCause : Answer → Change → State → Type 0
-IsCause (answer.Refused refusal) change s = refusal_of s.submitted change ≡ Some refusal
+IsCause (answer.Refused refusal) change s = IsRefusedBy s.submitted (ask.Change change) refusal
 IsCause (answer.NoSpace need free) change s =
-    (refusal_of s.submitted change ≡ None) × (need ≡ units_taken change.ops) × (free ≡ free_count s.space) × (free < need)
+    IsNotRefused s.submitted (ask.Change change) × (need ≡ units_taken change.ops) × (free ≡ free_count s.space) × (free < need)
 IsCause (answer.MetaFull need room) change s =
-    (refusal_of s.submitted change ≡ None)
+    IsNotRefused s.submitted (ask.Change change)
     × ((plan : Plan) × (Plans change.coll change.ops s.submitted s.space plan × (need ≡ need_of s.log plan)))
     × (room ≡ room_of s.log) × (room < need)
 IsCause a change s = ⊥

@@ -1,23 +1,24 @@
 -- What planning answers: a plan of a transaction that the rows take, or why there is none.
-use Rattle.std.specs.Prelude.{◌≡◌, ◌<◌, None, Some}
+use Rattle.std.specs.Prelude.{◌≡◌, ◌<◌}
 use Rattle.object_model.specs.Effect.{Change}
+use Rattle.object_model.specs.declared.command.Command.TheVariants as ask
 use Rattle.meta_rows.specs.Rows.{Rows}
+use Rattle.read_facts.specs.Refusals.{IsRefusedBy, IsNotRefused}
 use Rattle.object_rows.specs.declared.plan.Plan.{Plan}
 use Rattle.unit_allocator.specs.Units.{Space}
 use Rattle.store_steps.specs.Planning.{Plans, units_taken}
-use Rattle.store_steps.specs.Submit.{HasNames, refusal_of, free_count}
+use Rattle.store_steps.specs.Submit.{free_count}
 use Rattle.txn_planner.specs.declared.planning.PlanFail.{PlanFail}
 use Rattle.txn_planner.specs.declared.planning.PlanFail.TheVariants as fail
 
--- the rows don't refuse the transaction, its names are names, and this is its plan
+-- plain objects of the rows' shape don't refuse the transaction, and this is its plan
 pub record IsPlanFor (change : Change) (rows : Rows) (space : Space) (plan : Plan) : Type 0 where
-  pub not_refused : refusal_of rows change ≡ None
-  pub names : HasNames change.coll change.ops
+  pub not_refused : IsNotRefused rows (ask.Change change)
   pub plans : Plans change.coll change.ops rows space plan
 
 -- why there is no plan; want of memory comes of nothing that a clause sees
 abbrev pub IsPlanFail : Change → Rows → Space → PlanFail → Type 0
-IsPlanFail change rows space (fail.Refusal refusal) = refusal_of rows change ≡ Some refusal
+IsPlanFail change rows space (fail.Refusal refusal) = IsRefusedBy rows (ask.Change change) refusal
 IsPlanFail change rows space (fail.NoSpace need free) =
-    (refusal_of rows change ≡ None) × (need ≡ units_taken change.ops) × (free ≡ free_count space) × (free < need)
+    IsNotRefused rows (ask.Change change) × (need ≡ units_taken change.ops) × (free ≡ free_count space) × (free < need)
 IsPlanFail change rows space fail.Memory = Unit {0}

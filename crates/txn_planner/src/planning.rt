@@ -1,15 +1,17 @@
 //! What a transaction is turned into before it is accepted: its plan, or why there is none.
-ghost use Rattle.std.specs.Prelude.{◌≡◌, ◌+◌, ◌*◌, ◌≤◌, [], ◌∷◌, length, IfOk, IfErr};
+ghost use Rattle.std.specs.Prelude.{◌≡◌, ◌+◌, ◌*◌, ◌≤◌, false, [], ◌∷◌, length, IfOk, IfErr};
 ghost use Rattle.std.specs.FinMap as finite;
 ghost use Rattle.object_model.specs.Effect.{object_limit};
-ghost use Rattle.object_model.specs.declared.op.Op.TheVariants.{MkColl, Touch, Write};
+ghost use Rattle.object_model.specs.Limits.{is_too_large};
+ghost use Rattle.object_model.specs.declared.op.Op.TheVariants.{Write};
 ghost use Rattle.row_format.specs.Keys.{coll_key, onode_key};
-ghost use Rattle.row_facts.specs.Operations.{coll_ops};
+ghost use Rattle.row_facts.specs.Operations.{coll_ops, coll_change};
 ghost use Rattle.object_rows.specs.Plans.{touch_ops};
+ghost use Rattle.object_rows.specs.Writes.{touch_change};
 ghost use Rattle.store_steps.specs.Submit.{IsKnown};
 ghost use Rattle.onode_state.specs.Objects.{AreRowsOfAStore};
 ghost use Rattle.txn_planner.specs.PlanFails.{IsPlanFor, IsPlanFail};
-ghost use Rattle.txn_planner.specs.Ops.{fail_of, IsOpPlan, IsOpFail, WritesOn};
+ghost use Rattle.txn_planner.specs.Ops.{fail_of, op_change, WritesOn};
 ghost use Rattle.txn_planner.specs.declared.planning.PlanFail.TheVariants.{Memory};
 
 use crate::object_change::{onode_ops, replace_shards, size_ops};
@@ -81,6 +83,7 @@ pub fn plan(
     }
 }
 
+// The plan of a transaction of one operation, which isn't too large.
 fn plan_op(
     alloc: Global,
     rows: &RowTable,
@@ -89,9 +92,10 @@ fn plan_op(
     op: &Op,
 ) -> Result<Plan, PlanFail>
     requires known { IsKnown (op.now ∷ []) }
+    requires small { is_too_large (op_change coll.now op.now) ≡ false }
     requires good { AreRowsOfAStore rows.now.rows }
-    ensures ok { IfOk result (IsOpPlan coll.now op.now rows.now.rows space.now) }
-    ensures fail { IfErr result (IsOpFail coll.now op.now rows.now.rows space.now) }
+    ensures ok { IfOk result (IsPlanFor (op_change coll.now op.now) rows.now.rows space.now) }
+    ensures fail { IfErr result (IsPlanFail (op_change coll.now op.now) rows.now.rows space.now) }
 {
     match op {
         Op::MkColl => plan_collection(alloc, rows, space, coll),
@@ -156,8 +160,8 @@ fn plan_collection(
     space: &Allocator,
     coll: &CollName,
 ) -> Result<Plan, PlanFail>
-    ensures ok { IfOk result (IsOpPlan coll.now MkColl rows.now.rows space.now) }
-    ensures fail { IfErr result (IsOpFail coll.now MkColl rows.now.rows space.now) }
+    ensures ok { IfOk result (IsPlanFor (coll_change coll.now) rows.now.rows space.now) }
+    ensures fail { IfErr result (IsPlanFail (coll_change coll.now) rows.now.rows space.now) }
 {
     coll_name_is_one(coll);
     if has_collection(alloc, rows, coll)? {
@@ -190,8 +194,8 @@ fn plan_touch(
     coll: &CollName,
     object: &Name,
 ) -> Result<Plan, PlanFail>
-    ensures ok { IfOk result (IsOpPlan coll.now (Touch object.now) rows.now.rows space.now) }
-    ensures fail { IfErr result (IsOpFail coll.now (Touch object.now) rows.now.rows space.now) }
+    ensures ok { IfOk result (IsPlanFor (touch_change coll.now object.now) rows.now.rows space.now) }
+    ensures fail { IfErr result (IsPlanFail (touch_change coll.now object.now) rows.now.rows space.now) }
 {
     coll_name_is_one(coll);
     name_is_one(object);
@@ -249,9 +253,10 @@ fn plan_write(
     bytes: &SharedBytes,
 ) -> Result<Plan, PlanFail>
     requires known { IsKnown (Write object.now off bytes.now ∷ []) }
+    requires small { is_too_large (op_change coll.now (Write object.now off bytes.now)) ≡ false }
     requires good { AreRowsOfAStore rows.now.rows }
-    ensures ok { IfOk result (IsOpPlan coll.now (Write object.now off bytes.now) rows.now.rows space.now) }
-    ensures fail { IfErr result (IsOpFail coll.now (Write object.now off bytes.now) rows.now.rows space.now) }
+    ensures ok { IfOk result (IsPlanFor (op_change coll.now (Write object.now off bytes.now)) rows.now.rows space.now) }
+    ensures fail { IfErr result (IsPlanFail (op_change coll.now (Write object.now off bytes.now)) rows.now.rows space.now) }
 {
     coll_name_is_one(coll);
     name_is_one(object);

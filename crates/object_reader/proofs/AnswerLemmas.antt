@@ -1,16 +1,21 @@
 -- Answers to commands that read, from the parts that were read.
-use Rattle.std.proofs.Common.{◌≡◌, ℕ, ◌+◌, ◌/◌, ◌≤◌, Bool, true, false, cond, List, Option, Some, None, is_some, refl, sym, ap, subst, arith}
-use Rattle.std.specs.Prelude.{nat_lt, Result, Ok, Err, IfOk, IfErr}
+use Rattle.std.proofs.Common.{◌≡◌, ℕ, ◌+◌, ◌/◌, ◌≤◌, Bool, true, false, cond, List, length, take, drop, Option, Some, None, is_some, refl, sym, ap, subst, arith}
+use Rattle.std.specs.Prelude.{not, nat_lt, Result, Ok, Err, IsOk, IfOk, IfErr, MatchOption}
 use Rattle.std.specs.FinMap as finite
-use Rattle.std.proofs.lemmas.Bool.{ltb-false}
+use Rattle.std.proofs.lemmas.Bool.{le-ltb}
+use Rattle.crc32c_csum.specs.Crc32c.{crc32c}
 use Rattle.block_device.specs.Disk.{Disk}
+use Rattle.object_model.specs.Objects.{Object, Collection}
 use Rattle.object_model.specs.Effect.{object_limit}
+use Rattle.object_model.specs.Reply.{answer_from, found_collection, found_object}
+use Rattle.object_model.specs.Book.{is_refused}
 use Rattle.object_model.specs.declared.op.Refusal.{Refusal}
 use Rattle.object_model.specs.declared.op.Refusal.TheVariants.{NoCollection, NoObject, BadRange}
 use Rattle.object_model.specs.declared.command.Command.TheVariants as ask
 use Rattle.object_model.specs.declared.command.Answer.{Answer}
 use Rattle.object_model.specs.declared.command.Answer.TheVariants as answer
 use Rattle.meta_rows.specs.Rows.{Rows}
+use Rattle.unit_fields.specs.Names.{IsName, IsCollName}
 use Rattle.row_format.specs.Extents.{Extent, own}
 use Rattle.row_format.specs.Keys.{coll_key, onode_key}
 use Rattle.row_format.specs.Row.{onode}
@@ -21,11 +26,15 @@ use Rattle.object_rows.proofs.GoodPages.{good_page}
 use Rattle.onode_state.specs.Objects.{AreRowsOfAStore, FindPagesOf}
 use Rattle.read_facts.specs.declared.view.BadSum.{BadSum}
 use Rattle.read_facts.specs.PageReads.{pages_read}
-use Rattle.read_facts.specs.Answers.{object_refusal, range_refusal, Gives, IsAnswerOf}
+use Rattle.read_facts.specs.Refusals.{IsRefusedBy, IsNotRefused}
+use Rattle.read_facts.specs.Answers.{Gives, IsAnswerOf}
 use Rattle.read_facts.specs.Walks.{IsObject}
 use Rattle.read_facts.specs.Views.{sum_answer, IsViewOf}
+use Rattle.read_facts.proofs.Keys.{none_of}
+use Rattle.read_facts.proofs.Found.{answer_given, object_nowhere, object_missing, object_there}
 use Rattle.object_reader.specs.declared.parts.PartFail.{PartFail}
 use Rattle.object_reader.specs.declared.parts.PartFail.TheVariants as why
+use Rattle.object_reader.specs.Missing.{IsCollMissing, IsObjectMissing, HasObject}
 use Rattle.object_reader.specs.Readable.{IsReadable}
 use Rattle.object_reader.specs.Parts.{CanRead, IsPartFail, GivesRange, GivesSum}
 use Rattle.object_reader.specs.PartFails.{IsCsumOf, IsSumOf}
@@ -41,23 +50,46 @@ ok_of (Err e) P Q keeps is = tt
 
 -- ---- refusals
 
--- an object that isn't refused is there
-object_there : (a b : Bool) → cond a (cond b None (Some NoObject)) (Some NoCollection) ≡ None → b ≡ true
-object_there true true is = refl
-object_there true false is = absurd cc
-object_there false b is = absurd cc
+-- the test of a refusal that isn't one
+pub at_none : {A : Type 0} (x : Option A) (P : Type 0) (Q : A → Type 0) → MatchOption x P Q → x ≡ None → P
+at_none None P Q is none = is
+at_none (Some refusal) P Q is none = absurd cc
 
-pub has_onode : (rows : Rows) (c o : List ℕ) → object_refusal rows c o ≡ None → HasKey rows (onode_key c o)
-has_onode rows c o none = object_there (finite.contains_key rows (coll_key c)) (finite.contains_key rows (onode_key c o)) none
+module _ (rows : Rows) (c : List ℕ) where
+  module _ (o : List ℕ) where
+    -- an object whose collection has no row, or which has none itself
+    pub in_no_coll : (r : Refusal) → IsCollMissing rows c r → IsObjectMissing rows c o r
+    in_no_coll r absent objects shape = object_nowhere objects c o r (absent objects shape)
 
--- nor is its range
-pub range_allowed : (r : Option Refusal) (off len : ℕ) → range_refusal r off len ≡ None → (r ≡ None) × (off + len ≤ object_limit)
-range_allowed (Some refusal) off len none = absurd cc
-range_allowed None off len none = (refl, by (nat_lt object_limit (off + len)) refl none)
-  where
-    by : (b : Bool) → nat_lt object_limit (off + len) ≡ b → cond b (Some BadRange) None ≡ None → off + len ≤ object_limit
-    by true is gone = absurd cc
-    by false is gone = ltb-false object_limit (off + len) is
+    pub no_onode_row : IsCollName c → IsName o → HasKey rows (coll_key c) → finite.contains_key rows (onode_key c o) ≡ false
+        → IsObjectMissing rows c o NoObject
+    no_onode_row coll name has none objects shape =
+        object_missing rows objects shape c o coll name has (none_of (finite.get rows (onode_key c o)) none)
+
+    -- one that has its row, as its collection has
+    module _ (coll : IsCollName c) (name : IsName o) (has : HasObject rows c o) where
+      pub sum_taken : IsNotRefused rows (ask.Sum c o)
+      sum_taken objects shape = answer_given (found_object objects c o) (λ b. answer.Sum (length b.bytes) (crc32c b.bytes))
+          (object_there rows objects shape c o coll name has.0 has.1) (λ b. refl)
+
+      module _ (off len : ℕ) where
+        abbrev read_by : Bool → Object → Answer
+        read_by beyond b = cond beyond (answer.Refused BadRange) (answer.Bytes (take len (drop off b.bytes)))
+
+        -- a range within an object's limit, or past it
+        pub read_taken : off + len ≤ object_limit → IsNotRefused rows (ask.Read c o off len)
+        read_taken within objects shape =
+            answer_given (found_object objects c o) (read_by (nat_lt object_limit (off + len)))
+            (object_there rows objects shape c o coll name has.0 has.1)
+            (λ b. ap (λ (beyond : Bool). not (is_refused (read_by beyond b))) (le-ltb object_limit (off + len) within))
+
+        pub read_too_far : nat_lt object_limit (off + len) ≡ true → IsRefusedBy rows (ask.Read c o off len) BadRange
+        read_too_far beyond objects shape =
+            of (found_object objects c o) (object_there rows objects shape c o coll name has.0 has.1)
+          where
+            of : (x : Result Object Refusal) → IsOk x → answer_from x (read_by (nat_lt object_limit (off + len))) ≡ answer.Refused BadRange
+            of (Ok b) ok = ap (λ (t : Bool). read_by t b) beyond
+            of (Err refusal) ok = absurd cc
 
 -- ---- an object that is there
 
@@ -84,13 +116,13 @@ module _ (d : Disk) (rows : Rows) (c o : List ℕ) (size : ℕ) (pages : List Ex
   size_most = (in_place can.sup rows (onode c o size) can.good has).1
 
   -- the bytes of a range
-  pub bytes_answer : (off len : ℕ) (bytes : List ℕ) → range_refusal (object_refusal rows c o) off len ≡ None → GivesRange d pages size off len bytes
+  pub bytes_answer : (off len : ℕ) (bytes : List ℕ) → IsNotRefused rows (ask.Read c o off len) → GivesRange d pages size off len bytes
       → IsAnswerOf d rows (ask.Read c o off len) (answer.Bytes bytes)
   bytes_answer off len bytes none gives =
       (none, (size, record { has_size = has; pages = gives.whole; good = gives.good.good rows c o are_pages; cut = gives.cut }))
 
   -- a bad page of a range
-  pub read_fails : (off len : ℕ) (fail : PartFail) (a : Answer) → range_refusal (object_refusal rows c o) off len ≡ None
+  pub read_fails : (off len : ℕ) (fail : PartFail) (a : Answer) → IsNotRefused rows (ask.Read c o off len)
       → IsPartFail d pages (off / 4096) (pages_read size off len) fail → IsCsumOf fail a → IsAnswerOf d rows (ask.Read c o off len) a
   read_fails off len (why.BadPage bad) a none fails is = subst (IsAnswerOf d rows (ask.Read c o off len)) (sym is)
       (none, (size, record { has_size = has; first_bad = fails rows c o are_pages }))
@@ -109,11 +141,11 @@ module _ (d : Disk) (rows : Rows) (c o : List ℕ) (size : ℕ) (pages : List Ex
       → Gives d rows (ask.Sum c o) (answer.Csum bad.unit bad.kept bad.found)
   gives_bad bad fails = (size, record { has_size = has; first_bad = fails rows c o are_pages })
 
-  pub sum_gives : (crc : ℕ) → object_refusal rows c o ≡ None → GivesSum d pages size crc
+  pub sum_gives : (crc : ℕ) → IsNotRefused rows (ask.Sum c o) → GivesSum d pages size crc
       → IsAnswerOf d rows (ask.Sum c o) (answer.Sum size crc)
   sum_gives crc none gives = (none, gives_sum crc gives)
 
-  pub sum_fails : (fail : PartFail) (a : Answer) → object_refusal rows c o ≡ None → IsPartFail d pages 0 (pages_read size 0 size) fail
+  pub sum_fails : (fail : PartFail) (a : Answer) → IsNotRefused rows (ask.Sum c o) → IsPartFail d pages 0 (pages_read size 0 size) fail
       → IsCsumOf fail a → IsAnswerOf d rows (ask.Sum c o) a
   sum_fails (why.BadPage bad) a none fails is = subst (IsAnswerOf d rows (ask.Sum c o)) (sym is) (none, gives_bad bad fails)
   sum_fails why.Memory a none fails is = absurd is

@@ -1,3 +1,4 @@
+pub mod Missing
 pub mod Readable
 pub mod NextKeys
 pub mod Parts

@@ -1,13 +1,17 @@
 //! Commands that read, answered.
-ghost use Rattle.std.specs.Prelude.{◌≡◌, ◌+◌, ◌≤◌, IfOk, IsErrOf};
+ghost use Rattle.std.specs.Prelude.{◌≡◌, ◌+◌, ◌≤◌, IfOk, IsErrOf, MatchOption};
 ghost use Rattle.std.specs.FinMap as finite;
 ghost use Rattle.block_device.specs.Disk.{Rose};
 ghost use Rattle.object_model.specs.declared.command.Command.TheVariants as ask;
+ghost use Rattle.object_model.specs.Effect.{object_limit};
 ghost use Rattle.onode_state.specs.Objects.{AreRowsOfAStore};
 ghost use Rattle.block_device.specs.Disk.{Disk};
 ghost use Rattle.unit_fields.specs.Names.{IsName, IsCollName};
 ghost use Rattle.row_format.specs.Keys.{coll_key, onode_key};
-ghost use Rattle.read_facts.specs.Answers.{IsKnownRead, HasReadNames, IsAnswerOf, coll_refusal, object_refusal, range_refusal};
+ghost use Rattle.store_image.specs.Pages.{HasKey};
+ghost use Rattle.read_facts.specs.Refusals.{IsRefusedBy};
+ghost use Rattle.read_facts.specs.Answers.{IsKnownRead, HasReadNames, IsAnswerOf};
+ghost use Rattle.object_reader.specs.Missing.{IsCollMissing, IsObjectMissing, HasObject};
 ghost use Rattle.object_reader.specs.Readable.{IsReadable};
 ghost use Rattle.object_reader.specs.PartFails.{IsCsumOf};
 
@@ -66,7 +70,7 @@ fn coll_refusal(
     rows: &RowTable,
     coll: &CollName,
 ) -> Result<Option<Refusal>, AllocError>
-    ensures { IfOk result (λ refusal. refusal ≡ coll_refusal rows.now.rows coll.now) }
+    ensures { IfOk result (λ refusal. MatchOption refusal (HasKey rows.now.rows (coll_key coll.now)) (IsCollMissing rows.now.rows coll.now)) }
 {
     let key = coll_key(alloc, coll)?;
     if has_row(rows, &key) {
@@ -82,8 +86,12 @@ fn object_refusal(
     coll: &CollName,
     object: &Name,
 ) -> Result<Option<Refusal>, AllocError>
-    ensures { IfOk result (λ refusal. refusal ≡ object_refusal rows.now.rows coll.now object.now) }
+    ensures names { IsCollName coll.now × IsName object.now }
+    ensures refusal { IfOk result (λ refusal. MatchOption refusal (HasObject rows.now.rows coll.now object.now)
+        (IsObjectMissing rows.now.rows coll.now object.now)) }
 {
+    coll_name_is_one(coll);
+    name_is_one(object);
     if let Some(refusal) = coll_refusal(alloc, rows, coll)? {
         return Ok(Some(refusal));
     }
@@ -103,7 +111,9 @@ fn range_refusal(
     off: u64,
     len: u64,
 ) -> Result<Option<Refusal>, AllocError>
-    ensures { IfOk result (λ refusal. refusal ≡ range_refusal (object_refusal rows.now.rows coll.now object.now) off len) }
+    ensures names { IsCollName coll.now × IsName object.now }
+    ensures refusal { IfOk result (λ refusal. MatchOption refusal (HasObject rows.now.rows coll.now object.now × (off + len ≤ object_limit))
+        (IsRefusedBy rows.now.rows (ask.Read coll.now object.now off len))) }
 {
     if let Some(refusal) = object_refusal(alloc, rows, coll, object)? {
         return Ok(Some(refusal));
@@ -146,8 +156,6 @@ fn answer_read<D: Device>(
     ensures later { D.faults device.old ≤ D.faults device.new }
     ensures cause { IsErrOf result ReadFail.Fault → Rose (D.faults device.old) (D.faults device.new) }
 {
-    coll_name_is_one(coll);
-    name_is_one(object);
     if let Some(refusal) = range_refusal(alloc, rows, coll, object, off, len)? {
         return Ok(Answer::Refused(refusal));
     }
@@ -173,8 +181,6 @@ fn answer_sum<D: Device>(
     ensures later { D.faults device.old ≤ D.faults device.new }
     ensures cause { IsErrOf result ReadFail.Fault → Rose (D.faults device.old) (D.faults device.new) }
 {
-    coll_name_is_one(coll);
-    name_is_one(object);
     if let Some(refusal) = object_refusal(alloc, rows, coll, object)? {
         return Ok(Answer::Refused(refusal));
     }
@@ -196,8 +202,6 @@ fn answer_stat(
     ensures names { IsCollName coll.now × IsName object.now }
     ensures ok { IfOk result (λ a. (d : Disk) → IsAnswerOf d rows.now.rows (ask.Stat coll.now object.now) a) }
 {
-    coll_name_is_one(coll);
-    name_is_one(object);
     if let Some(refusal) = object_refusal(alloc, rows, coll, object)? {
         return Ok(Answer::Refused(refusal));
     }

@@ -1,9 +1,11 @@
-use Rattle.std.proofs.Common.{◌≡◌, None, sym, subst, ◌∙◌}
+use Rattle.std.proofs.Common.{◌+◌, ◌≤◌, sym, subst}
+use Rattle.object_model.specs.Effect.{object_limit}
 use Rattle.object_model.specs.declared.command.Command.TheVariants as ask
-use Rattle.read_facts.specs.Answers.{object_refusal, range_refusal, IsAnswerOf}
+use Rattle.read_facts.specs.Answers.{IsAnswerOf}
+use Rattle.object_reader.specs.Missing.{HasObject}
 use Rattle.object_reader.specs.Parts.{GivesRange}
 use Rattle.object_reader.specs.PartFails.{IsCsumOf}
-use Rattle.object_reader.proofs.AnswerLemmas.{ok_of, has_onode, range_allowed, can_read, bytes_answer, read_fails}
+use Rattle.object_reader.proofs.AnswerLemmas.{ok_of, at_none, read_taken, can_read, bytes_answer, read_fails}
 use Rattle.object_reader.proofs.answering.answer_read.Goals as goal
 
 pub read_range-requires-clause-can : goal.read_range-requires-clause-can
@@ -11,8 +13,8 @@ read_range-requires-clause-can g c =
     let rows = c.args.rows.now.rows in
     let coll = c.args.coll.now in
     let object = c.args.object.now in
-    let none : range_refusal (object_refusal rows coll object) c.args.off c.args.len ≡ None = sym c.in_ok-refusal.ensures ∙ c.in_default.is in
-    let key = has_onode rows coll object (range_allowed (object_refusal rows coll object) c.args.off c.args.len none).0 in
+    let taken : HasObject rows coll object × (c.args.off + c.args.len ≤ object_limit) = at_none _ _ _ c.in_ok-refusal.ensures.refusal c.in_default.is in
+    let key = taken.0.1 in
     let size = c.in_ok-size.size in
     let pages = c.in_ok-pages.pages in
     can_read (g.D.Device.disk c.args.device.now) rows coll object size pages c.requires.readable
@@ -23,8 +25,8 @@ read_range-requires-clause-limit g c =
     let rows = c.args.rows.now.rows in
     let coll = c.args.coll.now in
     let object = c.args.object.now in
-    let none : range_refusal (object_refusal rows coll object) c.args.off c.args.len ≡ None = sym c.in_ok-refusal.ensures ∙ c.in_default.is in
-    (range_allowed (object_refusal rows coll object) c.args.off c.args.len none).1
+    let taken : HasObject rows coll object × (c.args.off + c.args.len ≤ object_limit) = at_none _ _ _ c.in_ok-refusal.ensures.refusal c.in_default.is in
+    taken.1
 
 pub returns-in-Ok-clause-ok : goal.returns-in-Ok-clause-ok
 returns-in-Ok-clause-ok g c =
@@ -34,8 +36,9 @@ returns-in-Ok-clause-ok g c =
     let object = c.args.object.now in
     let off = c.args.off in
     let len = c.args.len in
-    let none : range_refusal (object_refusal rows coll object) off len ≡ None = sym c.in_ok-refusal.ensures ∙ c.in_default.is in
-    let key = has_onode rows coll object (range_allowed (object_refusal rows coll object) off len none).0 in
+    let taken : HasObject rows coll object × (off + len ≤ object_limit) = at_none _ _ _ c.in_ok-refusal.ensures.refusal c.in_default.is in
+    let none = read_taken rows coll object c.range_refusal.ensures.names.0 c.range_refusal.ensures.names.1 taken.0 off len taken.1 in
+    let key = taken.0.1 in
     let size = c.in_ok-size.size in
     let pages = c.in_ok-pages.pages in
     bytes_answer d rows coll object size pages c.requires.readable c.in_ok-size.ensures c.in_ok-pages.ensures.found key off len
@@ -50,8 +53,9 @@ returns-in-Err-clause-ok g c =
     let object = c.args.object.now in
     let off = c.args.off in
     let len = c.args.len in
-    let none : range_refusal (object_refusal rows coll object) off len ≡ None = sym c.in_ok-refusal.ensures ∙ c.in_default.is in
-    let key = has_onode rows coll object (range_allowed (object_refusal rows coll object) off len none).0 in
+    let taken : HasObject rows coll object × (off + len ≤ object_limit) = at_none _ _ _ c.in_ok-refusal.ensures.refusal c.in_default.is in
+    let none = read_taken rows coll object c.range_refusal.ensures.names.0 c.range_refusal.ensures.names.1 taken.0 off len taken.1 in
+    let key = taken.0.1 in
     let size = c.in_ok-size.size in
     let pages = c.in_ok-pages.pages in
     ok_of c.csum_answer.result (IsCsumOf c.in-Err.why) (IsAnswerOf d rows (ask.Read coll object off len))

@@ -1,8 +1,8 @@
-use Rattle.std.proofs.Common.{◌≡◌, None, sym, ◌∙◌}
 use Rattle.object_model.specs.declared.command.Command.TheVariants as ask
-use Rattle.read_facts.specs.Answers.{object_refusal, IsAnswerOf}
+use Rattle.read_facts.specs.Answers.{IsAnswerOf}
+use Rattle.object_reader.specs.Missing.{HasObject}
 use Rattle.object_reader.specs.PartFails.{IsCsumOf}
-use Rattle.object_reader.proofs.AnswerLemmas.{ok_of, has_onode, can_read, size_most, sum_gives, sum_fails}
+use Rattle.object_reader.proofs.AnswerLemmas.{ok_of, at_none, sum_taken, can_read, size_most, sum_gives, sum_fails}
 use Rattle.object_reader.proofs.answering.answer_sum.Goals as goal
 
 pub sum-requires-clause-can : goal.sum-requires-clause-can
@@ -10,7 +10,8 @@ sum-requires-clause-can g c =
     let rows = c.args.rows.now.rows in
     let coll = c.args.coll.now in
     let object = c.args.object.now in
-    let key = has_onode rows coll object (sym c.in_ok-refusal.ensures ∙ c.in_default.is) in
+    let taken : HasObject rows coll object = at_none _ _ _ c.in_ok-refusal.ensures.refusal c.in_default.is in
+    let key = taken.1 in
     let size = c.in_ok-size.size in
     let pages = c.in_ok-pages.pages in
     can_read (g.D.Device.disk c.args.device.now) rows coll object size pages c.requires.readable
@@ -21,7 +22,8 @@ sum-requires-clause-limit g c =
     let rows = c.args.rows.now.rows in
     let coll = c.args.coll.now in
     let object = c.args.object.now in
-    let key = has_onode rows coll object (sym c.in_ok-refusal.ensures ∙ c.in_default.is) in
+    let taken : HasObject rows coll object = at_none _ _ _ c.in_ok-refusal.ensures.refusal c.in_default.is in
+    let key = taken.1 in
     let size = c.in_ok-size.size in
     let pages = c.in_ok-pages.pages in
     size_most (g.D.Device.disk c.args.device.now) rows coll object size pages c.requires.readable
@@ -32,11 +34,12 @@ returns-in-Ok-clause-ok g c =
     let rows = c.args.rows.now.rows in
     let coll = c.args.coll.now in
     let object = c.args.object.now in
-    let none : object_refusal rows coll object ≡ None = sym c.in_ok-refusal.ensures ∙ c.in_default.is in
+    let taken : HasObject rows coll object = at_none _ _ _ c.in_ok-refusal.ensures.refusal c.in_default.is in
+    let none = sum_taken rows coll object c.object_refusal.ensures.names.0 c.object_refusal.ensures.names.1 taken in
     let size = c.in_ok-size.size in
     let pages = c.in_ok-pages.pages in
     sum_gives (g.D.Device.disk c.args.device.now) rows coll object size pages c.requires.readable c.in_ok-size.ensures c.in_ok-pages.ensures.found
-    (has_onode rows coll object none) c.in-Ok.crc none c.in-Ok.ensures.good
+    taken.1 c.in-Ok.crc none c.in-Ok.ensures.good
 
 pub returns-in-Err-clause-ok : goal.returns-in-Err-clause-ok
 returns-in-Err-clause-ok g c =
@@ -44,9 +47,10 @@ returns-in-Err-clause-ok g c =
     let rows = c.args.rows.now.rows in
     let coll = c.args.coll.now in
     let object = c.args.object.now in
-    let none : object_refusal rows coll object ≡ None = sym c.in_ok-refusal.ensures ∙ c.in_default.is in
+    let taken : HasObject rows coll object = at_none _ _ _ c.in_ok-refusal.ensures.refusal c.in_default.is in
+    let none = sum_taken rows coll object c.object_refusal.ensures.names.0 c.object_refusal.ensures.names.1 taken in
     let size = c.in_ok-size.size in
     let pages = c.in_ok-pages.pages in
     ok_of c.csum_answer.result (IsCsumOf c.in-Err.why) (IsAnswerOf d rows (ask.Sum coll object))
     (λ a is. sum_fails d rows coll object size pages c.requires.readable c.in_ok-size.ensures c.in_ok-pages.ensures.found
-    (has_onode rows coll object none) c.in-Err.why a none c.in-Err.ensures.fail is) c.csum_answer.ensures.ok
+    taken.1 c.in-Err.why a none c.in-Err.ensures.fail is) c.csum_answer.ensures.ok

@@ -95,10 +95,10 @@ module _ (s : State) (client line : ℕ) (change : Change) (s' : State) (limits 
     (known : IsKnown change.ops) (does : Accepts client line change s s') where
   pub accepted_plan : IsPlanned s.log.sup s.submitted change does.plan
   accepted_plan = planned s.log.sup s.log.rows s.submitted s.space limits kept.good kept.space kept.free change.coll change.ops does.plan known
-      does.names does.not_refused does.plans
+      does.plans
 
   pub accepted_fits : PlanFits does.plan
-  accepted_fits = plan_fits s.log.sup s.submitted s.space change.coll change.ops does.plan kept.good.good known does.not_refused does.plans accepted_plan
+  accepted_fits = plan_fits s.log.sup s.submitted s.space change.coll change.ops does.plan kept.good.good known does.plans accepted_plan
 
   -- so its context has room for its record
   pub accepted_record : FitsRecord (context_of (length s.book.entries) change s.log does.plan)

@@ -1,25 +1,15 @@
 -- What the plan of a transaction takes of the free units, and that it is one of those that good rows stay good by.
-use Rattle.std.proofs.Common.{◌≡◌, inl, inr, ℕ, zero, suc, ◌+◌, ◌*◌, ◌/◌, ◌<◌, ◌≤◌, ◌^◌, Bool, true, false, cond, List, [], ◌∷◌, length, map, take, get_or, Contains, Option, Some, None, is_some, refl, sym, ap, subst, ◌∙◌, arith}
-use Rattle.std.specs.Prelude.{nat_lt}
+use Rattle.std.proofs.Common.{◌≡◌, inl, inr, ℕ, zero, suc, ◌+◌, ◌*◌, ◌/◌, ◌<◌, ◌≤◌, ◌^◌, true, List, [], ◌∷◌, length, map, take, get_or, Contains, refl, sym, ap, subst, ◌∙◌, arith}
 use Rattle.std.specs.List.{AllByRecursion, Any}
-use Rattle.std.specs.FinMap as finite
-use Rattle.std.proofs.lemmas.Bool.{ltb-false, or_parts}
 use Rattle.std.proofs.lemmas.List.{length-map, length-take-le}
 use Rattle.meta_rows.specs.Rows.{Rows}
 use Rattle.meta_rows.specs.Spelling.{ops_bytes, AllFit}
 use Rattle.meta_log.specs.declared.slot.Super.{Super}
 use Rattle.meta_log.specs.Records.{unit_count}
 use Rattle.meta_log.specs.Slots.{IsSuper}
-use Rattle.object_model.specs.Effect.{Change, object_limit}
-use Rattle.object_model.specs.Limits.{payload_limit, operation_limit, is_too_large}
 use Rattle.object_model.specs.declared.op.Op.{Op}
 use Rattle.object_model.specs.declared.op.Op.TheVariants.{MkColl, Touch, Write}
-use Rattle.object_model.specs.declared.op.Refusal.{Refusal}
-use Rattle.object_model.specs.declared.op.Refusal.TheVariants.{NoCollection, CollectionExists, TooBig}
-use Rattle.unit_fields.specs.Names.{IsName, IsCollName}
 use Rattle.unit_fields.specs.UnitSet.{Ascends}
-use Rattle.row_format.specs.Keys.{coll_key}
-use Rattle.store_image.specs.Pages.{HasKey}
 use Rattle.store_image.specs.BadRows.{NoBadRow}
 use Rattle.store_image.specs.Owners.{IsDataUnit, IsOwned, IsMarked}
 use Rattle.row_facts.specs.Operations.{coll_change}
@@ -33,7 +23,7 @@ use Rattle.unit_allocator.specs.Units.{Space, IsWithin, is_free, free_units}
 use Rattle.unit_allocator.proofs.Lists.{Contains-head, Contains-tail, Contains-cases}
 use Rattle.unit_allocator.proofs.FreeUnits.{listed_is_free, free_units_ascend}
 use Rattle.store_steps.specs.Planning.{PlansPages, Plans, units_taken}
-use Rattle.store_steps.specs.Submit.{IsKnown, HasNames, ops_refusal, refusal_of}
+use Rattle.store_steps.specs.Submit.{IsKnown}
 use Rattle.store_facts.specs.Space.{AreGoodRows, IsSpaceOf, IsFreeExactly}
 use Rattle.store_facts.proofs.SpaceUnits.{within_data}
 
@@ -106,8 +96,8 @@ pages_take c o off bytes rows space plan p =
 -- those that it takes are the lowest free ones, as many as the transaction takes
 pub plan_takes : (c : List ℕ) (ops : List Op) (rows : Rows) (space : Space) (plan : Plan) → IsKnown ops → Plans c ops rows space plan
     → units_of plan.fresh ≡ take (units_taken ops) (free_units space)
-plan_takes c (MkColl ∷ []) rows space plan known plans = ap (λ (p : Plan). units_of p.fresh) plans
-plan_takes c (Touch o ∷ []) rows space plan known plans = ap (λ (p : Plan). units_of p.fresh) plans
+plan_takes c (MkColl ∷ []) rows space plan known plans = ap (λ (p : Plan). units_of p.fresh) plans.is
+plan_takes c (Touch o ∷ []) rows space plan known plans = ap (λ (p : Plan). units_of p.fresh) plans.is
 plan_takes c (Write o off bytes ∷ []) rows space plan known plans = pages_take c o off bytes rows space plan plans
 plan_takes c ops rows space plan known plans = absurd known
 
@@ -135,56 +125,13 @@ plan_count c ops rows space plan known plans =
     sym (length-map plan.fresh (λ (f : FreshUnit). f.unit)) ∙ ap length (plan_takes c ops rows space plan known plans)
     ∙ length-take-le (units_taken ops) (free_units space) (plan_enough c ops rows space plan known plans)
 
--- ---- what a transaction is that isn't refused
-
-not_large : (b : Bool) (refusal : Option Refusal) → cond b (Some TooBig) refusal ≡ None → (b ≡ false) × (refusal ≡ None)
-not_large true refusal is = absurd cc
-not_large false refusal is = (refl, is)
-
-pub ops_taken : (rows : Rows) (c : List ℕ) (ops : List Op) → refusal_of rows (record { coll = c; ops = ops }) ≡ None → ops_refusal rows c ops ≡ None
-ops_taken rows c ops is = (not_large (is_too_large (record { coll = c; ops = ops })) (ops_refusal rows c ops) is).1
-
-no_key : (rows : Rows) (c : List ℕ) (refusal : Refusal) → cond (finite.contains_key rows (coll_key c)) (Some refusal) None ≡ None
-    → finite.get rows (coll_key c) ≡ None
-no_key rows c refusal is = elim (finite.get rows (coll_key c)) as (λ x. cond (is_some x) (Some refusal) None ≡ None → x ≡ None) [
-  | None ↦ λ p. refl
-  | Some v ↦ λ p. absurd cc
-] is
-
-some_key : (rows : Rows) (c : List ℕ) (other : Option Refusal) (refusal : Refusal)
-    → cond (finite.contains_key rows (coll_key c)) other (Some refusal) ≡ None → HasKey rows (coll_key c) × (other ≡ None)
-some_key rows c other refusal is = elim (finite.get rows (coll_key c)) as
-    (λ x. cond (is_some x) other (Some refusal) ≡ None → (is_some x ≡ true) × (other ≡ None)) [
-      | None ↦ λ p. absurd cc
-      | Some v ↦ λ p. (refl, p)
-    ] is
-
--- a write of whole pages is short, and within an object's limit
-pub record IsWriteTaken (rows : Rows) (c : List ℕ) (off : ℕ) (bytes : List ℕ) : Type 0 where
-  pub has_collection : HasKey rows (coll_key c)
-  pub short : length bytes ≤ payload_limit
-  pub within : off + length bytes ≤ object_limit
-
-pub write_taken : (rows : Rows) (c o : List ℕ) (off : ℕ) (bytes : List ℕ)
-    → refusal_of rows (record { coll = c; ops = Write o off bytes ∷ [] }) ≡ None → IsWriteTaken rows c off bytes
-write_taken rows c o off bytes is =
-    let change : Change = record { coll = c; ops = Write o off bytes ∷ [] } in
-    let parts = not_large (is_too_large change) (ops_refusal rows c change.ops) is in
-    let small = or_parts (nat_lt operation_limit 1) (nat_lt payload_limit (0 + length bytes)) parts.0 in
-    let beyond : Bool = nat_lt object_limit (off + length bytes) in
-    let found = some_key rows c (cond beyond (Some TooBig) None) NoCollection parts.1 in
-    record {
-      has_collection = found.0;
-      short = omega (arith, ltb-false payload_limit (0 + length bytes) small.1);
-      within = omega (arith, ltb-false object_limit (off + length bytes) (not_large beyond None found.1).0);
-    }
-
-pub few_taken : (c : List ℕ) (ops : List Op) (rows : Rows) → IsKnown ops → refusal_of rows (record { coll = c; ops = ops }) ≡ None
+-- at most 256
+few_taken : (c : List ℕ) (ops : List Op) (rows : Rows) (space : Space) (plan : Plan) → IsKnown ops → Plans c ops rows space plan
     → units_taken ops ≤ 256
-few_taken c (MkColl ∷ []) rows known accepted = omega arith
-few_taken c (Touch o ∷ []) rows known accepted = omega arith
-few_taken c (Write o off bytes ∷ []) rows known accepted = omega (arith, (write_taken rows c o off bytes accepted).short)
-few_taken c ops rows known accepted = absurd known
+few_taken c (MkColl ∷ []) rows space plan known plans = omega arith
+few_taken c (Touch o ∷ []) rows space plan known plans = omega arith
+few_taken c (Write o off bytes ∷ []) rows space plan known plans = omega (arith, plans.short)
+few_taken c ops rows space plan known plans = absurd known
 
 -- ---- the plan is one of the rows
 
@@ -209,22 +156,22 @@ module _ (s : Super) (committed rows : Rows) (space : Space) (limits : IsSuper s
     fit = each_lowest (λ u. u < 2 ^ 32) n (λ u k. (free_facts u k).1);
   }
 
-  module _ (c o : List ℕ) (off : ℕ) (bytes : List ℕ) (plan : Plan) (known : IsKnown (Write o off bytes ∷ [])) (coll : IsCollName c) (name : IsName o)
-      (taken : IsWriteTaken rows c off bytes) (p : PlansPages c o off bytes rows space plan) where
+  module _ (c o : List ℕ) (off : ℕ) (bytes : List ℕ) (plan : Plan) (known : IsKnown (Write o off bytes ∷ []))
+      (p : PlansPages c o off bytes rows space plan) where
     page_count : length p.units ≡ length bytes / 4096
     page_count = ap length p.lowest ∙ length-take-le (length bytes / 4096) (free_units space) p.enough
 
     can_plan : planned_as.CanPlanWrite s rows c o (off / 4096) bytes p.units
     can_plan = record {
-      coll_name = coll;
-      object_name = name;
-      has_collection = taken.has_collection;
+      coll_name = p.in_coll.coll_named;
+      object_name = p.in_coll.named;
+      has_collection = p.in_coll.there;
       units_most = omega (arith, limits.units_most);
       fresh = subst (planned_as.AreFresh s rows) (sym p.lowest) (lowest_fresh (length bytes / 4096));
       some = omega (arith, page_count, known.1, known.2);
       whole = omega (arith, page_count, known.1);
-      short = taken.short;
-      within = omega (arith, taken.within);
+      short = p.short;
+      within = omega (arith, p.within);
       csums_fit = p.csums_fit;
     }
 
@@ -236,17 +183,15 @@ module _ (s : Super) (committed rows : Rows) (space : Space) (limits : IsSuper s
         (subst (λ (fs : List FreshUnit). planned_as.IsPlanned s rows (write_change c o (off / 4096) bytes)
         (record { ops = plan.ops; fresh = fs; released = plan.released })) (sym p.fresh) by)
 
-  pub planned : (c : List ℕ) (ops : List Op) (plan : Plan) → IsKnown ops → HasNames c ops → refusal_of rows (record { coll = c; ops = ops }) ≡ None
-      → Plans c ops rows space plan → planned_as.IsPlanned s rows (record { coll = c; ops = ops }) plan
-  planned c (MkColl ∷ []) plan known names accepted plans =
-      subst (planned_as.IsPlanned s rows (coll_change c)) (sym plans)
-      (planned_as.makes_coll c names (no_key rows c CollectionExists (ops_taken rows c (MkColl ∷ []) accepted)))
-  planned c (Touch o ∷ []) plan known names accepted plans =
-      subst (planned_as.IsPlanned s rows (touch_change c o)) (sym plans)
-      (planned_as.touches c o names.0 names.1 (some_key rows c None NoCollection (ops_taken rows c (Touch o ∷ []) accepted)).0)
-  planned c (Write o off bytes ∷ []) plan known names accepted plans =
-      pages_planned c o off bytes plan known names.0 names.1 (write_taken rows c o off bytes accepted) plans
-  planned c ops plan known names accepted plans = absurd known
+  pub planned : (c : List ℕ) (ops : List Op) (plan : Plan) → IsKnown ops → Plans c ops rows space plan
+      → planned_as.IsPlanned s rows (record { coll = c; ops = ops }) plan
+  planned c (MkColl ∷ []) plan known plans =
+      subst (planned_as.IsPlanned s rows (coll_change c)) (sym plans.is) (planned_as.makes_coll c plans.named plans.missing)
+  planned c (Touch o ∷ []) plan known plans =
+      subst (planned_as.IsPlanned s rows (touch_change c o)) (sym plans.is)
+      (planned_as.touches c o plans.in_coll.coll_named plans.in_coll.named plans.in_coll.there)
+  planned c (Write o off bytes ∷ []) plan known plans = pages_planned c o off bytes plan known plans
+  planned c ops plan known plans = absurd known
 
 -- ---- what its record and its data writes take
 
@@ -260,10 +205,9 @@ pub record PlanFits (plan : Plan) : Type 0 where
   pub count : (number other : ℕ) → unit_count number plan.ops ≡ unit_count other plan.ops
 
 pub plan_fits : (s : Super) (rows : Rows) (space : Space) (c : List ℕ) (ops : List Op) (plan : Plan) → NoBadRow s rows → IsKnown ops
-    → refusal_of rows (record { coll = c; ops = ops }) ≡ None → Plans c ops rows space plan
-    → planned_as.IsPlanned s rows (record { coll = c; ops = ops }) plan → PlanFits plan
-plan_fits s rows space c ops plan good known accepted plans is = record {
-  few = omega (arith, plan_count c ops rows space plan known plans, few_taken c ops rows known accepted);
+    → Plans c ops rows space plan → planned_as.IsPlanned s rows (record { coll = c; ops = ops }) plan → PlanFits plan
+plan_fits s rows space c ops plan good known plans is = record {
+  few = omega (arith, plan_count c ops rows space plan known plans, few_taken c ops rows space plan known plans);
   whole = fresh_whole s rows plan.fresh (planned_fresh s rows is);
   ascend = planned_ascend s rows is;
   fit = planned_fits s rows is good;

@@ -1,7 +1,7 @@
 -- How the book goes on at a submission or a read: an entry more, and where it is an accepted transaction a context more.
-use Rattle.std.proofs.Common.{◌≡◌, ◌≢◌, inl, inr, ℕ, ◌<◌, Bool, cond, not, List, [], ◌∷◌, ◌++◌, length, map, None, Ok}
+use Rattle.std.proofs.Common.{◌≡◌, ◌≢◌, inl, inr, ℕ, ◌<◌, Bool, cond, List, [], ◌∷◌, ◌++◌, length, map, None, Ok}
 use Rattle.std.proofs.Common.{Err, refl, sym, ap, subst, ◌∙◌, append_assoc, arith}
-use Rattle.std.specs.Prelude.{IsOk, Result, IsTrue}
+use Rattle.std.specs.Prelude.{IsOk, Result}
 use Rattle.std.specs.List.{AllByRecursion}
 use Rattle.std.proofs.lemmas.Bool.{eq-eqb, ne_eqb}
 use Rattle.block_device.specs.Disk.{Disk}
@@ -13,8 +13,7 @@ use Rattle.object_model.specs.declared.op.Refusal.{Refusal}
 use Rattle.object_model.specs.declared.book.Entry.{Entry}
 use Rattle.object_model.specs.Objects.{Objects}
 use Rattle.object_model.specs.Effect.{Change, replay, ok_or, transaction_effect}
-use Rattle.object_model.specs.Reply.{reply_of}
-use Rattle.object_model.specs.Book.{accepted_change, accepted, is_refused}
+use Rattle.object_model.specs.Book.{accepted_change, accepted}
 use Rattle.object_model.proofs.Replays.{replay-append}
 use Rattle.meta_rows.specs.Rows.{Rows, rows_after}
 use Rattle.meta_log.specs.declared.slot.Super.{Super}
@@ -28,11 +27,12 @@ use Rattle.object_rows.specs.declared.plan.Plan.{Plan}
 use Rattle.object_rows.specs.Planned.{IsPlanned, HoldsFresh}
 use Rattle.object_rows.proofs.Planned.{planned_stand, planned_fresh, planned_ascend}
 use Rattle.read_facts.specs.Alike.{IsAnsweredAlike}
+use Rattle.read_facts.specs.Refusals.{IsNotRefused}
 use Rattle.read_facts.specs.Answers.{HasReadNames}
 use Rattle.read_facts.proofs.Plain.{plain_answer}
 use Rattle.store_steps.specs.declared.context.Context.{Context}
 use Rattle.store_steps.specs.State.{State}
-use Rattle.store_steps.specs.Submit.{IsKnown, refusal_of, context_of, entered, noted, accepted_with, IsCause, Accepts}
+use Rattle.store_steps.specs.Submit.{context_of, entered, noted, accepted_with, IsCause, Accepts}
 use Rattle.store_steps.specs.Runs.{MaySubmit, AnswersRead}
 use Rattle.store_facts.specs.Space.{uncommitted}
 use Rattle.store_facts.specs.Kept.{IsKept}
@@ -41,7 +41,7 @@ use Rattle.book_facts.specs.BookFacts.{batched, IsOfEntry, KnownOfBook, StandSom
 use Rattle.book_facts.specs.FreshBytes.{bytes_with}
 use Rattle.book_facts.proofs.Entries.{accepted_push, none_accepted, alike_push, counts_push, change_last, of_entries_push}
 use Rattle.book_facts.proofs.Commits.{all_behind, all_append}
-use Rattle.book_facts.proofs.Answers.{not_refused, reply_accepted, reply_refused}
+use Rattle.book_facts.proofs.Answers.{has_effect, reply_accepted}
 use Rattle.book_facts.proofs.Queues.{entry_push, queued_noted, queued_accepted}
 
 -- ---- the plan of an accepted transaction
@@ -51,7 +51,7 @@ pub takes_plan : (s : State) (d : Disk) (client line : ℕ) (change : Change) (s
     → (does : Accepts client line change s s') → IsPlanned s.log.sup s.submitted change does.plan
 takes_plan s d client line change s' kept may does =
     planned s.log.sup s.log.rows s.submitted s.space kept.always.limits (kept.up does.can_note.up).good kept.always.space (kept.up does.can_note.up).free
-    change.coll change.ops does.plan may.known does.names does.not_refused does.plans
+    change.coll change.ops does.plan may.known does.plans
 
 -- ---- fresh units have their bytes
 
@@ -108,17 +108,17 @@ pub record GoesOn (opening : Objects) (s : State) (change : Change) : Type 0 whe
   pub effect : transaction_effect change (replay opening (accepted s.book.entries)) ≡ Ok after
   pub replays : replay opening (accepted s.book.entries ++ change ∷ []) ≡ after
 
-pub goes_on : (opening : Objects) (s : State) (change : Change) → KnownOfBook opening s → IsKnown change.ops
-    → refusal_of s.submitted change ≡ None → GoesOn opening s change
-goes_on opening s change book known is =
+pub goes_on : (opening : Objects) (s : State) (change : Change) → KnownOfBook opening s → IsNotRefused s.submitted (ask.Change change)
+    → GoesOn opening s change
+goes_on opening s change book not_refused =
     let objects = replay opening (accepted s.book.entries) in
-    let found = after_of (transaction_effect change objects) (not_refused s.submitted objects change book.stand.1.shape known is) in
+    let found = after_of (transaction_effect change objects) (has_effect objects change (not_refused objects book.stand.1.shape)) in
     record { after = found.0; effect = found.1; replays = replay_one opening (accepted s.book.entries) change found.0 found.1 }
 
 -- ---- it is accepted
 
-module _ (opening : Objects) (s : State) (client line : ℕ) (change : Change) (plan : Plan) (known : IsKnown change.ops)
-    (none : refusal_of s.submitted change ≡ None) (good : NoBadRow s.log.sup s.submitted)
+module _ (opening : Objects) (s : State) (client line : ℕ) (change : Change) (plan : Plan)
+    (not_refused : IsNotRefused s.submitted (ask.Change change)) (good : NoBadRow s.log.sup s.submitted)
     (is_planned : IsPlanned s.log.sup s.submitted change plan) (book : KnownOfBook opening s) where
   abbrev entry : Entry
   entry = record { client = client; line = line; command = ask.Change change; answer = answer.Accepted; acks = s.acked }
@@ -126,13 +126,16 @@ module _ (opening : Objects) (s : State) (client line : ℕ) (change : Change) (
   abbrev one : Context
   one = context_of (length s.book.entries) change s.log plan
 
+  abbrev objects : Objects
+  objects = replay opening (accepted s.book.entries)
+
   of_entry : IsOfEntry (s.book.entries ++ entry ∷ []) one
   of_entry = record { change = change; accepted = change_last s.book.entries entry; same_names = refl }
 
   pub book_accepts : KnownOfBook opening (accepted_with client line change plan s)
   book_accepts = record {
     answers = alike_push opening s.book.entries entry book.answers
-        (inl (sym (reply_accepted s.submitted (replay opening (accepted s.book.entries)) change book.stand.1.shape known none)));
+        (inl (sym (reply_accepted objects change (not_refused objects book.stand.1.shape))));
     counts = counts_push 0 s.acked s.book.entries entry (omega arith) book.counts refl;
     commits = record {
       of_accepted = of_entries_push s.book.entries entry s.book.commits book.commits.of_accepted;
@@ -150,7 +153,7 @@ module _ (opening : Objects) (s : State) (client line : ℕ) (change : Change) (
   }
     where
       on : GoesOn opening s change
-      on = goes_on opening s change book known none
+      on = goes_on opening s change book not_refused
 
       objects_are : replay opening (accepted (s.book.entries ++ entry ∷ [])) ≡ on.after
       objects_are = ap (replay opening) (accepted_push s.book.entries entry) ∙ on.replays
@@ -162,7 +165,7 @@ module _ (opening : Objects) (s : State) (client line : ℕ) (change : Change) (
       stand = (
         now,
         subst (ObjectsStand now (rows_after s.submitted plan.ops)) (sym objects_are)
-            (planned_stand s.log.sup s.submitted book.stand.0 now (replay opening (accepted s.book.entries)) on.after is_planned good
+            (planned_stand s.log.sup s.submitted book.stand.0 now objects on.after is_planned good
             (plan_holds s.log.sup s.submitted change plan is_planned book.stand.0)
             (λ unit has. plan_spares s.log.sup s.submitted change plan is_planned book.stand.0 unit (page_owned s.submitted unit has))
             book.stand.1 on.effect),
@@ -203,20 +206,17 @@ cause_refuses change s (answer.NoSpace need free) cause = refl
 cause_refuses change s (answer.MetaFull need room) cause = refl
 cause_refuses change s a cause = absurd cause
 
-module _ (opening : Objects) (s : State) (client line : ℕ) (change : Change) (known : IsKnown change.ops) (book : KnownOfBook opening s) where
+module _ (opening : Objects) (s : State) (client line : ℕ) (change : Change) (book : KnownOfBook opening s) where
   abbrev noting : Answer → Entry
   noting a = record { client = client; line = line; command = ask.Change change; answer = a; acks = s.acked }
 
   abbrev objects_now : Objects
   objects_now = replay opening (accepted s.book.entries)
 
-  not_refused_now : refusal_of s.submitted change ≡ None → IsTrue (not (is_refused (reply_of (ask.Change change) objects_now)))
-  not_refused_now none = ap (λ (a : Answer). not (is_refused a)) (reply_accepted s.submitted objects_now change book.stand.1.shape known none)
-
   cause_answers : (a : Answer) → IsCause a change s → IsAnsweredAlike objects_now (noting a)
-  cause_answers (answer.Refused refusal) cause = inl (sym (reply_refused s.submitted objects_now change book.stand.1.shape known refusal cause))
-  cause_answers (answer.NoSpace need free) cause = inr (refl, not_refused_now cause.0)
-  cause_answers (answer.MetaFull need room) cause = inr (refl, not_refused_now cause.0)
+  cause_answers (answer.Refused refusal) cause = inl (sym (cause objects_now book.stand.1.shape))
+  cause_answers (answer.NoSpace need free) cause = inr (refl, cause.0 objects_now book.stand.1.shape)
+  cause_answers (answer.MetaFull need room) cause = inr (refl, cause.0 objects_now book.stand.1.shape)
   cause_answers a cause = absurd cause
 
   pub book_notes : (a : Answer) → IsCause a change s → KnownOfBook opening (noted client line change a s)

@@ -157,10 +157,10 @@ pub book_call : (opening : Objects) (call : Call) (s s' : State) (d d' : Disk) �
     → KnownOfBook opening s'
 book_call opening (submitting client line change) s s' d d' kept known made = elim made.1 [
   | inl does ↦ subst (KnownOfBook opening) (sym does.after)
-      (book_accepts opening s client line change does.plan made.0.known does.not_refused (kept.up does.can_note.up).good.good
+      (book_accepts opening s client line change does.plan does.not_refused (kept.up does.can_note.up).good.good
       (takes_plan s d client line change s' kept made.0 does) known)
   | inr (inl refuses) ↦
-      subst (KnownOfBook opening) (sym refuses.1.after) (book_notes opening s client line change made.0.known known refuses.0 refuses.1.cause)
+      subst (KnownOfBook opening) (sym refuses.1.after) (book_notes opening s client line change known refuses.0 refuses.1.cause)
   | inr (inr away) ↦ subst (KnownOfBook opening) (sym away.same) known
 ]
 book_call opening (reading client line command) s s' d d' kept known made = elim made.1 [

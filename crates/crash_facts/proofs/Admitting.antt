@@ -1,5 +1,5 @@
 -- How the contexts stand once a transaction is accepted or refused, or a read is answered.
-use Rattle.std.proofs.Common.{◌≡◌, ℕ, ◌-◌, List, [], ◌∷◌, ◌++◌, length, take, Option, None, Ok, refl, sym, ap, subst, ◌∙◌, append-nil, arith}
+use Rattle.std.proofs.Common.{◌≡◌, ℕ, ◌-◌, List, [], ◌∷◌, ◌++◌, length, take, Option, Ok, refl, sym, ap, subst, ◌∙◌, append-nil, arith}
 use Rattle.std.specs.List.{cons_option}
 use Rattle.std.proofs.lemmas.List.{take_all}
 use Rattle.block_device.specs.Disk.{History}
@@ -19,6 +19,7 @@ use Rattle.store_image.specs.Pages.{HasPage}
 use Rattle.store_image.specs.Stands.{ObjectsStand}
 use Rattle.store_image.proofs.OwnedUnits.{objects_stand}
 use Rattle.store_image.proofs.PageUnits.{page_owned}
+use Rattle.read_facts.specs.Refusals.{IsNotRefused}
 use Rattle.object_rows.specs.declared.plan.FreshUnit.{FreshUnit}
 use Rattle.object_rows.specs.declared.plan.Plan.{Plan}
 use Rattle.object_rows.specs.Planned.{IsPlanned}
@@ -26,7 +27,7 @@ use Rattle.object_rows.proofs.Planned.{planned_stand}
 use Rattle.store_steps.specs.declared.context.Context.{Context}
 use Rattle.store_steps.specs.State.{State}
 use Rattle.store_steps.specs.Ready.{applied_count}
-use Rattle.store_steps.specs.Submit.{IsKnown, refusal_of, context_of, entered, accepted_with}
+use Rattle.store_steps.specs.Submit.{context_of, entered, accepted_with}
 use Rattle.store_facts.specs.Space.{uncommitted}
 use Rattle.store_facts.proofs.Stages.{idle, at}
 use Rattle.book_facts.specs.BookFacts.{KnownOfBook}
@@ -41,8 +42,8 @@ use Rattle.crash_facts.specs.Store.{ContextsStand}
 
 -- ---- it is accepted
 
-module _ (opening : Objects) (s : State) (client line : ℕ) (change : Change) (plan : Plan) (h : History) (known : IsKnown change.ops)
-    (none : refusal_of s.submitted change ≡ None) (good : NoBadRow s.log.sup s.log.rows)
+module _ (opening : Objects) (s : State) (client line : ℕ) (change : Change) (plan : Plan) (h : History)
+    (not_refused : IsNotRefused s.submitted (ask.Change change)) (good : NoBadRow s.log.sup s.log.rows)
     (planned : IsPlanned s.log.sup s.submitted change plan) (same : s.submitted ≡ s.log.rows)
     (book : KnownOfBook opening (at s idle)) (stand : ContextsStand opening (at s idle) h) where
   abbrev t : State
@@ -74,7 +75,7 @@ module _ (opening : Objects) (s : State) (client line : ℕ) (change : Change) (
   is_planned = subst (λ (rows : Rows). IsPlanned s.log.sup rows change plan) same planned
 
   on : GoesOn opening t change
-  on = goes_on opening t change book known none
+  on = goes_on opening t change book not_refused
 
   -- all that was accepted is committed
   before_is : before ≡ replay opening (accepted es)

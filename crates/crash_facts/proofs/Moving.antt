@@ -65,7 +65,7 @@ move_stand base opening (commits s x pieces d h written every) kept up units boo
     commit_stand opening s x pieces d h base written units book stand
 move_stand base opening (finishes s d h) kept up units book stand = finish_stand opening s h stand
 move_stand base opening (accepts client line change s s' d h may does) kept up units book stand =
-    accept_stand opening s client line change does.plan h may.known does.not_refused (kept.up up).committed.good
+    accept_stand opening s client line change does.plan h does.not_refused (kept.up up).committed.good
     (takes_plan (at s idle) d client line change s' kept may does) (submitted_of (at s idle) d kept up) book stand
 move_stand base opening (enters client line command a s d h drained) kept up units book stand =
     enter_stand opening s client line command a h (known_idle s d kept up (drained up)).uncommitted book stand

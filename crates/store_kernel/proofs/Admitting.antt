@@ -44,9 +44,9 @@ pub planned_fits : (s : State) (d : Disk) (change : Change) (plan : Plan) → Is
 planned_fits s d change plan kept can known is =
     let rows : AreRowsKept s = rows_of_kept s d kept can.up in
     let one : IsPlanned s.log.sup s.submitted change plan =
-    planned s.log.sup s.log.rows s.submitted s.space kept.always.limits rows.good rows.space rows.free change.coll change.ops plan known is.names
-    is.not_refused is.plans in
-    plan_fits s.log.sup s.submitted s.space change.coll change.ops plan rows.good.good known is.not_refused is.plans one
+    planned s.log.sup s.log.rows s.submitted s.space kept.always.limits rows.good rows.space rows.free change.coll change.ops plan known
+    is.plans in
+    plan_fits s.log.sup s.submitted s.space change.coll change.ops plan rows.good.good known is.plans one
 
 -- a record that fits into the room that was counted fits into the log
 pub enough : (m : meta.Meta) (plan : Plan) (need room : ℕ) → need ≡ need_of m plan → room ≡ meta.room_of m → need ≤ room
@@ -89,7 +89,6 @@ module _ (m : meta.Meta) (submitted : Rows) (pending : Option Context) (batch : 
       let idle : pending ≡ None = none_listed pending (idle_of before d change kept can.up may).pending in
       record {
         can_note = can;
-        names = prepared.plan.names;
         not_refused = prepared.plan.not_refused;
         plan = ready.plan;
         plans = prepared.plan.plans;

@@ -21,10 +21,11 @@ use Rattle.row_facts.proofs.Bits.{bits_stay}
 use Rattle.row_facts.proofs.ObjectUnder.{object_cases}
 use Rattle.row_facts.proofs.Shapes.{SameOthers}
 use Rattle.object_rows.specs.Operations.{CanReplace, replaced, IsKeyOf, IsOther, HasUnit, IsOwnedElsewhere}
-use Rattle.object_rows.proofs.Ops.{AreReplaced, are_replaced}
+use Rattle.object_rows.specs.Layouts.{AreReplaced}
+use Rattle.object_rows.proofs.Ops.{are_replaced}
 
 -- the first extent begins at the page, or not
-begins_or_not : (page : ℕ) (es : List Extent) → BeginsAt page es ⊎ (BeginsAt page es → ⊥)
+pub begins_or_not : (page : ℕ) (es : List Extent) → BeginsAt page es ⊎ (BeginsAt page es → ⊥)
 begins_or_not page [] = inr (λ b. b)
 begins_or_not page (e ∷ es) = elim (cases_lt e.first page) [
   | inl lt ↦ inr (λ same. omega (arith, lt, same))

@@ -12,7 +12,7 @@ use Rattle.number_map.proofs.Search.{cmp_equal, cmp_less, cmp_greater, less_is}
 use Rattle.meta_rows.specs.Rows.{Rows}
 use Rattle.row_format.specs.Extents.{Place, own}
 use Rattle.store_image.specs.Pages.{IsPageAt}
-use Rattle.store_image.specs.Owners.{page_of, HasSoleOwner}
+use Rattle.store_image.specs.Owners.{page_of, IsOwned, HasSoleOwner}
 use Rattle.blob_map.specs.Pages.{PageMap}
 use Rattle.object_rows.specs.Maps.{IsMapOf}
 use Rattle.object_rows.specs.Plans.{own_units, units_between}
@@ -23,7 +23,7 @@ use Rattle.object_rows.proofs.Wrote.{written_or_not}
 -- ---- elements
 
 -- the list has the element
-abbrev In : {X : Type 0} → List X → X → Type 0
+abbrev pub In : {X : Type 0} → List X → X → Type 0
 In [] x = ⊥
 In (e ∷ es) x = (e ≡ x) ⊎ In es x
 
@@ -74,7 +74,7 @@ find_step page p ps apart = elim apart [
 find_here : (page : ℕ) (p : ℕ × Place) (ps : List (ℕ × Place)) → page ≡ p.0 → find nat_cmp page (p ∷ ps) ≡ Some p.1
 find_here page p ps is = ap (λ r. cond (is_eq r) (Some p.1) (find nat_cmp page ps)) (cmp_equal page p.0 is)
 
-same_pair : (p : ℕ × Place) (page : ℕ) (place : Place) → p.0 ≡ page → p.1 ≡ place → p ≡ (page, place)
+pub same_pair : (p : ℕ × Place) (page : ℕ) (place : Place) → p.0 ≡ page → p.1 ≡ place → p ≡ (page, place)
 same_pair p page place a b = λ i. (a i, b i)
 
 found_in : (es : List (ℕ × Place)) (page : ℕ) (place : Place) → find nat_cmp page es ≡ Some place → In es (page, place)
@@ -95,7 +95,7 @@ below_in x [] page place h is = absurd is
 below_in x (e ∷ es) page place h (inl is) = omega (arith, less_is x e.0 (both_first _ _ h), ap (λ (p : ℕ × Place). p.0) is)
 below_in x (e ∷ es) page place h (inr later) = below_in x es page place (both_second _ _ h) later
 
-in_found : (es : List (ℕ × Place)) (page : ℕ) (place : Place) → T (is_sorted nat_cmp es) → In es (page, place) → find nat_cmp page es ≡ Some place
+pub in_found : (es : List (ℕ × Place)) (page : ℕ) (place : Place) → T (is_sorted nat_cmp es) → In es (page, place) → find nat_cmp page es ≡ Some place
 in_found [] page place sorted is = absurd is
 in_found (e ∷ es) page place sorted (inl is) =
     find_here page e es (sym (ap (λ (p : ℕ × Place). p.0) is)) ∙ ap (λ (p : ℕ × Place). Some p.1) is
@@ -105,33 +105,34 @@ in_found (e ∷ es) page place sorted (inr later) =
 
 -- ---- the pages of a range
 
-inside_is : (from end page : ℕ) → from ≤ page → page < end → is_in from end page ≡ true
+pub inside_is : (from end page : ℕ) → from ≤ page → page < end → is_in from end page ≡ true
 inside_is from end page le lt = grind (arith, nat_tests)
 
-low_is : (from end page : ℕ) → page < from → is_in from end page ≡ false
+pub low_is : (from end page : ℕ) → page < from → is_in from end page ≡ false
 low_is from end page lt = grind (arith, nat_tests)
 
-high_is : (from end page : ℕ) → end ≤ page → is_in from end page ≡ false
+pub high_is : (from end page : ℕ) → end ≤ page → is_in from end page ≡ false
 high_is from end page le = grind (arith, nat_tests)
 
-module _ (first count : ℕ) where
+-- the pages that pass a test
+module _ (test : ℕ → Bool) where
   abbrev units_in : List (ℕ × Place) → List ℕ
-  units_in es = flat_map (λ p. own_units p.1) (where_key nat_cmp (is_in first (first + count)) es)
+  units_in es = flat_map (λ p. own_units p.1) (where_key nat_cmp test es)
 
-  -- an entry of the range has the unit
+  -- an entry that passes has the unit
   record Stands (es : List (ℕ × Place)) (v : ℕ) : Type 0 where
     pub page : ℕ
     pub csum : ℕ
     pub there : In es (page, own v csum)
-    pub inside : is_in first (first + count) page ≡ true
+    pub inside : test page ≡ true
 
   -- the units with an entry in front
   abbrev front : ℕ × Place → List (ℕ × Place) → Bool → List ℕ
-  front e es b = flat_map (λ p. own_units p.1) (cond b (e ∷ where_key nat_cmp (is_in first (first + count)) es) (where_key nat_cmp (is_in first (first + count)) es))
+  front e es b = flat_map (λ p. own_units p.1) (cond b (e ∷ where_key nat_cmp test es) (where_key nat_cmp test es))
 
   unit_stands : (es : List (ℕ × Place)) (v : ℕ) → In (units_in es) v → Stands es v
   unit_stands [] v h = absurd h
-  unit_stands ((n, own w k) ∷ es) v h = elim (cases_Bool (is_in first (first + count) n)) [
+  unit_stands ((n, own w k) ∷ es) v h = elim (cases_Bool (test n)) [
     | inl is ↦
         let either : (w ≡ v) ⊎ In (units_in es) v = subst (λ b. In (front (n, own w k) es b) v) is h in
         elim either [
@@ -144,18 +145,18 @@ module _ (first count : ℕ) where
       behind : Stands es v → Stands ((n, own w k) ∷ es) v
       behind x = record { page = x.page; csum = x.csum; there = inr x.there; inside = x.inside }
 
-  stands_unit : (es : List (ℕ × Place)) (v page csum : ℕ) → In es (page, own v csum) → is_in first (first + count) page ≡ true → In (units_in es) v
+  stands_unit : (es : List (ℕ × Place)) (v page csum : ℕ) → In es (page, own v csum) → test page ≡ true → In (units_in es) v
   stands_unit [] v page csum h is = absurd h
   stands_unit ((n, own w k) ∷ es) v page csum (inl here) is =
-      let test : is_in first (first + count) n ≡ true = ap (λ (p : ℕ × Place). is_in first (first + count) p.0) here ∙ is in
+      let passes : test n ≡ true = ap (λ (p : ℕ × Place). test p.0) here ∙ is in
       let same : own w k ≡ own v csum = ap (λ (p : ℕ × Place). p.1) here in
       let unit : w ≡ v = cc in
-      subst (λ b. In (front (n, own w k) es b) v) (sym test) (inl unit)
+      subst (λ b. In (front (n, own w k) es b) v) (sym passes) (inl unit)
   stands_unit ((n, own w k) ∷ es) v page csum (inr later) is =
       let rest = stands_unit es v page csum later is in
-      elim (cases_Bool (is_in first (first + count) n)) [
-        | inl test ↦ subst (λ b. In (front (n, own w k) es b) v) (sym test) (inr rest)
-        | inr test ↦ subst (λ b. In (front (n, own w k) es b) v) (sym test) rest
+      elim (cases_Bool (test n)) [
+        | inl t ↦ subst (λ b. In (front (n, own w k) es b) v) (sym t) (inr rest)
+        | inr t ↦ subst (λ b. In (front (n, own w k) es b) v) (sym t) rest
       ]
 
   -- where no two entries have the unit, it doesn't come twice
@@ -164,7 +165,7 @@ module _ (first count : ℕ) where
   units_differ [] v sorted one = tt
   units_differ ((n, own w k) ∷ es) v sorted one =
       let rest = units_differ es v (both_second (below_all nat_cmp n es) _ sorted) (λ p q a b x y. one p q a b (inr x) (inr y)) in
-      elim (cases_Bool (is_in first (first + count) n)) [
+      elim (cases_Bool (test n)) [
         | inl is ↦ subst (λ b. NotTwice (front (n, own w k) es b) v) (sym is) (not_again, rest)
         | inr is ↦ subst (λ b. NotTwice (front (n, own w k) es b) v) (sym is) rest
       ]
@@ -180,34 +181,48 @@ module _ (first count : ℕ) where
     page_in : (page : ℕ) (place : Place) → In (entries pages) (page, place) → IsPageAt rows c o page place
     page_in page place h = (are page place).0 (get-entries pages page ∙ in_found (entries pages) page place (entries_sorted pages) h)
 
-    -- the units of the range are those where its pages stand
-    pub between_stood : (v : ℕ) → Contains (units_between pages first count) v ↔ StoodWritten rows c o first count v
-    between_stood v = (
-      λ k. stood (unit_stands (entries pages) v (at_in (units_between pages first count) v k.0 k.1 k.2)),
-      λ w.
-          let found = found_in (entries pages) (first + w.index) (own v w.owns.0)
-          (sym (get-entries pages (first + w.index)) ∙ (are (first + w.index) (own v w.owns.0)).1 w.owns.1) in
-          in_at (units_between pages first count) v
-          (stands_unit (entries pages) v (first + w.index) w.owns.0 found (inside_is first (first + count) (first + w.index) (omega arith) (omega (arith, w.small)))),
-    )
-      where
-        stood : Stands (entries pages) v → StoodWritten rows c o first count v
-        stood x = elim (written_or_not first count x.page) [
-          | inl p ↦ record {
-            index = p.0;
-            small = p.1;
-            owns = (x.csum, subst (λ n. IsPageAt rows c o n (own v x.csum)) p.2 (page_in x.page (own v x.csum) x.there));
-          }
-          | inr out ↦ elim out [
-            | inl lt ↦ absurd (let t = sym x.inside ∙ low_is first (first + count) x.page lt in cc)
-            | inr le ↦ absurd (let t = sym x.inside ∙ high_is first (first + count) x.page le in cc)
-          ]
-        ]
+    -- a unit of theirs is owned, and stands once where it hasn't two owners
+    pub some_owned : (v : ℕ) → Contains (units_in (entries pages)) v → IsOwned rows v
+    some_owned v k =
+        let x = unit_stands (entries pages) v (at_in (units_in (entries pages)) v k.0 k.1 k.2) in
+        (page_of c o x.page, (x.csum, page_in x.page (own v x.csum) x.there))
 
-    pub between_once : (v : ℕ) → HasSoleOwner rows v → StandsOnce (units_between pages first count) v
-    between_once v sole = once_of (units_between pages first count) v (units_differ (entries pages) v (entries_sorted pages) one)
+    pub some_once : (v : ℕ) → HasSoleOwner rows v → StandsOnce (units_in (entries pages)) v
+    some_once v sole = once_of (units_in (entries pages)) v (units_differ (entries pages) v (entries_sorted pages) one)
       where
         one : (p q a b : ℕ) → In (entries pages) (p, own v a) → In (entries pages) (q, own v b) → p ≡ q
         one p q a b x y =
             let owner : page_of c o p ≡ page_of c o q =
             sole (page_of c o p) (page_of c o q) (a, page_in p (own v a) x) (b, page_in q (own v b) y) in cc
+
+-- the units of a range are those where its pages stand
+module _ (first count : ℕ) (rows : Rows) (c o : List ℕ) (pages : PageMap) (are : IsMapOf rows c o pages) where
+  abbrev inside : ℕ → Bool
+  inside = is_in first (first + count)
+
+  pub between_stood : (v : ℕ) → Contains (units_between pages first count) v ↔ StoodWritten rows c o first count v
+  between_stood v = (
+    λ k. stood (unit_stands inside (entries pages) v (at_in (units_between pages first count) v k.0 k.1 k.2)),
+    λ w.
+        let found = found_in (entries pages) (first + w.index) (own v w.owns.0)
+        (sym (get-entries pages (first + w.index)) ∙ (are (first + w.index) (own v w.owns.0)).1 w.owns.1) in
+        in_at (units_between pages first count) v
+        (stands_unit inside (entries pages) v (first + w.index) w.owns.0 found
+        (inside_is first (first + count) (first + w.index) (omega arith) (omega (arith, w.small)))),
+  )
+    where
+      stood : Stands inside (entries pages) v → StoodWritten rows c o first count v
+      stood x = elim (written_or_not first count x.page) [
+        | inl p ↦ record {
+          index = p.0;
+          small = p.1;
+          owns = (
+            x.csum,
+            subst (λ n. IsPageAt rows c o n (own v x.csum)) p.2 (page_in inside rows c o pages are x.page (own v x.csum) x.there),
+          );
+        }
+        | inr out ↦ elim out [
+          | inl lt ↦ absurd (let t = sym x.inside ∙ low_is first (first + count) x.page lt in cc)
+          | inr le ↦ absurd (let t = sym x.inside ∙ high_is first (first + count) x.page le in cc)
+        ]
+      ]

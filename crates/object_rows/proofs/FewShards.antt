@@ -33,7 +33,7 @@ many_below (u ∷ us) limit ascend below = omega (arith, many_above u us limit b
 
 module _ (s : Super) (rows : Rows) (c o : List ℕ) (good : NoBadRow s rows) (coll : IsCollName c) (name : IsName o) where
   -- the first page of a shard is a page that the object may have
-  page_small : (size page : ℕ) → IsSizeOf rows c o size → page < 2 ^ 32 → HasKey rows (shard_key c o page) → page < 32768
+  pub page_small : (size page : ℕ) → IsSizeOf rows c o size → page < 2 ^ 32 → HasKey rows (shard_key c o page) → page < 32768
   page_small size page (missing none) lt has =
       let found = shard_under s rows c o good coll name page lt has in
       let place : IsShardInPlace s rows c o page found.0 = in_place s rows (shard c o page found.0) good found.1 in

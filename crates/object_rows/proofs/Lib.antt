@@ -16,4 +16,9 @@ pub mod Between
 pub mod FewShards
 pub mod Touched
 pub mod Replied
+pub mod Difference
+pub mod ObjectDifference
+pub mod LayoutOf
+pub mod Left
 pub mod Planned
+pub mod PlanOps

@@ -30,6 +30,7 @@ use Rattle.store_image.proofs.ByteLemmas.{equal_or_not}
 use Rattle.row_facts.specs.Operations.{set_row}
 use Rattle.row_facts.proofs.Maps.{get_same, get_other}
 use Rattle.object_rows.specs.Operations.{says, drops, onode_ops, shard_ops, object_ops, CanReplace, replaced, IsKeyOf}
+use Rattle.object_rows.specs.Layouts.{AreReplaced}
 
 -- ---- lists of pages
 
@@ -277,13 +278,6 @@ module _ (rows : Rows) (c o : List ℕ) (size : ℕ) where
   ]
 
 -- ---- both
-
--- what an object's rows are when they are replaced, and what the others are
-pub record AreReplaced (rows after : Rows) (c o : List ℕ) (size : ℕ) (extents : List Extent) : Type 0 where
-  pub onode : map.get after (onode_key c o) ≡ Some (to_le_bytes w64 size)
-  pub shard : (page : ℕ) → BeginsAt page extents → map.get after (shard_key c o page) ≡ Some (flat_map extent_bytes extents)
-  pub no_other : (page : ℕ) → page < 2 ^ 32 → (BeginsAt page extents → ⊥) → map.get after (shard_key c o page) ≡ None
-  pub others : (key : List ℕ) → IsKeyOf c o key ⊎ (map.get after key ≡ map.get rows key)
 
 module _ (s : Super) (rows : Rows) (c o : List ℕ) (size : ℕ) (extents : List Extent) (present : List ℕ)
     (can : CanReplace s rows c o size extents present) where

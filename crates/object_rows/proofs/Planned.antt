@@ -1,6 +1,6 @@
--- What holds of every transaction that is planned.
-use Rattle.std.proofs.Common.{◌≡◌, ◌⊎◌, ◌↔◌, inl, inr, ℕ, ◌+◌, ◌*◌, ◌<◌, ◌≤◌, List, [], ◌∷◌, length, ◌++◌, Any, Contains, Ok, is_ok, refl, sym, ap, subst, ◌∙◌, length-append, arith}
-use Rattle.std.specs.Prelude.{IsOk, max, slice_index, ◌^◌}
+-- What holds of every transaction that is planned, from its operations.
+use Rattle.std.proofs.Common.{◌≡◌, ◌⊎◌, ◌↔◌, inl, inr, ℕ, ◌+◌, ◌*◌, ◌<◌, ◌≤◌, List, [], ◌∷◌, length, ◌++◌, Any, Contains, Ok, refl, sym, ap, subst, ◌∙◌, length-append, arith}
+use Rattle.std.specs.Prelude.{max, slice_index, ◌^◌}
 use Rattle.std.specs.List.{AllByRecursion}
 use Rattle.std.specs.FinSet as set
 use Rattle.std.proofs.lemmas.Bool.{cases_Bool}
@@ -17,20 +17,20 @@ use Rattle.meta_log.specs.declared.slot.Super.{Super}
 use Rattle.meta_log.specs.Records.{record_head, record_bytes, unit_count}
 use Rattle.object_model.specs.Objects.{Objects}
 use Rattle.object_model.specs.Effect.{Change, object_limit, transaction_effect}
-use Rattle.object_model.specs.Limits.{submitted_effect}
+use Rattle.unit_fields.specs.Names.{IsName, IsCollName}
 use Rattle.unit_fields.specs.UnitSet.{Ascends}
-use Rattle.row_format.specs.Extents.{Extent}
+use Rattle.row_format.specs.Keys.{coll_key}
+use Rattle.row_format.specs.Extents.{Extent, own}
 use Rattle.row_format.specs.Row.{onode}
-use Rattle.store_image.specs.Pages.{HasPage, pages_of}
+use Rattle.store_image.specs.Pages.{HasKey, IsPageAt, HasPage, pages_of}
 use Rattle.store_image.specs.BadRows.{NoBadRow}
 use Rattle.store_image.specs.Owners.{Owner, page_of, Owns, IsDataUnit, IsOwned, IsMarked, IsLeaked, IsExactAs, HasSoleOwner}
-use Rattle.store_image.specs.Stands.{IsShape, ObjectsStand}
+use Rattle.store_image.specs.Stands.{ObjectsStand}
 use Rattle.store_image.proofs.OwnedUnits.{objects_stand}
 use Rattle.store_image.proofs.PageMap.{in_place}
-use Rattle.row_facts.specs.Operations.{coll_ops}
+use Rattle.row_facts.specs.Operations.{coll_change, coll_ops}
 use Rattle.row_facts.proofs.CollMade.{coll_good, coll_bits, coll_sole, coll_owned, coll_exact, coll_stands}
 use Rattle.row_facts.proofs.Lengths.{coll_fits, coll_short}
-use Rattle.row_facts.proofs.Replies.{coll_submitted, coll_made}
 use Rattle.bitmap_freelist.specs.Bitmap.{Has, AreAlikeButBits, ExactlyOne}
 use Rattle.bitmap_freelist.proofs.Alike.{flips_alike, alike_owns, alike_stand}
 use Rattle.bitmap_freelist.proofs.GoodBitmaps.{turned_good}
@@ -39,38 +39,37 @@ use Rattle.bitmap_freelist.proofs.Turning.{turn_their_units}
 use Rattle.blob_map.specs.Pages.{PageMap, with_pages}
 use Rattle.blob_map.specs.Normal.{extents_of}
 use Rattle.object_rows.specs.declared.plan.Plan.{Plan}
+use Rattle.object_rows.specs.Difference.{IsDifference}
+use Rattle.object_rows.specs.Layouts.{AreReplaced}
 use Rattle.object_rows.specs.Operations.{CanReplace, object_ops, replaced, Climb, KeysAscend}
 use Rattle.object_rows.specs.Maps.{IsMapWritten, CanWrite}
-use Rattle.object_rows.specs.Writes.{write_change, missing, there, IsSizeOf, IsWritten, HoldPages, AreDistinct, StoodWritten}
+use Rattle.object_rows.specs.Writes.{write_change, touch_change, missing, there, IsSizeOf, IsWritten, HoldPages, AreDistinct, StoodWritten}
 use Rattle.object_rows.specs.Plans.{new_pages, WritesPages, touch_ops}
-use Rattle.object_rows.specs.Planned.{pages_on, CanPlanWrite, IsPlanned, makes_coll, touches, writes, HoldsFresh, IsFresh, StandsOnce, fresh_units}
-use Rattle.object_rows.proofs.After.{then_good, then_bits}
-use Rattle.object_rows.proofs.Between.{at_index, between_stood, between_once}
+use Rattle.object_rows.specs.Planned.{pages_on, CanPlanWrite, HoldsFresh, IsFresh}
+use Rattle.object_rows.proofs.After.{are_then, has_shard, then_good, then_bits}
+use Rattle.object_rows.proofs.Between.{at_index, between_stood}
 use Rattle.object_rows.proofs.FewShards.{few_shards}
 use Rattle.object_rows.proofs.GoodPages.{owned_is_data}
 use Rattle.object_rows.proofs.KeyOrder.{with_flips_ascend}
 use Rattle.object_rows.proofs.Laid.{map_written}
 use Rattle.object_rows.proofs.Lengths.{object_ops_fit, length-object_ops}
 use Rattle.object_rows.proofs.Maps.{map_can_replace, map_is_written}
+use Rattle.object_rows.proofs.ObjectDifference.{IsNewShard, object_difference}
 use Rattle.object_rows.proofs.Ops.{all_append}
-use Rattle.object_rows.proofs.PagesOn.{all_at, ascending_distinct, fresh_there, held_at, fresh_all, units_of_pages}
-use Rattle.object_rows.proofs.Replied.{touch_submitted, touch_ok, write_submitted, write_ok}
+use Rattle.object_rows.proofs.PagesOn.{all_at, ascending_distinct, fresh_there, held_at}
 use Rattle.object_rows.proofs.Touched.{touch_good, touch_bits, touch_fits, touch_ascend, touch_short, touch_owned, touch_sole, touch_exact, touch_stand}
 use Rattle.object_rows.proofs.Units.{written_owned, written_sole, written_lost, written_released}
 use Rattle.object_rows.proofs.Wrote.{pages_stand}
 
 -- ---- lists of none
 
-none_in : (v : ℕ) → ¬ Contains {X = ℕ} [] v
+pub none_in : (v : ℕ) → ¬ Contains {X = ℕ} [] v
 none_in v k = omega (arith, k.1)
 
-none_once : (v : ℕ) → StandsOnce [] v
-none_once v i j in_i in_j is same = absurd (omega (arith, in_i))
-
-none_fresh : (ops : List RowOp) (v : ℕ) → ¬ IsFresh (record { ops = ops; fresh = []; released = [] }) v
+pub none_fresh : (ops : List RowOp) (v : ℕ) → ¬ IsFresh (record { ops = ops; fresh = []; released = [] }) v
 none_fresh ops v f = omega (arith, f.2)
 
-climbs : (ps : List ℕ) → Ascends ps → Climb ps
+pub climbs : (ps : List ℕ) → Ascends ps → Climb ps
 climbs [] order = tt
 climbs (p ∷ ps) order = (order.0, climbs ps order.1)
 
@@ -89,20 +88,20 @@ same_count number other ops = count_is number ops ∙ sym (count_is other ops)
 
 module _ (s : Super) (rows : Rows) (c o : List ℕ) (first : ℕ) (bytes units : List ℕ) (ops : List RowOp) (released : List ℕ)
     (can : CanPlanWrite s rows c o first bytes units) (w : WritesPages rows c o first bytes units ops released) where
-  abbrev size : ℕ
+  abbrev pub size : ℕ
   size = max w.before (4096 * (first + length units))
 
-  abbrev new : PageMap
+  abbrev pub new : PageMap
   new = with_pages w.pages (new_pages first 0 units bytes)
 
-  abbrev extents : List Extent
+  abbrev pub extents : List Extent
   extents = extents_of (finite.entries new)
 
   -- the object's operations come first, and those on the bitmap after them
-  abbrev first_ops : List RowOp
+  abbrev pub first_ops : List RowOp
   first_ops = object_ops rows c o size extents w.present
 
-  abbrev then : Rows
+  abbrev pub then : Rows
   then = replaced rows c o size extents w.present
 
   rows_are : rows_after rows ops ≡ rows_after then w.flips
@@ -117,14 +116,25 @@ module _ (s : Super) (rows : Rows) (c o : List ℕ) (first : ℕ) (bytes units :
   abbrev IsFreshOf : ℕ → Type 0
   IsFreshOf v = Any (λ f. f.unit ≡ v) (pages_on units 0 bytes)
 
-  made : IsMapWritten w.pages new first bytes units
+  pub made : IsMapWritten w.pages new first bytes units
   made = map_written first bytes w.pages units
 
   distinct : AreDistinct units
   distinct = ascending_distinct units can.fresh.ascend
 
-  free : (i : ℕ) → i < length units → ¬ IsOwned rows (slice_index units i)
+  pub free : (i : ℕ) → i < length units → ¬ IsOwned rows (slice_index units i)
   free i lt = all_at (λ u. ¬ IsOwned rows u) units i can.fresh.free lt
+
+  -- the first page is another, since its unit is fresh
+  pub pages_change : ¬ (w.pages ≡ new)
+  pages_change same = free 0 can.some (
+    page_of c o (first + 0),
+    (
+      crc32c (unit_at 0 bytes),
+      (w.are_pages (first + 0) (own (slice_index units 0) (crc32c (unit_at 0 bytes)))).0
+      (ap (λ (m : PageMap). finite.get m (first + 0)) same ∙ made.inside 0 can.some),
+    ),
+  )
 
   stood : (v : ℕ) → Contains released v ↔ StoodWritten rows c o first (length units) v
   stood v = subst (λ us. Contains us v ↔ StoodWritten rows c o first (length units) v) (sym w.released_are)
@@ -132,9 +142,6 @@ module _ (s : Super) (rows : Rows) (c o : List ℕ) (first : ℕ) (bytes units :
 
   write_released : (v : ℕ) → Contains released v → IsOwned rows v
   write_released v k = let x = (stood v).0 k in (page_of c o (first + x.index), x.owns)
-
-  write_once : (v : ℕ) → HasSoleOwner rows v → StandsOnce released v
-  write_once v sole = subst (λ us. StandsOnce us v) (sym w.released_are) (between_once first (length units) rows c o w.pages w.are_pages v sole)
 
   -- the fresh units
   fresh_is : (v : ℕ) → IsFreshOf v ↔ Contains units v
@@ -192,6 +199,26 @@ module _ (s : Super) (rows : Rows) (c o : List ℕ) (first : ℕ) (bytes units :
 
     is_written : IsWritten rows c o first bytes units size extents
     is_written = map_is_written s rows c o first bytes units size w.present can_write w.pages new w.are_pages made
+
+    -- the new shard isn't the old one, for the same reason
+    new_shard : IsNewShard rows c o extents
+    new_shard page begins stands =
+        let row = has_shard rows then c o size extents can.coll_name can.object_name can_replace.size_most can_replace.fit
+        (are_then s rows c o size extents w.present can_replace) page begins in
+        let csum : ℕ = crc32c (unit_at 0 bytes) in
+        let at : IsPageAt rows c o (first + 0) (own (slice_index units 0) csum) = record {
+          first = page;
+          extents = extents;
+          has_shard = record { fits = row.fits; stands = stands };
+          has_page = is_written.inside 0 can.some;
+        } in
+        free 0 can.some (page_of c o (first + 0), (csum, at))
+
+    pub write_replaces : AreReplaced rows then c o size extents
+    write_replaces = are_then s rows c o size extents w.present can_replace
+
+    pub write_difference : IsDifference rows then first_ops
+    write_difference = object_difference rows c o s size extents w.present can_replace (climbs w.present w.in_order) w.there new_shard
 
     turned_data : (v : ℕ) → Has w.turns.units v → IsDataUnit s v
     turned_data v has = elim ((turned_is v).0 has) [
@@ -333,124 +360,93 @@ module _ (s : Super) (rows : Rows) (c o : List ℕ) (first : ℕ) (bytes units :
 
 -- ---- plans
 
+-- a plan by its operations
+pub data PlannedOps (s : Super) (rows : Rows) : Change → Plan → Type 0 where
+  made_coll : (c : List ℕ) → IsCollName c → PlannedOps s rows (coll_change c) (record { ops = coll_ops c; fresh = []; released = [] })
+  touches : (c o : List ℕ) → IsCollName c → IsName o → HasKey rows (coll_key c)
+      → PlannedOps s rows (touch_change c o) (record { ops = touch_ops rows c o; fresh = []; released = [] })
+  writes : (c o : List ℕ) (first : ℕ) (bytes units : List ℕ) (ops : List RowOp) (released : List ℕ)
+      → CanPlanWrite s rows c o first bytes units → WritesPages rows c o first bytes units ops released
+      → PlannedOps s rows (write_change c o first bytes) (record { ops = ops; fresh = pages_on units 0 bytes; released = released })
+
 module _ (s : Super) (rows : Rows) where
-  pub planned_good : {change : Change} {plan : Plan} → IsPlanned s rows change plan → NoBadRow s rows → NoBadRow s (rows_after rows plan.ops)
-  planned_good (makes_coll c name none) good = coll_good rows c s name good
+  pub planned_good : {change : Change} {plan : Plan} → PlannedOps s rows change plan → NoBadRow s rows → NoBadRow s (rows_after rows plan.ops)
+  planned_good (made_coll c name) good = coll_good rows c s name good
   planned_good (touches c o coll name has) good = touch_good s rows c o coll name has good
   planned_good (writes c o first bytes units ops released can w) good = write_good s rows c o first bytes units ops released can w good
 
-  pub planned_ok : {change : Change} {plan : Plan} (objects : Objects) → IsPlanned s rows change plan → IsShape rows objects
-      → IsOk (submitted_effect change objects)
-  planned_ok objects (makes_coll c name none) shape = ap is_ok (coll_submitted objects c ∙ coll_made rows objects shape c none)
-  planned_ok objects (touches c o coll name has) shape = touch_ok rows objects c o shape has
-  planned_ok objects (writes c o first bytes units ops released can w) shape =
-      write_ok rows objects c o shape first bytes can.short can.has_collection can.within
-
-  pub planned_effect : {change : Change} {plan : Plan} (objects : Objects) → IsPlanned s rows change plan
-      → submitted_effect change objects ≡ transaction_effect change objects
-  planned_effect objects (makes_coll c name none) = coll_submitted objects c
-  planned_effect objects (touches c o coll name has) = touch_submitted objects c o
-  planned_effect objects (writes c o first bytes units ops released can w) = write_submitted objects c o first bytes can.short
-
-  pub planned_stand : {change : Change} {plan : Plan} (at later_at : ℕ → List ℕ) (objects after : Objects) → IsPlanned s rows change plan
+  pub planned_stand : {change : Change} {plan : Plan} (at later_at : ℕ → List ℕ) (objects after : Objects) → PlannedOps s rows change plan
       → NoBadRow s rows → HoldsFresh later_at plan → ((unit : ℕ) → HasPage rows unit → later_at unit ≡ at unit)
       → ObjectsStand at rows objects → transaction_effect change objects ≡ Ok after → ObjectsStand later_at (rows_after rows plan.ops) after
-  planned_stand at later_at objects after (makes_coll c name none) good holds same stand is =
+  planned_stand at later_at objects after (made_coll c name) good holds same stand is =
       coll_stands later_at rows objects after c (objects_stand at later_at rows (λ unit has. sym (same unit has)) objects stand) is
   planned_stand at later_at objects after (touches c o coll name has) good holds same stand is =
       touch_stand s rows c o coll name has good at later_at objects after same stand is
   planned_stand at later_at objects after (writes c o first bytes units ops released can w) good holds same stand is =
       write_stand s rows c o first bytes units ops released can w good at later_at objects after holds same stand is
 
-  pub planned_fits : {change : Change} {plan : Plan} → IsPlanned s rows change plan → NoBadRow s rows → AllFit plan.ops
-  planned_fits (makes_coll c name none) good = coll_fits c name
+  pub planned_fits : {change : Change} {plan : Plan} → PlannedOps s rows change plan → NoBadRow s rows → AllFit plan.ops
+  planned_fits (made_coll c name) good = coll_fits c name
   planned_fits (touches c o coll name has) good = touch_fits s rows c o coll name has good
   planned_fits (writes c o first bytes units ops released can w) good = write_fits s rows c o first bytes units ops released can w good
 
-  pub planned_order : {change : Change} {plan : Plan} → IsPlanned s rows change plan → NoBadRow s rows → KeysAscend plan.ops
-  planned_order (makes_coll c name none) good = (tt, tt)
+  pub planned_order : {change : Change} {plan : Plan} → PlannedOps s rows change plan → NoBadRow s rows → KeysAscend plan.ops
+  planned_order (made_coll c name) good = (tt, tt)
   planned_order (touches c o coll name has) good = touch_ascend s rows c o coll name has good
   planned_order (writes c o first bytes units ops released can w) good = write_order s rows c o first bytes units ops released can w good
 
-  pub planned_short : {change : Change} {plan : Plan} → IsPlanned s rows change plan → NoBadRow s rows → length (ops_bytes plan.ops) < 2 ^ 32
-  planned_short (makes_coll c name none) good = omega (arith, coll_short c name)
+  pub planned_short : {change : Change} {plan : Plan} → PlannedOps s rows change plan → NoBadRow s rows → length (ops_bytes plan.ops) < 2 ^ 32
+  planned_short (made_coll c name) good = omega (arith, coll_short c name)
   planned_short (touches c o coll name has) good = touch_short s rows c o coll name has good
   planned_short (writes c o first bytes units ops released can w) good = write_short s rows c o first bytes units ops released can w good
 
-  pub planned_fresh : {change : Change} {plan : Plan} → IsPlanned s rows change plan
-      → AllByRecursion (λ f. IsDataUnit s f.unit × ¬ IsOwned rows f.unit × (length f.bytes ≡ 4096)) plan.fresh
-  planned_fresh (makes_coll c name none) = tt
-  planned_fresh (touches c o coll name has) = tt
-  planned_fresh (writes c o first bytes units ops released can w) =
-      fresh_all bytes s rows units 0 can.fresh.on_data can.fresh.free (omega (arith, can.whole))
-
-  pub planned_ascend : {change : Change} {plan : Plan} → IsPlanned s rows change plan → Ascends (fresh_units plan)
-  planned_ascend (makes_coll c name none) = tt
-  planned_ascend (touches c o coll name has) = tt
-  planned_ascend (writes c o first bytes units ops released can w) = subst Ascends (sym (units_of_pages bytes units 0)) can.fresh.ascend
-
-  pub planned_released : {change : Change} {plan : Plan} (v : ℕ) → IsPlanned s rows change plan → Contains plan.released v → IsOwned rows v
-  planned_released v (makes_coll c name none) k = absurd (none_in v k)
-  planned_released v (touches c o coll name has) k = absurd (none_in v k)
-  planned_released v (writes c o first bytes units ops released can w) k = write_released s rows c o first bytes units ops released can w v k
-
-  pub planned_owned : {change : Change} {plan : Plan} (v : ℕ) → IsPlanned s rows change plan → NoBadRow s rows
+  pub planned_owned : {change : Change} {plan : Plan} (v : ℕ) → PlannedOps s rows change plan → NoBadRow s rows
       → IsOwned (rows_after rows plan.ops) v → IsFresh plan v ⊎ IsOwned rows v
-  planned_owned v (makes_coll c name none) good owned = inr ((coll_owned rows c v).0 owned)
+  planned_owned v (made_coll c name) good owned = inr ((coll_owned rows c v).0 owned)
   planned_owned v (touches c o coll name has) good owned = inr ((touch_owned s rows c o coll name has good v).0 owned)
   planned_owned v (writes c o first bytes units ops released can w) good owned =
       write_owned s rows c o first bytes units ops released can w good v owned
 
-  pub planned_taken : {change : Change} {plan : Plan} (v : ℕ) → IsPlanned s rows change plan → NoBadRow s rows
+  pub planned_taken : {change : Change} {plan : Plan} (v : ℕ) → PlannedOps s rows change plan → NoBadRow s rows
       → IsFresh plan v → IsOwned (rows_after rows plan.ops) v
-  planned_taken v (makes_coll c name none) good f = absurd (none_fresh (coll_ops c) v f)
+  planned_taken v (made_coll c name) good f = absurd (none_fresh (coll_ops c) v f)
   planned_taken v (touches c o coll name has) good f = absurd (none_fresh (touch_ops rows c o) v f)
   planned_taken v (writes c o first bytes units ops released can w) good f = write_taken s rows c o first bytes units ops released can w good v f
 
-  pub planned_left : {change : Change} {plan : Plan} (v : ℕ) → IsPlanned s rows change plan → NoBadRow s rows
+  pub planned_left : {change : Change} {plan : Plan} (v : ℕ) → PlannedOps s rows change plan → NoBadRow s rows
       → IsOwned rows v → IsOwned (rows_after rows plan.ops) v ⊎ Contains plan.released v
-  planned_left v (makes_coll c name none) good owned = inl ((coll_owned rows c v).1 owned)
+  planned_left v (made_coll c name) good owned = inl ((coll_owned rows c v).1 owned)
   planned_left v (touches c o coll name has) good owned = inl ((touch_owned s rows c o coll name has good v).1 owned)
   planned_left v (writes c o first bytes units ops released can w) good owned =
       write_left s rows c o first bytes units ops released can w good v owned
 
   -- ---- a unit that hasn't two owners
 
-  pub planned_sole : {change : Change} {plan : Plan} (v : ℕ) → IsPlanned s rows change plan → NoBadRow s rows
+  pub planned_sole : {change : Change} {plan : Plan} (v : ℕ) → PlannedOps s rows change plan → NoBadRow s rows
       → HasSoleOwner rows v → HasSoleOwner (rows_after rows plan.ops) v
-  planned_sole v (makes_coll c name none) good sole = coll_sole rows c v sole
+  planned_sole v (made_coll c name) good sole = coll_sole rows c v sole
   planned_sole v (touches c o coll name has) good sole = touch_sole s rows c o coll name has good v sole
   planned_sole v (writes c o first bytes units ops released can w) good sole = write_sole s rows c o first bytes units ops released can w good v sole
 
-  pub planned_gone : {change : Change} {plan : Plan} (v : ℕ) → IsPlanned s rows change plan → NoBadRow s rows
+  pub planned_gone : {change : Change} {plan : Plan} (v : ℕ) → PlannedOps s rows change plan → NoBadRow s rows
       → HasSoleOwner rows v → Contains plan.released v → IsOwned (rows_after rows plan.ops) v → ⊥
-  planned_gone v (makes_coll c name none) good sole k owned = none_in v k
+  planned_gone v (made_coll c name) good sole k owned = none_in v k
   planned_gone v (touches c o coll name has) good sole k owned = none_in v k
   planned_gone v (writes c o first bytes units ops released can w) good sole k owned =
       write_gone s rows c o first bytes units ops released can w good v sole k owned
 
-  pub planned_once : {change : Change} {plan : Plan} (v : ℕ) → IsPlanned s rows change plan → HasSoleOwner rows v → StandsOnce plan.released v
-  planned_once v (makes_coll c name none) sole = none_once v
-  planned_once v (touches c o coll name has) sole = none_once v
-  planned_once v (writes c o first bytes units ops released can w) sole = write_once s rows c o first bytes units ops released can w v sole
-
   -- ---- the bitmap
 
-  pub planned_exact : {change : Change} {plan : Plan} (leaves : Rows) → IsPlanned s rows change plan → NoBadRow s rows
+  pub planned_exact : {change : Change} {plan : Plan} (leaves : Rows) → PlannedOps s rows change plan → NoBadRow s rows
       → IsExactAs leaves rows → IsExactAs leaves (rows_after rows plan.ops)
-  planned_exact leaves (makes_coll c name none) good exact = coll_exact rows c (IsLeaked leaves) exact
+  planned_exact leaves (made_coll c name) good exact = coll_exact rows c (IsLeaked leaves) exact
   planned_exact leaves (touches c o coll name has) good exact = touch_exact s rows c o coll name has good (IsLeaked leaves) exact
   planned_exact leaves (writes c o first bytes units ops released can w) good exact =
       write_exact s rows c o first bytes units ops released can w good leaves exact
 
-  pub planned_marked : {change : Change} {plan : Plan} (v : ℕ) → IsPlanned s rows change plan → NoBadRow s rows → v < 2 ^ 32
+  pub planned_marked : {change : Change} {plan : Plan} (v : ℕ) → PlannedOps s rows change plan → NoBadRow s rows → v < 2 ^ 32
       → IsMarked rows v → IsMarked (rows_after rows plan.ops) v ⊎ Contains plan.released v
-  planned_marked v (makes_coll c name none) good small marked = inl ((coll_bits rows c v).1 marked)
+  planned_marked v (made_coll c name) good small marked = inl ((coll_bits rows c v).1 marked)
   planned_marked v (touches c o coll name has) good small marked = inl ((touch_bits s rows c o coll name has good v).1 marked)
   planned_marked v (writes c o first bytes units ops released can w) good small marked =
       write_marked s rows c o first bytes units ops released can w good v small marked
-
-  pub planned_unmarked : {change : Change} {plan : Plan} (v : ℕ) → IsPlanned s rows change plan → IsFresh plan v → ¬ IsMarked rows v
-  planned_unmarked v (makes_coll c name none) f = absurd (none_fresh (coll_ops c) v f)
-  planned_unmarked v (touches c o coll name has) f = absurd (none_fresh (touch_ops rows c o) v f)
-  planned_unmarked v (writes c o first bytes units ops released can w) f = write_unmarked s rows c o first bytes units ops released can w v f

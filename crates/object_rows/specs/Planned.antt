@@ -1,5 +1,5 @@
 -- What a transaction is turned into before it is committed.
-use Rattle.std.specs.Prelude.{◌≡◌, ℕ, ◌+◌, ◌*◌, ◌<◌, ◌≤◌, ◌^◌, List, [], ◌∷◌, length, map, None, Any, slice_index}
+use Rattle.std.specs.Prelude.{◌≡◌, ℕ, ◌+◌, ◌*◌, ◌/◌, ◌%◌, ◌<◌, ◌≤◌, ◌^◌, List, [], ◌∷◌, length, map, None, Any, slice_index}
 use Rattle.std.specs.List.{AllByRecursion}
 use Rattle.std.specs.FinMap as finite
 use Rattle.byte_maps.specs.Units.{unit_at}
@@ -7,6 +7,8 @@ use Rattle.crc32c_csum.specs.Crc32c.{crc32c}
 use Rattle.meta_rows.specs.Rows.{Rows}
 use Rattle.meta_rows.specs.declared.row_op.RowOp.{RowOp}
 use Rattle.meta_log.specs.declared.slot.Super.{Super}
+use Rattle.object_model.specs.declared.op.Op.{Op}
+use Rattle.object_model.specs.declared.op.Op.TheVariants.{Touch, Write}
 use Rattle.object_model.specs.Effect.{Change, object_limit}
 use Rattle.object_model.specs.Limits.{payload_limit}
 use Rattle.unit_fields.specs.Names.{IsName, IsCollName}
@@ -14,11 +16,11 @@ use Rattle.unit_fields.specs.UnitSet.{Ascends}
 use Rattle.row_format.specs.Keys.{coll_key}
 use Rattle.store_image.specs.Pages.{HasKey}
 use Rattle.store_image.specs.Owners.{IsDataUnit, IsOwned, IsMarked}
-use Rattle.row_facts.specs.Operations.{coll_change, coll_ops}
+use Rattle.row_facts.specs.Operations.{coll_change}
 use Rattle.object_rows.specs.declared.plan.FreshUnit.{FreshUnit}
 use Rattle.object_rows.specs.declared.plan.Plan.{Plan}
-use Rattle.object_rows.specs.Writes.{write_change, touch_change}
-use Rattle.object_rows.specs.Plans.{WritesPages, touch_ops}
+use Rattle.object_rows.specs.Difference.{IsDifference}
+use Rattle.object_rows.specs.Layouts.{Layout, HasLayout, made_of, PlansLayout}
 
 -- the units, each with its page of the bytes, from one on
 abbrev pub pages_on : List ℕ → ℕ → List ℕ → List FreshUnit
@@ -47,15 +49,37 @@ pub record CanPlanWrite (s : Super) (rows : Rows) (c o : List ℕ) (first : ℕ)
   pub within : 4096 * first + length bytes ≤ object_limit
   pub csums_fit : (i : ℕ) → i < length units → crc32c (unit_at i bytes) < 2 ^ 32
 
--- Over these rows the transaction may be turned into this.
+-- names, and a collection that the rows have: the object can be touched
+pub record CanPlanTouch (rows : Rows) (c o : List ℕ) : Type 0 where
+  pub coll_name : IsCollName c
+  pub object_name : IsName o
+  pub has_collection : HasKey rows (coll_key c)
+
+-- what an operation on an object needs of the rows and of the units that it takes
+abbrev pub CanPlan : Super → Rows → List ℕ → Op → List ℕ → Type 0
+CanPlan s rows c (Touch o) units = CanPlanTouch rows c o × (units ≡ [])
+CanPlan s rows c (Write o off bytes) units = (off % 4096 ≡ 0) × CanPlanWrite s rows c o (off / 4096) bytes units
+CanPlan s rows c op units = ⊥
+
+-- the object that it is on
+abbrev pub object_of : Op → List ℕ
+object_of (Touch o) = o
+object_of (Write o off bytes) = o
+object_of op = []
+
+-- the bytes that it puts on units
+abbrev pub bytes_of : Op → List ℕ
+bytes_of (Write o off bytes) = bytes
+bytes_of op = []
+
+-- Over these rows the transaction may be turned into this: the row of a missing collection, or what an operation makes of its object.
 pub data IsPlanned (s : Super) (rows : Rows) : Change → Plan → Type 0 where
-  makes_coll : (c : List ℕ) → IsCollName c → finite.get rows (coll_key c) ≡ None
-      → IsPlanned s rows (coll_change c) (record { ops = coll_ops c; fresh = []; released = [] })
-  touches : (c o : List ℕ) → IsCollName c → IsName o → HasKey rows (coll_key c)
-      → IsPlanned s rows (touch_change c o) (record { ops = touch_ops rows c o; fresh = []; released = [] })
-  writes : (c o : List ℕ) (first : ℕ) (bytes units : List ℕ) (ops : List RowOp) (released : List ℕ)
-      → CanPlanWrite s rows c o first bytes units → WritesPages rows c o first bytes units ops released
-      → IsPlanned s rows (write_change c o first bytes) (record { ops = ops; fresh = pages_on units 0 bytes; released = released })
+  makes_coll : (c : List ℕ) (ops : List RowOp) → IsCollName c → finite.get rows (coll_key c) ≡ None
+      → IsDifference rows (finite.insert rows (coll_key c) []) ops
+      → IsPlanned s rows (coll_change c) (record { ops = ops; fresh = []; released = [] })
+  changes_object : (c : List ℕ) (op : Op) (units : List ℕ) (x : Layout) (plan : Plan) → CanPlan s rows c op units → HasLayout rows c (object_of op) x
+      → PlansLayout rows c (object_of op) x (made_of op units x) units plan → plan.fresh ≡ pages_on units 0 (bytes_of op)
+      → IsPlanned s rows (record { coll = c; ops = op ∷ [] }) plan
 
 -- the fresh units hold their bytes
 abbrev pub HoldsFresh : (ℕ → List ℕ) → Plan → Type 0

@@ -1,15 +1,16 @@
 //! What the operations come to. Each function has laws for its contract and does nothing.
 ghost use Rattle.std.specs.Prelude.{Some, None, Ok, ◌≡◌, ◌<◌, ◌≤◌, ◌+◌, ◌*◌, ◌^◌, ◌⊎◌, ◌↔◌, ℕ, [], List, length, slice_index};
-ghost use Rattle.std.specs.List.{AllByRecursion};
+ghost use Rattle.std.specs.List.{flat_map, AllByRecursion};
 ghost use Rattle.std.specs.FinMap as map;
 ghost use Rattle.meta_log.specs.declared.slot.Super.{Super};
-ghost use Rattle.meta_rows.specs.Rows.{Rows};
+ghost use Rattle.meta_rows.specs.Rows.{Rows, LeaveAlone};
+ghost use Rattle.meta_rows.specs.declared.row_op.RowOp.{RowOp};
 ghost use Rattle.meta_rows.specs.Spelling.{ops_bytes, AllFit};
 ghost use Rattle.object_model.specs.Objects.{Objects};
 ghost use Rattle.object_model.specs.Effect.{transaction_effect};
 ghost use Rattle.unit_fields.specs.Names.{IsName, IsCollName};
-ghost use Rattle.row_format.specs.Keys.{coll_key, onode_key};
-ghost use Rattle.row_format.specs.Extents.{Extent, Place, place_of, page_end, ExtentsAscend, FitsExtent};
+ghost use Rattle.row_format.specs.Keys.{coll_key, onode_key, shard_key};
+ghost use Rattle.row_format.specs.Extents.{Extent, Place, place_of, page_end, extent_bytes, BeginsAt, ExtentsAscend, FitsExtent};
 ghost use Rattle.row_format.specs.Row.{onode};
 ghost use Rattle.store_image.specs.Pages.{HasKey, HasRow, IsPageAt, pages_of};
 ghost use Rattle.store_image.specs.BadRows.{IsOnData, NoBadRow};
@@ -19,6 +20,9 @@ ghost use Rattle.object_rows.specs.Operations.{AreShards, CanReplace, Climb, Key
 ghost use Rattle.blob_map.specs.Pages.{PageMap, HasNumbers};
 ghost use Rattle.blob_map.specs.Normal.{extents_of};
 ghost use Rattle.object_rows.specs.Maps.{AreShardsOf, extents_in, first_pages, IsMapOf, IsMapWritten, CanWrite};
+ghost use Rattle.row_facts.specs.Operations.{coll_ops};
+ghost use Rattle.object_rows.specs.Difference.{IsDifference};
+ghost use Rattle.object_rows.specs.Layouts.{Layout, HasLayout, AreReplaced};
 ghost use Rattle.object_rows.specs.Writes.{write_change, touch_change, IsWritten, HoldPages, AreDistinct, IsOwnedBesidesWritten, StoodWritten};
 
 /// Replacing an object's onode and extents leaves no bad row. The object has this size then, its pages are the extents', those of the
@@ -144,4 +148,33 @@ pub fn written_by_map()
     ensures written { (s : Super) (rows : Rows) (c o : List ℕ) (first : ℕ) (bytes units : List ℕ) (size : ℕ) (present : List ℕ) (old new : PageMap)
         → CanWrite s rows c o first bytes units size present → IsMapOf rows c o old → IsMapWritten old new first bytes units
         → IsWritten rows c o first bytes units size (extents_of (map.entries new)) }
+{}
+
+/// Between two tables of rows there is one difference at most. It names the keys under which they have not the same, and no others; so it
+/// is empty between equal ones.
+pub fn one_difference()
+    ensures one { (before after : Rows) (xs ys : List RowOp) → IsDifference before after xs → IsDifference before after ys → xs ≡ ys }
+    ensures unnamed { (before after : Rows) (ops : List RowOp) (key : List ℕ) → IsDifference before after ops
+        → LeaveAlone ops key ↔ (map.get after key ≡ map.get before key) }
+    ensures none { (rows : Rows) (ops : List RowOp) → IsDifference rows rows ops → ops ≡ [] }
+{}
+
+/// Where no row is bad, each object has a layout.
+pub fn object_has_layout()
+    ensures { (s : Super) (rows : Rows) (c o : List ℕ) → NoBadRow s rows → IsCollName c → IsName o → (x : Layout) × HasLayout rows c o x }
+{}
+
+/// The operations that make a collection are a difference, and so are those that replace an object's rows, where the present shards are there
+/// and in order, and the new shard has another value than the old one. What an object's rows are when they are replaced decides all rows.
+pub fn replaced_difference()
+    ensures collection { (rows : Rows) (c : List ℕ) → map.get rows (coll_key c) ≡ None
+        → IsDifference rows (map.insert rows (coll_key c) []) (coll_ops c) }
+    ensures object { (s : Super) (rows : Rows) (c o : List ℕ) (size : ℕ) (extents : List Extent) (present : List ℕ)
+        → CanReplace s rows c o size extents present → Climb present → AllByRecursion (λ page. HasKey rows (shard_key c o page)) present
+        → ((page : ℕ) → BeginsAt page extents → ¬ (map.get rows (shard_key c o page) ≡ Some (flat_map extent_bytes extents)))
+        → IsDifference rows (replaced rows c o size extents present) (object_ops rows c o size extents present) }
+    ensures replaced { (s : Super) (rows : Rows) (c o : List ℕ) (size : ℕ) (extents : List Extent) (present : List ℕ)
+        → CanReplace s rows c o size extents present → AreReplaced rows (replaced rows c o size extents present) c o size extents }
+    ensures one { (rows a b : Rows) (c o : List ℕ) (size : ℕ) (extents : List Extent)
+        → AreReplaced rows a c o size extents → AreReplaced rows b c o size extents → a ≡ b }
 {}

@@ -10,8 +10,8 @@ mod plan;
 mod plans;
 
 pub use laws::{
-    made_object, object_by_shards, record_of_an_object, replaced_rows, replaced_units,
-    written_by_map, written_units, wrote_pages,
+    made_object, object_by_shards, object_has_layout, one_difference, record_of_an_object,
+    replaced_difference, replaced_rows, replaced_units, written_by_map, written_units, wrote_pages,
 };
 pub use plan::{FreshUnit, Plan};
 pub use plans::{

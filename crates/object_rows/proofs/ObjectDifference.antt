@@ -1,0 +1,106 @@
+-- The operations that make a collection, that replace an object's rows, and that make an object are differences.
+use Rattle.std.proofs.Common.{◌≡◌, inl, inr, ℕ, Bool, true, false, cond, List, [], ◌∷◌, Some, None, refl, sym, ap, subst, ◌∙◌}
+use Rattle.std.specs.Prelude.{nat_lt, filter}
+use Rattle.std.specs.List.{flat_map, AllByRecursion}
+use Rattle.std.specs.Option.{option_map_or}
+use Rattle.std.specs.Ordering.{is_eq}
+use Rattle.std.specs.Cmp.{tied_itself}
+use Rattle.std.specs.Cmp.Lexicographic.{nat_list_cmp_total}
+use Rattle.std.specs.FinMap as map
+use Rattle.std.proofs.lemmas.Bool.{cases_Bool}
+use Rattle.byte_maps.proofs.Laws.{same}
+use Rattle.meta_rows.specs.Rows.{Rows}
+use Rattle.meta_rows.specs.declared.row_op.RowOp.{RowOp}
+use Rattle.meta_log.specs.declared.slot.Super.{Super}
+use Rattle.object_model.specs.Effect.{is_same}
+use Rattle.row_format.specs.Keys.{coll_key, shard_key}
+use Rattle.row_format.specs.Extents.{Extent, extent_bytes, BeginsAt}
+use Rattle.row_format.specs.Row.{Row, onode, row_key, row_value}
+use Rattle.store_image.specs.Pages.{HasKey}
+use Rattle.row_facts.specs.Operations.{set_row, coll_ops}
+use Rattle.object_rows.specs.Difference.{Changes, IsDifference}
+use Rattle.object_rows.specs.Layouts.{AreReplaced}
+use Rattle.object_rows.specs.Operations.{says, drops, onode_ops, shard_ops, object_ops, CanReplace, replaced, IsKeyOf, Climb}
+use Rattle.object_rows.proofs.After.{begins_or_not}
+use Rattle.object_rows.proofs.KeyOrder.{ops_ascend}
+use Rattle.object_rows.proofs.Ops.{all_append, all_kept}
+
+-- ---- a collection
+
+pub coll_difference : (rows : Rows) (c : List ℕ) → map.get rows (coll_key c) ≡ None
+    → IsDifference rows (map.insert rows (coll_key c) []) (coll_ops c)
+coll_difference rows c none = record {
+  in_order = (tt, tt);
+  changes = ((λ is. let t = sym none ∙ is in cc), tt);
+  makes = refl;
+}
+
+-- ---- an object
+
+-- what rows don't say
+unsaid : (rows : Rows) (r : Row) → says rows r ≡ false → ¬ (map.get rows (row_key r) ≡ Some (row_value r))
+unsaid rows r is said =
+    let yes : says rows r ≡ true = ap (λ held. option_map_or (λ value. is_same value (row_value r)) held false) said
+    ∙ ap is_eq (tied_itself nat_list_cmp_total (row_value r)) in
+    let t = sym yes ∙ is in cc
+
+module _ (rows : Rows) (c o : List ℕ) where
+  abbrev Change : List RowOp → Type 0
+  Change ops = AllByRecursion (Changes rows) ops
+
+  onode_changes : (size : ℕ) → Change (onode_ops rows c o size)
+  onode_changes size = elim (cases_Bool (says rows (onode c o size))) [
+    | inl is ↦ subst (λ b. Change (cond b [] (set_row (onode c o size) ∷ []))) (sym is) tt
+    | inr is ↦ subst (λ b. Change (cond b [] (set_row (onode c o size) ∷ []))) (sym is) (unsaid rows (onode c o size) is, tt)
+  ]
+
+  drops_change : (ps : List ℕ) → AllByRecursion (λ page. HasKey rows (shard_key c o page)) ps → Change (drops c o ps)
+  drops_change [] there = tt
+  drops_change (p ∷ ps) there = (there.0, drops_change ps there.1)
+
+  -- the shard's value is a new one
+  abbrev pub IsNewShard : List Extent → Type 0
+  IsNewShard extents = (page : ℕ) → BeginsAt page extents → ¬ (map.get rows (shard_key c o page) ≡ Some (flat_map extent_bytes extents))
+
+  shard_changes : (extents : List Extent) (present : List ℕ) → AllByRecursion (λ page. HasKey rows (shard_key c o page)) present → IsNewShard extents
+      → Change (shard_ops c o extents present)
+  shard_changes [] present there new = drops_change present there
+  shard_changes (e ∷ es) present there new =
+      let is_low : ℕ → Bool = λ page. nat_lt page e.first in
+      let low = all_kept is_low (λ page. HasKey rows (shard_key c o page)) present there in
+      let high = all_kept (nat_lt e.first) (λ page. HasKey rows (shard_key c o page)) present there in
+      all_append (Changes rows) (drops c o (filter is_low present)) _ (drops_change (filter is_low present) low)
+      (new e.first refl, drops_change (filter (nat_lt e.first) present) high)
+
+  pub object_difference : (s : Super) (size : ℕ) (extents : List Extent) (present : List ℕ) → CanReplace s rows c o size extents present → Climb present
+      → AllByRecursion (λ page. HasKey rows (shard_key c o page)) present → IsNewShard extents
+      → IsDifference rows (replaced rows c o size extents present) (object_ops rows c o size extents present)
+  object_difference s size extents present can climb there new = record {
+    in_order = ops_ascend s rows c o size extents present can climb;
+    changes = all_append (Changes rows) (onode_ops rows c o size) (shard_ops c o extents present) (onode_changes size)
+        (shard_changes extents present there new);
+    makes = refl;
+  }
+
+-- ---- what an object's rows are when they are replaced
+
+one_after : (rows a b : Rows) (c o : List ℕ) (size : ℕ) (extents : List Extent) → AreReplaced rows a c o size extents
+    → AreReplaced rows b c o size extents → (key : List ℕ) → IsKeyOf c o key → map.get a key ≡ map.get b key
+one_after rows a b c o size extents p q key (inl is) = ap (map.get a) is ∙ p.onode ∙ sym q.onode ∙ ap (map.get b) (sym is)
+one_after rows a b c o size extents p q key (inr its) = ap (map.get a) its.2 ∙ at_page ∙ ap (map.get b) (sym its.2)
+  where
+    at_page : map.get a (shard_key c o its.0) ≡ map.get b (shard_key c o its.0)
+    at_page = elim (begins_or_not its.0 extents) [
+      | inl begins ↦ p.shard its.0 begins ∙ sym (q.shard its.0 begins)
+      | inr not ↦ p.no_other its.0 its.1 not ∙ sym (q.no_other its.0 its.1 not)
+    ]
+
+pub one_replaced : (rows a b : Rows) (c o : List ℕ) (size : ℕ) (extents : List Extent) → AreReplaced rows a c o size extents
+    → AreReplaced rows b c o size extents → a ≡ b
+one_replaced rows a b c o size extents p q = same a b (λ key. elim (p.others key) [
+  | inl its ↦ one_after rows a b c o size extents p q key its
+  | inr is ↦ elim (q.others key) [
+    | inl its ↦ one_after rows a b c o size extents p q key its
+    | inr other ↦ is ∙ sym other
+  ]
+])

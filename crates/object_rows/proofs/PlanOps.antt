@@ -1,0 +1,377 @@
+-- The operations of a plan, from the difference of the rows, and the difference from them.
+use Rattle.std.proofs.Common.{◌≡◌, ◌⊎◌, inl, inr, ℕ, ◌+◌, ◌*◌, ◌/◌, ◌%◌, cond, List, [], ◌∷◌, ◌++◌, length, map, Contains, Some, None, is_some, is_ok, true≢false, refl, sym, ap, subst, ◌∙◌, arith, append-nil}
+use Rattle.std.specs.Prelude.{IsOk, Any, max}
+use Rattle.std.specs.List.{AllByRecursion}
+use Rattle.std.specs.Ordering.{nat_cmp}
+use Rattle.std.specs.FinMap as finite
+use Rattle.std.specs.FinSet as set
+use Rattle.std.specs.FinMap.{entries}
+use Rattle.meta_rows.specs.Rows.{Rows}
+use Rattle.meta_rows.specs.declared.row_op.RowOp.{RowOp}
+use Rattle.meta_log.specs.declared.slot.Super.{Super}
+use Rattle.object_model.specs.declared.op.Op.{Op}
+use Rattle.object_model.specs.declared.op.Op.TheVariants.{Touch, Write}
+use Rattle.object_model.specs.Effect.{Change, transaction_effect}
+use Rattle.object_model.specs.Limits.{submitted_effect}
+use Rattle.object_model.specs.Objects.{Objects}
+use Rattle.unit_fields.specs.Names.{IsName, IsCollName}
+use Rattle.unit_fields.specs.UnitSet.{Ascends}
+use Rattle.row_format.specs.Keys.{coll_key, onode_key}
+use Rattle.row_format.specs.Extents.{Extent, Place}
+use Rattle.row_format.specs.Row.{shard}
+use Rattle.store_image.specs.Pages.{HasKey}
+use Rattle.store_image.specs.BadRows.{NoBadRow}
+use Rattle.store_image.specs.Owners.{IsDataUnit, IsOwned, IsMarked, HasSoleOwner}
+use Rattle.store_image.specs.Stands.{IsShape}
+use Rattle.store_image.proofs.PageMap.{in_place}
+use Rattle.row_facts.specs.Operations.{coll_change, coll_ops}
+use Rattle.row_facts.proofs.Replies.{coll_submitted, coll_made}
+use Rattle.bitmap_freelist.specs.Bitmap.{Units, Has, AreFlips}
+use Rattle.blob_map.specs.Pages.{PageMap, with_pages}
+use Rattle.blob_map.specs.Normal.{extents_of}
+use Rattle.object_rows.specs.declared.plan.FreshUnit.{FreshUnit}
+use Rattle.object_rows.specs.declared.plan.Plan.{Plan}
+use Rattle.object_rows.specs.Difference.{IsDifference}
+use Rattle.object_rows.specs.Layouts.{Layout, HasLayout, made_of, is_moved, units_left, AreReplaced, GetsLayout, stays, replaces, PlansLayout}
+use Rattle.object_rows.specs.Maps.{IsMapOf}
+use Rattle.object_rows.specs.Operations.{object_ops, replaced, CanReplace}
+use Rattle.object_rows.specs.Planned.{pages_on, AreFresh, CanPlanWrite, CanPlan, object_of, bytes_of, IsPlanned, makes_coll, changes_object, IsFresh, StandsOnce, fresh_units}
+use Rattle.object_rows.specs.Plans.{new_pages, units_between, TurnsBits, WritesPages, touch_ops}
+use Rattle.object_rows.specs.Writes.{write_change, touch_change, missing, there, IsSizeOf}
+use Rattle.object_rows.proofs.After.{are_then}
+use Rattle.object_rows.proofs.Between.{In, same_pair, some_owned, some_once}
+use Rattle.object_rows.proofs.Difference.{one_difference, no_difference}
+use Rattle.object_rows.proofs.LayoutOf.{ObjectInRows, object_in_rows}
+use Rattle.object_rows.proofs.Left.{entry_found, none_left, left_between}
+use Rattle.object_rows.proofs.Makes.{can_make}
+use Rattle.object_rows.proofs.ObjectDifference.{coll_difference, object_difference, one_replaced}
+use Rattle.object_rows.proofs.Laid.{map_written}
+use Rattle.object_rows.proofs.PagesOn.{all_at, fresh_there, fresh_all, units_of_pages}
+use Rattle.object_rows.proofs.Planned.{none_in, none_fresh, PlannedOps, made_coll, touches, writes, pages_change, write_replaces, write_difference}
+use Rattle.object_rows.proofs.Replied.{touch_submitted, touch_ok, write_submitted, write_ok}
+
+-- an offset of a page's start
+at_start : (off : ℕ) → off % 4096 ≡ 0 → 4096 * (off / 4096) ≡ off
+at_start off start = omega (arith, start)
+
+-- ---- a write
+
+module _ (s : Super) (rows : Rows) (c o : List ℕ) (off : ℕ) (bytes units : List ℕ) (start : off % 4096 ≡ 0)
+    (can : CanPlanWrite s rows c o (off / 4096) bytes units) where
+  abbrev first : ℕ
+  first = off / 4096
+
+  abbrev write : Op
+  write = Write o off bytes
+
+  abbrev pages_after : PageMap → PageMap
+  pages_after pages = with_pages pages (new_pages first 0 units bytes)
+
+  -- the size after, as the pages say it
+  abbrev size_after : ℕ → ℕ
+  size_after before = max before (4096 * (first + length units))
+
+  same_size : (before : ℕ) → max before (off + length bytes) ≡ size_after before
+  same_size before = omega (arith, start, can.whole)
+
+  -- the units that are left are those where the pages stood
+  left_stood : (pages : PageMap) → IsMapOf rows c o pages → units_left pages (pages_after pages) ≡ units_between pages first (length units)
+  left_stood pages are = left_between rows c o pages (pages_after pages) first bytes units are (map_written first bytes pages units)
+      (λ i lt. all_at (λ u. ¬ IsOwned rows u) units i can.fresh.free lt)
+
+  module _ (good : NoBadRow s rows) where
+    -- the difference from the operations
+    pub write_planned : (ops : List RowOp) (released : List ℕ) → WritesPages rows c o first bytes units ops released
+        → IsPlanned s rows (record { coll = c; ops = write ∷ [] }) (record { ops = ops; fresh = pages_on units 0 bytes; released = released })
+    write_planned ops released w =
+        let x : Layout = record { size = w.before; pages = w.pages } in
+        let es : List Extent = extents_of (entries (pages_after w.pages)) in
+        let after : Rows = replaced rows c o (size_after w.before) es w.present in
+        changes_object c write units x (record { ops = ops; fresh = pages_on units 0 bytes; released = released }) (start, can)
+        (record { was_long = w.was_long; are_pages = w.are_pages })
+        (record {
+          after = after;
+          gets = replaces after (inr (λ same. pages_change s rows c o first bytes units ops released can w (ap (λ (l : Layout). l.pages) same)))
+              (subst (λ n. AreReplaced rows after c o n es) (sym (same_size w.before)) (write_replaces s rows c o first bytes units ops released can w good));
+          difference = object_ops rows c o (size_after w.before) es w.present;
+          is_difference = write_difference s rows c o first bytes units ops released can w good;
+          flips = w.flips;
+          turns = w.turns;
+          ops_are = w.ops_are;
+          released_are = w.released_are ∙ sym (left_stood w.pages w.are_pages);
+        })
+        refl
+
+    -- the operations from the difference
+    module _ (x : Layout) (plan : Plan) (has : HasLayout rows c o x) (p : PlansLayout rows c o x (made_of write units x) units plan) where
+      found : ObjectInRows rows c o
+      found = object_in_rows s rows c o good can.coll_name can.object_name
+
+      abbrev es_after : List Extent
+      es_after = extents_of (entries (pages_after x.pages))
+
+      -- the operations that replace the object with these shards, and behind them those on the bitmap
+      abbrev object_part : List ℕ → List RowOp
+      object_part present = object_ops rows c o (size_after x.size) es_after present
+
+      abbrev by_shards : (q : ObjectInRows rows c o) → WritesPages rows c o first bytes units (object_part q.present ++ p.flips) plan.released
+      by_shards q = record {
+        pages = x.pages;
+        are_pages = has.are_pages;
+        present = q.present;
+        are_shards = q.are_shards;
+        there = q.there;
+        in_order = q.in_order;
+        before = x.size;
+        was_long = has.was_long;
+        flips = p.flips;
+        turns = p.turns;
+        ops_are = refl;
+        released_are = p.released_are ∙ left_stood x.pages has.are_pages;
+      }
+
+      module _ (q : ObjectInRows rows c o) where
+        abbrev all_ops : List RowOp
+        all_ops = object_part q.present ++ p.flips
+
+        abbrev then : Rows
+        then = replaced rows c o (size_after x.size) es_after q.present
+
+        after_is : (after : Rows) → GetsLayout rows c o x (made_of write units x) after → after ≡ then
+        after_is after (stays has_onode same) =
+            absurd (pages_change s rows c o first bytes units all_ops plan.released can (by_shards q) (ap (λ (l : Layout). l.pages) same))
+        after_is after (replaces r changed are) = one_replaced rows after then c o (size_after x.size) es_after
+            (subst (λ n. AreReplaced rows after c o n es_after) (same_size x.size) are)
+            (write_replaces s rows c o first bytes units all_ops plan.released can (by_shards q) good)
+
+        ops_are : all_ops ≡ plan.ops
+        ops_are =
+            ap (λ ops. ops ++ p.flips) (one_difference rows then (object_part q.present) p.difference
+            (write_difference s rows c o first bytes units all_ops plan.released can (by_shards q) good)
+            (subst (λ r. IsDifference rows r p.difference) (after_is p.after p.gets) p.is_difference)) ∙ sym p.ops_are
+
+      pub written_by : WritesPages rows c o first bytes units plan.ops plan.released
+      written_by = subst (λ ops. WritesPages rows c o first bytes units ops plan.released) (ops_are found) (by_shards found)
+
+-- ---- a touch
+
+-- without a unit there is none to turn
+no_flips : (taken released : List ℕ) (flips : List RowOp) → taken ≡ [] → released ≡ [] → TurnsBits taken released flips → flips ≡ []
+no_flips taken released [] none_taken none_released turns = refl
+no_flips taken released (op ∷ ops) none_taken none_released turns = absurd
+    (none_turned turns.units (λ unit has. elim ((turns.are_units unit).0 has) [
+      | inl k ↦ none_in unit (subst (λ us. Contains us unit) none_taken k)
+      | inr k ↦ none_in unit (subst (λ us. Contains us unit) none_released k)
+    ]) op ops turns.are_flips)
+  where
+    none_turned : (units : Units) → ((unit : ℕ) → Has units unit → ⊥) → (op : RowOp) (ops : List RowOp) → AreFlips units (op ∷ ops) → ⊥
+    none_turned units none op ops are = none are.1.some.0 are.1.some.1
+
+turns_none : TurnsBits [] [] []
+turns_none = record {
+  units = set.empty;
+  are_units = λ unit. (λ has. absurd (none_has unit has), λ either. elim either [ inl k ↦ absurd (none_in unit k) | inr k ↦ absurd (none_in unit k) ]);
+  are_flips = λ unit has. absurd (none_has unit has);
+}
+  where
+    none_has : (unit : ℕ) → Has set.empty unit → ⊥
+    none_has unit has = true≢false (sym has ∙ set.contains-empty nat_cmp unit)
+
+-- entries of which none is there
+no_entries : (es : List (ℕ × Place)) → ((page : ℕ) (place : Place) → In es (page, place) → ⊥) → es ≡ []
+no_entries [] none = refl
+no_entries (e ∷ es) none = absurd (none e.0 e.1 (inl (same_pair e e.0 e.1 refl refl)))
+
+module _ (s : Super) (rows : Rows) (c o : List ℕ) (coll : IsCollName c) (name : IsName o) (has_coll : HasKey rows (coll_key c))
+    (good : NoBadRow s rows) where
+  abbrev at_onode : Type 0
+  at_onode = HasKey rows (onode_key c o) ⊎ (finite.get rows (onode_key c o) ≡ None)
+
+  onode_or_not : at_onode
+  onode_or_not = elim (finite.get rows (onode_key c o)) as (λ r. finite.get rows (onode_key c o) ≡ r → at_onode) [
+    | None ↦ λ p. inr p
+    | Some v ↦ λ p. inl (ap is_some p)
+  ] refl
+
+  not_both : HasKey rows (onode_key c o) → finite.get rows (onode_key c o) ≡ None → ⊥
+  not_both has none = let t = sym has ∙ ap is_some none in cc
+
+  -- where it is there nothing changes
+  there_ops : HasKey rows (onode_key c o) → touch_ops rows c o ≡ []
+  there_ops has = ap (λ b. cond b [] (object_ops rows c o 0 [] [])) has
+
+  missing_ops : finite.get rows (onode_key c o) ≡ None → touch_ops rows c o ≡ object_ops rows c o 0 [] []
+  missing_ops none = ap (λ r. cond (is_some r) [] (object_ops rows c o 0 [] [])) none
+
+  -- where it is missing it has no bytes and no pages
+  module _ (none : finite.get rows (onode_key c o) ≡ None) where
+    no_bytes : (size : ℕ) → IsSizeOf rows c o size → size ≡ 0
+    no_bytes size (missing p) = refl
+    no_bytes size (there n has) = absurd (not_both (ap is_some has.stands) none)
+
+    no_pages : (pages : PageMap) → IsMapOf rows c o pages → entries pages ≡ []
+    no_pages pages are = no_entries (entries pages) (λ page place is.
+        let at = (are page place).0 (entry_found pages page place is) in
+        not_both (in_place s rows (shard c o at.first at.extents) good at.has_shard).has_onode none)
+
+    can_replace : CanReplace s rows c o 0 [] []
+    can_replace = can_make s rows c o good coll name has_coll none
+
+    made_difference : IsDifference rows (replaced rows c o 0 [] []) (object_ops rows c o 0 [] [])
+    made_difference = object_difference rows c o s 0 [] [] can_replace tt tt (λ page begins. absurd begins)
+
+  -- the difference is that
+  touch_difference : (x : Layout) → HasLayout rows c o x → (after : Rows) (ops : List RowOp) → GetsLayout rows c o x x after
+      → IsDifference rows after ops → touch_ops rows c o ≡ ops
+  touch_difference x has after ops (stays has_onode same) is = there_ops has_onode ∙ sym (no_difference rows ops is)
+  touch_difference x has after ops (replaces r changed are) is = elim changed [
+    | inl none ↦
+        let bytes : x.size ≡ 0 = no_bytes none x.size has.was_long in
+        let extents : extents_of (entries x.pages) ≡ [] = ap extents_of (no_pages none x.pages has.are_pages) in
+        let same : after ≡ replaced rows c o 0 [] [] = one_replaced rows after (replaced rows c o 0 [] []) c o 0 []
+        (subst (λ es. AreReplaced rows after c o 0 es) extents (subst (λ n. AreReplaced rows after c o n (extents_of (entries x.pages))) bytes are))
+        (are_then s rows c o 0 [] [] (can_replace none)) in
+        missing_ops none ∙ one_difference rows after (object_ops rows c o 0 [] []) ops
+        (subst (λ r. IsDifference rows r (object_ops rows c o 0 [] [])) (sym same) (made_difference none)) is
+    | inr moved ↦ absurd (moved refl)
+  ]
+
+  -- and the rows of an object that is touched are so
+  record Touched (x : Layout) : Type 0 where
+    pub after : Rows
+    pub gets : GetsLayout rows c o x x after
+    pub is_difference : IsDifference rows after (touch_ops rows c o)
+
+  touched : (x : Layout) → HasLayout rows c o x → Touched x
+  touched x has = elim onode_or_not [
+    | inl has_onode ↦ record {
+      after = rows;
+      gets = stays has_onode refl;
+      is_difference = subst (IsDifference rows rows) (sym (there_ops has_onode)) (record { in_order = tt; changes = tt; makes = refl });
+    }
+    | inr none ↦
+        let bytes : 0 ≡ x.size = sym (no_bytes none x.size has.was_long) in
+        let extents : [] ≡ extents_of (entries x.pages) = sym (ap extents_of (no_pages none x.pages has.are_pages)) in
+        let after : Rows = replaced rows c o 0 [] [] in
+        record {
+          after = after;
+          gets = replaces after (inl none) (subst (λ es. AreReplaced rows after c o x.size es) extents
+              (subst (λ n. AreReplaced rows after c o n []) bytes (are_then s rows c o 0 [] [] (can_replace none))));
+          is_difference = subst (IsDifference rows after) (sym (missing_ops none)) (made_difference none);
+        }
+  ]
+
+  pub touch_planned : IsPlanned s rows (touch_change c o) (record { ops = touch_ops rows c o; fresh = []; released = [] })
+  touch_planned =
+      let q : ObjectInRows rows c o = object_in_rows s rows c o good coll name in
+      let t : Touched q.layout = touched q.layout q.has in
+      changes_object c (Touch o) [] q.layout (record { ops = touch_ops rows c o; fresh = []; released = [] })
+      (record { coll_name = coll; object_name = name; has_collection = has_coll }, refl) q.has
+      (record {
+        after = t.after;
+        gets = t.gets;
+        difference = touch_ops rows c o;
+        is_difference = t.is_difference;
+        flips = [];
+        turns = turns_none;
+        ops_are = sym (append-nil (touch_ops rows c o));
+        released_are = sym (none_left q.layout.pages);
+      })
+      refl
+
+-- ---- plans
+
+module _ (s : Super) (rows : Rows) where
+  pub coll_planned : (c : List ℕ) → IsCollName c → finite.get rows (coll_key c) ≡ None
+      → IsPlanned s rows (coll_change c) (record { ops = coll_ops c; fresh = []; released = [] })
+  coll_planned c name none = makes_coll c (coll_ops c) name none (coll_difference rows c none)
+
+  touch_by : (c o units : List ℕ) (x : Layout) (plan : Plan) → CanPlan s rows c (Touch o) units → HasLayout rows c o x
+      → PlansLayout rows c o x x units plan → plan.fresh ≡ pages_on units 0 [] → NoBadRow s rows → PlannedOps s rows (touch_change c o) plan
+  touch_by c o units x plan can has p fresh good =
+      let released : plan.released ≡ [] = p.released_are ∙ none_left x.pages in
+      let flips : p.flips ≡ [] = no_flips units plan.released p.flips can.1 released p.turns in
+      let ops : touch_ops rows c o ≡ plan.ops = touch_difference s rows c o can.0.coll_name can.0.object_name can.0.has_collection good x has
+      p.after p.difference p.gets p.is_difference ∙ sym (append-nil p.difference) ∙ ap (λ l. p.difference ++ l) (sym flips) ∙ sym p.ops_are in
+      let none : [] ≡ plan.fresh = sym (fresh ∙ ap (λ us. pages_on us 0 []) can.1) in
+      subst (PlannedOps s rows (touch_change c o)) (λ i. record { ops = ops i; fresh = none i; released = sym released i })
+      (touches c o can.0.coll_name can.0.object_name can.0.has_collection)
+
+  write_by : (c o : List ℕ) (off : ℕ) (bytes units : List ℕ) (x : Layout) (plan : Plan) → CanPlan s rows c (Write o off bytes) units
+      → HasLayout rows c o x → PlansLayout rows c o x (made_of (Write o off bytes) units x) units plan → plan.fresh ≡ pages_on units 0 bytes
+      → NoBadRow s rows → PlannedOps s rows (record { coll = c; ops = Write o off bytes ∷ [] }) plan
+  write_by c o off bytes units x plan can has p fresh good =
+      let w = written_by s rows c o off bytes units can.0 can.1 good x plan has p in
+      subst (λ (n : ℕ). PlannedOps s rows (record { coll = c; ops = Write o n bytes ∷ [] }) plan) (at_start off can.0)
+      (subst (λ (fs : List FreshUnit). PlannedOps s rows (write_change c o (off / 4096) bytes)
+      (record { ops = plan.ops; fresh = fs; released = plan.released })) (sym fresh)
+      (writes c o (off / 4096) bytes units plan.ops plan.released can.1 w))
+
+  pub plan_ops : {change : Change} {plan : Plan} → IsPlanned s rows change plan → NoBadRow s rows → PlannedOps s rows change plan
+  plan_ops (makes_coll c ops name none is) good = subst (λ (l : List RowOp). PlannedOps s rows (coll_change c) (record { ops = l; fresh = []; released = [] }))
+      (one_difference rows (finite.insert rows (coll_key c) []) (coll_ops c) ops (coll_difference rows c none) is) (made_coll c name)
+  plan_ops (changes_object c (Touch o) units x plan can has p fresh) good = touch_by c o units x plan can has p fresh good
+  plan_ops (changes_object c (Write o off bytes) units x plan can has p fresh) good = write_by c o off bytes units x plan can has p fresh good
+  plan_ops (changes_object c op units x plan can has p fresh) good = absurd can
+
+  -- ---- what holds whatever the rows are
+
+  fresh_of : (c : List ℕ) (op : Op) (units : List ℕ) → CanPlan s rows c op units → AreFresh s rows units
+  fresh_of c (Touch o) units can = subst (AreFresh s rows) (sym can.1) (record { ascend = tt; on_data = tt; free = tt; unmarked = tt; fit = tt })
+  fresh_of c (Write o off bytes) units can = can.1.fresh
+  fresh_of c op units can = absurd can
+
+  whole_of : (c : List ℕ) (op : Op) (units : List ℕ) → CanPlan s rows c op units → length (bytes_of op) ≡ 4096 * length units
+  whole_of c (Touch o) units can = omega (arith, ap length can.1)
+  whole_of c (Write o off bytes) units can = can.1.whole
+  whole_of c op units can = absurd can
+
+  pub planned_ok : {change : Change} {plan : Plan} (objects : Objects) → IsPlanned s rows change plan → IsShape rows objects
+      → IsOk (submitted_effect change objects)
+  planned_ok objects (makes_coll c ops name none is) shape = ap is_ok (coll_submitted objects c ∙ coll_made rows objects shape c none)
+  planned_ok objects (changes_object c (Touch o) units x plan can has p fresh) shape = touch_ok rows objects c o shape can.0.has_collection
+  planned_ok objects (changes_object c (Write o off bytes) units x plan can has p fresh) shape =
+      subst (λ (n : ℕ). IsOk (submitted_effect (record { coll = c; ops = Write o n bytes ∷ [] }) objects)) (at_start off can.0)
+      (write_ok rows objects c o shape (off / 4096) bytes can.1.short can.1.has_collection can.1.within)
+  planned_ok objects (changes_object c op units x plan can has p fresh) shape = absurd can
+
+  pub planned_effect : {change : Change} {plan : Plan} (objects : Objects) → IsPlanned s rows change plan
+      → submitted_effect change objects ≡ transaction_effect change objects
+  planned_effect objects (makes_coll c ops name none is) = coll_submitted objects c
+  planned_effect objects (changes_object c (Touch o) units x plan can has p fresh) = touch_submitted objects c o
+  planned_effect objects (changes_object c (Write o off bytes) units x plan can has p fresh) =
+      subst (λ (n : ℕ). let change : Change = record { coll = c; ops = Write o n bytes ∷ [] } in
+      submitted_effect change objects ≡ transaction_effect change objects) (at_start off can.0)
+      (write_submitted objects c o (off / 4096) bytes can.1.short)
+  planned_effect objects (changes_object c op units x plan can has p fresh) = absurd can
+
+  pub planned_fresh : {change : Change} {plan : Plan} → IsPlanned s rows change plan
+      → AllByRecursion (λ f. IsDataUnit s f.unit × ¬ IsOwned rows f.unit × (length f.bytes ≡ 4096)) plan.fresh
+  planned_fresh (makes_coll c ops name none is) = tt
+  planned_fresh (changes_object c op units x plan can has p fresh) =
+      let f = fresh_of c op units can in
+      subst (AllByRecursion (λ f. IsDataUnit s f.unit × ¬ IsOwned rows f.unit × (length f.bytes ≡ 4096))) (sym fresh)
+      (fresh_all (bytes_of op) s rows units 0 f.on_data f.free (omega (arith, whole_of c op units can)))
+
+  pub planned_ascend : {change : Change} {plan : Plan} → IsPlanned s rows change plan → Ascends (fresh_units plan)
+  planned_ascend (makes_coll c ops name none is) = tt
+  planned_ascend (changes_object c op units x plan can has p fresh) =
+      subst Ascends (sym (ap (map (λ (f : FreshUnit). f.unit)) fresh ∙ units_of_pages (bytes_of op) units 0)) (fresh_of c op units can).ascend
+
+  pub planned_unmarked : {change : Change} {plan : Plan} (v : ℕ) → IsPlanned s rows change plan → IsFresh plan v → ¬ IsMarked rows v
+  planned_unmarked v (makes_coll c ops name none is) f = absurd (none_fresh ops v f)
+  planned_unmarked v (changes_object c op units x plan can has p fresh) f =
+      let at = (fresh_there (bytes_of op) units 0 v).0 (subst (Any (λ g. g.unit ≡ v)) fresh f) in
+      subst (λ u. ¬ IsMarked rows u) at.2 (all_at (λ u. ¬ IsMarked rows u) units at.0 (fresh_of c op units can).unmarked at.1)
+
+  -- a page of the object stands on a unit that is released
+  pub planned_released : {change : Change} {plan : Plan} (v : ℕ) → IsPlanned s rows change plan → Contains plan.released v → IsOwned rows v
+  planned_released v (makes_coll c ops name none is) k = absurd (none_in v k)
+  planned_released v (changes_object c op units x plan can has p fresh) k =
+      some_owned (is_moved x.pages (made_of op units x).pages) rows c (object_of op) x.pages has.are_pages v
+      (subst (λ us. Contains us v) p.released_are k)
+
+  pub planned_once : {change : Change} {plan : Plan} (v : ℕ) → IsPlanned s rows change plan → HasSoleOwner rows v → StandsOnce plan.released v
+  planned_once v (makes_coll c ops name none is) sole = λ i j in_i in_j at same. absurd (omega (arith, in_i))
+  planned_once v (changes_object c op units x plan can has p fresh) sole = subst (λ us. StandsOnce us v) (sym p.released_are)
+      (some_once (is_moved x.pages (made_of op units x).pages) rows c (object_of op) x.pages has.are_pages v sole)

@@ -20,5 +20,6 @@ pub mod Difference
 pub mod ObjectDifference
 pub mod LayoutOf
 pub mod Left
+pub mod WritePlan
 pub mod Planned
 pub mod PlanOps

@@ -1,7 +1,6 @@
 -- The operations of a plan, from the difference of the rows, and the difference from them.
-use Rattle.std.proofs.Common.{◌≡◌, ◌⊎◌, inl, inr, ℕ, ◌+◌, ◌*◌, ◌/◌, ◌%◌, cond, List, [], ◌∷◌, ◌++◌, length, map, Contains, Some, None, is_some, is_ok, true≢false, refl, sym, ap, subst, ◌∙◌, arith, append-nil}
-use Rattle.std.specs.Prelude.{IsOk, Any, max}
-use Rattle.std.specs.List.{AllByRecursion}
+use Rattle.std.proofs.Common.{◌≡◌, ◌⊎◌, inl, inr, ℕ, ◌+◌, ◌*◌, ◌/◌, ◌%◌, cond, List, [], ◌∷◌, ◌++◌, length, Contains, Some, None, is_some, true≢false, refl, sym, ap, subst, ◌∙◌, arith, append-nil}
+use Rattle.std.specs.Prelude.{max}
 use Rattle.std.specs.Ordering.{nat_cmp}
 use Rattle.std.specs.FinMap as finite
 use Rattle.std.specs.FinSet as set
@@ -10,49 +9,40 @@ use Rattle.meta_rows.specs.Rows.{Rows}
 use Rattle.meta_rows.specs.declared.row_op.RowOp.{RowOp}
 use Rattle.meta_log.specs.declared.slot.Super.{Super}
 use Rattle.object_model.specs.declared.op.Op.{Op}
-use Rattle.object_model.specs.declared.op.Op.TheVariants.{Touch, Write}
-use Rattle.object_model.specs.Effect.{Change, transaction_effect}
-use Rattle.object_model.specs.Limits.{submitted_effect}
-use Rattle.object_model.specs.Objects.{Objects}
+use Rattle.object_model.specs.declared.op.Op.TheVariants.{Write}
 use Rattle.unit_fields.specs.Names.{IsName, IsCollName}
-use Rattle.unit_fields.specs.UnitSet.{Ascends}
 use Rattle.row_format.specs.Keys.{coll_key, onode_key}
 use Rattle.row_format.specs.Extents.{Extent, Place}
 use Rattle.row_format.specs.Row.{shard}
 use Rattle.store_image.specs.Pages.{HasKey}
 use Rattle.store_image.specs.BadRows.{NoBadRow}
-use Rattle.store_image.specs.Owners.{IsDataUnit, IsOwned, IsMarked, HasSoleOwner}
-use Rattle.store_image.specs.Stands.{IsShape}
+use Rattle.store_image.specs.Owners.{IsOwned}
 use Rattle.store_image.proofs.PageMap.{in_place}
-use Rattle.row_facts.specs.Operations.{coll_change, coll_ops}
-use Rattle.row_facts.proofs.Replies.{coll_submitted, coll_made}
+use Rattle.row_facts.specs.Operations.{coll_ops}
 use Rattle.bitmap_freelist.specs.Bitmap.{Units, Has, AreFlips}
 use Rattle.blob_map.specs.Pages.{PageMap, with_pages}
 use Rattle.blob_map.specs.Normal.{extents_of}
-use Rattle.object_rows.specs.declared.plan.FreshUnit.{FreshUnit}
 use Rattle.object_rows.specs.declared.plan.Plan.{Plan}
 use Rattle.object_rows.specs.Difference.{IsDifference}
-use Rattle.object_rows.specs.Layouts.{Layout, HasLayout, made_of, is_moved, units_left, AreReplaced, GetsLayout, stays, replaces, PlansLayout}
+use Rattle.object_rows.specs.Layouts.{Layout, HasLayout, made_of, units_left, AreReplaced, GetsLayout, stays, replaces, MakesColl, MakesLayout}
 use Rattle.object_rows.specs.Maps.{IsMapOf}
 use Rattle.object_rows.specs.Operations.{object_ops, replaced, CanReplace}
-use Rattle.object_rows.specs.Planned.{pages_on, AreFresh, CanPlanWrite, CanPlan, object_of, bytes_of, IsPlanned, makes_coll, changes_object, IsFresh, StandsOnce, fresh_units}
+use Rattle.object_rows.specs.Planned.{pages_on, CanPlanWrite}
 use Rattle.object_rows.specs.Plans.{new_pages, units_between, TurnsBits, WritesPages, touch_ops}
-use Rattle.object_rows.specs.Writes.{write_change, touch_change, missing, there, IsSizeOf}
+use Rattle.object_rows.specs.Writes.{missing, there, IsSizeOf}
 use Rattle.object_rows.proofs.After.{are_then}
-use Rattle.object_rows.proofs.Between.{In, same_pair, some_owned, some_once}
+use Rattle.object_rows.proofs.Between.{In, same_pair}
 use Rattle.object_rows.proofs.Difference.{one_difference, no_difference}
 use Rattle.object_rows.proofs.LayoutOf.{ObjectInRows, object_in_rows}
 use Rattle.object_rows.proofs.Left.{entry_found, none_left, left_between}
 use Rattle.object_rows.proofs.Makes.{can_make}
 use Rattle.object_rows.proofs.ObjectDifference.{coll_difference, object_difference, one_replaced}
 use Rattle.object_rows.proofs.Laid.{map_written}
-use Rattle.object_rows.proofs.PagesOn.{all_at, fresh_there, fresh_all, units_of_pages}
-use Rattle.object_rows.proofs.Planned.{none_in, none_fresh, PlannedOps, made_coll, touches, writes, pages_change, write_replaces, write_difference}
-use Rattle.object_rows.proofs.Replied.{touch_submitted, touch_ok, write_submitted, write_ok}
+use Rattle.object_rows.proofs.PagesOn.{all_at}
+use Rattle.object_rows.proofs.WritePlan.{pages_change, write_replaces, write_difference}
 
--- an offset of a page's start
-at_start : (off : ℕ) → off % 4096 ≡ 0 → 4096 * (off / 4096) ≡ off
-at_start off start = omega (arith, start)
+pub none_in : (v : ℕ) → ¬ Contains {X = ℕ} [] v
+none_in v k = omega (arith, k.1)
 
 -- ---- a write
 
@@ -81,29 +71,28 @@ module _ (s : Super) (rows : Rows) (c o : List ℕ) (off : ℕ) (bytes units : L
 
   module _ (good : NoBadRow s rows) where
     -- the difference from the operations
-    pub write_planned : (ops : List RowOp) (released : List ℕ) → WritesPages rows c o first bytes units ops released
-        → IsPlanned s rows (record { coll = c; ops = write ∷ [] }) (record { ops = ops; fresh = pages_on units 0 bytes; released = released })
-    write_planned ops released w =
+    pub layout_written : (plan : Plan) (w : WritesPages rows c o first bytes units plan.ops plan.released)
+        → (let x : Layout = record { size = w.before; pages = w.pages } in MakesLayout rows c o x (made_of write units x) units plan)
+    layout_written plan w =
         let x : Layout = record { size = w.before; pages = w.pages } in
         let es : List Extent = extents_of (entries (pages_after w.pages)) in
         let after : Rows = replaced rows c o (size_after w.before) es w.present in
-        changes_object c write units x (record { ops = ops; fresh = pages_on units 0 bytes; released = released }) (start, can)
-        (record { was_long = w.was_long; are_pages = w.are_pages })
-        (record {
+        record {
           after = after;
-          gets = replaces after (inr (λ same. pages_change s rows c o first bytes units ops released can w (ap (λ (l : Layout). l.pages) same)))
-              (subst (λ n. AreReplaced rows after c o n es) (sym (same_size w.before)) (write_replaces s rows c o first bytes units ops released can w good));
+          gets = replaces after
+              (inr (λ same. pages_change s rows c o first bytes units plan.ops plan.released can w (ap (λ (l : Layout). l.pages) same)))
+              (subst (λ n. AreReplaced rows after c o n es) (sym (same_size w.before))
+              (write_replaces s rows c o first bytes units plan.ops plan.released can w good));
           difference = object_ops rows c o (size_after w.before) es w.present;
-          is_difference = write_difference s rows c o first bytes units ops released can w good;
+          is_difference = write_difference s rows c o first bytes units plan.ops plan.released can w good;
           flips = w.flips;
           turns = w.turns;
           ops_are = w.ops_are;
           released_are = w.released_are ∙ sym (left_stood w.pages w.are_pages);
-        })
-        refl
+        }
 
     -- the operations from the difference
-    module _ (x : Layout) (plan : Plan) (has : HasLayout rows c o x) (p : PlansLayout rows c o x (made_of write units x) units plan) where
+    module _ (x : Layout) (plan : Plan) (has : HasLayout rows c o x) (p : MakesLayout rows c o x (made_of write units x) units plan) where
       found : ObjectInRows rows c o
       found = object_in_rows s rows c o good can.coll_name can.object_name
 
@@ -156,7 +145,7 @@ module _ (s : Super) (rows : Rows) (c o : List ℕ) (off : ℕ) (bytes units : L
 -- ---- a touch
 
 -- without a unit there is none to turn
-no_flips : (taken released : List ℕ) (flips : List RowOp) → taken ≡ [] → released ≡ [] → TurnsBits taken released flips → flips ≡ []
+pub no_flips : (taken released : List ℕ) (flips : List RowOp) → taken ≡ [] → released ≡ [] → TurnsBits taken released flips → flips ≡ []
 no_flips taken released [] none_taken none_released turns = refl
 no_flips taken released (op ∷ ops) none_taken none_released turns = absurd
     (none_turned turns.units (λ unit has. elim ((turns.are_units unit).0 has) [
@@ -221,7 +210,7 @@ module _ (s : Super) (rows : Rows) (c o : List ℕ) (coll : IsCollName c) (name 
     made_difference = object_difference rows c o s 0 [] [] can_replace tt tt (λ page begins. absurd begins)
 
   -- the difference is that
-  touch_difference : (x : Layout) → HasLayout rows c o x → (after : Rows) (ops : List RowOp) → GetsLayout rows c o x x after
+  pub touch_difference : (x : Layout) → HasLayout rows c o x → (after : Rows) (ops : List RowOp) → GetsLayout rows c o x x after
       → IsDifference rows after ops → touch_ops rows c o ≡ ops
   touch_difference x has after ops (stays has_onode same) is = there_ops has_onode ∙ sym (no_difference rows ops is)
   touch_difference x has after ops (replaces r changed are) is = elim changed [
@@ -261,13 +250,11 @@ module _ (s : Super) (rows : Rows) (c o : List ℕ) (coll : IsCollName c) (name 
         }
   ]
 
-  pub touch_planned : IsPlanned s rows (touch_change c o) (record { ops = touch_ops rows c o; fresh = []; released = [] })
-  touch_planned =
-      let q : ObjectInRows rows c o = object_in_rows s rows c o good coll name in
-      let t : Touched q.layout = touched q.layout q.has in
-      changes_object c (Touch o) [] q.layout (record { ops = touch_ops rows c o; fresh = []; released = [] })
-      (record { coll_name = coll; object_name = name; has_collection = has_coll }, refl) q.has
-      (record {
+  -- the difference from the operations
+  pub layout_touched : (x : Layout) → HasLayout rows c o x → MakesLayout rows c o x x [] (record { ops = touch_ops rows c o; fresh = []; released = [] })
+  layout_touched x has =
+      let t : Touched x = touched x has in
+      record {
         after = t.after;
         gets = t.gets;
         difference = touch_ops rows c o;
@@ -275,103 +262,28 @@ module _ (s : Super) (rows : Rows) (c o : List ℕ) (coll : IsCollName c) (name 
         flips = [];
         turns = turns_none;
         ops_are = sym (append-nil (touch_ops rows c o));
-        released_are = sym (none_left q.layout.pages);
-      })
-      refl
+        released_are = sym (none_left x.pages);
+      }
 
--- ---- plans
+  -- the operations from the difference
+  pub touched_by : (units : List ℕ) (x : Layout) (plan : Plan) → units ≡ [] → HasLayout rows c o x → MakesLayout rows c o x x units plan
+      → plan.fresh ≡ pages_on units 0 [] → record { ops = touch_ops rows c o; fresh = []; released = [] } ≡ plan
+  touched_by units x plan no_units has p fresh =
+      let none : plan.released ≡ [] = p.released_are ∙ none_left x.pages in
+      let ops : touch_ops rows c o ≡ plan.ops = touch_difference x has p.after p.difference p.gets p.is_difference
+      ∙ sym (append-nil p.difference) ∙ ap (λ l. p.difference ++ l) (sym (no_flips units plan.released p.flips no_units none p.turns)) ∙ sym p.ops_are in
+      let no_fresh : [] ≡ plan.fresh = sym (fresh ∙ ap (λ us. pages_on us 0 []) no_units) in
+      λ i. record { ops = ops i; fresh = no_fresh i; released = sym none i }
 
-module _ (s : Super) (rows : Rows) where
-  pub coll_planned : (c : List ℕ) → IsCollName c → finite.get rows (coll_key c) ≡ None
-      → IsPlanned s rows (coll_change c) (record { ops = coll_ops c; fresh = []; released = [] })
-  coll_planned c name none = makes_coll c (coll_ops c) name none (coll_difference rows c none)
+-- ---- a collection
 
-  touch_by : (c o units : List ℕ) (x : Layout) (plan : Plan) → CanPlan s rows c (Touch o) units → HasLayout rows c o x
-      → PlansLayout rows c o x x units plan → plan.fresh ≡ pages_on units 0 [] → NoBadRow s rows → PlannedOps s rows (touch_change c o) plan
-  touch_by c o units x plan can has p fresh good =
-      let released : plan.released ≡ [] = p.released_are ∙ none_left x.pages in
-      let flips : p.flips ≡ [] = no_flips units plan.released p.flips can.1 released p.turns in
-      let ops : touch_ops rows c o ≡ plan.ops = touch_difference s rows c o can.0.coll_name can.0.object_name can.0.has_collection good x has
-      p.after p.difference p.gets p.is_difference ∙ sym (append-nil p.difference) ∙ ap (λ l. p.difference ++ l) (sym flips) ∙ sym p.ops_are in
-      let none : [] ≡ plan.fresh = sym (fresh ∙ ap (λ us. pages_on us 0 []) can.1) in
-      subst (PlannedOps s rows (touch_change c o)) (λ i. record { ops = ops i; fresh = none i; released = sym released i })
-      (touches c o can.0.coll_name can.0.object_name can.0.has_collection)
+pub coll_put : (rows : Rows) (c : List ℕ) → finite.get rows (coll_key c) ≡ None
+    → MakesColl rows c (record { ops = coll_ops c; fresh = []; released = [] })
+coll_put rows c none = record { is_difference = coll_difference rows c none; none_fresh = refl; none_released = refl }
 
-  write_by : (c o : List ℕ) (off : ℕ) (bytes units : List ℕ) (x : Layout) (plan : Plan) → CanPlan s rows c (Write o off bytes) units
-      → HasLayout rows c o x → PlansLayout rows c o x (made_of (Write o off bytes) units x) units plan → plan.fresh ≡ pages_on units 0 bytes
-      → NoBadRow s rows → PlannedOps s rows (record { coll = c; ops = Write o off bytes ∷ [] }) plan
-  write_by c o off bytes units x plan can has p fresh good =
-      let w = written_by s rows c o off bytes units can.0 can.1 good x plan has p in
-      subst (λ (n : ℕ). PlannedOps s rows (record { coll = c; ops = Write o n bytes ∷ [] }) plan) (at_start off can.0)
-      (subst (λ (fs : List FreshUnit). PlannedOps s rows (write_change c o (off / 4096) bytes)
-      (record { ops = plan.ops; fresh = fs; released = plan.released })) (sym fresh)
-      (writes c o (off / 4096) bytes units plan.ops plan.released can.1 w))
-
-  pub plan_ops : {change : Change} {plan : Plan} → IsPlanned s rows change plan → NoBadRow s rows → PlannedOps s rows change plan
-  plan_ops (makes_coll c ops name none is) good = subst (λ (l : List RowOp). PlannedOps s rows (coll_change c) (record { ops = l; fresh = []; released = [] }))
-      (one_difference rows (finite.insert rows (coll_key c) []) (coll_ops c) ops (coll_difference rows c none) is) (made_coll c name)
-  plan_ops (changes_object c (Touch o) units x plan can has p fresh) good = touch_by c o units x plan can has p fresh good
-  plan_ops (changes_object c (Write o off bytes) units x plan can has p fresh) good = write_by c o off bytes units x plan can has p fresh good
-  plan_ops (changes_object c op units x plan can has p fresh) good = absurd can
-
-  -- ---- what holds whatever the rows are
-
-  fresh_of : (c : List ℕ) (op : Op) (units : List ℕ) → CanPlan s rows c op units → AreFresh s rows units
-  fresh_of c (Touch o) units can = subst (AreFresh s rows) (sym can.1) (record { ascend = tt; on_data = tt; free = tt; unmarked = tt; fit = tt })
-  fresh_of c (Write o off bytes) units can = can.1.fresh
-  fresh_of c op units can = absurd can
-
-  whole_of : (c : List ℕ) (op : Op) (units : List ℕ) → CanPlan s rows c op units → length (bytes_of op) ≡ 4096 * length units
-  whole_of c (Touch o) units can = omega (arith, ap length can.1)
-  whole_of c (Write o off bytes) units can = can.1.whole
-  whole_of c op units can = absurd can
-
-  pub planned_ok : {change : Change} {plan : Plan} (objects : Objects) → IsPlanned s rows change plan → IsShape rows objects
-      → IsOk (submitted_effect change objects)
-  planned_ok objects (makes_coll c ops name none is) shape = ap is_ok (coll_submitted objects c ∙ coll_made rows objects shape c none)
-  planned_ok objects (changes_object c (Touch o) units x plan can has p fresh) shape = touch_ok rows objects c o shape can.0.has_collection
-  planned_ok objects (changes_object c (Write o off bytes) units x plan can has p fresh) shape =
-      subst (λ (n : ℕ). IsOk (submitted_effect (record { coll = c; ops = Write o n bytes ∷ [] }) objects)) (at_start off can.0)
-      (write_ok rows objects c o shape (off / 4096) bytes can.1.short can.1.has_collection can.1.within)
-  planned_ok objects (changes_object c op units x plan can has p fresh) shape = absurd can
-
-  pub planned_effect : {change : Change} {plan : Plan} (objects : Objects) → IsPlanned s rows change plan
-      → submitted_effect change objects ≡ transaction_effect change objects
-  planned_effect objects (makes_coll c ops name none is) = coll_submitted objects c
-  planned_effect objects (changes_object c (Touch o) units x plan can has p fresh) = touch_submitted objects c o
-  planned_effect objects (changes_object c (Write o off bytes) units x plan can has p fresh) =
-      subst (λ (n : ℕ). let change : Change = record { coll = c; ops = Write o n bytes ∷ [] } in
-      submitted_effect change objects ≡ transaction_effect change objects) (at_start off can.0)
-      (write_submitted objects c o (off / 4096) bytes can.1.short)
-  planned_effect objects (changes_object c op units x plan can has p fresh) = absurd can
-
-  pub planned_fresh : {change : Change} {plan : Plan} → IsPlanned s rows change plan
-      → AllByRecursion (λ f. IsDataUnit s f.unit × ¬ IsOwned rows f.unit × (length f.bytes ≡ 4096)) plan.fresh
-  planned_fresh (makes_coll c ops name none is) = tt
-  planned_fresh (changes_object c op units x plan can has p fresh) =
-      let f = fresh_of c op units can in
-      subst (AllByRecursion (λ f. IsDataUnit s f.unit × ¬ IsOwned rows f.unit × (length f.bytes ≡ 4096))) (sym fresh)
-      (fresh_all (bytes_of op) s rows units 0 f.on_data f.free (omega (arith, whole_of c op units can)))
-
-  pub planned_ascend : {change : Change} {plan : Plan} → IsPlanned s rows change plan → Ascends (fresh_units plan)
-  planned_ascend (makes_coll c ops name none is) = tt
-  planned_ascend (changes_object c op units x plan can has p fresh) =
-      subst Ascends (sym (ap (map (λ (f : FreshUnit). f.unit)) fresh ∙ units_of_pages (bytes_of op) units 0)) (fresh_of c op units can).ascend
-
-  pub planned_unmarked : {change : Change} {plan : Plan} (v : ℕ) → IsPlanned s rows change plan → IsFresh plan v → ¬ IsMarked rows v
-  planned_unmarked v (makes_coll c ops name none is) f = absurd (none_fresh ops v f)
-  planned_unmarked v (changes_object c op units x plan can has p fresh) f =
-      let at = (fresh_there (bytes_of op) units 0 v).0 (subst (Any (λ g. g.unit ≡ v)) fresh f) in
-      subst (λ u. ¬ IsMarked rows u) at.2 (all_at (λ u. ¬ IsMarked rows u) units at.0 (fresh_of c op units can).unmarked at.1)
-
-  -- a page of the object stands on a unit that is released
-  pub planned_released : {change : Change} {plan : Plan} (v : ℕ) → IsPlanned s rows change plan → Contains plan.released v → IsOwned rows v
-  planned_released v (makes_coll c ops name none is) k = absurd (none_in v k)
-  planned_released v (changes_object c op units x plan can has p fresh) k =
-      some_owned (is_moved x.pages (made_of op units x).pages) rows c (object_of op) x.pages has.are_pages v
-      (subst (λ us. Contains us v) p.released_are k)
-
-  pub planned_once : {change : Change} {plan : Plan} (v : ℕ) → IsPlanned s rows change plan → HasSoleOwner rows v → StandsOnce plan.released v
-  planned_once v (makes_coll c ops name none is) sole = λ i j in_i in_j at same. absurd (omega (arith, in_i))
-  planned_once v (changes_object c op units x plan can has p fresh) sole = subst (λ us. StandsOnce us v) (sym p.released_are)
-      (some_once (is_moved x.pages (made_of op units x).pages) rows c (object_of op) x.pages has.are_pages v sole)
+pub coll_by : (rows : Rows) (c : List ℕ) (plan : Plan) → finite.get rows (coll_key c) ≡ None → MakesColl rows c plan
+    → record { ops = coll_ops c; fresh = []; released = [] } ≡ plan
+coll_by rows c plan none p =
+    let ops : coll_ops c ≡ plan.ops = one_difference rows (finite.insert rows (coll_key c) []) (coll_ops c) plan.ops (coll_difference rows c none)
+    p.is_difference in
+    λ i. record { ops = ops i; fresh = sym p.none_fresh i; released = sym p.none_released i }

@@ -1,77 +1,51 @@
--- What holds of every transaction that is planned, from its operations.
-use Rattle.std.proofs.Common.{◌≡◌, ◌⊎◌, ◌↔◌, inl, inr, ℕ, ◌+◌, ◌*◌, ◌<◌, ◌≤◌, List, [], ◌∷◌, length, ◌++◌, Any, Contains, Ok, refl, sym, ap, subst, ◌∙◌, length-append, arith}
-use Rattle.std.specs.Prelude.{max, slice_index, ◌^◌}
+-- What holds of every transaction that is planned.
+use Rattle.std.proofs.Common.{◌≡◌, ◌⊎◌, inl, inr, ℕ, ◌+◌, ◌*◌, ◌<◌, List, [], ◌∷◌, length, ◌++◌, Any, Contains, Ok, sym, ap, subst, ◌∙◌, length-append, arith, is_ok, ◌/◌, ◌%◌, map}
+use Rattle.std.specs.Prelude.{◌^◌, IsOk, Any}
 use Rattle.std.specs.List.{AllByRecursion}
-use Rattle.std.specs.FinSet as set
-use Rattle.std.proofs.lemmas.Bool.{cases_Bool}
-use Rattle.std.specs.FinMap as finite
 use Rattle.std.specs.Int.{w32, to_le_bytes}
-use Rattle.std.proofs.lemmas.Grind.{flat_map-append}
-use Rattle.byte_maps.specs.Units.{unit_at, units_for}
+use Rattle.byte_maps.specs.Units.{units_for}
 use Rattle.crc32c_csum.specs.Crc32c.{crc32c}
 use Rattle.meta_rows.specs.Rows.{Rows, rows_after}
-use Rattle.meta_rows.specs.Spelling.{op_bytes, ops_bytes, FitsRowOp, AllFit}
+use Rattle.meta_rows.specs.Spelling.{ops_bytes, AllFit}
 use Rattle.meta_rows.specs.declared.row_op.RowOp.{RowOp}
-use Rattle.meta_rows.proofs.Folds.{rows_after-append}
 use Rattle.meta_log.specs.declared.slot.Super.{Super}
 use Rattle.meta_log.specs.Records.{record_head, record_bytes, unit_count}
 use Rattle.object_model.specs.Objects.{Objects}
-use Rattle.object_model.specs.Effect.{Change, object_limit, transaction_effect}
-use Rattle.unit_fields.specs.Names.{IsName, IsCollName}
+use Rattle.object_model.specs.Effect.{Change, transaction_effect}
+use Rattle.unit_fields.specs.Names.{IsCollName}
 use Rattle.unit_fields.specs.UnitSet.{Ascends}
-use Rattle.row_format.specs.Keys.{coll_key}
-use Rattle.row_format.specs.Extents.{Extent, own}
-use Rattle.row_format.specs.Row.{onode}
-use Rattle.store_image.specs.Pages.{HasKey, IsPageAt, HasPage, pages_of}
+use Rattle.store_image.specs.Pages.{HasPage}
 use Rattle.store_image.specs.BadRows.{NoBadRow}
-use Rattle.store_image.specs.Owners.{Owner, page_of, Owns, IsDataUnit, IsOwned, IsMarked, IsLeaked, IsExactAs, HasSoleOwner}
-use Rattle.store_image.specs.Stands.{ObjectsStand}
+use Rattle.store_image.specs.Owners.{IsDataUnit, IsOwned, IsMarked, IsLeaked, IsExactAs, HasSoleOwner}
+use Rattle.store_image.specs.Stands.{ObjectsStand, IsShape}
 use Rattle.store_image.proofs.OwnedUnits.{objects_stand}
-use Rattle.store_image.proofs.PageMap.{in_place}
 use Rattle.row_facts.specs.Operations.{coll_change, coll_ops}
 use Rattle.row_facts.proofs.CollMade.{coll_good, coll_bits, coll_sole, coll_owned, coll_exact, coll_stands}
 use Rattle.row_facts.proofs.Lengths.{coll_fits, coll_short}
-use Rattle.bitmap_freelist.specs.Bitmap.{Has, AreAlikeButBits, ExactlyOne}
-use Rattle.bitmap_freelist.proofs.Alike.{flips_alike, alike_owns, alike_stand}
-use Rattle.bitmap_freelist.proofs.GoodBitmaps.{turned_good}
-use Rattle.bitmap_freelist.proofs.Records.{flips_fit, flips_size, flips_count}
-use Rattle.bitmap_freelist.proofs.Turning.{turn_their_units}
-use Rattle.blob_map.specs.Pages.{PageMap, with_pages}
-use Rattle.blob_map.specs.Normal.{extents_of}
 use Rattle.object_rows.specs.declared.plan.Plan.{Plan}
-use Rattle.object_rows.specs.Difference.{IsDifference}
-use Rattle.object_rows.specs.Layouts.{AreReplaced}
-use Rattle.object_rows.specs.Operations.{CanReplace, object_ops, replaced, Climb, KeysAscend}
-use Rattle.object_rows.specs.Maps.{IsMapWritten, CanWrite}
-use Rattle.object_rows.specs.Writes.{write_change, touch_change, missing, there, IsSizeOf, IsWritten, HoldPages, AreDistinct, StoodWritten}
-use Rattle.object_rows.specs.Plans.{new_pages, WritesPages, touch_ops}
-use Rattle.object_rows.specs.Planned.{pages_on, CanPlanWrite, HoldsFresh, IsFresh}
-use Rattle.object_rows.proofs.After.{are_then, has_shard, then_good, then_bits}
-use Rattle.object_rows.proofs.Between.{at_index, between_stood}
-use Rattle.object_rows.proofs.FewShards.{few_shards}
-use Rattle.object_rows.proofs.GoodPages.{owned_is_data}
-use Rattle.object_rows.proofs.KeyOrder.{with_flips_ascend}
-use Rattle.object_rows.proofs.Laid.{map_written}
-use Rattle.object_rows.proofs.Lengths.{object_ops_fit, length-object_ops}
-use Rattle.object_rows.proofs.Maps.{map_can_replace, map_is_written}
-use Rattle.object_rows.proofs.ObjectDifference.{IsNewShard, object_difference}
-use Rattle.object_rows.proofs.Ops.{all_append}
-use Rattle.object_rows.proofs.PagesOn.{all_at, ascending_distinct, fresh_there, held_at}
+use Rattle.object_rows.specs.Layouts.{made_of, is_moved}
+use Rattle.object_rows.specs.Operations.{KeysAscend}
+use Rattle.object_rows.specs.Writes.{write_change, touch_change}
+use Rattle.object_rows.specs.Plans.{WritesPages, touch_ops}
+use Rattle.object_rows.specs.Planned.{IsInColl, pages_on, CanPlanWrite, HoldsFresh, IsFresh, IsPlanned, makes_coll, StandsOnce, fresh_units, AreFresh, CanPlan, object_of, bytes_of, changes_object}
+use Rattle.object_rows.proofs.Between.{some_owned, some_once}
+use Rattle.object_rows.proofs.PagesOn.{all_at, fresh_there, fresh_all, units_of_pages}
 use Rattle.object_rows.proofs.Touched.{touch_good, touch_bits, touch_fits, touch_ascend, touch_short, touch_owned, touch_sole, touch_exact, touch_stand}
-use Rattle.object_rows.proofs.Units.{written_owned, written_sole, written_lost, written_released}
-use Rattle.object_rows.proofs.Wrote.{pages_stand}
+use Rattle.object_model.specs.Limits.{submitted_effect}
+use Rattle.row_facts.proofs.Replies.{coll_submitted, coll_made}
+use Rattle.object_rows.proofs.Replied.{touch_submitted, touch_ok, write_submitted, write_ok}
+use Rattle.object_model.specs.declared.op.Op.{Op}
+use Rattle.object_model.specs.declared.op.Op.TheVariants.{Touch, Write}
+use Rattle.object_rows.specs.declared.plan.FreshUnit.{FreshUnit}
+use Rattle.object_rows.proofs.WritePlan.{write_good, write_fits, write_order, write_short, write_stand, write_owned, write_taken, write_left, write_sole, write_gone, write_marked, write_exact}
+use Rattle.object_rows.proofs.PlanOps.{none_in, written_by, touched_by, coll_by}
 
--- ---- lists of none
-
-pub none_in : (v : ℕ) → ¬ Contains {X = ℕ} [] v
-none_in v k = omega (arith, k.1)
-
-pub none_fresh : (ops : List RowOp) (v : ℕ) → ¬ IsFresh (record { ops = ops; fresh = []; released = [] }) v
+none_fresh : (ops : List RowOp) (v : ℕ) → ¬ IsFresh (record { ops = ops; fresh = []; released = [] }) v
 none_fresh ops v f = omega (arith, f.2)
 
-pub climbs : (ps : List ℕ) → Ascends ps → Climb ps
-climbs [] order = tt
-climbs (p ∷ ps) order = (order.0, climbs ps order.1)
+-- an offset of a page's start
+at_start : (off : ℕ) → off % 4096 ≡ 0 → 4096 * (off / 4096) ≡ off
+at_start off start = omega (arith, start)
 
 -- ---- records
 
@@ -84,369 +58,161 @@ count_is number ops = ap units_for (length-record number ops)
 pub same_count : (number other : ℕ) (ops : List RowOp) → unit_count number ops ≡ unit_count other ops
 same_count number other ops = count_is number ops ∙ sym (count_is other ops)
 
--- ---- whole pages are written
+-- ---- where no row is bad
 
-module _ (s : Super) (rows : Rows) (c o : List ℕ) (first : ℕ) (bytes units : List ℕ) (ops : List RowOp) (released : List ℕ)
-    (can : CanPlanWrite s rows c o first bytes units) (w : WritesPages rows c o first bytes units ops released) where
-  abbrev pub size : ℕ
-  size = max w.before (4096 * (first + length units))
+-- What a plan of a transaction comes to where no row is bad: no row is bad after, the operations have spellings, are in the order of their keys
+-- and are short; who owns a unit then, and which are marked; and the rows stand for the objects after the transaction.
+pub record PlanFacts (s : Super) (rows : Rows) (change : Change) (plan : Plan) : Type 0 where
+  pub good : NoBadRow s (rows_after rows plan.ops)
+  pub fit : AllFit plan.ops
+  pub ascend : KeysAscend plan.ops
+  pub short : length (ops_bytes plan.ops) < 2 ^ 32
+  pub owned : (v : ℕ) → IsOwned (rows_after rows plan.ops) v → IsFresh plan v ⊎ IsOwned rows v
+  pub taken : (v : ℕ) → IsFresh plan v → IsOwned (rows_after rows plan.ops) v
+  pub left : (v : ℕ) → IsOwned rows v → IsOwned (rows_after rows plan.ops) v ⊎ Contains plan.released v
+  pub sole : (v : ℕ) → HasSoleOwner rows v → HasSoleOwner (rows_after rows plan.ops) v
+  pub gone : (v : ℕ) → HasSoleOwner rows v → Contains plan.released v → IsOwned (rows_after rows plan.ops) v → ⊥
+  pub exact : (leaves : Rows) → IsExactAs leaves rows → IsExactAs leaves (rows_after rows plan.ops)
+  pub marked : (v : ℕ) → v < 2 ^ 32 → IsMarked rows v → IsMarked (rows_after rows plan.ops) v ⊎ Contains plan.released v
+  pub stand : (at later_at : ℕ → List ℕ) (objects after : Objects) → HoldsFresh later_at plan → ((v : ℕ) → HasPage rows v → later_at v ≡ at v)
+      → ObjectsStand at rows objects → transaction_effect change objects ≡ Ok after → ObjectsStand later_at (rows_after rows plan.ops) after
 
-  abbrev pub new : PageMap
-  new = with_pages w.pages (new_pages first 0 units bytes)
+module _ (s : Super) (rows : Rows) (good : NoBadRow s rows) where
+  coll_facts : (c : List ℕ) → IsCollName c → PlanFacts s rows (coll_change c) (record { ops = coll_ops c; fresh = []; released = [] })
+  coll_facts c name = record {
+    good = coll_good rows c s name good;
+    fit = coll_fits c name;
+    ascend = (tt, tt);
+    short = omega (arith, coll_short c name);
+    owned = λ v is. inr ((coll_owned rows c v).0 is);
+    taken = λ v f. absurd (none_fresh (coll_ops c) v f);
+    left = λ v is. inl ((coll_owned rows c v).1 is);
+    sole = λ v. coll_sole rows c v;
+    gone = λ v sole k is. none_in v k;
+    exact = λ leaves. coll_exact rows c (IsLeaked leaves);
+    marked = λ v small is. inl ((coll_bits rows c v).1 is);
+    stand = λ at later_at objects after holds same stand is.
+        coll_stands later_at rows objects after c (objects_stand at later_at rows (λ unit has. sym (same unit has)) objects stand) is;
+  }
 
-  abbrev pub extents : List Extent
-  extents = extents_of (finite.entries new)
-
-  -- the object's operations come first, and those on the bitmap after them
-  abbrev pub first_ops : List RowOp
-  first_ops = object_ops rows c o size extents w.present
-
-  abbrev pub then : Rows
-  then = replaced rows c o size extents w.present
-
-  rows_are : rows_after rows ops ≡ rows_after then w.flips
-  rows_are = ap (rows_after rows) w.ops_are ∙ rows_after-append rows first_ops w.flips
-
-  alike : AreAlikeButBits then (rows_after rows ops)
-  alike = subst (AreAlikeButBits then) (sym rows_are) (flips_alike then w.turns.units w.flips w.turns.are_flips)
-
-  same_owns : (owner : Owner) (v : ℕ) → Owns then owner v ↔ Owns (rows_after rows ops) owner v
-  same_owns owner v = alike_owns then (rows_after rows ops) owner v alike
-
-  abbrev IsFreshOf : ℕ → Type 0
-  IsFreshOf v = Any (λ f. f.unit ≡ v) (pages_on units 0 bytes)
-
-  pub made : IsMapWritten w.pages new first bytes units
-  made = map_written first bytes w.pages units
-
-  distinct : AreDistinct units
-  distinct = ascending_distinct units can.fresh.ascend
-
-  pub free : (i : ℕ) → i < length units → ¬ IsOwned rows (slice_index units i)
-  free i lt = all_at (λ u. ¬ IsOwned rows u) units i can.fresh.free lt
-
-  -- the first page is another, since its unit is fresh
-  pub pages_change : ¬ (w.pages ≡ new)
-  pages_change same = free 0 can.some (
-    page_of c o (first + 0),
-    (
-      crc32c (unit_at 0 bytes),
-      (w.are_pages (first + 0) (own (slice_index units 0) (crc32c (unit_at 0 bytes)))).0
-      (ap (λ (m : PageMap). finite.get m (first + 0)) same ∙ made.inside 0 can.some),
-    ),
-  )
-
-  stood : (v : ℕ) → Contains released v ↔ StoodWritten rows c o first (length units) v
-  stood v = subst (λ us. Contains us v ↔ StoodWritten rows c o first (length units) v) (sym w.released_are)
-      (between_stood first (length units) rows c o w.pages w.are_pages v)
-
-  write_released : (v : ℕ) → Contains released v → IsOwned rows v
-  write_released v k = let x = (stood v).0 k in (page_of c o (first + x.index), x.owns)
-
-  -- the fresh units
-  fresh_is : (v : ℕ) → IsFreshOf v ↔ Contains units v
-  fresh_is v =
-      let there = fresh_there bytes units 0 v in
-      let listed = at_index units v in
-      (λ f. listed.1 (there.0 f), λ k. there.1 (listed.0 k))
-
-  fresh_all_are : (P : ℕ → Type 0) → AllByRecursion P units → (v : ℕ) → Contains units v → P v
-  fresh_all_are P all v k = let at = (at_index units v).0 k in subst P at.2 (all_at P units at.0 all at.1)
-
-  write_free : (v : ℕ) → IsFreshOf v → ¬ IsOwned rows v
-  write_free v f = fresh_all_are (λ u. ¬ IsOwned rows u) can.fresh.free v ((fresh_is v).0 f)
-
-  write_unmarked : (v : ℕ) → IsFreshOf v → ¬ IsMarked rows v
-  write_unmarked v f = fresh_all_are (λ u. ¬ IsMarked rows u) can.fresh.unmarked v ((fresh_is v).0 f)
-
-  -- a turned unit is fresh or released
-  turned_is : (v : ℕ) → Has w.turns.units v ↔ (IsFreshOf v ⊎ Contains released v)
-  turned_is v =
-      let are = w.turns.are_units v in (
-        λ has. elim (are.0 has) [ inl k ↦ inl ((fresh_is v).1 k) | inr k ↦ inr k ],
-        λ either. are.1 (elim either [ inl f ↦ inl ((fresh_is v).0 f) | inr k ↦ inr k ]),
-      )
-
-  fresh_held : (at : ℕ → List ℕ) → AllByRecursion (λ f. at f.unit ≡ f.bytes) (pages_on units 0 bytes) → (i : ℕ) → i < length units
-      → at (slice_index units i) ≡ unit_at i bytes
-  fresh_held at holds i lt = let own : 0 + i ≡ i = omega arith in held_at bytes at units 0 i holds lt ∙ ap (λ n. unit_at n bytes) own
-
-  module _ (good : NoBadRow s rows) where
-    size_most : (n : ℕ) → IsSizeOf rows c o n → n ≤ object_limit
-    size_most n (missing none) = omega arith
-    size_most n (there m has) = (in_place s rows (onode c o m) good has).1
-
-    can_write : CanWrite s rows c o first bytes units size w.present
-    can_write = record {
-      good = good;
-      coll_name = can.coll_name;
-      object_name = can.object_name;
-      has_collection = can.has_collection;
-      shards = w.are_shards;
-      some = can.some;
-      whole = can.whole;
-      before = w.before;
-      was_long = w.was_long;
-      size_is = refl;
-      size_most = omega (arith, size_most w.before w.was_long, can.whole, can.within);
-      units_most = can.units_most;
-      data_units = λ i lt. all_at (λ u. IsDataUnit s u) units i can.fresh.on_data lt;
-      csums_fit = can.csums_fit;
-    }
-
-    can_replace : CanReplace s rows c o size extents w.present
-    can_replace = map_can_replace s rows c o first bytes units size w.present can_write w.pages new w.are_pages made
-
-    is_written : IsWritten rows c o first bytes units size extents
-    is_written = map_is_written s rows c o first bytes units size w.present can_write w.pages new w.are_pages made
-
-    -- the new shard isn't the old one, for the same reason
-    new_shard : IsNewShard rows c o extents
-    new_shard page begins stands =
-        let row = has_shard rows then c o size extents can.coll_name can.object_name can_replace.size_most can_replace.fit
-        (are_then s rows c o size extents w.present can_replace) page begins in
-        let csum : ℕ = crc32c (unit_at 0 bytes) in
-        let at : IsPageAt rows c o (first + 0) (own (slice_index units 0) csum) = record {
-          first = page;
-          extents = extents;
-          has_shard = record { fits = row.fits; stands = stands };
-          has_page = is_written.inside 0 can.some;
-        } in
-        free 0 can.some (page_of c o (first + 0), (csum, at))
-
-    pub write_replaces : AreReplaced rows then c o size extents
-    write_replaces = are_then s rows c o size extents w.present can_replace
-
-    pub write_difference : IsDifference rows then first_ops
-    write_difference = object_difference rows c o s size extents w.present can_replace (climbs w.present w.in_order) w.there new_shard
-
-    turned_data : (v : ℕ) → Has w.turns.units v → IsDataUnit s v
-    turned_data v has = elim ((turned_is v).0 has) [
-      | inl f ↦ fresh_all_are (λ u. IsDataUnit s u) can.fresh.on_data v ((fresh_is v).0 f)
-      | inr k ↦ owned_is_data s rows v good (write_released v k)
-    ]
-
-    write_good : NoBadRow s (rows_after rows ops)
-    write_good = subst (NoBadRow s) (sym rows_are) (turned_good s then w.turns.units w.flips w.turns.are_flips turned_data
-        (then_good s rows c o size extents w.present can_replace))
-
-    write_fits : AllFit ops
-    write_fits = subst AllFit (sym w.ops_are) (all_append FitsRowOp first_ops w.flips (object_ops_fit s rows c o size extents w.present can_replace)
-        (flips_fit w.turns.units w.flips w.turns.are_flips))
-
-    write_order : KeysAscend ops
-    write_order = subst KeysAscend (sym w.ops_are) (with_flips_ascend s rows c o size extents w.present can_replace (climbs w.present w.in_order)
-        w.turns.units w.flips w.turns.are_flips)
-
-    write_short : length (ops_bytes ops) < 2 ^ 32
-    write_short =
-        let most : size ≤ object_limit = can_write.size_most in
-        let pages : pages_of size ≤ 32768 = omega (arith, most) in
-        let few = few_shards s rows c o good can.coll_name can.object_name w.before w.present w.was_long w.are_shards.below w.there w.in_order in
-        omega (
-          arith,
-          ap (λ x. length (ops_bytes x)) w.ops_are,
-          ap length (flat_map-append op_bytes first_ops w.flips),
-          length-append (ops_bytes first_ops) (ops_bytes w.flips),
-          length-object_ops s rows c o size extents w.present can_replace,
-          pages,
-          few,
-          flips_size w.turns.units w.flips w.turns.are_flips,
-          flips_count w.turns.units w.flips w.turns.are_flips,
-        )
-
-    write_stand : (at later_at : ℕ → List ℕ) (objects after : Objects) → AllByRecursion (λ f. later_at f.unit ≡ f.bytes) (pages_on units 0 bytes)
-        → ((v : ℕ) → HasPage rows v → later_at v ≡ at v) → ObjectsStand at rows objects
-        → transaction_effect (write_change c o first bytes) objects ≡ Ok after → ObjectsStand later_at (rows_after rows ops) after
-    write_stand at later_at objects after holds same stand is =
-        let hold : HoldPages at later_at rows bytes units = record { fresh = fresh_held later_at holds; kept = same } in
-        alike_stand later_at then (rows_after rows ops) after alike
-        (pages_stand s rows c o size extents w.present can_replace first bytes units is_written at later_at objects after hold stand is)
-
-    after_owned : (v : ℕ) → IsOwned (rows_after rows ops) v → IsOwned then v
-    after_owned v owned = (owned.0, (same_owns owned.0 v).1 owned.1)
-
-    owned_after : (v : ℕ) → IsOwned then v → IsOwned (rows_after rows ops) v
-    owned_after v owned = (owned.0, (same_owns owned.0 v).0 owned.1)
-
-    write_owned : (v : ℕ) → IsOwned (rows_after rows ops) v → IsFreshOf v ⊎ IsOwned rows v
-    write_owned v owned = elim ((written_owned s rows c o size extents w.present can_replace first bytes units is_written v).0 (after_owned v owned)) [
-      | inl f ↦ inl ((fresh_there bytes units 0 v).1 f)
-      | inr b ↦ inr (b.owner, b.owns)
-    ]
-
-    write_taken : (v : ℕ) → IsFreshOf v → IsOwned (rows_after rows ops) v
-    write_taken v f = owned_after v
-        ((written_owned s rows c o size extents w.present can_replace first bytes units is_written v).1 (inl ((fresh_there bytes units 0 v).0 f)))
-
-    write_left : (v : ℕ) → IsOwned rows v → IsOwned (rows_after rows ops) v ⊎ Contains released v
-    write_left v owned = elim (written_lost s rows c o size extents w.present can_replace first bytes units is_written v owned) [
-      | inl after ↦ inl (owned_after v after)
-      | inr x ↦ inr ((stood v).1 x)
-    ]
-
-    module _ (v : ℕ) (sole : HasSoleOwner rows v) where
-      write_sole : HasSoleOwner (rows_after rows ops) v
-      write_sole a b p q = written_sole s rows c o size extents w.present can_replace first bytes units is_written free v sole distinct a b
-          ((same_owns a v).1 p) ((same_owns b v).1 q)
-
-      write_gone : Contains released v → IsOwned (rows_after rows ops) v → ⊥
-      write_gone k owned = written_released s rows c o size extents w.present can_replace first bytes units is_written free v sole
-          ((stood v).0 k) (after_owned v owned)
-
-    -- ---- the bits
-
-    -- a unit is marked then where either it was, or it is fresh or released
-    write_bits : (v : ℕ) → v < 2 ^ 32 → IsMarked (rows_after rows ops) v ↔ ExactlyOne (IsMarked then v) (Has w.turns.units v)
-    write_bits v small = subst (λ r. IsMarked r v ↔ ExactlyOne (IsMarked then v) (Has w.turns.units v)) (sym rows_are)
-        (turn_their_units then w.turns.units w.flips w.turns.are_flips v small)
-
-    -- a marked one stays so, or it is released
-    write_marked : (v : ℕ) → v < 2 ^ 32 → IsMarked rows v → IsMarked (rows_after rows ops) v ⊎ Contains released v
-    write_marked v small marked =
-        let still = (then_bits s rows c o size extents w.present can_replace v).1 marked in
-        elim (cases_Bool (set.contains w.turns.units v)) [
-          | inl has ↦ elim ((turned_is v).0 has) [ inl f ↦ absurd (write_unmarked v f marked) | inr k ↦ inr k ]
-          | inr out ↦ inl ((write_bits v small).1 (inl (still, λ has. cc)))
-        ]
-
-    module _ (leaves : Rows) (exact : IsExactAs leaves rows) where
-      same_bits : (v : ℕ) → IsMarked then v ↔ IsMarked rows v
-      same_bits = then_bits s rows c o size extents w.present can_replace
-
-      marked_left : (v : ℕ) → v < 2 ^ 32 → IsMarked rows v → (Has w.turns.units v → ⊥) → IsMarked (rows_after rows ops) v
-      marked_left v small marked not_turned = (write_bits v small).1 (inl ((same_bits v).1 marked, not_turned))
-
-      -- a marked unit is owned or leaked
-      after_marked : (v : ℕ) → v < 2 ^ 32 → IsMarked (rows_after rows ops) v → IsOwned (rows_after rows ops) v ⊎ (IsLeaked leaves v × ¬ IsOwned (rows_after rows ops) v)
-      after_marked v small is = elim ((write_bits v small).0 is) [
-        | inl left ↦ elim (exact.marked v small ((same_bits v).0 left.0)) [
-          | inl owned ↦ elim (write_left v owned) [
-            | inl after ↦ inl after
-            | inr k ↦ absurd (left.1 ((turned_is v).1 (inr k)))
-          ]
-          | inr leaked ↦ inr (
-            leaked.0,
-            λ after. elim (write_owned v after) [
-              | inl f ↦ write_unmarked v f ((same_bits v).0 left.0)
-              | inr owned ↦ leaked.1 owned
-            ],
-          )
-        ]
-        | inr turned ↦ elim ((turned_is v).0 turned.1) [
-          | inl f ↦ inl (write_taken v f)
-          | inr k ↦ absurd (turned.0 ((same_bits v).1 (exact.owned_marked v (write_released v k))))
-        ]
-      ]
-
-      -- an owned one is marked
-      after_owned_marked : (v : ℕ) → IsOwned (rows_after rows ops) v → IsMarked (rows_after rows ops) v
-      after_owned_marked v is =
-          let small : v < 2 ^ 32 = omega (arith, (owned_is_data s (rows_after rows ops) v write_good is).1, can.units_most) in
-          elim (write_owned v is) [
-            | inl f ↦ (write_bits v small).1 (inr ((λ marked. write_unmarked v f ((same_bits v).0 marked)), (turned_is v).1 (inl f)))
-            | inr owned ↦ marked_left v small (exact.owned_marked v owned) (λ has. elim ((turned_is v).0 has) [
-              | inl f ↦ write_free v f owned
-              | inr k ↦ write_gone v (exact.one_owner v) k is
-            ])
-          ]
-
-      write_exact : IsExactAs leaves (rows_after rows ops)
-      write_exact = record {
-        marked = after_marked;
-        owned_marked = after_owned_marked;
-        one_owner = λ v. write_sole v (exact.one_owner v);
+  touch_facts : (c o : List ℕ) → IsInColl c o rows
+      → PlanFacts s rows (touch_change c o) (record { ops = touch_ops rows c o; fresh = []; released = [] })
+  touch_facts c o can =
+      let coll = can.coll_named in
+      let name = can.named in
+      let has = can.there in
+      record {
+        good = touch_good s rows c o coll name has good;
+        fit = touch_fits s rows c o coll name has good;
+        ascend = touch_ascend s rows c o coll name has good;
+        short = touch_short s rows c o coll name has good;
+        owned = λ v is. inr ((touch_owned s rows c o coll name has good v).0 is);
+        taken = λ v f. absurd (none_fresh (touch_ops rows c o) v f);
+        left = λ v is. inl ((touch_owned s rows c o coll name has good v).1 is);
+        sole = λ v. touch_sole s rows c o coll name has good v;
+        gone = λ v sole k is. none_in v k;
+        exact = λ leaves. touch_exact s rows c o coll name has good (IsLeaked leaves);
+        marked = λ v small is. inl ((touch_bits s rows c o coll name has good v).1 is);
+        stand = λ at later_at objects after holds. touch_stand s rows c o coll name has good at later_at objects after;
       }
 
--- ---- plans
-
--- a plan by its operations
-pub data PlannedOps (s : Super) (rows : Rows) : Change → Plan → Type 0 where
-  made_coll : (c : List ℕ) → IsCollName c → PlannedOps s rows (coll_change c) (record { ops = coll_ops c; fresh = []; released = [] })
-  touches : (c o : List ℕ) → IsCollName c → IsName o → HasKey rows (coll_key c)
-      → PlannedOps s rows (touch_change c o) (record { ops = touch_ops rows c o; fresh = []; released = [] })
-  writes : (c o : List ℕ) (first : ℕ) (bytes units : List ℕ) (ops : List RowOp) (released : List ℕ)
-      → CanPlanWrite s rows c o first bytes units → WritesPages rows c o first bytes units ops released
-      → PlannedOps s rows (write_change c o first bytes) (record { ops = ops; fresh = pages_on units 0 bytes; released = released })
+  module _ (c o : List ℕ) (first : ℕ) (bytes units : List ℕ) (ops : List RowOp) (released : List ℕ)
+      (can : CanPlanWrite s rows c o first bytes units) (w : WritesPages rows c o first bytes units ops released) where
+    write_facts : PlanFacts s rows (write_change c o first bytes) (record { ops = ops; fresh = pages_on units 0 bytes; released = released })
+    write_facts = record {
+      good = write_good s rows c o first bytes units ops released can w good;
+      fit = write_fits s rows c o first bytes units ops released can w good;
+      ascend = write_order s rows c o first bytes units ops released can w good;
+      short = write_short s rows c o first bytes units ops released can w good;
+      owned = write_owned s rows c o first bytes units ops released can w good;
+      taken = write_taken s rows c o first bytes units ops released can w good;
+      left = write_left s rows c o first bytes units ops released can w good;
+      sole = write_sole s rows c o first bytes units ops released can w good;
+      gone = write_gone s rows c o first bytes units ops released can w good;
+      exact = write_exact s rows c o first bytes units ops released can w good;
+      marked = write_marked s rows c o first bytes units ops released can w good;
+      stand = write_stand s rows c o first bytes units ops released can w good;
+    }
 
 module _ (s : Super) (rows : Rows) where
-  pub planned_good : {change : Change} {plan : Plan} → PlannedOps s rows change plan → NoBadRow s rows → NoBadRow s (rows_after rows plan.ops)
-  planned_good (made_coll c name) good = coll_good rows c s name good
-  planned_good (touches c o coll name has) good = touch_good s rows c o coll name has good
-  planned_good (writes c o first bytes units ops released can w) good = write_good s rows c o first bytes units ops released can w good
+  -- the operations are those that are known of each, since there is one difference
+  pub plan_facts : {change : Change} {plan : Plan} → IsPlanned s rows change plan → NoBadRow s rows → PlanFacts s rows change plan
+  plan_facts (makes_coll c plan name none p) good = subst (PlanFacts s rows (coll_change c)) (coll_by rows c plan none p) (coll_facts s rows good c name)
+  plan_facts (changes_object c (Touch o) units x plan can has p fresh) good = subst (PlanFacts s rows (touch_change c o))
+      (touched_by s rows c o can.0.coll_named can.0.named can.0.there good units x plan can.1 has p fresh)
+      (touch_facts s rows good c o can.0)
+  plan_facts (changes_object c (Write o off bytes) units x plan can has p fresh) good =
+      subst (λ (n : ℕ). PlanFacts s rows (record { coll = c; ops = Write o n bytes ∷ [] }) plan) (at_start off can.0)
+      (subst (λ (fs : List FreshUnit). PlanFacts s rows (write_change c o (off / 4096) bytes)
+      (record { ops = plan.ops; fresh = fs; released = plan.released })) (sym fresh)
+      (write_facts s rows good c o (off / 4096) bytes units plan.ops plan.released can.1
+      (written_by s rows c o off bytes units can.0 can.1 good x plan has p)))
+  plan_facts (changes_object c op units x plan can has p fresh) good = absurd can
 
-  pub planned_stand : {change : Change} {plan : Plan} (at later_at : ℕ → List ℕ) (objects after : Objects) → PlannedOps s rows change plan
+  -- ---- whatever the rows are
+
+  fresh_of : (c : List ℕ) (op : Op) (units : List ℕ) → CanPlan s rows c op units → AreFresh s rows units
+  fresh_of c (Touch o) units can = subst (AreFresh s rows) (sym can.1) (record { ascend = tt; on_data = tt; free = tt; unmarked = tt; fit = tt })
+  fresh_of c (Write o off bytes) units can = can.1.fresh
+  fresh_of c op units can = absurd can
+
+  whole_of : (c : List ℕ) (op : Op) (units : List ℕ) → CanPlan s rows c op units → length (bytes_of op) ≡ 4096 * length units
+  whole_of c (Touch o) units can = omega (arith, ap length can.1)
+  whole_of c (Write o off bytes) units can = can.1.whole
+  whole_of c op units can = absurd can
+
+  pub planned_ok : {change : Change} {plan : Plan} (objects : Objects) → IsPlanned s rows change plan → IsShape rows objects
+      → IsOk (submitted_effect change objects)
+  planned_ok objects (makes_coll c plan name none p) shape = ap is_ok (coll_submitted objects c ∙ coll_made rows objects shape c none)
+  planned_ok objects (changes_object c (Touch o) units x plan can has p fresh) shape = touch_ok rows objects c o shape can.0.there
+  planned_ok objects (changes_object c (Write o off bytes) units x plan can has p fresh) shape =
+      subst (λ (n : ℕ). IsOk (submitted_effect (record { coll = c; ops = Write o n bytes ∷ [] }) objects)) (at_start off can.0)
+      (write_ok rows objects c o shape (off / 4096) bytes can.1.short can.1.has_collection can.1.within)
+  planned_ok objects (changes_object c op units x plan can has p fresh) shape = absurd can
+
+  pub planned_effect : {change : Change} {plan : Plan} (objects : Objects) → IsPlanned s rows change plan
+      → submitted_effect change objects ≡ transaction_effect change objects
+  planned_effect objects (makes_coll c plan name none p) = coll_submitted objects c
+  planned_effect objects (changes_object c (Touch o) units x plan can has p fresh) = touch_submitted objects c o
+  planned_effect objects (changes_object c (Write o off bytes) units x plan can has p fresh) =
+      subst (λ (n : ℕ). let change : Change = record { coll = c; ops = Write o n bytes ∷ [] } in
+      submitted_effect change objects ≡ transaction_effect change objects) (at_start off can.0)
+      (write_submitted objects c o (off / 4096) bytes can.1.short)
+  planned_effect objects (changes_object c op units x plan can has p fresh) = absurd can
+
+  pub planned_fresh : {change : Change} {plan : Plan} → IsPlanned s rows change plan
+      → AllByRecursion (λ f. IsDataUnit s f.unit × ¬ IsOwned rows f.unit × (length f.bytes ≡ 4096)) plan.fresh
+  planned_fresh (makes_coll c plan name none p) =
+      subst (AllByRecursion (λ f. IsDataUnit s f.unit × ¬ IsOwned rows f.unit × (length f.bytes ≡ 4096))) (sym p.none_fresh) tt
+  planned_fresh (changes_object c op units x plan can has p fresh) =
+      let f = fresh_of c op units can in
+      subst (AllByRecursion (λ f. IsDataUnit s f.unit × ¬ IsOwned rows f.unit × (length f.bytes ≡ 4096))) (sym fresh)
+      (fresh_all (bytes_of op) s rows units 0 f.on_data f.free (omega (arith, whole_of c op units can)))
+
+  pub planned_ascend : {change : Change} {plan : Plan} → IsPlanned s rows change plan → Ascends (fresh_units plan)
+  planned_ascend (makes_coll c plan name none p) = subst (λ (fs : List FreshUnit). Ascends (map (λ f. f.unit) fs)) (sym p.none_fresh) tt
+  planned_ascend (changes_object c op units x plan can has p fresh) =
+      subst Ascends (sym (ap (map (λ (f : FreshUnit). f.unit)) fresh ∙ units_of_pages (bytes_of op) units 0)) (fresh_of c op units can).ascend
+
+  pub planned_unmarked : {change : Change} {plan : Plan} (v : ℕ) → IsPlanned s rows change plan → IsFresh plan v → ¬ IsMarked rows v
+  planned_unmarked v (makes_coll c plan name none p) f = absurd (omega (arith, f.2, ap length p.none_fresh))
+  planned_unmarked v (changes_object c op units x plan can has p fresh) f =
+      let at = (fresh_there (bytes_of op) units 0 v).0 (subst (Any (λ g. g.unit ≡ v)) fresh f) in
+      subst (λ u. ¬ IsMarked rows u) at.2 (all_at (λ u. ¬ IsMarked rows u) units at.0 (fresh_of c op units can).unmarked at.1)
+
+  -- a page of the object stands on a unit that is released
+  pub planned_released : {change : Change} {plan : Plan} (v : ℕ) → IsPlanned s rows change plan → Contains plan.released v → IsOwned rows v
+  planned_released v (makes_coll c plan name none p) k = absurd (none_in v (subst (λ us. Contains us v) p.none_released k))
+  planned_released v (changes_object c op units x plan can has p fresh) k =
+      some_owned (is_moved x.pages (made_of op units x).pages) rows c (object_of op) x.pages has.are_pages v
+      (subst (λ us. Contains us v) p.released_are k)
+
+  pub planned_once : {change : Change} {plan : Plan} (v : ℕ) → IsPlanned s rows change plan → HasSoleOwner rows v → StandsOnce plan.released v
+  planned_once v (makes_coll c plan name none p) sole = λ i j in_i in_j at same. absurd (omega (arith, in_i, ap length p.none_released))
+  planned_once v (changes_object c op units x plan can has p fresh) sole = subst (λ us. StandsOnce us v) (sym p.released_are)
+      (some_once (is_moved x.pages (made_of op units x).pages) rows c (object_of op) x.pages has.are_pages v sole)
+
+  pub planned_stand : {change : Change} {plan : Plan} (at later_at : ℕ → List ℕ) (objects after : Objects) → IsPlanned s rows change plan
       → NoBadRow s rows → HoldsFresh later_at plan → ((unit : ℕ) → HasPage rows unit → later_at unit ≡ at unit)
       → ObjectsStand at rows objects → transaction_effect change objects ≡ Ok after → ObjectsStand later_at (rows_after rows plan.ops) after
-  planned_stand at later_at objects after (made_coll c name) good holds same stand is =
-      coll_stands later_at rows objects after c (objects_stand at later_at rows (λ unit has. sym (same unit has)) objects stand) is
-  planned_stand at later_at objects after (touches c o coll name has) good holds same stand is =
-      touch_stand s rows c o coll name has good at later_at objects after same stand is
-  planned_stand at later_at objects after (writes c o first bytes units ops released can w) good holds same stand is =
-      write_stand s rows c o first bytes units ops released can w good at later_at objects after holds same stand is
-
-  pub planned_fits : {change : Change} {plan : Plan} → PlannedOps s rows change plan → NoBadRow s rows → AllFit plan.ops
-  planned_fits (made_coll c name) good = coll_fits c name
-  planned_fits (touches c o coll name has) good = touch_fits s rows c o coll name has good
-  planned_fits (writes c o first bytes units ops released can w) good = write_fits s rows c o first bytes units ops released can w good
-
-  pub planned_order : {change : Change} {plan : Plan} → PlannedOps s rows change plan → NoBadRow s rows → KeysAscend plan.ops
-  planned_order (made_coll c name) good = (tt, tt)
-  planned_order (touches c o coll name has) good = touch_ascend s rows c o coll name has good
-  planned_order (writes c o first bytes units ops released can w) good = write_order s rows c o first bytes units ops released can w good
-
-  pub planned_short : {change : Change} {plan : Plan} → PlannedOps s rows change plan → NoBadRow s rows → length (ops_bytes plan.ops) < 2 ^ 32
-  planned_short (made_coll c name) good = omega (arith, coll_short c name)
-  planned_short (touches c o coll name has) good = touch_short s rows c o coll name has good
-  planned_short (writes c o first bytes units ops released can w) good = write_short s rows c o first bytes units ops released can w good
-
-  pub planned_owned : {change : Change} {plan : Plan} (v : ℕ) → PlannedOps s rows change plan → NoBadRow s rows
-      → IsOwned (rows_after rows plan.ops) v → IsFresh plan v ⊎ IsOwned rows v
-  planned_owned v (made_coll c name) good owned = inr ((coll_owned rows c v).0 owned)
-  planned_owned v (touches c o coll name has) good owned = inr ((touch_owned s rows c o coll name has good v).0 owned)
-  planned_owned v (writes c o first bytes units ops released can w) good owned =
-      write_owned s rows c o first bytes units ops released can w good v owned
-
-  pub planned_taken : {change : Change} {plan : Plan} (v : ℕ) → PlannedOps s rows change plan → NoBadRow s rows
-      → IsFresh plan v → IsOwned (rows_after rows plan.ops) v
-  planned_taken v (made_coll c name) good f = absurd (none_fresh (coll_ops c) v f)
-  planned_taken v (touches c o coll name has) good f = absurd (none_fresh (touch_ops rows c o) v f)
-  planned_taken v (writes c o first bytes units ops released can w) good f = write_taken s rows c o first bytes units ops released can w good v f
-
-  pub planned_left : {change : Change} {plan : Plan} (v : ℕ) → PlannedOps s rows change plan → NoBadRow s rows
-      → IsOwned rows v → IsOwned (rows_after rows plan.ops) v ⊎ Contains plan.released v
-  planned_left v (made_coll c name) good owned = inl ((coll_owned rows c v).1 owned)
-  planned_left v (touches c o coll name has) good owned = inl ((touch_owned s rows c o coll name has good v).1 owned)
-  planned_left v (writes c o first bytes units ops released can w) good owned =
-      write_left s rows c o first bytes units ops released can w good v owned
-
-  -- ---- a unit that hasn't two owners
-
-  pub planned_sole : {change : Change} {plan : Plan} (v : ℕ) → PlannedOps s rows change plan → NoBadRow s rows
-      → HasSoleOwner rows v → HasSoleOwner (rows_after rows plan.ops) v
-  planned_sole v (made_coll c name) good sole = coll_sole rows c v sole
-  planned_sole v (touches c o coll name has) good sole = touch_sole s rows c o coll name has good v sole
-  planned_sole v (writes c o first bytes units ops released can w) good sole = write_sole s rows c o first bytes units ops released can w good v sole
-
-  pub planned_gone : {change : Change} {plan : Plan} (v : ℕ) → PlannedOps s rows change plan → NoBadRow s rows
-      → HasSoleOwner rows v → Contains plan.released v → IsOwned (rows_after rows plan.ops) v → ⊥
-  planned_gone v (made_coll c name) good sole k owned = none_in v k
-  planned_gone v (touches c o coll name has) good sole k owned = none_in v k
-  planned_gone v (writes c o first bytes units ops released can w) good sole k owned =
-      write_gone s rows c o first bytes units ops released can w good v sole k owned
-
-  -- ---- the bitmap
-
-  pub planned_exact : {change : Change} {plan : Plan} (leaves : Rows) → PlannedOps s rows change plan → NoBadRow s rows
-      → IsExactAs leaves rows → IsExactAs leaves (rows_after rows plan.ops)
-  planned_exact leaves (made_coll c name) good exact = coll_exact rows c (IsLeaked leaves) exact
-  planned_exact leaves (touches c o coll name has) good exact = touch_exact s rows c o coll name has good (IsLeaked leaves) exact
-  planned_exact leaves (writes c o first bytes units ops released can w) good exact =
-      write_exact s rows c o first bytes units ops released can w good leaves exact
-
-  pub planned_marked : {change : Change} {plan : Plan} (v : ℕ) → PlannedOps s rows change plan → NoBadRow s rows → v < 2 ^ 32
-      → IsMarked rows v → IsMarked (rows_after rows plan.ops) v ⊎ Contains plan.released v
-  planned_marked v (made_coll c name) good small marked = inl ((coll_bits rows c v).1 marked)
-  planned_marked v (touches c o coll name has) good small marked = inl ((touch_bits s rows c o coll name has good v).1 marked)
-  planned_marked v (writes c o first bytes units ops released can w) good small marked =
-      write_marked s rows c o first bytes units ops released can w good v small marked
+  planned_stand at later_at objects after is good = (plan_facts is good).stand at later_at objects after

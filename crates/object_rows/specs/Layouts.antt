@@ -1,5 +1,5 @@
 -- Objects as rows say them, what an operation makes of one, and the rows then.
-use Rattle.std.specs.Prelude.{◌≡◌, ◌⊎◌, ℕ, ◌+◌, ◌/◌, ◌<◌, ◌^◌, ◌==◌, ◌&&◌, max, not, Bool, true, false, List, ◌++◌, length, Option, Some, None}
+use Rattle.std.specs.Prelude.{◌≡◌, ◌⊎◌, ℕ, ◌+◌, ◌/◌, ◌<◌, ◌^◌, ◌==◌, ◌&&◌, max, not, Bool, true, false, List, [], ◌++◌, length, Option, Some, None}
 use Rattle.std.specs.List.{flat_map}
 use Rattle.std.specs.Int.{w64, to_le_bytes}
 use Rattle.std.specs.Ordering.{nat_cmp}
@@ -9,7 +9,7 @@ use Rattle.meta_rows.specs.Rows.{Rows}
 use Rattle.meta_rows.specs.declared.row_op.RowOp.{RowOp}
 use Rattle.object_model.specs.declared.op.Op.{Op}
 use Rattle.object_model.specs.declared.op.Op.TheVariants.{Write}
-use Rattle.row_format.specs.Keys.{onode_key, shard_key}
+use Rattle.row_format.specs.Keys.{coll_key, onode_key, shard_key}
 use Rattle.row_format.specs.Extents.{Extent, Place, own, extent_bytes, BeginsAt}
 use Rattle.store_image.specs.Pages.{HasKey}
 use Rattle.blob_map.specs.Pages.{PageMap, with_pages}
@@ -73,9 +73,15 @@ pub data GetsLayout (rows : Rows) (c o : List ℕ) (x y : Layout) : Rows → Typ
   replaces : (after : Rows) → (finite.get rows (onode_key c o) ≡ None) ⊎ (¬ (x ≡ y))
       → AreReplaced rows after c o y.size (extents_of (finite.entries y.pages)) → GetsLayout rows c o x y after
 
+-- The plan puts in the row of a collection: its operations are the difference of the rows, and it takes no unit and releases none.
+pub record MakesColl (rows : Rows) (c : List ℕ) (plan : Plan) : Type 0 where
+  pub is_difference : IsDifference rows (finite.insert rows (coll_key c) []) plan.ops
+  pub none_fresh : plan.fresh ≡ []
+  pub none_released : plan.released ≡ []
+
 -- The plan turns the one layout into the other, on these units: its operations are the difference of the rows, and behind it those that turn
 -- the bits of the units that are taken and of those that are left, whose keys are behind all others.
-pub record PlansLayout (rows : Rows) (c o : List ℕ) (x y : Layout) (units : List ℕ) (plan : Plan) : Type 0 where
+pub record MakesLayout (rows : Rows) (c o : List ℕ) (x y : Layout) (units : List ℕ) (plan : Plan) : Type 0 where
   pub after : Rows
   pub gets : GetsLayout rows c o x y after
   pub difference : List RowOp

@@ -5,7 +5,6 @@ use Rattle.std.specs.FinMap as finite
 use Rattle.byte_maps.specs.Units.{unit_at}
 use Rattle.crc32c_csum.specs.Crc32c.{crc32c}
 use Rattle.meta_rows.specs.Rows.{Rows}
-use Rattle.meta_rows.specs.declared.row_op.RowOp.{RowOp}
 use Rattle.meta_log.specs.declared.slot.Super.{Super}
 use Rattle.object_model.specs.declared.op.Op.{Op}
 use Rattle.object_model.specs.declared.op.Op.TheVariants.{Touch, Write}
@@ -19,8 +18,7 @@ use Rattle.store_image.specs.Owners.{IsDataUnit, IsOwned, IsMarked}
 use Rattle.row_facts.specs.Operations.{coll_change}
 use Rattle.object_rows.specs.declared.plan.FreshUnit.{FreshUnit}
 use Rattle.object_rows.specs.declared.plan.Plan.{Plan}
-use Rattle.object_rows.specs.Difference.{IsDifference}
-use Rattle.object_rows.specs.Layouts.{Layout, HasLayout, made_of, PlansLayout}
+use Rattle.object_rows.specs.Layouts.{Layout, HasLayout, made_of, MakesColl, MakesLayout}
 
 -- the units, each with its page of the bytes, from one on
 abbrev pub pages_on : List ℕ → ℕ → List ℕ → List FreshUnit
@@ -49,15 +47,15 @@ pub record CanPlanWrite (s : Super) (rows : Rows) (c o : List ℕ) (first : ℕ)
   pub within : 4096 * first + length bytes ≤ object_limit
   pub csums_fit : (i : ℕ) → i < length units → crc32c (unit_at i bytes) < 2 ^ 32
 
--- names, and a collection that the rows have: the object can be touched
-pub record CanPlanTouch (rows : Rows) (c o : List ℕ) : Type 0 where
-  pub coll_name : IsCollName c
-  pub object_name : IsName o
-  pub has_collection : HasKey rows (coll_key c)
+-- the object's collection is there, and both names are names
+pub record IsInColl (c o : List ℕ) (rows : Rows) : Type 0 where
+  pub coll_named : IsCollName c
+  pub named : IsName o
+  pub there : HasKey rows (coll_key c)
 
 -- what an operation on an object needs of the rows and of the units that it takes
 abbrev pub CanPlan : Super → Rows → List ℕ → Op → List ℕ → Type 0
-CanPlan s rows c (Touch o) units = CanPlanTouch rows c o × (units ≡ [])
+CanPlan s rows c (Touch o) units = IsInColl c o rows × (units ≡ [])
 CanPlan s rows c (Write o off bytes) units = (off % 4096 ≡ 0) × CanPlanWrite s rows c o (off / 4096) bytes units
 CanPlan s rows c op units = ⊥
 
@@ -74,11 +72,10 @@ bytes_of op = []
 
 -- Over these rows the transaction may be turned into this: the row of a missing collection, or what an operation makes of its object.
 pub data IsPlanned (s : Super) (rows : Rows) : Change → Plan → Type 0 where
-  makes_coll : (c : List ℕ) (ops : List RowOp) → IsCollName c → finite.get rows (coll_key c) ≡ None
-      → IsDifference rows (finite.insert rows (coll_key c) []) ops
-      → IsPlanned s rows (coll_change c) (record { ops = ops; fresh = []; released = [] })
+  makes_coll : (c : List ℕ) (plan : Plan) → IsCollName c → finite.get rows (coll_key c) ≡ None → MakesColl rows c plan
+      → IsPlanned s rows (coll_change c) plan
   changes_object : (c : List ℕ) (op : Op) (units : List ℕ) (x : Layout) (plan : Plan) → CanPlan s rows c op units → HasLayout rows c (object_of op) x
-      → PlansLayout rows c (object_of op) x (made_of op units x) units plan → plan.fresh ≡ pages_on units 0 (bytes_of op)
+      → MakesLayout rows c (object_of op) x (made_of op units x) units plan → plan.fresh ≡ pages_on units 0 (bytes_of op)
       → IsPlanned s rows (record { coll = c; ops = op ∷ [] }) plan
 
 -- the fresh units hold their bytes

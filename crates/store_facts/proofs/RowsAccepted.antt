@@ -9,7 +9,7 @@ use Rattle.object_model.specs.Effect.{Change}
 use Rattle.store_image.specs.Owners.{IsDataUnit, IsOwned, IsMarked}
 use Rattle.object_rows.specs.declared.plan.Plan.{Plan}
 use Rattle.object_rows.specs.Planned.{IsPlanned, StandsOnce}
-use Rattle.object_rows.proofs.Planned.{planned_good, planned_exact, planned_gone, planned_marked, planned_once, planned_left, planned_taken, planned_owned, planned_released, planned_fresh, planned_unmarked}
+use Rattle.object_rows.proofs.Planned.{PlanFacts, plan_facts, planned_once, planned_released, planned_fresh, planned_unmarked}
 use Rattle.unit_allocator.specs.Units.{Space, is_free, taken}
 use Rattle.store_steps.specs.declared.context.Context.{Context}
 use Rattle.store_steps.specs.State.{Batch, State}
@@ -35,18 +35,21 @@ module _ (s : Super) (rows : Rows) (space : Space) (limits : IsSuper s) (good : 
   abbrev left : Space
   left = taken space fresh
 
+  facts : PlanFacts s rows change plan
+  facts = plan_facts s rows is good.good
+
   good_after : AreGoodRows s rows after
-  good_after = record { good = planned_good s rows is good.good; exact = planned_exact s rows rows is good.good good.exact }
+  good_after = record { good = facts.good; exact = facts.exact rows good.exact }
 
   fresh_data : AreData s fresh
   fresh_data v c = (fresh_has s rows plan.fresh v (planned_fresh s rows is) c).0
 
   -- the fresh units have an owner after
   fresh_owned : (v : ℕ) → Contains fresh v → IsOwned after v
-  fresh_owned v c = planned_taken s rows v is good.good (listed_fresh plan.fresh v c)
+  fresh_owned v c = facts.taken v (listed_fresh plan.fresh v c)
 
   owned_cases : (v : ℕ) → IsOwned after v → Contains fresh v ⊎ IsOwned rows v
-  owned_cases v owned = elim (planned_owned s rows v is good.good owned) [
+  owned_cases v owned = elim (facts.owned v owned) [
     | inl any ↦ inl (fresh_listed plan.fresh v any)
     | inr old ↦ inr old
   ]
@@ -78,11 +81,11 @@ module _ (s : Super) (rows : Rows) (space : Space) (limits : IsSuper s) (good : 
       let released : flat_map (λ y. y.released) (x ∷ []) ≡ plan.released = one_list (λ y. y.released) x ∙ released_is in
       let taken_units : flat_map (λ y. units_of y.fresh) (x ∷ []) ≡ fresh = one_list (λ y. units_of y.fresh) x ∙ ap units_of fresh_is in
       record {
-        owned = λ v owned. subst (λ us. IsOwned after v ⊎ Contains us v) (sym released) (planned_left s rows v is good.good owned);
-        marked = λ v small was. subst (λ us. IsMarked after v ⊎ Contains us v) (sym released) (planned_marked s rows v is good.good small was);
+        owned = λ v owned. subst (λ us. IsOwned after v ⊎ Contains us v) (sym released) (facts.left v owned);
+        marked = λ v small was. subst (λ us. IsMarked after v ⊎ Contains us v) (sym released) (facts.marked v small was);
         released_was = λ v c. planned_released s rows v is (subst (λ us. Contains us v) released c);
         released_is_not = λ v c owned.
-            planned_gone s rows v is good.good (good.exact.one_owner v) (subst (λ us. Contains us v) released c) owned;
+            facts.gone v (good.exact.one_owner v) (subst (λ us. Contains us v) released c) owned;
         taken_was_not = λ v c. planned_unmarked s rows v is (listed_fresh plan.fresh v (subst (λ us. Contains us v) taken_units c));
         taken_is = λ v c. fresh_owned v (subst (λ us. Contains us v) taken_units c);
         new = λ v owned. elim (owned_cases v owned) [ inl c ↦ inr (subst (λ us. Contains us v) (sym taken_units) c) | inr old ↦ inl old ];

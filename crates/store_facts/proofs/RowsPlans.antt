@@ -1,28 +1,31 @@
 -- What the plan of a transaction takes of the free units, and that it is one of those that good rows stay good by.
-use Rattle.std.proofs.Common.{◌≡◌, inl, inr, ℕ, zero, suc, ◌+◌, ◌*◌, ◌/◌, ◌<◌, ◌≤◌, ◌^◌, true, List, [], ◌∷◌, length, map, take, get_or, Contains, refl, sym, ap, subst, ◌∙◌, arith}
+use Rattle.std.proofs.Common.{◌≡◌, inl, inr, ℕ, zero, suc, ◌+◌, ◌/◌, ◌<◌, ◌≤◌, ◌^◌, true, List, [], ◌∷◌, length, map, take, get_or, Contains, refl, sym, ap, subst, ◌∙◌, arith}
 use Rattle.std.specs.List.{AllByRecursion, Any}
 use Rattle.std.proofs.lemmas.List.{length-map, length-take-le}
+use Rattle.byte_maps.specs.Units.{unit_at}
+use Rattle.crc32c_csum.specs.Crc32c.{crc32c}
 use Rattle.meta_rows.specs.Rows.{Rows}
 use Rattle.meta_rows.specs.Spelling.{ops_bytes, AllFit}
 use Rattle.meta_log.specs.declared.slot.Super.{Super}
 use Rattle.meta_log.specs.Records.{unit_count}
 use Rattle.meta_log.specs.Slots.{IsSuper}
+use Rattle.object_model.specs.Effect.{object_limit}
+use Rattle.object_model.specs.Limits.{payload_limit}
 use Rattle.object_model.specs.declared.op.Op.{Op}
 use Rattle.object_model.specs.declared.op.Op.TheVariants.{MkColl, Touch, Write}
 use Rattle.unit_fields.specs.UnitSet.{Ascends}
 use Rattle.store_image.specs.BadRows.{NoBadRow}
 use Rattle.store_image.specs.Owners.{IsDataUnit, IsOwned, IsMarked}
-use Rattle.row_facts.specs.Operations.{coll_change}
 use Rattle.object_rows.specs.declared.plan.FreshUnit.{FreshUnit}
 use Rattle.object_rows.specs.declared.plan.Plan.{Plan}
-use Rattle.object_rows.specs.Writes.{write_change, touch_change}
 use Rattle.object_rows.specs.Planned as planned_as
+use Rattle.object_rows.specs.Planned.{bytes_of}
 use Rattle.object_rows.proofs.PagesOn.{units_of_pages}
-use Rattle.object_rows.proofs.Planned.{planned_fits, planned_short, planned_fresh, planned_ascend, same_count}
+use Rattle.object_rows.proofs.Planned.{plan_facts, planned_fresh, planned_ascend, same_count}
 use Rattle.unit_allocator.specs.Units.{Space, IsWithin, is_free, free_units}
 use Rattle.unit_allocator.proofs.Lists.{Contains-head, Contains-tail, Contains-cases}
 use Rattle.unit_allocator.proofs.FreeUnits.{listed_is_free, free_units_ascend}
-use Rattle.store_steps.specs.Planning.{PlansPages, Plans, units_taken}
+use Rattle.store_steps.specs.Planning.{PlansObject, Plans, units_taken}
 use Rattle.store_steps.specs.Submit.{IsKnown}
 use Rattle.store_facts.specs.Space.{AreGoodRows, IsSpaceOf, IsFreeExactly}
 use Rattle.store_facts.proofs.SpaceUnits.{within_data}
@@ -88,25 +91,24 @@ fresh_whole s rows (f ∷ fresh) all = (all.0.2, fresh_whole s rows fresh all.1)
 
 -- ---- a plan takes the lowest free units
 
-pages_take : (c o : List ℕ) (off : ℕ) (bytes : List ℕ) (rows : Rows) (space : Space) (plan : Plan) → PlansPages c o off bytes rows space plan
-    → units_of plan.fresh ≡ take (length bytes / 4096) (free_units space)
-pages_take c o off bytes rows space plan p =
-    ap units_of p.fresh ∙ units_of_pages bytes p.units 0 ∙ p.lowest
+object_takes : (c : List ℕ) (op : Op) (rows : Rows) (space : Space) (plan : Plan) → PlansObject c op rows space plan
+    → units_of plan.fresh ≡ take (units_taken (op ∷ [])) (free_units space)
+object_takes c op rows space plan p = ap units_of p.fresh ∙ units_of_pages (bytes_of op) p.units 0 ∙ p.lowest
 
 -- those that it takes are the lowest free ones, as many as the transaction takes
 pub plan_takes : (c : List ℕ) (ops : List Op) (rows : Rows) (space : Space) (plan : Plan) → IsKnown ops → Plans c ops rows space plan
     → units_of plan.fresh ≡ take (units_taken ops) (free_units space)
-plan_takes c (MkColl ∷ []) rows space plan known plans = ap (λ (p : Plan). units_of p.fresh) plans.is
-plan_takes c (Touch o ∷ []) rows space plan known plans = ap (λ (p : Plan). units_of p.fresh) plans.is
-plan_takes c (Write o off bytes ∷ []) rows space plan known plans = pages_take c o off bytes rows space plan plans
+plan_takes c (MkColl ∷ []) rows space plan known plans = ap units_of plans.makes.none_fresh
+plan_takes c (Touch o ∷ []) rows space plan known plans = object_takes c (Touch o) rows space plan plans.makes
+plan_takes c (Write o off bytes ∷ []) rows space plan known plans = object_takes c (Write o off bytes) rows space plan plans.makes
 plan_takes c ops rows space plan known plans = absurd known
 
 -- and there are as many
 pub plan_enough : (c : List ℕ) (ops : List Op) (rows : Rows) (space : Space) (plan : Plan) → IsKnown ops → Plans c ops rows space plan
     → units_taken ops ≤ length (free_units space)
 plan_enough c (MkColl ∷ []) rows space plan known plans = omega arith
-plan_enough c (Touch o ∷ []) rows space plan known plans = omega arith
-plan_enough c (Write o off bytes ∷ []) rows space plan known plans = plans.enough
+plan_enough c (Touch o ∷ []) rows space plan known plans = plans.makes.enough
+plan_enough c (Write o off bytes ∷ []) rows space plan known plans = plans.makes.enough
 plan_enough c ops rows space plan known plans = absurd known
 
 -- so each is free
@@ -156,41 +158,34 @@ module _ (s : Super) (committed rows : Rows) (space : Space) (limits : IsSuper s
     fit = each_lowest (λ u. u < 2 ^ 32) n (λ u k. (free_facts u k).1);
   }
 
-  module _ (c o : List ℕ) (off : ℕ) (bytes : List ℕ) (plan : Plan) (known : IsKnown (Write o off bytes ∷ []))
-      (p : PlansPages c o off bytes rows space plan) where
-    page_count : length p.units ≡ length bytes / 4096
-    page_count = ap length p.lowest ∙ length-take-le (length bytes / 4096) (free_units space) p.enough
-
-    can_plan : planned_as.CanPlanWrite s rows c o (off / 4096) bytes p.units
-    can_plan = record {
-      coll_name = p.in_coll.coll_named;
-      object_name = p.in_coll.named;
-      has_collection = p.in_coll.there;
-      units_most = omega (arith, limits.units_most);
-      fresh = subst (planned_as.AreFresh s rows) (sym p.lowest) (lowest_fresh (length bytes / 4096));
-      some = omega (arith, page_count, known.1, known.2);
-      whole = omega (arith, page_count, known.1);
-      short = p.short;
-      within = omega (arith, p.within);
-      csums_fit = p.csums_fit;
-    }
-
-    pages_planned : planned_as.IsPlanned s rows (record { coll = c; ops = Write o off bytes ∷ [] }) plan
-    pages_planned =
-        let here : 4096 * (off / 4096) ≡ off = omega (arith, known.0) in
-        let by = planned_as.writes c o (off / 4096) bytes p.units plan.ops plan.released can_plan p.writes in
-        subst (λ (n : ℕ). planned_as.IsPlanned s rows (record { coll = c; ops = Write o n bytes ∷ [] }) plan) here
-        (subst (λ (fs : List FreshUnit). planned_as.IsPlanned s rows (write_change c o (off / 4096) bytes)
-        (record { ops = plan.ops; fresh = fs; released = plan.released })) (sym p.fresh) by)
+  pub can_plan : (c o : List ℕ) (off : ℕ) (bytes units : List ℕ) → IsKnown (Write o off bytes ∷ []) → planned_as.IsInColl c o rows
+      → length bytes ≤ payload_limit → off + length bytes ≤ object_limit → length bytes / 4096 ≤ length (free_units space)
+      → units ≡ take (length bytes / 4096) (free_units space) → ((i : ℕ) → i < length units → crc32c (unit_at i bytes) < 2 ^ 32)
+      → planned_as.CanPlanWrite s rows c o (off / 4096) bytes units
+  can_plan c o off bytes units known in_coll short within enough lowest csums_fit =
+      let count : length units ≡ length bytes / 4096 = ap length lowest ∙ length-take-le (length bytes / 4096) (free_units space) enough in
+      record {
+        coll_name = in_coll.coll_named;
+        object_name = in_coll.named;
+        has_collection = in_coll.there;
+        units_most = omega (arith, limits.units_most);
+        fresh = subst (planned_as.AreFresh s rows) (sym lowest) (lowest_fresh (length bytes / 4096));
+        some = omega (arith, count, known.1, known.2);
+        whole = omega (arith, count, known.1);
+        short = short;
+        within = omega (arith, known.0, count, known.1, within);
+        csums_fit = csums_fit;
+      }
 
   pub planned : (c : List ℕ) (ops : List Op) (plan : Plan) → IsKnown ops → Plans c ops rows space plan
       → planned_as.IsPlanned s rows (record { coll = c; ops = ops }) plan
-  planned c (MkColl ∷ []) plan known plans =
-      subst (planned_as.IsPlanned s rows (coll_change c)) (sym plans.is) (planned_as.makes_coll c plans.named plans.missing)
+  planned c (MkColl ∷ []) plan known plans = planned_as.makes_coll c plan plans.named plans.missing plans.makes
   planned c (Touch o ∷ []) plan known plans =
-      subst (planned_as.IsPlanned s rows (touch_change c o)) (sym plans.is)
-      (planned_as.touches c o plans.in_coll.coll_named plans.in_coll.named plans.in_coll.there)
-  planned c (Write o off bytes ∷ []) plan known plans = pages_planned c o off bytes plan known plans
+      let m = plans.makes in planned_as.changes_object c (Touch o) m.units m.layout plan (plans.in_coll, m.lowest) m.has m.makes m.fresh
+  planned c (Write o off bytes ∷ []) plan known plans =
+      let m = plans.makes in
+      let can = can_plan c o off bytes m.units known plans.in_coll plans.short plans.within m.enough m.lowest m.csums_fit in
+      planned_as.changes_object c (Write o off bytes) m.units m.layout plan (known.0, can) m.has m.makes m.fresh
   planned c ops plan known plans = absurd known
 
 -- ---- what its record and its data writes take
@@ -210,7 +205,7 @@ plan_fits s rows space c ops plan good known plans is = record {
   few = omega (arith, plan_count c ops rows space plan known plans, few_taken c ops rows space plan known plans);
   whole = fresh_whole s rows plan.fresh (planned_fresh s rows is);
   ascend = planned_ascend s rows is;
-  fit = planned_fits s rows is good;
-  short = planned_short s rows is good;
+  fit = (plan_facts s rows is good).fit;
+  short = (plan_facts s rows is good).short;
   count = λ number other. same_count number other plan.ops;
 }

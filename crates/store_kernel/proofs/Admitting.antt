@@ -27,9 +27,10 @@ use Rattle.onode_state.specs.Objects.{AreRowsOfAStore}
 use Rattle.txn_planner.specs.PlanFails.{IsPlanFor}
 use Rattle.store_kernel.specs.declared.batch.OpenBatch.{OpenBatch}
 use Rattle.store_kernel.specs.declared.prepared.Prepared.{Prepared}
-use Rattle.store_kernel.specs.Prepared.{IsPrepared, context_at}
+use Rattle.store_kernel.specs.Prepared.{IsPlanOf, IsPrepared, context_at}
 use Rattle.store_kernel.specs.Seen.{listed, state_of}
 use Rattle.store_kernel.specs.Units.{CanBeTaken}
+use Rattle.store_kernel.proofs.Given.{given_plans}
 
 -- ---- preparing
 
@@ -38,9 +39,20 @@ pub rows_of_a_store : (s : State) (d : Disk) → IsKept s d → CanNote s → Ar
 rows_of_a_store s d kept can =
     record { sup = s.log.sup; limits = kept.always.limits; good = (rows_of_kept s d kept can.up).good.good }
 
+-- what planning gives is a plan of the submitted rows
+pub given : (s : State) (d : Disk) (change : Change) (plan : Plan) → IsKept s d → CanNote s → IsKnown change.ops
+    → IsPlanFor change s.submitted s.space plan → IsPlanOf change s plan
+given s d change plan kept can known is =
+    let rows : AreRowsKept s = rows_of_kept s d kept can.up in
+    record {
+      not_refused = is.not_refused;
+      plans = given_plans s.log.sup s.log.rows s.submitted s.space kept.always.limits rows.good rows.space rows.free change.coll change.ops plan
+          known is.gives;
+    }
+
 -- what a plan's record and its data writes take
 pub planned_fits : (s : State) (d : Disk) (change : Change) (plan : Plan) → IsKept s d → CanNote s → IsKnown change.ops
-    → IsPlanFor change s.submitted s.space plan → PlanFits plan
+    → IsPlanOf change s plan → PlanFits plan
 planned_fits s d change plan kept can known is =
     let rows : AreRowsKept s = rows_of_kept s d kept can.up in
     let one : IsPlanned s.log.sup s.submitted change plan =
@@ -60,10 +72,10 @@ free_units_are space [] all = tt
 free_units_are space (u ∷ us) all = (record { within = all.0.0; free = all.0.1 }, free_units_are space us all.1)
 
 -- the units that a plan takes are free
-pub fresh_is_free : (change : Change) (rows : Rows) (space : Space) (plan : Plan) → IsKnown change.ops → IsPlanFor change rows space plan
-    → CanBeTaken (units_of plan.fresh) space
-fresh_is_free change rows space plan known is =
-    free_units_are space (units_of plan.fresh) (plan_takes_free change.coll change.ops rows space plan known is.plans)
+pub fresh_is_free : (change : Change) (s : State) (plan : Plan) → IsKnown change.ops → IsPlanOf change s plan
+    → CanBeTaken (units_of plan.fresh) s.space
+fresh_is_free change s plan known is =
+    free_units_are s.space (units_of plan.fresh) (plan_takes_free change.coll change.ops s.submitted s.space plan known is.plans)
 
 -- nothing waits where a transaction may be submitted
 none_listed : (p : Option Context) → listed p ≡ [] → p ≡ None

@@ -1,16 +1,24 @@
 -- A transaction that can be accepted.
 use Rattle.std.specs.Prelude.{◌≡◌, ℕ, ◌≤◌}
 use Rattle.object_model.specs.Effect.{Change}
+use Rattle.object_model.specs.declared.command.Command.TheVariants as ask
+use Rattle.read_facts.specs.Refusals.{IsNotRefused}
+use Rattle.object_rows.specs.declared.plan.Plan.{Plan}
 use Rattle.store_steps.specs.declared.context.Context.{Context}
 use Rattle.store_steps.specs.State.{State}
 use Rattle.meta_store.specs.Store.{room_of}
+use Rattle.store_steps.specs.Planning.{Plans}
 use Rattle.store_steps.specs.Submit.{need_of}
-use Rattle.txn_planner.specs.PlanFails.{IsPlanFor}
 use Rattle.store_kernel.specs.declared.prepared.Prepared.{Prepared}
+
+-- plain objects of the submitted rows' shape don't refuse the transaction, and this is its plan
+pub record IsPlanOf (change : Change) (s : State) (plan : Plan) : Type 0 where
+  pub not_refused : IsNotRefused s.submitted (ask.Change change)
+  pub plans : Plans change.coll change.ops s.submitted s.space plan
 
 -- what it needs fits, and the copies are copies
 pub record IsPrepared (ready : Prepared) (change : Change) (s : State) : Type 0 where
-  pub plan : IsPlanFor change s.submitted s.space ready.plan
+  pub plan : IsPlanOf change s ready.plan
   pub need : ready.need ≡ need_of s.log ready.plan
   pub fits : need_of s.log ready.plan ≤ room_of s.log
   pub copy : ready.copy ≡ ready.plan.ops

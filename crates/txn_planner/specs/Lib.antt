@@ -1,3 +1,4 @@
+pub mod Given
 pub mod PlanFails
 pub mod Ops
 pub mod Parts

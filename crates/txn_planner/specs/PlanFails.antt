@@ -6,15 +6,16 @@ use Rattle.meta_rows.specs.Rows.{Rows}
 use Rattle.read_facts.specs.Refusals.{IsRefusedBy, IsNotRefused}
 use Rattle.object_rows.specs.declared.plan.Plan.{Plan}
 use Rattle.unit_allocator.specs.Units.{Space}
-use Rattle.store_steps.specs.Planning.{Plans, units_taken}
+use Rattle.store_steps.specs.Planning.{units_taken}
 use Rattle.store_steps.specs.Submit.{free_count}
+use Rattle.txn_planner.specs.Given.{Gives}
 use Rattle.txn_planner.specs.declared.planning.PlanFail.{PlanFail}
 use Rattle.txn_planner.specs.declared.planning.PlanFail.TheVariants as fail
 
 -- plain objects of the rows' shape don't refuse the transaction, and this is its plan
 pub record IsPlanFor (change : Change) (rows : Rows) (space : Space) (plan : Plan) : Type 0 where
   pub not_refused : IsNotRefused rows (ask.Change change)
-  pub plans : Plans change.coll change.ops rows space plan
+  pub gives : Gives change.coll change.ops rows space plan
 
 -- why there is no plan; want of memory comes of nothing that a clause sees
 abbrev pub IsPlanFail : Change → Rows → Space → PlanFail → Type 0

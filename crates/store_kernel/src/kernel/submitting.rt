@@ -3,8 +3,7 @@ ghost use Rattle.std.specs.Prelude.{◌≡◌, ◌<◌, ◌^◌, length, OnOk, O
 ghost use Rattle.meta_rows.specs.Spelling.{ops_bytes, AllFit};
 ghost use Rattle.store_steps.specs.Submit.{IsCause, CanNote, Accepts, Refuses};
 ghost use Rattle.store_steps.specs.Runs.{MaySubmit};
-ghost use Rattle.txn_planner.specs.PlanFails.{IsPlanFor};
-ghost use Rattle.store_kernel.specs.Prepared.{IsPrepared};
+ghost use Rattle.store_kernel.specs.Prepared.{IsPlanOf, IsPrepared};
 ghost use Rattle.store_kernel.specs.Submitting.{IsCauseOf, RefusesBy};
 
 use super::Kernel;
@@ -83,7 +82,7 @@ impl<D: Device> Kernel<D> {
     fn planned(&self, alloc: Global, txn: &Transaction) -> Result<Plan, Cause>
         requires may { MaySubmit txn.now self.now.state (D.disk self.now.device) }
         requires can_note { CanNote self.now.state }
-        ensures ok { IfOk result (IsPlanFor txn.now self.now.state.submitted self.now.state.space) }
+        ensures ok { IfOk result (IsPlanOf txn.now self.now.state) }
         ensures fit { IfOk result (λ plan. AllFit plan.ops) }
         ensures short { IfOk result (λ plan. length (ops_bytes plan.ops) < 2 ^ 32) }
         ensures err { IfErr result (λ cause. IsCauseOf cause txn.now self.now.state) }

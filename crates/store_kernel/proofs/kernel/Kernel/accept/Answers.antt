@@ -11,10 +11,9 @@ take_fresh-requires-clause-ascend g c =
 
 pub take_fresh-requires-clause-free : goal.take_fresh-requires-clause-free
 take_fresh-requires-clause-free g c =
-    let k = c.self.inside in
     let prepared = rw (← c.self.view_is) at c.requires.prepared in
     rw (c.as_slice.ensures, c.split-context.ensures.context)
-    (fresh_is_free c.args.txn k.submitted.rows k.space c.args.ready.plan c.requires.may.known prepared.plan)
+    (fresh_is_free c.args.txn _ c.args.ready.plan c.requires.may.known prepared.plan)
 
 pub invariant_of-self-2 : goal.invariant_of-self-2
 invariant_of-self-2 g c =

@@ -22,7 +22,7 @@ use Rattle.store_steps.specs.Opened.{Found, opened}
 use Rattle.store_steps.specs.Ready.{is_drained}
 use Rattle.store_facts.specs.Kept.{IsKept}
 use Rattle.crash_facts.specs.Store.{KnownOfStore, IsDurable, KeepsDurable}
-use Rattle.crash_facts.proofs.Idle.{drained_view, drained_good}
+use Rattle.crash_facts.proofs.Idle.{drained_submitted, drained_good}
 use Rattle.store_kernel.specs.declared.unanswered.WalkFail.{WalkFail}
 use Rattle.store_kernel.specs.declared.unanswered.WalkFail.TheVariants as walk
 use Rattle.log_replay.specs.Calls.{IsLater}
@@ -152,7 +152,7 @@ module _ (given : Disk) (f : Found) (space : Space) (start : Disk) (s : State) (
     -- the rows and the units stand for the objects
     stand : ObjectsStand (last_at durable.history) s.submitted objects
     stand = subst (ObjectsStand (last_at durable.history) s.submitted) none_accepted
-        (drained_view 0 objects s start durable.history kept opened_is_up opened_drained known)
+        (drained_submitted 0 objects s start durable.history kept opened_is_up opened_drained known)
 
     -- no write ended badly
     answered : (unit : ℕ) → HasNoBadDone durable.history.log unit

@@ -9,8 +9,8 @@ use Rattle.object_model.specs.Book.{is_refused}
 use Rattle.meta_rows.specs.Rows.{Rows}
 use Rattle.store_image.specs.Stands.{IsShape}
 
--- Plain objects of the rows' shape refuse the command with this, whatever their bytes are. This says something only where there are such
--- objects: a kernel's submitted rows have the shape of those after all accepted transactions, as long as its book is known to be legal.
+-- Plain objects of the rows' shape refuse the command with this, whatever their bytes are. There are such objects where no row is bad, by a law
+-- of this crate; what is known of a kernel's book has some for its submitted rows: those after all accepted transactions.
 abbrev pub IsRefusedBy : Rows → Command → Refusal → Type 0
 IsRefusedBy rows command refusal = (objects : Objects) → IsShape rows objects → reply_of command objects ≡ answer.Refused refusal
 

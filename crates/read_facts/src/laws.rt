@@ -34,6 +34,11 @@ pub fn names_come_in_one_order()
         → IsCollName c → map.get objects c ≡ Some found → AreAll (IsObject rows c) (map.keys found) }
 {}
 
+/// Rows of which none is bad have objects of their shape, so that which commands rows refuse says something of them.
+pub fn rows_have_objects()
+    ensures { (s : Super) (rows : Rows) → NoBadRow s rows → (objects : Objects) × IsShape rows objects }
+{}
+
 /// What is read page by page, and walked name by name: a run of good pages goes on with one more run of them or ends at a bad page, a walk goes on
 /// with the next name.
 pub fn reads_and_walks_go_on()

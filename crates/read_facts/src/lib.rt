@@ -7,6 +7,6 @@ mod view;
 
 pub use laws::{
     names_come_in_one_order, reads_and_walks_go_on, reads_are_as_plain_objects,
-    reads_are_plain_but_for_bytes, walks_show_plain_objects,
+    reads_are_plain_but_for_bytes, rows_have_objects, walks_show_plain_objects,
 };
 pub use view::{BadSum, CollView, ObjectView};

@@ -1,0 +1,300 @@
+-- Rows of which none is bad have objects of their shape: each with as many zeros as its onode says, in the collection of its row.
+use Rattle.std.proofs.Common.{◌≡◌, ◌≢◌, ◌⊎◌, inl, inr, ℕ, ◌||◌, Bool, true, false, List, [], ◌∷◌, length, map, replicate, Option, Some, None, is_some, unwrap_or, option_and_then, refl, sym, ap, subst, ◌∙◌, arith}
+use Rattle.std.specs.List.{list_any, AllByRecursion}
+use Rattle.std.specs.Ordering.{is_eq, eq_by_cmp}
+use Rattle.std.specs.declared.cmp.Ordering.{Ordering}
+use Rattle.std.specs.declared.cmp.Ordering.TheVariants.{Less, Equal, Greater}
+use Rattle.std.specs.FinMap as finite
+use Rattle.std.proofs.lemmas.List.{length-replicate}
+use Rattle.std.proofs.lemmas.Option.{same_Some}
+use Rattle.byte_maps.specs.ByteMap.{byte_order}
+use Rattle.byte_maps.proofs.Places.{same_bytes}
+use Rattle.object_model.specs.Objects.{Object, Collection, Objects}
+use Rattle.object_model.specs.Effect.{object_under}
+use Rattle.meta_rows.specs.Rows.{Rows}
+use Rattle.meta_log.specs.declared.slot.Super.{Super}
+use Rattle.unit_fields.specs.Names.{IsName, IsCollName}
+use Rattle.row_format.specs.Keys.{coll_key, onode_key}
+use Rattle.row_format.specs.Row.{Row, collection, onode, shard, bitmap, row_key, FitsRow}
+use Rattle.row_format.proofs.KeyLemmas.{same_head, same_coll, coll_no_object, same_onode, onode_no_shard, bitmap_no_coll, bitmap_no_object}
+use Rattle.store_image.specs.Pages.{HasKey, HasRow}
+use Rattle.store_image.specs.BadRows.{IsInPlace, NoBadRow}
+use Rattle.store_image.specs.Stands.{IsObjectShape, IsShape}
+use Rattle.store_image.proofs.ByteLemmas.{equal_or_not}
+use Rattle.row_facts.proofs.Maps.{get_same, get_other, some_after}
+use Rattle.read_facts.proofs.Keys.{under_found, some_of, none_of}
+use Rattle.read_facts.proofs.Walks.{got_each}
+
+-- the row is one of these
+abbrev IsIn : Row → List Row → Type 0
+IsIn r [] = ⊥
+IsIn r (x ∷ xs) = (x ≡ r) ⊎ IsIn r xs
+
+abbrev zeros_object : ℕ → Object
+zeros_object size = record { bytes = replicate size 0; attrs = finite.empty; header = []; omap = finite.empty }
+
+-- ---- the objects of a collection
+
+-- one is put in if it is of the collection
+abbrev put_in : (c d : List ℕ) → (d ≡ c) ⊎ (d ≢ c) → List ℕ → ℕ → Collection → Collection
+put_in c d (inl same) o size m = finite.insert m o (zeros_object size)
+put_in c d (inr apart) o size m = m
+
+abbrev objects_in : List ℕ → List Row → Collection
+objects_in c [] = finite.empty
+objects_in c (collection d ∷ rs) = objects_in c rs
+objects_in c (onode d o size ∷ rs) = put_in c d (equal_or_not d c) o size (objects_in c rs)
+objects_in c (shard d o page extents ∷ rs) = objects_in c rs
+objects_in c (bitmap r bits ∷ rs) = objects_in c rs
+
+-- an object is as its onode says
+abbrev IsOfOnode : List ℕ → List ℕ → Object → List Row → Type 0
+IsOfOnode c o object rs = (size : ℕ) × ((object ≡ zeros_object size) × IsIn (onode c o size) rs)
+
+module _ (c : List ℕ) where
+  later : (r : Row) (rs : List Row) (o : List ℕ) (object : Object) → IsOfOnode c o object rs → IsOfOnode c o object (r ∷ rs)
+  later r rs o object is = (is.0, (is.1.0, inr is.1.1))
+
+  put_row : (d u : List ℕ) (size : ℕ) (rs : List Row) (t : (d ≡ c) ⊎ (d ≢ c)) (o : List ℕ) (object : Object)
+      → (finite.get (objects_in c rs) o ≡ Some object → IsOfOnode c o object rs)
+      → finite.get (put_in c d t u size (objects_in c rs)) o ≡ Some object → IsOfOnode c o object (onode d u size ∷ rs)
+  put_row d u size rs (inl same) o object before is = elim (equal_or_not o u) [
+    | inl e ↦
+        let m : Collection = finite.insert (objects_in c rs) u (zeros_object size) in
+        let here = same_Some object (zeros_object size) (sym is ∙ ap (finite.get m) e ∙ get_same (objects_in c rs) u (zeros_object size)) in
+        (size, (here, inl (λ i. onode (same i) (sym e i) size)))
+    | inr apart ↦ later (onode d u size) rs o object (before (sym (get_other (objects_in c rs) u (zeros_object size) o apart) ∙ is))
+  ]
+  put_row d u size rs (inr apart) o object before is = later (onode d u size) rs o object (before is)
+
+  found_row : (rs : List Row) (o : List ℕ) (object : Object) → finite.get (objects_in c rs) o ≡ Some object → IsOfOnode c o object rs
+  found_row [] o object is = absurd (let e = sym (finite.get-empty byte_order o) ∙ is in cc)
+  found_row (collection d ∷ rs) o object is = later (collection d) rs o object (found_row rs o object is)
+  found_row (onode d u size ∷ rs) o object is = put_row d u size rs (equal_or_not d c) o object (found_row rs o object) is
+  found_row (shard d u page extents ∷ rs) o object is = later (shard d u page extents) rs o object (found_row rs o object is)
+  found_row (bitmap r bits ∷ rs) o object is = later (bitmap r bits) rs o object (found_row rs o object is)
+
+  row_put : (d u : List ℕ) (n : ℕ) (rs : List Row) (t : (d ≡ c) ⊎ (d ≢ c)) (o : List ℕ) (size : ℕ)
+      → (IsIn (onode c o size) rs → is_some (finite.get (objects_in c rs) o) ≡ true)
+      → IsIn (onode c o size) (onode d u n ∷ rs) → is_some (finite.get (put_in c d t u n (objects_in c rs)) o) ≡ true
+  row_put d u n rs (inl same) o size before (inl e) =
+      let m : Collection = finite.insert (objects_in c rs) u (zeros_object n) in
+      let name : o ≡ u = cc in
+      ap (λ (x : List ℕ). is_some (finite.get m x)) name ∙ ap is_some (get_same (objects_in c rs) u (zeros_object n))
+  row_put d u n rs (inl same) o size before (inr old) = some_after (objects_in c rs) u (zeros_object n) o (before old)
+  row_put d u n rs (inr apart) o size before (inl e) = absurd (let same : d ≡ c = cc in apart same)
+  row_put d u n rs (inr apart) o size before (inr old) = before old
+
+  row_found : (rs : List Row) (o : List ℕ) (size : ℕ) → IsIn (onode c o size) rs → is_some (finite.get (objects_in c rs) o) ≡ true
+  row_found [] o size is = absurd is
+  row_found (collection d ∷ rs) o size (inl e) = absurd cc
+  row_found (collection d ∷ rs) o size (inr old) = row_found rs o size old
+  row_found (onode d u n ∷ rs) o size is = row_put d u n rs (equal_or_not d c) o size (row_found rs o size) is
+  row_found (shard d u page extents ∷ rs) o size (inl e) = absurd cc
+  row_found (shard d u page extents ∷ rs) o size (inr old) = row_found rs o size old
+  row_found (bitmap r bits ∷ rs) o size (inl e) = absurd cc
+  row_found (bitmap r bits ∷ rs) o size (inr old) = row_found rs o size old
+
+-- ---- the collections
+
+module _ (all : List Row) where
+  -- each has the objects of all rows
+  abbrev colls_of : List Row → Objects
+  colls_of [] = finite.empty
+  colls_of (collection c ∷ rs) = finite.insert (colls_of rs) c (objects_in c all)
+  colls_of (onode d o size ∷ rs) = colls_of rs
+  colls_of (shard d o page extents ∷ rs) = colls_of rs
+  colls_of (bitmap r bits ∷ rs) = colls_of rs
+
+  -- a collection is as its row says
+  abbrev IsOfColl : List ℕ → Collection → List Row → Type 0
+  IsOfColl c found rs = (found ≡ objects_in c all) × IsIn (collection c) rs
+
+  coll_row : (rs : List Row) (c : List ℕ) (found : Collection) → finite.get (colls_of rs) c ≡ Some found → IsOfColl c found rs
+  coll_row [] c found is = absurd (let e = sym (finite.get-empty byte_order c) ∙ is in cc)
+  coll_row (collection d ∷ rs) c found is = elim (equal_or_not c d) [
+    | inl e ↦
+        let m : Objects = finite.insert (colls_of rs) d (objects_in d all) in
+        let here = same_Some found (objects_in d all) (sym is ∙ ap (finite.get m) e ∙ get_same (colls_of rs) d (objects_in d all)) in
+        (here ∙ ap (λ (x : List ℕ). objects_in x all) (sym e), inl (ap collection (sym e)))
+    | inr apart ↦
+        let old = coll_row rs c found (sym (get_other (colls_of rs) d (objects_in d all) c apart) ∙ is) in
+        (old.0, inr old.1)
+  ]
+  coll_row (onode d o size ∷ rs) c found is = let old = coll_row rs c found is in (old.0, inr old.1)
+  coll_row (shard d o page extents ∷ rs) c found is = let old = coll_row rs c found is in (old.0, inr old.1)
+  coll_row (bitmap r bits ∷ rs) c found is = let old = coll_row rs c found is in (old.0, inr old.1)
+
+  row_coll : (rs : List Row) (c : List ℕ) → IsIn (collection c) rs → is_some (finite.get (colls_of rs) c) ≡ true
+  row_coll [] c is = absurd is
+  row_coll (collection d ∷ rs) c (inl e) =
+      let m : Objects = finite.insert (colls_of rs) d (objects_in d all) in
+      let name : c ≡ d = cc in
+      ap (λ (x : List ℕ). is_some (finite.get m x)) name ∙ ap is_some (get_same (colls_of rs) d (objects_in d all))
+  row_coll (collection d ∷ rs) c (inr old) = some_after (colls_of rs) d (objects_in d all) c (row_coll rs c old)
+  row_coll (onode d o size ∷ rs) c (inl e) = absurd cc
+  row_coll (onode d o size ∷ rs) c (inr old) = row_coll rs c old
+  row_coll (shard d o page extents ∷ rs) c (inl e) = absurd cc
+  row_coll (shard d o page extents ∷ rs) c (inr old) = row_coll rs c old
+  row_coll (bitmap r bits ∷ rs) c (inl e) = absurd cc
+  row_coll (bitmap r bits ∷ rs) c (inr old) = row_coll rs c old
+
+-- ---- rows of which none is bad
+
+module _ (s : Super) (rows : Rows) (good : NoBadRow s rows) where
+  -- what the entries say
+  abbrev rows_in : (es : List (List ℕ × List ℕ)) → AllByRecursion (λ e. finite.get rows e.0 ≡ Some e.1) es → List Row
+  rows_in [] got = []
+  rows_in (e ∷ es) got = (good e.0 e.1 got.0).row ∷ rows_in es got.1
+
+  is_row : (key value : List ℕ) (at : finite.get rows key ≡ Some value)
+      → HasRow rows (good key value at).row × IsInPlace s rows (good key value at).row
+  is_row key value at =
+      let g = good key value at in
+      (record { fits = g.fits; stands = ap (finite.get rows) (sym g.key_is) ∙ at ∙ ap Some g.value_is }, g.in_place)
+
+  each_in : (es : List (List ℕ × List ℕ)) (got : AllByRecursion (λ e. finite.get rows e.0 ≡ Some e.1) es) (r : Row) → IsIn r (rows_in es got)
+      → HasRow rows r × IsInPlace s rows r
+  each_in [] got r is = absurd is
+  each_in (e ∷ es) got r (inl same) = subst (λ (x : Row). HasRow rows x × IsInPlace s rows x) same (is_row e.0 e.1 got.0)
+  each_in (e ∷ es) got r (inr is) = each_in es got.1 r is
+
+  -- a key has its row among them
+  abbrev IsKeyIn : List ℕ → List Row → Type 0
+  IsKeyIn key rs = (r : Row) × ((key ≡ row_key r) × IsIn r rs)
+
+  key_here : (e : List ℕ × List ℕ) (es : List (List ℕ × List ℕ)) (got : AllByRecursion (λ x. finite.get rows x.0 ≡ Some x.1) (e ∷ es)) (key : List ℕ)
+      → IsKeyIn key (rows_in es got.1) ⊎ (key ≡ e.0) → IsKeyIn key (rows_in (e ∷ es) got)
+  key_here e es got key (inl is) = (is.0, (is.1.0, inr is.1.1))
+  key_here e es got key (inr same) = let g = good e.0 e.1 got.0 in (g.row, (same ∙ g.key_is, inl refl))
+
+  key_in : (es : List (List ℕ × List ℕ)) (got : AllByRecursion (λ e. finite.get rows e.0 ≡ Some e.1) es) (key : List ℕ)
+      → list_any (eq_by_cmp byte_order key) (map (λ e. e.0) es) ≡ true → IsKeyIn key (rows_in es got)
+  key_in [] got key is = absurd cc
+  key_in (e ∷ es) got key is = key_here e es got key (by (key_in es got.1 key) (byte_order key e.0) refl is)
+    where
+      by : (list_any (eq_by_cmp byte_order key) (map (λ x. x.0) es) ≡ true → IsKeyIn key (rows_in es got.1)) → (o : Ordering)
+          → byte_order key e.0 ≡ o → (is_eq o || list_any (eq_by_cmp byte_order key) (map (λ x. x.0) es)) ≡ true
+          → IsKeyIn key (rows_in es got.1) ⊎ (key ≡ e.0)
+      by behind Less p is = inl (behind is)
+      by behind Equal p is = inr (same_bytes key e.0 p)
+      by behind Greater p is = inl (behind is)
+
+  abbrev all_rows : List Row
+  all_rows = rows_in (finite.entries rows) (got_each rows)
+
+  stands_in : (r : Row) → IsIn r all_rows → HasRow rows r × IsInPlace s rows r
+  stands_in = each_in (finite.entries rows) (got_each rows)
+
+  has_in : (key : List ℕ) → HasKey rows key → IsKeyIn key all_rows
+  has_in key has = key_in (finite.entries rows) (got_each rows) key (sym (finite.contains_key-keys rows key) ∙ has)
+
+  -- the row of a collection
+  coll_in : (c : List ℕ) → HasKey rows (coll_key c) → IsIn (collection c) all_rows
+  coll_in c has = let found = has_in (coll_key c) has in is_coll found.0 found.1.0 found.1.1
+    where
+      is_coll : (r : Row) → coll_key c ≡ row_key r → IsIn r all_rows → IsIn (collection c) all_rows
+      is_coll (collection d) e is = subst (λ (x : List ℕ). IsIn (collection x) all_rows) (sym (same_coll c d e)) is
+      is_coll (onode d u size) e is = absurd (coll_no_object c d u _ e)
+      is_coll (shard d u page extents) e is = absurd (coll_no_object c d u _ e)
+      is_coll (bitmap r bits) e is = absurd (bitmap_no_coll r c (sym e))
+
+  -- the onode of an object
+  onode_in : (c o : List ℕ) → IsCollName c → IsName o → HasKey rows (onode_key c o) → (size : ℕ) × IsIn (onode c o size) all_rows
+  onode_in c o coll name has = let found = has_in (onode_key c o) has in is_onode found.0 found.1.0 found.1.1
+    where
+      is_onode : (r : Row) → onode_key c o ≡ row_key r → IsIn r all_rows → (size : ℕ) × IsIn (onode c o size) all_rows
+      is_onode (collection d) e is = absurd (coll_no_object d c o _ (sym e))
+      is_onode (onode d u size) e is =
+          let fits : FitsRow (onode d u size) = (stands_in (onode d u size) is).0.fits in
+          let same = same_onode c o d u coll name fits.0 fits.1 e in
+          let here : onode d u size ≡ onode c o size = λ i. onode (sym same.0 i) (sym same.1 i) size in
+          (size, subst (λ (x : Row). IsIn x all_rows) here is)
+      is_onode (shard d u page extents) e is =
+          let fits : FitsRow (shard d u page extents) = (stands_in (shard d u page extents) is).0.fits in
+          absurd (onode_no_shard c o d u page coll name fits.coll_name fits.object_name e)
+      is_onode (bitmap r bits) e is = absurd (bitmap_no_object r c o _ (sym e))
+
+  -- no row is of another kind
+  no_kind : (k : ℕ) (rest : List ℕ) → k ≢ 0x43 → k ≢ 0x4f → k ≢ 0x62 → finite.get rows (k ∷ rest) ≡ None
+  no_kind k rest coll object bits = none_of (finite.get rows (k ∷ rest)) (by (is_some (finite.get rows (k ∷ rest))) refl)
+    where
+      other : (r : Row) → k ∷ rest ≡ row_key r → ⊥
+      other (collection d) e = coll (same_head _ _ _ _ e)
+      other (onode d u size) e = object (same_head _ _ _ _ e)
+      other (shard d u page extents) e = object (same_head _ _ _ _ e)
+      other (bitmap r bits') e = bits (same_head _ _ _ _ e)
+
+      by : (b : Bool) → is_some (finite.get rows (k ∷ rest)) ≡ b → is_some (finite.get rows (k ∷ rest)) ≡ false
+      by true has = let found = has_in (k ∷ rest) has in absurd (other found.0 found.1.0)
+      by false none = none
+
+  -- ---- the objects
+
+  abbrev rows_objects : Objects
+  rows_objects = colls_of all_rows all_rows
+
+  under : (c o : List ℕ) (object : Object) → object_under rows_objects c o ≡ Some object → IsOfOnode c o object all_rows
+  under c o object is = by (finite.get rows_objects c) refl
+    where
+      by : (x : Option Collection) → finite.get rows_objects c ≡ x → IsOfOnode c o object all_rows
+      by None e = absurd (let none = sym (ap (λ (x : Option Collection). option_and_then (λ (coll : Collection). finite.get coll o) x) e) ∙ is in cc)
+      by (Some found) e =
+          let coll = coll_row all_rows all_rows c found e in
+          found_row c all_rows o object (ap (λ (m : Collection). finite.get m o) (sym coll.0) ∙ sym (under_found rows_objects c o found e) ∙ is)
+
+  onode_under : (c o : List ℕ) (size : ℕ) → IsIn (onode c o size) all_rows → is_some (object_under rows_objects c o) ≡ true
+  onode_under c o size is =
+      let place : IsInPlace s rows (onode c o size) = (stands_in (onode c o size) is).1 in
+      let found = some_of (finite.get rows_objects c) (row_coll all_rows all_rows c (coll_in c place.0)) in
+      let coll = coll_row all_rows all_rows c found.0 found.1 in
+      ap is_some (under_found rows_objects c o found.0 found.1) ∙ ap (λ (m : Collection). is_some (finite.get m o)) coll.0
+      ∙ row_found c all_rows o size is
+
+  zeros_shape : (c o : List ℕ) (size : ℕ) → IsIn (onode c o size) all_rows → IsObjectShape rows c o (zeros_object size)
+  zeros_shape c o size is =
+      let at = stands_in (onode c o size) is in
+      let place : IsInPlace s rows (onode c o size) = at.1 in
+      let long : length (replicate size 0) ≡ size = length-replicate size 0 in
+      record {
+        size = subst (λ (n : ℕ). HasRow rows (onode c o n)) (sym long) at.0;
+        size_most = omega (arith, long, place.1);
+        attr_names = λ name its. absurd (let none = sym (ap is_some (finite.get-empty byte_order name)) ∙ its in cc);
+        attrs = λ name its. finite.get-empty byte_order name
+            ∙ sym (no_kind 0x41 _ (λ e. omega (arith, e)) (λ e. omega (arith, e)) (λ e. omega (arith, e)));
+        header = sym (ap (λ (x : Option (List ℕ)). unwrap_or x [])
+            (no_kind 0x4d _ (λ e. omega (arith, e)) (λ e. omega (arith, e)) (λ e. omega (arith, e))));
+        omap_keys = λ key its. absurd (let none = sym (ap is_some (finite.get-empty byte_order key)) ∙ its in cc);
+        omap = λ key its. finite.get-empty byte_order key
+            ∙ sym (no_kind 0x4d _ (λ e. omega (arith, e)) (λ e. omega (arith, e)) (λ e. omega (arith, e)));
+      }
+
+  same_colls : (c : List ℕ) → finite.contains_key rows_objects c ≡ finite.contains_key rows (coll_key c)
+  same_colls c = by (finite.contains_key rows_objects c) (finite.contains_key rows (coll_key c)) refl refl
+    where
+      by : (a b : Bool) → finite.contains_key rows_objects c ≡ a → finite.contains_key rows (coll_key c) ≡ b → a ≡ b
+      by true b has is =
+          let found = some_of (finite.get rows_objects c) has in
+          let coll = coll_row all_rows all_rows c found.0 found.1 in
+          sym (ap is_some (stands_in (collection c) coll.1).0.stands) ∙ is
+      by false true none has = sym none ∙ row_coll all_rows all_rows c (coll_in c has)
+      by false false none is = refl
+
+  pub rows_shape : IsShape rows rows_objects
+  rows_shape = record {
+    collections = same_colls;
+    present = λ c o object is.
+        let at = under c o object is in
+        subst (IsObjectShape rows c o) (sym at.1.0) (zeros_shape c o at.0 at.1.1);
+    missing = λ c o coll name none. none_of (finite.get rows (onode_key c o)) (by c o coll name none (finite.contains_key rows (onode_key c o)) refl);
+  }
+    where
+      by : (c o : List ℕ) → IsCollName c → IsName o → object_under rows_objects c o ≡ None → (b : Bool) → finite.contains_key rows (onode_key c o) ≡ b
+          → finite.contains_key rows (onode_key c o) ≡ false
+      by c o coll name none true has =
+          let at = onode_in c o coll name has in
+          absurd (let bad : true ≡ false = sym (onode_under c o at.0 at.1) ∙ ap is_some none in cc)
+      by c o coll name none false is = is
+
+pub have_objects : (s : Super) (rows : Rows) → NoBadRow s rows → (objects : Objects) × IsShape rows objects
+have_objects s rows good = (rows_objects s rows good, rows_shape s rows good)

@@ -1,16 +1,15 @@
 -- Answers to commands that read, from the parts that were read.
-use Rattle.std.proofs.Common.{◌≡◌, ℕ, ◌+◌, ◌/◌, ◌≤◌, Bool, true, false, cond, List, length, take, drop, Option, Some, None, is_some, refl, sym, ap, subst, arith}
+use Rattle.std.proofs.Common.{◌≡◌, ℕ, ◌+◌, ◌/◌, ◌≤◌, Bool, true, false, cond, List, take, drop, Option, Some, None, is_some, sym, ap, subst, arith}
 use Rattle.std.specs.Prelude.{not, nat_lt, Result, Ok, Err, IsOk, IfOk, IfErr, MatchOption}
 use Rattle.std.specs.FinMap as finite
 use Rattle.std.proofs.lemmas.Bool.{le-ltb}
-use Rattle.crc32c_csum.specs.Crc32c.{crc32c}
 use Rattle.block_device.specs.Disk.{Disk}
-use Rattle.object_model.specs.Objects.{Object, Collection}
+use Rattle.object_model.specs.Objects.{Object}
 use Rattle.object_model.specs.Effect.{object_limit}
-use Rattle.object_model.specs.Reply.{answer_from, found_collection, found_object}
+use Rattle.object_model.specs.Reply.{answer_from, found_object}
 use Rattle.object_model.specs.Book.{is_refused}
 use Rattle.object_model.specs.declared.op.Refusal.{Refusal}
-use Rattle.object_model.specs.declared.op.Refusal.TheVariants.{NoCollection, NoObject, BadRange}
+use Rattle.object_model.specs.declared.op.Refusal.TheVariants.{NoObject, BadRange}
 use Rattle.object_model.specs.declared.command.Command.TheVariants as ask
 use Rattle.object_model.specs.declared.command.Answer.{Answer}
 use Rattle.object_model.specs.declared.command.Answer.TheVariants as answer
@@ -31,10 +30,10 @@ use Rattle.read_facts.specs.Answers.{Gives, IsAnswerOf}
 use Rattle.read_facts.specs.Walks.{IsObject}
 use Rattle.read_facts.specs.Views.{sum_answer, IsViewOf}
 use Rattle.read_facts.proofs.Keys.{none_of}
-use Rattle.read_facts.proofs.Found.{answer_given, object_nowhere, object_missing, object_there}
+use Rattle.read_facts.proofs.Found.{answer_given, object_missing, object_there}
 use Rattle.object_reader.specs.declared.parts.PartFail.{PartFail}
 use Rattle.object_reader.specs.declared.parts.PartFail.TheVariants as why
-use Rattle.object_reader.specs.Missing.{IsCollMissing, IsObjectMissing, HasObject}
+use Rattle.object_reader.specs.Missing.{IsObjectMissing, HasObject}
 use Rattle.object_reader.specs.Readable.{IsReadable}
 use Rattle.object_reader.specs.Parts.{CanRead, IsPartFail, GivesRange, GivesSum}
 use Rattle.object_reader.specs.PartFails.{IsCsumOf, IsSumOf}
@@ -55,41 +54,32 @@ pub at_none : {A : Type 0} (x : Option A) (P : Type 0) (Q : A → Type 0) → Ma
 at_none None P Q is none = is
 at_none (Some refusal) P Q is none = absurd cc
 
-module _ (rows : Rows) (c : List ℕ) where
-  module _ (o : List ℕ) where
-    -- an object whose collection has no row, or which has none itself
-    pub in_no_coll : (r : Refusal) → IsCollMissing rows c r → IsObjectMissing rows c o r
-    in_no_coll r absent objects shape = object_nowhere objects c o r (absent objects shape)
+module _ (rows : Rows) (c o : List ℕ) where
+  -- an object that has no row in a collection that has one
+  pub no_onode_row : IsCollName c → IsName o → HasKey rows (coll_key c) → finite.contains_key rows (onode_key c o) ≡ false
+      → IsObjectMissing rows c o NoObject
+  no_onode_row coll name has none objects shape =
+      object_missing rows objects shape c o coll name has (none_of (finite.get rows (onode_key c o)) none)
 
-    pub no_onode_row : IsCollName c → IsName o → HasKey rows (coll_key c) → finite.contains_key rows (onode_key c o) ≡ false
-        → IsObjectMissing rows c o NoObject
-    no_onode_row coll name has none objects shape =
-        object_missing rows objects shape c o coll name has (none_of (finite.get rows (onode_key c o)) none)
+  -- one that has its row, as its collection has
+  module _ (coll : IsCollName c) (name : IsName o) (has : HasObject rows c o) (off len : ℕ) where
+    abbrev read_by : Bool → Object → Answer
+    read_by beyond b = cond beyond (answer.Refused BadRange) (answer.Bytes (take len (drop off b.bytes)))
 
-    -- one that has its row, as its collection has
-    module _ (coll : IsCollName c) (name : IsName o) (has : HasObject rows c o) where
-      pub sum_taken : IsNotRefused rows (ask.Sum c o)
-      sum_taken objects shape = answer_given (found_object objects c o) (λ b. answer.Sum (length b.bytes) (crc32c b.bytes))
-          (object_there rows objects shape c o coll name has.0 has.1) (λ b. refl)
+    -- a range within an object's limit, or past it
+    pub read_taken : off + len ≤ object_limit → IsNotRefused rows (ask.Read c o off len)
+    read_taken within objects shape =
+        answer_given (found_object objects c o) (read_by (nat_lt object_limit (off + len)))
+        (object_there rows objects shape c o coll name has.0 has.1)
+        (λ b. ap (λ (beyond : Bool). not (is_refused (read_by beyond b))) (le-ltb object_limit (off + len) within))
 
-      module _ (off len : ℕ) where
-        abbrev read_by : Bool → Object → Answer
-        read_by beyond b = cond beyond (answer.Refused BadRange) (answer.Bytes (take len (drop off b.bytes)))
-
-        -- a range within an object's limit, or past it
-        pub read_taken : off + len ≤ object_limit → IsNotRefused rows (ask.Read c o off len)
-        read_taken within objects shape =
-            answer_given (found_object objects c o) (read_by (nat_lt object_limit (off + len)))
-            (object_there rows objects shape c o coll name has.0 has.1)
-            (λ b. ap (λ (beyond : Bool). not (is_refused (read_by beyond b))) (le-ltb object_limit (off + len) within))
-
-        pub read_too_far : nat_lt object_limit (off + len) ≡ true → IsRefusedBy rows (ask.Read c o off len) BadRange
-        read_too_far beyond objects shape =
-            of (found_object objects c o) (object_there rows objects shape c o coll name has.0 has.1)
-          where
-            of : (x : Result Object Refusal) → IsOk x → answer_from x (read_by (nat_lt object_limit (off + len))) ≡ answer.Refused BadRange
-            of (Ok b) ok = ap (λ (t : Bool). read_by t b) beyond
-            of (Err refusal) ok = absurd cc
+    pub read_too_far : nat_lt object_limit (off + len) ≡ true → IsRefusedBy rows (ask.Read c o off len) BadRange
+    read_too_far beyond objects shape =
+        of (found_object objects c o) (object_there rows objects shape c o coll name has.0 has.1)
+      where
+        of : (x : Result Object Refusal) → IsOk x → answer_from x (read_by (nat_lt object_limit (off + len))) ≡ answer.Refused BadRange
+        of (Ok b) ok = ap (λ (t : Bool). read_by t b) beyond
+        of (Err refusal) ok = absurd cc
 
 -- ---- an object that is there
 

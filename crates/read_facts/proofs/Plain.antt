@@ -1,5 +1,5 @@
 -- What rows answer by the objects that have their shape.
-use Rattle.std.proofs.Common.{◌≡◌, ◌⊎◌, inl, inr, ℕ, ◌+◌, Bool, true, false, cond, not, nat_lt, List, [], length, take, drop, Option, Some, None, Result, Ok, Err, unwrap_or, option_and_then, refl, sym, ap, subst, ◌∙◌}
+use Rattle.std.proofs.Common.{◌≡◌, ◌⊎◌, inl, inr, ℕ, ◌+◌, Bool, true, false, cond, not, nat_lt, List, [], length, take, drop, Option, Some, None, Ok, Err, unwrap_or, option_and_then, refl, sym, ap, subst, ◌∙◌}
 use Rattle.std.specs.Prelude.{IsTrue}
 use Rattle.std.specs.Int.{w64, from_le_bytes}
 use Rattle.std.specs.Option.{option_map_or}
@@ -7,7 +7,6 @@ use Rattle.std.proofs.lemmas.Nat.{from_le_bytes-to_le_bytes_8}
 use Rattle.std.specs.FinMap as finite
 use Rattle.crc32c_csum.specs.Crc32c.{crc32c}
 use Rattle.block_device.specs.Disk.{Disk}
-use Rattle.object_model.specs.declared.op.Refusal.{Refusal}
 use Rattle.object_model.specs.declared.op.Refusal.TheVariants.{NoCollection, NoObject, BadRange}
 use Rattle.object_model.specs.declared.command.Command.{Command}
 use Rattle.object_model.specs.declared.command.Command.TheVariants as ask
@@ -22,7 +21,7 @@ use Rattle.unit_fields.specs.Names.{IsCollName}
 use Rattle.row_format.specs.Row.{onode}
 use Rattle.store_image.specs.Pages.{HasRow}
 use Rattle.store_image.specs.Stands.{IsShape}
-use Rattle.read_facts.specs.Walks.{IsObject, AreAll}
+use Rattle.read_facts.specs.Walks.{IsObject}
 use Rattle.read_facts.specs.PageReads.{ReadsBytes}
 use Rattle.read_facts.specs.Answers.{HasReadNames, IsAnswerOf}
 use Rattle.read_facts.specs.Alike.{IsAlike}

@@ -12,7 +12,7 @@ use Rattle.object_model.specs.declared.command.Answer.{Answer}
 use Rattle.object_model.specs.declared.command.Answer.TheVariants as answer
 use Rattle.object_model.specs.Objects.{Object, Collection, Objects}
 use Rattle.object_model.specs.Effect.{object_under}
-use Rattle.object_model.specs.Reply.{found_object, reply_of}
+use Rattle.object_model.specs.Reply.{reply_of}
 use Rattle.meta_rows.specs.Rows.{Rows}
 use Rattle.meta_log.specs.declared.slot.Super.{Super}
 use Rattle.store_image.specs.BadRows.{NoBadRow}
@@ -22,12 +22,11 @@ use Rattle.read_facts.specs.declared.view.BadSum.{BadSum}
 use Rattle.read_facts.specs.declared.view.CollView.{CollView}
 use Rattle.read_facts.specs.declared.view.ObjectView.{ObjectView}
 use Rattle.read_facts.specs.Walks.{IsCollection, IsObject}
-use Rattle.read_facts.specs.Refusals.{IsNotRefused}
 use Rattle.read_facts.specs.Answers.{Gives}
 use Rattle.read_facts.specs.Views.{sum_answer, IsViewOf, object_names, coll_names, IsViewed, IsWhole, AreWholeButLast, WalksTo, WalksAll, views_in, views_of, IsGoodView, HasGoodViews}
 use Rattle.read_facts.proofs.Walks.{one_order, each_is, all_to, all_by, got_each}
 use Rattle.read_facts.proofs.Keys.{coll_keys, object_keys, under_found, some_of}
-use Rattle.read_facts.proofs.Found.{answer_given, object_there}
+use Rattle.read_facts.proofs.Found.{sum_taken}
 use Rattle.read_facts.proofs.Plain.{size_is, sum_given}
 use Rattle.read_facts.proofs.Seen.{seen_answer}
 
@@ -63,12 +62,6 @@ abbrev crc_of : Answer → ℕ
 crc_of (answer.Sum size crc) = crc
 crc_of a = 0
 
--- rows that have the collection and the object don't refuse the sum of its bytes
-sum_not_refused : (rows : Rows) (c o : List ℕ) → IsCollection rows c → IsObject rows c o → IsNotRefused rows (ask.Sum c o)
-sum_not_refused rows c o coll is objects shape =
-    answer_given (found_object objects c o) (λ b. answer.Sum (length b.bytes) (crc32c b.bytes))
-    (object_there rows objects shape c o coll.named is.named coll.there is.there) (λ b. refl)
-
 module _ (d : Disk) (h : History) (tells : d.history ≡ Some h) (answered : (unit : ℕ) → HasNoBadDone h.log unit)
     (rows : Rows) (objects : Objects) (stand : ObjectsStand (last_at h) rows objects) where
   -- ---- one object
@@ -78,7 +71,7 @@ module _ (d : Disk) (h : History) (tells : d.history ≡ Some h) (answered : (un
     -- the reply to a sum is the object's
     sum_reply : answer.Sum (length object.bytes) (crc32c object.bytes) ≡ reply_of (ask.Sum c o) objects
     sum_reply =
-        let given = sum_given objects c o (sum_not_refused rows c o coll is objects stand.shape) in
+        let given = sum_given objects c o (sum_taken rows c o coll.named is.named coll.there is.there objects stand.shape) in
         let same : object ≡ given.object = same_Some object given.object (sym under ∙ given.under) in
         ap (λ (b : Object). answer.Sum (length b.bytes) (crc32c b.bytes)) same ∙ sym given.reply
 
@@ -86,11 +79,11 @@ module _ (d : Disk) (h : History) (tells : d.history ≡ Some h) (answered : (un
     sum_is : (size : ℕ) (sum : Result ℕ BadSum) → Gives d rows (ask.Sum c o) (sum_answer size sum) → sum ≡ Ok (crc32c object.bytes)
     sum_is size (Ok crc) gives =
         let e = seen_answer d h tells answered rows objects stand (ask.Sum c o) (answer.Sum size crc) (coll.named, is.named)
-        (sum_not_refused rows c o coll is, gives) in
+        (sum_taken rows c o coll.named is.named coll.there is.there, gives) in
         ap Ok (ap crc_of (e ∙ sym sum_reply))
     sum_is size (Err bad) gives =
         let e = seen_answer d h tells answered rows objects stand (ask.Sum c o) (answer.Csum bad.unit bad.kept bad.found) (coll.named, is.named)
-        (sum_not_refused rows c o coll is, gives) in
+        (sum_taken rows c o coll.named is.named coll.there is.there, gives) in
         absurd (let same = e ∙ sym sum_reply in cc)
 
   -- a view of an object is good

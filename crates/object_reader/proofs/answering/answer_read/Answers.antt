@@ -13,7 +13,8 @@ read_range-requires-clause-can g c =
     let rows = c.args.rows.now.rows in
     let coll = c.args.coll.now in
     let object = c.args.object.now in
-    let taken : HasObject rows coll object × (c.args.off + c.args.len ≤ object_limit) = at_none _ _ _ c.in_ok-refusal.ensures.refusal c.in_default.is in
+    let taken : HasObject rows coll object × (c.args.off + c.args.len ≤ object_limit) =
+    at_none _ _ _ c.in_ok-refusal.ensures.refusal c.in_default.is in
     let key = taken.0.1 in
     let size = c.in_ok-size.size in
     let pages = c.in_ok-pages.pages in
@@ -25,7 +26,8 @@ read_range-requires-clause-limit g c =
     let rows = c.args.rows.now.rows in
     let coll = c.args.coll.now in
     let object = c.args.object.now in
-    let taken : HasObject rows coll object × (c.args.off + c.args.len ≤ object_limit) = at_none _ _ _ c.in_ok-refusal.ensures.refusal c.in_default.is in
+    let taken : HasObject rows coll object × (c.args.off + c.args.len ≤ object_limit) =
+    at_none _ _ _ c.in_ok-refusal.ensures.refusal c.in_default.is in
     taken.1
 
 pub returns-in-Ok-clause-ok : goal.returns-in-Ok-clause-ok

@@ -2,7 +2,8 @@ use Rattle.object_model.specs.declared.command.Command.TheVariants as ask
 use Rattle.read_facts.specs.Answers.{IsAnswerOf}
 use Rattle.object_reader.specs.Missing.{HasObject}
 use Rattle.object_reader.specs.PartFails.{IsCsumOf}
-use Rattle.object_reader.proofs.AnswerLemmas.{ok_of, at_none, sum_taken, can_read, size_most, sum_gives, sum_fails}
+use Rattle.read_facts.proofs.Found.{sum_taken}
+use Rattle.object_reader.proofs.AnswerLemmas.{ok_of, at_none, can_read, size_most, sum_gives, sum_fails}
 use Rattle.object_reader.proofs.answering.answer_sum.Goals as goal
 
 pub sum-requires-clause-can : goal.sum-requires-clause-can
@@ -35,7 +36,7 @@ returns-in-Ok-clause-ok g c =
     let coll = c.args.coll.now in
     let object = c.args.object.now in
     let taken : HasObject rows coll object = at_none _ _ _ c.in_ok-refusal.ensures.refusal c.in_default.is in
-    let none = sum_taken rows coll object c.object_refusal.ensures.names.0 c.object_refusal.ensures.names.1 taken in
+    let none = sum_taken rows coll object c.object_refusal.ensures.names.0 c.object_refusal.ensures.names.1 taken.0 taken.1 in
     let size = c.in_ok-size.size in
     let pages = c.in_ok-pages.pages in
     sum_gives (g.D.Device.disk c.args.device.now) rows coll object size pages c.requires.readable c.in_ok-size.ensures c.in_ok-pages.ensures.found
@@ -48,7 +49,7 @@ returns-in-Err-clause-ok g c =
     let coll = c.args.coll.now in
     let object = c.args.object.now in
     let taken : HasObject rows coll object = at_none _ _ _ c.in_ok-refusal.ensures.refusal c.in_default.is in
-    let none = sum_taken rows coll object c.object_refusal.ensures.names.0 c.object_refusal.ensures.names.1 taken in
+    let none = sum_taken rows coll object c.object_refusal.ensures.names.0 c.object_refusal.ensures.names.1 taken.0 taken.1 in
     let size = c.in_ok-size.size in
     let pages = c.in_ok-pages.pages in
     ok_of c.csum_answer.result (IsCsumOf c.in-Err.why) (IsAnswerOf d rows (ask.Sum coll object))

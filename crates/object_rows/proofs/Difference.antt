@@ -69,7 +69,7 @@ module _ (key : List ℕ) where
   all_behind op ops less order = (
     less,
     all_map (λ later. byte_order (key_of op) (key_of later) ≡ Less) (λ later. byte_order key (key_of later) ≡ Less)
-    (λ later next. nat_list_cmp_total.trans key (key_of op) (key_of later) less next) ops order.0,
+        (λ later next. nat_list_cmp_total.trans key (key_of op) (key_of later) less next) ops order.0,
   )
 
 module _ (rows : Rows) where
@@ -143,7 +143,8 @@ alone_of : (before : Rows) (ops : List RowOp) (key : List ℕ) → KeysAscend op
 alone_of before [] key order changes same = tt
 alone_of before (op ∷ ops) key order changes same = (
   apart,
-  alone_of (row_after before op) ops key order.1 (rest_changes before op ops order.0 changes.1) (same ∙ sym (get-row_after_other before op key apart)),
+  alone_of (row_after before op) ops key order.1 (rest_changes before op ops order.0 changes.1)
+      (same ∙ sym (get-row_after_other before op key apart)),
 )
   where
     apart : key_of op ≢ key

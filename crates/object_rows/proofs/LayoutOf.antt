@@ -54,14 +54,15 @@ module _ (s : Super) (rows : Rows) (c o : List ℕ) (good : NoBadRow s rows) whe
     onode_row (shard d u page es) has key = absurd (onode_no_shard c o d u page coll name has.fits.coll_name has.fits.object_name key)
     onode_row (bitmap r bits) has key = absurd (bitmap_no_object r c o _ (sym key))
 
+    pub onode_under : (value : List ℕ) → finite.get rows (onode_key c o) ≡ Some value → (size : ℕ) × HasRow rows (onode c o size)
+    onode_under value is =
+        let g = good (onode_key c o) value is in
+        onode_row g.row (record { fits = g.fits; stands = ap (finite.get rows) (sym g.key_is) ∙ is ∙ ap Some g.value_is }) g.key_is
+
     size_of : (size : ℕ) × IsSizeOf rows c o size
     size_of = elim (finite.get rows (onode_key c o)) as (λ r. finite.get rows (onode_key c o) ≡ r → (size : ℕ) × IsSizeOf rows c o size) [
       | None ↦ λ p. (0, missing p)
-      | Some value ↦ λ p.
-          let g = good (onode_key c o) value p in
-          let found = onode_row g.row
-          (record { fits = g.fits; stands = ap (λ k. finite.get rows k) (sym g.key_is) ∙ p ∙ ap Some g.value_is }) g.key_is in
-          (found.0, there found.0 found.1)
+      | Some value ↦ λ p. let found = onode_under value p in (found.0, there found.0 found.1)
     ] refl
 
     -- ---- its shards, page by page
@@ -93,7 +94,8 @@ module _ (s : Super) (rows : Rows) (c o : List ℕ) (good : NoBadRow s rows) whe
       ];
     }
 
-    with_first : (from count : ℕ) → Found (from + 1) (from + 1 + count) → (own : List Extent) → HasRow rows (shard c o from own) → Found from (from + suc count)
+    with_first : (from count : ℕ) → Found (from + 1) (from + 1 + count) → (own : List Extent) → HasRow rows (shard c o from own)
+        → Found from (from + suc count)
     with_first from count rest own is = record {
       shards = (from, own) ∷ rest.shards;
       there = (is, rest.there);

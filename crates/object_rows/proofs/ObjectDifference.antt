@@ -72,8 +72,8 @@ module _ (rows : Rows) (c o : List ℕ) where
       all_append (Changes rows) (drops c o (filter is_low present)) _ (drops_change (filter is_low present) low)
       (new e.first refl, drops_change (filter (nat_lt e.first) present) high)
 
-  pub object_difference : (s : Super) (size : ℕ) (extents : List Extent) (present : List ℕ) → CanReplace s rows c o size extents present → Climb present
-      → AllByRecursion (λ page. HasKey rows (shard_key c o page)) present → IsNewShard extents
+  pub object_difference : (s : Super) (size : ℕ) (extents : List Extent) (present : List ℕ) → CanReplace s rows c o size extents present
+      → Climb present → AllByRecursion (λ page. HasKey rows (shard_key c o page)) present → IsNewShard extents
       → IsDifference rows (replaced rows c o size extents present) (object_ops rows c o size extents present)
   object_difference s size extents present can climb there new = record {
     in_order = ops_ascend s rows c o size extents present can climb;

@@ -94,7 +94,7 @@ module _ (s : Super) (rows : Rows) (c o : List ℕ) (off : ℕ) (bytes units : L
     -- the operations from the difference
     module _ (x : Layout) (plan : Plan) (has : HasLayout rows c o x) (p : MakesLayout rows c o x (made_of write units x) units plan) where
       found : ObjectInRows rows c o
-      found = object_in_rows s rows c o good can.coll_name can.object_name
+      found = object_in_rows s rows c o good can.in_coll.coll_named can.in_coll.named
 
       abbrev es_after : List Extent
       es_after = extents_of (entries (pages_after x.pages))
@@ -159,7 +159,10 @@ no_flips taken released (op ∷ ops) none_taken none_released turns = absurd
 turns_none : TurnsBits [] [] []
 turns_none = record {
   units = set.empty;
-  are_units = λ unit. (λ has. absurd (none_has unit has), λ either. elim either [ inl k ↦ absurd (none_in unit k) | inr k ↦ absurd (none_in unit k) ]);
+  are_units = λ unit. (
+    λ has. absurd (none_has unit has),
+    λ either. elim either [ inl k ↦ absurd (none_in unit k) | inr k ↦ absurd (none_in unit k) ],
+  );
   are_flips = λ unit has. absurd (none_has unit has);
 }
   where
@@ -251,7 +254,8 @@ module _ (s : Super) (rows : Rows) (c o : List ℕ) (coll : IsCollName c) (name 
   ]
 
   -- the difference from the operations
-  pub layout_touched : (x : Layout) → HasLayout rows c o x → MakesLayout rows c o x x [] (record { ops = touch_ops rows c o; fresh = []; released = [] })
+  pub layout_touched : (x : Layout) → HasLayout rows c o x
+      → MakesLayout rows c o x x [] (record { ops = touch_ops rows c o; fresh = []; released = [] })
   layout_touched x has =
       let t : Touched x = touched x has in
       record {
@@ -271,7 +275,8 @@ module _ (s : Super) (rows : Rows) (c o : List ℕ) (coll : IsCollName c) (name 
   touched_by units x plan no_units has p fresh =
       let none : plan.released ≡ [] = p.released_are ∙ none_left x.pages in
       let ops : touch_ops rows c o ≡ plan.ops = touch_difference x has p.after p.difference p.gets p.is_difference
-      ∙ sym (append-nil p.difference) ∙ ap (λ l. p.difference ++ l) (sym (no_flips units plan.released p.flips no_units none p.turns)) ∙ sym p.ops_are in
+      ∙ sym (append-nil p.difference) ∙ ap (λ l. p.difference ++ l) (sym (no_flips units plan.released p.flips no_units none p.turns))
+      ∙ sym p.ops_are in
       let no_fresh : [] ≡ plan.fresh = sym (fresh ∙ ap (λ us. pages_on us 0 []) no_units) in
       λ i. record { ops = ops i; fresh = no_fresh i; released = sym none i }
 

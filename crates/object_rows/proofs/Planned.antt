@@ -50,7 +50,8 @@ at_start off start = omega (arith, start)
 -- ---- records
 
 length-record : (number : ℕ) (ops : List RowOp) → length (record_bytes number ops) ≡ 24 + length (ops_bytes ops)
-length-record number ops = length-append (record_head number ops ++ to_le_bytes w32 (crc32c (record_head number ops ++ ops_bytes ops))) (ops_bytes ops)
+length-record number ops =
+    length-append (record_head number ops ++ to_le_bytes w32 (crc32c (record_head number ops ++ ops_bytes ops))) (ops_bytes ops)
 
 pub count_is : (number : ℕ) (ops : List RowOp) → unit_count number ops ≡ units_for (24 + length (ops_bytes ops))
 count_is number ops = ap units_for (length-record number ops)
@@ -137,7 +138,8 @@ module _ (s : Super) (rows : Rows) (good : NoBadRow s rows) where
 module _ (s : Super) (rows : Rows) where
   -- the operations are those that are known of each, since there is one difference
   pub plan_facts : {change : Change} {plan : Plan} → IsPlanned s rows change plan → NoBadRow s rows → PlanFacts s rows change plan
-  plan_facts (makes_coll c plan name none p) good = subst (PlanFacts s rows (coll_change c)) (coll_by rows c plan none p) (coll_facts s rows good c name)
+  plan_facts (makes_coll c plan name none p) good =
+      subst (PlanFacts s rows (coll_change c)) (coll_by rows c plan none p) (coll_facts s rows good c name)
   plan_facts (changes_object c (Touch o) units x plan can has p fresh) good = subst (PlanFacts s rows (touch_change c o))
       (touched_by s rows c o can.0.coll_named can.0.named can.0.there good units x plan can.1 has p fresh)
       (touch_facts s rows good c o can.0)
@@ -167,7 +169,7 @@ module _ (s : Super) (rows : Rows) where
   planned_ok objects (changes_object c (Touch o) units x plan can has p fresh) shape = touch_ok rows objects c o shape can.0.there
   planned_ok objects (changes_object c (Write o off bytes) units x plan can has p fresh) shape =
       subst (λ (n : ℕ). IsOk (submitted_effect (record { coll = c; ops = Write o n bytes ∷ [] }) objects)) (at_start off can.0)
-      (write_ok rows objects c o shape (off / 4096) bytes can.1.short can.1.has_collection can.1.within)
+      (write_ok rows objects c o shape (off / 4096) bytes can.1.short can.1.in_coll.there can.1.within)
   planned_ok objects (changes_object c op units x plan can has p fresh) shape = absurd can
 
   pub planned_effect : {change : Change} {plan : Plan} (objects : Objects) → IsPlanned s rows change plan

@@ -103,7 +103,7 @@ module _ (s : Super) (rows : Rows) (c o : List ℕ) (first : ℕ) (bytes units :
     (
       crc32c (unit_at 0 bytes),
       (w.are_pages (first + 0) (own (slice_index units 0) (crc32c (unit_at 0 bytes)))).0
-      (ap (λ (m : PageMap). finite.get m (first + 0)) same ∙ made.inside 0 can.some),
+          (ap (λ (m : PageMap). finite.get m (first + 0)) same ∙ made.inside 0 can.some),
     ),
   )
 
@@ -150,9 +150,9 @@ module _ (s : Super) (rows : Rows) (c o : List ℕ) (first : ℕ) (bytes units :
     can_write : CanWrite s rows c o first bytes units size w.present
     can_write = record {
       good = good;
-      coll_name = can.coll_name;
-      object_name = can.object_name;
-      has_collection = can.has_collection;
+      coll_name = can.in_coll.coll_named;
+      object_name = can.in_coll.named;
+      has_collection = can.in_coll.there;
       shards = w.are_shards;
       some = can.some;
       whole = can.whole;
@@ -174,7 +174,7 @@ module _ (s : Super) (rows : Rows) (c o : List ℕ) (first : ℕ) (bytes units :
     -- the new shard isn't the old one, for the same reason
     new_shard : IsNewShard rows c o extents
     new_shard page begins stands =
-        let row = has_shard rows then c o size extents can.coll_name can.object_name can_replace.size_most can_replace.fit
+        let row = has_shard rows then c o size extents can.in_coll.coll_named can.in_coll.named can_replace.size_most can_replace.fit
         (are_then s rows c o size extents w.present can_replace) page begins in
         let csum : ℕ = crc32c (unit_at 0 bytes) in
         let at : IsPageAt rows c o (first + 0) (own (slice_index units 0) csum) = record {
@@ -213,7 +213,7 @@ module _ (s : Super) (rows : Rows) (c o : List ℕ) (first : ℕ) (bytes units :
     write_short =
         let most : size ≤ object_limit = can_write.size_most in
         let pages : pages_of size ≤ 32768 = omega (arith, most) in
-        let few = few_shards s rows c o good can.coll_name can.object_name w.before w.present w.was_long w.are_shards.below w.there w.in_order in
+        let few = few_shards s rows c o good can.in_coll.coll_named can.in_coll.named w.before w.present w.was_long w.are_shards.below w.there w.in_order in
         omega (
           arith,
           ap (λ x. length (ops_bytes x)) w.ops_are,

@@ -33,12 +33,16 @@ pub record AreFresh (s : Super) (rows : Rows) (units : List ℕ) : Type 0 where
   pub unmarked : AllByRecursion (λ u. ¬ IsMarked rows u) units
   pub fit : AllByRecursion (λ u. u < 2 ^ 32) units
 
+-- the object's collection is there, and both names are names
+pub record IsInColl (c o : List ℕ) (rows : Rows) : Type 0 where
+  pub coll_named : IsCollName c
+  pub named : IsName o
+  pub there : HasKey rows (coll_key c)
+
 -- Whole pages within the limits of a transaction and of an object, a fresh unit for each, and a collection that the rows have: the write
 -- can be planned.
 pub record CanPlanWrite (s : Super) (rows : Rows) (c o : List ℕ) (first : ℕ) (bytes units : List ℕ) : Type 0 where
-  pub coll_name : IsCollName c
-  pub object_name : IsName o
-  pub has_collection : HasKey rows (coll_key c)
+  pub in_coll : IsInColl c o rows
   pub units_most : s.units ≤ 2 ^ 32
   pub fresh : AreFresh s rows units
   pub some : 0 < length units
@@ -46,12 +50,6 @@ pub record CanPlanWrite (s : Super) (rows : Rows) (c o : List ℕ) (first : ℕ)
   pub short : length bytes ≤ payload_limit
   pub within : 4096 * first + length bytes ≤ object_limit
   pub csums_fit : (i : ℕ) → i < length units → crc32c (unit_at i bytes) < 2 ^ 32
-
--- the object's collection is there, and both names are names
-pub record IsInColl (c o : List ℕ) (rows : Rows) : Type 0 where
-  pub coll_named : IsCollName c
-  pub named : IsName o
-  pub there : HasKey rows (coll_key c)
 
 -- what an operation on an object needs of the rows and of the units that it takes
 abbrev pub CanPlan : Super → Rows → List ℕ → Op → List ℕ → Type 0

@@ -1,4 +1,4 @@
--- What transactions are turned into before they are committed.
+-- The operations that planning gives: those on an object, and behind them those on the bitmap.
 use Rattle.std.specs.Prelude.{◌≡◌, ◌↔◌, ◌⊎◌, ℕ, ◌+◌, ◌*◌, max, List, [], ◌∷◌, ◌++◌, length, Contains, if◌then◌else◌}
 use Rattle.std.specs.List.{AllByRecursion, flat_map}
 use Rattle.std.specs.Ordering.{nat_cmp}
@@ -39,7 +39,7 @@ pub record TurnsBits (taken released : List ℕ) (flips : List RowOp) : Type 0 w
   pub are_units : (unit : ℕ) → Has units unit ↔ (Contains taken unit ⊎ Contains released unit)
   pub are_flips : AreFlips units flips
 
--- What the writing of whole pages from one on is turned into: the pages stand on these units, one each, and the units that they stood on are
+-- The operations that write whole pages from one on: the pages stand on these units, one each, and the units that they stood on are
 -- released. The other pages stay where they are, and all are in one shard. Behind the object's operations stand those on the bitmap, whose keys
 -- are behind all others.
 pub record WritesPages (rows : Rows) (c o : List ℕ) (first : ℕ) (bytes units : List ℕ) (ops : List RowOp) (released : List ℕ)
@@ -58,6 +58,6 @@ pub record WritesPages (rows : Rows) (c o : List ℕ) (first : ℕ) (bytes units
       (extents_of (finite.entries (with_pages pages (new_pages first 0 units bytes)))) present ++ flips
   pub released_are : released ≡ units_between pages first (length units)
 
--- what touching an object is turned into: nothing where it is there, and an onode of no bytes where it isn't
+-- the operations that touch an object: none where it is there, and an onode of no bytes where it isn't
 abbrev pub touch_ops : Rows → List ℕ → List ℕ → List RowOp
 touch_ops rows c o = if finite.contains_key rows (onode_key c o) then [] else object_ops rows c o 0 [] []

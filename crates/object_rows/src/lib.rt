@@ -16,5 +16,5 @@ pub use laws::{
 pub use plan::{FreshUnit, Plan};
 pub use plans::{
     planned_bitmap, planned_owners, planned_record, planned_rows, planned_units,
-    replies_by_objects_rows,
+    plans_by_operations, replies_by_objects_rows,
 };

@@ -1,5 +1,5 @@
 //! What plans come to. Each function has laws for its contract and does nothing.
-ghost use Rattle.std.specs.Prelude.{Contains, None, Ok, Err, IsOk, ◌≡◌, ◌⊎◌, ◌<◌, ◌≤◌, ◌+◌, ◌*◌, ◌^◌, ℕ, List, length};
+ghost use Rattle.std.specs.Prelude.{Contains, None, Ok, Err, IsOk, ◌≡◌, ◌⊎◌, ◌<◌, ◌≤◌, ◌+◌, ◌*◌, ◌/◌, ◌%◌, ◌^◌, ℕ, List, [], length};
 ghost use Rattle.std.specs.List.{AllByRecursion};
 ghost use Rattle.std.specs.FinMap as map;
 ghost use Rattle.byte_maps.specs.Units.{units_for};
@@ -11,6 +11,7 @@ ghost use Rattle.meta_rows.specs.declared.row_op.RowOp.{RowOp};
 ghost use Rattle.object_model.specs.Objects.{Objects};
 ghost use Rattle.object_model.specs.Effect.{Change, transaction_effect, object_limit};
 ghost use Rattle.object_model.specs.Limits.{payload_limit, submitted_effect};
+ghost use Rattle.object_model.specs.declared.op.Op.TheVariants.{Write};
 ghost use Rattle.object_model.specs.declared.op.Refusal.TheVariants.{NoCollection, TooBig};
 ghost use Rattle.unit_fields.specs.UnitSet.{Ascends};
 ghost use Rattle.row_format.specs.Keys.{coll_key};
@@ -18,10 +19,13 @@ ghost use Rattle.store_image.specs.Pages.{HasKey, HasPage};
 ghost use Rattle.store_image.specs.BadRows.{NoBadRow};
 ghost use Rattle.store_image.specs.Owners.{IsDataUnit, IsOwned, IsMarked, IsExactAs, HasSoleOwner};
 ghost use Rattle.store_image.specs.Stands.{IsShape, ObjectsStand};
+ghost use Rattle.row_facts.specs.Operations.{coll_ops};
+ghost use Rattle.object_rows.specs.Layouts.{Layout, HasLayout, made_of, MakesColl, MakesLayout};
 ghost use Rattle.object_rows.specs.Operations.{KeysAscend};
+ghost use Rattle.object_rows.specs.Plans.{WritesPages, touch_ops};
 ghost use Rattle.object_rows.specs.Writes.{write_change, touch_change};
 ghost use Rattle.object_rows.specs.declared.plan.Plan.{Plan};
-ghost use Rattle.object_rows.specs.Planned.{IsPlanned, HoldsFresh, IsFresh, StandsOnce, fresh_units};
+ghost use Rattle.object_rows.specs.Planned.{CanPlanWrite, IsInColl, IsPlanned, HoldsFresh, IsFresh, StandsOnce, fresh_units};
 
 /// A planned transaction is accepted, its operations leave no bad row, and rows that stand for the objects after it, once its
 /// fresh units hold their bytes, and those on which pages stand what they held.
@@ -110,4 +114,16 @@ pub fn replies_by_objects_rows()
         submitted_effect (touch_change c o) objects ≡ transaction_effect (touch_change c o) objects }
     ensures write_submitted { (objects : Objects) (c o : List ℕ) (first : ℕ) (bytes : List ℕ) → length bytes ≤ payload_limit
         → submitted_effect (write_change c o first bytes) objects ≡ transaction_effect (write_change c o first bytes) objects }
+{}
+
+/// The operations that planning gives are differences: what makes a missing collection, what touches an object, and what writes whole pages
+/// on fresh units.
+pub fn plans_by_operations()
+    ensures collection { (rows : Rows) (c : List ℕ) → map.get rows (coll_key c) ≡ None
+        → MakesColl rows c (record { ops = coll_ops c; fresh = []; released = [] }) }
+    ensures touched { (s : Super) (rows : Rows) (c o : List ℕ) (x : Layout) → NoBadRow s rows → IsInColl c o rows → HasLayout rows c o x
+        → MakesLayout rows c o x x [] (record { ops = touch_ops rows c o; fresh = []; released = [] }) }
+    ensures written { (s : Super) (rows : Rows) (c o : List ℕ) (off : ℕ) (bytes units : List ℕ) (plan : Plan) → NoBadRow s rows → off % 4096 ≡ 0
+        → CanPlanWrite s rows c o (off / 4096) bytes units → (w : WritesPages rows c o (off / 4096) bytes units plan.ops plan.released)
+        → (let x : Layout = record { size = w.before; pages = w.pages } in MakesLayout rows c o x (made_of (Write o off bytes) units x) units plan) }
 {}

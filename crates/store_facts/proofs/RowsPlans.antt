@@ -165,9 +165,7 @@ module _ (s : Super) (committed rows : Rows) (space : Space) (limits : IsSuper s
   can_plan c o off bytes units known in_coll short within enough lowest csums_fit =
       let count : length units ≡ length bytes / 4096 = ap length lowest ∙ length-take-le (length bytes / 4096) (free_units space) enough in
       record {
-        coll_name = in_coll.coll_named;
-        object_name = in_coll.named;
-        has_collection = in_coll.there;
+        in_coll = in_coll;
         units_most = omega (arith, limits.units_most);
         fresh = subst (planned_as.AreFresh s rows) (sym lowest) (lowest_fresh (length bytes / 4096));
         some = omega (arith, count, known.1, known.2);

@@ -1,3 +1,4 @@
 pub mod ByteMap
+pub mod Held
 pub mod Totals
 pub mod Units

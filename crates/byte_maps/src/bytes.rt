@@ -1,73 +1,154 @@
 //! Byte strings, and what it is to be copied where memory may run out.
-ghost use Rattle.std.specs.Prelude.{◌≡◌, ◌↔◌, ◌++◌, ◌∷◌, ℕ, List, [], length, IsTrue, IfOk, OnOk, OnErr};
+ghost use Rattle.std.specs.Prelude.{◌≡◌, ◌↔◌, ◌≤◌, ◌<◌, ◌++◌, ◌∷◌, ℕ, List, [], length, take, slice_set, IsTrue, IfOk, OnOk, OnErr};
 
 use std::alloc::{AllocError, Global};
 use std::marker::Model;
 
-/// A byte string, seen as the list of its bytes.
+// The most bytes that lie in the value itself. Most keys of rows, their values and names are as short.
+const SHORT: usize = 31;
+
+// The count of those that lie in a buffer.
+const MANY: u8 = 32;
+
+/// A byte string, seen as the list of its bytes. Up to 31 bytes lie in the value itself, so that they take no other memory.
 #[derive(Debug, Drop)]
 pub struct Bytes {
-    held: Vec<u8>,
+    // So many of the few, or MANY.
+    count: u8,
+    few: [u8; SHORT],
+    // All bytes, where they are many.
+    many: Vec<u8>,
 }
 
 impl Model for Bytes {
+    ghost use Rattle.std.specs.Prelude.{List, ℕ};
+
     ghost Value = { List ℕ };
 
-    ghost view = { λ a. a.held.items };
+    ghost use Rattle.byte_maps.specs.Held.{bytes_of, IsHeld};
+
+    ghost view = { bytes_of };
+
+    ghost invariant = { IsHeld };
+}
+
+// Few bytes in an array.
+fn few_of(bytes: &[u8]) -> [u8; SHORT]
+    requires { length bytes.now ≤ 31 }
+    ensures { take (length bytes.now) result ≡ bytes.now }
+{
+    let mut few = [0u8; SHORT];
+    few[..bytes.len()].copy_from_slice(bytes);
+    few
+}
+
+// Bytes, and others behind them, in a buffer.
+fn joined(alloc: Global, bytes: &[u8], others: &[u8]) -> Result<Vec<u8>, AllocError>
+    ensures { IfOk result (λ both. both.items ≡ bytes.now ++ others.now) }
+{
+    let mut both = Vec::with_capacity(alloc, bytes.len().saturating_add(others.len()))?;
+    both.extend_from_slice(bytes)?;
+    both.extend_from_slice(others)?;
+    Ok(both)
 }
 
 impl Bytes {
+    // Few bytes.
+    fn short(alloc: Global, bytes: &[u8]) -> Bytes
+        requires { length bytes.now ≤ 31 }
+        ensures { result ≡ bytes.now }
+    {
+        Bytes {
+            count: bytes.len() as u8,
+            few: few_of(bytes),
+            many: Vec::new(alloc),
+        }
+    }
+
+    // Bytes in a buffer.
+    fn long(many: Vec<u8>) -> Bytes
+        ensures { result ≡ many.items }
+    {
+        Bytes {
+            count: MANY,
+            few: [0; SHORT],
+            many,
+        }
+    }
+
     /// The empty byte string. It takes no memory.
     pub fn new(alloc: Global) -> Bytes
         ensures { result ≡ [] }
     {
-        Bytes {
-            held: Vec::new(alloc),
-        }
+        Bytes::long(Vec::new(alloc))
     }
 
-    /// The bytes of a vector, which is moved in.
+    /// The bytes of a vector, which is moved in, or given back where they are few.
     pub fn from_vec(held: Vec<u8>) -> Bytes
         ensures { result ≡ held.items }
     {
-        Bytes { held }
+        if held.len() <= SHORT {
+            let alloc = *held.allocator();
+            return Bytes::short(alloc, &held);
+        }
+        Bytes::long(held)
     }
 
     /// A copy of these bytes.
     pub fn from_slice(alloc: Global, bytes: &[u8]) -> Result<Bytes, AllocError>
         ensures { IfOk result (λ made. made ≡ bytes.now) }
     {
-        Ok(Bytes {
-            held: Vec::from_slice(alloc, bytes)?,
-        })
+        if bytes.len() <= SHORT {
+            return Ok(Bytes::short(alloc, bytes));
+        }
+        Ok(Bytes::long(Vec::from_slice(alloc, bytes)?))
     }
 
-    /// The vector that holds the bytes, with room as it comes.
-    pub fn into_vec(self) -> Vec<u8>
-        ensures { result.items ≡ self }
+    /// A vector that holds the bytes. It takes memory where they are few.
+    pub fn into_vec(self, alloc: Global) -> Result<Vec<u8>, AllocError>
+        ensures { IfOk result (λ bytes. bytes.items ≡ self) }
     {
-        self.held
+        if self.count == MANY {
+            return Ok(self.many);
+        }
+        Vec::from_slice(alloc, self.as_slice())
     }
 
     /// The bytes, lent.
     pub fn as_slice(&self) -> &[u8]
         ensures { result.now ≡ self.now }
     {
-        self.held.as_slice()
+        if self.count == MANY {
+            self.many.as_slice()
+        } else {
+            &self.few[..usize::from(self.count)]
+        }
     }
 
     /// How many bytes there are.
     pub fn len(&self) -> usize
         ensures { result ≡ length self.now }
     {
-        self.held.len()
+        self.as_slice().len()
     }
 
     /// Whether there is no byte.
     pub fn is_empty(&self) -> bool
         ensures { IsTrue result ↔ (self.now ≡ []) }
     {
-        self.held.is_empty()
+        self.as_slice().is_empty()
+    }
+
+    /// Puts a byte in the place of another.
+    pub fn set(&mut self, at: usize, byte: u8)
+        requires { at < length self.old }
+        ensures { self.new ≡ slice_set self.old at byte }
+    {
+        if self.count == MANY {
+            self.many[at] = byte;
+        } else {
+            self.few[at] = byte;
+        }
     }
 
     /// Adds a byte at the end.
@@ -75,7 +156,7 @@ impl Bytes {
         ensures ok { OnOk result (self.new ≡ self.old ++ byte ∷ []) }
         ensures err { OnErr result (self.new ≡ self.old) }
     {
-        Ok(self.held.push(byte)?)
+        self.extend_from_slice(&[byte])
     }
 
     /// Adds these bytes at the end, all or none.
@@ -83,14 +164,23 @@ impl Bytes {
         ensures ok { OnOk result (self.new ≡ self.old ++ bytes.now) }
         ensures err { OnErr result (self.new ≡ self.old) }
     {
-        self.held.extend_from_slice(bytes)
+        if self.count == MANY {
+            return self.many.extend_from_slice(bytes);
+        }
+        let alloc = *self.many.allocator();
+        self.many = joined(alloc, self.as_slice(), bytes)?;
+        self.count = MANY;
+        Ok(())
     }
 
     /// Makes room for `more` bytes. It is a hint: the meaning has no capacity, so no clause says that the next pushes succeed.
     pub fn reserve(&mut self, more: usize) -> Result<(), AllocError>
         ensures { self.new ≡ self.old }
     {
-        self.held.reserve(more)
+        if self.count == MANY {
+            return self.many.reserve(more);
+        }
+        Ok(())
     }
 }
 
@@ -103,6 +193,13 @@ pub trait Duplicate {
 
 impl Duplicate for Bytes {
     fn duplicate(&self, alloc: Global) -> Result<Bytes, AllocError> {
-        Bytes::from_slice(alloc, self.as_slice())
+        if self.count == MANY {
+            return Ok(Bytes::long(Vec::from_slice(alloc, self.many.as_slice())?));
+        }
+        Ok(Bytes {
+            count: self.count,
+            few: self.few,
+            many: Vec::new(alloc),
+        })
     }
 }

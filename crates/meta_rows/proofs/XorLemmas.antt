@@ -1,9 +1,11 @@
 -- The exclusive-or of byte strings, byte by byte.
-use Rattle.std.proofs.Common.{◌≡◌, ℕ, zero, suc, ◌+◌, ◌<◌, ◌≤◌, Bool, true, false, List, [], ◌∷◌, length, get_or, take, set, refl, sym, ap, ap₂, ◌∙◌, arith}
+use Rattle.std.proofs.Common.{◌≡◌, ℕ, zero, suc, ◌+◌, ◌<◌, ◌≤◌, Bool, true, false, List, [], ◌∷◌, length, get_or, take, set, refl, sym, ap, ap₂, ◌∙◌, arith, length-take-le}
 use Rattle.std.specs.Prelude.{All, IsTrue, ◌↔◌, bit_xor, ◌==◌, ◌&&◌}
 use Rattle.std.specs.List.{AllByRecursion}
 use Rattle.std.proofs.lemmas.List.Elements.{All-from_recursion, recursion_from_All}
+use Rattle.std.proofs.lemmas.List.{set-get_or}
 use Rattle.std.proofs.lemmas.Nat.{xor_comm}
+use Rattle.std.specs.Int.Bits.{xor_zero_r}
 use Rattle.std.proofs.lemmas.Bool.{eqb-true, false≢true}
 use Rattle.meta_rows.specs.Rows.{xor_bytes, all_zero}
 
@@ -36,16 +38,27 @@ xor_bytes-take_suc [] (y ∷ ys) i d e below h = absurd (omega arith)
 xor_bytes-take_suc (x ∷ xs) (y ∷ ys) zero d e below h = ap (λ (bs : List ℕ). bit_xor x y ∷ bs) (sym (xor_bytes-none xs))
 xor_bytes-take_suc (x ∷ xs) (y ∷ ys) (suc i) d e below h = ap (λ (bs : List ℕ). bit_xor x y ∷ bs) (xor_bytes-take_suc xs ys i d e (omega arith) (omega arith))
 
-pub xor_bytes-take_more : (bytes xs ys zs : List ℕ) (i b e : ℕ) → b ≡ get_or bytes i b → zs ≡ ys → bytes ≡ xor_bytes xs (take i ys) → i < length zs
-    → length ys ≤ length xs
-    → set bytes i (bit_xor b (get_or zs i e)) ≡ xor_bytes xs (take (i + 1) ys)
-xor_bytes-take_more bytes xs ys zs i b e at same is below h =
+pub xor_bytes-take_more : (bytes xs ys zs : List ℕ) (i d e : ℕ) → zs ≡ ys → bytes ≡ xor_bytes xs (take i ys) → i < length zs → length ys ≤ length xs
+    → set bytes i (bit_xor (get_or bytes i d) (get_or zs i e)) ≡ xor_bytes xs (take (i + 1) ys)
+xor_bytes-take_more bytes xs ys zs i d e same is below h =
     let next : suc i ≡ i + 1 = omega arith in
-    ap (λ (n : ℕ). set bytes i (bit_xor n (get_or zs i e))) at
-    ∙ ap (λ (l : List ℕ). set bytes i (bit_xor (get_or bytes i b) (get_or l i e))) same
-    ∙ ap (λ (bs : List ℕ). set bs i (bit_xor (get_or bs i b) (get_or ys i e))) is
-    ∙ xor_bytes-take_suc xs ys i b e (omega (arith, below, ap length same)) h
+    ap (λ (l : List ℕ). set bytes i (bit_xor (get_or bytes i d) (get_or l i e))) same
+    ∙ ap (λ (bs : List ℕ). set bs i (bit_xor (get_or bs i d) (get_or ys i e))) is
+    ∙ xor_bytes-take_suc xs ys i d e (omega (arith, below, ap length same)) h
     ∙ ap (λ (n : ℕ). xor_bytes xs (take n ys)) next
+
+-- its place is one of the longer one
+pub xor_bytes-place : (bytes xs ys zs : List ℕ) (i : ℕ) → zs ≡ ys → bytes ≡ xor_bytes xs (take i ys) → i < length zs → length ys ≤ length xs
+    → i < length bytes
+xor_bytes-place bytes xs ys zs i same is below h =
+    let there : i < length ys = omega (arith, below, ap length same) in
+    let some = length-take-le i ys (omega (arith, there)) in
+    omega (arith, there, h, ap length is, length-xor_bytes_long xs (take i ys) (omega (arith, some, there, h)))
+
+-- a byte of a mask that is zero leaves the byte
+pub set-xor_zero : (bytes : List ℕ) (i mask : ℕ) → mask ≡ 0 → bytes ≡ set bytes i (bit_xor (get_or bytes i 0) mask)
+set-xor_zero bytes i mask none =
+    sym (ap (λ (m : ℕ). set bytes i (bit_xor (get_or bytes i 0) m)) none ∙ ap (λ (b : ℕ). set bytes i b) (xor_zero_r (get_or bytes i 0)) ∙ set-get_or bytes i 0)
 
 -- ---- zeros
 

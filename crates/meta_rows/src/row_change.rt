@@ -1,5 +1,5 @@
 //! What an operation makes of one row.
-ghost use Rattle.std.specs.Prelude.{◌≡◌, ◌↔◌, ◌≤◌, [], length, unwrap_or, not, if◌then◌else◌, All, IsTrue};
+ghost use Rattle.std.specs.Prelude.{◌≡◌, ◌↔◌, ◌≤◌, ◌<◌, [], length, get_or, slice_set, bit_xor, unwrap_or, not, if◌then◌else◌, All, IsTrue};
 ghost use Rattle.meta_rows.specs.Rows.{xor_bytes, all_zero, key_of};
 ghost use Rattle.meta_rows.specs.Table.{value_left};
 
@@ -13,16 +13,27 @@ fn is_all_zero(bytes: &[u8]) -> bool
     bytes.iter().all(|byte| *byte == 0)
 }
 
+// A byte takes the exclusive-or with one of a mask. Most bytes of a mask are zero, and leave it.
+fn flip_byte(bytes: &mut Bytes, at: usize, mask: u8)
+    requires { at < length bytes.old }
+    ensures { bytes.new ≡ slice_set bytes.old at (bit_xor (get_or bytes.old at 0) mask) }
+{
+    if mask != 0 {
+        let byte = bytes.as_slice()[at];
+        bytes.set(at, byte ^ mask);
+    }
+}
+
 // The longer buffer takes the exclusive-or.
 fn xored_into(long: Bytes, short: &Bytes) -> Bytes
     requires { length short.now ≤ length long }
     ensures { result ≡ xor_bytes long short.now }
 {
-    let mut bytes = long.into_vec();
+    let mut bytes = long;
     for (i, byte) in short.as_slice().iter().enumerate() {
-        bytes[i] ^= *byte;
+        flip_byte(&mut bytes, i, *byte);
     }
-    Bytes::from_vec(bytes)
+    bytes
 }
 
 fn xored(value: Bytes, mask: Bytes) -> Bytes

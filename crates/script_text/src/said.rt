@@ -101,7 +101,7 @@ impl Said {
                 off,
                 bytes,
             } => {
-                let bytes = SharedBytes::from_vec(bytes.into_bytes(alloc)?.into_vec())?;
+                let bytes = SharedBytes::from_vec(bytes.into_bytes(alloc)?.into_vec(alloc)?)?;
                 change(alloc, coll, Op::Write { object, off, bytes })
             }
             Kept::Other(what) => Ok(what),

@@ -2,7 +2,7 @@
 ghost use Rattle.std.specs.Prelude.{◌≡◌, ◌<◌, ◌^◌, ℕ, Some, IfOk, MatchOption};
 ghost use Rattle.unit_fields.specs.Names.{IsCollName, coll_name};
 
-use byte_maps::Duplicate;
+use byte_maps::{Bytes, Duplicate};
 use std::alloc::{AllocError, Global};
 use std::marker::Model;
 
@@ -11,7 +11,7 @@ use std::marker::Model;
 /// The pool is a decimal u64, the seed a lower-case hexadecimal u32, neither with leading zeros.
 #[derive(Debug, Drop)]
 pub struct CollName {
-    bytes: Vec<u8>,
+    bytes: Bytes,
 }
 
 impl Model for CollName {
@@ -20,9 +20,9 @@ impl Model for CollName {
 
     ghost Value = { List ℕ };
 
-    ghost view = { λ a. a.bytes.items };
+    ghost view = { λ a. a.bytes };
 
-    ghost invariant = { λ a. IsCollName a.bytes.items };
+    ghost invariant = { λ a. IsCollName a.bytes };
 }
 
 // The pool and the seed that a name spells. Other bytes may be read as numbers too: whoever calls spells them again.
@@ -49,7 +49,7 @@ impl CollName {
     pub fn new(alloc: Global, pool: u64, seed: u32) -> Result<CollName, AllocError>
         ensures { IfOk result (λ name. name ≡ coll_name pool seed) }
     {
-        let bytes = spelling(alloc, pool, seed)?;
+        let bytes = Bytes::from_vec(spelling(alloc, pool, seed)?);
         Ok(CollName { bytes })
     }
 
@@ -82,7 +82,7 @@ impl CollName {
     pub fn copy(&self, alloc: Global) -> Result<CollName, AllocError>
         ensures { IfOk result (λ copy. copy ≡ self.now) }
     {
-        let bytes = Vec::from_slice(alloc, self.bytes.as_slice())?;
+        let bytes = self.bytes.duplicate(alloc)?;
         Ok(CollName { bytes })
     }
 }

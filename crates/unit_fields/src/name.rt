@@ -3,14 +3,14 @@ ghost use Rattle.std.specs.Prelude.{◌≡◌, IfOk, MatchOption, IsTrue, ◌↔
 ghost use Rattle.unit_fields.specs.Names.{IsName};
 
 use crate::limits::NAME_LIMIT;
-use byte_maps::Duplicate;
+use byte_maps::{Bytes, Duplicate};
 use std::alloc::{AllocError, Global};
 use std::marker::Model;
 
 /// A name of an object, an attribute or an omap key, seen as the list of its bytes: 1 to 255, none of them zero.
 #[derive(Debug, Drop)]
 pub struct Name {
-    bytes: Vec<u8>,
+    bytes: Bytes,
 }
 
 impl Model for Name {
@@ -19,9 +19,9 @@ impl Model for Name {
 
     ghost Value = { List ℕ };
 
-    ghost view = { λ a. a.bytes.items };
+    ghost view = { λ a. a.bytes };
 
-    ghost invariant = { λ a. IsName a.bytes.items };
+    ghost invariant = { λ a. IsName a.bytes };
 }
 
 fn is_name(bytes: &[u8]) -> bool
@@ -38,7 +38,7 @@ impl Name {
         if !is_name(bytes) {
             return Ok(None);
         }
-        let bytes = Vec::from_slice(alloc, bytes)?;
+        let bytes = Bytes::from_slice(alloc, bytes)?;
         Ok(Some(Name { bytes }))
     }
 
@@ -54,7 +54,7 @@ impl Name {
     pub fn copy(&self, alloc: Global) -> Result<Name, AllocError>
         ensures { IfOk result (λ copy. copy ≡ self.now) }
     {
-        let bytes = Vec::from_slice(alloc, self.bytes.as_slice())?;
+        let bytes = self.bytes.duplicate(alloc)?;
         Ok(Name { bytes })
     }
 }

@@ -81,7 +81,8 @@ fn alone(object: Name, words: Words<'_>) -> Result<Name, CaseError> {
 
 fn write(alloc: Global, object: Name, mut words: Words<'_>) -> Result<Op, CaseError> {
     let off = words.number()?;
-    let Ok(bytes) = SharedBytes::from_vec(last_bytes(alloc, words)?.into_vec()) else {
+    let bytes = last_bytes(alloc, words)?.into_vec(alloc)?;
+    let Ok(bytes) = SharedBytes::from_vec(bytes) else {
         return Err(CaseError::OutOfMemory);
     };
     Ok(Op::Write { object, off, bytes })

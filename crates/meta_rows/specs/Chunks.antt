@@ -2,7 +2,7 @@
 use Rattle.std.specs.Prelude.{◌≡◌, ℕ, suc, ◌+◌, ◌-◌, ◌*◌, ◌<◌, ◌≤◌, T, List, [], ◌∷◌, ◌++◌, length, take, drop, get_or}
 use Rattle.std.specs.List.{AllByRecursion}
 use Rattle.std.specs.declared.cmp.Ordering.{Ordering}
-use Rattle.std.specs.declared.cmp.Ordering.TheVariants.{Less}
+use Rattle.std.specs.declared.cmp.Ordering.TheVariants.{Less, Equal}
 use Rattle.std.specs.FinMap as map
 use Rattle.std.specs.FinMap.Entries.{below_all}
 use Rattle.std.specs.Vec.{vec_len, vec_capacity}
@@ -27,6 +27,10 @@ first_order key (row ∷ rows) = byte_order row.0 key
 -- `key` is above the last key, and so above all where they are in order
 abbrev pub IsPastLast : List ℕ → List Entry → Type 0
 IsPastLast key rows = (0 < length rows) × ((d : Entry) → byte_order (get_or rows (length rows - 1) d).0 key ≡ Less)
+
+-- `key` is the last key
+abbrev pub IsLastKey : List ℕ → List Entry → Type 0
+IsLastKey key rows = (0 < length rows) × ((d : Entry) → byte_order (get_or rows (length rows - 1) d).0 key ≡ Equal)
 
 -- the rows that chunks have beyond the 96 that either part of a split one has at most
 abbrev pub beyond_parts : List (List Entry) → ℕ

@@ -7,7 +7,8 @@ ghost use Rattle.std.specs.List.Sorted.{IsSearchInRange, IsBinarySearchResult};
 ghost use Rattle.byte_maps.specs.ByteMap.{byte_order};
 ghost use Rattle.meta_rows.specs.Rows.{key_of};
 ghost use Rattle.meta_rows.specs.Table.{entries_after, value_left, left_at, come_at, GrowsBy, StartsAt};
-ghost use Rattle.meta_rows.specs.Chunks.{first_order, IsPastLast};
+ghost use Rattle.std.specs.declared.cmp.Ordering.TheVariants.{Less, Equal};
+ghost use Rattle.meta_rows.specs.Chunks.{first_order, IsPastLast, IsLastKey};
 
 use crate::row_change::left_by;
 use crate::row_op::RowOp;
@@ -48,25 +49,26 @@ fn place_of(entries: &[(Bytes, Bytes)], key: &[u8]) -> Result<usize, usize>
     entries.binary_search_by(|entry| entry.0.as_slice().cmp(key))
 }
 
-// Whether a key is above all others.
-fn is_above_all(entries: &[(Bytes, Bytes)], key: &[u8]) -> bool
-    ensures { IsTrue result → IsPastLast key.now entries.now }
+// How the last key compares with this one, or as one above it where there is none.
+fn last_order(entries: &[(Bytes, Bytes)], key: &[u8]) -> Ordering
+    ensures less { result ≡ Less → IsPastLast key.now entries.now }
+    ensures equal { result ≡ Equal → IsLastKey key.now entries.now }
 {
     match entries.last() {
-        Some(last) => matches!(last.0.as_slice().cmp(key), Ordering::Less),
-        None => false,
+        Some(last) => last.0.as_slice().cmp(key),
+        None => Ordering::Greater,
     }
 }
 
-// The same place as `place_of` finds, by one comparison where the key comes behind all others.
+// The same place as `place_of` finds, by one comparison where the key is the last one or comes behind all others.
 fn place_for(entries: &[(Bytes, Bytes)], key: &[u8]) -> Result<usize, usize>
     ensures bound { IsSearchInRange result (length entries.now) }
     ensures position { IsBinarySearchResult (λ e. byte_order e.0 key.now) entries.now result }
 {
-    if is_above_all(entries, key) {
-        Err(entries.len())
-    } else {
-        place_of(entries, key)
+    match last_order(entries, key) {
+        Ordering::Less => Err(entries.len()),
+        Ordering::Equal => Ok(entries.len() - 1),
+        Ordering::Greater => place_of(entries, key),
     }
 }
 

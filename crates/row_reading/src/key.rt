@@ -54,6 +54,7 @@ pub enum RowKey {
 }
 
 // Where the first zero stands.
+#[inline(never)]
 fn place_of_zero(bytes: &[u8]) -> Option<usize>
     ensures none { IfNone result (AllByRecursion (λ b. b ≢ 0) bytes.now) }
     ensures found { IfSome result (λ i. (i < length bytes.now) × (slice_index bytes.now i ≡ 0)) }

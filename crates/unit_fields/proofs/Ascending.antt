@@ -1,5 +1,5 @@
 -- Ascending lists, as sets of their numbers.
-use Rattle.std.proofs.Common.{◌≡◌, ℕ, zero, suc, ◌+◌, ◌<◌, ◌≤◌, Bool, true, false, cond, not, ◌&&◌, ◌||◌, List, [], ◌∷◌, length, get_or, Result, Ok, Err, MatchResult, is_ok, refl, sym, ap, subst, ◌∙◌, arith}
+use Rattle.std.proofs.Common.{◌≡◌, ℕ, zero, suc, ◌+◌, ◌-◌, ◌<◌, ◌≤◌, Bool, true, false, cond, not, ◌&&◌, ◌||◌, List, [], ◌∷◌, length, get_or, Result, Ok, Err, MatchResult, is_ok, refl, sym, ap, subst, ◌∙◌, arith}
 use Rattle.std.specs.List.{insert, remove, list_any, AllByRecursion}
 use Rattle.std.specs.List.Sorted.{IsBinarySearchResult}
 use Rattle.std.specs.Ordering.{nat_cmp, eq_by_cmp}
@@ -8,7 +8,7 @@ use Rattle.std.specs.FinSet as set
 use Rattle.std.specs.FinSet.{from_list, contains, contains-from_list, contains-insert, contains-remove, same_set, nat_cmp-IsAntisymmetric, len-insert, len-empty}
 use Rattle.std.proofs.lemmas.Bool.Decides.{nat_tests}
 use Rattle.std.proofs.lemmas.List.Sorted.{searched}
-use Rattle.unit_fields.specs.UnitSet.{Ascends, IsPlaceOf, IsGapFor}
+use Rattle.unit_fields.specs.UnitSet.{Ascends, IsPlaceOf, IsGapFor, IsAboveLast}
 use Rattle.unit_fields.proofs.Sets.{insert_same}
 
 -- ---- order
@@ -36,6 +36,14 @@ found_place us u r up found = by r (searched us u r found (rises us up))
     by : (q : Result ℕ ℕ) → MatchResult q (λ i. (i < length us) × (get_or us i 0 ≡ u)) (λ i. (i ≤ length us) × ((k : ℕ) → k < i → get_or us k 0 < u) × ((k : ℕ) → i ≤ k → k < length us → u < get_or us k 0)) → MatchResult q (IsPlaceOf us u) (IsGapFor us u)
     by (Ok i) h = record { within = h.0; same = h.1 }
     by (Err i) h = record { within = h.0; below = h.1; above = h.2 }
+
+-- a unit above the last one comes behind all
+pub behind_all : (us : List ℕ) (u : ℕ) → Ascends us → IsAboveLast us u → IsGapFor us u (length us)
+behind_all us u up last = record {
+  within = omega arith;
+  below = λ k l. omega (arith, rises us up k (length us - 1) (omega arith) (omega (arith, last.0)), last.1 0);
+  above = λ k a l. absurd (omega arith);
+}
 
 -- ---- membership, by the order's own test
 

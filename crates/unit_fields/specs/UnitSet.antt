@@ -1,5 +1,5 @@
 -- Sets of units as ascending lists.
-use Rattle.std.specs.Prelude.{◌≡◌, ℕ, ◌<◌, ◌≤◌, List, [], ◌∷◌, length, slice_index}
+use Rattle.std.specs.Prelude.{◌≡◌, ℕ, ◌-◌, ◌<◌, ◌≤◌, List, [], ◌∷◌, length, get_or, slice_index}
 use Rattle.std.specs.List.{AllByRecursion}
 
 -- each unit is below those behind it
@@ -17,3 +17,7 @@ pub record IsGapFor (us : List ℕ) (u at : ℕ) : Type 0 where
   pub within : at ≤ length us
   pub below : (k : ℕ) → k < at → slice_index us k < u
   pub above : (k : ℕ) → at ≤ k → k < length us → u < slice_index us k
+
+-- the last one is below the unit
+abbrev pub IsAboveLast : List ℕ → ℕ → Type 0
+IsAboveLast us u = (0 < length us) × ((d : ℕ) → get_or us (length us - 1) d < u)

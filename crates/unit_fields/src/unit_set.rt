@@ -1,7 +1,7 @@
 //! Sets of units.
 ghost use Rattle.std.specs.Prelude.{◌≡◌, ◌↔◌, IsTrue, OnOk, OnErr, MatchResult};
 ghost use Rattle.std.specs.FinSet as set;
-ghost use Rattle.unit_fields.specs.UnitSet.{Ascends, IsPlaceOf, IsGapFor};
+ghost use Rattle.unit_fields.specs.UnitSet.{Ascends, IsPlaceOf, IsGapFor, IsAboveLast};
 
 use std::alloc::{AllocError, Global};
 use std::marker::Model;
@@ -29,12 +29,26 @@ impl Model for UnitSet {
     ghost invariant = { λ a. Ascends a.units.items };
 }
 
-// Where a unit stands among ascending ones, or where it would go.
+// Whether a unit is above the last one.
+fn is_above_last(units: &[u32], unit: u32) -> bool
+    ensures { IsTrue result → IsAboveLast units.now unit }
+{
+    match units.last() {
+        Some(last) => *last < unit,
+        None => false,
+    }
+}
+
+// Where a unit stands among ascending ones, or where it would go: by one comparison where that is behind all of them.
 fn place_of(units: &[u32], unit: u32) -> Result<usize, usize>
     requires { Ascends units.now }
     ensures { MatchResult result (IsPlaceOf units.now unit) (IsGapFor units.now unit) }
 {
-    units.binary_search(&unit)
+    if is_above_last(units, unit) {
+        Err(units.len())
+    } else {
+        units.binary_search(&unit)
+    }
 }
 
 impl UnitSet {

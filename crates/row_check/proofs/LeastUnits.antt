@@ -12,6 +12,10 @@ use Rattle.bitmap_freelist.specs.Bitmap.{Units, Has}
 use Rattle.row_check.specs.Least.{IsLeast, IsLeastOf, IsOutside, lesser_of}
 use Rattle.row_check.proofs.Collected.{unlike}
 
+-- none of a set is outside the same set
+pub none_of_same : (units others : Units) → units ≡ others → (u : ℕ) → ¬ (IsOutside units others u)
+none_of_same units others same u is = is.1 (subst (λ (s : Units). Has s u) same is.0)
+
 -- what holds of all holds of each that is among them
 among : (P : ℕ → Type 0) (us : List ℕ) (u : ℕ) → AllByRecursion P us → list_any (eq_by_cmp nat_cmp u) us ≡ true → P u
 among P [] u all is = absurd cc

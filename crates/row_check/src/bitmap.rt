@@ -1,5 +1,5 @@
 //! Whether the bitmap says which units have owners.
-ghost use Rattle.std.specs.Prelude.{◌≡◌, ◌<◌, ℕ, true, false, length, slice_index, IfOk, IfErr, IfNone, IfSome, MatchOption};
+ghost use Rattle.std.specs.Prelude.{◌≡◌, ◌<◌, ℕ, true, false, length, slice_index, IsTrue, IfOk, IfErr, IfNone, IfSome, MatchOption};
 ghost use Rattle.std.specs.List.{AllByRecursion};
 ghost use Rattle.std.specs.FinSet as set;
 ghost use Rattle.meta_log.specs.Slots.{IsSuper};
@@ -23,10 +23,20 @@ fn place_outside(units: &[u32], others: &UnitSet) -> Option<usize>
     units.iter().position(|unit| !others.contains(*unit))
 }
 
-// The least of the units that is none of the others.
+// Whether two sets are the same.
+fn are_same(units: &UnitSet, others: &UnitSet) -> bool
+    ensures { IsTrue result → units.now ≡ others.now }
+{
+    units.as_slice() == others.as_slice()
+}
+
+// The least of the units that is none of the others. None is looked up where both sets are the same, as where nothing leaked.
 fn least_outside(units: &UnitSet, others: &UnitSet) -> Option<u32>
     ensures { IsLeastOf (IsOutside units.now others.now) result }
 {
+    if are_same(units, others) {
+        return None;
+    }
     let units = units.as_slice();
     match place_outside(units, others) {
         Some(place) => Some(units[place]),
@@ -67,7 +77,7 @@ fn least_wrong(owners: &OwnedUnits, marked: &UnitSet) -> Option<u32>
 /// (Ceph: `fsck`'s "stray" and "extra" units are these and the leaked ones.)
 ///
 /// The rows are read once and those of the bitmap once more, two marks are kept for each unit of the device meanwhile, and each unit that has
-/// an owner is looked up among the marked ones.
+/// an owner is looked up among the marked ones, unless these are the same.
 pub fn marked_units(
     alloc: Global,
     sup: &Super,

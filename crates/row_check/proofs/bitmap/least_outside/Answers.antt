@@ -1,5 +1,8 @@
-use Rattle.row_check.proofs.LeastUnits.{none_outside, least_at}
+use Rattle.row_check.proofs.LeastUnits.{none_of_same, none_outside, least_at}
 use Rattle.row_check.proofs.bitmap.least_outside.Goals as goal
+
+pub returns-then-are_same : goal.returns-then-are_same
+returns-then-are_same c = none_of_same c.args.units.now c.args.others.now (c.are_same.ensures c.if-are_same.true)
 
 pub returns-in-Some : goal.returns-in-Some
 returns-in-Some c =

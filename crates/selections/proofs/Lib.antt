@@ -1,0 +1,4 @@
+pub mod Cuts
+pub mod Selecting
+pub mod Order
+mod Nine

@@ -1,0 +1,11 @@
+//! Fair selections of things under names: of each name the first ones, in order.
+//!
+//! Whether a thing is under a name is said by a test, so a thing may have none, or several; no law asks for just one. Each function has
+//! laws for its contract and does nothing.
+#![tactic(auto)]
+
+mod laws;
+
+pub use laws::{
+    fair_selections, few_selections, nine_are_fair, one_that_came_last, order_between_names,
+};

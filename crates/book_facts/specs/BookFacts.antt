@@ -1,5 +1,5 @@
 -- What is known of the book from call to call, whatever the device is.
-use Rattle.std.specs.Prelude.{◌≡◌, ℕ, ◌≤◌, nat_eq, List, [], ◌++◌, map, filter, drop, Option, Some, IsSome, IfSome}
+use Rattle.std.specs.Prelude.{◌≡◌, ℕ, ◌≤◌, nat_eq, Bool, List, [], ◌++◌, map, drop, Option, Some, IsSome, IfSome}
 use Rattle.std.specs.List.{AllByRecursion, IsDistinct}
 use Rattle.std.specs.Option.{option_map_or}
 use Rattle.object_model.specs.Objects.{Objects}
@@ -16,6 +16,7 @@ use Rattle.store_steps.specs.State.{Batch, State}
 use Rattle.store_steps.specs.Contexts.{colls_of}
 use Rattle.store_steps.specs.Ready.{applied_count}
 use Rattle.store_facts.specs.Space.{uncommitted}
+use Rattle.selections.specs.Fair.{under}
 
 -- the places of contexts, and of commits
 abbrev pub places : List Context → List ℕ
@@ -24,9 +25,13 @@ places contexts = map (λ x. x.place) contexts
 abbrev pub commit_places : List Commit → List ℕ
 commit_places commits = map (λ c. c.place) commits
 
+-- whether a context changes a collection
+abbrev pub changes_coll : List ℕ → Context → Bool
+changes_coll coll x = is_named coll (colls_of x)
+
 -- the contexts that change a collection, in order
 abbrev pub contexts_on : List ℕ → List Context → List Context
-contexts_on coll contexts = filter (λ x. is_named coll (colls_of x)) contexts
+contexts_on coll contexts = under changes_coll coll contexts
 
 -- the contexts of the open batch, if there is one
 abbrev pub batched : Option Batch → List Context

@@ -3,18 +3,19 @@ use Rattle.std.specs.Prelude.{ℕ, List, take, filter_map}
 use Rattle.object_model.specs.declared.book.Entry.{Entry}
 use Rattle.object_model.specs.Objects.{Objects}
 use Rattle.object_model.specs.Effect.{Change, replay}
-use Rattle.object_model.specs.Book.{change_at, committed, IsPrefixOf}
+use Rattle.object_model.specs.Book.{change_at, committed}
 use Rattle.meta_rows.specs.Rows.{Rows}
 use Rattle.store_image.specs.Stands.{ObjectsStand}
 use Rattle.store_steps.specs.declared.context.Context.{Context}
 use Rattle.store_steps.specs.State.{State}
 use Rattle.store_steps.specs.Ready.{applied_count}
 use Rattle.store_facts.specs.Space.{rows_with}
-use Rattle.book_facts.specs.BookFacts.{contexts_on}
+use Rattle.selections.specs.Fair.{IsFair}
+use Rattle.book_facts.specs.BookFacts.{changes_coll}
 
 -- of each collection the first ones are selected, in order
 abbrev pub IsFairSelection : List Context → List Context → Type 0
-IsFairSelection all some = (coll : List ℕ) → IsPrefixOf (contexts_on coll some) (contexts_on coll all)
+IsFairSelection all some = IsFair changes_coll all some
 
 -- the transactions of contexts
 abbrev pub changes_of : List Entry → List Context → List Change

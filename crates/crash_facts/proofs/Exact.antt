@@ -1,6 +1,6 @@
 -- How exact the bitmap is, with the operations of each fair selection of the contexts under way.
-use Rattle.std.proofs.Common.{◌≡◌, inl, inr, ℕ, ◌+◌, ◌≤◌, Bool, true, false, List, [], ◌∷◌, ◌++◌, take, length, Option, Some, None}
-use Rattle.std.proofs.Common.{refl, sym, ap, subst, ◌∙◌, append-nil, arith}
+use Rattle.std.proofs.Common.{◌≡◌, ℕ, ◌≤◌, true, false, List, [], ◌∷◌, ◌++◌, length, Some, None}
+use Rattle.std.proofs.Common.{sym, ap, subst, append-nil}
 use Rattle.std.proofs.lemmas.Option.{same_Some}
 use Rattle.std.proofs.lemmas.List.{take-append-le}
 use Rattle.block_device.specs.Log.{last}
@@ -11,18 +11,17 @@ use Rattle.block_device.specs.declared.event.Event.TheVariants.{Flush, Done}
 use Rattle.meta_rows.specs.declared.row_op.RowOp.{RowOp}
 use Rattle.meta_rows.specs.Rows.{Rows, rows_after}
 use Rattle.store_image.specs.Owners.{IsLeaked, IsExactBut, IsExactAs}
-use Rattle.store_image.specs.Exact.{IsLeakedIn, StaysExact}
+use Rattle.store_image.specs.Exact.{IsLeakedIn}
 use Rattle.store_image.proofs.ExactLemmas.{renamed, is_left_out}
 use Rattle.store_steps.specs.declared.context.Context.{Context}
 use Rattle.store_steps.specs.State.{State}
 use Rattle.store_facts.specs.Space.{uncommitted, rows_with}
 use Rattle.store_facts.specs.Kept.{IsKept}
 use Rattle.store_facts.proofs.Exactness.{kept_submitted}
-use Rattle.store_facts.proofs.Stages.{Stage, idle, waits, opens, flushes, flushed, writes, syncs, synced, Holds, at, begun_of, by_stage}
-use Rattle.store_facts.proofs.Readiness.{contexts_of}
-use Rattle.book_facts.specs.BookFacts.{contexts_on}
-use Rattle.book_facts.specs.Selections.{IsFairSelection}
-use Rattle.book_facts.proofs.Selecting.{fair_none, fair_one}
+use Rattle.store_facts.proofs.Stages.{Stage, idle, waits, opens, flushes, flushed, writes, syncs, synced, Holds, at, by_stage}
+use Rattle.selections.proofs.Selecting.{fair_nil, fair_all, each_of_none, each_of_one}
+use Rattle.book_facts.specs.BookFacts.{changes_coll}
+use Rattle.book_facts.proofs.Selecting.{has_coll}
 use Rattle.unit_facts.specs.Known.{begun_ops}
 use Rattle.unit_facts.proofs.RunWrites.{run_write}
 use Rattle.unit_facts.proofs.Steps.{piece_of}
@@ -41,22 +40,18 @@ exact_over before rows later exact as_rows =
 -- ---- selections
 
 pub rows_exact : (leaked : ℕ → Type 0) (rows : Rows) (contexts : List Context) → SelectionsAreExact leaked rows contexts → IsExactBut leaked rows
-rows_exact leaked rows contexts every = every [] (λ coll. (contexts_on coll contexts, refl))
+rows_exact leaked rows contexts every = every [] (fair_nil changes_coll contexts)
 
 pub all_exact : (leaked : ℕ → Type 0) (rows : Rows) (contexts : List Context) → SelectionsAreExact leaked rows contexts
     → IsExactBut leaked (rows_with rows contexts)
-all_exact leaked rows contexts every = every contexts (λ coll. ([], sym (append-nil (contexts_on coll contexts))))
+all_exact leaked rows contexts every = every contexts (fair_all changes_coll contexts)
 
 pub exact_none : (leaked : ℕ → Type 0) (rows : Rows) → IsExactBut leaked rows → SelectionsAreExact leaked rows []
-exact_none leaked rows exact some fair =
-    subst (λ (xs : List Context). IsExactBut leaked (rows_with rows xs)) (sym (fair_none some fair)) exact
+exact_none leaked rows = each_of_none changes_coll has_coll (λ (xs : List Context). IsExactBut leaked (rows_with rows xs))
 
 pub exact_one : (leaked : ℕ → Type 0) (rows : Rows) (x : Context) → IsExactBut leaked rows → IsExactBut leaked (rows_after rows x.ops)
     → SelectionsAreExact leaked rows (x ∷ [])
-exact_one leaked rows x before after some fair = elim (fair_one x some fair) [
-  | inl none ↦ subst (λ (xs : List Context). IsExactBut leaked (rows_with rows xs)) (sym none) before
-  | inr one ↦ subst (λ (xs : List Context). IsExactBut leaked (rows_with rows xs)) (sym one) after
-]
+exact_one leaked rows x = each_of_one changes_coll has_coll x (λ (xs : List Context). IsExactBut leaked (rows_with rows xs))
 
 -- where one context at most is under way, none and all of them are all selections
 abbrev IsByEnds : (ℕ → Type 0) → State → Type 0
@@ -91,7 +86,8 @@ module _ (before : List ℕ) (s : State) (d : Disk) (kept : IsKept s d) (up : s.
 abbrev pub IsBegunExact : (ℕ → Type 0) → State → Type 0
 IsBegunExact leaked s = (ops : List RowOp) → begun_ops s.log.begun ≡ Some ops → IsExactBut leaked (rows_after s.log.rows ops)
 
-ops_exact : (leaked : ℕ → Type 0) (rows : Rows) (x : Context) → SelectionsAreExact leaked rows (x ∷ []) → IsExactBut leaked (rows_after rows (x.ops ++ []))
+ops_exact : (leaked : ℕ → Type 0) (rows : Rows) (x : Context) → SelectionsAreExact leaked rows (x ∷ [])
+    → IsExactBut leaked (rows_after rows (x.ops ++ []))
 ops_exact leaked rows x every =
     subst (λ (l : List RowOp). IsExactBut leaked (rows_after rows l)) (sym (append-nil x.ops)) (all_exact leaked rows (x ∷ []) every)
 

@@ -1,5 +1,6 @@
 -- Rows that are the same but for those of the table say the same of collections and objects.
 use Rattle.std.proofs.Common.{◌≢◌, ◌↔◌, ℕ, List, [], ◌∷◌, is_some, sym, ap, ◌∙◌, arith}
+use Rattle.unit_fields.specs.declared.width.Width.{Width}
 use Rattle.std.specs.Prelude.{unwrap_or}
 use Rattle.meta_rows.specs.Rows.{Rows, rows_after}
 use Rattle.meta_rows.specs.declared.row_op.RowOp.{RowOp}
@@ -52,42 +53,47 @@ pub alike_back : (rows other : Rows) → AreAlikeButBits rows other → AreAlike
 alike_back rows other alike key is_other = sym (alike key is_other)
 
 -- a row that isn't of the table
-pub alike_has_row : (rows other : Rows) (row : Row) → AreAlikeButBits rows other → IsOtherKey (row_key row) → HasRow rows row → HasRow other row
-alike_has_row rows other row alike is_other has = record { fits = has.fits; stands = alike (row_key row) is_other ∙ has.stands }
+pub alike_has_row : (w : Width) (rows other : Rows) (row : Row) → AreAlikeButBits rows other → IsOtherKey (row_key row) → HasRow w rows row
+    → HasRow w other row
+alike_has_row w rows other row alike is_other has = record { fits = has.fits; stands = alike (row_key row) is_other ∙ has.stands }
 
 -- where a page stands
-pub alike_page : (rows other : Rows) (c o : List ℕ) (page : ℕ) (place : Place) → AreAlikeButBits rows other → IsPageAt rows c o page place
-    → IsPageAt other c o page place
-alike_page rows other c o page place alike is = record {
+pub alike_page : (w : Width) (rows other : Rows) (c o : List ℕ) (page : ℕ) (place : Place) → AreAlikeButBits rows other
+    → IsPageAt w rows c o page place
+    → IsPageAt w other c o page place
+alike_page w rows other c o page place alike is = record {
   first = is.first;
   extents = is.extents;
-  has_shard = alike_has_row rows other (shard c o is.first is.extents) alike (onode_keys c o _) is.has_shard;
+  has_shard = alike_has_row w rows other (shard c o is.first is.extents) alike (onode_keys c o _) is.has_shard;
   has_page = is.has_page;
 }
 
 -- which unit it stands on
-pub alike_page_on : (rows other : Rows) (c o : List ℕ) (page : ℕ) (on : PageUnit) → AreAlikeButBits rows other → IsPageOn rows c o page on
-    → IsPageOn other c o page on
-alike_page_on rows other c o page on alike is = record {
+pub alike_page_on : (w : Width) (rows other : Rows) (c o : List ℕ) (page : ℕ) (on : PageUnit) → AreAlikeButBits rows other
+    → IsPageOn w rows c o page on
+    → IsPageOn w other c o page on
+alike_page_on w rows other c o page on alike is = record {
   place = is.place;
-  at = alike_page rows other c o page is.place alike is.at;
+  at = alike_page w rows other c o page is.place alike is.at;
   stands = stands_still rows other is.place on is.stands;
 }
 
 -- an owner on the other side
-owns_there : (rows other : Rows) (owner : Owner) (unit : ℕ) → AreAlikeButBits rows other → Owns rows owner unit → Owns other owner unit
-owns_there rows other (page_of c o page) unit alike owns = (owns.0, alike_page rows other c o page (own unit owns.0) alike owns.1)
+owns_there : (w : Width) (rows other : Rows) (owner : Owner) (unit : ℕ) → AreAlikeButBits rows other → Owns w rows owner unit
+    → Owns w other owner unit
+owns_there w rows other (page_of c o page) unit alike owns = (owns.0, alike_page w rows other c o page (own unit owns.0) alike owns.1)
 
 -- who owns a unit
-pub alike_owns : (rows other : Rows) (owner : Owner) (unit : ℕ) → AreAlikeButBits rows other → Owns rows owner unit ↔ Owns other owner unit
-alike_owns rows other owner unit alike =
-    (owns_there rows other owner unit alike, owns_there other rows owner unit (alike_back rows other alike))
+pub alike_owns : (w : Width) (rows other : Rows) (owner : Owner) (unit : ℕ) → AreAlikeButBits rows other
+    → Owns w rows owner unit ↔ Owns w other owner unit
+alike_owns w rows other owner unit alike =
+    (owns_there w rows other owner unit alike, owns_there w other rows owner unit (alike_back rows other alike))
 
-module _ (rows other : Rows) (alike : AreAlikeButBits rows other) where
+module _ (w : Width) (rows other : Rows) (alike : AreAlikeButBits rows other) where
   -- the rows of one object
   object_shape : (c o : List ℕ) (object : Object) → IsObjectShape rows c o object → IsObjectShape other c o object
   object_shape c o object is = record {
-    size = alike_has_row rows other (onode c o _) alike (onode_keys c o _) is.size;
+    size = alike_has_row w rows other (onode c o _) alike (onode_keys c o _) is.size;
     size_most = is.size_most;
     attr_names = is.attr_names;
     attrs = λ name named. is.attrs name named ∙ sym (alike (attr_key c o name) (attr_keys c o name));
@@ -109,17 +115,17 @@ module _ (rows other : Rows) (alike : AreAlikeButBits rows other) where
   page_seen at on page is = record { seen = is.seen; kept = is.kept }
 
   -- the bytes of one object
-  object_bytes : (at : ℕ → List ℕ) (c o bytes : List ℕ) → AreObjectBytes at rows c o bytes → AreObjectBytes at other c o bytes
+  object_bytes : (at : ℕ → List ℕ) (c o bytes : List ℕ) → AreObjectBytes w at rows c o bytes → AreObjectBytes w at other c o bytes
   object_bytes at c o bytes are = record {
     mapped = λ page on is.
-        page_seen at on (page_bytes bytes page) (are.mapped page on (alike_page_on other rows c o page on (alike_back rows other alike) is));
-    holes = λ page hole. are.holes page (λ on is. hole on (alike_page_on rows other c o page on alike is));
+        page_seen at on (page_bytes bytes page) (are.mapped page on (alike_page_on w other rows c o page on (alike_back rows other alike) is));
+    holes = λ page hole. are.holes page (λ on is. hole on (alike_page_on w rows other c o page on alike is));
   }
 
 -- what the rows stand for
-pub alike_stand : (at : ℕ → List ℕ) (rows other : Rows) (objects : Objects) → AreAlikeButBits rows other → ObjectsStand at rows objects
-    → ObjectsStand at other objects
-alike_stand at rows other objects alike stand = record {
-  shape = shape rows other alike objects stand.shape;
-  bytes = λ c o object there. object_bytes rows other alike at c o object.bytes (stand.bytes c o object there);
+pub alike_stand : (w : Width) (at : ℕ → List ℕ) (rows other : Rows) (objects : Objects) → AreAlikeButBits rows other → ObjectsStand w at rows objects
+    → ObjectsStand w at other objects
+alike_stand w at rows other objects alike stand = record {
+  shape = shape w rows other alike objects stand.shape;
+  bytes = λ c o object there. object_bytes w rows other alike at c o object.bytes (stand.bytes c o object there);
 }

@@ -1,5 +1,6 @@
 -- Rows of the table, where no row is bad.
 use Rattle.std.proofs.Common.{◌≡◌, inl, inr, ⊎_elim, ℕ, ◌/◌, ◌^◌, ◌<◌, List, [], ◌∷◌, Option, Some, None, refl}
+use Rattle.meta_log.specs.Slots.{width_of}
 use Rattle.std.proofs.Common.{is_some, sym, ap, subst, ◌∙◌, arith}
 use Rattle.std.specs.Prelude.{unwrap_or}
 use Rattle.std.specs.FinMap as map
@@ -29,7 +30,8 @@ pub record IsOfTable (s : Super) (key value : List ℕ) : Type 0 where
   pub of_data : AreOfData s r value
 
 -- of the good rows those whose keys begin with "b"
-by_kind : (s : Super) (rows : Rows) (row : Row) (rest value : List ℕ) → FitsRow row → 0x62 ∷ rest ≡ row_key row → value ≡ row_value row
+by_kind : (s : Super) (rows : Rows) (row : Row) (rest value : List ℕ) → FitsRow (width_of s) row → 0x62 ∷ rest ≡ row_key row
+    → value ≡ row_value (width_of s) row
     → IsInPlace s rows row → IsOfTable s (0x62 ∷ rest) value
 by_kind s rows (collection c) rest value fits key is place = absurd (omega (arith, same_head _ _ _ _ key))
 by_kind s rows (onode c o size) rest value fits key is place = absurd (omega (arith, same_head _ _ _ _ key))
@@ -79,8 +81,8 @@ module _ (s : Super) (rows other : Rows) (alike : AreAlikeButBits rows other) wh
   keys c o rest = object_key_is_other 0x4f c o rest (λ e. absurd (omega (arith, e)))
 
   -- one that was there
-  was : (row : Row) → IsOtherKey (row_key row) → HasRow other row → HasRow rows row
-  was row is_other has = alike_has_row other rows row (alike_back rows other alike) is_other has
+  was : (row : Row) → IsOtherKey (row_key row) → HasRow (width_of s) other row → HasRow (width_of s) rows row
+  was row is_other has = alike_has_row (width_of s) other rows row (alike_back rows other alike) is_other has
 
   -- what a row needs of the others isn't bits
   alike_in_place : (row : Row) → IsInPlace s rows row → IsInPlace s other row

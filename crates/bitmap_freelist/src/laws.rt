@@ -7,6 +7,7 @@ ghost use Rattle.meta_rows.specs.declared.row_op.RowOp.{RowOp};
 ghost use Rattle.meta_rows.specs.Spelling.{ops_bytes, AllFit};
 ghost use Rattle.meta_log.specs.declared.slot.Super.{Super};
 ghost use Rattle.object_model.specs.Objects.{Objects};
+ghost use Rattle.unit_fields.specs.declared.width.Width.{Width};
 ghost use Rattle.store_image.specs.BadRows.{NoBadRow};
 ghost use Rattle.store_image.specs.Owners.{Owner, Owns, IsDataUnit, IsMarked};
 ghost use Rattle.store_image.specs.Stands.{ObjectsStand};
@@ -56,9 +57,10 @@ pub fn flips_twice_restore()
 /// So what the rows say of collections and objects stays: where their pages stand, who owns a unit, and what they stand for.
 pub fn flips_leave_objects()
     ensures alike { (rows : Rows) (units : Units) (ops : List RowOp) → AreFlips units ops → AreAlikeButBits rows (rows_after rows ops) }
-    ensures owns { (rows other : Rows) (owner : Owner) (unit : ℕ) → AreAlikeButBits rows other → Owns rows owner unit ↔ Owns other owner unit }
-    ensures stand { (at : ℕ → List ℕ) (rows other : Rows) (objects : Objects) → AreAlikeButBits rows other →
-        ObjectsStand at rows objects → ObjectsStand at other objects }
+    ensures owns { (w : Width) (rows other : Rows) (owner : Owner) (unit : ℕ) → AreAlikeButBits rows other
+        → Owns w rows owner unit ↔ Owns w other owner unit }
+    ensures stand { (w : Width) (at : ℕ → List ℕ) (rows other : Rows) (objects : Objects) → AreAlikeButBits rows other →
+        ObjectsStand w at rows objects → ObjectsStand w at other objects }
 {}
 
 /// Where no row is bad, the rows under the keys of the table are of it, and none has zeros alone. No row is bad either once bits of data units

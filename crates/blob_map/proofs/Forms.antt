@@ -1,5 +1,6 @@
 -- The extents of pages fit, ascend, and are as long as they get.
 use Rattle.std.proofs.Common.{◌≡◌, ◌⊎◌, inl, inr, ℕ, zero, suc, ◌+◌, ◌-◌, ◌<◌, ◌≤◌, ◌^◌, true, false, cond, T, List, [], ◌∷◌, ◌++◌, map, Some, refl, sym, ap, subst, ◌∙◌, arith}
+use Rattle.unit_fields.specs.declared.width.Width.{Width}
 use Rattle.std.specs.List.{range_with_len, flat_map, AllByRecursion}
 use Rattle.std.specs.Ordering.{nat_cmp, is_eq}
 use Rattle.std.specs.FinMap as finite
@@ -9,6 +10,7 @@ use Rattle.std.proofs.lemmas.Bool.{cases_Bool, cases_lt}
 use Rattle.number_map.proofs.Laws.{same}
 use Rattle.number_map.proofs.Places.{both_first, both_second}
 use Rattle.number_map.proofs.Search.{cmp_equal, cmp_less, cmp_greater, less_is}
+use Rattle.row_format.specs.Csums.{FitsCsum}
 use Rattle.row_format.specs.Extents.{Extent, Body, private, Place, own, place_in, place_of, page_count, page_end, ExtentsAscend, FitsBody, FitsExtent}
 use Rattle.blob_map.specs.Pages.{PageMap, FitsPlace, FitsPage, StandsWithin, first_unit, extent_pages}
 use Rattle.blob_map.specs.Normal.{alone, single, follows, longer, more, extents_from, extents_of, NoneJoins}
@@ -18,23 +20,24 @@ use Rattle.blob_map.proofs.Back.{IsNextPlace, follows_means, next_follows, longe
 
 -- ---- they fit
 
-fits_push : (csums : List ℕ) (csum : ℕ) → csum < 2 ^ 32 → AllByRecursion (λ c. c < 2 ^ 32) csums → AllByRecursion (λ c. c < 2 ^ 32) (csums ++ csum ∷ [])
-fits_push [] csum lt all = (lt, tt)
-fits_push (c ∷ csums) csum lt all = (all.0, fits_push csums csum lt all.1)
+fits_push : (w : Width) (csums : List ℕ) (csum : ℕ) → FitsCsum w csum → AllByRecursion (FitsCsum w) csums
+    → AllByRecursion (FitsCsum w) (csums ++ csum ∷ [])
+fits_push w [] csum fits all = (fits, tt)
+fits_push w (c ∷ csums) csum fits all = (all.0, fits_push w csums csum fits all.1)
 
-pub fits_longer : (body : Body) (p : Place) → page_count body < 256 → FitsPlace p → FitsBody body → FitsBody (longer body p)
-fits_longer (private unit csums) (own at csum) few place fits =
+pub fits_longer : (w : Width) (body : Body) (p : Place) → page_count body < 256 → FitsPlace w p → FitsBody w body → FitsBody w (longer body p)
+fits_longer w (private unit csums) (own at csum) few place fits =
     let n = longer_by_one (private unit csums) (own at csum) in
-    (fits.0, omega (arith, n), omega (arith, n, few), fits_push csums csum place.1 fits.3)
+    (fits.0, omega (arith, n), omega (arith, n, few), fits_push w csums csum place.1 fits.3)
 
-fits_alone : (p : Place) → FitsPlace p → FitsBody (alone p)
-fits_alone (own unit csum) fits = (fits.0, omega arith, omega arith, (fits.1, tt))
+fits_alone : (w : Width) (p : Place) → FitsPlace w p → FitsBody w (alone p)
+fits_alone w (own unit csum) fits = (fits.0, omega arith, omega arith, (fits.1, tt))
 
-pub fits_single : (p : ℕ × Place) → FitsPage p → FitsExtent (single p)
-fits_single p fits = record { first = fits.page; body = fits_alone p.1 fits.place }
+pub fits_single : (w : Width) (p : ℕ × Place) → FitsPage w p → FitsExtent w (single p)
+fits_single w p fits = record { first = fits.page; body = fits_alone w p.1 fits.place }
 
-pub fits_more : (e : Extent) (p : ℕ × Place) → FitsPlace p.1 → follows e p ≡ true → FitsExtent e → FitsExtent (more e p)
-fits_more e p lt is fits = record { first = fits.first; body = fits_longer e.body p.1 (follows_means e p is).few lt fits.body }
+pub fits_more : (w : Width) (e : Extent) (p : ℕ × Place) → FitsPlace w p.1 → follows e p ≡ true → FitsExtent w e → FitsExtent w (more e p)
+fits_more w e p lt is fits = record { first = fits.first; body = fits_longer w e.body p.1 (follows_means e p is).few lt fits.body }
 
 -- what holds of the extent of one page, and is kept by a page more, holds of all extents
 module _ (P : Extent → Type 0) (Q : ℕ × Place → Type 0) (of_single : (p : ℕ × Place) → Q p → P (single p))
@@ -52,8 +55,8 @@ module _ (P : Extent → Type 0) (Q : ℕ × Place → Type 0) (of_single : (p :
   extents_all [] all = tt
   extents_all (p ∷ ps) all = grown_all ps (single p) (of_single p all.0) all.1
 
-pub extents_fit : (ps : List (ℕ × Place)) → AllByRecursion FitsPage ps → AllByRecursion FitsExtent (extents_of ps)
-extents_fit = extents_all FitsExtent FitsPage fits_single (λ e p is has fits. fits_more e p fits.place is has)
+pub extents_fit : (w : Width) (ps : List (ℕ × Place)) → AllByRecursion (FitsPage w) ps → AllByRecursion (FitsExtent w) (extents_of ps)
+extents_fit w = extents_all (FitsExtent w) (FitsPage w) (fits_single w) (λ e p is has fits. fits_more w e p fits.place is has)
 
 alone_count : (p : Place) → page_count (alone p) ≡ 1
 alone_count (own unit csum) = refl
@@ -245,9 +248,9 @@ module _ (pages : PageMap) where
   all_entries : (Q : ℕ × Place → Type 0) → ((page : ℕ) (place : Place) → finite.get pages page ≡ Some place → Q (page, place)) → AllByRecursion Q (entries pages)
   all_entries Q has = found_all Q (entries pages) (entries_sorted pages) (λ page place is. has page place (get-entries pages page ∙ is))
 
-  pub extents_fits : ((page : ℕ) (place : Place) → finite.get pages page ≡ Some place → FitsPage (page, place))
-      → AllByRecursion FitsExtent (extents_of (entries pages))
-  extents_fits has = extents_fit (entries pages) (all_entries FitsPage has)
+  pub extents_fits : (w : Width) → ((page : ℕ) (place : Place) → finite.get pages page ≡ Some place → FitsPage w (page, place))
+      → AllByRecursion (FitsExtent w) (extents_of (entries pages))
+  extents_fits w has = extents_fit w (entries pages) (all_entries (FitsPage w) has)
 
   pub extents_within : (limit : ℕ) → ((page : ℕ) (place : Place) → finite.get pages page ≡ Some place → page < limit)
       → AllByRecursion (λ e. page_end e ≤ limit) (extents_of (entries pages))

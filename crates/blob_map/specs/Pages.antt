@@ -4,6 +4,8 @@ use Rattle.std.specs.List.{range_with_len}
 use Rattle.std.specs.Coded.{Coded, code_by, coded×, coded_ℕ}
 use Rattle.std.specs.FinMap as finite
 use Rattle.number_map.specs.NumberMap.{NumberMap}
+use Rattle.unit_fields.specs.declared.width.Width.{Width}
+use Rattle.row_format.specs.Csums.{FitsCsum}
 use Rattle.row_format.specs.Extents.{Extent, Body, private, Place, own, place_in, page_count, page_end}
 
 -- where each page stands that stands anywhere
@@ -45,13 +47,13 @@ pub record HasNumbers (e : Extent) : Type 0 where
   pub units : first_unit e.body + page_count e.body ≤ 2 ^ 32
 
 -- a place whose numbers fit the fields of an extent
-abbrev pub FitsPlace : Place → Type 0
-FitsPlace (own unit csum) = (unit < 2 ^ 32) × (csum < 2 ^ 32)
+abbrev pub FitsPlace : Width → Place → Type 0
+FitsPlace w (own unit csum) = (unit < 2 ^ 32) × FitsCsum w csum
 
 -- so does a page with its place
-pub record FitsPage (p : ℕ × Place) : Type 0 where
+pub record FitsPage (w : Width) (p : ℕ × Place) : Type 0 where
   pub page : p.0 < 2 ^ 32
-  pub place : FitsPlace p.1
+  pub place : FitsPlace w p.1
 
 -- a unit of the object's own is in this range
 abbrev pub StandsWithin : ℕ → ℕ → Place → Type 0

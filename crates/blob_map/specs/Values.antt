@@ -1,40 +1,41 @@
 -- Pages as they stand in the value of a shard's row: put into a map as they are read, and written from a map's entries.
 use Rattle.std.specs.Prelude.{◌≡◌, ℕ, ◌<◌, ◌≤◌, List, ◌∷◌, ◌++◌, length, map, take, drop}
 use Rattle.std.specs.List.{AllByRecursion}
+use Rattle.unit_fields.specs.declared.width.Width.{Width}
 use Rattle.row_format.specs.Extents.{Extent, private, Place, extent_bytes, FitsExtent}
 use Rattle.onode_codec.specs.declared.extent.Head.{Head}
-use Rattle.onode_codec.specs.Reading.{ReadsNumbers, ReadsExtent, SpellExtents}
+use Rattle.onode_codec.specs.Reading.{ReadsCsums, ReadsExtent, SpellExtents}
 use Rattle.blob_map.specs.Pages.{PageMap, HasNumbers, csum_of, extent_pages, with_pages}
 use Rattle.blob_map.specs.Normal.{extents_of}
 
 -- the bytes spell extents whose pages and units have numbers below 2^32
-pub record SpellPages (bytes : List ℕ) : Type 0 where
+pub record SpellPages (w : Width) (bytes : List ℕ) : Type 0 where
   pub extents : List Extent
-  pub spelled : SpellExtents bytes extents
+  pub spelled : SpellExtents w bytes extents
   pub numbers : AllByRecursion HasNumbers extents
 
 -- such an extent stands at the front
-pub record BeginsWithPages (bytes : List ℕ) : Type 0 where
+pub record BeginsWithPages (w : Width) (bytes : List ℕ) : Type 0 where
   pub extent : Extent
   pub rest : List ℕ
-  pub fits : FitsExtent extent
+  pub fits : FitsExtent w extent
   pub numbers : HasNumbers extent
-  pub spelled : bytes ≡ extent_bytes extent ++ rest
+  pub spelled : bytes ≡ extent_bytes w extent ++ rest
 
 -- the extent of a head with these checksums
 abbrev pub extent_with : Head → List ℕ → Extent
 extent_with h csums = record { first = h.first; body = private h.unit csums }
 
 -- behind the head so many checksums were read, and their pages are put in their places
-pub record PutsFirst (h : Head) (count : ℕ) (old new : List ℕ) (pages pages' : PageMap) : Type 0 where
+pub record PutsFirst (w : Width) (h : Head) (count : ℕ) (old new : List ℕ) (pages pages' : PageMap) : Type 0 where
   pub csums : List ℕ
-  pub read : ReadsNumbers count old new csums
+  pub read : ReadsCsums w count old new csums
   pub put : pages' ≡ with_pages pages (extent_pages (extent_with h csums))
 
 -- an extent was read, and its pages are put in their places
-pub record PutsExtent (old new : List ℕ) (pages pages' : PageMap) : Type 0 where
+pub record PutsExtent (w : Width) (old new : List ℕ) (pages pages' : PageMap) : Type 0 where
   pub extent : Extent
-  pub read : ReadsExtent old new extent
+  pub read : ReadsExtent w old new extent
   pub put : pages' ≡ with_pages pages (extent_pages extent)
 
 -- the checksums of pages
@@ -49,10 +50,10 @@ pub record IsFirstRun (ps : List (ℕ × Place)) (h : Head) : Type 0 where
   pub run : extents_of ps ≡ extent_with h (csums_of (take h.count ps)) ∷ extents_of (drop h.count ps)
 
 -- the first of the pages' extents, which has so many of them, is written behind what was there
-pub record WritesRun (ps : List (ℕ × Place)) (count : ℕ) (old new : List ℕ) : Type 0 where
+pub record WritesRun (w : Width) (ps : List (ℕ × Place)) (count : ℕ) (old new : List ℕ) : Type 0 where
   pub some : 0 < count
   pub most : count ≤ 256
   pub within : count ≤ length ps
   pub extent : Extent
   pub run : extents_of ps ≡ extent ∷ extents_of (drop count ps)
-  pub written : new ≡ old ++ extent_bytes extent
+  pub written : new ≡ old ++ extent_bytes w extent

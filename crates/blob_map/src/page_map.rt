@@ -21,6 +21,7 @@ use number_map::NumberMap;
 use onode_codec::Extent;
 use std::alloc::{AllocError, Global};
 use std::marker::Model;
+use unit_fields::Width;
 
 /// Where each page of an object stands that stands anywhere, seen as a finite map from pages to places. The other pages are holes.
 #[derive(Debug, Drop)]
@@ -52,13 +53,13 @@ impl PageMap {
         }
     }
 
-    /// Puts the pages that the value of a shard's row spells in their places, wherever they stood. Where memory runs out, some of them are
-    /// put.
-    pub fn put_value(&mut self, value: &[u8]) -> Result<(), AllocError>
-        requires { SpellPages value.now }
-        ensures { OnOk result ((es : List Extent) → SpellExtents value.now es → self.new ≡ with_pages self.old (flat_map extent_pages es)) }
+    /// Puts the pages that the value of a shard's row spells, with checksums of this width, in their places, wherever they stood. Where
+    /// memory runs out, some of them are put.
+    pub fn put_value(&mut self, width: Width, value: &[u8]) -> Result<(), AllocError>
+        requires { SpellPages width value.now }
+        ensures { OnOk result ((es : List Extent) → SpellExtents width value.now es → self.new ≡ with_pages self.old (flat_map extent_pages es)) }
     {
-        put_value(&mut self.pages, value)
+        put_value(&mut self.pages, width, value)
     }
 
     /// Where a page stands. None: it is a hole.
@@ -122,18 +123,19 @@ impl PageMap {
         self.pages.entries()
     }
 
-    /// The extents that say this map: runs as long as they get of consecutive pages on consecutive units, cut at 256 pages.
-    pub fn extents(&self, alloc: Global) -> Result<Vec<Extent>, AllocError>
+    /// The extents that say this map: runs as long as they get of consecutive pages on consecutive units, cut at 256 pages. They can
+    /// be written with checksums of this width.
+    pub fn extents(&self, alloc: Global, width: Width) -> Result<Vec<Extent>, AllocError>
         ensures extents { IfOk result (λ es. es.items ≡ extents_of (map.entries self.now)) }
-        ensures fit { IfOk result (λ es. AllByRecursion FitsExtent es.items) }
+        ensures fit { IfOk result (λ es. AllByRecursion (FitsExtent width) es.items) }
     {
-        extents_of(alloc, self.pages.entries())
+        extents_of(alloc, width, self.pages.entries())
     }
 
-    /// The value of the row of a shard with all pages of the map: what its extents spell.
-    pub fn to_value(&self, alloc: Global) -> Result<Bytes, AllocError>
-        ensures { IfOk result (λ bytes. bytes ≡ flat_map extent_bytes (extents_of (map.entries self.now))) }
+    /// The value of the row of a shard with all pages of the map: what its extents spell, with checksums of this width.
+    pub fn to_value(&self, alloc: Global, width: Width) -> Result<Bytes, AllocError>
+        ensures { IfOk result (λ bytes. bytes ≡ flat_map (extent_bytes width) (extents_of (map.entries self.now))) }
     {
-        value_of(alloc, self.pages.entries())
+        value_of(alloc, width, self.pages.entries())
     }
 }

@@ -1,22 +1,20 @@
 //! The value of a shard's row, written from a map's entries.
 ghost use Rattle.std.specs.Prelude.{◌≡◌, ◌++◌, ◌<◌, ◌≤◌, List, ℕ, length, drop, IfOk, OnOk};
-ghost use Rattle.std.specs.Int.{w32, to_le_bytes};
 ghost use Rattle.std.specs.List.{flat_map};
+ghost use Rattle.row_format.specs.Csums.{csum_bytes};
 ghost use Rattle.row_format.specs.Extents.{extent_bytes};
 ghost use Rattle.blob_map.specs.Normal.{follows, extents_of};
 ghost use Rattle.blob_map.specs.Values.{extent_with, csums_of, IsFirstRun, WritesRun};
 
 use crate::place::Place;
 use byte_maps::Bytes;
-use onode_codec::Head;
+use onode_codec::{Head, push_csum};
 use std::alloc::{AllocError, Global};
+use unit_fields::Width;
 use unit_fields::limits::EXTENT_PAGES;
-use unit_fields::push_u32_le;
 
-// The bytes of an extent in front of its checksums, and those of each checksum.
+// The bytes of an extent in front of its checksums.
 const HEAD_BYTES: usize = 11;
-
-const CSUM_BYTES: usize = 4;
 
 // Whether the page may be the next of the extent with this head.
 fn follows(head: &Head, page: u32, place: &Place) -> bool
@@ -57,43 +55,43 @@ fn first_run(pages: &[(u32, Place)]) -> Head
     head
 }
 
-fn push_csums(out: &mut Vec<u8>, pages: &[(u32, Place)]) -> Result<(), AllocError>
-    ensures { OnOk result (out.new.items ≡ out.old.items ++ flat_map (to_le_bytes w32) (csums_of pages.now)) }
+fn push_csums(out: &mut Vec<u8>, width: Width, pages: &[(u32, Place)]) -> Result<(), AllocError>
+    ensures { OnOk result (out.new.items ≡ out.old.items ++ flat_map (csum_bytes width) (csums_of pages.now)) }
 {
     for (_page, place) in pages {
-        push_u32_le(out, place.csum)?;
+        push_csum(out, width, place.csum)?;
     }
     Ok(())
 }
 
 // Writes the first of the pages' extents, and says how many of them it has.
-fn push_run(out: &mut Vec<u8>, pages: &[(u32, Place)]) -> Result<usize, AllocError>
+fn push_run(out: &mut Vec<u8>, width: Width, pages: &[(u32, Place)]) -> Result<usize, AllocError>
     requires { 0 < length pages.now }
-    ensures { IfOk result (λ count. WritesRun pages.now count out.old.items out.new.items) }
+    ensures { IfOk result (λ count. WritesRun width pages.now count out.old.items out.new.items) }
 {
     let head = first_run(pages);
     head.push(out)?;
     let count = usize::from(head.count);
-    push_csums(out, &pages[..count])?;
+    push_csums(out, width, &pages[..count])?;
     Ok(count)
 }
 
 // How many bytes the extents of pages have at the least: as many as one extent has.
-fn least_bytes(pages: &[(u32, Place)]) -> usize {
+fn least_bytes(width: Width, pages: &[(u32, Place)]) -> usize {
     pages
         .len()
-        .saturating_mul(CSUM_BYTES)
+        .saturating_mul(width.bytes_of(1))
         .saturating_add(HEAD_BYTES)
 }
 
-/// The bytes of the extents of pages, one extent behind the other.
-pub fn value_of(alloc: Global, pages: &[(u32, Place)]) -> Result<Bytes, AllocError>
-    ensures { IfOk result (λ bytes. bytes ≡ flat_map extent_bytes (extents_of pages.now)) }
+/// The bytes of the extents of pages, one extent behind the other, with checksums of this width.
+pub fn value_of(alloc: Global, width: Width, pages: &[(u32, Place)]) -> Result<Bytes, AllocError>
+    ensures { IfOk result (λ bytes. bytes ≡ flat_map (extent_bytes width) (extents_of pages.now)) }
 {
-    let mut out = Vec::with_capacity(alloc, least_bytes(pages))?;
+    let mut out = Vec::with_capacity(alloc, least_bytes(width, pages))?;
     let mut left = pages;
     'runs: while !left.is_empty() {
-        let count = push_run(&mut out, left)?;
+        let count = push_run(&mut out, width, left)?;
         left = behind(left, count);
     }
     Ok(Bytes::from_vec(out))

@@ -1,5 +1,6 @@
 -- How the book goes on at a submission or a read: an entry more, and where it is an accepted transaction a context more.
-use Rattle.std.proofs.Common.{◌≡◌, ◌≢◌, inl, inr, ℕ, ◌<◌, Bool, cond, List, [], ◌∷◌, ◌++◌, length, map, None, Ok}
+use Rattle.std.proofs.Common.{◌≡◌, ◌≢◌, inl, inr, ℕ, ◌<◌, Bool, cond, List, [], ◌∷◌, ◌++◌, length, None, Ok}
+use Rattle.meta_log.specs.Slots.{width_of}
 use Rattle.std.proofs.Common.{Err, refl, sym, ap, subst, ◌∙◌, append_assoc, arith}
 use Rattle.std.specs.Prelude.{IsOk, Result}
 use Rattle.std.specs.List.{AllByRecursion}
@@ -75,11 +76,12 @@ fresh_held [] at ascend = tt
 fresh_held (f ∷ fresh) at ascend = (here_held fresh f at, above_held fresh f at fresh ascend.0 (fresh_held fresh at ascend.1))
 
 -- a unit that is none of them holds what it held
-none_held : (sup : Super) (rows : Rows) (fresh : List FreshUnit) (at : ℕ → List ℕ) (unit : ℕ) → IsOwned rows unit
-    → AllByRecursion (λ f. IsDataUnit sup f.unit × ¬ IsOwned rows f.unit × (length f.bytes ≡ 4096)) fresh → bytes_with fresh at unit ≡ at unit
+none_held : (sup : Super) (rows : Rows) (fresh : List FreshUnit) (at : ℕ → List ℕ) (unit : ℕ) → IsOwned (width_of sup) rows unit
+    → AllByRecursion (λ f. IsDataUnit sup f.unit × ¬ IsOwned (width_of sup) rows f.unit × (length f.bytes ≡ 4096)) fresh
+    → bytes_with fresh at unit ≡ at unit
 none_held sup rows [] at unit owned all = refl
 none_held sup rows (f ∷ fresh) at unit owned all =
-    others_held fresh f at unit (λ e. all.0.1 (subst (IsOwned rows) (sym e) owned)) ∙ none_held sup rows fresh at unit owned all.1
+    others_held fresh f at unit (λ e. all.0.1 (subst (IsOwned (width_of sup) rows) (sym e) owned)) ∙ none_held sup rows fresh at unit owned all.1
 
 module _ (sup : Super) (rows : Rows) (change : Change) (plan : Plan) (is : IsPlanned sup rows change plan) (at : ℕ → List ℕ) where
   pub plan_ascends : Ascends (units_of plan.fresh)
@@ -89,7 +91,7 @@ module _ (sup : Super) (rows : Rows) (change : Change) (plan : Plan) (is : IsPla
   plan_holds = fresh_held plan.fresh at plan_ascends
 
   -- and no owned unit is fresh
-  pub plan_spares : (unit : ℕ) → IsOwned rows unit → bytes_with plan.fresh at unit ≡ at unit
+  pub plan_spares : (unit : ℕ) → IsOwned (width_of sup) rows unit → bytes_with plan.fresh at unit ≡ at unit
   plan_spares unit owned = none_held sup rows plan.fresh at unit owned (planned_fresh sup rows is)
 
 -- ---- the objects after the transaction
@@ -161,13 +163,14 @@ module _ (opening : Objects) (s : State) (client line : ℕ) (change : Change) (
       now : ℕ → List ℕ
       now = bytes_with plan.fresh book.stand.0
 
-      stand : StandSomehow (rows_after s.submitted plan.ops) (replay opening (accepted (s.book.entries ++ entry ∷ [])))
+      stand : StandSomehow (width_of s.log.sup) (rows_after s.submitted plan.ops) (replay opening (accepted (s.book.entries ++ entry ∷ [])))
       stand = (
         now,
-        subst (ObjectsStand now (rows_after s.submitted plan.ops)) (sym objects_are)
+        subst (ObjectsStand (width_of s.log.sup) now (rows_after s.submitted plan.ops)) (sym objects_are)
             (planned_stand s.log.sup s.submitted book.stand.0 now objects on.after is_planned good
             (plan_holds s.log.sup s.submitted change plan is_planned book.stand.0)
-            (λ unit has. plan_spares s.log.sup s.submitted change plan is_planned book.stand.0 unit (page_owned s.submitted unit has))
+            (λ unit has. plan_spares s.log.sup s.submitted change plan is_planned book.stand.0 unit
+            (page_owned (width_of s.log.sup) s.submitted unit has))
             book.stand.1 on.effect),
       )
 
@@ -191,7 +194,11 @@ module _ (opening : Objects) (s : State) (client line : ℕ) (command : Command)
     queued = queued_noted s.book.entries more s.book.commits s.pending book.commits.of_accepted book.queued none;
     contexts = entry_push s.book.entries more (uncommitted s) book.contexts;
     last_committed = book.last_committed;
-    stand = (book.stand.0, subst (λ (l : List Change). ObjectsStand book.stand.0 s.submitted (replay opening l)) (sym same) book.stand.1);
+    stand = (
+      book.stand.0,
+      subst (λ (l : List Change). ObjectsStand (width_of s.log.sup) book.stand.0 s.submitted (replay opening l))
+          (sym same) book.stand.1,
+    );
   }
     where
       same : accepted (s.book.entries ++ more ∷ []) ≡ accepted s.book.entries
@@ -237,4 +244,4 @@ pub book_answers : (opening : Objects) (s : State) (d : Disk) (client line : ℕ
 book_answers opening s d client line command a s' book is =
     subst (KnownOfBook opening) (sym is.after)
     (book_enters opening s client line command a (read_accepts_none command a is.names) book
-    (plain_answer s.submitted (replay opening (accepted s.book.entries)) book.stand.1.shape d command a is.names is.given))
+    (plain_answer (width_of s.log.sup) s.submitted (replay opening (accepted s.book.entries)) book.stand.1.shape d command a is.names is.given))

@@ -1,5 +1,6 @@
 -- How each call keeps what is known of the book.
 use Rattle.std.proofs.Common.{◌≡◌, ℕ, ◌+◌, ◌-◌, ◌<◌, ◌≤◌, Bool, true, false, cond, not, ◌&&◌, List, [], ◌∷◌, ◌++◌, length, drop}
+use Rattle.meta_log.specs.Slots.{width_of}
 use Rattle.std.proofs.Common.{Option, Some, None, refl, sym, ap, subst, ◌∙◌, length-append, arith}
 use Rattle.std.specs.Prelude.{is_some, IsSome, IfSome, nat_eq}
 use Rattle.std.specs.List.{IsDistinct}
@@ -49,7 +50,8 @@ pub nothing_twice : IsDistinct nat_eq []
 unfolding IsDistinct
 nothing_twice = tt
 
-pub book_opened : (opening : Objects) (f : Found) (space : Space) (events : ℕ) → StandSomehow f.rows opening → KnownOfBook opening (opened f space events)
+pub book_opened : (opening : Objects) (f : Found) (space : Space) (events : ℕ) → StandSomehow (width_of f.sup) f.rows opening
+    → KnownOfBook opening (opened f space events)
 book_opened opening f space events stand = record {
   answers = tt;
   counts = tt;

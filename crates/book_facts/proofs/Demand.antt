@@ -1,5 +1,6 @@
 -- Want of space comes only where a run's commands ask for more units than were free when it began.
 use Rattle.std.proofs.Common.{◌≡◌, inl, inr, ℕ, ◌+◌, ◌<◌, ◌≤◌, Bool, true, false, List, [], ◌∷◌, ◌++◌}
+use Rattle.meta_log.specs.Slots.{width_of}
 use Rattle.std.proofs.Common.{refl, sym, ap, subst, ◌∙◌, arith}
 use Rattle.std.specs.Prelude.{◌||◌}
 use Rattle.block_device.specs.Disk.{Disk}
@@ -82,7 +83,8 @@ cause_wants change s (answer.MetaFull need room) cause is = absurd cc
 cause_wants change s a cause is = absurd cause
 
 -- a read isn't answered so
-read_wants : (d : Disk) (s : State) (command : Command) (a : Answer) → HasReadNames command → IsAnswerOf d s.submitted command a → is_no_space a ≡ true
+read_wants : (d : Disk) (s : State) (command : Command) (a : Answer) → HasReadNames command
+    → IsAnswerOf (width_of s.log.sup) d s.submitted command a → is_no_space a ≡ true
     → free_count s.space < units_asked command
 read_wants d s (ask.Read c o off len) (answer.NoSpace need free) names given is = absurd given.1
 read_wants d s (ask.Sum c o) (answer.NoSpace need free) names given is = absurd given.1

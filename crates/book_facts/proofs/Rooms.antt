@@ -1,5 +1,6 @@
 -- Units and room go to accepted transactions alone: no other call takes any.
 use Rattle.std.proofs.Common.{◌≡◌, inl, inr, ℕ, ◌+◌, ◌-◌, ◌<◌, ◌≤◌, Bool, true, false, cond, List, [], ◌∷◌, ◌++◌, length}
+use Rattle.meta_log.specs.Slots.{width_of}
 use Rattle.std.proofs.Common.{Option, Some, None, is_some, refl, sym, ap, subst, ◌∙◌, arith}
 use Rattle.std.proofs.lemmas.List.{length-map}
 use Rattle.block_device.specs.declared.device.Ticket.{Ticket}
@@ -157,9 +158,10 @@ module _ (s : State) (d : Disk) (client line : ℕ) (change : Change) (s' : Stat
       let entry : Entry = record { client = client; line = line; command = ask.Change change; answer = answer.Accepted; acks = s.acked } in
       let free = count_taken units s.space
       (plan_ascends s.log.sup s.submitted change does.plan (takes_plan s d client line change s' kept may does) (λ unit. []))
-      (plan_takes_free change.coll change.ops s.submitted s.space does.plan may.known does.plans) in
+      (plan_takes_free (width_of s.log.sup) change.coll change.ops s.submitted s.space does.plan may.known does.plans) in
       let count : length units ≡ units_taken change.ops =
-      length-map does.plan.fresh (λ (f : FreshUnit). f.unit) ∙ plan_count change.coll change.ops s.submitted s.space does.plan may.known does.plans in
+      length-map does.plan.fresh (λ (f : FreshUnit). f.unit)
+      ∙ plan_count (width_of s.log.sup) change.coll change.ops s.submitted s.space does.plan may.known does.plans in
       let more = taken_push s.book.entries entry in
       let here : taken_by (entry ∷ []) ≡ units_taken change.ops + 0 = refl in
       omega (arith, free, count, more, here))

@@ -1,5 +1,6 @@
 -- The fair selections of contexts: what stands for all of them, where none is under way or one.
 use Rattle.std.proofs.Common.{ℕ, List, [], ◌∷◌}
+use Rattle.unit_fields.specs.declared.width.Width.{Width}
 use Rattle.object_model.specs.declared.book.Entry.{Entry}
 use Rattle.object_model.specs.Objects.{Objects}
 use Rattle.object_model.specs.Effect.{replay}
@@ -18,21 +19,21 @@ pub has_coll : EachHasName changes_coll
 has_coll x = (x.coll, is_own_coll x)
 
 -- with the operations of these contexts the rows stand for the objects after their transactions
-abbrev StandsWith : (ℕ → List ℕ) → Rows → Objects → List Entry → List Context → Type 0
-StandsWith at rows objects entries some = ObjectsStand at (rows_with rows some) (replay objects (changes_of entries some))
+abbrev StandsWith : Width → (ℕ → List ℕ) → Rows → Objects → List Entry → List Context → Type 0
+StandsWith w at rows objects entries some = ObjectsStand w at (rows_with rows some) (replay objects (changes_of entries some))
 
-pub none_selected : (at : ℕ → List ℕ) (rows : Rows) (contexts : List Context) (objects : Objects) (entries : List Entry)
-    → SelectionsStand at rows contexts objects entries → ObjectsStand at rows objects
-none_selected at rows contexts objects entries stand = stand [] (fair_nil changes_coll contexts)
+pub none_selected : (w : Width) (at : ℕ → List ℕ) (rows : Rows) (contexts : List Context) (objects : Objects) (entries : List Entry)
+    → SelectionsStand w at rows contexts objects entries → ObjectsStand w at rows objects
+none_selected w at rows contexts objects entries stand = stand [] (fair_nil changes_coll contexts)
 
-pub all_selected : (at : ℕ → List ℕ) (rows : Rows) (contexts : List Context) (objects : Objects) (entries : List Entry)
-    → SelectionsStand at rows contexts objects entries → ObjectsStand at (rows_with rows contexts) (replay objects (changes_of entries contexts))
-all_selected at rows contexts objects entries stand = stand contexts (fair_all changes_coll contexts)
+pub all_selected : (w : Width) (at : ℕ → List ℕ) (rows : Rows) (contexts : List Context) (objects : Objects) (entries : List Entry)
+    → SelectionsStand w at rows contexts objects entries → ObjectsStand w at (rows_with rows contexts) (replay objects (changes_of entries contexts))
+all_selected w at rows contexts objects entries stand = stand contexts (fair_all changes_coll contexts)
 
-pub stand_none : (at : ℕ → List ℕ) (rows : Rows) (objects : Objects) (entries : List Entry) → ObjectsStand at rows objects
-    → SelectionsStand at rows [] objects entries
-stand_none at rows objects entries = each_of_none changes_coll has_coll (StandsWith at rows objects entries)
+pub stand_none : (w : Width) (at : ℕ → List ℕ) (rows : Rows) (objects : Objects) (entries : List Entry) → ObjectsStand w at rows objects
+    → SelectionsStand w at rows [] objects entries
+stand_none w at rows objects entries = each_of_none changes_coll has_coll (StandsWith w at rows objects entries)
 
-pub stand_one : (at : ℕ → List ℕ) (rows : Rows) (x : Context) (objects : Objects) (entries : List Entry) → ObjectsStand at rows objects
-    → ObjectsStand at (rows_after rows x.ops) (replay objects (changes_of entries (x ∷ []))) → SelectionsStand at rows (x ∷ []) objects entries
-stand_one at rows x objects entries = each_of_one changes_coll has_coll x (StandsWith at rows objects entries)
+pub stand_one : (w : Width) (at : ℕ → List ℕ) (rows : Rows) (x : Context) (objects : Objects) (entries : List Entry) → ObjectsStand w at rows objects
+    → ObjectsStand w at (rows_after rows x.ops) (replay objects (changes_of entries (x ∷ []))) → SelectionsStand w at rows (x ∷ []) objects entries
+stand_one w at rows x objects entries = each_of_one changes_coll has_coll x (StandsWith w at rows objects entries)

@@ -1,5 +1,7 @@
 -- What is known of the book from call to call, whatever the device is.
 use Rattle.std.specs.Prelude.{◌≡◌, ℕ, ◌≤◌, nat_eq, Bool, List, [], ◌++◌, map, drop, Option, Some, IsSome, IfSome}
+use Rattle.meta_log.specs.Slots.{width_of}
+use Rattle.unit_fields.specs.declared.width.Width.{Width}
 use Rattle.std.specs.List.{AllByRecursion, IsDistinct}
 use Rattle.std.specs.Option.{option_map_or}
 use Rattle.object_model.specs.Objects.{Objects}
@@ -58,8 +60,8 @@ pub record AreQueued (book : Book) (pending : List Context) : Type 0 where
       ≡ committed_places coll book.entries book.commits ++ places (contexts_on coll pending)
 
 -- for some bytes of the units the rows stand for the objects
-abbrev pub StandSomehow : Rows → Objects → Type 0
-StandSomehow rows objects = (at : ℕ → List ℕ) × ObjectsStand at rows objects
+abbrev pub StandSomehow : Width → Rows → Objects → Type 0
+StandSomehow w rows objects = (at : ℕ → List ℕ) × ObjectsStand w at rows objects
 
 -- Each entry has its answer, but for the bytes that reads gave, and the commits are those of the queues of collections; the submitted rows
 -- stand for the objects after all accepted transactions, for some bytes of the units.
@@ -70,7 +72,7 @@ pub record KnownOfBook (opening : Objects) (s : State) : Type 0 where
   pub queued : AreQueued s.book s.pending
   pub contexts : AllByRecursion (IsOfEntry s.book.entries) (uncommitted s)
   pub last_committed : drop (applied_count s) (commit_places s.book.commits) ≡ places (batched s.batch)
-  pub stand : StandSomehow s.submitted (replay opening (accepted s.book.entries))
+  pub stand : StandSomehow (width_of s.log.sup) s.submitted (replay opening (accepted s.book.entries))
 
 -- What is known of the order alone, whatever objects the rows stand for: the commits are of accepted transactions, each collection's are
 -- in order, and each context is of its entry.

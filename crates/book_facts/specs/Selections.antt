@@ -1,5 +1,6 @@
 -- Fair selections of contexts, and what rows and units stand for when just these are committed.
 use Rattle.std.specs.Prelude.{ℕ, List, take, filter_map}
+use Rattle.unit_fields.specs.declared.width.Width.{Width}
 use Rattle.object_model.specs.declared.book.Entry.{Entry}
 use Rattle.object_model.specs.Objects.{Objects}
 use Rattle.object_model.specs.Effect.{Change, replay}
@@ -26,6 +27,6 @@ abbrev pub applied_changes : State → List Change
 applied_changes s = committed s.book.entries (take (applied_count s) s.book.commits)
 
 -- With the operations of a fair selection the rows stand, over these bytes of units, for the objects after its transactions.
-abbrev pub SelectionsStand : (ℕ → List ℕ) → Rows → List Context → Objects → List Entry → Type 0
-SelectionsStand at rows contexts objects entries = (some : List Context) → IsFairSelection contexts some
-    → ObjectsStand at (rows_with rows some) (replay objects (changes_of entries some))
+abbrev pub SelectionsStand : Width → (ℕ → List ℕ) → Rows → List Context → Objects → List Entry → Type 0
+SelectionsStand w at rows contexts objects entries = (some : List Context) → IsFairSelection contexts some
+    → ObjectsStand w at (rows_with rows some) (replay objects (changes_of entries some))

@@ -19,6 +19,7 @@ ghost use Rattle.store_steps.specs.Runs.{MaySubmit, DoesOrFails, Call, Calls, Is
 ghost use Rattle.store_facts.specs.Kept.{IsKept};
 ghost use Rattle.book_facts.specs.BookFacts.{StandSomehow, KnownOfBook, IsInOrder};
 ghost use Rattle.book_facts.specs.Rooms.{taken_by, needs_in, demanded_by, any_no_space};
+ghost use Rattle.meta_log.specs.Slots.{width_of};
 
 /// So far each context has one name, that of its collection.
 pub fn a_context_has_one_name()
@@ -35,7 +36,7 @@ pub fn a_run_keeps_what_the_kernel_keeps()
 
 /// The book of a kernel that was just opened is known, for all objects that the rows stand for.
 pub fn a_new_book_is_known()
-    ensures { (opening : Objects) (f : Found) (space : Space) (events : ℕ) → StandSomehow f.rows opening →
+    ensures { (opening : Objects) (f : Found) (space : Space) (events : ℕ) → StandSomehow (width_of f.sup) f.rows opening →
         KnownOfBook opening (opened f space events) }
 {}
 

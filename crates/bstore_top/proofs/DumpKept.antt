@@ -1,5 +1,7 @@
 -- A walk over a mounted store leaves the device as the mount left it, and shows what the contents stood for.
 use Rattle.std.proofs.Common.{◌≡◌, ℕ, ◌≤◌, true, List, [], length, Some, None, Result, Ok, Err, refl, sym, ap, subst, ◌∙◌, arith}
+use Rattle.meta_log.specs.Slots.{width_of}
+use Rattle.unit_fields.specs.declared.width.Width.{Width}
 use Rattle.std.specs.Prelude.{IfErr, OnOk}
 use Rattle.std.specs.List.{AllByRecursion}
 use Rattle.block_device.specs.Log.{last, HasNoBadDone}
@@ -73,12 +75,13 @@ unmounted_shows end given before now colls fails none h objects told stands =
 -- ---- how a walk ended
 
 -- a walk of a kernel that is up has come to its end, or to where it failed
-walked_as : (r : Result (Unit {0}) WalkFail) (free : ℕ) (d : Disk) (rows : Rows) (colls : List CollView) → IfErr r IsOfUp → WalksTo d rows colls
-    → OnOk r (WalksAll d rows colls) → Walked (end_of_walk r free) d rows colls
-walked_as (Ok u) free d rows colls up so_far all = all
-walked_as (Err walk.Memory) free d rows colls up so_far all = so_far
-walked_as (Err walk.DeviceRead) free d rows colls up so_far all = so_far
-walked_as (Err (walk.Down ticket)) free d rows colls up so_far all = absurd up
+walked_as : (w : Width) (r : Result (Unit {0}) WalkFail) (free : ℕ) (d : Disk) (rows : Rows) (colls : List CollView) → IfErr r IsOfUp
+    → WalksTo w d rows colls
+    → OnOk r (WalksAll w d rows colls) → Walked w (end_of_walk r free) d rows colls
+walked_as w (Ok u) free d rows colls up so_far all = all
+walked_as w (Err walk.Memory) free d rows colls up so_far all = so_far
+walked_as w (Err walk.DeviceRead) free d rows colls up so_far all = so_far
+walked_as w (Err (walk.Down ticket)) free d rows colls up so_far all = absurd up
 
 -- a read that failed is counted
 pub walk_counted : (r : Result (Unit {0}) WalkFail) (free before a b now : ℕ) → IfErr r IsOfUp → (r ≡ Err walk.DeviceRead → Rose a b) → before ≤ a
@@ -123,15 +126,17 @@ module _ (given : Disk) (f : Found) (space : Space) (start : Disk) (s : State) (
     durable_unmounted fresh stays = subst (StaysDurable given empty_book) (sym device_same) (stays_durable given start fresh stays)
 
     -- what came of the walk
-    pub store_walked : (r : Result (Unit {0}) WalkFail) (free : ℕ) (colls : List CollView) → IfErr r IsOfUp → WalksTo start s.submitted colls
-        → OnOk r (WalksAll start s.submitted colls) → WalksStore given (end_of_walk r free) colls disk
+    pub store_walked : (r : Result (Unit {0}) WalkFail) (free : ℕ) (colls : List CollView) → IfErr r IsOfUp
+        → WalksTo (width_of s'.log.sup) start s.submitted colls
+        → OnOk r (WalksAll (width_of s'.log.sup) start s.submitted colls) → WalksStore given (end_of_walk r free) colls disk
     store_walked r free colls up so_far all = record {
       found = f;
       space = space;
       first = s;
       mounted = subst (λ (x : Disk). IsOpenedOn given f space x s) (sym device_same) mounted;
-      walked = subst (λ (x : Disk). Walked (end_of_walk r free) x f.rows colls) (sym device_same)
-          (subst (λ (rows : Rows). Walked (end_of_walk r free) start rows colls) rows_are (walked_as r free start s.submitted colls up so_far all));
+      walked = subst (λ (x : Disk). Walked (width_of s'.log.sup) (end_of_walk r free) x f.rows colls) (sym device_same)
+          (subst (λ (rows : Rows). Walked (width_of s'.log.sup) (end_of_walk r free) start rows colls) rows_are
+          (walked_as (width_of s'.log.sup) r free start s.submitted colls up so_far all));
     }
 
   -- ---- what it shows
@@ -150,8 +155,8 @@ module _ (given : Disk) (f : Found) (space : Space) (start : Disk) (s : State) (
     none_accepted = ap (λ (z : State). replay objects (accepted z.book.entries)) mounted.state
 
     -- the rows and the units stand for the objects
-    stand : ObjectsStand (last_at durable.history) s.submitted objects
-    stand = subst (ObjectsStand (last_at durable.history) s.submitted) none_accepted
+    stand : ObjectsStand (width_of s.log.sup) (last_at durable.history) s.submitted objects
+    stand = subst (ObjectsStand (width_of s.log.sup) (last_at durable.history) s.submitted) none_accepted
         (drained_submitted 0 objects s start durable.history kept opened_is_up opened_drained known)
 
     -- no write ended badly
@@ -163,16 +168,16 @@ module _ (given : Disk) (f : Found) (space : Space) (start : Disk) (s : State) (
     good_rows = subst (NoBadRow f.sup) (sym rows_are) mounted.openable.good.good
 
     -- a walk to the end shows just these objects
-    shows_all : (colls : List CollView) → WalksAll start s.submitted colls → colls ≡ views_of objects
-    shows_all colls all = walk_is start durable.history durable.told answered s.submitted objects stand f.sup good_rows colls all
+    shows_all : (colls : List CollView) → WalksAll (width_of s.log.sup) start s.submitted colls → colls ≡ views_of objects
+    shows_all colls all = walk_is (width_of s.log.sup) start durable.history durable.told answered s.submitted objects stand f.sup good_rows colls all
 
     -- and no walk shows a bad unit
-    shows_good : (colls : List CollView) → WalksTo start s.submitted colls → AllByRecursion HasGoodViews colls
-    shows_good colls so_far = walk_good start durable.history durable.told answered s.submitted objects stand colls so_far
+    shows_good : (colls : List CollView) → WalksTo (width_of s.log.sup) start s.submitted colls → AllByRecursion HasGoodViews colls
+    shows_good colls so_far = walk_good (width_of s.log.sup) start durable.history durable.told answered s.submitted objects stand colls so_far
 
     -- so it is of the walk, whatever its end
-    pub walk_shows : (r : Result (Unit {0}) WalkFail) (free : ℕ) (colls : List CollView) → WalksTo start s.submitted colls
-        → OnOk r (WalksAll start s.submitted colls) → Shows (end_of_walk r free) objects colls
+    pub walk_shows : (r : Result (Unit {0}) WalkFail) (free : ℕ) (colls : List CollView) → WalksTo (width_of s.log.sup) start s.submitted colls
+        → OnOk r (WalksAll (width_of s.log.sup) start s.submitted colls) → Shows (end_of_walk r free) objects colls
     walk_shows (Ok u) free colls so_far all = (shows_all colls all, shows_good colls so_far)
     walk_shows (Err walk.Memory) free colls so_far all = shows_good colls so_far
     walk_shows (Err walk.DeviceRead) free colls so_far all = shows_good colls so_far

@@ -1,5 +1,7 @@
 -- What a run of `dump` has shown, that one that nothing stands against ends well, and what a run leaves.
 use Rattle.std.proofs.Common.{◌≡◌, ◌⊎◌, inl, inr, ℕ, Bool, false, ◌||◌, List, [], ◌∷◌, Option, Some, None, Result, Ok, refl, sym, ap}
+use Rattle.meta_log.specs.Slots.{width_of}
+use Rattle.unit_fields.specs.declared.width.Width.{Width}
 use Rattle.std.proofs.Common.{subst, ◌∙◌, arith}
 use Rattle.std.specs.Prelude.{IfSome}
 use Rattle.std.specs.List.{AllByRecursion, list_any}
@@ -106,17 +108,18 @@ shows_good OutOfMemory objects colls shows = shows
 shows_good BayFault objects colls shows = shows
 
 -- a walk over a store, with no fault, has come to its end or was stopped for want of memory
-walk_ends : (end : WorkEnd) (d : Disk) (rows : Rows) (colls : List CollView) (now : ℕ) → now ≡ 0 → HasCounted end 0 now → Walked end d rows colls
+walk_ends : (w : Width) (end : WorkEnd) (d : Disk) (rows : Rows) (colls : List CollView) (now : ℕ) → now ≡ 0 → HasCounted end 0 now
+    → Walked w end d rows colls
     → EndsInOrder end
-walk_ends (Done free) d rows colls now none counted walked = inl refl
-walk_ends (BadLine n) d rows colls now none counted walked = absurd walked
-walk_ends NoSuper d rows colls now none counted walked = absurd walked
-walk_ends (BadRow key) d rows colls now none counted walked = absurd walked
-walk_ends (NotExact unit) d rows colls now none counted walked = absurd walked
-walk_ends WornOut d rows colls now none counted walked = absurd walked
-walk_ends DeviceFault d rows colls now none counted walked = absurd (omega (arith, counted, none))
-walk_ends OutOfMemory d rows colls now none counted walked = inr refl
-walk_ends BayFault d rows colls now none counted walked = absurd walked
+walk_ends w (Done free) d rows colls now none counted walked = inl refl
+walk_ends w (BadLine n) d rows colls now none counted walked = absurd walked
+walk_ends w NoSuper d rows colls now none counted walked = absurd walked
+walk_ends w (BadRow key) d rows colls now none counted walked = absurd walked
+walk_ends w (NotExact unit) d rows colls now none counted walked = absurd walked
+walk_ends w WornOut d rows colls now none counted walked = absurd walked
+walk_ends w DeviceFault d rows colls now none counted walked = absurd (omega (arith, counted, none))
+walk_ends w OutOfMemory d rows colls now none counted walked = inr refl
+walk_ends w BayFault d rows colls now none counted walked = absurd walked
 
 -- so was a run that opened no device
 unopened_ends : (end : WorkEnd) (before now : ℕ) → ¬ Rose before now → FailsUnopened end before now → EndsInOrder end
@@ -135,7 +138,7 @@ module _ (dev : List ℕ) (bay : BayView) (start : IsGoodStore dev bay) (end : W
   opened_ends : (e : DumpsOpened dev end colls seen bay bay_new) → EndsInOrder end
   opened_ends e = elim e.dumps [
     | inl failed ↦ unmounted_ends dev start.names start.store end e.given e.faults no_fault told failed.0
-    | inr walked ↦ walk_ends end e.disk walked.1.found.rows colls e.faults no_fault walked.0 walked.1.walked
+    | inr walked ↦ walk_ends (width_of walked.1.found.sup) end e.disk walked.1.found.rows colls e.faults no_fault walked.0 walked.1.walked
   ]
     where
       no_fault : e.faults ≡ 0

@@ -3,6 +3,8 @@ use Rattle.std.proofs.Common.{◌≡◌, ◌⊎◌, inl, inr, ℕ, ◌+◌, ◌<
 use Rattle.std.specs.Prelude.{IfSome, Any}
 use Rattle.std.specs.FinMap as finite
 use Rattle.std.proofs.lemmas.Option.{same_Some}
+use Rattle.unit_fields.specs.declared.width.Width.{Width}
+use Rattle.meta_log.specs.Slots.{width_of}
 use Rattle.block_device.specs.Log.{last, IsClean}
 use Rattle.block_device.specs.Disk.{Disk, History, Rose}
 use Rattle.end_points.specs.Bay.{Names, BayView, StartsWith, start_of}
@@ -16,7 +18,7 @@ use Rattle.object_model.specs.declared.book.Book.{Book}
 use Rattle.script_text.specs.Script.{IsBadAt}
 use Rattle.script_text.proofs.Scripts.{script_has_no_bad}
 use Rattle.store_image.specs.BadRows.{NoBadRow}
-use Rattle.store_image.specs.Owners.{IsLeaked, IsExactBut}
+use Rattle.store_image.specs.Owners.{IsLeaked, IsExactBut, IsInexact}
 use Rattle.store_image.proofs.ExactLemmas.{no_inexact}
 use Rattle.store_image.proofs.OneObjects.{same_rows}
 use Rattle.store_steps.specs.Opened.{Found}
@@ -89,8 +91,10 @@ module _ (dev : List ℕ) (names : Names) (start : HasGoodStore names dev) where
   not_inexact unit bad =
       let g : Found = bad.0 in
       let rows : g.rows ≡ found.rows = one_rows start.contents found g start.is_found bad.1 in
-      let exact : IsExactBut (IsLeaked found.rows) g.rows = subst (IsExactBut (IsLeaked found.rows)) (sym rows) start.exact in
-      no_inexact (IsLeaked found.rows) g.rows exact unit bad.2.1.inexact
+      let sup : g.sup ≡ found.sup = one_sup start.contents found g start.is_found bad.1 in
+      let w : Width = width_of found.sup in
+      let exact : IsExactBut w (IsLeaked w found.rows) g.rows = subst (IsExactBut w (IsLeaked w found.rows)) (sym rows) start.exact in
+      no_inexact w (IsLeaked w found.rows) g.rows exact unit (subst (λ (s : Super). IsInexact (width_of s) g.rows unit) sup bad.2.1.inexact)
 
   not_worn_out : (value : ℕ) → ¬ IsUnopenable (fail.WornOut value) start.contents
   not_worn_out value bad =

@@ -1,5 +1,6 @@
 -- What holds at the end of a run of a script: the run is one of the kernel, so what is known of these holds of it.
 use Rattle.std.proofs.Common.{◌≡◌, ℕ, suc, ◌+◌, ◌<◌, ◌≤◌, Bool, true, false, is_some, slice_get, length-append, List, [], ◌∷◌, ◌++◌, length}
+use Rattle.meta_log.specs.Slots.{width_of}
 use Rattle.std.proofs.Common.{Option, Some, None, refl, sym, ap, subst, ◌∙◌, arith, inl, inr, append-nil}
 use Rattle.std.specs.Prelude.{◌||◌, IfSome, All}
 use Rattle.std.specs.List.{AllByRecursion}
@@ -95,14 +96,14 @@ joined_run (x ∷ xs) ys s t u d e f first second =
 -- ---- opened
 
 pub opened_book : (opening : Objects) (given : Disk) (f : Found) (space : Space) (start : Disk) (s : State) → IsOpenedOn given f space start s
-    → StandSomehow f.rows opening → KnownOfBook opening s
+    → StandSomehow (width_of s.log.sup) f.rows opening → KnownOfBook opening s
 opened_book opening given f space start s mounted stand =
     subst (KnownOfBook opening) (sym mounted.state) (book_opened opening f space mounted.events stand)
 
 -- the book of a run from there is legal but for the bytes that reads gave, whatever the rows stand for
 pub legal_of : (given : Disk) (f : Found) (space : Space) (start : Disk) (s closed : State) (disk : Disk) (calls : List Call) (book : Book)
     → IsOpenedOn given f space start s → IsKept s start → IsRun s start calls closed disk → book ≡ closed.book
-    → (objects : Objects) → StandSomehow f.rows objects → IsLegalButBytes objects book
+    → (objects : Objects) → StandSomehow (width_of s.log.sup) f.rows objects → IsLegalButBytes objects book
 legal_of given f space start s closed disk calls book mounted kept run book_is objects stand =
     subst (IsLegalButBytes objects) (sym book_is)
     (known_legal objects closed (book_run objects calls s closed start disk kept (opened_book objects given f space start s mounted stand) run))

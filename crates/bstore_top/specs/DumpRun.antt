@@ -5,6 +5,8 @@ use Rattle.std.specs.FinMap as map
 use Rattle.block_device.specs.Disk.{Disk, History, IsSound, Rose}
 use Rattle.end_points.specs.Bay.{BayView, HandedOut}
 use Rattle.end_points.specs.declared.bay.How.TheVariants.{Plain}
+use Rattle.unit_fields.specs.declared.width.Width.{Width}
+use Rattle.meta_log.specs.Slots.{width_of}
 use Rattle.meta_rows.specs.Rows.{Rows}
 use Rattle.object_model.specs.Objects.{Objects}
 use Rattle.store_image.specs.Stands.{StandsFor}
@@ -23,11 +25,11 @@ use Rattle.bstore_top.specs.Keeping.{StaysDurable}
 use Rattle.bstore_top.specs.StepRun.{Seen, empty_book, FailsToMount, HasCounted, LeftByMount}
 
 -- how far a walk came, whose run ended so
-abbrev pub Walked : WorkEnd → Disk → Rows → List CollView → Type 0
-Walked (Done free) d rows colls = WalksAll d rows colls
-Walked DeviceFault d rows colls = WalksTo d rows colls
-Walked OutOfMemory d rows colls = WalksTo d rows colls
-Walked end d rows colls = ⊥
+abbrev pub Walked : Width → WorkEnd → Disk → Rows → List CollView → Type 0
+Walked w (Done free) d rows colls = WalksAll w d rows colls
+Walked w DeviceFault d rows colls = WalksTo w d rows colls
+Walked w OutOfMemory d rows colls = WalksTo w d rows colls
+Walked w end d rows colls = ⊥
 
 -- A store was mounted, and a walk went over its objects. Nothing else was done: the device is as the mount left it.
 pub record WalksStore (given : Disk) (end : WorkEnd) (colls : List CollView) (disk : Disk) : Type 0 where
@@ -35,7 +37,7 @@ pub record WalksStore (given : Disk) (end : WorkEnd) (colls : List CollView) (di
   pub space : Space
   pub first : State
   pub mounted : IsOpenedOn given found space disk first
-  pub walked : Walked end disk found.rows colls
+  pub walked : Walked (width_of found.sup) end disk found.rows colls
 
 -- the device wasn't mounted, and nothing was seen; or a walk went over its objects
 abbrev pub DumpsOn : Disk → ℕ → WorkEnd → List CollView → Disk → ℕ → Type 0

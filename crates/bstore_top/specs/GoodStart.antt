@@ -6,6 +6,7 @@ use Rattle.end_points.specs.Bay.{Names, BayView}
 use Rattle.object_model.specs.Objects.{Objects}
 use Rattle.store_image.specs.Owners.{IsExactAs}
 use Rattle.store_image.specs.Stands.{StandsFor}
+use Rattle.meta_log.specs.Slots.{width_of}
 use Rattle.store_steps.specs.Opened.{Found}
 use Rattle.log_replay.specs.Opening.{IsFoundIn, HasLowNumbers}
 use Rattle.script_text.specs.Script.{IsScript}
@@ -22,7 +23,7 @@ pub record HasGoodStore (names : Names) (dev : List ℕ) : Type 0 where
   pub stands : StandsFor contents objects
   pub found : Found
   pub is_found : IsFoundIn contents found
-  pub exact : IsExactAs found.rows found.rows
+  pub exact : IsExactAs (width_of found.sup) found.rows found.rows
   pub numbers : HasLowNumbers found
 
 -- The bay tells its names. Under the script's there is a script, and under the device's such a store.

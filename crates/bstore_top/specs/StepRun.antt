@@ -22,6 +22,7 @@ use Rattle.store_steps.specs.Runs.{Call}
 use Rattle.log_replay.specs.Calls.{IsLater}
 use Rattle.log_replay.specs.Opening.{FailsMount}
 use Rattle.mount_replay.specs.Mounting.{IsOpenedOn, IsReapedTo}
+use Rattle.meta_log.specs.Slots.{width_of}
 use Rattle.read_facts.specs.Alike.{IsLegalButBytes}
 use Rattle.bstore_top.specs.declared.run_fail.RunFail.{RunFail}
 use Rattle.bstore_top.specs.declared.run_fail.RunFail.TheVariants as run
@@ -102,7 +103,7 @@ pub record RunsScript (seed : ℕ) (lines : List Line) (given : Disk) (end : Wor
   pub closed : State
   pub reaped : IsReapedTo last.state last.disk closed disk
   pub book_is : book ≡ closed.book
-  pub legal : (objects : Objects) → StandSomehow found.rows objects → IsLegalButBytes objects book
+  pub legal : (objects : Objects) → StandSomehow (width_of found.sup) found.rows objects → IsLegalButBytes objects book
   pub within : script_demand lines ≤ free_count first.space → any_no_space book.entries ≡ false
 
 -- ---- the whole

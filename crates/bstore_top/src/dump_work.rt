@@ -1,6 +1,7 @@
 //! The work of the command `dump`.
 ghost use Rattle.std.specs.Prelude.{◌≡◌, ◌<◌, ◌≤◌, ◌+◌, ◌^◌, [], None, true, OnOk, IfErr, IsErrOf, option_copied};
 ghost use Rattle.std.specs.Option.{option_map};
+ghost use Rattle.meta_log.specs.Slots.{width_of};
 ghost use Rattle.block_device.specs.Disk.{IsSound, IsFresh, Rose};
 ghost use Rattle.unit_fields.specs.Names.{IsCollName};
 ghost use Rattle.read_facts.specs.Walks.{last_of};
@@ -66,8 +67,8 @@ fn walk_objects<D: Device>(
     requires named { IsCollName view.old.coll }
     requires none { view.old.objects ≡ [] }
     ensures coll { view.new.coll ≡ view.old.coll }
-    ensures viewed { IsViewed (D.disk kernel.old.device) kernel.old.state.submitted view.new }
-    ensures whole { OnOk result (IsWhole (D.disk kernel.old.device) kernel.old.state.submitted view.new) }
+    ensures viewed { IsViewed (width_of kernel.old.state.log.sup) (D.disk kernel.old.device) kernel.old.state.submitted view.new }
+    ensures whole { OnOk result (IsWhole (width_of kernel.old.state.log.sup) (D.disk kernel.old.device) kernel.old.state.submitted view.new) }
     ensures fails { IfErr result IsOfUp }
     ensures same { kernel.new.state ≡ kernel.old.state }
     ensures disk { D.disk kernel.new.device ≡ D.disk kernel.old.device }
@@ -95,8 +96,8 @@ fn walk_store<D: Device>(
     requires up { kernel.old.state.down ≡ None }
     requires drained { is_drained (D.disk kernel.old.device).depth kernel.old.state ≡ true }
     requires none { walk.old.items ≡ [] }
-    ensures walked { WalksTo (D.disk kernel.old.device) kernel.old.state.submitted walk.new.items }
-    ensures all { OnOk result (WalksAll (D.disk kernel.old.device) kernel.old.state.submitted walk.new.items) }
+    ensures walked { WalksTo (width_of kernel.old.state.log.sup) (D.disk kernel.old.device) kernel.old.state.submitted walk.new.items }
+    ensures all { OnOk result (WalksAll (width_of kernel.old.state.log.sup) (D.disk kernel.old.device) kernel.old.state.submitted walk.new.items) }
     ensures fails { IfErr result IsOfUp }
     ensures same { kernel.new.state ≡ kernel.old.state }
     ensures disk { D.disk kernel.new.device ≡ D.disk kernel.old.device }

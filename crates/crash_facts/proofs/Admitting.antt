@@ -1,5 +1,6 @@
 -- How the contexts stand once a transaction is accepted or refused, or a read is answered.
 use Rattle.std.proofs.Common.{◌≡◌, ℕ, ◌-◌, List, [], ◌∷◌, ◌++◌, length, take, Option, Ok, refl, sym, ap, subst, ◌∙◌, append-nil, arith}
+use Rattle.meta_log.specs.Slots.{width_of}
 use Rattle.std.specs.List.{cons_option}
 use Rattle.std.proofs.lemmas.List.{take_all}
 use Rattle.block_device.specs.Disk.{History}
@@ -85,9 +86,9 @@ module _ (opening : Objects) (s : State) (client line : ℕ) (change : Change) (
   effect : transaction_effect change before ≡ Ok on.after
   effect = subst (λ (o : Objects). transaction_effect change o ≡ Ok on.after) (sym before_is) on.effect
 
-  rows_stand : ObjectsStand (last_at h) s.log.rows before
-  rows_stand = objects_stand (held_or_last h []) (last_at h) s.log.rows (λ unit has. refl) before
-      (none_selected (held_or_last h []) s.log.rows [] before es stand)
+  rows_stand : ObjectsStand (width_of s.log.sup) (last_at h) s.log.rows before
+  rows_stand = objects_stand (width_of s.log.sup) (held_or_last h []) (last_at h) s.log.rows (λ unit has. refl) before
+      (none_selected (width_of s.log.sup) (held_or_last h []) s.log.rows [] before es stand)
 
   -- the applied commits are of earlier entries
   applied_is : applied_changes t ≡ committed (es ++ entry ∷ []) (take (length cs - 0) cs)
@@ -100,16 +101,19 @@ module _ (opening : Objects) (s : State) (client line : ℕ) (change : Change) (
   pub accept_stand : ContextsStand opening (accepted_with client line change plan t) h
   accept_stand =
       let rows : Rows = s.log.rows in
-      let spares : (unit : ℕ) → HasPage rows unit → now unit ≡ last_at h unit =
-      λ unit has. plan_spares s.log.sup rows change plan is_planned (last_at h) unit (page_owned rows unit has) in
-      let front : ObjectsStand now rows before = objects_stand (last_at h) now rows (λ unit has. sym (spares unit has)) before rows_stand in
-      let all : ObjectsStand now (rows_after rows plan.ops) on.after =
+      let spares : (unit : ℕ) → HasPage (width_of s.log.sup) rows unit → now unit ≡ last_at h unit =
+      λ unit has. plan_spares s.log.sup rows change plan is_planned (last_at h) unit (page_owned (width_of s.log.sup) rows unit has) in
+      let front : ObjectsStand (width_of s.log.sup) now rows before =
+      objects_stand (width_of s.log.sup) (last_at h) now rows (λ unit has. sym (spares unit has)) before rows_stand in
+      let all : ObjectsStand (width_of s.log.sup) now (rows_after rows plan.ops) on.after =
       planned_stand s.log.sup rows (last_at h) now before on.after is_planned good (plan_holds s.log.sup rows change plan is_planned (last_at h))
       spares rows_stand effect in
-      let stand_now : SelectionsStand now rows (one ∷ []) before (es ++ entry ∷ []) =
-      stand_one now rows one before (es ++ entry ∷ []) front (subst (ObjectsStand now (rows_after rows plan.ops)) goes all) in
-      subst (λ (l : List Change). SelectionsStand (held_or_last h (one ∷ [])) rows (one ∷ []) (replay opening l) (es ++ entry ∷ [])) applied_is
-      (subst (λ (bytes : ℕ → List ℕ). SelectionsStand bytes rows (one ∷ []) before (es ++ entry ∷ [])) now_is stand_now)
+      let stand_now : SelectionsStand (width_of s.log.sup) now rows (one ∷ []) before (es ++ entry ∷ []) =
+      stand_one (width_of s.log.sup) now rows one before (es ++ entry ∷ []) front
+      (subst (ObjectsStand (width_of s.log.sup) now (rows_after rows plan.ops)) goes all) in
+      subst (λ (l : List Change). SelectionsStand (width_of s.log.sup) (held_or_last h (one ∷ [])) rows (one ∷ []) (replay opening l)
+      (es ++ entry ∷ [])) applied_is
+      (subst (λ (bytes : ℕ → List ℕ). SelectionsStand (width_of s.log.sup) bytes rows (one ∷ []) before (es ++ entry ∷ [])) now_is stand_now)
 
 -- ---- it is refused, or a read is answered: an entry of the book, and nothing else
 
@@ -119,10 +123,13 @@ enter_stand opening s client line command a h none book stand =
     let entry : Entry = record { client = client; line = line; command = command; answer = a; acks = s.acked } in
     let es : List Entry = s.book.entries in
     let objects : Objects = replay opening (applied_changes s) in
-    let here : SelectionsStand (held_or_last h []) s.log.rows [] objects es =
-    subst (λ (xs : List Context). SelectionsStand (held_or_last h xs) s.log.rows xs objects es) none stand in
-    let there : SelectionsStand (held_or_last h []) s.log.rows [] objects (es ++ entry ∷ []) =
-    stand_none (held_or_last h []) s.log.rows objects (es ++ entry ∷ []) (none_selected (held_or_last h []) s.log.rows [] objects es here) in
-    subst (λ (l : List Change). SelectionsStand (held_or_last h (uncommitted s)) s.log.rows (uncommitted s) (replay opening l) (es ++ entry ∷ []))
+    let here : SelectionsStand (width_of s.log.sup) (held_or_last h []) s.log.rows [] objects es =
+    subst (λ (xs : List Context). SelectionsStand (width_of s.log.sup) (held_or_last h xs) s.log.rows xs objects es) none stand in
+    let there : SelectionsStand (width_of s.log.sup) (held_or_last h []) s.log.rows [] objects (es ++ entry ∷ []) =
+    stand_none (width_of s.log.sup) (held_or_last h []) s.log.rows objects (es ++ entry ∷ [])
+    (none_selected (width_of s.log.sup) (held_or_last h []) s.log.rows [] objects es here) in
+    subst (λ (l : List Change). SelectionsStand (width_of s.log.sup) (held_or_last h (uncommitted s)) s.log.rows (uncommitted s)
+    (replay opening l) (es ++ entry ∷ []))
     (sym (applied_entry es entry s.book.commits (applied_count s) book.commits.of_accepted))
-    (subst (λ (xs : List Context). SelectionsStand (held_or_last h xs) s.log.rows xs objects (es ++ entry ∷ [])) (sym none) there)
+    (subst (λ (xs : List Context). SelectionsStand (width_of s.log.sup) (held_or_last h xs) s.log.rows xs objects (es ++ entry ∷ []))
+    (sym none) there)

@@ -1,5 +1,6 @@
 -- Each call leaves all entries with the answers that plain objects give, and none that names a bad unit.
 use Rattle.std.proofs.Common.{◌≡◌, inl, inr, ℕ, Bool, true, false, cond, List, [], ◌∷◌, ◌++◌, None, Result, Ok, Err, sym, ap, subst}
+use Rattle.meta_log.specs.Slots.{width_of}
 use Rattle.std.specs.Prelude.{nat_lt, take, drop, ◌+◌}
 use Rattle.std.specs.List.{AllByRecursion}
 use Rattle.block_device.specs.Disk.{Disk, History}
@@ -102,7 +103,7 @@ read_is_plain : (base : ℕ) (opening : Objects) (client line : ℕ) (command : 
     → a ≡ reply_of command (replay opening (accepted s.book.entries))
 read_is_plain base opening client line command a s s' d h kept may known is =
     let up : s.down ≡ None = is.can_note.up in
-    seen_answer d h known.units.told (drained_good base opening s d h kept up (may.drained up) known) s.submitted
+    seen_answer (width_of s.log.sup) d h known.units.told (drained_good base opening s d h kept up (may.drained up) known) s.submitted
     (replay opening (accepted s.book.entries)) (drained_submitted base opening s d h kept up (may.drained up) known) command a is.names is.given
 
 -- what a read leaves

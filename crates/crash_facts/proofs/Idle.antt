@@ -1,5 +1,6 @@
 -- What rows and units stand for once nothing is under way.
 use Rattle.std.proofs.Common.{◌≡◌, ℕ, ◌-◌, true, List, [], length, take, Option, None, refl, sym, ap, subst, ◌∙◌, arith}
+use Rattle.meta_log.specs.Slots.{width_of}
 use Rattle.std.specs.Prelude.{IfSome}
 use Rattle.std.specs.Option.{option_map_or}
 use Rattle.std.proofs.lemmas.List.{take_all}
@@ -31,20 +32,21 @@ use Rattle.crash_facts.specs.Store.{KnownOfStore}
 
 -- the committed rows stand for the objects after all accepted transactions
 pub idle_objects : (base : ℕ) (opening : Objects) (s : State) (d : Disk) (h : History) → IsIdle s → KnownOfStore base opening s d h
-    → ObjectsStand (last_at h) s.log.rows (replay opening (accepted s.book.entries))
+    → ObjectsStand (width_of s.log.sup) (last_at h) s.log.rows (replay opening (accepted s.book.entries))
 idle_objects base opening s d h idle known =
     let cs : List Commit = s.book.commits in
-    let before : SelectionsStand (held_or_last h []) s.log.rows [] (replay opening (applied_changes s)) s.book.entries =
-    subst (λ (xs : List Context). SelectionsStand (held_or_last h xs) s.log.rows xs (replay opening (applied_changes s)) s.book.entries)
+    let before : SelectionsStand (width_of s.log.sup) (held_or_last h []) s.log.rows [] (replay opening (applied_changes s)) s.book.entries =
+    subst (λ (xs : List Context). SelectionsStand (width_of s.log.sup) (held_or_last h xs) s.log.rows xs
+    (replay opening (applied_changes s)) s.book.entries)
     idle.uncommitted known.stand in
-    let stand : ObjectsStand (last_at h) s.log.rows (replay opening (applied_changes s)) =
-    objects_stand (held_or_last h []) (last_at h) s.log.rows (λ unit has. refl) (replay opening (applied_changes s))
-    (none_selected (held_or_last h []) s.log.rows [] (replay opening (applied_changes s)) s.book.entries before) in
+    let stand : ObjectsStand (width_of s.log.sup) (last_at h) s.log.rows (replay opening (applied_changes s)) =
+    objects_stand (width_of s.log.sup) (held_or_last h []) (last_at h) s.log.rows (λ unit has. refl) (replay opening (applied_changes s))
+    (none_selected (width_of s.log.sup) (held_or_last h []) s.log.rows [] (replay opening (applied_changes s)) s.book.entries before) in
     let all : applied_changes s ≡ committed s.book.entries cs =
     ap (λ (b : Option Batch). committed s.book.entries (take (length cs - option_map_or (λ (c : Batch). length c.contexts) b 0) cs)) idle.batch
     ∙ ap (committed s.book.entries) (take_all (length cs - 0) cs (omega arith)) in
     let queued : AreQueued s.book [] = subst (AreQueued s.book) idle.pending known.book.queued in
-    subst (ObjectsStand (last_at h) s.log.rows) (ap (replay opening) all ∙ all_committed opening s.book.entries cs queued) stand
+    subst (ObjectsStand (width_of s.log.sup) (last_at h) s.log.rows) (ap (replay opening) all ∙ all_committed opening s.book.entries cs queued) stand
 
 module _ (base : ℕ) (opening : Objects) (s : State) (d : Disk) (h : History) (kept : IsKept s d) (up : s.down ≡ None)
     (drained : is_drained d.depth s ≡ true) (known : KnownOfStore base opening s d h) where
@@ -56,8 +58,9 @@ module _ (base : ℕ) (opening : Objects) (s : State) (d : Disk) (h : History) (
   same_rows = (kept.up up).submitted ∙ ap (rows_with s.log.rows) idle.uncommitted
 
   -- so they stand for these objects too
-  pub drained_submitted : ObjectsStand (last_at h) s.submitted (replay opening (accepted s.book.entries))
-  drained_submitted = subst (λ (rows : Rows). ObjectsStand (last_at h) rows (replay opening (accepted s.book.entries))) (sym same_rows)
+  pub drained_submitted : ObjectsStand (width_of s.log.sup) (last_at h) s.submitted (replay opening (accepted s.book.entries))
+  drained_submitted = subst (λ (rows : Rows). ObjectsStand (width_of s.log.sup) (last_at h) rows (replay opening (accepted s.book.entries)))
+      (sym same_rows)
       (idle_objects base opening s d h idle known)
 
   -- each ticket has one end

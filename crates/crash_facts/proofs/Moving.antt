@@ -1,5 +1,6 @@
 -- Each move keeps what is known of the store.
 use Rattle.std.proofs.Common.{◌≡◌, ℕ, true, [], None, refl, sym, subst, arith}
+use Rattle.meta_log.specs.Slots.{width_of}
 use Rattle.block_device.specs.Disk.{Disk, History}
 use Rattle.block_device.specs.declared.event.Event.TheVariants.{Flush, Done}
 use Rattle.object_model.specs.Objects.{Objects}
@@ -33,16 +34,19 @@ submitted_of s d kept up = (kept.up up).submitted
 pub move_stand : {s s' : State} {d d' : Disk} {h h' : History} (base : ℕ) (opening : Objects) → Move s d h s' d' h' → IsKept s d → s.down ≡ None
     → KnownOfUnits base s d h → KnownOfBook opening s → ContextsStand opening s h → ContextsStand opening s' h'
 move_stand base opening (data_goes s x n flying flying' ticket d d' h fits run are size submitted) kept up units book stand =
-    data_stand h n s.log.rows x (replay opening (applied_changes (at s (waits x flying)))) s.book.entries fits run
+    data_stand (width_of s.log.sup) h n s.log.rows x (replay opening (applied_changes (at s (waits x flying)))) s.book.entries fits run
     (omega (arith, run_inside x n run s.log.sup fits are, size)) stand
 move_stand base opening (data_ends s x count flying flying' d d' h t ended) kept up units book stand =
-    quiet_stand h (Done t true) s.log.rows x (done_more count x) (replay opening (applied_changes (at s (waits x flying)))) s.book.entries
+    quiet_stand (width_of s.log.sup) h (Done t true) s.log.rows x (done_more count x)
+    (replay opening (applied_changes (at s (waits x flying)))) s.book.entries
     tt refl refl refl stand
 move_stand base opening (takes s x d h) kept up units book stand = take_stand opening s x h stand
 move_stand base opening (flush_goes s x made ticket d d' h none submitted) kept up units book stand =
-    quiet_stand h Flush s.log.rows x x (replay opening (applied_changes (at s (opens x made)))) s.book.entries tt refl refl refl stand
+    quiet_stand (width_of s.log.sup) h Flush s.log.rows x x
+    (replay opening (applied_changes (at s (opens x made)))) s.book.entries tt refl refl refl stand
 move_stand base opening (flush_ends s x made ticket d d' h ended) kept up units book stand =
-    quiet_stand h (Done ticket.place true) s.log.rows x x (replay opening (applied_changes (at s (flushes x made ticket)))) s.book.entries
+    quiet_stand (width_of s.log.sup) h (Done ticket.place true) s.log.rows x x
+    (replay opening (applied_changes (at s (flushes x made ticket)))) s.book.entries
     tt refl refl refl stand
 move_stand base opening (seals s g g' x d h number fits room most batch pending none some second) kept up units book stand =
     seal_stand opening s g g' h batch pending stand
@@ -54,12 +58,15 @@ move_stand base opening (record_goes s x given written flying flying' ticket d d
     (λ unit is. sym (last_push h (piece_of s x given) unit (piece_fits base s x given d d' h more room size limits)
     (piece_spares base s x given d d' h more room unit (data_elsewhere s.log.sup unit is)))) stand
 move_stand base opening (record_ends s x given written flying flying' d d' h t ended) kept up units book stand =
-    quiet_stand h (Done t true) s.log.rows x x (replay opening (applied_changes (at s (writes x given written flying)))) s.book.entries
+    quiet_stand (width_of s.log.sup) h (Done t true) s.log.rows x x
+    (replay opening (applied_changes (at s (writes x given written flying)))) s.book.entries
     tt refl refl refl stand
 move_stand base opening (sync_goes s x pieces ticket d d' h none submitted) kept up units book stand =
-    quiet_stand h Flush s.log.rows x x (replay opening (applied_changes (at s (writes x pieces pieces [])))) s.book.entries tt refl refl refl stand
+    quiet_stand (width_of s.log.sup) h Flush s.log.rows x x
+    (replay opening (applied_changes (at s (writes x pieces pieces [])))) s.book.entries tt refl refl refl stand
 move_stand base opening (sync_ends s x pieces ticket d d' h ended) kept up units book stand =
-    quiet_stand h (Done ticket.place true) s.log.rows x x (replay opening (applied_changes (at s (syncs x pieces ticket)))) s.book.entries
+    quiet_stand (width_of s.log.sup) h (Done ticket.place true) s.log.rows x x
+    (replay opening (applied_changes (at s (syncs x pieces ticket)))) s.book.entries
     tt refl refl refl stand
 move_stand base opening (commits s x pieces d h written every) kept up units book stand =
     commit_stand opening s x pieces d h base written units book stand

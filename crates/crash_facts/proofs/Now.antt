@@ -1,6 +1,7 @@
 -- A crash now leaves the objects after a front of the commits: after the applied ones, or, once the record of the open batch was given to
 -- the device, perhaps after all.
 use Rattle.std.proofs.Common.{◌≡◌, ◌≢◌, ℕ, ◌+◌, ◌-◌, ◌<◌, ◌≤◌, true, List, [], ◌∷◌, ◌++◌, length, map, take, Option, Some, None}
+use Rattle.meta_log.specs.Slots.{width_of}
 use Rattle.std.proofs.Common.{slice_get, is_some, nat_lt}
 use Rattle.std.proofs.Common.{refl, sym, ap, subst, ◌∙◌, append-nil, arith}
 use Rattle.std.specs.Prelude.{IfSome, IsSomeAnd, Contains}
@@ -83,7 +84,7 @@ acked_within base cut acked count commits acks within i = of_commit (slice_get c
 module _ (base : ℕ) (opening : Objects) (s : State) (d : Disk) (h : History) (kept : IsKept s d) (up : s.down ≡ None)
     (known : KnownOfStore base opening s d h) where
   -- no fresh unit is owned in them
-  not_taken : (unit : ℕ) → IsOwned s.log.rows unit → AllByRecursion (λ f. f.unit ≢ unit) (all_fresh (uncommitted s))
+  not_taken : (unit : ℕ) → IsOwned (width_of s.log.sup) s.log.rows unit → AllByRecursion (λ f. f.unit ≢ unit) (all_fresh (uncommitted s))
   not_taken unit owned = all_units (λ u. u ≢ unit) (uncommitted s)
       (λ u c same. (kept.up up).releases.taken_was_not unit (subst (Contains (taken_by (uncommitted s))) same c)
       ((kept.up up).committed.exact.owned_marked unit owned))
@@ -91,12 +92,13 @@ module _ (base : ℕ) (opening : Objects) (s : State) (d : Disk) (h : History) (
   pub rows_sound : SoundFor h s.log.sup s.log.rows (replay opening (applied_changes s))
   rows_sound = record {
     good = (kept.up up).committed.good;
-    stand = objects_stand (held_or_last h (uncommitted s)) (last_at h) s.log.rows
-        (λ unit has. not_fresh (all_fresh (uncommitted s)) (last_at h) unit (not_taken unit (page_owned s.log.rows unit has)))
+    stand = objects_stand (width_of s.log.sup) (held_or_last h (uncommitted s)) (last_at h) s.log.rows
+        (λ unit has. not_fresh (all_fresh (uncommitted s)) (last_at h) unit (not_taken unit (page_owned (width_of s.log.sup) s.log.rows unit has)))
         (replay opening (applied_changes s))
-        (none_selected (held_or_last h (uncommitted s)) s.log.rows (uncommitted s) (replay opening (applied_changes s)) s.book.entries known.stand);
+        (none_selected (width_of s.log.sup) (held_or_last h (uncommitted s)) s.log.rows (uncommitted s)
+        (replay opening (applied_changes s)) s.book.entries known.stand);
     clean = λ unit has.
-        let owned = page_owned s.log.rows unit has in
+        let owned = page_owned (width_of s.log.sup) s.log.rows unit has in
         known.units.clean unit
         (data_elsewhere s.log.sup unit (owned_on_data s.log.sup s.log.rows unit (kept.up up).committed.good owned))
         (all_given (λ f. f.unit ≢ unit) (uncommitted s) (not_taken unit owned));
@@ -113,7 +115,7 @@ record IsGiven (h : History) (s : State) (x : Context) : Type 0 where
   flushed_units : UnitsAreFlushed h flushed (x.fresh ++ [])
 
 given_sound : (h : History) (s : State) (x : Context) (before : Objects) → IsGiven h s x
-    → SelectionsStand (held_or_last h (x ∷ [])) s.log.rows (x ∷ []) before s.book.entries
+    → SelectionsStand (width_of s.log.sup) (held_or_last h (x ∷ [])) s.log.rows (x ∷ []) before s.book.entries
     → SoundFor h s.log.sup (rows_after s.log.rows (x.ops ++ [])) (replay before (changes_of s.book.entries (x ∷ [])))
 given_sound h s x before is stand =
     let given : take x.given x.fresh ++ [] ≡ x.fresh ++ [] =
@@ -124,11 +126,11 @@ given_sound h s x before is stand =
     let later : Objects = replay before (changes_of s.book.entries (x ∷ [])) in
     subst (λ (l : List RowOp). SoundFor h s.log.sup (rows_after s.log.rows l) later) (sym (append-nil x.ops)) (record {
       good = is.good;
-      stand = objects_stand (held_or_last h (x ∷ [])) (last_at h) (rows_after s.log.rows x.ops)
+      stand = objects_stand (width_of s.log.sup) (held_or_last h (x ∷ [])) (last_at h) (rows_after s.log.rows x.ops)
           (λ unit has. all_held (x.fresh ++ []) (last_at h) unit held) later
-          (all_selected (held_or_last h (x ∷ [])) s.log.rows (x ∷ []) before s.book.entries stand);
+          (all_selected (width_of s.log.sup) (held_or_last h (x ∷ [])) s.log.rows (x ∷ []) before s.book.entries stand);
       clean = λ unit has.
-          let owned = page_owned (rows_after s.log.rows x.ops) unit has in
+          let owned = page_owned (width_of s.log.sup) (rows_after s.log.rows x.ops) unit has in
           clean unit (data_elsewhere s.log.sup unit (owned_on_data s.log.sup (rows_after s.log.rows x.ops) unit is.good owned)) tt;
     })
 
@@ -161,8 +163,9 @@ given_at base opening s g x b d h written is one none ops_are flushed_units cont
       flushed_units = flushed_units;
     } in
     let before : Objects = replay opening (applied_changes (at s g)) in
-    let stand : SelectionsStand (held_or_last h (x ∷ [])) s.log.rows (x ∷ []) before s.book.entries =
-    subst (λ (xs : List Context). SelectionsStand (held_or_last h xs) s.log.rows xs before s.book.entries) contexts known.stand in
+    let stand : SelectionsStand (width_of s.log.sup) (held_or_last h (x ∷ [])) s.log.rows (x ∷ []) before s.book.entries =
+    subst (λ (xs : List Context). SelectionsStand (width_of s.log.sup)
+    (held_or_last h xs) s.log.rows xs before s.book.entries) contexts known.stand in
     subst (λ (l : List RowOp). SoundFor h s.log.sup (rows_after s.log.rows l) (replay opening (committed s.book.entries s.book.commits)))
     (same_Some (x.ops ++ []) ops (sym ops_are ∙ begun))
     (subst (SoundFor h s.log.sup (rows_after s.log.rows (x.ops ++ []))) (all_commits opening (at s g) b x is one known.book)
@@ -205,5 +208,5 @@ now_stands base opening s d h kept up known =
     (rows_sound base opening s d h kept up known)
     (by_stage (λ t. IsKept t d → t.down ≡ None → KnownOfStore base opening t d h → IsGivenSound opening h t) s
     (begun_sound base opening s d h) (kept.up up).far kept up known)
-    (rows_exact (IsLeakedIn (contents_at base h)) m.rows (uncommitted s) known.exact)
+    (rows_exact (width_of s.log.sup) (IsLeakedIn (contents_at base h)) m.rows (uncommitted s) known.exact)
     (kept_begun (IsLeakedIn (contents_at base h)) s d kept up known.exact)

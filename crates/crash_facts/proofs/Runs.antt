@@ -1,5 +1,6 @@
 -- Runs of calls: each crash leaves a front of the commits, and once the kernel is drained the device stands for all that was accepted.
 use Rattle.std.proofs.Common.{◌≡◌, ◌⊎◌, inl, inr, ℕ, ◌+◌, Bool, true, false, cond, List, [], ◌∷◌, ◌++◌, length, take, Option, Some, None}
+use Rattle.meta_log.specs.Slots.{width_of}
 use Rattle.std.proofs.Common.{is_some, refl, sym, ap, subst}
 use Rattle.std.proofs.Common.{◌∙◌, arith, length-append}
 use Rattle.std.proofs.lemmas.Option.{same_Some}
@@ -146,7 +147,7 @@ module _ (base : ℕ) (opening : Objects) (call : Call) (s s' : State) (d d' : D
       let on : Goes s d durable.history s' d' = call_goes_on call s s' d d' durable.history kept up durable.told made in
       let units : KnownOfUnits base s' d' on.history = move_known base on.move store.units in
       let after : IsKept s' d' = kept_call call s s' d d' kept made sound in
-      let exact : IsExactBut (IsLeakedIn (contents_at base on.history)) s'.log.rows =
+      let exact : IsExactBut (width_of s.log.sup) (IsLeakedIn (contents_at base on.history)) s'.log.rows =
       move_exact base on.move (omega (arith, durable.counted)) store.exact in
       let known : KnownOfStore base opening s' d' on.history = record {
         units = units;
@@ -246,9 +247,9 @@ mounted_durable base opening f space events d h told none is =
     let known : KnownOfStore base opening s d h = record {
       units = opened_known base f is.recs space events d h told none is.answered is.clean is.slots is.half;
       book = book_opened opening f space events (last_at h, is.stand);
-      stand = stand_none (held_or_last h []) f.rows opening []
-          (objects_stand (last_at h) (held_or_last h []) f.rows (λ unit has. refl) opening is.stand);
-      exact = exact_none (IsLeakedIn (contents_at base h)) f.rows is.exact;
+      stand = stand_none (width_of f.sup) (held_or_last h []) f.rows opening []
+          (objects_stand (width_of f.sup) (last_at h) (held_or_last h []) f.rows (λ unit has. refl) opening is.stand);
+      exact = exact_none (width_of f.sup) (IsLeakedIn (contents_at base h)) f.rows is.exact;
     } in
     record {
       history = h;
@@ -280,7 +281,7 @@ drained_exact base opening s d h kept up drained known =
     let found = log_reads h s.log.sup s.log.rows s.log.tail s.log.number 0 (second_flush s.batch) half.0
     (size_now s d h kept known.units.told) known.units.slots half.1 in
     exact_image (contents_at base h) (last h.start h.log) s.log.sup s.log.rows found.0 found.1
-    (rows_exact (IsLeakedIn (contents_at base h)) s.log.rows (uncommitted s) known.exact)
+    (rows_exact (width_of s.log.sup) (IsLeakedIn (contents_at base h)) s.log.rows (uncommitted s) known.exact)
 
 -- ---- at the end of a run
 

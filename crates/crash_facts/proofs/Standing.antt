@@ -1,5 +1,7 @@
 -- How the contexts under way stand behind each move.
 use Rattle.std.proofs.Common.{◌≡◌, ◌≢◌, ℕ, ◌-◌, false, List, [], ◌∷◌, ◌++◌, length, take, Option, refl, sym, ap, subst, ◌∙◌}
+use Rattle.meta_log.specs.Slots.{width_of}
+use Rattle.unit_fields.specs.declared.width.Width.{Width}
 use Rattle.std.proofs.Common.{append-nil, arith}
 use Rattle.std.specs.List.{cons_option, AllByRecursion}
 use Rattle.std.specs.Option.{option_map_or}
@@ -46,30 +48,31 @@ use Rattle.crash_facts.proofs.Bytes.{with_same, all_held, held_quiet, held_over}
 
 -- ---- a context with the same operations, over bytes that are the same for units on which pages stand
 
-pub same_stand : (at at' : ℕ → List ℕ) (rows : Rows) (x y : Context) (objects objects' : Objects) (entries : List Entry)
+pub same_stand : (w : Width) (at at' : ℕ → List ℕ) (rows : Rows) (x y : Context) (objects objects' : Objects) (entries : List Entry)
     → x.ops ≡ y.ops → x.place ≡ y.place → objects ≡ objects'
-    → ((unit : ℕ) → HasPage rows unit → at unit ≡ at' unit) → ((unit : ℕ) → HasPage (rows_after rows x.ops) unit → at unit ≡ at' unit)
-    → SelectionsStand at rows (x ∷ []) objects entries → SelectionsStand at' rows (y ∷ []) objects' entries
-same_stand at at' rows x y objects objects' entries ops place same before after stand =
-    let none : ObjectsStand at' rows objects' =
-    subst (ObjectsStand at' rows) same (objects_stand at at' rows before objects (none_selected at rows (x ∷ []) objects entries stand)) in
+    → ((unit : ℕ) → HasPage w rows unit → at unit ≡ at' unit) → ((unit : ℕ) → HasPage w (rows_after rows x.ops) unit → at unit ≡ at' unit)
+    → SelectionsStand w at rows (x ∷ []) objects entries → SelectionsStand w at' rows (y ∷ []) objects' entries
+same_stand w at at' rows x y objects objects' entries ops place same before after stand =
+    let none : ObjectsStand w at' rows objects' =
+    subst (ObjectsStand w at' rows) same (objects_stand w at at' rows before objects (none_selected w at rows (x ∷ []) objects entries stand)) in
     let later : Objects = replay objects (changes_of entries (x ∷ [])) in
-    let all : ObjectsStand at' (rows_after rows x.ops) later =
-    objects_stand at at' (rows_after rows x.ops) after later (all_selected at rows (x ∷ []) objects entries stand) in
-    let by_ops : ObjectsStand at' (rows_after rows y.ops) later = subst (λ (l : List RowOp). ObjectsStand at' (rows_after rows l) later) ops all in
-    let by_place : ObjectsStand at' (rows_after rows y.ops) (replay objects (changes_of entries (y ∷ []))) =
-    subst (λ (p : ℕ). ObjectsStand at' (rows_after rows y.ops) (replay objects (cons_option (change_at entries p) []))) place by_ops in
-    stand_one at' rows y objects' entries none
-    (subst (λ (o : Objects). ObjectsStand at' (rows_after rows y.ops) (replay o (changes_of entries (y ∷ [])))) same by_place)
+    let all : ObjectsStand w at' (rows_after rows x.ops) later =
+    objects_stand w at at' (rows_after rows x.ops) after later (all_selected w at rows (x ∷ []) objects entries stand) in
+    let by_ops : ObjectsStand w at' (rows_after rows y.ops) later =
+    subst (λ (l : List RowOp). ObjectsStand w at' (rows_after rows l) later) ops all in
+    let by_place : ObjectsStand w at' (rows_after rows y.ops) (replay objects (changes_of entries (y ∷ []))) =
+    subst (λ (p : ℕ). ObjectsStand w at' (rows_after rows y.ops) (replay objects (cons_option (change_at entries p) []))) place by_ops in
+    stand_one w at' rows y objects' entries none
+    (subst (λ (o : Objects). ObjectsStand w at' (rows_after rows y.ops) (replay o (changes_of entries (y ∷ [])))) same by_place)
 
 -- ---- an event that writes nothing
 
-pub quiet_stand : (h : History) (e : Event) (rows : Rows) (x y : Context) (objects : Objects) (entries : List Entry) → WritesNothing e
+pub quiet_stand : (w : Width) (h : History) (e : Event) (rows : Rows) (x y : Context) (objects : Objects) (entries : List Entry) → WritesNothing e
     → x.ops ≡ y.ops → x.place ≡ y.place → x.fresh ≡ y.fresh
-    → SelectionsStand (held_or_last h (x ∷ [])) rows (x ∷ []) objects entries
-    → SelectionsStand (held_or_last (with_event h e) (y ∷ [])) rows (y ∷ []) objects entries
-quiet_stand h e rows x y objects entries none ops place fresh stand =
-    same_stand (held_or_last h (x ∷ [])) (held_or_last (with_event h e) (y ∷ [])) rows x y objects objects entries ops place refl
+    → SelectionsStand w (held_or_last h (x ∷ [])) rows (x ∷ []) objects entries
+    → SelectionsStand w (held_or_last (with_event h e) (y ∷ [])) rows (y ∷ []) objects entries
+quiet_stand w h e rows x y objects entries none ops place fresh stand =
+    same_stand w (held_or_last h (x ∷ [])) (held_or_last (with_event h e) (y ∷ [])) rows x y objects objects entries ops place refl
     (λ unit has. same unit) (λ unit has. same unit) stand
   where
     same : (unit : ℕ) → held_or_last h (x ∷ []) unit ≡ held_or_last (with_event h e) (y ∷ []) unit
@@ -77,13 +80,14 @@ quiet_stand h e rows x y objects entries none ops place fresh stand =
 
 -- ---- the write of a run of fresh units
 
-pub data_stand : (h : History) (n : Unsent) (rows : Rows) (x : Context) (objects : Objects) (entries : List Entry) → FitsRecord x → IsRunOf x n
-    → EventFits (length (last h.start h.log)) (run_write n) → SelectionsStand (held_or_last h (x ∷ [])) rows (x ∷ []) objects entries
+pub data_stand : (w : Width) (h : History) (n : Unsent) (rows : Rows) (x : Context) (objects : Objects) (entries : List Entry)
+    → FitsRecord x → IsRunOf x n
+    → EventFits (length (last h.start h.log)) (run_write n) → SelectionsStand w (held_or_last h (x ∷ [])) rows (x ∷ []) objects entries
     → (let y : Context = given_more (length (unsent_units n)) x in
-    SelectionsStand (held_or_last (with_event h (run_write n)) (y ∷ [])) rows (y ∷ []) objects entries)
-data_stand h n rows x objects entries fits run fit stand =
+    SelectionsStand w (held_or_last (with_event h (run_write n)) (y ∷ [])) rows (y ∷ []) objects entries)
+data_stand w h n rows x objects entries fits run fit stand =
     let y : Context = given_more (length (unsent_units n)) x in
-    same_stand (held_or_last h (x ∷ [])) (held_or_last (with_event h (run_write n)) (y ∷ [])) rows x y
+    same_stand w (held_or_last h (x ∷ [])) (held_or_last (with_event h (run_write n)) (y ∷ [])) rows x y
     objects objects entries refl refl refl (λ unit has. same unit) (λ unit has. same unit) stand
   where
     -- it writes none but units of the context
@@ -99,12 +103,12 @@ data_stand h n rows x objects entries fits run fit stand =
 pub log_stand : (h : History) (e : Event) (sup : Super) (rows : Rows) (x : Context) (objects : Objects) (entries : List Entry)
     → NoBadRow sup rows → NoBadRow sup (rows_after rows x.ops)
     → ((unit : ℕ) → IsDataUnit sup unit → last_at h unit ≡ last_at (with_event h e) unit)
-    → SelectionsStand (held_or_last h (x ∷ [])) rows (x ∷ []) objects entries
-    → SelectionsStand (held_or_last (with_event h e) (x ∷ [])) rows (x ∷ []) objects entries
+    → SelectionsStand (width_of sup) (held_or_last h (x ∷ [])) rows (x ∷ []) objects entries
+    → SelectionsStand (width_of sup) (held_or_last (with_event h e) (x ∷ [])) rows (x ∷ []) objects entries
 log_stand h e sup rows x objects entries committed good spared stand =
-    same_stand (held_or_last h (x ∷ [])) (held_or_last (with_event h e) (x ∷ [])) rows x x objects objects entries refl refl refl
-    (λ unit has. same unit (owned_on_data sup rows unit committed (page_owned rows unit has)))
-    (λ unit has. same unit (owned_on_data sup (rows_after rows x.ops) unit good (page_owned (rows_after rows x.ops) unit has))) stand
+    same_stand (width_of sup) (held_or_last h (x ∷ [])) (held_or_last (with_event h e) (x ∷ [])) rows x x objects objects entries refl refl refl
+    (λ unit has. same unit (owned_on_data sup rows unit committed (page_owned (width_of sup) rows unit has)))
+    (λ unit has. same unit (owned_on_data sup (rows_after rows x.ops) unit good (page_owned (width_of sup) (rows_after rows x.ops) unit has))) stand
   where
     same : (unit : ℕ) → IsDataUnit sup unit → held_or_last h (x ∷ []) unit ≡ held_or_last (with_event h e) (x ∷ []) unit
     same unit is = with_same (x.fresh ++ []) (last_at h) (last_at (with_event h e)) unit (spared unit is)
@@ -118,19 +122,23 @@ commit_stand opening s x pieces d h base written units book stand =
     let t : State = at s (synced x pieces) in
     let u : State = committed_batch (flushed_batch x) t in
     let before : Objects = replay opening (applied_changes t) in
-    let all : ObjectsStand (held_or_last h (x ∷ [])) (rows_after s.log.rows x.ops) (replay before (changes_of s.book.entries (x ∷ []))) =
-    all_selected (held_or_last h (x ∷ [])) s.log.rows (x ∷ []) before s.book.entries stand in
+    let all : ObjectsStand (width_of s.log.sup) (held_or_last h (x ∷ [])) (rows_after s.log.rows x.ops)
+    (replay before (changes_of s.book.entries (x ∷ []))) =
+    all_selected (width_of s.log.sup) (held_or_last h (x ∷ [])) s.log.rows (x ∷ []) before s.book.entries stand in
     let given : take x.given x.fresh ++ [] ≡ x.fresh ++ [] =
     ap (λ (fs : List FreshUnit). fs ++ []) (take_all x.given x.fresh (omega (arith, written.given))) in
     let held : HeldBytesAreLast h (x.fresh ++ []) = subst (HeldBytesAreLast h) given units.held in
-    let there : ObjectsStand (held_or_last h []) (rows_after s.log.rows x.ops) (replay before (changes_of s.book.entries (x ∷ []))) =
-    objects_stand (held_or_last h (x ∷ [])) (held_or_last h []) (rows_after s.log.rows x.ops)
+    let there : ObjectsStand (width_of s.log.sup) (held_or_last h []) (rows_after s.log.rows x.ops)
+    (replay before (changes_of s.book.entries (x ∷ []))) =
+    objects_stand (width_of s.log.sup) (held_or_last h (x ∷ [])) (held_or_last h []) (rows_after s.log.rows x.ops)
     (λ unit has. all_held (x.fresh ++ []) (last_at h) unit held) (replay before (changes_of s.book.entries (x ∷ []))) all in
-    let by_ops : ObjectsStand (held_or_last h []) (rows_after s.log.rows (x.ops ++ [])) (replay before (changes_of s.book.entries (x ∷ []))) =
-    subst (λ (l : List RowOp). ObjectsStand (held_or_last h []) (rows_after s.log.rows l) (replay before (changes_of s.book.entries (x ∷ []))))
+    let by_ops : ObjectsStand (width_of s.log.sup) (held_or_last h []) (rows_after s.log.rows (x.ops ++ []))
+    (replay before (changes_of s.book.entries (x ∷ []))) =
+    subst (λ (l : List RowOp). ObjectsStand (width_of s.log.sup) (held_or_last h []) (rows_after s.log.rows l)
+    (replay before (changes_of s.book.entries (x ∷ []))))
     (sym (append-nil x.ops)) there in
-    stand_none (held_or_last h []) (rows_after s.log.rows (x.ops ++ [])) (replay opening (applied_changes u)) s.book.entries
-    (subst (ObjectsStand (held_or_last h []) (rows_after s.log.rows (x.ops ++ [])))
+    stand_none (width_of s.log.sup) (held_or_last h []) (rows_after s.log.rows (x.ops ++ [])) (replay opening (applied_changes u)) s.book.entries
+    (subst (ObjectsStand (width_of s.log.sup) (held_or_last h []) (rows_after s.log.rows (x.ops ++ [])))
     (sym (applied_committed opening t (flushed_batch x) x book.last_committed)) by_ops)
 
 -- ---- a batch is opened, sealed, acknowledged
@@ -138,7 +146,7 @@ commit_stand opening s x pieces d h base written units book stand =
 pub take_stand : (opening : Objects) (s : State) (x : Context) (h : History) → ContextsStand opening (at s (waits x [])) h
     → ContextsStand opening (record (at s (opens x false)) { book = record s.book { commits = s.book.commits ++ commit_of x ∷ [] } }) h
 take_stand opening s x h stand =
-    subst (λ (l : List Change). SelectionsStand (held_or_last h (x ∷ [])) s.log.rows (x ∷ []) (replay opening l) s.book.entries)
+    subst (λ (l : List Change). SelectionsStand (width_of s.log.sup) (held_or_last h (x ∷ [])) s.log.rows (x ∷ []) (replay opening l) s.book.entries)
     (sym (applied_taken (at s (waits x [])) x refl)) stand
 
 pub seal_stand : (opening : Objects) (s : State) (g g' : Stage) (h : History) → batch_of g' ≡ batch_of g → pending_of g' ≡ pending_of g
@@ -148,12 +156,13 @@ seal_stand opening s g g' h batch pending stand =
   where
     Stand : Option Batch → List Context → Type 0
     Stand b xs = let all : List Context = option_map_or (λ (c : Batch). c.contexts) b [] ++ xs in
-        SelectionsStand (held_or_last h all) s.log.rows all
+        SelectionsStand (width_of s.log.sup) (held_or_last h all) s.log.rows all
         (replay opening
         (committed s.book.entries (take (length s.book.commits - option_map_or (λ (c : Batch). length c.contexts) b 0) s.book.commits)))
         s.book.entries
 
 pub finish_stand : (opening : Objects) (s : State) (h : History) → ContextsStand opening s h → ContextsStand opening (finished s) h
 finish_stand opening s h stand =
-    subst (λ (l : List Change). SelectionsStand (held_or_last h (uncommitted s)) s.log.rows (uncommitted s) (replay opening l) s.book.entries)
+    subst (λ (l : List Change). SelectionsStand (width_of s.log.sup) (held_or_last h (uncommitted s)) s.log.rows (uncommitted s)
+    (replay opening l) s.book.entries)
     (sym (applied_finished s)) stand

@@ -1,5 +1,7 @@
 -- What is known of a store from call to call: its device, its book, and that each crash so far leaves a front of the commits.
 use Rattle.std.specs.Prelude.{◌≡◌, ℕ, ◌+◌, List, [], length, take, Some, None}
+use Rattle.meta_log.specs.Slots.{width_of}
+use Rattle.unit_fields.specs.declared.width.Width.{Width}
 use Rattle.std.specs.List.{AllByRecursion}
 use Rattle.block_device.specs.Log.{last, IsClean}
 use Rattle.block_device.specs.Disk.{Disk, History}
@@ -30,22 +32,23 @@ use Rattle.unit_facts.specs.Known.{IsAnsweredSince, KnownOfUnits}
 -- way for the objects after these too: over the bytes that the fresh units are to have, and for all others those last written.
 abbrev pub ContextsStand : Objects → State → History → Type 0
 ContextsStand opening s h =
-    SelectionsStand (held_or_last h (uncommitted s)) s.log.rows (uncommitted s) (replay opening (applied_changes s)) s.book.entries
+    SelectionsStand (width_of s.log.sup) (held_or_last h (uncommitted s)) s.log.rows (uncommitted s)
+    (replay opening (applied_changes s)) s.book.entries
 
 -- The contents when the log had so many events.
 abbrev pub contents_at : ℕ → History → List ℕ
 contents_at base h = last h.start (take base h.log)
 
 -- With the operations of a fair selection of contexts the bitmap of the rows is exact, but for these leaked units.
-abbrev pub SelectionsAreExact : (ℕ → Type 0) → Rows → List Context → Type 0
-SelectionsAreExact leaked rows contexts = (some : List Context) → IsFairSelection contexts some → IsExactBut leaked (rows_with rows some)
+abbrev pub SelectionsAreExact : Width → (ℕ → Type 0) → Rows → List Context → Type 0
+SelectionsAreExact w leaked rows contexts = (some : List Context) → IsFairSelection contexts some → IsExactBut w leaked (rows_with rows some)
 
 -- what is known of a store while its kernel is up, and the device tells its log
 pub record KnownOfStore (base : ℕ) (opening : Objects) (s : State) (d : Disk) (h : History) : Type 0 where
   pub units : KnownOfUnits base s d h
   pub book : KnownOfBook opening s
   pub stand : ContextsStand opening s h
-  pub exact : SelectionsAreExact (IsLeakedIn (contents_at base h)) s.log.rows (uncommitted s)
+  pub exact : SelectionsAreExact (width_of s.log.sup) (IsLeakedIn (contents_at base h)) s.log.rows (uncommitted s)
 
 -- What holds whether it is up or down: each entry has the answer that plain objects give, none names a bad unit, and each crash since the log
 -- had `base` events leaves the objects after a front of the commits.
@@ -73,6 +76,6 @@ pub record IsMounted (base : ℕ) (opening : Objects) (f : Found) (events : ℕ)
   pub slots : SlotsStand h f.sup
   pub recs : List (List RowOp)
   pub half : ActiveHalfStands h f.sup f.rows f.tail f.number None 0 not_sent recs
-  pub stand : ObjectsStand (last_at h) f.rows opening
-  pub exact : IsExactBut (IsLeakedIn (contents_at base h)) f.rows
+  pub stand : ObjectsStand (width_of f.sup) (last_at h) f.rows opening
+  pub exact : IsExactBut (width_of f.sup) (IsLeakedIn (contents_at base h)) f.rows
   pub cuts : EachCutStands base h opening (record { entries = []; commits = [] })

@@ -18,6 +18,7 @@ ghost use Rattle.store_steps.specs.Opened.{Found, opened};
 ghost use Rattle.store_steps.specs.Runs.{Call, Calls, IsRun};
 ghost use Rattle.store_facts.specs.Kept.{IsKept};
 ghost use Rattle.crash_facts.specs.Store.{contents_at, KnownOfStore, IsDurable, KeepsDurable, IsMounted};
+ghost use Rattle.meta_log.specs.Slots.{width_of};
 
 /// A store that was mounted, on a device where nothing is in flight and that tells its log, is durable from the start, for the objects
 /// that the contents stood for when the mount began.
@@ -62,7 +63,7 @@ pub fn a_durable_book_is_legal()
 pub fn a_drained_store_can_be_read()
     ensures stand { (base : ℕ) (opening : Objects) (s : State) (d : Disk) (h : History) → IsKept s d → s.down ≡ None →
         is_drained d.depth s ≡ true → KnownOfStore base opening s d h →
-        ObjectsStand (last_at h) s.submitted (replay opening (accepted s.book.entries)) }
+        ObjectsStand (width_of s.log.sup) (last_at h) s.submitted (replay opening (accepted s.book.entries)) }
     ensures answered { (base : ℕ) (opening : Objects) (s : State) (d : Disk) (h : History) → IsKept s d → s.down ≡ None →
         is_drained d.depth s ≡ true → KnownOfStore base opening s d h → (unit : ℕ) → HasNoBadDone h.log unit }
 {}

@@ -1,12 +1,13 @@
 //! Keys and values of rows spelled by hand.
 ghost use Rattle.std.specs.Prelude.{IfOk};
+ghost use Rattle.unit_fields.specs.declared.width.Width.TheVariants.{FourBytes};
 ghost use Rattle.row_format.specs.Extents.{FitsExtent};
 
 use byte_maps::{Bytes, Items};
 use onode_codec::*;
 use std::alloc::{AllocError, Global};
 use std::test::*;
-use unit_fields::{CollName, Name, UnitNo};
+use unit_fields::{CollName, Name, UnitNo, Width};
 
 // The rows and the ends of ranges that have keys.
 #[derive(Clone, Copy)]
@@ -95,7 +96,7 @@ const TWO_PAGES: [u8; 19] = [
 ];
 
 fn two_pages(alloc: Global) -> Result<Extent, AllocError>
-    ensures { IfOk result FitsExtent }
+    ensures { IfOk result (FitsExtent FourBytes) }
 {
     let csums = Items::from_slice(alloc, &[1, 0xaabbccdd])?;
     let unit = UnitNo::new(130);
@@ -107,7 +108,7 @@ fn two_pages(alloc: Global) -> Result<Extent, AllocError>
 
 #[test]
 fn an_extent_by_hand(rt: HostRuntime) -> Result<(), Fail> {
-    let bytes = encode_extents(rt.alloc(), &[two_pages(rt.alloc())?])?;
+    let bytes = encode_extents(rt.alloc(), Width::FourBytes, &[two_pages(rt.alloc())?])?;
     assert_eq!(rt; bytes.as_slice(), TWO_PAGES.as_slice());
     Ok(())
 }

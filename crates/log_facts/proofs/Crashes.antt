@@ -1,5 +1,6 @@
 -- What the log stands for, and what a crash leaves of it.
 use Rattle.std.proofs.Common.{◌≡◌, ◌⊎◌, inl, inr, ℕ, zero, suc, ◌+◌, ◌-◌, ◌*◌, ◌%◌, ◌<◌, ◌≤◌, List, [], ◌∷◌, ◌++◌, length, Option, Some, None, refl, sym, ap, ap₂, subst, ◌∙◌, append_assoc, arith}
+use Rattle.meta_log.specs.Slots.{width_of}
 use Rattle.std.specs.FinMap as map
 use Rattle.byte_maps.specs.Units.{unit_at, units_from, zeros, IsUnits}
 use Rattle.block_device.specs.Log.{last, IsCrashImage}
@@ -46,7 +47,7 @@ log_reads h s rows tail number given_from second recs whole slots half =
 pub log_stands : (h : History) (s : Super) (rows : Rows) (tail number given_from : ℕ) (second : FlushState) (recs : List (List RowOp))
     (objects : Objects) → IsUnits s.units (last h.start h.log)
     → SlotsStand h s → ActiveHalfStands h s rows tail number None given_from second recs
-    → NoBadRow s rows → ObjectsStand (last_at h) rows objects → StandsFor (last h.start h.log) objects
+    → NoBadRow s rows → ObjectsStand (width_of s) (last_at h) rows objects → StandsFor (last h.start h.log) objects
 log_stands h s rows tail number given_from second recs objects whole slots half good stand =
     let found = log_reads h s rows tail number given_from second recs whole slots half in
     record { super = s; active = found.0; rows = rows; read = found.1; good = good; stand = stand }

@@ -1,5 +1,6 @@
 -- What a crash leaves stands for the objects after a front of the commits.
 use Rattle.std.proofs.Common.{◌≡◌, inl, inr, ℕ, ◌<◌, ◌≤◌, List, length, take, Option, Some, None, sym, subst, arith}
+use Rattle.meta_log.specs.Slots.{width_of}
 use Rattle.std.specs.Prelude.{IfSome, slice_get}
 use Rattle.std.proofs.lemmas.List.{take_all}
 use Rattle.byte_maps.specs.Units.{unit_at, IsUnits}
@@ -35,12 +36,13 @@ sound_image h s rows objects image sound is active read = record {
   rows = rows;
   read = read;
   good = sound.good;
-  stand = objects_stand (last_at h) (λ unit. unit_at unit image) rows (λ unit has. sym (is.clean unit (sound.clean unit has))) objects sound.stand;
+  stand = objects_stand (width_of s) (last_at h) (λ unit. unit_at unit image) rows
+      (λ unit has. sym (is.clean unit (sound.clean unit has))) objects sound.stand;
 }
 
 -- an image that has rows whose bitmap is as exact as that of the contents before
 pub exact_image : (before image : List ℕ) (s : Super) (rows : Rows) → IsActiveSlot image s → AreRowsOf image s rows
-    → IsExactBut (IsLeakedIn before) rows → StaysExact before image
+    → IsExactBut (width_of s) (IsLeakedIn before) rows → StaysExact before image
 exact_image before image s rows active read exact was = record { super = s; active = active; rows = rows; read = read; exact = exact }
 
 -- more commits have all that were acknowledged too
@@ -58,8 +60,8 @@ pub cut_stands : (h : History) (s : Super) (rows : Rows) (tail number : ℕ) (be
     → count ≤ length book.commits → HasAcked base (length h.log) book.commits count
     → SoundFor h s rows (replay objects (committed book.entries (take count book.commits)))
     → ((ops : List RowOp) → begun ≡ Some ops → given_from ≡ 0 → SoundFor h s (rows_after rows ops) (replay objects (committed book.entries book.commits)))
-    → IsExactBut (IsLeakedIn (last h.start (take base h.log))) rows
-    → ((ops : List RowOp) → begun ≡ Some ops → IsExactBut (IsLeakedIn (last h.start (take base h.log))) (rows_after rows ops))
+    → IsExactBut (width_of s) (IsLeakedIn (last h.start (take base h.log))) rows
+    → ((ops : List RowOp) → begun ≡ Some ops → IsExactBut (width_of s) (IsLeakedIn (last h.start (take base h.log))) (rows_after rows ops))
     → LeavesPrefix base h.start objects book h.log
 cut_stands h s rows tail number begun given_from second recs base objects book count whole whole_now slots half within acked sound sound_begun
     exact exact_begun image is chance =

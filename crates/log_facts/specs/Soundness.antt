@@ -1,5 +1,6 @@
 -- Rows and units that stand for objects in whatever a crash leaves.
 use Rattle.std.specs.Prelude.{ℕ}
+use Rattle.meta_log.specs.Slots.{width_of}
 use Rattle.block_device.specs.Log.{IsClean}
 use Rattle.block_device.specs.Disk.{History}
 use Rattle.block_device.specs.Facts.{last_at}
@@ -13,5 +14,5 @@ use Rattle.store_image.specs.Stands.{ObjectsStand}
 -- The rows are good, they and the bytes last written stand for the objects, and no unit on which a page stands is dirty.
 pub record SoundFor (h : History) (s : Super) (rows : Rows) (objects : Objects) : Type 0 where
   pub good : NoBadRow s rows
-  pub stand : ObjectsStand (last_at h) rows objects
-  pub clean : (unit : ℕ) → HasPage rows unit → IsClean h.log unit
+  pub stand : ObjectsStand (width_of s) (last_at h) rows objects
+  pub clean : (unit : ℕ) → HasPage (width_of s) rows unit → IsClean h.log unit

@@ -30,6 +30,7 @@ ghost use Rattle.log_facts.specs.HalfFacts.{IsSpellable, IsSurelyZero, ActiveHal
 ghost use Rattle.log_facts.specs.FoundHalf.{RecordsStand, EndsInZeros};
 ghost use Rattle.log_facts.specs.CrashRows.{LeavesRows};
 ghost use Rattle.log_facts.specs.Soundness.{SoundFor};
+ghost use Rattle.meta_log.specs.Slots.{width_of};
 
 /// What is known of the slots stays known over an event that writes neither.
 pub fn an_event_elsewhere_keeps_the_slots()
@@ -157,7 +158,7 @@ pub fn a_log_stands_for_its_objects()
     ensures stands { (h : History) (s : Super) (rows : Rows) (tail number given_from : ℕ) (second : FlushState) (recs : List (List RowOp))
         (objects : Objects) → IsUnits s.units (last h.start h.log) → SlotsStand h s →
         ActiveHalfStands h s rows tail number None given_from second recs →
-        NoBadRow s rows → ObjectsStand (last_at h) rows objects → StandsFor (last h.start h.log) objects }
+        NoBadRow s rows → ObjectsStand (width_of s) (last_at h) rows objects → StandsFor (last h.start h.log) objects }
 {}
 
 /// What a crash leaves has the super, and the rows as the log has them; or, once a begun record was wholly given to the device,
@@ -188,7 +189,7 @@ pub fn a_crash_now_leaves_a_prefix()
         SoundFor h s rows (replay objects (committed book.entries (take count book.commits))) →
         ((ops : List RowOp) → begun ≡ Some ops → given_from ≡ 0 →
         SoundFor h s (rows_after rows ops) (replay objects (committed book.entries book.commits))) →
-        IsExactBut (IsLeakedIn (last h.start (take base h.log))) rows →
-        ((ops : List RowOp) → begun ≡ Some ops → IsExactBut (IsLeakedIn (last h.start (take base h.log))) (rows_after rows ops)) →
+        IsExactBut (width_of s) (IsLeakedIn (last h.start (take base h.log))) rows →
+        ((ops : List RowOp) → begun ≡ Some ops → IsExactBut (width_of s) (IsLeakedIn (last h.start (take base h.log))) (rows_after rows ops)) →
         LeavesPrefix base h.start objects book h.log }
 {}

@@ -13,7 +13,7 @@ use Rattle.block_device.specs.declared.event.Event.TheVariants.{Write, Flush}
 use Rattle.block_device.proofs.LogLemmas.{unit_at-after_event}
 use Rattle.meta_rows.specs.declared.row_op.RowOp.{RowOp}
 use Rattle.meta_log.specs.declared.slot.Super.{Super}
-use Rattle.meta_log.specs.Slots.{super_bytes, IsSuper, IsValidSlot, IsActiveSlot, active_unit}
+use Rattle.meta_log.specs.Slots.{super_bytes, IsSuper, IsValidSlot, IsActiveSlot, active_unit, width_of}
 use Rattle.meta_log.specs.Records.{BeginsWithRecord, active_half, AreRowsOf}
 use Rattle.meta_log.proofs.SlotLemmas.{same_super, length-super_bytes}
 use Rattle.store_image.proofs.ByteLemmas.{equal_or_not}
@@ -143,9 +143,16 @@ module _ (units half prefer : ℕ) (contents : List ℕ) (limits : IsSuper (new_
       rows = map.empty;
       read = read;
       good = none_good (new_super units half prefer);
-      stand = none_stand _;
+      stand = none_stand (width_of (new_super units half prefer)) _;
     };
-    exact = record { super = new_super units half prefer; active = active; rows = map.empty; read = read; exact = none_exact };
+    exact = record {
+      super = new_super units half prefer;
+      active = active;
+      rows = map.empty;
+      read = read;
+      exact =
+          none_exact (width_of (new_super units half prefer));
+    };
   }
 
 -- ---- both steps

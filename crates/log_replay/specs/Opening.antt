@@ -1,5 +1,6 @@
 -- What a mount finds on a device, and why it doesn't open a store.
 use Rattle.std.specs.Prelude.{◌≡◌, ◌⊎◌, ◌↔◌, true, ℕ, ◌+◌, ◌^◌, ◌<◌, ◌≤◌, nat_lt, if◌then◌else◌, List, Option, Some, None, IfSome}
+use Rattle.meta_log.specs.Slots.{width_of}
 use Rattle.byte_maps.specs.Units.{unit_at, zeros}
 use Rattle.block_device.specs.Log.{last}
 use Rattle.block_device.specs.Disk.{Disk, Rose}
@@ -61,8 +62,8 @@ abbrev pub IsRefused : MountFail → Found → Type 0
 IsRefused Memory f = Unit {0}
 IsRefused NoSuper f = ⊥
 IsRefused (BadRow key) f = IsLeastBad f.sup f.rows key
-IsRefused (NotExact unit) f = NoBadRow f.sup f.rows × IsLeastInexact f.rows unit
-IsRefused (WornOut value) f = NoBadRow f.sup f.rows × IsExactAs f.rows f.rows × IsWornOut f value
+IsRefused (NotExact unit) f = NoBadRow f.sup f.rows × IsLeastInexact (width_of f.sup) f.rows unit
+IsRefused (WornOut value) f = NoBadRow f.sup f.rows × IsExactAs (width_of f.sup) f.rows f.rows × IsWornOut f value
 IsRefused Fault f = ⊥
 
 -- Why a mount opens no store, by the contents.

@@ -2,6 +2,8 @@
 use Rattle.std.specs.Prelude.{◌≡◌, ℕ, ◌+◌, ◌*◌, ◌%◌, ◌^◌, ◌<◌, ◌≤◌, List, [], ◌∷◌, ◌++◌, length}
 use Rattle.std.specs.Int.{w32, w64, to_le_bytes}
 use Rattle.byte_maps.specs.Units.{unit_at, zeros}
+use Rattle.unit_fields.specs.declared.width.Width.{Width}
+use Rattle.unit_fields.specs.declared.width.Width.TheVariants.{FourBytes}
 use Rattle.crc32c_csum.specs.Crc32c.{crc32c}
 use Rattle.meta_log.specs.declared.slot.Super.{Super}
 
@@ -75,3 +77,7 @@ active_unit s = half_unit s (s.epoch % 2)
 -- the first data unit
 abbrev pub data_unit : Super → ℕ
 data_unit s = 2 + 2 * s.half
+
+-- how wide the checksums of pages are in the store's rows: four bytes in each store so far
+abbrev pub width_of : Super → Width
+width_of s = FourBytes

@@ -2,13 +2,13 @@
 ghost use Rattle.std.specs.Prelude.{◌≡◌, ◌≢◌, ◌↔◌, ◌<◌, ◌++◌, ℕ, List, length, IsTrue, IfOk, OnOk, MatchOption};
 ghost use Rattle.byte_maps.specs.Units.{zeros};
 ghost use Rattle.meta_log.specs.declared.slot.Super.{Super};
-ghost use Rattle.meta_log.specs.Slots.{version_bytes, field_bytes, super_front, super_bytes, IsSummed, IsSuper, IsSlotOf};
+ghost use Rattle.meta_log.specs.Slots.{version_bytes, field_bytes, super_front, super_bytes, width_of, IsSummed, IsSuper, IsSlotOf};
 
 use byte_maps::is_zero;
 use crc32c_csum::crc32c;
 use std::alloc::{AllocError, Global};
 use unit_fields::limits::{LEAST_HALF, MOST_HALF, MOST_PREFER, MOST_UNITS, UNIT_BYTES};
-use unit_fields::{Fields, push_u32_le, push_u64_le};
+use unit_fields::{Fields, Width, push_u32_le, push_u64_le};
 
 const MAGIC: [u8; 8] = *b"BSTORE01";
 
@@ -99,6 +99,13 @@ impl Super {
             && self.prefer <= MOST_PREFER
             && self.epoch < NUMBER_LIMIT
             && self.first < NUMBER_LIMIT
+    }
+
+    /// How wide the checksums of pages are in the store's rows: four bytes in each store so far.
+    pub fn width(&self) -> Width
+        ensures { result ≡ width_of self.now }
+    {
+        Width::FourBytes
     }
 
     fn front(&self, alloc: Global) -> Result<Vec<u8>, AllocError>

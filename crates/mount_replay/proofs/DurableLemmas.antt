@@ -1,5 +1,6 @@
 -- While what is behind the records is cleared, each crash leaves the objects that the store stood for, and its bitmap.
 use Rattle.std.proofs.Common.{◌≡◌, inl, inr, ℕ, ◌+◌, ◌*◌, ◌<◌, ◌≤◌, List, [], ◌∷◌, ◌++◌, length, take, drop, refl, sym, ap, ap₂, subst, ◌∙◌, append_assoc, arith}
+use Rattle.meta_log.specs.Slots.{width_of}
 use Rattle.std.specs.List.{AllByRecursion}
 use Rattle.std.proofs.lemmas.Bool.{cases_lt, cases_eq}
 use Rattle.std.proofs.lemmas.List.{append-nil, take_all, take_at, take-append-le, drop-drop, length-append}
@@ -105,7 +106,8 @@ module _ (f : Found) (recs : List (List RowOp)) (objects : Objects) where
   spares_records Flush is unit from below covers = covers
   spares_records (Done ticket ok) is unit from below covers = covers
 
-  spares_owned : (h : History) → StoreStands f recs objects h → (event : Event) → Zeroes event → (unit : ℕ) → IsOwned f.rows unit → ¬ WritesUnit unit event
+  spares_owned : (h : History) → StoreStands f recs objects h → (event : Event) → Zeroes event → (unit : ℕ)
+      → IsOwned (width_of f.sup) f.rows unit → ¬ WritesUnit unit event
   spares_owned h stands (Write at bytes) is unit owned covers =
       half_spares_data f.sup at unit bytes (omega (arith, is.3, ap length is.1 ∙ length-zeros (4096 * is.0))) (owned_on_data f.sup f.rows unit stands.good owned).0 covers
   spares_owned h stands Flush is unit owned covers = covers
@@ -122,9 +124,10 @@ module _ (f : Found) (recs : List (List RowOp)) (objects : Objects) where
         good = stands.good;
         sound = record {
           good = stands.sound.good;
-          stand = objects_stand (last_at h) (last_at (with_event h event)) f.rows (λ unit has. sym (last_push h event unit inside (spared unit (page_owned f.rows unit has))))
+          stand = objects_stand (width_of f.sup) (last_at h) (last_at (with_event h event)) f.rows
+              (λ unit has. sym (last_push h event unit inside (spared unit (page_owned (width_of f.sup) f.rows unit has))))
               objects stands.sound.stand;
-          clean = λ unit has. clean_push h.log event unit (stands.sound.clean unit has) (spared unit (page_owned f.rows unit has));
+          clean = λ unit has. clean_push h.log event unit (stands.sound.clean unit has) (spared unit (page_owned (width_of f.sup) f.rows unit has));
         };
       }
 
@@ -267,12 +270,12 @@ module _ (f : Found) (h : History) (objects : Objects) (clean : IsAllClean h) (w
   rows_found : AreRowsOf (last h.start h.log) f.sup f.rows
   rows_found = record { records = found.replay.records; stand = found.replay.stand; made = found.replay.made }
 
-  objects_found : ObjectsStand (last_at h) f.rows objects
+  objects_found : ObjectsStand (width_of f.sup) (last_at h) f.rows objects
   objects_found =
       let same = same_active (last h.start h.log) stands.super f.sup stands.active found.active in
       let theirs = subst (λ s. AreRowsOf (last h.start h.log) s stands.rows) same stands.read in
       let rows = same_rows (last h.start h.log) f.sup stands.rows f.rows theirs rows_found in
-      subst (λ r. ObjectsStand (last_at h) r objects) rows stands.stand
+      subst (λ r. ObjectsStand (width_of f.sup) (last_at h) r objects) rows stands.stand
 
   store_found : StoreStands f found.replay.records objects h
   store_found = record {
@@ -311,7 +314,7 @@ module _ (f : Found) (h : History) (objects : Objects) (clean : IsAllClean h) (w
 
   pub is_mounted : (k : History) (count : ℕ) → ClearsSoFar (active_unit f.sup + f.tail) (active_unit f.sup + f.sup.half) (behind_records (last h.start h.log) f) h k
       → IsCleared (active_unit f.sup + f.tail) (active_unit f.sup + f.sup.half) (behind_records (last h.start h.log) f) count h k
-      → IsExactAs f.rows f.rows → IsMounted (length h.log) objects f count k
+      → IsExactAs (width_of f.sup) f.rows f.rows → IsMounted (length h.log) objects f count k
   is_mounted k count so_far cleared exact =
       let after = after_clearing k so_far in
       let front : take (length h.log) k.log ≡ h.log = ap (take (length h.log)) cleared.by.more ∙ take_at h.log cleared.events (length h.log) refl in

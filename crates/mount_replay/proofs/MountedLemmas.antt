@@ -1,5 +1,6 @@
 -- A mount of contents that stand for objects opens these, or has its cause.
 use Rattle.std.proofs.Common.{◌≡◌, inl, inr, ℕ, ◌+◌, ◌*◌, ◌<◌, ◌≤◌, ◌%◌, true, List, [], ◌∷◌, ◌++◌, length, drop, refl, sym, ap, subst, ◌∙◌, arith}
+use Rattle.meta_log.specs.Slots.{width_of}
 use Rattle.std.specs.Prelude.{All}
 use Rattle.std.proofs.lemmas.List.Elements.{All-drop}
 use Rattle.std.specs.List.{AllByRecursion}
@@ -119,7 +120,7 @@ module _ (given now : Disk) (h : History) (objects : Objects) (f : Found) (space
       record {
         history = told.now;
         told = told.told;
-        rows = subst (λ r. ObjectsStand (last_at told.now) r objects) (sym rows) after.stands.sound.stand;
+        rows = subst (λ r. ObjectsStand (width_of s.log.sup) (last_at told.now) r objects) (sym rows) after.stands.sound.stand;
         submitted = ap (λ (z : State). z.submitted) mounted.state ∙ sym rows;
         up = ap (λ (z : State). z.down) mounted.state;
         pending = ap (λ (z : State). z.pending) mounted.state;

@@ -1,5 +1,6 @@
 -- What a mount answers where the contents stand for objects.
 use Rattle.std.specs.Prelude.{◌≡◌, ℕ, [], length, Some, None}
+use Rattle.meta_log.specs.Slots.{width_of}
 use Rattle.block_device.specs.Log.{last}
 use Rattle.block_device.specs.Disk.{Disk, History, IsSound, Rose}
 use Rattle.block_device.specs.Facts.{last_at}
@@ -26,7 +27,7 @@ pub record HoldsObjects (d : Disk) (h : History) (objects : Objects) : Type 0 wh
 pub record BeginsWith (objects : Objects) (base : ℕ) (d : Disk) (s : State) : Type 0 where
   pub history : History
   pub told : d.history ≡ Some history
-  pub rows : ObjectsStand (last_at history) s.log.rows objects
+  pub rows : ObjectsStand (width_of s.log.sup) (last_at history) s.log.rows objects
   pub submitted : s.submitted ≡ s.log.rows
   pub up : s.down ≡ None
   pub pending : s.pending ≡ []

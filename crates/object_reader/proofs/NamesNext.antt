@@ -1,5 +1,6 @@
 -- The least key behind a collection or an object is that of the next one.
 use Rattle.std.proofs.Common.{◌≡◌, ◌≢◌, ◌⊎◌, inl, inr, ℕ, true, List, [], ◌∷◌, drop}
+use Rattle.meta_log.specs.Slots.{width_of}
 use Rattle.std.proofs.Common.{Option, Some, None, MatchOption, is_some, refl, sym, ap, subst, ◌∙◌, arith}
 use Rattle.std.specs.Option.{IfSome}
 use Rattle.std.specs.FinMap as map
@@ -52,7 +53,7 @@ module _ (s : Super) (rows : Rows) (good : NoBadRow s rows) where
   -- ---- collections
 
   -- a row whose key begins as a collection's is one
-  coll_named : (name : List ℕ) (r : Row) → FitsRow r → coll_key name ≡ row_key r → IsCollName name
+  coll_named : (name : List ℕ) (r : Row) → FitsRow (width_of s) r → coll_key name ≡ row_key r → IsCollName name
   coll_named name (collection d) fits is = subst IsCollName (sym (same_coll name d is)) fits
   coll_named name (onode d u size) fits is = absurd (omega (arith, same_head _ _ _ _ is))
   coll_named name (shard d u page es) fits is = absurd (omega (arith, same_head _ _ _ _ is))
@@ -92,7 +93,7 @@ module _ (s : Super) (rows : Rows) (good : NoBadRow s rows) where
       pub own_or_later : (part ≡ []) ⊎ (byte_order (onode_key c object) (behind_coll c rest) ≡ Less)
 
     -- each row whose key is of the collection is such
-    object_of : (rest : List ℕ) (r : Row) → FitsRow r → IsInPlace s rows r → HasKey rows (row_key r) → behind_coll c rest ≡ row_key r
+    object_of : (rest : List ℕ) (r : Row) → FitsRow (width_of s) r → IsInPlace s rows r → HasKey rows (row_key r) → behind_coll c rest ≡ row_key r
         → IsOfObject rest
     object_of rest (collection d) fits place has is = absurd (omega (arith, same_head _ _ _ _ is))
     object_of rest (onode d u size) fits place has is =

@@ -1,5 +1,6 @@
 -- Runs of pages, and what reads of them give.
 use Rattle.std.proofs.Common.{◌≡◌, inl, inr, ℕ, ◌+◌, ◌-◌, ◌*◌, ◌<◌, ◌≤◌, List, [], ◌++◌, length, take, set, get_or, Option, Some, None, refl, sym, ap, subst, ◌∙◌, arith, length-append}
+use Rattle.unit_fields.specs.declared.width.Width.{Width}
 use Rattle.std.specs.Prelude.{IfSome, All, Result, Ok, Err, IfErr, IsErr}
 use Rattle.std.specs.Result.{IsErrAnd}
 use Rattle.std.proofs.lemmas.Bool.{cases_lt}
@@ -108,12 +109,13 @@ held : (d : Disk) (at count i : ℕ) (bytes : List ℕ) → HasRead d at count b
 held d at count i bytes read lt = held_by d.history at count i bytes lt read.units
 
 -- a page that was read, with the checksum that is kept for it, is good
-good_unit : (d : Disk) (pages : List Extent) (first at count i : ℕ) (bytes : List ℕ) (rows : Rows) (c o : List ℕ) → AreOnUnits pages first at count
-    → HasRead d at count bytes → FindPagesOf rows c o pages → i < count → IsChecked pages (first + i) (unit_at i bytes)
-    → IsGoodPage d rows c o (first + i) (unit_at i bytes)
-good_unit d pages first at count i bytes rows c o on read is lt checked =
+good_unit : (w : Width) (d : Disk) (pages : List Extent) (first at count i : ℕ) (bytes : List ℕ) (rows : Rows) (c o : List ℕ)
+    → AreOnUnits pages first at count
+    → HasRead d at count bytes → FindPagesOf w rows c o pages → i < count → IsChecked pages (first + i) (unit_at i bytes)
+    → IsGoodPage w d rows c o (first + i) (unit_at i bytes)
+good_unit w d pages first at count i bytes rows c o on read is lt checked =
     let stand = on i lt in
-    let there = on_own rows c o (first + i) (at + i) stand.0 ((is (first + i) (own (at + i) stand.0)).0 stand.1) in
+    let there = on_own w rows c o (first + i) (at + i) stand.0 ((is (first + i) (own (at + i) stand.0)).0 stand.1) in
     mapped (record { unit = at + i; csum = stand.0 }) there (held d at count i bytes read lt) (checked (at + i) stand.0 stand.1)
 
 -- pages on consecutive units that were read, with the checksums that are kept for them, are good
@@ -121,9 +123,9 @@ pub good_units : (d : Disk) (pages : List Extent) (first at count : ℕ) (bytes 
     → AreChecked pages first count bytes → GivesPages d pages first count bytes
 good_units d pages first at count bytes on read checked = record {
   size = read.size;
-  good = λ rows c o is. record {
+  good = λ w rows c o is. record {
     size = read.size;
-    each = λ i lt. good_unit d pages first at count i bytes rows c o on read is lt (checked i lt);
+    each = λ i lt. good_unit w d pages first at count i bytes rows c o on read is lt (checked i lt);
   };
 }
 
@@ -132,13 +134,14 @@ unit_of_front : (n i : ℕ) (bytes : List ℕ) → i < n → unit_at i (take (40
 unfolding unit_at
 unit_of_front n i bytes lt = piece_of_front (4096 * i) 4096 (4096 * n) bytes (omega (arith, lt))
 
-good_front : (d : Disk) (pages : List Extent) (first at count n : ℕ) (bytes : List ℕ) (rows : Rows) (c o : List ℕ) → AreOnUnits pages first at count
-    → HasRead d at count bytes → FindPagesOf rows c o pages → n < count → AreChecked pages first n bytes
-    → AreGoodPages d rows c o first n (take (4096 * n) bytes)
-good_front d pages first at count n bytes rows c o on read is lt checked = record {
+good_front : (w : Width) (d : Disk) (pages : List Extent) (first at count n : ℕ) (bytes : List ℕ) (rows : Rows) (c o : List ℕ)
+    → AreOnUnits pages first at count
+    → HasRead d at count bytes → FindPagesOf w rows c o pages → n < count → AreChecked pages first n bytes
+    → AreGoodPages w d rows c o first n (take (4096 * n) bytes)
+good_front w d pages first at count n bytes rows c o on read is lt checked = record {
   size = length-take-le (4096 * n) bytes (omega (arith, lt, read.size));
-  each = λ i below. subst (IsGoodPage d rows c o (first + i)) (sym (unit_of_front n i bytes below))
-      (good_unit d pages first at count i bytes rows c o on read is (omega (arith, below, lt)) (checked i below));
+  each = λ i below. subst (IsGoodPage w d rows c o (first + i)) (sym (unit_of_front n i bytes below))
+      (good_unit w d pages first at count i bytes rows c o on read is (omega (arith, below, lt)) (checked i below));
 }
 
 same_unit : (unit csum at kept : ℕ) → Some (own unit csum) ≡ Some (own at kept) → unit ≡ at
@@ -147,7 +150,7 @@ same_unit unit csum at kept is = cc
 -- the first mismatch of pages that were read is the first bad page
 pub bad_unit : (d : Disk) (pages : List Extent) (first at count : ℕ) (bytes sums : List ℕ) (bad : BadSum) → AreKept pages first at count sums
     → HasRead d at count bytes → IsMismatch at count bytes sums bad → GivesBad d pages first count bad
-bad_unit d pages first at count bytes sums bad kept read m rows c o is =
+bad_unit d pages first at count bytes sums bad kept read m w rows c o is =
     let there : place_found pages (first + m.index) ≡ Some (own bad.unit bad.kept) =
     kept m.index m.within ∙ ap (λ u. Some (own u (get_or sums m.index 0))) (sym m.unit) ∙ ap (λ k. Some (own bad.unit k)) (sym m.is_kept) in
     let whole : 4096 * m.index + 4096 ≤ length bytes = omega (arith, m.within, read.size) in
@@ -155,10 +158,10 @@ bad_unit d pages first at count bytes sums bad kept read m rows c o is =
       index = m.index;
       within = m.within;
       before = take (4096 * m.index) bytes;
-      good = good_front d pages first at count m.index bytes rows c o (on_units pages first at count sums kept) read is m.within
+      good = good_front w d pages first at count m.index bytes rows c o (on_units pages first at count sums kept) read is m.within
           (sums_checked pages first at count m.index bytes sums (omega (arith, m.within)) kept m.before);
       bad = record {
-        is_on = on_own rows c o (first + m.index) bad.unit bad.kept ((is (first + m.index) (own bad.unit bad.kept)).0 there);
+        is_on = on_own w rows c o (first + m.index) bad.unit bad.kept ((is (first + m.index) (own bad.unit bad.kept)).0 there);
         bytes = unit_at m.index bytes;
         size = length-unit_at m.index bytes whole;
         held = subst (λ (u : ℕ). IsHeldAt d u (unit_at m.index bytes)) (sym m.unit) (held d at count m.index bytes read m.within);
@@ -179,7 +182,7 @@ pub good_holes : (d : Disk) (pages : List Extent) (first count : ℕ) (bytes : L
     → GivesPages d pages first count bytes
 good_holes d pages first count bytes are same = subst (GivesPages d pages first count) (sym same) (record {
   size = length-zeros (4096 * count);
-  good = λ rows c o is. record {
+  good = λ w rows c o is. record {
     size = length-zeros (4096 * count);
     each = λ i lt. hole (λ page_on at. none_there i lt ((is (first + i) at.place).1 at.at)) (unit_at-zeros i (4096 * count) (omega (arith, lt)));
   };
@@ -191,9 +194,9 @@ good_holes d pages first count bytes are same = subst (GivesPages d pages first 
 -- ---- failures
 
 -- the first bad page of some is the first of more
-bad_of_more : (d : Disk) (rows : Rows) (c o : List ℕ) (first count n unit kept found : ℕ) → count ≤ n
-    → IsFirstBad d rows c o first count unit kept found → IsFirstBad d rows c o first n unit kept found
-bad_of_more d rows c o first count n unit kept found le f = record {
+bad_of_more : (w : Width) (d : Disk) (rows : Rows) (c o : List ℕ) (first count n unit kept found : ℕ) → count ≤ n
+    → IsFirstBad w d rows c o first count unit kept found → IsFirstBad w d rows c o first n unit kept found
+bad_of_more w d rows c o first count n unit kept found le f = record {
   index = f.index;
   within = omega (arith, f.within, le);
   before = f.before;
@@ -205,7 +208,7 @@ bad_of_more d rows c o first count n unit kept found le f = record {
 pub fails_of_more : (d : Disk) (pages : List Extent) (first count n : ℕ) (fail : PartFail) → count ≤ n → IsPartFail d pages first count fail
     → IsPartFail d pages first n fail
 fails_of_more d pages first count n (why.BadPage bad) le is =
-    λ rows c o map. bad_of_more d rows c o first count n bad.unit bad.kept bad.found le (is rows c o map)
+    λ w rows c o map. bad_of_more w d rows c o first count n bad.unit bad.kept bad.found le (is w rows c o map)
 fails_of_more d pages first count n why.Memory le is = tt
 fails_of_more d pages first count n why.Fault le is = tt
 
@@ -213,10 +216,10 @@ fails_of_more d pages first count n why.Fault le is = tt
 pub fails_behind : (d : Disk) (pages : List Extent) (first next end : ℕ) (xs : List ℕ) (fail : PartFail) → first ≤ next → next ≤ end
     → GivesPages d pages first (next - first) xs → IsPartFail d pages next (end - next) fail → IsPartFail d pages first (end - first) fail
 fails_behind d pages first next end xs (why.BadPage bad) from below front is =
-    λ rows c o map.
+    λ w rows c o map.
     let same : next ≡ first + (next - first) = omega (arith, from) in
-    bad_behind_good d rows c o first (next - first) (end - next) (end - first) bad.unit bad.kept bad.found xs (front.good rows c o map)
-    (subst (λ (p : ℕ). IsFirstBad d rows c o p (end - next) bad.unit bad.kept bad.found) same (is rows c o map)) (omega (arith, from, below))
+    bad_behind_good w d rows c o first (next - first) (end - next) (end - first) bad.unit bad.kept bad.found xs (front.good w rows c o map)
+    (subst (λ (p : ℕ). IsFirstBad w d rows c o p (end - next) bad.unit bad.kept bad.found) same (is w rows c o map)) (omega (arith, from, below))
 fails_behind d pages first next end xs why.Memory from below front is = tt
 fails_behind d pages first next end xs why.Fault from below front is = tt
 
@@ -226,7 +229,7 @@ fails_behind d pages first next end xs why.Fault from below front is = tt
 pub no_pages : (d : Disk) (pages : List Extent) (first n : ℕ) (bytes : List ℕ) → n ≡ 0 → bytes ≡ [] → GivesPages d pages first n bytes
 no_pages d pages first n bytes none empty = subst (GivesPages d pages first n) (sym empty)
     (subst (λ (m : ℕ). GivesPages d pages first m []) (sym none)
-    (record { size = refl; good = λ rows c o is. none_good d rows c o first }))
+    (record { size = refl; good = λ w rows c o is. none_good w d rows c o first }))
 
 -- one run behind the others
 pub more_pages : (d : Disk) (pages : List Extent) (first next count : ℕ) (xs ys both : List ℕ) → first ≤ next → both ≡ xs ++ ys
@@ -234,10 +237,10 @@ pub more_pages : (d : Disk) (pages : List Extent) (first next count : ℕ) (xs y
 more_pages d pages first next count xs ys both from is front back =
     let same : next ≡ first + (next - first) = omega (arith, from) in
     let many : (next - first) + count ≡ next + count - first = omega (arith, from) in
-    let good = λ (rows : Rows) (c o : List ℕ) (is : FindPagesOf rows c o pages).
-    subst (λ (n : ℕ). AreGoodPages d rows c o first n (xs ++ ys)) many
-    (good_appended d rows c o first (next - first) count xs ys (front.good rows c o is)
-    (subst (λ (p : ℕ). AreGoodPages d rows c o p count ys) same (back.good rows c o is))) in
+    let good = λ (w : Width) (rows : Rows) (c o : List ℕ) (is : FindPagesOf w rows c o pages).
+    subst (λ (n : ℕ). AreGoodPages w d rows c o first n (xs ++ ys)) many
+    (good_appended w d rows c o first (next - first) count xs ys (front.good w rows c o is)
+    (subst (λ (p : ℕ). AreGoodPages w d rows c o p count ys) same (back.good w rows c o is))) in
     subst (GivesPages d pages first (next + count - first)) (sym is) (record { size = both_sizes; good = good })
   where
     both_sizes : IsUnits (next + count - first) (xs ++ ys)

@@ -4,6 +4,7 @@ use Rattle.byte_maps.specs.Units.{unit_at, zeros, IsUnits}
 use Rattle.crc32c_csum.specs.Crc32c.{crc32c, remainder, all_ones}
 use Rattle.block_device.specs.Disk.{Disk, HasRead}
 use Rattle.meta_rows.specs.Rows.{Rows}
+use Rattle.unit_fields.specs.declared.width.Width.{Width}
 use Rattle.row_format.specs.Extents.{Extent, own}
 use Rattle.page_lookup.specs.Found.{place_found}
 use Rattle.onode_state.specs.Objects.{FindPagesOf}
@@ -68,15 +69,16 @@ pub record IsMismatch (at count : ℕ) (bytes sums : List ℕ) (bad : BadSum) : 
   pub is_found : bad.found ≡ crc32c (unit_at index bytes)
   pub differs : bad.found ≢ bad.kept
 
--- of each object with these pages, so many pages from the first on are good, and these are their bytes
+-- of each object with these pages, however wide the checksums are in its rows, so many pages from the first on are good, and these are their
+-- bytes
 pub record GivesPages (d : Disk) (pages : List Extent) (first count : ℕ) (bytes : List ℕ) : Type 0 where
   pub size : IsUnits count bytes
-  pub good : (rows : Rows) (c o : List ℕ) → FindPagesOf rows c o pages → AreGoodPages d rows c o first count bytes
+  pub good : (w : Width) (rows : Rows) (c o : List ℕ) → FindPagesOf w rows c o pages → AreGoodPages w d rows c o first count bytes
 
 -- of each object with these pages, it is the first bad page of so many
 abbrev pub GivesBad : Disk → List Extent → ℕ → ℕ → BadSum → Type 0
 GivesBad d pages first count bad =
-    (rows : Rows) (c o : List ℕ) → FindPagesOf rows c o pages → IsFirstBad d rows c o first count bad.unit bad.kept bad.found
+    (w : Width) (rows : Rows) (c o : List ℕ) → FindPagesOf w rows c o pages → IsFirstBad w d rows c o first count bad.unit bad.kept bad.found
 
 -- what a failed read of so many pages says of them
 abbrev pub IsPartFail : Disk → List Extent → ℕ → ℕ → PartFail → Type 0

@@ -2,22 +2,24 @@
 use Rattle.std.specs.Prelude.{◌≡◌, ℕ, List, [], Option}
 use Rattle.block_device.specs.Disk.{Disk}
 use Rattle.meta_rows.specs.Rows.{Rows}
+use Rattle.unit_fields.specs.declared.width.Width.{Width}
 use Rattle.meta_log.specs.declared.slot.Super.{Super}
-use Rattle.meta_log.specs.Slots.{IsSuper}
+use Rattle.meta_log.specs.Slots.{IsSuper, width_of}
 use Rattle.store_image.specs.BadRows.{NoBadRow}
 use Rattle.read_facts.specs.declared.view.ObjectView.{ObjectView}
 use Rattle.read_facts.specs.Walks.{IsObject, IsNextOf}
 use Rattle.read_facts.specs.Views.{IsViewOf}
 
--- no row is bad for a store of as many units as the device has, on which nothing is in flight
-pub record IsReadable (rows : Rows) (d : Disk) : Type 0 where
+-- no row is bad for a store of as many units as the device has, with checksums of this width, and nothing is in flight on the device
+pub record IsReadable (w : Width) (rows : Rows) (d : Disk) : Type 0 where
   pub sup : Super
   pub limits : IsSuper sup
   pub good : NoBadRow sup rows
+  pub wide : width_of sup ≡ w
   pub units : sup.units ≡ d.units
   pub idle : d.flights ≡ []
 
 -- the view is of the next object of the collection behind another one
-pub record IsNextView (d : Disk) (rows : Rows) (c : List ℕ) (after : Option (List ℕ)) (v : ObjectView) : Type 0 where
+pub record IsNextView (w : Width) (d : Disk) (rows : Rows) (c : List ℕ) (after : Option (List ℕ)) (v : ObjectView) : Type 0 where
   pub next : IsNextOf (IsObject rows c) after v.name
-  pub view : IsViewOf d rows c v
+  pub view : IsViewOf w d rows c v

@@ -26,20 +26,21 @@ use object_model::{Answer, Command, Refusal, ends_too_far};
 use onode_codec::{coll_key, onode_key};
 use onode_state::{coll_name_is_one, name_is_one, object_pages, object_size};
 use std::alloc::{AllocError, Global};
-use unit_fields::{CollName, Name};
+use unit_fields::{CollName, Name, Width};
 
 /// The answer to a command that reads, by the rows of a store and the device that holds its units: a refusal, what it asks for, or the first of
 /// the units that must be read whose bytes have another checksum than the one that is kept. The kernel calls it, with the submitted rows.
 pub fn answer<D: Device>(
     alloc: Global,
     device: &mut D,
+    width: Width,
     rows: &RowTable,
     command: &Command,
 ) -> Result<Answer, ReadFail>
-    requires readable { IsReadable rows.now.rows (D.disk device.old) }
+    requires readable { IsReadable width rows.now.rows (D.disk device.old) }
     requires known { IsKnownRead command.now }
     ensures names { HasReadNames command.now }
-    ensures ok { IfOk result (IsAnswerOf (D.disk device.old) rows.now.rows command.now) }
+    ensures ok { IfOk result (IsAnswerOf width (D.disk device.old) rows.now.rows command.now) }
     ensures same { D.disk device.new ≡ D.disk device.old }
     ensures later { D.faults device.old ≤ D.faults device.new }
     ensures cause { IsErrOf result ReadFail.Fault → Rose (D.faults device.old) (D.faults device.new) }
@@ -50,8 +51,8 @@ pub fn answer<D: Device>(
             object,
             off,
             len,
-        } => answer_read(alloc, device, rows, coll, object, *off, *len),
-        Command::Sum { coll, object } => answer_sum(alloc, device, rows, coll, object),
+        } => answer_read(alloc, device, width, rows, coll, object, *off, *len),
+        Command::Sum { coll, object } => answer_sum(alloc, device, width, rows, coll, object),
         Command::Stat { coll, object } => Ok(answer_stat(alloc, rows, coll, object)?),
         Command::List { coll } => Ok(answer_list(alloc, rows, coll)?),
         _ => unreachable!(),
@@ -143,15 +144,16 @@ fn csum_answer(why: PartFail) -> Result<Answer, ReadFail>
 fn answer_read<D: Device>(
     alloc: Global,
     device: &mut D,
+    width: Width,
     rows: &RowTable,
     coll: &CollName,
     object: &Name,
     off: u64,
     len: u64,
 ) -> Result<Answer, ReadFail>
-    requires readable { IsReadable rows.now.rows (D.disk device.old) }
+    requires readable { IsReadable width rows.now.rows (D.disk device.old) }
     ensures names { IsCollName coll.now × IsName object.now }
-    ensures ok { IfOk result (IsAnswerOf (D.disk device.old) rows.now.rows (ask.Read coll.now object.now off len)) }
+    ensures ok { IfOk result (IsAnswerOf width (D.disk device.old) rows.now.rows (ask.Read coll.now object.now off len)) }
     ensures same { D.disk device.new ≡ D.disk device.old }
     ensures later { D.faults device.old ≤ D.faults device.new }
     ensures cause { IsErrOf result ReadFail.Fault → Rose (D.faults device.old) (D.faults device.new) }
@@ -160,7 +162,7 @@ fn answer_read<D: Device>(
         return Ok(Answer::Refused(refusal));
     }
     let size = object_size(alloc, rows, coll, object)?;
-    let mut pages = object_pages(alloc, rows, coll, object)?;
+    let mut pages = object_pages(alloc, width, rows, coll, object)?;
     match read_range(alloc, device, &mut pages, size, off, len) {
         Ok(bytes) => Ok(Answer::Bytes(Bytes::from_vec(bytes))),
         Err(why) => csum_answer(why),
@@ -170,13 +172,14 @@ fn answer_read<D: Device>(
 fn answer_sum<D: Device>(
     alloc: Global,
     device: &mut D,
+    width: Width,
     rows: &RowTable,
     coll: &CollName,
     object: &Name,
 ) -> Result<Answer, ReadFail>
-    requires readable { IsReadable rows.now.rows (D.disk device.old) }
+    requires readable { IsReadable width rows.now.rows (D.disk device.old) }
     ensures names { IsCollName coll.now × IsName object.now }
-    ensures ok { IfOk result (IsAnswerOf (D.disk device.old) rows.now.rows (ask.Sum coll.now object.now)) }
+    ensures ok { IfOk result (IsAnswerOf width (D.disk device.old) rows.now.rows (ask.Sum coll.now object.now)) }
     ensures same { D.disk device.new ≡ D.disk device.old }
     ensures later { D.faults device.old ≤ D.faults device.new }
     ensures cause { IsErrOf result ReadFail.Fault → Rose (D.faults device.old) (D.faults device.new) }
@@ -185,7 +188,7 @@ fn answer_sum<D: Device>(
         return Ok(Answer::Refused(refusal));
     }
     let size = object_size(alloc, rows, coll, object)?;
-    let mut pages = object_pages(alloc, rows, coll, object)?;
+    let mut pages = object_pages(alloc, width, rows, coll, object)?;
     match sum(alloc, device, &mut pages, size) {
         Ok(crc) => Ok(Answer::Sum { size, crc }),
         Err(why) => csum_answer(why),
@@ -200,7 +203,7 @@ fn answer_stat(
 ) -> Result<Answer, AllocError>
     requires { AreRowsOfAStore rows.now.rows }
     ensures names { IsCollName coll.now × IsName object.now }
-    ensures ok { IfOk result (λ a. (d : Disk) → IsAnswerOf d rows.now.rows (ask.Stat coll.now object.now) a) }
+    ensures ok { IfOk result (λ a. (width : Width) (d : Disk) → IsAnswerOf width d rows.now.rows (ask.Stat coll.now object.now) a) }
 {
     if let Some(refusal) = object_refusal(alloc, rows, coll, object)? {
         return Ok(Answer::Refused(refusal));
@@ -211,7 +214,7 @@ fn answer_stat(
 fn answer_list(alloc: Global, rows: &RowTable, coll: &CollName) -> Result<Answer, AllocError>
     requires { AreRowsOfAStore rows.now.rows }
     ensures names { IsCollName coll.now }
-    ensures ok { IfOk result (λ a. (d : Disk) → IsAnswerOf d rows.now.rows (ask.List coll.now) a) }
+    ensures ok { IfOk result (λ a. (width : Width) (d : Disk) → IsAnswerOf width d rows.now.rows (ask.List coll.now) a) }
 {
     coll_name_is_one(coll);
     if let Some(refusal) = coll_refusal(alloc, rows, coll)? {

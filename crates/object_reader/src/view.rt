@@ -16,7 +16,7 @@ use meta_rows::RowTable;
 use onode_state::{object_pages, object_size};
 use read_facts::{BadSum, ObjectView};
 use std::alloc::Global;
-use unit_fields::{CollName, Name};
+use unit_fields::{CollName, Name, Width};
 
 // What a read of all pages of an object came to: their checksum, or the first bad one.
 fn sum_or_bad(read: Result<u32, PartFail>) -> Result<Result<u32, BadSum>, ReadFail>
@@ -35,20 +35,21 @@ fn sum_or_bad(read: Result<u32, PartFail>) -> Result<Result<u32, BadSum>, ReadFa
 fn view_of<D: Device>(
     alloc: Global,
     device: &mut D,
+    width: Width,
     rows: &RowTable,
     coll: &CollName,
     name: Name,
 ) -> Result<ObjectView, ReadFail>
-    requires readable { IsReadable rows.now.rows (D.disk device.old) }
+    requires readable { IsReadable width rows.now.rows (D.disk device.old) }
     requires is { IsObject rows.now.rows coll.now name }
     ensures name { IfOk result (λ view. view.name ≡ name) }
-    ensures ok { IfOk result (IsViewOf (D.disk device.old) rows.now.rows coll.now) }
+    ensures ok { IfOk result (IsViewOf width (D.disk device.old) rows.now.rows coll.now) }
     ensures same { D.disk device.new ≡ D.disk device.old }
     ensures later { D.faults device.old ≤ D.faults device.new }
     ensures cause { IsErrOf result ReadFail.Fault → Rose (D.faults device.old) (D.faults device.new) }
 {
     let size = object_size(alloc, rows, coll, &name)?;
-    let mut pages = object_pages(alloc, rows, coll, &name)?;
+    let mut pages = object_pages(alloc, width, rows, coll, &name)?;
     let sum = sum_or_bad(sum(alloc, device, &mut pages, size))?;
     Ok(ObjectView { name, size, sum })
 }
@@ -58,13 +59,14 @@ fn view_of<D: Device>(
 pub fn next_object<D: Device>(
     alloc: Global,
     device: &mut D,
+    width: Width,
     rows: &RowTable,
     coll: &CollName,
     after: Option<&Name>,
 ) -> Result<Option<ObjectView>, ReadFail>
-    requires readable { IsReadable rows.now.rows (D.disk device.old) }
+    requires readable { IsReadable width rows.now.rows (D.disk device.old) }
     ensures ok { IfOk result (λ found. MatchOption found (IsPast (IsObject rows.now.rows coll.now) (option_copied after.entry))
-        (IsNextView (D.disk device.old) rows.now.rows coll.now (option_copied after.entry))) }
+        (IsNextView width (D.disk device.old) rows.now.rows coll.now (option_copied after.entry))) }
     ensures same { D.disk device.new ≡ D.disk device.old }
     ensures later { D.faults device.old ≤ D.faults device.new }
     ensures cause { IsErrOf result ReadFail.Fault → Rose (D.faults device.old) (D.faults device.new) }
@@ -72,5 +74,5 @@ pub fn next_object<D: Device>(
     let Some(name) = next_name(alloc, rows, coll, after)? else {
         return Ok(None);
     };
-    Ok(Some(view_of(alloc, device, rows, coll, name)?))
+    Ok(Some(view_of(alloc, device, width, rows, coll, name)?))
 }

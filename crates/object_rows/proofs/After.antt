@@ -1,5 +1,6 @@
 -- Rows after an object's are replaced: which there are, that none is bad, and where pages stand.
 use Rattle.std.proofs.Common.{◌≡◌, ◌⊎◌, ◌↔◌, inl, inr, ℕ, ◌<◌, ◌≤◌, ◌^◌, List, [], ◌∷◌, Some, is_some, refl, sym, ap, subst, ◌∙◌, arith}
+use Rattle.meta_log.specs.Slots.{width_of}
 use Rattle.std.specs.List.{AllByRecursion}
 use Rattle.std.specs.FinMap as map
 use Rattle.std.proofs.lemmas.Bool.{cases_lt}
@@ -12,7 +13,7 @@ use Rattle.row_format.specs.Extents.{Extent, FitsExtent, BeginsAt, ExtentsAscend
 use Rattle.row_format.specs.Row.{Row, collection, onode, shard, bitmap, row_key, row_value, FitsRow, FitsShard}
 use Rattle.row_format.proofs.KeyLemmas.{same_head, same_onode, same_shard, coll_no_object, onode_no_shard, bitmap_no_object}
 use Rattle.row_format.proofs.RowLemmas.{same_row}
-use Rattle.store_image.specs.Pages.{HasKey, HasRow, PageUnit, IsPageAt, IsPageOn, pages_of}
+use Rattle.store_image.specs.Pages.{HasKey, HasRow, HasOnode, HasShard, PageUnit, IsPageAt, IsPageOn, pages_of}
 use Rattle.store_image.specs.BadRows.{IsOnData, IsShardInPlace, IsInPlace, IsGoodRow, NoBadRow}
 use Rattle.store_image.specs.Owners.{Owner, page_of, Owns, IsOwned, IsMarked}
 use Rattle.store_image.proofs.PageMap.{in_place}
@@ -39,25 +40,26 @@ one_begin : (page other : ℕ) (es : List Extent) → BeginsAt page es → Begin
 one_begin page other [] p q = absurd p
 one_begin page other (e ∷ es) p q = sym p ∙ q
 
-module _ (rows after : Rows) (c o : List ℕ) (size : ℕ) (extents : List Extent) (coll : IsCollName c) (name : IsName o) (most : size ≤ object_limit)
-    (fit : AllByRecursion FitsExtent extents) (are : AreReplaced rows after c o size extents) where
+module _ (s : Super) (rows after : Rows) (c o : List ℕ) (size : ℕ) (extents : List Extent) (coll : IsCollName c) (name : IsName o)
+    (most : size ≤ object_limit)
+    (fit : AllByRecursion (FitsExtent (width_of s)) extents) (are : AreReplaced (width_of s) rows after c o size extents) where
   abbrev new_onode : Row
   new_onode = onode c o size
 
-  onode_fits : FitsRow new_onode
+  onode_fits : FitsRow (width_of s) new_onode
   onode_fits = (coll, name, omega (arith, most))
 
-  pub has_onode : HasRow after new_onode
+  pub has_onode : HasRow (width_of s) after new_onode
   has_onode = record { fits = onode_fits; stands = are.onode }
 
-  first_fits : (page : ℕ) (es : List Extent) → AllByRecursion FitsExtent es → BeginsAt page es → page < 2 ^ 32
+  first_fits : (page : ℕ) (es : List Extent) → AllByRecursion (FitsExtent (width_of s)) es → BeginsAt page es → page < 2 ^ 32
   first_fits page [] all begins = absurd begins
   first_fits page (e ∷ es) all begins = subst (λ n. n < 2 ^ 32) begins all.0.first
 
-  shard_fits : (page : ℕ) → BeginsAt page extents → FitsShard c o page extents
+  shard_fits : (page : ℕ) → BeginsAt page extents → FitsShard (width_of s) c o page extents
   shard_fits page begins = record { coll_name = coll; object_name = name; page_below = first_fits page extents fit begins; begins = begins; fit = fit }
 
-  pub has_shard : (page : ℕ) → BeginsAt page extents → HasRow after (shard c o page extents)
+  pub has_shard : (page : ℕ) → BeginsAt page extents → HasShard (width_of s) after c o page extents
   has_shard page begins = record { fits = shard_fits page begins; stands = are.shard page begins }
 
   -- ---- keys that aren't the object's
@@ -89,34 +91,36 @@ module _ (rows after : Rows) (c o : List ℕ) (size : ℕ) (extents : List Exten
 
   -- ---- rows that are there
 
-  own_onode : (n : ℕ) → HasRow after (onode c o n) → n ≡ size
+  own_onode : (n : ℕ) → HasOnode after c o n → n ≡ size
   own_onode n has =
-      let value : Some (row_value (onode c o n)) ≡ Some (row_value new_onode) = sym has.stands ∙ are.onode in
-      let same : onode c o n ≡ new_onode = same_row (onode c o n) new_onode has.fits onode_fits refl cc in cc
+      let value : Some (row_value (width_of s) (onode c o n)) ≡ Some (row_value (width_of s) new_onode) = sym has.stands ∙ are.onode in
+      let same : onode c o n ≡ new_onode = same_row (width_of s) (onode c o n) new_onode has.fits onode_fits refl cc in cc
 
-  own_shard : (page : ℕ) (es : List Extent) → HasRow after (shard c o page es) → BeginsAt page extents × (es ≡ extents)
+  own_shard : (page : ℕ) (es : List Extent) → HasShard (width_of s) after c o page es → BeginsAt page extents × (es ≡ extents)
   own_shard page es has = elim (begins_or_not page extents) [
     | inl begins ↦
-        let value : Some (row_value (shard c o page es)) ≡ Some (row_value (shard c o page extents)) = sym has.stands ∙ are.shard page begins in
+        let value : Some (row_value (width_of s) (shard c o page es)) ≡ Some (row_value (width_of s) (shard c o page extents)) =
+        sym has.stands ∙ are.shard page begins in
         let same : shard c o page es ≡ shard c o page extents =
-        same_row (shard c o page es) (shard c o page extents) has.fits (shard_fits page begins) refl cc in
+        same_row (width_of s) (shard c o page es) (shard c o page extents) has.fits (shard_fits page begins) refl cc in
         (begins, cc)
     | inr not ↦ absurd (let e = sym has.stands ∙ are.no_other page has.fits.page_below not in cc)
   ]
 
   -- a row of an onode or a shard is the object's, or another object's that was there
-  onode_cases : (d u : List ℕ) (n : ℕ) → HasRow after (onode d u n)
-      → ((d ≡ c) × (u ≡ o) × (n ≡ size)) ⊎ (IsOther c o d u × HasRow rows (onode d u n))
+  onode_cases : (d u : List ℕ) (n : ℕ) → HasOnode after d u n
+      → ((d ≡ c) × (u ≡ o) × (n ≡ size)) ⊎ (IsOther c o d u × HasOnode rows d u n)
   onode_cases d u n has = elim (object_cases c o d u) [
-    | inl e ↦ inl (e.0, e.1, own_onode n (subst (λ x. HasRow after (onode x o n)) e.0 (subst (λ x. HasRow after (onode d x n)) e.1 has)))
+    | inl e ↦ inl (e.0, e.1, own_onode n (subst (λ x. HasOnode after x o n) e.0 (subst (λ x. HasOnode after d x n) e.1 has)))
     | inr other ↦ inr (other, record { fits = has.fits; stands = sym (onode_same d u has.fits.0 has.fits.1 other) ∙ has.stands })
   ]
 
-  shard_cases : (d u : List ℕ) (page : ℕ) (es : List Extent) → HasRow after (shard d u page es)
-      → ((d ≡ c) × (u ≡ o) × BeginsAt page extents × (es ≡ extents)) ⊎ (IsOther c o d u × HasRow rows (shard d u page es))
+  shard_cases : (d u : List ℕ) (page : ℕ) (es : List Extent) → HasShard (width_of s) after d u page es
+      → ((d ≡ c) × (u ≡ o) × BeginsAt page extents × (es ≡ extents)) ⊎ (IsOther c o d u × HasShard (width_of s) rows d u page es)
   shard_cases d u page es has = elim (object_cases c o d u) [
     | inl e ↦
-        let its = own_shard page es (subst (λ x. HasRow after (shard x o page es)) e.0 (subst (λ x. HasRow after (shard d x page es)) e.1 has)) in
+        let its = own_shard page es
+        (subst (λ x. HasShard (width_of s) after x o page es) e.0 (subst (λ x. HasShard (width_of s) after d x page es) e.1 has)) in
         inl (e.0, e.1, its.0, its.1)
     | inr other ↦ inr (
       other,
@@ -127,7 +131,8 @@ module _ (rows after : Rows) (c o : List ℕ) (size : ℕ) (extents : List Exten
     )
   ]
 
-  shard_kept : (d u : List ℕ) (page : ℕ) (es : List Extent) → IsOther c o d u → HasRow rows (shard d u page es) → HasRow after (shard d u page es)
+  shard_kept : (d u : List ℕ) (page : ℕ) (es : List Extent) → IsOther c o d u → HasShard (width_of s) rows d u page es
+      → HasShard (width_of s) after d u page es
   shard_kept d u page es other has = record {
     fits = has.fits;
     stands = shard_same d u has.fits.coll_name has.fits.object_name other page has.fits.page_below ∙ has.stands;
@@ -136,11 +141,11 @@ module _ (rows after : Rows) (c o : List ℕ) (size : ℕ) (extents : List Exten
   -- ---- where pages stand
 
   module _ (page : ℕ) (place : Place) where
-    own_was : IsPageAt after c o page place → place_of extents page ≡ Some place
+    own_was : IsPageAt (width_of s) after c o page place → place_of extents page ≡ Some place
     own_was is = sym (ap (λ es. place_of es page) (own_shard is.first is.extents is.has_shard).1) ∙ is.has_page
 
-    own_is : place_of extents page ≡ Some place → IsPageAt after c o page place
-    own_is is = elim extents as (λ es. extents ≡ es → IsPageAt after c o page place) [
+    own_is : place_of extents page ≡ Some place → IsPageAt (width_of s) after c o page place
+    own_is is = elim extents as (λ es. extents ≡ es → IsPageAt (width_of s) after c o page place) [
       | [] ↦ λ p. absurd (let e = sym (ap (λ es. place_of es page) p) ∙ is in cc)
       | e ∷ es ↦ λ p. record {
         first = e.first;
@@ -150,17 +155,17 @@ module _ (rows after : Rows) (c o : List ℕ) (size : ℕ) (extents : List Exten
       }
     ] refl
 
-    pub own_pages : IsPageAt after c o page place ↔ (place_of extents page ≡ Some place)
+    pub own_pages : IsPageAt (width_of s) after c o page place ↔ (place_of extents page ≡ Some place)
     own_pages = (own_was, own_is)
 
     module _ (d u : List ℕ) (other : IsOther c o d u) where
-      pub page_was : IsPageAt after d u page place → IsPageAt rows d u page place
+      pub page_was : IsPageAt (width_of s) after d u page place → IsPageAt (width_of s) rows d u page place
       page_was is = elim (shard_cases d u is.first is.extents is.has_shard) [
         | inl same ↦ absurd (other same.0 same.1)
         | inr old ↦ record { first = is.first; extents = is.extents; has_shard = old.1; has_page = is.has_page }
       ]
 
-      pub page_kept : IsPageAt rows d u page place → IsPageAt after d u page place
+      pub page_kept : IsPageAt (width_of s) rows d u page place → IsPageAt (width_of s) after d u page place
       page_kept is = record {
         first = is.first;
         extents = is.extents;
@@ -170,7 +175,7 @@ module _ (rows after : Rows) (c o : List ℕ) (size : ℕ) (extents : List Exten
 
   -- ---- who owns a unit
 
-  pub owned_after : (unit : ℕ) → IsOwned after unit ↔ (HasUnit extents unit ⊎ IsOwnedElsewhere rows c o unit)
+  pub owned_after : (unit : ℕ) → IsOwned (width_of s) after unit ↔ (HasUnit extents unit ⊎ IsOwnedElsewhere (width_of s) rows c o unit)
   owned_after unit = (
     λ owned. by owned.0 owned.1,
     λ either. elim either [
@@ -182,13 +187,14 @@ module _ (rows after : Rows) (c o : List ℕ) (size : ℕ) (extents : List Exten
     ],
   )
     where
-      by : (owner : Owner) → Owns after owner unit → HasUnit extents unit ⊎ IsOwnedElsewhere rows c o unit
+      by : (owner : Owner) → Owns (width_of s) after owner unit → HasUnit extents unit ⊎ IsOwnedElsewhere (width_of s) rows c o unit
       by (page_of d u page) owns = elim (object_cases c o d u) [
         | inl e ↦ inl (record {
           page = page;
           csum = owns.0;
           there = own_was page (own unit owns.0)
-              (subst (λ x. IsPageAt after x o page (own unit owns.0)) e.0 (subst (λ x. IsPageAt after d x page (own unit owns.0)) e.1 owns.1));
+              (subst (λ x. IsPageAt (width_of s) after x o page (own unit owns.0)) e.0
+              (subst (λ x. IsPageAt (width_of s) after d x page (own unit owns.0)) e.1 owns.1));
         })
         | inr other ↦ inr (record {
           coll = d;
@@ -201,7 +207,7 @@ module _ (rows after : Rows) (c o : List ℕ) (size : ℕ) (extents : List Exten
 
   -- ---- no row is bad
 
-  module _ (s : Super) (good : NoBadRow s rows) (has_collection : HasKey rows (coll_key c)) (ascend : ExtentsAscend extents)
+  module _ (good : NoBadRow s rows) (has_collection : HasKey rows (coll_key c)) (ascend : ExtentsAscend extents)
       (within : AllByRecursion (λ e. page_end e ≤ pages_of size) extents) (on_data : AllByRecursion (λ e. IsOnData s e.body) extents) where
     coll_there : HasKey after (coll_key c)
     coll_there = ap is_some (coll_same c) ∙ has_collection
@@ -216,7 +222,8 @@ module _ (rows after : Rows) (c o : List ℕ) (size : ℕ) (extents : List Exten
       on_data = on_data;
     }
 
-    old_in_place : (d u : List ℕ) (page : ℕ) (es : List Extent) → IsOther c o d u → HasRow rows (shard d u page es) → IsShardInPlace s after d u page es
+    old_in_place : (d u : List ℕ) (page : ℕ) (es : List Extent) → IsOther c o d u → HasShard (width_of s) rows d u page es
+        → IsShardInPlace s after d u page es
     old_in_place d u page es other has =
         let was : IsShardInPlace s rows d u page es = in_place s rows (shard d u page es) good has in
         record {
@@ -231,7 +238,7 @@ module _ (rows after : Rows) (c o : List ℕ) (size : ℕ) (extents : List Exten
           on_data = was.on_data;
         }
 
-    placed : (x : Row) → HasRow after x → IsInPlace s after x
+    placed : (x : Row) → HasRow (width_of s) after x → IsInPlace s after x
     placed (collection d) has = tt
     placed (onode d u n) has = elim (onode_cases d u n has) [
       | inl its ↦ (subst (λ x. HasKey after (coll_key x)) (sym its.0) coll_there, subst (λ m. m ≤ object_limit) (sym its.2) most)
@@ -245,7 +252,8 @@ module _ (rows after : Rows) (c o : List ℕ) (size : ℕ) (extents : List Exten
     placed (bitmap r bits) has = in_place s rows (bitmap r bits) good (record { fits = has.fits; stands = sym (bits_same r) ∙ has.stands })
 
     -- a row by its key and its value
-    good_row : (key value : List ℕ) (x : Row) → map.get after key ≡ Some value → FitsRow x → key ≡ row_key x → value ≡ row_value x
+    good_row : (key value : List ℕ) (x : Row) → map.get after key ≡ Some value → FitsRow (width_of s) x → key ≡ row_key x
+        → value ≡ row_value (width_of s) x
         → IsGoodRow s after key value
     good_row key value x stands fits key_is value_is = record {
       row = x;
@@ -255,9 +263,10 @@ module _ (rows after : Rows) (c o : List ℕ) (size : ℕ) (extents : List Exten
       in_place = placed x (record { fits = fits; stands = ap (λ k. map.get after k) (sym key_is) ∙ stands ∙ ap Some value_is });
     }
 
-    own_good : (key value : List ℕ) (x : Row) → map.get after key ≡ Some value → HasRow after x → key ≡ row_key x → IsGoodRow s after key value
+    own_good : (key value : List ℕ) (x : Row) → map.get after key ≡ Some value → HasRow (width_of s) after x → key ≡ row_key x
+        → IsGoodRow s after key value
     own_good key value x stands has key_is =
-        let e : Some value ≡ Some (row_value x) = sym stands ∙ ap (λ k. map.get after k) key_is ∙ has.stands in
+        let e : Some value ≡ Some (row_value (width_of s) x) = sym stands ∙ ap (λ k. map.get after k) key_is ∙ has.stands in
         good_row key value x stands has.fits key_is cc
 
     pub after_good : NoBadRow s after
@@ -276,47 +285,49 @@ module _ (rows after : Rows) (c o : List ℕ) (size : ℕ) (extents : List Exten
 
 module _ (s : Super) (rows : Rows) (c o : List ℕ) (size : ℕ) (extents : List Extent) (present : List ℕ) (can : CanReplace s rows c o size extents present) where
   abbrev then : Rows
-  then = replaced rows c o size extents present
+  then = replaced (width_of s) rows c o size extents present
 
-  pub are_then : AreReplaced rows then c o size extents
+  pub are_then : AreReplaced (width_of s) rows then c o size extents
   are_then = are_replaced s rows c o size extents present can
 
   pub then_good : NoBadRow s then
-  then_good = after_good rows then c o size extents can.coll_name can.object_name can.size_most can.fit are_then s can.good can.has_collection can.ascend
+  then_good = after_good
+      s rows then c o size extents can.coll_name can.object_name can.size_most can.fit are_then can.good can.has_collection can.ascend
       can.within can.on_data
 
-  pub then_sized : HasRow then (onode c o size)
-  then_sized = has_onode rows then c o size extents can.coll_name can.object_name can.size_most can.fit are_then
+  pub then_sized : HasOnode then c o size
+  then_sized = has_onode s rows then c o size extents can.coll_name can.object_name can.size_most can.fit are_then
 
   module _ (page : ℕ) (place : Place) where
-    pub then_pages : IsPageAt then c o page place ↔ (place_of extents page ≡ Some place)
-    then_pages = own_pages rows then c o size extents can.coll_name can.object_name can.size_most can.fit are_then page place
+    pub then_pages : IsPageAt (width_of s) then c o page place ↔ (place_of extents page ≡ Some place)
+    then_pages = own_pages s rows then c o size extents can.coll_name can.object_name can.size_most can.fit are_then page place
 
-    pub then_others : (d u : List ℕ) → IsOther c o d u → IsPageAt then d u page place ↔ IsPageAt rows d u page place
+    pub then_others : (d u : List ℕ) → IsOther c o d u → IsPageAt (width_of s) then d u page place ↔ IsPageAt (width_of s) rows d u page place
     then_others d u other = (
-      page_was rows then c o size extents can.coll_name can.object_name can.size_most can.fit are_then page place d u other,
-      page_kept rows then c o size extents can.coll_name can.object_name can.size_most can.fit are_then page place d u other,
+      page_was s rows then c o size extents can.coll_name can.object_name can.size_most can.fit are_then page place d u other,
+      page_kept s rows then c o size extents can.coll_name can.object_name can.size_most can.fit are_then page place d u other,
     )
 
   -- on which units the pages of others stand
-  pub then_others_on : (page : ℕ) (on : PageUnit) (d u : List ℕ) → IsOther c o d u → IsPageOn then d u page on ↔ IsPageOn rows d u page on
+  pub then_others_on : (page : ℕ) (on : PageUnit) (d u : List ℕ) → IsOther c o d u
+      → IsPageOn (width_of s) then d u page on ↔ IsPageOn (width_of s) rows d u page on
   then_others_on page on d u other = (
     λ is. record { place = is.place; at = (then_others page is.place d u other).0 is.at; stands = stands_still then rows is.place on is.stands },
     λ is. record { place = is.place; at = (then_others page is.place d u other).1 is.at; stands = stands_still rows then is.place on is.stands },
   )
 
-  pub then_owned : (unit : ℕ) → IsOwned then unit ↔ (HasUnit extents unit ⊎ IsOwnedElsewhere rows c o unit)
-  then_owned = owned_after rows then c o size extents can.coll_name can.object_name can.size_most can.fit are_then
+  pub then_owned : (unit : ℕ) → IsOwned (width_of s) then unit ↔ (HasUnit extents unit ⊎ IsOwnedElsewhere (width_of s) rows c o unit)
+  then_owned = owned_after s rows then c o size extents can.coll_name can.object_name can.size_most can.fit are_then
 
   pub then_kinds : SameOthers rows then
-  then_kinds = kind_same rows then c o size extents can.coll_name can.object_name can.size_most can.fit are_then
+  then_kinds = kind_same s rows then c o size extents can.coll_name can.object_name can.size_most can.fit are_then
 
   pub then_colls : (d : List ℕ) → map.get then (coll_key d) ≡ map.get rows (coll_key d)
-  then_colls = coll_same rows then c o size extents can.coll_name can.object_name can.size_most can.fit are_then
+  then_colls = coll_same s rows then c o size extents can.coll_name can.object_name can.size_most can.fit are_then
 
   pub then_onodes : (d u : List ℕ) → IsCollName d → IsName u → IsOther c o d u → map.get then (onode_key d u) ≡ map.get rows (onode_key d u)
-  then_onodes = onode_same rows then c o size extents can.coll_name can.object_name can.size_most can.fit are_then
+  then_onodes = onode_same s rows then c o size extents can.coll_name can.object_name can.size_most can.fit are_then
 
   -- no bit changes
   pub then_bits : (unit : ℕ) → IsMarked then unit ↔ IsMarked rows unit
-  then_bits = bits_stay rows then (bits_same rows then c o size extents can.coll_name can.object_name can.size_most can.fit are_then)
+  then_bits = bits_stay rows then (bits_same s rows then c o size extents can.coll_name can.object_name can.size_most can.fit are_then)

@@ -1,5 +1,6 @@
 -- The units of the pages of a range.
 use Rattle.std.proofs.Common.{◌≡◌, ◌⊎◌, ◌↔◌, inl, inr, ℕ, zero, suc, ◌+◌, ◌<◌, ◌≤◌, Bool, true, false, cond, T, List, [], ◌∷◌, length, get_or, flat_map, Contains, Some, refl, sym, ap, subst, ◌∙◌, arith}
+use Rattle.unit_fields.specs.declared.width.Width.{Width}
 use Rattle.std.specs.Prelude.{slice_index}
 use Rattle.std.specs.Ordering.{nat_cmp, is_eq}
 use Rattle.std.specs.FinMap.{find, is_sorted, entries, entries_sorted, get-entries}
@@ -115,7 +116,7 @@ pub high_is : (from end page : ℕ) → end ≤ page → is_in from end page ≡
 high_is from end page le = grind (arith, nat_tests)
 
 -- the pages that pass a test
-module _ (test : ℕ → Bool) where
+module _ (w : Width) (test : ℕ → Bool) where
   abbrev units_in : List (ℕ × Place) → List ℕ
   units_in es = flat_map (λ p. own_units p.1) (where_key nat_cmp test es)
 
@@ -177,17 +178,17 @@ module _ (test : ℕ → Bool) where
           let same : n ≡ x.page = one n x.page k x.csum (inl (ap (λ y. (n, own y k)) is)) (inr x.there) in
           omega (arith, above, same)
 
-  module _ (rows : Rows) (c o : List ℕ) (pages : PageMap) (are : IsMapOf rows c o pages) where
-    page_in : (page : ℕ) (place : Place) → In (entries pages) (page, place) → IsPageAt rows c o page place
+  module _ (rows : Rows) (c o : List ℕ) (pages : PageMap) (are : IsMapOf w rows c o pages) where
+    page_in : (page : ℕ) (place : Place) → In (entries pages) (page, place) → IsPageAt w rows c o page place
     page_in page place h = (are page place).0 (get-entries pages page ∙ in_found (entries pages) page place (entries_sorted pages) h)
 
     -- a unit of theirs is owned, and stands once where it hasn't two owners
-    pub some_owned : (v : ℕ) → Contains (units_in (entries pages)) v → IsOwned rows v
+    pub some_owned : (v : ℕ) → Contains (units_in (entries pages)) v → IsOwned w rows v
     some_owned v k =
         let x = unit_stands (entries pages) v (at_in (units_in (entries pages)) v k.0 k.1 k.2) in
         (page_of c o x.page, (x.csum, page_in x.page (own v x.csum) x.there))
 
-    pub some_once : (v : ℕ) → HasSoleOwner rows v → StandsOnce (units_in (entries pages)) v
+    pub some_once : (v : ℕ) → HasSoleOwner w rows v → StandsOnce (units_in (entries pages)) v
     some_once v sole = once_of (units_in (entries pages)) v (units_differ (entries pages) v (entries_sorted pages) one)
       where
         one : (p q a b : ℕ) → In (entries pages) (p, own v a) → In (entries pages) (q, own v b) → p ≡ q
@@ -196,29 +197,29 @@ module _ (test : ℕ → Bool) where
             sole (page_of c o p) (page_of c o q) (a, page_in p (own v a) x) (b, page_in q (own v b) y) in cc
 
 -- the units of a range are those where its pages stand
-module _ (first count : ℕ) (rows : Rows) (c o : List ℕ) (pages : PageMap) (are : IsMapOf rows c o pages) where
+module _ (w : Width) (first count : ℕ) (rows : Rows) (c o : List ℕ) (pages : PageMap) (are : IsMapOf w rows c o pages) where
   abbrev inside : ℕ → Bool
   inside = is_in first (first + count)
 
-  pub between_stood : (v : ℕ) → Contains (units_between pages first count) v ↔ StoodWritten rows c o first count v
+  pub between_stood : (v : ℕ) → Contains (units_between pages first count) v ↔ StoodWritten w rows c o first count v
   between_stood v = (
-    λ k. stood (unit_stands inside (entries pages) v (at_in (units_between pages first count) v k.0 k.1 k.2)),
-    λ w.
-        let found = found_in (entries pages) (first + w.index) (own v w.owns.0)
-        (sym (get-entries pages (first + w.index)) ∙ (are (first + w.index) (own v w.owns.0)).1 w.owns.1) in
+    λ k. stood (unit_stands w inside (entries pages) v (at_in (units_between pages first count) v k.0 k.1 k.2)),
+    λ there.
+        let found = found_in (entries pages) (first + there.index) (own v there.owns.0)
+        (sym (get-entries pages (first + there.index)) ∙ (are (first + there.index) (own v there.owns.0)).1 there.owns.1) in
         in_at (units_between pages first count) v
-        (stands_unit inside (entries pages) v (first + w.index) w.owns.0 found
-        (inside_is first (first + count) (first + w.index) (omega arith) (omega (arith, w.small)))),
+        (stands_unit w inside (entries pages) v (first + there.index) there.owns.0 found
+        (inside_is first (first + count) (first + there.index) (omega arith) (omega (arith, there.small)))),
   )
     where
-      stood : Stands inside (entries pages) v → StoodWritten rows c o first count v
+      stood : Stands w inside (entries pages) v → StoodWritten w rows c o first count v
       stood x = elim (written_or_not first count x.page) [
         | inl p ↦ record {
           index = p.0;
           small = p.1;
           owns = (
             x.csum,
-            subst (λ n. IsPageAt rows c o n (own v x.csum)) p.2 (page_in inside rows c o pages are x.page (own v x.csum) x.there),
+            subst (λ n. IsPageAt w rows c o n (own v x.csum)) p.2 (page_in w inside rows c o pages are x.page (own v x.csum) x.there),
           );
         }
         | inr out ↦ elim out [

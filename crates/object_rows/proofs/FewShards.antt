@@ -1,5 +1,7 @@
 -- An object has at most as many shards as it may have pages.
 use Rattle.std.proofs.Common.{ℕ, ◌+◌, ◌<◌, ◌≤◌, ◌^◌, List, [], ◌∷◌, length, is_some, sym, ap, ◌∙◌, arith}
+use Rattle.meta_log.specs.Slots.{width_of}
+use Rattle.unit_fields.specs.declared.width.Width.{Width}
 use Rattle.std.specs.List.{AllByRecursion}
 use Rattle.meta_rows.specs.Rows.{Rows}
 use Rattle.meta_log.specs.declared.slot.Super.{Super}
@@ -16,10 +18,10 @@ use Rattle.object_rows.proofs.Lengths.{has_page}
 use Rattle.object_rows.proofs.Shards.{shard_under, both_all}
 
 -- the page where extents begin that end by a limit
-begins_below : (es : List Extent) (page limit : ℕ) → BeginsAt page es → AllByRecursion FitsExtent es
+begins_below : (w : Width) (es : List Extent) (page limit : ℕ) → BeginsAt page es → AllByRecursion (FitsExtent w) es
     → AllByRecursion (λ e. page_end e ≤ limit) es → page < limit
-begins_below [] page limit begins fit within = absurd begins
-begins_below (e ∷ es) page limit begins fit within = omega (arith, begins, has_page e.body fit.0.body, within.0)
+begins_below w [] page limit begins fit within = absurd begins
+begins_below w (e ∷ es) page limit begins fit within = omega (arith, begins, has_page w e.body fit.0.body, within.0)
 
 -- ascending numbers behind one, up to a limit
 many_above : (u : ℕ) (us : List ℕ) (limit : ℕ) → u < limit → AllByRecursion (λ v. u < v) us → Ascends us → AllByRecursion (λ v. v < limit) us
@@ -41,7 +43,8 @@ module _ (s : Super) (rows : Rows) (c o : List ℕ) (good : NoBadRow s rows) (co
   page_small size page (there n onode_is) lt has =
       let found = shard_under s rows c o good coll name page lt has in
       let place : IsShardInPlace s rows c o page found.0 = in_place s rows (shard c o page found.0) good found.1 in
-      let below : page < pages_of n = begins_below found.0 page (pages_of n) found.1.fits.begins found.1.fits.fit (place.within n onode_is) in
+      let below : page < pages_of n =
+      begins_below (width_of s) found.0 page (pages_of n) found.1.fits.begins found.1.fits.fit (place.within n onode_is) in
       let most : n ≤ 134217728 = (in_place s rows (onode c o n) good onode_is).1 in
       let pages : pages_of n ≤ 32768 = omega (arith, most) in omega (arith, below, pages)
 

@@ -1,14 +1,17 @@
 -- What good rows say of a page.
 use Rattle.std.proofs.Common.{◌≡◌, inl, inr, ℕ, zero, suc, ◌-◌, ◌<◌, ◌≤◌, ◌^◌, Bool, true, false, cond, List, [], ◌∷◌, length, get_or, Some, refl, sym, ap, subst, ◌∙◌, arith}
+use Rattle.meta_log.specs.Slots.{width_of}
+use Rattle.unit_fields.specs.declared.width.Width.{Width}
 use Rattle.std.specs.Prelude.{nat_le, nat_lt, ◌&&◌}
 use Rattle.std.specs.List.{AllByRecursion}
 use Rattle.std.proofs.lemmas.Bool.{cases_Bool, ltb-true, leb-true}
 use Rattle.meta_rows.specs.Rows.{Rows}
 use Rattle.meta_log.specs.declared.slot.Super.{Super}
 use Rattle.meta_log.specs.Slots.{data_unit}
+use Rattle.row_format.specs.Csums.{FitsCsum}
 use Rattle.row_format.specs.Extents.{Extent, Body, private, page_count, page_end, place_in, place_of, Place, own, FitsBody, FitsExtent}
-use Rattle.row_format.specs.Row.{onode, shard}
-use Rattle.store_image.specs.Pages.{HasRow, IsPageAt, pages_of}
+use Rattle.row_format.specs.Row.{shard}
+use Rattle.store_image.specs.Pages.{HasOnode, HasShard, IsPageAt, pages_of}
 use Rattle.store_image.specs.BadRows.{IsOnData, IsShardInPlace, NoBadRow}
 use Rattle.store_image.specs.Owners.{Owner, page_of, Owns, IsDataUnit, IsOwned}
 use Rattle.store_image.proofs.PageMap.{in_place}
@@ -55,44 +58,45 @@ data_unit_of : (s : Super) (body : Body) (i : ℕ) → IsOnData s body → i < p
 data_unit_of s (private unit csums) i on lt = (omega (arith, on.0), omega (arith, on.1, lt))
 
 -- the checksum that is kept there fits its field
-abbrev pub CsumFits : Place → Type 0
-CsumFits (own unit csum) = csum < 2 ^ 32
+abbrev pub CsumFits : Width → Place → Type 0
+CsumFits w (own unit csum) = FitsCsum w csum
 
-csum_of : (body : Body) (i : ℕ) → FitsBody body → i < page_count body → CsumFits (place_in body i)
-csum_of (private unit csums) i fits lt = by csums i fits.3 lt
+csum_of : (w : Width) (body : Body) (i : ℕ) → FitsBody w body → i < page_count body → CsumFits w (place_in body i)
+csum_of w (private unit csums) i fits lt = by csums i fits.3 lt
   where
-    by : (ns : List ℕ) (i : ℕ) → AllByRecursion (λ n. n < 2 ^ 32) ns → i < length ns → get_or ns i 0 < 2 ^ 32
+    by : (cs : List ℕ) (i : ℕ) → AllByRecursion (FitsCsum w) cs → i < length cs → FitsCsum w (get_or cs i 0)
     by [] i all lt = absurd (omega (arith, lt))
-    by (n ∷ ns) zero all lt = all.0
-    by (n ∷ ns) (suc i) all lt = by ns i all.1 (omega (arith, lt))
+    by (n ∷ cs) zero all lt = all.0
+    by (n ∷ cs) (suc i) all lt = by cs i all.1 (omega (arith, lt))
 
 -- what good rows say of a page
 pub record IsGoodPage (s : Super) (size page : ℕ) (place : Place) : Type 0 where
   pub within : page < pages_of size
   pub on_data : StandsWithin (data_unit s) s.units place
-  pub csum : CsumFits place
+  pub csum : CsumFits (width_of s) place
 
 module _ (s : Super) (rows : Rows) (c o : List ℕ) (good : NoBadRow s rows) where
-  placed : (page : ℕ) (es : List Extent) → HasRow rows (shard c o page es) → IsShardInPlace s rows c o page es
+  placed : (page : ℕ) (es : List Extent) → HasShard (width_of s) rows c o page es → IsShardInPlace s rows c o page es
   placed page es has = in_place s rows (shard c o page es) good has
 
-  pub good_page : (size page : ℕ) (place : Place) → HasRow rows (onode c o size) → IsPageAt rows c o page place → IsGoodPage s size page place
+  pub good_page : (size page : ℕ) (place : Place) → HasOnode rows c o size → IsPageAt (width_of s) rows c o page place → IsGoodPage s size page place
   good_page size page place has is =
       let shard_in = placed is.first is.extents is.has_shard in
       let a = found_in (λ e. page_end e ≤ pages_of size) is.extents page place (shard_in.within size has) is.has_page in
       let b = found_in (λ e. IsOnData s e.body) is.extents page place shard_in.on_data is.has_page in
-      let d = found_in FitsExtent is.extents page place is.has_shard.fits.fit is.has_page in
+      let d = found_in (FitsExtent (width_of s)) is.extents page place is.has_shard.fits.fit is.has_page in
       record {
         within = omega (arith, a.below, a.holds);
         on_data = subst (StandsWithin (data_unit s) s.units) b.is (data_unit_of s b.extent.body (page - b.extent.first) b.holds (omega (arith, b.from, b.below)));
-        csum = subst CsumFits d.is (csum_of d.extent.body (page - d.extent.first) d.holds.body (omega (arith, d.from, d.below)));
+        csum = subst (CsumFits (width_of s)) d.is (csum_of (width_of s) d.extent.body (page - d.extent.first) d.holds.body
+            (omega (arith, d.from, d.below)));
       }
 
 -- an owned unit is a data unit
-pub owned_is_data : (s : Super) (rows : Rows) (unit : ℕ) → NoBadRow s rows → IsOwned rows unit → IsDataUnit s unit
+pub owned_is_data : (s : Super) (rows : Rows) (unit : ℕ) → NoBadRow s rows → IsOwned (width_of s) rows unit → IsDataUnit s unit
 owned_is_data s rows unit good owned = by owned.0 owned.1
   where
-    by : (owner : Owner) → Owns rows owner unit → IsDataUnit s unit
+    by : (owner : Owner) → Owns (width_of s) rows owner unit → IsDataUnit s unit
     by (page_of c o page) owns =
         let is = owns.1 in
         let on = (placed s rows c o good is.first is.extents is.has_shard).on_data in

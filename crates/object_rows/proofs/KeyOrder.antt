@@ -1,8 +1,10 @@
 -- The operations are in the order of their keys.
 use Rattle.std.proofs.Common.{◌≡◌, inl, inr, ℕ, suc, ◌+◌, ◌*◌, ◌/◌, ◌%◌, ◌<◌, ◌^◌, Bool, cond, List, [], ◌∷◌, ◌++◌, refl, sym, ap, subst, ◌∙◌, arith}
+use Rattle.meta_log.specs.Slots.{width_of}
+use Rattle.unit_fields.specs.declared.width.Width.{Width}
 use Rattle.std.specs.Prelude.{nat_lt, filter}
 use Rattle.std.specs.List.{AllByRecursion}
-use Rattle.std.specs.Int.{w32, to_be_bytes}
+use Rattle.std.specs.Int.{w32, w64, to_be_bytes, to_le_bytes}
 use Rattle.std.specs.Ordering.{ordering_then}
 use Rattle.std.specs.declared.cmp.Ordering.TheVariants.{Less}
 use Rattle.std.proofs.lemmas.Bool.{cases_Bool, cases_lt}
@@ -15,8 +17,8 @@ use Rattle.meta_rows.specs.declared.row_op.RowOp.TheVariants.{Drop}
 use Rattle.meta_log.specs.declared.slot.Super.{Super}
 use Rattle.row_format.specs.Keys.{object_key, onode_key, shard_key, bitmap_key}
 use Rattle.row_format.specs.Extents.{Extent, FitsExtent}
-use Rattle.row_format.specs.Row.{onode, shard}
-use Rattle.row_facts.specs.Operations.{set_row}
+use Rattle.row_format.specs.Row.{shard}
+use Rattle.row_facts.specs.Operations.{set_row, set_onode}
 use Rattle.bitmap_freelist.specs.Bitmap.{Units, AreFlips, AreFlipsFrom}
 use Rattle.object_rows.specs.Operations.{says, drops, shard_ops, object_ops, CanReplace, IsKeyOf, Climb, KeysAscend}
 use Rattle.object_rows.proofs.GoodPages.{all_map}
@@ -67,7 +69,7 @@ number_less a b xs ys lt fits =
     (omega arith) (omega arith) (omega arith) (omega arith) (omega arith) (omega arith)
     (omega (arith, digits a (omega (arith, lt, fits)), digits b fits, lt))
 
-module _ (c o : List ℕ) where
+module _ (w : Width) (c o : List ℕ) where
   -- keys of one object, by what stands behind its names
   names_same : (xs ys : List ℕ) → byte_order xs ys ≡ Less → byte_order (object_key 0x4f c o xs) (object_key 0x4f c o ys) ≡ Less
   names_same xs ys less =
@@ -124,7 +126,7 @@ module _ (c o : List ℕ) where
       high = filter (nat_lt e.first) present
 
       abbrev upper : List RowOp
-      upper = set_row (shard c o e.first (e ∷ es)) ∷ drops c o high
+      upper = set_row w (shard c o e.first (e ∷ es)) ∷ drops c o high
 
       high_from : AllByRecursion (λ p. e.first < p) high
       high_from = all_pass (nat_lt e.first) (λ p. e.first < p) (λ p is. lower e.first p is) present
@@ -141,12 +143,12 @@ module _ (c o : List ℕ) where
         later_drops p high (all_pass (nat_lt e.first) (λ q. p < q) (λ q is. omega (arith, lt, lower e.first q is)) present) high_below,
       )) low (all_pass (λ page. nat_lt page e.first) (λ p. p < e.first) (λ p is. lower p e.first is) present)
 
-      parts_ascend : KeysAscend (shard_ops c o (e ∷ es) present)
+      parts_ascend : KeysAscend (shard_ops w c o (e ∷ es) present)
       parts_ascend = joined (drops c o low) upper
           (drops_ascend low (still_climb (λ page. nat_lt page e.first) present climb) (all_kept (λ page. nat_lt page e.first) (λ p. p < 2 ^ 32) present below))
           upper_ascend low_first
 
-    shards_ascend : (extents : List Extent) → AllByRecursion FitsExtent extents → KeysAscend (shard_ops c o extents present)
+    shards_ascend : (extents : List Extent) → AllByRecursion (FitsExtent w) extents → KeysAscend (shard_ops w c o extents present)
     shards_ascend [] fit = drops_ascend present climb below
     shards_ascend (e ∷ es) fit = parts_ascend e es fit.0.first
 
@@ -155,21 +157,22 @@ module _ (c o : List ℕ) where
     drops_behind [] = tt
     drops_behind (p ∷ ps) = (onode_before p, drops_behind ps)
 
-    shards_behind : (extents : List Extent) → AllByRecursion (λ op. byte_order (onode_key c o) (key_of op) ≡ Less) (shard_ops c o extents present)
+    shards_behind : (extents : List Extent) → AllByRecursion (λ op. byte_order (onode_key c o) (key_of op) ≡ Less) (shard_ops w c o extents present)
     shards_behind [] = drops_behind present
     shards_behind (e ∷ es) = all_append (λ op. byte_order (onode_key c o) (key_of op) ≡ Less) (drops c o (filter (λ page. nat_lt page e.first) present)) _
         (drops_behind _) (onode_before e.first, drops_behind _)
 
-    all_ascend : (rows : Rows) (size : ℕ) (extents : List Extent) → AllByRecursion FitsExtent extents → KeysAscend (object_ops rows c o size extents present)
-    all_ascend rows size extents fit = elim (cases_Bool (says rows (onode c o size))) [
-      | inl is ↦ subst (λ b. KeysAscend (cond b [] (set_row (onode c o size) ∷ []) ++ shard_ops c o extents present)) (sym is) (shards_ascend extents fit)
-      | inr is ↦ subst (λ b. KeysAscend (cond b [] (set_row (onode c o size) ∷ []) ++ shard_ops c o extents present)) (sym is)
+    all_ascend : (rows : Rows) (size : ℕ) (extents : List Extent) → AllByRecursion (FitsExtent w) extents
+        → KeysAscend (object_ops w rows c o size extents present)
+    all_ascend rows size extents fit = elim (cases_Bool (says rows (onode_key c o) (to_le_bytes w64 size))) [
+      | inl is ↦ subst (λ b. KeysAscend (cond b [] (set_onode c o size ∷ []) ++ shard_ops w c o extents present)) (sym is) (shards_ascend extents fit)
+      | inr is ↦ subst (λ b. KeysAscend (cond b [] (set_onode c o size ∷ []) ++ shard_ops w c o extents present)) (sym is)
           (shards_behind extents, shards_ascend extents fit)
     ]
 
 pub ops_ascend : (s : Super) (rows : Rows) (c o : List ℕ) (size : ℕ) (extents : List Extent) (present : List ℕ)
-    → CanReplace s rows c o size extents present → Climb present → KeysAscend (object_ops rows c o size extents present)
-ops_ascend s rows c o size extents present can climb = all_ascend c o present climb can.shards.below rows size extents can.fit
+    → CanReplace s rows c o size extents present → Climb present → KeysAscend (object_ops (width_of s) rows c o size extents present)
+ops_ascend s rows c o size extents present can climb = all_ascend (width_of s) c o present climb can.shards.below rows size extents can.fit
 
 -- ---- operations on the bitmap behind them
 
@@ -214,10 +217,10 @@ flips_behind c o key units from (op ∷ ops) own are = (
 
 pub with_flips_ascend : (s : Super) (rows : Rows) (c o : List ℕ) (size : ℕ) (extents : List Extent) (present : List ℕ)
     → CanReplace s rows c o size extents present → Climb present → (units : Units) (flips : List RowOp) → AreFlips units flips
-    → KeysAscend (object_ops rows c o size extents present ++ flips)
+    → KeysAscend (object_ops (width_of s) rows c o size extents present ++ flips)
 with_flips_ascend s rows c o size extents present can climb units flips are =
-    joined c o (object_ops rows c o size extents present) flips (ops_ascend s rows c o size extents present can climb)
+    joined (width_of s) c o (object_ops (width_of s) rows c o size extents present) flips (ops_ascend s rows c o size extents present can climb)
     (flips_ascend units 0 flips are)
     (all_map (λ op. IsKeyOf c o (key_of op)) (λ op. AllByRecursion (λ later. byte_order (key_of op) (key_of later) ≡ Less) flips)
-    (λ op own. flips_behind c o (key_of op) units 0 flips own are) (object_ops rows c o size extents present)
+    (λ op own. flips_behind c o (key_of op) units 0 flips own are) (object_ops (width_of s) rows c o size extents present)
     (object_ops_own s rows c o size extents present can))

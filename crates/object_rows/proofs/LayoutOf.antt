@@ -1,5 +1,7 @@
 -- Where no row is bad each object has a layout, and a list of its shards.
 use Rattle.std.proofs.Common.{◌≡◌, inl, inr, ℕ, zero, suc, ◌+◌, ◌<◌, ◌≤◌, true, false, List, [], ◌∷◌, Contains, Some, None, is_some, flat_map, refl, sym, ap, subst, ◌∙◌, arith}
+use Rattle.meta_log.specs.Slots.{width_of}
+use Rattle.unit_fields.specs.declared.width.Width.{Width}
 use Rattle.std.specs.List.{AllByRecursion}
 use Rattle.std.specs.FinMap as finite
 use Rattle.std.proofs.lemmas.Bool.{cases_lt}
@@ -12,7 +14,7 @@ use Rattle.row_format.specs.Extents.{Extent}
 use Rattle.row_format.specs.Row.{Row, collection, onode, shard, bitmap, row_key}
 use Rattle.row_format.proofs.KeyLemmas.{same_onode, onode_no_shard, coll_no_object, bitmap_no_object}
 use Rattle.row_format.proofs.RowLemmas.{same_row}
-use Rattle.store_image.specs.Pages.{HasKey, HasRow}
+use Rattle.store_image.specs.Pages.{HasKey, HasRow, HasOnode, HasShard}
 use Rattle.store_image.specs.BadRows.{NoBadRow}
 use Rattle.blob_map.specs.Pages.{extent_pages, with_pages}
 use Rattle.blob_map.proofs.Places.{laid_alone}
@@ -31,13 +33,13 @@ climb_ascends (p ∷ ps) climb = (climb.0, climb_ascends ps climb.1)
 module _ (s : Super) (rows : Rows) (c o : List ℕ) (good : NoBadRow s rows) where
   -- ---- by its shards
 
-  pub keys_there : (shards : List (ℕ × List Extent)) → AllByRecursion (λ x. HasRow rows (shard c o x.0 x.1)) shards
+  pub keys_there : (shards : List (ℕ × List Extent)) → AllByRecursion (λ x. HasShard (width_of s) rows c o x.0 x.1) shards
       → AllByRecursion (λ page. HasKey rows (shard_key c o page)) (first_pages shards)
   keys_there [] has = tt
   keys_there (x ∷ xs) has = (ap is_some has.0.stands, keys_there xs has.1)
 
-  pub map_by_shards : (shards : List (ℕ × List Extent)) → AreShardsOf rows c o shards
-      → IsMapOf rows c o (with_pages finite.empty (flat_map extent_pages (extents_in shards)))
+  pub map_by_shards : (shards : List (ℕ × List Extent)) → AreShardsOf (width_of s) rows c o shards
+      → IsMapOf (width_of s) rows c o (with_pages finite.empty (flat_map extent_pages (extents_in shards)))
   map_by_shards shards are page place =
       let said = laid_alone (extents_in shards) (by_shards_ascend s rows c o good shards are) page in
       let by = by_shards_pages s rows c o good shards are page place in
@@ -46,15 +48,15 @@ module _ (s : Super) (rows : Rows) (c o : List ℕ) (good : NoBadRow s rows) whe
   module _ (coll : IsCollName c) (name : IsName o) where
     -- ---- its size
 
-    onode_row : (x : Row) → HasRow rows x → onode_key c o ≡ row_key x → (size : ℕ) × HasRow rows (onode c o size)
+    onode_row : (x : Row) → HasRow (width_of s) rows x → onode_key c o ≡ row_key x → (size : ℕ) × HasOnode rows c o size
     onode_row (collection d) has key = absurd (coll_no_object d c o _ (sym key))
     onode_row (onode d u size) has key =
         let is = same_onode c o d u coll name has.fits.0 has.fits.1 key in
-        (size, subst (HasRow rows) (λ i. onode (sym is.0 i) (sym is.1 i) size) has)
+        (size, subst (HasRow (width_of s) rows) (λ i. onode (sym is.0 i) (sym is.1 i) size) has)
     onode_row (shard d u page es) has key = absurd (onode_no_shard c o d u page coll name has.fits.coll_name has.fits.object_name key)
     onode_row (bitmap r bits) has key = absurd (bitmap_no_object r c o _ (sym key))
 
-    pub onode_under : (value : List ℕ) → finite.get rows (onode_key c o) ≡ Some value → (size : ℕ) × HasRow rows (onode c o size)
+    pub onode_under : (value : List ℕ) → finite.get rows (onode_key c o) ≡ Some value → (size : ℕ) × HasOnode rows c o size
     onode_under value is =
         let g = good (onode_key c o) value is in
         onode_row g.row (record { fits = g.fits; stands = ap (finite.get rows) (sym g.key_is) ∙ is ∙ ap Some g.value_is }) g.key_is
@@ -67,17 +69,17 @@ module _ (s : Super) (rows : Rows) (c o : List ℕ) (good : NoBadRow s rows) whe
 
     -- ---- its shards, page by page
 
-    one_shard : (page : ℕ) (es fs : List Extent) → HasRow rows (shard c o page es) → HasRow rows (shard c o page fs) → es ≡ fs
+    one_shard : (page : ℕ) (es fs : List Extent) → HasShard (width_of s) rows c o page es → HasShard (width_of s) rows c o page fs → es ≡ fs
     one_shard page es fs a b =
         let same : shard c o page es ≡ shard c o page fs =
-        same_row (shard c o page es) (shard c o page fs) a.fits b.fits refl (let e = sym a.stands ∙ b.stands in cc) in cc
+        same_row (width_of s) (shard c o page es) (shard c o page fs) a.fits b.fits refl (let e = sym a.stands ∙ b.stands in cc) in cc
 
     record Found (from end : ℕ) : Type 0 where
       pub shards : List (ℕ × List Extent)
-      pub there : AllByRecursion (λ x. HasRow rows (shard c o x.0 x.1)) shards
+      pub there : AllByRecursion (λ x. HasShard (width_of s) rows c o x.0 x.1) shards
       pub behind : AllByRecursion (λ x. from ≤ x.0) shards
       pub rise : Rise shards
-      pub all : (page : ℕ) (es : List Extent) → from ≤ page → page < end → HasRow rows (shard c o page es) → Contains shards (page, es)
+      pub all : (page : ℕ) (es : List Extent) → from ≤ page → page < end → HasShard (width_of s) rows c o page es → Contains shards (page, es)
 
     -- where no shard begins at the first page, those behind it are all
     not_first : (from count : ℕ) → Found (from + 1) (from + 1 + count) → ¬ HasKey rows (shard_key c o from) → Found from (from + suc count)
@@ -94,7 +96,7 @@ module _ (s : Super) (rows : Rows) (c o : List ℕ) (good : NoBadRow s rows) whe
       ];
     }
 
-    with_first : (from count : ℕ) → Found (from + 1) (from + 1 + count) → (own : List Extent) → HasRow rows (shard c o from own)
+    with_first : (from count : ℕ) → Found (from + 1) (from + 1 + count) → (own : List Extent) → HasShard (width_of s) rows c o from own
         → Found from (from + suc count)
     with_first from count rest own is = record {
       shards = (from, own) ∷ rest.shards;
@@ -105,7 +107,7 @@ module _ (s : Super) (rows : Rows) (c o : List ℕ) (good : NoBadRow s rows) whe
         | inl more ↦ let k = rest.all page es (omega (arith, more)) (omega (arith, lt)) has in (suc k.0, omega (arith, k.1), k.2)
         | inr less ↦
             let here : page ≡ from = omega (arith, le, less) in
-            let same : own ≡ es = one_shard from own es is (subst (λ n. HasRow rows (shard c o n es)) here has) in
+            let same : own ≡ es = one_shard from own es is (subst (λ n. HasShard (width_of s) rows c o n es) here has) in
             (0, omega arith, λ i. (sym here i, same i))
       ];
     }
@@ -121,7 +123,7 @@ module _ (s : Super) (rows : Rows) (c o : List ℕ) (good : NoBadRow s rows) whe
           | false ↦ λ none. not_first from count rest (λ has. let t = sym none ∙ has in cc)
         ] refl
 
-    shards_by : (most : ℕ) → most ≡ 32768 → (shards : List (ℕ × List Extent)) × AreShardsOf rows c o shards
+    shards_by : (most : ℕ) → most ≡ 32768 → (shards : List (ℕ × List Extent)) × AreShardsOf (width_of s) rows c o shards
     shards_by most is =
         let all : Found 0 (0 + most) = found most 0 (omega (arith, is)) in (
           all.shards,
@@ -134,15 +136,15 @@ module _ (s : Super) (rows : Rows) (c o : List ℕ) (good : NoBadRow s rows) whe
         )
 
 -- an object by its rows
-pub record ObjectInRows (rows : Rows) (c o : List ℕ) : Type 0 where
+pub record ObjectInRows (w : Width) (rows : Rows) (c o : List ℕ) : Type 0 where
   pub layout : Layout
-  pub has : HasLayout rows c o layout
+  pub has : HasLayout w rows c o layout
   pub present : List ℕ
   pub are_shards : AreShards rows c o present
   pub there : AllByRecursion (λ page. HasKey rows (shard_key c o page)) present
   pub in_order : Ascends present
 
-pub object_in_rows : (s : Super) (rows : Rows) (c o : List ℕ) → NoBadRow s rows → IsCollName c → IsName o → ObjectInRows rows c o
+pub object_in_rows : (s : Super) (rows : Rows) (c o : List ℕ) → NoBadRow s rows → IsCollName c → IsName o → ObjectInRows (width_of s) rows c o
 object_in_rows s rows c o good coll name =
     let size = size_of s rows c o good coll name in
     let shards = shards_by s rows c o good coll name 32768 refl in

@@ -1,5 +1,6 @@
 -- The units that a write leaves are those where its pages stood; where nothing changes none is left.
 use Rattle.std.proofs.Common.{◌≡◌, ◌≢◌, inl, inr, ℕ, ◌+◌, ◌<◌, Bool, true, false, cond, not, List, [], ◌∷◌, length, Some, refl, sym, ap, subst, ◌∙◌, arith}
+use Rattle.unit_fields.specs.declared.width.Width.{Width}
 use Rattle.std.specs.Prelude.{◌==◌, ◌&&◌, slice_index}
 use Rattle.std.specs.List.{flat_map}
 use Rattle.std.specs.Ordering.{nat_cmp}
@@ -65,8 +66,8 @@ none_left pages = ap (flat_map (λ (p : ℕ × Place). own_units p.1)) (same_kep
 
 -- ---- where whole pages are written
 
-module _ (rows : Rows) (c o : List ℕ) (old new : PageMap) (first : ℕ) (bytes units : List ℕ) (are : IsMapOf rows c o old)
-    (w : IsMapWritten old new first bytes units) (free : (i : ℕ) → i < length units → ¬ IsOwned rows (slice_index units i)) where
+module _ (w : Width) (rows : Rows) (c o : List ℕ) (old new : PageMap) (first : ℕ) (bytes units : List ℕ) (are : IsMapOf w rows c o old)
+    (written : IsMapWritten old new first bytes units) (free : (i : ℕ) → i < length units → ¬ IsOwned w rows (slice_index units i)) where
   -- a page that was written stands elsewhere, since its unit is fresh
   moved : (i : ℕ) (place : Place) → i < length units → finite.get old (first + i) ≡ Some place → is_moved old new (first + i) ≡ true
   moved i place lt stood =
@@ -75,7 +76,7 @@ module _ (rows : Rows) (c o : List ℕ) (old new : PageMap) (first : ℕ) (bytes
         (k, (are (first + i) (own (slice_index units i) k)).0 (stood ∙ ap Some is ∙ ap (λ u. Some (own u k)) same)),
       ) in
       ap (λ x. not (is_same_place x (finite.get new (first + i)))) stood
-      ∙ ap (λ x. not (is_same_place (Some place) x)) (w.inside i lt)
+      ∙ ap (λ x. not (is_same_place (Some place) x)) (written.inside i lt)
       ∙ ap not (not_same place (slice_index units i) (crc32c (unit_at i bytes)) apart)
 
   unmoved : (page : ℕ) (place : Place) → finite.get old page ≡ Some place → finite.get new page ≡ finite.get old page → is_moved old new page ≡ false
@@ -90,7 +91,7 @@ module _ (rows : Rows) (c o : List ℕ) (old new : PageMap) (first : ℕ) (bytes
         | inl p ↦ subst (λ n. is_moved old new n ≡ is_in first (first + length units) n) (sym p.2)
             (moved p.0 place p.1 (ap (finite.get old) (sym p.2) ∙ stood)
             ∙ sym (inside_is first (first + length units) (first + p.0) (omega arith) (omega (arith, p.1))))
-        | inr out ↦ unmoved page place stood (w.outside page out) ∙ sym (elim out [
+        | inr out ↦ unmoved page place stood (written.outside page out) ∙ sym (elim out [
           | inl lt ↦ low_is first (first + length units) page lt
           | inr le ↦ high_is first (first + length units) page le
         ])

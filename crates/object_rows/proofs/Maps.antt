@@ -1,5 +1,6 @@
 -- What a write makes of an object's page map.
 use Rattle.std.proofs.Common.{◌≡◌, inl, inr, ℕ, ◌+◌, ◌≤◌, ◌^◌, List, length, Some, is_some, sym, ap, subst, ◌∙◌, arith}
+use Rattle.meta_log.specs.Slots.{width_of}
 use Rattle.std.specs.Prelude.{slice_index}
 use Rattle.std.specs.FinMap as finite
 use Rattle.byte_maps.specs.Units.{unit_at}
@@ -24,14 +25,15 @@ use Rattle.object_rows.proofs.GoodPages.{CsumFits, all_map, IsGoodPage, good_pag
 on_data_body : (s : Super) (body : Body) → (data_unit s ≤ first_unit body) × (first_unit body + page_count body ≤ s.units) → IsOnData s body
 on_data_body s (private unit csums) is = is
 
-fits_place : (s : Super) → s.units ≤ 2 ^ 32 → (place : Place) → StandsWithin (data_unit s) s.units place → CsumFits place → FitsPlace place
+fits_place : (s : Super) → s.units ≤ 2 ^ 32 → (place : Place) → StandsWithin (data_unit s) s.units place → CsumFits (width_of s) place
+    → FitsPlace (width_of s) place
 fits_place s most (own unit csum) on fits = (omega (arith, on.1, most), fits)
 
 module _ (s : Super) (rows : Rows) (c o : List ℕ) (first : ℕ) (bytes units : List ℕ) (size : ℕ) (present : List ℕ)
-    (can : CanWrite s rows c o first bytes units size present) (old new : PageMap) (was : IsMapOf rows c o old)
+    (can : CanWrite s rows c o first bytes units size present) (old new : PageMap) (was : IsMapOf (width_of s) rows c o old)
     (w : IsMapWritten old new first bytes units) where
   -- a page that isn't written is good, at the size after too
-  kept_page : (n page : ℕ) (place : Place) → IsSizeOf rows c o n → n ≤ size → IsPageAt rows c o page place → IsGoodPage s size page place
+  kept_page : (n page : ℕ) (place : Place) → IsSizeOf rows c o n → n ≤ size → IsPageAt (width_of s) rows c o page place → IsGoodPage s size page place
   kept_page n page place (missing none) le is =
       absurd (let t = sym (in_place s rows (shard c o is.first is.extents) can.good is.has_shard).has_onode ∙ ap is_some none in cc)
   kept_page n page place (there m has) le is =
@@ -53,7 +55,7 @@ module _ (s : Super) (rows : Rows) (c o : List ℕ) (first : ℕ) (bytes units :
         record {
           within = omega (arith, p.1, p.2, end_within);
           on_data = subst (StandsWithin (data_unit s) s.units) (sym same) (can.data_units p.0 p.1);
-          csum = subst CsumFits (sym same) (can.csums_fit p.0 p.1);
+          csum = subst (CsumFits (width_of s)) (sym same) (can.csums_fit p.0 p.1);
         }
     | inr out ↦ kept_page can.before page place can.was_long before_most ((was page place).0 (sym (w.outside page out) ∙ is))
   ]
@@ -68,7 +70,7 @@ module _ (s : Super) (rows : Rows) (c o : List ℕ) (first : ℕ) (bytes units :
     object_name = can.object_name;
     has_collection = can.has_collection;
     size_most = can.size_most;
-    fit = extents_fits new (λ page place is. let g = good_new page place is in
+    fit = extents_fits new (width_of s) (λ page place is. let g = good_new page place is in
         record { page = omega (arith, g.within, pages_few); place = fits_place s can.units_most place g.on_data g.csum });
     ascend = extents_ascend new;
     within = extents_within new (pages_of size) (λ page place is. (good_new page place is).within);
@@ -78,7 +80,7 @@ module _ (s : Super) (rows : Rows) (c o : List ℕ) (first : ℕ) (bytes units :
     shards = can.shards;
   }
 
-  pub map_is_written : IsWritten rows c o first bytes units size (extents_of (finite.entries new))
+  pub map_is_written : IsWritten (width_of s) rows c o first bytes units size (extents_of (finite.entries new))
   map_is_written = record {
     some = can.some;
     whole = can.whole;

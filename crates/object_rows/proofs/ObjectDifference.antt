@@ -1,7 +1,10 @@
 -- The operations that make a collection, that replace an object's rows, and that make an object are differences.
 use Rattle.std.proofs.Common.{◌≡◌, inl, inr, ℕ, Bool, true, false, cond, List, [], ◌∷◌, Some, None, refl, sym, ap, subst, ◌∙◌}
+use Rattle.meta_log.specs.Slots.{width_of}
+use Rattle.unit_fields.specs.declared.width.Width.{Width}
 use Rattle.std.specs.Prelude.{nat_lt, filter}
 use Rattle.std.specs.List.{flat_map, AllByRecursion}
+use Rattle.std.specs.Int.{w64, to_le_bytes}
 use Rattle.std.specs.Option.{option_map_or}
 use Rattle.std.specs.Ordering.{is_eq}
 use Rattle.std.specs.Cmp.{tied_itself}
@@ -13,11 +16,11 @@ use Rattle.meta_rows.specs.Rows.{Rows}
 use Rattle.meta_rows.specs.declared.row_op.RowOp.{RowOp}
 use Rattle.meta_log.specs.declared.slot.Super.{Super}
 use Rattle.object_model.specs.Effect.{is_same}
-use Rattle.row_format.specs.Keys.{coll_key, shard_key}
+use Rattle.row_format.specs.Keys.{coll_key, onode_key, shard_key}
 use Rattle.row_format.specs.Extents.{Extent, extent_bytes, BeginsAt}
-use Rattle.row_format.specs.Row.{Row, onode, row_key, row_value}
+use Rattle.row_format.specs.Row.{onode}
 use Rattle.store_image.specs.Pages.{HasKey}
-use Rattle.row_facts.specs.Operations.{set_row, coll_ops}
+use Rattle.row_facts.specs.Operations.{set_onode, coll_ops}
 use Rattle.object_rows.specs.Difference.{Changes, IsDifference}
 use Rattle.object_rows.specs.Layouts.{AreReplaced}
 use Rattle.object_rows.specs.Operations.{says, drops, onode_ops, shard_ops, object_ops, CanReplace, replaced, IsKeyOf, Climb}
@@ -38,20 +41,20 @@ coll_difference rows c none = record {
 -- ---- an object
 
 -- what rows don't say
-unsaid : (rows : Rows) (r : Row) → says rows r ≡ false → ¬ (map.get rows (row_key r) ≡ Some (row_value r))
-unsaid rows r is said =
-    let yes : says rows r ≡ true = ap (λ held. option_map_or (λ value. is_same value (row_value r)) held false) said
-    ∙ ap is_eq (tied_itself nat_list_cmp_total (row_value r)) in
+unsaid : (rows : Rows) (key value : List ℕ) → says rows key value ≡ false → ¬ (map.get rows key ≡ Some value)
+unsaid rows key value is said =
+    let yes : says rows key value ≡ true = ap (λ held. option_map_or (λ there. is_same there value) held false) said
+    ∙ ap is_eq (tied_itself nat_list_cmp_total value) in
     let t = sym yes ∙ is in cc
 
-module _ (rows : Rows) (c o : List ℕ) where
+module _ (s : Super) (rows : Rows) (c o : List ℕ) where
   abbrev Change : List RowOp → Type 0
   Change ops = AllByRecursion (Changes rows) ops
 
   onode_changes : (size : ℕ) → Change (onode_ops rows c o size)
-  onode_changes size = elim (cases_Bool (says rows (onode c o size))) [
-    | inl is ↦ subst (λ b. Change (cond b [] (set_row (onode c o size) ∷ []))) (sym is) tt
-    | inr is ↦ subst (λ b. Change (cond b [] (set_row (onode c o size) ∷ []))) (sym is) (unsaid rows (onode c o size) is, tt)
+  onode_changes size = elim (cases_Bool (says rows (onode_key c o) (to_le_bytes w64 size))) [
+    | inl is ↦ subst (λ b. Change (cond b [] (set_onode c o size ∷ []))) (sym is) tt
+    | inr is ↦ subst (λ b. Change (cond b [] (set_onode c o size ∷ []))) (sym is) (unsaid rows (onode_key c o) (to_le_bytes w64 size) is, tt)
   ]
 
   drops_change : (ps : List ℕ) → AllByRecursion (λ page. HasKey rows (shard_key c o page)) ps → Change (drops c o ps)
@@ -60,10 +63,11 @@ module _ (rows : Rows) (c o : List ℕ) where
 
   -- the shard's value is a new one
   abbrev pub IsNewShard : List Extent → Type 0
-  IsNewShard extents = (page : ℕ) → BeginsAt page extents → ¬ (map.get rows (shard_key c o page) ≡ Some (flat_map extent_bytes extents))
+  IsNewShard extents = (page : ℕ) → BeginsAt page extents
+      → ¬ (map.get rows (shard_key c o page) ≡ Some (flat_map (extent_bytes (width_of s)) extents))
 
   shard_changes : (extents : List Extent) (present : List ℕ) → AllByRecursion (λ page. HasKey rows (shard_key c o page)) present → IsNewShard extents
-      → Change (shard_ops c o extents present)
+      → Change (shard_ops (width_of s) c o extents present)
   shard_changes [] present there new = drops_change present there
   shard_changes (e ∷ es) present there new =
       let is_low : ℕ → Bool = λ page. nat_lt page e.first in
@@ -72,22 +76,22 @@ module _ (rows : Rows) (c o : List ℕ) where
       all_append (Changes rows) (drops c o (filter is_low present)) _ (drops_change (filter is_low present) low)
       (new e.first refl, drops_change (filter (nat_lt e.first) present) high)
 
-  pub object_difference : (s : Super) (size : ℕ) (extents : List Extent) (present : List ℕ) → CanReplace s rows c o size extents present
-      → Climb present → AllByRecursion (λ page. HasKey rows (shard_key c o page)) present → IsNewShard extents
-      → IsDifference rows (replaced rows c o size extents present) (object_ops rows c o size extents present)
-  object_difference s size extents present can climb there new = record {
+  pub object_difference : (size : ℕ) (extents : List Extent) (present : List ℕ) → CanReplace s rows c o size extents present → Climb present
+      → AllByRecursion (λ page. HasKey rows (shard_key c o page)) present → IsNewShard extents
+      → IsDifference rows (replaced (width_of s) rows c o size extents present) (object_ops (width_of s) rows c o size extents present)
+  object_difference size extents present can climb there new = record {
     in_order = ops_ascend s rows c o size extents present can climb;
-    changes = all_append (Changes rows) (onode_ops rows c o size) (shard_ops c o extents present) (onode_changes size)
+    changes = all_append (Changes rows) (onode_ops rows c o size) (shard_ops (width_of s) c o extents present) (onode_changes size)
         (shard_changes extents present there new);
     makes = refl;
   }
 
 -- ---- what an object's rows are when they are replaced
 
-one_after : (rows a b : Rows) (c o : List ℕ) (size : ℕ) (extents : List Extent) → AreReplaced rows a c o size extents
-    → AreReplaced rows b c o size extents → (key : List ℕ) → IsKeyOf c o key → map.get a key ≡ map.get b key
-one_after rows a b c o size extents p q key (inl is) = ap (map.get a) is ∙ p.onode ∙ sym q.onode ∙ ap (map.get b) (sym is)
-one_after rows a b c o size extents p q key (inr its) = ap (map.get a) its.2 ∙ at_page ∙ ap (map.get b) (sym its.2)
+one_after : (w : Width) (rows a b : Rows) (c o : List ℕ) (size : ℕ) (extents : List Extent) → AreReplaced w rows a c o size extents
+    → AreReplaced w rows b c o size extents → (key : List ℕ) → IsKeyOf c o key → map.get a key ≡ map.get b key
+one_after w rows a b c o size extents p q key (inl is) = ap (map.get a) is ∙ p.onode ∙ sym q.onode ∙ ap (map.get b) (sym is)
+one_after w rows a b c o size extents p q key (inr its) = ap (map.get a) its.2 ∙ at_page ∙ ap (map.get b) (sym its.2)
   where
     at_page : map.get a (shard_key c o its.0) ≡ map.get b (shard_key c o its.0)
     at_page = elim (begins_or_not its.0 extents) [
@@ -95,12 +99,12 @@ one_after rows a b c o size extents p q key (inr its) = ap (map.get a) its.2 ∙
       | inr not ↦ p.no_other its.0 its.1 not ∙ sym (q.no_other its.0 its.1 not)
     ]
 
-pub one_replaced : (rows a b : Rows) (c o : List ℕ) (size : ℕ) (extents : List Extent) → AreReplaced rows a c o size extents
-    → AreReplaced rows b c o size extents → a ≡ b
-one_replaced rows a b c o size extents p q = same a b (λ key. elim (p.others key) [
-  | inl its ↦ one_after rows a b c o size extents p q key its
+pub one_replaced : (w : Width) (rows a b : Rows) (c o : List ℕ) (size : ℕ) (extents : List Extent) → AreReplaced w rows a c o size extents
+    → AreReplaced w rows b c o size extents → a ≡ b
+one_replaced w rows a b c o size extents p q = same a b (λ key. elim (p.others key) [
+  | inl its ↦ one_after w rows a b c o size extents p q key its
   | inr is ↦ elim (q.others key) [
-    | inl its ↦ one_after rows a b c o size extents p q key its
+    | inl its ↦ one_after w rows a b c o size extents p q key its
     | inr other ↦ is ∙ sym other
   ]
 ])

@@ -1,5 +1,7 @@
 -- What the operations make of the rows, key by key.
 use Rattle.std.proofs.Common.{◌≡◌, ◌≢◌, ◌⊎◌, inl, inr, ℕ, zero, suc, ◌<◌, ◌^◌, Bool, true, false, cond, List, [], ◌∷◌, ◌++◌, length, get_or, Option, Some, None, is_some, refl, sym, ap, subst, ◌∙◌, arith}
+use Rattle.meta_log.specs.Slots.{width_of}
+use Rattle.unit_fields.specs.declared.width.Width.{Width}
 use Rattle.std.specs.Prelude.{nat_lt, filter, Contains}
 use Rattle.std.specs.List.{flat_map, AllByRecursion}
 use Rattle.std.specs.Option.{option_map_or}
@@ -23,11 +25,11 @@ use Rattle.object_model.specs.Effect.{is_same}
 use Rattle.unit_fields.specs.Names.{IsName, IsCollName}
 use Rattle.row_format.specs.Keys.{onode_key, shard_key}
 use Rattle.row_format.specs.Extents.{Extent, extent_bytes, FitsExtent, BeginsAt}
-use Rattle.row_format.specs.Row.{Row, onode, row_key, row_value}
+use Rattle.row_format.specs.Row.{onode}
 use Rattle.row_format.proofs.KeyLemmas.{same_shard, onode_no_shard}
 use Rattle.store_image.specs.Pages.{HasKey}
 use Rattle.store_image.proofs.ByteLemmas.{equal_or_not}
-use Rattle.row_facts.specs.Operations.{set_row}
+use Rattle.row_facts.specs.Operations.{set_onode}
 use Rattle.row_facts.proofs.Maps.{get_same, get_other}
 use Rattle.object_rows.specs.Operations.{says, drops, onode_ops, shard_ops, object_ops, CanReplace, replaced, IsKeyOf}
 use Rattle.object_rows.specs.Layouts.{AreReplaced}
@@ -94,7 +96,7 @@ module _ (rows : Rows) (key : List ℕ) where
   none_stays : (other : List ℕ) → map.get rows other ≡ None → map.get (map.remove rows key) other ≡ None
   none_stays other none = after_remove rows key other ∙ none_either (eq_by_cmp byte_order other key) (map.get rows other) none
 
-module _ (c o : List ℕ) where
+module _ (w : Width) (c o : List ℕ) where
   drops_none : (key : List ℕ) (ps : List ℕ) (rows : Rows) → map.get rows key ≡ None → map.get (rows_after rows (drops c o ps)) key ≡ None
   drops_none key [] rows none = none
   drops_none key (p ∷ ps) rows none = drops_none key ps (map.remove rows (shard_key c o p)) (none_stays rows (shard_key c o p) key none)
@@ -150,7 +152,7 @@ module _ (c o : List ℕ) where
     -- the shard that begins where the extents do is there, and no other
     record Sharded (rows after : Rows) (extents : List Extent) : Type 0 where
       pub onode : map.get after (onode_key c o) ≡ map.get rows (onode_key c o)
-      pub shard : (page : ℕ) → BeginsAt page extents → map.get after (shard_key c o page) ≡ Some (flat_map extent_bytes extents)
+      pub shard : (page : ℕ) → BeginsAt page extents → map.get after (shard_key c o page) ≡ Some (flat_map (extent_bytes w) extents)
       pub no_other : (page : ℕ) → page < 2 ^ 32 → (BeginsAt page extents → ⊥) → map.get after (shard_key c o page) ≡ None
 
     module _ (rows : Rows) (present : List ℕ) (below : AllByRecursion (λ p. p < 2 ^ 32) present)
@@ -170,7 +172,7 @@ module _ (c o : List ℕ) where
         high = filter (nat_lt e.first) present
 
         abbrev bytes : List ℕ
-        bytes = flat_map extent_bytes (e ∷ es)
+        bytes = flat_map (extent_bytes w) (e ∷ es)
 
         -- the rows without the lower shards, and with the new one too
         abbrev lowered : Rows
@@ -225,14 +227,16 @@ module _ (c o : List ℕ) where
           no_other = other_gone;
         }
 
-        ops_own : AllByRecursion (λ op. IsKeyOf c o (key_of op)) (shard_ops c o (e ∷ es) present)
+        ops_own : AllByRecursion (λ op. IsKeyOf c o (key_of op)) (shard_ops w c o (e ∷ es) present)
         ops_own = all_append (λ (op : RowOp). IsKeyOf c o (key_of op)) (drops c o low) _ (drops_own low low_below) (inr (e.first, first_below, refl), drops_own high high_below)
 
-      sharded : (extents : List Extent) → AllByRecursion FitsExtent extents → Sharded rows (rows_after rows (shard_ops c o extents present)) extents
+      sharded : (extents : List Extent) → AllByRecursion (FitsExtent w) extents
+          → Sharded rows (rows_after rows (shard_ops w c o extents present)) extents
       sharded [] fit = no_extents
       sharded (e ∷ es) fit = subst (λ m. Sharded rows m (e ∷ es)) (sym (rows_after-append rows (drops c o (low e es fit.0.first)) _)) (put e es fit.0.first)
 
-      shards_own : (extents : List Extent) → AllByRecursion FitsExtent extents → AllByRecursion (λ op. IsKeyOf c o (key_of op)) (shard_ops c o extents present)
+      shards_own : (extents : List Extent) → AllByRecursion (FitsExtent w) extents
+          → AllByRecursion (λ op. IsKeyOf c o (key_of op)) (shard_ops w c o extents present)
       shards_own [] fit = drops_own present below
       shards_own (e ∷ es) fit = ops_own e es fit.0.first
 
@@ -245,34 +249,33 @@ same_is x y is = elim (byte_order x y) as (λ r. byte_order x y ≡ r → is_eq 
   | Greater ↦ λ p t. absurd cc
 ] refl is
 
-said : (rows : Rows) (r : Row) → says rows r ≡ true → map.get rows (row_key r) ≡ Some (row_value r)
-said rows r is = elim (map.get rows (row_key r)) as
-    (λ x. option_map_or (λ value. is_same value (row_value r)) x false ≡ true → x ≡ Some (row_value r)) [
-      | None ↦ λ t. absurd cc
-      | Some v ↦ λ t. ap Some (same_is v (row_value r) t)
-    ] is
+said : (rows : Rows) (key value : List ℕ) → says rows key value ≡ true → map.get rows key ≡ Some value
+said rows key value is = elim (map.get rows key) as (λ x. option_map_or (λ there. is_same there value) x false ≡ true → x ≡ Some value) [
+  | None ↦ λ t. absurd cc
+  | Some v ↦ λ t. ap Some (same_is v value t)
+] is
 
 module _ (rows : Rows) (c o : List ℕ) (size : ℕ) where
   abbrev setting : List RowOp
-  setting = set_row (onode c o size) ∷ []
+  setting = set_onode c o size ∷ []
 
   abbrev with_onode : Rows
   with_onode = rows_after rows (onode_ops rows c o size)
 
   onode_put : map.get with_onode (onode_key c o) ≡ Some (to_le_bytes w64 size)
-  onode_put = elim (cases_Bool (says rows (onode c o size))) [
-    | inl is ↦ ap (λ b. map.get (rows_after rows (cond b [] setting)) (onode_key c o)) is ∙ said rows (onode c o size) is
+  onode_put = elim (cases_Bool (says rows (onode_key c o) (to_le_bytes w64 size))) [
+    | inl is ↦ ap (λ b. map.get (rows_after rows (cond b [] setting)) (onode_key c o)) is ∙ said rows (onode_key c o) (to_le_bytes w64 size) is
     | inr is ↦ ap (λ b. map.get (rows_after rows (cond b [] setting)) (onode_key c o)) is ∙ get_same rows (onode_key c o) (to_le_bytes w64 size)
   ]
 
   onode_own : AllByRecursion (λ op. IsKeyOf c o (key_of op)) (onode_ops rows c o size)
-  onode_own = elim (cases_Bool (says rows (onode c o size))) [
+  onode_own = elim (cases_Bool (says rows (onode_key c o) (to_le_bytes w64 size))) [
     | inl is ↦ subst (λ b. AllByRecursion (λ op. IsKeyOf c o (key_of op)) (cond b [] setting)) (sym is) tt
     | inr is ↦ subst (λ b. AllByRecursion (λ op. IsKeyOf c o (key_of op)) (cond b [] setting)) (sym is) (inl refl, tt)
   ]
 
   onode_others : (key : List ℕ) → key ≢ onode_key c o → map.get with_onode key ≡ map.get rows key
-  onode_others key apart = elim (cases_Bool (says rows (onode c o size))) [
+  onode_others key apart = elim (cases_Bool (says rows (onode_key c o) (to_le_bytes w64 size))) [
     | inl is ↦ ap (λ b. map.get (rows_after rows (cond b [] setting)) key) is
     | inr is ↦ ap (λ b. map.get (rows_after rows (cond b [] setting)) key) is ∙ get_other rows (onode_key c o) (to_le_bytes w64 size) key apart
   ]
@@ -286,20 +289,21 @@ module _ (s : Super) (rows : Rows) (c o : List ℕ) (size : ℕ) (extents : List
       (λ e. onode_no_shard c o c o page can.coll_name can.object_name can.coll_name can.object_name (sym e)))) ∙ has))
 
   -- each key is the object's
-  pub object_ops_own : AllByRecursion (λ op. IsKeyOf c o (key_of op)) (object_ops rows c o size extents present)
-  object_ops_own = all_append (λ op. IsKeyOf c o (key_of op)) (onode_ops rows c o size) (shard_ops c o extents present) (onode_own rows c o size)
-      (shards_own c o can.coll_name can.object_name (with_onode rows c o size) present can.shards.below shards_there extents can.fit)
+  pub object_ops_own : AllByRecursion (λ op. IsKeyOf c o (key_of op)) (object_ops (width_of s) rows c o size extents present)
+  object_ops_own = all_append (λ op. IsKeyOf c o (key_of op)) (onode_ops rows c o size) (shard_ops (width_of s) c o extents present)
+      (onode_own rows c o size)
+      (shards_own (width_of s) c o can.coll_name can.object_name (with_onode rows c o size) present can.shards.below shards_there extents can.fit)
 
-  pub are_replaced : AreReplaced rows (replaced rows c o size extents present) c o size extents
+  pub are_replaced : AreReplaced (width_of s) rows (replaced (width_of s) rows c o size extents present) c o size extents
   are_replaced =
       let first : Rows = with_onode rows c o size in
-      let made = sharded c o can.coll_name can.object_name first present can.shards.below shards_there extents can.fit in
-      let cut : rows_after first (shard_ops c o extents present) ≡ replaced rows c o size extents present =
-      sym (rows_after-append rows (onode_ops rows c o size) (shard_ops c o extents present)) in
-      let shards = subst (λ m. Sharded c o can.coll_name can.object_name first m extents) cut made in
+      let made = sharded (width_of s) c o can.coll_name can.object_name first present can.shards.below shards_there extents can.fit in
+      let cut : rows_after first (shard_ops (width_of s) c o extents present) ≡ replaced (width_of s) rows c o size extents present =
+      sym (rows_after-append rows (onode_ops rows c o size) (shard_ops (width_of s) c o extents present)) in
+      let shards = subst (λ m. Sharded (width_of s) c o can.coll_name can.object_name first m extents) cut made in
       record {
         onode = shards.onode ∙ onode_put rows c o size;
         shard = shards.shard;
         no_other = shards.no_other;
-        others = λ key. own_or_same c o (object_ops rows c o size extents present) rows key object_ops_own;
+        others = λ key. own_or_same (width_of s) c o (object_ops (width_of s) rows c o size extents present) rows key object_ops_own;
       }

@@ -1,5 +1,6 @@
 -- Units in order, each with its page.
 use Rattle.std.proofs.Common.{◌≡◌, ◌↔◌, inl, inr, ℕ, zero, suc, ◌+◌, ◌*◌, ◌<◌, ◌≤◌, List, [], ◌∷◌, length, get_or, map, Any, refl, sym, ap, ◌∙◌, arith}
+use Rattle.meta_log.specs.Slots.{width_of}
 use Rattle.std.specs.Prelude.{slice_index}
 use Rattle.std.specs.List.{AllByRecursion}
 use Rattle.std.proofs.lemmas.Bool.{cases_lt}
@@ -72,9 +73,10 @@ module _ (bytes : List ℕ) where
   held_at at (u ∷ us) i zero holds lt = holds.0 ∙ ap (λ n. unit_at n bytes) (same_is i)
   held_at at (u ∷ us) i (suc j) holds lt = held_at at us (i + 1) j holds.1 (omega (arith, lt)) ∙ ap (λ n. unit_at n bytes) (next_is i j)
 
-  pub fresh_all : (s : Super) (rows : Rows) (us : List ℕ) (i : ℕ) → AllByRecursion (λ u. IsDataUnit s u) us → AllByRecursion (λ u. ¬ IsOwned rows u) us
+  pub fresh_all : (s : Super) (rows : Rows) (us : List ℕ) (i : ℕ) → AllByRecursion (λ u. IsDataUnit s u) us
+      → AllByRecursion (λ u. ¬ IsOwned (width_of s) rows u) us
       → 4096 * i + 4096 * length us ≤ length bytes
-      → AllByRecursion (λ f. IsDataUnit s f.unit × ¬ IsOwned rows f.unit × (length f.bytes ≡ 4096)) (pages_on us i bytes)
+      → AllByRecursion (λ f. IsDataUnit s f.unit × ¬ IsOwned (width_of s) rows f.unit × (length f.bytes ≡ 4096)) (pages_on us i bytes)
   fresh_all s rows [] i on free long = tt
   fresh_all s rows (u ∷ us) i on free long =
       ((on.0, free.0, length-unit_at i bytes (omega (arith, long))), fresh_all s rows us (i + 1) on.1 free.1 (omega (arith, long)))

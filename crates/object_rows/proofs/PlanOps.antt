@@ -1,5 +1,6 @@
 -- The operations of a plan, from the difference of the rows, and the difference from them.
 use Rattle.std.proofs.Common.{◌≡◌, ◌⊎◌, inl, inr, ℕ, ◌+◌, ◌*◌, ◌/◌, ◌%◌, cond, List, [], ◌∷◌, ◌++◌, length, Contains, Some, None, is_some, true≢false, refl, sym, ap, subst, ◌∙◌, arith, append-nil}
+use Rattle.meta_log.specs.Slots.{width_of}
 use Rattle.std.specs.Prelude.{max}
 use Rattle.std.specs.Ordering.{nat_cmp}
 use Rattle.std.specs.FinMap as finite
@@ -26,7 +27,7 @@ use Rattle.object_rows.specs.declared.plan.Plan.{Plan}
 use Rattle.object_rows.specs.Difference.{IsDifference}
 use Rattle.object_rows.specs.Layouts.{Layout, HasLayout, made_of, units_left, AreReplaced, GetsLayout, stays, replaces, MakesColl, MakesLayout}
 use Rattle.object_rows.specs.Maps.{IsMapOf}
-use Rattle.object_rows.specs.Operations.{object_ops, replaced, CanReplace}
+use Rattle.object_rows.specs.Operations.{onode_ops, object_ops, replaced, CanReplace}
 use Rattle.object_rows.specs.Planned.{pages_on, CanPlanWrite}
 use Rattle.object_rows.specs.Plans.{new_pages, units_between, TurnsBits, WritesPages, touch_ops}
 use Rattle.object_rows.specs.Writes.{missing, there, IsSizeOf}
@@ -65,25 +66,26 @@ module _ (s : Super) (rows : Rows) (c o : List ℕ) (off : ℕ) (bytes units : L
   same_size before = omega (arith, start, can.whole)
 
   -- the units that are left are those where the pages stood
-  left_stood : (pages : PageMap) → IsMapOf rows c o pages → units_left pages (pages_after pages) ≡ units_between pages first (length units)
-  left_stood pages are = left_between rows c o pages (pages_after pages) first bytes units are (map_written first bytes pages units)
-      (λ i lt. all_at (λ u. ¬ IsOwned rows u) units i can.fresh.free lt)
+  left_stood : (pages : PageMap) → IsMapOf (width_of s) rows c o pages
+      → units_left pages (pages_after pages) ≡ units_between pages first (length units)
+  left_stood pages are = left_between (width_of s) rows c o pages (pages_after pages) first bytes units are (map_written first bytes pages units)
+      (λ i lt. all_at (λ u. ¬ IsOwned (width_of s) rows u) units i can.fresh.free lt)
 
   module _ (good : NoBadRow s rows) where
     -- the difference from the operations
-    pub layout_written : (plan : Plan) (w : WritesPages rows c o first bytes units plan.ops plan.released)
-        → (let x : Layout = record { size = w.before; pages = w.pages } in MakesLayout rows c o x (made_of write units x) units plan)
+    pub layout_written : (plan : Plan) (w : WritesPages (width_of s) rows c o first bytes units plan.ops plan.released)
+        → (let x : Layout = record { size = w.before; pages = w.pages } in MakesLayout (width_of s) rows c o x (made_of write units x) units plan)
     layout_written plan w =
         let x : Layout = record { size = w.before; pages = w.pages } in
         let es : List Extent = extents_of (entries (pages_after w.pages)) in
-        let after : Rows = replaced rows c o (size_after w.before) es w.present in
+        let after : Rows = replaced (width_of s) rows c o (size_after w.before) es w.present in
         record {
           after = after;
           gets = replaces after
               (inr (λ same. pages_change s rows c o first bytes units plan.ops plan.released can w (ap (λ (l : Layout). l.pages) same)))
-              (subst (λ n. AreReplaced rows after c o n es) (sym (same_size w.before))
+              (subst (λ n. AreReplaced (width_of s) rows after c o n es) (sym (same_size w.before))
               (write_replaces s rows c o first bytes units plan.ops plan.released can w good));
-          difference = object_ops rows c o (size_after w.before) es w.present;
+          difference = object_ops (width_of s) rows c o (size_after w.before) es w.present;
           is_difference = write_difference s rows c o first bytes units plan.ops plan.released can w good;
           flips = w.flips;
           turns = w.turns;
@@ -92,8 +94,9 @@ module _ (s : Super) (rows : Rows) (c o : List ℕ) (off : ℕ) (bytes units : L
         }
 
     -- the operations from the difference
-    module _ (x : Layout) (plan : Plan) (has : HasLayout rows c o x) (p : MakesLayout rows c o x (made_of write units x) units plan) where
-      found : ObjectInRows rows c o
+    module _ (x : Layout) (plan : Plan) (has : HasLayout (width_of s) rows c o x)
+        (p : MakesLayout (width_of s) rows c o x (made_of write units x) units plan) where
+      found : ObjectInRows (width_of s) rows c o
       found = object_in_rows s rows c o good can.in_coll.coll_named can.in_coll.named
 
       abbrev es_after : List Extent
@@ -101,9 +104,10 @@ module _ (s : Super) (rows : Rows) (c o : List ℕ) (off : ℕ) (bytes units : L
 
       -- the operations that replace the object with these shards, and behind them those on the bitmap
       abbrev object_part : List ℕ → List RowOp
-      object_part present = object_ops rows c o (size_after x.size) es_after present
+      object_part present = object_ops (width_of s) rows c o (size_after x.size) es_after present
 
-      abbrev by_shards : (q : ObjectInRows rows c o) → WritesPages rows c o first bytes units (object_part q.present ++ p.flips) plan.released
+      abbrev by_shards : (q : ObjectInRows (width_of s) rows c o)
+          → WritesPages (width_of s) rows c o first bytes units (object_part q.present ++ p.flips) plan.released
       by_shards q = record {
         pages = x.pages;
         are_pages = has.are_pages;
@@ -119,18 +123,18 @@ module _ (s : Super) (rows : Rows) (c o : List ℕ) (off : ℕ) (bytes units : L
         released_are = p.released_are ∙ left_stood x.pages has.are_pages;
       }
 
-      module _ (q : ObjectInRows rows c o) where
+      module _ (q : ObjectInRows (width_of s) rows c o) where
         abbrev all_ops : List RowOp
         all_ops = object_part q.present ++ p.flips
 
         abbrev then : Rows
-        then = replaced rows c o (size_after x.size) es_after q.present
+        then = replaced (width_of s) rows c o (size_after x.size) es_after q.present
 
-        after_is : (after : Rows) → GetsLayout rows c o x (made_of write units x) after → after ≡ then
+        after_is : (after : Rows) → GetsLayout (width_of s) rows c o x (made_of write units x) after → after ≡ then
         after_is after (stays has_onode same) =
             absurd (pages_change s rows c o first bytes units all_ops plan.released can (by_shards q) (ap (λ (l : Layout). l.pages) same))
-        after_is after (replaces r changed are) = one_replaced rows after then c o (size_after x.size) es_after
-            (subst (λ n. AreReplaced rows after c o n es_after) (same_size x.size) are)
+        after_is after (replaces r changed are) = one_replaced (width_of s) rows after then c o (size_after x.size) es_after
+            (subst (λ n. AreReplaced (width_of s) rows after c o n es_after) (same_size x.size) are)
             (write_replaces s rows c o first bytes units all_ops plan.released can (by_shards q) good)
 
         ops_are : all_ops ≡ plan.ops
@@ -139,8 +143,8 @@ module _ (s : Super) (rows : Rows) (c o : List ℕ) (off : ℕ) (bytes units : L
             (write_difference s rows c o first bytes units all_ops plan.released can (by_shards q) good)
             (subst (λ r. IsDifference rows r p.difference) (after_is p.after p.gets) p.is_difference)) ∙ sym p.ops_are
 
-      pub written_by : WritesPages rows c o first bytes units plan.ops plan.released
-      written_by = subst (λ ops. WritesPages rows c o first bytes units ops plan.released) (ops_are found) (by_shards found)
+      pub written_by : WritesPages (width_of s) rows c o first bytes units plan.ops plan.released
+      written_by = subst (λ ops. WritesPages (width_of s) rows c o first bytes units ops plan.released) (ops_are found) (by_shards found)
 
 -- ---- a touch
 
@@ -190,10 +194,10 @@ module _ (s : Super) (rows : Rows) (c o : List ℕ) (coll : IsCollName c) (name 
 
   -- where it is there nothing changes
   there_ops : HasKey rows (onode_key c o) → touch_ops rows c o ≡ []
-  there_ops has = ap (λ b. cond b [] (object_ops rows c o 0 [] [])) has
+  there_ops has = ap (λ b. cond b [] (onode_ops rows c o 0)) has
 
-  missing_ops : finite.get rows (onode_key c o) ≡ None → touch_ops rows c o ≡ object_ops rows c o 0 [] []
-  missing_ops none = ap (λ r. cond (is_some r) [] (object_ops rows c o 0 [] [])) none
+  missing_ops : finite.get rows (onode_key c o) ≡ None → touch_ops rows c o ≡ object_ops (width_of s) rows c o 0 [] []
+  missing_ops none = ap (λ r. cond (is_some r) [] (onode_ops rows c o 0)) none ∙ sym (append-nil (onode_ops rows c o 0))
 
   -- where it is missing it has no bytes and no pages
   module _ (none : finite.get rows (onode_key c o) ≡ None) where
@@ -201,7 +205,7 @@ module _ (s : Super) (rows : Rows) (c o : List ℕ) (coll : IsCollName c) (name 
     no_bytes size (missing p) = refl
     no_bytes size (there n has) = absurd (not_both (ap is_some has.stands) none)
 
-    no_pages : (pages : PageMap) → IsMapOf rows c o pages → entries pages ≡ []
+    no_pages : (pages : PageMap) → IsMapOf (width_of s) rows c o pages → entries pages ≡ []
     no_pages pages are = no_entries (entries pages) (λ page place is.
         let at = (are page place).0 (entry_found pages page place is) in
         not_both (in_place s rows (shard c o at.first at.extents) good at.has_shard).has_onode none)
@@ -209,32 +213,35 @@ module _ (s : Super) (rows : Rows) (c o : List ℕ) (coll : IsCollName c) (name 
     can_replace : CanReplace s rows c o 0 [] []
     can_replace = can_make s rows c o good coll name has_coll none
 
-    made_difference : IsDifference rows (replaced rows c o 0 [] []) (object_ops rows c o 0 [] [])
-    made_difference = object_difference rows c o s 0 [] [] can_replace tt tt (λ page begins. absurd begins)
+    made_difference : IsDifference rows (replaced (width_of s) rows c o 0 [] []) (object_ops (width_of s) rows c o 0 [] [])
+    made_difference = object_difference s rows c o 0 [] [] can_replace tt tt (λ page begins. absurd begins)
 
   -- the difference is that
-  pub touch_difference : (x : Layout) → HasLayout rows c o x → (after : Rows) (ops : List RowOp) → GetsLayout rows c o x x after
+  pub touch_difference : (x : Layout) → HasLayout (width_of s) rows c o x → (after : Rows) (ops : List RowOp)
+      → GetsLayout (width_of s) rows c o x x after
       → IsDifference rows after ops → touch_ops rows c o ≡ ops
   touch_difference x has after ops (stays has_onode same) is = there_ops has_onode ∙ sym (no_difference rows ops is)
   touch_difference x has after ops (replaces r changed are) is = elim changed [
     | inl none ↦
         let bytes : x.size ≡ 0 = no_bytes none x.size has.was_long in
         let extents : extents_of (entries x.pages) ≡ [] = ap extents_of (no_pages none x.pages has.are_pages) in
-        let same : after ≡ replaced rows c o 0 [] [] = one_replaced rows after (replaced rows c o 0 [] []) c o 0 []
-        (subst (λ es. AreReplaced rows after c o 0 es) extents (subst (λ n. AreReplaced rows after c o n (extents_of (entries x.pages))) bytes are))
+        let same : after ≡ replaced (width_of s) rows c o 0 [] [] =
+        one_replaced (width_of s) rows after (replaced (width_of s) rows c o 0 [] []) c o 0 []
+        (subst (λ es. AreReplaced (width_of s) rows after c o 0 es) extents
+        (subst (λ n. AreReplaced (width_of s) rows after c o n (extents_of (entries x.pages))) bytes are))
         (are_then s rows c o 0 [] [] (can_replace none)) in
-        missing_ops none ∙ one_difference rows after (object_ops rows c o 0 [] []) ops
-        (subst (λ r. IsDifference rows r (object_ops rows c o 0 [] [])) (sym same) (made_difference none)) is
+        missing_ops none ∙ one_difference rows after (object_ops (width_of s) rows c o 0 [] []) ops
+        (subst (λ r. IsDifference rows r (object_ops (width_of s) rows c o 0 [] [])) (sym same) (made_difference none)) is
     | inr moved ↦ absurd (moved refl)
   ]
 
   -- and the rows of an object that is touched are so
   record Touched (x : Layout) : Type 0 where
     pub after : Rows
-    pub gets : GetsLayout rows c o x x after
+    pub gets : GetsLayout (width_of s) rows c o x x after
     pub is_difference : IsDifference rows after (touch_ops rows c o)
 
-  touched : (x : Layout) → HasLayout rows c o x → Touched x
+  touched : (x : Layout) → HasLayout (width_of s) rows c o x → Touched x
   touched x has = elim onode_or_not [
     | inl has_onode ↦ record {
       after = rows;
@@ -244,18 +251,18 @@ module _ (s : Super) (rows : Rows) (c o : List ℕ) (coll : IsCollName c) (name 
     | inr none ↦
         let bytes : 0 ≡ x.size = sym (no_bytes none x.size has.was_long) in
         let extents : [] ≡ extents_of (entries x.pages) = sym (ap extents_of (no_pages none x.pages has.are_pages)) in
-        let after : Rows = replaced rows c o 0 [] [] in
+        let after : Rows = replaced (width_of s) rows c o 0 [] [] in
         record {
           after = after;
-          gets = replaces after (inl none) (subst (λ es. AreReplaced rows after c o x.size es) extents
-              (subst (λ n. AreReplaced rows after c o n []) bytes (are_then s rows c o 0 [] [] (can_replace none))));
+          gets = replaces after (inl none) (subst (λ es. AreReplaced (width_of s) rows after c o x.size es) extents
+              (subst (λ n. AreReplaced (width_of s) rows after c o n []) bytes (are_then s rows c o 0 [] [] (can_replace none))));
           is_difference = subst (IsDifference rows after) (sym (missing_ops none)) (made_difference none);
         }
   ]
 
   -- the difference from the operations
-  pub layout_touched : (x : Layout) → HasLayout rows c o x
-      → MakesLayout rows c o x x [] (record { ops = touch_ops rows c o; fresh = []; released = [] })
+  pub layout_touched : (x : Layout) → HasLayout (width_of s) rows c o x
+      → MakesLayout (width_of s) rows c o x x [] (record { ops = touch_ops rows c o; fresh = []; released = [] })
   layout_touched x has =
       let t : Touched x = touched x has in
       record {
@@ -270,7 +277,8 @@ module _ (s : Super) (rows : Rows) (c o : List ℕ) (coll : IsCollName c) (name 
       }
 
   -- the operations from the difference
-  pub touched_by : (units : List ℕ) (x : Layout) (plan : Plan) → units ≡ [] → HasLayout rows c o x → MakesLayout rows c o x x units plan
+  pub touched_by : (units : List ℕ) (x : Layout) (plan : Plan) → units ≡ [] → HasLayout (width_of s) rows c o x
+      → MakesLayout (width_of s) rows c o x x units plan
       → plan.fresh ≡ pages_on units 0 [] → record { ops = touch_ops rows c o; fresh = []; released = [] } ≡ plan
   touched_by units x plan no_units has p fresh =
       let none : plan.released ≡ [] = p.released_are ∙ none_left x.pages in

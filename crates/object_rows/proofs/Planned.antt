@@ -1,5 +1,6 @@
 -- What holds of every transaction that is planned.
 use Rattle.std.proofs.Common.{◌≡◌, ◌⊎◌, inl, inr, ℕ, ◌+◌, ◌*◌, ◌<◌, List, [], ◌∷◌, length, ◌++◌, Any, Contains, Ok, sym, ap, subst, ◌∙◌, length-append, arith, is_ok, ◌/◌, ◌%◌, map}
+use Rattle.meta_log.specs.Slots.{width_of}
 use Rattle.std.specs.Prelude.{◌^◌, IsOk, Any}
 use Rattle.std.specs.List.{AllByRecursion}
 use Rattle.std.specs.Int.{w32, to_le_bytes}
@@ -68,32 +69,35 @@ pub record PlanFacts (s : Super) (rows : Rows) (change : Change) (plan : Plan) :
   pub fit : AllFit plan.ops
   pub ascend : KeysAscend plan.ops
   pub short : length (ops_bytes plan.ops) < 2 ^ 32
-  pub owned : (v : ℕ) → IsOwned (rows_after rows plan.ops) v → IsFresh plan v ⊎ IsOwned rows v
-  pub taken : (v : ℕ) → IsFresh plan v → IsOwned (rows_after rows plan.ops) v
-  pub left : (v : ℕ) → IsOwned rows v → IsOwned (rows_after rows plan.ops) v ⊎ Contains plan.released v
-  pub sole : (v : ℕ) → HasSoleOwner rows v → HasSoleOwner (rows_after rows plan.ops) v
-  pub gone : (v : ℕ) → HasSoleOwner rows v → Contains plan.released v → IsOwned (rows_after rows plan.ops) v → ⊥
-  pub exact : (leaves : Rows) → IsExactAs leaves rows → IsExactAs leaves (rows_after rows plan.ops)
+  pub owned : (v : ℕ) → IsOwned (width_of s) (rows_after rows plan.ops) v → IsFresh plan v ⊎ IsOwned (width_of s) rows v
+  pub taken : (v : ℕ) → IsFresh plan v → IsOwned (width_of s) (rows_after rows plan.ops) v
+  pub left : (v : ℕ) → IsOwned (width_of s) rows v → IsOwned (width_of s) (rows_after rows plan.ops) v ⊎ Contains plan.released v
+  pub sole : (v : ℕ) → HasSoleOwner (width_of s) rows v → HasSoleOwner (width_of s) (rows_after rows plan.ops) v
+  pub gone : (v : ℕ) → HasSoleOwner (width_of s) rows v → Contains plan.released v → IsOwned (width_of s) (rows_after rows plan.ops) v → ⊥
+  pub exact : (leaves : Rows) → IsExactAs (width_of s) leaves rows → IsExactAs (width_of s) leaves (rows_after rows plan.ops)
   pub marked : (v : ℕ) → v < 2 ^ 32 → IsMarked rows v → IsMarked (rows_after rows plan.ops) v ⊎ Contains plan.released v
-  pub stand : (at later_at : ℕ → List ℕ) (objects after : Objects) → HoldsFresh later_at plan → ((v : ℕ) → HasPage rows v → later_at v ≡ at v)
-      → ObjectsStand at rows objects → transaction_effect change objects ≡ Ok after → ObjectsStand later_at (rows_after rows plan.ops) after
+  pub stand : (at later_at : ℕ → List ℕ) (objects after : Objects) → HoldsFresh later_at plan
+      → ((v : ℕ) → HasPage (width_of s) rows v → later_at v ≡ at v)
+      → ObjectsStand (width_of s) at rows objects → transaction_effect change objects ≡ Ok after
+      → ObjectsStand (width_of s) later_at (rows_after rows plan.ops) after
 
 module _ (s : Super) (rows : Rows) (good : NoBadRow s rows) where
   coll_facts : (c : List ℕ) → IsCollName c → PlanFacts s rows (coll_change c) (record { ops = coll_ops c; fresh = []; released = [] })
   coll_facts c name = record {
-    good = coll_good rows c s name good;
+    good = coll_good s rows c name good;
     fit = coll_fits c name;
     ascend = (tt, tt);
     short = omega (arith, coll_short c name);
-    owned = λ v is. inr ((coll_owned rows c v).0 is);
+    owned = λ v is. inr ((coll_owned (width_of s) rows c v).0 is);
     taken = λ v f. absurd (none_fresh (coll_ops c) v f);
-    left = λ v is. inl ((coll_owned rows c v).1 is);
-    sole = λ v. coll_sole rows c v;
+    left = λ v is. inl ((coll_owned (width_of s) rows c v).1 is);
+    sole = λ v. coll_sole (width_of s) rows c v;
     gone = λ v sole k is. none_in v k;
-    exact = λ leaves. coll_exact rows c (IsLeaked leaves);
-    marked = λ v small is. inl ((coll_bits rows c v).1 is);
+    exact = λ leaves. coll_exact (width_of s) rows c (IsLeaked (width_of s) leaves);
+    marked = λ v small is. inl ((coll_bits (width_of s) rows c v).1 is);
     stand = λ at later_at objects after holds same stand is.
-        coll_stands later_at rows objects after c (objects_stand at later_at rows (λ unit has. sym (same unit has)) objects stand) is;
+        coll_stands (width_of s) later_at rows objects after c
+        (objects_stand (width_of s) at later_at rows (λ unit has. sym (same unit has)) objects stand) is;
   }
 
   touch_facts : (c o : List ℕ) → IsInColl c o rows
@@ -112,13 +116,13 @@ module _ (s : Super) (rows : Rows) (good : NoBadRow s rows) where
         left = λ v is. inl ((touch_owned s rows c o coll name has good v).1 is);
         sole = λ v. touch_sole s rows c o coll name has good v;
         gone = λ v sole k is. none_in v k;
-        exact = λ leaves. touch_exact s rows c o coll name has good (IsLeaked leaves);
+        exact = λ leaves. touch_exact s rows c o coll name has good (IsLeaked (width_of s) leaves);
         marked = λ v small is. inl ((touch_bits s rows c o coll name has good v).1 is);
         stand = λ at later_at objects after holds. touch_stand s rows c o coll name has good at later_at objects after;
       }
 
   module _ (c o : List ℕ) (first : ℕ) (bytes units : List ℕ) (ops : List RowOp) (released : List ℕ)
-      (can : CanPlanWrite s rows c o first bytes units) (w : WritesPages rows c o first bytes units ops released) where
+      (can : CanPlanWrite s rows c o first bytes units) (w : WritesPages (width_of s) rows c o first bytes units ops released) where
     write_facts : PlanFacts s rows (write_change c o first bytes) (record { ops = ops; fresh = pages_on units 0 bytes; released = released })
     write_facts = record {
       good = write_good s rows c o first bytes units ops released can w good;
@@ -183,12 +187,12 @@ module _ (s : Super) (rows : Rows) where
   planned_effect objects (changes_object c op units x plan can has p fresh) = absurd can
 
   pub planned_fresh : {change : Change} {plan : Plan} → IsPlanned s rows change plan
-      → AllByRecursion (λ f. IsDataUnit s f.unit × ¬ IsOwned rows f.unit × (length f.bytes ≡ 4096)) plan.fresh
+      → AllByRecursion (λ f. IsDataUnit s f.unit × ¬ IsOwned (width_of s) rows f.unit × (length f.bytes ≡ 4096)) plan.fresh
   planned_fresh (makes_coll c plan name none p) =
-      subst (AllByRecursion (λ f. IsDataUnit s f.unit × ¬ IsOwned rows f.unit × (length f.bytes ≡ 4096))) (sym p.none_fresh) tt
+      subst (AllByRecursion (λ f. IsDataUnit s f.unit × ¬ IsOwned (width_of s) rows f.unit × (length f.bytes ≡ 4096))) (sym p.none_fresh) tt
   planned_fresh (changes_object c op units x plan can has p fresh) =
       let f = fresh_of c op units can in
-      subst (AllByRecursion (λ f. IsDataUnit s f.unit × ¬ IsOwned rows f.unit × (length f.bytes ≡ 4096))) (sym fresh)
+      subst (AllByRecursion (λ f. IsDataUnit s f.unit × ¬ IsOwned (width_of s) rows f.unit × (length f.bytes ≡ 4096))) (sym fresh)
       (fresh_all (bytes_of op) s rows units 0 f.on_data f.free (omega (arith, whole_of c op units can)))
 
   pub planned_ascend : {change : Change} {plan : Plan} → IsPlanned s rows change plan → Ascends (fresh_units plan)
@@ -203,18 +207,21 @@ module _ (s : Super) (rows : Rows) where
       subst (λ u. ¬ IsMarked rows u) at.2 (all_at (λ u. ¬ IsMarked rows u) units at.0 (fresh_of c op units can).unmarked at.1)
 
   -- a page of the object stands on a unit that is released
-  pub planned_released : {change : Change} {plan : Plan} (v : ℕ) → IsPlanned s rows change plan → Contains plan.released v → IsOwned rows v
+  pub planned_released : {change : Change} {plan : Plan} (v : ℕ) → IsPlanned s rows change plan → Contains plan.released v
+      → IsOwned (width_of s) rows v
   planned_released v (makes_coll c plan name none p) k = absurd (none_in v (subst (λ us. Contains us v) p.none_released k))
   planned_released v (changes_object c op units x plan can has p fresh) k =
-      some_owned (is_moved x.pages (made_of op units x).pages) rows c (object_of op) x.pages has.are_pages v
+      some_owned (width_of s) (is_moved x.pages (made_of op units x).pages) rows c (object_of op) x.pages has.are_pages v
       (subst (λ us. Contains us v) p.released_are k)
 
-  pub planned_once : {change : Change} {plan : Plan} (v : ℕ) → IsPlanned s rows change plan → HasSoleOwner rows v → StandsOnce plan.released v
+  pub planned_once : {change : Change} {plan : Plan} (v : ℕ) → IsPlanned s rows change plan → HasSoleOwner (width_of s) rows v
+      → StandsOnce plan.released v
   planned_once v (makes_coll c plan name none p) sole = λ i j in_i in_j at same. absurd (omega (arith, in_i, ap length p.none_released))
   planned_once v (changes_object c op units x plan can has p fresh) sole = subst (λ us. StandsOnce us v) (sym p.released_are)
-      (some_once (is_moved x.pages (made_of op units x).pages) rows c (object_of op) x.pages has.are_pages v sole)
+      (some_once (width_of s) (is_moved x.pages (made_of op units x).pages) rows c (object_of op) x.pages has.are_pages v sole)
 
   pub planned_stand : {change : Change} {plan : Plan} (at later_at : ℕ → List ℕ) (objects after : Objects) → IsPlanned s rows change plan
-      → NoBadRow s rows → HoldsFresh later_at plan → ((unit : ℕ) → HasPage rows unit → later_at unit ≡ at unit)
-      → ObjectsStand at rows objects → transaction_effect change objects ≡ Ok after → ObjectsStand later_at (rows_after rows plan.ops) after
+      → NoBadRow s rows → HoldsFresh later_at plan → ((unit : ℕ) → HasPage (width_of s) rows unit → later_at unit ≡ at unit)
+      → ObjectsStand (width_of s) at rows objects → transaction_effect change objects ≡ Ok after
+      → ObjectsStand (width_of s) later_at (rows_after rows plan.ops) after
   planned_stand at later_at objects after is good = (plan_facts is good).stand at later_at objects after

@@ -1,5 +1,7 @@
 -- An object's extents and pages, by its shards.
 use Rattle.std.proofs.Common.{◌≡◌, ◌⊎◌, ◌↔◌, inl, inr, ℕ, zero, suc, ◌+◌, ◌-◌, ◌<◌, ◌≤◌, ◌^◌, true, cond, List, [], ◌∷◌, ◌++◌, length, get_or, map, Some, None, is_some, refl, sym, ap, subst, ◌∙◌, arith}
+use Rattle.meta_log.specs.Slots.{width_of}
+use Rattle.unit_fields.specs.declared.width.Width.{Width}
 use Rattle.std.specs.Prelude.{nat_le, nat_lt, ◌&&◌, Contains}
 use Rattle.std.specs.List.{AllByRecursion}
 use Rattle.std.specs.FinMap as finite
@@ -12,7 +14,7 @@ use Rattle.row_format.specs.Keys.{shard_key}
 use Rattle.row_format.specs.Extents.{Extent, Body, private, page_count, page_end, place_in, place_of, Place, ExtentsAscend, BeginsAt, FitsExtent}
 use Rattle.row_format.specs.Row.{Row, collection, onode, shard, bitmap, row_key}
 use Rattle.row_format.proofs.KeyLemmas.{same_shard, coll_no_object, onode_no_shard, bitmap_no_object}
-use Rattle.store_image.specs.Pages.{HasKey, HasRow, IsPageAt, pages_of}
+use Rattle.store_image.specs.Pages.{HasKey, HasRow, HasOnode, HasShard, IsPageAt, pages_of}
 use Rattle.store_image.specs.BadRows.{IsOnData, IsShardInPlace, NoBadRow}
 use Rattle.store_image.proofs.PageMap.{in_place, one_place}
 use Rattle.blob_map.specs.Pages.{HasNumbers, first_unit}
@@ -74,21 +76,21 @@ module _ (xs ys : List Extent) (page : ℕ) where
 
 -- ---- shards
 
-module _ (rows : Rows) (c o : List ℕ) where
-  abbrev HasShard : ℕ × List Extent → Type 0
-  HasShard x = HasRow rows (shard c o x.0 x.1)
+module _ (w : Width) (rows : Rows) (c o : List ℕ) where
+  abbrev StandsThere : ℕ × List Extent → Type 0
+  StandsThere x = HasShard w rows c o x.0 x.1
 
-  all_extents : (P : Extent → Type 0) → ((x : ℕ × List Extent) → HasShard x → AllByRecursion P x.1) → (xs : List (ℕ × List Extent))
-      → AllByRecursion HasShard xs → AllByRecursion P (extents_in xs)
+  all_extents : (P : Extent → Type 0) → ((x : ℕ × List Extent) → StandsThere x → AllByRecursion P x.1) → (xs : List (ℕ × List Extent))
+      → AllByRecursion StandsThere xs → AllByRecursion P (extents_in xs)
   all_extents P each [] has = tt
   all_extents P each (x ∷ xs) has = all_append P x.1 (extents_in xs) (each x has.0) (all_extents P each xs has.1)
 
-  pub by_shards_fit : (shards : List (ℕ × List Extent)) → AreShardsOf rows c o shards → AllByRecursion FitsExtent (extents_in shards)
-  by_shards_fit shards are = all_extents FitsExtent (λ x has. has.fits.fit) shards are.there
+  pub by_shards_fit : (shards : List (ℕ × List Extent)) → AreShardsOf w rows c o shards → AllByRecursion (FitsExtent w) (extents_in shards)
+  by_shards_fit shards are = all_extents (FitsExtent w) (λ x has. has.fits.fit) shards are.there
 
 module _ (s : Super) (rows : Rows) (c o : List ℕ) (good : NoBadRow s rows) where
   abbrev IsThere : ℕ × List Extent → Type 0
-  IsThere x = HasShard rows c o x
+  IsThere x = HasShard (width_of s) rows c o x.0 x.1
 
   shard_in : (x : ℕ × List Extent) → IsThere x → IsShardInPlace s rows c o x.0 x.1
   shard_in x has = in_place s rows (shard c o x.0 x.1) good has
@@ -114,19 +116,19 @@ module _ (s : Super) (rows : Rows) (c o : List ℕ) (good : NoBadRow s rows) whe
       (λ e from. later_from (page_end e) xs has.1 from) x.1 (turned x.1 xs (ends_below x xs has.0 has.1 rise.0)))
 
   -- a row under the key of a shard is that shard
-  shard_row : IsCollName c → IsName o → (page : ℕ) → page < 2 ^ 32 → (x : Row) → HasRow rows x → shard_key c o page ≡ row_key x
-      → (es : List Extent) × HasRow rows (shard c o page es)
+  shard_row : IsCollName c → IsName o → (page : ℕ) → page < 2 ^ 32 → (x : Row) → HasRow (width_of s) rows x → shard_key c o page ≡ row_key x
+      → (es : List Extent) × HasShard (width_of s) rows c o page es
   shard_row coll name page lt (collection d) has e = absurd (coll_no_object d c o _ (sym e))
   shard_row coll name page lt (onode d u n) has e = absurd (onode_no_shard d u c o page has.fits.0 has.fits.1 coll name (sym e))
   shard_row coll name page lt (shard d u other es) has e =
       let is = same_shard c o d u page other coll name has.fits.coll_name has.fits.object_name lt has.fits.page_below e in
-      (es, subst (HasRow rows) (λ i. shard (sym is.0 i) (sym is.1 i) (sym is.2 i) es) has)
+      (es, subst (HasRow (width_of s) rows) (λ i. shard (sym is.0 i) (sym is.1 i) (sym is.2 i) es) has)
   shard_row coll name page lt (bitmap r bits) has e = absurd (bitmap_no_object r c o _ (sym e))
 
   pub shard_under : IsCollName c → IsName o → (page : ℕ) → page < 2 ^ 32 → HasKey rows (shard_key c o page)
-      → (es : List Extent) × HasRow rows (shard c o page es)
+      → (es : List Extent) × HasShard (width_of s) rows c o page es
   shard_under coll name page lt has = elim (finite.get rows (shard_key c o page)) as
-      (λ r. finite.get rows (shard_key c o page) ≡ r → is_some r ≡ true → (es : List Extent) × HasRow rows (shard c o page es)) [
+      (λ r. finite.get rows (shard_key c o page) ≡ r → is_some r ≡ true → (es : List Extent) × HasShard (width_of s) rows c o page es) [
         | None ↦ λ p t. absurd cc
         | Some value ↦ λ p t.
             let g = good (shard_key c o page) value p in
@@ -149,10 +151,10 @@ module _ (s : Super) (rows : Rows) (c o : List ℕ) (good : NoBadRow s rows) whe
 
   module _ (page : ℕ) where
     page_found : (place : Place) (xs : List (ℕ × List Extent)) → AllByRecursion IsThere xs → place_of (extents_in xs) page ≡ Some place
-        → IsPageAt rows c o page place
+        → IsPageAt (width_of s) rows c o page place
     page_found place [] has is = absurd cc
     page_found place (x ∷ xs) has is =
-        elim (place_of x.1 page) as (λ r. place_of x.1 page ≡ r → IsPageAt rows c o page place) [
+        elim (place_of x.1 page) as (λ r. place_of x.1 page ≡ r → IsPageAt (width_of s) rows c o page place) [
           | None ↦ λ p. page_found place xs has.1 (sym (found_right x.1 (extents_in xs) page p) ∙ is)
           | Some q ↦ λ p. record {
             first = x.0;
@@ -173,25 +175,26 @@ module _ (s : Super) (rows : Rows) (c o : List ℕ) (good : NoBadRow s rows) whe
       ] refl
     ]
 
-  module _ (shards : List (ℕ × List Extent)) (are : AreShardsOf rows c o shards) where
+  module _ (shards : List (ℕ × List Extent)) (are : AreShardsOf (width_of s) rows c o shards) where
     pub by_shards_ascend : ExtentsAscend (extents_in shards)
     by_shards_ascend = shards_ascend shards are.there are.rise
 
-    pub by_shards_within : (size : ℕ) → HasRow rows (onode c o size) → AllByRecursion (λ e. page_end e ≤ pages_of size) (extents_in shards)
-    by_shards_within size has = all_extents rows c o (λ e. page_end e ≤ pages_of size) (λ x h. (shard_in x h).within size has) shards are.there
+    pub by_shards_within : (size : ℕ) → HasOnode rows c o size → AllByRecursion (λ e. page_end e ≤ pages_of size) (extents_in shards)
+    by_shards_within size has =
+        all_extents (width_of s) rows c o (λ e. page_end e ≤ pages_of size) (λ x h. (shard_in x h).within size has) shards are.there
 
     pub by_shards_on_data : AllByRecursion (λ e. IsOnData s e.body) (extents_in shards)
-    by_shards_on_data = all_extents rows c o (λ e. IsOnData s e.body) (λ x h. (shard_in x h).on_data) shards are.there
+    by_shards_on_data = all_extents (width_of s) rows c o (λ e. IsOnData s e.body) (λ x h. (shard_in x h).on_data) shards are.there
 
     -- their numbers fit
-    pub by_shards_numbers : (size : ℕ) → HasRow rows (onode c o size) → s.units ≤ 2 ^ 32 → AllByRecursion HasNumbers (extents_in shards)
+    pub by_shards_numbers : (size : ℕ) → HasOnode rows c o size → s.units ≤ 2 ^ 32 → AllByRecursion HasNumbers (extents_in shards)
     by_shards_numbers size has most =
         let few : pages_of size ≤ 2 ^ 32 = omega (arith, (in_place s rows (onode c o size) good has).1) in
         both_all (λ e. page_end e ≤ pages_of size) (λ e. IsOnData s e.body) HasNumbers
         (λ e le on. record { pages = omega (arith, le, few); units = omega (arith, (body_on s e.body on).1, most) })
         (extents_in shards) (by_shards_within size has) by_shards_on_data
 
-    pub by_shards_pages : (page : ℕ) (place : Place) → (place_of (extents_in shards) page ≡ Some place) ↔ IsPageAt rows c o page place
+    pub by_shards_pages : (page : ℕ) (place : Place) → (place_of (extents_in shards) page ≡ Some place) ↔ IsPageAt (width_of s) rows c o page place
     by_shards_pages page place = (
       page_found page place shards are.there,
       λ is.

@@ -1,5 +1,6 @@
 -- Rows that stand for objects, after an object's rows are replaced and its bytes are others.
 use Rattle.std.proofs.Common.{◌≡◌, ◌≢◌, ◌⊎◌, inl, inr, ℕ, true, false, List, [], ◌∷◌, length, Option, Some, refl, None, is_some, unwrap_or, option_and_then, sym, ap, subst, ◌∙◌, arith}
+use Rattle.meta_log.specs.Slots.{width_of}
 use Rattle.std.specs.Prelude.{IsSome}
 use Rattle.std.specs.FinMap as map
 use Rattle.byte_maps.specs.ByteMap.{byte_order}
@@ -10,8 +11,7 @@ use Rattle.object_model.specs.Effect.{object_under}
 use Rattle.unit_fields.specs.Names.{IsName, IsCollName}
 use Rattle.row_format.specs.Keys.{onode_key}
 use Rattle.row_format.specs.Extents.{Extent}
-use Rattle.row_format.specs.Row.{onode}
-use Rattle.store_image.specs.Pages.{HasRow, HasPage}
+use Rattle.store_image.specs.Pages.{HasOnode, HasPage}
 use Rattle.store_image.specs.Stands.{IsObjectShape, IsShape, AreObjectBytes, AreBytes, ObjectsStand}
 use Rattle.row_facts.proofs.Maps.{keys_after}
 use Rattle.row_facts.proofs.PutRow.{no_other_kind}
@@ -31,10 +31,10 @@ under_is objects c o coll found = ap (λ (x : Option Collection). option_and_the
 module _ (s : Super) (rows : Rows) (c o : List ℕ) (size : ℕ) (extents : List Extent) (present : List ℕ) (can : CanReplace s rows c o size extents present)
     (new : List ℕ) (long : length new ≡ size) where
   abbrev then : Rows
-  then = replaced rows c o size extents present
+  then = replaced (width_of s) rows c o size extents present
 
-  sized : HasRow then (onode c o (length new))
-  sized = subst (λ m. HasRow then (onode c o m)) (sym long) (then_sized s rows c o size extents present can)
+  sized : HasOnode then c o (length new)
+  sized = subst (λ m. HasOnode then c o m) (sym long) (then_sized s rows c o size extents present can)
 
   absent : (k : ℕ) (rest : List ℕ) → k ≢ 0x43 → k ≢ 0x4f → k ≢ 0x62 → map.get then (k ∷ rest) ≡ None
   absent = no_other_kind s then (then_good s rows c o size extents present can)
@@ -119,26 +119,27 @@ module _ (s : Super) (rows : Rows) (c o : List ℕ) (size : ℕ) (extents : List
     }
 
     -- over any units where those on which pages stood hold what they held
-    module _ (at later_at : ℕ → List ℕ) (same : (v : ℕ) → HasPage rows v → later_at v ≡ at v)
-        (own_bytes : AreObjectBytes later_at then c o new) where
-      other_bytes : (d u : List ℕ) (x : List ℕ) → IsOther c o d u → AreObjectBytes at rows d u x → AreObjectBytes later_at then d u x
+    module _ (at later_at : ℕ → List ℕ) (same : (v : ℕ) → HasPage (width_of s) rows v → later_at v ≡ at v)
+        (own_bytes : AreObjectBytes (width_of s) later_at then c o new) where
+      other_bytes : (d u : List ℕ) (x : List ℕ) → IsOther c o d u → AreObjectBytes (width_of s) at rows d u x
+          → AreObjectBytes (width_of s) later_at then d u x
       other_bytes d u x other all = record {
         mapped = λ page on is.
             let was = (then_others_on s rows c o size extents present can page on d u other).0 is in
             let seen = all.mapped page on was in
-            let has : HasPage rows on.unit = record { coll = d; object = u; page = page; on = on; is_on = was; is_unit = refl } in
+            let has : HasPage (width_of s) rows on.unit = record { coll = d; object = u; page = page; on = on; is_on = was; is_unit = refl } in
             record { seen = seen.seen ∙ sym (same on.unit has); kept = seen.kept };
         holes = λ page hole. all.holes page (λ on is. hole on ((then_others_on s rows c o size extents present can page on d u other).1 is));
       }
 
-      later_bytes : AreBytes at rows objects → AreBytes later_at then later
+      later_bytes : AreBytes (width_of s) at rows objects → AreBytes (width_of s) later_at then later
       later_bytes all d u object is = elim (present_cases d u object is) [
         | inl e ↦
-            subst (λ x. AreObjectBytes later_at then d u x.bytes) (sym e.2)
-            (subst (λ x. AreObjectBytes later_at then x u new) (sym e.0)
-            (subst (λ x. AreObjectBytes later_at then c x new) (sym e.1) own_bytes))
+            subst (λ x. AreObjectBytes (width_of s) later_at then d u x.bytes) (sym e.2)
+            (subst (λ x. AreObjectBytes (width_of s) later_at then x u new) (sym e.0)
+            (subst (λ x. AreObjectBytes (width_of s) later_at then c x new) (sym e.1) own_bytes))
         | inr old ↦ other_bytes d u object.bytes old.0 (all d u object old.1)
       ]
 
-      pub later_stand : AreBytes at rows objects → ObjectsStand later_at then later
+      pub later_stand : AreBytes (width_of s) at rows objects → ObjectsStand (width_of s) later_at then later
       later_stand all = record { shape = later_shape; bytes = later_bytes all }

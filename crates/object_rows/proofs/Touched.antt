@@ -1,5 +1,6 @@
 -- An object is touched: it is made where it is missing.
-use Rattle.std.proofs.Common.{◌<◌, ◌^◌, length, arith, ◌≡◌, ◌↔◌, inl, inr, ℕ, true, false, cond, List, [], Option, Some, None, Ok, is_some, refl, sym, ap, subst, ◌∙◌}
+use Rattle.std.proofs.Common.{◌<◌, ◌^◌, length, arith, ◌≡◌, ◌↔◌, inl, inr, ℕ, true, false, cond, List, [], Option, Some, None, Ok, is_some, refl, sym, ap, subst, ◌∙◌, append-nil}
+use Rattle.meta_log.specs.Slots.{width_of}
 use Rattle.std.specs.FinMap as map
 use Rattle.meta_rows.specs.Rows.{Rows, rows_after}
 use Rattle.meta_rows.specs.Spelling.{ops_bytes, AllFit}
@@ -19,7 +20,7 @@ use Rattle.store_image.proofs.OwnedUnits.{objects_stand}
 use Rattle.store_image.proofs.PageMap.{in_place}
 use Rattle.row_facts.proofs.Bits.{exact_stays}
 use Rattle.row_facts.proofs.ObjectUnder.{object_cases}
-use Rattle.object_rows.specs.Operations.{CanReplace, object_ops, replaced, HasUnit, IsOwnedElsewhere, KeysAscend}
+use Rattle.object_rows.specs.Operations.{CanReplace, onode_ops, object_ops, replaced, HasUnit, IsOwnedElsewhere, KeysAscend}
 use Rattle.object_rows.specs.Plans.{touch_ops}
 use Rattle.object_rows.specs.Writes.{touch_change}
 use Rattle.object_rows.proofs.After.{then_good, then_owned, then_bits}
@@ -39,11 +40,11 @@ none_has v h = let t = h.there in cc
 module _ (s : Super) (rows : Rows) (c o : List ℕ) (coll : IsCollName c) (name : IsName o) (has_coll : HasKey rows (coll_key c)) where
   -- the operations are none, or those that make the object
   by_test : (P : List RowOp → Type 0) → (HasKey rows (onode_key c o) → P [])
-      → (map.get rows (onode_key c o) ≡ None → P (object_ops rows c o 0 [] [])) → P (touch_ops rows c o)
+      → (map.get rows (onode_key c o) ≡ None → P (object_ops (width_of s) rows c o 0 [] [])) → P (touch_ops rows c o)
   by_test P there missing = elim (map.contains_key rows (onode_key c o)) as
-      (λ b. map.contains_key rows (onode_key c o) ≡ b → P (cond b [] (object_ops rows c o 0 [] []))) [
+      (λ b. map.contains_key rows (onode_key c o) ≡ b → P (cond b [] (onode_ops rows c o 0))) [
         | true ↦ λ e. there e
-        | false ↦ λ e. missing (none_of (map.get rows (onode_key c o)) e)
+        | false ↦ λ e. subst P (append-nil (onode_ops rows c o 0)) (missing (none_of (map.get rows (onode_key c o)) e))
       ] refl
 
   module _ (good : NoBadRow s rows) where
@@ -64,18 +65,21 @@ module _ (s : Super) (rows : Rows) (c o : List ℕ) (coll : IsCollName c) (name 
         (λ none. omega (arith, length-object_ops s rows c o 0 [] [] (can none)))
 
     -- an object that is missing owns nothing
-    owned_elsewhere : map.get rows (onode_key c o) ≡ None → (v : ℕ) (owner : Owner) → Owns rows owner v → IsOwnedElsewhere rows c o v
+    owned_elsewhere : map.get rows (onode_key c o) ≡ None → (v : ℕ) (owner : Owner) → Owns (width_of s) rows owner v
+        → IsOwnedElsewhere (width_of s) rows c o v
     owned_elsewhere none v (page_of d u page) owns = elim (object_cases c o d u) [
       | inl e ↦ absurd (no_page
-          (subst (λ x. IsPageAt rows x o page (own v owns.0)) e.0 (subst (λ x. IsPageAt rows d x page (own v owns.0)) e.1 owns.1)))
+          (subst (λ x. IsPageAt (width_of s) rows x o page (own v owns.0)) e.0
+          (subst (λ x. IsPageAt (width_of s) rows d x page (own v owns.0)) e.1 owns.1)))
       | inr other ↦ record { coll = d; object = u; page = page; other = other; owns = owns }
     ]
       where
-        no_page : IsPageAt rows c o page (own v owns.0) → ⊥
+        no_page : IsPageAt (width_of s) rows c o page (own v owns.0) → ⊥
         no_page is =
             let t = sym (in_place s rows (shard c o is.first is.extents) good is.has_shard).has_onode ∙ ap is_some none in cc
 
-    made_owned : (none : map.get rows (onode_key c o) ≡ None) (v : ℕ) → IsOwned (replaced rows c o 0 [] []) v ↔ IsOwned rows v
+    made_owned : (none : map.get rows (onode_key c o) ≡ None) (v : ℕ)
+        → IsOwned (width_of s) (replaced (width_of s) rows c o 0 [] []) v ↔ IsOwned (width_of s) rows v
     made_owned none v =
         let after = then_owned s rows c o 0 [] [] (can none) v in (
           λ owned. elim (after.0 owned) [
@@ -85,25 +89,28 @@ module _ (s : Super) (rows : Rows) (c o : List ℕ) (coll : IsCollName c) (name 
           λ owned. after.1 (inr (owned_elsewhere none v owned.0 owned.1)),
         )
 
-    pub touch_owned : (v : ℕ) → IsOwned (rows_after rows (touch_ops rows c o)) v ↔ IsOwned rows v
-    touch_owned v = by_test (λ ops. IsOwned (rows_after rows ops) v ↔ IsOwned rows v) (λ there. (λ x. x, λ x. x)) (λ none. made_owned none v)
+    pub touch_owned : (v : ℕ) → IsOwned (width_of s) (rows_after rows (touch_ops rows c o)) v ↔ IsOwned (width_of s) rows v
+    touch_owned v = by_test (λ ops. IsOwned (width_of s) (rows_after rows ops) v ↔ IsOwned (width_of s) rows v) (λ there. (λ x. x, λ x. x))
+        (λ none. made_owned none v)
 
-    pub touch_sole : (v : ℕ) → HasSoleOwner rows v → HasSoleOwner (rows_after rows (touch_ops rows c o)) v
-    touch_sole v sole = by_test (λ ops. HasSoleOwner (rows_after rows ops) v) (λ there. sole)
+    pub touch_sole : (v : ℕ) → HasSoleOwner (width_of s) rows v → HasSoleOwner (width_of s) (rows_after rows (touch_ops rows c o)) v
+    touch_sole v sole = by_test (λ ops. HasSoleOwner (width_of s) (rows_after rows ops) v) (λ there. sole)
         (λ none. then_sole s rows c o 0 [] [] (can none) v sole (λ p q a b found too. absurd cc) (λ h e. none_has v h))
 
     pub touch_bits : (v : ℕ) → IsMarked (rows_after rows (touch_ops rows c o)) v ↔ IsMarked rows v
     touch_bits v = by_test (λ ops. IsMarked (rows_after rows ops) v ↔ IsMarked rows v) (λ there. (λ x. x, λ x. x))
         (λ none. then_bits s rows c o 0 [] [] (can none) v)
 
-    pub touch_exact : (leaked : ℕ → Type 0) → IsExactBut leaked rows → IsExactBut leaked (rows_after rows (touch_ops rows c o))
-    touch_exact = exact_stays rows (rows_after rows (touch_ops rows c o)) touch_bits touch_owned touch_sole
+    pub touch_exact : (leaked : ℕ → Type 0) → IsExactBut (width_of s) leaked rows
+        → IsExactBut (width_of s) leaked (rows_after rows (touch_ops rows c o))
+    touch_exact = exact_stays (width_of s) rows (rows_after rows (touch_ops rows c o)) touch_bits touch_owned touch_sole
 
-    pub touch_stand : (at later_at : ℕ → List ℕ) (objects after : Objects) → ((v : ℕ) → HasPage rows v → later_at v ≡ at v)
-        → ObjectsStand at rows objects → transaction_effect (touch_change c o) objects ≡ Ok after
-        → ObjectsStand later_at (rows_after rows (touch_ops rows c o)) after
+    pub touch_stand : (at later_at : ℕ → List ℕ) (objects after : Objects) → ((v : ℕ) → HasPage (width_of s) rows v → later_at v ≡ at v)
+        → ObjectsStand (width_of s) at rows objects → transaction_effect (touch_change c o) objects ≡ Ok after
+        → ObjectsStand (width_of s) later_at (rows_after rows (touch_ops rows c o)) after
     touch_stand at later_at objects after same stand is =
-        let later = objects_stand at later_at rows (λ v has_page. sym (same v has_page)) objects stand in
-        by_test (λ ops. ObjectsStand later_at (rows_after rows ops) after)
-        (λ there. subst (ObjectsStand later_at rows) (sym (touched_same later_at rows objects after c o coll name there later is)) later)
+        let later = objects_stand (width_of s) at later_at rows (λ v has_page. sym (same v has_page)) objects stand in
+        by_test (λ ops. ObjectsStand (width_of s) later_at (rows_after rows ops) after)
+        (λ there. subst (ObjectsStand (width_of s) later_at rows)
+        (sym (touched_same (width_of s) later_at rows objects after c o coll name there later is)) later)
         (λ none. made_stand s rows c o [] (can none) later_at objects after none later is)

@@ -1,5 +1,6 @@
 -- What holds of the operations of a write of whole pages.
 use Rattle.std.proofs.Common.{◌≡◌, ◌⊎◌, ◌↔◌, inl, inr, ℕ, ◌+◌, ◌*◌, ◌<◌, ◌≤◌, List, [], ◌∷◌, length, Any, Contains, Ok, refl, sym, ap, subst, ◌∙◌, length-append, arith}
+use Rattle.meta_log.specs.Slots.{width_of}
 use Rattle.std.specs.Prelude.{max, slice_index, ◌^◌}
 use Rattle.std.specs.List.{AllByRecursion}
 use Rattle.std.specs.FinSet as set
@@ -58,7 +59,7 @@ climbs (p ∷ ps) order = (order.0, climbs ps order.1)
 -- ---- whole pages are written
 
 module _ (s : Super) (rows : Rows) (c o : List ℕ) (first : ℕ) (bytes units : List ℕ) (ops : List RowOp) (released : List ℕ)
-    (can : CanPlanWrite s rows c o first bytes units) (w : WritesPages rows c o first bytes units ops released) where
+    (can : CanPlanWrite s rows c o first bytes units) (w : WritesPages (width_of s) rows c o first bytes units ops released) where
   abbrev pub size : ℕ
   size = max w.before (4096 * (first + length units))
 
@@ -70,10 +71,10 @@ module _ (s : Super) (rows : Rows) (c o : List ℕ) (first : ℕ) (bytes units :
 
   -- the object's operations come first, and those on the bitmap after them
   abbrev pub first_ops : List RowOp
-  first_ops = object_ops rows c o size extents w.present
+  first_ops = object_ops (width_of s) rows c o size extents w.present
 
   abbrev pub then : Rows
-  then = replaced rows c o size extents w.present
+  then = replaced (width_of s) rows c o size extents w.present
 
   rows_are : rows_after rows ops ≡ rows_after then w.flips
   rows_are = ap (rows_after rows) w.ops_are ∙ rows_after-append rows first_ops w.flips
@@ -81,8 +82,8 @@ module _ (s : Super) (rows : Rows) (c o : List ℕ) (first : ℕ) (bytes units :
   alike : AreAlikeButBits then (rows_after rows ops)
   alike = subst (AreAlikeButBits then) (sym rows_are) (flips_alike then w.turns.units w.flips w.turns.are_flips)
 
-  same_owns : (owner : Owner) (v : ℕ) → Owns then owner v ↔ Owns (rows_after rows ops) owner v
-  same_owns owner v = alike_owns then (rows_after rows ops) owner v alike
+  same_owns : (owner : Owner) (v : ℕ) → Owns (width_of s) then owner v ↔ Owns (width_of s) (rows_after rows ops) owner v
+  same_owns owner v = alike_owns (width_of s) then (rows_after rows ops) owner v alike
 
   abbrev IsFreshOf : ℕ → Type 0
   IsFreshOf v = Any (λ f. f.unit ≡ v) (pages_on units 0 bytes)
@@ -93,8 +94,8 @@ module _ (s : Super) (rows : Rows) (c o : List ℕ) (first : ℕ) (bytes units :
   distinct : AreDistinct units
   distinct = ascending_distinct units can.fresh.ascend
 
-  pub free : (i : ℕ) → i < length units → ¬ IsOwned rows (slice_index units i)
-  free i lt = all_at (λ u. ¬ IsOwned rows u) units i can.fresh.free lt
+  pub free : (i : ℕ) → i < length units → ¬ IsOwned (width_of s) rows (slice_index units i)
+  free i lt = all_at (λ u. ¬ IsOwned (width_of s) rows u) units i can.fresh.free lt
 
   -- the first page is another, since its unit is fresh
   pub pages_change : ¬ (w.pages ≡ new)
@@ -107,11 +108,11 @@ module _ (s : Super) (rows : Rows) (c o : List ℕ) (first : ℕ) (bytes units :
     ),
   )
 
-  stood : (v : ℕ) → Contains released v ↔ StoodWritten rows c o first (length units) v
-  stood v = subst (λ us. Contains us v ↔ StoodWritten rows c o first (length units) v) (sym w.released_are)
-      (between_stood first (length units) rows c o w.pages w.are_pages v)
+  stood : (v : ℕ) → Contains released v ↔ StoodWritten (width_of s) rows c o first (length units) v
+  stood v = subst (λ us. Contains us v ↔ StoodWritten (width_of s) rows c o first (length units) v) (sym w.released_are)
+      (between_stood (width_of s) first (length units) rows c o w.pages w.are_pages v)
 
-  write_released : (v : ℕ) → Contains released v → IsOwned rows v
+  write_released : (v : ℕ) → Contains released v → IsOwned (width_of s) rows v
   write_released v k = let x = (stood v).0 k in (page_of c o (first + x.index), x.owns)
 
   -- the fresh units
@@ -124,8 +125,8 @@ module _ (s : Super) (rows : Rows) (c o : List ℕ) (first : ℕ) (bytes units :
   fresh_all_are : (P : ℕ → Type 0) → AllByRecursion P units → (v : ℕ) → Contains units v → P v
   fresh_all_are P all v k = let at = (at_index units v).0 k in subst P at.2 (all_at P units at.0 all at.1)
 
-  write_free : (v : ℕ) → IsFreshOf v → ¬ IsOwned rows v
-  write_free v f = fresh_all_are (λ u. ¬ IsOwned rows u) can.fresh.free v ((fresh_is v).0 f)
+  write_free : (v : ℕ) → IsFreshOf v → ¬ IsOwned (width_of s) rows v
+  write_free v f = fresh_all_are (λ u. ¬ IsOwned (width_of s) rows u) can.fresh.free v ((fresh_is v).0 f)
 
   write_unmarked : (v : ℕ) → IsFreshOf v → ¬ IsMarked rows v
   write_unmarked v f = fresh_all_are (λ u. ¬ IsMarked rows u) can.fresh.unmarked v ((fresh_is v).0 f)
@@ -168,16 +169,16 @@ module _ (s : Super) (rows : Rows) (c o : List ℕ) (first : ℕ) (bytes units :
     can_replace : CanReplace s rows c o size extents w.present
     can_replace = map_can_replace s rows c o first bytes units size w.present can_write w.pages new w.are_pages made
 
-    is_written : IsWritten rows c o first bytes units size extents
+    is_written : IsWritten (width_of s) rows c o first bytes units size extents
     is_written = map_is_written s rows c o first bytes units size w.present can_write w.pages new w.are_pages made
 
     -- the new shard isn't the old one, for the same reason
-    new_shard : IsNewShard rows c o extents
+    new_shard : IsNewShard s rows c o extents
     new_shard page begins stands =
-        let row = has_shard rows then c o size extents can.in_coll.coll_named can.in_coll.named can_replace.size_most can_replace.fit
+        let row = has_shard s rows then c o size extents can.in_coll.coll_named can.in_coll.named can_replace.size_most can_replace.fit
         (are_then s rows c o size extents w.present can_replace) page begins in
         let csum : ℕ = crc32c (unit_at 0 bytes) in
-        let at : IsPageAt rows c o (first + 0) (own (slice_index units 0) csum) = record {
+        let at : IsPageAt (width_of s) rows c o (first + 0) (own (slice_index units 0) csum) = record {
           first = page;
           extents = extents;
           has_shard = record { fits = row.fits; stands = stands };
@@ -185,11 +186,11 @@ module _ (s : Super) (rows : Rows) (c o : List ℕ) (first : ℕ) (bytes units :
         } in
         free 0 can.some (page_of c o (first + 0), (csum, at))
 
-    pub write_replaces : AreReplaced rows then c o size extents
+    pub write_replaces : AreReplaced (width_of s) rows then c o size extents
     write_replaces = are_then s rows c o size extents w.present can_replace
 
     pub write_difference : IsDifference rows then first_ops
-    write_difference = object_difference rows c o s size extents w.present can_replace (climbs w.present w.in_order) w.there new_shard
+    write_difference = object_difference s rows c o size extents w.present can_replace (climbs w.present w.in_order) w.there new_shard
 
     turned_data : (v : ℕ) → Has w.turns.units v → IsDataUnit s v
     turned_data v has = elim ((turned_is v).0 has) [
@@ -227,41 +228,41 @@ module _ (s : Super) (rows : Rows) (c o : List ℕ) (first : ℕ) (bytes units :
         )
 
     pub write_stand : (at later_at : ℕ → List ℕ) (objects after : Objects) → AllByRecursion (λ f. later_at f.unit ≡ f.bytes) (pages_on units 0 bytes)
-        → ((v : ℕ) → HasPage rows v → later_at v ≡ at v) → ObjectsStand at rows objects
-        → transaction_effect (write_change c o first bytes) objects ≡ Ok after → ObjectsStand later_at (rows_after rows ops) after
+        → ((v : ℕ) → HasPage (width_of s) rows v → later_at v ≡ at v) → ObjectsStand (width_of s) at rows objects
+        → transaction_effect (write_change c o first bytes) objects ≡ Ok after → ObjectsStand (width_of s) later_at (rows_after rows ops) after
     write_stand at later_at objects after holds same stand is =
-        let hold : HoldPages at later_at rows bytes units = record { fresh = fresh_held later_at holds; kept = same } in
-        alike_stand later_at then (rows_after rows ops) after alike
+        let hold : HoldPages (width_of s) at later_at rows bytes units = record { fresh = fresh_held later_at holds; kept = same } in
+        alike_stand (width_of s) later_at then (rows_after rows ops) after alike
         (pages_stand s rows c o size extents w.present can_replace first bytes units is_written at later_at objects after hold stand is)
 
-    after_owned : (v : ℕ) → IsOwned (rows_after rows ops) v → IsOwned then v
+    after_owned : (v : ℕ) → IsOwned (width_of s) (rows_after rows ops) v → IsOwned (width_of s) then v
     after_owned v owned = (owned.0, (same_owns owned.0 v).1 owned.1)
 
-    owned_after : (v : ℕ) → IsOwned then v → IsOwned (rows_after rows ops) v
+    owned_after : (v : ℕ) → IsOwned (width_of s) then v → IsOwned (width_of s) (rows_after rows ops) v
     owned_after v owned = (owned.0, (same_owns owned.0 v).0 owned.1)
 
-    pub write_owned : (v : ℕ) → IsOwned (rows_after rows ops) v → IsFreshOf v ⊎ IsOwned rows v
+    pub write_owned : (v : ℕ) → IsOwned (width_of s) (rows_after rows ops) v → IsFreshOf v ⊎ IsOwned (width_of s) rows v
     write_owned v owned = elim ((written_owned s rows c o size extents w.present can_replace first bytes units is_written v).0 (after_owned v owned)) [
       | inl f ↦ inl ((fresh_there bytes units 0 v).1 f)
       | inr b ↦ inr (b.owner, b.owns)
     ]
 
-    pub write_taken : (v : ℕ) → IsFreshOf v → IsOwned (rows_after rows ops) v
+    pub write_taken : (v : ℕ) → IsFreshOf v → IsOwned (width_of s) (rows_after rows ops) v
     write_taken v f = owned_after v
         ((written_owned s rows c o size extents w.present can_replace first bytes units is_written v).1 (inl ((fresh_there bytes units 0 v).0 f)))
 
-    pub write_left : (v : ℕ) → IsOwned rows v → IsOwned (rows_after rows ops) v ⊎ Contains released v
+    pub write_left : (v : ℕ) → IsOwned (width_of s) rows v → IsOwned (width_of s) (rows_after rows ops) v ⊎ Contains released v
     write_left v owned = elim (written_lost s rows c o size extents w.present can_replace first bytes units is_written v owned) [
       | inl after ↦ inl (owned_after v after)
       | inr x ↦ inr ((stood v).1 x)
     ]
 
-    module _ (v : ℕ) (sole : HasSoleOwner rows v) where
-      pub write_sole : HasSoleOwner (rows_after rows ops) v
+    module _ (v : ℕ) (sole : HasSoleOwner (width_of s) rows v) where
+      pub write_sole : HasSoleOwner (width_of s) (rows_after rows ops) v
       write_sole a b p q = written_sole s rows c o size extents w.present can_replace first bytes units is_written free v sole distinct a b
           ((same_owns a v).1 p) ((same_owns b v).1 q)
 
-      pub write_gone : Contains released v → IsOwned (rows_after rows ops) v → ⊥
+      pub write_gone : Contains released v → IsOwned (width_of s) (rows_after rows ops) v → ⊥
       write_gone k owned = written_released s rows c o size extents w.present can_replace first bytes units is_written free v sole
           ((stood v).0 k) (after_owned v owned)
 
@@ -281,7 +282,7 @@ module _ (s : Super) (rows : Rows) (c o : List ℕ) (first : ℕ) (bytes units :
           | inr out ↦ inl ((write_bits v small).1 (inl (still, λ has. cc)))
         ]
 
-    module _ (leaves : Rows) (exact : IsExactAs leaves rows) where
+    module _ (leaves : Rows) (exact : IsExactAs (width_of s) leaves rows) where
       same_bits : (v : ℕ) → IsMarked then v ↔ IsMarked rows v
       same_bits = then_bits s rows c o size extents w.present can_replace
 
@@ -289,7 +290,8 @@ module _ (s : Super) (rows : Rows) (c o : List ℕ) (first : ℕ) (bytes units :
       marked_left v small marked not_turned = (write_bits v small).1 (inl ((same_bits v).1 marked, not_turned))
 
       -- a marked unit is owned or leaked
-      after_marked : (v : ℕ) → v < 2 ^ 32 → IsMarked (rows_after rows ops) v → IsOwned (rows_after rows ops) v ⊎ (IsLeaked leaves v × ¬ IsOwned (rows_after rows ops) v)
+      after_marked : (v : ℕ) → v < 2 ^ 32 → IsMarked (rows_after rows ops) v
+          → IsOwned (width_of s) (rows_after rows ops) v ⊎ (IsLeaked (width_of s) leaves v × ¬ IsOwned (width_of s) (rows_after rows ops) v)
       after_marked v small is = elim ((write_bits v small).0 is) [
         | inl left ↦ elim (exact.marked v small ((same_bits v).0 left.0)) [
           | inl owned ↦ elim (write_left v owned) [
@@ -311,7 +313,7 @@ module _ (s : Super) (rows : Rows) (c o : List ℕ) (first : ℕ) (bytes units :
       ]
 
       -- an owned one is marked
-      after_owned_marked : (v : ℕ) → IsOwned (rows_after rows ops) v → IsMarked (rows_after rows ops) v
+      after_owned_marked : (v : ℕ) → IsOwned (width_of s) (rows_after rows ops) v → IsMarked (rows_after rows ops) v
       after_owned_marked v is =
           let small : v < 2 ^ 32 = omega (arith, (owned_is_data s (rows_after rows ops) v write_good is).1, can.units_most) in
           elim (write_owned v is) [
@@ -322,7 +324,7 @@ module _ (s : Super) (rows : Rows) (c o : List ℕ) (first : ℕ) (bytes units :
             ])
           ]
 
-      pub write_exact : IsExactAs leaves (rows_after rows ops)
+      pub write_exact : IsExactAs (width_of s) leaves (rows_after rows ops)
       write_exact = record {
         marked = after_marked;
         owned_marked = after_owned_marked;

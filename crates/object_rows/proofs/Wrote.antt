@@ -1,5 +1,7 @@
 -- Whole pages are written, or an object is made.
 use Rattle.std.proofs.Common.{◌≡◌, ◌⊎◌, inl, inr, ℕ, ◌+◌, ◌-◌, ◌*◌, ◌<◌, ◌≤◌, List, [], ◌∷◌, length, Option, Some, None, Ok, Err, is_some, unwrap_or, refl, sym, ap, subst, ◌∙◌, arith}
+use Rattle.meta_log.specs.Slots.{width_of}
+use Rattle.unit_fields.specs.declared.width.Width.{Width}
 use Rattle.std.specs.Prelude.{max, slice_index}
 use Rattle.std.specs.FinMap as map
 use Rattle.std.proofs.lemmas.Bool.{le-ltb, cases_lt}
@@ -86,12 +88,14 @@ module _ (s : Super) (rows : Rows) (c o : List ℕ) (size : ℕ) (extents : List
   before_is (Some old) e n (missing none) = absurd (let t = sym none ∙ (shape.present c o old e).size.stands in cc)
   before_is (Some old) e n (there m has) =
       let there_is = (shape.present c o old e).size in
-      let value : Some (row_value (onode c o m)) ≡ Some (row_value (onode c o (length old.bytes))) = sym has.stands ∙ there_is.stands in
-      let same : onode c o m ≡ onode c o (length old.bytes) = same_row (onode c o m) (onode c o (length old.bytes)) has.fits there_is.fits refl cc in cc
+      let value : Some (row_value (width_of s) (onode c o m)) ≡ Some (row_value (width_of s) (onode c o (length old.bytes))) =
+      sym has.stands ∙ there_is.stands in
+      let same : onode c o m ≡ onode c o (length old.bytes) =
+      same_row (width_of s) (onode c o m) (onode c o (length old.bytes)) has.fits there_is.fits refl cc in cc
 
   -- a missing object has no page
-  bytes_before : (at : ℕ → List ℕ) → ObjectsStand at rows objects → (x : Option Object) → object_under objects c o ≡ x
-      → AreObjectBytes at rows c o (bytes_of x)
+  bytes_before : (at : ℕ → List ℕ) → ObjectsStand (width_of s) at rows objects → (x : Option Object) → object_under objects c o ≡ x
+      → AreObjectBytes (width_of s) at rows c o (bytes_of x)
   bytes_before at stand (Some old) e = stand.bytes c o old e
   bytes_before at stand None e = record {
     mapped = λ page on is.
@@ -114,18 +118,19 @@ written_or_not first count page = elim (cases_lt page first) [
 ]
 
 module _ (s : Super) (rows : Rows) (c o : List ℕ) (size : ℕ) (extents : List Extent) (present : List ℕ) (can : CanReplace s rows c o size extents present)
-    (first : ℕ) (bytes units : List ℕ) (w : IsWritten rows c o first bytes units size extents) where
+    (first : ℕ) (bytes units : List ℕ) (w : IsWritten (width_of s) rows c o first bytes units size extents) where
   abbrev then : Rows
-  then = replaced rows c o size extents present
+  then = replaced (width_of s) rows c o size extents present
 
   new_place : ℕ → Place
   new_place i = own (slice_index units i) (crc32c (unit_at i bytes))
 
-  own_bytes : (at later_at : ℕ → List ℕ) → HoldPages at later_at rows bytes units → (old : List ℕ) → AreObjectBytes at rows c o old
-      → AreObjectBytes later_at then c o (overwritten old (4096 * first) bytes)
+  own_bytes : (at later_at : ℕ → List ℕ) → HoldPages (width_of s) at later_at rows bytes units → (old : List ℕ)
+      → AreObjectBytes (width_of s) at rows c o old
+      → AreObjectBytes (width_of s) later_at then c o (overwritten old (4096 * first) bytes)
   own_bytes at later_at hold old was = record {
     mapped = λ page on is.
-        let found = (then_pages s rows c o size extents present can page (own on.unit on.csum)).0 (own_of then c o page on is) in
+        let found = (then_pages s rows c o size extents present can page (own on.unit on.csum)).0 (own_of (width_of s) then c o page on is) in
         elim (written_or_not first (length units) page) [
           | inl p ↦
               let page_is : page_bytes (overwritten old (4096 * first) bytes) page ≡ unit_at p.0 bytes =
@@ -141,9 +146,9 @@ module _ (s : Super) (rows : Rows) (c o : List ℕ) (size : ℕ) (extents : List
           | inr out ↦
               let page_is = page_outside old bytes first (length units) w.some w.whole page out in
               let stood = (w.outside page (own on.unit on.csum) out).0 found in
-              let was_on = on_own rows c o page on.unit on.csum stood in
+              let was_on = on_own (width_of s) rows c o page on.unit on.csum stood in
               let seen = was.mapped page on was_on in
-              let has : HasPage rows on.unit = record { coll = c; object = o; page = page; on = on; is_on = was_on; is_unit = refl } in
+              let has : HasPage (width_of s) rows on.unit = record { coll = c; object = o; page = page; on = on; is_on = was_on; is_unit = refl } in
               record {
                 seen = page_is ∙ seen.seen ∙ sym (hold.kept on.unit has);
                 kept = ap crc32c page_is ∙ seen.kept;
@@ -151,11 +156,12 @@ module _ (s : Super) (rows : Rows) (c o : List ℕ) (size : ℕ) (extents : List
         ];
     holes = λ page hole. elim (written_or_not first (length units) page) [
       | inl p ↦ absurd (hole (record { unit = slice_index units p.0; csum = crc32c (unit_at p.0 bytes) })
-          (on_own then c o page _ _ ((then_pages s rows c o size extents present can page _).1 (ap (place_of extents) p.2 ∙ w.inside p.0 p.1))))
+          (on_own (width_of s) then c o page _ _
+          ((then_pages s rows c o size extents present can page _).1 (ap (place_of extents) p.2 ∙ w.inside p.0 p.1))))
       | inr out ↦ page_outside old bytes first (length units) w.some w.whole page out
-          ∙ was.holes page (λ on is. hole on (on_own then c o page on.unit on.csum
+          ∙ was.holes page (λ on is. hole on (on_own (width_of s) then c o page on.unit on.csum
           ((then_pages s rows c o size extents present can page (own on.unit on.csum)).1
-          ((w.outside page (own on.unit on.csum) out).1 (own_of rows c o page on is)))))
+          ((w.outside page (own on.unit on.csum) out).1 (own_of (width_of s) rows c o page on is)))))
     ];
   }
 
@@ -165,44 +171,47 @@ module _ (s : Super) (rows : Rows) (c o : List ℕ) (size : ℕ) (extents : List
   long : (old : List ℕ) → w.before ≡ length old → length (overwritten old (4096 * first) bytes) ≡ size
   long old is = over_length old bytes (4096 * first) (omega (arith, w.whole, w.some)) ∙ omega (arith, is, w.size_is, w.whole)
 
-  pub pages_stand : (at later_at : ℕ → List ℕ) (objects later : Objects) → HoldPages at later_at rows bytes units → ObjectsStand at rows objects
-      → transaction_effect (write_change c o first bytes) objects ≡ Ok later → ObjectsStand later_at then later
+  pub pages_stand : (at later_at : ℕ → List ℕ) (objects later : Objects) → HoldPages (width_of s) at later_at rows bytes units
+      → ObjectsStand (width_of s) at rows objects
+      → transaction_effect (write_change c o first bytes) objects ≡ Ok later → ObjectsStand (width_of s) later_at then later
   pages_stand at later_at objects later hold stand is =
       let e = write_after objects later c o first bytes (room w.before w.size_is) is in
       let under = under_is objects c o e.0 e.1 in
       let old : List ℕ = bytes_of (map.get e.0 o) in
-      let was : AreObjectBytes at rows c o old = bytes_before s rows c o size extents present can objects stand.shape at stand (map.get e.0 o) under in
+      let was : AreObjectBytes (width_of s) at rows c o old =
+      bytes_before s rows c o size extents present can objects stand.shape at stand (map.get e.0 o) under in
       let sized : w.before ≡ length old = before_is s rows c o size extents present can objects stand.shape (map.get e.0 o) under w.before w.was_long in
-      subst (ObjectsStand later_at then) (sym e.2)
+      subst (ObjectsStand (width_of s) later_at then) (sym e.2)
       (later_stand s rows c o size extents present can (overwritten old (4096 * first) bytes) (long old sized) objects stand.shape e.0 e.1 at later_at
       hold.kept (own_bytes at later_at hold old was) stand.bytes)
 
 -- ---- an object is made
 
 module _ (s : Super) (rows : Rows) (c o : List ℕ) (present : List ℕ) (can : CanReplace s rows c o 0 [] present) where
-  none_own : (at : ℕ → List ℕ) → AreObjectBytes at (replaced rows c o 0 [] present) c o []
+  none_own : (at : ℕ → List ℕ) → AreObjectBytes (width_of s) at (replaced (width_of s) rows c o 0 [] present) c o []
   none_own at = record {
     mapped = λ page on is. absurd (let e = (then_pages s rows c o 0 [] present can page is.place).0 is.at in cc);
     holes = λ page hole. no_pages page;
   }
 
-  pub made_stand : (at : ℕ → List ℕ) (objects later : Objects) → map.get rows (onode_key c o) ≡ None → ObjectsStand at rows objects
-      → transaction_effect (touch_change c o) objects ≡ Ok later → ObjectsStand at (replaced rows c o 0 [] present) later
+  pub made_stand : (at : ℕ → List ℕ) (objects later : Objects) → map.get rows (onode_key c o) ≡ None → ObjectsStand (width_of s) at rows objects
+      → transaction_effect (touch_change c o) objects ≡ Ok later → ObjectsStand (width_of s) at (replaced (width_of s) rows c o 0 [] present) later
   made_stand at objects later none stand is =
       let e = touch_after objects later c o is in
       let none_there : map.get e.0 o ≡ None = no_object (map.get e.0 o) (under_is objects c o e.0 e.1) in
       let same : unwrap_or (map.get e.0 o) empty_object ≡ with_bytes (map.get e.0 o) [] =
       ap (λ x. unwrap_or x empty_object) none_there ∙ sym (ap (λ x. with_bytes x []) none_there) in
-      subst (ObjectsStand at (replaced rows c o 0 [] present)) (sym (e.2 ∙ ap (with_object objects c o e.0) same))
+      subst (ObjectsStand (width_of s) at (replaced (width_of s) rows c o 0 [] present)) (sym (e.2 ∙ ap (with_object objects c o e.0) same))
       (later_stand s rows c o 0 [] present can [] refl objects stand.shape e.0 e.1 at at (λ v has. refl) (none_own at) stand.bytes)
     where
       no_object : (x : Option Object) → object_under objects c o ≡ x → x ≡ None
       no_object None p = refl
       no_object (Some old) p = absurd (let t = sym none ∙ (stand.shape.present c o old p).size.stands in cc)
 
-pub touched_same : (at : ℕ → List ℕ) (rows : Rows) (objects later : Objects) (c o : List ℕ) → IsCollName c → IsName o → HasKey rows (onode_key c o)
-    → ObjectsStand at rows objects → transaction_effect (touch_change c o) objects ≡ Ok later → later ≡ objects
-touched_same at rows objects later c o coll name has stand is =
+pub touched_same : (w : Width) (at : ℕ → List ℕ) (rows : Rows) (objects later : Objects) (c o : List ℕ) → IsCollName c → IsName o
+    → HasKey rows (onode_key c o)
+    → ObjectsStand w at rows objects → transaction_effect (touch_change c o) objects ≡ Ok later → later ≡ objects
+touched_same w at rows objects later c o coll name has stand is =
     let e = touch_after objects later c o is in
     let found = an_object (map.get e.0 o) (under_is objects c o e.0 e.1) in
     e.2

@@ -1,5 +1,6 @@
 -- Objects as rows say them, what an operation makes of one, and the rows then.
 use Rattle.std.specs.Prelude.{◌≡◌, ◌⊎◌, ℕ, ◌+◌, ◌/◌, ◌<◌, ◌^◌, ◌==◌, ◌&&◌, max, not, Bool, true, false, List, [], ◌++◌, length, Option, Some, None}
+use Rattle.unit_fields.specs.declared.width.Width.{Width}
 use Rattle.std.specs.List.{flat_map}
 use Rattle.std.specs.Int.{w64, to_le_bytes}
 use Rattle.std.specs.Ordering.{nat_cmp}
@@ -29,9 +30,9 @@ pub record Layout : Type 0 where
   pub pages : PageMap
 
 -- the rows give the object this layout; one that is missing has no bytes and no pages
-pub record HasLayout (rows : Rows) (c o : List ℕ) (x : Layout) : Type 0 where
+pub record HasLayout (w : Width) (rows : Rows) (c o : List ℕ) (x : Layout) : Type 0 where
   pub was_long : IsSizeOf rows c o x.size
-  pub are_pages : IsMapOf rows c o x.pages
+  pub are_pages : IsMapOf w rows c o x.pages
 
 -- What an operation makes of a layout, on these units. The operations that the store knows so far are a write of whole pages, each of which
 -- comes on its unit, and a touch, which leaves the layout as it is.
@@ -60,18 +61,18 @@ units_left old new = flat_map (λ p. own_units p.1) (where_key nat_cmp (is_moved
 
 -- What an object's rows are when they are replaced: its onode says this size, and its one shard, which is where the extents begin, has them
 -- all. Each other row is as it was.
-pub record AreReplaced (rows after : Rows) (c o : List ℕ) (size : ℕ) (extents : List Extent) : Type 0 where
+pub record AreReplaced (w : Width) (rows after : Rows) (c o : List ℕ) (size : ℕ) (extents : List Extent) : Type 0 where
   pub onode : finite.get after (onode_key c o) ≡ Some (to_le_bytes w64 size)
-  pub shard : (page : ℕ) → BeginsAt page extents → finite.get after (shard_key c o page) ≡ Some (flat_map extent_bytes extents)
+  pub shard : (page : ℕ) → BeginsAt page extents → finite.get after (shard_key c o page) ≡ Some (flat_map (extent_bytes w) extents)
   pub no_other : (page : ℕ) → page < 2 ^ 32 → (BeginsAt page extents → ⊥) → finite.get after (shard_key c o page) ≡ None
   pub others : (key : List ℕ) → IsKeyOf c o key ⊎ (finite.get after key ≡ finite.get rows key)
 
 -- The rows after an object of this layout gets that one: they stay where the object is there and its layout does, and else its rows are
 -- replaced.
-pub data GetsLayout (rows : Rows) (c o : List ℕ) (x y : Layout) : Rows → Type 0 where
-  stays : HasKey rows (onode_key c o) → x ≡ y → GetsLayout rows c o x y rows
+pub data GetsLayout (w : Width) (rows : Rows) (c o : List ℕ) (x y : Layout) : Rows → Type 0 where
+  stays : HasKey rows (onode_key c o) → x ≡ y → GetsLayout w rows c o x y rows
   replaces : (after : Rows) → (finite.get rows (onode_key c o) ≡ None) ⊎ (¬ (x ≡ y))
-      → AreReplaced rows after c o y.size (extents_of (finite.entries y.pages)) → GetsLayout rows c o x y after
+      → AreReplaced w rows after c o y.size (extents_of (finite.entries y.pages)) → GetsLayout w rows c o x y after
 
 -- The plan puts in the row of a collection: its operations are the difference of the rows, and it takes no unit and releases none.
 pub record MakesColl (rows : Rows) (c : List ℕ) (plan : Plan) : Type 0 where
@@ -81,9 +82,9 @@ pub record MakesColl (rows : Rows) (c : List ℕ) (plan : Plan) : Type 0 where
 
 -- The plan turns the one layout into the other, on these units: its operations are the difference of the rows, and behind it those that turn
 -- the bits of the units that are taken and of those that are left, whose keys are behind all others.
-pub record MakesLayout (rows : Rows) (c o : List ℕ) (x y : Layout) (units : List ℕ) (plan : Plan) : Type 0 where
+pub record MakesLayout (w : Width) (rows : Rows) (c o : List ℕ) (x y : Layout) (units : List ℕ) (plan : Plan) : Type 0 where
   pub after : Rows
-  pub gets : GetsLayout rows c o x y after
+  pub gets : GetsLayout w rows c o x y after
   pub difference : List RowOp
   pub is_difference : IsDifference rows after difference
   pub flips : List RowOp

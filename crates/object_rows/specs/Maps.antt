@@ -1,5 +1,6 @@
 -- The page map of an object as its rows say it, and as a write changes it.
 use Rattle.std.specs.Prelude.{◌≡◌, ◌⊎◌, ◌↔◌, ℕ, ◌+◌, ◌*◌, ◌<◌, ◌≤◌, ◌^◌, max, List, [], ◌∷◌, length, map, Some, Contains, slice_index}
+use Rattle.unit_fields.specs.declared.width.Width.{Width}
 use Rattle.std.specs.List.{flat_map, AllByRecursion}
 use Rattle.std.specs.FinMap as finite
 use Rattle.byte_maps.specs.Units.{unit_at}
@@ -10,8 +11,7 @@ use Rattle.object_model.specs.Effect.{object_limit}
 use Rattle.unit_fields.specs.Names.{IsName, IsCollName}
 use Rattle.row_format.specs.Keys.{coll_key}
 use Rattle.row_format.specs.Extents.{Extent, Place, own}
-use Rattle.row_format.specs.Row.{shard}
-use Rattle.store_image.specs.Pages.{HasKey, HasRow, IsPageAt}
+use Rattle.store_image.specs.Pages.{HasKey, HasShard, IsPageAt}
 use Rattle.store_image.specs.BadRows.{NoBadRow}
 use Rattle.store_image.specs.Owners.{IsDataUnit}
 use Rattle.blob_map.specs.Pages.{PageMap}
@@ -26,9 +26,9 @@ Rise [] = Unit {0}
 Rise (x ∷ xs) = AllByRecursion (λ later. x.0 < later.0) xs × Rise xs
 
 -- the object's shards, all of them: the first page of each, and its extents
-pub record AreShardsOf (rows : Rows) (c o : List ℕ) (shards : List (ℕ × List Extent)) : Type 0 where
-  pub there : AllByRecursion (λ x. HasRow rows (shard c o x.0 x.1)) shards
-  pub all : (page : ℕ) (es : List Extent) → HasRow rows (shard c o page es) → Contains shards (page, es)
+pub record AreShardsOf (w : Width) (rows : Rows) (c o : List ℕ) (shards : List (ℕ × List Extent)) : Type 0 where
+  pub there : AllByRecursion (λ x. HasShard w rows c o x.0 x.1) shards
+  pub all : (page : ℕ) (es : List Extent) → HasShard w rows c o page es → Contains shards (page, es)
   pub rise : Rise shards
 
 -- their extents, one shard's behind the other's
@@ -42,8 +42,8 @@ first_pages shards = map (λ x. x.0) shards
 -- ---- maps
 
 -- the map has the object's pages, each in its place
-abbrev pub IsMapOf : Rows → List ℕ → List ℕ → PageMap → Type 0
-IsMapOf rows c o pages = (page : ℕ) (place : Place) → (finite.get pages page ≡ Some place) ↔ IsPageAt rows c o page place
+abbrev pub IsMapOf : Width → Rows → List ℕ → List ℕ → PageMap → Type 0
+IsMapOf w rows c o pages = (page : ℕ) (place : Place) → (finite.get pages page ≡ Some place) ↔ IsPageAt w rows c o page place
 
 -- the map after whole pages are written from the first on, each on its unit
 pub record IsMapWritten (old new : PageMap) (first : ℕ) (bytes units : List ℕ) : Type 0 where

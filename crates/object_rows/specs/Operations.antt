@@ -1,6 +1,9 @@
 -- The row operations that replace an object's onode and extents.
 use Rattle.std.specs.Prelude.{◌≡◌, ◌⊎◌, ℕ, ◌<◌, ◌≤◌, ◌^◌, nat_lt, Bool, false, List, [], ◌∷◌, ◌++◌, map, filter, Contains, Some, if◌then◌else◌}
+use Rattle.meta_log.specs.Slots.{width_of}
+use Rattle.unit_fields.specs.declared.width.Width.{Width}
 use Rattle.std.specs.List.{AllByRecursion}
+use Rattle.std.specs.Int.{w64, to_le_bytes}
 use Rattle.std.specs.Option.{option_map_or}
 use Rattle.std.specs.FinMap as finite
 use Rattle.std.specs.declared.cmp.Ordering.TheVariants.{Less}
@@ -13,15 +16,15 @@ use Rattle.object_model.specs.Effect.{object_limit, is_same}
 use Rattle.unit_fields.specs.Names.{IsName, IsCollName}
 use Rattle.row_format.specs.Keys.{coll_key, onode_key, shard_key}
 use Rattle.row_format.specs.Extents.{Extent, FitsExtent, ExtentsAscend, own, place_of, page_end}
-use Rattle.row_format.specs.Row.{Row, onode, shard, row_key, row_value}
+use Rattle.row_format.specs.Row.{shard}
 use Rattle.store_image.specs.Pages.{HasKey, pages_of}
 use Rattle.store_image.specs.BadRows.{NoBadRow, IsOnData}
 use Rattle.store_image.specs.Owners.{page_of, Owns}
-use Rattle.row_facts.specs.Operations.{set_row}
+use Rattle.row_facts.specs.Operations.{set_row, set_onode}
 
--- whether the rows say this
-abbrev pub says : Rows → Row → Bool
-says rows row = option_map_or (λ value. is_same value (row_value row)) (finite.get rows (row_key row)) false
+-- whether the rows have this value under this key
+abbrev pub says : Rows → List ℕ → List ℕ → Bool
+says rows key value = option_map_or (λ there. is_same there value) (finite.get rows key) false
 
 -- these shards of an object go
 abbrev pub drops : List ℕ → List ℕ → List ℕ → List RowOp
@@ -29,18 +32,18 @@ drops c o pages = map (λ page. Drop (shard_key c o page)) pages
 
 -- the object's onode, where there is none, or one of another size
 abbrev pub onode_ops : Rows → List ℕ → List ℕ → ℕ → List RowOp
-onode_ops rows c o size = if says rows (onode c o size) then [] else set_row (onode c o size) ∷ []
+onode_ops rows c o size = if says rows (onode_key c o) (to_le_bytes w64 size) then [] else set_onode c o size ∷ []
 
 -- The one shard with all extents, if there are any, in the place of the present ones: the operations are in the order of their keys
 -- where the present ones are.
-abbrev pub shard_ops : List ℕ → List ℕ → List Extent → List ℕ → List RowOp
-shard_ops c o [] present = drops c o present
-shard_ops c o (e ∷ es) present = drops c o (filter (λ page. nat_lt page e.first) present)
-    ++ (set_row (shard c o e.first (e ∷ es)) ∷ drops c o (filter (nat_lt e.first) present))
+abbrev pub shard_ops : Width → List ℕ → List ℕ → List Extent → List ℕ → List RowOp
+shard_ops w c o [] present = drops c o present
+shard_ops w c o (e ∷ es) present = drops c o (filter (λ page. nat_lt page e.first) present)
+    ++ (set_row w (shard c o e.first (e ∷ es)) ∷ drops c o (filter (nat_lt e.first) present))
 
 -- an object with this size and these extents, in the place of what the rows have of it: `present` are the first pages of its shards
-abbrev pub object_ops : Rows → List ℕ → List ℕ → ℕ → List Extent → List ℕ → List RowOp
-object_ops rows c o size extents present = onode_ops rows c o size ++ shard_ops c o extents present
+abbrev pub object_ops : Width → Rows → List ℕ → List ℕ → ℕ → List Extent → List ℕ → List RowOp
+object_ops w rows c o size extents present = onode_ops rows c o size ++ shard_ops w c o extents present
 
 -- the first pages of the object's shards
 pub record AreShards (rows : Rows) (c o : List ℕ) (present : List ℕ) : Type 0 where
@@ -55,15 +58,15 @@ pub record CanReplace (s : Super) (rows : Rows) (c o : List ℕ) (size : ℕ) (e
   pub object_name : IsName o
   pub has_collection : HasKey rows (coll_key c)
   pub size_most : size ≤ object_limit
-  pub fit : AllByRecursion FitsExtent extents
+  pub fit : AllByRecursion (FitsExtent (width_of s)) extents
   pub ascend : ExtentsAscend extents
   pub within : AllByRecursion (λ e. page_end e ≤ pages_of size) extents
   pub on_data : AllByRecursion (λ e. IsOnData s e.body) extents
   pub shards : AreShards rows c o present
 
 -- the rows then
-abbrev pub replaced : Rows → List ℕ → List ℕ → ℕ → List Extent → List ℕ → Rows
-replaced rows c o size extents present = rows_after rows (object_ops rows c o size extents present)
+abbrev pub replaced : Width → Rows → List ℕ → List ℕ → ℕ → List Extent → List ℕ → Rows
+replaced w rows c o size extents present = rows_after rows (object_ops w rows c o size extents present)
 
 -- the key is that of the object's onode, or of one of its shards
 abbrev pub IsKeyOf : List ℕ → List ℕ → List ℕ → Type 0
@@ -80,12 +83,12 @@ pub record HasUnit (extents : List Extent) (unit : ℕ) : Type 0 where
   pub there : place_of extents page ≡ Some (own unit csum)
 
 -- an object other than this one owns the unit
-pub record IsOwnedElsewhere (rows : Rows) (c o : List ℕ) (unit : ℕ) : Type 0 where
+pub record IsOwnedElsewhere (w : Width) (rows : Rows) (c o : List ℕ) (unit : ℕ) : Type 0 where
   pub coll : List ℕ
   pub object : List ℕ
   pub page : ℕ
   pub other : IsOther c o coll object
-  pub owns : Owns rows (page_of coll object page) unit
+  pub owns : Owns w rows (page_of coll object page) unit
 
 -- no two pages of these extents stand on the unit
 abbrev pub StandsAlone : List Extent → ℕ → Type 0

@@ -1,5 +1,6 @@
 -- What a transaction is turned into before it is committed.
 use Rattle.std.specs.Prelude.{◌≡◌, ℕ, ◌+◌, ◌*◌, ◌/◌, ◌%◌, ◌<◌, ◌≤◌, ◌^◌, List, [], ◌∷◌, length, map, None, Any, slice_index}
+use Rattle.meta_log.specs.Slots.{width_of}
 use Rattle.std.specs.List.{AllByRecursion}
 use Rattle.std.specs.FinMap as finite
 use Rattle.byte_maps.specs.Units.{unit_at}
@@ -29,7 +30,7 @@ pages_on (u ∷ us) i bytes = record { unit = u; bytes = unit_at i bytes } ∷ p
 pub record AreFresh (s : Super) (rows : Rows) (units : List ℕ) : Type 0 where
   pub ascend : Ascends units
   pub on_data : AllByRecursion (λ u. IsDataUnit s u) units
-  pub free : AllByRecursion (λ u. ¬ IsOwned rows u) units
+  pub free : AllByRecursion (λ u. ¬ IsOwned (width_of s) rows u) units
   pub unmarked : AllByRecursion (λ u. ¬ IsMarked rows u) units
   pub fit : AllByRecursion (λ u. u < 2 ^ 32) units
 
@@ -72,8 +73,9 @@ bytes_of op = []
 pub data IsPlanned (s : Super) (rows : Rows) : Change → Plan → Type 0 where
   makes_coll : (c : List ℕ) (plan : Plan) → IsCollName c → finite.get rows (coll_key c) ≡ None → MakesColl rows c plan
       → IsPlanned s rows (coll_change c) plan
-  changes_object : (c : List ℕ) (op : Op) (units : List ℕ) (x : Layout) (plan : Plan) → CanPlan s rows c op units → HasLayout rows c (object_of op) x
-      → MakesLayout rows c (object_of op) x (made_of op units x) units plan → plan.fresh ≡ pages_on units 0 (bytes_of op)
+  changes_object : (c : List ℕ) (op : Op) (units : List ℕ) (x : Layout) (plan : Plan) → CanPlan s rows c op units
+      → HasLayout (width_of s) rows c (object_of op) x
+      → MakesLayout (width_of s) rows c (object_of op) x (made_of op units x) units plan → plan.fresh ≡ pages_on units 0 (bytes_of op)
       → IsPlanned s rows (record { coll = c; ops = op ∷ [] }) plan
 
 -- the fresh units hold their bytes

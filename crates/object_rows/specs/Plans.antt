@@ -1,5 +1,6 @@
 -- The operations that planning gives: those on an object, and behind them those on the bitmap.
 use Rattle.std.specs.Prelude.{◌≡◌, ◌↔◌, ◌⊎◌, ℕ, ◌+◌, ◌*◌, max, List, [], ◌∷◌, ◌++◌, length, Contains, if◌then◌else◌}
+use Rattle.unit_fields.specs.declared.width.Width.{Width}
 use Rattle.std.specs.List.{AllByRecursion, flat_map}
 use Rattle.std.specs.Ordering.{nat_cmp}
 use Rattle.std.specs.FinMap as finite
@@ -16,7 +17,7 @@ use Rattle.row_format.specs.Extents.{Place, own}
 use Rattle.bitmap_freelist.specs.Bitmap.{Units, Has, AreFlips}
 use Rattle.blob_map.specs.Pages.{PageMap, with_pages}
 use Rattle.blob_map.specs.Normal.{extents_of}
-use Rattle.object_rows.specs.Operations.{object_ops, AreShards}
+use Rattle.object_rows.specs.Operations.{onode_ops, object_ops, AreShards}
 use Rattle.object_rows.specs.Maps.{IsMapOf}
 use Rattle.object_rows.specs.Writes.{IsSizeOf}
 
@@ -42,10 +43,10 @@ pub record TurnsBits (taken released : List ℕ) (flips : List RowOp) : Type 0 w
 -- The operations that write whole pages from one on: the pages stand on these units, one each, and the units that they stood on are
 -- released. The other pages stay where they are, and all are in one shard. Behind the object's operations stand those on the bitmap, whose keys
 -- are behind all others.
-pub record WritesPages (rows : Rows) (c o : List ℕ) (first : ℕ) (bytes units : List ℕ) (ops : List RowOp) (released : List ℕ)
+pub record WritesPages (w : Width) (rows : Rows) (c o : List ℕ) (first : ℕ) (bytes units : List ℕ) (ops : List RowOp) (released : List ℕ)
     : Type 0 where
   pub pages : PageMap
-  pub are_pages : IsMapOf rows c o pages
+  pub are_pages : IsMapOf w rows c o pages
   pub present : List ℕ
   pub are_shards : AreShards rows c o present
   pub there : AllByRecursion (λ page. HasKey rows (shard_key c o page)) present
@@ -54,10 +55,10 @@ pub record WritesPages (rows : Rows) (c o : List ℕ) (first : ℕ) (bytes units
   pub was_long : IsSizeOf rows c o before
   pub flips : List RowOp
   pub turns : TurnsBits units released flips
-  pub ops_are : ops ≡ object_ops rows c o (max before (4096 * (first + length units)))
+  pub ops_are : ops ≡ object_ops w rows c o (max before (4096 * (first + length units)))
       (extents_of (finite.entries (with_pages pages (new_pages first 0 units bytes)))) present ++ flips
   pub released_are : released ≡ units_between pages first (length units)
 
 -- the operations that touch an object: none where it is there, and an onode of no bytes where it isn't
 abbrev pub touch_ops : Rows → List ℕ → List ℕ → List RowOp
-touch_ops rows c o = if finite.contains_key rows (onode_key c o) then [] else object_ops rows c o 0 [] []
+touch_ops rows c o = if finite.contains_key rows (onode_key c o) then [] else onode_ops rows c o 0

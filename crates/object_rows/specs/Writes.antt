@@ -1,5 +1,6 @@
 -- Writes of whole pages, and the making of an object.
 use Rattle.std.specs.Prelude.{◌≡◌, ◌⊎◌, ◌↔◌, ℕ, ◌+◌, ◌*◌, ◌<◌, ◌≤◌, max, List, [], ◌∷◌, length, None, Some, slice_index}
+use Rattle.unit_fields.specs.declared.width.Width.{Width}
 use Rattle.std.specs.FinMap as finite
 use Rattle.byte_maps.specs.Units.{unit_at}
 use Rattle.crc32c_csum.specs.Crc32c.{crc32c}
@@ -8,8 +9,7 @@ use Rattle.object_model.specs.declared.op.Op.TheVariants.{Touch, Write}
 use Rattle.object_model.specs.Effect.{Change}
 use Rattle.row_format.specs.Keys.{onode_key}
 use Rattle.row_format.specs.Extents.{Extent, Place, own, place_of}
-use Rattle.row_format.specs.Row.{onode}
-use Rattle.store_image.specs.Pages.{HasRow, IsPageAt, HasPage}
+use Rattle.store_image.specs.Pages.{HasOnode, IsPageAt, HasPage}
 use Rattle.store_image.specs.Owners.{Owner, page_of, Owns}
 use Rattle.object_rows.specs.Operations.{IsOther}
 
@@ -24,11 +24,11 @@ touch_change c o = record { coll = c; ops = Touch o ∷ [] }
 -- the object has so many bytes, or is missing and has none
 pub data IsSizeOf (rows : Rows) (c o : List ℕ) : ℕ → Type 0 where
   missing : finite.get rows (onode_key c o) ≡ None → IsSizeOf rows c o 0
-  there : (size : ℕ) → HasRow rows (onode c o size) → IsSizeOf rows c o size
+  there : (size : ℕ) → HasOnode rows c o size → IsSizeOf rows c o size
 
 -- The extents are those of the object's pages after whole pages are written from the first on, each on its unit. The other pages stand
 -- where they did. The object is at least as long as its last page that is written.
-pub record IsWritten (rows : Rows) (c o : List ℕ) (first : ℕ) (bytes units : List ℕ) (size : ℕ) (extents : List Extent) : Type 0 where
+pub record IsWritten (w : Width) (rows : Rows) (c o : List ℕ) (first : ℕ) (bytes units : List ℕ) (size : ℕ) (extents : List Extent) : Type 0 where
   pub some : 0 < length units
   pub whole : length bytes ≡ 4096 * length units
   pub before : ℕ
@@ -37,12 +37,12 @@ pub record IsWritten (rows : Rows) (c o : List ℕ) (first : ℕ) (bytes units :
   pub inside : (i : ℕ) → i < length units
       → place_of extents (first + i) ≡ Some (own (slice_index units i) (crc32c (unit_at i bytes)))
   pub outside : (page : ℕ) (place : Place) → (page < first) ⊎ (first + length units ≤ page)
-      → (place_of extents page ≡ Some place) ↔ IsPageAt rows c o page place
+      → (place_of extents page ≡ Some place) ↔ IsPageAt w rows c o page place
 
 -- the units hold the pages that were written, and those on which pages stood hold what they held
-pub record HoldPages (at later_at : ℕ → List ℕ) (rows : Rows) (bytes units : List ℕ) : Type 0 where
+pub record HoldPages (w : Width) (at later_at : ℕ → List ℕ) (rows : Rows) (bytes units : List ℕ) : Type 0 where
   pub fresh : (i : ℕ) → i < length units → later_at (slice_index units i) ≡ unit_at i bytes
-  pub kept : (unit : ℕ) → HasPage rows unit → later_at unit ≡ at unit
+  pub kept : (unit : ℕ) → HasPage w rows unit → later_at unit ≡ at unit
 
 -- no two of these units are the same
 abbrev pub AreDistinct : List ℕ → Type 0
@@ -53,13 +53,13 @@ abbrev pub IsLeft : List ℕ → List ℕ → ℕ → ℕ → Owner → Type 0
 IsLeft c o first count (page_of d u page) = IsOther c o d u ⊎ ((page < first) ⊎ (first + count ≤ page))
 
 -- an owner that is none of the pages that are written has the unit
-pub record IsOwnedBesidesWritten (rows : Rows) (c o : List ℕ) (first count unit : ℕ) : Type 0 where
+pub record IsOwnedBesidesWritten (w : Width) (rows : Rows) (c o : List ℕ) (first count unit : ℕ) : Type 0 where
   pub owner : Owner
   pub left : IsLeft c o first count owner
-  pub owns : Owns rows owner unit
+  pub owns : Owns w rows owner unit
 
 -- one of the pages that are written stood on the unit
-pub record StoodWritten (rows : Rows) (c o : List ℕ) (first count unit : ℕ) : Type 0 where
+pub record StoodWritten (w : Width) (rows : Rows) (c o : List ℕ) (first count unit : ℕ) : Type 0 where
   pub index : ℕ
   pub small : index < count
-  pub owns : Owns rows (page_of c o (first + index)) unit
+  pub owns : Owns w rows (page_of c o (first + index)) unit

@@ -26,6 +26,7 @@ ghost use Rattle.object_rows.specs.Plans.{WritesPages, touch_ops};
 ghost use Rattle.object_rows.specs.Writes.{write_change, touch_change};
 ghost use Rattle.object_rows.specs.declared.plan.Plan.{Plan};
 ghost use Rattle.object_rows.specs.Planned.{CanPlanWrite, IsInColl, IsPlanned, HoldsFresh, IsFresh, StandsOnce, fresh_units};
+ghost use Rattle.meta_log.specs.Slots.{width_of};
 
 /// A planned transaction is accepted, its operations leave no bad row, and rows that stand for the objects after it, once its
 /// fresh units hold their bytes, and those on which pages stand what they held.
@@ -38,42 +39,42 @@ pub fn planned_rows()
         → submitted_effect change objects ≡ transaction_effect change objects }
     ensures stand { (s : Super) (at later_at : ℕ → List ℕ) (rows : Rows) (objects after : Objects) (change : Change) (plan : Plan)
         → IsPlanned s rows change plan → NoBadRow s rows
-        → HoldsFresh later_at plan → ((unit : ℕ) → HasPage rows unit → later_at unit ≡ at unit)
-        → ObjectsStand at rows objects → transaction_effect change objects ≡ Ok after
-        → ObjectsStand later_at (rows_after rows plan.ops) after }
+        → HoldsFresh later_at plan → ((unit : ℕ) → HasPage (width_of s) rows unit → later_at unit ≡ at unit)
+        → ObjectsStand (width_of s) at rows objects → transaction_effect change objects ≡ Ok after
+        → ObjectsStand (width_of s) later_at (rows_after rows plan.ops) after }
 {}
 
 /// Its fresh units are data units that nobody owned, in ascending order, with a page for each; they have an owner after. Whose owner
 /// goes is released, and had one. Who owns a unit after it owned it before, or the unit is fresh.
 pub fn planned_units()
     ensures fresh { (s : Super) (rows : Rows) (change : Change) (plan : Plan) → IsPlanned s rows change plan
-        → AllByRecursion (λ f. IsDataUnit s f.unit × ¬ IsOwned rows f.unit × (length f.bytes ≡ 4096)) plan.fresh }
+        → AllByRecursion (λ f. IsDataUnit s f.unit × ¬ IsOwned (width_of s) rows f.unit × (length f.bytes ≡ 4096)) plan.fresh }
     ensures ascend { (s : Super) (rows : Rows) (change : Change) (plan : Plan) → IsPlanned s rows change plan → Ascends (fresh_units plan) }
     ensures taken { (s : Super) (rows : Rows) (change : Change) (plan : Plan) (unit : ℕ) → IsPlanned s rows change plan → NoBadRow s rows
-        → IsFresh plan unit → IsOwned (rows_after rows plan.ops) unit }
+        → IsFresh plan unit → IsOwned (width_of s) (rows_after rows plan.ops) unit }
     ensures released { (s : Super) (rows : Rows) (change : Change) (plan : Plan) (unit : ℕ) → IsPlanned s rows change plan
-        → Contains plan.released unit → IsOwned rows unit }
+        → Contains plan.released unit → IsOwned (width_of s) rows unit }
     ensures owned { (s : Super) (rows : Rows) (change : Change) (plan : Plan) (unit : ℕ) → IsPlanned s rows change plan → NoBadRow s rows
-        → IsOwned (rows_after rows plan.ops) unit → IsFresh plan unit ⊎ IsOwned rows unit }
+        → IsOwned (width_of s) (rows_after rows plan.ops) unit → IsFresh plan unit ⊎ IsOwned (width_of s) rows unit }
     ensures left { (s : Super) (rows : Rows) (change : Change) (plan : Plan) (unit : ℕ) → IsPlanned s rows change plan → NoBadRow s rows
-        → IsOwned rows unit → IsOwned (rows_after rows plan.ops) unit ⊎ Contains plan.released unit }
+        → IsOwned (width_of s) rows unit → IsOwned (width_of s) (rows_after rows plan.ops) unit ⊎ Contains plan.released unit }
 {}
 
 /// A unit that hasn't two owners before has not two after. If it is released it has none after, and is released once.
 pub fn planned_owners()
     ensures sole { (s : Super) (rows : Rows) (change : Change) (plan : Plan) (unit : ℕ) → IsPlanned s rows change plan → NoBadRow s rows
-        → HasSoleOwner rows unit → HasSoleOwner (rows_after rows plan.ops) unit }
+        → HasSoleOwner (width_of s) rows unit → HasSoleOwner (width_of s) (rows_after rows plan.ops) unit }
     ensures gone { (s : Super) (rows : Rows) (change : Change) (plan : Plan) (unit : ℕ) → IsPlanned s rows change plan → NoBadRow s rows
-        → HasSoleOwner rows unit → Contains plan.released unit → IsOwned (rows_after rows plan.ops) unit → ⊥ }
+        → HasSoleOwner (width_of s) rows unit → Contains plan.released unit → IsOwned (width_of s) (rows_after rows plan.ops) unit → ⊥ }
     ensures once { (s : Super) (rows : Rows) (change : Change) (plan : Plan) (unit : ℕ) → IsPlanned s rows change plan
-        → HasSoleOwner rows unit → StandsOnce plan.released unit }
+        → HasSoleOwner (width_of s) rows unit → StandsOnce plan.released unit }
 {}
 
 /// The bitmap stays exact, but for what was leaked when it was: the fresh units are marked then, and the released ones aren't. A marked unit
 /// stays so where it isn't released.
 pub fn planned_bitmap()
     ensures exact { (s : Super) (first rows : Rows) (change : Change) (plan : Plan) → IsPlanned s rows change plan → NoBadRow s rows
-        → IsExactAs first rows → IsExactAs first (rows_after rows plan.ops) }
+        → IsExactAs (width_of s) first rows → IsExactAs (width_of s) first (rows_after rows plan.ops) }
     ensures left { (s : Super) (rows : Rows) (change : Change) (plan : Plan) (unit : ℕ) → IsPlanned s rows change plan → NoBadRow s rows
         → unit < 2 ^ 32 → IsMarked rows unit → IsMarked (rows_after rows plan.ops) unit ⊎ Contains plan.released unit }
     ensures taken { (s : Super) (rows : Rows) (change : Change) (plan : Plan) (unit : ℕ) → IsPlanned s rows change plan
@@ -121,9 +122,10 @@ pub fn replies_by_objects_rows()
 pub fn plans_by_operations()
     ensures collection { (rows : Rows) (c : List ℕ) → map.get rows (coll_key c) ≡ None
         → MakesColl rows c (record { ops = coll_ops c; fresh = []; released = [] }) }
-    ensures touched { (s : Super) (rows : Rows) (c o : List ℕ) (x : Layout) → NoBadRow s rows → IsInColl c o rows → HasLayout rows c o x
-        → MakesLayout rows c o x x [] (record { ops = touch_ops rows c o; fresh = []; released = [] }) }
+    ensures touched { (s : Super) (rows : Rows) (c o : List ℕ) (x : Layout) → NoBadRow s rows → IsInColl c o rows → HasLayout (width_of s) rows c o x
+        → MakesLayout (width_of s) rows c o x x [] (record { ops = touch_ops rows c o; fresh = []; released = [] }) }
     ensures written { (s : Super) (rows : Rows) (c o : List ℕ) (off : ℕ) (bytes units : List ℕ) (plan : Plan) → NoBadRow s rows → off % 4096 ≡ 0
-        → CanPlanWrite s rows c o (off / 4096) bytes units → (w : WritesPages rows c o (off / 4096) bytes units plan.ops plan.released)
-        → (let x : Layout = record { size = w.before; pages = w.pages } in MakesLayout rows c o x (made_of (Write o off bytes) units x) units plan) }
+        → CanPlanWrite s rows c o (off / 4096) bytes units → (w : WritesPages (width_of s) rows c o (off / 4096) bytes units plan.ops plan.released)
+        → (let x : Layout = record { size = w.before; pages = w.pages } in
+            MakesLayout (width_of s) rows c o x (made_of (Write o off bytes) units x) units plan) }
 {}

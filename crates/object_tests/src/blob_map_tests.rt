@@ -3,7 +3,7 @@
 use blob_map::{PageMap, Place};
 use std::alloc::{AllocError, Global};
 use std::test::Fail;
-use unit_fields::UnitNo;
+use unit_fields::{UnitNo, Width};
 
 fn place(unit: u32) -> Place {
     Place {
@@ -28,8 +28,11 @@ const TWO_EXTENTS: &[u8] =
 #[test]
 fn a_value_by_hand(rt: HostRuntime) -> Result<(), Fail> {
     let map = map_of(rt.alloc(), &[(7, 60), (3, 40), (4, 41)])?;
-    assert_eq!(rt; map.to_value(rt.alloc())?.as_slice(), TWO_EXTENTS);
-    assert_eq!(rt; map.extents(rt.alloc())?.len(), 2);
+    assert_eq!(rt;
+        map.to_value(rt.alloc(), Width::FourBytes)?.as_slice(),
+        TWO_EXTENTS
+    );
+    assert_eq!(rt; map.extents(rt.alloc(), Width::FourBytes)?.len(), 2);
     Ok(())
 }
 

@@ -2,6 +2,7 @@
 //! units, with data units from 18 on; each holds its own number in every byte. Refusals, names, walks and changed bytes are cases of
 //! the program `store_cases`.
 ghost use Rattle.std.specs.Prelude.{IfOk, IsTrue};
+ghost use Rattle.unit_fields.specs.declared.width.Width.TheVariants.{FourBytes};
 ghost use Rattle.block_device.specs.Memory.{disk_of};
 ghost use Rattle.read_facts.specs.Answers.{IsKnownRead};
 ghost use Rattle.object_reader.specs.Readable.{IsReadable};
@@ -17,7 +18,7 @@ use object_reader::{ReadFail, answer};
 use row_check::find_bad_row;
 use std::alloc::{AllocError, Global};
 use std::test::Fail;
-use unit_fields::{CollName, Name, UnitNo};
+use unit_fields::{CollName, Name, UnitNo, Width};
 
 // A page on a unit.
 fn page_on(alloc: Global, unit: u32) -> Result<Vec<u8>, AllocError> {
@@ -62,7 +63,7 @@ fn shard_value(alloc: Global, pieces: &[Piece]) -> Result<Bytes, AllocError> {
     for piece in pieces {
         put_piece(alloc, &mut pages, piece)?;
     }
-    pages.to_value(alloc)
+    pages.to_value(alloc, Width::FourBytes)
 }
 
 // The rows of a collection with this object.
@@ -79,7 +80,7 @@ fn rows_of(alloc: Global, object: &Object) -> Result<RowTable, AllocError> {
 
 // Whether the rows and the device can be read.
 fn is_readable(alloc: Global, device: &MemoryDevice, rows: &RowTable) -> Result<bool, AllocError>
-    ensures { IfOk result (λ yes. IsTrue yes → IsReadable rows.now.rows (disk_of device.now)) }
+    ensures { IfOk result (λ yes. IsTrue yes → IsReadable FourBytes rows.now.rows (disk_of device.now)) }
 {
     if device.units() != 200 || device.in_flight() != 0 {
         return Ok(false);
@@ -131,7 +132,7 @@ fn answered(alloc: Global, device: &mut MemoryDevice, rows: &RowTable, command: 
     if !is_readable(alloc, device, rows)? {
         return Ok(None);
     }
-    told(&answer(alloc, device, rows, command))
+    told(&answer(alloc, device, Width::FourBytes, rows, command))
 }
 
 // Pages 0, 2 and 3 of an object that ends in page 3.

@@ -1,6 +1,7 @@
 //! Plans over rows that are spelled by hand. The store's data units are 18 to 799.
 ghost use Rattle.std.specs.Prelude.{IsTrue, IfOk};
-ghost use Rattle.onode_state.specs.Objects.{AreRowsOfAStore};
+ghost use Rattle.unit_fields.specs.declared.width.Width.TheVariants.{FourBytes};
+ghost use Rattle.onode_state.specs.Objects.{AreRowsOfWidth};
 ghost use Rattle.store_steps.specs.Submit.{IsKnown};
 
 use crate::rows::{COLL, Entry, ONODE_A, SHARD_A0, superblock, table_of};
@@ -12,7 +13,7 @@ use std::alloc::{AllocError, Global};
 use std::test::Fail;
 use txn_planner::{PlanFail, plan};
 use unit_allocator::Allocator;
-use unit_fields::{CollName, Name, UnitNo, UnitSet};
+use unit_fields::{CollName, Name, UnitNo, UnitSet, Width};
 
 // An object with pages 0 to 2 on units 40 to 42.
 const THREE_PAGES: Entry = (ONODE_A, b"\0\x30\0\0\0\0\0\0");
@@ -21,7 +22,7 @@ const THREE_ON_40: Entry = (SHARD_A0, b"\0\0\0\0\x03\0\0\x28\0\0\0ccccddddeeee")
 
 // The rows with these keys and values, of which none is bad.
 fn good_rows(alloc: Global, entries: &[Entry]) -> Result<RowTable, Fail>
-    ensures { IfOk result (λ rows. AreRowsOfAStore rows.rows) }
+    ensures { IfOk result (λ rows. AreRowsOfWidth FourBytes rows.rows) }
 {
     let rows = table_of(alloc, entries)?;
     let sup = superblock(800);
@@ -93,15 +94,17 @@ fn planned(
     rows: &RowTable,
     txn: &Transaction,
 ) -> Result<Result<Counts, PlanFail>, Fail>
-    requires { AreRowsOfAStore rows.now.rows }
+    requires { AreRowsOfWidth FourBytes rows.now.rows }
 {
     if !is_known(txn) {
         return Err("a transaction of another kind".into());
     }
-    Ok(match plan(alloc, rows, &space(alloc)?, txn) {
-        Ok(plan) => Ok((plan.ops.len(), plan.fresh.len(), plan.released.len())),
-        Err(fail) => Err(fail),
-    })
+    Ok(
+        match plan(alloc, Width::FourBytes, rows, &space(alloc)?, txn) {
+            Ok(plan) => Ok((plan.ops.len(), plan.fresh.len(), plan.released.len())),
+            Err(fail) => Err(fail),
+        },
+    )
 }
 
 // The rows, and what is planned of a change, or why nothing is.

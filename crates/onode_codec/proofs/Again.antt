@@ -2,6 +2,7 @@
 use Rattle.std.proofs.Common.{◌≡◌, ◌≢◌, ℕ, List, length, Option, Some, None, MatchOption, sym, ap, ◌∙◌}
 use Rattle.std.specs.Int.{w64, from_le_bytes}
 use Rattle.std.proofs.lemmas.Nat.{from_le_bytes-to_le_bytes_8}
+use Rattle.unit_fields.specs.declared.width.Width.{Width}
 use Rattle.row_format.specs.Extents.{Extent}
 use Rattle.row_format.proofs.ExtentReading.{extents-same}
 use Rattle.onode_codec.specs.declared.onode.Onode.{Onode}
@@ -11,8 +12,8 @@ pub same_onode : (bytes : List ℕ) (size other : ℕ) → SpellsOnode bytes siz
 same_onode bytes size other p q =
     sym (from_le_bytes-to_le_bytes_8 size p.below) ∙ ap (from_le_bytes w64) (sym p.spelled ∙ q.spelled) ∙ from_le_bytes-to_le_bytes_8 other q.below
 
-pub same_extents : (bytes : List ℕ) (es fs : List Extent) → SpellExtents bytes es → SpellExtents bytes fs → es ≡ fs
-same_extents bytes es fs p q = extents-same es fs p.fit q.fit (sym p.spelled ∙ q.spelled)
+pub same_extents : (w : Width) (bytes : List ℕ) (es fs : List Extent) → SpellExtents w bytes es → SpellExtents w bytes fs → es ≡ fs
+same_extents w bytes es fs p q = extents-same w es fs p.fit q.fit (sym p.spelled ∙ q.spelled)
 
 -- a row's onode, as `Onode::decode` answers it
 pub onode_again : (bytes : List ℕ) (size : ℕ) (found : Option Onode)
@@ -21,8 +22,8 @@ onode_again bytes size None found is = absurd (found (ap length is.spelled))
 onode_again bytes size (Some onode) found is = ap (λ (n : ℕ). Some (record { size = n })) (same_onode bytes onode.size size found is)
 
 -- a shard's extents, as `decode_extents` answers them, in whatever holds the list
-pub extents_again : {V : Type 0} (items : V → List Extent) (bytes : List ℕ) (es : List Extent) (found : Option V)
-    → MatchOption found ((fs : List Extent) → ¬ (SpellExtents bytes fs)) (λ v. SpellExtents bytes (items v)) → SpellExtents bytes es
+pub extents_again : (w : Width) {V : Type 0} (items : V → List Extent) (bytes : List ℕ) (es : List Extent) (found : Option V)
+    → MatchOption found ((fs : List Extent) → ¬ (SpellExtents w bytes fs)) (λ v. SpellExtents w bytes (items v)) → SpellExtents w bytes es
     → MatchOption found ⊥ (λ v. items v ≡ es)
-extents_again items bytes es None found is = found es is
-extents_again items bytes es (Some v) found is = same_extents bytes (items v) es found is
+extents_again w items bytes es None found is = found es is
+extents_again w items bytes es (Some v) found is = same_extents w bytes (items v) es found is

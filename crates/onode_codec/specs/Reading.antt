@@ -2,6 +2,8 @@
 use Rattle.std.specs.Prelude.{◌≡◌, ◌≢◌, ℕ, ◌<◌, ◌≤◌, ◌^◌, List, ◌∷◌, ◌++◌, length}
 use Rattle.std.specs.List.{flat_map, AllByRecursion}
 use Rattle.std.specs.Int.{w16, w32, w64, to_le_bytes}
+use Rattle.unit_fields.specs.declared.width.Width.{Width}
+use Rattle.row_format.specs.Csums.{csum_bytes, csum_in, FitsCsum}
 use Rattle.row_format.specs.Extents.{Extent, extent_bytes, FitsExtent}
 use Rattle.onode_codec.specs.declared.extent.Head.{Head}
 
@@ -15,8 +17,8 @@ abbrev pub extent_head : Head → List ℕ
 extent_head h = to_le_bytes w32 h.first ++ (to_le_bytes w16 h.count ++ (0 ∷ to_le_bytes w32 h.unit))
 
 -- no extent stands at the front
-abbrev pub BeginsWithNoExtent : List ℕ → Type 0
-BeginsWithNoExtent bytes = (e : Extent) (rest : List ℕ) → FitsExtent e → bytes ≢ extent_bytes e ++ rest
+abbrev pub BeginsWithNoExtent : Width → List ℕ → Type 0
+BeginsWithNoExtent w bytes = (e : Extent) (rest : List ℕ) → FitsExtent w e → bytes ≢ extent_bytes w e ++ rest
 
 -- the head of an extent of 1 to 256 pages was read
 pub record ReadsHead (old new : List ℕ) (h : Head) : Type 0 where
@@ -26,18 +28,24 @@ pub record ReadsHead (old new : List ℕ) (h : Head) : Type 0 where
   pub most : h.count ≤ 256
   pub spelled : old ≡ extent_head h ++ new
 
--- so many little-endian numbers of four bytes were read
-pub record ReadsNumbers (count : ℕ) (old new numbers : List ℕ) : Type 0 where
-  pub size : length numbers ≡ count
-  pub below : AllByRecursion (λ n. n < 2 ^ 32) numbers
-  pub spelled : old ≡ flat_map (to_le_bytes w32) numbers ++ new
+-- a checksum was read
+pub record ReadsCsum (w : Width) (old new : List ℕ) (csum : ℕ) : Type 0 where
+  pub fits : FitsCsum w csum
+  pub is : csum ≡ csum_in w old
+  pub spelled : old ≡ csum_bytes w csum ++ new
+
+-- so many checksums were read
+pub record ReadsCsums (w : Width) (count : ℕ) (old new csums : List ℕ) : Type 0 where
+  pub size : length csums ≡ count
+  pub fit : AllByRecursion (FitsCsum w) csums
+  pub spelled : old ≡ flat_map (csum_bytes w) csums ++ new
 
 -- an extent was read
-pub record ReadsExtent (old new : List ℕ) (e : Extent) : Type 0 where
-  pub fits : FitsExtent e
-  pub spelled : old ≡ extent_bytes e ++ new
+pub record ReadsExtent (w : Width) (old new : List ℕ) (e : Extent) : Type 0 where
+  pub fits : FitsExtent w e
+  pub spelled : old ≡ extent_bytes w e ++ new
 
--- the bytes are the extents' one spelling
-pub record SpellExtents (bytes : List ℕ) (es : List Extent) : Type 0 where
-  pub fit : AllByRecursion FitsExtent es
-  pub spelled : bytes ≡ flat_map extent_bytes es
+-- the bytes are the extents' one spelling, with checksums of this width
+pub record SpellExtents (w : Width) (bytes : List ℕ) (es : List Extent) : Type 0 where
+  pub fit : AllByRecursion (FitsExtent w) es
+  pub spelled : bytes ≡ flat_map (extent_bytes w) es

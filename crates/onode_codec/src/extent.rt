@@ -1,15 +1,17 @@
 //! An object's extents, and their one spelling.
-ghost use Rattle.std.specs.Prelude.{◌≡◌, ◌<◌, ◌≤◌, ◌*◌, ◌++◌, ℕ, List, length, IfOk, OnOk, MatchOption};
-ghost use Rattle.std.specs.Int.{w32, to_le_bytes};
+ghost use Rattle.std.specs.Prelude.{◌≡◌, ◌<◌, ◌≤◌, ◌++◌, ℕ, List, length, IfOk, OnOk, MatchOption};
 ghost use Rattle.std.specs.List.{flat_map, AllByRecursion};
+ghost use Rattle.unit_fields.specs.Widths.{bytes_of};
+ghost use Rattle.row_format.specs.Csums.{csum_bytes};
 ghost use Rattle.row_format.specs.Extents.{Extent, private, extent_bytes, FitsExtent};
-ghost use Rattle.onode_codec.specs.Reading.{extent_head, BeginsWithNoExtent, ReadsHead, ReadsNumbers, ReadsExtent, SpellExtents};
+ghost use Rattle.onode_codec.specs.Reading.{extent_head, BeginsWithNoExtent, ReadsHead, ReadsCsums, ReadsExtent, SpellExtents};
 
+use crate::csum::{push_csum, read_csum};
 use byte_maps::{Bytes, Items};
 use std::alloc::{AllocError, Global};
 use std::marker::Model;
 use unit_fields::limits::EXTENT_PAGES;
-use unit_fields::{Fields, UnitNo, push_u16_le, push_u32_le};
+use unit_fields::{Fields, UnitNo, Width, push_u16_le, push_u32_le};
 
 // The kind of an extent whose units are the object's own.
 const PRIVATE: u8 = 0;
@@ -17,7 +19,7 @@ const PRIVATE: u8 = 0;
 /// Where the pages of an extent stand (Ceph's blob).
 #[derive(Debug, Drop)]
 pub enum Body {
-    /// On consecutive units of the object's own, from `unit` on. There is one CRC-32C for each page, in the pages' order.
+    /// On consecutive units of the object's own, from `unit` on. There is one checksum for each page, in the pages' order.
     Private { unit: UnitNo, csums: Items<u32> },
 }
 
@@ -53,7 +55,7 @@ pub struct Head {
 impl Head {
     /// The head at the front. None: no extent of 1 to 256 pages stands there, and some of the fields may be read.
     pub fn read(fields: &mut Fields) -> Option<Head>
-        ensures { MatchOption result (BeginsWithNoExtent fields.old) (ReadsHead fields.old fields.new) }
+        ensures { MatchOption result ((width : Width) → BeginsWithNoExtent width fields.old) (ReadsHead fields.old fields.new) }
     {
         let first = fields.u32()?;
         let count = fields.u16()?;
@@ -77,11 +79,11 @@ impl Head {
     }
 }
 
-fn push_numbers(out: &mut Vec<u8>, numbers: &[u32]) -> Result<(), AllocError>
-    ensures { OnOk result (out.new.items ≡ out.old.items ++ flat_map (to_le_bytes w32) numbers.now) }
+fn push_csums(out: &mut Vec<u8>, width: Width, csums: &[u32]) -> Result<(), AllocError>
+    ensures { OnOk result (out.new.items ≡ out.old.items ++ flat_map (csum_bytes width) csums.now) }
 {
-    for number in numbers {
-        push_u32_le(out, *number)?;
+    for csum in csums {
+        push_csum(out, width, *csum)?;
     }
     Ok(())
 }
@@ -89,12 +91,13 @@ fn push_numbers(out: &mut Vec<u8>, numbers: &[u32]) -> Result<(), AllocError>
 // Writes an extent on units of the object's own.
 fn push_private(
     out: &mut Vec<u8>,
+    width: Width,
     first: u32,
     unit: UnitNo,
     csums: &[u32],
 ) -> Result<(), AllocError>
     requires { length csums.now ≤ 256 }
-    ensures { OnOk result (out.new.items ≡ out.old.items ++ extent_bytes (record { first = first; body = private unit csums.now })) }
+    ensures { OnOk result (out.new.items ≡ out.old.items ++ extent_bytes width (record { first = first; body = private unit csums.now })) }
 {
     let head = Head {
         first,
@@ -102,53 +105,58 @@ fn push_private(
         unit,
     };
     head.push(out)?;
-    push_numbers(out, csums)
+    push_csums(out, width, csums)
 }
 
-fn push_extent(out: &mut Vec<u8>, extent: &Extent) -> Result<(), AllocError>
-    requires { FitsExtent extent.now }
-    ensures { OnOk result (out.new.items ≡ out.old.items ++ extent_bytes extent.now) }
+fn push_extent(out: &mut Vec<u8>, width: Width, extent: &Extent) -> Result<(), AllocError>
+    requires { FitsExtent width extent.now }
+    ensures { OnOk result (out.new.items ≡ out.old.items ++ extent_bytes width extent.now) }
 {
     let Body::Private { unit, csums } = &extent.body;
-    push_private(out, extent.first, *unit, csums.as_slice())
+    push_private(out, width, extent.first, *unit, csums.as_slice())
 }
 
-/// The value of a shard's row: its extents, one behind the other. Each has 1 to 256 pages.
-pub fn encode_extents(alloc: Global, extents: &[Extent]) -> Result<Bytes, AllocError>
-    requires { AllByRecursion FitsExtent extents.now }
-    ensures { IfOk result (λ bytes. bytes ≡ flat_map extent_bytes extents.now) }
+/// The value of a shard's row, with checksums of this width: its extents, one behind the other. Each has 1 to 256 pages.
+pub fn encode_extents(alloc: Global, width: Width, extents: &[Extent]) -> Result<Bytes, AllocError>
+    requires { AllByRecursion (FitsExtent width) extents.now }
+    ensures { IfOk result (λ bytes. bytes ≡ flat_map (extent_bytes width) extents.now) }
 {
     let mut out = Vec::new(alloc);
     for extent in extents {
-        push_extent(&mut out, extent)?;
+        push_extent(&mut out, width, extent)?;
     }
     Ok(Bytes::from_vec(out))
 }
 
-fn read_numbers(
+fn read_csums(
     alloc: Global,
+    width: Width,
     fields: &mut Fields,
     count: u16,
 ) -> Result<Option<Items<u32>>, AllocError>
-    ensures { IfOk result (λ found. MatchOption found (length fields.old < 4 * count) (ReadsNumbers count fields.old fields.new)) }
+    ensures { IfOk result (λ found. MatchOption found (length fields.old < bytes_of width count) (ReadsCsums width count fields.old fields.new)) }
 {
-    let mut numbers = Vec::with_capacity(alloc, usize::from(count))?;
-    'numbers: for _i in 0..count {
-        let Some(number) = fields.u32() else {
+    let mut csums = Vec::with_capacity(alloc, usize::from(count))?;
+    'csums: for _i in 0..count {
+        let Some(csum) = read_csum(fields, width) else {
             return Ok(None);
         };
-        numbers.push(number)?;
+        csums.push(csum)?;
     }
-    Ok(Some(Items::from_vec(numbers)))
+    Ok(Some(Items::from_vec(csums)))
 }
 
-fn read_extent(alloc: Global, fields: &mut Fields) -> Result<Option<Extent>, AllocError>
-    ensures { IfOk result (λ found. MatchOption found (BeginsWithNoExtent fields.old) (ReadsExtent fields.old fields.new)) }
+fn read_extent(
+    alloc: Global,
+    width: Width,
+    fields: &mut Fields,
+) -> Result<Option<Extent>, AllocError>
+    ensures { IfOk result (λ found. MatchOption found (BeginsWithNoExtent width fields.old) (ReadsExtent width fields.old fields.new)) }
 {
     let Some(head) = Head::read(fields) else {
         return Ok(None);
     };
-    let Some(csums) = read_numbers(alloc, fields, head.count)? else {
+    let Some(csums) = read_csums(alloc, width, fields, head.count)? else {
         return Ok(None);
     };
     let Head {
@@ -160,16 +168,20 @@ fn read_extent(alloc: Global, fields: &mut Fields) -> Result<Option<Extent>, All
     Ok(Some(Extent { first, body }))
 }
 
-/// The extents that a shard's value spells. None: it is no spelling of any extents of 1 to 256 pages each. Whether the extents
-/// ascend, and whether there is one at all, is for the caller to see.
-pub fn decode_extents(alloc: Global, bytes: &[u8]) -> Result<Option<Vec<Extent>>, AllocError>
-    ensures { IfOk result (λ found. MatchOption found ((es : List Extent) → ¬ (SpellExtents bytes.now es))
-        (λ extents. SpellExtents bytes.now extents.items)) }
+/// The extents that a shard's value spells, with checksums of this width. None: it is no spelling of any extents of 1 to 256 pages
+/// each. Whether the extents ascend, and whether there is one at all, is for the caller to see.
+pub fn decode_extents(
+    alloc: Global,
+    width: Width,
+    bytes: &[u8],
+) -> Result<Option<Vec<Extent>>, AllocError>
+    ensures { IfOk result (λ found. MatchOption found ((es : List Extent) → ¬ (SpellExtents width bytes.now es))
+        (λ extents. SpellExtents width bytes.now extents.items)) }
 {
     let mut fields = Fields::new(bytes);
     let mut extents = Vec::new(alloc);
     'extents: while !fields.is_empty() {
-        let Some(extent) = read_extent(alloc, &mut fields)? else {
+        let Some(extent) = read_extent(alloc, width, &mut fields)? else {
             return Ok(None);
         };
         extents.push(extent)?;

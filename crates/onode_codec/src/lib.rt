@@ -3,11 +3,13 @@
 //! In Ceph's BlueStore these are `get_object_key` and its kin, `bluestore_onode_t`, and the blobs and extents of a shard.
 #![tactic(auto)]
 
+mod csum;
 mod extent;
 mod keys;
 mod laws;
 mod onode;
 
+pub use csum::{push_csum, read_csum};
 pub use extent::{Body, Extent, Head, decode_extents, encode_extents};
 pub use keys::{
     COLLS_END, attr_key, bitmap_key, coll_key, colls_first, deferred_key, header_key, objects_end,

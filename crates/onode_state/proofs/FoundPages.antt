@@ -1,5 +1,7 @@
 -- An object's pages, found among the extents that its shards' rows spell.
 use Rattle.std.proofs.Common.{◌≡◌, ℕ, List, [], ◌∷◌, ◌++◌, map, Some, refl, sym, ap, subst, ◌∙◌, arith}
+use Rattle.meta_log.specs.Slots.{width_of}
+use Rattle.unit_fields.specs.declared.width.Width.{Width}
 use Rattle.std.specs.List.{flat_map, AllByRecursion}
 use Rattle.meta_rows.specs.Rows.{Rows}
 use Rattle.meta_rows.specs.Table.{rows_from_to}
@@ -24,15 +26,15 @@ abbrev Entry : Type 0
 Entry = List ℕ × List ℕ
 
 -- the shards whose rows the entries are
-record HasEntries (c o : List ℕ) (entries : List (List ℕ × List ℕ)) : Type 0 where
+record HasEntries (w : Width) (c o : List ℕ) (entries : List (List ℕ × List ℕ)) : Type 0 where
   shards : List (ℕ × List Extent)
-  fit : AllByRecursion (FitsAsShard c o) shards
-  are : entries ≡ map (shard_entry c o) shards
+  fit : AllByRecursion (FitsAsShard w c o) shards
+  are : entries ≡ map (shard_entry w c o) shards
 
-shards_of : (c o : List ℕ) (entries : List Entry) → AllByRecursion (IsShardEntry c o) entries → HasEntries c o entries
-shards_of c o [] all = record { shards = []; fit = tt; are = refl }
-shards_of c o (e ∷ es) all =
-    let others = shards_of c o es all.1 in
+shards_of : (w : Width) (c o : List ℕ) (entries : List Entry) → AllByRecursion (IsShardEntry w c o) entries → HasEntries w c o entries
+shards_of w c o [] all = record { shards = []; fit = tt; are = refl }
+shards_of w c o (e ∷ es) all =
+    let others = shards_of w c o es all.1 in
     record {
       shards = (all.0.page, all.0.extents) ∷ others.shards;
       fit = (all.0.fits, others.fit);
@@ -40,29 +42,34 @@ shards_of c o (e ∷ es) all =
     }
 
 -- from their rows all their extents are read
-read_shards : (c o : List ℕ) (shards : List (ℕ × List Extent)) → AllByRecursion (FitsAsShard c o) shards
-    → rows_read (map (shard_entry c o) shards) ≡ extents_in shards
-read_shards c o [] fit = no_row
-read_shards c o (x ∷ xs) fit =
-    one_row (shard_entry c o x) (map (shard_entry c o) xs)
-    ∙ (λ i. read_spelled (flat_map extent_bytes x.1) x.1 (record { fit = fit.0.fit; spelled = refl }) i ++ read_shards c o xs fit.1 i)
+read_shards : (w : Width) (c o : List ℕ) (shards : List (ℕ × List Extent)) → AllByRecursion (FitsAsShard w c o) shards
+    → rows_read w (map (shard_entry w c o) shards) ≡ extents_in shards
+read_shards w c o [] fit = no_row w
+read_shards w c o (x ∷ xs) fit =
+    one_row w (shard_entry w c o x) (map (shard_entry w c o) xs)
+    ∙ (λ i. read_spelled w (flat_map (extent_bytes w) x.1) x.1 (record { fit = fit.0.fit; spelled = refl }) i ++ read_shards w c o xs fit.1 i)
 
 -- the pages of the object are found in the range of its shards
-pub pages_found : (rows : Rows) (c o : List ℕ) (entries : List Entry) → IsCollName c → IsName o → AreRowsOfAStore rows
-    → entries ≡ rows_from_to rows (shard_key c o 0) (Some (object_key 0x4f c o (0x70 ∷ []))) → FindPagesOf rows c o (rows_read entries)
+pub pages_found : (rows : Rows) (c o : List ℕ) (entries : List Entry) → IsCollName c → IsName o → (store : AreRowsOfAStore rows)
+    → entries ≡ rows_from_to rows (shard_key c o 0) (Some (object_key 0x4f c o (0x70 ∷ [])))
+    → FindPagesOf (width_of store.sup) rows c o (rows_read (width_of store.sup) entries)
 pages_found rows c o entries coll name store is page place =
-    let all : AllByRecursion (IsShardEntry c o) entries =
-    subst (AllByRecursion (IsShardEntry c o)) (sym is) (range_is_shards c o coll name store.sup rows store.good) in
-    let has = shards_of c o entries all in
-    let are : AreShardsOf rows c o has.shards = range_has_all c o coll name store.sup rows store.good has.shards has.fit (sym is ∙ has.are) in
-    let found : place_found (rows_read entries) page ≡ place_of (extents_in has.shards) page =
-    ap (λ (es : List Extent). place_found es page) (ap rows_read has.are ∙ read_shards c o has.shards has.fit)
+    let all : AllByRecursion (IsShardEntry (width_of store.sup) c o) entries =
+    subst (AllByRecursion (IsShardEntry (width_of store.sup) c o)) (sym is)
+    (range_is_shards (width_of store.sup) c o coll name store.sup rows store.good refl) in
+    let has = shards_of (width_of store.sup) c o entries all in
+    let are : AreShardsOf (width_of store.sup) rows c o has.shards =
+    range_has_all (width_of store.sup) c o coll name store.sup rows store.good refl has.shards has.fit (sym is ∙ has.are) in
+    let found : place_found (rows_read (width_of store.sup) entries) page ≡ place_of (extents_in has.shards) page =
+    ap (λ (es : List Extent). place_found es page)
+    (ap (rows_read (width_of store.sup)) has.are ∙ read_shards (width_of store.sup) c o has.shards has.fit)
     ∙ found_is (extents_in has.shards) page (by_shards_ascend store.sup rows c o store.good has.shards are) in
     let by = by_shards_pages store.sup rows c o store.good has.shards are page place in
     (λ get. by.0 (sym found ∙ get), λ at. found ∙ by.1 at)
 
 -- their units are those of the store
-pub units_fit : (rows : Rows) (c o : List ℕ) (es : List Extent) → IsCollName c → IsName o → AreRowsOfAStore rows → FindPagesOf rows c o es
+pub units_fit : (rows : Rows) (c o : List ℕ) (es : List Extent) → IsCollName c → IsName o → (store : AreRowsOfAStore rows)
+    → FindPagesOf (width_of store.sup) rows c o es
     → (page : ℕ) → HasUnit es page
 units_fit rows c o es coll name store finds page unit csum is =
     let at = (finds page (own unit csum)).0 is in

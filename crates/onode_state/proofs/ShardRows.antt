@@ -1,5 +1,7 @@
 -- The rows in the range of an object's shards are its shards, all of them, in the order of their pages.
 use Rattle.std.proofs.Common.{◌≡◌, ◌≢◌, ◌⊎◌, inl, inr, ℕ, zero, suc, ◌<◌, ◌^◌, Bool, true, cond, not, T, List, [], ◌∷◌, ◌++◌, length, get_or, map, Some, None, refl, sym, ap, subst, ◌∙◌, append_assoc, arith}
+use Rattle.meta_log.specs.Slots.{width_of}
+use Rattle.unit_fields.specs.declared.width.Width.{Width}
 use Rattle.std.specs.Prelude.{filter, Contains, ◌&&◌}
 use Rattle.std.specs.Int.{w32, to_be_bytes}
 use Rattle.std.specs.List.{flat_map, AllByRecursion}
@@ -23,7 +25,7 @@ use Rattle.row_format.proofs.KeyLemmas.{same_place, same_shard, coll_no_object, 
 use Rattle.row_format.proofs.ExtentReading.{extents-same}
 use Rattle.row_reading.proofs.KeyOrder.{after_front, has_front, lesser_page, onode_before}
 use Rattle.row_reading.proofs.Entries.{AreRows, all_rows, are_rows}
-use Rattle.store_image.specs.Pages.{HasRow}
+use Rattle.store_image.specs.Pages.{HasRow, HasShard}
 use Rattle.store_image.specs.BadRows.{IsGoodRow, NoBadRow}
 use Rattle.object_rows.specs.Maps.{Rise, AreShardsOf}
 
@@ -31,19 +33,19 @@ abbrev Entry : Type 0
 Entry = List ℕ × List ℕ
 
 -- the key and the value of a shard's row
-abbrev pub shard_entry : List ℕ → List ℕ → ℕ × List Extent → List ℕ × List ℕ
-shard_entry c o x = (shard_key c o x.0, flat_map extent_bytes x.1)
+abbrev pub shard_entry : Width → List ℕ → List ℕ → ℕ × List Extent → List ℕ × List ℕ
+shard_entry w c o x = (shard_key c o x.0, flat_map (extent_bytes w) x.1)
 
 -- this shard may stand in rows
-abbrev pub FitsAsShard : List ℕ → List ℕ → ℕ × List Extent → Type 0
-FitsAsShard c o x = FitsShard c o x.0 x.1
+abbrev pub FitsAsShard : Width → List ℕ → List ℕ → ℕ × List Extent → Type 0
+FitsAsShard w c o x = FitsShard w c o x.0 x.1
 
 -- the entry is the row of a shard of the object
-pub record IsShardEntry (c o : List ℕ) (entry : List ℕ × List ℕ) : Type 0 where
+pub record IsShardEntry (w : Width) (c o : List ℕ) (entry : List ℕ × List ℕ) : Type 0 where
   pub page : ℕ
   pub extents : List Extent
-  pub fits : FitsShard c o page extents
-  pub is : entry ≡ shard_entry c o (page, extents)
+  pub fits : FitsShard w c o page extents
+  pub is : entry ≡ shard_entry w c o (page, extents)
 
 -- ---- lists of entries
 
@@ -130,7 +132,7 @@ both_so Less q apart is = absurd (apart refl)
 both_so Equal q apart is = ap is_lt is
 both_so Greater q apart is = ap is_lt is
 
-module _ (c o : List ℕ) where
+module _ (w : Width) (c o : List ℕ) where
   -- what the keys of an object have in common
   abbrev names_front : List ℕ
   names_front = 0x4f ∷ (c ++ 0 ∷ (o ++ 0 ∷ []))
@@ -168,7 +170,7 @@ module _ (c o : List ℕ) where
         ∙ after_front names_front (0x6f ∷ to_be_bytes w32 page ++ 0x78 ∷ []) (0x70 ∷ []))
 
     -- the rows there are shards
-    row_between : (r : Row) (rows : Rows) → HasRow rows r → is_between (row_key r) ≡ true → IsShardEntry c o (row_key r, row_value r)
+    row_between : (r : Row) (rows : Rows) → HasRow w rows r → is_between (row_key r) ≡ true → IsShardEntry w c o (row_key r, row_value w r)
     row_between (collection d) rows has is = let key = of_this (row_key (collection d)) is in absurd (coll_no_object d c o key.0 key.1)
     row_between (onode d u size) rows has is =
         let key = of_this (onode_key d u) is in
@@ -182,33 +184,34 @@ module _ (c o : List ℕ) where
         record {
           page = page;
           extents = es;
-          fits = subst (λ x. FitsShard x o page es) same.0 (subst (λ x. FitsShard d x page es) same.1 has.fits);
-          is = λ i. (shard_key (same.0 i) (same.1 i) page, flat_map extent_bytes es);
+          fits = subst (λ x. FitsShard w x o page es) same.0 (subst (λ x. FitsShard w d x page es) same.1 has.fits);
+          is = λ i. (shard_key (same.0 i) (same.1 i) page, flat_map (extent_bytes w) es);
         }
     row_between (bitmap r bits) rows has is = let key = of_this (bitmap_key r) is in absurd (bitmap_no_object r c o key.0 key.1)
 
     -- ---- shards by their entries
 
-    among : (page : ℕ) (es : List Extent) → FitsShard c o page es → (xs : List (ℕ × List Extent)) → AllByRecursion (FitsAsShard c o) xs
-        → In (map (shard_entry c o) xs) (shard_entry c o (page, es)) → Contains xs (page, es)
+    among : (page : ℕ) (es : List Extent) → FitsShard w c o page es → (xs : List (ℕ × List Extent)) → AllByRecursion (FitsAsShard w c o) xs
+        → In (map (shard_entry w c o) xs) (shard_entry w c o (page, es)) → Contains xs (page, es)
     among page es fits [] fit there = absurd there
     among page es fits (x ∷ xs) fit (inl same) =
         let first = same_shard c o c o x.0 page coll name coll name fit.0.page_below fits.page_below (ap (λ (e : Entry). e.0) same) in
-        let own : x.1 ≡ es = extents-same x.1 es fit.0.fit fits.fit (ap (λ (e : Entry). e.1) same) in
+        let own : x.1 ≡ es = extents-same w x.1 es fit.0.fit fits.fit (ap (λ (e : Entry). e.1) same) in
         (0, omega arith, λ i. (first.2 i, own i))
     among page es fits (x ∷ xs) fit (inr later) = let at = among page es fits xs fit.1 later in (suc at.0, omega (arith, at.1), at.2)
 
-    later_pages : (x : ℕ × List Extent) → FitsAsShard c o x → (xs : List (ℕ × List Extent)) → AllByRecursion (FitsAsShard c o) xs
-        → AllByRecursion (λ later. byte_order (shard_key c o x.0) later.0 ≡ Less) (map (shard_entry c o) xs) → AllByRecursion (λ later. x.0 < later.0) xs
+    later_pages : (x : ℕ × List Extent) → FitsAsShard w c o x → (xs : List (ℕ × List Extent)) → AllByRecursion (FitsAsShard w c o) xs
+        → AllByRecursion (λ later. byte_order (shard_key c o x.0) later.0 ≡ Less) (map (shard_entry w c o) xs)
+        → AllByRecursion (λ later. x.0 < later.0) xs
     later_pages x own [] fit less = tt
     later_pages x own (y ∷ ys) fit less =
         (lesser_page c o coll name x.0 y.0 own.page_below fit.0.page_below less.0, later_pages x own ys fit.1 less.1)
 
-    shards_rise : (xs : List (ℕ × List Extent)) → AllByRecursion (FitsAsShard c o) xs → KeysRise (map (shard_entry c o) xs) → Rise xs
+    shards_rise : (xs : List (ℕ × List Extent)) → AllByRecursion (FitsAsShard w c o) xs → KeysRise (map (shard_entry w c o) xs) → Rise xs
     shards_rise [] fit rise = tt
     shards_rise (x ∷ xs) fit rise = (later_pages x fit.0 xs fit.1 rise.0, shards_rise xs fit.1 rise.1)
 
-    module _ (s : Super) (rows : Rows) (good : NoBadRow s rows) where
+    module _ (s : Super) (rows : Rows) (good : NoBadRow s rows) (wide : width_of s ≡ w) where
       abbrev range : List Entry
       range = rows_from_to rows shards_first (Some shards_end)
 
@@ -224,18 +227,19 @@ module _ (c o : List ℕ) where
       range_stands : AllByRecursion StandsIn range
       range_stands = filtered_all (λ e. is_between e.0) StandsIn StandsIn (λ e there is. there) (entries rows) all_stand
 
-      entry_between : (e : Entry) → StandsIn e → is_between e.0 ≡ true → IsShardEntry c o e
+      entry_between : (e : Entry) → StandsIn e → is_between e.0 ≡ true → IsShardEntry w c o e
       entry_between e there is =
           let g : IsGoodRow s rows e.0 e.1 = good e.0 e.1 there in
           let stands = ap (finite.get rows) (sym g.key_is) ∙ there ∙ ap Some g.value_is in
-          let has : HasRow rows g.row = record { fits = g.fits; stands = stands } in
-          subst (IsShardEntry c o) (λ i. (sym g.key_is i, sym g.value_is i)) (row_between g.row rows has (ap is_between (sym g.key_is) ∙ is))
+          let has : HasRow w rows g.row = subst (λ v. HasRow v rows g.row) wide (record { fits = g.fits; stands = stands }) in
+          let value : e.1 ≡ row_value w g.row = g.value_is ∙ ap (λ v. row_value v g.row) wide in
+          subst (IsShardEntry w c o) (λ i. (sym g.key_is i, sym value i)) (row_between g.row rows has (ap is_between (sym g.key_is) ∙ is))
 
-      pub range_is_shards : AllByRecursion (IsShardEntry c o) range
-      range_is_shards = filtered_all (λ e. is_between e.0) StandsIn (IsShardEntry c o) entry_between (entries rows) all_stand
+      pub range_is_shards : AllByRecursion (IsShardEntry w c o) range
+      range_is_shards = filtered_all (λ e. is_between e.0) StandsIn (IsShardEntry w c o) entry_between (entries rows) all_stand
 
-      there_by : (xs : List (ℕ × List Extent)) → AllByRecursion (FitsAsShard c o) xs → AllByRecursion StandsIn (map (shard_entry c o) xs)
-          → AllByRecursion (λ x. HasRow rows (shard c o x.0 x.1)) xs
+      there_by : (xs : List (ℕ × List Extent)) → AllByRecursion (FitsAsShard w c o) xs → AllByRecursion StandsIn (map (shard_entry w c o) xs)
+          → AllByRecursion (λ x. HasShard w rows c o x.0 x.1) xs
       there_by [] fit there = tt
       there_by (x ∷ xs) fit there = (record { fits = fit.0; stands = there.0 }, there_by xs fit.1 there.1)
 
@@ -243,16 +247,17 @@ module _ (c o : List ℕ) where
       range_rises = filtered_rise (λ e. is_between e.0) (entries rows) (sorted_rise (entries rows) (entries_sorted rows))
 
       -- the shards whose entries are the range are the object's
-      pub range_has_all : (xs : List (ℕ × List Extent)) → AllByRecursion (FitsAsShard c o) xs → range ≡ map (shard_entry c o) xs
-          → AreShardsOf rows c o xs
+      pub range_has_all : (xs : List (ℕ × List Extent)) → AllByRecursion (FitsAsShard w c o) xs → range ≡ map (shard_entry w c o) xs
+          → AreShardsOf w rows c o xs
       range_has_all xs fit is = record {
         there = there_by xs fit (subst (AllByRecursion StandsIn) is range_stands);
         all = λ page es has.
-            let at = entries_are.stands (shard_key c o page) (flat_map extent_bytes es) has.stands in
-            let in_entries : In (entries rows) (shard_entry c o (page, es)) = at_in (entries rows) (shard_entry c o (page, es)) at.at at.within at.is in
+            let at = entries_are.stands (shard_key c o page) (flat_map (extent_bytes w) es) has.stands in
+            let in_entries : In (entries rows) (shard_entry w c o (page, es)) =
+            at_in (entries rows) (shard_entry w c o (page, es)) at.at at.within at.is in
             let between = shard_between page has.fits.page_below in
-            let in_there : In range (shard_entry c o (page, es)) =
-            in_filtered (λ e. is_between e.0) (entries rows) (shard_entry c o (page, es)) between in_entries in
-            among page es has.fits xs fit (subst (λ l. In l (shard_entry c o (page, es))) is in_there);
+            let in_there : In range (shard_entry w c o (page, es)) =
+            in_filtered (λ e. is_between e.0) (entries rows) (shard_entry w c o (page, es)) between in_entries in
+            among page es has.fits xs fit (subst (λ l. In l (shard_entry w c o (page, es))) is in_there);
         rise = shards_rise xs fit (subst KeysRise is range_rises);
       }

@@ -1,5 +1,6 @@
 -- An object as its rows have it, from the rows that are its own.
 use Rattle.std.proofs.Common.{◌≡◌, ℕ, true, List, [], ◌∷◌, Some, None, is_some, refl, sym, subst, ◌∙◌, arith}
+use Rattle.meta_log.specs.Slots.{width_of}
 use Rattle.std.specs.List.{AllByRecursion}
 use Rattle.std.specs.FinMap as finite
 use Rattle.meta_rows.specs.Rows.{Rows}
@@ -10,7 +11,7 @@ use Rattle.row_format.specs.Extents.{Extent}
 use Rattle.row_format.specs.Row.{onode, shard, row_value}
 use Rattle.onode_codec.specs.Reading.{SpellsOnode}
 use Rattle.onode_codec.proofs.Again.{same_onode as same_size}
-use Rattle.store_image.specs.Pages.{HasKey, HasRow}
+use Rattle.store_image.specs.Pages.{HasKey, HasOnode}
 use Rattle.store_image.proofs.PageMap.{in_place}
 use Rattle.blob_map.specs.Pages.{PageMap, HasNumbers}
 use Rattle.object_rows.specs.Operations.{AreShards}
@@ -24,44 +25,45 @@ use Rattle.onode_state.specs.Objects.{HasShards, IsStateOf}
 -- an onode's row, by its value
 pub record OnodeIs (rows : Rows) (c o value : List ℕ) : Type 0 where
   pub size : ℕ
-  pub has : HasRow rows (onode c o size)
+  pub has : HasOnode rows c o size
   pub spelled : SpellsOnode value size
 
 module _ (rows : Rows) (c o : List ℕ) (coll : IsCollName c) (name : IsName o) (store : AreRowsOfAStore rows) where
   pub onode_under : (value : List ℕ) → finite.get rows (onode_key c o) ≡ Some value → OnodeIs rows c o value
   onode_under value is =
       let found = onode_found store.sup rows c o store.good coll name value is in
-      let same : Some value ≡ Some (row_value (onode c o found.0)) = sym is ∙ found.1.stands in
+      let same : Some value ≡ Some (row_value (width_of store.sup) (onode c o found.0)) = sym is ∙ found.1.stands in
       record { size = found.0; has = found.1; spelled = record { below = found.1.fits.2; spelled = cc } }
 
   pub size_read : (value : List ℕ) (size : ℕ) → finite.get rows (onode_key c o) ≡ Some value → SpellsOnode value size → IsSizeOf rows c o size
   size_read value size is spelled =
       let found = onode_under value is in
-      there size (subst (λ n. HasRow rows (onode c o n)) (same_size value found.size size found.spelled spelled) found.has)
+      there size (subst (λ n. HasOnode rows c o n) (same_size value found.size size found.spelled spelled) found.has)
 
   pub no_size : finite.get rows (onode_key c o) ≡ None → IsSizeOf rows c o 0
   no_size none = missing none
 
   -- ---- by its shards
 
-  pub onode_there : HasKey rows (onode_key c o) → (size : ℕ) × HasRow rows (onode c o size)
+  pub onode_there : HasKey rows (onode_key c o) → (size : ℕ) × HasOnode rows c o size
   onode_there has = elim (finite.get rows (onode_key c o)) as
-      (λ r. finite.get rows (onode_key c o) ≡ r → is_some r ≡ true → (size : ℕ) × HasRow rows (onode c o size)) [
+      (λ r. finite.get rows (onode_key c o) ≡ r → is_some r ≡ true → (size : ℕ) × HasOnode rows c o size) [
         | None ↦ λ p t. absurd cc
         | Some value ↦ λ p t. let found = onode_under value p in (found.size, found.has)
       ] refl has
 
-  pub numbers_of : (shards : List (ℕ × List Extent)) → AreShardsOf rows c o shards → AllByRecursion HasNumbers (extents_in shards)
+  pub numbers_of : (shards : List (ℕ × List Extent)) → AreShardsOf (width_of store.sup) rows c o shards
+      → AllByRecursion HasNumbers (extents_in shards)
   numbers_of [] are = tt
   numbers_of (x ∷ xs) are =
       let size = onode_there (in_place store.sup rows (shard c o x.0 x.1) store.good are.there.0).has_onode in
       by_shards_numbers store.sup rows c o store.good (x ∷ xs) are size.0 size.1 (omega (arith, store.limits.units_most))
 
-  module _ (firsts : List ℕ) (pages : PageMap) (has : HasShards rows c o firsts pages) where
-    map_is : IsMapOf rows c o pages
-    map_is = subst (IsMapOf rows c o) (sym has.pages_are) (map_by_shards store.sup rows c o store.good has.shards has.are)
+  module _ (firsts : List ℕ) (pages : PageMap) (has : HasShards (width_of store.sup) rows c o firsts pages) where
+    map_is : IsMapOf (width_of store.sup) rows c o pages
+    map_is = subst (IsMapOf (width_of store.sup) rows c o) (sym has.pages_are) (map_by_shards store.sup rows c o store.good has.shards has.are)
 
-    pub state_of : (size : ℕ) → IsSizeOf rows c o size → IsStateOf rows c o size pages firsts
+    pub state_of : (size : ℕ) → IsSizeOf rows c o size → IsStateOf (width_of store.sup) rows c o size pages firsts
     state_of size was = record {
       was_long = was;
       are_pages = map_is;

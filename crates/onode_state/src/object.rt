@@ -6,7 +6,7 @@ ghost use Rattle.row_format.specs.Keys.{object_key, shard_key};
 ghost use Rattle.onode_codec.specs.Reading.{SpellsOnode, SpellExtents};
 ghost use Rattle.object_rows.specs.Writes.{IsSizeOf};
 ghost use Rattle.page_lookup.specs.Found.{HasUnit};
-ghost use Rattle.onode_state.specs.Objects.{AreRowsOfAStore};
+ghost use Rattle.onode_state.specs.Objects.{AreRowsOfAStore, AreRowsOfWidth};
 ghost use Rattle.onode_state.specs.Objects.{IsShardValue, AddsShard, HasShards, IsStateOf, FindPagesOf};
 
 use crate::names::{coll_name_is_one, name_is_one};
@@ -16,7 +16,7 @@ use meta_rows::{RowRange, RowTable};
 use onode_codec::{Head, Onode, onode_key, shard_key, shards_end};
 use page_lookup::ShardPages;
 use std::alloc::{AllocError, Global};
-use unit_fields::{CollName, Fields, Name};
+use unit_fields::{CollName, Fields, Name, Width};
 
 /// An object as its rows have it. A missing one has no bytes, pages or shards.
 #[derive(Drop)]
@@ -84,23 +84,25 @@ fn shard_rows<'a>(
 /// The pages of an object, to be looked up in the rows of its shards as they stand. None of them is read here. A missing object has none.
 pub fn object_pages<'a>(
     alloc: Global,
+    width: Width,
     rows: &'a RowTable,
     coll: &CollName,
     object: &Name,
 ) -> Result<ShardPages<'a>, AllocError>
-    requires { AreRowsOfAStore rows.now.rows }
-    ensures found { IfOk result (FindPagesOf rows.now.rows coll.now object.now) }
+    requires { AreRowsOfWidth width rows.now.rows }
+    ensures found { IfOk result (FindPagesOf width rows.now.rows coll.now object.now) }
     ensures units { IfOk result (λ pages. (page : ℕ) → HasUnit pages page) }
 {
     coll_name_is_one(coll);
     name_is_one(object);
-    Ok(ShardPages::new(shard_rows(alloc, rows, coll, object)?))
+    let shards = shard_rows(alloc, rows, coll, object)?;
+    Ok(ShardPages::new(width, shards))
 }
 
-// The first page of the extents that the value of a shard's row spells.
+// The first page of the extents that the value of a shard's row spells, however wide their checksums are.
 fn first_page(value: &[u8]) -> u32
-    requires { IsShardValue value.now }
-    ensures { (es : List Extent) → SpellExtents value.now es → BeginsAt result es }
+    requires { (width : Width) × IsShardValue width value.now }
+    ensures { (width : Width) (es : List Extent) → SpellExtents width value.now es → BeginsAt result es }
 {
     match Head::read(&mut Fields::new(value)) {
         Some(head) => head.first,
@@ -109,22 +111,23 @@ fn first_page(value: &[u8]) -> u32
 }
 
 // One shard more, behind the others.
-fn add_shard(shards: &mut Shards, value: &[u8]) -> Result<(), AllocError>
-    requires { IsShardValue value.now }
-    ensures { OnOk result (AddsShard value.now shards.old.firsts.items shards.old.pages shards.new.firsts.items shards.new.pages) }
+fn add_shard(shards: &mut Shards, width: Width, value: &[u8]) -> Result<(), AllocError>
+    requires { IsShardValue width value.now }
+    ensures { OnOk result (AddsShard width value.now shards.old.firsts.items shards.old.pages shards.new.firsts.items shards.new.pages) }
 {
     shards.firsts.push(first_page(value))?;
-    shards.pages.put_value(value)
+    shards.pages.put_value(width, value)
 }
 
 fn shards_of(
     alloc: Global,
+    width: Width,
     rows: &RowTable,
     coll: &CollName,
     object: &Name,
 ) -> Result<Shards, AllocError>
-    requires { AreRowsOfAStore rows.now.rows }
-    ensures { IfOk result (λ shards. HasShards rows.now.rows coll.now object.now shards.firsts.items shards.pages) }
+    requires { AreRowsOfWidth width rows.now.rows }
+    ensures { IfOk result (λ shards. HasShards width rows.now.rows coll.now object.now shards.firsts.items shards.pages) }
 {
     coll_name_is_one(coll);
     name_is_one(object);
@@ -133,7 +136,7 @@ fn shards_of(
         pages: PageMap::new(alloc),
     };
     for (_, value) in shard_rows(alloc, rows, coll, object)? {
-        add_shard(&mut shards, value.as_slice())?;
+        add_shard(&mut shards, width, value.as_slice())?;
     }
     Ok(shards)
 }
@@ -141,17 +144,18 @@ fn shards_of(
 /// The object as the rows have it. One range of rows has its shards, and each is read once, straight into the map.
 pub fn object_state(
     alloc: Global,
+    width: Width,
     rows: &RowTable,
     coll: &CollName,
     object: &Name,
 ) -> Result<ObjectState, AllocError>
-    requires { AreRowsOfAStore rows.now.rows }
-    ensures { IfOk result (λ state. IsStateOf rows.now.rows coll.now object.now state.size state.pages state.shards.items) }
+    requires { AreRowsOfWidth width rows.now.rows }
+    ensures { IfOk result (λ state. IsStateOf width rows.now.rows coll.now object.now state.size state.pages state.shards.items) }
 {
     coll_name_is_one(coll);
     name_is_one(object);
     let size = object_size(alloc, rows, coll, object)?;
-    let Shards { firsts, pages } = shards_of(alloc, rows, coll, object)?;
+    let Shards { firsts, pages } = shards_of(alloc, width, rows, coll, object)?;
     Ok(ObjectState {
         size,
         pages,

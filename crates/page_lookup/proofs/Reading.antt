@@ -1,10 +1,11 @@
 -- Extents as they are read from bytes.
 use Rattle.std.proofs.Common.{◌≡◌, ℕ, List, ap, ◌∙◌}
+use Rattle.unit_fields.specs.declared.width.Width.{Width}
 use Rattle.row_format.specs.Extents.{Extent}
 use Rattle.onode_codec.specs.Reading.{SpellExtents}
 use Rattle.page_lookup.specs.Bytes.{extents_read}
-pub use Rattle.row_format.proofs.ExtentReading.{read_none, read_more, number_of, length-numbers_in, read_all}
+pub use Rattle.row_format.proofs.ExtentReading.{read_none, read_more, csum_of, length-csums_in, read_all}
 
 -- from a spelling of extents these are read
-pub read_spelled : (bytes : List ℕ) (es : List Extent) → SpellExtents bytes es → extents_read bytes ≡ es
-read_spelled bytes es spells = ap extents_read spells.spelled ∙ read_all es spells.fit
+pub read_spelled : (w : Width) (bytes : List ℕ) (es : List Extent) → SpellExtents w bytes es → extents_read w bytes ≡ es
+read_spelled w bytes es spells = ap (extents_read w) spells.spelled ∙ read_all w es spells.fit

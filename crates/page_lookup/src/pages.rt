@@ -7,10 +7,12 @@ use crate::shard::{is_done, place_at_front, skip_to};
 use blob_map::Place;
 use meta_rows::RowRange;
 use std::marker::Model;
+use unit_fields::Width;
 
 // What is left of shards: the bytes of the first one, and the rows of the others.
 #[derive(Drop)]
 struct Rest<'a> {
+    width: Width,
     front: &'a [u8],
     rows: RowRange<'a>,
 }
@@ -22,16 +24,20 @@ impl<'a> Model for Rest<'a> {
 
     ghost Value = { List Extent };
 
-    ghost view = { λ a. extents_read a.front.now ++ rows_read a.rows };
+    ghost view = { λ a. extents_read a.width a.front.now ++ rows_read a.width a.rows };
 }
 
 impl<'a> Rest<'a> {
     // All of the shards that these rows are.
     #[tactic(auto, unfolding(crate::specs::Bytes::extents_read))]
-    fn new(rows: RowRange<'a>) -> Rest<'a>
-        ensures { result ≡ rows_read rows.entry }
+    fn new(width: Width, rows: RowRange<'a>) -> Rest<'a>
+        ensures { result ≡ rows_read width rows.entry }
     {
-        Rest { front: &[], rows }
+        Rest {
+            width,
+            front: &[],
+            rows,
+        }
     }
 
     // The same once more.
@@ -39,6 +45,7 @@ impl<'a> Rest<'a> {
         ensures { result ≡ self.now }
     {
         Rest {
+            width: self.width,
             front: self.front,
             rows: self.rows.again(),
         }
@@ -50,14 +57,14 @@ impl<'a> Rest<'a> {
         ensures place { result ≡ place_found self.old page }
         ensures alike { FindAlike page self.new self.old }
     {
-        self.front = skip_to(self.front, page);
-        'shards: while is_done(self.front) {
+        self.front = skip_to(self.width, self.front, page);
+        'shards: while is_done(self.width, self.front) {
             match self.rows.next() {
-                Some((_, value)) => self.front = skip_to(value.as_slice(), page),
+                Some((_, value)) => self.front = skip_to(self.width, value.as_slice(), page),
                 None => return None,
             }
         }
-        place_at_front(self.front, page)
+        place_at_front(self.width, self.front, page)
     }
 }
 
@@ -66,6 +73,7 @@ impl<'a> Rest<'a> {
 /// the last one begins again.
 #[derive(Drop)]
 pub struct ShardPages<'a> {
+    width: Width,
     rows: RowRange<'a>,
     rest: Rest<'a>,
     from: u32,
@@ -79,18 +87,19 @@ impl<'a> Model for ShardPages<'a> {
 
     ghost Value = { List Extent };
 
-    ghost view = { λ a. rows_read a.rows };
+    ghost view = { λ a. rows_read a.width a.rows };
 
-    ghost invariant = { λ a. FindAlike a.from a.rest (rows_read a.rows) };
+    ghost invariant = { λ a. FindAlike a.from a.rest (rows_read a.width a.rows) };
 }
 
 impl<'a> ShardPages<'a> {
-    /// The pages of an object whose shards these rows are.
-    pub fn new(rows: RowRange<'a>) -> ShardPages<'a>
-        ensures { result ≡ rows_read rows.entry }
+    /// The pages of an object whose shards these rows are, with checksums of this width.
+    pub fn new(width: Width, rows: RowRange<'a>) -> ShardPages<'a>
+        ensures { result ≡ rows_read width rows.entry }
     {
         ShardPages {
-            rest: Rest::new(rows.again()),
+            width,
+            rest: Rest::new(width, rows.again()),
             rows,
             from: 0,
         }
@@ -101,6 +110,7 @@ impl<'a> ShardPages<'a> {
         ensures { result ≡ self.now }
     {
         ShardPages {
+            width: self.width,
             rows: self.rows.again(),
             rest: self.rest.again(),
             from: self.from,
@@ -114,7 +124,7 @@ impl<'a> ShardPages<'a> {
         ensures same { self.new ≡ self.old }
     {
         if page < self.from {
-            self.rest = Rest::new(self.rows.again());
+            self.rest = Rest::new(self.width, self.rows.again());
         }
         let place = self.rest.find(page);
         self.from = page;

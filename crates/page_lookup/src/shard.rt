@@ -1,16 +1,16 @@
 //! A page looked up in the bytes of one shard.
 ghost use Rattle.std.specs.Prelude.{◌≡◌, ◌↔◌, ◌<◌, ◌≤◌, [], IfNone, IfSome, IsTrue, length, drop};
-ghost use Rattle.page_lookup.specs.Bytes.{number_in, size_in, extents_read};
+ghost use Rattle.unit_fields.specs.Widths.{bytes_of};
+ghost use Rattle.page_lookup.specs.Bytes.{csum_in, size_in, extents_read};
 ghost use Rattle.page_lookup.specs.Found.{place_found, EndBehind, FindAlikeBefore, HasUnit};
 ghost use Rattle.page_lookup.specs.Heads.{IsHeadOf};
 
 use blob_map::Place;
-use unit_fields::{Fields, UnitNo};
+use onode_codec::read_csum;
+use unit_fields::{Fields, UnitNo, Width};
 
 // The bytes of an extent in front of its checksums: the first page, the number of pages, the kind and the first unit.
 const HEAD_BYTES: usize = 11;
-
-const CSUM_BYTES: usize = 4;
 
 // The fields of an extent in front of its checksums.
 #[derive(Clone, Copy)]
@@ -21,16 +21,16 @@ struct Head {
 }
 
 // The fields of the extent at the front. None: no extent stands there whole.
-fn head_in(bytes: &[u8]) -> Option<Head>
-    ensures none { IfNone result (length bytes.now < size_in bytes.now) }
-    ensures some { IfSome result (IsHeadOf bytes.now) }
+fn head_in(width: Width, bytes: &[u8]) -> Option<Head>
+    ensures none { IfNone result (length bytes.now < size_in width bytes.now) }
+    ensures some { IfSome result (IsHeadOf width bytes.now) }
 {
     let mut fields = Fields::new(bytes);
     let first = fields.u32()?;
     let count = fields.u16()?;
     let _kind = fields.u8()?;
     let unit = fields.u32()?;
-    if fields.rest().len() < CSUM_BYTES * usize::from(count) {
+    if fields.rest().len() < width.bytes_of(usize::from(count)) {
         return None;
     }
     Some(Head { first, count, unit })
@@ -45,51 +45,53 @@ fn behind(bytes: &[u8], count: usize) -> &[u8]
 }
 
 /// What is left of the bytes of extents without those at the front that end in front of a page. Each of them is skipped by its count.
-pub fn skip_to(bytes: &[u8], page: u32) -> &[u8]
-    ensures alike { FindAlikeBefore page (extents_read result.now) (extents_read bytes.now) }
-    ensures reaches { EndBehind page (extents_read result.now) }
+pub fn skip_to(width: Width, bytes: &[u8], page: u32) -> &[u8]
+    ensures alike { FindAlikeBefore page (extents_read width result.now) (extents_read width bytes.now) }
+    ensures reaches { EndBehind page (extents_read width result.now) }
 {
     let mut left = bytes;
-    'extents: while let Some(head) = head_in(left) {
+    'extents: while let Some(head) = head_in(width, left) {
         if u64::from(page) < u64::from(head.first) + u64::from(head.count) {
             return left;
         }
-        left = behind(left, HEAD_BYTES + CSUM_BYTES * usize::from(head.count));
+        left = behind(left, HEAD_BYTES + width.bytes_of(usize::from(head.count)));
     }
     left
 }
 
 /// Whether no extent is left.
-pub fn is_done(bytes: &[u8]) -> bool
-    ensures { IsTrue result ↔ (extents_read bytes.now ≡ []) }
+pub fn is_done(width: Width, bytes: &[u8]) -> bool
+    ensures { IsTrue result ↔ (extents_read width bytes.now ≡ []) }
 {
-    head_in(bytes).is_none()
+    head_in(width, bytes).is_none()
 }
 
-// The number in the first four bytes.
-#[tactic(auto, unfolding(crate::specs::Bytes::number_in))]
-fn number_in(bytes: &[u8]) -> u32
-    requires { 4 ≤ length bytes.now }
-    ensures { result ≡ number_in bytes.now }
+// The checksum in the first bytes.
+fn csum_in(width: Width, bytes: &[u8]) -> u32
+    requires { bytes_of width 1 ≤ length bytes.now }
+    ensures { result ≡ csum_in width bytes.now }
 {
-    match Fields::new(bytes).u32() {
-        Some(number) => number,
+    match read_csum(&mut Fields::new(bytes), width) {
+        Some(csum) => csum,
         None => unreachable!(),
     }
 }
 
 /// Where a page stands, by the extent at the front, which ends behind the page. None: it is a hole.
-pub fn place_at_front(bytes: &[u8], page: u32) -> Option<Place>
-    requires reaches { EndBehind page (extents_read bytes.now) }
-    requires unit { HasUnit (extents_read bytes.now) page }
-    ensures { result ≡ place_found (extents_read bytes.now) page }
+pub fn place_at_front(width: Width, bytes: &[u8], page: u32) -> Option<Place>
+    requires reaches { EndBehind page (extents_read width bytes.now) }
+    requires unit { HasUnit (extents_read width bytes.now) page }
+    ensures { result ≡ place_found (extents_read width bytes.now) page }
 {
-    let head = head_in(bytes)?;
+    let head = head_in(width, bytes)?;
     if page < head.first {
         return None;
     }
     let i = page - head.first;
-    let csum = number_in(behind(bytes, HEAD_BYTES + CSUM_BYTES * i as usize));
+    let csum = csum_in(
+        width,
+        behind(bytes, HEAD_BYTES + width.bytes_of(i as usize)),
+    );
     let unit = UnitNo::new(head.unit + i);
     Some(Place { unit, csum })
 }

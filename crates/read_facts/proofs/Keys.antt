@@ -1,5 +1,7 @@
 -- The names of collections and of objects that rows have are the keys of objects that have the shape of the rows.
 use Rattle.std.proofs.Common.{◌≡◌, ℕ, List, Option, Some, None, true, false, is_some, refl, sym, ap, subst, ◌∙◌, option_and_then}
+use Rattle.meta_log.specs.Slots.{width_of}
+use Rattle.unit_fields.specs.declared.width.Width.{Width}
 use Rattle.std.specs.FinMap as finite
 use Rattle.meta_rows.specs.Rows.{Rows}
 use Rattle.meta_log.specs.declared.slot.Super.{Super}
@@ -17,11 +19,11 @@ use Rattle.read_facts.specs.Walks.{IsCollection, IsObject, AreAll}
 use Rattle.read_facts.proofs.Walks.{keys_are_all}
 
 -- a row under the key of a collection names a collection
-coll_named : (c : List ℕ) (row : Row) → FitsRow row → coll_key c ≡ row_key row → IsCollName c
-coll_named c (collection d) fits is = subst IsCollName (sym (same_coll c d is)) fits
-coll_named c (onode d o size) fits is = absurd (coll_no_object c d o _ is)
-coll_named c (shard d o page extents) fits is = absurd (coll_no_object c d o _ is)
-coll_named c (bitmap r bits) fits is = absurd (bitmap_no_coll r c (sym is))
+coll_named : (w : Width) (c : List ℕ) (row : Row) → FitsRow w row → coll_key c ≡ row_key row → IsCollName c
+coll_named w c (collection d) fits is = subst IsCollName (sym (same_coll c d is)) fits
+coll_named w c (onode d o size) fits is = absurd (coll_no_object c d o _ is)
+coll_named w c (shard d o page extents) fits is = absurd (coll_no_object c d o _ is)
+coll_named w c (bitmap r bits) fits is = absurd (bitmap_no_coll r c (sym is))
 
 -- what an option that is there holds
 pub some_of : {X : Type 0} (x : Option X) → is_some x ≡ true → (v : X) × (x ≡ Some v)
@@ -41,7 +43,7 @@ coll_keys s rows objects good shape =
     let there : HasKey rows (coll_key name) = sym (shape.collections name) ∙ has in
     let value = some_of (finite.get rows (coll_key name)) there in
     let row = good (coll_key name) value.0 value.1 in
-    record { named = coll_named name row.row row.fits row.key_is; there = there })
+    record { named = coll_named (width_of s) name row.row row.fits row.key_is; there = there })
 
 -- the object under a name of a collection that is found
 pub under_found : (objects : Objects) (c o : List ℕ) (found : Collection) → finite.get objects c ≡ Some found

@@ -1,5 +1,6 @@
 -- Pages that were read, one run behind another.
 use Rattle.std.proofs.Common.{◌≡◌, inl, inr, ℕ, ◌+◌, ◌-◌, ◌*◌, ◌<◌, ◌≤◌, List, [], ◌++◌, length, refl, sym, subst, arith, length-append}
+use Rattle.unit_fields.specs.declared.width.Width.{Width}
 use Rattle.std.proofs.lemmas.Bool.{cases_lt}
 use Rattle.byte_maps.specs.Units.{unit_at, IsUnits}
 use Rattle.byte_maps.proofs.UnitLemmas.{unit_at-append_front, unit_at-append_back}
@@ -11,29 +12,29 @@ use Rattle.read_facts.specs.PageReads.{IsGoodPage, IsBadPage, AreGoodPages, IsFi
 both_units : (n m : ℕ) (xs ys : List ℕ) → IsUnits n xs → IsUnits m ys → IsUnits (n + m) (xs ++ ys)
 both_units n m xs ys whole_xs whole_ys = omega (arith, whole_xs, whole_ys, length-append xs ys)
 
-module _ (d : Disk) (rows : Rows) (c o : List ℕ) where
+module _ (w : Width) (d : Disk) (rows : Rows) (c o : List ℕ) where
   -- a page of the run in front
-  page_in_front : (first n : ℕ) (xs ys : List ℕ) → AreGoodPages d rows c o first n xs → (i : ℕ) → i < n
-      → IsGoodPage d rows c o (first + i) (unit_at i (xs ++ ys))
+  page_in_front : (first n : ℕ) (xs ys : List ℕ) → AreGoodPages w d rows c o first n xs → (i : ℕ) → i < n
+      → IsGoodPage w d rows c o (first + i) (unit_at i (xs ++ ys))
   page_in_front first n xs ys good i below =
-      subst (IsGoodPage d rows c o (first + i)) (sym (unit_at-append_front i xs ys (within n i (length xs) good.size below))) (good.each i below)
+      subst (IsGoodPage w d rows c o (first + i)) (sym (unit_at-append_front i xs ys (within n i (length xs) good.size below))) (good.each i below)
     where
       within : (n i len : ℕ) → len ≡ 4096 * n → i < n → 4096 * i + 4096 ≤ len
       within n i len is lt = omega arith
 
   -- a page of the run behind
-  page_behind : (first n m : ℕ) (xs ys : List ℕ) → AreGoodPages d rows c o first n xs → AreGoodPages d rows c o (first + n) m ys
-      → (i : ℕ) → i < n + m → n ≤ i → IsGoodPage d rows c o (first + i) (unit_at i (xs ++ ys))
+  page_behind : (first n m : ℕ) (xs ys : List ℕ) → AreGoodPages w d rows c o first n xs → AreGoodPages w d rows c o (first + n) m ys
+      → (i : ℕ) → i < n + m → n ≤ i → IsGoodPage w d rows c o (first + i) (unit_at i (xs ++ ys))
   page_behind first n m xs ys front back i below from =
       let is : i ≡ n + (i - n) = omega arith in
       let at : (first + n) + (i - n) ≡ first + i = omega arith in
-      subst (λ (p : ℕ). IsGoodPage d rows c o p (unit_at i (xs ++ ys))) at
-      (subst (IsGoodPage d rows c o ((first + n) + (i - n))) (sym (unit_at-append_back n i (i - n) xs ys front.size is))
+      subst (λ (p : ℕ). IsGoodPage w d rows c o p (unit_at i (xs ++ ys))) at
+      (subst (IsGoodPage w d rows c o ((first + n) + (i - n))) (sym (unit_at-append_back n i (i - n) xs ys front.size is))
       (back.each (i - n) (omega arith)))
 
   -- good pages, and behind them more good pages
-  pub good_appended : (first n m : ℕ) (xs ys : List ℕ) → AreGoodPages d rows c o first n xs → AreGoodPages d rows c o (first + n) m ys
-      → AreGoodPages d rows c o first (n + m) (xs ++ ys)
+  pub good_appended : (first n m : ℕ) (xs ys : List ℕ) → AreGoodPages w d rows c o first n xs → AreGoodPages w d rows c o (first + n) m ys
+      → AreGoodPages w d rows c o first (n + m) (xs ++ ys)
   good_appended first n m xs ys front back = record {
     size = both_units n m xs ys front.size back.size;
     each = λ i below. elim (cases_lt i n) [
@@ -43,18 +44,18 @@ module _ (d : Disk) (rows : Rows) (c o : List ℕ) where
   }
 
   -- no pages
-  pub none_good : (first : ℕ) → AreGoodPages d rows c o first 0 []
+  pub none_good : (first : ℕ) → AreGoodPages w d rows c o first 0 []
   none_good first = record { size = refl; each = λ i below. absurd (omega (arith, below)) }
 
   -- a bad page is the first one where those in front of its run are good
-  pub bad_behind_good : (first n m count unit kept found : ℕ) (xs : List ℕ) → AreGoodPages d rows c o first n xs
-      → IsFirstBad d rows c o (first + n) m unit kept found → n + m ≤ count → IsFirstBad d rows c o first count unit kept found
+  pub bad_behind_good : (first n m count unit kept found : ℕ) (xs : List ℕ) → AreGoodPages w d rows c o first n xs
+      → IsFirstBad w d rows c o (first + n) m unit kept found → n + m ≤ count → IsFirstBad w d rows c o first count unit kept found
   bad_behind_good first n m count unit kept found xs front f fits = record {
     index = n + f.index;
     within = omega (arith, f.within, fits);
     before = xs ++ f.before;
     good = good_appended first n f.index xs f.before front f.good;
-    bad = subst (λ (p : ℕ). IsBadPage d rows c o p unit kept found) (at first n f.index) f.bad;
+    bad = subst (λ (p : ℕ). IsBadPage w d rows c o p unit kept found) (at first n f.index) f.bad;
   }
     where
       at : (a b c : ℕ) → (a + b) + c ≡ a + (b + c)

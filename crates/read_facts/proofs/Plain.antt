@@ -1,5 +1,6 @@
 -- What rows answer by the objects that have their shape.
 use Rattle.std.proofs.Common.{◌≡◌, ◌⊎◌, inl, inr, ℕ, ◌+◌, Bool, true, false, cond, not, nat_lt, List, [], length, take, drop, Option, Some, None, Ok, Err, unwrap_or, option_and_then, refl, sym, ap, subst, ◌∙◌}
+use Rattle.unit_fields.specs.declared.width.Width.{Width}
 use Rattle.std.specs.Prelude.{IsTrue}
 use Rattle.std.specs.Int.{w64, from_le_bytes}
 use Rattle.std.specs.Option.{option_map_or}
@@ -18,8 +19,7 @@ use Rattle.object_model.specs.Reply.{answer_from, answer_of_object, reply_of}
 use Rattle.object_model.specs.Book.{is_refused, is_of_device}
 use Rattle.meta_rows.specs.Rows.{Rows}
 use Rattle.unit_fields.specs.Names.{IsCollName}
-use Rattle.row_format.specs.Row.{onode}
-use Rattle.store_image.specs.Pages.{HasRow}
+use Rattle.store_image.specs.Pages.{HasOnode}
 use Rattle.store_image.specs.Stands.{IsShape}
 use Rattle.read_facts.specs.Walks.{IsObject}
 use Rattle.read_facts.specs.PageReads.{ReadsBytes}
@@ -30,7 +30,7 @@ use Rattle.read_facts.proofs.Keys.{object_keys}
 use Rattle.read_facts.proofs.Cut.{cut_length}
 
 -- rows say one size of an object
-pub one_size : (rows : Rows) (c o : List ℕ) (m n : ℕ) → HasRow rows (onode c o m) → HasRow rows (onode c o n) → m ≡ n
+pub one_size : (rows : Rows) (c o : List ℕ) (m n : ℕ) → HasOnode rows c o m → HasOnode rows c o n → m ≡ n
 one_size rows c o m n p q =
     let e = ap (λ (v : Option (List ℕ)). unwrap_or v []) (sym p.stands ∙ q.stands) in
     sym (from_le_bytes-to_le_bytes_8 m p.fits.2) ∙ ap (from_le_bytes w64) e ∙ from_le_bytes-to_le_bytes_8 n q.fits.2
@@ -115,9 +115,9 @@ list_given objects c = list_by objects c (finite.get objects c) refl
 
 -- ---- all but the bytes
 
-module _ (rows : Rows) (objects : Objects) (shape : IsShape rows objects) where
+module _ (w : Width) (rows : Rows) (objects : Objects) (shape : IsShape rows objects) where
   -- the size that rows say is the object's
-  pub size_is : (c o : List ℕ) (object : Object) (size : ℕ) → object_under objects c o ≡ Some object → HasRow rows (onode c o size)
+  pub size_is : (c o : List ℕ) (object : Object) (size : ℕ) → object_under objects c o ≡ Some object → HasOnode rows c o size
       → size ≡ length object.bytes
   size_is c o object size under has = one_size rows c o size (length object.bytes) has (shape.present c o object under).size
 
@@ -127,12 +127,12 @@ module _ (rows : Rows) (objects : Objects) (shape : IsShape rows objects) where
       ⊎ (IsTrue (is_of_device command a) × IsTrue (not (is_refused (reply_of command objects))))
 
   -- an answer to a read of bytes
-  plain_read : (d : Disk) (c o : List ℕ) (off len : ℕ) (a : Answer) → IsAnswerOf d rows (ask.Read c o off len) a → IsPlain (ask.Read c o off len) a
+  plain_read : (d : Disk) (c o : List ℕ) (off len : ℕ) (a : Answer) → IsAnswerOf w d rows (ask.Read c o off len) a → IsPlain (ask.Read c o off len) a
   plain_read d c o off len (answer.Refused r) is =
       inl (subst (IsAlike (ask.Read c o off len) (answer.Refused r)) (sym (is objects shape)) refl)
   plain_read d c o off len (answer.Bytes bytes) is =
       let given = read_given objects c o off len (is.0 objects shape) in
-      let read : ReadsBytes d rows c o is.1.0 off len bytes = is.1.1 in
+      let read : ReadsBytes w d rows c o is.1.0 off len bytes = is.1.1 in
       let size : length given.object.bytes ≡ is.1.0 = sym (size_is c o given.object is.1.0 given.under read.has_size) in
       inl (subst (IsAlike (ask.Read c o off len) (answer.Bytes bytes)) (sym given.reply)
       (ap length read.cut ∙ cut_length is.1.0 off len read.pages given.object.bytes read.good.size size))
@@ -140,7 +140,7 @@ module _ (rows : Rows) (objects : Objects) (shape : IsShape rows objects) where
   plain_read d c o off len a is = absurd is.1
 
   -- an answer to a sum
-  plain_sum : (d : Disk) (c o : List ℕ) (a : Answer) → IsAnswerOf d rows (ask.Sum c o) a → IsPlain (ask.Sum c o) a
+  plain_sum : (d : Disk) (c o : List ℕ) (a : Answer) → IsAnswerOf w d rows (ask.Sum c o) a → IsPlain (ask.Sum c o) a
   plain_sum d c o (answer.Refused r) is = inl (subst (IsAlike (ask.Sum c o) (answer.Refused r)) (sym (is objects shape)) refl)
   plain_sum d c o (answer.Sum size crc) is =
       let given = sum_given objects c o (is.0 objects shape) in
@@ -149,7 +149,7 @@ module _ (rows : Rows) (objects : Objects) (shape : IsShape rows objects) where
   plain_sum d c o a is = absurd is.1
 
   -- an answer with a size
-  pub plain_stat : (d : Disk) (c o : List ℕ) (a : Answer) → IsAnswerOf d rows (ask.Stat c o) a → a ≡ reply_of (ask.Stat c o) objects
+  pub plain_stat : (d : Disk) (c o : List ℕ) (a : Answer) → IsAnswerOf w d rows (ask.Stat c o) a → a ≡ reply_of (ask.Stat c o) objects
   plain_stat d c o (answer.Refused r) is = sym (is objects shape)
   plain_stat d c o (answer.Size size) is =
       let given = stat_given objects c o (is.0 objects shape) in
@@ -157,7 +157,7 @@ module _ (rows : Rows) (objects : Objects) (shape : IsShape rows objects) where
   plain_stat d c o a is = absurd is.1
 
   -- an answer with names
-  pub plain_list : (d : Disk) (c : List ℕ) (a : Answer) → IsCollName c → IsAnswerOf d rows (ask.List c) a → a ≡ reply_of (ask.List c) objects
+  pub plain_list : (d : Disk) (c : List ℕ) (a : Answer) → IsCollName c → IsAnswerOf w d rows (ask.List c) a → a ≡ reply_of (ask.List c) objects
   plain_list d c (answer.Refused r) coll is = sym (is objects shape)
   plain_list d c (answer.Names names) coll is =
       let given = list_given objects c (is.0 objects shape) in
@@ -166,7 +166,7 @@ module _ (rows : Rows) (objects : Objects) (shape : IsShape rows objects) where
   plain_list d c a coll is = absurd is.1
 
   -- whatever the device tells
-  pub plain_answer : (d : Disk) (command : Command) (a : Answer) → HasReadNames command → IsAnswerOf d rows command a → IsPlain command a
+  pub plain_answer : (d : Disk) (command : Command) (a : Answer) → HasReadNames command → IsAnswerOf w d rows command a → IsPlain command a
   plain_answer d (ask.Read c o off len) a names is = plain_read d c o off len a is
   plain_answer d (ask.Sum c o) a names is = plain_sum d c o a is
   plain_answer d (ask.Stat c o) a names is = inl (plain_stat d c o a is)

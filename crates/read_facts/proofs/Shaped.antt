@@ -13,11 +13,12 @@ use Rattle.object_model.specs.Objects.{Object, Collection, Objects}
 use Rattle.object_model.specs.Effect.{object_under}
 use Rattle.meta_rows.specs.Rows.{Rows}
 use Rattle.meta_log.specs.declared.slot.Super.{Super}
+use Rattle.meta_log.specs.Slots.{width_of}
 use Rattle.unit_fields.specs.Names.{IsName, IsCollName}
 use Rattle.row_format.specs.Keys.{coll_key, onode_key}
 use Rattle.row_format.specs.Row.{Row, collection, onode, shard, bitmap, row_key, FitsRow}
 use Rattle.row_format.proofs.KeyLemmas.{same_head, same_coll, coll_no_object, same_onode, onode_no_shard, bitmap_no_coll, bitmap_no_object}
-use Rattle.store_image.specs.Pages.{HasKey, HasRow}
+use Rattle.store_image.specs.Pages.{HasKey, HasRow, HasOnode}
 use Rattle.store_image.specs.BadRows.{IsInPlace, NoBadRow}
 use Rattle.store_image.specs.Stands.{IsObjectShape, IsShape}
 use Rattle.store_image.proofs.ByteLemmas.{equal_or_not}
@@ -148,15 +149,15 @@ module _ (s : Super) (rows : Rows) (good : NoBadRow s rows) where
   rows_in (e ∷ es) got = (good e.0 e.1 got.0).row ∷ rows_in es got.1
 
   is_row : (key value : List ℕ) (at : finite.get rows key ≡ Some value)
-      → HasRow rows (good key value at).row × IsInPlace s rows (good key value at).row
+      → HasRow (width_of s) rows (good key value at).row × IsInPlace s rows (good key value at).row
   is_row key value at =
       let g = good key value at in
       (record { fits = g.fits; stands = ap (finite.get rows) (sym g.key_is) ∙ at ∙ ap Some g.value_is }, g.in_place)
 
   each_in : (es : List (List ℕ × List ℕ)) (got : AllByRecursion (λ e. finite.get rows e.0 ≡ Some e.1) es) (r : Row) → IsIn r (rows_in es got)
-      → HasRow rows r × IsInPlace s rows r
+      → HasRow (width_of s) rows r × IsInPlace s rows r
   each_in [] got r is = absurd is
-  each_in (e ∷ es) got r (inl same) = subst (λ (x : Row). HasRow rows x × IsInPlace s rows x) same (is_row e.0 e.1 got.0)
+  each_in (e ∷ es) got r (inl same) = subst (λ (x : Row). HasRow (width_of s) rows x × IsInPlace s rows x) same (is_row e.0 e.1 got.0)
   each_in (e ∷ es) got r (inr is) = each_in es got.1 r is
 
   -- a key has its row among them
@@ -183,7 +184,7 @@ module _ (s : Super) (rows : Rows) (good : NoBadRow s rows) where
   abbrev all_rows : List Row
   all_rows = rows_in (finite.entries rows) (got_each rows)
 
-  stands_in : (r : Row) → IsIn r all_rows → HasRow rows r × IsInPlace s rows r
+  stands_in : (r : Row) → IsIn r all_rows → HasRow (width_of s) rows r × IsInPlace s rows r
   stands_in = each_in (finite.entries rows) (got_each rows)
 
   has_in : (key : List ℕ) → HasKey rows key → IsKeyIn key all_rows
@@ -206,12 +207,12 @@ module _ (s : Super) (rows : Rows) (good : NoBadRow s rows) where
       is_onode : (r : Row) → onode_key c o ≡ row_key r → IsIn r all_rows → (size : ℕ) × IsIn (onode c o size) all_rows
       is_onode (collection d) e is = absurd (coll_no_object d c o _ (sym e))
       is_onode (onode d u size) e is =
-          let fits : FitsRow (onode d u size) = (stands_in (onode d u size) is).0.fits in
+          let fits : FitsRow (width_of s) (onode d u size) = (stands_in (onode d u size) is).0.fits in
           let same = same_onode c o d u coll name fits.0 fits.1 e in
           let here : onode d u size ≡ onode c o size = λ i. onode (sym same.0 i) (sym same.1 i) size in
           (size, subst (λ (x : Row). IsIn x all_rows) here is)
       is_onode (shard d u page extents) e is =
-          let fits : FitsRow (shard d u page extents) = (stands_in (shard d u page extents) is).0.fits in
+          let fits : FitsRow (width_of s) (shard d u page extents) = (stands_in (shard d u page extents) is).0.fits in
           absurd (onode_no_shard c o d u page coll name fits.coll_name fits.object_name e)
       is_onode (bitmap r bits) e is = absurd (bitmap_no_object r c o _ (sym e))
 
@@ -257,7 +258,7 @@ module _ (s : Super) (rows : Rows) (good : NoBadRow s rows) where
       let place : IsInPlace s rows (onode c o size) = at.1 in
       let long : length (replicate size 0) ≡ size = length-replicate size 0 in
       record {
-        size = subst (λ (n : ℕ). HasRow rows (onode c o n)) (sym long) at.0;
+        size = subst (λ (n : ℕ). HasOnode rows c o n) (sym long) at.0;
         size_most = omega (arith, long, place.1);
         attr_names = λ name its. absurd (let none = sym (ap is_some (finite.get-empty byte_order name)) ∙ its in cc);
         attrs = λ name its. finite.get-empty byte_order name

@@ -1,5 +1,6 @@
 -- What rows and a device answer to a command that reads.
 use Rattle.std.specs.Prelude.{◌≡◌, ℕ, List}
+use Rattle.unit_fields.specs.declared.width.Width.{Width}
 use Rattle.crc32c_csum.specs.Crc32c.{crc32c}
 use Rattle.block_device.specs.Disk.{Disk}
 use Rattle.object_model.specs.declared.command.Command.{Command}
@@ -8,8 +9,7 @@ use Rattle.object_model.specs.declared.command.Answer.{Answer}
 use Rattle.object_model.specs.declared.command.Answer.TheVariants as answer
 use Rattle.meta_rows.specs.Rows.{Rows}
 use Rattle.unit_fields.specs.Names.{IsName, IsCollName}
-use Rattle.row_format.specs.Row.{onode}
-use Rattle.store_image.specs.Pages.{HasRow}
+use Rattle.store_image.specs.Pages.{HasOnode}
 use Rattle.read_facts.specs.Walks.{IsObject, AreAll}
 use Rattle.read_facts.specs.PageReads.{ReadsBytes, FailsAt}
 use Rattle.read_facts.specs.Refusals.{IsRefusedBy, IsNotRefused}
@@ -31,16 +31,16 @@ HasReadNames (ListObjects c) = IsCollName c
 HasReadNames command = ⊥
 
 -- what a read gives that isn't refused
-abbrev pub Gives : Disk → Rows → Command → Answer → Type 0
-Gives d rows (Read c o off len) (answer.Bytes bytes) = (size : ℕ) × ReadsBytes d rows c o size off len bytes
-Gives d rows (Read c o off len) (answer.Csum unit kept found) = (size : ℕ) × FailsAt d rows c o size off len unit kept found
-Gives d rows (Sum c o) (answer.Sum size crc) = (bytes : List ℕ) × (ReadsBytes d rows c o size 0 size bytes × (crc ≡ crc32c bytes))
-Gives d rows (Sum c o) (answer.Csum unit kept found) = (size : ℕ) × FailsAt d rows c o size 0 size unit kept found
-Gives d rows (Stat c o) (answer.Size size) = HasRow rows (onode c o size)
-Gives d rows (ListObjects c) (answer.Names names) = AreAll (IsObject rows c) names
-Gives d rows command a = ⊥
+abbrev pub Gives : Width → Disk → Rows → Command → Answer → Type 0
+Gives w d rows (Read c o off len) (answer.Bytes bytes) = (size : ℕ) × ReadsBytes w d rows c o size off len bytes
+Gives w d rows (Read c o off len) (answer.Csum unit kept found) = (size : ℕ) × FailsAt w d rows c o size off len unit kept found
+Gives w d rows (Sum c o) (answer.Sum size crc) = (bytes : List ℕ) × (ReadsBytes w d rows c o size 0 size bytes × (crc ≡ crc32c bytes))
+Gives w d rows (Sum c o) (answer.Csum unit kept found) = (size : ℕ) × FailsAt w d rows c o size 0 size unit kept found
+Gives w d rows (Stat c o) (answer.Size size) = HasOnode rows c o size
+Gives w d rows (ListObjects c) (answer.Names names) = AreAll (IsObject rows c) names
+Gives w d rows command a = ⊥
 
 -- The answer to a read: its refusal, or what it gives.
-abbrev pub IsAnswerOf : Disk → Rows → Command → Answer → Type 0
-IsAnswerOf d rows command (answer.Refused refusal) = IsRefusedBy rows command refusal
-IsAnswerOf d rows command a = IsNotRefused rows command × Gives d rows command a
+abbrev pub IsAnswerOf : Width → Disk → Rows → Command → Answer → Type 0
+IsAnswerOf w d rows command (answer.Refused refusal) = IsRefusedBy rows command refusal
+IsAnswerOf w d rows command a = IsNotRefused rows command × Gives w d rows command a

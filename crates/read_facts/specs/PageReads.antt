@@ -1,27 +1,27 @@
 -- Pages of an object, read from the device.
 use Rattle.std.specs.Prelude.{◌≡◌, ◌≢◌, ℕ, ◌+◌, ◌-◌, ◌/◌, ◌%◌, ◌<◌, min, nat_lt, List, length, take, drop, IfSome, if◌then◌else◌}
+use Rattle.unit_fields.specs.declared.width.Width.{Width}
 use Rattle.byte_maps.specs.Units.{unit_at, zeros, IsUnits}
 use Rattle.crc32c_csum.specs.Crc32c.{crc32c}
 use Rattle.block_device.specs.Log.{HasNoBadDone}
 use Rattle.block_device.specs.Disk.{Disk}
 use Rattle.block_device.specs.Facts.{last_at}
 use Rattle.meta_rows.specs.Rows.{Rows}
-use Rattle.row_format.specs.Row.{onode}
-use Rattle.store_image.specs.Pages.{HasRow, PageUnit, IsPageOn, IsHole, pages_of}
+use Rattle.store_image.specs.Pages.{HasOnode, PageUnit, IsPageOn, IsHole, pages_of}
 
 -- the unit holds these bytes, as far as the device tells: those last written there, where no write of it ended badly
 abbrev pub IsHeldAt : Disk → ℕ → List ℕ → Type 0
 IsHeldAt d unit bytes = IfSome d.history (λ h. HasNoBadDone h.log unit → bytes ≡ last_at h unit)
 
 -- A page of an object is good: it is a hole and its bytes are zeros, or its unit holds them and their checksum is the one that is kept.
-pub data IsGoodPage (d : Disk) (rows : Rows) (c o : List ℕ) (page : ℕ) (bytes : List ℕ) : Type 0 where
-  hole : IsHole rows c o page → bytes ≡ zeros 4096 → IsGoodPage d rows c o page bytes
-  mapped : (on : PageUnit) → IsPageOn rows c o page on → IsHeldAt d on.unit bytes → crc32c bytes ≡ on.csum
-      → IsGoodPage d rows c o page bytes
+pub data IsGoodPage (w : Width) (d : Disk) (rows : Rows) (c o : List ℕ) (page : ℕ) (bytes : List ℕ) : Type 0 where
+  hole : IsHole w rows c o page → bytes ≡ zeros 4096 → IsGoodPage w d rows c o page bytes
+  mapped : (on : PageUnit) → IsPageOn w rows c o page on → IsHeldAt d on.unit bytes → crc32c bytes ≡ on.csum
+      → IsGoodPage w d rows c o page bytes
 
 -- It is bad: its unit holds bytes whose checksum isn't the one that is kept.
-pub record IsBadPage (d : Disk) (rows : Rows) (c o : List ℕ) (page unit kept found : ℕ) : Type 0 where
-  pub is_on : IsPageOn rows c o page (record { unit = unit; csum = kept })
+pub record IsBadPage (w : Width) (d : Disk) (rows : Rows) (c o : List ℕ) (page unit kept found : ℕ) : Type 0 where
+  pub is_on : IsPageOn w rows c o page (record { unit = unit; csum = kept })
   pub bytes : List ℕ
   pub size : length bytes ≡ 4096
   pub held : IsHeldAt d unit bytes
@@ -29,17 +29,17 @@ pub record IsBadPage (d : Disk) (rows : Rows) (c o : List ℕ) (page unit kept f
   pub differs : found ≢ kept
 
 -- so many pages from the first on are good, and these are their bytes
-pub record AreGoodPages (d : Disk) (rows : Rows) (c o : List ℕ) (first count : ℕ) (bytes : List ℕ) : Type 0 where
+pub record AreGoodPages (w : Width) (d : Disk) (rows : Rows) (c o : List ℕ) (first count : ℕ) (bytes : List ℕ) : Type 0 where
   pub size : IsUnits count bytes
-  pub each : (i : ℕ) → i < count → IsGoodPage d rows c o (first + i) (unit_at i bytes)
+  pub each : (i : ℕ) → i < count → IsGoodPage w d rows c o (first + i) (unit_at i bytes)
 
 -- of so many pages from the first on it is the first bad one
-pub record IsFirstBad (d : Disk) (rows : Rows) (c o : List ℕ) (first count unit kept found : ℕ) : Type 0 where
+pub record IsFirstBad (w : Width) (d : Disk) (rows : Rows) (c o : List ℕ) (first count unit kept found : ℕ) : Type 0 where
   pub index : ℕ
   pub within : index < count
   pub before : List ℕ
-  pub good : AreGoodPages d rows c o first index before
-  pub bad : IsBadPage d rows c o (first + index) unit kept found
+  pub good : AreGoodPages w d rows c o first index before
+  pub bad : IsBadPage w d rows c o (first + index) unit kept found
 
 -- ---- ranges of bytes
 
@@ -52,13 +52,13 @@ abbrev pub pages_read : ℕ → ℕ → ℕ → ℕ
 pages_read size off len = if nat_lt off (read_end size off len) then pages_of (read_end size off len) - off / 4096 else 0
 
 -- the bytes of a range of an object, cut at its size, where all pages that must be read are good
-pub record ReadsBytes (d : Disk) (rows : Rows) (c o : List ℕ) (size off len : ℕ) (bytes : List ℕ) : Type 0 where
-  pub has_size : HasRow rows (onode c o size)
+pub record ReadsBytes (w : Width) (d : Disk) (rows : Rows) (c o : List ℕ) (size off len : ℕ) (bytes : List ℕ) : Type 0 where
+  pub has_size : HasOnode rows c o size
   pub pages : List ℕ
-  pub good : AreGoodPages d rows c o (off / 4096) (pages_read size off len) pages
+  pub good : AreGoodPages w d rows c o (off / 4096) (pages_read size off len) pages
   pub cut : bytes ≡ take (read_end size off len - off) (drop (off % 4096) pages)
 
 -- the first of the pages that must be read that is bad
-pub record FailsAt (d : Disk) (rows : Rows) (c o : List ℕ) (size off len unit kept found : ℕ) : Type 0 where
-  pub has_size : HasRow rows (onode c o size)
-  pub first_bad : IsFirstBad d rows c o (off / 4096) (pages_read size off len) unit kept found
+pub record FailsAt (w : Width) (d : Disk) (rows : Rows) (c o : List ℕ) (size off len unit kept found : ℕ) : Type 0 where
+  pub has_size : HasOnode rows c o size
+  pub first_bad : IsFirstBad w d rows c o (off / 4096) (pages_read size off len) unit kept found

@@ -21,6 +21,8 @@ ghost use Rattle.read_facts.specs.Answers.{HasReadNames, IsAnswerOf};
 ghost use Rattle.read_facts.specs.Alike.{IsAlike};
 ghost use Rattle.read_facts.specs.Views.{WalksTo, WalksAll, HasGoodViews, views_of};
 ghost use Rattle.read_facts.specs.declared.view.CollView.{CollView};
+ghost use Rattle.meta_log.specs.Slots.{width_of};
+ghost use Rattle.unit_fields.specs.declared.width.Width.{Width};
 
 /// The names of collections, and of the objects of one, stand in one order: that of the keys of objects that have the shape of the rows.
 pub fn names_come_in_one_order()
@@ -42,12 +44,12 @@ pub fn rows_have_objects()
 /// What is read page by page, and walked name by name: a run of good pages goes on with one more run of them or ends at a bad page, a walk goes on
 /// with the next name.
 pub fn reads_and_walks_go_on()
-    ensures no_page { (d : Disk) (rows : Rows) (c o : List ℕ) (first : ℕ) → AreGoodPages d rows c o first 0 [] }
-    ensures good_pages { (d : Disk) (rows : Rows) (c o : List ℕ) (first n m : ℕ) (xs ys : List ℕ) → AreGoodPages d rows c o first n xs
-        → AreGoodPages d rows c o (first + n) m ys → AreGoodPages d rows c o first (n + m) (xs ++ ys) }
-    ensures bad_page { (d : Disk) (rows : Rows) (c o : List ℕ) (first n m count unit kept found : ℕ) (xs : List ℕ)
-        → AreGoodPages d rows c o first n xs → IsFirstBad d rows c o (first + n) m unit kept found → n + m ≤ count
-        → IsFirstBad d rows c o first count unit kept found }
+    ensures no_page { (w : Width) (d : Disk) (rows : Rows) (c o : List ℕ) (first : ℕ) → AreGoodPages w d rows c o first 0 [] }
+    ensures good_pages { (w : Width) (d : Disk) (rows : Rows) (c o : List ℕ) (first n m : ℕ) (xs ys : List ℕ) → AreGoodPages w d rows c o first n xs
+        → AreGoodPages w d rows c o (first + n) m ys → AreGoodPages w d rows c o first (n + m) (xs ++ ys) }
+    ensures bad_page { (w : Width) (d : Disk) (rows : Rows) (c o : List ℕ) (first n m count unit kept found : ℕ) (xs : List ℕ)
+        → AreGoodPages w d rows c o first n xs → IsFirstBad w d rows c o (first + n) m unit kept found → n + m ≤ count
+        → IsFirstBad w d rows c o first count unit kept found }
     ensures coll { (rows : Rows) (after : Option (List ℕ)) (names : List (List ℕ)) (name : List ℕ) → AreNext (IsCollection rows) after names
         → IsNextOf (IsCollection rows) (last_of after names) name → AreNext (IsCollection rows) after (names ++ name ∷ []) }
     ensures object { (rows : Rows) (c : List ℕ) (after : Option (List ℕ)) (names : List (List ℕ)) (name : List ℕ)
@@ -59,25 +61,25 @@ pub fn reads_and_walks_go_on()
 /// Whatever the device tells, a read is answered as objects would answer that have the shape of the rows, but for the bytes that it gives; or
 /// by a bad unit where they don't refuse it.
 pub fn reads_are_plain_but_for_bytes()
-    ensures { (d : Disk) (rows : Rows) (objects : Objects) (command : Command) (a : Answer) → IsShape rows objects → HasReadNames command
-        → IsAnswerOf d rows command a → IsAlike command a (reply_of command objects)
+    ensures { (w : Width) (d : Disk) (rows : Rows) (objects : Objects) (command : Command) (a : Answer) → IsShape rows objects → HasReadNames command
+        → IsAnswerOf w d rows command a → IsAlike command a (reply_of command objects)
         ⊎ (IsTrue (is_of_device command a) × IsTrue (not (is_refused (reply_of command objects)))) }
 {}
 
 /// Where the device tells what it holds, no write of it ended badly, and rows and units stand for objects, a read is answered as these do, and so
 /// never by a bad unit.
 pub fn reads_are_as_plain_objects()
-    ensures { (d : Disk) (h : History) (rows : Rows) (objects : Objects) (command : Command) (a : Answer) → d.history ≡ Some h
-        → ((unit : ℕ) → HasNoBadDone h.log unit) → ObjectsStand (last_at h) rows objects → HasReadNames command
-        → IsAnswerOf d rows command a → a ≡ reply_of command objects }
+    ensures { (w : Width) (d : Disk) (h : History) (rows : Rows) (objects : Objects) (command : Command) (a : Answer) → d.history ≡ Some h
+        → ((unit : ℕ) → HasNoBadDone h.log unit) → ObjectsStand w (last_at h) rows objects → HasReadNames command
+        → IsAnswerOf w d rows command a → a ≡ reply_of command objects }
 {}
 
 /// And a walk shows just these objects, no page of which is bad.
 pub fn walks_show_plain_objects()
     ensures all { (d : Disk) (h : History) (s : Super) (rows : Rows) (objects : Objects) (colls : List CollView) → d.history ≡ Some h
-        → ((unit : ℕ) → HasNoBadDone h.log unit) → NoBadRow s rows → ObjectsStand (last_at h) rows objects
-        → WalksAll d rows colls → colls ≡ views_of objects }
-    ensures good { (d : Disk) (h : History) (rows : Rows) (objects : Objects) (colls : List CollView) → d.history ≡ Some h
-        → ((unit : ℕ) → HasNoBadDone h.log unit) → ObjectsStand (last_at h) rows objects
-        → WalksTo d rows colls → AllByRecursion HasGoodViews colls }
+        → ((unit : ℕ) → HasNoBadDone h.log unit) → NoBadRow s rows → ObjectsStand (width_of s) (last_at h) rows objects
+        → WalksAll (width_of s) d rows colls → colls ≡ views_of objects }
+    ensures good { (w : Width) (d : Disk) (h : History) (rows : Rows) (objects : Objects) (colls : List CollView) → d.history ≡ Some h
+        → ((unit : ℕ) → HasNoBadDone h.log unit) → ObjectsStand w (last_at h) rows objects
+        → WalksTo w d rows colls → AllByRecursion HasGoodViews colls }
 {}

@@ -1,5 +1,6 @@
 -- What the row before tells of the one that is looked at.
 use Rattle.std.proofs.Common.{◌≡◌, ℕ, ◌≤◌, List, Option, Some, None, refl, sym, ap, subst, ◌∙◌, ◌↔◌}
+use Rattle.meta_log.specs.Slots.{width_of}
 use Rattle.std.specs.Prelude.{IsSome}
 use Rattle.std.specs.List.{AllByRecursion}
 use Rattle.std.specs.FinMap as map
@@ -11,7 +12,7 @@ use Rattle.row_format.specs.Keys.{coll_key, onode_key}
 use Rattle.row_format.specs.Extents.{Extent, page_end}
 use Rattle.row_format.specs.Row as format
 use Rattle.row_format.specs.Row.{onode, shard}
-use Rattle.store_image.specs.Pages.{HasKey, HasRow, pages_of}
+use Rattle.store_image.specs.Pages.{HasKey, HasRow, HasOnode, pages_of}
 use Rattle.store_image.specs.BadRows.{IsInPlace, IsShardInPlace}
 use Rattle.onode_codec.specs.Reading.{SpellsOnode}
 use Rattle.onode_codec.proofs.Again.{same_onode}
@@ -27,27 +28,28 @@ module _ (s : Super) (rows : Rows) (key : List ℕ) where
   collection_before (Some (read.Collection d)) c walked same = absurd same
   collection_before (Some (read.Bitmap r bits)) c walked same = absurd same
   collection_before (Some (read.Onode d u size)) c walked same =
-      let right : IsRightBefore rows key (onode d u size) = walked.last_is in
-      let good = walked.good (format.row_key (onode d u size)) (format.row_value (onode d u size)) right.below right.has.stands in
+      let right : IsRightBefore (width_of s) rows key (onode d u size) = walked.last_is in
+      let good = walked.good (format.row_key (onode d u size)) (format.row_value (width_of s) (onode d u size)) right.below right.has.stands in
       let place : IsInPlace s rows (onode d u size) = good_in_place s rows (onode d u size) right.has good in
       subst (λ n. HasKey rows (coll_key n)) same place.0
   collection_before (Some (read.Shard d u first es)) c walked same =
-      let right : IsRightBefore rows key (shard d u first es) = walked.last_is in
-      let good = walked.good (format.row_key (shard d u first es)) (format.row_value (shard d u first es)) right.below right.has.stands in
+      let right : IsRightBefore (width_of s) rows key (shard d u first es) = walked.last_is in
+      let good = walked.good (format.row_key (shard d u first es))
+      (format.row_value (width_of s) (shard d u first es)) right.below right.has.stands in
       let place : IsShardInPlace s rows d u first es = good_in_place s rows (shard d u first es) right.has good in
       subst (λ n. HasKey rows (coll_key n)) same place.has_collection
 
-  pub onode_before : (last : Option Row) (c o : List ℕ) (size : ℕ) → IsWalkedTo s rows last key → IsOnodeOf last c o size → HasRow rows (onode c o size)
+  pub onode_before : (last : Option Row) (c o : List ℕ) (size : ℕ) → IsWalkedTo s rows last key → IsOnodeOf last c o size → HasOnode rows c o size
   onode_before None c o size walked same = absurd same
   onode_before (Some (read.Collection d)) c o size walked same = absurd same
   onode_before (Some (read.Bitmap r bits)) c o size walked same = absurd same
   onode_before (Some (read.Shard d u first es)) c o size walked same = absurd same
   onode_before (Some (read.Onode d u own)) c o size walked same =
-      let right : IsRightBefore rows key (onode d u own) = walked.last_is in
-      subst (HasRow rows) (λ i. onode (same.0 i) (same.1 i) (same.2 i)) right.has
+      let right : IsRightBefore (width_of s) rows key (onode d u own) = walked.last_is in
+      subst (HasRow (width_of s) rows) (λ i. onode (same.0 i) (same.1 i) (same.2 i)) right.has
 
 -- the onode says one size
-one_size : (rows : Rows) (c o : List ℕ) (size other : ℕ) → HasRow rows (onode c o size) → HasRow rows (onode c o other) → size ≡ other
+one_size : (rows : Rows) (c o : List ℕ) (size other : ℕ) → HasOnode rows c o size → HasOnode rows c o other → size ≡ other
 one_size rows c o size other a b =
     let same : to_le_bytes w64 size ≡ to_le_bytes w64 other = value (sym a.stands ∙ b.stands) in
     same_onode (to_le_bytes w64 size) size other (record { below = a.fits.2; spelled = refl }) (record { below = b.fits.2; spelled = same })
@@ -56,7 +58,7 @@ one_size rows c o size other a b =
     value e = cc
 
 -- extents within the size that the onode is known to say
-pub within_size : (rows : Rows) (c o : List ℕ) (size : ℕ) (es : List Extent) → HasRow rows (onode c o size)
+pub within_size : (rows : Rows) (c o : List ℕ) (size : ℕ) (es : List Extent) → HasOnode rows c o size
     → AllByRecursion (λ e. page_end e ≤ pages_of size) es ↔ IsWithinOnode rows c o es
 within_size rows c o size es has = (
   λ all. record {

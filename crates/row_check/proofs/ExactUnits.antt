@@ -1,20 +1,22 @@
 -- Whether the bitmap is exact, by the sets of owned, shared and marked units.
 use Rattle.std.proofs.Common.{◌≡◌, inl, inr, ℕ, ◌^◌, ◌<◌, ◌≤◌, false, length, get_or, Option, Some, None, subst, arith}
+use Rattle.unit_fields.specs.declared.width.Width.{Width}
 use Rattle.std.specs.FinSet as set
 use Rattle.std.proofs.lemmas.Bool.{cases_lt, cases_Bool}
 use Rattle.std.proofs.lemmas.List.{get_or_past}
 use Rattle.meta_rows.specs.Rows.{Rows}
 use Rattle.store_image.specs.Owners.{HasSoleOwner, IsOwned, IsExactAs, IsInexact, IsLeastInexact}
 use Rattle.bitmap_freelist.specs.Bitmap as freelist
-use Rattle.bitmap_freelist.specs.Bitmap.{Units, Has}
+use Rattle.bitmap_freelist.specs.Bitmap.{Units}
 use Rattle.row_check.specs.Marks.{Marks}
 use Rattle.row_check.specs.Owned.{AreOwned, AreShared, AreMarked}
 use Rattle.row_check.specs.Least.{IsLeast, IsLeastOf, IsWrong}
 use Rattle.row_check.proofs.MarkedRows.{same_or_not}
 
 -- an owned unit is one of those that have marks
-pub owned_below : (rows : Rows) (m : Marks) (units : ℕ) → AreMarked rows m → length m.owned ≡ units → (unit : ℕ) → IsOwned rows unit → unit < units
-owned_below rows m units are many unit owned = elim (cases_lt unit units) [
+pub owned_below : (w : Width) (rows : Rows) (m : Marks) (units : ℕ) → AreMarked w rows m → length m.owned ≡ units → (unit : ℕ)
+    → IsOwned w rows unit → unit < units
+owned_below w rows m units are many unit owned = elim (cases_lt unit units) [
   | inl lt ↦ lt
   | inr ge ↦ absurd (
       let is = (are.owned unit).1 owned in
@@ -23,25 +25,25 @@ owned_below rows m units are many unit owned = elim (cases_lt unit units) [
 ]
 
 -- a unit that can't have two owners has one at most
-sole : (rows : Rows) (unit : ℕ) → (((HasSoleOwner rows unit) → ⊥) → ⊥) → HasSoleOwner rows unit
-sole rows unit never a b p q = elim (same_or_not a b) [
+sole : (w : Width) (rows : Rows) (unit : ℕ) → (((HasSoleOwner w rows unit) → ⊥) → ⊥) → HasSoleOwner w rows unit
+sole w rows unit never a b p q = elim (same_or_not a b) [
   | inl e ↦ e
   | inr apart ↦ absurd (never (λ is. apart (is a b p q)))
 ]
 
 -- what is known of the three sets
-pub record AreUnitsOf (rows : Rows) (owned shared marked : Units) (units : ℕ) : Type 0 where
-  pub owned_are : AreOwned rows owned
-  pub shared_are : AreShared rows shared
+pub record AreUnitsOf (w : Width) (rows : Rows) (owned shared marked : Units) (units : ℕ) : Type 0 where
+  pub owned_are : AreOwned w rows owned
+  pub shared_are : AreShared w rows shared
   pub marked_are : freelist.AreMarked rows marked
-  pub below : (unit : ℕ) → IsOwned rows unit → unit < units
+  pub below : (unit : ℕ) → IsOwned w rows unit → unit < units
   pub most : units ≤ 1048576
 
-module _ (rows : Rows) (owned shared marked : Units) (units : ℕ) (are : AreUnitsOf rows owned shared marked units) where
-  small : (unit : ℕ) → IsOwned rows unit → unit < 2 ^ 32
+module _ (w : Width) (rows : Rows) (owned shared marked : Units) (units : ℕ) (are : AreUnitsOf w rows owned shared marked units) where
+  small : (unit : ℕ) → IsOwned w rows unit → unit < 2 ^ 32
   small unit is = omega (arith, are.below unit is, are.most)
 
-  wrong_inexact : (unit : ℕ) → IsWrong owned shared marked unit → IsInexact rows unit
+  wrong_inexact : (unit : ℕ) → IsWrong owned shared marked unit → IsInexact w rows unit
   wrong_inexact unit is = elim is [
     | inl outside ↦
         let own = (are.owned_are unit).0 outside.0 in
@@ -49,33 +51,33 @@ module _ (rows : Rows) (owned shared marked : Units) (units : ℕ) (are : AreUni
     | inr has ↦ inr ((are.shared_are unit).0 has)
   ]
 
-  inexact_wrong : (unit : ℕ) → IsInexact rows unit → IsWrong owned shared marked unit
+  inexact_wrong : (unit : ℕ) → IsInexact w rows unit → IsWrong owned shared marked unit
   inexact_wrong unit is = elim is [
     | inl unmarked ↦ inl ((are.owned_are unit).1 unmarked.0, λ has. unmarked.1 ((are.marked_are unit).0 has).1)
     | inr two ↦ inr ((are.shared_are unit).1 two)
   ]
 
-  least_inexact : (unit : ℕ) → IsLeast (IsWrong owned shared marked) unit → IsLeastInexact rows unit
+  least_inexact : (unit : ℕ) → IsLeast (IsWrong owned shared marked) unit → IsLeastInexact w rows unit
   least_inexact unit is =
       record { inexact = wrong_inexact unit is.holds; least = λ other less wrong. is.least other less (inexact_wrong other wrong) }
 
-  none_inexact : ((unit : ℕ) → ¬ IsWrong owned shared marked unit) → IsExactAs rows rows
+  none_inexact : ((unit : ℕ) → ¬ IsWrong owned shared marked unit) → IsExactAs w rows rows
   none_inexact none = record {
     marked = λ unit below is. elim (cases_Bool (set.contains owned unit)) [
       | inl has ↦ inl ((are.owned_are unit).0 has)
       | inr out ↦
-          let free : ¬ IsOwned rows unit = λ owns. let has = (are.owned_are unit).1 owns in cc in
+          let free : ¬ IsOwned w rows unit = λ owns. let has = (are.owned_are unit).1 owns in cc in
           inr (record { is_unit = below; marked = is; unowned = free }, free)
     ];
     owned_marked = λ unit own. elim (cases_Bool (set.contains marked unit)) [
       | inl has ↦ ((are.marked_are unit).0 has).1
       | inr out ↦ absurd (none unit (inl ((are.owned_are unit).1 own, λ has. cc)))
     ];
-    one_owner = λ unit. sole rows unit (λ two. none unit (inr ((are.shared_are unit).1 two)));
+    one_owner = λ unit. sole w rows unit (λ two. none unit (inr ((are.shared_are unit).1 two)));
   }
 
-  pub found_exact : (found : Option ℕ) → IsLeastOf (IsWrong owned shared marked) found → found ≡ None → IsExactAs rows rows
+  pub found_exact : (found : Option ℕ) → IsLeastOf (IsWrong owned shared marked) found → found ≡ None → IsExactAs w rows rows
   found_exact found least is = none_inexact (subst (IsLeastOf (IsWrong owned shared marked)) is least)
 
-  pub found_inexact : (found : Option ℕ) (unit : ℕ) → IsLeastOf (IsWrong owned shared marked) found → found ≡ Some unit → IsLeastInexact rows unit
+  pub found_inexact : (found : Option ℕ) (unit : ℕ) → IsLeastOf (IsWrong owned shared marked) found → found ≡ Some unit → IsLeastInexact w rows unit
   found_inexact found unit least is = least_inexact unit (subst (IsLeastOf (IsWrong owned shared marked)) is least)

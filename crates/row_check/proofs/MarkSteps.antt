@@ -1,15 +1,17 @@
 -- The steps of marking, as the loops see them.
 use Rattle.std.proofs.Common.{◌≡◌, ℕ, zero, suc, ◌+◌, ◌*◌, ◌<◌, ◌≤◌, List, [], ◌∷◌, ◌++◌, length, drop, refl, sym, ap, subst, ◌∙◌, arith}
+use Rattle.unit_fields.specs.declared.width.Width.{Width}
 use Rattle.std.specs.List.{flat_map, AllByRecursion}
-use Rattle.std.specs.Int.{w32, to_le_bytes}
 use Rattle.std.proofs.lemmas.List.{length-append, length-set, drop_at}
 use Rattle.std.proofs.lemmas.List.Concat.{flat_map-cons}
 use Rattle.unit_fields.specs.Fields.{ReadsBytes}
+use Rattle.unit_fields.specs.Widths.{bytes_of}
+use Rattle.row_format.specs.Csums.{csum_bytes}
 use Rattle.row_format.specs.Extents.{Body, private, Extent, extent_bytes, FitsExtent}
 use Rattle.onode_codec.specs.declared.extent.Head.{Head}
 use Rattle.onode_codec.specs.Reading.{BeginsWithNoExtent, ReadsHead, SpellExtents}
 use Rattle.onode_codec.proofs.Again.{same_extents}
-use Rattle.onode_codec.proofs.ExtentReading.{head_front, length-numbers}
+use Rattle.onode_codec.proofs.ExtentReading.{head_front, length-csums}
 use Rattle.row_check.specs.Marks.{Marks, run_marked, extents_marked, AllEndBy, SpellExtentsBelow}
 
 pub length-run : (m : Marks) (first n : ℕ) → length (run_marked m first n).owned ≡ length m.owned
@@ -17,22 +19,24 @@ length-run m first zero = refl
 length-run m first (suc n) = length-set _ (first + n) _ ∙ length-run m first n
 
 -- the head of the first of these extents was read
-record IsFirst (mid : List ℕ) (h : Head) (left : List Extent) : Type 0 where
+record IsFirst (w : Width) (mid : List ℕ) (h : Head) (left : List Extent) : Type 0 where
   pub csums : List ℕ
   pub count_is : h.count ≡ length csums
   pub rest : List Extent
   pub is : left ≡ record { first = h.first; body = private h.unit csums } ∷ rest
-  pub behind : mid ≡ flat_map (to_le_bytes w32) csums ++ flat_map extent_bytes rest
-  pub fit : AllByRecursion FitsExtent rest
+  pub behind : mid ≡ flat_map (csum_bytes w) csums ++ flat_map (extent_bytes w) rest
+  pub fit : AllByRecursion (FitsExtent w) rest
 
-first_is : (fields mid : List ℕ) (h : Head) (left : List Extent) → SpellExtents fields left → ReadsHead fields mid h → IsFirst mid h left
-first_is fields mid h [] spelled read = absurd (omega (arith, ap length (sym spelled.spelled ∙ read.spelled)))
-first_is fields mid h (e ∷ es) spelled read = by e.first e.body spelled.fit.0 (spelled.spelled ∙ flat_map-cons extent_bytes e es)
+first_is : (w : Width) (fields mid : List ℕ) (h : Head) (left : List Extent) → SpellExtents w fields left → ReadsHead fields mid h
+    → IsFirst w mid h left
+first_is w fields mid h [] spelled read = absurd (omega (arith, ap length (sym spelled.spelled ∙ read.spelled)))
+first_is w fields mid h (e ∷ es) spelled read = by e.first e.body spelled.fit.0 (spelled.spelled ∙ flat_map-cons (extent_bytes w) e es)
   where
-    by : (first : ℕ) (b : Body) → FitsExtent (record { first = first; body = b })
-        → fields ≡ extent_bytes (record { first = first; body = b }) ++ flat_map extent_bytes es → IsFirst mid h (record { first = first; body = b } ∷ es)
+    by : (first : ℕ) (b : Body) → FitsExtent w (record { first = first; body = b })
+        → fields ≡ extent_bytes w (record { first = first; body = b }) ++ flat_map (extent_bytes w) es
+        → IsFirst w mid h (record { first = first; body = b } ∷ es)
     by first (private unit csums) fits is =
-        let at = head_front fields mid (flat_map extent_bytes es) h first unit csums read fits is in
+        let at = head_front w fields mid (flat_map (extent_bytes w) es) h first unit csums read fits is in
         record {
           csums = csums;
           count_is = at.count_is;
@@ -43,28 +47,29 @@ first_is fields mid h (e ∷ es) spelled read = by e.first e.body spelled.fit.0 
         }
 
 -- the extents that bytes spell are marked but for those that are left
-pub record AreMarkedTo (old : Marks) (bytes fields : List ℕ) (m : Marks) : Type 0 where
+pub record AreMarkedTo (w : Width) (old : Marks) (bytes fields : List ℕ) (m : Marks) : Type 0 where
   pub all : List Extent
-  pub whole : SpellExtents bytes all
+  pub whole : SpellExtents w bytes all
   pub left : List Extent
-  pub spelled : SpellExtents fields left
+  pub spelled : SpellExtents w fields left
   pub below : AllEndBy (length m.owned) left
   pub marked : extents_marked m left ≡ extents_marked old all
 
-pub none_marked : (old : Marks) (bytes fields : List ℕ) → SpellExtentsBelow bytes (length old.owned) → fields ≡ bytes → AreMarkedTo old bytes fields old
-none_marked old bytes fields spell is = record {
+pub none_marked : (w : Width) (old : Marks) (bytes fields : List ℕ) → SpellExtentsBelow w bytes (length old.owned) → fields ≡ bytes
+    → AreMarkedTo w old bytes fields old
+none_marked w old bytes fields spell is = record {
   all = spell.extents;
   whole = spell.spelled;
   left = spell.extents;
-  spelled = subst (λ l. SpellExtents l spell.extents) (sym is) spell.spelled;
+  spelled = subst (λ l. SpellExtents w l spell.extents) (sym is) spell.spelled;
   below = spell.below;
   marked = refl;
 }
 
-module _ (old : Marks) (bytes fields : List ℕ) (m : Marks) (so_far : AreMarkedTo old bytes fields m) where
+module _ (w : Width) (old : Marks) (bytes fields : List ℕ) (m : Marks) (so_far : AreMarkedTo w old bytes fields m) where
   module _ (mid : List ℕ) (h : Head) (read : ReadsHead fields mid h) where
-    first : IsFirst mid h so_far.left
-    first = first_is fields mid h so_far.left so_far.spelled read
+    first : IsFirst w mid h so_far.left
+    first = first_is w fields mid h so_far.left so_far.spelled read
 
     ends : AllEndBy (length m.owned) (record { first = h.first; body = private h.unit first.csums } ∷ first.rest)
     ends = subst (AllEndBy (length m.owned)) first.is so_far.below
@@ -72,27 +77,27 @@ module _ (old : Marks) (bytes fields : List ℕ) (m : Marks) (so_far : AreMarked
     pub units_there : h.unit + h.count ≤ length m.owned
     units_there = let here = ends.0 in omega (arith, here, first.count_is)
 
-    pub csums_there : 4 * h.count ≤ length mid
+    pub csums_there : bytes_of w h.count ≤ length mid
     csums_there = omega (
       arith,
-      first.count_is,
+      ap (bytes_of w) first.count_is,
       ap length first.behind,
-      length-append (flat_map (to_le_bytes w32) first.csums) (flat_map extent_bytes first.rest),
-      length-numbers first.csums,
+      length-append (flat_map (csum_bytes w) first.csums) (flat_map (extent_bytes w) first.rest),
+      length-csums w first.csums,
     )
 
-    module _ (new piece : List ℕ) (passed : ReadsBytes (4 * h.count) mid new piece) where
+    module _ (new piece : List ℕ) (passed : ReadsBytes (bytes_of w h.count) mid new piece) where
       pub fewer : length new < length fields
       fewer = omega (arith, ap length read.spelled, ap length passed.parts, length-append piece new)
 
-      rest_spelled : new ≡ flat_map extent_bytes first.rest
+      rest_spelled : new ≡ flat_map (extent_bytes w) first.rest
       rest_spelled =
-          let n : ℕ = 4 * h.count in
-          let size : length (flat_map (to_le_bytes w32) first.csums) ≡ n = omega (arith, length-numbers first.csums, first.count_is) in
+          let n : ℕ = bytes_of w h.count in
+          let size : length (flat_map (csum_bytes w) first.csums) ≡ n = length-csums w first.csums ∙ sym (ap (bytes_of w) first.count_is) in
           sym (drop_at piece new n passed.size) ∙ ap (drop n) (sym passed.parts ∙ first.behind)
-          ∙ drop_at (flat_map (to_le_bytes w32) first.csums) (flat_map extent_bytes first.rest) n size
+          ∙ drop_at (flat_map (csum_bytes w) first.csums) (flat_map (extent_bytes w) first.rest) n size
 
-      pub one_marked : (then : Marks) → then ≡ run_marked m h.unit h.count → AreMarkedTo old bytes new then
+      pub one_marked : (then : Marks) → then ≡ run_marked m h.unit h.count → AreMarkedTo w old bytes new then
       one_marked then is = record {
         all = so_far.all;
         whole = so_far.whole;
@@ -103,9 +108,12 @@ module _ (old : Marks) (bytes fields : List ℕ) (m : Marks) (so_far : AreMarked
             ∙ sym (ap (extents_marked m) first.is) ∙ so_far.marked;
       }
 
-  pub all_marked : BeginsWithNoExtent fields → (es : List Extent) → SpellExtents bytes es → m ≡ extents_marked old es
-  all_marked none es spelled = by so_far.left so_far.spelled so_far.marked ∙ ap (extents_marked old) (same_extents bytes so_far.all es so_far.whole spelled)
+  pub all_marked : BeginsWithNoExtent w fields → (es : List Extent) → SpellExtents w bytes es → m ≡ extents_marked old es
+  all_marked none es spelled = by so_far.left so_far.spelled so_far.marked
+      ∙ ap (extents_marked old) (same_extents w bytes so_far.all es so_far.whole spelled)
     where
-      by : (left : List Extent) → SpellExtents fields left → extents_marked m left ≡ extents_marked old so_far.all → m ≡ extents_marked old so_far.all
+      by : (left : List Extent) → SpellExtents w fields left → extents_marked m left ≡ extents_marked old so_far.all
+          → m ≡ extents_marked old so_far.all
       by [] spelled is = is
-      by (e ∷ left) spelled is = absurd (none e (flat_map extent_bytes left) spelled.fit.0 (spelled.spelled ∙ flat_map-cons extent_bytes e left))
+      by (e ∷ left) spelled is =
+          absurd (none e (flat_map (extent_bytes w) left) spelled.fit.0 (spelled.spelled ∙ flat_map-cons (extent_bytes w) e left))

@@ -1,5 +1,7 @@
 -- What the marks of the rows that were gone through tell.
 use Rattle.std.proofs.Common.{◌≡◌, ◌⊎◌, ◌↔◌, inl, inr, ℕ, ◌+◌, ◌<◌, ◌≤◌, true, false, List, [], ◌∷◌, length, get_or, replicate, Some, refl, sym, ap, subst, ◌∙◌, arith}
+use Rattle.meta_log.specs.Slots.{width_of}
+use Rattle.unit_fields.specs.declared.width.Width.{Width}
 use Rattle.std.specs.List.{AllByRecursion}
 use Rattle.std.specs.declared.cmp.Ordering.TheVariants.{Less}
 use Rattle.std.specs.FinMap as map
@@ -14,7 +16,7 @@ use Rattle.row_format.specs.Extents.{Body, private, Extent, own}
 use Rattle.row_format.specs.Row as format
 use Rattle.row_format.specs.Row.{collection, onode, shard, bitmap}
 use Rattle.row_format.proofs.RowLemmas.{same_row}
-use Rattle.store_image.specs.Pages.{HasRow, IsPageAt}
+use Rattle.store_image.specs.Pages.{HasRow, HasShard, IsPageAt}
 use Rattle.store_image.specs.BadRows.{IsOnData, IsShardInPlace, IsGoodRow, NoBadRow}
 use Rattle.store_image.specs.Owners.{Owner, page_of, Owns}
 use Rattle.store_image.proofs.PageMap.{in_place}
@@ -29,21 +31,21 @@ use Rattle.row_check.proofs.OneMark.{Tells, HasUnits, tells_same}
 use Rattle.row_check.proofs.RunMarks.{ExtentsOwn, RowOwns, RowAscends, row_tells, row_units, page_below, page_of_shard}
 
 -- the row stands at this place
-abbrev pub RowAt : List (List ℕ × List ℕ) → ℕ → format.Row → Type 0
-RowAt es j row = (d : List ℕ × List ℕ) → SpellsRow (get_or es j d).0 (get_or es j d).1 row
+abbrev pub RowAt : Width → List (List ℕ × List ℕ) → ℕ → format.Row → Type 0
+RowAt w es j row = (d : List ℕ × List ℕ) → SpellsRow w (get_or es j d).0 (get_or es j d).1 row
 
 -- a row before this place has a page on the unit
-pub record OwnsBefore (es : List (List ℕ × List ℕ)) (i : ℕ) (a : Owner) (v : ℕ) : Type 0 where
+pub record OwnsBefore (w : Width) (es : List (List ℕ × List ℕ)) (i : ℕ) (a : Owner) (v : ℕ) : Type 0 where
   pub at : ℕ
   pub before : at < i
   pub within : at < length es
   pub row : format.Row
-  pub stands : RowAt es at row
+  pub stands : RowAt w es at row
   pub owns : RowOwns row a v
 
 -- the rows before this place are marked, over so many units
-pub record MarkedTo (es : List (List ℕ × List ℕ)) (i units : ℕ) (m : Marks) : Type 0 where
-  pub told : Tells (OwnsBefore es i) m
+pub record MarkedTo (w : Width) (es : List (List ℕ × List ℕ)) (i units : ℕ) (m : Marks) : Type 0 where
+  pub told : Tells (OwnsBefore w es i) m
   pub has : HasUnits units m
 
 -- ---- at the start
@@ -54,8 +56,8 @@ no_mark n v = elim (cases_lt v n) [
   | inr ge ↦ get_or_past (replicate n false) v false (omega (arith, ge, length-replicate n false))
 ]
 
-pub none_marked : (es : List (List ℕ × List ℕ)) (units : ℕ) → MarkedTo es 0 units (no_marks units)
-none_marked es units = record {
+pub none_marked : (w : Width) (es : List (List ℕ × List ℕ)) (units : ℕ) → MarkedTo w es 0 units (no_marks units)
+none_marked w es units = record {
   told = record {
     owned = λ v. ((λ is. let no = no_mark units v in absurd cc), (λ q. absurd (omega (arith, q.1.before))));
     shared = λ v. ((λ is. let no = no_mark units v in absurd cc), (λ t. absurd (omega (arith, t.first.before))));
@@ -66,30 +68,31 @@ none_marked es units = record {
 -- ---- one row
 
 -- the pages of a row that is a shard are marked, and another row has none
-pub shard_below : (key value : List ℕ) (units : ℕ) → SpellsRowWithin key value units → TellsShard key value true → SpellExtentsBelow value units
-shard_below key value units w told = by w.row w.spells w.within
+pub shard_below : (w : Width) (key value : List ℕ) (units : ℕ) → SpellsRowWithin w key value units → TellsShard w key value true
+    → SpellExtentsBelow w value units
+shard_below w key value units within told = by within.row within.spells within.within
   where
-    by : (row : format.Row) → SpellsRow key value row → RowEndsBy units row → SpellExtentsBelow value units
+    by : (row : format.Row) → SpellsRow w key value row → RowEndsBy units row → SpellExtentsBelow w value units
     by (collection c) s within = absurd ((told (collection c) s).0 refl)
     by (onode c o size) s within = absurd ((told (onode c o size) s).0 refl)
     by (shard c o page es) s within = record { extents = es; spelled = record { fit = s.fits.fit; spelled = s.value_is }; below = within }
     by (bitmap r bits) s within = absurd ((told (bitmap r bits) s).0 refl)
 
-pub shard_marked : (key value : List ℕ) (old new : Marks) → TellsShard key value true
-    → ((es : List Extent) → SpellExtents value es → new ≡ extents_marked old es) → AreMarkedOn key value old new
-shard_marked key value old new told all (collection c) s = absurd ((told (collection c) s).0 refl)
-shard_marked key value old new told all (onode c o size) s = absurd ((told (onode c o size) s).0 refl)
-shard_marked key value old new told all (shard c o page es) s = all es (record { fit = s.fits.fit; spelled = s.value_is })
-shard_marked key value old new told all (bitmap r bits) s = absurd ((told (bitmap r bits) s).0 refl)
+pub shard_marked : (w : Width) (key value : List ℕ) (old new : Marks) → TellsShard w key value true
+    → ((es : List Extent) → SpellExtents w value es → new ≡ extents_marked old es) → AreMarkedOn w key value old new
+shard_marked w key value old new told all (collection c) s = absurd ((told (collection c) s).0 refl)
+shard_marked w key value old new told all (onode c o size) s = absurd ((told (onode c o size) s).0 refl)
+shard_marked w key value old new told all (shard c o page es) s = all es (record { fit = s.fits.fit; spelled = s.value_is })
+shard_marked w key value old new told all (bitmap r bits) s = absurd ((told (bitmap r bits) s).0 refl)
 
-pub no_shard_marked : (key value : List ℕ) (old : Marks) → TellsShard key value false → AreMarkedOn key value old old
-no_shard_marked key value old told (collection c) s = refl
-no_shard_marked key value old told (onode c o size) s = refl
-no_shard_marked key value old told (shard c o page es) s = absurd (let is = (told (shard c o page es) s).1 tt in cc)
-no_shard_marked key value old told (bitmap r bits) s = refl
+pub no_shard_marked : (w : Width) (key value : List ℕ) (old : Marks) → TellsShard w key value false → AreMarkedOn w key value old old
+no_shard_marked w key value old told (collection c) s = refl
+no_shard_marked w key value old told (onode c o size) s = refl
+no_shard_marked w key value old told (shard c o page es) s = absurd (let is = (told (shard c o page es) s).1 tt in cc)
+no_shard_marked w key value old told (bitmap r bits) s = refl
 
-pub same_spelled : (key value : List ℕ) (a b : format.Row) → SpellsRow key value a → SpellsRow key value b → a ≡ b
-same_spelled key value a b p q = same_row a b p.fits q.fits (sym p.key_is ∙ q.key_is) (sym p.value_is ∙ q.value_is)
+pub same_spelled : (w : Width) (key value : List ℕ) (a b : format.Row) → SpellsRow w key value a → SpellsRow w key value b → a ≡ b
+same_spelled w key value a b p q = same_row w a b p.fits q.fits (sym p.key_is ∙ q.key_is) (sym p.value_is ∙ q.value_is)
 
 body_ends : (s : Super) (body : Body) → IsOnData s body → EndsBy s.units body
 body_ends s (private unit csums) on = on.1
@@ -99,22 +102,22 @@ all_end s [] all = tt
 all_end s (e ∷ es) all = (body_ends s e.body all.0, all_end s es all.1)
 
 module _ (s : Super) (rows : Rows) (good : NoBadRow s rows) where
-  row_ends : (row : format.Row) → HasRow rows row → RowEndsBy s.units row
+  row_ends : (row : format.Row) → HasRow (width_of s) rows row → RowEndsBy s.units row
   row_ends (collection c) has = tt
   row_ends (onode c o size) has = tt
   row_ends (bitmap r bits) has = tt
   row_ends (shard c o page es) has =
       let place : IsShardInPlace s rows c o page es = in_place s rows (shard c o page es) good has in all_end s es place.on_data
 
-  row_ascends : (row : format.Row) → HasRow rows row → RowAscends row
+  row_ascends : (row : format.Row) → HasRow (width_of s) rows row → RowAscends row
   row_ascends (collection c) has = tt
   row_ascends (onode c o size) has = tt
   row_ascends (bitmap r bits) has = tt
   row_ascends (shard c o page es) has =
       let place : IsShardInPlace s rows c o page es = in_place s rows (shard c o page es) good has in place.ascend
 
-  not_before : (c o : List ℕ) (first other : ℕ) (es fs : List Extent) (a : Owner) (v w : ℕ) → HasRow rows (shard c o first es)
-      → HasRow rows (shard c o other fs) → ExtentsOwn c o es a v → ExtentsOwn c o fs a w → first < other → ⊥
+  not_before : (c o : List ℕ) (first other : ℕ) (es fs : List Extent) (a : Owner) (v w : ℕ) → HasShard (width_of s) rows c o first es
+      → HasShard (width_of s) rows c o other fs → ExtentsOwn c o es a v → ExtentsOwn c o fs a w → first < other → ⊥
   not_before c o first other es fs a v w has later x y lt =
       let place : IsShardInPlace s rows c o other fs = in_place s rows (shard c o other fs) good later in
       let same : x.page ≡ y.page = number (sym x.owner_is ∙ y.owner_is) in
@@ -129,8 +132,8 @@ module _ (s : Super) (rows : Rows) (good : NoBadRow s rows) where
       number e = cc
 
   -- a page is in one shard
-  one_shard : (c o : List ℕ) (first other : ℕ) (es fs : List Extent) (a : Owner) (v w : ℕ) → HasRow rows (shard c o first es)
-      → HasRow rows (shard c o other fs) → ExtentsOwn c o es a v → ExtentsOwn c o fs a w → first ≡ other
+  one_shard : (c o : List ℕ) (first other : ℕ) (es fs : List Extent) (a : Owner) (v w : ℕ) → HasShard (width_of s) rows c o first es
+      → HasShard (width_of s) rows c o other fs → ExtentsOwn c o es a v → ExtentsOwn c o fs a w → first ≡ other
   one_shard c o first other es fs a v w p q x y = elim (cases_lt first other) [
     | inl lt ↦ absurd (not_before c o first other es fs a v w p q x y lt)
     | inr ge ↦ elim (cases_lt other first) [
@@ -139,13 +142,13 @@ module _ (s : Super) (rows : Rows) (good : NoBadRow s rows) where
     ]
   ]
 
-  owned_key : (c o d u : List ℕ) (first other : ℕ) (es fs : List Extent) (a : Owner) (v w : ℕ) → HasRow rows (shard c o first es)
-      → HasRow rows (shard d u other fs) → ExtentsOwn c o es a v → ExtentsOwn d u fs a w → shard_key c o first ≡ shard_key d u other
+  owned_key : (c o d u : List ℕ) (first other : ℕ) (es fs : List Extent) (a : Owner) (v w : ℕ) → HasShard (width_of s) rows c o first es
+      → HasShard (width_of s) rows d u other fs → ExtentsOwn c o es a v → ExtentsOwn d u fs a w → shard_key c o first ≡ shard_key d u other
   owned_key c o d u first other es fs a v w p q x y =
       let same : page_of c o x.page ≡ page_of d u y.page = sym x.owner_is ∙ y.owner_is in
       let coll : c ≡ d = coll_of same in
       let object : o ≡ u = object_of same in
-      let here = subst (λ k. HasRow rows (shard k u first es)) coll (subst (λ k. HasRow rows (shard c k first es)) object p) in
+      let here = subst (λ k. HasShard (width_of s) rows k u first es) coll (subst (λ k. HasShard (width_of s) rows c k first es) object p) in
       let e = one_shard d u first other es fs a v w here q
       (subst (λ k. ExtentsOwn k u es a v) coll (subst (λ k. ExtentsOwn c k es a v) object x)) y in
       λ i. shard_key (coll i) (object i) (e i)
@@ -157,7 +160,7 @@ module _ (s : Super) (rows : Rows) (good : NoBadRow s rows) where
       object_of e = cc
 
   -- the rows that a page stands in have one key
-  same_key : (r t : format.Row) (a : Owner) (v w : ℕ) → HasRow rows r → HasRow rows t → RowOwns r a v → RowOwns t a w
+  same_key : (r t : format.Row) (a : Owner) (v w : ℕ) → HasRow (width_of s) rows r → HasRow (width_of s) rows t → RowOwns r a v → RowOwns t a w
       → format.row_key r ≡ format.row_key t
   same_key (collection c) t a v w p q x y = absurd x
   same_key (onode c o size) t a v w p q x y = absurd x
@@ -173,36 +176,37 @@ module _ (s : Super) (rows : Rows) (good : NoBadRow s rows) where
     pair = entry_is es i x key value l is k v
 
     -- the row at this place
-    at_here : (row : format.Row) → SpellsRow key value row → RowAt es i row
-    at_here row spells d = subst (λ (e : List ℕ × List ℕ). SpellsRow e.0 e.1 row) (sym (pair d)) spells
+    at_here : (row : format.Row) → SpellsRow (width_of s) key value row → RowAt (width_of s) es i row
+    at_here row spells d = subst (λ (e : List ℕ × List ℕ). SpellsRow (width_of s) e.0 e.1 row) (sym (pair d)) spells
 
-    here_at : (row : format.Row) → RowAt es i row → SpellsRow key value row
-    here_at row at = subst (λ (e : List ℕ × List ℕ). SpellsRow e.0 e.1 row) (pair x) (at x)
+    here_at : (row : format.Row) → RowAt (width_of s) es i row → SpellsRow (width_of s) key value row
+    here_at row at = subst (λ (e : List ℕ × List ℕ). SpellsRow (width_of s) e.0 e.1 row) (pair x) (at x)
 
-    has_here : (row : format.Row) → SpellsRow key value row → HasRow rows row
-    has_here row spells = has_spelled rows es are i x row l (at_here row spells x)
+    has_here : (row : format.Row) → SpellsRow (width_of s) key value row → HasRow (width_of s) rows row
+    has_here row spells = has_spelled (width_of s) rows es are i x row l (at_here row spells x)
 
     -- the row at this place is good
     good_here : IsGoodRow s rows key value
     good_here = good key value (subst (λ (e : List ℕ × List ℕ). map.get rows e.0 ≡ Some e.1) (pair x) (are.has i x l))
 
-    spelled_here : SpellsRow key value good_here.row
+    spelled_here : SpellsRow (width_of s) key value good_here.row
     spelled_here = record { fits = good_here.fits; key_is = good_here.key_is; value_is = good_here.value_is }
 
-    pub spells_within : SpellsRowWithin key value s.units
+    pub spells_within : SpellsRowWithin (width_of s) key value s.units
     spells_within =
         record { row = good_here.row; spells = spelled_here; within = row_ends good_here.row (has_here good_here.row spelled_here) }
 
-    fresh : (row : format.Row) → SpellsRow key value row → (a : Owner) (u w : ℕ) → RowOwns row a u → OwnsBefore es i a w → ⊥
+    fresh : (row : format.Row) → SpellsRow (width_of s) key value row → (a : Owner) (u w : ℕ) → RowOwns row a u → OwnsBefore (width_of s) es i a w → ⊥
     fresh row spells a u w owns b =
-        let earlier : HasRow rows b.row = has_spelled rows es are b.at x b.row b.within (b.stands x) in
+        let earlier : HasRow (width_of s) rows b.row = has_spelled (width_of s) rows es are b.at x b.row b.within (b.stands x) in
         let same = same_key b.row row a w u earlier (has_here row spells) b.owns owns in
         let keys : (get_or es b.at x).0 ≡ (get_or es i x).0 = (b.stands x).key_is ∙ same ∙ sym ((at_here row spells x).key_is) in
         let tied = tied_itself nat_list_cmp_total (get_or es i x).0 in
         let itself = subst (λ z. byte_order z (get_or es i x).0 ≡ Less) keys (rising es b.at i x x are.sorted b.before l) in cc
 
     -- what is owned before the next place
-    more : (row : format.Row) → SpellsRow key value row → (a : Owner) (u : ℕ) → (OwnsBefore es i a u ⊎ RowOwns row a u) ↔ OwnsBefore es (i + 1) a u
+    more : (row : format.Row) → SpellsRow (width_of s) key value row → (a : Owner) (u : ℕ)
+        → (OwnsBefore (width_of s) es i a u ⊎ RowOwns row a u) ↔ OwnsBefore (width_of s) es (i + 1) a u
     more row spells a u = (
       λ q. elim q [
         | inl b ↦ record { at = b.at; before = omega (arith, b.before); within = b.within; row = b.row; stands = b.stands; owns = b.owns }
@@ -212,18 +216,20 @@ module _ (s : Super) (rows : Rows) (good : NoBadRow s rows) where
         | inl lt ↦ inl (record { at = b.at; before = lt; within = b.within; row = b.row; stands = b.stands; owns = b.owns })
         | inr ge ↦
             let here : b.at ≡ i = omega (arith, ge, b.before) in
-            let owned = here_at b.row (subst (λ n. RowAt es n b.row) here b.stands) in
-            inr (subst (λ r. RowOwns r a u) (same_spelled key value b.row row owned spells) b.owns)
+            let owned = here_at b.row (subst (λ n. RowAt (width_of s) es n b.row) here b.stands) in
+            inr (subst (λ r. RowOwns r a u) (same_spelled (width_of s) key value b.row row owned spells) b.owns)
       ],
     )
 
-    pub row_step : (m new : Marks) → MarkedTo es i s.units m → AreMarkedOn key value m new → MarkedTo es (i + 1) s.units new
+    pub row_step : (m new : Marks) → MarkedTo (width_of s) es i s.units m → AreMarkedOn (width_of s) key value m new
+        → MarkedTo (width_of s) es (i + 1) s.units new
     row_step m new old on =
         let row = good_here.row in
         let has = has_here row spelled_here in
-        subst (MarkedTo es (i + 1) s.units) (sym (on row spelled_here)) (record {
+        subst (MarkedTo (width_of s) es (i + 1) s.units) (sym (on row spelled_here)) (record {
           told = tells_same _ _ _ (more row spelled_here)
-              (row_tells row (OwnsBefore es i) m s.units old.told old.has (row_ends row has) (row_ascends row has) (fresh row spelled_here));
+              (row_tells row (OwnsBefore (width_of s) es i) m s.units old.told old.has (row_ends row has) (row_ascends row has)
+              (fresh row spelled_here));
           has = row_units s.units row m old.has;
         })
 
@@ -250,20 +256,20 @@ same_or_not (page_of c o p) (page_of d u q) = elim (equal_or_not c d) [
     number : page_of c o p ≡ page_of d u q → p ≡ q
     number e = cc
 
-module _ (rows : Rows) (es : List (List ℕ × List ℕ)) (are : AreRows rows es) (i : ℕ) (end : length es ≤ i) where
-  row_owner : (row : format.Row) (a : Owner) (v : ℕ) → HasRow rows row → RowOwns row a v → Owns rows a v
+module _ (w : Width) (rows : Rows) (es : List (List ℕ × List ℕ)) (are : AreRows rows es) (i : ℕ) (end : length es ≤ i) where
+  row_owner : (row : format.Row) (a : Owner) (v : ℕ) → HasRow w rows row → RowOwns row a v → Owns w rows a v
   row_owner (collection c) a v has owns = absurd owns
   row_owner (onode c o size) a v has owns = absurd owns
   row_owner (bitmap r bits) a v has owns = absurd owns
-  row_owner (shard c o first xs) a v has owns = subst (λ b. Owns rows b v) (sym owns.owner_is)
+  row_owner (shard c o first xs) a v has owns = subst (λ b. Owns w rows b v) (sym owns.owner_is)
       (owns.csum, record { first = first; extents = xs; has_shard = has; has_page = owns.found })
 
-  owns_of : (a : Owner) (v : ℕ) → OwnsBefore es i a v → Owns rows a v
-  owns_of a v b = row_owner b.row a v (has_spelled rows es are b.at ([], []) b.row b.within (b.stands ([], []))) b.owns
+  owns_of : (a : Owner) (v : ℕ) → OwnsBefore w es i a v → Owns w rows a v
+  owns_of a v b = row_owner b.row a v (has_spelled w rows es are b.at ([], []) b.row b.within (b.stands ([], []))) b.owns
 
-  before_of : (a : Owner) (v : ℕ) → Owns rows a v → OwnsBefore es i a v
+  before_of : (a : Owner) (v : ℕ) → Owns w rows a v → OwnsBefore w es i a v
   before_of (page_of c o page) v owns =
-      let at : IsPageAt rows c o page (own v owns.0) = owns.1 in
+      let at : IsPageAt w rows c o page (own v owns.0) = owns.1 in
       let found = are.stands _ _ at.has_shard.stands in
       record {
         at = found.at;
@@ -278,7 +284,7 @@ module _ (rows : Rows) (es : List (List ℕ × List ℕ)) (are : AreRows rows es
         owns = record { page = page; csum = owns.0; owner_is = refl; found = at.has_page };
       }
 
-  pub all_marked : (units : ℕ) (m : Marks) → MarkedTo es i units m → AreMarked rows m
+  pub all_marked : (units : ℕ) (m : Marks) → MarkedTo w es i units m → AreMarked w rows m
   all_marked units m old = record {
     owned = λ v. (
       λ is. let q = (old.told.owned v).0 is in (q.0, owns_of q.0 v q.1),
@@ -293,7 +299,7 @@ module _ (rows : Rows) (es : List (List ℕ × List ℕ)) (are : AreRows rows es
     );
   }
     where
-      one : (v : ℕ) → get_or m.shared v false ≡ false → (a b : Owner) → Owns rows a v → Owns rows b v → a ≡ b
+      one : (v : ℕ) → get_or m.shared v false ≡ false → (a b : Owner) → Owns w rows a v → Owns w rows b v → a ≡ b
       one v none a b p q = elim (same_or_not a b) [
         | inl e ↦ e
         | inr apart ↦

@@ -1,18 +1,14 @@
 -- Rows gone through in the order of their keys.
-use Rattle.std.proofs.Common.{◌≡◌, ℕ, zero, suc, ◌+◌, ◌-◌, ◌<◌, ◌≤◌, inl, inr, true, false, cond, T, List, [], ◌∷◌, length, get_or, Option, Some, None, MatchOption, refl, sym, ap, subst, ◌∙◌, arith}
-use Rattle.std.specs.Ordering.{is_lt, is_eq, ordering_reverse}
-use Rattle.std.specs.declared.cmp.Ordering.{Ordering}
-use Rattle.std.specs.declared.cmp.Ordering.TheVariants.{Less, Equal, Greater}
+use Rattle.std.proofs.Common.{◌≡◌, ℕ, ◌+◌, ◌-◌, ◌<◌, ◌≤◌, inl, inr, List, [], ◌∷◌, length, get_or, Option, Some, None, MatchOption, refl, sym, ap, subst, ◌∙◌, arith}
+use Rattle.meta_log.specs.Slots.{width_of}
+use Rattle.unit_fields.specs.declared.width.Width.{Width}
+use Rattle.std.specs.Ordering.{ordering_reverse}
+use Rattle.std.specs.declared.cmp.Ordering.TheVariants.{Less}
 use Rattle.std.specs.FinMap as map
-use Rattle.std.specs.FinMap.{find, is_sorted}
-use Rattle.std.specs.FinMap.Entries.{where_key, below_all}
 use Rattle.std.proofs.lemmas.Cmp.{tied_itself, nat_list_cmp_total}
 use Rattle.std.proofs.lemmas.Bool.{cases_lt}
-use Rattle.std.proofs.lemmas.List.{get_or_default}
 use Rattle.byte_maps.specs.ByteMap.{byte_order}
-use Rattle.byte_maps.proofs.Places.{same_bytes, both_first, both_second}
 use Rattle.meta_rows.specs.Rows.{Rows}
-use Rattle.meta_rows.specs.Table.{is_from_to, rows_from_to}
 use Rattle.meta_log.specs.declared.slot.Super.{Super}
 use Rattle.row_format.specs.Row as format
 use Rattle.store_image.specs.Pages.{HasRow}
@@ -25,9 +21,10 @@ use Rattle.row_check.specs.Bad.{AreGoodBefore, IsLeastBad, IsFirst, IsRightBefor
 -- ---- rows that are spelled
 
 -- an entry that spells a row is one of the rows
-pub has_spelled : (rows : Rows) (es : List (List ℕ × List ℕ)) → AreRows rows es → (j : ℕ) (d : List ℕ × List ℕ) (r : format.Row) → j < length es
-    → SpellsRow (get_or es j d).0 (get_or es j d).1 r → HasRow rows r
-has_spelled rows es are j d r l spells =
+pub has_spelled : (w : Width) (rows : Rows) (es : List (List ℕ × List ℕ)) → AreRows rows es → (j : ℕ) (d : List ℕ × List ℕ) (r : format.Row)
+    → j < length es
+    → SpellsRow w (get_or es j d).0 (get_or es j d).1 r → HasRow w rows r
+has_spelled w rows es are j d r l spells =
     record { fits = spells.fits; stands = ap (λ k. map.get rows k) (sym spells.key_is) ∙ are.has j d l ∙ ap Some spells.value_is }
 
 -- ---- the walk
@@ -36,7 +33,8 @@ has_spelled rows es are j d r l spells =
 pub record Walked (s : Super) (rows : Rows) (es : List (List ℕ × List ℕ)) (i : ℕ) (last : Option Row) : Type 0 where
   pub good : (j : ℕ) (d : List ℕ × List ℕ) → j < i → j < length es → IsGoodRow s rows (get_or es j d).0 (get_or es j d).1
   pub none : i ≡ 0 → last ≡ None
-  pub some : (j : ℕ) → j + 1 ≡ i → (row : Row) × (last ≡ Some row) × ((d : List ℕ × List ℕ) → SpellsRow (get_or es j d).0 (get_or es j d).1 (row_of row))
+  pub some : (j : ℕ) → j + 1 ≡ i
+      → (row : Row) × (last ≡ Some row) × ((d : List ℕ × List ℕ) → SpellsRow (width_of s) (get_or es j d).0 (get_or es j d).1 (row_of row))
 
 pub at_start : (s : Super) (rows : Rows) (es : List (List ℕ × List ℕ)) → Walked s rows es 0 None
 at_start s rows es = record { good = λ j d lt l. absurd (omega arith); none = λ e. refl; some = λ j e. absurd (omega arith) }
@@ -72,12 +70,13 @@ module _ (s : Super) (rows : Rows) (es : List (List ℕ × List ℕ)) (are : Are
   none_before : (d : List ℕ × List ℕ) → i < length es → i ≡ 0 → IsFirst rows (get_or es i d).0
   none_before d l e key value is less = let at = earlier d key value l less is in omega (arith, at.1, e)
 
-  right_before : (d : List ℕ × List ℕ) (j : ℕ) (r : format.Row) → i < length es → j + 1 ≡ i → SpellsRow (get_or es j d).0 (get_or es j d).1 r → IsRightBefore rows (get_or es i d).0 r
+  right_before : (d : List ℕ × List ℕ) (j : ℕ) (r : format.Row) → i < length es → j + 1 ≡ i
+      → SpellsRow (width_of s) (get_or es j d).0 (get_or es j d).1 r → IsRightBefore (width_of s) rows (get_or es i d).0 r
   right_before d j r l e spells =
       let lt : j < i = omega arith in
       let within : j < length es = omega arith in
       record {
-        has = has_spelled rows es are j d r within spells;
+        has = has_spelled (width_of s) rows es are j d r within spells;
         below = subst (λ k. byte_order k (get_or es i d).0 ≡ Less) spells.key_is (rising es j i d d are.sorted lt l);
         nearest = λ key value is less up.
             let at = earlier d key value l less is in
@@ -99,11 +98,14 @@ module _ (s : Super) (rows : Rows) (es : List (List ℕ × List ℕ)) (are : Are
   walked_to d l = record {
     good = before_good d l;
     last_is = elim (cases_lt 0 i) [
-      | inr start ↦ subst (λ o. MatchOption o (IsFirst rows (get_or es i d).0) (λ row. IsRightBefore rows (get_or es i d).0 (row_of row))) (sym (walked.none (omega arith))) (none_before d l (omega arith))
+      | inr start ↦ subst (λ o. MatchOption o (IsFirst rows (get_or es i d).0)
+          (λ row. IsRightBefore (width_of s) rows (get_or es i d).0 (row_of row))) (sym (walked.none (omega arith))) (none_before d l (omega arith))
       | inl more ↦
           let one : (i - 1) + 1 ≡ i = omega arith in
           let is = walked.some (i - 1) one in
-          subst (λ o. MatchOption o (IsFirst rows (get_or es i d).0) (λ row. IsRightBefore rows (get_or es i d).0 (row_of row))) (sym is.1) (right_before d (i - 1) (row_of is.0) l one (is.2 d))
+          subst (λ o. MatchOption o (IsFirst rows (get_or es i d).0)
+          (λ row. IsRightBefore (width_of s) rows (get_or es i d).0 (row_of row))) (sym is.1)
+          (right_before d (i - 1) (row_of is.0) l one (is.2 d))
     ];
   }
 
@@ -118,8 +120,12 @@ module _ (s : Super) (rows : Rows) (es : List (List ℕ × List ℕ)) (are : Are
     ];
     none = λ e. absurd (omega arith);
     some = λ j e.
-        let here : j ≡ i = omega arith in
-        (row, refl, λ d. subst (λ (e : List ℕ × List ℕ). SpellsRow e.0 e.1 (row_of row)) (sym (ap (λ n. get_or es n d) here ∙ is d)) good.spells);
+        let here : j ≡ i = omega arith in (
+          row,
+          refl,
+          λ d. subst (λ (e : List ℕ × List ℕ). SpellsRow (width_of s) e.0 e.1 (row_of row))
+              (sym (ap (λ n. get_or es n d) here ∙ is d)) good.spells,
+        );
   }
 
   pub first_bad : (key value : List ℕ) → ((d : List ℕ × List ℕ) → get_or es i d ≡ (key, value)) → i < length es → ¬ (IsGoodRow s rows key value) → IsLeastBad s rows key

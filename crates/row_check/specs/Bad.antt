@@ -1,5 +1,7 @@
 -- The first bad row in the order of keys, and what is known of the rows before one that is looked at.
 use Rattle.std.specs.Prelude.{◌≡◌, ◌≢◌, ℕ, ◌≤◌, List, Option, Some, MatchOption}
+use Rattle.meta_log.specs.Slots.{width_of}
+use Rattle.unit_fields.specs.declared.width.Width.{Width}
 use Rattle.std.specs.List.{AllByRecursion}
 use Rattle.std.specs.FinMap as map
 use Rattle.std.specs.declared.cmp.Ordering.TheVariants.{Less}
@@ -9,7 +11,7 @@ use Rattle.meta_log.specs.declared.slot.Super.{Super}
 use Rattle.row_format.specs.Keys.{coll_key, onode_key}
 use Rattle.row_format.specs.Extents.{Extent, page_end, ExtentsAscend}
 use Rattle.row_format.specs.Row as format
-use Rattle.store_image.specs.Pages.{HasKey, HasRow, pages_of}
+use Rattle.store_image.specs.Pages.{HasKey, HasRow, HasOnode, pages_of}
 use Rattle.store_image.specs.BadRows.{IsOnData, IsInPlace, IsGoodRow, IsBadRow}
 use Rattle.row_reading.specs.declared.row.Row.{Row}
 use Rattle.row_reading.specs.declared.row.Row.TheVariants as rows
@@ -29,19 +31,19 @@ abbrev pub IsFirst : Rows → List ℕ → Type 0
 IsFirst rows key = (k value : List ℕ) → map.get rows k ≡ Some value → byte_order k key ≢ Less
 
 -- of the rows whose keys are below this one, this row has the greatest key
-pub record IsRightBefore (rows : Rows) (key : List ℕ) (r : format.Row) : Type 0 where
-  pub has : HasRow rows r
+pub record IsRightBefore (w : Width) (rows : Rows) (key : List ℕ) (r : format.Row) : Type 0 where
+  pub has : HasRow w rows r
   pub below : byte_order (format.row_key r) key ≡ Less
   pub nearest : (k value : List ℕ) → map.get rows k ≡ Some value → byte_order k key ≡ Less → byte_order (format.row_key r) k ≢ Less
 
 -- the rows whose keys are below this one are good, and `last` is the last of them
 pub record IsWalkedTo (s : Super) (rows : Rows) (last : Option Row) (key : List ℕ) : Type 0 where
   pub good : AreGoodBefore s rows key
-  pub last_is : MatchOption last (IsFirst rows key) (λ row. IsRightBefore rows key (row_of row))
+  pub last_is : MatchOption last (IsFirst rows key) (λ row. IsRightBefore (width_of s) rows key (row_of row))
 
 -- the key and the value are this row, which is in its place
 pub record IsGood (s : Super) (rows : Rows) (key value : List ℕ) (row : Row) : Type 0 where
-  pub spells : SpellsRow key value (row_of row)
+  pub spells : SpellsRow (width_of s) key value (row_of row)
   pub in_place : IsInPlace s rows (row_of row)
 
 -- this row is no shard of the object, or one whose pages are all before this one
@@ -63,7 +65,7 @@ IsOnodeOf _ c o size = ⊥
 -- the object is there, and the extents end within its size
 pub record IsWithinOnode (rows : Rows) (c o : List ℕ) (extents : List Extent) : Type 0 where
   pub has_onode : HasKey rows (onode_key c o)
-  pub within : (size : ℕ) → HasRow rows (format.onode c o size) → AllByRecursion (λ e. page_end e ≤ pages_of size) extents
+  pub within : (size : ℕ) → HasOnode rows c o size → AllByRecursion (λ e. page_end e ≤ pages_of size) extents
 
 -- what a shard needs beside extents that begin behind those of the earlier shards
 pub record ShardStands (s : Super) (rows : Rows) (c o : List ℕ) (extents : List Extent) : Type 0 where

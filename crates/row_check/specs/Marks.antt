@@ -1,5 +1,6 @@
 -- Marks at units: a first one where a page stands, and a second one where another page does too.
 use Rattle.std.specs.Prelude.{ℕ, zero, suc, ◌+◌, ◌≤◌, ◌||◌, Bool, true, false, List, [], ◌∷◌, length, replicate, slice_index_or, slice_set, refl}
+use Rattle.unit_fields.specs.declared.width.Width.{Width}
 use Rattle.std.specs.List.{AllByRecursion}
 use Rattle.std.specs.Coded.{Coded, code_by, coded×, coded_list, coded_bool}
 use Rattle.row_format.specs.Extents.{Body, private, Extent}
@@ -56,7 +57,7 @@ RowEndsBy units (format.shard c o page es) = AllEndBy units es
 RowEndsBy units row = Unit {0}
 
 -- the bytes spell extents, the units of whose pages are below this one
-pub record SpellExtentsBelow (bytes : List ℕ) (units : ℕ) : Type 0 where
+pub record SpellExtentsBelow (w : Width) (bytes : List ℕ) (units : ℕ) : Type 0 where
   pub extents : List Extent
-  pub spelled : SpellExtents bytes extents
+  pub spelled : SpellExtents w bytes extents
   pub below : AllEndBy units extents

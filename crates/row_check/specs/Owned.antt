@@ -1,5 +1,6 @@
 -- The units that have owners, and those that have more than one.
 use Rattle.std.specs.Prelude.{◌≡◌, ◌↔◌, ℕ, Bool, true, false, IsTrue, List, slice_index_or}
+use Rattle.unit_fields.specs.declared.width.Width.{Width}
 use Rattle.std.specs.FinSet as set
 use Rattle.std.specs.Ordering.{nat_cmp}
 use Rattle.meta_rows.specs.Rows.{Rows}
@@ -9,26 +10,26 @@ use Rattle.row_reading.specs.Reading.{SpellsRow}
 use Rattle.row_check.specs.Marks.{Marks, row_marked, RowEndsBy}
 
 -- the set is the units that have an owner
-abbrev pub AreOwned : Rows → set.FinSet nat_cmp → Type 0
-AreOwned rows units = (unit : ℕ) → IsTrue (set.contains units unit) ↔ IsOwned rows unit
+abbrev pub AreOwned : Width → Rows → set.FinSet nat_cmp → Type 0
+AreOwned w rows units = (unit : ℕ) → IsTrue (set.contains units unit) ↔ IsOwned w rows unit
 
 -- the set is the units that have two owners or more
-abbrev pub AreShared : Rows → set.FinSet nat_cmp → Type 0
-AreShared rows units = (unit : ℕ) → IsTrue (set.contains units unit) ↔ ((HasSoleOwner rows unit) → ⊥)
+abbrev pub AreShared : Width → Rows → set.FinSet nat_cmp → Type 0
+AreShared w rows units = (unit : ℕ) → IsTrue (set.contains units unit) ↔ ((HasSoleOwner w rows unit) → ⊥)
 
 -- the first marks are at the units that have an owner, and the second ones at those that have two or more
-pub record AreMarked (rows : Rows) (m : Marks) : Type 0 where
-  pub owned : (unit : ℕ) → (slice_index_or m.owned unit false ≡ true) ↔ IsOwned rows unit
-  pub shared : (unit : ℕ) → (slice_index_or m.shared unit false ≡ true) ↔ ((HasSoleOwner rows unit) → ⊥)
+pub record AreMarked (w : Width) (rows : Rows) (m : Marks) : Type 0 where
+  pub owned : (unit : ℕ) → (slice_index_or m.owned unit false ≡ true) ↔ IsOwned w rows unit
+  pub shared : (unit : ℕ) → (slice_index_or m.shared unit false ≡ true) ↔ ((HasSoleOwner w rows unit) → ⊥)
 
 -- the marks with those of the row that a key and a value spell
-abbrev pub AreMarkedOn : List ℕ → List ℕ → Marks → Marks → Type 0
-AreMarkedOn key value old new = (row : format.Row) → SpellsRow key value row → new ≡ row_marked old row
+abbrev pub AreMarkedOn : Width → List ℕ → List ℕ → Marks → Marks → Type 0
+AreMarkedOn w key value old new = (row : format.Row) → SpellsRow w key value row → new ≡ row_marked old row
 
 -- a key and a value spell a row, and its units are below this one
-pub record SpellsRowWithin (key value : List ℕ) (units : ℕ) : Type 0 where
+pub record SpellsRowWithin (w : Width) (key value : List ℕ) (units : ℕ) : Type 0 where
   pub row : format.Row
-  pub spells : SpellsRow key value row
+  pub spells : SpellsRow w key value row
   pub within : RowEndsBy units row
 
 abbrev pub IsShard : format.Row → Type 0
@@ -36,5 +37,5 @@ IsShard (format.shard c o page es) = Unit {0}
 IsShard row = ⊥
 
 -- whether the row that a key and a value spell is a shard
-abbrev pub TellsShard : List ℕ → List ℕ → Bool → Type 0
-TellsShard key value told = (row : format.Row) → SpellsRow key value row → IsTrue told ↔ IsShard row
+abbrev pub TellsShard : Width → List ℕ → List ℕ → Bool → Type 0
+TellsShard w key value told = (row : format.Row) → SpellsRow w key value row → IsTrue told ↔ IsShard row

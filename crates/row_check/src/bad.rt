@@ -46,7 +46,7 @@ fn good_row(
     ensures { IfOk result (λ found. MatchOption found (¬ (IsGoodRow sup.now rows.now.rows key.now value.now))
         (IsGood sup.now rows.now.rows key.now value.now)) }
 {
-    let Some(row) = read_row_after(alloc, coll_of(last), key, value)? else {
+    let Some(row) = read_row_after(alloc, sup.width(), coll_of(last), key, value)? else {
         return Ok(None);
     };
     if is_in_place(alloc, sup, rows, last, &row)? {

@@ -2,7 +2,7 @@
 ghost use Rattle.std.specs.Prelude.{◌≡◌, ◌<◌, ℕ, true, false, length, slice_index, IsTrue, IfOk, IfErr, IfNone, IfSome, MatchOption};
 ghost use Rattle.std.specs.List.{AllByRecursion};
 ghost use Rattle.std.specs.FinSet as set;
-ghost use Rattle.meta_log.specs.Slots.{IsSuper};
+ghost use Rattle.meta_log.specs.Slots.{width_of, IsSuper};
 ghost use Rattle.store_image.specs.BadRows.{NoBadRow};
 ghost use Rattle.store_image.specs.Owners.{IsExactAs, IsLeastInexact};
 ghost use Rattle.bitmap_freelist.specs.Bitmap.{Has, AreMarked};
@@ -85,9 +85,9 @@ pub fn marked_units(
 ) -> Result<Result<UnitSet, UnitNo>, AllocError>
     requires limits { IsSuper sup.now }
     requires good { NoBadRow sup.now rows.now.rows }
-    ensures exact { IfOk result (λ found. IfOk found (λ units. IsExactAs rows.now.rows rows.now.rows)) }
+    ensures exact { IfOk result (λ found. IfOk found (λ units. IsExactAs (width_of sup.now) rows.now.rows rows.now.rows)) }
     ensures marked { IfOk result (λ found. IfOk found (AreMarked rows.now.rows)) }
-    ensures inexact { IfOk result (λ found. IfErr found (IsLeastInexact rows.now.rows)) }
+    ensures inexact { IfOk result (λ found. IfErr found (IsLeastInexact (width_of sup.now) rows.now.rows)) }
 {
     let owners = owned_units(alloc, sup, rows)?;
     let marked = bitmap_freelist::read(alloc, rows)?;

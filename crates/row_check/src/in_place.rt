@@ -5,7 +5,8 @@ ghost use Rattle.unit_fields.specs.Names.{IsName, IsCollName};
 ghost use Rattle.row_format.specs.Keys.{coll_key, onode_key};
 ghost use Rattle.row_format.specs.Row.{onode, row_key, FitsRow};
 ghost use Rattle.row_format.specs.Extents.{page_end, ExtentsAscend};
-ghost use Rattle.store_image.specs.Pages.{HasKey, HasRow, pages_of};
+ghost use Rattle.meta_log.specs.Slots.{width_of};
+ghost use Rattle.store_image.specs.Pages.{HasKey, HasOnode, pages_of};
 ghost use Rattle.store_image.specs.BadRows.{IsOnData, AreOfData, IsInPlace};
 ghost use Rattle.store_image.specs.Owners.{IsDataUnit};
 ghost use Rattle.onode_codec.specs.Reading.{SpellsOnode};
@@ -181,7 +182,7 @@ fn are_within_object(
 ) -> Result<bool, AllocError>
     requires coll { IsCollName coll.now }
     requires object { IsName object.now }
-    requires before { (size : ℕ) → IsOnodeOf last.now coll.now object.now size → HasRow rows.now.rows (onode coll.now object.now size) }
+    requires before { (size : ℕ) → IsOnodeOf last.now coll.now object.now size → HasOnode rows.now.rows coll.now object.now size }
     ensures { IfOk result (λ within. IsTrue within ↔ IsWithinOnode rows.now.rows coll.now object.now extents.now) }
 {
     if let Some(size) = size_of(last, coll, object) {
@@ -207,7 +208,7 @@ fn shard_stands(
     requires coll { IsCollName coll.now }
     requires object { IsName object.now }
     requires collection { IsOfObjectIn last.now coll.now → HasKey rows.now.rows (coll_key coll.now) }
-    requires before { (size : ℕ) → IsOnodeOf last.now coll.now object.now size → HasRow rows.now.rows (onode coll.now object.now size) }
+    requires before { (size : ℕ) → IsOnodeOf last.now coll.now object.now size → HasOnode rows.now.rows coll.now object.now size }
     ensures { IfOk result (λ stands. IsTrue stands ↔ ShardStands sup.now rows.now.rows coll.now object.now extents.now) }
 {
     if ascend(extents) && all_on_data(sup, extents) && has_collection(alloc, rows, last, coll)? {
@@ -263,7 +264,7 @@ pub fn is_in_place(
     last: &Option<Row>,
     row: &Row,
 ) -> Result<bool, AllocError>
-    requires fits { FitsRow (row_of row.now) }
+    requires fits { FitsRow (width_of sup.now) (row_of row.now) }
     requires walked { IsWalkedTo sup.now rows.now.rows last.now (row_key (row_of row.now)) }
     ensures { IfOk result (λ placed. IsTrue placed ↔ IsInPlace sup.now rows.now.rows (row_of row.now)) }
 {

@@ -1,7 +1,7 @@
 //! The units that the rows own.
 ghost use Rattle.std.specs.Prelude.{ℕ, ◌≡◌, ◌<◌, ◌^◌, IfOk, false, length, slice_index_or};
 ghost use Rattle.std.specs.FinSet as set;
-ghost use Rattle.meta_log.specs.Slots.{IsSuper};
+ghost use Rattle.meta_log.specs.Slots.{width_of, IsSuper};
 ghost use Rattle.store_image.specs.BadRows.{NoBadRow};
 ghost use Rattle.store_image.specs.Owners.{IsOwned};
 ghost use Rattle.row_check.specs.Owned.{AreOwned, AreShared, AreMarked, AreMarkedOn, SpellsRowWithin, TellsShard};
@@ -11,7 +11,7 @@ use meta_log::Super;
 use meta_rows::RowTable;
 use row_reading::OBJECT;
 use std::alloc::{AllocError, Global};
-use unit_fields::UnitSet;
+use unit_fields::{UnitSet, Width};
 
 // The bytes of an onode's value.
 const ONODE_BYTES: usize = 8;
@@ -27,7 +27,7 @@ pub(crate) struct OwnedUnits {
 
 // Whether the row that a key and a value spell is a shard: of an object's other row, its onode, the value has eight bytes.
 fn is_shard(key: &[u8], value: &[u8]) -> bool
-    ensures { TellsShard key.now value.now result }
+    ensures { (width : Width) → TellsShard width key.now value.now result }
 {
     match key.split_first() {
         Some((kind, _)) => *kind == OBJECT && value.len() != ONODE_BYTES,
@@ -36,23 +36,24 @@ fn is_shard(key: &[u8], value: &[u8]) -> bool
 }
 
 // Marks the units of the pages of the row that a key and a value spell.
-fn mark_row(marks: &mut UnitMarks, key: &[u8], value: &[u8])
-    requires { SpellsRowWithin key.now value.now (length marks.old.owned) }
-    ensures { AreMarkedOn key.now value.now marks.old marks.new }
+fn mark_row(marks: &mut UnitMarks, width: Width, key: &[u8], value: &[u8])
+    requires { SpellsRowWithin width key.now value.now (length marks.old.owned) }
+    ensures { AreMarkedOn width key.now value.now marks.old marks.new }
 {
     if is_shard(key, value) {
-        marks.mark_spelled(value);
+        marks.mark_spelled(width, value);
     }
 }
 
 // Marks the units of all pages.
 fn marks_of(alloc: Global, sup: &Super, rows: &RowTable) -> Result<UnitMarks, AllocError>
     requires { NoBadRow sup.now rows.now.rows }
-    ensures { IfOk result (λ marks. AreMarked rows.now.rows marks × (length marks.owned ≡ sup.now.units) × (length marks.shared ≡ sup.now.units)) }
+    ensures { IfOk result (λ marks. AreMarked (width_of sup.now) rows.now.rows marks
+        × (length marks.owned ≡ sup.now.units) × (length marks.shared ≡ sup.now.units)) }
 {
     let mut marks = UnitMarks::new(alloc, sup.units)?;
     for (key, value) in rows.range(b"", None) {
-        mark_row(&mut marks, key.as_slice(), value.as_slice());
+        mark_row(&mut marks, sup.width(), key.as_slice(), value.as_slice());
     }
     Ok(marks)
 }
@@ -81,9 +82,9 @@ pub(crate) fn owned_units(
 ) -> Result<OwnedUnits, AllocError>
     requires limits { IsSuper sup.now }
     requires good { NoBadRow sup.now rows.now.rows }
-    ensures owned { IfOk result (λ units. AreOwned rows.now.rows units.owned) }
-    ensures shared { IfOk result (λ units. AreShared rows.now.rows units.shared) }
-    ensures below { IfOk result (λ units. (unit : ℕ) → IsOwned rows.now.rows unit → unit < sup.now.units) }
+    ensures owned { IfOk result (λ units. AreOwned (width_of sup.now) rows.now.rows units.owned) }
+    ensures shared { IfOk result (λ units. AreShared (width_of sup.now) rows.now.rows units.shared) }
+    ensures below { IfOk result (λ units. (unit : ℕ) → IsOwned (width_of sup.now) rows.now.rows unit → unit < sup.now.units) }
 {
     let marks = marks_of(alloc, sup, rows)?;
     let owned = units_with_mark(alloc, marks.owned())?;

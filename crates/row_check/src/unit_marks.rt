@@ -8,10 +8,7 @@ use onode_codec::Head;
 use std::alloc::{AllocError, Global};
 use std::marker::Model;
 use std::mem::replace;
-use unit_fields::Fields;
-
-// The bytes of a checksum in the value of a shard.
-const CSUM_BYTES: usize = 4;
+use unit_fields::{Fields, Width};
 
 /// For each unit of a device a mark where a page stands on it, and a second one where another page does too.
 #[derive(Drop)]
@@ -70,16 +67,16 @@ impl UnitMarks {
         }
     }
 
-    /// The pages of the extents that these bytes spell stand on their units. Their checksums are passed over.
-    pub fn mark_spelled(&mut self, bytes: &[u8])
-        requires { SpellExtentsBelow bytes.now (length self.old.owned) }
-        ensures { (es : List Extent) → SpellExtents bytes.now es → self.new ≡ extents_marked self.old es }
+    /// The pages of the extents that these bytes spell, with checksums of this width, stand on their units. The checksums are passed over.
+    pub fn mark_spelled(&mut self, width: Width, bytes: &[u8])
+        requires { SpellExtentsBelow width bytes.now (length self.old.owned) }
+        ensures { (es : List Extent) → SpellExtents width bytes.now es → self.new ≡ extents_marked self.old es }
     {
         let _marks = &self.owned;
         let mut fields = Fields::new(bytes);
         'extents: while let Some(head) = Head::read(&mut fields) {
             self.mark_run(head.unit.number() as usize, usize::from(head.count));
-            let Some(_csums) = fields.bytes(CSUM_BYTES * usize::from(head.count)) else {
+            let Some(_csums) = fields.bytes(width.bytes_of(usize::from(head.count))) else {
                 unreachable!();
             };
         }

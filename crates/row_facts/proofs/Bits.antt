@@ -1,5 +1,6 @@
 -- The bits of the bitmap where rows under other keys change.
 use Rattle.std.proofs.Common.{◌≡◌, ◌≢◌, ◌↔◌, inl, inr, ℕ, List, [], unwrap_or, sym, ap, ◌∙◌}
+use Rattle.unit_fields.specs.declared.width.Width.{Width}
 use Rattle.std.specs.FinMap as map
 use Rattle.meta_rows.specs.Rows.{Rows}
 use Rattle.meta_rows.proofs.RowLemmas.{get-remove_other}
@@ -29,10 +30,10 @@ pub bits_stay_dropped : (rows : Rows) (key : List ℕ) → IsNoBitmapKey key →
 bits_stay_dropped rows key other = bits_stay rows (map.remove rows key) (λ r. get-remove_other rows key (bitmap_key r) (λ e. other r (sym e)))
 
 -- where the same units are marked and owned, and no owner comes to a unit that has one, the rows stay exact
-pub exact_stays : (rows after : Rows) → ((unit : ℕ) → IsMarked after unit ↔ IsMarked rows unit)
-    → ((unit : ℕ) → IsOwned after unit ↔ IsOwned rows unit) → ((unit : ℕ) → HasSoleOwner rows unit → HasSoleOwner after unit)
-    → (leaked : ℕ → Type 0) → IsExactBut leaked rows → IsExactBut leaked after
-exact_stays rows after bits owned sole leaked exact = record {
+pub exact_stays : (w : Width) (rows after : Rows) → ((unit : ℕ) → IsMarked after unit ↔ IsMarked rows unit)
+    → ((unit : ℕ) → IsOwned w after unit ↔ IsOwned w rows unit) → ((unit : ℕ) → HasSoleOwner w rows unit → HasSoleOwner w after unit)
+    → (leaked : ℕ → Type 0) → IsExactBut w leaked rows → IsExactBut w leaked after
+exact_stays w rows after bits owned sole leaked exact = record {
   marked = λ unit small is. elim (exact.marked unit small ((bits unit).0 is)) [ inl was ↦ inl ((owned unit).1 was) | inr left ↦ inr (left.0, λ now. left.1 ((owned unit).0 now)) ];
   owned_marked = λ unit is. (bits unit).1 (exact.owned_marked unit ((owned unit).0 is));
   one_owner = λ unit. sole unit (exact.one_owner unit);

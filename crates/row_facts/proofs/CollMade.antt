@@ -1,5 +1,7 @@
 -- Rows after a collection is made.
 use Rattle.std.proofs.Common.{◌≡◌, ◌≢◌, inl, inr, ℕ, List, [], ◌∷◌, length, Option, Some, None, Ok, is_some, option_and_then, refl, sym, ap, subst, ◌∙◌, ◌↔◌}
+use Rattle.meta_log.specs.Slots.{width_of}
+use Rattle.unit_fields.specs.declared.width.Width.{Width}
 use Rattle.std.specs.FinMap as map
 use Rattle.meta_rows.specs.Rows.{Rows, rows_after}
 use Rattle.meta_log.specs.declared.slot.Super.{Super}
@@ -12,7 +14,7 @@ use Rattle.row_format.specs.Keys.{coll_key, onode_key}
 use Rattle.row_format.specs.Extents.{Extent, own}
 use Rattle.row_format.specs.Row.{Row, collection, onode, shard, bitmap}
 use Rattle.row_format.proofs.KeyLemmas.{same_coll, coll_no_object, bitmap_no_coll}
-use Rattle.store_image.specs.Pages.{HasRow}
+use Rattle.store_image.specs.Pages.{HasOnode, HasShard}
 use Rattle.store_image.specs.BadRows.{IsInPlace, NoBadRow}
 use Rattle.store_image.specs.Owners.{Owner, page_of, Owns, IsOwned, IsMarked, IsExactBut, HasSoleOwner}
 use Rattle.store_image.specs.Stands.{IsShape, ObjectsStand}
@@ -27,7 +29,7 @@ use Rattle.row_facts.proofs.Shapes.{shape_kept, bytes_kept}
 pub coll_effect : (objects : Objects) (c : List ℕ) → map.get objects c ≡ None → transaction_effect (coll_change c) objects ≡ Ok (map.insert objects c map.empty)
 coll_effect objects c none = ap (λ x. effects (MkColl ∷ []) x >>= λ y. Ok (with_collection objects c y)) none
 
-module _ (rows : Rows) (c : List ℕ) where
+module _ (w : Width) (rows : Rows) (c : List ℕ) where
   abbrev r : Row
   r = collection c
 
@@ -35,52 +37,36 @@ module _ (rows : Rows) (c : List ℕ) where
   key_apart : (d u rest : List ℕ) → onode_key d u ≢ coll_key c
   key_apart d u rest e = coll_no_object c d u _ (sym e)
 
-  shard_apart : (d u : List ℕ) → IsApart rows r d u
+  shard_apart : (d u : List ℕ) → IsApart w rows r d u
   shard_apart d u page es fits e = coll_no_object c d u _ (sym e)
 
-  was_onode : IsCollName c → (d u : List ℕ) (size : ℕ) → HasRow (put_row rows r) (onode d u size) → HasRow rows (onode d u size)
-  was_onode name d u size has = elim (row_cases rows r name (onode d u size) has) [ inl e ↦ absurd cc | inr old ↦ old.0 ]
+  was_onode : IsCollName c → (d u : List ℕ) (size : ℕ) → HasOnode (put_row w rows r) d u size → HasOnode rows d u size
+  was_onode name d u size has = elim (row_cases w rows r name (onode d u size) has) [ inl e ↦ absurd cc | inr old ↦ old.0 ]
 
-  was_shard : IsCollName c → (d u : List ℕ) (page : ℕ) (es : List Extent) → HasRow (put_row rows r) (shard d u page es) → HasRow rows (shard d u page es)
-  was_shard name d u page es has = elim (row_cases rows r name (shard d u page es) has) [ inl e ↦ absurd cc | inr old ↦ old.0 ]
+  was_shard : IsCollName c → (d u : List ℕ) (page : ℕ) (es : List Extent) → HasShard w (put_row w rows r) d u page es → HasShard w rows d u page es
+  was_shard name d u page es has = elim (row_cases w rows r name (shard d u page es) has) [ inl e ↦ absurd cc | inr old ↦ old.0 ]
 
-  kept_in_place : IsCollName c → (s : Super) (x : Row) → IsInPlace s rows x → IsInPlace s (put_row rows r) x
-  kept_in_place name s (collection d) is = tt
-  kept_in_place name s (onode d u size) is = (key_kept rows r (coll_key d) is.0, is.1)
-  kept_in_place name s (shard d u page es) is = record {
-    has_collection = key_kept rows r (coll_key d) is.has_collection;
-    has_onode = key_kept rows r (onode_key d u) is.has_onode;
-    ascend = is.ascend;
-    behind = λ earlier fs below has. is.behind earlier fs below (was_shard name d u earlier fs has);
-    within = λ size has. is.within size (was_onode name d u size has);
-    on_data = is.on_data;
-  }
-  kept_in_place name s (bitmap q bits) is = is
-
-  pub coll_good : (s : Super) → IsCollName c → NoBadRow s rows → NoBadRow s (rows_after rows (coll_ops c))
-  coll_good s name good = good_after rows r s name good tt (λ x has apart is. kept_in_place name s x is)
-
-  pub coll_owners : (owner : Owner) (unit : ℕ) → Owns (rows_after rows (coll_ops c)) owner unit ↔ Owns rows owner unit
+  pub coll_owners : (owner : Owner) (unit : ℕ) → Owns w (rows_after rows (coll_ops c)) owner unit ↔ Owns w rows owner unit
   coll_owners (page_of d u page) unit = (
-    λ owns. (owns.0, page_was rows r d u (shard_apart d u) page (own unit owns.0) owns.1),
-    λ owns. (owns.0, page_kept rows r d u (shard_apart d u) page (own unit owns.0) owns.1),
+    λ owns. (owns.0, page_was w rows r d u (shard_apart d u) page (own unit owns.0) owns.1),
+    λ owns. (owns.0, page_kept w rows r d u (shard_apart d u) page (own unit owns.0) owns.1),
   )
 
-  pub coll_owned : (unit : ℕ) → IsOwned (rows_after rows (coll_ops c)) unit ↔ IsOwned rows unit
+  pub coll_owned : (unit : ℕ) → IsOwned w (rows_after rows (coll_ops c)) unit ↔ IsOwned w rows unit
   coll_owned unit = (
     λ owned. (owned.0, (coll_owners owned.0 unit).0 owned.1),
     λ owned. (owned.0, (coll_owners owned.0 unit).1 owned.1),
   )
 
-  pub coll_sole : (unit : ℕ) → HasSoleOwner rows unit → HasSoleOwner (rows_after rows (coll_ops c)) unit
+  pub coll_sole : (unit : ℕ) → HasSoleOwner w rows unit → HasSoleOwner w (rows_after rows (coll_ops c)) unit
   coll_sole unit sole a b p q = sole a b ((coll_owners a unit).0 p) ((coll_owners b unit).0 q)
 
   -- nor does a bit change
   pub coll_bits : (unit : ℕ) → IsMarked (rows_after rows (coll_ops c)) unit ↔ IsMarked rows unit
   coll_bits unit = bits_stay_set rows (coll_key c) [] (λ q e. bitmap_no_coll q c e) unit
 
-  pub coll_exact : (leaked : ℕ → Type 0) → IsExactBut leaked rows → IsExactBut leaked (rows_after rows (coll_ops c))
-  coll_exact leaked exact = exact_stays rows (rows_after rows (coll_ops c)) coll_bits coll_owned (λ unit sole. coll_sole unit sole) leaked exact
+  pub coll_exact : (leaked : ℕ → Type 0) → IsExactBut w leaked rows → IsExactBut w leaked (rows_after rows (coll_ops c))
+  coll_exact leaked exact = exact_stays w rows (rows_after rows (coll_ops c)) coll_bits coll_owned (λ unit sole. coll_sole unit sole) leaked exact
 
   module _ (objects : Objects) (none : map.get objects c ≡ None) where
     -- the objects are the same, each under its name
@@ -94,33 +80,35 @@ module _ (rows : Rows) (c : List ℕ) where
     ]
 
     same_colls : (d : List ℕ) → map.contains_key objects d ≡ map.contains_key rows (coll_key d)
-        → map.contains_key (map.insert objects c map.empty) d ≡ map.contains_key (put_row rows r) (coll_key d)
+        → map.contains_key (map.insert objects c map.empty) d ≡ map.contains_key (put_row w rows r) (coll_key d)
     same_colls d is = elim (equal_or_not d c) [
       | inl e ↦ ap (λ x. map.contains_key (map.insert objects c map.empty) x) e ∙ ap is_some (get_same objects c map.empty)
-          ∙ sym (ap is_some (get_same rows (coll_key c) [])) ∙ ap (λ x. map.contains_key (put_row rows r) (coll_key x)) (sym e)
+          ∙ sym (ap is_some (get_same rows (coll_key c) [])) ∙ ap (λ x. map.contains_key (put_row w rows r) (coll_key x)) (sym e)
       | inr apart ↦ ap is_some (get_other objects c map.empty d apart) ∙ is
           ∙ sym (ap is_some (get_other rows (coll_key c) [] (coll_key d) (λ e. apart (same_coll d c e))))
     ]
 
-    same_onode : (d u : List ℕ) → map.get (put_row rows r) (onode_key d u) ≡ map.get rows (onode_key d u)
+    same_onode : (d u : List ℕ) → map.get (put_row w rows r) (onode_key d u) ≡ map.get rows (onode_key d u)
     same_onode d u = get_other rows (coll_key c) [] (onode_key d u) (key_apart d u [])
 
-    onode_kept : (d u : List ℕ) (size : ℕ) → HasRow rows (onode d u size) → HasRow (put_row rows r) (onode d u size)
-    onode_kept d u size has = row_kept rows r (onode d u size) has (key_apart d u [])
+    onode_kept : (d u : List ℕ) (size : ℕ) → HasOnode rows d u size → HasOnode (put_row w rows r) d u size
+    onode_kept d u size has = row_kept w rows r (onode d u size) has (key_apart d u [])
 
     pub coll_shape : IsShape rows objects → IsShape (rows_after rows (coll_ops c)) (map.insert objects c map.empty)
     coll_shape shape = record {
       collections = λ d. same_colls d (shape.collections d);
       present = λ d u object is.
           let old = shape.present d u object (sym (same_under d u) ∙ is) in
-          shape_kept rows (put_row rows r) d u object (kind_kept rows r) (onode_kept d u (length object.bytes) old.size) old;
+          shape_kept rows (put_row w rows r) d u object (kind_kept w rows r) (onode_kept d u (length object.bytes) old.size) old;
       missing = λ d u coll name is. same_onode d u ∙ shape.missing d u coll name (sym (same_under d u) ∙ is);
     }
 
-    pub coll_stand : (at : ℕ → List ℕ) → ObjectsStand at rows objects → ObjectsStand at (rows_after rows (coll_ops c)) (map.insert objects c map.empty)
+    pub coll_stand : (at : ℕ → List ℕ) → ObjectsStand w at rows objects
+        → ObjectsStand w at (rows_after rows (coll_ops c)) (map.insert objects c map.empty)
     coll_stand at p = record {
       shape = coll_shape p.shape;
-      bytes = λ d u object is. bytes_kept at at rows r d u object.bytes (shard_apart d u) (λ unit owned. refl) (p.bytes d u object (sym (same_under d u) ∙ is));
+      bytes = λ d u object is. bytes_kept w at at rows r d u object.bytes (shard_apart d u) (λ unit owned. refl)
+          (p.bytes d u object (sym (same_under d u) ∙ is));
     }
 
 -- what the transaction makes, where it is not refused
@@ -131,11 +119,30 @@ coll_after objects after c is = elim (map.get objects c) as (λ x. map.get objec
   | Some found ↦ λ p. absurd (let e = sym (ap (λ x. effects (MkColl ∷ []) x >>= λ y. Ok (with_collection objects c y)) p) ∙ is in cc)
 ] refl
 
-pub coll_stands : (at : ℕ → List ℕ) (rows : Rows) (objects after : Objects) (c : List ℕ) → ObjectsStand at rows objects
-    → transaction_effect (coll_change c) objects ≡ Ok after → ObjectsStand at (rows_after rows (coll_ops c)) after
-coll_stands at rows objects after c p is =
+-- ---- good rows
+
+kept_in_place : (s : Super) (rows : Rows) (c : List ℕ) → IsCollName c → (x : Row) → IsInPlace s rows x
+    → IsInPlace s (put_row (width_of s) rows (collection c)) x
+kept_in_place s rows c name (collection d) is = tt
+kept_in_place s rows c name (onode d u size) is = (key_kept (width_of s) rows (collection c) (coll_key d) is.0, is.1)
+kept_in_place s rows c name (shard d u page es) is = record {
+  has_collection = key_kept (width_of s) rows (collection c) (coll_key d) is.has_collection;
+  has_onode = key_kept (width_of s) rows (collection c) (onode_key d u) is.has_onode;
+  ascend = is.ascend;
+  behind = λ earlier fs below has. is.behind earlier fs below (was_shard (width_of s) rows c name d u earlier fs has);
+  within = λ size has. is.within size (was_onode (width_of s) rows c name d u size has);
+  on_data = is.on_data;
+}
+kept_in_place s rows c name (bitmap q bits) is = is
+
+pub coll_good : (s : Super) (rows : Rows) (c : List ℕ) → IsCollName c → NoBadRow s rows → NoBadRow s (rows_after rows (coll_ops c))
+coll_good s rows c name good = good_after (width_of s) rows (collection c) s name good tt (λ x has apart is. kept_in_place s rows c name x is)
+
+pub coll_stands : (w : Width) (at : ℕ → List ℕ) (rows : Rows) (objects after : Objects) (c : List ℕ) → ObjectsStand w at rows objects
+    → transaction_effect (coll_change c) objects ≡ Ok after → ObjectsStand w at (rows_after rows (coll_ops c)) after
+coll_stands w at rows objects after c p is =
     let e = coll_after objects after c is in
-    subst (ObjectsStand at (rows_after rows (coll_ops c))) (sym e.1) (coll_stand rows c objects e.0 at p)
+    subst (ObjectsStand w at (rows_after rows (coll_ops c))) (sym e.1) (coll_stand w rows c objects e.0 at p)
 
 -- what the laws cite
 pub ruleset coll_laws = (coll_good, coll_sole)

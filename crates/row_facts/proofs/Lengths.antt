@@ -5,12 +5,13 @@ use Rattle.std.specs.Int.{w32, to_le_bytes}
 use Rattle.std.specs.Fmt.{digits, digits_onto, digit_glyph}
 use Rattle.crc32c_csum.specs.Crc32c.{crc32c}
 use Rattle.meta_rows.specs.declared.row_op.RowOp.{RowOp}
+use Rattle.meta_rows.specs.declared.row_op.RowOp.TheVariants.{Set}
 use Rattle.meta_rows.specs.Spelling.{key_bytes, value_bytes, op_bytes, ops_bytes, AllFit}
 use Rattle.meta_log.specs.Records.{record_head, record_bytes, unit_count}
 use Rattle.unit_fields.specs.Names as names
-use Rattle.unit_fields.specs.Names.{coll_name, IsName, IsCollName}
-use Rattle.row_format.specs.Row.{Row, collection, row_key, row_value}
-use Rattle.row_facts.specs.Operations.{set_row, coll_ops}
+use Rattle.unit_fields.specs.Names.{IsCollName}
+use Rattle.row_format.specs.Keys.{coll_key}
+use Rattle.row_facts.specs.Operations.{coll_ops}
 
 -- ---- names of collections
 
@@ -39,14 +40,11 @@ length-coll c is = omega (
 
 -- ---- operations
 
-length-set : (row : Row) → length (op_bytes (set_row row)) ≡ 7 + length (row_key row) + length (row_value row)
-length-set row = omega (arith, length-append (key_bytes (row_key row)) (value_bytes (row_value row)))
-
-coll_bytes : (c : List ℕ) → length (op_bytes (set_row (collection c))) ≡ 8 + length c
-coll_bytes c = omega (arith, length-set (collection c))
+coll_bytes : (c : List ℕ) → length (op_bytes (Set (coll_key c) [])) ≡ 8 + length c
+coll_bytes c = omega (arith, length-append (key_bytes (coll_key c)) (value_bytes []))
 
 pub coll_short : (c : List ℕ) → IsCollName c → length (ops_bytes (coll_ops c)) ≤ 4072
-coll_short c name = omega (arith, coll_bytes c, length-coll c name, length-append (op_bytes (set_row (collection c))) [])
+coll_short c name = omega (arith, coll_bytes c, length-coll c name, length-append (op_bytes (Set (coll_key c) [])) [])
 
 pub coll_fits : (c : List ℕ) → IsCollName c → AllFit (coll_ops c)
 coll_fits c name = ((record { some = omega arith; short = omega (arith, length-coll c name) }, omega arith), tt)

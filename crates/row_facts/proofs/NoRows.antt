@@ -1,5 +1,6 @@
 -- No rows, and no objects.
 use Rattle.std.proofs.Common.{◌≡◌, ℕ, ◌%◌, List, [], Option, None, sym, ap, ◌∙◌, arith}
+use Rattle.unit_fields.specs.declared.width.Width.{Width}
 use Rattle.std.specs.FinMap as map
 use Rattle.byte_maps.specs.ByteMap.{byte_order}
 use Rattle.meta_rows.specs.Rows.{Rows}
@@ -19,11 +20,11 @@ use Rattle.std.proofs.lemmas.Nat.Bits.{bit_at-zero}
 abbrev none : Rows
 none = map.empty
 
-no_row : (row : Row) → HasRow none row → ⊥
-no_row row has = let e = sym (map.get-empty byte_order (row_key row)) ∙ has.stands in absurd cc
+no_row : (w : Width) (row : Row) → HasRow w none row → ⊥
+no_row w row has = let e = sym (map.get-empty byte_order (row_key row)) ∙ has.stands in absurd cc
 
-nobody : (owner : Owner) (unit : ℕ) → Owns none owner unit → ⊥
-nobody (page_of c o page) unit owns = no_row (shard c o owns.1.first owns.1.extents) owns.1.has_shard
+nobody : (w : Width) (owner : Owner) (unit : ℕ) → Owns w none owner unit → ⊥
+nobody w (page_of c o page) unit owns = no_row w (shard c o owns.1.first owns.1.extents) owns.1.has_shard
 
 no_object : (c o : List ℕ) → object_under map.empty c o ≡ None
 no_object c o = ap (λ (x : Option Collection). option_and_then (λ (found : Collection). map.get found o) x) (map.get-empty byte_order c)
@@ -31,8 +32,8 @@ no_object c o = ap (λ (x : Option Collection). option_and_then (λ (found : Col
 pub none_good : (s : Super) → NoBadRow s none
 none_good s key value stands = absurd (let e = sym (map.get-empty byte_order key) ∙ stands in cc)
 
-pub none_stand : (at : ℕ → List ℕ) → ObjectsStand at none map.empty
-none_stand at = record {
+pub none_stand : (w : Width) (at : ℕ → List ℕ) → ObjectsStand w at none map.empty
+none_stand w at = record {
   shape = record {
     collections = λ c. ap is_some (map.get-empty byte_order c) ∙ sym (ap is_some (map.get-empty byte_order (coll_key c)));
     present = λ c o object is. absurd (let e = sym (no_object c o) ∙ is in cc);
@@ -41,8 +42,8 @@ none_stand at = record {
   bytes = λ c o object is. absurd (let e = sym (no_object c o) ∙ is in cc);
 }
 
-pub none_owned : (unit : ℕ) → ¬ IsOwned none unit
-none_owned unit owned = nobody owned.0 unit owned.1
+pub none_owned : (w : Width) (unit : ℕ) → ¬ IsOwned w none unit
+none_owned w unit owned = nobody w owned.0 unit owned.1
 
 -- no bit is 1, so the bitmap is exact
 pub none_marked : (unit : ℕ) → ¬ IsMarked none unit
@@ -51,11 +52,11 @@ none_marked unit marked =
     ap (λ (o : Option (List ℕ)). bit_in (unwrap_or o []) unit) (map.get-empty byte_order (bitmap_key (bit_row unit))) ∙ bit_at-zero (unit % 8) in
     omega (arith, marked, is)
 
-pub none_exact : IsExact none
-none_exact = record {
+pub none_exact : (w : Width) → IsExact w none
+none_exact w = record {
   marked = λ unit small marked. absurd (none_marked unit marked);
-  owned_marked = λ unit owned. absurd (none_owned unit owned);
-  one_owner = λ unit a b owns others. absurd (none_owned unit (a, owns));
+  owned_marked = λ unit owned. absurd (none_owned w unit owned);
+  one_owner = λ unit a b owns others. absurd (none_owned w unit (a, owns));
 }
 
 -- what the laws cite

@@ -1,5 +1,7 @@
 -- Rows after one row is put in.
 use Rattle.std.proofs.Common.{◌≡◌, ◌≢◌, ◌⊎◌, inl, inr, ℕ, List, ◌∷◌, Some, None, refl, sym, ap, ◌∙◌}
+use Rattle.meta_log.specs.Slots.{width_of}
+use Rattle.unit_fields.specs.declared.width.Width.{Width}
 use Rattle.std.specs.FinMap as map
 use Rattle.meta_rows.specs.Rows.{Rows}
 use Rattle.meta_log.specs.declared.slot.Super.{Super}
@@ -13,8 +15,8 @@ use Rattle.store_image.proofs.ByteLemmas.{equal_or_not}
 use Rattle.store_image.proofs.PageUnits.{stands_still}
 use Rattle.row_facts.proofs.Maps.{get_same, get_other, some_after}
 
-abbrev pub put_row : Rows → Row → Rows
-put_row rows r = map.insert rows (row_key r) (row_value r)
+abbrev pub put_row : Width → Rows → Row → Rows
+put_row w rows r = map.insert rows (row_key r) (row_value w r)
 
 -- the heads of the keys of all rows
 data Begins (k : ℕ) : Type 0 where
@@ -37,47 +39,50 @@ no_other_kind s rows good k rest c o b = elim (map.get rows (k ∷ rest)) as (λ
       (let g = good (k ∷ rest) v p in elim (key_begins g.row k rest g.key_is) [ of_coll e ↦ c e | of_object e ↦ o e | of_bits e ↦ b e ])
 ] refl
 
-module _ (rows : Rows) (r : Row) where
-  pub kind_kept : (k : ℕ) (rest : List ℕ) → k ≢ 0x43 → k ≢ 0x4f → k ≢ 0x62 → map.get (put_row rows r) (k ∷ rest) ≡ map.get rows (k ∷ rest)
-  kind_kept k rest c o b = get_other rows (row_key r) (row_value r) (k ∷ rest)
+module _ (w : Width) (rows : Rows) (r : Row) where
+  pub kind_kept : (k : ℕ) (rest : List ℕ) → k ≢ 0x43 → k ≢ 0x4f → k ≢ 0x62 → map.get (put_row w rows r) (k ∷ rest) ≡ map.get rows (k ∷ rest)
+  kind_kept k rest c o b = get_other rows (row_key r) (row_value w r) (k ∷ rest)
       (λ e. elim (key_begins r k rest e) [ of_coll is ↦ c is | of_object is ↦ o is | of_bits is ↦ b is ])
 
-  pub key_kept : (key : List ℕ) → HasKey rows key → HasKey (put_row rows r) key
-  key_kept key there = some_after rows (row_key r) (row_value r) key there
+  pub key_kept : (key : List ℕ) → HasKey rows key → HasKey (put_row w rows r) key
+  key_kept key there = some_after rows (row_key r) (row_value w r) key there
 
-  pub row_kept : (x : Row) → HasRow rows x → row_key x ≢ row_key r → HasRow (put_row rows r) x
-  row_kept x has apart = record { fits = has.fits; stands = get_other rows (row_key r) (row_value r) (row_key x) apart ∙ has.stands }
+  pub row_kept : (x : Row) → HasRow w rows x → row_key x ≢ row_key r → HasRow w (put_row w rows r) x
+  row_kept x has apart = record { fits = has.fits; stands = get_other rows (row_key r) (row_value w r) (row_key x) apart ∙ has.stands }
 
   -- a row is the new one, or was there
-  pub row_cases : FitsRow r → (x : Row) → HasRow (put_row rows r) x → (x ≡ r) ⊎ (HasRow rows x × (row_key x ≢ row_key r))
+  pub row_cases : FitsRow w r → (x : Row) → HasRow w (put_row w rows r) x → (x ≡ r) ⊎ (HasRow w rows x × (row_key x ≢ row_key r))
   row_cases fits x has = elim (equal_or_not (row_key x) (row_key r)) [
     | inl e ↦
-        let value : Some (row_value x) ≡ Some (row_value r) = sym has.stands ∙ ap (λ k. map.get (put_row rows r) k) e
-        ∙ get_same rows (row_key r) (row_value r) in
-        inl (same_row x r has.fits fits e cc)
-    | inr apart ↦ inr (record { fits = has.fits; stands = sym (get_other rows (row_key r) (row_value r) (row_key x) apart) ∙ has.stands }, apart)
+        let value : Some (row_value w x) ≡ Some (row_value w r) = sym has.stands ∙ ap (λ k. map.get (put_row w rows r) k) e
+        ∙ get_same rows (row_key r) (row_value w r) in
+        inl (same_row w x r has.fits fits e cc)
+    | inr apart ↦ inr (record { fits = has.fits; stands = sym (get_other rows (row_key r) (row_value w r) (row_key x) apart) ∙ has.stands }, apart)
   ]
 
   -- no row is bad after, if the new one is in its place, and those that stay are in theirs
-  pub good_after : (s : Super) → FitsRow r → NoBadRow s rows → IsInPlace s (put_row rows r) r
-      → ((x : Row) → HasRow rows x → row_key x ≢ row_key r → IsInPlace s rows x → IsInPlace s (put_row rows r) x) → NoBadRow s (put_row rows r)
+  pub good_after : (s : Super) → FitsRow (width_of s) r → NoBadRow s rows → IsInPlace s (put_row (width_of s) rows r) r
+      → ((x : Row) → HasRow (width_of s) rows x → row_key x ≢ row_key r → IsInPlace s rows x → IsInPlace s (put_row (width_of s) rows r) x)
+      → NoBadRow s (put_row (width_of s) rows r)
   good_after s fits good new old key value stands = elim (equal_or_not key (row_key r)) [
     | inl e ↦
-        let same : Some value ≡ Some (row_value r) = sym stands ∙ ap (λ k. map.get (put_row rows r) k) e ∙ get_same rows (row_key r) (row_value r) in
+        let same : Some value ≡ Some (row_value (width_of s) r) = sym stands ∙ ap (λ k. map.get (put_row (width_of s) rows r) k) e
+        ∙ get_same rows (row_key r) (row_value (width_of s) r) in
         record { row = r; fits = fits; key_is = e; value_is = cc; in_place = new }
     | inr apart ↦
-        let found : map.get rows key ≡ Some value = sym (get_other rows (row_key r) (row_value r) key apart) ∙ stands in
+        let found : map.get rows key ≡ Some value = sym (get_other rows (row_key r) (row_value (width_of s) r) key apart) ∙ stands in
         let g = good key value found in
-        let has : HasRow rows g.row = record { fits = g.fits; stands = ap (λ k. map.get rows k) (sym g.key_is) ∙ found ∙ ap Some g.value_is } in
+        let has : HasRow (width_of s) rows g.row =
+        record { fits = g.fits; stands = ap (λ k. map.get rows k) (sym g.key_is) ∙ found ∙ ap Some g.value_is } in
         record { row = g.row; fits = g.fits; key_is = g.key_is; value_is = g.value_is; in_place = old g.row has (λ e. apart (g.key_is ∙ e)) g.in_place }
   ]
 
   -- the row is no shard of the object
   abbrev pub IsApart : List ℕ → List ℕ → Type 0
-  IsApart d u = (page : ℕ) (es : List Extent) → FitsRow (shard d u page es) → row_key (shard d u page es) ≢ row_key r
+  IsApart d u = (page : ℕ) (es : List Extent) → FitsRow w (shard d u page es) → row_key (shard d u page es) ≢ row_key r
 
   module _ (d u : List ℕ) (apart : IsApart d u) (page : ℕ) (place : Place) where
-    pub page_kept : IsPageAt rows d u page place → IsPageAt (put_row rows r) d u page place
+    pub page_kept : IsPageAt w rows d u page place → IsPageAt w (put_row w rows r) d u page place
     page_kept is = record {
       first = is.first;
       extents = is.extents;
@@ -85,20 +90,30 @@ module _ (rows : Rows) (r : Row) where
       has_page = is.has_page;
     }
 
-    pub page_was : IsPageAt (put_row rows r) d u page place → IsPageAt rows d u page place
+    pub page_was : IsPageAt w (put_row w rows r) d u page place → IsPageAt w rows d u page place
     page_was is = record {
       first = is.first;
       extents = is.extents;
       has_shard = record {
         fits = is.has_shard.fits;
-        stands = sym (get_other rows (row_key r) (row_value r) _ (apart is.first is.extents is.has_shard.fits)) ∙ is.has_shard.stands;
+        stands = sym (get_other rows (row_key r) (row_value w r) _ (apart is.first is.extents is.has_shard.fits)) ∙ is.has_shard.stands;
       };
       has_page = is.has_page;
     }
 
   module _ (d u : List ℕ) (apart : IsApart d u) (page : ℕ) (on : PageUnit) where
-    pub on_kept : IsPageOn rows d u page on → IsPageOn (put_row rows r) d u page on
-    on_kept is = record { place = is.place; at = page_kept d u apart page is.place is.at; stands = stands_still rows (put_row rows r) is.place on is.stands }
+    pub on_kept : IsPageOn w rows d u page on → IsPageOn w (put_row w rows r) d u page on
+    on_kept is = record {
+      place = is.place;
+      at = page_kept d u apart page is.place is.at;
+      stands =
+          stands_still rows (put_row w rows r) is.place on is.stands;
+    }
 
-    pub on_was : IsPageOn (put_row rows r) d u page on → IsPageOn rows d u page on
-    on_was is = record { place = is.place; at = page_was d u apart page is.place is.at; stands = stands_still (put_row rows r) rows is.place on is.stands }
+    pub on_was : IsPageOn w (put_row w rows r) d u page on → IsPageOn w rows d u page on
+    on_was is = record {
+      place = is.place;
+      at = page_was d u apart page is.place is.at;
+      stands =
+          stands_still (put_row w rows r) rows is.place on is.stands;
+    }

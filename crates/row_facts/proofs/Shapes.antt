@@ -1,10 +1,11 @@
 -- The shape and the bytes of an object that a row put in leaves as it was.
 use Rattle.std.proofs.Common.{◌≡◌, ◌≢◌, ℕ, List, ◌∷◌, length, unwrap_or, [], refl, sym, ap, ◌∙◌, arith}
+use Rattle.unit_fields.specs.declared.width.Width.{Width}
 use Rattle.std.specs.FinMap as map
 use Rattle.meta_rows.specs.Rows.{Rows}
 use Rattle.object_model.specs.Objects.{Object}
-use Rattle.row_format.specs.Row.{Row, onode}
-use Rattle.store_image.specs.Pages.{HasRow, HasPage}
+use Rattle.row_format.specs.Row.{Row}
+use Rattle.store_image.specs.Pages.{HasOnode, HasPage}
 use Rattle.store_image.specs.Stands.{IsObjectShape, AreObjectBytes}
 use Rattle.row_facts.proofs.PutRow.{put_row, IsApart, on_kept, on_was}
 
@@ -12,7 +13,7 @@ use Rattle.row_facts.proofs.PutRow.{put_row, IsApart, on_kept, on_was}
 abbrev pub SameOthers : Rows → Rows → Type 0
 SameOthers rows after = (k : ℕ) (rest : List ℕ) → k ≢ 0x43 → k ≢ 0x4f → k ≢ 0x62 → map.get after (k ∷ rest) ≡ map.get rows (k ∷ rest)
 
-pub shape_kept : (rows after : Rows) (c o : List ℕ) (object : Object) → SameOthers rows after → HasRow after (onode c o (length object.bytes))
+pub shape_kept : (rows after : Rows) (c o : List ℕ) (object : Object) → SameOthers rows after → HasOnode after c o (length object.bytes)
     → IsObjectShape rows c o object → IsObjectShape after c o object
 shape_kept rows after c o object same size shape = record {
   size = size;
@@ -25,13 +26,14 @@ shape_kept rows after c o object same size shape = record {
 }
 
 -- the object's pages are seen as before, where the units on which pages stand hold what they held
-pub bytes_kept : (at after : ℕ → List ℕ) (rows : Rows) (r : Row) (d u : List ℕ) (bytes : List ℕ) → IsApart rows r d u
-    → ((unit : ℕ) → HasPage rows unit → after unit ≡ at unit) → AreObjectBytes at rows d u bytes → AreObjectBytes after (put_row rows r) d u bytes
-bytes_kept at after rows r d u bytes apart same all = record {
+pub bytes_kept : (w : Width) (at after : ℕ → List ℕ) (rows : Rows) (r : Row) (d u : List ℕ) (bytes : List ℕ) → IsApart w rows r d u
+    → ((unit : ℕ) → HasPage w rows unit → after unit ≡ at unit) → AreObjectBytes w at rows d u bytes
+    → AreObjectBytes w after (put_row w rows r) d u bytes
+bytes_kept w at after rows r d u bytes apart same all = record {
   mapped = λ page on is.
-      let was = on_was rows r d u apart page on is in
+      let was = on_was w rows r d u apart page on is in
       let seen = all.mapped page on was in
-      let has : HasPage rows on.unit = record { coll = d; object = u; page = page; on = on; is_on = was; is_unit = refl } in
+      let has : HasPage w rows on.unit = record { coll = d; object = u; page = page; on = on; is_on = was; is_unit = refl } in
       record { seen = seen.seen ∙ sym (same on.unit has); kept = seen.kept };
-  holes = λ page hole. all.holes page (λ on is. hole on (on_kept rows r d u apart page on is));
+  holes = λ page hole. all.holes page (λ on is. hole on (on_kept w rows r d u apart page on is));
 }

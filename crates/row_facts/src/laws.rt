@@ -16,16 +16,17 @@ ghost use Rattle.store_image.specs.BadRows.{NoBadRow};
 ghost use Rattle.store_image.specs.Owners.{IsOwned, IsExact, HasSoleOwner};
 ghost use Rattle.store_image.specs.Stands.{IsShape, ObjectsStand};
 ghost use Rattle.row_facts.specs.Operations.{coll_ops, coll_change};
+ghost use Rattle.unit_fields.specs.declared.width.Width.{Width};
 
 /// Making a collection leaves no bad row, and rows that stand for the objects with the collection. Nobody gets a unit or loses one, so
 /// that a unit that hasn't two owners before has not two after.
 #[tactic(auto, using(crate::proofs::CollMade::coll_laws))]
 pub fn made_collection()
     ensures good { (s : Super) (rows : Rows) (c : List ℕ) → IsCollName c → NoBadRow s rows → NoBadRow s (rows_after rows (coll_ops c)) }
-    ensures stand { (at : ℕ → List ℕ) (rows : Rows) (objects after : Objects) (c : List ℕ) → ObjectsStand at rows objects
-        → transaction_effect (coll_change c) objects ≡ Ok after → ObjectsStand at (rows_after rows (coll_ops c)) after }
-    ensures owned { (rows : Rows) (c : List ℕ) (unit : ℕ) → IsOwned (rows_after rows (coll_ops c)) unit ↔ IsOwned rows unit }
-    ensures sole { (rows : Rows) (c : List ℕ) (unit : ℕ) → HasSoleOwner rows unit → HasSoleOwner (rows_after rows (coll_ops c)) unit }
+    ensures stand { (w : Width) (at : ℕ → List ℕ) (rows : Rows) (objects after : Objects) (c : List ℕ) → ObjectsStand w at rows objects
+        → transaction_effect (coll_change c) objects ≡ Ok after → ObjectsStand w at (rows_after rows (coll_ops c)) after }
+    ensures owned { (w : Width) (rows : Rows) (c : List ℕ) (unit : ℕ) → IsOwned w (rows_after rows (coll_ops c)) unit ↔ IsOwned w rows unit }
+    ensures sole { (w : Width) (rows : Rows) (c : List ℕ) (unit : ℕ) → HasSoleOwner w rows unit → HasSoleOwner w (rows_after rows (coll_ops c)) unit }
 {}
 
 /// An object is there where the row of its onode is.
@@ -55,9 +56,9 @@ pub fn replies_by_rows()
 #[tactic(auto, using(crate::proofs::NoRows::none_laws))]
 pub fn no_rows()
     ensures good { (s : Super) → NoBadRow s map.empty }
-    ensures stand { (at : ℕ → List ℕ) → ObjectsStand at map.empty map.empty }
-    ensures owned { (unit : ℕ) → ¬ IsOwned map.empty unit }
-    ensures exact { IsExact map.empty }
+    ensures stand { (w : Width) (at : ℕ → List ℕ) → ObjectsStand w at map.empty map.empty }
+    ensures owned { (w : Width) (unit : ℕ) → ¬ IsOwned w map.empty unit }
+    ensures exact { (w : Width) → IsExact w map.empty }
 {}
 
 /// The operation that makes a collection has a spelling, and its record is one unit.

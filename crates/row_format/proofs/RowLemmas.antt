@@ -1,32 +1,33 @@
 -- A row by its key and its value.
-use Rattle.std.proofs.Common.{◌≡◌, ℕ, ◌^◌, ◌<◌, Option, Some, refl, sym, ap, ◌∙◌, arith}
+use Rattle.std.proofs.Common.{◌≡◌, ◌^◌, ◌<◌, Some, refl, sym, ap, ◌∙◌, arith}
 use Rattle.std.specs.Prelude.{unwrap_or}
 use Rattle.std.proofs.lemmas.Nat.{from_le_bytes-to_le_bytes_8}
+use Rattle.unit_fields.specs.declared.width.Width.{Width}
 use Rattle.row_format.specs.Row.{Row, collection, onode, shard, bitmap, row_key, row_value, row_thing, row_of, FitsRow, IsOfSameThing}
-use Rattle.row_format.specs.Things.{Thing, thing_of}
+use Rattle.row_format.specs.Things.{thing_of}
 use Rattle.row_format.proofs.ThingLemmas.{collection_again, onode_again, shard_again, bitmap_again}
 use Rattle.row_format.proofs.ExtentReading.{read_all}
 
 -- the key of a row names what the row is of
-pub thing_again : (a : Row) → FitsRow a → thing_of (row_key a) ≡ Some (row_thing a)
-thing_again (collection c) fits = collection_again c
-thing_again (onode c o size) fits = onode_again c o fits.0 fits.1
-thing_again (shard c o page es) fits = shard_again c o page fits.coll_name fits.object_name fits.page_below
-thing_again (bitmap r bits) fits = bitmap_again r (omega (arith, fits.below))
+pub thing_again : (w : Width) (a : Row) → FitsRow w a → thing_of (row_key a) ≡ Some (row_thing a)
+thing_again w (collection c) fits = collection_again c
+thing_again w (onode c o size) fits = onode_again c o fits.0 fits.1
+thing_again w (shard c o page es) fits = shard_again c o page fits.coll_name fits.object_name fits.page_below
+thing_again w (bitmap r bits) fits = bitmap_again r (omega (arith, fits.below))
 
 -- and with the value it says the row
-pub row_again : (a : Row) → FitsRow a → row_of (row_thing a) (row_value a) ≡ Some a
-row_again (collection c) fits = refl
-row_again (onode c o size) fits = ap (λ n. Some (onode c o n)) (from_le_bytes-to_le_bytes_8 size fits.2)
-row_again (shard c o page es) fits = ap (λ fs. Some (shard c o page fs)) (read_all es fits.fit)
-row_again (bitmap r bits) fits = refl
+pub row_again : (w : Width) (a : Row) → FitsRow w a → row_of w (row_thing a) (row_value w a) ≡ Some a
+row_again w (collection c) fits = refl
+row_again w (onode c o size) fits = ap (λ n. Some (onode c o n)) (from_le_bytes-to_le_bytes_8 size fits.2)
+row_again w (shard c o page es) fits = ap (λ fs. Some (shard c o page fs)) (read_all w es fits.fit)
+row_again w (bitmap r bits) fits = refl
 
 of_some : {X : Type 0} (a b : X) → Some a ≡ Some b → a ≡ b
 of_some a b e = ap (λ o. unwrap_or o a) e
 
-pub same_thing : (a b : Row) → FitsRow a → FitsRow b → row_key a ≡ row_key b → IsOfSameThing a b
-same_thing a b fa fb e = of_some (row_thing a) (row_thing b) (sym (thing_again a fa) ∙ ap thing_of e ∙ thing_again b fb)
+pub same_thing : (w : Width) (a b : Row) → FitsRow w a → FitsRow w b → row_key a ≡ row_key b → IsOfSameThing a b
+same_thing w a b fa fb e = of_some (row_thing a) (row_thing b) (sym (thing_again w a fa) ∙ ap thing_of e ∙ thing_again w b fb)
 
-pub same_row : (a b : Row) → FitsRow a → FitsRow b → row_key a ≡ row_key b → row_value a ≡ row_value b → a ≡ b
-same_row a b fa fb key value =
-    of_some a b (sym (row_again a fa) ∙ (λ i. row_of (same_thing a b fa fb key i) (value i)) ∙ row_again b fb)
+pub same_row : (w : Width) (a b : Row) → FitsRow w a → FitsRow w b → row_key a ≡ row_key b → row_value w a ≡ row_value w b → a ≡ b
+same_row w a b fa fb key value =
+    of_some a b (sym (row_again w a fa) ∙ (λ i. row_of w (same_thing w a b fa fb key i) (value i)) ∙ row_again w b fb)

@@ -2,6 +2,8 @@
 use Rattle.std.specs.Prelude.{◌≡◌, ℕ, ◌+◌, ◌-◌, ◌<◌, ◌≤◌, ◌^◌, nat_lt, nat_le, ◌&&◌, List, [], ◌∷◌, ◌++◌, length, Option, Some, None, if◌then◌else◌, slice_index}
 use Rattle.std.specs.List.{flat_map, AllByRecursion}
 use Rattle.std.specs.Int.{w16, w32, to_le_bytes}
+use Rattle.unit_fields.specs.declared.width.Width.{Width}
+use Rattle.row_format.specs.Csums.{csum_bytes, FitsCsum}
 
 -- Where the pages of a run stand: on consecutive units of the object's own, from this one on, with one checksum for each page.
 -- (Slots of a shared blob are to be the other case.)
@@ -22,21 +24,21 @@ abbrev pub page_end : Extent → ℕ
 page_end e = e.first + page_count e.body
 
 -- the kind, and what it wants
-abbrev pub body_bytes : Body → List ℕ
-body_bytes (private unit csums) = 0 ∷ (to_le_bytes w32 unit ++ flat_map (to_le_bytes w32) csums)
+abbrev pub body_bytes : Width → Body → List ℕ
+body_bytes w (private unit csums) = 0 ∷ (to_le_bytes w32 unit ++ flat_map (csum_bytes w) csums)
 
--- the one spelling of an extent: its first page, the number of its pages, and where they stand
-abbrev pub extent_bytes : Extent → List ℕ
-extent_bytes e = to_le_bytes w32 e.first ++ (to_le_bytes w16 (page_count e.body) ++ body_bytes e.body)
+-- the one spelling of an extent, with checksums of this width: its first page, the number of its pages, and where they stand
+abbrev pub extent_bytes : Width → Extent → List ℕ
+extent_bytes w e = to_le_bytes w32 e.first ++ (to_le_bytes w16 (page_count e.body) ++ body_bytes w e.body)
 
 -- 1 to 256 pages, and numbers that fit their fields
-abbrev pub FitsBody : Body → Type 0
-FitsBody (private unit csums) = (unit < 2 ^ 32) × (0 < length csums) × (length csums ≤ 256) × AllByRecursion (λ csum. csum < 2 ^ 32) csums
+abbrev pub FitsBody : Width → Body → Type 0
+FitsBody w (private unit csums) = (unit < 2 ^ 32) × (0 < length csums) × (length csums ≤ 256) × AllByRecursion (FitsCsum w) csums
 
 -- what has a spelling
-pub record FitsExtent (e : Extent) : Type 0 where
+pub record FitsExtent (w : Width) (e : Extent) : Type 0 where
   pub first : e.first < 2 ^ 32
-  pub body : FitsBody e.body
+  pub body : FitsBody w e.body
 
 -- the extents ascend, and none reaches into the next
 abbrev pub ExtentsAscend : List Extent → Type 0

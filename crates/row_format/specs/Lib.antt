@@ -1,4 +1,5 @@
 pub mod Keys
+pub mod Csums
 pub mod Extents
 pub mod Bits
 pub mod Things

@@ -4,6 +4,7 @@ use Rattle.std.specs.Prelude.{◌≡◌, ℕ, ◌<◌, ◌^◌, List, [], length
 use Rattle.std.specs.List.{flat_map, AllByRecursion}
 use Rattle.std.specs.Int.{w64, to_le_bytes, from_le_bytes}
 use Rattle.unit_fields.specs.Names.{IsName, IsCollName}
+use Rattle.unit_fields.specs.declared.width.Width.{Width}
 use Rattle.meta_rows.specs.Rows.{all_zero}
 use Rattle.row_format.specs.Bits.{bit_rows}
 use Rattle.row_format.specs.Keys.{coll_key, onode_key, shard_key, bitmap_key}
@@ -23,19 +24,24 @@ row_key (onode c o size) = onode_key c o
 row_key (shard c o page extents) = shard_key c o page
 row_key (bitmap r bits) = bitmap_key r
 
-abbrev pub row_value : Row → List ℕ
-row_value (collection c) = []
-row_value (onode c o size) = to_le_bytes w64 size
-row_value (shard c o page extents) = flat_map extent_bytes extents
-row_value (bitmap r bits) = bits
+-- the value, with checksums of this width in shards
+abbrev pub row_value : Width → Row → List ℕ
+row_value w (collection c) = []
+row_value w (onode c o size) = to_le_bytes w64 size
+row_value w (shard c o page extents) = flat_map (extent_bytes w) extents
+row_value w (bitmap r bits) = bits
+
+-- an object's names, and a size that fits its field
+abbrev pub FitsOnode : List ℕ → List ℕ → ℕ → Type 0
+FitsOnode c o size = IsCollName c × IsName o × (size < 2 ^ 64)
 
 -- a shard has at least one extent, and the first is at the page of its key
-pub record FitsShard (c o : List ℕ) (page : ℕ) (extents : List Extent) : Type 0 where
+pub record FitsShard (w : Width) (c o : List ℕ) (page : ℕ) (extents : List Extent) : Type 0 where
   pub coll_name : IsCollName c
   pub object_name : IsName o
   pub page_below : page < 2 ^ 32
   pub begins : BeginsAt page extents
-  pub fit : AllByRecursion FitsExtent extents
+  pub fit : AllByRecursion (FitsExtent w) extents
 
 -- the bits of 128 units, not all of them 0
 pub record FitsBitmap (r : ℕ) (bits : List ℕ) : Type 0 where
@@ -44,11 +50,11 @@ pub record FitsBitmap (r : ℕ) (bits : List ℕ) : Type 0 where
   pub some : all_zero bits ≡ false
 
 -- what the table has
-abbrev pub FitsRow : Row → Type 0
-FitsRow (collection c) = IsCollName c
-FitsRow (onode c o size) = IsCollName c × IsName o × (size < 2 ^ 64)
-FitsRow (shard c o page extents) = FitsShard c o page extents
-FitsRow (bitmap r bits) = FitsBitmap r bits
+abbrev pub FitsRow : Width → Row → Type 0
+FitsRow w (collection c) = IsCollName c
+FitsRow w (onode c o size) = FitsOnode c o size
+FitsRow w (shard c o page extents) = FitsShard w c o page extents
+FitsRow w (bitmap r bits) = FitsBitmap r bits
 
 -- what a row is of
 abbrev pub row_thing : Row → Thing
@@ -62,9 +68,9 @@ abbrev pub IsOfSameThing : Row → Row → Type 0
 IsOfSameThing a b = row_thing a ≡ row_thing b
 
 -- the row of a thing that a value says, where rows of its kind are there
-abbrev pub row_of : Thing → List ℕ → Option Row
-row_of (a_collection c) value = Some (collection c)
-row_of (an_onode c o) value = Some (onode c o (from_le_bytes w64 value))
-row_of (a_shard c o page) value = Some (shard c o page (extents_read value))
-row_of (a_bitmap_row r) value = Some (bitmap r value)
-row_of _ value = None
+abbrev pub row_of : Width → Thing → List ℕ → Option Row
+row_of w (a_collection c) value = Some (collection c)
+row_of w (an_onode c o) value = Some (onode c o (from_le_bytes w64 value))
+row_of w (a_shard c o page) value = Some (shard c o page (extents_read w value))
+row_of w (a_bitmap_row r) value = Some (bitmap r value)
+row_of w _ value = None

@@ -2,6 +2,7 @@
 
 ghost use Rattle.std.specs.Prelude.{◌≡◌, ℕ, ◌<◌, ◌^◌, List, Some};
 ghost use Rattle.unit_fields.specs.Names.{IsName, IsCollName};
+ghost use Rattle.unit_fields.specs.declared.width.Width.{Width};
 ghost use Rattle.row_format.specs.Keys.{coll_key, onode_key, shard_key, attr_key, header_key, omap_key, deferred_key, shared_key, bitmap_key};
 ghost use Rattle.row_format.specs.Row.{Row, row_key, row_value, FitsRow, IsOfSameThing};
 ghost use Rattle.row_format.specs.Things.{a_collection, an_onode, a_shard, an_attribute, an_omap_header, an_omap_pair, a_deferred_write};
@@ -25,12 +26,12 @@ pub fn keys_of_numbers_are_read()
     ensures bitmaps { (r : ℕ) → r < 2 ^ 32 → thing_of (bitmap_key r) ≡ Some (a_bitmap_row r) }
 {}
 
-/// A key and a value are the spelling of at most one row.
+/// A key and a value are the spelling of at most one row, for checksums of one width.
 pub fn one_row_for_a_spelling()
-    ensures { (a b : Row) → FitsRow a → FitsRow b → row_key a ≡ row_key b → row_value a ≡ row_value b → a ≡ b }
+    ensures { (w : Width) (a b : Row) → FitsRow w a → FitsRow w b → row_key a ≡ row_key b → row_value w a ≡ row_value w b → a ≡ b }
 {}
 
 /// Rows with the same key are of the same kind, and speak of the same collection, object and page.
 pub fn different_things_have_different_keys()
-    ensures { (a b : Row) → FitsRow a → FitsRow b → row_key a ≡ row_key b → IsOfSameThing a b }
+    ensures { (w : Width) (a b : Row) → FitsRow w a → FitsRow w b → row_key a ≡ row_key b → IsOfSameThing a b }
 {}

@@ -2,6 +2,7 @@
 use Rattle.std.specs.Prelude.{◌≡◌, ℕ, ◌<◌, ◌^◌, List, [], ◌∷◌, ◌++◌}
 use Rattle.std.specs.Int.{w32, to_be_bytes}
 use Rattle.unit_fields.specs.Names.{IsName, IsCollName}
+use Rattle.unit_fields.specs.declared.width.Width.{Width}
 use Rattle.row_format.specs.Keys.{coll_key, object_key, bitmap_key}
 use Rattle.row_format.specs.Bits.{bit_rows}
 use Rattle.row_format.specs.Row as format
@@ -59,11 +60,11 @@ row_of (rows.Onode c o size) = format.onode c o size
 row_of (rows.Shard c o page extents) = format.shard c o page extents
 row_of (rows.Bitmap r bits) = format.bitmap r bits
 
--- the key and the value are the one spelling of this row
-pub record SpellsRow (key value : List ℕ) (r : format.Row) : Type 0 where
-  pub fits : format.FitsRow r
+-- the key and the value are the one spelling of this row, with checksums of this width
+pub record SpellsRow (w : Width) (key value : List ℕ) (r : format.Row) : Type 0 where
+  pub fits : format.FitsRow w r
   pub key_is : key ≡ format.row_key r
-  pub value_is : value ≡ format.row_value r
+  pub value_is : value ≡ format.row_value w r
 
-abbrev pub IsNoRow : List ℕ → List ℕ → Type 0
-IsNoRow key value = (r : format.Row) → ¬ SpellsRow key value r
+abbrev pub IsNoRow : Width → List ℕ → List ℕ → Type 0
+IsNoRow w key value = (r : format.Row) → ¬ SpellsRow w key value r

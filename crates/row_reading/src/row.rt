@@ -2,6 +2,7 @@
 ghost use Rattle.std.specs.Prelude.{◌≡◌, ◌↔◌, ◌<◌, false, length, IsTrue, IfOk, MatchOption};
 ghost use Rattle.meta_rows.specs.Rows.{all_zero};
 ghost use Rattle.unit_fields.specs.Names.{IsName, IsCollName};
+ghost use Rattle.unit_fields.specs.declared.width.Width.{Width};
 ghost use Rattle.row_format.specs.Keys.{onode_key, shard_key, bitmap_key};
 ghost use Rattle.row_format.specs.Extents.{BeginsAt};
 ghost use Rattle.row_reading.specs.Reading.{row_of, SpellsRow, IsNoRow};
@@ -10,7 +11,7 @@ use crate::key::{Part, RowKey, read_key_after};
 use byte_maps::{Bytes, Items, is_zero};
 use onode_codec::{Extent, Onode, decode_extents};
 use std::alloc::{AllocError, Global};
-use unit_fields::{CollName, Name};
+use unit_fields::{CollName, Name, Width};
 
 // The bytes of a row of the bitmap.
 const ROW_BYTES: usize = 16;
@@ -46,7 +47,8 @@ pub enum Row {
 fn read_onode(coll: CollName, object: Name, value: &[u8]) -> Option<Row>
     requires coll { IsCollName coll }
     requires object { IsName object }
-    ensures { MatchOption result (IsNoRow (onode_key coll object) value.now) (λ row. SpellsRow (onode_key coll object) value.now (row_of row)) }
+    ensures { MatchOption result ((width : Width) → IsNoRow width (onode_key coll object) value.now)
+        (λ row. (width : Width) → SpellsRow width (onode_key coll object) value.now (row_of row)) }
 {
     match Onode::decode(value) {
         Some(onode) => Some(Row::Onode {
@@ -71,6 +73,7 @@ fn begins_at(extents: &[Extent], page: u32) -> bool
 // The row of a shard with this value.
 fn read_shard(
     alloc: Global,
+    width: Width,
     coll: CollName,
     object: Name,
     page: u32,
@@ -78,10 +81,10 @@ fn read_shard(
 ) -> Result<Option<Row>, AllocError>
     requires coll { IsCollName coll }
     requires object { IsName object }
-    ensures { IfOk result (λ found. MatchOption found (IsNoRow (shard_key coll object page) value.now)
-        (λ row. SpellsRow (shard_key coll object page) value.now (row_of row))) }
+    ensures { IfOk result (λ found. MatchOption found (IsNoRow width (shard_key coll object page) value.now)
+        (λ row. SpellsRow width (shard_key coll object page) value.now (row_of row))) }
 {
-    let Some(extents) = decode_extents(alloc, value)? else {
+    let Some(extents) = decode_extents(alloc, width, value)? else {
         return Ok(None);
     };
     if !begins_at(&extents, page) {
@@ -106,8 +109,8 @@ fn are_bits(value: &[u8]) -> bool
 // The row of the bitmap with this value.
 fn read_bits(alloc: Global, row: u32, value: &[u8]) -> Result<Option<Row>, AllocError>
     requires { row < 33554432 }
-    ensures { IfOk result (λ found. MatchOption found (IsNoRow (bitmap_key row) value.now)
-        (λ r. SpellsRow (bitmap_key row) value.now (row_of r))) }
+    ensures { IfOk result (λ found. MatchOption found ((width : Width) → IsNoRow width (bitmap_key row) value.now)
+        (λ r. (width : Width) → SpellsRow width (bitmap_key row) value.now (row_of r))) }
 {
     if !are_bits(value) {
         return Ok(None);
@@ -116,22 +119,30 @@ fn read_bits(alloc: Global, row: u32, value: &[u8]) -> Result<Option<Row>, Alloc
     Ok(Some(Row::Bitmap { row, bits }))
 }
 
-/// The row that a key and a value spell. None: they spell none that a store has. Whether the row fits the rows around it is not
-/// looked at.
-pub fn read_row(alloc: Global, key: &[u8], value: &[u8]) -> Result<Option<Row>, AllocError>
-    ensures { IfOk result (λ found. MatchOption found (IsNoRow key.now value.now) (λ row. SpellsRow key.now value.now (row_of row))) }
+/// The row that a key and a value spell, with checksums of this width. None: they spell none that a store has. Whether the row fits the
+/// rows around it is not looked at.
+pub fn read_row(
+    alloc: Global,
+    width: Width,
+    key: &[u8],
+    value: &[u8],
+) -> Result<Option<Row>, AllocError>
+    ensures { IfOk result (λ found. MatchOption found (IsNoRow width key.now value.now)
+        (λ row. SpellsRow width key.now value.now (row_of row))) }
 {
-    read_row_after(alloc, None, key, value)
+    read_row_after(alloc, width, None, key, value)
 }
 
 /// The same, sooner where it is the row of an object of a collection that is known.
 pub fn read_row_after(
     alloc: Global,
+    width: Width,
     known: Option<&CollName>,
     key: &[u8],
     value: &[u8],
 ) -> Result<Option<Row>, AllocError>
-    ensures { IfOk result (λ found. MatchOption found (IsNoRow key.now value.now) (λ row. SpellsRow key.now value.now (row_of row))) }
+    ensures { IfOk result (λ found. MatchOption found (IsNoRow width key.now value.now)
+        (λ row. SpellsRow width key.now value.now (row_of row))) }
 {
     match read_key_after(alloc, known, key)? {
         None => Ok(None),
@@ -139,7 +150,7 @@ pub fn read_row_after(
         Some(RowKey::Collection { .. }) => Ok(None),
         Some(RowKey::Object { coll, object, part }) => match part {
             Part::Onode => Ok(read_onode(coll, object, value)),
-            Part::Shard { page } => read_shard(alloc, coll, object, page, value),
+            Part::Shard { page } => read_shard(alloc, width, coll, object, page, value),
         },
         Some(RowKey::Bitmap { row }) => read_bits(alloc, row, value),
     }

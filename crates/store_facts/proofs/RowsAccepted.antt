@@ -1,5 +1,6 @@
 -- A transaction is accepted while nothing is under way.
 use Rattle.std.proofs.Common.{◌≡◌, ◌⊎◌, inl, inr, ℕ, ◌≤◌, Bool, true, false, List, [], ◌∷◌, ◌++◌, length, Contains, None, refl, sym, ap, subst, ◌∙◌, append-nil, arith}
+use Rattle.meta_log.specs.Slots.{width_of}
 use Rattle.std.specs.List.{flat_map}
 use Rattle.std.specs.Option.{option_map_or}
 use Rattle.meta_rows.specs.Rows.{Rows, rows_after}
@@ -45,10 +46,10 @@ module _ (s : Super) (rows : Rows) (space : Space) (limits : IsSuper s) (good : 
   fresh_data v c = (fresh_has s rows plan.fresh v (planned_fresh s rows is) c).0
 
   -- the fresh units have an owner after
-  fresh_owned : (v : ℕ) → Contains fresh v → IsOwned after v
+  fresh_owned : (v : ℕ) → Contains fresh v → IsOwned (width_of s) after v
   fresh_owned v c = facts.taken v (listed_fresh plan.fresh v c)
 
-  owned_cases : (v : ℕ) → IsOwned after v → Contains fresh v ⊎ IsOwned rows v
+  owned_cases : (v : ℕ) → IsOwned (width_of s) after v → Contains fresh v ⊎ IsOwned (width_of s) rows v
   owned_cases v owned = elim (facts.owned v owned) [
     | inl any ↦ inl (fresh_listed plan.fresh v any)
     | inr old ↦ inr old
@@ -76,12 +77,12 @@ module _ (s : Super) (rows : Rows) (space : Space) (limits : IsSuper s) (good : 
         ∙ (free v on).1 (p.0, p.0),
   )
 
-  releases_after : (x : Context) → x.released ≡ plan.released → x.fresh ≡ plan.fresh → ReleasesExactly rows after (x ∷ [])
+  releases_after : (x : Context) → x.released ≡ plan.released → x.fresh ≡ plan.fresh → ReleasesExactly (width_of s) rows after (x ∷ [])
   releases_after x released_is fresh_is =
       let released : flat_map (λ y. y.released) (x ∷ []) ≡ plan.released = one_list (λ y. y.released) x ∙ released_is in
       let taken_units : flat_map (λ y. units_of y.fresh) (x ∷ []) ≡ fresh = one_list (λ y. units_of y.fresh) x ∙ ap units_of fresh_is in
       record {
-        owned = λ v owned. subst (λ us. IsOwned after v ⊎ Contains us v) (sym released) (facts.left v owned);
+        owned = λ v owned. subst (λ us. IsOwned (width_of s) after v ⊎ Contains us v) (sym released) (facts.left v owned);
         marked = λ v small was. subst (λ us. IsMarked after v ⊎ Contains us v) (sym released) (facts.marked v small was);
         released_was = λ v c. planned_released s rows v is (subst (λ us. Contains us v) released c);
         released_is_not = λ v c owned.
@@ -160,8 +161,8 @@ module _ (s : State) (client line : ℕ) (change : Change) (s' : State) (limits 
         (good_after s.log.sup s.log.rows s.space limits kept.committed kept.space free_now change plan is_planned);
     free = subst (λ m. IsFreeExactly s.log.sup s.log.rows m then) (sym later_submitted)
         (free_after s.log.sup s.log.rows s.space limits kept.committed kept.space free_now change plan is_planned);
-    releases = subst (λ m. ReleasesExactly s.log.rows m (uncommitted t)) (sym later_submitted)
-        (subst (ReleasesExactly s.log.rows (rows_after s.log.rows plan.ops)) (sym one_context)
+    releases = subst (λ m. ReleasesExactly (width_of s.log.sup) s.log.rows m (uncommitted t)) (sym later_submitted)
+        (subst (ReleasesExactly (width_of s.log.sup) s.log.rows (rows_after s.log.rows plan.ops)) (sym one_context)
         (releases_after s.log.sup s.log.rows s.space limits kept.committed kept.space free_now change plan is_planned x refl refl));
     space = space_taken s.log.sup s.space (units_of plan.fresh) kept.space;
   }

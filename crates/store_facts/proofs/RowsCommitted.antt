@@ -1,5 +1,7 @@
 -- A batch is committed: its operations are applied, and the units that its context released come back.
 use Rattle.std.proofs.Common.{◌≡◌, inl, inr, ℕ, ◌<◌, ◌^◌, Bool, true, false, List, [], ◌∷◌, ◌++◌, Contains, Option, Some, None, refl, sym, ap, subst, ◌∙◌, append-nil, arith}
+use Rattle.meta_log.specs.Slots.{width_of}
+use Rattle.unit_fields.specs.declared.width.Width.{Width}
 use Rattle.std.specs.List.{flat_map}
 use Rattle.std.specs.Option.{option_map_or}
 use Rattle.std.proofs.lemmas.List.Elements.{Contains-append_right}
@@ -37,8 +39,8 @@ batch_alone number [] (Some a) b begun flying far is = (refl, (far.context, ap (
 batch_alone number (x ∷ []) (Some a) b begun flying far is = absurd far
 batch_alone number (x ∷ y ∷ more) (Some a) b begun flying far is = absurd far
 
-pub no_contexts : (rows : Rows) → ReleasesExactly rows rows []
-no_contexts rows = record {
+pub no_contexts : (w : Width) (rows : Rows) → ReleasesExactly w rows rows []
+no_contexts w rows = record {
   owned = λ unit owned. inl owned;
   marked = λ unit small is. inl is;
   released_was = λ unit c. absurd (omega (arith, c.1));
@@ -73,8 +75,8 @@ module _ (s : State) (kept : AreRowsKept s) (far : IsOneAtATime s.log.number s.p
   rows_are : rows_after s.log.rows (batch_ops b) ≡ s.submitted
   rows_are = ap (rows_after s.log.rows) ops_are ∙ sym (kept.submitted ∙ ap (rows_with s.log.rows) (contexts_are ∙ alone.1.1))
 
-  releases : ReleasesExactly s.log.rows s.submitted b.contexts
-  releases = subst (ReleasesExactly s.log.rows s.submitted) contexts_are kept.releases
+  releases : ReleasesExactly (width_of s.log.sup) s.log.rows s.submitted b.contexts
+  releases = subst (ReleasesExactly (width_of s.log.sup) s.log.rows s.submitted) contexts_are kept.releases
 
   pub released_data : AreData s.log.sup (batch_released b)
   released_data v c = owned_is_data s.log.sup s.log.rows s.log.rows v kept.committed (releases.released_was v c)
@@ -100,7 +102,11 @@ module _ (s : State) (kept : AreRowsKept s) (far : IsOneAtATime s.log.number s.p
   back = given s.space (batch_released b)
 
   good_back : AreGoodRows s.log.sup s.submitted s.submitted
-  good_back = record { good = kept.good.good; exact = as_itself (IsLeaked s.log.rows) s.submitted kept.good.exact }
+  good_back = record {
+    good = kept.good.good;
+    exact =
+        as_itself (width_of s.log.sup) (IsLeaked (width_of s.log.sup) s.log.rows) s.submitted kept.good.exact;
+  }
 
   module _ (limits : IsSuper s.log.sup) where
     small : (v : ℕ) → IsDataUnit s.log.sup v → v < 2 ^ 32
@@ -140,8 +146,8 @@ module _ (s : State) (kept : AreRowsKept s) (far : IsOneAtATime s.log.number s.p
       committed = subst (λ rows. AreGoodRows s.log.sup rows rows) (sym rows_are) good_back;
       good = subst (λ rows. AreGoodRows s.log.sup rows s.submitted) (sym rows_are) good_back;
       free = subst (λ rows. IsFreeExactly s.log.sup rows s.submitted back) (sym rows_are) free_then;
-      releases = subst (λ rows. ReleasesExactly rows s.submitted s.pending) (sym rows_are)
-          (subst (ReleasesExactly s.submitted s.submitted) (sym alone.0) (no_contexts s.submitted));
+      releases = subst (λ rows. ReleasesExactly (width_of s.log.sup) rows s.submitted s.pending) (sym rows_are)
+          (subst (ReleasesExactly (width_of s.log.sup) s.submitted s.submitted) (sym alone.0) (no_contexts (width_of s.log.sup) s.submitted));
       space = space_given s.log.sup s.space (batch_released b) kept.space;
     }
 

@@ -1,5 +1,7 @@
 -- What a state keeps of its rows and its free units depends on few of its parts.
 use Rattle.std.proofs.Common.{◌≡◌, ◌⊎◌, List, [], ◌∷◌, ◌++◌, map, Contains, None, refl, sym, ap, subst, ◌∙◌}
+use Rattle.meta_log.specs.Slots.{width_of}
+use Rattle.unit_fields.specs.declared.width.Width.{Width}
 use Rattle.std.specs.List.{flat_map}
 use Rattle.block_device.specs.Disk.{Disk}
 use Rattle.meta_rows.specs.Rows.{Rows, rows_after}
@@ -16,7 +18,7 @@ pub record AreRowsKept (s : State) : Type 0 where
   pub committed : AreGoodRows s.log.sup s.log.rows s.log.rows
   pub good : AreGoodRows s.log.sup s.log.rows s.submitted
   pub free : IsFreeExactly s.log.sup s.log.rows s.submitted s.space
-  pub releases : ReleasesExactly s.log.rows s.submitted (uncommitted s)
+  pub releases : ReleasesExactly (width_of s.log.sup) s.log.rows s.submitted (uncommitted s)
   pub space : IsSpaceOf s.log.sup s.space
 
 pub rows_of_kept : (s : State) (d : Disk) → IsKept s d → s.down ≡ None → AreRowsKept s
@@ -69,18 +71,19 @@ lists_alike f same (x ∷ xs) [] like = absurd like
 lists_alike f same (x ∷ xs) (y ∷ ys) like =
     ap (λ l. l ++ flat_map f xs) (same x y like.0) ∙ ap (λ l. f y ++ l) (lists_alike f same xs ys like.1)
 
-releases_alike : (rows submitted : Rows) (xs ys : List Context) → AreLike xs ys → ReleasesExactly rows submitted ys → ReleasesExactly rows submitted xs
-releases_alike rows submitted xs ys like all =
+releases_alike : (w : Width) (rows submitted : Rows) (xs ys : List Context) → AreLike xs ys → ReleasesExactly w rows submitted ys
+    → ReleasesExactly w rows submitted xs
+releases_alike w rows submitted xs ys like all =
     let released : flat_map (λ x. x.released) xs ≡ flat_map (λ x. x.released) ys = lists_alike (λ x. x.released) (λ x y l. l.released) xs ys like in
     let taken = lists_alike (λ x. map (λ f. f.unit) x.fresh) (λ x y l. ap (λ fs. map (λ f. f.unit) fs) l.fresh) xs ys like in
     record {
-      owned = λ unit owned. subst (λ us. IsOwned submitted unit ⊎ Contains us unit) (sym released) (all.owned unit owned);
+      owned = λ unit owned. subst (λ us. IsOwned w submitted unit ⊎ Contains us unit) (sym released) (all.owned unit owned);
       marked = λ unit small is. subst (λ us. IsMarked submitted unit ⊎ Contains us unit) (sym released) (all.marked unit small is);
       released_was = λ unit c. all.released_was unit (subst (λ us. Contains us unit) released c);
       released_is_not = λ unit c. all.released_is_not unit (subst (λ us. Contains us unit) released c);
       taken_was_not = λ unit c. all.taken_was_not unit (subst (λ us. Contains us unit) taken c);
       taken_is = λ unit c. all.taken_is unit (subst (λ us. Contains us unit) taken c);
-      new = λ unit owned. subst (λ us. IsOwned rows unit ⊎ Contains us unit) (sym taken) (all.new unit owned);
+      new = λ unit owned. subst (λ us. IsOwned w rows unit ⊎ Contains us unit) (sym taken) (all.new unit owned);
       once = λ unit. subst (λ us. StandsOnce us unit) (sym released) (all.once unit);
     }
 
@@ -105,8 +108,8 @@ rows_stay s s' same kept = record {
       (subst (λ rows. IsFreeExactly s.log.sup rows s'.submitted s'.space) (sym same.rows)
       (subst (λ submitted. IsFreeExactly s.log.sup s.log.rows submitted s'.space) (sym same.submitted)
       (subst (IsFreeExactly s.log.sup s.log.rows s.submitted) (sym same.space) kept.free)));
-  releases = subst (λ rows. ReleasesExactly rows s'.submitted (uncommitted s')) (sym same.rows)
-      (subst (λ submitted. ReleasesExactly s.log.rows submitted (uncommitted s')) (sym same.submitted)
-      (releases_alike s.log.rows s.submitted (uncommitted s') (uncommitted s) same.contexts kept.releases));
+  releases = subst (λ rows. ReleasesExactly (width_of s.log.sup) rows s'.submitted (uncommitted s')) (sym same.rows)
+      (subst (λ submitted. ReleasesExactly (width_of s.log.sup) s.log.rows submitted (uncommitted s')) (sym same.submitted)
+      (releases_alike (width_of s.log.sup) s.log.rows s.submitted (uncommitted s') (uncommitted s) same.contexts kept.releases));
   space = subst (λ sup. IsSpaceOf sup s'.space) (sym same.sup) (subst (IsSpaceOf s.log.sup) (sym same.space) kept.space);
 }

@@ -1,5 +1,6 @@
 -- A kernel that was just opened.
 use Rattle.std.proofs.Common.{ℕ, refl}
+use Rattle.meta_log.specs.Slots.{width_of}
 use Rattle.unit_allocator.specs.Units.{Space}
 use Rattle.store_steps.specs.Opened.{Found, opened}
 use Rattle.store_facts.specs.Kept.{IsOpenable}
@@ -12,6 +13,6 @@ opened_rows f space events units is = record {
   committed = is.good;
   good = is.good;
   free = is.free;
-  releases = no_contexts f.rows;
+  releases = no_contexts (width_of f.sup) f.rows;
   space = is.space;
 }

@@ -1,5 +1,6 @@
 -- On good rows the pages of objects stand on data units.
 use Rattle.std.proofs.Common.{◌≡◌, inl, inr, ℕ, ◌-◌, ◌<◌, Bool, true, false, cond, List, [], ◌∷◌, Some, sym, ap, subst, ◌∙◌, arith}
+use Rattle.meta_log.specs.Slots.{width_of}
 use Rattle.std.specs.Prelude.{nat_le, nat_lt, ◌&&◌}
 use Rattle.std.specs.List.{AllByRecursion}
 use Rattle.std.proofs.lemmas.Bool.{cases_Bool, and_parts, leb-true, ltb-true}
@@ -35,15 +36,15 @@ place_on_data s (e ∷ es) page place all is = elim (cases_Bool (nat_le e.first 
         → place_of (e ∷ es) page ≡ cond b (Some (place_in e.body (page - e.first))) (place_of es page)
     by_test b test = ap (λ t. cond t (Some (place_in e.body (page - e.first))) (place_of es page)) test
 
-owns_data : (s : Super) (rows : Rows) → NoBadRow s rows → (owner : Owner) (unit : ℕ) → Owns rows owner unit → IsDataUnit s unit
+owns_data : (s : Super) (rows : Rows) → NoBadRow s rows → (owner : Owner) (unit : ℕ) → Owns (width_of s) rows owner unit → IsDataUnit s unit
 owns_data s rows good (page_of c o page) unit owns =
     let is = owns.1 in
     let stands : IsShardInPlace s rows c o is.first is.extents = in_place s rows (shard c o is.first is.extents) good is.has_shard in
     place_on_data s is.extents page (own unit owns.0) stands.on_data is.has_page
 
 -- owned units are data units
-pub owned_on_data : (s : Super) (rows : Rows) (unit : ℕ) → NoBadRow s rows → IsOwned rows unit → IsDataUnit s unit
+pub owned_on_data : (s : Super) (rows : Rows) (unit : ℕ) → NoBadRow s rows → IsOwned (width_of s) rows unit → IsDataUnit s unit
 owned_on_data s rows unit good owned = owns_data s rows good owned.0 unit owned.1
 
-pub owned_is_data : (s : Super) (first rows : Rows) (unit : ℕ) → AreGoodRows s first rows → IsOwned rows unit → IsDataUnit s unit
+pub owned_is_data : (s : Super) (first rows : Rows) (unit : ℕ) → AreGoodRows s first rows → IsOwned (width_of s) rows unit → IsDataUnit s unit
 owned_is_data s first rows unit good owned = owned_on_data s rows unit good.good owned

@@ -1,5 +1,7 @@
 -- What the plan of a transaction takes of the free units, and that it is one of those that good rows stay good by.
 use Rattle.std.proofs.Common.{◌≡◌, inl, inr, ℕ, zero, suc, ◌+◌, ◌/◌, ◌<◌, ◌≤◌, ◌^◌, true, List, [], ◌∷◌, length, map, take, get_or, Contains, refl, sym, ap, subst, ◌∙◌, arith}
+use Rattle.meta_log.specs.Slots.{width_of}
+use Rattle.unit_fields.specs.declared.width.Width.{Width}
 use Rattle.std.specs.List.{AllByRecursion, Any}
 use Rattle.std.proofs.lemmas.List.{length-map, length-take-le}
 use Rattle.byte_maps.specs.Units.{unit_at}
@@ -75,65 +77,66 @@ listed_fresh (f ∷ fresh) v c = elim (Contains-cases f.unit v (units_of fresh) 
 
 -- what holds of the fresh units of a plan holds of each that is listed
 pub fresh_has : (s : Super) (rows : Rows) (fresh : List FreshUnit) (v : ℕ)
-    → AllByRecursion (λ f. IsDataUnit s f.unit × ¬ IsOwned rows f.unit × (length f.bytes ≡ 4096)) fresh → Contains (units_of fresh) v
-    → IsDataUnit s v × ¬ IsOwned rows v
+    → AllByRecursion (λ f. IsDataUnit s f.unit × ¬ IsOwned (width_of s) rows f.unit × (length f.bytes ≡ 4096)) fresh → Contains (units_of fresh) v
+    → IsDataUnit s v × ¬ IsOwned (width_of s) rows v
 fresh_has s rows [] v all c = absurd (omega (arith, c.1))
 fresh_has s rows (f ∷ fresh) v all c = elim (Contains-cases f.unit v (units_of fresh) c) [
-  | inl e ↦ subst (λ (u : ℕ). IsDataUnit s u × ¬ IsOwned rows u) e (all.0.0, all.0.1)
+  | inl e ↦ subst (λ (u : ℕ). IsDataUnit s u × ¬ IsOwned (width_of s) rows u) e (all.0.0, all.0.1)
   | inr d ↦ fresh_has s rows fresh v all.1 d
 ]
 
 fresh_whole : (s : Super) (rows : Rows) (fresh : List FreshUnit)
-    → AllByRecursion (λ f. IsDataUnit s f.unit × ¬ IsOwned rows f.unit × (length f.bytes ≡ 4096)) fresh
+    → AllByRecursion (λ f. IsDataUnit s f.unit × ¬ IsOwned (width_of s) rows f.unit × (length f.bytes ≡ 4096)) fresh
     → AllByRecursion (λ f. length f.bytes ≡ 4096) fresh
 fresh_whole s rows [] all = tt
 fresh_whole s rows (f ∷ fresh) all = (all.0.2, fresh_whole s rows fresh all.1)
 
 -- ---- a plan takes the lowest free units
 
-object_takes : (c : List ℕ) (op : Op) (rows : Rows) (space : Space) (plan : Plan) → PlansObject c op rows space plan
+object_takes : (w : Width) (c : List ℕ) (op : Op) (rows : Rows) (space : Space) (plan : Plan) → PlansObject w c op rows space plan
     → units_of plan.fresh ≡ take (units_taken (op ∷ [])) (free_units space)
-object_takes c op rows space plan p = ap units_of p.fresh ∙ units_of_pages (bytes_of op) p.units 0 ∙ p.lowest
+object_takes w c op rows space plan p = ap units_of p.fresh ∙ units_of_pages (bytes_of op) p.units 0 ∙ p.lowest
 
 -- those that it takes are the lowest free ones, as many as the transaction takes
-pub plan_takes : (c : List ℕ) (ops : List Op) (rows : Rows) (space : Space) (plan : Plan) → IsKnown ops → Plans c ops rows space plan
+pub plan_takes : (w : Width) (c : List ℕ) (ops : List Op) (rows : Rows) (space : Space) (plan : Plan) → IsKnown ops → Plans w c ops rows space plan
     → units_of plan.fresh ≡ take (units_taken ops) (free_units space)
-plan_takes c (MkColl ∷ []) rows space plan known plans = ap units_of plans.makes.none_fresh
-plan_takes c (Touch o ∷ []) rows space plan known plans = object_takes c (Touch o) rows space plan plans.makes
-plan_takes c (Write o off bytes ∷ []) rows space plan known plans = object_takes c (Write o off bytes) rows space plan plans.makes
-plan_takes c ops rows space plan known plans = absurd known
+plan_takes w c (MkColl ∷ []) rows space plan known plans = ap units_of plans.makes.none_fresh
+plan_takes w c (Touch o ∷ []) rows space plan known plans = object_takes w c (Touch o) rows space plan plans.makes
+plan_takes w c (Write o off bytes ∷ []) rows space plan known plans = object_takes w c (Write o off bytes) rows space plan plans.makes
+plan_takes w c ops rows space plan known plans = absurd known
 
 -- and there are as many
-pub plan_enough : (c : List ℕ) (ops : List Op) (rows : Rows) (space : Space) (plan : Plan) → IsKnown ops → Plans c ops rows space plan
+pub plan_enough : (w : Width) (c : List ℕ) (ops : List Op) (rows : Rows) (space : Space) (plan : Plan) → IsKnown ops → Plans w c ops rows space plan
     → units_taken ops ≤ length (free_units space)
-plan_enough c (MkColl ∷ []) rows space plan known plans = omega arith
-plan_enough c (Touch o ∷ []) rows space plan known plans = plans.makes.enough
-plan_enough c (Write o off bytes ∷ []) rows space plan known plans = plans.makes.enough
-plan_enough c ops rows space plan known plans = absurd known
+plan_enough w c (MkColl ∷ []) rows space plan known plans = omega arith
+plan_enough w c (Touch o ∷ []) rows space plan known plans = plans.makes.enough
+plan_enough w c (Write o off bytes ∷ []) rows space plan known plans = plans.makes.enough
+plan_enough w c ops rows space plan known plans = absurd known
 
 -- so each is free
-pub plan_takes_free : (c : List ℕ) (ops : List Op) (rows : Rows) (space : Space) (plan : Plan) → IsKnown ops → Plans c ops rows space plan
+pub plan_takes_free : (w : Width) (c : List ℕ) (ops : List Op) (rows : Rows) (space : Space) (plan : Plan) → IsKnown ops
+    → Plans w c ops rows space plan
     → AllByRecursion (λ u. IsWithin space u × (is_free space u ≡ true)) (units_of plan.fresh)
-plan_takes_free c ops rows space plan known plans =
-    subst (AllByRecursion (λ u. IsWithin space u × (is_free space u ≡ true))) (sym (plan_takes c ops rows space plan known plans))
+plan_takes_free w c ops rows space plan known plans =
+    subst (AllByRecursion (λ u. IsWithin space u × (is_free space u ≡ true))) (sym (plan_takes w c ops rows space plan known plans))
     (all_taken (λ u. IsWithin space u × (is_free space u ≡ true)) (units_taken ops) (free_units space)
     (all_listed (λ u. IsWithin space u × (is_free space u ≡ true)) (free_units space)
     (λ u k. let free = listed_is_free space u k in (free.within, free.free))))
 
 -- how many that is
-pub plan_count : (c : List ℕ) (ops : List Op) (rows : Rows) (space : Space) (plan : Plan) → IsKnown ops → Plans c ops rows space plan
+pub plan_count : (w : Width) (c : List ℕ) (ops : List Op) (rows : Rows) (space : Space) (plan : Plan) → IsKnown ops → Plans w c ops rows space plan
     → length plan.fresh ≡ units_taken ops
-plan_count c ops rows space plan known plans =
-    sym (length-map plan.fresh (λ (f : FreshUnit). f.unit)) ∙ ap length (plan_takes c ops rows space plan known plans)
-    ∙ length-take-le (units_taken ops) (free_units space) (plan_enough c ops rows space plan known plans)
+plan_count w c ops rows space plan known plans =
+    sym (length-map plan.fresh (λ (f : FreshUnit). f.unit)) ∙ ap length (plan_takes w c ops rows space plan known plans)
+    ∙ length-take-le (units_taken ops) (free_units space) (plan_enough w c ops rows space plan known plans)
 
 -- at most 256
-few_taken : (c : List ℕ) (ops : List Op) (rows : Rows) (space : Space) (plan : Plan) → IsKnown ops → Plans c ops rows space plan
+few_taken : (w : Width) (c : List ℕ) (ops : List Op) (rows : Rows) (space : Space) (plan : Plan) → IsKnown ops → Plans w c ops rows space plan
     → units_taken ops ≤ 256
-few_taken c (MkColl ∷ []) rows space plan known plans = omega arith
-few_taken c (Touch o ∷ []) rows space plan known plans = omega arith
-few_taken c (Write o off bytes ∷ []) rows space plan known plans = omega (arith, plans.short)
-few_taken c ops rows space plan known plans = absurd known
+few_taken w c (MkColl ∷ []) rows space plan known plans = omega arith
+few_taken w c (Touch o ∷ []) rows space plan known plans = omega arith
+few_taken w c (Write o off bytes ∷ []) rows space plan known plans = omega (arith, plans.short)
+few_taken w c ops rows space plan known plans = absurd known
 
 -- ---- the plan is one of the rows
 
@@ -153,7 +156,7 @@ module _ (s : Super) (committed rows : Rows) (space : Space) (limits : IsSuper s
   lowest_fresh n = record {
     ascend = ascend_taken n (free_units space) (free_units_ascend space);
     on_data = each_lowest (λ u. IsDataUnit s u) n (λ u k. (free_facts u k).0);
-    free = each_lowest (λ u. ¬ IsOwned rows u) n (λ u k owned. (free_facts u k).2 (good.exact.owned_marked u owned));
+    free = each_lowest (λ u. ¬ IsOwned (width_of s) rows u) n (λ u k owned. (free_facts u k).2 (good.exact.owned_marked u owned));
     unmarked = each_lowest (λ u. ¬ IsMarked rows u) n (λ u k. (free_facts u k).2);
     fit = each_lowest (λ u. u < 2 ^ 32) n (λ u k. (free_facts u k).1);
   }
@@ -175,7 +178,7 @@ module _ (s : Super) (committed rows : Rows) (space : Space) (limits : IsSuper s
         csums_fit = csums_fit;
       }
 
-  pub planned : (c : List ℕ) (ops : List Op) (plan : Plan) → IsKnown ops → Plans c ops rows space plan
+  pub planned : (c : List ℕ) (ops : List Op) (plan : Plan) → IsKnown ops → Plans (width_of s) c ops rows space plan
       → planned_as.IsPlanned s rows (record { coll = c; ops = ops }) plan
   planned c (MkColl ∷ []) plan known plans = planned_as.makes_coll c plan plans.named plans.missing plans.makes
   planned c (Touch o ∷ []) plan known plans =
@@ -198,9 +201,9 @@ pub record PlanFits (plan : Plan) : Type 0 where
   pub count : (number other : ℕ) → unit_count number plan.ops ≡ unit_count other plan.ops
 
 pub plan_fits : (s : Super) (rows : Rows) (space : Space) (c : List ℕ) (ops : List Op) (plan : Plan) → NoBadRow s rows → IsKnown ops
-    → Plans c ops rows space plan → planned_as.IsPlanned s rows (record { coll = c; ops = ops }) plan → PlanFits plan
+    → Plans (width_of s) c ops rows space plan → planned_as.IsPlanned s rows (record { coll = c; ops = ops }) plan → PlanFits plan
 plan_fits s rows space c ops plan good known plans is = record {
-  few = omega (arith, plan_count c ops rows space plan known plans, few_taken c ops rows space plan known plans);
+  few = omega (arith, plan_count (width_of s) c ops rows space plan known plans, few_taken (width_of s) c ops rows space plan known plans);
   whole = fresh_whole s rows plan.fresh (planned_fresh s rows is);
   ascend = planned_ascend s rows is;
   fit = (plan_facts s rows is good).fit;

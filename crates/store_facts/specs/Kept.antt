@@ -1,5 +1,6 @@
 -- What the kernel keeps, whatever its device tells.
 use Rattle.std.specs.Prelude.{◌≡◌, ℕ, ◌+◌, ◌*◌, ◌≤◌, ◌^◌, length, None}
+use Rattle.meta_log.specs.Slots.{width_of}
 use Rattle.block_device.specs.Disk.{Disk, IsSound}
 use Rattle.meta_log.specs.Slots.{IsSuper}
 use Rattle.unit_allocator.specs.Units.{Space}
@@ -29,7 +30,7 @@ pub record IsKeptUp (s : State) (d : Disk) : Type 0 where
   pub committed : AreGoodRows s.log.sup s.log.rows s.log.rows
   pub good : AreGoodRows s.log.sup s.log.rows s.submitted
   pub free : IsFreeExactly s.log.sup s.log.rows s.submitted s.space
-  pub releases : ReleasesExactly s.log.rows s.submitted (uncommitted s)
+  pub releases : ReleasesExactly (width_of s.log.sup) s.log.rows s.submitted (uncommitted s)
   pub room : HasRoomFor s.log (uncommitted s)
 
 pub record IsKept (s : State) (d : Disk) : Type 0 where

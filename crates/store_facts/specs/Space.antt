@@ -1,5 +1,7 @@
 -- The submitted rows, and the free units: exactly those whose bits are 0 in the committed and in the submitted rows.
 use Rattle.std.specs.Prelude.{◌≡◌, ◌↔◌, ◌⊎◌, ℕ, ◌+◌, ◌<◌, ◌^◌, true, List, [], ◌∷◌, ◌++◌, length, map, Contains}
+use Rattle.meta_log.specs.Slots.{width_of}
+use Rattle.unit_fields.specs.declared.width.Width.{Width}
 use Rattle.std.specs.List.{flat_map}
 use Rattle.std.specs.Option.{option_map_or}
 use Rattle.meta_rows.specs.Rows.{Rows, rows_after}
@@ -25,7 +27,7 @@ rows_with rows (x ∷ xs) = rows_with (rows_after rows x.ops) xs
 -- mount asks for it. A leaked unit is free only once its bit is 0.)
 pub record AreGoodRows (sup : Super) (first rows : Rows) : Type 0 where
   pub good : NoBadRow sup rows
-  pub exact : IsExactAs first rows
+  pub exact : IsExactAs (width_of sup) first rows
 
 -- The data units are those of the allocator, and none is held: a hold is for units that committed deferred rows name, and there are none yet.
 pub record IsSpaceOf (sup : Super) (space : Space) : Type 0 where
@@ -45,12 +47,12 @@ allotted contexts = map (λ x. map (λ f. f.unit) x.fresh) contexts
 
 -- What contexts release is what they change of the owned and of the marked units, but for those that they take. What is released has no owner
 -- then, and is released once.
-pub record ReleasesExactly (rows submitted : Rows) (contexts : List Context) : Type 0 where
-  pub owned : (unit : ℕ) → IsOwned rows unit → IsOwned submitted unit ⊎ Contains (flat_map (λ x. x.released) contexts) unit
+pub record ReleasesExactly (w : Width) (rows submitted : Rows) (contexts : List Context) : Type 0 where
+  pub owned : (unit : ℕ) → IsOwned w rows unit → IsOwned w submitted unit ⊎ Contains (flat_map (λ x. x.released) contexts) unit
   pub marked : (unit : ℕ) → unit < 2 ^ 32 → IsMarked rows unit → IsMarked submitted unit ⊎ Contains (flat_map (λ x. x.released) contexts) unit
-  pub released_was : (unit : ℕ) → Contains (flat_map (λ x. x.released) contexts) unit → IsOwned rows unit
-  pub released_is_not : (unit : ℕ) → Contains (flat_map (λ x. x.released) contexts) unit → ¬ IsOwned submitted unit
+  pub released_was : (unit : ℕ) → Contains (flat_map (λ x. x.released) contexts) unit → IsOwned w rows unit
+  pub released_is_not : (unit : ℕ) → Contains (flat_map (λ x. x.released) contexts) unit → ¬ IsOwned w submitted unit
   pub taken_was_not : (unit : ℕ) → Contains (flat_map (λ x. map (λ f. f.unit) x.fresh) contexts) unit → ¬ IsMarked rows unit
-  pub taken_is : (unit : ℕ) → Contains (flat_map (λ x. map (λ f. f.unit) x.fresh) contexts) unit → IsOwned submitted unit
-  pub new : (unit : ℕ) → IsOwned submitted unit → IsOwned rows unit ⊎ Contains (flat_map (λ x. map (λ f. f.unit) x.fresh) contexts) unit
+  pub taken_is : (unit : ℕ) → Contains (flat_map (λ x. map (λ f. f.unit) x.fresh) contexts) unit → IsOwned w submitted unit
+  pub new : (unit : ℕ) → IsOwned w submitted unit → IsOwned w rows unit ⊎ Contains (flat_map (λ x. map (λ f. f.unit) x.fresh) contexts) unit
   pub once : (unit : ℕ) → StandsOnce (flat_map (λ x. x.released) contexts) unit

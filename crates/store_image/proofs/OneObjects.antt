@@ -1,5 +1,7 @@
 -- An image stands for at most one Objects.
 use Rattle.std.proofs.Common.{◌≡◌, ◌≢◌, inl, inr, ℕ, List, length, Option, Some, None, is_some, refl, sym, ap, subst, ◌∙◌, arith}
+use Rattle.meta_log.specs.Slots.{width_of}
+use Rattle.unit_fields.specs.declared.width.Width.{Width}
 use Rattle.std.specs.Prelude.{IsSome, unwrap_or, [], option_and_then}
 use Rattle.std.specs.Int.{w64, from_le_bytes}
 use Rattle.std.proofs.lemmas.Nat.{from_le_bytes-to_le_bytes_8}
@@ -31,9 +33,9 @@ agree_at (Some x) y a b h = h (a refl)
 same_named : (m n : ByteMap (List ℕ)) → ((k : List ℕ) → IsSome (map.get m k) → IsName k) → ((k : List ℕ) → IsSome (map.get n k) → IsName k) → ((k : List ℕ) → IsName k → map.get m k ≡ map.get n k) → m ≡ n
 same_named m n a b h = same m n (λ k. agree_at (map.get m k) (map.get n k) (a k) (b k) (h k))
 
-module _ (at : ℕ → List ℕ) (rows : Rows) (c o : List ℕ) where
-  module _ (x y : List ℕ) (p : AreObjectBytes at rows c o x) (q : AreObjectBytes at rows c o y) where
-    unmapped : (page : ℕ) → page_bytes x page ≢ page_bytes y page → IsHole rows c o page
+module _ (w : Width) (at : ℕ → List ℕ) (rows : Rows) (c o : List ℕ) where
+  module _ (x y : List ℕ) (p : AreObjectBytes w at rows c o x) (q : AreObjectBytes w at rows c o y) where
+    unmapped : (page : ℕ) → page_bytes x page ≢ page_bytes y page → IsHole w rows c o page
     unmapped page ne on is = ne (seen_one at rows on _ _ (p.mapped page on is) (q.mapped page on is))
 
     pub same_page : (page : ℕ) → page_bytes x page ≡ page_bytes y page
@@ -48,7 +50,7 @@ module _ (at : ℕ → List ℕ) (rows : Rows) (c o : List ℕ) where
         let e = ap (λ v. unwrap_or v []) (sym p.size.stands ∙ q.size.stands) in
         sym (from_le_bytes-to_le_bytes_8 (length x.bytes) (omega (arith, p.size_most))) ∙ ap (from_le_bytes w64) e ∙ from_le_bytes-to_le_bytes_8 (length y.bytes) (omega (arith, q.size_most))
 
-    pub same_object : AreObjectBytes at rows c o x.bytes → AreObjectBytes at rows c o y.bytes → x ≡ y
+    pub same_object : AreObjectBytes w at rows c o x.bytes → AreObjectBytes w at rows c o y.bytes → x ≡ y
     same_object s t =
         let bytes = same_pages x.bytes y.bytes same_size (same_page x.bytes y.bytes s t) in
         let attrs = same_named x.attrs y.attrs p.attr_names q.attr_names (λ name n. p.attrs name n ∙ sym (q.attrs name n)) in
@@ -56,7 +58,7 @@ module _ (at : ℕ → List ℕ) (rows : Rows) (c o : List ℕ) where
         let omap = same_named x.omap y.omap p.omap_keys q.omap_keys (λ key n. p.omap key n ∙ sym (q.omap key n)) in
         λ i. record { bytes = bytes i; attrs = attrs i; header = header i; omap = omap i }
 
-module _ (at : ℕ → List ℕ) (rows : Rows) (a b : Objects) (p : ObjectsStand at rows a) (q : ObjectsStand at rows b) where
+module _ (w : Width) (at : ℕ → List ℕ) (rows : Rows) (a b : Objects) (p : ObjectsStand w at rows a) (q : ObjectsStand w at rows b) where
   same_found : (c o : List ℕ) (x y : Option Object) → object_under a c o ≡ x → object_under b c o ≡ y → x ≡ y
   same_found c o None None s t = refl
   same_found c o None (Some y) s t =
@@ -67,7 +69,8 @@ module _ (at : ℕ → List ℕ) (rows : Rows) (a b : Objects) (p : ObjectsStand
       let size = (p.shape.present c o x s).size in
       let none = q.shape.missing c o size.fits.0 size.fits.1 t in
       absurd (let e = sym none ∙ size.stands in cc)
-  same_found c o (Some x) (Some y) s t = ap Some (same_object at rows c o x y (p.shape.present c o x s) (q.shape.present c o y t) (p.bytes c o x s) (q.bytes c o y t))
+  same_found c o (Some x) (Some y) s t =
+      ap Some (same_object w at rows c o x y (p.shape.present c o x s) (q.shape.present c o y t) (p.bytes c o x s) (q.bytes c o y t))
 
   same_in : (c o : List ℕ) → object_under a c o ≡ object_under b c o
   same_in c o = same_found c o (object_under a c o) (object_under b c o) refl refl
@@ -89,4 +92,4 @@ pub stands_for_one : (image : List ℕ) (a b : Objects) → StandsFor image a �
 stands_for_one image a b p q =
     let s = same_active image p.super q.super p.active q.active in
     let r : p.rows ≡ q.rows = same_rows image q.super p.rows q.rows (subst (λ t. AreRowsOf image t p.rows) s p.read) q.read in
-    same_objects _ q.rows a b (subst (λ m. ObjectsStand _ m a) r p.stand) q.stand
+    same_objects (width_of q.super) _ q.rows a b (subst (λ m. ObjectsStand (width_of q.super) _ m a) r p.stand) q.stand

@@ -1,5 +1,6 @@
 -- On good rows a page stands at one place.
 use Rattle.std.proofs.Common.{◌≡◌, ◌⊎◌, inl, inr, ℕ, ◌<◌, ◌≤◌, ◌-◌, true, false, cond, List, [], ◌∷◌, Some, refl, sym, ap, subst, ◌∙◌, arith}
+use Rattle.meta_log.specs.Slots.{width_of}
 use Rattle.std.specs.Prelude.{nat_le, nat_lt, ◌&&◌}
 use Rattle.std.specs.List.{AllByRecursion}
 use Rattle.std.specs.FinMap as map
@@ -14,10 +15,10 @@ use Rattle.store_image.specs.Pages.{HasRow, IsPageAt}
 use Rattle.store_image.specs.BadRows.{IsInPlace, NoBadRow}
 
 -- where no row is bad, a row that the rows have is in its place
-pub in_place : (s : Super) (rows : Rows) (row : Row) → NoBadRow s rows → HasRow rows row → IsInPlace s rows row
+pub in_place : (s : Super) (rows : Rows) (row : Row) → NoBadRow s rows → HasRow (width_of s) rows row → IsInPlace s rows row
 in_place s rows row good has =
-    let found = good (row_key row) (row_value row) has.stands in
-    subst (IsInPlace s rows) (sym (same_row row found.row has.fits found.fits found.key_is found.value_is)) found.in_place
+    let found = good (row_key row) (row_value (width_of s) row) has.stands in
+    subst (IsInPlace s rows) (sym (same_row (width_of s) row found.row has.fits found.fits found.key_is found.value_is)) found.in_place
 
 -- the first extent has the page, or one behind it has
 place_cases : (e : Extent) (es : List Extent) (page : ℕ) (place : Place) → place_of (e ∷ es) page ≡ Some place → ((e.first ≤ page) × (page < page_end e)) ⊎ (place_of es page ≡ Some place)
@@ -57,14 +58,14 @@ page_of_shard (e ∷ es) page first place is begins ascend = elim (place_cases e
 ]
 
 module _ (s : Super) (rows : Rows) (good : NoBadRow s rows) (c o : List ℕ) (page : ℕ) where
-  no_earlier : (a b : Place) (p : IsPageAt rows c o page a) (q : IsPageAt rows c o page b) → p.first < q.first → ⊥
+  no_earlier : (a b : Place) (p : IsPageAt (width_of s) rows c o page a) (q : IsPageAt (width_of s) rows c o page b) → p.first < q.first → ⊥
   no_earlier a b p q lt =
       let later = in_place s rows (shard c o q.first q.extents) good q.has_shard in
       let below = page_below p.extents page q.first a p.has_page (later.behind p.first p.extents lt p.has_shard) in
       let from = page_of_shard q.extents page q.first b q.has_page q.has_shard.fits.begins later.ascend in
       omega (arith, below, from)
 
-  pub one_place : (a b : Place) → IsPageAt rows c o page a → IsPageAt rows c o page b → a ≡ b
+  pub one_place : (a b : Place) → IsPageAt (width_of s) rows c o page a → IsPageAt (width_of s) rows c o page b → a ≡ b
   one_place a b p q = elim (cases_lt p.first q.first) [
     | inl lt ↦ absurd (no_earlier a b p q lt)
     | inr ge ↦ elim (cases_lt q.first p.first) [
@@ -72,7 +73,7 @@ module _ (s : Super) (rows : Rows) (good : NoBadRow s rows) (c o : List ℕ) (pa
       | inr le ↦
           let first : p.first ≡ q.first = omega (arith, ge, le) in
           let value = sym p.has_shard.stands ∙ ap (λ n. map.get rows (row_key (shard c o n q.extents))) first ∙ q.has_shard.stands in
-          let extents = extents-same p.extents q.extents p.has_shard.fits.fit q.has_shard.fits.fit cc in
+          let extents = extents-same (width_of s) p.extents q.extents p.has_shard.fits.fit q.has_shard.fits.fit cc in
           let is : Some a ≡ Some b = sym p.has_page ∙ ap (λ es. place_of es page) extents ∙ q.has_page in cc
     ]
   ]

@@ -1,5 +1,6 @@
 -- The units on which pages stand: each is one that its page owns.
 use Rattle.std.proofs.Common.{◌≡◌, ◌↔◌, ℕ, List, refl, sym, subst, ◌∙◌}
+use Rattle.unit_fields.specs.declared.width.Width.{Width}
 use Rattle.meta_rows.specs.Rows.{Rows}
 use Rattle.row_format.specs.Extents.{Place, own}
 use Rattle.store_image.specs.Pages.{PageUnit, IsPageAt, StandsOn, IsPageOn, HasPage}
@@ -14,49 +15,52 @@ pub stands_still : (rows later : Rows) (place : Place) (on : PageUnit) → Stand
 stands_still rows later (own unit csum) on is = is
 
 -- a page at a unit of its own stands there
-pub on_own : (rows : Rows) (c o : List ℕ) (page unit csum : ℕ) → IsPageAt rows c o page (own unit csum)
-    → IsPageOn rows c o page (record { unit = unit; csum = csum })
-on_own rows c o page unit csum at = record { place = own unit csum; at = at; stands = refl }
+pub on_own : (w : Width) (rows : Rows) (c o : List ℕ) (page unit csum : ℕ) → IsPageAt w rows c o page (own unit csum)
+    → IsPageOn w rows c o page (record { unit = unit; csum = csum })
+on_own w rows c o page unit csum at = record { place = own unit csum; at = at; stands = refl }
 
 -- and it stands on no unit but those of its own
-pub own_of : (rows : Rows) (c o : List ℕ) (page : ℕ) (on : PageUnit) → IsPageOn rows c o page on → IsPageAt rows c o page (own on.unit on.csum)
-own_of rows c o page on is = there is.place is.at is.stands
+pub own_of : (w : Width) (rows : Rows) (c o : List ℕ) (page : ℕ) (on : PageUnit) → IsPageOn w rows c o page on
+    → IsPageAt w rows c o page (own on.unit on.csum)
+own_of w rows c o page on is = there is.place is.at is.stands
   where
-    there : (place : Place) → IsPageAt rows c o page place → StandsOn rows place on → IsPageAt rows c o page (own on.unit on.csum)
-    there (own unit csum) at stands = subst (λ (w : PageUnit). IsPageAt rows c o page (own w.unit w.csum)) (sym stands) at
+    there : (place : Place) → IsPageAt w rows c o page place → StandsOn rows place on → IsPageAt w rows c o page (own on.unit on.csum)
+    there (own unit csum) at stands = subst (λ (p : PageUnit). IsPageAt w rows c o page (own p.unit p.csum)) (sym stands) at
 
-pub some_unit : (rows : Rows) (c o : List ℕ) (page : ℕ) (place : Place) → IsPageAt rows c o page place → (on : PageUnit) × IsPageOn rows c o page on
-some_unit rows c o page (own unit csum) at = (record { unit = unit; csum = csum }, on_own rows c o page unit csum at)
+pub some_unit : (w : Width) (rows : Rows) (c o : List ℕ) (page : ℕ) (place : Place) → IsPageAt w rows c o page place
+    → (on : PageUnit) × IsPageOn w rows c o page on
+some_unit w rows c o page (own unit csum) at = (record { unit = unit; csum = csum }, on_own w rows c o page unit csum at)
 
 -- a page's unit is its own
-pub owns_page : (rows : Rows) (c o : List ℕ) (page : ℕ) (on : PageUnit) → IsPageOn rows c o page on → Owns rows (page_of c o page) on.unit
-owns_page rows c o page on is = (on.csum, own_of rows c o page on is)
+pub owns_page : (w : Width) (rows : Rows) (c o : List ℕ) (page : ℕ) (on : PageUnit) → IsPageOn w rows c o page on
+    → Owns w rows (page_of c o page) on.unit
+owns_page w rows c o page on is = (on.csum, own_of w rows c o page on is)
 
-pub page_owned : (rows : Rows) (unit : ℕ) → HasPage rows unit → IsOwned rows unit
-page_owned rows unit has = (
+pub page_owned : (w : Width) (rows : Rows) (unit : ℕ) → HasPage w rows unit → IsOwned w rows unit
+page_owned w rows unit has = (
   page_of has.coll has.object has.page,
-  subst (Owns rows (page_of has.coll has.object has.page)) has.is_unit (owns_page rows has.coll has.object has.page has.on has.is_on),
+  subst (Owns w rows (page_of has.coll has.object has.page)) has.is_unit (owns_page w rows has.coll has.object has.page has.on has.is_on),
 )
 
-pub owned_page : (rows : Rows) (owner : Owner) (unit : ℕ) → Owns rows owner unit → HasPage rows unit
-owned_page rows (page_of c o page) unit owns = record {
+pub owned_page : (w : Width) (rows : Rows) (owner : Owner) (unit : ℕ) → Owns w rows owner unit → HasPage w rows unit
+owned_page w rows (page_of c o page) unit owns = record {
   coll = c;
   object = o;
   page = page;
   on = record { unit = unit; csum = owns.0 };
-  is_on = on_own rows c o page unit owns.0 owns.1;
+  is_on = on_own w rows c o page unit owns.0 owns.1;
   is_unit = refl;
 }
 
-pub pages_are_owned : (rows : Rows) (unit : ℕ) → HasPage rows unit ↔ IsOwned rows unit
-pages_are_owned rows unit = (page_owned rows unit, λ owned. owned_page rows owned.0 unit owned.1)
+pub pages_are_owned : (w : Width) (rows : Rows) (unit : ℕ) → HasPage w rows unit ↔ IsOwned w rows unit
+pages_are_owned w rows unit = (page_owned w rows unit, λ owned. owned_page w rows owned.0 unit owned.1)
 
 -- what the pages stand on decides the bytes
-pub bytes_alike : (at : ℕ → List ℕ) (rows later : Rows) (c o d u bytes : List ℕ)
-    → ((page : ℕ) (on : PageUnit) → IsPageOn later d u page on ↔ IsPageOn rows c o page on)
+pub bytes_alike : (w : Width) (at : ℕ → List ℕ) (rows later : Rows) (c o d u bytes : List ℕ)
+    → ((page : ℕ) (on : PageUnit) → IsPageOn w later d u page on ↔ IsPageOn w rows c o page on)
     → ((unit : ℕ) (b : List ℕ) → IsSeen at rows unit b → IsSeen at later unit b)
-    → AreObjectBytes at rows c o bytes → AreObjectBytes at later d u bytes
-bytes_alike at rows later c o d u bytes same seen are = record {
+    → AreObjectBytes w at rows c o bytes → AreObjectBytes w at later d u bytes
+bytes_alike w at rows later c o d u bytes same seen are = record {
   mapped = λ page on is.
       let was = are.mapped page on ((same page on).0 is) in
       record { seen = seen on.unit _ was.seen; kept = was.kept };

@@ -4,12 +4,12 @@ use Rattle.std.specs.List.{AllByRecursion}
 use Rattle.std.specs.FinMap as map
 use Rattle.meta_rows.specs.Rows.{Rows}
 use Rattle.meta_log.specs.declared.slot.Super.{Super}
-use Rattle.meta_log.specs.Slots.{data_unit}
+use Rattle.meta_log.specs.Slots.{data_unit, width_of}
 use Rattle.row_format.specs.Keys.{coll_key, onode_key}
 use Rattle.row_format.specs.Extents.{Body, private, Extent, page_end, ExtentsAscend}
 use Rattle.row_format.specs.Bits.{bit_row, bit_in}
 use Rattle.row_format.specs.Row.{Row, collection, onode, shard, bitmap, row_key, row_value, FitsRow}
-use Rattle.store_image.specs.Pages.{HasKey, HasRow, pages_of}
+use Rattle.store_image.specs.Pages.{HasKey, HasOnode, HasShard, pages_of}
 use Rattle.store_image.specs.Owners.{IsDataUnit}
 
 -- the pages stand on data units
@@ -22,8 +22,9 @@ pub record IsShardInPlace (s : Super) (rows : Rows) (c o : List ℕ) (page : ℕ
   pub has_collection : HasKey rows (coll_key c)
   pub has_onode : HasKey rows (onode_key c o)
   pub ascend : ExtentsAscend extents
-  pub behind : (earlier : ℕ) (es : List Extent) → earlier < page → HasRow rows (shard c o earlier es) → AllByRecursion (λ e. page_end e ≤ page) es
-  pub within : (size : ℕ) → HasRow rows (onode c o size) → AllByRecursion (λ e. page_end e ≤ pages_of size) extents
+  pub behind : (earlier : ℕ) (es : List Extent) → earlier < page → HasShard (width_of s) rows c o earlier es
+      → AllByRecursion (λ e. page_end e ≤ page) es
+  pub within : (size : ℕ) → HasOnode rows c o size → AllByRecursion (λ e. page_end e ≤ pages_of size) extents
   pub on_data : AllByRecursion (λ e. IsOnData s e.body) extents
 
 -- the bits that are 1 are of data units
@@ -37,12 +38,12 @@ IsInPlace s rows (onode c o size) = HasKey rows (coll_key c) × (size ≤ 134217
 IsInPlace s rows (shard c o page extents) = IsShardInPlace s rows c o page extents
 IsInPlace s rows (bitmap r bits) = AreOfData s r bits
 
--- the key and the value are a row of the table, and in its place
+-- the key and the value are a row of the table, with checksums as wide as the store's, and in its place
 pub record IsGoodRow (s : Super) (rows : Rows) (key value : List ℕ) : Type 0 where
   pub row : Row
-  pub fits : FitsRow row
+  pub fits : FitsRow (width_of s) row
   pub key_is : key ≡ row_key row
-  pub value_is : value ≡ row_value row
+  pub value_is : value ≡ row_value (width_of s) row
   pub in_place : IsInPlace s rows row
 
 -- the row under this key is bad

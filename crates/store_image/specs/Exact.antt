@@ -2,7 +2,7 @@
 use Rattle.std.specs.Prelude.{ℕ, List}
 use Rattle.meta_rows.specs.Rows.{Rows}
 use Rattle.meta_log.specs.declared.slot.Super.{Super}
-use Rattle.meta_log.specs.Slots.{IsActiveSlot}
+use Rattle.meta_log.specs.Slots.{IsActiveSlot, width_of}
 use Rattle.meta_log.specs.Records.{AreRowsOf}
 use Rattle.store_image.specs.Owners.{IsLeaked, IsExactBut}
 
@@ -12,7 +12,7 @@ pub record IsExactImageBut (leaked : ℕ → Type 0) (image : List ℕ) : Type 0
   pub active : IsActiveSlot image super
   pub rows : Rows
   pub read : AreRowsOf image super rows
-  pub exact : IsExactBut leaked rows
+  pub exact : IsExactBut (width_of super) leaked rows
 
 -- the image's bitmap is exactly its objects' units, and no unit has two owners
 abbrev pub IsExactImage : List ℕ → Type 0
@@ -24,7 +24,7 @@ pub record IsLeakedIn (image : List ℕ) (unit : ℕ) : Type 0 where
   pub active : IsActiveSlot image super
   pub rows : Rows
   pub read : AreRowsOf image super rows
-  pub leaked : IsLeaked rows unit
+  pub leaked : IsLeaked (width_of super) rows unit
 
 -- No unit is leaked in the second image but such as were in the first one (some may be so no more); else its bitmap is exact, if the first
 -- one's was. (A store that has leaked none before has none then.)

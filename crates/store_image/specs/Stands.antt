@@ -7,19 +7,19 @@ use Rattle.object_model.specs.Objects.{Object, Objects}
 use Rattle.object_model.specs.Effect.{object_under}
 use Rattle.meta_rows.specs.Rows.{Rows, row}
 use Rattle.meta_log.specs.declared.slot.Super.{Super}
-use Rattle.meta_log.specs.Slots.{IsActiveSlot}
+use Rattle.unit_fields.specs.declared.width.Width.{Width}
+use Rattle.meta_log.specs.Slots.{IsActiveSlot, width_of}
 use Rattle.meta_log.specs.Records.{AreRowsOf}
 use Rattle.unit_fields.specs.Names.{IsName, IsCollName}
 use Rattle.row_format.specs.Keys.{coll_key, attr_key, header_key, omap_key, onode_key}
-use Rattle.row_format.specs.Row.{onode}
-use Rattle.store_image.specs.Pages.{HasRow, PageUnit, IsPageOn, IsHole}
+use Rattle.store_image.specs.Pages.{HasOnode, PageUnit, IsPageOn, IsHole}
 use Rattle.store_image.specs.BadRows.{NoBadRow}
 
 -- ---- the shape of objects: all but their bytes
 
 -- the rows of one object: its size, its attributes, its header and its omap
 pub record IsObjectShape (rows : Rows) (c o : List ℕ) (object : Object) : Type 0 where
-  pub size : HasRow rows (onode c o (length object.bytes))
+  pub size : HasOnode rows c o (length object.bytes)
   pub size_most : length object.bytes ≤ 134217728
   pub attr_names : (name : List ℕ) → IsSome (map.get object.attrs name) → IsName name
   pub attrs : (name : List ℕ) → IsName name → map.get object.attrs name ≡ map.get rows (attr_key c o name)
@@ -49,19 +49,19 @@ pub record IsPageSeen (at : ℕ → List ℕ) (rows : Rows) (on : PageUnit) (pag
   pub kept : crc32c page ≡ on.csum
 
 -- the pages of one object: seen where they stand, zeros in holes
-pub record AreObjectBytes (at : ℕ → List ℕ) (rows : Rows) (c o : List ℕ) (bytes : List ℕ) : Type 0 where
-  pub mapped : (page : ℕ) (on : PageUnit) → IsPageOn rows c o page on → IsPageSeen at rows on (page_bytes bytes page)
-  pub holes : (page : ℕ) → IsHole rows c o page → page_bytes bytes page ≡ zeros 4096
+pub record AreObjectBytes (w : Width) (at : ℕ → List ℕ) (rows : Rows) (c o : List ℕ) (bytes : List ℕ) : Type 0 where
+  pub mapped : (page : ℕ) (on : PageUnit) → IsPageOn w rows c o page on → IsPageSeen at rows on (page_bytes bytes page)
+  pub holes : (page : ℕ) → IsHole w rows c o page → page_bytes bytes page ≡ zeros 4096
 
-abbrev pub AreBytes : (ℕ → List ℕ) → Rows → Objects → Type 0
-AreBytes at rows objects = (c o : List ℕ) (object : Object) → object_under objects c o ≡ Some object → AreObjectBytes at rows c o object.bytes
+abbrev pub AreBytes : Width → (ℕ → List ℕ) → Rows → Objects → Type 0
+AreBytes w at rows objects = (c o : List ℕ) (object : Object) → object_under objects c o ≡ Some object → AreObjectBytes w at rows c o object.bytes
 
 -- ---- both
 
--- rows and units stand for these objects
-pub record ObjectsStand (at : ℕ → List ℕ) (rows : Rows) (objects : Objects) : Type 0 where
+-- rows, with checksums of this width, and units stand for these objects
+pub record ObjectsStand (w : Width) (at : ℕ → List ℕ) (rows : Rows) (objects : Objects) : Type 0 where
   pub shape : IsShape rows objects
-  pub bytes : AreBytes at rows objects
+  pub bytes : AreBytes w at rows objects
 
 -- An image stands for these objects: it has an active slot, the records of the active half make rows of which none is bad,
 -- and these rows and the image's units stand for the objects.
@@ -71,4 +71,4 @@ pub record StandsFor (image : List ℕ) (objects : Objects) : Type 0 where
   pub rows : Rows
   pub read : AreRowsOf image super rows
   pub good : NoBadRow super rows
-  pub stand : ObjectsStand (λ unit. unit_at unit image) rows objects
+  pub stand : ObjectsStand (width_of super) (λ unit. unit_at unit image) rows objects

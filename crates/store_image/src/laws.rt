@@ -1,5 +1,6 @@
 //! What the definitions come to.
 
+ghost use Rattle.unit_fields.specs.declared.width.Width.{Width};
 ghost use Rattle.std.specs.Prelude.{◌≡◌, ◌↔◌, ℕ, List, [], length};
 ghost use Rattle.byte_maps.specs.Units.{IsUnits};
 ghost use Rattle.block_device.specs.Log.{last, IsCrashImage};
@@ -8,7 +9,7 @@ ghost use Rattle.block_device.specs.declared.event.Event.{Event};
 ghost use Rattle.meta_rows.specs.Rows.{Rows};
 ghost use Rattle.object_model.specs.Objects.{Objects};
 ghost use Rattle.meta_log.specs.declared.slot.Super.{Super};
-ghost use Rattle.meta_log.specs.Slots.{IsActiveSlot};
+ghost use Rattle.meta_log.specs.Slots.{IsActiveSlot, width_of};
 ghost use Rattle.meta_log.specs.Records.{AreRowsOf};
 ghost use Rattle.row_format.specs.Extents.{Place};
 ghost use Rattle.store_image.specs.Pages.{IsPageAt, PageUnit, StandsOn, IsPageOn, HasPage};
@@ -26,13 +27,13 @@ pub fn stands_for_one()
 
 /// What rows and units stand for depends on the rows and on the units on which pages stand, and on no other unit.
 pub fn only_units_with_pages_matter()
-    ensures { (at at' : ℕ → List ℕ) (rows : Rows) (objects : Objects) →
-        ((unit : ℕ) → HasPage rows unit → at unit ≡ at' unit) → ObjectsStand at rows objects → ObjectsStand at' rows objects }
+    ensures { (w : Width) (at at' : ℕ → List ℕ) (rows : Rows) (objects : Objects) →
+        ((unit : ℕ) → HasPage w rows unit → at unit ≡ at' unit) → ObjectsStand w at rows objects → ObjectsStand w at' rows objects }
 {}
 
 /// Units on which pages stand have owners, and the others have none.
 pub fn units_with_pages_are_owned()
-    ensures { (rows : Rows) (unit : ℕ) → HasPage rows unit ↔ IsOwned rows unit }
+    ensures { (w : Width) (rows : Rows) (unit : ℕ) → HasPage w rows unit ↔ IsOwned w rows unit }
 {}
 
 /// A place is at one unit at most.
@@ -42,22 +43,22 @@ pub fn one_unit_for_a_place()
 
 /// On good rows a page that has a place stands on a unit.
 pub fn placed_pages_stand()
-    ensures { (s : Super) (rows : Rows) → NoBadRow s rows → (c o : List ℕ) (page : ℕ) (place : Place) → IsPageAt rows c o page place
-        → (on : PageUnit) × IsPageOn rows c o page on }
+    ensures { (s : Super) (rows : Rows) → NoBadRow s rows → (c o : List ℕ) (page : ℕ) (place : Place)
+        → IsPageAt (width_of s) rows c o page place → (on : PageUnit) × IsPageOn (width_of s) rows c o page on }
 {}
 
 /// What the pages of an object stand on decides its bytes.
 pub fn pages_decide_bytes()
-    ensures { (at : ℕ → List ℕ) (rows later : Rows) (c o d u bytes : List ℕ)
-        → ((page : ℕ) (on : PageUnit) → IsPageOn later d u page on ↔ IsPageOn rows c o page on)
+    ensures { (w : Width) (at : ℕ → List ℕ) (rows later : Rows) (c o d u bytes : List ℕ)
+        → ((page : ℕ) (on : PageUnit) → IsPageOn w later d u page on ↔ IsPageOn w rows c o page on)
         → ((unit : ℕ) (b : List ℕ) → IsSeen at rows unit b → IsSeen at later unit b)
-        → AreObjectBytes at rows c o bytes → AreObjectBytes at later d u bytes }
+        → AreObjectBytes w at rows c o bytes → AreObjectBytes w at later d u bytes }
 {}
 
 /// Where no row is bad, a page of an object stands at one place or at none: the page map is a function.
 pub fn one_place_for_a_page()
     ensures { (s : Super) (rows : Rows) → NoBadRow s rows → (c o : List ℕ) (page : ℕ) (a b : Place) →
-        IsPageAt rows c o page a → IsPageAt rows c o page b → a ≡ b }
+        IsPageAt (width_of s) rows c o page a → IsPageAt (width_of s) rows c o page b → a ≡ b }
 {}
 
 /// Good rows have no bad one.
@@ -75,10 +76,10 @@ pub fn chance_concerns_torn_units_alone()
 /// Rows that are exact but for what other rows had leaked are so but for what they have leaked themselves, which the others had leaked too,
 /// and none of their units is inexact. It holds from one rows to the next.
 pub fn exact_rows()
-    ensures itself { (first rows : Rows) → IsExactAs first rows → IsExactAs rows rows }
-    ensures leaks { (first rows : Rows) (unit : ℕ) → IsExactAs first rows → IsLeaked rows unit → IsLeaked first unit }
-    ensures onward { (first rows later : Rows) → IsExactAs first rows → IsExactAs rows later → IsExactAs first later }
-    ensures good { (first rows : Rows) → IsExactAs first rows → (unit : ℕ) → ¬ IsInexact rows unit }
+    ensures itself { (w : Width) (first rows : Rows) → IsExactAs w first rows → IsExactAs w rows rows }
+    ensures leaks { (w : Width) (first rows : Rows) (unit : ℕ) → IsExactAs w first rows → IsLeaked w rows unit → IsLeaked w first unit }
+    ensures onward { (w : Width) (first rows later : Rows) → IsExactAs w first rows → IsExactAs w rows later → IsExactAs w first later }
+    ensures good { (w : Width) (first rows : Rows) → IsExactAs w first rows → (unit : ℕ) → ¬ IsInexact w rows unit }
 {}
 
 /// What stays as exact as an exact image is exact. What is leaked in it was leaked before. It stays so from one image to the next, and where
@@ -91,9 +92,9 @@ pub fn exact_images()
     ensures by_rows { (before image : List ℕ) (s : Super) (rows : Rows) → IsActiveSlot before s → AreRowsOf before s rows →
         IsActiveSlot image s → AreRowsOf image s rows → StaysExact before image }
     ensures from_rows { (before image : List ℕ) (s : Super) (first rows : Rows) → IsActiveSlot before s → AreRowsOf before s first →
-        IsActiveSlot image s → AreRowsOf image s rows → IsExactAs first rows → StaysExact before image }
+        IsActiveSlot image s → AreRowsOf image s rows → IsExactAs (width_of s) first rows → StaysExact before image }
     ensures leaked { (image : List ℕ) (s : Super) (rows : Rows) (unit : ℕ) → IsActiveSlot image s → AreRowsOf image s rows →
-        IsLeakedIn image unit ↔ IsLeaked rows unit }
+        IsLeakedIn image unit ↔ IsLeaked (width_of s) rows unit }
 {}
 
 /// Prefix durability holds where nothing has happened since the start yet, for a book without entries.

@@ -1,5 +1,6 @@
 -- What preparing and accepting a transaction is, in the words of the kernel's state.
 use Rattle.std.proofs.Common.{◌≡◌, ℕ, ◌+◌, ◌≤◌, true, List, [], ◌∷◌, ◌++◌, length, map, Option, Some, None, refl, arith}
+use Rattle.meta_log.specs.Slots.{width_of}
 use Rattle.std.specs.List.{AllByRecursion}
 use Rattle.block_device.specs.Disk.{Disk}
 use Rattle.block_device.specs.declared.device.Ticket.{Ticket}
@@ -23,7 +24,7 @@ use Rattle.store_facts.specs.Kept.{IsKept}
 use Rattle.store_facts.proofs.Kept.{idle_of}
 use Rattle.store_facts.proofs.RowsKept.{AreRowsKept, rows_of_kept}
 use Rattle.store_facts.proofs.RowsPlans.{units_of, plan_takes_free, planned, PlanFits, plan_fits}
-use Rattle.onode_state.specs.Objects.{AreRowsOfAStore}
+use Rattle.onode_state.specs.Objects.{AreRowsOfWidth}
 use Rattle.txn_planner.specs.PlanFails.{IsPlanFor}
 use Rattle.store_kernel.specs.declared.batch.OpenBatch.{OpenBatch}
 use Rattle.store_kernel.specs.declared.prepared.Prepared.{Prepared}
@@ -35,13 +36,13 @@ use Rattle.store_kernel.proofs.Given.{given_plans}
 -- ---- preparing
 
 -- no submitted row is bad
-pub rows_of_a_store : (s : State) (d : Disk) → IsKept s d → CanNote s → AreRowsOfAStore s.submitted
+pub rows_of_a_store : (s : State) (d : Disk) → IsKept s d → CanNote s → AreRowsOfWidth (width_of s.log.sup) s.submitted
 rows_of_a_store s d kept can =
-    record { sup = s.log.sup; limits = kept.always.limits; good = (rows_of_kept s d kept can.up).good.good }
+    record { store = record { sup = s.log.sup; limits = kept.always.limits; good = (rows_of_kept s d kept can.up).good.good }; wide = refl }
 
 -- what planning gives is a plan of the submitted rows
 pub given : (s : State) (d : Disk) (change : Change) (plan : Plan) → IsKept s d → CanNote s → IsKnown change.ops
-    → IsPlanFor change s.submitted s.space plan → IsPlanOf change s plan
+    → IsPlanFor (width_of s.log.sup) change s.submitted s.space plan → IsPlanOf change s plan
 given s d change plan kept can known is =
     let rows : AreRowsKept s = rows_of_kept s d kept can.up in
     record {
@@ -75,7 +76,7 @@ free_units_are space (u ∷ us) all = (record { within = all.0.0; free = all.0.1
 pub fresh_is_free : (change : Change) (s : State) (plan : Plan) → IsKnown change.ops → IsPlanOf change s plan
     → CanBeTaken (units_of plan.fresh) s.space
 fresh_is_free change s plan known is =
-    free_units_are s.space (units_of plan.fresh) (plan_takes_free change.coll change.ops s.submitted s.space plan known is.plans)
+    free_units_are s.space (units_of plan.fresh) (plan_takes_free (width_of s.log.sup) change.coll change.ops s.submitted s.space plan known is.plans)
 
 -- nothing waits where a transaction may be submitted
 none_listed : (p : Option Context) → listed p ≡ [] → p ≡ None

@@ -1,5 +1,6 @@
 -- The plan that planning gives is the difference of the rows, since the free units are owned by nobody.
-use Rattle.std.proofs.Common.{◌≡◌, ℕ, List, [], ◌∷◌, None, refl, sym, ap, subst, arith}
+use Rattle.std.proofs.Common.{◌≡◌, ℕ, List, [], ◌∷◌, refl, sym, ap, subst, arith}
+use Rattle.meta_log.specs.Slots.{width_of}
 use Rattle.meta_rows.specs.Rows.{Rows}
 use Rattle.meta_log.specs.declared.slot.Super.{Super}
 use Rattle.meta_log.specs.Slots.{IsSuper}
@@ -18,9 +19,9 @@ use Rattle.txn_planner.specs.Given.{GivesTouch, GivesPages, Gives}
 
 module _ (s : Super) (committed rows : Rows) (space : Space) (limits : IsSuper s) (good : AreGoodRows s committed rows)
     (is_space : IsSpaceOf s space) (free : IsFreeExactly s committed rows space) where
-  touch_plans : (c o : List ℕ) (plan : Plan) → GivesTouch c o rows plan → PlansTouch c o rows space plan
+  touch_plans : (c o : List ℕ) (plan : Plan) → GivesTouch c o rows plan → PlansTouch (width_of s) c o rows space plan
   touch_plans c o plan p =
-      let q : ObjectInRows rows c o = object_in_rows s rows c o good.good p.in_coll.coll_named p.in_coll.named in
+      let q : ObjectInRows (width_of s) rows c o = object_in_rows s rows c o good.good p.in_coll.coll_named p.in_coll.named in
       record {
         in_coll = p.in_coll;
         makes = record {
@@ -29,7 +30,7 @@ module _ (s : Super) (committed rows : Rows) (space : Space) (limits : IsSuper s
           lowest = refl;
           layout = q.layout;
           has = q.has;
-          makes = subst (MakesLayout rows c o q.layout q.layout []) (sym p.is)
+          makes = subst (MakesLayout (width_of s) rows c o q.layout q.layout []) (sym p.is)
               (layout_touched s rows c o p.in_coll.coll_named p.in_coll.named p.in_coll.there good.good q.layout q.has);
           fresh = ap (λ (p : Plan). p.fresh) p.is;
           csums_fit = λ i lt. absurd (omega (arith, lt));
@@ -37,7 +38,7 @@ module _ (s : Super) (committed rows : Rows) (space : Space) (limits : IsSuper s
       }
 
   write_plans : (c o : List ℕ) (off : ℕ) (bytes : List ℕ) (plan : Plan) → IsKnown (Write o off bytes ∷ [])
-      → GivesPages c o off bytes rows space plan → PlansPages c o off bytes rows space plan
+      → GivesPages (width_of s) c o off bytes rows space plan → PlansPages (width_of s) c o off bytes rows space plan
   write_plans c o off bytes plan known p =
       let can = can_plan s committed rows space limits good is_space free c o off bytes p.units known p.in_coll p.short p.within p.enough p.lowest
       p.csums_fit in
@@ -57,7 +58,8 @@ module _ (s : Super) (committed rows : Rows) (space : Space) (limits : IsSuper s
         };
       }
 
-  pub given_plans : (c : List ℕ) (ops : List Op) (plan : Plan) → IsKnown ops → Gives c ops rows space plan → Plans c ops rows space plan
+  pub given_plans : (c : List ℕ) (ops : List Op) (plan : Plan) → IsKnown ops → Gives (width_of s) c ops rows space plan
+      → Plans (width_of s) c ops rows space plan
   given_plans c (MkColl ∷ []) plan known p =
       record { named = p.named; missing = p.missing; makes = subst (MakesColl rows c) (sym p.is) (coll_put rows c p.missing) }
   given_plans c (Touch o ∷ []) plan known p = touch_plans c o plan p

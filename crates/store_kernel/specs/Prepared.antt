@@ -1,5 +1,6 @@
 -- A transaction that can be accepted.
 use Rattle.std.specs.Prelude.{◌≡◌, ℕ, ◌≤◌}
+use Rattle.meta_log.specs.Slots.{width_of}
 use Rattle.object_model.specs.Effect.{Change}
 use Rattle.object_model.specs.declared.command.Command.TheVariants as ask
 use Rattle.read_facts.specs.Refusals.{IsNotRefused}
@@ -14,7 +15,7 @@ use Rattle.store_kernel.specs.declared.prepared.Prepared.{Prepared}
 -- plain objects of the submitted rows' shape don't refuse the transaction, and this is its plan
 pub record IsPlanOf (change : Change) (s : State) (plan : Plan) : Type 0 where
   pub not_refused : IsNotRefused s.submitted (ask.Change change)
-  pub plans : Plans change.coll change.ops s.submitted s.space plan
+  pub plans : Plans (width_of s.log.sup) change.coll change.ops s.submitted s.space plan
 
 -- what it needs fits, and the copies are copies
 pub record IsPrepared (ready : Prepared) (change : Change) (s : State) : Type 0 where

@@ -1,5 +1,6 @@
 -- Runs: lists of calls, each of which does what its relation says.
 use Rattle.std.specs.Prelude.{◌≡◌, ◌⊎◌, ℕ, true, false, List, [], ◌∷◌, None}
+use Rattle.meta_log.specs.Slots.{width_of}
 use Rattle.block_device.specs.declared.device.Ticket.{Ticket}
 use Rattle.block_device.specs.Disk.{Disk, IsSound}
 use Rattle.object_model.specs.Effect.{Change}
@@ -42,7 +43,7 @@ Submits client line change s s' = Accepts client line change s s' ⊎ ((a : Answ
 pub record AnswersRead (client line : ℕ) (command : Command) (a : Answer) (s : State) (d : Disk) (s' : State) : Type 0 where
   pub can_note : CanNote s
   pub names : HasReadNames command
-  pub given : IsAnswerOf d s.submitted command a
+  pub given : IsAnswerOf (width_of s.log.sup) d s.submitted command a
   pub after : s' ≡ entered client line command a s
 
 -- it is answered, or turned away

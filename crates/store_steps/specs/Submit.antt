@@ -1,5 +1,6 @@
 -- What submitting a transaction does: it is accepted, or refused for a cause; either makes an entry of the book.
 use Rattle.std.specs.Prelude.{◌≡◌, ℕ, ◌+◌, ◌<◌, ◌≤◌, ◌%◌, List, [], ◌∷◌, ◌++◌, length, map, Some, None}
+use Rattle.meta_log.specs.Slots.{width_of}
 use Rattle.block_device.specs.declared.device.Ticket.{Ticket}
 use Rattle.object_model.specs.Effect.{Change}
 use Rattle.object_model.specs.declared.op.Op.{Op}
@@ -80,7 +81,7 @@ pub record Accepts (client line : ℕ) (change : Change) (s s' : State) : Type 0
   pub can_note : CanNote s
   pub not_refused : IsNotRefused s.submitted (ask.Change change)
   pub plan : Plan
-  pub plans : Plans change.coll change.ops s.submitted s.space plan
+  pub plans : Plans (width_of s.log.sup) change.coll change.ops s.submitted s.space plan
   pub fits : need_of s.log plan ≤ room_of s.log
   pub after : s' ≡ accepted_with client line change plan s
 
@@ -91,7 +92,7 @@ IsCause (answer.NoSpace need free) change s =
     IsNotRefused s.submitted (ask.Change change) × (need ≡ units_taken change.ops) × (free ≡ free_count s.space) × (free < need)
 IsCause (answer.MetaFull need room) change s =
     IsNotRefused s.submitted (ask.Change change)
-    × ((plan : Plan) × (Plans change.coll change.ops s.submitted s.space plan × (need ≡ need_of s.log plan)))
+    × ((plan : Plan) × (Plans (width_of s.log.sup) change.coll change.ops s.submitted s.space plan × (need ≡ need_of s.log plan)))
     × (room ≡ room_of s.log) × (room < need)
 IsCause a change s = ⊥
 

@@ -1,17 +1,19 @@
 -- The operations on an object's shards, one part behind the other.
 use Rattle.std.proofs.Common.{◌≡◌, inl, inr, cond, ℕ, zero, ◌<◌, Bool, false, List, [], ◌∷◌, ◌++◌, Option, Some, None, Result, Ok, Err, OnOk, refl, sym, ap, ◌∙◌, append_assoc, arith}
+use Rattle.unit_fields.specs.declared.width.Width.{Width}
 use Rattle.std.specs.Prelude.{filter, slice_get}
 use Rattle.std.specs.Option.{option_map_or}
 use Rattle.std.specs.Ordering.{is_eq}
 use Rattle.std.specs.Cmp.{tied_itself}
 use Rattle.std.specs.Cmp.Lexicographic.{nat_list_cmp_total}
 use Rattle.object_model.specs.Effect.{is_same}
+use Rattle.std.specs.Int.{w64, to_le_bytes}
 use Rattle.meta_rows.specs.Rows.{Rows}
 use Rattle.meta_rows.specs.declared.row_op.RowOp.{RowOp}
 use Rattle.std.proofs.lemmas.Bool.{cases_Bool}
 use Rattle.row_format.specs.Extents.{Extent, Place}
-use Rattle.row_format.specs.Row.{Row, onode, shard, row_value}
-use Rattle.row_facts.specs.Operations.{set_row}
+use Rattle.row_format.specs.Row.{shard}
+use Rattle.row_facts.specs.Operations.{set_row, set_onode}
 use Rattle.blob_map.specs.Normal.{single, follows, more, extents_from, extents_of}
 use Rattle.object_rows.specs.Operations.{drops, onode_ops, shard_ops}
 use Rattle.object_rows.specs.Writes.{IsSizeOf, missing, there}
@@ -49,30 +51,31 @@ some_first (q ∷ ps) p is =
     let found = grown_first ps (single q) in
     (found.0, found.1, found.2 ∙ ap (λ (x : ℕ × Place). x.0) same, found.3)
 
-module _ (c o : List ℕ) (extents : List Extent) (present : List ℕ) (ops : List RowOp) where
+module _ (w : Width) (c o : List ℕ) (extents : List Extent) (present : List ℕ) (ops : List RowOp) where
   -- without extents all shards go
   pub all_dropped : (new : List RowOp) → extents ≡ [] → new ≡ ops ++ drops c o (filter (is_of part.All) present)
-      → new ≡ ops ++ shard_ops c o extents present
-  all_dropped new none is = is ∙ ap (λ ps. ops ++ drops c o ps) (all_of present) ∙ sym (ap (λ es. ops ++ shard_ops c o es present) none)
+      → new ≡ ops ++ shard_ops w c o extents present
+  all_dropped new none is = is ∙ ap (λ ps. ops ++ drops c o ps) (all_of present) ∙ sym (ap (λ es. ops ++ shard_ops w c o es present) none)
 
   -- with some the lower ones go, the new one comes, and the higher ones go
   pub parts_replaced : (e : Extent) (rest : List Extent) (first : ℕ) (op : RowOp) (low with_new new : List RowOp)
       → extents ≡ e ∷ rest → first ≡ e.first → low ≡ ops ++ drops c o (filter (is_of (part.Below first)) present)
-      → op ≡ set_row (shard c o first extents) → with_new ≡ low ++ op ∷ [] → new ≡ with_new ++ drops c o (filter (is_of (part.Above first)) present) → new ≡ ops ++ shard_ops c o extents present
+      → op ≡ set_row w (shard c o first extents) → with_new ≡ low ++ op ∷ []
+      → new ≡ with_new ++ drops c o (filter (is_of (part.Above first)) present) → new ≡ ops ++ shard_ops w c o extents present
   parts_replaced e rest first op low with_new new is first_is low_is op_is with_is new_is =
       let below : ℕ → List RowOp = λ n. drops c o (filter (is_of (part.Below n)) present) in
       let above : ℕ → List RowOp = λ n. drops c o (filter (is_of (part.Above n)) present) in
       new_is ∙ ap (λ l. l ++ above first) with_is ∙ append_assoc low (op ∷ []) (above first)
       ∙ ap (λ l. l ++ op ∷ above first) low_is ∙ append_assoc ops (below first) (op ∷ above first)
       ∙ ap (λ x. ops ++ (below first ++ x ∷ above first)) op_is
-      ∙ ap (λ n. ops ++ (below n ++ set_row (shard c o n extents) ∷ above n)) first_is
-      ∙ ap (λ es. ops ++ (below e.first ++ set_row (shard c o e.first es) ∷ above e.first)) is
-      ∙ sym (ap (λ es. ops ++ shard_ops c o es present) is)
+      ∙ ap (λ n. ops ++ (below n ++ set_row w (shard c o n extents) ∷ above n)) first_is
+      ∙ ap (λ es. ops ++ (below e.first ++ set_row w (shard c o e.first es) ∷ above e.first)) is
+      ∙ sym (ap (λ es. ops ++ shard_ops w c o es present) is)
 
 -- the onode of an object that has bytes says how many
 pub size_said : (rows : Rows) (c o : List ℕ) (size : ℕ) → IsSizeOf rows c o size → 0 < size → onode_ops rows c o size ≡ []
 size_said rows c o zero (missing none) some = absurd (omega (arith, some))
 size_said rows c o n (there size has) some =
-    let row : Row = onode c o size in
-    let said : Option (List ℕ) → Bool = λ held. option_map_or (λ value. is_same value (row_value row)) held false in
-    ap (λ (b : Bool). cond b [] (set_row row ∷ [])) (ap said has.stands ∙ ap is_eq (tied_itself nat_list_cmp_total (row_value row)))
+    let value : List ℕ = to_le_bytes w64 size in
+    let said : Option (List ℕ) → Bool = λ held. option_map_or (λ there. is_same there value) held false in
+    ap (λ (b : Bool). cond b [] (set_onode c o size ∷ [])) (ap said has.stands ∙ ap is_eq (tied_itself nat_list_cmp_total value))

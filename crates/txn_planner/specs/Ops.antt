@@ -1,5 +1,6 @@
 -- The words of planning one operation.
 use Rattle.std.specs.Prelude.{◌≡◌, ℕ, ◌<◌, ◌^◌, List, [], ◌∷◌, length}
+use Rattle.unit_fields.specs.declared.width.Width.{Width}
 use Rattle.byte_maps.specs.Units.{unit_at}
 use Rattle.crc32c_csum.specs.Crc32c.{crc32c}
 use Rattle.object_model.specs.declared.op.Op.{Op}
@@ -23,7 +24,7 @@ abbrev pub op_change : List ℕ → Op → Change
 op_change c op = record { coll = c; ops = op ∷ [] }
 
 -- the pages from one on are written on these units
-pub record WritesOn (rows : Rows) (c o : List ℕ) (first : ℕ) (bytes units : List ℕ) (plan : Plan) : Type 0 where
-  pub writes : WritesPages rows c o first bytes units plan.ops plan.released
+pub record WritesOn (w : Width) (rows : Rows) (c o : List ℕ) (first : ℕ) (bytes units : List ℕ) (plan : Plan) : Type 0 where
+  pub writes : WritesPages w rows c o first bytes units plan.ops plan.released
   pub fresh : plan.fresh ≡ pages_on units 0 bytes
   pub csums_fit : (i : ℕ) → i < length units → crc32c (unit_at i bytes) < 2 ^ 32

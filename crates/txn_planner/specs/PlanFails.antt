@@ -1,5 +1,6 @@
 -- What planning answers: a plan of a transaction that the rows take, or why there is none.
 use Rattle.std.specs.Prelude.{◌≡◌, ◌<◌}
+use Rattle.unit_fields.specs.declared.width.Width.{Width}
 use Rattle.object_model.specs.Effect.{Change}
 use Rattle.object_model.specs.declared.command.Command.TheVariants as ask
 use Rattle.meta_rows.specs.Rows.{Rows}
@@ -13,9 +14,9 @@ use Rattle.txn_planner.specs.declared.planning.PlanFail.{PlanFail}
 use Rattle.txn_planner.specs.declared.planning.PlanFail.TheVariants as fail
 
 -- plain objects of the rows' shape don't refuse the transaction, and this is its plan
-pub record IsPlanFor (change : Change) (rows : Rows) (space : Space) (plan : Plan) : Type 0 where
+pub record IsPlanFor (w : Width) (change : Change) (rows : Rows) (space : Space) (plan : Plan) : Type 0 where
   pub not_refused : IsNotRefused rows (ask.Change change)
-  pub gives : Gives change.coll change.ops rows space plan
+  pub gives : Gives w change.coll change.ops rows space plan
 
 -- why there is no plan; want of memory comes of nothing that a clause sees
 abbrev pub IsPlanFail : Change → Rows → Space → PlanFail → Type 0

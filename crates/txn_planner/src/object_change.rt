@@ -18,7 +18,7 @@ use meta_rows::{RowOp, RowTable};
 use onode_codec::{Onode, onode_key, shard_key};
 use std::alloc::{AllocError, Global};
 use std::cmp::Ordering;
-use unit_fields::{CollName, Name};
+use unit_fields::{CollName, Name, Width};
 
 // Some of an object's shards, by their first pages.
 #[derive(Clone, Copy)]
@@ -123,35 +123,38 @@ fn drop_shards(
 
 fn shard_set(
     alloc: Global,
+    width: Width,
     coll: &CollName,
     object: &Name,
     first: u32,
     pages: &PageMap,
 ) -> Result<RowOp, AllocError>
-    ensures { IfOk result (λ op. op ≡ set_row (shard coll.now object.now first (extents_of (finite.entries pages.now)))) }
+    ensures { IfOk result (λ op. op ≡ set_row width (shard coll.now object.now first (extents_of (finite.entries pages.now)))) }
 {
     let key = shard_key(alloc, coll, object, first)?;
-    let value = pages.to_value(alloc)?;
+    let value = pages.to_value(alloc, width)?;
     Ok(RowOp::Set { key, value })
 }
 
-/// The one shard with these pages takes the place of the present ones, where it would stand among them. Without pages there is none.
+/// The one shard with these pages, and checksums of this width, takes the place of the present ones, where it would stand among them.
+/// Without pages there is none.
 /// `present` are the first pages of the object's shards.
 pub fn replace_shards(
     alloc: Global,
+    width: Width,
     ops: &mut Items<RowOp>,
     coll: &CollName,
     object: &Name,
     pages: &PageMap,
     present: &[u32],
 ) -> Result<(), AllocError>
-    ensures { OnOk result (ops.new ≡ ops.old ++ shard_ops coll.now object.now (extents_of (finite.entries pages.now)) present.now) }
+    ensures { OnOk result (ops.new ≡ ops.old ++ shard_ops width coll.now object.now (extents_of (finite.entries pages.now)) present.now) }
 {
     let Some(lowest) = pages.pages().first() else {
         return drop_shards(alloc, ops, coll, object, present, Part::All);
     };
     let first = lowest.0;
     drop_shards(alloc, ops, coll, object, present, Part::Below(first))?;
-    ops.push(shard_set(alloc, coll, object, first, pages)?)?;
+    ops.push(shard_set(alloc, width, coll, object, first, pages)?)?;
     drop_shards(alloc, ops, coll, object, present, Part::Above(first))
 }

@@ -9,7 +9,7 @@ ghost use Rattle.row_facts.specs.Operations.{coll_ops, coll_change};
 ghost use Rattle.object_rows.specs.Plans.{touch_ops};
 ghost use Rattle.object_rows.specs.Writes.{touch_change};
 ghost use Rattle.store_steps.specs.Submit.{IsKnown};
-ghost use Rattle.onode_state.specs.Objects.{AreRowsOfAStore};
+ghost use Rattle.onode_state.specs.Objects.{AreRowsOfWidth};
 ghost use Rattle.txn_planner.specs.PlanFails.{IsPlanFor, IsPlanFail};
 ghost use Rattle.txn_planner.specs.Ops.{fail_of, op_change, WritesOn};
 ghost use Rattle.txn_planner.specs.declared.planning.PlanFail.TheVariants.{Memory};
@@ -27,7 +27,7 @@ use std::alloc::{AllocError, Global};
 use store_steps::Plan;
 use unit_allocator::{Allocator, TakeFail};
 use unit_fields::limits::UNIT_BYTES;
-use unit_fields::{CollName, Name, UnitNo};
+use unit_fields::{CollName, Name, UnitNo, Width};
 
 /// Why there is no plan.
 #[derive(Clone, Copy, Debug, PartialEq, Eq)]
@@ -59,26 +59,28 @@ impl From<TakeFail> for PlanFail {
     }
 }
 
-/// The plan of a transaction over the submitted rows and the free units. `submit` calls it before it changes anything.
+/// The plan of a transaction over the submitted rows, which have checksums of this width, and the free units. `submit` calls it before
+/// it changes anything.
 ///
 /// Each page takes the lowest free unit that is left, and releases the one that it stood on. The bits of both in the freelist are turned by
 /// the last operations. The bytes aren't copied.
 pub fn plan(
     alloc: Global,
+    width: Width,
     rows: &RowTable,
     space: &Allocator,
     txn: &Transaction,
 ) -> Result<Plan, PlanFail>
     requires known { IsKnown txn.now.ops }
-    requires good { AreRowsOfAStore rows.now.rows }
-    ensures ok { IfOk result (IsPlanFor txn.now rows.now.rows space.now) }
+    requires good { AreRowsOfWidth width rows.now.rows }
+    ensures ok { IfOk result (IsPlanFor width txn.now rows.now.rows space.now) }
     ensures fail { IfErr result (IsPlanFail txn.now rows.now.rows space.now) }
 {
     if txn.is_too_large() {
         return Err(PlanFail::Refusal(Refusal::TooBig));
     }
     match txn.ops() {
-        [op] => plan_op(alloc, rows, space, txn.coll(), op),
+        [op] => plan_op(alloc, width, rows, space, txn.coll(), op),
         _ => unreachable!(),
     }
 }
@@ -86,6 +88,7 @@ pub fn plan(
 // The plan of a transaction of one operation, which isn't too large.
 fn plan_op(
     alloc: Global,
+    width: Width,
     rows: &RowTable,
     space: &Allocator,
     coll: &CollName,
@@ -93,15 +96,15 @@ fn plan_op(
 ) -> Result<Plan, PlanFail>
     requires known { IsKnown (op.now ∷ []) }
     requires small { is_too_large (op_change coll.now op.now) ≡ false }
-    requires good { AreRowsOfAStore rows.now.rows }
-    ensures ok { IfOk result (IsPlanFor (op_change coll.now op.now) rows.now.rows space.now) }
+    requires good { AreRowsOfWidth width rows.now.rows }
+    ensures ok { IfOk result (IsPlanFor width (op_change coll.now op.now) rows.now.rows space.now) }
     ensures fail { IfErr result (IsPlanFail (op_change coll.now op.now) rows.now.rows space.now) }
 {
     match op {
         Op::MkColl => plan_collection(alloc, rows, space, coll),
         Op::Touch { object } => plan_touch(alloc, rows, space, coll, object),
         Op::Write { object, off, bytes } => {
-            plan_write(alloc, rows, space, coll, object, *off, bytes)
+            plan_write(alloc, width, rows, space, coll, object, *off, bytes)
         }
         _ => unreachable!(),
     }
@@ -160,7 +163,7 @@ fn plan_collection(
     space: &Allocator,
     coll: &CollName,
 ) -> Result<Plan, PlanFail>
-    ensures ok { IfOk result (IsPlanFor (coll_change coll.now) rows.now.rows space.now) }
+    ensures ok { (width : Width) → IfOk result (IsPlanFor width (coll_change coll.now) rows.now.rows space.now) }
     ensures fail { IfErr result (IsPlanFail (coll_change coll.now) rows.now.rows space.now) }
 {
     coll_name_is_one(coll);
@@ -194,7 +197,7 @@ fn plan_touch(
     coll: &CollName,
     object: &Name,
 ) -> Result<Plan, PlanFail>
-    ensures ok { IfOk result (IsPlanFor (touch_change coll.now object.now) rows.now.rows space.now) }
+    ensures ok { (width : Width) → IfOk result (IsPlanFor width (touch_change coll.now object.now) rows.now.rows space.now) }
     ensures fail { IfErr result (IsPlanFail (touch_change coll.now object.now) rows.now.rows space.now) }
 {
     coll_name_is_one(coll);
@@ -209,6 +212,7 @@ fn plan_touch(
 // The write of whole pages from one on, each on its unit: what becomes of the object's rows and of the units' bits, and which units go.
 fn pages_on(
     alloc: Global,
+    width: Width,
     rows: &RowTable,
     coll: &CollName,
     object: &Name,
@@ -216,22 +220,22 @@ fn pages_on(
     bytes: &SharedBytes,
     units: &[UnitNo],
 ) -> Result<Plan, AllocError>
-    requires good { AreRowsOfAStore rows.now.rows }
+    requires good { AreRowsOfWidth width rows.now.rows }
     requires whole { length bytes.now ≡ 4096 * length units.now }
     requires within { 4096 * first + length bytes.now ≤ object_limit }
-    ensures { IfOk result (WritesOn rows.now.rows coll.now object.now first bytes.now units.now) }
+    ensures { IfOk result (WritesOn width rows.now.rows coll.now object.now first bytes.now units.now) }
 {
     let ObjectState {
         size,
         mut pages,
         shards,
-    } = object_state(alloc, rows, coll, object)?;
+    } = object_state(alloc, width, rows, coll, object)?;
     let count = units.len() as u32;
     let released = units_between(alloc, pages.pages(), first, first + count)?;
     lay_pages(&mut pages, first, units, bytes.as_slice())?;
     let end = UNIT_BYTES as u64 * (u64::from(first) + u64::from(count));
     let mut ops = size_ops(alloc, rows, coll, object, size, size.max(end))?;
-    replace_shards(alloc, &mut ops, coll, object, &pages, &shards)?;
+    replace_shards(alloc, width, &mut ops, coll, object, &pages, &shards)?;
     let mut flips = turned_bits(alloc, units, released.as_slice())?;
     let mut all = ops.into_vec();
     all.append(&mut flips)?;
@@ -245,6 +249,7 @@ fn pages_on(
 
 fn plan_write(
     alloc: Global,
+    width: Width,
     rows: &RowTable,
     space: &Allocator,
     coll: &CollName,
@@ -254,8 +259,8 @@ fn plan_write(
 ) -> Result<Plan, PlanFail>
     requires known { IsKnown (Write object.now off bytes.now ∷ []) }
     requires small { is_too_large (op_change coll.now (Write object.now off bytes.now)) ≡ false }
-    requires good { AreRowsOfAStore rows.now.rows }
-    ensures ok { IfOk result (IsPlanFor (op_change coll.now (Write object.now off bytes.now)) rows.now.rows space.now) }
+    requires good { AreRowsOfWidth width rows.now.rows }
+    ensures ok { IfOk result (IsPlanFor width (op_change coll.now (Write object.now off bytes.now)) rows.now.rows space.now) }
     ensures fail { IfErr result (IsPlanFail (op_change coll.now (Write object.now off bytes.now)) rows.now.rows space.now) }
 {
     coll_name_is_one(coll);
@@ -269,5 +274,14 @@ fn plan_write(
     let need = bytes.len() / UNIT_BYTES;
     let units = space.lowest_units(alloc, need as u32)?;
     let first = off / UNIT_BYTES as u64;
-    Ok(pages_on(alloc, rows, coll, object, first as u32, bytes, &units)?)
+    Ok(pages_on(
+        alloc,
+        width,
+        rows,
+        coll,
+        object,
+        first as u32,
+        bytes,
+        &units,
+    )?)
 }

@@ -1,4 +1,5 @@
-//! The words of the store's outside: units by number and sets of them, names, the limits, and the fields that values and keys are made of.
+//! The words of the store's outside: units by number and sets of them, names, the limits, the width of
+//! checksums, and the fields that values and keys are made of.
 #![tactic(auto)]
 
 mod coll_name;
@@ -7,6 +8,7 @@ pub mod limits;
 mod name;
 mod unit;
 mod unit_set;
+mod width;
 mod writing;
 
 pub use coll_name::CollName;
@@ -14,4 +16,5 @@ pub use fields::Fields;
 pub use name::Name;
 pub use unit::UnitNo;
 pub use unit_set::UnitSet;
+pub use width::Width;
 pub use writing::{push_u16_le, push_u32_be, push_u32_le, push_u64_be, push_u64_le};

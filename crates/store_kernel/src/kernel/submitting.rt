@@ -87,7 +87,8 @@ impl<D: Device> Kernel<D> {
         ensures short { IfOk result (λ plan. length (ops_bytes plan.ops) < 2 ^ 32) }
         ensures err { IfErr result (λ cause. IsCauseOf cause txn.now self.now.state) }
     {
-        match plan(alloc, &self.submitted, &self.space, txn) {
+        let width = self.meta.sup().width();
+        match plan(alloc, width, &self.submitted, &self.space, txn) {
             Ok(plan) => Ok(plan),
             Err(PlanFail::Refusal(refusal)) => Err(Cause::Refusal(refusal)),
             Err(PlanFail::NoSpace { need, free }) => Err(Cause::NoSpace { need, free }),

@@ -1,6 +1,7 @@
 //! Walks over all collections and objects. They change nothing, and make no entry of the book.
 ghost use Rattle.std.specs.Prelude.{◌≡◌, ◌≤◌, None, true, IfOk, IfErr, IsErrOf, MatchOption};
 ghost use Rattle.std.specs.Option.{option_copied};
+ghost use Rattle.meta_log.specs.Slots.{width_of};
 ghost use Rattle.block_device.specs.Disk.{Rose};
 ghost use Rattle.read_facts.specs.Walks.{IsCollection, IsObject, IsNextOf, IsPast};
 ghost use Rattle.object_reader.specs.Readable.{IsNextView};
@@ -47,7 +48,7 @@ impl<D: Device> Kernel<D> {
     ) -> Result<Option<ObjectView>, WalkFail>
         requires { (self.old.state.down ≡ None) → is_drained (D.disk self.old.device).depth self.old.state ≡ true }
         ensures ok { IfOk result (λ found. MatchOption found (IsPast (IsObject self.old.state.submitted coll.now) (option_copied after.entry))
-            (IsNextView (D.disk self.old.device) self.old.state.submitted coll.now (option_copied after.entry))) }
+            (IsNextView (width_of self.old.state.log.sup) (D.disk self.old.device) self.old.state.submitted coll.now (option_copied after.entry))) }
         ensures fail { IfErr result (λ why. IsDownFail why self.old.state) }
         ensures same { self.new.state ≡ self.old.state }
         ensures disk { D.disk self.new.device ≡ D.disk self.old.device }
@@ -57,7 +58,8 @@ impl<D: Device> Kernel<D> {
         if let Some(ticket) = self.down {
             return Err(WalkFail::Down { ticket });
         }
-        match next_object(alloc, &mut self.device, &self.submitted, coll, after) {
+        let width = self.meta.sup().width();
+        match next_object(alloc, &mut self.device, width, &self.submitted, coll, after) {
             Ok(found) => Ok(found),
             Err(ReadFail::Memory) => Err(WalkFail::Memory),
             Err(ReadFail::Fault) => Err(WalkFail::DeviceRead),

@@ -7,4 +7,4 @@ use Rattle.blob_map.proofs.extents.extents_of.Given as goal
 
 abbrev pub invariant-loop-entry : goal.invariant-loop-entry
 invariant-loop-entry l = (l.done.items ++ finished l.last (drop l.entry-index l.pages) ≡ extents_of l.pages)
-    × AllByRecursion FitsExtent l.done.items × IfSome l.last FitsExtent
+    × AllByRecursion (FitsExtent l.width) l.done.items × IfSome l.last (FitsExtent l.width)

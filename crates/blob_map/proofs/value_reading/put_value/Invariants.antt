@@ -3,7 +3,7 @@ use Rattle.blob_map.proofs.Values.{AreLeft}
 use Rattle.blob_map.proofs.value_reading.put_value.Given as goal
 
 abbrev pub invariant-extents : goal.invariant-extents
-invariant-extents l = AreLeft l.bytes l.fields l.fn.pages l.pages
+invariant-extents l = AreLeft l.width l.bytes l.fields l.fn.pages l.pages
 
 abbrev pub decreases-extents : goal.decreases-extents
 decreases-extents l = length l.fields

@@ -5,7 +5,7 @@ use Rattle.blob_map.specs.Normal.{extents_of}
 use Rattle.blob_map.proofs.value_writing.value_of.Given as goal
 
 abbrev pub invariant-runs : goal.invariant-runs
-invariant-runs l = l.out.items ++ flat_map extent_bytes (extents_of l.left) ≡ flat_map extent_bytes (extents_of l.pages)
+invariant-runs l = l.out.items ++ flat_map (extent_bytes l.width) (extents_of l.left) ≡ flat_map (extent_bytes l.width) (extents_of l.pages)
 
 abbrev pub decreases-runs : goal.decreases-runs
 decreases-runs l = length l.left

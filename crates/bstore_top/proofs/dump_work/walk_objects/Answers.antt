@@ -1,6 +1,7 @@
 use Rattle.std.proofs.Common.{ap, sym, subst, refl, arith, ◌∙◌, length}
 use Rattle.std.specs.Option.{option_copied}
 use Rattle.std.specs.FinMap as finite
+use Rattle.meta_log.specs.Slots.{width_of}
 use Rattle.unit_fields.specs.Names.{IsCollName}
 use Rattle.bstore_top.proofs.DumpWalks.{view_found, one_viewed, few_viewed, fewer_left}
 use Rattle.bstore_top.proofs.dump_work.walk_objects.Goals as goal
@@ -15,9 +16,11 @@ objects-preserved g c =
       disk = c.next_object.ensures.disk ∙ inv.disk;
       faults = omega (arith, inv.faults, c.next_object.ensures.later);
       coll = inv.coll;
-      viewed = one_viewed d rows c.objects.view (record { coll = c.objects.view.coll; objects = c.push.new.self }) c.in-Some.object refl
+      viewed = one_viewed (width_of c.args.kernel.now.state.log.sup) d rows c.objects.view
+          (record { coll = c.objects.view.coll; objects = c.push.new.self }) c.in-Some.object refl
           c.in-Ok.ensures.ok inv.viewed
-          (view_found d _ rows _ c.objects.view.coll c.in_ok-object.field-0 (option_copied c.last_name.result) _ c.in-Some.object inv.disk
+          (view_found (width_of c.args.kernel.now.state.log.sup) d _ rows _ c.objects.view.coll c.in_ok-object.field-0
+          (option_copied c.last_name.result) _ c.in-Some.object inv.disk
           (ap (λ s. s.submitted) inv.same) c.last_name.ensures c.in-Some.is c.in_ok-object.ensures.ok);
     }
 
@@ -28,4 +31,5 @@ objects-smaller g c =
     let rows = c.args.kernel.now.state.submitted in
     let named : IsCollName c.objects.view.coll = subst IsCollName (sym inv.coll) c.requires.named in
     fewer_left (length (finite.entries rows)) c.objects.view.objects c.push.new.self c.in-Some.object c.in-Ok.ensures.ok
-    (few_viewed d rows (record { coll = c.objects.view.coll; objects = c.push.new.self }) named (objects-preserved g c).viewed)
+    (few_viewed (width_of c.args.kernel.now.state.log.sup) d rows (record { coll = c.objects.view.coll; objects = c.push.new.self }) named
+    (objects-preserved g c).viewed)

@@ -1,6 +1,7 @@
 use Rattle.std.proofs.Common.{List, [], ◌∷◌, ◌++◌, None, length, ap, sym, subst, arith, ◌∙◌}
 use Rattle.std.specs.Option.{option_copied}
 use Rattle.std.specs.FinMap as finite
+use Rattle.meta_log.specs.Slots.{width_of}
 use Rattle.read_facts.specs.declared.view.CollView.{CollView}
 use Rattle.read_facts.specs.Walks.{IsCollection, IsNextOf, last_of}
 use Rattle.read_facts.specs.Views.{WalksTo, coll_names}
@@ -21,10 +22,10 @@ colls-preserved g c =
       same = c.walk_objects-walked.ensures.same ∙ inv.same;
       disk = c.walk_objects-walked.ensures.disk ∙ inv.disk;
       faults = omega (arith, inv.faults, c.walk_objects-walked.ensures.later);
-      walked = one_walked d rows c.colls.walk.items c.push_reserved.new.self.items v
+      walked = one_walked (width_of c.args.kernel.now.state.log.sup) d rows c.colls.walk.items c.push_reserved.new.self.items v
           (c.push_reserved.ensures.items ∙ ap (λ (l : List CollView). l ++ v ∷ []) c.reserve.ensures.items) inv.walked
           (subst (IsNextOf (IsCollection rows) (last_of None (coll_names c.colls.walk.items))) (sym c.walk_objects-walked.ensures.coll) next)
-          (whole_at d rows _ _ v inv.disk same_rows c.in_ok-walked.ensures.whole);
+          (whole_at (width_of c.args.kernel.now.state.log.sup) d rows _ _ v inv.disk same_rows c.in_ok-walked.ensures.whole);
     }
 
 pub colls-smaller : goal.colls-smaller
@@ -34,7 +35,7 @@ colls-smaller g c =
     let v : CollView = c.walk_objects-walked.new.view in
     fewer_left (length (finite.entries rows)) c.colls.walk.items c.push_reserved.new.self.items v
     (c.push_reserved.ensures.items ∙ ap (λ (l : List CollView). l ++ v ∷ []) c.reserve.ensures.items)
-    (few_walked d rows c.push_reserved.new.self.items (colls-preserved g c).walked)
+    (few_walked (width_of c.args.kernel.now.state.log.sup) d rows c.push_reserved.new.self.items (colls-preserved g c).walked)
 
 pub returns-in_err-walked-clause-walked : goal.returns-in_err-walked-clause-walked
 returns-in_err-walked-clause-walked g c =
@@ -46,21 +47,24 @@ returns-in_err-walked-clause-walked g c =
     let last = c.last_coll.ensures ∙ ap (λ (l : List CollView). last_of None (coll_names l)) c.deref.ensures.value in
     let next =
     coll_found rows _ c.in_ok-coll.field-0 (option_copied c.last_coll.result) _ c.in-Some.coll same_rows last c.in-Some.is c.in_ok-coll.ensures.ok in
-    part_walked d rows c.colls.walk.items c.push_reserved.new.self.items v
+    part_walked (width_of c.args.kernel.now.state.log.sup) d rows c.colls.walk.items c.push_reserved.new.self.items v
     (c.push_reserved.ensures.items ∙ ap (λ (l : List CollView). l ++ v ∷ []) c.reserve.ensures.items) inv.walked
     (subst (IsNextOf (IsCollection rows) (last_of None (coll_names c.colls.walk.items))) (sym c.walk_objects-walked.ensures.coll) next)
-    (viewed_at d rows _ _ v inv.disk same_rows c.walk_objects-walked.ensures.viewed)
+    (viewed_at (width_of c.args.kernel.now.state.log.sup) d rows _ _ v inv.disk same_rows c.walk_objects-walked.ensures.viewed)
 
 pub returns-in_err-coll-clause-walked : goal.returns-in_err-coll-clause-walked
 returns-in_err-coll-clause-walked g c =
-    so_far (g.D.Device.disk c.args.kernel.now.device) c.args.kernel.now.state.submitted c.colls.walk.items c.colls.invariant.walked
+    so_far (width_of c.args.kernel.now.state.log.sup)
+    (g.D.Device.disk c.args.kernel.now.device) c.args.kernel.now.state.submitted c.colls.walk.items c.colls.invariant.walked
 
 pub returns-in_default-reserve-clause-walked : goal.returns-in_default-reserve-clause-walked
 returns-in_default-reserve-clause-walked g c =
     let d = g.D.Device.disk c.args.kernel.now.device in
     let rows = c.args.kernel.now.state.submitted in
-    subst (WalksTo d rows) (sym c.reserve.ensures.items) (so_far d rows c.colls.walk.items c.colls.invariant.walked)
+    subst (WalksTo (width_of c.args.kernel.now.state.log.sup) d rows) (sym c.reserve.ensures.items)
+    (so_far (width_of c.args.kernel.now.state.log.sup) d rows c.colls.walk.items c.colls.invariant.walked)
 
 pub returns-clause-walked : goal.returns-clause-walked
 returns-clause-walked g c =
-    so_far (g.D.Device.disk c.args.kernel.now.device) c.args.kernel.now.state.submitted c.colls.walk.items c.colls.invariant.walked
+    so_far (width_of c.args.kernel.now.state.log.sup)
+    (g.D.Device.disk c.args.kernel.now.device) c.args.kernel.now.state.submitted c.colls.walk.items c.colls.invariant.walked

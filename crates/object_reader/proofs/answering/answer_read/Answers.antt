@@ -18,7 +18,7 @@ read_range-requires-clause-can g c =
     let key = taken.0.1 in
     let size = c.in_ok-size.size in
     let pages = c.in_ok-pages.pages in
-    can_read (g.D.Device.disk c.args.device.now) rows coll object size pages c.requires.readable
+    can_read c.args.width (g.D.Device.disk c.args.device.now) rows coll object size pages c.requires.readable
     c.in_ok-size.ensures c.in_ok-pages.ensures.found key
 
 pub read_range-requires-clause-limit : goal.read_range-requires-clause-limit
@@ -43,7 +43,7 @@ returns-in-Ok-clause-ok g c =
     let key = taken.0.1 in
     let size = c.in_ok-size.size in
     let pages = c.in_ok-pages.pages in
-    bytes_answer d rows coll object size pages c.requires.readable c.in_ok-size.ensures c.in_ok-pages.ensures.found key off len
+    bytes_answer c.args.width d rows coll object size pages c.requires.readable c.in_ok-size.ensures c.in_ok-pages.ensures.found key off len
     c.from_vec.result none
     (subst (GivesRange d pages size off len) (sym c.from_vec.ensures) c.in-Ok.ensures.good)
 
@@ -60,7 +60,7 @@ returns-in-Err-clause-ok g c =
     let key = taken.0.1 in
     let size = c.in_ok-size.size in
     let pages = c.in_ok-pages.pages in
-    ok_of c.csum_answer.result (IsCsumOf c.in-Err.why) (IsAnswerOf d rows (ask.Read coll object off len))
-    (λ a is. read_fails d rows coll object size pages c.requires.readable c.in_ok-size.ensures c.in_ok-pages.ensures.found key off len
+    ok_of c.csum_answer.result (IsCsumOf c.in-Err.why) (IsAnswerOf c.args.width d rows (ask.Read coll object off len))
+    (λ a is. read_fails c.args.width d rows coll object size pages c.requires.readable c.in_ok-size.ensures c.in_ok-pages.ensures.found key off len
     c.in-Err.why a none
     c.in-Err.ensures.fail is) c.csum_answer.ensures.ok

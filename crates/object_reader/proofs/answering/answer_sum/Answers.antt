@@ -15,7 +15,7 @@ sum-requires-clause-can g c =
     let key = taken.1 in
     let size = c.in_ok-size.size in
     let pages = c.in_ok-pages.pages in
-    can_read (g.D.Device.disk c.args.device.now) rows coll object size pages c.requires.readable
+    can_read c.args.width (g.D.Device.disk c.args.device.now) rows coll object size pages c.requires.readable
     c.in_ok-size.ensures c.in_ok-pages.ensures.found key
 
 pub sum-requires-clause-limit : goal.sum-requires-clause-limit
@@ -27,7 +27,7 @@ sum-requires-clause-limit g c =
     let key = taken.1 in
     let size = c.in_ok-size.size in
     let pages = c.in_ok-pages.pages in
-    size_most (g.D.Device.disk c.args.device.now) rows coll object size pages c.requires.readable
+    size_most c.args.width (g.D.Device.disk c.args.device.now) rows coll object size pages c.requires.readable
     c.in_ok-size.ensures c.in_ok-pages.ensures.found key
 
 pub returns-in-Ok-clause-ok : goal.returns-in-Ok-clause-ok
@@ -39,7 +39,8 @@ returns-in-Ok-clause-ok g c =
     let none = sum_taken rows coll object c.object_refusal.ensures.names.0 c.object_refusal.ensures.names.1 taken.0 taken.1 in
     let size = c.in_ok-size.size in
     let pages = c.in_ok-pages.pages in
-    sum_gives (g.D.Device.disk c.args.device.now) rows coll object size pages c.requires.readable c.in_ok-size.ensures c.in_ok-pages.ensures.found
+    sum_gives c.args.width
+    (g.D.Device.disk c.args.device.now) rows coll object size pages c.requires.readable c.in_ok-size.ensures c.in_ok-pages.ensures.found
     taken.1 c.in-Ok.crc none c.in-Ok.ensures.good
 
 pub returns-in-Err-clause-ok : goal.returns-in-Err-clause-ok
@@ -52,6 +53,6 @@ returns-in-Err-clause-ok g c =
     let none = sum_taken rows coll object c.object_refusal.ensures.names.0 c.object_refusal.ensures.names.1 taken.0 taken.1 in
     let size = c.in_ok-size.size in
     let pages = c.in_ok-pages.pages in
-    ok_of c.csum_answer.result (IsCsumOf c.in-Err.why) (IsAnswerOf d rows (ask.Sum coll object))
-    (λ a is. sum_fails d rows coll object size pages c.requires.readable c.in_ok-size.ensures c.in_ok-pages.ensures.found
+    ok_of c.csum_answer.result (IsCsumOf c.in-Err.why) (IsAnswerOf c.args.width d rows (ask.Sum coll object))
+    (λ a is. sum_fails c.args.width d rows coll object size pages c.requires.readable c.in_ok-size.ensures c.in_ok-pages.ensures.found
     taken.1 c.in-Err.why a none c.in-Err.ensures.fail is) c.csum_answer.ensures.ok

@@ -10,5 +10,5 @@ returns c = record {
   numbers = λ s rows coll o shards size good are has most. by_shards_numbers s rows coll o good shards are size has most;
   pages = λ s rows coll o shards page place good are. by_shards_pages s rows coll o good shards are page place;
   present = λ s rows coll o shards good are. by_shards_present s rows coll o good shards are;
-  climb = λ rows coll o shards are. first_pages_climb shards are.rise;
+  climb = λ w rows coll o shards are. first_pages_climb shards are.rise;
 }

@@ -4,7 +4,7 @@ use Rattle.row_format.specs.Extents.{extent_bytes, FitsExtent}
 use Rattle.onode_codec.proofs.extent.decode_extents.Given as goal
 
 abbrev pub invariant-extents : goal.invariant-extents
-invariant-extents l = (l.bytes ≡ flat_map extent_bytes l.extents.items ++ l.fields) × AllByRecursion FitsExtent l.extents.items
+invariant-extents l = (l.bytes ≡ flat_map (extent_bytes l.width) l.extents.items ++ l.fields) × AllByRecursion (FitsExtent l.width) l.extents.items
 
 abbrev pub decreases-extents : goal.decreases-extents
 decreases-extents l = length l.fields

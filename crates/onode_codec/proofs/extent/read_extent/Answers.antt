@@ -1,8 +1,9 @@
-use Rattle.std.proofs.Common.{◌<◌, ◌*◌, length, rules}
+use Rattle.std.proofs.Common.{◌<◌, length, rules}
+use Rattle.unit_fields.specs.Widths.{bytes_of}
 use Rattle.onode_codec.proofs.ExtentReading.{csums_missing}
 use Rattle.onode_codec.proofs.extent.read_extent.Goals as goal
 
 pub returns-in_default-2 : goal.returns-in_default-2
 returns-in_default-2 c =
-    let few : length c.read.new.fields < 4 * c.in-Some.head.count = search rules in
-    csums_missing c.args.fields.now c.read.new.fields c.in-Some.head c.in-Some.ensures few
+    let few : length c.read.new.fields < bytes_of c.args.width c.in-Some.head.count = search rules in
+    csums_missing c.args.width c.args.fields.now c.read.new.fields c.in-Some.head c.in-Some.ensures few

@@ -4,9 +4,11 @@ use Rattle.onode_state.proofs.ReadShards.{page_read, head_there}
 use Rattle.onode_state.proofs.object.first_page.Goals as goal
 
 pub unreachable-requires : goal.unreachable-requires
-unreachable-requires c = head_there c.args.value.now c.requires (subst BeginsWithNoExtent c.new.ensures c.in-None.ensures)
+unreachable-requires c =
+    let width = c.requires.0 in
+    head_there width c.args.value.now c.requires.1 (subst (BeginsWithNoExtent width) c.new.ensures (c.in-None.ensures width))
 
 pub returns : goal.returns
-returns c es spelled =
-    page_read c.args.value.now c.read.new.fields c.in-Some.head (subst (λ l. ReadsHead l c.read.new.fields c.in-Some.head) c.new.ensures c.in-Some.ensures)
-    es spelled
+returns c width es spelled =
+    page_read width c.args.value.now c.read.new.fields c.in-Some.head
+    (subst (λ l. ReadsHead l c.read.new.fields c.in-Some.head) c.new.ensures c.in-Some.ensures) es spelled

@@ -1,8 +1,9 @@
-use Rattle.std.proofs.Common.{◌+◌, ◌∷◌, [], Some, sym, ◌∙◌}
+use Rattle.std.proofs.Common.{◌+◌, ◌∷◌, [], Some, sym, subst, ◌∙◌}
 use Rattle.std.specs.List.{AllByRecursion}
 use Rattle.meta_rows.specs.Table.{rows_from_to}
 use Rattle.meta_rows.proofs.RangeLemmas.{left_more, left_none}
 use Rattle.row_format.specs.Keys.{object_key, shard_key}
+use Rattle.object_rows.specs.Maps.{AreShardsOf}
 use Rattle.onode_state.proofs.ShardRows.{IsShardEntry, range_is_shards, range_has_all}
 use Rattle.onode_state.proofs.ReadShards.{AreRead, none_read, shards_by_entries, value_at, read_more, all_read}
 use Rattle.onode_state.proofs.States.{numbers_of}
@@ -14,7 +15,7 @@ loop-value-init c = record {
   finite = tt;
   at = 0;
   left = c.into_iter-value-iterator.ensures.into_iter_gives ∙ c.in_ok-items.ensures;
-  read = none_read c.args.coll.now c.args.object.now c.new.result.items c.new-2.result c.new.ensures.items c.new-2.ensures;
+  read = none_read c.args.width c.args.coll.now c.args.object.now c.new.result.items c.new-2.result c.new.ensures.items c.new-2.ensures;
 }
 
 pub add_shard-requires : goal.add_shard-requires
@@ -23,13 +24,17 @@ add_shard-requires c =
     let object = c.args.object.now in
     let es = rows_from_to c.args.rows.now.rows (shard_key coll object 0) (Some (object_key 0x4f coll object (0x70 ∷ []))) in
     let x = c.in-Some.field-0.now in
-    let all : AllByRecursion (IsShardEntry coll object) es = range_is_shards coll object c.coll_name_is_one.ensures c.name_is_one.ensures c.requires.sup c.args.rows.now.rows c.requires.good in
+    let all : AllByRecursion (IsShardEntry c.args.width coll object) es = range_is_shards c.args.width coll object c.coll_name_is_one.ensures
+    c.name_is_one.ensures c.requires.store.sup c.args.rows.now.rows c.requires.store.good c.requires.wide in
     let more = left_more es c.loop-value.invariant.at x c.next.new.self (sym c.loop-value.invariant.left ∙ c.in-Some.ensures.steps) in
-    let shards = shards_by_entries coll object es all in
-    let are = range_has_all coll object c.coll_name_is_one.ensures c.name_is_one.ensures c.requires.sup c.args.rows.now.rows c.requires.good
+    let shards = shards_by_entries c.args.width coll object es all in
+    let are = range_has_all c.args.width coll object c.coll_name_is_one.ensures c.name_is_one.ensures c.requires.store.sup c.args.rows.now.rows
+    c.requires.store.good c.requires.wide
     shards.0 shards.1.fit shards.1.entries_are in
-    let numbers = numbers_of c.args.rows.now.rows coll object c.coll_name_is_one.ensures c.name_is_one.ensures c.requires shards.0 are in
-    value_at coll object c.as_slice.result.now es shards.0 c.loop-value.invariant.at x shards.1 numbers more.0 more.1 c.as_slice.ensures
+    let numbers =
+    numbers_of c.args.rows.now.rows coll object c.coll_name_is_one.ensures c.name_is_one.ensures c.requires.store shards.0
+    (subst (λ w. AreShardsOf w c.args.rows.now.rows coll object shards.0) (sym c.requires.wide) are) in
+    value_at c.args.width coll object c.as_slice.result.now es shards.0 c.loop-value.invariant.at x shards.1 numbers more.0 more.1 c.as_slice.ensures
 
 pub loop-value-preserved : goal.loop-value-preserved
 loop-value-preserved c =
@@ -38,14 +43,15 @@ loop-value-preserved c =
     let es = rows_from_to c.args.rows.now.rows (shard_key coll object 0) (Some (object_key 0x4f coll object (0x70 ∷ []))) in
     let at = c.loop-value.invariant.at in
     let x = c.in-Some.field-0.now in
-    let all : AllByRecursion (IsShardEntry coll object) es = range_is_shards coll object c.coll_name_is_one.ensures c.name_is_one.ensures c.requires.sup c.args.rows.now.rows c.requires.good in
+    let all : AllByRecursion (IsShardEntry c.args.width coll object) es = range_is_shards c.args.width coll object c.coll_name_is_one.ensures
+    c.name_is_one.ensures c.requires.store.sup c.args.rows.now.rows c.requires.store.good c.requires.wide in
     let more = left_more es at x c.next.new.self (sym c.loop-value.invariant.left ∙ c.in-Some.ensures.steps) in
     record {
       can_next = tt;
       finite = tt;
       at = at + 1;
       left = more.2;
-      read = read_more coll object c.as_slice.result.now es at x c.loop-value.shards.firsts.items c.add_shard.new.shards.firsts.items
+      read = read_more c.args.width coll object c.as_slice.result.now es at x c.loop-value.shards.firsts.items c.add_shard.new.shards.firsts.items
           c.loop-value.shards.pages c.add_shard.new.shards.pages all more.0 more.1 c.as_slice.ensures c.in_ok-add_shard.ensures
           c.loop-value.invariant.read;
     }
@@ -58,8 +64,10 @@ returns c =
     let at = c.loop-value.invariant.at in
     let firsts = c.loop-value.shards.firsts.items in
     let pages = c.loop-value.shards.pages in
-    let read : AreRead coll object es firsts pages =
-    all_read coll object firsts es at pages (left_none es at (sym c.loop-value.invariant.left ∙ c.in-None.ensures.steps.0)) c.loop-value.invariant.read in
-    let are = range_has_all coll object c.coll_name_is_one.ensures c.name_is_one.ensures c.requires.sup c.args.rows.now.rows c.requires.good
+    let read : AreRead c.args.width coll object es firsts pages =
+    all_read c.args.width coll object firsts es at pages
+    (left_none es at (sym c.loop-value.invariant.left ∙ c.in-None.ensures.steps.0)) c.loop-value.invariant.read in
+    let are = range_has_all c.args.width coll object c.coll_name_is_one.ensures c.name_is_one.ensures c.requires.store.sup c.args.rows.now.rows
+    c.requires.store.good c.requires.wide
     read.shards read.fit read.entries_are in
     record { shards = read.shards; are = are; firsts_are = read.firsts_are; pages_are = read.pages_are }

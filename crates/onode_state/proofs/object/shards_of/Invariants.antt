@@ -10,6 +10,8 @@ invariant-loop-value l = record {
   finite : (goal.iterator-loop-value).is_finite l.value-iterator;
   at : ℕ;
   left : l.value-iterator ≡ drop at (rows_from_to l.fn.rows.rows (shard_key l.fn.coll l.fn.object 0) (Some (object_key 0x4f l.fn.coll l.fn.object (0x70 ∷ []))));
-  read : AreRead l.fn.coll l.fn.object (take at (rows_from_to l.fn.rows.rows (shard_key l.fn.coll l.fn.object 0) (Some (object_key 0x4f l.fn.coll l.fn.object (0x70 ∷ []))))) l.shards.firsts.items
+  read : AreRead l.width l.fn.coll l.fn.object
+      (take at (rows_from_to l.fn.rows.rows (shard_key l.fn.coll l.fn.object 0)
+      (Some (object_key 0x4f l.fn.coll l.fn.object (0x70 ∷ []))))) l.shards.firsts.items
       l.shards.pages;
 }

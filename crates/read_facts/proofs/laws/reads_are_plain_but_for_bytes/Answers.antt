@@ -2,4 +2,4 @@ use Rattle.read_facts.proofs.Plain.{plain_answer}
 use Rattle.read_facts.proofs.laws.reads_are_plain_but_for_bytes.Goals as goal
 
 pub returns : goal.returns
-returns c = λ d rows objects command a shape names is. plain_answer rows objects shape d command a names is
+returns c = λ w d rows objects command a shape names is. plain_answer w rows objects shape d command a names is

@@ -1,4 +1,4 @@
-use Rattle.std.proofs.Common.{◌≡◌, true, false, sym, ◌∙◌}
+use Rattle.std.proofs.Common.{◌≡◌, true, false, sym, subst, ◌∙◌}
 use Rattle.store_image.specs.BadRows.{IsInPlace}
 use Rattle.row_reading.specs.Reading.{row_of, SpellsRow}
 use Rattle.row_check.proofs.Shards.{no_good}
@@ -7,7 +7,8 @@ use Rattle.row_check.proofs.bad.good_row.Goals as goal
 pub returns-else-branch : goal.returns-else-branch
 returns-else-branch c =
     let row = row_of c.in-Some.row in
-    let spells : SpellsRow c.args.key.now c.args.value.now row = rw c.in-Some.is at c.in_ok-row.ensures in
+    let read : SpellsRow c.width.result c.args.key.now c.args.value.now row = rw c.in-Some.is at c.in_ok-row.ensures in
+    let spells = subst (λ w. SpellsRow w c.args.key.now c.args.value.now row) c.width.ensures read in
     let apart : ¬ (IsInPlace c.args.sup.now c.args.rows.now.rows row) = λ place.
     let yes = c.in_ok-is_in_place.ensures.1 place in
     let never : true ≡ false = sym yes ∙ c.if-branch.false in cc in

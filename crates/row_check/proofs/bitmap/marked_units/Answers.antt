@@ -1,6 +1,7 @@
 use Rattle.std.proofs.Common.{sym, subst}
 use Rattle.store_image.specs.Owners.{IsLeastInexact}
 use Rattle.bitmap_freelist.proofs.GoodBitmaps.{bitmap_rows}
+use Rattle.meta_log.specs.Slots.{width_of}
 use Rattle.row_check.proofs.ExactUnits.{AreUnitsOf, found_exact, found_inexact}
 use Rattle.row_check.proofs.bitmap.marked_units.Goals as goal
 
@@ -12,15 +13,15 @@ returns-in-Some-clause-inexact c =
     let rows = c.args.rows.now.rows in
     let owners = c.in_ok-owners.owners in
     let marked = c.in_ok-marked.marked in
-    let are : AreUnitsOf rows owners.owned owners.shared marked c.args.sup.now.units = record {
+    let are : AreUnitsOf (width_of c.args.sup.now) rows owners.owned owners.shared marked c.args.sup.now.units = record {
       owned_are = c.in_ok-owners.ensures.owned;
       shared_are = c.in_ok-owners.ensures.shared;
       marked_are = c.in_ok-marked.ensures;
       below = c.in_ok-owners.ensures.below;
       most = c.requires.limits.units_most;
     } in
-    subst (IsLeastInexact rows) (sym c.new.ensures)
-    (found_inexact rows owners.owned owners.shared marked c.args.sup.now.units are c.least_wrong.result c.in-Some.unit
+    subst (IsLeastInexact (width_of c.args.sup.now) rows) (sym c.new.ensures)
+    (found_inexact (width_of c.args.sup.now) rows owners.owned owners.shared marked c.args.sup.now.units are c.least_wrong.result c.in-Some.unit
     c.least_wrong.ensures c.in-Some.is)
 
 pub returns-clause-exact : goal.returns-clause-exact
@@ -28,11 +29,12 @@ returns-clause-exact c =
     let rows = c.args.rows.now.rows in
     let owners = c.in_ok-owners.owners in
     let marked = c.in_ok-marked.marked in
-    let are : AreUnitsOf rows owners.owned owners.shared marked c.args.sup.now.units = record {
+    let are : AreUnitsOf (width_of c.args.sup.now) rows owners.owned owners.shared marked c.args.sup.now.units = record {
       owned_are = c.in_ok-owners.ensures.owned;
       shared_are = c.in_ok-owners.ensures.shared;
       marked_are = c.in_ok-marked.ensures;
       below = c.in_ok-owners.ensures.below;
       most = c.requires.limits.units_most;
     } in
-    found_exact rows owners.owned owners.shared marked c.args.sup.now.units are c.least_wrong.result c.least_wrong.ensures c.in-None.is
+    found_exact (width_of c.args.sup.now) rows owners.owned owners.shared marked c.args.sup.now.units are c.least_wrong.result
+    c.least_wrong.ensures c.in-None.is

@@ -1,5 +1,6 @@
 use Rattle.std.proofs.Common.{◌≡◌, ℕ, [], None, drop}
 use Rattle.meta_rows.specs.Table.{rows_from_to}
+use Rattle.meta_log.specs.Slots.{width_of}
 use Rattle.row_check.proofs.MarkedRows.{MarkedTo}
 use Rattle.row_check.proofs.owners.marks_of.Given as goal
 
@@ -9,5 +10,5 @@ invariant-loop-key l = record {
   finite : (goal.iterator-loop-key).is_finite l.key-iterator;
   at : ℕ;
   left : l.key-iterator ≡ drop at (rows_from_to l.fn.rows.rows [] None);
-  marked : MarkedTo (rows_from_to l.fn.rows.rows [] None) at l.fn.sup.units l.marks;
+  marked : MarkedTo (width_of l.fn.sup) (rows_from_to l.fn.rows.rows [] None) at l.fn.sup.units l.marks;
 }

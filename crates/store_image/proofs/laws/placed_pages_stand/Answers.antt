@@ -1,5 +1,6 @@
+use Rattle.meta_log.specs.Slots.{width_of}
 use Rattle.store_image.proofs.PageUnits.{some_unit}
 use Rattle.store_image.proofs.laws.placed_pages_stand.Goals as goal
 
 pub returns : goal.returns
-returns c s rows good = some_unit rows
+returns c s rows good = some_unit (width_of s) rows

@@ -16,8 +16,9 @@ returns-in_default c =
     let present = c.args.present.now in
     let ops = c.args.ops.now in
     let new = c.drop_shards.new.ops in
-    on_ok_with (new ≡ ops ++ drops coll object (filter (is_of part.All) present)) (new ≡ ops ++ shard_ops coll object (extents_of ps) present)
-    c.drop_shards.result (all_dropped coll object (extents_of ps) present ops new
+    on_ok_with (new ≡ ops ++ drops coll object (filter (is_of part.All) present))
+    (new ≡ ops ++ shard_ops c.args.width coll object (extents_of ps) present)
+    c.drop_shards.result (all_dropped c.args.width coll object (extents_of ps) present ops new
     (none_first ps (c.in_default.ensures.value ∙ ap (λ l. slice_get l 0) c.pages.ensures))) c.drop_shards.ensures
 
 pub returns : goal.returns
@@ -31,8 +32,10 @@ returns c =
     let with_new = c.push.new.self in
     let new = c.drop_shards-3.new.ops in
     let found = some_first ps c.in-Some.lowest.now (c.in-Some.ensures.value ∙ ap (λ l. slice_get l 0) c.pages.ensures) in
-    on_ok_with (new ≡ with_new ++ drops coll object (filter (is_of (part.Above first)) present)) (new ≡ ops ++ shard_ops coll object (extents_of ps) present)
+    on_ok_with (new ≡ with_new ++ drops coll object (filter (is_of (part.Above first)) present))
+    (new ≡ ops ++ shard_ops c.args.width coll object (extents_of ps) present)
     c.drop_shards-3.result
-    (parts_replaced coll object (extents_of ps) present ops found.0 found.1 first c.in_ok-shard_set.field-0 c.drop_shards-2.new.ops with_new new
+    (parts_replaced c.args.width coll object
+    (extents_of ps) present ops found.0 found.1 first c.in_ok-shard_set.field-0 c.drop_shards-2.new.ops with_new new
     found.3 (sym found.2) c.in_ok-drop_shards.ensures c.in_ok-shard_set.ensures c.in_ok-push.ensures.ok)
     c.drop_shards-3.ensures

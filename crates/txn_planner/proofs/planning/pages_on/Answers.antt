@@ -24,15 +24,15 @@ returns c =
     let flips = c.in_ok-flips.flips.items in
     let sum : c.from.result + c.from-2.result ≡ first + length units = omega (arith, c.from.ensures, c.from-2.ensures) in
     record {
-      writes = writes_pages rows c.args.coll.now c.args.object.now first c.args.bytes.now units c.in_ok-size.field-0.shards.items size
+      writes = writes_pages c.args.width rows c.args.coll.now c.args.object.now first c.args.bytes.now units c.in_ok-size.field-0.shards.items size
           c.max.result c.in_ok-size.field-0.pages c.lay_pages.new.pages c.replace_shards.new.ops flips c.from_vec.result c.in_ok-released.released
           c.in_ok-size.ensures
           (c.in_ok-lay_pages.ensures.put
           ∙ ap (λ bytes. with_pages c.in_ok-size.field-0.pages (new_pages first 0 units bytes)) same)
           (c.max.ensures ∙ ap (λ n. max size (4096 * n)) sum)
           (c.in_ok-replace_shards.ensures
-          ∙ ap (λ l. l ++ shard_ops c.args.coll.now c.args.object.now extents c.deref.result.now) c.in_ok-ops.ensures
-          ∙ ap (λ firsts. object_ops rows c.args.coll.now c.args.object.now c.max.result extents firsts) c.deref.ensures.value)
+          ∙ ap (λ l. l ++ shard_ops c.args.width c.args.coll.now c.args.object.now extents c.deref.result.now) c.in_ok-ops.ensures
+          ∙ ap (λ firsts. object_ops c.args.width rows c.args.coll.now c.args.object.now c.max.result extents firsts) c.deref.ensures.value)
           (c.in_ok-released.ensures
           ∙ ap (λ (ps : List (ℕ × Place)). flat_map (λ p. own_units p.1) (where_key nat_cmp (is_in first (first + length units)) ps)) c.pages-2.ensures)
           (subst (λ us. TurnsBits units us flips) c.as_slice-2.ensures c.in_ok-flips.ensures)

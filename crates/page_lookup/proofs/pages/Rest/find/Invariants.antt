@@ -6,8 +6,8 @@ use Rattle.page_lookup.proofs.pages.Rest.find.Given as goal
 -- what was left out ends in front of the page
 abbrev pub invariant-shards : goal.invariant-shards
 invariant-shards l =
-    EndBehind l.page (extents_read l.self-inside.front.now)
-    × FindAlike l.page (extents_read l.self-inside.front.now ++ rows_read l.self-inside.rows) l.fn.self
+    EndBehind l.page (extents_read l.self-inside.width l.self-inside.front.now)
+    × FindAlike l.page (extents_read l.self-inside.width l.self-inside.front.now ++ rows_read l.self-inside.width l.self-inside.rows) l.fn.self
 
 abbrev pub decreases-shards : goal.decreases-shards
 decreases-shards l = length l.self-inside.rows

@@ -5,4 +5,4 @@ pub answer-requires-clause-readable : goal.answer-requires-clause-readable
 answer-requires-clause-readable g c =
     let may = rw (← c.self.view_is) at c.requires.may in
     let can = rw (← c.self.view_is) at c.requires.can_note in
-    readable _ _ c.self.invariant.kept can.up (may.drained can.up)
+    rw (c.width-width.ensures) (readable _ _ c.self.invariant.kept can.up (may.drained can.up))

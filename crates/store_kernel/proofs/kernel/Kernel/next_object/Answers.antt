@@ -6,4 +6,4 @@ pub next_object-requires : goal.next_object-requires
 next_object-requires g c =
     let drained = rw (← c.self.view_is) at c.requires in
     let up : c.self.inside.down ≡ None = search rules in
-    record { readable = readable _ _ c.self.invariant.kept up (drained up) }
+    record { readable = rw (c.width-width.ensures) (readable _ _ c.self.invariant.kept up (drained up)) }

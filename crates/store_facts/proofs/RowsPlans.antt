@@ -1,18 +1,14 @@
 -- What the plan of a transaction takes of the free units, and that it is one of those that good rows stay good by.
-use Rattle.std.proofs.Common.{◌≡◌, inl, inr, ℕ, zero, suc, ◌+◌, ◌/◌, ◌<◌, ◌≤◌, ◌^◌, true, List, [], ◌∷◌, length, map, take, get_or, Contains, refl, sym, ap, subst, ◌∙◌, arith}
+use Rattle.std.proofs.Common.{◌≡◌, inl, inr, ℕ, zero, suc, ◌<◌, ◌≤◌, ◌^◌, true, List, [], ◌∷◌, length, map, take, get_or, Contains, refl, sym, ap, subst, ◌∙◌, arith}
 use Rattle.meta_log.specs.Slots.{width_of}
 use Rattle.unit_fields.specs.declared.width.Width.{Width}
 use Rattle.std.specs.List.{AllByRecursion, Any}
 use Rattle.std.proofs.lemmas.List.{length-map, length-take-le}
-use Rattle.byte_maps.specs.Units.{unit_at}
-use Rattle.crc32c_csum.specs.Crc32c.{crc32c}
 use Rattle.meta_rows.specs.Rows.{Rows}
 use Rattle.meta_rows.specs.Spelling.{ops_bytes, AllFit}
 use Rattle.meta_log.specs.declared.slot.Super.{Super}
 use Rattle.meta_log.specs.Records.{unit_count}
 use Rattle.meta_log.specs.Slots.{IsSuper}
-use Rattle.object_model.specs.Effect.{object_limit}
-use Rattle.object_model.specs.Limits.{payload_limit}
 use Rattle.object_model.specs.declared.op.Op.{Op}
 use Rattle.object_model.specs.declared.op.Op.TheVariants.{MkColl, Touch, Write}
 use Rattle.unit_fields.specs.UnitSet.{Ascends}
@@ -26,9 +22,10 @@ use Rattle.object_rows.proofs.PagesOn.{units_of_pages}
 use Rattle.object_rows.proofs.Planned.{plan_facts, planned_fresh, planned_ascend, same_count}
 use Rattle.unit_allocator.specs.Units.{Space, IsWithin, is_free, free_units}
 use Rattle.unit_allocator.proofs.Lists.{Contains-head, Contains-tail, Contains-cases}
-use Rattle.unit_allocator.proofs.FreeUnits.{listed_is_free, free_units_ascend}
-use Rattle.store_steps.specs.Planning.{PlansObject, Plans, units_taken}
+use Rattle.unit_allocator.proofs.FreeUnits.{listed_is_free}
+use Rattle.store_steps.specs.Planning.{AreFreeOver, PlansObject, Plans, units_taken}
 use Rattle.store_steps.specs.Submit.{IsKnown}
+use Rattle.store_steps.proofs.FreeOver.{all_taken, all_listed, can_plan}
 use Rattle.store_facts.specs.Space.{AreGoodRows, IsSpaceOf, IsFreeExactly}
 use Rattle.store_facts.proofs.SpaceUnits.{within_data}
 
@@ -37,20 +34,6 @@ abbrev pub units_of : List FreshUnit → List ℕ
 units_of fresh = map (λ f. f.unit) fresh
 
 -- ---- lists
-
-all_taken : {A : Type 0} (P : A → Type 0) (n : ℕ) (xs : List A) → AllByRecursion P xs → AllByRecursion P (take n xs)
-all_taken P zero xs all = tt
-all_taken P (suc n) [] all = tt
-all_taken P (suc n) (x ∷ xs) all = (all.0, all_taken P n xs all.1)
-
-ascend_taken : (n : ℕ) (us : List ℕ) → Ascends us → Ascends (take n us)
-ascend_taken zero us ascend = tt
-ascend_taken (suc n) [] ascend = tt
-ascend_taken (suc n) (u ∷ us) ascend = (all_taken (λ v. u < v) n us ascend.0, ascend_taken n us ascend.1)
-
-pub all_listed : (P : ℕ → Type 0) (us : List ℕ) → ((u : ℕ) → Contains us u → P u) → AllByRecursion P us
-all_listed P [] each = tt
-all_listed P (u ∷ us) each = (each u (Contains-head u us), all_listed P us (λ v c. each v (Contains-tail u v us c)))
 
 pub listed_all : (P : ℕ → Type 0) (us : List ℕ) (u : ℕ) → AllByRecursion P us → Contains us u → P u
 listed_all P [] u all c = absurd (omega (arith, c.1))
@@ -101,16 +84,16 @@ object_takes w c op rows space plan p = ap units_of p.fresh ∙ units_of_pages (
 pub plan_takes : (w : Width) (c : List ℕ) (ops : List Op) (rows : Rows) (space : Space) (plan : Plan) → IsKnown ops → Plans w c ops rows space plan
     → units_of plan.fresh ≡ take (units_taken ops) (free_units space)
 plan_takes w c (MkColl ∷ []) rows space plan known plans = ap units_of plans.makes.none_fresh
-plan_takes w c (Touch o ∷ []) rows space plan known plans = object_takes w c (Touch o) rows space plan plans.makes
-plan_takes w c (Write o off bytes ∷ []) rows space plan known plans = object_takes w c (Write o off bytes) rows space plan plans.makes
+plan_takes w c (Touch o ∷ []) rows space plan known plans = object_takes w c (Touch o) rows space plan plans
+plan_takes w c (Write o off bytes ∷ []) rows space plan known plans = object_takes w c (Write o off bytes) rows space plan plans
 plan_takes w c ops rows space plan known plans = absurd known
 
 -- and there are as many
 pub plan_enough : (w : Width) (c : List ℕ) (ops : List Op) (rows : Rows) (space : Space) (plan : Plan) → IsKnown ops → Plans w c ops rows space plan
     → units_taken ops ≤ length (free_units space)
 plan_enough w c (MkColl ∷ []) rows space plan known plans = omega arith
-plan_enough w c (Touch o ∷ []) rows space plan known plans = plans.makes.enough
-plan_enough w c (Write o off bytes ∷ []) rows space plan known plans = plans.makes.enough
+plan_enough w c (Touch o ∷ []) rows space plan known plans = plans.enough
+plan_enough w c (Write o off bytes ∷ []) rows space plan known plans = plans.enough
 plan_enough w c ops rows space plan known plans = absurd known
 
 -- so each is free
@@ -135,7 +118,7 @@ few_taken : (w : Width) (c : List ℕ) (ops : List Op) (rows : Rows) (space : Sp
     → units_taken ops ≤ 256
 few_taken w c (MkColl ∷ []) rows space plan known plans = omega arith
 few_taken w c (Touch o ∷ []) rows space plan known plans = omega arith
-few_taken w c (Write o off bytes ∷ []) rows space plan known plans = omega (arith, plans.short)
+few_taken w c (Write o off bytes ∷ []) rows space plan known plans = omega (arith, plans.taken.1)
 few_taken w c ops rows space plan known plans = absurd known
 
 -- ---- the plan is one of the rows
@@ -143,51 +126,26 @@ few_taken w c ops rows space plan known plans = absurd known
 -- what is free isn't marked in these rows, and so has no owner, whatever the committed ones are
 module _ (s : Super) (committed rows : Rows) (space : Space) (limits : IsSuper s) (good : AreGoodRows s committed rows)
     (is_space : IsSpaceOf s space) (free : IsFreeExactly s committed rows space) where
-  free_facts : (u : ℕ) → Contains (free_units space) u → IsDataUnit s u × (u < 2 ^ 32) × ¬ IsMarked rows u
-  free_facts u k =
-      let is = listed_is_free space u k in
-      let on : IsDataUnit s u = within_data s space u is_space is.within in
-      (on, omega (arith, on.1, limits.units_most), ((free u on).0 is.free).1)
-
-  each_lowest : (P : ℕ → Type 0) (n : ℕ) → ((u : ℕ) → Contains (free_units space) u → P u) → AllByRecursion P (take n (free_units space))
-  each_lowest P n each = all_taken P n (free_units space) (all_listed P (free_units space) each)
-
-  lowest_fresh : (n : ℕ) → planned_as.AreFresh s rows (take n (free_units space))
-  lowest_fresh n = record {
-    ascend = ascend_taken n (free_units space) (free_units_ascend space);
-    on_data = each_lowest (λ u. IsDataUnit s u) n (λ u k. (free_facts u k).0);
-    free = each_lowest (λ u. ¬ IsOwned (width_of s) rows u) n (λ u k owned. (free_facts u k).2 (good.exact.owned_marked u owned));
-    unmarked = each_lowest (λ u. ¬ IsMarked rows u) n (λ u k. (free_facts u k).2);
-    fit = each_lowest (λ u. u < 2 ^ 32) n (λ u k. (free_facts u k).1);
+  pub free_over : AreFreeOver s rows space
+  free_over = record {
+    limits = limits;
+    good = good.good;
+    free = λ u k.
+        let is = listed_is_free space u k in
+        let on : IsDataUnit s u = within_data s space u is_space is.within in
+        let unmarked : ¬ IsMarked rows u = ((free u on).0 is.free).1 in
+        (on, λ owned. unmarked (good.exact.owned_marked u owned), unmarked);
   }
-
-  pub can_plan : (c o : List ℕ) (off : ℕ) (bytes units : List ℕ) → IsKnown (Write o off bytes ∷ []) → planned_as.IsInColl c o rows
-      → length bytes ≤ payload_limit → off + length bytes ≤ object_limit → length bytes / 4096 ≤ length (free_units space)
-      → units ≡ take (length bytes / 4096) (free_units space) → ((i : ℕ) → i < length units → crc32c (unit_at i bytes) < 2 ^ 32)
-      → planned_as.CanPlanWrite s rows c o (off / 4096) bytes units
-  can_plan c o off bytes units known in_coll short within enough lowest csums_fit =
-      let count : length units ≡ length bytes / 4096 = ap length lowest ∙ length-take-le (length bytes / 4096) (free_units space) enough in
-      record {
-        in_coll = in_coll;
-        units_most = omega (arith, limits.units_most);
-        fresh = subst (planned_as.AreFresh s rows) (sym lowest) (lowest_fresh (length bytes / 4096));
-        some = omega (arith, count, known.1, known.2);
-        whole = omega (arith, count, known.1);
-        short = short;
-        within = omega (arith, known.0, count, known.1, within);
-        csums_fit = csums_fit;
-      }
 
   pub planned : (c : List ℕ) (ops : List Op) (plan : Plan) → IsKnown ops → Plans (width_of s) c ops rows space plan
       → planned_as.IsPlanned s rows (record { coll = c; ops = ops }) plan
-  planned c (MkColl ∷ []) plan known plans = planned_as.makes_coll c plan plans.named plans.missing plans.makes
-  planned c (Touch o ∷ []) plan known plans =
-      let m = plans.makes in planned_as.changes_object c (Touch o) m.units m.layout plan (plans.in_coll, m.lowest) m.has m.makes m.fresh
-  planned c (Write o off bytes ∷ []) plan known plans =
-      let m = plans.makes in
-      let can = can_plan c o off bytes m.units known plans.in_coll plans.short plans.within m.enough m.lowest m.csums_fit in
-      planned_as.changes_object c (Write o off bytes) m.units m.layout plan (known.0, can) m.has m.makes m.fresh
-  planned c ops plan known plans = absurd known
+  planned c (MkColl ∷ []) plan known p = planned_as.makes_coll c plan p.named p.missing p.makes
+  planned c (Touch o ∷ []) plan known p =
+      planned_as.changes_object c (Touch o) p.units p.layout plan (p.taken, p.lowest) p.has p.makes p.fresh
+  planned c (Write o off bytes ∷ []) plan known p =
+      let can = can_plan s rows space free_over c o off bytes p.units known p.taken p.enough p.lowest p.csums_fit in
+      planned_as.changes_object c (Write o off bytes) p.units p.layout plan (known.0, can) p.has p.makes p.fresh
+  planned c ops plan known p = absurd known
 
 -- ---- what its record and its data writes take
 

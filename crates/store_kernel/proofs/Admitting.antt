@@ -23,7 +23,7 @@ use Rattle.store_steps.specs.Runs.{MaySubmit}
 use Rattle.store_facts.specs.Kept.{IsKept}
 use Rattle.store_facts.proofs.Kept.{idle_of}
 use Rattle.store_facts.proofs.RowsKept.{AreRowsKept, rows_of_kept}
-use Rattle.store_facts.proofs.RowsPlans.{units_of, plan_takes_free, planned, PlanFits, plan_fits}
+use Rattle.store_facts.proofs.RowsPlans.{units_of, plan_takes_free, free_over, planned, PlanFits, plan_fits}
 use Rattle.onode_state.specs.Objects.{AreRowsOfWidth}
 use Rattle.txn_planner.specs.PlanFails.{IsPlanFor}
 use Rattle.store_kernel.specs.declared.batch.OpenBatch.{OpenBatch}
@@ -31,7 +31,6 @@ use Rattle.store_kernel.specs.declared.prepared.Prepared.{Prepared}
 use Rattle.store_kernel.specs.Prepared.{IsPlanOf, IsPrepared, context_at}
 use Rattle.store_kernel.specs.Seen.{listed, state_of}
 use Rattle.store_kernel.specs.Units.{CanBeTaken}
-use Rattle.store_kernel.proofs.Given.{given_plans}
 
 -- ---- preparing
 
@@ -47,8 +46,7 @@ given s d change plan kept can known is =
     let rows : AreRowsKept s = rows_of_kept s d kept can.up in
     record {
       not_refused = is.not_refused;
-      plans = given_plans s.log.sup s.log.rows s.submitted s.space kept.always.limits rows.good rows.space rows.free change.coll change.ops plan
-          known is.gives;
+      plans = is.plans s.log.sup refl (free_over s.log.sup s.log.rows s.submitted s.space kept.always.limits rows.good rows.space rows.free);
     }
 
 -- what a plan's record and its data writes take

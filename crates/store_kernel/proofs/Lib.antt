@@ -1,6 +1,5 @@
 pub mod SpaceCalls
 pub mod NextWrites
-pub mod Given
 pub mod Admitting
 pub mod Sending
 pub mod Batches

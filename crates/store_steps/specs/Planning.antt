@@ -1,5 +1,5 @@
 -- What an accepted transaction makes of the submitted rows: the row operations, the units that it takes and those that it releases.
-use Rattle.std.specs.Prelude.{◌≡◌, ℕ, ◌+◌, ◌<◌, ◌≤◌, ◌^◌, ◌/◌, List, [], ◌∷◌, length, take, None}
+use Rattle.std.specs.Prelude.{◌≡◌, ℕ, ◌+◌, ◌<◌, ◌≤◌, ◌^◌, ◌/◌, List, [], ◌∷◌, length, take, None, Contains}
 use Rattle.unit_fields.specs.declared.width.Width.{Width}
 use Rattle.std.specs.FinMap as finite
 use Rattle.byte_maps.specs.Units.{unit_at}
@@ -9,8 +9,12 @@ use Rattle.object_model.specs.declared.op.Op.TheVariants.{MkColl, Touch, Write}
 use Rattle.object_model.specs.Effect.{object_limit}
 use Rattle.object_model.specs.Limits.{payload_limit}
 use Rattle.meta_rows.specs.Rows.{Rows}
+use Rattle.meta_log.specs.declared.slot.Super.{Super}
+use Rattle.meta_log.specs.Slots.{IsSuper, width_of}
 use Rattle.unit_fields.specs.Names.{IsCollName}
 use Rattle.row_format.specs.Keys.{coll_key}
+use Rattle.store_image.specs.BadRows.{NoBadRow}
+use Rattle.store_image.specs.Owners.{IsDataUnit, IsOwned, IsMarked}
 use Rattle.object_rows.specs.declared.plan.Plan.{Plan}
 use Rattle.object_rows.specs.Layouts.{Layout, HasLayout, made_of, MakesColl, MakesLayout}
 use Rattle.object_rows.specs.Planned.{pages_on, IsInColl, object_of, bytes_of}
@@ -21,8 +25,22 @@ abbrev pub units_taken : List Op → ℕ
 units_taken (Write o off bytes ∷ []) = length bytes / 4096
 units_taken ops = 0
 
+-- The superblock is within its limits, no row is bad, and each free unit is a data unit that nobody owns and whose bit is 0.
+pub record AreFreeOver (s : Super) (rows : Rows) (space : Space) : Type 0 where
+  pub limits : IsSuper s
+  pub good : NoBadRow s rows
+  pub free : (unit : ℕ) → Contains (free_units space) unit → IsDataUnit s unit × (¬ IsOwned (width_of s) rows unit) × (¬ IsMarked rows unit)
+
+-- What an operation on an object asks of the rows and of its arguments: the collection is there, and what is written is within the limits of a
+-- transaction and of an object. An operation that the store doesn't know yet is never taken.
+abbrev pub IsTaken : Rows → List ℕ → Op → Type 0
+IsTaken rows c (Touch o) = IsInColl c o rows
+IsTaken rows c (Write o off bytes) = IsInColl c o rows × (length bytes ≤ payload_limit) × (off + length bytes ≤ object_limit)
+IsTaken rows c op = ⊥
+
 -- The layout of the operation's object becomes what the operation makes of it. Each page takes the lowest free unit that is left.
 pub record PlansObject (w : Width) (c : List ℕ) (op : Op) (rows : Rows) (space : Space) (plan : Plan) : Type 0 where
+  pub taken : IsTaken rows c op
   pub units : List ℕ
   pub enough : units_taken (op ∷ []) ≤ length (free_units space)
   pub lowest : units ≡ take (units_taken (op ∷ [])) (free_units space)
@@ -38,21 +56,8 @@ pub record PlansColl (c : List ℕ) (rows : Rows) (plan : Plan) : Type 0 where
   pub missing : finite.get rows (coll_key c) ≡ None
   pub makes : MakesColl rows c plan
 
--- The object is made where it is missing.
-pub record PlansTouch (w : Width) (c o : List ℕ) (rows : Rows) (space : Space) (plan : Plan) : Type 0 where
-  pub in_coll : IsInColl c o rows
-  pub makes : PlansObject w c (Touch o) rows space plan
-
--- Whole pages are written, within the limits of a transaction and of an object.
-pub record PlansPages (w : Width) (c o : List ℕ) (off : ℕ) (bytes : List ℕ) (rows : Rows) (space : Space) (plan : Plan) : Type 0 where
-  pub in_coll : IsInColl c o rows
-  pub short : length bytes ≤ payload_limit
-  pub within : off + length bytes ≤ object_limit
-  pub makes : PlansObject w c (Write o off bytes) rows space plan
-
--- The plans of the transactions that the store knows so far: one makes a collection, one makes an object, one writes whole pages.
+-- The plans of a transaction of one operation: it makes the collection, or changes an object.
 abbrev pub Plans : Width → List ℕ → List Op → Rows → Space → Plan → Type 0
 Plans w c (MkColl ∷ []) rows space plan = PlansColl c rows plan
-Plans w c (Touch o ∷ []) rows space plan = PlansTouch w c o rows space plan
-Plans w c (Write o off bytes ∷ []) rows space plan = PlansPages w c o off bytes rows space plan
+Plans w c (op ∷ []) rows space plan = PlansObject w c op rows space plan
 Plans w c ops rows space plan = ⊥

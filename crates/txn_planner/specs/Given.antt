@@ -1,13 +1,10 @@
--- The plans that planning gives, operation by operation.
-use Rattle.std.specs.Prelude.{◌≡◌, ℕ, ◌+◌, ◌<◌, ◌≤◌, ◌^◌, ◌/◌, List, [], ◌∷◌, length, take, None}
+-- The plans that planning an operation gives, by the operations on rows that are found for it.
+use Rattle.std.specs.Prelude.{◌≡◌, ℕ, ◌<◌, ◌≤◌, ◌^◌, ◌/◌, List, [], length, take, None}
 use Rattle.unit_fields.specs.declared.width.Width.{Width}
 use Rattle.std.specs.FinMap as finite
 use Rattle.byte_maps.specs.Units.{unit_at}
 use Rattle.crc32c_csum.specs.Crc32c.{crc32c}
-use Rattle.object_model.specs.declared.op.Op.{Op}
-use Rattle.object_model.specs.declared.op.Op.TheVariants.{MkColl, Touch, Write}
-use Rattle.object_model.specs.Effect.{object_limit}
-use Rattle.object_model.specs.Limits.{payload_limit}
+use Rattle.object_model.specs.declared.op.Op.TheVariants.{Write}
 use Rattle.meta_rows.specs.Rows.{Rows}
 use Rattle.unit_fields.specs.Names.{IsCollName}
 use Rattle.row_format.specs.Keys.{coll_key}
@@ -16,6 +13,7 @@ use Rattle.object_rows.specs.declared.plan.Plan.{Plan}
 use Rattle.object_rows.specs.Plans.{WritesPages, touch_ops}
 use Rattle.object_rows.specs.Planned.{pages_on, IsInColl}
 use Rattle.unit_allocator.specs.Units.{Space, free_units}
+use Rattle.store_steps.specs.Planning.{IsTaken}
 
 -- the operation that makes a missing collection
 pub record GivesColl (c : List ℕ) (rows : Rows) (plan : Plan) : Type 0 where
@@ -30,20 +28,10 @@ pub record GivesTouch (c o : List ℕ) (rows : Rows) (plan : Plan) : Type 0 wher
 
 -- Each page takes the lowest free unit that is left, and releases the one that it stood on.
 pub record GivesPages (w : Width) (c o : List ℕ) (off : ℕ) (bytes : List ℕ) (rows : Rows) (space : Space) (plan : Plan) : Type 0 where
-  pub in_coll : IsInColl c o rows
-  pub short : length bytes ≤ payload_limit
-  pub within : off + length bytes ≤ object_limit
+  pub taken : IsTaken rows c (Write o off bytes)
   pub units : List ℕ
   pub enough : length bytes / 4096 ≤ length (free_units space)
   pub lowest : units ≡ take (length bytes / 4096) (free_units space)
   pub writes : WritesPages w rows c o (off / 4096) bytes units plan.ops plan.released
   pub fresh : plan.fresh ≡ pages_on units 0 bytes
   pub csums_fit : (i : ℕ) → i < length units → crc32c (unit_at i bytes) < 2 ^ 32
-
--- What planning a transaction gives. Where the free units are owned by nobody, its operations are the difference of the rows: so the plan is
--- one of `Plans`.
-abbrev pub Gives : Width → List ℕ → List Op → Rows → Space → Plan → Type 0
-Gives w c (MkColl ∷ []) rows space plan = GivesColl c rows plan
-Gives w c (Touch o ∷ []) rows space plan = GivesTouch c o rows plan
-Gives w c (Write o off bytes ∷ []) rows space plan = GivesPages w c o off bytes rows space plan
-Gives w c ops rows space plan = ⊥

@@ -4,19 +4,21 @@ use Rattle.unit_fields.specs.declared.width.Width.{Width}
 use Rattle.object_model.specs.Effect.{Change}
 use Rattle.object_model.specs.declared.command.Command.TheVariants as ask
 use Rattle.meta_rows.specs.Rows.{Rows}
+use Rattle.meta_log.specs.declared.slot.Super.{Super}
+use Rattle.meta_log.specs.Slots.{width_of}
 use Rattle.read_facts.specs.Refusals.{IsRefusedBy, IsNotRefused}
 use Rattle.object_rows.specs.declared.plan.Plan.{Plan}
 use Rattle.unit_allocator.specs.Units.{Space}
-use Rattle.store_steps.specs.Planning.{units_taken}
+use Rattle.store_steps.specs.Planning.{AreFreeOver, Plans, units_taken}
 use Rattle.store_steps.specs.Submit.{free_count}
-use Rattle.txn_planner.specs.Given.{Gives}
 use Rattle.txn_planner.specs.declared.planning.PlanFail.{PlanFail}
 use Rattle.txn_planner.specs.declared.planning.PlanFail.TheVariants as fail
 
--- plain objects of the rows' shape don't refuse the transaction, and this is its plan
+-- Plain objects of the rows' shape don't refuse the transaction. This is its plan where no row is bad and the free units are owned by nobody: then
+-- its operations are the difference of the rows.
 pub record IsPlanFor (w : Width) (change : Change) (rows : Rows) (space : Space) (plan : Plan) : Type 0 where
   pub not_refused : IsNotRefused rows (ask.Change change)
-  pub gives : Gives w change.coll change.ops rows space plan
+  pub plans : (s : Super) → width_of s ≡ w → AreFreeOver s rows space → Plans w change.coll change.ops rows space plan
 
 -- why there is no plan; want of memory comes of nothing that a clause sees
 abbrev pub IsPlanFail : Change → Rows → Space → PlanFail → Type 0

@@ -4,12 +4,15 @@ ghost use Rattle.std.specs.FinMap as finite;
 ghost use Rattle.object_model.specs.Effect.{object_limit};
 ghost use Rattle.object_model.specs.Limits.{is_too_large};
 ghost use Rattle.object_model.specs.declared.op.Op.TheVariants.{Write};
+ghost use Rattle.object_model.specs.declared.command.Command.TheVariants as ask;
+ghost use Rattle.read_facts.specs.Refusals.{IsNotRefused};
 ghost use Rattle.row_format.specs.Keys.{coll_key, onode_key};
 ghost use Rattle.row_facts.specs.Operations.{coll_ops, coll_change};
 ghost use Rattle.object_rows.specs.Plans.{touch_ops};
 ghost use Rattle.object_rows.specs.Writes.{touch_change};
 ghost use Rattle.store_steps.specs.Submit.{IsKnown};
 ghost use Rattle.onode_state.specs.Objects.{AreRowsOfWidth};
+ghost use Rattle.txn_planner.specs.Given.{GivesColl, GivesTouch, GivesPages};
 ghost use Rattle.txn_planner.specs.PlanFails.{IsPlanFor, IsPlanFail};
 ghost use Rattle.txn_planner.specs.Ops.{fail_of, op_change, WritesOn};
 ghost use Rattle.txn_planner.specs.declared.planning.PlanFail.TheVariants.{Memory};
@@ -163,7 +166,8 @@ fn plan_collection(
     space: &Allocator,
     coll: &CollName,
 ) -> Result<Plan, PlanFail>
-    ensures ok { (width : Width) → IfOk result (IsPlanFor width (coll_change coll.now) rows.now.rows space.now) }
+    ensures not_refused { IfOk result (λ plan. IsNotRefused rows.now.rows (ask.Change (coll_change coll.now))) }
+    ensures ok { IfOk result (GivesColl coll.now rows.now.rows) }
     ensures fail { IfErr result (IsPlanFail (coll_change coll.now) rows.now.rows space.now) }
 {
     coll_name_is_one(coll);
@@ -197,7 +201,8 @@ fn plan_touch(
     coll: &CollName,
     object: &Name,
 ) -> Result<Plan, PlanFail>
-    ensures ok { (width : Width) → IfOk result (IsPlanFor width (touch_change coll.now object.now) rows.now.rows space.now) }
+    ensures not_refused { IfOk result (λ plan. IsNotRefused rows.now.rows (ask.Change (touch_change coll.now object.now))) }
+    ensures ok { IfOk result (GivesTouch coll.now object.now rows.now.rows) }
     ensures fail { IfErr result (IsPlanFail (touch_change coll.now object.now) rows.now.rows space.now) }
 {
     coll_name_is_one(coll);
@@ -260,7 +265,8 @@ fn plan_write(
     requires known { IsKnown (Write object.now off bytes.now ∷ []) }
     requires small { is_too_large (op_change coll.now (Write object.now off bytes.now)) ≡ false }
     requires good { AreRowsOfWidth width rows.now.rows }
-    ensures ok { IfOk result (IsPlanFor width (op_change coll.now (Write object.now off bytes.now)) rows.now.rows space.now) }
+    ensures not_refused { IfOk result (λ plan. IsNotRefused rows.now.rows (ask.Change (op_change coll.now (Write object.now off bytes.now)))) }
+    ensures ok { IfOk result (GivesPages width coll.now object.now off bytes.now rows.now.rows space.now) }
     ensures fail { IfErr result (IsPlanFail (op_change coll.now (Write object.now off bytes.now)) rows.now.rows space.now) }
 {
     coll_name_is_one(coll);

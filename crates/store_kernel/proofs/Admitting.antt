@@ -40,9 +40,9 @@ rows_of_a_store s d kept can =
     record { store = record { sup = s.log.sup; limits = kept.always.limits; good = (rows_of_kept s d kept can.up).good.good }; wide = refl }
 
 -- what planning gives is a plan of the submitted rows
-pub given : (s : State) (d : Disk) (change : Change) (plan : Plan) → IsKept s d → CanNote s → IsKnown change.ops
+pub given : (s : State) (d : Disk) (change : Change) (plan : Plan) → IsKept s d → CanNote s
     → IsPlanFor (width_of s.log.sup) change s.submitted s.space plan → IsPlanOf change s plan
-given s d change plan kept can known is =
+given s d change plan kept can is =
     let rows : AreRowsKept s = rows_of_kept s d kept can.up in
     record {
       not_refused = is.not_refused;

@@ -1,7 +1,7 @@
 -- Rows that are the same but for those of the table say the same of collections and objects.
 use Rattle.std.proofs.Common.{◌≢◌, ◌↔◌, ℕ, List, [], ◌∷◌, is_some, sym, ap, ◌∙◌, arith}
-use Rattle.unit_fields.specs.declared.width.Width.{Width}
 use Rattle.std.specs.Prelude.{unwrap_or}
+use Rattle.unit_fields.specs.declared.width.Width.{Width}
 use Rattle.meta_rows.specs.Rows.{Rows, rows_after}
 use Rattle.meta_rows.specs.declared.row_op.RowOp.{RowOp}
 use Rattle.object_model.specs.Objects.{Object, Objects}

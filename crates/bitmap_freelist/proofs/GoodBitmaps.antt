@@ -1,6 +1,5 @@
 -- Rows of the table, where no row is bad.
 use Rattle.std.proofs.Common.{◌≡◌, inl, inr, ⊎_elim, ℕ, ◌/◌, ◌^◌, ◌<◌, List, [], ◌∷◌, Option, Some, None, refl}
-use Rattle.meta_log.specs.Slots.{width_of}
 use Rattle.std.proofs.Common.{is_some, sym, ap, subst, ◌∙◌, arith}
 use Rattle.std.specs.Prelude.{unwrap_or}
 use Rattle.std.specs.FinMap as map
@@ -8,6 +7,7 @@ use Rattle.std.specs.Int.{w32, to_be_bytes}
 use Rattle.meta_rows.specs.Rows.{Rows, rows_after}
 use Rattle.meta_rows.specs.declared.row_op.RowOp.{RowOp}
 use Rattle.meta_log.specs.declared.slot.Super.{Super}
+use Rattle.meta_log.specs.Slots.{width_of}
 use Rattle.row_format.specs.Bits.{bit_in}
 use Rattle.row_format.specs.Keys.{object_key, bitmap_key, coll_key, onode_key}
 use Rattle.row_format.specs.Row.{Row, collection, onode, shard, bitmap, row_key, row_value, FitsRow, FitsBitmap}

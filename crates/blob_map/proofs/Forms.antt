@@ -1,17 +1,17 @@
 -- The extents of pages fit, ascend, and are as long as they get.
 use Rattle.std.proofs.Common.{◌≡◌, ◌⊎◌, inl, inr, ℕ, zero, suc, ◌+◌, ◌-◌, ◌<◌, ◌≤◌, ◌^◌, true, false, cond, T, List, [], ◌∷◌, ◌++◌, map, Some, refl, sym, ap, subst, ◌∙◌, arith}
-use Rattle.unit_fields.specs.declared.width.Width.{Width}
 use Rattle.std.specs.List.{range_with_len, flat_map, AllByRecursion}
 use Rattle.std.specs.Ordering.{nat_cmp, is_eq}
 use Rattle.std.specs.FinMap as finite
 use Rattle.std.specs.FinMap.{find, is_sorted, entries, entries_sorted, get-entries}
 use Rattle.std.specs.FinMap.Entries.{below_all}
 use Rattle.std.proofs.lemmas.Bool.{cases_Bool, cases_lt}
+use Rattle.unit_fields.specs.declared.width.Width.{Width}
 use Rattle.number_map.proofs.Laws.{same}
 use Rattle.number_map.proofs.Places.{both_first, both_second}
 use Rattle.number_map.proofs.Search.{cmp_equal, cmp_less, cmp_greater, less_is}
-use Rattle.row_format.specs.Csums.{FitsCsum}
 use Rattle.row_format.specs.Extents.{Extent, Body, private, Place, own, place_in, place_of, page_count, page_end, ExtentsAscend, FitsBody, FitsExtent}
+use Rattle.row_format.specs.Csums.{FitsCsum}
 use Rattle.blob_map.specs.Pages.{PageMap, FitsPlace, FitsPage, StandsWithin, first_unit, extent_pages}
 use Rattle.blob_map.specs.Normal.{alone, single, follows, longer, more, extents_from, extents_of, NoneJoins}
 use Rattle.blob_map.proofs.Lay.{page_at}

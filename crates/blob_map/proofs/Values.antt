@@ -1,13 +1,13 @@
 -- Pages put into a map as they are read from bytes.
 use Rattle.std.proofs.Common.{◌≡◌, ◌≢◌, ℕ, ◌+◌, ◌*◌, ◌<◌, ◌≤◌, ◌^◌, List, [], ◌∷◌, ◌++◌, length, refl, sym, ap, subst, ◌∙◌, arith}
-use Rattle.unit_fields.specs.declared.width.Width.{Width}
 use Rattle.std.specs.List.{flat_map, AllByRecursion}
 use Rattle.std.specs.FinMap as finite
 use Rattle.std.proofs.lemmas.List.{length-append}
 use Rattle.std.proofs.lemmas.List.Concat.{flat_map-cons}
+use Rattle.unit_fields.specs.declared.width.Width.{Width}
 use Rattle.unit_fields.specs.Widths.{bytes_of}
-use Rattle.row_format.specs.Csums.{csum_bytes}
 use Rattle.row_format.specs.Extents.{Extent, Body, private, Place, own, page_end, extent_bytes, FitsExtent}
+use Rattle.row_format.specs.Csums.{csum_bytes}
 use Rattle.onode_codec.specs.declared.extent.Head.{Head}
 use Rattle.onode_codec.specs.Reading.{BeginsWithNoExtent, ReadsHead, ReadsCsum, SpellExtents}
 use Rattle.onode_codec.proofs.Again.{same_extents}

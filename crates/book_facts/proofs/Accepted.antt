@@ -1,6 +1,5 @@
 -- How the book goes on at a submission or a read: an entry more, and where it is an accepted transaction a context more.
 use Rattle.std.proofs.Common.{◌≡◌, ◌≢◌, inl, inr, ℕ, ◌<◌, Bool, cond, List, [], ◌∷◌, ◌++◌, length, None, Ok}
-use Rattle.meta_log.specs.Slots.{width_of}
 use Rattle.std.proofs.Common.{Err, refl, sym, ap, subst, ◌∙◌, append_assoc, arith}
 use Rattle.std.specs.Prelude.{IsOk, Result}
 use Rattle.std.specs.List.{AllByRecursion}
@@ -18,6 +17,7 @@ use Rattle.object_model.specs.Book.{accepted_change, accepted}
 use Rattle.object_model.proofs.Replays.{replay-append}
 use Rattle.meta_rows.specs.Rows.{Rows, rows_after}
 use Rattle.meta_log.specs.declared.slot.Super.{Super}
+use Rattle.meta_log.specs.Slots.{width_of}
 use Rattle.unit_fields.specs.UnitSet.{Ascends}
 use Rattle.store_image.specs.BadRows.{NoBadRow}
 use Rattle.store_image.specs.Owners.{IsOwned, IsDataUnit}

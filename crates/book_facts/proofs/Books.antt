@@ -1,6 +1,5 @@
 -- How each call keeps what is known of the book.
 use Rattle.std.proofs.Common.{◌≡◌, ℕ, ◌+◌, ◌-◌, ◌<◌, ◌≤◌, Bool, true, false, cond, not, ◌&&◌, List, [], ◌∷◌, ◌++◌, length, drop}
-use Rattle.meta_log.specs.Slots.{width_of}
 use Rattle.std.proofs.Common.{Option, Some, None, refl, sym, ap, subst, ◌∙◌, length-append, arith}
 use Rattle.std.specs.Prelude.{is_some, IsSome, IfSome, nat_eq}
 use Rattle.std.specs.List.{IsDistinct}
@@ -12,6 +11,7 @@ use Rattle.object_model.specs.declared.book.Commit.{Commit}
 use Rattle.object_model.specs.declared.book.Book.{Book}
 use Rattle.object_model.specs.Objects.{Objects}
 use Rattle.object_model.specs.Book.{change_at, AreCountsWithin, acked_count}
+use Rattle.meta_log.specs.Slots.{width_of}
 use Rattle.read_facts.specs.Alike.{IsLegalButBytes}
 use Rattle.meta_rows.specs.Rows.{Rows}
 use Rattle.unit_allocator.specs.Units.{Space}

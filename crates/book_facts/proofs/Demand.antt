@@ -1,6 +1,5 @@
 -- Want of space comes only where a run's commands ask for more units than were free when it began.
 use Rattle.std.proofs.Common.{◌≡◌, inl, inr, ℕ, ◌+◌, ◌<◌, ◌≤◌, Bool, true, false, List, [], ◌∷◌, ◌++◌}
-use Rattle.meta_log.specs.Slots.{width_of}
 use Rattle.std.proofs.Common.{refl, sym, ap, subst, ◌∙◌, arith}
 use Rattle.std.specs.Prelude.{◌||◌}
 use Rattle.block_device.specs.Disk.{Disk}
@@ -10,6 +9,7 @@ use Rattle.object_model.specs.declared.command.Answer.TheVariants as answer
 use Rattle.object_model.specs.declared.command.Command.{Command}
 use Rattle.object_model.specs.declared.command.Command.TheVariants as ask
 use Rattle.object_model.specs.Effect.{Change}
+use Rattle.meta_log.specs.Slots.{width_of}
 use Rattle.read_facts.specs.Answers.{HasReadNames, IsAnswerOf}
 use Rattle.store_steps.specs.Planning.{units_taken}
 use Rattle.store_steps.specs.Runs.{Call, submitting, reading, stepping, Calls, IsRun}

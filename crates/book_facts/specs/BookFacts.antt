@@ -1,9 +1,8 @@
 -- What is known of the book from call to call, whatever the device is.
 use Rattle.std.specs.Prelude.{◌≡◌, ℕ, ◌≤◌, nat_eq, Bool, List, [], ◌++◌, map, drop, Option, Some, IsSome, IfSome}
-use Rattle.meta_log.specs.Slots.{width_of}
-use Rattle.unit_fields.specs.declared.width.Width.{Width}
 use Rattle.std.specs.List.{AllByRecursion, IsDistinct}
 use Rattle.std.specs.Option.{option_map_or}
+use Rattle.unit_fields.specs.declared.width.Width.{Width}
 use Rattle.object_model.specs.Objects.{Objects}
 use Rattle.object_model.specs.Effect.{Change, replay, names_of, is_named}
 use Rattle.object_model.specs.Book.{accepted, change_at, AreAckedFrom, AreCountsWithin, acked_count, places_of, committed_places}
@@ -11,6 +10,7 @@ use Rattle.object_model.specs.declared.book.Book.{Book}
 use Rattle.object_model.specs.declared.book.Commit.{Commit}
 use Rattle.object_model.specs.declared.book.Entry.{Entry}
 use Rattle.meta_rows.specs.Rows.{Rows}
+use Rattle.meta_log.specs.Slots.{width_of}
 use Rattle.store_image.specs.Stands.{ObjectsStand}
 use Rattle.read_facts.specs.Alike.{AnswersAlikeFrom}
 use Rattle.store_steps.specs.declared.context.Context.{Context}

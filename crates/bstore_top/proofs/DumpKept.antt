@@ -1,9 +1,8 @@
 -- A walk over a mounted store leaves the device as the mount left it, and shows what the contents stood for.
 use Rattle.std.proofs.Common.{◌≡◌, ℕ, ◌≤◌, true, List, [], length, Some, None, Result, Ok, Err, refl, sym, ap, subst, ◌∙◌, arith}
-use Rattle.meta_log.specs.Slots.{width_of}
-use Rattle.unit_fields.specs.declared.width.Width.{Width}
 use Rattle.std.specs.Prelude.{IfErr, OnOk}
 use Rattle.std.specs.List.{AllByRecursion}
+use Rattle.unit_fields.specs.declared.width.Width.{Width}
 use Rattle.block_device.specs.Log.{last, HasNoBadDone}
 use Rattle.block_device.specs.Facts.{last_at}
 use Rattle.block_device.specs.Disk.{Disk, History, IsFresh, Rose}
@@ -12,6 +11,7 @@ use Rattle.meta_rows.specs.Rows.{Rows}
 use Rattle.object_model.specs.Objects.{Objects}
 use Rattle.object_model.specs.Effect.{replay}
 use Rattle.object_model.specs.Book.{accepted}
+use Rattle.meta_log.specs.Slots.{width_of}
 use Rattle.store_image.specs.BadRows.{NoBadRow}
 use Rattle.store_image.specs.Stands.{ObjectsStand, StandsFor}
 use Rattle.store_image.specs.Durability.{EachCutStands}

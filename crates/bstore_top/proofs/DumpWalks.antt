@@ -1,6 +1,5 @@
 -- Walks over collections and objects: what was seen grows by what comes next, and each name has a row of its own, so a walk ends.
 use Rattle.std.proofs.Common.{◌≡◌, ℕ, ◌-◌, ◌≤◌, ◌<◌, true, false, cond, ◌||◌, List, [], ◌∷◌, ◌++◌, length, map, slice_get, length-append}
-use Rattle.unit_fields.specs.declared.width.Width.{Width}
 use Rattle.std.proofs.Common.{Option, Some, None, MatchOption, is_some, refl, sym, ap, subst, ◌∙◌, arith}
 use Rattle.std.specs.List.{AllByRecursion, IsDistinct, list_any}
 use Rattle.std.specs.Map.{lookup}
@@ -18,6 +17,7 @@ use Rattle.byte_maps.proofs.Places.{same_bytes}
 use Rattle.block_device.specs.Disk.{Disk}
 use Rattle.meta_rows.specs.Rows.{Rows}
 use Rattle.unit_fields.specs.Names.{IsCollName}
+use Rattle.unit_fields.specs.declared.width.Width.{Width}
 use Rattle.row_format.specs.Keys.{coll_key, onode_key}
 use Rattle.row_format.proofs.KeyLemmas.{same_coll, same_onode}
 use Rattle.book_facts.proofs.Commits.{all_append}

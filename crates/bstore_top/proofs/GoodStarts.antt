@@ -4,7 +4,6 @@ use Rattle.std.specs.Prelude.{IfSome, Any}
 use Rattle.std.specs.FinMap as finite
 use Rattle.std.proofs.lemmas.Option.{same_Some}
 use Rattle.unit_fields.specs.declared.width.Width.{Width}
-use Rattle.meta_log.specs.Slots.{width_of}
 use Rattle.block_device.specs.Log.{last, IsClean}
 use Rattle.block_device.specs.Disk.{Disk, History, Rose}
 use Rattle.end_points.specs.Bay.{Names, BayView, StartsWith, start_of}
@@ -14,6 +13,7 @@ use Rattle.meta_log.specs.declared.slot.Super.{Super}
 use Rattle.meta_log.specs.Records.{AreRowsOf, AreRecords, active_half}
 use Rattle.meta_log.proofs.RecordLemmas.{same_records}
 use Rattle.meta_log.proofs.SlotLemmas.{same_active}
+use Rattle.meta_log.specs.Slots.{width_of}
 use Rattle.object_model.specs.declared.book.Book.{Book}
 use Rattle.script_text.specs.Script.{IsBadAt}
 use Rattle.script_text.proofs.Scripts.{script_has_no_bad}

@@ -1,6 +1,5 @@
 -- What holds at the end of a run of a script: the run is one of the kernel, so what is known of these holds of it.
 use Rattle.std.proofs.Common.{◌≡◌, ℕ, suc, ◌+◌, ◌<◌, ◌≤◌, Bool, true, false, is_some, slice_get, length-append, List, [], ◌∷◌, ◌++◌, length}
-use Rattle.meta_log.specs.Slots.{width_of}
 use Rattle.std.proofs.Common.{Option, Some, None, refl, sym, ap, subst, ◌∙◌, arith, inl, inr, append-nil}
 use Rattle.std.specs.Prelude.{◌||◌, IfSome, All}
 use Rattle.std.specs.List.{AllByRecursion}
@@ -21,6 +20,7 @@ use Rattle.object_model.specs.declared.command.Answer.{Answer}
 use Rattle.object_model.specs.declared.command.Answer.TheVariants as answer
 use Rattle.object_model.specs.Effect.{replay}
 use Rattle.object_model.specs.declared.book.Book.{Book}
+use Rattle.meta_log.specs.Slots.{width_of}
 use Rattle.store_image.specs.Stands.{StandsFor}
 use Rattle.unit_allocator.specs.Units.{Space}
 use Rattle.script_text.specs.declared.line.Line.{Line}

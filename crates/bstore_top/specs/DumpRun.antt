@@ -2,13 +2,13 @@
 use Rattle.std.specs.Prelude.{◌≡◌, ◌⊎◌, ℕ, List, [], Some, None, IfSome}
 use Rattle.std.specs.List.{AllByRecursion}
 use Rattle.std.specs.FinMap as map
+use Rattle.unit_fields.specs.declared.width.Width.{Width}
 use Rattle.block_device.specs.Disk.{Disk, History, IsSound, Rose}
 use Rattle.end_points.specs.Bay.{BayView, HandedOut}
 use Rattle.end_points.specs.declared.bay.How.TheVariants.{Plain}
-use Rattle.unit_fields.specs.declared.width.Width.{Width}
-use Rattle.meta_log.specs.Slots.{width_of}
 use Rattle.meta_rows.specs.Rows.{Rows}
 use Rattle.object_model.specs.Objects.{Objects}
+use Rattle.meta_log.specs.Slots.{width_of}
 use Rattle.store_image.specs.Stands.{StandsFor}
 use Rattle.read_facts.specs.declared.view.CollView.{CollView}
 use Rattle.read_facts.specs.Views.{WalksTo, WalksAll, HasGoodViews, views_of}

@@ -4,9 +4,9 @@ use Rattle.std.specs.FinMap as map
 use Rattle.block_device.specs.Disk.{Rose}
 use Rattle.end_points.specs.Bay.{Names, BayView}
 use Rattle.object_model.specs.Objects.{Objects}
+use Rattle.meta_log.specs.Slots.{width_of}
 use Rattle.store_image.specs.Owners.{IsExactAs}
 use Rattle.store_image.specs.Stands.{StandsFor}
-use Rattle.meta_log.specs.Slots.{width_of}
 use Rattle.store_steps.specs.Opened.{Found}
 use Rattle.log_replay.specs.Opening.{IsFoundIn, HasLowNumbers}
 use Rattle.script_text.specs.Script.{IsScript}

@@ -9,8 +9,8 @@ use Rattle.object_model.specs.Book.{accepted, acked_count, places_of, committed_
 use Rattle.object_model.specs.declared.book.Book.{Book}
 use Rattle.meta_rows.specs.Rows.{Rows}
 use Rattle.meta_log.specs.declared.slot.Super.{Super}
-use Rattle.meta_log.specs.Slots.{IsActiveSlot}
 use Rattle.meta_log.specs.Records.{AreRowsOf}
+use Rattle.meta_log.specs.Slots.{IsActiveSlot}
 use Rattle.store_image.specs.Owners.{IsDataUnit, IsMarked}
 use Rattle.store_image.specs.Stands.{StandsFor}
 use Rattle.store_image.specs.Exact.{StaysExact}

@@ -8,6 +8,7 @@ use Rattle.object_model.specs.Objects.{Objects}
 use Rattle.object_model.specs.declared.book.Book.{Book}
 use Rattle.object_model.specs.declared.book.Entry.{Entry}
 use Rattle.object_model.specs.declared.command.Command.{Command}
+use Rattle.meta_log.specs.Slots.{width_of}
 use Rattle.unit_allocator.specs.Units.{Space}
 use Rattle.script_text.specs.Script.{IsScript, IsBadAt}
 use Rattle.script_text.specs.declared.fail.ScriptFail.{ScriptFail}
@@ -22,7 +23,6 @@ use Rattle.store_steps.specs.Runs.{Call}
 use Rattle.log_replay.specs.Calls.{IsLater}
 use Rattle.log_replay.specs.Opening.{FailsMount}
 use Rattle.mount_replay.specs.Mounting.{IsOpenedOn, IsReapedTo}
-use Rattle.meta_log.specs.Slots.{width_of}
 use Rattle.read_facts.specs.Alike.{IsLegalButBytes}
 use Rattle.bstore_top.specs.declared.run_fail.RunFail.{RunFail}
 use Rattle.bstore_top.specs.declared.run_fail.RunFail.TheVariants as run

@@ -1,6 +1,5 @@
 -- How the contexts stand once a transaction is accepted or refused, or a read is answered.
 use Rattle.std.proofs.Common.{◌≡◌, ℕ, ◌-◌, List, [], ◌∷◌, ◌++◌, length, take, Option, Ok, refl, sym, ap, subst, ◌∙◌, append-nil, arith}
-use Rattle.meta_log.specs.Slots.{width_of}
 use Rattle.std.specs.List.{cons_option}
 use Rattle.std.proofs.lemmas.List.{take_all}
 use Rattle.block_device.specs.Disk.{History}
@@ -15,6 +14,7 @@ use Rattle.object_model.specs.declared.command.Answer.TheVariants as answer
 use Rattle.object_model.specs.declared.command.Command.{Command}
 use Rattle.object_model.specs.declared.command.Command.TheVariants as ask
 use Rattle.meta_rows.specs.Rows.{Rows, rows_after}
+use Rattle.meta_log.specs.Slots.{width_of}
 use Rattle.store_image.specs.BadRows.{NoBadRow}
 use Rattle.store_image.specs.Pages.{HasPage}
 use Rattle.store_image.specs.Stands.{ObjectsStand}

@@ -1,6 +1,5 @@
 -- Each call leaves all entries with the answers that plain objects give, and none that names a bad unit.
 use Rattle.std.proofs.Common.{◌≡◌, inl, inr, ℕ, Bool, true, false, cond, List, [], ◌∷◌, ◌++◌, None, Result, Ok, Err, sym, ap, subst}
-use Rattle.meta_log.specs.Slots.{width_of}
 use Rattle.std.specs.Prelude.{nat_lt, take, drop, ◌+◌}
 use Rattle.std.specs.List.{AllByRecursion}
 use Rattle.block_device.specs.Disk.{Disk, History}
@@ -15,6 +14,7 @@ use Rattle.object_model.specs.declared.command.Command.{Command}
 use Rattle.object_model.specs.declared.command.Command.TheVariants as ask
 use Rattle.object_model.specs.declared.command.Answer.{Answer}
 use Rattle.object_model.specs.declared.command.Answer.TheVariants as answer
+use Rattle.meta_log.specs.Slots.{width_of}
 use Rattle.read_facts.specs.Answers.{HasReadNames}
 use Rattle.read_facts.proofs.Seen.{seen_answer}
 use Rattle.read_facts.specs.Alike.{IsNoCsum, AnswersAlikeFrom, IsLegalButBytes}

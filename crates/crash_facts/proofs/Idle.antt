@@ -1,6 +1,5 @@
 -- What rows and units stand for once nothing is under way.
 use Rattle.std.proofs.Common.{◌≡◌, ℕ, ◌-◌, true, List, [], length, take, Option, None, refl, sym, ap, subst, ◌∙◌, arith}
-use Rattle.meta_log.specs.Slots.{width_of}
 use Rattle.std.specs.Prelude.{IfSome}
 use Rattle.std.specs.Option.{option_map_or}
 use Rattle.std.proofs.lemmas.List.{take_all}
@@ -13,6 +12,7 @@ use Rattle.object_model.specs.Effect.{replay}
 use Rattle.object_model.specs.Book.{accepted, committed}
 use Rattle.object_model.specs.declared.book.Commit.{Commit}
 use Rattle.meta_rows.specs.Rows.{Rows}
+use Rattle.meta_log.specs.Slots.{width_of}
 use Rattle.store_image.specs.Stands.{ObjectsStand}
 use Rattle.store_image.proofs.OwnedUnits.{objects_stand}
 use Rattle.store_steps.specs.declared.context.Context.{Context}

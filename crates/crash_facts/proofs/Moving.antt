@@ -1,11 +1,11 @@
 -- Each move keeps what is known of the store.
 use Rattle.std.proofs.Common.{◌≡◌, ℕ, true, [], None, refl, sym, subst, arith}
-use Rattle.meta_log.specs.Slots.{width_of}
 use Rattle.block_device.specs.Disk.{Disk, History}
 use Rattle.block_device.specs.declared.event.Event.TheVariants.{Flush, Done}
 use Rattle.object_model.specs.Objects.{Objects}
 use Rattle.object_model.specs.Effect.{replay}
 use Rattle.meta_rows.specs.Rows.{Rows, rows_after}
+use Rattle.meta_log.specs.Slots.{width_of}
 use Rattle.store_image.specs.BadRows.{NoBadRow}
 use Rattle.log_facts.proofs.Keeping.{last_push}
 use Rattle.store_steps.specs.State.{State}

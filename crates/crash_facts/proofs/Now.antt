@@ -1,7 +1,6 @@
 -- A crash now leaves the objects after a front of the commits: after the applied ones, or, once the record of the open batch was given to
 -- the device, perhaps after all.
 use Rattle.std.proofs.Common.{◌≡◌, ◌≢◌, ℕ, ◌+◌, ◌-◌, ◌<◌, ◌≤◌, true, List, [], ◌∷◌, ◌++◌, length, map, take, Option, Some, None}
-use Rattle.meta_log.specs.Slots.{width_of}
 use Rattle.std.proofs.Common.{slice_get, is_some, nat_lt}
 use Rattle.std.proofs.Common.{refl, sym, ap, subst, ◌∙◌, append-nil, arith}
 use Rattle.std.specs.Prelude.{IfSome, IsSomeAnd, Contains}
@@ -23,6 +22,7 @@ use Rattle.meta_rows.specs.Rows.{Rows, rows_after}
 use Rattle.meta_log.specs.Records.{unit_count}
 use Rattle.meta_log.specs.Pieces.{given_from}
 use Rattle.meta_log.proofs.PieceLemmas.{given_from-none}
+use Rattle.meta_log.specs.Slots.{width_of}
 use Rattle.store_image.specs.BadRows.{NoBadRow}
 use Rattle.store_image.specs.Owners.{IsOwned}
 use Rattle.store_image.specs.Exact.{IsLeakedIn}

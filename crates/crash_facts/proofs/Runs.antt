@@ -1,6 +1,5 @@
 -- Runs of calls: each crash leaves a front of the commits, and once the kernel is drained the device stands for all that was accepted.
 use Rattle.std.proofs.Common.{◌≡◌, ◌⊎◌, inl, inr, ℕ, ◌+◌, Bool, true, false, cond, List, [], ◌∷◌, ◌++◌, length, take, Option, Some, None}
-use Rattle.meta_log.specs.Slots.{width_of}
 use Rattle.std.proofs.Common.{is_some, refl, sym, ap, subst}
 use Rattle.std.proofs.Common.{◌∙◌, arith, length-append}
 use Rattle.std.proofs.lemmas.Option.{same_Some}
@@ -15,6 +14,7 @@ use Rattle.block_device.proofs.LogLemmas.{each_cut_push}
 use Rattle.object_model.specs.Objects.{Objects}
 use Rattle.object_model.specs.Effect.{replay}
 use Rattle.object_model.specs.Book.{accepted}
+use Rattle.meta_log.specs.Slots.{width_of}
 use Rattle.store_image.specs.Owners.{IsExactBut}
 use Rattle.store_image.specs.Exact.{IsLeakedIn, StaysExact}
 use Rattle.store_image.specs.Stands.{StandsFor}

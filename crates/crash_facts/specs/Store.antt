@@ -1,8 +1,7 @@
 -- What is known of a store from call to call: its device, its book, and that each crash so far leaves a front of the commits.
 use Rattle.std.specs.Prelude.{◌≡◌, ℕ, ◌+◌, List, [], length, take, Some, None}
-use Rattle.meta_log.specs.Slots.{width_of}
-use Rattle.unit_fields.specs.declared.width.Width.{Width}
 use Rattle.std.specs.List.{AllByRecursion}
+use Rattle.unit_fields.specs.declared.width.Width.{Width}
 use Rattle.block_device.specs.Log.{last, IsClean}
 use Rattle.block_device.specs.Disk.{Disk, History}
 use Rattle.block_device.specs.Facts.{last_at}
@@ -11,6 +10,7 @@ use Rattle.object_model.specs.Effect.{replay}
 use Rattle.object_model.specs.Book.{AnswersFrom}
 use Rattle.meta_rows.specs.declared.row_op.RowOp.{RowOp}
 use Rattle.meta_rows.specs.Rows.{Rows}
+use Rattle.meta_log.specs.Slots.{width_of}
 use Rattle.store_image.specs.Owners.{IsExactBut}
 use Rattle.store_image.specs.Exact.{IsLeakedIn}
 use Rattle.store_image.specs.Stands.{ObjectsStand}

@@ -1,6 +1,5 @@
 -- What the log stands for, and what a crash leaves of it.
 use Rattle.std.proofs.Common.{◌≡◌, ◌⊎◌, inl, inr, ℕ, zero, suc, ◌+◌, ◌-◌, ◌*◌, ◌%◌, ◌<◌, ◌≤◌, List, [], ◌∷◌, ◌++◌, length, Option, Some, None, refl, sym, ap, ap₂, subst, ◌∙◌, append_assoc, arith}
-use Rattle.meta_log.specs.Slots.{width_of}
 use Rattle.std.specs.FinMap as map
 use Rattle.byte_maps.specs.Units.{unit_at, units_from, zeros, IsUnits}
 use Rattle.block_device.specs.Log.{last, IsCrashImage}
@@ -13,9 +12,9 @@ use Rattle.meta_rows.specs.declared.row_op.RowOp.{RowOp}
 use Rattle.meta_rows.specs.Rows.{Rows, rows_after}
 use Rattle.meta_rows.proofs.Folds.{rows_of_records-push}
 use Rattle.meta_log.specs.declared.slot.Super.{Super}
-use Rattle.meta_log.specs.Slots.{super_bytes, IsSuper, IsActiveSlot, active_unit}
 use Rattle.meta_log.specs.Records.{record_units, unit_count, BeginsWithRecord, BeginsWithRecords, active_half, AreRowsOf}
 use Rattle.meta_log.proofs.RecordLemmas.{same_record}
+use Rattle.meta_log.specs.Slots.{width_of, super_bytes, IsSuper, IsActiveSlot, active_unit}
 use Rattle.store_image.specs.BadRows.{NoBadRow}
 use Rattle.store_image.specs.Stands.{ObjectsStand, StandsFor}
 use Rattle.store_image.specs.Chance.{NoChanceMatch}

@@ -1,6 +1,5 @@
 -- What a crash leaves stands for the objects after a front of the commits.
 use Rattle.std.proofs.Common.{◌≡◌, inl, inr, ℕ, ◌<◌, ◌≤◌, List, length, take, Option, Some, None, sym, subst, arith}
-use Rattle.meta_log.specs.Slots.{width_of}
 use Rattle.std.specs.Prelude.{IfSome, slice_get}
 use Rattle.std.proofs.lemmas.List.{take_all}
 use Rattle.byte_maps.specs.Units.{unit_at, IsUnits}
@@ -15,8 +14,8 @@ use Rattle.object_model.specs.declared.book.Commit.{Commit}
 use Rattle.meta_rows.specs.declared.row_op.RowOp.{RowOp}
 use Rattle.meta_rows.specs.Rows.{Rows, rows_after}
 use Rattle.meta_log.specs.declared.slot.Super.{Super}
-use Rattle.meta_log.specs.Slots.{IsActiveSlot}
 use Rattle.meta_log.specs.Records.{AreRowsOf}
+use Rattle.meta_log.specs.Slots.{width_of, IsActiveSlot}
 use Rattle.store_image.specs.Owners.{IsExactBut}
 use Rattle.store_image.specs.Exact.{IsLeakedIn, StaysExact}
 use Rattle.store_image.specs.Stands.{StandsFor}

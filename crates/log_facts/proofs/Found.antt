@@ -13,9 +13,9 @@ use Rattle.object_model.specs.Objects.{Objects}
 use Rattle.meta_rows.specs.declared.row_op.RowOp.{RowOp}
 use Rattle.meta_rows.specs.Rows.{Rows, rows_of_records}
 use Rattle.meta_log.specs.declared.slot.Super.{Super}
-use Rattle.meta_log.specs.Slots.{super_bytes, active_unit, IsSuper, IsActiveSlot}
 use Rattle.meta_log.specs.Records.{record_units, unit_count, BeginsWithRecord, BeginsWithRecords, AreRecords, active_half, AreRowsOf}
 use Rattle.meta_log.specs.Scanning.{units_of_records}
+use Rattle.meta_log.specs.Slots.{super_bytes, active_unit, IsSuper, IsActiveSlot}
 use Rattle.store_image.specs.Stands.{StandsFor}
 use Rattle.store_image.specs.Chance.{NoChanceMatch}
 use Rattle.log_facts.specs.Flushing.{not_sent, WritesNoneOf}

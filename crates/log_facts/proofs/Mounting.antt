@@ -7,8 +7,8 @@ use Rattle.block_device.specs.Disk.{History}
 use Rattle.block_device.specs.Facts.{last_at}
 use Rattle.meta_rows.specs.declared.row_op.RowOp.{RowOp}
 use Rattle.meta_log.specs.declared.slot.Super.{Super}
-use Rattle.meta_log.specs.Slots.{active_unit, IsSlotOf, IsActiveSlot}
 use Rattle.meta_log.specs.Records.{record_units, AreRecords}
+use Rattle.meta_log.specs.Slots.{active_unit, IsSlotOf, IsActiveSlot}
 use Rattle.log_facts.specs.Flushing.{not_sent}
 use Rattle.log_facts.specs.SlotFacts.{other_slot, SlotsStand}
 use Rattle.log_facts.specs.HalfFacts.{records_units, AreSpellable, ActiveHalfStands}

@@ -9,9 +9,9 @@ use Rattle.block_device.proofs.RangeLemmas.{units_from-same}
 use Rattle.meta_rows.specs.declared.row_op.RowOp.{RowOp}
 use Rattle.meta_rows.specs.Rows.{Rows, rows_of_records}
 use Rattle.meta_log.specs.declared.slot.Super.{Super}
-use Rattle.meta_log.specs.Slots.{super_bytes, IsSuper, IsSlotOf, IsActiveSlot, active_unit}
 use Rattle.meta_log.specs.Records.{unit_count, record_units, BeginsWithRecord, AreRecords, active_half, AreRowsOf}
 use Rattle.meta_log.proofs.SlotLemmas.{same_super}
+use Rattle.meta_log.specs.Slots.{super_bytes, IsSuper, IsSlotOf, IsActiveSlot, active_unit}
 use Rattle.log_facts.specs.SlotFacts.{other_slot, IsOlderSlot}
 use Rattle.log_facts.specs.HalfFacts.{records_units, AreSpellable}
 use Rattle.log_facts.proofs.Keeping.{half_before_data}

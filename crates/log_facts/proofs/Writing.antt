@@ -14,8 +14,8 @@ use Rattle.meta_rows.specs.declared.row_op.RowOp.{RowOp}
 use Rattle.meta_rows.specs.Rows.{Rows, rows_after}
 use Rattle.meta_rows.proofs.Folds.{rows_of_records-push}
 use Rattle.meta_log.specs.declared.slot.Super.{Super}
-use Rattle.meta_log.specs.Slots.{active_unit}
 use Rattle.meta_log.specs.Records.{record_units, unit_count}
+use Rattle.meta_log.specs.Slots.{active_unit}
 use Rattle.log_facts.specs.Flushing.{FlushState, not_sent, sent, flushed, IsFlushed}
 use Rattle.log_facts.specs.HalfFacts.{records_units, IsSpellable, ActiveHalfStands}
 use Rattle.log_facts.proofs.Keeping.{last_push, zero_push, front_push, half_quiet, flush_sent, flush_ended}

@@ -8,8 +8,8 @@ use Rattle.meta_rows.specs.declared.row_op.RowOp.{RowOp}
 use Rattle.meta_rows.specs.Rows.{Rows, rows_of_records}
 use Rattle.meta_rows.specs.Spelling.{ops_bytes, AllFit}
 use Rattle.meta_log.specs.declared.slot.Super.{Super}
-use Rattle.meta_log.specs.Slots.{active_unit}
 use Rattle.meta_log.specs.Records.{record_units, unit_count}
+use Rattle.meta_log.specs.Slots.{active_unit}
 use Rattle.log_facts.specs.Flushing.{FlushState, IsFlushed}
 
 -- records of consecutive numbers from this one on, one behind the other

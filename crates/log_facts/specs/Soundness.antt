@@ -1,12 +1,12 @@
 -- Rows and units that stand for objects in whatever a crash leaves.
 use Rattle.std.specs.Prelude.{ℕ}
-use Rattle.meta_log.specs.Slots.{width_of}
 use Rattle.block_device.specs.Log.{IsClean}
 use Rattle.block_device.specs.Disk.{History}
 use Rattle.block_device.specs.Facts.{last_at}
 use Rattle.object_model.specs.Objects.{Objects}
 use Rattle.meta_rows.specs.Rows.{Rows}
 use Rattle.meta_log.specs.declared.slot.Super.{Super}
+use Rattle.meta_log.specs.Slots.{width_of}
 use Rattle.store_image.specs.BadRows.{NoBadRow}
 use Rattle.store_image.specs.Pages.{HasPage}
 use Rattle.store_image.specs.Stands.{ObjectsStand}

@@ -13,9 +13,9 @@ use Rattle.block_device.specs.declared.event.Event.TheVariants.{Write, Flush}
 use Rattle.block_device.proofs.LogLemmas.{unit_at-after_event}
 use Rattle.meta_rows.specs.declared.row_op.RowOp.{RowOp}
 use Rattle.meta_log.specs.declared.slot.Super.{Super}
-use Rattle.meta_log.specs.Slots.{super_bytes, IsSuper, IsValidSlot, IsActiveSlot, active_unit, width_of}
 use Rattle.meta_log.specs.Records.{BeginsWithRecord, active_half, AreRowsOf}
 use Rattle.meta_log.proofs.SlotLemmas.{same_super, length-super_bytes}
+use Rattle.meta_log.specs.Slots.{super_bytes, IsSuper, IsValidSlot, IsActiveSlot, active_unit, width_of}
 use Rattle.store_image.proofs.ByteLemmas.{equal_or_not}
 use Rattle.row_facts.proofs.NoRows.{none_good, none_stand, none_exact}
 use Rattle.log_replay.specs.Calls.{after_call, with_call, Called, Told}

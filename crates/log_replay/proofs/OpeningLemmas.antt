@@ -8,8 +8,8 @@ use Rattle.block_device.specs.Log.{last, HasNoBadDone, IsAnsweredOnce}
 use Rattle.block_device.specs.Disk.{Disk, History, HasRead, IsSound}
 use Rattle.block_device.proofs.ReadLemmas.{clean_good}
 use Rattle.meta_log.specs.declared.slot.Super.{Super}
-use Rattle.meta_log.specs.Slots.{IsSlotOf, IsValidSlot, IsActiveSlot}
 use Rattle.meta_log.proofs.SlotLemmas.{same_slot}
+use Rattle.meta_log.specs.Slots.{IsSlotOf, IsValidSlot, IsActiveSlot}
 use Rattle.log_replay.specs.Cleared.{IsAllClean}
 use Rattle.log_replay.specs.Opening.{IsAbout, HasNoSuper, newer_of}
 use Rattle.log_replay.specs.HalfReading.{HasPiece}

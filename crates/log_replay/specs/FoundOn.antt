@@ -1,8 +1,8 @@
 -- The store that is found on a device, as the code has it.
 use Rattle.std.specs.Prelude.{◌≡◌, ◌≤◌, ℕ, ◌+◌, ◌-◌, ◌*◌, List, drop}
 use Rattle.block_device.specs.Disk.{Disk, History}
-use Rattle.meta_log.specs.Slots.{IsSuper, active_unit}
 use Rattle.meta_log.specs.Records.{active_half}
+use Rattle.meta_log.specs.Slots.{IsSuper, active_unit}
 use Rattle.unit_allocator.specs.Units.{Space}
 use Rattle.store_steps.specs.Opened.{Found}
 use Rattle.store_facts.specs.Space.{AreGoodRows, IsSpaceOf, IsFreeExactly}

@@ -1,12 +1,11 @@
 -- What a mount finds on a device, and why it doesn't open a store.
 use Rattle.std.specs.Prelude.{◌≡◌, ◌⊎◌, ◌↔◌, true, ℕ, ◌+◌, ◌^◌, ◌<◌, ◌≤◌, nat_lt, if◌then◌else◌, List, Option, Some, None, IfSome}
-use Rattle.meta_log.specs.Slots.{width_of}
 use Rattle.byte_maps.specs.Units.{unit_at, zeros}
 use Rattle.block_device.specs.Log.{last}
 use Rattle.block_device.specs.Disk.{Disk, Rose}
 use Rattle.meta_log.specs.declared.slot.Super.{Super}
-use Rattle.meta_log.specs.Slots.{IsValidSlot, IsActiveSlot, active_unit}
 use Rattle.meta_log.specs.Records.{active_half}
+use Rattle.meta_log.specs.Slots.{width_of, IsValidSlot, IsActiveSlot, active_unit}
 use Rattle.store_image.specs.BadRows.{NoBadRow}
 use Rattle.store_image.specs.Owners.{IsDataUnit, IsMarked, IsExactAs, IsLeastInexact}
 use Rattle.unit_allocator.specs.Units.{Space, is_free}

@@ -8,9 +8,9 @@ use Rattle.crc32c_csum.specs.Crc32c.{crc32c}
 use Rattle.byte_maps.specs.Units.{zeros}
 use Rattle.unit_fields.specs.Fields.{IsTooShort, ReadsBytes, ReadsNumber}
 use Rattle.meta_log.specs.declared.slot.Super.{Super}
-use Rattle.meta_log.specs.Slots.{magic, version_bytes, super_front, super_fields, with_sum, IsSummed, IsSuper, IsSlotOf}
 use Rattle.meta_rows.proofs.FieldLemmas.{same_front}
 use Rattle.meta_log.proofs.SlotLemmas.{HasWidths, widths, same_front_of, length-super_fields}
+use Rattle.meta_log.specs.Slots.{magic, version_bytes, super_front, super_fields, with_sum, IsSummed, IsSuper, IsSlotOf}
 
 -- ---- zeros
 

@@ -1,6 +1,5 @@
 -- While what is behind the records is cleared, each crash leaves the objects that the store stood for, and its bitmap.
 use Rattle.std.proofs.Common.{◌≡◌, inl, inr, ℕ, ◌+◌, ◌*◌, ◌<◌, ◌≤◌, List, [], ◌∷◌, ◌++◌, length, take, drop, refl, sym, ap, ap₂, subst, ◌∙◌, append_assoc, arith}
-use Rattle.meta_log.specs.Slots.{width_of}
 use Rattle.std.specs.List.{AllByRecursion}
 use Rattle.std.proofs.lemmas.Bool.{cases_lt, cases_eq}
 use Rattle.std.proofs.lemmas.List.{append-nil, take_all, take_at, take-append-le, drop-drop, length-append}
@@ -17,10 +16,10 @@ use Rattle.object_model.specs.declared.book.Book.{Book}
 use Rattle.object_model.specs.Objects.{Objects}
 use Rattle.meta_rows.specs.declared.row_op.RowOp.{RowOp}
 use Rattle.meta_log.specs.declared.slot.Super.{Super}
-use Rattle.meta_log.specs.Slots.{IsSuper, IsActiveSlot, active_unit}
 use Rattle.meta_log.specs.Records.{active_half, AreRowsOf}
 use Rattle.meta_log.specs.Scanning.{units_of_records}
 use Rattle.meta_log.proofs.SlotLemmas.{same_active}
+use Rattle.meta_log.specs.Slots.{width_of, IsSuper, IsActiveSlot, active_unit}
 use Rattle.store_image.specs.BadRows.{NoBadRow}
 use Rattle.store_image.specs.Owners.{IsOwned, IsExactAs}
 use Rattle.store_image.specs.Stands.{ObjectsStand, StandsFor}

@@ -1,6 +1,5 @@
 -- A mount of contents that stand for objects opens these, or has its cause.
 use Rattle.std.proofs.Common.{◌≡◌, inl, inr, ℕ, ◌+◌, ◌*◌, ◌<◌, ◌≤◌, ◌%◌, true, List, [], ◌∷◌, ◌++◌, length, drop, refl, sym, ap, subst, ◌∙◌, arith}
-use Rattle.meta_log.specs.Slots.{width_of}
 use Rattle.std.specs.Prelude.{All}
 use Rattle.std.proofs.lemmas.List.Elements.{All-drop}
 use Rattle.std.specs.List.{AllByRecursion}
@@ -12,9 +11,9 @@ use Rattle.block_device.specs.declared.event.Event.{Event}
 use Rattle.block_device.specs.declared.event.Event.TheVariants.{Write, Flush, Done}
 use Rattle.object_model.specs.Objects.{Objects}
 use Rattle.meta_log.specs.declared.slot.Super.{Super}
-use Rattle.meta_log.specs.Slots.{active_unit}
 use Rattle.meta_log.specs.Records.{AreRowsOf}
 use Rattle.meta_log.proofs.SlotLemmas.{same_active}
+use Rattle.meta_log.specs.Slots.{width_of, active_unit}
 use Rattle.store_image.specs.BadRows.{NoBadRow}
 use Rattle.store_image.specs.Stands.{StandsFor, ObjectsStand}
 use Rattle.store_image.proofs.OneObjects.{same_rows}

@@ -1,10 +1,10 @@
 -- What a mount answers where the contents stand for objects.
 use Rattle.std.specs.Prelude.{◌≡◌, ℕ, [], length, Some, None}
-use Rattle.meta_log.specs.Slots.{width_of}
 use Rattle.block_device.specs.Log.{last}
 use Rattle.block_device.specs.Disk.{Disk, History, IsSound, Rose}
 use Rattle.block_device.specs.Facts.{last_at}
 use Rattle.object_model.specs.Objects.{Objects}
+use Rattle.meta_log.specs.Slots.{width_of}
 use Rattle.store_image.specs.Stands.{StandsFor, ObjectsStand}
 use Rattle.store_image.specs.Durability.{EachCutStands}
 use Rattle.unit_allocator.specs.Units.{Space}

@@ -3,8 +3,8 @@ use Rattle.std.specs.Prelude.{◌≡◌, ℕ, ◌+◌, ◌*◌, List, [], length
 use Rattle.block_device.specs.Log.{last}
 use Rattle.block_device.specs.Disk.{Disk, History}
 use Rattle.block_device.specs.declared.event.Event.{Event}
-use Rattle.meta_log.specs.Slots.{active_unit}
 use Rattle.meta_log.specs.Records.{active_half}
+use Rattle.meta_log.specs.Slots.{active_unit}
 use Rattle.object_model.specs.Objects.{Objects}
 use Rattle.store_image.specs.Stands.{StandsFor}
 use Rattle.store_image.specs.Durability.{EachCutStands}

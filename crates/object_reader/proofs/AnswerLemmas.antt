@@ -1,6 +1,5 @@
 -- Answers to commands that read, from the parts that were read.
 use Rattle.std.proofs.Common.{◌≡◌, ℕ, ◌+◌, ◌/◌, ◌≤◌, Bool, true, false, cond, List, take, drop, Option, Some, None, is_some, sym, ap, subst, arith}
-use Rattle.unit_fields.specs.declared.width.Width.{Width}
 use Rattle.std.specs.Prelude.{not, nat_lt, Result, Ok, Err, IsOk, IfOk, IfErr, MatchOption}
 use Rattle.std.specs.FinMap as finite
 use Rattle.std.proofs.lemmas.Bool.{le-ltb}
@@ -16,6 +15,7 @@ use Rattle.object_model.specs.declared.command.Answer.{Answer}
 use Rattle.object_model.specs.declared.command.Answer.TheVariants as answer
 use Rattle.meta_rows.specs.Rows.{Rows}
 use Rattle.unit_fields.specs.Names.{IsName, IsCollName}
+use Rattle.unit_fields.specs.declared.width.Width.{Width}
 use Rattle.row_format.specs.Extents.{Extent, own}
 use Rattle.row_format.specs.Keys.{coll_key, onode_key}
 use Rattle.row_format.specs.Row.{onode}

@@ -1,6 +1,5 @@
 -- The least key behind a collection or an object is that of the next one.
 use Rattle.std.proofs.Common.{◌≡◌, ◌≢◌, ◌⊎◌, inl, inr, ℕ, true, List, [], ◌∷◌, drop}
-use Rattle.meta_log.specs.Slots.{width_of}
 use Rattle.std.proofs.Common.{Option, Some, None, MatchOption, is_some, refl, sym, ap, subst, ◌∙◌, arith}
 use Rattle.std.specs.Option.{IfSome}
 use Rattle.std.specs.FinMap as map
@@ -8,6 +7,7 @@ use Rattle.std.specs.declared.cmp.Ordering.TheVariants.{Less}
 use Rattle.byte_maps.specs.ByteMap.{byte_order}
 use Rattle.meta_rows.specs.Rows.{Rows}
 use Rattle.meta_log.specs.declared.slot.Super.{Super}
+use Rattle.meta_log.specs.Slots.{width_of}
 use Rattle.unit_fields.specs.Names.{IsName, IsCollName}
 use Rattle.unit_fields.proofs.CollNames.{no_zero_in_coll}
 use Rattle.row_format.specs.Keys.{coll_key, onode_key}

@@ -1,12 +1,12 @@
 -- Runs of pages, and what reads of them give.
 use Rattle.std.proofs.Common.{◌≡◌, inl, inr, ℕ, ◌+◌, ◌-◌, ◌*◌, ◌<◌, ◌≤◌, List, [], ◌++◌, length, take, set, get_or, Option, Some, None, refl, sym, ap, subst, ◌∙◌, arith, length-append}
-use Rattle.unit_fields.specs.declared.width.Width.{Width}
 use Rattle.std.specs.Prelude.{IfSome, All, Result, Ok, Err, IfErr, IsErr}
 use Rattle.std.specs.Result.{IsErrAnd}
 use Rattle.std.proofs.lemmas.Bool.{cases_lt}
 use Rattle.std.proofs.lemmas.List.{length-take-le, get_or-set_same, get_or-set_other}
 use Rattle.byte_maps.specs.Units.{unit_at, zeros, IsUnits}
 use Rattle.byte_maps.proofs.UnitLemmas.{length-unit_at, length-zeros, unit_at-zeros, piece_of_front}
+use Rattle.unit_fields.specs.declared.width.Width.{Width}
 use Rattle.crc32c_csum.specs.Crc32c.{after_bits, crc32c}
 use Rattle.block_device.specs.Log.{last, HasNoBadDone}
 use Rattle.block_device.specs.Disk.{Disk, History, HasRead, IsApart, IsNotInFlight}

@@ -1,10 +1,10 @@
 -- Pages of an object read some at a time, each where it is found among the object's extents.
 use Rattle.std.specs.Prelude.{◌≡◌, ◌≢◌, ℕ, ◌+◌, ◌-◌, ◌/◌, ◌%◌, ◌<◌, ◌≤◌, List, [], take, drop, get_or, Some, None}
 use Rattle.byte_maps.specs.Units.{unit_at, zeros, IsUnits}
+use Rattle.unit_fields.specs.declared.width.Width.{Width}
 use Rattle.crc32c_csum.specs.Crc32c.{crc32c, remainder, all_ones}
 use Rattle.block_device.specs.Disk.{Disk, HasRead}
 use Rattle.meta_rows.specs.Rows.{Rows}
-use Rattle.unit_fields.specs.declared.width.Width.{Width}
 use Rattle.row_format.specs.Extents.{Extent, own}
 use Rattle.page_lookup.specs.Found.{place_found}
 use Rattle.onode_state.specs.Objects.{FindPagesOf}

@@ -1,8 +1,8 @@
 -- What a read needs of rows and device, and what comes next in a walk.
 use Rattle.std.specs.Prelude.{◌≡◌, ℕ, List, [], Option}
+use Rattle.unit_fields.specs.declared.width.Width.{Width}
 use Rattle.block_device.specs.Disk.{Disk}
 use Rattle.meta_rows.specs.Rows.{Rows}
-use Rattle.unit_fields.specs.declared.width.Width.{Width}
 use Rattle.meta_log.specs.declared.slot.Super.{Super}
 use Rattle.meta_log.specs.Slots.{IsSuper, width_of}
 use Rattle.store_image.specs.BadRows.{NoBadRow}

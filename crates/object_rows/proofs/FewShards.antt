@@ -1,12 +1,12 @@
 -- An object has at most as many shards as it may have pages.
 use Rattle.std.proofs.Common.{ℕ, ◌+◌, ◌<◌, ◌≤◌, ◌^◌, List, [], ◌∷◌, length, is_some, sym, ap, ◌∙◌, arith}
-use Rattle.meta_log.specs.Slots.{width_of}
-use Rattle.unit_fields.specs.declared.width.Width.{Width}
 use Rattle.std.specs.List.{AllByRecursion}
 use Rattle.meta_rows.specs.Rows.{Rows}
 use Rattle.meta_log.specs.declared.slot.Super.{Super}
+use Rattle.meta_log.specs.Slots.{width_of}
 use Rattle.unit_fields.specs.Names.{IsName, IsCollName}
 use Rattle.unit_fields.specs.UnitSet.{Ascends}
+use Rattle.unit_fields.specs.declared.width.Width.{Width}
 use Rattle.row_format.specs.Keys.{shard_key}
 use Rattle.row_format.specs.Extents.{Extent, page_end, BeginsAt, FitsExtent}
 use Rattle.row_format.specs.Row.{onode, shard}

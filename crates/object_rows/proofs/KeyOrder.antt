@@ -1,7 +1,5 @@
 -- The operations are in the order of their keys.
 use Rattle.std.proofs.Common.{◌≡◌, inl, inr, ℕ, suc, ◌+◌, ◌*◌, ◌/◌, ◌%◌, ◌<◌, ◌^◌, Bool, cond, List, [], ◌∷◌, ◌++◌, refl, sym, ap, subst, ◌∙◌, arith}
-use Rattle.meta_log.specs.Slots.{width_of}
-use Rattle.unit_fields.specs.declared.width.Width.{Width}
 use Rattle.std.specs.Prelude.{nat_lt, filter}
 use Rattle.std.specs.List.{AllByRecursion}
 use Rattle.std.specs.Int.{w32, w64, to_be_bytes, to_le_bytes}
@@ -10,11 +8,13 @@ use Rattle.std.specs.declared.cmp.Ordering.TheVariants.{Less}
 use Rattle.std.proofs.lemmas.Bool.{cases_Bool, cases_lt}
 use Rattle.std.proofs.lemmas.Nat.{from_be_bytes-to_be_bytes_4}
 use Rattle.byte_maps.specs.ByteMap.{byte_order}
+use Rattle.unit_fields.specs.declared.width.Width.{Width}
 use Rattle.number_map.proofs.Search.{cmp_less, cmp_equal}
 use Rattle.meta_rows.specs.Rows.{Rows, key_of}
 use Rattle.meta_rows.specs.declared.row_op.RowOp.{RowOp}
 use Rattle.meta_rows.specs.declared.row_op.RowOp.TheVariants.{Drop}
 use Rattle.meta_log.specs.declared.slot.Super.{Super}
+use Rattle.meta_log.specs.Slots.{width_of}
 use Rattle.row_format.specs.Keys.{object_key, onode_key, shard_key, bitmap_key}
 use Rattle.row_format.specs.Extents.{Extent, FitsExtent}
 use Rattle.row_format.specs.Row.{shard}

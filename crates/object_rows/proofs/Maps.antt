@@ -1,13 +1,12 @@
 -- What a write makes of an object's page map.
 use Rattle.std.proofs.Common.{◌≡◌, inl, inr, ℕ, ◌+◌, ◌≤◌, ◌^◌, List, length, Some, is_some, sym, ap, subst, ◌∙◌, arith}
-use Rattle.meta_log.specs.Slots.{width_of}
 use Rattle.std.specs.Prelude.{slice_index}
 use Rattle.std.specs.FinMap as finite
 use Rattle.byte_maps.specs.Units.{unit_at}
 use Rattle.crc32c_csum.specs.Crc32c.{crc32c}
 use Rattle.meta_rows.specs.Rows.{Rows}
 use Rattle.meta_log.specs.declared.slot.Super.{Super}
-use Rattle.meta_log.specs.Slots.{data_unit}
+use Rattle.meta_log.specs.Slots.{width_of, data_unit}
 use Rattle.row_format.specs.Extents.{Body, private, page_count, Place, own}
 use Rattle.row_format.specs.Row.{shard}
 use Rattle.store_image.specs.Pages.{IsPageAt, pages_of}

@@ -1,6 +1,5 @@
 -- Units in order, each with its page.
 use Rattle.std.proofs.Common.{◌≡◌, ◌↔◌, inl, inr, ℕ, zero, suc, ◌+◌, ◌*◌, ◌<◌, ◌≤◌, List, [], ◌∷◌, length, get_or, map, Any, refl, sym, ap, ◌∙◌, arith}
-use Rattle.meta_log.specs.Slots.{width_of}
 use Rattle.std.specs.Prelude.{slice_index}
 use Rattle.std.specs.List.{AllByRecursion}
 use Rattle.std.proofs.lemmas.Bool.{cases_lt}
@@ -8,6 +7,7 @@ use Rattle.byte_maps.specs.Units.{unit_at}
 use Rattle.byte_maps.proofs.UnitLemmas.{length-unit_at}
 use Rattle.meta_rows.specs.Rows.{Rows}
 use Rattle.meta_log.specs.declared.slot.Super.{Super}
+use Rattle.meta_log.specs.Slots.{width_of}
 use Rattle.unit_fields.specs.UnitSet.{Ascends}
 use Rattle.store_image.specs.Owners.{IsDataUnit, IsOwned}
 use Rattle.object_rows.specs.declared.plan.FreshUnit.{FreshUnit}

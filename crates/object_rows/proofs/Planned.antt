@@ -1,6 +1,5 @@
 -- What holds of every transaction that is planned.
 use Rattle.std.proofs.Common.{◌≡◌, ◌⊎◌, inl, inr, ℕ, ◌+◌, ◌*◌, ◌<◌, List, [], ◌∷◌, length, ◌++◌, Any, Contains, Ok, sym, ap, subst, ◌∙◌, length-append, arith, is_ok, ◌/◌, ◌%◌, map}
-use Rattle.meta_log.specs.Slots.{width_of}
 use Rattle.std.specs.Prelude.{◌^◌, IsOk, Any}
 use Rattle.std.specs.List.{AllByRecursion}
 use Rattle.std.specs.Int.{w32, to_le_bytes}
@@ -11,6 +10,7 @@ use Rattle.meta_rows.specs.Spelling.{ops_bytes, AllFit}
 use Rattle.meta_rows.specs.declared.row_op.RowOp.{RowOp}
 use Rattle.meta_log.specs.declared.slot.Super.{Super}
 use Rattle.meta_log.specs.Records.{record_head, record_bytes, unit_count}
+use Rattle.meta_log.specs.Slots.{width_of}
 use Rattle.object_model.specs.Objects.{Objects}
 use Rattle.object_model.specs.Effect.{Change, transaction_effect}
 use Rattle.unit_fields.specs.Names.{IsCollName}

@@ -1,15 +1,14 @@
 -- An object's extents and pages, by its shards.
 use Rattle.std.proofs.Common.{◌≡◌, ◌⊎◌, ◌↔◌, inl, inr, ℕ, zero, suc, ◌+◌, ◌-◌, ◌<◌, ◌≤◌, ◌^◌, true, cond, List, [], ◌∷◌, ◌++◌, length, get_or, map, Some, None, is_some, refl, sym, ap, subst, ◌∙◌, arith}
-use Rattle.meta_log.specs.Slots.{width_of}
-use Rattle.unit_fields.specs.declared.width.Width.{Width}
 use Rattle.std.specs.Prelude.{nat_le, nat_lt, ◌&&◌, Contains}
 use Rattle.std.specs.List.{AllByRecursion}
 use Rattle.std.specs.FinMap as finite
 use Rattle.std.proofs.lemmas.Bool.{cases_Bool}
 use Rattle.meta_rows.specs.Rows.{Rows}
 use Rattle.meta_log.specs.declared.slot.Super.{Super}
-use Rattle.meta_log.specs.Slots.{data_unit}
+use Rattle.meta_log.specs.Slots.{width_of, data_unit}
 use Rattle.unit_fields.specs.Names.{IsName, IsCollName}
+use Rattle.unit_fields.specs.declared.width.Width.{Width}
 use Rattle.row_format.specs.Keys.{shard_key}
 use Rattle.row_format.specs.Extents.{Extent, Body, private, page_count, page_end, place_in, place_of, Place, ExtentsAscend, BeginsAt, FitsExtent}
 use Rattle.row_format.specs.Row.{Row, collection, onode, shard, bitmap, row_key}

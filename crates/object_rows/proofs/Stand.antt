@@ -1,11 +1,11 @@
 -- Rows that stand for objects, after an object's rows are replaced and its bytes are others.
 use Rattle.std.proofs.Common.{◌≡◌, ◌≢◌, ◌⊎◌, inl, inr, ℕ, true, false, List, [], ◌∷◌, length, Option, Some, refl, None, is_some, unwrap_or, option_and_then, sym, ap, subst, ◌∙◌, arith}
-use Rattle.meta_log.specs.Slots.{width_of}
 use Rattle.std.specs.Prelude.{IsSome}
 use Rattle.std.specs.FinMap as map
 use Rattle.byte_maps.specs.ByteMap.{byte_order}
 use Rattle.meta_rows.specs.Rows.{Rows}
 use Rattle.meta_log.specs.declared.slot.Super.{Super}
+use Rattle.meta_log.specs.Slots.{width_of}
 use Rattle.object_model.specs.Objects.{Object, Collection, Objects, empty_object}
 use Rattle.object_model.specs.Effect.{object_under}
 use Rattle.unit_fields.specs.Names.{IsName, IsCollName}

@@ -1,11 +1,11 @@
 -- An object is touched: it is made where it is missing.
 use Rattle.std.proofs.Common.{◌<◌, ◌^◌, length, arith, ◌≡◌, ◌↔◌, inl, inr, ℕ, true, false, cond, List, [], Option, Some, None, Ok, is_some, refl, sym, ap, subst, ◌∙◌, append-nil}
-use Rattle.meta_log.specs.Slots.{width_of}
 use Rattle.std.specs.FinMap as map
 use Rattle.meta_rows.specs.Rows.{Rows, rows_after}
 use Rattle.meta_rows.specs.Spelling.{ops_bytes, AllFit}
 use Rattle.meta_rows.specs.declared.row_op.RowOp.{RowOp}
 use Rattle.meta_log.specs.declared.slot.Super.{Super}
+use Rattle.meta_log.specs.Slots.{width_of}
 use Rattle.object_model.specs.Objects.{Objects}
 use Rattle.object_model.specs.Effect.{transaction_effect}
 use Rattle.unit_fields.specs.Names.{IsName, IsCollName}

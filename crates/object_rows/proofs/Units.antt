@@ -1,11 +1,11 @@
 -- Which units have owners after an object's rows are replaced, and after whole pages are written.
 use Rattle.std.proofs.Common.{◌≡◌, ◌⊎◌, ◌↔◌, inl, inr, ℕ, ◌+◌, ◌<◌, ◌≤◌, List, length, Some, refl, sym, ap, subst, ◌∙◌, arith}
-use Rattle.meta_log.specs.Slots.{width_of}
 use Rattle.std.specs.Prelude.{slice_index}
 use Rattle.byte_maps.specs.Units.{unit_at}
 use Rattle.crc32c_csum.specs.Crc32c.{crc32c}
 use Rattle.meta_rows.specs.Rows.{Rows}
 use Rattle.meta_log.specs.declared.slot.Super.{Super}
+use Rattle.meta_log.specs.Slots.{width_of}
 use Rattle.row_format.specs.Extents.{Extent, own, place_of}
 use Rattle.store_image.specs.Pages.{IsPageAt}
 use Rattle.store_image.specs.Owners.{Owner, page_of, Owns, IsOwned, HasSoleOwner}

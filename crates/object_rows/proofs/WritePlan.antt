@@ -1,6 +1,5 @@
 -- What holds of the operations of a write of whole pages.
 use Rattle.std.proofs.Common.{◌≡◌, ◌⊎◌, ◌↔◌, inl, inr, ℕ, ◌+◌, ◌*◌, ◌<◌, ◌≤◌, List, [], ◌∷◌, length, Any, Contains, Ok, refl, sym, ap, subst, ◌∙◌, length-append, arith}
-use Rattle.meta_log.specs.Slots.{width_of}
 use Rattle.std.specs.Prelude.{max, slice_index, ◌^◌}
 use Rattle.std.specs.List.{AllByRecursion}
 use Rattle.std.specs.FinSet as set
@@ -14,6 +13,7 @@ use Rattle.meta_rows.specs.Spelling.{op_bytes, ops_bytes, FitsRowOp, AllFit}
 use Rattle.meta_rows.specs.declared.row_op.RowOp.{RowOp}
 use Rattle.meta_rows.proofs.Folds.{rows_after-append}
 use Rattle.meta_log.specs.declared.slot.Super.{Super}
+use Rattle.meta_log.specs.Slots.{width_of}
 use Rattle.object_model.specs.Objects.{Objects}
 use Rattle.object_model.specs.Effect.{object_limit, transaction_effect}
 use Rattle.unit_fields.specs.UnitSet.{Ascends}

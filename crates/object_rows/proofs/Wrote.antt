@@ -1,7 +1,5 @@
 -- Whole pages are written, or an object is made.
 use Rattle.std.proofs.Common.{◌≡◌, ◌⊎◌, inl, inr, ℕ, ◌+◌, ◌-◌, ◌*◌, ◌<◌, ◌≤◌, List, [], ◌∷◌, length, Option, Some, None, Ok, Err, is_some, unwrap_or, refl, sym, ap, subst, ◌∙◌, arith}
-use Rattle.meta_log.specs.Slots.{width_of}
-use Rattle.unit_fields.specs.declared.width.Width.{Width}
 use Rattle.std.specs.Prelude.{max, slice_index}
 use Rattle.std.specs.FinMap as map
 use Rattle.std.proofs.lemmas.Bool.{le-ltb, cases_lt}
@@ -10,11 +8,13 @@ use Rattle.byte_maps.proofs.Laws.{insert_same}
 use Rattle.crc32c_csum.specs.Crc32c.{crc32c}
 use Rattle.meta_rows.specs.Rows.{Rows}
 use Rattle.meta_log.specs.declared.slot.Super.{Super}
+use Rattle.meta_log.specs.Slots.{width_of}
 use Rattle.object_model.specs.declared.op.Op.TheVariants.{Touch, Write}
 use Rattle.object_model.specs.declared.op.Refusal.TheVariants.{NoCollection, TooBig}
 use Rattle.object_model.specs.Objects.{Object, Collection, Objects, empty_object}
 use Rattle.object_model.specs.Effect.{object_limit, overwritten, unless, making, effects, transaction_effect, object_under, ◌>>=◌}
 use Rattle.unit_fields.specs.Names.{IsName, IsCollName}
+use Rattle.unit_fields.specs.declared.width.Width.{Width}
 use Rattle.row_format.specs.Keys.{onode_key}
 use Rattle.row_format.specs.Extents.{Extent, Place, own, place_of}
 use Rattle.row_format.specs.Row.{onode, shard, row_value}

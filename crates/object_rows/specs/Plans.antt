@@ -1,6 +1,5 @@
 -- The operations that planning gives: those on an object, and behind them those on the bitmap.
 use Rattle.std.specs.Prelude.{◌≡◌, ◌↔◌, ◌⊎◌, ℕ, ◌+◌, ◌*◌, max, List, [], ◌∷◌, ◌++◌, length, Contains, if◌then◌else◌}
-use Rattle.unit_fields.specs.declared.width.Width.{Width}
 use Rattle.std.specs.List.{AllByRecursion, flat_map}
 use Rattle.std.specs.Ordering.{nat_cmp}
 use Rattle.std.specs.FinMap as finite
@@ -11,6 +10,7 @@ use Rattle.number_map.specs.NumberMap.{is_in}
 use Rattle.meta_rows.specs.Rows.{Rows}
 use Rattle.meta_rows.specs.declared.row_op.RowOp.{RowOp}
 use Rattle.unit_fields.specs.UnitSet.{Ascends}
+use Rattle.unit_fields.specs.declared.width.Width.{Width}
 use Rattle.row_format.specs.Keys.{onode_key, shard_key}
 use Rattle.store_image.specs.Pages.{HasKey}
 use Rattle.row_format.specs.Extents.{Place, own}

@@ -1,7 +1,5 @@
 -- The rows in the range of an object's shards are its shards, all of them, in the order of their pages.
 use Rattle.std.proofs.Common.{◌≡◌, ◌≢◌, ◌⊎◌, inl, inr, ℕ, zero, suc, ◌<◌, ◌^◌, Bool, true, cond, not, T, List, [], ◌∷◌, ◌++◌, length, get_or, map, Some, None, refl, sym, ap, subst, ◌∙◌, append_assoc, arith}
-use Rattle.meta_log.specs.Slots.{width_of}
-use Rattle.unit_fields.specs.declared.width.Width.{Width}
 use Rattle.std.specs.Prelude.{filter, Contains, ◌&&◌}
 use Rattle.std.specs.Int.{w32, to_be_bytes}
 use Rattle.std.specs.List.{flat_map, AllByRecursion}
@@ -17,7 +15,9 @@ use Rattle.byte_maps.proofs.Places.{both_first, both_second}
 use Rattle.meta_rows.specs.Rows.{Rows}
 use Rattle.meta_rows.specs.Table.{rows_from_to}
 use Rattle.meta_log.specs.declared.slot.Super.{Super}
+use Rattle.meta_log.specs.Slots.{width_of}
 use Rattle.unit_fields.specs.Names.{IsName, IsCollName}
+use Rattle.unit_fields.specs.declared.width.Width.{Width}
 use Rattle.row_format.specs.Keys.{object_key, onode_key, shard_key, bitmap_key}
 use Rattle.row_format.specs.Extents.{Extent, extent_bytes}
 use Rattle.row_format.specs.Row.{Row, collection, onode, shard, bitmap, row_key, row_value, FitsShard}

@@ -1,6 +1,5 @@
 -- An object as its rows have it, from the rows that are its own.
 use Rattle.std.proofs.Common.{◌≡◌, ℕ, true, List, [], ◌∷◌, Some, None, is_some, refl, sym, subst, ◌∙◌, arith}
-use Rattle.meta_log.specs.Slots.{width_of}
 use Rattle.std.specs.List.{AllByRecursion}
 use Rattle.std.specs.FinMap as finite
 use Rattle.meta_rows.specs.Rows.{Rows}
@@ -9,6 +8,7 @@ use Rattle.unit_fields.specs.UnitSet.{Ascends}
 use Rattle.row_format.specs.Keys.{onode_key, shard_key}
 use Rattle.row_format.specs.Extents.{Extent}
 use Rattle.row_format.specs.Row.{onode, shard, row_value}
+use Rattle.meta_log.specs.Slots.{width_of}
 use Rattle.onode_codec.specs.Reading.{SpellsOnode}
 use Rattle.onode_codec.proofs.Again.{same_onode as same_size}
 use Rattle.store_image.specs.Pages.{HasKey, HasOnode}

@@ -1,12 +1,12 @@
 -- An object as its rows have it, and its shards as they are read.
 use Rattle.std.specs.Prelude.{◌≡◌, ◌↔◌, ℕ, List, [], ◌∷◌, ◌++◌, Some}
-use Rattle.unit_fields.specs.declared.width.Width.{Width}
 use Rattle.std.specs.List.{flat_map, AllByRecursion}
 use Rattle.std.specs.FinMap as finite
 use Rattle.meta_rows.specs.Rows.{Rows}
 use Rattle.meta_log.specs.declared.slot.Super.{Super}
 use Rattle.meta_log.specs.Slots.{IsSuper, width_of}
 use Rattle.unit_fields.specs.UnitSet.{Ascends}
+use Rattle.unit_fields.specs.declared.width.Width.{Width}
 use Rattle.row_format.specs.Keys.{shard_key}
 use Rattle.row_format.specs.Extents.{Extent, Place, BeginsAt}
 use Rattle.onode_codec.specs.Reading.{SpellExtents}

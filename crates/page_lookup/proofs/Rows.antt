@@ -1,7 +1,7 @@
 -- Pages found in the values of rows, one row's behind the other's.
 use Rattle.std.proofs.Common.{◌≡◌, ℕ, ◌≤◌, List, [], ◌∷◌, ◌++◌, None, refl, sym, ap, ◌∙◌, arith}
-use Rattle.unit_fields.specs.declared.width.Width.{Width}
 use Rattle.std.proofs.lemmas.List.Concat.{flat_map-cons}
+use Rattle.unit_fields.specs.declared.width.Width.{Width}
 use Rattle.row_format.specs.Extents.{Extent}
 use Rattle.page_lookup.specs.Bytes.{extents_read, rows_read}
 use Rattle.page_lookup.specs.Found.{place_found, EndBehind, FindAlike, FindAlikeBefore, HasUnit}

@@ -1,13 +1,13 @@
 -- The names of collections and of objects that rows have are the keys of objects that have the shape of the rows.
 use Rattle.std.proofs.Common.{◌≡◌, ℕ, List, Option, Some, None, true, false, is_some, refl, sym, ap, subst, ◌∙◌, option_and_then}
-use Rattle.meta_log.specs.Slots.{width_of}
-use Rattle.unit_fields.specs.declared.width.Width.{Width}
 use Rattle.std.specs.FinMap as finite
 use Rattle.meta_rows.specs.Rows.{Rows}
 use Rattle.meta_log.specs.declared.slot.Super.{Super}
+use Rattle.meta_log.specs.Slots.{width_of}
 use Rattle.object_model.specs.Objects.{Collection, Objects}
 use Rattle.object_model.specs.Effect.{object_under}
 use Rattle.unit_fields.specs.Names.{IsCollName}
+use Rattle.unit_fields.specs.declared.width.Width.{Width}
 use Rattle.row_format.specs.Keys.{coll_key}
 use Rattle.row_format.specs.Row.{Row, collection, onode, shard, bitmap, row_key, FitsRow}
 use Rattle.row_format.proofs.KeyLemmas.{same_coll, coll_no_object, bitmap_no_coll}

@@ -1,9 +1,9 @@
 -- Pages that were read, one run behind another.
 use Rattle.std.proofs.Common.{◌≡◌, inl, inr, ℕ, ◌+◌, ◌-◌, ◌*◌, ◌<◌, ◌≤◌, List, [], ◌++◌, length, refl, sym, subst, arith, length-append}
-use Rattle.unit_fields.specs.declared.width.Width.{Width}
 use Rattle.std.proofs.lemmas.Bool.{cases_lt}
 use Rattle.byte_maps.specs.Units.{unit_at, IsUnits}
 use Rattle.byte_maps.proofs.UnitLemmas.{unit_at-append_front, unit_at-append_back}
+use Rattle.unit_fields.specs.declared.width.Width.{Width}
 use Rattle.block_device.specs.Disk.{Disk}
 use Rattle.meta_rows.specs.Rows.{Rows}
 use Rattle.read_facts.specs.PageReads.{IsGoodPage, IsBadPage, AreGoodPages, IsFirstBad}

@@ -1,6 +1,5 @@
 -- What rows answer by the objects that have their shape.
 use Rattle.std.proofs.Common.{◌≡◌, ◌⊎◌, inl, inr, ℕ, ◌+◌, Bool, true, false, cond, not, nat_lt, List, [], length, take, drop, Option, Some, None, Ok, Err, unwrap_or, option_and_then, refl, sym, ap, subst, ◌∙◌}
-use Rattle.unit_fields.specs.declared.width.Width.{Width}
 use Rattle.std.specs.Prelude.{IsTrue}
 use Rattle.std.specs.Int.{w64, from_le_bytes}
 use Rattle.std.specs.Option.{option_map_or}
@@ -19,6 +18,7 @@ use Rattle.object_model.specs.Reply.{answer_from, answer_of_object, reply_of}
 use Rattle.object_model.specs.Book.{is_refused, is_of_device}
 use Rattle.meta_rows.specs.Rows.{Rows}
 use Rattle.unit_fields.specs.Names.{IsCollName}
+use Rattle.unit_fields.specs.declared.width.Width.{Width}
 use Rattle.store_image.specs.Pages.{HasOnode}
 use Rattle.store_image.specs.Stands.{IsShape}
 use Rattle.read_facts.specs.Walks.{IsObject}

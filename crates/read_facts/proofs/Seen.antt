@@ -1,8 +1,8 @@
 -- Reads where the device tells what it holds, and no write of it ended badly.
 use Rattle.std.proofs.Common.{◌≡◌, ℕ, ◌+◌, ◌/◌, List, length, take, drop, Option, Some, sym, ap, subst, ◌∙◌, arith, take_all}
-use Rattle.unit_fields.specs.declared.width.Width.{Width}
 use Rattle.std.specs.Prelude.{IfSome}
 use Rattle.byte_maps.specs.Units.{unit_at}
+use Rattle.unit_fields.specs.declared.width.Width.{Width}
 use Rattle.crc32c_csum.specs.Crc32c.{crc32c}
 use Rattle.block_device.specs.Disk.{Disk, History}
 use Rattle.block_device.specs.Facts.{last_at}

@@ -1,9 +1,9 @@
 -- A walk over all objects, where the device tells what it holds, shows the objects that rows and units stand for.
 use Rattle.std.proofs.Common.{◌≡◌, ℕ, List, [], ◌∷◌, length, map, Some, None, Result, Ok, Err, refl, sym, ap, ◌∙◌}
-use Rattle.unit_fields.specs.declared.width.Width.{Width}
 use Rattle.std.specs.List.{AllByRecursion}
 use Rattle.std.specs.FinMap as finite
 use Rattle.std.proofs.lemmas.Option.{same_Some}
+use Rattle.unit_fields.specs.declared.width.Width.{Width}
 use Rattle.crc32c_csum.specs.Crc32c.{crc32c}
 use Rattle.block_device.specs.Disk.{Disk, History}
 use Rattle.block_device.specs.Facts.{last_at}

@@ -1,6 +1,5 @@
 -- What rows and a device answer to a command that reads.
 use Rattle.std.specs.Prelude.{◌≡◌, ℕ, List}
-use Rattle.unit_fields.specs.declared.width.Width.{Width}
 use Rattle.crc32c_csum.specs.Crc32c.{crc32c}
 use Rattle.block_device.specs.Disk.{Disk}
 use Rattle.object_model.specs.declared.command.Command.{Command}
@@ -9,6 +8,7 @@ use Rattle.object_model.specs.declared.command.Answer.{Answer}
 use Rattle.object_model.specs.declared.command.Answer.TheVariants as answer
 use Rattle.meta_rows.specs.Rows.{Rows}
 use Rattle.unit_fields.specs.Names.{IsName, IsCollName}
+use Rattle.unit_fields.specs.declared.width.Width.{Width}
 use Rattle.store_image.specs.Pages.{HasOnode}
 use Rattle.read_facts.specs.Walks.{IsObject, AreAll}
 use Rattle.read_facts.specs.PageReads.{ReadsBytes, FailsAt}

@@ -1,7 +1,7 @@
 -- Pages of an object, read from the device.
 use Rattle.std.specs.Prelude.{◌≡◌, ◌≢◌, ℕ, ◌+◌, ◌-◌, ◌/◌, ◌%◌, ◌<◌, min, nat_lt, List, length, take, drop, IfSome, if◌then◌else◌}
-use Rattle.unit_fields.specs.declared.width.Width.{Width}
 use Rattle.byte_maps.specs.Units.{unit_at, zeros, IsUnits}
+use Rattle.unit_fields.specs.declared.width.Width.{Width}
 use Rattle.crc32c_csum.specs.Crc32c.{crc32c}
 use Rattle.block_device.specs.Log.{HasNoBadDone}
 use Rattle.block_device.specs.Disk.{Disk}

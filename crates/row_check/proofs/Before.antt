@@ -1,6 +1,5 @@
 -- What the row before tells of the one that is looked at.
 use Rattle.std.proofs.Common.{◌≡◌, ℕ, ◌≤◌, List, Option, Some, None, refl, sym, ap, subst, ◌∙◌, ◌↔◌}
-use Rattle.meta_log.specs.Slots.{width_of}
 use Rattle.std.specs.Prelude.{IsSome}
 use Rattle.std.specs.List.{AllByRecursion}
 use Rattle.std.specs.FinMap as map
@@ -8,6 +7,7 @@ use Rattle.std.specs.Int.{w64, to_le_bytes}
 use Rattle.unit_fields.specs.Names.{IsName, IsCollName}
 use Rattle.meta_rows.specs.Rows.{Rows}
 use Rattle.meta_log.specs.declared.slot.Super.{Super}
+use Rattle.meta_log.specs.Slots.{width_of}
 use Rattle.row_format.specs.Keys.{coll_key, onode_key}
 use Rattle.row_format.specs.Extents.{Extent, page_end}
 use Rattle.row_format.specs.Row as format

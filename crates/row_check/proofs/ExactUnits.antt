@@ -1,9 +1,9 @@
 -- Whether the bitmap is exact, by the sets of owned, shared and marked units.
 use Rattle.std.proofs.Common.{◌≡◌, inl, inr, ℕ, ◌^◌, ◌<◌, ◌≤◌, false, length, get_or, Option, Some, None, subst, arith}
-use Rattle.unit_fields.specs.declared.width.Width.{Width}
 use Rattle.std.specs.FinSet as set
 use Rattle.std.proofs.lemmas.Bool.{cases_lt, cases_Bool}
 use Rattle.std.proofs.lemmas.List.{get_or_past}
+use Rattle.unit_fields.specs.declared.width.Width.{Width}
 use Rattle.meta_rows.specs.Rows.{Rows}
 use Rattle.store_image.specs.Owners.{HasSoleOwner, IsOwned, IsExactAs, IsInexact, IsLeastInexact}
 use Rattle.bitmap_freelist.specs.Bitmap as freelist

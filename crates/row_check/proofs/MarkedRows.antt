@@ -1,7 +1,5 @@
 -- What the marks of the rows that were gone through tell.
 use Rattle.std.proofs.Common.{◌≡◌, ◌⊎◌, ◌↔◌, inl, inr, ℕ, ◌+◌, ◌<◌, ◌≤◌, true, false, List, [], ◌∷◌, length, get_or, replicate, Some, refl, sym, ap, subst, ◌∙◌, arith}
-use Rattle.meta_log.specs.Slots.{width_of}
-use Rattle.unit_fields.specs.declared.width.Width.{Width}
 use Rattle.std.specs.List.{AllByRecursion}
 use Rattle.std.specs.declared.cmp.Ordering.TheVariants.{Less}
 use Rattle.std.specs.FinMap as map
@@ -9,8 +7,10 @@ use Rattle.std.proofs.lemmas.Bool.{cases_lt, cases_eq, cases_Bool}
 use Rattle.std.proofs.lemmas.Cmp.{tied_itself, nat_list_cmp_total}
 use Rattle.std.proofs.lemmas.List.{get_or-replicate, get_or_past, length-replicate}
 use Rattle.byte_maps.specs.ByteMap.{byte_order}
+use Rattle.unit_fields.specs.declared.width.Width.{Width}
 use Rattle.meta_rows.specs.Rows.{Rows}
 use Rattle.meta_log.specs.declared.slot.Super.{Super}
+use Rattle.meta_log.specs.Slots.{width_of}
 use Rattle.row_format.specs.Keys.{shard_key}
 use Rattle.row_format.specs.Extents.{Body, private, Extent, own}
 use Rattle.row_format.specs.Row as format

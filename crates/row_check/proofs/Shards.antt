@@ -1,6 +1,5 @@
 -- A shard's place among the shards before it, from the last row before it.
 use Rattle.std.proofs.Common.{◌≡◌, ◌≢◌, inl, inr, ℕ, ◌^◌, ◌<◌, ◌≤◌, List, [], ◌∷◌, ◌++◌, Option, Some, None, Result, Ok, Err, Bool, IfOk, IsTrue, sym, ap, subst, ◌∙◌, arith, ◌↔◌}
-use Rattle.meta_log.specs.Slots.{width_of}
 use Rattle.std.specs.List.{AllByRecursion}
 use Rattle.std.specs.FinMap as map
 use Rattle.std.specs.declared.cmp.Ordering.TheVariants.{Less}
@@ -9,6 +8,7 @@ use Rattle.byte_maps.specs.ByteMap.{byte_order}
 use Rattle.unit_fields.specs.Names.{IsName, IsCollName}
 use Rattle.meta_rows.specs.Rows.{Rows}
 use Rattle.meta_log.specs.declared.slot.Super.{Super}
+use Rattle.meta_log.specs.Slots.{width_of}
 use Rattle.row_format.specs.Keys.{onode_key, shard_key}
 use Rattle.row_format.specs.Extents.{Extent, page_end}
 use Rattle.row_format.specs.Row as format

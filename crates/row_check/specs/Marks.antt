@@ -1,8 +1,8 @@
 -- Marks at units: a first one where a page stands, and a second one where another page does too.
 use Rattle.std.specs.Prelude.{ℕ, zero, suc, ◌+◌, ◌≤◌, ◌||◌, Bool, true, false, List, [], ◌∷◌, length, replicate, slice_index_or, slice_set, refl}
-use Rattle.unit_fields.specs.declared.width.Width.{Width}
 use Rattle.std.specs.List.{AllByRecursion}
 use Rattle.std.specs.Coded.{Coded, code_by, coded×, coded_list, coded_bool}
+use Rattle.unit_fields.specs.declared.width.Width.{Width}
 use Rattle.row_format.specs.Extents.{Body, private, Extent}
 use Rattle.row_format.specs.Row as format
 use Rattle.onode_codec.specs.Reading.{SpellExtents}

@@ -1,8 +1,8 @@
 -- The units that have owners, and those that have more than one.
 use Rattle.std.specs.Prelude.{◌≡◌, ◌↔◌, ℕ, Bool, true, false, IsTrue, List, slice_index_or}
-use Rattle.unit_fields.specs.declared.width.Width.{Width}
 use Rattle.std.specs.FinSet as set
 use Rattle.std.specs.Ordering.{nat_cmp}
+use Rattle.unit_fields.specs.declared.width.Width.{Width}
 use Rattle.meta_rows.specs.Rows.{Rows}
 use Rattle.row_format.specs.Row as format
 use Rattle.store_image.specs.Owners.{IsOwned, HasSoleOwner}

@@ -1,7 +1,7 @@
 -- The bits of the bitmap where rows under other keys change.
 use Rattle.std.proofs.Common.{◌≡◌, ◌≢◌, ◌↔◌, inl, inr, ℕ, List, [], unwrap_or, sym, ap, ◌∙◌}
-use Rattle.unit_fields.specs.declared.width.Width.{Width}
 use Rattle.std.specs.FinMap as map
+use Rattle.unit_fields.specs.declared.width.Width.{Width}
 use Rattle.meta_rows.specs.Rows.{Rows}
 use Rattle.meta_rows.proofs.RowLemmas.{get-remove_other}
 use Rattle.row_format.specs.Keys.{bitmap_key}

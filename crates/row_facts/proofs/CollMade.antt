@@ -1,14 +1,14 @@
 -- Rows after a collection is made.
 use Rattle.std.proofs.Common.{◌≡◌, ◌≢◌, inl, inr, ℕ, List, [], ◌∷◌, length, Option, Some, None, Ok, is_some, option_and_then, refl, sym, ap, subst, ◌∙◌, ◌↔◌}
-use Rattle.meta_log.specs.Slots.{width_of}
-use Rattle.unit_fields.specs.declared.width.Width.{Width}
 use Rattle.std.specs.FinMap as map
 use Rattle.meta_rows.specs.Rows.{Rows, rows_after}
 use Rattle.meta_log.specs.declared.slot.Super.{Super}
+use Rattle.meta_log.specs.Slots.{width_of}
 use Rattle.object_model.specs.Objects.{Collection, Objects}
 use Rattle.object_model.specs.Effect.{effects, with_collection, transaction_effect, object_under, ◌>>=◌}
 use Rattle.object_model.specs.declared.op.Op.TheVariants.{MkColl}
 use Rattle.unit_fields.specs.Names.{IsCollName}
+use Rattle.unit_fields.specs.declared.width.Width.{Width}
 use Rattle.byte_maps.specs.ByteMap.{byte_order}
 use Rattle.row_format.specs.Keys.{coll_key, onode_key}
 use Rattle.row_format.specs.Extents.{Extent, own}

@@ -1,8 +1,8 @@
 -- No rows, and no objects.
 use Rattle.std.proofs.Common.{◌≡◌, ℕ, ◌%◌, List, [], Option, None, sym, ap, ◌∙◌, arith}
-use Rattle.unit_fields.specs.declared.width.Width.{Width}
 use Rattle.std.specs.FinMap as map
 use Rattle.byte_maps.specs.ByteMap.{byte_order}
+use Rattle.unit_fields.specs.declared.width.Width.{Width}
 use Rattle.meta_rows.specs.Rows.{Rows}
 use Rattle.meta_log.specs.declared.slot.Super.{Super}
 use Rattle.object_model.specs.Objects.{Collection}

@@ -1,10 +1,10 @@
 -- Rows after one row is put in.
 use Rattle.std.proofs.Common.{◌≡◌, ◌≢◌, ◌⊎◌, inl, inr, ℕ, List, ◌∷◌, Some, None, refl, sym, ap, ◌∙◌}
-use Rattle.meta_log.specs.Slots.{width_of}
-use Rattle.unit_fields.specs.declared.width.Width.{Width}
 use Rattle.std.specs.FinMap as map
+use Rattle.unit_fields.specs.declared.width.Width.{Width}
 use Rattle.meta_rows.specs.Rows.{Rows}
 use Rattle.meta_log.specs.declared.slot.Super.{Super}
+use Rattle.meta_log.specs.Slots.{width_of}
 use Rattle.row_format.specs.Extents.{Extent, Place}
 use Rattle.row_format.specs.Row.{Row, collection, onode, shard, bitmap, row_key, row_value, FitsRow}
 use Rattle.row_format.proofs.RowLemmas.{same_row}

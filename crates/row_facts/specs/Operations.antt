@@ -1,11 +1,11 @@
 -- The making of a collection, and the operation that puts a row in.
 use Rattle.std.specs.Prelude.{ℕ, List, [], ◌∷◌}
 use Rattle.std.specs.Int.{w64, to_le_bytes}
+use Rattle.unit_fields.specs.declared.width.Width.{Width}
 use Rattle.meta_rows.specs.declared.row_op.RowOp.{RowOp}
 use Rattle.meta_rows.specs.declared.row_op.RowOp.TheVariants.{Set}
 use Rattle.object_model.specs.declared.op.Op.TheVariants.{MkColl}
 use Rattle.object_model.specs.Effect.{Change}
-use Rattle.unit_fields.specs.declared.width.Width.{Width}
 use Rattle.row_format.specs.Keys.{coll_key, onode_key}
 use Rattle.row_format.specs.Row.{Row, row_key, row_value}
 

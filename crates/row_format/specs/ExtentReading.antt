@@ -3,8 +3,8 @@ use Rattle.std.specs.Prelude.{ℕ, zero, suc, ◌+◌, nat_lt, List, [], ◌∷�
 use Rattle.std.specs.Int.{w16, w32, from_le_bytes}
 use Rattle.unit_fields.specs.declared.width.Width.{Width}
 use Rattle.unit_fields.specs.Widths.{bytes_of}
-use Rattle.row_format.specs.Csums.{csum_in}
 use Rattle.row_format.specs.Extents.{Extent, private}
+use Rattle.row_format.specs.Csums.{csum_in}
 
 -- the first page of the extent at the front
 unfoldable pub first_in : List ℕ → ℕ

@@ -1,7 +1,7 @@
 -- Which keys and values are which rows.
 use Rattle.std.proofs.Common.{◌≡◌, ◌≢◌, ◌↔◌, ℕ, ◌^◌, ◌<◌, Bool, true, false, not, IsTrue, List, length, refl, sym, ap, subst, ◌∙◌}
-use Rattle.unit_fields.specs.declared.width.Width.{Width}
 use Rattle.unit_fields.specs.Names.{IsName, IsCollName}
+use Rattle.unit_fields.specs.declared.width.Width.{Width}
 use Rattle.meta_rows.specs.Rows.{all_zero}
 use Rattle.row_format.specs.Keys.{onode_key, shard_key, bitmap_key}
 use Rattle.row_format.specs.Extents.{Extent, BeginsAt}

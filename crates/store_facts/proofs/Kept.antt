@@ -2,11 +2,11 @@
 use Rattle.std.proofs.Common.{◌≡◌, inl, inr, ℕ, ◌^◌, ◌<◌, ◌≤◌, true, [], Option, Some, None, refl, sym, ap, subst, ◌∙◌}
 use Rattle.block_device.specs.Disk.{Disk, IsSound}
 use Rattle.block_device.specs.declared.device.Ticket.{Ticket}
-use Rattle.meta_log.specs.Slots.{IsSuper}
 use Rattle.object_model.specs.Effect.{Change}
 use Rattle.object_model.specs.declared.command.Command.{Command}
 use Rattle.object_model.specs.declared.command.Command.TheVariants as ask
 use Rattle.object_model.specs.declared.command.Answer.{Answer}
+use Rattle.meta_log.specs.Slots.{IsSuper}
 use Rattle.unit_allocator.specs.Units.{Space}
 use Rattle.store_steps.specs.declared.step.Step.{Step}
 use Rattle.store_steps.specs.declared.step.Step.TheVariants.{Data, Reap, Take, Flush, Seal, Record, Sync, Commit, Finish}

@@ -6,11 +6,11 @@ use Rattle.block_device.specs.Disk.{Disk, IsNotInFlight}
 use Rattle.block_device.specs.Facts.{IsUntouched}
 use Rattle.meta_rows.specs.Spelling.{ops_bytes, AllFit}
 use Rattle.meta_log.specs.declared.slot.Super.{Super}
-use Rattle.meta_log.specs.Slots.{IsSuper, active_unit}
 use Rattle.meta_log.specs.Records.{record_units, unit_count}
 use Rattle.meta_log.specs.Pieces.{given_from, piece_first, piece_units, LiesInRecord}
 use Rattle.meta_log.proofs.PieceLemmas.{lies}
 use Rattle.meta_log.proofs.SealLemmas.{length-record_units}
+use Rattle.meta_log.specs.Slots.{IsSuper, active_unit}
 use Rattle.store_image.specs.Owners.{IsDataUnit}
 use Rattle.object_rows.specs.declared.plan.FreshUnit.{FreshUnit}
 use Rattle.store_steps.specs.declared.context.Context.{Context}

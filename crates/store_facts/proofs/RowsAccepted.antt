@@ -1,11 +1,10 @@
 -- A transaction is accepted while nothing is under way.
 use Rattle.std.proofs.Common.{◌≡◌, ◌⊎◌, inl, inr, ℕ, ◌≤◌, Bool, true, false, List, [], ◌∷◌, ◌++◌, length, Contains, None, refl, sym, ap, subst, ◌∙◌, append-nil, arith}
-use Rattle.meta_log.specs.Slots.{width_of}
 use Rattle.std.specs.List.{flat_map}
 use Rattle.std.specs.Option.{option_map_or}
 use Rattle.meta_rows.specs.Rows.{Rows, rows_after}
 use Rattle.meta_log.specs.declared.slot.Super.{Super}
-use Rattle.meta_log.specs.Slots.{IsSuper}
+use Rattle.meta_log.specs.Slots.{width_of, IsSuper}
 use Rattle.object_model.specs.Effect.{Change}
 use Rattle.store_image.specs.Owners.{IsDataUnit, IsOwned, IsMarked}
 use Rattle.object_rows.specs.declared.plan.Plan.{Plan}

@@ -1,10 +1,10 @@
 -- What a state keeps of its rows and its free units depends on few of its parts.
 use Rattle.std.proofs.Common.{◌≡◌, ◌⊎◌, List, [], ◌∷◌, ◌++◌, map, Contains, None, refl, sym, ap, subst, ◌∙◌}
-use Rattle.meta_log.specs.Slots.{width_of}
-use Rattle.unit_fields.specs.declared.width.Width.{Width}
 use Rattle.std.specs.List.{flat_map}
+use Rattle.unit_fields.specs.declared.width.Width.{Width}
 use Rattle.block_device.specs.Disk.{Disk}
 use Rattle.meta_rows.specs.Rows.{Rows, rows_after}
+use Rattle.meta_log.specs.Slots.{width_of}
 use Rattle.store_image.specs.Owners.{IsOwned, IsMarked}
 use Rattle.object_rows.specs.Planned.{StandsOnce}
 use Rattle.store_steps.specs.declared.context.Context.{Context}

@@ -1,13 +1,12 @@
 -- On good rows the pages of objects stand on data units.
 use Rattle.std.proofs.Common.{◌≡◌, inl, inr, ℕ, ◌-◌, ◌<◌, Bool, true, false, cond, List, [], ◌∷◌, Some, sym, ap, subst, ◌∙◌, arith}
-use Rattle.meta_log.specs.Slots.{width_of}
 use Rattle.std.specs.Prelude.{nat_le, nat_lt, ◌&&◌}
 use Rattle.std.specs.List.{AllByRecursion}
 use Rattle.std.proofs.lemmas.Bool.{cases_Bool, and_parts, leb-true, ltb-true}
 use Rattle.std.proofs.lemmas.Option.{same_Some}
 use Rattle.meta_rows.specs.Rows.{Rows}
 use Rattle.meta_log.specs.declared.slot.Super.{Super}
-use Rattle.meta_log.specs.Slots.{data_unit}
+use Rattle.meta_log.specs.Slots.{width_of, data_unit}
 use Rattle.row_format.specs.Extents.{Extent, Body, private, page_count, page_end, Place, own, place_in, place_of}
 use Rattle.row_format.specs.Row.{shard}
 use Rattle.store_image.specs.BadRows.{IsOnData, NoBadRow, IsShardInPlace}

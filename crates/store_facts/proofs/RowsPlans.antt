@@ -1,17 +1,16 @@
 -- What the plan of a transaction takes of the free units, and that it is one of those that good rows stay good by.
 use Rattle.std.proofs.Common.{◌≡◌, inl, inr, ℕ, zero, suc, ◌<◌, ◌≤◌, ◌^◌, true, List, [], ◌∷◌, length, map, take, get_or, Contains, refl, sym, ap, subst, ◌∙◌, arith}
-use Rattle.meta_log.specs.Slots.{width_of}
-use Rattle.unit_fields.specs.declared.width.Width.{Width}
 use Rattle.std.specs.List.{AllByRecursion, Any}
 use Rattle.std.proofs.lemmas.List.{length-map, length-take-le}
 use Rattle.meta_rows.specs.Rows.{Rows}
 use Rattle.meta_rows.specs.Spelling.{ops_bytes, AllFit}
 use Rattle.meta_log.specs.declared.slot.Super.{Super}
 use Rattle.meta_log.specs.Records.{unit_count}
-use Rattle.meta_log.specs.Slots.{IsSuper}
+use Rattle.meta_log.specs.Slots.{width_of, IsSuper}
 use Rattle.object_model.specs.declared.op.Op.{Op}
 use Rattle.object_model.specs.declared.op.Op.TheVariants.{MkColl, Touch, Write}
 use Rattle.unit_fields.specs.UnitSet.{Ascends}
+use Rattle.unit_fields.specs.declared.width.Width.{Width}
 use Rattle.store_image.specs.BadRows.{NoBadRow}
 use Rattle.store_image.specs.Owners.{IsDataUnit, IsOwned, IsMarked}
 use Rattle.object_rows.specs.declared.plan.FreshUnit.{FreshUnit}

@@ -10,9 +10,9 @@ use Rattle.block_device.specs.declared.device.Ticket.{Ticket}
 use Rattle.block_device.specs.declared.event.Event.{Event}
 use Rattle.block_device.specs.declared.event.Event.TheVariants as event
 use Rattle.meta_log.specs.Records.{unit_count}
-use Rattle.meta_log.specs.Slots.{active_unit}
 use Rattle.meta_log.specs.Pieces.{piece_count, given_from, piece_first, piece_units, LiesInRecord}
 use Rattle.meta_log.proofs.PieceLemmas.{lies}
+use Rattle.meta_log.specs.Slots.{active_unit}
 use Rattle.object_rows.specs.declared.plan.FreshUnit.{FreshUnit}
 use Rattle.store_steps.specs.declared.context.Context.{Context}
 use Rattle.store_steps.specs.declared.flight.FlushState.TheVariants as flush

@@ -5,8 +5,8 @@ use Rattle.block_device.specs.Disk.{Flight}
 use Rattle.block_device.specs.Facts.{IsUntouched}
 use Rattle.meta_rows.specs.declared.row_op.RowOp.{RowOp}
 use Rattle.meta_log.specs.Records.{unit_count}
-use Rattle.meta_log.specs.Slots.{active_unit}
 use Rattle.meta_log.specs.Pieces.{piece_count, given_from}
+use Rattle.meta_log.specs.Slots.{active_unit}
 use Rattle.store_steps.specs.declared.context.Context.{Context}
 use Rattle.store_steps.specs.declared.flight.FlushState.{FlushState}
 use Rattle.store_steps.specs.declared.flight.FlushState.TheVariants as flush

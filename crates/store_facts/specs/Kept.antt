@@ -1,8 +1,7 @@
 -- What the kernel keeps, whatever its device tells.
 use Rattle.std.specs.Prelude.{◌≡◌, ℕ, ◌+◌, ◌*◌, ◌≤◌, ◌^◌, length, None}
-use Rattle.meta_log.specs.Slots.{width_of}
 use Rattle.block_device.specs.Disk.{Disk, IsSound}
-use Rattle.meta_log.specs.Slots.{IsSuper}
+use Rattle.meta_log.specs.Slots.{width_of, IsSuper}
 use Rattle.unit_allocator.specs.Units.{Space}
 use Rattle.store_steps.specs.State.{State}
 use Rattle.store_steps.specs.Opened.{Found}

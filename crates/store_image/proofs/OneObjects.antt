@@ -1,7 +1,5 @@
 -- An image stands for at most one Objects.
 use Rattle.std.proofs.Common.{◌≡◌, ◌≢◌, inl, inr, ℕ, List, length, Option, Some, None, is_some, refl, sym, ap, subst, ◌∙◌, arith}
-use Rattle.meta_log.specs.Slots.{width_of}
-use Rattle.unit_fields.specs.declared.width.Width.{Width}
 use Rattle.std.specs.Prelude.{IsSome, unwrap_or, [], option_and_then}
 use Rattle.std.specs.Int.{w64, from_le_bytes}
 use Rattle.std.proofs.lemmas.Nat.{from_le_bytes-to_le_bytes_8}
@@ -15,7 +13,9 @@ use Rattle.meta_log.specs.declared.slot.Super.{Super}
 use Rattle.meta_log.specs.Records.{AreRowsOf, active_half}
 use Rattle.meta_log.proofs.RecordLemmas.{same_records}
 use Rattle.meta_log.proofs.SlotLemmas.{same_active}
+use Rattle.meta_log.specs.Slots.{width_of}
 use Rattle.unit_fields.specs.Names.{IsName}
+use Rattle.unit_fields.specs.declared.width.Width.{Width}
 use Rattle.store_image.specs.Pages.{PageUnit, IsHole}
 use Rattle.store_image.specs.Stands.{page_bytes, IsPageSeen, IsObjectShape, AreObjectBytes, ObjectsStand, StandsFor}
 use Rattle.store_image.proofs.ByteLemmas.{equal_or_not, same_pages}

@@ -1,12 +1,12 @@
 -- On good rows a page stands at one place.
 use Rattle.std.proofs.Common.{◌≡◌, ◌⊎◌, inl, inr, ℕ, ◌<◌, ◌≤◌, ◌-◌, true, false, cond, List, [], ◌∷◌, Some, refl, sym, ap, subst, ◌∙◌, arith}
-use Rattle.meta_log.specs.Slots.{width_of}
 use Rattle.std.specs.Prelude.{nat_le, nat_lt, ◌&&◌}
 use Rattle.std.specs.List.{AllByRecursion}
 use Rattle.std.specs.FinMap as map
 use Rattle.std.proofs.lemmas.Bool.{ltb-true, leb-true, cases_lt}
 use Rattle.meta_rows.specs.Rows.{Rows}
 use Rattle.meta_log.specs.declared.slot.Super.{Super}
+use Rattle.meta_log.specs.Slots.{width_of}
 use Rattle.row_format.specs.Extents.{Extent, page_end, Place, place_in, place_of, ExtentsAscend, BeginsAt}
 use Rattle.row_format.specs.Row.{Row, shard, row_key, row_value}
 use Rattle.row_format.proofs.ExtentReading.{extents-same}

@@ -1,8 +1,8 @@
 -- Who owns a unit, and whether the freelist's bitmap says so.
 use Rattle.std.specs.Prelude.{◌≡◌, ◌⊎◌, ℕ, ◌^◌, ◌<◌, ◌≤◌, List, Contains, Any}
+use Rattle.unit_fields.specs.declared.width.Width.{Width}
 use Rattle.meta_rows.specs.Rows.{Rows, row}
 use Rattle.meta_log.specs.declared.slot.Super.{Super}
-use Rattle.unit_fields.specs.declared.width.Width.{Width}
 use Rattle.meta_log.specs.Slots.{data_unit}
 use Rattle.row_format.specs.Keys.{bitmap_key}
 use Rattle.row_format.specs.Bits.{bit_row, bit_in}

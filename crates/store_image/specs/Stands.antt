@@ -7,10 +7,10 @@ use Rattle.object_model.specs.Objects.{Object, Objects}
 use Rattle.object_model.specs.Effect.{object_under}
 use Rattle.meta_rows.specs.Rows.{Rows, row}
 use Rattle.meta_log.specs.declared.slot.Super.{Super}
-use Rattle.unit_fields.specs.declared.width.Width.{Width}
-use Rattle.meta_log.specs.Slots.{IsActiveSlot, width_of}
 use Rattle.meta_log.specs.Records.{AreRowsOf}
+use Rattle.meta_log.specs.Slots.{IsActiveSlot, width_of}
 use Rattle.unit_fields.specs.Names.{IsName, IsCollName}
+use Rattle.unit_fields.specs.declared.width.Width.{Width}
 use Rattle.row_format.specs.Keys.{coll_key, attr_key, header_key, omap_key, onode_key}
 use Rattle.store_image.specs.Pages.{HasOnode, PageUnit, IsPageOn, IsHole}
 use Rattle.store_image.specs.BadRows.{NoBadRow}

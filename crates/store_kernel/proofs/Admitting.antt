@@ -1,6 +1,5 @@
 -- What preparing and accepting a transaction is, in the words of the kernel's state.
 use Rattle.std.proofs.Common.{◌≡◌, ℕ, ◌+◌, ◌≤◌, true, List, [], ◌∷◌, ◌++◌, length, map, Option, Some, None, refl, arith}
-use Rattle.meta_log.specs.Slots.{width_of}
 use Rattle.std.specs.List.{AllByRecursion}
 use Rattle.block_device.specs.Disk.{Disk}
 use Rattle.block_device.specs.declared.device.Ticket.{Ticket}
@@ -10,6 +9,7 @@ use Rattle.object_model.specs.declared.book.Entry.{Entry}
 use Rattle.object_model.specs.declared.command.Command.TheVariants as ask
 use Rattle.object_model.specs.declared.command.Answer.TheVariants as answer
 use Rattle.meta_rows.specs.Rows.{Rows, rows_after}
+use Rattle.meta_log.specs.Slots.{width_of}
 use Rattle.meta_store.specs.Store as meta
 use Rattle.unit_allocator.specs.Units.{Space, IsWithin, is_free, taken}
 use Rattle.object_rows.specs.declared.plan.FreshUnit.{FreshUnit}

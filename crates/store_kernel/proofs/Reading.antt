@@ -1,7 +1,7 @@
 -- What a read needs of the kernel's state.
 use Rattle.std.proofs.Common.{◌≡◌, true, None, refl}
-use Rattle.meta_log.specs.Slots.{width_of}
 use Rattle.block_device.specs.Disk.{Disk}
+use Rattle.meta_log.specs.Slots.{width_of}
 use Rattle.store_steps.specs.Ready.{is_drained}
 use Rattle.store_steps.specs.State.{State}
 use Rattle.store_facts.specs.Kept.{IsKept}

@@ -1,8 +1,8 @@
 -- A transaction that can be accepted.
 use Rattle.std.specs.Prelude.{◌≡◌, ℕ, ◌≤◌}
-use Rattle.meta_log.specs.Slots.{width_of}
 use Rattle.object_model.specs.Effect.{Change}
 use Rattle.object_model.specs.declared.command.Command.TheVariants as ask
+use Rattle.meta_log.specs.Slots.{width_of}
 use Rattle.read_facts.specs.Refusals.{IsNotRefused}
 use Rattle.object_rows.specs.declared.plan.Plan.{Plan}
 use Rattle.store_steps.specs.declared.context.Context.{Context}

@@ -1,12 +1,12 @@
 -- The lowest free units are fresh units of a plan, and a write can be planned on them.
 use Rattle.std.proofs.Common.{◌≡◌, ℕ, zero, suc, ◌/◌, ◌<◌, ◌≤◌, ◌^◌, List, [], ◌∷◌, length, take, Contains, sym, ap, subst, ◌∙◌, arith}
-use Rattle.meta_log.specs.Slots.{width_of}
 use Rattle.std.specs.List.{AllByRecursion}
 use Rattle.std.proofs.lemmas.List.{length-take-le}
 use Rattle.byte_maps.specs.Units.{unit_at}
 use Rattle.crc32c_csum.specs.Crc32c.{crc32c}
 use Rattle.meta_rows.specs.Rows.{Rows}
 use Rattle.meta_log.specs.declared.slot.Super.{Super}
+use Rattle.meta_log.specs.Slots.{width_of}
 use Rattle.object_model.specs.declared.op.Op.TheVariants.{Write}
 use Rattle.unit_fields.specs.UnitSet.{Ascends}
 use Rattle.store_image.specs.Owners.{IsDataUnit, IsOwned, IsMarked}

@@ -1,11 +1,11 @@
 -- Runs: lists of calls, each of which does what its relation says.
 use Rattle.std.specs.Prelude.{◌≡◌, ◌⊎◌, ℕ, true, false, List, [], ◌∷◌, None}
-use Rattle.meta_log.specs.Slots.{width_of}
 use Rattle.block_device.specs.declared.device.Ticket.{Ticket}
 use Rattle.block_device.specs.Disk.{Disk, IsSound}
 use Rattle.object_model.specs.Effect.{Change}
 use Rattle.object_model.specs.declared.command.Command.{Command}
 use Rattle.object_model.specs.declared.command.Answer.{Answer}
+use Rattle.meta_log.specs.Slots.{width_of}
 use Rattle.read_facts.specs.Answers.{IsKnownRead, HasReadNames, IsAnswerOf}
 use Rattle.store_steps.specs.declared.step.Step.{Step}
 use Rattle.store_steps.specs.declared.step.Step.TheVariants.{Reap}

@@ -1,6 +1,5 @@
 -- What submitting a transaction does: it is accepted, or refused for a cause; either makes an entry of the book.
 use Rattle.std.specs.Prelude.{◌≡◌, ℕ, ◌+◌, ◌<◌, ◌≤◌, ◌%◌, List, [], ◌∷◌, ◌++◌, length, map, Some, None}
-use Rattle.meta_log.specs.Slots.{width_of}
 use Rattle.block_device.specs.declared.device.Ticket.{Ticket}
 use Rattle.object_model.specs.Effect.{Change}
 use Rattle.object_model.specs.declared.op.Op.{Op}
@@ -11,6 +10,7 @@ use Rattle.object_model.specs.declared.command.Answer.{Answer}
 use Rattle.object_model.specs.declared.command.Answer.TheVariants as answer
 use Rattle.meta_rows.specs.Rows.{rows_after}
 use Rattle.meta_log.specs.Records.{unit_count}
+use Rattle.meta_log.specs.Slots.{width_of}
 use Rattle.read_facts.specs.Refusals.{IsRefusedBy, IsNotRefused}
 use Rattle.object_rows.specs.declared.plan.Plan.{Plan}
 use Rattle.unit_allocator.specs.Units.{Space, free_units, taken}

@@ -1,11 +1,11 @@
 -- The operations on an object's shards, one part behind the other.
 use Rattle.std.proofs.Common.{◌≡◌, inl, inr, cond, ℕ, zero, ◌<◌, Bool, false, List, [], ◌∷◌, ◌++◌, Option, Some, None, Result, Ok, Err, OnOk, refl, sym, ap, ◌∙◌, append_assoc, arith}
-use Rattle.unit_fields.specs.declared.width.Width.{Width}
 use Rattle.std.specs.Prelude.{filter, slice_get}
 use Rattle.std.specs.Option.{option_map_or}
 use Rattle.std.specs.Ordering.{is_eq}
 use Rattle.std.specs.Cmp.{tied_itself}
 use Rattle.std.specs.Cmp.Lexicographic.{nat_list_cmp_total}
+use Rattle.unit_fields.specs.declared.width.Width.{Width}
 use Rattle.object_model.specs.Effect.{is_same}
 use Rattle.std.specs.Int.{w64, to_le_bytes}
 use Rattle.meta_rows.specs.Rows.{Rows}

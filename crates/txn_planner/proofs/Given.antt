@@ -1,9 +1,9 @@
 -- The plan that planning gives is the difference of the rows, where the free units are owned by nobody.
 use Rattle.std.proofs.Common.{ℕ, List, [], ◌∷◌, Result, Ok, Err, IfOk, refl, sym, ap, subst, arith}
 use Rattle.unit_fields.specs.declared.width.Width.{Width}
-use Rattle.meta_log.specs.Slots.{width_of}
 use Rattle.meta_rows.specs.Rows.{Rows}
 use Rattle.meta_log.specs.declared.slot.Super.{Super}
+use Rattle.meta_log.specs.Slots.{width_of}
 use Rattle.object_model.specs.declared.op.Op.TheVariants.{Touch, Write}
 use Rattle.object_model.specs.declared.command.Command.TheVariants as ask
 use Rattle.read_facts.specs.Refusals.{IsNotRefused}

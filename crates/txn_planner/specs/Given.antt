@@ -1,12 +1,12 @@
 -- The plans that planning an operation gives, by the operations on rows that are found for it.
 use Rattle.std.specs.Prelude.{◌≡◌, ℕ, ◌<◌, ◌≤◌, ◌^◌, ◌/◌, List, [], length, take, None}
-use Rattle.unit_fields.specs.declared.width.Width.{Width}
 use Rattle.std.specs.FinMap as finite
 use Rattle.byte_maps.specs.Units.{unit_at}
 use Rattle.crc32c_csum.specs.Crc32c.{crc32c}
 use Rattle.object_model.specs.declared.op.Op.TheVariants.{Write}
 use Rattle.meta_rows.specs.Rows.{Rows}
 use Rattle.unit_fields.specs.Names.{IsCollName}
+use Rattle.unit_fields.specs.declared.width.Width.{Width}
 use Rattle.row_format.specs.Keys.{coll_key}
 use Rattle.row_facts.specs.Operations.{coll_ops}
 use Rattle.object_rows.specs.declared.plan.Plan.{Plan}

@@ -1,7 +1,7 @@
 -- The words of planning one operation.
 use Rattle.std.specs.Prelude.{◌≡◌, ℕ, ◌<◌, ◌^◌, List, [], ◌∷◌, length}
-use Rattle.unit_fields.specs.declared.width.Width.{Width}
 use Rattle.byte_maps.specs.Units.{unit_at}
+use Rattle.unit_fields.specs.declared.width.Width.{Width}
 use Rattle.crc32c_csum.specs.Crc32c.{crc32c}
 use Rattle.object_model.specs.declared.op.Op.{Op}
 use Rattle.object_model.specs.Effect.{Change}

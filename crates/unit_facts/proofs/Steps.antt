@@ -18,10 +18,10 @@ use Rattle.block_device.proofs.LogLemmas.{clean_push}
 use Rattle.object_model.specs.Effect.{Change}
 use Rattle.object_model.specs.declared.book.Book.{Book}
 use Rattle.meta_rows.specs.declared.row_op.RowOp.{RowOp}
-use Rattle.meta_log.specs.Slots.{active_unit, IsSuper}
 use Rattle.meta_log.specs.Records.{unit_count, record_units}
 use Rattle.meta_log.specs.Pieces.{piece_first, piece_units, given_from, LiesInRecord}
 use Rattle.meta_log.proofs.PieceLemmas.{lies, given_from-none, given_from-all}
+use Rattle.meta_log.specs.Slots.{active_unit, IsSuper}
 use Rattle.store_image.specs.Owners.{IsDataUnit}
 use Rattle.log_facts.specs.Flushing.{not_sent, sent, flushed}
 use Rattle.log_facts.specs.SlotFacts.{SlotsStand}

@@ -28,7 +28,7 @@ use Rattle.object_rows.specs.Layouts.{made_of, is_moved}
 use Rattle.object_rows.specs.Operations.{KeysAscend}
 use Rattle.object_rows.specs.Writes.{write_change, touch_change}
 use Rattle.object_rows.specs.Plans.{WritesPages, touch_ops}
-use Rattle.object_rows.specs.Planned.{IsInColl, pages_on, CanPlanWrite, HoldsFresh, IsFresh, IsPlanned, makes_coll, StandsOnce, fresh_units, AreFresh, CanPlan, object_of, bytes_of, changes_object}
+use Rattle.object_rows.specs.Planned.{IsInColl, pages_on, CanPlanWrite, HoldsFresh, IsFresh, IsPlanned, makes_coll, StandsOnce, fresh_units, AreFresh, CanPlan, object_of, data_of, changes_object}
 use Rattle.object_rows.proofs.Between.{some_owned, some_once}
 use Rattle.object_rows.proofs.PagesOn.{all_at, fresh_there, fresh_all, units_of_pages}
 use Rattle.object_rows.proofs.Touched.{touch_good, touch_bits, touch_fits, touch_ascend, touch_short, touch_owned, touch_sole, touch_exact, touch_stand}
@@ -162,7 +162,7 @@ module _ (s : Super) (rows : Rows) where
   fresh_of c (Write o off bytes) units can = can.1.fresh
   fresh_of c op units can = absurd can
 
-  whole_of : (c : List ℕ) (op : Op) (units : List ℕ) → CanPlan s rows c op units → length (bytes_of op) ≡ 4096 * length units
+  whole_of : (c : List ℕ) (op : Op) (units : List ℕ) → CanPlan s rows c op units → length (data_of op) ≡ 4096 * length units
   whole_of c (Touch o) units can = omega (arith, ap length can.1)
   whole_of c (Write o off bytes) units can = can.1.whole
   whole_of c op units can = absurd can
@@ -193,17 +193,17 @@ module _ (s : Super) (rows : Rows) where
   planned_fresh (changes_object c op units x plan can has p fresh) =
       let f = fresh_of c op units can in
       subst (AllByRecursion (λ f. IsDataUnit s f.unit × ¬ IsOwned (width_of s) rows f.unit × (length f.bytes ≡ 4096))) (sym fresh)
-      (fresh_all (bytes_of op) s rows units 0 f.on_data f.free (omega (arith, whole_of c op units can)))
+      (fresh_all (data_of op) s rows units 0 f.on_data f.free (omega (arith, whole_of c op units can)))
 
   pub planned_ascend : {change : Change} {plan : Plan} → IsPlanned s rows change plan → Ascends (fresh_units plan)
   planned_ascend (makes_coll c plan name none p) = subst (λ (fs : List FreshUnit). Ascends (map (λ f. f.unit) fs)) (sym p.none_fresh) tt
   planned_ascend (changes_object c op units x plan can has p fresh) =
-      subst Ascends (sym (ap (map (λ (f : FreshUnit). f.unit)) fresh ∙ units_of_pages (bytes_of op) units 0)) (fresh_of c op units can).ascend
+      subst Ascends (sym (ap (map (λ (f : FreshUnit). f.unit)) fresh ∙ units_of_pages (data_of op) units 0)) (fresh_of c op units can).ascend
 
   pub planned_unmarked : {change : Change} {plan : Plan} (v : ℕ) → IsPlanned s rows change plan → IsFresh plan v → ¬ IsMarked rows v
   planned_unmarked v (makes_coll c plan name none p) f = absurd (omega (arith, f.2, ap length p.none_fresh))
   planned_unmarked v (changes_object c op units x plan can has p fresh) f =
-      let at = (fresh_there (bytes_of op) units 0 v).0 (subst (Any (λ g. g.unit ≡ v)) fresh f) in
+      let at = (fresh_there (data_of op) units 0 v).0 (subst (Any (λ g. g.unit ≡ v)) fresh f) in
       subst (λ u. ¬ IsMarked rows u) at.2 (all_at (λ u. ¬ IsMarked rows u) units at.0 (fresh_of c op units can).unmarked at.1)
 
   -- a page of the object stands on a unit that is released

@@ -65,9 +65,9 @@ object_of (Write o off bytes) = o
 object_of op = []
 
 -- the bytes that it puts on units
-abbrev pub bytes_of : Op → List ℕ
-bytes_of (Write o off bytes) = bytes
-bytes_of op = []
+abbrev pub data_of : Op → List ℕ
+data_of (Write o off bytes) = bytes
+data_of op = []
 
 -- Over these rows the transaction may be turned into this: the row of a missing collection, or what an operation makes of its object.
 pub data IsPlanned (s : Super) (rows : Rows) : Change → Plan → Type 0 where
@@ -75,7 +75,7 @@ pub data IsPlanned (s : Super) (rows : Rows) : Change → Plan → Type 0 where
       → IsPlanned s rows (coll_change c) plan
   changes_object : (c : List ℕ) (op : Op) (units : List ℕ) (x : Layout) (plan : Plan) → CanPlan s rows c op units
       → HasLayout (width_of s) rows c (object_of op) x
-      → MakesLayout (width_of s) rows c (object_of op) x (made_of op units x) units plan → plan.fresh ≡ pages_on units 0 (bytes_of op)
+      → MakesLayout (width_of s) rows c (object_of op) x (made_of op units x) units plan → plan.fresh ≡ pages_on units 0 (data_of op)
       → IsPlanned s rows (record { coll = c; ops = op ∷ [] }) plan
 
 -- the fresh units hold their bytes

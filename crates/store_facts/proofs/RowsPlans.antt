@@ -16,7 +16,7 @@ use Rattle.store_image.specs.Owners.{IsDataUnit, IsOwned, IsMarked}
 use Rattle.object_rows.specs.declared.plan.FreshUnit.{FreshUnit}
 use Rattle.object_rows.specs.declared.plan.Plan.{Plan}
 use Rattle.object_rows.specs.Planned as planned_as
-use Rattle.object_rows.specs.Planned.{bytes_of}
+use Rattle.object_rows.specs.Planned.{data_of}
 use Rattle.object_rows.proofs.PagesOn.{units_of_pages}
 use Rattle.object_rows.proofs.Planned.{plan_facts, planned_fresh, planned_ascend, same_count}
 use Rattle.unit_allocator.specs.Units.{Space, IsWithin, is_free, free_units}
@@ -77,7 +77,7 @@ fresh_whole s rows (f ∷ fresh) all = (all.0.2, fresh_whole s rows fresh all.1)
 
 object_takes : (w : Width) (c : List ℕ) (op : Op) (rows : Rows) (space : Space) (plan : Plan) → PlansObject w c op rows space plan
     → units_of plan.fresh ≡ take (units_taken (op ∷ [])) (free_units space)
-object_takes w c op rows space plan p = ap units_of p.fresh ∙ units_of_pages (bytes_of op) p.units 0 ∙ p.lowest
+object_takes w c op rows space plan p = ap units_of p.fresh ∙ units_of_pages (data_of op) p.units 0 ∙ p.lowest
 
 -- those that it takes are the lowest free ones, as many as the transaction takes
 pub plan_takes : (w : Width) (c : List ℕ) (ops : List Op) (rows : Rows) (space : Space) (plan : Plan) → IsKnown ops → Plans w c ops rows space plan

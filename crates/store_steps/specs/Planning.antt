@@ -17,7 +17,7 @@ use Rattle.store_image.specs.BadRows.{NoBadRow}
 use Rattle.store_image.specs.Owners.{IsDataUnit, IsOwned, IsMarked}
 use Rattle.object_rows.specs.declared.plan.Plan.{Plan}
 use Rattle.object_rows.specs.Layouts.{Layout, HasLayout, made_of, MakesColl, MakesLayout}
-use Rattle.object_rows.specs.Planned.{pages_on, IsInColl, object_of, bytes_of}
+use Rattle.object_rows.specs.Planned.{pages_on, IsInColl, object_of, data_of}
 use Rattle.unit_allocator.specs.Units.{Space, free_units}
 
 -- how many units a transaction takes
@@ -47,8 +47,8 @@ pub record PlansObject (w : Width) (c : List ℕ) (op : Op) (rows : Rows) (space
   pub layout : Layout
   pub has : HasLayout w rows c (object_of op) layout
   pub makes : MakesLayout w rows c (object_of op) layout (made_of op units layout) units plan
-  pub fresh : plan.fresh ≡ pages_on units 0 (bytes_of op)
-  pub csums_fit : (i : ℕ) → i < length units → crc32c (unit_at i (bytes_of op)) < 2 ^ 32
+  pub fresh : plan.fresh ≡ pages_on units 0 (data_of op)
+  pub csums_fit : (i : ℕ) → i < length units → crc32c (unit_at i (data_of op)) < 2 ^ 32
 
 -- The rows don't have the collection, and get it.
 pub record PlansColl (c : List ℕ) (rows : Rows) (plan : Plan) : Type 0 where

@@ -127,5 +127,5 @@ pub fn plans_by_operations()
     ensures written { (s : Super) (rows : Rows) (c o : List ℕ) (off : ℕ) (bytes units : List ℕ) (plan : Plan) → NoBadRow s rows → off % 4096 ≡ 0
         → CanPlanWrite s rows c o (off / 4096) bytes units → (w : WritesPages (width_of s) rows c o (off / 4096) bytes units plan.ops plan.released)
         → (let x : Layout = record { size = w.before; pages = w.pages } in
-            MakesLayout (width_of s) rows c o x (made_of (Write o off bytes) units x) units plan) }
+        MakesLayout (width_of s) rows c o x (made_of (Write o off bytes) units x) units plan) }
 {}

@@ -48,14 +48,14 @@ each() {
 
 about
 set_up 4096 12000 <<<'mkcoll 1.0_head'
-for ((i = 0; i < 400; i++)); do echo 'mkcoll 1.0_head'; done | each 'a line that is refused' 3500 400
+for ((i = 0; i < 400; i++)); do echo 'mkcoll 1.0_head'; done | each 'a line that is refused' 4000 400
 
 {
   echo 'mkcoll 1.0_head'
   for ((i = 0; i < 100; i++)); do printf 'write 1.0_head o%d 0 fill:%02x:4096\n' "$i" "$i"; done
 } | set_up 4096 12000
 for ((i = 0; i < 400; i++)); do printf 'write 1.0_head o%d 0 fill:%02x:4096\n' $((i % 100)) $((i % 256)); done |
-  each 'a page over a page, 100 objects' 39600 400
+  each 'a page over a page, 100 objects' 38900 400
 
 for many in 2000 40000; do
   {
@@ -95,5 +95,5 @@ told 'opening an empty half of 65536 units' 48600000 "$(counted "$made/empty")"
   echo 'mkcoll 1.0_head'
   for ((i = 0; i < 8000; i++)); do printf 'write 1.0_head o%05d 0 fill:%02x:4096\n' $((i * 2477 % 8000)) $((i % 256)); done
 } | set_up 8192 30000
-told 'opening 8000 objects of a record each, scrambled' 90200000 "$(counted "$made/empty")"
+told 'opening 8000 objects of a record each, scrambled' 61900000 "$(counted "$made/empty")"
 ! grep -q BEYOND "$made/told"

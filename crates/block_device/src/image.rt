@@ -1,6 +1,6 @@
 // What a crash may leave of a device in memory.
-ghost use Rattle.std.specs.Prelude.{◌≡◌, ◌≢◌, ◌⊎◌, ◌↔◌, ◌+◌, ◌-◌, ◌*◌, ◌<◌, ◌≤◌, ◌/◌, ℕ, Bool, true, false, length, take, IsTrue, IfOk, Contains, slice_index_or, replicate};
-ghost use Rattle.byte_maps.specs.Units.{unit_at, overlaid, IsUnits, Covers};
+ghost use Rattle.std.specs.Prelude.{◌≡◌, ◌↔◌, ◌+◌, ◌-◌, ◌*◌, ◌<◌, ◌≤◌, ◌/◌, ℕ, true, false, length, IsTrue, IfOk, Contains, replicate};
+ghost use Rattle.byte_maps.specs.Units.{unit_at, overlaid, IsUnits};
 ghost use Rattle.block_device.specs.Log.{IsStable, IsCrashImage};
 ghost use Rattle.block_device.specs.Image.{AllFit, IsTornImage, noise};
 ghost use Rattle.block_device.specs.Laying.{IsPut, IsLastGoodFlush, is_laid, mark};

@@ -1,11 +1,11 @@
 // A device in memory, which tells its log, and whose every answer follows from its lists.
-ghost use Rattle.std.specs.Prelude.{◌≡◌, ◌≢◌, ◌++◌, ◌↔◌, ℕ, true, false, not, Some, [], ◌∷◌, ◌+◌, ◌*◌, ◌%◌, ◌<◌, ◌≤◌, length, take, map, All, MatchOption, MatchResult, OnOk, OnErr, IfOk, IfErr, IfSome, IfNone, IsErrOf, IsTrue, vec_len, vec_capacity};
-ghost use Rattle.block_device.specs.Disk.{Submitted, Reaped, Waited, HasRead, IsSound, IsNotInFlight, Rose};
+ghost use Rattle.std.specs.Prelude.{◌≡◌, ◌≢◌, ◌++◌, ◌↔◌, false, Some, [], ◌∷◌, ◌+◌, ◌*◌, ◌%◌, ◌<◌, ◌≤◌, length, take, All, MatchOption, OnOk, OnErr, IfOk, IfErr, IfSome, IfNone, IsErrOf, IsTrue, vec_capacity};
+ghost use Rattle.block_device.specs.Disk.{Submitted, Reaped, Waited, HasRead, IsNotInFlight, Rose};
 ghost use Rattle.block_device.specs.Log.{last, IsCrashImage};
 ghost use Rattle.block_device.specs.Image.{IsTornImage};
-ghost use Rattle.block_device.specs.Fails.{is_listed, lag_at, counted, faults_after, read_fails};
+ghost use Rattle.block_device.specs.Fails.{is_listed, lag_at, faults_after, read_fails};
 ghost use Rattle.block_device.specs.Memory.{fresh_memory, disk_of, after_write, after_flush, after_read, GaveNext, GaveNone};
-ghost use Rattle.byte_maps.specs.Units.{units_from, IsUnits};
+ghost use Rattle.byte_maps.specs.Units.{units_from};
 ghost use Rattle.block_device.specs.declared.event.Event.TheVariants.{Write, Flush};
 
 use crate::image::{Tear, image_of, lay};

@@ -1,5 +1,5 @@
 // The submissions in flight of a device in memory, and which of them ends next.
-ghost use Rattle.std.specs.Prelude.{◌≡◌, ℕ, ◌+◌, ◌<◌, map, All, length, MatchOption, slice_index_or};
+ghost use Rattle.std.specs.Prelude.{◌≡◌, ◌<◌, map, All, MatchOption};
 ghost use Rattle.block_device.specs.Pending.{lowered, others, IsFirstReady, WasTaken, NoneWasReady, TicketsAscend};
 
 /// A submission in flight.

@@ -1,5 +1,5 @@
 -- Lanes that are put together by or: they are zero just where each of them is.
-use Rattle.std.proofs.Common.{◌≡◌, ℕ, ◌+◌, ◌≤◌, List, [], ◌∷◌, ◌++◌, length, take, drop, refl, sym, ap, subst, ◌∙◌, arith, take-append-drop, length-drop, length-take-le}
+use Rattle.std.proofs.Common.{◌≡◌, ℕ, ◌+◌, List, [], ◌∷◌, length, take, drop, refl, sym, ap, subst, ◌∙◌, arith, take-append-drop, length-drop, length-take-le}
 use Rattle.std.specs.Prelude.{◌↔◌, All, IsTrue, nat_eq, bit_or}
 use Rattle.std.specs.List.{AllByRecursion}
 use Rattle.std.specs.Int.Bits.{or_zero_l}

@@ -1,5 +1,5 @@
 //! A finite map from byte strings, kept as a list of entries in the order of their keys.
-ghost use Rattle.std.specs.Prelude.{◌↔◌, ◌≡◌, ◌∷◌, [], OnOk, OnErr, IsSome, IsOk, IsTrue, option_copied, is_some, not, length};
+ghost use Rattle.std.specs.Prelude.{◌↔◌, ◌≡◌, OnOk, OnErr, IsOk, IsTrue, option_copied, is_some, not, length};
 ghost use Rattle.std.specs.FinMap as map;
 ghost use Rattle.byte_maps.specs.ByteMap.{byte_order, in_range};
 ghost use Rattle.std.specs.List.Sorted.{IsSearchInRange, IsBinarySearchResult};

@@ -25,9 +25,9 @@ impl Model for Bytes {
 
     ghost Value = { List ℕ };
 
-    ghost use Rattle.byte_maps.specs.Held.{bytes_of, IsHeld};
+    ghost use Rattle.byte_maps.specs.Held.{bytes_in, IsHeld};
 
-    ghost view = { bytes_of };
+    ghost view = { bytes_in };
 
     ghost invariant = { IsHeld };
 }

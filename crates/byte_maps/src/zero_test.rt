@@ -25,8 +25,8 @@ fn is_zero_block(block: &[u8; BLOCK]) -> bool
     bits_of(block) == 0
 }
 
-/// Whether each of the bytes is zero. It takes a fraction of an instruction a byte, and stops soon after the first byte that isn't.
-pub fn is_zero(bytes: &[u8]) -> bool
+// Whether each of the bytes is zero, step by step, and those behind the last whole step one by one.
+fn is_zero_in_steps(bytes: &[u8]) -> bool
     ensures { IsTrue result ↔ All (λ b. b ≡ 0) bytes.now }
 {
     let mut left = bytes;
@@ -37,4 +37,16 @@ pub fn is_zero(bytes: &[u8]) -> bool
         left = rest;
     }
     left.iter().all(|b| *b == 0)
+}
+
+/// Whether each of the bytes is zero. It takes a fraction of an instruction a byte, and stops soon after the first byte that isn't. Bytes behind the
+/// last whole step are looked at in one step with bytes before them, and not one by one.
+pub fn is_zero(bytes: &[u8]) -> bool
+    ensures { IsTrue result ↔ All (λ b. b ≡ 0) bytes.now }
+{
+    let size = bytes.len();
+    if size < BLOCK {
+        return is_zero_in_steps(bytes);
+    }
+    is_zero_in_steps(&bytes[size - BLOCK..]) && is_zero_in_steps(&bytes[..size / BLOCK * BLOCK])
 }

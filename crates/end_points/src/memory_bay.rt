@@ -1,5 +1,5 @@
 // A bay in memory.
-ghost use Rattle.std.specs.Prelude.{◌≡◌, ◌↔◌, ◌⊎◌, ◌+◌, ◌-◌, ◌*◌, ◌%◌, ◌<◌, ◌≤◌, ◌^◌, ℕ, All, Option, Some, None, IsTrue, IfOk, OnOk, OnErr, IfErr, IsErrOf, length, option_copied, true};
+ghost use Rattle.std.specs.Prelude.{◌≡◌, ◌↔◌, ◌+◌, ◌-◌, ◌*◌, ◌<◌, ◌≤◌, ◌^◌, All, Option, Some, None, IfOk, OnOk, OnErr, IfErr, IsErrOf, option_copied};
 ghost use Rattle.std.specs.FinMap as map;
 ghost use Rattle.block_device.specs.Disk.{Rose};
 ghost use Rattle.block_device.specs.Memory.{disk_of};

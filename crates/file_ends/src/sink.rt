@@ -1,7 +1,5 @@
 //! Standard output.
-ghost use Rattle.std.specs.Prelude.{◌≡◌, ◌<◌, ◌≤◌, ℕ, None, IfOk, IfSome, OnErr, length};
-ghost use Rattle.block_device.specs.Disk.{Rose};
-ghost use Rattle.end_points.specs.Sink.{Put};
+ghost use Rattle.std.specs.Prelude.{◌≡◌, ◌<◌, ◌≤◌, ℕ, None, IfSome, length};
 
 use end_points::{Fault, Sink};
 use std::io::{ErrorKind, Write};

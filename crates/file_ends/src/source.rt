@@ -1,7 +1,5 @@
 //! A script in a file.
-ghost use Rattle.std.specs.Prelude.{◌≡◌, ◌+◌, ◌++◌, ◌<◌, ◌≤◌, ℕ, None, IfOk, OnErr, IsErrOf, length, vec_capacity};
-ghost use Rattle.block_device.specs.Disk.{Rose};
-ghost use Rattle.end_points.specs.Source.{Took};
+ghost use Rattle.std.specs.Prelude.{◌≡◌, ◌+◌, ◌++◌, ◌<◌, ◌≤◌, ℕ, None, IfOk, length, vec_capacity};
 
 use block_device::Failed;
 use end_points::Source;

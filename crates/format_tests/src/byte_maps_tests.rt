@@ -1,7 +1,25 @@
 //! Lists of bytes and of values.
 
-use byte_maps::{Bytes, Items};
+use byte_maps::{Bytes, Duplicate, Items};
+use std::alloc::{AllocError, Global};
 use std::test::*;
+
+/// Whether bytes are the same in a byte string, in its copy, and in a vector that it becomes and that becomes one again.
+fn stay(alloc: Global, bytes: &[u8]) -> Result<bool, AllocError> {
+    let made = Bytes::from_slice(alloc, bytes)?;
+    let copy = made.duplicate(alloc)?;
+    let again = Bytes::from_vec(copy.into_vec(alloc)?);
+    Ok(again.as_slice() == bytes)
+}
+
+#[test]
+fn short_and_long(rt: HostRuntime) -> Result<(), Fail> {
+    let bytes = *b"as many bytes as one more than 31";
+    for size in 30..34usize {
+        assert!(rt; stay(rt.alloc(), &bytes[..size])?, "{size}");
+    }
+    Ok(())
+}
 
 #[test]
 fn lists(rt: HostRuntime) -> Result<(), Fail> {

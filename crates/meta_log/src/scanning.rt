@@ -18,9 +18,6 @@ use unit_fields::limits::UNIT_BYTES;
 // The bytes of the head that the checksum is of.
 const SUMMED_HEAD: usize = 20;
 
-// The bytes that `is_zero` looks at in one step.
-const STEP: usize = 128;
-
 /// A record that was found at the front of bytes.
 #[derive(Debug, Drop)]
 pub struct FoundRecord {
@@ -80,22 +77,11 @@ fn padding_of(body: usize) -> usize
     units_of(HEAD_BYTES + body) * UNIT_BYTES - (HEAD_BYTES + body)
 }
 
-// Whether all bytes are zero. Those behind the last whole step are looked at in one step with bytes before them, and not one by one.
-fn are_zeros(bytes: &[u8]) -> bool
-    ensures { IsTrue result ↔ All (λ byte. byte ≡ 0) bytes.now }
-{
-    let size = bytes.len();
-    if size < STEP {
-        return is_zero(bytes);
-    }
-    is_zero(&bytes[size - STEP..]) && is_zero(&bytes[..size / STEP * STEP])
-}
-
 // Whether the checksum is that of head and body, and there are zeros behind.
 fn is_intact(head: &[u8], body: &[u8], sum: u32, padding: &[u8]) -> bool
     ensures { IsTrue result ↔ (to_le_bytes w32 sum ≡ to_le_bytes w32 (crc32c (head.now ++ body.now))) × All (λ byte. byte ≡ 0) padding.now }
 {
-    are_zeros(padding) && sum == sum_of(head, body)
+    is_zero(padding) && sum == sum_of(head, body)
 }
 
 fn read_parts<'a>(bytes: &'a [u8], number: u64) -> Option<Parts<'a>>

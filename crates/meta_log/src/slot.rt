@@ -2,7 +2,7 @@
 ghost use Rattle.std.specs.Prelude.{◌≡◌, ◌≢◌, ◌↔◌, ◌<◌, ◌++◌, ℕ, List, length, IsTrue, IfOk, OnOk, MatchOption};
 ghost use Rattle.byte_maps.specs.Units.{zeros};
 ghost use Rattle.meta_log.specs.declared.slot.Super.{Super};
-ghost use Rattle.meta_log.specs.Slots.{version_bytes, field_bytes, super_front, super_bytes, width_of, IsSummed, IsSuper, IsSlotOf};
+ghost use Rattle.meta_log.specs.Slots.{version_bytes, field_bytes, super_front, super_bytes, width_of, active_unit, IsSummed, IsSuper, IsSlotOf};
 
 use byte_maps::is_zero;
 use crc32c_csum::crc32c;
@@ -106,6 +106,14 @@ impl Super {
         ensures { result ≡ width_of self.now }
     {
         Width::FourBytes
+    }
+
+    /// The first unit of the active half of the log.
+    pub fn active_unit(&self) -> u32
+        requires { IsSuper self.now }
+        ensures { result ≡ active_unit self.now }
+    {
+        2 + self.half * (self.epoch % 2) as u32
     }
 
     fn front(&self, alloc: Global) -> Result<Vec<u8>, AllocError>

@@ -1,5 +1,5 @@
 //! Chunks that are filled one after the other, by operations in the order of their keys.
-ghost use Rattle.std.specs.Prelude.{◌≡◌, ◌+◌, ◌*◌, ◌^◌, ◌<◌, ◌≤◌, ◌%◌, ℕ, suc, List, [], ◌++◌, ◌∷◌, length, None, T, false, IsTrue, IfOk};
+ghost use Rattle.std.specs.Prelude.{◌≡◌, ◌+◌, ◌^◌, ◌<◌, ◌%◌, ℕ, suc, List, [], ◌++◌, ◌∷◌, length, None, T, false, IsTrue, IfOk};
 ghost use Rattle.std.specs.FinMap as map;
 ghost use Rattle.std.specs.Vec.{vec_len};
 ghost use Rattle.std.specs.List.{AllByRecursion};

@@ -1,5 +1,5 @@
 //! The rows of a table and operations, both in the order of their keys, merged into new chunks.
-ghost use Rattle.std.specs.Prelude.{◌≡◌, ◌+◌, ◌<◌, ℕ, suc, List, [], ◌++◌, ◌∷◌, length, reverse, T, IsTrue, IfSome};
+ghost use Rattle.std.specs.Prelude.{◌≡◌, ◌+◌, ◌<◌, [], ◌++◌, ◌∷◌, length, reverse, T};
 ghost use Rattle.std.specs.FinMap as map;
 ghost use Rattle.byte_maps.specs.ByteMap.{byte_order};
 ghost use Rattle.meta_rows.specs.Rows.{rows_after};

@@ -1,5 +1,5 @@
 //! Row operations read from bytes.
-ghost use Rattle.std.specs.Prelude.{ℕ, List, IfOk, MatchOption};
+ghost use Rattle.std.specs.Prelude.{List, IfOk, MatchOption};
 ghost use Rattle.meta_rows.specs.declared.row_op.RowOp.{RowOp};
 ghost use Rattle.meta_rows.specs.Spelling.{key_bytes, value_bytes, op_bytes, IsKey, FitsRowOp};
 ghost use Rattle.meta_rows.specs.Reading.{IsValue, BeginsWithNo, Reads, SpellOps};

@@ -1,5 +1,5 @@
 //! What an operation makes of one row.
-ghost use Rattle.std.specs.Prelude.{◌≡◌, ◌↔◌, ◌≤◌, ◌<◌, [], length, get_or, slice_set, bit_xor, unwrap_or, not, if◌then◌else◌, All, IsTrue};
+ghost use Rattle.std.specs.Prelude.{◌≡◌, ◌↔◌, ◌≤◌, ◌<◌, [], length, get_or, slice_set, bit_xor, unwrap_or, if◌then◌else◌, All, IsTrue};
 ghost use Rattle.meta_rows.specs.Rows.{xor_bytes, all_zero, key_of};
 ghost use Rattle.meta_rows.specs.Table.{value_left};
 

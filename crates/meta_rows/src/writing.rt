@@ -1,5 +1,5 @@
 //! Row operations as bytes.
-ghost use Rattle.std.specs.Prelude.{◌≡◌, ◌<◌, ◌^◌, ◌++◌, ℕ, List, length, IfOk, OnOk};
+ghost use Rattle.std.specs.Prelude.{◌≡◌, ◌<◌, ◌^◌, ◌++◌, length, IfOk, OnOk};
 ghost use Rattle.meta_rows.specs.Spelling.{key_bytes, value_bytes, op_bytes, ops_bytes, IsKey, FitsRowOp, AllFit};
 
 use crate::row_op::RowOp;

@@ -159,13 +159,6 @@ impl MetaStore {
         }
     }
 
-    // The first unit of the active half.
-    fn active_unit(&self) -> u32
-        ensures { result ≡ active_unit self.now.sup }
-    {
-        2 + self.sup.half * (self.sup.epoch % 2) as u32
-    }
-
     /// The next piece of the record that is being written, and the unit of the device from which on it goes; None where there is none.
     /// It counts as given only with the call of `note_given`, so that a submission that the device refused can be made again.
     pub fn next_piece(&self, alloc: Global) -> Result<Option<(UnitNo, Vec<u8>)>, AllocError>
@@ -176,7 +169,7 @@ impl MetaStore {
         match &self.begun {
             Some(begun) if begun.given < begun.sealed.pieces() => {
                 let (first, bytes) = begun.sealed.piece(alloc, begun.given)?;
-                let unit = UnitNo::new(self.active_unit() + self.tail + first);
+                let unit = UnitNo::new(self.sup.active_unit() + self.tail + first);
                 Ok(Some((unit, bytes)))
             }
             _ => Ok(None),

@@ -1,5 +1,5 @@
 //! A finite map from numbers, kept as a list of entries in ascending order.
-ghost use Rattle.std.specs.Prelude.{◌≡◌, ℕ, ◌≤◌, ◌-◌, T, not, length, IfOk, take, drop, ◌++◌, ◌==◌, OnOk, OnErr, IsOk, IsTrue, option_copied};
+ghost use Rattle.std.specs.Prelude.{◌≡◌, ◌≤◌, ◌-◌, T, not, length, IfOk, take, drop, ◌++◌, ◌==◌, OnOk, OnErr, IsOk, IsTrue, option_copied};
 ghost use Rattle.std.specs.Ordering.{nat_cmp};
 ghost use Rattle.std.specs.FinMap as map;
 ghost use Rattle.number_map.specs.NumberMap.{place_from, is_in, IsFront, IsBack};

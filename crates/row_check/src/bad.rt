@@ -49,9 +49,17 @@ fn good_row(
     let Some(row) = read_row_after(alloc, sup.width(), coll_of(last), key, value)? else {
         return Ok(None);
     };
-    if is_in_place(alloc, sup, rows, last, &row)? {
+    let fits = match is_in_place(alloc, sup, rows, last, &row) {
+        Ok(fits) => fits,
+        Err(full) => {
+            drop(row);
+            return Err(full);
+        }
+    };
+    if fits {
         Ok(Some(row))
     } else {
+        drop(row);
         Ok(None)
     }
 }
@@ -71,7 +79,8 @@ pub fn find_bad_row(
         let Some(row) = found else {
             return Ok(Some(Bytes::from_slice(alloc, key.as_slice())?));
         };
-        last = Some(row);
+        drop(last.replace(row));
     }
+    drop(last);
     Ok(None)
 }

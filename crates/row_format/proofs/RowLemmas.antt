@@ -1,5 +1,5 @@
 -- A row by its key and its value.
-use Rattle.std.proofs.Common.{◌≡◌, ◌^◌, ◌<◌, Some, refl, sym, ap, ◌∙◌, arith}
+use Rattle.std.proofs.Common.{◌≡◌, Some, refl, sym, ap, ◌∙◌, arith}
 use Rattle.std.specs.Prelude.{unwrap_or}
 use Rattle.std.proofs.lemmas.Nat.{from_le_bytes-to_le_bytes_8}
 use Rattle.unit_fields.specs.declared.width.Width.{Width}

@@ -1,5 +1,5 @@
 //! Keys read as what they name.
-ghost use Rattle.std.specs.Prelude.{◌≡◌, ◌≢◌, ◌<◌, ◌++◌, ◌∷◌, ℕ, List, length, slice_index, IfOk, IfNone, IfSome, MatchOption};
+ghost use Rattle.std.specs.Prelude.{◌≡◌, ◌≢◌, ◌<◌, ◌++◌, ◌∷◌, ℕ, length, slice_index, IfOk, IfNone, IfSome, MatchOption};
 ghost use Rattle.std.specs.List.{AllByRecursion};
 ghost use Rattle.std.specs.Int.{w32, to_be_bytes};
 ghost use Rattle.unit_fields.specs.Names.{IsCollName};
@@ -53,7 +53,7 @@ pub enum RowKey {
     },
 }
 
-// Where the first zero stands.
+// Where the first zero stands. It is not inlined, so that its loop stands once in the program.
 #[inline(never)]
 fn place_of_zero(bytes: &[u8]) -> Option<usize>
     ensures none { IfNone result (AllByRecursion (λ b. b ≢ 0) bytes.now) }

@@ -1,5 +1,5 @@
 //! Names as they are spelled.
-ghost use Rattle.std.specs.Prelude.{◌≡◌, ◌≢◌, ◌++◌, ◌∷◌, ◌<◌, ℕ, List, IfOk, MatchOption};
+ghost use Rattle.std.specs.Prelude.{◌≡◌, ◌≢◌, ◌++◌, ◌<◌, ℕ, List, IfOk, MatchOption};
 ghost use Rattle.script_text.specs.Grammar.{EachIsByte, IsNameWord, is_plain, hex_digit_from, escape, escaped};
 
 use crate::hex::split_pair;

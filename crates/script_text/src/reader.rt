@@ -70,9 +70,11 @@ impl Reader {
     {
         let Some(left) = self.commands_left.checked_sub(what.command_count()) else {
             self.bad = Some(self.count + 1);
+            drop(what);
             return Ok(());
         };
         if repeats_wait(self.lines.as_slice(), &what) {
+            drop(what);
             return Ok(());
         }
         let line = self.count + 1;

@@ -45,7 +45,10 @@ pub fn change(alloc: Global, coll: CollName, op: Op) -> Result<What, AllocError>
 {
     match Transaction::new(alloc, coll, op) {
         Ok(change) => Ok(What::Command(Command::Change(change))),
-        Err(_) => Err(AllocError),
+        Err(back) => {
+            drop(back);
+            Err(AllocError)
+        }
     }
 }
 

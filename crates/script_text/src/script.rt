@@ -1,5 +1,5 @@
 //! Reading a script.
-ghost use Rattle.std.specs.Prelude.{◌≡◌, ◌≤◌, [], ℕ, List, true, false, IfOk, IfErr, OnOk, OnErr, IsErrOf};
+ghost use Rattle.std.specs.Prelude.{◌≡◌, ◌≤◌, [], ℕ, List, true, false, IfOk, IfErr, OnOk, IsErrOf};
 ghost use Rattle.block_device.specs.Disk.{Rose};
 ghost use Rattle.end_points.specs.Source.{Took, without_first};
 ghost use Rattle.script_text.specs.Script.{script_limit, IsScript, IsBadAt, IsTextOf};

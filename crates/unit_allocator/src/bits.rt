@@ -1,5 +1,5 @@
 //! Bits of words: tested, set, cleared, and the next one found.
-ghost use Rattle.std.specs.Prelude.{◌≡◌, ◌≢◌, ℕ, ◌+◌, ◌-◌, ◌*◌, ◌/◌, ◌<◌, ◌≤◌, ◌^◌, true, false, length, slice_index, nat_lt, replicate, IfOk, MatchOption};
+ghost use Rattle.std.specs.Prelude.{◌≡◌, ◌≢◌, ℕ, ◌+◌, ◌-◌, ◌*◌, ◌/◌, ◌<◌, ◌^◌, true, false, length, slice_index, nat_lt, replicate, IfOk, MatchOption};
 ghost use Rattle.std.specs.Int.{trailing_zeros, w64};
 ghost use Rattle.unit_allocator.specs.Words.{bit, HasNoBitBetween, HasNoBitFrom, IsFirstBitFrom};
 

@@ -1,5 +1,5 @@
 //! Fields at the front of bytes, read one after another.
-ghost use Rattle.std.specs.Prelude.{◌≡◌, ◌↔◌, ◌∷◌, ◌++◌, [], IsTrue, MatchOption};
+ghost use Rattle.std.specs.Prelude.{◌≡◌, ◌↔◌, ◌∷◌, [], IsTrue, MatchOption};
 ghost use Rattle.std.specs.Int.{w16, w32, w64, from_le_bytes, to_le_bytes, from_be_bytes, to_be_bytes};
 ghost use Rattle.unit_fields.specs.Fields.{IsTooShort, ReadsNumber, ReadsBytes};
 

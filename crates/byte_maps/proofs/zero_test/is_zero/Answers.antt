@@ -1,19 +1,28 @@
-use Rattle.std.proofs.Common.{◌≡◌, false, true, sym, ◌∙◌}
-use Rattle.byte_maps.proofs.ZeroLanes.{all_more, all_parts}
+use Rattle.std.proofs.Common.{◌≡◌, ℕ, ◌+◌, ◌-◌, ◌*◌, ◌/◌, ◌≤◌, List, length, take, drop, All, ap, subst, ◌∙◌, arith}
+use Rattle.std.proofs.lemmas.List.{drop-drop, length-drop, take_all, take-append-drop}
+use Rattle.std.proofs.lemmas.List.Elements.{All-append, All-take, All-drop}
 use Rattle.byte_maps.proofs.zero_test.is_zero.Goals as goal
 
-pub returns-then-not-is_zero_block : goal.returns-then-not-is_zero_block
-returns-then-not-is_zero_block c =
-    let cut = c.in-Some.ensures.cases in (
-      λ yes. absurd (let no : false ≡ true = yes in cc),
-      λ all. sym c.if-not-is_zero_block.true ∙ c.is_zero_block.ensures.1 (all_parts 128 c.loop-block.left.now _ _ cut.0 cut.1 (c.loop-block.invariant.1 all)).0,
-    )
+abbrev AreZero : List ℕ → Type 0
+AreZero bytes = All (λ (b : ℕ). b ≡ 0) bytes
 
-pub loop-block-preserved : goal.loop-block-preserved
-loop-block-preserved c =
-    let left = c.loop-block.left.now in
-    let cut = c.in-Some.ensures.cases in
-    let kept = c.loop-block.invariant in (
-      λ rest. kept.0 (all_more 128 left _ _ cut.0 cut.1 (c.is_zero_block.ensures.0 c.if-not-is_zero_block.false) rest),
-      λ all. (all_parts 128 left _ _ cut.0 cut.1 (kept.1 all)).1,
+-- two parts that overlap
+covered : (m n : ℕ) (bytes : List ℕ) → m ≤ n → AreZero (drop m bytes) → AreZero (take n bytes) → AreZero bytes
+covered m n bytes le back front =
+    let at : m + (n - m) ≡ n = omega (arith, le) in
+    let rest = subst AreZero (drop-drop (n - m) m bytes ∙ ap (λ i. drop i bytes) at) (All-drop (λ (b : ℕ). b ≡ 0) (n - m) (drop m bytes) back) in
+    subst AreZero (take-append-drop n bytes) (All-append (λ (b : ℕ). b ≡ 0) (take n bytes) (drop n bytes) front rest)
+
+whole_steps : (size : ℕ) → 128 ≤ size → size - 128 ≤ size / 128 * 128
+whole_steps size some = omega (arith, some)
+
+pub returns-then-is_zero_in_steps : goal.returns-then-is_zero_in_steps
+returns-then-is_zero_in_steps c =
+    let bytes = c.args.bytes.now in
+    let size = length bytes in
+    let all = drop (size - 128) bytes in
+    let long : length all ≤ size - (size - 128) = omega (arith, length-drop (size - 128) bytes) in
+    let back : AreZero all = subst AreZero (take_all (size - (size - 128)) all long) (c.is_zero_in_steps-2.ensures.0 c.if-is_zero_in_steps.true) in (
+      λ yes. covered (size - 128) (size / 128 * 128) bytes (whole_steps size c.if-size-lt-BLOCK.false) back (c.is_zero_in_steps-then-is_zero_in_steps.ensures.0 yes),
+      λ zero. c.is_zero_in_steps-then-is_zero_in_steps.ensures.1 (All-take (λ (b : ℕ). b ≡ 0) (size / 128 * 128) bytes zero),
     )

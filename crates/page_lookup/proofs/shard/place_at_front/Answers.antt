@@ -1,4 +1,4 @@
-use Rattle.std.proofs.Common.{◌≡◌, ◌<◌, ◌+◌, ◌-◌, ◌*◌, ◌∙◌, Some, None, ap, sym, length, drop, arith, rules}
+use Rattle.std.proofs.Common.{◌≡◌, ◌<◌, ◌+◌, ◌-◌, ◌∙◌, Some, None, ap, sym, length, drop, arith, rules}
 use Rattle.std.proofs.lemmas.List.{length-drop}
 use Rattle.unit_fields.specs.Widths.{bytes_of}
 use Rattle.row_format.specs.Extents.{own}

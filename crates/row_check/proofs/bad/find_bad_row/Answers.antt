@@ -1,10 +1,10 @@
-use Rattle.std.proofs.Common.{◌≡◌, ◌+◌, [], None, refl, sym, subst, ◌∙◌, arith}
+use Rattle.std.proofs.Common.{◌+◌, [], None, refl, sym, subst, ◌∙◌}
 use Rattle.meta_rows.specs.Table.{rows_from_to}
 use Rattle.meta_rows.proofs.RangeLemmas.{left_more, left_none}
 use Rattle.store_image.specs.BadRows.{IsGoodRow}
 use Rattle.row_check.specs.Bad.{IsLeastBad, IsGood}
 use Rattle.row_reading.proofs.Entries.{AreRows, are_rows}
-use Rattle.row_check.proofs.Walk.{at_start, step_to, step_on, step_bad, all_good}
+use Rattle.row_check.proofs.Walk.{Walked, at_start, step_to, step_on, step_bad, all_good}
 use Rattle.row_check.proofs.bad.find_bad_row.Goals as goal
 
 pub loop-key-init : goal.loop-key-init
@@ -56,8 +56,9 @@ loop-key-preserved c =
       finite = tt;
       at = at + 1;
       left = more.2;
-      walked = step_on c.args.sup.now rows es are at c.loop-key.last c.loop-key.invariant.walked x key value more.0 more.1 c.as_slice.ensures
-          c.as_slice-in-loop-key.ensures c.in-Some-found.row good;
+      walked = subst (Walked c.args.sup.now rows es (at + 1)) (sym c.replace.ensures.after)
+          (step_on c.args.sup.now rows es are at c.loop-key.last c.loop-key.invariant.walked x key value more.0 more.1 c.as_slice.ensures
+          c.as_slice-in-loop-key.ensures c.in-Some-found.row good);
     }
 
 pub returns : goal.returns

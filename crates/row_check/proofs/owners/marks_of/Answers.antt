@@ -1,4 +1,4 @@
-use Rattle.std.proofs.Common.{◌≡◌, ◌+◌, [], length, None, refl, sym, subst, ◌∙◌}
+use Rattle.std.proofs.Common.{◌+◌, [], length, None, refl, sym, subst, ◌∙◌}
 use Rattle.meta_rows.specs.Table.{rows_from_to}
 use Rattle.meta_rows.proofs.RangeLemmas.{left_more, left_none}
 use Rattle.meta_log.specs.Slots.{width_of}

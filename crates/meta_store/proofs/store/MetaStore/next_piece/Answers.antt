@@ -1,5 +1,4 @@
-use Rattle.std.proofs.Common.{◌+◌, ap, sym, subst, ◌∙◌, arith}
-use Rattle.meta_log.specs.Slots.{active_unit}
+use Rattle.std.proofs.Common.{◌+◌, ap, subst, ◌∙◌, arith}
 use Rattle.meta_store.specs.Store.{IsMeta, IsNextPiece}
 use Rattle.meta_store.proofs.StoreLemmas.{next_of_held, left_of_next, lies_behind}
 use Rattle.meta_store.proofs.store.MetaStore.next_piece.Goals as goal
@@ -7,8 +6,7 @@ use Rattle.meta_store.proofs.store.MetaStore.next_piece.Goals as goal
 pub returns-in_ok-first-in-Some-clause-next : goal.returns-in_ok-first-in-Some-clause-next
 returns-in_ok-first-in-Some-clause-next c =
     let held = rw c.in-Some.is at c.self.invariant.held in
-    let here = c.active_unit.ensures ∙ ap (λ m. active_unit m.sup) (sym c.self.view_is) in
-    let unit = c.new-unit.ensures ∙ ap (λ u. u + c.self.inside.tail + c.in_ok-first-in-Some.first) here in
+    let unit = c.new-unit.ensures ∙ ap (λ u. u + c.self.inside.tail + c.in_ok-first-in-Some.first) c.active_unit.ensures in
     subst (λ m. IsNextPiece m c.new-unit.result c.in_ok-first-in-Some.bytes.items) c.self.view_is
     (next_of_held c.self.inside c.in-Some.begun c.in_ok-first-in-Some.first _ _ c.in-Some.is held.next
     (omega (arith, c.pieces.ensures)) c.in_ok-first-in-Some.ensures.first c.in_ok-first-in-Some.ensures.bytes unit)

@@ -1,5 +1,5 @@
 use Rattle.std.proofs.Common.{◌≡◌, ◌↔◌, All, length}
-use Rattle.byte_maps.proofs.zero_test.is_zero.Given as goal
+use Rattle.byte_maps.proofs.zero_test.is_zero_in_steps.Given as goal
 
 -- the bytes are zero if those that are left are
 abbrev pub invariant-loop-block : goal.invariant-loop-block

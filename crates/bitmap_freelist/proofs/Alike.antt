@@ -103,8 +103,8 @@ module _ (w : Width) (rows other : Rows) (alike : AreAlikeButBits rows other) wh
   }
 
   -- those of all objects and collections
-  shape : (objects : Objects) → IsShape rows objects → IsShape other objects
-  shape objects is = record {
+  pub alike_shape : (objects : Objects) → IsShape rows objects → IsShape other objects
+  alike_shape objects is = record {
     collections = λ c. is.collections c ∙ sym (ap is_some (alike (coll_key c) (coll_key_is_other c)));
     present = λ c o object there. object_shape c o object (is.present c o object there);
     missing = λ c o coll name none. alike (onode_key c o) (onode_keys c o _) ∙ is.missing c o coll name none;
@@ -126,6 +126,6 @@ module _ (w : Width) (rows other : Rows) (alike : AreAlikeButBits rows other) wh
 pub alike_stand : (w : Width) (at : ℕ → List ℕ) (rows other : Rows) (objects : Objects) → AreAlikeButBits rows other → ObjectsStand w at rows objects
     → ObjectsStand w at other objects
 alike_stand w at rows other objects alike stand = record {
-  shape = shape w rows other alike objects stand.shape;
+  shape = alike_shape w rows other alike objects stand.shape;
   bytes = λ c o object there. object_bytes w rows other alike at c o object.bytes (stand.bytes c o object there);
 }

@@ -1,9 +1,8 @@
 -- How the book goes on at a submission or a read: an entry more, and where it is an accepted transaction a context more.
-use Rattle.std.proofs.Common.{◌≡◌, ◌≢◌, inl, inr, ℕ, ◌<◌, Bool, cond, List, [], ◌∷◌, ◌++◌, length, None, Ok}
+use Rattle.std.proofs.Common.{◌≡◌, inl, inr, ℕ, List, [], ◌∷◌, ◌++◌, length, None, Ok}
 use Rattle.std.proofs.Common.{Err, refl, sym, ap, subst, ◌∙◌, append_assoc, arith}
 use Rattle.std.specs.Prelude.{IsOk, Result}
 use Rattle.std.specs.List.{AllByRecursion}
-use Rattle.std.proofs.lemmas.Bool.{eq-eqb, ne_eqb}
 use Rattle.block_device.specs.Disk.{Disk}
 use Rattle.object_model.specs.declared.command.Answer.{Answer}
 use Rattle.object_model.specs.declared.command.Answer.TheVariants as answer
@@ -15,84 +14,29 @@ use Rattle.object_model.specs.Objects.{Objects}
 use Rattle.object_model.specs.Effect.{Change, replay, ok_or, transaction_effect}
 use Rattle.object_model.specs.Book.{accepted_change, accepted}
 use Rattle.object_model.proofs.Replays.{replay-append}
-use Rattle.meta_rows.specs.Rows.{Rows, rows_after}
-use Rattle.meta_log.specs.declared.slot.Super.{Super}
+use Rattle.meta_rows.specs.Rows.{rows_after}
 use Rattle.meta_log.specs.Slots.{width_of}
-use Rattle.unit_fields.specs.UnitSet.{Ascends}
-use Rattle.store_image.specs.BadRows.{NoBadRow}
-use Rattle.store_image.specs.Owners.{IsOwned, IsDataUnit}
-use Rattle.store_image.specs.Stands.{ObjectsStand}
-use Rattle.store_image.proofs.PageUnits.{page_owned}
-use Rattle.object_rows.specs.declared.plan.FreshUnit.{FreshUnit}
-use Rattle.object_rows.specs.declared.plan.Plan.{Plan}
-use Rattle.object_rows.specs.Planned.{IsPlanned, HoldsFresh}
-use Rattle.object_rows.proofs.Planned.{planned_stand, planned_fresh, planned_ascend}
+use Rattle.store_image.specs.Stands.{IsShape}
+use Rattle.plan_rows.specs.declared.plan.Plan.{Plan}
 use Rattle.read_facts.specs.Alike.{IsAnsweredAlike}
 use Rattle.read_facts.specs.Refusals.{IsNotRefused}
 use Rattle.read_facts.specs.Answers.{HasReadNames}
+use Rattle.read_facts.specs.PageReads.{IsHeldAt, no_memory}
 use Rattle.read_facts.proofs.Plain.{plain_answer}
 use Rattle.store_steps.specs.declared.context.Context.{Context}
 use Rattle.store_steps.specs.State.{State}
-use Rattle.store_steps.specs.Submit.{context_of, entered, noted, accepted_with, IsCause, Accepts}
-use Rattle.store_steps.specs.Runs.{MaySubmit, AnswersRead}
-use Rattle.store_facts.specs.Space.{uncommitted}
-use Rattle.store_facts.specs.Kept.{IsKept}
-use Rattle.store_facts.proofs.RowsPlans.{units_of, planned}
-use Rattle.book_facts.specs.BookFacts.{batched, IsOfEntry, KnownOfBook, StandSomehow}
-use Rattle.book_facts.specs.FreshBytes.{bytes_with}
+use Rattle.store_steps.specs.Submit.{context_of, entered, noted, accepted_with, IsCause}
+use Rattle.store_steps.specs.Runs.{AnswersRead}
+use Rattle.store_steps.specs.Intents.{Intent, intent_of, intents}
+use Rattle.store_steps.specs.Parts.{book_part}
+use Rattle.store_facts.proofs.PartsKept.{intents_both}
+use Rattle.book_facts.specs.BookFacts.{IsOfEntry, IsBookKnown, KnownOfBook}
 use Rattle.book_facts.proofs.Entries.{accepted_push, none_accepted, alike_push, counts_push, change_last, of_entries_push}
 use Rattle.book_facts.proofs.Commits.{all_behind, all_append}
 use Rattle.book_facts.proofs.Answers.{has_effect, reply_accepted}
+use Rattle.book_facts.proofs.Books.{batch_of}
+use Rattle.book_facts.proofs.KnownPlans.{IsKnownPlan}
 use Rattle.book_facts.proofs.Queues.{entry_push, queued_noted, queued_accepted}
-
--- ---- the plan of an accepted transaction
-
--- the rows stay good by it
-pub takes_plan : (s : State) (d : Disk) (client line : ℕ) (change : Change) (s' : State) → IsKept s d → MaySubmit change s d
-    → (does : Accepts client line change s s') → IsPlanned s.log.sup s.submitted change does.plan
-takes_plan s d client line change s' kept may does =
-    planned s.log.sup s.log.rows s.submitted s.space kept.always.limits (kept.up does.can_note.up).good kept.always.space (kept.up does.can_note.up).free
-    change.coll change.ops does.plan may.known does.plans
-
--- ---- fresh units have their bytes
-
-module _ (fresh : List FreshUnit) (f : FreshUnit) (at : ℕ → List ℕ) where
-  here_held : bytes_with (f ∷ fresh) at f.unit ≡ f.bytes
-  here_held = ap (λ (b : Bool). cond b f.bytes (bytes_with fresh at f.unit)) (eq-eqb f.unit f.unit refl)
-
-  others_held : (unit : ℕ) → f.unit ≢ unit → bytes_with (f ∷ fresh) at unit ≡ bytes_with fresh at unit
-  others_held unit other = ap (λ (b : Bool). cond b f.bytes (bytes_with fresh at unit)) (ne_eqb f.unit unit other)
-
-  -- those above it hold what they held
-  above_held : (gs : List FreshUnit) → AllByRecursion (λ u. f.unit < u) (units_of gs)
-      → AllByRecursion (λ g. bytes_with fresh at g.unit ≡ g.bytes) gs
-      → AllByRecursion (λ g. bytes_with (f ∷ fresh) at g.unit ≡ g.bytes) gs
-  above_held [] above held = tt
-  above_held (g ∷ gs) above held = (others_held g.unit (λ e. omega (arith, e, above.0)) ∙ held.0, above_held gs above.1 held.1)
-
-fresh_held : (fresh : List FreshUnit) (at : ℕ → List ℕ) → Ascends (units_of fresh)
-    → AllByRecursion (λ g. bytes_with fresh at g.unit ≡ g.bytes) fresh
-fresh_held [] at ascend = tt
-fresh_held (f ∷ fresh) at ascend = (here_held fresh f at, above_held fresh f at fresh ascend.0 (fresh_held fresh at ascend.1))
-
--- a unit that is none of them holds what it held
-none_held : (sup : Super) (rows : Rows) (fresh : List FreshUnit) (at : ℕ → List ℕ) (unit : ℕ) → IsOwned (width_of sup) rows unit
-    → AllByRecursion (λ f. IsDataUnit sup f.unit × ¬ IsOwned (width_of sup) rows f.unit × (length f.bytes ≡ 4096)) fresh
-    → bytes_with fresh at unit ≡ at unit
-none_held sup rows [] at unit owned all = refl
-none_held sup rows (f ∷ fresh) at unit owned all =
-    others_held fresh f at unit (λ e. all.0.1 (subst (IsOwned (width_of sup) rows) (sym e) owned)) ∙ none_held sup rows fresh at unit owned all.1
-
-module _ (sup : Super) (rows : Rows) (change : Change) (plan : Plan) (is : IsPlanned sup rows change plan) (at : ℕ → List ℕ) where
-  pub plan_ascends : Ascends (units_of plan.fresh)
-  plan_ascends = planned_ascend sup rows is
-
-  pub plan_holds : HoldsFresh (bytes_with plan.fresh at) plan
-  plan_holds = fresh_held plan.fresh at plan_ascends
-
-  -- and no owned unit is fresh
-  pub plan_spares : (unit : ℕ) → IsOwned (width_of sup) rows unit → bytes_with plan.fresh at unit ≡ at unit
-  plan_spares unit owned = none_held sup rows plan.fresh at unit owned (planned_fresh sup rows is)
 
 -- ---- the objects after the transaction
 
@@ -114,19 +58,21 @@ pub goes_on : (opening : Objects) (s : State) (change : Change) → KnownOfBook 
     → GoesOn opening s change
 goes_on opening s change book not_refused =
     let objects = replay opening (accepted s.book.entries) in
-    let found = after_of (transaction_effect change objects) (has_effect objects change (not_refused objects book.stand.1.shape)) in
+    let found = after_of (transaction_effect change objects) (has_effect objects change (not_refused objects book.shape)) in
     record { after = found.0; effect = found.1; replays = replay_one opening (accepted s.book.entries) change found.0 found.1 }
 
 -- ---- it is accepted
 
 module _ (opening : Objects) (s : State) (client line : ℕ) (change : Change) (plan : Plan)
-    (not_refused : IsNotRefused s.submitted (ask.Change change)) (good : NoBadRow s.log.sup s.submitted)
-    (is_planned : IsPlanned s.log.sup s.submitted change plan) (book : KnownOfBook opening s) where
+    (not_refused : IsNotRefused s.submitted (ask.Change change)) (is : IsKnownPlan s change plan) (book : KnownOfBook opening s) where
   abbrev entry : Entry
   entry = record { client = client; line = line; command = ask.Change change; answer = answer.Accepted; acks = s.acked }
 
-  abbrev one : Context
-  one = context_of (length s.book.entries) change s.log plan
+  abbrev taken : Context
+  taken = context_of (length s.book.entries) change s.log plan
+
+  abbrev one : Intent
+  one = intent_of taken
 
   abbrev objects : Objects
   objects = replay opening (accepted s.book.entries)
@@ -135,24 +81,25 @@ module _ (opening : Objects) (s : State) (client line : ℕ) (change : Change) (
   of_entry = record { change = change; accepted = change_last s.book.entries entry; same_names = refl }
 
   pub book_accepts : KnownOfBook opening (accepted_with client line change plan s)
-  book_accepts = record {
-    answers = alike_push opening s.book.entries entry book.answers
-        (inl (sym (reply_accepted objects change (not_refused objects book.stand.1.shape))));
-    counts = counts_push 0 s.acked s.book.entries entry (omega arith) book.counts refl;
-    commits = record {
-      of_accepted = of_entries_push s.book.entries entry s.book.commits book.commits.of_accepted;
-      acked_first = book.commits.acked_first;
-      counted = book.commits.counted;
-      by_now = book.commits.by_now;
-    };
-    queued = queued_accepted s.book.entries entry s.book.commits s.pending book.commits.of_accepted book.queued one change refl refl refl
-        (all_behind (IsOfEntry s.book.entries) (batched s.batch) s.pending book.contexts);
-    contexts = subst (AllByRecursion (IsOfEntry (s.book.entries ++ entry ∷ []))) (append_assoc (batched s.batch) s.pending (one ∷ []))
-        (all_append (IsOfEntry (s.book.entries ++ entry ∷ [])) (uncommitted s) (one ∷ []) (entry_push s.book.entries entry (uncommitted s) book.contexts)
-        (of_entry, tt));
-    last_committed = book.last_committed;
-    stand = stand;
-  }
+  book_accepts = subst (λ (xs : List Intent). IsBookKnown opening s.events (rows_after s.submitted plan.ops)
+      (let t : State = accepted_with client line change plan s in book_part t) xs) (sym (intents_both s.pending (taken ∷ []))) (record {
+        answers = alike_push opening s.book.entries entry book.answers
+            (inl (sym (reply_accepted objects change (not_refused objects book.shape))));
+        counts = counts_push 0 s.acked s.book.entries entry (omega arith) book.counts refl;
+        commits = record {
+          of_accepted = of_entries_push s.book.entries entry s.book.commits book.commits.of_accepted;
+          acked_first = book.commits.acked_first;
+          counted = book.commits.counted;
+          by_now = book.commits.by_now;
+        };
+        queued = queued_accepted s.book.entries entry s.book.commits (intents s.pending) book.commits.of_accepted book.queued one change refl refl refl
+            (all_behind (IsOfEntry s.book.entries) (batch_of s) (intents s.pending) book.contexts);
+        contexts = subst (AllByRecursion (IsOfEntry (s.book.entries ++ entry ∷ []))) (append_assoc (batch_of s) (intents s.pending) (one ∷ []))
+            (all_append (IsOfEntry (s.book.entries ++ entry ∷ [])) (batch_of s ++ intents s.pending) (one ∷ [])
+            (entry_push s.book.entries entry (batch_of s ++ intents s.pending) book.contexts) (of_entry, tt));
+        last_committed = book.last_committed;
+        shape = shape;
+      })
     where
       on : GoesOn opening s change
       on = goes_on opening s change book not_refused
@@ -160,19 +107,9 @@ module _ (opening : Objects) (s : State) (client line : ℕ) (change : Change) (
       objects_are : replay opening (accepted (s.book.entries ++ entry ∷ [])) ≡ on.after
       objects_are = ap (replay opening) (accepted_push s.book.entries entry) ∙ on.replays
 
-      now : ℕ → List ℕ
-      now = bytes_with plan.fresh book.stand.0
-
-      stand : StandSomehow (width_of s.log.sup) (rows_after s.submitted plan.ops) (replay opening (accepted (s.book.entries ++ entry ∷ [])))
-      stand = (
-        now,
-        subst (ObjectsStand (width_of s.log.sup) now (rows_after s.submitted plan.ops)) (sym objects_are)
-            (planned_stand s.log.sup s.submitted book.stand.0 now objects on.after is_planned good
-            (plan_holds s.log.sup s.submitted change plan is_planned book.stand.0)
-            (λ unit has. plan_spares s.log.sup s.submitted change plan is_planned book.stand.0 unit
-            (page_owned (width_of s.log.sup) s.submitted unit has))
-            book.stand.1 on.effect),
-      )
+      shape : IsShape (rows_after s.submitted plan.ops) (replay opening (accepted (s.book.entries ++ entry ∷ [])))
+      shape = subst (IsShape (rows_after s.submitted plan.ops)) (sym objects_are)
+          (is.makes.shape s.submitted objects on.after is.suits is.good book.shape on.effect)
 
 -- ---- an entry that accepts nothing
 
@@ -191,14 +128,10 @@ module _ (opening : Objects) (s : State) (client line : ℕ) (command : Command)
       counted = book.commits.counted;
       by_now = book.commits.by_now;
     };
-    queued = queued_noted s.book.entries more s.book.commits s.pending book.commits.of_accepted book.queued none;
-    contexts = entry_push s.book.entries more (uncommitted s) book.contexts;
+    queued = queued_noted s.book.entries more s.book.commits (intents s.pending) book.commits.of_accepted book.queued none;
+    contexts = entry_push s.book.entries more (batch_of s ++ intents s.pending) book.contexts;
     last_committed = book.last_committed;
-    stand = (
-      book.stand.0,
-      subst (λ (l : List Change). ObjectsStand (width_of s.log.sup) book.stand.0 s.submitted (replay opening l))
-          (sym same) book.stand.1,
-    );
+    shape = subst (λ (l : List Change). IsShape s.submitted (replay opening l)) (sym same) book.shape;
   }
     where
       same : accepted (s.book.entries ++ more ∷ []) ≡ accepted s.book.entries
@@ -221,9 +154,9 @@ module _ (opening : Objects) (s : State) (client line : ℕ) (change : Change) (
   objects_now = replay opening (accepted s.book.entries)
 
   cause_answers : (a : Answer) → IsCause a change s → IsAnsweredAlike objects_now (noting a)
-  cause_answers (answer.Refused refusal) cause = inl (sym (cause objects_now book.stand.1.shape))
-  cause_answers (answer.NoSpace need free) cause = inr (refl, cause.0 objects_now book.stand.1.shape)
-  cause_answers (answer.MetaFull need room) cause = inr (refl, cause.0 objects_now book.stand.1.shape)
+  cause_answers (answer.Refused refusal) cause = inl (sym (cause objects_now book.shape))
+  cause_answers (answer.NoSpace need free) cause = inr (refl, cause.0 objects_now book.shape)
+  cause_answers (answer.MetaFull need room) cause = inr (refl, cause.0 objects_now book.shape)
   cause_answers a cause = absurd cause
 
   pub book_notes : (a : Answer) → IsCause a change s → KnownOfBook opening (noted client line change a s)
@@ -244,4 +177,5 @@ pub book_answers : (opening : Objects) (s : State) (d : Disk) (client line : ℕ
 book_answers opening s d client line command a s' book is =
     subst (KnownOfBook opening) (sym is.after)
     (book_enters opening s client line command a (read_accepts_none command a is.names) book
-    (plain_answer (width_of s.log.sup) s.submitted (replay opening (accepted s.book.entries)) book.stand.1.shape d command a is.names is.given))
+    (plain_answer (width_of s.log.sup) s.submitted (replay opening (accepted s.book.entries)) book.shape no_memory (IsHeldAt d) command a
+    is.names is.given))

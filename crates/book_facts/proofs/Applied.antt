@@ -1,10 +1,9 @@
 -- The transactions of the applied commits, and how far they are all that were accepted.
-use Rattle.std.proofs.Common.{◌≡◌, ℕ, zero, suc, ◌+◌, ◌-◌, ◌≤◌, Bool, true, false, cond, List, [], ◌∷◌, ◌++◌, length, take, drop, Option}
+use Rattle.std.proofs.Common.{◌≡◌, ℕ, zero, suc, ◌+◌, ◌-◌, Bool, true, false, cond, List, [], ◌∷◌, ◌++◌, length, take, drop, Option}
 use Rattle.std.proofs.Common.{Some, None, refl, sym, ap, ◌∙◌, append-nil, append_assoc, length-append, arith}
 use Rattle.std.specs.Prelude.{IsSome, slice_get, option_and_then}
 use Rattle.std.specs.List.{AllByRecursion, cons_option}
-use Rattle.std.specs.Option.{option_map_or}
-use Rattle.std.proofs.lemmas.List.{take-map, take_at, take_all, take-append-drop, length-map, map-append}
+use Rattle.std.proofs.lemmas.List.{take-map, take_all, take-append-drop, length-map}
 use Rattle.std.proofs.lemmas.List.Elements.{filter_map-append}
 use Rattle.object_model.specs.declared.book.Entry.{Entry}
 use Rattle.object_model.specs.declared.book.Commit.{Commit}
@@ -13,14 +12,14 @@ use Rattle.object_model.specs.Effect.{Change, replay, names_of, is_named, change
 use Rattle.object_model.specs.Book.{accepted, change_at, committed, is_on, places_from, committed_places}
 use Rattle.object_model.proofs.Names.{have_one_name}
 use Rattle.object_model.proofs.Replays.{replay-append, replay-by_collections}
-use Rattle.store_steps.specs.declared.context.Context.{Context}
 use Rattle.store_steps.specs.State.{Batch, State}
-use Rattle.store_steps.specs.Changes.{commit_of, taken_up, acknowledged, finished, committed_batch}
+use Rattle.store_steps.specs.Changes.{committed_batch}
 use Rattle.store_steps.specs.Ready.{applied_count}
+use Rattle.store_steps.specs.Intents.{Intent}
 use Rattle.book_facts.specs.BookFacts.{commit_places, AreQueued}
 use Rattle.book_facts.specs.Selections.{applied_changes, changes_of}
 use Rattle.book_facts.proofs.Entries.{own_change, committed_kept}
-use Rattle.book_facts.proofs.Commits.{places_acknowledged, length_acknowledged, places_on, places_by_places, changes_at, committed_by_places}
+use Rattle.book_facts.proofs.Commits.{places_on, places_by_places, changes_at, committed_by_places}
 
 -- ---- by places
 
@@ -30,41 +29,9 @@ applied_by_places es cs n = committed_by_places es (take n cs) ∙ ap (changes_a
 count_places : (cs : List Commit) → length (commit_places cs) ≡ length cs
 count_places cs = length-map cs (λ (c : Commit). c.place)
 
--- ---- an acknowledgement
-
-pub applied_finished : (s : State) → applied_changes (finished s) ≡ applied_changes s
-applied_finished s =
-    let n : ℕ = option_map_or (λ (b : Batch). length b.contexts) s.batch 0 in
-    applied_by_places s.book.entries (acknowledged s.events s.book.commits) (length (acknowledged s.events s.book.commits) - n)
-    ∙ ap (λ (ps : List ℕ). changes_at s.book.entries (take (length (acknowledged s.events s.book.commits) - n) ps))
-    (places_acknowledged s.events s.book.commits)
-    ∙ ap (λ (k : ℕ). changes_at s.book.entries (take (k - n) (commit_places s.book.commits))) (length_acknowledged s.events s.book.commits)
-    ∙ sym (applied_by_places s.book.entries s.book.commits (applied_count s))
-
--- ---- a batch is opened
-
-pub applied_taken : (s : State) (x : Context) → s.batch ≡ None → applied_changes (taken_up x s) ≡ applied_changes s
-applied_taken s x none =
-    let cs : List Commit = s.book.commits in
-    let one : List Commit = commit_of x ∷ [] in
-    let count : length (cs ++ one) - 1 ≡ length cs = (let more = length-append cs one in omega (arith, more)) in
-    applied_by_places s.book.entries (cs ++ one) (length (cs ++ one) - 1)
-    ∙ ap (λ (n : ℕ). changes_at s.book.entries (take n (commit_places (cs ++ one)))) count
-    ∙ ap (λ (ps : List ℕ). changes_at s.book.entries (take (length cs) ps)) (map-append (λ (c : Commit). c.place) cs one)
-    ∙ ap (changes_at s.book.entries) (take_at (commit_places cs) (commit_places one) (length cs) (count_places cs))
-    ∙ sym (ap (changes_at s.book.entries) (take_all (applied_count s) (commit_places cs) (all_applied none)))
-    ∙ sym (applied_by_places s.book.entries cs (applied_count s))
-  where
-    all_applied : s.batch ≡ None → length (commit_places s.book.commits) ≤ applied_count s
-    all_applied is =
-        let all : applied_count s ≡ length s.book.commits - 0 =
-        ap (λ (b : Option Batch). length s.book.commits - option_map_or (λ (c : Batch). length c.contexts) b 0) is in
-        let count = count_places s.book.commits in
-        omega (arith, all, count)
-
 -- ---- a batch of one is committed
 
-pub applied_committed : (opening : Objects) (s : State) (b : Batch) (x : Context) → drop (applied_count s) (commit_places s.book.commits) ≡ x.place ∷ []
+pub applied_committed : (opening : Objects) (s : State) (b : Batch) (x : Intent) → drop (applied_count s) (commit_places s.book.commits) ≡ x.place ∷ []
     → replay opening (applied_changes (committed_batch b s)) ≡ replay (replay opening (applied_changes s)) (changes_of s.book.entries (x ∷ []))
 applied_committed opening s b x last =
     let cs : List Commit = s.book.commits in

@@ -1,205 +1,171 @@
--- Each call of the kernel keeps what is known of the book, and so does a run.
-use Rattle.std.proofs.Common.{◌≡◌, inl, inr, ◌≤◌, Bool, true, false, cond, length, is_some, List, [], ◌∷◌, Option, Some, None, refl, sym, ap, subst}
-use Rattle.std.proofs.Common.{arith}
+-- Each call of the kernel keeps what is known of the book, and so does a run: by what calls make of rows and book.
+use Rattle.std.proofs.Common.{◌≡◌, inl, inr, ◌+◌, ◌<◌, ◌++◌, length, List, [], ◌∷◌, ℕ, Option, Some, None, refl, sym, ap, subst, ◌∙◌, arith}
+use Rattle.std.specs.Option.{option_map_or}
+use Rattle.std.proofs.lemmas.List.{append_cancel_left}
 use Rattle.block_device.specs.declared.device.Ticket.{Ticket}
 use Rattle.block_device.specs.Disk.{Disk}
 use Rattle.object_model.specs.Objects.{Objects}
-use Rattle.read_facts.specs.Alike.{IsLegalButBytes}
+use Rattle.object_model.specs.Effect.{Change}
 use Rattle.object_model.specs.declared.command.Command.TheVariants as ask
-use Rattle.store_steps.specs.declared.flight.Flying.{Flying}
-use Rattle.store_steps.specs.declared.flight.Job.{Job}
-use Rattle.store_steps.specs.declared.flight.Job.TheVariants as job
-use Rattle.store_steps.specs.declared.step.Step.{Step}
-use Rattle.store_steps.specs.declared.step.Step.TheVariants.{Data, Reap, Take, Flush, Seal, Record, Sync, Commit, Finish}
+use Rattle.plan_rows.specs.Keeps.{PlansKeep}
+use Rattle.read_facts.specs.Alike.{IsLegalButBytes}
+use Rattle.store_steps.specs.declared.context.Context.{Context}
+use Rattle.store_steps.specs.declared.step.Step.TheVariants as step
 use Rattle.store_steps.specs.State.{Batch, State}
-use Rattle.store_steps.specs.Contexts.{unsent_units, given_more, done_more}
-use Rattle.store_steps.specs.Changes.{data_sent, flush_sent, record_sent, sync_sent, after_done, after_good, flying_of, landed}
-use Rattle.store_steps.specs.Changes.{reaped, sealed}
-use Rattle.store_steps.specs.Ready.{is_ready}
-use Rattle.store_steps.specs.Steps.{DoesData, DoesReap, DoesFlush, DoesSeal, DoesRecord, DoesSync, Takes}
-use Rattle.store_steps.specs.Runs.{Call, submitting, reading, stepping, DoesOrFails, Calls, IsRun}
+use Rattle.store_steps.specs.Changes.{taken_up, committed_batch, finished}
+use Rattle.store_steps.specs.Submit.{Accepts}
+use Rattle.store_steps.specs.Runs.{Call, Calls, IsRun, MaySubmit}
+use Rattle.store_steps.specs.Intents.{Intent, intents}
+use Rattle.store_steps.specs.UnderWay.{uncommitted}
+use Rattle.store_steps.specs.Parts.{RowsPart, BookPart, rows_part, book_part}
+use Rattle.store_steps.specs.Touch.{Touch, events_of}
+use Rattle.store_steps.specs.RowsGo.{RowsGo}
+use Rattle.store_steps.specs.RowsGo as rows
+use Rattle.store_steps.specs.BookGoes.{BookGoes}
+use Rattle.store_steps.specs.BookGoes as book
+use Rattle.store_steps.specs.Footprint.{Replies, refuses, reads, IsCaused, Footprint}
 use Rattle.store_facts.specs.Kept.{IsKept}
-use Rattle.store_facts.proofs.Conditions.{ready_not_down, ready_by_table, finish_ready}
-use Rattle.book_facts.specs.BookFacts.{batched, KnownOfBook, IsInOrder}
-use Rattle.book_facts.proofs.Contexts.{AreLike, like_itself, like_same, like_with, given_like, done_like, first_like, second_like}
-use Rattle.book_facts.proofs.Books.{KeepBook, book_stays, book_takes, taken_alone, book_commits, book_finishes, known_legal}
+use Rattle.store_facts.proofs.Conditions.{ready_by_table, finish_ready}
+use Rattle.store_facts.proofs.PartsKept.{intents_both, reordered}
+use Rattle.store_facts.proofs.InFlight.{IsTaken, chosen_taken}
+use Rattle.store_facts.proofs.Downs.{was_up, GoesDown, down_call}
+use Rattle.store_facts.proofs.Footprints.{footprint_of}
+use Rattle.book_facts.specs.BookFacts.{KnownOfBook, IsInOrder}
+use Rattle.book_facts.proofs.Books.{KeepBook, batch_of, book_stays, book_takes, book_commits, book_finishes, known_legal}
 use Rattle.book_facts.proofs.Order.{order_stays, order_takes, order_commits, order_finishes, order_accepts, order_enters}
 use Rattle.book_facts.proofs.KeptCalls.{kept_call}
-use Rattle.book_facts.proofs.Accepted.{takes_plan, book_accepts, book_notes, book_answers, cause_refuses, read_accepts_none}
+use Rattle.book_facts.proofs.KnownPlans.{known_plan}
+use Rattle.book_facts.proofs.Selected.{same_order}
+use Rattle.book_facts.proofs.Accepted.{book_accepts, book_notes, book_answers, cause_refuses, read_accepts_none}
+use Rattle.store_facts.proofs.Alone.{far_of}
 
--- ---- steps that leave the book
+-- ---- calls that leave rows and book
 
--- the states differ in other parts
-same_book : (s t : State) → t.book ≡ s.book → t.acked ≡ s.acked → t.submitted ≡ s.submitted → s.events ≤ t.events → t.pending ≡ s.pending
-    → AreLike (batched t.batch) (batched s.batch) → KeepBook s t
-same_book s t book acked submitted events pending batch =
-    record { book = book; acked = acked; submitted = submitted; events = events; pending = like_same t.pending s.pending pending; batch = batch }
-
-done_keeps : (j : Job) (s : State) → KeepBook s (after_done j s)
-done_keeps (job.Data place count) s = record {
-  book = refl;
-  acked = refl;
-  submitted = refl;
-  events = omega arith;
-  pending = like_with place (done_more count) (done_like count) s.pending;
-  batch = like_itself (batched s.batch);
+-- the parts are the same
+parts_keep : (s s' : State) → rows_part s' ≡ rows_part s → book_part s' ≡ book_part s → (more : ℕ) → s'.events ≡ s.events + more → KeepBook s s'
+parts_keep s s' same_rows same_book more events = record {
+  book = same_book;
+  waiting = append_cancel_left (batch_of s) (intents s'.pending) (intents s.pending)
+      (ap (λ (b : BookPart). b.batch ++ intents s'.pending) (sym same_book) ∙ both s' ∙ ap (λ (p : RowsPart). p.intents) same_rows ∙ sym (both s));
+  submitted = ap (λ (p : RowsPart). p.submitted) same_rows;
+  events = omega (arith, events);
 }
-done_keeps job.DataFlush s = same_book s (after_done job.DataFlush s) refl refl refl (omega arith) refl (first_like s.batch)
-done_keeps job.Record s = same_book s (after_done job.Record s) refl refl refl (omega arith) refl (like_itself (batched s.batch))
-done_keeps job.RecordFlush s = same_book s (after_done job.RecordFlush s) refl refl refl (omega arith) refl (second_like s.batch)
-
-good_keeps : (f : Option Flying) (s : State) → KeepBook s (after_good f s)
-good_keeps None s = same_book s s refl refl refl (omega arith) refl (like_itself (batched s.batch))
-good_keeps (Some f) s = done_keeps f.job s
-
-reaped_keeps : (ok : Bool) (ticket : Ticket) (s : State) → KeepBook s (reaped ticket ok s)
-reaped_keeps true ticket s = by_down (is_some s.down)
   where
-    landed_keeps : KeepBook s (landed ticket s)
-    landed_keeps = same_book s (landed ticket s) refl refl refl (omega arith) refl (like_itself (batched s.batch))
+    both : (t : State) → batch_of t ++ intents t.pending ≡ intents (uncommitted t)
+    both t = sym (intents_both (option_map_or (λ (b : Batch). b.contexts) t.batch []) t.pending)
 
-    good_end : KeepBook s (after_good (flying_of ticket s.flying) (landed ticket s))
-    good_end =
-        let after = good_keeps (flying_of ticket s.flying) (landed ticket s) in
-        record {
-          book = after.book;
-          acked = after.acked;
-          submitted = after.submitted;
-          events = (let more = after.events in omega (arith, more));
-          pending = after.pending;
-          batch = after.batch;
-        }
+-- one that leaves the kernel down takes an end, or nothing happens
+down_keeps : (s : State) (d : Disk) (s' : State) (d' : Disk) → GoesDown s d s' d' → KeepBook s s'
+down_keeps s d s' d' (inl end) = subst (KeepBook s) (sym end.after)
+    (record { book = refl; waiting = refl; submitted = refl; events = omega arith })
+down_keeps s d s' d' (inr still) = subst (KeepBook s) (sym still.state)
+    (record { book = refl; waiting = refl; submitted = refl; events = omega arith })
 
-    by_down : (b : Bool) → KeepBook s (cond b (landed ticket s) (after_good (flying_of ticket s.flying) (landed ticket s)))
-    by_down true = landed_keeps
-    by_down false = good_end
-reaped_keeps false ticket s = same_book s (reaped ticket false s) refl refl refl (omega arith) refl (like_itself (batched s.batch))
+-- ---- a fact of the book and of what is under way
 
-batch_keeps : (before : Option Batch) (b : Batch) → before ≡ Some b → AreLike (b.contexts) (batched before)
-batch_keeps before b is = like_same b.contexts (batched before) (sym (ap batched is))
+-- it is kept where these stay, and wherever a call changes them
+record IsBookFact (K : State → Type 0) : Type 0 where
+  stays : (s s' : State) → KeepBook s s' → K s → K s'
+  accepts : (s : State) (d : Disk) (s' : State) (client line : ℕ) (change : Change) → PlansKeep → IsKept s d → MaySubmit change s d
+      → Accepts client line change s s' → K s → K s'
+  replies : (s : State) (d : Disk) (s' : State) → Replies s d s' → K s → K s'
+  takes : (s : State) (x : Context) → IsTaken s x → K s → K (taken_up x s)
+  commits : (s : State) (b : Batch) → K s → K (committed_batch b s)
+  finishes : (s : State) → s.acked < length s.book.commits → K s → K (finished s)
 
-module _ (s : State) (d : Disk) (s' : State) (d' : Disk) where
-  to_state : (t : State) → s' ≡ t → KeepBook s t → KeepBook s s'
-  to_state t e keep = subst (KeepBook s) (sym e) keep
+module _ (K : State → Type 0) (fact : IsBookFact K) where
+  -- ---- a call that leaves the kernel up
 
-  data_keeps : DoesData s d s' d' → KeepBook s s'
-  data_keeps does = to_state (data_sent does.next.place (length (unsent_units does.next)) does.ticket s) does.after (record {
-    book = refl;
-    acked = refl;
-    submitted = refl;
-    events = omega arith;
-    pending = like_with does.next.place (given_more (length (unsent_units does.next))) (given_like (length (unsent_units does.next))) s.pending;
-    batch = like_itself (batched s.batch);
-  })
+  module _ (s : State) (d : Disk) (s' : State) (d' : Disk) (plans : PlansKeep) (kept : IsKept s d) (up : s.down ≡ None) (known : K s) where
+    same_rows_keep : (t : Touch) → s'.events ≡ s.events + events_of t → (is : rows_part s' ≡ rows_part s)
+        → (b : BookGoes s.events t (book_part s) (book_part s')) → IsCaused s d s' d' (rows.same is) b → K s'
+    same_rows_keep t events is (book.same same) caused = fact.stays s s' (parts_keep s s' is same (events_of t) events) known
+    same_rows_keep t events is (book.enters e entered) caused = fact.replies s d s' caused known
+    same_rows_keep t events is (book.commits xs none opened) caused =
+        let x : Context = caused.does.context in
+        subst K (sym caused.does.after) (fact.takes s x (chosen_taken s x (far_of s d (kept.up up)) caused.does.is_chosen) known)
+    same_rows_keep t events is (book.applies count all counted) caused = absurd caused
+    same_rows_keep t events is (book.acknowledges acked) caused = subst K (sym caused.does.after)
+        (fact.finishes s (finish_ready s d d.depth kept.always (ready_by_table s d.depth step.Finish up caused.ready)).0 known)
 
-  ended_keeps : (ok : Bool) → Takes s d ok s' d' → KeepBook s s'
-  ended_keeps ok does = to_state (reaped does.ticket ok s) does.after (reaped_keeps ok does.ticket s)
+    parts_go : (t : Touch) → s'.events ≡ s.events + events_of t → (go : RowsGo (rows_part s) (rows_part s'))
+        → (b : BookGoes s.events t (book_part s) (book_part s')) → IsCaused s d s' d' go b → K s'
+    parts_go t events (rows.same is) b caused = same_rows_keep t events is b caused
+    parts_go t events (rows.reorders later order is) b caused =
+        let same : rows_part s' ≡ rows_part s =
+        is ∙ ap (λ (l : List Intent). record (rows_part s) { intents = l }) (same_order s (far_of s d (kept.up up)) later order) in
+        same_rows_keep t events same b (reordered s d s' d' s.events t (rows_part s) (rows_part s') (book_part s) (book_part s') later order is same b caused)
+    parts_go t events (rows.joins x is) (book.enters e entered) caused =
+        fact.accepts s d s' caused.client caused.line caused.change plans kept caused.may caused.accepts known
+    parts_go t events (rows.applies number front back both is) (book.applies count all counted) caused =
+        subst K (sym caused.does.after) (fact.commits s caused.does.batch known)
+    parts_go t events go b caused = absurd caused
 
-  reap_keeps : DoesReap s d s' d' → KeepBook s s'
-  reap_keeps (inl does) = ended_keeps true does
-  reap_keeps (inr waited) = to_state s waited.1 (same_book s s refl refl refl (omega arith) refl (like_itself (batched s.batch)))
+  -- ---- each call, and runs
 
-  flush_keeps : DoesFlush s d s' d' → KeepBook s s'
-  flush_keeps does = to_state (flush_sent does.batch does.ticket s) does.after
-      (same_book s (flush_sent does.batch does.ticket s) refl refl refl (omega arith) refl (batch_keeps s.batch does.batch does.begun))
+  fact_call : (call : Call) (s s' : State) (d d' : Disk) → PlansKeep → IsKept s d → K s → Calls call s d s' d' → K s'
+  fact_call call s s' d d' plans kept known made = of_down s'.down refl
+    where
+      of_down : (o : Option Ticket) → s'.down ≡ o → K s'
+      of_down None up =
+          let f : Footprint s d s' d' = footprint_of call s d s' d' kept up made in
+          parts_go s d s' d' plans kept (was_up call s d s' d' made up) known f.touch f.counted f.rows f.book f.caused
+      of_down (Some first) down = fact.stays s s' (down_keeps s d s' d' (down_call call s d s' d' first down made)) known
 
-  sync_keeps : DoesSync s d s' d' → KeepBook s s'
-  sync_keeps does = to_state (sync_sent does.batch does.ticket s) does.after
-      (same_book s (sync_sent does.batch does.ticket s) refl refl refl (omega arith) refl (batch_keeps s.batch does.batch does.begun))
+  fact_run : (calls : List Call) (s s' : State) (d d' : Disk) → PlansKeep → IsKept s d → K s → IsRun s d calls s' d' → K s'
+  fact_run [] s s' d d' plans kept known run = subst K (sym run.0) known
+  fact_run (call ∷ calls) s s' d d' plans kept known run =
+      let t : State = run.0 in
+      let e : Disk = run.1.0 in
+      fact_run calls t s' e d' plans (kept_call call s t d e plans kept run.1.1.0 run.1.1.1.0) (fact_call call s t d e plans kept known run.1.1.0) run.1.1.1.1
 
-  seal_keeps : DoesSeal s d s' d' → KeepBook s s'
-  seal_keeps does =
-      to_state (sealed does.batch s) does.after (same_book s (sealed does.batch s) refl refl refl (omega arith) refl (like_itself (batched s.batch)))
+-- ---- what is known of the book
 
-  record_keeps : DoesRecord s d s' d' → KeepBook s s'
-  record_keeps does = to_state (record_sent does.writing does.ticket s) does.after
-      (same_book s (record_sent does.writing does.ticket s) refl refl refl (omega arith) refl (like_itself (batched s.batch)))
+book_replies : (opening : Objects) (s : State) (d : Disk) (s' : State) → Replies s d s' → KnownOfBook opening s → KnownOfBook opening s'
+book_replies opening s d s' (refuses client line change a is) known =
+    subst (KnownOfBook opening) (sym is.after) (book_notes opening s client line change known a is.cause)
+book_replies opening s d s' (reads client line command a is) known = book_answers opening s d client line command a s' known is
 
-  -- ---- steps
+book_fact : (opening : Objects) → IsBookFact (KnownOfBook opening)
+book_fact opening = record {
+  stays = book_stays opening;
+  accepts = λ s d s' client line change plans kept may does known. subst (KnownOfBook opening) (sym does.after)
+      (book_accepts opening s client line change does.plan does.not_refused (known_plan plans s d client line change s' kept may does) known);
+  replies = book_replies opening;
+  takes = book_takes opening;
+  commits = book_commits opening;
+  finishes = book_finishes opening;
+}
 
-  pub book_step : (opening : Objects) (step : Step) → IsKept s d → is_ready step d.depth s ≡ true → KnownOfBook opening s → DoesOrFails step s d s' d'
-      → KnownOfBook opening s'
-  book_step opening Data kept ready known does = book_stays opening s s' (data_keeps does) known
-  book_step opening Reap kept ready known (inl does) = book_stays opening s s' (reap_keeps does) known
-  book_step opening Reap kept ready known (inr failed) = book_stays opening s s' (ended_keeps false failed) known
-  book_step opening Take kept ready known does =
-      let far = (kept.up (ready_not_down s d.depth Take refl ready)).far in
-      let alone = taken_alone s.log.number s.pending s.batch s.log.begun s.flying does.context far does.is_chosen in
-      subst (KnownOfBook opening) (sym does.after) (book_takes opening s does.context alone.0 alone.1 known)
-  book_step opening Flush kept ready known does = book_stays opening s s' (flush_keeps does) known
-  book_step opening Seal kept ready known does = book_stays opening s s' (seal_keeps does) known
-  book_step opening Record kept ready known does = book_stays opening s s' (record_keeps does) known
-  book_step opening Sync kept ready known does = book_stays opening s s' (sync_keeps does) known
-  book_step opening Commit kept ready known does = subst (KnownOfBook opening) (sym does.after) (book_commits opening s does.batch known)
-  book_step opening Finish kept ready known does =
-      let below = (finish_ready s d d.depth kept.always
-      (ready_by_table s d.depth Finish (ready_not_down s d.depth Finish refl ready) ready)).0 in
-      subst (KnownOfBook opening) (sym does.after) (book_finishes opening s below known)
-
-  pub order_step : (step : Step) → IsKept s d → is_ready step d.depth s ≡ true → IsInOrder s → DoesOrFails step s d s' d' → IsInOrder s'
-  order_step Data kept ready known does = order_stays s s' (data_keeps does) known
-  order_step Reap kept ready known (inl does) = order_stays s s' (reap_keeps does) known
-  order_step Reap kept ready known (inr failed) = order_stays s s' (ended_keeps false failed) known
-  order_step Take kept ready known does =
-      let far = (kept.up (ready_not_down s d.depth Take refl ready)).far in
-      let alone = taken_alone s.log.number s.pending s.batch s.log.begun s.flying does.context far does.is_chosen in
-      subst IsInOrder (sym does.after) (order_takes s does.context alone.0 alone.1 known)
-  order_step Flush kept ready known does = order_stays s s' (flush_keeps does) known
-  order_step Seal kept ready known does = order_stays s s' (seal_keeps does) known
-  order_step Record kept ready known does = order_stays s s' (record_keeps does) known
-  order_step Sync kept ready known does = order_stays s s' (sync_keeps does) known
-  order_step Commit kept ready known does = subst IsInOrder (sym does.after) (order_commits s does.batch known)
-  order_step Finish kept ready known does = subst IsInOrder (sym does.after) (order_finishes s known)
-
--- ---- calls
-
-pub book_call : (opening : Objects) (call : Call) (s s' : State) (d d' : Disk) → IsKept s d → KnownOfBook opening s → Calls call s d s' d'
+pub book_call : (opening : Objects) (call : Call) (s s' : State) (d d' : Disk) → PlansKeep → IsKept s d → KnownOfBook opening s → Calls call s d s' d'
     → KnownOfBook opening s'
-book_call opening (submitting client line change) s s' d d' kept known made = elim made.1 [
-  | inl does ↦ subst (KnownOfBook opening) (sym does.after)
-      (book_accepts opening s client line change does.plan does.not_refused (kept.up does.can_note.up).good.good
-      (takes_plan s d client line change s' kept made.0 does) known)
-  | inr (inl refuses) ↦
-      subst (KnownOfBook opening) (sym refuses.1.after) (book_notes opening s client line change known refuses.0 refuses.1.cause)
-  | inr (inr away) ↦ subst (KnownOfBook opening) (sym away.same) known
-]
-book_call opening (reading client line command) s s' d d' kept known made = elim made.1 [
-  | inl is ↦ book_answers opening s d client line command is.0 s' known is.1
-  | inr away ↦ subst (KnownOfBook opening) (sym away.same) known
-]
-book_call opening (stepping step) s s' d d' kept known made = book_step s d s' d' opening step kept made.0 known made.1
+book_call opening = fact_call (KnownOfBook opening) (book_fact opening)
 
-pub order_call : (call : Call) (s s' : State) (d d' : Disk) → IsKept s d → IsInOrder s → Calls call s d s' d' → IsInOrder s'
-order_call (submitting client line change) s s' d d' kept known made = elim made.1 [
-  | inl does ↦ subst IsInOrder (sym does.after) (order_accepts s client line change does.plan known)
-  | inr (inl refuses) ↦ subst IsInOrder (sym refuses.1.after)
-      (order_enters s client line (ask.Change change) refuses.0 (cause_refuses change s refuses.0 refuses.1.cause) known)
-  | inr (inr away) ↦ subst IsInOrder (sym away.same) known
-]
-order_call (reading client line command) s s' d d' kept known made = elim made.1 [
-  | inl is ↦ subst IsInOrder (sym is.1.after) (order_enters s client line command is.0 (read_accepts_none command is.0 is.1.names) known)
-  | inr away ↦ subst IsInOrder (sym away.same) known
-]
-order_call (stepping step) s s' d d' kept known made = order_step s d s' d' step kept made.0 known made.1
-
--- ---- runs
-
-pub order_run : (calls : List Call) (s s' : State) (d d' : Disk) → IsKept s d → IsInOrder s → IsRun s d calls s' d' → IsInOrder s'
-order_run [] s s' d d' kept known run = subst IsInOrder (sym run.0) known
-order_run (call ∷ calls) s s' d d' kept known run =
-    let t : State = run.0 in
-    let e : Disk = run.1.0 in
-    order_run calls t s' e d' (kept_call call s t d e kept run.1.1.0 run.1.1.1.0) (order_call call s t d e kept known run.1.1.0) run.1.1.1.1
-
-pub book_run : (opening : Objects) (calls : List Call) (s s' : State) (d d' : Disk) → IsKept s d → KnownOfBook opening s → IsRun s d calls s' d'
+pub book_run : (opening : Objects) (calls : List Call) (s s' : State) (d d' : Disk) → PlansKeep → IsKept s d → KnownOfBook opening s → IsRun s d calls s' d'
     → KnownOfBook opening s'
-book_run opening [] s s' d d' kept known run = subst (KnownOfBook opening) (sym run.0) known
-book_run opening (call ∷ calls) s s' d d' kept known run =
-    let t : State = run.0 in
-    let e : Disk = run.1.0 in
-    book_run opening calls t s' e d' (kept_call call s t d e kept run.1.1.0 run.1.1.1.0)
-    (book_call opening call s t d e kept known run.1.1.0) run.1.1.1.1
+book_run opening = fact_run (KnownOfBook opening) (book_fact opening)
 
-pub legal_run : (opening : Objects) (calls : List Call) (s s' : State) (d d' : Disk) → IsKept s d → KnownOfBook opening s → IsRun s d calls s' d'
+pub legal_run : (opening : Objects) (calls : List Call) (s s' : State) (d d' : Disk) → PlansKeep → IsKept s d → KnownOfBook opening s → IsRun s d calls s' d'
     → IsLegalButBytes opening s'.book
-legal_run opening calls s s' d d' kept known run = known_legal opening s' (book_run opening calls s s' d d' kept known run)
+legal_run opening calls s s' d d' plans kept known run = known_legal opening s' (book_run opening calls s s' d d' plans kept known run)
+
+-- ---- of the order alone
+
+order_replies : (s : State) (d : Disk) (s' : State) → Replies s d s' → IsInOrder s → IsInOrder s'
+order_replies s d s' (refuses client line change a is) known = subst IsInOrder (sym is.after)
+    (order_enters s client line (ask.Change change) a (cause_refuses change s a is.cause) known)
+order_replies s d s' (reads client line command a is) known = subst IsInOrder (sym is.after)
+    (order_enters s client line command a (read_accepts_none command a is.names) known)
+
+order_fact : IsBookFact IsInOrder
+order_fact = record {
+  stays = order_stays;
+  accepts = λ s d s' client line change plans kept may does known. subst IsInOrder (sym does.after) (order_accepts s client line change does.plan known);
+  replies = order_replies;
+  takes = order_takes;
+  commits = order_commits;
+  finishes = λ s below known. order_finishes s known;
+}
+
+pub order_run : (calls : List Call) (s s' : State) (d d' : Disk) → PlansKeep → IsKept s d → IsInOrder s → IsRun s d calls s' d' → IsInOrder s'
+order_run = fact_run IsInOrder order_fact

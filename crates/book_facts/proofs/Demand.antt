@@ -10,8 +10,10 @@ use Rattle.object_model.specs.declared.command.Command.{Command}
 use Rattle.object_model.specs.declared.command.Command.TheVariants as ask
 use Rattle.object_model.specs.Effect.{Change}
 use Rattle.meta_log.specs.Slots.{width_of}
+use Rattle.read_facts.specs.PageReads.{IsHeldAt, no_memory}
 use Rattle.read_facts.specs.Answers.{HasReadNames, IsAnswerOf}
-use Rattle.store_steps.specs.Planning.{units_taken}
+use Rattle.plan_rows.specs.Plans.{units_taken}
+use Rattle.plan_rows.specs.Keeps.{PlansKeep}
 use Rattle.store_steps.specs.Runs.{Call, submitting, reading, stepping, Calls, IsRun}
 use Rattle.store_steps.specs.State.{State}
 use Rattle.store_steps.specs.Submit.{free_count, IsCause}
@@ -84,7 +86,7 @@ cause_wants change s a cause is = absurd cause
 
 -- a read isn't answered so
 read_wants : (d : Disk) (s : State) (command : Command) (a : Answer) → HasReadNames command
-    → IsAnswerOf (width_of s.log.sup) d s.submitted command a → is_no_space a ≡ true
+    → IsAnswerOf (width_of s.log.sup) no_memory (IsHeldAt d) s.submitted command a → is_no_space a ≡ true
     → free_count s.space < units_asked command
 read_wants d s (ask.Read c o off len) (answer.NoSpace need free) names given is = absurd given.1
 read_wants d s (ask.Sum c o) (answer.NoSpace need free) names given is = absurd given.1
@@ -93,9 +95,9 @@ read_wants d s (ask.List c) (answer.NoSpace need free) names given is = absurd g
 read_wants d s command (answer.NoSpace need free) names given is = absurd names
 read_wants d s command a names given is = absurd cc
 
-call_within : (free : ℕ) (call : Call) (s s' : State) (d d' : Disk) → IsKept s d → Calls call s d s' d' → IsWithin free s → IsWithin free s'
-call_within free (submitting client line change) s s' d d' kept made within =
-    let keeps = call_space (submitting client line change) s s' d d' kept made in
+call_within : (free : ℕ) (call : Call) (s s' : State) (d d' : Disk) → PlansKeep → IsKept s d → Calls call s d s' d' → IsWithin free s → IsWithin free s'
+call_within free (submitting client line change) s s' d d' plans kept made within =
+    let keeps = call_space (submitting client line change) s s' d d' plans kept made in
     elim made.1 [
       | inl does ↦ entry_within free s s' within keeps
           (record { client = client; line = line; command = ask.Change change; answer = answer.Accepted; acks = s.acked })
@@ -105,27 +107,27 @@ call_within free (submitting client line change) s s' d d' kept made within =
           (ap (λ (z : State). z.book.entries) refuses.1.after) (cause_wants change s refuses.0 refuses.1.cause)
       | inr (inr away) ↦ same_within free s s' within keeps (ap (λ (z : State). z.book.entries) away.same)
     ]
-call_within free (reading client line command) s s' d d' kept made within =
-    let keeps = call_space (reading client line command) s s' d d' kept made in
+call_within free (reading client line command) s s' d d' plans kept made within =
+    let keeps = call_space (reading client line command) s s' d d' plans kept made in
     elim made.1 [
       | inl is ↦ entry_within free s s' within keeps
           (record { client = client; line = line; command = command; answer = is.0; acks = s.acked })
           (ap (λ (z : State). z.book.entries) is.1.after) (read_wants d s command is.0 is.1.names is.1.given)
       | inr away ↦ same_within free s s' within keeps (ap (λ (z : State). z.book.entries) away.same)
     ]
-call_within free (stepping step) s s' d d' kept made within =
+call_within free (stepping step) s s' d d' plans kept made within =
     let leaves = step_room s d s' d' step kept made.0 made.1 in
-    same_within free s s' within (call_space (stepping step) s s' d d' kept made) leaves.entries
+    same_within free s s' within (call_space (stepping step) s s' d d' plans kept made) leaves.entries
 
 -- ---- runs
 
-run_within : (free : ℕ) (calls : List Call) (s s' : State) (d d' : Disk) → IsKept s d → IsRun s d calls s' d' → IsWithin free s → IsWithin free s'
-run_within free [] s s' d d' kept run within = subst (IsWithin free) (sym run.0) within
-run_within free (call ∷ calls) s s' d d' kept run within =
+run_within : (free : ℕ) (calls : List Call) (s s' : State) (d d' : Disk) → PlansKeep → IsKept s d → IsRun s d calls s' d' → IsWithin free s → IsWithin free s'
+run_within free [] s s' d d' plans kept run within = subst (IsWithin free) (sym run.0) within
+run_within free (call ∷ calls) s s' d d' plans kept run within =
     let t : State = run.0 in
     let e : Disk = run.1.0 in
-    run_within free calls t s' e d' (kept_call call s t d e kept run.1.1.0 run.1.1.1.0) run.1.1.1.1
-    (call_within free call s t d e kept run.1.1.0 within)
+    run_within free calls t s' e d' plans (kept_call call s t d e plans kept run.1.1.0 run.1.1.1.0) run.1.1.1.1
+    (call_within free call s t d e plans kept run.1.1.0 within)
 
 none_within : (s : State) → s.book.entries ≡ [] → IsWithin (free_count s.space) s
 none_within s empty = record {
@@ -134,7 +136,7 @@ none_within s empty = record {
   want = λ any. let none : any_no_space s.book.entries ≡ false = ap any_no_space empty in absurd cc;
 }
 
-pub want_is_beyond_the_demand : (calls : List Call) (s s' : State) (d d' : Disk) → IsKept s d → s.book.entries ≡ [] → IsRun s d calls s' d'
+pub want_is_beyond_the_demand : (calls : List Call) (s s' : State) (d d' : Disk) → PlansKeep → IsKept s d → s.book.entries ≡ [] → IsRun s d calls s' d'
     → any_no_space s'.book.entries ≡ true → free_count s.space < demanded_by s'.book.entries
-want_is_beyond_the_demand calls s s' d d' kept empty run =
-    (run_within (free_count s.space) calls s s' d d' kept run (none_within s empty)).want
+want_is_beyond_the_demand calls s s' d d' plans kept empty run =
+    (run_within (free_count s.space) calls s s' d d' plans kept run (none_within s empty)).want

@@ -12,20 +12,18 @@ use Rattle.object_model.specs.declared.book.Commit.{Commit}
 use Rattle.object_model.specs.declared.book.Book.{Book}
 use Rattle.object_model.specs.Effect.{Change, names_of, is_named}
 use Rattle.object_model.specs.Book.{change_at, is_on, places_of, committed_places, IsPrefixOf}
-use Rattle.store_steps.specs.declared.context.Context.{Context}
-use Rattle.store_steps.specs.Contexts.{colls_of}
-use Rattle.book_facts.specs.BookFacts.{places, commit_places, contexts_on, IsOfEntry, AreQueued}
+use Rattle.store_steps.specs.Intents.{Intent, names_in, is_in}
+use Rattle.book_facts.specs.BookFacts.{places, commit_places, intents_on, IsOfEntry, AreQueued}
 use Rattle.book_facts.proofs.Entries.{own_change, change_below, change_push, places_kept, place_if, places_push}
 use Rattle.book_facts.proofs.Commits.{all_then, all_append, AreAtPlaces, at_places, places_on, places_by_places, distinct_front, none_above}
-use Rattle.book_facts.proofs.Contexts.{AreLike, on_like, places_like}
 
--- ---- contexts of entries
+-- ---- intents of entries
 
 some_is : {A : Type 0} (o : Option A) → IsSome o → (x : A) × (o ≡ Some x)
 some_is None is = absurd cc
 some_is (Some x) is = (x, refl)
 
-pub entry_push : (es : List Entry) (e : Entry) (xs : List Context) → AllByRecursion (IsOfEntry es) xs → AllByRecursion (IsOfEntry (es ++ e ∷ [])) xs
+pub entry_push : (es : List Entry) (e : Entry) (xs : List Intent) → AllByRecursion (IsOfEntry es) xs → AllByRecursion (IsOfEntry (es ++ e ∷ [])) xs
 entry_push es e xs all =
     all_then (IsOfEntry es) (IsOfEntry (es ++ e ∷ [])) xs
     (λ x is. record { change = is.change; accepted = change_push es e x.place is.change is.accepted; same_names = is.same_names }) all
@@ -34,72 +32,72 @@ below_all : (es : List Entry) (ps : List ℕ) → AreAtPlaces es ps → AllByRec
 below_all es ps all =
     all_then (λ p. IsSome (change_at es p)) (λ p. p < length es) ps (λ p is. let found = some_is (change_at es p) is in change_below es p found.0 found.1) all
 
-context_places : (es : List Entry) (xs : List Context) → AllByRecursion (IsOfEntry es) xs → AreAtPlaces es (places xs)
-context_places es [] all = tt
-context_places es (x ∷ xs) all = (ap is_some all.0.accepted, context_places es xs all.1)
+intent_places : (es : List Entry) (xs : List Intent) → AllByRecursion (IsOfEntry es) xs → AreAtPlaces es (places xs)
+intent_places es [] all = tt
+intent_places es (x ∷ xs) all = (ap is_some all.0.accepted, intent_places es xs all.1)
 
--- the place of one context, if it is on the collection
-on_one : (coll : List ℕ) (x : Context) → places (contexts_on coll (x ∷ [])) ≡ place_if (is_named coll (colls_of x)) x.place
-on_one coll x = by_test (is_named coll (colls_of x))
+-- the place of one intent, if it is on the collection
+on_one : (coll : List ℕ) (x : Intent) → places (intents_on coll (x ∷ [])) ≡ place_if (is_named coll (names_in x)) x.place
+on_one coll x = by_test (is_named coll (names_in x))
   where
     by_test : (b : Bool) → places (cond b (x ∷ []) []) ≡ place_if b x.place
     by_test true = refl
     by_test false = refl
 
-on_push : (coll : List ℕ) (xs : List Context) (x : Context)
-    → places (contexts_on coll (xs ++ x ∷ [])) ≡ places (contexts_on coll xs) ++ place_if (is_named coll (colls_of x)) x.place
+on_push : (coll : List ℕ) (xs : List Intent) (x : Intent)
+    → places (intents_on coll (xs ++ x ∷ [])) ≡ places (intents_on coll xs) ++ place_if (is_named coll (names_in x)) x.place
 on_push coll xs x =
-    ap places (filter-append (λ y. is_named coll (colls_of y)) xs (x ∷ []))
-    ∙ map-append (λ y. y.place) (contexts_on coll xs) (contexts_on coll (x ∷ []))
-    ∙ ap (λ (l : List ℕ). places (contexts_on coll xs) ++ l) (on_one coll x)
+    ap places (filter-append (is_in coll) xs (x ∷ []))
+    ∙ map-append (λ y. y.place) (intents_on coll xs) (intents_on coll (x ∷ []))
+    ∙ ap (λ (l : List ℕ). places (intents_on coll xs) ++ l) (on_one coll x)
 
 -- ---- one more entry
 
-module _ (es : List Entry) (e : Entry) (commits : List Commit) (pending : List Context)
-    (of_accepted : AllByRecursion (λ c. IsSome (change_at es c.place)) commits) (queued : AreQueued (record { entries = es; commits = commits }) pending) where
+module _ (es : List Entry) (e : Entry) (commits : List Commit) (waiting : List Intent)
+    (of_accepted : AllByRecursion (λ c. IsSome (change_at es c.place)) commits) (queued : AreQueued (record { entries = es; commits = commits }) waiting) where
   -- that isn't accepted
-  pub queued_noted : own_change e ≡ None → AreQueued (record { entries = es ++ e ∷ []; commits = commits }) pending
+  pub queued_noted : own_change e ≡ None → AreQueued (record { entries = es ++ e ∷ []; commits = commits }) waiting
   queued_noted is = record {
     once = queued.once;
     in_order = λ coll. places_push coll es e ∙ ap (λ (o : Option Change). places_of coll es ++ place_if (is_on coll o) (length es)) is
         ∙ append-nil (places_of coll es) ∙ queued.in_order coll
-        ∙ ap (λ (l : List ℕ). l ++ places (contexts_on coll pending)) (sym (places_kept coll es e commits of_accepted));
+        ∙ ap (λ (l : List ℕ). l ++ places (intents_on coll waiting)) (sym (places_kept coll es e commits of_accepted));
   }
 
-  -- that is, with its context
-  pub queued_accepted : (x : Context) (change : Change) → own_change e ≡ Some change → names_of change ≡ colls_of x → x.place ≡ length es
-      → AllByRecursion (IsOfEntry es) pending → AreQueued (record { entries = es ++ e ∷ []; commits = commits }) (pending ++ x ∷ [])
+  -- that is, with its intent
+  pub queued_accepted : (x : Intent) (change : Change) → own_change e ≡ Some change → names_of change ≡ names_in x → x.place ≡ length es
+      → AllByRecursion (IsOfEntry es) waiting → AreQueued (record { entries = es ++ e ∷ []; commits = commits }) (waiting ++ x ∷ [])
   queued_accepted x change is same_names here all = record { once = once; in_order = in_order }
     where
-      apart : AllByRecursion (λ p. p < length es) (commit_places commits ++ places pending)
-      apart = all_append (λ p. p < length es) (commit_places commits) (places pending)
-          (below_all es (commit_places commits) (at_places es commits of_accepted)) (below_all es (places pending) (context_places es pending all))
+      apart : AllByRecursion (λ p. p < length es) (commit_places commits ++ places waiting)
+      apart = all_append (λ p. p < length es) (commit_places commits) (places waiting)
+          (below_all es (commit_places commits) (at_places es commits of_accepted)) (below_all es (places waiting) (intent_places es waiting all))
 
-      one_more : commit_places commits ++ places (pending ++ x ∷ []) ≡ (commit_places commits ++ places pending) ++ length es ∷ []
-      one_more = ap (λ (l : List ℕ). commit_places commits ++ l) (map-append (λ y. y.place) pending (x ∷ []))
-          ∙ sym (append_assoc (commit_places commits) (places pending) (x.place ∷ []))
-          ∙ ap (λ (n : ℕ). (commit_places commits ++ places pending) ++ n ∷ []) here
+      one_more : commit_places commits ++ places (waiting ++ x ∷ []) ≡ (commit_places commits ++ places waiting) ++ length es ∷ []
+      one_more = ap (λ (l : List ℕ). commit_places commits ++ l) (map-append (λ y. y.place) waiting (x ∷ []))
+          ∙ sym (append_assoc (commit_places commits) (places waiting) (x.place ∷ []))
+          ∙ ap (λ (n : ℕ). (commit_places commits ++ places waiting) ++ n ∷ []) here
 
-      once : IsDistinct nat_eq (commit_places commits ++ places (pending ++ x ∷ []))
+      once : IsDistinct nat_eq (commit_places commits ++ places (waiting ++ x ∷ []))
       once = subst (IsDistinct nat_eq) (sym one_more)
-          (IsDistinct-push nat_eq_equiv (commit_places commits ++ places pending) (length es) queued.once
-          (none_above (length es) (commit_places commits ++ places pending) apart))
+          (IsDistinct-push nat_eq_equiv (commit_places commits ++ places waiting) (length es) queued.once
+          (none_above (length es) (commit_places commits ++ places waiting) apart))
 
-      in_order : (coll : List ℕ) → places_of coll (es ++ e ∷ []) ≡ committed_places coll (es ++ e ∷ []) commits ++ places (contexts_on coll (pending ++ x ∷ []))
+      in_order : (coll : List ℕ) → places_of coll (es ++ e ∷ []) ≡ committed_places coll (es ++ e ∷ []) commits ++ places (intents_on coll (waiting ++ x ∷ []))
       in_order coll =
           places_push coll es e
           ∙ ap (λ (o : Option Change). places_of coll es ++ place_if (is_on coll o) (length es)) is
           ∙ ap (λ (l : List ℕ). l ++ place_if (is_named coll (names_of change)) (length es)) (queued.in_order coll)
-          ∙ append_assoc (committed_places coll es commits) (places (contexts_on coll pending)) (place_if (is_named coll (names_of change)) (length es))
-          ∙ ap (λ (names : List (List ℕ)). committed_places coll es commits ++ (places (contexts_on coll pending) ++ place_if (is_named coll names) (length es)))
+          ∙ append_assoc (committed_places coll es commits) (places (intents_on coll waiting)) (place_if (is_named coll (names_of change)) (length es))
+          ∙ ap (λ (names : List (List ℕ)). committed_places coll es commits ++ (places (intents_on coll waiting) ++ place_if (is_named coll names) (length es)))
           same_names
-          ∙ ap (λ (n : ℕ). committed_places coll es commits ++ (places (contexts_on coll pending) ++ place_if (is_named coll (colls_of x)) n)) (sym here)
-          ∙ ap (λ (l : List ℕ). committed_places coll es commits ++ l) (sym (on_push coll pending x))
-          ∙ ap (λ (l : List ℕ). l ++ places (contexts_on coll (pending ++ x ∷ []))) (sym (places_kept coll es e commits of_accepted))
+          ∙ ap (λ (n : ℕ). committed_places coll es commits ++ (places (intents_on coll waiting) ++ place_if (is_named coll (names_in x)) n)) (sym here)
+          ∙ ap (λ (l : List ℕ). committed_places coll es commits ++ l) (sym (on_push coll waiting x))
+          ∙ ap (λ (l : List ℕ). l ++ places (intents_on coll (waiting ++ x ∷ []))) (sym (places_kept coll es e commits of_accepted))
 
--- ---- one context is committed, the only one that waits
+-- ---- one intent is committed, the only one that waits
 
-pub queued_taken : (es : List Entry) (commits : List Commit) (c : Commit) (x : Context) → c.place ≡ x.place → IsOfEntry es x
+pub queued_taken : (es : List Entry) (commits : List Commit) (c : Commit) (x : Intent) → c.place ≡ x.place → IsOfEntry es x
     → AreQueued (record { entries = es; commits = commits }) (x ∷ []) → AreQueued (record { entries = es; commits = commits ++ c ∷ [] }) []
 queued_taken es commits c x same is queued = record { once = once; in_order = in_order }
   where
@@ -109,7 +107,7 @@ queued_taken es commits c x same is queued = record { once = once; in_order = in
     once : IsDistinct nat_eq (commit_places (commits ++ c ∷ []) ++ [])
     once = subst (IsDistinct nat_eq) (sym (append-nil (commit_places (commits ++ c ∷ [])) ∙ one_more)) queued.once
 
-    on_it : (coll : List ℕ) → is_on coll (change_at es x.place) ≡ is_named coll (colls_of x)
+    on_it : (coll : List ℕ) → is_on coll (change_at es x.place) ≡ is_named coll (names_in x)
     on_it coll = ap (is_on coll) is.accepted ∙ ap (is_named coll) is.same_names
 
     in_order : (coll : List ℕ) → places_of coll es ≡ committed_places coll es (commits ++ c ∷ []) ++ []
@@ -122,28 +120,22 @@ queued_taken es commits c x same is queued = record { once = once; in_order = in
         ∙ sym (places_by_places coll es (commits ++ c ∷ []))
         ∙ sym (append-nil (committed_places coll es (commits ++ c ∷ [])))
 
--- ---- commits of the same places, and contexts that are alike
+-- ---- commits of the same places
 
-pub queued_places : (es : List Entry) (commits commits' : List Commit) (pending : List Context) → commit_places commits' ≡ commit_places commits
-    → AreQueued (record { entries = es; commits = commits }) pending → AreQueued (record { entries = es; commits = commits' }) pending
-queued_places es commits commits' pending same queued = record {
-  once = subst (λ (l : List ℕ). IsDistinct nat_eq (l ++ places pending)) (sym same) queued.once;
+pub queued_places : (es : List Entry) (commits commits' : List Commit) (waiting : List Intent) → commit_places commits' ≡ commit_places commits
+    → AreQueued (record { entries = es; commits = commits }) waiting → AreQueued (record { entries = es; commits = commits' }) waiting
+queued_places es commits commits' waiting same queued = record {
+  once = subst (λ (l : List ℕ). IsDistinct nat_eq (l ++ places waiting)) (sym same) queued.once;
   in_order = λ coll. queued.in_order coll
-      ∙ ap (λ (l : List ℕ). l ++ places (contexts_on coll pending))
+      ∙ ap (λ (l : List ℕ). l ++ places (intents_on coll waiting))
       (places_by_places coll es commits ∙ ap (places_on coll es) (sym same) ∙ sym (places_by_places coll es commits'));
-}
-
-pub queued_like : (book : Book) (xs ys : List Context) → AreLike xs ys → AreQueued book ys → AreQueued book xs
-queued_like book xs ys like queued = record {
-  once = subst (λ (l : List ℕ). IsDistinct nat_eq (commit_places book.commits ++ l)) (sym (places_like xs ys like)) queued.once;
-  in_order = λ coll. queued.in_order coll ∙ ap (λ (l : List ℕ). committed_places coll book.entries book.commits ++ l) (sym (on_like coll xs ys like));
 }
 
 -- ---- what the book needs
 
-pub once_committed : (book : Book) (pending : List Context) → AreQueued book pending → IsDistinct nat_eq (commit_places book.commits)
-once_committed book pending queued = distinct_front (commit_places book.commits) (places pending) queued.once
+pub once_committed : (book : Book) (waiting : List Intent) → AreQueued book waiting → IsDistinct nat_eq (commit_places book.commits)
+once_committed book waiting queued = distinct_front (commit_places book.commits) (places waiting) queued.once
 
-pub committed_in_order : (book : Book) (pending : List Context) → AreQueued book pending → (coll : List ℕ)
+pub committed_in_order : (book : Book) (waiting : List Intent) → AreQueued book waiting → (coll : List ℕ)
     → IsPrefixOf (committed_places coll book.entries book.commits) (places_of coll book.entries)
-committed_in_order book pending queued coll = (places (contexts_on coll pending), queued.in_order coll)
+committed_in_order book waiting queued coll = (places (intents_on coll waiting), queued.in_order coll)

@@ -1,6 +1,6 @@
 -- Units and room go to accepted transactions alone: no other call takes any.
 use Rattle.std.proofs.Common.{◌≡◌, inl, inr, ℕ, ◌+◌, ◌-◌, ◌<◌, ◌≤◌, Bool, true, false, cond, List, [], ◌∷◌, ◌++◌, length}
-use Rattle.std.proofs.Common.{Option, Some, None, is_some, refl, sym, ap, subst, ◌∙◌, arith}
+use Rattle.std.proofs.Common.{Option, Some, None, is_some, Contains, refl, sym, ap, subst, ◌∙◌, arith}
 use Rattle.std.proofs.lemmas.List.{length-map}
 use Rattle.block_device.specs.declared.device.Ticket.{Ticket}
 use Rattle.block_device.specs.Disk.{Disk, IsSound}
@@ -12,8 +12,7 @@ use Rattle.object_model.specs.declared.command.Command.TheVariants as ask
 use Rattle.object_model.specs.Effect.{Change}
 use Rattle.object_model.specs.Book.{accepted_change, accepted}
 use Rattle.meta_log.specs.Records.{unit_count}
-use Rattle.meta_log.specs.Slots.{width_of}
-use Rattle.object_rows.specs.declared.plan.FreshUnit.{FreshUnit}
+use Rattle.plan_rows.specs.declared.plan.FreshUnit.{FreshUnit}
 use Rattle.store_steps.specs.declared.flight.Flying.{Flying}
 use Rattle.store_steps.specs.declared.flight.Job.{Job}
 use Rattle.store_steps.specs.declared.flight.Job.TheVariants as job
@@ -22,7 +21,10 @@ use Rattle.store_steps.specs.declared.step.Step.TheVariants.{Data, Reap, Take, F
 use Rattle.store_steps.specs.State.{Batch, State}
 use Rattle.store_steps.specs.Contexts.{batch_ops, batch_released, sum_needs}
 use Rattle.store_steps.specs.Changes.{after_done, after_good, flying_of, landed, reaped, committed_batch}
-use Rattle.store_steps.specs.Planning.{units_taken}
+use Rattle.plan_rows.specs.Plans.{units_taken, fresh_units}
+use Rattle.plan_rows.specs.Keeps.{PlansKeep}
+use Rattle.unit_allocator.specs.Units.{IsWithin, is_free, free_units}
+use Rattle.unit_allocator.proofs.FreeUnits.{listed_is_free}
 use Rattle.store_steps.specs.Ready.{is_ready}
 use Rattle.store_steps.specs.Runs.{Call, submitting, reading, stepping, DoesOrFails, MaySubmit, Submits, Reads, Calls, IsRun}
 use Rattle.store_steps.specs.Steps.{Takes, DoesReap}
@@ -30,12 +32,14 @@ use Rattle.meta_store.specs.Store.{room_of}
 use Rattle.store_steps.specs.Submit.{need_of, free_count, entered, Accepts, Refuses}
 use Rattle.store_facts.specs.Kept.{IsKept, IsKeptUp}
 use Rattle.store_facts.proofs.Conditions.{ready_not_down, ready_by_table, ReadyCommit, commit_ready}
-use Rattle.store_facts.proofs.RowsPlans.{units_of, plan_takes_free, plan_count}
 use Rattle.book_facts.specs.Rooms.{units_taken_by, taken_by, need_if_accepted, needs_in}
-use Rattle.book_facts.proofs.Accepted.{takes_plan, plan_ascends, cause_refuses, read_accepts_none}
+use Rattle.book_facts.proofs.Accepted.{cause_refuses, read_accepts_none}
 use Rattle.book_facts.proofs.Entries.{own_change, accepted_push, none_accepted}
 use Rattle.book_facts.proofs.FreeCounts.{count_taken, count_given}
+use Rattle.book_facts.proofs.Commits.{all_then}
 use Rattle.book_facts.proofs.KeptCalls.{kept_call}
+use Rattle.book_facts.proofs.KnownPlans.{IsKnownPlan, known_plan}
+use Rattle.store_facts.proofs.Alone.{far_of}
 
 -- ---- steps take nothing
 
@@ -116,7 +120,7 @@ module _ (s : State) (d : Disk) (s' : State) (d' : Disk) where
       let standing : s.down ≡ None = ready_not_down s d.depth Commit refl ready in
       let up : IsKeptUp s d = kept.up standing in
       to_room _ does.after (committed_room s does.batch
-      (commit_ready s d.depth does.batch up.far up.room (ready_by_table s d.depth Commit standing ready) does.begun))
+      (commit_ready s d.depth does.batch (far_of s d up) up.room (ready_by_table s d.depth Commit standing ready) does.begun))
   step_room Finish kept ready does = to_room _ does.after (same_room s _ refl refl refl refl refl)
 
 -- ---- what entries took
@@ -151,17 +155,18 @@ entered_space s client line command a none =
     let same = none_taken s.book.entries (record { client = client; line = line; command = command; answer = a; acks = s.acked }) none in
     omega (arith, same)
 
-module _ (s : State) (d : Disk) (client line : ℕ) (change : Change) (s' : State) (kept : IsKept s d) (may : MaySubmit change s d) where
+module _ (s : State) (d : Disk) (client line : ℕ) (change : Change) (s' : State) (plans : PlansKeep) (kept : IsKept s d)
+    (may : MaySubmit change s d) where
   accepted_space : Accepts client line change s s' → KeepsSpace s s'
   accepted_space does = subst (KeepsSpace s) (sym does.after) (
-      let units : List ℕ = units_of does.plan.fresh in
+      let is : IsKnownPlan s change does.plan = known_plan plans s d client line change s' kept may does in
+      let units : List ℕ = fresh_units does.plan in
       let entry : Entry = record { client = client; line = line; command = ask.Change change; answer = answer.Accepted; acks = s.acked } in
-      let free = count_taken units s.space
-      (plan_ascends s.log.sup s.submitted change does.plan (takes_plan s d client line change s' kept may does) (λ unit. []))
-      (plan_takes_free (width_of s.log.sup) change.coll change.ops s.submitted s.space does.plan may.known does.plans) in
-      let count : length units ≡ units_taken change.ops =
-      length-map does.plan.fresh (λ (f : FreshUnit). f.unit)
-      ∙ plan_count (width_of s.log.sup) change.coll change.ops s.submitted s.space does.plan may.known does.plans in
+      let free = count_taken units s.space is.keeps.ascend
+      (all_then (λ u. Contains (free_units s.space) u) (λ u. IsWithin s.space u × (is_free s.space u ≡ true)) units
+      (λ u c. let found = listed_is_free s.space u c in (found.within, found.free)) is.takes.free) in
+      let count : length units ≤ units_taken change.ops =
+      let long = length-map does.plan.fresh (λ (f : FreshUnit). f.unit) in omega (arith, long, is.takes.within) in
       let more = taken_push s.book.entries entry in
       let here : taken_by (entry ∷ []) ≡ units_taken change.ops + 0 = refl in
       omega (arith, free, count, more, here))
@@ -170,34 +175,34 @@ module _ (s : State) (d : Disk) (client line : ℕ) (change : Change) (s' : Stat
   refused_space a does = subst (KeepsSpace s) (sym does.after) (
       entered_space s client line (ask.Change change) a (cause_refuses change s a does.cause))
 
-pub call_space : (call : Call) (s s' : State) (d d' : Disk) → IsKept s d → Calls call s d s' d' → KeepsSpace s s'
-call_space (submitting client line change) s s' d d' kept made = elim made.1 [
-  | inl does ↦ accepted_space s d client line change s' kept made.0 does
-  | inr (inl refuses) ↦ refused_space s d client line change s' kept made.0 refuses.0 refuses.1
+pub call_space : (call : Call) (s s' : State) (d d' : Disk) → PlansKeep → IsKept s d → Calls call s d s' d' → KeepsSpace s s'
+call_space (submitting client line change) s s' d d' plans kept made = elim made.1 [
+  | inl does ↦ accepted_space s d client line change s' plans kept made.0 does
+  | inr (inl refuses) ↦ refused_space s d client line change s' plans kept made.0 refuses.0 refuses.1
   | inr (inr away) ↦ subst (KeepsSpace s) (sym away.same) (omega arith)
 ]
-call_space (reading client line command) s s' d d' kept made = elim made.1 [
+call_space (reading client line command) s s' d d' plans kept made = elim made.1 [
   | inl is ↦ subst (KeepsSpace s) (sym is.1.after) (entered_space s client line command is.0 (read_accepts_none command is.0 is.1.names))
   | inr away ↦ subst (KeepsSpace s) (sym away.same) (omega arith)
 ]
-call_space (stepping step) s s' d d' kept made = step_space s s' (step_room s d s' d' step kept made.0 made.1)
+call_space (stepping step) s s' d d' plans kept made = step_space s s' (step_room s d s' d' step kept made.0 made.1)
 
 -- ---- runs
 
-pub run_space : (calls : List Call) (s s' : State) (d d' : Disk) → IsKept s d → IsRun s d calls s' d' → KeepsSpace s s'
-run_space [] s s' d d' kept run = subst (KeepsSpace s) (sym run.0) (omega arith)
-run_space (call ∷ calls) s s' d d' kept run =
+pub run_space : (calls : List Call) (s s' : State) (d d' : Disk) → PlansKeep → IsKept s d → IsRun s d calls s' d' → KeepsSpace s s'
+run_space [] s s' d d' plans kept run = subst (KeepsSpace s) (sym run.0) (omega arith)
+run_space (call ∷ calls) s s' d d' plans kept run =
     let t : State = run.0 in
     let e : Disk = run.1.0 in
-    let first = call_space call s t d e kept run.1.1.0 in
-    let rest = run_space calls t s' e d' (kept_call call s t d e kept run.1.1.0 run.1.1.1.0) run.1.1.1.1 in
+    let first = call_space call s t d e plans kept run.1.1.0 in
+    let rest = run_space calls t s' e d' plans (kept_call call s t d e plans kept run.1.1.0 run.1.1.1.0) run.1.1.1.1 in
     omega (arith, first, rest)
 
 -- want of space comes where more is asked for than was free at the mount
-pub want_of_space : (calls : List Call) (s s' t : State) (d d' : Disk) (client line need free : ℕ) (change : Change) → IsKept s d
+pub want_of_space : (calls : List Call) (s s' t : State) (d d' : Disk) (client line need free : ℕ) (change : Change) → PlansKeep → IsKept s d
     → s.book.entries ≡ [] → IsRun s d calls s' d' → Refuses client line change (answer.NoSpace need free) s' t → free_count s.space < taken_by s'.book.entries + need
-want_of_space calls s s' t d d' client line need free change kept empty run refuses =
-    let kept_free = run_space calls s s' d d' kept run in
+want_of_space calls s s' t d d' client line need free change plans kept empty run refuses =
+    let kept_free = run_space calls s s' d d' plans kept run in
     let none = ap taken_by empty in
     let few = refuses.cause.2 in
     let less = refuses.cause.3 in
@@ -231,36 +236,36 @@ read_room : (s s' : State) (d : Disk) (client line : ℕ) (command : Command) �
 read_room s s' d client line command (inl (a, is)) = let same = ap (λ (t : State). room_of t.log) is.after in omega (arith, same)
 read_room s s' d client line command (inr away) = let same = ap (λ (t : State). room_of t.log) away.same in omega (arith, same)
 
-pub run_room : (calls : List Call) (s s' : State) (d d' : Disk) → IsKept s d → (run : IsRun s d calls s' d')
+pub run_room : (calls : List Call) (s s' : State) (d d' : Disk) → PlansKeep → IsKept s d → (run : IsRun s d calls s' d')
     → room_of s.log ≤ room_of s'.log + needs_in calls s d s' d' run
-run_room [] s s' d d' kept run = let same = ap (λ (t : State). room_of t.log) run.0 in omega (arith, same)
-run_room (submitting client line change ∷ calls) s s' d d' kept run =
+run_room [] s s' d d' plans kept run = let same = ap (λ (t : State). room_of t.log) run.0 in omega (arith, same)
+run_room (submitting client line change ∷ calls) s s' d d' plans kept run =
     let t : State = run.0 in
     let e : Disk = run.1.0 in
     let made = run.1.1.0 in
     let first = submitted_room s t d client line change kept made.0 made.1 in
-    let rest = run_room calls t s' e d' (kept_call (submitting client line change) s t d e kept made run.1.1.1.0) run.1.1.1.1 in
+    let rest = run_room calls t s' e d' plans (kept_call (submitting client line change) s t d e plans kept made run.1.1.1.0) run.1.1.1.1 in
     omega (arith, first, rest)
-run_room (reading client line command ∷ calls) s s' d d' kept run =
+run_room (reading client line command ∷ calls) s s' d d' plans kept run =
     let t : State = run.0 in
     let e : Disk = run.1.0 in
     let made = run.1.1.0 in
     let first = read_room s t d client line command made.1 in
-    let rest = run_room calls t s' e d' (kept_call (reading client line command) s t d e kept made run.1.1.1.0) run.1.1.1.1 in
+    let rest = run_room calls t s' e d' plans (kept_call (reading client line command) s t d e plans kept made run.1.1.1.0) run.1.1.1.1 in
     omega (arith, first, rest)
-run_room (stepping step ∷ calls) s s' d d' kept run =
+run_room (stepping step ∷ calls) s s' d d' plans kept run =
     let t : State = run.0 in
     let e : Disk = run.1.0 in
     let made = run.1.1.0 in
     let first = (step_room s d t e step kept made.0 made.1).room in
-    let rest = run_room calls t s' e d' (kept_call (stepping step) s t d e kept made run.1.1.1.0) run.1.1.1.1 in
+    let rest = run_room calls t s' e d' plans (kept_call (stepping step) s t d e plans kept made run.1.1.1.0) run.1.1.1.1 in
     omega (arith, first, rest)
 
 -- want of room comes where more is asked for than there was at the mount
-pub want_of_room : (calls : List Call) (s s' t : State) (d d' : Disk) (client line need room : ℕ) (change : Change) → IsKept s d
+pub want_of_room : (calls : List Call) (s s' t : State) (d d' : Disk) (client line need room : ℕ) (change : Change) → PlansKeep → IsKept s d
     → (run : IsRun s d calls s' d') → Refuses client line change (answer.MetaFull need room) s' t → room_of s.log < needs_in calls s d s' d' run + need
-want_of_room calls s s' t d d' client line need room change kept run refuses =
-    let kept_room = run_room calls s s' d d' kept run in
+want_of_room calls s s' t d d' client line need room change plans kept run refuses =
+    let kept_room = run_room calls s s' d d' plans kept run in
     let is = refuses.cause.2 in
     let less = refuses.cause.3 in
     omega (arith, kept_room, is, less)

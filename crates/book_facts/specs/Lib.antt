@@ -1,4 +1,3 @@
 pub mod BookFacts
-pub mod FreshBytes
 pub mod Selections
 pub mod Rooms

@@ -9,7 +9,7 @@ use Rattle.object_model.specs.declared.command.Answer.{Answer}
 use Rattle.object_model.specs.declared.command.Answer.TheVariants as answer
 use Rattle.object_model.specs.declared.command.Command.{Command}
 use Rattle.object_model.specs.declared.command.Command.TheVariants as ask
-use Rattle.store_steps.specs.Planning.{units_taken}
+use Rattle.plan_rows.specs.Plans.{units_taken}
 use Rattle.store_steps.specs.Runs.{Call, submitting, reading, stepping, Submits, IsRun}
 use Rattle.store_steps.specs.State.{State}
 use Rattle.store_steps.specs.Submit.{need_of}

@@ -1,4 +1,4 @@
--- Fair selections of contexts, and what rows and units stand for when just these are committed.
+-- Fair selections of intents, and what rows and units stand for when just these are committed.
 use Rattle.std.specs.Prelude.{ℕ, List, take, filter_map}
 use Rattle.unit_fields.specs.declared.width.Width.{Width}
 use Rattle.object_model.specs.declared.book.Entry.{Entry}
@@ -7,26 +7,24 @@ use Rattle.object_model.specs.Effect.{Change, replay}
 use Rattle.object_model.specs.Book.{change_at, committed}
 use Rattle.meta_rows.specs.Rows.{Rows}
 use Rattle.store_image.specs.Stands.{ObjectsStand}
-use Rattle.store_steps.specs.declared.context.Context.{Context}
 use Rattle.store_steps.specs.State.{State}
 use Rattle.store_steps.specs.Ready.{applied_count}
-use Rattle.store_facts.specs.Space.{rows_with}
+use Rattle.store_steps.specs.Intents.{Intent, is_in, rows_by}
 use Rattle.selections.specs.Fair.{IsFair}
-use Rattle.book_facts.specs.BookFacts.{changes_coll}
 
 -- of each collection the first ones are selected, in order
-abbrev pub IsFairSelection : List Context → List Context → Type 0
-IsFairSelection all some = IsFair changes_coll all some
+abbrev pub IsFairSelection : List Intent → List Intent → Type 0
+IsFairSelection all some = IsFair is_in all some
 
--- the transactions of contexts
-abbrev pub changes_of : List Entry → List Context → List Change
-changes_of entries contexts = filter_map (λ x. change_at entries x.place) contexts
+-- the transactions of intents
+abbrev pub changes_of : List Entry → List Intent → List Change
+changes_of entries xs = filter_map (λ x. change_at entries x.place) xs
 
 -- the transactions whose commits are applied to the committed rows
 abbrev pub applied_changes : State → List Change
 applied_changes s = committed s.book.entries (take (applied_count s) s.book.commits)
 
 -- With the operations of a fair selection the rows stand, over these bytes of units, for the objects after its transactions.
-abbrev pub SelectionsStand : Width → (ℕ → List ℕ) → Rows → List Context → Objects → List Entry → Type 0
-SelectionsStand w at rows contexts objects entries = (some : List Context) → IsFairSelection contexts some
-    → ObjectsStand w at (rows_with rows some) (replay objects (changes_of entries some))
+abbrev pub SelectionsStand : Width → (ℕ → List ℕ) → Rows → List Intent → Objects → List Entry → Type 0
+SelectionsStand w at rows xs objects entries = (some : List Intent) → IsFairSelection xs some
+    → ObjectsStand w at (rows_by rows some) (replay objects (changes_of entries some))

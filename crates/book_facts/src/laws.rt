@@ -5,7 +5,9 @@ ghost use Rattle.block_device.specs.Disk.{Disk, IsSound};
 ghost use Rattle.object_model.specs.Objects.{Objects};
 ghost use Rattle.object_model.specs.Effect.{Change, is_named, OneName};
 ghost use Rattle.object_model.specs.declared.command.Answer.TheVariants as answer;
+ghost use Rattle.store_image.specs.Stands.{IsShape};
 ghost use Rattle.unit_allocator.specs.Units.{Space};
+ghost use Rattle.plan_rows.specs.Keeps.{PlansKeep};
 ghost use Rattle.read_facts.specs.Alike.{IsLegalButBytes};
 ghost use Rattle.store_steps.specs.declared.context.Context.{Context};
 ghost use Rattle.store_steps.specs.declared.step.Step.{Step};
@@ -17,9 +19,8 @@ ghost use Rattle.meta_store.specs.Store.{room_of};
 ghost use Rattle.store_steps.specs.Submit.{need_of, free_count, Accepts, Refuses};
 ghost use Rattle.store_steps.specs.Runs.{MaySubmit, DoesOrFails, Call, Calls, IsRun};
 ghost use Rattle.store_facts.specs.Kept.{IsKept};
-ghost use Rattle.book_facts.specs.BookFacts.{StandSomehow, KnownOfBook, IsInOrder};
+ghost use Rattle.book_facts.specs.BookFacts.{KnownOfBook, IsInOrder};
 ghost use Rattle.book_facts.specs.Rooms.{taken_by, needs_in, demanded_by, any_no_space};
-ghost use Rattle.meta_log.specs.Slots.{width_of};
 
 /// So far each context has one name, that of its collection.
 pub fn a_context_has_one_name()
@@ -31,18 +32,18 @@ pub fn a_context_has_one_name()
 /// What the kernel keeps it keeps along a run.
 #[tactic(auto, using(crate::proofs::KeptCalls::kept_run))]
 pub fn a_run_keeps_what_the_kernel_keeps()
-    ensures { (calls : List Call) (s s' : State) (d d' : Disk) → IsKept s d → IsRun s d calls s' d' → IsKept s' d' }
+    ensures { (calls : List Call) (s s' : State) (d d' : Disk) → PlansKeep → IsKept s d → IsRun s d calls s' d' → IsKept s' d' }
 {}
 
-/// The book of a kernel that was just opened is known, for all objects that the rows stand for.
+/// The book of a kernel that was just opened is known, for all objects whose shape the rows have.
 pub fn a_new_book_is_known()
-    ensures { (opening : Objects) (f : Found) (space : Space) (events : ℕ) → StandSomehow (width_of f.sup) f.rows opening →
+    ensures { (opening : Objects) (f : Found) (space : Space) (events : ℕ) → IsShape f.rows opening →
         KnownOfBook opening (opened f space events) }
 {}
 
 /// What is known of the book stays known over each call of the kernel, also over one that leaves it down.
 pub fn a_call_keeps_the_book()
-    ensures { (opening : Objects) (call : Call) (s s' : State) (d d' : Disk) → IsKept s d → KnownOfBook opening s →
+    ensures { (opening : Objects) (call : Call) (s s' : State) (d d' : Disk) → PlansKeep → IsKept s d → KnownOfBook opening s →
         Calls call s d s' d' → KnownOfBook opening s' }
 {}
 
@@ -57,22 +58,22 @@ pub fn a_known_book_is_legal()
 /// accepted, and none twice.
 pub fn a_run_keeps_the_order()
     ensures opened { (f : Found) (space : Space) (events : ℕ) → IsInOrder (opened f space events) }
-    ensures kept { (calls : List Call) (s s' : State) (d d' : Disk) → IsKept s d → IsInOrder s → IsRun s d calls s' d' → IsInOrder s' }
+    ensures kept { (calls : List Call) (s s' : State) (d d' : Disk) → PlansKeep → IsKept s d → IsInOrder s → IsRun s d calls s' d' → IsInOrder s' }
 {}
 
 /// The book is legal, but for these bytes, at the end of each run from a state whose book is known, whether or not the device tells its log,
 /// and also where the kernel is down.
 pub fn a_run_makes_a_legal_book()
-    ensures { (opening : Objects) (calls : List Call) (s s' : State) (d d' : Disk) → IsKept s d → KnownOfBook opening s →
+    ensures { (opening : Objects) (calls : List Call) (s s' : State) (d d' : Disk) → PlansKeep → IsKept s d → KnownOfBook opening s →
         IsRun s d calls s' d' → IsLegalButBytes opening s'.book }
 {}
 
 /// Free units go to accepted transactions alone: what was free before a run is free after it, or was taken by those accepted in it. So want
 /// of space comes only where the units of all transactions accepted since the mount and of the refused one are more than were free then.
 pub fn space_suffices()
-    ensures kept { (calls : List Call) (s s' : State) (d d' : Disk) → IsKept s d → IsRun s d calls s' d'
+    ensures kept { (calls : List Call) (s s' : State) (d d' : Disk) → PlansKeep → IsKept s d → IsRun s d calls s' d'
         → free_count s.space + taken_by s.book.entries ≤ free_count s'.space + taken_by s'.book.entries }
-    ensures refused { (calls : List Call) (s s' t : State) (d d' : Disk) (client line need free : ℕ) (change : Change) → IsKept s d
+    ensures refused { (calls : List Call) (s s' t : State) (d d' : Disk) (client line need free : ℕ) (change : Change) → PlansKeep → IsKept s d
         → s.book.entries ≡ [] → IsRun s d calls s' d' → Refuses client line change (answer.NoSpace need free) s' t
         → free_count s.space < taken_by s'.book.entries + need }
 {}
@@ -80,7 +81,7 @@ pub fn space_suffices()
 /// In a run whose commands together ask for at most as many units as were free when it began, no transaction is refused for want of
 /// units.
 pub fn want_of_space_is_beyond_the_demand()
-    ensures { (calls : List Call) (s s' : State) (d d' : Disk) → IsKept s d → s.book.entries ≡ [] → IsRun s d calls s' d'
+    ensures { (calls : List Call) (s s' : State) (d d' : Disk) → PlansKeep → IsKept s d → s.book.entries ≡ [] → IsRun s d calls s' d'
         → any_no_space s'.book.entries ≡ true → free_count s.space < demanded_by s'.book.entries }
 {}
 
@@ -91,9 +92,9 @@ pub fn room_suffices()
         → (a : Accepts client line change s s') → room_of s'.log + need_of s.log a.plan ≡ room_of s.log }
     ensures steps { (step : Step) (s s' : State) (d d' : Disk) → IsKept s d → is_ready step d.depth s ≡ true
         → DoesOrFails step s d s' d' → IsSound d' → room_of s.log ≤ room_of s'.log }
-    ensures kept { (calls : List Call) (s s' : State) (d d' : Disk) → IsKept s d → (run : IsRun s d calls s' d')
+    ensures kept { (calls : List Call) (s s' : State) (d d' : Disk) → PlansKeep → IsKept s d → (run : IsRun s d calls s' d')
         → room_of s.log ≤ room_of s'.log + needs_in calls s d s' d' run }
-    ensures refused { (calls : List Call) (s s' t : State) (d d' : Disk) (client line need room : ℕ) (change : Change) → IsKept s d
+    ensures refused { (calls : List Call) (s s' t : State) (d d' : Disk) (client line need room : ℕ) (change : Change) → PlansKeep → IsKept s d
         → (run : IsRun s d calls s' d') → Refuses client line change (answer.MetaFull need room) s' t
         → room_of s.log < needs_in calls s d s' d' run + need }
 {}

@@ -4,6 +4,7 @@ use Rattle.block_device.specs.Disk.{Disk}
 use Rattle.object_model.specs.declared.book.Book.{Book}
 use Rattle.object_model.specs.declared.book.Entry.{Entry}
 use Rattle.unit_allocator.specs.Units.{Space}
+use Rattle.object_rows.proofs.PlansKeep.{plans_keep}
 use Rattle.script_text.specs.declared.line.Line.{Line}
 use Rattle.store_steps.specs.State.{State}
 use Rattle.store_steps.specs.Opened.{Found}
@@ -49,6 +50,6 @@ found_within lines given f space start s closed disk calls book left mounted kep
     by false is = refl
     by true is =
         let same = ap (λ (b : Book). b.entries) book_is in
-        let beyond = want_is_beyond_the_demand calls s closed start disk kept (ap (λ (z : State). z.book.entries) mounted.state) run
+        let beyond = want_is_beyond_the_demand calls s closed start disk plans_keep kept (ap (λ (z : State). z.book.entries) mounted.state) run
         (sym (ap any_no_space same) ∙ is) in
         absurd (omega (arith, beyond, ap demanded_by same, asked_within lines book.entries left asked, within))

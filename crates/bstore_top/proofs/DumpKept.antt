@@ -17,6 +17,7 @@ use Rattle.store_image.specs.Stands.{ObjectsStand, StandsFor}
 use Rattle.store_image.specs.Durability.{EachCutStands}
 use Rattle.read_facts.specs.declared.view.CollView.{CollView}
 use Rattle.read_facts.specs.Views.{WalksTo, WalksAll, HasGoodViews, views_of}
+use Rattle.read_facts.specs.PageReads.{IsHeldAt, no_memory}
 use Rattle.read_facts.proofs.Viewed.{walk_is, walk_good}
 use Rattle.unit_allocator.specs.Units.{Space}
 use Rattle.store_steps.specs.State.{State}
@@ -76,8 +77,8 @@ unmounted_shows end given before now colls fails none h objects told stands =
 
 -- a walk of a kernel that is up has come to its end, or to where it failed
 walked_as : (w : Width) (r : Result (Unit {0}) WalkFail) (free : ℕ) (d : Disk) (rows : Rows) (colls : List CollView) → IfErr r IsOfUp
-    → WalksTo w d rows colls
-    → OnOk r (WalksAll w d rows colls) → Walked w (end_of_walk r free) d rows colls
+    → WalksTo w no_memory (IsHeldAt d) rows colls
+    → OnOk r (WalksAll w no_memory (IsHeldAt d) rows colls) → Walked w (end_of_walk r free) d rows colls
 walked_as w (Ok u) free d rows colls up so_far all = all
 walked_as w (Err walk.Memory) free d rows colls up so_far all = so_far
 walked_as w (Err walk.DeviceRead) free d rows colls up so_far all = so_far
@@ -127,8 +128,8 @@ module _ (given : Disk) (f : Found) (space : Space) (start : Disk) (s : State) (
 
     -- what came of the walk
     pub store_walked : (r : Result (Unit {0}) WalkFail) (free : ℕ) (colls : List CollView) → IfErr r IsOfUp
-        → WalksTo (width_of s'.log.sup) start s.submitted colls
-        → OnOk r (WalksAll (width_of s'.log.sup) start s.submitted colls) → WalksStore given (end_of_walk r free) colls disk
+        → WalksTo (width_of s'.log.sup) no_memory (IsHeldAt start) s.submitted colls
+        → OnOk r (WalksAll (width_of s'.log.sup) no_memory (IsHeldAt start) s.submitted colls) → WalksStore given (end_of_walk r free) colls disk
     store_walked r free colls up so_far all = record {
       found = f;
       space = space;
@@ -168,16 +169,20 @@ module _ (given : Disk) (f : Found) (space : Space) (start : Disk) (s : State) (
     good_rows = subst (NoBadRow f.sup) (sym rows_are) mounted.openable.good.good
 
     -- a walk to the end shows just these objects
-    shows_all : (colls : List CollView) → WalksAll (width_of s.log.sup) start s.submitted colls → colls ≡ views_of objects
-    shows_all colls all = walk_is (width_of s.log.sup) start durable.history durable.told answered s.submitted objects stand f.sup good_rows colls all
+    shows_all : (colls : List CollView) → WalksAll (width_of s.log.sup) no_memory (IsHeldAt start) s.submitted colls → colls ≡ views_of objects
+    shows_all colls all = walk_is (width_of s.log.sup) no_memory start durable.history durable.told answered (last_at durable.history)
+        (λ unit. refl) s.submitted objects stand f.sup good_rows colls all
 
     -- and no walk shows a bad unit
-    shows_good : (colls : List CollView) → WalksTo (width_of s.log.sup) start s.submitted colls → AllByRecursion HasGoodViews colls
-    shows_good colls so_far = walk_good (width_of s.log.sup) start durable.history durable.told answered s.submitted objects stand colls so_far
+    shows_good : (colls : List CollView) → WalksTo (width_of s.log.sup) no_memory (IsHeldAt start) s.submitted colls
+        → AllByRecursion HasGoodViews colls
+    shows_good colls so_far = walk_good (width_of s.log.sup) no_memory start durable.history durable.told answered (last_at durable.history)
+        (λ unit. refl) s.submitted objects stand colls so_far
 
     -- so it is of the walk, whatever its end
-    pub walk_shows : (r : Result (Unit {0}) WalkFail) (free : ℕ) (colls : List CollView) → WalksTo (width_of s.log.sup) start s.submitted colls
-        → OnOk r (WalksAll (width_of s.log.sup) start s.submitted colls) → Shows (end_of_walk r free) objects colls
+    pub walk_shows : (r : Result (Unit {0}) WalkFail) (free : ℕ) (colls : List CollView)
+        → WalksTo (width_of s.log.sup) no_memory (IsHeldAt start) s.submitted colls
+        → OnOk r (WalksAll (width_of s.log.sup) no_memory (IsHeldAt start) s.submitted colls) → Shows (end_of_walk r free) objects colls
     walk_shows (Ok u) free colls so_far all = (shows_all colls all, shows_good colls so_far)
     walk_shows (Err walk.Memory) free colls so_far all = shows_good colls so_far
     walk_shows (Err walk.DeviceRead) free colls so_far all = shows_good colls so_far

@@ -22,6 +22,7 @@ use Rattle.row_format.specs.Keys.{coll_key, onode_key}
 use Rattle.row_format.proofs.KeyLemmas.{same_coll, same_onode}
 use Rattle.book_facts.proofs.Commits.{all_append}
 use Rattle.object_reader.specs.Readable.{IsNextView}
+use Rattle.read_facts.specs.PageReads.{IsHeldAt, no_memory}
 use Rattle.read_facts.specs.declared.view.CollView.{CollView}
 use Rattle.read_facts.specs.declared.view.ObjectView.{ObjectView}
 use Rattle.read_facts.specs.Walks.{IsCollection, IsObject, IsNextOf, IsPast, AreNext, last_of}
@@ -156,26 +157,29 @@ coll_found rows later found after last c same last_is is next =
 
 -- an object that was found is the next one, and the view is of it
 pub view_found : (w : Width) (d e : Disk) (rows later : Rows) (c : List ℕ) (found : Option ObjectView) (after last : Option (List ℕ)) (o : ObjectView)
-    → e ≡ d → later ≡ rows → after ≡ last → found ≡ Some o → MatchOption found (IsPast (IsObject later c) after) (IsNextView w e later c after)
-    → IsNextView w d rows c last o
+    → e ≡ d → later ≡ rows → after ≡ last → found ≡ Some o
+    → MatchOption found (IsPast (IsObject later c) after) (IsNextView w no_memory (IsHeldAt e) later c after)
+    → IsNextView w no_memory (IsHeldAt d) rows c last o
 view_found w d e rows later c found after last o device same last_is is next =
-    let at : IsNextView w e later c after o =
-    subst (λ (f : Option ObjectView). MatchOption f (IsPast (IsObject later c) after) (IsNextView w e later c after)) is next in
-    subst (λ (x : Option (List ℕ)). IsNextView w d rows c x o) last_is
-    (subst (λ (r : Rows). IsNextView w d r c after o) same (subst (λ (x : Disk). IsNextView w x later c after o) device at))
+    let at : IsNextView w no_memory (IsHeldAt e) later c after o =
+    subst (λ (f : Option ObjectView). MatchOption f (IsPast (IsObject later c) after) (IsNextView w no_memory (IsHeldAt e) later c after)) is next in
+    subst (λ (x : Option (List ℕ)). IsNextView w no_memory (IsHeldAt d) rows c x o) last_is
+    (subst (λ (r : Rows). IsNextView w no_memory (IsHeldAt d) r c after o) same
+    (subst (λ (x : Disk). IsNextView w no_memory (IsHeldAt x) later c after o) device at))
 
 -- ---- objects that were seen
 
 module _ (w : Width) (d : Disk) (rows : Rows) where
-  pub none_viewed : (v : CollView) → v.objects ≡ [] → IsViewed w d rows v
+  pub none_viewed : (v : CollView) → v.objects ≡ [] → IsViewed w no_memory (IsHeldAt d) rows v
   none_viewed v none = record {
     next = subst (λ (os : List ObjectView). AreNext (IsObject rows v.coll) None (object_names os)) (sym none) tt;
-    each = subst (λ (os : List ObjectView). AllByRecursion (IsViewOf w d rows v.coll) os) (sym none) tt;
+    each = subst (λ (os : List ObjectView). AllByRecursion (IsViewOf w no_memory (IsHeldAt d) rows v.coll) os) (sym none) tt;
   }
 
   -- with the one that comes next
-  pub one_viewed : (v seen : CollView) (o : ObjectView) → seen.coll ≡ v.coll → seen.objects ≡ v.objects ++ o ∷ [] → IsViewed w d rows v
-      → IsNextView w d rows v.coll (last_of None (object_names v.objects)) o → IsViewed w d rows seen
+  pub one_viewed : (v seen : CollView) (o : ObjectView) → seen.coll ≡ v.coll → seen.objects ≡ v.objects ++ o ∷ []
+      → IsViewed w no_memory (IsHeldAt d) rows v
+      → IsNextView w no_memory (IsHeldAt d) rows v.coll (last_of None (object_names v.objects)) o → IsViewed w no_memory (IsHeldAt d) rows seen
   one_viewed v seen o coll more viewed next =
       let names : object_names seen.objects ≡ object_names v.objects ++ o.name ∷ [] =
       ap object_names more ∙ map-append (λ (x : ObjectView). x.name) v.objects (o ∷ []) in
@@ -183,13 +187,13 @@ module _ (w : Width) (d : Disk) (rows : Rows) where
         next = subst (λ (c : List ℕ). AreNext (IsObject rows c) None (object_names seen.objects)) (sym coll)
             (subst (AreNext (IsObject rows v.coll) None) (sym names)
             (next_appended (IsObject rows v.coll) None (object_names v.objects) o.name viewed.next next.next));
-        each = subst (λ (c : List ℕ). AllByRecursion (IsViewOf w d rows c) seen.objects) (sym coll)
-            (subst (AllByRecursion (IsViewOf w d rows v.coll)) (sym more)
-            (all_append (IsViewOf w d rows v.coll) v.objects (o ∷ []) viewed.each (next.view, tt)));
+        each = subst (λ (c : List ℕ). AllByRecursion (IsViewOf w no_memory (IsHeldAt d) rows c) seen.objects) (sym coll)
+            (subst (AllByRecursion (IsViewOf w no_memory (IsHeldAt d) rows v.coll)) (sym more)
+            (all_append (IsViewOf w no_memory (IsHeldAt d) rows v.coll) v.objects (o ∷ []) viewed.each (next.view, tt)));
       }
 
   -- they are no more than the rows
-  pub few_viewed : (v : CollView) → IsCollName v.coll → IsViewed w d rows v → length v.objects ≤ length (finite.entries rows)
+  pub few_viewed : (v : CollView) → IsCollName v.coll → IsViewed w no_memory (IsHeldAt d) rows v → length v.objects ≤ length (finite.entries rows)
   few_viewed v named viewed =
       omega (arith, few_objects rows v.coll named (object_names v.objects) viewed.next, length-map v.objects (λ (x : ObjectView). x.name))
 
@@ -198,38 +202,42 @@ module _ (w : Width) (d : Disk) (rows : Rows) where
   -- all objects of each of them were
   pub record WalksWhole (colls : List CollView) : Type 0 where
     pub next : AreNext (IsCollection rows) None (coll_names colls)
-    pub each : AllByRecursion (IsWhole w d rows) colls
+    pub each : AllByRecursion (IsWhole w no_memory (IsHeldAt d) rows) colls
 
   -- none are, so far
   pub none_walked : (colls : List CollView) → colls ≡ [] → WalksWhole colls
   none_walked colls none = subst WalksWhole (sym none) (record { next = tt; each = tt })
 
   -- then all objects of each but the last were
-  whole_but_last : (colls : List CollView) → AllByRecursion (IsWhole w d rows) colls → AreWholeButLast w d rows colls
+  whole_but_last : (colls : List CollView) → AllByRecursion (IsWhole w no_memory (IsHeldAt d) rows) colls
+      → AreWholeButLast w no_memory (IsHeldAt d) rows colls
   whole_but_last [] all = tt
   whole_but_last (v ∷ []) all = all.0.viewed
   whole_but_last (v ∷ w ∷ more) all = (all.0, whole_but_last (w ∷ more) all.1)
 
   -- and some objects of one more
-  part_of_last : (colls : List CollView) (v : CollView) → AllByRecursion (IsWhole w d rows) colls → IsViewed w d rows v
-      → AreWholeButLast w d rows (colls ++ v ∷ [])
+  part_of_last : (colls : List CollView) (v : CollView) → AllByRecursion (IsWhole w no_memory (IsHeldAt d) rows) colls
+      → IsViewed w no_memory (IsHeldAt d) rows v
+      → AreWholeButLast w no_memory (IsHeldAt d) rows (colls ++ v ∷ [])
   part_of_last [] v all part = part
   part_of_last (w ∷ []) v all part = (all.0, part)
   part_of_last (w ∷ x ∷ more) v all part = (all.0, part_of_last (x ∷ more) v all.1 part)
 
   -- the walk has come so far
-  pub so_far : (colls : List CollView) → WalksWhole colls → WalksTo w d rows colls
+  pub so_far : (colls : List CollView) → WalksWhole colls → WalksTo w no_memory (IsHeldAt d) rows colls
   so_far colls walked = record { next = walked.next; each = whole_but_last colls walked.each }
 
   -- what was seen of a collection by rows and device that are these
-  pub whole_at : (e : Disk) (later : Rows) (v : CollView) → e ≡ d → later ≡ rows → IsWhole w e later v → IsWhole w d rows v
+  pub whole_at : (e : Disk) (later : Rows) (v : CollView) → e ≡ d → later ≡ rows → IsWhole w no_memory (IsHeldAt e) later v
+      → IsWhole w no_memory (IsHeldAt d) rows v
   whole_at e later v device same whole =
-      subst (λ (r : Rows). IsWhole w d r v) same (subst (λ (x : Disk). IsWhole w x later v) device whole)
+      subst (λ (r : Rows). IsWhole w no_memory (IsHeldAt d) r v) same (subst (λ (x : Disk). IsWhole w no_memory (IsHeldAt x) later v) device whole)
 
   -- the same, of some objects
-  pub viewed_at : (e : Disk) (later : Rows) (v : CollView) → e ≡ d → later ≡ rows → IsViewed w e later v → IsViewed w d rows v
+  pub viewed_at : (e : Disk) (later : Rows) (v : CollView) → e ≡ d → later ≡ rows → IsViewed w no_memory (IsHeldAt e) later v
+      → IsViewed w no_memory (IsHeldAt d) rows v
   viewed_at e later v device same viewed =
-      subst (λ (r : Rows). IsViewed w d r v) same (subst (λ (x : Disk). IsViewed w x later v) device viewed)
+      subst (λ (r : Rows). IsViewed w no_memory (IsHeldAt d) r v) same (subst (λ (x : Disk). IsViewed w no_memory (IsHeldAt x) later v) device viewed)
 
   -- the names of the collections with the one that comes next
   names_more : (colls more : List CollView) (v : CollView) → more ≡ colls ++ v ∷ [] → WalksWhole colls
@@ -242,22 +250,25 @@ module _ (w : Width) (d : Disk) (rows : Rows) where
 
   -- with the collection that comes next, and all of its objects
   pub one_walked : (colls more : List CollView) (v : CollView) → more ≡ colls ++ v ∷ [] → WalksWhole colls
-      → IsNextOf (IsCollection rows) (last_of None (coll_names colls)) v.coll → IsWhole w d rows v → WalksWhole more
+      → IsNextOf (IsCollection rows) (last_of None (coll_names colls)) v.coll → IsWhole w no_memory (IsHeldAt d) rows v → WalksWhole more
   one_walked colls more v is walked next whole = record {
     next = names_more colls more v is walked next;
-    each = subst (AllByRecursion (IsWhole w d rows)) (sym is) (all_append (IsWhole w d rows) colls (v ∷ []) walked.each (whole, tt));
+    each = subst (AllByRecursion (IsWhole w no_memory (IsHeldAt d) rows)) (sym is)
+        (all_append (IsWhole w no_memory (IsHeldAt d) rows) colls (v ∷ []) walked.each (whole, tt));
   }
 
   -- or some of its objects
   pub part_walked : (colls more : List CollView) (v : CollView) → more ≡ colls ++ v ∷ [] → WalksWhole colls
-      → IsNextOf (IsCollection rows) (last_of None (coll_names colls)) v.coll → IsViewed w d rows v → WalksTo w d rows more
+      → IsNextOf (IsCollection rows) (last_of None (coll_names colls)) v.coll → IsViewed w no_memory (IsHeldAt d) rows v
+      → WalksTo w no_memory (IsHeldAt d) rows more
   part_walked colls more v is walked next part = record {
     next = names_more colls more v is walked next;
-    each = subst (AreWholeButLast w d rows) (sym is) (part_of_last colls v walked.each part);
+    each = subst (AreWholeButLast w no_memory (IsHeldAt d) rows) (sym is) (part_of_last colls v walked.each part);
   }
 
   -- where none comes next the walk has come to its end
-  pub all_walked : (colls : List CollView) → WalksWhole colls → IsPast (IsCollection rows) (last_of None (coll_names colls)) → WalksAll w d rows colls
+  pub all_walked : (colls : List CollView) → WalksWhole colls → IsPast (IsCollection rows) (last_of None (coll_names colls))
+      → WalksAll w no_memory (IsHeldAt d) rows colls
   all_walked colls walked past = record { all = record { next = walked.next; past = past }; each = walked.each }
 
   -- they are no more than the rows

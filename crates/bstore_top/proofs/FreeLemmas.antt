@@ -1,36 +1,41 @@
 -- The free units of a drained kernel are the data units whose bits are 0, by what its device holds.
-use Rattle.std.proofs.Common.{◌≡◌, ℕ, ◌+◌, ◌≤◌, true, List, length, None, refl, ap, subst, ◌∙◌, arith}
+use Rattle.std.proofs.Common.{◌≡◌, inl, inr, ℕ, ◌+◌, ◌≤◌, true, List, [], length, None, refl, ap, subst, ◌∙◌, arith}
 use Rattle.byte_maps.specs.Units.{IsUnits}
 use Rattle.block_device.specs.Log.{last}
 use Rattle.block_device.specs.Disk.{Disk, History}
 use Rattle.meta_rows.specs.Rows.{Rows}
 use Rattle.meta_log.specs.declared.slot.Super.{Super}
-use Rattle.store_image.specs.Owners.{IsDataUnit}
+use Rattle.store_image.specs.Owners.{IsDataUnit, IsMarked, IsBusy}
 use Rattle.log_facts.specs.HalfFacts.{records_units}
 use Rattle.log_facts.proofs.Reading.{behind_units, half_inside, slots_read, half_parts, no_record_behind, rows_read}
 use Rattle.unit_allocator.specs.Units.{Space, free_units, IsWithin}
 use Rattle.unit_allocator.proofs.FreeUnits.{free_units_ascend, listed_is_free, free_is_listed}
 use Rattle.store_steps.specs.declared.context.Context.{Context}
 use Rattle.store_steps.specs.State.{State}
+use Rattle.store_steps.specs.Intents.{intents, SpaceIsCounted}
 use Rattle.store_steps.specs.Submit.{free_count}
 use Rattle.store_steps.specs.Ready.{is_drained}
-use Rattle.store_facts.specs.Space.{rows_with, IsSpaceOf, IsFreeExactly}
+use Rattle.store_facts.specs.Space.{IsSpaceOf}
 use Rattle.store_facts.specs.Kept.{IsKept}
 use Rattle.store_facts.proofs.Conditions.{IsIdle}
 use Rattle.store_facts.proofs.Known.{known_idle}
-use Rattle.store_facts.proofs.Exactness.{kept_free, kept_space}
+use Rattle.store_facts.proofs.RowsNow.{kept_rows, kept_space}
 use Rattle.unit_facts.specs.Known.{KnownOfUnits}
 use Rattle.unit_facts.proofs.Runs.{idle_half}
 use Rattle.crash_facts.proofs.Now.{size_now}
 use Rattle.bstore_top.specs.Standing.{AreUnmarked, HasFree}
 
 -- a free unit is a data unit whose bit is 0, and the other way round
-module _ (sup : Super) (rows : Rows) (space : Space) (is : IsSpaceOf sup space) (exact : IsFreeExactly sup rows rows space) where
+module _ (sup : Super) (rows : Rows) (space : Space) (is : IsSpaceOf sup space) (counted : SpaceIsCounted sup rows [] space) where
   data_of : (unit : ℕ) → IsWithin space unit → IsDataUnit sup unit
   data_of unit w = (omega (arith, w.from, is.first), omega (arith, w.to, is.first, is.count))
 
   within_of : (unit : ℕ) → IsDataUnit sup unit → IsWithin space unit
   within_of unit on = record { from = omega (arith, on.0, is.first); to = omega (arith, on.1, is.first, is.count) }
+
+  -- nothing is under way, so that a unit is busy where its bit is 1
+  unmarked_idle : (unit : ℕ) → ¬ IsMarked rows unit → ¬ IsBusy rows [] unit
+  unmarked_idle unit out busy = elim busy [ inl marked ↦ out marked | inr any ↦ omega (arith, any.2) ]
 
   pub free_unmarked : AreUnmarked sup rows (free_units space)
   free_unmarked = record {
@@ -38,9 +43,9 @@ module _ (sup : Super) (rows : Rows) (space : Space) (is : IsSpaceOf sup space) 
     each = λ unit. (
       λ listed. let free = listed_is_free space unit listed in
           let on : IsDataUnit sup unit = data_of unit free.within in
-          (on, ((exact unit on).0 free.free).0),
+          (on, λ marked. (counted unit on).0 free.free (inl marked)),
       λ unmarked.
-          let free = (exact unit unmarked.0).1 (unmarked.1, unmarked.1) in
+          let free = (counted unit unmarked.0).1 (unmarked_idle unit unmarked.1) in
           (free_is_listed space unit (within_of unit unmarked.0)).0 free,
     );
   }
@@ -59,9 +64,8 @@ drained_free base s d h kept known up drained =
     let inside = half_inside sup contents known.slots.limits whole in
     let within : tail ≤ sup.half = omega (arith, half.room) in
     let parts = half_parts contents sup tail (records_units sup.first found.0) half.whole within inside (λ k below. (half.front k below).last) in
-    let submitted : s.submitted ≡ s.log.rows = (kept.up up).submitted ∙ ap (λ (xs : List Context). rows_with s.log.rows xs) idle.uncommitted in
-    let free : IsFreeExactly sup s.log.rows s.log.rows s.space =
-    subst (λ (rows : Rows). IsFreeExactly sup s.log.rows rows s.space) submitted (kept_free s d kept up) in
+    let counted : SpaceIsCounted sup s.log.rows [] s.space =
+    subst (λ (xs : List Context). SpaceIsCounted sup s.log.rows (intents xs) s.space) idle.uncommitted (kept_rows s d kept up).counted in
     record {
       sup = sup;
       active = slots_read contents sup known.slots.limits whole known.slots.active.last known.slots.other.last;
@@ -69,6 +73,6 @@ drained_free base s d h kept known up drained =
       read = rows_read contents sup s.log.rows found.0 (behind_units contents sup tail) half.made half.spellable parts
           (no_record_behind contents sup tail within inside (λ some. (half.zero_behind tail (omega arith) some).last) (sup.first + length found.0));
       units = free_units s.space;
-      unmarked = free_unmarked sup s.log.rows s.space (kept_space s d kept up) free;
+      unmarked = free_unmarked sup s.log.rows s.space (kept_space s d kept up) counted;
       count = refl;
     }

@@ -20,13 +20,14 @@ use Rattle.object_model.specs.declared.command.Answer.{Answer}
 use Rattle.object_model.specs.declared.command.Answer.TheVariants as answer
 use Rattle.object_model.specs.Effect.{replay}
 use Rattle.object_model.specs.declared.book.Book.{Book}
-use Rattle.meta_log.specs.Slots.{width_of}
-use Rattle.store_image.specs.Stands.{StandsFor}
+use Rattle.store_image.specs.Stands.{IsShape, StandsFor}
 use Rattle.unit_allocator.specs.Units.{Space}
 use Rattle.script_text.specs.declared.line.Line.{Line}
 use Rattle.store_steps.specs.declared.step.Step.{Step}
 use Rattle.store_steps.specs.declared.step.Step.TheVariants.{Reap}
 use Rattle.store_steps.specs.State.{State}
+use Rattle.store_steps.specs.declared.context.Context.{Context}
+use Rattle.store_steps.specs.Intents.{intents}
 use Rattle.store_steps.specs.Opened.{Found}
 use Rattle.store_steps.specs.Ready.{is_drained, is_empty}
 use Rattle.store_steps.specs.Runs.{Call, stepping, Calls, IsRun}
@@ -36,7 +37,8 @@ use Rattle.store_facts.proofs.Readiness.{none_ready}
 use Rattle.store_facts.proofs.Conditions.{IsIdle}
 use Rattle.store_facts.proofs.Known.{known_idle}
 use Rattle.unit_facts.proofs.Runs.{drained_clean}
-use Rattle.book_facts.specs.BookFacts.{KnownOfBook, AreQueued, StandSomehow, IsInOrder}
+use Rattle.object_rows.proofs.PlansKeep.{plans_keep}
+use Rattle.book_facts.specs.BookFacts.{KnownOfBook, AreQueued, IsInOrder}
 use Rattle.book_facts.proofs.KeptCalls.{kept_run}
 use Rattle.book_facts.proofs.Books.{book_opened, known_legal}
 use Rattle.book_facts.proofs.BookCalls.{book_run, order_run}
@@ -96,17 +98,17 @@ joined_run (x ∷ xs) ys s t u d e f first second =
 -- ---- opened
 
 pub opened_book : (opening : Objects) (given : Disk) (f : Found) (space : Space) (start : Disk) (s : State) → IsOpenedOn given f space start s
-    → StandSomehow (width_of s.log.sup) f.rows opening → KnownOfBook opening s
-opened_book opening given f space start s mounted stand =
-    subst (KnownOfBook opening) (sym mounted.state) (book_opened opening f space mounted.events stand)
+    → IsShape f.rows opening → KnownOfBook opening s
+opened_book opening given f space start s mounted shape =
+    subst (KnownOfBook opening) (sym mounted.state) (book_opened opening f space mounted.events shape)
 
--- the book of a run from there is legal but for the bytes that reads gave, whatever the rows stand for
+-- the book of a run from there is legal but for the bytes that reads gave, for all objects whose shape the rows have
 pub legal_of : (given : Disk) (f : Found) (space : Space) (start : Disk) (s closed : State) (disk : Disk) (calls : List Call) (book : Book)
     → IsOpenedOn given f space start s → IsKept s start → IsRun s start calls closed disk → book ≡ closed.book
-    → (objects : Objects) → StandSomehow (width_of s.log.sup) f.rows objects → IsLegalButBytes objects book
-legal_of given f space start s closed disk calls book mounted kept run book_is objects stand =
+    → (objects : Objects) → IsShape f.rows objects → IsLegalButBytes objects book
+legal_of given f space start s closed disk calls book mounted kept run book_is objects shape =
     subst (IsLegalButBytes objects) (sym book_is)
-    (known_legal objects closed (book_run objects calls s closed start disk kept (opened_book objects given f space start s mounted stand) run))
+    (known_legal objects closed (book_run objects calls s closed start disk plans_keep kept (opened_book objects given f space start s mounted shape) run))
 
 -- in a log without events nothing is dirty
 pub clean_of_none : (log : List Event) → log ≡ [] → (unit : ℕ) → IsClean log unit
@@ -174,10 +176,10 @@ module _ (seed : ℕ) (lines : List Line) (given disk : Disk) (end : WorkEnd) (b
     first_durable = start_durable given h fresh told ran.found ran.space ran.start ran.first objects ran.mounted all.durable stands
 
     pub script_durable : IsDurable 0 objects ran.closed disk
-    script_durable = run_durable 0 objects (ran.calls ++ ran.reaped.calls) ran.first ran.closed ran.start disk all.kept first_durable whole_run
+    script_durable = run_durable 0 objects (ran.calls ++ ran.reaped.calls) ran.first ran.closed ran.start disk plans_keep all.kept first_durable whole_run
 
     last_durable : IsDurable 0 objects ran.last.state ran.last.disk
-    last_durable = run_durable 0 objects ran.calls ran.first ran.last.state ran.start ran.last.disk all.kept first_durable script_run
+    last_durable = run_durable 0 objects ran.calls ran.first ran.last.state ran.start ran.last.disk plans_keep all.kept first_durable script_run
 
     -- for these objects the book is legal
     pub script_legal : IsLegal objects book
@@ -214,7 +216,7 @@ script_finished seed free lines given disk h objects book fresh told later stand
     let d : Disk = ran.last.disk in
     let up : s.down ≡ None = ran.ended.2 in
     let drained : is_drained d.depth s ≡ true = drained_of d.depth s ran.ended.1 in
-    let kept : IsKept s d = kept_run ran.calls ran.first s ran.start d all.kept (script_run seed lines given disk (Done free) book all) in
+    let kept : IsKept s d = kept_run ran.calls ran.first s ran.start d plans_keep all.kept (script_run seed lines given disk (Done free) book all) in
     let after : IsDurable 0 objects s d = last_durable seed lines given disk (Done free) book all h objects fresh told stands in
     let known : KnownOfStore 0 objects s d after.history = after.up up in
     let same = no_reap ran.reaped.calls s ran.closed d disk drained ran.reaped.reaps ran.reaped.run in
@@ -247,7 +249,7 @@ acked_below acked cs acks all = all_acked cs (λ i below. IfSome_then (slice_get
 
 order_complete : (s : State) (d : Disk) → IsKept s d → IsInOrder s → IsIdle s → IsComplete s.book
 order_complete s d kept known idle =
-    let queued : AreQueued s.book [] = subst (AreQueued s.book) idle.pending known.queued in
+    let queued : AreQueued s.book [] = subst (λ (xs : List Context). AreQueued s.book (intents xs)) idle.pending known.queued in
     record {
       in_order = λ coll. queued.in_order coll ∙ append-nil (committed_places coll s.book.entries s.book.commits);
       acked = acked_below s.acked s.book.commits kept.always.book.acks (omega (arith, idle.acked));
@@ -260,9 +262,9 @@ script_complete seed free lines given disk book all =
     let d : Disk = ran.last.disk in
     let drained : is_drained d.depth s ≡ true = drained_of d.depth s ran.ended.1 in
     let run : IsRun ran.first ran.start ran.calls s d = script_run seed lines given disk (Done free) book all in
-    let kept : IsKept s d = kept_run ran.calls ran.first s ran.start d all.kept run in
+    let kept : IsKept s d = kept_run ran.calls ran.first s ran.start d plans_keep all.kept run in
     let first : IsInOrder ran.first = subst IsInOrder (sym ran.mounted.state) (order_opened ran.found ran.space ran.mounted.events) in
-    let known : IsInOrder s = order_run ran.calls ran.first s ran.start d all.kept first run in
+    let known : IsInOrder s = order_run ran.calls ran.first s ran.start d plans_keep all.kept first run in
     let same = no_reap ran.reaped.calls s ran.closed d disk drained ran.reaped.reaps ran.reaped.run in
     subst IsComplete (sym (ran.book_is ∙ ap (λ (z : State). z.book) same.0)) (order_complete s d kept known (known_idle s d kept ran.ended.2 drained))
 

@@ -26,7 +26,8 @@ use Rattle.store_steps.specs.State.{State}
 use Rattle.store_steps.specs.Changes.{landed, after_done, after_good, flying_of, down_by}
 use Rattle.store_steps.specs.Ready.{is_drained, is_empty}
 use Rattle.store_steps.specs.Steps.{Takes, Does}
-use Rattle.store_steps.specs.Submit.{IsKnown, entered, Accepts, Refuses, IsDownBy, IsBookFull}
+use Rattle.plan_rows.specs.Plans.{IsKnown}
+use Rattle.store_steps.specs.Submit.{entered, Accepts, Refuses, IsDownBy, IsBookFull}
 use Rattle.store_steps.specs.Runs.{Call, reading, stepping, MaySubmit, MayRead, AnswersRead, DoesOrFails, Calls}
 use Rattle.read_facts.specs.Answers.{IsKnownRead}
 use Rattle.store_kernel.specs.Submitting.{RefusesBy}
@@ -218,12 +219,12 @@ pub may_submit : (change : Change) (s : State) (d : Disk) → ready_list d.depth
 may_submit change s d none fits = record { drained = λ up. none_drained d.depth s none; known = known_ops change.ops fits }
 
 -- the command is no transaction
-abbrev pub IsRead : Command → Type 0
-IsRead (command.Change change) = ⊥
-IsRead read = Unit {0}
+abbrev pub IsNoChange : Command → Type 0
+IsNoChange (command.Change change) = ⊥
+IsNoChange read = Unit {0}
 
 -- a command other than a transaction is a read
-other_read : (c : Command) → ((change : Change) → c ≡ command.Change change → ⊥) → IsRead c
+other_read : (c : Command) → ((change : Change) → c ≡ command.Change change → ⊥) → IsNoChange c
 other_read (command.Change change) other = other change refl
 other_read (command.Read coll object off len) other = tt
 other_read (command.Sum coll object) other = tt
@@ -234,7 +235,7 @@ other_read (command.OmapHeader coll object) other = tt
 other_read (command.List coll) other = tt
 
 -- a read that scripts can have is known to the store
-known_read : (c : Command) → IsRead c → FitsWhat (what.Command c) → IsKnownRead c
+known_read : (c : Command) → IsNoChange c → FitsWhat (what.Command c) → IsKnownRead c
 known_read (command.Read coll object off len) is fits = tt
 known_read (command.Sum coll object) is fits = tt
 known_read (command.Stat coll object) is fits = tt

@@ -11,6 +11,7 @@ use Rattle.object_model.specs.Objects.{Objects}
 use Rattle.meta_log.specs.Slots.{width_of}
 use Rattle.store_image.specs.Stands.{StandsFor}
 use Rattle.read_facts.specs.declared.view.CollView.{CollView}
+use Rattle.read_facts.specs.PageReads.{IsHeldAt, no_memory}
 use Rattle.read_facts.specs.Views.{WalksTo, WalksAll, HasGoodViews, views_of}
 use Rattle.unit_allocator.specs.Units.{Space}
 use Rattle.store_steps.specs.State.{State}
@@ -26,9 +27,9 @@ use Rattle.bstore_top.specs.StepRun.{Seen, empty_book, FailsToMount, HasCounted,
 
 -- how far a walk came, whose run ended so
 abbrev pub Walked : Width → WorkEnd → Disk → Rows → List CollView → Type 0
-Walked w (Done free) d rows colls = WalksAll w d rows colls
-Walked w DeviceFault d rows colls = WalksTo w d rows colls
-Walked w OutOfMemory d rows colls = WalksTo w d rows colls
+Walked w (Done free) d rows colls = WalksAll w no_memory (IsHeldAt d) rows colls
+Walked w DeviceFault d rows colls = WalksTo w no_memory (IsHeldAt d) rows colls
+Walked w OutOfMemory d rows colls = WalksTo w no_memory (IsHeldAt d) rows colls
 Walked w end d rows colls = ⊥
 
 -- A store was mounted, and a walk went over its objects. Nothing else was done: the device is as the mount left it.

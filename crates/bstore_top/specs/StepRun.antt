@@ -8,7 +8,6 @@ use Rattle.object_model.specs.Objects.{Objects}
 use Rattle.object_model.specs.declared.book.Book.{Book}
 use Rattle.object_model.specs.declared.book.Entry.{Entry}
 use Rattle.object_model.specs.declared.command.Command.{Command}
-use Rattle.meta_log.specs.Slots.{width_of}
 use Rattle.unit_allocator.specs.Units.{Space}
 use Rattle.script_text.specs.Script.{IsScript, IsBadAt}
 use Rattle.script_text.specs.declared.fail.ScriptFail.{ScriptFail}
@@ -16,7 +15,7 @@ use Rattle.script_text.specs.declared.fail.ScriptFail.TheVariants as script
 use Rattle.script_text.specs.declared.line.Line.{Line}
 use Rattle.store_steps.specs.State.{State}
 use Rattle.store_steps.specs.Opened.{Found}
-use Rattle.book_facts.specs.BookFacts.{StandSomehow}
+use Rattle.store_image.specs.Stands.{IsShape}
 use Rattle.book_facts.specs.Rooms.{demand_of, any_no_space}
 use Rattle.store_steps.specs.Submit.{free_count}
 use Rattle.store_steps.specs.Runs.{Call}
@@ -87,7 +86,7 @@ EndsAt OutOfMemory p = p.state.down ≡ None
 EndsAt end p = ⊥
 
 -- A script was run on a store: the calls that were drawn lead from the mounted kernel, over the device as the mount left it, to the last one,
--- whose book it is. But for the bytes that reads gave, the book is legal for all objects that the rows which were found stand for. If the script
+-- whose book it is. But for the bytes that reads gave, the book is legal for all objects whose shape the rows which were found have. If the script
 -- asks for no more units than were free, no transaction was refused for want of units.
 pub record RunsScript (seed : ℕ) (lines : List Line) (given : Disk) (end : WorkEnd) (book : Book) (disk : Disk) : Type 0 where
   pub found : Found
@@ -103,7 +102,7 @@ pub record RunsScript (seed : ℕ) (lines : List Line) (given : Disk) (end : Wor
   pub closed : State
   pub reaped : IsReapedTo last.state last.disk closed disk
   pub book_is : book ≡ closed.book
-  pub legal : (objects : Objects) → StandSomehow (width_of found.sup) found.rows objects → IsLegalButBytes objects book
+  pub legal : (objects : Objects) → IsShape found.rows objects → IsLegalButBytes objects book
   pub within : script_demand lines ≤ free_count first.space → any_no_space book.entries ≡ false
 
 -- ---- the whole

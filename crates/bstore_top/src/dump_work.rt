@@ -4,6 +4,7 @@ ghost use Rattle.std.specs.Option.{option_map};
 ghost use Rattle.meta_log.specs.Slots.{width_of};
 ghost use Rattle.block_device.specs.Disk.{IsSound, IsFresh, Rose};
 ghost use Rattle.unit_fields.specs.Names.{IsCollName};
+ghost use Rattle.read_facts.specs.PageReads.{IsHeldAt, no_memory};
 ghost use Rattle.read_facts.specs.Walks.{last_of};
 ghost use Rattle.read_facts.specs.Views.{IsViewed, IsWhole, WalksTo, WalksAll, object_names, coll_names};
 ghost use Rattle.store_steps.specs.Ready.{is_drained};
@@ -67,8 +68,10 @@ fn walk_objects<D: Device>(
     requires named { IsCollName view.old.coll }
     requires none { view.old.objects ≡ [] }
     ensures coll { view.new.coll ≡ view.old.coll }
-    ensures viewed { IsViewed (width_of kernel.old.state.log.sup) (D.disk kernel.old.device) kernel.old.state.submitted view.new }
-    ensures whole { OnOk result (IsWhole (width_of kernel.old.state.log.sup) (D.disk kernel.old.device) kernel.old.state.submitted view.new) }
+    ensures viewed { IsViewed (width_of kernel.old.state.log.sup) no_memory (IsHeldAt (D.disk kernel.old.device))
+        kernel.old.state.submitted view.new }
+    ensures whole { OnOk result (IsWhole (width_of kernel.old.state.log.sup) no_memory (IsHeldAt (D.disk kernel.old.device))
+        kernel.old.state.submitted view.new) }
     ensures fails { IfErr result IsOfUp }
     ensures same { kernel.new.state ≡ kernel.old.state }
     ensures disk { D.disk kernel.new.device ≡ D.disk kernel.old.device }
@@ -96,8 +99,10 @@ fn walk_store<D: Device>(
     requires up { kernel.old.state.down ≡ None }
     requires drained { is_drained (D.disk kernel.old.device).depth kernel.old.state ≡ true }
     requires none { walk.old.items ≡ [] }
-    ensures walked { WalksTo (width_of kernel.old.state.log.sup) (D.disk kernel.old.device) kernel.old.state.submitted walk.new.items }
-    ensures all { OnOk result (WalksAll (width_of kernel.old.state.log.sup) (D.disk kernel.old.device) kernel.old.state.submitted walk.new.items) }
+    ensures walked { WalksTo (width_of kernel.old.state.log.sup) no_memory (IsHeldAt (D.disk kernel.old.device))
+        kernel.old.state.submitted walk.new.items }
+    ensures all { OnOk result (WalksAll (width_of kernel.old.state.log.sup) no_memory (IsHeldAt (D.disk kernel.old.device))
+        kernel.old.state.submitted walk.new.items) }
     ensures fails { IfErr result IsOfUp }
     ensures same { kernel.new.state ≡ kernel.old.state }
     ensures disk { D.disk kernel.new.device ≡ D.disk kernel.old.device }

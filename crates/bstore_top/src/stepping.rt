@@ -17,29 +17,16 @@ use object_model::{Command, Transaction};
 use script_text::{Line, Said, What};
 use std::alloc::Global;
 use store_kernel::{Kernel, Refused, StepFail, Unanswered};
-use store_steps::Step;
-
-/// The steps in the order of their table.
-const STEPS: [Step; 9] = [
-    Step::Data,
-    Step::Reap,
-    Step::Take,
-    Step::Flush,
-    Step::Seal,
-    Step::Record,
-    Step::Sync,
-    Step::Commit,
-    Step::Finish,
-];
+use store_steps::{ALL_STEPS, Step};
 
 /// The ready steps in the order of their table, in front in the array, and how many they are.
 fn ready_steps<D: Device>(kernel: &Kernel<D>) -> ([Step; 9], usize)
     ensures ready { take result.1 result.0 ≡ ready_list (D.disk kernel.now.device).depth kernel.now.state }
     ensures few { result.1 ≤ length result.0 }
 {
-    let mut ready = STEPS;
+    let mut ready = ALL_STEPS;
     let mut count = 0;
-    'steps: for step in STEPS.as_slice() {
+    'steps: for step in ALL_STEPS.as_slice() {
         if kernel.ready(*step) {
             ready[count] = *step;
             count += 1;
@@ -95,9 +82,9 @@ fn run_fail(fail: StepFail) -> RunFail
 }
 
 /// Whether a transaction has its entry in the book, accepted or refused: all but want of memory make one.
-fn noted(submitted: Result<u32, Refused>) -> Result<(), RunFail>
-    requires { IsNotTurnedAway submitted }
-    ensures { MatchResult result (λ _. IsNoted submitted) (λ e. (e ≡ RunFail.Memory) × IsNotNoted submitted) }
+fn noted(submitted: &Result<u32, Refused>) -> Result<(), RunFail>
+    requires { IsNotTurnedAway submitted.now }
+    ensures { MatchResult result (λ _. IsNoted submitted.now) (λ e. (e ≡ RunFail.Memory) × IsNotNoted submitted.now) }
 {
     match submitted {
         Ok(_) => Ok(()),
@@ -122,9 +109,6 @@ fn replied(answered: &Result<u32, Unanswered>) -> Result<(), RunFail>
     }
 }
 
-/// Drops what a read came to, with the command where it came back.
-fn discard(_answered: Result<u32, Unanswered>) {}
-
 /// Submits a transaction of client 0.
 fn submit<D: Device>(
     alloc: Global,
@@ -145,7 +129,9 @@ fn submit<D: Device>(
 {
     let submitted = kernel.submit(alloc, 0, line, txn);
     kernel.facts();
-    noted(submitted)
+    let end = noted(&submitted);
+    drop(submitted);
+    end
 }
 
 /// Asks for a read of client 0.
@@ -169,7 +155,7 @@ fn ask_read<D: Device>(
     let answered = kernel.ask(alloc, 0, line, read);
     kernel.facts();
     let end = replied(&answered);
-    discard(answered);
+    drop(answered);
     end
 }
 
@@ -218,7 +204,10 @@ fn ask<D: Device>(
 {
     match drain(alloc, kernel, generator) {
         Ok(()) => {}
-        Err(fail) => return Err(run_fail(fail)),
+        Err(fail) => {
+            drop(command);
+            return Err(run_fail(fail));
+        }
     }
     generator.turn(); // the client's call is the only one now, and is drawn too
     make(alloc, kernel, line, command)

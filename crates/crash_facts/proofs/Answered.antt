@@ -1,8 +1,9 @@
 -- Each call leaves all entries with the answers that plain objects give, and none that names a bad unit.
-use Rattle.std.proofs.Common.{◌≡◌, inl, inr, ℕ, Bool, true, false, cond, List, [], ◌∷◌, ◌++◌, None, Result, Ok, Err, sym, ap, subst}
+use Rattle.std.proofs.Common.{◌≡◌, inl, inr, ℕ, Bool, true, false, cond, List, [], ◌∷◌, ◌++◌, None, Result, Ok, Err, refl, sym, ap, subst}
 use Rattle.std.specs.Prelude.{nat_lt, take, drop, ◌+◌}
 use Rattle.std.specs.List.{AllByRecursion}
 use Rattle.block_device.specs.Disk.{Disk, History}
+use Rattle.block_device.specs.Facts.{last_at}
 use Rattle.object_model.specs.Objects.{Object, Collection, Objects}
 use Rattle.object_model.specs.Effect.{Change, replay, object_limit}
 use Rattle.object_model.specs.Reply.{answer_from, found_collection, found_object, reply_of}
@@ -16,6 +17,7 @@ use Rattle.object_model.specs.declared.command.Answer.{Answer}
 use Rattle.object_model.specs.declared.command.Answer.TheVariants as answer
 use Rattle.meta_log.specs.Slots.{width_of}
 use Rattle.read_facts.specs.Answers.{HasReadNames}
+use Rattle.read_facts.specs.PageReads.{no_memory}
 use Rattle.read_facts.proofs.Seen.{seen_answer}
 use Rattle.read_facts.specs.Alike.{IsNoCsum, AnswersAlikeFrom, IsLegalButBytes}
 use Rattle.store_steps.specs.State.{State}
@@ -103,7 +105,8 @@ read_is_plain : (base : ℕ) (opening : Objects) (client line : ℕ) (command : 
     → a ≡ reply_of command (replay opening (accepted s.book.entries))
 read_is_plain base opening client line command a s s' d h kept may known is =
     let up : s.down ≡ None = is.can_note.up in
-    seen_answer (width_of s.log.sup) d h known.units.told (drained_good base opening s d h kept up (may.drained up) known) s.submitted
+    seen_answer (width_of s.log.sup) no_memory d h known.units.told (drained_good base opening s d h kept up (may.drained up) known) (last_at h)
+    (λ unit. refl) s.submitted
     (replay opening (accepted s.book.entries)) (drained_submitted base opening s d h kept up (may.drained up) known) command a is.names is.given
 
 -- what a read leaves

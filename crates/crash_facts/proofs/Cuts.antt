@@ -1,43 +1,36 @@
 -- What each crash so far leaves, as the book and the log grow.
 use Rattle.std.proofs.Common.{◌≡◌, ◌⊎◌, inl, inr, ℕ, zero, suc, ◌+◌, ◌<◌, ◌≤◌, Bool, true, false, cond, List, [], ◌∷◌, ◌++◌, length, take}
 use Rattle.std.proofs.Common.{Option, Some, None}
-use Rattle.std.proofs.Common.{slice_get, is_some, refl, sym, ap, subst, ◌∙◌, arith, length-append}
-use Rattle.std.specs.Prelude.{IfSome, IsSomeAnd}
+use Rattle.std.proofs.Common.{slice_get, is_some, refl, sym, ap, subst, ◌∙◌, arith, length-append, append-nil, append_assoc}
+use Rattle.std.specs.Prelude.{IfSome, IsSome, IsSomeAnd}
 use Rattle.std.specs.List.{AllByRecursion}
 use Rattle.std.proofs.lemmas.List.{take-append-le}
 use Rattle.byte_maps.specs.Units.{unit_at}
 use Rattle.block_device.specs.Log.{last, WritesNothing}
-use Rattle.block_device.specs.Disk.{Disk, History}
-use Rattle.block_device.specs.Facts.{with_event}
+use Rattle.block_device.specs.Disk.{History}
 use Rattle.block_device.specs.declared.event.Event.{Event}
-use Rattle.block_device.specs.declared.event.Event.TheVariants.{Flush, Done}
+use Rattle.block_device.specs.declared.event.Event.TheVariants.{Write, Flush, Done}
 use Rattle.block_device.proofs.LogLemmas.{slice_get-push_cases, each_cut_push, each_cut_weaker}
 use Rattle.block_device.proofs.LawLemmas.{last_mono, image_mono}
 use Rattle.object_model.specs.Objects.{Objects}
 use Rattle.object_model.specs.Effect.{Change, replay}
-use Rattle.object_model.specs.Book.{committed, IsAckedBy, HasAcked}
+use Rattle.object_model.specs.Book.{change_at, committed, IsAckedBy, HasAcked}
 use Rattle.object_model.specs.declared.book.Book.{Book}
 use Rattle.object_model.specs.declared.book.Commit.{Commit}
 use Rattle.object_model.specs.declared.book.Entry.{Entry}
-use Rattle.object_model.specs.declared.command.Answer.TheVariants as answer
-use Rattle.object_model.specs.declared.command.Command.TheVariants as ask
 use Rattle.meta_log.specs.Slots.{active_unit}
 use Rattle.store_image.specs.Exact.{StaysExact}
 use Rattle.store_image.specs.Stands.{StandsFor}
 use Rattle.store_image.specs.Chance.{NoChanceMatch, AreAsWritten, IsOutranked}
 use Rattle.store_image.specs.Durability.{LeavesPrefix, EachCutStands}
-use Rattle.store_steps.specs.declared.context.Context.{Context}
-use Rattle.store_steps.specs.State.{State}
-use Rattle.store_steps.specs.Changes.{commit_of, acknowledged}
+use Rattle.store_steps.specs.Changes.{acknowledged}
+use Rattle.store_steps.specs.Intents.{Intent}
+use Rattle.store_steps.specs.Parts.{BookPart}
+use Rattle.store_steps.specs.Touch.{Touch, nothing, ends, flushes, on_data, on_half, after, run_write}
+use Rattle.store_steps.specs.BookGoes.{BookGoes, same, enters, commits, applies, acknowledges, commits_of}
 use Rattle.store_facts.proofs.Numbers.{acknowledged_length}
-use Rattle.book_facts.specs.BookFacts.{KnownOfBook}
 use Rattle.book_facts.proofs.Commits.{places_acknowledged, changes_at}
 use Rattle.book_facts.proofs.Applied.{applied_by_places, applied_entry}
-use Rattle.store_facts.proofs.Stages.{idle, at}
-use Rattle.unit_facts.proofs.Moves.{Move, data_goes, data_ends, takes, flush_goes, flush_ends, seals, record_goes, record_ends, sync_goes, sync_ends}
-use Rattle.unit_facts.proofs.Moves.{commits, finishes, accepts, enters, rests, stays}
-use Rattle.unit_facts.proofs.RunWrites.{run_write}
-use Rattle.unit_facts.proofs.Steps.{piece_of}
 use Rattle.crash_facts.proofs.Exact.{same_contents}
 
 -- ---- the book grows
@@ -46,7 +39,7 @@ use Rattle.crash_facts.proofs.Exact.{same_contents}
 record Grows (base cut : ℕ) (book book' : Book) : Type 0 where
   more : length book.commits ≤ length book'.commits
   acked : (count : ℕ) → HasAcked base cut book.commits count → HasAcked base cut book'.commits count
-  same : (count : ℕ) → count ≤ length book.commits
+  agrees : (count : ℕ) → count ≤ length book.commits
       → committed book'.entries (take count book'.commits) ≡ committed book.entries (take count book.commits)
 
 prefix_grows : (base : ℕ) (start : List ℕ) (opening : Objects) (book book' : Book) (log : List Event) → Grows base (length log) book book'
@@ -57,7 +50,7 @@ prefix_grows base start opening book book' log grows leaves image is chance =
       count = was.count;
       within = omega (arith, was.within, grows.more);
       has_acked = grows.acked was.count was.has_acked;
-      stands = subst (λ (l : List Change). StandsFor image (replay opening l)) (sym (grows.same was.count was.within)) was.stands;
+      stands = subst (λ (l : List Change). StandsFor image (replay opening l)) (sym (grows.agrees was.count was.within)) was.stands;
       exact = was.exact;
     }
 
@@ -73,12 +66,18 @@ acked_push base cut count cs c none has i = of_get (slice_get (cs ++ c ∷ []) i
       | inr new ↦ λ acked. absurd (subst (λ o. IsSomeAnd o (λ a. base + a ≤ cut)) (ap (λ (y : Commit). y.acked_at) (sym new.1) ∙ none) acked)
     ]
 
-takes_commit : (base cut : ℕ) (entries : List Entry) (cs : List Commit) (x : Context)
-    → Grows base cut (record { entries = entries; commits = cs }) (record { entries = entries; commits = cs ++ commit_of x ∷ [] })
-takes_commit base cut entries cs x = record {
-  more = omega (arith, length-append cs (commit_of x ∷ []));
-  acked = λ count has. acked_push base cut count cs (commit_of x) refl has;
-  same = λ count below. ap (committed entries) (take-append-le count cs (commit_of x ∷ []) below);
+acked_all : (base cut count : ℕ) (cs : List Commit) (xs : List Intent) → HasAcked base cut cs count → HasAcked base cut (cs ++ commits_of xs) count
+acked_all base cut count cs [] has = subst (λ l. HasAcked base cut l count) (sym (append-nil cs)) has
+acked_all base cut count cs (x ∷ xs) has =
+    let one : Commit = record { place = x.place; acked_at = None } in
+    subst (λ l. HasAcked base cut l count) (append_assoc cs (one ∷ []) (commits_of xs))
+    (acked_all base cut count (cs ++ one ∷ []) xs (acked_push base cut count cs one refl has))
+
+takes_commits : (base cut : ℕ) (book : Book) (xs : List Intent) → Grows base cut book (record book { commits = book.commits ++ commits_of xs })
+takes_commits base cut book xs = record {
+  more = omega (arith, length-append book.commits (commits_of xs));
+  acked = λ count has. acked_all base cut count book.commits xs has;
+  agrees = λ count below. ap (committed book.entries) (take-append-le count book.commits (commits_of xs) below);
 }
 
 -- an acknowledgement now says nothing of an earlier cut
@@ -102,18 +101,18 @@ finishes_one base cut events book before = record {
   more = omega (arith, acknowledged_length events book.commits);
   acked = λ count has i. acked_now events i book.commits (λ c. IsAckedBy base cut c → i < count) (has i)
       (λ c late. absurd (omega (arith, late, before)));
-  same = λ count below. applied_by_places book.entries (acknowledged events book.commits) count
+  agrees = λ count below. applied_by_places book.entries (acknowledged events book.commits) count
       ∙ ap (λ (ps : List ℕ). changes_at book.entries (take count ps)) (places_acknowledged events book.commits)
       ∙ sym (applied_by_places book.entries book.commits count);
 }
 
 -- one more entry
-notes_one : (base cut : ℕ) (opening : Objects) (s : State) (e : Entry) → KnownOfBook opening s
-    → Grows base cut s.book (record s.book { entries = s.book.entries ++ e ∷ [] })
-notes_one base cut opening s e book = record {
+notes_one : (base cut : ℕ) (book : Book) (e : Entry) → AllByRecursion (λ c. IsSome (change_at book.entries c.place)) book.commits
+    → Grows base cut book (record book { entries = book.entries ++ e ∷ [] })
+notes_one base cut book e are = record {
   more = omega arith;
   acked = λ count has. has;
-  same = λ count below. applied_entry s.book.entries e s.book.commits count book.commits.of_accepted;
+  agrees = λ count below. applied_entry book.entries e book.commits count are;
 }
 
 -- ---- the log grows
@@ -155,7 +154,7 @@ quiet_leaves base events h opening book e none counted by_now leaves image is ch
     of_get i count None by has = tt
     of_get i count (Some c) by has = λ acked. has (acked_before c.acked_at by acked)
 
--- ---- each move
+-- ---- each call
 
 -- no event
 same_log : (base : ℕ) (h : History) (opening : Objects) (book book' : Book) → ((cut : ℕ) → cut < length h.log → Grows base cut book book')
@@ -164,43 +163,38 @@ same_log base h opening book book' grows cuts now =
     each_cut_weaker base h.log (LeavesPrefix base h.start opening book) (LeavesPrefix base h.start opening book') cuts
     (λ front short leaves. prefix_grows base h.start opening book book' front (grows (length front) short) leaves) now
 
--- an event
-more_log : (base : ℕ) (h : History) (opening : Objects) (book : Book) (e : Event) → EachCutStands base h opening book
-    → LeavesPrefix base h.start opening book (h.log ++ e ∷ []) → EachCutStands base (with_event h e) opening book
-more_log base h opening book e cuts now = each_cut_push base h.log e (LeavesPrefix base h.start opening book) cuts now
+-- the log grows by what a call adds, and the book is as it was
+more_log : (base : ℕ) (opening : Objects) (book : Book) (t : Touch) (h : History) → EachCutStands base h opening book
+    → LeavesPrefix base h.start opening book (after t h).log → EachCutStands base (after t h) opening book
+more_log base opening book nothing h cuts now = cuts
+more_log base opening book (ends ticket) h cuts now = each_cut_push base h.log (Done ticket true) (LeavesPrefix base h.start opening book) cuts now
+more_log base opening book (flushes ticket) h cuts now = each_cut_push base h.log Flush (LeavesPrefix base h.start opening book) cuts now
+more_log base opening book (on_data ticket run) h cuts now = each_cut_push base h.log (run_write run) (LeavesPrefix base h.start opening book) cuts now
+more_log base opening book (on_half ticket unit bytes) h cuts now =
+    each_cut_push base h.log (Write unit bytes) (LeavesPrefix base h.start opening book) cuts now
 
-pub move_cuts : {s s' : State} {d d' : Disk} {h h' : History} (base : ℕ) (opening : Objects) → Move s d h s' d' h' → KnownOfBook opening s
-    → length h.log ≡ base + s.events → EachCutStands base h opening s.book → LeavesPrefix base h'.start opening s'.book h'.log
-    → EachCutStands base h' opening s'.book
-move_cuts base opening (data_goes s x n flying flying' ticket d d' h fits run are size submitted) book counted cuts now =
-    more_log base h opening s.book (run_write n) cuts now
-move_cuts base opening (data_ends s x count flying flying' d d' h t ended) book counted cuts now =
-    more_log base h opening s.book (Done t true) cuts now
-move_cuts base opening (takes s x d h) book counted cuts now =
-    let after : Book = record s.book { commits = s.book.commits ++ commit_of x ∷ [] } in
-    same_log base h opening s.book after (λ cut below. takes_commit base cut s.book.entries s.book.commits x) cuts now
-move_cuts base opening (flush_goes s x made ticket d d' h none submitted) book counted cuts now = more_log base h opening s.book Flush cuts now
-move_cuts base opening (flush_ends s x made ticket d d' h ended) book counted cuts now =
-    more_log base h opening s.book (Done ticket.place true) cuts now
-move_cuts base opening (seals s g g' x d h number fits room most batch pending none some second) book counted cuts now = cuts
-move_cuts base opening (record_goes s x given written flying flying' ticket d d' h more room size limits on_data submitted) book counted cuts now =
-    more_log base h opening s.book (piece_of s x given) cuts now
-move_cuts base opening (record_ends s x given written flying flying' d d' h t ended) book counted cuts now =
-    more_log base h opening s.book (Done t true) cuts now
-move_cuts base opening (sync_goes s x pieces ticket d d' h none submitted) book counted cuts now = more_log base h opening s.book Flush cuts now
-move_cuts base opening (sync_ends s x pieces ticket d d' h ended) book counted cuts now =
-    more_log base h opening s.book (Done ticket.place true) cuts now
-move_cuts base opening (commits s x pieces d h written every) book counted cuts now = cuts
-move_cuts base opening (finishes s d h) book counted cuts now =
-    let after : Book = record s.book { commits = acknowledged s.events s.book.commits } in
-    same_log base h opening s.book after (λ cut below. finishes_one base cut s.events s.book (omega (arith, below, counted))) cuts now
-move_cuts base opening (accepts client line change s s' d h may does) book counted cuts now =
-    let entry : Entry = record { client = client; line = line; command = ask.Change change; answer = answer.Accepted; acks = s.acked } in
-    let after : Book = record s.book { entries = s.book.entries ++ entry ∷ [] } in
-    same_log base h opening s.book after (λ cut below. notes_one base cut opening (at s idle) entry book) cuts now
-move_cuts base opening (enters client line command a s d h drained) book counted cuts now =
-    let entry : Entry = record { client = client; line = line; command = command; answer = a; acks = s.acked } in
-    let after : Book = record s.book { entries = s.book.entries ++ entry ∷ [] } in
-    same_log base h opening s.book after (λ cut below. notes_one base cut opening s entry book) cuts now
-move_cuts base opening (rests s d d' h waited) book counted cuts now = cuts
-move_cuts base opening (stays s d h) book counted cuts now = cuts
+pub touched_start : (h : History) (t : Touch) → (after t h).start ≡ h.start
+touched_start h nothing = refl
+touched_start h (ends ticket) = refl
+touched_start h (flushes ticket) = refl
+touched_start h (on_data ticket run) = refl
+touched_start h (on_half ticket unit bytes) = refl
+
+pub book_cuts : (base events : ℕ) (opening : Objects) (t : Touch) (p q : BookPart) (h : History) → BookGoes events t p q
+    → AllByRecursion (λ c. IsSome (change_at p.book.entries c.place)) p.book.commits → length h.log ≡ base + events → EachCutStands base h opening p.book
+    → LeavesPrefix base h.start opening q.book (after t h).log → EachCutStands base (after t h) opening q.book
+book_cuts base events opening t p q h (same is) are counted cuts now =
+    let book : q.book ≡ p.book = ap (λ (r : BookPart). r.book) is in
+    subst (EachCutStands base (after t h) opening) (sym book)
+    (more_log base opening p.book t h cuts (subst (λ (b : Book). LeavesPrefix base h.start opening b (after t h).log) book now))
+book_cuts base events opening t p q h (enters e is) are counted cuts now =
+    same_log base h opening p.book q.book (λ cut below. subst (Grows base cut p.book) (sym (ap (λ (r : BookPart). r.book) is))
+    (notes_one base cut p.book e are)) cuts now
+book_cuts base events opening t p q h (commits xs none is) are counted cuts now =
+    same_log base h opening p.book q.book (λ cut below. subst (Grows base cut p.book) (sym (ap (λ (r : BookPart). r.book) is))
+    (takes_commits base cut p.book xs)) cuts now
+book_cuts base events opening t p q h (applies count all is) are counted cuts now =
+    subst (EachCutStands base h opening) (sym (ap (λ (r : BookPart). r.book) is)) cuts
+book_cuts base events opening t p q h (acknowledges is) are counted cuts now =
+    same_log base h opening p.book q.book (λ cut below. subst (Grows base cut p.book) (sym (ap (λ (r : BookPart). r.book) is))
+    (finishes_one base cut events p.book (omega (arith, below, counted)))) cuts now

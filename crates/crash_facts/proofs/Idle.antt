@@ -18,7 +18,7 @@ use Rattle.store_image.proofs.OwnedUnits.{objects_stand}
 use Rattle.store_steps.specs.declared.context.Context.{Context}
 use Rattle.store_steps.specs.State.{Batch, State}
 use Rattle.store_steps.specs.Ready.{is_drained}
-use Rattle.store_facts.specs.Space.{rows_with}
+use Rattle.store_steps.specs.Intents.{intents, rows_by}
 use Rattle.store_facts.specs.Kept.{IsKept}
 use Rattle.store_facts.proofs.Conditions.{IsIdle}
 use Rattle.store_facts.proofs.Known.{known_idle}
@@ -36,7 +36,7 @@ pub idle_objects : (base : ℕ) (opening : Objects) (s : State) (d : Disk) (h : 
 idle_objects base opening s d h idle known =
     let cs : List Commit = s.book.commits in
     let before : SelectionsStand (width_of s.log.sup) (held_or_last h []) s.log.rows [] (replay opening (applied_changes s)) s.book.entries =
-    subst (λ (xs : List Context). SelectionsStand (width_of s.log.sup) (held_or_last h xs) s.log.rows xs
+    subst (λ (xs : List Context). SelectionsStand (width_of s.log.sup) (held_or_last h (intents xs)) s.log.rows (intents xs)
     (replay opening (applied_changes s)) s.book.entries)
     idle.uncommitted known.stand in
     let stand : ObjectsStand (width_of s.log.sup) (last_at h) s.log.rows (replay opening (applied_changes s)) =
@@ -45,7 +45,7 @@ idle_objects base opening s d h idle known =
     let all : applied_changes s ≡ committed s.book.entries cs =
     ap (λ (b : Option Batch). committed s.book.entries (take (length cs - option_map_or (λ (c : Batch). length c.contexts) b 0) cs)) idle.batch
     ∙ ap (committed s.book.entries) (take_all (length cs - 0) cs (omega arith)) in
-    let queued : AreQueued s.book [] = subst (AreQueued s.book) idle.pending known.book.queued in
+    let queued : AreQueued s.book [] = subst (λ (xs : List Context). AreQueued s.book (intents xs)) idle.pending known.book.queued in
     subst (ObjectsStand (width_of s.log.sup) (last_at h) s.log.rows) (ap (replay opening) all ∙ all_committed opening s.book.entries cs queued) stand
 
 module _ (base : ℕ) (opening : Objects) (s : State) (d : Disk) (h : History) (kept : IsKept s d) (up : s.down ≡ None)
@@ -55,7 +55,7 @@ module _ (base : ℕ) (opening : Objects) (s : State) (d : Disk) (h : History) (
 
   -- the submitted rows are the committed ones
   same_rows : s.submitted ≡ s.log.rows
-  same_rows = (kept.up up).submitted ∙ ap (rows_with s.log.rows) idle.uncommitted
+  same_rows = (kept.up up).rows.submitted ∙ ap (λ (xs : List Context). rows_by s.log.rows (intents xs)) idle.uncommitted
 
   -- so they stand for these objects too
   pub drained_submitted : ObjectsStand (width_of s.log.sup) (last_at h) s.submitted (replay opening (accepted s.book.entries))

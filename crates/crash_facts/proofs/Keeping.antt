@@ -1,30 +1,27 @@
 -- What a kernel keeps of its device: a start lies in the log before each call that came after it, so each call goes on from what was known there.
-use Rattle.std.proofs.Common.{◌≡◌, ◌⊎◌, inl, inr, ℕ, ◌+◌, ◌≤◌, Bool, true, false, cond, List, [], ◌∷◌, ◌++◌, length, take, Option, Some, None}
-use Rattle.std.proofs.Common.{is_some, refl, sym, ap, subst, ◌∙◌, arith, length-append}
+use Rattle.std.proofs.Common.{◌≡◌, ◌⊎◌, inl, inr, ℕ, ◌+◌, ◌≤◌, true, List, [], ◌∷◌, ◌++◌, length, take, Option, Some, None}
+use Rattle.std.proofs.Common.{refl, sym, ap, subst, ◌∙◌, arith, length-append}
 use Rattle.std.proofs.lemmas.Option.{same_Some}
 use Rattle.std.proofs.lemmas.List.{take-append-le}
 use Rattle.block_device.specs.Log.{last, IsClean}
-use Rattle.block_device.specs.Disk.{Disk, History, IsSound, Waited, history_after}
+use Rattle.block_device.specs.Disk.{Disk, History, IsSound, history_after}
 use Rattle.block_device.specs.Facts.{with_event}
 use Rattle.block_device.specs.declared.device.Ticket.{Ticket}
 use Rattle.block_device.specs.declared.event.Event.{Event}
-use Rattle.block_device.specs.declared.event.Event.TheVariants.{Write, Flush as FlushEvent, Done}
+use Rattle.block_device.specs.declared.event.Event.TheVariants.{Write, Flush, Done}
 use Rattle.object_model.specs.Objects.{Objects}
 use Rattle.store_image.specs.Stands.{StandsFor}
 use Rattle.store_image.specs.Durability.{IsStart, EachCutStands}
 use Rattle.unit_allocator.specs.Units.{Space}
-use Rattle.store_steps.specs.declared.flight.Flying.{Flying}
-use Rattle.store_steps.specs.declared.flight.Job.{Job}
-use Rattle.store_steps.specs.declared.flight.Job.TheVariants as job
-use Rattle.store_steps.specs.declared.step.Step.{Step}
-use Rattle.store_steps.specs.declared.step.Step.TheVariants.{Data, Reap, Take, Flush, Seal, Record, Sync, Commit, Finish}
 use Rattle.store_steps.specs.State.{State}
-use Rattle.store_steps.specs.Contexts.{run_bytes, unsent_units}
-use Rattle.store_steps.specs.Changes.{after_done, after_good, flying_of, landed, reaped}
-use Rattle.store_steps.specs.Steps.{piece_unit, piece_bytes}
 use Rattle.store_steps.specs.Opened.{Found, opened}
-use Rattle.store_steps.specs.Runs.{Call, submitting, reading, stepping, Calls, DoesOrFails, Submits, Reads}
+use Rattle.store_steps.specs.Runs.{Call, Calls}
+use Rattle.store_steps.specs.Touch.{Touch, nothing, ends, flushes, on_data, on_half, Adds, events_of, run_write}
+use Rattle.store_steps.specs.Footprint.{Footprint}
+use Rattle.plan_rows.specs.Keeps.{PlansKeep}
 use Rattle.store_facts.specs.Kept.{IsKept}
+use Rattle.store_facts.proofs.Downs.{GoesDown, down_call}
+use Rattle.store_facts.proofs.Footprints.{footprint_of}
 use Rattle.crash_facts.specs.Store.{IsDurable, KeepsDurable, IsMounted}
 use Rattle.crash_facts.proofs.Runs.{call_durable, mounted_durable}
 
@@ -42,83 +39,34 @@ record IsOneEvent (s s' : State) (d d' : Disk) : Type 0 where
 abbrev IsAtMostOne : State → State → Disk → Disk → Type 0
 IsAtMostOne s s' d d' = IsNoEvent s s' d d' ⊎ IsOneEvent s s' d d'
 
--- the device had no part in it
-no_event : (s s' : State) (d d' : Disk) → s'.events ≡ s.events → d' ≡ d → IsAtMostOne s s' d d'
-no_event s s' d d' counted same = inl (record { same = ap (λ (e : Disk). e.history) same; counted = counted })
+-- one that leaves the kernel up, by what it adds to the log
+touch_events : (s s' : State) (d d' : Disk) (t : Touch) → Adds t d d' → s'.events ≡ s.events + events_of t → IsAtMostOne s s' d d'
+touch_events s s' d d' nothing adds counted = inl (record { same = adds.0; counted = omega (arith, counted) })
+touch_events s s' d d' (ends ticket) adds counted =
+    inr (record { event = Done ticket true; more = ap (λ (e : Disk). e.history) adds.after; counted = counted })
+touch_events s s' d d' (flushes ticket) adds counted =
+    inr (record { event = Flush; more = ap (λ (e : Disk). e.history) adds.after; counted = counted })
+touch_events s s' d d' (on_data ticket run) adds counted =
+    inr (record { event = run_write run; more = ap (λ (e : Disk). e.history) adds.after; counted = counted })
+touch_events s s' d d' (on_half ticket unit bytes) adds counted =
+    inr (record { event = Write unit bytes; more = ap (λ (e : Disk). e.history) adds.after; counted = counted })
 
-done_events : (j : Job) (s : State) → (after_done j s).events ≡ s.events
-done_events (job.Data place count) s = refl
-done_events job.DataFlush s = refl
-done_events job.Record s = refl
-done_events job.RecordFlush s = refl
+down_events : (s s' : State) (d d' : Disk) → GoesDown s d s' d' → IsAtMostOne s s' d d'
+down_events s s' d d' (inl end) = inr (record {
+  event = Done end.ticket.place end.ok;
+  more = ap (λ (e : Disk). e.history) end.ended.after;
+  counted = ap (λ (t : State). t.events) end.after;
+})
+down_events s s' d d' (inr still) = inl (record { same = still.history; counted = ap (λ (t : State). t.events) still.state })
 
-good_events : (f : Option Flying) (s : State) → (after_good f s).events ≡ s.events
-good_events None s = refl
-good_events (Some f) s = done_events f.job s
-
--- a good end, whether it counts or not
-reaped_events : (ticket : Ticket) (s : State) → (reaped ticket true s).events ≡ s.events + 1
-reaped_events ticket s = of_test (is_some s.down)
+call_events : (call : Call) (s s' : State) (d d' : Disk) → IsKept s d → Calls call s d s' d' → IsAtMostOne s s' d d'
+call_events call s s' d d' kept made = of_down s'.down refl
   where
-    of_test : (b : Bool) → (cond b (landed ticket s) (after_good (flying_of ticket s.flying) (landed ticket s))).events ≡ s.events + 1
-    of_test true = refl
-    of_test false = good_events (flying_of ticket s.flying) (landed ticket s)
-
-waited_same : (d d' : Disk) → Waited d d' → d'.history ≡ d.history
-waited_same d d' (inl idle) = ap (λ (e : Disk). e.history) idle.1
-waited_same d d' (inr busy) = ap (λ (e : Disk). e.history) busy.2
-
-step_events : (step : Step) (s s' : State) (d d' : Disk) → DoesOrFails step s d s' d' → IsAtMostOne s s' d d'
-step_events Data s s' d d' does = inr (record {
-  event = Write does.next.first.unit (run_bytes (unsent_units does.next));
-  more = ap (λ (e : Disk). e.history) does.submitted.after;
-  counted = ap (λ (t : State). t.events) does.after;
-})
-step_events Reap s s' d d' (inl (inl ended)) = inr (record {
-  event = Done ended.ticket.place true;
-  more = ap (λ (e : Disk). e.history) ended.ended.after;
-  counted = ap (λ (t : State). t.events) ended.after ∙ reaped_events ended.ticket s;
-})
-step_events Reap s s' d d' (inl (inr none)) =
-    inl (record { same = waited_same d d' none.0; counted = ap (λ (t : State). t.events) none.1 })
-step_events Reap s s' d d' (inr ended) = inr (record {
-  event = Done ended.ticket.place false;
-  more = ap (λ (e : Disk). e.history) ended.ended.after;
-  counted = ap (λ (t : State). t.events) ended.after;
-})
-step_events Take s s' d d' does = no_event s s' d d' (ap (λ (t : State). t.events) does.after) does.same
-step_events Flush s s' d d' does = inr (record {
-  event = FlushEvent;
-  more = ap (λ (e : Disk). e.history) does.submitted.after;
-  counted = ap (λ (t : State). t.events) does.after;
-})
-step_events Seal s s' d d' does = no_event s s' d d' (ap (λ (t : State). t.events) does.after) does.same
-step_events Record s s' d d' does = inr (record {
-  event = Write (piece_unit s.log does.writing) (piece_bytes s.log.number does.writing);
-  more = ap (λ (e : Disk). e.history) does.submitted.after;
-  counted = ap (λ (t : State). t.events) does.after;
-})
-step_events Sync s s' d d' does = inr (record {
-  event = FlushEvent;
-  more = ap (λ (e : Disk). e.history) does.submitted.after;
-  counted = ap (λ (t : State). t.events) does.after;
-})
-step_events Commit s s' d d' does = no_event s s' d d' (ap (λ (t : State). t.events) does.after) does.same
-step_events Finish s s' d d' does = no_event s s' d d' (ap (λ (t : State). t.events) does.after) does.same
-
-call_events : (call : Call) (s s' : State) (d d' : Disk) → Calls call s d s' d' → IsAtMostOne s s' d d'
-call_events (submitting client line change) s s' d d' made = no_event s s' d d' (of_answer made.1) made.2
-  where
-    of_answer : Submits client line change s s' → s'.events ≡ s.events
-    of_answer (inl accepts) = ap (λ (t : State). t.events) accepts.after
-    of_answer (inr (inl refused)) = ap (λ (t : State). t.events) refused.1.after
-    of_answer (inr (inr turned)) = ap (λ (t : State). t.events) turned.same
-call_events (reading client line command) s s' d d' made = no_event s s' d d' (of_answer made.1) made.2
-  where
-    of_answer : Reads client line command s d s' → s'.events ≡ s.events
-    of_answer (inl (a, is)) = ap (λ (t : State). t.events) is.after
-    of_answer (inr turned) = ap (λ (t : State). t.events) turned.same
-call_events (stepping step) s s' d d' made = step_events step s s' d d' made.1
+    of_down : (o : Option Ticket) → s'.down ≡ o → IsAtMostOne s s' d d'
+    of_down None up =
+        let f : Footprint s d s' d' = footprint_of call s d s' d' kept up made in
+        touch_events s s' d d' f.touch f.device f.counted
+    of_down (Some first) down = down_events s s' d d' (down_call call s d s' d' first down made)
 
 -- ---- each call
 
@@ -154,9 +102,9 @@ module _ (base : ℕ) (opening : Objects) (s s' : State) (d d' : Disk) (h : Hist
       of_history (Some g) was =
           of_told g was (same_Some (with_event g one.event) h (sym (one.more ∙ ap (λ (x : Option History). history_after x one.event) was) ∙ told))
 
-pub call_keeps : (call : Call) (s s' : State) (d d' : Disk) → IsKept s d → IsSound d' → KeepsDurable s d → Calls call s d s' d' → KeepsDurable s' d'
-call_keeps call s s' d d' kept sound keeps made h base opening told counted start =
-    call_durable base opening call s s' d d' kept sound (elim (call_events call s s' d d' made) [
+pub call_keeps : (call : Call) (s s' : State) (d d' : Disk) → PlansKeep → IsKept s d → IsSound d' → KeepsDurable s d → Calls call s d s' d' → KeepsDurable s' d'
+call_keeps call s s' d d' plans kept sound keeps made h base opening told counted start =
+    call_durable base opening call s s' d d' plans kept sound (elim (call_events call s s' d d' kept made) [
       | inl none ↦ before_none base opening s s' d d' h keeps told counted start none
       | inr one ↦ before_one base opening s s' d d' h keeps told counted start one
     ]) made

@@ -1,7 +1,7 @@
 pub mod Bytes
-pub mod Standing
+pub mod Joining
 pub mod Admitting
-pub mod Moving
+pub mod Standing
 pub mod Exact
 pub mod Now
 pub mod Idle

@@ -1,6 +1,6 @@
 -- A crash now leaves the objects after a front of the commits: after the applied ones, or, once the record of the open batch was given to
 -- the device, perhaps after all.
-use Rattle.std.proofs.Common.{◌≡◌, ◌≢◌, ℕ, ◌+◌, ◌-◌, ◌<◌, ◌≤◌, true, List, [], ◌∷◌, ◌++◌, length, map, take, Option, Some, None}
+use Rattle.std.proofs.Common.{◌≡◌, ◌≢◌, ℕ, ◌+◌, ◌-◌, ◌<◌, ◌≤◌, true, List, [], ◌∷◌, ◌++◌, length, take, Option, Some, None}
 use Rattle.std.proofs.Common.{slice_get, is_some, nat_lt}
 use Rattle.std.proofs.Common.{refl, sym, ap, subst, ◌∙◌, append-nil, arith}
 use Rattle.std.specs.Prelude.{IfSome, IsSomeAnd, Contains}
@@ -18,13 +18,13 @@ use Rattle.object_model.specs.Effect.{replay}
 use Rattle.object_model.specs.Book.{committed, IsAckedBy, HasAcked}
 use Rattle.object_model.specs.declared.book.Commit.{Commit}
 use Rattle.meta_rows.specs.declared.row_op.RowOp.{RowOp}
-use Rattle.meta_rows.specs.Rows.{Rows, rows_after}
+use Rattle.meta_rows.specs.Rows.{rows_after}
 use Rattle.meta_log.specs.Records.{unit_count}
 use Rattle.meta_log.specs.Pieces.{given_from}
 use Rattle.meta_log.proofs.PieceLemmas.{given_from-none}
 use Rattle.meta_log.specs.Slots.{width_of}
 use Rattle.store_image.specs.BadRows.{NoBadRow}
-use Rattle.store_image.specs.Owners.{IsOwned}
+use Rattle.store_image.specs.Owners.{IsOwned, IsMarked}
 use Rattle.store_image.specs.Exact.{IsLeakedIn}
 use Rattle.store_image.specs.Durability.{LeavesPrefix}
 use Rattle.store_image.proofs.OwnedUnits.{objects_stand}
@@ -32,30 +32,36 @@ use Rattle.store_image.proofs.PageUnits.{page_owned}
 use Rattle.log_facts.specs.Flushing.{flushed}
 use Rattle.log_facts.specs.Soundness.{SoundFor}
 use Rattle.log_facts.proofs.Cuts.{cut_stands}
-use Rattle.object_rows.specs.declared.plan.FreshUnit.{FreshUnit}
+use Rattle.plan_rows.specs.declared.plan.FreshUnit.{FreshUnit}
 use Rattle.store_steps.specs.declared.context.Context.{Context}
 use Rattle.store_steps.specs.declared.flight.FlushState.TheVariants as flush
 use Rattle.store_steps.specs.State.{Batch, State}
 use Rattle.store_steps.specs.Ready.{applied_count}
 use Rattle.store_facts.specs.Room.{AcksAre}
-use Rattle.store_facts.specs.Space.{rows_with, uncommitted}
+use Rattle.store_facts.specs.Space.{AreRowsKept}
+use Rattle.store_steps.specs.UnderWay.{uncommitted, given_fresh, begun_ops, submitted_from, second_flush}
 use Rattle.store_facts.specs.Kept.{IsKept}
 use Rattle.store_facts.proofs.Stages.{Stage, opens, flushes, writes, syncs, synced, pending_of}
 use Rattle.store_facts.proofs.Stages.{batch_of, begun_of, AreWritten, Holds, at, by_stage}
 use Rattle.store_facts.proofs.Readiness.{contexts_of}
 use Rattle.store_facts.proofs.Pieces.{some_units}
-use Rattle.store_facts.proofs.RowsPages.{owned_on_data}
-use Rattle.book_facts.specs.BookFacts.{KnownOfBook}
+use Rattle.plan_rows.proofs.OnData.{owned_on_data}
+use Rattle.book_facts.specs.BookFacts.{places, KnownOfBook}
 use Rattle.book_facts.specs.Selections.{applied_changes, changes_of, SelectionsStand}
 use Rattle.book_facts.proofs.Selecting.{none_selected, all_selected}
 use Rattle.book_facts.proofs.Applied.{applied_committed}
-use Rattle.unit_facts.specs.DataUnits.{all_fresh, given_fresh, HeldBytesAreLast, UnitsAreFlushed, OtherUnitsAreClean}
-use Rattle.crash_facts.specs.HeldBytes.{held_or_last}
-use Rattle.unit_facts.specs.Known.{begun_ops, submitted_from, second_flush}
-use Rattle.unit_facts.proofs.Units.{taken_by, all_units, all_given, all_clean, data_elsewhere}
+use Rattle.unit_facts.specs.DataUnits.{HeldBytesAreLast, UnitsAreFlushed, OtherUnitsAreClean}
+use Rattle.store_steps.specs.Intents.{Intent, intent_of, intents, is_in, rows_by, taken_by}
+use Rattle.store_steps.specs.Parts.{rows_part}
+use Rattle.selections.proofs.Selecting.{fair_all}
+use Rattle.space_facts.proofs.Lists.{listed_all}
+use Rattle.space_facts.proofs.Selected.{selection_good}
+use Rattle.crash_facts.specs.HeldBytes.{fresh_by, held_or_last}
+use Rattle.unit_facts.proofs.Units.{all_given, all_clean, data_elsewhere}
 use Rattle.crash_facts.specs.Store.{contents_at, KnownOfStore}
-use Rattle.crash_facts.proofs.Bytes.{not_fresh, all_held}
+use Rattle.crash_facts.proofs.Bytes.{fresh_are, fresh_of_all, not_fresh, all_held}
 use Rattle.crash_facts.proofs.Exact.{rows_exact, kept_begun}
+use Rattle.store_facts.proofs.Alone.{far_of}
 
 -- ---- sizes and acknowledgements
 
@@ -84,24 +90,27 @@ acked_within base cut acked count commits acks within i = of_commit (slice_get c
 module _ (base : ℕ) (opening : Objects) (s : State) (d : Disk) (h : History) (kept : IsKept s d) (up : s.down ≡ None)
     (known : KnownOfStore base opening s d h) where
   -- no fresh unit is owned in them
-  not_taken : (unit : ℕ) → IsOwned (width_of s.log.sup) s.log.rows unit → AllByRecursion (λ f. f.unit ≢ unit) (all_fresh (uncommitted s))
-  not_taken unit owned = all_units (λ u. u ≢ unit) (uncommitted s)
-      (λ u c same. (kept.up up).releases.taken_was_not unit (subst (Contains (taken_by (uncommitted s))) same c)
-      ((kept.up up).committed.exact.owned_marked unit owned))
+  not_taken : (unit : ℕ) → IsOwned (width_of s.log.sup) s.log.rows unit
+      → AllByRecursion (λ f. f.unit ≢ unit) (fresh_by (intents (uncommitted s)))
+  not_taken unit owned = fresh_of_all (λ u. u ≢ unit) (intents (uncommitted s))
+      (λ u c same. listed_all (λ v. ¬ IsMarked s.log.rows v) (taken_by (intents (uncommitted s))) unit (kept.up up).rows.apart.unmarked
+      (subst (Contains (taken_by (intents (uncommitted s)))) same c) ((kept.up up).rows.good.exact.owned_marked unit owned))
 
   pub rows_sound : SoundFor h s.log.sup s.log.rows (replay opening (applied_changes s))
   rows_sound = record {
-    good = (kept.up up).committed.good;
-    stand = objects_stand (width_of s.log.sup) (held_or_last h (uncommitted s)) (last_at h) s.log.rows
-        (λ unit has. not_fresh (all_fresh (uncommitted s)) (last_at h) unit (not_taken unit (page_owned (width_of s.log.sup) s.log.rows unit has)))
+    good = (kept.up up).rows.good.good;
+    stand = objects_stand (width_of s.log.sup) (held_or_last h (intents (uncommitted s))) (last_at h) s.log.rows
+        (λ unit has. not_fresh (fresh_by (intents (uncommitted s))) (last_at h) unit
+        (not_taken unit (page_owned (width_of s.log.sup) s.log.rows unit has)))
         (replay opening (applied_changes s))
-        (none_selected (width_of s.log.sup) (held_or_last h (uncommitted s)) s.log.rows (uncommitted s)
+        (none_selected (width_of s.log.sup) (held_or_last h (intents (uncommitted s))) s.log.rows (intents (uncommitted s))
         (replay opening (applied_changes s)) s.book.entries known.stand);
     clean = λ unit has.
         let owned = page_owned (width_of s.log.sup) s.log.rows unit has in
         known.units.clean unit
-        (data_elsewhere s.log.sup unit (owned_on_data s.log.sup s.log.rows unit (kept.up up).committed.good owned))
-        (all_given (λ f. f.unit ≢ unit) (uncommitted s) (not_taken unit owned));
+        (data_elsewhere s.log.sup unit (owned_on_data s.log.sup s.log.rows unit (kept.up up).rows.good.good owned))
+        (all_given (λ f. f.unit ≢ unit) (uncommitted s)
+        (subst (AllByRecursion (λ (f : FreshUnit). f.unit ≢ unit)) (fresh_are (uncommitted s)) (not_taken unit owned)));
   }
 
 -- ---- the rows with a record that was given to the device
@@ -115,20 +124,20 @@ record IsGiven (h : History) (s : State) (x : Context) : Type 0 where
   flushed_units : UnitsAreFlushed h flushed (x.fresh ++ [])
 
 given_sound : (h : History) (s : State) (x : Context) (before : Objects) → IsGiven h s x
-    → SelectionsStand (width_of s.log.sup) (held_or_last h (x ∷ [])) s.log.rows (x ∷ []) before s.book.entries
-    → SoundFor h s.log.sup (rows_after s.log.rows (x.ops ++ [])) (replay before (changes_of s.book.entries (x ∷ [])))
+    → SelectionsStand (width_of s.log.sup) (held_or_last h (intent_of x ∷ [])) s.log.rows (intent_of x ∷ []) before s.book.entries
+    → SoundFor h s.log.sup (rows_after s.log.rows (x.ops ++ [])) (replay before (changes_of s.book.entries (intent_of x ∷ [])))
 given_sound h s x before is stand =
     let given : take x.given x.fresh ++ [] ≡ x.fresh ++ [] =
     ap (λ (fs : List FreshUnit). fs ++ []) (take_all x.given x.fresh (omega (arith, is.written.given))) in
     let held : HeldBytesAreLast h (x.fresh ++ []) = subst (HeldBytesAreLast h) given is.held in
     let clean : OtherUnitsAreClean h s.log.sup [] =
     all_clean h s.log.sup (x.fresh ++ []) (subst (OtherUnitsAreClean h s.log.sup) given is.clean) is.flushed_units in
-    let later : Objects = replay before (changes_of s.book.entries (x ∷ [])) in
+    let later : Objects = replay before (changes_of s.book.entries (intent_of x ∷ [])) in
     subst (λ (l : List RowOp). SoundFor h s.log.sup (rows_after s.log.rows l) later) (sym (append-nil x.ops)) (record {
       good = is.good;
-      stand = objects_stand (width_of s.log.sup) (held_or_last h (x ∷ [])) (last_at h) (rows_after s.log.rows x.ops)
+      stand = objects_stand (width_of s.log.sup) (held_or_last h (intent_of x ∷ [])) (last_at h) (rows_after s.log.rows x.ops)
           (λ unit has. all_held (x.fresh ++ []) (last_at h) unit held) later
-          (all_selected (width_of s.log.sup) (held_or_last h (x ∷ [])) s.log.rows (x ∷ []) before s.book.entries stand);
+          (all_selected (width_of s.log.sup) (held_or_last h (intent_of x ∷ [])) s.log.rows (intent_of x ∷ []) before s.book.entries stand);
       clean = λ unit has.
           let owned = page_owned (width_of s.log.sup) (rows_after s.log.rows x.ops) unit has in
           clean unit (data_elsewhere s.log.sup unit (owned_on_data s.log.sup (rows_after s.log.rows x.ops) unit is.good owned)) tt;
@@ -140,11 +149,11 @@ IsGivenSound opening h s = (ops : List RowOp) → begun_ops s.log.begun ≡ Some
     → SoundFor h s.log.sup (rows_after s.log.rows ops) (replay opening (committed s.book.entries s.book.commits))
 
 all_commits : (opening : Objects) (s : State) (b : Batch) (x : Context) → s.batch ≡ Some b → b.contexts ≡ x ∷ [] → KnownOfBook opening s
-    → replay (replay opening (applied_changes s)) (changes_of s.book.entries (x ∷ [])) ≡ replay opening (committed s.book.entries s.book.commits)
+    → replay (replay opening (applied_changes s)) (changes_of s.book.entries (intent_of x ∷ [])) ≡ replay opening (committed s.book.entries s.book.commits)
 all_commits opening s b x is one book =
-    sym (applied_committed opening s b x (book.last_committed
-    ∙ ap (λ (o : Option Batch). map (λ (y : Context). y.place) (option_map_or (λ (c : Batch). c.contexts) o [])) is
-    ∙ ap (map (λ (y : Context). y.place)) one))
+    sym (applied_committed opening s b (intent_of x) (book.last_committed
+    ∙ ap (λ (o : Option Batch). places (intents (option_map_or (λ (c : Batch). c.contexts) o []))) is
+    ∙ ap (λ (xs : List Context). places (intents xs)) one))
     ∙ ap (λ (l : List Commit). replay opening (committed s.book.entries l)) (take_all (length s.book.commits - 0) s.book.commits (omega arith))
 
 -- at a stage where the record was given
@@ -153,8 +162,11 @@ given_at : (base : ℕ) (opening : Objects) (s : State) (g : Stage) (x : Context
     → UnitsAreFlushed h flushed (x.fresh ++ []) → contexts_of g ≡ x ∷ []
     → IsKept (at s g) d → (at s g).down ≡ None → KnownOfStore base opening (at s g) d h → IsGivenSound opening h (at s g)
 given_at base opening s g x b d h written is one none ops_are flushed_units contexts kept up known ops begun given =
+    let rows : AreRowsKept (rows_part (at s g)) = (kept.up up).rows in
+    let xs : List Intent = intents (uncommitted (at s g)) in
     let submitted : NoBadRow s.log.sup (rows_after s.log.rows x.ops) =
-    subst (λ (rows : Rows). NoBadRow s.log.sup rows) ((kept.up up).submitted ∙ ap (rows_with s.log.rows) contexts) (kept.up up).good.good in
+    subst (λ (contexts : List Context). NoBadRow s.log.sup (rows_by s.log.rows (intents contexts))) contexts
+    (selection_good s.log.sup s.log.rows xs rows.good rows.planned xs (fair_all is_in xs)).good in
     let found : IsGiven h s x = record {
       written = written;
       good = submitted;
@@ -163,9 +175,9 @@ given_at base opening s g x b d h written is one none ops_are flushed_units cont
       flushed_units = flushed_units;
     } in
     let before : Objects = replay opening (applied_changes (at s g)) in
-    let stand : SelectionsStand (width_of s.log.sup) (held_or_last h (x ∷ [])) s.log.rows (x ∷ []) before s.book.entries =
+    let stand : SelectionsStand (width_of s.log.sup) (held_or_last h (intent_of x ∷ [])) s.log.rows (intent_of x ∷ []) before s.book.entries =
     subst (λ (xs : List Context). SelectionsStand (width_of s.log.sup)
-    (held_or_last h xs) s.log.rows xs before s.book.entries) contexts known.stand in
+    (held_or_last h (intents xs)) s.log.rows (intents xs) before s.book.entries) contexts known.stand in
     subst (λ (l : List RowOp). SoundFor h s.log.sup (rows_after s.log.rows l) (replay opening (committed s.book.entries s.book.commits)))
     (same_Some (x.ops ++ []) ops (sym ops_are ∙ begun))
     (subst (SoundFor h s.log.sup (rows_after s.log.rows (x.ops ++ []))) (all_commits opening (at s g) b x is one known.book)
@@ -207,6 +219,6 @@ now_stands base opening s d h kept up known =
     (acked_within base (length h.log) s.acked (applied_count s) s.book.commits kept.always.book.acks kept.always.book.within)
     (rows_sound base opening s d h kept up known)
     (by_stage (λ t. IsKept t d → t.down ≡ None → KnownOfStore base opening t d h → IsGivenSound opening h t) s
-    (begun_sound base opening s d h) (kept.up up).far kept up known)
-    (rows_exact (width_of s.log.sup) (IsLeakedIn (contents_at base h)) m.rows (uncommitted s) known.exact)
+    (begun_sound base opening s d h) (far_of s d (kept.up up)) kept up known)
+    (rows_exact (width_of s.log.sup) (IsLeakedIn (contents_at base h)) m.rows (intents (uncommitted s)) known.exact)
     (kept_begun (IsLeakedIn (contents_at base h)) s d kept up known.exact)

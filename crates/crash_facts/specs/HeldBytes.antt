@@ -1,11 +1,20 @@
 -- The bytes that units hold, or are to hold.
-use Rattle.std.specs.Prelude.{ℕ, List}
+use Rattle.std.specs.Prelude.{ℕ, ◌==◌, List, [], ◌∷◌, if◌then◌else◌}
+use Rattle.std.specs.List.{flat_map}
 use Rattle.block_device.specs.Disk.{History}
 use Rattle.block_device.specs.Facts.{last_at}
-use Rattle.store_steps.specs.declared.context.Context.{Context}
-use Rattle.book_facts.specs.FreshBytes.{bytes_with}
-use Rattle.unit_facts.specs.DataUnits.{all_fresh}
+use Rattle.plan_rows.specs.declared.plan.FreshUnit.{FreshUnit}
+use Rattle.store_steps.specs.Intents.{Intent}
 
--- the bytes of units once all data writes of the contexts have reached the device
-abbrev pub held_or_last : History → List Context → ℕ → List ℕ
-held_or_last h contexts = bytes_with (all_fresh contexts) (last_at h)
+-- the bytes of units, where fresh ones have theirs and all others those given
+abbrev pub bytes_with : List FreshUnit → (ℕ → List ℕ) → ℕ → List ℕ
+bytes_with [] at unit = at unit
+bytes_with (f ∷ more) at unit = if f.unit == unit then f.bytes else bytes_with more at unit
+
+-- the fresh units of intents
+abbrev pub fresh_by : List Intent → List FreshUnit
+fresh_by xs = flat_map (λ x. x.fresh) xs
+
+-- the bytes of units once all data writes of the intents have reached the device
+abbrev pub held_or_last : History → List Intent → ℕ → List ℕ
+held_or_last h xs = bytes_with (fresh_by xs) (last_at h)

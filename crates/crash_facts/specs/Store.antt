@@ -20,35 +20,35 @@ use Rattle.log_facts.specs.SlotFacts.{SlotsStand}
 use Rattle.log_facts.specs.HalfFacts.{ActiveHalfStands}
 use Rattle.store_steps.specs.State.{State}
 use Rattle.store_steps.specs.Opened.{Found}
-use Rattle.store_steps.specs.declared.context.Context.{Context}
-use Rattle.store_facts.specs.Space.{uncommitted, rows_with}
+use Rattle.store_steps.specs.Intents.{Intent, intents, rows_by}
+use Rattle.store_steps.specs.UnderWay.{uncommitted}
 use Rattle.book_facts.specs.BookFacts.{KnownOfBook}
 use Rattle.read_facts.specs.Alike.{IsNoCsum}
 use Rattle.book_facts.specs.Selections.{IsFairSelection, applied_changes, SelectionsStand}
 use Rattle.crash_facts.specs.HeldBytes.{held_or_last}
 use Rattle.unit_facts.specs.Known.{IsAnsweredSince, KnownOfUnits}
 
--- The committed rows stand for the objects after the applied commits, and with the operations of a fair selection of the contexts under
+-- The committed rows stand for the objects after the applied commits, and with the operations of a fair selection of the intents under
 -- way for the objects after these too: over the bytes that the fresh units are to have, and for all others those last written.
 abbrev pub ContextsStand : Objects → State → History → Type 0
 ContextsStand opening s h =
-    SelectionsStand (width_of s.log.sup) (held_or_last h (uncommitted s)) s.log.rows (uncommitted s)
+    SelectionsStand (width_of s.log.sup) (held_or_last h (intents (uncommitted s))) s.log.rows (intents (uncommitted s))
     (replay opening (applied_changes s)) s.book.entries
 
 -- The contents when the log had so many events.
 abbrev pub contents_at : ℕ → History → List ℕ
 contents_at base h = last h.start (take base h.log)
 
--- With the operations of a fair selection of contexts the bitmap of the rows is exact, but for these leaked units.
-abbrev pub SelectionsAreExact : Width → (ℕ → Type 0) → Rows → List Context → Type 0
-SelectionsAreExact w leaked rows contexts = (some : List Context) → IsFairSelection contexts some → IsExactBut w leaked (rows_with rows some)
+-- With the operations of a fair selection of intents the bitmap of the rows is exact, but for these leaked units.
+abbrev pub SelectionsAreExact : Width → (ℕ → Type 0) → Rows → List Intent → Type 0
+SelectionsAreExact w leaked rows xs = (some : List Intent) → IsFairSelection xs some → IsExactBut w leaked (rows_by rows some)
 
 -- what is known of a store while its kernel is up, and the device tells its log
 pub record KnownOfStore (base : ℕ) (opening : Objects) (s : State) (d : Disk) (h : History) : Type 0 where
   pub units : KnownOfUnits base s d h
   pub book : KnownOfBook opening s
   pub stand : ContextsStand opening s h
-  pub exact : SelectionsAreExact (width_of s.log.sup) (IsLeakedIn (contents_at base h)) s.log.rows (uncommitted s)
+  pub exact : SelectionsAreExact (width_of s.log.sup) (IsLeakedIn (contents_at base h)) s.log.rows (intents (uncommitted s))
 
 -- What holds whether it is up or down: each entry has the answer that plain objects give, none names a bad unit, and each crash since the log
 -- had `base` events leaves the objects after a front of the commits.

@@ -16,6 +16,7 @@ ghost use Rattle.store_steps.specs.State.{State};
 ghost use Rattle.store_steps.specs.Ready.{is_drained};
 ghost use Rattle.store_steps.specs.Opened.{Found, opened};
 ghost use Rattle.store_steps.specs.Runs.{Call, Calls, IsRun};
+ghost use Rattle.plan_rows.specs.Keeps.{PlansKeep};
 ghost use Rattle.store_facts.specs.Kept.{IsKept};
 ghost use Rattle.crash_facts.specs.Store.{contents_at, KnownOfStore, IsDurable, KeepsDurable, IsMounted};
 ghost use Rattle.meta_log.specs.Slots.{width_of};
@@ -30,14 +31,14 @@ pub fn a_mounted_store_is_durable()
 /// Each call leaves it durable, also one that takes the end of a submission that ended badly.
 #[tactic(auto, using(crate::proofs::Runs::call_durable))]
 pub fn a_call_keeps_a_store_durable()
-    ensures { (base : ℕ) (opening : Objects) (call : Call) (s s' : State) (d d' : Disk) → IsKept s d → IsSound d' →
+    ensures { (base : ℕ) (opening : Objects) (call : Call) (s s' : State) (d d' : Disk) → PlansKeep → IsKept s d → IsSound d' →
         IsDurable base opening s d → Calls call s d s' d' → IsDurable base opening s' d' }
 {}
 
 /// So does a run of calls.
 #[tactic(auto, using(crate::proofs::Runs::run_durable))]
 pub fn a_run_keeps_a_store_durable()
-    ensures { (base : ℕ) (opening : Objects) (calls : List Call) (s s' : State) (d d' : Disk) → IsKept s d →
+    ensures { (base : ℕ) (opening : Objects) (calls : List Call) (s s' : State) (d d' : Disk) → PlansKeep → IsKept s d →
         IsDurable base opening s d → IsRun s d calls s' d' → IsDurable base opening s' d' }
 {}
 
@@ -72,20 +73,20 @@ pub fn a_drained_store_can_be_read()
 /// commits of the book, among which is each one acknowledged by then, unless something torn is valid by chance.
 #[tactic(auto, using(crate::proofs::Runs::each_cut))]
 pub fn each_crash_leaves_a_prefix()
-    ensures { (base : ℕ) (opening : Objects) (calls : List Call) (s s' : State) (d d' : Disk) (h' : History) → IsKept s d →
+    ensures { (base : ℕ) (opening : Objects) (calls : List Call) (s s' : State) (d d' : Disk) (h' : History) → PlansKeep → IsKept s d →
         IsDurable base opening s d → IsRun s d calls s' d' → d'.history ≡ Some h' → EachCutStands base h' opening s'.book }
 {}
 
 /// And where such a run ends drained and not down, the device stands for the objects after all accepted transactions, its bitmap is as exact
 /// as when the mount began, and no unit is dirty.
 pub fn a_drained_run_stands()
-    ensures stands { (base : ℕ) (opening : Objects) (calls : List Call) (s s' : State) (d d' : Disk) (h' : History) → IsKept s d →
+    ensures stands { (base : ℕ) (opening : Objects) (calls : List Call) (s s' : State) (d d' : Disk) (h' : History) → PlansKeep → IsKept s d →
         IsDurable base opening s d → IsRun s d calls s' d' → d'.history ≡ Some h' → s'.down ≡ None → is_drained d'.depth s' ≡ true →
         StandsFor (last h'.start h'.log) (replay opening (accepted s'.book.entries)) }
-    ensures clean { (base : ℕ) (opening : Objects) (calls : List Call) (s s' : State) (d d' : Disk) (h' : History) → IsKept s d →
+    ensures clean { (base : ℕ) (opening : Objects) (calls : List Call) (s s' : State) (d d' : Disk) (h' : History) → PlansKeep → IsKept s d →
         IsDurable base opening s d → IsRun s d calls s' d' → d'.history ≡ Some h' → s'.down ≡ None → is_drained d'.depth s' ≡ true →
         (unit : ℕ) → IsClean h'.log unit }
-    ensures exact { (base : ℕ) (opening : Objects) (calls : List Call) (s s' : State) (d d' : Disk) (h' : History) → IsKept s d →
+    ensures exact { (base : ℕ) (opening : Objects) (calls : List Call) (s s' : State) (d d' : Disk) (h' : History) → PlansKeep → IsKept s d →
         IsDurable base opening s d → IsRun s d calls s' d' → d'.history ≡ Some h' → s'.down ≡ None → is_drained d'.depth s' ≡ true →
         StaysExact (contents_at base h') (last h'.start h'.log) }
 {}
@@ -94,7 +95,7 @@ pub fn a_drained_run_stands()
 /// whatever the objects were then. The kernel's type says this of every kernel.
 #[tactic(auto, using(crate::proofs::Keeping::call_keeps))]
 pub fn a_call_keeps_durability()
-    ensures { (call : Call) (s s' : State) (d d' : Disk) → IsKept s d → IsSound d' → KeepsDurable s d → Calls call s d s' d' →
+    ensures { (call : Call) (s s' : State) (d d' : Disk) → PlansKeep → IsKept s d → IsSound d' → KeepsDurable s d → Calls call s d s' d' →
         KeepsDurable s' d' }
 {}
 

@@ -10,7 +10,8 @@ use Rattle.meta_log.specs.Slots.{IsSuper, data_unit}
 use Rattle.store_image.specs.Owners.{IsDataUnit, IsMarked}
 use Rattle.bitmap_freelist.specs.Bitmap.{AreMarked}
 use Rattle.unit_allocator.specs.Units.{Space, is_free}
-use Rattle.store_facts.specs.Space.{AreGoodRows, IsSpaceOf}
+use Rattle.plan_rows.specs.Keeps.{IsGood}
+use Rattle.store_facts.specs.Space.{IsSpaceOf}
 use Rattle.store_steps.specs.Opened.{Found}
 use Rattle.log_replay.specs.Opening.{HasLowNumbers}
 use Rattle.log_replay.specs.FoundOn.{IsJudged}
@@ -51,14 +52,12 @@ module _ (sup : Super) (rows : Rows) (busy : set.FinSet nat_cmp) (space : Space)
   unmarked unit on = (λ is. out_of_set unit on (sym (free unit on) ∙ is), λ none. free unit on ∙ not_in_set unit none)
 
 -- a store on which a kernel can be opened
-pub judged : (f : Found) (busy : set.FinSet nat_cmp) (space : Space) → IsSuper f.sup → AreGoodRows f.sup f.rows f.rows → AreMarked f.rows busy
+pub judged : (f : Found) (busy : set.FinSet nat_cmp) (space : Space) → IsSuper f.sup → IsGood f.sup f.rows → AreMarked f.rows busy
     → HasLowNumbers f → IsSpaceOf f.sup space → ((unit : ℕ) → IsDataUnit f.sup unit → is_free space unit ≡ not (set.contains busy unit))
     → IsJudged f space
-judged f busy space limits good are_marked numbers units free =
-    let each = unmarked f.sup f.rows busy space limits are_marked free in record {
-      good = good;
-      numbers = numbers;
-      units = units;
-      free = λ unit on. (λ is. let none = (each unit on).0 is in (none, none), λ both. (each unit on).1 both.0);
-      unmarked = each;
-    }
+judged f busy space limits good are_marked numbers units free = record {
+  good = good;
+  numbers = numbers;
+  units = units;
+  unmarked = unmarked f.sup f.rows busy space limits are_marked free;
+}

@@ -5,7 +5,8 @@ use Rattle.meta_log.specs.Records.{active_half}
 use Rattle.meta_log.specs.Slots.{IsSuper, active_unit}
 use Rattle.unit_allocator.specs.Units.{Space}
 use Rattle.store_steps.specs.Opened.{Found}
-use Rattle.store_facts.specs.Space.{AreGoodRows, IsSpaceOf, IsFreeExactly}
+use Rattle.plan_rows.specs.Keeps.{IsGood}
+use Rattle.store_facts.specs.Space.{IsSpaceOf}
 use Rattle.log_replay.specs.Opening.{IsAbout, IsFoundIn, HasLowNumbers, AreUnmarkedFree}
 use Rattle.log_replay.specs.Stale.{AreNotZero}
 use Rattle.log_replay.specs.Clearing.{IsCleared, ClearsSoFar}
@@ -40,10 +41,9 @@ pub record IsFoundOn (d : Disk) (s : FoundStore) : Type 0 where
 
 -- A kernel can be opened on it, with these free units: all whose bits are 0.
 pub record IsJudged (f : Found) (space : Space) : Type 0 where
-  pub good : AreGoodRows f.sup f.rows f.rows
+  pub good : IsGood f.sup f.rows
   pub numbers : HasLowNumbers f
   pub units : IsSpaceOf f.sup space
-  pub free : IsFreeExactly f.sup f.rows f.rows space
   pub unmarked : AreUnmarkedFree f space
 
 -- what is behind its records was cleared, in so many events

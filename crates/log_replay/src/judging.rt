@@ -5,7 +5,8 @@ ghost use Rattle.meta_log.specs.Slots.{IsSuper};
 ghost use Rattle.store_image.specs.Owners.{IsDataUnit};
 ghost use Rattle.bitmap_freelist.specs.Bitmap.{AreMarked};
 ghost use Rattle.unit_allocator.specs.Units.{is_free};
-ghost use Rattle.store_facts.specs.Space.{AreGoodRows, IsSpaceOf};
+ghost use Rattle.plan_rows.specs.Keeps.{IsGood};
+ghost use Rattle.store_facts.specs.Space.{IsSpaceOf};
 ghost use Rattle.log_replay.specs.Opening.{HasLowNumbers, IsWornOut, IsRefused};
 ghost use Rattle.log_replay.specs.FoundOn.{IsJudged, as_found};
 
@@ -23,7 +24,7 @@ const HIGH: u64 = 1 << 61;
 /// The units that the bitmap marks, where no row is bad and each owned unit is marked and has one owner.
 fn units_of_rows(alloc: Global, found: &FoundStore) -> Result<UnitSet, MountFail>
     requires { IsSuper found.now.sup }
-    ensures good { OnOk result (AreGoodRows found.now.sup found.now.log.rows.rows found.now.log.rows.rows) }
+    ensures good { OnOk result (IsGood found.now.sup found.now.log.rows.rows) }
     ensures marked { IfOk result (AreMarked found.now.log.rows.rows) }
     ensures refused { IfErr result (λ fail. IsRefused fail (as_found found.now)) }
 {

@@ -1,5 +1,5 @@
 //! The superblock of a device, and why a mount opens no store.
-ghost use Rattle.std.specs.Prelude.{◌≡◌, ◌⊎◌, ◌≤◌, ◌<◌, [], IfOk, IfSome, IsErrOf, MatchOption};
+ghost use Rattle.std.specs.Prelude.{◌≡◌, ◌≤◌, ◌<◌, [], IfOk, IfSome, IsErrOf, MatchOption};
 ghost use Rattle.block_device.specs.Disk.{Rose};
 ghost use Rattle.meta_log.specs.declared.slot.Super.{Super};
 ghost use Rattle.meta_log.specs.Slots.{IsSuper, IsSlotOf, IsValidSlot, IsActiveSlot};
@@ -98,7 +98,8 @@ pub fn find_super<D: Device>(alloc: Global, dev: &mut D) -> Result<Option<Super>
 
 /// The same cause, of a mount.
 pub fn failed(failed: Failed) -> MountFail
-    ensures { result ≡ MountFail.Memory ⊎ (result ≡ MountFail.Fault × failed ≡ Failed.Fault) }
+    ensures memory { failed ≡ Failed.Memory → result ≡ MountFail.Memory }
+    ensures fault { failed ≡ Failed.Fault → result ≡ MountFail.Fault }
 {
     match failed {
         Failed::Memory => MountFail::Memory,

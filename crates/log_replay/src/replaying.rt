@@ -1,9 +1,8 @@
 //! The active half of the log is read, and its records make the rows.
-ghost use Rattle.std.specs.Prelude.{◌≡◌, ◌≤◌, ◌+◌, [], OnOk, IfOk, IfErr, IsErrOf};
+ghost use Rattle.std.specs.Prelude.{◌≡◌, ◌≤◌, ◌+◌, [], IfOk, IfErr, IsErrOf};
 ghost use Rattle.block_device.specs.Disk.{Rose};
 ghost use Rattle.meta_log.specs.declared.slot.Super.{Super};
-ghost use Rattle.meta_log.specs.Slots.{IsSuper, IsActiveSlot};
-ghost use Rattle.log_replay.specs.Opening.{IsAbout, FailsMount};
+ghost use Rattle.log_replay.specs.Opening.{FailsMount};
 ghost use Rattle.log_replay.specs.HalfReading.{IsNew, HasReplayed, IsHalfRead};
 ghost use Rattle.log_replay.specs.FoundOn.{IsFoundOn};
 
@@ -110,7 +109,7 @@ pub fn find_store<D: Device>(alloc: Global, dev: &mut D) -> Result<FoundStore, M
     let Some(sup) = found else {
         return Err(MountFail::NoSuper);
     };
-    let active = 2 + sup.half * (sup.epoch % 2) as u32;
+    let active = sup.active_unit();
     match read_half(alloc, dev, active, sup.half, sup.first) {
         Ok((log, stale)) => Ok(FoundStore { sup, log, stale }),
         Err(why) => Err(failed(why)),

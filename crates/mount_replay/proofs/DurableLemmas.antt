@@ -38,7 +38,7 @@ use Rattle.log_facts.proofs.Mounting.{fresh_slots}
 use Rattle.log_facts.proofs.Reading.{half_inside}
 use Rattle.log_facts.proofs.Found.{found_records, records_push, records_left, objects_left, cleared_half}
 use Rattle.store_steps.specs.Opened.{Found}
-use Rattle.store_facts.proofs.RowsPages.{owned_on_data}
+use Rattle.plan_rows.proofs.OnData.{owned_on_data}
 use Rattle.crash_facts.specs.Store.{contents_at, IsMounted}
 use Rattle.log_replay.specs.Cleared.{IsAllClean}
 use Rattle.log_replay.specs.Zeroing.{IsZeroing}

@@ -12,7 +12,8 @@ use Rattle.store_image.specs.Durability.{IsStart, EachCutStands}
 use Rattle.unit_allocator.specs.Units.{Space}
 use Rattle.store_steps.specs.State.{State}
 use Rattle.store_steps.specs.Opened.{Found, opened}
-use Rattle.store_facts.specs.Space.{AreGoodRows}
+use Rattle.plan_rows.specs.Keeps.{IsGood}
+use Rattle.space_facts.proofs.Spaces.{counted_none}
 use Rattle.store_facts.specs.Kept.{IsOpenable, IsKept}
 use Rattle.store_facts.proofs.Kept.{kept_open}
 use Rattle.crash_facts.specs.Store.{KeepsDurable, IsMounted}
@@ -75,7 +76,7 @@ pub stale_between : (s : FoundStore) (half units : List ℕ) → units ≡ s.sta
 stale_between s half units is tail stale = all_of_contained (λ unit. (first_behind s ≤ unit) × (unit < half_end s)) units
     (λ unit here. let there = stale.each unit (subst (λ (l : List ℕ). Contains l unit) is here) in (there.from, omega (arith, there.to, tail)))
 
-module _ (s : FoundStore) (d : Disk) (sound : IsSound d) (found : IsFoundOn d s) (good : AreGoodRows s.sup s.log.rows.rows s.log.rows.rows) where
+module _ (s : FoundStore) (d : Disk) (sound : IsSound d) (found : IsFoundOn d s) (good : IsGood s.sup s.log.rows.rows) where
   f : Found
   f = as_found s
 
@@ -160,7 +161,7 @@ module _ (s : FoundStore) (d : Disk) (sound : IsSound d) (found : IsFoundOn d s)
     tail = found.tail;
     good = judged.good;
     space = judged.units;
-    free = judged.free;
+    counted = counted_none s.sup s.log.rows.rows space judged.unmarked;
   }
 
   pub opened_kept : (space : Space) (count : ℕ) (now : Disk) → IsSound now → now.flights ≡ [] → now.units ≡ d.units → count ≤ 4194308

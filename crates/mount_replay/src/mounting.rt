@@ -35,7 +35,7 @@ fn clear_log<D: Device>(alloc: Global, dev: &mut D, found: &FoundStore) -> Resul
     ensures cause { IsErrOf result Failed.Fault → Rose (D.faults dev.old) (D.faults dev.new) }
 {
     let _ = dev.units();
-    let active = 2 + found.sup.half * (found.sup.epoch % 2) as u32;
+    let active = found.sup.active_unit();
     clear_behind(
         alloc,
         dev,

@@ -1,5 +1,5 @@
 -- Answers to commands that read, from the parts that were read.
-use Rattle.std.proofs.Common.{◌≡◌, ℕ, ◌+◌, ◌/◌, ◌≤◌, Bool, true, false, cond, List, take, drop, Option, Some, None, is_some, sym, ap, subst, arith}
+use Rattle.std.proofs.Common.{◌≡◌, ℕ, ◌+◌, ◌/◌, ◌≤◌, Bool, true, false, cond, List, take, drop, Option, Some, None, is_some, refl, sym, ap, subst, arith}
 use Rattle.std.specs.Prelude.{not, nat_lt, Result, Ok, Err, IsOk, IfOk, IfErr, MatchOption}
 use Rattle.std.specs.FinMap as finite
 use Rattle.std.proofs.lemmas.Bool.{le-ltb}
@@ -19,13 +19,15 @@ use Rattle.unit_fields.specs.declared.width.Width.{Width}
 use Rattle.row_format.specs.Extents.{Extent, own}
 use Rattle.row_format.specs.Keys.{coll_key, onode_key}
 use Rattle.row_format.specs.Row.{onode}
-use Rattle.store_image.specs.Pages.{HasKey, HasOnode, IsPageAt}
+use Rattle.store_image.specs.Pages.{HasKey, HasOnode, IsPageAt, HasPage}
 use Rattle.store_image.proofs.PageMap.{in_place}
-use Rattle.object_rows.specs.Writes.{IsSizeOf, missing, there}
+use Rattle.store_image.proofs.PageUnits.{on_own}
+use Rattle.page_lookup.specs.Found.{place_found}
+use Rattle.plan_rows.specs.Layouts.{IsSizeOf, missing, there}
 use Rattle.object_rows.proofs.GoodPages.{good_page}
 use Rattle.onode_state.specs.Objects.{AreRowsOfAStore, AreRowsOfWidth, FindPagesOf}
 use Rattle.read_facts.specs.declared.view.BadSum.{BadSum}
-use Rattle.read_facts.specs.PageReads.{pages_read}
+use Rattle.read_facts.specs.PageReads.{IsHeldAt, no_memory, pages_read}
 use Rattle.read_facts.specs.Refusals.{IsRefusedBy, IsNotRefused}
 use Rattle.read_facts.specs.Answers.{Gives, IsAnswerOf}
 use Rattle.read_facts.specs.Walks.{IsObject}
@@ -40,11 +42,11 @@ use Rattle.object_reader.specs.Parts.{CanRead, IsPartFail, GivesRange, GivesSum}
 use Rattle.object_reader.specs.PartFails.{IsCsumOf, IsSumOf}
 
 -- rows that can be read are a store's
-pub rows_of_a_store : (w : Width) (rows : Rows) (d : Disk) → IsReadable w rows d → AreRowsOfAStore rows
-rows_of_a_store w rows d can = record { sup = can.sup; limits = can.limits; good = can.good }
+pub rows_of_a_store : (w : Width) (memory : ℕ → Option (List ℕ)) (rows : Rows) (d : Disk) → IsReadable w memory rows d → AreRowsOfAStore rows
+rows_of_a_store w memory rows d can = record { sup = can.sup; limits = can.limits; good = can.good }
 
-pub rows_of_width : (w : Width) (rows : Rows) (d : Disk) → IsReadable w rows d → AreRowsOfWidth w rows
-rows_of_width w rows d can = record { store = rows_of_a_store w rows d can; wide = can.wide }
+pub rows_of_width : (w : Width) (memory : ℕ → Option (List ℕ)) (rows : Rows) (d : Disk) → IsReadable w memory rows d → AreRowsOfWidth w rows
+rows_of_width w memory rows d can = record { store = rows_of_a_store w memory rows d can; wide = can.wide }
 
 -- what each value keeps holds of the result
 pub ok_of : {T E : Type 0} (result : Result T E) (P Q : T → Type 0) → ((x : T) → P x → Q x) → IfOk result P → IfOk result Q
@@ -92,15 +94,26 @@ pub has_size : (rows : Rows) (c o : List ℕ) (size : ℕ) → HasKey rows (onod
 has_size rows c o size key (missing none) = absurd (let gone : is_some (finite.get rows (onode_key c o)) ≡ false = ap is_some none in cc)
 has_size rows c o size key (there n has) = has
 
-module _ (w : Width) (d : Disk) (rows : Rows) (c o : List ℕ) (size : ℕ) (pages : List Extent) (can : IsReadable w rows d)
+module _ (w : Width) (d : Disk) (rows : Rows) (c o : List ℕ) (size : ℕ) (pages : List Extent) (can : IsReadable w no_memory rows d)
     (was_long : IsSizeOf rows c o size) (are_pages : FindPagesOf w rows c o pages) (key : HasKey rows (onode_key c o)) where
   has : HasOnode rows c o size
   has = has_size rows c o size key was_long
 
+  -- a page that is found stands on its unit
+  page_on : (page unit csum : ℕ) → place_found pages page ≡ Some (own unit csum) → HasPage w rows unit
+  page_on page unit csum at = record {
+    coll = c;
+    object = o;
+    page = page;
+    on = record { unit = unit; csum = csum };
+    is_on = on_own w rows c o page unit csum ((are_pages page (own unit csum)).0 at);
+    is_unit = refl;
+  }
+
   pub can_read : CanRead d pages
   can_read = record {
-    idle = can.idle;
     units_most = omega (arith, can.units, can.limits.units_most);
+    free = λ page unit csum at. can.free unit (page_on page unit csum at) refl;
     inside = λ page unit csum at.
         let here = subst (λ v. IsPageAt v rows c o page (own unit csum)) (sym can.wide) ((are_pages page (own unit csum)).0 at) in
         let good = good_page can.sup rows c o can.good size page (own unit csum) has here in
@@ -112,20 +125,21 @@ module _ (w : Width) (d : Disk) (rows : Rows) (c o : List ℕ) (size : ℕ) (pag
 
   -- the bytes of a range
   pub bytes_answer : (off len : ℕ) (bytes : List ℕ) → IsNotRefused rows (ask.Read c o off len) → GivesRange d pages size off len bytes
-      → IsAnswerOf w d rows (ask.Read c o off len) (answer.Bytes bytes)
+      → IsAnswerOf w no_memory (IsHeldAt d) rows (ask.Read c o off len) (answer.Bytes bytes)
   bytes_answer off len bytes none gives =
       (none, (size, record { has_size = has; pages = gives.whole; good = gives.good.good w rows c o are_pages; cut = gives.cut }))
 
   -- a bad page of a range
   pub read_fails : (off len : ℕ) (fail : PartFail) (a : Answer) → IsNotRefused rows (ask.Read c o off len)
-      → IsPartFail d pages (off / 4096) (pages_read size off len) fail → IsCsumOf fail a → IsAnswerOf w d rows (ask.Read c o off len) a
-  read_fails off len (why.BadPage bad) a none fails is = subst (IsAnswerOf w d rows (ask.Read c o off len)) (sym is)
+      → IsPartFail d pages (off / 4096) (pages_read size off len) fail → IsCsumOf fail a
+      → IsAnswerOf w no_memory (IsHeldAt d) rows (ask.Read c o off len) a
+  read_fails off len (why.BadPage bad) a none fails is = subst (IsAnswerOf w no_memory (IsHeldAt d) rows (ask.Read c o off len)) (sym is)
       (none, (size, record { has_size = has; first_bad = fails w rows c o are_pages }))
   read_fails off len why.Memory a none fails is = absurd is
   read_fails off len why.Fault a none fails is = absurd is
 
   -- the checksum of all bytes
-  gives_sum : (crc : ℕ) → GivesSum d pages size crc → Gives w d rows (ask.Sum c o) (answer.Sum size crc)
+  gives_sum : (crc : ℕ) → GivesSum d pages size crc → Gives w no_memory (IsHeldAt d) rows (ask.Sum c o) (answer.Sum size crc)
   gives_sum crc gives =
       let whole = gives.gives in (
         gives.bytes,
@@ -133,29 +147,31 @@ module _ (w : Width) (d : Disk) (rows : Rows) (c o : List ℕ) (size : ℕ) (pag
       )
 
   gives_bad : (bad : BadSum) → IsPartFail d pages 0 (pages_read size 0 size) (why.BadPage bad)
-      → Gives w d rows (ask.Sum c o) (answer.Csum bad.unit bad.kept bad.found)
+      → Gives w no_memory (IsHeldAt d) rows (ask.Sum c o) (answer.Csum bad.unit bad.kept bad.found)
   gives_bad bad fails = (size, record { has_size = has; first_bad = fails w rows c o are_pages })
 
   pub sum_gives : (crc : ℕ) → IsNotRefused rows (ask.Sum c o) → GivesSum d pages size crc
-      → IsAnswerOf w d rows (ask.Sum c o) (answer.Sum size crc)
+      → IsAnswerOf w no_memory (IsHeldAt d) rows (ask.Sum c o) (answer.Sum size crc)
   sum_gives crc none gives = (none, gives_sum crc gives)
 
   pub sum_fails : (fail : PartFail) (a : Answer) → IsNotRefused rows (ask.Sum c o) → IsPartFail d pages 0 (pages_read size 0 size) fail
-      → IsCsumOf fail a → IsAnswerOf w d rows (ask.Sum c o) a
-  sum_fails (why.BadPage bad) a none fails is = subst (IsAnswerOf w d rows (ask.Sum c o)) (sym is) (none, gives_bad bad fails)
+      → IsCsumOf fail a → IsAnswerOf w no_memory (IsHeldAt d) rows (ask.Sum c o) a
+  sum_fails (why.BadPage bad) a none fails is = subst (IsAnswerOf w no_memory (IsHeldAt d) rows (ask.Sum c o)) (sym is) (none, gives_bad bad fails)
   sum_fails why.Memory a none fails is = absurd is
   sum_fails why.Fault a none fails is = absurd is
 
   -- what a view shows
   sums : (read : Result ℕ PartFail) (sum : Result ℕ BadSum) → IfOk read (GivesSum d pages size)
-      → IfErr read (IsPartFail d pages 0 (pages_read size 0 size)) → IsSumOf read sum → Gives w d rows (ask.Sum c o) (sum_answer size sum)
-  sums (Ok crc) sum good fails is = subst (λ (s : Result ℕ BadSum). Gives w d rows (ask.Sum c o) (sum_answer size s)) (sym is) (gives_sum crc good)
+      → IfErr read (IsPartFail d pages 0 (pages_read size 0 size)) → IsSumOf read sum
+      → Gives w no_memory (IsHeldAt d) rows (ask.Sum c o) (sum_answer size sum)
+  sums (Ok crc) sum good fails is =
+      subst (λ (s : Result ℕ BadSum). Gives w no_memory (IsHeldAt d) rows (ask.Sum c o) (sum_answer size s)) (sym is) (gives_sum crc good)
   sums (Err (why.BadPage bad)) sum good fails is =
-      subst (λ (s : Result ℕ BadSum). Gives w d rows (ask.Sum c o) (sum_answer size s)) (sym is) (gives_bad bad fails)
+      subst (λ (s : Result ℕ BadSum). Gives w no_memory (IsHeldAt d) rows (ask.Sum c o) (sum_answer size s)) (sym is) (gives_bad bad fails)
   sums (Err why.Memory) sum good fails is = absurd is
   sums (Err why.Fault) sum good fails is = absurd is
 
   pub shows : (read : Result ℕ PartFail) (sum : Result ℕ BadSum) → IsObject rows c o → IfOk read (GivesSum d pages size)
       → IfErr read (IsPartFail d pages 0 (pages_read size 0 size)) → IsSumOf read sum
-      → IsViewOf w d rows c (record { name = o; size = size; sum = sum })
+      → IsViewOf w no_memory (IsHeldAt d) rows c (record { name = o; size = size; sum = sum })
   shows read sum is good fails same = record { is = is; has_size = has; sums = sums read sum good fails same }

@@ -1,6 +1,6 @@
 -- Runs of pages, and what reads of them give.
 use Rattle.std.proofs.Common.{◌≡◌, inl, inr, ℕ, ◌+◌, ◌-◌, ◌*◌, ◌<◌, ◌≤◌, List, [], ◌++◌, length, take, set, get_or, Option, Some, None, refl, sym, ap, subst, ◌∙◌, arith, length-append}
-use Rattle.std.specs.Prelude.{IfSome, All, Result, Ok, Err, IfErr, IsErr}
+use Rattle.std.specs.Prelude.{IfSome, Result, Ok, Err, IfErr, IsErr}
 use Rattle.std.specs.Result.{IsErrAnd}
 use Rattle.std.proofs.lemmas.Bool.{cases_lt}
 use Rattle.std.proofs.lemmas.List.{length-take-le, get_or-set_same, get_or-set_other}
@@ -9,7 +9,7 @@ use Rattle.byte_maps.proofs.UnitLemmas.{length-unit_at, length-zeros, unit_at-ze
 use Rattle.unit_fields.specs.declared.width.Width.{Width}
 use Rattle.crc32c_csum.specs.Crc32c.{after_bits, crc32c}
 use Rattle.block_device.specs.Log.{last, HasNoBadDone}
-use Rattle.block_device.specs.Disk.{Disk, History, HasRead, IsApart, IsNotInFlight}
+use Rattle.block_device.specs.Disk.{Disk, History, HasRead, Flight, IsApart, IsNotInFlight}
 use Rattle.block_device.specs.Facts.{last_at}
 use Rattle.meta_rows.specs.Rows.{Rows}
 use Rattle.row_format.specs.Extents.{Extent, Place, own}
@@ -17,7 +17,7 @@ use Rattle.store_image.proofs.PageUnits.{on_own}
 use Rattle.page_lookup.specs.Found.{place_found, HasUnit}
 use Rattle.onode_state.specs.Objects.{FindPagesOf}
 use Rattle.read_facts.specs.declared.view.BadSum.{BadSum}
-use Rattle.read_facts.specs.PageReads.{IsHeldAt, IsGoodPage, hole, mapped, AreGoodPages, IsFirstBad}
+use Rattle.read_facts.specs.PageReads.{IsHeldAt, no_memory, IsGoodPage, hole, mapped, AreGoodPages, IsFirstBad}
 use Rattle.read_facts.proofs.Pages.{good_appended, none_good, bad_behind_good}
 use Rattle.object_reader.specs.declared.parts.PartFail.{PartFail}
 use Rattle.object_reader.specs.declared.parts.PartFail.TheVariants as why
@@ -94,9 +94,32 @@ run_inside d pages first at count can on some =
     let below : at + (count - 1) < d.units = can.inside (first + (count - 1)) (at + (count - 1)) last.0 last.1 in
     omega (arith, below, some)
 
--- nothing is in flight there
-pub none_flies : (d : Disk) (pages : List Extent) (at bytes : ℕ) → CanRead d pages → IsNotInFlight d at bytes
-none_flies d pages at bytes can = subst (λ fs. All (IsApart at bytes) fs) (sym can.idle) (λ k f lt. absurd (omega (arith, lt)))
+-- a run of units is apart from a flight where each of its units is
+run_apart : (at count : ℕ) (f : Flight) → 0 < count → ((i : ℕ) → i < count → IsApart (at + i) 4096 f) → IsApart at (4096 * count) f
+run_apart at count f some each = elim (cases_lt f.first at) [
+  | inl below ↦ of_first (each 0 some) below
+  | inr from ↦
+      elim (cases_lt f.first (at + count)) [
+        | inl inside ↦ of_inside from (each (f.first - at) (omega (arith, from, inside)))
+        | inr past ↦ inr (inr (omega (arith, past)))
+      ]
+]
+  where
+    of_first : IsApart (at + 0) 4096 f → f.first < at → IsApart at (4096 * count) f
+    of_first (inl none) below = inl none
+    of_first (inr (inl before)) below = inr (inl (omega (arith, before)))
+    of_first (inr (inr behind)) below = absurd (omega (arith, behind, below))
+
+    of_inside : at ≤ f.first → IsApart (at + (f.first - at)) 4096 f → IsApart at (4096 * count) f
+    of_inside from (inl none) = inl none
+    of_inside from (inr (inl before)) = inl (omega (arith, from, before))
+    of_inside from (inr (inr behind)) = absurd (omega (arith, from, behind))
+
+-- no write in flight touches the units of a run
+pub run_free : (d : Disk) (pages : List Extent) (first at count : ℕ) → CanRead d pages → AreOnUnits pages first at count → 0 < count
+    → IsNotInFlight d at (4096 * count)
+run_free d pages first at count can on some =
+    λ k f below. run_apart at count (get_or d.flights k f) some (λ i lt. can.free (first + i) (at + i) (on i lt).0 (on i lt).1 k f below)
 
 -- what was read is what the units hold
 held_by : (told : Option History) (at count i : ℕ) (bytes : List ℕ) → i < count
@@ -112,11 +135,11 @@ held d at count i bytes read lt = held_by d.history at count i bytes lt read.uni
 good_unit : (w : Width) (d : Disk) (pages : List Extent) (first at count i : ℕ) (bytes : List ℕ) (rows : Rows) (c o : List ℕ)
     → AreOnUnits pages first at count
     → HasRead d at count bytes → FindPagesOf w rows c o pages → i < count → IsChecked pages (first + i) (unit_at i bytes)
-    → IsGoodPage w d rows c o (first + i) (unit_at i bytes)
+    → IsGoodPage w no_memory (IsHeldAt d) rows c o (first + i) (unit_at i bytes)
 good_unit w d pages first at count i bytes rows c o on read is lt checked =
     let stand = on i lt in
     let there = on_own w rows c o (first + i) (at + i) stand.0 ((is (first + i) (own (at + i) stand.0)).0 stand.1) in
-    mapped (record { unit = at + i; csum = stand.0 }) there (held d at count i bytes read lt) (checked (at + i) stand.0 stand.1)
+    mapped (record { unit = at + i; csum = stand.0 }) there (held d at count i bytes read lt, checked (at + i) stand.0 stand.1)
 
 -- pages on consecutive units that were read, with the checksums that are kept for them, are good
 pub good_units : (d : Disk) (pages : List Extent) (first at count : ℕ) (bytes : List ℕ) → AreOnUnits pages first at count → HasRead d at count bytes
@@ -137,10 +160,10 @@ unit_of_front n i bytes lt = piece_of_front (4096 * i) 4096 (4096 * n) bytes (om
 good_front : (w : Width) (d : Disk) (pages : List Extent) (first at count n : ℕ) (bytes : List ℕ) (rows : Rows) (c o : List ℕ)
     → AreOnUnits pages first at count
     → HasRead d at count bytes → FindPagesOf w rows c o pages → n < count → AreChecked pages first n bytes
-    → AreGoodPages w d rows c o first n (take (4096 * n) bytes)
+    → AreGoodPages w no_memory (IsHeldAt d) rows c o first n (take (4096 * n) bytes)
 good_front w d pages first at count n bytes rows c o on read is lt checked = record {
   size = length-take-le (4096 * n) bytes (omega (arith, lt, read.size));
-  each = λ i below. subst (IsGoodPage w d rows c o (first + i)) (sym (unit_of_front n i bytes below))
+  each = λ i below. subst (IsGoodPage w no_memory (IsHeldAt d) rows c o (first + i)) (sym (unit_of_front n i bytes below))
       (good_unit w d pages first at count i bytes rows c o on read is (omega (arith, below, lt)) (checked i below));
 }
 
@@ -162,9 +185,10 @@ bad_unit d pages first at count bytes sums bad kept read m w rows c o is =
           (sums_checked pages first at count m.index bytes sums (omega (arith, m.within)) kept m.before);
       bad = record {
         is_on = on_own w rows c o (first + m.index) bad.unit bad.kept ((is (first + m.index) (own bad.unit bad.kept)).0 there);
+        not_in_memory = refl;
         bytes = unit_at m.index bytes;
         size = length-unit_at m.index bytes whole;
-        held = subst (λ (u : ℕ). IsHeldAt d u (unit_at m.index bytes)) (sym m.unit) (held d at count m.index bytes read m.within);
+        holds = subst (λ (u : ℕ). IsHeldAt d u (unit_at m.index bytes)) (sym m.unit) (held d at count m.index bytes read m.within);
         is_found = m.is_found;
         differs = m.differs;
       };
@@ -195,7 +219,7 @@ good_holes d pages first count bytes are same = subst (GivesPages d pages first 
 
 -- the first bad page of some is the first of more
 bad_of_more : (w : Width) (d : Disk) (rows : Rows) (c o : List ℕ) (first count n unit kept found : ℕ) → count ≤ n
-    → IsFirstBad w d rows c o first count unit kept found → IsFirstBad w d rows c o first n unit kept found
+    → IsFirstBad w no_memory (IsHeldAt d) rows c o first count unit kept found → IsFirstBad w no_memory (IsHeldAt d) rows c o first n unit kept found
 bad_of_more w d rows c o first count n unit kept found le f = record {
   index = f.index;
   within = omega (arith, f.within, le);
@@ -218,8 +242,10 @@ pub fails_behind : (d : Disk) (pages : List Extent) (first next end : ℕ) (xs :
 fails_behind d pages first next end xs (why.BadPage bad) from below front is =
     λ w rows c o map.
     let same : next ≡ first + (next - first) = omega (arith, from) in
-    bad_behind_good w d rows c o first (next - first) (end - next) (end - first) bad.unit bad.kept bad.found xs (front.good w rows c o map)
-    (subst (λ (p : ℕ). IsFirstBad w d rows c o p (end - next) bad.unit bad.kept bad.found) same (is w rows c o map)) (omega (arith, from, below))
+    bad_behind_good w no_memory (IsHeldAt d) rows c o first (next - first) (end - next) (end - first) bad.unit bad.kept bad.found xs
+    (front.good w rows c o map)
+    (subst (λ (p : ℕ). IsFirstBad w no_memory (IsHeldAt d) rows c o p (end - next) bad.unit bad.kept bad.found) same (is w rows c o map))
+    (omega (arith, from, below))
 fails_behind d pages first next end xs why.Memory from below front is = tt
 fails_behind d pages first next end xs why.Fault from below front is = tt
 
@@ -229,7 +255,7 @@ fails_behind d pages first next end xs why.Fault from below front is = tt
 pub no_pages : (d : Disk) (pages : List Extent) (first n : ℕ) (bytes : List ℕ) → n ≡ 0 → bytes ≡ [] → GivesPages d pages first n bytes
 no_pages d pages first n bytes none empty = subst (GivesPages d pages first n) (sym empty)
     (subst (λ (m : ℕ). GivesPages d pages first m []) (sym none)
-    (record { size = refl; good = λ w rows c o is. none_good w d rows c o first }))
+    (record { size = refl; good = λ w rows c o is. none_good w no_memory (IsHeldAt d) rows c o first }))
 
 -- one run behind the others
 pub more_pages : (d : Disk) (pages : List Extent) (first next count : ℕ) (xs ys both : List ℕ) → first ≤ next → both ≡ xs ++ ys
@@ -238,9 +264,9 @@ more_pages d pages first next count xs ys both from is front back =
     let same : next ≡ first + (next - first) = omega (arith, from) in
     let many : (next - first) + count ≡ next + count - first = omega (arith, from) in
     let good = λ (w : Width) (rows : Rows) (c o : List ℕ) (is : FindPagesOf w rows c o pages).
-    subst (λ (n : ℕ). AreGoodPages w d rows c o first n (xs ++ ys)) many
-    (good_appended w d rows c o first (next - first) count xs ys (front.good w rows c o is)
-    (subst (λ (p : ℕ). AreGoodPages w d rows c o p count ys) same (back.good w rows c o is))) in
+    subst (λ (n : ℕ). AreGoodPages w no_memory (IsHeldAt d) rows c o first n (xs ++ ys)) many
+    (good_appended w no_memory (IsHeldAt d) rows c o first (next - first) count xs ys (front.good w rows c o is)
+    (subst (λ (p : ℕ). AreGoodPages w no_memory (IsHeldAt d) rows c o p count ys) same (back.good w rows c o is))) in
     subst (GivesPages d pages first (next + count - first)) (sym is) (record { size = both_sizes; good = good })
   where
     both_sizes : IsUnits (next + count - first) (xs ++ ys)

@@ -1,15 +1,16 @@
 -- Pages of an object read some at a time, each where it is found among the object's extents.
-use Rattle.std.specs.Prelude.{◌≡◌, ◌≢◌, ℕ, ◌+◌, ◌-◌, ◌/◌, ◌%◌, ◌<◌, ◌≤◌, List, [], take, drop, get_or, Some, None}
+use Rattle.std.specs.Prelude.{◌≡◌, ◌≢◌, ℕ, ◌+◌, ◌-◌, ◌/◌, ◌%◌, ◌<◌, ◌≤◌, List, take, drop, get_or, Some, None}
 use Rattle.byte_maps.specs.Units.{unit_at, zeros, IsUnits}
 use Rattle.unit_fields.specs.declared.width.Width.{Width}
 use Rattle.crc32c_csum.specs.Crc32c.{crc32c, remainder, all_ones}
 use Rattle.block_device.specs.Disk.{Disk, HasRead}
+use Rattle.block_device.specs.Facts.{IsUntouched}
 use Rattle.meta_rows.specs.Rows.{Rows}
 use Rattle.row_format.specs.Extents.{Extent, own}
 use Rattle.page_lookup.specs.Found.{place_found}
 use Rattle.onode_state.specs.Objects.{FindPagesOf}
 use Rattle.read_facts.specs.declared.view.BadSum.{BadSum}
-use Rattle.read_facts.specs.PageReads.{AreGoodPages, IsFirstBad, read_end, pages_read}
+use Rattle.read_facts.specs.PageReads.{IsHeldAt, no_memory, AreGoodPages, IsFirstBad, read_end, pages_read}
 use Rattle.object_reader.specs.declared.parts.Run.{Run}
 use Rattle.object_reader.specs.declared.parts.Run.TheVariants.{Hole, Units}
 use Rattle.object_reader.specs.declared.parts.PartFail.{PartFail}
@@ -19,10 +20,10 @@ use Rattle.object_reader.specs.declared.parts.PartFail.TheVariants as why
 abbrev pub HaveFewUnits : List Extent → Type 0
 HaveFewUnits pages = (page unit csum : ℕ) → place_found pages page ≡ Some (own unit csum) → unit < 1048576
 
--- these pages can be read: nothing is in flight, and each stands inside the device
+-- these pages can be read: each stands inside the device, on a unit that is in no flight
 pub record CanRead (d : Disk) (pages : List Extent) : Type 0 where
-  pub idle : d.flights ≡ []
   pub units_most : d.units ≤ 1048576
+  pub free : (page unit csum : ℕ) → place_found pages page ≡ Some (own unit csum) → IsUntouched d.flights unit
   pub inside : (page unit csum : ℕ) → place_found pages page ≡ Some (own unit csum) → unit < d.units
 
 -- the page stands on the unit, which is the object's own
@@ -73,12 +74,14 @@ pub record IsMismatch (at count : ℕ) (bytes sums : List ℕ) (bad : BadSum) : 
 -- bytes
 pub record GivesPages (d : Disk) (pages : List Extent) (first count : ℕ) (bytes : List ℕ) : Type 0 where
   pub size : IsUnits count bytes
-  pub good : (w : Width) (rows : Rows) (c o : List ℕ) → FindPagesOf w rows c o pages → AreGoodPages w d rows c o first count bytes
+  pub good : (w : Width) (rows : Rows) (c o : List ℕ) → FindPagesOf w rows c o pages
+      → AreGoodPages w no_memory (IsHeldAt d) rows c o first count bytes
 
 -- of each object with these pages, it is the first bad page of so many
 abbrev pub GivesBad : Disk → List Extent → ℕ → ℕ → BadSum → Type 0
 GivesBad d pages first count bad =
-    (w : Width) (rows : Rows) (c o : List ℕ) → FindPagesOf w rows c o pages → IsFirstBad w d rows c o first count bad.unit bad.kept bad.found
+    (w : Width) (rows : Rows) (c o : List ℕ) → FindPagesOf w rows c o pages
+    → IsFirstBad w no_memory (IsHeldAt d) rows c o first count bad.unit bad.kept bad.found
 
 -- what a failed read of so many pages says of them
 abbrev pub IsPartFail : Disk → List Extent → ℕ → ℕ → PartFail → Type 0

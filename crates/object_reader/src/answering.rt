@@ -9,6 +9,7 @@ ghost use Rattle.block_device.specs.Disk.{Disk};
 ghost use Rattle.unit_fields.specs.Names.{IsName, IsCollName};
 ghost use Rattle.row_format.specs.Keys.{coll_key, onode_key};
 ghost use Rattle.store_image.specs.Pages.{HasKey};
+ghost use Rattle.read_facts.specs.PageReads.{IsHeldAt, no_memory};
 ghost use Rattle.read_facts.specs.Refusals.{IsRefusedBy};
 ghost use Rattle.read_facts.specs.Answers.{IsKnownRead, HasReadNames, IsAnswerOf};
 ghost use Rattle.object_reader.specs.Missing.{IsCollMissing, IsObjectMissing, HasObject};
@@ -37,10 +38,10 @@ pub fn answer<D: Device>(
     rows: &RowTable,
     command: &Command,
 ) -> Result<Answer, ReadFail>
-    requires readable { IsReadable width rows.now.rows (D.disk device.old) }
+    requires readable { IsReadable width no_memory rows.now.rows (D.disk device.old) }
     requires known { IsKnownRead command.now }
     ensures names { HasReadNames command.now }
-    ensures ok { IfOk result (IsAnswerOf width (D.disk device.old) rows.now.rows command.now) }
+    ensures ok { IfOk result (IsAnswerOf width no_memory (IsHeldAt (D.disk device.old)) rows.now.rows command.now) }
     ensures same { D.disk device.new ≡ D.disk device.old }
     ensures later { D.faults device.old ≤ D.faults device.new }
     ensures cause { IsErrOf result ReadFail.Fault → Rose (D.faults device.old) (D.faults device.new) }
@@ -151,9 +152,9 @@ fn answer_read<D: Device>(
     off: u64,
     len: u64,
 ) -> Result<Answer, ReadFail>
-    requires readable { IsReadable width rows.now.rows (D.disk device.old) }
+    requires readable { IsReadable width no_memory rows.now.rows (D.disk device.old) }
     ensures names { IsCollName coll.now × IsName object.now }
-    ensures ok { IfOk result (IsAnswerOf width (D.disk device.old) rows.now.rows (ask.Read coll.now object.now off len)) }
+    ensures ok { IfOk result (IsAnswerOf width no_memory (IsHeldAt (D.disk device.old)) rows.now.rows (ask.Read coll.now object.now off len)) }
     ensures same { D.disk device.new ≡ D.disk device.old }
     ensures later { D.faults device.old ≤ D.faults device.new }
     ensures cause { IsErrOf result ReadFail.Fault → Rose (D.faults device.old) (D.faults device.new) }
@@ -177,9 +178,9 @@ fn answer_sum<D: Device>(
     coll: &CollName,
     object: &Name,
 ) -> Result<Answer, ReadFail>
-    requires readable { IsReadable width rows.now.rows (D.disk device.old) }
+    requires readable { IsReadable width no_memory rows.now.rows (D.disk device.old) }
     ensures names { IsCollName coll.now × IsName object.now }
-    ensures ok { IfOk result (IsAnswerOf width (D.disk device.old) rows.now.rows (ask.Sum coll.now object.now)) }
+    ensures ok { IfOk result (IsAnswerOf width no_memory (IsHeldAt (D.disk device.old)) rows.now.rows (ask.Sum coll.now object.now)) }
     ensures same { D.disk device.new ≡ D.disk device.old }
     ensures later { D.faults device.old ≤ D.faults device.new }
     ensures cause { IsErrOf result ReadFail.Fault → Rose (D.faults device.old) (D.faults device.new) }
@@ -203,7 +204,7 @@ fn answer_stat(
 ) -> Result<Answer, AllocError>
     requires { AreRowsOfAStore rows.now.rows }
     ensures names { IsCollName coll.now × IsName object.now }
-    ensures ok { IfOk result (λ a. (width : Width) (d : Disk) → IsAnswerOf width d rows.now.rows (ask.Stat coll.now object.now) a) }
+    ensures ok { IfOk result (λ a. (width : Width) (d : Disk) → IsAnswerOf width no_memory (IsHeldAt d) rows.now.rows (ask.Stat coll.now object.now) a) }
 {
     if let Some(refusal) = object_refusal(alloc, rows, coll, object)? {
         return Ok(Answer::Refused(refusal));
@@ -214,7 +215,7 @@ fn answer_stat(
 fn answer_list(alloc: Global, rows: &RowTable, coll: &CollName) -> Result<Answer, AllocError>
     requires { AreRowsOfAStore rows.now.rows }
     ensures names { IsCollName coll.now }
-    ensures ok { IfOk result (λ a. (width : Width) (d : Disk) → IsAnswerOf width d rows.now.rows (ask.List coll.now) a) }
+    ensures ok { IfOk result (λ a. (width : Width) (d : Disk) → IsAnswerOf width no_memory (IsHeldAt d) rows.now.rows (ask.List coll.now) a) }
 {
     coll_name_is_one(coll);
     if let Some(refusal) = coll_refusal(alloc, rows, coll)? {

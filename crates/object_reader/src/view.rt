@@ -2,6 +2,7 @@
 ghost use Rattle.std.specs.Prelude.{◌≡◌, ◌≤◌, IfOk, IsErrOf, MatchOption};
 ghost use Rattle.std.specs.Option.{option_copied};
 ghost use Rattle.block_device.specs.Disk.{Rose};
+ghost use Rattle.read_facts.specs.PageReads.{IsHeldAt, no_memory};
 ghost use Rattle.read_facts.specs.Walks.{IsObject, IsPast};
 ghost use Rattle.read_facts.specs.Views.{IsViewOf};
 ghost use Rattle.object_reader.specs.PartFails.{IsSumOf};
@@ -40,10 +41,10 @@ fn view_of<D: Device>(
     coll: &CollName,
     name: Name,
 ) -> Result<ObjectView, ReadFail>
-    requires readable { IsReadable width rows.now.rows (D.disk device.old) }
+    requires readable { IsReadable width no_memory rows.now.rows (D.disk device.old) }
     requires is { IsObject rows.now.rows coll.now name }
     ensures name { IfOk result (λ view. view.name ≡ name) }
-    ensures ok { IfOk result (IsViewOf width (D.disk device.old) rows.now.rows coll.now) }
+    ensures ok { IfOk result (IsViewOf width no_memory (IsHeldAt (D.disk device.old)) rows.now.rows coll.now) }
     ensures same { D.disk device.new ≡ D.disk device.old }
     ensures later { D.faults device.old ≤ D.faults device.new }
     ensures cause { IsErrOf result ReadFail.Fault → Rose (D.faults device.old) (D.faults device.new) }
@@ -64,9 +65,9 @@ pub fn next_object<D: Device>(
     coll: &CollName,
     after: Option<&Name>,
 ) -> Result<Option<ObjectView>, ReadFail>
-    requires readable { IsReadable width rows.now.rows (D.disk device.old) }
+    requires readable { IsReadable width no_memory rows.now.rows (D.disk device.old) }
     ensures ok { IfOk result (λ found. MatchOption found (IsPast (IsObject rows.now.rows coll.now) (option_copied after.entry))
-        (IsNextView width (D.disk device.old) rows.now.rows coll.now (option_copied after.entry))) }
+        (IsNextView width no_memory (IsHeldAt (D.disk device.old)) rows.now.rows coll.now (option_copied after.entry))) }
     ensures same { D.disk device.new ≡ D.disk device.old }
     ensures later { D.faults device.old ≤ D.faults device.new }
     ensures cause { IsErrOf result ReadFail.Fault → Rose (D.faults device.old) (D.faults device.new) }

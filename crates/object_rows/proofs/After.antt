@@ -21,8 +21,8 @@ use Rattle.store_image.proofs.PageUnits.{stands_still}
 use Rattle.row_facts.proofs.Bits.{bits_stay}
 use Rattle.row_facts.proofs.ObjectUnder.{object_cases}
 use Rattle.row_facts.proofs.Shapes.{SameOthers}
-use Rattle.object_rows.specs.Operations.{CanReplace, replaced, IsKeyOf, IsOther, HasUnit, IsOwnedElsewhere}
-use Rattle.object_rows.specs.Layouts.{AreReplaced}
+use Rattle.object_rows.specs.Operations.{CanReplace, replaced, IsOther, HasUnit, IsOwnedElsewhere}
+use Rattle.plan_rows.specs.Layouts.{IsKeyOf, AreReplaced}
 use Rattle.object_rows.proofs.Ops.{are_replaced}
 
 -- the first extent begins at the page, or not

@@ -13,12 +13,12 @@ use Rattle.number_map.proofs.Search.{cmp_equal, cmp_less, cmp_greater, less_is}
 use Rattle.meta_rows.specs.Rows.{Rows}
 use Rattle.row_format.specs.Extents.{Place, own}
 use Rattle.store_image.specs.Pages.{IsPageAt}
-use Rattle.store_image.specs.Owners.{page_of, IsOwned, HasSoleOwner}
+use Rattle.store_image.specs.Owners.{page_of, Owns, HasSoleOwner}
 use Rattle.blob_map.specs.Pages.{PageMap}
-use Rattle.object_rows.specs.Maps.{IsMapOf}
-use Rattle.object_rows.specs.Plans.{own_units, units_between}
+use Rattle.plan_rows.specs.Layouts.{IsMapOf, own_units}
+use Rattle.object_rows.specs.Plans.{units_between}
 use Rattle.object_rows.specs.Writes.{StoodWritten}
-use Rattle.object_rows.specs.Planned.{StandsOnce}
+use Rattle.plan_rows.specs.Plans.{StandsOnce}
 use Rattle.object_rows.proofs.Wrote.{written_or_not}
 
 -- ---- elements
@@ -182,11 +182,11 @@ module _ (w : Width) (test : ℕ → Bool) where
     page_in : (page : ℕ) (place : Place) → In (entries pages) (page, place) → IsPageAt w rows c o page place
     page_in page place h = (are page place).0 (get-entries pages page ∙ in_found (entries pages) page place (entries_sorted pages) h)
 
-    -- a unit of theirs is owned, and stands once where it hasn't two owners
-    pub some_owned : (v : ℕ) → Contains (units_in (entries pages)) v → IsOwned w rows v
-    some_owned v k =
+    -- a page of the object owns a unit of theirs, which stands once where it hasn't two owners
+    pub some_owns : (v : ℕ) → Contains (units_in (entries pages)) v → (page : ℕ) × Owns w rows (page_of c o page) v
+    some_owns v k =
         let x = unit_stands (entries pages) v (at_in (units_in (entries pages)) v k.0 k.1 k.2) in
-        (page_of c o x.page, (x.csum, page_in x.page (own v x.csum) x.there))
+        (x.page, (x.csum, page_in x.page (own v x.csum) x.there))
 
     pub some_once : (v : ℕ) → HasSoleOwner w rows v → StandsOnce (units_in (entries pages)) v
     some_once v sole = once_of (units_in (entries pages)) v (units_differ (entries pages) v (entries_sorted pages) one)

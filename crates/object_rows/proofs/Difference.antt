@@ -12,8 +12,7 @@ use Rattle.meta_rows.specs.Rows.{Rows, row_after, rows_after, key_of, LeaveAlone
 use Rattle.meta_rows.specs.declared.row_op.RowOp.{RowOp}
 use Rattle.meta_rows.specs.declared.row_op.RowOp.TheVariants.{Set, Drop, Flip}
 use Rattle.meta_rows.proofs.RowLemmas.{get-insert_same, get-remove_same, get-row_after_other, get-rows_after_other}
-use Rattle.object_rows.specs.Difference.{Changes, IsDifference}
-use Rattle.object_rows.specs.Operations.{KeysAscend}
+use Rattle.plan_rows.specs.Difference.{Changes, IsDifference, KeysAscend}
 use Rattle.object_rows.proofs.GoodPages.{all_map}
 
 -- ---- one operation
@@ -35,7 +34,7 @@ made rows (Drop key) changes = get-remove_same rows key
 made rows (Flip key mask) changes = absurd changes
 
 -- it changes rows that have the same under its key
-still_changes : (rows other : Rows) (op : RowOp) → get other (key_of op) ≡ get rows (key_of op) → Changes rows op → Changes other op
+pub still_changes : (rows other : Rows) (op : RowOp) → get other (key_of op) ≡ get rows (key_of op) → Changes rows op → Changes other op
 still_changes rows other (Set key value) same changes = λ is. changes (sym same ∙ is)
 still_changes rows other (Drop key) same changes = ap is_some same ∙ changes
 still_changes rows other (Flip key mask) same changes = changes

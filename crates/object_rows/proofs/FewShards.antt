@@ -13,7 +13,7 @@ use Rattle.row_format.specs.Row.{onode, shard}
 use Rattle.store_image.specs.Pages.{HasKey, pages_of}
 use Rattle.store_image.specs.BadRows.{IsShardInPlace, NoBadRow}
 use Rattle.store_image.proofs.PageMap.{in_place}
-use Rattle.object_rows.specs.Writes.{IsSizeOf, missing, there}
+use Rattle.plan_rows.specs.Layouts.{IsSizeOf, missing, there}
 use Rattle.object_rows.proofs.Lengths.{has_page}
 use Rattle.object_rows.proofs.Shards.{shard_under, both_all}
 

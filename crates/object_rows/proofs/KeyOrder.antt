@@ -20,7 +20,9 @@ use Rattle.row_format.specs.Extents.{Extent, FitsExtent}
 use Rattle.row_format.specs.Row.{shard}
 use Rattle.row_facts.specs.Operations.{set_row, set_onode}
 use Rattle.bitmap_freelist.specs.Bitmap.{Units, AreFlips, AreFlipsFrom}
-use Rattle.object_rows.specs.Operations.{says, drops, shard_ops, object_ops, CanReplace, IsKeyOf, Climb, KeysAscend}
+use Rattle.object_rows.specs.Operations.{says, drops, shard_ops, object_ops, CanReplace, Climb}
+use Rattle.plan_rows.specs.Layouts.{IsKeyOf}
+use Rattle.plan_rows.specs.Difference.{KeysAscend}
 use Rattle.object_rows.proofs.GoodPages.{all_map}
 use Rattle.object_rows.proofs.Ops.{all_append, all_kept, all_pass, lower, object_ops_own}
 use Rattle.object_rows.proofs.Shards.{both_all}

@@ -8,7 +8,7 @@ use Rattle.number_map.proofs.Laws.{get_same, get_other}
 use Rattle.row_format.specs.Extents.{Place, own}
 use Rattle.blob_map.specs.Pages.{PageMap, with_pages}
 use Rattle.object_rows.specs.Maps.{IsMapWritten}
-use Rattle.object_rows.specs.Plans.{new_pages}
+use Rattle.plan_rows.specs.Layouts.{new_pages}
 
 module _ (first : ℕ) (bytes : List ℕ) where
   abbrev new_place : ℕ → ℕ → Place

@@ -18,10 +18,9 @@ use Rattle.store_image.specs.Pages.{HasKey, HasRow, HasOnode, HasShard}
 use Rattle.store_image.specs.BadRows.{NoBadRow}
 use Rattle.blob_map.specs.Pages.{extent_pages, with_pages}
 use Rattle.blob_map.proofs.Places.{laid_alone}
-use Rattle.object_rows.specs.Layouts.{Layout, HasLayout}
-use Rattle.object_rows.specs.Maps.{Rise, AreShardsOf, extents_in, first_pages, IsMapOf}
+use Rattle.plan_rows.specs.Layouts.{Layout, HasLayout, IsMapOf, IsSizeOf, missing, there}
+use Rattle.object_rows.specs.Maps.{Rise, AreShardsOf, extents_in, first_pages}
 use Rattle.object_rows.specs.Operations.{AreShards, Climb}
-use Rattle.object_rows.specs.Writes.{missing, there, IsSizeOf}
 use Rattle.object_rows.proofs.FewShards.{page_small}
 use Rattle.object_rows.proofs.GoodPages.{all_map}
 use Rattle.object_rows.proofs.Shards.{shard_under, by_shards_ascend, by_shards_pages, by_shards_present, first_pages_climb}

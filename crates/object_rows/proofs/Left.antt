@@ -15,9 +15,9 @@ use Rattle.number_map.specs.NumberMap.{is_in}
 use Rattle.row_format.specs.Extents.{Place, own}
 use Rattle.store_image.specs.Owners.{page_of, IsOwned}
 use Rattle.blob_map.specs.Pages.{PageMap}
-use Rattle.object_rows.specs.Maps.{IsMapOf, IsMapWritten}
-use Rattle.object_rows.specs.Plans.{own_units, units_between}
-use Rattle.object_rows.specs.Layouts.{is_same_place, is_moved, units_left}
+use Rattle.plan_rows.specs.Layouts.{IsMapOf, own_units, is_same_place, is_moved, units_left}
+use Rattle.object_rows.specs.Maps.{IsMapWritten}
+use Rattle.object_rows.specs.Plans.{units_between}
 use Rattle.object_rows.proofs.Between.{In, same_pair, in_found, inside_is, low_is, high_is}
 use Rattle.object_rows.proofs.Wrote.{written_or_not}
 

@@ -23,3 +23,8 @@ pub mod Left
 pub mod WritePlan
 pub mod Planned
 pub mod PlanOps
+pub mod FreeOver
+pub mod Taking
+pub mod Elsewhere
+pub mod PlanNames
+pub mod PlansKeep

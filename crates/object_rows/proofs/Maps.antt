@@ -16,8 +16,9 @@ use Rattle.blob_map.specs.Pages.{PageMap, FitsPlace, StandsWithin, first_unit}
 use Rattle.blob_map.specs.Normal.{extents_of}
 use Rattle.blob_map.proofs.Forms.{extents_places, extents_ascend, extents_fits, extents_within, extents_on}
 use Rattle.object_rows.specs.Operations.{CanReplace}
-use Rattle.object_rows.specs.Writes.{missing, there, IsSizeOf, IsWritten}
-use Rattle.object_rows.specs.Maps.{IsMapOf, IsMapWritten, CanWrite}
+use Rattle.plan_rows.specs.Layouts.{missing, there, IsSizeOf, IsMapOf}
+use Rattle.object_rows.specs.Writes.{IsWritten}
+use Rattle.object_rows.specs.Maps.{IsMapWritten, CanWrite}
 use Rattle.object_rows.proofs.Wrote.{written_or_not}
 use Rattle.object_rows.proofs.GoodPages.{CsumFits, all_map, IsGoodPage, good_page}
 

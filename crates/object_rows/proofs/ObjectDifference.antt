@@ -18,12 +18,11 @@ use Rattle.meta_log.specs.Slots.{width_of}
 use Rattle.object_model.specs.Effect.{is_same}
 use Rattle.row_format.specs.Keys.{coll_key, onode_key, shard_key}
 use Rattle.row_format.specs.Extents.{Extent, extent_bytes, BeginsAt}
-use Rattle.row_format.specs.Row.{onode}
 use Rattle.store_image.specs.Pages.{HasKey}
 use Rattle.row_facts.specs.Operations.{set_onode, coll_ops}
-use Rattle.object_rows.specs.Difference.{Changes, IsDifference}
-use Rattle.object_rows.specs.Layouts.{AreReplaced}
-use Rattle.object_rows.specs.Operations.{says, drops, onode_ops, shard_ops, object_ops, CanReplace, replaced, IsKeyOf, Climb}
+use Rattle.plan_rows.specs.Difference.{Changes, IsDifference}
+use Rattle.plan_rows.specs.Layouts.{AreReplaced, IsKeyOf}
+use Rattle.object_rows.specs.Operations.{says, drops, onode_ops, shard_ops, object_ops, CanReplace, replaced, Climb}
 use Rattle.object_rows.proofs.After.{begins_or_not}
 use Rattle.object_rows.proofs.KeyOrder.{ops_ascend}
 use Rattle.object_rows.proofs.Ops.{all_append, all_kept}

@@ -25,14 +25,13 @@ use Rattle.unit_fields.specs.Names.{IsName, IsCollName}
 use Rattle.unit_fields.specs.declared.width.Width.{Width}
 use Rattle.row_format.specs.Keys.{onode_key, shard_key}
 use Rattle.row_format.specs.Extents.{Extent, extent_bytes, FitsExtent, BeginsAt}
-use Rattle.row_format.specs.Row.{onode}
 use Rattle.row_format.proofs.KeyLemmas.{same_shard, onode_no_shard}
 use Rattle.store_image.specs.Pages.{HasKey}
 use Rattle.store_image.proofs.ByteLemmas.{equal_or_not}
 use Rattle.row_facts.specs.Operations.{set_onode}
 use Rattle.row_facts.proofs.Maps.{get_same, get_other}
-use Rattle.object_rows.specs.Operations.{says, drops, onode_ops, shard_ops, object_ops, CanReplace, replaced, IsKeyOf}
-use Rattle.object_rows.specs.Layouts.{AreReplaced}
+use Rattle.object_rows.specs.Operations.{says, drops, onode_ops, shard_ops, object_ops, CanReplace, replaced}
+use Rattle.plan_rows.specs.Layouts.{IsKeyOf, AreReplaced}
 
 -- ---- lists of pages
 

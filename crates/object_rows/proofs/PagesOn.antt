@@ -10,9 +10,9 @@ use Rattle.meta_log.specs.declared.slot.Super.{Super}
 use Rattle.meta_log.specs.Slots.{width_of}
 use Rattle.unit_fields.specs.UnitSet.{Ascends}
 use Rattle.store_image.specs.Owners.{IsDataUnit, IsOwned}
-use Rattle.object_rows.specs.declared.plan.FreshUnit.{FreshUnit}
+use Rattle.plan_rows.specs.declared.plan.FreshUnit.{FreshUnit}
 use Rattle.object_rows.specs.Writes.{AreDistinct}
-use Rattle.object_rows.specs.Planned.{pages_on}
+use Rattle.plan_rows.specs.Plans.{pages_on}
 
 -- ---- ascending lists
 

@@ -23,14 +23,13 @@ use Rattle.row_facts.specs.Operations.{coll_ops}
 use Rattle.bitmap_freelist.specs.Bitmap.{Units, Has, AreFlips}
 use Rattle.blob_map.specs.Pages.{PageMap, with_pages}
 use Rattle.blob_map.specs.Normal.{extents_of}
-use Rattle.object_rows.specs.declared.plan.Plan.{Plan}
-use Rattle.object_rows.specs.Difference.{IsDifference}
-use Rattle.object_rows.specs.Layouts.{Layout, HasLayout, made_of, units_left, AreReplaced, GetsLayout, stays, replaces, MakesColl, MakesLayout}
-use Rattle.object_rows.specs.Maps.{IsMapOf}
+use Rattle.plan_rows.specs.declared.plan.Plan.{Plan}
+use Rattle.plan_rows.specs.Difference.{IsDifference}
+use Rattle.plan_rows.specs.Layouts.{Layout, HasLayout, made_of, units_left, AreReplaced, GetsLayout, stays, replaces, MakesColl, MakesLayout, IsMapOf, new_pages, TurnsBits, IsSizeOf, missing, there}
 use Rattle.object_rows.specs.Operations.{onode_ops, object_ops, replaced, CanReplace}
-use Rattle.object_rows.specs.Planned.{pages_on, CanPlanWrite}
-use Rattle.object_rows.specs.Plans.{new_pages, units_between, TurnsBits, WritesPages, touch_ops}
-use Rattle.object_rows.specs.Writes.{missing, there, IsSizeOf}
+use Rattle.plan_rows.specs.Plans.{pages_on}
+use Rattle.object_rows.specs.Planned.{CanPlanWrite}
+use Rattle.object_rows.specs.Plans.{units_between, WritesPages, touch_ops}
 use Rattle.object_rows.proofs.After.{are_then}
 use Rattle.object_rows.proofs.Between.{In, same_pair}
 use Rattle.object_rows.proofs.Difference.{one_difference, no_difference}
@@ -160,7 +159,7 @@ no_flips taken released (op ∷ ops) none_taken none_released turns = absurd
     none_turned : (units : Units) → ((unit : ℕ) → Has units unit → ⊥) → (op : RowOp) (ops : List RowOp) → AreFlips units (op ∷ ops) → ⊥
     none_turned units none op ops are = none are.1.some.0 are.1.some.1
 
-turns_none : TurnsBits [] [] []
+pub turns_none : TurnsBits [] [] []
 turns_none = record {
   units = set.empty;
   are_units = λ unit. (

@@ -12,33 +12,36 @@ use Rattle.meta_log.specs.declared.slot.Super.{Super}
 use Rattle.meta_log.specs.Records.{record_head, record_bytes, unit_count}
 use Rattle.meta_log.specs.Slots.{width_of}
 use Rattle.object_model.specs.Objects.{Objects}
-use Rattle.object_model.specs.Effect.{Change, transaction_effect}
+use Rattle.object_model.specs.Effect.{Change, names_of, transaction_effect}
 use Rattle.unit_fields.specs.Names.{IsCollName}
 use Rattle.unit_fields.specs.UnitSet.{Ascends}
 use Rattle.store_image.specs.Pages.{HasPage}
 use Rattle.store_image.specs.BadRows.{NoBadRow}
-use Rattle.store_image.specs.Owners.{IsDataUnit, IsOwned, IsMarked, IsLeaked, IsExactAs, HasSoleOwner}
+use Rattle.store_image.specs.Owners.{page_of, IsDataUnit, IsOwned, IsMarked, IsLeaked, IsExactAs, HasSoleOwner}
 use Rattle.store_image.specs.Stands.{ObjectsStand, IsShape}
 use Rattle.store_image.proofs.OwnedUnits.{objects_stand}
 use Rattle.row_facts.specs.Operations.{coll_change, coll_ops}
-use Rattle.row_facts.proofs.CollMade.{coll_good, coll_bits, coll_sole, coll_owned, coll_exact, coll_stands}
+use Rattle.row_facts.proofs.CollMade.{coll_good, coll_bits, coll_sole, coll_owned, coll_exact, coll_after, coll_shape, coll_stands}
 use Rattle.row_facts.proofs.Lengths.{coll_fits, coll_short}
-use Rattle.object_rows.specs.declared.plan.Plan.{Plan}
-use Rattle.object_rows.specs.Layouts.{made_of, is_moved}
-use Rattle.object_rows.specs.Operations.{KeysAscend}
+use Rattle.plan_rows.specs.declared.plan.Plan.{Plan}
+use Rattle.plan_rows.specs.Layouts.{made_of, is_moved}
+use Rattle.plan_rows.specs.Difference.{KeysAscend}
+use Rattle.plan_rows.specs.Names.{IsOwnedBy}
 use Rattle.object_rows.specs.Writes.{write_change, touch_change}
 use Rattle.object_rows.specs.Plans.{WritesPages, touch_ops}
-use Rattle.object_rows.specs.Planned.{IsInColl, pages_on, CanPlanWrite, HoldsFresh, IsFresh, IsPlanned, makes_coll, StandsOnce, fresh_units, AreFresh, CanPlan, object_of, data_of, changes_object}
-use Rattle.object_rows.proofs.Between.{some_owned, some_once}
+use Rattle.plan_rows.specs.Plans.{IsInColl, pages_on, HoldsFresh, IsFresh, StandsOnce, fresh_units, object_of, data_of}
+use Rattle.object_rows.specs.Planned.{CanPlanWrite, IsPlanned, makes_coll, AreFresh, CanPlan, changes_object}
+use Rattle.object_rows.proofs.Between.{some_owns, some_once}
 use Rattle.object_rows.proofs.PagesOn.{all_at, fresh_there, fresh_all, units_of_pages}
-use Rattle.object_rows.proofs.Touched.{touch_good, touch_bits, touch_fits, touch_ascend, touch_short, touch_owned, touch_sole, touch_exact, touch_stand}
+use Rattle.object_rows.proofs.Touched.{touch_good, touch_bits, touch_fits, touch_ascend, touch_short, touch_owned, touch_sole, touch_exact, touch_shape, touch_stand}
 use Rattle.object_model.specs.Limits.{submitted_effect}
+use Rattle.object_model.proofs.Names.{is_own}
 use Rattle.row_facts.proofs.Replies.{coll_submitted, coll_made}
 use Rattle.object_rows.proofs.Replied.{touch_submitted, touch_ok, write_submitted, write_ok}
 use Rattle.object_model.specs.declared.op.Op.{Op}
 use Rattle.object_model.specs.declared.op.Op.TheVariants.{Touch, Write}
-use Rattle.object_rows.specs.declared.plan.FreshUnit.{FreshUnit}
-use Rattle.object_rows.proofs.WritePlan.{write_good, write_fits, write_order, write_short, write_stand, write_owned, write_taken, write_left, write_sole, write_gone, write_marked, write_exact}
+use Rattle.plan_rows.specs.declared.plan.FreshUnit.{FreshUnit}
+use Rattle.object_rows.proofs.WritePlan.{write_good, write_fits, write_order, write_short, write_shape, write_stand, write_owned, write_takes, write_taken, write_left, write_sole, write_gone, write_marked, write_exact}
 use Rattle.object_rows.proofs.PlanOps.{none_in, written_by, touched_by, coll_by}
 
 none_fresh : (ops : List RowOp) (v : ℕ) → ¬ IsFresh (record { ops = ops; fresh = []; released = [] }) v
@@ -71,11 +74,14 @@ pub record PlanFacts (s : Super) (rows : Rows) (change : Change) (plan : Plan) :
   pub short : length (ops_bytes plan.ops) < 2 ^ 32
   pub owned : (v : ℕ) → IsOwned (width_of s) (rows_after rows plan.ops) v → IsFresh plan v ⊎ IsOwned (width_of s) rows v
   pub taken : (v : ℕ) → IsFresh plan v → IsOwned (width_of s) (rows_after rows plan.ops) v
+  pub taken_by : (v : ℕ) → IsFresh plan v → IsOwnedBy (width_of s) (names_of change) (rows_after rows plan.ops) v
   pub left : (v : ℕ) → IsOwned (width_of s) rows v → IsOwned (width_of s) (rows_after rows plan.ops) v ⊎ Contains plan.released v
   pub sole : (v : ℕ) → HasSoleOwner (width_of s) rows v → HasSoleOwner (width_of s) (rows_after rows plan.ops) v
   pub gone : (v : ℕ) → HasSoleOwner (width_of s) rows v → Contains plan.released v → IsOwned (width_of s) (rows_after rows plan.ops) v → ⊥
   pub exact : (leaves : Rows) → IsExactAs (width_of s) leaves rows → IsExactAs (width_of s) leaves (rows_after rows plan.ops)
   pub marked : (v : ℕ) → v < 2 ^ 32 → IsMarked rows v → IsMarked (rows_after rows plan.ops) v ⊎ Contains plan.released v
+  pub shape : (objects after : Objects) → IsShape rows objects → transaction_effect change objects ≡ Ok after
+      → IsShape (rows_after rows plan.ops) after
   pub stand : (at later_at : ℕ → List ℕ) (objects after : Objects) → HoldsFresh later_at plan
       → ((v : ℕ) → HasPage (width_of s) rows v → later_at v ≡ at v)
       → ObjectsStand (width_of s) at rows objects → transaction_effect change objects ≡ Ok after
@@ -90,11 +96,15 @@ module _ (s : Super) (rows : Rows) (good : NoBadRow s rows) where
     short = omega (arith, coll_short c name);
     owned = λ v is. inr ((coll_owned (width_of s) rows c v).0 is);
     taken = λ v f. absurd (none_fresh (coll_ops c) v f);
+    taken_by = λ v f. absurd (none_fresh (coll_ops c) v f);
     left = λ v is. inl ((coll_owned (width_of s) rows c v).1 is);
     sole = λ v. coll_sole (width_of s) rows c v;
     gone = λ v sole k is. none_in v k;
     exact = λ leaves. coll_exact (width_of s) rows c (IsLeaked (width_of s) leaves);
     marked = λ v small is. inl ((coll_bits (width_of s) rows c v).1 is);
+    shape = λ objects after shape is.
+        let e = coll_after objects after c is in
+        subst (IsShape (rows_after rows (coll_ops c))) (sym e.1) (coll_shape (width_of s) rows c objects e.0 shape);
     stand = λ at later_at objects after holds same stand is.
         coll_stands (width_of s) later_at rows objects after c
         (objects_stand (width_of s) at later_at rows (λ unit has. sym (same unit has)) objects stand) is;
@@ -113,11 +123,13 @@ module _ (s : Super) (rows : Rows) (good : NoBadRow s rows) where
         short = touch_short s rows c o coll name has good;
         owned = λ v is. inr ((touch_owned s rows c o coll name has good v).0 is);
         taken = λ v f. absurd (none_fresh (touch_ops rows c o) v f);
+        taken_by = λ v f. absurd (none_fresh (touch_ops rows c o) v f);
         left = λ v is. inl ((touch_owned s rows c o coll name has good v).1 is);
         sole = λ v. touch_sole s rows c o coll name has good v;
         gone = λ v sole k is. none_in v k;
         exact = λ leaves. touch_exact s rows c o coll name has good (IsLeaked (width_of s) leaves);
         marked = λ v small is. inl ((touch_bits s rows c o coll name has good v).1 is);
+        shape = touch_shape s rows c o coll name has good;
         stand = λ at later_at objects after holds. touch_stand s rows c o coll name has good at later_at objects after;
       }
 
@@ -131,11 +143,15 @@ module _ (s : Super) (rows : Rows) (good : NoBadRow s rows) where
       short = write_short s rows c o first bytes units ops released can w good;
       owned = write_owned s rows c o first bytes units ops released can w good;
       taken = write_taken s rows c o first bytes units ops released can w good;
+      taken_by = λ v f.
+          let at = write_takes s rows c o first bytes units ops released can w good v f in
+          record { coll = c; among = is_own (write_change c o first bytes); object = o; page = at.0; owns = at.1 };
       left = write_left s rows c o first bytes units ops released can w good;
       sole = write_sole s rows c o first bytes units ops released can w good;
       gone = write_gone s rows c o first bytes units ops released can w good;
       exact = write_exact s rows c o first bytes units ops released can w good;
       marked = write_marked s rows c o first bytes units ops released can w good;
+      shape = write_shape s rows c o first bytes units ops released can w good;
       stand = write_stand s rows c o first bytes units ops released can w good;
     }
 
@@ -207,12 +223,17 @@ module _ (s : Super) (rows : Rows) where
       subst (λ u. ¬ IsMarked rows u) at.2 (all_at (λ u. ¬ IsMarked rows u) units at.0 (fresh_of c op units can).unmarked at.1)
 
   -- a page of the object stands on a unit that is released
+  pub planned_stood : {change : Change} {plan : Plan} (v : ℕ) → IsPlanned s rows change plan → Contains plan.released v
+      → IsOwnedBy (width_of s) (names_of change) rows v
+  planned_stood v (makes_coll c plan name none p) k = absurd (none_in v (subst (λ us. Contains us v) p.none_released k))
+  planned_stood v (changes_object c op units x plan can has p fresh) k =
+      let at = some_owns (width_of s) (is_moved x.pages (made_of op units x).pages) rows c (object_of op) x.pages has.are_pages v
+      (subst (λ us. Contains us v) p.released_are k) in
+      record { coll = c; among = is_own (record { coll = c; ops = op ∷ [] }); object = object_of op; page = at.0; owns = at.1 }
+
   pub planned_released : {change : Change} {plan : Plan} (v : ℕ) → IsPlanned s rows change plan → Contains plan.released v
       → IsOwned (width_of s) rows v
-  planned_released v (makes_coll c plan name none p) k = absurd (none_in v (subst (λ us. Contains us v) p.none_released k))
-  planned_released v (changes_object c op units x plan can has p fresh) k =
-      some_owned (width_of s) (is_moved x.pages (made_of op units x).pages) rows c (object_of op) x.pages has.are_pages v
-      (subst (λ us. Contains us v) p.released_are k)
+  planned_released v is k = let by = planned_stood v is k in (page_of by.coll by.object by.page, by.owns)
 
   pub planned_once : {change : Change} {plan : Plan} (v : ℕ) → IsPlanned s rows change plan → HasSoleOwner (width_of s) rows v
       → StandsOnce plan.released v

@@ -110,7 +110,7 @@ module _ (s : Super) (rows : Rows) (c o : List ℕ) (size : ℕ) (extents : List
           ∙ shape.missing d u coll_is name_is (sym (under_other objects c o coll new_object found d u other) ∙ is)
     ]
 
-    later_shape : IsShape then later
+    pub later_shape : IsShape then later
     later_shape = record {
       collections = λ d. keys_after objects c (map.insert coll o new_object) (ap is_some found) d ∙ shape.collections d
           ∙ sym (ap is_some (then_colls s rows c o size extents present can d));

@@ -15,12 +15,13 @@ use Rattle.row_format.specs.Extents.{own}
 use Rattle.store_image.specs.Pages.{HasKey, IsPageAt, HasPage}
 use Rattle.store_image.specs.BadRows.{NoBadRow}
 use Rattle.store_image.specs.Owners.{Owner, page_of, Owns, IsOwned, IsMarked, IsExactBut, HasSoleOwner}
-use Rattle.store_image.specs.Stands.{ObjectsStand}
+use Rattle.store_image.specs.Stands.{IsShape, ObjectsStand}
 use Rattle.store_image.proofs.OwnedUnits.{objects_stand}
 use Rattle.store_image.proofs.PageMap.{in_place}
 use Rattle.row_facts.proofs.Bits.{exact_stays}
 use Rattle.row_facts.proofs.ObjectUnder.{object_cases}
-use Rattle.object_rows.specs.Operations.{CanReplace, onode_ops, object_ops, replaced, HasUnit, IsOwnedElsewhere, KeysAscend}
+use Rattle.object_rows.specs.Operations.{CanReplace, onode_ops, object_ops, replaced, HasUnit, IsOwnedElsewhere}
+use Rattle.plan_rows.specs.Difference.{KeysAscend}
 use Rattle.object_rows.specs.Plans.{touch_ops}
 use Rattle.object_rows.specs.Writes.{touch_change}
 use Rattle.object_rows.proofs.After.{then_good, then_owned, then_bits}
@@ -28,7 +29,7 @@ use Rattle.object_rows.proofs.KeyOrder.{ops_ascend}
 use Rattle.object_rows.proofs.Lengths.{object_ops_fit, length-object_ops}
 use Rattle.object_rows.proofs.Makes.{can_make}
 use Rattle.object_rows.proofs.Units.{then_sole}
-use Rattle.object_rows.proofs.Wrote.{made_stand, touched_same}
+use Rattle.object_rows.proofs.Wrote.{made_shape, made_stand, touched_same}
 
 none_of : (x : Option (List ℕ)) → is_some x ≡ false → x ≡ None
 none_of None e = refl
@@ -105,6 +106,12 @@ module _ (s : Super) (rows : Rows) (c o : List ℕ) (coll : IsCollName c) (name 
         → IsExactBut (width_of s) leaked (rows_after rows (touch_ops rows c o))
     touch_exact = exact_stays (width_of s) rows (rows_after rows (touch_ops rows c o)) touch_bits touch_owned touch_sole
 
+    pub touch_shape : (objects after : Objects) → IsShape rows objects → transaction_effect (touch_change c o) objects ≡ Ok after
+        → IsShape (rows_after rows (touch_ops rows c o)) after
+    touch_shape objects after shape is = by_test (λ ops. IsShape (rows_after rows ops) after)
+        (λ there. subst (IsShape rows) (sym (touched_same rows objects after c o coll name there shape is)) shape)
+        (λ none. made_shape s rows c o [] (can none) objects after none shape is)
+
     pub touch_stand : (at later_at : ℕ → List ℕ) (objects after : Objects) → ((v : ℕ) → HasPage (width_of s) rows v → later_at v ≡ at v)
         → ObjectsStand (width_of s) at rows objects → transaction_effect (touch_change c o) objects ≡ Ok after
         → ObjectsStand (width_of s) later_at (rows_after rows (touch_ops rows c o)) after
@@ -112,5 +119,5 @@ module _ (s : Super) (rows : Rows) (c o : List ℕ) (coll : IsCollName c) (name 
         let later = objects_stand (width_of s) at later_at rows (λ v has_page. sym (same v has_page)) objects stand in
         by_test (λ ops. ObjectsStand (width_of s) later_at (rows_after rows ops) after)
         (λ there. subst (ObjectsStand (width_of s) later_at rows)
-        (sym (touched_same (width_of s) later_at rows objects after c o coll name there later is)) later)
+        (sym (touched_same rows objects after c o coll name there later.shape is)) later)
         (λ none. made_stand s rows c o [] (can none) later_at objects after none later is)

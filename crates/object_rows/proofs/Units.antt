@@ -92,7 +92,7 @@ module _ (s : Super) (rows : Rows) (c o : List ℕ) (size : ℕ) (extents : List
       | inr out ↦ inr (out, (w.outside page (own unit csum) out).0 found)
     ]
 
-    fresh_owns : (i : ℕ) → i < length units → Owns (width_of s) then (page_of c o (first + i)) (slice_index units i)
+    pub fresh_owns : (i : ℕ) → i < length units → Owns (width_of s) then (page_of c o (first + i)) (slice_index units i)
     fresh_owns i lt = own_owns (first + i) (slice_index units i) (crc32c (unit_at i bytes)) (w.inside i lt)
 
     left_owns : (owner : Owner) (v : ℕ) → IsLeft c o first (length units) owner → Owns (width_of s) rows owner v → Owns (width_of s) then owner v

@@ -22,22 +22,23 @@ use Rattle.row_format.specs.Row.{onode}
 use Rattle.store_image.specs.Pages.{IsPageAt, HasPage, pages_of}
 use Rattle.store_image.specs.BadRows.{NoBadRow}
 use Rattle.store_image.specs.Owners.{Owner, page_of, Owns, IsDataUnit, IsOwned, IsMarked, IsLeaked, IsExactAs, HasSoleOwner}
-use Rattle.store_image.specs.Stands.{ObjectsStand}
+use Rattle.store_image.specs.Stands.{IsShape, ObjectsStand}
 use Rattle.store_image.proofs.PageMap.{in_place}
 use Rattle.bitmap_freelist.specs.Bitmap.{Has, AreAlikeButBits, ExactlyOne}
-use Rattle.bitmap_freelist.proofs.Alike.{flips_alike, alike_owns, alike_stand}
+use Rattle.bitmap_freelist.proofs.Alike.{flips_alike, alike_owns, alike_shape, alike_stand}
 use Rattle.bitmap_freelist.proofs.GoodBitmaps.{turned_good}
 use Rattle.bitmap_freelist.proofs.Records.{flips_fit, flips_size, flips_count}
 use Rattle.bitmap_freelist.proofs.Turning.{turn_their_units}
 use Rattle.blob_map.specs.Pages.{PageMap, with_pages}
 use Rattle.blob_map.specs.Normal.{extents_of}
-use Rattle.object_rows.specs.Difference.{IsDifference}
-use Rattle.object_rows.specs.Layouts.{AreReplaced}
-use Rattle.object_rows.specs.Operations.{CanReplace, object_ops, replaced, Climb, KeysAscend}
+use Rattle.plan_rows.specs.Difference.{IsDifference, KeysAscend}
+use Rattle.plan_rows.specs.Layouts.{AreReplaced, IsSizeOf, new_pages, missing, there}
+use Rattle.object_rows.specs.Operations.{CanReplace, object_ops, replaced, Climb}
 use Rattle.object_rows.specs.Maps.{IsMapWritten, CanWrite}
-use Rattle.object_rows.specs.Writes.{write_change, missing, there, IsSizeOf, IsWritten, HoldPages, AreDistinct, StoodWritten}
-use Rattle.object_rows.specs.Plans.{new_pages, WritesPages}
-use Rattle.object_rows.specs.Planned.{pages_on, CanPlanWrite}
+use Rattle.object_rows.specs.Writes.{write_change, IsWritten, HoldPages, AreDistinct, StoodWritten}
+use Rattle.object_rows.specs.Plans.{WritesPages}
+use Rattle.plan_rows.specs.Plans.{pages_on}
+use Rattle.object_rows.specs.Planned.{CanPlanWrite}
 use Rattle.object_rows.proofs.After.{are_then, has_shard, then_good, then_bits}
 use Rattle.object_rows.proofs.Between.{at_index, between_stood}
 use Rattle.object_rows.proofs.FewShards.{few_shards}
@@ -49,8 +50,8 @@ use Rattle.object_rows.proofs.Maps.{map_can_replace, map_is_written}
 use Rattle.object_rows.proofs.ObjectDifference.{IsNewShard, object_difference}
 use Rattle.object_rows.proofs.Ops.{all_append}
 use Rattle.object_rows.proofs.PagesOn.{all_at, ascending_distinct, fresh_there, held_at}
-use Rattle.object_rows.proofs.Units.{written_owned, written_sole, written_lost, written_released}
-use Rattle.object_rows.proofs.Wrote.{pages_stand}
+use Rattle.object_rows.proofs.Units.{fresh_owns, written_owned, written_sole, written_lost, written_released}
+use Rattle.object_rows.proofs.Wrote.{pages_shape, pages_stand}
 
 pub climbs : (ps : List ℕ) → Ascends ps → Climb ps
 climbs [] order = tt
@@ -227,6 +228,11 @@ module _ (s : Super) (rows : Rows) (c o : List ℕ) (first : ℕ) (bytes units :
           flips_count w.turns.units w.flips w.turns.are_flips,
         )
 
+    pub write_shape : (objects after : Objects) → IsShape rows objects
+        → transaction_effect (write_change c o first bytes) objects ≡ Ok after → IsShape (rows_after rows ops) after
+    write_shape objects after shape is = alike_shape (width_of s) then (rows_after rows ops) alike after
+        (pages_shape s rows c o size extents w.present can_replace first bytes units is_written objects after shape is)
+
     pub write_stand : (at later_at : ℕ → List ℕ) (objects after : Objects) → AllByRecursion (λ f. later_at f.unit ≡ f.bytes) (pages_on units 0 bytes)
         → ((v : ℕ) → HasPage (width_of s) rows v → later_at v ≡ at v) → ObjectsStand (width_of s) at rows objects
         → transaction_effect (write_change c o first bytes) objects ≡ Ok after → ObjectsStand (width_of s) later_at (rows_after rows ops) after
@@ -247,9 +253,17 @@ module _ (s : Super) (rows : Rows) (c o : List ℕ) (first : ℕ) (bytes units :
       | inr b ↦ inr (b.owner, b.owns)
     ]
 
+    -- a page that is written owns a fresh one
+    pub write_takes : (v : ℕ) → IsFreshOf v → (page : ℕ) × Owns (width_of s) (rows_after rows ops) (page_of c o page) v
+    write_takes v f =
+        let p = (fresh_there bytes units 0 v).0 f in (
+          first + p.0,
+          (same_owns (page_of c o (first + p.0)) v).0 (subst (Owns (width_of s) then (page_of c o (first + p.0))) p.2
+              (fresh_owns s rows c o size extents w.present can_replace first bytes units is_written p.0 p.1)),
+        )
+
     pub write_taken : (v : ℕ) → IsFreshOf v → IsOwned (width_of s) (rows_after rows ops) v
-    write_taken v f = owned_after v
-        ((written_owned s rows c o size extents w.present can_replace first bytes units is_written v).1 (inl ((fresh_there bytes units 0 v).0 f)))
+    write_taken v f = let at = write_takes v f in (page_of c o at.0, at.1)
 
     pub write_left : (v : ℕ) → IsOwned (width_of s) rows v → IsOwned (width_of s) (rows_after rows ops) v ⊎ Contains released v
     write_left v owned = elim (written_lost s rows c o size extents w.present can_replace first bytes units is_written v owned) [

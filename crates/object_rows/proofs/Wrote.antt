@@ -14,7 +14,6 @@ use Rattle.object_model.specs.declared.op.Refusal.TheVariants.{NoCollection, Too
 use Rattle.object_model.specs.Objects.{Object, Collection, Objects, empty_object}
 use Rattle.object_model.specs.Effect.{object_limit, overwritten, unless, making, effects, transaction_effect, object_under, ◌>>=◌}
 use Rattle.unit_fields.specs.Names.{IsName, IsCollName}
-use Rattle.unit_fields.specs.declared.width.Width.{Width}
 use Rattle.row_format.specs.Keys.{onode_key}
 use Rattle.row_format.specs.Extents.{Extent, Place, own, place_of}
 use Rattle.row_format.specs.Row.{onode, shard, row_value}
@@ -26,10 +25,11 @@ use Rattle.store_image.proofs.PageMap.{in_place}
 use Rattle.store_image.proofs.PageUnits.{on_own, own_of}
 use Rattle.row_facts.proofs.ObjectUnder.{after_outcome, with_object}
 use Rattle.object_rows.specs.Operations.{CanReplace, replaced}
-use Rattle.object_rows.specs.Writes.{write_change, touch_change, missing, there, IsSizeOf, IsWritten, HoldPages}
+use Rattle.object_rows.specs.Writes.{write_change, touch_change, IsWritten, HoldPages}
+use Rattle.plan_rows.specs.Layouts.{missing, there, IsSizeOf}
 use Rattle.object_rows.proofs.After.{then_pages}
 use Rattle.object_rows.proofs.PageBytes.{no_pages, over_length, page_outside, page_inside}
-use Rattle.object_rows.proofs.Stand.{with_bytes, under_is, later_stand}
+use Rattle.object_rows.proofs.Stand.{with_bytes, under_is, later_shape, later_stand}
 
 -- ---- what the transactions make of the objects
 
@@ -171,6 +171,16 @@ module _ (s : Super) (rows : Rows) (c o : List ℕ) (size : ℕ) (extents : List
   long : (old : List ℕ) → w.before ≡ length old → length (overwritten old (4096 * first) bytes) ≡ size
   long old is = over_length old bytes (4096 * first) (omega (arith, w.whole, w.some)) ∙ omega (arith, is, w.size_is, w.whole)
 
+  pub pages_shape : (objects later : Objects) → IsShape rows objects
+      → transaction_effect (write_change c o first bytes) objects ≡ Ok later → IsShape then later
+  pages_shape objects later shape is =
+      let e = write_after objects later c o first bytes (room w.before w.size_is) is in
+      let old : List ℕ = bytes_of (map.get e.0 o) in
+      let sized : w.before ≡ length old =
+      before_is s rows c o size extents present can objects shape (map.get e.0 o) (under_is objects c o e.0 e.1) w.before w.was_long in
+      subst (IsShape then) (sym e.2)
+      (later_shape s rows c o size extents present can (overwritten old (4096 * first) bytes) (long old sized) objects shape e.0 e.1)
+
   pub pages_stand : (at later_at : ℕ → List ℕ) (objects later : Objects) → HoldPages (width_of s) at later_at rows bytes units
       → ObjectsStand (width_of s) at rows objects
       → transaction_effect (write_change c o first bytes) objects ≡ Ok later → ObjectsStand (width_of s) later_at then later
@@ -194,24 +204,38 @@ module _ (s : Super) (rows : Rows) (c o : List ℕ) (present : List ℕ) (can : 
     holes = λ page hole. no_pages page;
   }
 
+  -- the object is missing before, and has no bytes after
+  new_is_empty : (objects later : Objects) (coll : Collection) → map.get rows (onode_key c o) ≡ None → IsShape rows objects
+      → map.get objects c ≡ Some coll → later ≡ with_object objects c o coll (unwrap_or (map.get coll o) empty_object)
+      → later ≡ with_object objects c o coll (with_bytes (map.get coll o) [])
+  new_is_empty objects later coll none shape found is =
+      let none_there : map.get coll o ≡ None = no_object (map.get coll o) (under_is objects c o coll found) in
+      let same : unwrap_or (map.get coll o) empty_object ≡ with_bytes (map.get coll o) [] =
+      ap (λ x. unwrap_or x empty_object) none_there ∙ sym (ap (λ x. with_bytes x []) none_there) in
+      is ∙ ap (with_object objects c o coll) same
+    where
+      no_object : (x : Option Object) → object_under objects c o ≡ x → x ≡ None
+      no_object None p = refl
+      no_object (Some old) p = absurd (let t = sym none ∙ (shape.present c o old p).size.stands in cc)
+
+  pub made_shape : (objects later : Objects) → map.get rows (onode_key c o) ≡ None → IsShape rows objects
+      → transaction_effect (touch_change c o) objects ≡ Ok later → IsShape (replaced (width_of s) rows c o 0 [] present) later
+  made_shape objects later none shape is =
+      let e = touch_after objects later c o is in
+      subst (IsShape (replaced (width_of s) rows c o 0 [] present)) (sym (new_is_empty objects later e.0 none shape e.1 e.2))
+      (later_shape s rows c o 0 [] present can [] refl objects shape e.0 e.1)
+
   pub made_stand : (at : ℕ → List ℕ) (objects later : Objects) → map.get rows (onode_key c o) ≡ None → ObjectsStand (width_of s) at rows objects
       → transaction_effect (touch_change c o) objects ≡ Ok later → ObjectsStand (width_of s) at (replaced (width_of s) rows c o 0 [] present) later
   made_stand at objects later none stand is =
       let e = touch_after objects later c o is in
-      let none_there : map.get e.0 o ≡ None = no_object (map.get e.0 o) (under_is objects c o e.0 e.1) in
-      let same : unwrap_or (map.get e.0 o) empty_object ≡ with_bytes (map.get e.0 o) [] =
-      ap (λ x. unwrap_or x empty_object) none_there ∙ sym (ap (λ x. with_bytes x []) none_there) in
-      subst (ObjectsStand (width_of s) at (replaced (width_of s) rows c o 0 [] present)) (sym (e.2 ∙ ap (with_object objects c o e.0) same))
+      subst (ObjectsStand (width_of s) at (replaced (width_of s) rows c o 0 [] present))
+      (sym (new_is_empty objects later e.0 none stand.shape e.1 e.2))
       (later_stand s rows c o 0 [] present can [] refl objects stand.shape e.0 e.1 at at (λ v has. refl) (none_own at) stand.bytes)
-    where
-      no_object : (x : Option Object) → object_under objects c o ≡ x → x ≡ None
-      no_object None p = refl
-      no_object (Some old) p = absurd (let t = sym none ∙ (stand.shape.present c o old p).size.stands in cc)
 
-pub touched_same : (w : Width) (at : ℕ → List ℕ) (rows : Rows) (objects later : Objects) (c o : List ℕ) → IsCollName c → IsName o
-    → HasKey rows (onode_key c o)
-    → ObjectsStand w at rows objects → transaction_effect (touch_change c o) objects ≡ Ok later → later ≡ objects
-touched_same w at rows objects later c o coll name has stand is =
+pub touched_same : (rows : Rows) (objects later : Objects) (c o : List ℕ) → IsCollName c → IsName o → HasKey rows (onode_key c o)
+    → IsShape rows objects → transaction_effect (touch_change c o) objects ≡ Ok later → later ≡ objects
+touched_same rows objects later c o coll name has shape is =
     let e = touch_after objects later c o is in
     let found = an_object (map.get e.0 o) (under_is objects c o e.0 e.1) in
     e.2
@@ -221,4 +245,4 @@ touched_same w at rows objects later c o coll name has stand is =
   where
     an_object : (x : Option Object) → object_under objects c o ≡ x → (old : Object) × (x ≡ Some old)
     an_object (Some old) p = (old, refl)
-    an_object None p = absurd (let t = sym has ∙ ap is_some (stand.shape.missing c o coll name p) in cc)
+    an_object None p = absurd (let t = sym has ∙ ap is_some (shape.missing c o coll name p) in cc)

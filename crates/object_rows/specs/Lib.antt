@@ -2,6 +2,4 @@ pub mod Operations
 pub mod Writes
 pub mod Maps
 pub mod Plans
-pub mod Difference
-pub mod Layouts
 pub mod Planned

@@ -1,5 +1,5 @@
 -- The page map of an object as its rows say it, and as a write changes it.
-use Rattle.std.specs.Prelude.{◌≡◌, ◌⊎◌, ◌↔◌, ℕ, ◌+◌, ◌*◌, ◌<◌, ◌≤◌, ◌^◌, max, List, [], ◌∷◌, length, map, Some, Contains, slice_index}
+use Rattle.std.specs.Prelude.{◌≡◌, ◌⊎◌, ℕ, ◌+◌, ◌*◌, ◌<◌, ◌≤◌, ◌^◌, max, List, [], ◌∷◌, length, map, Some, Contains, slice_index}
 use Rattle.std.specs.List.{flat_map, AllByRecursion}
 use Rattle.std.specs.FinMap as finite
 use Rattle.byte_maps.specs.Units.{unit_at}
@@ -10,13 +10,13 @@ use Rattle.object_model.specs.Effect.{object_limit}
 use Rattle.unit_fields.specs.Names.{IsName, IsCollName}
 use Rattle.unit_fields.specs.declared.width.Width.{Width}
 use Rattle.row_format.specs.Keys.{coll_key}
-use Rattle.row_format.specs.Extents.{Extent, Place, own}
-use Rattle.store_image.specs.Pages.{HasKey, HasShard, IsPageAt}
+use Rattle.row_format.specs.Extents.{Extent, own}
+use Rattle.store_image.specs.Pages.{HasKey, HasShard}
 use Rattle.store_image.specs.BadRows.{NoBadRow}
 use Rattle.store_image.specs.Owners.{IsDataUnit}
 use Rattle.blob_map.specs.Pages.{PageMap}
 use Rattle.object_rows.specs.Operations.{AreShards}
-use Rattle.object_rows.specs.Writes.{IsSizeOf}
+use Rattle.plan_rows.specs.Layouts.{IsSizeOf}
 
 -- ---- shards
 
@@ -40,10 +40,6 @@ abbrev pub first_pages : List (ℕ × List Extent) → List ℕ
 first_pages shards = map (λ x. x.0) shards
 
 -- ---- maps
-
--- the map has the object's pages, each in its place
-abbrev pub IsMapOf : Width → Rows → List ℕ → List ℕ → PageMap → Type 0
-IsMapOf w rows c o pages = (page : ℕ) (place : Place) → (finite.get pages page ≡ Some place) ↔ IsPageAt w rows c o page place
 
 -- the map after whole pages are written from the first on, each on its unit
 pub record IsMapWritten (old new : PageMap) (first : ℕ) (bytes units : List ℕ) : Type 0 where

@@ -1,12 +1,10 @@
 -- The row operations that replace an object's onode and extents.
-use Rattle.std.specs.Prelude.{◌≡◌, ◌⊎◌, ℕ, ◌<◌, ◌≤◌, ◌^◌, nat_lt, Bool, false, List, [], ◌∷◌, ◌++◌, map, filter, Contains, Some, if◌then◌else◌}
+use Rattle.std.specs.Prelude.{◌≡◌, ℕ, ◌<◌, ◌≤◌, ◌^◌, nat_lt, Bool, false, List, [], ◌∷◌, ◌++◌, map, filter, Contains, Some, if◌then◌else◌}
 use Rattle.std.specs.List.{AllByRecursion}
 use Rattle.std.specs.Int.{w64, to_le_bytes}
 use Rattle.std.specs.Option.{option_map_or}
 use Rattle.std.specs.FinMap as finite
-use Rattle.std.specs.declared.cmp.Ordering.TheVariants.{Less}
-use Rattle.byte_maps.specs.ByteMap.{byte_order}
-use Rattle.meta_rows.specs.Rows.{Rows, rows_after, key_of}
+use Rattle.meta_rows.specs.Rows.{Rows, rows_after}
 use Rattle.meta_rows.specs.declared.row_op.RowOp.{RowOp}
 use Rattle.meta_rows.specs.declared.row_op.RowOp.TheVariants.{Drop}
 use Rattle.meta_log.specs.declared.slot.Super.{Super}
@@ -68,10 +66,6 @@ pub record CanReplace (s : Super) (rows : Rows) (c o : List ℕ) (size : ℕ) (e
 abbrev pub replaced : Width → Rows → List ℕ → List ℕ → ℕ → List Extent → List ℕ → Rows
 replaced w rows c o size extents present = rows_after rows (object_ops w rows c o size extents present)
 
--- the key is that of the object's onode, or of one of its shards
-abbrev pub IsKeyOf : List ℕ → List ℕ → List ℕ → Type 0
-IsKeyOf c o key = (key ≡ onode_key c o) ⊎ ((page : ℕ) × (page < 2 ^ 32) × (key ≡ shard_key c o page))
-
 -- another object
 abbrev pub IsOther : List ℕ → List ℕ → List ℕ → List ℕ → Type 0
 IsOther c o d u = d ≡ c → u ≡ o → ⊥
@@ -98,8 +92,3 @@ StandsAlone extents unit = (p q a b : ℕ) → place_of extents p ≡ Some (own 
 abbrev pub Climb : List ℕ → Type 0
 Climb [] = Unit {0}
 Climb (p ∷ ps) = AllByRecursion (λ later. p < later) ps × Climb ps
-
--- each operation's key is above those before it
-abbrev pub KeysAscend : List RowOp → Type 0
-KeysAscend [] = Unit {0}
-KeysAscend (op ∷ ops) = AllByRecursion (λ later. byte_order (key_of op) (key_of later) ≡ Less) ops × KeysAscend ops

@@ -1,11 +1,9 @@
 -- The operations that planning gives: those on an object, and behind them those on the bitmap.
-use Rattle.std.specs.Prelude.{◌≡◌, ◌↔◌, ◌⊎◌, ℕ, ◌+◌, ◌*◌, max, List, [], ◌∷◌, ◌++◌, length, Contains, if◌then◌else◌}
+use Rattle.std.specs.Prelude.{◌≡◌, ℕ, ◌+◌, ◌*◌, max, List, [], ◌++◌, length, if◌then◌else◌}
 use Rattle.std.specs.List.{AllByRecursion, flat_map}
 use Rattle.std.specs.Ordering.{nat_cmp}
 use Rattle.std.specs.FinMap as finite
 use Rattle.std.specs.FinMap.Entries.{where_key}
-use Rattle.byte_maps.specs.Units.{unit_at}
-use Rattle.crc32c_csum.specs.Crc32c.{crc32c}
 use Rattle.number_map.specs.NumberMap.{is_in}
 use Rattle.meta_rows.specs.Rows.{Rows}
 use Rattle.meta_rows.specs.declared.row_op.RowOp.{RowOp}
@@ -13,32 +11,14 @@ use Rattle.unit_fields.specs.UnitSet.{Ascends}
 use Rattle.unit_fields.specs.declared.width.Width.{Width}
 use Rattle.row_format.specs.Keys.{onode_key, shard_key}
 use Rattle.store_image.specs.Pages.{HasKey}
-use Rattle.row_format.specs.Extents.{Place, own}
-use Rattle.bitmap_freelist.specs.Bitmap.{Units, Has, AreFlips}
 use Rattle.blob_map.specs.Pages.{PageMap, with_pages}
 use Rattle.blob_map.specs.Normal.{extents_of}
 use Rattle.object_rows.specs.Operations.{onode_ops, object_ops, AreShards}
-use Rattle.object_rows.specs.Maps.{IsMapOf}
-use Rattle.object_rows.specs.Writes.{IsSizeOf}
-
--- pages from one on, each on its unit: the bytes are those of all pages, one behind the other
-abbrev pub new_pages : ℕ → ℕ → List ℕ → List ℕ → List (ℕ × Place)
-new_pages first i [] bytes = []
-new_pages first i (u ∷ us) bytes = (first + i, own u (crc32c (unit_at i bytes))) ∷ new_pages first (i + 1) us bytes
-
--- the unit of the object's own on which a page stands (one on a slot of a shared blob is to have none)
-abbrev pub own_units : Place → List ℕ
-own_units (own unit csum) = unit ∷ []
+use Rattle.plan_rows.specs.Layouts.{IsMapOf, IsSizeOf, new_pages, own_units, TurnsBits}
 
 -- those of the pages from one on, so many
 abbrev pub units_between : PageMap → ℕ → ℕ → List ℕ
 units_between pages first count = flat_map (λ p. own_units p.1) (where_key nat_cmp (is_in first (first + count)) (finite.entries pages))
-
--- The operations turn the bits of the units that are taken and of those that are released, each bit once.
-pub record TurnsBits (taken released : List ℕ) (flips : List RowOp) : Type 0 where
-  pub units : Units
-  pub are_units : (unit : ℕ) → Has units unit ↔ (Contains taken unit ⊎ Contains released unit)
-  pub are_flips : AreFlips units flips
 
 -- The operations that write whole pages from one on: the pages stand on these units, one each, and the units that they stood on are
 -- released. The other pages stay where they are, and all are in one shard. Behind the object's operations stand those on the bitmap, whose keys

@@ -1,16 +1,15 @@
 -- Writes of whole pages, and the making of an object.
-use Rattle.std.specs.Prelude.{◌≡◌, ◌⊎◌, ◌↔◌, ℕ, ◌+◌, ◌*◌, ◌<◌, ◌≤◌, max, List, [], ◌∷◌, length, None, Some, slice_index}
-use Rattle.std.specs.FinMap as finite
+use Rattle.std.specs.Prelude.{◌≡◌, ◌⊎◌, ◌↔◌, ℕ, ◌+◌, ◌*◌, ◌<◌, ◌≤◌, max, List, [], ◌∷◌, length, Some, slice_index}
 use Rattle.byte_maps.specs.Units.{unit_at}
 use Rattle.unit_fields.specs.declared.width.Width.{Width}
 use Rattle.crc32c_csum.specs.Crc32c.{crc32c}
 use Rattle.meta_rows.specs.Rows.{Rows}
 use Rattle.object_model.specs.declared.op.Op.TheVariants.{Touch, Write}
 use Rattle.object_model.specs.Effect.{Change}
-use Rattle.row_format.specs.Keys.{onode_key}
 use Rattle.row_format.specs.Extents.{Extent, Place, own, place_of}
-use Rattle.store_image.specs.Pages.{HasOnode, IsPageAt, HasPage}
+use Rattle.store_image.specs.Pages.{IsPageAt, HasPage}
 use Rattle.store_image.specs.Owners.{Owner, page_of, Owns}
+use Rattle.plan_rows.specs.Layouts.{IsSizeOf}
 use Rattle.object_rows.specs.Operations.{IsOther}
 
 -- the transaction that writes bytes from a page on
@@ -20,11 +19,6 @@ write_change c o first bytes = record { coll = c; ops = Write o (4096 * first) b
 -- the transaction that makes an object where it is missing
 abbrev pub touch_change : List ℕ → List ℕ → Change
 touch_change c o = record { coll = c; ops = Touch o ∷ [] }
-
--- the object has so many bytes, or is missing and has none
-pub data IsSizeOf (rows : Rows) (c o : List ℕ) : ℕ → Type 0 where
-  missing : finite.get rows (onode_key c o) ≡ None → IsSizeOf rows c o 0
-  there : (size : ℕ) → HasOnode rows c o size → IsSizeOf rows c o size
 
 -- The extents are those of the object's pages after whole pages are written from the first on, each on its unit. The other pages stand
 -- where they did. The object is at least as long as its last page that is written.

@@ -20,12 +20,14 @@ ghost use Rattle.store_image.specs.BadRows.{NoBadRow};
 ghost use Rattle.store_image.specs.Owners.{IsDataUnit, IsOwned, IsMarked, IsExactAs, HasSoleOwner};
 ghost use Rattle.store_image.specs.Stands.{IsShape, ObjectsStand};
 ghost use Rattle.row_facts.specs.Operations.{coll_ops};
-ghost use Rattle.object_rows.specs.Layouts.{Layout, HasLayout, made_of, MakesColl, MakesLayout};
-ghost use Rattle.object_rows.specs.Operations.{KeysAscend};
+ghost use Rattle.plan_rows.specs.Layouts.{Layout, HasLayout, made_of, MakesColl, MakesLayout};
+ghost use Rattle.plan_rows.specs.Difference.{KeysAscend};
 ghost use Rattle.object_rows.specs.Plans.{WritesPages, touch_ops};
 ghost use Rattle.object_rows.specs.Writes.{write_change, touch_change};
-ghost use Rattle.object_rows.specs.declared.plan.Plan.{Plan};
-ghost use Rattle.object_rows.specs.Planned.{CanPlanWrite, IsInColl, IsPlanned, HoldsFresh, IsFresh, StandsOnce, fresh_units};
+ghost use Rattle.plan_rows.specs.declared.plan.Plan.{Plan};
+ghost use Rattle.object_rows.specs.Planned.{CanPlanWrite, IsPlanned};
+ghost use Rattle.plan_rows.specs.Keeps.{PlansKeep};
+ghost use Rattle.plan_rows.specs.Plans.{IsInColl, HoldsFresh, IsFresh, StandsOnce, fresh_units};
 ghost use Rattle.meta_log.specs.Slots.{width_of};
 
 /// A planned transaction is accepted, its operations leave no bad row, and rows that stand for the objects after it, once its
@@ -128,4 +130,9 @@ pub fn plans_by_operations()
         → CanPlanWrite s rows c o (off / 4096) bytes units → (w : WritesPages (width_of s) rows c o (off / 4096) bytes units plan.ops plan.released)
         → (let x : Layout = record { size = w.before; pages = w.pages } in
         MakesLayout (width_of s) rows c o x (made_of (Write o off bytes) units x) units plan) }
+{}
+
+/// Each plan that the planner may make keeps and makes what is asked of a plan, and takes free units.
+pub fn plans_keep()
+    ensures { PlansKeep }
 {}

@@ -5,6 +5,7 @@ ghost use Rattle.std.specs.Prelude.{IfOk, IsTrue};
 ghost use Rattle.unit_fields.specs.declared.width.Width.TheVariants.{FourBytes};
 ghost use Rattle.block_device.specs.Memory.{disk_of};
 ghost use Rattle.read_facts.specs.Answers.{IsKnownRead};
+ghost use Rattle.read_facts.specs.PageReads.{no_memory};
 ghost use Rattle.object_reader.specs.Readable.{IsReadable};
 
 use crate::rows::{COLL, ONODE_A, SHARD_A0, superblock, table_of};
@@ -80,7 +81,7 @@ fn rows_of(alloc: Global, object: &Object) -> Result<RowTable, AllocError> {
 
 // Whether the rows and the device can be read.
 fn is_readable(alloc: Global, device: &MemoryDevice, rows: &RowTable) -> Result<bool, AllocError>
-    ensures { IfOk result (λ yes. IsTrue yes → IsReadable FourBytes rows.now.rows (disk_of device.now)) }
+    ensures { IfOk result (λ yes. IsTrue yes → IsReadable FourBytes no_memory rows.now.rows (disk_of device.now)) }
 {
     if device.units() != 200 || device.in_flight() != 0 {
         return Ok(false);

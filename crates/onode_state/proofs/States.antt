@@ -15,8 +15,8 @@ use Rattle.store_image.specs.Pages.{HasKey, HasOnode}
 use Rattle.store_image.proofs.PageMap.{in_place}
 use Rattle.blob_map.specs.Pages.{PageMap, HasNumbers}
 use Rattle.object_rows.specs.Operations.{AreShards}
-use Rattle.object_rows.specs.Maps.{AreShardsOf, extents_in, first_pages, IsMapOf}
-use Rattle.object_rows.specs.Writes.{IsSizeOf, missing, there}
+use Rattle.object_rows.specs.Maps.{AreShardsOf, extents_in, first_pages}
+use Rattle.plan_rows.specs.Layouts.{IsMapOf, IsSizeOf, missing, there}
 use Rattle.object_rows.proofs.LayoutOf.{climb_ascends, keys_there, map_by_shards, onode_under as onode_found}
 use Rattle.object_rows.proofs.Shards.{by_shards_numbers, by_shards_present, first_pages_climb}
 use Rattle.onode_state.specs.Objects.{AreRowsOfAStore}

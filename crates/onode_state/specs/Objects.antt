@@ -15,8 +15,8 @@ use Rattle.store_image.specs.BadRows.{NoBadRow}
 use Rattle.blob_map.specs.Pages.{PageMap, HasNumbers, extent_pages, with_pages}
 use Rattle.page_lookup.specs.Found.{place_found}
 use Rattle.object_rows.specs.Operations.{AreShards}
-use Rattle.object_rows.specs.Maps.{AreShardsOf, extents_in, first_pages, IsMapOf}
-use Rattle.object_rows.specs.Writes.{IsSizeOf}
+use Rattle.object_rows.specs.Maps.{AreShardsOf, extents_in, first_pages}
+use Rattle.plan_rows.specs.Layouts.{IsMapOf, IsSizeOf}
 
 -- no row is bad, for the sizes of some superblock
 pub record AreRowsOfAStore (rows : Rows) : Type 0 where

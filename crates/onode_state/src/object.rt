@@ -4,7 +4,7 @@ ghost use Rattle.meta_rows.specs.Table.{rows_from_to};
 ghost use Rattle.row_format.specs.Extents.{Extent, BeginsAt};
 ghost use Rattle.row_format.specs.Keys.{object_key, shard_key};
 ghost use Rattle.onode_codec.specs.Reading.{SpellsOnode, SpellExtents};
-ghost use Rattle.object_rows.specs.Writes.{IsSizeOf};
+ghost use Rattle.plan_rows.specs.Layouts.{IsSizeOf};
 ghost use Rattle.page_lookup.specs.Found.{HasUnit};
 ghost use Rattle.onode_state.specs.Objects.{AreRowsOfAStore, AreRowsOfWidth};
 ghost use Rattle.onode_state.specs.Objects.{IsShardValue, AddsShard, HasShards, IsStateOf, FindPagesOf};

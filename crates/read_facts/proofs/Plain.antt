@@ -6,7 +6,6 @@ use Rattle.std.specs.Option.{option_map_or}
 use Rattle.std.proofs.lemmas.Nat.{from_le_bytes-to_le_bytes_8}
 use Rattle.std.specs.FinMap as finite
 use Rattle.crc32c_csum.specs.Crc32c.{crc32c}
-use Rattle.block_device.specs.Disk.{Disk}
 use Rattle.object_model.specs.declared.op.Refusal.TheVariants.{NoCollection, NoObject, BadRange}
 use Rattle.object_model.specs.declared.command.Command.{Command}
 use Rattle.object_model.specs.declared.command.Command.TheVariants as ask
@@ -126,49 +125,50 @@ module _ (w : Width) (rows : Rows) (objects : Objects) (shape : IsShape rows obj
   IsPlain command a = IsAlike command a (reply_of command objects)
       ⊎ (IsTrue (is_of_device command a) × IsTrue (not (is_refused (reply_of command objects))))
 
-  -- an answer to a read of bytes
-  plain_read : (d : Disk) (c o : List ℕ) (off len : ℕ) (a : Answer) → IsAnswerOf w d rows (ask.Read c o off len) a → IsPlain (ask.Read c o off len) a
-  plain_read d c o off len (answer.Refused r) is =
-      inl (subst (IsAlike (ask.Read c o off len) (answer.Refused r)) (sym (is objects shape)) refl)
-  plain_read d c o off len (answer.Bytes bytes) is =
-      let given = read_given objects c o off len (is.0 objects shape) in
-      let read : ReadsBytes w d rows c o is.1.0 off len bytes = is.1.1 in
-      let size : length given.object.bytes ≡ is.1.0 = sym (size_is c o given.object is.1.0 given.under read.has_size) in
-      inl (subst (IsAlike (ask.Read c o off len) (answer.Bytes bytes)) (sym given.reply)
-      (ap length read.cut ∙ cut_length is.1.0 off len read.pages given.object.bytes read.good.size size))
-  plain_read d c o off len (answer.Csum unit kept found) is = inr (refl, is.0 objects shape)
-  plain_read d c o off len a is = absurd is.1
+  module _ (memory : ℕ → Option (List ℕ)) (held : ℕ → List ℕ → Type 0) where
+    -- an answer to a read of bytes
+    plain_read : (c o : List ℕ) (off len : ℕ) (a : Answer) → IsAnswerOf w memory held rows (ask.Read c o off len) a → IsPlain (ask.Read c o off len) a
+    plain_read c o off len (answer.Refused r) is =
+        inl (subst (IsAlike (ask.Read c o off len) (answer.Refused r)) (sym (is objects shape)) refl)
+    plain_read c o off len (answer.Bytes bytes) is =
+        let given = read_given objects c o off len (is.0 objects shape) in
+        let read : ReadsBytes w memory held rows c o is.1.0 off len bytes = is.1.1 in
+        let size : length given.object.bytes ≡ is.1.0 = sym (size_is c o given.object is.1.0 given.under read.has_size) in
+        inl (subst (IsAlike (ask.Read c o off len) (answer.Bytes bytes)) (sym given.reply)
+        (ap length read.cut ∙ cut_length is.1.0 off len read.pages given.object.bytes read.good.size size))
+    plain_read c o off len (answer.Csum unit kept found) is = inr (refl, is.0 objects shape)
+    plain_read c o off len a is = absurd is.1
 
-  -- an answer to a sum
-  plain_sum : (d : Disk) (c o : List ℕ) (a : Answer) → IsAnswerOf w d rows (ask.Sum c o) a → IsPlain (ask.Sum c o) a
-  plain_sum d c o (answer.Refused r) is = inl (subst (IsAlike (ask.Sum c o) (answer.Refused r)) (sym (is objects shape)) refl)
-  plain_sum d c o (answer.Sum size crc) is =
-      let given = sum_given objects c o (is.0 objects shape) in
-      inl (subst (IsAlike (ask.Sum c o) (answer.Sum size crc)) (sym given.reply) (size_is c o given.object size given.under is.1.1.0.has_size))
-  plain_sum d c o (answer.Csum unit kept found) is = inr (refl, is.0 objects shape)
-  plain_sum d c o a is = absurd is.1
+    -- an answer to a sum
+    plain_sum : (c o : List ℕ) (a : Answer) → IsAnswerOf w memory held rows (ask.Sum c o) a → IsPlain (ask.Sum c o) a
+    plain_sum c o (answer.Refused r) is = inl (subst (IsAlike (ask.Sum c o) (answer.Refused r)) (sym (is objects shape)) refl)
+    plain_sum c o (answer.Sum size crc) is =
+        let given = sum_given objects c o (is.0 objects shape) in
+        inl (subst (IsAlike (ask.Sum c o) (answer.Sum size crc)) (sym given.reply) (size_is c o given.object size given.under is.1.1.0.has_size))
+    plain_sum c o (answer.Csum unit kept found) is = inr (refl, is.0 objects shape)
+    plain_sum c o a is = absurd is.1
 
-  -- an answer with a size
-  pub plain_stat : (d : Disk) (c o : List ℕ) (a : Answer) → IsAnswerOf w d rows (ask.Stat c o) a → a ≡ reply_of (ask.Stat c o) objects
-  plain_stat d c o (answer.Refused r) is = sym (is objects shape)
-  plain_stat d c o (answer.Size size) is =
-      let given = stat_given objects c o (is.0 objects shape) in
-      ap answer.Size (size_is c o given.object size given.under is.1) ∙ sym given.reply
-  plain_stat d c o a is = absurd is.1
+    -- an answer with a size
+    pub plain_stat : (c o : List ℕ) (a : Answer) → IsAnswerOf w memory held rows (ask.Stat c o) a → a ≡ reply_of (ask.Stat c o) objects
+    plain_stat c o (answer.Refused r) is = sym (is objects shape)
+    plain_stat c o (answer.Size size) is =
+        let given = stat_given objects c o (is.0 objects shape) in
+        ap answer.Size (size_is c o given.object size given.under is.1) ∙ sym given.reply
+    plain_stat c o a is = absurd is.1
 
-  -- an answer with names
-  pub plain_list : (d : Disk) (c : List ℕ) (a : Answer) → IsCollName c → IsAnswerOf w d rows (ask.List c) a → a ≡ reply_of (ask.List c) objects
-  plain_list d c (answer.Refused r) coll is = sym (is objects shape)
-  plain_list d c (answer.Names names) coll is =
-      let given = list_given objects c (is.0 objects shape) in
-      let keys = object_keys rows objects c given.found shape coll given.there in
-      ap answer.Names (one_order (IsObject rows c) names (finite.keys given.found) is.1 keys) ∙ sym given.reply
-  plain_list d c a coll is = absurd is.1
+    -- an answer with names
+    pub plain_list : (c : List ℕ) (a : Answer) → IsCollName c → IsAnswerOf w memory held rows (ask.List c) a → a ≡ reply_of (ask.List c) objects
+    plain_list c (answer.Refused r) coll is = sym (is objects shape)
+    plain_list c (answer.Names names) coll is =
+        let given = list_given objects c (is.0 objects shape) in
+        let keys = object_keys rows objects c given.found shape coll given.there in
+        ap answer.Names (one_order (IsObject rows c) names (finite.keys given.found) is.1 keys) ∙ sym given.reply
+    plain_list c a coll is = absurd is.1
 
-  -- whatever the device tells
-  pub plain_answer : (d : Disk) (command : Command) (a : Answer) → HasReadNames command → IsAnswerOf w d rows command a → IsPlain command a
-  plain_answer d (ask.Read c o off len) a names is = plain_read d c o off len a is
-  plain_answer d (ask.Sum c o) a names is = plain_sum d c o a is
-  plain_answer d (ask.Stat c o) a names is = inl (plain_stat d c o a is)
-  plain_answer d (ask.List c) a names is = inl (plain_list d c a names is)
-  plain_answer d command a names is = absurd names
+    -- whatever is in memory and the units hold
+    pub plain_answer : (command : Command) (a : Answer) → HasReadNames command → IsAnswerOf w memory held rows command a → IsPlain command a
+    plain_answer (ask.Read c o off len) a names is = plain_read c o off len a is
+    plain_answer (ask.Sum c o) a names is = plain_sum c o a is
+    plain_answer (ask.Stat c o) a names is = inl (plain_stat c o a is)
+    plain_answer (ask.List c) a names is = inl (plain_list c a names is)
+    plain_answer command a names is = absurd names

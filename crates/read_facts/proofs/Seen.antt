@@ -1,6 +1,6 @@
--- Reads where the device tells what it holds, and no write of it ended badly.
-use Rattle.std.proofs.Common.{◌≡◌, ℕ, ◌+◌, ◌/◌, List, length, take, drop, Option, Some, sym, ap, subst, ◌∙◌, arith, take_all}
-use Rattle.std.specs.Prelude.{IfSome}
+-- Reads where the device tells what it holds, and no write of it ended badly, over a valuation of units: bytes in memory, else those last written.
+use Rattle.std.proofs.Common.{◌≡◌, ℕ, ◌+◌, ◌/◌, List, length, take, drop, Option, Some, None, unwrap_or, sym, ap, subst, ◌∙◌, arith, take_all}
+use Rattle.std.specs.Prelude.{IfSome, MatchOption}
 use Rattle.byte_maps.specs.Units.{unit_at}
 use Rattle.unit_fields.specs.declared.width.Width.{Width}
 use Rattle.crc32c_csum.specs.Crc32c.{crc32c}
@@ -14,13 +14,16 @@ use Rattle.object_model.specs.declared.command.Answer.TheVariants as answer
 use Rattle.object_model.specs.Objects.{Objects}
 use Rattle.object_model.specs.Reply.{reply_of}
 use Rattle.meta_rows.specs.Rows.{Rows}
+use Rattle.store_image.specs.Pages.{PageUnit}
 use Rattle.store_image.specs.Stands.{page_bytes, AreObjectBytes, ObjectsStand}
 use Rattle.read_facts.specs.PageReads.{IsHeldAt, IsGoodPage, hole, mapped, IsBadPage, ReadsBytes, FailsAt}
 use Rattle.read_facts.specs.Answers.{HasReadNames, IsAnswerOf}
 use Rattle.read_facts.proofs.Cut.{cut_is}
 use Rattle.read_facts.proofs.Plain.{read_given, sum_given, size_is, plain_stat, plain_list}
 
-module _ (w : Width) (d : Disk) (h : History) (tells : d.history ≡ Some h) (answered : (unit : ℕ) → HasNoBadDone h.log unit) where
+module _ (w : Width) (memory : ℕ → Option (List ℕ)) (d : Disk) (h : History) (tells : d.history ≡ Some h)
+    (answered : (unit : ℕ) → HasNoBadDone h.log unit) (at : ℕ → List ℕ)
+    (valued : (unit : ℕ) → at unit ≡ unwrap_or (memory unit) (last_at h unit)) where
   -- what a unit holds is what was last written there
   held_is : (unit : ℕ) (bytes : List ℕ) → IsHeldAt d unit bytes → bytes ≡ last_at h unit
   held_is unit bytes held =
@@ -28,41 +31,51 @@ module _ (w : Width) (d : Disk) (h : History) (tells : d.history ≡ Some h) (an
       subst (λ (x : Option History). IfSome x (λ (g : History). HasNoBadDone g.log unit → bytes ≡ last_at g unit)) tells held in
       of (answered unit)
 
-  module _ (rows : Rows) (c o : List ℕ) (bytes : List ℕ) (are : AreObjectBytes w (last_at h) rows c o bytes) where
+  -- what a unit gives is what it is valued at
+  given_is : (on : PageUnit) (copy : Option (List ℕ)) (bytes : List ℕ)
+      → MatchOption copy (IsHeldAt d on.unit bytes × (crc32c bytes ≡ on.csum)) (λ b. bytes ≡ b) → bytes ≡ unwrap_or copy (last_at h on.unit)
+  given_is on None bytes is = held_is on.unit bytes is.0
+  given_is on (Some b) bytes is = is
+
+  module _ (rows : Rows) (c o : List ℕ) (bytes : List ℕ) (are : AreObjectBytes w at rows c o bytes) where
     -- a good page is the object's
-    good_is : (page : ℕ) (read : List ℕ) → IsGoodPage w d rows c o page read → read ≡ page_bytes bytes page
+    good_is : (page : ℕ) (read : List ℕ) → IsGoodPage w memory (IsHeldAt d) rows c o page read → read ≡ page_bytes bytes page
     good_is page read (hole nowhere zero) = zero ∙ sym (are.holes page nowhere)
-    good_is page read (mapped on is held csum) = held_is on.unit read held ∙ sym (are.mapped page on is).seen
+    good_is page read (mapped on is gives) =
+        given_is on (memory on.unit) read gives ∙ sym (valued on.unit) ∙ sym (are.mapped page on is).seen
 
     -- no page is bad
-    none_bad : (page unit kept found : ℕ) → IsBadPage w d rows c o page unit kept found → ⊥
+    none_bad : (page unit kept found : ℕ) → IsBadPage w memory (IsHeldAt d) rows c o page unit kept found → ⊥
     none_bad page unit kept found bad =
         let seen = are.mapped page (record { unit = unit; csum = kept }) bad.is_on in
         let same : bad.bytes ≡ page_bytes bytes page =
-        held_is unit bad.bytes bad.held ∙ sym seen.seen in
+        held_is unit bad.bytes bad.holds
+        ∙ sym (valued unit ∙ ap (λ (copy : Option (List ℕ)). unwrap_or copy (last_at h unit)) bad.not_in_memory) ∙ sym seen.seen in
         bad.differs (bad.is_found ∙ ap crc32c same ∙ seen.kept)
 
     -- so a read gives the object's bytes
-    pub bytes_are : (off len : ℕ) (read : List ℕ) → ReadsBytes w d rows c o (length bytes) off len read → read ≡ take len (drop off bytes)
+    pub bytes_are : (off len : ℕ) (read : List ℕ) → ReadsBytes w memory (IsHeldAt d) rows c o (length bytes) off len read
+        → read ≡ take len (drop off bytes)
     bytes_are off len read r =
         r.cut ∙ cut_is bytes r.pages off len r.good.size (λ i below. good_is (off / 4096 + i) (unit_at i r.pages) (r.good.each i below))
 
     -- and none fails
-    pub none_fails : (size off len unit kept found : ℕ) → FailsAt w d rows c o size off len unit kept found → ⊥
+    pub none_fails : (size off len unit kept found : ℕ) → FailsAt w memory (IsHeldAt d) rows c o size off len unit kept found → ⊥
     none_fails size off len unit kept found f = none_bad (off / 4096 + f.first_bad.index) unit kept found f.first_bad.bad
 
-  module _ (rows : Rows) (objects : Objects) (stand : ObjectsStand w (last_at h) rows objects) where
+  module _ (rows : Rows) (objects : Objects) (stand : ObjectsStand w at rows objects) where
     -- a read of bytes is answered as the objects do
-    seen_read : (c o : List ℕ) (off len : ℕ) (a : Answer) → IsAnswerOf w d rows (ask.Read c o off len) a → a ≡ reply_of (ask.Read c o off len) objects
+    seen_read : (c o : List ℕ) (off len : ℕ) (a : Answer) → IsAnswerOf w memory (IsHeldAt d) rows (ask.Read c o off len) a
+        → a ≡ reply_of (ask.Read c o off len) objects
     seen_read c o off len (answer.Refused r) is = sym (is objects stand.shape)
     seen_read c o off len (answer.Bytes bytes) is =
         let given = read_given objects c o off len (is.0 objects stand.shape) in
-        let read : ReadsBytes w d rows c o is.1.0 off len bytes = is.1.1 in
+        let read : ReadsBytes w memory (IsHeldAt d) rows c o is.1.0 off len bytes = is.1.1 in
         let size : is.1.0 ≡ length given.object.bytes =
         size_is w rows objects stand.shape c o given.object is.1.0 given.under read.has_size in
         let same : bytes ≡ take len (drop off given.object.bytes) =
         bytes_are rows c o given.object.bytes (stand.bytes c o given.object given.under) off len bytes
-        (subst (λ (n : ℕ). ReadsBytes w d rows c o n off len bytes) size read) in
+        (subst (λ (n : ℕ). ReadsBytes w memory (IsHeldAt d) rows c o n off len bytes) size read) in
         ap answer.Bytes same ∙ sym given.reply
     seen_read c o off len (answer.Csum unit kept found) is =
         let given = read_given objects c o off len (is.0 objects stand.shape) in
@@ -70,16 +83,16 @@ module _ (w : Width) (d : Disk) (h : History) (tells : d.history ≡ Some h) (an
     seen_read c o off len a is = absurd is.1
 
     -- so is a sum
-    seen_sum : (c o : List ℕ) (a : Answer) → IsAnswerOf w d rows (ask.Sum c o) a → a ≡ reply_of (ask.Sum c o) objects
+    seen_sum : (c o : List ℕ) (a : Answer) → IsAnswerOf w memory (IsHeldAt d) rows (ask.Sum c o) a → a ≡ reply_of (ask.Sum c o) objects
     seen_sum c o (answer.Refused r) is = sym (is objects stand.shape)
     seen_sum c o (answer.Sum size crc) is =
         let given = sum_given objects c o (is.0 objects stand.shape) in
         let bytes : List ℕ = given.object.bytes in
-        let read : ReadsBytes w d rows c o size 0 size is.1.0 = is.1.1.0 in
+        let read : ReadsBytes w memory (IsHeldAt d) rows c o size 0 size is.1.0 = is.1.1.0 in
         let same_size : size ≡ length bytes = size_is w rows objects stand.shape c o given.object size given.under read.has_size in
         let same : is.1.0 ≡ take size (drop 0 bytes) =
         bytes_are rows c o bytes (stand.bytes c o given.object given.under) 0 size is.1.0
-        (subst (λ (n : ℕ). ReadsBytes w d rows c o n 0 size is.1.0) same_size read) in
+        (subst (λ (n : ℕ). ReadsBytes w memory (IsHeldAt d) rows c o n 0 size is.1.0) same_size read) in
         let crc_is : crc ≡ crc32c bytes =
         is.1.1.1 ∙ ap crc32c (same ∙ ap (λ (n : ℕ). take n bytes) same_size ∙ take_all (length bytes) bytes (omega arith)) in
         ap (λ (n : ℕ). answer.Sum n crc) same_size ∙ ap (answer.Sum (length bytes)) crc_is ∙ sym given.reply
@@ -89,9 +102,10 @@ module _ (w : Width) (d : Disk) (h : History) (tells : d.history ≡ Some h) (an
     seen_sum c o a is = absurd is.1
 
     -- a read is answered as the objects do
-    pub seen_answer : (command : Command) (a : Answer) → HasReadNames command → IsAnswerOf w d rows command a → a ≡ reply_of command objects
+    pub seen_answer : (command : Command) (a : Answer) → HasReadNames command → IsAnswerOf w memory (IsHeldAt d) rows command a
+        → a ≡ reply_of command objects
     seen_answer (ask.Read c o off len) a names is = seen_read c o off len a is
     seen_answer (ask.Sum c o) a names is = seen_sum c o a is
-    seen_answer (ask.Stat c o) a names is = plain_stat w rows objects stand.shape d c o a is
-    seen_answer (ask.List c) a names is = plain_list w rows objects stand.shape d c a names is
+    seen_answer (ask.Stat c o) a names is = plain_stat w rows objects stand.shape memory (IsHeldAt d) c o a is
+    seen_answer (ask.List c) a names is = plain_list w rows objects stand.shape memory (IsHeldAt d) c a names is
     seen_answer command a names is = absurd names

@@ -1,5 +1,5 @@
--- A walk over all objects, where the device tells what it holds, shows the objects that rows and units stand for.
-use Rattle.std.proofs.Common.{◌≡◌, ℕ, List, [], ◌∷◌, length, map, Some, None, Result, Ok, Err, refl, sym, ap, ◌∙◌}
+-- A walk over all objects, where the device tells what it holds, shows the objects that rows and units stand for, over the valuation of `Seen`.
+use Rattle.std.proofs.Common.{◌≡◌, ℕ, List, [], ◌∷◌, length, map, Option, Some, None, unwrap_or, Result, Ok, Err, refl, sym, ap, ◌∙◌}
 use Rattle.std.specs.List.{AllByRecursion}
 use Rattle.std.specs.FinMap as finite
 use Rattle.std.proofs.lemmas.Option.{same_Some}
@@ -23,6 +23,7 @@ use Rattle.read_facts.specs.declared.view.BadSum.{BadSum}
 use Rattle.read_facts.specs.declared.view.CollView.{CollView}
 use Rattle.read_facts.specs.declared.view.ObjectView.{ObjectView}
 use Rattle.read_facts.specs.Walks.{IsCollection, IsObject}
+use Rattle.read_facts.specs.PageReads.{IsHeldAt}
 use Rattle.read_facts.specs.Answers.{Gives}
 use Rattle.read_facts.specs.Views.{sum_answer, IsViewOf, object_names, coll_names, IsViewed, IsWhole, AreWholeButLast, WalksTo, WalksAll, views_in, views_of, IsGoodView, HasGoodViews}
 use Rattle.read_facts.proofs.Walks.{one_order, each_is, all_to, all_by, got_each}
@@ -53,18 +54,21 @@ made_of name key f P Q is (a ∷ xs) (b ∷ ys) same p q =
     λ i. first i ∷ rest i
 
 -- each collection was viewed
-each_viewed : (w : Width) (d : Disk) (rows : Rows) (colls : List CollView) → AreWholeButLast w d rows colls → AllByRecursion (IsViewed w d rows) colls
-each_viewed w d rows [] are = tt
-each_viewed w d rows (v ∷ []) are = (are, tt)
-each_viewed w d rows (v ∷ next ∷ more) are = (are.0.viewed, each_viewed w d rows (next ∷ more) are.1)
+each_viewed : (w : Width) (memory : ℕ → Option (List ℕ)) (held : ℕ → List ℕ → Type 0) (rows : Rows) (colls : List CollView)
+    → AreWholeButLast w memory held rows colls → AllByRecursion (IsViewed w memory held rows) colls
+each_viewed w memory held rows [] are = tt
+each_viewed w memory held rows (v ∷ []) are = (are, tt)
+each_viewed w memory held rows (v ∷ next ∷ more) are = (are.0.viewed, each_viewed w memory held rows (next ∷ more) are.1)
 
 -- the checksum in an answer
 abbrev crc_of : Answer → ℕ
 crc_of (answer.Sum size crc) = crc
 crc_of a = 0
 
-module _ (w : Width) (d : Disk) (h : History) (tells : d.history ≡ Some h) (answered : (unit : ℕ) → HasNoBadDone h.log unit)
-    (rows : Rows) (objects : Objects) (stand : ObjectsStand w (last_at h) rows objects) where
+module _ (w : Width) (memory : ℕ → Option (List ℕ)) (d : Disk) (h : History) (tells : d.history ≡ Some h)
+    (answered : (unit : ℕ) → HasNoBadDone h.log unit) (at : ℕ → List ℕ)
+    (valued : (unit : ℕ) → at unit ≡ unwrap_or (memory unit) (last_at h unit))
+    (rows : Rows) (objects : Objects) (stand : ObjectsStand w at rows objects) where
   -- ---- one object
 
   module _ (c o : List ℕ) (coll : IsCollection rows c) (is : IsObject rows c o) (object : Object)
@@ -77,18 +81,19 @@ module _ (w : Width) (d : Disk) (h : History) (tells : d.history ≡ Some h) (an
         ap (λ (b : Object). answer.Sum (length b.bytes) (crc32c b.bytes)) same ∙ sym given.reply
 
     -- the checksum in a view is the object's
-    sum_is : (size : ℕ) (sum : Result ℕ BadSum) → Gives w d rows (ask.Sum c o) (sum_answer size sum) → sum ≡ Ok (crc32c object.bytes)
+    sum_is : (size : ℕ) (sum : Result ℕ BadSum) → Gives w memory (IsHeldAt d) rows (ask.Sum c o) (sum_answer size sum)
+        → sum ≡ Ok (crc32c object.bytes)
     sum_is size (Ok crc) gives =
-        let e = seen_answer w d h tells answered rows objects stand (ask.Sum c o) (answer.Sum size crc) (coll.named, is.named)
+        let e = seen_answer w memory d h tells answered at valued rows objects stand (ask.Sum c o) (answer.Sum size crc) (coll.named, is.named)
         (sum_taken rows c o coll.named is.named coll.there is.there, gives) in
         ap Ok (ap crc_of (e ∙ sym sum_reply))
     sum_is size (Err bad) gives =
-        let e = seen_answer w d h tells answered rows objects stand (ask.Sum c o) (answer.Csum bad.unit bad.kept bad.found) (coll.named, is.named)
-        (sum_taken rows c o coll.named is.named coll.there is.there, gives) in
+        let e = seen_answer w memory d h tells answered at valued rows objects stand (ask.Sum c o) (answer.Csum bad.unit bad.kept bad.found)
+        (coll.named, is.named) (sum_taken rows c o coll.named is.named coll.there is.there, gives) in
         absurd (let same = e ∙ sym sum_reply in cc)
 
   -- a view of an object is good
-  good_view : (c : List ℕ) (v : ObjectView) → IsCollection rows c → IsViewOf w d rows c v → IsGoodView v
+  good_view : (c : List ℕ) (v : ObjectView) → IsCollection rows c → IsViewOf w memory (IsHeldAt d) rows c v → IsGoodView v
   good_view c v coll view =
       let object = some_of (object_under objects c v.name)
       ((object_present rows objects c v.name stand.shape coll.named view.is.named).1 view.is.there) in
@@ -96,7 +101,7 @@ module _ (w : Width) (d : Disk) (h : History) (tells : d.history ≡ Some h) (an
 
   -- it is the view of the object under its name
   view_is : (c : List ℕ) (found : Collection) → IsCollection rows c → finite.get objects c ≡ Some found → (v : ObjectView) (e : List ℕ × Object)
-      → v.name ≡ e.0 → IsViewOf w d rows c v → finite.get found e.0 ≡ Some e.1
+      → v.name ≡ e.0 → IsViewOf w memory (IsHeldAt d) rows c v → finite.get found e.0 ≡ Some e.1
       → v ≡ record { name = e.0; size = length e.1.bytes; sum = Ok (crc32c e.1.bytes) }
   view_is c found coll there v e name view got =
       let under : object_under objects c v.name ≡ Some e.1 = under_found objects c v.name found there ∙ ap (finite.get found) name ∙ got in
@@ -107,12 +112,12 @@ module _ (w : Width) (d : Disk) (h : History) (tells : d.history ≡ Some h) (an
   -- ---- one collection
 
   -- the views of a collection are good
-  viewed_good : (v : CollView) → IsCollection rows v.coll → IsViewed w d rows v → HasGoodViews v
+  viewed_good : (v : CollView) → IsCollection rows v.coll → IsViewed w memory (IsHeldAt d) rows v → HasGoodViews v
   viewed_good v coll viewed =
-      all_to (IsViewOf w d rows v.coll) IsGoodView (λ view is. good_view v.coll view coll is) v.objects viewed.each
+      all_to (IsViewOf w memory (IsHeldAt d) rows v.coll) IsGoodView (λ view is. good_view v.coll view coll is) v.objects viewed.each
 
   -- a collection all of whose objects were viewed is the view of the one under its name
-  whole_is : (v : CollView) (e : List ℕ × Collection) → v.coll ≡ e.0 → IsCollection rows v.coll × IsWhole w d rows v
+  whole_is : (v : CollView) (e : List ℕ × Collection) → v.coll ≡ e.0 → IsCollection rows v.coll × IsWhole w memory (IsHeldAt d) rows v
       → finite.get objects e.0 ≡ Some e.1
       → v ≡ record { coll = e.0; objects = views_in e.1 }
   whole_is v e name (coll, whole) got =
@@ -123,7 +128,7 @@ module _ (w : Width) (d : Disk) (h : History) (tells : d.history ≡ Some h) (an
       let views : v.objects ≡ views_in e.1 =
       made_of (λ (view : ObjectView). view.name) (λ (f : List ℕ × Object). f.0)
       (λ (f : List ℕ × Object). record { name = f.0; size = length f.1.bytes; sum = Ok (crc32c f.1.bytes) })
-      (IsViewOf w d rows v.coll) (λ (f : List ℕ × Object). finite.get e.1 f.0 ≡ Some f.1) (view_is v.coll e.1 coll there) v.objects
+      (IsViewOf w memory (IsHeldAt d) rows v.coll) (λ (f : List ℕ × Object). finite.get e.1 f.0 ≡ Some f.1) (view_is v.coll e.1 coll there) v.objects
       (finite.entries e.1)
       names whole.viewed.each (got_each e.1) in
       λ i. record { coll = name i; objects = views i }
@@ -131,23 +136,24 @@ module _ (w : Width) (d : Disk) (h : History) (tells : d.history ≡ Some h) (an
   -- ---- all of them
 
   -- each view of a walk is good
-  pub walk_good : (colls : List CollView) → WalksTo w d rows colls → AllByRecursion HasGoodViews colls
+  pub walk_good : (colls : List CollView) → WalksTo w memory (IsHeldAt d) rows colls → AllByRecursion HasGoodViews colls
   walk_good colls walk =
-      all_by (λ (v : CollView). IsCollection rows v.coll) (IsViewed w d rows) HasGoodViews viewed_good colls
+      all_by (λ (v : CollView). IsCollection rows v.coll) (IsViewed w memory (IsHeldAt d) rows) HasGoodViews viewed_good colls
       (all_unmapped (λ (v : CollView). v.coll) (IsCollection rows) colls (each_is (IsCollection rows) None (coll_names colls) walk.next))
-      (each_viewed w d rows colls walk.each)
+      (each_viewed w memory (IsHeldAt d) rows colls walk.each)
 
   -- a walk over all objects is the views of the objects
-  pub walk_is : (s : Super) → NoBadRow s rows → (colls : List CollView) → WalksAll w d rows colls → colls ≡ views_of objects
+  pub walk_is : (s : Super) → NoBadRow s rows → (colls : List CollView) → WalksAll w memory (IsHeldAt d) rows colls → colls ≡ views_of objects
   walk_is s good colls walk =
       let names : coll_names colls ≡ finite.keys objects =
       one_order (IsCollection rows) (coll_names colls) (finite.keys objects) walk.all (coll_keys s rows objects good stand.shape) in
-      let each : AllByRecursion (λ (v : CollView). IsCollection rows v.coll × IsWhole w d rows v) colls =
-      all_by (λ (v : CollView). IsCollection rows v.coll) (IsWhole w d rows) (λ (v : CollView). IsCollection rows v.coll × IsWhole w d rows v)
+      let each : AllByRecursion (λ (v : CollView). IsCollection rows v.coll × IsWhole w memory (IsHeldAt d) rows v) colls =
+      all_by (λ (v : CollView). IsCollection rows v.coll) (IsWhole w memory (IsHeldAt d) rows)
+      (λ (v : CollView). IsCollection rows v.coll × IsWhole w memory (IsHeldAt d) rows v)
       (λ v coll whole. (coll, whole)) colls
       (all_unmapped (λ (v : CollView). v.coll) (IsCollection rows) colls (each_is (IsCollection rows) None (coll_names colls) walk.all.next))
       walk.each in
       made_of (λ (v : CollView). v.coll) (λ (e : List ℕ × Collection). e.0)
       (λ (e : List ℕ × Collection). record { coll = e.0; objects = views_in e.1 })
-      (λ (v : CollView). IsCollection rows v.coll × IsWhole w d rows v) (λ (e : List ℕ × Collection). finite.get objects e.0 ≡ Some e.1) whole_is
-      colls (finite.entries objects) names each (got_each objects)
+      (λ (v : CollView). IsCollection rows v.coll × IsWhole w memory (IsHeldAt d) rows v)
+      (λ (e : List ℕ × Collection). finite.get objects e.0 ≡ Some e.1) whole_is colls (finite.entries objects) names each (got_each objects)

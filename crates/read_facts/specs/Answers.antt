@@ -1,7 +1,6 @@
--- What rows and a device answer to a command that reads.
-use Rattle.std.specs.Prelude.{◌≡◌, ℕ, List}
+-- What rows and units answer to a command that reads: units as in the reads of pages, by what is in memory and what is held.
+use Rattle.std.specs.Prelude.{◌≡◌, ℕ, List, Option}
 use Rattle.crc32c_csum.specs.Crc32c.{crc32c}
-use Rattle.block_device.specs.Disk.{Disk}
 use Rattle.object_model.specs.declared.command.Command.{Command}
 use Rattle.object_model.specs.declared.command.Command.TheVariants.{Read, Sum, Stat, List as ListObjects}
 use Rattle.object_model.specs.declared.command.Answer.{Answer}
@@ -31,16 +30,17 @@ HasReadNames (ListObjects c) = IsCollName c
 HasReadNames command = ⊥
 
 -- what a read gives that isn't refused
-abbrev pub Gives : Width → Disk → Rows → Command → Answer → Type 0
-Gives w d rows (Read c o off len) (answer.Bytes bytes) = (size : ℕ) × ReadsBytes w d rows c o size off len bytes
-Gives w d rows (Read c o off len) (answer.Csum unit kept found) = (size : ℕ) × FailsAt w d rows c o size off len unit kept found
-Gives w d rows (Sum c o) (answer.Sum size crc) = (bytes : List ℕ) × (ReadsBytes w d rows c o size 0 size bytes × (crc ≡ crc32c bytes))
-Gives w d rows (Sum c o) (answer.Csum unit kept found) = (size : ℕ) × FailsAt w d rows c o size 0 size unit kept found
-Gives w d rows (Stat c o) (answer.Size size) = HasOnode rows c o size
-Gives w d rows (ListObjects c) (answer.Names names) = AreAll (IsObject rows c) names
-Gives w d rows command a = ⊥
+abbrev pub Gives : Width → (ℕ → Option (List ℕ)) → (ℕ → List ℕ → Type 0) → Rows → Command → Answer → Type 0
+Gives w memory held rows (Read c o off len) (answer.Bytes bytes) = (size : ℕ) × ReadsBytes w memory held rows c o size off len bytes
+Gives w memory held rows (Read c o off len) (answer.Csum unit kept found) = (size : ℕ) × FailsAt w memory held rows c o size off len unit kept found
+Gives w memory held rows (Sum c o) (answer.Sum size crc) =
+    (bytes : List ℕ) × (ReadsBytes w memory held rows c o size 0 size bytes × (crc ≡ crc32c bytes))
+Gives w memory held rows (Sum c o) (answer.Csum unit kept found) = (size : ℕ) × FailsAt w memory held rows c o size 0 size unit kept found
+Gives w memory held rows (Stat c o) (answer.Size size) = HasOnode rows c o size
+Gives w memory held rows (ListObjects c) (answer.Names names) = AreAll (IsObject rows c) names
+Gives w memory held rows command a = ⊥
 
 -- The answer to a read: its refusal, or what it gives.
-abbrev pub IsAnswerOf : Width → Disk → Rows → Command → Answer → Type 0
-IsAnswerOf w d rows command (answer.Refused refusal) = IsRefusedBy rows command refusal
-IsAnswerOf w d rows command a = IsNotRefused rows command × Gives w d rows command a
+abbrev pub IsAnswerOf : Width → (ℕ → Option (List ℕ)) → (ℕ → List ℕ → Type 0) → Rows → Command → Answer → Type 0
+IsAnswerOf w memory held rows command (answer.Refused refusal) = IsRefusedBy rows command refusal
+IsAnswerOf w memory held rows command a = IsNotRefused rows command × Gives w memory held rows command a

@@ -1,5 +1,5 @@
--- Pages of an object, read from the device.
-use Rattle.std.specs.Prelude.{◌≡◌, ◌≢◌, ℕ, ◌+◌, ◌-◌, ◌/◌, ◌%◌, ◌<◌, min, nat_lt, List, length, take, drop, IfSome, if◌then◌else◌}
+-- Pages of an object, read from memory or from the device: which bytes of units are in memory, and what bytes a unit holds else, are arguments.
+use Rattle.std.specs.Prelude.{◌≡◌, ◌≢◌, ℕ, ◌+◌, ◌-◌, ◌/◌, ◌%◌, ◌<◌, min, nat_lt, List, length, take, drop, Option, None, IfSome, MatchOption, if◌then◌else◌}
 use Rattle.byte_maps.specs.Units.{unit_at, zeros, IsUnits}
 use Rattle.unit_fields.specs.declared.width.Width.{Width}
 use Rattle.crc32c_csum.specs.Crc32c.{crc32c}
@@ -13,33 +13,45 @@ use Rattle.store_image.specs.Pages.{HasOnode, PageUnit, IsPageOn, IsHole, pages_
 abbrev pub IsHeldAt : Disk → ℕ → List ℕ → Type 0
 IsHeldAt d unit bytes = IfSome d.history (λ h. HasNoBadDone h.log unit → bytes ≡ last_at h unit)
 
--- A page of an object is good: it is a hole and its bytes are zeros, or its unit holds them and their checksum is the one that is kept.
-pub data IsGoodPage (w : Width) (d : Disk) (rows : Rows) (c o : List ℕ) (page : ℕ) (bytes : List ℕ) : Type 0 where
-  hole : IsHole w rows c o page → bytes ≡ zeros 4096 → IsGoodPage w d rows c o page bytes
-  mapped : (on : PageUnit) → IsPageOn w rows c o page on → IsHeldAt d on.unit bytes → crc32c bytes ≡ on.csum
-      → IsGoodPage w d rows c o page bytes
+-- the bytes of no unit are in memory
+abbrev pub no_memory : ℕ → Option (List ℕ)
+no_memory unit = None
 
--- It is bad: its unit holds bytes whose checksum isn't the one that is kept.
-pub record IsBadPage (w : Width) (d : Disk) (rows : Rows) (c o : List ℕ) (page unit kept found : ℕ) : Type 0 where
+-- what a unit gives to a reader: its bytes in memory as they are, or those that it holds where they have the checksum that is kept
+abbrev pub IsRead : (ℕ → Option (List ℕ)) → (ℕ → List ℕ → Type 0) → PageUnit → List ℕ → Type 0
+IsRead memory held on bytes = MatchOption (memory on.unit) (held on.unit bytes × (crc32c bytes ≡ on.csum)) (λ b. bytes ≡ b)
+
+-- A page of an object is good: it is a hole and its bytes are zeros, or its unit gives them.
+pub data IsGoodPage (w : Width) (memory : ℕ → Option (List ℕ)) (held : ℕ → List ℕ → Type 0) (rows : Rows) (c o : List ℕ) (page : ℕ)
+    (bytes : List ℕ) : Type 0 where
+  hole : IsHole w rows c o page → bytes ≡ zeros 4096 → IsGoodPage w memory held rows c o page bytes
+  mapped : (on : PageUnit) → IsPageOn w rows c o page on → IsRead memory held on bytes → IsGoodPage w memory held rows c o page bytes
+
+-- It is bad: its unit isn't in memory and holds bytes whose checksum isn't the one that is kept.
+pub record IsBadPage (w : Width) (memory : ℕ → Option (List ℕ)) (held : ℕ → List ℕ → Type 0) (rows : Rows) (c o : List ℕ)
+    (page unit kept found : ℕ) : Type 0 where
   pub is_on : IsPageOn w rows c o page (record { unit = unit; csum = kept })
+  pub not_in_memory : memory unit ≡ None
   pub bytes : List ℕ
   pub size : length bytes ≡ 4096
-  pub held : IsHeldAt d unit bytes
+  pub holds : held unit bytes
   pub is_found : found ≡ crc32c bytes
   pub differs : found ≢ kept
 
 -- so many pages from the first on are good, and these are their bytes
-pub record AreGoodPages (w : Width) (d : Disk) (rows : Rows) (c o : List ℕ) (first count : ℕ) (bytes : List ℕ) : Type 0 where
+pub record AreGoodPages (w : Width) (memory : ℕ → Option (List ℕ)) (held : ℕ → List ℕ → Type 0) (rows : Rows) (c o : List ℕ)
+    (first count : ℕ) (bytes : List ℕ) : Type 0 where
   pub size : IsUnits count bytes
-  pub each : (i : ℕ) → i < count → IsGoodPage w d rows c o (first + i) (unit_at i bytes)
+  pub each : (i : ℕ) → i < count → IsGoodPage w memory held rows c o (first + i) (unit_at i bytes)
 
 -- of so many pages from the first on it is the first bad one
-pub record IsFirstBad (w : Width) (d : Disk) (rows : Rows) (c o : List ℕ) (first count unit kept found : ℕ) : Type 0 where
+pub record IsFirstBad (w : Width) (memory : ℕ → Option (List ℕ)) (held : ℕ → List ℕ → Type 0) (rows : Rows) (c o : List ℕ)
+    (first count unit kept found : ℕ) : Type 0 where
   pub index : ℕ
   pub within : index < count
   pub before : List ℕ
-  pub good : AreGoodPages w d rows c o first index before
-  pub bad : IsBadPage w d rows c o (first + index) unit kept found
+  pub good : AreGoodPages w memory held rows c o first index before
+  pub bad : IsBadPage w memory held rows c o (first + index) unit kept found
 
 -- ---- ranges of bytes
 
@@ -52,13 +64,15 @@ abbrev pub pages_read : ℕ → ℕ → ℕ → ℕ
 pages_read size off len = if nat_lt off (read_end size off len) then pages_of (read_end size off len) - off / 4096 else 0
 
 -- the bytes of a range of an object, cut at its size, where all pages that must be read are good
-pub record ReadsBytes (w : Width) (d : Disk) (rows : Rows) (c o : List ℕ) (size off len : ℕ) (bytes : List ℕ) : Type 0 where
+pub record ReadsBytes (w : Width) (memory : ℕ → Option (List ℕ)) (held : ℕ → List ℕ → Type 0) (rows : Rows) (c o : List ℕ)
+    (size off len : ℕ) (bytes : List ℕ) : Type 0 where
   pub has_size : HasOnode rows c o size
   pub pages : List ℕ
-  pub good : AreGoodPages w d rows c o (off / 4096) (pages_read size off len) pages
+  pub good : AreGoodPages w memory held rows c o (off / 4096) (pages_read size off len) pages
   pub cut : bytes ≡ take (read_end size off len - off) (drop (off % 4096) pages)
 
 -- the first of the pages that must be read that is bad
-pub record FailsAt (w : Width) (d : Disk) (rows : Rows) (c o : List ℕ) (size off len unit kept found : ℕ) : Type 0 where
+pub record FailsAt (w : Width) (memory : ℕ → Option (List ℕ)) (held : ℕ → List ℕ → Type 0) (rows : Rows) (c o : List ℕ)
+    (size off len unit kept found : ℕ) : Type 0 where
   pub has_size : HasOnode rows c o size
-  pub first_bad : IsFirstBad w d rows c o (off / 4096) (pages_read size off len) unit kept found
+  pub first_bad : IsFirstBad w memory held rows c o (off / 4096) (pages_read size off len) unit kept found

@@ -1,10 +1,9 @@
 -- What a walk over all objects shows of them.
-use Rattle.std.specs.Prelude.{◌≡◌, ℕ, List, [], ◌∷◌, length, map, None, Result, Ok, Err}
+use Rattle.std.specs.Prelude.{◌≡◌, ℕ, List, [], ◌∷◌, length, map, Option, None, Result, Ok, Err}
 use Rattle.std.specs.List.{AllByRecursion}
 use Rattle.std.specs.FinMap as finite
 use Rattle.unit_fields.specs.declared.width.Width.{Width}
 use Rattle.crc32c_csum.specs.Crc32c.{crc32c}
-use Rattle.block_device.specs.Disk.{Disk}
 use Rattle.object_model.specs.Objects.{Collection, Objects}
 use Rattle.object_model.specs.declared.command.Command.TheVariants as ask
 use Rattle.object_model.specs.declared.command.Answer.{Answer}
@@ -22,10 +21,11 @@ sum_answer size (Ok crc) = answer.Sum size crc
 sum_answer size (Err bad) = answer.Csum bad.unit bad.kept bad.found
 
 -- the view is of an object of the collection
-pub record IsViewOf (w : Width) (d : Disk) (rows : Rows) (c : List ℕ) (v : ObjectView) : Type 0 where
+pub record IsViewOf (w : Width) (memory : ℕ → Option (List ℕ)) (held : ℕ → List ℕ → Type 0) (rows : Rows) (c : List ℕ)
+    (v : ObjectView) : Type 0 where
   pub is : IsObject rows c v.name
-  pub has_size : Gives w d rows (ask.Stat c v.name) (answer.Size v.size)
-  pub sums : Gives w d rows (ask.Sum c v.name) (sum_answer v.size v.sum)
+  pub has_size : Gives w memory held rows (ask.Stat c v.name) (answer.Size v.size)
+  pub sums : Gives w memory held rows (ask.Sum c v.name) (sum_answer v.size v.sum)
 
 abbrev pub object_names : List ObjectView → List (List ℕ)
 object_names views = map (λ v. v.name) views
@@ -34,30 +34,30 @@ abbrev pub coll_names : List CollView → List (List ℕ)
 coll_names colls = map (λ v. v.coll) colls
 
 -- objects of a collection were viewed from the first one on
-pub record IsViewed (w : Width) (d : Disk) (rows : Rows) (v : CollView) : Type 0 where
+pub record IsViewed (w : Width) (memory : ℕ → Option (List ℕ)) (held : ℕ → List ℕ → Type 0) (rows : Rows) (v : CollView) : Type 0 where
   pub next : AreNext (IsObject rows v.coll) None (object_names v.objects)
-  pub each : AllByRecursion (IsViewOf w d rows v.coll) v.objects
+  pub each : AllByRecursion (IsViewOf w memory held rows v.coll) v.objects
 
 -- all of them were
-pub record IsWhole (w : Width) (d : Disk) (rows : Rows) (v : CollView) : Type 0 where
-  pub viewed : IsViewed w d rows v
+pub record IsWhole (w : Width) (memory : ℕ → Option (List ℕ)) (held : ℕ → List ℕ → Type 0) (rows : Rows) (v : CollView) : Type 0 where
+  pub viewed : IsViewed w memory held rows v
   pub past : IsPast (IsObject rows v.coll) (last_of None (object_names v.objects))
 
 -- of all collections but the last of these all objects were, and of that some
-abbrev pub AreWholeButLast : Width → Disk → Rows → List CollView → Type 0
-AreWholeButLast w d rows [] = Unit {0}
-AreWholeButLast w d rows (v ∷ []) = IsViewed w d rows v
-AreWholeButLast w d rows (v ∷ next ∷ more) = IsWhole w d rows v × AreWholeButLast w d rows (next ∷ more)
+abbrev pub AreWholeButLast : Width → (ℕ → Option (List ℕ)) → (ℕ → List ℕ → Type 0) → Rows → List CollView → Type 0
+AreWholeButLast w memory held rows [] = Unit {0}
+AreWholeButLast w memory held rows (v ∷ []) = IsViewed w memory held rows v
+AreWholeButLast w memory held rows (v ∷ next ∷ more) = IsWhole w memory held rows v × AreWholeButLast w memory held rows (next ∷ more)
 
 -- A walk has come so far: the collections in byte order from the first one on, and their objects.
-pub record WalksTo (w : Width) (d : Disk) (rows : Rows) (colls : List CollView) : Type 0 where
+pub record WalksTo (w : Width) (memory : ℕ → Option (List ℕ)) (held : ℕ → List ℕ → Type 0) (rows : Rows) (colls : List CollView) : Type 0 where
   pub next : AreNext (IsCollection rows) None (coll_names colls)
-  pub each : AreWholeButLast w d rows colls
+  pub each : AreWholeButLast w memory held rows colls
 
 -- a walk over all objects
-pub record WalksAll (w : Width) (d : Disk) (rows : Rows) (colls : List CollView) : Type 0 where
+pub record WalksAll (w : Width) (memory : ℕ → Option (List ℕ)) (held : ℕ → List ℕ → Type 0) (rows : Rows) (colls : List CollView) : Type 0 where
   pub all : AreAll (IsCollection rows) (coll_names colls)
-  pub each : AllByRecursion (IsWhole w d rows) colls
+  pub each : AllByRecursion (IsWhole w memory held rows) colls
 
 -- ---- the views of plain objects
 

@@ -1,5 +1,5 @@
 //! What the definitions come to. Each function has laws for its contract and does nothing.
-ghost use Rattle.std.specs.Prelude.{◌≡◌, ◌⊎◌, ◌≤◌, ℕ, ◌+◌, List, [], ◌∷◌, ◌++◌, IsTrue, not, Option, Some};
+ghost use Rattle.std.specs.Prelude.{◌≡◌, ◌⊎◌, ◌≤◌, ℕ, ◌+◌, List, [], ◌∷◌, ◌++◌, IsTrue, not, Option, Some, unwrap_or};
 ghost use Rattle.std.specs.List.{AllByRecursion};
 ghost use Rattle.std.specs.FinMap as map;
 ghost use Rattle.block_device.specs.Disk.{Disk, History};
@@ -13,10 +13,11 @@ ghost use Rattle.object_model.specs.Book.{is_refused, is_of_device};
 ghost use Rattle.object_model.specs.declared.command.Command.{Command};
 ghost use Rattle.object_model.specs.declared.command.Answer.{Answer};
 ghost use Rattle.store_image.specs.BadRows.{NoBadRow};
+ghost use Rattle.store_image.specs.Pages.{PageUnit, IsPageOn};
 ghost use Rattle.store_image.specs.Stands.{IsShape, ObjectsStand};
 ghost use Rattle.unit_fields.specs.Names.{IsCollName};
 ghost use Rattle.read_facts.specs.Walks.{IsCollection, IsObject, IsNextOf, AreNext, last_of, AreAll};
-ghost use Rattle.read_facts.specs.PageReads.{AreGoodPages, IsFirstBad};
+ghost use Rattle.read_facts.specs.PageReads.{IsHeldAt, IsGoodPage, IsBadPage, AreGoodPages, IsFirstBad};
 ghost use Rattle.read_facts.specs.Answers.{HasReadNames, IsAnswerOf};
 ghost use Rattle.read_facts.specs.Alike.{IsAlike};
 ghost use Rattle.read_facts.specs.Views.{WalksTo, WalksAll, HasGoodViews, views_of};
@@ -42,14 +43,17 @@ pub fn rows_have_objects()
 {}
 
 /// What is read page by page, and walked name by name: a run of good pages goes on with one more run of them or ends at a bad page, a walk goes on
-/// with the next name.
+/// with the next name. So it is whatever bytes are in memory.
 pub fn reads_and_walks_go_on()
-    ensures no_page { (w : Width) (d : Disk) (rows : Rows) (c o : List ℕ) (first : ℕ) → AreGoodPages w d rows c o first 0 [] }
-    ensures good_pages { (w : Width) (d : Disk) (rows : Rows) (c o : List ℕ) (first n m : ℕ) (xs ys : List ℕ) → AreGoodPages w d rows c o first n xs
-        → AreGoodPages w d rows c o (first + n) m ys → AreGoodPages w d rows c o first (n + m) (xs ++ ys) }
-    ensures bad_page { (w : Width) (d : Disk) (rows : Rows) (c o : List ℕ) (first n m count unit kept found : ℕ) (xs : List ℕ)
-        → AreGoodPages w d rows c o first n xs → IsFirstBad w d rows c o (first + n) m unit kept found → n + m ≤ count
-        → IsFirstBad w d rows c o first count unit kept found }
+    ensures no_page { (w : Width) (memory : ℕ → Option (List ℕ)) (d : Disk) (rows : Rows) (c o : List ℕ) (first : ℕ)
+        → AreGoodPages w memory (IsHeldAt d) rows c o first 0 [] }
+    ensures good_pages { (w : Width) (memory : ℕ → Option (List ℕ)) (d : Disk) (rows : Rows) (c o : List ℕ) (first n m : ℕ) (xs ys : List ℕ)
+        → AreGoodPages w memory (IsHeldAt d) rows c o first n xs → AreGoodPages w memory (IsHeldAt d) rows c o (first + n) m ys
+        → AreGoodPages w memory (IsHeldAt d) rows c o first (n + m) (xs ++ ys) }
+    ensures bad_page { (w : Width) (memory : ℕ → Option (List ℕ)) (d : Disk) (rows : Rows) (c o : List ℕ) (first n m count unit kept found : ℕ)
+        (xs : List ℕ) → AreGoodPages w memory (IsHeldAt d) rows c o first n xs
+        → IsFirstBad w memory (IsHeldAt d) rows c o (first + n) m unit kept found → n + m ≤ count
+        → IsFirstBad w memory (IsHeldAt d) rows c o first count unit kept found }
     ensures coll { (rows : Rows) (after : Option (List ℕ)) (names : List (List ℕ)) (name : List ℕ) → AreNext (IsCollection rows) after names
         → IsNextOf (IsCollection rows) (last_of after names) name → AreNext (IsCollection rows) after (names ++ name ∷ []) }
     ensures object { (rows : Rows) (c : List ℕ) (after : Option (List ℕ)) (names : List (List ℕ)) (name : List ℕ)
@@ -58,28 +62,39 @@ pub fn reads_and_walks_go_on()
     ensures last { (after : Option (List ℕ)) (names : List (List ℕ)) (name : List ℕ) → last_of after (names ++ name ∷ []) ≡ Some name }
 {}
 
-/// Whatever the device tells, a read is answered as objects would answer that have the shape of the rows, but for the bytes that it gives; or
-/// by a bad unit where they don't refuse it.
+/// Bytes in memory are read as they are, whatever checksum is kept for them: a page on such a unit is good with these bytes, and never bad.
+pub fn bytes_in_memory_are_read()
+    ensures good { (w : Width) (memory : ℕ → Option (List ℕ)) (d : Disk) (rows : Rows) (c o : List ℕ) (page : ℕ) (on : PageUnit)
+        (bytes : List ℕ) → IsPageOn w rows c o page on → memory on.unit ≡ Some bytes → IsGoodPage w memory (IsHeldAt d) rows c o page bytes }
+    ensures never_bad { (w : Width) (memory : ℕ → Option (List ℕ)) (d : Disk) (rows : Rows) (c o : List ℕ) (page unit kept found : ℕ)
+        (bytes : List ℕ) → memory unit ≡ Some bytes → ¬ IsBadPage w memory (IsHeldAt d) rows c o page unit kept found }
+{}
+
+/// Whatever is in memory and the device tells, a read is answered as objects would answer that have the shape of the rows, but for the bytes that
+/// it gives; or by a bad unit where they don't refuse it.
 pub fn reads_are_plain_but_for_bytes()
-    ensures { (w : Width) (d : Disk) (rows : Rows) (objects : Objects) (command : Command) (a : Answer) → IsShape rows objects → HasReadNames command
-        → IsAnswerOf w d rows command a → IsAlike command a (reply_of command objects)
+    ensures { (w : Width) (memory : ℕ → Option (List ℕ)) (d : Disk) (rows : Rows) (objects : Objects) (command : Command) (a : Answer)
+        → IsShape rows objects → HasReadNames command → IsAnswerOf w memory (IsHeldAt d) rows command a → IsAlike command a (reply_of command objects)
         ⊎ (IsTrue (is_of_device command a) × IsTrue (not (is_refused (reply_of command objects)))) }
 {}
 
 /// Where the device tells what it holds, no write of it ended badly, and rows and units stand for objects, a read is answered as these do, and so
-/// never by a bad unit.
+/// never by a bad unit. What a unit is taken to hold are its bytes in memory, else those last written there.
 pub fn reads_are_as_plain_objects()
-    ensures { (w : Width) (d : Disk) (h : History) (rows : Rows) (objects : Objects) (command : Command) (a : Answer) → d.history ≡ Some h
-        → ((unit : ℕ) → HasNoBadDone h.log unit) → ObjectsStand w (last_at h) rows objects → HasReadNames command
-        → IsAnswerOf w d rows command a → a ≡ reply_of command objects }
+    ensures { (w : Width) (memory : ℕ → Option (List ℕ)) (d : Disk) (h : History) (at : ℕ → List ℕ) (rows : Rows) (objects : Objects)
+        (command : Command) (a : Answer) → d.history ≡ Some h → ((unit : ℕ) → HasNoBadDone h.log unit)
+        → ((unit : ℕ) → at unit ≡ unwrap_or (memory unit) (last_at h unit)) → ObjectsStand w at rows objects → HasReadNames command
+        → IsAnswerOf w memory (IsHeldAt d) rows command a → a ≡ reply_of command objects }
 {}
 
 /// And a walk shows just these objects, no page of which is bad.
 pub fn walks_show_plain_objects()
-    ensures all { (d : Disk) (h : History) (s : Super) (rows : Rows) (objects : Objects) (colls : List CollView) → d.history ≡ Some h
-        → ((unit : ℕ) → HasNoBadDone h.log unit) → NoBadRow s rows → ObjectsStand (width_of s) (last_at h) rows objects
-        → WalksAll (width_of s) d rows colls → colls ≡ views_of objects }
-    ensures good { (w : Width) (d : Disk) (h : History) (rows : Rows) (objects : Objects) (colls : List CollView) → d.history ≡ Some h
-        → ((unit : ℕ) → HasNoBadDone h.log unit) → ObjectsStand w (last_at h) rows objects
-        → WalksTo w d rows colls → AllByRecursion HasGoodViews colls }
+    ensures all { (memory : ℕ → Option (List ℕ)) (d : Disk) (h : History) (at : ℕ → List ℕ) (s : Super) (rows : Rows) (objects : Objects)
+        (colls : List CollView) → d.history ≡ Some h → ((unit : ℕ) → HasNoBadDone h.log unit)
+        → ((unit : ℕ) → at unit ≡ unwrap_or (memory unit) (last_at h unit)) → NoBadRow s rows
+        → ObjectsStand (width_of s) at rows objects → WalksAll (width_of s) memory (IsHeldAt d) rows colls → colls ≡ views_of objects }
+    ensures good { (w : Width) (memory : ℕ → Option (List ℕ)) (d : Disk) (h : History) (at : ℕ → List ℕ) (rows : Rows) (objects : Objects)
+        (colls : List CollView) → d.history ≡ Some h → ((unit : ℕ) → HasNoBadDone h.log unit)
+        → ((unit : ℕ) → at unit ≡ unwrap_or (memory unit) (last_at h unit)) → ObjectsStand w at rows objects
+        → WalksTo w memory (IsHeldAt d) rows colls → AllByRecursion HasGoodViews colls }
 {}

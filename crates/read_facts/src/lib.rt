@@ -6,7 +6,8 @@ mod laws;
 mod view;
 
 pub use laws::{
-    names_come_in_one_order, reads_and_walks_go_on, reads_are_as_plain_objects,
-    reads_are_plain_but_for_bytes, rows_have_objects, walks_show_plain_objects,
+    bytes_in_memory_are_read, names_come_in_one_order, reads_and_walks_go_on,
+    reads_are_as_plain_objects, reads_are_plain_but_for_bytes, rows_have_objects,
+    walks_show_plain_objects,
 };
 pub use view::{BadSum, CollView, ObjectView};

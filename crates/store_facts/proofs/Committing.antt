@@ -76,7 +76,6 @@ take_waits s d s' x h' was is =
       };
       up = refl;
       far = far_at s.log.number (opens x false) h';
-      untouched = record { unsent = tt; rest = tt };
       room = record { fits = was.room.fits; reserved = was.room.reserved; room = was.room.room };
       falls = falls;
     })
@@ -135,7 +134,6 @@ commit_synced s d s' x pieces was what =
       };
       up = refl;
       far = far_at (s.log.number + 1) idle tt;
-      untouched = record { unsent = tt; rest = tt };
       room = record {
         fits = tt;
         reserved = rest s.log.reserved (x.need + 0) was.room.reserved;
@@ -207,7 +205,6 @@ finish_steps s d s' d' depth a standing ready does =
       };
       up = refl;
       far = standing.far;
-      untouched = record { unsent = standing.untouched.unsent; rest = standing.untouched.rest };
       room = record { fits = standing.room.fits; reserved = standing.room.reserved; room = standing.room.room };
       falls = falls;
     }))

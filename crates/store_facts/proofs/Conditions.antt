@@ -9,7 +9,7 @@ use Rattle.block_device.specs.declared.device.Ticket.{Ticket}
 use Rattle.meta_rows.specs.Spelling.{ops_bytes, AllFit}
 use Rattle.meta_log.specs.Records.{unit_count}
 use Rattle.meta_log.specs.Pieces.{piece_count}
-use Rattle.object_rows.specs.declared.plan.FreshUnit.{FreshUnit}
+use Rattle.plan_rows.specs.declared.plan.FreshUnit.{FreshUnit}
 use Rattle.store_steps.specs.declared.context.Context.{Context}
 use Rattle.store_steps.specs.declared.flight.FlushState.TheVariants as flush
 use Rattle.store_steps.specs.declared.flight.Flying.{Flying}
@@ -21,7 +21,7 @@ use Rattle.store_steps.specs.Contexts.{Unsent, unsent_units, run_bytes, next_uns
 use Rattle.store_steps.specs.Ready.{is_ready_up, is_ready_down, is_ready, applied_count, is_drained}
 use Rattle.store_facts.specs.Flights.{IsWaiting}
 use Rattle.store_facts.specs.Room.{FitsRecord, HasRoomFor}
-use Rattle.store_facts.specs.Space.{uncommitted}
+use Rattle.store_steps.specs.UnderWay.{uncommitted}
 use Rattle.store_facts.specs.Work.{entry_work, work_left}
 use Rattle.store_facts.specs.Kept.{IsAlwaysKept}
 use Rattle.store_facts.proofs.Stages.{Stage, idle, opens, flushes, flushed, writes, synced, pending_of, batch_of, begun_of, flying_at, record_with, pieces_at, Holds, at, IsAtStage, by_stage}
@@ -79,20 +79,6 @@ record_room s d a ready = room_at_device s d a (and_parts _ (nat_lt (length s.fl
 
 pub sync_room : (s : State) (d : Disk) → IsAlwaysKept s d → is_ready_up Sync d.depth s ≡ true → length d.flights < d.depth
 sync_room s d a ready = room_at_device s d a (and_parts _ (nat_lt (length s.flying) d.depth) ready).1
-
--- ---- nothing flies where a flush is ready
-
-pub flush_idle : (s : State) (depth : ℕ) → IsAtStage s → is_ready_up Flush depth s ≡ true → s.flying ≡ []
-flush_idle s depth far ready = by_stage (λ t. is_ready_up Flush depth t ≡ true → t.flying ≡ []) s every far ready
-  where
-    every : (g : Stage) → Holds s.log.number g → is_ready_up Flush depth (at s g) ≡ true → flying_at g ≡ []
-    every g h ready = ap flying_at (ready_flush s g depth ready).stage
-
-pub sync_idle : (s : State) (depth : ℕ) → IsAtStage s → is_ready_up Sync depth s ≡ true → s.flying ≡ []
-sync_idle s depth far ready = by_stage (λ t. is_ready_up Sync depth t ≡ true → t.flying ≡ []) s every far ready
-  where
-    every : (g : Stage) → Holds s.log.number g → is_ready_up Sync depth (at s g) ≡ true → flying_at g ≡ []
-    every g h ready = ap flying_at (ready_sync s g depth h ready).stage
 
 -- ---- Data
 
@@ -219,13 +205,6 @@ pub record ReadyRecord (s : State) (r : Begun) : Type 0 where
   pub flies : r.written + length s.flying ≡ r.given
   pub units : unit_count s.log.number r.ops ≡ context.need
   pub room : s.log.tail + unit_count s.log.number r.ops ≤ s.log.sup.half
-
--- nothing flies before its first piece is given
-pub record_idle : (s : State) (r : Begun) → ReadyRecord s r → r.given ≡ 0 → s.flying ≡ []
-record_idle s r ready none = no_flying s.flying (none_fly r.written (length s.flying) r.given ready.flies none)
-  where
-    none_fly : (written flying given : ℕ) → written + flying ≡ given → given ≡ 0 → flying ≡ 0
-    none_fly written flying given is zero_given = omega (arith, is, zero_given)
 
 record_writes : (s : State) (x : Context) (given written : ℕ) (flying : List Flying) (r : Begun)
     → (let g : Stage = writes x given written flying in Holds s.log.number g → given < pieces_at s.log.number x → HasRoomFor (at s g).log (x ∷ [])

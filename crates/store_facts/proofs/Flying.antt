@@ -66,7 +66,7 @@ module _ (ticket : Ticket) where
       of_test false rest = omega (arith, rest)
 
   -- so many are left that none was its own
-  none_out : (fs : List Flying) → length (others_of ticket fs) ≡ length fs → others_of ticket fs ≡ fs
+  pub none_out : (fs : List Flying) → length (others_of ticket fs) ≡ length fs → others_of ticket fs ≡ fs
   none_out [] same = refl
   none_out (f ∷ fs) same = of_test (is_its f) (few_others fs) (λ e. none_out fs e) same
     where

@@ -7,15 +7,17 @@ use Rattle.store_steps.specs.declared.step.Step.TheVariants.{Data, Reap, Take, F
 use Rattle.store_steps.specs.State.{State}
 use Rattle.store_steps.specs.Ready.{is_ready, is_ready_up, is_ready_down, is_empty}
 use Rattle.store_steps.specs.Runs.{DoesOrFails}
-use Rattle.store_facts.specs.Flights.{IsNextUntouched}
+use Rattle.store_steps.specs.Parts.{rows_part}
+use Rattle.store_facts.specs.Space.{AreRowsKept}
 use Rattle.store_facts.specs.Work.{measure}
 use Rattle.store_facts.specs.Kept.{IsAlwaysKept, IsKeptUp, IsKept}
 use Rattle.store_facts.proofs.Stepping.{IsStanding, Stepped, data_steps, flush_steps, seal_steps, record_steps, sync_steps, reap_steps}
 use Rattle.store_facts.proofs.Committing.{take_steps, commit_steps, finish_steps, waited_keeps, waited_more, GoneDown, bad_steps, late_steps}
 use Rattle.store_facts.proofs.Submitting.{Admitted, IsOpened}
 use Rattle.store_facts.proofs.Conditions.{Readiness, while_up, while_down, ready_cases}
-use Rattle.store_facts.proofs.RowsKept.{AreRowsKept}
 use Rattle.store_facts.proofs.Working.{measure_falls, measure_waits}
+use Rattle.store_facts.proofs.Alone.{few_under_way, far_of}
+use Rattle.store_facts.proofs.Matching.{Matches}
 
 -- What a step that was ready leaves: it has stepped, while the kernel was up; or something flies and the device gave no end of it; or a
 -- submission ended badly, or while the kernel was down.
@@ -27,7 +29,7 @@ pub data StepOutcome (s : State) (d : Disk) (s' : State) (d' : Disk) : Type 0 wh
 pub standing_of : (s : State) (d : Disk) → IsKept s d → s.down ≡ None → IsStanding s d
 standing_of s d kept down =
     let up : IsKeptUp s d = kept.up down in
-    record { up = down; far = up.far; untouched = up.untouched; room = up.room }
+    record { up = down; far = far_of s d up; room = up.room }
 
 up_leaves : (step : Step) (s : State) (d : Disk) (s' : State) (d' : Disk) → IsSound d' → IsAlwaysKept s d → IsStanding s d
     → is_ready_up step d.depth s ≡ true
@@ -87,29 +89,25 @@ work_falls step s d s' d' kept ready sound does = of_leaves (step_leaves step s 
 not_down : {A : Type 0} (o : Option A) → o ≡ None → is_some o ≡ true → ⊥
 not_down o none some = let e : is_some o ≡ false = ap is_some none in cc
 
-pub kept_of : (s : State) (d : Disk) → IsAlwaysKept s d → IsStanding s d → AreRowsKept s → IsKept s d
-kept_of s d always standing rows = record {
+pub kept_of : (s : State) (d : Disk) → IsAlwaysKept s d → IsStanding s d → Matches s d.flights → AreRowsKept (rows_part s) → IsKept s d
+kept_of s d always standing flights rows = record {
   always = always;
   up = λ _. record {
-    far = standing.far;
-    untouched = standing.untouched;
-    submitted = rows.submitted;
-    committed = rows.committed;
-    good = rows.good;
-    free = rows.free;
-    releases = rows.releases;
+    flights = flights;
+    few = few_under_way s.log.number s.pending s.batch s.log.begun s.flying standing.far;
+    rows = rows;
     room = standing.room;
   };
 }
 
-pub stepped_kept : (s s' : State) (d' : Disk) → s.down ≡ None → Stepped s s' d' → AreRowsKept s' → IsKept s' d'
-stepped_kept s s' d' up t rows = kept_of s' d' t.always (record { up = t.up ∙ up; far = t.far; untouched = t.untouched; room = t.room }) rows
+pub stepped_kept : (s s' : State) (d' : Disk) → s.down ≡ None → Stepped s s' d' → Matches s' d'.flights → AreRowsKept (rows_part s') → IsKept s' d'
+stepped_kept s s' d' up t flights rows = kept_of s' d' t.always (record { up = t.up ∙ up; far = t.far; room = t.room }) flights rows
 
-pub admitted_kept : (s s' : State) (d : Disk) → Admitted s s' d → AreRowsKept s' → IsKept s' d
-admitted_kept s s' d t rows = kept_of s' d t.always t.standing rows
+pub admitted_kept : (s s' : State) (d : Disk) → Admitted s s' d → Matches s' d.flights → AreRowsKept (rows_part s') → IsKept s' d
+admitted_kept s s' d t flights rows = kept_of s' d t.always t.standing flights rows
 
-pub opened_kept : (s : State) (d : Disk) → IsOpened s d → AreRowsKept s → IsKept s d
-opened_kept s d t rows = kept_of s d t.always t.standing rows
+pub opened_kept : (s : State) (d : Disk) → IsOpened s d → Matches s d.flights → AreRowsKept (rows_part s) → IsKept s d
+opened_kept s d t flights rows = kept_of s d t.always t.standing flights rows
 
 -- where the kernel is down the rows don't matter
 pub down_kept : (s s' : State) (d' : Disk) → GoneDown s s' d' → IsKept s' d'
@@ -123,13 +121,9 @@ waited_kept s d d' sound kept (inr more) = record {
   up = λ down.
       let up : IsKeptUp s d = kept.up down in
       record {
-        far = up.far;
-        untouched = subst (λ (e : Disk). IsNextUntouched s.log s.pending e.flights) (sym more.2) up.untouched;
-        submitted = up.submitted;
-        committed = up.committed;
-        good = up.good;
-        free = up.free;
-        releases = up.releases;
+        flights = subst (λ (e : Disk). Matches s e.flights) (sym more.2) up.flights;
+        few = up.few;
+        rows = up.rows;
         room = up.room;
       };
 }

@@ -1,5 +1,5 @@
 -- What a kernel that keeps its facts knows at each call: the conditions of what it calls in turn.
-use Rattle.std.proofs.Common.{◌≡◌, ℕ, zero, suc, ◌+◌, ◌-◌, ◌*◌, ◌%◌, ◌^◌, ◌<◌, ◌≤◌, true, List, [], length, Option, Some, None, IfSome, refl, sym, subst, arith}
+use Rattle.std.proofs.Common.{◌≡◌, ℕ, zero, suc, ◌+◌, ◌-◌, ◌*◌, ◌%◌, ◌^◌, ◌<◌, ◌≤◌, ◌==◌, ◌&&◌, Bool, true, nat_lt, List, [], ◌∷◌, ◌++◌, length, take, drop, Option, Some, None, IfSome, refl, sym, subst, arith}
 use Rattle.std.specs.List.{AllByRecursion}
 use Rattle.byte_maps.proofs.UnitLemmas.{length-units_from}
 use Rattle.block_device.specs.Disk.{Disk, IsNotInFlight}
@@ -12,42 +12,75 @@ use Rattle.meta_log.proofs.PieceLemmas.{lies}
 use Rattle.meta_log.proofs.SealLemmas.{length-record_units}
 use Rattle.meta_log.specs.Slots.{IsSuper, active_unit}
 use Rattle.store_image.specs.Owners.{IsDataUnit}
-use Rattle.object_rows.specs.declared.plan.FreshUnit.{FreshUnit}
+use Rattle.plan_rows.specs.declared.plan.FreshUnit.{FreshUnit}
 use Rattle.store_steps.specs.declared.context.Context.{Context}
 use Rattle.store_steps.specs.declared.step.Step.TheVariants.{Data, Flush, Seal, Record, Sync, Commit, Finish}
 use Rattle.meta_store.specs.Store.{Begun}
 use Rattle.store_steps.specs.State.{Batch, State}
 use Rattle.store_steps.specs.Contexts.{Unsent, unsent_units, run_bytes, next_unsent, batch_ops}
-use Rattle.store_steps.specs.Ready.{is_ready, is_drained}
+use Rattle.store_steps.specs.Ready.{is_not_sent, pieces_of, batch_is, begun_is, is_ready, is_drained}
 use Rattle.store_steps.specs.Steps.{piece_unit, piece_bytes}
-use Rattle.store_facts.specs.Flights.{IsUnsentUntouched, IsRestUntouched}
+use Rattle.store_facts.specs.Jobs.{log_flying, IsBatchOpen, IsLogFar, IsNone, IsGivenPiece}
 use Rattle.store_facts.specs.Kept.{IsKept, IsKeptUp}
 use Rattle.store_facts.proofs.Numbers.{NextAcked}
-use Rattle.store_facts.proofs.Pieces.{rest_untouched}
 use Rattle.store_facts.proofs.RunUnits.{row_at, all_front}
-use Rattle.store_facts.proofs.Untouched.{run_untouched}
+use Rattle.store_facts.proofs.Untouched.{all_then, run_untouched}
 use Rattle.store_facts.proofs.RowsFacts.{next_on_data}
-use Rattle.store_facts.proofs.Conditions.{ready_not_down, ready_by_table, data_room, flush_room, record_room, sync_room, flush_idle, sync_idle, ReadyData, data_ready, ReadySeal, seal_ready, ReadyRecord, record_idle, record_ready, ReadyCommit, commit_ready, finish_ready, events_fit, IsIdle, drained_is_idle, drained_device}
+use Rattle.store_facts.proofs.Conditions.{ready_not_down, ready_by_table, data_room, flush_room, record_room, sync_room, ReadyData, data_ready, ReadySeal, seal_ready, ReadyRecord, record_ready, ReadyCommit, commit_ready, finish_ready, events_fit, IsIdle, drained_is_idle, drained_device}
+use Rattle.store_facts.proofs.Alone.{far_of, none_waits}
+use Rattle.store_facts.proofs.Unflown.{unflown, none_left, rest_not_given, flush_unflown, sync_unflown}
+use Rattle.store_facts.proofs.MatchingSteps.{test_of, some_is}
+use Rattle.std.specs.Option.{option_map_or}
+use Rattle.std.proofs.lemmas.Bool.{and_parts, eqb-true}
+use Rattle.plan_rows.specs.declared.plan.FreshUnit.{FreshUnit}
+use Rattle.store_steps.specs.UnderWay.{all_fresh}
 
--- nothing is in flight, neither here nor at the device
-pub record NothingFlies (s : State) (d : Disk) : Type 0 where
-  pub here : s.flying ≡ []
-  pub device : d.flights ≡ []
+-- ---- what a flush covers isn't in flight
 
-none_at : (s : State) (d : Disk) → IsKept s d → s.flying ≡ [] → NothingFlies s d
-none_at s d kept none = record { here = none; device = drained_device s d kept.always none }
+-- where a batch is open no other context waits
+batch_alone : (s : State) (d : Disk) (b : Batch) → IsKeptUp s d → s.batch ≡ Some b → s.pending ≡ []
+batch_alone s d b up is =
+    let far : IsBatchOpen s.log.number b s.log.begun (log_flying s.flying) =
+    subst (λ (o : Option Batch). IsLogFar s.log.number o s.log.begun (log_flying s.flying)) is up.flights.log in
+    none_waits s.pending b far.some
+    (subst (λ (o : Option Batch). length (option_map_or (λ (c : Batch). c.contexts) o [] ++ s.pending) ≤ 1) is up.few)
 
--- ---- nothing flies where a flush is ready
+-- at the first flush no write in flight touches a unit of the batch
+pub flush_covers : (s : State) (d : Disk) (b : Batch) → IsKept s d → is_ready Flush d.depth s ≡ true → s.batch ≡ Some b
+    → AllByRecursion (λ f. IsUntouched d.flights f.unit) (all_fresh b.contexts)
+flush_covers s d b kept ready is = each (all_fresh b.contexts)
+  where
+    down : s.down ≡ None
+    down = ready_not_down s d.depth Flush refl ready
 
-pub flush_alone : (s : State) (d : Disk) → IsKept s d → is_ready Flush d.depth s ≡ true → NothingFlies s d
-flush_alone s d kept ready =
-    let down : s.down ≡ None = ready_not_down s d.depth Flush refl ready in
-    none_at s d kept (flush_idle s d.depth (kept.up down).far (ready_by_table s d.depth Flush down ready))
+    up : IsKeptUp s d
+    up = kept.up down
 
-pub sync_alone : (s : State) (d : Disk) → IsKept s d → is_ready Sync d.depth s ≡ true → NothingFlies s d
-sync_alone s d kept ready =
+    each : (fresh : List FreshUnit) → AllByRecursion (λ f. IsUntouched d.flights f.unit) fresh
+    each [] = tt
+    each (f ∷ fs) = (
+      flush_unflown s d.flights b f.unit up.flights is
+          (test_of (λ b. is_not_sent b.first) s.batch b is
+          (and_parts (batch_is (λ b. is_not_sent b.first) s) (nat_lt (length s.flying) d.depth) (ready_by_table s d.depth Flush down ready)).0)
+          (subst (λ (xs : List Context). AllByRecursion (λ x. IsNone (take x.given x.fresh) f.unit) xs) (sym (batch_alone s d b up is)) tt),
+      each fs,
+    )
+
+-- and at the second none touches a unit of the record
+pub sync_covers : (s : State) (d : Disk) (r : Begun) (j : ℕ) → IsKept s d → is_ready Sync d.depth s ≡ true → s.log.begun ≡ Some r
+    → j < unit_count s.log.number r.ops → IsUntouched d.flights (active_unit s.log.sup + (s.log.tail + j))
+sync_covers s d r j kept ready begun below =
     let down : s.down ≡ None = ready_not_down s d.depth Sync refl ready in
-    none_at s d kept (sync_idle s d.depth (kept.up down).far (ready_by_table s d.depth Sync down ready))
+    let up : IsKeptUp s d = kept.up down in
+    let ended : Bool = begun_is (λ r. r.written == pieces_of s.log.number r) s in
+    let both = and_parts (batch_is (λ b. is_not_sent b.second) s) ended
+    (and_parts (batch_is (λ b. is_not_sent b.second) s && ended) (nat_lt (length s.flying) d.depth) (ready_by_table s d.depth Sync down ready)).0 in
+    let b = some_is (λ b. is_not_sent b.second) s.batch both.0 in
+    sync_unflown s d.flights b.0 r (active_unit s.log.sup + (s.log.tail + j)) up.flights b.1 begun
+    (test_of (λ b. is_not_sent b.second) s.batch b.0 b.1 both.0)
+    (eqb-true r.written (pieces_of s.log.number r) (test_of (λ r. r.written == pieces_of s.log.number r) s.log.begun r begun both.1))
+    (subst (λ (xs : List Context). AllByRecursion (λ x. IsNone (take x.given x.fresh) (active_unit s.log.sup + (s.log.tail + j))) xs)
+    (sym (batch_alone s d b.0 up b.1)) tt)
 
 -- ---- the device takes one more submission where one is ready
 
@@ -68,22 +101,22 @@ known_sync_room s d kept ready = sync_room s d kept.always (ready_by_table s d.d
 pub known_data : (s : State) (d : Disk) (n : Unsent) → IsKept s d → is_ready Data d.depth s ≡ true → next_unsent s.pending ≡ Some n → ReadyData s n
 known_data s d n kept ready is =
     let up : IsKeptUp s d = kept.up (ready_not_down s d.depth Data refl ready) in
-    data_ready s n up.far up.room is
+    data_ready s n (far_of s d up) up.room is
 
 pub known_seal : (s : State) (d : Disk) (b : Batch) → IsKept s d → is_ready Seal d.depth s ≡ true → s.batch ≡ Some b → ReadySeal s b
 known_seal s d b kept ready is =
     let down : s.down ≡ None = ready_not_down s d.depth Seal refl ready in
-    seal_ready s d b (kept.up down).far kept.always (kept.up down).room (ready_by_table s d.depth Seal down ready) is
+    seal_ready s d b (far_of s d (kept.up down)) kept.always (kept.up down).room (ready_by_table s d.depth Seal down ready) is
 
 pub known_record : (s : State) (d : Disk) (r : Begun) → IsKept s d → is_ready Record d.depth s ≡ true → s.log.begun ≡ Some r → ReadyRecord s r
 known_record s d r kept ready is =
     let down : s.down ≡ None = ready_not_down s d.depth Record refl ready in
-    record_ready s d.depth r (kept.up down).far (kept.up down).room (ready_by_table s d.depth Record down ready) is
+    record_ready s d.depth r (far_of s d (kept.up down)) (kept.up down).room (ready_by_table s d.depth Record down ready) is
 
 pub known_commit : (s : State) (d : Disk) (b : Batch) → IsKept s d → is_ready Commit d.depth s ≡ true → s.batch ≡ Some b → ReadyCommit s b
 known_commit s d b kept ready is =
     let down : s.down ≡ None = ready_not_down s d.depth Commit refl ready in
-    commit_ready s d.depth b (kept.up down).far (kept.up down).room (ready_by_table s d.depth Commit down ready) is
+    commit_ready s d.depth b (far_of s d (kept.up down)) (kept.up down).room (ready_by_table s d.depth Commit down ready) is
 
 pub known_finish : (s : State) (d : Disk) → IsKept s d → is_ready Finish d.depth s ≡ true
     → (s.acked < length s.book.commits) × NextAcked s.book.commits s.acked
@@ -95,7 +128,7 @@ known_events s d kept = events_fit s d kept.always
 
 -- a drained kernel has nothing under way, and each commit is acknowledged
 pub known_idle : (s : State) (d : Disk) → IsKept s d → s.down ≡ None → is_drained d.depth s ≡ true → IsIdle s
-known_idle s d kept down drained = drained_is_idle s d (kept.up down).far kept.always down drained
+known_idle s d kept down drained = drained_is_idle s d (far_of s d (kept.up down)) kept.always down drained
 
 -- ---- the next data write
 
@@ -104,12 +137,15 @@ pub data_untouched : (s : State) (d : Disk) (n : Unsent) → IsKept s d → is_r
     → (k : ℕ) → n.first.unit ≤ k → k < n.first.unit + length (unsent_units n) → IsUntouched d.flights k
 data_untouched s d n kept ready is =
     let up : IsKeptUp s d = kept.up (ready_not_down s d.depth Data refl ready) in
-    let known : ReadyData s n = data_ready s n up.far up.room is in
-    let unsent : IsUnsentUntouched d.flights known.x =
-    (subst (λ (xs : List Context). AllByRecursion (IsUnsentUntouched d.flights) xs) known.pending up.untouched.unsent).0 in
+    let known : ReadyData s n = data_ready s n (far_of s d up) up.room is in
+    let none : AllByRecursion (λ f. IsNone (take known.x.given known.x.fresh) f.unit) (unsent_units n) =
+    all_front (λ f. IsNone (take known.x.given known.x.fresh) f.unit) (unsent_units n) (drop (known.x.given + length (unsent_units n)) known.x.fresh)
+    (subst (λ (fs : List FreshUnit). AllByRecursion (λ f. IsNone (take known.x.given known.x.fresh) f.unit) fs) known.run.left (none_left known.x known.fits)) in
     row_at (IsUntouched d.flights) n.first.unit (unsent_units n) known.run.row
-    (all_front (λ (f : FreshUnit). IsUntouched d.flights f.unit) (unsent_units n) _
-    (subst (λ (fs : List FreshUnit). AllByRecursion (λ (f : FreshUnit). IsUntouched d.flights f.unit) fs) known.run.left unsent))
+    (all_then (λ f. IsNone (take known.x.given known.x.fresh) f.unit) (λ f. IsUntouched d.flights f.unit)
+    (λ f out. unflown s.log s.pending s.flying d.flights f.unit up.flights.touches
+    (subst (λ (xs : List Context). AllByRecursion (λ x. IsNone (take x.given x.fresh) f.unit) xs) (sym known.pending) (out, tt))
+    (subst (λ (o : Option Begun). IfSome o (λ r. ¬ IsGivenPiece s.log r f.unit)) (sym known.begun) tt)) (unsent_units n) none)
 
 pub next_data_untouched : (s : State) (d : Disk) (n : Unsent) → IsKept s d → is_ready Data d.depth s ≡ true → next_unsent s.pending ≡ Some n
     → IsNotInFlight d n.first.unit (length (run_bytes (unsent_units n)))
@@ -154,9 +190,11 @@ pub record_untouched : (s : State) (d : Disk) (r : Begun) → IsKept s d → is_
     → (j : ℕ) → j < given_from (unit_count s.log.number r.ops) r.given → IsUntouched d.flights (active_unit s.log.sup + (s.log.tail + j))
 record_untouched s d r kept ready is =
     let up : IsKeptUp s d = kept.up (ready_not_down s d.depth Record refl ready) in
-    rest_untouched d.flights s.log r
-    (λ none. drained_device s d kept.always (record_idle s r (known_record s d r kept ready is) none))
-    (subst (λ (o : Option Begun). IfSome o (IsRestUntouched d.flights s.log)) is up.untouched.rest)
+    λ j below.
+    unflown s.log s.pending s.flying d.flights (active_unit s.log.sup + (s.log.tail + j)) up.flights.touches
+    (subst (λ (xs : List Context). AllByRecursion (λ x. IsNone (take x.given x.fresh) (active_unit s.log.sup + (s.log.tail + j))) xs)
+    (sym (known_record s d r kept ready is).pending) tt)
+    (subst (λ (o : Option Begun). IfSome o (λ k. ¬ IsGivenPiece s.log k (active_unit s.log.sup + (s.log.tail + j)))) (sym is) (rest_not_given s.log r j below))
 
 pub next_piece_untouched : (s : State) (d : Disk) (r : Begun) → IsKept s d → is_ready Record d.depth s ≡ true → s.log.begun ≡ Some r
     → IsNotInFlight d (piece_unit s.log r) (length (piece_bytes s.log.number r))
@@ -229,7 +267,5 @@ pub record_number : (s : State) (d : Disk) (b : Batch) → IsKept s d → is_rea
 record_number s d b kept ready is = (known_seal s d b kept ready is).number
 
 pub ruleset idle_laws = (idle_pending, idle_batch, idle_disk, idle_acked)
-
-pub ruleset alone_laws = (flush_alone, sync_alone)
 
 pub ruleset room_laws = (few_units, whole_units, data_inside, record_fits, record_spelled, record_number, known_events)

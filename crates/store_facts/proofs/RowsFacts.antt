@@ -1,30 +1,29 @@
 -- What a kernel that is up needs to know of units: those that it takes, writes and gives back.
-use Rattle.std.proofs.Common.{◌≡◌, ℕ, zero, suc, ◌+◌, ◌==◌, ◌&&◌, Bool, true, false, cond, List, [], ◌∷◌, ◌++◌, drop, Contains, Option, Some, None, refl, subst, ◌∙◌}
+use Rattle.std.proofs.Common.{◌≡◌, ℕ, zero, suc, ◌+◌, ◌==◌, ◌&&◌, Bool, true, false, cond, List, [], ◌∷◌, ◌++◌, map, drop, Contains, Option, Some, None, refl, sym, ap, subst, ◌∙◌}
 use Rattle.std.specs.Prelude.{nat_lt}
 use Rattle.std.specs.List.{flat_map, AllByRecursion}
 use Rattle.std.specs.Option.{option_or, option_map_or}
 use Rattle.std.proofs.lemmas.List.Elements.{Contains-append_left, Contains-append_right}
 use Rattle.std.proofs.lemmas.Option.{same_Some}
 use Rattle.block_device.specs.Disk.{Disk}
-use Rattle.object_model.specs.Effect.{Change}
 use Rattle.meta_log.specs.declared.slot.Super.{Super}
 use Rattle.store_image.specs.Owners.{IsDataUnit}
-use Rattle.object_rows.specs.declared.plan.FreshUnit.{FreshUnit}
-use Rattle.object_rows.specs.Planned.{IsPlanned, StandsOnce}
-use Rattle.unit_allocator.specs.Units.{IsWithin, is_free, given}
+use Rattle.plan_rows.specs.declared.plan.FreshUnit.{FreshUnit}
+use Rattle.unit_allocator.specs.Units.{is_free, given}
 use Rattle.unit_allocator.proofs.Lists.{Contains-head, Contains-tail}
+use Rattle.selections.proofs.Selecting.{fair_all}
 use Rattle.store_steps.specs.declared.context.Context.{Context}
 use Rattle.store_steps.specs.State.{Batch, State}
 use Rattle.store_steps.specs.Contexts.{Unsent, unsent_units, run_from, run_of, unsent, next_unsent, batch_released}
-use Rattle.store_steps.specs.Submit.{IsKnown, Accepts}
-use Rattle.store_facts.specs.Space.{uncommitted}
+use Rattle.store_steps.specs.Intents.{Intent, intents, is_in, released_by, EachIsPlanned, AreTakenApart, SpaceIsCounted}
+use Rattle.store_steps.specs.UnderWay.{uncommitted}
+use Rattle.store_steps.specs.Parts.{rows_part}
+use Rattle.space_facts.proofs.Selected.{selected_on_data}
+use Rattle.space_facts.proofs.Spaces.{released_on_data, not_free_until}
+use Rattle.store_facts.specs.Space.{AreRowsKept}
 use Rattle.store_facts.specs.Kept.{IsKept}
-use Rattle.store_facts.proofs.SpaceUnits.{AreData}
-use Rattle.store_facts.proofs.RowsKept.{rows_of_kept}
-use Rattle.store_facts.proofs.RowsPages.{owned_is_data}
-use Rattle.store_facts.proofs.RowsPlans.{units_of, PlanFits}
-use Rattle.store_facts.proofs.RowsAccepted.{accepted_plan, accepted_fits}
-use Rattle.store_facts.proofs.RowsCommitted.{released_data, released_within, released_taken, released_once, released_in_turn}
+use Rattle.store_facts.proofs.SpaceUnits.{AreData, data_within}
+use Rattle.store_facts.proofs.PartsKept.{flat_intents, intents_both}
 
 -- ---- the units of the next data write
 
@@ -61,6 +60,9 @@ module _ (P : FreshUnit → Type 0) where
 
 -- ---- the units that contexts took
 
+abbrev pub units_of : List FreshUnit → List ℕ
+units_of fresh = map (λ f. f.unit) fresh
+
 abbrev pub taken_by : List Context → List ℕ
 taken_by xs = flat_map (λ x. units_of x.fresh) xs
 
@@ -81,9 +83,16 @@ each_on_data s (x ∷ xs) all = (
 )
 
 module _ (s : State) (d : Disk) (kept : IsKept s d) (up : s.down ≡ None) where
+  rows : AreRowsKept (rows_part s)
+  rows = (kept.up up).rows
+
+  abbrev xs : List Intent
+  xs = intents (uncommitted s)
+
   -- they are data units
   pub taken_data : AreData s.log.sup (taken_by (uncommitted s))
-  taken_data u c = owned_is_data s.log.sup s.log.rows s.submitted u (kept.up up).good ((kept.up up).releases.taken_is u c)
+  taken_data u c = selected_on_data s.log.sup s.log.rows xs rows.good rows.planned xs (fair_all is_in xs) u
+      (subst (λ us. Contains us u) (sym (flat_intents (λ x. units_of x.fresh) (uncommitted s))) c)
 
   pub pending_on_data : AllByRecursion (λ x. AllByRecursion (λ f. IsDataUnit s.log.sup f.unit) x.fresh) s.pending
   pending_on_data = each_on_data s.log.sup s.pending
@@ -92,31 +101,35 @@ module _ (s : State) (d : Disk) (kept : IsKept s d) (up : s.down ≡ None) where
   pub next_on_data : (n : Unsent) → next_unsent s.pending ≡ Some n → AllByRecursion (λ f. IsDataUnit s.log.sup f.unit) (unsent_units n)
   next_on_data n is = next_has (λ f. IsDataUnit s.log.sup f.unit) s.pending n pending_on_data is
 
-  -- ---- what an accepted transaction takes
-
-  pub plan_is : (client line : ℕ) (change : Change) (s' : State) → IsKnown change.ops → (does : Accepts client line change s s')
-      → IsPlanned s.log.sup s.submitted change does.plan
-  plan_is client line change s' known does = accepted_plan s client line change s' kept.always.limits (rows_of_kept s d kept up) known does
-
-  pub plan_fits_of : (client line : ℕ) (change : Change) (s' : State) → IsKnown change.ops → (does : Accepts client line change s s')
-      → PlanFits does.plan
-  plan_fits_of client line change s' known does = accepted_fits s client line change s' kept.always.limits (rows_of_kept s d kept up) known does
-
-  -- ---- the units that the batch's context released
+  -- ---- the units that the batch releases
 
   module _ (b : Batch) (is_open : s.batch ≡ Some b) where
+    abbrev front : List Intent
+    front = intents b.contexts
+
+    abbrev back : List Intent
+    back = intents s.pending
+
+    both : xs ≡ front ++ back
+    both = ap (λ batch. intents (option_map_or (λ (c : Batch). c.contexts) batch [] ++ s.pending)) is_open ∙ intents_both b.contexts s.pending
+
+    planned : EachIsPlanned s.log.sup s.log.rows (front ++ back)
+    planned = subst (EachIsPlanned s.log.sup s.log.rows) both rows.planned
+
+    apart : AreTakenApart s.log.rows (front ++ back)
+    apart = subst (AreTakenApart s.log.rows) both rows.apart
+
+    counted : SpaceIsCounted s.log.sup s.log.rows (front ++ back) s.space
+    counted = subst (λ is. SpaceIsCounted s.log.sup s.log.rows is s.space) both rows.counted
+
+    released_are : released_by front ≡ batch_released b
+    released_are = flat_intents (λ x. x.released) b.contexts
+
     pub back_data : AreData s.log.sup (batch_released b)
-    back_data = released_data s (rows_of_kept s d kept up) (kept.up up).far b is_open
-
-    pub back_within : (u : ℕ) → Contains (batch_released b) u → IsWithin s.space u
-    back_within = released_within s (rows_of_kept s d kept up) (kept.up up).far b is_open
-
-    pub back_taken : (u : ℕ) → Contains (batch_released b) u → is_free s.space u ≡ false
-    back_taken = released_taken s (rows_of_kept s d kept up) (kept.up up).far b is_open
-
-    pub back_once : (u : ℕ) → StandsOnce (batch_released b) u
-    back_once = released_once s (rows_of_kept s d kept up) (kept.up up).far b is_open
+    back_data u c = released_on_data s.log.sup s.log.rows front back rows.good planned apart u (subst (λ us. Contains us u) (sym released_are) c)
 
     -- those that come back one after the other aren't free until it is their turn
-    pub back_in_turn : (front rest : List ℕ) (u : ℕ) → batch_released b ≡ front ++ (u ∷ rest) → is_free (given s.space front) u ≡ false
-    back_in_turn = released_in_turn s (rows_of_kept s d kept up) (kept.up up).far b is_open
+    pub back_in_turn : (given_back rest : List ℕ) (u : ℕ) → batch_released b ≡ given_back ++ (u ∷ rest) → is_free (given s.space given_back) u ≡ false
+    back_in_turn given_back rest u are =
+        not_free_until s.log.sup s.log.rows front back rows.good planned apart s.space given_back rest u
+        (λ v on. data_within s.log.sup s.space v kept.always.space on) (λ v c. kept.always.space.unheld v) counted (released_are ∙ are)

@@ -3,17 +3,13 @@ use Rattle.std.proofs.Common.{◌≡◌, ℕ, ◌+◌, ◌-◌, ◌*◌, ◌^◌
 use Rattle.std.specs.List.{AllByRecursion}
 use Rattle.std.proofs.lemmas.Bool.{eq-eqb}
 use Rattle.std.proofs.lemmas.Option.{same_Some}
-use Rattle.unit_fields.specs.UnitSet.{Ascends}
 use Rattle.block_device.specs.Disk.{Disk, Flight, flight_of, without, IsSound, Submitted}
-use Rattle.block_device.specs.Facts.{IsUntouched}
 use Rattle.block_device.specs.declared.device.Ticket.{Ticket}
 use Rattle.block_device.specs.declared.event.Event.{Event}
 use Rattle.block_device.specs.declared.event.Event.TheVariants as event
 use Rattle.meta_log.specs.Records.{unit_count}
-use Rattle.meta_log.specs.Pieces.{piece_count, given_from, piece_first, piece_units, LiesInRecord}
-use Rattle.meta_log.proofs.PieceLemmas.{lies}
-use Rattle.meta_log.specs.Slots.{active_unit}
-use Rattle.object_rows.specs.declared.plan.FreshUnit.{FreshUnit}
+use Rattle.meta_log.specs.Pieces.{piece_count}
+use Rattle.plan_rows.specs.declared.plan.FreshUnit.{FreshUnit}
 use Rattle.store_steps.specs.declared.context.Context.{Context}
 use Rattle.store_steps.specs.declared.flight.FlushState.TheVariants as flush
 use Rattle.store_steps.specs.declared.flight.Flying.{Flying}
@@ -26,24 +22,22 @@ use Rattle.store_steps.specs.Contexts.{given_more, done_more, sum_needs, with_co
 use Rattle.store_steps.specs.Changes.{sent, data_sent, flush_sent, record_sent, sync_sent, after_done, sealed}
 use Rattle.store_steps.specs.Ready.{is_ready_up, is_empty}
 use Rattle.store_steps.specs.Steps.{DoesData, Takes, DoesFlush, DoesSeal, DoesRecord, DoesSync, piece_unit, piece_bytes}
-use Rattle.store_facts.specs.Flights.{AreFlights, IsWaiting, IsDataOf, units_of, flying_units, IsUnsentUntouched, IsRestUntouched, IsNextUntouched}
+use Rattle.store_facts.specs.Flights.{AreFlights, IsWaiting, IsDataOf, units_of, flying_units}
 use Rattle.store_facts.specs.Room.{FitsRecord, HasRoomFor}
-use Rattle.store_facts.specs.Space.{uncommitted}
+use Rattle.store_steps.specs.UnderWay.{uncommitted}
 use Rattle.store_facts.specs.Work.{entry_work, work_left}
 use Rattle.store_facts.specs.Kept.{IsAlwaysKept}
 use Rattle.store_facts.proofs.Stages.{Stage, waits, opens, flushes, flushed, writes, syncs, synced, pending_of, batch_of, flying_at, one_flight, record_with, record_at, pieces_at, Holds, at, IsAtStage, far_at, by_stage}
-use Rattle.store_facts.proofs.Pieces.{pieces_needed, given_fits, done_fits, rest_untouched, all_given, none_given}
-use Rattle.store_facts.proofs.RunUnits.{IsRunOf, row_bytes, row_behind, ascend_drop, all_drop, all_front, all_behind, all_both}
-use Rattle.store_facts.proofs.Untouched.{all_then, sent_untouched, apart_before, apart_behind, left_unsent, left_rest}
+use Rattle.store_facts.proofs.Pieces.{pieces_needed, given_fits, done_fits}
+use Rattle.store_facts.proofs.RunUnits.{IsRunOf}
 use Rattle.store_facts.proofs.Readiness.{contexts_of, no_flying, next_write, ready_flush, ready_record, ready_sync}
-use Rattle.store_facts.proofs.Flying.{idle_device, sent_flights, sent_flight, sent_units, others_of, found_holds, others_hold, Landed, landed_flight, reaped_good}
+use Rattle.store_facts.proofs.Flying.{sent_flight, sent_units, others_of, found_holds, others_hold, Landed, landed_flight, reaped_good}
 use Rattle.store_facts.proofs.Working.{stage_work, batched, unacked, work_at}
 
 -- what is kept of a kernel that isn't down, but for the rows
 pub record IsStanding (s : State) (d : Disk) : Type 0 where
   pub up : s.down ≡ None
   pub far : IsAtStage s
-  pub untouched : IsNextUntouched s.log s.pending d.flights
   pub room : HasRoomFor s.log (uncommitted s)
 
 -- what a step leaves, of the facts that rows have no part in
@@ -51,7 +45,6 @@ pub record Stepped (s s' : State) (d' : Disk) : Type 0 where
   pub always : IsAlwaysKept s' d'
   pub up : s'.down ≡ s.down
   pub far : IsAtStage s'
-  pub untouched : IsNextUntouched s'.log s'.pending d'.flights
   pub room : HasRoomFor s'.log (uncommitted s')
   pub falls : work_left s' < work_left s
 
@@ -75,17 +68,15 @@ pub record IsAt (s : State) (d : Disk) (g : Stage) : Type 0 where
   pub holds : Holds s.log.number g
   pub always : IsAlwaysKept (at s g) d
   pub up : s.down ≡ None
-  pub untouched : IsNextUntouched (at s g).log (pending_of g) d.flights
   pub room : HasRoomFor (at s g).log (contexts_of g)
 
 -- what a step does at the device, as far as this matters
-record IsMoved (d d' : Disk) (g' : Stage) (m : Meta) : Type 0 where
+record IsMoved (d d' : Disk) (g' : Stage) : Type 0 where
   sound : IsSound d'
   units : d'.units ≡ d.units
   flights : AreFlights (flying_at g') d'.flights
-  untouched : IsNextUntouched m (pending_of g') d'.flights
 
-moved : (s : State) (d d' : Disk) (g g' : Stage) (e : ℕ) → IsAt s d g → Holds s.log.number g' → IsLike g g' → IsMoved d d' g' (at s g').log
+moved : (s : State) (d d' : Disk) (g g' : Stage) (e : ℕ) → IsAt s d g → Holds s.log.number g' → IsLike g g' → IsMoved d d' g'
     → stage_work g' < stage_work g → e ≤ s.events + 1 → Stepped (at s g) (record (at s g') { events = e }) d'
 moved s d d' g g' e was h' like does less more =
     let a : IsAlwaysKept (at s g) d = was.always in
@@ -111,7 +102,6 @@ moved s d d' g g' e was h' like does less more =
       };
       up = refl;
       far = far_at s.log.number g' h';
-      untouched = record { unsent = does.untouched.unsent; rest = does.untouched.rest };
       room = record { fits = fits; reserved = (was.room).reserved ∙ sym like.needs; room = (was.room).room };
       falls = falls;
     }
@@ -123,9 +113,9 @@ AtStage does s d s' d' g = IsAt s d g → does (at s g) → Stepped (at s g) s' 
 pub by_stages : (does : State → Type 0) (s : State) (d : Disk) (s' : State) (d' : Disk) → ((g : Stage) → AtStage does s d s' d' g)
     → IsAlwaysKept s d → IsStanding s d → does s → Stepped s s' d'
 by_stages does s d s' d' every a standing what =
-    by_stage (λ t. IsAlwaysKept t d → IsNextUntouched t.log t.pending d.flights → HasRoomFor t.log (uncommitted t) → does t → Stepped t s' d') s
-    (λ g h kept untouched room. every g (record { holds = h; always = kept; up = standing.up; untouched = untouched; room = room }))
-    standing.far a standing.untouched standing.room what
+    by_stage (λ t. IsAlwaysKept t d → HasRoomFor t.log (uncommitted t) → does t → Stepped t s' d') s
+    (λ g h kept room. every g (record { holds = h; always = kept; up = standing.up; room = room }))
+    standing.far a standing.room what
 
 same_place : (x : Context) (change : Context → Context) → with_context x.place change (x ∷ []) ≡ change x ∷ []
 same_place x change = ap (λ (b : Bool). cond b (change x) x ∷ []) (eq-eqb x.place x.place refl)
@@ -142,32 +132,6 @@ length_push xs y = length-append xs (y ∷ [])
 units_push : (fs : List Flying) (f : Flying) → flying_units (fs ++ f ∷ []) ≡ flying_units fs + units_of f.job
 units_push [] f = omega arith
 units_push (g ∷ fs) f = omega (arith, units_push fs f)
-
--- the units behind a run are apart from it, and what they were apart from before
-pub behind_run : (x : Context) (n : Unsent) (d d' : Disk) (ticket : Ticket) → FitsRecord x → IsRunOf x n → IsUnsentUntouched d.flights x
-    → d'.flights ≡ d.flights ++ flight_of ticket.place (event.Write n.first.unit (run_bytes (unsent_units n))) ∷ []
-    → IsUnsentUntouched d'.flights (given_more (length (unsent_units n)) x)
-behind_run x n d d' ticket fits run untouched are =
-    let units : List FreshUnit = unsent_units n in
-    let rest : List FreshUnit = drop (x.given + length units) x.fresh in
-    let whole : AllByRecursion (λ (f : FreshUnit). length f.bytes ≡ 4096) (units ++ rest) =
-    subst (λ (fs : List FreshUnit). AllByRecursion (λ (f : FreshUnit). length f.bytes ≡ 4096) fs) run.left (all_drop _ x.given x.fresh fits.whole) in
-    let size : length (run_bytes units) ≡ 4096 * length units = row_bytes units (all_front _ units rest whole) in
-    let ascend : Ascends (map (λ (f : FreshUnit). f.unit) (units ++ rest)) =
-    subst (λ (fs : List FreshUnit). Ascends (map (λ (f : FreshUnit). f.unit) fs)) run.left (ascend_drop x.given x.fresh fits.ascend) in
-    let before : AllByRecursion (λ (f : FreshUnit). IsUntouched d.flights f.unit) rest =
-    all_behind (λ (f : FreshUnit). IsUntouched d.flights f.unit) units rest
-    (subst (λ (fs : List FreshUnit). AllByRecursion (λ (f : FreshUnit). IsUntouched d.flights f.unit) fs) run.left untouched) in
-    subst (λ (fs : List Flight). AllByRecursion (λ (f : FreshUnit). IsUntouched fs f.unit) rest) (sym are)
-    (all_both (λ (f : FreshUnit). IsUntouched d.flights f.unit) (λ (f : FreshUnit). n.first.unit + length units ≤ f.unit)
-    (λ (f : FreshUnit). IsUntouched (d.flights ++ flight_of ticket.place (event.Write n.first.unit (run_bytes units)) ∷ []) f.unit)
-    (λ f free past. sent_untouched d.flights (flight_of ticket.place (event.Write n.first.unit (run_bytes units))) f.unit free
-    (apart_behind ticket.place n.first.unit (length units) f.unit (run_bytes units) size past)) rest before
-    (row_behind n.first.unit units rest run.row (least n.first (n.more ++ rest) ascend) ascend))
-  where
-    least : (f : FreshUnit) (fs : List FreshUnit) → Ascends (map (λ (g : FreshUnit). g.unit) (f ∷ fs))
-        → AllByRecursion (λ (v : ℕ). f.unit ≤ v) (map (λ (g : FreshUnit). g.unit) (f ∷ fs))
-    least f fs up = (omega arith, all_then (λ (v : ℕ). f.unit < v) (λ (v : ℕ). f.unit ≤ v) (λ v lt. omega (arith, lt)) _ up.0)
 
 data_waits : (s : State) (d : Disk) (s' : State) (d' : Disk) → IsSound d' → (x : Context) (flying : List Flying) → (n : Unsent) → IsRunOf x n
     → (ticket : Ticket) → Submitted d ticket.place (event.Write n.first.unit (run_bytes (unsent_units n))) d'
@@ -195,10 +159,6 @@ data_waits s d s' d' sound x flying n run ticket submitted is was =
       sound = sound;
       units = sent_units d d' ticket.place e submitted;
       flights = sent_flight flying d d' ticket (job.Data x.place count) e was.always.flights submitted;
-      untouched = record {
-        unsent = (behind_run x n d d' ticket was.room.fits.0 run was.untouched.unsent.0 (sent_flights d d' ticket.place e submitted), tt);
-        rest = tt;
-      };
     })
     (less (length flying) _ (length x.fresh) x.given (length n.more) (2 * piece_count x.need) (length_push flying f) run.within) (omega arith))
   where
@@ -221,11 +181,6 @@ data_steps s d s' d' sound = by_stages (λ t. DoesData t d s' d') s d s' d' (dat
 
 -- ---- Flush
 
--- a record of which nothing was given has nothing that is in flight
-unmade_rest : (m : Meta) (x : Context) (made : Bool) (flights : List Flight) → IfSome (record_at x made) (IsRestUntouched flights m)
-unmade_rest m x true flights = none_given flights m (record_with x 0 0) refl
-unmade_rest m x false flights = tt
-
 flush_opens : (s : State) (d : Disk) (s' : State) (d' : Disk) → IsSound d' → (x : Context) (made : Bool)
     → AtStage (λ t. DoesFlush t d s' d') s d s' d' (opens x made)
 flush_opens s d s' d' sound x made was does =
@@ -241,7 +196,6 @@ flush_opens s d s' d' sound x made was does =
       sound = sound;
       units = sent_units d d' does.ticket.place event.Flush does.submitted;
       flights = sent_flight [] d d' does.ticket job.DataFlush event.Flush was.always.flights does.submitted;
-      untouched = record { unsent = tt; rest = unmade_rest (at s g').log x made d'.flights };
     }) (less made) (omega arith))
   where
     less : (made : Bool) → stage_work (flushes x made does.ticket) < stage_work (opens x made)
@@ -264,36 +218,29 @@ seal_is : (b c : Batch) (t : State) → Some b ≡ Some c → sealed c t ≡ sea
 seal_is b c t same = ap (λ (e : Batch). sealed e t) (sym (same_Some b c same))
 
 seal_to : (s : State) (d : Disk) (s' : State) (g g' : Stage) → IsAt s d g → Holds s.log.number g' → IsLike g g'
-    → s' ≡ at s g' → AreFlights (flying_at g') d.flights → IsNextUntouched (at s g').log (pending_of g') d.flights → stage_work g' < stage_work g
+    → s' ≡ at s g' → AreFlights (flying_at g') d.flights → stage_work g' < stage_work g
     → Stepped (at s g) s' d
-seal_to s d s' g g' was h' like after flights untouched less =
+seal_to s d s' g g' was h' like after flights less =
     subst (λ (z : State). Stepped (at s g) z d) (sym after)
-    (moved s d d g g' s.events was h' like (record { sound = was.always.device; units = refl; flights = flights; untouched = untouched })
+    (moved s d d g g' s.events was h' like (record { sound = was.always.device; units = refl; flights = flights })
     less (omega arith))
-
--- nothing of it was given
-sealed_rest : (m : Meta) (x : Context) (flights : List Flight) → m.begun ≡ Some (record_with x 0 0) → IsNextUntouched m [] flights
-sealed_rest m x flights is = record {
-  unsent = tt;
-  rest = subst (λ (o : Option Begun). IfSome o (IsRestUntouched flights m)) (sym is) (none_given flights m (record_with x 0 0) refl);
-}
 
 pub seal_at : (s : State) (d : Disk) (s' : State) (g : Stage) → IsAt s d g → is_ready_up Seal d.depth (at s g) ≡ true → (batch : Batch)
     → batch_of g ≡ Some batch → s' ≡ sealed batch (at s g) → Stepped (at s g) s' d
 seal_at s d s' (opens x false) was ready batch begun after =
     seal_to s d s' (opens x false) (opens x true) was was.holds (record { fits = λ f. f; needs = refl; waiting = refl; in_batch = refl })
     (after ∙ seal_is (record { contexts = x ∷ []; first = flush.NotSent; second = flush.NotSent }) batch (at s (opens x false)) begun)
-    was.always.flights (sealed_rest (at s (opens x true)).log x d.flights refl) (omega arith)
+    was.always.flights (omega arith)
 seal_at s d s' (flushes x false ticket) was ready batch begun after =
     seal_to s d s' (flushes x false ticket) (flushes x true ticket) was was.holds
     (record { fits = λ f. f; needs = refl; waiting = refl; in_batch = refl })
     (after ∙ seal_is (record { contexts = x ∷ []; first = flush.Sent ticket; second = flush.NotSent }) batch (at s (flushes x false ticket)) begun)
-    was.always.flights (sealed_rest (at s (flushes x true ticket)).log x d.flights refl) (omega arith)
+    was.always.flights (omega arith)
 seal_at s d s' (flushed x) was ready batch begun after =
     seal_to s d s' (flushed x) (writes x 0 0 []) was (record { ready = was.holds; most = omega arith; counted = refl; own = tt })
     (record { fits = λ f. f; needs = refl; waiting = refl; in_batch = refl })
     (after ∙ seal_is (record { contexts = x ∷ []; first = flush.Flushed; second = flush.NotSent }) batch (at s (flushed x)) begun)
-    was.always.flights (sealed_rest (at s (writes x 0 0 [])).log x d.flights refl) (omega arith)
+    was.always.flights (omega arith)
 seal_at s d s' g was ready batch begun after = absurd (cc)
 
 pub seal_steps : (s : State) (d : Disk) (s' : State) (d' : Disk) → IsAlwaysKept s d → IsStanding s d → is_ready_up Seal d.depth s ≡ true
@@ -304,29 +251,6 @@ seal_steps s d s' d' a standing ready does =
     (λ g was what. seal_at s d s' g was what.0 what.1.0 what.1.1.0 what.1.1.1) a standing (ready, (does.batch, (does.begun, does.after))))
 
 -- ---- Record
-
--- the rest of a record of which one more piece is given lies before that piece, and is apart from what it was apart from before
-pub before_piece : (m : Meta) (r : Begun) (d d' : Disk) (ticket : Ticket) → r.given < piece_count (unit_count m.number r.ops)
-    → (r.given ≡ 0 → d.flights ≡ []) → IsRestUntouched d.flights m r
-    → d'.flights ≡ d.flights ++ flight_of ticket.place (event.Write (piece_unit m r) (piece_bytes m.number r)) ∷ []
-    → IsRestUntouched d'.flights m (record r { given = r.given + 1 })
-before_piece m r d d' ticket more none rest are some j below =
-    let units : ℕ = unit_count m.number r.ops in
-    let lying : LiesInRecord units r.given = lies units r.given more in
-    let first : j < piece_first units r.given = subst (λ (k : ℕ). j < k) (sym lying.begins) below in
-    let within : j < given_from units r.given =
-    inside j (piece_first units r.given) (piece_units units r.given) (given_from units r.given) first lying.ends in
-    subst (λ (fs : List Flight). IsUntouched fs (active_unit m.sup + (m.tail + j))) (sym are)
-    (sent_untouched d.flights (flight_of ticket.place (event.Write (piece_unit m r) (piece_bytes m.number r))) (active_unit m.sup + (m.tail + j))
-    (rest_untouched d.flights m r none rest j within)
-    (apart_before ticket.place (piece_unit m r) (active_unit m.sup + (m.tail + j)) (piece_bytes m.number r)
-    (ahead (active_unit m.sup) m.tail j (piece_first units r.given) first)))
-  where
-    inside : (j first count end : ℕ) → j < first → first + count ≡ end → j < end
-    inside j first count end lt is = omega (arith, lt, is)
-
-    ahead : (active tail j first : ℕ) → j < first → active + (tail + j) < active + tail + first
-    ahead active tail j first lt = omega (arith, lt)
 
 record_writes : (s : State) (d : Disk) (s' : State) (d' : Disk) → IsSound d' → (x : Context) (given written : ℕ) (flying : List Flying)
     → given < pieces_at s.log.number x → AtStage (λ t. DoesRecord t d s' d') s d s' d' (writes x given written flying)
@@ -354,13 +278,6 @@ record_writes s d s' d' sound x given written flying more was does =
       sound = sound;
       units = sent_units d d' does.ticket.place e submitted;
       flights = sent_flight flying d d' does.ticket job.Record e was.always.flights submitted;
-      untouched = record {
-        unsent = tt;
-        rest = before_piece t.log r d d' does.ticket more
-            (λ zero_given. idle_device flying d.flights was.always.flights
-            (no_flying flying (none_fly written (length flying) given was.holds.counted zero_given)))
-            was.untouched.rest (sent_flights d d' does.ticket.place e submitted);
-      };
     })
     (less (length flying) _ (pieces_at s.log.number x) (piece_count x.need) given (length_push flying f)
     (pieces_needed x was.room.fits.0 s.log.number) more)
@@ -407,7 +324,6 @@ sync_written s d s' d' sound x pieces all was does =
       sound = sound;
       units = sent_units d d' does.ticket.place event.Flush does.submitted;
       flights = sent_flight [] d d' does.ticket job.RecordFlush event.Flush was.always.flights does.submitted;
-      untouched = record { unsent = tt; rest = all_given d'.flights t.log (record_with x pieces pieces) all };
     }) (omega arith) (omega arith))
 
 pub sync_steps : (s : State) (d : Disk) (s' : State) (d' : Disk) (depth : ℕ) → IsSound d' → IsAlwaysKept s d → IsStanding s d
@@ -429,16 +345,14 @@ ended_with s ticket j = let t : State = record s { flying = others_of ticket s.f
 -- the end of what flies at a stage leads to another stage
 reap_to : (s : State) (d : Disk) (s' : State) (d' : Disk) (g g' : Stage) → IsSound d' → IsAt s d g → (ended : Takes (at s g) d true s' d')
     → (land : Landed (flying_at g) ended.ticket d d') → Holds s.log.number g' → IsLike g g' → flying_at g' ≡ others_of ended.ticket (flying_at g)
-    → IsNextUntouched (at s g').log (pending_of g') (without ended.ticket.place d.flights)
     → stage_work g' < stage_work g → ended_with (at s g) ended.ticket land.flight.job ≡ record (at s g') { events = s.events + 1 }
     → Stepped (at s g) s' d'
-reap_to s d s' d' g g' sound was ended land h' like left untouched less becomes =
+reap_to s d s' d' g g' sound was ended land h' like left less becomes =
     subst (λ (z : State). Stepped (at s g) z d') (sym (ended.after ∙ reaped_good (at s g) ended.ticket land.flight was.up land.found ∙ becomes))
     (moved s d d' g g' (s.events + 1) was h' like (record {
       sound = sound;
       units = land.units;
       flights = subst (λ (fs : List Flying). AreFlights fs d'.flights) (sym left) land.flights;
-      untouched = subst (λ (fs : List Flight). IsNextUntouched (at s g').log (pending_of g') fs) (sym land.are_left) untouched;
     }) less (omega arith))
 
 one_fewer : (n m : ℕ) → n + 1 ≡ m → m ≡ 1 → n ≡ 0
@@ -479,7 +393,6 @@ reap_waits s d s' d' sound x flying was ended = of_job land.flight.job refl own
         } in
         reap_to s d s' d' (waits x flying) g' sound was ended land h
         (record { fits = λ fits. (done_fits count x fits.0, tt); needs = refl; waiting = refl; in_batch = refl }) refl
-        (record { unsent = (left_unsent d.flights ticket.place x was.untouched.unsent.0, tt); rest = tt })
         (less (length (others_of ticket flying)) (length flying) (2 * (length x.fresh - x.given)) land.fewer)
         (ap (λ (k : Job). ended_with t ticket k) is ∙ ap (λ (place : ℕ). ended_with t ticket (job.Data place count)) own.0
         ∙ ap (λ (xs : List Context). record (at s g') { pending = xs; events = s.events + 1 }) (same_place x (done_more count)))
@@ -505,7 +418,6 @@ reap_writes s d s' d' sound x given written flying was ended =
     } in
     reap_to s d s' d' (writes x given written flying) g' sound was ended land h
     (record { fits = λ fits. fits; needs = refl; waiting = refl; in_batch = refl }) refl
-    (record { unsent = tt; rest = left_rest d.flights ticket.place t.log (record_with x given written) was.untouched.rest })
     (less (length (others_of ticket flying)) (length flying) (2 * (piece_count x.need - given)) land.fewer)
     (ap (λ (k : Job). ended_with t ticket k) own)
   where
@@ -518,10 +430,10 @@ reap_writes s d s' d' sound x given written flying was ended =
 -- a flush
 reap_flush : (s : State) (d : Disk) (s' : State) (d' : Disk) → IsSound d' → (g g' : Stage) (flushing : Job) (f : Ticket) → IsAt s d g
     → Takes (at s g) d true s' d' → flying_at g ≡ one_flight f flushing → Holds s.log.number g' → IsLike g g' → flying_at g' ≡ []
-    → ((flights : List Flight) → IsNextUntouched (at s g').log (pending_of g') flights) → stage_work g' < stage_work g
+    → stage_work g' < stage_work g
     → (let t : State = record (at s g) { flying = []; events = s.events + 1 } in after_done flushing t ≡ record (at s g') { events = s.events + 1 })
     → Stepped (at s g) s' d'
-reap_flush s d s' d' sound g g' flushing f was ended flies h' like none untouched less becomes =
+reap_flush s d s' d' sound g g' flushing f was ended flies h' like none less becomes =
     let ticket : Ticket = ended.ticket in
     let land : Landed (flying_at g) ticket d d' = landed_flight d d' ticket true (flying_at g) was.always.flights ended.ended in
     let own : land.flight.job ≡ flushing = found_holds ticket (λ (k : Flying). k.job ≡ flushing) (flying_at g) land.flight
@@ -529,7 +441,7 @@ reap_flush s d s' d' sound g g' flushing f was ended flies h' like none untouche
     let left : others_of ticket (flying_at g) ≡ [] =
     no_flying _ (one_fewer (length (others_of ticket (flying_at g))) (length (flying_at g)) land.fewer
     (ap (λ (fs : List Flying). length fs) flies)) in
-    reap_to s d s' d' g g' sound was ended land h' like (none ∙ sym left) (untouched (without ticket.place d.flights)) less
+    reap_to s d s' d' g g' sound was ended land h' like (none ∙ sym left) less
     (ap (λ (k : Job). ended_with (at s g) ticket k) own
     ∙ ap (λ (fs : List Flying). let t : State = record (at s g) { flying = fs; events = s.events + 1 } in after_done flushing t) left ∙ becomes)
 
@@ -540,15 +452,14 @@ reap_at s d s' d' sound (flushes x true ticket) was what =
     reap_flush s d s' d' sound (flushes x true ticket) (writes x 0 0 []) job.DataFlush ticket was what.1 refl
     (record { ready = was.holds; most = omega arith; counted = refl; own = tt })
     (record { fits = λ f. f; needs = refl; waiting = refl; in_batch = refl }) refl
-    (λ flights. sealed_rest (at s (writes x 0 0 [])).log x flights refl) (omega arith) refl
+    (omega arith) refl
 reap_at s d s' d' sound (flushes x false ticket) was what =
     reap_flush s d s' d' sound (flushes x false ticket) (flushed x) job.DataFlush ticket was what.1 refl was.holds
-    (record { fits = λ f. f; needs = refl; waiting = refl; in_batch = refl }) refl (λ flights. record { unsent = tt; rest = tt }) (omega arith) refl
+    (record { fits = λ f. f; needs = refl; waiting = refl; in_batch = refl }) refl (omega arith) refl
 reap_at s d s' d' sound (writes x given written flying) was what = reap_writes s d s' d' sound x given written flying was what.1
 reap_at s d s' d' sound (syncs x pieces ticket) was what =
     reap_flush s d s' d' sound (syncs x pieces ticket) (synced x pieces) job.RecordFlush ticket was what.1 refl was.holds
     (record { fits = λ f. f; needs = refl; waiting = refl; in_batch = refl }) refl
-    (λ flights. record { unsent = tt; rest = all_given flights (at s (synced x pieces)).log (record_with x pieces pieces) was.holds.all })
     (omega arith) refl
 reap_at s d s' d' sound g was what = absurd (let e = what.0 in cc)
 

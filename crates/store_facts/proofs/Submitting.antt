@@ -3,7 +3,6 @@
 use Rattle.std.proofs.Common.{◌≡◌, ℕ, ◌+◌, ◌-◌, ◌*◌, ◌^◌, ◌<◌, ◌≤◌, true, false, List, [], ◌∷◌, ◌++◌, length, map, None, refl, sym, ap, subst, ◌∙◌, arith, length-append}
 use Rattle.std.specs.List.{AllByRecursion}
 use Rattle.block_device.specs.Disk.{Disk, Flight, IsSound}
-use Rattle.block_device.specs.Facts.{IsUntouched}
 use Rattle.object_model.specs.Effect.{Change}
 use Rattle.object_model.specs.declared.command.Command.{Command}
 use Rattle.object_model.specs.declared.command.Command.TheVariants as ask
@@ -11,8 +10,8 @@ use Rattle.object_model.specs.declared.command.Answer.{Answer}
 use Rattle.object_model.specs.declared.command.Answer.TheVariants as answer
 use Rattle.object_model.specs.declared.book.Entry.{Entry}
 use Rattle.meta_log.specs.Pieces.{piece_count}
-use Rattle.object_rows.specs.declared.plan.FreshUnit.{FreshUnit}
-use Rattle.object_rows.specs.declared.plan.Plan.{Plan}
+use Rattle.plan_rows.specs.declared.plan.FreshUnit.{FreshUnit}
+use Rattle.plan_rows.specs.declared.plan.Plan.{Plan}
 use Rattle.unit_allocator.specs.Units.{Space}
 use Rattle.store_steps.specs.declared.context.Context.{Context}
 use Rattle.store_steps.specs.declared.step.Step.{Step}
@@ -21,14 +20,12 @@ use Rattle.store_steps.specs.Ready.{is_ready_up, is_drained}
 use Rattle.meta_store.specs.Store.{room_of}
 use Rattle.store_steps.specs.Submit.{Accepts, Refuses, entry_limit, need_of, context_of, entered, accepted_with}
 use Rattle.store_steps.specs.Opened.{Found, opened}
-use Rattle.store_facts.specs.Flights.{IsUnsentUntouched}
 use Rattle.store_facts.specs.Room.{FitsRecord, HasRoomFor}
-use Rattle.store_facts.specs.Space.{uncommitted}
+use Rattle.store_steps.specs.UnderWay.{uncommitted}
 use Rattle.store_facts.specs.Work.{entry_work, work_left}
 use Rattle.store_facts.specs.Kept.{IsAlwaysKept, IsOpenable}
 use Rattle.store_facts.proofs.Stages.{Stage, idle, waits, Holds, at, IsAtStage, far_at, by_stage}
 use Rattle.store_facts.proofs.Readiness.{none_ready, ready_up, drained_idle}
-use Rattle.store_facts.proofs.Flying.{idle_device}
 use Rattle.store_facts.proofs.Working.{stage_work, unacked, work_at}
 use Rattle.store_facts.proofs.Stepping.{IsStanding}
 use Rattle.store_facts.proofs.SpaceUnits.{space_taken}
@@ -53,17 +50,9 @@ drained_stage P s d far a up drained here =
 
 -- ---- Accepts
 
--- nothing is in flight
-none_flown : (flights : List Flight) (x : Context) → flights ≡ [] → IsUnsentUntouched flights x
-none_flown flights x none = subst (λ (fs : List Flight). IsUnsentUntouched fs x) (sym none) (each _)
-  where
-    each : (fs : List FreshUnit) → AllByRecursion (λ (f : FreshUnit). IsUntouched [] f.unit) fs
-    each [] = tt
-    each (f ∷ fs) = (λ i g below. absurd (omega (arith, below)), each fs)
-
 -- what is accepted while nothing is under way
 accepted_idle : (s : State) (d : Disk) (client line : ℕ) (change : Change) (plan : Plan)
-    → (let t : State = at s idle in FitsRecord (context_of (length s.book.entries) change t.log plan) → length plan.fresh ≤ 256 → s.down ≡ None
+    → (let t : State = at s idle in FitsRecord (context_of (length s.book.entries) change t.log plan) → length plan.fresh ≤ 1048576 → s.down ≡ None
     → need_of t.log plan ≤ room_of t.log → length s.book.entries < entry_limit → IsAlwaysKept t d → HasRoomFor t.log []
     → Admitted t (accepted_with client line change plan t) d)
 accepted_idle s d client line change plan record_fits few up fits below a room =
@@ -98,7 +87,6 @@ accepted_idle s d client line change plan record_fits few up fits below a room =
       standing = record {
         up = up;
         far = far_at s.log.number (waits x []) h;
-        untouched = record { unsent = (none_flown d.flights x (idle_device [] d.flights a.flights refl), tt); rest = tt };
         room = record {
           fits = (record_fits, tt);
           reserved = needed s.log.reserved (need_of t.log plan) room.reserved;
@@ -111,11 +99,11 @@ accepted_idle s d client line change plan record_fits few up fits below a room =
     few_pieces : (need half tail reserved : ℕ) → need ≤ half - tail - reserved → half ≤ 65536 → piece_count need ≤ 1024
     few_pieces need half tail reserved fits most = omega (arith, fits, most)
 
-    few_work : (w w' fresh pieces left : ℕ) → fresh ≤ 256 → pieces ≤ 1024 → w ≡ (0 + 2 * (fresh - 0) + 8 + 2 * pieces) + left → w' ≡ 0 + left
+    few_work : (w w' fresh pieces left : ℕ) → fresh ≤ 1048576 → pieces ≤ 1024 → w ≡ (0 + 2 * (fresh - 0) + 8 + 2 * pieces) + left → w' ≡ 0 + left
         → w ≤ w' + entry_work
     few_work w w' fresh pieces left few few_pieces is was = omega (arith, few, few_pieces, is, was)
 
-    few_more : (w w' fresh need half tail reserved left : ℕ) → fresh ≤ 256 → need ≤ half - tail - reserved → half ≤ 65536
+    few_more : (w w' fresh need half tail reserved left : ℕ) → fresh ≤ 1048576 → need ≤ half - tail - reserved → half ≤ 65536
         → w ≡ (0 + 2 * (fresh - 0) + 8 + 2 * piece_count need) + left → w' ≡ 0 + left → w ≤ w' + entry_work
     few_more w w' fresh need half tail reserved left few fits most is was =
         few_work w w' fresh (piece_count need) left few (few_pieces need half tail reserved fits most) is was
@@ -132,7 +120,7 @@ accepted_idle s d client line change plan record_fits few up fits below a room =
 
 pub accepts_keeps : (s : State) (d : Disk) (client line : ℕ) (change : Change) (s' : State) → IsAlwaysKept s d → IsStanding s d
     → is_drained d.depth s ≡ true
-    → (does : Accepts client line change s s') → FitsRecord (context_of (length s.book.entries) change s.log does.plan) → length does.plan.fresh ≤ 256
+    → (does : Accepts client line change s s') → FitsRecord (context_of (length s.book.entries) change s.log does.plan) → length does.plan.fresh ≤ 1048576
     → Admitted s s' d
 accepts_keeps s d client line change s' a standing drained does record_fits few =
     subst (λ (z : State). Admitted s z d) (sym does.after)
@@ -169,7 +157,6 @@ entered_keeps s d client line command a kept standing below =
       standing = record {
         up = standing.up;
         far = standing.far;
-        untouched = record { unsent = standing.untouched.unsent; rest = standing.untouched.rest };
         room = record { fits = standing.room.fits; reserved = standing.room.reserved; room = standing.room.room };
       };
       more = most (work_left s);
@@ -209,7 +196,6 @@ opened_keeps f space events d sound none few is = record {
   standing = record {
     up = refl;
     far = (refl, refl);
-    untouched = record { unsent = tt; rest = tt };
     room = record { fits = tt; reserved = refl; room = omega (arith, is.tail) };
   };
 }

@@ -1,19 +1,17 @@
 -- What is in flight. The store drives one transaction at a time now: the data writes of one context, then a flush, the pieces of one record, a flush.
-use Rattle.std.specs.Prelude.{◌≡◌, ℕ, ◌+◌, ◌<◌, ◌≤◌, List, [], ◌∷◌, length, map, drop, Option, Some, None, IfSome}
+use Rattle.std.specs.Prelude.{◌≡◌, ℕ, ◌+◌, ◌<◌, ◌≤◌, List, [], ◌∷◌, length, map, Option, Some, None}
 use Rattle.std.specs.List.{AllByRecursion}
 use Rattle.block_device.specs.Disk.{Flight}
-use Rattle.block_device.specs.Facts.{IsUntouched}
 use Rattle.meta_rows.specs.declared.row_op.RowOp.{RowOp}
 use Rattle.meta_log.specs.Records.{unit_count}
-use Rattle.meta_log.specs.Pieces.{piece_count, given_from}
-use Rattle.meta_log.specs.Slots.{active_unit}
+use Rattle.meta_log.specs.Pieces.{piece_count}
 use Rattle.store_steps.specs.declared.context.Context.{Context}
 use Rattle.store_steps.specs.declared.flight.FlushState.{FlushState}
 use Rattle.store_steps.specs.declared.flight.FlushState.TheVariants as flush
 use Rattle.store_steps.specs.declared.flight.Flying.{Flying}
 use Rattle.store_steps.specs.declared.flight.Job.{Job}
 use Rattle.store_steps.specs.declared.flight.Job.TheVariants as job
-use Rattle.meta_store.specs.Store.{Meta, Begun}
+use Rattle.meta_store.specs.Store.{Begun}
 use Rattle.store_steps.specs.State.{Batch}
 use Rattle.store_steps.specs.Contexts.{batch_ops}
 
@@ -82,17 +80,3 @@ IsOneAtATime number [] None begun flying = (begun ≡ None) × (flying ≡ [])
 IsOneAtATime number (x ∷ []) None begun flying = (begun ≡ None) × IsWaiting x flying
 IsOneAtATime number [] (Some b) begun flying = IsOpen number b begun flying
 IsOneAtATime number pending batch begun flying = ⊥
-
--- no write in flight touches a unit of the context that is still to be given to the device
-abbrev pub IsUnsentUntouched : List Flight → Context → Type 0
-IsUnsentUntouched flights x = AllByRecursion (λ f. IsUntouched flights f.unit) (drop x.given x.fresh)
-
--- nor a unit of a record of which a piece was given that is still to be
-abbrev pub IsRestUntouched : List Flight → Meta → Begun → Type 0
-IsRestUntouched flights m r = 0 < r.given → (j : ℕ) → j < given_from (unit_count m.number r.ops) r.given
-    → IsUntouched flights (active_unit m.sup + (m.tail + j))
-
--- what is written next isn't in flight
-pub record IsNextUntouched (m : Meta) (pending : List Context) (flights : List Flight) : Type 0 where
-  pub unsent : AllByRecursion (IsUnsentUntouched flights) pending
-  pub rest : IfSome m.begun (IsRestUntouched flights m)

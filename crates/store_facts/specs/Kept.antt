@@ -1,12 +1,17 @@
 -- What the kernel keeps, whatever its device tells.
-use Rattle.std.specs.Prelude.{◌≡◌, ℕ, ◌+◌, ◌*◌, ◌≤◌, ◌^◌, length, None}
+use Rattle.std.specs.Prelude.{◌≡◌, ℕ, ◌+◌, ◌*◌, ◌≤◌, ◌^◌, [], length, None}
 use Rattle.block_device.specs.Disk.{Disk, IsSound}
-use Rattle.meta_log.specs.Slots.{width_of, IsSuper}
+use Rattle.meta_log.specs.Slots.{IsSuper}
 use Rattle.unit_allocator.specs.Units.{Space}
+use Rattle.plan_rows.specs.Keeps.{IsGood}
 use Rattle.store_steps.specs.State.{State}
 use Rattle.store_steps.specs.Opened.{Found}
-use Rattle.store_facts.specs.Flights.{AreFlights, IsOneAtATime, IsNextUntouched}
-use Rattle.store_facts.specs.Space.{uncommitted, rows_with, AreGoodRows, IsSpaceOf, IsFreeExactly, ReleasesExactly}
+use Rattle.store_facts.specs.Flights.{AreFlights}
+use Rattle.store_facts.specs.Jobs.{FlightsMatch}
+use Rattle.store_steps.specs.UnderWay.{uncommitted}
+use Rattle.store_steps.specs.Intents.{SpaceIsCounted}
+use Rattle.store_steps.specs.Parts.{rows_part}
+use Rattle.store_facts.specs.Space.{IsSpaceOf, AreRowsKept}
 use Rattle.store_facts.specs.Room.{HasRoomFor, AreNumbersLow, IsBookKept}
 use Rattle.store_facts.specs.Work.{entry_work, work_left}
 
@@ -23,13 +28,9 @@ pub record IsAlwaysKept (s : State) (d : Disk) : Type 0 where
 
 -- what it keeps while it isn't
 pub record IsKeptUp (s : State) (d : Disk) : Type 0 where
-  pub far : IsOneAtATime s.log.number s.pending s.batch s.log.begun s.flying
-  pub untouched : IsNextUntouched s.log s.pending d.flights
-  pub submitted : s.submitted ≡ rows_with s.log.rows (uncommitted s)
-  pub committed : AreGoodRows s.log.sup s.log.rows s.log.rows
-  pub good : AreGoodRows s.log.sup s.log.rows s.submitted
-  pub free : IsFreeExactly s.log.sup s.log.rows s.submitted s.space
-  pub releases : ReleasesExactly (width_of s.log.sup) s.log.rows s.submitted (uncommitted s)
+  pub flights : FlightsMatch s.log (length s.book.entries) s.pending s.batch s.flying d.flights
+  pub few : length (uncommitted s) ≤ 1
+  pub rows : AreRowsKept (rows_part s)
   pub room : HasRoomFor s.log (uncommitted s)
 
 pub record IsKept (s : State) (d : Disk) : Type 0 where
@@ -42,6 +43,6 @@ pub record IsOpenable (f : Found) (s : Space) (units : ℕ) : Type 0 where
   pub units_are : f.sup.units ≡ units
   pub number : f.number ≤ 2 ^ 61
   pub tail : f.tail ≤ f.sup.half
-  pub good : AreGoodRows f.sup f.rows f.rows
+  pub good : IsGood f.sup f.rows
   pub space : IsSpaceOf f.sup s
-  pub free : IsFreeExactly f.sup f.rows f.rows s
+  pub counted : SpaceIsCounted f.sup f.rows [] s

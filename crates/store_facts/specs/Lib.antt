@@ -1,4 +1,5 @@
 pub mod Flights
+pub mod Jobs
 pub mod Space
 pub mod Room
 pub mod Work

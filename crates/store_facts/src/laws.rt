@@ -1,24 +1,34 @@
 //! What the kernel keeps, and that its steps come to an end. Each function has laws for its contract and does nothing.
-ghost use Rattle.std.specs.Prelude.{◌≡◌, ◌↔◌, ℕ, ◌+◌, ◌*◌, ◌^◌, ◌<◌, ◌≤◌, true, [], length, Some, None};
-ghost use Rattle.block_device.specs.Disk.{Disk, IsSound, IsNotInFlight};
+ghost use Rattle.std.specs.Prelude.{◌≡◌, ℕ, ◌+◌, ◌*◌, ◌^◌, ◌<◌, ◌≤◌, true, List, [], ◌∷◌, ◌++◌, length, take, Option, Some, None, IfSome};
+ghost use Rattle.std.specs.List.{AllByRecursion};
+ghost use Rattle.block_device.specs.Disk.{Disk, Flight, IsSound, IsNotInFlight};
+ghost use Rattle.block_device.specs.Facts.{IsUntouched};
 ghost use Rattle.meta_rows.specs.Spelling.{ops_bytes, AllFit};
 ghost use Rattle.meta_log.specs.Records.{unit_count};
+ghost use Rattle.meta_log.specs.Slots.{active_unit};
 ghost use Rattle.object_model.specs.Effect.{Change};
+ghost use Rattle.plan_rows.specs.Keeps.{PlansKeep};
 ghost use Rattle.object_model.specs.declared.command.Command.{Command};
 ghost use Rattle.object_model.specs.declared.command.Answer.{Answer};
-ghost use Rattle.store_image.specs.Owners.{IsDataUnit, IsBusy};
-ghost use Rattle.unit_allocator.specs.Units.{Space, is_free};
+ghost use Rattle.unit_allocator.specs.Units.{Space};
 ghost use Rattle.store_steps.specs.declared.step.Step.{Step};
 ghost use Rattle.store_steps.specs.declared.step.Step.TheVariants.{Data, Flush, Seal, Record, Sync};
-ghost use Rattle.meta_store.specs.Store.{Begun};
+ghost use Rattle.store_steps.specs.declared.context.Context.{Context};
+ghost use Rattle.store_steps.specs.declared.flight.Flying.{Flying};
+ghost use Rattle.meta_store.specs.Store.{Meta, Begun};
 ghost use Rattle.store_steps.specs.State.{Batch, State};
 ghost use Rattle.store_steps.specs.Contexts.{Unsent, unsent_units, run_bytes, next_unsent, batch_ops};
 ghost use Rattle.store_steps.specs.Steps.{piece_unit, piece_bytes};
 ghost use Rattle.store_steps.specs.Opened.{Found, opened};
-ghost use Rattle.store_steps.specs.Ready.{is_ready, is_drained};
-ghost use Rattle.store_steps.specs.Runs.{DoesOrFails, MaySubmit, MayRead, Reads};
+ghost use Rattle.store_steps.specs.Ready.{is_ready, is_ready_up, is_drained};
+ghost use Rattle.store_steps.specs.Runs.{DoesOrFails, MaySubmit, MayRead, Reads, Call, Calls};
 ghost use Rattle.store_steps.specs.Submit.{Accepts, Refuses};
-ghost use Rattle.store_facts.specs.Space.{uncommitted, allotted};
+ghost use Rattle.store_steps.specs.UnderWay.{uncommitted, all_fresh};
+ghost use Rattle.store_steps.specs.Intents.{intents, SpaceIsCounted};
+ghost use Rattle.store_steps.specs.Footprint.{Footprint};
+ghost use Rattle.store_facts.specs.Flights.{AreFlights};
+ghost use Rattle.store_facts.specs.Jobs.{IsNone, IsGivenPiece, AreOfJobs, FlightsMatch};
+ghost use Rattle.store_facts.specs.Room.{FitsRecord};
 ghost use Rattle.store_facts.specs.Work.{measure};
 ghost use Rattle.store_facts.specs.Kept.{IsKept, IsOpenable};
 
@@ -32,10 +42,10 @@ pub fn steps_keep()
         → DoesOrFails step s d s' d' → IsSound d' → measure s' d'.waits < measure s d.waits }
 {}
 
-/// A transaction that is submitted to a drained kernel keeps it too, accepted or refused, and so does a read. What is turned away changes
-/// nothing.
+/// A transaction that is submitted to a drained kernel keeps it too, accepted or refused, and so does a read, where plans over good rows keep
+/// them good. What is turned away changes nothing.
 pub fn transactions_keep()
-    ensures accepted { (client line : ℕ) (change : Change) (s s' : State) (d : Disk) → IsKept s d → MaySubmit change s d
+    ensures accepted { (client line : ℕ) (change : Change) (s s' : State) (d : Disk) → PlansKeep → IsKept s d → MaySubmit change s d
         → Accepts client line change s s' → IsKept s' d }
     ensures refused { (client line : ℕ) (change : Change) (a : Answer) (s s' : State) (d : Disk) → IsKept s d → MaySubmit change s d
         → Refuses client line change a s s' → IsKept s' d }
@@ -46,8 +56,8 @@ pub fn transactions_keep()
 /// A data unit is free exactly where it isn't busy: its bit is 0 in the committed rows, and no transaction that isn't committed has it. So what
 /// a transaction releases comes back at its commit, and not before.
 pub fn free_units_are_not_busy()
-    ensures { (s : State) (d : Disk) (unit : ℕ) → IsKept s d → s.down ≡ None → IsDataUnit s.log.sup unit
-        → (is_free s.space unit ≡ true) ↔ (¬ IsBusy s.log.rows (allotted (uncommitted s)) unit) }
+    ensures { (s : State) (d : Disk) → IsKept s d → s.down ≡ None
+        → SpaceIsCounted s.log.sup s.log.rows (intents (uncommitted s)) s.space }
 {}
 
 /// A kernel that is opened on a store with good rows keeps it from the start.
@@ -65,12 +75,31 @@ pub fn drained_is_idle()
     ensures acked { (s : State) (d : Disk) → IsKept s d → s.down ≡ None → is_drained d.depth s ≡ true → s.acked ≡ length s.book.commits }
 {}
 
-/// Where a flush is ready, nothing is in flight: so the writes of a transaction have ended before the flush that makes them stable is
-/// submitted, this flush before its record, and all pieces of the record before the flush that commits it.
-#[tactic(auto, using(crate::proofs::Known::alone_laws))]
-pub fn submissions_are_alone()
-    ensures flush { (s : State) (d : Disk) → IsKept s d → is_ready Flush d.depth s ≡ true → d.flights ≡ [] }
-    ensures sync { (s : State) (d : Disk) → IsKept s d → is_ready Sync d.depth s ≡ true → d.flights ≡ [] }
+/// Where the first flush of a batch is ready, no write in flight touches a unit of the batch; where the second is, none touches a unit of its
+/// record. So what a flush is to make stable has ended before it is submitted.
+pub fn flushes_cover()
+    ensures flush { (s : State) (d : Disk) (batch : Batch) → IsKept s d → is_ready Flush d.depth s ≡ true → s.batch ≡ Some batch
+        → AllByRecursion (λ f. IsUntouched d.flights f.unit) (all_fresh batch.contexts) }
+    ensures sync { (s : State) (d : Disk) (writing : Begun) (j : ℕ) → IsKept s d → is_ready Sync d.depth s ≡ true → s.log.begun ≡ Some writing
+        → j < unit_count s.log.number writing.ops → IsUntouched d.flights (active_unit s.log.sup + (s.log.tail + j)) }
+{}
+
+/// What is in flight, part by part, for any number of contexts under way. Each step that leaves the kernel up keeps it, and so do a context that
+/// joins those that wait, with none of its units given, and an entry of the book. A unit that no context gave to the device, and that is none of
+/// the record's given units, is in no flight.
+pub fn flights_match()
+    ensures steps { (step : Step) (s : State) (d : Disk) (s' : State) (d' : Disk) → AreFlights s.flying d.flights → s.down ≡ None → s'.down ≡ None
+        → FlightsMatch s.log (length s.book.entries) s.pending s.batch s.flying d.flights → AllByRecursion FitsRecord s.pending
+        → is_ready_up step d.depth s ≡ true → DoesOrFails step s d s' d'
+        → FlightsMatch s'.log (length s'.book.entries) s'.pending s'.batch s'.flying d'.flights }
+    ensures joins { (m m' : Meta) (entries : ℕ) (pending : List Context) (batch : Option Batch) (flying : List Flying) (flights : List Flight)
+        (x : Context) → x.place ≡ entries → x.given ≡ 0 → x.done ≡ 0 → m' ≡ record m { reserved = m'.reserved }
+        → FlightsMatch m entries pending batch flying flights → FlightsMatch m' (entries + 1) (pending ++ x ∷ []) batch flying flights }
+    ensures enters { (m : Meta) (entries : ℕ) (pending : List Context) (batch : Option Batch) (flying : List Flying) (flights : List Flight)
+        → FlightsMatch m entries pending batch flying flights → FlightsMatch m (entries + 1) pending batch flying flights }
+    ensures unflown { (m : Meta) (pending : List Context) (flying : List Flying) (flights : List Flight) (unit : ℕ)
+        → AreOfJobs m pending flying flights → AllByRecursion (λ x. IsNone (take x.given x.fresh) unit) pending
+        → IfSome m.begun (λ r. ¬ IsGivenPiece m r unit) → IsUntouched flights unit }
 {}
 
 /// Several data writes of a transaction may be in flight at once, and several pieces of its record: none touches a unit of another.
@@ -98,4 +127,11 @@ pub fn steps_have_room()
     ensures number { (s : State) (d : Disk) (batch : Batch) → IsKept s d → is_ready Seal d.depth s ≡ true → s.batch ≡ Some batch
         → s.log.number < 2 ^ 62 }
     ensures events { (s : State) (d : Disk) → IsKept s d → s.events + 1 < 2 ^ 64 }
+{}
+
+/// A call that leaves the kernel up has a footprint: what it adds to the device's log, and what it makes of the rows, of the data units, of the
+/// active half of the log, and of the book.
+pub fn a_call_has_a_footprint()
+    ensures { (call : Call) (s : State) (d : Disk) (s' : State) (d' : Disk) → IsKept s d → s'.down ≡ None → Calls call s d s' d'
+        → Footprint s d s' d' }
 {}

@@ -5,6 +5,6 @@
 mod laws;
 
 pub use laws::{
-    drained_is_idle, free_units_are_not_busy, next_is_untouched, opened_keeps, steps_have_room,
-    steps_keep, submissions_are_alone, transactions_keep,
+    a_call_has_a_footprint, drained_is_idle, flights_match, flushes_cover, free_units_are_not_busy,
+    next_is_untouched, opened_keeps, steps_have_room, steps_keep, transactions_keep,
 };

@@ -1,30 +1,36 @@
 -- What preparing and accepting a transaction is, in the words of the kernel's state.
-use Rattle.std.proofs.Common.{◌≡◌, ℕ, ◌+◌, ◌≤◌, true, List, [], ◌∷◌, ◌++◌, length, map, Option, Some, None, refl, arith}
+use Rattle.std.proofs.Common.{◌≡◌, ℕ, ◌+◌, ◌<◌, ◌≤◌, ◌^◌, true, List, [], ◌∷◌, ◌++◌, length, map, Option, Some, None, refl, arith}
 use Rattle.std.specs.List.{AllByRecursion}
 use Rattle.block_device.specs.Disk.{Disk}
 use Rattle.block_device.specs.declared.device.Ticket.{Ticket}
-use Rattle.object_model.specs.Effect.{Change}
+use Rattle.object_model.specs.Effect.{Change, names_of}
 use Rattle.object_model.specs.declared.book.Commit.{Commit}
 use Rattle.object_model.specs.declared.book.Entry.{Entry}
 use Rattle.object_model.specs.declared.command.Command.TheVariants as ask
 use Rattle.object_model.specs.declared.command.Answer.TheVariants as answer
+use Rattle.unit_fields.specs.UnitSet.{Ascends}
 use Rattle.meta_rows.specs.Rows.{Rows, rows_after}
+use Rattle.meta_rows.specs.Spelling.{ops_bytes, AllFit}
 use Rattle.meta_log.specs.Slots.{width_of}
 use Rattle.meta_store.specs.Store as meta
 use Rattle.unit_allocator.specs.Units.{Space, IsWithin, is_free, taken}
-use Rattle.object_rows.specs.declared.plan.FreshUnit.{FreshUnit}
-use Rattle.object_rows.specs.declared.plan.Plan.{Plan}
+use Rattle.plan_rows.specs.declared.plan.FreshUnit.{FreshUnit}
+use Rattle.plan_rows.specs.declared.plan.Plan.{Plan}
+use Rattle.plan_rows.specs.Plans.{IsKnown, AreFreeOver}
+use Rattle.plan_rows.specs.Keeps.{IsGood, PlanKeeps}
 use Rattle.object_rows.specs.Planned.{IsPlanned}
+use Rattle.object_rows.proofs.Planned.{plan_facts}
+use Rattle.object_rows.proofs.PlansKeep.{plans_keep}
+use Rattle.object_rows.proofs.Taking.{units_of, plan_takes_free, planned}
 use Rattle.store_steps.specs.declared.context.Context.{Context}
 use Rattle.store_steps.specs.declared.flight.Flying.{Flying}
 use Rattle.store_steps.specs.State.{State}
-use Rattle.store_steps.specs.Submit.{IsKnown, CanNote, Accepts, need_of}
+use Rattle.store_steps.specs.Submit.{CanNote, Accepts, need_of}
 use Rattle.store_steps.specs.Runs.{MaySubmit}
 use Rattle.store_facts.specs.Kept.{IsKept}
 use Rattle.store_facts.proofs.Kept.{idle_of}
-use Rattle.store_facts.proofs.RowsKept.{AreRowsKept, rows_of_kept}
-use Rattle.store_facts.proofs.RowsPlans.{units_of, plan_takes_free, free_over, planned, PlanFits, plan_fits}
-use Rattle.onode_state.specs.Objects.{AreRowsOfWidth}
+use Rattle.store_facts.proofs.RowsNow.{kept_submitted, kept_free}
+use Rattle.onode_state.specs.Objects.{AreRowsOfAStore, AreRowsOfWidth}
 use Rattle.txn_planner.specs.PlanFails.{IsPlanFor}
 use Rattle.store_kernel.specs.declared.batch.OpenBatch.{OpenBatch}
 use Rattle.store_kernel.specs.declared.prepared.Prepared.{Prepared}
@@ -35,29 +41,34 @@ use Rattle.store_kernel.specs.Units.{CanBeTaken}
 -- ---- preparing
 
 -- no submitted row is bad
-pub rows_of_a_store : (s : State) (d : Disk) → IsKept s d → CanNote s → AreRowsOfWidth (width_of s.log.sup) s.submitted
-rows_of_a_store s d kept can =
-    record { store = record { sup = s.log.sup; limits = kept.always.limits; good = (rows_of_kept s d kept can.up).good.good }; wide = refl }
+pub rows_of_a_store : (s : State) (d : Disk) → IsKept s d → s.down ≡ None → AreRowsOfAStore s.submitted
+rows_of_a_store s d kept up = record { sup = s.log.sup; limits = kept.always.limits; good = (kept_submitted s d kept up).good }
+
+pub rows_of_width : (s : State) (d : Disk) → IsKept s d → CanNote s → AreRowsOfWidth (width_of s.log.sup) s.submitted
+rows_of_width s d kept can = record { store = rows_of_a_store s d kept can.up; wide = refl }
 
 -- what planning gives is a plan of the submitted rows
 pub given : (s : State) (d : Disk) (change : Change) (plan : Plan) → IsKept s d → CanNote s
     → IsPlanFor (width_of s.log.sup) change s.submitted s.space plan → IsPlanOf change s plan
 given s d change plan kept can is =
-    let rows : AreRowsKept s = rows_of_kept s d kept can.up in
-    record {
-      not_refused = is.not_refused;
-      plans = is.plans s.log.sup refl (free_over s.log.sup s.log.rows s.submitted s.space kept.always.limits rows.good rows.space rows.free);
-    }
+    record { not_refused = is.not_refused; plans = is.plans s.log.sup refl (kept_free s d kept can.up) }
 
--- what a plan's record and its data writes take
+-- A plan's operations have spellings, which are short enough for a record, and its units ascend.
+pub record PlanFits (plan : Plan) : Type 0 where
+  pub fit : AllFit plan.ops
+  pub short : length (ops_bytes plan.ops) < 2 ^ 32
+  pub ascend : Ascends (units_of plan.fresh)
+
 pub planned_fits : (s : State) (d : Disk) (change : Change) (plan : Plan) → IsKept s d → CanNote s → IsKnown change.ops
     → IsPlanOf change s plan → PlanFits plan
 planned_fits s d change plan kept can known is =
-    let rows : AreRowsKept s = rows_of_kept s d kept can.up in
+    let good : IsGood s.log.sup s.submitted = kept_submitted s d kept can.up in
+    let free : AreFreeOver s.log.sup s.submitted s.space = kept_free s d kept can.up in
+    let keeps : PlanKeeps s.log.sup (names_of change) s.submitted plan =
+    (plans_keep s.log.sup s.submitted s.space change plan good free known is.plans).0 in
     let one : IsPlanned s.log.sup s.submitted change plan =
-    planned s.log.sup s.log.rows s.submitted s.space kept.always.limits rows.good rows.space rows.free change.coll change.ops plan known
-    is.plans in
-    plan_fits s.log.sup s.submitted s.space change.coll change.ops plan rows.good.good known is.plans one
+    planned s.log.sup s.submitted s.space free change.coll change.ops plan known is.plans in
+    record { fit = keeps.fit; short = (plan_facts s.log.sup s.submitted one good.good).short; ascend = keeps.ascend }
 
 -- a record that fits into the room that was counted fits into the log
 pub enough : (m : meta.Meta) (plan : Plan) (need room : ℕ) → need ≡ need_of m plan → room ≡ meta.room_of m → need ≤ room

@@ -1,11 +1,10 @@
 -- What the steps that the device has no part in do to the state.
 use Rattle.std.proofs.Common.{◌≡◌, inl, inr, ℕ, zero, suc, ◌+◌, ◌-◌, ◌^◌, ◌<◌, ◌≤◌, nat_lt, not, Bool, true, cond, List, [], ◌∷◌, ◌++◌, length, Option, Some, None, is_some, is_none, slice_get, get_or, set, refl, sym, ap, subst, ◌∙◌, append-nil, arith}
 use Rattle.std.specs.Prelude.{MatchOption, Contains}
-use Rattle.std.specs.Option.{option_map}
 use Rattle.unit_allocator.proofs.Lists.{Contains-head}
 use Rattle.std.proofs.lemmas.List.Elements.{Contains-append_right}
 use Rattle.std.proofs.lemmas.Bool.{eq-eqb, lt-ltb, le-ltb, and_parts, cases_lt}
-use Rattle.std.proofs.lemmas.Option.{IfSome_then, same_Some}
+use Rattle.std.proofs.lemmas.Option.{IfSome_then}
 use Rattle.block_device.specs.Disk.{Disk}
 use Rattle.object_model.specs.declared.book.Commit.{Commit}
 use Rattle.meta_rows.specs.declared.row_op.RowOp.{RowOp}

@@ -24,6 +24,7 @@ use Rattle.store_kernel.specs.Seen.{listed, batch_of}
 use Rattle.store_kernel.specs.Seen as seen
 use Rattle.store_kernel.specs.Ends.{with_first, with_second, pending_after, batch_after, meta_after}
 use Rattle.store_kernel.proofs.Sending.{with_one, WaitsAlone, waits_alone}
+use Rattle.store_facts.proofs.Alone.{far_of}
 
 pub landed_one : (s : State) (d d' : Disk) (t : Ticket) (ok : Bool) → IsKept s d → Reaped d t.place ok d' → Landed s.flying t d d'
 landed_one s d d' t ok kept ended = landed_flight d d' t ok s.flying kept.always.flights ended
@@ -145,7 +146,7 @@ pub piece_out : (s : State) (d d' : Disk) (m : meta.Meta) (t : Ticket) (j : Job)
 piece_out s d d' m t j kept down log ended is =
     subst (λ (l : meta.Meta). MatchOption l.begun ⊥ (λ (r : meta.Begun). r.written < r.given)) log
     (by_stage (λ u. flying_of t u.flying ≡ Some ended.flight → 0 < length u.flying → MatchOption u.log.begun ⊥ (λ r. r.written < r.given)) s
-    (λ g h found some. piece_out_at s.log.number g ended.flight t h found (ended.its_job ∙ is) some) (kept.up down).far ended.found ended.some)
+    (λ g h found some. piece_out_at s.log.number g ended.flight t h found (ended.its_job ∙ is) some) (far_of s d (kept.up down)) ended.found ended.some)
 
 -- ---- what a good end does, job by job
 

@@ -4,6 +4,7 @@ use Rattle.block_device.specs.Disk.{Disk, IsSound}
 use Rattle.object_model.specs.Effect.{Change}
 use Rattle.object_model.specs.declared.command.Command.{Command}
 use Rattle.object_model.specs.declared.command.Answer.{Answer}
+use Rattle.object_rows.proofs.PlansKeep.{plans_keep}
 use Rattle.store_steps.specs.declared.step.Step.{Step}
 use Rattle.store_steps.specs.State.{State}
 use Rattle.store_steps.specs.Ready.{is_ready}
@@ -18,18 +19,18 @@ pub known_step : (step : Step) (s s' : State) (d d' : Disk) → KnownOfKernel s 
     → IsSound d' → KnownOfKernel s' d'
 known_step step s s' d d' known ready does sound = record {
   kept = kept_step step s s' d d' known.kept ready does sound;
-  durable = call_keeps (stepping step) s s' d d' known.kept sound known.durable (ready, does);
+  durable = call_keeps (stepping step) s s' d d' plans_keep known.kept sound known.durable (ready, does);
 }
 
 known_submit : (client line : ℕ) (change : Change) (s s' : State) (d : Disk) → KnownOfKernel s d → MaySubmit change s d
     → Submits client line change s s' → KeepsDurable s' d
 known_submit client line change s s' d known may submits =
-    call_keeps (submitting client line change) s s' d d known.kept known.kept.always.device known.durable (may, submits, refl)
+    call_keeps (submitting client line change) s s' d d plans_keep known.kept known.kept.always.device known.durable (may, submits, refl)
 
 pub known_accept : (s s' : State) (d : Disk) (client line : ℕ) (change : Change) → KnownOfKernel s d → MaySubmit change s d
     → Accepts client line change s s' → KnownOfKernel s' d
 known_accept s s' d client line change known may accepts = record {
-  kept = kept_accept s s' d client line change known.kept may accepts;
+  kept = kept_accept plans_keep s s' d client line change known.kept may accepts;
   durable = known_submit client line change s s' d known may (inl accepts);
 }
 
@@ -45,5 +46,5 @@ pub known_answer : (s s' : State) (d : Disk) (client line : ℕ) (command : Comm
     → AnswersRead client line command a s d s' → KnownOfKernel s' d
 known_answer s s' d client line command a known may is = record {
   kept = kept_answer s s' d client line command a known.kept is;
-  durable = call_keeps (reading client line command) s s' d d known.kept known.kept.always.device known.durable (may, inl (a, is), refl);
+  durable = call_keeps (reading client line command) s s' d d plans_keep known.kept known.kept.always.device known.durable (may, inl (a, is), refl);
 }

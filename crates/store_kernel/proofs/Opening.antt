@@ -1,25 +1,17 @@
 -- A kernel as it is opened.
-use Rattle.std.proofs.Common.{◌≡◌, ℕ, zero, suc, ◌-◌, Bool, true, false, not, ◌||◌, cond, filter, Option, None, List, [], ◌∷◌, length, replicate, get_or, refl, ap, ◌∙◌, arith}
-use Rattle.std.specs.List.{range_with_len, list_any}
+use Rattle.std.proofs.Common.{◌≡◌, ℕ, Bool, true, false, not, ◌||◌, cond, filter, Option, None, List, [], ◌∷◌, refl, ap, ◌∙◌}
+use Rattle.std.specs.List.{list_any}
 use Rattle.std.specs.FinSet as set
-use Rattle.std.specs.Ordering.{nat_cmp}
-use Rattle.std.proofs.Math.ListN.{length-set}
-use Rattle.std.proofs.lemmas.List.{length-replicate}
-use Rattle.meta_log.specs.declared.slot.Super.{Super}
-use Rattle.meta_log.specs.Slots.{IsSuper, data_unit}
 use Rattle.meta_rows.specs.Rows.{Rows}
 use Rattle.meta_store.specs.Store.{Begun, Meta}
 use Rattle.object_model.specs.declared.book.Entry.{Entry}
 use Rattle.object_model.specs.declared.book.Commit.{Commit}
-use Rattle.unit_allocator.specs.Units.{Space, is_free, given_one, freed_from, no_idle_units}
-use Rattle.unit_allocator.proofs.Fresh.{new_is_free, new_is_unheld}
-use Rattle.store_image.specs.Owners.{IsDataUnit}
+use Rattle.unit_allocator.specs.Units.{Space}
 use Rattle.store_steps.specs.declared.flight.Flying.{Flying}
 use Rattle.store_steps.specs.Opened.{opened}
 use Rattle.store_steps.specs.Ready.{is_empty}
 use Rattle.store_steps.specs.declared.step.Step.{Step}
 use Rattle.store_kernel.specs.Seen.{found_of, IsUnused, state_of}
-use Rattle.store_facts.specs.Space.{IsSpaceOf}
 
 -- the state of the kernel's fields as they begin
 pub opened_is : (m : Meta) (rows : Rows) (flying : List Flying) (entries : List Entry) (commits : List Commit) (space : Space) (events : ℕ)

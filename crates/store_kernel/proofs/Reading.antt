@@ -1,21 +1,28 @@
 -- What a read needs of the kernel's state.
-use Rattle.std.proofs.Common.{◌≡◌, true, None, refl}
-use Rattle.block_device.specs.Disk.{Disk}
+use Rattle.std.proofs.Common.{◌≡◌, ℕ, List, [], true, None, refl, sym, subst, arith}
+use Rattle.block_device.specs.Disk.{Disk, Flight}
+use Rattle.block_device.specs.Facts.{IsUntouched}
 use Rattle.meta_log.specs.Slots.{width_of}
 use Rattle.store_steps.specs.Ready.{is_drained}
 use Rattle.store_steps.specs.State.{State}
 use Rattle.store_facts.specs.Kept.{IsKept}
 use Rattle.store_facts.proofs.Known.{idle_disk}
-use Rattle.store_facts.proofs.RowsKept.{rows_of_kept}
+use Rattle.store_facts.proofs.RowsNow.{kept_submitted}
+use Rattle.read_facts.specs.PageReads.{no_memory}
 use Rattle.object_reader.specs.Readable.{IsReadable}
 
+-- where nothing is in flight no unit is
+idle_untouched : (d : Disk) (unit : ℕ) → d.flights ≡ [] → IsUntouched d.flights unit
+idle_untouched d unit idle = subst (λ (flights : List Flight). IsUntouched flights unit) (sym idle) (λ k f lt. absurd (omega (arith, lt)))
+
 -- no submitted row is bad, and nothing is in flight, where the kernel is drained and not down
-pub readable : (s : State) (d : Disk) → IsKept s d → s.down ≡ None → is_drained d.depth s ≡ true → IsReadable (width_of s.log.sup) s.submitted d
+pub readable : (s : State) (d : Disk) → IsKept s d → s.down ≡ None → is_drained d.depth s ≡ true
+    → IsReadable (width_of s.log.sup) no_memory s.submitted d
 readable s d kept up drained = record {
   sup = s.log.sup;
   limits = kept.always.limits;
-  good = (rows_of_kept s d kept up).good.good;
+  good = (kept_submitted s d kept up).good;
   wide = refl;
   units = kept.always.units;
-  idle = idle_disk s d kept up drained;
+  free = λ unit has none. idle_untouched d unit (idle_disk s d kept up drained);
 }

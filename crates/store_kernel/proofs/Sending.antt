@@ -3,7 +3,6 @@ use Rattle.std.proofs.Common.{◌≡◌, ℕ, ◌+◌, ◌*◌, ◌%◌, ◌^◌
 use Rattle.std.specs.Option.{option_map, option_map_or}
 use Rattle.std.specs.List.{AllByRecursion}
 use Rattle.std.proofs.lemmas.Bool.{eq-eqb, and_parts}
-use Rattle.std.proofs.lemmas.Option.{same_Some}
 use Rattle.block_device.specs.Disk.{Disk, Submitted, IsNotInFlight}
 use Rattle.block_device.specs.declared.device.Ticket.{Ticket}
 use Rattle.block_device.specs.declared.event.Event.TheVariants as event
@@ -13,7 +12,7 @@ use Rattle.meta_log.specs.Records.{unit_count}
 use Rattle.meta_log.specs.Sealed.{IsSealable}
 use Rattle.meta_store.specs.Store as meta
 use Rattle.store_image.specs.Owners.{IsDataUnit}
-use Rattle.object_rows.specs.declared.plan.FreshUnit.{FreshUnit}
+use Rattle.plan_rows.specs.declared.plan.FreshUnit.{FreshUnit}
 use Rattle.store_steps.specs.declared.context.Context.{Context}
 use Rattle.store_steps.specs.declared.flight.FlushState.TheVariants as flush
 use Rattle.store_steps.specs.declared.flight.Job.TheVariants as job
@@ -38,6 +37,7 @@ use Rattle.store_kernel.specs.declared.pending.NextWrite.{NextWrite}
 use Rattle.store_kernel.specs.Runs.{IsWriteOf}
 use Rattle.store_kernel.specs.Seen.{listed, batch_of}
 use Rattle.store_kernel.specs.Ends.{with_first, with_second}
+use Rattle.store_facts.proofs.Alone.{far_of}
 
 -- what the device asks of a write of these bytes from this unit on
 pub record CanWrite (d : Disk) (at size : ℕ) : Type 0 where
@@ -74,7 +74,7 @@ waits_alone s d x kept down pending = record { waiting = of_batch s.batch s.log.
     up = kept.up down
 
     far : IsOneAtATime s.log.number (x ∷ []) s.batch s.log.begun s.flying
-    far = subst (λ (xs : List Context). IsOneAtATime s.log.number xs s.batch s.log.begun s.flying) pending up.far
+    far = subst (λ (xs : List Context). IsOneAtATime s.log.number xs s.batch s.log.begun s.flying) pending (far_of s d up)
 
     of_batch : (b : Option Batch) (begun : Option meta.Begun) → IsOneAtATime s.log.number (x ∷ []) b begun s.flying → IsWaiting x s.flying
     of_batch None begun h = h.1

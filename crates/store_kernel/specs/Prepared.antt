@@ -4,11 +4,11 @@ use Rattle.object_model.specs.Effect.{Change}
 use Rattle.object_model.specs.declared.command.Command.TheVariants as ask
 use Rattle.meta_log.specs.Slots.{width_of}
 use Rattle.read_facts.specs.Refusals.{IsNotRefused}
-use Rattle.object_rows.specs.declared.plan.Plan.{Plan}
+use Rattle.plan_rows.specs.declared.plan.Plan.{Plan}
 use Rattle.store_steps.specs.declared.context.Context.{Context}
 use Rattle.store_steps.specs.State.{State}
 use Rattle.meta_store.specs.Store.{room_of}
-use Rattle.store_steps.specs.Planning.{Plans}
+use Rattle.plan_rows.specs.Plans.{Plans}
 use Rattle.store_steps.specs.Submit.{need_of}
 use Rattle.store_kernel.specs.declared.prepared.Prepared.{Prepared}
 

@@ -1,6 +1,6 @@
 -- The data write that comes next, as the code makes it.
 use Rattle.std.specs.Prelude.{◌≡◌, ℕ, List, take, length, MatchOption, Some}
-use Rattle.object_rows.specs.declared.plan.FreshUnit.{FreshUnit}
+use Rattle.plan_rows.specs.declared.plan.FreshUnit.{FreshUnit}
 use Rattle.store_steps.specs.declared.context.Context.{Context}
 use Rattle.store_steps.specs.Contexts.{Unsent, unsent_units, run_of, run_bytes, next_unsent}
 use Rattle.store_kernel.specs.declared.pending.NextWrite.{NextWrite}

@@ -27,20 +27,8 @@ use meta_store::MetaStore;
 use object_model::{Book, Commit, Entry};
 use std::alloc::Global;
 use std::marker::Model;
-use store_steps::{Context, Flying, Step};
+use store_steps::{ALL_STEPS, Context, Flying, Step};
 use unit_allocator::Allocator;
-
-const STEPS: [Step; 9] = [
-    Step::Data,
-    Step::Reap,
-    Step::Take,
-    Step::Flush,
-    Step::Seal,
-    Step::Record,
-    Step::Sync,
-    Step::Commit,
-    Step::Finish,
-];
 
 /// A store at work on its device: committed and submitted rows, what is under way, free units, and the book of the mount.
 ///
@@ -232,7 +220,7 @@ impl<D: Device> Kernel<D> {
     fn any_ready(&self) -> bool
         ensures { result ≡ list_any (λ step. is_ready step (D.disk self.now.device).depth self.now.state) all_steps }
     {
-        STEPS.iter().any(|step| self.ready(*step))
+        ALL_STEPS.iter().any(|step| self.ready(*step))
     }
 
     /// Whether no step is ready.

@@ -3,7 +3,15 @@ pub mod Contexts
 pub mod Changes
 pub mod Ready
 pub mod Steps
-pub mod Planning
 pub mod Submit
+pub mod Intents
 pub mod Opened
+pub mod UnderWay
+pub mod Parts
+pub mod Touch
+pub mod RowsGo
+pub mod DataGoes
+pub mod HalfGoes
+pub mod BookGoes
+pub mod Footprint
 pub mod Runs

@@ -6,13 +6,15 @@ use Rattle.object_model.specs.Effect.{Change}
 use Rattle.object_model.specs.declared.command.Command.{Command}
 use Rattle.object_model.specs.declared.command.Answer.{Answer}
 use Rattle.meta_log.specs.Slots.{width_of}
+use Rattle.read_facts.specs.PageReads.{IsHeldAt, no_memory}
 use Rattle.read_facts.specs.Answers.{IsKnownRead, HasReadNames, IsAnswerOf}
 use Rattle.store_steps.specs.declared.step.Step.{Step}
 use Rattle.store_steps.specs.declared.step.Step.TheVariants.{Reap}
 use Rattle.store_steps.specs.State.{State}
 use Rattle.store_steps.specs.Ready.{is_ready, is_drained}
 use Rattle.store_steps.specs.Steps.{Does, Takes}
-use Rattle.store_steps.specs.Submit.{IsKnown, CanNote, entered, Accepts, Refuses, IsDownBy, IsBookFull}
+use Rattle.plan_rows.specs.Plans.{IsKnown}
+use Rattle.store_steps.specs.Submit.{CanNote, entered, Accepts, Refuses, IsDownBy, IsBookFull}
 
 -- a call of the kernel that changes it
 pub data Call : Type 0 where
@@ -39,11 +41,11 @@ pub record TurnsAway (s s' : State) : Type 0 where
 abbrev pub Submits : ℕ → ℕ → Change → State → State → Type 0
 Submits client line change s s' = Accepts client line change s s' ⊎ ((a : Answer) × Refuses client line change a s s') ⊎ TurnsAway s s'
 
--- A read is answered by the submitted rows and by what the device holds. Nothing but the book changes.
+-- A read is answered by the submitted rows and by what the device holds: no bytes are in memory. Nothing but the book changes.
 pub record AnswersRead (client line : ℕ) (command : Command) (a : Answer) (s : State) (d : Disk) (s' : State) : Type 0 where
   pub can_note : CanNote s
   pub names : HasReadNames command
-  pub given : IsAnswerOf (width_of s.log.sup) d s.submitted command a
+  pub given : IsAnswerOf (width_of s.log.sup) no_memory (IsHeldAt d) s.submitted command a
   pub after : s' ≡ entered client line command a s
 
 -- it is answered, or turned away

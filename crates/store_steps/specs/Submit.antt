@@ -1,9 +1,7 @@
 -- What submitting a transaction does: it is accepted, or refused for a cause; either makes an entry of the book.
-use Rattle.std.specs.Prelude.{◌≡◌, ℕ, ◌+◌, ◌<◌, ◌≤◌, ◌%◌, List, [], ◌∷◌, ◌++◌, length, map, Some, None}
+use Rattle.std.specs.Prelude.{◌≡◌, ℕ, ◌+◌, ◌<◌, ◌≤◌, [], ◌∷◌, ◌++◌, length, map, Some, None}
 use Rattle.block_device.specs.declared.device.Ticket.{Ticket}
 use Rattle.object_model.specs.Effect.{Change}
-use Rattle.object_model.specs.declared.op.Op.{Op}
-use Rattle.object_model.specs.declared.op.Op.TheVariants.{MkColl, Touch, Write}
 use Rattle.object_model.specs.declared.command.Command.{Command}
 use Rattle.object_model.specs.declared.command.Command.TheVariants as ask
 use Rattle.object_model.specs.declared.command.Answer.{Answer}
@@ -12,19 +10,12 @@ use Rattle.meta_rows.specs.Rows.{rows_after}
 use Rattle.meta_log.specs.Records.{unit_count}
 use Rattle.meta_log.specs.Slots.{width_of}
 use Rattle.read_facts.specs.Refusals.{IsRefusedBy, IsNotRefused}
-use Rattle.object_rows.specs.declared.plan.Plan.{Plan}
+use Rattle.plan_rows.specs.declared.plan.Plan.{Plan}
 use Rattle.unit_allocator.specs.Units.{Space, free_units, taken}
 use Rattle.store_steps.specs.declared.context.Context.{Context}
 use Rattle.meta_store.specs.Store.{Meta, room_of}
 use Rattle.store_steps.specs.State.{State}
-use Rattle.store_steps.specs.Planning.{Plans, units_taken}
-
--- The transactions that the store knows so far: one makes a collection, one makes an object, one writes whole pages from a page's start on.
-abbrev pub IsKnown : List Op → Type 0
-IsKnown (MkColl ∷ []) = Unit {0}
-IsKnown (Touch o ∷ []) = Unit {0}
-IsKnown (Write o off bytes ∷ []) = (off % 4096 ≡ 0) × (length bytes % 4096 ≡ 0) × (0 < length bytes)
-IsKnown ops = ⊥
+use Rattle.plan_rows.specs.Plans.{Plans, units_taken}
 
 -- the units of the log that the record of these operations alone takes: they are as many for each number
 abbrev pub need_of : Meta → Plan → ℕ

@@ -2,7 +2,7 @@
 
 use byte_maps::Items;
 use meta_rows::RowOp;
-use object_rows::FreshUnit;
+use plan_rows::FreshUnit;
 use unit_fields::{CollName, UnitNo};
 
 /// An accepted transaction that isn't committed. (Ceph's `TransContext`.)

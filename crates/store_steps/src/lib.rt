@@ -11,5 +11,5 @@ mod step;
 
 pub use context::Context;
 pub use flight::{FlushState, Flying, Job};
-pub use object_rows::{FreshUnit, Plan};
-pub use step::Step;
+pub use plan_rows::{FreshUnit, Plan};
+pub use step::{ALL_STEPS, Step};

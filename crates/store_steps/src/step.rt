@@ -22,3 +22,16 @@ pub enum Step {
     /// Acknowledges the first committed transaction that isn't acknowledged yet.
     Finish,
 }
+
+/// All steps, in the order of their table.
+pub const ALL_STEPS: [Step; 9] = [
+    Step::Data,
+    Step::Reap,
+    Step::Take,
+    Step::Flush,
+    Step::Seal,
+    Step::Record,
+    Step::Sync,
+    Step::Commit,
+    Step::Finish,
+];

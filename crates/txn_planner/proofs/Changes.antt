@@ -16,7 +16,7 @@ use Rattle.row_format.specs.Row.{shard}
 use Rattle.row_facts.specs.Operations.{set_row, set_onode}
 use Rattle.blob_map.specs.Normal.{single, follows, more, extents_from, extents_of}
 use Rattle.object_rows.specs.Operations.{drops, onode_ops, shard_ops}
-use Rattle.object_rows.specs.Writes.{IsSizeOf, missing, there}
+use Rattle.plan_rows.specs.Layouts.{IsSizeOf, missing, there}
 use Rattle.txn_planner.specs.declared.object_change.Part.TheVariants as part
 use Rattle.txn_planner.specs.Parts.{is_of}
 

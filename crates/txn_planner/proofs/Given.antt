@@ -8,15 +8,14 @@ use Rattle.object_model.specs.declared.op.Op.TheVariants.{Touch, Write}
 use Rattle.object_model.specs.declared.command.Command.TheVariants as ask
 use Rattle.read_facts.specs.Refusals.{IsNotRefused}
 use Rattle.row_facts.specs.Operations.{coll_change}
-use Rattle.object_rows.specs.declared.plan.Plan.{Plan}
-use Rattle.object_rows.specs.Layouts.{MakesColl, MakesLayout}
+use Rattle.plan_rows.specs.declared.plan.Plan.{Plan}
+use Rattle.plan_rows.specs.Layouts.{MakesColl, MakesLayout}
 use Rattle.object_rows.specs.Writes.{touch_change}
 use Rattle.object_rows.proofs.LayoutOf.{ObjectInRows, object_in_rows}
 use Rattle.object_rows.proofs.PlanOps.{layout_written, layout_touched, coll_put}
 use Rattle.unit_allocator.specs.Units.{Space}
-use Rattle.store_steps.specs.Planning.{AreFreeOver, PlansObject}
-use Rattle.store_steps.specs.Submit.{IsKnown}
-use Rattle.store_steps.proofs.FreeOver.{can_plan}
+use Rattle.plan_rows.specs.Plans.{AreFreeOver, PlansObject, IsKnown}
+use Rattle.object_rows.proofs.FreeOver.{can_plan}
 use Rattle.txn_planner.specs.Given.{GivesColl, GivesTouch, GivesPages}
 use Rattle.txn_planner.specs.Ops.{op_change}
 use Rattle.txn_planner.specs.PlanFails.{IsPlanFor}

@@ -7,7 +7,8 @@ use Rattle.meta_rows.specs.declared.row_op.RowOp.{RowOp}
 use Rattle.blob_map.specs.Pages.{PageMap, with_pages}
 use Rattle.blob_map.specs.Normal.{extents_of}
 use Rattle.object_rows.specs.Operations.{object_ops}
-use Rattle.object_rows.specs.Plans.{new_pages, units_between, TurnsBits, WritesPages}
+use Rattle.plan_rows.specs.Layouts.{new_pages, TurnsBits}
+use Rattle.object_rows.specs.Plans.{units_between, WritesPages}
 use Rattle.onode_state.specs.Objects.{IsStateOf}
 
 pub writes_pages : (w : Width) (rows : Rows) (c o : List ℕ) (first : ℕ) (bytes units firsts : List ℕ) (size most : ℕ) (pages after : PageMap)

@@ -9,11 +9,10 @@ use Rattle.unit_fields.specs.Names.{IsCollName}
 use Rattle.unit_fields.specs.declared.width.Width.{Width}
 use Rattle.row_format.specs.Keys.{coll_key}
 use Rattle.row_facts.specs.Operations.{coll_ops}
-use Rattle.object_rows.specs.declared.plan.Plan.{Plan}
+use Rattle.plan_rows.specs.declared.plan.Plan.{Plan}
 use Rattle.object_rows.specs.Plans.{WritesPages, touch_ops}
-use Rattle.object_rows.specs.Planned.{pages_on, IsInColl}
+use Rattle.plan_rows.specs.Plans.{pages_on, IsInColl, IsTaken}
 use Rattle.unit_allocator.specs.Units.{Space, free_units}
-use Rattle.store_steps.specs.Planning.{IsTaken}
 
 -- the operation that makes a missing collection
 pub record GivesColl (c : List ℕ) (rows : Rows) (plan : Plan) : Type 0 where

@@ -6,9 +6,9 @@ use Rattle.crc32c_csum.specs.Crc32c.{crc32c}
 use Rattle.object_model.specs.declared.op.Op.{Op}
 use Rattle.object_model.specs.Effect.{Change}
 use Rattle.meta_rows.specs.Rows.{Rows}
-use Rattle.object_rows.specs.declared.plan.Plan.{Plan}
+use Rattle.plan_rows.specs.declared.plan.Plan.{Plan}
 use Rattle.object_rows.specs.Plans.{WritesPages}
-use Rattle.object_rows.specs.Planned.{pages_on}
+use Rattle.plan_rows.specs.Plans.{pages_on}
 use Rattle.unit_allocator.specs.declared.allocator.TakeFail.{TakeFail}
 use Rattle.unit_allocator.specs.declared.allocator.TakeFail.TheVariants as take
 use Rattle.txn_planner.specs.declared.planning.PlanFail.{PlanFail}

@@ -7,9 +7,9 @@ use Rattle.meta_rows.specs.Rows.{Rows}
 use Rattle.meta_log.specs.declared.slot.Super.{Super}
 use Rattle.meta_log.specs.Slots.{width_of}
 use Rattle.read_facts.specs.Refusals.{IsRefusedBy, IsNotRefused}
-use Rattle.object_rows.specs.declared.plan.Plan.{Plan}
+use Rattle.plan_rows.specs.declared.plan.Plan.{Plan}
 use Rattle.unit_allocator.specs.Units.{Space}
-use Rattle.store_steps.specs.Planning.{AreFreeOver, Plans, units_taken}
+use Rattle.plan_rows.specs.Plans.{AreFreeOver, Plans, units_taken}
 use Rattle.store_steps.specs.Submit.{free_count}
 use Rattle.txn_planner.specs.declared.planning.PlanFail.{PlanFail}
 use Rattle.txn_planner.specs.declared.planning.PlanFail.TheVariants as fail

@@ -9,7 +9,7 @@ ghost use Rattle.row_format.specs.Row.{shard};
 ghost use Rattle.row_facts.specs.Operations.{set_row};
 ghost use Rattle.blob_map.specs.Normal.{extents_of};
 ghost use Rattle.object_rows.specs.Operations.{drops, onode_ops, shard_ops};
-ghost use Rattle.object_rows.specs.Writes.{IsSizeOf};
+ghost use Rattle.plan_rows.specs.Layouts.{IsSizeOf};
 ghost use Rattle.txn_planner.specs.Parts.{is_of};
 
 use blob_map::PageMap;

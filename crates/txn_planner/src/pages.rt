@@ -7,8 +7,8 @@ ghost use Rattle.byte_maps.specs.Units.{unit_at};
 ghost use Rattle.crc32c_csum.specs.Crc32c.{crc32c};
 ghost use Rattle.number_map.specs.NumberMap.{is_in};
 ghost use Rattle.blob_map.specs.Pages.{with_pages};
-ghost use Rattle.object_rows.specs.Plans.{new_pages, own_units};
-ghost use Rattle.object_rows.specs.Planned.{pages_on};
+ghost use Rattle.plan_rows.specs.Layouts.{new_pages, own_units};
+ghost use Rattle.plan_rows.specs.Plans.{pages_on};
 
 use blob_map::{PageMap, Place};
 use byte_maps::Items;

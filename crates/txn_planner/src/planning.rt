@@ -10,7 +10,7 @@ ghost use Rattle.row_format.specs.Keys.{coll_key, onode_key};
 ghost use Rattle.row_facts.specs.Operations.{coll_ops, coll_change};
 ghost use Rattle.object_rows.specs.Plans.{touch_ops};
 ghost use Rattle.object_rows.specs.Writes.{touch_change};
-ghost use Rattle.store_steps.specs.Submit.{IsKnown};
+ghost use Rattle.plan_rows.specs.Plans.{IsKnown};
 ghost use Rattle.onode_state.specs.Objects.{AreRowsOfWidth};
 ghost use Rattle.txn_planner.specs.Given.{GivesColl, GivesTouch, GivesPages};
 ghost use Rattle.txn_planner.specs.PlanFails.{IsPlanFor, IsPlanFail};

@@ -1,57 +1,116 @@
--- Each call of the kernel keeps what is known, where the kernel is up behind it.
-use Rattle.std.proofs.Common.{◌≡◌, ℕ, ◌+◌, ◌++◌, [], ◌∷◌, Some, None, sym, subst, ◌∙◌}
+-- Each call of the kernel keeps what is known, where the kernel is up behind it: its footprint does.
+use Rattle.std.proofs.Common.{◌≡◌, ℕ, List, [], ◌∷◌, ◌++◌, Option, Some, None, sym, subst, ◌∙◌}
+use Rattle.std.specs.Prelude.{IfSome}
 use Rattle.std.proofs.lemmas.Option.{same_Some}
-use Rattle.block_device.specs.Disk.{Disk, History}
-use Rattle.object_model.specs.declared.book.Book.{Book}
-use Rattle.object_model.specs.declared.book.Entry.{Entry}
-use Rattle.store_steps.specs.State.{State}
-use Rattle.store_steps.specs.Changes.{commit_of, acknowledged}
-use Rattle.store_steps.specs.Runs.{Call, Calls}
+use Rattle.std.specs.List.{AllByRecursion}
+use Rattle.std.specs.Option.{option_map_or}
+use Rattle.byte_maps.specs.Units.{IsUnits}
+use Rattle.block_device.specs.Log.{last, IsClean}
+use Rattle.block_device.specs.Disk.{Disk, History, Flight}
+use Rattle.log_facts.specs.Flushing.{not_sent}
+use Rattle.store_image.specs.Owners.{IsDataUnit}
+use Rattle.store_steps.specs.declared.context.Context.{Context}
+use Rattle.plan_rows.specs.declared.plan.FreshUnit.{FreshUnit}
+use Rattle.store_steps.specs.State.{Batch, State}
 use Rattle.store_facts.specs.Kept.{IsKept}
-use Rattle.unit_facts.specs.Known.{KnownOfUnits, Knows}
-use Rattle.unit_facts.proofs.Moves.{Move, data_goes, data_ends, takes, flush_goes, flush_ends, seals, record_goes, record_ends, sync_goes, sync_ends}
-use Rattle.unit_facts.proofs.Moves.{commits, finishes, accepts, enters, rests, stays, call_goes_on}
-use Rattle.unit_facts.proofs.Steps.{data_known, data_done_known, take_known, flush_known, flush_done_known, seal_known}
-use Rattle.unit_facts.proofs.Steps.{record_known, record_done_known}
-use Rattle.unit_facts.proofs.Steps.{sync_known, sync_done_known, commit_known, accept_known, book_known, waited_known}
+use Rattle.store_steps.specs.UnderWay.{uncommitted, all_fresh, flush_of}
+use Rattle.store_steps.specs.Opened.{Found, opened}
+use Rattle.store_steps.specs.Runs.{Call, Calls}
+use Rattle.unit_allocator.specs.Units.{Space}
+use Rattle.meta_rows.specs.declared.row_op.RowOp.{RowOp}
+use Rattle.log_facts.specs.SlotFacts.{SlotsStand}
+use Rattle.log_facts.specs.HalfFacts.{ActiveHalfStands}
+use Rattle.store_facts.proofs.RowsFacts.{taken_data}
+use Rattle.store_facts.proofs.Downs.{was_up}
+use Rattle.store_facts.proofs.Footprints.{footprint_of}
+use Rattle.unit_facts.specs.DataUnits.{UnitsAreFlushed, BatchUnitsAreFlushed}
+use Rattle.unit_facts.specs.Known.{IsAnsweredSince, KnownOfUnits, Knows}
+use Rattle.unit_facts.proofs.Events.{IsTold, told_of}
+use Rattle.unit_facts.proofs.Units.{AreOnData, fresh_on_data, all_given, all_front, all_rest, all_join}
+use Rattle.store_steps.specs.Parts.{data_part, half_part}
+use Rattle.store_steps.specs.Touch.{Touch, after}
+use Rattle.store_steps.specs.Footprint.{Footprint}
+use Rattle.unit_facts.proofs.DataKnown.{AreKnown, AreOnDevice, units_known}
+use Rattle.unit_facts.proofs.HalfKnown.{HalfStands, half_known}
 
-pub move_known : {s s' : State} {d d' : Disk} {h h' : History} (base : ℕ) → Move s d h s' d' h' → KnownOfUnits base s d h → KnownOfUnits base s' d' h'
-move_known base (data_goes s x n flying flying' ticket d d' h fits run are size submitted) known =
-    data_known base s x n d d' h fits run flying flying' ticket are size submitted known
-move_known base (data_ends s x count flying flying' d d' h t ended) known = data_done_known base s x count flying flying' d d' h t ended known
-move_known base (takes s x d h) known =
-    let book : Book = record s.book { commits = s.book.commits ++ commit_of x ∷ [] } in
-    take_known base s book x d h known
-move_known base (flush_goes s x made ticket d d' h none submitted) known = flush_known base s x made ticket d d' h none submitted known
-move_known base (flush_ends s x made ticket d d' h ended) known = flush_done_known base s x made ticket d d' h ended known
-move_known base (seals s g g' x d h number fits room most batch pending none some second) known =
-    seal_known base s g g' x d h number fits room most batch pending none some second known
-move_known base (record_goes s x given written flying flying' ticket d d' h more room size limits on_data submitted) known =
-    record_known base s x given d d' h more written flying flying' ticket room size limits on_data submitted known
-move_known base (record_ends s x given written flying flying' d d' h t ended) known =
-    record_done_known base s x given d d' h written flying flying' t ended known
-move_known base (sync_goes s x pieces ticket d d' h none submitted) known = sync_known base s x pieces d d' h ticket none submitted known
-move_known base (sync_ends s x pieces ticket d d' h ended) known = sync_done_known base s x pieces d d' h ticket ended known
-move_known base (commits s x pieces d h written every) known = commit_known base s x pieces d d h written every known
-move_known base (finishes s d h) known =
-    let book : Book = record s.book { commits = acknowledged s.events s.book.commits } in
-    book_known base s book (s.acked + 1) d h known
-move_known base (accepts client line change s s' d h may does) known = accept_known base client line change does.plan s d h known
-move_known base (enters client line command a s d h drained) known =
-    let entry : Entry = record { client = client; line = line; command = command; answer = a; acks = s.acked } in
-    let book : Book = record s.book { entries = s.book.entries ++ entry ∷ [] } in
-    book_known base s book s.acked d h known
-move_known base (rests s d d' h waited) known = waited_known base s d d' h waited known
-move_known base (stays s d h) known = known
+-- ---- the batch's units
+
+to_part : (h : History) (o : Option Batch) → BatchUnitsAreFlushed h o
+    → UnitsAreFlushed h (option_map_or (λ b. flush_of b.first) o not_sent) (option_map_or (λ (b : Batch). all_fresh b.contexts) o [])
+to_part h None are = tt
+to_part h (Some b) are = are
+
+of_part : (h : History) (o : Option Batch)
+    → UnitsAreFlushed h (option_map_or (λ b. flush_of b.first) o not_sent) (option_map_or (λ (b : Batch). all_fresh b.contexts) o [])
+    → BatchUnitsAreFlushed h o
+of_part h None are = tt
+of_part h (Some b) are = are
+
+batch_front : (P : FreshUnit → Type 0) (xs ys : List Context) → AllByRecursion P (all_fresh (xs ++ ys)) → AllByRecursion P (all_fresh xs)
+batch_front P [] ys all = tt
+batch_front P (x ∷ xs) ys all = all_join P x.fresh (all_fresh xs) (all_front P x.fresh (all_fresh (xs ++ ys)) all)
+    (batch_front P xs ys (all_rest P x.fresh (all_fresh (xs ++ ys)) all))
+
+on_device : (s : State) → AreOnData s.log.sup (all_fresh (uncommitted s)) → AreOnDevice (data_part s)
+on_device s are = record {
+  given = all_given (λ f. IsDataUnit s.log.sup f.unit) (uncommitted s) are;
+  fresh = of_batch s.batch are;
+}
+  where
+    of_batch : (o : Option Batch) → AreOnData s.log.sup (all_fresh (option_map_or (λ b. b.contexts) o [] ++ s.pending))
+        → AreOnData s.log.sup (option_map_or (λ (b : Batch). all_fresh b.contexts) o [])
+    of_batch None all = tt
+    of_batch (Some b) all = batch_front (λ f. IsDataUnit s.log.sup f.unit) b.contexts s.pending all
+
+-- ---- each call
+
+pub footprint_known : (base : ℕ) (s s' : State) (d d' : Disk) (h : History) → (f : Footprint s d s' d') → IsKept s d → s.down ≡ None
+    → KnownOfUnits base s d h → KnownOfUnits base s' d' (after f.touch h)
+footprint_known base s s' d d' h f kept up known =
+    let t : Touch = f.touch in
+    let told : IsTold base s.events h d' t = told_of base s.events h d d' t f.device known.told known.answered in
+    let size : IsUnits s.log.sup.units (last h.start h.log) = subst (λ (n : ℕ). IsUnits n (last h.start h.log)) (sym kept.always.units)
+    (subst (λ o. IfSome o (λ k. IsUnits d.units (last k.start k.log))) known.told kept.always.device.size_now) in
+    let units : AreKnown (after t h) (data_part s') =
+    units_known base d.flights t (data_part s) (data_part s') h f.units f.placed size kept.always.limits
+    (on_device s (fresh_on_data s.log.sup (uncommitted s) (taken_data s d kept up))) known.answered.quiet known.answered.each told.next
+    (record { clean = known.clean; held = known.held; flushed_units = to_part h s.batch known.flushed }) in
+    let half : HalfStands (after t h) (half_part s') =
+    half_known base d.flights t (half_part s) (half_part s') h f.half f.placed size kept.always.limits known.answered.quiet known.answered.each told.next
+    (record { slots = known.slots; recs = known.half.recs; stands = known.half.stands }) in
+    record {
+      told = told.told;
+      answered = subst (IsAnsweredSince base (after t h) d'.flights) (sym f.counted) told.answered;
+      slots = half.slots;
+      half = record { recs = half.recs; stands = half.stands };
+      clean = units.clean;
+      held = units.held;
+      flushed = of_part (after t h) s'.batch units.flushed_units;
+    }
 
 pub call_knows : (call : Call) (base : ℕ) (s s' : State) (d d' : Disk) (h : History) → IsKept s d → s'.down ≡ None → KnownOfUnits base s d h
     → Calls call s d s' d' → Knows base s' d'
 call_knows call base s s' d d' h kept up known made =
-    let on = call_goes_on call s s' d d' h kept up known.told made in
-    record { history = on.history; known = move_known base on.move known }
+    let f : Footprint s d s' d' = footprint_of call s d s' d' kept up made in
+    record { history = after f.touch h; known = footprint_known base s s' d d' h f kept (was_up call s d s' d' made up) known }
 
 pub call_keeps : (call : Call) (base : ℕ) (s s' : State) (d d' : Disk) (h h' : History) → IsKept s d → s'.down ≡ None → KnownOfUnits base s d h
     → Calls call s d s' d' → d'.history ≡ Some h' → KnownOfUnits base s' d' h'
 call_keeps call base s s' d d' h h' kept up known made told =
-    let after = call_knows call base s s' d d' h kept up known made in
-    subst (KnownOfUnits base s' d') (same_Some after.history h' (sym after.known.told ∙ told)) after.known
+    let knows : Knows base s' d' = call_knows call base s s' d d' h kept up known made in
+    subst (KnownOfUnits base s' d') (same_Some knows.history h' (sym knows.known.told ∙ told)) knows.known
+
+-- ---- a store that was just opened
+
+pub opened_known : (base : ℕ) (f : Found) (recs : List (List RowOp)) (space : Space) (events : ℕ) (d : Disk) (h : History) → d.history ≡ Some h
+    → d.flights ≡ [] → IsAnsweredSince base h [] events → ((unit : ℕ) → IsClean h.log unit) → SlotsStand h f.sup
+    → ActiveHalfStands h f.sup f.rows f.tail f.number None 0 not_sent recs → KnownOfUnits base (opened f space events) d h
+opened_known base f recs space events d h told none answered clean slots half = record {
+  told = told;
+  answered = subst (λ (l : List Flight). IsAnsweredSince base h l events) (sym none) answered;
+  slots = slots;
+  half = record { recs = recs; stands = half };
+  clean = λ unit on other. clean unit;
+  held = tt;
+  flushed = tt;
+}

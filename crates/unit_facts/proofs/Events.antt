@@ -5,9 +5,15 @@ use Rattle.std.proofs.lemmas.List.{length-append}
 use Rattle.block_device.specs.Disk.{Disk, History, history_after, flight_of, find_flight, without, Submitted, Reaped}
 use Rattle.block_device.specs.Facts.{with_event, EachWriteIsAnswered}
 use Rattle.block_device.specs.declared.event.Event.{Event}
-use Rattle.block_device.specs.declared.event.Event.TheVariants.{Done}
+use Rattle.block_device.specs.declared.event.Event.TheVariants.{Write, Flush, Done}
 use Rattle.block_device.proofs.QuietLemmas.{quiet_push, answered_submit, answered_done}
+use Rattle.store_steps.specs.Touch.{Touch, nothing, ends, flushes, on_data, on_half, Adds, after, events_of, run_write}
 use Rattle.unit_facts.specs.Known.{IsAnsweredSince}
+
+-- a flush has the next ticket
+abbrev pub HasNextTicket : History → Touch → Type 0
+HasNextTicket h (flushes ticket) = ticket ≡ length h.log
+HasNextTicket h t = Unit {0}
 
 module _ (base events : ℕ) (h : History) (d d' : Disk) (told : d.history ≡ Some h) (answered : IsAnsweredSince base h d.flights events) where
   -- one event more
@@ -52,3 +58,39 @@ module _ (base events : ℕ) (h : History) (d d' : Disk) (told : d.history ≡ S
               (answered_done base h ticket d.flights answered.each);
           counted = more (Done ticket true);
         }
+
+-- ---- whatever a call adds
+
+-- what the device tells then
+pub record IsTold (base events : ℕ) (h : History) (d' : Disk) (t : Touch) : Type 0 where
+  pub told : d'.history ≡ Some (after t h)
+  pub answered : IsAnsweredSince base (after t h) d'.flights (events + events_of t)
+  pub next : HasNextTicket h t
+
+pub told_of : (base events : ℕ) (h : History) (d d' : Disk) (t : Touch) → Adds t d d' → d.history ≡ Some h → IsAnsweredSince base h d.flights events
+    → IsTold base events h d' t
+told_of base events h d d' nothing adds told a = record {
+  told = adds.0 ∙ told;
+  answered = record { quiet = a.quiet; each = subst (EachWriteIsAnswered base h) (sym adds.1) a.each; counted = omega (arith, a.counted) };
+  next = tt;
+}
+told_of base events h d d' (ends ticket) adds told a = record {
+  told = told_ended base events h d d' told a ticket adds;
+  answered = answered_ended base events h d d' told a ticket adds;
+  next = tt;
+}
+told_of base events h d d' (flushes ticket) adds told a = record {
+  told = told_sent base events h d d' told a ticket Flush adds;
+  answered = answered_sent base events h d d' told a ticket Flush adds;
+  next = place_sent base events h d d' told a ticket Flush adds;
+}
+told_of base events h d d' (on_data ticket run) adds told a = record {
+  told = told_sent base events h d d' told a ticket (run_write run) adds;
+  answered = answered_sent base events h d d' told a ticket (run_write run) adds;
+  next = tt;
+}
+told_of base events h d d' (on_half ticket unit bytes) adds told a = record {
+  told = told_sent base events h d d' told a ticket (Write unit bytes) adds;
+  answered = answered_sent base events h d d' told a ticket (Write unit bytes) adds;
+  next = tt;
+}

@@ -1,8 +1,7 @@
 pub mod Events
 pub mod Units
 pub mod RunWrites
-pub mod Steps
-pub mod Downs
-pub mod Moves
+pub mod DataKnown
+pub mod HalfKnown
 pub mod Calls
 pub mod Runs

@@ -1,13 +1,13 @@
 -- What is known of the data units, over an event that writes none of them, and as a batch is flushed and committed.
 use Rattle.std.proofs.Common.{◌≢◌, ◌⊎◌, inl, inr, true, ℕ, zero, suc, ◌+◌, ◌*◌, ◌≤◌, List, [], ◌∷◌, ◌++◌, length, take, Contains}
-use Rattle.std.proofs.Common.{Option, Some, None, subst}
+use Rattle.std.proofs.Common.{subst}
 use Rattle.std.proofs.Common.{◌∙◌, arith}
 use Rattle.std.specs.List.{flat_map, AllByRecursion}
 use Rattle.std.proofs.lemmas.Bool.{cases_eq}
 use Rattle.std.proofs.lemmas.List.Elements.{Contains-append_left, Contains-append_right}
 use Rattle.block_device.specs.Log.{last, WritesUnit, WritesNothing, IsClean}
-use Rattle.block_device.specs.Disk.{History, Flight}
-use Rattle.block_device.specs.Facts.{with_event, EventFits, EachWriteIsAnswered, QuietAt, IsUntouched}
+use Rattle.block_device.specs.Disk.{History}
+use Rattle.block_device.specs.Facts.{with_event, EventFits}
 use Rattle.block_device.specs.declared.event.Event.{Event}
 use Rattle.block_device.specs.declared.event.Event.TheVariants.{Write, Flush, Done}
 use Rattle.block_device.proofs.LogLemmas.{clean_push}
@@ -15,15 +15,15 @@ use Rattle.meta_log.specs.declared.slot.Super.{Super}
 use Rattle.meta_log.specs.Slots.{active_unit}
 use Rattle.store_image.specs.Owners.{IsDataUnit}
 use Rattle.log_facts.specs.Flushing.{FlushState, not_sent, sent, flushed}
-use Rattle.log_facts.proofs.Keeping.{last_push, flushed_push, flush_sent, flush_ended, nothing_written, half_before_data}
-use Rattle.object_rows.specs.declared.plan.FreshUnit.{FreshUnit}
+use Rattle.log_facts.proofs.Keeping.{last_push, flushed_push, flush_ended, nothing_written, half_before_data}
+use Rattle.plan_rows.specs.declared.plan.FreshUnit.{FreshUnit}
 use Rattle.unit_allocator.proofs.Lists.{Contains-head, Contains-tail}
 use Rattle.store_steps.specs.declared.context.Context.{Context}
-use Rattle.store_steps.specs.State.{Batch}
+use Rattle.store_steps.specs.DataGoes.{Spares}
 use Rattle.store_facts.proofs.SpaceUnits.{AreData}
-use Rattle.store_facts.proofs.RowsPlans.{units_of}
-use Rattle.unit_facts.specs.DataUnits.{flush_of, IsElsewhere, all_fresh, given_fresh, OtherUnitsAreClean, HeldBytesAreLast, UnitsAreFlushed}
-use Rattle.unit_facts.specs.DataUnits.{BatchUnitsAreFlushed}
+use Rattle.store_facts.proofs.RowsFacts.{units_of}
+use Rattle.store_steps.specs.UnderWay.{all_fresh, given_fresh}
+use Rattle.unit_facts.specs.DataUnits.{IsElsewhere, OtherUnitsAreClean, HeldBytesAreLast, UnitsAreFlushed}
 
 -- ---- lists
 
@@ -77,10 +77,6 @@ fresh_on_data s xs are = all_units (IsDataUnit s) xs are
 
 -- ---- an event that writes none of the data units
 
--- it writes none of these
-abbrev pub Spares : Event → List FreshUnit → Type 0
-Spares e fresh = AllByRecursion (λ f. ¬ WritesUnit f.unit e) fresh
-
 pub spares_data : (s : Super) (e : Event) (fresh : List FreshUnit) → ((unit : ℕ) → IsDataUnit s unit → ¬ WritesUnit unit e)
     → AreOnData s fresh → Spares e fresh
 spares_data s e [] spared are = tt
@@ -88,10 +84,6 @@ spares_data s e (f ∷ fresh) spared are = (spared f.unit are.0, spares_data s e
 
 pub none_written : (e : Event) (unit : ℕ) → WritesNothing e → ¬ WritesUnit unit e
 none_written e unit none = nothing_written unit 1 e none unit (omega arith) (omega arith)
-
-pub spares_all : (e : Event) (fresh : List FreshUnit) → WritesNothing e → Spares e fresh
-spares_all e [] none = tt
-spares_all e (f ∷ fresh) none = (none_written e f.unit none, spares_all e fresh none)
 
 pub fits_quiet : (size : ℕ) (e : Event) → WritesNothing e → EventFits size e
 fits_quiet size (Write at bytes) none = absurd none
@@ -112,24 +104,11 @@ pub flushed_on : (h : History) (e : Event) (state : FlushState) (fresh : List Fr
 flushed_on h e state [] spared are = tt
 flushed_on h e state (f ∷ fresh) spared are = (flushed_push h e state f.unit spared.0 are.0, flushed_on h e state fresh spared.1 are.1)
 
--- an event that writes nothing keeps what is known of the batch's units
-pub batch_quiet : (h : History) (e : Event) (batch : Option Batch) → WritesNothing e
-    → BatchUnitsAreFlushed h batch → BatchUnitsAreFlushed (with_event h e) batch
-batch_quiet h e None none are = tt
-batch_quiet h e (Some b) none are = flushed_on h e (flush_of b.first) (all_fresh b.contexts) (spares_all e (all_fresh b.contexts) none) are
-
 -- ---- a flush of these units
 
 pub none_flushed : (h : History) (fresh : List FreshUnit) → UnitsAreFlushed h not_sent fresh
 none_flushed h [] = tt
 none_flushed h (f ∷ fresh) = (tt, none_flushed h fresh)
-
--- it is submitted while nothing is in flight
-pub units_covered : (h : History) (base : ℕ) (flights : List Flight) (fresh : List FreshUnit) → QuietAt base h → EachWriteIsAnswered base h flights
-    → ((unit : ℕ) → IsUntouched flights unit) → UnitsAreFlushed (with_event h Flush) (sent (length h.log)) fresh
-units_covered h base flights [] quiet each untouched = tt
-units_covered h base flights (f ∷ fresh) quiet each untouched =
-    (flush_sent h base flights f.unit quiet each (untouched f.unit), units_covered h base flights fresh quiet each untouched)
 
 -- it has ended well
 pub units_cleaned : (h : History) (flush : ℕ) (fresh : List FreshUnit) → UnitsAreFlushed h (sent flush) fresh
@@ -140,7 +119,7 @@ units_cleaned h flush (f ∷ fresh) are = (flush_ended h flush f.unit are.0, uni
 -- ---- once its flush has ended a batch leaves all units outside the half clean
 
 -- the unit is none of these, or clean as they are
-other_or_clean : (h : History) (fresh : List FreshUnit) (unit : ℕ) → UnitsAreFlushed h flushed fresh
+pub other_or_clean : (h : History) (fresh : List FreshUnit) (unit : ℕ) → UnitsAreFlushed h flushed fresh
     → AllByRecursion (λ f. f.unit ≢ unit) fresh ⊎ IsClean h.log unit
 other_or_clean h [] unit are = inl tt
 other_or_clean h (f ∷ fresh) unit are = elim (cases_eq f.unit unit) [

@@ -1,31 +1,15 @@
 -- What is known of the units outside the log, by those that the contexts under way have taken.
-use Rattle.std.specs.Prelude.{◌≡◌, ◌≢◌, ◌⊎◌, ℕ, ◌+◌, ◌<◌, ◌≤◌, List, take, Option, Some, None}
-use Rattle.std.specs.List.{flat_map, AllByRecursion}
+use Rattle.std.specs.Prelude.{◌≡◌, ◌≢◌, ◌⊎◌, ℕ, ◌+◌, ◌<◌, ◌≤◌, List, Option, Some, None}
+use Rattle.std.specs.List.{AllByRecursion}
 use Rattle.block_device.specs.Log.{IsClean}
 use Rattle.block_device.specs.Disk.{History}
 use Rattle.block_device.specs.Facts.{last_at}
 use Rattle.meta_log.specs.declared.slot.Super.{Super}
 use Rattle.meta_log.specs.Slots.{active_unit}
-use Rattle.log_facts.specs.Flushing.{FlushState, not_sent, sent, flushed, IsFlushed}
-use Rattle.object_rows.specs.declared.plan.FreshUnit.{FreshUnit}
-use Rattle.store_steps.specs.declared.context.Context.{Context}
-use Rattle.store_steps.specs.declared.flight.FlushState.{FlushState as StepFlush}
-use Rattle.store_steps.specs.declared.flight.FlushState.TheVariants as flush
+use Rattle.log_facts.specs.Flushing.{FlushState, IsFlushed}
+use Rattle.plan_rows.specs.declared.plan.FreshUnit.{FreshUnit}
 use Rattle.store_steps.specs.State.{Batch}
-
--- a flush of the kernel, by the place of its submission
-abbrev pub flush_of : StepFlush → FlushState
-flush_of flush.NotSent = not_sent
-flush_of (flush.Sent ticket) = sent ticket.place
-flush_of flush.Flushed = flushed
-
--- the fresh units of contexts
-abbrev pub all_fresh : List Context → List FreshUnit
-all_fresh contexts = flat_map (λ x. x.fresh) contexts
-
--- those whose writes were submitted
-abbrev pub given_fresh : List Context → List FreshUnit
-given_fresh contexts = flat_map (λ x. take x.given x.fresh) contexts
+use Rattle.store_steps.specs.UnderWay.{flush_of, all_fresh}
 
 -- the unit is none of the active half of the log
 abbrev pub IsElsewhere : Super → ℕ → Type 0

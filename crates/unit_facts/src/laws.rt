@@ -7,6 +7,7 @@ ghost use Rattle.log_facts.specs.Flushing.{not_sent};
 ghost use Rattle.log_facts.specs.SlotFacts.{SlotsStand};
 ghost use Rattle.log_facts.specs.HalfFacts.{ActiveHalfStands};
 ghost use Rattle.unit_allocator.specs.Units.{Space};
+ghost use Rattle.plan_rows.specs.Keeps.{PlansKeep};
 ghost use Rattle.store_steps.specs.State.{State};
 ghost use Rattle.store_steps.specs.Ready.{is_drained};
 ghost use Rattle.store_steps.specs.Opened.{Found, opened};
@@ -30,11 +31,11 @@ pub fn a_call_keeps_what_is_known()
         KnownOfUnits base s d h → Calls call s d s' d' → d'.history ≡ Some h' → KnownOfUnits base s' d' h' }
 {}
 
-/// So does a run of calls.
+/// So does a run of calls, where plans over good rows keep them good.
 #[tactic(auto, using(crate::proofs::Runs::run_knows))]
 pub fn a_run_keeps_what_is_known()
-    ensures { (calls : List Call) (base : ℕ) (s s' : State) (d d' : Disk) (h : History) → IsKept s d → KnownOfUnits base s d h →
-        IsRun s d calls s' d' → s'.down ≡ None → Knows base s' d' }
+    ensures { PlansKeep → (calls : List Call) (base : ℕ) (s s' : State) (d d' : Disk) (h : History) → IsKept s d →
+        KnownOfUnits base s d h → IsRun s d calls s' d' → s'.down ≡ None → Knows base s' d' }
 {}
 
 /// Once the kernel is drained no unit of the device is dirty.

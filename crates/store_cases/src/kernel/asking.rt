@@ -116,6 +116,7 @@ fn answered(
     requires { IsKnownRead command }
 {
     if kernel.down().is_none() && !kernel.drained() {
+        drop(command);
         return Err(CaseError::Line("the kernel isn't drained"));
     }
     Ok(kernel.ask(alloc, 3, 7, command))
@@ -131,7 +132,10 @@ pub fn ask(
     let command = question(alloc, words)?;
     match answered(alloc, kernel, command)? {
         Ok(place) => print_entry(kernel, place, out),
-        Err(why) => print_unanswered(&why, out),
+        Err(why) => {
+            print_unanswered(&why, out);
+            drop(why);
+        }
     }
     Ok(())
 }

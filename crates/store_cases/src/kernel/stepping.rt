@@ -4,20 +4,7 @@ use block_device::MemoryDevice;
 use case_text::{CaseError, Text, Words, look_up, small};
 use std::alloc::Global;
 use store_kernel::{Kernel, StepFail};
-use store_steps::Step;
-
-/// The steps in the order of their table.
-const STEPS: [Step; 9] = [
-    Step::Data,
-    Step::Reap,
-    Step::Take,
-    Step::Flush,
-    Step::Seal,
-    Step::Record,
-    Step::Sync,
-    Step::Commit,
-    Step::Finish,
-];
+use store_steps::{ALL_STEPS, Step};
 
 /// The most steps of one `drain`.
 const MOST_STEPS: u32 = 1000;
@@ -58,7 +45,7 @@ fn step_if_ready(
 
 /// Does the first ready step in the order of the table, and shows it; false where none is ready.
 fn step_first(alloc: Global, kernel: &mut Kernel<MemoryDevice>, out: &mut Text) -> bool {
-    for step in STEPS {
+    for step in ALL_STEPS {
         if let Some(did) = step_if_ready(alloc, kernel, step) {
             show_step(did, step, out);
             return true;
@@ -86,7 +73,7 @@ pub fn drain(
 /// Follows `ready`.
 pub fn print_ready(kernel: &Kernel<MemoryDevice>, out: &mut Text) {
     out.print("ready");
-    for step in STEPS {
+    for step in ALL_STEPS {
         if kernel.ready(step) {
             out.print(format_args!(" {step:?}"));
         }

@@ -1,6 +1,6 @@
 //! Transactions that are submitted.
 ghost use Rattle.std.specs.Prelude.{◌≡◌, ◌<◌, ◌%◌, [], ◌∷◌, length, IfOk};
-ghost use Rattle.store_steps.specs.Submit.{IsKnown};
+ghost use Rattle.plan_rows.specs.Plans.{IsKnown};
 
 use crate::names::{coll_of, name_of};
 use block_device::MemoryDevice;
@@ -18,7 +18,10 @@ fn one(alloc: Global, coll: CollName, op: Op) -> Result<Transaction, CaseError>
 {
     match Transaction::new(alloc, coll, op) {
         Ok(txn) => Ok(txn),
-        Err(_) => Err(CaseError::OutOfMemory),
+        Err(back) => {
+            drop(back);
+            Err(CaseError::OutOfMemory)
+        }
     }
 }
 
@@ -110,6 +113,7 @@ fn submitted(
     requires { IsKnown txn.ops }
 {
     if kernel.down().is_none() && !kernel.drained() {
+        drop(txn);
         return Err(CaseError::Line("the kernel isn't drained"));
     }
     Ok(kernel.submit(alloc, 0, 1, txn))
@@ -125,7 +129,10 @@ pub fn submit(
     let txn = transaction(alloc, words)?;
     match submitted(alloc, kernel, txn)? {
         Ok(place) => out.println(format_args!("accepted {place}")),
-        Err(why) => print_refused(&why, out),
+        Err(why) => {
+            print_refused(&why, out);
+            drop(why);
+        }
     }
     Ok(())
 }

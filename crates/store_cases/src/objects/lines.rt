@@ -27,7 +27,10 @@ fn with_operation(
     let Some(mut change) = made else {
         return match Transaction::new(alloc, the_collection(alloc)?, op) {
             Ok(change) => Ok(change),
-            Err(_) => Err(CaseError::OutOfMemory),
+            Err(back) => {
+                drop(back);
+                Err(CaseError::OutOfMemory)
+            }
         };
     };
     change.push(op)?;
@@ -92,8 +95,14 @@ impl ObjectLines {
         if let (Command::Change(change), Answer::Accepted) = (command, &answer) {
             match self.plain.apply(self.alloc, change) {
                 Ok(()) => {}
-                Err(ArgFault::Refused(_)) => return Err(CaseError::Line("refused after all")),
-                Err(ArgFault::Memory) => return Err(CaseError::OutOfMemory),
+                Err(ArgFault::Refused(_)) => {
+                    drop(answer);
+                    return Err(CaseError::Line("refused after all"));
+                }
+                Err(ArgFault::Memory) => {
+                    drop(answer);
+                    return Err(CaseError::OutOfMemory);
+                }
             }
         }
         Ok(answer)
@@ -102,7 +111,9 @@ impl ObjectLines {
     /// The answer to the command of a line.
     fn reply(&mut self, line: &str) -> Result<Answer, CaseError> {
         let command = command(self.alloc, line)?;
-        self.answer(&command)
+        let answer = self.answer(&command);
+        drop(command);
+        answer
     }
 }
 
@@ -123,6 +134,7 @@ impl Follow for ObjectLines {
         let answer = self.reply(line)?;
         out.println(line);
         print_answer(&answer, out);
+        drop(answer);
         Ok(())
     }
 }

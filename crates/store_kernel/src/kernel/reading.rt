@@ -3,6 +3,7 @@ ghost use Rattle.std.specs.Prelude.{◌≡◌, ◌≤◌, length, OnOk, IfOk, If
 ghost use Rattle.meta_log.specs.Slots.{width_of};
 ghost use Rattle.block_device.specs.Disk.{Rose};
 ghost use Rattle.object_model.specs.declared.command.Answer.{Answer};
+ghost use Rattle.read_facts.specs.PageReads.{IsHeldAt, no_memory};
 ghost use Rattle.read_facts.specs.Answers.{HasReadNames, IsAnswerOf};
 ghost use Rattle.store_steps.specs.Runs.{MayRead, AnswersRead};
 ghost use Rattle.store_steps.specs.Submit.{CanNote};
@@ -59,7 +60,8 @@ impl<D: Device> Kernel<D> {
         requires may { MayRead command.now self.old.state (D.disk self.old.device) }
         requires can_note { CanNote self.old.state }
         ensures names { HasReadNames command.now }
-        ensures ok { IfOk result (IsAnswerOf (width_of self.old.state.log.sup) (D.disk self.old.device) self.old.state.submitted command.now) }
+        ensures ok { IfOk result (IsAnswerOf (width_of self.old.state.log.sup) no_memory (IsHeldAt (D.disk self.old.device))
+            self.old.state.submitted command.now) }
         ensures same { self.new.state ≡ self.old.state }
         ensures disk { D.disk self.new.device ≡ D.disk self.old.device }
         ensures later { D.faults self.old.device ≤ D.faults self.new.device }
@@ -80,7 +82,8 @@ impl<D: Device> Kernel<D> {
         requires may { MayRead command self.old.state (D.disk self.old.device) }
         requires can_note { CanNote self.old.state }
         requires names { HasReadNames command }
-        requires given { IsAnswerOf (width_of self.old.state.log.sup) (D.disk self.old.device) self.old.state.submitted command answer }
+        requires given { IsAnswerOf (width_of self.old.state.log.sup) no_memory (IsHeldAt (D.disk self.old.device))
+            self.old.state.submitted command answer }
         ensures place { IfOk result (λ place. place ≡ length self.old.state.book.entries) }
         ensures ok { OnOk result (AnswersRead client line command answer self.old.state (D.disk self.old.device) self.new.state) }
         ensures err { IfErr result (λ back. (back ≡ command) × (self.new.state ≡ self.old.state)) }

@@ -208,6 +208,7 @@ impl<D: Device> Kernel<D> {
         self.meta.flushed();
         self.meta.release(open.context.need);
         give_back(&mut self.space, open.context.released.as_slice());
+        drop(open);
     }
 
     pub(super) fn finish(&mut self)

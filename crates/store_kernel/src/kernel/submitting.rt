@@ -115,9 +115,11 @@ impl<D: Device> Kernel<D> {
         ensures faults { D.faults self.new.device ≡ D.faults self.old.device }
     {
         if self.entries.reserve(1).is_err() {
+            drop(ready);
             return Err(txn);
         }
         if self.submitted.reserve(ready.copy.len()).is_err() {
+            drop(ready);
             return Err(txn);
         }
         let place = self.entries.len() as u32;

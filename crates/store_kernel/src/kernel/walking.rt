@@ -4,6 +4,7 @@ ghost use Rattle.std.specs.Option.{option_copied};
 ghost use Rattle.meta_log.specs.Slots.{width_of};
 ghost use Rattle.block_device.specs.Disk.{Rose};
 ghost use Rattle.read_facts.specs.Walks.{IsCollection, IsObject, IsNextOf, IsPast};
+ghost use Rattle.read_facts.specs.PageReads.{IsHeldAt, no_memory};
 ghost use Rattle.object_reader.specs.Readable.{IsNextView};
 ghost use Rattle.store_steps.specs.Ready.{is_drained};
 ghost use Rattle.store_kernel.specs.Reading.{IsDownFail};
@@ -48,7 +49,8 @@ impl<D: Device> Kernel<D> {
     ) -> Result<Option<ObjectView>, WalkFail>
         requires { (self.old.state.down ≡ None) → is_drained (D.disk self.old.device).depth self.old.state ≡ true }
         ensures ok { IfOk result (λ found. MatchOption found (IsPast (IsObject self.old.state.submitted coll.now) (option_copied after.entry))
-            (IsNextView (width_of self.old.state.log.sup) (D.disk self.old.device) self.old.state.submitted coll.now (option_copied after.entry))) }
+            (IsNextView (width_of self.old.state.log.sup) no_memory (IsHeldAt (D.disk self.old.device)) self.old.state.submitted
+            coll.now (option_copied after.entry))) }
         ensures fail { IfErr result (λ why. IsDownFail why self.old.state) }
         ensures same { self.new.state ≡ self.old.state }
         ensures disk { D.disk self.new.device ≡ D.disk self.old.device }

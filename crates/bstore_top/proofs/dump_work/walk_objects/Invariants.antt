@@ -1,6 +1,7 @@
 use Rattle.std.proofs.Common.{◌≡◌, ◌≤◌, ◌-◌, length}
 use Rattle.std.specs.FinMap as finite
 use Rattle.meta_log.specs.Slots.{width_of}
+use Rattle.read_facts.specs.PageReads.{IsHeldAt, no_memory}
 use Rattle.read_facts.specs.Views.{IsViewed}
 use Rattle.bstore_top.proofs.dump_work.walk_objects.Given as goal
 
@@ -10,7 +11,8 @@ invariant-objects g l = record {
   disk : g.D.Device.disk l.kernel.device ≡ g.D.Device.disk l.initial.kernel.device;
   faults : g.D.Device.faults l.initial.kernel.device ≤ g.D.Device.faults l.kernel.device;
   coll : l.view.coll ≡ l.initial.view.coll;
-  viewed : IsViewed (width_of l.initial.kernel.state.log.sup) (g.D.Device.disk l.initial.kernel.device) l.initial.kernel.state.submitted l.view;
+  viewed : IsViewed (width_of l.initial.kernel.state.log.sup) no_memory (IsHeldAt (g.D.Device.disk l.initial.kernel.device))
+      l.initial.kernel.state.submitted l.view;
 }
 
 abbrev pub decreases-objects : goal.decreases-objects

@@ -3,6 +3,7 @@ use Rattle.std.specs.Option.{option_copied}
 use Rattle.std.specs.FinMap as finite
 use Rattle.meta_log.specs.Slots.{width_of}
 use Rattle.read_facts.specs.declared.view.CollView.{CollView}
+use Rattle.read_facts.specs.PageReads.{IsHeldAt, no_memory}
 use Rattle.read_facts.specs.Walks.{IsCollection, IsNextOf, last_of}
 use Rattle.read_facts.specs.Views.{WalksTo, coll_names}
 use Rattle.bstore_top.proofs.DumpWalks.{coll_found, so_far, one_walked, part_walked, few_walked, fewer_left, whole_at, viewed_at}
@@ -61,7 +62,7 @@ pub returns-in_default-reserve-clause-walked : goal.returns-in_default-reserve-c
 returns-in_default-reserve-clause-walked g c =
     let d = g.D.Device.disk c.args.kernel.now.device in
     let rows = c.args.kernel.now.state.submitted in
-    subst (WalksTo (width_of c.args.kernel.now.state.log.sup) d rows) (sym c.reserve.ensures.items)
+    subst (WalksTo (width_of c.args.kernel.now.state.log.sup) no_memory (IsHeldAt d) rows) (sym c.reserve.ensures.items)
     (so_far (width_of c.args.kernel.now.state.log.sup) d rows c.colls.walk.items c.colls.invariant.walked)
 
 pub returns-clause-walked : goal.returns-clause-walked

@@ -1,6 +1,7 @@
 use Rattle.std.proofs.Common.{◌+◌, ◌≤◌, sym, subst}
 use Rattle.object_model.specs.Effect.{object_limit}
 use Rattle.object_model.specs.declared.command.Command.TheVariants as ask
+use Rattle.read_facts.specs.PageReads.{IsHeldAt, no_memory}
 use Rattle.read_facts.specs.Answers.{IsAnswerOf}
 use Rattle.object_reader.specs.Missing.{HasObject}
 use Rattle.object_reader.specs.Parts.{GivesRange}
@@ -60,7 +61,7 @@ returns-in-Err-clause-ok g c =
     let key = taken.0.1 in
     let size = c.in_ok-size.size in
     let pages = c.in_ok-pages.pages in
-    ok_of c.csum_answer.result (IsCsumOf c.in-Err.why) (IsAnswerOf c.args.width d rows (ask.Read coll object off len))
+    ok_of c.csum_answer.result (IsCsumOf c.in-Err.why) (IsAnswerOf c.args.width no_memory (IsHeldAt d) rows (ask.Read coll object off len))
     (λ a is. read_fails c.args.width d rows coll object size pages c.requires.readable c.in_ok-size.ensures c.in_ok-pages.ensures.found key off len
     c.in-Err.why a none
     c.in-Err.ensures.fail is) c.csum_answer.ensures.ok

@@ -1,4 +1,5 @@
 use Rattle.object_model.specs.declared.command.Command.TheVariants as ask
+use Rattle.read_facts.specs.PageReads.{IsHeldAt, no_memory}
 use Rattle.read_facts.specs.Answers.{IsAnswerOf}
 use Rattle.object_reader.specs.Missing.{HasObject}
 use Rattle.object_reader.specs.PartFails.{IsCsumOf}
@@ -53,6 +54,6 @@ returns-in-Err-clause-ok g c =
     let none = sum_taken rows coll object c.object_refusal.ensures.names.0 c.object_refusal.ensures.names.1 taken.0 taken.1 in
     let size = c.in_ok-size.size in
     let pages = c.in_ok-pages.pages in
-    ok_of c.csum_answer.result (IsCsumOf c.in-Err.why) (IsAnswerOf c.args.width d rows (ask.Sum coll object))
+    ok_of c.csum_answer.result (IsCsumOf c.in-Err.why) (IsAnswerOf c.args.width no_memory (IsHeldAt d) rows (ask.Sum coll object))
     (λ a is. sum_fails c.args.width d rows coll object size pages c.requires.readable c.in_ok-size.ensures c.in_ok-pages.ensures.found
     taken.1 c.in-Err.why a none c.in-Err.ensures.fail is) c.csum_answer.ensures.ok

@@ -1,7 +1,15 @@
 use Rattle.std.proofs.Common.{◌-◌, arith}
 use Rattle.object_reader.specs.Parts.{IsPartFail}
-use Rattle.object_reader.proofs.PartLemmas.{good_holes, good_units, on_units, sums_checked, hole_sums, units_fail, fails_of_more, handed_on}
+use Rattle.object_reader.proofs.PartLemmas.{run_free, good_holes, good_units, on_units, sums_checked, hole_sums, units_fail, fails_of_more, handed_on}
 use Rattle.object_reader.proofs.parts.read_part.Goals as goal
+
+pub read_units-requires-clause-free : goal.read_units-requires-clause-free
+read_units-requires-clause-free g c =
+    let pages = c.args.pages.now in
+    let at = c.in-Units.at in
+    let kept = c.in-Units.ensures.run.2 in
+    run_free (g.D.Device.disk c.args.device.now) pages c.args.first at c.in-Units.count c.requires.can
+    (on_units pages c.args.first at c.in-Units.count c.run_from.new.sums kept) c.in-Units.ensures.run.0
 
 pub returns-in_err-read_units-in-Units-clause-fail : goal.returns-in_err-read_units-in-Units-clause-fail
 returns-in_err-read_units-in-Units-clause-fail g c =

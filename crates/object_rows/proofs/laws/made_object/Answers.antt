@@ -6,5 +6,5 @@ pub returns : goal.returns
 returns c = record {
   can = can_make;
   made = λ s at rows objects after coll o present can none stand is. made_stand s rows coll o present can at objects after none stand is;
-  kept = touched_same;
+  kept = λ w at rows objects after coll o coll_named named has stand. touched_same rows objects after coll o coll_named named has stand.shape;
 }

@@ -2,4 +2,5 @@ use Rattle.read_facts.proofs.Seen.{seen_answer}
 use Rattle.read_facts.proofs.laws.reads_are_as_plain_objects.Goals as goal
 
 pub returns : goal.returns
-returns c = λ w d h rows objects command a tells answered stand names is. seen_answer w d h tells answered rows objects stand command a names is
+returns c = λ w memory d h at rows objects command a tells answered valued stand names is.
+    seen_answer w memory d h tells answered at valued rows objects stand command a names is

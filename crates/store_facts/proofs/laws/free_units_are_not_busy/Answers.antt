@@ -1,4 +1,4 @@
-use Rattle.store_facts.proofs.Exactness.{law_free}
+use Rattle.store_facts.proofs.RowsNow.{law_free}
 use Rattle.store_facts.proofs.laws.free_units_are_not_busy.Goals as goal
 
 pub returns : goal.returns

@@ -9,7 +9,7 @@ use Rattle.crc32c_csum.specs.Crc32c.{crc32c}
 use Rattle.blob_map.specs.Pages.{with_pages}
 use Rattle.blob_map.specs.Normal.{extents_of}
 use Rattle.object_rows.specs.Operations.{shard_ops, object_ops}
-use Rattle.object_rows.specs.Plans.{new_pages, own_units, TurnsBits}
+use Rattle.plan_rows.specs.Layouts.{new_pages, own_units, TurnsBits}
 use Rattle.txn_planner.proofs.Written.{writes_pages}
 use Rattle.txn_planner.proofs.planning.pages_on.Goals as goal
 

@@ -5,7 +5,7 @@ use Rattle.object_model.specs.declared.command.Command.TheVariants as ask
 use Rattle.read_facts.specs.Refusals.{IsNotRefused}
 use Rattle.row_facts.specs.Operations.{coll_change}
 use Rattle.object_rows.specs.Writes.{touch_change}
-use Rattle.store_steps.specs.Submit.{IsKnown}
+use Rattle.plan_rows.specs.Plans.{IsKnown}
 use Rattle.txn_planner.specs.Given.{GivesColl, GivesTouch, GivesPages}
 use Rattle.txn_planner.specs.Ops.{op_change}
 use Rattle.txn_planner.specs.PlanFails.{IsPlanFor}

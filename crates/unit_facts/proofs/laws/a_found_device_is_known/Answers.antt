@@ -1,4 +1,4 @@
-use Rattle.unit_facts.proofs.Steps.{opened_known}
+use Rattle.unit_facts.proofs.Calls.{opened_known}
 use Rattle.unit_facts.proofs.laws.a_found_device_is_known.Goals as goal
 
 pub returns : goal.returns

@@ -1,5 +1,10 @@
-use Rattle.store_kernel.proofs.Admitting.{given, planned_fits}
+use Rattle.store_kernel.proofs.Admitting.{rows_of_width, given, planned_fits}
 use Rattle.store_kernel.proofs.kernel.Kernel.planned.Goals as goal
+
+pub plan-requires-clause-good : goal.plan-requires-clause-good
+plan-requires-clause-good g c =
+    let can = rw (← c.self.view_is) at c.requires.can_note in
+    rw (c.width-width.ensures) (rows_of_width _ (g.D.Device.disk c.self.inside.device) c.self.invariant.kept can)
 
 pub returns-in-Ok-clause-ok : goal.returns-in-Ok-clause-ok
 returns-in-Ok-clause-ok g c =

@@ -1,0 +1,46 @@
+-- What is known of the plan of an accepted transaction.
+use Rattle.std.proofs.Common.{ℕ, Contains}
+use Rattle.block_device.specs.Disk.{Disk}
+use Rattle.meta_log.specs.Slots.{IsSuper}
+use Rattle.object_model.specs.Effect.{Change, names_of}
+use Rattle.store_image.specs.Owners.{IsMarked}
+use Rattle.unit_allocator.specs.Units.{free_units}
+use Rattle.plan_rows.specs.declared.plan.Plan.{Plan}
+use Rattle.plan_rows.specs.Plans.{fresh_units}
+use Rattle.plan_rows.specs.Keeps.{IsGood, Suits, PlanKeeps, PlanMakes, PlanTakes, PlansKeep}
+use Rattle.plan_rows.proofs.Agreeing.{agree_itself}
+use Rattle.store_steps.specs.State.{State}
+use Rattle.store_steps.specs.Submit.{Accepts}
+use Rattle.store_steps.specs.Runs.{MaySubmit}
+use Rattle.store_steps.specs.Parts.{rows_part}
+use Rattle.store_facts.specs.Kept.{IsKept}
+use Rattle.store_facts.specs.Space.{IsSpaceOf, AreRowsKept}
+use Rattle.store_facts.proofs.RowsAccepted.{submitted_good, submitted_free, accepted_keeps, accepted_makes, accepted_takes}
+use Rattle.book_facts.proofs.Commits.{all_then}
+
+-- The submitted rows are good and suit the plan, and it keeps, makes and takes what plans do.
+pub record IsKnownPlan (s : State) (change : Change) (plan : Plan) : Type 0 where
+  pub good : IsGood s.log.sup s.submitted
+  pub suits : Suits (names_of change) s.submitted plan s.submitted
+  pub keeps : PlanKeeps s.log.sup (names_of change) s.submitted plan
+  pub makes : PlanMakes s.log.sup change s.submitted plan
+  pub takes : PlanTakes s.space change plan
+
+pub known_plan : PlansKeep → (s : State) (d : Disk) (client line : ℕ) (change : Change) (s' : State) → IsKept s d → MaySubmit change s d
+    → (does : Accepts client line change s s') → IsKnownPlan s change does.plan
+known_plan plans s d client line change s' kept may does =
+    let limits : IsSuper s.log.sup = kept.always.limits in
+    let space : IsSpaceOf s.log.sup s.space = kept.always.space in
+    let rows : AreRowsKept (rows_part s) = (kept.up does.can_note.up).rows in
+    let takes : PlanTakes s.space change does.plan = accepted_takes plans s client line change s' limits space rows may.known does in
+    record {
+      good = submitted_good s limits space rows;
+      suits = record {
+        agree = agree_itself (names_of change) s.submitted;
+        unmarked = all_then (λ u. Contains (free_units s.space) u) (λ u. ¬ IsMarked s.submitted u) (fresh_units does.plan)
+            (λ u free. ((submitted_free s limits space rows).free u free).2) takes.free;
+      };
+      keeps = accepted_keeps plans s client line change s' limits space rows may.known does;
+      makes = accepted_makes plans s client line change s' limits space rows may.known does;
+      takes = takes;
+    }

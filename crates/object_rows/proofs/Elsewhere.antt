@@ -1,0 +1,210 @@
+-- A plan over rows is one over all rows that agree with them on its collection, where the units that it takes are unmarked.
+use Rattle.std.proofs.Common.{◌≡◌, ◌⊎◌, inl, inr, ℕ, ◌/◌, true, List, [], ◌∷◌, None, map, is_some, refl, sym, ap, subst, ◌∙◌}
+use Rattle.std.specs.List.{AllByRecursion}
+use Rattle.std.specs.FinMap as finite
+use Rattle.meta_rows.specs.Rows.{Rows, rows_after, key_of, LeaveAlone}
+use Rattle.meta_rows.specs.declared.row_op.RowOp.{RowOp}
+use Rattle.meta_rows.proofs.BatchLemmas.{only_its_own}
+use Rattle.meta_rows.proofs.RowLemmas.{get-rows_after_other}
+use Rattle.meta_log.specs.declared.slot.Super.{Super}
+use Rattle.meta_log.specs.Slots.{width_of}
+use Rattle.object_model.specs.declared.op.Op.{Op}
+use Rattle.object_model.specs.declared.op.Op.TheVariants.{Touch, Write}
+use Rattle.object_model.specs.Effect.{Change, names_of}
+use Rattle.object_model.proofs.Names.{is_own}
+use Rattle.unit_fields.specs.declared.width.Width.{Width}
+use Rattle.row_format.specs.Keys.{coll_key, onode_key, shard_key}
+use Rattle.row_format.specs.Extents.{Extent, Place}
+use Rattle.store_image.specs.Pages.{HasKey, HasValue, IsPageAt}
+use Rattle.store_image.specs.Owners.{IsMarked, IsOwned, IsExactAs}
+use Rattle.row_facts.specs.Operations.{coll_change}
+use Rattle.blob_map.specs.Pages.{PageMap}
+use Rattle.blob_map.specs.Normal.{extents_of}
+use Rattle.plan_rows.specs.declared.plan.FreshUnit.{FreshUnit}
+use Rattle.plan_rows.specs.declared.plan.Plan.{Plan}
+use Rattle.plan_rows.specs.Difference.{Changes, IsDifference}
+use Rattle.plan_rows.specs.Layouts.{Layout, HasLayout, made_of, IsSizeOf, missing, there, IsMapOf, IsKeyOf, AreReplaced, GetsLayout, stays, replaces, MakesColl, MakesLayout}
+use Rattle.plan_rows.specs.Plans.{IsInColl, fresh_units, object_of, data_of}
+use Rattle.plan_rows.specs.Names.{IsKeyIn, AgreeOn}
+use Rattle.object_rows.specs.Planned.{AreFresh, CanPlanWrite, CanPlan, IsPlanned, makes_coll, changes_object}
+use Rattle.object_rows.proofs.Difference.{still_changes, no_difference, same_unnamed}
+use Rattle.object_rows.proofs.GoodPages.{all_map}
+use Rattle.object_rows.proofs.PagesOn.{units_of_pages}
+use Rattle.object_rows.proofs.PlanOps.{coll_put, coll_by}
+
+-- ---- the keys of a difference
+
+-- keys of an object are keys in its collection
+pub key_in : (c o key : List ℕ) → IsKeyOf c o key → IsKeyIn c key
+key_in c o key (inl is) = inr (0x4f, o, _, inl refl, is)
+key_in c o key (inr its) = inr (0x4f, o, _, inl refl, its.2)
+
+-- where all other keys are left alone, each operation is on one of these
+pub all_named : (P : List ℕ → Type 0) (ops : List RowOp) → ((key : List ℕ) → P key ⊎ LeaveAlone ops key) → AllByRecursion (λ op. P (key_of op)) ops
+all_named P [] each = tt
+all_named P (op ∷ ops) each = (
+  elim (each (key_of op)) [ inl is ↦ is | inr alone ↦ absurd (alone.0 refl) ],
+  all_named P ops (λ key. elim (each key) [ inl is ↦ inl is | inr alone ↦ inr alone.1 ]),
+)
+
+-- an object's rows are all that changes when it gets a layout
+pub layout_keys : (w : Width) (rows : Rows) (c o : List ℕ) (x y : Layout) (after : Rows) (ops : List RowOp) → GetsLayout w rows c o x y after
+    → IsDifference rows after ops → AllByRecursion (λ op. IsKeyOf c o (key_of op)) ops
+layout_keys w rows c o x y after ops (stays has same) is = subst (AllByRecursion (λ op. IsKeyOf c o (key_of op))) (sym (no_difference rows ops is)) tt
+layout_keys w rows c o x y after ops (replaces r changed are) is = all_named (IsKeyOf c o) ops (λ key. elim (are.others key) [
+  | inl its ↦ inl its
+  | inr same ↦ inr (same_unnamed rows after ops key is same)
+])
+
+-- ---- rows that agree on a collection
+
+-- a row after operations depends on what it was alone
+same_after : (rows other : Rows) (ops : List RowOp) (key : List ℕ) → finite.get other key ≡ finite.get rows key
+    → finite.get (rows_after other ops) key ≡ finite.get (rows_after rows ops) key
+same_after rows other ops key same =
+    only_its_own key (λ op. true) (λ op is. refl) other rows ops same ∙ sym (only_its_own key (λ op. true) (λ op is. refl) rows rows ops refl)
+
+module _ (c : List ℕ) where
+  onode_in : (o : List ℕ) → IsKeyIn c (onode_key c o)
+  onode_in o = inr (0x4f, o, _, inl refl, refl)
+
+  shard_in : (o : List ℕ) (page : ℕ) → IsKeyIn c (shard_key c o page)
+  shard_in o page = inr (0x4f, o, _, inl refl, refl)
+
+  -- the rows of the collection are the same in both
+  abbrev AreSameIn : Rows → Rows → Type 0
+  AreSameIn rows other = (key : List ℕ) → IsKeyIn c key → finite.get other key ≡ finite.get rows key
+
+  value_there : (rows other : Rows) (key value : List ℕ) (Fits : Type 0) → AreSameIn rows other → IsKeyIn c key → HasValue rows key value Fits
+      → HasValue other key value Fits
+  value_there rows other key value Fits same is has = record { fits = has.fits; stands = same key is ∙ has.stands }
+
+  page_there : (w : Width) (rows other : Rows) (o : List ℕ) (page : ℕ) (place : Place) → AreSameIn rows other → IsPageAt w rows c o page place
+      → IsPageAt w other c o page place
+  page_there w rows other o page place same is = record {
+    first = is.first;
+    extents = is.extents;
+    has_shard = value_there rows other _ _ _ same (shard_in o is.first) is.has_shard;
+    has_page = is.has_page;
+  }
+
+module _ (c : List ℕ) (rows other : Rows) (agree : AreSameIn c rows other) where
+  key_there : (key : List ℕ) → IsKeyIn c key → HasKey rows key → HasKey other key
+  key_there key is has = ap is_some (agree key is) ∙ has
+
+  module _ (w : Width) (o : List ℕ) where
+    size_there : (size : ℕ) → IsSizeOf rows c o size → IsSizeOf other c o size
+    size_there size (missing none) = missing (agree (onode_key c o) (onode_in c o) ∙ none)
+    size_there size (there n has) = there n (value_there c rows other _ _ _ agree (onode_in c o) has)
+
+    map_there : (pages : PageMap) → IsMapOf w rows c o pages → IsMapOf w other c o pages
+    map_there pages is page place = (
+      λ found. page_there c w rows other o page place agree ((is page place).0 found),
+      λ at. (is page place).1 (page_there c w other rows o page place (λ key its. sym (agree key its)) at),
+    )
+
+    layout_there : (x : Layout) → HasLayout w rows c o x → HasLayout w other c o x
+    layout_there x has = record { was_long = size_there x.size has.was_long; are_pages = map_there x.pages has.are_pages }
+
+    -- ---- a difference of the object's rows
+
+    changes_there : (ops : List RowOp) → AllByRecursion (λ op. IsKeyOf c o (key_of op)) ops → AllByRecursion (Changes rows) ops
+        → AllByRecursion (Changes other) ops
+    changes_there [] keys changes = tt
+    changes_there (op ∷ ops) keys changes =
+        (still_changes rows other op (agree (key_of op) (key_in c o (key_of op) keys.0)) changes.0, changes_there ops keys.1 changes.1)
+
+    module _ (after : Rows) (ops : List RowOp) (is : IsDifference rows after ops) where
+      -- the object's rows are the same after
+      same_then : (key : List ℕ) → IsKeyIn c key → finite.get (rows_after other ops) key ≡ finite.get after key
+      same_then key its = same_after rows other ops key (agree key its) ∙ ap (λ r. finite.get r key) is.makes
+
+      replaced_there : (size : ℕ) (extents : List Extent) → AreReplaced w rows after c o size extents
+          → AreReplaced w other (rows_after other ops) c o size extents
+      replaced_there size extents are = record {
+        onode = same_then (onode_key c o) (onode_in c o) ∙ are.onode;
+        shard = λ page begins. same_then (shard_key c o page) (shard_in c o page) ∙ are.shard page begins;
+        no_other = λ page lt not. same_then (shard_key c o page) (shard_in c o page) ∙ are.no_other page lt not;
+        others = λ key. elim (are.others key) [
+          | inl its ↦ inl its
+          | inr same ↦ inr (get-rows_after_other other ops key (same_unnamed rows after ops key is same))
+        ];
+      }
+
+      difference_there : AllByRecursion (λ op. IsKeyOf c o (key_of op)) ops → IsDifference other (rows_after other ops) ops
+      difference_there keys = record { in_order = is.in_order; changes = changes_there ops keys is.changes; makes = refl }
+
+    gets_there : (x y : Layout) (after : Rows) (ops : List RowOp) → GetsLayout w rows c o x y after → IsDifference rows after ops
+        → GetsLayout w other c o x y (rows_after other ops)
+    gets_there x y after ops (stays has same) is = subst (λ l. GetsLayout w other c o x y (rows_after other l)) (sym (no_difference rows ops is))
+        (stays (key_there (onode_key c o) (onode_in c o) has) same)
+    gets_there x y after ops (replaces r changed are) is = replaces (rows_after other ops)
+        (elim changed [ inl none ↦ inl (agree (onode_key c o) (onode_in c o) ∙ none) | inr moved ↦ inr moved ])
+        (replaced_there after ops is y.size (extents_of (finite.entries y.pages)) are)
+
+    pub makes_there : (x y : Layout) (units : List ℕ) (plan : Plan) → MakesLayout w rows c o x y units plan → MakesLayout w other c o x y units plan
+    makes_there x y units plan p = record {
+      after = rows_after other p.difference;
+      gets = gets_there x y p.after p.difference p.gets p.is_difference;
+      difference = p.difference;
+      is_difference = difference_there p.after p.difference p.is_difference
+          (layout_keys w rows c o x y p.after p.difference p.gets p.is_difference);
+      flips = p.flips;
+      turns = p.turns;
+      ops_are = p.ops_are;
+      released_are = p.released_are;
+    }
+
+  coll_there : (plan : Plan) → finite.get rows (coll_key c) ≡ None → MakesColl rows c plan → MakesColl other c plan
+  coll_there plan none p = subst (MakesColl other c) (coll_by rows c plan none p) (coll_put other c (agree (coll_key c) (inl refl) ∙ none))
+
+  -- ---- what an operation needs of the rows and of its units
+
+  in_coll_there : (o : List ℕ) → IsInColl c o rows → IsInColl c o other
+  in_coll_there o is = record { coll_named = is.coll_named; named = is.named; there = key_there (coll_key c) (inl refl) is.there }
+
+  module _ (s : Super) (units : List ℕ) (unmarked : AllByRecursion (λ u. ¬ IsMarked other u) units) (exact : IsExactAs (width_of s) other other) where
+    -- a unit that isn't marked has no owner
+    fresh_there : AreFresh s rows units → AreFresh s other units
+    fresh_there are = record {
+      ascend = are.ascend;
+      on_data = are.on_data;
+      free = all_map (λ u. ¬ IsMarked other u) (λ u. ¬ IsOwned (width_of s) other u) (λ u clear owned. clear (exact.owned_marked u owned)) units unmarked;
+      unmarked = unmarked;
+      fit = are.fit;
+    }
+
+    write_there : (o : List ℕ) (first : ℕ) (bytes : List ℕ) → CanPlanWrite s rows c o first bytes units → CanPlanWrite s other c o first bytes units
+    write_there o first bytes can = record {
+      in_coll = in_coll_there o can.in_coll;
+      units_most = can.units_most;
+      fresh = fresh_there can.fresh;
+      some = can.some;
+      whole = can.whole;
+      short = can.short;
+      within = can.within;
+      csums_fit = can.csums_fit;
+    }
+
+    can_there : (op : Op) → CanPlan s rows c op units → CanPlan s other c op units
+    can_there (Touch o) can = (in_coll_there o can.0, can.1)
+    can_there (Write o off bytes) can = (can.0, write_there o (off / 4096) bytes can.1)
+    can_there op can = absurd can
+
+-- ---- the plan
+
+pub planned_elsewhere : (s : Super) (rows other : Rows) {change : Change} {plan : Plan} → AgreeOn (names_of change) other rows
+    → AllByRecursion (λ u. ¬ IsMarked other u) (fresh_units plan) → IsExactAs (width_of s) other other → IsPlanned s rows change plan
+    → IsPlanned s other change plan
+planned_elsewhere s rows other agree unmarked exact (makes_coll c plan name none p) =
+    let same : AreSameIn c rows other =
+    λ key is. agree.own key (record { coll = c; among = is_own (coll_change c); of = is }) in
+    makes_coll c plan name (same (coll_key c) (inl refl) ∙ none) (coll_there c rows other same plan none p)
+planned_elsewhere s rows other agree unmarked exact (changes_object c op units x plan can has p fresh) =
+    let same : AreSameIn c rows other =
+    λ key is. agree.own key (record { coll = c; among = is_own (record { coll = c; ops = op ∷ [] }); of = is }) in
+    let units_are : fresh_units plan ≡ units = ap (map (λ (f : FreshUnit). f.unit)) fresh ∙ units_of_pages (data_of op) units 0 in
+    changes_object c op units x plan
+    (can_there c rows other same s units (subst (AllByRecursion (λ u. ¬ IsMarked other u)) units_are unmarked) exact op can)
+    (layout_there c rows other same (width_of s) (object_of op) x has)
+    (makes_there c rows other same (width_of s) (object_of op) x (made_of op units x) units plan p) fresh

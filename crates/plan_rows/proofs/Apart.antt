@@ -1,0 +1,167 @@
+-- Operations on rows of collections: what they leave alone, and that they change places with those on rows of others.
+use Rattle.std.proofs.Common.{◌≡◌, ◌≢◌, ◌↔◌, ◌⊎◌, inl, inr, ℕ, ◌<◌, ◌^◌, Bool, true, false, ◌||◌, List, [], ◌∷◌, ◌++◌, drop, Option, Contains, refl, sym, ap, subst, ◌∙◌, arith}
+use Rattle.std.specs.Prelude.{unwrap_or}
+use Rattle.std.specs.List.{AllByRecursion}
+use Rattle.std.specs.Int.{w32, to_be_bytes}
+use Rattle.std.specs.FinMap as finite
+use Rattle.byte_maps.proofs.Laws.{same}
+use Rattle.unit_fields.specs.Names.{IsCollName}
+use Rattle.unit_fields.proofs.CollNames.{no_zero_in_coll}
+use Rattle.meta_rows.specs.Rows.{Rows, rows_after, LeaveAlone}
+use Rattle.meta_rows.specs.declared.row_op.RowOp.{RowOp}
+use Rattle.meta_rows.proofs.Folds.{rows_after-append}
+use Rattle.meta_rows.proofs.RowLemmas.{get-rows_after_other}
+use Rattle.object_model.specs.Effect.{is_same, is_named}
+use Rattle.object_model.proofs.Names.{same_name}
+use Rattle.row_format.specs.Bits.{bit_row, bit_in}
+use Rattle.row_format.proofs.KeyLemmas.{same_head, first_zero}
+use Rattle.store_image.specs.Owners.{bit_of, IsMarked}
+use Rattle.bitmap_freelist.specs.Bitmap.{AreBitmapRows, Has, IsOtherKey, ExactlyOne}
+use Rattle.bitmap_freelist.proofs.Turning.{leave_others, change_order, stay_in_table, turn_their_units}
+use Rattle.plan_rows.specs.Names.{IsObjectKind, IsKeyIn, IsKeyOfSome, AgreeOn, AreOf, HaveNoneInCommon}
+use Rattle.plan_rows.proofs.Alike.{after_alike, alone_or}
+
+-- ---- keys
+
+kind_not : (kind n : ℕ) → IsObjectKind kind → n ≢ 0x4f → n ≢ 0x41 → n ≢ 0x4d → kind ≢ n
+kind_not kind n is a b c e = elim is [
+  | inl k ↦ a (sym e ∙ k)
+  | inr (inl k) ↦ b (sym e ∙ k)
+  | inr (inr k) ↦ c (sym e ∙ k)
+]
+
+not_coll : (kind : ℕ) → IsObjectKind kind → kind ≢ 0x43
+not_coll kind is = kind_not kind 0x43 is (λ e. absurd (omega (arith, e))) (λ e. absurd (omega (arith, e))) (λ e. absurd (omega (arith, e)))
+
+not_bit : (kind : ℕ) → IsObjectKind kind → kind ≢ 0x62
+not_bit kind is = kind_not kind 0x62 is (λ e. absurd (omega (arith, e))) (λ e. absurd (omega (arith, e))) (λ e. absurd (omega (arith, e)))
+
+-- a key is of rows of one collection
+coll_of : (c d key : List ℕ) → IsCollName c → IsCollName d → IsKeyIn c key → IsKeyIn d key → c ≡ d
+coll_of c d key cn dn (inl a) (inl b) = ap (drop 1) (sym a ∙ b)
+coll_of c d key cn dn (inl a) (inr b) = absurd (not_coll b.0 b.3 (sym (same_head 0x43 b.0 c _ (sym a ∙ b.4))))
+coll_of c d key cn dn (inr a) (inl b) = absurd (not_coll a.0 a.3 (same_head a.0 0x43 _ d (sym a.4 ∙ b)))
+coll_of c d key cn dn (inr a) (inr b) =
+    (first_zero c d (a.1 ++ 0 ∷ a.2) (b.1 ++ 0 ∷ b.2) (no_zero_in_coll c cn) (no_zero_in_coll d dn)
+    (ap (drop 1) (sym a.4 ∙ b.4))).0
+
+no_bit : (c key : List ℕ) → IsKeyIn c key → IsOtherKey key
+no_bit c key (inl a) r below e = absurd (omega (arith, same_head 0x43 0x62 c _ (sym a ∙ e)))
+no_bit c key (inr a) r below e = not_bit a.0 a.3 (same_head a.0 0x62 _ _ (sym a.4 ∙ e))
+
+no_bitmap_key : (c rest : List ℕ) → IsKeyIn c (0x62 ∷ rest) → ⊥
+no_bitmap_key c rest (inl a) = omega (arith, same_head 0x62 0x43 rest c a)
+no_bitmap_key c rest (inr a) = not_bit a.0 a.3 (sym (same_head 0x62 a.0 rest _ a.4))
+
+pub named_coll : (names : List (List ℕ)) (c : List ℕ) → AllByRecursion IsCollName names → is_named c names ≡ true → IsCollName c
+named_coll [] c all is = absurd cc
+named_coll (name ∷ names) c all is = by (λ e. named_coll names c all.1 e) (is_named c names) refl (is_same c name) refl is
+  where
+    by : (is_named c names ≡ true → IsCollName c) → (among : Bool) → is_named c names ≡ among → (first : Bool) → is_same c name ≡ first
+        → (among || first) ≡ true → IsCollName c
+    by rest true i first s e = rest i
+    by rest false i true s e = subst IsCollName (sym (same_name c name s)) all.0
+    by rest false i false s e = absurd cc
+
+-- ---- two lists of collections without a common one
+
+module _ (names others : List (List ℕ)) (others_named : AllByRecursion IsCollName others) (apart : HaveNoneInCommon names others) where
+  key_apart : (key : List ℕ) → AllByRecursion IsCollName names → IsKeyOfSome names key → IsKeyOfSome others key → ⊥
+  key_apart key named a b =
+      let same_coll : a.coll ≡ b.coll =
+      coll_of a.coll b.coll key (named_coll names a.coll named a.among) (named_coll others b.coll others_named b.among) a.of b.of in
+      apart b.coll (subst (λ c. is_named c names ≡ true) same_coll a.among) b.among
+
+  -- operations on rows of the ones leave those of the others
+  pub leaves : (taken released : List ℕ) (rows : Rows) (ops : List RowOp) (key : List ℕ) → AreOf names taken released ops → IsKeyOfSome others key
+      → finite.get (rows_after rows ops) key ≡ finite.get rows key
+  leaves taken released rows ops key of is = elim (alone_or (IsKeyOfSome names) of.own key of.keys) [
+    | inl alone ↦ ap (λ l. finite.get (rows_after rows l) key) of.is ∙ ap (λ r. finite.get r key) (rows_after-append rows of.own of.flips)
+        ∙ leave_others (rows_after rows of.own) of.turns.units of.flips of.turns.are_flips key (no_bit is.coll key is.of)
+        ∙ get-rows_after_other rows of.own key alone
+    | inr mine ↦ absurd (key_apart key of.named mine is)
+  ]
+
+pub kept_apart : (names others : List (List ℕ)) (taken released : List ℕ) (rows : Rows) (ops : List RowOp) → AreOf names taken released ops
+    → AllByRecursion IsCollName others → HaveNoneInCommon names others → AgreeOn others (rows_after rows ops) rows
+kept_apart names others taken released rows ops of named apart =
+    record { own = λ key is. leaves names others named apart taken released rows ops key of is }
+
+-- where the own rows are left alone only the bits are turned
+bits_only : (names : List (List ℕ)) (taken released key : List ℕ) (rows : Rows) (ops : List RowOp) (of : AreOf names taken released ops)
+    → LeaveAlone of.own key → finite.get (rows_after rows ops) key ≡ finite.get (rows_after rows of.flips) key
+bits_only names taken released key rows ops of alone =
+    ap (λ l. finite.get (rows_after rows l) key) of.is ∙ ap (λ r. finite.get r key) (rows_after-append rows of.own of.flips)
+    ∙ after_alike of.flips (rows_after rows of.own) rows key (get-rows_after_other rows of.own key alone)
+
+module _ (names others : List (List ℕ)) (taken released other_taken other_released : List ℕ) (rows : Rows) (ops more : List RowOp)
+    (mine : AreOf names taken released ops) (theirs : AreOf others other_taken other_released more) (apart : HaveNoneInCommon names others)
+    (table : AreBitmapRows rows) where
+  back : HaveNoneInCommon others names
+  back c among others_among = apart c others_among among
+
+  mine_left : (at : Rows) (key : List ℕ) → IsKeyOfSome others key → finite.get (rows_after at ops) key ≡ finite.get at key
+  mine_left at key is = leaves names others theirs.named apart taken released at ops key mine is
+
+  theirs_left : (at : Rows) (key : List ℕ) → IsKeyOfSome names key → finite.get (rows_after at more) key ≡ finite.get at key
+  theirs_left at key is = leaves others names mine.named back other_taken other_released at more key theirs is
+
+  at_key : (key : List ℕ) → finite.get (rows_after (rows_after rows ops) more) key ≡ finite.get (rows_after (rows_after rows more) ops) key
+  at_key key = elim (alone_or (IsKeyOfSome names) mine.own key mine.keys) [
+    | inr own ↦ theirs_left (rows_after rows ops) key own ∙ after_alike ops rows (rows_after rows more) key (sym (theirs_left rows key own))
+    | inl alone ↦ elim (alone_or (IsKeyOfSome others) theirs.own key theirs.keys) [
+      | inr own ↦ after_alike more (rows_after rows ops) rows key (mine_left rows key own) ∙ sym (mine_left (rows_after rows more) key own)
+      | inl left ↦
+          bits_only others other_taken other_released key (rows_after rows ops) more theirs left
+          ∙ after_alike theirs.flips (rows_after rows ops) (rows_after rows mine.flips) key (bits_only names taken released key rows ops mine alone)
+          ∙ ap (λ r. finite.get r key)
+          (change_order rows mine.turns.units theirs.turns.units mine.flips theirs.flips table mine.turns.are_flips theirs.turns.are_flips)
+          ∙ sym (after_alike mine.flips (rows_after rows more) (rows_after rows theirs.flips) key
+          (bits_only others other_taken other_released key rows more theirs left))
+          ∙ sym (bits_only names taken released key (rows_after rows more) ops mine alone)
+    ]
+  ]
+
+  -- the two lists change places
+  pub change_places : rows_after (rows_after rows ops) more ≡ rows_after (rows_after rows more) ops
+  change_places = same _ _ at_key
+
+-- ---- the bitmap
+
+module _ (names : List (List ℕ)) (taken released : List ℕ) (rows : Rows) (ops : List RowOp) (of : AreOf names taken released ops) where
+  own_then_flips : rows_after rows ops ≡ rows_after (rows_after rows of.own) of.flips
+  own_then_flips = ap (rows_after rows) of.is ∙ rows_after-append rows of.own of.flips
+
+  -- its rows are left alone by the first ones
+  bitmap_left : (rest : List ℕ) → finite.get (rows_after rows of.own) (0x62 ∷ rest) ≡ finite.get rows (0x62 ∷ rest)
+  bitmap_left rest = elim (alone_or (IsKeyOfSome names) of.own (0x62 ∷ rest) of.keys) [
+    | inl alone ↦ get-rows_after_other rows of.own (0x62 ∷ rest) alone
+    | inr mine ↦ absurd (no_bitmap_key mine.coll rest mine.of)
+  ]
+
+  -- they stay rows of the table
+  pub table_kept : AreBitmapRows rows → AreBitmapRows (rows_after rows ops)
+  table_kept table =
+      subst AreBitmapRows (sym own_then_flips)
+      (stay_in_table (rows_after rows of.own) of.turns.units of.flips of.turns.are_flips
+      (λ rest value is. table rest value (sym (bitmap_left rest) ∙ is)))
+
+  exactly_like : {A B C D : Type 0} → (A ↔ C) → (B ↔ D) → ExactlyOne A B ↔ ExactlyOne C D
+  exactly_like ac bd = (
+    λ is. elim is [ inl h ↦ inl (ac.0 h.0, λ d. h.1 (bd.1 d)) | inr h ↦ inr (λ c. h.0 (ac.1 c), bd.0 h.1) ],
+    λ is. elim is [ inl h ↦ inl (ac.1 h.0, λ b. h.1 (bd.0 b)) | inr h ↦ inr (λ a. h.0 (ac.0 a), bd.1 h.1) ],
+  )
+
+  -- exactly the bits of the units that are taken and of those that are released are turned
+  pub bits_turned : (unit : ℕ) → unit < 2 ^ 32
+      → IsMarked (rows_after rows ops) unit ↔ ExactlyOne (IsMarked rows unit) (Contains taken unit ⊎ Contains released unit)
+  bits_turned unit small =
+      let bit : bit_of (rows_after rows of.own) unit ≡ bit_of rows unit =
+      ap (λ (o : Option (List ℕ)). bit_in (unwrap_or o []) unit) (bitmap_left (to_be_bytes w32 (bit_row unit))) in
+      let whole : bit_of (rows_after rows ops) unit ≡ bit_of (rows_after (rows_after rows of.own) of.flips) unit =
+      ap (λ r. bit_of r unit) own_then_flips in
+      let turn : IsMarked (rows_after (rows_after rows of.own) of.flips) unit ↔ ExactlyOne (IsMarked (rows_after rows of.own) unit)
+      (Has of.turns.units unit) = turn_their_units (rows_after rows of.own) of.turns.units of.flips of.turns.are_flips unit small in
+      let same_facts : ExactlyOne (IsMarked (rows_after rows of.own) unit) (Has of.turns.units unit) ↔ ExactlyOne (IsMarked rows unit)
+      (Contains taken unit ⊎ Contains released unit) = exactly_like (λ m. sym bit ∙ m, λ m. bit ∙ m) (of.turns.are_units unit) in
+      (λ m. same_facts.0 (turn.0 (sym whole ∙ m)), λ e. whole ∙ turn.1 (same_facts.1 e))

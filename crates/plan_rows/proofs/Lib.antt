@@ -1,0 +1,4 @@
+pub mod Alike
+pub mod Apart
+pub mod Agreeing
+pub mod OnData

@@ -1,0 +1,120 @@
+-- Objects as rows say them, what an operation makes of one, and the rows then.
+use Rattle.std.specs.Prelude.{◌≡◌, ◌⊎◌, ◌↔◌, ℕ, ◌+◌, ◌/◌, ◌<◌, ◌^◌, ◌==◌, ◌&&◌, max, not, Bool, true, false, List, [], ◌∷◌, ◌++◌, length, Option, Some, None, Contains}
+use Rattle.std.specs.List.{flat_map}
+use Rattle.std.specs.Int.{w64, to_le_bytes}
+use Rattle.std.specs.Ordering.{nat_cmp}
+use Rattle.std.specs.FinMap as finite
+use Rattle.std.specs.FinMap.Entries.{where_key}
+use Rattle.byte_maps.specs.Units.{unit_at}
+use Rattle.unit_fields.specs.declared.width.Width.{Width}
+use Rattle.crc32c_csum.specs.Crc32c.{crc32c}
+use Rattle.meta_rows.specs.Rows.{Rows}
+use Rattle.meta_rows.specs.declared.row_op.RowOp.{RowOp}
+use Rattle.object_model.specs.declared.op.Op.{Op}
+use Rattle.object_model.specs.declared.op.Op.TheVariants.{Write}
+use Rattle.row_format.specs.Keys.{coll_key, onode_key, shard_key}
+use Rattle.row_format.specs.Extents.{Extent, Place, own, extent_bytes, BeginsAt}
+use Rattle.store_image.specs.Pages.{HasKey, HasOnode, IsPageAt}
+use Rattle.bitmap_freelist.specs.Bitmap.{Units, Has, AreFlips}
+use Rattle.blob_map.specs.Pages.{PageMap, with_pages}
+use Rattle.blob_map.specs.Normal.{extents_of}
+use Rattle.plan_rows.specs.declared.plan.Plan.{Plan}
+use Rattle.plan_rows.specs.Difference.{IsDifference}
+
+-- ---- layouts
+
+-- the object has so many bytes, or is missing and has none
+pub data IsSizeOf (rows : Rows) (c o : List ℕ) : ℕ → Type 0 where
+  missing : finite.get rows (onode_key c o) ≡ None → IsSizeOf rows c o 0
+  there : (size : ℕ) → HasOnode rows c o size → IsSizeOf rows c o size
+
+-- the map has the object's pages, each in its place
+abbrev pub IsMapOf : Width → Rows → List ℕ → List ℕ → PageMap → Type 0
+IsMapOf w rows c o pages = (page : ℕ) (place : Place) → (finite.get pages page ≡ Some place) ↔ IsPageAt w rows c o page place
+
+-- the layout of an object: how long it is, and where its pages stand
+pub record Layout : Type 0 where
+  pub size : ℕ
+  pub pages : PageMap
+
+-- the rows give the object this layout; one that is missing has no bytes and no pages
+pub record HasLayout (w : Width) (rows : Rows) (c o : List ℕ) (x : Layout) : Type 0 where
+  pub was_long : IsSizeOf rows c o x.size
+  pub are_pages : IsMapOf w rows c o x.pages
+
+-- pages from one on, each on its unit: the bytes are those of all pages, one behind the other
+abbrev pub new_pages : ℕ → ℕ → List ℕ → List ℕ → List (ℕ × Place)
+new_pages first i [] bytes = []
+new_pages first i (u ∷ us) bytes = (first + i, own u (crc32c (unit_at i bytes))) ∷ new_pages first (i + 1) us bytes
+
+-- the unit of the object's own on which a page stands (one on a slot of a shared blob is to have none)
+abbrev pub own_units : Place → List ℕ
+own_units (own unit csum) = unit ∷ []
+
+-- What an operation makes of a layout, on these units. The operations that the store knows so far are a write of whole pages, each of which
+-- comes on its unit, and a touch, which leaves the layout as it is.
+abbrev pub made_of : Op → List ℕ → Layout → Layout
+made_of (Write o off bytes) units x = record {
+  size = max x.size (off + length bytes);
+  pages = with_pages x.pages (new_pages (off / 4096) 0 units bytes);
+}
+made_of op units x = x
+
+-- whether a page stands at one place in two maps
+abbrev pub is_same_place : Option Place → Option Place → Bool
+is_same_place (Some (own unit csum)) (Some (own other kept)) = unit == other && csum == kept
+is_same_place None None = true
+is_same_place x y = false
+
+-- whether a page stands elsewhere in the second map, or nowhere
+abbrev pub is_moved : PageMap → PageMap → ℕ → Bool
+is_moved old new page = not (is_same_place (finite.get old page) (finite.get new page))
+
+-- the units that such pages stood on, in the order of the pages
+abbrev pub units_left : PageMap → PageMap → List ℕ
+units_left old new = flat_map (λ p. own_units p.1) (where_key nat_cmp (is_moved old new) (finite.entries old))
+
+-- ---- rows
+
+-- the key is that of the object's onode, or of one of its shards
+abbrev pub IsKeyOf : List ℕ → List ℕ → List ℕ → Type 0
+IsKeyOf c o key = (key ≡ onode_key c o) ⊎ ((page : ℕ) × (page < 2 ^ 32) × (key ≡ shard_key c o page))
+
+-- What an object's rows are when they are replaced: its onode says this size, and its one shard, which is where the extents begin, has them
+-- all. Each other row is as it was.
+pub record AreReplaced (w : Width) (rows after : Rows) (c o : List ℕ) (size : ℕ) (extents : List Extent) : Type 0 where
+  pub onode : finite.get after (onode_key c o) ≡ Some (to_le_bytes w64 size)
+  pub shard : (page : ℕ) → BeginsAt page extents → finite.get after (shard_key c o page) ≡ Some (flat_map (extent_bytes w) extents)
+  pub no_other : (page : ℕ) → page < 2 ^ 32 → (BeginsAt page extents → ⊥) → finite.get after (shard_key c o page) ≡ None
+  pub others : (key : List ℕ) → IsKeyOf c o key ⊎ (finite.get after key ≡ finite.get rows key)
+
+-- The rows after an object of this layout gets that one: they stay where the object is there and its layout does, and else its rows are
+-- replaced.
+pub data GetsLayout (w : Width) (rows : Rows) (c o : List ℕ) (x y : Layout) : Rows → Type 0 where
+  stays : HasKey rows (onode_key c o) → x ≡ y → GetsLayout w rows c o x y rows
+  replaces : (after : Rows) → (finite.get rows (onode_key c o) ≡ None) ⊎ (¬ (x ≡ y))
+      → AreReplaced w rows after c o y.size (extents_of (finite.entries y.pages)) → GetsLayout w rows c o x y after
+
+-- The operations turn the bits of the units that are taken and of those that are released, each bit once.
+pub record TurnsBits (taken released : List ℕ) (flips : List RowOp) : Type 0 where
+  pub units : Units
+  pub are_units : (unit : ℕ) → Has units unit ↔ (Contains taken unit ⊎ Contains released unit)
+  pub are_flips : AreFlips units flips
+
+-- The plan puts in the row of a collection: its operations are the difference of the rows, and it takes no unit and releases none.
+pub record MakesColl (rows : Rows) (c : List ℕ) (plan : Plan) : Type 0 where
+  pub is_difference : IsDifference rows (finite.insert rows (coll_key c) []) plan.ops
+  pub none_fresh : plan.fresh ≡ []
+  pub none_released : plan.released ≡ []
+
+-- The plan turns the one layout into the other, on these units: its operations are the difference of the rows, and behind it those that turn
+-- the bits of the units that are taken and of those that are left, whose keys are behind all others.
+pub record MakesLayout (w : Width) (rows : Rows) (c o : List ℕ) (x y : Layout) (units : List ℕ) (plan : Plan) : Type 0 where
+  pub after : Rows
+  pub gets : GetsLayout w rows c o x y after
+  pub difference : List RowOp
+  pub is_difference : IsDifference rows after difference
+  pub flips : List RowOp
+  pub turns : TurnsBits units plan.released flips
+  pub ops_are : plan.ops ≡ difference ++ flips
+  pub released_are : plan.released ≡ units_left x.pages y.pages

@@ -1,0 +1,5 @@
+pub mod Difference
+pub mod Layouts
+pub mod Plans
+pub mod Names
+pub mod Keeps

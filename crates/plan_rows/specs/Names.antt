@@ -1,0 +1,51 @@
+-- Rows by the collections that they are of, and operations on rows of some collections.
+use Rattle.std.specs.Prelude.{◌≡◌, ◌⊎◌, ℕ, true, List, ◌++◌}
+use Rattle.std.specs.List.{AllByRecursion}
+use Rattle.std.specs.FinMap as finite
+use Rattle.unit_fields.specs.Names.{IsCollName}
+use Rattle.unit_fields.specs.declared.width.Width.{Width}
+use Rattle.meta_rows.specs.Rows.{Rows, key_of}
+use Rattle.meta_rows.specs.declared.row_op.RowOp.{RowOp}
+use Rattle.object_model.specs.Effect.{is_named}
+use Rattle.row_format.specs.Keys.{object_key, coll_key}
+use Rattle.store_image.specs.Owners.{page_of, Owns}
+use Rattle.plan_rows.specs.Layouts.{TurnsBits}
+
+-- the kinds of an object's rows: its onode and its shards, its attributes, its header and omap
+abbrev pub IsObjectKind : ℕ → Type 0
+IsObjectKind kind = (kind ≡ 0x4f) ⊎ ((kind ≡ 0x41) ⊎ (kind ≡ 0x4d))
+
+-- the key is of a row of the collection: its own, or one of an object in it
+abbrev pub IsKeyIn : List ℕ → List ℕ → Type 0
+IsKeyIn c key = (key ≡ coll_key c) ⊎ ((kind : ℕ) × (o rest : List ℕ) × IsObjectKind kind × (key ≡ object_key kind c o rest))
+
+-- the key is of a row of one of the collections
+pub record IsKeyOfSome (names : List (List ℕ)) (key : List ℕ) : Type 0 where
+  pub coll : List ℕ
+  pub among : is_named coll names ≡ true
+  pub of : IsKeyIn coll key
+
+-- the rows of the collections are the same in both
+pub record AgreeOn (names : List (List ℕ)) (rows other : Rows) : Type 0 where
+  pub own : (key : List ℕ) → IsKeyOfSome names key → finite.get rows key ≡ finite.get other key
+
+-- Operations on rows of these collections, and behind them those that turn the bits of the units that are taken and of those that are released.
+pub record AreOf (names : List (List ℕ)) (taken released : List ℕ) (ops : List RowOp) : Type 0 where
+  pub named : AllByRecursion IsCollName names
+  pub own : List RowOp
+  pub flips : List RowOp
+  pub is : ops ≡ own ++ flips
+  pub keys : AllByRecursion (λ op. IsKeyOfSome names (key_of op)) own
+  pub turns : TurnsBits taken released flips
+
+-- no collection is in both
+abbrev pub HaveNoneInCommon : List (List ℕ) → List (List ℕ) → Type 0
+HaveNoneInCommon names others = (c : List ℕ) → is_named c names ≡ true → is_named c others ≡ true → ⊥
+
+-- a page of an object in one of the collections stands on the unit
+pub record IsOwnedBy (w : Width) (names : List (List ℕ)) (rows : Rows) (unit : ℕ) : Type 0 where
+  pub coll : List ℕ
+  pub among : is_named coll names ≡ true
+  pub object : List ℕ
+  pub page : ℕ
+  pub owns : Owns w rows (page_of coll object page) unit

@@ -1,0 +1,37 @@
+//! What the definitions of rows by their collections come to. Each function does nothing: its contract is the law.
+ghost use Rattle.std.specs.Prelude.{◌≡◌, ◌↔◌, ◌⊎◌, ℕ, ◌<◌, ◌^◌, List, Contains};
+ghost use Rattle.std.specs.List.{AllByRecursion};
+ghost use Rattle.unit_fields.specs.Names.{IsCollName};
+ghost use Rattle.meta_rows.specs.Rows.{Rows, rows_after};
+ghost use Rattle.meta_rows.specs.declared.row_op.RowOp.{RowOp};
+ghost use Rattle.meta_log.specs.declared.slot.Super.{Super};
+ghost use Rattle.store_image.specs.Owners.{IsMarked};
+ghost use Rattle.bitmap_freelist.specs.Bitmap.{AreBitmapRows, ExactlyOne};
+ghost use Rattle.plan_rows.specs.declared.plan.Plan.{Plan};
+ghost use Rattle.plan_rows.specs.Names.{AgreeOn, AreOf, HaveNoneInCommon};
+ghost use Rattle.plan_rows.specs.Keeps.{PlanKeeps};
+
+/// Operations on rows of some collections leave the rows of others, and change places with operations on those. The rows of the bitmap stay rows
+/// of it, and exactly the bits of the units that are taken and of those that are released are turned.
+pub fn collections_are_apart()
+    ensures kept { (names others : List (List ℕ)) (taken released : List ℕ) (rows : Rows) (ops : List RowOp) → AreOf names taken released ops
+        → AllByRecursion IsCollName others → HaveNoneInCommon names others → AgreeOn others (rows_after rows ops) rows }
+    ensures order { (names others : List (List ℕ)) (taken released other_taken other_released : List ℕ) (rows : Rows) (ops more : List RowOp)
+        → AreOf names taken released ops → AreOf others other_taken other_released more → HaveNoneInCommon names others → AreBitmapRows rows
+        → rows_after (rows_after rows ops) more ≡ rows_after (rows_after rows more) ops }
+    ensures table { (names : List (List ℕ)) (taken released : List ℕ) (rows : Rows) (ops : List RowOp) → AreOf names taken released ops
+        → AreBitmapRows rows → AreBitmapRows (rows_after rows ops) }
+    ensures bits { (names : List (List ℕ)) (taken released : List ℕ) (rows : Rows) (ops : List RowOp) → AreOf names taken released ops
+        → (unit : ℕ) → unit < 2 ^ 32
+        → IsMarked (rows_after rows ops) unit ↔ ExactlyOne (IsMarked rows unit) (Contains taken unit ⊎ Contains released unit) }
+{}
+
+/// To agree on collections is an equivalence, and a plan over rows is one over all that agree with them on its collections.
+pub fn agreement()
+    ensures itself { (names : List (List ℕ)) (rows : Rows) → AgreeOn names rows rows }
+    ensures back { (names : List (List ℕ)) (rows other : Rows) → AgreeOn names rows other → AgreeOn names other rows }
+    ensures onward { (names : List (List ℕ)) (rows other later : Rows) → AgreeOn names rows other → AgreeOn names other later
+        → AgreeOn names rows later }
+    ensures plans { (s : Super) (names : List (List ℕ)) (view other : Rows) (plan : Plan) → AgreeOn names view other
+        → PlanKeeps s names view plan → PlanKeeps s names other plan }
+{}

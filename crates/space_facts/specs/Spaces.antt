@@ -1,0 +1,17 @@
+-- What an allocator's space is asked for.
+use Rattle.std.specs.Prelude.{◌≡◌, ℕ, List, Contains}
+use Rattle.meta_log.specs.declared.slot.Super.{Super}
+use Rattle.store_image.specs.Owners.{IsDataUnit}
+use Rattle.unit_allocator.specs.Units.{Space, IsWithin, holds_of}
+
+-- the data units are units of the space
+abbrev pub HasDataUnits : Super → Space → Type 0
+HasDataUnits sup space = (unit : ℕ) → IsDataUnit sup unit → IsWithin space unit
+
+-- and it has no others
+abbrev pub HasOnlyDataUnits : Super → Space → Type 0
+HasOnlyDataUnits sup space = (unit : ℕ) → IsWithin space unit → IsDataUnit sup unit
+
+-- nobody holds one of these units
+abbrev pub AreUnheld : Space → List ℕ → Type 0
+AreUnheld space units = (unit : ℕ) → Contains units unit → holds_of space unit ≡ 0

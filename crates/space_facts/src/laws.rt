@@ -1,0 +1,132 @@
+//! How accepted transactions that are under way keep rows good and units apart.
+ghost use Rattle.std.specs.Prelude.{◌≡◌, ◌↔◌, ℕ, true, false, List, [], ◌∷◌, ◌++◌, map, Contains};
+ghost use Rattle.std.specs.List.{AllByRecursion};
+ghost use Rattle.meta_rows.specs.Rows.{Rows, rows_after};
+ghost use Rattle.meta_log.specs.declared.slot.Super.{Super};
+ghost use Rattle.meta_log.specs.Slots.{width_of, IsSuper};
+ghost use Rattle.store_image.specs.Owners.{IsDataUnit, IsMarked, IsLeaked, IsExactAs, IsBusy};
+ghost use Rattle.unit_allocator.specs.Units.{Space, is_free, free_units, taken, given};
+ghost use Rattle.plan_rows.specs.Plans.{AreFreeOver, fresh_units};
+ghost use Rattle.plan_rows.specs.Keeps.{IsGood, Suits, PlanKeeps};
+ghost use Rattle.selections.specs.Fair.{under, IsFair, IsComplete, HasLast};
+ghost use Rattle.store_steps.specs.Intents.{Intent, names_in, is_in, plan_of, rows_by, ops_by, released_by};
+ghost use Rattle.store_steps.specs.Intents.{EachIsPlanned, AreTakenApart, SpaceIsCounted, CanJoin};
+ghost use Rattle.space_facts.specs.Example.{two, no_rows};
+ghost use Rattle.space_facts.specs.Spaces.{HasDataUnits, HasOnlyDataUnits, AreUnheld};
+ghost use Rattle.space_facts.specs.Owning.{OwnTheirUnits};
+
+/// Rows with some intents and then with others are those with all of them, and their operations as one list make the same rows.
+pub fn rows_by_intents()
+    ensures joined { (rows : Rows) (xs ys : List Intent) → rows_by rows (xs ++ ys) ≡ rows_by (rows_by rows xs) ys }
+    ensures operations { (rows : Rows) (xs : List Intent) → rows_after rows (ops_by xs) ≡ rows_by rows xs }
+{}
+
+/// Where nothing is under way nothing is asked of plans, and a data unit is free exactly where it isn't marked.
+pub fn nothing_under_way()
+    ensures planned { (sup : Super) (rows : Rows) → EachIsPlanned sup rows [] }
+    ensures apart { (rows : Rows) → AreTakenApart rows [] }
+    ensures counted { (sup : Super) (rows : Rows) (space : Space)
+        → ((unit : ℕ) → IsDataUnit sup unit → (is_free space unit ≡ true) ↔ (¬ IsMarked rows unit)) → SpaceIsCounted sup rows [] space }
+{}
+
+/// The rows with a fair selection are good. What is leaked in them was leaked in the committed ones, and what was leaked there stays so.
+pub fn selections_stay_good()
+    ensures good { (sup : Super) (rows : Rows) (xs some : List Intent) → IsGood sup rows → EachIsPlanned sup rows xs → IsFair is_in xs some
+        → IsGood sup (rows_by rows some) }
+    ensures exact { (sup : Super) (rows : Rows) (xs some : List Intent) → IsGood sup rows → EachIsPlanned sup rows xs → IsFair is_in xs some
+        → IsExactAs (width_of sup) rows (rows_by rows some) }
+    ensures leaked { (sup : Super) (rows : Rows) (xs some : List Intent) (unit : ℕ) → IsGood sup rows → EachIsPlanned sup rows xs
+        → IsFair is_in xs some → IsLeaked (width_of sup) rows unit → IsLeaked (width_of sup) (rows_by rows some) unit }
+{}
+
+/// What a fair selection changes of the owned units is what its transactions take and release.
+pub fn selections_own()
+    ensures { (sup : Super) (rows : Rows) (xs some : List Intent) → IsGood sup rows → EachIsPlanned sup rows xs → AreTakenApart rows xs
+        → IsFair is_in xs some → OwnTheirUnits (width_of sup) rows (rows_by rows some) some }
+{}
+
+/// What a transaction under way releases is busy: it is marked in the committed rows, or another one took it.
+pub fn released_are_busy()
+    ensures { (sup : Super) (rows : Rows) (xs : List Intent) (unit : ℕ) → IsGood sup rows → EachIsPlanned sup rows xs → AreTakenApart rows xs
+        → Contains (released_by xs) unit → IsBusy rows (map (λ x. fresh_units (plan_of x)) xs) unit }
+{}
+
+/// Over the submitted rows and the free units a plan can be made, and a plan over them that takes free units can join.
+pub fn free_units_can_join()
+    ensures over { (sup : Super) (rows : Rows) (xs : List Intent) (space : Space) → IsSuper sup → IsGood sup rows → EachIsPlanned sup rows xs
+        → AreTakenApart rows xs → HasOnlyDataUnits sup space → SpaceIsCounted sup rows xs space
+        → AreFreeOver sup (rows_by rows xs) space }
+    ensures joins { (sup : Super) (rows : Rows) (xs : List Intent) (x : Intent) (space : Space) → SpaceIsCounted sup rows xs space
+        → PlanKeeps sup (names_in x) (rows_by rows xs) (plan_of x)
+        → AllByRecursion (λ u. Contains (free_units space) u) (fresh_units (plan_of x)) → CanJoin sup rows xs x }
+{}
+
+/// Where one more can join, each is planned among them and that one, and what all of them took is apart.
+pub fn one_more_is_planned()
+    ensures planned { (sup : Super) (rows : Rows) (xs : List Intent) (x : Intent) → IsSuper sup → IsGood sup rows → EachIsPlanned sup rows xs
+        → AreTakenApart rows xs → CanJoin sup rows xs x → EachIsPlanned sup rows (xs ++ x ∷ []) }
+    ensures apart { (sup : Super) (rows : Rows) (xs : List Intent) (x : Intent) → IsSuper sup → IsGood sup rows → EachIsPlanned sup rows xs
+        → AreTakenApart rows xs → CanJoin sup rows xs x → AreTakenApart rows (xs ++ x ∷ []) }
+{}
+
+/// In a fair selection that has the one that joined, that one may come last, over rows that suit its plan.
+pub fn one_more_may_come_last()
+    ensures rows { (sup : Super) (rows : Rows) (xs some : List Intent) (x : Intent) → IsSuper sup → IsGood sup rows → EachIsPlanned sup rows xs
+        → AreTakenApart rows xs → CanJoin sup rows xs x → (has : HasLast is_in xs x some)
+        → rows_by rows some ≡ rows_after (rows_by rows (has.front ++ has.back)) x.ops }
+    ensures suits { (sup : Super) (rows : Rows) (xs some : List Intent) (x : Intent) → IsSuper sup → IsGood sup rows → EachIsPlanned sup rows xs
+        → AreTakenApart rows xs → CanJoin sup rows xs x → (has : HasLast is_in xs x some)
+        → Suits (names_in x) (rows_by rows xs) (plan_of x) (rows_by rows (has.front ++ has.back)) }
+{}
+
+/// All this depends on the order within each collection alone: one that is the first in each of its collections may be taken to the front.
+pub fn order_between_collections()
+    ensures first { (front back : List Intent) (x : Intent) → ((n : List ℕ) → is_in n x ≡ true → under is_in n front ≡ [])
+        → IsComplete is_in (front ++ x ∷ back) (x ∷ (front ++ back)) }
+    ensures planned { (sup : Super) (rows : Rows) (xs ys : List Intent) → IsComplete is_in xs ys → EachIsPlanned sup rows xs
+        → EachIsPlanned sup rows ys }
+    ensures rows { (sup : Super) (rows : Rows) (xs ys : List Intent) → IsComplete is_in xs ys → IsGood sup rows → EachIsPlanned sup rows xs
+        → rows_by rows xs ≡ rows_by rows ys }
+    ensures apart { (rows : Rows) (xs ys : List Intent) → IsComplete is_in xs ys → AreTakenApart rows xs → AreTakenApart rows ys }
+    ensures counted { (sup : Super) (rows : Rows) (xs ys : List Intent) (space : Space) → IsComplete is_in xs ys
+        → SpaceIsCounted sup rows xs space → SpaceIsCounted sup rows ys space }
+{}
+
+/// Once a batch is committed the rows are good, each of those that wait is planned over them, and what these took is apart.
+pub fn commits_keep_plans()
+    ensures good { (sup : Super) (rows : Rows) (batch pending : List Intent) → IsGood sup rows → EachIsPlanned sup rows (batch ++ pending)
+        → IsGood sup (rows_by rows batch) }
+    ensures planned { (sup : Super) (rows : Rows) (batch pending : List Intent) → EachIsPlanned sup rows (batch ++ pending)
+        → EachIsPlanned sup (rows_by rows batch) pending }
+    ensures apart { (sup : Super) (rows : Rows) (batch pending : List Intent) → IsSuper sup → IsGood sup rows
+        → EachIsPlanned sup rows (batch ++ pending) → AreTakenApart rows (batch ++ pending) → AreTakenApart (rows_by rows batch) pending }
+{}
+
+/// A data unit is free exactly where it isn't busy, after a submission that takes its units and after a commit that gives back what its batch
+/// released.
+pub fn space_stays_counted()
+    ensures submitted { (sup : Super) (rows : Rows) (xs : List Intent) (x : Intent) (space : Space)
+        → HasDataUnits sup space → CanJoin sup rows xs x → SpaceIsCounted sup rows xs space
+        → SpaceIsCounted sup rows (xs ++ x ∷ []) (taken space (fresh_units (plan_of x))) }
+    ensures committed { (sup : Super) (rows : Rows) (batch pending : List Intent) (space : Space) → IsSuper sup → IsGood sup rows
+        → EachIsPlanned sup rows (batch ++ pending) → AreTakenApart rows (batch ++ pending)
+        → HasDataUnits sup space → AreUnheld space (released_by batch) → SpaceIsCounted sup rows (batch ++ pending) space
+        → SpaceIsCounted sup (rows_by rows batch) pending (given space (released_by batch)) }
+{}
+
+/// What a batch released comes back one unit after the other, and none is free until it is its turn.
+pub fn released_come_back_in_turn()
+    ensures { (sup : Super) (rows : Rows) (batch pending : List Intent) (space : Space) (front rest : List ℕ) (unit : ℕ) → IsGood sup rows
+        → EachIsPlanned sup rows (batch ++ pending) → AreTakenApart rows (batch ++ pending)
+        → HasDataUnits sup space → AreUnheld space (released_by batch)
+        → SpaceIsCounted sup rows (batch ++ pending) space → released_by batch ≡ front ++ unit ∷ rest
+        → is_free (given space front) unit ≡ false }
+{}
+
+/// An example: a transaction takes unit 18, and a later one takes 19 and releases 18. While both are under way the bit of 18 is 0 in the committed
+/// rows and in the submitted ones, and 18 is busy: the write of the earlier one may be in flight.
+pub fn bits_do_not_tell()
+    ensures committed { ¬ IsMarked no_rows 18 }
+    ensures submitted { ¬ IsMarked (rows_by no_rows two) 18 }
+    ensures busy { IsBusy no_rows (map (λ x. fresh_units (plan_of x)) two) 18 }
+{}

@@ -1,0 +1,12 @@
+//! What is known of rows and of free units while any number of accepted transactions is under way: each is planned over the rows of every fair
+//! selection before it, and a data unit is free exactly where it isn't busy. Each function has laws for its contract and does nothing.
+#![tactic(auto)]
+
+mod laws;
+
+pub use laws::{
+    bits_do_not_tell, commits_keep_plans, free_units_can_join, nothing_under_way,
+    one_more_is_planned, one_more_may_come_last, order_between_collections, released_are_busy,
+    released_come_back_in_turn, rows_by_intents, selections_own, selections_stay_good,
+    space_stays_counted,
+};

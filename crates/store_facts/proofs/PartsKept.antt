@@ -1,0 +1,79 @@
+-- What a change of one context leaves of the parts.
+use Rattle.std.proofs.Common.{◌≡◌, ℕ, Bool, true, false, cond, List, [], ◌∷◌, ◌++◌, ◌==◌, take, refl, ap, ◌∙◌, arith}
+use Rattle.std.specs.List.{flat_map}
+use Rattle.block_device.specs.Disk.{Disk}
+use Rattle.store_steps.specs.declared.context.Context.{Context}
+use Rattle.store_steps.specs.State.{State}
+use Rattle.plan_rows.specs.declared.plan.FreshUnit.{FreshUnit}
+use Rattle.store_steps.specs.Contexts.{with_context}
+use Rattle.store_steps.specs.UnderWay.{given_fresh}
+use Rattle.selections.specs.Fair.{IsComplete}
+use Rattle.store_steps.specs.Intents.{Intent, intent_of, intents, is_in}
+use Rattle.store_steps.specs.Parts.{RowsPart, BookPart, rows_part, data_part, half_part, book_part}
+use Rattle.store_steps.specs.Touch.{Touch, Adds, nothing}
+use Rattle.store_steps.specs.RowsGo as rows
+use Rattle.store_steps.specs.DataGoes as units
+use Rattle.store_steps.specs.HalfGoes as half
+use Rattle.store_steps.specs.BookGoes.{BookGoes}
+use Rattle.store_steps.specs.BookGoes as book
+use Rattle.store_steps.specs.Footprint.{IsCaused, Footprint}
+
+-- how far a context is doesn't change its intent
+pub intents_kept : (place : ℕ) (change : Context → Context) → ((x : Context) → intent_of (change x) ≡ intent_of x) → (front xs : List Context)
+    → intents (front ++ with_context place change xs) ≡ intents (front ++ xs)
+intents_kept place change same [] [] = refl
+intents_kept place change same [] (x ∷ xs) = of_test (x.place == place) ∙ ap (λ (is : List Intent). intent_of x ∷ is) (intents_kept place change same [] xs)
+  where
+    of_test : (b : Bool) → intents (cond b (change x) x ∷ with_context place change xs) ≡ intents (x ∷ with_context place change xs)
+    of_test true = ap (λ (i : Intent). i ∷ intents (with_context place change xs)) (same x)
+    of_test false = refl
+intents_kept place change same (x ∷ front) xs = ap (λ (is : List Intent). intent_of x ∷ is) (intents_kept place change same front xs)
+
+-- nor does what has ended change what was given
+pub given_kept : (place : ℕ) (change : Context → Context) → ((x : Context) → take (change x).given (change x).fresh ≡ take x.given x.fresh)
+    → (front xs : List Context) → given_fresh (front ++ with_context place change xs) ≡ given_fresh (front ++ xs)
+given_kept place change same [] [] = refl
+given_kept place change same [] (x ∷ xs) =
+    of_test (x.place == place) ∙ ap (λ (fs : List FreshUnit). take x.given x.fresh ++ fs) (given_kept place change same [] xs)
+  where
+    of_test : (b : Bool) → given_fresh (cond b (change x) x ∷ with_context place change xs) ≡ given_fresh (x ∷ with_context place change xs)
+    of_test true = ap (λ (fs : List FreshUnit). fs ++ given_fresh (with_context place change xs)) (same x)
+    of_test false = refl
+given_kept place change same (x ∷ front) xs =
+    ap (λ (fs : List FreshUnit). take x.given x.fresh ++ fs) (given_kept place change same front xs)
+
+-- lists of intents are those of contexts
+pub flat_intents : {A : Type 0} (f : Intent → List A) (xs : List Context) → flat_map f (intents xs) ≡ flat_map (λ x. f (intent_of x)) xs
+flat_intents f [] = refl
+flat_intents f (x ∷ xs) = ap (λ l. f (intent_of x) ++ l) (flat_intents f xs)
+
+-- those of some contexts, and of others behind them
+pub intents_both : (xs ys : List Context) → intents (xs ++ ys) ≡ intents xs ++ intents ys
+intents_both [] ys = refl
+intents_both (x ∷ xs) ys = ap (λ (is : List Intent). intent_of x ∷ is) (intents_both xs ys)
+
+-- a call that the device has no part in, and that changes nothing but the book
+pub book_alone : (s : State) (d : Disk) (s' : State) (d' : Disk) → Adds nothing d d' → s'.events ≡ s.events
+    → (same_rows : rows_part s' ≡ rows_part s) → data_part s' ≡ data_part s → half_part s' ≡ half_part s
+    → (goes : BookGoes s.events nothing (book_part s) (book_part s')) → IsCaused s d s' d' (rows.same same_rows) goes → Footprint s d s' d'
+book_alone s d s' d' adds events same_rows same_units same_half goes caused = record {
+  touch = nothing;
+  device = adds;
+  placed = tt;
+  counted = omega (arith, events);
+  rows = rows.same same_rows;
+  units = units.same tt same_units;
+  half = half.same tt same_half;
+  book = goes;
+  caused = caused;
+}
+
+-- a call that changes the order of intents alone is what one is that leaves them, as to the book
+pub reordered : (s : State) (d : Disk) (s' : State) (d' : Disk) (events : ℕ) (t : Touch) (p q : RowsPart) (b c : BookPart) (later : List Intent)
+    (order : IsComplete is_in p.intents later) (is : q ≡ record p { intents = later }) (same : q ≡ p) → (go : BookGoes events t b c)
+    → IsCaused s d s' d' (rows.reorders later order is) go → IsCaused s d s' d' (rows.same same) go
+reordered s d s' d' events t p q b c later order is same (book.same still) caused = caused
+reordered s d s' d' events t p q b c later order is same (book.enters e entered) caused = caused
+reordered s d s' d' events t p q b c later order is same (book.commits xs none opened) caused = caused
+reordered s d s' d' events t p q b c later order is same (book.applies count all counted) caused = caused
+reordered s d s' d' events t p q b c later order is same (book.acknowledges acked) caused = caused

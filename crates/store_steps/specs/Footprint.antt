@@ -1,0 +1,65 @@
+-- What a call changes, part by part.
+use Rattle.std.specs.Prelude.{◌≡◌, ℕ, ◌+◌, true}
+use Rattle.block_device.specs.Disk.{Disk}
+use Rattle.object_model.specs.Effect.{Change}
+use Rattle.object_model.specs.declared.command.Answer.{Answer}
+use Rattle.object_model.specs.declared.command.Command.{Command}
+use Rattle.store_steps.specs.declared.step.Step.{Step}
+use Rattle.store_steps.specs.declared.step.Step.TheVariants.{Take, Commit, Finish}
+use Rattle.store_steps.specs.State.{State}
+use Rattle.store_steps.specs.Ready.{is_ready}
+use Rattle.store_steps.specs.Steps.{DoesTake, DoesCommit, DoesFinish}
+use Rattle.store_steps.specs.Submit.{Accepts, Refuses}
+use Rattle.store_steps.specs.Runs.{MaySubmit, AnswersRead}
+use Rattle.store_steps.specs.Parts.{RowsPart, BookPart, rows_part, data_part, half_part, book_part}
+use Rattle.store_steps.specs.Touch.{Touch, Adds, IsPlaced, events_of}
+use Rattle.store_steps.specs.RowsGo.{RowsGo}
+use Rattle.store_steps.specs.RowsGo as rows
+use Rattle.store_steps.specs.DataGoes.{DataGoes}
+use Rattle.store_steps.specs.HalfGoes.{HalfGoes}
+use Rattle.store_steps.specs.BookGoes.{BookGoes}
+use Rattle.store_steps.specs.BookGoes as book
+
+-- the call accepts a transaction
+pub record AcceptsOne (s : State) (d : Disk) (s' : State) : Type 0 where
+  pub client : ℕ
+  pub line : ℕ
+  pub change : Change
+  pub may : MaySubmit change s d
+  pub accepts : Accepts client line change s s'
+
+-- it answers without one: it refuses a transaction, or answers a read
+pub data Replies (s : State) (d : Disk) (s' : State) : Type 0 where
+  refuses : (client line : ℕ) (change : Change) (a : Answer) → Refuses client line change a s s' → Replies s d s'
+  reads : (client line : ℕ) (command : Command) (a : Answer) → AnswersRead client line command a s d s' → Replies s d s'
+
+-- it is this step, which is ready
+pub record Makes (one : Step) (What : Type 0) (s : State) (d : Disk) : Type 0 where
+  pub ready : is_ready one d.depth s ≡ true
+  pub does : What
+
+-- By what call rows and book change. One more joins the rows where a transaction is accepted, with its entry; the first ones are committed with
+-- the open batch, and commits are applied with them alone. All other entries are of answers without a transaction.
+abbrev pub IsCaused : (s : State) (d : Disk) (s' : State) (d' : Disk) {p q : RowsPart} {events : ℕ} {t : Touch} {b c : BookPart}
+    → RowsGo p q → BookGoes events t b c → Type 0
+IsCaused s d s' d' (rows.joins x joined) (book.enters e entered) = AcceptsOne s d s'
+IsCaused s d s' d' (rows.joins x joined) other = ⊥
+IsCaused s d s' d' (rows.applies number front back both applied) (book.applies count all counted) = Makes Commit (DoesCommit s d s' d') s d
+IsCaused s d s' d' (rows.applies number front back both applied) other = ⊥
+IsCaused s d s' d' other (book.enters e entered) = Replies s d s'
+IsCaused s d s' d' other (book.commits xs none opened) = Makes Take (DoesTake s d s' d') s d
+IsCaused s d s' d' other (book.applies count all counted) = ⊥
+IsCaused s d s' d' other (book.acknowledges acknowledged) = Makes Finish (DoesFinish s d s' d') s d
+IsCaused s d s' d' other (book.same same) = Unit {0}
+
+-- what it adds to the device's log, and what it makes of each part
+pub record Footprint (s : State) (d : Disk) (s' : State) (d' : Disk) : Type 0 where
+  pub touch : Touch
+  pub device : Adds touch d d'
+  pub placed : IsPlaced s.log.sup touch
+  pub counted : s'.events ≡ s.events + events_of touch
+  pub rows : RowsGo (rows_part s) (rows_part s')
+  pub units : DataGoes d.flights touch (data_part s) (data_part s')
+  pub half : HalfGoes d.flights touch (half_part s) (half_part s')
+  pub book : BookGoes s.events touch (book_part s) (book_part s')
+  pub caused : IsCaused s d s' d' rows book

@@ -1,0 +1,87 @@
+-- What accepted transactions are to do, however far they are, and the rows with those of some of them.
+use Rattle.std.specs.Prelude.{◌≡◌, ◌↔◌, ℕ, ◌+◌, ◌≤◌, ◌==◌, Bool, true, List, [], ◌∷◌, ◌++◌, map, count_by, Contains}
+use Rattle.std.specs.List.{flat_map, AllByRecursion}
+use Rattle.meta_rows.specs.Rows.{Rows, rows_after}
+use Rattle.meta_rows.specs.declared.row_op.RowOp.{RowOp}
+use Rattle.meta_log.specs.declared.slot.Super.{Super}
+use Rattle.object_model.specs.Effect.{is_named}
+use Rattle.store_image.specs.Owners.{IsDataUnit, IsMarked, IsBusy}
+use Rattle.unit_allocator.specs.Units.{Space, is_free}
+use Rattle.selections.specs.Fair.{IsFair}
+use Rattle.plan_rows.specs.declared.plan.FreshUnit.{FreshUnit}
+use Rattle.plan_rows.specs.declared.plan.Plan.{Plan}
+use Rattle.plan_rows.specs.Plans.{fresh_units}
+use Rattle.plan_rows.specs.Keeps.{PlanKeeps}
+use Rattle.store_steps.specs.declared.context.Context.{Context}
+
+-- what an accepted transaction is to do
+pub record Intent : Type 0 where
+  pub place : ℕ
+  pub coll : List ℕ
+  pub ops : List RowOp
+  pub need : ℕ
+  pub fresh : List FreshUnit
+  pub released : List ℕ
+
+abbrev pub intent_of : Context → Intent
+intent_of x = record { place = x.place; coll = x.coll; ops = x.ops; need = x.need; fresh = x.fresh; released = x.released }
+
+abbrev pub intents : List Context → List Intent
+intents xs = map intent_of xs
+
+-- the collections that it changes
+abbrev pub names_in : Intent → List (List ℕ)
+names_in x = x.coll ∷ []
+
+abbrev pub is_in : List ℕ → Intent → Bool
+is_in c x = is_named c (names_in x)
+
+-- what it was planned to be
+abbrev pub plan_of : Intent → Plan
+plan_of x = record { ops = x.ops; fresh = x.fresh; released = x.released }
+
+-- rows with the operations of intents, one after another
+abbrev pub rows_by : Rows → List Intent → Rows
+rows_by rows [] = rows
+rows_by rows (x ∷ xs) = rows_by (rows_after rows x.ops) xs
+
+-- the operations, and the units that they took and that they release
+abbrev pub ops_by : List Intent → List RowOp
+ops_by xs = flat_map (λ x. x.ops) xs
+
+abbrev pub taken_by : List Intent → List ℕ
+taken_by xs = flat_map (λ x. fresh_units (plan_of x)) xs
+
+abbrev pub released_by : List Intent → List ℕ
+released_by xs = flat_map (λ x. x.released) xs
+
+abbrev pub needs_by : List Intent → ℕ
+needs_by [] = 0
+needs_by (x ∷ xs) = x.need + needs_by xs
+
+-- ---- what is known of them
+
+-- the intent is a plan over these rows, and its units aren't marked in them
+pub record IsPlannedOver (sup : Super) (rows : Rows) (x : Intent) : Type 0 where
+  pub keeps : PlanKeeps sup (names_in x) rows (plan_of x)
+  pub unmarked : AllByRecursion (λ u. ¬ IsMarked rows u) (fresh_units (plan_of x))
+
+-- Each is planned over the rows that the committed ones and those before it in any fair selection make.
+abbrev pub EachIsPlanned : Super → Rows → List Intent → Type 0
+EachIsPlanned sup rows xs = (some : List Intent) (x : Intent) → IsFair is_in xs (some ++ x ∷ []) → IsPlannedOver sup (rows_by rows some) x
+
+-- what they took isn't marked in the committed rows, and was taken once
+pub record AreTakenApart (rows : Rows) (xs : List Intent) : Type 0 where
+  pub unmarked : AllByRecursion (λ u. ¬ IsMarked rows u) (taken_by xs)
+  pub apart : (unit : ℕ) → count_by (λ u. u == unit) (taken_by xs) ≤ 1
+
+-- a data unit is free exactly where it isn't busy
+abbrev pub SpaceIsCounted : Super → Rows → List Intent → Space → Type 0
+SpaceIsCounted sup rows xs space = (unit : ℕ) → IsDataUnit sup unit
+    → (is_free space unit ≡ true) ↔ (¬ IsBusy rows (map (λ x. fresh_units (plan_of x)) xs) unit)
+
+-- A plan over the submitted rows, whose units aren't marked in the committed ones and taken by none.
+pub record CanJoin (sup : Super) (rows : Rows) (xs : List Intent) (x : Intent) : Type 0 where
+  pub keeps : PlanKeeps sup (names_in x) (rows_by rows xs) (plan_of x)
+  pub unmarked : AllByRecursion (λ u. ¬ IsMarked rows u) (fresh_units (plan_of x))
+  pub untaken : AllByRecursion (λ u. ¬ Contains (taken_by xs) u) (fresh_units (plan_of x))

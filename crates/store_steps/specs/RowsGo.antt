@@ -1,0 +1,34 @@
+-- What a call makes of the rows.
+use Rattle.std.specs.Prelude.{◌≡◌, ℕ, ◌+◌, ◌-◌, List, [], ◌∷◌, ◌++◌, map}
+use Rattle.meta_rows.specs.Rows.{rows_after}
+use Rattle.meta_log.specs.Records.{unit_count}
+use Rattle.unit_allocator.specs.Units.{given, taken}
+use Rattle.selections.specs.Fair.{IsComplete}
+use Rattle.store_steps.specs.Intents.{Intent, is_in, ops_by, released_by, needs_by}
+use Rattle.store_steps.specs.Parts.{RowsPart}
+
+-- one more is accepted
+abbrev pub joined : Intent → RowsPart → RowsPart
+joined x p = record p {
+  submitted = rows_after p.submitted x.ops;
+  intents = p.intents ++ x ∷ [];
+  space = taken p.space (map (λ f. f.unit) x.fresh);
+  reserved = p.reserved + x.need;
+}
+
+-- the first ones are committed, by a record of this number
+abbrev pub applied : ℕ → List Intent → List Intent → RowsPart → RowsPart
+applied number front back p = record p {
+  rows = rows_after p.rows (ops_by front);
+  intents = back;
+  space = given p.space (released_by front);
+  tail = p.tail + unit_count number (ops_by front);
+  reserved = p.reserved - needs_by front;
+}
+
+-- they stay, one more joins, they change places but not among those of one collection, or the first ones are committed
+pub data RowsGo : RowsPart → RowsPart → Type 0 where
+  same : {p q : RowsPart} → q ≡ p → RowsGo p q
+  joins : {p q : RowsPart} (x : Intent) → q ≡ joined x p → RowsGo p q
+  reorders : {p q : RowsPart} (later : List Intent) → IsComplete is_in p.intents later → q ≡ record p { intents = later } → RowsGo p q
+  applies : {p q : RowsPart} (number : ℕ) (front back : List Intent) → p.intents ≡ front ++ back → q ≡ applied number front back p → RowsGo p q

@@ -1,0 +1,59 @@
+-- What a call adds to the device's log, by where it writes.
+use Rattle.std.specs.Prelude.{◌≡◌, ℕ, ◌+◌, ◌*◌, ◌≤◌, true, List, length}
+use Rattle.std.specs.List.{AllByRecursion}
+use Rattle.block_device.specs.Disk.{Disk, History, Submitted, Reaped}
+use Rattle.block_device.specs.Facts.{with_event}
+use Rattle.block_device.specs.declared.event.Event.{Event}
+use Rattle.block_device.specs.declared.event.Event.TheVariants.{Write, Flush, Done}
+use Rattle.meta_log.specs.declared.slot.Super.{Super}
+use Rattle.meta_log.specs.Slots.{active_unit}
+use Rattle.store_image.specs.Owners.{IsDataUnit}
+use Rattle.store_steps.specs.Contexts.{Unsent, unsent_units, run_bytes}
+
+-- the end of a submission, a flush, a write of fresh units, a write in the active half of the log, each by its ticket
+pub data Touch : Type 0 where
+  nothing : Touch
+  ends : (ticket : ℕ) → Touch
+  flushes : (ticket : ℕ) → Touch
+  on_data : (ticket : ℕ) (run : Unsent) → Touch
+  on_half : (ticket unit : ℕ) (bytes : List ℕ) → Touch
+
+-- the write of a context's next run
+abbrev pub run_write : Unsent → Event
+run_write run = Write run.first.unit (run_bytes (unsent_units run))
+
+-- what the device does
+abbrev pub Adds : Touch → Disk → Disk → Type 0
+Adds nothing d d' = (d'.history ≡ d.history) × (d'.flights ≡ d.flights)
+Adds (ends ticket) d d' = Reaped d ticket true d'
+Adds (flushes ticket) d d' = Submitted d ticket Flush d'
+Adds (on_data ticket run) d d' = Submitted d ticket (run_write run) d'
+Adds (on_half ticket unit bytes) d d' = Submitted d ticket (Write unit bytes) d'
+
+-- how many events that is, and the history behind it
+abbrev pub events_of : Touch → ℕ
+events_of nothing = 0
+events_of t = 1
+
+abbrev pub after : Touch → History → History
+after nothing h = h
+after (ends ticket) h = with_event h (Done ticket true)
+after (flushes ticket) h = with_event h Flush
+after (on_data ticket run) h = with_event h (run_write run)
+after (on_half ticket unit bytes) h = with_event h (Write unit bytes)
+
+-- where it writes: data units of the device, or the active half
+abbrev pub IsPlaced : Super → Touch → Type 0
+IsPlaced s (on_data ticket run) = AllByRecursion (λ f. IsDataUnit s f.unit) (unsent_units run)
+    × (4096 * run.first.unit + length (run_bytes (unsent_units run)) ≤ 4096 * s.units)
+IsPlaced s (on_half ticket unit bytes) = (active_unit s ≤ unit) × (4096 * unit + length bytes ≤ 4096 * (active_unit s + s.half))
+IsPlaced s t = Unit {0}
+
+-- it writes none of the data units, or nothing in the half
+abbrev pub IsNoData : Touch → Type 0
+IsNoData (on_data ticket run) = ⊥
+IsNoData t = Unit {0}
+
+abbrev pub IsNoPiece : Touch → Type 0
+IsNoPiece (on_half ticket unit bytes) = ⊥
+IsNoPiece t = Unit {0}

@@ -97,7 +97,7 @@ module _ (K : State → Type 0) (fact : IsBookFact K) where
         same_rows_keep t events same b (reordered s d s' d' s.events t (rows_part s) (rows_part s') (book_part s) (book_part s') later order is same b caused)
     parts_go t events (rows.joins x is) (book.enters e entered) caused =
         fact.accepts s d s' caused.client caused.line caused.change plans kept caused.may caused.accepts known
-    parts_go t events (rows.applies number front back both is) (book.applies count all counted) caused =
+    parts_go t events (rows.applies number front back both fits is) (book.applies count all counted) caused =
         subst K (sym caused.does.after) (fact.commits s caused.does.batch known)
     parts_go t events go b caused = absurd caused
 

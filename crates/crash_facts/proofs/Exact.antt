@@ -137,7 +137,7 @@ part_exact leaked p q (same is) one every = subst (AreExact leaked) (sym is) eve
 part_exact leaked p q (joins x is) one every = one x is
 part_exact leaked p q (reorders later order is) one every =
     subst (AreExact leaked) (sym is) (λ some fair. every some (λ c. ((fair c).0, sym (order c) ∙ (fair c).1)))
-part_exact leaked p q (applies number front back both is) one every = subst (AreExact leaked) (sym is)
+part_exact leaked p q (applies number front back both fits is) one every = subst (AreExact leaked) (sym is)
     (λ some fair. subst (IsExactBut (width_of p.sup) leaked)
     (rows_both p.rows front some ∙ ap (λ (rows : Rows). rows_by rows some) (rows_front p.rows front))
     (every (front ++ some) (subst (λ (xs : List Intent). IsFairSelection xs (front ++ some)) (sym both) (fair_behind is_in front back some fair))))

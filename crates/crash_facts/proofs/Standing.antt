@@ -263,7 +263,7 @@ module _ (opening : Objects) (s s' : State) (d d' : Disk) (h : History) (plans :
       same_stand t u placed b same
       (reordered s d s' d' s.events t (rows_part s) (rows_part s') (book_part s) (book_part s') later order is same b caused)
   of_parts t u placed (rows.joins x is) (book.enters e entered) caused = accepts_stand opening s d s' h plans kept up known stand caused
-  of_parts t u placed (rows.applies number front back both is) (book.applies count all counted) caused =
+  of_parts t u placed (rows.applies number front back both fits is) (book.applies count all counted) caused =
       commits_stand opening s d s' d' h kept up held known stand caused
   of_parts t u placed go b caused = absurd caused
 

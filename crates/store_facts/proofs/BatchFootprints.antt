@@ -1,5 +1,5 @@
 -- The footprints of the steps of a batch: Take, Flush, Seal, Record, Sync; and of Finish.
-use Rattle.std.proofs.Common.{◌≡◌, true, ℕ, ◌+◌, ◌-◌, ◌*◌, ◌≤◌, Bool, cond, not, List, [], ◌∷◌, ◌++◌, length, Option, Some, None, refl, sym, ap, subst, ◌∙◌, arith, append-nil, length-append}
+use Rattle.std.proofs.Common.{◌≡◌, true, ℕ, ◌+◌, ◌-◌, ◌*◌, ◌≤◌, Bool, cond, not, List, [], ◌∷◌, ◌++◌, length, Option, Some, None, refl, sym, ap, subst, ◌∙◌, arith, append-nil, length-append, map, is_some, is_none, take}
 use Rattle.std.specs.List.{AllByRecursion}
 use Rattle.std.specs.Option.{option_map_or}
 use Rattle.std.proofs.lemmas.Bool.{eq-eqb}
@@ -18,16 +18,17 @@ use Rattle.plan_rows.specs.declared.plan.FreshUnit.{FreshUnit}
 use Rattle.store_steps.specs.declared.step.Step.TheVariants as step
 use Rattle.store_steps.specs.State.{Batch, State}
 use Rattle.meta_store.specs.Store.{Begun}
-use Rattle.store_steps.specs.Contexts.{without_context, batch_ops}
+use Rattle.store_steps.specs.Contexts.{without_context, batch_ops, chosen}
 use Rattle.store_steps.specs.Changes.{finished, taken_up, flush_sent, sync_sent, commit_of, acknowledged}
 use Rattle.store_steps.specs.Ready.{is_ready}
 use Rattle.store_steps.specs.Steps.{DoesTake, DoesFlush, DoesSeal, DoesRecord, DoesSync, DoesFinish, piece_unit, piece_bytes}
 use Rattle.store_facts.specs.Kept.{IsKept}
 use Rattle.store_steps.specs.UnderWay.{uncommitted, given_fresh, all_fresh, begun_ops, submitted_from, second_flush}
-use Rattle.store_facts.proofs.Conditions.{ReadySeal, ReadyRecord, ready_not_down, ready_by_table}
+use Rattle.store_facts.proofs.Conditions.{HasRecord, ReadyRecord, number_low, seal_none}
+use Rattle.store_facts.proofs.Readiness.{ready_not_down, ready_by_table}
 use Rattle.store_facts.proofs.Numbers.{acknowledged_length}
 use Rattle.store_facts.proofs.Known.{flush_covers, sync_covers, known_seal, known_record, piece_lies, piece_size}
-use Rattle.store_steps.specs.Intents.{intent_of, intents}
+use Rattle.store_steps.specs.Intents.{Intent, intent_of, intents, is_in}
 use Rattle.store_steps.specs.Parts.{rows_part, data_part, half_part, book_part}
 use Rattle.store_steps.specs.Touch.{Adds, nothing, flushes, on_half}
 use Rattle.store_steps.specs.RowsGo as rows
@@ -35,9 +36,15 @@ use Rattle.store_steps.specs.DataGoes as units
 use Rattle.store_steps.specs.HalfGoes as half
 use Rattle.store_steps.specs.BookGoes as book
 use Rattle.store_steps.specs.Footprint.{Footprint}
-use Rattle.store_facts.proofs.PartsKept.{book_alone}
-use Rattle.store_facts.proofs.InFlight.{IsTaken, chosen_taken, unsealed_second, record_second, sync_begun}
-use Rattle.store_facts.proofs.Alone.{far_of}
+use Rattle.store_facts.proofs.PartsKept.{book_alone, intents_both, given_both}
+use Rattle.store_facts.proofs.InFlight.{unsealed_second, record_second, sync_begun}
+use Rattle.store_facts.proofs.Choosing.{IsFirst, chosen_first}
+use Rattle.store_facts.proofs.Lists.{elsewhere, without_at}
+use Rattle.store_facts.proofs.MatchingSteps.{none_is}
+use Rattle.space_facts.proofs.Moving.{first_taken}
+use Rattle.selections.specs.Fair.{IsComplete}
+use Rattle.unit_fields.specs.UnitSet.{Ascends}
+use Rattle.std.proofs.lemmas.Bool.{and_parts}
 
 -- the device has no part in it
 pub rests : (d d' : Disk) → d' ≡ d → Adds nothing d d'
@@ -45,19 +52,30 @@ rests d d' same = (ap (λ (e : Disk). e.history) same, ap (λ (e : Disk). e.flig
 
 -- ---- Take
 
-no_other : (x : Context) → without_context x.place (x ∷ []) ≡ []
-no_other x = ap (λ (b : Bool). cond (not b) (x ∷ []) []) (eq-eqb x.place x.place refl)
+module _ (s : State) (x : Context) (none : s.batch ≡ None) (at : IsFirst [] x s.pending) (places : Ascends (map (λ (z : Context). z.place) s.pending)) where
+  before_it : uncommitted s ≡ at.front ++ x ∷ at.back
+  before_it = ap (λ (o : Option Batch). option_map_or (λ b. b.contexts) o [] ++ s.pending) none ∙ at.is
 
-module _ (s : State) (x : Context) (is : IsTaken s x) where
-  before_it : uncommitted s ≡ x ∷ []
-  before_it = ap (λ (o : Option Batch). option_map_or (λ b. b.contexts) o [] ++ s.pending) is.batch ∙ is.pending
+  behind_it : uncommitted (taken_up x s) ≡ x ∷ (at.front ++ at.back)
+  behind_it = ap (λ (xs : List Context). x ∷ xs) (ap (without_context x.place) at.is
+      ∙ without_at at.front x at.back (elsewhere at.front x at.back (subst (λ (xs : List Context). Ascends (map (λ (z : Context). z.place) xs)) at.is places)))
 
-  behind_it : (x ∷ []) ++ without_context x.place s.pending ≡ x ∷ []
-  behind_it = ap (λ (xs : List Context). (x ∷ []) ++ without_context x.place xs) is.pending ∙ ap (λ (xs : List Context). (x ∷ []) ++ xs) (no_other x)
+  -- it changes places with those of other collections
+  order : IsComplete is_in (intents (uncommitted s)) (intents (uncommitted (taken_up x s)))
+  order = subst (λ (xs : List Intent). IsComplete is_in xs (intents (uncommitted (taken_up x s)))) (sym (ap intents before_it ∙ intents_both at.front (x ∷ at.back)))
+      (subst (λ (xs : List Intent). IsComplete is_in (intents at.front ++ intent_of x ∷ intents at.back) xs)
+      (sym (ap intents behind_it ∙ ap (λ (is : List Intent). intent_of x ∷ is) (intents_both at.front at.back)))
+      (first_taken (intents at.front) (intents at.back) (intent_of x) at.first))
+
+  given_before_it : given_fresh (uncommitted s) ≡ given_fresh at.front ++ (take x.given x.fresh ++ given_fresh at.back)
+  given_before_it = ap given_fresh before_it ∙ given_both at.front (x ∷ at.back)
+
+  given_behind_it : given_fresh (uncommitted (taken_up x s)) ≡ take x.given x.fresh ++ (given_fresh at.front ++ given_fresh at.back)
+  given_behind_it = ap given_fresh behind_it ∙ ap (λ (fs : List FreshUnit). take x.given x.fresh ++ fs) (given_both at.front at.back)
 
   applied_as_before : length (s.book.commits ++ commit_of x ∷ []) - 1 ≡ length s.book.commits - option_map_or (λ (b : Batch). length b.contexts) s.batch 0
   applied_as_before = less (length s.book.commits) (length (s.book.commits ++ commit_of x ∷ [])) (length-append s.book.commits (commit_of x ∷ []))
-      ∙ ap (λ (o : Option Batch). length s.book.commits - option_map_or (λ (b : Batch). length b.contexts) o 0) (sym is.batch)
+      ∙ ap (λ (o : Option Batch). length s.book.commits - option_map_or (λ (b : Batch). length b.contexts) o 0) (sym none)
     where
       less : (n m : ℕ) → m ≡ n + 1 → m - 1 ≡ n - 0
       less n m is = omega (arith, is)
@@ -66,24 +84,26 @@ pub take_footprint : (s : State) (d : Disk) (s' : State) (d' : Disk) → IsKept 
     → Footprint s d s' d'
 take_footprint s d s' d' kept ready does =
     let x : Context = does.context in
-    let is : IsTaken s x = chosen_taken s x (far_of s d (kept.up (ready_not_down s d.depth step.Take refl ready))) does.is_chosen in
-    let same : uncommitted (taken_up x s) ≡ uncommitted s = behind_it s x is ∙ sym (before_it s x is) in
+    let up : s.down ≡ None = ready_not_down s d.depth step.Take refl ready in
+    let none : s.batch ≡ None = none_is s.batch
+    (and_parts (is_none s.batch) (is_some (chosen s.pending)) (ready_by_table s d.depth step.Take up ready)).0 in
+    let at : IsFirst [] x s.pending = chosen_first [] s.pending x does.is_chosen in
+    let places : Ascends (map (λ (z : Context). z.place) s.pending) = (kept.up up).flights.places.ascend in
     subst (λ (t : State). Footprint s d t d') (sym does.after) (record {
       touch = nothing;
       device = rests d d' does.same;
       placed = tt;
       counted = omega arith;
-      rows = rows.same (ap (λ (xs : List Context). record (rows_part s) { intents = intents xs }) same);
-      units = units.opens [] (given_fresh (uncommitted s)) [] (x.fresh ++ []) (sym (append-nil (given_fresh (uncommitted s))))
-          (ap (λ (fs : List FreshUnit). record (data_part s) { given = fs; fresh = x.fresh ++ []; first = not_sent })
-          (ap given_fresh same ∙ sym (append-nil (given_fresh (uncommitted s)))));
-      half = half.same tt (ap (λ f. record (half_part s) { second = f }) (ap second_flush (sym is.batch)));
-      book = book.commits (intent_of x ∷ []) (ap (λ (o : Option Batch). intents (option_map_or (λ (b : Batch). b.contexts) o [])) is.batch)
+      rows = rows.reorders (intents (uncommitted (taken_up x s))) (order s x none at places) refl;
+      units = units.opens (given_fresh at.front) (take x.given x.fresh) (given_fresh at.back) (x.fresh ++ []) (given_before_it s x none at places)
+          (ap (λ (fs : List FreshUnit). record (data_part s) { given = fs; fresh = x.fresh ++ []; first = not_sent }) (given_behind_it s x none at places));
+      half = half.same tt (ap (λ f. record (half_part s) { second = f }) (ap second_flush (sym none)));
+      book = book.commits (intent_of x ∷ []) (ap (λ (o : Option Batch). intents (option_map_or (λ (b : Batch). b.contexts) o [])) none)
           (ap (λ (n : ℕ). record (book_part s) {
             book = record s.book { commits = s.book.commits ++ commit_of x ∷ [] };
             applied = n;
             batch = intent_of x ∷ [];
-          }) (applied_as_before s x is));
+          }) (applied_as_before s x none at places));
       caused = record { ready = ready; does = record { context = x; is_chosen = does.is_chosen; after = refl; same = does.same } };
     })
 
@@ -133,8 +153,10 @@ pub seal_footprint : (s : State) (d : Disk) (s' : State) (d' : Disk) → IsKept 
     → Footprint s d s' d'
 seal_footprint s d s' d' kept ready does =
     let ops : List RowOp = batch_ops does.batch in
-    let r : ReadySeal s does.batch = known_seal s d does.batch kept ready does.begun in
-    let second : second_flush s.batch ≡ not_sent = unsealed_second s d.flights (kept.up (ready_not_down s d.depth step.Seal refl ready)).flights r.none in
+    let r : HasRecord s does.batch = known_seal s d does.batch kept ready does.begun in
+    let up : s.down ≡ None = ready_not_down s d.depth step.Seal refl ready in
+    let none : s.log.begun ≡ None = seal_none s d.depth (ready_by_table s d.depth step.Seal up ready) in
+    let second : second_flush s.batch ≡ not_sent = unsealed_second s d.flights (kept.up up).flights none in
     subst (λ (t : State). Footprint s d t d') (sym does.after) (record {
       touch = nothing;
       device = rests d d' does.same;
@@ -142,7 +164,7 @@ seal_footprint s d s' d' kept ready does =
       counted = omega arith;
       rows = rows.same refl;
       units = units.same tt refl;
-      half = half.begins ops (ap begun_ops r.none) (record { number_below = r.number; body_below = r.body; fit = r.fit }) r.room
+      half = half.begins ops (ap begun_ops none) (record { number_below = number_low s d kept.always; body_below = r.body; fit = r.fit }) r.room
           (ap (λ (n : ℕ). record (half_part s) { begun = Some ops; from = n }) (given_from-none (unit_count s.log.number ops))
           ∙ ap (λ f. record (half_part s) { begun = Some ops; from = unit_count s.log.number ops; second = f }) second);
       book = book.same refl;

@@ -1,5 +1,5 @@
 -- The footprint of Commit.
-use Rattle.std.proofs.Common.{◌≡◌, true, ℕ, ◌+◌, ◌-◌, List, [], ◌∷◌, ◌++◌, length, Option, Some, None, refl, sym, ap, subst, ◌∙◌, append_assoc, arith}
+use Rattle.std.proofs.Common.{◌≡◌, ◌≤◌, true, ℕ, ◌+◌, ◌-◌, List, [], ◌∷◌, ◌++◌, length, Option, Some, None, refl, sym, ap, subst, ◌∙◌, append_assoc, arith}
 use Rattle.std.specs.List.{AllByRecursion}
 use Rattle.std.proofs.lemmas.List.{take_all}
 use Rattle.block_device.specs.Disk.{Disk}
@@ -18,8 +18,9 @@ use Rattle.store_steps.specs.Changes.{committed_batch}
 use Rattle.store_steps.specs.Ready.{is_ready}
 use Rattle.store_steps.specs.Steps.{DoesCommit}
 use Rattle.store_facts.specs.Kept.{IsKept}
-use Rattle.store_facts.proofs.Conditions.{ReadyCommit, ready_not_down, ready_by_table}
-use Rattle.store_facts.proofs.Known.{known_commit}
+use Rattle.store_facts.proofs.Conditions.{HasRecord, ReadyCommit, needs_are}
+use Rattle.store_facts.proofs.Readiness.{ready_not_down, ready_by_table}
+use Rattle.store_facts.proofs.Known.{known_commit, known_batch}
 use Rattle.store_facts.specs.Jobs.{IsAllGiven}
 use Rattle.store_steps.specs.UnderWay.{all_fresh, given_fresh, begun_ops, submitted_from}
 use Rattle.store_steps.specs.Intents.{Intent, intents, ops_by, released_by, needs_by}
@@ -33,17 +34,12 @@ use Rattle.store_steps.specs.Footprint.{Footprint}
 use Rattle.store_facts.proofs.PartsKept.{flat_intents, intents_both}
 use Rattle.store_facts.proofs.InFlight.{IsSynced, ready_synced}
 
--- what contexts need
-needs_are : (xs : List Context) → needs_by (intents xs) ≡ sum_needs xs
-needs_are [] = refl
-needs_are (x ∷ xs) = ap (λ (n : ℕ). x.need + n) (needs_are xs)
-
 -- all units of written contexts are given
-given_both : (xs ys : List Context) → AllByRecursion IsAllGiven xs → given_fresh (xs ++ ys) ≡ all_fresh xs ++ given_fresh ys
-given_both [] ys all = refl
-given_both (x ∷ xs) ys all =
+given_all : (xs ys : List Context) → AllByRecursion IsAllGiven xs → given_fresh (xs ++ ys) ≡ all_fresh xs ++ given_fresh ys
+given_all [] ys all = refl
+given_all (x ∷ xs) ys all =
     ap (λ (fs : List FreshUnit). fs ++ given_fresh (xs ++ ys)) (take_all x.given x.fresh (omega (arith, (all.0).given)))
-    ∙ ap (λ (fs : List FreshUnit). x.fresh ++ fs) (given_both xs ys all.1)
+    ∙ ap (λ (fs : List FreshUnit). x.fresh ++ fs) (given_all xs ys all.1)
     ∙ sym (append_assoc x.fresh (all_fresh xs) (given_fresh ys))
 
 module _ (s : State) (b : Batch) (number : ℕ) where
@@ -85,6 +81,7 @@ commit_footprint s d s' d' kept ready does =
     let b : Batch = does.batch in
     let up : s.down ≡ None = ready_not_down s d.depth step.Commit refl ready in
     let r : ReadyCommit s b = known_commit s d b kept ready does.begun in
+    let has : HasRecord s b = known_batch s d b kept up does.begun in
     let is : IsSynced b = ready_synced s d.flights d.depth b (kept.up up).flights (ready_by_table s d.depth step.Commit up ready) does.begun in
     let begun : begun_ops s.log.begun ≡ Some (batch_ops b) = ap begun_ops r.begun ∙ ap (λ (ops : List RowOp). Some ops) r.ops in
     let from : submitted_from s.log.number s.log.begun ≡ 0 =
@@ -96,8 +93,10 @@ commit_footprint s d s' d' kept ready does =
       device = (ap (λ (e : Disk). e.history) does.same, ap (λ (e : Disk). e.flights) does.same);
       placed = tt;
       counted = omega arith;
-      rows = rows.applies s.log.number (intents b.contexts) (intents s.pending) (intents_both b.contexts s.pending) (rows_then s b s.log.number);
-      units = units.retires (given_fresh s.pending) is.first (given_both b.contexts s.pending is.written) refl;
+      rows = rows.applies s.log.number (intents b.contexts) (intents s.pending) (intents_both b.contexts s.pending)
+          (needed (unit_count s.log.number (batch_ops b)) _ (sum_needs b.contexts) _ has.needed
+          (ap (unit_count s.log.number) (flat_intents (λ x. x.ops) b.contexts)) (needs_are b.contexts)) (rows_then s b s.log.number);
+      units = units.retires (given_fresh s.pending) is.first (given_all b.contexts s.pending is.written) refl;
       half = half.moves_on (batch_ops b) begun from is.second refl;
       book = book.applies (length s.book.commits - 0) (omega arith) refl;
       caused = record {
@@ -105,3 +104,6 @@ commit_footprint s d s' d' kept ready does =
         does = record { batch = b; begun = refl; after = refl; same = does.same };
       };
     }))
+  where
+    needed : (units units' needs needs' : ℕ) → units ≤ needs → units' ≡ units → needs' ≡ needs → units' ≤ needs'
+    needed units units' needs needs' le one two = omega (arith, le, one, two)

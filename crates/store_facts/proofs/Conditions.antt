@@ -1,194 +1,150 @@
 -- What is known where a step is ready: the conditions under which the kernel calls the device and the log.
-use Rattle.std.proofs.Common.{◌≡◌, ℕ, ◌+◌, ◌-◌, ◌*◌, ◌^◌, ◌<◌, ◌≤◌, Bool, true, false, nat_lt, List, [], ◌∷◌, ◌++◌, length, drop, Option, Some, None, is_some, is_none, refl, sym, ap, subst, ◌∙◌, arith}
-use Rattle.std.specs.List.{AllByRecursion}
+use Rattle.std.proofs.Common.{◌≡◌, ℕ, ◌+◌, ◌-◌, ◌*◌, ◌^◌, ◌<◌, ◌≤◌, ◌==◌, ◌&&◌, Bool, true, false, nat_lt, List, [], ◌∷◌, ◌++◌, length, drop, Option, Some, None, is_some, is_none, refl, sym, ap, subst, ◌∙◌, arith}
+use Rattle.std.specs.List.{AllByRecursion, flat_map}
 use Rattle.std.specs.Option.{option_map_or}
-use Rattle.std.proofs.lemmas.Bool.{ltb-true, ltb-false, and_parts}
-use Rattle.std.proofs.lemmas.Option.{same_Some}
+use Rattle.std.proofs.lemmas.Bool.{and_parts, ltb-true}
 use Rattle.block_device.specs.Disk.{Disk}
-use Rattle.block_device.specs.declared.device.Ticket.{Ticket}
-use Rattle.meta_rows.specs.Spelling.{ops_bytes, AllFit}
+use Rattle.meta_rows.specs.declared.row_op.RowOp.{RowOp}
+use Rattle.meta_rows.specs.Spelling.{ops_bytes, FitsRowOp, AllFit}
 use Rattle.meta_log.specs.Records.{unit_count}
 use Rattle.meta_log.specs.Pieces.{piece_count}
 use Rattle.plan_rows.specs.declared.plan.FreshUnit.{FreshUnit}
 use Rattle.store_steps.specs.declared.context.Context.{Context}
+use Rattle.store_steps.specs.declared.flight.FlushState.{FlushState}
 use Rattle.store_steps.specs.declared.flight.FlushState.TheVariants as flush
 use Rattle.store_steps.specs.declared.flight.Flying.{Flying}
-use Rattle.store_steps.specs.declared.step.Step.{Step}
-use Rattle.store_steps.specs.declared.step.Step.TheVariants.{Data, Reap, Flush, Seal, Record, Sync, Commit, Finish}
+use Rattle.store_steps.specs.declared.step.Step.TheVariants.{Data, Flush, Seal, Record, Sync, Commit, Finish}
 use Rattle.meta_store.specs.Store.{Begun}
 use Rattle.store_steps.specs.State.{Batch, State}
 use Rattle.store_steps.specs.Contexts.{Unsent, unsent_units, run_bytes, next_unsent, batch_ops, sum_needs}
-use Rattle.store_steps.specs.Ready.{is_ready_up, is_ready_down, is_ready, applied_count, is_drained}
-use Rattle.store_facts.specs.Flights.{IsWaiting}
-use Rattle.store_facts.specs.Room.{FitsRecord, HasRoomFor}
+use Rattle.store_steps.specs.Ready.{is_not_sent, is_flushed, pieces_of, batch_is, begun_is, applied_count, is_ready_up}
 use Rattle.store_steps.specs.UnderWay.{uncommitted}
-use Rattle.store_facts.specs.Work.{entry_work, work_left}
-use Rattle.store_facts.specs.Kept.{IsAlwaysKept}
-use Rattle.store_facts.proofs.Stages.{Stage, idle, opens, flushes, flushed, writes, synced, pending_of, batch_of, begun_of, flying_at, record_with, pieces_at, Holds, at, IsAtStage, by_stage}
-use Rattle.store_facts.proofs.Pieces.{batch_fits, units_needed, short_body}
-use Rattle.store_facts.proofs.RunUnits.{IsRunOf, row_bytes, all_drop, all_front}
-use Rattle.store_facts.proofs.Readiness.{contexts_of, no_flying, next_write, ready_flush, ready_record, ready_sync, next_commit, none_ready, ready_up}
-use Rattle.store_facts.proofs.Flying.{idle_device, same_count}
+use Rattle.store_steps.specs.Intents.{intent_of, intents, needs_by}
+use Rattle.store_steps.specs.Parts.{rows_part}
+use Rattle.store_facts.specs.Flights.{IsWritten, IsUnderWay}
+use Rattle.store_facts.specs.Jobs.{IsBatchOpen, IsLogFar, log_flying}
+use Rattle.store_facts.specs.Room.{FitsRecord, HasRoom}
+use Rattle.store_facts.specs.Work.{entry_work, budget, work_left}
+use Rattle.store_facts.specs.Kept.{IsAlwaysKept, IsKeptUp}
 use Rattle.store_facts.proofs.Numbers.{NextAcked, next_acked}
-use Rattle.store_facts.proofs.Submitting.{drained_stage}
-
--- ---- only Reap is ready while the kernel is down
-
--- the kernel isn't down, and the step is ready by the table; or it is down, and the step is Reap
-pub data Readiness (step : Step) (depth : ℕ) (s : State) : Type 0 where
-  while_up : s.down ≡ None → is_ready_up step depth s ≡ true → Readiness step depth s
-  while_down : is_some s.down ≡ true → step ≡ Reap → Readiness step depth s
-
-down_reaps : (step : Step) (s : State) → is_ready_down step s ≡ true → step ≡ Reap
-down_reaps Reap s ready = refl
-down_reaps step s ready = absurd (cc)
-
-pub ready_cases : (step : Step) (depth : ℕ) (s : State) → is_ready step depth s ≡ true → Readiness step depth s
-ready_cases step depth s ready = of_down s.down refl ready
-  where
-    of_down : (o : Option Ticket) → s.down ≡ o → option_map_or (λ ticket. is_ready_down step s) o (is_ready_up step depth s) ≡ true
-        → Readiness step depth s
-    of_down None e r = while_up e r
-    of_down (Some ticket) e r = while_down (ap is_some e) (down_reaps step s r)
-
--- so a step that isn't ready while it is down is ready only while it isn't
-pub ready_not_down : (s : State) (depth : ℕ) (step : Step) → is_ready_down step s ≡ false → is_ready step depth s ≡ true → s.down ≡ None
-ready_not_down s depth step never ready = of_down s.down refl ready
-  where
-    of_down : (o : Option Ticket) → s.down ≡ o → option_map_or (λ ticket. is_ready_down step s) o (is_ready_up step depth s) ≡ true → s.down ≡ None
-    of_down None e r = e
-    of_down (Some ticket) e r = absurd (cc)
-
--- it is ready by the table of a kernel that isn't down
-pub ready_by_table : (s : State) (depth : ℕ) (step : Step) → s.down ≡ None → is_ready step depth s ≡ true → is_ready_up step depth s ≡ true
-ready_by_table s depth step up ready = sym (ready_up step depth s up) ∙ ready
+use Rattle.store_facts.proofs.Flying.{same_count}
+use Rattle.store_facts.proofs.Pieces.{short_body}
+use Rattle.store_facts.proofs.RunUnits.{IsRunOf, row_bytes}
+use Rattle.store_facts.proofs.RunPlaces.{run_whole}
+use Rattle.store_facts.proofs.Lists.{StandsIn, all_left, all_right, all_join}
+use Rattle.store_facts.proofs.Underway.{synced_way}
+use Rattle.store_facts.proofs.Matching.{Matches}
+use Rattle.store_facts.proofs.MatchingMore.{next_stands}
+use Rattle.store_facts.proofs.MatchingSteps.{test_of, some_is, none_is}
 
 -- ---- the device takes one more submission
 
 pub room_at_device : (s : State) (d : Disk) → IsAlwaysKept s d → nat_lt (length s.flying) d.depth ≡ true → length d.flights < d.depth
 room_at_device s d a ready = subst (λ (n : ℕ). n < d.depth) (same_count s.flying d.flights a.flights) (ltb-true (length s.flying) d.depth ready)
 
-pub data_room : (s : State) (d : Disk) → IsAlwaysKept s d → is_ready_up Data d.depth s ≡ true → length d.flights < d.depth
-data_room s d a ready = room_at_device s d a (and_parts (is_some (next_unsent s.pending)) (nat_lt (length s.flying) d.depth) ready).1
+-- ---- contexts
 
-pub flush_room : (s : State) (d : Disk) → IsAlwaysKept s d → is_ready_up Flush d.depth s ≡ true → length d.flights < d.depth
-flush_room s d a ready = room_at_device s d a (and_parts _ (nat_lt (length s.flying) d.depth) ready).1
+-- what holds of the intents of contexts
+each_fits : (xs : List Context) → AllByRecursion FitsRecord (intents xs) → AllByRecursion (λ x. FitsRecord (intent_of x)) xs
+each_fits [] all = tt
+each_fits (x ∷ xs) all = (all.0, each_fits xs all.1)
 
-pub record_room : (s : State) (d : Disk) → IsAlwaysKept s d → is_ready_up Record d.depth s ≡ true → length d.flights < d.depth
-record_room s d a ready = room_at_device s d a (and_parts _ (nat_lt (length s.flying) d.depth) ready).1
+pub all_fit : (s : State) → HasRoom (rows_part s) → AllByRecursion (λ x. FitsRecord (intent_of x)) (uncommitted s)
+all_fit s room = each_fits (uncommitted s) room.fits
 
-pub sync_room : (s : State) (d : Disk) → IsAlwaysKept s d → is_ready_up Sync d.depth s ≡ true → length d.flights < d.depth
-sync_room s d a ready = room_at_device s d a (and_parts _ (nat_lt (length s.flying) d.depth) ready).1
+pub pending_fits : (s : State) → HasRoom (rows_part s) → AllByRecursion (λ x. FitsRecord (intent_of x)) s.pending
+pending_fits s room = all_right (λ x. FitsRecord (intent_of x)) (option_map_or (λ (b : Batch). b.contexts) s.batch []) s.pending (all_fit s room)
+
+pub batch_fits : (s : State) (b : Batch) → HasRoom (rows_part s) → s.batch ≡ Some b → AllByRecursion (λ x. FitsRecord (intent_of x)) b.contexts
+batch_fits s b room is = all_left (λ x. FitsRecord (intent_of x)) b.contexts s.pending
+    (subst (λ (o : Option Batch). AllByRecursion (λ x. FitsRecord (intent_of x)) (option_map_or (λ (c : Batch). c.contexts) o [] ++ s.pending)) is (all_fit s room))
+
+-- the needs of contexts, one by one and together
+pub needs_are : (xs : List Context) → needs_by (intents xs) ≡ sum_needs xs
+needs_are [] = refl
+needs_are (x ∷ xs) = ap (λ (n : ℕ). x.need + n) (needs_are xs)
+
+needs_both : (xs ys : List Context) → sum_needs (xs ++ ys) ≡ sum_needs xs + sum_needs ys
+needs_both [] ys = omega arith
+needs_both (x ∷ xs) ys = omega (arith, needs_both xs ys)
 
 -- ---- Data
 
--- the context that waits, and the data write that is next
+-- the context whose data write is next, among those that wait
 pub record ReadyData (s : State) (n : Unsent) : Type 0 where
-  pub x : Context
-  pub pending : s.pending ≡ x ∷ []
-  pub batch : s.batch ≡ None
-  pub begun : s.log.begun ≡ None
-  pub waiting : IsWaiting x s.flying
-  pub fits : FitsRecord x
-  pub run : IsRunOf x n
+  pub at : StandsIn (λ x. IsRunOf x n) s.pending
+  pub fits : FitsRecord (intent_of at.item)
   pub whole : AllByRecursion (λ f. length f.bytes ≡ 4096) (unsent_units n)
   pub size : length (run_bytes (unsent_units n)) ≡ 4096 * length (unsent_units n)
 
-whole_run : (x : Context) (n : Unsent) → FitsRecord x → IsRunOf x n → AllByRecursion (λ f. length f.bytes ≡ 4096) (unsent_units n)
-whole_run x n fits run =
-    let rest : List FreshUnit = drop (x.given + length (unsent_units n)) x.fresh in
-    all_front (λ f. length f.bytes ≡ 4096) (unsent_units n) rest
-    (subst (λ (fs : List FreshUnit). AllByRecursion (λ f. length f.bytes ≡ 4096) fs) run.left
-    (all_drop (λ f. length f.bytes ≡ 4096) x.given x.fresh fits.whole))
-
-pub data_ready : (s : State) (n : Unsent) → IsAtStage s → HasRoomFor s.log (uncommitted s) → next_unsent s.pending ≡ Some n → ReadyData s n
-data_ready s n far room is = by_stage (λ t. HasRoomFor t.log (uncommitted t) → next_unsent t.pending ≡ Some n → ReadyData t n) s every far room is
+pub data_ready : (s : State) (n : Unsent) → HasRoom (rows_part s) → next_unsent s.pending ≡ Some n → ReadyData s n
+data_ready s n room is = record { at = at; fits = fits; whole = whole; size = row_bytes (unsent_units n) whole }
   where
-    every : (g : Stage) → Holds s.log.number g → HasRoomFor (at s g).log (contexts_of g) → next_unsent (pending_of g) ≡ Some n → ReadyData (at s g) n
-    every g h has found =
-        let next = next_write g n found in
-        let fits : FitsRecord next.x = (subst (λ (k : Stage). AllByRecursion FitsRecord (contexts_of k)) next.stage has.fits).0 in
-        let waiting : IsWaiting next.x next.flying = subst (λ (k : Stage). Holds s.log.number k) next.stage h in
-        let whole : AllByRecursion (λ f. length f.bytes ≡ 4096) (unsent_units n) = whole_run next.x n fits next.run in
-        record {
-          x = next.x;
-          pending = ap pending_of next.stage;
-          batch = ap batch_of next.stage;
-          begun = ap begun_of next.stage;
-          waiting = subst (λ (fs : List Flying). IsWaiting next.x fs) (sym (ap flying_at next.stage)) waiting;
-          fits = fits;
-          run = next.run;
-          whole = whole;
-          size = row_bytes (unsent_units n) whole;
-        }
+    at : StandsIn (λ x. IsRunOf x n) s.pending
+    at = next_stands s.pending n is
 
--- ---- Seal
+    fits : FitsRecord (intent_of at.item)
+    fits = (all_right (λ x. FitsRecord (intent_of x)) at.front (at.item ∷ at.back)
+        (subst (AllByRecursion (λ x. FitsRecord (intent_of x))) at.is (pending_fits s room))).0
 
--- the record of the open batch can be made
-pub record ReadySeal (s : State) (b : Batch) : Type 0 where
-  pub context : Context
-  pub one : b.contexts ≡ context ∷ []
+    whole : AllByRecursion (λ f. length f.bytes ≡ 4096) (unsent_units n)
+    whole = run_whole at.item n at.holds fits
+
+-- ---- the open batch
+
+open_far : (s : State) (d : Disk) (b : Batch) → IsKeptUp s d → s.batch ≡ Some b → IsBatchOpen s.log.number b s.log.begun (log_flying s.flying)
+open_far s d b up is = subst (λ (o : Option Batch). IsLogFar s.log.number o s.log.begun (log_flying s.flying)) is up.flights.log
+
+-- its operations have a spelling
+ops_fit : (xs : List Context) → AllByRecursion (λ x. FitsRecord (intent_of x)) xs → AllFit (flat_map (λ x. x.ops) xs)
+ops_fit [] all = tt
+ops_fit (x ∷ xs) all = all_join FitsRowOp x.ops (flat_map (λ x. x.ops) xs) (all.0).fit (ops_fit xs all.1)
+
+-- what is known of its record while it isn't committed
+pub record HasRecord (s : State) (b : Batch) : Type 0 where
   pub fit : AllFit (batch_ops b)
-  pub number : s.log.number < 2 ^ 62
   pub body : length (ops_bytes (batch_ops b)) < 2 ^ 32
-  pub units : unit_count s.log.number (batch_ops b) ≡ context.need
+  pub needed : unit_count s.log.number (batch_ops b) ≤ sum_needs b.contexts
+  pub needs : sum_needs b.contexts ≤ s.log.reserved
   pub room : s.log.tail + unit_count s.log.number (batch_ops b) ≤ s.log.sup.half
-  pub none : s.log.begun ≡ None
 
--- what a context of a batch needs fits behind the tail
-room_behind : (tail reserved half need units : ℕ) → tail + reserved ≤ half → reserved ≡ need + 0 → units ≡ need → tail + units ≤ half
-room_behind tail reserved half need units le is same = omega (arith, le, is, same)
-
--- a batch of one context that fits a record
-sealable : (s : State) (x : Context) (b : Batch) (d : Disk) → IsAlwaysKept s d → FitsRecord x → s.log.reserved ≡ x.need + 0
-    → s.log.tail + s.log.reserved ≤ s.log.sup.half
-    → b.contexts ≡ x ∷ [] → batch_ops b ≡ x.ops ++ [] → s.log.begun ≡ None → ReadySeal s b
-sealable s x b d a fits reserved room one ops none = record {
-  context = x;
-  one = one;
-  fit = subst AllFit (sym ops) (batch_fits x fits);
-  number = low s.log.number _ (length s.book.commits) (length s.pending) (length s.book.entries) a.numbers.number a.numbers.commits a.numbers.entries;
-  body = short_body s.log.number (batch_ops b) (most s.log.tail (unit_count s.log.number (batch_ops b)) s.log.sup.half behind a.limits.half_most);
-  units = units;
-  room = behind;
-  none = none;
+pub has_record : (s : State) (d : Disk) (b : Batch) → IsAlwaysKept s d → IsKeptUp s d → s.batch ≡ Some b → HasRecord s b
+has_record s d b a up is = record {
+  fit = ops_fit b.contexts (batch_fits s b up.room is);
+  body = short_body s.log.number (batch_ops b) (few s.log.tail (unit_count s.log.number (batch_ops b)) s.log.sup.half room a.limits.half_most);
+  needed = needed;
+  needs = needs;
+  room = room;
 }
   where
-    units : unit_count s.log.number (batch_ops b) ≡ x.need
-    units = ap (unit_count s.log.number) ops ∙ units_needed x fits s.log.number
+    needed : unit_count s.log.number (batch_ops b) ≤ sum_needs b.contexts
+    needed = (open_far s d b up is).needed
 
-    behind : s.log.tail + unit_count s.log.number (batch_ops b) ≤ s.log.sup.half
-    behind = room_behind s.log.tail s.log.reserved s.log.sup.half x.need (unit_count s.log.number (batch_ops b)) room reserved units
+    reserved : s.log.reserved ≡ sum_needs (b.contexts ++ s.pending)
+    reserved = up.room.reserved ∙ needs_are (uncommitted s)
+        ∙ ap (λ (o : Option Batch). sum_needs (option_map_or (λ (c : Batch). c.contexts) o [] ++ s.pending)) is
 
-    most : (tail units half : ℕ) → tail + units ≤ half → half ≤ 65536 → units ≤ 65536
-    most tail units half le few = omega (arith, le, few)
+    needs : sum_needs b.contexts ≤ s.log.reserved
+    needs = omega (arith, reserved, needs_both b.contexts s.pending)
 
-    low : (number batch commits pending entries : ℕ) → number + batch ≤ 2 ^ 61 + commits → commits + pending ≤ entries → entries ≤ 1048576
-        → number < 2 ^ 62
-    low number batch commits pending entries le less most = omega (arith, le, less, most)
+    room : s.log.tail + unit_count s.log.number (batch_ops b) ≤ s.log.sup.half
+    room = behind s.log.tail s.log.reserved s.log.sup.half (unit_count s.log.number (batch_ops b)) (sum_needs b.contexts) up.room.room needed needs
+      where
+        behind : (tail reserved half units needs : ℕ) → tail + reserved ≤ half → units ≤ needs → needs ≤ reserved → tail + units ≤ half
+        behind tail reserved half units needs le one two = omega (arith, le, one, two)
 
-seal_ready_at : (s : State) (d : Disk) (g : Stage) (b : Batch) → IsAlwaysKept (at s g) d → HasRoomFor (at s g).log (contexts_of g)
-    → is_none (begun_of g) ≡ true → batch_of g ≡ Some b → ReadySeal (at s g) b
-seal_ready_at s d (opens x false) b a room none is =
-    sealable (at s (opens x false)) x b d a room.fits.0 room.reserved room.room
-    (ap (λ (c : Batch). c.contexts) (sym (same_Some (record { contexts = x ∷ []; first = flush.NotSent; second = flush.NotSent }) b is)))
-    (ap batch_ops (sym (same_Some (record { contexts = x ∷ []; first = flush.NotSent; second = flush.NotSent }) b is))) refl
-seal_ready_at s d (flushes x false ticket) b a room none is =
-    sealable (at s (flushes x false ticket)) x b d a room.fits.0 room.reserved room.room
-    (ap (λ (c : Batch). c.contexts) (sym (same_Some (record { contexts = x ∷ []; first = flush.Sent ticket; second = flush.NotSent }) b is)))
-    (ap batch_ops (sym (same_Some (record { contexts = x ∷ []; first = flush.Sent ticket; second = flush.NotSent }) b is))) refl
-seal_ready_at s d (flushed x) b a room none is =
-    sealable (at s (flushed x)) x b d a room.fits.0 room.reserved room.room
-    (ap (λ (c : Batch). c.contexts) (sym (same_Some (record { contexts = x ∷ []; first = flush.Flushed; second = flush.NotSent }) b is)))
-    (ap batch_ops (sym (same_Some (record { contexts = x ∷ []; first = flush.Flushed; second = flush.NotSent }) b is))) refl
-seal_ready_at s d g b a room none is = absurd (cc)
+    few : (tail units half : ℕ) → tail + units ≤ half → half ≤ 65536 → units ≤ 65536
+    few tail units half le most = omega (arith, le, most)
 
-pub seal_ready : (s : State) (d : Disk) (b : Batch) → IsAtStage s → IsAlwaysKept s d → HasRoomFor s.log (uncommitted s)
-    → is_ready_up Seal d.depth s ≡ true
-    → s.batch ≡ Some b → ReadySeal s b
-seal_ready s d b far a room ready is = by_stage
-    (λ t. IsAlwaysKept t d → HasRoomFor t.log (uncommitted t) → is_none t.log.begun ≡ true → t.batch ≡ Some b → ReadySeal t b) s
-    (λ g h kept fits none found. seal_ready_at s d g b kept fits none found) far a room (and_parts (is_some s.batch) (is_none s.log.begun) ready).1 is
+-- the number of the next record is far below the greatest
+pub number_low : (s : State) (d : Disk) → IsAlwaysKept s d → s.log.number < 2 ^ 62
+number_low s d a = low s.log.number (work_left s) (length s.book.entries) a.numbers a.few.entries
+  where
+    low : (n w entries : ℕ) → n + w ≤ 2 ^ 61 + entry_work * entries → entries ≤ 1048576 → n < 2 ^ 62
+    low n w entries le most = omega arith
+
+pub seal_none : (s : State) (depth : ℕ) → is_ready_up Seal depth s ≡ true → s.log.begun ≡ None
+seal_none s depth ready = none_is s.log.begun (and_parts (is_some s.batch) (is_none s.log.begun) ready).1
 
 -- ---- Record
 
@@ -196,59 +152,52 @@ seal_ready s d b far a room ready is = by_stage
 pub record ReadyRecord (s : State) (r : Begun) : Type 0 where
   pub batch : Batch
   pub is_open : s.batch ≡ Some batch
-  pub pending : s.pending ≡ []
-  pub context : Context
-  pub one : batch.contexts ≡ context ∷ []
   pub ops : r.ops ≡ batch_ops batch
-  pub fit : AllFit r.ops
   pub more : r.given < piece_count (unit_count s.log.number r.ops)
-  pub flies : r.written + length s.flying ≡ r.given
-  pub units : unit_count s.log.number r.ops ≡ context.need
   pub room : s.log.tail + unit_count s.log.number r.ops ≤ s.log.sup.half
 
-record_writes : (s : State) (x : Context) (given written : ℕ) (flying : List Flying) (r : Begun)
-    → (let g : Stage = writes x given written flying in Holds s.log.number g → given < pieces_at s.log.number x → HasRoomFor (at s g).log (x ∷ [])
-    → Some (record_with x given written) ≡ Some r → ReadyRecord (at s g) r)
-record_writes s x given written flying r h more has is =
-    let fits : FitsRecord x = has.fits.0 in
-    let units : unit_count s.log.number (x.ops ++ []) ≡ x.need = units_needed x fits s.log.number in
-    subst (ReadyRecord (at s (writes x given written flying))) (same_Some (record_with x given written) r is) (record {
-      batch = record { contexts = x ∷ []; first = flush.Flushed; second = flush.NotSent };
-      is_open = refl;
-      pending = refl;
-      context = x;
-      one = refl;
-      ops = refl;
-      fit = batch_fits x fits;
-      more = more;
-      flies = h.counted;
-      units = units;
-      room = room_behind s.log.tail s.log.reserved s.log.sup.half x.need (unit_count s.log.number (x.ops ++ [])) has.room has.reserved units;
-    })
+-- a record that is made is the batch's
+made_way : (first second : FlushState) (pieces : ℕ) (ops : List RowOp) (r : Begun) (flying : List Flying)
+    → IsUnderWay first second pieces ops (Some r) flying → r.ops ≡ ops
+made_way flush.NotSent flush.NotSent pieces ops r flying h = (h.0).0
+made_way flush.NotSent (flush.Sent u) pieces ops r flying h = absurd h
+made_way flush.NotSent flush.Flushed pieces ops r flying h = absurd h
+made_way (flush.Sent t) flush.NotSent pieces ops r flying h = (h.0).0
+made_way (flush.Sent t) (flush.Sent u) pieces ops r flying h = absurd h
+made_way (flush.Sent t) flush.Flushed pieces ops r flying h = absurd h
+made_way flush.Flushed flush.NotSent pieces ops r flying h = h.0
+made_way flush.Flushed (flush.Sent u) pieces ops r flying h = (h.0).0
+made_way flush.Flushed flush.Flushed pieces ops r flying h = (h.0).0
 
-pub record_ready : (s : State) (depth : ℕ) (r : Begun) → IsAtStage s → HasRoomFor s.log (uncommitted s) → is_ready_up Record depth s ≡ true
-    → s.log.begun ≡ Some r → ReadyRecord s r
-record_ready s depth r far room ready is =
-    by_stage (λ t. HasRoomFor t.log (uncommitted t) → is_ready_up Record depth t ≡ true → t.log.begun ≡ Some r → ReadyRecord t r)
-    s every far room ready is
-  where
-    every : (g : Stage) → Holds s.log.number g → HasRoomFor (at s g).log (contexts_of g) → is_ready_up Record depth (at s g) ≡ true
-        → begun_of g ≡ Some r
-        → ReadyRecord (at s g) r
-    every g h has ready found =
-        let next = ready_record s g depth h ready in
-        subst (λ (k : Stage). Holds s.log.number k → HasRoomFor (at s k).log (contexts_of k) → begun_of k ≡ Some r → ReadyRecord (at s k) r)
-        (sym next.stage)
-        (λ holds room same. record_writes s next.x next.given next.written next.flying r holds next.more room same) h has found
+pub made_ops : (s : State) (d : Disk) (b : Batch) (r : Begun) → IsKeptUp s d → s.batch ≡ Some b → s.log.begun ≡ Some r → r.ops ≡ batch_ops b
+made_ops s d b r up is begun = made_way b.first b.second (piece_count (unit_count s.log.number (batch_ops b))) (batch_ops b) r (log_flying s.flying)
+    (subst (λ (o : Option Begun). IsUnderWay b.first b.second (piece_count (unit_count s.log.number (batch_ops b))) (batch_ops b) o (log_flying s.flying)) begun
+    (open_far s d b up is).far)
+
+pub record_ready : (s : State) (d : Disk) (r : Begun) → IsAlwaysKept s d → IsKeptUp s d → is_ready_up Record d.depth s ≡ true → s.log.begun ≡ Some r
+    → ReadyRecord s r
+record_ready s d r a up ready begun =
+    let left : Bool = begun_is (λ r. nat_lt r.given (pieces_of s.log.number r)) s in
+    let both = and_parts (batch_is (λ b. is_flushed b.first) s) left
+    (and_parts (batch_is (λ b. is_flushed b.first) s && left) (nat_lt (length s.flying) d.depth) ready).0 in
+    let b = some_is (λ b. is_flushed b.first) s.batch both.0 in
+    let ops : r.ops ≡ batch_ops b.0 = made_ops s d b.0 r up b.1 begun in
+    record {
+      batch = b.0;
+      is_open = b.1;
+      ops = ops;
+      more = ltb-true r.given (pieces_of s.log.number r) (test_of (λ r. nat_lt r.given (pieces_of s.log.number r)) s.log.begun r begun both.1);
+      room = subst (λ (o : List RowOp). s.log.tail + unit_count s.log.number o ≤ s.log.sup.half) (sym ops) (has_record s d b.0 a up b.1).room;
+    }
 
 -- there is one
 pub record_begun : (s : State) (depth : ℕ) → is_ready_up Record depth s ≡ true → is_some s.log.begun ≡ true
-record_begun s depth ready = of_begun s.log.begun (λ r. nat_lt r.given (piece_count (unit_count s.log.number r.ops)))
-    (and_parts _ _ (and_parts _ (nat_lt (length s.flying) depth) ready).0).1
-  where
-    of_begun : (o : Option Begun) (test : Begun → Bool) → option_map_or test o false ≡ true → is_some o ≡ true
-    of_begun None test is = absurd (cc)
-    of_begun (Some r) test is = refl
+record_begun s depth ready =
+    let left : Bool = begun_is (λ r. nat_lt r.given (pieces_of s.log.number r)) s in
+    let r = some_is (λ r. nat_lt r.given (pieces_of s.log.number r)) s.log.begun
+    (and_parts (batch_is (λ b. is_flushed b.first) s) left
+    (and_parts (batch_is (λ b. is_flushed b.first) s && left) (nat_lt (length s.flying) depth) ready).0).1 in
+    ap is_some r.1
 
 -- ---- Commit
 
@@ -259,54 +208,21 @@ pub record ReadyCommit (s : State) (b : Batch) : Type 0 where
   pub ops : writing.ops ≡ batch_ops b
   pub given : writing.given ≡ piece_count (unit_count s.log.number (batch_ops b))
   pub written : writing.written ≡ piece_count (unit_count s.log.number (batch_ops b))
-  pub context : Context
-  pub one : b.contexts ≡ context ∷ []
-  pub needs : sum_needs b.contexts ≤ s.log.reserved
-  pub units : unit_count s.log.number (batch_ops b) ≡ context.need
-  pub room : s.log.tail + unit_count s.log.number (batch_ops b) ≤ s.log.sup.half
-  pub flying : s.flying ≡ []
 
-commit_synced : (s : State) (x : Context) (pieces : ℕ) (b : Batch) → Holds s.log.number (synced x pieces)
-    → HasRoomFor (at s (synced x pieces)).log (x ∷ [])
-    → batch_of (synced x pieces) ≡ Some b → ReadyCommit (at s (synced x pieces)) b
-commit_synced s x pieces b h has is =
-    let fits : FitsRecord x = has.fits.0 in
-    let here : Batch = record { contexts = x ∷ []; first = flush.Flushed; second = flush.Flushed } in
-    let units : unit_count s.log.number (x.ops ++ []) ≡ x.need = units_needed x fits s.log.number in
-    subst (ReadyCommit (at s (synced x pieces))) (same_Some here b is) (record {
-      writing = record_with x pieces pieces;
-      begun = refl;
-      ops = refl;
-      given = h.all;
-      written = h.all;
-      context = x;
-      one = refl;
-      needs = omega (arith, has.reserved);
-      units = units;
-      room = room_behind s.log.tail s.log.reserved s.log.sup.half x.need (unit_count s.log.number (x.ops ++ [])) has.room has.reserved units;
-      flying = refl;
-    })
-
-pub commit_ready : (s : State) (depth : ℕ) (b : Batch) → IsAtStage s → HasRoomFor s.log (uncommitted s) → is_ready_up Commit depth s ≡ true
-    → s.batch ≡ Some b
-    → ReadyCommit s b
-commit_ready s depth b far room ready is =
-    by_stage (λ t. HasRoomFor t.log (uncommitted t) → is_ready_up Commit depth t ≡ true → t.batch ≡ Some b → ReadyCommit t b)
-    s every far room ready is
+pub commit_ready : (s : State) (d : Disk) (b : Batch) → IsKeptUp s d → is_ready_up Commit d.depth s ≡ true → s.batch ≡ Some b → ReadyCommit s b
+commit_ready s d b up ready is =
+    of_begun s.log.begun refl (synced_way b.first b.second (piece_count (unit_count s.log.number (batch_ops b))) (batch_ops b) s.log.begun (log_flying s.flying)
+    (test_of (λ b. is_flushed b.second) s.batch b is ready) (open_far s d b up is).far).1
   where
-    every : (g : Stage) → Holds s.log.number g → HasRoomFor (at s g).log (contexts_of g) → is_ready_up Commit depth (at s g) ≡ true
-        → batch_of g ≡ Some b
-        → ReadyCommit (at s g) b
-    every g h has ready found =
-        let next = next_commit g ready in
-        subst (λ (k : Stage). Holds s.log.number k → HasRoomFor (at s k).log (contexts_of k) → batch_of k ≡ Some b → ReadyCommit (at s k) b)
-        (sym next.stage) (commit_synced s next.x next.pieces b) h has found
+    of_begun : (o : Option Begun) → s.log.begun ≡ o → IsWritten (piece_count (unit_count s.log.number (batch_ops b))) (batch_ops b) o → ReadyCommit s b
+    of_begun None is w = absurd w
+    of_begun (Some r) is w = record { writing = r; begun = is; ops = w.0; given = w.1; written = w.2 }
 
 -- ---- Finish
 
-pub finish_ready : (s : State) (d : Disk) (depth : ℕ) → IsAlwaysKept s d → is_ready_up Finish depth s ≡ true
+pub finish_ready : (s : State) (d : Disk) → IsAlwaysKept s d → is_ready_up Finish d.depth s ≡ true
     → (s.acked < length s.book.commits) × NextAcked s.book.commits s.acked
-finish_ready s d depth a ready =
+finish_ready s d a ready =
     let below : s.acked < length s.book.commits = fewer s.acked (length s.book.commits) _ (ltb-true s.acked (applied_count s) ready) in
     (below, next_acked s.book.commits s.acked a.book.acks below)
   where
@@ -317,29 +233,7 @@ finish_ready s d depth a ready =
 
 -- the count of events fits its type, whatever is done next
 pub events_fit : (s : State) (d : Disk) → IsAlwaysKept s d → s.events + 1 < 2 ^ 64
-events_fit s d a = few s.events (work_left s) (length s.book.entries) a.events a.numbers.entries
+events_fit s d a = few s.events (work_left s) (length s.book.entries) a.events a.few.entries
   where
     few : (e w entries : ℕ) → e + w ≤ 2 ^ 61 + entry_work * entries → entries ≤ 1048576 → e + 1 < 2 ^ 64
     few e w entries le most = omega arith
-
--- ---- a drained kernel
-
-pub record IsIdle (s : State) : Type 0 where
-  pub pending : s.pending ≡ []
-  pub batch : s.batch ≡ None
-  pub flying : s.flying ≡ []
-  pub begun : s.log.begun ≡ None
-  pub acked : s.acked ≡ length s.book.commits
-  pub uncommitted : uncommitted s ≡ []
-
-pub drained_is_idle : (s : State) (d : Disk) → IsAtStage s → IsAlwaysKept s d → s.down ≡ None → is_drained d.depth s ≡ true → IsIdle s
-drained_is_idle s d far a up drained =
-    drained_stage (λ t. t.acked ≤ applied_count t → applied_count t ≤ t.acked → IsIdle t) s d far a up drained here a.book.within
-    (ltb-false s.acked (applied_count s) (sym (ready_up Finish d.depth s up) ∙ none_ready d.depth s drained Finish))
-  where
-    here : s.acked ≤ length s.book.commits - 0 → length s.book.commits - 0 ≤ s.acked → IsIdle (at s idle)
-    here le ge = record { pending = refl; batch = refl; flying = refl; begun = refl; acked = omega (arith, le, ge); uncommitted = refl }
-
--- and so has its device
-pub drained_device : (s : State) (d : Disk) → IsAlwaysKept s d → s.flying ≡ [] → d.flights ≡ []
-drained_device s d a none = idle_device s.flying d.flights a.flights none

@@ -11,7 +11,7 @@ use Rattle.store_steps.specs.declared.flight.Flying.{Flying}
 use Rattle.store_steps.specs.declared.flight.Job.{Job}
 use Rattle.store_steps.specs.State.{State}
 use Rattle.store_steps.specs.Changes.{flying_of, landed, reaped, after_done, after_good}
-use Rattle.store_facts.specs.Flights.{AreFlights, units_of, flying_units}
+use Rattle.store_facts.specs.Flights.{AreFlights}
 
 -- ---- nothing flies
 
@@ -76,58 +76,6 @@ module _ (ticket : Ticket) where
       of_test true few rest e = absurd (omega (arith, few, e))
       of_test false few rest e = ap (λ (gs : List Flying). f ∷ gs) (rest (omega (arith, e)))
 
-  -- one was, and its units are no longer in flight
-  pub record OneOut (fs : List Flying) : Type 0 where
-    pub flight : Flying
-    pub found : flying_of ticket fs ≡ Some flight
-    pub left : flying_units (others_of ticket fs) + units_of flight.job ≡ flying_units fs
-
-  one_out : (fs : List Flying) → length (others_of ticket fs) + 1 ≡ length fs → OneOut fs
-  one_out [] fewer = absurd (omega (arith, fewer))
-  one_out (f ∷ fs) fewer = of_test (is_its f) refl (λ e. one_out fs e) fewer
-    where
-      turned : (a b : ℕ) → a + b ≡ b + a
-      turned a b = omega arith
-
-      behind : (a b c d : ℕ) → b + c ≡ d → (a + b) + c ≡ a + d
-      behind a b c d is = omega (arith, is)
-
-      of_test : (b : Bool) → is_its f ≡ b → (length (others_of ticket fs) + 1 ≡ length fs → OneOut fs)
-          → length (cond (not b) (f ∷ others_of ticket fs) (others_of ticket fs)) + 1 ≡ length (f ∷ fs) → OneOut (f ∷ fs)
-      of_test true its rest e =
-          let same : others_of ticket fs ≡ fs = none_out fs (omega (arith, e)) in
-          record {
-            flight = f;
-            found = ap (λ (b : Bool). cond b (Some f) (flying_of ticket fs)) its;
-            left = ap (λ (b : Bool). flying_units (cond (not b) (f ∷ others_of ticket fs) (others_of ticket fs)) + units_of f.job) its
-                ∙ ap (λ (gs : List Flying). flying_units gs + units_of f.job) same ∙ turned (flying_units fs) (units_of f.job);
-          }
-      of_test false its rest e =
-          let out : OneOut fs = rest (omega (arith, e)) in
-          record {
-            flight = out.flight;
-            found = ap (λ (b : Bool). cond b (Some f) (flying_of ticket fs)) its ∙ out.found;
-            left = ap (λ (b : Bool). flying_units (cond (not b) (f ∷ others_of ticket fs) (others_of ticket fs)) + units_of (out.flight).job) its
-                ∙ behind (units_of f.job) (flying_units (others_of ticket fs)) (units_of (out.flight).job) (flying_units fs) out.left;
-          }
-
-  -- what holds of all that flies holds of it, and of the others
-  pub found_holds : (P : Flying → Type 0) (fs : List Flying) (f : Flying) → AllByRecursion P fs → flying_of ticket fs ≡ Some f → P f
-  found_holds P [] f all is = absurd (cc)
-  found_holds P (g ∷ fs) f all is = of_test (is_its g) (λ e. found_holds P fs f all.1 e) is
-    where
-      of_test : (b : Bool) → (flying_of ticket fs ≡ Some f → P f) → cond b (Some g) (flying_of ticket fs) ≡ Some f → P f
-      of_test true rest e = subst P (same_Some g f e) all.0
-      of_test false rest e = rest e
-
-  pub others_hold : (P : Flying → Type 0) (fs : List Flying) → AllByRecursion P fs → AllByRecursion P (others_of ticket fs)
-  others_hold P [] all = tt
-  others_hold P (g ∷ fs) all = of_test (is_its g) (others_hold P fs all.1)
-    where
-      of_test : (b : Bool) → AllByRecursion P (others_of ticket fs) → AllByRecursion P (cond (not b) (g ∷ others_of ticket fs) (others_of ticket fs))
-      of_test true rest = rest
-      of_test false rest = (all.0, rest)
-
   abbrev other_numbers : List ℕ → List ℕ
   other_numbers ns = filter (λ n. not (n == ticket.place)) ns
 
@@ -162,12 +110,9 @@ pub same_count : (flying : List Flying) (flights : List Flight) → AreFlights f
 same_count flying flights are =
     sym (length-map flying (λ (f : Flying). f.ticket.place)) ∙ ap (λ (ns : List ℕ). length ns) are ∙ length-map flights (λ (f : Flight). f.ticket)
 
--- A submission has ended: which it was, and what is left in flight.
+-- A submission has ended: what is left in flight.
 pub record Landed (flying : List Flying) (ticket : Ticket) (d d' : Disk) : Type 0 where
-  pub flight : Flying
-  pub found : flying_of ticket flying ≡ Some flight
   pub fewer : length (others_of ticket flying) + 1 ≡ length flying
-  pub left : flying_units (others_of ticket flying) + units_of flight.job ≡ flying_units flying
   pub flights : AreFlights (others_of ticket flying) d'.flights
   pub are_left : d'.flights ≡ without ticket.place d.flights
   pub units : d'.units ≡ d.units
@@ -180,12 +125,8 @@ landed_flight d d' ticket ok flying are ended =
     left_flights ticket flying d.flights are ∙ ap (map (λ (f : Flight). f.ticket)) (sym are_left) in
     let fewer : length (others_of ticket flying) + 1 ≡ length flying =
     ap (λ (n : ℕ). n + 1) (same_count (others_of ticket flying) d'.flights left) ∙ ended.fewer ∙ sym (same_count flying d.flights are) in
-    let out : OneOut ticket flying = one_out ticket flying fewer in
     record {
-      flight = out.flight;
-      found = out.found;
       fewer = fewer;
-      left = out.left;
       flights = left;
       are_left = are_left;
       units = ap (λ (x : Disk). x.units) ended.after;

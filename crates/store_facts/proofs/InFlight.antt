@@ -1,7 +1,7 @@
 -- What a submission in flight tells of the open batch, and what one that is ready to be committed is.
-use Rattle.std.proofs.Common.{◌≡◌, ℕ, ◌<◌, Bool, true, false, ◌==◌, ◌&&◌, nat_lt, List, [], ◌∷◌, ◌++◌, length, Option, Some, None, refl, sym, ap, subst, ◌∙◌}
+use Rattle.std.proofs.Common.{◌≡◌, ℕ, ◌+◌, ◌<◌, ◌≤◌, Bool, true, false, cond, ◌==◌, ◌&&◌, nat_lt, List, [], ◌∷◌, ◌++◌, length, Option, Some, None, refl, sym, ap, subst, ◌∙◌, arith}
 use Rattle.std.specs.List.{AllByRecursion}
-use Rattle.std.proofs.lemmas.Bool.{and_parts, ltb-true}
+use Rattle.std.proofs.lemmas.Bool.{and_parts, ltb-true, eq-eqb}
 use Rattle.block_device.specs.Disk.{Flight}
 use Rattle.block_device.specs.declared.device.Ticket.{Ticket}
 use Rattle.log_facts.specs.Flushing.{not_sent, sent, flushed}
@@ -17,24 +17,25 @@ use Rattle.store_steps.specs.declared.flight.Job.TheVariants as job
 use Rattle.store_steps.specs.declared.step.Step.TheVariants as step
 use Rattle.store_steps.specs.State.{Batch, State}
 use Rattle.meta_store.specs.Store.{Begun}
-use Rattle.store_steps.specs.Contexts.{chosen, batch_ops}
+use Rattle.store_steps.specs.Contexts.{batch_ops}
 use Rattle.store_steps.specs.Ready.{is_not_sent, is_flushed, pieces_of, batch_is, begun_is, is_ready_up}
 use Rattle.store_steps.specs.UnderWay.{flush_of, second_flush}
 use Rattle.store_facts.specs.Flights.{IsWritten, IsUnderWay}
-use Rattle.store_facts.specs.Jobs.{is_data, log_flying, IsAllGiven, IsBatchOpen, IsLogFar}
-use Rattle.store_facts.proofs.Readiness.{next_taken}
-use Rattle.store_facts.proofs.Stages.{Stage, at, IsAtStage, by_stage}
-use Rattle.store_facts.proofs.Landing.{IsLeftOut}
+use Rattle.store_facts.specs.Jobs.{units_for, is_data, log_flying, IsPartGiven, IsAllGiven, IsBatchOpen, IsLogFar, TouchesGiven, IsWriteOf, IsOfJob, AreOfJobs}
+use Rattle.store_facts.proofs.Lists.{StandsIn, any_stands, all_right}
+use Rattle.store_facts.proofs.Landing.{IsLeftOut, IsFlown, jobs_found}
 use Rattle.store_facts.proofs.Underway.{no_front, not_more, pieces_are, synced_way, Flies, first_flies, piece_flies, second_flies, what_flies}
 use Rattle.store_facts.proofs.Matching.{Matches}
-use Rattle.store_facts.proofs.MatchingMore.{log_parts}
+use Rattle.store_facts.proofs.MatchingMore.{log_parts, left_units}
 use Rattle.store_facts.proofs.MatchingSteps.{test_of, some_is}
 
--- its flush is the one that is in flight
-abbrev pub IsOfBatch : Option Batch → Option Begun → ℕ → Job → Type 0
-IsOfBatch batch begun place job.DataFlush = (b : Batch) × (batch ≡ Some b) × (flush_of b.first ≡ sent place)
-IsOfBatch batch begun place job.RecordFlush = (b : Batch) × (batch ≡ Some b) × (flush_of b.second ≡ sent place) × ((r : Begun) × (begun ≡ Some r))
-IsOfBatch batch begun place other = Unit {0}
+-- A flush is the batch's; a piece is of the record that is being written, and wasn't counted as written yet; a data write is of a context that
+-- waits, and so many of its units were given that weren't counted as done.
+abbrev pub IsOf : List Context → Option Batch → Option Begun → ℕ → Job → Type 0
+IsOf pending batch begun place job.DataFlush = (b : Batch) × (batch ≡ Some b) × (flush_of b.first ≡ sent place)
+IsOf pending batch begun place job.RecordFlush = (b : Batch) × (batch ≡ Some b) × (flush_of b.second ≡ sent place) × ((r : Begun) × (begun ≡ Some r))
+IsOf pending batch begun place job.Record = (r : Begun) × (begun ≡ Some r) × (r.written < r.given)
+IsOf pending batch begun place (job.Data of count) = StandsIn (λ x. (x.place ≡ of) × (x.done + count ≤ x.given)) pending
 
 written_some : (pieces : ℕ) (ops : List RowOp) (o : Option Begun) → IsWritten pieces ops o → (r : Begun) × (o ≡ Some r)
 written_some pieces ops None w = absurd w
@@ -42,7 +43,7 @@ written_some pieces ops (Some r) w = (r, refl)
 
 -- what is left out of what flies tells it
 pub found_tells : (s : State) (flights : List Flight) (ticket : Ticket) (out : IsLeftOut ticket s.flying) → Matches s flights
-    → IsOfBatch s.batch s.log.begun ticket.place out.flight.job
+    → IsOf s.pending s.batch s.log.begun ticket.place out.flight.job
 found_tells s flights ticket out m = of_job out.flight.job refl
   where
     front : List Flying
@@ -55,31 +56,65 @@ found_tells s flights ticket out m = of_job out.flight.job refl
     log is = subst (λ (fs : List Flying). IsLogFar s.log.number s.batch s.log.begun fs) (log_parts ticket s.flying out is) m.log
 
     of_first : (o : Option Batch) → out.flight.job ≡ job.DataFlush → IsLogFar s.log.number o s.log.begun (front ++ out.flight ∷ back)
-        → IsOfBatch o s.log.begun ticket.place job.DataFlush
+        → IsOf s.pending o s.log.begun ticket.place job.DataFlush
     of_first None is h = absurd (no_front front out.flight back h.1)
     of_first (Some b) is h = of_flies (what_flies b.first b.second _ _ s.log.begun front out.flight back h.far)
       where
         of_flies : Flies b.first b.second (piece_count (unit_count s.log.number (batch_ops b))) (batch_ops b) s.log.begun front out.flight back
-            → IsOfBatch (Some b) s.log.begun ticket.place job.DataFlush
+            → IsOf s.pending (Some b) s.log.begun ticket.place job.DataFlush
         of_flies (first_flies its second first none left) = (b, refl, ap flush_of first ∙ ap sent out.its)
         of_flies (piece_flies its first second r made w) = absurd (cc)
         of_flies (second_flies its first second w left) = absurd (cc)
 
     of_second : (o : Option Batch) → out.flight.job ≡ job.RecordFlush → IsLogFar s.log.number o s.log.begun (front ++ out.flight ∷ back)
-        → IsOfBatch o s.log.begun ticket.place job.RecordFlush
+        → IsOf s.pending o s.log.begun ticket.place job.RecordFlush
     of_second None is h = absurd (no_front front out.flight back h.1)
     of_second (Some b) is h = of_flies (what_flies b.first b.second _ _ s.log.begun front out.flight back h.far)
       where
         of_flies : Flies b.first b.second (piece_count (unit_count s.log.number (batch_ops b))) (batch_ops b) s.log.begun front out.flight back
-            → IsOfBatch (Some b) s.log.begun ticket.place job.RecordFlush
+            → IsOf s.pending (Some b) s.log.begun ticket.place job.RecordFlush
         of_flies (first_flies its second first none left) = absurd (cc)
         of_flies (piece_flies its first second r made w) = absurd (cc)
         of_flies (second_flies its first second w left) = (b, refl, ap flush_of second ∙ ap sent out.its, written_some _ _ s.log.begun w)
 
-    of_job : (j : Job) → out.flight.job ≡ j → IsOfBatch s.batch s.log.begun ticket.place j
-    of_job (job.Data place count) is = tt
+    of_piece : (o : Option Batch) → out.flight.job ≡ job.Record → IsLogFar s.log.number o s.log.begun (front ++ out.flight ∷ back)
+        → IsOf s.pending o s.log.begun ticket.place job.Record
+    of_piece None is h = absurd (no_front front out.flight back h.1)
+    of_piece (Some b) is h = of_flies (what_flies b.first b.second _ _ s.log.begun front out.flight back h.far)
+      where
+        fewer : (written flying given : ℕ) → (written + 1) + flying ≡ given → written < given
+        fewer written flying given counted = omega (arith, counted)
+
+        of_flies : Flies b.first b.second (piece_count (unit_count s.log.number (batch_ops b))) (batch_ops b) s.log.begun front out.flight back
+            → IsOf s.pending (Some b) s.log.begun ticket.place job.Record
+        of_flies (first_flies its first second none left) = absurd (cc)
+        of_flies (piece_flies its first second r made w) = (r, made, fewer r.written (length (front ++ back)) r.given w.2)
+        of_flies (second_flies its first second w left) = absurd (cc)
+
+    of_data : (place count : ℕ) → out.flight.job ≡ job.Data place count → StandsIn (λ x. (x.place ≡ place) × (x.done + count ≤ x.given)) s.pending
+    of_data place count is =
+        let flown : IsFlown s.log s.pending out.flight =
+        jobs_found s.log s.pending out.front out.flight out.back flights (subst (λ (fs : List Flying). AreOfJobs s.log s.pending fs flights) out.is m.touches) in
+        let of : IsWriteOf s.pending place count flown.flight = subst (λ (j : Job). IsOfJob s.log s.pending j flown.flight) is flown.of in
+        let at : StandsIn (λ z. (z.place ≡ place) × TouchesGiven z flown.flight) s.pending = any_stands (λ z. (z.place ≡ place) × TouchesGiven z flown.flight) s.pending of.of in
+        let part : IsPartGiven s.flying at.item =
+        (all_right (IsPartGiven s.flying) at.front (at.item ∷ at.back) (subst (AllByRecursion (IsPartGiven s.flying)) at.is m.waiting)).0 in
+        record {
+          front = at.front;
+          item = at.item;
+          back = at.back;
+          is = at.is;
+          holds = (at.holds.0, within (at.item).done count (at.item).given _ _ _ part.counted (left_units (at.item).place ticket s.flying out)
+              (ap (λ (j : Job). units_for (at.item).place j) is ∙ ap (λ (b : Bool). cond b count 0) (eq-eqb place (at.item).place (sym at.holds.0))));
+        }
+      where
+        within : (done count given all left one : ℕ) → done + all ≡ given → left + one ≡ all → one ≡ count → done + count ≤ given
+        within done count given all left one counted is same = omega (arith, counted, is, same)
+
+    of_job : (j : Job) → out.flight.job ≡ j → IsOf s.pending s.batch s.log.begun ticket.place j
+    of_job (job.Data place count) is = of_data place count is
     of_job job.DataFlush is = of_first s.batch is (log (ap is_data is))
-    of_job job.Record is = tt
+    of_job job.Record is = of_piece s.batch is (log (ap is_data is))
     of_job job.RecordFlush is = of_second s.batch is (log (ap is_data is))
 
 -- both flushes have ended, and all contexts are written
@@ -87,10 +122,6 @@ pub record IsSynced (b : Batch) : Type 0 where
   pub first : flush_of b.first ≡ flushed
   pub second : flush_of b.second ≡ flushed
   pub written : AllByRecursion IsAllGiven b.contexts
-
--- the batch of a context once both of its flushes have ended
-abbrev pub flushed_batch : Context → Batch
-flushed_batch x = record { contexts = x ∷ []; first = flush.Flushed; second = flush.Flushed }
 
 flushed_is : (f : FlushState) → is_flushed f ≡ true → flush_of f ≡ flushed
 flushed_is flush.NotSent is = absurd (cc)
@@ -114,15 +145,6 @@ ready_synced s flights depth b m ready is =
     let second : is_flushed b.second ≡ true = test_of (λ b. is_flushed b.second) s.batch b is ready in
     let done = synced_way b.first b.second (piece_count (unit_count s.log.number (batch_ops b))) (batch_ops b) s.log.begun (log_flying s.flying) second far.far in
     record { first = ap flush_of done.0; second = flushed_is b.second second; written = far.written }
-
--- what is taken into a batch is all that waits
-pub record IsTaken (s : State) (x : Context) : Type 0 where
-  pub pending : s.pending ≡ x ∷ []
-  pub batch : s.batch ≡ None
-
-pub chosen_taken : (s : State) (x : Context) → IsAtStage s → chosen s.pending ≡ Some x → IsTaken s x
-chosen_taken s x far = by_stage (λ t. chosen t.pending ≡ Some x → IsTaken t x) s
-    (λ g holds is. subst (λ (k : Stage). IsTaken (at s k) x) (sym (next_taken s.log.number g x holds is).stage) (record { pending = refl; batch = refl })) far
 
 -- while no record is made the flush behind it isn't submitted
 unmade_way : (first second : FlushState) (pieces : ℕ) (ops : List RowOp) (flying : List Flying) → IsUnderWay first second pieces ops None flying

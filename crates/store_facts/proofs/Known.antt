@@ -1,6 +1,8 @@
 -- What a kernel that keeps its facts knows at each call: the conditions of what it calls in turn.
-use Rattle.std.proofs.Common.{◌≡◌, ℕ, zero, suc, ◌+◌, ◌-◌, ◌*◌, ◌%◌, ◌^◌, ◌<◌, ◌≤◌, ◌==◌, ◌&&◌, Bool, true, nat_lt, List, [], ◌∷◌, ◌++◌, length, take, drop, Option, Some, None, IfSome, refl, sym, subst, arith}
+use Rattle.std.proofs.Common.{◌≡◌, ℕ, zero, suc, ◌+◌, ◌-◌, ◌*◌, ◌%◌, ◌^◌, ◌<◌, ◌≤◌, ◌==◌, ◌&&◌, Bool, true, nat_lt, List, [], ◌∷◌, ◌++◌, length, take, drop, Contains, Option, Some, None, IfSome, refl, sym, ap, subst, arith}
 use Rattle.std.specs.List.{AllByRecursion}
+use Rattle.std.specs.Option.{option_map_or}
+use Rattle.std.proofs.lemmas.Bool.{and_parts, eqb-true}
 use Rattle.byte_maps.proofs.UnitLemmas.{length-units_from}
 use Rattle.block_device.specs.Disk.{Disk, IsNotInFlight}
 use Rattle.block_device.specs.Facts.{IsUntouched}
@@ -18,53 +20,35 @@ use Rattle.store_steps.specs.declared.step.Step.TheVariants.{Data, Flush, Seal, 
 use Rattle.meta_store.specs.Store.{Begun}
 use Rattle.store_steps.specs.State.{Batch, State}
 use Rattle.store_steps.specs.Contexts.{Unsent, unsent_units, run_bytes, next_unsent, batch_ops}
-use Rattle.store_steps.specs.Ready.{is_not_sent, pieces_of, batch_is, begun_is, is_ready, is_drained}
+use Rattle.store_steps.specs.Ready.{is_not_sent, pieces_of, batch_is, begun_is, applied_count, is_ready, is_drained}
 use Rattle.store_steps.specs.Steps.{piece_unit, piece_bytes}
-use Rattle.store_facts.specs.Jobs.{log_flying, IsBatchOpen, IsLogFar, IsNone, IsGivenPiece}
+use Rattle.store_steps.specs.UnderWay.{all_fresh}
+use Rattle.store_facts.specs.Jobs.{IsNone, IsGivenPiece}
 use Rattle.store_facts.specs.Kept.{IsKept, IsKeptUp}
 use Rattle.store_facts.proofs.Numbers.{NextAcked}
-use Rattle.store_facts.proofs.RunUnits.{row_at, all_front}
-use Rattle.store_facts.proofs.Untouched.{all_then, run_untouched}
-use Rattle.store_facts.proofs.RowsFacts.{next_on_data}
-use Rattle.store_facts.proofs.Conditions.{ready_not_down, ready_by_table, data_room, flush_room, record_room, sync_room, ReadyData, data_ready, ReadySeal, seal_ready, ReadyRecord, record_ready, ReadyCommit, commit_ready, finish_ready, events_fit, IsIdle, drained_is_idle, drained_device}
-use Rattle.store_facts.proofs.Alone.{far_of, none_waits}
+use Rattle.store_facts.proofs.Flying.{idle_device}
+use Rattle.store_facts.proofs.Lists.{StandsIn, all_join}
+use Rattle.store_facts.proofs.RunUnits.{IsRunOf, row_at, all_front}
+use Rattle.store_facts.proofs.RunPlaces.{run_has, run_inside}
+use Rattle.store_facts.proofs.Untouched.{run_untouched}
+use Rattle.store_facts.proofs.RowsFacts.{units_of, next_on_data}
+use Rattle.store_facts.proofs.Readiness.{ready_not_down, ready_by_table, IsIdle, drained_is_idle}
+use Rattle.store_facts.proofs.Conditions.{room_at_device, ReadyData, data_ready, HasRecord, has_record, number_low, ReadyRecord, record_ready, ReadyCommit, commit_ready, finish_ready, events_fit}
+use Rattle.store_facts.proofs.Apart.{none_given, fresh_taken, taken_fresh, batch_apart, AreOthers, others_apart, record_behind, not_in_record, not_given}
 use Rattle.store_facts.proofs.Unflown.{unflown, none_left, rest_not_given, flush_unflown, sync_unflown}
 use Rattle.store_facts.proofs.MatchingSteps.{test_of, some_is}
-use Rattle.std.specs.Option.{option_map_or}
-use Rattle.std.proofs.lemmas.Bool.{and_parts, eqb-true}
-use Rattle.plan_rows.specs.declared.plan.FreshUnit.{FreshUnit}
-use Rattle.store_steps.specs.UnderWay.{all_fresh}
 
 -- ---- what a flush covers isn't in flight
-
--- where a batch is open no other context waits
-batch_alone : (s : State) (d : Disk) (b : Batch) → IsKeptUp s d → s.batch ≡ Some b → s.pending ≡ []
-batch_alone s d b up is =
-    let far : IsBatchOpen s.log.number b s.log.begun (log_flying s.flying) =
-    subst (λ (o : Option Batch). IsLogFar s.log.number o s.log.begun (log_flying s.flying)) is up.flights.log in
-    none_waits s.pending b far.some
-    (subst (λ (o : Option Batch). length (option_map_or (λ (c : Batch). c.contexts) o [] ++ s.pending) ≤ 1) is up.few)
 
 -- at the first flush no write in flight touches a unit of the batch
 pub flush_covers : (s : State) (d : Disk) (b : Batch) → IsKept s d → is_ready Flush d.depth s ≡ true → s.batch ≡ Some b
     → AllByRecursion (λ f. IsUntouched d.flights f.unit) (all_fresh b.contexts)
-flush_covers s d b kept ready is = each (all_fresh b.contexts)
-  where
-    down : s.down ≡ None
-    down = ready_not_down s d.depth Flush refl ready
-
-    up : IsKeptUp s d
-    up = kept.up down
-
-    each : (fresh : List FreshUnit) → AllByRecursion (λ f. IsUntouched d.flights f.unit) fresh
-    each [] = tt
-    each (f ∷ fs) = (
-      flush_unflown s d.flights b f.unit up.flights is
-          (test_of (λ b. is_not_sent b.first) s.batch b is
-          (and_parts (batch_is (λ b. is_not_sent b.first) s) (nat_lt (length s.flying) d.depth) (ready_by_table s d.depth Flush down ready)).0)
-          (subst (λ (xs : List Context). AllByRecursion (λ x. IsNone (take x.given x.fresh) f.unit) xs) (sym (batch_alone s d b up is)) tt),
-      each fs,
-    )
+flush_covers s d b kept ready is =
+    let down : s.down ≡ None = ready_not_down s d.depth Flush refl ready in
+    let first : is_not_sent b.first ≡ true = test_of (λ b. is_not_sent b.first) s.batch b is
+    (and_parts (batch_is (λ b. is_not_sent b.first) s) (nat_lt (length s.flying) d.depth) (ready_by_table s d.depth Flush down ready)).0 in
+    taken_fresh (IsUntouched d.flights) b.contexts
+    (λ u c. flush_unflown s d.flights b u (kept.up down).flights is first (none_given u s.pending (batch_apart s d kept down b is u c)))
 
 -- and at the second none touches a unit of the record
 pub sync_covers : (s : State) (d : Disk) (r : Begun) (j : ℕ) → IsKept s d → is_ready Sync d.depth s ≡ true → s.log.begun ≡ Some r
@@ -79,73 +63,104 @@ sync_covers s d r j kept ready begun below =
     sync_unflown s d.flights b.0 r (active_unit s.log.sup + (s.log.tail + j)) up.flights b.1 begun
     (test_of (λ b. is_not_sent b.second) s.batch b.0 b.1 both.0)
     (eqb-true r.written (pieces_of s.log.number r) (test_of (λ r. r.written == pieces_of s.log.number r) s.log.begun r begun both.1))
-    (subst (λ (xs : List Context). AllByRecursion (λ x. IsNone (take x.given x.fresh) (active_unit s.log.sup + (s.log.tail + j))) xs)
-    (sym (batch_alone s d b.0 up b.1)) tt)
+    (not_given s d kept down j (within s.log.tail j (unit_count s.log.number r.ops) s.log.sup.half below (record_behind s d kept down r begun)))
+  where
+    within : (tail j units half : ℕ) → j < units → tail + units ≤ half → tail + j < half
+    within tail j units half lt le = omega (arith, lt, le)
 
 -- ---- the device takes one more submission where one is ready
 
 pub known_data_room : (s : State) (d : Disk) → IsKept s d → is_ready Data d.depth s ≡ true → length d.flights < d.depth
-known_data_room s d kept ready = data_room s d kept.always (ready_by_table s d.depth Data (ready_not_down s d.depth Data refl ready) ready)
+known_data_room s d kept ready = room_at_device s d kept.always
+    (and_parts _ (nat_lt (length s.flying) d.depth) (ready_by_table s d.depth Data (ready_not_down s d.depth Data refl ready) ready)).1
 
 pub known_flush_room : (s : State) (d : Disk) → IsKept s d → is_ready Flush d.depth s ≡ true → length d.flights < d.depth
-known_flush_room s d kept ready = flush_room s d kept.always (ready_by_table s d.depth Flush (ready_not_down s d.depth Flush refl ready) ready)
+known_flush_room s d kept ready = room_at_device s d kept.always
+    (and_parts _ (nat_lt (length s.flying) d.depth) (ready_by_table s d.depth Flush (ready_not_down s d.depth Flush refl ready) ready)).1
 
 pub known_record_room : (s : State) (d : Disk) → IsKept s d → is_ready Record d.depth s ≡ true → length d.flights < d.depth
-known_record_room s d kept ready = record_room s d kept.always (ready_by_table s d.depth Record (ready_not_down s d.depth Record refl ready) ready)
+known_record_room s d kept ready = room_at_device s d kept.always
+    (and_parts _ (nat_lt (length s.flying) d.depth) (ready_by_table s d.depth Record (ready_not_down s d.depth Record refl ready) ready)).1
 
 pub known_sync_room : (s : State) (d : Disk) → IsKept s d → is_ready Sync d.depth s ≡ true → length d.flights < d.depth
-known_sync_room s d kept ready = sync_room s d kept.always (ready_by_table s d.depth Sync (ready_not_down s d.depth Sync refl ready) ready)
+known_sync_room s d kept ready = room_at_device s d kept.always
+    (and_parts _ (nat_lt (length s.flying) d.depth) (ready_by_table s d.depth Sync (ready_not_down s d.depth Sync refl ready) ready)).1
 
 -- ---- each step
 
 pub known_data : (s : State) (d : Disk) (n : Unsent) → IsKept s d → is_ready Data d.depth s ≡ true → next_unsent s.pending ≡ Some n → ReadyData s n
-known_data s d n kept ready is =
-    let up : IsKeptUp s d = kept.up (ready_not_down s d.depth Data refl ready) in
-    data_ready s n (far_of s d up) up.room is
+known_data s d n kept ready is = data_ready s n (kept.up (ready_not_down s d.depth Data refl ready)).room is
 
-pub known_seal : (s : State) (d : Disk) (b : Batch) → IsKept s d → is_ready Seal d.depth s ≡ true → s.batch ≡ Some b → ReadySeal s b
-known_seal s d b kept ready is =
-    let down : s.down ≡ None = ready_not_down s d.depth Seal refl ready in
-    seal_ready s d b (far_of s d (kept.up down)) kept.always (kept.up down).room (ready_by_table s d.depth Seal down ready) is
+pub known_seal : (s : State) (d : Disk) (b : Batch) → IsKept s d → is_ready Seal d.depth s ≡ true → s.batch ≡ Some b → HasRecord s b
+known_seal s d b kept ready is = has_record s d b kept.always (kept.up (ready_not_down s d.depth Seal refl ready)) is
 
 pub known_record : (s : State) (d : Disk) (r : Begun) → IsKept s d → is_ready Record d.depth s ≡ true → s.log.begun ≡ Some r → ReadyRecord s r
 known_record s d r kept ready is =
     let down : s.down ≡ None = ready_not_down s d.depth Record refl ready in
-    record_ready s d.depth r (far_of s d (kept.up down)) (kept.up down).room (ready_by_table s d.depth Record down ready) is
+    record_ready s d r kept.always (kept.up down) (ready_by_table s d.depth Record down ready) is
 
 pub known_commit : (s : State) (d : Disk) (b : Batch) → IsKept s d → is_ready Commit d.depth s ≡ true → s.batch ≡ Some b → ReadyCommit s b
 known_commit s d b kept ready is =
     let down : s.down ≡ None = ready_not_down s d.depth Commit refl ready in
-    commit_ready s d.depth b (far_of s d (kept.up down)) (kept.up down).room (ready_by_table s d.depth Commit down ready) is
+    commit_ready s d b (kept.up down) (ready_by_table s d.depth Commit down ready) is
+
+pub known_batch : (s : State) (d : Disk) (b : Batch) → IsKept s d → s.down ≡ None → s.batch ≡ Some b → HasRecord s b
+known_batch s d b kept down is = has_record s d b kept.always (kept.up down) is
 
 pub known_finish : (s : State) (d : Disk) → IsKept s d → is_ready Finish d.depth s ≡ true
     → (s.acked < length s.book.commits) × NextAcked s.book.commits s.acked
 known_finish s d kept ready =
-    finish_ready s d d.depth kept.always (ready_by_table s d.depth Finish (ready_not_down s d.depth Finish refl ready) ready)
+    finish_ready s d kept.always (ready_by_table s d.depth Finish (ready_not_down s d.depth Finish refl ready) ready)
 
 pub known_events : (s : State) (d : Disk) → IsKept s d → s.events + 1 < 2 ^ 64
 known_events s d kept = events_fit s d kept.always
 
 -- a drained kernel has nothing under way, and each commit is acknowledged
 pub known_idle : (s : State) (d : Disk) → IsKept s d → s.down ≡ None → is_drained d.depth s ≡ true → IsIdle s
-known_idle s d kept down drained = drained_is_idle s d (far_of s d (kept.up down)) kept.always down drained
+known_idle s d kept down drained = drained_is_idle s d kept.always.device.depth (kept.up down).flights down drained
 
 -- ---- the next data write
 
 -- no unit of it is in flight
 pub data_untouched : (s : State) (d : Disk) (n : Unsent) → IsKept s d → is_ready Data d.depth s ≡ true → next_unsent s.pending ≡ Some n
     → (k : ℕ) → n.first.unit ≤ k → k < n.first.unit + length (unsent_units n) → IsUntouched d.flights k
-data_untouched s d n kept ready is =
-    let up : IsKeptUp s d = kept.up (ready_not_down s d.depth Data refl ready) in
-    let known : ReadyData s n = data_ready s n (far_of s d up) up.room is in
-    let none : AllByRecursion (λ f. IsNone (take known.x.given known.x.fresh) f.unit) (unsent_units n) =
-    all_front (λ f. IsNone (take known.x.given known.x.fresh) f.unit) (unsent_units n) (drop (known.x.given + length (unsent_units n)) known.x.fresh)
-    (subst (λ (fs : List FreshUnit). AllByRecursion (λ f. IsNone (take known.x.given known.x.fresh) f.unit) fs) known.run.left (none_left known.x known.fits)) in
-    row_at (IsUntouched d.flights) n.first.unit (unsent_units n) known.run.row
-    (all_then (λ f. IsNone (take known.x.given known.x.fresh) f.unit) (λ f. IsUntouched d.flights f.unit)
-    (λ f out. unflown s.log s.pending s.flying d.flights f.unit up.flights.touches
-    (subst (λ (xs : List Context). AllByRecursion (λ x. IsNone (take x.given x.fresh) f.unit) xs) (sym known.pending) (out, tt))
-    (subst (λ (o : Option Begun). IfSome o (λ r. ¬ IsGivenPiece s.log r f.unit)) (sym known.begun) tt)) (unsent_units n) none)
+data_untouched s d n kept ready is = row_at (IsUntouched d.flights) n.first.unit (unsent_units n) at.holds.row (each (unsent_units n) on own none)
+  where
+    down : s.down ≡ None
+    down = ready_not_down s d.depth Data refl ready
+
+    known : ReadyData s n
+    known = known_data s d n kept ready is
+
+    at : StandsIn (λ x. IsRunOf x n) s.pending
+    at = known.at
+
+    x : Context
+    x = at.item
+
+    on : AllByRecursion (λ f. IsDataUnit s.log.sup f.unit) (unsent_units n)
+    on = next_on_data s d kept down n is
+
+    own : AllByRecursion (λ f. Contains (units_of x.fresh) f.unit) (unsent_units n)
+    own = run_has x n at.holds (λ f. Contains (units_of x.fresh) f.unit) (fresh_taken (Contains (units_of x.fresh)) x.fresh (λ u c. c))
+
+    none : AllByRecursion (λ f. IsNone (take x.given x.fresh) f.unit) (unsent_units n)
+    none = all_front (λ f. IsNone (take x.given x.fresh) f.unit) (unsent_units n) (drop (x.given + length (unsent_units n)) x.fresh)
+        (subst (λ (fs : List FreshUnit). AllByRecursion (λ f. IsNone (take x.given x.fresh) f.unit) fs) at.holds.left (none_left x known.fits))
+
+    spared : (u : ℕ) → Contains (units_of x.fresh) u → IsNone (take x.given x.fresh) u → AllByRecursion (λ y. IsNone (take y.given y.fresh) u) s.pending
+    spared u c mine =
+        let others : AreOthers s d kept down at.front at.back u = others_apart s d kept down at.front x at.back at.is u c in
+        subst (AllByRecursion (λ y. IsNone (take y.given y.fresh) u)) (sym at.is)
+        (all_join (λ y. IsNone (take y.given y.fresh) u) at.front (x ∷ at.back) (none_given u at.front others.ahead) (mine, none_given u at.back others.behind))
+
+    each : (fs : List FreshUnit) → AllByRecursion (λ f. IsDataUnit s.log.sup f.unit) fs → AllByRecursion (λ f. Contains (units_of x.fresh) f.unit) fs
+        → AllByRecursion (λ f. IsNone (take x.given x.fresh) f.unit) fs → AllByRecursion (λ f. IsUntouched d.flights f.unit) fs
+    each [] a b c = tt
+    each (f ∷ fs) a b c = (
+      unflown s.log s.pending s.flying d.flights f.unit (kept.up down).flights.touches (spared f.unit b.0 c.0) (not_in_record s d kept down f.unit a.0),
+      each fs a.1 b.1 c.1,
+    )
 
 pub next_data_untouched : (s : State) (d : Disk) (n : Unsent) → IsKept s d → is_ready Data d.depth s ≡ true → next_unsent s.pending ≡ Some n
     → IsNotInFlight d n.first.unit (length (run_bytes (unsent_units n)))
@@ -159,13 +174,8 @@ pub data_inside : (s : State) (d : Disk) (n : Unsent) → IsKept s d → is_read
 data_inside s d n kept ready is =
     let down : s.down ≡ None = ready_not_down s d.depth Data refl ready in
     let known : ReadyData s n = known_data s d n kept ready is in
-    let last : IsDataUnit s.log.sup (n.first.unit + length n.more) =
-    row_at (IsDataUnit s.log.sup) n.first.unit (unsent_units n) known.run.row (next_on_data s d kept down n is) (n.first.unit + length n.more)
-    (omega arith) (omega arith) in
-    inside n.first.unit (length n.more) s.log.sup.units d.units (length (run_bytes (unsent_units n))) last.1 kept.always.units known.size
-  where
-    inside : (first more all units size : ℕ) → first + more < all → all ≡ units → size ≡ 4096 * suc more → 4096 * first + size ≤ 4096 * units
-    inside first more all units size lt same is = omega (arith, lt, same, is)
+    subst (λ (units : ℕ). 4096 * n.first.unit + length (run_bytes (unsent_units n)) ≤ 4096 * units) kept.always.units
+    (run_inside (known.at).item n (known.at).holds s.log.sup known.fits (next_on_data s d kept down n is))
 
 -- ---- the next piece of a record
 
@@ -189,12 +199,19 @@ piece_size s d r kept ready is =
 pub record_untouched : (s : State) (d : Disk) (r : Begun) → IsKept s d → is_ready Record d.depth s ≡ true → s.log.begun ≡ Some r
     → (j : ℕ) → j < given_from (unit_count s.log.number r.ops) r.given → IsUntouched d.flights (active_unit s.log.sup + (s.log.tail + j))
 record_untouched s d r kept ready is =
-    let up : IsKeptUp s d = kept.up (ready_not_down s d.depth Record refl ready) in
+    let down : s.down ≡ None = ready_not_down s d.depth Record refl ready in
+    let known : ReadyRecord s r = known_record s d r kept ready is in
     λ j below.
-    unflown s.log s.pending s.flying d.flights (active_unit s.log.sup + (s.log.tail + j)) up.flights.touches
-    (subst (λ (xs : List Context). AllByRecursion (λ x. IsNone (take x.given x.fresh) (active_unit s.log.sup + (s.log.tail + j))) xs)
-    (sym (known_record s d r kept ready is).pending) tt)
+    unflown s.log s.pending s.flying d.flights (active_unit s.log.sup + (s.log.tail + j)) (kept.up down).flights.touches
+    (not_given s d kept down j (within s.log.tail j _ (unit_count s.log.number r.ops) s.log.sup.half below
+    (given_within (unit_count s.log.number r.ops) r.given) known.room))
     (subst (λ (o : Option Begun). IfSome o (λ k. ¬ IsGivenPiece s.log k (active_unit s.log.sup + (s.log.tail + j)))) (sym is) (rest_not_given s.log r j below))
+  where
+    given_within : (units given : ℕ) → given_from units given ≤ units
+    given_within units given = omega arith
+
+    within : (tail j from units half : ℕ) → j < from → from ≤ units → tail + units ≤ half → tail + j < half
+    within tail j from units half lt le room = omega (arith, lt, le, room)
 
 pub next_piece_untouched : (s : State) (d : Disk) (r : Begun) → IsKept s d → is_ready Record d.depth s ≡ true → s.log.begun ≡ Some r
     → IsNotInFlight d (piece_unit s.log r) (length (piece_bytes s.log.number r))
@@ -242,14 +259,20 @@ pub idle_batch : (s : State) (d : Disk) → IsKept s d → s.down ≡ None → i
 idle_batch s d kept up drained = (known_idle s d kept up drained).batch
 
 pub idle_disk : (s : State) (d : Disk) → IsKept s d → s.down ≡ None → is_drained d.depth s ≡ true → d.flights ≡ []
-idle_disk s d kept up drained = drained_device s d kept.always (known_idle s d kept up drained).flying
+idle_disk s d kept up drained = idle_device s.flying d.flights kept.always.flights (known_idle s d kept up drained).flying
 
 pub idle_acked : (s : State) (d : Disk) → IsKept s d → s.down ≡ None → is_drained d.depth s ≡ true → s.acked ≡ length s.book.commits
-idle_acked s d kept up drained = (known_idle s d kept up drained).acked
+idle_acked s d kept up drained =
+    let idle : IsIdle s = known_idle s d kept up drained in
+    all s.acked (length s.book.commits) (applied_count s) kept.always.book.within idle.applied
+    (ap (λ (o : Option Batch). length s.book.commits - option_map_or (λ (b : Batch). length b.contexts) o 0) idle.batch)
+  where
+    all : (acked commits applied : ℕ) → acked ≤ applied → applied ≤ acked → applied ≡ commits - 0 → acked ≡ commits
+    all acked commits applied le ge is = omega (arith, le, ge, is)
 
 pub few_units : (s : State) (d : Disk) (n : Unsent) → IsKept s d → is_ready Data d.depth s ≡ true → next_unsent s.pending ≡ Some n
     → (0 < length (unsent_units n)) × (length (unsent_units n) ≤ 64)
-few_units s d n kept ready is = (omega arith, (known_data s d n kept ready is).run.short)
+few_units s d n kept ready is = (omega arith, ((known_data s d n kept ready is).at).holds.short)
 
 pub whole_units : (s : State) (d : Disk) (n : Unsent) → IsKept s d → is_ready Data d.depth s ≡ true → next_unsent s.pending ≡ Some n
     → length (run_bytes (unsent_units n)) ≡ 4096 * length (unsent_units n)
@@ -264,7 +287,7 @@ pub record_spelled : (s : State) (d : Disk) (b : Batch) → IsKept s d → is_re
 record_spelled s d b kept ready is = let k = known_seal s d b kept ready is in (k.fit, k.body)
 
 pub record_number : (s : State) (d : Disk) (b : Batch) → IsKept s d → is_ready Seal d.depth s ≡ true → s.batch ≡ Some b → s.log.number < 2 ^ 62
-record_number s d b kept ready is = (known_seal s d b kept ready is).number
+record_number s d b kept ready is = number_low s d kept.always
 
 pub ruleset idle_laws = (idle_pending, idle_batch, idle_disk, idle_acked)
 

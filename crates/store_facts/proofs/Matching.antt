@@ -31,7 +31,6 @@ use Rattle.store_steps.specs.Ready.{is_not_sent, is_flushed, pieces_of}
 use Rattle.store_steps.specs.Steps.{piece_unit, piece_bytes}
 use Rattle.store_facts.specs.Flights.{AreFlights, IsUnderWay}
 use Rattle.store_facts.specs.Jobs.{units_for, units_flying, is_data, log_flying, IsPartGiven, IsAllGiven, AreInPlace, IsBatchOpen, IsLogFar, IsNone, TouchesGiven, AnyByRecursion, IsWriteOf, IsGivenPiece, IsPieceOf, IsOfJob, AreOfJobs, FlightsMatch}
-use Rattle.store_facts.specs.Room.{FitsRecord}
 use Rattle.store_facts.proofs.Untouched.{all_then, apart_before, apart_behind}
 use Rattle.store_facts.proofs.RunUnits.{IsRunOf, run_of_left, row_bytes, row_at, all_drop, all_front, given_units}
 use Rattle.store_facts.proofs.Lists.{all_left, all_right, all_join, StandsIn, any_stands, stands_any, any_map, any_front, AreElsewhere, elsewhere, before_all, behind_all, with_at, without_at}
@@ -90,7 +89,7 @@ flush_matches s flights b ticket m is ready =
       waiting = waiting_same s.flying (s.flying ++ f ∷ []) s.pending
           (every (λ x. units_flying x.place (s.flying ++ f ∷ []) ≡ units_flying x.place s.flying) (λ x. log_units x.place s.flying f refl) s.pending) m.waiting;
       log = record {
-        some = opened.some;
+        needed = opened.needed;
         written = opened.written;
         far = subst (λ (fs : List Flying). IsUnderWay (flush.Sent ticket) b.second pieces (batch_ops b) s.log.begun fs) (sym (log_both s.flying (f ∷ [])))
             (flush_way b.first b.second pieces (batch_ops b) s.log.begun (log_flying s.flying) ticket ready opened.far);
@@ -110,7 +109,7 @@ sync_matches s flights b r ticket m is begun ready all =
       waiting = waiting_same s.flying (s.flying ++ f ∷ []) s.pending
           (every (λ x. units_flying x.place (s.flying ++ f ∷ []) ≡ units_flying x.place s.flying) (λ x. log_units x.place s.flying f refl) s.pending) m.waiting;
       log = record {
-        some = opened.some;
+        needed = opened.needed;
         written = opened.written;
         far = subst (λ (o : Option Begun). IsUnderWay b.first (flush.Sent ticket) pieces (batch_ops b) o (log_flying (s.flying ++ f ∷ []))) (sym begun)
             (subst (λ (fs : List Flying). IsUnderWay b.first (flush.Sent ticket) pieces (batch_ops b) (Some r) fs) (sym (log_both s.flying (f ∷ [])))
@@ -131,7 +130,7 @@ seal_matches s flights b m is none =
       places = m.places;
       waiting = m.waiting;
       log = subst (λ (o : Option Batch). IsLogFar s.log.number o (sealed b s).log.begun (log_flying s.flying)) (sym is) (record {
-        some = opened.some;
+        needed = opened.needed;
         written = opened.written;
         far = seal_way b.first b.second pieces (batch_ops b) (log_flying s.flying)
             (subst (λ (o : Option Begun). IsUnderWay b.first b.second pieces (batch_ops b) o (log_flying s.flying)) none opened.far);
@@ -215,7 +214,7 @@ record_matches s flights b r ticket m is begun ready more =
       waiting = waiting_same s.flying (s.flying ++ f ∷ []) s.pending
           (every (λ x. units_flying x.place (s.flying ++ f ∷ []) ≡ units_flying x.place s.flying) (λ x. log_units x.place s.flying f refl) s.pending) m.waiting;
       log = subst (λ (o : Option Batch). IsLogFar s.log.number o then (log_flying (s.flying ++ f ∷ []))) (sym is) (record {
-        some = opened.some;
+        needed = opened.needed;
         written = opened.written;
         far = subst (λ (fs : List Flying). IsUnderWay b.first b.second pieces (batch_ops b) then fs) (sym (log_both s.flying (f ∷ [])))
             (record_way b.first b.second s.log.number (batch_ops b) r (log_flying s.flying) ticket ready more

@@ -19,12 +19,14 @@ use Rattle.store_steps.specs.declared.flight.FlushState.TheVariants as flush
 use Rattle.store_steps.specs.declared.flight.Flying.{Flying}
 use Rattle.store_steps.specs.declared.flight.Job.{Job}
 use Rattle.store_steps.specs.declared.flight.Job.TheVariants as job
+use Rattle.meta_rows.specs.declared.row_op.RowOp.{RowOp}
 use Rattle.meta_store.specs.Store.{Meta, Begun}
 use Rattle.store_steps.specs.State.{Batch, State}
 use Rattle.store_steps.specs.Contexts.{Unsent, unsent_units, run_bytes, unsent, next_unsent, is_done, colls_of, chosen_behind, chosen, with_context, without_context, given_more, done_more, batch_ops}
 use Rattle.store_steps.specs.Changes.{data_sent, after_done, taken_up, written_more, first_flushed, second_flushed}
 use Rattle.store_facts.specs.Flights.{AreFlights, IsNotGiven, IsUnderWay}
 use Rattle.store_facts.specs.Jobs.{units_for, units_flying, is_data, log_flying, IsPartGiven, IsAllGiven, AreInPlace, IsBatchOpen, IsLogFar, IsNone, TouchesGiven, AnyByRecursion, IsWriteOf, IsGivenPiece, IsPieceOf, IsOfJob, AreOfJobs, FlightsMatch}
+use Rattle.store_steps.specs.Intents.{intent_of}
 use Rattle.store_facts.specs.Room.{FitsRecord}
 use Rattle.store_facts.proofs.Untouched.{all_then, apart_before, apart_behind}
 use Rattle.store_facts.proofs.RunUnits.{IsRunOf, run_of_left, row_bytes, row_at, all_drop, all_front, given_units}
@@ -33,6 +35,7 @@ use Rattle.store_facts.proofs.Lists.{all_left, all_right, all_join, StandsIn, an
 use Rattle.store_facts.proofs.Flying.{others_of}
 use Rattle.store_facts.proofs.Landing.{units_both, log_both, IsLeftOut, jobs_then, jobs_sent, jobs_left, IsFlown, jobs_found}
 use Rattle.store_facts.proofs.Underway.{flushing, Flies, first_flies, piece_flies, second_flies, what_flies, first_ended, no_front}
+use Rattle.store_facts.proofs.Choosing.{IsFirst, chosen_first}
 use Rattle.store_facts.proofs.Matching.{Matches, every, waiting_same, jobs_change}
 
 -- ---- the context of a data write
@@ -106,7 +109,7 @@ touches_more x n g run touches unit none =
     touches unit (all_front (λ f. ¬ (f.unit ≡ unit)) (take x.given x.fresh) (unsent_units n)
     (subst (λ (fs : List FreshUnit). IsNone fs unit) (given_units x n run) none))
 
-run_of_given : (x : Context) (n : Unsent) (ticket : ℕ) → IsRunOf x n → FitsRecord x
+run_of_given : (x : Context) (n : Unsent) (ticket : ℕ) → IsRunOf x n → FitsRecord (intent_of x)
     → TouchesGiven (given_more (length (unsent_units n)) x) (flight_of ticket (event.Write n.first.unit (run_bytes (unsent_units n))))
 run_of_given x n ticket run fits unit none =
     run_touches n.first.unit (unsent_units n) ticket unit (run_whole x n run fits)
@@ -130,7 +133,7 @@ writes_more front x y back same more place count g w = record { some = w.some; o
     from (f ∷ fs) (inr rest) = inr (from fs rest)
 
 data_among : (s : State) (flights : List Flight) (n : Unsent) (ticket : Ticket) (front : List Context) (x : Context) (back : List Context)
-    → s.pending ≡ front ++ x ∷ back → IsRunOf x n → FitsRecord x → Matches s flights
+    → s.pending ≡ front ++ x ∷ back → IsRunOf x n → FitsRecord (intent_of x) → Matches s flights
     → FlightsMatch s.log (length s.book.entries) (front ++ given_more (length (unsent_units n)) x ∷ back) s.batch
     (s.flying ++ flushing ticket (job.Data x.place (length (unsent_units n))) ∷ [])
     (flights ++ flight_of ticket.place (event.Write n.first.unit (run_bytes (unsent_units n))) ∷ [])
@@ -167,7 +170,7 @@ data_among s flights n ticket front x back is run fits m =
     counted : (done units given count count' units' : ℕ) → done + units ≡ given → units' ≡ units + (count' + 0) → count' ≡ count → done + units' ≡ given + count
     counted done units given count count' units' is is' same = omega (arith, is, is', same)
 
-pub data_matches : (s : State) (flights : List Flight) (n : Unsent) (ticket : Ticket) → Matches s flights → AllByRecursion FitsRecord s.pending
+pub data_matches : (s : State) (flights : List Flight) (n : Unsent) (ticket : Ticket) → Matches s flights → AllByRecursion (λ z. FitsRecord (intent_of z)) s.pending
     → next_unsent s.pending ≡ Some n
     → Matches (data_sent n.place (length (unsent_units n)) ticket s) (flights ++ flight_of ticket.place (event.Write n.first.unit (run_bytes (unsent_units n))) ∷ [])
 data_matches s flights n ticket m fits is =
@@ -177,7 +180,8 @@ data_matches s flights n ticket m fits is =
     let flights' : List Flight = flights ++ flight_of ticket.place (event.Write n.first.unit (run_bytes (unsent_units n))) ∷ [] in
     let others : AreElsewhere x.place at.front at.back =
     elsewhere at.front x at.back (subst (λ (xs : List Context). Ascends (map (λ (z : Context). z.place) xs)) at.is m.places.ascend) in
-    let fits_x : FitsRecord x = (all_right FitsRecord at.front (x ∷ at.back) (subst (AllByRecursion FitsRecord) at.is fits)).0 in
+    let fits_x : FitsRecord (intent_of x) =
+    (all_right (λ z. FitsRecord (intent_of z)) at.front (x ∷ at.back) (subst (AllByRecursion (λ z. FitsRecord (intent_of z))) at.is fits)).0 in
     let then : with_context x.place (given_more count) s.pending ≡ at.front ++ given_more count x ∷ at.back =
     ap (λ (xs : List Context). with_context x.place (given_more count) xs) at.is ∙ with_at (given_more count) at.front x at.back others in
     subst (λ (p : ℕ). Matches (data_sent p count ticket s) flights') at.holds.place
@@ -185,26 +189,6 @@ data_matches s flights n ticket m fits is =
     (sym then) (data_among s flights n ticket at.front x at.back at.is at.holds fits_x m))
 
 -- ---- Take
-
--- what is taken stands among those that wait, and all of its units have reached the device
-pub record IsDoneOne (x y : Context) : Type 0 where
-  pub same : y ≡ x
-  pub done : y.done ≡ length y.fresh
-
-chosen_stands : (names : List (List ℕ)) (xs : List Context) (x : Context) → chosen_behind names xs ≡ Some x → StandsIn (IsDoneOne x) xs
-chosen_stands names [] x is = absurd (cc)
-chosen_stands names (y ∷ ys) x is =
-    of_test (λ e. chosen_stands (colls_of y ++ names) ys x e) (is_done y) refl (not (any_named (colls_of y) names)) is
-  where
-    behind : StandsIn (IsDoneOne x) ys → StandsIn (IsDoneOne x) (y ∷ ys)
-    behind rest = record { front = y ∷ rest.front; item = rest.item; back = rest.back; is = ap (λ (zs : List Context). y ∷ zs) rest.is; holds = rest.holds }
-
-    of_test : (chosen_behind (colls_of y ++ names) ys ≡ Some x → StandsIn (IsDoneOne x) ys) → (a : Bool) → is_done y ≡ a → (b : Bool)
-        → cond (a && b) (Some y) (chosen_behind (colls_of y ++ names) ys) ≡ Some x → StandsIn (IsDoneOne x) (y ∷ ys)
-    of_test later true e true c =
-        record { front = []; item = y; back = ys; is = refl; holds = record { same = same_Some y x c; done = eqb-true y.done (length y.fresh) e } }
-    of_test later true e false c = behind (later c)
-    of_test later false e b c = behind (later c)
 
 none_flies : (place : ℕ) (fs : List Flying) → units_flying place fs ≡ 0 → AllByRecursion (λ f. units_for place f.job ≡ 0) fs
 none_flies place [] none = tt
@@ -252,9 +236,9 @@ abbrev pub new_batch : Context → Batch
 new_batch x = record { contexts = x ∷ []; first = flush.NotSent; second = flush.NotSent }
 
 take_among : (s : State) (flights : List Flight) (front : List Context) (x : Context) (back : List Context) → s.pending ≡ front ++ x ∷ back
-    → x.done ≡ length x.fresh → s.batch ≡ None → Matches s flights
+    → x.done ≡ length x.fresh → FitsRecord (intent_of x) → s.batch ≡ None → Matches s flights
     → FlightsMatch s.log (length s.book.entries) (front ++ back) (Some (new_batch x)) s.flying flights
-take_among s flights front x back is done none m =
+take_among s flights front x back is done fits none m =
     let places : AreInPlace (length s.book.entries) (front ++ x ∷ back) = subst (AreInPlace (length s.book.entries)) is m.places in
     let waiting : AllByRecursion (IsPartGiven s.flying) (front ++ x ∷ back) = subst (AllByRecursion (IsPartGiven s.flying)) is m.waiting in
     let behind : AllByRecursion (IsPartGiven s.flying) (x ∷ back) = all_right (IsPartGiven s.flying) front (x ∷ back) waiting in
@@ -270,7 +254,8 @@ take_among s flights front x back is done none m =
       };
       waiting = all_join (IsPartGiven s.flying) front back (all_left (IsPartGiven s.flying) front (x ∷ back) waiting) behind.1;
       log = record {
-        some = omega arith;
+        needed = needed (unit_count s.log.number (x.ops ++ [])) x.need
+            (ap (λ (ops : List RowOp). unit_count s.log.number ops) (append-nil x.ops) ∙ fits.need s.log.number);
         written = (record { given = all_given x.done (units_flying x.place s.flying) x.given (length x.fresh) done (behind.0).within (behind.0).counted; done = done }, tt);
         far = (subst (λ (o : Option Begun). IsNotGiven (batch_ops (new_batch x)) o) (sym log.0) tt, log.1);
       };
@@ -283,19 +268,22 @@ take_among s flights front x back is done none m =
     no_units : (done units given all : ℕ) → done ≡ all → given ≤ all → done + units ≡ given → units ≡ 0
     no_units done units given all is within counted = omega (arith, is, within, counted)
 
+    needed : (units need : ℕ) → units ≡ need → units ≤ need + 0
+    needed units need is = omega (arith, is)
+
     all_given : (done units given all : ℕ) → done ≡ all → given ≤ all → done + units ≡ given → given ≡ all
     all_given done units given all is within counted = omega (arith, is, within, counted)
 
-pub take_matches : (s : State) (flights : List Flight) (x : Context) → Matches s flights → s.batch ≡ None → chosen s.pending ≡ Some x
-    → Matches (taken_up x s) flights
-take_matches s flights x m none is =
-    let at : StandsIn (IsDoneOne x) s.pending = chosen_stands [] s.pending x is in
-    let here : s.pending ≡ at.front ++ x ∷ at.back = at.is ∙ ap (λ (z : Context). at.front ++ z ∷ at.back) at.holds.same in
+pub take_matches : (s : State) (flights : List Flight) (x : Context) → Matches s flights → AllByRecursion (λ z. FitsRecord (intent_of z)) s.pending
+    → s.batch ≡ None → chosen s.pending ≡ Some x → Matches (taken_up x s) flights
+take_matches s flights x m fits none is =
+    let at : IsFirst [] x s.pending = chosen_first [] s.pending x is in
     let others : AreElsewhere x.place at.front at.back =
-    elsewhere at.front x at.back (subst (λ (xs : List Context). Ascends (map (λ (z : Context). z.place) xs)) here m.places.ascend) in
+    elsewhere at.front x at.back (subst (λ (xs : List Context). Ascends (map (λ (z : Context). z.place) xs)) at.is m.places.ascend) in
     subst (λ (xs : List Context). FlightsMatch s.log (length s.book.entries) xs (Some (new_batch x)) s.flying flights)
-    (sym (ap (λ (xs : List Context). without_context x.place xs) here ∙ without_at at.front x at.back others))
-    (take_among s flights at.front x at.back here (subst (λ (z : Context). z.done ≡ length z.fresh) at.holds.same at.holds.done) none m)
+    (sym (ap (λ (xs : List Context). without_context x.place xs) at.is ∙ without_at at.front x at.back others))
+    (take_among s flights at.front x at.back at.is at.done
+    (all_right (λ z. FitsRecord (intent_of z)) at.front (x ∷ at.back) (subst (AllByRecursion (λ z. FitsRecord (intent_of z))) at.is fits)).0 none m)
 
 -- ---- the ends of submissions
 
@@ -306,7 +294,7 @@ log_keep : (f : Flying) (back : List Flying) → is_data f.job ≡ false → log
 log_keep f back is = ap (λ (b : Bool). cond (not b) (f ∷ log_flying back) (log_flying back)) is
 
 -- the units that fly but for it
-left_units : (place : ℕ) (ticket : Ticket) (fs : List Flying) (out : IsLeftOut ticket fs)
+pub left_units : (place : ℕ) (ticket : Ticket) (fs : List Flying) (out : IsLeftOut ticket fs)
     → units_flying place (others_of ticket fs) + units_for place out.flight.job ≡ units_flying place fs
 left_units place ticket fs out =
     sums (units_flying place out.front) (units_flying place out.back) (units_for place out.flight.job) _ _
@@ -394,7 +382,7 @@ module _ (number : ℕ) (front : List Flying) (f : Flying) (back : List Flying) 
 
       of_flies : Flies b.first b.second pieces (batch_ops b) begun front f back → IsLogFar number (Some (first_flushed b)) begun (front ++ back)
       of_flies (first_flies is second first none left) = record {
-        some = h.some;
+        needed = h.needed;
         written = h.written;
         far = subst (λ (e : FlushState). IsUnderWay flush.Flushed e pieces (batch_ops b) begun (front ++ back)) (sym second)
             (first_ended pieces (batch_ops b) begun (front ++ back) none left);
@@ -413,7 +401,7 @@ module _ (number : ℕ) (front : List Flying) (f : Flying) (back : List Flying) 
       of_flies : Flies b.first b.second pieces (batch_ops b) begun front f back → IsLogFar number (Some b) (option_map written_more begun) (front ++ back)
       of_flies (first_flies is second first none left) = absurd (cc)
       of_flies (piece_flies is first second r made w) = record {
-        some = h.some;
+        needed = h.needed;
         written = h.written;
         far = subst (λ (o : Option Begun). IsUnderWay b.first b.second pieces (batch_ops b) (option_map written_more o) (front ++ back)) (sym made)
             (subst (λ (e : FlushState). IsUnderWay e b.second pieces (batch_ops b) (Some (written_more r)) (front ++ back)) (sym first)
@@ -433,7 +421,7 @@ module _ (number : ℕ) (front : List Flying) (f : Flying) (back : List Flying) 
       of_flies (first_flies is second first none left) = absurd (cc)
       of_flies (piece_flies is first second r made w) = absurd (cc)
       of_flies (second_flies is first second w left) = record {
-        some = h.some;
+        needed = h.needed;
         written = h.written;
         far = subst (λ (e : FlushState). IsUnderWay e flush.Flushed pieces (batch_ops b) begun (front ++ back)) (sym first) (w, left);
       }

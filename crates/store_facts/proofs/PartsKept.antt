@@ -1,5 +1,5 @@
 -- What a change of one context leaves of the parts.
-use Rattle.std.proofs.Common.{◌≡◌, ℕ, Bool, true, false, cond, List, [], ◌∷◌, ◌++◌, ◌==◌, take, refl, ap, ◌∙◌, arith}
+use Rattle.std.proofs.Common.{◌≡◌, ℕ, Bool, true, false, cond, List, [], ◌∷◌, ◌++◌, ◌==◌, take, refl, ap, ◌∙◌, arith, sym, append_assoc}
 use Rattle.std.specs.List.{flat_map}
 use Rattle.block_device.specs.Disk.{Disk}
 use Rattle.store_steps.specs.declared.context.Context.{Context}
@@ -51,6 +51,12 @@ flat_intents f (x ∷ xs) = ap (λ l. f (intent_of x) ++ l) (flat_intents f xs)
 pub intents_both : (xs ys : List Context) → intents (xs ++ ys) ≡ intents xs ++ intents ys
 intents_both [] ys = refl
 intents_both (x ∷ xs) ys = ap (λ (is : List Intent). intent_of x ∷ is) (intents_both xs ys)
+
+-- what was given of some, and of others behind them
+pub given_both : (xs ys : List Context) → given_fresh (xs ++ ys) ≡ given_fresh xs ++ given_fresh ys
+given_both [] ys = refl
+given_both (x ∷ xs) ys = ap (λ (fs : List FreshUnit). take x.given x.fresh ++ fs) (given_both xs ys)
+    ∙ sym (append_assoc (take x.given x.fresh) (given_fresh xs) (given_fresh ys))
 
 -- a call that the device has no part in, and that changes nothing but the book
 pub book_alone : (s : State) (d : Disk) (s' : State) (d' : Disk) → Adds nothing d d' → s'.events ≡ s.events

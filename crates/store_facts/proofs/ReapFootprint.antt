@@ -23,7 +23,7 @@ use Rattle.store_steps.specs.HalfGoes as half
 use Rattle.store_steps.specs.BookGoes as book
 use Rattle.store_steps.specs.Footprint.{Footprint}
 use Rattle.store_facts.proofs.PartsKept.{intents_kept, given_kept, book_alone}
-use Rattle.store_facts.proofs.InFlight.{IsOfBatch, found_tells}
+use Rattle.store_facts.proofs.InFlight.{IsOf, found_tells}
 use Rattle.store_facts.proofs.Landing.{IsLeftOut, left_out}
 
 -- how many pieces have ended doesn't matter to the log
@@ -33,7 +33,7 @@ half_kept s None = refl
 half_kept s (Some r) = refl
 
 -- the end of a submission for this job
-of_job : (s : State) (d d' : Disk) (ticket : ℕ) (left : List Flying) (j : Job) → Reaped d ticket true d' → IsOfBatch s.batch s.log.begun ticket j
+of_job : (s : State) (d d' : Disk) (ticket : ℕ) (left : List Flying) (j : Job) → Reaped d ticket true d' → IsOf s.pending s.batch s.log.begun ticket j
     → (let t : State = record s { flying = left; events = s.events + 1 } in Footprint s d (after_done j t) d')
 of_job s d d' ticket left (job.Data place count) ended is = record {
   touch = ends ticket;

@@ -66,7 +66,7 @@ module _ (keep : PlansKeep) (s : State) (client line : ℕ) (change : Change) (s
       kept.counted (subst (λ rows. PlanKeeps s.log.sup (names_of change) rows does.plan) kept.submitted accepted_keeps) accepted_takes.free
 
   -- its context has room for its record
-  pub accepted_record : FitsRecord (context_of (length s.book.entries) change s.log does.plan)
+  pub accepted_record : FitsRecord (intent_of (context_of (length s.book.entries) change s.log does.plan))
   accepted_record = record {
     fit = accepted_keeps.fit;
     need = λ number. same_count number s.log.number does.plan.ops;

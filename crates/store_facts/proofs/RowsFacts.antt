@@ -1,10 +1,8 @@
 -- What a kernel that is up needs to know of units: those that it takes, writes and gives back.
-use Rattle.std.proofs.Common.{◌≡◌, ℕ, zero, suc, ◌+◌, ◌==◌, ◌&&◌, Bool, true, false, cond, List, [], ◌∷◌, ◌++◌, map, drop, Contains, Option, Some, None, refl, sym, ap, subst, ◌∙◌}
-use Rattle.std.specs.Prelude.{nat_lt}
+use Rattle.std.proofs.Common.{◌≡◌, ℕ, false, List, [], ◌∷◌, ◌++◌, map, Contains, Option, Some, None, sym, ap, subst, ◌∙◌}
 use Rattle.std.specs.List.{flat_map, AllByRecursion}
-use Rattle.std.specs.Option.{option_or, option_map_or}
+use Rattle.std.specs.Option.{option_map_or}
 use Rattle.std.proofs.lemmas.List.Elements.{Contains-append_left, Contains-append_right}
-use Rattle.std.proofs.lemmas.Option.{same_Some}
 use Rattle.block_device.specs.Disk.{Disk}
 use Rattle.meta_log.specs.declared.slot.Super.{Super}
 use Rattle.store_image.specs.Owners.{IsDataUnit}
@@ -14,7 +12,7 @@ use Rattle.unit_allocator.proofs.Lists.{Contains-head, Contains-tail}
 use Rattle.selections.proofs.Selecting.{fair_all}
 use Rattle.store_steps.specs.declared.context.Context.{Context}
 use Rattle.store_steps.specs.State.{Batch, State}
-use Rattle.store_steps.specs.Contexts.{Unsent, unsent_units, run_from, run_of, unsent, next_unsent, batch_released}
+use Rattle.store_steps.specs.Contexts.{Unsent, unsent_units, next_unsent, batch_released}
 use Rattle.store_steps.specs.Intents.{Intent, intents, is_in, released_by, EachIsPlanned, AreTakenApart, SpaceIsCounted}
 use Rattle.store_steps.specs.UnderWay.{uncommitted}
 use Rattle.store_steps.specs.Parts.{rows_part}
@@ -24,39 +22,10 @@ use Rattle.store_facts.specs.Space.{AreRowsKept}
 use Rattle.store_facts.specs.Kept.{IsKept}
 use Rattle.store_facts.proofs.SpaceUnits.{AreData, data_within}
 use Rattle.store_facts.proofs.PartsKept.{flat_intents, intents_both}
-
--- ---- the units of the next data write
-
-module _ (P : FreshUnit → Type 0) where
-  run_has : (unit end : ℕ) (fs : List FreshUnit) → AllByRecursion P fs → AllByRecursion P (run_from unit end fs)
-  run_has unit end [] all = tt
-  run_has unit end (f ∷ fs) all = by (f.unit == unit && nat_lt unit end) (run_has (unit + 1) end fs all.1)
-    where
-      by : (b : Bool) → AllByRecursion P (run_from (unit + 1) end fs) → AllByRecursion P (cond b (f ∷ run_from (unit + 1) end fs) [])
-      by true more = (all.0, more)
-      by false more = tt
-
-  rest_has : (n : ℕ) (fs : List FreshUnit) → AllByRecursion P fs → AllByRecursion P (drop n fs)
-  rest_has zero fs all = all
-  rest_has (suc n) [] all = tt
-  rest_has (suc n) (f ∷ fs) all = rest_has n fs all.1
-
-  unsent_has : (place : ℕ) (fs : List FreshUnit) (n : Unsent) → AllByRecursion P fs → run_of place fs ≡ Some n → AllByRecursion P (unsent_units n)
-  unsent_has place [] n all is = absurd cc
-  unsent_has place (f ∷ fs) n all is =
-      let first : Unsent = record { place = place; first = f; more = run_from (f.unit + 1) (f.unit + 64) fs } in
-      subst (λ (m : Unsent). AllByRecursion P (unsent_units m)) (same_Some first n is) (all.0, run_has (f.unit + 1) (f.unit + 64) fs all.1)
-
-  -- what holds of the fresh units of contexts holds of those that are written next
-  pub next_has : (xs : List Context) (n : Unsent) → AllByRecursion (λ x. AllByRecursion P x.fresh) xs → next_unsent xs ≡ Some n
-      → AllByRecursion P (unsent_units n)
-  next_has [] n all is = absurd cc
-  next_has (x ∷ xs) n all is = by (unsent x) refl is (next_has xs n all.1)
-    where
-      by : (o : Option Unsent) → unsent x ≡ o → option_or o (next_unsent xs) ≡ Some n
-          → (next_unsent xs ≡ Some n → AllByRecursion P (unsent_units n)) → AllByRecursion P (unsent_units n)
-      by None here is rest = rest is
-      by (Some m) here is rest = unsent_has x.place (drop x.given x.fresh) n (rest_has x.given x.fresh all.0) (here ∙ is)
+use Rattle.store_facts.proofs.Lists.{StandsIn, all_right}
+use Rattle.store_facts.proofs.RunUnits.{IsRunOf}
+use Rattle.store_facts.proofs.RunPlaces.{run_has}
+use Rattle.store_facts.proofs.MatchingMore.{next_stands}
 
 -- ---- the units that contexts took
 
@@ -99,7 +68,11 @@ module _ (s : State) (d : Disk) (kept : IsKept s d) (up : s.down ≡ None) where
       (λ u c. taken_data u (behind_batch (option_map_or (λ (b : Batch). b.contexts) s.batch []) s.pending u c))
 
   pub next_on_data : (n : Unsent) → next_unsent s.pending ≡ Some n → AllByRecursion (λ f. IsDataUnit s.log.sup f.unit) (unsent_units n)
-  next_on_data n is = next_has (λ f. IsDataUnit s.log.sup f.unit) s.pending n pending_on_data is
+  next_on_data n is =
+      let at : StandsIn (λ x. IsRunOf x n) s.pending = next_stands s.pending n is in
+      run_has at.item n at.holds (λ f. IsDataUnit s.log.sup f.unit)
+      (all_right (λ x. AllByRecursion (λ f. IsDataUnit s.log.sup f.unit) x.fresh) at.front (at.item ∷ at.back)
+      (subst (AllByRecursion (λ x. AllByRecursion (λ f. IsDataUnit s.log.sup f.unit) x.fresh)) at.is pending_on_data)).0
 
   -- ---- the units that the batch releases
 

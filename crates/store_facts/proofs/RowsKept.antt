@@ -72,5 +72,5 @@ pub rows_go : (p q : RowsPart) (goes : RowsGo p q) → IsSuper p.sup → IsSpace
 rows_go p q (rows.same is) limits space may kept = subst AreRowsKept (sym is) kept
 rows_go p q (rows.joins x is) limits space may kept = subst AreRowsKept (sym is) (join_keeps p limits space kept x may)
 rows_go p q (rows.reorders later complete is) limits space may kept = subst AreRowsKept (sym is) (reorder_keeps p limits space kept later complete)
-rows_go p q (rows.applies number front back both is) limits space may kept =
+rows_go p q (rows.applies number front back both fits is) limits space may kept =
     subst AreRowsKept (sym is) (apply_keeps p limits space kept number front back both)

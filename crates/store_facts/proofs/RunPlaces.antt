@@ -9,6 +9,7 @@ use Rattle.store_image.specs.Owners.{IsDataUnit}
 use Rattle.plan_rows.specs.declared.plan.FreshUnit.{FreshUnit}
 use Rattle.store_steps.specs.declared.context.Context.{Context}
 use Rattle.store_steps.specs.Contexts.{run_bytes, Unsent, unsent_units}
+use Rattle.store_steps.specs.Intents.{intent_of}
 use Rattle.store_facts.specs.Room.{FitsRecord}
 use Rattle.store_steps.specs.DataGoes.{Spares}
 use Rattle.store_facts.proofs.RunUnits.{IsRunOf, row_bytes, row_at, all_drop, all_front}
@@ -43,17 +44,17 @@ module _ (x : Context) (n : Unsent) (run : IsRunOf x n) where
   pub run_has : (P : FreshUnit → Type 0) → AllByRecursion P x.fresh → AllByRecursion P (unsent_units n)
   run_has P all = all_front P (unsent_units n) (drop (x.given + count) x.fresh) (subst (AllByRecursion P) run.left (all_drop P x.given x.fresh all))
 
-  pub run_whole : FitsRecord x → AreWholeUnits (unsent_units n)
+  pub run_whole : FitsRecord (intent_of x) → AreWholeUnits (unsent_units n)
   run_whole fits = run_has (λ f. length f.bytes ≡ 4096) fits.whole
 
   -- those that were given before stand before the run
-  pub given_before : FitsRecord x → AllByRecursion (λ f. f.unit < n.first.unit) (take x.given x.fresh)
+  pub given_before : FitsRecord (intent_of x) → AllByRecursion (λ f. f.unit < n.first.unit) (take x.given x.fresh)
   given_before fits = front_before (take x.given x.fresh) n.first (n.more ++ drop (x.given + count) x.fresh)
       (subst (λ (fs : List FreshUnit). Ascends (map (λ f. f.unit) fs))
       (sym (take-append-drop x.given x.fresh) ∙ ap (λ (fs : List FreshUnit). take x.given x.fresh ++ fs) run.left) fits.ascend)
 
   -- it lies on the device
-  pub run_inside : (s : Super) → FitsRecord x → AllByRecursion (λ f. IsDataUnit s f.unit) (unsent_units n)
+  pub run_inside : (s : Super) → FitsRecord (intent_of x) → AllByRecursion (λ f. IsDataUnit s f.unit) (unsent_units n)
       → 4096 * n.first.unit + length (run_bytes (unsent_units n)) ≤ 4096 * s.units
   run_inside s fits are =
       let last_is : IsDataUnit s (n.first.unit + length n.more) =

@@ -24,6 +24,7 @@ use Rattle.store_steps.specs.Contexts.{batch_ops}
 use Rattle.store_steps.specs.Ready.{is_not_sent, pieces_of}
 use Rattle.store_facts.specs.Flights.{IsNotGiven, IsUnderWay}
 use Rattle.store_facts.specs.Jobs.{is_data, log_flying, IsBatchOpen, IsLogFar, IsNone, TouchesGiven, AnyByRecursion, IsGivenPiece, IsPieceOf, IsOfJob, AreOfJobs}
+use Rattle.store_steps.specs.Intents.{intent_of}
 use Rattle.store_facts.specs.Room.{FitsRecord}
 use Rattle.store_facts.proofs.Untouched.{all_then}
 use Rattle.store_facts.proofs.Landing.{jobs_then}
@@ -81,7 +82,7 @@ none_before (g ∷ front) back up = both back (behind front back up.0) (none_bef
         apart a b lt is = omega (arith, lt, is)
 
 -- what a context has left is none of what it gave
-pub none_left : (x : Context) → FitsRecord x → AllByRecursion (λ f. IsNone (take x.given x.fresh) f.unit) (drop x.given x.fresh)
+pub none_left : (x : Context) → FitsRecord (intent_of x) → AllByRecursion (λ f. IsNone (take x.given x.fresh) f.unit) (drop x.given x.fresh)
 none_left x fits = none_before (take x.given x.fresh) (drop x.given x.fresh)
     (subst (λ (fs : List FreshUnit). Ascends (map (λ f. f.unit) fs)) (sym (take-append-drop x.given x.fresh)) fits.ascend)
 

@@ -13,7 +13,7 @@ use Rattle.store_steps.specs.declared.flight.Job.{Job}
 use Rattle.store_steps.specs.declared.flight.Job.TheVariants as job
 use Rattle.meta_store.specs.Store.{Meta, Begun}
 use Rattle.store_steps.specs.State.{Batch}
-use Rattle.store_steps.specs.Contexts.{batch_ops}
+use Rattle.store_steps.specs.Contexts.{batch_ops, sum_needs}
 use Rattle.store_facts.specs.Flights.{IsUnderWay}
 
 -- ---- data writes
@@ -52,9 +52,9 @@ is_data other = false
 abbrev pub log_flying : List Flying → List Flying
 log_flying flying = filter (λ f. not (is_data f.job)) flying
 
--- the open batch: it has a context, all of its contexts are written, and its flushes and its record are so far
+-- the open batch: its record takes no more than its contexts need, all of these are written, and its flushes and its record are so far
 pub record IsBatchOpen (number : ℕ) (b : Batch) (begun : Option Begun) (flying : List Flying) : Type 0 where
-  pub some : 0 < length b.contexts
+  pub needed : unit_count number (batch_ops b) ≤ sum_needs b.contexts
   pub written : AllByRecursion IsAllGiven b.contexts
   pub far : IsUnderWay b.first b.second (piece_count (unit_count number (batch_ops b))) (batch_ops b) begun flying
 

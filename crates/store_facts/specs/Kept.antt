@@ -1,5 +1,5 @@
 -- What the kernel keeps, whatever its device tells.
-use Rattle.std.specs.Prelude.{◌≡◌, ℕ, ◌+◌, ◌*◌, ◌≤◌, ◌^◌, [], length, None}
+use Rattle.std.specs.Prelude.{◌≡◌, ℕ, ◌+◌, ◌≤◌, ◌^◌, [], length, None}
 use Rattle.block_device.specs.Disk.{Disk, IsSound}
 use Rattle.meta_log.specs.Slots.{IsSuper}
 use Rattle.unit_allocator.specs.Units.{Space}
@@ -8,12 +8,11 @@ use Rattle.store_steps.specs.State.{State}
 use Rattle.store_steps.specs.Opened.{Found}
 use Rattle.store_facts.specs.Flights.{AreFlights}
 use Rattle.store_facts.specs.Jobs.{FlightsMatch}
-use Rattle.store_steps.specs.UnderWay.{uncommitted}
 use Rattle.store_steps.specs.Intents.{SpaceIsCounted}
-use Rattle.store_steps.specs.Parts.{rows_part}
+use Rattle.store_steps.specs.Parts.{rows_part, book_part}
 use Rattle.store_facts.specs.Space.{IsSpaceOf, AreRowsKept}
-use Rattle.store_facts.specs.Room.{HasRoomFor, AreNumbersLow, IsBookKept}
-use Rattle.store_facts.specs.Work.{entry_work, work_left}
+use Rattle.store_facts.specs.Room.{HasRoom, AreEntriesFew, IsBookKept}
+use Rattle.store_facts.specs.Work.{budget, work_left}
 
 -- what it keeps always, also while it is down
 pub record IsAlwaysKept (s : State) (d : Disk) : Type 0 where
@@ -22,16 +21,16 @@ pub record IsAlwaysKept (s : State) (d : Disk) : Type 0 where
   pub units : s.log.sup.units ≡ d.units
   pub space : IsSpaceOf s.log.sup s.space
   pub flights : AreFlights s.flying d.flights
-  pub numbers : AreNumbersLow s
-  pub book : IsBookKept s
-  pub events : s.events + work_left s ≤ 2 ^ 61 + entry_work * length s.book.entries
+  pub few : AreEntriesFew s
+  pub book : IsBookKept (book_part s)
+  pub events : s.events + work_left s ≤ budget s
+  pub numbers : s.log.number + work_left s ≤ budget s
 
 -- what it keeps while it isn't
 pub record IsKeptUp (s : State) (d : Disk) : Type 0 where
   pub flights : FlightsMatch s.log (length s.book.entries) s.pending s.batch s.flying d.flights
-  pub few : length (uncommitted s) ≤ 1
   pub rows : AreRowsKept (rows_part s)
-  pub room : HasRoomFor s.log (uncommitted s)
+  pub room : HasRoom (rows_part s)
 
 pub record IsKept (s : State) (d : Disk) : Type 0 where
   pub always : IsAlwaysKept s d

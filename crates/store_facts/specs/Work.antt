@@ -1,5 +1,5 @@
 -- How much is left to do: a number that each step lowers, so that a run of steps ends.
-use Rattle.std.specs.Prelude.{ℕ, ◌+◌, ◌-◌, ◌*◌, List, [], ◌∷◌, length, if◌then◌else◌}
+use Rattle.std.specs.Prelude.{ℕ, ◌+◌, ◌-◌, ◌*◌, ◌^◌, List, [], ◌∷◌, length, if◌then◌else◌}
 use Rattle.std.specs.Option.{option_map_or}
 use Rattle.meta_log.specs.Records.{unit_count}
 use Rattle.meta_log.specs.Pieces.{piece_count}
@@ -41,3 +41,7 @@ measure s waits = 65 * work_left s + (64 - waits)
 -- more than one entry of the book adds: a transaction has at most 256 operations, and none touches more than the 32768 pages of an object
 abbrev pub entry_work : ℕ
 entry_work = 8388608
+
+-- what events and numbers of records stay below together with the work that is left: 2^61 more than entries may add
+abbrev pub budget : State → ℕ
+budget s = 2 ^ 61 + entry_work * length s.book.entries

@@ -26,9 +26,7 @@ ghost use Rattle.store_steps.specs.Submit.{Accepts, Refuses};
 ghost use Rattle.store_steps.specs.UnderWay.{uncommitted, all_fresh};
 ghost use Rattle.store_steps.specs.Intents.{intents, SpaceIsCounted};
 ghost use Rattle.store_steps.specs.Footprint.{Footprint};
-ghost use Rattle.store_facts.specs.Flights.{AreFlights};
 ghost use Rattle.store_facts.specs.Jobs.{IsNone, IsGivenPiece, AreOfJobs, FlightsMatch};
-ghost use Rattle.store_facts.specs.Room.{FitsRecord};
 ghost use Rattle.store_facts.specs.Work.{measure};
 ghost use Rattle.store_facts.specs.Kept.{IsKept, IsOpenable};
 
@@ -84,14 +82,9 @@ pub fn flushes_cover()
         → j < unit_count s.log.number writing.ops → IsUntouched d.flights (active_unit s.log.sup + (s.log.tail + j)) }
 {}
 
-/// What is in flight, part by part, for any number of contexts under way. Each step that leaves the kernel up keeps it, and so do a context that
-/// joins those that wait, with none of its units given, and an entry of the book. A unit that no context gave to the device, and that is none of
-/// the record's given units, is in no flight.
+/// What is in flight, part by part, for any number of contexts under way: a context that joins those that wait, with none of its units given, keeps
+/// it, and so does an entry of the book. A unit that no context gave to the device, and that is none of the record's given units, is in no flight.
 pub fn flights_match()
-    ensures steps { (step : Step) (s : State) (d : Disk) (s' : State) (d' : Disk) → AreFlights s.flying d.flights → s.down ≡ None → s'.down ≡ None
-        → FlightsMatch s.log (length s.book.entries) s.pending s.batch s.flying d.flights → AllByRecursion FitsRecord s.pending
-        → is_ready_up step d.depth s ≡ true → DoesOrFails step s d s' d'
-        → FlightsMatch s'.log (length s'.book.entries) s'.pending s'.batch s'.flying d'.flights }
     ensures joins { (m m' : Meta) (entries : ℕ) (pending : List Context) (batch : Option Batch) (flying : List Flying) (flights : List Flight)
         (x : Context) → x.place ≡ entries → x.given ≡ 0 → x.done ≡ 0 → m' ≡ record m { reserved = m'.reserved }
         → FlightsMatch m entries pending batch flying flights → FlightsMatch m' (entries + 1) (pending ++ x ∷ []) batch flying flights }

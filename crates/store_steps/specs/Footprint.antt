@@ -44,8 +44,8 @@ abbrev pub IsCaused : (s : State) (d : Disk) (s' : State) (d' : Disk) {p q : Row
     → RowsGo p q → BookGoes events t b c → Type 0
 IsCaused s d s' d' (rows.joins x joined) (book.enters e entered) = AcceptsOne s d s'
 IsCaused s d s' d' (rows.joins x joined) other = ⊥
-IsCaused s d s' d' (rows.applies number front back both applied) (book.applies count all counted) = Makes Commit (DoesCommit s d s' d') s d
-IsCaused s d s' d' (rows.applies number front back both applied) other = ⊥
+IsCaused s d s' d' (rows.applies number front back both fits applied) (book.applies count all counted) = Makes Commit (DoesCommit s d s' d') s d
+IsCaused s d s' d' (rows.applies number front back both fits applied) other = ⊥
 IsCaused s d s' d' other (book.enters e entered) = Replies s d s'
 IsCaused s d s' d' other (book.commits xs none opened) = Makes Take (DoesTake s d s' d') s d
 IsCaused s d s' d' other (book.applies count all counted) = ⊥

@@ -1,5 +1,5 @@
 -- What a call makes of the rows.
-use Rattle.std.specs.Prelude.{◌≡◌, ℕ, ◌+◌, ◌-◌, List, [], ◌∷◌, ◌++◌, map}
+use Rattle.std.specs.Prelude.{◌≡◌, ℕ, ◌+◌, ◌-◌, ◌≤◌, List, [], ◌∷◌, ◌++◌, map}
 use Rattle.meta_rows.specs.Rows.{rows_after}
 use Rattle.meta_log.specs.Records.{unit_count}
 use Rattle.unit_allocator.specs.Units.{given, taken}
@@ -26,9 +26,11 @@ applied number front back p = record p {
   reserved = p.reserved - needs_by front;
 }
 
--- they stay, one more joins, they change places but not among those of one collection, or the first ones are committed
+-- They stay, one more joins, they change places but not among those of one collection, or the first ones are committed, by a record that takes
+-- no more than they need.
 pub data RowsGo : RowsPart → RowsPart → Type 0 where
   same : {p q : RowsPart} → q ≡ p → RowsGo p q
   joins : {p q : RowsPart} (x : Intent) → q ≡ joined x p → RowsGo p q
   reorders : {p q : RowsPart} (later : List Intent) → IsComplete is_in p.intents later → q ≡ record p { intents = later } → RowsGo p q
-  applies : {p q : RowsPart} (number : ℕ) (front back : List Intent) → p.intents ≡ front ++ back → q ≡ applied number front back p → RowsGo p q
+  applies : {p q : RowsPart} (number : ℕ) (front back : List Intent) → p.intents ≡ front ++ back
+      → unit_count number (ops_by front) ≤ needs_by front → q ≡ applied number front back p → RowsGo p q

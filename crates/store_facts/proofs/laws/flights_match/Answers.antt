@@ -1,10 +1,6 @@
-use Rattle.store_facts.proofs.MatchingSteps.{step_matches}
 use Rattle.store_facts.proofs.MatchingMore.{one_more_waits, one_more_entry}
 use Rattle.store_facts.proofs.Unflown.{unflown}
 use Rattle.store_facts.proofs.laws.flights_match.Goals as goal
-
-pub returns-clause-steps : goal.returns-clause-steps
-returns-clause-steps c = step_matches
 
 pub returns-clause-joins : goal.returns-clause-joins
 returns-clause-joins c = one_more_waits

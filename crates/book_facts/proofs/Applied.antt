@@ -16,7 +16,7 @@ use Rattle.store_steps.specs.State.{Batch, State}
 use Rattle.store_steps.specs.Changes.{committed_batch}
 use Rattle.store_steps.specs.Ready.{applied_count}
 use Rattle.store_steps.specs.Intents.{Intent}
-use Rattle.book_facts.specs.BookFacts.{commit_places, AreQueued}
+use Rattle.book_facts.specs.BookFacts.{commit_places, AreQueued, places}
 use Rattle.book_facts.specs.Selections.{applied_changes, changes_of}
 use Rattle.book_facts.proofs.Entries.{own_change, committed_kept}
 use Rattle.book_facts.proofs.Commits.{places_on, places_by_places, changes_at, committed_by_places}
@@ -29,11 +29,16 @@ applied_by_places es cs n = committed_by_places es (take n cs) ∙ ap (changes_a
 count_places : (cs : List Commit) → length (commit_places cs) ≡ length cs
 count_places cs = length-map cs (λ (c : Commit). c.place)
 
--- ---- a batch of one is committed
+-- ---- the batch is committed
 
-pub applied_committed : (opening : Objects) (s : State) (b : Batch) (x : Intent) → drop (applied_count s) (commit_places s.book.commits) ≡ x.place ∷ []
-    → replay opening (applied_changes (committed_batch b s)) ≡ replay (replay opening (applied_changes s)) (changes_of s.book.entries (x ∷ []))
-applied_committed opening s b x last =
+-- the transactions of intents are those at their places
+changes_by_places : (es : List Entry) (xs : List Intent) → changes_of es xs ≡ changes_at es (places xs)
+changes_by_places es [] = refl
+changes_by_places es (x ∷ xs) = ap (λ (l : List Change). cons_option (change_at es x.place) l) (changes_by_places es xs)
+
+pub applied_committed : (opening : Objects) (s : State) (b : Batch) (xs : List Intent) → drop (applied_count s) (commit_places s.book.commits) ≡ places xs
+    → replay opening (applied_changes (committed_batch b s)) ≡ replay (replay opening (applied_changes s)) (changes_of s.book.entries xs)
+applied_committed opening s b xs last =
     let cs : List Commit = s.book.commits in
     let es : List Entry = s.book.entries in
     let n : ℕ = applied_count s in
@@ -41,9 +46,10 @@ applied_committed opening s b x last =
     let all : take (length cs - 0) ps ≡ ps = take_all (length cs - 0) ps (let count = count_places cs in omega (arith, count)) in
     ap (replay opening) (applied_by_places es cs (length cs - 0)
     ∙ ap (changes_at es) (all ∙ sym (take-append-drop n ps) ∙ ap (λ (l : List ℕ). take n ps ++ l) last)
-    ∙ filter_map-append (change_at es) (take n ps) (x.place ∷ [])
-    ∙ ap (λ (l : List Change). l ++ changes_at es (x.place ∷ [])) (sym (applied_by_places es cs n)))
-    ∙ replay-append opening (applied_changes s) (changes_at es (x.place ∷ []))
+    ∙ filter_map-append (change_at es) (take n ps) (places xs)
+    ∙ ap (λ (l : List Change). l ++ changes_at es (places xs)) (sym (applied_by_places es cs n)))
+    ∙ replay-append opening (applied_changes s) (changes_at es (places xs))
+    ∙ ap (replay (replay opening (applied_changes s))) (sym (changes_by_places es xs))
 
 -- ---- one more entry
 

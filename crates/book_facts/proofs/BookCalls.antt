@@ -1,5 +1,5 @@
 -- Each call of the kernel keeps what is known of the book, and so does a run: by what calls make of rows and book.
-use Rattle.std.proofs.Common.{◌≡◌, inl, inr, ◌+◌, ◌<◌, ◌++◌, length, List, [], ◌∷◌, ℕ, Option, Some, None, refl, sym, ap, subst, ◌∙◌, arith}
+use Rattle.std.proofs.Common.{◌≡◌, inl, inr, ◌+◌, ◌<◌, ◌++◌, length, List, [], ◌∷◌, ℕ, Option, Some, None, refl, sym, ap, subst, ◌∙◌, arith, map}
 use Rattle.std.specs.Option.{option_map_or}
 use Rattle.std.proofs.lemmas.List.{append_cancel_left}
 use Rattle.block_device.specs.declared.device.Ticket.{Ticket}
@@ -14,7 +14,7 @@ use Rattle.store_steps.specs.declared.step.Step.TheVariants as step
 use Rattle.store_steps.specs.State.{Batch, State}
 use Rattle.store_steps.specs.Changes.{taken_up, committed_batch, finished}
 use Rattle.store_steps.specs.Submit.{Accepts}
-use Rattle.store_steps.specs.Runs.{Call, Calls, IsRun, MaySubmit}
+use Rattle.store_steps.specs.Runs.{Call, Calls, IsRun}
 use Rattle.store_steps.specs.Intents.{Intent, intents}
 use Rattle.store_steps.specs.UnderWay.{uncommitted}
 use Rattle.store_steps.specs.Parts.{RowsPart, BookPart, rows_part, book_part}
@@ -25,19 +25,21 @@ use Rattle.store_steps.specs.BookGoes.{BookGoes}
 use Rattle.store_steps.specs.BookGoes as book
 use Rattle.store_steps.specs.Footprint.{Replies, refuses, reads, IsCaused, Footprint}
 use Rattle.store_facts.specs.Kept.{IsKept}
-use Rattle.store_facts.proofs.Conditions.{ready_by_table, finish_ready}
-use Rattle.store_facts.proofs.PartsKept.{intents_both, reordered}
-use Rattle.store_facts.proofs.InFlight.{IsTaken, chosen_taken}
-use Rattle.store_facts.proofs.Downs.{was_up, GoesDown, down_call}
+use Rattle.store_facts.proofs.Readiness.{ready_by_table}
+use Rattle.store_facts.proofs.Conditions.{take_none, finish_ready}
+use Rattle.store_facts.proofs.PartsKept.{intents_both}
+use Rattle.store_facts.proofs.Choosing.{IsFirst, chosen_first}
+use Rattle.store_facts.proofs.Downs.{was_up, GoesDown}
+use Rattle.store_facts.proofs.Keeping.{down_call}
+use Rattle.unit_fields.specs.UnitSet.{Ascends}
+use Rattle.plan_rows.specs.Plans.{IsKnown}
 use Rattle.store_facts.proofs.Footprints.{footprint_of}
 use Rattle.book_facts.specs.BookFacts.{KnownOfBook, IsInOrder}
 use Rattle.book_facts.proofs.Books.{KeepBook, batch_of, book_stays, book_takes, book_commits, book_finishes, known_legal}
 use Rattle.book_facts.proofs.Order.{order_stays, order_takes, order_commits, order_finishes, order_accepts, order_enters}
 use Rattle.book_facts.proofs.KeptCalls.{kept_call}
 use Rattle.book_facts.proofs.KnownPlans.{known_plan}
-use Rattle.book_facts.proofs.Selected.{same_order}
 use Rattle.book_facts.proofs.Accepted.{book_accepts, book_notes, book_answers, cause_refuses, read_accepts_none}
-use Rattle.store_facts.proofs.Alone.{far_of}
 
 -- ---- calls that leave rows and book
 
@@ -66,10 +68,10 @@ down_keeps s d s' d' (inr still) = subst (KeepBook s) (sym still.state)
 -- it is kept where these stay, and wherever a call changes them
 record IsBookFact (K : State → Type 0) : Type 0 where
   stays : (s s' : State) → KeepBook s s' → K s → K s'
-  accepts : (s : State) (d : Disk) (s' : State) (client line : ℕ) (change : Change) → PlansKeep → IsKept s d → MaySubmit change s d
+  accepts : (s : State) (d : Disk) (s' : State) (client line : ℕ) (change : Change) → PlansKeep → IsKept s d → IsKnown change.ops
       → Accepts client line change s s' → K s → K s'
   replies : (s : State) (d : Disk) (s' : State) → Replies s d s' → K s → K s'
-  takes : (s : State) (x : Context) → IsTaken s x → K s → K (taken_up x s)
+  takes : (s : State) (x : Context) → s.batch ≡ None → IsFirst [] x s.pending → Ascends (map (λ z. z.place) s.pending) → K s → K (taken_up x s)
   commits : (s : State) (b : Batch) → K s → K (committed_batch b s)
   finishes : (s : State) → s.acked < length s.book.commits → K s → K (finished s)
 
@@ -77,26 +79,17 @@ module _ (K : State → Type 0) (fact : IsBookFact K) where
   -- ---- a call that leaves the kernel up
 
   module _ (s : State) (d : Disk) (s' : State) (d' : Disk) (plans : PlansKeep) (kept : IsKept s d) (up : s.down ≡ None) (known : K s) where
-    same_rows_keep : (t : Touch) → s'.events ≡ s.events + events_of t → (is : rows_part s' ≡ rows_part s)
-        → (b : BookGoes s.events t (book_part s) (book_part s')) → IsCaused s d s' d' (rows.same is) b → K s'
-    same_rows_keep t events is (book.same same) caused = fact.stays s s' (parts_keep s s' is same (events_of t) events) known
-    same_rows_keep t events is (book.enters e entered) caused = fact.replies s d s' caused known
-    same_rows_keep t events is (book.commits xs none opened) caused =
-        let x : Context = caused.does.context in
-        subst K (sym caused.does.after) (fact.takes s x (chosen_taken s x (far_of s d (kept.up up)) caused.does.is_chosen) known)
-    same_rows_keep t events is (book.applies count all counted) caused = absurd caused
-    same_rows_keep t events is (book.acknowledges acked) caused = subst K (sym caused.does.after)
-        (fact.finishes s (finish_ready s d d.depth kept.always (ready_by_table s d.depth step.Finish up caused.ready)).0 known)
-
     parts_go : (t : Touch) → s'.events ≡ s.events + events_of t → (go : RowsGo (rows_part s) (rows_part s'))
         → (b : BookGoes s.events t (book_part s) (book_part s')) → IsCaused s d s' d' go b → K s'
-    parts_go t events (rows.same is) b caused = same_rows_keep t events is b caused
-    parts_go t events (rows.reorders later order is) b caused =
-        let same : rows_part s' ≡ rows_part s =
-        is ∙ ap (λ (l : List Intent). record (rows_part s) { intents = l }) (same_order s (far_of s d (kept.up up)) later order) in
-        same_rows_keep t events same b (reordered s d s' d' s.events t (rows_part s) (rows_part s') (book_part s) (book_part s') later order is same b caused)
+    parts_go t events (rows.same is) (book.same same) caused = fact.stays s s' (parts_keep s s' is same (events_of t) events) known
+    parts_go t events (rows.same is) (book.enters e entered) caused = fact.replies s d s' caused known
+    parts_go t events (rows.same is) (book.acknowledges acked) caused = subst K (sym caused.does.after)
+        (fact.finishes s (finish_ready s d kept.always (ready_by_table s d.depth step.Finish up caused.ready)).0 known)
+    parts_go t events (rows.reorders later order is) (book.commits xs none opened) caused =
+        subst K (sym caused.does.after) (fact.takes s caused.does.context (take_none s d.depth (ready_by_table s d.depth step.Take up caused.ready))
+        (chosen_first [] s.pending caused.does.context caused.does.is_chosen) (kept.up up).flights.places.ascend known)
     parts_go t events (rows.joins x is) (book.enters e entered) caused =
-        fact.accepts s d s' caused.client caused.line caused.change plans kept caused.may caused.accepts known
+        fact.accepts s d s' caused.client caused.line caused.change plans kept caused.known caused.accepts known
     parts_go t events (rows.applies number front back both fits is) (book.applies count all counted) caused =
         subst K (sym caused.does.after) (fact.commits s caused.does.batch known)
     parts_go t events go b caused = absurd caused
@@ -110,7 +103,7 @@ module _ (K : State → Type 0) (fact : IsBookFact K) where
       of_down None up =
           let f : Footprint s d s' d' = footprint_of call s d s' d' kept up made in
           parts_go s d s' d' plans kept (was_up call s d s' d' made up) known f.touch f.counted f.rows f.book f.caused
-      of_down (Some first) down = fact.stays s s' (down_keeps s d s' d' (down_call call s d s' d' first down made)) known
+      of_down (Some first) down = fact.stays s s' (down_keeps s d s' d' (down_call call s d s' d' first kept down made)) known
 
   fact_run : (calls : List Call) (s s' : State) (d d' : Disk) → PlansKeep → IsKept s d → K s → IsRun s d calls s' d' → K s'
   fact_run [] s s' d d' plans kept known run = subst K (sym run.0) known

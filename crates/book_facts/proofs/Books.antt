@@ -1,8 +1,8 @@
 -- How each call keeps what is known of the book.
-use Rattle.std.proofs.Common.{◌≡◌, ℕ, ◌+◌, ◌-◌, ◌<◌, ◌≤◌, Bool, cond, not, List, [], ◌∷◌, ◌++◌, length, drop}
+use Rattle.std.proofs.Common.{◌≡◌, ℕ, ◌+◌, ◌-◌, ◌<◌, ◌≤◌, Bool, cond, not, List, [], ◌∷◌, ◌++◌, length, drop, map}
 use Rattle.std.proofs.Common.{Option, None, refl, sym, ap, subst, ◌∙◌, length-append, arith}
 use Rattle.std.specs.Prelude.{is_some, IsSome, IfSome, nat_eq}
-use Rattle.std.specs.List.{IsDistinct}
+use Rattle.std.specs.List.{IsDistinct, AllByRecursion}
 use Rattle.std.specs.Option.{option_map_or}
 use Rattle.std.proofs.lemmas.List.{map-append, drop_at, drop_all, length-map}
 use Rattle.std.proofs.lemmas.Bool.{eq-eqb}
@@ -22,12 +22,16 @@ use Rattle.store_steps.specs.Changes.{commit_of, taken_up, acknowledged, finishe
 use Rattle.store_steps.specs.Ready.{applied_count}
 use Rattle.store_steps.specs.Intents.{Intent, intent_of, intents}
 use Rattle.store_steps.specs.Parts.{BookPart, book_part}
-use Rattle.store_facts.proofs.InFlight.{IsTaken}
+use Rattle.store_facts.proofs.Choosing.{IsFirst}
+use Rattle.store_facts.proofs.Lists.{elsewhere, without_at}
+use Rattle.store_facts.proofs.PartsKept.{intents_both}
+use Rattle.unit_fields.specs.UnitSet.{Ascends}
 use Rattle.book_facts.specs.BookFacts.{commit_places, IsOfEntry, AreCommits, IsBookKnown, KnownOfBook}
 use Rattle.book_facts.proofs.Entries.{counts_more}
 use Rattle.book_facts.proofs.Commits.{all_push, all_behind, acked_push, by_now_more, by_now_acknowledged, acked_acknowledged}
 use Rattle.book_facts.proofs.Commits.{count_push, count_acknowledged, places_acknowledged, length_acknowledged, AreAtPlaces, at_places, of_places}
 use Rattle.book_facts.proofs.Queues.{queued_taken, queued_places, once_committed, committed_in_order}
+use Rattle.object_model.specs.declared.book.Entry.{Entry}
 
 -- ---- a known book is legal, but for the bytes that reads gave
 
@@ -87,28 +91,51 @@ book_stays opening s s' keep known =
 
 -- ---- a batch is opened
 
-module _ (opening : Objects) (s : State) (x : Context) where
-  -- the state before it, where the context waits alone
-  abbrev waiting : State
-  waiting = record s { pending = x ∷ []; batch = None }
+-- what holds of all that wait holds of the one that is taken and of the others
+pub all_taken : (P : Intent → Type 0) (front : List Context) (x : Context) (back : List Context) → AllByRecursion P (intents (front ++ x ∷ back))
+    → P (intent_of x) × AllByRecursion P (intents (front ++ back))
+all_taken P [] x back all = all
+all_taken P (y ∷ front) x back all = let rest = all_taken P front x back all.1 in (rest.0, (all.0, rest.1))
 
-  book_taken : KnownOfBook opening waiting → KnownOfBook opening (record (taken_up x waiting) { pending = [] })
-  book_taken known = record {
-    answers = known.answers;
-    counts = known.counts;
-    commits = record {
-      of_accepted =
-          all_push (λ c. IsSome (change_at s.book.entries c.place)) s.book.commits (commit_of x) known.commits.of_accepted
-          (ap is_some known.contexts.0.accepted);
-      acked_first = acked_push 0 s.book.commits (commit_of x) refl known.commits.acked_first;
-      counted = known.commits.counted ∙ sym (count_push s.book.commits (commit_of x) refl);
-      by_now = all_push (λ c. IfSome c.acked_at (λ a. a ≤ s.events)) s.book.commits (commit_of x) known.commits.by_now tt;
-    };
-    queued = queued_taken s.book.entries s.book.commits (commit_of x) (intent_of x) refl known.contexts.0 known.queued;
-    contexts = known.contexts;
-    last_committed = last_committed;
-    shape = known.shape;
-  }
+-- the queues of collections, as contexts wait
+pub queues_taken : (es : List Entry) (commits : List Commit) (x : Context) (xs : List Context) (at : IsFirst [] x xs) → IsOfEntry es (intent_of x)
+    → AreQueued (record { entries = es; commits = commits }) (intents (at.front ++ x ∷ at.back))
+    → AreQueued (record { entries = es; commits = commits ++ commit_of x ∷ [] }) (intents (at.front ++ at.back))
+queues_taken es commits x xs at is queued =
+    subst (AreQueued (record { entries = es; commits = commits ++ commit_of x ∷ [] })) (sym (intents_both at.front at.back))
+    (queued_taken es commits (commit_of x) (intents at.front) (intent_of x) (intents at.back) refl is at.first
+    (subst (AreQueued (record { entries = es; commits = commits })) (intents_both at.front (x ∷ at.back)) queued))
+
+-- those that wait then
+pub waiting_then : (s : State) (x : Context) (at : IsFirst [] x s.pending) → Ascends (map (λ z. z.place) s.pending)
+    → without_context x.place s.pending ≡ at.front ++ at.back
+waiting_then s x at places = ap (without_context x.place) at.is
+    ∙ without_at at.front x at.back (elsewhere at.front x at.back (subst (λ (xs : List Context). Ascends (map (λ (z : Context). z.place) xs)) at.is places))
+
+module _ (opening : Objects) (s : State) (x : Context) (at : IsFirst [] x s.pending) where
+  -- the state before it, without a batch
+  abbrev waiting : State
+  waiting = record s { pending = at.front ++ x ∷ at.back; batch = None }
+
+  book_taken : KnownOfBook opening waiting → KnownOfBook opening (record (taken_up x waiting) { pending = at.front ++ at.back })
+  book_taken known =
+      let both = all_taken (IsOfEntry s.book.entries) at.front x at.back known.contexts in
+      record {
+        answers = known.answers;
+        counts = known.counts;
+        commits = record {
+          of_accepted =
+              all_push (λ c. IsSome (change_at s.book.entries c.place)) s.book.commits (commit_of x) known.commits.of_accepted
+              (ap is_some (both.0).accepted);
+          acked_first = acked_push 0 s.book.commits (commit_of x) refl known.commits.acked_first;
+          counted = known.commits.counted ∙ sym (count_push s.book.commits (commit_of x) refl);
+          by_now = all_push (λ c. IfSome c.acked_at (λ a. a ≤ s.events)) s.book.commits (commit_of x) known.commits.by_now tt;
+        };
+        queued = queues_taken s.book.entries s.book.commits x s.pending at both.0 known.queued;
+        contexts = both;
+        last_committed = last_committed;
+        shape = known.shape;
+      }
     where
       count : length (s.book.commits ++ commit_of x ∷ []) - 1 ≡ length s.book.commits
       count = let more = length-append s.book.commits (commit_of x ∷ []) in omega (arith, more)
@@ -119,15 +146,11 @@ module _ (opening : Objects) (s : State) (x : Context) where
           ∙ ap (drop (length s.book.commits)) (map-append (λ (c : Commit). c.place) s.book.commits (commit_of x ∷ []))
           ∙ drop_at (commit_places s.book.commits) (x.place ∷ []) (length s.book.commits) (length-map s.book.commits (λ (c : Commit). c.place))
 
-  none_without : without_context x.place (x ∷ []) ≡ []
-  none_without = ap (λ (b : Bool). cond (not b) (x ∷ []) []) (eq-eqb x.place x.place refl)
-
-  pub book_takes : IsTaken s x → KnownOfBook opening s → KnownOfBook opening (taken_up x s)
-  book_takes is known =
-      subst (λ (xs : List Context). KnownOfBook opening (record (taken_up x s) { pending = xs }))
-      (sym (ap (without_context x.place) is.pending ∙ none_without))
-      (book_taken (subst (λ (b : Option Batch). KnownOfBook opening (record s { pending = x ∷ []; batch = b })) is.batch
-      (subst (λ (xs : List Context). KnownOfBook opening (record s { pending = xs })) is.pending known)))
+  pub book_takes : s.batch ≡ None → Ascends (map (λ z. z.place) s.pending) → KnownOfBook opening s → KnownOfBook opening (taken_up x s)
+  book_takes none places known =
+      subst (λ (xs : List Context). KnownOfBook opening (record (taken_up x s) { pending = xs })) (sym (waiting_then s x at places))
+      (book_taken (subst (λ (b : Option Batch). KnownOfBook opening (record s { pending = at.front ++ x ∷ at.back; batch = b })) none
+      (subst (λ (xs : List Context). KnownOfBook opening (record s { pending = xs })) at.is known)))
 
 -- ---- the batch is committed
 

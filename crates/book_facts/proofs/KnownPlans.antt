@@ -11,7 +11,7 @@ use Rattle.plan_rows.specs.Keeps.{IsGood, Suits, PlanKeeps, PlanMakes, PlanTakes
 use Rattle.plan_rows.proofs.Agreeing.{agree_itself}
 use Rattle.store_steps.specs.State.{State}
 use Rattle.store_steps.specs.Submit.{Accepts}
-use Rattle.store_steps.specs.Runs.{MaySubmit}
+use Rattle.plan_rows.specs.Plans.{IsKnown}
 use Rattle.store_steps.specs.Parts.{rows_part}
 use Rattle.store_facts.specs.Kept.{IsKept}
 use Rattle.store_facts.specs.Space.{IsSpaceOf, AreRowsKept}
@@ -26,13 +26,13 @@ pub record IsKnownPlan (s : State) (change : Change) (plan : Plan) : Type 0 wher
   pub makes : PlanMakes s.log.sup change s.submitted plan
   pub takes : PlanTakes s.space change plan
 
-pub known_plan : PlansKeep → (s : State) (d : Disk) (client line : ℕ) (change : Change) (s' : State) → IsKept s d → MaySubmit change s d
+pub known_plan : PlansKeep → (s : State) (d : Disk) (client line : ℕ) (change : Change) (s' : State) → IsKept s d → IsKnown change.ops
     → (does : Accepts client line change s s') → IsKnownPlan s change does.plan
-known_plan plans s d client line change s' kept may does =
+known_plan plans s d client line change s' kept known does =
     let limits : IsSuper s.log.sup = kept.always.limits in
     let space : IsSpaceOf s.log.sup s.space = kept.always.space in
     let rows : AreRowsKept (rows_part s) = (kept.up does.can_note.up).rows in
-    let takes : PlanTakes s.space change does.plan = accepted_takes plans s client line change s' limits space rows may.known does in
+    let takes : PlanTakes s.space change does.plan = accepted_takes plans s client line change s' limits space rows known does in
     record {
       good = submitted_good s limits space rows;
       suits = record {
@@ -40,7 +40,7 @@ known_plan plans s d client line change s' kept may does =
         unmarked = all_then (λ u. Contains (free_units s.space) u) (λ u. ¬ IsMarked s.submitted u) (fresh_units does.plan)
             (λ u free. ((submitted_free s limits space rows).free u free).2) takes.free;
       };
-      keeps = accepted_keeps plans s client line change s' limits space rows may.known does;
-      makes = accepted_makes plans s client line change s' limits space rows may.known does;
+      keeps = accepted_keeps plans s client line change s' limits space rows known does;
+      makes = accepted_makes plans s client line change s' limits space rows known does;
       takes = takes;
     }

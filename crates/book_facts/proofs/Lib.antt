@@ -9,7 +9,6 @@ pub mod KnownPlans
 pub mod Accepted
 pub mod KeptCalls
 pub mod Selecting
-pub mod Selected
 pub mod BookCalls
 pub mod Applied
 pub mod FreeCounts

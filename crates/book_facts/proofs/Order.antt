@@ -1,5 +1,5 @@
 -- How each call keeps what is known of the order alone.
-use Rattle.std.proofs.Common.{◌≡◌, ℕ, Bool, cond, not, List, [], ◌∷◌, ◌++◌, length, Option, None, refl, sym, ap, subst, ◌∙◌, append_assoc}
+use Rattle.std.proofs.Common.{◌≡◌, ℕ, Bool, cond, not, List, [], ◌∷◌, ◌++◌, length, Option, None, refl, sym, ap, subst, ◌∙◌, append_assoc, map}
 use Rattle.std.specs.Prelude.{is_some, IsSome}
 use Rattle.std.specs.List.{AllByRecursion}
 use Rattle.std.proofs.lemmas.Bool.{eq-eqb}
@@ -21,12 +21,13 @@ use Rattle.store_steps.specs.Opened.{Found, opened}
 use Rattle.store_steps.specs.Intents.{Intent, intent_of, intents}
 use Rattle.store_steps.specs.Parts.{BookPart, book_part}
 use Rattle.store_facts.proofs.PartsKept.{intents_both}
-use Rattle.store_facts.proofs.InFlight.{IsTaken}
+use Rattle.store_facts.proofs.Choosing.{IsFirst}
+use Rattle.unit_fields.specs.UnitSet.{Ascends}
 use Rattle.book_facts.specs.BookFacts.{IsOfEntry, KnownOfOrder, IsInOrder}
 use Rattle.book_facts.proofs.Entries.{change_last, of_entries_push}
 use Rattle.book_facts.proofs.Commits.{all_push, all_behind, all_append, places_acknowledged, AreAtPlaces, at_places, of_places}
 use Rattle.book_facts.proofs.Queues.{entry_push, queued_noted, queued_accepted, queued_taken, queued_places}
-use Rattle.book_facts.proofs.Books.{KeepBook, batch_of, nothing_twice}
+use Rattle.book_facts.proofs.Books.{KeepBook, batch_of, nothing_twice, all_taken, queues_taken, waiting_then}
 
 -- at the start
 pub order_opened : (f : Found) (space : Space) (events : ℕ) → IsInOrder (opened f space events)
@@ -39,23 +40,23 @@ order_stays s s' keep known =
 
 -- ---- a batch is opened
 
-order_taken : (s : State) (x : Context) → IsInOrder (record s { pending = x ∷ []; batch = None })
-    → IsInOrder (let t : State = record s { pending = x ∷ []; batch = None } in record (taken_up x t) { pending = [] })
-order_taken s x known = record {
-  of_accepted = all_push (λ c. IsSome (change_at s.book.entries c.place)) s.book.commits (commit_of x) known.of_accepted
-      (ap is_some known.contexts.0.accepted);
-  queued = queued_taken s.book.entries s.book.commits (commit_of x) (intent_of x) refl known.contexts.0 known.queued;
-  contexts = known.contexts;
-}
+order_taken : (s : State) (x : Context) (at : IsFirst [] x s.pending) → IsInOrder (record s { pending = at.front ++ x ∷ at.back; batch = None })
+    → IsInOrder (let t : State = record s { pending = at.front ++ x ∷ at.back; batch = None } in record (taken_up x t) { pending = at.front ++ at.back })
+order_taken s x at known =
+    let both = all_taken (IsOfEntry s.book.entries) at.front x at.back known.contexts in
+    record {
+      of_accepted = all_push (λ c. IsSome (change_at s.book.entries c.place)) s.book.commits (commit_of x) known.of_accepted
+          (ap is_some (both.0).accepted);
+      queued = queues_taken s.book.entries s.book.commits x s.pending at both.0 known.queued;
+      contexts = both;
+    }
 
-none_without : (x : Context) → without_context x.place (x ∷ []) ≡ []
-none_without x = ap (λ (b : Bool). cond (not b) (x ∷ []) []) (eq-eqb x.place x.place refl)
-
-pub order_takes : (s : State) (x : Context) → IsTaken s x → IsInOrder s → IsInOrder (taken_up x s)
-order_takes s x is known =
-    subst (λ (xs : List Context). IsInOrder (record (taken_up x s) { pending = xs })) (sym (ap (without_context x.place) is.pending ∙ none_without x))
-    (order_taken s x (subst (λ (b : Option Batch). IsInOrder (record s { pending = x ∷ []; batch = b })) is.batch
-    (subst (λ (xs : List Context). IsInOrder (record s { pending = xs })) is.pending known)))
+pub order_takes : (s : State) (x : Context) → s.batch ≡ None → IsFirst [] x s.pending → Ascends (map (λ z. z.place) s.pending) → IsInOrder s
+    → IsInOrder (taken_up x s)
+order_takes s x none at places known =
+    subst (λ (xs : List Context). IsInOrder (record (taken_up x s) { pending = xs })) (sym (waiting_then s x at places))
+    (order_taken s x at (subst (λ (b : Option Batch). IsInOrder (record s { pending = at.front ++ x ∷ at.back; batch = b })) none
+    (subst (λ (xs : List Context). IsInOrder (record s { pending = xs })) at.is known)))
 
 -- ---- it is committed, and a commit is acknowledged
 

@@ -6,7 +6,9 @@ use Rattle.std.specs.List.{AllByRecursion, IsDistinct}
 use Rattle.std.specs.Cmp.{nat_eq_equiv}
 use Rattle.std.proofs.lemmas.List.{map-append}
 use Rattle.std.proofs.lemmas.List.Elements.{filter-append}
-use Rattle.std.proofs.lemmas.Map.Keys.{IsDistinct-push}
+use Rattle.std.proofs.lemmas.Map.Keys.{IsDistinct-push, IsDistinct-IsPermutation}
+use Rattle.std.specs.List.Sorted.{IsPermutation}
+use Rattle.std.proofs.lemmas.List.Sorted.{IsPermutation-append_right, IsPermutation-middle}
 use Rattle.object_model.specs.declared.book.Entry.{Entry}
 use Rattle.object_model.specs.declared.book.Commit.{Commit}
 use Rattle.object_model.specs.declared.book.Book.{Book}
@@ -95,30 +97,51 @@ module _ (es : List Entry) (e : Entry) (commits : List Commit) (waiting : List I
           ∙ ap (λ (l : List ℕ). committed_places coll es commits ++ l) (sym (on_push coll waiting x))
           ∙ ap (λ (l : List ℕ). l ++ places (intents_on coll (waiting ++ x ∷ []))) (sym (places_kept coll es e commits of_accepted))
 
--- ---- one intent is committed, the only one that waits
+-- ---- one intent is taken into a batch, the first of its collections
 
-pub queued_taken : (es : List Entry) (commits : List Commit) (c : Commit) (x : Intent) → c.place ≡ x.place → IsOfEntry es x
-    → AreQueued (record { entries = es; commits = commits }) (x ∷ []) → AreQueued (record { entries = es; commits = commits ++ c ∷ [] }) []
-queued_taken es commits c x same is queued = record { once = once; in_order = in_order }
+queued_on : (coll : List ℕ) (front : List Intent) (x : Intent) (back : List Intent) → (is_in coll x ≡ true → intents_on coll front ≡ [])
+    → places (intents_on coll (front ++ x ∷ back)) ≡ place_if (is_in coll x) x.place ++ places (intents_on coll (front ++ back))
+queued_on coll front x back first = ap places (filter-append (is_in coll) front (x ∷ back)) ∙ by_test (is_in coll x) refl
+    ∙ ap (λ (xs : List Intent). place_if (is_in coll x) x.place ++ places xs) (sym (filter-append (is_in coll) front back))
+  where
+    by_test : (b : Bool) → is_in coll x ≡ b → places (intents_on coll front ++ cond b (x ∷ intents_on coll back) (intents_on coll back))
+        ≡ place_if b x.place ++ places (intents_on coll front ++ intents_on coll back)
+    by_test true on = ap (λ (xs : List Intent). places (xs ++ x ∷ intents_on coll back)) (first on)
+        ∙ ap (λ (xs : List Intent). x.place ∷ places (xs ++ intents_on coll back)) (sym (first on))
+    by_test false on = refl
+
+pub queued_taken : (es : List Entry) (commits : List Commit) (c : Commit) (front : List Intent) (x : Intent) (back : List Intent) → c.place ≡ x.place
+    → IsOfEntry es x → ((coll : List ℕ) → is_in coll x ≡ true → intents_on coll front ≡ [])
+    → AreQueued (record { entries = es; commits = commits }) (front ++ x ∷ back) → AreQueued (record { entries = es; commits = commits ++ c ∷ [] }) (front ++ back)
+queued_taken es commits c front x back same is first queued = record { once = once; in_order = in_order }
   where
     one_more : commit_places (commits ++ c ∷ []) ≡ commit_places commits ++ x.place ∷ []
     one_more = map-append (λ d. d.place) commits (c ∷ []) ∙ ap (λ (n : ℕ). commit_places commits ++ n ∷ []) same
 
-    once : IsDistinct nat_eq (commit_places (commits ++ c ∷ []) ++ [])
-    once = subst (IsDistinct nat_eq) (sym (append-nil (commit_places (commits ++ c ∷ [])) ∙ one_more)) queued.once
+    moved : IsPermutation (commit_places commits ++ (places front ++ x.place ∷ places back)) (commit_places commits ++ x.place ∷ (places front ++ places back))
+    moved = IsPermutation-append_right (commit_places commits) (places front ++ x.place ∷ places back) (x.place ∷ (places front ++ places back))
+        (IsPermutation-middle (places front) x.place (places back))
 
-    on_it : (coll : List ℕ) → is_on coll (change_at es x.place) ≡ is_named coll (names_in x)
+    once : IsDistinct nat_eq (commit_places (commits ++ c ∷ []) ++ places (front ++ back))
+    once = subst (IsDistinct nat_eq) (sym (ap (λ (l : List ℕ). commit_places (commits ++ c ∷ []) ++ l) (map-append (λ y. y.place) front back)
+        ∙ ap (λ (l : List ℕ). l ++ (places front ++ places back)) one_more ∙ append_assoc (commit_places commits) (x.place ∷ []) (places front ++ places back)))
+        (IsDistinct-IsPermutation nat_eq nat_eq_equiv.symm (commit_places commits ++ (places front ++ x.place ∷ places back))
+        (commit_places commits ++ x.place ∷ (places front ++ places back)) moved
+        (subst (λ (l : List ℕ). IsDistinct nat_eq (commit_places commits ++ l)) (map-append (λ y. y.place) front (x ∷ back)) queued.once))
+
+    on_it : (coll : List ℕ) → is_on coll (change_at es x.place) ≡ is_in coll x
     on_it coll = ap (is_on coll) is.accepted ∙ ap (is_named coll) is.same_names
 
-    in_order : (coll : List ℕ) → places_of coll es ≡ committed_places coll es (commits ++ c ∷ []) ++ []
+    in_order : (coll : List ℕ) → places_of coll es ≡ committed_places coll es (commits ++ c ∷ []) ++ places (intents_on coll (front ++ back))
     in_order coll =
         queued.in_order coll
-        ∙ ap (λ (l : List ℕ). committed_places coll es commits ++ l) (on_one coll x ∙ ap (λ (b : Bool). place_if b x.place) (sym (on_it coll)))
-        ∙ ap (λ (l : List ℕ). l ++ places_on coll es (x.place ∷ [])) (places_by_places coll es commits)
+        ∙ ap (λ (l : List ℕ). committed_places coll es commits ++ l) (queued_on coll front x back (first coll)
+        ∙ ap (λ (b : Bool). place_if b x.place ++ places (intents_on coll (front ++ back))) (sym (on_it coll)))
+        ∙ sym (append_assoc (committed_places coll es commits) (places_on coll es (x.place ∷ [])) (places (intents_on coll (front ++ back))))
+        ∙ ap (λ (l : List ℕ). l ++ places (intents_on coll (front ++ back)))
+        (ap (λ (l : List ℕ). l ++ places_on coll es (x.place ∷ [])) (places_by_places coll es commits)
         ∙ sym (filter-append (λ p. is_on coll (change_at es p)) (commit_places commits) (x.place ∷ []))
-        ∙ ap (places_on coll es) (sym one_more)
-        ∙ sym (places_by_places coll es (commits ++ c ∷ []))
-        ∙ sym (append-nil (committed_places coll es (commits ++ c ∷ [])))
+        ∙ ap (places_on coll es) (sym one_more) ∙ sym (places_by_places coll es (commits ++ c ∷ [])))
 
 -- ---- commits of the same places
 

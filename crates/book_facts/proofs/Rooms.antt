@@ -21,17 +21,27 @@ use Rattle.store_steps.specs.declared.step.Step.TheVariants.{Data, Reap, Take, F
 use Rattle.store_steps.specs.State.{Batch, State}
 use Rattle.store_steps.specs.Contexts.{batch_ops, batch_released, sum_needs}
 use Rattle.store_steps.specs.Changes.{after_done, after_good, flying_of, landed, reaped, committed_batch}
-use Rattle.plan_rows.specs.Plans.{units_taken, fresh_units}
+use Rattle.plan_rows.specs.Plans.{IsKnown, units_taken, fresh_units}
 use Rattle.plan_rows.specs.Keeps.{PlansKeep}
 use Rattle.unit_allocator.specs.Units.{IsWithin, is_free, free_units}
 use Rattle.unit_allocator.proofs.FreeUnits.{listed_is_free}
 use Rattle.store_steps.specs.Ready.{is_ready}
-use Rattle.store_steps.specs.Runs.{Call, submitting, reading, stepping, DoesOrFails, MaySubmit, Submits, Reads, Calls, IsRun}
+use Rattle.store_steps.specs.Runs.{Call, submitting, reading, stepping, DoesOrFails, Submits, Reads, Calls, IsRun}
 use Rattle.store_steps.specs.Steps.{Takes, DoesReap}
 use Rattle.meta_store.specs.Store.{room_of}
 use Rattle.store_steps.specs.Submit.{need_of, free_count, entered, Accepts, Refuses}
 use Rattle.store_facts.specs.Kept.{IsKept, IsKeptUp}
-use Rattle.store_facts.proofs.Conditions.{ready_not_down, ready_by_table, ReadyCommit, commit_ready}
+use Rattle.store_steps.specs.Intents.{ops_by, released_by, needs_by}
+use Rattle.store_steps.specs.Parts.{RowsPart, rows_part}
+use Rattle.store_steps.specs.RowsGo.{RowsGo}
+use Rattle.store_steps.specs.RowsGo as rows
+use Rattle.store_steps.specs.Footprint.{Footprint}
+use Rattle.meta_log.specs.declared.slot.Super.{Super}
+use Rattle.store_facts.specs.Room.{HasRoom}
+use Rattle.store_facts.proofs.Footprints.{footprint_of}
+use Rattle.store_facts.proofs.RowsSteps.{IsNoJoin, none_joins}
+use Rattle.store_facts.proofs.RoomKept.{needs_join}
+use Rattle.store_facts.proofs.Keeping.{StepOutcome, has_stepped, has_waited, has_gone_down, step_leaves}
 use Rattle.book_facts.specs.Rooms.{units_taken_by, taken_by, need_if_accepted, needs_in}
 use Rattle.book_facts.proofs.Accepted.{cause_refuses, read_accepts_none}
 use Rattle.book_facts.proofs.Entries.{own_change, accepted_push, none_accepted}
@@ -39,7 +49,6 @@ use Rattle.book_facts.proofs.FreeCounts.{count_taken, count_given}
 use Rattle.book_facts.proofs.Commits.{all_then}
 use Rattle.book_facts.proofs.KeptCalls.{kept_call}
 use Rattle.book_facts.proofs.KnownPlans.{IsKnownPlan, known_plan}
-use Rattle.store_facts.proofs.Alone.{far_of}
 
 -- ---- steps take nothing
 
@@ -50,78 +59,50 @@ pub record LeavesRoom (s s' : State) : Type 0 where
   pub room : room_of s.log ≤ room_of s'.log
 
 -- the states differ in other parts
-same_room : (s t : State) → t.book.entries ≡ s.book.entries → t.space ≡ s.space → t.log.sup.half ≡ s.log.sup.half → t.log.tail ≡ s.log.tail
-    → t.log.reserved ≡ s.log.reserved → LeavesRoom s t
-same_room s t entries space half tail reserved =
-    record { entries = entries; space = (let same = ap free_count space in omega (arith, same)); room = omega (arith, half, tail, reserved) }
+same_room : (s t : State) → t.book.entries ≡ s.book.entries → t.space ≡ s.space → t.log ≡ s.log → LeavesRoom s t
+same_room s t entries space log =
+    record { entries = entries; space = (let same = ap free_count space in omega (arith, same)); room = (let same = ap room_of log in omega (arith, same)) }
 
-itself : (s : State) → LeavesRoom s s
-itself s = same_room s s refl refl refl refl refl
+-- what becomes of the rows without one that joins
+record PartLeaves (p q : RowsPart) : Type 0 where
+  space : free_count p.space ≤ free_count q.space
+  room : p.sup.half - p.tail - p.reserved ≤ q.sup.half - q.tail - q.reserved
 
-done_room : (j : Job) (s : State) → LeavesRoom s (after_done j s)
-done_room (job.Data place count) s = same_room s (after_done (job.Data place count) s) refl refl refl refl refl
-done_room job.DataFlush s = same_room s (after_done job.DataFlush s) refl refl refl refl refl
-done_room job.Record s = same_room s (after_done job.Record s) refl refl refl refl refl
-done_room job.RecordFlush s = same_room s (after_done job.RecordFlush s) refl refl refl refl refl
-
-good_room : (f : Option Flying) (s : State) → LeavesRoom s (after_good f s)
-good_room None s = itself s
-good_room (Some f) s = done_room f.job s
-
-reaped_room : (ok : Bool) (ticket : Ticket) (s : State) → LeavesRoom s (reaped ticket ok s)
-reaped_room true ticket s = by_down (is_some s.down)
-  where
-    good_end : LeavesRoom s (after_good (flying_of ticket s.flying) (landed ticket s))
-    good_end =
-        let after = good_room (flying_of ticket s.flying) (landed ticket s) in
-        record { entries = after.entries; space = after.space; room = after.room }
-
-    by_down : (b : Bool) → LeavesRoom s (cond b (landed ticket s) (after_good (flying_of ticket s.flying) (landed ticket s)))
-    by_down true = same_room s (landed ticket s) refl refl refl refl refl
-    by_down false = good_end
-reaped_room false ticket s = same_room s (reaped ticket false s) refl refl refl refl refl
-
--- what a batch had reserved its record takes
-committed_room : (s : State) (b : Batch) → ReadyCommit s b → LeavesRoom s (committed_batch b s)
-committed_room s b ready = record {
-  entries = refl;
-  space = count_given (batch_released b) s.space;
-  room = by_number s.log.sup.half s.log.tail (unit_count s.log.number (batch_ops b)) s.log.reserved (sum_needs b.contexts)
-      (let needs : sum_needs b.contexts ≡ ready.context.need + 0 = ap sum_needs ready.one in
-      let units = ready.units in
-      omega (arith, needs, units)) ready.needs;
+part_same : (p q : RowsPart) → q.space ≡ p.space → q.sup ≡ p.sup → q.tail ≡ p.tail → q.reserved ≡ p.reserved → PartLeaves p q
+part_same p q space sup tail reserved = record {
+  space = (let same = ap free_count space in omega (arith, same));
+  room = omega (arith, ap (λ (k : Super). k.half) sup, tail, reserved);
 }
+
+part_leaves : (p q : RowsPart) (goes : RowsGo p q) → IsNoJoin goes → HasRoom p → PartLeaves p q
+part_leaves p q (rows.same is) alone has =
+    part_same p q (ap (λ (r : RowsPart). r.space) is) (ap (λ (r : RowsPart). r.sup) is) (ap (λ (r : RowsPart). r.tail) is) (ap (λ (r : RowsPart). r.reserved) is)
+part_leaves p q (rows.joins x is) alone has = absurd alone
+part_leaves p q (rows.reorders later complete is) alone has =
+    part_same p q (ap (λ (r : RowsPart). r.space) is) (ap (λ (r : RowsPart). r.sup) is) (ap (λ (r : RowsPart). r.tail) is) (ap (λ (r : RowsPart). r.reserved) is)
+part_leaves p q (rows.applies number front back both fits is) alone has = subst (PartLeaves p) (sym is) (record {
+  space = count_given (released_by front) p.space;
+  room = by_number p.sup.half p.tail (unit_count number (ops_by front)) p.reserved (needs_by front) (needs_by back) fits has.room
+      (has.reserved ∙ ap needs_by both ∙ needs_join front back);
+})
   where
-    by_number : (half tail units reserved needs : ℕ) → units ≤ needs → needs ≤ reserved
-        → half - tail - reserved ≤ half - (tail + units) - (reserved - needs)
-    by_number half tail units reserved needs few enough = omega (arith, few, enough)
+    by_number : (half tail units reserved front back : ℕ) → units ≤ front → tail + reserved ≤ half → reserved ≡ front + back
+        → half - tail - reserved ≤ half - (tail + units) - (reserved - front)
+    by_number half tail units reserved front back few le is = omega (arith, few, le, is)
 
-module _ (s : State) (d : Disk) (s' : State) (d' : Disk) where
-  to_room : (t : State) → s' ≡ t → LeavesRoom s t → LeavesRoom s s'
-  to_room t e leaves = subst (LeavesRoom s) (sym e) leaves
-
-  ended_room : (ok : Bool) → Takes s d ok s' d' → LeavesRoom s s'
-  ended_room ok does = to_room (reaped does.ticket ok s) does.after (reaped_room ok does.ticket s)
-
-  reap_room : DoesReap s d s' d' → LeavesRoom s s'
-  reap_room (inl does) = ended_room true does
-  reap_room (inr waited) = to_room s waited.1 (itself s)
-
-  pub step_room : (step : Step) → IsKept s d → is_ready step d.depth s ≡ true → DoesOrFails step s d s' d' → LeavesRoom s s'
-  step_room Data kept ready does = to_room _ does.after (same_room s _ refl refl refl refl refl)
-  step_room Reap kept ready (inl does) = reap_room does
-  step_room Reap kept ready (inr failed) = ended_room false failed
-  step_room Take kept ready does = to_room _ does.after (same_room s _ refl refl refl refl refl)
-  step_room Flush kept ready does = to_room _ does.after (same_room s _ refl refl refl refl refl)
-  step_room Seal kept ready does = to_room _ does.after (same_room s _ refl refl refl refl refl)
-  step_room Record kept ready does = to_room _ does.after (same_room s _ refl refl refl refl refl)
-  step_room Sync kept ready does = to_room _ does.after (same_room s _ refl refl refl refl refl)
-  step_room Commit kept ready does =
-      let standing : s.down ≡ None = ready_not_down s d.depth Commit refl ready in
-      let up : IsKeptUp s d = kept.up standing in
-      to_room _ does.after (committed_room s does.batch
-      (commit_ready s d.depth does.batch (far_of s d up) up.room (ready_by_table s d.depth Commit standing ready) does.begun))
-  step_room Finish kept ready does = to_room _ does.after (same_room s _ refl refl refl refl refl)
+pub step_room : (s : State) (d : Disk) (s' : State) (d' : Disk) (step : Step) → IsKept s d → is_ready step d.depth s ≡ true → DoesOrFails step s d s' d'
+    → LeavesRoom s s'
+step_room s d s' d' step kept ready does = of_leaves (step_leaves step s d s' d' kept ready does)
+  where
+    of_leaves : StepOutcome s d s' d' → LeavesRoom s s'
+    of_leaves (has_stepped up paid matches) =
+        let f : Footprint s d s' d' = footprint_of (stepping step) s d s' d' kept (paid.up ∙ up) (ready, does) in
+        let leaves : PartLeaves (rows_part s) (rows_part s') =
+        part_leaves (rows_part s) (rows_part s') f.rows (none_joins s d s' d' paid.entries f.rows f.book f.caused) (kept.up up).room in
+        record { entries = paid.entries; space = leaves.space; room = leaves.room }
+    of_leaves (has_waited none same some) = same_room s s' (ap (λ (t : State). t.book.entries) same) (ap (λ (t : State). t.space) same) (ap (λ (t : State). t.log) same)
+    of_leaves (has_gone_down gone) = same_room s s' (ap (λ (t : State). t.book.entries) gone.ends.after) (ap (λ (t : State). t.space) gone.ends.after)
+        (ap (λ (t : State). t.log) gone.ends.after)
 
 -- ---- what entries took
 
@@ -156,10 +137,10 @@ entered_space s client line command a none =
     omega (arith, same)
 
 module _ (s : State) (d : Disk) (client line : ℕ) (change : Change) (s' : State) (plans : PlansKeep) (kept : IsKept s d)
-    (may : MaySubmit change s d) where
+    (known : IsKnown change.ops) where
   accepted_space : Accepts client line change s s' → KeepsSpace s s'
   accepted_space does = subst (KeepsSpace s) (sym does.after) (
-      let is : IsKnownPlan s change does.plan = known_plan plans s d client line change s' kept may does in
+      let is : IsKnownPlan s change does.plan = known_plan plans s d client line change s' kept known does in
       let units : List ℕ = fresh_units does.plan in
       let entry : Entry = record { client = client; line = line; command = ask.Change change; answer = answer.Accepted; acks = s.acked } in
       let free = count_taken units s.space is.keeps.ascend
@@ -210,9 +191,9 @@ want_of_space calls s s' t d d' client line need free change plans kept empty ru
 
 -- ---- room in the log
 
-pub accepted_room : (s s' : State) (d : Disk) (client line : ℕ) (change : Change) → IsKept s d → MaySubmit change s d
+pub accepted_room : (s s' : State) (d : Disk) (client line : ℕ) (change : Change) → IsKept s d → IsKnown change.ops
     → (a : Accepts client line change s s') → room_of s'.log + need_of s.log a.plan ≡ room_of s.log
-accepted_room s s' d client line change kept may a =
+accepted_room s s' d client line change kept known a =
     ap (λ (t : State). room_of t.log + need_of s.log a.plan) a.after
     ∙ by_number s.log.sup.half s.log.tail s.log.reserved (need_of s.log a.plan) a.fits
   where
@@ -224,12 +205,12 @@ pub steps_room : (step : Step) (s s' : State) (d d' : Disk) → IsKept s d → i
 steps_room step s s' d d' kept ready does sound = (step_room s d s' d' step kept ready does).room
 
 -- a submitted transaction lowers the room by its need, if it is accepted
-submitted_room : (s s' : State) (d : Disk) (client line : ℕ) (change : Change) → IsKept s d → MaySubmit change s d
+submitted_room : (s s' : State) (d : Disk) (client line : ℕ) (change : Change) → IsKept s d → IsKnown change.ops
     → (made : Submits client line change s s') → room_of s.log ≤ room_of s'.log + need_if_accepted client line change s s' made
-submitted_room s s' d client line change kept may (inl accepts) = let room = accepted_room s s' d client line change kept may accepts in omega (arith, room)
-submitted_room s s' d client line change kept may (inr (inl refuses)) =
+submitted_room s s' d client line change kept known (inl accepts) = let room = accepted_room s s' d client line change kept known accepts in omega (arith, room)
+submitted_room s s' d client line change kept known (inr (inl refuses)) =
     let same = ap (λ (t : State). room_of t.log) refuses.1.after in omega (arith, same)
-submitted_room s s' d client line change kept may (inr (inr away)) = let same = ap (λ (t : State). room_of t.log) away.same in omega (arith, same)
+submitted_room s s' d client line change kept known (inr (inr away)) = let same = ap (λ (t : State). room_of t.log) away.same in omega (arith, same)
 
 -- a read takes none
 read_room : (s s' : State) (d : Disk) (client line : ℕ) (command : Command) → Reads client line command s d s' → room_of s.log ≤ room_of s'.log

@@ -17,7 +17,8 @@ ghost use Rattle.store_steps.specs.Opened.{Found, opened};
 ghost use Rattle.store_steps.specs.Ready.{is_ready};
 ghost use Rattle.meta_store.specs.Store.{room_of};
 ghost use Rattle.store_steps.specs.Submit.{need_of, free_count, Accepts, Refuses};
-ghost use Rattle.store_steps.specs.Runs.{MaySubmit, DoesOrFails, Call, Calls, IsRun};
+ghost use Rattle.store_steps.specs.Runs.{DoesOrFails, Call, Calls, IsRun};
+ghost use Rattle.plan_rows.specs.Plans.{IsKnown};
 ghost use Rattle.store_facts.specs.Kept.{IsKept};
 ghost use Rattle.book_facts.specs.BookFacts.{KnownOfBook, IsInOrder};
 ghost use Rattle.book_facts.specs.Rooms.{taken_by, needs_in, demanded_by, any_no_space};
@@ -88,7 +89,7 @@ pub fn want_of_space_is_beyond_the_demand()
 /// An accepted transaction lowers the room in the log by its need, and no step or read lowers it. So want of room comes only where the needs of
 /// all transactions accepted since the mount and of the refused one together are more than the room was then.
 pub fn room_suffices()
-    ensures accepted { (client line : ℕ) (change : Change) (s s' : State) (d : Disk) → IsKept s d → MaySubmit change s d
+    ensures accepted { (client line : ℕ) (change : Change) (s s' : State) (d : Disk) → IsKept s d → IsKnown change.ops
         → (a : Accepts client line change s s') → room_of s'.log + need_of s.log a.plan ≡ room_of s.log }
     ensures steps { (step : Step) (s s' : State) (d d' : Disk) → IsKept s d → is_ready step d.depth s ≡ true
         → DoesOrFails step s d s' d' → IsSound d' → room_of s.log ≤ room_of s'.log }

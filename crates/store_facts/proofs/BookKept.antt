@@ -64,5 +64,5 @@ module _ (s : State) (d : Disk) (s' : State) (d' : Disk) where
   acked_in_turn moved (book.applies count all is) caused = tt
   acked_in_turn (rows.same kept) (book.acknowledges is) caused = in_turn caused.ready
   acked_in_turn (rows.joins x joined) (book.acknowledges is) caused = absurd caused
-  acked_in_turn (rows.reorders later complete kept) (book.acknowledges is) caused = in_turn caused.ready
+  acked_in_turn (rows.reorders later complete kept) (book.acknowledges is) caused = absurd caused
   acked_in_turn (rows.applies number front back both fits applied) (book.acknowledges is) caused = absurd caused

@@ -13,10 +13,10 @@ use Rattle.store_steps.specs.declared.context.Context.{Context}
 use Rattle.store_steps.specs.declared.flight.FlushState.{FlushState}
 use Rattle.store_steps.specs.declared.flight.FlushState.TheVariants as flush
 use Rattle.store_steps.specs.declared.flight.Flying.{Flying}
-use Rattle.store_steps.specs.declared.step.Step.TheVariants.{Data, Flush, Seal, Record, Sync, Commit, Finish}
+use Rattle.store_steps.specs.declared.step.Step.TheVariants.{Data, Take, Flush, Seal, Record, Sync, Commit, Finish}
 use Rattle.meta_store.specs.Store.{Begun}
 use Rattle.store_steps.specs.State.{Batch, State}
-use Rattle.store_steps.specs.Contexts.{Unsent, unsent_units, run_bytes, next_unsent, batch_ops, sum_needs}
+use Rattle.store_steps.specs.Contexts.{Unsent, unsent_units, run_bytes, next_unsent, chosen, batch_ops, sum_needs}
 use Rattle.store_steps.specs.Ready.{is_not_sent, is_flushed, pieces_of, batch_is, begun_is, applied_count, is_ready_up}
 use Rattle.store_steps.specs.UnderWay.{uncommitted}
 use Rattle.store_steps.specs.Intents.{intent_of, intents, needs_by}
@@ -142,6 +142,10 @@ number_low s d a = low s.log.number (work_left s) (length s.book.entries) a.numb
   where
     low : (n w entries : ℕ) → n + w ≤ 2 ^ 61 + entry_work * entries → entries ≤ 1048576 → n < 2 ^ 62
     low n w entries le most = omega arith
+
+-- no batch is open where one may be opened
+pub take_none : (s : State) (depth : ℕ) → is_ready_up Take depth s ≡ true → s.batch ≡ None
+take_none s depth ready = none_is s.batch (and_parts (is_none s.batch) (is_some (chosen s.pending)) ready).0
 
 pub seal_none : (s : State) (depth : ℕ) → is_ready_up Seal depth s ≡ true → s.log.begun ≡ None
 seal_none s depth ready = none_is s.log.begun (and_parts (is_some s.batch) (is_none s.log.begun) ready).1

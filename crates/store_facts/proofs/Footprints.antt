@@ -14,7 +14,8 @@ use Rattle.store_steps.specs.declared.step.Step.TheVariants as step
 use Rattle.store_steps.specs.State.{Batch, State}
 use Rattle.store_steps.specs.Ready.{is_ready}
 use Rattle.store_steps.specs.Submit.{entered, accepted_with, context_of, Accepts}
-use Rattle.store_steps.specs.Runs.{Call, submitting, reading, stepping, Calls, DoesOrFails, TurnsAway, MaySubmit}
+use Rattle.plan_rows.specs.Plans.{IsKnown}
+use Rattle.store_steps.specs.Runs.{Call, submitting, reading, stepping, Calls, DoesOrFails, TurnsAway}
 use Rattle.store_facts.specs.Kept.{IsKept}
 use Rattle.store_steps.specs.UnderWay.{given_fresh}
 use Rattle.store_facts.proofs.Downs.{was_up, down_not_up}
@@ -44,9 +45,9 @@ given_push [] [] x none = ap (λ (fs : List FreshUnit). fs ++ []) none
 given_push [] (y ∷ xs) x none = ap (λ (fs : List FreshUnit). take y.given y.fresh ++ fs) (given_push [] xs x none)
 given_push (y ∷ front) xs x none = ap (λ (fs : List FreshUnit). take y.given y.fresh ++ fs) (given_push front xs x none)
 
-accept_footprint : (client line : ℕ) (change : Change) (s : State) (d : Disk) (s' : State) (d' : Disk) → d' ≡ d → MaySubmit change s d
+accept_footprint : (client line : ℕ) (change : Change) (s : State) (d : Disk) (s' : State) (d' : Disk) → d' ≡ d → IsKnown change.ops
     → Accepts client line change s s' → Footprint s d s' d'
-accept_footprint client line change s d s' d' same may does =
+accept_footprint client line change s d s' d' same known does =
     let x : Context = context_of (length s.book.entries) change s.log does.plan in
     let front : List Context = option_map_or (λ (b : Batch). b.contexts) s.batch [] in
     subst (λ (t : State). Footprint s d t d') (sym does.after) (record {
@@ -64,7 +65,7 @@ accept_footprint client line change s d s' d' same may does =
         client = client;
         line = line;
         change = change;
-        may = may;
+        known = known;
         accepts = subst (λ (t : State). Accepts client line change s t) does.after does;
       };
     })

@@ -62,7 +62,6 @@ waited_more s d d' are some (inr more) = (more.1, ap (λ (e : Disk). e.waits) mo
 
 pub record GoneDown (s : State) (d : Disk) (s' : State) (d' : Disk) : Type 0 where
   pub ends : Ends s d s' d'
-  pub always : IsAlwaysKept s' d'
   pub down : is_some s'.down ≡ true
   pub falls : work_left s' < work_left s
 
@@ -70,27 +69,16 @@ down_is_some : (o : Option Ticket) (ticket : Ticket) → is_some (down_by o tick
 down_is_some None ticket = refl
 down_is_some (Some first) ticket = refl
 
-falls_with : (s : State) (d : Disk) (s' : State) (d' : Disk) → IsSound d' → IsAlwaysKept s d → (e : Ends s d s' d') → is_some e.down ≡ true
+falls_with : (s : State) (d : Disk) (s' : State) (d' : Disk) → AreFlights s.flying d.flights → (e : Ends s d s' d') → is_some e.down ≡ true
     → GoneDown s d s' d'
-falls_with s d s' d' sound a e some =
+falls_with s d s' d' mirror e some =
     let u : State = (let t : State = landed e.ticket s in record t { down = e.down }) in
-    let land : Landed s.flying e.ticket d d' = landed_flight d d' e.ticket e.ok s.flying a.flights e.ended in
+    let land : Landed s.flying e.ticket d d' = landed_flight d d' e.ticket e.ok s.flying mirror e.ended in
     let falls : work_left u < work_left s =
     less (length (others_of e.ticket s.flying)) (length s.flying) (sum_work s.pending) (option_map_or (batch_work s.log) s.batch 0)
     (applied_count s - s.acked) land.fewer in
     record {
       ends = e;
-      always = subst (λ (z : State). IsAlwaysKept z d') (sym e.after) (record {
-        device = sound;
-        limits = a.limits;
-        units = a.units ∙ sym land.units;
-        space = a.space;
-        flights = land.flights;
-        few = record { commits = a.few.commits; entries = a.few.entries };
-        book = a.book;
-        events = paid_within s.events (s.events + 1) (work_left s) (work_left u) (budget s) a.events falls (omega arith);
-        numbers = paid_within s.log.number s.log.number (work_left s) (work_left u) (budget s) a.numbers falls (omega arith);
-      });
       down = subst (λ (z : State). is_some z.down ≡ true) (sym e.after) some;
       falls = subst (λ (z : State). work_left z < work_left s) (sym e.after) falls;
     }
@@ -99,12 +87,31 @@ falls_with s d s' d' sound a e some =
     less rest all a b c is = omega (arith, is)
 
 -- one ended badly; or well, while the kernel is down
-bad_falls : (s : State) (d : Disk) (s' : State) (d' : Disk) → IsSound d' → IsAlwaysKept s d → Takes s d false s' d' → GoneDown s d s' d'
-bad_falls s d s' d' sound a ended = falls_with s d s' d' sound a (bad_end s d s' d' ended) (down_is_some s.down ended.ticket)
+bad_falls : (s : State) (d : Disk) (s' : State) (d' : Disk) → AreFlights s.flying d.flights → Takes s d false s' d' → GoneDown s d s' d'
+bad_falls s d s' d' mirror ended = falls_with s d s' d' mirror (bad_end s d s' d' ended) (down_is_some s.down ended.ticket)
 
-late_falls : (s : State) (d : Disk) (s' : State) (d' : Disk) → IsSound d' → IsAlwaysKept s d → is_some s.down ≡ true → Takes s d true s' d'
+late_falls : (s : State) (d : Disk) (s' : State) (d' : Disk) → AreFlights s.flying d.flights → is_some s.down ≡ true → Takes s d true s' d'
     → GoneDown s d s' d'
-late_falls s d s' d' sound a some ended = falls_with s d s' d' sound a (late_end s d s' d' some ended) some
+late_falls s d s' d' mirror some ended = falls_with s d s' d' mirror (late_end s d s' d' some ended) some
+
+-- what it keeps
+pub down_keeps : (s : State) (d : Disk) (s' : State) (d' : Disk) → IsSound d' → IsAlwaysKept s d → GoneDown s d s' d' → IsAlwaysKept s' d'
+down_keeps s d s' d' sound a gone =
+    let e : Ends s d s' d' = gone.ends in
+    let u : State = (let t : State = landed e.ticket s in record t { down = e.down }) in
+    let land : Landed s.flying e.ticket d d' = landed_flight d d' e.ticket e.ok s.flying a.flights e.ended in
+    let falls : work_left u < work_left s = subst (λ (z : State). work_left z < work_left s) e.after gone.falls in
+    subst (λ (z : State). IsAlwaysKept z d') (sym e.after) (record {
+      device = sound;
+      limits = a.limits;
+      units = a.units ∙ sym land.units;
+      space = a.space;
+      flights = land.flights;
+      few = record { commits = a.few.commits; entries = a.few.entries };
+      book = a.book;
+      events = paid_within s.events (s.events + 1) (work_left s) (work_left u) (budget s) a.events falls (omega arith);
+      numbers = paid_within s.log.number s.log.number (work_left s) (work_left u) (budget s) a.numbers falls (omega arith);
+    })
 
 -- ---- what a step that was ready leaves
 
@@ -113,46 +120,46 @@ pub data StepOutcome (s : State) (d : Disk) (s' : State) (d' : Disk) : Type 0 wh
   has_waited : Waited d d' → s' ≡ s → not (is_empty s.flying) ≡ true → StepOutcome s d s' d'
   has_gone_down : GoneDown s d s' d' → StepOutcome s d s' d'
 
-up_leaves : (step : Step) (s : State) (d : Disk) (s' : State) (d' : Disk) → IsSound d' → IsAlwaysKept s d → s.down ≡ None → IsKeptUp s d
+up_leaves : (step : Step) (s : State) (d : Disk) (s' : State) (d' : Disk) → IsAlwaysKept s d → s.down ≡ None → IsKeptUp s d
     → is_ready_up step d.depth s ≡ true → DoesOrFails step s d s' d' → StepOutcome s d s' d'
-up_leaves Data s d s' d' sound a down up ready does =
+up_leaves Data s d s' d' a down up ready does =
     has_stepped down (data_pays s d s' d' a.flights up.flights does) (data_does s d s' d' up.flights (pending_fits s up.room) does)
-up_leaves Reap s d s' d' sound a down up ready (inl (inl ended)) =
+up_leaves Reap s d s' d' a down up ready (inl (inl ended)) =
     has_stepped down (reap_pays s d s' d' a.flights down ended) (reap_does s d s' d' a.flights down up.flights ended)
-up_leaves Reap s d s' d' sound a down up ready (inl (inr none)) = has_waited none.0 none.1 ready
-up_leaves Reap s d s' d' sound a down up ready (inr ended) = has_gone_down (bad_falls s d s' d' sound a ended)
-up_leaves Take s d s' d' sound a down up ready does =
+up_leaves Reap s d s' d' a down up ready (inl (inr none)) = has_waited none.0 none.1 ready
+up_leaves Reap s d s' d' a down up ready (inr ended) = has_gone_down (bad_falls s d s' d' a.flights ended)
+up_leaves Take s d s' d' a down up ready does =
     let none : s.batch ≡ None = none_is s.batch (and_parts (is_none s.batch) (is_some (chosen s.pending)) ready).0 in
     has_stepped down (take_pays s d s' d' a.flights up.flights (pending_fits s up.room) none does)
     (take_does s d s' d' up.flights (pending_fits s up.room) none does)
-up_leaves Flush s d s' d' sound a down up ready does =
+up_leaves Flush s d s' d' a down up ready does =
     has_stepped down (flush_pays s d s' d' a.flights ready does) (flush_does s d s' d' up.flights ready does)
-up_leaves Seal s d s' d' sound a down up ready does =
+up_leaves Seal s d s' d' a down up ready does =
     has_stepped down (seal_pays s d s' d' a.flights (seal_none s d.depth ready) does) (seal_does s d s' d' up.flights ready does)
-up_leaves Record s d s' d' sound a down up ready does =
+up_leaves Record s d s' d' a down up ready does =
     let left : Bool = begun_is (λ r. nat_lt r.given (pieces_of s.log.number r)) s in
     let b = some_is (λ b. is_flushed b.first) s.batch (and_parts (batch_is (λ b. is_flushed b.first) s) left
     (and_parts (batch_is (λ b. is_flushed b.first) s && left) (nat_lt (length s.flying) d.depth) ready).0).0 in
     has_stepped down (record_pays s d s' d' a.flights b.0 b.1 ready does) (record_does s d s' d' up.flights ready b.0 b.1 does)
-up_leaves Sync s d s' d' sound a down up ready does =
+up_leaves Sync s d s' d' a down up ready does =
     let ended : Bool = begun_is (λ r. r.written == pieces_of s.log.number r) s in
     let r = some_is (λ r. r.written == pieces_of s.log.number r) s.log.begun (and_parts (batch_is (λ b. is_not_sent b.second) s) ended
     (and_parts (batch_is (λ b. is_not_sent b.second) s && ended) (nat_lt (length s.flying) d.depth) ready).0).1 in
     has_stepped down (sync_pays s d s' d' a.flights ready does) (sync_does s d s' d' up.flights ready r.0 r.1 does)
-up_leaves Commit s d s' d' sound a down up ready does =
+up_leaves Commit s d s' d' a down up ready does =
     has_stepped down (commit_pays s d s' d' a.flights a.book.within does) (commit_does s d s' d' up.flights ready does)
-up_leaves Finish s d s' d' sound a down up ready does =
+up_leaves Finish s d s' d' a down up ready does =
     has_stepped down (finish_pays s d s' d' a.flights ready does) (finish_does s d s' d' up.flights does)
 
-down_leaves : (s : State) (d : Disk) (s' : State) (d' : Disk) → IsSound d' → IsAlwaysKept s d → is_some s.down ≡ true → not (is_empty s.flying) ≡ true
+down_leaves : (s : State) (d : Disk) (s' : State) (d' : Disk) → IsAlwaysKept s d → is_some s.down ≡ true → not (is_empty s.flying) ≡ true
     → DoesOrFails Reap s d s' d' → StepOutcome s d s' d'
-down_leaves s d s' d' sound a down some (inl (inl ended)) = has_gone_down (late_falls s d s' d' sound a down ended)
-down_leaves s d s' d' sound a down some (inl (inr none)) = has_waited none.0 none.1 some
-down_leaves s d s' d' sound a down some (inr ended) = has_gone_down (bad_falls s d s' d' sound a ended)
+down_leaves s d s' d' a down some (inl (inl ended)) = has_gone_down (late_falls s d s' d' a.flights down ended)
+down_leaves s d s' d' a down some (inl (inr none)) = has_waited none.0 none.1 some
+down_leaves s d s' d' a down some (inr ended) = has_gone_down (bad_falls s d s' d' a.flights ended)
 
-pub step_leaves : (step : Step) (s : State) (d : Disk) (s' : State) (d' : Disk) → IsKept s d → is_ready step d.depth s ≡ true → IsSound d'
+pub step_leaves : (step : Step) (s : State) (d : Disk) (s' : State) (d' : Disk) → IsKept s d → is_ready step d.depth s ≡ true
     → DoesOrFails step s d s' d' → StepOutcome s d s' d'
-step_leaves step s d s' d' kept ready sound does = of_cases (ready_cases step d.depth s ready)
+step_leaves step s d s' d' kept ready does = of_cases (ready_cases step d.depth s ready)
   where
     -- Reap is ready where something flies, up or down
     some_flies : is_some s.down ≡ true → is_ready Reap d.depth s ≡ true → not (is_empty s.flying) ≡ true
@@ -163,15 +170,15 @@ step_leaves step s d s' d' kept ready sound does = of_cases (ready_cases step d.
         ] r
 
     of_cases : Readiness step d.depth s → StepOutcome s d s' d'
-    of_cases (while_up up r) = up_leaves step s d s' d' sound kept.always up (kept.up up) r does
+    of_cases (while_up up r) = up_leaves step s d s' d' kept.always up (kept.up up) r does
     of_cases (while_down down is) =
-        down_leaves s d s' d' sound kept.always down (some_flies down (subst (λ (x : Step). is_ready x d.depth s ≡ true) is ready))
+        down_leaves s d s' d' kept.always down (some_flies down (subst (λ (x : Step). is_ready x d.depth s ≡ true) is ready))
         (subst (λ (x : Step). DoesOrFails x s d s' d') is does)
 
 -- a step lowers the measure
-pub work_falls : (step : Step) (s : State) (d : Disk) (s' : State) (d' : Disk) → IsKept s d → is_ready step d.depth s ≡ true → IsSound d'
+pub work_falls : (step : Step) (s : State) (d : Disk) (s' : State) (d' : Disk) → IsKept s d → is_ready step d.depth s ≡ true
     → DoesOrFails step s d s' d' → measure s' d'.waits < measure s d.waits
-work_falls step s d s' d' kept ready sound does = of_leaves (step_leaves step s d s' d' kept ready sound does)
+work_falls step s d s' d' kept ready does = of_leaves (step_leaves step s d s' d' kept ready does)
   where
     less : (w w' n n' : ℕ) → w' < w → 65 * w' + (64 - n') < 65 * w + (64 - n)
     less w w' n n' lt = omega arith
@@ -189,20 +196,20 @@ work_falls step s d s' d' kept ready sound does = of_leaves (step_leaves step s 
 
 -- ---- a call that leaves the kernel down
 
-pub down_call : (call : Call) (s : State) (d : Disk) (s' : State) (d' : Disk) (first : Ticket) → IsKept s d → IsSound d' → s'.down ≡ Some first
+pub down_call : (call : Call) (s : State) (d : Disk) (s' : State) (d' : Disk) (first : Ticket) → IsKept s d → s'.down ≡ Some first
     → Calls call s d s' d' → GoesDown s d s' d'
-down_call (submitting client line change) s d s' d' first kept sound down made = inr (of_answer made.1)
+down_call (submitting client line change) s d s' d' first kept down made = inr (of_answer made.1)
   where
     of_answer : Submits client line change s s' → IsStill s d s' d'
     of_answer (inl accepts) = absurd (not_both s'.down first (ap (λ (t : State). t.down) accepts.after ∙ accepts.can_note.up) down)
     of_answer (inr (inl refused)) = absurd (not_both s'.down first (ap (λ (t : State). t.down) refused.1.after ∙ refused.1.can_note.up) down)
     of_answer (inr (inr turned)) = record { state = turned.same; history = ap (λ (e : Disk). e.history) made.2 }
-down_call (reading client line command) s d s' d' first kept sound down made = inr (of_answer made.1)
+down_call (reading client line command) s d s' d' first kept down made = inr (of_answer made.1)
   where
     of_answer : Reads client line command s d s' → IsStill s d s' d'
     of_answer (inl (a, is)) = absurd (not_both s'.down first (ap (λ (t : State). t.down) is.after ∙ is.can_note.up) down)
     of_answer (inr turned) = record { state = turned.same; history = ap (λ (e : Disk). e.history) made.2 }
-down_call (stepping step) s d s' d' first kept sound down made = of_leaves (step_leaves step s d s' d' kept made.0 sound made.1)
+down_call (stepping step) s d s' d' first kept down made = of_leaves (step_leaves step s d s' d' kept made.0 made.1)
   where
     of_leaves : StepOutcome s d s' d' → GoesDown s d s' d'
     of_leaves (has_stepped up paid matches) = absurd (not_both s'.down first (paid.up ∙ up) down)

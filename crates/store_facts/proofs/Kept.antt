@@ -13,6 +13,7 @@ use Rattle.meta_log.specs.Pieces.{piece_count}
 use Rattle.meta_store.specs.Store.{room_of}
 use Rattle.plan_rows.specs.declared.plan.Plan.{Plan}
 use Rattle.plan_rows.specs.Keeps.{PlansKeep}
+use Rattle.plan_rows.specs.Plans.{IsKnown}
 use Rattle.unit_allocator.specs.Units.{Space}
 use Rattle.store_steps.specs.declared.context.Context.{Context}
 use Rattle.store_steps.specs.declared.step.Step.{Step}
@@ -20,7 +21,7 @@ use Rattle.store_steps.specs.State.{Batch, State}
 use Rattle.store_steps.specs.Ready.{is_ready, applied_count}
 use Rattle.store_steps.specs.Submit.{entry_limit, need_of, context_of, accepted_with, entered, Accepts, Refuses}
 use Rattle.store_steps.specs.Opened.{Found, opened}
-use Rattle.store_steps.specs.Runs.{submitting, stepping, DoesOrFails, MaySubmit, MayRead, AnswersRead, Reads}
+use Rattle.store_steps.specs.Runs.{submitting, stepping, DoesOrFails, MayRead, AnswersRead, Reads}
 use Rattle.store_steps.specs.Intents.{Intent, intent_of}
 use Rattle.store_steps.specs.Parts.{rows_part, book_part}
 use Rattle.store_steps.specs.RowsGo.{joined}
@@ -33,7 +34,7 @@ use Rattle.store_facts.specs.Jobs.{AreOfJobs, FlightsMatch}
 use Rattle.store_facts.specs.Room.{HasRoom}
 use Rattle.store_facts.specs.Work.{work_of, sum_work, batch_work, work_left, entry_work, budget, measure}
 use Rattle.store_facts.specs.Kept.{IsAlwaysKept, IsKeptUp, IsKept, IsOpenable}
-use Rattle.store_facts.proofs.Keeping.{StepOutcome, has_stepped, has_waited, has_gone_down, GoneDown, paid_within, waited_keeps, step_leaves, work_falls}
+use Rattle.store_facts.proofs.Keeping.{StepOutcome, has_stepped, has_waited, has_gone_down, GoneDown, down_keeps, paid_within, waited_keeps, step_leaves, work_falls}
 use Rattle.store_facts.proofs.Footprints.{intents_push, footprint_of}
 use Rattle.store_facts.proofs.RowsKept.{rows_go}
 use Rattle.store_facts.proofs.RoomKept.{room_go, space_go, sup_go}
@@ -92,8 +93,8 @@ paid_keeps step s d s' d' kept sound up ready does paid matches = record {
     may = may_all s d s' d' paid.entries (rows_part s) f.rows f.book f.caused
 
 -- where the kernel is down nothing else is asked
-down_kept : (s : State) (d : Disk) (s' : State) (d' : Disk) → GoneDown s d s' d' → IsKept s' d'
-down_kept s d s' d' t = record { always = t.always; up = λ none. absurd (not_down s'.down none t.down) }
+down_kept : (s : State) (d : Disk) (s' : State) (d' : Disk) → IsSound d' → IsAlwaysKept s d → GoneDown s d s' d' → IsKept s' d'
+down_kept s d s' d' sound a t = record { always = down_keeps s d s' d' sound a t; up = λ none. absurd (not_down s'.down none t.down) }
   where
     not_down : {A : Type 0} (o : Option A) → o ≡ None → is_some o ≡ true → ⊥
     not_down o none some = let e = ap is_some none in cc
@@ -107,12 +108,12 @@ waited_kept s d d' sound kept waited = record {
 
 pub kept_step : (step : Step) (s s' : State) (d d' : Disk) → IsKept s d → is_ready step d.depth s ≡ true → DoesOrFails step s d s' d' → IsSound d'
     → IsKept s' d'
-kept_step step s s' d d' kept ready does sound = of_leaves (step_leaves step s d s' d' kept ready sound does)
+kept_step step s s' d d' kept ready does sound = of_leaves (step_leaves step s d s' d' kept ready does)
   where
     of_leaves : StepOutcome s d s' d' → IsKept s' d'
     of_leaves (has_stepped up paid matches) = paid_keeps step s d s' d' kept sound up ready does paid matches
     of_leaves (has_waited none same some) = subst (λ (t : State). IsKept t d') (sym same) (waited_kept s d d' sound kept none)
-    of_leaves (has_gone_down gone) = down_kept s d s' d' gone
+    of_leaves (has_gone_down gone) = down_kept s d s' d' sound kept.always gone
 
 -- ---- an entry of the book
 
@@ -167,7 +168,7 @@ joined_rows s client line change plan =
     ap (λ (is : List Intent). (let t : State = accepted_with client line change plan s in record (rows_part t) { intents = is }))
     (intents_push (option_map_or (λ (b : Batch). b.contexts) s.batch []) s.pending (context_of (length s.book.entries) change s.log plan))
 
-module _ (keep : PlansKeep) (s : State) (d : Disk) (client line : ℕ) (change : Change) (s' : State) (kept : IsKept s d) (may : MaySubmit change s d)
+module _ (keep : PlansKeep) (s : State) (d : Disk) (client line : ℕ) (change : Change) (s' : State) (kept : IsKept s d) (known : IsKnown change.ops)
     (does : Accepts client line change s s') where
   up : s.down ≡ None
   up = does.can_note.up
@@ -200,7 +201,7 @@ module _ (keep : PlansKeep) (s : State) (d : Disk) (client line : ℕ) (change :
   more : work_left t ≤ work_left s + entry_work
   more = much (length s.flying) (sum_work s.pending) (sum_work (s.pending ++ x ∷ [])) (length does.plan.fresh) (need_of s.log does.plan)
       s.log.sup.half s.log.tail s.log.reserved (option_map_or (batch_work s.log) s.batch 0) (applied_count s - s.acked) (sum_both s.pending (x ∷ []))
-      (accepted_few keep s client line change s' a.limits a.space were may.known does) does.fits a.limits.half_most
+      (accepted_few keep s client line change s' a.limits a.space were known does) does.fits a.limits.half_most
     where
       pieces : (need half tail reserved : ℕ) → need ≤ half - tail - reserved → half ≤ 65536 → piece_count need ≤ 1024
       pieces need half tail reserved fits most = omega (arith, fits, most)
@@ -236,16 +237,16 @@ module _ (keep : PlansKeep) (s : State) (d : Disk) (client line : ℕ) (change :
     up = λ _. record {
       flights = matches_push s t d.flights entry refl
           (one_more_waits s.log t.log (length s.book.entries) s.pending s.batch s.flying d.flights x refl refl refl refl (kept.up up).flights);
-      rows = rows_go (rows_part s) (rows_part t) goes a.limits a.space (accepted_joins keep s client line change s' a.limits a.space were may.known does) were;
-      room = room_go (rows_part s) (rows_part t) goes (accepted_record keep s client line change s' a.limits a.space were may.known does, room) (kept.up up).room;
+      rows = rows_go (rows_part s) (rows_part t) goes a.limits a.space (accepted_joins keep s client line change s' a.limits a.space were known does) were;
+      room = room_go (rows_part s) (rows_part t) goes (accepted_record keep s client line change s' a.limits a.space were known does, room) (kept.up up).room;
     };
   })
 
-pub kept_accept : PlansKeep → (s s' : State) (d : Disk) (client line : ℕ) (change : Change) → IsKept s d → MaySubmit change s d
+pub kept_accept : PlansKeep → (s s' : State) (d : Disk) (client line : ℕ) (change : Change) → IsKept s d → IsKnown change.ops
     → Accepts client line change s s' → IsKept s' d
-kept_accept keep s s' d client line change kept may does = accepted_kept keep s d client line change s' kept may does
+kept_accept keep s s' d client line change kept known does = accepted_kept keep s d client line change s' kept known does
 
-pub kept_refuse : (s s' : State) (d : Disk) (client line : ℕ) (change : Change) (a : Answer) → IsKept s d → MaySubmit change s d
+pub kept_refuse : (s s' : State) (d : Disk) (client line : ℕ) (change : Change) (a : Answer) → IsKept s d → IsKnown change.ops
     → Refuses client line change a s s' → IsKept s' d
 kept_refuse s s' d client line change a kept may does = subst (λ (t : State). IsKept t d) (sym does.after)
     (entered_kept s d client line (ask.Change change) a kept does.can_note.up does.can_note.room)
@@ -257,6 +258,11 @@ pub kept_answer : (s s' : State) (d : Disk) (client line : ℕ) (command : Comma
     → AnswersRead client line command a s d s' → IsKept s' d
 kept_answer s s' d client line command a kept is = subst (λ (t : State). IsKept t d) (sym is.after)
     (entered_kept s d client line command a kept is.can_note.up is.can_note.room)
+
+-- so does one that is turned away
+pub kept_read : (s s' : State) (d : Disk) (client line : ℕ) (command : Command) → IsKept s d → Reads client line command s d s' → IsKept s' d
+kept_read s s' d client line command kept (inl (a, is)) = kept_answer s s' d client line command a kept is
+kept_read s s' d client line command kept (inr away) = subst (λ (t : State). IsKept t d) (sym away.same) kept
 
 -- ---- opening
 
@@ -290,19 +296,18 @@ kept_open f space events d sound idle few is = record {
 
 pub step_less : (step : Step) (s s' : State) (d d' : Disk) → IsKept s d → is_ready step d.depth s ≡ true → DoesOrFails step s d s' d' → IsSound d'
     → measure s' d'.waits < measure s d.waits
-step_less step s s' d d' kept ready does sound = work_falls step s d s' d' kept ready sound does
+step_less step s s' d d' kept ready does sound = work_falls step s d s' d' kept ready does
 
-pub law_accept : (client line : ℕ) (change : Change) (s s' : State) (d : Disk) → PlansKeep → IsKept s d → MaySubmit change s d
+pub law_accept : (client line : ℕ) (change : Change) (s s' : State) (d : Disk) → PlansKeep → IsKept s d → IsKnown change.ops
     → Accepts client line change s s' → IsKept s' d
 law_accept client line change s s' d keep = kept_accept keep s s' d client line change
 
-pub law_refuse : (client line : ℕ) (change : Change) (a : Answer) (s s' : State) (d : Disk) → IsKept s d → MaySubmit change s d
+pub law_refuse : (client line : ℕ) (change : Change) (a : Answer) (s s' : State) (d : Disk) → IsKept s d → IsKnown change.ops
     → Refuses client line change a s s' → IsKept s' d
 law_refuse client line change a s s' d = kept_refuse s s' d client line change a
 
 pub law_read : (client line : ℕ) (command : Command) (s s' : State) (d : Disk) → IsKept s d → MayRead command s d → Reads client line command s d s'
     → IsKept s' d
-law_read client line command s s' d kept may (inl (a, is)) = kept_answer s s' d client line command a kept is
-law_read client line command s s' d kept may (inr away) = subst (λ (t : State). IsKept t d) (sym away.same) kept
+law_read client line command s s' d kept may reads = kept_read s s' d client line command kept reads
 
 pub ruleset step_laws = (kept_step, step_less)

@@ -73,13 +73,3 @@ book_alone s d s' d' adds events same_rows same_units same_half goes caused = re
   book = goes;
   caused = caused;
 }
-
--- a call that changes the order of intents alone is what one is that leaves them, as to the book
-pub reordered : (s : State) (d : Disk) (s' : State) (d' : Disk) (events : ℕ) (t : Touch) (p q : RowsPart) (b c : BookPart) (later : List Intent)
-    (order : IsComplete is_in p.intents later) (is : q ≡ record p { intents = later }) (same : q ≡ p) → (go : BookGoes events t b c)
-    → IsCaused s d s' d' (rows.reorders later order is) go → IsCaused s d s' d' (rows.same same) go
-reordered s d s' d' events t p q b c later order is same (book.same still) caused = caused
-reordered s d s' d' events t p q b c later order is same (book.enters e entered) caused = caused
-reordered s d s' d' events t p q b c later order is same (book.commits xs none opened) caused = caused
-reordered s d s' d' events t p q b c later order is same (book.applies count all counted) caused = caused
-reordered s d s' d' events t p q b c later order is same (book.acknowledges acked) caused = caused

@@ -39,7 +39,7 @@ needs_alike xs ys same = as_sum ys ∙
     turned : (k a b : ℕ) → k + b + a ≡ k + a + b
     turned k a b = omega arith
 
-needs_join : (xs ys : List Intent) → needs_by (xs ++ ys) ≡ needs_by xs + needs_by ys
+pub needs_join : (xs ys : List Intent) → needs_by (xs ++ ys) ≡ needs_by xs + needs_by ys
 needs_join [] ys = omega arith
 needs_join (x ∷ xs) ys = omega (arith, needs_join xs ys)
 

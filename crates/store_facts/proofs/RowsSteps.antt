@@ -24,7 +24,7 @@ none_accepted s d s' same one = longer (length (entries_of s)) (length (entries_
     longer : (n m : ℕ) → m ≡ n → m ≡ n + 1 → ⊥
     longer n m same more = omega (arith, same, more)
 
-abbrev IsNoJoin : {p q : RowsPart} → RowsGo p q → Type 0
+abbrev pub IsNoJoin : {p q : RowsPart} → RowsGo p q → Type 0
 IsNoJoin (rows.joins x is) = ⊥
 IsNoJoin other = Unit {0}
 
@@ -40,7 +40,7 @@ all_may p (rows.reorders later complete is) not = record { rows = tt; room = tt 
 all_may p (rows.applies number front back both fits is) not = record { rows = tt; room = tt }
 
 module _ (s : State) (d : Disk) (s' : State) (d' : Disk) (same : entries_of s' ≡ entries_of s) where
-  none_joins : {p q : RowsPart} {events : ℕ} {t : Touch} {b c : BookPart} (goes : RowsGo p q) (made : BookGoes events t b c)
+  pub none_joins : {p q : RowsPart} {events : ℕ} {t : Touch} {b c : BookPart} (goes : RowsGo p q) (made : BookGoes events t b c)
       → IsCaused s d s' d' goes made → IsNoJoin goes
   none_joins (rows.joins x is) (book.enters e entered) caused = none_accepted s d s' same caused
   none_joins (rows.joins x is) (book.same kept) caused = caused

@@ -8,6 +8,7 @@ ghost use Rattle.meta_log.specs.Records.{unit_count};
 ghost use Rattle.meta_log.specs.Slots.{active_unit};
 ghost use Rattle.object_model.specs.Effect.{Change};
 ghost use Rattle.plan_rows.specs.Keeps.{PlansKeep};
+ghost use Rattle.plan_rows.specs.Plans.{IsKnown};
 ghost use Rattle.object_model.specs.declared.command.Command.{Command};
 ghost use Rattle.object_model.specs.declared.command.Answer.{Answer};
 ghost use Rattle.unit_allocator.specs.Units.{Space};
@@ -21,7 +22,7 @@ ghost use Rattle.store_steps.specs.Contexts.{Unsent, unsent_units, run_bytes, ne
 ghost use Rattle.store_steps.specs.Steps.{piece_unit, piece_bytes};
 ghost use Rattle.store_steps.specs.Opened.{Found, opened};
 ghost use Rattle.store_steps.specs.Ready.{is_ready, is_ready_up, is_drained};
-ghost use Rattle.store_steps.specs.Runs.{DoesOrFails, MaySubmit, MayRead, Reads, Call, Calls};
+ghost use Rattle.store_steps.specs.Runs.{DoesOrFails, MayRead, Reads, Call, Calls};
 ghost use Rattle.store_steps.specs.Submit.{Accepts, Refuses};
 ghost use Rattle.store_steps.specs.UnderWay.{uncommitted, all_fresh};
 ghost use Rattle.store_steps.specs.Intents.{intents, SpaceIsCounted};
@@ -40,12 +41,12 @@ pub fn steps_keep()
         → DoesOrFails step s d s' d' → IsSound d' → measure s' d'.waits < measure s d.waits }
 {}
 
-/// A transaction that is submitted to a drained kernel keeps it too, accepted or refused, and so does a read, where plans over good rows keep
+/// A transaction that is submitted keeps it too, accepted or refused, whatever is under way, and so does a read, where plans over good rows keep
 /// them good. What is turned away changes nothing.
 pub fn transactions_keep()
-    ensures accepted { (client line : ℕ) (change : Change) (s s' : State) (d : Disk) → PlansKeep → IsKept s d → MaySubmit change s d
+    ensures accepted { (client line : ℕ) (change : Change) (s s' : State) (d : Disk) → PlansKeep → IsKept s d → IsKnown change.ops
         → Accepts client line change s s' → IsKept s' d }
-    ensures refused { (client line : ℕ) (change : Change) (a : Answer) (s s' : State) (d : Disk) → IsKept s d → MaySubmit change s d
+    ensures refused { (client line : ℕ) (change : Change) (a : Answer) (s s' : State) (d : Disk) → IsKept s d → IsKnown change.ops
         → Refuses client line change a s s' → IsKept s' d }
     ensures read { (client line : ℕ) (command : Command) (s s' : State) (d : Disk) → IsKept s d → MayRead command s d
         → Reads client line command s d s' → IsKept s' d }

@@ -9,8 +9,9 @@ use Rattle.store_steps.specs.declared.step.Step.TheVariants.{Take, Commit, Finis
 use Rattle.store_steps.specs.State.{State}
 use Rattle.store_steps.specs.Ready.{is_ready}
 use Rattle.store_steps.specs.Steps.{DoesTake, DoesCommit, DoesFinish}
+use Rattle.plan_rows.specs.Plans.{IsKnown}
 use Rattle.store_steps.specs.Submit.{Accepts, Refuses}
-use Rattle.store_steps.specs.Runs.{MaySubmit, AnswersRead}
+use Rattle.store_steps.specs.Runs.{AnswersRead}
 use Rattle.store_steps.specs.Parts.{RowsPart, BookPart, rows_part, data_part, half_part, book_part}
 use Rattle.store_steps.specs.Touch.{Touch, Adds, IsPlaced, events_of}
 use Rattle.store_steps.specs.RowsGo.{RowsGo}
@@ -25,7 +26,7 @@ pub record AcceptsOne (s : State) (d : Disk) (s' : State) : Type 0 where
   pub client : ℕ
   pub line : ℕ
   pub change : Change
-  pub may : MaySubmit change s d
+  pub known : IsKnown change.ops
   pub accepts : Accepts client line change s s'
 
 -- it answers without one: it refuses a transaction, or answers a read
@@ -38,19 +39,21 @@ pub record Makes (one : Step) (What : Type 0) (s : State) (d : Disk) : Type 0 wh
   pub ready : is_ready one d.depth s ≡ true
   pub does : What
 
--- By what call rows and book change. One more joins the rows where a transaction is accepted, with its entry; the first ones are committed with
--- the open batch, and commits are applied with them alone. All other entries are of answers without a transaction.
+-- By what call rows and book change. One more joins the rows where a transaction is accepted, with its entry; they change places where a batch is
+-- opened, with its commits; the first ones are committed with the open batch, and commits are applied with them alone. All other entries are of
+-- answers without a transaction.
 abbrev pub IsCaused : (s : State) (d : Disk) (s' : State) (d' : Disk) {p q : RowsPart} {events : ℕ} {t : Touch} {b c : BookPart}
     → RowsGo p q → BookGoes events t b c → Type 0
 IsCaused s d s' d' (rows.joins x joined) (book.enters e entered) = AcceptsOne s d s'
 IsCaused s d s' d' (rows.joins x joined) other = ⊥
+IsCaused s d s' d' (rows.reorders later complete reordered) (book.commits xs none opened) = Makes Take (DoesTake s d s' d') s d
+IsCaused s d s' d' (rows.reorders later complete reordered) other = ⊥
 IsCaused s d s' d' (rows.applies number front back both fits applied) (book.applies count all counted) = Makes Commit (DoesCommit s d s' d') s d
 IsCaused s d s' d' (rows.applies number front back both fits applied) other = ⊥
-IsCaused s d s' d' other (book.enters e entered) = Replies s d s'
-IsCaused s d s' d' other (book.commits xs none opened) = Makes Take (DoesTake s d s' d') s d
-IsCaused s d s' d' other (book.applies count all counted) = ⊥
-IsCaused s d s' d' other (book.acknowledges acknowledged) = Makes Finish (DoesFinish s d s' d') s d
-IsCaused s d s' d' other (book.same same) = Unit {0}
+IsCaused s d s' d' (rows.same same) (book.enters e entered) = Replies s d s'
+IsCaused s d s' d' (rows.same same) (book.acknowledges acknowledged) = Makes Finish (DoesFinish s d s' d') s d
+IsCaused s d s' d' (rows.same same) (book.same kept) = Unit {0}
+IsCaused s d s' d' (rows.same same) other = ⊥
 
 -- what it adds to the device's log, and what it makes of each part
 pub record Footprint (s : State) (d : Disk) (s' : State) (d' : Disk) : Type 0 where

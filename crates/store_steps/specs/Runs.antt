@@ -22,12 +22,7 @@ pub data Call : Type 0 where
   reading : (client line : ℕ) (command : Command) → Call
   stepping : (step : Step) → Call
 
--- A transaction may be submitted where the kernel is drained, or down.
-pub record MaySubmit (change : Change) (s : State) (d : Disk) : Type 0 where
-  pub drained : (s.down ≡ None) → is_drained d.depth s ≡ true
-  pub known : IsKnown change.ops
-
--- so may a command that reads
+-- A command that reads may be given where the kernel is drained, or down.
 pub record MayRead (command : Command) (s : State) (d : Disk) : Type 0 where
   pub drained : (s.down ≡ None) → is_drained d.depth s ≡ true
   pub known : IsKnownRead command
@@ -57,9 +52,9 @@ abbrev pub DoesOrFails : Step → State → Disk → State → Disk → Type 0
 DoesOrFails Reap s d s' d' = Does Reap s d s' d' ⊎ Takes s d false s' d'
 DoesOrFails step s d s' d' = Does step s d s' d'
 
--- what a call that is made does
+-- what a call that is made does; a transaction may be submitted at any time, if its operations are known
 abbrev pub Calls : Call → State → Disk → State → Disk → Type 0
-Calls (submitting client line change) s d s' d' = MaySubmit change s d × Submits client line change s s' × (d' ≡ d)
+Calls (submitting client line change) s d s' d' = IsKnown change.ops × Submits client line change s s' × (d' ≡ d)
 Calls (reading client line command) s d s' d' = MayRead command s d × Reads client line command s d s' × (d' ≡ d)
 Calls (stepping step) s d s' d' = (is_ready step d.depth s ≡ true) × DoesOrFails step s d s' d'
 

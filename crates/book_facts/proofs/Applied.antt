@@ -15,11 +15,12 @@ use Rattle.object_model.proofs.Replays.{replay-append, replay-by_collections}
 use Rattle.store_steps.specs.State.{Batch, State}
 use Rattle.store_steps.specs.Changes.{committed_batch}
 use Rattle.store_steps.specs.Ready.{applied_count}
-use Rattle.store_steps.specs.Intents.{Intent}
-use Rattle.book_facts.specs.BookFacts.{commit_places, AreQueued, places}
+use Rattle.store_steps.specs.Intents.{Intent, intents}
+use Rattle.book_facts.specs.BookFacts.{commit_places, AreQueued, places, KnownOfBook}
 use Rattle.book_facts.specs.Selections.{applied_changes, changes_of}
 use Rattle.book_facts.proofs.Entries.{own_change, committed_kept}
 use Rattle.book_facts.proofs.Commits.{places_on, places_by_places, changes_at, committed_by_places}
+use Rattle.std.specs.Option.{option_map_or}
 
 -- ---- by places
 
@@ -50,6 +51,11 @@ applied_committed opening s b xs last =
     ∙ ap (λ (l : List Change). l ++ changes_at es (places xs)) (sym (applied_by_places es cs n)))
     ∙ replay-append opening (applied_changes s) (changes_at es (places xs))
     ∙ ap (replay (replay opening (applied_changes s))) (sym (changes_by_places es xs))
+
+-- the commits that aren't applied are those of the batch
+pub batch_last : (opening : Objects) (s : State) (b : Batch) → s.batch ≡ Some b → KnownOfBook opening s
+    → drop (applied_count s) (commit_places s.book.commits) ≡ places (intents b.contexts)
+batch_last opening s b is known = known.last_committed ∙ ap (λ (o : Option Batch). places (intents (option_map_or (λ (c : Batch). c.contexts) o []))) is
 
 -- ---- one more entry
 

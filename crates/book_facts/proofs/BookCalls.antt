@@ -37,7 +37,7 @@ use Rattle.store_facts.proofs.Footprints.{footprint_of}
 use Rattle.book_facts.specs.BookFacts.{KnownOfBook, IsInOrder}
 use Rattle.book_facts.proofs.Books.{KeepBook, batch_of, book_stays, book_takes, book_commits, book_finishes, known_legal}
 use Rattle.book_facts.proofs.Order.{order_stays, order_takes, order_commits, order_finishes, order_accepts, order_enters}
-use Rattle.book_facts.proofs.KeptCalls.{kept_call}
+use Rattle.store_facts.proofs.KeptCalls.{kept_call}
 use Rattle.book_facts.proofs.KnownPlans.{known_plan}
 use Rattle.book_facts.proofs.Accepted.{book_accepts, book_notes, book_answers, cause_refuses, read_accepts_none}
 
@@ -125,7 +125,7 @@ book_fact opening = record {
   accepts = λ s d s' client line change plans kept may does known. subst (KnownOfBook opening) (sym does.after)
       (book_accepts opening s client line change does.plan does.not_refused (known_plan plans s d client line change s' kept may does) known);
   replies = book_replies opening;
-  takes = book_takes opening;
+  takes = λ s x none at places known. book_takes opening s x at none places known;
   commits = book_commits opening;
   finishes = book_finishes opening;
 }

@@ -26,7 +26,7 @@ use Rattle.store_facts.proofs.Choosing.{IsFirst}
 use Rattle.store_facts.proofs.Lists.{elsewhere, without_at}
 use Rattle.store_facts.proofs.PartsKept.{intents_both}
 use Rattle.unit_fields.specs.UnitSet.{Ascends}
-use Rattle.book_facts.specs.BookFacts.{commit_places, IsOfEntry, AreCommits, IsBookKnown, KnownOfBook}
+use Rattle.book_facts.specs.BookFacts.{commit_places, IsOfEntry, AreCommits, IsBookKnown, KnownOfBook, AreQueued}
 use Rattle.book_facts.proofs.Entries.{counts_more}
 use Rattle.book_facts.proofs.Commits.{all_push, all_behind, acked_push, by_now_more, by_now_acknowledged, acked_acknowledged}
 use Rattle.book_facts.proofs.Commits.{count_push, count_acknowledged, places_acknowledged, length_acknowledged, AreAtPlaces, at_places, of_places}

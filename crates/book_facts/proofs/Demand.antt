@@ -19,7 +19,7 @@ use Rattle.store_steps.specs.State.{State}
 use Rattle.store_steps.specs.Submit.{free_count, IsCause}
 use Rattle.store_facts.specs.Kept.{IsKept}
 use Rattle.book_facts.specs.Rooms.{taken_by, units_asked, demanded_by, is_no_space, any_no_space}
-use Rattle.book_facts.proofs.KeptCalls.{kept_call}
+use Rattle.store_facts.proofs.KeptCalls.{kept_call}
 use Rattle.book_facts.proofs.Rooms.{KeepsSpace, call_space, taken_push, step_room}
 
 -- ---- entries

@@ -7,7 +7,6 @@ pub mod Books
 pub mod Order
 pub mod KnownPlans
 pub mod Accepted
-pub mod KeptCalls
 pub mod Selecting
 pub mod BookCalls
 pub mod Applied

@@ -47,7 +47,7 @@ use Rattle.book_facts.proofs.Accepted.{cause_refuses, read_accepts_none}
 use Rattle.book_facts.proofs.Entries.{own_change, accepted_push, none_accepted}
 use Rattle.book_facts.proofs.FreeCounts.{count_taken, count_given}
 use Rattle.book_facts.proofs.Commits.{all_then}
-use Rattle.book_facts.proofs.KeptCalls.{kept_call}
+use Rattle.store_facts.proofs.KeptCalls.{kept_call}
 use Rattle.book_facts.proofs.KnownPlans.{IsKnownPlan, known_plan}
 
 -- ---- steps take nothing

@@ -30,12 +30,6 @@ pub fn a_context_has_one_name()
     ensures no_other { (x : Context) (coll : List ℕ) → OneName (colls_of x) → is_named coll (colls_of x) ≡ true → coll ≡ x.coll }
 {}
 
-/// What the kernel keeps it keeps along a run.
-#[tactic(auto, using(crate::proofs::KeptCalls::kept_run))]
-pub fn a_run_keeps_what_the_kernel_keeps()
-    ensures { (calls : List Call) (s s' : State) (d d' : Disk) → PlansKeep → IsKept s d → IsRun s d calls s' d' → IsKept s' d' }
-{}
-
 /// The book of a kernel that was just opened is known, for all objects whose shape the rows have.
 pub fn a_new_book_is_known()
     ensures { (opening : Objects) (f : Found) (space : Space) (events : ℕ) → IsShape f.rows opening →

@@ -17,7 +17,7 @@ use Rattle.store_steps.specs.Submit.{free_count}
 use Rattle.store_steps.specs.Ready.{is_drained}
 use Rattle.store_facts.specs.Space.{IsSpaceOf}
 use Rattle.store_facts.specs.Kept.{IsKept}
-use Rattle.store_facts.proofs.Conditions.{IsIdle}
+use Rattle.store_facts.proofs.Readiness.{IsIdle, idle_uncommitted}
 use Rattle.store_facts.proofs.Known.{known_idle}
 use Rattle.store_facts.proofs.RowsNow.{kept_rows, kept_space}
 use Rattle.unit_facts.specs.Known.{KnownOfUnits}
@@ -65,7 +65,7 @@ drained_free base s d h kept known up drained =
     let within : tail ≤ sup.half = omega (arith, half.room) in
     let parts = half_parts contents sup tail (records_units sup.first found.0) half.whole within inside (λ k below. (half.front k below).last) in
     let counted : SpaceIsCounted sup s.log.rows [] s.space =
-    subst (λ (xs : List Context). SpaceIsCounted sup s.log.rows (intents xs) s.space) idle.uncommitted (kept_rows s d kept up).counted in
+    subst (λ (xs : List Context). SpaceIsCounted sup s.log.rows (intents xs) s.space) (idle_uncommitted s idle) (kept_rows s d kept up).counted in
     record {
       sup = sup;
       active = slots_read contents sup known.slots.limits whole known.slots.active.last known.slots.other.last;

@@ -34,12 +34,11 @@ use Rattle.store_steps.specs.Runs.{Call, stepping, Calls, IsRun}
 use Rattle.store_facts.specs.Room.{AcksAre}
 use Rattle.store_facts.specs.Kept.{IsKept}
 use Rattle.store_facts.proofs.Readiness.{none_ready}
-use Rattle.store_facts.proofs.Conditions.{IsIdle}
-use Rattle.store_facts.proofs.Known.{known_idle}
+use Rattle.store_facts.proofs.Known.{idle_pending, idle_acked}
 use Rattle.unit_facts.proofs.Runs.{drained_clean}
 use Rattle.object_rows.proofs.PlansKeep.{plans_keep}
 use Rattle.book_facts.specs.BookFacts.{KnownOfBook, AreQueued, IsInOrder}
-use Rattle.book_facts.proofs.KeptCalls.{kept_run}
+use Rattle.store_facts.proofs.KeptCalls.{kept_run}
 use Rattle.book_facts.proofs.Books.{book_opened, known_legal}
 use Rattle.book_facts.proofs.BookCalls.{book_run, order_run}
 use Rattle.book_facts.proofs.Order.{order_opened}
@@ -204,7 +203,7 @@ no_reap [] s s' d d' drained reaps run = run
 no_reap (call ∷ calls) s s' d d' drained reaps run =
     let made : Calls (stepping Reap) s d run.0 run.1.0 =
     subst (λ (c : Call). Calls c s d run.0 run.1.0) (All-head (λ c. c ≡ stepping Reap) call calls reaps) run.1.1.0 in
-    let none : false ≡ true = sym (none_ready d.depth s drained Reap) ∙ made.0 in
+    let none : false ≡ true = sym (none_ready d.depth s drained).1.0 ∙ made.0 in
     absurd cc
 
 pub script_finished : (seed free : ℕ) (lines : List Line) (given disk : Disk) (h : History) (objects : Objects) (book : Book) → IsFresh given
@@ -247,12 +246,12 @@ all_acked (c ∷ cs) acks =
 acked_below : (acked : ℕ) (cs : List Commit) → AcksAre acked cs → length cs ≤ acked → acked_count cs ≡ length cs
 acked_below acked cs acks all = all_acked cs (λ i below. IfSome_then (slice_get cs i) (acks i) (λ (c : Commit) is. is ∙ lt-ltb i acked (omega (arith, below, all))))
 
-order_complete : (s : State) (d : Disk) → IsKept s d → IsInOrder s → IsIdle s → IsComplete s.book
-order_complete s d kept known idle =
-    let queued : AreQueued s.book [] = subst (λ (xs : List Context). AreQueued s.book (intents xs)) idle.pending known.queued in
+order_complete : (s : State) (d : Disk) → IsKept s d → IsInOrder s → s.down ≡ None → is_drained d.depth s ≡ true → IsComplete s.book
+order_complete s d kept known up drained =
+    let queued : AreQueued s.book [] = subst (λ (xs : List Context). AreQueued s.book (intents xs)) (idle_pending s d kept up drained) known.queued in
     record {
       in_order = λ coll. queued.in_order coll ∙ append-nil (committed_places coll s.book.entries s.book.commits);
-      acked = acked_below s.acked s.book.commits kept.always.book.acks (omega (arith, idle.acked));
+      acked = acked_below s.acked s.book.commits kept.always.book.acks (omega (arith, idle_acked s d kept up drained));
     }
 
 pub script_complete : (seed free : ℕ) (lines : List Line) (given disk : Disk) (book : Book) → RanKept seed lines given (Done free) book disk → IsComplete book
@@ -266,7 +265,7 @@ script_complete seed free lines given disk book all =
     let first : IsInOrder ran.first = subst IsInOrder (sym ran.mounted.state) (order_opened ran.found ran.space ran.mounted.events) in
     let known : IsInOrder s = order_run ran.calls ran.first s ran.start d plans_keep all.kept first run in
     let same = no_reap ran.reaped.calls s ran.closed d disk drained ran.reaped.reaps ran.reaped.run in
-    subst IsComplete (sym (ran.book_is ∙ ap (λ (z : State). z.book) same.0)) (order_complete s d kept known (known_idle s d kept ran.ended.2 drained))
+    subst IsComplete (sym (ran.book_is ∙ ap (λ (z : State). z.book) same.0)) (order_complete s d kept known ran.ended.2 drained)
 
 -- ---- a run that returns 0
 

@@ -28,9 +28,9 @@ use Rattle.store_steps.specs.Ready.{is_drained, is_empty}
 use Rattle.store_steps.specs.Steps.{Takes, Does}
 use Rattle.plan_rows.specs.Plans.{IsKnown}
 use Rattle.store_steps.specs.Submit.{entered, Accepts, Refuses, IsDownBy, IsBookFull}
-use Rattle.store_steps.specs.Runs.{Call, reading, stepping, MaySubmit, MayRead, AnswersRead, DoesOrFails, Calls}
+use Rattle.store_steps.specs.Runs.{Call, reading, stepping, MayRead, AnswersRead, DoesOrFails, Calls}
 use Rattle.read_facts.specs.Answers.{IsKnownRead}
-use Rattle.store_kernel.specs.Submitting.{RefusesBy}
+use Rattle.store_kernel.specs.Submitting.{MaySubmit, RefusesBy}
 use Rattle.store_kernel.specs.Reading.{UnansweredBy, IsDeviceRead}
 use Rattle.store_kernel.specs.declared.unanswered.Unanswered.{Unanswered}
 use Rattle.store_kernel.specs.declared.unanswered.Unanswered.TheVariants as unanswered
@@ -305,7 +305,7 @@ module _ (line : ℕ) (c : Command) (s : State) (d : Disk) (s' : State) (d' : Di
 made_refused : (line : ℕ) (change : Change) (reply : Answer) (s : State) (d : Disk) (s' : State) (d' : Disk) → s.down ≡ None → MaySubmit change s d
     → d' ≡ d → Refuses 0 line change reply s s' → IsMade line (command.Change change) s d s' d'
 made_refused line change reply s d s' d' up may same refuses =
-    made_by line (command.Change change) s d s' d' up (may, inr (inl (reply, refuses)), same) reply s refl refl refuses.after
+    made_by line (command.Change change) s d s' d' up (may.known, inr (inl (reply, refuses)), same) reply s refl refl refuses.after
 
 -- what a submission makes, by its end
 pub submitted_ends : (line : ℕ) (change : Change) (r : Result ℕ Refused) (out : Result (Unit {0}) RunFail) (s : State) (d : Disk) (s' : State)
@@ -314,7 +314,7 @@ pub submitted_ends : (line : ℕ) (change : Change) (r : Result ℕ Refused) (ou
     → MatchResult out (λ _. IsNoted r) (λ e. (e ≡ run.Memory) × IsNotNoted r)
     → MatchResult out (λ _. IsMade line (command.Change change) s d s' d') (λ e. IsUnmade e s d s' d')
 submitted_ends line change (Ok place) (Ok u) s d s' d' up may same accepted refuses noted =
-    made_by line (command.Change change) s d s' d' up (may, inl accepted, same) answer.Accepted _ refl refl accepted.after
+    made_by line (command.Change change) s d s' d' up (may.known, inl accepted, same) answer.Accepted _ refl refl accepted.after
 submitted_ends line change (Err (refused.Refusal refusal)) (Ok u) s d s' d' up may same accepted refuses noted =
     made_refused line change (answer.Refused refusal) s d s' d' up may same refuses
 submitted_ends line change (Err (refused.NoSpace need free)) (Ok u) s d s' d' up may same accepted refuses noted =

@@ -1,5 +1,5 @@
 -- How exact the bitmap is, with the operations of each fair selection of the intents under way.
-use Rattle.std.proofs.Common.{◌≡◌, ℕ, ◌≤◌, true, false, List, [], ◌∷◌, ◌++◌, length, Some, None}
+use Rattle.std.proofs.Common.{◌≡◌, ℕ, ◌≤◌, true, List, [], ◌∷◌, ◌++◌, length, Option, Some, None}
 use Rattle.std.proofs.Common.{refl, sym, ap, subst, ◌∙◌, append-nil}
 use Rattle.std.proofs.lemmas.Option.{same_Some}
 use Rattle.std.proofs.lemmas.List.{take-append-le}
@@ -15,9 +15,7 @@ use Rattle.meta_log.specs.Slots.{width_of}
 use Rattle.store_image.specs.Owners.{IsLeaked, IsExactBut, IsExactAs}
 use Rattle.store_image.specs.Exact.{IsLeakedIn}
 use Rattle.store_image.proofs.ExactLemmas.{renamed, is_left_out}
-use Rattle.store_steps.specs.declared.context.Context.{Context}
-use Rattle.store_steps.specs.State.{State}
-use Rattle.store_steps.specs.Intents.{Intent, intent_of, intents, is_in, rows_by, ops_by}
+use Rattle.store_steps.specs.Intents.{Intent, intents, is_in, rows_by, ops_by}
 use Rattle.store_steps.specs.UnderWay.{uncommitted, begun_ops}
 use Rattle.store_steps.specs.Parts.{RowsPart, rows_part}
 use Rattle.store_steps.specs.Touch.{Touch, after, run_write}
@@ -27,12 +25,18 @@ use Rattle.store_steps.specs.Footprint.{Footprint}
 use Rattle.store_facts.specs.Kept.{IsKept}
 use Rattle.store_facts.specs.Space.{AreRowsKept}
 use Rattle.space_facts.proofs.Selected.{selection_exact}
-use Rattle.store_facts.proofs.Stages.{Stage, idle, waits, opens, flushes, flushed, writes, syncs, synced, Holds, at, by_stage}
-use Rattle.selections.proofs.Selecting.{fair_nil, fair_all, fair_behind, each_of_none}
+use Rattle.store_facts.proofs.Conditions.{IsMade, made_batch}
+use Rattle.store_facts.proofs.PartsKept.{flat_intents}
+use Rattle.space_facts.proofs.Rows.{rows_append, rows_by_ops}
+use Rattle.store_steps.specs.State.{Batch, State}
+use Rattle.store_steps.specs.Contexts.{batch_ops}
+use Rattle.meta_store.specs.Store.{Begun}
+use Rattle.std.specs.Option.{option_map_or}
+use Rattle.selections.proofs.Selecting.{fair_nil, fair_among, fair_behind, each_of_none}
 use Rattle.book_facts.specs.Selections.{IsFairSelection}
 use Rattle.book_facts.proofs.Selecting.{has_coll}
 use Rattle.crash_facts.specs.Store.{contents_at, SelectionsAreExact}
-use Rattle.store_facts.proofs.Alone.{far_of}
+use Rattle.crash_facts.proofs.Fronts.{front_fair}
 
 -- ---- rows
 
@@ -41,19 +45,6 @@ pub exact_over : (w : Width) (before : List ℕ) (rows later : Rows) → IsExact
     → IsExactBut w (IsLeakedIn before) later
 exact_over w before rows later exact as_rows =
     renamed w (IsLeaked w rows) (IsLeakedIn before) later (λ unit _ was. is_left_out w (IsLeakedIn before) rows unit exact was) as_rows
-
--- with the operations of intents, one list behind the other
-pub rows_both : (rows : Rows) (xs ys : List Intent) → rows_by rows (xs ++ ys) ≡ rows_by (rows_by rows xs) ys
-rows_both rows [] ys = refl
-rows_both rows (x ∷ xs) ys = rows_both (rows_after rows x.ops) xs ys
-
-ops_both : (rows : Rows) (ops more : List RowOp) → rows_after rows (ops ++ more) ≡ rows_after (rows_after rows ops) more
-ops_both rows [] more = refl
-ops_both rows (op ∷ ops) more = ops_both (row_after rows op) ops more
-
-pub rows_front : (rows : Rows) (xs : List Intent) → rows_by rows xs ≡ rows_after rows (ops_by xs)
-rows_front rows [] = refl
-rows_front rows (x ∷ xs) = rows_front (rows_after rows x.ops) xs ∙ sym (ops_both rows x.ops (ops_by xs))
 
 -- ---- selections
 
@@ -80,38 +71,42 @@ module _ (before : List ℕ) (s : State) (d : Disk) (kept : IsKept s d) (up : s.
 abbrev pub IsBegunExact : Width → (ℕ → Type 0) → State → Type 0
 IsBegunExact w leaked s = (ops : List RowOp) → begun_ops s.log.begun ≡ Some ops → IsExactBut w leaked (rows_after s.log.rows ops)
 
-ops_exact : (w : Width) (leaked : ℕ → Type 0) (rows : Rows) (x : Context) → SelectionsAreExact w leaked rows (intent_of x ∷ [])
-    → IsExactBut w leaked (rows_after rows (x.ops ++ []))
-ops_exact w leaked rows x every =
-    subst (λ (l : List RowOp). IsExactBut w leaked (rows_after rows l)) (sym (append-nil x.ops)) (every (intent_of x ∷ []) (fair_all is_in (intent_of x ∷ [])))
+-- a record that was made is that of the open batch
+pub record IsOfBatch (s : State) (ops : List RowOp) : Type 0 where
+  pub writing : Begun
+  pub begun : s.log.begun ≡ Some writing
+  pub batch : Batch
+  pub is_open : s.batch ≡ Some batch
+  pub rows : rows_by s.log.rows (intents batch.contexts) ≡ rows_after s.log.rows ops
 
-begun_at : (w : Width) (leaked : ℕ → Type 0) (rows : Rows) (x : Context) (ops : List RowOp) → SelectionsAreExact w leaked rows (intent_of x ∷ [])
-    → Some (x.ops ++ []) ≡ Some ops → IsExactBut w leaked (rows_after rows ops)
-begun_at w leaked rows x ops every begun =
-    subst (λ (l : List RowOp). IsExactBut w leaked (rows_after rows l)) (same_Some (x.ops ++ []) ops begun) (ops_exact w leaked rows x every)
+pub batch_rows : (rows : Rows) (b : Batch) → rows_by rows (intents b.contexts) ≡ rows_after rows (batch_ops b)
+batch_rows rows b = sym (rows_by_ops rows (intents b.contexts)) ∙ ap (rows_after rows) (flat_intents (λ x. x.ops) b.contexts)
 
-not_begun : (ops : List RowOp) (X : Type 0) → None ≡ Some ops → X
-not_begun ops X never = absurd cc
+-- whose contexts come first
+pub batch_first : (s : State) (b : Batch) → s.batch ≡ Some b → uncommitted s ≡ b.contexts ++ s.pending
+batch_first s b is = ap (λ (o : Option Batch). option_map_or (λ (c : Batch). c.contexts) o [] ++ s.pending) is
 
-stage_begun : (leaked : ℕ → Type 0) (s : State) (g : Stage) → Holds s.log.number g
-    → SelectionsAreExact (width_of s.log.sup) leaked s.log.rows (intents (uncommitted (at s g))) → IsBegunExact (width_of s.log.sup) leaked (at s g)
-stage_begun leaked s idle holds every ops begun = not_begun ops (IsExactBut (width_of s.log.sup) leaked (rows_after s.log.rows ops)) begun
-stage_begun leaked s (waits x flying) holds every ops begun = not_begun ops (IsExactBut (width_of s.log.sup) leaked (rows_after s.log.rows ops)) begun
-stage_begun leaked s (opens x false) holds every ops begun = not_begun ops (IsExactBut (width_of s.log.sup) leaked (rows_after s.log.rows ops)) begun
-stage_begun leaked s (opens x true) holds every ops begun = begun_at (width_of s.log.sup) leaked s.log.rows x ops every begun
-stage_begun leaked s (flushes x false ticket) holds every ops begun =
-    not_begun ops (IsExactBut (width_of s.log.sup) leaked (rows_after s.log.rows ops)) begun
-stage_begun leaked s (flushes x true ticket) holds every ops begun = begun_at (width_of s.log.sup) leaked s.log.rows x ops every begun
-stage_begun leaked s (flushed x) holds every ops begun = not_begun ops (IsExactBut (width_of s.log.sup) leaked (rows_after s.log.rows ops)) begun
-stage_begun leaked s (writes x given written flying) holds every ops begun = begun_at (width_of s.log.sup) leaked s.log.rows x ops every begun
-stage_begun leaked s (syncs x pieces ticket) holds every ops begun = begun_at (width_of s.log.sup) leaked s.log.rows x ops every begun
-stage_begun leaked s (synced x pieces) holds every ops begun = begun_at (width_of s.log.sup) leaked s.log.rows x ops every begun
+pub begun_of : (s : State) (d : Disk) (ops : List RowOp) → IsKept s d → s.down ≡ None → begun_ops s.log.begun ≡ Some ops → IsOfBatch s ops
+begun_of s d ops kept up is = of_begun s.log.begun refl is
+  where
+    of_begun : (o : Option Begun) → s.log.begun ≡ o → begun_ops o ≡ Some ops → IsOfBatch s ops
+    of_begun None e is = absurd (cc)
+    of_begun (Some r) e is =
+        let made : IsMade s r = made_batch s d r (kept.up up) e in
+        record {
+          writing = r;
+          begun = e;
+          batch = made.batch;
+          is_open = made.is_open;
+          rows = batch_rows s.log.rows made.batch ∙ ap (rows_after s.log.rows) (sym made.ops ∙ same_Some r.ops ops is);
+        }
 
 pub kept_begun : (leaked : ℕ → Type 0) (s : State) (d : Disk) → IsKept s d → s.down ≡ None
     → SelectionsAreExact (width_of s.log.sup) leaked s.log.rows (intents (uncommitted s)) → IsBegunExact (width_of s.log.sup) leaked s
-kept_begun leaked s d kept up =
-    by_stage (λ t. SelectionsAreExact (width_of s.log.sup) leaked t.log.rows (intents (uncommitted t)) → IsBegunExact (width_of s.log.sup) leaked t) s
-    (stage_begun leaked s) (far_of s d (kept.up up))
+kept_begun leaked s d kept up every ops begun =
+    let of : IsOfBatch s ops = begun_of s d ops kept up begun in
+    subst (IsExactBut (width_of s.log.sup) leaked) of.rows
+    (every (intents of.batch.contexts) (front_fair s d kept up of.batch.contexts s.pending (batch_first s of.batch of.is_open)))
 
 -- ---- the contents when the mount began stay what they were
 
@@ -136,10 +131,10 @@ part_exact : (leaked : ℕ → Type 0) (p q : RowsPart) → RowsGo p q → ((x :
 part_exact leaked p q (same is) one every = subst (AreExact leaked) (sym is) every
 part_exact leaked p q (joins x is) one every = one x is
 part_exact leaked p q (reorders later order is) one every =
-    subst (AreExact leaked) (sym is) (λ some fair. every some (λ c. ((fair c).0, sym (order c) ∙ (fair c).1)))
+    subst (AreExact leaked) (sym is) (λ some fair. every some (fair_among is_in later p.intents some (λ n. sym (order n)) fair))
 part_exact leaked p q (applies number front back both fits is) one every = subst (AreExact leaked) (sym is)
     (λ some fair. subst (IsExactBut (width_of p.sup) leaked)
-    (rows_both p.rows front some ∙ ap (λ (rows : Rows). rows_by rows some) (rows_front p.rows front))
+    (rows_append p.rows front some ∙ ap (λ (rows : Rows). rows_by rows some) (sym (rows_by_ops p.rows front)))
     (every (front ++ some) (subst (λ (xs : List Intent). IsFairSelection xs (front ++ some)) (sym both) (fair_behind is_in front back some fair))))
 
 -- the rows with one more are as exact as the committed ones, which stay

@@ -20,7 +20,7 @@ use Rattle.store_steps.specs.State.{Batch, State}
 use Rattle.store_steps.specs.Ready.{is_drained}
 use Rattle.store_steps.specs.Intents.{intents, rows_by}
 use Rattle.store_facts.specs.Kept.{IsKept}
-use Rattle.store_facts.proofs.Conditions.{IsIdle}
+use Rattle.store_facts.proofs.Readiness.{IsIdle, idle_uncommitted}
 use Rattle.store_facts.proofs.Known.{known_idle}
 use Rattle.book_facts.specs.BookFacts.{AreQueued}
 use Rattle.book_facts.specs.Selections.{applied_changes, SelectionsStand}
@@ -38,7 +38,7 @@ idle_objects base opening s d h idle known =
     let before : SelectionsStand (width_of s.log.sup) (held_or_last h []) s.log.rows [] (replay opening (applied_changes s)) s.book.entries =
     subst (λ (xs : List Context). SelectionsStand (width_of s.log.sup) (held_or_last h (intents xs)) s.log.rows (intents xs)
     (replay opening (applied_changes s)) s.book.entries)
-    idle.uncommitted known.stand in
+    (idle_uncommitted s idle) known.stand in
     let stand : ObjectsStand (width_of s.log.sup) (last_at h) s.log.rows (replay opening (applied_changes s)) =
     objects_stand (width_of s.log.sup) (held_or_last h []) (last_at h) s.log.rows (λ unit has. refl) (replay opening (applied_changes s))
     (none_selected (width_of s.log.sup) (held_or_last h []) s.log.rows [] (replay opening (applied_changes s)) s.book.entries before) in
@@ -55,7 +55,7 @@ module _ (base : ℕ) (opening : Objects) (s : State) (d : Disk) (h : History) (
 
   -- the submitted rows are the committed ones
   same_rows : s.submitted ≡ s.log.rows
-  same_rows = (kept.up up).rows.submitted ∙ ap (λ (xs : List Context). rows_by s.log.rows (intents xs)) idle.uncommitted
+  same_rows = (kept.up up).rows.submitted ∙ ap (λ (xs : List Context). rows_by s.log.rows (intents xs)) (idle_uncommitted s idle)
 
   -- so they stand for these objects too
   pub drained_submitted : ObjectsStand (width_of s.log.sup) (last_at h) s.submitted (replay opening (accepted s.book.entries))

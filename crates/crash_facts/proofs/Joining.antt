@@ -22,42 +22,21 @@ use Rattle.store_image.proofs.PageUnits.{page_owned}
 use Rattle.plan_rows.specs.Plans.{HoldsFresh, fresh_units}
 use Rattle.plan_rows.specs.Keeps.{IsGood, Suits, HoldsRead, PlanMakes}
 use Rattle.selections.specs.Fair.{under, HasLast}
-use Rattle.selections.proofs.Selecting.{by_fronts, own_last, other_last, other_inside, with_last}
+use Rattle.selections.proofs.Selecting.{own_last, other_last, other_inside, with_last, all_selected}
 use Rattle.store_steps.specs.Intents.{Intent, names_in, is_in, plan_of, rows_by, taken_by, EachIsPlanned, AreTakenApart, CanJoin}
-use Rattle.space_facts.proofs.Lists.{all_rest, listed_all}
-use Rattle.space_facts.proofs.Rows.{is_own}
+use Rattle.space_facts.proofs.Lists.{listed_all}
+use Rattle.space_facts.proofs.Rows.{is_own, each_named}
 use Rattle.space_facts.proofs.Selected.{keeps_on_data, small_of, selection_good, idle_unmarked}
 use Rattle.space_facts.proofs.Joining.{suits_last, rows_last}
 use Rattle.book_facts.specs.BookFacts.{IsOfEntry}
 use Rattle.book_facts.specs.Selections.{IsFairSelection, changes_of, SelectionsStand}
-use Rattle.book_facts.proofs.Commits.{all_push, all_then, all_before}
+use Rattle.book_facts.proofs.Commits.{all_push, all_then}
 use Rattle.book_facts.proofs.Entries.{change_kept}
 use Rattle.book_facts.proofs.Queues.{entry_push}
 use Rattle.crash_facts.specs.HeldBytes.{held_or_last}
 use Rattle.crash_facts.proofs.Bytes.{fresh_joined, joined_spared}
 
 -- ---- a fair selection
-
--- those under a name
-all_under : {A : Type 0} (P : A → Type 0) (on : A → Bool) (xs : List A) → AllByRecursion P xs → AllByRecursion P (filter on xs)
-all_under P on [] all = tt
-all_under P on (x ∷ xs) all = by_test (on x) (all_under P on xs all.1)
-  where
-    by_test : (b : Bool) → AllByRecursion P (filter on xs) → AllByRecursion P (cond b (x ∷ filter on xs) (filter on xs))
-    by_test true more = (all.0, more)
-    by_test false more = more
-
--- what holds of all holds of those that are selected
-pub all_selected_have : (P : Intent → Type 0) (xs : List Intent) → AllByRecursion P xs → (some : List Intent) → IsFairSelection xs some
-    → AllByRecursion P some
-all_selected_have P xs all = by_fronts is_in xs (AllByRecursion P) tt (λ some x fair before. all_push P some x before (last_has some x fair))
-  where
-    last_has : (some : List Intent) (x : Intent) → IsFairSelection xs (some ++ x ∷ []) → P x
-    last_has some x fair =
-        let mine : AllByRecursion P ((under is_in x.coll some ++ x ∷ []) ++ (fair x.coll).0) =
-        subst (AllByRecursion P) ((fair x.coll).1 ∙ ap (λ l. l ++ (fair x.coll).0) (own_last is_in x.coll some x (is_own x)))
-        (all_under P (is_in x.coll) xs all) in
-        (all_rest P (under is_in x.coll some) (x ∷ []) (all_before P (under is_in x.coll some ++ x ∷ []) (fair x.coll).0 mine)).0
 
 -- one behind those of other collections
 moved_last : (x : Intent) (front back : List Intent) → ((n : List ℕ) → is_in n x ≡ true → under is_in n back ≡ []) → (n : List ℕ)
@@ -137,7 +116,7 @@ module _ (sup : Super) (rows : Rows) (xs : List Intent) (x : Intent) (limits : I
   holds = fresh_joined h xs x can.keeps.ascend can.untaken
 
   of_selected : (some : List Intent) → IsFairSelection xs some → AllByRecursion (IsOfEntry es) some
-  of_selected = all_selected_have (IsOfEntry es) xs of_entries
+  of_selected some fair = all_selected is_in each_named (IsOfEntry es) xs some fair of_entries
 
   same_changes : (some : List Intent) → IsFairSelection xs some → changes_of more some ≡ changes_of es some
   same_changes some fair = entry_changes es e some
@@ -180,7 +159,7 @@ module _ (sup : Super) (rows : Rows) (xs : List Intent) (x : Intent) (limits : I
     of_these = all_push (IsOfEntry more) rest x (entry_push es e rest (of_selected rest has.without)) of_x
 
     of_some : AllByRecursion (IsOfEntry more) some
-    of_some = all_selected_have (IsOfEntry more) (xs ++ x ∷ []) (all_push (IsOfEntry more) xs x (entry_push es e xs of_entries) of_x) some fair
+    of_some = all_selected is_in each_named (IsOfEntry more) (xs ++ x ∷ []) some fair (all_push (IsOfEntry more) xs x (entry_push es e xs of_entries) of_x)
 
     objects_are : replay objects (changes_of more some) ≡ found.0
     objects_are =

@@ -20,7 +20,8 @@ use Rattle.store_steps.specs.Touch.{Touch, nothing, ends, flushes, on_data, on_h
 use Rattle.store_steps.specs.Footprint.{Footprint}
 use Rattle.plan_rows.specs.Keeps.{PlansKeep}
 use Rattle.store_facts.specs.Kept.{IsKept}
-use Rattle.store_facts.proofs.Downs.{GoesDown, down_call}
+use Rattle.store_facts.proofs.Downs.{GoesDown}
+use Rattle.store_facts.proofs.Keeping.{down_call}
 use Rattle.store_facts.proofs.Footprints.{footprint_of}
 use Rattle.crash_facts.specs.Store.{IsDurable, KeepsDurable, IsMounted}
 use Rattle.crash_facts.proofs.Runs.{call_durable, mounted_durable}
@@ -66,7 +67,7 @@ call_events call s s' d d' kept made = of_down s'.down refl
     of_down None up =
         let f : Footprint s d s' d' = footprint_of call s d s' d' kept up made in
         touch_events s s' d d' f.touch f.device f.counted
-    of_down (Some first) down = down_events s s' d d' (down_call call s d s' d' first down made)
+    of_down (Some first) down = down_events s s' d d' (down_call call s d s' d' first kept down made)
 
 -- ---- each call
 

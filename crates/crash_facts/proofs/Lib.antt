@@ -1,8 +1,9 @@
 pub mod Bytes
+pub mod Fronts
+pub mod Exact
 pub mod Joining
 pub mod Admitting
 pub mod Standing
-pub mod Exact
 pub mod Now
 pub mod Idle
 pub mod Answered

@@ -33,18 +33,19 @@ use Rattle.store_steps.specs.Runs.{Call, Calls, IsRun}
 use Rattle.plan_rows.specs.Keeps.{PlansKeep}
 use Rattle.store_facts.specs.Kept.{IsKept}
 use Rattle.store_steps.specs.UnderWay.{uncommitted, second_flush}
-use Rattle.store_facts.proofs.Conditions.{IsIdle}
+use Rattle.store_facts.proofs.Readiness.{IsIdle}
 use Rattle.store_facts.proofs.Known.{known_idle}
 use Rattle.book_facts.specs.BookFacts.{KnownOfBook}
 use Rattle.book_facts.proofs.Books.{book_opened}
 use Rattle.book_facts.proofs.BookCalls.{book_call}
-use Rattle.book_facts.proofs.KeptCalls.{kept_call, kept_run}
+use Rattle.store_facts.proofs.KeptCalls.{kept_call, kept_run}
 use Rattle.book_facts.proofs.Selecting.{stand_none}
 use Rattle.crash_facts.specs.HeldBytes.{held_or_last}
 use Rattle.unit_facts.specs.Known.{KnownOfUnits}
 use Rattle.unit_facts.proofs.Calls.{footprint_known, opened_known}
 use Rattle.store_facts.proofs.Footprints.{footprint_of}
-use Rattle.store_facts.proofs.Downs.{was_up, Ends, IsStill, not_both, down_call}
+use Rattle.store_facts.proofs.Downs.{was_up, Ends, IsStill, not_both}
+use Rattle.store_facts.proofs.Keeping.{down_call}
 use Rattle.unit_facts.proofs.Runs.{idle_half, drained_clean}
 use Rattle.crash_facts.specs.Store.{contents_at, KnownOfStore, IsDurable, IsMounted}
 use Rattle.crash_facts.proofs.Idle.{idle_objects}
@@ -133,7 +134,7 @@ module _ (base : ℕ) (opening : Objects) (call : Call) (s s' : State) (d d' : D
   }
 
   durable_down : (first : Ticket) → s'.down ≡ Some first → IsDurable base opening s' d'
-  durable_down first down = elim (down_call call s d s' d' first down made) [
+  durable_down first down = elim (down_call call s d s' d' first kept down made) [
     | inl end ↦ durable_ended gone end
     | inr still ↦ durable_still gone still
   ]

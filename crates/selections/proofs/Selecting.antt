@@ -1,10 +1,23 @@
 -- Fair selections: fronts, more of them, one that comes last, and those of nothing and of one.
-use Rattle.std.proofs.Common.{◌≡◌, ◌⊎◌, inl, inr, Bool, true, false, cond, List, [], ◌∷◌, ◌++◌, refl, sym, ap, subst, ◌∙◌, append-nil}
+use Rattle.std.proofs.Common.{◌≡◌, ◌⊎◌, inl, inr, Bool, true, false, cond, filter, List, [], ◌∷◌, ◌++◌, refl, sym, ap, subst, ◌∙◌, append-nil}
 use Rattle.std.proofs.Common.{append_assoc}
 use Rattle.std.proofs.lemmas.List.{append_cancel_right}
 use Rattle.std.proofs.lemmas.List.Elements.{filter-append}
+use Rattle.std.specs.List.{AllByRecursion}
 use Rattle.selections.specs.Fair.{under, IsFair, IsComplete, HasLast, EachHasName}
 use Rattle.selections.proofs.Cuts.{snoc_cases, same_end, end_cases, not_empty, no_longer, in_empty, filters_turn, SplitLast, split_last}
+
+all_under : {A : Type 0} (P : A → Type 0) (p : A → Bool) (xs : List A) → AllByRecursion P xs → AllByRecursion P (filter p xs)
+all_under P p [] all = tt
+all_under P p (x ∷ xs) all = of_test (p x) (all_under P p xs all.1)
+  where
+    of_test : (b : Bool) → AllByRecursion P (filter p xs) → AllByRecursion P (cond b (x ∷ filter p xs) (filter p xs))
+    of_test true rest = (all.0, rest)
+    of_test false rest = rest
+
+all_front : {A : Type 0} (P : A → Type 0) (xs ys : List A) → AllByRecursion P (xs ++ ys) → AllByRecursion P xs
+all_front P [] ys all = tt
+all_front P (x ∷ xs) ys all = (all.0, all_front P xs ys all.1)
 
 module _ {K A : Type 0} (on : K → A → Bool) where
   pub fair_nil : (all : List A) → IsFair on all []
@@ -187,3 +200,20 @@ module _ {K A : Type 0} (on : K → A → Bool) where
       | inl e ↦ subst P (sym e) none
       | inr e ↦ subst P (sym e) one
     ]
+
+    -- ---- what holds of each
+
+    named_all : (P : A → Type 0) (ys : List A) → ((n : K) → AllByRecursion P (under on n ys)) → AllByRecursion P ys
+    named_all P [] all = tt
+    named_all P (y ∷ ys) all =
+        let own : (n : K) × (on n y ≡ true) = named y in
+        ((subst (AllByRecursion P) (own_first own.0 y ys own.1) (all own.0)).0, named_all P ys (λ n. of_test n (on n y) (all n)))
+      where
+        of_test : (n : K) (b : Bool) → AllByRecursion P (cond b (y ∷ under on n ys) (under on n ys)) → AllByRecursion P (under on n ys)
+        of_test n true rest = rest.1
+        of_test n false rest = rest
+
+    -- what holds of all holds of those that are selected
+    pub all_selected : (P : A → Type 0) (all some : List A) → IsFair on all some → AllByRecursion P all → AllByRecursion P some
+    all_selected P all some fair holds = named_all P some (λ n. all_front P (under on n some) (fair n).0
+        (subst (AllByRecursion P) (fair n).1 (all_under P (on n) all holds)))

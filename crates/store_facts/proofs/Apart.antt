@@ -17,12 +17,12 @@ use Rattle.meta_store.specs.Store.{Begun}
 use Rattle.store_steps.specs.State.{Batch, State}
 use Rattle.store_steps.specs.UnderWay.{uncommitted, all_fresh, given_fresh}
 use Rattle.store_steps.specs.Contexts.{batch_ops}
-use Rattle.store_facts.specs.Jobs.{IsNone, IsGivenPiece, IsLogFar, log_flying}
+use Rattle.store_facts.specs.Jobs.{IsNone, IsGivenPiece}
 use Rattle.store_facts.specs.Kept.{IsKept, IsKeptUp}
-use Rattle.store_facts.proofs.Lists.{all_join}
+use Rattle.store_facts.proofs.Lists.{all_left, all_right, all_join}
 use Rattle.store_facts.proofs.Untouched.{all_then}
 use Rattle.store_facts.proofs.PartsKept.{flat_intents}
-use Rattle.store_facts.proofs.Conditions.{made_ops, has_record}
+use Rattle.store_facts.proofs.Conditions.{IsMade, made_batch, has_record}
 use Rattle.store_facts.proofs.RowsFacts.{units_of, taken_by, pending_on_data}
 
 -- ---- units of contexts, by lists
@@ -67,11 +67,13 @@ all_take P (suc k) [] all = tt
 all_take P (suc k) (f ∷ fs) all = (all.0, all_take P k fs all.1)
 
 -- what they gave is among what they took
+pub given_of_all : (P : FreshUnit → Type 0) (xs : List Context) → AllByRecursion P (all_fresh xs) → AllByRecursion P (given_fresh xs)
+given_of_all P [] all = tt
+given_of_all P (x ∷ xs) all = all_join P (take x.given x.fresh) (given_fresh xs) (all_take P x.given x.fresh (all_left P x.fresh (all_fresh xs) all))
+    (given_of_all P xs (all_right P x.fresh (all_fresh xs) all))
+
 pub given_taken : (P : ℕ → Type 0) (xs : List Context) → ((u : ℕ) → Contains (taken_by xs) u → P u) → AllByRecursion (λ f. P f.unit) (given_fresh xs)
-given_taken P [] all = tt
-given_taken P (x ∷ xs) all = all_join (λ f. P f.unit) (take x.given x.fresh) (given_fresh xs)
-    (all_take (λ f. P f.unit) x.given x.fresh (fresh_taken P x.fresh (λ u c. all u (Contains-append_left (units_of x.fresh) (taken_by xs) u c))))
-    (given_taken P xs (λ u c. all u (Contains-append_right (units_of x.fresh) (taken_by xs) u c)))
+given_taken P xs all = given_of_all (λ f. P f.unit) xs (taken_fresh P xs all)
 
 -- ---- the log lies before the data units
 
@@ -90,15 +92,20 @@ module _ (s : State) (d : Disk) (kept : IsKept s d) (up : s.down ≡ None) where
   taken_once : (u : ℕ) → times u (taken_by (uncommitted s)) ≤ 1
   taken_once u = subst (λ us. times u us ≤ 1) (flat_intents (λ x. units_of x.fresh) (uncommitted s)) (kept_up.rows.apart.apart u)
 
-  -- what contexts of the batch took is none of what those that wait took
-  pub batch_apart : (b : Batch) → s.batch ≡ Some b → (u : ℕ) → Contains (taken_by b.contexts) u → Contains (taken_by s.pending) u → ⊥
-  batch_apart b is u one two = omega (
+  -- what the first ones took is none of what those behind them took
+  pub parts_apart : (front back : List Context) → uncommitted s ≡ front ++ back → (u : ℕ) → Contains (taken_by front) u → Contains (taken_by back) u → ⊥
+  parts_apart front back are u one two = omega (
     arith,
-    times_some u (taken_by b.contexts) one,
-    times_some u (taken_by s.pending) two,
-    times_both u b.contexts s.pending,
-    subst (λ (o : Option Batch). times u (taken_by (option_map_or (λ (c : Batch). c.contexts) o [] ++ s.pending)) ≤ 1) is (taken_once u),
+    times_some u (taken_by front) one,
+    times_some u (taken_by back) two,
+    times_both u front back,
+    subst (λ (xs : List Context). times u (taken_by xs) ≤ 1) are (taken_once u),
   )
+
+  -- so it is with the contexts of the batch and those that wait
+  pub batch_apart : (b : Batch) → s.batch ≡ Some b → (u : ℕ) → Contains (taken_by b.contexts) u → Contains (taken_by s.pending) u → ⊥
+  batch_apart b is = parts_apart b.contexts s.pending
+      (ap (λ (o : Option Batch). option_map_or (λ (c : Batch). c.contexts) o [] ++ s.pending) is)
 
   -- what one that waits took is none of the others'
   pub record AreOthers (front back : List Context) (u : ℕ) : Type 0 where
@@ -131,13 +138,10 @@ module _ (s : State) (d : Disk) (kept : IsKept s d) (up : s.down ≡ None) where
 
   -- the record that is made lies in the active half
   pub record_behind : (r : Begun) → s.log.begun ≡ Some r → s.log.tail + unit_count s.log.number r.ops ≤ s.log.sup.half
-  record_behind r begun = of_batch s.batch refl (subst (λ (o : Option Begun). IsLogFar s.log.number s.batch o (log_flying s.flying)) begun kept_up.flights.log)
-    where
-      of_batch : (o : Option Batch) → s.batch ≡ o → IsLogFar s.log.number o (Some r) (log_flying s.flying) → s.log.tail + unit_count s.log.number r.ops ≤ s.log.sup.half
-      of_batch None is far = absurd (let e = far.0 in cc)
-      of_batch (Some b) is far =
-          subst (λ (ops : List RowOp). s.log.tail + unit_count s.log.number ops ≤ s.log.sup.half) (sym (made_ops s d b r kept_up is begun))
-          (has_record s d b kept.always kept_up is).room
+  record_behind r begun =
+      let made : IsMade s r = made_batch s d r kept_up begun in
+      subst (λ (ops : List RowOp). s.log.tail + unit_count s.log.number ops ≤ s.log.sup.half) (sym made.ops)
+      (has_record s d made.batch kept.always kept_up made.is_open).room
 
   -- so no data unit is one of its units
   pub not_in_record : (u : ℕ) → IsDataUnit s.log.sup u → IfSome s.log.begun (λ r. ¬ IsGivenPiece s.log r u)

@@ -35,7 +35,7 @@ use Rattle.store_facts.proofs.PartsKept.{flat_intents, intents_both}
 use Rattle.store_facts.proofs.InFlight.{IsSynced, ready_synced}
 
 -- all units of written contexts are given
-given_all : (xs ys : List Context) → AllByRecursion IsAllGiven xs → given_fresh (xs ++ ys) ≡ all_fresh xs ++ given_fresh ys
+pub given_all : (xs ys : List Context) → AllByRecursion IsAllGiven xs → given_fresh (xs ++ ys) ≡ all_fresh xs ++ given_fresh ys
 given_all [] ys all = refl
 given_all (x ∷ xs) ys all =
     ap (λ (fs : List FreshUnit). fs ++ given_fresh (xs ++ ys)) (take_all x.given x.fresh (omega (arith, (all.0).given)))

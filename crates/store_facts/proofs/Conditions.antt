@@ -22,7 +22,7 @@ use Rattle.store_steps.specs.UnderWay.{uncommitted}
 use Rattle.store_steps.specs.Intents.{intent_of, intents, needs_by}
 use Rattle.store_steps.specs.Parts.{rows_part}
 use Rattle.store_facts.specs.Flights.{IsWritten, IsUnderWay}
-use Rattle.store_facts.specs.Jobs.{IsBatchOpen, IsLogFar, log_flying}
+use Rattle.store_facts.specs.Jobs.{IsBatchOpen, IsLogFar, log_flying, IsAllGiven}
 use Rattle.store_facts.specs.Room.{FitsRecord, HasRoom}
 use Rattle.store_facts.specs.Work.{entry_work, budget, work_left}
 use Rattle.store_facts.specs.Kept.{IsAlwaysKept, IsKeptUp}
@@ -94,6 +94,9 @@ data_ready s n room is = record { at = at; fits = fits; whole = whole; size = ro
 
 open_far : (s : State) (d : Disk) (b : Batch) → IsKeptUp s d → s.batch ≡ Some b → IsBatchOpen s.log.number b s.log.begun (log_flying s.flying)
 open_far s d b up is = subst (λ (o : Option Batch). IsLogFar s.log.number o s.log.begun (log_flying s.flying)) is up.flights.log
+
+pub batch_written : (s : State) (d : Disk) (b : Batch) → IsKeptUp s d → s.batch ≡ Some b → AllByRecursion IsAllGiven b.contexts
+batch_written s d b up is = (open_far s d b up is).written
 
 -- its operations have a spelling
 ops_fit : (xs : List Context) → AllByRecursion (λ x. FitsRecord (intent_of x)) xs → AllFit (flat_map (λ x. x.ops) xs)
@@ -175,6 +178,36 @@ made_way flush.Flushed flush.Flushed pieces ops r flying h = (h.0).0
 
 pub made_ops : (s : State) (d : Disk) (b : Batch) (r : Begun) → IsKeptUp s d → s.batch ≡ Some b → s.log.begun ≡ Some r → r.ops ≡ batch_ops b
 made_ops s d b r up is begun = made_way b.first b.second (piece_count (unit_count s.log.number (batch_ops b))) (batch_ops b) r (log_flying s.flying)
+    (subst (λ (o : Option Begun). IsUnderWay b.first b.second (piece_count (unit_count s.log.number (batch_ops b))) (batch_ops b) o (log_flying s.flying)) begun
+    (open_far s d b up is).far)
+
+-- and there is one where a record is made
+pub record IsMade (s : State) (r : Begun) : Type 0 where
+  pub batch : Batch
+  pub is_open : s.batch ≡ Some batch
+  pub ops : r.ops ≡ batch_ops batch
+
+pub made_batch : (s : State) (d : Disk) (r : Begun) → IsKeptUp s d → s.log.begun ≡ Some r → IsMade s r
+made_batch s d r up begun = of_batch s.batch refl (subst (λ (o : Option Begun). IsLogFar s.log.number s.batch o (log_flying s.flying)) begun up.flights.log)
+  where
+    of_batch : (o : Option Batch) → s.batch ≡ o → IsLogFar s.log.number o (Some r) (log_flying s.flying) → IsMade s r
+    of_batch None is far = absurd (let e = far.0 in cc)
+    of_batch (Some b) is far = record { batch = b; is_open = is; ops = made_ops s d b r up is begun }
+
+-- a record of which a piece was given is made once the first flush has ended
+given_way : (first second : FlushState) (pieces : ℕ) (ops : List RowOp) (r : Begun) (flying : List Flying)
+    → IsUnderWay first second pieces ops (Some r) flying → 0 < r.given → first ≡ flush.Flushed
+given_way flush.NotSent flush.NotSent pieces ops r flying h some = absurd (omega (arith, (h.0).1, some))
+given_way flush.NotSent (flush.Sent u) pieces ops r flying h some = absurd h
+given_way flush.NotSent flush.Flushed pieces ops r flying h some = absurd h
+given_way (flush.Sent t) flush.NotSent pieces ops r flying h some = absurd (omega (arith, (h.0).1, some))
+given_way (flush.Sent t) (flush.Sent u) pieces ops r flying h some = absurd h
+given_way (flush.Sent t) flush.Flushed pieces ops r flying h some = absurd h
+given_way flush.Flushed second pieces ops r flying h some = refl
+
+pub given_flushed : (s : State) (d : Disk) (b : Batch) (r : Begun) → IsKeptUp s d → s.batch ≡ Some b → s.log.begun ≡ Some r → 0 < r.given
+    → b.first ≡ flush.Flushed
+given_flushed s d b r up is begun = given_way b.first b.second (piece_count (unit_count s.log.number (batch_ops b))) (batch_ops b) r (log_flying s.flying)
     (subst (λ (o : Option Begun). IsUnderWay b.first b.second (piece_count (unit_count s.log.number (batch_ops b))) (batch_ops b) o (log_flying s.flying)) begun
     (open_far s d b up is).far)
 

@@ -36,3 +36,4 @@ pub mod RowsOpened
 pub mod RowsNow
 pub mod Keeping
 pub mod Kept
+pub mod KeptCalls

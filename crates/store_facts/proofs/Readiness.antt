@@ -23,6 +23,7 @@ use Rattle.store_facts.specs.Flights.{IsUnderWay}
 use Rattle.store_facts.specs.Jobs.{IsPartGiven, IsBatchOpen, IsLogFar, log_flying}
 use Rattle.store_facts.proofs.Matching.{Matches}
 use Rattle.store_facts.proofs.Underway.{pieces_are}
+use Rattle.store_steps.specs.UnderWay.{uncommitted}
 
 -- ---- only Reap is ready while the kernel is down
 
@@ -73,7 +74,7 @@ filtered_out {A} p (x ∷ xs) none = of_test (λ c. filtered_out p xs c) (p x) r
     of_test rest true e c = absurd (cc)
     of_test rest false e c = (e, rest c)
 
-none_ready : (depth : ℕ) (s : State) → is_drained depth s ≡ true → AllByRecursion (λ (x : Step). is_ready x depth s ≡ false) all_steps
+pub none_ready : (depth : ℕ) (s : State) → is_drained depth s ≡ true → AllByRecursion (λ (x : Step). is_ready x depth s ≡ false) all_steps
 none_ready depth s drained = filtered_out (λ (x : Step). is_ready x depth s) all_steps drained
 
 -- ---- a batch of which nothing is in flight has a step to take
@@ -135,6 +136,9 @@ pub record IsIdle (s : State) : Type 0 where
   pub flying : s.flying ≡ []
   pub begun : s.log.begun ≡ None
   pub applied : applied_count s ≤ s.acked
+
+pub idle_uncommitted : (s : State) → IsIdle s → uncommitted s ≡ []
+idle_uncommitted s idle = ap (λ (o : Option Batch). option_map_or (λ (b : Batch). b.contexts) o [] ++ s.pending) idle.batch ∙ idle.pending
 
 pub drained_is_idle : (s : State) (d : Disk) → 8 ≤ d.depth → Matches s d.flights → s.down ≡ None → is_drained d.depth s ≡ true → IsIdle s
 drained_is_idle s d deep m up drained = record {

@@ -3,7 +3,7 @@ use Rattle.std.proofs.Common.{◌≡◌, ℕ, ◌+◌, ◌-◌, ◌≤◌, Bool,
 use Rattle.std.specs.List.{AllByRecursion}
 use Rattle.meta_log.specs.Records.{unit_count}
 use Rattle.selections.specs.Fair.{under, IsComplete}
-use Rattle.selections.proofs.Selecting.{own_first}
+use Rattle.selections.proofs.Selecting.{complete_is_fair, all_selected}
 use Rattle.selections.proofs.Order.{fold_alike, each_is}
 use Rattle.space_facts.proofs.Rows.{each_named}
 use Rattle.store_steps.specs.Intents.{Intent, is_in, ops_by, needs_by, released_by}
@@ -43,31 +43,6 @@ pub needs_join : (xs ys : List Intent) → needs_by (xs ++ ys) ≡ needs_by xs +
 needs_join [] ys = omega arith
 needs_join (x ∷ xs) ys = omega (arith, needs_join xs ys)
 
--- ---- nor does what holds of each
-
-all_filter : (p : Intent → Bool) (xs : List Intent) → AllByRecursion FitsRecord xs → AllByRecursion FitsRecord (filter p xs)
-all_filter p [] all = tt
-all_filter p (x ∷ xs) all = of_test (p x) (all_filter p xs all.1)
-  where
-    of_test : (b : Bool) → AllByRecursion FitsRecord (filter p xs) → AllByRecursion FitsRecord (cond b (x ∷ filter p xs) (filter p xs))
-    of_test true rest = (all.0, rest)
-    of_test false rest = rest
-
--- what holds of all of each name holds of all
-all_named : (ys : List Intent) → ((n : List ℕ) → AllByRecursion FitsRecord (under is_in n ys)) → AllByRecursion FitsRecord ys
-all_named [] all = tt
-all_named (y ∷ ys) all = (here (each_named y), all_named ys (λ n. of_test n (is_in n y) (all n)))
-  where
-    here : (n : List ℕ) × (is_in n y ≡ true) → FitsRecord y
-    here own = (subst (AllByRecursion FitsRecord) (own_first is_in own.0 y ys own.1) (all own.0)).0
-
-    of_test : (n : List ℕ) (b : Bool) → AllByRecursion FitsRecord (cond b (y ∷ under is_in n ys) (under is_in n ys)) → AllByRecursion FitsRecord (under is_in n ys)
-    of_test n true rest = rest.1
-    of_test n false rest = rest
-
-fits_alike : (xs ys : List Intent) → IsComplete is_in xs ys → AllByRecursion FitsRecord xs → AllByRecursion FitsRecord ys
-fits_alike xs ys same all = all_named ys (λ n. subst (AllByRecursion FitsRecord) (sym (same n)) (all_filter (is_in n) xs all))
-
 -- ---- each change
 
 -- one that joins has room for its record
@@ -83,7 +58,7 @@ room_go p q (rows.joins x is) to has = subst HasRoom (sym is) (record {
   room = to.1;
 })
 room_go p q (rows.reorders later complete is) to has = subst HasRoom (sym is) (record {
-  fits = fits_alike p.intents later complete has.fits;
+  fits = all_selected is_in each_named FitsRecord p.intents later (complete_is_fair is_in p.intents later complete) has.fits;
   reserved = has.reserved ∙ sym (needs_alike p.intents later complete);
   room = has.room;
 })

@@ -21,6 +21,7 @@ use Rattle.space_facts.proofs.Spaces.{free_over, free_joins}
 use Rattle.store_facts.specs.Room.{FitsRecord}
 use Rattle.store_facts.specs.Space.{IsSpaceOf, AreRowsKept}
 use Rattle.store_facts.proofs.SpaceUnits.{within_data}
+use Rattle.store_facts.proofs.Pieces.{same_units}
 
 -- ---- the submitted rows, and the free units over them
 
@@ -37,14 +38,6 @@ module _ (s : State) (limits : IsSuper s.log.sup) (space : IsSpaceOf s.log.sup s
       (free_over s.log.sup s.log.rows xs s.space limits kept.good kept.planned kept.apart (λ u w. within_data s.log.sup s.space u space w) kept.counted)
 
 -- ---- the plan of an accepted transaction
-
--- a record takes as many units whatever its number is
-length_record : (number : ℕ) (ops : List RowOp) → length (record_bytes number ops) ≡ 24 + length (ops_bytes ops)
-length_record number ops =
-    length-append (record_head number ops ++ to_le_bytes w32 (crc32c (record_head number ops ++ ops_bytes ops))) (ops_bytes ops)
-
-pub same_count : (number other : ℕ) (ops : List RowOp) → unit_count number ops ≡ unit_count other ops
-same_count number other ops = ap units_for (length_record number ops) ∙ sym (ap units_for (length_record other ops))
 
 module _ (keep : PlansKeep) (s : State) (client line : ℕ) (change : Change) (s' : State) (limits : IsSuper s.log.sup)
     (space : IsSpaceOf s.log.sup s.space) (kept : AreRowsKept (rows_part s)) (known : IsKnown change.ops) (does : Accepts client line change s s') where
@@ -69,7 +62,7 @@ module _ (keep : PlansKeep) (s : State) (client line : ℕ) (change : Change) (s
   pub accepted_record : FitsRecord (intent_of (context_of (length s.book.entries) change s.log does.plan))
   accepted_record = record {
     fit = accepted_keeps.fit;
-    need = λ number. same_count number s.log.number does.plan.ops;
+    need = λ number. same_units number s.log.number does.plan.ops;
     whole = accepted_keeps.fresh.whole;
     ascend = accepted_keeps.ascend;
   }

@@ -22,7 +22,7 @@ ghost use Rattle.store_steps.specs.Contexts.{Unsent, unsent_units, run_bytes, ne
 ghost use Rattle.store_steps.specs.Steps.{piece_unit, piece_bytes};
 ghost use Rattle.store_steps.specs.Opened.{Found, opened};
 ghost use Rattle.store_steps.specs.Ready.{is_ready, is_ready_up, is_drained};
-ghost use Rattle.store_steps.specs.Runs.{DoesOrFails, MayRead, Reads, Call, Calls};
+ghost use Rattle.store_steps.specs.Runs.{DoesOrFails, MayRead, Reads, Call, Calls, IsRun};
 ghost use Rattle.store_steps.specs.Submit.{Accepts, Refuses};
 ghost use Rattle.store_steps.specs.UnderWay.{uncommitted, all_fresh};
 ghost use Rattle.store_steps.specs.Intents.{intents, SpaceIsCounted};
@@ -50,6 +50,12 @@ pub fn transactions_keep()
         → Refuses client line change a s s' → IsKept s' d }
     ensures read { (client line : ℕ) (command : Command) (s s' : State) (d : Disk) → IsKept s d → MayRead command s d
         → Reads client line command s d s' → IsKept s' d }
+{}
+
+/// So a run of calls keeps it.
+#[tactic(auto, using(crate::proofs::KeptCalls::kept_run))]
+pub fn a_run_keeps_what_the_kernel_keeps()
+    ensures { (calls : List Call) (s s' : State) (d d' : Disk) → PlansKeep → IsKept s d → IsRun s d calls s' d' → IsKept s' d' }
 {}
 
 /// A data unit is free exactly where it isn't busy: its bit is 0 in the committed rows, and no transaction that isn't committed has it. So what

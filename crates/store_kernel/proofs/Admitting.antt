@@ -26,9 +26,8 @@ use Rattle.store_steps.specs.declared.context.Context.{Context}
 use Rattle.store_steps.specs.declared.flight.Flying.{Flying}
 use Rattle.store_steps.specs.State.{State}
 use Rattle.store_steps.specs.Submit.{CanNote, Accepts, need_of}
-use Rattle.store_steps.specs.Runs.{MaySubmit}
 use Rattle.store_facts.specs.Kept.{IsKept}
-use Rattle.store_facts.proofs.Kept.{idle_of}
+use Rattle.store_facts.proofs.Known.{idle_pending}
 use Rattle.store_facts.proofs.RowsNow.{kept_submitted, kept_free}
 use Rattle.onode_state.specs.Objects.{AreRowsOfAStore, AreRowsOfWidth}
 use Rattle.txn_planner.specs.PlanFails.{IsPlanFor}
@@ -37,6 +36,7 @@ use Rattle.store_kernel.specs.declared.prepared.Prepared.{Prepared}
 use Rattle.store_kernel.specs.Prepared.{IsPlanOf, IsPrepared, context_at}
 use Rattle.store_kernel.specs.Seen.{listed, state_of}
 use Rattle.store_kernel.specs.Units.{CanBeTaken}
+use Rattle.store_kernel.specs.Submitting.{MaySubmit}
 
 -- ---- preparing
 
@@ -108,7 +108,7 @@ module _ (m : meta.Meta) (submitted : Rows) (pending : Option Context) (batch : 
       → entries' ≡ entries ++ record { client = client; line = line; command = ask.Change change; answer = answer.Accepted; acks = acked } ∷ []
       → Accepts client line change before (state_of m' submitted' (Some x) batch flying down events space' entries' commits acked)
   accepted d client line change ready m' submitted' x place space' entries' kept may can prepared is_meta is_submitted is_context is_place is_space is_entries =
-      let idle : pending ≡ None = none_listed pending (idle_of before d change kept can.up may).pending in
+      let idle : pending ≡ None = none_listed pending (idle_pending before d kept can.up (may.drained can.up)) in
       record {
         can_note = can;
         not_refused = prepared.plan.not_refused;

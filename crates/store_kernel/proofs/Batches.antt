@@ -22,9 +22,11 @@ use Rattle.store_steps.specs.Ready.{is_ready}
 use Rattle.store_steps.specs.Steps.{DoesTake, DoesCommit, DoesFinish}
 use Rattle.store_facts.specs.Room.{AcksAre}
 use Rattle.store_facts.specs.Kept.{IsKept}
-use Rattle.store_facts.proofs.Readiness.{some_is, chosen_is}
-use Rattle.store_facts.proofs.Conditions.{ready_not_down, ready_by_table, ReadyCommit}
-use Rattle.store_facts.proofs.Known.{known_commit, known_finish}
+use Rattle.store_facts.proofs.Choosing.{IsFirst, chosen_first}
+use Rattle.store_facts.proofs.Readiness.{ready_not_down, ready_by_table, some_of}
+use Rattle.store_facts.proofs.Conditions.{HasRecord, ReadyCommit}
+use Rattle.store_facts.proofs.Known.{known_batch, known_commit, known_finish}
+use Rattle.store_kernel.proofs.Sending.{alone}
 use Rattle.store_facts.proofs.SpaceUnits.{data_within, space_given}
 use Rattle.store_facts.proofs.RowsFacts.{back_data, back_in_turn}
 use Rattle.store_image.specs.Owners.{IsDataUnit}
@@ -38,9 +40,10 @@ use Rattle.store_steps.specs.declared.step.Step.TheVariants as step
 is_the_chosen : (s : State) (d : Disk) (x : Context) → is_ready step.Take d.depth s ≡ true → s.pending ≡ x ∷ [] → chosen s.pending ≡ Some x
 is_the_chosen s d x ready pending =
     let table = ready_by_table s d.depth step.Take (ready_not_down s d.depth step.Take refl ready) ready in
-    let found = some_is (chosen s.pending) (and_parts (is_none s.batch) (is_some (chosen s.pending)) table).1 in
-    let here : chosen (x ∷ []) ≡ Some found.0 = subst (λ (l : List Context). chosen l ≡ Some found.0) pending found.1 in
-    found.1 ∙ ap Some (sym (chosen_is x found.0 here).0)
+    let found = some_of (chosen s.pending) (and_parts (is_none s.batch) (is_some (chosen s.pending)) table).1 in
+    let first : IsFirst [] found.0 s.pending = chosen_first [] s.pending found.0 found.1 in
+    found.1 ∙ ap Some (sym (alone (λ (y : Context). y ≡ found.0) x
+    (record { front = first.front; item = found.0; back = first.back; is = sym pending ∙ first.is; holds = refl })))
 
 none_left : (x : Context) → without_context x.place (x ∷ []) ≡ []
 none_left x = ap (λ (b : Bool). cond (not b) (x ∷ []) []) (eq-eqb x.place x.place refl)
@@ -95,7 +98,7 @@ can_flush m b w = subst (λ (o : Option meta.Begun). MatchOption o ⊥ (λ (r : 
 pub can_release : (s : State) (d : Disk) (m : meta.Meta) (b : OpenBatch) → IsKept s d → is_ready step.Commit d.depth s ≡ true → s.batch ≡ Some (batch_of b) → s.log ≡ m
     → b.context.need ≤ (meta.after_flush m m.begun).reserved
 can_release s d m b kept ready batch log =
-    let facts : ReadyCommit s (batch_of b) = known_commit s d (batch_of b) kept ready batch in
+    let facts : HasRecord s (batch_of b) = known_batch s d (batch_of b) kept (ready_not_down s d.depth step.Commit refl ready) batch in
     let w : Written m b = is_written s d m b kept ready batch log in
     let same : (meta.after_flush m m.begun).reserved ≡ s.log.reserved = ap (λ (o : Option meta.Begun). (meta.after_flush m o).reserved) w.begun ∙ ap (λ (l : meta.Meta). l.reserved) (sym log) in
     omega (arith, facts.needs, same)

@@ -15,19 +15,22 @@ use Rattle.store_steps.specs.State.{Batch, State}
 use Rattle.store_steps.specs.Contexts.{with_context, done_more}
 use Rattle.store_steps.specs.Changes.{after_done, after_good, first_flushed, second_flushed, written_more, down_by, flying_of, landed}
 use Rattle.store_steps.specs.Steps.{Takes}
-use Rattle.store_facts.specs.Flights.{units_of, flying_units, IsDataOf}
+use Rattle.std.specs.List.{AllByRecursion}
+use Rattle.store_facts.specs.Jobs.{IsPartGiven}
 use Rattle.store_facts.specs.Kept.{IsKept}
-use Rattle.store_facts.proofs.Flying.{others_of, Landed, landed_flight, reaped_good, found_holds}
-use Rattle.store_facts.proofs.Stages.{Stage, idle, waits, opens, flushes, flushed, writes, syncs, synced, one_flight, begun_of, flying_at, Holds, by_stage}
+use Rattle.store_facts.proofs.Lists.{StandsIn}
+use Rattle.store_facts.proofs.Flying.{others_of, landed_flight, reaped_good}
+use Rattle.store_facts.proofs.Landing.{IsLeftOut, left_out}
+use Rattle.store_facts.proofs.InFlight.{IsOf, found_tells}
 use Rattle.store_kernel.specs.declared.batch.OpenBatch.{OpenBatch}
 use Rattle.store_kernel.specs.Seen.{listed, batch_of}
 use Rattle.store_kernel.specs.Seen as seen
 use Rattle.store_kernel.specs.Ends.{with_first, with_second, pending_after, batch_after, meta_after}
-use Rattle.store_kernel.proofs.Sending.{with_one, WaitsAlone, waits_alone}
-use Rattle.store_facts.proofs.Alone.{far_of}
+use Rattle.store_kernel.proofs.Sending.{with_one, alone, few_fresh}
 
-pub landed_one : (s : State) (d d' : Disk) (t : Ticket) (ok : Bool) → IsKept s d → Reaped d t.place ok d' → Landed s.flying t d d'
-landed_one s d d' t ok kept ended = landed_flight d d' t ok s.flying kept.always.flights ended
+-- what has ended was in flight
+landed_one : (s : State) (d d' : Disk) (t : Ticket) (ok : Bool) → IsKept s d → Reaped d t.place ok d' → IsLeftOut t s.flying
+landed_one s d d' t ok kept ended = left_out t s.flying (landed_flight d d' t ok s.flying kept.always.flights ended).fewer
 
 -- ---- a bad end
 
@@ -74,79 +77,56 @@ late_takes s d d' t flying left down ended = record {
       ∙ ap (λ (b : Bool). cond b (landed t s) (after_good (flying_of t s.flying) (landed t s))) (sym down);
 }
 
--- what has ended was in flight
+-- what has ended had a job
 pub was_flying : (s : State) (d d' : Disk) (t : Ticket) (ok : Bool) → IsKept s d → Reaped d t.place ok d'
     → option_map (λ (f : Flying). f.job) (flying_of t s.flying) ≡ None → ⊥
 was_flying s d d' t ok kept ended none =
-    let out = landed_one s d d' t ok kept ended in
+    let out : IsLeftOut t s.flying = landed_one s d d' t ok kept ended in
     let some : None ≡ Some out.flight.job = sym none ∙ ap (option_map (λ (f : Flying). f.job)) out.found in
     cc
 
 -- ---- a good end, where it counts
 
 -- the submission that has ended was for this job
-pub record EndedFor (s : State) (d d' : Disk) (t : Ticket) (j : Job) : Type 0 where
-  pub flight : Flying
-  pub found : flying_of t s.flying ≡ Some flight
-  pub its_job : flight.job ≡ j
-  pub left : flying_units (others_of t s.flying) + units_of j ≡ flying_units s.flying
-  pub some : 0 < length s.flying
+pub record EndedFor (s : State) (t : Ticket) (j : Job) : Type 0 where
+  pub out : IsLeftOut t s.flying
+  pub its_job : out.flight.job ≡ j
 
 pub ended_for : (s : State) (d d' : Disk) (t : Ticket) (ok : Bool) (j : Job) → IsKept s d → Reaped d t.place ok d'
-    → option_map (λ (f : Flying). f.job) (flying_of t s.flying) ≡ Some j → EndedFor s d d' t j
+    → option_map (λ (f : Flying). f.job) (flying_of t s.flying) ≡ Some j → EndedFor s t j
 ended_for s d d' t ok j kept ended is =
-    let out : Landed s.flying t d d' = landed_one s d d' t ok kept ended in
-    let its : out.flight.job ≡ j = same_Some out.flight.job j (sym (ap (option_map (λ (f : Flying). f.job)) out.found) ∙ is) in
-    record {
-      flight = out.flight;
-      found = out.found;
-      its_job = its;
-      left = ap (λ (k : Job). flying_units (others_of t s.flying) + units_of k) (sym its) ∙ out.left;
-      some = fewer (length (others_of t s.flying)) (length s.flying) out.fewer;
-    }
-  where
-    fewer : (left all : ℕ) → left + 1 ≡ all → 0 < all
-    fewer left all is = omega (arith, is)
+    let out : IsLeftOut t s.flying = landed_one s d d' t ok kept ended in
+    record { out = out; its_job = same_Some out.flight.job j (sym (ap (option_map (λ (f : Flying). f.job)) out.found) ∙ is) }
+
+-- what it tells
+tells : (s : State) (d : Disk) (t : Ticket) (j : Job) → IsKept s d → s.down ≡ None → EndedFor s t j → IsOf s.pending s.batch s.log.begun t.place j
+tells s d t j kept down ended =
+    subst (IsOf s.pending s.batch s.log.begun t.place) ended.its_job (found_tells s d.flights t ended.out (kept.up down).flights)
+
+-- a data write was of the one context
+tells_data : (s : State) (d : Disk) (x : Context) (t : Ticket) (place count : ℕ) → IsKept s d → s.down ≡ None → s.pending ≡ x ∷ []
+    → EndedFor s t (job.Data place count) → (x.place ≡ place) × (x.done + count ≤ x.given)
+tells_data s d x t place count kept down pending ended = alone (λ (y : Context). (y.place ≡ place) × (y.done + count ≤ y.given)) x
+    (subst (StandsIn (λ (y : Context). (y.place ≡ place) × (y.done + count ≤ y.given))) pending (tells s d t (job.Data place count) kept down ended))
 
 -- its units can be counted
-pub can_count_done : (s : State) (d d' : Disk) (p : Option Context) (t : Ticket) (j : Job) → IsKept s d → s.down ≡ None → s.pending ≡ listed p
-    → EndedFor s d d' t j → (place count : ℕ) → j ≡ job.Data place count → IfSome p (λ x. x.done + count < 2 ^ 32)
-can_count_done s d d' None t j kept down pending ended place count is = tt
-can_count_done s d d' (Some x) t j kept down pending ended place count is =
-    let alone : WaitsAlone s x = waits_alone s d x kept down pending in
-    few x.done count (flying_units (others_of t s.flying)) (units_of j) (flying_units s.flying) x.given (length x.fresh)
-    (ap units_of is) ended.left alone.waiting.counted alone.waiting.within alone.few
+pub can_count_done : (s : State) (d : Disk) (p : Option Context) (t : Ticket) (j : Job) → IsKept s d → s.down ≡ None → s.pending ≡ listed p
+    → EndedFor s t j → (place count : ℕ) → j ≡ job.Data place count → IfSome p (λ x. x.done + count < 2 ^ 32)
+can_count_done s d None t j kept down pending ended place count is = tt
+can_count_done s d (Some x) t j kept down pending ended place count is =
+    few x.done count x.given (length x.fresh) (tells_data s d x t place count kept down pending (subst (EndedFor s t) is ended)).1
+    (subst (AllByRecursion (IsPartGiven s.flying)) pending (kept.up down).flights.waiting).0.within (few_fresh s d x kept down pending)
   where
-    few : (done count left units flying given all : ℕ) → units ≡ count → left + units ≡ flying → done + flying ≡ given → given ≤ all → all ≤ 1048576
-        → done + count < 2 ^ 32
-    few done count left units flying given all one two three four five = omega (arith, one, two, three, four, five)
+    few : (done count given all : ℕ) → done + count ≤ given → given ≤ all → all ≤ 1048576 → done + count < 2 ^ 32
+    few done count given all one two three = omega (arith, one, two, three)
 
 -- a piece of a record that was in flight is of one that is being written
-piece_out_at : (number : ℕ) (g : Stage) (f : Flying) (t : Ticket) → Holds number g → flying_of t (flying_at g) ≡ Some f → f.job ≡ job.Record
-    → 0 < length (flying_at g) → MatchOption (begun_of g) ⊥ (λ r. r.written < r.given)
-piece_out_at number idle f t h found is some = absurd (omega (arith, some))
-piece_out_at number (waits x flying) f t h found is some =
-    absurd (subst (λ (j : Job). IsDataOf x.place j) is (found_holds t (λ (g : Flying). IsDataOf x.place g.job) flying f h.own found))
-piece_out_at number (opens x made) f t h found is some = absurd (omega (arith, some))
-piece_out_at number (flushes x made ticket) f t h found is some =
-    let own : f.job ≡ job.DataFlush = found_holds t (λ (g : Flying). g.job ≡ job.DataFlush) (one_flight ticket job.DataFlush) f (refl, tt) found in
-    absurd (let never : job.DataFlush ≡ job.Record = sym own ∙ is in cc)
-piece_out_at number (flushed x) f t h found is some = absurd (omega (arith, some))
-piece_out_at number (writes x given written flying) f t h found is some = out given written (length flying) h.counted some
-  where
-    out : (given written flies : ℕ) → written + flies ≡ given → 0 < flies → written < given
-    out given written flies counted some = omega (arith, counted, some)
-piece_out_at number (syncs x pieces ticket) f t h found is some =
-    let own : f.job ≡ job.RecordFlush = found_holds t (λ (g : Flying). g.job ≡ job.RecordFlush) (one_flight ticket job.RecordFlush) f (refl, tt) found in
-    absurd (let never : job.RecordFlush ≡ job.Record = sym own ∙ is in cc)
-piece_out_at number (synced x pieces) f t h found is some = absurd (omega (arith, some))
-
-pub piece_out : (s : State) (d d' : Disk) (m : meta.Meta) (t : Ticket) (j : Job) → IsKept s d → s.down ≡ None → s.log ≡ m
-    → EndedFor s d d' t j → j ≡ job.Record → meta.IsPieceOut m
-piece_out s d d' m t j kept down log ended is =
-    subst (λ (l : meta.Meta). MatchOption l.begun ⊥ (λ (r : meta.Begun). r.written < r.given)) log
-    (by_stage (λ u. flying_of t u.flying ≡ Some ended.flight → 0 < length u.flying → MatchOption u.log.begun ⊥ (λ r. r.written < r.given)) s
-    (λ g h found some. piece_out_at s.log.number g ended.flight t h found (ended.its_job ∙ is) some) (far_of s d (kept.up down)) ended.found ended.some)
+pub piece_out : (s : State) (d : Disk) (m : meta.Meta) (t : Ticket) (j : Job) → IsKept s d → s.down ≡ None → s.log ≡ m → EndedFor s t j → j ≡ job.Record
+    → meta.IsPieceOut m
+piece_out s d m t j kept down log ended is =
+    let of = tells s d t job.Record kept down (subst (EndedFor s t) is ended) in
+    subst (λ (l : meta.Meta). meta.IsPieceOut l) log
+    (subst (λ (o : Option meta.Begun). MatchOption o ⊥ (λ (r : meta.Begun). r.written < r.given)) (sym of.1.0) of.1.1)
 
 -- ---- what a good end does, job by job
 
@@ -170,34 +150,26 @@ second_of None = refl
 second_of (Some b) = refl
 
 -- the one context has the place of the data write
-place_of : (s : State) (d d' : Disk) (x : Context) (t : Ticket) (place count : ℕ) → IsKept s d → s.down ≡ None → s.pending ≡ x ∷ []
-    → EndedFor s d d' t (job.Data place count) → x.place ≡ place
-place_of s d d' x t place count kept down pending ended =
-    let own : IsDataOf x.place ended.flight.job =
-    found_holds t (λ (g : Flying). IsDataOf x.place g.job) s.flying ended.flight (waits_alone s d x kept down pending).waiting.own ended.found in
-    let its : IsDataOf x.place (job.Data place count) = subst (λ (j : Job). IsDataOf x.place j) ended.its_job own in
-    sym its.0
-
-counted : (s : State) (d d' : Disk) (p : Option Context) (t : Ticket) (place count : ℕ) → IsKept s d → s.down ≡ None → s.pending ≡ listed p
-    → EndedFor s d d' t (job.Data place count) → listed (option_map (done_more count) p) ≡ with_context place (done_more count) s.pending
-counted s d d' None t place count kept down pending ended = sym (ap (with_context place (done_more count)) pending)
-counted s d d' (Some x) t place count kept down pending ended =
+counted : (s : State) (d : Disk) (p : Option Context) (t : Ticket) (place count : ℕ) → IsKept s d → s.down ≡ None → s.pending ≡ listed p
+    → EndedFor s t (job.Data place count) → listed (option_map (done_more count) p) ≡ with_context place (done_more count) s.pending
+counted s d None t place count kept down pending ended = sym (ap (with_context place (done_more count)) pending)
+counted s d (Some x) t place count kept down pending ended =
     sym (ap (with_context place (done_more count)) pending
-    ∙ with_one x place (done_more count) (place_of s d d' x t place count kept down pending ended))
+    ∙ with_one x place (done_more count) (tells_data s d x t place count kept down pending ended).0)
 
-done_is : (s : State) (d d' : Disk) (m : meta.Meta) (p : Option Context) (b : Option OpenBatch) (t : Ticket) (j : Job) → IsKept s d → s.down ≡ None
-    → s.log ≡ m → s.pending ≡ listed p → s.batch ≡ option_map batch_of b → EndedFor s d d' t j
+done_is : (s : State) (d : Disk) (m : meta.Meta) (p : Option Context) (b : Option OpenBatch) (t : Ticket) (j : Job) → IsKept s d → s.down ≡ None
+    → s.log ≡ m → s.pending ≡ listed p → s.batch ≡ option_map batch_of b → EndedFor s t j
     → with_parts s (others_of t s.flying) ((meta_after j m)) (listed (pending_after j p)) (option_map batch_of (batch_after j b))
     ≡ after_done j (landed t s)
-done_is s d d' m p b t (job.Data place count) kept down log pending batch ended =
-    same_parts s (others_of t s.flying) m s.log _ _ _ s.batch (sym log) (counted s d d' p t place count kept down pending ended) (sym batch)
-done_is s d d' m p b t job.DataFlush kept down log pending batch ended =
+done_is s d m p b t (job.Data place count) kept down log pending batch ended =
+    same_parts s (others_of t s.flying) m s.log _ _ _ s.batch (sym log) (counted s d p t place count kept down pending ended) (sym batch)
+done_is s d m p b t job.DataFlush kept down log pending batch ended =
     same_parts s (others_of t s.flying) m s.log _ s.pending _ _ (sym log) (sym pending)
     (first_of b ∙ ap (option_map first_flushed) (sym batch))
-done_is s d d' m p b t job.Record kept down log pending batch ended =
+done_is s d m p b t job.Record kept down log pending batch ended =
     same_parts s (others_of t s.flying) ((meta.with_written m)) _ _ s.pending _ s.batch
     (ap (λ (l : meta.Meta). let k : meta.Meta = record l { begun = option_map written_more l.begun } in k) (sym log)) (sym pending) (sym batch)
-done_is s d d' m p b t job.RecordFlush kept down log pending batch ended =
+done_is s d m p b t job.RecordFlush kept down log pending batch ended =
     same_parts s (others_of t s.flying) m s.log _ s.pending _ _ (sym log) (sym pending)
     (second_of b ∙ ap (option_map second_flushed) (sym batch))
 
@@ -212,15 +184,15 @@ pub good_takes : (s : State) (d d' : Disk) (t : Ticket) (j : Job) (m : meta.Meta
       events = s.events + 1;
     }) d'
 good_takes s d d' t j m p b flying kept down log pending batch left is ended =
-    let out : EndedFor s d d' t j = ended_for s d d' t true j kept ended is in
+    let out : EndedFor s t j = ended_for s d d' t true j kept ended is in
     record {
       ticket = t;
       ended = ended;
       after =
           ap (λ (l : List Flying). with_parts s l ((meta_after j m)) (listed (pending_after j p)) (option_map batch_of (batch_after j b))) left
-          ∙ done_is s d d' m p b t j kept down log pending batch out
+          ∙ done_is s d m p b t j kept down log pending batch out
           ∙ ap (λ (k : Job). after_done k (landed t s)) (sym out.its_job)
-          ∙ sym (reaped_good s t out.flight down out.found);
+          ∙ sym (reaped_good s t out.out.flight down out.out.found);
     }
 
 -- an end that isn't good is bad, and the other way round

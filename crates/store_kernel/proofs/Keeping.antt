@@ -9,11 +9,12 @@ use Rattle.store_steps.specs.declared.step.Step.{Step}
 use Rattle.store_steps.specs.State.{State}
 use Rattle.store_steps.specs.Ready.{is_ready}
 use Rattle.store_steps.specs.Submit.{Accepts, Refuses}
-use Rattle.store_steps.specs.Runs.{submitting, reading, stepping, DoesOrFails, MaySubmit, Submits, MayRead, AnswersRead}
+use Rattle.store_steps.specs.Runs.{submitting, reading, stepping, DoesOrFails, Submits, MayRead, AnswersRead}
 use Rattle.store_facts.proofs.Kept.{kept_step, kept_accept, kept_refuse, kept_answer}
 use Rattle.crash_facts.specs.Store.{KeepsDurable}
 use Rattle.crash_facts.proofs.Keeping.{call_keeps}
 use Rattle.store_kernel.specs.Known.{KnownOfKernel}
+use Rattle.store_kernel.specs.Submitting.{MaySubmit}
 
 pub known_step : (step : Step) (s s' : State) (d d' : Disk) → KnownOfKernel s d → is_ready step d.depth s ≡ true → DoesOrFails step s d s' d'
     → IsSound d' → KnownOfKernel s' d'
@@ -25,19 +26,19 @@ known_step step s s' d d' known ready does sound = record {
 known_submit : (client line : ℕ) (change : Change) (s s' : State) (d : Disk) → KnownOfKernel s d → MaySubmit change s d
     → Submits client line change s s' → KeepsDurable s' d
 known_submit client line change s s' d known may submits =
-    call_keeps (submitting client line change) s s' d d plans_keep known.kept known.kept.always.device known.durable (may, submits, refl)
+    call_keeps (submitting client line change) s s' d d plans_keep known.kept known.kept.always.device known.durable (may.known, submits, refl)
 
 pub known_accept : (s s' : State) (d : Disk) (client line : ℕ) (change : Change) → KnownOfKernel s d → MaySubmit change s d
     → Accepts client line change s s' → KnownOfKernel s' d
 known_accept s s' d client line change known may accepts = record {
-  kept = kept_accept plans_keep s s' d client line change known.kept may accepts;
+  kept = kept_accept plans_keep s s' d client line change known.kept may.known accepts;
   durable = known_submit client line change s s' d known may (inl accepts);
 }
 
 pub known_refuse : (s s' : State) (d : Disk) (client line : ℕ) (change : Change) (a : Answer) → KnownOfKernel s d → MaySubmit change s d
     → Refuses client line change a s s' → KnownOfKernel s' d
 known_refuse s s' d client line change a known may refuses = record {
-  kept = kept_refuse s s' d client line change a known.kept may refuses;
+  kept = kept_refuse s s' d client line change a known.kept may.known refuses;
   durable = known_submit client line change s s' d known may (inr (inl (a, refuses)));
 }
 

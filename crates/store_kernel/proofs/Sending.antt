@@ -1,5 +1,5 @@
 -- What the steps that submit ask of the device, and what they do to the state.
-use Rattle.std.proofs.Common.{◌≡◌, ℕ, ◌+◌, ◌*◌, ◌%◌, ◌^◌, ◌<◌, ◌≤◌, nat_lt, Bool, true, false, cond, List, [], ◌∷◌, ◌++◌, length, map, Option, Some, None, IfSome, refl, sym, ap, subst, ◌∙◌, append-nil, arith}
+use Rattle.std.proofs.Common.{◌≡◌, ℕ, ◌+◌, ◌*◌, ◌%◌, ◌^◌, ◌<◌, ◌≤◌, nat_lt, Bool, true, false, cond, List, [], ◌∷◌, ◌++◌, length, map, Option, Some, None, IfSome, refl, sym, ap, subst, ◌∙◌, append-nil, length-append, arith}
 use Rattle.std.specs.Option.{option_map, option_map_or}
 use Rattle.std.specs.List.{AllByRecursion}
 use Rattle.std.proofs.lemmas.Bool.{eq-eqb, and_parts}
@@ -23,21 +23,22 @@ use Rattle.store_steps.specs.Changes.{data_sent}
 use Rattle.store_steps.specs.Ready.{is_ready}
 use Rattle.store_steps.specs.Steps.{DoesData, DoesFlush, DoesSeal, DoesRecord, DoesSync, piece_unit}
 use Rattle.store_steps.specs.Steps as steps
-use Rattle.store_facts.specs.Flights.{IsWaiting, IsOneAtATime}
 use Rattle.store_facts.specs.Room.{FitsRecord}
 use Rattle.store_facts.specs.Kept.{IsKept, IsKeptUp}
-use Rattle.store_facts.proofs.Conditions.{ready_not_down, ready_by_table, ReadySeal}
+use Rattle.store_facts.proofs.Lists.{StandsIn}
+use Rattle.store_facts.proofs.Conditions.{HasRecord, pending_fits, number_low}
 use Rattle.store_facts.proofs.Known.{known_data_room, known_record_room, known_seal, next_data_untouched, data_inside, few_units, whole_units, next_piece_untouched}
-use Rattle.store_facts.proofs.Readiness.{unsent_alone}
+use Rattle.store_facts.proofs.Readiness.{ready_not_down, ready_by_table}
 use Rattle.store_facts.proofs.RowsFacts.{pending_on_data}
-use Rattle.store_facts.proofs.RunUnits.{run_of_left}
+use Rattle.store_facts.proofs.RunUnits.{IsRunOf}
+use Rattle.store_facts.proofs.MatchingMore.{next_stands}
+use Rattle.store_steps.specs.Intents.{intent_of}
 use Rattle.store_facts.proofs.Untouched.{all_then}
 use Rattle.store_kernel.specs.declared.batch.OpenBatch.{OpenBatch}
 use Rattle.store_kernel.specs.declared.pending.NextWrite.{NextWrite}
 use Rattle.store_kernel.specs.Runs.{IsWriteOf}
 use Rattle.store_kernel.specs.Seen.{listed, batch_of}
 use Rattle.store_kernel.specs.Ends.{with_first, with_second}
-use Rattle.store_facts.proofs.Alone.{far_of}
 
 -- what the device asks of a write of these bytes from this unit on
 pub record CanWrite (d : Disk) (at size : ℕ) : Type 0 where
@@ -62,43 +63,25 @@ few_between lo end (f ∷ fs) within above below ascend =
     higher [] all = tt
     higher (g ∷ gs) all = (omega (arith, above.0, all.0), higher gs all.1)
 
--- it is alone, and its units are so few that they can be counted
-pub record WaitsAlone (s : State) (x : Context) : Type 0 where
-  pub waiting : IsWaiting x s.flying
-  pub few : length x.fresh ≤ 1048576
+-- those of the context that waits are so few that they can be counted
+pub few_fresh : (s : State) (d : Disk) (x : Context) → IsKept s d → s.down ≡ None → s.pending ≡ x ∷ [] → length x.fresh ≤ 1048576
+few_fresh s d x kept down pending =
+    let up : IsKeptUp s d = kept.up down in
+    let fits : FitsRecord (intent_of x) = (subst (AllByRecursion (λ (c : Context). FitsRecord (intent_of c))) pending (pending_fits s up.room)).0 in
+    let on_data : AllByRecursion (λ (f : FreshUnit). IsDataUnit s.log.sup f.unit) x.fresh =
+    (subst (AllByRecursion (λ (c : Context). AllByRecursion (λ f. IsDataUnit s.log.sup f.unit) c.fresh)) pending (pending_on_data s d kept down)).0 in
+    let most : 0 + length x.fresh ≤ s.log.sup.units = few_between 0 s.log.sup.units x.fresh (omega arith)
+    (all_then (λ f. IsDataUnit s.log.sup f.unit) (λ f. 0 ≤ f.unit) (λ f on. omega arith) x.fresh on_data)
+    (all_then (λ f. IsDataUnit s.log.sup f.unit) (λ f. f.unit < s.log.sup.units) (λ f on. on.1) x.fresh on_data) fits.ascend in
+    omega (arith, most, kept.always.limits.units_most)
 
-pub waits_alone : (s : State) (d : Disk) (x : Context) → IsKept s d → s.down ≡ None → s.pending ≡ x ∷ [] → WaitsAlone s x
-waits_alone s d x kept down pending = record { waiting = of_batch s.batch s.log.begun far; few = few }
+-- what holds of the one that stands in a list of one
+pub alone : {A : Type 0} (P : A → Type 0) (x : A) → StandsIn P (x ∷ []) → P x
+alone {A} P x at = of_front at.front at.is
   where
-    up : IsKeptUp s d
-    up = kept.up down
-
-    far : IsOneAtATime s.log.number (x ∷ []) s.batch s.log.begun s.flying
-    far = subst (λ (xs : List Context). IsOneAtATime s.log.number xs s.batch s.log.begun s.flying) pending (far_of s d up)
-
-    of_batch : (b : Option Batch) (begun : Option meta.Begun) → IsOneAtATime s.log.number (x ∷ []) b begun s.flying → IsWaiting x s.flying
-    of_batch None begun h = h.1
-    of_batch (Some b) begun h = absurd h
-
-    fits_of : (b : Option Batch) → IsOneAtATime s.log.number (x ∷ []) b s.log.begun s.flying
-        → AllByRecursion FitsRecord (option_map_or (λ (c : Batch). c.contexts) b [] ++ (x ∷ [])) → FitsRecord x
-    fits_of None h all = all.0
-    fits_of (Some b) h all = absurd h
-
-    fits : FitsRecord x
-    fits = fits_of s.batch far (subst (λ (xs : List Context). AllByRecursion FitsRecord (option_map_or (λ (c : Batch). c.contexts) s.batch [] ++ xs))
-        pending up.room.fits)
-
-    on_data : AllByRecursion (λ f. IsDataUnit s.log.sup f.unit) x.fresh
-    on_data = (subst (λ (xs : List Context). AllByRecursion (λ (c : Context). AllByRecursion (λ f. IsDataUnit s.log.sup f.unit) c.fresh) xs)
-        pending (pending_on_data s d kept down)).0
-
-    few : length x.fresh ≤ 1048576
-    few =
-        let most : 0 + length x.fresh ≤ s.log.sup.units = few_between 0 s.log.sup.units x.fresh (omega arith)
-        (all_then (λ f. IsDataUnit s.log.sup f.unit) (λ f. 0 ≤ f.unit) (λ f on. omega arith) x.fresh on_data)
-        (all_then (λ f. IsDataUnit s.log.sup f.unit) (λ f. f.unit < s.log.sup.units) (λ f on. on.1) x.fresh on_data) fits.ascend in
-        omega (arith, most, kept.always.limits.units_most)
+    of_front : (front : List A) → x ∷ [] ≡ front ++ at.item ∷ at.back → P x
+    of_front [] is = let same : x ≡ at.item = cc in subst P (sym same) at.holds
+    of_front (y ∷ front) is = absurd (omega (arith, ap (λ (l : List A). length l) is, length-append front (at.item ∷ at.back)))
 
 -- ---- Data
 
@@ -136,14 +119,17 @@ can_write_data s d w kept ready is =
     there : (first unit bytes size units : ℕ) → unit ≡ first → size ≡ bytes → 4096 * first + bytes ≤ 4096 * units → 4096 * unit + size ≤ 4096 * units
     there first unit bytes size units one two le = omega (arith, one, two, le)
 
+-- the next write is of the one context
+run_alone : (x : Context) (n : Unsent) → next_unsent (x ∷ []) ≡ Some n → IsRunOf x n
+run_alone x n is = alone (λ (y : Context). IsRunOf y n) x (next_stands (x ∷ []) n is)
+
 -- the units that are given can be counted
 pub can_count_given : (s : State) (d : Disk) (p : Option Context) (w : NextWrite) → IsKept s d → is_ready Data d.depth s ≡ true → s.pending ≡ listed p
     → IsWriteOf (listed p) w → IfSome p (λ x. x.given + w.count < 2 ^ 32)
 can_count_given s d None w kept ready pending is = tt
 can_count_given s d (Some x) w kept ready pending is =
-    let waits : WaitsAlone s x = waits_alone s d x kept (ready_not_down s d.depth Data refl ready) pending in
-    let run = run_of_left x is.next (unsent_alone x is.next is.is_next) in
-    few x.given w.count (length (unsent_units is.next)) (length x.fresh) is.count run.within waits.few
+    few x.given w.count (length (unsent_units is.next)) (length x.fresh) is.count (run_alone x is.next is.is_next).within
+    (few_fresh s d x kept (ready_not_down s d.depth Data refl ready) pending)
   where
     few : (given count units all : ℕ) → count ≡ units → given + units ≤ all → all ≤ 1048576 → given + count < 2 ^ 32
     few given count units all is within most = omega (arith, is, within, most)
@@ -177,7 +163,7 @@ data_does s d d' (Some x) w t pending is submitted = record {
     n = is.next
 
     place : x.place ≡ n.place
-    place = (run_of_left x n (unsent_alone x n is.is_next)).place
+    place = (run_alone x n is.is_next).place
 
     counted : with_context n.place (given_more (length (unsent_units n))) s.pending ≡ given_more (length (unsent_units n)) x ∷ []
     counted = ap (with_context n.place (given_more (length (unsent_units n)))) pending ∙ with_one x n.place (given_more (length (unsent_units n))) place
@@ -229,8 +215,9 @@ ops_alone b = append-nil b.context.ops
 pub can_seal : (s : State) (d : Disk) (b : OpenBatch) → IsKept s d → is_ready Seal d.depth s ≡ true → s.batch ≡ Some (batch_of b)
     → IsSealable s.log.number b.context.ops
 can_seal s d b kept ready batch =
-    let facts : ReadySeal s (batch_of b) = known_seal s d (batch_of b) kept ready batch in
-    subst (IsSealable s.log.number) (ops_alone b) (record { number_below = facts.number; body_below = facts.body; fit = facts.fit })
+    let facts : HasRecord s (batch_of b) = known_seal s d (batch_of b) kept ready batch in
+    subst (IsSealable s.log.number) (ops_alone b)
+    (record { number_below = number_low s d kept.always; body_below = facts.body; fit = facts.fit })
 
 pub record_fits : (s : State) (d : Disk) (b : OpenBatch) → IsKept s d → is_ready Seal d.depth s ≡ true → s.batch ≡ Some (batch_of b)
     → s.log.tail + unit_count s.log.number b.context.ops ≤ s.log.sup.half

@@ -1,5 +1,8 @@
--- What comes of a transaction that isn't accepted.
-use Rattle.std.specs.Prelude.{◌≡◌, ℕ}
+-- When a transaction may be submitted, and what comes of one that isn't accepted.
+use Rattle.std.specs.Prelude.{◌≡◌, ℕ, true, None}
+use Rattle.block_device.specs.Disk.{Disk}
+use Rattle.plan_rows.specs.Plans.{IsKnown}
+use Rattle.store_steps.specs.Ready.{is_drained}
 use Rattle.object_model.specs.Effect.{Change}
 use Rattle.object_model.specs.declared.command.Answer.TheVariants as answer
 use Rattle.store_steps.specs.State.{State}
@@ -8,6 +11,12 @@ use Rattle.store_kernel.specs.declared.refused.Cause.{Cause}
 use Rattle.store_kernel.specs.declared.refused.Cause.TheVariants as cause
 use Rattle.store_kernel.specs.declared.refused.Refused.{Refused}
 use Rattle.store_kernel.specs.declared.refused.Refused.TheVariants as refused
+
+-- The kernel has room for one context that waits and for a batch of one, so a transaction may be submitted where it is drained, or down. What is
+-- kept from call to call asks for no such thing.
+pub record MaySubmit (change : Change) (s : State) (d : Disk) : Type 0 where
+  pub drained : (s.down ≡ None) → is_drained d.depth s ≡ true
+  pub known : IsKnown change.ops
 
 -- why a transaction isn't accepted; want of memory comes of nothing that a clause sees
 abbrev pub IsCauseOf : Cause → Change → State → Type 0

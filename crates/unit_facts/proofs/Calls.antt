@@ -20,13 +20,15 @@ use Rattle.unit_allocator.specs.Units.{Space}
 use Rattle.meta_rows.specs.declared.row_op.RowOp.{RowOp}
 use Rattle.log_facts.specs.SlotFacts.{SlotsStand}
 use Rattle.log_facts.specs.HalfFacts.{ActiveHalfStands}
+use Rattle.store_facts.proofs.Lists.{all_join, all_left, all_right}
+use Rattle.store_facts.proofs.Apart.{given_taken, taken_fresh}
 use Rattle.store_facts.proofs.RowsFacts.{taken_data}
 use Rattle.store_facts.proofs.Downs.{was_up}
 use Rattle.store_facts.proofs.Footprints.{footprint_of}
 use Rattle.unit_facts.specs.DataUnits.{UnitsAreFlushed, BatchUnitsAreFlushed}
 use Rattle.unit_facts.specs.Known.{IsAnsweredSince, KnownOfUnits, Knows}
 use Rattle.unit_facts.proofs.Events.{IsTold, told_of}
-use Rattle.unit_facts.proofs.Units.{AreOnData, fresh_on_data, all_given, all_front, all_rest, all_join}
+use Rattle.unit_facts.proofs.Units.{AreOnData}
 use Rattle.store_steps.specs.Parts.{data_part, half_part}
 use Rattle.store_steps.specs.Touch.{Touch, after}
 use Rattle.store_steps.specs.Footprint.{Footprint}
@@ -48,13 +50,13 @@ of_part h (Some b) are = are
 
 batch_front : (P : FreshUnit → Type 0) (xs ys : List Context) → AllByRecursion P (all_fresh (xs ++ ys)) → AllByRecursion P (all_fresh xs)
 batch_front P [] ys all = tt
-batch_front P (x ∷ xs) ys all = all_join P x.fresh (all_fresh xs) (all_front P x.fresh (all_fresh (xs ++ ys)) all)
-    (batch_front P xs ys (all_rest P x.fresh (all_fresh (xs ++ ys)) all))
+batch_front P (x ∷ xs) ys all = all_join P x.fresh (all_fresh xs) (all_left P x.fresh (all_fresh (xs ++ ys)) all)
+    (batch_front P xs ys (all_right P x.fresh (all_fresh (xs ++ ys)) all))
 
-on_device : (s : State) → AreOnData s.log.sup (all_fresh (uncommitted s)) → AreOnDevice (data_part s)
-on_device s are = record {
-  given = all_given (λ f. IsDataUnit s.log.sup f.unit) (uncommitted s) are;
-  fresh = of_batch s.batch are;
+on_device : (s : State) (d : Disk) → IsKept s d → s.down ≡ None → AreOnDevice (data_part s)
+on_device s d kept up = record {
+  given = given_taken (IsDataUnit s.log.sup) (uncommitted s) (taken_data s d kept up);
+  fresh = of_batch s.batch (taken_fresh (IsDataUnit s.log.sup) (uncommitted s) (taken_data s d kept up));
 }
   where
     of_batch : (o : Option Batch) → AreOnData s.log.sup (all_fresh (option_map_or (λ b. b.contexts) o [] ++ s.pending))
@@ -73,7 +75,7 @@ footprint_known base s s' d d' h f kept up known =
     (subst (λ o. IfSome o (λ k. IsUnits d.units (last k.start k.log))) known.told kept.always.device.size_now) in
     let units : AreKnown (after t h) (data_part s') =
     units_known base d.flights t (data_part s) (data_part s') h f.units f.placed size kept.always.limits
-    (on_device s (fresh_on_data s.log.sup (uncommitted s) (taken_data s d kept up))) known.answered.quiet known.answered.each told.next
+    (on_device s d kept up) known.answered.quiet known.answered.each told.next
     (record { clean = known.clean; held = known.held; flushed_units = to_part h s.batch known.flushed }) in
     let half : HalfStands (after t h) (half_part s') =
     half_known base d.flights t (half_part s) (half_part s') h f.half f.placed size kept.always.limits known.answered.quiet known.answered.each told.next

@@ -15,9 +15,10 @@ use Rattle.log_facts.specs.Flushing.{sent, flushed}
 use Rattle.log_facts.proofs.Keeping.{half_before_data, flush_sent}
 use Rattle.plan_rows.specs.declared.plan.FreshUnit.{FreshUnit}
 use Rattle.store_steps.specs.Contexts.{Unsent, unsent_units}
+use Rattle.store_facts.proofs.Lists.{all_join, all_left, all_right}
 use Rattle.unit_facts.specs.DataUnits.{IsElsewhere, OtherUnitsAreClean, HeldBytesAreLast, UnitsAreFlushed}
 use Rattle.unit_facts.proofs.RunWrites.{row_spares, run_held}
-use Rattle.unit_facts.proofs.Units.{AreOnData, all_join, all_front, all_rest, spares_data, none_written, fits_quiet, clean_on, held_on, flushed_on, none_flushed, units_cleaned, data_elsewhere, half_spares_others, other_or_clean}
+use Rattle.unit_facts.proofs.Units.{AreOnData, spares_data, none_written, fits_quiet, clean_on, held_on, flushed_on, none_flushed, units_cleaned, data_elsewhere, half_spares_others, other_or_clean}
 use Rattle.store_steps.specs.Parts.{DataPart}
 use Rattle.store_steps.specs.Touch.{Touch, nothing, ends, flushes, on_data, on_half, after, run_write, IsPlaced, IsNoData}
 use Rattle.unit_facts.proofs.Events.{HasNextTicket}
@@ -69,19 +70,19 @@ module _ (h : History) (run : Unsent) (p q : DataPart) (g : Gives run p q) (fit 
   pub given_clean : OtherUnitsAreClean h p.sup p.given → OtherUnitsAreClean then p.sup (g.front ++ (mine ++ g.back))
   given_clean clean unit is other =
       let P : FreshUnit → Type 0 = λ (f : FreshUnit). f.unit ≢ unit in
-      let behind : AllByRecursion P (mine ++ g.back) = all_rest P g.front (mine ++ g.back) other in
+      let behind : AllByRecursion P (mine ++ g.back) = all_right P g.front (mine ++ g.back) other in
       clean_push h.log (run_write run) unit
       (clean unit is (subst (AllByRecursion P) (sym g.before)
-      (all_join P g.front g.back (all_front P g.front (mine ++ g.back) other) (all_rest P mine g.back behind))))
-      (row_spares run.first.unit unit mine g.row g.whole (all_front P mine g.back behind))
+      (all_join P g.front g.back (all_left P g.front (mine ++ g.back) other) (all_right P mine g.back behind))))
+      (row_spares run.first.unit unit mine g.row g.whole (all_left P mine g.back behind))
 
   pub given_held : HeldBytesAreLast h p.given → HeldBytesAreLast then (g.front ++ (mine ++ g.back))
   given_held held =
       let P : FreshUnit → Type 0 = λ (f : FreshUnit). last_at then f.unit ≡ f.bytes in
       let others : HeldBytesAreLast then (g.front ++ g.back) =
       held_on h (run_write run) (g.front ++ g.back) fit g.others (subst (HeldBytesAreLast h) g.before held) in
-      all_join P g.front (mine ++ g.back) (all_front P g.front g.back others)
-      (all_join P mine g.back (run_held h run.first.unit mine g.row g.whole fit) (all_rest P g.front g.back others))
+      all_join P g.front (mine ++ g.back) (all_left P g.front g.back others)
+      (all_join P mine g.back (run_held h run.first.unit mine g.row g.whole fit) (all_right P g.front g.back others))
 
 -- a flush is submitted while none of these is in flight
 pub covered : (h : History) (base : ℕ) (flights : List Flight) (fresh : List FreshUnit) → QuietAt base h → EachWriteIsAnswered base h flights
@@ -115,14 +116,14 @@ units_known base flights t p q h (gives ticket run g) placed size limits on quie
 units_known base flights t p q h (opens front its back fresh before is) placed size limits on quiet_since each next known =
     let P : FreshUnit → Type 0 = λ (f : FreshUnit). last_at h f.unit ≡ f.bytes in
     let held : AllByRecursion P (front ++ (its ++ back)) = subst (HeldBytesAreLast h) before known.held in
-    let behind : AllByRecursion P (its ++ back) = all_rest P front (its ++ back) held in
+    let behind : AllByRecursion P (its ++ back) = all_right P front (its ++ back) held in
     subst (AreKnown h) (sym is) (record {
       clean = λ unit out others. let Q : FreshUnit → Type 0 = λ (f : FreshUnit). f.unit ≢ unit in
-          let rest : AllByRecursion Q (front ++ back) = all_rest Q its (front ++ back) others in
-          known.clean unit out (subst (AllByRecursion Q) (sym before) (all_join Q front (its ++ back) (all_front Q front back rest)
-          (all_join Q its back (all_front Q its (front ++ back) others) (all_rest Q front back rest))));
-      held = all_join P its (front ++ back) (all_front P its back behind)
-          (all_join P front back (all_front P front (its ++ back) held) (all_rest P its back behind));
+          let rest : AllByRecursion Q (front ++ back) = all_right Q its (front ++ back) others in
+          known.clean unit out (subst (AllByRecursion Q) (sym before) (all_join Q front (its ++ back) (all_left Q front back rest)
+          (all_join Q its back (all_left Q its (front ++ back) others) (all_right Q front back rest))));
+      held = all_join P its (front ++ back) (all_left P its back behind)
+          (all_join P front back (all_left P front (its ++ back) held) (all_right P its back behind));
       flushed_units = none_flushed h fresh;
     })
 units_known base flights t p q h (flushes_batch ticket untouched is) placed size limits on quiet_since each next known =
@@ -143,6 +144,6 @@ units_known base flights t p q h (retires rest was before is) placed size limits
     let are : UnitsAreFlushed h flushed p.fresh = subst (λ f. UnitsAreFlushed h f p.fresh) was known.flushed_units in
     subst (AreKnown h) (sym is) (record {
       clean = retired h p.sup p.fresh rest are (subst (OtherUnitsAreClean h p.sup) before known.clean);
-      held = all_rest (λ (f : FreshUnit). last_at h f.unit ≡ f.bytes) p.fresh rest (subst (HeldBytesAreLast h) before known.held);
+      held = all_right (λ (f : FreshUnit). last_at h f.unit ≡ f.bytes) p.fresh rest (subst (HeldBytesAreLast h) before known.held);
       flushed_units = tt;
     })

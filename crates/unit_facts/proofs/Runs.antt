@@ -15,9 +15,9 @@ use Rattle.store_steps.specs.Ready.{is_drained}
 use Rattle.store_steps.specs.Runs.{Call, submitting, reading, stepping, Calls, Submits, IsRun}
 use Rattle.store_steps.specs.UnderWay.{uncommitted, given_fresh, begun_ops, submitted_from, second_flush}
 use Rattle.store_facts.specs.Kept.{IsKept}
-use Rattle.store_facts.proofs.Kept.{kept_step, kept_accept, kept_refuse, kept_read}
+use Rattle.store_facts.proofs.KeptCalls.{kept_call}
 use Rattle.store_facts.proofs.Known.{known_idle}
-use Rattle.store_facts.proofs.Conditions.{IsIdle}
+use Rattle.store_facts.proofs.Readiness.{IsIdle, idle_uncommitted}
 use Rattle.log_facts.specs.Flushing.{FlushState}
 use Rattle.log_facts.specs.HalfFacts.{ActiveHalfStands}
 use Rattle.unit_facts.specs.DataUnits.{IsElsewhere, OtherUnitsAreClean}
@@ -25,29 +25,12 @@ use Rattle.unit_facts.specs.Known.{KnownOfUnits, Knows}
 use Rattle.store_facts.proofs.Downs.{was_up}
 use Rattle.unit_facts.proofs.Calls.{call_knows}
 
--- ---- each call keeps what the kernel keeps, and is made while it is up where it leaves it up
+-- ---- a run that leaves the kernel up found it up
 
-pub kept_call : PlansKeep → (call : Call) (s s' : State) (d d' : Disk) → IsKept s d → Calls call s d s' d' → IsSound d' → IsKept s' d'
-kept_call keep (submitting client line change) s s' d d' kept made sound = subst (IsKept s') (sym made.2) (of_answer made.1)
-  where
-    of_answer : Submits client line change s s' → IsKept s' d
-    of_answer (inl accepts) = kept_accept keep s s' d client line change kept made.0 accepts
-    of_answer (inr (inl refused)) = kept_refuse s s' d client line change refused.0 kept made.0 refused.1
-    of_answer (inr (inr turned)) = subst (λ (t : State). IsKept t d) (sym turned.same) kept
-kept_call keep (reading client line command) s s' d d' kept made sound =
-    subst (IsKept s') (sym made.2) (kept_read s s' d client line command kept made.1)
-kept_call keep (stepping step) s s' d d' kept made sound = kept_step step s s' d d' kept made.0 made.1 sound
-
--- so a run that leaves it up found it up
 pub run_up : (calls : List Call) (s s' : State) (d d' : Disk) → IsRun s d calls s' d' → s'.down ≡ None → s.down ≡ None
 run_up [] s s' d d' run up = ap (λ (t : State). t.down) (sym run.0) ∙ up
 run_up (call ∷ calls) s s' d d' run up =
     was_up call s d run.0 run.1.0 run.1.1.0 (run_up calls run.0 s' run.1.0 d' run.1.1.1.1 up)
-
-pub run_kept : PlansKeep → (calls : List Call) (s s' : State) (d d' : Disk) → IsKept s d → IsRun s d calls s' d' → IsKept s' d'
-run_kept keep [] s s' d d' kept run = subst (λ (t : State). IsKept t d') (sym run.0) (subst (IsKept s) (sym run.1) kept)
-run_kept keep (call ∷ calls) s s' d d' kept run =
-    run_kept keep calls run.0 s' run.1.0 d' (kept_call keep call s run.0 d run.1.0 kept run.1.1.0 run.1.1.1.0) run.1.1.1.1
 
 -- ---- a run keeps what is known
 
@@ -59,7 +42,7 @@ run_knows keep [] base s s' d d' h kept known run up =
 run_knows keep (call ∷ calls) base s s' d d' h kept known run up =
     let t : State = run.0 in
     let e : Disk = run.1.0 in
-    let after : IsKept t e = kept_call keep call s t d e kept run.1.1.0 run.1.1.1.0 in
+    let after : IsKept t e = kept_call call s t d e keep kept run.1.1.0 run.1.1.1.0 in
     let mid : Knows base t e = call_knows call base s t d e h kept (run_up calls t s' e d' run.1.1.1.1 up) known run.1.1.0 in
     run_knows keep calls base t s' e d' mid.history after mid.known run.1.1.1.1 up
 
@@ -103,4 +86,4 @@ pub drained_clean : (base : ℕ) (s : State) (d : Disk) (h : History) → IsKept
     → is_drained d.depth s ≡ true → (unit : ℕ) → IsClean h.log unit
 drained_clean base s d h kept known up drained =
     let idle : IsIdle s = known_idle s d kept up drained in
-    idle_clean base s d h known idle.begun idle.uncommitted
+    idle_clean base s d h known idle.begun (idle_uncommitted s idle)

@@ -25,55 +25,10 @@ use Rattle.store_facts.proofs.RowsFacts.{units_of}
 use Rattle.store_steps.specs.UnderWay.{all_fresh, given_fresh}
 use Rattle.unit_facts.specs.DataUnits.{IsElsewhere, OtherUnitsAreClean, HeldBytesAreLast, UnitsAreFlushed}
 
--- ---- lists
-
-pub all_join : {A : Type 0} (P : A → Type 0) (xs ys : List A) → AllByRecursion P xs → AllByRecursion P ys → AllByRecursion P (xs ++ ys)
-all_join P [] ys these those = those
-all_join P (x ∷ xs) ys these those = (these.0, all_join P xs ys these.1 those)
-
-pub all_front : {A : Type 0} (P : A → Type 0) (xs ys : List A) → AllByRecursion P (xs ++ ys) → AllByRecursion P xs
-all_front P [] ys all = tt
-all_front P (x ∷ xs) ys all = (all.0, all_front P xs ys all.1)
-
-pub all_rest : {A : Type 0} (P : A → Type 0) (xs ys : List A) → AllByRecursion P (xs ++ ys) → AllByRecursion P ys
-all_rest P [] ys all = all
-all_rest P (x ∷ xs) ys all = all_rest P xs ys all.1
-
-all_taken : {A : Type 0} (P : A → Type 0) (n : ℕ) (xs : List A) → AllByRecursion P xs → AllByRecursion P (take n xs)
-all_taken P zero xs all = tt
-all_taken P (suc n) [] all = tt
-all_taken P (suc n) (x ∷ xs) all = (all.0, all_taken P n xs all.1)
-
--- what holds of the fresh units of contexts holds of those whose writes were submitted
-pub all_given : (P : FreshUnit → Type 0) (xs : List Context) → AllByRecursion P (all_fresh xs) → AllByRecursion P (given_fresh xs)
-all_given P [] all = tt
-all_given P (x ∷ xs) all =
-    all_join P (take x.given x.fresh) (given_fresh xs) (all_taken P x.given x.fresh (all_front P x.fresh (all_fresh xs) all))
-    (all_given P xs (all_rest P x.fresh (all_fresh xs) all))
-
 -- ---- the fresh units are data units
 
 abbrev pub AreOnData : Super → List FreshUnit → Type 0
 AreOnData s fresh = AllByRecursion (λ f. IsDataUnit s f.unit) fresh
-
--- the units that contexts took
-abbrev pub taken_by : List Context → List ℕ
-taken_by xs = flat_map (λ x. units_of x.fresh) xs
-
-each_unit : (P : ℕ → Type 0) (fresh : List FreshUnit) → ((u : ℕ) → Contains (units_of fresh) u → P u) → AllByRecursion (λ f. P f.unit) fresh
-each_unit P [] are = tt
-each_unit P (f ∷ fresh) are =
-    (are f.unit (Contains-head f.unit (units_of fresh)), each_unit P fresh (λ u c. are u (Contains-tail f.unit u (units_of fresh) c)))
-
--- what holds of these units holds of each fresh one
-pub all_units : (P : ℕ → Type 0) (xs : List Context) → ((u : ℕ) → Contains (taken_by xs) u → P u) → AllByRecursion (λ f. P f.unit) (all_fresh xs)
-all_units P [] are = tt
-all_units P (x ∷ xs) are = all_join (λ f. P f.unit) x.fresh (all_fresh xs)
-    (each_unit P x.fresh (λ u c. are u (Contains-append_left (units_of x.fresh) (taken_by xs) u c)))
-    (all_units P xs (λ u c. are u (Contains-append_right (units_of x.fresh) (taken_by xs) u c)))
-
-pub fresh_on_data : (s : Super) (xs : List Context) → AreData s (taken_by xs) → AreOnData s (all_fresh xs)
-fresh_on_data s xs are = all_units (IsDataUnit s) xs are
 
 -- ---- an event that writes none of the data units
 
@@ -129,13 +84,6 @@ other_or_clean h (f ∷ fresh) unit are = elim (cases_eq f.unit unit) [
         | inl others ↦ inl (other, others)
         | inr clean ↦ inr clean
       ]
-]
-
-pub all_clean : (h : History) (s : Super) (fresh : List FreshUnit) → OtherUnitsAreClean h s fresh → UnitsAreFlushed h flushed fresh
-    → OtherUnitsAreClean h s []
-all_clean h s fresh clean are unit is none = elim (other_or_clean h fresh unit are) [
-  | inl other ↦ clean unit is other
-  | inr is_clean ↦ is_clean
 ]
 
 -- a data unit is outside the active half

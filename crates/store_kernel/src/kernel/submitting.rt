@@ -2,9 +2,8 @@
 ghost use Rattle.std.specs.Prelude.{◌≡◌, ◌<◌, ◌^◌, length, OnOk, OnErr, IfOk, IfErr};
 ghost use Rattle.meta_rows.specs.Spelling.{ops_bytes, AllFit};
 ghost use Rattle.store_steps.specs.Submit.{IsCause, CanNote, Accepts, Refuses};
-ghost use Rattle.store_steps.specs.Runs.{MaySubmit};
 ghost use Rattle.store_kernel.specs.Prepared.{IsPlanOf, IsPrepared};
-ghost use Rattle.store_kernel.specs.Submitting.{IsCauseOf, RefusesBy};
+ghost use Rattle.store_kernel.specs.Submitting.{MaySubmit, IsCauseOf, RefusesBy};
 
 use super::Kernel;
 use crate::prepared::{Prepared, units_needed};

@@ -6,7 +6,7 @@ use Rattle.bstore_top.proofs.RunLemmas.{does_well, drain_goes_on, drain_stops}
 use Rattle.bstore_top.proofs.stepping.drain.Goals as goal
 
 pub steps-smaller : goal.steps-smaller
-steps-smaller g c = work_falls c.in-Some.step _ _ _ _ c.steps.invariant.kept c.in-Some.ensures.ready c.facts-in-Some.ensures.kept.always.device
+steps-smaller g c = work_falls c.in-Some.step _ _ _ _ c.steps.invariant.kept c.in-Some.ensures.ready
     (does_well c.in-Some.step _ _ _ _ c.in_ok-made.ensures.ok)
 
 pub steps-preserved : goal.steps-preserved

@@ -24,7 +24,7 @@ pub count_end-requires-clause-few : goal.count_end-requires-clause-few
 count_end-requires-clause-few g c =
     let k = c.self.inside in
     let counts = it_counts k.down c.land-landed.result c.in-Some-counting.job c.in-Some-counting.ensures in
-    can_count_done _ _ _ k.pending c.in-Some.done.ticket c.in-Some-counting.job c.self.invariant.kept counts.0 refl
+    can_count_done _ _ k.pending c.in-Some.done.ticket c.in-Some-counting.job c.self.invariant.kept counts.0 refl
     (ended_for _ _ _ c.in-Some.done.ticket c.in-Some.done.ok c.in-Some-counting.job c.self.invariant.kept c.in-Some.ensures.done
     (sym c.land-landed.ensures.job ∙ counts.1))
 
@@ -32,7 +32,7 @@ pub count_end-requires-clause-out : goal.count_end-requires-clause-out
 count_end-requires-clause-out g c =
     let k = c.self.inside in
     let counts = it_counts k.down c.land-landed.result c.in-Some-counting.job c.in-Some-counting.ensures in
-    piece_out _ _ _ k.meta c.in-Some.done.ticket c.in-Some-counting.job c.self.invariant.kept counts.0 refl
+    piece_out _ _ k.meta c.in-Some.done.ticket c.in-Some-counting.job c.self.invariant.kept counts.0 refl
     (ended_for _ _ _ c.in-Some.done.ticket c.in-Some.done.ok c.in-Some-counting.job c.self.invariant.kept c.in-Some.ensures.done
     (sym c.land-landed.ensures.job ∙ counts.1))
 

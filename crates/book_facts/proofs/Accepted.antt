@@ -32,11 +32,11 @@ use Rattle.store_steps.specs.Parts.{book_part}
 use Rattle.store_facts.proofs.PartsKept.{intents_both}
 use Rattle.book_facts.specs.BookFacts.{IsOfEntry, IsBookKnown, KnownOfBook}
 use Rattle.book_facts.proofs.Entries.{accepted_push, none_accepted, alike_push, counts_push, change_last, of_entries_push}
-use Rattle.book_facts.proofs.Commits.{all_behind, all_append}
 use Rattle.book_facts.proofs.Answers.{has_effect, reply_accepted}
 use Rattle.book_facts.proofs.Books.{batch_of}
 use Rattle.book_facts.proofs.KnownPlans.{IsKnownPlan}
 use Rattle.book_facts.proofs.Queues.{entry_push, queued_noted, queued_accepted}
+use Rattle.store_facts.proofs.Lists.{all_join, all_right}
 
 -- ---- the objects after the transaction
 
@@ -93,9 +93,9 @@ module _ (opening : Objects) (s : State) (client line : ℕ) (change : Change) (
           by_now = book.commits.by_now;
         };
         queued = queued_accepted s.book.entries entry s.book.commits (intents s.pending) book.commits.of_accepted book.queued one change refl refl refl
-            (all_behind (IsOfEntry s.book.entries) (batch_of s) (intents s.pending) book.contexts);
+            (all_right (IsOfEntry s.book.entries) (batch_of s) (intents s.pending) book.contexts);
         contexts = subst (AllByRecursion (IsOfEntry (s.book.entries ++ entry ∷ []))) (append_assoc (batch_of s) (intents s.pending) (one ∷ []))
-            (all_append (IsOfEntry (s.book.entries ++ entry ∷ [])) (batch_of s ++ intents s.pending) (one ∷ [])
+            (all_join (IsOfEntry (s.book.entries ++ entry ∷ [])) (batch_of s ++ intents s.pending) (one ∷ [])
             (entry_push s.book.entries entry (batch_of s ++ intents s.pending) book.contexts) (of_entry, tt));
         last_committed = book.last_committed;
         shape = shape;

@@ -21,6 +21,7 @@ use Rattle.book_facts.specs.Selections.{applied_changes, changes_of}
 use Rattle.book_facts.proofs.Entries.{own_change, committed_kept}
 use Rattle.book_facts.proofs.Commits.{places_on, places_by_places, changes_at, committed_by_places}
 use Rattle.std.specs.Option.{option_map_or}
+use Rattle.store_facts.proofs.Lists.{all_take}
 
 -- ---- by places
 
@@ -59,14 +60,9 @@ batch_last opening s b is known = known.last_committed ∙ ap (λ (o : Option Ba
 
 -- ---- one more entry
 
-all_taken : {A : Type 0} (P : A → Type 0) (n : ℕ) (xs : List A) → AllByRecursion P xs → AllByRecursion P (take n xs)
-all_taken P zero xs all = tt
-all_taken P (suc n) [] all = tt
-all_taken P (suc n) (x ∷ xs) all = (all.0, all_taken P n xs all.1)
-
 pub applied_entry : (es : List Entry) (e : Entry) (cs : List Commit) (n : ℕ) → AllByRecursion (λ c. IsSome (change_at es c.place)) cs
     → committed (es ++ e ∷ []) (take n cs) ≡ committed es (take n cs)
-applied_entry es e cs n all = committed_kept es e (take n cs) (all_taken (λ c. IsSome (change_at es c.place)) n cs all)
+applied_entry es e cs n all = committed_kept es e (take n cs) (all_take (λ c. IsSome (change_at es c.place)) n cs all)
 
 -- ---- a collection's transactions, by their places
 

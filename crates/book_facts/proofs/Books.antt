@@ -23,12 +23,12 @@ use Rattle.store_steps.specs.Ready.{applied_count}
 use Rattle.store_steps.specs.Intents.{Intent, intent_of, intents}
 use Rattle.store_steps.specs.Parts.{BookPart, book_part}
 use Rattle.store_facts.proofs.Choosing.{IsFirst}
-use Rattle.store_facts.proofs.Lists.{elsewhere, without_at}
+use Rattle.store_facts.proofs.Lists.{elsewhere, without_at, all_right}
 use Rattle.store_facts.proofs.PartsKept.{intents_both}
 use Rattle.unit_fields.specs.UnitSet.{Ascends}
 use Rattle.book_facts.specs.BookFacts.{commit_places, IsOfEntry, AreCommits, IsBookKnown, KnownOfBook, AreQueued}
 use Rattle.book_facts.proofs.Entries.{counts_more}
-use Rattle.book_facts.proofs.Commits.{all_push, all_behind, acked_push, by_now_more, by_now_acknowledged, acked_acknowledged}
+use Rattle.book_facts.proofs.Commits.{all_push, acked_push, by_now_more, by_now_acknowledged, acked_acknowledged}
 use Rattle.book_facts.proofs.Commits.{count_push, count_acknowledged, places_acknowledged, length_acknowledged, AreAtPlaces, at_places, of_places}
 use Rattle.book_facts.proofs.Queues.{queued_taken, queued_places, once_committed, committed_in_order}
 use Rattle.object_model.specs.declared.book.Entry.{Entry}
@@ -164,7 +164,7 @@ book_commits opening s b known = record {
   counts = known.counts;
   commits = known.commits;
   queued = known.queued;
-  contexts = all_behind (IsOfEntry s.book.entries) (batch_of s) (intents s.pending) known.contexts;
+  contexts = all_right (IsOfEntry s.book.entries) (batch_of s) (intents s.pending) known.contexts;
   last_committed = drop_all (length s.book.commits - 0) (commit_places s.book.commits)
       (let same = length-map s.book.commits (λ (c : Commit). c.place) in omega (arith, same));
   shape = known.shape;

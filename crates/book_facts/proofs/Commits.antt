@@ -11,6 +11,7 @@ use Rattle.object_model.specs.Effect.{Change}
 use Rattle.object_model.specs.Book.{change_at, committed, is_on, committed_places, AreAckedFrom, acked_count}
 use Rattle.store_steps.specs.Changes.{acknowledged}
 use Rattle.book_facts.specs.BookFacts.{commit_places}
+use Rattle.store_facts.proofs.Lists.{all_left}
 
 -- ---- facts of each element
 
@@ -21,18 +22,6 @@ all_push P (x ∷ xs) y all is = (all.0, all_push P xs y all.1 is)
 pub all_then : {A : Type 0} (P Q : A → Type 0) (xs : List A) → ((x : A) → P x → Q x) → AllByRecursion P xs → AllByRecursion Q xs
 all_then P Q [] more all = tt
 all_then P Q (x ∷ xs) more all = (more x all.0, all_then P Q xs more all.1)
-
-pub all_behind : {A : Type 0} (P : A → Type 0) (xs ys : List A) → AllByRecursion P (xs ++ ys) → AllByRecursion P ys
-all_behind P [] ys all = all
-all_behind P (x ∷ xs) ys all = all_behind P xs ys all.1
-
-pub all_before : {A : Type 0} (P : A → Type 0) (xs ys : List A) → AllByRecursion P (xs ++ ys) → AllByRecursion P xs
-all_before P [] ys all = tt
-all_before P (x ∷ xs) ys all = (all.0, all_before P xs ys all.1)
-
-pub all_append : {A : Type 0} (P : A → Type 0) (xs ys : List A) → AllByRecursion P xs → AllByRecursion P ys → AllByRecursion P (xs ++ ys)
-all_append P [] ys a b = b
-all_append P (x ∷ xs) ys a b = (a.0, all_append P xs ys a.1 b)
 
 -- ---- acknowledgements
 
@@ -187,7 +176,7 @@ committed_by_places es (c ∷ cs) = ap (λ (l : List Change). cons_option (chang
 pub distinct_front : (xs ys : List ℕ) → IsDistinct nat_eq (xs ++ ys) → IsDistinct nat_eq xs
 unfolding IsDistinct
 distinct_front [] ys is = tt
-distinct_front (x ∷ xs) ys is = (all_before (λ y. nat_eq x y ≡ false) xs ys is.0, distinct_front xs ys is.1)
+distinct_front (x ∷ xs) ys is = (all_left (λ y. nat_eq x y ≡ false) xs ys is.0, distinct_front xs ys is.1)
 
 pub none_above : (n : ℕ) (ps : List ℕ) → AllByRecursion (λ p. p < n) ps → list_any (nat_eq n) ps ≡ false
 none_above n [] all = refl

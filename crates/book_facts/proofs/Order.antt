@@ -25,9 +25,10 @@ use Rattle.store_facts.proofs.Choosing.{IsFirst}
 use Rattle.unit_fields.specs.UnitSet.{Ascends}
 use Rattle.book_facts.specs.BookFacts.{IsOfEntry, KnownOfOrder, IsInOrder}
 use Rattle.book_facts.proofs.Entries.{change_last, of_entries_push}
-use Rattle.book_facts.proofs.Commits.{all_push, all_behind, all_append, places_acknowledged, AreAtPlaces, at_places, of_places}
+use Rattle.book_facts.proofs.Commits.{all_push, places_acknowledged, AreAtPlaces, at_places, of_places}
 use Rattle.book_facts.proofs.Queues.{entry_push, queued_noted, queued_accepted, queued_taken, queued_places}
 use Rattle.book_facts.proofs.Books.{KeepBook, batch_of, nothing_twice, all_taken, queues_taken, waiting_then}
+use Rattle.store_facts.proofs.Lists.{all_join, all_right}
 
 -- at the start
 pub order_opened : (f : Found) (space : Space) (events : ℕ) → IsInOrder (opened f space events)
@@ -64,7 +65,7 @@ pub order_commits : (s : State) (b : Batch) → IsInOrder s → IsInOrder (commi
 order_commits s b known = record {
   of_accepted = known.of_accepted;
   queued = known.queued;
-  contexts = all_behind (IsOfEntry s.book.entries) (batch_of s) (intents s.pending) known.contexts;
+  contexts = all_right (IsOfEntry s.book.entries) (batch_of s) (intents s.pending) known.contexts;
 }
 
 pub order_finishes : (s : State) → IsInOrder s → IsInOrder (finished s)
@@ -90,9 +91,9 @@ order_accepts s client line change plan known =
     (sym (intents_both s.pending (x ∷ []))) (record {
       of_accepted = of_entries_push es entry s.book.commits known.of_accepted;
       queued = queued_accepted es entry s.book.commits (intents s.pending) known.of_accepted known.queued one change refl refl refl
-          (all_behind (IsOfEntry es) (batch_of s) (intents s.pending) known.contexts);
+          (all_right (IsOfEntry es) (batch_of s) (intents s.pending) known.contexts);
       contexts = subst (AllByRecursion (IsOfEntry (es ++ entry ∷ []))) (append_assoc (batch_of s) (intents s.pending) (one ∷ []))
-          (all_append (IsOfEntry (es ++ entry ∷ [])) (batch_of s ++ intents s.pending) (one ∷ [])
+          (all_join (IsOfEntry (es ++ entry ∷ [])) (batch_of s ++ intents s.pending) (one ∷ [])
           (entry_push es entry (batch_of s ++ intents s.pending) known.contexts) (of_entry, tt));
     })
 

@@ -17,7 +17,8 @@ use Rattle.object_model.specs.Book.{change_at, is_on, places_of, committed_place
 use Rattle.store_steps.specs.Intents.{Intent, names_in, is_in}
 use Rattle.book_facts.specs.BookFacts.{places, commit_places, intents_on, IsOfEntry, AreQueued}
 use Rattle.book_facts.proofs.Entries.{own_change, change_below, change_push, places_kept, place_if, places_push}
-use Rattle.book_facts.proofs.Commits.{all_then, all_append, AreAtPlaces, at_places, places_on, places_by_places, distinct_front, none_above}
+use Rattle.book_facts.proofs.Commits.{all_then, AreAtPlaces, at_places, places_on, places_by_places, distinct_front, none_above}
+use Rattle.store_facts.proofs.Lists.{all_join}
 
 -- ---- intents of entries
 
@@ -72,7 +73,7 @@ module _ (es : List Entry) (e : Entry) (commits : List Commit) (waiting : List I
   queued_accepted x change is same_names here all = record { once = once; in_order = in_order }
     where
       apart : AllByRecursion (λ p. p < length es) (commit_places commits ++ places waiting)
-      apart = all_append (λ p. p < length es) (commit_places commits) (places waiting)
+      apart = all_join (λ p. p < length es) (commit_places commits) (places waiting)
           (below_all es (commit_places commits) (at_places es commits of_accepted)) (below_all es (places waiting) (intent_places es waiting all))
 
       one_more : commit_places commits ++ places (waiting ++ x ∷ []) ≡ (commit_places commits ++ places waiting) ++ length es ∷ []

@@ -20,7 +20,6 @@ use Rattle.unit_fields.specs.Names.{IsCollName}
 use Rattle.unit_fields.specs.declared.width.Width.{Width}
 use Rattle.row_format.specs.Keys.{coll_key, onode_key}
 use Rattle.row_format.proofs.KeyLemmas.{same_coll, same_onode}
-use Rattle.book_facts.proofs.Commits.{all_append}
 use Rattle.object_reader.specs.Readable.{IsNextView}
 use Rattle.read_facts.specs.PageReads.{IsHeldAt, no_memory}
 use Rattle.read_facts.specs.declared.view.CollView.{CollView}
@@ -28,6 +27,7 @@ use Rattle.read_facts.specs.declared.view.ObjectView.{ObjectView}
 use Rattle.read_facts.specs.Walks.{IsCollection, IsObject, IsNextOf, IsPast, AreNext, last_of}
 use Rattle.read_facts.specs.Views.{IsViewOf, object_names, coll_names, IsViewed, IsWhole, AreWholeButLast, WalksTo, WalksAll}
 use Rattle.read_facts.proofs.Walks.{next_appended, all_to}
+use Rattle.store_facts.proofs.Lists.{all_join}
 
 -- ---- the last name
 
@@ -189,7 +189,7 @@ module _ (w : Width) (d : Disk) (rows : Rows) where
             (next_appended (IsObject rows v.coll) None (object_names v.objects) o.name viewed.next next.next));
         each = subst (λ (c : List ℕ). AllByRecursion (IsViewOf w no_memory (IsHeldAt d) rows c) seen.objects) (sym coll)
             (subst (AllByRecursion (IsViewOf w no_memory (IsHeldAt d) rows v.coll)) (sym more)
-            (all_append (IsViewOf w no_memory (IsHeldAt d) rows v.coll) v.objects (o ∷ []) viewed.each (next.view, tt)));
+            (all_join (IsViewOf w no_memory (IsHeldAt d) rows v.coll) v.objects (o ∷ []) viewed.each (next.view, tt)));
       }
 
   -- they are no more than the rows
@@ -254,7 +254,7 @@ module _ (w : Width) (d : Disk) (rows : Rows) where
   one_walked colls more v is walked next whole = record {
     next = names_more colls more v is walked next;
     each = subst (AllByRecursion (IsWhole w no_memory (IsHeldAt d) rows)) (sym is)
-        (all_append (IsWhole w no_memory (IsHeldAt d) rows) colls (v ∷ []) walked.each (whole, tt));
+        (all_join (IsWhole w no_memory (IsHeldAt d) rows) colls (v ∷ []) walked.each (whole, tt));
   }
 
   -- or some of its objects

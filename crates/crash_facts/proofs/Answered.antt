@@ -26,11 +26,11 @@ use Rattle.store_steps.specs.Runs.{Call, submitting, reading, stepping, MayRead,
 use Rattle.store_facts.specs.Kept.{IsKept}
 use Rattle.book_facts.specs.BookFacts.{KnownOfBook}
 use Rattle.book_facts.proofs.Books.{known_legal}
-use Rattle.book_facts.proofs.Commits.{all_append}
 use Rattle.book_facts.proofs.Entries.{answers_push, alike_last}
 use Rattle.book_facts.proofs.Rooms.{step_room}
 use Rattle.crash_facts.specs.Store.{KnownOfStore, IsDurable}
 use Rattle.crash_facts.proofs.Idle.{drained_submitted, drained_good}
+use Rattle.store_facts.proofs.Lists.{all_join}
 
 -- each entry has the answer that plain objects give, and none names a bad unit
 pub record AreAnswered (opening : Objects) (entries : List Entry) : Type 0 where
@@ -42,7 +42,7 @@ answered_push : (opening : Objects) (es : List Entry) (e : Entry) → AreAnswere
     → IsNoCsum e.answer → AreAnswered opening (es ++ e ∷ [])
 answered_push opening es e are right no_csum = record {
   answers = answers_push opening es e are.answers right;
-  no_csum = all_append (λ x. IsNoCsum x.answer) es (e ∷ []) are.no_csum (no_csum, tt);
+  no_csum = all_join (λ x. IsNoCsum x.answer) es (e ∷ []) are.no_csum (no_csum, tt);
 }
 
 -- ---- plain objects name no bad unit

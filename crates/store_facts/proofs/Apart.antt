@@ -19,7 +19,7 @@ use Rattle.store_steps.specs.UnderWay.{uncommitted, all_fresh, given_fresh}
 use Rattle.store_steps.specs.Contexts.{batch_ops}
 use Rattle.store_facts.specs.Jobs.{IsNone, IsGivenPiece}
 use Rattle.store_facts.specs.Kept.{IsKept, IsKeptUp}
-use Rattle.store_facts.proofs.Lists.{all_left, all_right, all_join}
+use Rattle.store_facts.proofs.Lists.{all_left, all_right, all_join, all_take}
 use Rattle.store_facts.proofs.Untouched.{all_then}
 use Rattle.store_facts.proofs.PartsKept.{flat_intents}
 use Rattle.store_facts.proofs.Conditions.{IsMade, made_batch, has_record}
@@ -60,11 +60,6 @@ taken_fresh P [] all = tt
 taken_fresh P (x ∷ xs) all = all_join (λ f. P f.unit) x.fresh (all_fresh xs)
     (fresh_taken P x.fresh (λ u c. all u (Contains-append_left (units_of x.fresh) (taken_by xs) u c)))
     (taken_fresh P xs (λ u c. all u (Contains-append_right (units_of x.fresh) (taken_by xs) u c)))
-
-all_take : (P : FreshUnit → Type 0) (k : ℕ) (fs : List FreshUnit) → AllByRecursion P fs → AllByRecursion P (take k fs)
-all_take P zero fs all = tt
-all_take P (suc k) [] all = tt
-all_take P (suc k) (f ∷ fs) all = (all.0, all_take P k fs all.1)
 
 -- what they gave is among what they took
 pub given_of_all : (P : FreshUnit → Type 0) (xs : List Context) → AllByRecursion P (all_fresh xs) → AllByRecursion P (given_fresh xs)

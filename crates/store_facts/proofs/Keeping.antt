@@ -212,6 +212,6 @@ down_call (reading client line command) s d s' d' first kept down made = inr (of
 down_call (stepping step) s d s' d' first kept down made = of_leaves (step_leaves step s d s' d' kept made.0 made.1)
   where
     of_leaves : StepOutcome s d s' d' → GoesDown s d s' d'
-    of_leaves (has_stepped up paid matches) = absurd (not_both s'.down first (paid.up ∙ up) down)
+    of_leaves (has_stepped up paid matches) = absurd (not_both s'.down first (paid.near.up ∙ up) down)
     of_leaves (has_waited none same some) = inr (record { state = same; history = waited_history d d' none })
     of_leaves (has_gone_down gone) = inl gone.ends

@@ -63,15 +63,15 @@ paid_keeps step s d s' d' kept sound up ready does paid matches = record {
     space = space_go (rows_part s) (rows_part s') f.rows a.space;
     flights = paid.flights;
     few = record {
-      commits = subst (λ (es : List Entry). length s'.book.commits + length s'.pending ≤ length es) (sym paid.entries)
-          (few_more (length s.book.commits) (length s'.book.commits) (length s.pending) (length s'.pending) (length s.book.entries) a.few.commits paid.under);
-      entries = subst (λ (es : List Entry). length es ≤ 1048576) (sym paid.entries) a.few.entries;
+      commits = subst (λ (es : List Entry). length s'.book.commits + length s'.pending ≤ length es) (sym paid.near.entries)
+          (few_more (length s.book.commits) (length s'.book.commits) (length s.pending) (length s'.pending) (length s.book.entries) a.few.commits paid.near.under);
+      entries = subst (λ (es : List Entry). length es ≤ 1048576) (sym paid.near.entries) a.few.entries;
     };
     book = book_go s.events f.touch (book_part s) (book_part s') f.book (acked_in_turn s d s' d' f.rows f.book f.caused) a.book;
-    events = subst (λ (es : List Entry). s'.events + work_left s' ≤ 2 ^ 61 + entry_work * length es) (sym paid.entries)
-        (paid_within s.events s'.events (work_left s) (work_left s') (budget s) a.events paid.falls paid.events);
-    numbers = subst (λ (es : List Entry). s'.log.number + work_left s' ≤ 2 ^ 61 + entry_work * length es) (sym paid.entries)
-        (paid_within s.log.number s'.log.number (work_left s) (work_left s') (budget s) a.numbers paid.falls paid.number);
+    events = subst (λ (es : List Entry). s'.events + work_left s' ≤ 2 ^ 61 + entry_work * length es) (sym paid.near.entries)
+        (paid_within s.events s'.events (work_left s) (work_left s') (budget s) a.events paid.falls paid.near.events);
+    numbers = subst (λ (es : List Entry). s'.log.number + work_left s' ≤ 2 ^ 61 + entry_work * length es) (sym paid.near.entries)
+        (paid_within s.log.number s'.log.number (work_left s) (work_left s') (budget s) a.numbers paid.falls paid.near.number);
   };
   up = λ _. record {
     flights = matches;
@@ -84,13 +84,13 @@ paid_keeps step s d s' d' kept sound up ready does paid matches = record {
     a = kept.always
 
     f : Footprint s d s' d'
-    f = footprint_of (stepping step) s d s' d' kept (paid.up ∙ up) (ready, does)
+    f = footprint_of (stepping step) s d s' d' kept (paid.near.up ∙ up) (ready, does)
 
     same : s'.log.sup ≡ s.log.sup
     same = sup_go (rows_part s) (rows_part s') f.rows
 
     may : MayAll (rows_part s) f.rows
-    may = may_all s d s' d' paid.entries (rows_part s) f.rows f.book f.caused
+    may = may_all s d s' d' paid.near.entries (rows_part s) f.rows f.book f.caused
 
 -- where the kernel is down nothing else is asked
 down_kept : (s : State) (d : Disk) (s' : State) (d' : Disk) → IsSound d' → IsAlwaysKept s d → GoneDown s d s' d' → IsKept s' d'

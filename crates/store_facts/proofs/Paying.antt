@@ -41,16 +41,20 @@ use Rattle.store_facts.proofs.Matching.{Matches}
 use Rattle.store_facts.proofs.MatchingMore.{next_stands, new_batch}
 use Rattle.store_facts.proofs.MatchingSteps.{test_of, some_is, none_is}
 
--- what a step of a kernel that stays up leaves
-pub record Paid (s : State) (d : Disk) (s' : State) (d' : Disk) : Type 0 where
-  pub falls : work_left s' < work_left s
-  pub flights : AreFlights s'.flying d'.flights
-  pub units : d'.units ≡ d.units
+-- no entry is made, what waits becomes a commit at most, and events and records come one by one
+pub record IsNear (s s' : State) : Type 0 where
   pub entries : s'.book.entries ≡ s.book.entries
   pub under : length s'.book.commits + length s'.pending ≡ length s.book.commits + length s.pending
   pub events : s'.events ≤ s.events + 1
   pub number : s'.log.number ≤ s.log.number + 1
   pub up : s'.down ≡ s.down
+
+-- what a step of a kernel that stays up leaves
+pub record Paid (s : State) (d : Disk) (s' : State) (d' : Disk) : Type 0 where
+  pub falls : work_left s' < work_left s
+  pub flights : AreFlights s'.flying d'.flights
+  pub units : d'.units ≡ d.units
+  pub near : IsNear s s'
 
 -- ---- sums over contexts
 
@@ -155,12 +159,7 @@ module _ (s : State) (d : Disk) where
             (ap sum_work at.is ∙ sum_middle at.front x at.back) (ap sum_work then ∙ sum_middle at.front (given_more count x) at.back) at.holds.within;
         flights = sent_flight s.flying d d' does.ticket (job.Data n.place count) e mirror does.submitted;
         units = sent_units d d' does.ticket.place e does.submitted;
-        entries = refl;
-        under = ap (λ (k : ℕ). length s.book.commits + k) (ap (λ (xs : List Context). length xs) then
-            ∙ length_middle at.front (given_more count x) at.back ∙ sym (length_middle at.front x at.back) ∙ ap (λ (xs : List Context). length xs) (sym at.is));
-        events = omega arith;
-        number = omega arith;
-        up = refl;
+        near = record { entries = refl; under = ap (λ (k : ℕ). length s.book.commits + k) (ap (λ (xs : List Context). length xs) then ∙ length_middle at.front (given_more count x) at.back ∙ sym (length_middle at.front x at.back) ∙ ap (λ (xs : List Context). length xs) (sym at.is)); events = omega arith; number = omega arith; up = refl };
       })
     where
       less : (flies flies' work work' front back all given more pieces batch left : ℕ) → flies' ≡ flies + 1
@@ -208,11 +207,7 @@ module _ (s : State) (d : Disk) where
                 (option_map_or (batch_work s.log) s.batch 0) (applied_count s - s.acked) land.fewer many.work;
             flights = land.flights;
             units = land.units;
-            entries = refl;
-            under = ap (λ (k : ℕ). length s.book.commits + k) many.count;
-            events = omega arith;
-            number = omega arith;
-            up = refl;
+            near = record { entries = refl; under = ap (λ (k : ℕ). length s.book.commits + k) many.count; events = omega arith; number = omega arith; up = refl };
           }
       of_job land job.DataFlush = record {
         falls = ending (length (others_of ended.ticket s.flying)) (length s.flying) (sum_work s.pending) (option_map_or (batch_work s.log) s.batch 0)
@@ -221,11 +216,7 @@ module _ (s : State) (d : Disk) where
             (same_commits first_flushed (λ b. refl) s.batch);
         flights = land.flights;
         units = land.units;
-        entries = refl;
-        under = refl;
-        events = omega arith;
-        number = omega arith;
-        up = refl;
+        near = record { entries = refl; under = refl; events = omega arith; number = omega arith; up = refl };
       }
       of_job land job.Record = record {
         falls = less (length (others_of ended.ticket s.flying)) (length s.flying) (sum_work s.pending) (option_map_or (batch_work s.log) s.batch 0)
@@ -233,11 +224,7 @@ module _ (s : State) (d : Disk) where
             (most _ _ (written_batch s.batch));
         flights = land.flights;
         units = land.units;
-        entries = refl;
-        under = refl;
-        events = omega arith;
-        number = omega arith;
-        up = refl;
+        near = record { entries = refl; under = refl; events = omega arith; number = omega arith; up = refl };
       }
         where
           most : (a b : ℕ) → a ≡ b → a ≤ b
@@ -249,11 +236,7 @@ module _ (s : State) (d : Disk) where
             (same_commits second_flushed (λ b. refl) s.batch);
         flights = land.flights;
         units = land.units;
-        entries = refl;
-        under = refl;
-        events = omega arith;
-        number = omega arith;
-        up = refl;
+        near = record { entries = refl; under = refl; events = omega arith; number = omega arith; up = refl };
       }
 
   -- ---- Take
@@ -286,12 +269,7 @@ module _ (s : State) (d : Disk) where
             (ap (λ (o : Option Batch). length s.book.commits - option_map_or (λ (b : Batch). length b.contexts) o 0) none);
         flights = subst (λ (e : Disk). AreFlights s.flying e.flights) (sym does.same) mirror;
         units = ap (λ (e : Disk). e.units) does.same;
-        entries = refl;
-        under = same (length s.book.commits) (length (s.book.commits ++ commit_of x ∷ [])) _ _ _ more
-            (ap (λ (xs : List Context). length xs) here ∙ length_middle at.front x at.back) (ap (λ (xs : List Context). length xs) then);
-        events = omega arith;
-        number = omega arith;
-        up = refl;
+        near = record { entries = refl; under = same (length s.book.commits) (length (s.book.commits ++ commit_of x ∷ [])) _ _ _ more (ap (λ (xs : List Context). length xs) here ∙ length_middle at.front x at.back) (ap (λ (xs : List Context). length xs) then); events = omega arith; number = omega arith; up = refl };
       })
     where
       less : (flies work work' front back units need pieces batch batch' commits commits' acked applied : ℕ) → work ≡ front + ((units + 8 + 2 * need) + back)
@@ -306,6 +284,11 @@ module _ (s : State) (d : Disk) where
 
   -- ---- the two flushes
 
+  less_flushed : (flies flies' work flush made count batch flush' left applied acked : ℕ) → flies' ≡ flies + 1 → batch ≡ flush + made + 1 + count
+      → flush' + 2 ≡ flush → applied ≡ left
+      → flies' + work + (flush' + made + 1 + count) + (left - acked) < flies + work + batch + (applied - acked)
+  less_flushed flies flies' work flush made count batch flush' left applied acked is was paid same = omega (arith, is, was, paid, same)
+
   pub flush_pays : (s' : State) (d' : Disk) → AreFlights s.flying d.flights → is_ready_up Flush d.depth s ≡ true → DoesFlush s d s' d' → Paid s d s' d'
   flush_pays s' d' mirror ready does =
       let b : Batch = does.batch in
@@ -313,22 +296,13 @@ module _ (s : State) (d : Disk) where
       let first : is_not_sent b.first ≡ true = test_of (λ b. is_not_sent b.first) s.batch b does.begun
       (and_parts (batch_is (λ b. is_not_sent b.first) s) (nat_lt (length s.flying) d.depth) ready).0 in
       subst (λ (t : State). Paid s d t d') (sym does.after) (record {
-        falls = less (length s.flying) (length (s.flying ++ f ∷ [])) (sum_work s.pending) (flush_work b) (record_work s.log b) (length b.contexts) _ _
+        falls = less_flushed (length s.flying) (length (s.flying ++ f ∷ [])) (sum_work s.pending) (flush_work b) (record_work s.log b) (length b.contexts) _ _
             (length s.book.commits - length b.contexts) (applied_count s) s.acked (length_push s.flying f) (batch_work_is s b does.begun)
             (first_paid b (flush.Sent does.ticket) first refl) (applied_is s b does.begun);
         flights = sent_flight s.flying d d' does.ticket job.DataFlush event.Flush mirror does.submitted;
         units = sent_units d d' does.ticket.place event.Flush does.submitted;
-        entries = refl;
-        under = refl;
-        events = omega arith;
-        number = omega arith;
-        up = refl;
+        near = record { entries = refl; under = refl; events = omega arith; number = omega arith; up = refl };
       })
-    where
-      less : (flies flies' work flush made count batch flush' left applied acked : ℕ) → flies' ≡ flies + 1 → batch ≡ flush + made + 1 + count
-          → flush' + 2 ≡ flush → applied ≡ left
-          → flies' + work + (flush' + made + 1 + count) + (left - acked) < flies + work + batch + (applied - acked)
-      less flies flies' work flush made count batch flush' left applied acked is was paid same = omega (arith, is, was, paid, same)
 
   pub sync_pays : (s' : State) (d' : Disk) → AreFlights s.flying d.flights → is_ready_up Sync d.depth s ≡ true → DoesSync s d s' d' → Paid s d s' d'
   sync_pays s' d' mirror ready does =
@@ -339,22 +313,13 @@ module _ (s : State) (d : Disk) where
       (and_parts (batch_is (λ b. is_not_sent b.second) s) ended
       (and_parts (batch_is (λ b. is_not_sent b.second) s && ended) (nat_lt (length s.flying) d.depth) ready).0).0 in
       subst (λ (t : State). Paid s d t d') (sym does.after) (record {
-        falls = less (length s.flying) (length (s.flying ++ f ∷ [])) (sum_work s.pending) (flush_work b) (record_work s.log b) (length b.contexts) _ _
+        falls = less_flushed (length s.flying) (length (s.flying ++ f ∷ [])) (sum_work s.pending) (flush_work b) (record_work s.log b) (length b.contexts) _ _
             (length s.book.commits - length b.contexts) (applied_count s) s.acked (length_push s.flying f) (batch_work_is s b does.begun)
             (second_paid b (flush.Sent does.ticket) second refl) (applied_is s b does.begun);
         flights = sent_flight s.flying d d' does.ticket job.RecordFlush event.Flush mirror does.submitted;
         units = sent_units d d' does.ticket.place event.Flush does.submitted;
-        entries = refl;
-        under = refl;
-        events = omega arith;
-        number = omega arith;
-        up = refl;
+        near = record { entries = refl; under = refl; events = omega arith; number = omega arith; up = refl };
       })
-    where
-      less : (flies flies' work flush made count batch flush' left applied acked : ℕ) → flies' ≡ flies + 1 → batch ≡ flush + made + 1 + count
-          → flush' + 2 ≡ flush → applied ≡ left
-          → flies' + work + (flush' + made + 1 + count) + (left - acked) < flies + work + batch + (applied - acked)
-      less flies flies' work flush made count batch flush' left applied acked is was paid same = omega (arith, is, was, paid, same)
 
   -- ---- the record
 
@@ -371,11 +336,7 @@ module _ (s : State) (d : Disk) where
             (applied_count s - s.acked) was then;
         flights = subst (λ (e : Disk). AreFlights s.flying e.flights) (sym does.same) mirror;
         units = ap (λ (e : Disk). e.units) does.same;
-        entries = refl;
-        under = refl;
-        events = omega arith;
-        number = omega arith;
-        up = refl;
+        near = record { entries = refl; under = refl; events = omega arith; number = omega arith; up = refl };
       })
     where
       less : (flies work flush pieces count batch batch' left : ℕ) → batch ≡ flush + (1 + 2 * pieces) + 1 + count
@@ -403,11 +364,7 @@ module _ (s : State) (d : Disk) where
             (applied_count s - s.acked) (length_push s.flying f) was then more;
         flights = sent_flight s.flying d d' does.ticket job.Record e mirror does.submitted;
         units = sent_units d d' does.ticket.place e does.submitted;
-        entries = refl;
-        under = refl;
-        events = omega arith;
-        number = omega arith;
-        up = refl;
+        near = record { entries = refl; under = refl; events = omega arith; number = omega arith; up = refl };
       })
     where
       less : (flies flies' work flush pieces given count batch batch' left : ℕ) → flies' ≡ flies + 1 → batch ≡ flush + 2 * (pieces - given) + 1 + count
@@ -424,11 +381,7 @@ module _ (s : State) (d : Disk) where
             (applied_count s) s.acked (batch_work_is s b does.begun) (applied_is s b does.begun) within;
         flights = subst (λ (e : Disk). AreFlights s.flying e.flights) (sym does.same) mirror;
         units = ap (λ (e : Disk). e.units) does.same;
-        entries = refl;
-        under = refl;
-        events = omega arith;
-        number = omega arith;
-        up = refl;
+        near = record { entries = refl; under = refl; events = omega arith; number = omega arith; up = refl };
       })
     where
       less : (flies work flush made count batch commits applied acked : ℕ) → batch ≡ flush + made + 1 + count → applied ≡ commits - count → acked ≤ applied
@@ -444,11 +397,7 @@ module _ (s : State) (d : Disk) where
             (length s.flying + sum_work s.pending + option_map_or (batch_work s.log) s.batch 0) same (ltb-true s.acked (applied_count s) ready);
         flights = subst (λ (e : Disk). AreFlights s.flying e.flights) (sym does.same) mirror;
         units = ap (λ (e : Disk). e.units) does.same;
-        entries = refl;
-        under = ap (λ (n : ℕ). n + length s.pending) same;
-        events = omega arith;
-        number = omega arith;
-        up = refl;
+        near = record { entries = refl; under = ap (λ (n : ℕ). n + length s.pending) same; events = omega arith; number = omega arith; up = refl };
       })
     where
       less : (commits commits' count acked front : ℕ) → commits' ≡ commits → acked < commits - count

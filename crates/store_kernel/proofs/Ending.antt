@@ -126,7 +126,7 @@ pub piece_out : (s : State) (d : Disk) (m : meta.Meta) (t : Ticket) (j : Job) �
 piece_out s d m t j kept down log ended is =
     let of = tells s d t job.Record kept down (subst (EndedFor s t) is ended) in
     subst (λ (l : meta.Meta). meta.IsPieceOut l) log
-    (subst (λ (o : Option meta.Begun). MatchOption o ⊥ (λ (r : meta.Begun). r.written < r.given)) (sym of.1.0) of.1.1)
+    (subst (λ (o : Option meta.Begun). MatchOption o ⊥ (λ (r : meta.Begun). r.written < r.given)) (sym of.1) of.2)
 
 -- ---- what a good end does, job by job
 

@@ -1,21 +1,38 @@
 -- What each call does to a device in memory.
-use Rattle.std.proofs.Common.{◌≡◌, ◌≢◌, inr, ℕ, ◌+◌, ◌*◌, ◌<◌, ◌≤◌, List, [], ◌∷◌, ◌++◌, length, map, drop, Some, Bool, refl, sym, ◌∙◌, ap, subst, arith, length-drop}
+use Rattle.std.proofs.Common.{◌≡◌, ◌≢◌, inl, inr, ℕ, ◌+◌, ◌*◌, ◌<◌, ◌≤◌, List, [], ◌∷◌, ◌++◌, length, map, drop, Some, Bool, refl, sym, ◌∙◌, ap, subst, arith, length-drop}
 use Rattle.std.proofs.lemmas.List.{map_push, length-map, length_push, length-take-le}
 use Rattle.std.proofs.lemmas.List.Elements.{All-contains}
 use Rattle.byte_maps.specs.Units.{unit_at, units_from}
 use Rattle.byte_maps.proofs.UnitLemmas.{unit_at-part}
 use Rattle.block_device.specs.Log.{last, after_event}
-use Rattle.block_device.specs.Disk.{Submitted, Reaped, Waited, HasRead, flight_of, find_flight, without}
+use Rattle.block_device.specs.Disk.{Submitted, Reaped, Waited, HasRead, IsSound, flight_of, find_flight, without}
 use Rattle.block_device.specs.Image.{IsWhole}
-use Rattle.block_device.specs.Pending.{flight, lowered, others, AreOpen, WasTaken, NoneWasReady}
+use Rattle.block_device.specs.Pending.{flight, lowered, others, AreOpen, IsPatient, WasTaken, NoneWasReady}
 use Rattle.block_device.specs.Memory.{MemoryDisk, IsMemoryDisk, disk_of}
 use Rattle.block_device.proofs.LogLemmas.{last-push}
-use Rattle.block_device.proofs.ImageLemmas.{all_fit_push}
+use Rattle.block_device.proofs.ImageLemmas.{length-last, all_fit_push}
 use Rattle.block_device.proofs.AnswerLemmas.{answers_submitted, answers_lowered, answers_done}
 use Rattle.block_device.proofs.Pendings.{find_new, find_open, flights_lowered, flights_others, length-others, open_push, open_lowered, open_others, patient_push, patient_wait, patient_again}
 use Rattle.block_device.specs.declared.event.Event.{Event}
 use Rattle.block_device.specs.declared.event.Event.TheVariants.{Done}
 use Rattle.block_device.specs.declared.pending.Pending.{Pending}
+
+-- as it is kept, the device is sound
+
+few_waits : (ps : List Pending) (waits : ℕ) → IsPatient ps waits → waits ≤ 64
+few_waits ps waits (inl none) = omega (arith, none.1)
+few_waits ps waits (inr one) = omega (arith, one.2)
+
+pub sound_kept : (d : MemoryDisk) → IsMemoryDisk d → IsSound (disk_of d)
+sound_kept d k = record {
+  units = k.units;
+  depth = omega arith;
+  room = omega (arith, length-map d.pending flight, k.in_flight.few);
+  waits = few_waits d.pending d.waits k.patient;
+  size = k.size;
+  size_now = length-last d.start d.log k.fits ∙ k.size;
+  once = k.answers.once;
+}
 
 -- a submission
 

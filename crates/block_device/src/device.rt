@@ -76,14 +76,16 @@ pub trait Device {
         ensures ok { IfOk result (λ t. Submitted (disk self.old) t.place (Write at bytes.items) (disk self.new)) }
         ensures err { OnErr result (disk self.new ≡ disk self.old) }
         ensures back { IfErr result (λ back. back.bytes.items ≡ bytes.items) }
-        ensures faults { faults self.new ≡ faults self.old };
+        ensures faults { faults self.new ≡ faults self.old }
+        ensures sound { IsSound (disk self.new) };
 
     /// Submits a flush. Its good end makes stable each write whose good end came before this call.
     fn submit_flush(&mut self) -> Result<Ticket, AllocError>
         requires { length (disk self.old).flights < (disk self.old).depth }
         ensures ok { IfOk result (λ t. Submitted (disk self.old) t.place Flush (disk self.new)) }
         ensures err { OnErr result (disk self.new ≡ disk self.old) }
-        ensures faults { faults self.new ≡ faults self.old };
+        ensures faults { faults self.new ≡ faults self.old }
+        ensures sound { IsSound (disk self.new) };
 
     /// The end of one submission, each once. None comes only where no end is ready: always where
     /// nothing is in flight, and else at most 64 times in a row. It takes no memory.
@@ -91,7 +93,8 @@ pub trait Device {
         ensures done { IfSome result (λ done. Reaped (disk self.old) done.ticket.place done.ok (disk self.new)) }
         ensures none { IfNone result (Waited (disk self.old) (disk self.new)) }
         ensures later { faults self.old ≤ faults self.new }
-        ensures cause { IfSome result (λ done. done.ok ≡ false → Rose (faults self.old) (faults self.new)) };
+        ensures cause { IfSome result (λ done. done.ok ≡ false → Rose (faults self.old) (faults self.new)) }
+        ensures sound { IsSound (disk self.new) };
 
     /// Reads `count` units from unit `at` on, which no write in flight touches, in place of what
     /// `into` held; at an Err it is empty. A unit of which a write ended badly may read as anything.
@@ -102,5 +105,6 @@ pub trait Device {
         ensures ok { OnOk result (HasRead (disk self.old) at count into.new.items) }
         ensures err { OnErr result (length into.new.items ≡ 0) }
         ensures later { faults self.old ≤ faults self.new }
-        ensures cause { IsErrOf result Failed.Fault → Rose (faults self.old) (faults self.new) };
+        ensures cause { IsErrOf result Failed.Fault → Rose (faults self.old) (faults self.new) }
+        ensures sound { IsSound (disk self.new) };
 }

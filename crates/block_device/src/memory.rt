@@ -1,6 +1,6 @@
 // A device in memory, which tells its log, and whose every answer follows from its lists.
 ghost use Rattle.std.specs.Prelude.{◌≡◌, ◌≢◌, ◌++◌, ◌↔◌, false, Some, [], ◌∷◌, ◌+◌, ◌*◌, ◌%◌, ◌<◌, ◌≤◌, length, take, All, MatchOption, OnOk, OnErr, IfOk, IfErr, IfSome, IfNone, IsErrOf, IsTrue, vec_capacity};
-ghost use Rattle.block_device.specs.Disk.{Submitted, Reaped, Waited, HasRead, IsNotInFlight, Rose};
+ghost use Rattle.block_device.specs.Disk.{Submitted, Reaped, Waited, HasRead, IsSound, IsNotInFlight, Rose};
 ghost use Rattle.block_device.specs.Log.{last, IsCrashImage};
 ghost use Rattle.block_device.specs.Image.{IsTornImage};
 ghost use Rattle.block_device.specs.Fails.{is_listed, lag_at, faults_after, read_fails};
@@ -185,6 +185,7 @@ impl Device for MemoryDevice {
         ensures err { OnErr result (self.new ≡ self.old) }
         ensures back { IfErr result (λ back. back.bytes.items ≡ bytes.items) }
         ensures faults { self.new.faults ≡ self.old.faults }
+        ensures sound { IsSound (disk_of self.new) }
     {
         match make_room(&mut self.log, &mut self.pending) {
             Ok(()) => {}
@@ -211,6 +212,7 @@ impl Device for MemoryDevice {
         ensures exact { OnOk result (self.new ≡ after_flush self.old) }
         ensures err { OnErr result (self.new ≡ self.old) }
         ensures faults { self.new.faults ≡ self.old.faults }
+        ensures sound { IsSound (disk_of self.new) }
     {
         make_room(&mut self.log, &mut self.pending)?;
         let place = self.log.len() as u64;
@@ -233,6 +235,7 @@ impl Device for MemoryDevice {
         ensures exact { MatchOption result (GaveNone self.old self.new) (λ done. GaveNext self.old done.ticket.place done.ok self.new) }
         ensures later { self.old.faults ≤ self.new.faults }
         ensures cause { IfSome result (λ done. done.ok ≡ false → Rose self.old.faults self.new.faults) }
+        ensures sound { IsSound (disk_of self.new) }
     {
         if self.pending.is_empty() {
             return None;
@@ -262,6 +265,7 @@ impl Device for MemoryDevice {
         ensures err { OnErr result (length into.new.items ≡ 0) }
         ensures later { self.old.faults ≤ self.new.faults }
         ensures cause { IsErrOf result Failed.Fault → Rose self.old.faults self.new.faults }
+        ensures sound { IsSound (disk_of self.new) }
     {
         into.clear();
         if fails_at(&self.fails, Kind::Read, self.reads) {

@@ -2,7 +2,7 @@
 
 ghost use Rattle.std.specs.Prelude.{◌≡◌, ◌*◌, ◌≤◌, ◌↔◌, ◌∷◌, [], IfOk, IfSome, IfNone, IsOk, IsTrue, All, false};
 ghost use Rattle.std.specs.VecDeque.{deque_capacity};
-ghost use Rattle.block_device.specs.Disk.{Reaped, Waited, Rose};
+ghost use Rattle.block_device.specs.Disk.{Reaped, Waited, IsSound, Rose};
 ghost use Rattle.device_file.specs.FileDisk.{fresh_file};
 
 use crate::opening::{make_file, offset_of, open_file};
@@ -202,6 +202,7 @@ impl Device for SyncFile {
         ensures none { IfNone result (Waited self.old.disk self.new.disk) }
         ensures later { self.old.faults ≤ self.new.faults }
         ensures cause { IfSome result (λ done. done.ok ≡ false → Rose self.old.faults self.new.faults) }
+        ensures sound { IsSound self.new.disk }
 
         // The ends come in ticket order, and each call gives one while something is in flight.
         ensures in_order { IfSome result (λ done. All (λ f. done.ticket.place ≤ f.ticket) self.old.disk.flights) }
@@ -217,11 +218,12 @@ impl Device for SyncFile {
     }
 
     fn read(&mut self, at: u32, count: u32, into: &mut Vec<u8>) -> Result<(), Failed> {
+        let file = &self.file;
         if into.resize(4096 * count as usize, 0).is_err() {
             into.clear();
             return Err(Failed::Memory);
         }
-        if is_good(&self.file.read_exact_at(into, offset_of(at))) {
+        if is_good(&file.read_exact_at(into, offset_of(at))) {
             return Ok(());
         }
         into.clear();

@@ -61,7 +61,6 @@ fn clear_first<D: Device>(
     ensures faults { D.faults dev.old ≤ D.faults dev.new }
     ensures cause { IsErrOf result Failed.Fault → Rose (D.faults dev.old) (D.faults dev.new) }
 {
-    let _ = dev.units();
     if !is_stale {
         return Ok(0);
     }
@@ -82,7 +81,6 @@ fn clear_others<D: Device>(alloc: Global, dev: &mut D, units: &[u32]) -> Result<
     ensures faults { D.faults dev.old ≤ D.faults dev.new }
     ensures cause { IsErrOf result Failed.Fault → Rose (D.faults dev.old) (D.faults dev.new) }
 {
-    let _ = dev.units();
     if units.is_empty() {
         return Ok(0);
     }
@@ -113,7 +111,6 @@ pub fn clear_behind<D: Device>(
     ensures faults { D.faults dev.old ≤ D.faults dev.new }
     ensures cause { IsErrOf result Failed.Fault → Rose (D.faults dev.old) (D.faults dev.new) }
 {
-    let _ = dev.units();
     if first == end {
         return Ok(0);
     }

@@ -100,7 +100,6 @@ impl HalfReader {
         ensures faults { D.faults dev.old ≤ D.faults dev.new }
         ensures cause { IsErrOf result Failed.Fault → Rose (D.faults dev.old) (D.faults dev.new) }
     {
-        let _ = dev.units();
         let count = (self.end - self.next).min(MOST_UNITS);
         self.start = 0;
         dev.read(self.next, count, &mut self.bytes)?;
@@ -119,7 +118,6 @@ impl HalfReader {
         ensures faults { D.faults dev.old ≤ D.faults dev.new }
         ensures cause { IsErrOf result Failed.Fault → Rose (D.faults dev.old) (D.faults dev.new) }
     {
-        let _ = dev.units();
         let count = (self.end - self.next).min(MOST_UNITS);
         dev.read(self.next, count, &mut self.piece)?;
         let Ok(()) = self.bytes.extend_from_slice(&self.piece) else {
@@ -158,7 +156,6 @@ impl HalfReader {
         ensures faults { D.faults dev.old ≤ D.faults dev.new }
         ensures cause { IsErrOf result Failed.Fault → Rose (D.faults dev.old) (D.faults dev.new) }
     {
-        let _ = dev.units();
         if self.at + units <= self.next {
             return Ok(());
         }
@@ -180,7 +177,6 @@ impl HalfReader {
         ensures faults { D.faults dev.old ≤ D.faults dev.new }
         ensures cause { IsErrOf result Failed.Fault → Rose (D.faults dev.old) (D.faults dev.new) }
     {
-        let _ = dev.units();
         if self.at == self.end {
             return Ok(false);
         }

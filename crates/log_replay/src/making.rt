@@ -40,7 +40,6 @@ fn clear<D: Device>(alloc: Global, dev: &mut D, half: u32) -> Result<(), Failed>
     ensures faults { D.faults dev.old ≤ D.faults dev.new }
     ensures cause { IsErrOf result Failed.Fault → Rose (D.faults dev.old) (D.faults dev.new) }
 {
-    let _ = dev.units();
     let stale = stale_units(alloc, dev, half + 2)?;
     zero_units(alloc, dev, &stale)?;
     flush_through(dev)?;
@@ -87,7 +86,6 @@ fn make<D: Device>(alloc: Global, dev: &mut D, half: u32, prefer: u32) -> Result
     ensures faults { D.faults dev.old ≤ D.faults dev.new }
     ensures cause { IsErrOf result Failed.Fault → Rose (D.faults dev.old) (D.faults dev.new) }
 {
-    let _ = dev.units();
     clear(alloc, dev, half)?;
     write_slot(alloc, dev, half, prefer)?;
     let _ = dev.units();

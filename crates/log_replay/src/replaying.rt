@@ -53,7 +53,6 @@ fn replay<D: Device>(
     ensures faults { D.faults dev.old ≤ D.faults dev.new }
     ensures cause { IsErrOf result Failed.Fault → Rose (D.faults dev.old) (D.faults dev.new) }
 {
-    let _ = dev.units();
     let mut gathered = Gathered::new(alloc);
     let mut tail = 0;
     let mut number = first;
@@ -101,7 +100,6 @@ pub fn find_store<D: Device>(alloc: Global, dev: &mut D) -> Result<FoundStore, M
     ensures fails { IfErr result (λ fail. FailsMount fail (D.disk dev.old) (D.faults dev.old) (D.faults dev.new)) }
     ensures faults { D.faults dev.old ≤ D.faults dev.new }
 {
-    let _ = dev.units();
     let found = match find_super(alloc, dev) {
         Ok(found) => found,
         Err(why) => return Err(failed(why)),

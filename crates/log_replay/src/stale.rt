@@ -51,7 +51,6 @@ pub fn add_stale_between<D: Device>(
     ensures faults { D.faults dev.old ≤ D.faults dev.new }
     ensures cause { IsErrOf result Failed.Fault → Rose (D.faults dev.old) (D.faults dev.new) }
 {
-    let _ = dev.units();
     let mut bytes = Vec::new(alloc);
     let mut at = first;
     'pieces: while at < end {
@@ -81,7 +80,6 @@ pub fn stale_units<D: Device>(alloc: Global, dev: &mut D, below: u32) -> Result<
     ensures faults { D.faults dev.old ≤ D.faults dev.new }
     ensures cause { IsErrOf result Failed.Fault → Rose (D.faults dev.old) (D.faults dev.new) }
 {
-    let _ = dev.units();
     let Ok(mut stale) = slots(alloc) else {
         return Err(Failed::Memory);
     };

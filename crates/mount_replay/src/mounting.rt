@@ -34,7 +34,6 @@ fn clear_log<D: Device>(alloc: Global, dev: &mut D, found: &FoundStore) -> Resul
     ensures faults { D.faults dev.old ≤ D.faults dev.new }
     ensures cause { IsErrOf result Failed.Fault → Rose (D.faults dev.old) (D.faults dev.new) }
 {
-    let _ = dev.units();
     let active = found.sup.active_unit();
     clear_behind(
         alloc,

@@ -47,7 +47,6 @@ impl<D: Device> Kernel<D> {
             job: Job::Data { place, count },
         });
         self.events += 1;
-        let _ = self.device.units();
         Ok(())
     }
 
@@ -59,9 +58,7 @@ impl<D: Device> Kernel<D> {
             × Rose (D.faults self.old.device) (D.faults self.new.device)) }
         ensures later { D.faults self.old.device ≤ D.faults self.new.device }
     {
-        let ended = self.device.reap();
-        let _ = self.device.units();
-        let Some(done) = ended else {
+        let Some(done) = self.device.reap() else {
             return Ok(());
         };
         let landed = land(&mut self.flying, done.ticket);
@@ -120,7 +117,6 @@ impl<D: Device> Kernel<D> {
             job: Job::DataFlush,
         });
         self.events += 1;
-        let _ = self.device.units();
         Ok(())
     }
 
@@ -170,7 +166,6 @@ impl<D: Device> Kernel<D> {
             job: Job::Record,
         });
         self.events += 1;
-        let _ = self.device.units();
         Ok(())
     }
 
@@ -193,7 +188,6 @@ impl<D: Device> Kernel<D> {
             job: Job::RecordFlush,
         });
         self.events += 1;
-        let _ = self.device.units();
         Ok(())
     }
 

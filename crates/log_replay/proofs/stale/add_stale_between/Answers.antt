@@ -1,5 +1,5 @@
 use Rattle.std.proofs.Common.{◌≡◌, refl, arith, subst, ◌∙◌}
-use Rattle.block_device.specs.Disk.{HasRead}
+use Rattle.block_device.specs.Disk.{IsSound, HasRead}
 use Rattle.log_replay.specs.HalfReading.{AddsUnits}
 use Rattle.log_replay.proofs.StaleLemmas.{adds_no_units, adds_more_units, all_before}
 use Rattle.log_replay.proofs.stale.add_stale_between.Goals as goal
@@ -17,13 +17,15 @@ pub pieces-preserved : goal.pieces-preserved
 pieces-preserved g c =
     let disk = g.D.Device.disk in
     let was = c.pieces.invariant in
-    let read = subst (λ d. HasRead d c.pieces.at c.min-count.result c.read.new.into.items) was.0 c.in_ok-read.ensures.ok in (
-      c.read.ensures.same ∙ was.0,
+    let read = subst (λ d. HasRead d c.pieces.at c.min-count.result c.read.new.into.items) was.0 c.in_ok-read.ensures.ok in
+    let same = c.read.ensures.same ∙ was.0 in
+    let sound = subst IsSound same c.read.ensures.sound in (
+      same,
       omega (arith, was.1, c.read.ensures.later),
       omega (arith, was.2),
       omega (arith, c.min-count.ensures, c.pieces-test.true),
       adds_more_units (disk c.args.dev.now) c.args.first c.pieces.at c.min-count.result c.read.new.into.items c.args.stale.now.items c.pieces.stale.items _
-          was.2 c.units.ensures.sound read (rw c.deref.ensures.value at c.in-Ok.ensures) was.4,
+          was.2 sound read (rw c.deref.ensures.value at c.in-Ok.ensures) was.4,
     )
 
 pub returns-clause-stale : goal.returns-clause-stale

@@ -3,7 +3,7 @@ use Rattle.std.proofs.lemmas.Bool.Decides.{nat_tests}
 use Rattle.std.proofs.lemmas.List.{length_push, length-map}
 use Rattle.block_device.specs.Pending.{lowered}
 use Rattle.block_device.specs.MemoryInside.{memory_disk}
-use Rattle.block_device.proofs.MemoryLemmas.{kept_none, waited_now, kept_done, reaped_now, length-taken, contents_push}
+use Rattle.block_device.proofs.MemoryLemmas.{sound_kept, kept_none, waited_now, kept_done, reaped_now, length-taken, contents_push}
 use Rattle.block_device.specs.declared.event.Event.TheVariants.{Done}
 use Rattle.block_device.proofs.memory.MemoryDeviceDevice.reap.Goals as goal
 
@@ -44,3 +44,9 @@ pub returns-clause-done : goal.returns-clause-done
 returns-clause-done c =
     let m = c.self.inside in
     reaped_now (memory_disk m) c.args.self.now c.in-Some.done _ c.take_ready.new.pending.items m.fault_count c.self.view_is c.self.invariant.facts c.in-Some.ensures c.push_in_room.ensures.items
+
+pub returns-clause-sound : goal.returns-clause-sound
+returns-clause-sound c = sound_kept _ (invariant_of-self-2 c).facts
+
+pub returns-in_default-clause-sound : goal.returns-in_default-clause-sound
+returns-in_default-clause-sound c = sound_kept _ (invariant_of-self c).facts

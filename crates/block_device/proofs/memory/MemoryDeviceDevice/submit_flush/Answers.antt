@@ -1,7 +1,7 @@
 use Rattle.std.proofs.Common.{◌≡◌, ◌+◌, length, refl, ◌∙◌, ap, arith}
 use Rattle.std.proofs.lemmas.List.{length_push}
 use Rattle.block_device.specs.MemoryInside.{memory_disk}
-use Rattle.block_device.proofs.MemoryLemmas.{kept_submit, submitted_now, contents_push, few_flights}
+use Rattle.block_device.proofs.MemoryLemmas.{sound_kept, kept_submit, submitted_now, contents_push, few_flights}
 use Rattle.block_device.specs.declared.event.Event.TheVariants.{Flush}
 use Rattle.block_device.proofs.memory.MemoryDeviceDevice.submit_flush.Goals as goal
 
@@ -28,3 +28,6 @@ returns-clause-ok c =
     let pending = rw c.in_ok-make_room.ensures.pending at c.push_in_room.ensures.items in
     let place : c.len-place.result ≡ length m.log.items = omega (arith, ap length c.in_ok-make_room.ensures.log) in
     submitted_now (memory_disk m) c.args.self.now Flush _ c.len-place.result _ _ m.writes (m.flushes + 1) c.self.view_is s.facts place refl log pending
+
+pub returns-clause-sound : goal.returns-clause-sound
+returns-clause-sound c = sound_kept _ (invariant_of-self-2 c).facts

@@ -5,7 +5,7 @@ use Rattle.byte_maps.specs.Units.{overlaid}
 use Rattle.byte_maps.proofs.UnitLemmas.{length-overlaid}
 use Rattle.block_device.specs.Memory.{MemoryDisk}
 use Rattle.block_device.specs.MemoryInside.{memory_disk}
-use Rattle.block_device.proofs.MemoryLemmas.{kept_submit, submitted_now, contents_push, few_flights}
+use Rattle.block_device.proofs.MemoryLemmas.{sound_kept, kept_submit, submitted_now, contents_push, few_flights}
 use Rattle.block_device.specs.declared.event.Event.TheVariants.{Write}
 use Rattle.block_device.proofs.memory.MemoryDeviceDevice.submit_write.Goals as goal
 
@@ -44,3 +44,6 @@ returns-clause-ok c =
     let place : c.len-place.result ≡ length m.log.items = omega (arith, ap length made.log) in
     let size : c.len.result ≡ length c.args.bytes.items = omega arith in
     submitted_now (memory_disk m) c.args.self.now event _ c.len-place.result _ _ (m.writes + 1) m.flushes c.self.view_is s.facts place (λ i. record { ticket = c.len-place.result; first = c.args.at; bytes = size i }) log pending
+
+pub returns-clause-sound : goal.returns-clause-sound
+returns-clause-sound c = sound_kept _ (invariant_of-self-2 c).facts

@@ -48,7 +48,7 @@ invariant_of-self-2 g c =
     let sent = subst (λ (u : ℕ). Submitted (g.D.Device.disk k.device) c.in-Ok-submit_write.ticket.place (Write u c.in-Ok.write.bytes.items) (g.D.Device.disk c.submit_write.new.self))
     c.number.ensures c.in-Ok-submit_write.ensures.ok in
     rw (c.count_given.ensures, c.push_reserved.ensures.items, c.reserve.ensures.items)
-    (known_step Data _ _ _ _ c.self.invariant ready (data_does _ _ _ k.pending c.in-Ok.write c.in-Ok-submit_write.ticket refl c.in-Ok.ensures sent) c.units.ensures.sound)
+    (known_step Data _ _ _ _ c.self.invariant ready (data_does _ _ _ k.pending c.in-Ok.write c.in-Ok-submit_write.ticket refl c.in-Ok.ensures sent) c.submit_write.ensures.sound)
 
 pub returns-clause-ok : goal.returns-clause-ok
 returns-clause-ok g c =

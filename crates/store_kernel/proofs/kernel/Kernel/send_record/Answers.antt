@@ -37,7 +37,7 @@ invariant_of-self-2 g c =
     let sent = subst (λ (u : ℕ). Submitted (g.D.Device.disk k.device) c.in-Ok-submit_write.ticket.place (Write u c.in-Some.piece.1.items) (g.D.Device.disk c.submit_write.new.self))
     c.number.ensures c.in-Ok-submit_write.ensures.ok in
     rw (c.note_given.ensures, c.push_reserved.ensures.items, c.reserve.ensures.items)
-    (known_step Record _ _ _ _ c.self.invariant ready (record_does _ _ _ k.meta c.in-Some.piece.0 c.in-Some.piece.1.items c.in-Ok-submit_write.ticket refl next sent) c.units.ensures.sound)
+    (known_step Record _ _ _ _ c.self.invariant ready (record_does _ _ _ k.meta c.in-Some.piece.0 c.in-Some.piece.1.items c.in-Ok-submit_write.ticket refl next sent) c.submit_write.ensures.sound)
 
 pub returns-clause-ok : goal.returns-clause-ok
 returns-clause-ok g c =

@@ -15,7 +15,7 @@ invariant_of-self-2 g c =
     let k = c.self.inside in
     let ready = rw (← c.self.view_is) at c.requires in
     rw (c.set_second.ensures, c.push_reserved.ensures.items, c.reserve.ensures.items)
-    (known_step Sync _ _ _ _ c.self.invariant ready (sync_does _ _ _ k.batch c.in-Ok.ticket ready refl c.in-Ok.ensures.ok) c.units.ensures.sound)
+    (known_step Sync _ _ _ _ c.self.invariant ready (sync_does _ _ _ k.batch c.in-Ok.ticket ready refl c.in-Ok.ensures.ok) c.submit_flush.ensures.sound)
 
 pub returns-clause-ok : goal.returns-clause-ok
 returns-clause-ok g c =

@@ -15,7 +15,7 @@ use Rattle.store_steps.specs.State.{Batch, State}
 use Rattle.store_steps.specs.Changes.{taken_up, committed_batch, finished}
 use Rattle.store_steps.specs.Submit.{Accepts}
 use Rattle.store_steps.specs.Runs.{Call, Calls, IsRun}
-use Rattle.store_steps.specs.Intents.{Intent, intents}
+use Rattle.store_steps.specs.Intents.{intents}
 use Rattle.store_steps.specs.UnderWay.{uncommitted}
 use Rattle.store_steps.specs.Parts.{RowsPart, BookPart, rows_part, book_part}
 use Rattle.store_steps.specs.Touch.{Touch, events_of}

@@ -1,11 +1,10 @@
 -- How each call keeps what is known of the book.
-use Rattle.std.proofs.Common.{◌≡◌, ℕ, ◌+◌, ◌-◌, ◌<◌, ◌≤◌, Bool, cond, not, List, [], ◌∷◌, ◌++◌, length, drop, map}
+use Rattle.std.proofs.Common.{◌≡◌, ℕ, ◌+◌, ◌-◌, ◌<◌, ◌≤◌, List, [], ◌∷◌, ◌++◌, length, drop, map}
 use Rattle.std.proofs.Common.{Option, None, refl, sym, ap, subst, ◌∙◌, length-append, arith}
 use Rattle.std.specs.Prelude.{is_some, IsSome, IfSome, nat_eq}
 use Rattle.std.specs.List.{IsDistinct, AllByRecursion}
 use Rattle.std.specs.Option.{option_map_or}
 use Rattle.std.proofs.lemmas.List.{map-append, drop_at, drop_all, length-map}
-use Rattle.std.proofs.lemmas.Bool.{eq-eqb}
 use Rattle.object_model.specs.declared.book.Commit.{Commit}
 use Rattle.object_model.specs.declared.book.Book.{Book}
 use Rattle.object_model.specs.Objects.{Objects}

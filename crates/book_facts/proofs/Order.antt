@@ -1,8 +1,7 @@
 -- How each call keeps what is known of the order alone.
-use Rattle.std.proofs.Common.{◌≡◌, ℕ, Bool, cond, not, List, [], ◌∷◌, ◌++◌, length, Option, None, refl, sym, ap, subst, ◌∙◌, append_assoc, map}
+use Rattle.std.proofs.Common.{◌≡◌, ℕ, List, [], ◌∷◌, ◌++◌, length, Option, None, refl, sym, ap, subst, append_assoc, map}
 use Rattle.std.specs.Prelude.{is_some, IsSome}
 use Rattle.std.specs.List.{AllByRecursion}
-use Rattle.std.proofs.lemmas.Bool.{eq-eqb}
 use Rattle.object_model.specs.declared.book.Entry.{Entry}
 use Rattle.object_model.specs.declared.command.Answer.{Answer}
 use Rattle.object_model.specs.declared.command.Answer.TheVariants as answer
@@ -14,7 +13,6 @@ use Rattle.plan_rows.specs.declared.plan.Plan.{Plan}
 use Rattle.unit_allocator.specs.Units.{Space}
 use Rattle.store_steps.specs.declared.context.Context.{Context}
 use Rattle.store_steps.specs.State.{Batch, State}
-use Rattle.store_steps.specs.Contexts.{without_context}
 use Rattle.store_steps.specs.Changes.{commit_of, taken_up, acknowledged, finished, committed_batch}
 use Rattle.store_steps.specs.Submit.{context_of, entered, accepted_with}
 use Rattle.store_steps.specs.Opened.{Found, opened}
@@ -26,7 +24,7 @@ use Rattle.unit_fields.specs.UnitSet.{Ascends}
 use Rattle.book_facts.specs.BookFacts.{IsOfEntry, KnownOfOrder, IsInOrder}
 use Rattle.book_facts.proofs.Entries.{change_last, of_entries_push}
 use Rattle.book_facts.proofs.Commits.{all_push, places_acknowledged, AreAtPlaces, at_places, of_places}
-use Rattle.book_facts.proofs.Queues.{entry_push, queued_noted, queued_accepted, queued_taken, queued_places}
+use Rattle.book_facts.proofs.Queues.{entry_push, queued_noted, queued_accepted, queued_places}
 use Rattle.book_facts.proofs.Books.{KeepBook, batch_of, nothing_twice, all_taken, queues_taken, waiting_then}
 use Rattle.store_facts.proofs.Lists.{all_join, all_right}
 

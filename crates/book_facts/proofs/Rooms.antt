@@ -1,8 +1,7 @@
 -- Units and room go to accepted transactions alone: no other call takes any.
-use Rattle.std.proofs.Common.{◌≡◌, inl, inr, ℕ, ◌+◌, ◌-◌, ◌<◌, ◌≤◌, Bool, true, false, cond, List, [], ◌∷◌, ◌++◌, length}
-use Rattle.std.proofs.Common.{Option, Some, None, is_some, Contains, refl, sym, ap, subst, ◌∙◌, arith}
+use Rattle.std.proofs.Common.{◌≡◌, inl, inr, ℕ, ◌+◌, ◌-◌, ◌<◌, ◌≤◌, true, List, [], ◌∷◌, ◌++◌, length}
+use Rattle.std.proofs.Common.{None, Contains, refl, sym, ap, subst, ◌∙◌, arith}
 use Rattle.std.proofs.lemmas.List.{length-map}
-use Rattle.block_device.specs.declared.device.Ticket.{Ticket}
 use Rattle.block_device.specs.Disk.{Disk, IsSound}
 use Rattle.object_model.specs.declared.book.Entry.{Entry}
 use Rattle.object_model.specs.declared.command.Answer.{Answer}
@@ -13,24 +12,18 @@ use Rattle.object_model.specs.Effect.{Change}
 use Rattle.object_model.specs.Book.{accepted_change, accepted}
 use Rattle.meta_log.specs.Records.{unit_count}
 use Rattle.plan_rows.specs.declared.plan.FreshUnit.{FreshUnit}
-use Rattle.store_steps.specs.declared.flight.Flying.{Flying}
-use Rattle.store_steps.specs.declared.flight.Job.{Job}
 use Rattle.store_steps.specs.declared.flight.Job.TheVariants as job
 use Rattle.store_steps.specs.declared.step.Step.{Step}
-use Rattle.store_steps.specs.declared.step.Step.TheVariants.{Data, Reap, Take, Flush, Seal, Record, Sync, Commit, Finish}
-use Rattle.store_steps.specs.State.{Batch, State}
-use Rattle.store_steps.specs.Contexts.{batch_ops, batch_released, sum_needs}
-use Rattle.store_steps.specs.Changes.{after_done, after_good, flying_of, landed, reaped, committed_batch}
+use Rattle.store_steps.specs.State.{State}
 use Rattle.plan_rows.specs.Plans.{IsKnown, units_taken, fresh_units}
 use Rattle.plan_rows.specs.Keeps.{PlansKeep}
 use Rattle.unit_allocator.specs.Units.{IsWithin, is_free, free_units}
 use Rattle.unit_allocator.proofs.FreeUnits.{listed_is_free}
 use Rattle.store_steps.specs.Ready.{is_ready}
 use Rattle.store_steps.specs.Runs.{Call, submitting, reading, stepping, DoesOrFails, Submits, Reads, Calls, IsRun}
-use Rattle.store_steps.specs.Steps.{Takes, DoesReap}
 use Rattle.meta_store.specs.Store.{room_of}
 use Rattle.store_steps.specs.Submit.{need_of, free_count, entered, Accepts, Refuses}
-use Rattle.store_facts.specs.Kept.{IsKept, IsKeptUp}
+use Rattle.store_facts.specs.Kept.{IsKept}
 use Rattle.store_steps.specs.Intents.{ops_by, released_by, needs_by}
 use Rattle.store_steps.specs.Parts.{RowsPart, rows_part}
 use Rattle.store_steps.specs.RowsGo.{RowsGo}
@@ -96,10 +89,10 @@ step_room s d s' d' step kept ready does = of_leaves (step_leaves step s d s' d'
   where
     of_leaves : StepOutcome s d s' d' → LeavesRoom s s'
     of_leaves (has_stepped up paid matches) =
-        let f : Footprint s d s' d' = footprint_of (stepping step) s d s' d' kept (paid.up ∙ up) (ready, does) in
+        let f : Footprint s d s' d' = footprint_of (stepping step) s d s' d' kept (paid.near.up ∙ up) (ready, does) in
         let leaves : PartLeaves (rows_part s) (rows_part s') =
-        part_leaves (rows_part s) (rows_part s') f.rows (none_joins s d s' d' paid.entries f.rows f.book f.caused) (kept.up up).room in
-        record { entries = paid.entries; space = leaves.space; room = leaves.room }
+        part_leaves (rows_part s) (rows_part s') f.rows (none_joins s d s' d' paid.near.entries f.rows f.book f.caused) (kept.up up).room in
+        record { entries = paid.near.entries; space = leaves.space; room = leaves.room }
     of_leaves (has_waited none same some) = same_room s s' (ap (λ (t : State). t.book.entries) same) (ap (λ (t : State). t.space) same) (ap (λ (t : State). t.log) same)
     of_leaves (has_gone_down gone) = same_room s s' (ap (λ (t : State). t.book.entries) gone.ends.after) (ap (λ (t : State). t.space) gone.ends.after)
         (ap (λ (t : State). t.log) gone.ends.after)

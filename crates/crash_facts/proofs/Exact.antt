@@ -1,6 +1,6 @@
 -- How exact the bitmap is, with the operations of each fair selection of the intents under way.
 use Rattle.std.proofs.Common.{◌≡◌, ℕ, ◌≤◌, true, List, [], ◌∷◌, ◌++◌, length, Option, Some, None}
-use Rattle.std.proofs.Common.{refl, sym, ap, subst, ◌∙◌, append-nil}
+use Rattle.std.proofs.Common.{refl, sym, ap, subst, ◌∙◌}
 use Rattle.std.proofs.lemmas.Option.{same_Some}
 use Rattle.std.proofs.lemmas.List.{take-append-le}
 use Rattle.unit_fields.specs.declared.width.Width.{Width}
@@ -10,12 +10,12 @@ use Rattle.block_device.specs.Facts.{with_event}
 use Rattle.block_device.specs.declared.event.Event.{Event}
 use Rattle.block_device.specs.declared.event.Event.TheVariants.{Write, Flush, Done}
 use Rattle.meta_rows.specs.declared.row_op.RowOp.{RowOp}
-use Rattle.meta_rows.specs.Rows.{Rows, row_after, rows_after}
+use Rattle.meta_rows.specs.Rows.{Rows, rows_after}
 use Rattle.meta_log.specs.Slots.{width_of}
 use Rattle.store_image.specs.Owners.{IsLeaked, IsExactBut, IsExactAs}
 use Rattle.store_image.specs.Exact.{IsLeakedIn}
 use Rattle.store_image.proofs.ExactLemmas.{renamed, is_left_out}
-use Rattle.store_steps.specs.Intents.{Intent, intents, is_in, rows_by, ops_by}
+use Rattle.store_steps.specs.Intents.{Intent, intents, is_in, rows_by}
 use Rattle.store_steps.specs.UnderWay.{uncommitted, begun_ops}
 use Rattle.store_steps.specs.Parts.{RowsPart, rows_part}
 use Rattle.store_steps.specs.Touch.{Touch, after, run_write}

@@ -1,5 +1,5 @@
 -- What rows and units stand for with each selection, once one more is under way.
-use Rattle.std.proofs.Common.{◌≡◌, inl, inr, ℕ, ◌<◌, ◌^◌, Bool, true, false, cond, List, [], ◌∷◌, ◌++◌, filter, Option, Ok, Result}
+use Rattle.std.proofs.Common.{◌≡◌, inl, inr, ℕ, ◌<◌, ◌^◌, Bool, true, false, cond, List, [], ◌∷◌, ◌++◌, Option, Ok, Result}
 use Rattle.std.proofs.Common.{Contains, is_some, refl, sym, ap, subst, ◌∙◌, append-nil}
 use Rattle.std.specs.Prelude.{IsSome}
 use Rattle.std.specs.List.{AllByRecursion, cons_option}

@@ -1,18 +1,14 @@
 -- A crash now leaves the objects after a front of the commits: after the applied ones, or, once the record of the open batch was given to
 -- the device, perhaps after all.
-use Rattle.std.proofs.Common.{◌≡◌, ◌≢◌, ℕ, zero, suc, ◌+◌, ◌-◌, ◌<◌, ◌≤◌, true, List, [], ◌∷◌, ◌++◌, length, take, Option, Some, None}
+use Rattle.std.proofs.Common.{◌≡◌, ℕ, zero, suc, ◌+◌, ◌-◌, ◌<◌, ◌≤◌, List, [], length, Option, Some, None}
 use Rattle.std.proofs.Common.{slice_get, is_some, nat_lt}
-use Rattle.std.proofs.Common.{refl, sym, ap, subst, ◌∙◌, append-nil, arith}
-use Rattle.std.specs.Prelude.{IfSome, IsSomeAnd, Contains}
-use Rattle.std.specs.List.{AllByRecursion}
-use Rattle.std.specs.Option.{option_map_or}
+use Rattle.std.proofs.Common.{refl, sym, ap, subst, ◌∙◌, arith}
+use Rattle.std.specs.Prelude.{IfSome, IsSomeAnd}
 use Rattle.std.proofs.lemmas.Bool.{ltb-true}
-use Rattle.std.proofs.lemmas.Option.{same_Some}
 use Rattle.std.proofs.lemmas.List.{take_all}
 use Rattle.byte_maps.specs.Units.{IsUnits}
 use Rattle.block_device.specs.Log.{last}
 use Rattle.block_device.specs.Disk.{Disk, History}
-use Rattle.block_device.specs.Facts.{last_at}
 use Rattle.object_model.specs.Objects.{Objects}
 use Rattle.object_model.specs.Effect.{replay}
 use Rattle.object_model.specs.Book.{committed, IsAckedBy, HasAcked}
@@ -23,39 +19,24 @@ use Rattle.meta_log.specs.Records.{unit_count}
 use Rattle.meta_log.specs.Pieces.{given_from}
 use Rattle.meta_log.proofs.PieceLemmas.{given_from-none}
 use Rattle.meta_log.specs.Slots.{width_of}
-use Rattle.store_image.specs.BadRows.{NoBadRow}
-use Rattle.store_image.specs.Owners.{IsOwned, IsMarked}
 use Rattle.store_image.specs.Exact.{IsLeakedIn}
 use Rattle.store_image.specs.Durability.{LeavesPrefix}
-use Rattle.store_image.proofs.OwnedUnits.{objects_stand}
-use Rattle.store_image.proofs.PageUnits.{page_owned}
 use Rattle.log_facts.specs.Flushing.{flushed}
 use Rattle.log_facts.specs.Soundness.{SoundFor}
 use Rattle.log_facts.proofs.Cuts.{cut_stands}
-use Rattle.plan_rows.specs.declared.plan.FreshUnit.{FreshUnit}
-use Rattle.store_steps.specs.declared.context.Context.{Context}
 use Rattle.store_steps.specs.declared.flight.FlushState.{FlushState}
 use Rattle.meta_store.specs.Store.{Begun}
 use Rattle.store_steps.specs.State.{Batch, State}
 use Rattle.store_steps.specs.Ready.{applied_count}
 use Rattle.store_facts.specs.Room.{AcksAre}
-use Rattle.store_facts.specs.Space.{AreRowsKept}
 use Rattle.store_steps.specs.UnderWay.{uncommitted, all_fresh, flush_of, begun_ops, submitted_from, second_flush}
 use Rattle.store_facts.specs.Kept.{IsKept}
 use Rattle.store_facts.proofs.Conditions.{batch_written, given_flushed}
 use Rattle.store_facts.proofs.Pieces.{some_units}
-use Rattle.plan_rows.proofs.OnData.{owned_on_data}
-use Rattle.book_facts.specs.BookFacts.{places, KnownOfBook}
-use Rattle.book_facts.specs.Selections.{applied_changes, changes_of, SelectionsStand}
-use Rattle.book_facts.proofs.Selecting.{none_selected, all_selected}
+use Rattle.book_facts.specs.Selections.{applied_changes, changes_of}
 use Rattle.book_facts.proofs.Applied.{applied_committed, batch_last}
 use Rattle.unit_facts.specs.DataUnits.{UnitsAreFlushed, BatchUnitsAreFlushed}
-use Rattle.store_steps.specs.Intents.{Intent, intent_of, intents, is_in, rows_by, taken_by}
-use Rattle.store_steps.specs.Parts.{rows_part}
-use Rattle.selections.proofs.Selecting.{fair_all}
-use Rattle.space_facts.proofs.Lists.{listed_all}
-use Rattle.space_facts.proofs.Selected.{selection_good}
-use Rattle.crash_facts.specs.HeldBytes.{fresh_by, held_or_last}
+use Rattle.store_steps.specs.Intents.{intents}
 use Rattle.crash_facts.specs.Store.{contents_at, KnownOfStore}
 use Rattle.crash_facts.proofs.Exact.{IsOfBatch, rows_exact, batch_first, begun_of, kept_begun}
 use Rattle.crash_facts.proofs.Fronts.{front_sound}

@@ -1,10 +1,9 @@
 -- What rows and units stand for with each selection of what is under way, over each call.
 use Rattle.std.proofs.Common.{◌≡◌, ◌≢◌, ℕ, ◌+◌, ◌≤◌, true, List, [], ◌∷◌, ◌++◌, length, take, is_some, None}
-use Rattle.std.proofs.Common.{refl, sym, ap, subst, ◌∙◌, append-nil, arith}
+use Rattle.std.proofs.Common.{refl, sym, ap, subst, ◌∙◌, arith}
 use Rattle.std.specs.Prelude.{IsSome}
 use Rattle.std.specs.List.{AllByRecursion}
-use Rattle.std.proofs.lemmas.List.{take_all, take-append-le}
-use Rattle.std.proofs.lemmas.Option.{same_Some}
+use Rattle.std.proofs.lemmas.List.{take-append-le}
 use Rattle.unit_fields.specs.declared.width.Width.{Width}
 use Rattle.byte_maps.specs.Units.{IsUnits}
 use Rattle.block_device.specs.Log.{last}
@@ -14,8 +13,7 @@ use Rattle.block_device.specs.declared.event.Event.TheVariants.{Write, Flush, Do
 use Rattle.object_model.specs.Objects.{Objects}
 use Rattle.object_model.specs.Effect.{Change, replay}
 use Rattle.object_model.specs.Book.{committed, change_at}
-use Rattle.meta_rows.specs.declared.row_op.RowOp.{RowOp}
-use Rattle.meta_rows.specs.Rows.{Rows, rows_after}
+use Rattle.meta_rows.specs.Rows.{Rows}
 use Rattle.meta_log.specs.Slots.{width_of, IsSuper}
 use Rattle.store_image.specs.BadRows.{NoBadRow}
 use Rattle.store_image.specs.Pages.{HasPage}
@@ -24,12 +22,10 @@ use Rattle.store_image.proofs.OwnedUnits.{objects_stand}
 use Rattle.store_image.proofs.PageUnits.{page_owned}
 use Rattle.log_facts.proofs.Keeping.{last_push, half_before_data}
 use Rattle.plan_rows.specs.declared.plan.FreshUnit.{FreshUnit}
-use Rattle.store_steps.specs.declared.context.Context.{Context}
 use Rattle.store_steps.specs.declared.step.Step.TheVariants as step
 use Rattle.store_steps.specs.State.{Batch, State}
 use Rattle.store_steps.specs.Contexts.{unsent_units}
 use Rattle.store_steps.specs.Changes.{acknowledged, committed_batch}
-use Rattle.store_steps.specs.Ready.{is_ready_up}
 use Rattle.store_steps.specs.Steps.{DoesCommit}
 use Rattle.store_steps.specs.Intents.{Intent, intents, is_in, rows_by}
 use Rattle.store_steps.specs.UnderWay.{uncommitted, given_fresh}

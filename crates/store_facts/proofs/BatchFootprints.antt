@@ -1,12 +1,8 @@
 -- The footprints of the steps of a batch: Take, Flush, Seal, Record, Sync; and of Finish.
-use Rattle.std.proofs.Common.{◌≡◌, true, ℕ, ◌+◌, ◌-◌, ◌*◌, ◌≤◌, Bool, cond, not, List, [], ◌∷◌, ◌++◌, length, Option, Some, None, refl, sym, ap, subst, ◌∙◌, arith, append-nil, length-append, map, is_some, is_none, take}
-use Rattle.std.specs.List.{AllByRecursion}
+use Rattle.std.proofs.Common.{◌≡◌, true, ℕ, ◌+◌, ◌-◌, ◌*◌, ◌≤◌, List, [], ◌∷◌, ◌++◌, length, Option, Some, None, refl, sym, ap, subst, ◌∙◌, arith, length-append, map, is_some, is_none, take}
 use Rattle.std.specs.Option.{option_map_or}
-use Rattle.std.proofs.lemmas.Bool.{eq-eqb}
-use Rattle.std.proofs.lemmas.List.Elements.{All-nil}
 use Rattle.byte_maps.specs.Units.{units_from}
-use Rattle.block_device.specs.Disk.{Disk, Flight, IsApart}
-use Rattle.block_device.specs.Facts.{IsUntouched}
+use Rattle.block_device.specs.Disk.{Disk}
 use Rattle.meta_rows.specs.declared.row_op.RowOp.{RowOp}
 use Rattle.meta_log.specs.Records.{unit_count, record_units}
 use Rattle.meta_log.specs.Slots.{active_unit}
@@ -23,13 +19,13 @@ use Rattle.store_steps.specs.Changes.{finished, taken_up, flush_sent, sync_sent,
 use Rattle.store_steps.specs.Ready.{is_ready}
 use Rattle.store_steps.specs.Steps.{DoesTake, DoesFlush, DoesSeal, DoesRecord, DoesSync, DoesFinish, piece_unit, piece_bytes}
 use Rattle.store_facts.specs.Kept.{IsKept}
-use Rattle.store_steps.specs.UnderWay.{uncommitted, given_fresh, all_fresh, begun_ops, submitted_from, second_flush}
+use Rattle.store_steps.specs.UnderWay.{uncommitted, given_fresh, begun_ops, submitted_from, second_flush}
 use Rattle.store_facts.proofs.Conditions.{HasRecord, ReadyRecord, number_low, seal_none}
 use Rattle.store_facts.proofs.Readiness.{ready_not_down, ready_by_table}
 use Rattle.store_facts.proofs.Numbers.{acknowledged_length}
 use Rattle.store_facts.proofs.Known.{flush_covers, sync_covers, known_seal, known_record, piece_lies, piece_size}
 use Rattle.store_steps.specs.Intents.{Intent, intent_of, intents, is_in}
-use Rattle.store_steps.specs.Parts.{rows_part, data_part, half_part, book_part}
+use Rattle.store_steps.specs.Parts.{data_part, half_part, book_part}
 use Rattle.store_steps.specs.Touch.{Adds, nothing, flushes, on_half}
 use Rattle.store_steps.specs.RowsGo as rows
 use Rattle.store_steps.specs.DataGoes as units

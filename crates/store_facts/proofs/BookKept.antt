@@ -1,11 +1,10 @@
 -- What a call makes of the book keeps what is kept of it.
-use Rattle.std.proofs.Common.{◌≡◌, ℕ, ◌+◌, ◌<◌, ◌≤◌, true, List, [], ◌∷◌, ◌++◌, length, None, refl, sym, ap, subst, ◌∙◌, append_assoc, append-nil, length-append, arith}
+use Rattle.std.proofs.Common.{◌≡◌, ℕ, ◌+◌, ◌<◌, ◌≤◌, true, List, [], ◌∷◌, ◌++◌, length, None, refl, sym, subst, append_assoc, append-nil, length-append, arith}
 use Rattle.std.proofs.lemmas.Bool.{ltb-true}
 use Rattle.block_device.specs.Disk.{Disk}
 use Rattle.object_model.specs.declared.book.Commit.{Commit}
 use Rattle.store_steps.specs.declared.step.Step.TheVariants.{Finish}
 use Rattle.store_steps.specs.State.{State}
-use Rattle.store_steps.specs.Changes.{acknowledged}
 use Rattle.store_steps.specs.Ready.{applied_count, is_ready}
 use Rattle.store_steps.specs.Intents.{Intent}
 use Rattle.store_steps.specs.Parts.{RowsPart, BookPart, book_part}

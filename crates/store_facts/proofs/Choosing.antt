@@ -1,5 +1,5 @@
 -- The context that the next batch takes: all of its units have reached the device, and none before it has a name of it.
-use Rattle.std.proofs.Common.{◌≡◌, ◌&&◌, ◌||◌, Bool, true, false, cond, not, List, [], ◌∷◌, ◌++◌, length, Option, Some, refl, sym, ap, subst, ◌∙◌}
+use Rattle.std.proofs.Common.{◌≡◌, ◌&&◌, ◌||◌, Bool, true, false, cond, not, List, [], ◌∷◌, ◌++◌, length, Some, refl, ap, subst, ◌∙◌}
 use Rattle.std.proofs.lemmas.Bool.{eqb-true, or_parts}
 use Rattle.std.proofs.lemmas.Option.{same_Some}
 use Rattle.std.specs.Prelude.{ℕ}
@@ -8,7 +8,7 @@ use Rattle.object_model.proofs.Names.{none_common}
 use Rattle.selections.specs.Fair.{under}
 use Rattle.store_steps.specs.declared.context.Context.{Context}
 use Rattle.store_steps.specs.Contexts.{is_done, colls_of, chosen_behind}
-use Rattle.store_steps.specs.Intents.{Intent, intent_of, intents, is_in}
+use Rattle.store_steps.specs.Intents.{intent_of, intents, is_in}
 
 -- it stands among those that wait, and those before it have other names; so have these, which were taken before
 pub record IsFirst (names : List (List ℕ)) (x : Context) (xs : List Context) : Type 0 where

@@ -1,5 +1,5 @@
 -- What is known where a step is ready: the conditions under which the kernel calls the device and the log.
-use Rattle.std.proofs.Common.{◌≡◌, ℕ, ◌+◌, ◌-◌, ◌*◌, ◌^◌, ◌<◌, ◌≤◌, ◌==◌, ◌&&◌, Bool, true, false, nat_lt, List, [], ◌∷◌, ◌++◌, length, drop, Option, Some, None, is_some, is_none, refl, sym, ap, subst, ◌∙◌, arith}
+use Rattle.std.proofs.Common.{◌≡◌, ℕ, ◌+◌, ◌-◌, ◌*◌, ◌^◌, ◌<◌, ◌≤◌, ◌&&◌, Bool, true, nat_lt, List, [], ◌∷◌, ◌++◌, length, Option, Some, None, is_some, is_none, refl, sym, ap, subst, ◌∙◌, arith}
 use Rattle.std.specs.List.{AllByRecursion, flat_map}
 use Rattle.std.specs.Option.{option_map_or}
 use Rattle.std.proofs.lemmas.Bool.{and_parts, ltb-true}
@@ -8,23 +8,22 @@ use Rattle.meta_rows.specs.declared.row_op.RowOp.{RowOp}
 use Rattle.meta_rows.specs.Spelling.{ops_bytes, FitsRowOp, AllFit}
 use Rattle.meta_log.specs.Records.{unit_count}
 use Rattle.meta_log.specs.Pieces.{piece_count}
-use Rattle.plan_rows.specs.declared.plan.FreshUnit.{FreshUnit}
 use Rattle.store_steps.specs.declared.context.Context.{Context}
 use Rattle.store_steps.specs.declared.flight.FlushState.{FlushState}
 use Rattle.store_steps.specs.declared.flight.FlushState.TheVariants as flush
 use Rattle.store_steps.specs.declared.flight.Flying.{Flying}
-use Rattle.store_steps.specs.declared.step.Step.TheVariants.{Data, Take, Flush, Seal, Record, Sync, Commit, Finish}
+use Rattle.store_steps.specs.declared.step.Step.TheVariants.{Take, Seal, Record, Commit, Finish}
 use Rattle.meta_store.specs.Store.{Begun}
 use Rattle.store_steps.specs.State.{Batch, State}
 use Rattle.store_steps.specs.Contexts.{Unsent, unsent_units, run_bytes, next_unsent, chosen, batch_ops, sum_needs}
-use Rattle.store_steps.specs.Ready.{is_not_sent, is_flushed, pieces_of, batch_is, begun_is, applied_count, is_ready_up}
+use Rattle.store_steps.specs.Ready.{is_flushed, pieces_of, batch_is, begun_is, applied_count, is_ready_up}
 use Rattle.store_steps.specs.UnderWay.{uncommitted}
 use Rattle.store_steps.specs.Intents.{intent_of, intents, needs_by}
 use Rattle.store_steps.specs.Parts.{rows_part}
 use Rattle.store_facts.specs.Flights.{IsWritten, IsUnderWay}
 use Rattle.store_facts.specs.Jobs.{IsBatchOpen, IsLogFar, log_flying, IsAllGiven}
 use Rattle.store_facts.specs.Room.{FitsRecord, HasRoom}
-use Rattle.store_facts.specs.Work.{entry_work, budget, work_left}
+use Rattle.store_facts.specs.Work.{entry_work, work_left}
 use Rattle.store_facts.specs.Kept.{IsAlwaysKept, IsKeptUp}
 use Rattle.store_facts.proofs.Numbers.{NextAcked, next_acked}
 use Rattle.store_facts.proofs.Flying.{same_count}
@@ -33,7 +32,6 @@ use Rattle.store_facts.proofs.RunUnits.{IsRunOf, row_bytes}
 use Rattle.store_facts.proofs.RunPlaces.{run_whole}
 use Rattle.store_facts.proofs.Lists.{StandsIn, all_left, all_right, all_join}
 use Rattle.store_facts.proofs.Underway.{synced_way}
-use Rattle.store_facts.proofs.Matching.{Matches}
 use Rattle.store_facts.proofs.MatchingMore.{next_stands}
 use Rattle.store_facts.proofs.MatchingSteps.{test_of, some_is, none_is}
 

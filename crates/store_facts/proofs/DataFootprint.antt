@@ -1,5 +1,5 @@
 -- The footprint of Data.
-use Rattle.std.proofs.Common.{◌≡◌, ℕ, ◌+◌, ◌*◌, ◌<◌, ◌≤◌, List, [], ◌∷◌, ◌++◌, length, map, take, true, Contains, Option, Some, None, refl, sym, ap, subst, ◌∙◌, append_assoc, arith}
+use Rattle.std.proofs.Common.{◌≡◌, ℕ, ◌+◌, ◌*◌, ◌<◌, List, [], ◌∷◌, ◌++◌, length, map, take, true, Contains, Option, Some, None, refl, sym, ap, subst, ◌∙◌, append_assoc, arith}
 use Rattle.std.specs.List.{AllByRecursion}
 use Rattle.std.specs.Option.{option_map_or}
 use Rattle.unit_fields.specs.UnitSet.{Ascends}
@@ -25,7 +25,7 @@ use Rattle.store_steps.specs.BookGoes as book
 use Rattle.store_steps.specs.Footprint.{Footprint}
 use Rattle.store_facts.specs.Kept.{IsKept}
 use Rattle.store_facts.proofs.Untouched.{all_then}
-use Rattle.store_facts.proofs.Lists.{StandsIn, AreElsewhere, elsewhere, with_at, all_join}
+use Rattle.store_facts.proofs.Lists.{elsewhere, with_at, all_join}
 use Rattle.store_facts.proofs.RunUnits.{IsRunOf, given_units, row_at, row_bytes}
 use Rattle.store_facts.proofs.RunPlaces.{run_has, run_inside, given_before, earlier_spared}
 use Rattle.store_facts.proofs.Readiness.{ready_not_down}

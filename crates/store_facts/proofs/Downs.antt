@@ -6,7 +6,7 @@ use Rattle.store_steps.specs.declared.flight.Flying.{Flying}
 use Rattle.store_steps.specs.declared.flight.Job.{Job}
 use Rattle.store_steps.specs.declared.flight.Job.TheVariants as job
 use Rattle.store_steps.specs.declared.step.Step.{Step}
-use Rattle.store_steps.specs.declared.step.Step.TheVariants.{Data, Reap, Take, Flush, Seal, Record, Sync, Commit, Finish}
+use Rattle.store_steps.specs.declared.step.Step.TheVariants.{Data, Reap, Record}
 use Rattle.store_steps.specs.State.{State}
 use Rattle.store_steps.specs.Changes.{after_done, after_good, flying_of, landed, down_by, reaped}
 use Rattle.store_steps.specs.Steps.{Takes}

@@ -10,7 +10,6 @@ use Rattle.object_model.specs.declared.command.Answer.TheVariants as answer
 use Rattle.object_model.specs.declared.book.Entry.{Entry}
 use Rattle.meta_log.specs.Slots.{IsSuper}
 use Rattle.meta_log.specs.Pieces.{piece_count}
-use Rattle.meta_store.specs.Store.{room_of}
 use Rattle.plan_rows.specs.declared.plan.Plan.{Plan}
 use Rattle.plan_rows.specs.Keeps.{PlansKeep}
 use Rattle.plan_rows.specs.Plans.{IsKnown}
@@ -21,19 +20,17 @@ use Rattle.store_steps.specs.State.{Batch, State}
 use Rattle.store_steps.specs.Ready.{is_ready, applied_count}
 use Rattle.store_steps.specs.Submit.{entry_limit, need_of, context_of, accepted_with, entered, Accepts, Refuses}
 use Rattle.store_steps.specs.Opened.{Found, opened}
-use Rattle.store_steps.specs.Runs.{submitting, stepping, DoesOrFails, MayRead, AnswersRead, Reads}
+use Rattle.store_steps.specs.Runs.{stepping, DoesOrFails, MayRead, AnswersRead, Reads}
 use Rattle.store_steps.specs.Intents.{Intent, intent_of}
 use Rattle.store_steps.specs.Parts.{rows_part, book_part}
 use Rattle.store_steps.specs.RowsGo.{joined}
 use Rattle.store_steps.specs.RowsGo as rows
 use Rattle.store_steps.specs.BookGoes as book
 use Rattle.store_steps.specs.Footprint.{Footprint}
-use Rattle.store_facts.specs.Flights.{AreFlights}
-use Rattle.store_facts.specs.Space.{IsSpaceOf, AreRowsKept}
+use Rattle.store_facts.specs.Space.{AreRowsKept}
 use Rattle.store_facts.specs.Jobs.{AreOfJobs, FlightsMatch}
-use Rattle.store_facts.specs.Room.{HasRoom}
-use Rattle.store_facts.specs.Work.{work_of, sum_work, batch_work, work_left, entry_work, budget, measure}
-use Rattle.store_facts.specs.Kept.{IsAlwaysKept, IsKeptUp, IsKept, IsOpenable}
+use Rattle.store_facts.specs.Work.{sum_work, batch_work, work_left, entry_work, budget, measure}
+use Rattle.store_facts.specs.Kept.{IsAlwaysKept, IsKept, IsOpenable}
 use Rattle.store_facts.proofs.Keeping.{StepOutcome, has_stepped, has_waited, has_gone_down, GoneDown, down_keeps, paid_within, waited_keeps, step_leaves, work_falls}
 use Rattle.store_facts.proofs.Footprints.{intents_push, footprint_of}
 use Rattle.store_facts.proofs.RowsKept.{rows_go}

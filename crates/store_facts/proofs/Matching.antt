@@ -1,42 +1,32 @@
 -- Each step keeps what is in flight, part by part, for any number of contexts.
-use Rattle.std.proofs.Common.{◌≡◌, ◌⊎◌, inl, inr, ℕ, ◌+◌, ◌-◌, ◌*◌, ◌<◌, ◌≤◌, ◌==◌, ◌&&◌, Bool, true, false, cond, not, nat_lt, List, [], ◌∷◌, ◌++◌, length, map, filter, take, drop, suc, Option, Some, None, is_some, is_none, refl, sym, ap, subst, ◌∙◌, append-nil, length-append, arith}
+use Rattle.std.proofs.Common.{◌≡◌, inl, inr, ℕ, ◌+◌, ◌-◌, ◌*◌, ◌<◌, ◌≤◌, Bool, true, false, cond, not, List, [], ◌∷◌, ◌++◌, length, Option, Some, None, refl, sym, ap, subst, ◌∙◌, arith}
 use Rattle.std.specs.List.{AllByRecursion}
-use Rattle.std.specs.Option.{option_map, option_map_or, option_or}
-use Rattle.std.proofs.lemmas.Bool.{eqb-true, ltb-true, cases_lt, cases_Bool, and_parts}
-use Rattle.std.proofs.lemmas.List.{map-append}
-use Rattle.std.proofs.lemmas.Option.{same_Some}
-use Rattle.unit_fields.specs.UnitSet.{Ascends}
+use Rattle.std.proofs.lemmas.Bool.{cases_lt}
 use Rattle.byte_maps.proofs.UnitLemmas.{length-units_from}
-use Rattle.block_device.specs.Disk.{Disk, Flight, flight_of, without, IsApart}
+use Rattle.block_device.specs.Disk.{Flight, flight_of}
 use Rattle.block_device.specs.declared.device.Ticket.{Ticket}
 use Rattle.block_device.specs.declared.event.Event.TheVariants as event
-use Rattle.object_model.specs.Effect.{any_named}
 use Rattle.meta_log.specs.Records.{unit_count, record_units}
 use Rattle.meta_log.specs.Slots.{active_unit}
 use Rattle.meta_log.specs.Pieces.{piece_count, given_from, piece_first, piece_units, LiesInRecord}
 use Rattle.meta_log.proofs.PieceLemmas.{lies}
 use Rattle.meta_log.proofs.SealLemmas.{length-record_units}
-use Rattle.plan_rows.specs.declared.plan.FreshUnit.{FreshUnit}
 use Rattle.store_steps.specs.declared.context.Context.{Context}
-use Rattle.store_steps.specs.declared.flight.FlushState.{FlushState}
 use Rattle.store_steps.specs.declared.flight.FlushState.TheVariants as flush
 use Rattle.store_steps.specs.declared.flight.Flying.{Flying}
 use Rattle.store_steps.specs.declared.flight.Job.{Job}
 use Rattle.store_steps.specs.declared.flight.Job.TheVariants as job
 use Rattle.meta_store.specs.Store.{Meta, Begun}
 use Rattle.store_steps.specs.State.{Batch, State}
-use Rattle.store_steps.specs.Contexts.{Unsent, unsent_units, run_bytes, unsent, next_unsent, is_done, colls_of, chosen_behind, chosen, with_context, without_context, given_more, done_more, batch_ops}
-use Rattle.store_steps.specs.Changes.{data_sent, flush_sent, record_sent, sync_sent, after_done, taken_up, sealed, log_after, committed_batch, written_more, first_flushed, second_flushed}
+use Rattle.store_steps.specs.Contexts.{batch_ops}
+use Rattle.store_steps.specs.Changes.{flush_sent, record_sent, sync_sent, sealed, log_after, committed_batch}
 use Rattle.store_steps.specs.Ready.{is_not_sent, is_flushed, pieces_of}
 use Rattle.store_steps.specs.Steps.{piece_unit, piece_bytes}
-use Rattle.store_facts.specs.Flights.{AreFlights, IsUnderWay}
-use Rattle.store_facts.specs.Jobs.{units_for, units_flying, is_data, log_flying, IsPartGiven, IsAllGiven, AreInPlace, IsBatchOpen, IsLogFar, IsNone, TouchesGiven, AnyByRecursion, IsWriteOf, IsGivenPiece, IsPieceOf, IsOfJob, AreOfJobs, FlightsMatch}
+use Rattle.store_facts.specs.Flights.{IsUnderWay}
+use Rattle.store_facts.specs.Jobs.{units_for, units_flying, is_data, log_flying, IsPartGiven, IsBatchOpen, IsLogFar, IsWriteOf, IsPieceOf, IsOfJob, AreOfJobs, FlightsMatch}
 use Rattle.store_facts.proofs.Untouched.{all_then, apart_before, apart_behind}
-use Rattle.store_facts.proofs.RunUnits.{IsRunOf, run_of_left, row_bytes, row_at, all_drop, all_front, given_units}
-use Rattle.store_facts.proofs.Lists.{all_left, all_right, all_join, StandsIn, any_stands, stands_any, any_map, any_front, AreElsewhere, elsewhere, before_all, behind_all, with_at, without_at}
-use Rattle.store_facts.proofs.Flying.{others_of}
-use Rattle.store_facts.proofs.Landing.{units_both, log_both, IsLeftOut, jobs_then, jobs_sent, jobs_left, IsFlown, jobs_found}
-use Rattle.store_facts.proofs.Underway.{flushing, flush_way, seal_way, record_way, sync_way, synced_way, Flies, first_flies, piece_flies, second_flies, what_flies, first_ended}
+use Rattle.store_facts.proofs.Landing.{units_both, log_both, jobs_then, jobs_sent}
+use Rattle.store_facts.proofs.Underway.{flushing, flush_way, seal_way, record_way, sync_way, synced_way}
 
 -- what is in flight is what the state says
 abbrev pub Matches : State → List Flight → Type 0

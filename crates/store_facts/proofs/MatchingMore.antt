@@ -1,15 +1,13 @@
 -- Data, Take, and the ends of submissions, of any number of contexts; a transaction that joins.
-use Rattle.std.proofs.Common.{◌≡◌, ◌⊎◌, inl, inr, ℕ, ◌+◌, ◌-◌, ◌*◌, ◌<◌, ◌≤◌, ◌==◌, ◌&&◌, Bool, true, false, cond, not, List, [], ◌∷◌, ◌++◌, length, map, take, drop, Option, Some, None, refl, sym, ap, subst, ◌∙◌, append-nil, length-append, arith}
+use Rattle.std.proofs.Common.{◌≡◌, inl, inr, ℕ, ◌+◌, ◌-◌, ◌<◌, ◌≤◌, ◌==◌, Bool, true, false, cond, not, List, [], ◌∷◌, ◌++◌, length, map, take, Option, Some, None, refl, sym, ap, subst, ◌∙◌, append-nil, arith}
 use Rattle.std.specs.List.{AllByRecursion}
 use Rattle.std.specs.Option.{option_map, option_or}
-use Rattle.std.proofs.lemmas.Bool.{eqb-true, eqb-false, eq-eqb, ne_eqb, cases_lt, and_parts}
+use Rattle.std.proofs.lemmas.Bool.{eq-eqb, ne_eqb, cases_lt}
 use Rattle.std.proofs.lemmas.List.{map-append}
-use Rattle.std.proofs.lemmas.Option.{same_Some}
 use Rattle.unit_fields.specs.UnitSet.{Ascends}
 use Rattle.block_device.specs.Disk.{Flight, flight_of, without, IsApart}
 use Rattle.block_device.specs.declared.device.Ticket.{Ticket}
 use Rattle.block_device.specs.declared.event.Event.TheVariants as event
-use Rattle.object_model.specs.Effect.{any_named}
 use Rattle.meta_log.specs.Records.{unit_count}
 use Rattle.meta_log.specs.Pieces.{piece_count}
 use Rattle.plan_rows.specs.declared.plan.FreshUnit.{FreshUnit}
@@ -22,16 +20,16 @@ use Rattle.store_steps.specs.declared.flight.Job.TheVariants as job
 use Rattle.meta_rows.specs.declared.row_op.RowOp.{RowOp}
 use Rattle.meta_store.specs.Store.{Meta, Begun}
 use Rattle.store_steps.specs.State.{Batch, State}
-use Rattle.store_steps.specs.Contexts.{Unsent, unsent_units, run_bytes, unsent, next_unsent, is_done, colls_of, chosen_behind, chosen, with_context, without_context, given_more, done_more, batch_ops}
+use Rattle.store_steps.specs.Contexts.{Unsent, unsent_units, run_bytes, unsent, next_unsent, chosen, with_context, without_context, given_more, done_more, batch_ops}
 use Rattle.store_steps.specs.Changes.{data_sent, after_done, taken_up, written_more, first_flushed, second_flushed}
 use Rattle.store_facts.specs.Flights.{AreFlights, IsNotGiven, IsUnderWay}
-use Rattle.store_facts.specs.Jobs.{units_for, units_flying, is_data, log_flying, IsPartGiven, IsAllGiven, AreInPlace, IsBatchOpen, IsLogFar, IsNone, TouchesGiven, AnyByRecursion, IsWriteOf, IsGivenPiece, IsPieceOf, IsOfJob, AreOfJobs, FlightsMatch}
+use Rattle.store_facts.specs.Jobs.{units_for, units_flying, is_data, log_flying, IsPartGiven, AreInPlace, IsLogFar, IsNone, TouchesGiven, AnyByRecursion, IsWriteOf, IsPieceOf, IsOfJob, AreOfJobs, FlightsMatch}
 use Rattle.store_steps.specs.Intents.{intent_of}
 use Rattle.store_facts.specs.Room.{FitsRecord}
 use Rattle.store_facts.proofs.Untouched.{all_then, apart_before, apart_behind}
-use Rattle.store_facts.proofs.RunUnits.{IsRunOf, run_of_left, row_bytes, row_at, all_drop, all_front, given_units}
+use Rattle.store_facts.proofs.RunUnits.{IsRunOf, run_of_left, row_bytes, row_at, all_front, given_units}
 use Rattle.store_facts.proofs.RunPlaces.{run_whole}
-use Rattle.store_facts.proofs.Lists.{all_left, all_right, all_join, StandsIn, any_stands, stands_any, any_map, any_front, AreElsewhere, elsewhere, before_all, behind_all, with_at, without_at}
+use Rattle.store_facts.proofs.Lists.{all_left, all_right, all_join, StandsIn, any_stands, stands_any, any_front, AreElsewhere, elsewhere, before_all, behind_all, with_at, without_at}
 use Rattle.store_facts.proofs.Flying.{others_of}
 use Rattle.store_facts.proofs.Landing.{units_both, log_both, IsLeftOut, jobs_then, jobs_sent, jobs_left, IsFlown, jobs_found}
 use Rattle.store_facts.proofs.Underway.{flushing, Flies, first_flies, piece_flies, second_flies, what_flies, first_ended, no_front}

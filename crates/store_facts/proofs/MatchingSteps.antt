@@ -1,26 +1,20 @@
 -- Each step that leaves the kernel up keeps what is in flight, for any number of contexts.
-use Rattle.std.proofs.Common.{◌≡◌, ◌⊎◌, inl, inr, ℕ, ◌+◌, ◌<◌, ◌==◌, ◌&&◌, Bool, true, false, nat_lt, List, [], ◌∷◌, ◌++◌, length, Option, Some, None, is_some, is_none, refl, sym, ap, subst, ◌∙◌}
+use Rattle.std.proofs.Common.{◌≡◌, inl, inr, ◌+◌, ◌==◌, ◌&&◌, Bool, true, false, nat_lt, List, length, Option, Some, None, is_some, is_none, refl, sym, ap, subst, ◌∙◌}
 use Rattle.std.specs.List.{AllByRecursion}
 use Rattle.std.specs.Option.{option_map_or}
 use Rattle.std.proofs.lemmas.Bool.{and_parts, eqb-true, ltb-true}
-use Rattle.std.proofs.lemmas.Option.{same_Some}
-use Rattle.block_device.specs.Disk.{Disk, Flight, flight_of, without, Waited}
-use Rattle.block_device.specs.declared.device.Ticket.{Ticket}
+use Rattle.block_device.specs.Disk.{Disk, Flight, Waited}
 use Rattle.block_device.specs.declared.event.Event.TheVariants as event
-use Rattle.store_steps.specs.declared.context.Context.{Context}
-use Rattle.store_steps.specs.declared.step.Step.{Step}
-use Rattle.store_steps.specs.declared.step.Step.TheVariants.{Data, Reap, Take, Flush, Seal, Record, Sync, Commit, Finish}
+use Rattle.store_steps.specs.declared.step.Step.TheVariants.{Flush, Seal, Record, Sync, Commit}
 use Rattle.meta_store.specs.Store.{Begun}
 use Rattle.store_steps.specs.State.{Batch, State}
-use Rattle.store_steps.specs.Contexts.{Unsent, unsent_units, run_bytes, chosen}
-use Rattle.store_steps.specs.Changes.{down_by}
+use Rattle.store_steps.specs.Contexts.{Unsent, unsent_units, run_bytes}
 use Rattle.store_steps.specs.Ready.{is_not_sent, is_flushed, pieces_of, batch_is, begun_is, is_ready_up}
 use Rattle.store_steps.specs.Steps.{Takes, DoesData, DoesTake, DoesFlush, DoesSeal, DoesRecord, DoesSync, DoesCommit, DoesFinish, piece_unit, piece_bytes}
-use Rattle.store_steps.specs.Runs.{DoesOrFails}
 use Rattle.store_facts.specs.Flights.{AreFlights}
 use Rattle.store_steps.specs.Intents.{intent_of}
 use Rattle.store_facts.specs.Room.{FitsRecord}
-use Rattle.store_facts.proofs.Flying.{others_of, sent_flights, Landed, landed_flight, reaped_good}
+use Rattle.store_facts.proofs.Flying.{sent_flights, Landed, landed_flight, reaped_good}
 use Rattle.store_facts.proofs.Landing.{IsLeftOut, left_out}
 use Rattle.store_facts.proofs.Matching.{Matches, flush_matches, sync_matches, seal_matches, record_matches, commit_matches}
 use Rattle.store_facts.proofs.MatchingMore.{data_matches, take_matches, reap_matches}

@@ -7,10 +7,9 @@ use Rattle.store_steps.specs.State.{State}
 use Rattle.plan_rows.specs.declared.plan.FreshUnit.{FreshUnit}
 use Rattle.store_steps.specs.Contexts.{with_context}
 use Rattle.store_steps.specs.UnderWay.{given_fresh}
-use Rattle.selections.specs.Fair.{IsComplete}
-use Rattle.store_steps.specs.Intents.{Intent, intent_of, intents, is_in}
-use Rattle.store_steps.specs.Parts.{RowsPart, BookPart, rows_part, data_part, half_part, book_part}
-use Rattle.store_steps.specs.Touch.{Touch, Adds, nothing}
+use Rattle.store_steps.specs.Intents.{Intent, intent_of, intents}
+use Rattle.store_steps.specs.Parts.{rows_part, data_part, half_part, book_part}
+use Rattle.store_steps.specs.Touch.{Adds, nothing}
 use Rattle.store_steps.specs.RowsGo as rows
 use Rattle.store_steps.specs.DataGoes as units
 use Rattle.store_steps.specs.HalfGoes as half

@@ -1,13 +1,11 @@
 -- What each step pays: it leaves less work, for any number of contexts, and what else it does to the device and to the counts.
-use Rattle.std.proofs.Common.{◌≡◌, inl, inr, ℕ, ◌+◌, ◌-◌, ◌*◌, ◌<◌, ◌≤◌, ◌==◌, ◌&&◌, Bool, true, false, cond, nat_lt, suc, List, [], ◌∷◌, ◌++◌, length, map, Option, Some, None, is_some, is_none, refl, sym, ap, subst, ◌∙◌, length-append, append-nil, arith}
+use Rattle.std.proofs.Common.{◌≡◌, ℕ, ◌+◌, ◌-◌, ◌*◌, ◌<◌, ◌≤◌, ◌==◌, ◌&&◌, Bool, true, false, cond, nat_lt, suc, List, [], ◌∷◌, ◌++◌, length, map, Option, Some, None, refl, sym, ap, subst, ◌∙◌, length-append, append-nil, arith}
 use Rattle.std.specs.List.{AllByRecursion}
 use Rattle.std.specs.Option.{option_map, option_map_or}
 use Rattle.std.proofs.lemmas.Bool.{and_parts, ltb-true}
-use Rattle.block_device.specs.Disk.{Disk, Waited}
-use Rattle.block_device.specs.declared.device.Ticket.{Ticket}
+use Rattle.block_device.specs.Disk.{Disk}
 use Rattle.block_device.specs.declared.event.Event.{Event}
 use Rattle.block_device.specs.declared.event.Event.TheVariants as event
-use Rattle.object_model.specs.declared.book.Entry.{Entry}
 use Rattle.unit_fields.specs.UnitSet.{Ascends}
 use Rattle.meta_log.specs.Records.{unit_count}
 use Rattle.meta_log.specs.Pieces.{piece_count}
@@ -18,17 +16,16 @@ use Rattle.store_steps.specs.declared.flight.FlushState.TheVariants as flush
 use Rattle.store_steps.specs.declared.flight.Flying.{Flying}
 use Rattle.store_steps.specs.declared.flight.Job.{Job}
 use Rattle.store_steps.specs.declared.flight.Job.TheVariants as job
-use Rattle.store_steps.specs.declared.step.Step.{Step}
-use Rattle.store_steps.specs.declared.step.Step.TheVariants.{Data, Reap, Take, Flush, Seal, Record, Sync, Commit, Finish}
+use Rattle.store_steps.specs.declared.step.Step.TheVariants.{Data, Flush, Record, Sync, Finish}
 use Rattle.meta_store.specs.Store.{Meta, Begun}
 use Rattle.store_steps.specs.State.{Batch, State}
-use Rattle.store_steps.specs.Contexts.{Unsent, unsent_units, run_bytes, given_more, done_more, with_context, without_context, chosen, batch_ops}
-use Rattle.store_steps.specs.Changes.{after_done, first_flushed, second_flushed, written_more, flush_sent, record_sent, sync_sent, sealed, taken_up, commit_of, committed_batch, finished, acknowledged}
+use Rattle.store_steps.specs.Contexts.{Unsent, unsent_units, run_bytes, given_more, done_more, with_context, without_context, batch_ops}
+use Rattle.store_steps.specs.Changes.{after_done, first_flushed, second_flushed, written_more, record_sent, sealed, commit_of, acknowledged}
 use Rattle.store_steps.specs.Ready.{is_not_sent, is_flushed, pieces_of, batch_is, begun_is, applied_count, is_ready_up}
 use Rattle.store_steps.specs.Steps.{Takes, DoesData, DoesTake, DoesFlush, DoesSeal, DoesRecord, DoesSync, DoesCommit, DoesFinish, piece_unit, piece_bytes}
 use Rattle.store_steps.specs.Intents.{intent_of}
 use Rattle.store_facts.specs.Flights.{AreFlights}
-use Rattle.store_facts.specs.Jobs.{FlightsMatch, IsLogFar, log_flying}
+use Rattle.store_facts.specs.Jobs.{IsLogFar, log_flying}
 use Rattle.store_facts.specs.Room.{FitsRecord}
 use Rattle.store_facts.specs.Work.{work_of, sum_work, flush_work, record_work, batch_work, work_left}
 use Rattle.store_facts.proofs.Flying.{sent_flight, sent_units, others_of, Landed, landed_flight, reaped_good}
@@ -39,7 +36,7 @@ use Rattle.store_facts.proofs.Numbers.{acknowledged_length}
 use Rattle.store_facts.proofs.Choosing.{IsFirst, chosen_first}
 use Rattle.store_facts.proofs.Matching.{Matches}
 use Rattle.store_facts.proofs.MatchingMore.{next_stands, new_batch}
-use Rattle.store_facts.proofs.MatchingSteps.{test_of, some_is, none_is}
+use Rattle.store_facts.proofs.MatchingSteps.{test_of}
 
 -- no entry is made, what waits becomes a commit at most, and events and records come one by one
 pub record IsNear (s s' : State) : Type 0 where

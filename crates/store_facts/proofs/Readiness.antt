@@ -1,8 +1,8 @@
 -- Which steps are ready, taken apart; and that nothing is under way where none is.
-use Rattle.std.proofs.Common.{◌≡◌, ℕ, ◌+◌, ◌-◌, ◌<◌, ◌≤◌, ◌==◌, ◌&&◌, Bool, true, false, cond, not, nat_lt, List, [], ◌∷◌, ◌++◌, filter, length, drop, Option, Some, None, is_some, is_none, refl, sym, ap, subst, ◌∙◌, length-drop, arith}
+use Rattle.std.proofs.Common.{◌≡◌, ℕ, ◌+◌, ◌-◌, ◌≤◌, ◌==◌, ◌&&◌, Bool, true, false, cond, not, nat_lt, List, [], ◌∷◌, ◌++◌, filter, length, drop, Option, Some, None, is_some, is_none, refl, sym, ap, subst, ◌∙◌, length-drop, arith}
 use Rattle.std.specs.List.{AllByRecursion}
 use Rattle.std.specs.Option.{option_map_or, option_or}
-use Rattle.std.proofs.lemmas.Bool.{eq-eqb, lt-ltb, cases_lt, ltb-false}
+use Rattle.std.proofs.lemmas.Bool.{eq-eqb, lt-ltb, ltb-false}
 use Rattle.block_device.specs.Disk.{Disk}
 use Rattle.block_device.specs.declared.device.Ticket.{Ticket}
 use Rattle.meta_rows.specs.declared.row_op.RowOp.{RowOp}
@@ -17,7 +17,7 @@ use Rattle.store_steps.specs.declared.step.Step.{Step}
 use Rattle.store_steps.specs.declared.step.Step.TheVariants.{Data, Reap, Take, Flush, Seal, Record, Sync, Commit, Finish}
 use Rattle.meta_store.specs.Store.{Begun}
 use Rattle.store_steps.specs.State.{Batch, State}
-use Rattle.store_steps.specs.Contexts.{unsent, next_unsent, run_of, is_done, chosen, chosen_behind, colls_of, batch_ops}
+use Rattle.store_steps.specs.Contexts.{next_unsent, run_of, is_done, chosen, chosen_behind, colls_of, batch_ops}
 use Rattle.store_steps.specs.Ready.{is_empty, is_not_sent, is_flushed, pieces_of, batch_is, begun_is, applied_count, is_ready_up, is_ready_down, is_ready, all_steps, is_drained}
 use Rattle.store_facts.specs.Flights.{IsUnderWay}
 use Rattle.store_facts.specs.Jobs.{IsPartGiven, IsBatchOpen, IsLogFar, log_flying}

@@ -1,8 +1,8 @@
 -- What a call makes of the rows keeps the room that transactions have reserved in the log, and which units are those of the store.
-use Rattle.std.proofs.Common.{◌≡◌, ℕ, ◌+◌, ◌-◌, ◌≤◌, Bool, true, false, cond, List, [], ◌∷◌, ◌++◌, filter, fold, map, sym, ap, subst, ◌∙◌, arith}
+use Rattle.std.proofs.Common.{◌≡◌, ℕ, ◌+◌, ◌-◌, ◌≤◌, List, [], ◌∷◌, ◌++◌, fold, map, sym, ap, subst, ◌∙◌, arith}
 use Rattle.std.specs.List.{AllByRecursion}
 use Rattle.meta_log.specs.Records.{unit_count}
-use Rattle.selections.specs.Fair.{under, IsComplete}
+use Rattle.selections.specs.Fair.{IsComplete}
 use Rattle.selections.proofs.Selecting.{complete_is_fair, all_selected}
 use Rattle.selections.proofs.Order.{fold_alike, each_is}
 use Rattle.space_facts.proofs.Rows.{each_named}

@@ -1,11 +1,5 @@
 -- A transaction that is accepted has a plan over the submitted rows, by which it joins those under way.
-use Rattle.std.proofs.Common.{◌≡◌, ℕ, ◌+◌, ◌≤◌, List, ◌++◌, length, sym, ap, subst, ◌∙◌, arith, length-append}
-use Rattle.std.specs.Int.{w32, to_le_bytes}
-use Rattle.byte_maps.specs.Units.{units_for}
-use Rattle.crc32c_csum.specs.Crc32c.{crc32c}
-use Rattle.meta_rows.specs.declared.row_op.RowOp.{RowOp}
-use Rattle.meta_rows.specs.Spelling.{ops_bytes}
-use Rattle.meta_log.specs.Records.{record_head, record_bytes, unit_count}
+use Rattle.std.proofs.Common.{ℕ, ◌≤◌, List, length, sym, subst, arith}
 use Rattle.meta_log.specs.Slots.{IsSuper}
 use Rattle.object_model.specs.Effect.{Change, names_of}
 use Rattle.plan_rows.specs.Plans.{IsKnown, AreFreeOver}

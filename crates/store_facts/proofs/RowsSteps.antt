@@ -1,5 +1,5 @@
 -- A call that makes no entry of the book lets none join the rows.
-use Rattle.std.proofs.Common.{◌≡◌, ℕ, ◌+◌, List, [], ◌∷◌, ◌++◌, length, ap, ◌∙◌, length-append, arith}
+use Rattle.std.proofs.Common.{◌≡◌, ℕ, ◌+◌, List, [], ◌∷◌, length, ap, ◌∙◌, length-append, arith}
 use Rattle.block_device.specs.Disk.{Disk}
 use Rattle.object_model.specs.declared.book.Entry.{Entry}
 use Rattle.store_steps.specs.State.{State}

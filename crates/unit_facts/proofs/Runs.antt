@@ -2,7 +2,7 @@
 use Rattle.std.proofs.Common.{◌≡◌, inl, inr, ℕ, ◌+◌, ◌-◌, ◌<◌, List, [], ◌∷◌, true, Option, None, sym, ap, subst, ◌∙◌, arith}
 use Rattle.std.proofs.lemmas.Bool.{cases_lt}
 use Rattle.block_device.specs.Log.{IsClean}
-use Rattle.block_device.specs.Disk.{Disk, History, IsSound}
+use Rattle.block_device.specs.Disk.{Disk, History}
 use Rattle.meta_rows.specs.declared.row_op.RowOp.{RowOp}
 use Rattle.meta_rows.specs.Rows.{Rows}
 use Rattle.meta_log.specs.declared.slot.Super.{Super}
@@ -12,7 +12,7 @@ use Rattle.store_steps.specs.declared.context.Context.{Context}
 use Rattle.meta_store.specs.Store.{Begun}
 use Rattle.store_steps.specs.State.{State}
 use Rattle.store_steps.specs.Ready.{is_drained}
-use Rattle.store_steps.specs.Runs.{Call, submitting, reading, stepping, Calls, Submits, IsRun}
+use Rattle.store_steps.specs.Runs.{Call, IsRun}
 use Rattle.store_steps.specs.UnderWay.{uncommitted, given_fresh, begun_ops, submitted_from, second_flush}
 use Rattle.store_facts.specs.Kept.{IsKept}
 use Rattle.store_facts.proofs.KeptCalls.{kept_call}

@@ -1,10 +1,9 @@
 -- What is known of the data units, over an event that writes none of them, and as a batch is flushed and committed.
-use Rattle.std.proofs.Common.{◌≢◌, ◌⊎◌, inl, inr, true, ℕ, zero, suc, ◌+◌, ◌*◌, ◌≤◌, List, [], ◌∷◌, ◌++◌, length, take, Contains}
+use Rattle.std.proofs.Common.{◌≢◌, ◌⊎◌, inl, inr, true, ℕ, ◌+◌, ◌*◌, ◌≤◌, List, [], ◌∷◌, length}
 use Rattle.std.proofs.Common.{subst}
 use Rattle.std.proofs.Common.{◌∙◌, arith}
-use Rattle.std.specs.List.{flat_map, AllByRecursion}
+use Rattle.std.specs.List.{AllByRecursion}
 use Rattle.std.proofs.lemmas.Bool.{cases_eq}
-use Rattle.std.proofs.lemmas.List.Elements.{Contains-append_left, Contains-append_right}
 use Rattle.block_device.specs.Log.{last, WritesUnit, WritesNothing, IsClean}
 use Rattle.block_device.specs.Disk.{History}
 use Rattle.block_device.specs.Facts.{with_event, EventFits}
@@ -17,12 +16,7 @@ use Rattle.store_image.specs.Owners.{IsDataUnit}
 use Rattle.log_facts.specs.Flushing.{FlushState, not_sent, sent, flushed}
 use Rattle.log_facts.proofs.Keeping.{last_push, flushed_push, flush_ended, nothing_written, half_before_data}
 use Rattle.plan_rows.specs.declared.plan.FreshUnit.{FreshUnit}
-use Rattle.unit_allocator.proofs.Lists.{Contains-head, Contains-tail}
-use Rattle.store_steps.specs.declared.context.Context.{Context}
 use Rattle.store_steps.specs.DataGoes.{Spares}
-use Rattle.store_facts.proofs.SpaceUnits.{AreData}
-use Rattle.store_facts.proofs.RowsFacts.{units_of}
-use Rattle.store_steps.specs.UnderWay.{all_fresh, given_fresh}
 use Rattle.unit_facts.specs.DataUnits.{IsElsewhere, OtherUnitsAreClean, HeldBytesAreLast, UnitsAreFlushed}
 
 -- ---- the fresh units are data units

@@ -1,0 +1,3 @@
+pub mod PlaceLemmas
+pub mod QueueLemmas
+pub mod HeadLemmas

@@ -2,6 +2,7 @@
 ghost use Rattle.std.specs.Prelude.{◌≡◌, ◌+◌, ◌≤◌, ◌∷◌, ◌++◌, [], find, ◌==◌, length, option_copied, IfSome, IfErr, OnOk, OnErr};
 ghost use Rattle.store_steps.specs.Contexts.{with_context, without_context, given_more, done_more};
 ghost use Rattle.waiting_contexts.specs.Places.{IsAboveAll, context_at};
+ghost use Rattle.waiting_contexts.specs.Unsent.{PlacesAscend};
 
 use std::alloc::Global;
 use std::collections::BTreeMap;
@@ -36,6 +37,13 @@ impl ByPlace {
         ByPlace {
             contexts: BTreeMap::new(alloc),
         }
+    }
+
+    /// The places of contexts ascend.
+    pub fn facts(&self)
+        ensures { PlacesAscend 0 self.now }
+    {
+        let _ = &self.contexts;
     }
 
     /// How many contexts there are.

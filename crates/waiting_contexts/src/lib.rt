@@ -4,7 +4,9 @@
 mod by_place;
 mod done_heads;
 mod sequencers;
+mod submissions;
 
 pub use by_place::ByPlace;
 pub use done_heads::DoneHeads;
 pub use sequencers::Sequencers;
+pub use submissions::Submissions;

@@ -2,7 +2,7 @@
 ghost use Rattle.std.specs.Prelude.{◌≡◌, ◌+◌, ◌≤◌, ◌∷◌, ◌++◌, [], find, ◌==◌, length, option_copied, IfSome, IfErr, OnOk, OnErr};
 ghost use Rattle.store_steps.specs.Contexts.{with_context, without_context, given_more, done_more};
 ghost use Rattle.waiting_contexts.specs.Places.{IsAboveAll, context_at};
-ghost use Rattle.waiting_contexts.specs.Unsent.{PlacesAscend};
+ghost use Rattle.waiting_contexts.specs.Unsent.{PlacesAscend, has_unsent_at};
 
 use std::alloc::Global;
 use std::collections::BTreeMap;
@@ -72,6 +72,16 @@ impl ByPlace {
         ensures { option_copied result ≡ context_at place self.now }
     {
         self.contexts.get(&place)
+    }
+
+    /// Whether the context at a place has a data write that isn't submitted.
+    pub fn has_unsent_at(&self, place: u32) -> bool
+        ensures { result ≡ has_unsent_at place self.now }
+    {
+        match self.get(place) {
+            Some(context) => context.has_unsent(),
+            None => false,
+        }
     }
 
     /// So many more units of the context at this place were submitted.

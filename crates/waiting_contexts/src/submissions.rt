@@ -1,8 +1,9 @@
 //! Which data write is submitted next.
-ghost use Rattle.std.specs.Prelude.{◌≡◌, ◌++◌, ◌∷◌, [], true, is_some, IfOk, IfErr, OnOk, OnErr};
-ghost use Rattle.store_steps.specs.Contexts.{next_unsent};
+ghost use Rattle.std.specs.Prelude.{◌≡◌, ◌+◌, ◌≤◌, ◌++◌, ◌∷◌, [], true, is_some, None, IfOk, IfErr, IfSome, OnOk, OnErr};
+ghost use Rattle.store_steps.specs.Contexts.{unsent, next_unsent, with_context, without_context, given_more, done_more};
 ghost use Rattle.txn_states.specs.Writes.{IsWrite};
-ghost use Rattle.waiting_contexts.specs.Places.{IsAboveAll};
+ghost use Rattle.waiting_contexts.specs.Places.{IsAboveAll, context_at};
+ghost use Rattle.waiting_contexts.specs.Unsent.{IsOfNext};
 
 use crate::by_place::ByPlace;
 use std::alloc::{AllocError, Global};
@@ -86,5 +87,35 @@ impl Submissions {
             unreachable!();
         };
         context.next_write(alloc)
+    }
+
+    /// The next data write was submitted, or so many of its first units.
+    pub fn submitted(&mut self, place: u32, count: u32)
+        requires { IsOfNext place count (next_unsent self.old) }
+        ensures { self.new ≡ with_context place (given_more count) self.old }
+    {
+        self.contexts.facts();
+        self.contexts.submitted(place, count);
+        if !self.contexts.has_unsent_at(place) {
+            self.unsent.pop_front();
+        }
+    }
+
+    /// So many more units of the context at this place have reached the device.
+    pub fn done(&mut self, place: u32, count: u32)
+        requires { IfSome (context_at place self.old) (λ x. x.done + count ≤ x.given) }
+        ensures { self.new ≡ with_context place (done_more count) self.old }
+    {
+        self.contexts.done(place, count);
+    }
+
+    /// Takes the context at a place away, of which no data write is left to submit.
+    pub fn take(&mut self, place: u32) -> Option<Waiting>
+        requires { IfSome (context_at place self.old) (λ x. unsent x ≡ None) }
+        ensures taken { result ≡ context_at place self.old }
+        ensures left { self.new ≡ without_context place self.old }
+    {
+        self.contexts.facts();
+        self.contexts.take(place)
     }
 }

@@ -1,4 +1,4 @@
-use Rattle.std.proofs.Common.{◌≡◌, List, subst}
+use Rattle.std.proofs.Common.{List, subst}
 use Rattle.store_steps.specs.declared.context.Context.{Context}
 use Rattle.waiting_contexts.specs.Unsent.{PlacesAscend}
 use Rattle.waiting_contexts.proofs.UnsentLemmas.{places_ascend}

@@ -1,4 +1,4 @@
-use Rattle.std.proofs.Common.{◌≡◌, List, sym, ap, ◌∙◌}
+use Rattle.std.proofs.Common.{sym, ap, ◌∙◌}
 use Rattle.waiting_contexts.specs.Unsent.{unsent_places}
 use Rattle.waiting_contexts.proofs.UnsentLemmas.{same_queue}
 use Rattle.waiting_contexts.proofs.submissions.Submissions.done.Goals as goal

@@ -1,4 +1,4 @@
-use Rattle.std.proofs.Common.{◌≡◌, List, is_some, ap, ◌∙◌}
+use Rattle.std.proofs.Common.{List, is_some, ap, ◌∙◌}
 use Rattle.store_steps.specs.declared.context.Context.{Context}
 use Rattle.store_steps.specs.Contexts.{next_unsent}
 use Rattle.waiting_contexts.proofs.UnsentLemmas.{is_left}

@@ -1,4 +1,4 @@
-use Rattle.std.proofs.Common.{◌≡◌, ◌+◌, ◌≤◌, true, false, length, List, Option, subst, sym, ap, refl, ◌∙◌}
+use Rattle.std.proofs.Common.{◌+◌, ◌≤◌, true, false, length, List, Option, subst, sym, refl, ◌∙◌}
 use Rattle.std.specs.Prelude.{IfSome}
 use Rattle.store_steps.specs.declared.context.Context.{Context}
 use Rattle.store_steps.specs.Contexts.{next_unsent}

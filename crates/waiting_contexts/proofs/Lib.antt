@@ -1,3 +1,4 @@
+pub mod Ascending
 pub mod PlaceLemmas
 pub mod QueueLemmas
 pub mod HeadLemmas

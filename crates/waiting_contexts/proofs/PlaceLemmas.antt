@@ -6,9 +6,10 @@ use Rattle.std.specs.Ordering.{nat_cmp, is_eq, match_ordering}
 use Rattle.std.specs.declared.cmp.Ordering.{Ordering}
 use Rattle.std.specs.declared.cmp.Ordering.TheVariants.{Greater}
 use Rattle.std.proofs.lemmas.Bool.Decides.{nat_tests}
-use Rattle.std.proofs.lemmas.Bool.{ne_eqb, eqb-true, cases_Bool}
+use Rattle.std.proofs.lemmas.Bool.{eqb-true, cases_Bool}
 use Rattle.store_steps.specs.declared.context.Context.{Context}
 use Rattle.store_steps.specs.Contexts.{with_context, without_context}
+use Rattle.waiting_contexts.proofs.Ascending.{places_ascend, none_below, none_goes}
 use Rattle.waiting_contexts.specs.Places.{AreByPlace, IsAboveAll, context_at}
 
 -- a key is found where it is the place
@@ -49,22 +50,6 @@ lookup_is_context least place (e ∷ es) by_place =
     ap (λ (b : Bool). cond b (Some e.1) (lookup (is_at (nat_cmp place)) es)) (at_place place e by_place.0)
     ∙ ap (λ (o : Option Context). cond (e.1.place == place) (Some e.1) o) (lookup_is_context (e.0 + 1) place es by_place.2)
 
--- ---- a place below all
-
-none_changes : (least place : ℕ) (f : Context → Context) (es : List (ℕ × Context)) → AreByPlace least es → place < least
-    → values_of es ≡ with_context place f (values_of es)
-none_changes least place f [] by_place lt = refl
-none_changes least place f (e ∷ es) by_place lt =
-    ap (λ (l : List Context). e.1 ∷ l) (none_changes (e.0 + 1) place f es by_place.2 (omega (arith, lt, by_place.1)))
-    ∙ ap (λ (b : Bool). cond b (f e.1) e.1 ∷ with_context place f (values_of es)) (sym (ne_eqb e.1.place place (λ is. absurd (omega (arith, is, by_place.0, by_place.1, lt)))))
-
-none_goes : (least place : ℕ) (es : List (ℕ × Context)) → AreByPlace least es → place < least → values_of es ≡ without_context place (values_of es)
-none_goes least place [] by_place lt = refl
-none_goes least place (e ∷ es) by_place lt =
-    ap (λ (l : List Context). e.1 ∷ l) (none_goes (e.0 + 1) place es by_place.2 (omega (arith, lt, by_place.1)))
-    ∙ ap (λ (b : Bool). cond (not b) (e.1 ∷ without_context place (values_of es)) (without_context place (values_of es)))
-    (sym (ne_eqb e.1.place place (λ is. absurd (omega (arith, is, by_place.0, by_place.1, lt)))))
-
 -- ---- a context that changes
 
 pub set_is_change : (least place : ℕ) (f : Context → Context) (es : List (ℕ × Context)) (x : Context) → AreByPlace least es
@@ -77,7 +62,7 @@ set_is_change least place f (e ∷ es) x by_place found = elim (cases_Bool (e.1.
       let same : e.1 ≡ x = cc in
       ap (λ (b : Bool). values_of (cond b ((e.0, f x) ∷ es) (e ∷ set_value (is_at (nat_cmp place)) es (f x)))) at
       ∙ ap (λ (y : Context). f y ∷ values_of es) (sym same)
-      ∙ ap (λ (l : List Context). f e.1 ∷ l) (none_changes (e.0 + 1) place f es by_place.2 (omega (arith, eqb-true e.1.place place here, by_place.0)))
+      ∙ ap (λ (l : List Context). f e.1 ∷ l) (sym (none_below (e.0 + 1) place f (values_of es) (places_ascend (e.0 + 1) es by_place.2) (omega (arith, eqb-true e.1.place place here, by_place.0))))
       ∙ ap (λ (b : Bool). cond b (f e.1) e.1 ∷ with_context place f (values_of es)) (sym here)
   | inr other ↦
       let apart : is_at (nat_cmp place) e.0 ≡ false = at_place place e by_place.0 ∙ other in
@@ -126,7 +111,7 @@ remove_is_without least place [] by_place = refl
 remove_is_without least place (e ∷ es) by_place = elim (cases_Bool (e.1.place == place)) [
   | inl here ↦
       ap (λ (b : Bool). values_of (cond b es (e ∷ remove_entry (is_at (nat_cmp place)) es))) (at_place place e by_place.0 ∙ here)
-      ∙ none_goes (e.0 + 1) place es by_place.2 (omega (arith, eqb-true e.1.place place here, by_place.0))
+      ∙ sym (none_goes (e.0 + 1) place (values_of es) (places_ascend (e.0 + 1) es by_place.2) (omega (arith, eqb-true e.1.place place here, by_place.0)))
       ∙ ap (λ (b : Bool). cond (not b) (e.1 ∷ without_context place (values_of es)) (without_context place (values_of es))) (sym here)
   | inr other ↦
       ap (λ (b : Bool). values_of (cond b es (e ∷ remove_entry (is_at (nat_cmp place)) es))) (at_place place e by_place.0 ∙ other)

@@ -2,18 +2,13 @@
 use Rattle.std.proofs.Common.{◌≡◌, inl, inr, ◌&&◌, ℕ, ◌+◌, ◌<◌, ◌≤◌, ◌==◌, nat_lt, not, Bool, true, false, cond, List, [], ◌∷◌, ◌++◌, length, get_or, drop, length-drop, Option, Some, None, is_some, refl, sym, ap, subst, ◌∙◌, arith}
 use Rattle.std.specs.Option.{option_or, option_map_or}
 use Rattle.std.specs.Prelude.{IfSome}
-use Rattle.std.specs.Map.{values_of}
 use Rattle.std.proofs.lemmas.Bool.{eq-eqb, ne_eqb, eqb-true, cases_Bool, lt-ltb, le-ltb, false≢true}
 use Rattle.plan_rows.specs.declared.plan.FreshUnit.{FreshUnit}
 use Rattle.store_steps.specs.declared.context.Context.{Context}
 use Rattle.store_steps.specs.Contexts.{Unsent, unsent, unsent_units, run_from, run_of, next_unsent, with_context, without_context, given_more, done_more}
-use Rattle.waiting_contexts.specs.Places.{AreByPlace, context_at}
+use Rattle.waiting_contexts.specs.Places.{context_at}
+use Rattle.waiting_contexts.proofs.Ascending.{none_below, none_goes}
 use Rattle.waiting_contexts.specs.Unsent.{unsent_places, has_unsent_at, PlacesAscend, IsOfNext}
-
-pub places_ascend : (least : ℕ) (es : List (ℕ × Context)) → AreByPlace least es → PlacesAscend least (values_of es)
-places_ascend least [] by_place = tt
-places_ascend least (e ∷ es) by_place =
-    (omega (arith, by_place.0, by_place.1), subst (λ (n : ℕ). PlacesAscend (n + 1) (values_of es)) (sym by_place.0) (places_ascend (e.0 + 1) es by_place.2))
 
 push_by : (b : Bool) (p : ℕ) (all front rest : List ℕ) → all ≡ front ++ rest → cond b (p ∷ all) all ≡ cond b (p ∷ front) front ++ rest
 push_by true p all front rest is = ap (λ (l : List ℕ). p ∷ l) is
@@ -121,12 +116,6 @@ same_queue place count (x ∷ xs) =
     ∙ ap (λ (ps : List ℕ). cond (is_some (unsent x)) (x.place ∷ ps) ps) (same_queue place count xs)
 
 -- ---- the context of the next write, when some of it was submitted
-
-none_below : (least place : ℕ) (f : Context → Context) (xs : List Context) → PlacesAscend least xs → place < least → with_context place f xs ≡ xs
-none_below least place f [] up lt = refl
-none_below least place f (x ∷ xs) up lt =
-    ap (λ (b : Bool). cond b (f x) x ∷ with_context place f xs) (ne_eqb x.place place (λ e. absurd (omega (arith, e, up.0, lt))))
-    ∙ ap (λ (l : List Context). x ∷ l) (none_below (x.place + 1) place f xs up.1 (omega (arith, up.0, lt)))
 
 sent_by : (least : ℕ) (x y : Context) (xs : List Context) (p : ℕ) (ps : List ℕ) (f : Context → Context) (o : Option Unsent) → unsent x ≡ o → PlacesAscend least (x ∷ xs)
     → ((z : Context) → z.place ≡ (f z).place)
@@ -245,12 +234,6 @@ queue_sent xs all place count ps qs b up of is changed left now =
     ∙ sym (ap unsent_places changed)
 
 -- ---- a context that goes, of which no write is left
-
-none_goes : (least place : ℕ) (xs : List Context) → PlacesAscend least xs → place < least → without_context place xs ≡ xs
-none_goes least place [] up lt = refl
-none_goes least place (x ∷ xs) up lt =
-    ap (λ (b : Bool). cond (not b) (x ∷ without_context place xs) (without_context place xs)) (ne_eqb x.place place (λ e. absurd (omega (arith, e, up.0, lt))))
-    ∙ ap (λ (l : List Context). x ∷ l) (none_goes (x.place + 1) place xs up.1 (omega (arith, up.0, lt)))
 
 pub same_without : (least place : ℕ) (xs : List Context) → PlacesAscend least xs → IfSome (context_at place xs) (λ x. unsent x ≡ None)
     → unsent_places (without_context place xs) ≡ unsent_places xs

@@ -1,7 +1,7 @@
 use Rattle.std.proofs.Common.{List, subst}
 use Rattle.store_steps.specs.declared.context.Context.{Context}
 use Rattle.waiting_contexts.specs.Unsent.{PlacesAscend}
-use Rattle.waiting_contexts.proofs.UnsentLemmas.{places_ascend}
+use Rattle.waiting_contexts.proofs.Ascending.{places_ascend}
 use Rattle.waiting_contexts.proofs.by_place.ByPlace.facts.Goals as goal
 
 pub returns : goal.returns

@@ -19,6 +19,8 @@ mod meta_store_tests;
 #[cfg(test)]
 mod onode_codec_tests;
 #[cfg(test)]
+mod op_sequencer_tests;
+#[cfg(test)]
 mod script_text_tests;
 #[cfg(test)]
 mod unit_allocator_tests;

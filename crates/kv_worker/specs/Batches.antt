@@ -1,0 +1,32 @@
+-- When a batch is sealed, and when it is committed.
+use Rattle.std.specs.Prelude.{◌≡◌, ◌+◌, ◌≤◌, List, Some, None}
+use Rattle.meta_rows.specs.declared.row_op.RowOp.{RowOp}
+use Rattle.meta_log.specs.Records.{unit_count}
+use Rattle.meta_log.specs.Sealed.{IsSealable}
+use Rattle.meta_store.specs.Store.{Meta, Begun, piece_count_of}
+use Rattle.store_steps.specs.declared.context.Context.{Context}
+use Rattle.store_steps.specs.declared.flight.FlushState.TheVariants.{Flushed}
+use Rattle.store_steps.specs.State.{Batch}
+use Rattle.store_steps.specs.Contexts.{batch_ops, sum_needs}
+
+-- the batch of these contexts, once both its flushes have ended well
+abbrev pub flushed_batch : List Context → Batch
+flushed_batch xs = record { contexts = xs; first = Flushed; second = Flushed }
+
+-- the row operations of its contexts
+abbrev pub ops_of : List Context → List RowOp
+ops_of xs = batch_ops (flushed_batch xs)
+
+-- no record is being written, and one of its operations can be made and fits behind the tail
+pub record CanSeal (xs : List Context) (m : Meta) : Type 0 where
+  pub idle : m.begun ≡ None
+  pub sealable : IsSealable m.number (ops_of xs)
+  pub fits : m.tail + unit_count m.number (ops_of xs) ≤ m.sup.half
+
+-- its record is written, and the units that its contexts need are set aside
+pub record CanCommit (xs : List Context) (m : Meta) : Type 0 where
+  pub writing : Begun
+  pub begun : m.begun ≡ Some writing
+  pub ops : writing.ops ≡ ops_of xs
+  pub written : writing.written ≡ piece_count_of m writing
+  pub reserved : sum_needs xs ≤ m.reserved

@@ -1,0 +1,6 @@
+use Rattle.std.proofs.Common.{◌≡◌, take}
+use Rattle.store_steps.specs.Contexts.{run_bytes}
+use Rattle.txn_states.proofs.next_write.bytes_of.Given as goal
+
+abbrev pub invariant-loop-next : goal.invariant-loop-next
+invariant-loop-next l = l.bytes.items ≡ run_bytes (take l.next-index l.fresh)

@@ -1,0 +1,4 @@
+pub mod States
+pub mod Applied
+pub mod After
+pub mod Writes

@@ -2,17 +2,13 @@
 use Rattle.std.proofs.Common.{◌≢◌, ◌↔◌, ℕ, List, [], ◌∷◌, is_some, sym, ap, ◌∙◌, arith}
 use Rattle.std.specs.Prelude.{unwrap_or}
 use Rattle.unit_fields.specs.declared.width.Width.{Width}
-use Rattle.meta_rows.specs.Rows.{Rows, rows_after}
+use Rattle.meta_rows.specs.Prelude.{Rows, rows_after}
 use Rattle.meta_rows.specs.declared.row_op.RowOp.{RowOp}
-use Rattle.object_model.specs.Objects.{Object, Objects}
-use Rattle.row_format.specs.Keys.{object_key, coll_key, onode_key, attr_key, header_key, omap_key}
-use Rattle.row_format.specs.Extents.{Place, own}
-use Rattle.row_format.specs.Row.{Row, onode, shard, row_key}
-use Rattle.row_format.proofs.KeyLemmas.{same_head}
-use Rattle.store_image.specs.Pages.{HasRow, PageUnit, IsPageAt, IsPageOn}
-use Rattle.store_image.specs.Owners.{Owner, page_of, Owns}
-use Rattle.store_image.specs.Stands.{IsPageSeen, page_bytes, IsObjectShape, IsShape, AreObjectBytes, ObjectsStand}
-use Rattle.store_image.proofs.PageUnits.{stands_still}
+use Rattle.object_model.specs.Prelude.{Object, Objects}
+use Rattle.row_format.specs.Prelude.{object_key, coll_key, onode_key, attr_key, header_key, omap_key, Place, own, Row, onode, shard, row_key}
+use Rattle.row_format.proofs.Prelude.{same_head}
+use Rattle.store_image.specs.Prelude.{HasRow, PageUnit, IsPageAt, IsPageOn, Owner, page_of, Owns, IsPageSeen, page_bytes, IsObjectShape, IsShape, AreObjectBytes, ObjectsStand}
+use Rattle.store_image.proofs.Prelude.{stands_still}
 use Rattle.bitmap_freelist.specs.Bitmap.{Units, AreFlips, IsOtherKey, AreAlikeButBits}
 use Rattle.bitmap_freelist.proofs.Turning.{leave_others}
 

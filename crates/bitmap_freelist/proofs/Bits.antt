@@ -9,9 +9,9 @@ use Rattle.std.proofs.lemmas.Nat.Bits.{bit_at_xor, bit_at-zero, bit_at_set_same,
 use Rattle.std.proofs.lemmas.Bool.{cases_eq}
 use Rattle.std.proofs.lemmas.List.{get_or-set_same, get_or-set_other, length-set}
 use Rattle.std.proofs.lemmas.List.Elements.{recursion_from_All}
-use Rattle.meta_rows.specs.Rows.{xor_bytes, all_zero}
+use Rattle.meta_rows.specs.Prelude.{xor_bytes, all_zero}
 use Rattle.meta_rows.proofs.XorLemmas.{All-from_all_zero}
-use Rattle.row_format.specs.Bits.{bit_in}
+use Rattle.row_format.specs.Prelude.{bit_in}
 use Rattle.bitmap_freelist.specs.Masks.{with_bit, with_bits, mask_of}
 
 -- ---- exclusive-ors

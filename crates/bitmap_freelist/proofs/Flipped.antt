@@ -4,11 +4,11 @@ use Rattle.std.proofs.Common.{sym, ap, subst, ◌∙◌, arith, append_assoc, ap
 use Rattle.std.specs.List.{AllByRecursion}
 use Rattle.std.specs.FinSet as set
 use Rattle.std.proofs.lemmas.Bool.{cases_lt}
-use Rattle.unit_fields.specs.UnitSet.{Ascends}
-use Rattle.meta_rows.specs.Spelling.{FitsRowOp, AllFit}
+use Rattle.unit_fields.specs.Prelude.{Ascends}
+use Rattle.meta_rows.specs.Prelude.{FitsRowOp, AllFit}
 use Rattle.meta_rows.specs.declared.row_op.RowOp.{RowOp}
 use Rattle.meta_rows.specs.declared.row_op.RowOp.TheVariants.{Flip}
-use Rattle.row_format.specs.Keys.{bitmap_key}
+use Rattle.row_format.specs.Prelude.{bitmap_key}
 use Rattle.bitmap_freelist.specs.Bitmap.{Units, Has, IsFlipOfNext, AreFlipsFrom, AreFlips}
 use Rattle.bitmap_freelist.specs.Masks.{IsFrontOfRow, mask_of}
 use Rattle.bitmap_freelist.proofs.Bits.{IsIn, mask_of-size, mask_of_are}

@@ -4,17 +4,13 @@ use Rattle.std.proofs.Common.{is_some, sym, ap, subst, ◌∙◌, arith}
 use Rattle.std.specs.Prelude.{unwrap_or}
 use Rattle.std.specs.FinMap as map
 use Rattle.std.specs.Int.{w32, to_be_bytes}
-use Rattle.meta_rows.specs.Rows.{Rows, rows_after}
+use Rattle.meta_rows.specs.Prelude.{Rows, rows_after}
 use Rattle.meta_rows.specs.declared.row_op.RowOp.{RowOp}
 use Rattle.meta_log.specs.declared.slot.Super.{Super}
-use Rattle.meta_log.specs.Slots.{width_of}
-use Rattle.row_format.specs.Bits.{bit_in}
-use Rattle.row_format.specs.Keys.{object_key, bitmap_key, coll_key, onode_key}
-use Rattle.row_format.specs.Row.{Row, collection, onode, shard, bitmap, row_key, row_value, FitsRow, FitsBitmap}
-use Rattle.row_format.proofs.KeyLemmas.{same_head}
-use Rattle.store_image.specs.Pages.{HasKey, HasRow}
-use Rattle.store_image.specs.Owners.{IsDataUnit, IsMarked}
-use Rattle.store_image.specs.BadRows.{AreOfData, IsInPlace, IsGoodRow, NoBadRow}
+use Rattle.meta_log.specs.Prelude.{width_of}
+use Rattle.row_format.specs.Prelude.{bit_in, object_key, bitmap_key, coll_key, onode_key, Row, collection, onode, shard, bitmap, row_key, row_value, FitsRow, FitsBitmap}
+use Rattle.row_format.proofs.Prelude.{same_head}
+use Rattle.store_image.specs.Prelude.{HasKey, HasRow, IsDataUnit, IsMarked, AreOfData, IsInPlace, IsGoodRow, NoBadRow}
 use Rattle.bitmap_freelist.specs.Bitmap.{Units, Has, AreFlips, AreBitmapRows, NoneIsZero, IsOtherKey, AreAlikeButBits}
 use Rattle.bitmap_freelist.proofs.Bits.{bit_in-zeros}
 use Rattle.bitmap_freelist.proofs.Turning.{same_row, Turns, at_any, turn_their_units, stay_in_table, stay_some}

@@ -19,12 +19,10 @@ use Rattle.std.proofs.lemmas.Bool.Decides.{nat_tests}
 use Rattle.std.proofs.lemmas.Cmp.{tied_itself, nat_list_cmp_total}
 use Rattle.std.proofs.lemmas.List.{drop_more}
 use Rattle.byte_maps.specs.ByteMap.{byte_order, in_range}
-use Rattle.byte_maps.proofs.Places.{same_bytes, both_first, both_second}
-use Rattle.meta_rows.specs.Rows.{Rows, row}
-use Rattle.meta_rows.specs.Table.{rows_from_to}
-use Rattle.row_format.specs.Keys.{bitmap_key}
-use Rattle.store_image.specs.Owners.{IsMarked}
-use Rattle.row_format.specs.Bits.{bit_in}
+use Rattle.byte_maps.proofs.Prelude.{same_bytes, both_first, both_second}
+use Rattle.meta_rows.specs.Prelude.{Rows, row, rows_from_to}
+use Rattle.row_format.specs.Prelude.{bitmap_key, bit_in}
+use Rattle.store_image.specs.Prelude.{IsMarked}
 use Rattle.bitmap_freelist.specs.Bitmap.{Units, Has, IsBitmapRow, AreBitmapRows, AreMarked}
 use Rattle.bitmap_freelist.specs.Masks.{AddsUpTo, IsMarkedBy, AddsRow}
 use Rattle.bitmap_freelist.proofs.Bits.{bit_in-zeros}

@@ -4,8 +4,8 @@ use Rattle.std.proofs.lemmas.List.{length-append}
 use Rattle.std.proofs.lemmas.List.Concat.{flat_map-cons}
 use Rattle.meta_rows.specs.declared.row_op.RowOp.{RowOp}
 use Rattle.meta_rows.specs.declared.row_op.RowOp.TheVariants.{Flip}
-use Rattle.meta_rows.specs.Spelling.{key_bytes, value_bytes, op_bytes, ops_bytes, FitsRowOp, AllFit}
-use Rattle.row_format.specs.Keys.{bitmap_key}
+use Rattle.meta_rows.specs.Prelude.{key_bytes, value_bytes, op_bytes, ops_bytes, FitsRowOp, AllFit}
+use Rattle.row_format.specs.Prelude.{bitmap_key}
 use Rattle.bitmap_freelist.specs.Bitmap.{Units, IsFlipOfNext, AreFlipsFrom, AreFlips}
 
 -- a key has 5 bytes

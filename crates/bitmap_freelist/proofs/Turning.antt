@@ -9,16 +9,14 @@ use Rattle.std.specs.declared.cmp.Ordering.{Ordering}
 use Rattle.std.specs.declared.cmp.Ordering.TheVariants.{Less, Equal, Greater}
 use Rattle.std.proofs.lemmas.Cmp.{tied_itself, nat_list_cmp_total}
 use Rattle.byte_maps.specs.ByteMap.{byte_order}
-use Rattle.byte_maps.proofs.Places.{same_bytes}
-use Rattle.byte_maps.proofs.Laws.{same}
-use Rattle.meta_rows.specs.Rows.{Rows, xor_bytes, all_zero, row, row_after, rows_after, key_of, LeaveAlone}
+use Rattle.byte_maps.proofs.Prelude.{same_bytes, same}
+use Rattle.meta_rows.specs.Prelude.{Rows, xor_bytes, all_zero, row, row_after, rows_after, key_of, LeaveAlone}
 use Rattle.meta_rows.specs.declared.row_op.RowOp.{RowOp}
 use Rattle.meta_rows.specs.declared.row_op.RowOp.TheVariants.{Flip}
 use Rattle.meta_rows.proofs.RowLemmas.{get-insert_same, get-remove_same, get-row_after_other, get-rows_after_other}
 use Rattle.meta_rows.proofs.XorLemmas.{xor_bytes-comm}
-use Rattle.row_format.specs.Keys.{bitmap_key}
-use Rattle.store_image.specs.Owners.{IsMarked}
-use Rattle.row_format.specs.Bits.{bit_in}
+use Rattle.row_format.specs.Prelude.{bitmap_key, bit_in}
+use Rattle.store_image.specs.Prelude.{IsMarked}
 use Rattle.bitmap_freelist.specs.Bitmap.{Units, Has, IsMaskOf, AreFlipsFrom, AreFlips, AreBitmapRows, NoneIsZero, IsOtherKey, ExactlyOne}
 use Rattle.bitmap_freelist.proofs.Bits.{bit_in-xor_bytes, bit_in-zeros, xor_bytes-assoc, xor_bytes-zeros, xor_bytes-self, length-xor_same}
 

@@ -3,12 +3,11 @@ use Rattle.std.specs.Prelude.{◌≡◌, ◌≢◌, ◌↔◌, ◌⊎◌, ℕ, s
 use Rattle.std.specs.Ordering.{nat_cmp}
 use Rattle.std.specs.FinMap as map
 use Rattle.std.specs.FinSet as set
-use Rattle.meta_rows.specs.Rows.{Rows, all_zero}
+use Rattle.meta_rows.specs.Prelude.{Rows, all_zero}
 use Rattle.meta_rows.specs.declared.row_op.RowOp.{RowOp}
 use Rattle.meta_rows.specs.declared.row_op.RowOp.TheVariants.{Flip}
-use Rattle.row_format.specs.Keys.{bitmap_key}
-use Rattle.row_format.specs.Bits.{bit_in}
-use Rattle.store_image.specs.Owners.{IsMarked}
+use Rattle.row_format.specs.Prelude.{bitmap_key, bit_in}
+use Rattle.store_image.specs.Prelude.{IsMarked}
 
 -- a finite set of units
 abbrev pub Units : Type 0

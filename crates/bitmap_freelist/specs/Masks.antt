@@ -2,8 +2,7 @@
 use Rattle.std.specs.Prelude.{◌≡◌, ◌≢◌, ◌↔◌, ◌⊎◌, ℕ, ◌*◌, ◌/◌, ◌%◌, ◌^◌, ◌<◌, ◌≤◌, List, [], ◌∷◌, length, take, slice_index, slice_set, replicate}
 use Rattle.std.specs.Prelude.{bit_or}
 use Rattle.std.specs.List.{AllByRecursion}
-use Rattle.row_format.specs.Keys.{bitmap_key}
-use Rattle.row_format.specs.Bits.{bit_in}
+use Rattle.row_format.specs.Prelude.{bitmap_key, bit_in}
 use Rattle.bitmap_freelist.specs.Bitmap.{Units, Has}
 
 -- the unit's bit set

@@ -1,8 +1,8 @@
 //! The row operations that turn units' bits.
 ghost use Rattle.std.specs.Prelude.{◌≡◌, IfOk};
-ghost use Rattle.meta_rows.specs.Spelling.{FitsRowOp, AllFit};
+ghost use Rattle.meta_rows.specs.Prelude.{FitsRowOp, AllFit};
 ghost use Rattle.meta_rows.specs.declared.row_op.RowOp.TheVariants.{Flip};
-ghost use Rattle.row_format.specs.Keys.{bitmap_key};
+ghost use Rattle.row_format.specs.Prelude.{bitmap_key};
 ghost use Rattle.bitmap_freelist.specs.Bitmap.{AreFlips};
 ghost use Rattle.bitmap_freelist.specs.Masks.{IsFrontOfRow, mask_of};
 

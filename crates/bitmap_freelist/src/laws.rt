@@ -2,15 +2,12 @@
 
 ghost use Rattle.std.specs.Prelude.{◌≡◌, ◌↔◌, ℕ, ◌*◌, ◌^◌, ◌<◌, ◌≤◌, List, length};
 ghost use Rattle.std.specs.FinMap as map;
-ghost use Rattle.meta_rows.specs.Rows.{Rows, rows_after};
+ghost use Rattle.meta_rows.specs.Prelude.{Rows, rows_after, ops_bytes, AllFit};
 ghost use Rattle.meta_rows.specs.declared.row_op.RowOp.{RowOp};
-ghost use Rattle.meta_rows.specs.Spelling.{ops_bytes, AllFit};
 ghost use Rattle.meta_log.specs.declared.slot.Super.{Super};
-ghost use Rattle.object_model.specs.Objects.{Objects};
+ghost use Rattle.object_model.specs.Prelude.{Objects};
 ghost use Rattle.unit_fields.specs.declared.width.Width.{Width};
-ghost use Rattle.store_image.specs.BadRows.{NoBadRow};
-ghost use Rattle.store_image.specs.Owners.{Owner, Owns, IsDataUnit, IsMarked};
-ghost use Rattle.store_image.specs.Stands.{ObjectsStand};
+ghost use Rattle.store_image.specs.Prelude.{NoBadRow, Owner, Owns, IsDataUnit, IsMarked, ObjectsStand};
 ghost use Rattle.bitmap_freelist.specs.Bitmap.{
   Units,
   Has,

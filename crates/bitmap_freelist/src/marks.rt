@@ -1,6 +1,6 @@
 //! The units whose bits are 1.
 ghost use Rattle.std.specs.Prelude.{◌≡◌, ◌↔◌, ◌/◌, ◌%◌, ◌<◌, ◌^◌, ℕ, Some, length, slice_index, IsTrue, IfOk, OnOk};
-ghost use Rattle.row_format.specs.Keys.{bitmap_key};
+ghost use Rattle.row_format.specs.Prelude.{bitmap_key};
 ghost use Rattle.bitmap_freelist.specs.Bitmap.{AreBitmapRows, AreMarked, IsBitmapRow};
 ghost use Rattle.bitmap_freelist.specs.Masks.{AddsUpTo, AddsRow};
 

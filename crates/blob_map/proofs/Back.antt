@@ -5,9 +5,8 @@ use Rattle.std.specs.List.{range_with_len, flat_map}
 use Rattle.std.proofs.lemmas.Bool.{cases_Bool}
 use Rattle.std.proofs.lemmas.Bool.Decides.{nat_tests}
 use Rattle.std.proofs.lemmas.List.{length_push, get_or_append_left, get_or_at, map-append}
-use Rattle.row_format.specs.Extents.{Extent, Body, private, Place, own, place_in, page_count, page_end}
-use Rattle.blob_map.specs.Pages.{extent_pages}
-use Rattle.blob_map.specs.Normal.{single, is_next, follows, longer, more, extents_from, extents_of}
+use Rattle.row_format.specs.Prelude.{Extent, Body, private, Place, own, place_in, page_count, page_end}
+use Rattle.blob_map.specs.Prelude.{extent_pages, single, is_next, follows, longer, more, extents_from, extents_of}
 
 same_number : (a b : ℕ) → (a == b) ≡ true → a ≡ b
 same_number a b is = grind (arith, nat_tests, is)

@@ -10,10 +10,8 @@ use Rattle.unit_fields.specs.declared.width.Width.{Width}
 use Rattle.number_map.proofs.Laws.{same}
 use Rattle.number_map.proofs.Places.{both_first, both_second}
 use Rattle.number_map.proofs.Search.{cmp_equal, cmp_less, cmp_greater, less_is}
-use Rattle.row_format.specs.Extents.{Extent, Body, private, Place, own, place_in, place_of, page_count, page_end, ExtentsAscend, FitsBody, FitsExtent}
-use Rattle.row_format.specs.Csums.{FitsCsum}
-use Rattle.blob_map.specs.Pages.{PageMap, FitsPlace, FitsPage, StandsWithin, first_unit, extent_pages}
-use Rattle.blob_map.specs.Normal.{alone, single, follows, longer, more, extents_from, extents_of, NoneJoins}
+use Rattle.row_format.specs.Prelude.{Extent, Body, private, Place, own, place_in, place_of, page_count, page_end, ExtentsAscend, FitsBody, FitsExtent, FitsCsum}
+use Rattle.blob_map.specs.Prelude.{PageMap, FitsPlace, FitsPage, StandsWithin, first_unit, extent_pages, alone, single, follows, longer, more, extents_from, extents_of, NoneJoins}
 use Rattle.blob_map.proofs.Lay.{page_at}
 use Rattle.blob_map.proofs.Places.{page_cases, place_here, place_behind}
 use Rattle.blob_map.proofs.Back.{IsNextPlace, follows_means, next_follows, longer_by_one, extents_back}

@@ -5,8 +5,8 @@ use Rattle.std.specs.FinMap as finite
 use Rattle.std.proofs.lemmas.Bool.{cases_lt}
 use Rattle.std.proofs.lemmas.List.{get_or_default}
 use Rattle.number_map.proofs.Laws.{get_same, get_other}
-use Rattle.row_format.specs.Extents.{Extent, Place, place_in}
-use Rattle.blob_map.specs.Pages.{PageMap, with_pages}
+use Rattle.row_format.specs.Prelude.{Extent, Place, place_in}
+use Rattle.blob_map.specs.Prelude.{PageMap, with_pages}
 
 -- one list behind the other
 pub laid_append : (pages : PageMap) (ps qs : List (ℕ × Place)) → with_pages pages (ps ++ qs) ≡ with_pages (with_pages pages ps) qs

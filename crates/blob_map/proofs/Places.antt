@@ -6,8 +6,8 @@ use Rattle.std.specs.Ordering.{nat_cmp}
 use Rattle.std.specs.FinMap as finite
 use Rattle.std.proofs.lemmas.Bool.{cases_lt}
 use Rattle.std.proofs.lemmas.Bool.Decides.{nat_tests}
-use Rattle.row_format.specs.Extents.{Extent, Place, place_in, place_of, page_count, page_end, ExtentsAscend}
-use Rattle.blob_map.specs.Pages.{PageMap, with_pages, extent_pages}
+use Rattle.row_format.specs.Prelude.{Extent, Place, place_in, place_of, page_count, page_end, ExtentsAscend}
+use Rattle.blob_map.specs.Prelude.{PageMap, with_pages, extent_pages}
 use Rattle.blob_map.proofs.Lay.{laid_append, laid_outside, laid_inside}
 
 inside_is : (from end page : ℕ) → from ≤ page → page < end → (nat_le from page && nat_lt page end) ≡ true

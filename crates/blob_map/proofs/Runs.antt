@@ -4,14 +4,11 @@ use Rattle.std.specs.List.{flat_map}
 use Rattle.std.proofs.lemmas.List.{drop_more, drop_all, take_more, length-take, length-map, map-append, get_or-drop}
 use Rattle.std.proofs.lemmas.List.Concat.{flat_map-cons}
 use Rattle.unit_fields.specs.declared.width.Width.{Width}
-use Rattle.row_format.specs.Extents.{Body, private, Place, own, extent_bytes}
-use Rattle.row_format.specs.Csums.{csum_bytes}
+use Rattle.row_format.specs.Prelude.{Body, private, Place, own, extent_bytes, csum_bytes}
 use Rattle.onode_codec.specs.declared.extent.Head.{Head}
 use Rattle.onode_codec.specs.Reading.{extent_head}
 use Rattle.onode_codec.proofs.ExtentReading.{head_then_csums}
-use Rattle.blob_map.specs.Pages.{csum_of}
-use Rattle.blob_map.specs.Normal.{single, longer, more, follows, extents_from, extents_of}
-use Rattle.blob_map.specs.Values.{extent_with, csums_of, IsFirstRun, WritesRun}
+use Rattle.blob_map.specs.Prelude.{csum_of, single, longer, more, follows, extents_from, extents_of, extent_with, csums_of, IsFirstRun, WritesRun}
 use Rattle.blob_map.proofs.Back.{follows_means}
 
 -- the first pages, as many as the head says, are in its extent, and the others are to come

@@ -5,15 +5,13 @@ use Rattle.std.specs.FinMap as finite
 use Rattle.std.proofs.lemmas.List.{length-append}
 use Rattle.std.proofs.lemmas.List.Concat.{flat_map-cons}
 use Rattle.unit_fields.specs.declared.width.Width.{Width}
-use Rattle.unit_fields.specs.Widths.{bytes_of}
-use Rattle.row_format.specs.Extents.{Extent, Body, private, Place, own, page_end, extent_bytes, FitsExtent}
-use Rattle.row_format.specs.Csums.{csum_bytes}
+use Rattle.unit_fields.specs.Prelude.{bytes_of}
+use Rattle.row_format.specs.Prelude.{Extent, Body, private, Place, own, page_end, extent_bytes, FitsExtent, csum_bytes}
 use Rattle.onode_codec.specs.declared.extent.Head.{Head}
 use Rattle.onode_codec.specs.Reading.{BeginsWithNoExtent, ReadsHead, ReadsCsum, SpellExtents}
 use Rattle.onode_codec.proofs.Again.{same_extents}
 use Rattle.onode_codec.proofs.ExtentReading.{length-csums, head_front, csums_none, csums_more, csums_short, extent_read, some_bytes, spelled_behind}
-use Rattle.blob_map.specs.Pages.{PageMap, HasNumbers, extent_pages, with_pages}
-use Rattle.blob_map.specs.Values.{SpellPages, BeginsWithPages, extent_with, PutsFirst, PutsExtent}
+use Rattle.blob_map.specs.Prelude.{PageMap, HasNumbers, extent_pages, with_pages, SpellPages, BeginsWithPages, extent_with, PutsFirst, PutsExtent}
 use Rattle.blob_map.proofs.Lay.{laid_append}
 use Rattle.blob_map.proofs.Back.{pages_more}
 

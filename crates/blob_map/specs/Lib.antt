@@ -1,3 +1,4 @@
 pub mod Pages
 pub mod Normal
 pub mod Values
+pub mod Prelude

@@ -1,6 +1,6 @@
 -- Extents in normal form: the longest runs of consecutive pages on consecutive units, cut at 256 pages.
 use Rattle.std.specs.Prelude.{◌≡◌, ℕ, ◌+◌, ◌<◌, ◌==◌, ◌&&◌, nat_lt, Bool, if◌then◌else◌, List, [], ◌∷◌, ◌++◌, length, Option, Some, None}
-use Rattle.row_format.specs.Extents.{Extent, Body, private, Place, own, page_count, page_end}
+use Rattle.row_format.specs.Prelude.{Extent, Body, private, Place, own, page_count, page_end}
 use Rattle.blob_map.specs.Pages.{first_unit}
 
 -- one page at its place

@@ -5,8 +5,7 @@ use Rattle.std.specs.Coded.{Coded, code_by, coded×, coded_ℕ}
 use Rattle.std.specs.FinMap as finite
 use Rattle.unit_fields.specs.declared.width.Width.{Width}
 use Rattle.number_map.specs.NumberMap.{NumberMap}
-use Rattle.row_format.specs.Extents.{Extent, Body, private, Place, own, place_in, page_count, page_end}
-use Rattle.row_format.specs.Csums.{FitsCsum}
+use Rattle.row_format.specs.Prelude.{Extent, Body, private, Place, own, place_in, page_count, page_end, FitsCsum}
 
 -- where each page stands that stands anywhere
 abbrev pub PageMap : Type 0

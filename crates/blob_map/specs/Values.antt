@@ -2,7 +2,7 @@
 use Rattle.std.specs.Prelude.{◌≡◌, ℕ, ◌<◌, ◌≤◌, List, ◌∷◌, ◌++◌, length, map, take, drop}
 use Rattle.std.specs.List.{AllByRecursion}
 use Rattle.unit_fields.specs.declared.width.Width.{Width}
-use Rattle.row_format.specs.Extents.{Extent, private, Place, extent_bytes, FitsExtent}
+use Rattle.row_format.specs.Prelude.{Extent, private, Place, extent_bytes, FitsExtent}
 use Rattle.onode_codec.specs.declared.extent.Head.{Head}
 use Rattle.onode_codec.specs.Reading.{ReadsCsums, ReadsExtent, SpellExtents}
 use Rattle.blob_map.specs.Pages.{PageMap, HasNumbers, csum_of, extent_pages, with_pages}

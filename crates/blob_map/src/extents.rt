@@ -1,7 +1,7 @@
 //! Extents made from pages.
 ghost use Rattle.std.specs.Prelude.{◌≡◌, ◌++◌, ◌∷◌, ℕ, true, List, IfOk, IfSome, OnOk};
 ghost use Rattle.std.specs.List.{AllByRecursion};
-ghost use Rattle.row_format.specs.Extents.{Place, FitsExtent};
+ghost use Rattle.row_format.specs.Prelude.{Place, FitsExtent};
 ghost use Rattle.blob_map.specs.Normal.{single, follows, more, extents_from, extents_of, finished};
 
 use crate::place::Place;

@@ -3,7 +3,7 @@ ghost use Rattle.std.specs.Prelude.{Some, ◌≡◌, ◌<◌, ◌≤◌, ◌+◌
 ghost use Rattle.std.specs.List.{flat_map, AllByRecursion};
 ghost use Rattle.std.specs.FinMap as map;
 ghost use Rattle.unit_fields.specs.declared.width.Width.{Width};
-ghost use Rattle.row_format.specs.Extents.{Place, place_of, page_count, page_end, ExtentsAscend, FitsExtent};
+ghost use Rattle.row_format.specs.Prelude.{Place, place_of, page_count, page_end, ExtentsAscend, FitsExtent};
 ghost use Rattle.blob_map.specs.Pages.{PageMap, FitsPage, StandsWithin, first_unit, extent_pages};
 ghost use Rattle.blob_map.specs.Normal.{extents_of, NoneJoins};
 

@@ -5,7 +5,7 @@ ghost use Rattle.std.specs.List.{flat_map, AllByRecursion};
 ghost use Rattle.std.specs.FinMap as map;
 ghost use Rattle.std.specs.FinMap.Entries.{where_key};
 ghost use Rattle.number_map.specs.NumberMap.{is_in};
-ghost use Rattle.row_format.specs.Extents.{Extent, Place, extent_bytes, FitsExtent};
+ghost use Rattle.row_format.specs.Prelude.{Extent, Place, extent_bytes, FitsExtent};
 ghost use Rattle.onode_codec.specs.Reading.{SpellExtents};
 ghost use Rattle.blob_map.specs.Pages.{extent_pages, with_pages};
 ghost use Rattle.blob_map.specs.Values.{SpellPages};
@@ -33,7 +33,7 @@ impl Model for PageMap {
     ghost use Rattle.std.specs.FinMap as map;
     ghost use Rattle.std.specs.Ordering.{nat_cmp};
     ghost use Rattle.std.specs.Coded.{coded_ℕ};
-    ghost use Rattle.row_format.specs.Extents.{Place};
+    ghost use Rattle.row_format.specs.Prelude.{Place};
     ghost use Rattle.blob_map.specs.Pages.{coded_place};
 
     ghost Value = { map.FinMap nat_cmp Place };

@@ -13,7 +13,7 @@ pub struct Place {
 }
 
 impl Model for Place {
-    ghost use Rattle.row_format.specs.Extents.{Place, own};
+    ghost use Rattle.row_format.specs.Prelude.{Place, own};
     ghost use Rattle.blob_map.specs.Pages.{numbers_of};
 
     ghost Value = { Place };

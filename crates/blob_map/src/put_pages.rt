@@ -1,7 +1,7 @@
 //! Runs of pages, put into a map.
 ghost use Rattle.std.specs.Prelude.{◌≡◌, ◌+◌, ◌<◌, ◌≤◌, ◌^◌, ◌⊎◌, ℕ, length, slice_index_or, Some, OnOk};
 ghost use Rattle.std.specs.FinMap as map;
-ghost use Rattle.row_format.specs.Extents.{Place};
+ghost use Rattle.row_format.specs.Prelude.{Place};
 
 use crate::place::Place;
 use number_map::NumberMap;

@@ -1,8 +1,8 @@
 //! Pages put into a map as they are read from the value of a shard's row.
 ghost use Rattle.std.specs.Prelude.{◌≡◌, ◌+◌, ◌≤◌, ◌^◌, List, length, OnOk};
 ghost use Rattle.std.specs.List.{flat_map};
-ghost use Rattle.unit_fields.specs.Widths.{bytes_of};
-ghost use Rattle.row_format.specs.Extents.{Extent};
+ghost use Rattle.unit_fields.specs.Prelude.{bytes_of};
+ghost use Rattle.row_format.specs.Prelude.{Extent};
 ghost use Rattle.onode_codec.specs.Reading.{SpellExtents};
 ghost use Rattle.blob_map.specs.Pages.{extent_pages, with_pages};
 ghost use Rattle.blob_map.specs.Values.{SpellPages, BeginsWithPages, PutsFirst, PutsExtent};

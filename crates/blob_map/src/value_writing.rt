@@ -1,8 +1,7 @@
 //! The value of a shard's row, written from a map's entries.
 ghost use Rattle.std.specs.Prelude.{◌≡◌, ◌++◌, ◌<◌, ◌≤◌, List, ℕ, length, drop, IfOk, OnOk};
 ghost use Rattle.std.specs.List.{flat_map};
-ghost use Rattle.row_format.specs.Csums.{csum_bytes};
-ghost use Rattle.row_format.specs.Extents.{extent_bytes};
+ghost use Rattle.row_format.specs.Prelude.{csum_bytes, extent_bytes};
 ghost use Rattle.blob_map.specs.Normal.{follows, extents_of};
 ghost use Rattle.blob_map.specs.Values.{extent_with, csums_of, IsFirstRun, WritesRun};
 

@@ -2,8 +2,7 @@
 use Rattle.std.proofs.Common.{◌≡◌, ◌≢◌, inl, inr, ℕ, ◌<◌, List, [], ◌∷◌, ◌++◌, length, map, Some, All, Bool, true, false, not, eqb, sym, ◌∙◌, ap, subst, arith, length-append}
 use Rattle.std.specs.Prelude.{Contains, slice_get}
 use Rattle.std.proofs.lemmas.List.Elements.{All-contains, All-filter, All-map, All-push, All-weaker}
-use Rattle.block_device.specs.Log.{IsAnsweredOnce}
-use Rattle.block_device.specs.Pending.{lowered, others, IsUnanswered, AnswersMatch}
+use Rattle.block_device.specs.Prelude.{IsAnsweredOnce, lowered, others, IsUnanswered, AnswersMatch}
 use Rattle.block_device.proofs.LogLemmas.{slice_get-push_cases, slice_get-is}
 use Rattle.block_device.proofs.Pendings.{others_differ}
 use Rattle.block_device.specs.declared.event.Event.{Event}

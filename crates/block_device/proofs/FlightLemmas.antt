@@ -4,7 +4,7 @@ use Rattle.std.specs.Prelude.{IfSome}
 use Rattle.std.proofs.lemmas.Bool.{cases_eq}
 use Rattle.std.proofs.lemmas.Bool.Decides.{nat_tests}
 use Rattle.std.proofs.lemmas.List.Elements.{All-head, All-tail, All-filter}
-use Rattle.block_device.specs.Disk.{Disk, Flight, find_flight, without, IsApart, IsNotInFlight}
+use Rattle.block_device.specs.Prelude.{Disk, Flight, find_flight, without, IsApart, IsNotInFlight}
 
 -- it holds of the flight that a Done names
 pub found_all : (P : Flight → Type 0) (ticket : ℕ) (flights : List Flight) → All P flights → IfSome (find_flight ticket flights) (λ f. P f × (f.ticket ≡ ticket))

@@ -5,11 +5,8 @@ use Rattle.std.proofs.lemmas.Bool.{cases_lt, cases_Bool, lt-ltb, le-ltb, falseâ‰
 use Rattle.std.proofs.lemmas.Bool.Decides.{nat_tests}
 use Rattle.std.proofs.lemmas.List.{length-take-le, get_or-replicate, length-replicate, take_more, take_all}
 use Rattle.byte_maps.specs.Units.{unit_at, overlaid, Covers, IsUnits}
-use Rattle.byte_maps.proofs.UnitLemmas.{length-overlaid, unit_at-laid_inside}
-use Rattle.block_device.specs.Log.{after_event, last, WritesUnit, IsClean, IsCrashImage}
-use Rattle.block_device.specs.Tests.{covers, is_stable, first_unstable, is_dirty}
-use Rattle.block_device.specs.Image.{reaches, held_after, held_from, landed_unit, torn_unit, noise, IsTornImage, IsWhole, AllFit}
-use Rattle.block_device.specs.Laying.{is_laid, mark, laid_unit, IsPut}
+use Rattle.byte_maps.proofs.Prelude.{length-overlaid, unit_at-laid_inside}
+use Rattle.block_device.specs.Prelude.{after_event, last, WritesUnit, IsClean, IsCrashImage, covers, is_stable, first_unstable, is_dirty, reaches, held_after, held_from, landed_unit, torn_unit, noise, IsTornImage, IsWhole, AllFit, is_laid, mark, laid_unit, IsPut}
 use Rattle.block_device.proofs.LogLemmas.{unit_at-after_event, slice_get-push_cases, slice_get-lt, slice_get-is, slice_get-take}
 use Rattle.block_device.proofs.Places.{covers-means, is_stable-means, first_unstable-le, first_unstable-holds, clean_end}
 use Rattle.block_device.proofs.PutLemmas.{unit_at-laid_one}

@@ -4,10 +4,7 @@ use Rattle.std.specs.Prelude.{Contains, slice_get}
 use Rattle.std.proofs.lemmas.List.{append-nil}
 use Rattle.std.proofs.lemmas.List.Elements.{All-head, All-tail, Contains-push}
 use Rattle.byte_maps.specs.Units.{unit_at, Covers, IsUnits}
-use Rattle.block_device.specs.Log.{after_event, last, WritesUnit, WritesNothing, IsStable, IsClean, IsDirty, IsCrashImage, IsAnsweredOnce}
-use Rattle.block_device.specs.Facts.{IsCovered}
-use Rattle.block_device.specs.Tests.{is_dirty}
-use Rattle.block_device.specs.Image.{AllFit}
+use Rattle.block_device.specs.Prelude.{after_event, last, WritesUnit, WritesNothing, IsStable, IsClean, IsDirty, IsCrashImage, IsAnsweredOnce, IsCovered, is_dirty, AllFit}
 use Rattle.block_device.proofs.LogLemmas.{last-push, slice_get-last, slice_get-push_cases, slice_get-lt, slice_get-is, flush_push, flush_submitted, stable_push, stable_done, clean_push}
 use Rattle.block_device.proofs.Places.{is_dirty-means, not_dirty-means}
 use Rattle.block_device.proofs.ImageLemmas.{length-last}

@@ -5,10 +5,8 @@ use Rattle.std.proofs.lemmas.Bool.{cases_lt}
 use Rattle.std.proofs.lemmas.List.{take_all, take-append-le, length-take-le, take_at}
 use Rattle.std.proofs.lemmas.List.Elements.{Contains-append_left, Contains-push}
 use Rattle.byte_maps.specs.Units.{unit_at}
-use Rattle.block_device.specs.Log.{after_event, last, WritesUnit, IsFlushAfter, IsStable, IsClean, IsCrashImage, EachCut}
-use Rattle.block_device.specs.Disk.{History}
-use Rattle.block_device.specs.Facts.{with_event, last_at, SurelyHolds, IsPending, EventFits}
-use Rattle.byte_maps.proofs.UnitLemmas.{length-overlaid, unit_at-laid_before, unit_at-laid_behind, unit_at-laid_inside}
+use Rattle.block_device.specs.Prelude.{after_event, last, WritesUnit, IsFlushAfter, IsStable, IsClean, IsCrashImage, EachCut, History, with_event, last_at, SurelyHolds, IsPending, EventFits}
+use Rattle.byte_maps.proofs.Prelude.{length-overlaid, unit_at-laid_before, unit_at-laid_behind, unit_at-laid_inside}
 use Rattle.block_device.specs.declared.event.Event.{Event}
 use Rattle.block_device.specs.declared.event.Event.TheVariants.{Write, Flush, Done}
 

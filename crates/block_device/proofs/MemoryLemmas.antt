@@ -3,12 +3,8 @@ use Rattle.std.proofs.Common.{◌≡◌, ◌≢◌, inl, inr, ℕ, ◌+◌, ◌*
 use Rattle.std.proofs.lemmas.List.{map_push, length-map, length_push, length-take-le}
 use Rattle.std.proofs.lemmas.List.Elements.{All-contains}
 use Rattle.byte_maps.specs.Units.{unit_at, units_from}
-use Rattle.byte_maps.proofs.UnitLemmas.{unit_at-part}
-use Rattle.block_device.specs.Log.{last, after_event}
-use Rattle.block_device.specs.Disk.{Submitted, Reaped, Waited, HasRead, IsSound, flight_of, find_flight, without}
-use Rattle.block_device.specs.Image.{IsWhole}
-use Rattle.block_device.specs.Pending.{flight, lowered, others, AreOpen, IsPatient, WasTaken, NoneWasReady}
-use Rattle.block_device.specs.Memory.{MemoryDisk, IsMemoryDisk, disk_of}
+use Rattle.byte_maps.proofs.Prelude.{unit_at-part}
+use Rattle.block_device.specs.Prelude.{last, after_event, Submitted, Reaped, Waited, HasRead, IsSound, flight_of, find_flight, without, IsWhole, flight, lowered, others, AreOpen, IsPatient, WasTaken, NoneWasReady, MemoryDisk, IsMemoryDisk, disk_of}
 use Rattle.block_device.proofs.LogLemmas.{last-push}
 use Rattle.block_device.proofs.ImageLemmas.{length-last, all_fit_push}
 use Rattle.block_device.proofs.AnswerLemmas.{answers_submitted, answers_lowered, answers_done}

@@ -5,8 +5,7 @@ use Rattle.std.proofs.lemmas.Bool.{cases_eq}
 use Rattle.std.proofs.lemmas.Bool.Decides.{nat_tests}
 use Rattle.std.proofs.lemmas.List.{length-map}
 use Rattle.std.proofs.lemmas.List.Elements.{All-cons, All-filter, All-map, Contains-append_left, Contains-push, All-contains, All-nil, All-head, All-tail, All-push, All-weaker}
-use Rattle.block_device.specs.Disk.{find_flight, without}
-use Rattle.block_device.specs.Pending.{flight, lowered, others, TicketsAscend, AreOpen, IsPatient, IsFirstReady, WasTaken, NoneWasReady}
+use Rattle.block_device.specs.Prelude.{find_flight, without, flight, lowered, others, TicketsAscend, AreOpen, IsPatient, IsFirstReady, WasTaken, NoneWasReady}
 use Rattle.block_device.proofs.LogLemmas.{slice_get-lt}
 use Rattle.block_device.specs.declared.pending.Pending.{Pending}
 

@@ -6,9 +6,7 @@ use Rattle.std.proofs.lemmas.List.Folds.{list_any_at}
 use Rattle.std.proofs.lemmas.List.{take-take, take-append-drop}
 use Rattle.std.proofs.lemmas.List.Elements.{Contains-append_left}
 use Rattle.byte_maps.specs.Units.{Covers}
-use Rattle.block_device.specs.Laying.{IsLastGoodFlush}
-use Rattle.block_device.specs.Log.{WritesUnit, IsStable, IsClean, IsDirty}
-use Rattle.block_device.specs.Tests.{first_place, covers, writes_unit, is_flush, is_good_done, has_good_done, is_stable, first_unstable, is_dirty}
+use Rattle.block_device.specs.Prelude.{IsLastGoodFlush, WritesUnit, IsStable, IsClean, IsDirty, first_place, covers, writes_unit, is_flush, is_good_done, has_good_done, is_stable, first_unstable, is_dirty}
 use Rattle.block_device.proofs.LogLemmas.{slice_get-lt, false_unless}
 use Rattle.block_device.specs.declared.event.Event.{Event}
 use Rattle.block_device.specs.declared.event.Event.TheVariants.{Write, Flush, Done}

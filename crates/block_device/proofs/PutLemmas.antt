@@ -4,8 +4,8 @@ use Rattle.std.specs.Prelude.{if◌then◌else◌}
 use Rattle.std.proofs.lemmas.Bool.{cases_lt, cases_eq}
 use Rattle.std.proofs.lemmas.List.{get_or-set_same, get_or-set_other, length-set, length-take-le}
 use Rattle.byte_maps.specs.Units.{unit_at, overlaid, IsUnits}
-use Rattle.byte_maps.proofs.UnitLemmas.{length-overlaid, unit_at-laid_before, unit_at-laid_behind, unit_at-laid_inside, unit_at-whole}
-use Rattle.block_device.specs.Laying.{is_laid, mark, laid_unit, IsPut}
+use Rattle.byte_maps.proofs.Prelude.{length-overlaid, unit_at-laid_before, unit_at-laid_behind, unit_at-laid_inside, unit_at-whole}
+use Rattle.block_device.specs.Prelude.{is_laid, mark, laid_unit, IsPut}
 use Rattle.block_device.specs.declared.image.Tear.{Tear}
 
 -- unit k is among the j from `at` on

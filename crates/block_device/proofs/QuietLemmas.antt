@@ -6,10 +6,8 @@ use Rattle.std.proofs.lemmas.Bool.Decides.{nat_tests}
 use Rattle.std.proofs.lemmas.List.{take-append-le, take-append-drop, append-nil, append_assoc}
 use Rattle.std.proofs.lemmas.List.Elements.{All-push, Contains-append_left, Contains-push}
 use Rattle.byte_maps.specs.Units.{unit_at}
-use Rattle.byte_maps.proofs.UnitLemmas.{unit_at-laid_inside}
-use Rattle.block_device.specs.Log.{last, WritesUnit, IsStable, IsClean, IsAnsweredOnce, HasNoBadDone}
-use Rattle.block_device.specs.Disk.{History, Flight, flight_of, find_flight, without, IsApart}
-use Rattle.block_device.specs.Facts.{with_event, last_at, IsCovered, IsSubmission, EachWriteIsAnswered, QuietAt, IsUntouched}
+use Rattle.byte_maps.proofs.Prelude.{unit_at-laid_inside}
+use Rattle.block_device.specs.Prelude.{last, WritesUnit, IsStable, IsClean, IsAnsweredOnce, HasNoBadDone, History, Flight, flight_of, find_flight, without, IsApart, with_event, last_at, IsCovered, IsSubmission, EachWriteIsAnswered, QuietAt, IsUntouched}
 use Rattle.block_device.proofs.LogLemmas.{last-push, slice_get-push_cases, stable_push}
 use Rattle.block_device.proofs.AnswerLemmas.{once_good}
 use Rattle.block_device.proofs.ReadLemmas.{stable_good}

@@ -2,9 +2,7 @@
 use Rattle.std.proofs.Common.{◌≡◌, ℕ, ◌+◌, ◌*◌, ◌/◌, ◌%◌, ◌<◌, ◌≤◌, List, length, take, drop, get_or, sym, ◌∙◌, ap, arith, length-drop}
 use Rattle.std.proofs.lemmas.List.{get_or-take, get_or-drop, ext_get_or, length-take-le}
 use Rattle.byte_maps.specs.Units.{unit_at, units_from, IsUnits}
-use Rattle.block_device.specs.Log.{last, IsClean, IsCrashImage}
-use Rattle.block_device.specs.Disk.{History}
-use Rattle.block_device.specs.Facts.{SurelyHolds}
+use Rattle.block_device.specs.Prelude.{last, IsClean, IsCrashImage, History, SurelyHolds}
 use Rattle.block_device.specs.declared.event.Event.{Event}
 
 -- byte r of unit k

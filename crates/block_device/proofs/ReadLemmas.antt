@@ -4,9 +4,7 @@ use Rattle.std.specs.Prelude.{IfSome, Contains}
 use Rattle.std.proofs.lemmas.List.{take-append-drop}
 use Rattle.std.proofs.lemmas.List.Elements.{Contains-append_left}
 use Rattle.byte_maps.specs.Units.{unit_at}
-use Rattle.block_device.specs.Log.{IsStable, IsClean, HasNoBadDone, IsAnsweredOnce}
-use Rattle.block_device.specs.Disk.{Disk, History, HasRead, IsSound}
-use Rattle.block_device.specs.Facts.{SurelyHolds, last_at}
+use Rattle.block_device.specs.Prelude.{IsStable, IsClean, HasNoBadDone, IsAnsweredOnce, Disk, History, HasRead, IsSound, SurelyHolds, last_at}
 use Rattle.block_device.proofs.AnswerLemmas.{once_good}
 use Rattle.block_device.specs.declared.event.Event.{Event}
 use Rattle.block_device.specs.declared.event.Event.TheVariants.{Done}

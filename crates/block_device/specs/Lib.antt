@@ -9,3 +9,4 @@ pub mod Pending
 pub mod Memory
 pub mod MemoryInside
 pub mod Laws
+pub mod Prelude

@@ -3,40 +3,30 @@ use Rattle.std.proofs.Common.{◌≡◌, inl, inr, ℕ, List, [], ◌∷◌, ◌
 use Rattle.std.proofs.Common.{Err, refl, sym, ap, subst, ◌∙◌, append_assoc, arith}
 use Rattle.std.specs.Prelude.{IsOk, Result}
 use Rattle.std.specs.List.{AllByRecursion}
-use Rattle.block_device.specs.Disk.{Disk}
+use Rattle.block_device.specs.Prelude.{Disk}
 use Rattle.object_model.specs.declared.command.Answer.{Answer}
 use Rattle.object_model.specs.declared.command.Answer.TheVariants as answer
 use Rattle.object_model.specs.declared.command.Command.{Command}
 use Rattle.object_model.specs.declared.command.Command.TheVariants as ask
 use Rattle.object_model.specs.declared.op.Refusal.{Refusal}
 use Rattle.object_model.specs.declared.book.Entry.{Entry}
-use Rattle.object_model.specs.Objects.{Objects}
-use Rattle.object_model.specs.Effect.{Change, replay, ok_or, transaction_effect}
-use Rattle.object_model.specs.Book.{accepted_change, accepted}
+use Rattle.object_model.specs.Prelude.{Objects, Change, replay, ok_or, transaction_effect, accepted_change, accepted}
 use Rattle.object_model.proofs.Replays.{replay-append}
-use Rattle.meta_rows.specs.Rows.{rows_after}
-use Rattle.meta_log.specs.Slots.{width_of}
-use Rattle.store_image.specs.Stands.{IsShape}
+use Rattle.meta_rows.specs.Prelude.{rows_after}
+use Rattle.meta_log.specs.Prelude.{width_of}
+use Rattle.store_image.specs.Prelude.{IsShape}
 use Rattle.plan_rows.specs.declared.plan.Plan.{Plan}
-use Rattle.read_facts.specs.Alike.{IsAnsweredAlike}
-use Rattle.read_facts.specs.Refusals.{IsNotRefused}
-use Rattle.read_facts.specs.Answers.{HasReadNames}
-use Rattle.read_facts.specs.PageReads.{IsHeldAt, no_memory}
+use Rattle.read_facts.specs.Prelude.{IsAnsweredAlike, IsNotRefused, HasReadNames, IsHeldAt, no_memory}
 use Rattle.read_facts.proofs.Plain.{plain_answer}
 use Rattle.store_steps.specs.declared.context.Context.{Context}
-use Rattle.store_steps.specs.State.{State}
-use Rattle.store_steps.specs.Submit.{context_of, entered, noted, accepted_with, IsCause}
-use Rattle.store_steps.specs.Runs.{AnswersRead}
-use Rattle.store_steps.specs.Intents.{Intent, intent_of, intents}
-use Rattle.store_steps.specs.Parts.{book_part}
-use Rattle.store_facts.proofs.PartsKept.{intents_both}
-use Rattle.book_facts.specs.BookFacts.{IsOfEntry, IsBookKnown, KnownOfBook}
+use Rattle.store_steps.specs.Prelude.{State, context_of, entered, noted, accepted_with, IsCause, AnswersRead, Intent, intent_of, intents, book_part}
+use Rattle.store_facts.proofs.Prelude.{intents_both, all_join, all_right}
+use Rattle.book_facts.specs.Prelude.{IsOfEntry, IsBookKnown, KnownOfBook}
 use Rattle.book_facts.proofs.Entries.{accepted_push, none_accepted, alike_push, counts_push, change_last, of_entries_push}
 use Rattle.book_facts.proofs.Answers.{has_effect, reply_accepted}
 use Rattle.book_facts.proofs.Books.{batch_of}
 use Rattle.book_facts.proofs.KnownPlans.{IsKnownPlan}
 use Rattle.book_facts.proofs.Queues.{entry_push, queued_noted, queued_accepted}
-use Rattle.store_facts.proofs.Lists.{all_join, all_right}
 
 -- ---- the objects after the transaction
 

@@ -5,11 +5,7 @@ use Rattle.object_model.specs.declared.op.Refusal.{Refusal}
 use Rattle.object_model.specs.declared.op.Refusal.TheVariants.{TooBig}
 use Rattle.object_model.specs.declared.command.Command.TheVariants as ask
 use Rattle.object_model.specs.declared.command.Answer.TheVariants as answer
-use Rattle.object_model.specs.Objects.{Objects}
-use Rattle.object_model.specs.Limits.{is_too_large}
-use Rattle.object_model.specs.Effect.{Change, transaction_effect}
-use Rattle.object_model.specs.Reply.{reply_of, accepted_if}
-use Rattle.object_model.specs.Book.{is_refused}
+use Rattle.object_model.specs.Prelude.{Objects, is_too_large, Change, transaction_effect, reply_of, accepted_if, is_refused}
 
 -- it has an effect, and is accepted
 carried_out : (large : Bool) (r : Result Objects Refusal) → IsTrue (not (is_refused (accepted_if (cond large (Err TooBig) r))))

@@ -7,21 +7,15 @@ use Rattle.std.proofs.lemmas.List.{take-map, take_all, take-append-drop, length-
 use Rattle.std.proofs.lemmas.List.Elements.{filter_map-append}
 use Rattle.object_model.specs.declared.book.Entry.{Entry}
 use Rattle.object_model.specs.declared.book.Commit.{Commit}
-use Rattle.object_model.specs.Objects.{Objects}
-use Rattle.object_model.specs.Effect.{Change, replay, names_of, is_named, changes_on}
-use Rattle.object_model.specs.Book.{accepted, change_at, committed, is_on, places_from, committed_places}
+use Rattle.object_model.specs.Prelude.{Objects, Change, replay, names_of, is_named, changes_on, accepted, change_at, committed, is_on, places_from, committed_places}
 use Rattle.object_model.proofs.Names.{have_one_name}
 use Rattle.object_model.proofs.Replays.{replay-append, replay-by_collections}
-use Rattle.store_steps.specs.State.{Batch, State}
-use Rattle.store_steps.specs.Changes.{committed_batch}
-use Rattle.store_steps.specs.Ready.{applied_count}
-use Rattle.store_steps.specs.Intents.{Intent, intents}
-use Rattle.book_facts.specs.BookFacts.{commit_places, AreQueued, places, KnownOfBook}
-use Rattle.book_facts.specs.Selections.{applied_changes, changes_of}
+use Rattle.store_steps.specs.Prelude.{Batch, State, committed_batch, applied_count, Intent, intents}
+use Rattle.book_facts.specs.Prelude.{commit_places, AreQueued, places, KnownOfBook, applied_changes, changes_of}
 use Rattle.book_facts.proofs.Entries.{own_change, committed_kept}
 use Rattle.book_facts.proofs.Commits.{places_on, places_by_places, changes_at, committed_by_places}
 use Rattle.std.specs.Option.{option_map_or}
-use Rattle.store_facts.proofs.Lists.{all_take}
+use Rattle.store_facts.proofs.Prelude.{all_take}
 
 -- ---- by places
 

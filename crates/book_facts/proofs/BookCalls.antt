@@ -3,41 +3,22 @@ use Rattle.std.proofs.Common.{◌≡◌, inl, inr, ◌+◌, ◌<◌, ◌++◌, l
 use Rattle.std.specs.Option.{option_map_or}
 use Rattle.std.proofs.lemmas.List.{append_cancel_left}
 use Rattle.block_device.specs.declared.device.Ticket.{Ticket}
-use Rattle.block_device.specs.Disk.{Disk}
-use Rattle.object_model.specs.Objects.{Objects}
-use Rattle.object_model.specs.Effect.{Change}
+use Rattle.block_device.specs.Prelude.{Disk}
+use Rattle.object_model.specs.Prelude.{Objects, Change}
 use Rattle.object_model.specs.declared.command.Command.TheVariants as ask
-use Rattle.plan_rows.specs.Keeps.{PlansKeep}
-use Rattle.read_facts.specs.Alike.{IsLegalButBytes}
+use Rattle.plan_rows.specs.Prelude.{PlansKeep, IsKnown}
+use Rattle.read_facts.specs.Prelude.{IsLegalButBytes}
 use Rattle.store_steps.specs.declared.context.Context.{Context}
 use Rattle.store_steps.specs.declared.step.Step.TheVariants as step
-use Rattle.store_steps.specs.State.{Batch, State}
-use Rattle.store_steps.specs.Changes.{taken_up, committed_batch, finished}
-use Rattle.store_steps.specs.Submit.{Accepts}
-use Rattle.store_steps.specs.Runs.{Call, Calls, IsRun}
-use Rattle.store_steps.specs.Intents.{intents}
-use Rattle.store_steps.specs.UnderWay.{uncommitted}
-use Rattle.store_steps.specs.Parts.{RowsPart, BookPart, rows_part, book_part}
-use Rattle.store_steps.specs.Touch.{Touch, events_of}
-use Rattle.store_steps.specs.RowsGo.{RowsGo}
+use Rattle.store_steps.specs.Prelude.{Batch, State, taken_up, committed_batch, finished, Accepts, Call, Calls, IsRun, intents, uncommitted, RowsPart, BookPart, rows_part, book_part, Touch, events_of, RowsGo, BookGoes, Replies, refuses, reads, IsCaused, Footprint}
 use Rattle.store_steps.specs.RowsGo as rows
-use Rattle.store_steps.specs.BookGoes.{BookGoes}
 use Rattle.store_steps.specs.BookGoes as book
-use Rattle.store_steps.specs.Footprint.{Replies, refuses, reads, IsCaused, Footprint}
-use Rattle.store_facts.specs.Kept.{IsKept}
-use Rattle.store_facts.proofs.Readiness.{ready_by_table}
-use Rattle.store_facts.proofs.Conditions.{take_none, finish_ready}
-use Rattle.store_facts.proofs.PartsKept.{intents_both}
-use Rattle.store_facts.proofs.Choosing.{IsFirst, chosen_first}
-use Rattle.store_facts.proofs.Downs.{was_up, GoesDown}
-use Rattle.store_facts.proofs.Keeping.{down_call}
-use Rattle.unit_fields.specs.UnitSet.{Ascends}
-use Rattle.plan_rows.specs.Plans.{IsKnown}
-use Rattle.store_facts.proofs.Footprints.{footprint_of}
-use Rattle.book_facts.specs.BookFacts.{KnownOfBook, IsInOrder}
+use Rattle.store_facts.specs.Prelude.{IsKept}
+use Rattle.store_facts.proofs.Prelude.{ready_by_table, take_none, finish_ready, intents_both, IsFirst, chosen_first, was_up, GoesDown, down_call, footprint_of, kept_call}
+use Rattle.unit_fields.specs.Prelude.{Ascends}
+use Rattle.book_facts.specs.Prelude.{KnownOfBook, IsInOrder}
 use Rattle.book_facts.proofs.Books.{KeepBook, batch_of, book_stays, book_takes, book_commits, book_finishes, known_legal}
 use Rattle.book_facts.proofs.Order.{order_stays, order_takes, order_commits, order_finishes, order_accepts, order_enters}
-use Rattle.store_facts.proofs.KeptCalls.{kept_call}
 use Rattle.book_facts.proofs.KnownPlans.{known_plan}
 use Rattle.book_facts.proofs.Accepted.{book_accepts, book_notes, book_answers, cause_refuses, read_accepts_none}
 

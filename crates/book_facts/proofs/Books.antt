@@ -7,25 +7,16 @@ use Rattle.std.specs.Option.{option_map_or}
 use Rattle.std.proofs.lemmas.List.{map-append, drop_at, drop_all, length-map}
 use Rattle.object_model.specs.declared.book.Commit.{Commit}
 use Rattle.object_model.specs.declared.book.Book.{Book}
-use Rattle.object_model.specs.Objects.{Objects}
-use Rattle.object_model.specs.Book.{change_at, AreCountsWithin, acked_count}
-use Rattle.read_facts.specs.Alike.{IsLegalButBytes}
-use Rattle.meta_rows.specs.Rows.{Rows}
-use Rattle.store_image.specs.Stands.{IsShape}
-use Rattle.unit_allocator.specs.Units.{Space}
+use Rattle.object_model.specs.Prelude.{Objects, change_at, AreCountsWithin, acked_count}
+use Rattle.read_facts.specs.Prelude.{IsLegalButBytes}
+use Rattle.meta_rows.specs.Prelude.{Rows}
+use Rattle.store_image.specs.Prelude.{IsShape}
+use Rattle.unit_allocator.specs.Prelude.{Space}
 use Rattle.store_steps.specs.declared.context.Context.{Context}
-use Rattle.store_steps.specs.State.{Batch, State}
-use Rattle.store_steps.specs.Contexts.{without_context}
-use Rattle.store_steps.specs.Opened.{Found, opened}
-use Rattle.store_steps.specs.Changes.{commit_of, taken_up, acknowledged, finished, committed_batch}
-use Rattle.store_steps.specs.Ready.{applied_count}
-use Rattle.store_steps.specs.Intents.{Intent, intent_of, intents}
-use Rattle.store_steps.specs.Parts.{BookPart, book_part}
-use Rattle.store_facts.proofs.Choosing.{IsFirst}
-use Rattle.store_facts.proofs.Lists.{elsewhere, without_at, all_right}
-use Rattle.store_facts.proofs.PartsKept.{intents_both}
-use Rattle.unit_fields.specs.UnitSet.{Ascends}
-use Rattle.book_facts.specs.BookFacts.{commit_places, IsOfEntry, AreCommits, IsBookKnown, KnownOfBook, AreQueued}
+use Rattle.store_steps.specs.Prelude.{Batch, State, without_context, Found, opened, commit_of, taken_up, acknowledged, finished, committed_batch, applied_count, Intent, intent_of, intents, BookPart, book_part}
+use Rattle.store_facts.proofs.Prelude.{IsFirst, elsewhere, without_at, all_right, intents_both}
+use Rattle.unit_fields.specs.Prelude.{Ascends}
+use Rattle.book_facts.specs.Prelude.{commit_places, IsOfEntry, AreCommits, IsBookKnown, KnownOfBook, AreQueued}
 use Rattle.book_facts.proofs.Entries.{counts_more}
 use Rattle.book_facts.proofs.Commits.{all_push, acked_push, by_now_more, by_now_acknowledged, acked_acknowledged}
 use Rattle.book_facts.proofs.Commits.{count_push, count_acknowledged, places_acknowledged, length_acknowledged, AreAtPlaces, at_places, of_places}

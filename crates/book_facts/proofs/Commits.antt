@@ -7,11 +7,10 @@ use Rattle.std.proofs.lemmas.List.Sums.{sum_by-cons, sum_by_push}
 use Rattle.std.proofs.lemmas.Bool.{ne_eqb}
 use Rattle.object_model.specs.declared.book.Entry.{Entry}
 use Rattle.object_model.specs.declared.book.Commit.{Commit}
-use Rattle.object_model.specs.Effect.{Change}
-use Rattle.object_model.specs.Book.{change_at, committed, is_on, committed_places, AreAckedFrom, acked_count}
-use Rattle.store_steps.specs.Changes.{acknowledged}
-use Rattle.book_facts.specs.BookFacts.{commit_places}
-use Rattle.store_facts.proofs.Lists.{all_left}
+use Rattle.object_model.specs.Prelude.{Change, change_at, committed, is_on, committed_places, AreAckedFrom, acked_count}
+use Rattle.store_steps.specs.Prelude.{acknowledged}
+use Rattle.book_facts.specs.Prelude.{commit_places}
+use Rattle.store_facts.proofs.Prelude.{all_left}
 
 -- ---- facts of each element
 

@@ -2,24 +2,20 @@
 use Rattle.std.proofs.Common.{◌≡◌, inl, inr, ℕ, ◌+◌, ◌<◌, ◌≤◌, Bool, true, false, List, [], ◌∷◌, ◌++◌}
 use Rattle.std.proofs.Common.{refl, sym, ap, subst, ◌∙◌, arith}
 use Rattle.std.specs.Prelude.{◌||◌}
-use Rattle.block_device.specs.Disk.{Disk}
+use Rattle.block_device.specs.Prelude.{Disk}
 use Rattle.object_model.specs.declared.book.Entry.{Entry}
 use Rattle.object_model.specs.declared.command.Answer.{Answer}
 use Rattle.object_model.specs.declared.command.Answer.TheVariants as answer
 use Rattle.object_model.specs.declared.command.Command.{Command}
 use Rattle.object_model.specs.declared.command.Command.TheVariants as ask
-use Rattle.object_model.specs.Effect.{Change}
-use Rattle.meta_log.specs.Slots.{width_of}
-use Rattle.read_facts.specs.PageReads.{IsHeldAt, no_memory}
-use Rattle.read_facts.specs.Answers.{HasReadNames, IsAnswerOf}
-use Rattle.plan_rows.specs.Plans.{units_taken}
-use Rattle.plan_rows.specs.Keeps.{PlansKeep}
-use Rattle.store_steps.specs.Runs.{Call, submitting, reading, stepping, Calls, IsRun}
-use Rattle.store_steps.specs.State.{State}
-use Rattle.store_steps.specs.Submit.{free_count, IsCause}
-use Rattle.store_facts.specs.Kept.{IsKept}
-use Rattle.book_facts.specs.Rooms.{taken_by, units_asked, demanded_by, is_no_space, any_no_space}
-use Rattle.store_facts.proofs.KeptCalls.{kept_call}
+use Rattle.object_model.specs.Prelude.{Change}
+use Rattle.meta_log.specs.Prelude.{width_of}
+use Rattle.read_facts.specs.Prelude.{IsHeldAt, no_memory, HasReadNames, IsAnswerOf}
+use Rattle.plan_rows.specs.Prelude.{units_taken, PlansKeep}
+use Rattle.store_steps.specs.Prelude.{Call, submitting, reading, stepping, Calls, IsRun, State, free_count, IsCause}
+use Rattle.store_facts.specs.Prelude.{IsKept}
+use Rattle.book_facts.specs.Prelude.{taken_by, units_asked, demanded_by, is_no_space, any_no_space}
+use Rattle.store_facts.proofs.Prelude.{kept_call}
 use Rattle.book_facts.proofs.Rooms.{KeepsSpace, call_space, taken_push, step_room}
 
 -- ---- entries

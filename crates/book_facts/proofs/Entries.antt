@@ -6,11 +6,8 @@ use Rattle.std.specs.List.{AllByRecursion, cons_option}
 use Rattle.std.proofs.lemmas.List.Elements.{filter_map-append}
 use Rattle.object_model.specs.declared.book.Entry.{Entry}
 use Rattle.object_model.specs.declared.book.Commit.{Commit}
-use Rattle.object_model.specs.Objects.{Objects}
-use Rattle.object_model.specs.Effect.{Change, replay}
-use Rattle.object_model.specs.Book.{accepted_change, accepted, IsAnswered, AnswersFrom, change_at, committed, is_on, places_from, places_of, committed_places}
-use Rattle.object_model.specs.Book.{AreCountsWithin}
-use Rattle.read_facts.specs.Alike.{IsAnsweredAlike, AnswersAlikeFrom}
+use Rattle.object_model.specs.Prelude.{Objects, Change, replay, accepted_change, accepted, IsAnswered, AnswersFrom, change_at, committed, is_on, places_from, places_of, committed_places, AreCountsWithin}
+use Rattle.read_facts.specs.Prelude.{IsAnsweredAlike, AnswersAlikeFrom}
 
 -- ---- answers
 

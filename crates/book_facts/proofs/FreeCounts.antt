@@ -4,8 +4,8 @@ use Rattle.std.proofs.Common.{get_or, set, refl, sym, ap, ◌∙◌, arith}
 use Rattle.std.specs.List.{AllByRecursion, filter, range_with_len}
 use Rattle.std.proofs.lemmas.Bool.{cases_eq, and_parts}
 use Rattle.std.proofs.lemmas.List.{length-set, length-map}
-use Rattle.unit_fields.specs.UnitSet.{Ascends}
-use Rattle.unit_allocator.specs.Units.{Space, IsWithin, is_free, idle_and_unheld, free_units, taken_one, given_one, taken, given}
+use Rattle.unit_fields.specs.Prelude.{Ascends}
+use Rattle.unit_allocator.specs.Prelude.{Space, IsWithin, is_free, idle_and_unheld, free_units, taken_one, given_one, taken, given}
 use Rattle.unit_allocator.proofs.Counts.{idle_here, idle_there}
 use Rattle.unit_allocator.proofs.FreeUnits.{one_less_is_free, taken_is_not_free, range_stays}
 

@@ -1,21 +1,16 @@
 -- What is known of the plan of an accepted transaction.
 use Rattle.std.proofs.Common.{ℕ, Contains}
-use Rattle.block_device.specs.Disk.{Disk}
-use Rattle.meta_log.specs.Slots.{IsSuper}
-use Rattle.object_model.specs.Effect.{Change, names_of}
-use Rattle.store_image.specs.Owners.{IsMarked}
-use Rattle.unit_allocator.specs.Units.{free_units}
+use Rattle.block_device.specs.Prelude.{Disk}
+use Rattle.meta_log.specs.Prelude.{IsSuper}
+use Rattle.object_model.specs.Prelude.{Change, names_of}
+use Rattle.store_image.specs.Prelude.{IsMarked}
+use Rattle.unit_allocator.specs.Prelude.{free_units}
 use Rattle.plan_rows.specs.declared.plan.Plan.{Plan}
-use Rattle.plan_rows.specs.Plans.{fresh_units}
-use Rattle.plan_rows.specs.Keeps.{IsGood, Suits, PlanKeeps, PlanMakes, PlanTakes, PlansKeep}
+use Rattle.plan_rows.specs.Prelude.{fresh_units, IsGood, Suits, PlanKeeps, PlanMakes, PlanTakes, PlansKeep, IsKnown}
 use Rattle.plan_rows.proofs.Agreeing.{agree_itself}
-use Rattle.store_steps.specs.State.{State}
-use Rattle.store_steps.specs.Submit.{Accepts}
-use Rattle.plan_rows.specs.Plans.{IsKnown}
-use Rattle.store_steps.specs.Parts.{rows_part}
-use Rattle.store_facts.specs.Kept.{IsKept}
-use Rattle.store_facts.specs.Space.{IsSpaceOf, AreRowsKept}
-use Rattle.store_facts.proofs.RowsAccepted.{submitted_good, submitted_free, accepted_keeps, accepted_makes, accepted_takes}
+use Rattle.store_steps.specs.Prelude.{State, Accepts, rows_part}
+use Rattle.store_facts.specs.Prelude.{IsKept, IsSpaceOf, AreRowsKept}
+use Rattle.store_facts.proofs.Prelude.{submitted_good, submitted_free, accepted_keeps, accepted_makes, accepted_takes}
 use Rattle.book_facts.proofs.Commits.{all_then}
 
 -- The submitted rows are good and suit the plan, and it keeps, makes and takes what plans do.

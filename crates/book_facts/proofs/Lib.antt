@@ -13,3 +13,4 @@ pub mod Applied
 pub mod FreeCounts
 pub mod Rooms
 pub mod Demand
+pub mod Prelude

@@ -1,9 +1,9 @@
 -- The names of contexts: so far each has one, that of its collection.
 use Rattle.std.proofs.Common.{◌≡◌, ℕ, true, List, refl}
-use Rattle.object_model.specs.Effect.{is_named, OneName}
+use Rattle.object_model.specs.Prelude.{is_named, OneName}
 use Rattle.object_model.proofs.Names.{is_same_itself, only_name}
 use Rattle.store_steps.specs.declared.context.Context.{Context}
-use Rattle.store_steps.specs.Contexts.{colls_of}
+use Rattle.store_steps.specs.Prelude.{colls_of}
 
 pub has_one_coll : (x : Context) → OneName (colls_of x)
 has_one_coll x = refl

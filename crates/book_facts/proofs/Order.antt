@@ -7,26 +7,18 @@ use Rattle.object_model.specs.declared.command.Answer.{Answer}
 use Rattle.object_model.specs.declared.command.Answer.TheVariants as answer
 use Rattle.object_model.specs.declared.command.Command.{Command}
 use Rattle.object_model.specs.declared.command.Command.TheVariants as ask
-use Rattle.object_model.specs.Effect.{Change}
-use Rattle.object_model.specs.Book.{accepted_change, change_at}
+use Rattle.object_model.specs.Prelude.{Change, accepted_change, change_at}
 use Rattle.plan_rows.specs.declared.plan.Plan.{Plan}
-use Rattle.unit_allocator.specs.Units.{Space}
+use Rattle.unit_allocator.specs.Prelude.{Space}
 use Rattle.store_steps.specs.declared.context.Context.{Context}
-use Rattle.store_steps.specs.State.{Batch, State}
-use Rattle.store_steps.specs.Changes.{commit_of, taken_up, acknowledged, finished, committed_batch}
-use Rattle.store_steps.specs.Submit.{context_of, entered, accepted_with}
-use Rattle.store_steps.specs.Opened.{Found, opened}
-use Rattle.store_steps.specs.Intents.{Intent, intent_of, intents}
-use Rattle.store_steps.specs.Parts.{BookPart, book_part}
-use Rattle.store_facts.proofs.PartsKept.{intents_both}
-use Rattle.store_facts.proofs.Choosing.{IsFirst}
-use Rattle.unit_fields.specs.UnitSet.{Ascends}
-use Rattle.book_facts.specs.BookFacts.{IsOfEntry, KnownOfOrder, IsInOrder}
+use Rattle.store_steps.specs.Prelude.{Batch, State, commit_of, taken_up, acknowledged, finished, committed_batch, context_of, entered, accepted_with, Found, opened, Intent, intent_of, intents, BookPart, book_part}
+use Rattle.store_facts.proofs.Prelude.{intents_both, IsFirst, all_join, all_right}
+use Rattle.unit_fields.specs.Prelude.{Ascends}
+use Rattle.book_facts.specs.Prelude.{IsOfEntry, KnownOfOrder, IsInOrder}
 use Rattle.book_facts.proofs.Entries.{change_last, of_entries_push}
 use Rattle.book_facts.proofs.Commits.{all_push, places_acknowledged, AreAtPlaces, at_places, of_places}
 use Rattle.book_facts.proofs.Queues.{entry_push, queued_noted, queued_accepted, queued_places}
 use Rattle.book_facts.proofs.Books.{KeepBook, batch_of, nothing_twice, all_taken, queues_taken, waiting_then}
-use Rattle.store_facts.proofs.Lists.{all_join, all_right}
 
 -- at the start
 pub order_opened : (f : Found) (space : Space) (events : ℕ) → IsInOrder (opened f space events)

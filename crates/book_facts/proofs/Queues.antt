@@ -12,13 +12,12 @@ use Rattle.std.proofs.lemmas.List.Sorted.{IsPermutation-append_right, IsPermutat
 use Rattle.object_model.specs.declared.book.Entry.{Entry}
 use Rattle.object_model.specs.declared.book.Commit.{Commit}
 use Rattle.object_model.specs.declared.book.Book.{Book}
-use Rattle.object_model.specs.Effect.{Change, names_of, is_named}
-use Rattle.object_model.specs.Book.{change_at, is_on, places_of, committed_places, IsPrefixOf}
-use Rattle.store_steps.specs.Intents.{Intent, names_in, is_in}
-use Rattle.book_facts.specs.BookFacts.{places, commit_places, intents_on, IsOfEntry, AreQueued}
+use Rattle.object_model.specs.Prelude.{Change, names_of, is_named, change_at, is_on, places_of, committed_places, IsPrefixOf}
+use Rattle.store_steps.specs.Prelude.{Intent, names_in, is_in}
+use Rattle.book_facts.specs.Prelude.{places, commit_places, intents_on, IsOfEntry, AreQueued}
 use Rattle.book_facts.proofs.Entries.{own_change, change_below, change_push, places_kept, place_if, places_push}
 use Rattle.book_facts.proofs.Commits.{all_then, AreAtPlaces, at_places, places_on, places_by_places, distinct_front, none_above}
-use Rattle.store_facts.proofs.Lists.{all_join}
+use Rattle.store_facts.proofs.Prelude.{all_join}
 
 -- ---- intents of entries
 

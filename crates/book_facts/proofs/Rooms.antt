@@ -2,45 +2,31 @@
 use Rattle.std.proofs.Common.{◌≡◌, inl, inr, ℕ, ◌+◌, ◌-◌, ◌<◌, ◌≤◌, true, List, [], ◌∷◌, ◌++◌, length}
 use Rattle.std.proofs.Common.{None, Contains, refl, sym, ap, subst, ◌∙◌, arith}
 use Rattle.std.proofs.lemmas.List.{length-map}
-use Rattle.block_device.specs.Disk.{Disk, IsSound}
+use Rattle.block_device.specs.Prelude.{Disk, IsSound}
 use Rattle.object_model.specs.declared.book.Entry.{Entry}
 use Rattle.object_model.specs.declared.command.Answer.{Answer}
 use Rattle.object_model.specs.declared.command.Answer.TheVariants as answer
 use Rattle.object_model.specs.declared.command.Command.{Command}
 use Rattle.object_model.specs.declared.command.Command.TheVariants as ask
-use Rattle.object_model.specs.Effect.{Change}
-use Rattle.object_model.specs.Book.{accepted_change, accepted}
-use Rattle.meta_log.specs.Records.{unit_count}
+use Rattle.object_model.specs.Prelude.{Change, accepted_change, accepted}
+use Rattle.meta_log.specs.Prelude.{unit_count}
 use Rattle.plan_rows.specs.declared.plan.FreshUnit.{FreshUnit}
 use Rattle.store_steps.specs.declared.flight.Job.TheVariants as job
 use Rattle.store_steps.specs.declared.step.Step.{Step}
-use Rattle.store_steps.specs.State.{State}
-use Rattle.plan_rows.specs.Plans.{IsKnown, units_taken, fresh_units}
-use Rattle.plan_rows.specs.Keeps.{PlansKeep}
-use Rattle.unit_allocator.specs.Units.{IsWithin, is_free, free_units}
+use Rattle.store_steps.specs.Prelude.{State, is_ready, Call, submitting, reading, stepping, DoesOrFails, Submits, Reads, Calls, IsRun, need_of, free_count, entered, Accepts, Refuses, ops_by, released_by, needs_by, RowsPart, rows_part, RowsGo, Footprint}
+use Rattle.plan_rows.specs.Prelude.{IsKnown, units_taken, fresh_units, PlansKeep}
+use Rattle.unit_allocator.specs.Prelude.{IsWithin, is_free, free_units}
 use Rattle.unit_allocator.proofs.FreeUnits.{listed_is_free}
-use Rattle.store_steps.specs.Ready.{is_ready}
-use Rattle.store_steps.specs.Runs.{Call, submitting, reading, stepping, DoesOrFails, Submits, Reads, Calls, IsRun}
 use Rattle.meta_store.specs.Store.{room_of}
-use Rattle.store_steps.specs.Submit.{need_of, free_count, entered, Accepts, Refuses}
-use Rattle.store_facts.specs.Kept.{IsKept}
-use Rattle.store_steps.specs.Intents.{ops_by, released_by, needs_by}
-use Rattle.store_steps.specs.Parts.{RowsPart, rows_part}
-use Rattle.store_steps.specs.RowsGo.{RowsGo}
+use Rattle.store_facts.specs.Prelude.{IsKept, HasRoom}
 use Rattle.store_steps.specs.RowsGo as rows
-use Rattle.store_steps.specs.Footprint.{Footprint}
 use Rattle.meta_log.specs.declared.slot.Super.{Super}
-use Rattle.store_facts.specs.Room.{HasRoom}
-use Rattle.store_facts.proofs.Footprints.{footprint_of}
-use Rattle.store_facts.proofs.RowsSteps.{IsNoJoin, none_joins}
-use Rattle.store_facts.proofs.RoomKept.{needs_join}
-use Rattle.store_facts.proofs.Keeping.{StepOutcome, has_stepped, has_waited, has_gone_down, step_leaves}
-use Rattle.book_facts.specs.Rooms.{units_taken_by, taken_by, need_if_accepted, needs_in}
+use Rattle.store_facts.proofs.Prelude.{footprint_of, IsNoJoin, none_joins, needs_join, StepOutcome, has_stepped, has_waited, has_gone_down, step_leaves, kept_call}
+use Rattle.book_facts.specs.Prelude.{units_taken_by, taken_by, need_if_accepted, needs_in}
 use Rattle.book_facts.proofs.Accepted.{cause_refuses, read_accepts_none}
 use Rattle.book_facts.proofs.Entries.{own_change, accepted_push, none_accepted}
 use Rattle.book_facts.proofs.FreeCounts.{count_taken, count_given}
 use Rattle.book_facts.proofs.Commits.{all_then}
-use Rattle.store_facts.proofs.KeptCalls.{kept_call}
 use Rattle.book_facts.proofs.KnownPlans.{IsKnownPlan, known_plan}
 
 -- ---- steps take nothing

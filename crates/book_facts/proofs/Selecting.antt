@@ -2,15 +2,14 @@
 use Rattle.std.proofs.Common.{ℕ, List, []}
 use Rattle.unit_fields.specs.declared.width.Width.{Width}
 use Rattle.object_model.specs.declared.book.Entry.{Entry}
-use Rattle.object_model.specs.Objects.{Objects}
-use Rattle.object_model.specs.Effect.{replay}
+use Rattle.object_model.specs.Prelude.{Objects, replay}
 use Rattle.object_model.proofs.Names.{is_same_itself}
-use Rattle.meta_rows.specs.Rows.{Rows}
-use Rattle.store_image.specs.Stands.{ObjectsStand}
-use Rattle.store_steps.specs.Intents.{Intent, is_in, rows_by}
+use Rattle.meta_rows.specs.Prelude.{Rows}
+use Rattle.store_image.specs.Prelude.{ObjectsStand}
+use Rattle.store_steps.specs.Prelude.{Intent, is_in, rows_by}
 use Rattle.selections.specs.Fair.{EachHasName}
 use Rattle.selections.proofs.Selecting.{fair_nil, fair_all, each_of_none}
-use Rattle.book_facts.specs.Selections.{changes_of, SelectionsStand}
+use Rattle.book_facts.specs.Prelude.{changes_of, SelectionsStand}
 
 -- each intent changes a collection
 pub has_coll : EachHasName is_in

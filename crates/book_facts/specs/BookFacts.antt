@@ -1,18 +1,14 @@
 -- What is known of the book from call to call, whatever the device is.
 use Rattle.std.specs.Prelude.{◌≡◌, ℕ, ◌≤◌, nat_eq, List, ◌++◌, map, drop, Some, IsSome, IfSome}
 use Rattle.std.specs.List.{AllByRecursion, IsDistinct}
-use Rattle.object_model.specs.Objects.{Objects}
-use Rattle.object_model.specs.Effect.{Change, replay, names_of}
-use Rattle.object_model.specs.Book.{accepted, change_at, AreAckedFrom, AreCountsWithin, acked_count, places_of, committed_places}
+use Rattle.object_model.specs.Prelude.{Objects, Change, replay, names_of, accepted, change_at, AreAckedFrom, AreCountsWithin, acked_count, places_of, committed_places}
 use Rattle.object_model.specs.declared.book.Book.{Book}
 use Rattle.object_model.specs.declared.book.Commit.{Commit}
 use Rattle.object_model.specs.declared.book.Entry.{Entry}
-use Rattle.meta_rows.specs.Rows.{Rows}
-use Rattle.store_image.specs.Stands.{IsShape}
-use Rattle.read_facts.specs.Alike.{AnswersAlikeFrom}
-use Rattle.store_steps.specs.State.{State}
-use Rattle.store_steps.specs.Intents.{Intent, intents, names_in, is_in}
-use Rattle.store_steps.specs.Parts.{BookPart, book_part}
+use Rattle.meta_rows.specs.Prelude.{Rows}
+use Rattle.store_image.specs.Prelude.{IsShape}
+use Rattle.read_facts.specs.Prelude.{AnswersAlikeFrom}
+use Rattle.store_steps.specs.Prelude.{State, Intent, intents, names_in, is_in, BookPart, book_part}
 use Rattle.selections.specs.Fair.{under}
 
 -- the places of intents, and of commits

@@ -1,3 +1,4 @@
 pub mod BookFacts
 pub mod Selections
 pub mod Rooms
+pub mod Prelude

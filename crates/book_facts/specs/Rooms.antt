@@ -1,18 +1,15 @@
 -- What accepted transactions take of the units that are free when the kernel is opened, and of the room in the log.
 use mathlib.Core.Logic.{inl, inr}
 use Rattle.std.specs.Prelude.{ℕ, ◌+◌, Bool, true, false, ◌||◌, List, [], ◌∷◌, map}
-use Rattle.block_device.specs.Disk.{Disk}
-use Rattle.object_model.specs.Effect.{Change}
-use Rattle.object_model.specs.Book.{accepted}
+use Rattle.block_device.specs.Prelude.{Disk}
+use Rattle.object_model.specs.Prelude.{Change, accepted}
 use Rattle.object_model.specs.declared.book.Entry.{Entry}
 use Rattle.object_model.specs.declared.command.Answer.{Answer}
 use Rattle.object_model.specs.declared.command.Answer.TheVariants as answer
 use Rattle.object_model.specs.declared.command.Command.{Command}
 use Rattle.object_model.specs.declared.command.Command.TheVariants as ask
-use Rattle.plan_rows.specs.Plans.{units_taken}
-use Rattle.store_steps.specs.Runs.{Call, submitting, reading, stepping, Submits, IsRun}
-use Rattle.store_steps.specs.State.{State}
-use Rattle.store_steps.specs.Submit.{need_of}
+use Rattle.plan_rows.specs.Prelude.{units_taken}
+use Rattle.store_steps.specs.Prelude.{Call, submitting, reading, stepping, Submits, IsRun, State, need_of}
 
 -- the units that transactions take
 abbrev pub units_taken_by : List Change → ℕ

@@ -2,14 +2,10 @@
 use Rattle.std.specs.Prelude.{ℕ, List, take, filter_map}
 use Rattle.unit_fields.specs.declared.width.Width.{Width}
 use Rattle.object_model.specs.declared.book.Entry.{Entry}
-use Rattle.object_model.specs.Objects.{Objects}
-use Rattle.object_model.specs.Effect.{Change, replay}
-use Rattle.object_model.specs.Book.{change_at, committed}
-use Rattle.meta_rows.specs.Rows.{Rows}
-use Rattle.store_image.specs.Stands.{ObjectsStand}
-use Rattle.store_steps.specs.State.{State}
-use Rattle.store_steps.specs.Ready.{applied_count}
-use Rattle.store_steps.specs.Intents.{Intent, is_in, rows_by}
+use Rattle.object_model.specs.Prelude.{Objects, Change, replay, change_at, committed}
+use Rattle.meta_rows.specs.Prelude.{Rows}
+use Rattle.store_image.specs.Prelude.{ObjectsStand}
+use Rattle.store_steps.specs.Prelude.{State, applied_count, Intent, is_in, rows_by}
 use Rattle.selections.specs.Fair.{IsFair}
 
 -- of each collection the first ones are selected, in order

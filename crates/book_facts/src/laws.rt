@@ -1,25 +1,18 @@
 //! What is known of the book, from one call to the next and along a run.
 
 ghost use Rattle.std.specs.Prelude.{◌≡◌, ℕ, ◌+◌, ◌<◌, ◌≤◌, true, List, []};
-ghost use Rattle.block_device.specs.Disk.{Disk, IsSound};
-ghost use Rattle.object_model.specs.Objects.{Objects};
-ghost use Rattle.object_model.specs.Effect.{Change, is_named, OneName};
+ghost use Rattle.block_device.specs.Prelude.{Disk, IsSound};
+ghost use Rattle.object_model.specs.Prelude.{Objects, Change, is_named, OneName};
 ghost use Rattle.object_model.specs.declared.command.Answer.TheVariants as answer;
-ghost use Rattle.store_image.specs.Stands.{IsShape};
-ghost use Rattle.unit_allocator.specs.Units.{Space};
-ghost use Rattle.plan_rows.specs.Keeps.{PlansKeep};
-ghost use Rattle.read_facts.specs.Alike.{IsLegalButBytes};
+ghost use Rattle.store_image.specs.Prelude.{IsShape};
+ghost use Rattle.unit_allocator.specs.Prelude.{Space};
+ghost use Rattle.plan_rows.specs.Prelude.{PlansKeep, IsKnown};
+ghost use Rattle.read_facts.specs.Prelude.{IsLegalButBytes};
 ghost use Rattle.store_steps.specs.declared.context.Context.{Context};
 ghost use Rattle.store_steps.specs.declared.step.Step.{Step};
-ghost use Rattle.store_steps.specs.State.{State};
-ghost use Rattle.store_steps.specs.Contexts.{colls_of};
-ghost use Rattle.store_steps.specs.Opened.{Found, opened};
-ghost use Rattle.store_steps.specs.Ready.{is_ready};
+ghost use Rattle.store_steps.specs.Prelude.{State, colls_of, Found, opened, is_ready, need_of, free_count, Accepts, Refuses, DoesOrFails, Call, Calls, IsRun};
 ghost use Rattle.meta_store.specs.Store.{room_of};
-ghost use Rattle.store_steps.specs.Submit.{need_of, free_count, Accepts, Refuses};
-ghost use Rattle.store_steps.specs.Runs.{DoesOrFails, Call, Calls, IsRun};
-ghost use Rattle.plan_rows.specs.Plans.{IsKnown};
-ghost use Rattle.store_facts.specs.Kept.{IsKept};
+ghost use Rattle.store_facts.specs.Prelude.{IsKept};
 ghost use Rattle.book_facts.specs.BookFacts.{KnownOfBook, IsInOrder};
 ghost use Rattle.book_facts.specs.Rooms.{taken_by, needs_in, demanded_by, any_no_space};
 

@@ -6,6 +6,6 @@ mod laws;
 
 pub use laws::{
     a_call_keeps_the_book, a_context_has_one_name, a_known_book_is_legal, a_new_book_is_known,
-    a_run_keeps_the_order, a_run_makes_a_legal_book,
-    room_suffices, space_suffices, want_of_space_is_beyond_the_demand,
+    a_run_keeps_the_order, a_run_makes_a_legal_book, room_suffices, space_suffices,
+    want_of_space_is_beyond_the_demand,
 };

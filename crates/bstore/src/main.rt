@@ -3,7 +3,7 @@
 #![tactic(auto)]
 
 ghost use Rattle.std.specs.Prelude.{◌≡◌, ◌⊎◌};
-ghost use Rattle.block_device.specs.Disk.{Rose};
+ghost use Rattle.block_device.specs.Prelude.{Rose};
 ghost use Rattle.end_points.specs.Sink.{with_bytes};
 
 mod words;

@@ -1,21 +1,17 @@
 -- A script that asks for no more units than are free finds them.
 use Rattle.std.proofs.Common.{◌≡◌, ℕ, ◌+◌, ◌≤◌, Bool, true, false, List, [], ◌∷◌, ◌++◌, map, refl, sym, ap, ◌∙◌, arith}
-use Rattle.block_device.specs.Disk.{Disk}
+use Rattle.block_device.specs.Prelude.{Disk}
 use Rattle.object_model.specs.declared.book.Book.{Book}
 use Rattle.object_model.specs.declared.book.Entry.{Entry}
-use Rattle.unit_allocator.specs.Units.{Space}
+use Rattle.unit_allocator.specs.Prelude.{Space}
 use Rattle.object_rows.proofs.PlansKeep.{plans_keep}
 use Rattle.script_text.specs.declared.line.Line.{Line}
-use Rattle.store_steps.specs.State.{State}
-use Rattle.store_steps.specs.Opened.{Found}
-use Rattle.store_steps.specs.Submit.{free_count}
-use Rattle.store_steps.specs.Runs.{Call, IsRun}
-use Rattle.store_facts.specs.Kept.{IsKept}
-use Rattle.book_facts.specs.Rooms.{units_asked, demand_of, demanded_by, any_no_space}
-use Rattle.book_facts.proofs.Demand.{want_is_beyond_the_demand}
+use Rattle.store_steps.specs.Prelude.{State, Found, free_count, Call, IsRun}
+use Rattle.store_facts.specs.Prelude.{IsKept}
+use Rattle.book_facts.specs.Prelude.{units_asked, demand_of, demanded_by, any_no_space}
+use Rattle.book_facts.proofs.Prelude.{want_is_beyond_the_demand}
 use Rattle.mount_replay.specs.Mounting.{IsOpenedOn}
-use Rattle.bstore_top.specs.Choice.{Ask, asks_of}
-use Rattle.bstore_top.specs.StepRun.{Asked, asked_in, asked_by, AskedUpTo, script_demand}
+use Rattle.bstore_top.specs.Prelude.{Ask, asks_of, Asked, asked_in, asked_by, AskedUpTo, script_demand}
 
 demand_in : List Asked → ℕ
 demand_in [] = 0

@@ -5,11 +5,8 @@ use Rattle.std.proofs.Math.Seq.{take-length}
 use Rattle.std.proofs.lemmas.List.{length-map, length-take-le}
 use Rattle.std.specs.Prelude.{filter, slice_get, slice_index_or}
 use Rattle.store_steps.specs.declared.step.Step.{Step}
-use Rattle.store_steps.specs.State.{State}
-use Rattle.store_steps.specs.Ready.{is_ready, all_steps}
-use Rattle.store_steps.specs.Runs.{Call, stepping}
-use Rattle.bstore_top.specs.Choice.{Ask, turned, ready_list, client_calls, possible_calls, IsDrawnOf}
-use Rattle.bstore_top.specs.Stepping.{IsNext}
+use Rattle.store_steps.specs.Prelude.{State, is_ready, all_steps, Call, stepping}
+use Rattle.bstore_top.specs.Prelude.{Ask, turned, ready_list, client_calls, possible_calls, IsDrawnOf, IsNext}
 
 -- ---- lists
 

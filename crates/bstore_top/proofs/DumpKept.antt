@@ -3,41 +3,29 @@ use Rattle.std.proofs.Common.{◌≡◌, ℕ, ◌≤◌, true, List, [], length,
 use Rattle.std.specs.Prelude.{IfErr, OnOk}
 use Rattle.std.specs.List.{AllByRecursion}
 use Rattle.unit_fields.specs.declared.width.Width.{Width}
-use Rattle.block_device.specs.Log.{last, HasNoBadDone}
-use Rattle.block_device.specs.Facts.{last_at}
-use Rattle.block_device.specs.Disk.{Disk, History, IsFresh, Rose}
+use Rattle.block_device.specs.Prelude.{last, HasNoBadDone, last_at, Disk, History, IsFresh, Rose}
 use Rattle.block_device.specs.declared.event.Event.{Event}
-use Rattle.meta_rows.specs.Rows.{Rows}
-use Rattle.object_model.specs.Objects.{Objects}
-use Rattle.object_model.specs.Effect.{replay}
-use Rattle.object_model.specs.Book.{accepted}
-use Rattle.meta_log.specs.Slots.{width_of}
-use Rattle.store_image.specs.BadRows.{NoBadRow}
-use Rattle.store_image.specs.Stands.{ObjectsStand, StandsFor}
-use Rattle.store_image.specs.Durability.{EachCutStands}
+use Rattle.meta_rows.specs.Prelude.{Rows}
+use Rattle.object_model.specs.Prelude.{Objects, replay, accepted}
+use Rattle.meta_log.specs.Prelude.{width_of}
+use Rattle.store_image.specs.Prelude.{NoBadRow, ObjectsStand, StandsFor, EachCutStands}
 use Rattle.read_facts.specs.declared.view.CollView.{CollView}
-use Rattle.read_facts.specs.Views.{WalksTo, WalksAll, HasGoodViews, views_of}
-use Rattle.read_facts.specs.PageReads.{IsHeldAt, no_memory}
+use Rattle.read_facts.specs.Prelude.{WalksTo, WalksAll, HasGoodViews, views_of, IsHeldAt, no_memory}
 use Rattle.read_facts.proofs.Viewed.{walk_is, walk_good}
-use Rattle.unit_allocator.specs.Units.{Space}
-use Rattle.store_steps.specs.State.{State}
-use Rattle.store_steps.specs.Opened.{Found, opened}
-use Rattle.store_steps.specs.Ready.{is_drained}
-use Rattle.store_facts.specs.Kept.{IsKept}
+use Rattle.unit_allocator.specs.Prelude.{Space}
+use Rattle.store_steps.specs.Prelude.{State, Found, opened, is_drained}
+use Rattle.store_facts.specs.Prelude.{IsKept}
 use Rattle.crash_facts.specs.Store.{KnownOfStore, IsDurable, KeepsDurable}
 use Rattle.crash_facts.proofs.Idle.{drained_submitted, drained_good}
 use Rattle.store_kernel.specs.declared.unanswered.WalkFail.{WalkFail}
 use Rattle.store_kernel.specs.declared.unanswered.WalkFail.TheVariants as walk
-use Rattle.log_replay.specs.Calls.{IsLater}
+use Rattle.log_replay.specs.Prelude.{IsLater}
 use Rattle.mount_replay.specs.Mounting as mounting
 use Rattle.mount_replay.specs.Mounting.{IsOpenedOn, IsReapedTo}
 use Rattle.run_texts.specs.declared.work_end.WorkEnd.{WorkEnd}
 use Rattle.run_texts.specs.declared.work_end.WorkEnd.TheVariants.{Done, BadLine, NoSuper, BadRow, NotExact, WornOut}
 use Rattle.run_texts.specs.declared.work_end.WorkEnd.TheVariants.{DeviceFault, OutOfMemory, BayFault}
-use Rattle.bstore_top.specs.Dumping.{IsOfUp, end_of_walk}
-use Rattle.bstore_top.specs.DumpRun.{Walked, WalksStore, Shows, ShowsObjects}
-use Rattle.bstore_top.specs.Keeping.{StaysDurable}
-use Rattle.bstore_top.specs.StepRun.{empty_book, FailsToMount, HasCounted}
+use Rattle.bstore_top.specs.Prelude.{IsOfUp, end_of_walk, Walked, WalksStore, Shows, ShowsObjects, StaysDurable, empty_book, FailsToMount, HasCounted}
 use Rattle.bstore_top.proofs.RunLaws.{log_empty, clean_of_none, start_durable, no_reap}
 
 -- ---- a device on which nothing was mounted

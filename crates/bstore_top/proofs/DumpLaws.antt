@@ -5,30 +5,24 @@ use Rattle.std.specs.Prelude.{IfSome}
 use Rattle.std.specs.List.{AllByRecursion, list_any}
 use Rattle.std.specs.FinMap as finite
 use Rattle.unit_fields.specs.declared.width.Width.{Width}
-use Rattle.block_device.specs.Disk.{Disk, History, IsSound, IsFresh, Rose}
+use Rattle.block_device.specs.Prelude.{Disk, History, IsSound, IsFresh, Rose}
 use Rattle.end_points.specs.Bay.{Names, BayView, HandedOut, StartsWith, start_of}
 use Rattle.end_points.specs.declared.bay.How.TheVariants.{Plain}
-use Rattle.meta_rows.specs.Rows.{Rows}
-use Rattle.object_model.specs.Objects.{Objects}
+use Rattle.meta_rows.specs.Prelude.{Rows}
+use Rattle.object_model.specs.Prelude.{Objects}
 use Rattle.object_model.specs.declared.book.Book.{Book}
-use Rattle.meta_log.specs.Slots.{width_of}
-use Rattle.store_image.specs.Stands.{StandsFor}
+use Rattle.meta_log.specs.Prelude.{width_of}
+use Rattle.store_image.specs.Prelude.{StandsFor}
 use Rattle.read_facts.specs.declared.view.BadSum.{BadSum}
 use Rattle.read_facts.specs.declared.view.CollView.{CollView}
 use Rattle.read_facts.specs.declared.view.ObjectView.{ObjectView}
-use Rattle.read_facts.specs.Views.{HasGoodViews, IsGoodView, views_of}
+use Rattle.read_facts.specs.Prelude.{HasGoodViews, IsGoodView, views_of}
 use Rattle.command_words.specs.declared.command_line.CommandLine.TheVariants.{Dump}
 use Rattle.run_texts.specs.declared.work_end.WorkEnd.{WorkEnd}
 use Rattle.run_texts.specs.declared.work_end.WorkEnd.TheVariants.{Done, BadLine, NoSuper, BadRow, NotExact, WornOut}
 use Rattle.run_texts.specs.declared.work_end.WorkEnd.TheVariants.{DeviceFault, OutOfMemory, BayFault}
-use Rattle.bstore_top.specs.DumpRun.{Walked, DumpsOn, Shows, ShowsObjects, FailsUnopened, DumpsOpened, IsDumpDone, RanDump, Dumped}
-use Rattle.run_texts.specs.DumpTexts.{is_bad, has_bad_view, dump_text, dump_number}
-use Rattle.bstore_top.specs.GoodStart.{IsGoodStore, HasNoFault}
-use Rattle.run_texts.specs.Printed.{Output, TookAll}
-use Rattle.bstore_top.specs.Keeping.{IsDurableFrom, StaysDurable}
-use Rattle.run_texts.specs.Reports.{ReportsDump}
-use Rattle.bstore_top.specs.Run.{EachCrashLeavesPrefix}
-use Rattle.bstore_top.specs.StepRun.{Seen, seen, empty_book, HasCounted}
+use Rattle.bstore_top.specs.Prelude.{Walked, DumpsOn, Shows, ShowsObjects, FailsUnopened, DumpsOpened, IsDumpDone, RanDump, Dumped, IsGoodStore, HasNoFault, IsDurableFrom, StaysDurable, EachCrashLeavesPrefix, Seen, seen, empty_book, HasCounted}
+use Rattle.run_texts.specs.Prelude.{is_bad, has_bad_view, dump_text, dump_number, Output, TookAll, ReportsDump}
 use Rattle.bstore_top.proofs.RunLaws.{printed_well, EndsWell, ends_well}
 use Rattle.bstore_top.proofs.GoodStarts.{EndsInOrder, told_start, unmounted_ends, reported, in_order}
 

@@ -13,21 +13,19 @@ use Rattle.std.proofs.lemmas.Cmp.{nat_list_cmp_total, eq_by_cmp_equiv, tied_itse
 use Rattle.std.proofs.lemmas.List.{map-append, length-map}
 use Rattle.std.proofs.lemmas.Map.Steps.{length-le_from_keys}
 use Rattle.byte_maps.specs.ByteMap.{byte_order}
-use Rattle.byte_maps.proofs.Places.{same_bytes}
-use Rattle.block_device.specs.Disk.{Disk}
-use Rattle.meta_rows.specs.Rows.{Rows}
-use Rattle.unit_fields.specs.Names.{IsCollName}
+use Rattle.byte_maps.proofs.Prelude.{same_bytes}
+use Rattle.block_device.specs.Prelude.{Disk}
+use Rattle.meta_rows.specs.Prelude.{Rows}
+use Rattle.unit_fields.specs.Prelude.{IsCollName}
 use Rattle.unit_fields.specs.declared.width.Width.{Width}
-use Rattle.row_format.specs.Keys.{coll_key, onode_key}
-use Rattle.row_format.proofs.KeyLemmas.{same_coll, same_onode}
+use Rattle.row_format.specs.Prelude.{coll_key, onode_key}
+use Rattle.row_format.proofs.Prelude.{same_coll, same_onode}
 use Rattle.object_reader.specs.Readable.{IsNextView}
-use Rattle.read_facts.specs.PageReads.{IsHeldAt, no_memory}
+use Rattle.read_facts.specs.Prelude.{IsHeldAt, no_memory, IsCollection, IsObject, IsNextOf, IsPast, AreNext, last_of, IsViewOf, object_names, coll_names, IsViewed, IsWhole, AreWholeButLast, WalksTo, WalksAll}
 use Rattle.read_facts.specs.declared.view.CollView.{CollView}
 use Rattle.read_facts.specs.declared.view.ObjectView.{ObjectView}
-use Rattle.read_facts.specs.Walks.{IsCollection, IsObject, IsNextOf, IsPast, AreNext, last_of}
-use Rattle.read_facts.specs.Views.{IsViewOf, object_names, coll_names, IsViewed, IsWhole, AreWholeButLast, WalksTo, WalksAll}
 use Rattle.read_facts.proofs.Walks.{next_appended, all_to}
-use Rattle.store_facts.proofs.Lists.{all_join}
+use Rattle.store_facts.proofs.Prelude.{all_join}
 
 -- ---- the last name
 

@@ -1,29 +1,22 @@
 -- The free units of a drained kernel are the data units whose bits are 0, by what its device holds.
 use Rattle.std.proofs.Common.{◌≡◌, inl, inr, ℕ, ◌+◌, ◌≤◌, true, List, [], length, None, refl, subst, arith}
 use Rattle.byte_maps.specs.Units.{IsUnits}
-use Rattle.block_device.specs.Log.{last}
-use Rattle.block_device.specs.Disk.{Disk, History}
-use Rattle.meta_rows.specs.Rows.{Rows}
+use Rattle.block_device.specs.Prelude.{last, Disk, History}
+use Rattle.meta_rows.specs.Prelude.{Rows}
 use Rattle.meta_log.specs.declared.slot.Super.{Super}
-use Rattle.store_image.specs.Owners.{IsDataUnit, IsMarked, IsBusy}
-use Rattle.log_facts.specs.HalfFacts.{records_units}
+use Rattle.store_image.specs.Prelude.{IsDataUnit, IsMarked, IsBusy}
+use Rattle.log_facts.specs.Prelude.{records_units}
 use Rattle.log_facts.proofs.Reading.{behind_units, half_inside, slots_read, half_parts, no_record_behind, rows_read}
-use Rattle.unit_allocator.specs.Units.{Space, free_units, IsWithin}
+use Rattle.unit_allocator.specs.Prelude.{Space, free_units, IsWithin}
 use Rattle.unit_allocator.proofs.FreeUnits.{free_units_ascend, listed_is_free, free_is_listed}
 use Rattle.store_steps.specs.declared.context.Context.{Context}
-use Rattle.store_steps.specs.State.{State}
-use Rattle.store_steps.specs.Intents.{intents, SpaceIsCounted}
-use Rattle.store_steps.specs.Submit.{free_count}
-use Rattle.store_steps.specs.Ready.{is_drained}
-use Rattle.store_facts.specs.Space.{IsSpaceOf}
-use Rattle.store_facts.specs.Kept.{IsKept}
-use Rattle.store_facts.proofs.Readiness.{IsIdle, idle_uncommitted}
-use Rattle.store_facts.proofs.Known.{known_idle}
-use Rattle.store_facts.proofs.RowsNow.{kept_rows, kept_space}
+use Rattle.store_steps.specs.Prelude.{State, intents, SpaceIsCounted, free_count, is_drained}
+use Rattle.store_facts.specs.Prelude.{IsSpaceOf, IsKept}
+use Rattle.store_facts.proofs.Prelude.{IsIdle, idle_uncommitted, known_idle, kept_rows, kept_space}
 use Rattle.unit_facts.specs.Known.{KnownOfUnits}
 use Rattle.unit_facts.proofs.Runs.{idle_half}
 use Rattle.crash_facts.proofs.Now.{size_now}
-use Rattle.bstore_top.specs.Standing.{AreUnmarked, HasFree}
+use Rattle.bstore_top.specs.Prelude.{AreUnmarked, HasFree}
 
 -- a free unit is a data unit whose bit is 0, and the other way round
 module _ (sup : Super) (rows : Rows) (space : Space) (is : IsSpaceOf sup space) (counted : SpaceIsCounted sup rows [] space) where

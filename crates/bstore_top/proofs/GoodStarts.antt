@@ -4,35 +4,27 @@ use Rattle.std.specs.Prelude.{IfSome, Any}
 use Rattle.std.specs.FinMap as finite
 use Rattle.std.proofs.lemmas.Option.{same_Some}
 use Rattle.unit_fields.specs.declared.width.Width.{Width}
-use Rattle.block_device.specs.Log.{last, IsClean}
-use Rattle.block_device.specs.Disk.{Disk, History, Rose}
+use Rattle.block_device.specs.Prelude.{last, IsClean, Disk, History, Rose}
 use Rattle.end_points.specs.Bay.{Names, BayView, StartsWith, start_of}
 use Rattle.end_points.specs.declared.bay.How.TheVariants.{Plain}
 use Rattle.meta_rows.specs.declared.row_op.RowOp.{RowOp}
 use Rattle.meta_log.specs.declared.slot.Super.{Super}
-use Rattle.meta_log.specs.Records.{AreRowsOf, AreRecords, active_half}
+use Rattle.meta_log.specs.Prelude.{AreRowsOf, AreRecords, active_half, width_of}
 use Rattle.meta_log.proofs.RecordLemmas.{same_records}
 use Rattle.meta_log.proofs.SlotLemmas.{same_active}
-use Rattle.meta_log.specs.Slots.{width_of}
 use Rattle.object_model.specs.declared.book.Book.{Book}
-use Rattle.script_text.specs.Script.{IsBadAt}
+use Rattle.script_text.specs.Prelude.{IsBadAt}
 use Rattle.script_text.proofs.Scripts.{script_has_no_bad}
-use Rattle.store_image.specs.BadRows.{NoBadRow}
-use Rattle.store_image.specs.Owners.{IsLeaked, IsExactBut, IsInexact}
-use Rattle.store_image.proofs.ExactLemmas.{no_inexact}
-use Rattle.store_image.proofs.OneObjects.{same_rows}
-use Rattle.store_steps.specs.Opened.{Found}
-use Rattle.log_replay.specs.Opening.{IsAbout, IsFoundIn, IsUnopenable}
+use Rattle.store_image.specs.Prelude.{NoBadRow, IsLeaked, IsExactBut, IsInexact}
+use Rattle.store_image.proofs.Prelude.{no_inexact, same_rows}
+use Rattle.store_steps.specs.Prelude.{Found}
+use Rattle.log_replay.specs.Prelude.{IsAbout, IsFoundIn, IsUnopenable}
 use Rattle.log_replay.specs.declared.opening.MountFail.TheVariants as fail
 use Rattle.run_texts.specs.declared.work_end.WorkEnd.{WorkEnd}
 use Rattle.run_texts.specs.declared.work_end.WorkEnd.TheVariants.{Done, BadLine, NoSuper, BadRow, NotExact, WornOut}
 use Rattle.run_texts.specs.declared.work_end.WorkEnd.TheVariants.{DeviceFault, OutOfMemory, BayFault}
-use Rattle.bstore_top.specs.Choice.{Position}
-use Rattle.bstore_top.specs.GoodStart.{HasGoodStore, IsGoodStart, HasNoFault}
-use Rattle.run_texts.specs.Printed.{Output, Printed}
-use Rattle.run_texts.specs.Replies.{has_csum}
-use Rattle.run_texts.specs.StepTexts.{end_status, step_number, step_text}
-use Rattle.bstore_top.specs.StepRun.{EndsAt, Seen, FailsBefore, FailsToMount, HasCounted, EndsOpened, IsStepDone, RanStep}
+use Rattle.bstore_top.specs.Prelude.{Position, HasGoodStore, IsGoodStart, HasNoFault, EndsAt, Seen, FailsBefore, FailsToMount, HasCounted, EndsOpened, IsStepDone, RanStep}
+use Rattle.run_texts.specs.Prelude.{Output, Printed, has_csum, end_status, step_number, step_text}
 use Rattle.bstore_top.proofs.RunLaws.{clean_of_none}
 
 -- ---- what is found in contents is one

@@ -2,28 +2,22 @@
 use Rattle.std.proofs.Common.{◌≡◌, ℕ, List, [], length, Option, Some, None, refl, sym, ap, subst, inl, inr}
 use Rattle.std.specs.Prelude.{IfSome}
 use Rattle.std.specs.FinMap as finite
-use Rattle.block_device.specs.Log.{last}
-use Rattle.block_device.specs.Disk.{Disk, IsFresh}
+use Rattle.block_device.specs.Prelude.{last, Disk, IsFresh}
 use Rattle.block_device.specs.declared.event.Event.{Event}
 use Rattle.end_points.specs.Bay.{BayView, Names, StartsWith}
-use Rattle.object_model.specs.Book.{IsLegal}
-use Rattle.object_model.specs.Objects.{Objects}
+use Rattle.object_model.specs.Prelude.{IsLegal, Objects}
 use Rattle.object_model.specs.declared.book.Book.{Book}
 use Rattle.object_model.proofs.Books.{IsLegal-empty}
-use Rattle.store_image.specs.Stands.{StandsFor}
-use Rattle.store_image.specs.Durability.{EachCutStands}
-use Rattle.log_replay.specs.Calls.{IsLater}
+use Rattle.store_image.specs.Prelude.{StandsFor, EachCutStands}
+use Rattle.log_replay.specs.Prelude.{IsLater, FailsMount}
 use Rattle.crash_facts.specs.Store.{IsDurable}
-use Rattle.log_replay.specs.Opening.{FailsMount}
 use Rattle.mount_replay.specs.Mounting as mounting
 use Rattle.log_replay.specs.declared.opening.MountFail.{MountFail}
 use Rattle.script_text.specs.declared.line.Line.{Line}
 use Rattle.command_words.specs.declared.command_line.CommandLine.TheVariants.{Step}
 use Rattle.run_texts.specs.declared.work_end.WorkEnd.{WorkEnd}
-use Rattle.run_texts.specs.Replies.{has_csum}
-use Rattle.bstore_top.specs.Keeping.{IsDurableFrom, StaysDurable, KeepsStore}
-use Rattle.bstore_top.specs.Run.{EachCrashLeavesPrefix}
-use Rattle.bstore_top.specs.StepRun.{Seen, FailsToMount, EndsOpened, IsStepDone, empty_book, end_of_mount}
+use Rattle.run_texts.specs.Prelude.{has_csum}
+use Rattle.bstore_top.specs.Prelude.{IsDurableFrom, StaysDurable, KeepsStore, EachCrashLeavesPrefix, Seen, FailsToMount, EndsOpened, IsStepDone, empty_book, end_of_mount}
 use Rattle.bstore_top.proofs.WorkLemmas.{mount_fails}
 use Rattle.bstore_top.proofs.RunLaws.{log_empty, clean_of_none, same_start, RanKept, script_legal, script_no_csum, script_durable, script_finished}
 use Rattle.bstore_top.proofs.RunLaws.{script_complete}

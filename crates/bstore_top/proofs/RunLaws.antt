@@ -6,60 +6,41 @@ use Rattle.std.specs.List.{AllByRecursion}
 use Rattle.std.proofs.lemmas.List.Elements.{All-head}
 use Rattle.std.proofs.lemmas.Bool.{lt-ltb}
 use Rattle.std.proofs.lemmas.Option.{same_Some, IfSome_then}
-use Rattle.block_device.specs.Log.{last, IsClean}
+use Rattle.block_device.specs.Prelude.{last, IsClean, Disk, History, IsFresh}
 use Rattle.end_points.specs.Bay.{Names, BayView, StartsWith, start_of}
 use Rattle.end_points.specs.declared.bay.How.TheVariants.{Plain}
-use Rattle.block_device.specs.Disk.{Disk, History, IsFresh}
 use Rattle.block_device.specs.declared.event.Event.{Event}
 use Rattle.block_device.proofs.LogLemmas.{slice_get-lt}
-use Rattle.object_model.specs.Objects.{Objects}
-use Rattle.object_model.specs.Book.{accepted, acked_count, committed_places, IsLegal}
+use Rattle.object_model.specs.Prelude.{Objects, accepted, acked_count, committed_places, IsLegal, replay}
 use Rattle.object_model.specs.declared.book.Commit.{Commit}
 use Rattle.object_model.specs.declared.book.Entry.{Entry}
 use Rattle.object_model.specs.declared.command.Answer.{Answer}
 use Rattle.object_model.specs.declared.command.Answer.TheVariants as answer
-use Rattle.object_model.specs.Effect.{replay}
 use Rattle.object_model.specs.declared.book.Book.{Book}
-use Rattle.store_image.specs.Stands.{IsShape, StandsFor}
-use Rattle.unit_allocator.specs.Units.{Space}
+use Rattle.store_image.specs.Prelude.{IsShape, StandsFor}
+use Rattle.unit_allocator.specs.Prelude.{Space}
 use Rattle.script_text.specs.declared.line.Line.{Line}
 use Rattle.store_steps.specs.declared.step.Step.{Step}
 use Rattle.store_steps.specs.declared.step.Step.TheVariants.{Reap}
-use Rattle.store_steps.specs.State.{State}
+use Rattle.store_steps.specs.Prelude.{State, intents, Found, is_drained, is_empty, Call, stepping, Calls, IsRun}
 use Rattle.store_steps.specs.declared.context.Context.{Context}
-use Rattle.store_steps.specs.Intents.{intents}
-use Rattle.store_steps.specs.Opened.{Found}
-use Rattle.store_steps.specs.Ready.{is_drained, is_empty}
-use Rattle.store_steps.specs.Runs.{Call, stepping, Calls, IsRun}
-use Rattle.store_facts.specs.Room.{AcksAre}
-use Rattle.store_facts.specs.Kept.{IsKept}
-use Rattle.store_facts.proofs.Readiness.{none_ready}
-use Rattle.store_facts.proofs.Known.{idle_pending, idle_acked}
+use Rattle.store_facts.specs.Prelude.{AcksAre, IsKept}
+use Rattle.store_facts.proofs.Prelude.{none_ready, idle_pending, idle_acked, kept_run}
 use Rattle.unit_facts.proofs.Runs.{drained_clean}
 use Rattle.object_rows.proofs.PlansKeep.{plans_keep}
-use Rattle.book_facts.specs.BookFacts.{KnownOfBook, AreQueued, IsInOrder}
-use Rattle.store_facts.proofs.KeptCalls.{kept_run}
-use Rattle.book_facts.proofs.Books.{book_opened, known_legal}
-use Rattle.book_facts.proofs.BookCalls.{book_run, order_run}
-use Rattle.book_facts.proofs.Order.{order_opened}
-use Rattle.book_facts.proofs.Commits.{one_if, count_cons}
+use Rattle.book_facts.specs.Prelude.{KnownOfBook, AreQueued, IsInOrder}
+use Rattle.book_facts.proofs.Prelude.{book_opened, known_legal, book_run, order_run, order_opened, one_if, count_cons}
 use Rattle.crash_facts.specs.Store.{KnownOfStore, IsDurable, KeepsDurable}
 use Rattle.crash_facts.proofs.Answered.{durable_legal, durable_sums}
 use Rattle.crash_facts.proofs.Runs.{run_durable, drained_stands, drained_exact}
-use Rattle.read_facts.specs.Alike.{IsNoCsum, IsLegalButBytes}
-use Rattle.log_replay.specs.Calls.{Told, GoesOn, IsLater}
+use Rattle.read_facts.specs.Prelude.{IsNoCsum, IsLegalButBytes}
+use Rattle.log_replay.specs.Prelude.{Told, GoesOn, IsLater}
 use Rattle.mount_replay.specs.Mounting.{IsOpenedOn, WasOpened}
 use Rattle.run_texts.specs.declared.work_end.WorkEnd.{WorkEnd}
 use Rattle.run_texts.specs.declared.work_end.WorkEnd.TheVariants.{Done, BadLine, NoSuper, BadRow, NotExact, WornOut}
 use Rattle.run_texts.specs.declared.work_end.WorkEnd.TheVariants.{DeviceFault, OutOfMemory, BayFault}
-use Rattle.bstore_top.specs.Choice.{ready_list, Position, IsDrawnRun}
-use Rattle.run_texts.specs.Printed.{Output, TookAll, Printed}
-use Rattle.run_texts.specs.Replies.{is_csum, has_csum}
-use Rattle.run_texts.specs.StepTexts.{end_status, step_number, step_text}
-use Rattle.bstore_top.specs.StepRun.{Seen, AskedUpTo, RunsScript, WorksOn, EndsOpened, IsStepDone, RanStep}
-use Rattle.bstore_top.specs.Standing.{HasFree, IsFinished, IsComplete}
-use Rattle.bstore_top.specs.Keeping.{KeepsStore}
-use Rattle.bstore_top.specs.Finished.{FinishesOn, Succeeded}
+use Rattle.bstore_top.specs.Prelude.{ready_list, Position, IsDrawnRun, Seen, AskedUpTo, RunsScript, WorksOn, EndsOpened, IsStepDone, RanStep, HasFree, IsFinished, IsComplete, KeepsStore, FinishesOn, Succeeded}
+use Rattle.run_texts.specs.Prelude.{Output, TookAll, Printed, is_csum, has_csum, end_status, step_number, step_text}
 use Rattle.bstore_top.proofs.FreeLemmas.{drained_free}
 
 -- ---- replies that name no bad unit

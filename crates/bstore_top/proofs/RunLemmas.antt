@@ -4,14 +4,14 @@ use Rattle.std.proofs.Common.{Result, Ok, Err, OnOk, IfErr, MatchResult, ap, ◌
 use Rattle.std.specs.List.{AllByRecursion}
 use Rattle.object_model.specs.declared.op.Op.{Op}
 use Rattle.object_model.specs.declared.op.Op.TheVariants as op
-use Rattle.script_text.specs.Grammar.{FitsWhat, HasWholePages}
+use Rattle.script_text.specs.Prelude.{FitsWhat, HasWholePages}
 use Rattle.script_text.specs.declared.line.Line.{Line}
 use Rattle.script_text.specs.declared.line.What.{What}
 use Rattle.script_text.specs.declared.line.What.TheVariants as what
 use Rattle.std.specs.Prelude.{Bool, slice_get, is_some, cond}
-use Rattle.block_device.specs.Disk.{Disk, IsSound}
+use Rattle.block_device.specs.Prelude.{Disk, IsSound}
 use Rattle.block_device.specs.declared.device.Ticket.{Ticket}
-use Rattle.object_model.specs.Effect.{Change}
+use Rattle.object_model.specs.Prelude.{Change}
 use Rattle.object_model.specs.declared.command.Answer.{Answer}
 use Rattle.object_model.specs.declared.command.Answer.TheVariants as answer
 use Rattle.object_model.specs.declared.command.Command.{Command}
@@ -22,14 +22,9 @@ use Rattle.store_steps.specs.declared.flight.Job.{Job}
 use Rattle.store_steps.specs.declared.flight.Job.TheVariants as job
 use Rattle.store_steps.specs.declared.step.Step.{Step}
 use Rattle.store_steps.specs.declared.step.Step.TheVariants.{Data, Reap, Take, Flush, Seal, Record, Sync, Commit, Finish}
-use Rattle.store_steps.specs.State.{State}
-use Rattle.store_steps.specs.Changes.{landed, after_done, after_good, flying_of, down_by}
-use Rattle.store_steps.specs.Ready.{is_drained, is_empty}
-use Rattle.store_steps.specs.Steps.{Takes, Does}
-use Rattle.plan_rows.specs.Plans.{IsKnown}
-use Rattle.store_steps.specs.Submit.{entered, Accepts, Refuses, IsDownBy, IsBookFull}
-use Rattle.store_steps.specs.Runs.{Call, reading, stepping, MayRead, AnswersRead, DoesOrFails, Calls}
-use Rattle.read_facts.specs.Answers.{IsKnownRead}
+use Rattle.store_steps.specs.Prelude.{State, landed, after_done, after_good, flying_of, down_by, is_drained, is_empty, Takes, Does, entered, Accepts, Refuses, IsDownBy, IsBookFull, Call, reading, stepping, MayRead, AnswersRead, DoesOrFails, Calls}
+use Rattle.plan_rows.specs.Prelude.{IsKnown}
+use Rattle.read_facts.specs.Prelude.{IsKnownRead}
 use Rattle.store_kernel.specs.Submitting.{MaySubmit, RefusesBy}
 use Rattle.store_kernel.specs.Reading.{UnansweredBy, IsDeviceRead}
 use Rattle.store_kernel.specs.declared.unanswered.Unanswered.{Unanswered}
@@ -40,11 +35,7 @@ use Rattle.store_kernel.specs.declared.step_fail.StepFail.{StepFail}
 use Rattle.store_kernel.specs.declared.step_fail.StepFail.TheVariants as fail
 use Rattle.bstore_top.specs.declared.run_fail.RunFail.{RunFail}
 use Rattle.bstore_top.specs.declared.run_fail.RunFail.TheVariants as run
-use Rattle.bstore_top.specs.Choice.{Ask, asks_of, call_of, asks_after, turned, ready_list, possible_calls, IsDrawnOf, Position, at_position, Draws}
-use Rattle.bstore_top.specs.Choice.{IsDrawnRun}
-use Rattle.bstore_top.specs.StepRun.{Asked, asked_in, asked_by}
-use Rattle.bstore_top.specs.Stepping.{IsNext, IsNoted, IsNotNoted, IsNotTurnedAway, IsReplied, IsNoTurnAway, IsFailOf, LeadsTo, Drains, IsMade}
-use Rattle.bstore_top.specs.Stepping.{IsUnmade, Makes, FailsAfter, fail_of, EndsAs, EndsRun, RunsUpTo, FitsLine}
+use Rattle.bstore_top.specs.Prelude.{Ask, asks_of, call_of, asks_after, turned, ready_list, possible_calls, IsDrawnOf, Position, at_position, Draws, IsDrawnRun, Asked, asked_in, asked_by, IsNext, IsNoted, IsNotNoted, IsNotTurnedAway, IsReplied, IsNoTurnAway, IsFailOf, LeadsTo, Drains, IsMade, IsUnmade, Makes, FailsAfter, fail_of, EndsAs, EndsRun, RunsUpTo, FitsLine}
 
 -- ---- runs
 

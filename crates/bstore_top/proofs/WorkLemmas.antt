@@ -4,15 +4,13 @@ use Rattle.std.proofs.Common.{MatchResult, ap, ◌∙◌, sym, refl, subst, arit
 use Rattle.std.specs.Prelude.{Any, IsErrOf}
 use Rattle.std.specs.List.{AllByRecursion}
 use Rattle.std.specs.FinMap as finite
-use Rattle.block_device.specs.Disk.{Disk, History, history_after, Rose}
+use Rattle.block_device.specs.Prelude.{Disk, History, history_after, Rose}
 use Rattle.block_device.specs.declared.event.Event.{Event}
 use Rattle.end_points.specs.Bay.{Names}
 use Rattle.object_model.specs.declared.command.Command.TheVariants as command
 use Rattle.object_model.specs.declared.book.Book.{Book}
-use Rattle.unit_allocator.specs.Units.{Space}
-use Rattle.script_text.specs.Grammar.{command_count, is_wait}
-use Rattle.script_text.specs.Script.{EachSays, commands, numbered, kept_behind, waits_once, IsScript, IsBadAt, IsTextOf}
-use Rattle.script_text.specs.Reading.{IfLine}
+use Rattle.unit_allocator.specs.Prelude.{Space}
+use Rattle.script_text.specs.Prelude.{command_count, is_wait, EachSays, commands, numbered, kept_behind, waits_once, IsScript, IsBadAt, IsTextOf, IfLine}
 use Rattle.script_text.specs.declared.fail.ScriptFail.{ScriptFail}
 use Rattle.script_text.specs.declared.fail.ScriptFail.TheVariants as script
 use Rattle.script_text.specs.declared.line.Line.{Line}
@@ -20,14 +18,10 @@ use Rattle.script_text.specs.declared.line.What.{What}
 use Rattle.script_text.specs.declared.line.What.TheVariants as what
 use Rattle.store_steps.specs.declared.step.Step.{Step}
 use Rattle.store_steps.specs.declared.step.Step.TheVariants.{Data, Reap, Take, Flush, Seal, Record, Sync, Commit, Finish}
-use Rattle.store_steps.specs.State.{State}
-use Rattle.store_steps.specs.Opened.{Found}
-use Rattle.store_steps.specs.Submit.{free_count}
-use Rattle.store_steps.specs.Runs.{Call, submitting, reading, stepping, DoesOrFails, Calls, IsRun}
-use Rattle.store_facts.specs.Kept.{IsKept}
+use Rattle.store_steps.specs.Prelude.{State, Found, free_count, Call, submitting, reading, stepping, DoesOrFails, Calls, IsRun}
+use Rattle.store_facts.specs.Prelude.{IsKept}
 use Rattle.crash_facts.specs.Store.{KeepsDurable}
-use Rattle.log_replay.specs.Calls.{Told, GoesOn, IsLater}
-use Rattle.log_replay.specs.Opening.{FailsMount, SubmitsNothing}
+use Rattle.log_replay.specs.Prelude.{Told, GoesOn, IsLater, FailsMount, SubmitsNothing}
 use Rattle.mount_replay.specs.Mounting.{IsOpenedOn, IsReapedTo}
 use Rattle.log_replay.specs.declared.opening.MountFail.{MountFail}
 use Rattle.log_replay.specs.declared.opening.MountFail.TheVariants as fail
@@ -36,10 +30,7 @@ use Rattle.log_replay.proofs.MadeLemmas.{told_join}
 use Rattle.bstore_top.specs.declared.run_fail.RunFail.{RunFail}
 use Rattle.bstore_top.specs.declared.run_fail.RunFail.TheVariants as run
 use Rattle.run_texts.specs.declared.work_end.WorkEnd.{WorkEnd}
-use Rattle.bstore_top.specs.Choice.{asked, asks_of, Position, at_position, IsDrawnRun}
-use Rattle.bstore_top.specs.StepRun.{asked_in, asked_by, AskedUpTo, IsTextUnder, FailsBefore, end_of_script, EndsAt, FailsToMount, LeftByMount, HasCounted}
-use Rattle.bstore_top.specs.StepRun.{end_of_mount, end_of_run}
-use Rattle.bstore_top.specs.Stepping.{LeadsTo, RunsUpTo, FitsLine}
+use Rattle.bstore_top.specs.Prelude.{asked, asks_of, Position, at_position, IsDrawnRun, asked_in, asked_by, AskedUpTo, IsTextUnder, FailsBefore, end_of_script, EndsAt, FailsToMount, LeftByMount, HasCounted, end_of_mount, end_of_run, LeadsTo, RunsUpTo, FitsLine}
 use Rattle.bstore_top.proofs.RunLaws.{drawn_run, joined_run, legal_of, RanKept}
 use Rattle.bstore_top.proofs.Demand.{found_within}
 

@@ -1,15 +1,13 @@
 -- Which call comes next: it is drawn from the calls that can be made.
 use Rattle.std.specs.Prelude.{◌≡◌, ℕ, ◌+◌, ◌*◌, ◌/◌, ◌%◌, ◌^◌, List, [], ◌∷◌, ◌++◌, length, map, drop, slice_get, Some}
-use Rattle.block_device.specs.Disk.{Disk, IsSound}
+use Rattle.block_device.specs.Prelude.{Disk, IsSound}
 use Rattle.object_model.specs.declared.command.Command.{Command}
 use Rattle.object_model.specs.declared.command.Command.TheVariants as command
 use Rattle.script_text.specs.declared.line.Line.{Line}
 use Rattle.script_text.specs.declared.line.What.{What}
 use Rattle.script_text.specs.declared.line.What.TheVariants as what
 use Rattle.store_steps.specs.declared.step.Step.{Step}
-use Rattle.store_steps.specs.State.{State}
-use Rattle.store_steps.specs.Ready.{ready_steps}
-use Rattle.store_steps.specs.Runs.{Call, submitting, reading, stepping, Calls}
+use Rattle.store_steps.specs.Prelude.{State, ready_steps, Call, submitting, reading, stepping, Calls}
 
 -- a command of the script, and the line that it stands on
 pub record Ask : Type 0 where

@@ -3,25 +3,21 @@ use Rattle.std.specs.Prelude.{◌≡◌, ◌⊎◌, ℕ, List, [], Some, None, I
 use Rattle.std.specs.List.{AllByRecursion}
 use Rattle.std.specs.FinMap as map
 use Rattle.unit_fields.specs.declared.width.Width.{Width}
-use Rattle.block_device.specs.Disk.{Disk, History, IsSound, Rose}
+use Rattle.block_device.specs.Prelude.{Disk, History, IsSound, Rose}
 use Rattle.end_points.specs.Bay.{BayView, HandedOut}
 use Rattle.end_points.specs.declared.bay.How.TheVariants.{Plain}
-use Rattle.meta_rows.specs.Rows.{Rows}
-use Rattle.object_model.specs.Objects.{Objects}
-use Rattle.meta_log.specs.Slots.{width_of}
-use Rattle.store_image.specs.Stands.{StandsFor}
+use Rattle.meta_rows.specs.Prelude.{Rows}
+use Rattle.object_model.specs.Prelude.{Objects}
+use Rattle.meta_log.specs.Prelude.{width_of}
+use Rattle.store_image.specs.Prelude.{StandsFor}
 use Rattle.read_facts.specs.declared.view.CollView.{CollView}
-use Rattle.read_facts.specs.PageReads.{IsHeldAt, no_memory}
-use Rattle.read_facts.specs.Views.{WalksTo, WalksAll, HasGoodViews, views_of}
-use Rattle.unit_allocator.specs.Units.{Space}
-use Rattle.store_steps.specs.State.{State}
-use Rattle.store_steps.specs.Opened.{Found}
+use Rattle.read_facts.specs.Prelude.{IsHeldAt, no_memory, WalksTo, WalksAll, HasGoodViews, views_of}
+use Rattle.unit_allocator.specs.Prelude.{Space}
+use Rattle.store_steps.specs.Prelude.{State, Found}
 use Rattle.mount_replay.specs.Mounting.{IsOpenedOn}
 use Rattle.run_texts.specs.declared.work_end.WorkEnd.{WorkEnd}
 use Rattle.run_texts.specs.declared.work_end.WorkEnd.TheVariants.{Done, DeviceFault, OutOfMemory, BayFault}
-use Rattle.run_texts.specs.DumpTexts.{dump_text}
-use Rattle.run_texts.specs.Printed.{Output, TookAll}
-use Rattle.run_texts.specs.Reports.{ReportsDump}
+use Rattle.run_texts.specs.Prelude.{dump_text, Output, TookAll, ReportsDump}
 use Rattle.bstore_top.specs.Keeping.{StaysDurable}
 use Rattle.bstore_top.specs.StepRun.{Seen, empty_book, FailsToMount, HasCounted, LeftByMount}
 

@@ -1,18 +1,15 @@
 -- What a run of `step` has done that returns 0.
 use Rattle.std.specs.Prelude.{◌≡◌, ℕ, false, List, [], Some, IfSome}
 use Rattle.std.specs.FinMap as map
-use Rattle.block_device.specs.Disk.{Disk, History}
+use Rattle.block_device.specs.Prelude.{Disk, History}
 use Rattle.end_points.specs.Bay.{Names, BayView}
-use Rattle.object_model.specs.Objects.{Objects}
-use Rattle.object_model.specs.Book.{IsLegal}
+use Rattle.object_model.specs.Prelude.{Objects, IsLegal}
 use Rattle.object_model.specs.declared.book.Book.{Book}
-use Rattle.store_image.specs.Stands.{StandsFor}
+use Rattle.store_image.specs.Prelude.{StandsFor}
 use Rattle.script_text.specs.declared.line.Line.{Line}
 use Rattle.run_texts.specs.declared.work_end.WorkEnd.TheVariants.{Done}
-use Rattle.run_texts.specs.Printed.{Output, TookAll}
+use Rattle.run_texts.specs.Prelude.{Output, TookAll, has_csum, step_text}
 use Rattle.bstore_top.specs.Standing.{IsFinished, IsComplete}
-use Rattle.run_texts.specs.Replies.{has_csum}
-use Rattle.run_texts.specs.StepTexts.{step_text}
 use Rattle.bstore_top.specs.StepRun.{HasScript, AskedUpTo, RunsScript, Seen}
 
 -- the device tells a history, and the run has finished on it

@@ -1,17 +1,16 @@
 -- Starts of `step` and of `dump` that nothing stands against.
 use Rattle.std.specs.Prelude.{◌≡◌, ℕ, ◌<◌, List, Any, Some, IfSome}
 use Rattle.std.specs.FinMap as map
-use Rattle.block_device.specs.Disk.{Rose}
+use Rattle.block_device.specs.Prelude.{Rose}
 use Rattle.end_points.specs.Bay.{Names, BayView}
-use Rattle.object_model.specs.Objects.{Objects}
-use Rattle.meta_log.specs.Slots.{width_of}
-use Rattle.store_image.specs.Owners.{IsExactAs}
-use Rattle.store_image.specs.Stands.{StandsFor}
-use Rattle.store_steps.specs.Opened.{Found}
-use Rattle.log_replay.specs.Opening.{IsFoundIn, HasLowNumbers}
-use Rattle.script_text.specs.Script.{IsScript}
+use Rattle.object_model.specs.Prelude.{Objects}
+use Rattle.meta_log.specs.Prelude.{width_of}
+use Rattle.store_image.specs.Prelude.{IsExactAs, StandsFor}
+use Rattle.store_steps.specs.Prelude.{Found}
+use Rattle.log_replay.specs.Prelude.{IsFoundIn, HasLowNumbers}
+use Rattle.script_text.specs.Prelude.{IsScript}
 use Rattle.script_text.specs.declared.line.Line.{Line}
-use Rattle.run_texts.specs.Printed.{Output}
+use Rattle.run_texts.specs.Prelude.{Output}
 use Rattle.bstore_top.specs.StepRun.{Seen}
 
 -- Under the device's name there is a store that stands for some objects: what a mount finds in it is a bitmap that is exact, but for leaked units,

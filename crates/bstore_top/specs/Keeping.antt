@@ -1,14 +1,12 @@
 -- What a run on a store leaves of its device and of its book, whatever happened on the way.
 use Rattle.std.specs.Prelude.{◌≡◌, ℕ, false, List, Some}
-use Rattle.block_device.specs.Disk.{Disk, History}
-use Rattle.object_model.specs.Book.{IsLegal}
-use Rattle.object_model.specs.Objects.{Objects}
+use Rattle.block_device.specs.Prelude.{Disk, History}
+use Rattle.object_model.specs.Prelude.{IsLegal, Objects}
 use Rattle.object_model.specs.declared.book.Book.{Book}
-use Rattle.store_image.specs.Stands.{StandsFor}
-use Rattle.store_image.specs.Durability.{EachCutStands}
+use Rattle.store_image.specs.Prelude.{StandsFor, EachCutStands}
 use Rattle.run_texts.specs.declared.work_end.WorkEnd.{WorkEnd}
 use Rattle.run_texts.specs.declared.work_end.WorkEnd.TheVariants.{Done}
-use Rattle.run_texts.specs.Replies.{has_csum}
+use Rattle.run_texts.specs.Prelude.{has_csum}
 use Rattle.bstore_top.specs.Standing.{IsFinished, IsComplete}
 
 -- Prefix durability of a run. The device tells a log that began with these contents. At every cut of it, whatever image the crash allows

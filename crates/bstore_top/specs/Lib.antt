@@ -8,3 +8,4 @@ pub mod Finished
 pub mod GoodStart
 pub mod Stepping
 pub mod Run
+pub mod Prelude

@@ -1,24 +1,20 @@
 -- What a run does.
 use Rattle.std.specs.Prelude.{◌≡◌, ℕ, ◌<◌, ◌≤◌, List, [], Option, Some, None, IsSomeAnd, IfSome}
 use Rattle.std.specs.FinMap as map
-use Rattle.block_device.specs.Disk.{Disk, Rose}
+use Rattle.block_device.specs.Prelude.{Disk, Rose}
 use Rattle.end_points.specs.Bay.{BayView, HandedOut}
 use Rattle.end_points.specs.declared.bay.How.{How}
 use Rattle.end_points.specs.declared.bay.How.TheVariants.{Make, Plain}
-use Rattle.log_replay.specs.Calls.{IsLater}
-use Rattle.log_replay.specs.NewSuper.{units_needed}
-use Rattle.log_replay.specs.Made.{HoldsEmptyStore}
-use Rattle.object_model.specs.Objects.{Objects}
+use Rattle.log_replay.specs.Prelude.{IsLater, units_needed, HoldsEmptyStore}
+use Rattle.object_model.specs.Prelude.{Objects}
 use Rattle.object_model.specs.declared.book.Book.{Book}
-use Rattle.store_image.specs.Stands.{StandsFor}
+use Rattle.store_image.specs.Prelude.{StandsFor}
 use Rattle.command_words.specs.declared.command_line.CommandLine.{CommandLine}
 use Rattle.command_words.specs.declared.command_line.CommandLine.TheVariants.{Mkfs, Step, Dump}
 use Rattle.run_texts.specs.declared.status.Stop.{Stop}
 use Rattle.run_texts.specs.declared.status.Stop.TheVariants.{BadScript, DeviceFault, Refused, OutOfMemory, BayFault}
 use Rattle.command_words.specs.CommandLine.{Spells, IsNoStep}
-use Rattle.run_texts.specs.Status.{end_number}
-use Rattle.run_texts.specs.Texts.{mkfs_text}
-use Rattle.run_texts.specs.Printed.{Output, Printed}
+use Rattle.run_texts.specs.Prelude.{end_number, mkfs_text, Output, Printed}
 use Rattle.bstore_top.specs.Keeping.{IsDurableFrom}
 use Rattle.bstore_top.specs.StepRun.{Seen, RanStep}
 use Rattle.bstore_top.specs.DumpRun.{RanDump}

@@ -1,19 +1,13 @@
 -- What a device and a book hold where all that there was to do is done.
 use Rattle.std.specs.Prelude.{◌≡◌, ◌↔◌, ℕ, List, length, Contains}
-use Rattle.unit_fields.specs.UnitSet.{Ascends}
-use Rattle.block_device.specs.Log.{last, IsClean}
-use Rattle.block_device.specs.Disk.{History}
-use Rattle.object_model.specs.Objects.{Objects}
-use Rattle.object_model.specs.Effect.{replay}
-use Rattle.object_model.specs.Book.{accepted, acked_count, places_of, committed_places}
+use Rattle.unit_fields.specs.Prelude.{Ascends}
+use Rattle.block_device.specs.Prelude.{last, IsClean, History}
+use Rattle.object_model.specs.Prelude.{Objects, replay, accepted, acked_count, places_of, committed_places}
 use Rattle.object_model.specs.declared.book.Book.{Book}
-use Rattle.meta_rows.specs.Rows.{Rows}
+use Rattle.meta_rows.specs.Prelude.{Rows}
 use Rattle.meta_log.specs.declared.slot.Super.{Super}
-use Rattle.meta_log.specs.Records.{AreRowsOf}
-use Rattle.meta_log.specs.Slots.{IsActiveSlot}
-use Rattle.store_image.specs.Owners.{IsDataUnit, IsMarked}
-use Rattle.store_image.specs.Stands.{StandsFor}
-use Rattle.store_image.specs.Exact.{StaysExact}
+use Rattle.meta_log.specs.Prelude.{AreRowsOf, IsActiveSlot}
+use Rattle.store_image.specs.Prelude.{IsDataUnit, IsMarked, StandsFor, StaysExact}
 
 -- These are the data units whose bits are 0.
 pub record AreUnmarked (sup : Super) (rows : Rows) (units : List ℕ) : Type 0 where

@@ -1,28 +1,24 @@
 -- What a run of `step` does: it reads a script, mounts a store, and runs the script on it.
 use Rattle.std.specs.Prelude.{◌≡◌, ◌⊎◌, ℕ, ◌<◌, ◌≤◌, List, [], ◌∷◌, ◌++◌, map, Any, Option, Some, None, Result, Ok, Err, is_some, true, false, IfSome}
 use Rattle.std.specs.FinMap as finite
-use Rattle.block_device.specs.Disk.{Disk, IsSound, Rose}
+use Rattle.block_device.specs.Prelude.{Disk, IsSound, Rose}
 use Rattle.end_points.specs.Bay.{BayView, Names, HandedOut}
 use Rattle.end_points.specs.declared.bay.How.TheVariants.{Plain}
-use Rattle.object_model.specs.Objects.{Objects}
+use Rattle.object_model.specs.Prelude.{Objects}
 use Rattle.object_model.specs.declared.book.Book.{Book}
 use Rattle.object_model.specs.declared.book.Entry.{Entry}
 use Rattle.object_model.specs.declared.command.Command.{Command}
-use Rattle.unit_allocator.specs.Units.{Space}
-use Rattle.script_text.specs.Script.{IsScript, IsBadAt}
+use Rattle.unit_allocator.specs.Prelude.{Space}
+use Rattle.script_text.specs.Prelude.{IsScript, IsBadAt}
 use Rattle.script_text.specs.declared.fail.ScriptFail.{ScriptFail}
 use Rattle.script_text.specs.declared.fail.ScriptFail.TheVariants as script
 use Rattle.script_text.specs.declared.line.Line.{Line}
-use Rattle.store_steps.specs.State.{State}
-use Rattle.store_steps.specs.Opened.{Found}
-use Rattle.store_image.specs.Stands.{IsShape}
-use Rattle.book_facts.specs.Rooms.{demand_of, any_no_space}
-use Rattle.store_steps.specs.Submit.{free_count}
-use Rattle.store_steps.specs.Runs.{Call}
-use Rattle.log_replay.specs.Calls.{IsLater}
-use Rattle.log_replay.specs.Opening.{FailsMount}
+use Rattle.store_steps.specs.Prelude.{State, Found, free_count, Call}
+use Rattle.store_image.specs.Prelude.{IsShape}
+use Rattle.book_facts.specs.Prelude.{demand_of, any_no_space}
+use Rattle.log_replay.specs.Prelude.{IsLater, FailsMount}
 use Rattle.mount_replay.specs.Mounting.{IsOpenedOn, IsReapedTo}
-use Rattle.read_facts.specs.Alike.{IsLegalButBytes}
+use Rattle.read_facts.specs.Prelude.{IsLegalButBytes}
 use Rattle.bstore_top.specs.declared.run_fail.RunFail.{RunFail}
 use Rattle.bstore_top.specs.declared.run_fail.RunFail.TheVariants as run
 use Rattle.log_replay.specs.declared.opening.MountFail.{MountFail}
@@ -31,8 +27,7 @@ use Rattle.block_device.specs.declared.device.Failed.{Failed}
 use Rattle.block_device.specs.declared.device.Failed.TheVariants as failed
 use Rattle.run_texts.specs.declared.work_end.WorkEnd.{WorkEnd}
 use Rattle.run_texts.specs.declared.work_end.WorkEnd.TheVariants.{Done, BadLine, NoSuper, BadRow, NotExact, WornOut, DeviceFault, OutOfMemory, BayFault}
-use Rattle.run_texts.specs.Printed.{Output}
-use Rattle.run_texts.specs.Reports.{ReportsStep}
+use Rattle.run_texts.specs.Prelude.{Output, ReportsStep}
 use Rattle.bstore_top.specs.Keeping.{KeepsStore}
 use Rattle.bstore_top.specs.Choice.{Ask, asks_of, ready_list, Position, at_position, IsDrawnRun}
 

@@ -1,13 +1,11 @@
 -- Parts of a run on a mounted store.
 use Rattle.std.specs.Prelude.{◌≡◌, ℕ, List, [], ◌∷◌, ◌++◌, map, Option, Some, None, Result, Ok, Err, is_some, true}
-use Rattle.block_device.specs.Disk.{Disk}
-use Rattle.script_text.specs.Grammar.{FitsWhat}
+use Rattle.block_device.specs.Prelude.{Disk}
+use Rattle.script_text.specs.Prelude.{FitsWhat}
 use Rattle.script_text.specs.declared.line.Line.{Line}
-use Rattle.store_steps.specs.State.{State}
+use Rattle.store_steps.specs.Prelude.{State, is_ready, Call, stepping, Calls}
 use Rattle.store_steps.specs.declared.step.Step.{Step}
-use Rattle.store_steps.specs.Ready.{is_ready}
 use Rattle.object_model.specs.declared.command.Command.{Command}
-use Rattle.store_steps.specs.Runs.{Call, stepping, Calls}
 use Rattle.store_kernel.specs.declared.refused.Refused.{Refused}
 use Rattle.store_kernel.specs.declared.refused.Refused.TheVariants as refused
 use Rattle.store_kernel.specs.declared.step_fail.StepFail.{StepFail}

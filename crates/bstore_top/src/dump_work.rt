@@ -1,14 +1,12 @@
 //! The work of the command `dump`.
 ghost use Rattle.std.specs.Prelude.{◌≡◌, ◌<◌, ◌≤◌, ◌+◌, ◌^◌, [], None, true, OnOk, IfErr, IsErrOf, option_copied};
 ghost use Rattle.std.specs.Option.{option_map};
-ghost use Rattle.meta_log.specs.Slots.{width_of};
-ghost use Rattle.block_device.specs.Disk.{IsSound, IsFresh, Rose};
-ghost use Rattle.unit_fields.specs.Names.{IsCollName};
-ghost use Rattle.read_facts.specs.PageReads.{IsHeldAt, no_memory};
-ghost use Rattle.read_facts.specs.Walks.{last_of};
-ghost use Rattle.read_facts.specs.Views.{IsViewed, IsWhole, WalksTo, WalksAll, object_names, coll_names};
-ghost use Rattle.store_steps.specs.Ready.{is_drained};
-ghost use Rattle.log_replay.specs.Calls.{IsLater};
+ghost use Rattle.meta_log.specs.Prelude.{width_of};
+ghost use Rattle.block_device.specs.Prelude.{IsSound, IsFresh, Rose};
+ghost use Rattle.unit_fields.specs.Prelude.{IsCollName};
+ghost use Rattle.read_facts.specs.Prelude.{IsHeldAt, no_memory, last_of, IsViewed, IsWhole, WalksTo, WalksAll, object_names, coll_names};
+ghost use Rattle.store_steps.specs.Prelude.{is_drained};
+ghost use Rattle.log_replay.specs.Prelude.{IsLater};
 ghost use Rattle.command_words.specs.declared.command_line.CommandLine.TheVariants.{Dump};
 ghost use Rattle.bstore_top.specs.Dumping.{IsOfUp, end_of_walk};
 ghost use Rattle.bstore_top.specs.DumpRun.{DumpsOn, ShowsObjects, IsDumpDone};

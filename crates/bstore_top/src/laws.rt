@@ -1,18 +1,17 @@
 //! What a run of a script on a store comes to, whatever the seed is and whatever the device answers. Each function has a law for its
 //! contract and does nothing.
 ghost use Rattle.std.specs.Prelude.{◌≡◌, ◌⊎◌, ◌≤◌, ℕ, List, false};
-ghost use Rattle.block_device.specs.Disk.{Disk};
+ghost use Rattle.block_device.specs.Prelude.{Disk};
 ghost use Rattle.object_model.specs.declared.book.Book.{Book};
 ghost use Rattle.script_text.specs.declared.line.Line.{Line};
-ghost use Rattle.store_steps.specs.Submit.{free_count};
-ghost use Rattle.book_facts.specs.Rooms.{any_no_space};
+ghost use Rattle.store_steps.specs.Prelude.{free_count, Call, IsRun};
+ghost use Rattle.book_facts.specs.Prelude.{any_no_space};
 ghost use Rattle.run_texts.specs.declared.work_end.WorkEnd.{WorkEnd};
 ghost use Rattle.end_points.specs.Bay.{BayView};
-ghost use Rattle.store_steps.specs.Runs.{Call, IsRun};
 ghost use Rattle.bstore_top.specs.Choice.{Position, IsDrawnRun};
 ghost use Rattle.bstore_top.specs.StepRun.{RanStep, RunsScript, Seen, script_demand};
 ghost use Rattle.bstore_top.specs.DumpRun.{RanDump, Dumped};
-ghost use Rattle.run_texts.specs.Printed.{Output};
+ghost use Rattle.run_texts.specs.Prelude.{Output};
 ghost use Rattle.bstore_top.specs.Finished.{Succeeded};
 ghost use Rattle.bstore_top.specs.GoodStart.{IsGoodStart, IsGoodStore, HasNoFault};
 

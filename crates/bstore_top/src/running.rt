@@ -3,11 +3,9 @@ ghost use Rattle.std.specs.Prelude.{◌≡◌, ◌<◌, [], map, IsSomeAnd};
 ghost use Rattle.std.specs.Option.{option_map};
 ghost use Rattle.command_words.specs.declared.command_line.CommandLine.TheVariants.{Mkfs, Step, Dump};
 ghost use Rattle.command_words.specs.CommandLine.{words_of, IsInRange, IsHalf, IsUnitCount, IsNoCommandLine};
-ghost use Rattle.run_texts.specs.Status.{number};
-ghost use Rattle.run_texts.specs.Printed.{output};
+ghost use Rattle.run_texts.specs.Prelude.{number, output, ShowedUsage};
 ghost use Rattle.bstore_top.specs.StepRun.{seen, RanStep};
 ghost use Rattle.bstore_top.specs.DumpRun.{RanDump};
-ghost use Rattle.run_texts.specs.Reports.{ShowedUsage};
 ghost use Rattle.bstore_top.specs.Run.{Ran, RanMkfs, ForLine, ComesBack, CameBack, EachCrashLeavesPrefix, HasStore, IsBare, IsBareUnlessStep, LeavesBook};
 
 use crate::Outcome;

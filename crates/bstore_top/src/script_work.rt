@@ -3,12 +3,12 @@ ghost use Rattle.std.specs.Prelude.{◌≡◌, ◌<◌, ◌≤◌, ◌+◌, ◌^
 ghost use Rattle.std.specs.List.{AllByRecursion};
 ghost use Rattle.std.specs.Option.{option_map};
 ghost use Rattle.command_words.specs.declared.command_line.CommandLine.TheVariants.{Step};
-ghost use Rattle.block_device.specs.Disk.{IsSound, IsFresh};
+ghost use Rattle.block_device.specs.Prelude.{IsSound, IsFresh};
 ghost use Rattle.bstore_top.specs.Choice.{asks_of};
 ghost use Rattle.bstore_top.specs.Keeping.{KeepsStore};
 ghost use Rattle.bstore_top.specs.Stepping.{FitsLine};
 ghost use Rattle.bstore_top.specs.StepRun.{HasScript, IsReadWhole, FailsBefore, WorksOn, IsStepDone, seen, end_of_mount, end_of_run, end_of_bay, end_of_script};
-ghost use Rattle.log_replay.specs.Calls.{IsLater};
+ghost use Rattle.log_replay.specs.Prelude.{IsLater};
 ghost use Rattle.bstore_top.specs.Run.{ComesBack};
 
 use crate::run_fail::RunFail;

@@ -1,10 +1,10 @@
 //! A script, run on a mounted store: before each call it is drawn which one comes next.
 ghost use Rattle.std.specs.Prelude.{◌≡◌, ◌<◌, ◌≤◌, ◌+◌, ℕ, Some, None, [], length, take, IfOk, IfErr, IsErrOf, MatchOption, MatchResult};
 ghost use Rattle.std.specs.List.{AllByRecursion};
-ghost use Rattle.block_device.specs.Disk.{IsSound, Rose};
+ghost use Rattle.block_device.specs.Prelude.{IsSound, Rose};
 ghost use Rattle.object_model.specs.declared.command.Command.TheVariants as command;
-ghost use Rattle.read_facts.specs.Answers.{IsKnownRead};
-ghost use Rattle.script_text.specs.Grammar.{FitsWhat};
+ghost use Rattle.read_facts.specs.Prelude.{IsKnownRead};
+ghost use Rattle.script_text.specs.Prelude.{FitsWhat};
 ghost use Rattle.script_text.specs.declared.line.What.TheVariants as what;
 ghost use Rattle.bstore_top.specs.Choice.{ready_list, asks_of};
 ghost use Rattle.bstore_top.specs.Stepping.{IsNext, IsNoted, IsNotNoted, IsNotTurnedAway, IsReplied, IsNoTurnAway, IsFailOf};

@@ -4,3 +4,4 @@ pub mod Sums
 pub mod UnitLemmas
 pub mod ZeroLanes
 mod Ranges
+pub mod Prelude

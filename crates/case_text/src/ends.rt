@@ -1,6 +1,6 @@
 //! The ends of a store in memory, of what a case has set up.
 ghost use Rattle.std.specs.Prelude.{◌≡◌, ◌≤◌, [], IfOk, All};
-ghost use Rattle.block_device.specs.Memory.{disk_of};
+ghost use Rattle.block_device.specs.Prelude.{disk_of};
 
 use crate::{CaseError, Fails, Named, Setup};
 use block_device::MemoryDevice;

@@ -2,29 +2,21 @@
 use Rattle.std.proofs.Common.{◌≡◌, ℕ, List, [], ◌∷◌, ◌++◌, length, sym, ap, subst, ◌∙◌, refl, append_assoc}
 use Rattle.std.specs.List.{AllByRecursion}
 use Rattle.std.specs.Option.{option_map_or}
-use Rattle.block_device.specs.Disk.{History}
-use Rattle.object_model.specs.Objects.{Objects}
-use Rattle.object_model.specs.Effect.{Change, replay}
+use Rattle.block_device.specs.Prelude.{History}
+use Rattle.object_model.specs.Prelude.{Objects, Change, replay}
 use Rattle.object_model.specs.declared.book.Entry.{Entry}
 use Rattle.object_model.specs.declared.command.Answer.TheVariants as answer
 use Rattle.object_model.specs.declared.command.Command.TheVariants as ask
-use Rattle.meta_rows.specs.Rows.{Rows}
-use Rattle.meta_log.specs.Slots.{width_of, IsSuper}
+use Rattle.meta_rows.specs.Prelude.{Rows}
+use Rattle.meta_log.specs.Prelude.{width_of, IsSuper}
 use Rattle.plan_rows.specs.declared.plan.Plan.{Plan}
-use Rattle.plan_rows.specs.Keeps.{PlanMakes}
+use Rattle.plan_rows.specs.Prelude.{PlanMakes}
 use Rattle.store_steps.specs.declared.context.Context.{Context}
-use Rattle.store_steps.specs.Intents.{Intent, intent_of, intents, CanJoin}
-use Rattle.store_steps.specs.State.{Batch, State}
-use Rattle.store_steps.specs.Submit.{context_of, accepted_with}
-use Rattle.store_steps.specs.Ready.{applied_count}
-use Rattle.store_steps.specs.UnderWay.{uncommitted}
-use Rattle.store_steps.specs.Parts.{rows_part}
-use Rattle.store_facts.specs.Space.{AreRowsKept}
-use Rattle.store_facts.proofs.PartsKept.{intents_both}
-use Rattle.book_facts.specs.BookFacts.{IsOfEntry, KnownOfBook}
-use Rattle.book_facts.specs.Selections.{applied_changes, SelectionsStand}
-use Rattle.book_facts.proofs.Entries.{change_last}
-use Rattle.book_facts.proofs.Applied.{applied_entry}
+use Rattle.store_steps.specs.Prelude.{Intent, intent_of, intents, CanJoin, Batch, State, context_of, accepted_with, applied_count, uncommitted, rows_part}
+use Rattle.store_facts.specs.Prelude.{AreRowsKept}
+use Rattle.store_facts.proofs.Prelude.{intents_both}
+use Rattle.book_facts.specs.Prelude.{IsOfEntry, KnownOfBook, applied_changes, SelectionsStand}
+use Rattle.book_facts.proofs.Prelude.{change_last, applied_entry}
 use Rattle.crash_facts.specs.HeldBytes.{held_or_last}
 use Rattle.crash_facts.specs.Store.{ContextsStand}
 use Rattle.crash_facts.proofs.Joining.{one_more_stands}

@@ -2,12 +2,9 @@
 use Rattle.std.proofs.Common.{◌≡◌, inl, inr, ℕ, Bool, true, false, cond, List, [], ◌∷◌, ◌++◌, None, Result, Ok, Err, refl, sym, ap, subst}
 use Rattle.std.specs.Prelude.{nat_lt, take, drop, ◌+◌}
 use Rattle.std.specs.List.{AllByRecursion}
-use Rattle.block_device.specs.Disk.{Disk, History}
-use Rattle.block_device.specs.Facts.{last_at}
-use Rattle.object_model.specs.Objects.{Object, Collection, Objects}
-use Rattle.object_model.specs.Effect.{Change, replay, object_limit}
-use Rattle.object_model.specs.Reply.{answer_from, found_collection, found_object, reply_of}
-use Rattle.object_model.specs.Book.{accepted, IsAnswered as IsRight, AnswersFrom, IsLegal}
+use Rattle.block_device.specs.Prelude.{Disk, History, last_at}
+use Rattle.object_model.specs.Prelude.{Object, Collection, Objects, Change, replay, object_limit, answer_from, found_collection, found_object, reply_of, accepted, AnswersFrom, IsLegal}
+use Rattle.object_model.specs.Book.{IsAnswered as IsRight}
 use Rattle.object_model.specs.declared.book.Entry.{Entry}
 use Rattle.object_model.specs.declared.op.Refusal.{Refusal}
 use Rattle.object_model.specs.declared.op.Refusal.TheVariants.{BadRange}
@@ -15,22 +12,16 @@ use Rattle.object_model.specs.declared.command.Command.{Command}
 use Rattle.object_model.specs.declared.command.Command.TheVariants as ask
 use Rattle.object_model.specs.declared.command.Answer.{Answer}
 use Rattle.object_model.specs.declared.command.Answer.TheVariants as answer
-use Rattle.meta_log.specs.Slots.{width_of}
-use Rattle.read_facts.specs.Answers.{HasReadNames}
-use Rattle.read_facts.specs.PageReads.{no_memory}
+use Rattle.meta_log.specs.Prelude.{width_of}
+use Rattle.read_facts.specs.Prelude.{HasReadNames, no_memory, IsNoCsum, AnswersAlikeFrom, IsLegalButBytes}
 use Rattle.read_facts.proofs.Seen.{seen_answer}
-use Rattle.read_facts.specs.Alike.{IsNoCsum, AnswersAlikeFrom, IsLegalButBytes}
-use Rattle.store_steps.specs.State.{State}
-use Rattle.store_steps.specs.Submit.{IsCause}
-use Rattle.store_steps.specs.Runs.{Call, submitting, reading, stepping, MayRead, AnswersRead, Reads, Submits, Calls}
-use Rattle.store_facts.specs.Kept.{IsKept}
-use Rattle.book_facts.specs.BookFacts.{KnownOfBook}
-use Rattle.book_facts.proofs.Books.{known_legal}
-use Rattle.book_facts.proofs.Entries.{answers_push, alike_last}
-use Rattle.book_facts.proofs.Rooms.{step_room}
+use Rattle.store_steps.specs.Prelude.{State, IsCause, Call, submitting, reading, stepping, MayRead, AnswersRead, Reads, Submits, Calls}
+use Rattle.store_facts.specs.Prelude.{IsKept}
+use Rattle.book_facts.specs.Prelude.{KnownOfBook}
+use Rattle.book_facts.proofs.Prelude.{known_legal, answers_push, alike_last, step_room}
 use Rattle.crash_facts.specs.Store.{KnownOfStore, IsDurable}
 use Rattle.crash_facts.proofs.Idle.{drained_submitted, drained_good}
-use Rattle.store_facts.proofs.Lists.{all_join}
+use Rattle.store_facts.proofs.Prelude.{all_join}
 
 -- each entry has the answer that plain objects give, and none names a bad unit
 pub record AreAnswered (opening : Objects) (entries : List Entry) : Type 0 where

@@ -7,26 +7,18 @@ use Rattle.std.proofs.lemmas.List.{map-append}
 use Rattle.unit_allocator.proofs.Lists.{Contains-head}
 use Rattle.std.proofs.lemmas.List.Concat.{flat_map-append}
 use Rattle.std.proofs.lemmas.List.Elements.{Contains-append_left, Contains-append_right}
-use Rattle.block_device.specs.Log.{last, WritesUnit, WritesNothing}
-use Rattle.block_device.specs.Disk.{History}
-use Rattle.block_device.specs.Facts.{with_event, last_at, EventFits}
+use Rattle.block_device.specs.Prelude.{last, WritesUnit, WritesNothing, History, with_event, last_at, EventFits}
 use Rattle.block_device.specs.declared.event.Event.{Event}
 use Rattle.log_facts.proofs.Keeping.{last_push}
 use Rattle.plan_rows.specs.declared.plan.FreshUnit.{FreshUnit}
 use Rattle.store_steps.specs.declared.context.Context.{Context}
-use Rattle.store_steps.specs.Intents.{Intent, is_in, intents, taken_by}
-use Rattle.store_steps.specs.UnderWay.{all_fresh}
+use Rattle.store_steps.specs.Prelude.{Intent, is_in, intents, taken_by, all_fresh}
 use Rattle.selections.specs.Fair.{IsComplete}
 use Rattle.selections.proofs.Selecting.{complete_is_fair, all_selected}
-use Rattle.space_facts.proofs.Lists.{times, times_append, times_some}
-use Rattle.space_facts.proofs.Rows.{each_named}
-use Rattle.store_facts.proofs.Untouched.{all_then}
-use Rattle.store_facts.proofs.PartsKept.{flat_intents}
+use Rattle.space_facts.proofs.Prelude.{times, times_append, times_some, each_named}
+use Rattle.store_facts.proofs.Prelude.{all_then, flat_intents, all_left, all_right, all_join, fresh_taken, units_of}
 use Rattle.crash_facts.specs.HeldBytes.{bytes_with, fresh_by, held_or_last}
-use Rattle.unit_fields.specs.UnitSet.{Ascends}
-use Rattle.store_facts.proofs.Lists.{all_left, all_right, all_join}
-use Rattle.store_facts.proofs.Apart.{fresh_taken}
-use Rattle.store_facts.proofs.RowsFacts.{units_of}
+use Rattle.unit_fields.specs.Prelude.{Ascends}
 use Rattle.unit_facts.proofs.Units.{none_written, fits_quiet}
 
 -- the fresh units of intents of contexts

@@ -6,31 +6,21 @@ use Rattle.std.specs.Prelude.{IfSome, IsSome, IsSomeAnd}
 use Rattle.std.specs.List.{AllByRecursion}
 use Rattle.std.proofs.lemmas.List.{take-append-le}
 use Rattle.byte_maps.specs.Units.{unit_at}
-use Rattle.block_device.specs.Log.{last, WritesNothing}
-use Rattle.block_device.specs.Disk.{History}
+use Rattle.block_device.specs.Prelude.{last, WritesNothing, History}
 use Rattle.block_device.specs.declared.event.Event.{Event}
 use Rattle.block_device.specs.declared.event.Event.TheVariants.{Write, Flush, Done}
 use Rattle.block_device.proofs.LogLemmas.{slice_get-push_cases, each_cut_push, each_cut_weaker}
 use Rattle.block_device.proofs.LawLemmas.{last_mono, image_mono}
-use Rattle.object_model.specs.Objects.{Objects}
-use Rattle.object_model.specs.Effect.{Change, replay}
-use Rattle.object_model.specs.Book.{change_at, committed, IsAckedBy, HasAcked}
+use Rattle.object_model.specs.Prelude.{Objects, Change, replay, change_at, committed, IsAckedBy, HasAcked}
 use Rattle.object_model.specs.declared.book.Book.{Book}
 use Rattle.object_model.specs.declared.book.Commit.{Commit}
 use Rattle.object_model.specs.declared.book.Entry.{Entry}
-use Rattle.meta_log.specs.Slots.{active_unit}
-use Rattle.store_image.specs.Exact.{StaysExact}
-use Rattle.store_image.specs.Stands.{StandsFor}
-use Rattle.store_image.specs.Chance.{NoChanceMatch, AreAsWritten, IsOutranked}
-use Rattle.store_image.specs.Durability.{LeavesPrefix, EachCutStands}
-use Rattle.store_steps.specs.Changes.{acknowledged}
-use Rattle.store_steps.specs.Intents.{Intent}
-use Rattle.store_steps.specs.Parts.{BookPart}
-use Rattle.store_steps.specs.Touch.{Touch, nothing, ends, flushes, on_data, on_half, after, run_write}
-use Rattle.store_steps.specs.BookGoes.{BookGoes, same, enters, commits, applies, acknowledges, commits_of}
-use Rattle.store_facts.proofs.Numbers.{acknowledged_length}
-use Rattle.book_facts.proofs.Commits.{places_acknowledged, changes_at}
-use Rattle.book_facts.proofs.Applied.{applied_by_places, applied_entry}
+use Rattle.meta_log.specs.Prelude.{active_unit}
+use Rattle.store_image.specs.Prelude.{StaysExact, StandsFor, NoChanceMatch, AreAsWritten, IsOutranked, LeavesPrefix, EachCutStands}
+use Rattle.store_steps.specs.Prelude.{acknowledged, Intent, BookPart, Touch, nothing, ends, flushes, on_data, on_half, after, run_write, BookGoes, enters, commits, acknowledges, commits_of}
+use Rattle.store_steps.specs.BookGoes.{same, applies}
+use Rattle.store_facts.proofs.Prelude.{acknowledged_length}
+use Rattle.book_facts.proofs.Prelude.{places_acknowledged, changes_at, applied_by_places, applied_entry}
 use Rattle.crash_facts.proofs.Exact.{same_contents}
 
 -- ---- the book grows

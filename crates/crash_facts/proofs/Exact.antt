@@ -4,37 +4,25 @@ use Rattle.std.proofs.Common.{refl, sym, ap, subst, ◌∙◌}
 use Rattle.std.proofs.lemmas.Option.{same_Some}
 use Rattle.std.proofs.lemmas.List.{take-append-le}
 use Rattle.unit_fields.specs.declared.width.Width.{Width}
-use Rattle.block_device.specs.Log.{last}
-use Rattle.block_device.specs.Disk.{Disk, History}
-use Rattle.block_device.specs.Facts.{with_event}
+use Rattle.block_device.specs.Prelude.{last, Disk, History, with_event}
 use Rattle.block_device.specs.declared.event.Event.{Event}
 use Rattle.block_device.specs.declared.event.Event.TheVariants.{Write, Flush, Done}
 use Rattle.meta_rows.specs.declared.row_op.RowOp.{RowOp}
-use Rattle.meta_rows.specs.Rows.{Rows, rows_after}
-use Rattle.meta_log.specs.Slots.{width_of}
-use Rattle.store_image.specs.Owners.{IsLeaked, IsExactBut, IsExactAs}
-use Rattle.store_image.specs.Exact.{IsLeakedIn}
-use Rattle.store_image.proofs.ExactLemmas.{renamed, is_left_out}
-use Rattle.store_steps.specs.Intents.{Intent, intents, is_in, rows_by}
-use Rattle.store_steps.specs.UnderWay.{uncommitted, begun_ops}
-use Rattle.store_steps.specs.Parts.{RowsPart, rows_part}
-use Rattle.store_steps.specs.Touch.{Touch, after, run_write}
+use Rattle.meta_rows.specs.Prelude.{Rows, rows_after}
+use Rattle.meta_log.specs.Prelude.{width_of}
+use Rattle.store_image.specs.Prelude.{IsLeaked, IsExactBut, IsExactAs, IsLeakedIn}
+use Rattle.store_image.proofs.Prelude.{renamed, is_left_out}
+use Rattle.store_steps.specs.Prelude.{Intent, intents, is_in, rows_by, uncommitted, begun_ops, RowsPart, rows_part, Touch, after, run_write, RowsGo, joins, reorders, joined, Footprint, Batch, State, batch_ops}
 use Rattle.store_steps.specs.Touch as touch
-use Rattle.store_steps.specs.RowsGo.{RowsGo, same, joins, reorders, applies, joined}
-use Rattle.store_steps.specs.Footprint.{Footprint}
-use Rattle.store_facts.specs.Kept.{IsKept}
-use Rattle.store_facts.specs.Space.{AreRowsKept}
-use Rattle.space_facts.proofs.Selected.{selection_exact}
-use Rattle.store_facts.proofs.Conditions.{IsMade, made_batch}
-use Rattle.store_facts.proofs.PartsKept.{flat_intents}
-use Rattle.space_facts.proofs.Rows.{rows_append, rows_by_ops}
-use Rattle.store_steps.specs.State.{Batch, State}
-use Rattle.store_steps.specs.Contexts.{batch_ops}
+use Rattle.store_steps.specs.RowsGo.{same, applies}
+use Rattle.store_facts.specs.Prelude.{IsKept, AreRowsKept}
+use Rattle.space_facts.proofs.Prelude.{selection_exact, rows_append, rows_by_ops}
+use Rattle.store_facts.proofs.Prelude.{IsMade, made_batch, flat_intents}
 use Rattle.meta_store.specs.Store.{Begun}
 use Rattle.std.specs.Option.{option_map_or}
 use Rattle.selections.proofs.Selecting.{fair_nil, fair_among, fair_behind, each_of_none}
-use Rattle.book_facts.specs.Selections.{IsFairSelection}
-use Rattle.book_facts.proofs.Selecting.{has_coll}
+use Rattle.book_facts.specs.Prelude.{IsFairSelection}
+use Rattle.book_facts.proofs.Prelude.{has_coll}
 use Rattle.crash_facts.specs.Store.{contents_at, SelectionsAreExact}
 use Rattle.crash_facts.proofs.Fronts.{front_fair}
 

@@ -5,41 +5,25 @@ use Rattle.std.specs.List.{AllByRecursion}
 use Rattle.std.proofs.lemmas.List.Concat.{flat_map-append}
 use Rattle.std.proofs.lemmas.List.Elements.{filter_map-append}
 use Rattle.unit_fields.specs.declared.width.Width.{Width}
-use Rattle.block_device.specs.Disk.{Disk, History}
-use Rattle.block_device.specs.Facts.{last_at}
-use Rattle.object_model.specs.Objects.{Objects}
-use Rattle.object_model.specs.Effect.{replay}
-use Rattle.object_model.specs.Book.{change_at}
+use Rattle.block_device.specs.Prelude.{Disk, History, last_at}
+use Rattle.object_model.specs.Prelude.{Objects, replay, change_at}
 use Rattle.object_model.specs.declared.book.Entry.{Entry}
 use Rattle.object_model.proofs.Replays.{replay-append}
-use Rattle.meta_rows.specs.Rows.{Rows}
-use Rattle.meta_log.specs.Slots.{width_of}
-use Rattle.store_image.specs.Owners.{IsOwned, IsMarked}
-use Rattle.store_image.specs.Stands.{ObjectsStand}
-use Rattle.store_image.proofs.OwnedUnits.{objects_stand}
-use Rattle.store_image.proofs.PageUnits.{page_owned}
-use Rattle.log_facts.specs.Flushing.{flushed}
-use Rattle.log_facts.specs.Soundness.{SoundFor}
+use Rattle.meta_rows.specs.Prelude.{Rows}
+use Rattle.meta_log.specs.Prelude.{width_of}
+use Rattle.store_image.specs.Prelude.{IsOwned, IsMarked, ObjectsStand}
+use Rattle.store_image.proofs.Prelude.{objects_stand, page_owned}
+use Rattle.log_facts.specs.Prelude.{flushed, SoundFor}
 use Rattle.plan_rows.specs.declared.plan.FreshUnit.{FreshUnit}
-use Rattle.plan_rows.specs.Keeps.{IsGood}
+use Rattle.plan_rows.specs.Prelude.{IsGood}
 use Rattle.plan_rows.proofs.OnData.{owned_on_data}
 use Rattle.selections.proofs.Selecting.{fair_behind}
-use Rattle.space_facts.proofs.Rows.{rows_append}
-use Rattle.space_facts.proofs.Moving.{batch_fair, good_committed, pending_unmarked}
+use Rattle.space_facts.proofs.Prelude.{rows_append, batch_fair, good_committed, pending_unmarked}
 use Rattle.store_steps.specs.declared.context.Context.{Context}
-use Rattle.store_steps.specs.State.{State}
-use Rattle.store_steps.specs.Intents.{Intent, intents, is_in, rows_by, EachIsPlanned, AreTakenApart}
-use Rattle.store_steps.specs.UnderWay.{uncommitted, all_fresh, given_fresh}
-use Rattle.store_steps.specs.Parts.{rows_part}
-use Rattle.store_facts.specs.Jobs.{IsAllGiven}
-use Rattle.store_facts.specs.Kept.{IsKept}
-use Rattle.store_facts.specs.Space.{AreRowsKept}
-use Rattle.store_facts.proofs.Lists.{all_left}
-use Rattle.store_facts.proofs.RowsFacts.{units_of, taken_by}
-use Rattle.store_facts.proofs.PartsKept.{flat_intents, intents_both}
-use Rattle.store_facts.proofs.Apart.{taken_fresh, given_taken, parts_apart}
-use Rattle.store_facts.proofs.CommitFootprint.{given_all}
-use Rattle.book_facts.specs.Selections.{IsFairSelection, changes_of, SelectionsStand}
+use Rattle.store_steps.specs.Prelude.{State, Intent, intents, is_in, rows_by, EachIsPlanned, AreTakenApart, uncommitted, all_fresh, given_fresh, rows_part}
+use Rattle.store_facts.specs.Prelude.{IsAllGiven, IsKept, AreRowsKept}
+use Rattle.store_facts.proofs.Prelude.{all_left, units_of, taken_by, flat_intents, intents_both, taken_fresh, given_taken, parts_apart, given_all}
+use Rattle.book_facts.specs.Prelude.{IsFairSelection, changes_of, SelectionsStand}
 use Rattle.unit_facts.specs.DataUnits.{HeldBytesAreLast, UnitsAreFlushed, OtherUnitsAreClean}
 use Rattle.unit_facts.proofs.DataKnown.{retired}
 use Rattle.unit_facts.proofs.Units.{data_elsewhere}

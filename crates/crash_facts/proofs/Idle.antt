@@ -3,29 +3,20 @@ use Rattle.std.proofs.Common.{◌≡◌, ℕ, ◌-◌, true, List, [], length, t
 use Rattle.std.specs.Prelude.{IfSome}
 use Rattle.std.specs.Option.{option_map_or}
 use Rattle.std.proofs.lemmas.List.{take_all}
-use Rattle.block_device.specs.Log.{HasNoBadDone, IsAnsweredOnce}
-use Rattle.block_device.specs.Disk.{Disk, History}
-use Rattle.block_device.specs.Facts.{last_at}
+use Rattle.block_device.specs.Prelude.{HasNoBadDone, IsAnsweredOnce, Disk, History, last_at}
 use Rattle.block_device.proofs.ReadLemmas.{clean_good}
-use Rattle.object_model.specs.Objects.{Objects}
-use Rattle.object_model.specs.Effect.{replay}
-use Rattle.object_model.specs.Book.{accepted, committed}
+use Rattle.object_model.specs.Prelude.{Objects, replay, accepted, committed}
 use Rattle.object_model.specs.declared.book.Commit.{Commit}
-use Rattle.meta_rows.specs.Rows.{Rows}
-use Rattle.meta_log.specs.Slots.{width_of}
-use Rattle.store_image.specs.Stands.{ObjectsStand}
-use Rattle.store_image.proofs.OwnedUnits.{objects_stand}
+use Rattle.meta_rows.specs.Prelude.{Rows}
+use Rattle.meta_log.specs.Prelude.{width_of}
+use Rattle.store_image.specs.Prelude.{ObjectsStand}
+use Rattle.store_image.proofs.Prelude.{objects_stand}
 use Rattle.store_steps.specs.declared.context.Context.{Context}
-use Rattle.store_steps.specs.State.{Batch, State}
-use Rattle.store_steps.specs.Ready.{is_drained}
-use Rattle.store_steps.specs.Intents.{intents, rows_by}
-use Rattle.store_facts.specs.Kept.{IsKept}
-use Rattle.store_facts.proofs.Readiness.{IsIdle, idle_uncommitted}
-use Rattle.store_facts.proofs.Known.{known_idle}
-use Rattle.book_facts.specs.BookFacts.{AreQueued}
-use Rattle.book_facts.specs.Selections.{applied_changes, SelectionsStand}
-use Rattle.book_facts.proofs.Selecting.{none_selected}
-use Rattle.book_facts.proofs.Applied.{all_committed}
+use Rattle.store_steps.specs.Prelude.{Batch, State, is_drained, intents, rows_by}
+use Rattle.store_facts.specs.Prelude.{IsKept}
+use Rattle.store_facts.proofs.Prelude.{IsIdle, idle_uncommitted, known_idle}
+use Rattle.book_facts.specs.Prelude.{AreQueued, applied_changes, SelectionsStand}
+use Rattle.book_facts.proofs.Prelude.{none_selected, all_committed}
 use Rattle.unit_facts.proofs.Runs.{drained_clean}
 use Rattle.crash_facts.specs.HeldBytes.{held_or_last}
 use Rattle.crash_facts.specs.Store.{KnownOfStore}

@@ -4,35 +4,24 @@ use Rattle.std.proofs.Common.{Contains, is_some, refl, sym, ap, subst, ◌∙◌
 use Rattle.std.specs.Prelude.{IsSome}
 use Rattle.std.specs.List.{AllByRecursion, cons_option}
 use Rattle.std.proofs.lemmas.List.Elements.{filter-append, filter_map-append}
-use Rattle.block_device.specs.Disk.{History}
-use Rattle.meta_rows.specs.Rows.{Rows, rows_after}
+use Rattle.block_device.specs.Prelude.{History}
+use Rattle.meta_rows.specs.Prelude.{Rows, rows_after}
 use Rattle.meta_log.specs.declared.slot.Super.{Super}
-use Rattle.meta_log.specs.Slots.{width_of, IsSuper}
+use Rattle.meta_log.specs.Prelude.{width_of, IsSuper}
 use Rattle.unit_fields.specs.declared.width.Width.{Width}
-use Rattle.object_model.specs.Objects.{Objects}
-use Rattle.object_model.specs.Effect.{Change, names_of, is_named, changes_on, HaveOneName, replay, ok_or, transaction_effect}
-use Rattle.object_model.specs.Book.{change_at}
+use Rattle.object_model.specs.Prelude.{Objects, Change, names_of, is_named, changes_on, HaveOneName, replay, ok_or, transaction_effect, change_at}
 use Rattle.object_model.specs.declared.book.Entry.{Entry}
 use Rattle.object_model.specs.declared.op.Refusal.{Refusal}
 use Rattle.object_model.proofs.Replays.{replay-append, replay-by_collections}
-use Rattle.store_image.specs.Owners.{IsOwned, IsMarked}
-use Rattle.store_image.specs.Stands.{ObjectsStand}
-use Rattle.store_image.proofs.OwnedUnits.{objects_stand}
-use Rattle.store_image.proofs.PageUnits.{page_owned}
-use Rattle.plan_rows.specs.Plans.{HoldsFresh, fresh_units}
-use Rattle.plan_rows.specs.Keeps.{IsGood, Suits, HoldsRead, PlanMakes}
+use Rattle.store_image.specs.Prelude.{IsOwned, IsMarked, ObjectsStand}
+use Rattle.store_image.proofs.Prelude.{objects_stand, page_owned}
+use Rattle.plan_rows.specs.Prelude.{HoldsFresh, fresh_units, IsGood, Suits, HoldsRead, PlanMakes}
 use Rattle.selections.specs.Fair.{under, HasLast}
 use Rattle.selections.proofs.Selecting.{own_last, other_last, other_inside, with_last, all_selected}
-use Rattle.store_steps.specs.Intents.{Intent, names_in, is_in, plan_of, rows_by, taken_by, EachIsPlanned, AreTakenApart, CanJoin}
-use Rattle.space_facts.proofs.Lists.{listed_all}
-use Rattle.space_facts.proofs.Rows.{is_own, each_named}
-use Rattle.space_facts.proofs.Selected.{keeps_on_data, small_of, selection_good, idle_unmarked}
-use Rattle.space_facts.proofs.Joining.{suits_last, rows_last}
-use Rattle.book_facts.specs.BookFacts.{IsOfEntry}
-use Rattle.book_facts.specs.Selections.{IsFairSelection, changes_of, SelectionsStand}
-use Rattle.book_facts.proofs.Commits.{all_push, all_then}
-use Rattle.book_facts.proofs.Entries.{change_kept}
-use Rattle.book_facts.proofs.Queues.{entry_push}
+use Rattle.store_steps.specs.Prelude.{Intent, names_in, is_in, plan_of, rows_by, taken_by, EachIsPlanned, AreTakenApart, CanJoin}
+use Rattle.space_facts.proofs.Prelude.{listed_all, is_own, each_named, keeps_on_data, small_of, selection_good, idle_unmarked, suits_last, rows_last}
+use Rattle.book_facts.specs.Prelude.{IsOfEntry, IsFairSelection, changes_of, SelectionsStand}
+use Rattle.book_facts.proofs.Prelude.{all_push, all_then, change_kept, entry_push}
 use Rattle.crash_facts.specs.HeldBytes.{held_or_last}
 use Rattle.crash_facts.proofs.Bytes.{fresh_joined, joined_spared}
 

@@ -3,26 +3,17 @@ use Rattle.std.proofs.Common.{◌≡◌, ◌⊎◌, inl, inr, ℕ, ◌+◌, ◌�
 use Rattle.std.proofs.Common.{refl, sym, ap, subst, ◌∙◌, arith, length-append}
 use Rattle.std.proofs.lemmas.Option.{same_Some}
 use Rattle.std.proofs.lemmas.List.{take-append-le}
-use Rattle.block_device.specs.Log.{last, IsClean}
-use Rattle.block_device.specs.Disk.{Disk, History, IsSound, history_after}
-use Rattle.block_device.specs.Facts.{with_event}
+use Rattle.block_device.specs.Prelude.{last, IsClean, Disk, History, IsSound, history_after, with_event}
 use Rattle.block_device.specs.declared.device.Ticket.{Ticket}
 use Rattle.block_device.specs.declared.event.Event.{Event}
 use Rattle.block_device.specs.declared.event.Event.TheVariants.{Write, Flush, Done}
-use Rattle.object_model.specs.Objects.{Objects}
-use Rattle.store_image.specs.Stands.{StandsFor}
-use Rattle.store_image.specs.Durability.{IsStart, EachCutStands}
-use Rattle.unit_allocator.specs.Units.{Space}
-use Rattle.store_steps.specs.State.{State}
-use Rattle.store_steps.specs.Opened.{Found, opened}
-use Rattle.store_steps.specs.Runs.{Call, Calls}
-use Rattle.store_steps.specs.Touch.{Touch, nothing, ends, flushes, on_data, on_half, Adds, events_of, run_write}
-use Rattle.store_steps.specs.Footprint.{Footprint}
-use Rattle.plan_rows.specs.Keeps.{PlansKeep}
-use Rattle.store_facts.specs.Kept.{IsKept}
-use Rattle.store_facts.proofs.Downs.{GoesDown}
-use Rattle.store_facts.proofs.Keeping.{down_call}
-use Rattle.store_facts.proofs.Footprints.{footprint_of}
+use Rattle.object_model.specs.Prelude.{Objects}
+use Rattle.store_image.specs.Prelude.{StandsFor, IsStart, EachCutStands}
+use Rattle.unit_allocator.specs.Prelude.{Space}
+use Rattle.store_steps.specs.Prelude.{State, Found, opened, Call, Calls, Touch, nothing, ends, flushes, on_data, on_half, Adds, events_of, run_write, Footprint}
+use Rattle.plan_rows.specs.Prelude.{PlansKeep}
+use Rattle.store_facts.specs.Prelude.{IsKept}
+use Rattle.store_facts.proofs.Prelude.{GoesDown, down_call, footprint_of}
 use Rattle.crash_facts.specs.Store.{IsDurable, KeepsDurable, IsMounted}
 use Rattle.crash_facts.proofs.Runs.{call_durable, mounted_durable}
 

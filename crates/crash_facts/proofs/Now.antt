@@ -7,36 +7,24 @@ use Rattle.std.specs.Prelude.{IfSome, IsSomeAnd}
 use Rattle.std.proofs.lemmas.Bool.{ltb-true}
 use Rattle.std.proofs.lemmas.List.{take_all}
 use Rattle.byte_maps.specs.Units.{IsUnits}
-use Rattle.block_device.specs.Log.{last}
-use Rattle.block_device.specs.Disk.{Disk, History}
-use Rattle.object_model.specs.Objects.{Objects}
-use Rattle.object_model.specs.Effect.{replay}
-use Rattle.object_model.specs.Book.{committed, IsAckedBy, HasAcked}
+use Rattle.block_device.specs.Prelude.{last, Disk, History}
+use Rattle.object_model.specs.Prelude.{Objects, replay, committed, IsAckedBy, HasAcked}
 use Rattle.object_model.specs.declared.book.Commit.{Commit}
 use Rattle.meta_rows.specs.declared.row_op.RowOp.{RowOp}
-use Rattle.meta_rows.specs.Rows.{Rows, rows_after}
-use Rattle.meta_log.specs.Records.{unit_count}
-use Rattle.meta_log.specs.Pieces.{given_from}
+use Rattle.meta_rows.specs.Prelude.{Rows, rows_after}
+use Rattle.meta_log.specs.Prelude.{unit_count, given_from, width_of}
 use Rattle.meta_log.proofs.PieceLemmas.{given_from-none}
-use Rattle.meta_log.specs.Slots.{width_of}
-use Rattle.store_image.specs.Exact.{IsLeakedIn}
-use Rattle.store_image.specs.Durability.{LeavesPrefix}
-use Rattle.log_facts.specs.Flushing.{flushed}
-use Rattle.log_facts.specs.Soundness.{SoundFor}
+use Rattle.store_image.specs.Prelude.{IsLeakedIn, LeavesPrefix}
+use Rattle.log_facts.specs.Prelude.{flushed, SoundFor}
 use Rattle.log_facts.proofs.Cuts.{cut_stands}
 use Rattle.store_steps.specs.declared.flight.FlushState.{FlushState}
 use Rattle.meta_store.specs.Store.{Begun}
-use Rattle.store_steps.specs.State.{Batch, State}
-use Rattle.store_steps.specs.Ready.{applied_count}
-use Rattle.store_facts.specs.Room.{AcksAre}
-use Rattle.store_steps.specs.UnderWay.{uncommitted, all_fresh, flush_of, begun_ops, submitted_from, second_flush}
-use Rattle.store_facts.specs.Kept.{IsKept}
-use Rattle.store_facts.proofs.Conditions.{batch_written, given_flushed}
-use Rattle.store_facts.proofs.Pieces.{some_units}
-use Rattle.book_facts.specs.Selections.{applied_changes, changes_of}
-use Rattle.book_facts.proofs.Applied.{applied_committed, batch_last}
+use Rattle.store_steps.specs.Prelude.{Batch, State, applied_count, uncommitted, all_fresh, flush_of, begun_ops, submitted_from, second_flush, intents}
+use Rattle.store_facts.specs.Prelude.{AcksAre, IsKept}
+use Rattle.store_facts.proofs.Prelude.{batch_written, given_flushed, some_units}
+use Rattle.book_facts.specs.Prelude.{applied_changes, changes_of}
+use Rattle.book_facts.proofs.Prelude.{applied_committed, batch_last}
 use Rattle.unit_facts.specs.DataUnits.{UnitsAreFlushed, BatchUnitsAreFlushed}
-use Rattle.store_steps.specs.Intents.{intents}
 use Rattle.crash_facts.specs.Store.{contents_at, KnownOfStore}
 use Rattle.crash_facts.proofs.Exact.{IsOfBatch, rows_exact, batch_first, begun_of, kept_begun}
 use Rattle.crash_facts.proofs.Fronts.{front_sound}

@@ -4,48 +4,27 @@ use Rattle.std.proofs.Common.{refl, sym, ap, subst}
 use Rattle.std.proofs.Common.{◌∙◌, arith, length-append}
 use Rattle.std.proofs.lemmas.Option.{same_Some}
 use Rattle.std.proofs.lemmas.List.{take_all}
-use Rattle.block_device.specs.Log.{last, IsClean}
-use Rattle.block_device.specs.Disk.{Disk, History, IsSound, history_after}
-use Rattle.block_device.specs.Facts.{with_event, last_at}
+use Rattle.block_device.specs.Prelude.{last, IsClean, Disk, History, IsSound, history_after, with_event, last_at}
 use Rattle.block_device.specs.declared.device.Ticket.{Ticket}
 use Rattle.block_device.specs.declared.event.Event.{Event}
 use Rattle.block_device.specs.declared.event.Event.TheVariants.{Done}
 use Rattle.block_device.proofs.LogLemmas.{each_cut_push}
-use Rattle.object_model.specs.Objects.{Objects}
-use Rattle.object_model.specs.Effect.{replay}
-use Rattle.object_model.specs.Book.{accepted}
-use Rattle.meta_log.specs.Slots.{width_of}
-use Rattle.store_image.specs.Exact.{IsLeakedIn, StaysExact}
-use Rattle.store_image.specs.Stands.{StandsFor}
-use Rattle.store_image.specs.Durability.{LeavesPrefix, EachCutStands}
-use Rattle.store_image.proofs.OwnedUnits.{objects_stand}
+use Rattle.object_model.specs.Prelude.{Objects, replay, accepted}
+use Rattle.meta_log.specs.Prelude.{width_of}
+use Rattle.store_image.specs.Prelude.{IsLeakedIn, StaysExact, StandsFor, LeavesPrefix, EachCutStands}
+use Rattle.store_image.proofs.Prelude.{objects_stand}
 use Rattle.log_facts.proofs.Crashes.{log_reads, log_stands}
 use Rattle.log_facts.proofs.Cuts.{exact_image}
-use Rattle.unit_allocator.specs.Units.{Space}
-use Rattle.store_steps.specs.State.{State}
-use Rattle.store_steps.specs.Ready.{is_drained}
-use Rattle.store_steps.specs.Opened.{Found, opened}
-use Rattle.store_steps.specs.Intents.{intents}
-use Rattle.store_steps.specs.Parts.{book_part}
-use Rattle.store_steps.specs.Touch.{after}
-use Rattle.store_steps.specs.Footprint.{Footprint}
-use Rattle.store_steps.specs.Runs.{Call, Calls, IsRun}
-use Rattle.plan_rows.specs.Keeps.{PlansKeep}
-use Rattle.store_facts.specs.Kept.{IsKept}
-use Rattle.store_steps.specs.UnderWay.{uncommitted, second_flush}
-use Rattle.store_facts.proofs.Readiness.{IsIdle}
-use Rattle.store_facts.proofs.Known.{known_idle}
-use Rattle.book_facts.specs.BookFacts.{KnownOfBook}
-use Rattle.book_facts.proofs.Books.{book_opened}
-use Rattle.book_facts.proofs.BookCalls.{book_call}
-use Rattle.store_facts.proofs.KeptCalls.{kept_call, kept_run}
-use Rattle.book_facts.proofs.Selecting.{stand_none}
+use Rattle.unit_allocator.specs.Prelude.{Space}
+use Rattle.store_steps.specs.Prelude.{State, is_drained, Found, opened, intents, book_part, after, Footprint, Call, Calls, IsRun, uncommitted, second_flush}
+use Rattle.plan_rows.specs.Prelude.{PlansKeep}
+use Rattle.store_facts.specs.Prelude.{IsKept}
+use Rattle.store_facts.proofs.Prelude.{IsIdle, known_idle, kept_call, kept_run, footprint_of, was_up, Ends, IsStill, not_both, down_call}
+use Rattle.book_facts.specs.Prelude.{KnownOfBook}
+use Rattle.book_facts.proofs.Prelude.{book_opened, book_call, stand_none}
 use Rattle.crash_facts.specs.HeldBytes.{held_or_last}
 use Rattle.unit_facts.specs.Known.{KnownOfUnits}
 use Rattle.unit_facts.proofs.Calls.{footprint_known, opened_known}
-use Rattle.store_facts.proofs.Footprints.{footprint_of}
-use Rattle.store_facts.proofs.Downs.{was_up, Ends, IsStill, not_both}
-use Rattle.store_facts.proofs.Keeping.{down_call}
 use Rattle.unit_facts.proofs.Runs.{idle_half, drained_clean}
 use Rattle.crash_facts.specs.Store.{contents_at, KnownOfStore, IsDurable, IsMounted}
 use Rattle.crash_facts.proofs.Idle.{idle_objects}

@@ -6,54 +6,30 @@ use Rattle.std.specs.List.{AllByRecursion}
 use Rattle.std.proofs.lemmas.List.{take-append-le}
 use Rattle.unit_fields.specs.declared.width.Width.{Width}
 use Rattle.byte_maps.specs.Units.{IsUnits}
-use Rattle.block_device.specs.Log.{last}
-use Rattle.block_device.specs.Disk.{Disk, History, Flight}
-use Rattle.block_device.specs.Facts.{with_event, last_at}
+use Rattle.block_device.specs.Prelude.{last, Disk, History, Flight, with_event, last_at}
 use Rattle.block_device.specs.declared.event.Event.TheVariants.{Write, Flush, Done}
-use Rattle.object_model.specs.Objects.{Objects}
-use Rattle.object_model.specs.Effect.{Change, replay}
-use Rattle.object_model.specs.Book.{committed, change_at}
-use Rattle.meta_rows.specs.Rows.{Rows}
-use Rattle.meta_log.specs.Slots.{width_of, IsSuper}
-use Rattle.store_image.specs.BadRows.{NoBadRow}
-use Rattle.store_image.specs.Pages.{HasPage}
-use Rattle.store_image.specs.Stands.{ObjectsStand}
-use Rattle.store_image.proofs.OwnedUnits.{objects_stand}
-use Rattle.store_image.proofs.PageUnits.{page_owned}
+use Rattle.object_model.specs.Prelude.{Objects, Change, replay, committed, change_at}
+use Rattle.meta_rows.specs.Prelude.{Rows}
+use Rattle.meta_log.specs.Prelude.{width_of, IsSuper}
+use Rattle.store_image.specs.Prelude.{NoBadRow, HasPage, ObjectsStand}
+use Rattle.store_image.proofs.Prelude.{objects_stand, page_owned}
 use Rattle.log_facts.proofs.Keeping.{last_push, half_before_data}
 use Rattle.plan_rows.specs.declared.plan.FreshUnit.{FreshUnit}
 use Rattle.store_steps.specs.declared.step.Step.TheVariants as step
-use Rattle.store_steps.specs.State.{Batch, State}
-use Rattle.store_steps.specs.Contexts.{unsent_units}
-use Rattle.store_steps.specs.Changes.{acknowledged, committed_batch}
-use Rattle.store_steps.specs.Steps.{DoesCommit}
-use Rattle.store_steps.specs.Intents.{Intent, intents, is_in, rows_by}
-use Rattle.store_steps.specs.UnderWay.{uncommitted, given_fresh}
-use Rattle.store_steps.specs.Parts.{RowsPart, DataPart, BookPart, rows_part, data_part, book_part}
-use Rattle.store_steps.specs.Touch.{Touch, nothing, ends, flushes, on_data, on_half, after, run_write, IsPlaced, IsNoData}
-use Rattle.store_steps.specs.RowsGo.{RowsGo}
+use Rattle.store_steps.specs.Prelude.{Batch, State, unsent_units, acknowledged, committed_batch, DoesCommit, Intent, intents, is_in, rows_by, uncommitted, given_fresh, RowsPart, DataPart, BookPart, rows_part, data_part, book_part, Touch, nothing, ends, flushes, on_data, on_half, after, run_write, IsPlaced, IsNoData, RowsGo, DataGoes, BookGoes, commits_of, AcceptsOne, IsCaused, Footprint}
 use Rattle.store_steps.specs.RowsGo as rows
-use Rattle.store_steps.specs.DataGoes.{DataGoes}
 use Rattle.store_steps.specs.DataGoes as units
-use Rattle.store_steps.specs.BookGoes.{BookGoes, commits_of}
 use Rattle.store_steps.specs.BookGoes as book
-use Rattle.store_steps.specs.Footprint.{AcceptsOne, IsCaused, Footprint}
-use Rattle.store_facts.specs.Kept.{IsKept}
-use Rattle.store_facts.specs.Space.{IsSpaceOf, AreRowsKept}
-use Rattle.store_facts.proofs.RowsAccepted.{accepted_makes, accepted_joins}
-use Rattle.plan_rows.specs.Keeps.{PlansKeep}
-use Rattle.space_facts.proofs.Selected.{selection_good}
-use Rattle.store_facts.proofs.Conditions.{batch_written}
-use Rattle.store_facts.proofs.Apart.{given_of_all}
+use Rattle.store_facts.specs.Prelude.{IsKept, IsSpaceOf, AreRowsKept}
+use Rattle.store_facts.proofs.Prelude.{accepted_makes, accepted_joins, batch_written, given_of_all, all_left, all_right}
+use Rattle.plan_rows.specs.Prelude.{PlansKeep}
+use Rattle.space_facts.proofs.Prelude.{selection_good, each_named}
 use Rattle.plan_rows.proofs.OnData.{owned_on_data}
-use Rattle.book_facts.specs.BookFacts.{IsOfEntry, KnownOfBook}
-use Rattle.book_facts.specs.Selections.{IsFairSelection, applied_changes, changes_of, SelectionsStand}
-use Rattle.book_facts.proofs.Commits.{all_then, places_acknowledged, changes_at}
-use Rattle.book_facts.proofs.Applied.{applied_by_places, applied_entry, applied_committed, batch_last}
+use Rattle.book_facts.specs.Prelude.{IsOfEntry, KnownOfBook, IsFairSelection, applied_changes, changes_of, SelectionsStand}
+use Rattle.book_facts.proofs.Prelude.{all_then, places_acknowledged, changes_at, applied_by_places, applied_entry, applied_committed, batch_last}
 use Rattle.unit_facts.specs.DataUnits.{HeldBytesAreLast}
 use Rattle.unit_facts.proofs.RunWrites.{row_spares}
 use Rattle.unit_facts.proofs.Units.{data_elsewhere, half_spares_others}
-use Rattle.store_facts.proofs.Lists.{all_left, all_right}
 use Rattle.crash_facts.specs.HeldBytes.{fresh_by, held_or_last}
 use Rattle.crash_facts.specs.Store.{ContextsStand}
 use Rattle.crash_facts.proofs.Admitting.{under_way_of, accept_stand}
@@ -62,7 +38,6 @@ use Rattle.crash_facts.proofs.Exact.{batch_rows, batch_first}
 use Rattle.crash_facts.proofs.Fronts.{behind_stand}
 use Rattle.selections.specs.Fair.{IsComplete}
 use Rattle.selections.proofs.Selecting.{fair_among, all_selected}
-use Rattle.space_facts.proofs.Rows.{each_named}
 use Rattle.object_model.specs.declared.book.Entry.{Entry}
 use Rattle.crash_facts.proofs.Bytes.{fresh_are, fresh_alike, with_same, held_quiet, held_over, held_alike}
 

@@ -1,10 +1,9 @@
 -- The bytes that units hold, or are to hold.
 use Rattle.std.specs.Prelude.{ℕ, ◌==◌, List, [], ◌∷◌, if◌then◌else◌}
 use Rattle.std.specs.List.{flat_map}
-use Rattle.block_device.specs.Disk.{History}
-use Rattle.block_device.specs.Facts.{last_at}
+use Rattle.block_device.specs.Prelude.{History, last_at}
 use Rattle.plan_rows.specs.declared.plan.FreshUnit.{FreshUnit}
-use Rattle.store_steps.specs.Intents.{Intent}
+use Rattle.store_steps.specs.Prelude.{Intent}
 
 -- the bytes of units, where fresh ones have theirs and all others those given
 abbrev pub bytes_with : List FreshUnit → (ℕ → List ℕ) → ℕ → List ℕ

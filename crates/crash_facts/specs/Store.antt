@@ -2,29 +2,16 @@
 use Rattle.std.specs.Prelude.{◌≡◌, ℕ, ◌+◌, List, [], length, take, Some, None}
 use Rattle.std.specs.List.{AllByRecursion}
 use Rattle.unit_fields.specs.declared.width.Width.{Width}
-use Rattle.block_device.specs.Log.{last, IsClean}
-use Rattle.block_device.specs.Disk.{Disk, History}
-use Rattle.block_device.specs.Facts.{last_at}
-use Rattle.object_model.specs.Objects.{Objects}
-use Rattle.object_model.specs.Effect.{replay}
-use Rattle.object_model.specs.Book.{AnswersFrom}
+use Rattle.block_device.specs.Prelude.{last, IsClean, Disk, History, last_at}
+use Rattle.object_model.specs.Prelude.{Objects, replay, AnswersFrom}
 use Rattle.meta_rows.specs.declared.row_op.RowOp.{RowOp}
-use Rattle.meta_rows.specs.Rows.{Rows}
-use Rattle.meta_log.specs.Slots.{width_of}
-use Rattle.store_image.specs.Owners.{IsExactBut}
-use Rattle.store_image.specs.Exact.{IsLeakedIn}
-use Rattle.store_image.specs.Stands.{ObjectsStand}
-use Rattle.store_image.specs.Durability.{IsStart, EachCutStands}
-use Rattle.log_facts.specs.Flushing.{not_sent}
-use Rattle.log_facts.specs.SlotFacts.{SlotsStand}
-use Rattle.log_facts.specs.HalfFacts.{ActiveHalfStands}
-use Rattle.store_steps.specs.State.{State}
-use Rattle.store_steps.specs.Opened.{Found}
-use Rattle.store_steps.specs.Intents.{Intent, intents, rows_by}
-use Rattle.store_steps.specs.UnderWay.{uncommitted}
-use Rattle.book_facts.specs.BookFacts.{KnownOfBook}
-use Rattle.read_facts.specs.Alike.{IsNoCsum}
-use Rattle.book_facts.specs.Selections.{IsFairSelection, applied_changes, SelectionsStand}
+use Rattle.meta_rows.specs.Prelude.{Rows}
+use Rattle.meta_log.specs.Prelude.{width_of}
+use Rattle.store_image.specs.Prelude.{IsExactBut, IsLeakedIn, ObjectsStand, IsStart, EachCutStands}
+use Rattle.log_facts.specs.Prelude.{not_sent, SlotsStand, ActiveHalfStands}
+use Rattle.store_steps.specs.Prelude.{State, Found, Intent, intents, rows_by, uncommitted}
+use Rattle.book_facts.specs.Prelude.{KnownOfBook, IsFairSelection, applied_changes, SelectionsStand}
+use Rattle.read_facts.specs.Prelude.{IsNoCsum}
 use Rattle.crash_facts.specs.HeldBytes.{held_or_last}
 use Rattle.unit_facts.specs.Known.{IsAnsweredSince, KnownOfUnits}
 

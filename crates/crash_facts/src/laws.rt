@@ -1,25 +1,16 @@
 //! Prefix durability along the calls of a kernel, and what its device stands for once it is drained.
 ghost use Rattle.std.specs.Prelude.{◌≡◌, ℕ, ◌+◌, true, List, [], length, Some, None};
 ghost use Rattle.std.specs.List.{AllByRecursion};
-ghost use Rattle.block_device.specs.Log.{last, IsClean, HasNoBadDone};
-ghost use Rattle.block_device.specs.Facts.{last_at};
-ghost use Rattle.block_device.specs.Disk.{Disk, History, IsSound};
-ghost use Rattle.object_model.specs.Objects.{Objects};
-ghost use Rattle.object_model.specs.Effect.{replay};
-ghost use Rattle.object_model.specs.Book.{accepted, IsLegal};
-ghost use Rattle.store_image.specs.Stands.{ObjectsStand, StandsFor};
-ghost use Rattle.store_image.specs.Exact.{StaysExact};
-ghost use Rattle.read_facts.specs.Alike.{IsNoCsum};
-ghost use Rattle.store_image.specs.Durability.{IsStart, EachCutStands};
-ghost use Rattle.unit_allocator.specs.Units.{Space};
-ghost use Rattle.store_steps.specs.State.{State};
-ghost use Rattle.store_steps.specs.Ready.{is_drained};
-ghost use Rattle.store_steps.specs.Opened.{Found, opened};
-ghost use Rattle.store_steps.specs.Runs.{Call, Calls, IsRun};
-ghost use Rattle.plan_rows.specs.Keeps.{PlansKeep};
-ghost use Rattle.store_facts.specs.Kept.{IsKept};
+ghost use Rattle.block_device.specs.Prelude.{last, IsClean, HasNoBadDone, last_at, Disk, History, IsSound};
+ghost use Rattle.object_model.specs.Prelude.{Objects, replay, accepted, IsLegal};
+ghost use Rattle.store_image.specs.Prelude.{ObjectsStand, StandsFor, StaysExact, IsStart, EachCutStands};
+ghost use Rattle.read_facts.specs.Prelude.{IsNoCsum};
+ghost use Rattle.unit_allocator.specs.Prelude.{Space};
+ghost use Rattle.store_steps.specs.Prelude.{State, is_drained, Found, opened, Call, Calls, IsRun};
+ghost use Rattle.plan_rows.specs.Prelude.{PlansKeep};
+ghost use Rattle.store_facts.specs.Prelude.{IsKept};
 ghost use Rattle.crash_facts.specs.Store.{contents_at, KnownOfStore, IsDurable, KeepsDurable, IsMounted};
-ghost use Rattle.meta_log.specs.Slots.{width_of};
+ghost use Rattle.meta_log.specs.Prelude.{width_of};
 
 /// A store that was mounted, on a device where nothing is in flight and that tells its log, is durable from the start, for the objects
 /// that the contents stood for when the mount began.

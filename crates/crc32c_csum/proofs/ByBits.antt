@@ -3,8 +3,7 @@ use Rattle.std.proofs.Common.{◌≡◌, ℕ, suc, ◌+◌, ◌*◌, ◌/◌, �
 use Rattle.std.specs.Prelude.{bit_xor}
 use Rattle.std.specs.Int.Bits.{xor_assoc, xor_self, xor_zero_l, xor_zero_r}
 use Rattle.std.proofs.lemmas.Nat.{xor_block}
-use Rattle.crc32c_csum.specs.Crc32c.{after_bits, all_ones, remainder, crc32c}
-use Rattle.crc32c_csum.specs.Steps.{after_zeros}
+use Rattle.crc32c_csum.specs.Prelude.{after_bits, all_ones, remainder, crc32c, after_zeros}
 use Rattle.crc32c_csum.specs.declared.behind.TheConstants.{BEHIND_PAGE}
 use Rattle.crc32c_csum.proofs.Linear.{after_zeros-xor, remainder-xor}
 use Rattle.crc32c_csum.proofs.Folding.{xor_twice}

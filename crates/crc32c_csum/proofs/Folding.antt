@@ -9,9 +9,7 @@ use borrow.Rule.Slice.PartMut.{put_mid, mid_of, post_of}
 use Rattle.std.specs.List.{range_with_len}
 use Rattle.std.proofs.lemmas.List.{take-append-le, take-replicate, drop-replicate, drop_all, drop_at, get_or_default}
 use Rattle.std.proofs.lemmas.List.Elements.{All-take}
-use Rattle.crc32c_csum.specs.Crc32c.{after_bits, after_byte, remainder}
-use Rattle.crc32c_csum.specs.Steps.{after_zeros}
-use Rattle.crc32c_csum.specs.Folding.{multiple, sixteen, put_on, of_first, of_put_on, of_taken}
+use Rattle.crc32c_csum.specs.Prelude.{after_bits, after_byte, remainder, after_zeros, multiple, sixteen, put_on, of_first, of_put_on, of_taken}
 use Rattle.crc32c_csum.proofs.Linear.{left, after_bits-xor, after_zeros-xor, one_byte, remainder-xor, remainder-append}
 use Rattle.crc32c_csum.proofs.Laws.{remainder_fits}
 use Rattle.crc32c_csum.proofs.Multiple.{swap4, multiple_is_zero}

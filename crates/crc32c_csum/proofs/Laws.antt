@@ -2,7 +2,7 @@
 use Rattle.std.proofs.Common.{◌≡◌, ℕ, zero, suc, ◌/◌, ◌^◌, ◌<◌, List, [], ◌∷◌, ◌++◌, ap, arith, All, lit<, inl, inr}
 use Rattle.std.specs.Prelude.{bit_xor}
 use Rattle.std.proofs.lemmas.Nat.{xor_of_32}
-use Rattle.crc32c_csum.specs.Crc32c.{after_bit, after_bits, after_byte, all_ones, remainder, crc32c}
+use Rattle.crc32c_csum.specs.Prelude.{after_bit, after_bits, after_byte, all_ones, remainder, crc32c}
 use Rattle.crc32c_csum.proofs.Linear.{low_bit, at_even, at_odd, remainder-append}
 
 -- the checksum of two parts is that of the first, gone on with

@@ -3,8 +3,7 @@ use Rattle.std.proofs.Common.{◌≡◌, ℕ, zero, suc, ◌+◌, ◌*◌, ◌/�
 use Rattle.std.specs.Prelude.{bit_xor}
 use Rattle.std.specs.Int.Bits.{xor_assoc, xor_self, xor_zero_l, xor_zero_r}
 use Rattle.std.proofs.lemmas.Nat.{xor_comm, xor_shr, xor_mod, xor_block}
-use Rattle.crc32c_csum.specs.Crc32c.{after_bit, after_bits, after_byte, remainder}
-use Rattle.crc32c_csum.specs.Steps.{after_zeros}
+use Rattle.crc32c_csum.specs.Prelude.{after_bit, after_bits, after_byte, remainder, after_zeros}
 
 pub low_bit : (n : ℕ) → (n % 2 ≡ 0) ⊎ (n % 2 ≡ 1)
 low_bit n = by_cases (n % 2) refl (omega arith)

@@ -2,8 +2,7 @@
 use Rattle.std.proofs.Common.{◌≡◌, ℕ, suc, ◌/◌, ◌%◌, ◌^◌, ◌<◌, List, [], ◌∷◌, length, refl, sym, ap, ◌∙◌, arith}
 use Rattle.std.specs.Prelude.{bit_xor}
 use Rattle.std.specs.Int.Bits.{xor_zero_l, xor_zero_r}
-use Rattle.crc32c_csum.specs.Crc32c.{remainder}
-use Rattle.crc32c_csum.specs.Steps.{after_zeros, by_tables}
+use Rattle.crc32c_csum.specs.Prelude.{remainder, after_zeros, by_tables}
 use Rattle.crc32c_csum.proofs.Linear.{first_of}
 
 none_left : (byte : ℕ) (bytes : List ℕ) → remainder 0 (byte ∷ bytes) ≡ bit_xor (after_zeros (suc (length bytes)) byte) (remainder 0 bytes)

@@ -4,9 +4,7 @@ use Rattle.std.specs.Prelude.{bit_xor}
 use Rattle.std.specs.Int.Bits.{xor_assoc, xor_zero_l}
 use Rattle.std.proofs.lemmas.Nat.{xor_comm, xor_block}
 use Rattle.std.proofs.lemmas.List.{get_or-replicate}
-use Rattle.crc32c_csum.specs.Crc32c.{after_bits}
-use Rattle.crc32c_csum.specs.Steps.{after_zeros}
-use Rattle.crc32c_csum.specs.Folding.{multiple}
+use Rattle.crc32c_csum.specs.Prelude.{after_bits, after_zeros, multiple}
 use Rattle.crc32c_csum.proofs.Linear.{after_zeros-xor}
 use Rattle.crc32c_csum.proofs.TableFacts.{all_are, entry}
 

@@ -1,8 +1,7 @@
 -- The tables have what their comment says.
 use Rattle.std.proofs.Common.{◌≡◌, ℕ, zero, suc, ◌+◌, ◌<◌, Bool, true, false, ◌&&◌, eqb, List, [], ◌∷◌, length, get_or, refl, ap, ◌∙◌, arith}
 use Rattle.std.proofs.lemmas.Bool.{eqb-true}
-use Rattle.crc32c_csum.specs.Crc32c.{after_bits}
-use Rattle.crc32c_csum.specs.Steps.{after_zeros}
+use Rattle.crc32c_csum.specs.Prelude.{after_bits, after_zeros}
 use Rattle.crc32c_csum.specs.declared.tables.TheConstants.{AFTER}
 
 abbrev pub all_are : (ℕ → ℕ) → ℕ → List ℕ → Bool

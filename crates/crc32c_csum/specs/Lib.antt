@@ -1,3 +1,4 @@
 pub mod Crc32c
 pub mod Steps
 pub mod Folding
+pub mod Prelude

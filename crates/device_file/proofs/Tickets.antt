@@ -3,7 +3,7 @@ use Rattle.std.proofs.Common.{◌≡◌, ℕ, ◌+◌, ◌<◌, ◌≤◌, List,
 use Rattle.std.proofs.lemmas.Bool.Decides.{nat_tests}
 use Rattle.std.proofs.lemmas.List.{length-map, map-append}
 use Rattle.std.proofs.lemmas.List.Elements.{All-head, All-tail, All-push, All-cons}
-use Rattle.block_device.specs.Disk.{find_flight, flight_of, without, Submitted, Reaped}
+use Rattle.block_device.specs.Prelude.{find_flight, flight_of, without, Submitted, Reaped}
 use Rattle.block_device.specs.declared.event.Event.{Event}
 use Rattle.device_file.specs.FileDisk.{FileDisk, silent}
 use Rattle.device_file.specs.Sync.{flight, PendingAscend}

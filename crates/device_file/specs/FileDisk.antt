@@ -1,6 +1,6 @@
 -- What is seen of a device over a file.
 use Rattle.std.specs.Prelude.{ℕ, List, [], None}
-use Rattle.block_device.specs.Disk.{Disk, Flight}
+use Rattle.block_device.specs.Prelude.{Disk, Flight}
 
 -- the disk, and how often it has failed
 pub record FileDisk : Type 0 where

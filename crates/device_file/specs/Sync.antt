@@ -1,7 +1,7 @@
 -- What holds inside a file that works at submission.
 use Rattle.std.specs.Prelude.{ℕ, ◌<◌, ◌≤◌, List, [], ◌∷◌, length, map, All}
 use Rattle.std.specs.VecDeque.{deque_capacity}
-use Rattle.block_device.specs.Disk.{Flight}
+use Rattle.block_device.specs.Prelude.{Flight}
 use Rattle.device_file.specs.FileDisk.{FileDisk, silent}
 use Rattle.device_file.specs.declared.sync.Pending.{Pending}
 use Rattle.device_file.specs.declared.sync.SyncFile.TheInside.{Inside}

@@ -2,7 +2,7 @@
 
 ghost use Rattle.std.specs.Prelude.{◌≡◌, ◌*◌, ◌≤◌, ◌↔◌, ◌∷◌, [], IfOk, IfSome, IfNone, IsOk, IsTrue, All, false};
 ghost use Rattle.std.specs.VecDeque.{deque_capacity};
-ghost use Rattle.block_device.specs.Disk.{Reaped, Waited, IsSound, Rose};
+ghost use Rattle.block_device.specs.Prelude.{Reaped, Waited, IsSound, Rose};
 ghost use Rattle.device_file.specs.FileDisk.{fresh_file};
 
 use crate::opening::{make_file, offset_of, open_file};

@@ -8,8 +8,8 @@ use Rattle.std.proofs.lemmas.Bool.{cases_Bool, cases_lt}
 use Rattle.std.proofs.lemmas.List.{length-take, length-replicate, take-take, take_all}
 use Rattle.byte_maps.specs.ByteMap.{ByteMap, byte_order}
 use Rattle.byte_maps.specs.Units.{zeros}
-use Rattle.byte_maps.proofs.Laws.{after_insert}
-use Rattle.block_device.specs.Memory.{MemoryDisk, fresh_memory, disk_of}
+use Rattle.byte_maps.proofs.Prelude.{after_insert}
+use Rattle.block_device.specs.Prelude.{MemoryDisk, fresh_memory, disk_of}
 use Rattle.end_points.specs.Bay.{HandedOut, IsFewUnits, HasAskedUnits, StartsWith, cut_or_filled, start_of}
 use Rattle.end_points.specs.Memory.{MemoryShelf, IsShelf, AreContents, IsStarted, view_of, after_device}
 use Rattle.end_points.specs.declared.bay.How.{How}

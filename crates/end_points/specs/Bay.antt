@@ -3,7 +3,7 @@ use Rattle.std.specs.Prelude.{◌≡◌, ℕ, ◌+◌, ◌-◌, ◌*◌, ◌≤�
 use Rattle.std.specs.FinMap as map
 use Rattle.byte_maps.specs.ByteMap.{ByteMap}
 use Rattle.byte_maps.specs.Units.{zeros}
-use Rattle.block_device.specs.Disk.{Disk, IsFresh}
+use Rattle.block_device.specs.Prelude.{Disk, IsFresh}
 use Rattle.end_points.specs.declared.bay.How.{How}
 use Rattle.end_points.specs.declared.bay.How.TheVariants.{Make, Plain, Queued}
 

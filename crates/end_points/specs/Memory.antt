@@ -2,8 +2,7 @@
 use Rattle.std.specs.Prelude.{◌≡◌, ◌⊎◌, ℕ, ◌+◌, ◌-◌, ◌*◌, ◌%◌, ◌<◌, ◌≤◌, ◌==◌, min, List, ◌++◌, length, drop, Bool, true, false, ◌&&◌, Option, Some, None, All, Contains}
 use Rattle.std.specs.List.{list_any}
 use Rattle.std.specs.FinMap as map
-use Rattle.block_device.specs.Fails.{counted}
-use Rattle.block_device.specs.Memory.{MemoryDisk, fresh_memory}
+use Rattle.block_device.specs.Prelude.{counted, MemoryDisk, fresh_memory}
 use Rattle.block_device.specs.declared.kind.Kind.{Kind}
 use Rattle.end_points.specs.Bay.{BayView, Names, start_of}
 use Rattle.end_points.specs.declared.bay.How.{How}

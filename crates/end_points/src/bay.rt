@@ -1,6 +1,6 @@
 // The trait `Bay`: who hands out devices and scripts by name.
 ghost use Rattle.std.specs.Prelude.{◌≡◌, ◌+◌, ◌<◌, ◌≤◌, ◌^◌, ℕ, IfOk, OnOk, OnErr, IsErrOf};
-ghost use Rattle.block_device.specs.Disk.{Rose};
+ghost use Rattle.block_device.specs.Prelude.{Rose};
 ghost use Rattle.end_points.specs.Bay.{BayView, HandedOut, Opened, IsFewUnits};
 
 use crate::Source;

@@ -1,9 +1,7 @@
 // A bay in memory.
 ghost use Rattle.std.specs.Prelude.{◌≡◌, ◌↔◌, ◌+◌, ◌-◌, ◌*◌, ◌<◌, ◌≤◌, ◌^◌, All, Option, Some, None, IfOk, OnOk, OnErr, IfErr, IsErrOf, option_copied};
 ghost use Rattle.std.specs.FinMap as map;
-ghost use Rattle.block_device.specs.Disk.{Rose};
-ghost use Rattle.block_device.specs.Memory.{disk_of};
-ghost use Rattle.block_device.specs.Fails.{counted};
+ghost use Rattle.block_device.specs.Prelude.{Rose, disk_of, counted};
 ghost use Rattle.end_points.specs.Bay.{HandedOut, Opened, IsFewUnits, cut_or_filled, start_from, start_of};
 ghost use Rattle.end_points.specs.Memory.{view_of, is_listed, RefusesDevice, RefusesScript, IsStarted, IsOpened, AreContents, with_device, with_text, after_device, after_refused_device, after_script, after_refused_script};
 

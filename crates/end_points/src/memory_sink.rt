@@ -1,6 +1,6 @@
 // A sink in memory.
 ghost use Rattle.std.specs.Prelude.{◌≡◌, ◌↔◌, [], ◌<◌, ◌≤◌, Some, IsErr, IfOk, OnOk, OnErr, length, take, ◌+◌, ◌++◌, vec_capacity};
-ghost use Rattle.block_device.specs.Disk.{Rose};
+ghost use Rattle.block_device.specs.Prelude.{Rose};
 ghost use Rattle.end_points.specs.Sink.{Put};
 ghost use Rattle.end_points.specs.Memory.{room_for, Refuses, after_put, after_refusal};
 

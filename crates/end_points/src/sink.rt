@@ -1,6 +1,6 @@
 // The trait `Sink`: where text goes.
 ghost use Rattle.std.specs.Prelude.{◌≡◌, ◌≤◌, ℕ, List, Option, IfOk, OnOk, OnErr};
-ghost use Rattle.block_device.specs.Disk.{Rose};
+ghost use Rattle.block_device.specs.Prelude.{Rose};
 ghost use Rattle.end_points.specs.Sink.{Put};
 
 /// A sink did not take a piece, and has counted it.

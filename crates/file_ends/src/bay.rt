@@ -1,6 +1,6 @@
 //! Devices and scripts in files.
 ghost use Rattle.std.specs.Prelude.{◌≡◌, ◌+◌, ◌<◌, ◌≤◌, IfOk};
-ghost use Rattle.block_device.specs.Disk.{Rose};
+ghost use Rattle.block_device.specs.Prelude.{Rose};
 ghost use Rattle.device_file.specs.FileDisk.{fresh_file};
 ghost use Rattle.end_points.specs.Bay.{IsFewUnits, HasAskedUnits};
 ghost use Rattle.file_ends.specs.Shelf.{view_of};

@@ -1,6 +1,6 @@
 //! A slot and a record spelled by hand, and records that are changed or torn.
 ghost use Rattle.std.specs.Prelude.{◌<◌, ◌^◌, length};
-ghost use Rattle.meta_rows.specs.Spelling.{IsKey};
+ghost use Rattle.meta_rows.specs.Prelude.{IsKey};
 
 use byte_maps::Bytes;
 use meta_log::{SealedRecord, Super, scan};

@@ -1,7 +1,7 @@
 //! Keys and values of rows spelled by hand.
 ghost use Rattle.std.specs.Prelude.{IfOk};
 ghost use Rattle.unit_fields.specs.declared.width.Width.TheVariants.{FourBytes};
-ghost use Rattle.row_format.specs.Extents.{FitsExtent};
+ghost use Rattle.row_format.specs.Prelude.{FitsExtent};
 
 use byte_maps::{Bytes, Items};
 use onode_codec::*;

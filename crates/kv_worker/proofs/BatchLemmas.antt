@@ -2,12 +2,11 @@
 use Rattle.std.proofs.Common.{◌≡◌, ℕ, ◌+◌, ◌-◌, ◌≤◌, List, [], ◌∷◌, Option, None, sym, ap, subst, ◌∙◌, append-nil, arith}
 use Rattle.std.specs.Prelude.{MatchOption}
 use Rattle.meta_rows.specs.declared.row_op.RowOp.{RowOp}
-use Rattle.meta_rows.specs.Rows.{rows_after}
-use Rattle.meta_log.specs.Records.{unit_count}
-use Rattle.meta_log.specs.Sealed.{Sealed, IsSealable, sealed_units}
+use Rattle.meta_rows.specs.Prelude.{rows_after}
+use Rattle.meta_log.specs.Prelude.{unit_count, Sealed, IsSealable, sealed_units}
 use Rattle.meta_store.specs.Store.{Meta, Begun, IsAllWritten, piece_count_of, after_flush, with_begun}
 use Rattle.store_steps.specs.declared.context.Context.{Context}
-use Rattle.store_steps.specs.Changes.{log_after}
+use Rattle.store_steps.specs.Prelude.{log_after}
 use Rattle.kv_worker.specs.Batches.{flushed_batch, ops_of, CanSeal, CanCommit}
 
 -- the operations of one context are its own

@@ -1,13 +1,11 @@
 -- When a batch is sealed, and when it is committed.
 use Rattle.std.specs.Prelude.{◌≡◌, ◌+◌, ◌≤◌, List, Some, None}
 use Rattle.meta_rows.specs.declared.row_op.RowOp.{RowOp}
-use Rattle.meta_log.specs.Records.{unit_count}
-use Rattle.meta_log.specs.Sealed.{IsSealable}
+use Rattle.meta_log.specs.Prelude.{unit_count, IsSealable}
 use Rattle.meta_store.specs.Store.{Meta, Begun, piece_count_of}
 use Rattle.store_steps.specs.declared.context.Context.{Context}
 use Rattle.store_steps.specs.declared.flight.FlushState.TheVariants.{Flushed}
-use Rattle.store_steps.specs.State.{Batch}
-use Rattle.store_steps.specs.Contexts.{batch_ops, sum_needs}
+use Rattle.store_steps.specs.Prelude.{Batch, batch_ops, sum_needs}
 
 -- the batch of these contexts, once both its flushes have ended well
 abbrev pub flushed_batch : List Context → Batch

@@ -1,7 +1,7 @@
 //! The batch, and its way into the log.
 ghost use Rattle.std.specs.Prelude.{◌≡◌, ◌∷◌, [], map, OnOk, OnErr, IfOk, IfErr};
 ghost use Rattle.meta_store.specs.Store.{with_begun};
-ghost use Rattle.store_steps.specs.Changes.{log_after};
+ghost use Rattle.store_steps.specs.Prelude.{log_after};
 ghost use Rattle.txn_states.specs.States.{committed_of};
 ghost use Rattle.kv_worker.specs.Batches.{flushed_batch, ops_of, CanSeal, CanCommit};
 

@@ -2,27 +2,19 @@
 use Rattle.std.proofs.Common.{◌≡◌, ◌⊎◌, inl, inr, ℕ, zero, suc, ◌+◌, ◌-◌, ◌*◌, ◌%◌, ◌<◌, ◌≤◌, List, [], ◌∷◌, ◌++◌, length, Option, Some, None, refl, sym, ap, ap₂, subst, ◌∙◌, append_assoc, arith}
 use Rattle.std.specs.FinMap as map
 use Rattle.byte_maps.specs.Units.{unit_at, units_from, zeros, IsUnits}
-use Rattle.block_device.specs.Log.{last, IsCrashImage}
-use Rattle.block_device.specs.Disk.{History}
-use Rattle.block_device.specs.Facts.{last_at, SurelyHolds}
+use Rattle.block_device.specs.Prelude.{last, IsCrashImage, History, last_at, SurelyHolds}
 use Rattle.block_device.proofs.LogLemmas.{surely_image}
 use Rattle.block_device.proofs.RangeLemmas.{units_from-same}
-use Rattle.object_model.specs.Objects.{Objects}
+use Rattle.object_model.specs.Prelude.{Objects}
 use Rattle.meta_rows.specs.declared.row_op.RowOp.{RowOp}
-use Rattle.meta_rows.specs.Rows.{Rows, rows_after}
+use Rattle.meta_rows.specs.Prelude.{Rows, rows_after}
 use Rattle.meta_rows.proofs.Folds.{rows_of_records-push}
 use Rattle.meta_log.specs.declared.slot.Super.{Super}
-use Rattle.meta_log.specs.Records.{record_units, unit_count, BeginsWithRecord, BeginsWithRecords, active_half, AreRowsOf}
+use Rattle.meta_log.specs.Prelude.{record_units, unit_count, BeginsWithRecord, BeginsWithRecords, active_half, AreRowsOf, width_of, super_bytes, IsSuper, IsActiveSlot, active_unit}
 use Rattle.meta_log.proofs.RecordLemmas.{same_record}
-use Rattle.meta_log.specs.Slots.{width_of, super_bytes, IsSuper, IsActiveSlot, active_unit}
-use Rattle.store_image.specs.BadRows.{NoBadRow}
-use Rattle.store_image.specs.Stands.{ObjectsStand, StandsFor}
-use Rattle.store_image.specs.Chance.{NoChanceMatch}
-use Rattle.store_image.proofs.ByteLemmas.{equal_or_not}
-use Rattle.log_facts.specs.Flushing.{FlushState}
-use Rattle.log_facts.specs.SlotFacts.{other_slot, IsOlderSlot, SlotsStand}
-use Rattle.log_facts.specs.HalfFacts.{records_units, IsSpellable, ActiveHalfStands}
-use Rattle.log_facts.specs.CrashRows.{HasBegunRecord, LeavesRows}
+use Rattle.store_image.specs.Prelude.{NoBadRow, ObjectsStand, StandsFor, NoChanceMatch}
+use Rattle.store_image.proofs.Prelude.{equal_or_not}
+use Rattle.log_facts.specs.Prelude.{FlushState, other_slot, IsOlderSlot, SlotsStand, records_units, IsSpellable, ActiveHalfStands, HasBegunRecord, LeavesRows}
 use Rattle.log_facts.proofs.Joins.{length-record_units, records_units-push, spellable-push, begin_records, last_as_written}
 use Rattle.log_facts.proofs.Reading.{behind_units, half_inside, slots_read, half_parts, no_record_behind, rows_read, record_in_run, run_of_record}
 

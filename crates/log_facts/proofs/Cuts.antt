@@ -3,28 +3,17 @@ use Rattle.std.proofs.Common.{◌≡◌, inl, inr, ℕ, ◌<◌, ◌≤◌, List
 use Rattle.std.specs.Prelude.{IfSome, slice_get}
 use Rattle.std.proofs.lemmas.List.{take_all}
 use Rattle.byte_maps.specs.Units.{unit_at, IsUnits}
-use Rattle.block_device.specs.Log.{last, IsCrashImage}
-use Rattle.block_device.specs.Disk.{History}
-use Rattle.block_device.specs.Facts.{last_at}
-use Rattle.object_model.specs.Objects.{Objects}
-use Rattle.object_model.specs.Effect.{replay}
-use Rattle.object_model.specs.Book.{committed, IsAckedBy, HasAcked}
+use Rattle.block_device.specs.Prelude.{last, IsCrashImage, History, last_at}
+use Rattle.object_model.specs.Prelude.{Objects, replay, committed, IsAckedBy, HasAcked}
 use Rattle.object_model.specs.declared.book.Book.{Book}
 use Rattle.object_model.specs.declared.book.Commit.{Commit}
 use Rattle.meta_rows.specs.declared.row_op.RowOp.{RowOp}
-use Rattle.meta_rows.specs.Rows.{Rows, rows_after}
+use Rattle.meta_rows.specs.Prelude.{Rows, rows_after}
 use Rattle.meta_log.specs.declared.slot.Super.{Super}
-use Rattle.meta_log.specs.Records.{AreRowsOf}
-use Rattle.meta_log.specs.Slots.{width_of, IsActiveSlot}
-use Rattle.store_image.specs.Owners.{IsExactBut}
-use Rattle.store_image.specs.Exact.{IsLeakedIn, StaysExact}
-use Rattle.store_image.specs.Stands.{StandsFor}
-use Rattle.store_image.specs.Durability.{LeavesPrefix}
-use Rattle.store_image.proofs.OwnedUnits.{objects_stand}
-use Rattle.log_facts.specs.Flushing.{FlushState}
-use Rattle.log_facts.specs.SlotFacts.{SlotsStand}
-use Rattle.log_facts.specs.HalfFacts.{ActiveHalfStands}
-use Rattle.log_facts.specs.Soundness.{SoundFor}
+use Rattle.meta_log.specs.Prelude.{AreRowsOf, width_of, IsActiveSlot}
+use Rattle.store_image.specs.Prelude.{IsExactBut, IsLeakedIn, StaysExact, StandsFor, LeavesPrefix}
+use Rattle.store_image.proofs.Prelude.{objects_stand}
+use Rattle.log_facts.specs.Prelude.{FlushState, SlotsStand, ActiveHalfStands, SoundFor}
 use Rattle.log_facts.proofs.Crashes.{leaves_rows}
 
 pub sound_image : (h : History) (s : Super) (rows : Rows) (objects : Objects) (image : List ℕ) → SoundFor h s rows objects

@@ -3,26 +3,17 @@ use Rattle.std.proofs.Common.{◌≡◌, ℕ, ◌+◌, ◌*◌, ◌%◌, ◌<◌
 use Rattle.std.specs.FinMap as map
 use Rattle.std.proofs.lemmas.List.{length-append}
 use Rattle.byte_maps.specs.Units.{unit_at, units_from, IsUnits}
-use Rattle.byte_maps.proofs.UnitLemmas.{length-units_from, unit_at-units_from, unit_at-append_front}
-use Rattle.block_device.specs.Log.{last, IsClean, IsCrashImage}
-use Rattle.block_device.specs.Disk.{History}
-use Rattle.block_device.specs.Facts.{with_event, last_at, EventFits}
+use Rattle.byte_maps.proofs.Prelude.{length-units_from, unit_at-units_from, unit_at-append_front}
+use Rattle.block_device.specs.Prelude.{last, IsClean, IsCrashImage, History, with_event, last_at, EventFits}
 use Rattle.block_device.specs.declared.event.Event.{Event}
 use Rattle.block_device.proofs.LogLemmas.{surely_image}
-use Rattle.object_model.specs.Objects.{Objects}
+use Rattle.object_model.specs.Prelude.{Objects}
 use Rattle.meta_rows.specs.declared.row_op.RowOp.{RowOp}
-use Rattle.meta_rows.specs.Rows.{Rows, rows_of_records}
+use Rattle.meta_rows.specs.Prelude.{Rows, rows_of_records}
 use Rattle.meta_log.specs.declared.slot.Super.{Super}
-use Rattle.meta_log.specs.Records.{record_units, unit_count, BeginsWithRecord, BeginsWithRecords, AreRecords, active_half, AreRowsOf}
-use Rattle.meta_log.specs.Scanning.{units_of_records}
-use Rattle.meta_log.specs.Slots.{super_bytes, active_unit, IsSuper, IsActiveSlot}
-use Rattle.store_image.specs.Stands.{StandsFor}
-use Rattle.store_image.specs.Chance.{NoChanceMatch}
-use Rattle.log_facts.specs.Flushing.{not_sent, WritesNoneOf}
-use Rattle.log_facts.specs.SlotFacts.{other_slot, IsOlderSlot, SlotsStand}
-use Rattle.log_facts.specs.HalfFacts.{records_units, IsSurelyZero, ActiveHalfStands}
-use Rattle.log_facts.specs.FoundHalf.{RecordsStand, EndsInZeros}
-use Rattle.log_facts.specs.Soundness.{SoundFor}
+use Rattle.meta_log.specs.Prelude.{record_units, unit_count, BeginsWithRecord, BeginsWithRecords, AreRecords, active_half, AreRowsOf, units_of_records, super_bytes, active_unit, IsSuper, IsActiveSlot}
+use Rattle.store_image.specs.Prelude.{StandsFor, NoChanceMatch}
+use Rattle.log_facts.specs.Prelude.{not_sent, WritesNoneOf, other_slot, IsOlderSlot, SlotsStand, records_units, IsSurelyZero, ActiveHalfStands, RecordsStand, EndsInZeros, SoundFor}
 use Rattle.log_facts.proofs.Keeping.{front_push}
 use Rattle.log_facts.proofs.Joins.{length-record_units, record_has_units, begin_records, last_as_written}
 use Rattle.log_facts.proofs.Reading.{behind_units, half_inside, slots_read, half_parts, no_record_behind, rows_read}

@@ -3,21 +3,17 @@ use Rattle.std.specs.Prelude.{Option}
 use Rattle.std.proofs.Common.{◌≡◌, ℕ, ◌+◌, ◌*◌, ◌%◌, ◌<◌, ◌≤◌, List, length, ◌∙◌, ap, true, arith}
 use Rattle.std.proofs.Math.Nat.{mul-le-mul_left}
 use Rattle.byte_maps.specs.Units.{unit_at, zeros}
-use Rattle.block_device.specs.Log.{last, WritesUnit, WritesNothing}
-use Rattle.block_device.specs.Disk.{History, Flight}
-use Rattle.block_device.specs.Facts.{with_event, last_at, SurelyHolds, EachWriteIsAnswered, QuietAt, IsUntouched, EventFits}
+use Rattle.block_device.specs.Prelude.{last, WritesUnit, WritesNothing, History, Flight, with_event, last_at, SurelyHolds, EachWriteIsAnswered, QuietAt, IsUntouched, EventFits}
 use Rattle.block_device.proofs.LogLemmas.{last-push, unit_at-after_event, clean_push, surely_push}
 use Rattle.block_device.proofs.LawLemmas.{covered_push, covered_done}
 use Rattle.block_device.proofs.QuietLemmas.{flush_covers_unit}
 use Rattle.block_device.specs.declared.event.Event.{Event}
 use Rattle.block_device.specs.declared.event.Event.TheVariants.{Write, Flush, Done}
 use Rattle.meta_rows.specs.declared.row_op.RowOp.{RowOp}
-use Rattle.meta_rows.specs.Rows.{Rows}
+use Rattle.meta_rows.specs.Prelude.{Rows}
 use Rattle.meta_log.specs.declared.slot.Super.{Super}
-use Rattle.meta_log.specs.Slots.{super_bytes, active_unit, data_unit}
-use Rattle.log_facts.specs.Flushing.{FlushState, not_sent, sent, flushed, IsFlushed, WritesNoneOf}
-use Rattle.log_facts.specs.SlotFacts.{other_slot, IsOlderSlot, SlotsStand}
-use Rattle.log_facts.specs.HalfFacts.{records_units, begun_count, IsSurelyZero, ActiveHalfStands}
+use Rattle.meta_log.specs.Prelude.{super_bytes, active_unit, data_unit}
+use Rattle.log_facts.specs.Prelude.{FlushState, not_sent, sent, flushed, IsFlushed, WritesNoneOf, other_slot, IsOlderSlot, SlotsStand, records_units, begun_count, IsSurelyZero, ActiveHalfStands}
 
 -- ---- which units an event writes
 

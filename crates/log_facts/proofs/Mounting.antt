@@ -2,16 +2,11 @@
 use Rattle.std.proofs.Common.{◌≡◌, ℕ, ◌+◌, ◌*◌, ◌%◌, ◌<◌, List, [], ◌∷◌, ◌++◌, length, None, refl, sym, ap, ◌∙◌, append_assoc, arith}
 use Rattle.std.specs.FinMap as map
 use Rattle.byte_maps.specs.Units.{zeros}
-use Rattle.block_device.specs.Log.{last, IsClean}
-use Rattle.block_device.specs.Disk.{History}
-use Rattle.block_device.specs.Facts.{last_at}
+use Rattle.block_device.specs.Prelude.{last, IsClean, History, last_at}
 use Rattle.meta_rows.specs.declared.row_op.RowOp.{RowOp}
 use Rattle.meta_log.specs.declared.slot.Super.{Super}
-use Rattle.meta_log.specs.Records.{record_units, AreRecords}
-use Rattle.meta_log.specs.Slots.{active_unit, IsSlotOf, IsActiveSlot}
-use Rattle.log_facts.specs.Flushing.{not_sent}
-use Rattle.log_facts.specs.SlotFacts.{other_slot, SlotsStand}
-use Rattle.log_facts.specs.HalfFacts.{records_units, AreSpellable, ActiveHalfStands}
+use Rattle.meta_log.specs.Prelude.{record_units, AreRecords, active_unit, IsSlotOf, IsActiveSlot}
+use Rattle.log_facts.specs.Prelude.{not_sent, other_slot, SlotsStand, records_units, AreSpellable, ActiveHalfStands}
 
 -- ---- where the device is as it was found
 

@@ -4,16 +4,14 @@ use Rattle.std.specs.FinMap as map
 use Rattle.std.proofs.lemmas.Bool.{cases_lt, cases_eq}
 use Rattle.std.proofs.lemmas.List.{take_at, length-append}
 use Rattle.byte_maps.specs.Units.{unit_at, units_from, zeros, IsUnits}
-use Rattle.byte_maps.proofs.UnitLemmas.{length-units_from, unit_at-units_from, units_from-join, units_from-units_from}
+use Rattle.byte_maps.proofs.Prelude.{length-units_from, unit_at-units_from, units_from-join, units_from-units_from}
 use Rattle.block_device.proofs.RangeLemmas.{units_from-same}
 use Rattle.meta_rows.specs.declared.row_op.RowOp.{RowOp}
-use Rattle.meta_rows.specs.Rows.{Rows, rows_of_records}
+use Rattle.meta_rows.specs.Prelude.{Rows, rows_of_records}
 use Rattle.meta_log.specs.declared.slot.Super.{Super}
-use Rattle.meta_log.specs.Records.{unit_count, record_units, BeginsWithRecord, AreRecords, active_half, AreRowsOf}
+use Rattle.meta_log.specs.Prelude.{unit_count, record_units, BeginsWithRecord, AreRecords, active_half, AreRowsOf, super_bytes, IsSuper, IsSlotOf, IsActiveSlot, active_unit}
 use Rattle.meta_log.proofs.SlotLemmas.{same_super}
-use Rattle.meta_log.specs.Slots.{super_bytes, IsSuper, IsSlotOf, IsActiveSlot, active_unit}
-use Rattle.log_facts.specs.SlotFacts.{other_slot, IsOlderSlot}
-use Rattle.log_facts.specs.HalfFacts.{records_units, AreSpellable}
+use Rattle.log_facts.specs.Prelude.{other_slot, IsOlderSlot, records_units, AreSpellable}
 use Rattle.log_facts.proofs.Keeping.{half_before_data}
 use Rattle.log_facts.proofs.Joins.{length-record_units, are_records, no_record_in_zeros, no_record_in_nothing}
 

@@ -4,20 +4,16 @@ use Rattle.std.specs.FinMap as map
 use Rattle.std.proofs.lemmas.Bool.{cases_lt}
 use Rattle.std.proofs.lemmas.List.{length-append}
 use Rattle.byte_maps.specs.Units.{unit_at, units_from}
-use Rattle.byte_maps.proofs.UnitLemmas.{length-units_from, unit_at-units_from, unit_at-append_front, unit_at-append_back}
-use Rattle.block_device.specs.Log.{last, WritesUnit, IsClean}
-use Rattle.block_device.specs.Disk.{History, Flight}
-use Rattle.block_device.specs.Facts.{with_event, last_at, EachWriteIsAnswered, QuietAt, IsUntouched}
+use Rattle.byte_maps.proofs.Prelude.{length-units_from, unit_at-units_from, unit_at-append_front, unit_at-append_back}
+use Rattle.block_device.specs.Prelude.{last, WritesUnit, IsClean, History, Flight, with_event, last_at, EachWriteIsAnswered, QuietAt, IsUntouched}
 use Rattle.block_device.proofs.QuietLemmas.{written_unit}
 use Rattle.block_device.specs.declared.event.Event.TheVariants.{Write, Flush, Done}
 use Rattle.meta_rows.specs.declared.row_op.RowOp.{RowOp}
-use Rattle.meta_rows.specs.Rows.{Rows, rows_after}
+use Rattle.meta_rows.specs.Prelude.{Rows, rows_after}
 use Rattle.meta_rows.proofs.Folds.{rows_of_records-push}
 use Rattle.meta_log.specs.declared.slot.Super.{Super}
-use Rattle.meta_log.specs.Records.{record_units, unit_count}
-use Rattle.meta_log.specs.Slots.{active_unit}
-use Rattle.log_facts.specs.Flushing.{FlushState, not_sent, sent, flushed, IsFlushed}
-use Rattle.log_facts.specs.HalfFacts.{records_units, IsSpellable, ActiveHalfStands}
+use Rattle.meta_log.specs.Prelude.{record_units, unit_count, active_unit}
+use Rattle.log_facts.specs.Prelude.{FlushState, not_sent, sent, flushed, IsFlushed, records_units, IsSpellable, ActiveHalfStands}
 use Rattle.log_facts.proofs.Keeping.{last_push, zero_push, front_push, half_quiet, flush_sent, flush_ended}
 use Rattle.log_facts.proofs.Joins.{length-record_units, records_units-push, spellable-push}
 

@@ -1,10 +1,9 @@
 -- What is read of the log after a crash.
 use Rattle.std.specs.Prelude.{◌≡◌, ◌⊎◌, ℕ, List, Option, Some}
 use Rattle.meta_rows.specs.declared.row_op.RowOp.{RowOp}
-use Rattle.meta_rows.specs.Rows.{Rows, rows_after}
+use Rattle.meta_rows.specs.Prelude.{Rows, rows_after}
 use Rattle.meta_log.specs.declared.slot.Super.{Super}
-use Rattle.meta_log.specs.Records.{AreRowsOf}
-use Rattle.meta_log.specs.Slots.{IsActiveSlot}
+use Rattle.meta_log.specs.Prelude.{AreRowsOf, IsActiveSlot}
 
 -- a record is begun and wholly given to the device, and the image has it: its rows are those after these operations
 pub record HasBegunRecord (image : List ℕ) (s : Super) (rows : Rows) (begun : Option (List RowOp)) (given_from : ℕ) : Type 0 where

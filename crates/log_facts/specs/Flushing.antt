@@ -1,7 +1,6 @@
 -- How far a flush has come, and what is known of the units that it is for.
 use Rattle.std.specs.Prelude.{ℕ, ◌+◌, ◌<◌, ◌≤◌, List}
-use Rattle.block_device.specs.Log.{WritesUnit, IsClean}
-use Rattle.block_device.specs.Facts.{IsCovered}
+use Rattle.block_device.specs.Prelude.{WritesUnit, IsClean, IsCovered}
 use Rattle.block_device.specs.declared.event.Event.{Event}
 
 -- A flush that a store has to make: it is not submitted, it is in flight under this ticket, or it has ended well.

@@ -2,12 +2,11 @@
 use Rattle.std.specs.Prelude.{◌≡◌, ℕ, ◌+◌, ◌<◌, ◌≤◌, List, length}
 use Rattle.std.specs.FinMap as map
 use Rattle.byte_maps.specs.Units.{unit_at, zeros, IsUnits}
-use Rattle.block_device.specs.Disk.{History}
-use Rattle.block_device.specs.Facts.{last_at, SurelyHolds}
+use Rattle.block_device.specs.Prelude.{History, last_at, SurelyHolds}
 use Rattle.meta_rows.specs.declared.row_op.RowOp.{RowOp}
-use Rattle.meta_rows.specs.Rows.{Rows, rows_of_records}
+use Rattle.meta_rows.specs.Prelude.{Rows, rows_of_records}
 use Rattle.meta_log.specs.declared.slot.Super.{Super}
-use Rattle.meta_log.specs.Slots.{active_unit}
+use Rattle.meta_log.specs.Prelude.{active_unit}
 use Rattle.log_facts.specs.HalfFacts.{records_units, AreSpellable}
 
 -- The records `recs` make the rows, and stand in the first `tail` units of the active half, stable; of what is behind them nothing is said.

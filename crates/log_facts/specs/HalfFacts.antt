@@ -2,14 +2,11 @@
 use Rattle.std.specs.Prelude.{◌≡◌, ℕ, ◌+◌, ◌^◌, ◌<◌, ◌≤◌, List, [], ◌∷◌, ◌++◌, length, Option, Some, None, IfSome}
 use Rattle.std.specs.FinMap as map
 use Rattle.byte_maps.specs.Units.{unit_at, zeros, IsUnits}
-use Rattle.block_device.specs.Disk.{History}
-use Rattle.block_device.specs.Facts.{last_at, SurelyHolds}
+use Rattle.block_device.specs.Prelude.{History, last_at, SurelyHolds}
 use Rattle.meta_rows.specs.declared.row_op.RowOp.{RowOp}
-use Rattle.meta_rows.specs.Rows.{Rows, rows_of_records}
-use Rattle.meta_rows.specs.Spelling.{ops_bytes, AllFit}
+use Rattle.meta_rows.specs.Prelude.{Rows, rows_of_records, ops_bytes, AllFit}
 use Rattle.meta_log.specs.declared.slot.Super.{Super}
-use Rattle.meta_log.specs.Records.{record_units, unit_count}
-use Rattle.meta_log.specs.Slots.{active_unit}
+use Rattle.meta_log.specs.Prelude.{record_units, unit_count, active_unit}
 use Rattle.log_facts.specs.Flushing.{FlushState, IsFlushed}
 
 -- records of consecutive numbers from this one on, one behind the other

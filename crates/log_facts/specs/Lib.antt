@@ -4,3 +4,4 @@ pub mod HalfFacts
 pub mod CrashRows
 pub mod Soundness
 pub mod FoundHalf
+pub mod Prelude

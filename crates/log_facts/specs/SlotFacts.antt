@@ -1,9 +1,8 @@
 -- What is known of the two superblock slots while none is being written.
 use Rattle.std.specs.Prelude.{◌≡◌, ℕ, ◌-◌, ◌%◌, ◌<◌, List}
-use Rattle.block_device.specs.Disk.{History}
-use Rattle.block_device.specs.Facts.{SurelyHolds}
+use Rattle.block_device.specs.Prelude.{History, SurelyHolds}
 use Rattle.meta_log.specs.declared.slot.Super.{Super}
-use Rattle.meta_log.specs.Slots.{super_bytes, IsSuper, IsSlotOf}
+use Rattle.meta_log.specs.Prelude.{super_bytes, IsSuper, IsSlotOf}
 
 -- the number of the slot that isn't in use
 abbrev pub other_slot : Super → ℕ

@@ -1,15 +1,11 @@
 -- Rows and units that stand for objects in whatever a crash leaves.
 use Rattle.std.specs.Prelude.{ℕ}
-use Rattle.block_device.specs.Log.{IsClean}
-use Rattle.block_device.specs.Disk.{History}
-use Rattle.block_device.specs.Facts.{last_at}
-use Rattle.object_model.specs.Objects.{Objects}
-use Rattle.meta_rows.specs.Rows.{Rows}
+use Rattle.block_device.specs.Prelude.{IsClean, History, last_at}
+use Rattle.object_model.specs.Prelude.{Objects}
+use Rattle.meta_rows.specs.Prelude.{Rows}
 use Rattle.meta_log.specs.declared.slot.Super.{Super}
-use Rattle.meta_log.specs.Slots.{width_of}
-use Rattle.store_image.specs.BadRows.{NoBadRow}
-use Rattle.store_image.specs.Pages.{HasPage}
-use Rattle.store_image.specs.Stands.{ObjectsStand}
+use Rattle.meta_log.specs.Prelude.{width_of}
+use Rattle.store_image.specs.Prelude.{NoBadRow, HasPage, ObjectsStand}
 
 -- The rows are good, they and the bytes last written stand for the objects, and no unit on which a page stands is dirty.
 pub record SoundFor (h : History) (s : Super) (rows : Rows) (objects : Objects) : Type 0 where

@@ -3,34 +3,22 @@
 ghost use Rattle.std.specs.Prelude.{◌≡◌, ℕ, ◌+◌, ◌-◌, ◌*◌, ◌<◌, ◌≤◌, true, List, [], ◌∷◌, ◌++◌, length, take, Option, Some, None};
 ghost use Rattle.std.specs.FinMap as map;
 ghost use Rattle.byte_maps.specs.Units.{units_from, zeros, IsUnits};
-ghost use Rattle.block_device.specs.Log.{last, WritesUnit, IsClean, IsCrashImage};
-ghost use Rattle.block_device.specs.Disk.{History, Flight};
-ghost use Rattle.block_device.specs.Facts.{with_event, last_at, EventFits, EachWriteIsAnswered, QuietAt, IsUntouched};
+ghost use Rattle.block_device.specs.Prelude.{last, WritesUnit, IsClean, IsCrashImage, History, Flight, with_event, last_at, EventFits, EachWriteIsAnswered, QuietAt, IsUntouched};
 ghost use Rattle.block_device.specs.declared.event.Event.{Event};
 ghost use Rattle.block_device.specs.declared.event.Event.TheVariants.{Write, Flush, Done};
-ghost use Rattle.object_model.specs.Objects.{Objects};
-ghost use Rattle.object_model.specs.Effect.{replay};
-ghost use Rattle.object_model.specs.Book.{committed, HasAcked};
+ghost use Rattle.object_model.specs.Prelude.{Objects, replay, committed, HasAcked};
 ghost use Rattle.object_model.specs.declared.book.Book.{Book};
 ghost use Rattle.meta_rows.specs.declared.row_op.RowOp.{RowOp};
-ghost use Rattle.meta_rows.specs.Rows.{Rows, rows_after, rows_of_records};
+ghost use Rattle.meta_rows.specs.Prelude.{Rows, rows_after, rows_of_records};
 ghost use Rattle.meta_log.specs.declared.slot.Super.{Super};
-ghost use Rattle.meta_log.specs.Slots.{active_unit, IsSuper, IsActiveSlot};
-ghost use Rattle.meta_log.specs.Records.{record_units, unit_count, AreRecords, active_half, AreRowsOf};
-ghost use Rattle.meta_log.specs.Scanning.{units_of_records};
-ghost use Rattle.store_image.specs.BadRows.{NoBadRow};
-ghost use Rattle.store_image.specs.Owners.{IsExactBut};
-ghost use Rattle.store_image.specs.Exact.{IsLeakedIn};
-ghost use Rattle.store_image.specs.Stands.{ObjectsStand, StandsFor};
-ghost use Rattle.store_image.specs.Chance.{NoChanceMatch};
-ghost use Rattle.store_image.specs.Durability.{LeavesPrefix};
+ghost use Rattle.meta_log.specs.Prelude.{active_unit, IsSuper, IsActiveSlot, record_units, unit_count, AreRecords, active_half, AreRowsOf, units_of_records, width_of};
+ghost use Rattle.store_image.specs.Prelude.{NoBadRow, IsExactBut, IsLeakedIn, ObjectsStand, StandsFor, NoChanceMatch, LeavesPrefix};
 ghost use Rattle.log_facts.specs.Flushing.{FlushState, not_sent, sent, flushed, IsFlushed, WritesNoneOf};
 ghost use Rattle.log_facts.specs.SlotFacts.{SlotsStand};
 ghost use Rattle.log_facts.specs.HalfFacts.{IsSpellable, IsSurelyZero, ActiveHalfStands};
 ghost use Rattle.log_facts.specs.FoundHalf.{RecordsStand, EndsInZeros};
 ghost use Rattle.log_facts.specs.CrashRows.{LeavesRows};
 ghost use Rattle.log_facts.specs.Soundness.{SoundFor};
-ghost use Rattle.meta_log.specs.Slots.{width_of};
 
 /// What is known of the slots stays known over an event that writes neither.
 pub fn an_event_elsewhere_keeps_the_slots()

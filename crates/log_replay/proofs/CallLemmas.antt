@@ -3,11 +3,11 @@ use Rattle.std.proofs.Common.{◌≡◌, inl, inr, ℕ, ◌+◌, ◌<◌, Bool, 
 use Rattle.std.specs.Prelude.{IsSome}
 use Rattle.std.proofs.lemmas.Bool.{cases_eq}
 use Rattle.std.proofs.lemmas.Bool.Decides.{nat_tests}
-use Rattle.block_device.specs.Disk.{Disk, Flight, history_after, find_flight, without, Reaped, Waited}
+use Rattle.block_device.specs.Prelude.{Disk, Flight, history_after, find_flight, without, Reaped, Waited}
 use Rattle.block_device.specs.declared.event.Event.TheVariants.{Done}
 use Rattle.block_device.specs.declared.device.Failed.{Failed}
 use Rattle.block_device.specs.declared.device.Failed.TheVariants.{Memory, Fault}
-use Rattle.log_replay.specs.Calls.{IsOnly, Ended}
+use Rattle.log_replay.specs.Prelude.{IsOnly, Ended}
 
 -- whatever ticket is found among one is that one, and none is left without it
 found_only : (flights : List Flight) (ticket t : ℕ) → IsOnly ticket flights → IsSome (find_flight t flights) → (t ≡ ticket) × (without t flights ≡ [])

@@ -4,14 +4,10 @@ use Rattle.std.specs.Prelude.{Contains}
 use Rattle.std.proofs.lemmas.List.{take-append-drop}
 use Rattle.std.proofs.lemmas.List.Elements.{Contains-append_left}
 use Rattle.byte_maps.specs.Units.{unit_at}
-use Rattle.block_device.specs.Log.{WritesUnit}
-use Rattle.block_device.specs.Disk.{History}
-use Rattle.block_device.specs.Facts.{last_at}
+use Rattle.block_device.specs.Prelude.{WritesUnit, History, last_at}
 use Rattle.block_device.specs.declared.event.Event.TheVariants.{Flush, Done}
 use Rattle.block_device.proofs.LogLemmas.{slice_get-push_cases, flush_submitted, stable_done}
-use Rattle.log_replay.specs.Calls.{after_call}
-use Rattle.log_replay.specs.Zeroing.{EachWriteIsDone}
-use Rattle.log_replay.specs.Cleared.{IsAllClean}
+use Rattle.log_replay.specs.Prelude.{after_call, EachWriteIsDone, IsAllClean}
 use Rattle.log_replay.proofs.ZeroLemmas.{last-call}
 
 pub clean_after_flush : (h : History) → EachWriteIsDone h.log → IsAllClean (after_call Flush true h)

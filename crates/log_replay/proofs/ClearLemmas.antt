@@ -6,16 +6,11 @@ use Rattle.std.proofs.lemmas.Bool.{cases_eq}
 use Rattle.std.proofs.lemmas.List.{length-append}
 use Rattle.std.proofs.lemmas.List.Elements.{Contains-get_or}
 use Rattle.byte_maps.specs.Units.{unit_at, IsUnits, zeros}
-use Rattle.block_device.specs.Log.{last}
-use Rattle.block_device.specs.Disk.{Disk, History}
-use Rattle.block_device.specs.Facts.{last_at}
+use Rattle.block_device.specs.Prelude.{last, Disk, History, last_at}
 use Rattle.block_device.specs.declared.event.Event.{Event}
 use Rattle.block_device.specs.declared.event.Event.TheVariants.{Write, Flush, Done}
-use Rattle.store_image.proofs.ByteLemmas.{equal_or_not}
-use Rattle.log_replay.specs.Calls.{after_call, with_call, Called, Told, GoesOn, GoesOnBy, IsLater}
-use Rattle.log_replay.specs.Zeroing.{WasZeroed, UnitRun, AreRuns, run_events, WroteRuns, IsZeroing, ZeroesOnly}
-use Rattle.log_replay.specs.Stale.{AreNotZero}
-use Rattle.log_replay.specs.Clearing.{unit_events, IsFirstPart, flushed_runs, IsUnitCleared, IsFirstCleared, AreOthersCleared, IsCleared, ClearsSoFar}
+use Rattle.store_image.proofs.Prelude.{equal_or_not}
+use Rattle.log_replay.specs.Prelude.{after_call, with_call, Called, Told, GoesOn, GoesOnBy, IsLater, WasZeroed, UnitRun, AreRuns, run_events, WroteRuns, IsZeroing, ZeroesOnly, AreNotZero, unit_events, IsFirstPart, flushed_runs, IsUnitCleared, IsFirstCleared, AreOthersCleared, IsCleared, ClearsSoFar}
 use Rattle.log_replay.proofs.RunLemmas.{told_end, answered_call, by_none, by_one, by_join, by_call, by_length, length-run_events, each_append, only_call, zeroing_wider}
 use Rattle.log_replay.proofs.ZeroLemmas.{told_start, goes_on_join, done_call, zero_inside, zero_outside}
 use Rattle.log_replay.proofs.CleanLemmas.{clean_after_flush, done_where_clean, last_at-flush}

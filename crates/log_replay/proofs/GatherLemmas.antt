@@ -3,12 +3,12 @@ use Rattle.std.proofs.Common.{◌≡◌, ℕ, Bool, true, false, cond, not, List
 use Rattle.std.specs.List.{filter}
 use Rattle.std.proofs.lemmas.List.Elements.{filter-append}
 use Rattle.std.specs.FinMap.{get}
-use Rattle.byte_maps.proofs.Laws.{same}
-use Rattle.meta_rows.specs.Rows.{Rows, row_after, rows_after, key_of}
+use Rattle.byte_maps.proofs.Prelude.{same}
+use Rattle.meta_rows.specs.Prelude.{Rows, row_after, rows_after, key_of}
 use Rattle.meta_rows.specs.declared.row_op.RowOp.{RowOp}
 use Rattle.meta_rows.proofs.BatchLemmas.{only_its_own}
 use Rattle.meta_rows.proofs.Folds.{rows_after-append}
-use Rattle.log_replay.specs.Gathering.{is_bitmap_key, AreBits, AreOthers}
+use Rattle.log_replay.specs.Prelude.{is_bitmap_key, AreBits, AreOthers}
 
 abbrev pub is_bits : RowOp → Bool
 is_bits op = is_bitmap_key (key_of op)

@@ -5,23 +5,17 @@ use Rattle.std.specs.FinMap as map
 use Rattle.std.proofs.lemmas.Bool.{cases_lt}
 use Rattle.std.proofs.lemmas.List.{length-append, append-nil, drop-drop, drop-append-le, take-append-le, take_at, drop_at, drop_all}
 use Rattle.byte_maps.specs.Units.{unit_at, units_from, IsUnits}
-use Rattle.byte_maps.proofs.UnitLemmas.{unit_at-append_front, unit_at-append_back}
-use Rattle.block_device.specs.Disk.{Disk, HasRead, IsSound}
+use Rattle.byte_maps.proofs.Prelude.{unit_at-append_front, unit_at-append_back}
+use Rattle.block_device.specs.Prelude.{Disk, HasRead, IsSound}
 use Rattle.block_device.proofs.RangeLemmas.{units_from-same}
 use Rattle.meta_rows.specs.declared.row_op.RowOp.{RowOp}
-use Rattle.meta_rows.specs.Rows.{Rows, rows_after}
-use Rattle.meta_log.specs.Records.{record_units, unit_count, BeginsWithRecord, active_half}
-use Rattle.meta_log.specs.Scanning.{IsAtFront, BeginsNoRecord, TakesUnits, units_of_records}
+use Rattle.meta_rows.specs.Prelude.{Rows, rows_after}
+use Rattle.meta_log.specs.Prelude.{record_units, unit_count, BeginsWithRecord, active_half, IsAtFront, BeginsNoRecord, TakesUnits, units_of_records, IsSuper, IsActiveSlot, active_unit}
 use Rattle.meta_log.specs.declared.scanning.FoundRecord.{FoundRecord}
 use Rattle.meta_log.proofs.SealLemmas.{length-record_units, unit_count-some}
 use Rattle.meta_log.proofs.ScanLemmas.{StandUpTo, length-with_record}
-use Rattle.meta_log.specs.Slots.{IsSuper, IsActiveSlot, active_unit}
-use Rattle.log_replay.specs.Opening.{IsAbout, IsFoundIn}
-use Rattle.log_replay.specs.FoundOn.{IsFoundOn, as_found, first_behind, half_end, rest_of}
+use Rattle.log_replay.specs.Prelude.{IsAbout, IsFoundIn, IsFoundOn, as_found, first_behind, half_end, rest_of, IsReplay, AreNotZero, HasPiece, AreUnits, left_of, IsReader, IsNew, Skips, ReadsOn, HasNoRecord, HoldsRecord, HasReplayed, HasStale, IsHalfRead}
 use Rattle.log_replay.specs.declared.replaying.FoundStore.{FoundStore}
-use Rattle.log_replay.specs.Replaying.{IsReplay}
-use Rattle.log_replay.specs.Stale.{AreNotZero}
-use Rattle.log_replay.specs.HalfReading.{HasPiece, AreUnits, left_of, IsReader, IsNew, Skips, ReadsOn, HasNoRecord, HoldsRecord, HasReplayed, HasStale, IsHalfRead}
 use Rattle.log_replay.specs.declared.half_reader.HalfReader.{HalfReader}
 use Rattle.log_replay.specs.declared.replaying.Replayed.{Replayed}
 use Rattle.log_replay.proofs.OpeningLemmas.{seen, about_all, about_both, with_size}

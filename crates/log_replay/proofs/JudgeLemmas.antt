@@ -4,17 +4,16 @@ use Rattle.std.specs.declared.alloc.AllocError.{AllocError}
 use Rattle.std.specs.FinSet as set
 use Rattle.std.specs.Ordering.{nat_cmp}
 use Rattle.std.proofs.lemmas.Bool.{cases_Bool}
-use Rattle.meta_rows.specs.Rows.{Rows}
+use Rattle.meta_rows.specs.Prelude.{Rows}
 use Rattle.meta_log.specs.declared.slot.Super.{Super}
-use Rattle.meta_log.specs.Slots.{IsSuper, data_unit}
-use Rattle.store_image.specs.Owners.{IsDataUnit, IsMarked}
+use Rattle.meta_log.specs.Prelude.{IsSuper, data_unit}
+use Rattle.store_image.specs.Prelude.{IsDataUnit, IsMarked}
 use Rattle.bitmap_freelist.specs.Bitmap.{AreMarked}
-use Rattle.unit_allocator.specs.Units.{Space, is_free}
-use Rattle.plan_rows.specs.Keeps.{IsGood}
-use Rattle.store_facts.specs.Space.{IsSpaceOf}
-use Rattle.store_steps.specs.Opened.{Found}
-use Rattle.log_replay.specs.Opening.{HasLowNumbers}
-use Rattle.log_replay.specs.FoundOn.{IsJudged}
+use Rattle.unit_allocator.specs.Prelude.{Space, is_free}
+use Rattle.plan_rows.specs.Prelude.{IsGood}
+use Rattle.store_facts.specs.Prelude.{IsSpaceOf}
+use Rattle.store_steps.specs.Prelude.{Found}
+use Rattle.log_replay.specs.Prelude.{HasLowNumbers, IsJudged}
 use Rattle.log_replay.proofs.NewSpace.{new_space, new_space_is, new_space_free}
 
 -- ---- a new allocator

@@ -5,25 +5,17 @@ use Rattle.std.specs.Prelude.{Contains, IfSome}
 use Rattle.std.specs.FinMap as map
 use Rattle.std.proofs.lemmas.List.{get_or-take, get_or-replicate}
 use Rattle.byte_maps.specs.Units.{unit_at, IsUnits, zeros}
-use Rattle.byte_maps.proofs.UnitLemmas.{unit_at-laid_inside, unit_at-whole, unit_at-units_from}
-use Rattle.block_device.specs.Log.{last, IsClean}
-use Rattle.block_device.specs.Disk.{Disk, History, IsQuiet, IsSound}
-use Rattle.block_device.specs.Facts.{last_at}
+use Rattle.byte_maps.proofs.Prelude.{unit_at-laid_inside, unit_at-whole, unit_at-units_from}
+use Rattle.block_device.specs.Prelude.{last, IsClean, Disk, History, IsQuiet, IsSound, last_at}
 use Rattle.block_device.specs.declared.event.Event.TheVariants.{Write, Flush}
 use Rattle.block_device.proofs.LogLemmas.{unit_at-after_event}
 use Rattle.meta_rows.specs.declared.row_op.RowOp.{RowOp}
 use Rattle.meta_log.specs.declared.slot.Super.{Super}
-use Rattle.meta_log.specs.Records.{BeginsWithRecord, active_half, AreRowsOf}
+use Rattle.meta_log.specs.Prelude.{BeginsWithRecord, active_half, AreRowsOf, super_bytes, IsSuper, IsValidSlot, IsActiveSlot, active_unit, width_of}
 use Rattle.meta_log.proofs.SlotLemmas.{same_super, length-super_bytes}
-use Rattle.meta_log.specs.Slots.{super_bytes, IsSuper, IsValidSlot, IsActiveSlot, active_unit, width_of}
-use Rattle.store_image.proofs.ByteLemmas.{equal_or_not}
+use Rattle.store_image.proofs.Prelude.{equal_or_not}
 use Rattle.row_facts.proofs.NoRows.{none_good, none_stand, none_exact}
-use Rattle.log_replay.specs.Calls.{after_call, with_call, Called, Told}
-use Rattle.log_replay.specs.Zeroing.{IsZero, WasZeroed}
-use Rattle.log_replay.specs.Stale.{AreStale}
-use Rattle.log_replay.specs.NewSuper.{new_super, units_needed}
-use Rattle.log_replay.specs.Cleared.{IsAllClean, WasCleared, WasMade}
-use Rattle.log_replay.specs.Made.{IsEmptyStore, HoldsEmptyStore}
+use Rattle.log_replay.specs.Prelude.{after_call, with_call, Called, Told, IsZero, WasZeroed, AreStale, new_super, units_needed, IsAllClean, WasCleared, WasMade, IsEmptyStore, HoldsEmptyStore}
 use Rattle.log_replay.proofs.ZeroLemmas.{last-call, done_call, told_call}
 use Rattle.log_replay.proofs.CleanLemmas.{clean_after_flush, done_where_clean, last_at-flush}
 

@@ -6,11 +6,11 @@ use Rattle.std.specs.Ordering.{nat_cmp}
 use Rattle.std.proofs.Math.ListN.{length-set}
 use Rattle.std.proofs.lemmas.List.{length-replicate}
 use Rattle.meta_log.specs.declared.slot.Super.{Super}
-use Rattle.meta_log.specs.Slots.{IsSuper, data_unit}
-use Rattle.unit_allocator.specs.Units.{Space, is_free, given_one, freed_from, no_idle_units}
+use Rattle.meta_log.specs.Prelude.{IsSuper, data_unit}
+use Rattle.unit_allocator.specs.Prelude.{Space, is_free, given_one, freed_from, no_idle_units}
 use Rattle.unit_allocator.proofs.Fresh.{new_is_free, new_is_unheld}
-use Rattle.store_image.specs.Owners.{IsDataUnit}
-use Rattle.store_facts.specs.Space.{IsSpaceOf}
+use Rattle.store_image.specs.Prelude.{IsDataUnit}
+use Rattle.store_facts.specs.Prelude.{IsSpaceOf}
 
 -- a new allocator has the range that it was made for
 same_range : (s : Space) (busy : set.FinSet nat_cmp) (units : List ℕ)

@@ -3,16 +3,13 @@ use Rattle.std.proofs.Common.{◌≡◌, inl, inr, ℕ, zero, suc, ◌+◌, ◌*
 use Rattle.std.specs.Prelude.{IfSome, MatchOption}
 use Rattle.std.proofs.lemmas.Bool.{cases_lt, lt-ltb, le-ltb}
 use Rattle.byte_maps.specs.Units.{unit_at, IsUnits}
-use Rattle.byte_maps.proofs.UnitLemmas.{unit_at-whole}
-use Rattle.block_device.specs.Log.{last, HasNoBadDone, IsAnsweredOnce}
-use Rattle.block_device.specs.Disk.{Disk, History, HasRead, IsSound}
+use Rattle.byte_maps.proofs.Prelude.{unit_at-whole}
+use Rattle.block_device.specs.Prelude.{last, HasNoBadDone, IsAnsweredOnce, Disk, History, HasRead, IsSound}
 use Rattle.block_device.proofs.ReadLemmas.{clean_good}
 use Rattle.meta_log.specs.declared.slot.Super.{Super}
 use Rattle.meta_log.proofs.SlotLemmas.{same_slot}
-use Rattle.meta_log.specs.Slots.{IsSlotOf, IsValidSlot, IsActiveSlot}
-use Rattle.log_replay.specs.Cleared.{IsAllClean}
-use Rattle.log_replay.specs.Opening.{IsAbout, HasNoSuper, newer_of}
-use Rattle.log_replay.specs.HalfReading.{HasPiece}
+use Rattle.meta_log.specs.Prelude.{IsSlotOf, IsValidSlot, IsActiveSlot}
+use Rattle.log_replay.specs.Prelude.{IsAllClean, IsAbout, HasNoSuper, newer_of, HasPiece}
 
 -- P of what was last written, where that is told and no unit is dirty
 abbrev AboutTold : Option History → (List ℕ → Type 0) → Type 0

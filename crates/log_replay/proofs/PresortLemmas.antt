@@ -7,12 +7,12 @@ use Rattle.std.specs.declared.cmp.Ordering.{Ordering}
 use Rattle.std.specs.declared.cmp.Ordering.TheVariants.{Less, Equal, Greater}
 use Rattle.std.specs.Cmp.{nat_cmp_total}
 use Rattle.std.specs.FinMap.{get}
-use Rattle.byte_maps.proofs.Laws.{same}
-use Rattle.meta_rows.specs.Rows.{Rows, rows_after, key_of}
+use Rattle.byte_maps.proofs.Prelude.{same}
+use Rattle.meta_rows.specs.Prelude.{Rows, rows_after, key_of}
 use Rattle.meta_rows.specs.declared.row_op.RowOp.{RowOp}
 use Rattle.meta_rows.specs.declared.row_op.RowOp.TheVariants.{Drop}
 use Rattle.meta_rows.proofs.BatchLemmas.{only_its_own}
-use Rattle.log_replay.specs.Gathering.{first_word}
+use Rattle.log_replay.specs.Prelude.{first_word}
 
 abbrev pub word : ℕ → RowOp → ℕ
 word at op = first_word (drop at (key_of op))

@@ -3,13 +3,12 @@ use Rattle.std.proofs.Common.{◌≡◌, ℕ, ◌+◌, ◌*◌, List, [], ◌∷
 use Rattle.std.specs.FinMap as map
 use Rattle.std.proofs.lemmas.List.{length-append}
 use Rattle.meta_rows.specs.declared.row_op.RowOp.{RowOp}
-use Rattle.meta_rows.specs.Rows.{Rows, rows_after, rows_of_records}
+use Rattle.meta_rows.specs.Prelude.{Rows, rows_after, rows_of_records}
 use Rattle.meta_rows.proofs.Folds.{rows_of_records-push}
-use Rattle.meta_log.specs.Records.{BeginsWithRecord}
-use Rattle.meta_log.specs.Scanning.{IsAtFront, units_of_records}
+use Rattle.meta_log.specs.Prelude.{BeginsWithRecord, IsAtFront, units_of_records}
 use Rattle.meta_log.specs.declared.scanning.FoundRecord.{FoundRecord}
 use Rattle.meta_log.proofs.ScanLemmas.{StandUpTo, one_more, these_are_all, units-one_more, length-with_record}
-use Rattle.log_replay.specs.Replaying.{IsReplay}
+use Rattle.log_replay.specs.Prelude.{IsReplay}
 
 -- ---- records, one after another
 

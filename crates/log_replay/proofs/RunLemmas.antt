@@ -5,13 +5,11 @@ use Rattle.std.specs.List.{AllByRecursion}
 use Rattle.std.proofs.lemmas.List.{append-nil, length-append}
 use Rattle.std.proofs.lemmas.List.Elements.{Contains-append_left, Contains-push, All-get_or}
 use Rattle.byte_maps.specs.Units.{zeros}
-use Rattle.block_device.specs.Disk.{History}
-use Rattle.block_device.specs.Facts.{EachWriteIsAnswered, IsSubmission}
+use Rattle.block_device.specs.Prelude.{History, EachWriteIsAnswered, IsSubmission}
 use Rattle.block_device.specs.declared.event.Event.{Event}
 use Rattle.block_device.specs.declared.event.Event.TheVariants.{Write, Flush, Done}
 use Rattle.block_device.proofs.LogLemmas.{slice_get-push_cases}
-use Rattle.log_replay.specs.Calls.{after_call, with_call, Told, GoesOnBy}
-use Rattle.log_replay.specs.Zeroing.{IsFirstRun, UnitRun, AreRuns, run_events, WroteRuns, IsZeroing, ZeroesOnly}
+use Rattle.log_replay.specs.Prelude.{after_call, with_call, Told, GoesOnBy, IsFirstRun, UnitRun, AreRuns, run_events, WroteRuns, IsZeroing, ZeroesOnly}
 
 -- ---- one more call
 

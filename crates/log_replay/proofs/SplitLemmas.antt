@@ -5,8 +5,7 @@ use Rattle.std.proofs.lemmas.Grind.{get_or_default_zero}
 use Rattle.std.proofs.lemmas.List.{drop-drop}
 use Rattle.std.proofs.lemmas.List.Elements.{Contains-get_or, All-tail}
 use Rattle.byte_maps.specs.Units.{unit_at, zeros}
-use Rattle.log_replay.specs.Stale.{UnitsAscend, IsNotZero, AreNotZero}
-use Rattle.log_replay.specs.Clearing.{IsFirstStale, AreParts}
+use Rattle.log_replay.specs.Prelude.{UnitsAscend, IsNotZero, AreNotZero, IsFirstStale, AreParts}
 
 pub next_unit : (bytes : List ℕ) (j : ℕ) → unit_at j (drop 4096 bytes) ≡ unit_at (1 + j) bytes
 unfolding unit_at

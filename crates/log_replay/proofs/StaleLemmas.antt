@@ -5,13 +5,9 @@ use Rattle.std.proofs.lemmas.Bool.{cases_lt}
 use Rattle.std.proofs.lemmas.List.{get_or-replicate, ext_get_or, get_or_append_left, get_or-append-add, length-append}
 use Rattle.std.proofs.lemmas.List.Elements.{All-get_or, All-replicate, All-push, All-weaker, All-from_recursion, Contains-append_left, Contains-append_cases, Contains-push}
 use Rattle.byte_maps.specs.Units.{unit_at, zeros, IsUnits}
-use Rattle.byte_maps.proofs.UnitLemmas.{length-zeros, unit_at-append_front, unit_at-append_back}
-use Rattle.block_device.specs.Log.{last, IsClean}
-use Rattle.block_device.specs.Disk.{Disk, History, HasRead, IsSound}
-use Rattle.log_replay.specs.Cleared.{IsAllClean}
-use Rattle.log_replay.specs.Zeroing.{IsZero}
-use Rattle.log_replay.specs.Stale.{AreStale, UnitsAscend, IsNotZero, AddsStale, AreNotZero}
-use Rattle.log_replay.specs.HalfReading.{HasPiece, AreUnits, left_of, IsReader, AddsUnits, HasStale}
+use Rattle.byte_maps.proofs.Prelude.{length-zeros, unit_at-append_front, unit_at-append_back}
+use Rattle.block_device.specs.Prelude.{last, IsClean, Disk, History, HasRead, IsSound}
+use Rattle.log_replay.specs.Prelude.{IsAllClean, IsZero, AreStale, UnitsAscend, IsNotZero, AddsStale, AreNotZero, HasPiece, AreUnits, left_of, IsReader, AddsUnits, HasStale}
 use Rattle.log_replay.specs.declared.half_reader.HalfReader.{HalfReader}
 use Rattle.log_replay.proofs.HalfLemmas.{no_units, units_read, between_join}
 

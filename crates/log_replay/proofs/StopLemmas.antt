@@ -2,13 +2,12 @@
 use Rattle.std.proofs.Common.{◌≡◌, inl, inr, ℕ, ◌+◌, true, false, List, [], ◌∷◌, ◌++◌, length, Option, Result, Ok, Err, refl, sym, subst, ◌∙◌, append_assoc}
 use Rattle.std.specs.Prelude.{IsErr, IsErrAnd, IsErrOf}
 use Rattle.std.specs.List.{AllByRecursion}
-use Rattle.block_device.specs.Disk.{Disk, History}
+use Rattle.block_device.specs.Prelude.{Disk, History}
 use Rattle.block_device.specs.declared.event.Event.{Event}
 use Rattle.block_device.specs.declared.event.Event.TheVariants.{Done}
 use Rattle.block_device.specs.declared.device.Failed.{Failed}
 use Rattle.block_device.specs.declared.device.Failed.TheVariants.{Fault}
-use Rattle.log_replay.specs.Calls.{after_call, Called, Told, GoesOnBy, IsNoBadEnd, GoesOnWell, GoesOnToBadEnd, StopsAtFault}
-use Rattle.log_replay.specs.Zeroing.{UnitRun, run_events, WroteRuns}
+use Rattle.log_replay.specs.Prelude.{after_call, Called, Told, GoesOnBy, IsNoBadEnd, GoesOnWell, GoesOnToBadEnd, StopsAtFault, UnitRun, run_events, WroteRuns}
 use Rattle.log_replay.proofs.RunLemmas.{told_end, by_none, by_join, by_call, RunsSoFar, each_append}
 use Rattle.log_replay.proofs.ZeroLemmas.{told_map, told_start}
 use Rattle.log_replay.proofs.MadeLemmas.{told_join}

@@ -6,15 +6,12 @@ use Rattle.std.proofs.lemmas.Bool.Decides.{nat_tests}
 use Rattle.std.proofs.lemmas.List.{append-nil, get_or_default, get_or-take, take-append-drop, length-take-le, take_all}
 use Rattle.std.proofs.lemmas.List.Elements.{Contains-get_or, Contains-append_left, Contains-append_right, Contains-append_cases, Contains-push, All-get_or, All-drop}
 use Rattle.byte_maps.specs.Units.{unit_at, IsUnits, zeros}
-use Rattle.byte_maps.proofs.UnitLemmas.{length-zeros, unit_at-zeros, unit_at-laid_inside}
-use Rattle.block_device.specs.Log.{last, after_event, WritesUnit}
-use Rattle.block_device.specs.Disk.{Disk, History}
-use Rattle.block_device.specs.Facts.{last_at}
+use Rattle.byte_maps.proofs.Prelude.{length-zeros, unit_at-zeros, unit_at-laid_inside}
+use Rattle.block_device.specs.Prelude.{last, after_event, WritesUnit, Disk, History, last_at}
 use Rattle.block_device.specs.declared.event.Event.{Event}
 use Rattle.block_device.specs.declared.event.Event.TheVariants.{Write, Done}
 use Rattle.block_device.proofs.LogLemmas.{last-push, unit_at-after_event, length-after_event, slice_get-push_cases}
-use Rattle.log_replay.specs.Calls.{after_call, with_call, Called, Told, GoesOn, IsLater}
-use Rattle.log_replay.specs.Zeroing.{EachWriteIsDone, IsZero, IsFirstRun, WasZeroed, WroteRuns, ZeroesOnly}
+use Rattle.log_replay.specs.Prelude.{after_call, with_call, Called, Told, GoesOn, IsLater, EachWriteIsDone, IsZero, IsFirstRun, WasZeroed, WroteRuns, ZeroesOnly}
 use Rattle.log_replay.proofs.RunLemmas.{told_end, answered_call, RunsSoFar, runs_none, runs_more, runs_all, only_none, only_call, run_zeroes}
 
 -- ---- one call

@@ -1,9 +1,7 @@
 -- The two halves of making a store: its first units are cleared, and its slot is written.
 use Rattle.std.specs.Prelude.{◌≡◌, ℕ, ◌<◌}
-use Rattle.block_device.specs.Log.{IsClean}
-use Rattle.block_device.specs.Disk.{History}
-use Rattle.block_device.specs.Facts.{last_at}
-use Rattle.meta_log.specs.Slots.{super_bytes}
+use Rattle.block_device.specs.Prelude.{IsClean, History, last_at}
+use Rattle.meta_log.specs.Prelude.{super_bytes}
 use Rattle.log_replay.specs.Zeroing.{IsZero}
 use Rattle.log_replay.specs.NewSuper.{new_super}
 

@@ -2,8 +2,7 @@
 use Rattle.std.specs.Prelude.{◌≡◌, ◌≢◌, ◌⊎◌, ℕ, ◌+◌, ◌-◌, ◌*◌, ◌<◌, ◌≤◌, List, [], ◌∷◌, ◌++◌, length, drop, Contains, Bool, true, false}
 use Rattle.std.specs.List.{AllByRecursion}
 use Rattle.byte_maps.specs.Units.{unit_at, zeros}
-use Rattle.block_device.specs.Disk.{History}
-use Rattle.block_device.specs.Facts.{last_at, EachWriteIsAnswered}
+use Rattle.block_device.specs.Prelude.{History, last_at, EachWriteIsAnswered}
 use Rattle.block_device.specs.declared.event.Event.{Event}
 use Rattle.block_device.specs.declared.event.Event.TheVariants.{Write, Flush, Done}
 use Rattle.log_replay.specs.Calls.{GoesOnBy}

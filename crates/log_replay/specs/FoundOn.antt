@@ -1,12 +1,11 @@
 -- The store that is found on a device, as the code has it.
 use Rattle.std.specs.Prelude.{◌≡◌, ◌≤◌, ℕ, ◌+◌, ◌-◌, ◌*◌, List, drop}
-use Rattle.block_device.specs.Disk.{Disk, History}
-use Rattle.meta_log.specs.Records.{active_half}
-use Rattle.meta_log.specs.Slots.{IsSuper, active_unit}
-use Rattle.unit_allocator.specs.Units.{Space}
-use Rattle.store_steps.specs.Opened.{Found}
-use Rattle.plan_rows.specs.Keeps.{IsGood}
-use Rattle.store_facts.specs.Space.{IsSpaceOf}
+use Rattle.block_device.specs.Prelude.{Disk, History}
+use Rattle.meta_log.specs.Prelude.{active_half, IsSuper, active_unit}
+use Rattle.unit_allocator.specs.Prelude.{Space}
+use Rattle.store_steps.specs.Prelude.{Found}
+use Rattle.plan_rows.specs.Prelude.{IsGood}
+use Rattle.store_facts.specs.Prelude.{IsSpaceOf}
 use Rattle.log_replay.specs.Opening.{IsAbout, IsFoundIn, HasLowNumbers, AreUnmarkedFree}
 use Rattle.log_replay.specs.Stale.{AreNotZero}
 use Rattle.log_replay.specs.Clearing.{IsCleared, ClearsSoFar}

@@ -2,7 +2,7 @@
 use Rattle.std.specs.Prelude.{◌≡◌, ℕ, Bool, true, false, ◌==◌, List, [], ◌∷◌, ◌++◌, get_or}
 use Rattle.std.specs.Int.{w64, from_be_bytes}
 use Rattle.std.specs.List.{AllByRecursion}
-use Rattle.meta_rows.specs.Rows.{Rows, rows_after, key_of}
+use Rattle.meta_rows.specs.Prelude.{Rows, rows_after, key_of}
 use Rattle.meta_rows.specs.declared.row_op.RowOp.{RowOp}
 use Rattle.log_replay.specs.declared.gathering.Gathered.{Gathered}
 

@@ -1,9 +1,9 @@
 -- A half of the log as it is read, piece by piece.
 use Rattle.std.specs.Prelude.{◌≡◌, ℕ, ◌+◌, ◌-◌, ◌*◌, ◌<◌, ◌≤◌, Bool, true, false, List, [], ◌++◌, length, drop}
 use Rattle.byte_maps.specs.Units.{unit_at, units_from, IsUnits}
-use Rattle.block_device.specs.Disk.{Disk}
+use Rattle.block_device.specs.Prelude.{Disk}
 use Rattle.meta_rows.specs.declared.row_op.RowOp.{RowOp}
-use Rattle.meta_log.specs.Records.{unit_count, BeginsWithRecord}
+use Rattle.meta_log.specs.Prelude.{unit_count, BeginsWithRecord}
 use Rattle.log_replay.specs.Opening.{IsAbout}
 use Rattle.log_replay.specs.Replaying.{IsReplay}
 use Rattle.log_replay.specs.Stale.{AddsStale, AreNotZero}

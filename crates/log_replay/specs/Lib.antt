@@ -10,3 +10,4 @@ pub mod Made
 pub mod Opening
 pub mod HalfReading
 pub mod FoundOn
+pub mod Prelude

@@ -1,11 +1,9 @@
 -- What making a store makes, and why it fails.
 use Rattle.std.specs.Prelude.{◌≡◌, ℕ, ◌<◌, ◌≤◌, List, IfSome}
 use Rattle.std.specs.FinMap as map
-use Rattle.block_device.specs.Log.{last}
-use Rattle.block_device.specs.Disk.{Disk, IsQuiet, Rose}
-use Rattle.meta_log.specs.Slots.{IsActiveSlot}
-use Rattle.store_image.specs.Stands.{StandsFor}
-use Rattle.store_image.specs.Exact.{IsExactImage}
+use Rattle.block_device.specs.Prelude.{last, Disk, IsQuiet, Rose}
+use Rattle.meta_log.specs.Prelude.{IsActiveSlot}
+use Rattle.store_image.specs.Prelude.{StandsFor, IsExactImage}
 use Rattle.log_replay.specs.Calls.{Told, StopsAtFault}
 use Rattle.log_replay.specs.NewSuper.{new_super, units_needed}
 use Rattle.log_replay.specs.Opening.{IsLogEmpty}

@@ -1,16 +1,13 @@
 -- What a mount finds on a device, and why it doesn't open a store.
 use Rattle.std.specs.Prelude.{◌≡◌, ◌⊎◌, ◌↔◌, true, ℕ, ◌+◌, ◌^◌, ◌<◌, ◌≤◌, nat_lt, if◌then◌else◌, List, Option, Some, None, IfSome}
 use Rattle.byte_maps.specs.Units.{unit_at, zeros}
-use Rattle.block_device.specs.Log.{last}
-use Rattle.block_device.specs.Disk.{Disk, Rose}
+use Rattle.block_device.specs.Prelude.{last, Disk, Rose}
 use Rattle.meta_log.specs.declared.slot.Super.{Super}
-use Rattle.meta_log.specs.Records.{active_half}
-use Rattle.meta_log.specs.Slots.{width_of, IsValidSlot, IsActiveSlot, active_unit}
-use Rattle.store_image.specs.BadRows.{NoBadRow}
-use Rattle.store_image.specs.Owners.{IsDataUnit, IsMarked, IsExactAs, IsLeastInexact}
-use Rattle.unit_allocator.specs.Units.{Space, is_free}
+use Rattle.meta_log.specs.Prelude.{active_half, width_of, IsValidSlot, IsActiveSlot, active_unit}
+use Rattle.store_image.specs.Prelude.{NoBadRow, IsDataUnit, IsMarked, IsExactAs, IsLeastInexact}
+use Rattle.unit_allocator.specs.Prelude.{Space, is_free}
 use Rattle.row_check.specs.Bad.{IsLeastBad}
-use Rattle.store_steps.specs.Opened.{Found}
+use Rattle.store_steps.specs.Prelude.{Found}
 use Rattle.log_replay.specs.Cleared.{IsAllClean}
 use Rattle.log_replay.specs.Replaying.{IsReplay}
 use Rattle.log_replay.specs.declared.opening.MountFail.{MountFail}

@@ -2,9 +2,8 @@
 use Rattle.std.specs.Prelude.{◌≡◌, ℕ, ◌+◌, ◌*◌, ◌≤◌, List, length}
 use Rattle.std.specs.FinMap as map
 use Rattle.meta_rows.specs.declared.row_op.RowOp.{RowOp}
-use Rattle.meta_rows.specs.Rows.{Rows, rows_of_records}
-use Rattle.meta_log.specs.Records.{AreRecords}
-use Rattle.meta_log.specs.Scanning.{units_of_records}
+use Rattle.meta_rows.specs.Prelude.{Rows, rows_of_records}
+use Rattle.meta_log.specs.Prelude.{AreRecords, units_of_records}
 
 -- The half begins with these records, of consecutive numbers from `first` on, and with no more: they make the rows, take so many units, and
 -- the next one has this number.

@@ -1,8 +1,7 @@
 -- The units that making a store clears.
 use Rattle.std.specs.Prelude.{◌≡◌, ◌≢◌, ◌⊎◌, ℕ, ◌+◌, ◌-◌, ◌<◌, ◌≤◌, List, length, slice_index, IfSome, All, Contains}
 use Rattle.byte_maps.specs.Units.{unit_at, zeros}
-use Rattle.block_device.specs.Log.{IsClean}
-use Rattle.block_device.specs.Disk.{Disk}
+use Rattle.block_device.specs.Prelude.{IsClean, Disk}
 use Rattle.log_replay.specs.Zeroing.{IsZero}
 
 -- Among the units below one: the slots are in the list, and so is each other unit that isn't zero, where nothing is dirty.

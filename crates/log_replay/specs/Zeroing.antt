@@ -2,9 +2,7 @@
 use Rattle.std.specs.Prelude.{◌≡◌, ◌≢◌, ◌⊎◌, ℕ, ◌+◌, ◌*◌, ◌<◌, ◌≤◌, List, [], ◌∷◌, length, drop, Contains, slice_get, slice_index, Some, true}
 use Rattle.std.specs.List.{AllByRecursion}
 use Rattle.byte_maps.specs.Units.{zeros}
-use Rattle.block_device.specs.Log.{last, WritesUnit}
-use Rattle.block_device.specs.Disk.{History}
-use Rattle.block_device.specs.Facts.{last_at, EachWriteIsAnswered}
+use Rattle.block_device.specs.Prelude.{last, WritesUnit, History, last_at, EachWriteIsAnswered}
 use Rattle.block_device.specs.declared.event.Event.{Event}
 use Rattle.block_device.specs.declared.event.Event.TheVariants.{Write, Flush, Done}
 use Rattle.log_replay.specs.Calls.{GoesOn, GoesOnBy}

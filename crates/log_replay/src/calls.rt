@@ -1,6 +1,6 @@
 //! Calls of a device, one at a time: each is submitted with nothing else in flight, and its end is awaited.
 ghost use Rattle.std.specs.Prelude.{◌≡◌, ◌≤◌, ◌<◌, ◌+◌, ◌*◌, ◌%◌, [], true, false, length, OnOk, IsErrOf};
-ghost use Rattle.block_device.specs.Disk.{Rose};
+ghost use Rattle.block_device.specs.Prelude.{Rose};
 ghost use Rattle.block_device.specs.declared.event.Event.TheVariants.{Write, Flush};
 ghost use Rattle.log_replay.specs.Calls.{IsOnly, Ended, Called};
 

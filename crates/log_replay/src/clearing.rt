@@ -4,7 +4,7 @@
 //! cleared first, and is stable before any other is: otherwise a record behind it could come to follow the records while zeros
 //! are torn.
 ghost use Rattle.std.specs.Prelude.{◌≡◌, ◌≤◌, ◌<◌, ◌+◌, ◌-◌, ℕ, List, [], length, All, OnOk, IfOk, IsErrOf};
-ghost use Rattle.block_device.specs.Disk.{Rose};
+ghost use Rattle.block_device.specs.Prelude.{Rose};
 ghost use Rattle.log_replay.specs.Calls.{Told, IsLater};
 ghost use Rattle.log_replay.specs.Zeroing.{ZeroesOnly};
 ghost use Rattle.log_replay.specs.Stale.{AreNotZero};

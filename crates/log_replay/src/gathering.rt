@@ -1,7 +1,7 @@
 //! The operations of many records, gathered so that they are applied to the rows together.
 ghost use Rattle.std.specs.Prelude.{◌≡◌, [], OnOk, IfOk};
 ghost use Rattle.std.specs.FinMap as map;
-ghost use Rattle.meta_rows.specs.Rows.{row_after, rows_after};
+ghost use Rattle.meta_rows.specs.Prelude.{row_after, rows_after};
 ghost use Rattle.log_replay.specs.Gathering.{is_bitmap_key, rows_so_far, IsParted};
 
 use crate::presorting::apply_presorted;

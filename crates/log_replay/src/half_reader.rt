@@ -1,7 +1,7 @@
 //! A half of the log, read from its front in pieces as its records are asked for.
 ghost use Rattle.std.specs.Prelude.{◌≡◌, ◌≤◌, ◌<◌, ◌+◌, ◌*◌, ◌-◌, [], length, drop, OnOk, IfOk, IsErrOf, MatchOption};
-ghost use Rattle.block_device.specs.Disk.{Rose};
-ghost use Rattle.meta_log.specs.Scanning.{IsAtFront};
+ghost use Rattle.block_device.specs.Prelude.{Rose};
+ghost use Rattle.meta_log.specs.Prelude.{IsAtFront};
 ghost use Rattle.log_replay.specs.HalfReading.{left_of, IsReader, IsNew, Skips, ReadsOn, HasNoRecord, MayStand, HasStale};
 
 use crate::stale::{add_stale, add_stale_between};

@@ -1,12 +1,12 @@
 //! Whether a kernel can be opened on the store that was found: its rows, its bitmap, its numbers, and the units that are free.
 ghost use Rattle.std.specs.Prelude.{◌≡◌, ℕ, not, OnOk, IfOk, IfErr, MatchOption};
 ghost use Rattle.std.specs.FinSet as set;
-ghost use Rattle.meta_log.specs.Slots.{IsSuper};
-ghost use Rattle.store_image.specs.Owners.{IsDataUnit};
+ghost use Rattle.meta_log.specs.Prelude.{IsSuper};
+ghost use Rattle.store_image.specs.Prelude.{IsDataUnit};
 ghost use Rattle.bitmap_freelist.specs.Bitmap.{AreMarked};
-ghost use Rattle.unit_allocator.specs.Units.{is_free};
-ghost use Rattle.plan_rows.specs.Keeps.{IsGood};
-ghost use Rattle.store_facts.specs.Space.{IsSpaceOf};
+ghost use Rattle.unit_allocator.specs.Prelude.{is_free};
+ghost use Rattle.plan_rows.specs.Prelude.{IsGood};
+ghost use Rattle.store_facts.specs.Prelude.{IsSpaceOf};
 ghost use Rattle.log_replay.specs.Opening.{HasLowNumbers, IsWornOut, IsRefused};
 ghost use Rattle.log_replay.specs.FoundOn.{IsJudged, as_found};
 

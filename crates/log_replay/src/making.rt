@@ -1,6 +1,6 @@
 //! Making an empty store.
 ghost use Rattle.std.specs.Prelude.{◌≡◌, ◌≤◌, ◌<◌, ◌+◌, ◌*◌, [], IfOk, IfErr, OnOk, IsErrOf, IsOk};
-ghost use Rattle.block_device.specs.Disk.{IsQuiet, Rose};
+ghost use Rattle.block_device.specs.Prelude.{IsQuiet, Rose};
 ghost use Rattle.log_replay.specs.Calls.{Told, GoesOnWell, GoesOnToBadEnd, StopsAtFault, IsLater};
 ghost use Rattle.log_replay.specs.Cleared.{WasCleared, WasMade};
 ghost use Rattle.log_replay.specs.NewSuper.{units_needed};

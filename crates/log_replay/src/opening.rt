@@ -1,8 +1,8 @@
 //! The superblock of a device, and why a mount opens no store.
 ghost use Rattle.std.specs.Prelude.{◌≡◌, ◌≤◌, ◌<◌, [], IfOk, IfSome, IsErrOf, MatchOption};
-ghost use Rattle.block_device.specs.Disk.{Rose};
+ghost use Rattle.block_device.specs.Prelude.{Rose};
 ghost use Rattle.meta_log.specs.declared.slot.Super.{Super};
-ghost use Rattle.meta_log.specs.Slots.{IsSuper, IsSlotOf, IsValidSlot, IsActiveSlot};
+ghost use Rattle.meta_log.specs.Prelude.{IsSuper, IsSlotOf, IsValidSlot, IsActiveSlot};
 ghost use Rattle.log_replay.specs.Opening.{IsAbout, HasNoSuper, newer_of};
 
 use block_device::{Device, Failed};

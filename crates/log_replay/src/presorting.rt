@@ -1,6 +1,6 @@
 //! Operations brought near to the order of their keys by a few bytes of each, so that little is left to sort.
 ghost use Rattle.std.specs.Prelude.{◌≡◌, drop, get_or, OnOk, IfOk};
-ghost use Rattle.meta_rows.specs.Rows.{Rows, rows_after};
+ghost use Rattle.meta_rows.specs.Prelude.{Rows, rows_after};
 ghost use Rattle.log_replay.specs.Gathering.{first_word};
 
 use meta_rows::{RowOp, RowTable};

@@ -1,6 +1,6 @@
 //! The active half of the log is read, and its records make the rows.
 ghost use Rattle.std.specs.Prelude.{◌≡◌, ◌≤◌, ◌+◌, [], IfOk, IfErr, IsErrOf};
-ghost use Rattle.block_device.specs.Disk.{Rose};
+ghost use Rattle.block_device.specs.Prelude.{Rose};
 ghost use Rattle.meta_log.specs.declared.slot.Super.{Super};
 ghost use Rattle.log_replay.specs.Opening.{FailsMount};
 ghost use Rattle.log_replay.specs.HalfReading.{IsNew, HasReplayed, IsHalfRead};

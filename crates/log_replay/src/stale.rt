@@ -1,7 +1,7 @@
 //! Which units a new store has to clear: the slots, and those of half 0 that hold something.
 ghost use Rattle.std.specs.Prelude.{◌≡◌, ◌≤◌, ◌<◌, ◌+◌, ◌*◌, ◌↔◌, ◌∷◌, [], length, All, OnOk, IfOk, IsErrOf, IsTrue};
 ghost use Rattle.byte_maps.specs.Units.{unit_at, zeros, IsUnits};
-ghost use Rattle.block_device.specs.Disk.{Rose};
+ghost use Rattle.block_device.specs.Prelude.{Rose};
 ghost use Rattle.log_replay.specs.Stale.{AreStale, AddsStale};
 ghost use Rattle.log_replay.specs.HalfReading.{AddsUnits};
 

@@ -1,7 +1,7 @@
 //! Zeros over the units that hold something else, in few and large writes.
 ghost use Rattle.std.specs.Prelude.{◌≡◌, ◌≤◌, ◌<◌, ◌+◌, ◌*◌, ℕ, [], length, All, IfOk, IsErrOf};
 ghost use Rattle.byte_maps.specs.Units.{zeros};
-ghost use Rattle.block_device.specs.Disk.{Rose};
+ghost use Rattle.block_device.specs.Prelude.{Rose};
 ghost use Rattle.log_replay.specs.Calls.{Told, GoesOnToBadEnd, IsLater};
 ghost use Rattle.log_replay.specs.Zeroing.{IsFirstRun, WasZeroed, WroteRuns, ZeroesOnly};
 

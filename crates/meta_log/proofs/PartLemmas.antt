@@ -3,17 +3,15 @@ use Rattle.std.proofs.Common.{◌≡◌, ℕ, ◌+◌, ◌-◌, ◌*◌, ◌<◌
 use Rattle.std.specs.Prelude.{◌≢◌, All}
 use Rattle.std.specs.Int.{w32, w64, to_le_bytes}
 use Rattle.std.proofs.lemmas.List.{length-append, drop_at}
-use Rattle.crc32c_csum.specs.Crc32c.{crc32c}
+use Rattle.crc32c_csum.specs.Prelude.{crc32c}
 use Rattle.byte_maps.specs.Units.{zeros, units_for, in_units}
-use Rattle.byte_maps.proofs.UnitLemmas.{length-zeros, length-in_units}
-use Rattle.unit_fields.specs.Fields.{ReadsBytes}
+use Rattle.byte_maps.proofs.Prelude.{length-zeros, length-in_units}
+use Rattle.unit_fields.specs.Prelude.{ReadsBytes}
 use Rattle.meta_rows.specs.declared.row_op.RowOp.{RowOp}
-use Rattle.meta_rows.specs.Spelling.{ops_bytes}
-use Rattle.meta_rows.specs.Reading.{SpellOps}
+use Rattle.meta_rows.specs.Prelude.{ops_bytes, SpellOps}
 use Rattle.meta_rows.proofs.FieldLemmas.{same_front, number_front, wide32, wide64}
 use Rattle.meta_rows.proofs.Ops.{ops_bytes-same}
-use Rattle.meta_log.specs.Records.{head_of, unit_count, BeginsWithRecord}
-use Rattle.meta_log.specs.Scanning.{parts_bytes, BeginsWithParts, IsCut, BeginsNoRecord, TakesUnits}
+use Rattle.meta_log.specs.Prelude.{head_of, unit_count, BeginsWithRecord, parts_bytes, BeginsWithParts, IsCut, BeginsNoRecord, TakesUnits}
 use Rattle.meta_log.proofs.RecordLemmas.{count_below}
 use Rattle.meta_log.proofs.SlotReading.{all_of_zeros, zeros_of_all}
 

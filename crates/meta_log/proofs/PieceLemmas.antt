@@ -1,6 +1,6 @@
 -- The pieces of a record: they lie one before the other, and have each unit once.
 use Rattle.std.proofs.Common.{◌≡◌, ℕ, ◌-◌, ◌/◌, ◌<◌, arith}
-use Rattle.meta_log.specs.Pieces.{piece_count, given_from, piece_first, LiesInRecord, IsInPiece}
+use Rattle.meta_log.specs.Prelude.{piece_count, given_from, piece_first, LiesInRecord, IsInPiece}
 
 pub lies : (units k : ℕ) → k < piece_count units → LiesInRecord units k
 lies units k counted = record {

@@ -3,11 +3,11 @@ use Rattle.std.proofs.Common.{◌≡◌, ℕ, ◌+◌, ◌-◌, ◌*◌, ◌^◌
 use Rattle.std.specs.Int.{w32, w64, to_le_bytes}
 use Rattle.std.proofs.lemmas.List.{length-append}
 use Rattle.std.proofs.lemmas.List.Concat.{flat_map-cons}
-use Rattle.crc32c_csum.specs.Crc32c.{crc32c}
+use Rattle.crc32c_csum.specs.Prelude.{crc32c}
 use Rattle.meta_rows.specs.declared.row_op.RowOp.{RowOp}
-use Rattle.meta_rows.specs.Spelling.{op_bytes, ops_bytes}
+use Rattle.meta_rows.specs.Prelude.{op_bytes, ops_bytes}
 use Rattle.byte_maps.specs.Units.{zeros, units_for}
-use Rattle.meta_log.specs.Records.{record_head, record_bytes, record_units, BeginsWithRecord, AreRecords}
+use Rattle.meta_log.specs.Prelude.{record_head, record_bytes, record_units, BeginsWithRecord, AreRecords}
 use Rattle.meta_rows.proofs.FieldLemmas.{same_front, number_front, wide32, wide64}
 use Rattle.meta_rows.proofs.Ops.{ops_front, length-op_bytes}
 

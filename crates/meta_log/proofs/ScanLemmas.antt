@@ -2,8 +2,7 @@
 use Rattle.std.proofs.Common.{◌≡◌, ℕ, ◌+◌, ◌*◌, List, [], ◌∷◌, ◌++◌, length, refl, sym, ap, subst, arith}
 use Rattle.std.proofs.lemmas.List.{length-append}
 use Rattle.meta_rows.specs.declared.row_op.RowOp.{RowOp}
-use Rattle.meta_log.specs.Records.{record_units, unit_count, BeginsWithRecord, AreRecords}
-use Rattle.meta_log.specs.Scanning.{units_of_records}
+use Rattle.meta_log.specs.Prelude.{record_units, unit_count, BeginsWithRecord, AreRecords, units_of_records}
 use Rattle.meta_log.proofs.SealLemmas.{length-record_units}
 
 -- the bytes are records of consecutive numbers from this one on, and these bytes behind them

@@ -4,14 +4,12 @@ use Rattle.std.proofs.Common.{if◌then◌else◌, sym, ap, ap₂, subst, ◌∙
 use Rattle.std.specs.declared.alloc.AllocError.{AllocError}
 use Rattle.std.specs.Int.{w32, to_le_bytes}
 use Rattle.std.proofs.lemmas.List.{length-append, take_all}
-use Rattle.crc32c_csum.specs.Crc32c.{crc32c}
+use Rattle.crc32c_csum.specs.Prelude.{crc32c}
 use Rattle.byte_maps.specs.Units.{zeros, units_for, units_from, in_units}
-use Rattle.byte_maps.proofs.UnitLemmas.{length-in_units, length-units_from}
+use Rattle.byte_maps.proofs.Prelude.{length-in_units, length-units_from}
 use Rattle.meta_rows.specs.declared.row_op.RowOp.{RowOp}
-use Rattle.meta_rows.specs.Spelling.{ops_bytes}
-use Rattle.meta_log.specs.Records.{head_of, record_head, record_bytes, record_units, unit_count}
-use Rattle.meta_log.specs.Pieces.{piece_count, piece_first, piece_units}
-use Rattle.meta_log.specs.Sealed.{Sealed, IsSealable, IsSpelled, sealed_units, piece_bytes}
+use Rattle.meta_rows.specs.Prelude.{ops_bytes}
+use Rattle.meta_log.specs.Prelude.{head_of, record_head, record_bytes, record_units, unit_count, piece_count, piece_first, piece_units, Sealed, IsSealable, IsSpelled, sealed_units, piece_bytes}
 use Rattle.meta_log.proofs.PieceLemmas.{lies}
 
 pub length-record_bytes : (number : ℕ) (ops : List RowOp) → length (record_bytes number ops) ≡ 24 + length (ops_bytes ops)

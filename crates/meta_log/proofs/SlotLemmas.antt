@@ -2,10 +2,10 @@
 use Rattle.std.proofs.Common.{◌≡◌, ℕ, ◌+◌, ◌-◌, ◌^◌, ◌%◌, ◌<◌, List, ◌∷◌, ◌++◌, length, take, drop, replicate, refl, sym, ap, ap₂, ◌∙◌, arith}
 use Rattle.std.specs.Int.{w32, w64, to_le_bytes}
 use Rattle.std.proofs.lemmas.List.{length-append, length-replicate, take_all}
-use Rattle.crc32c_csum.specs.Crc32c.{crc32c}
+use Rattle.crc32c_csum.specs.Prelude.{crc32c}
 use Rattle.byte_maps.specs.Units.{zeros, unit_at}
 use Rattle.meta_log.specs.declared.slot.Super.{Super}
-use Rattle.meta_log.specs.Slots.{super_front, super_fields, super_bytes, IsSuper, IsValidSlot, IsActiveSlot}
+use Rattle.meta_log.specs.Prelude.{super_front, super_fields, super_bytes, IsSuper, IsValidSlot, IsActiveSlot}
 use Rattle.meta_rows.proofs.FieldLemmas.{number_front, wide32, wide64}
 
 length-zeros : (n : ℕ) → length (zeros n) ≡ n

@@ -4,13 +4,13 @@ use Rattle.std.specs.Prelude.{All}
 use Rattle.std.specs.Int.{w32, to_le_bytes, from_le_bytes}
 use Rattle.std.proofs.lemmas.List.{take-append-drop, length-replicate, get_or-replicate, ext_get_or}
 use Rattle.std.proofs.lemmas.List.Elements.{All-get_or, All-replicate}
-use Rattle.crc32c_csum.specs.Crc32c.{crc32c}
+use Rattle.crc32c_csum.specs.Prelude.{crc32c}
 use Rattle.byte_maps.specs.Units.{zeros}
-use Rattle.unit_fields.specs.Fields.{IsTooShort, ReadsBytes, ReadsNumber}
+use Rattle.unit_fields.specs.Prelude.{IsTooShort, ReadsBytes, ReadsNumber}
 use Rattle.meta_log.specs.declared.slot.Super.{Super}
 use Rattle.meta_rows.proofs.FieldLemmas.{same_front}
 use Rattle.meta_log.proofs.SlotLemmas.{HasWidths, widths, same_front_of, length-super_fields}
-use Rattle.meta_log.specs.Slots.{magic, version_bytes, super_front, super_fields, with_sum, IsSummed, IsSuper, IsSlotOf}
+use Rattle.meta_log.specs.Prelude.{magic, version_bytes, super_front, super_fields, with_sum, IsSummed, IsSuper, IsSlotOf}
 
 -- ---- zeros
 

@@ -3,3 +3,4 @@ pub mod Records
 pub mod Pieces
 pub mod Sealed
 pub mod Scanning
+pub mod Prelude

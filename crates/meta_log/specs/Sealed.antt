@@ -2,7 +2,7 @@
 use Rattle.std.specs.Prelude.{◌≡◌, ℕ, ◌<◌, ◌^◌, List, length}
 use Rattle.byte_maps.specs.Units.{units_from}
 use Rattle.meta_rows.specs.declared.row_op.RowOp.{RowOp}
-use Rattle.meta_rows.specs.Spelling.{ops_bytes, AllFit}
+use Rattle.meta_rows.specs.Prelude.{ops_bytes, AllFit}
 use Rattle.meta_log.specs.Records.{record_units, unit_count}
 use Rattle.meta_log.specs.Pieces.{piece_first, piece_units}
 

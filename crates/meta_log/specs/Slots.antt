@@ -4,7 +4,7 @@ use Rattle.std.specs.Int.{w32, w64, to_le_bytes}
 use Rattle.byte_maps.specs.Units.{unit_at, zeros}
 use Rattle.unit_fields.specs.declared.width.Width.{Width}
 use Rattle.unit_fields.specs.declared.width.Width.TheVariants.{FourBytes}
-use Rattle.crc32c_csum.specs.Crc32c.{crc32c}
+use Rattle.crc32c_csum.specs.Prelude.{crc32c}
 use Rattle.meta_log.specs.declared.slot.Super.{Super}
 
 -- "BSTORE01"

@@ -2,7 +2,7 @@
 
 ghost use Rattle.std.specs.Prelude.{◌≡◌, ℕ, ◌-◌, ◌<◌, ◌≤◌, List, [], ◌∷◌, ◌++◌};
 ghost use Rattle.std.specs.FinMap as map;
-ghost use Rattle.meta_rows.specs.Rows.{Rows, rows_after, rows_of_records};
+ghost use Rattle.meta_rows.specs.Prelude.{Rows, rows_after, rows_of_records};
 ghost use Rattle.meta_rows.specs.declared.row_op.RowOp.{RowOp};
 ghost use Rattle.meta_log.specs.Slots.{IsValidSlot, IsActiveSlot};
 ghost use Rattle.meta_log.specs.Records.{AreRecords, AreRowsOf, active_half, unit_count};

@@ -2,7 +2,7 @@
 ghost use Rattle.std.specs.Prelude.{◌≡◌, ◌≢◌, ◌↔◌, ◌+◌, ◌-◌, ◌*◌, ◌++◌, ◌<◌, ◌≤◌, ◌^◌, ℕ, List, length, drop, IsTrue, All, IfOk, MatchOption};
 ghost use Rattle.std.specs.Int.{w32, to_le_bytes};
 ghost use Rattle.byte_maps.specs.Units.{units_for};
-ghost use Rattle.crc32c_csum.specs.Crc32c.{crc32c};
+ghost use Rattle.crc32c_csum.specs.Prelude.{crc32c};
 ghost use Rattle.meta_rows.specs.declared.row_op.RowOp.{RowOp};
 ghost use Rattle.meta_log.specs.Records.{head_of, BeginsWithRecord};
 ghost use Rattle.meta_log.specs.Scanning.{BeginsWithParts, IsCut, IsAtFront, BeginsNoRecord, TakesUnits, IsLogOf};

@@ -1,8 +1,8 @@
 //! Records of the log, made and cut into pieces.
 ghost use Rattle.std.specs.Prelude.{◌≡◌, ℕ, ◌+◌, ◌-◌, ◌*◌, ◌/◌, ◌^◌, ◌<◌, ◌≤◌, ◌++◌, length, IfOk, OnOk};
 ghost use Rattle.byte_maps.specs.Units.{units_for, units_from, in_units};
-ghost use Rattle.crc32c_csum.specs.Crc32c.{crc32c};
-ghost use Rattle.meta_rows.specs.Spelling.{ops_bytes};
+ghost use Rattle.crc32c_csum.specs.Prelude.{crc32c};
+ghost use Rattle.meta_rows.specs.Prelude.{ops_bytes};
 ghost use Rattle.meta_log.specs.Records.{head_of, record_units, unit_count};
 ghost use Rattle.meta_log.specs.Pieces.{piece_count, piece_first};
 ghost use Rattle.meta_log.specs.Sealed.{IsSealable, sealed_units, piece_bytes};

@@ -10,10 +10,8 @@ use Rattle.std.specs.Cmp.Lexicographic.{nat_list_cmp_total}
 use Rattle.std.specs.FinMap as map
 use Rattle.std.specs.FinMap.{get}
 use Rattle.byte_maps.specs.ByteMap.{byte_order}
-use Rattle.byte_maps.proofs.Places.{same_bytes}
-use Rattle.byte_maps.proofs.Laws.{same}
-use Rattle.meta_rows.specs.Rows.{Rows, row_after, rows_after, key_of}
-use Rattle.meta_rows.specs.Table.{with_left, value_left}
+use Rattle.byte_maps.proofs.Prelude.{same_bytes, same}
+use Rattle.meta_rows.specs.Prelude.{Rows, row_after, rows_after, key_of, with_left, value_left}
 use Rattle.meta_rows.specs.declared.row_op.RowOp.{RowOp}
 use Rattle.meta_rows.specs.declared.row_op.RowOp.TheVariants.{Drop}
 use Rattle.meta_rows.proofs.RowLemmas.{get-insert_same, get-remove_same, get-row_after_other}

@@ -11,10 +11,8 @@ use Rattle.std.specs.FinMap.Entries.{below_all}
 use Rattle.std.specs.Vec.{vec_len, vec_capacity}
 use Rattle.std.proofs.lemmas.List.{length-append, length-take-le, take_at, get_or_at, get_or-drop, set_at, drop_all, get_or_read}
 use Rattle.byte_maps.specs.ByteMap.{byte_order}
-use Rattle.byte_maps.proofs.Places.{same_bytes, both_first, both_second, below_more}
-use Rattle.meta_rows.specs.Rows.{key_of}
-use Rattle.meta_rows.specs.Table.{AllBelow, entries_after, list_size, GrowsBy}
-use Rattle.meta_rows.specs.Chunks.{Entry, joined, first_order, IsPastLast, beyond_parts, crowd, NoneEmpty, NoneLonger, AllEmpty, BelongsIn, IsChunked, HasRoom, IsOpen, IsSplit, IsRearranged}
+use Rattle.byte_maps.proofs.Prelude.{same_bytes, both_first, both_second, below_more}
+use Rattle.meta_rows.specs.Prelude.{key_of, AllBelow, entries_after, list_size, GrowsBy, Entry, joined, first_order, IsPastLast, beyond_parts, crowd, NoneEmpty, NoneLonger, AllEmpty, BelongsIn, IsChunked, HasRoom, IsOpen, IsSplit, IsRearranged}
 use Rattle.meta_rows.specs.declared.chunk_list.ChunkList.{ChunkList}
 use Rattle.meta_rows.proofs.PartLemmas.{both, less, holds, so, sorted_front, sorted_back, find_part, after_part, after_sorted, after_long}
 use Rattle.meta_rows.proofs.ListSizes.{part_grows}

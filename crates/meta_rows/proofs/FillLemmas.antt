@@ -13,12 +13,9 @@ use Rattle.std.specs.Vec.{vec_len, vec_capacity}
 use Rattle.std.proofs.lemmas.List.{length-append, drop_all}
 use Rattle.std.proofs.lemmas.List.Sorted.{sorted_far}
 use Rattle.byte_maps.specs.ByteMap.{byte_order}
-use Rattle.byte_maps.proofs.Places.{same_bytes}
+use Rattle.byte_maps.proofs.Prelude.{same_bytes}
 use Rattle.meta_rows.specs.declared.row_op.RowOp.{RowOp}
-use Rattle.meta_rows.specs.Rows.{key_of}
-use Rattle.meta_rows.specs.Table.{AllBelow, entries_after, value_left, with_value, list_size}
-use Rattle.meta_rows.specs.Chunks.{Entry, joined, NoneEmpty, NoneLonger, AllEmpty}
-use Rattle.meta_rows.specs.Filling.{Rises, held_rows, held_value, row_left, rows_of, gap, IsShaped, IsAppended, IsFilling, Holds, NotBelow, Awaits}
+use Rattle.meta_rows.specs.Prelude.{key_of, AllBelow, entries_after, value_left, with_value, list_size, Entry, joined, NoneEmpty, NoneLonger, AllEmpty, Rises, held_rows, held_value, row_left, rows_of, gap, IsShaped, IsAppended, IsFilling, Holds, NotBelow, Awaits}
 use Rattle.meta_rows.specs.declared.chunk_list.ChunkList.{ChunkList}
 use Rattle.meta_rows.specs.declared.filling.Filling.{Filling}
 use Rattle.meta_rows.proofs.PartLemmas.{less, after_part, after_sorted}

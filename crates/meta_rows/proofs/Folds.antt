@@ -1,7 +1,7 @@
 -- Rows after records, one after the other.
 use Rattle.std.proofs.Common.{◌≡◌, List, [], ◌∷◌, ◌++◌, refl}
 use Rattle.meta_rows.specs.declared.row_op.RowOp.{RowOp}
-use Rattle.meta_rows.specs.Rows.{Rows, row_after, rows_after, rows_of_records}
+use Rattle.meta_rows.specs.Prelude.{Rows, row_after, rows_after, rows_of_records}
 
 pub rows_after-append : (rows : Rows) (a b : List RowOp) → rows_after rows (a ++ b) ≡ rows_after (rows_after rows a) b
 rows_after-append rows [] b = refl

@@ -1,7 +1,7 @@
 -- The bytes of rows in a list, after a change at one place.
 use Rattle.std.proofs.Common.{◌≡◌, ℕ, zero, suc, ◌+◌, ◌-◌, ◌<◌, ◌≤◌, ◌%◌, List, [], ◌∷◌, ◌++◌, length, get_or, set, ap, arith}
 use Rattle.std.specs.List.{insert, remove}
-use Rattle.meta_rows.specs.Table.{list_size}
+use Rattle.meta_rows.specs.Prelude.{list_size}
 
 pub list_size-append : (a b : List (List ℕ × List ℕ)) → list_size (a ++ b) ≡ list_size a + list_size b
 list_size-append [] b = let g : list_size b ≡ 0 + list_size b = omega arith in g

@@ -11,11 +11,7 @@ use Rattle.byte_maps.specs.ByteMap.{byte_order}
 use Rattle.meta_rows.specs.declared.row_op.RowOp.{RowOp}
 use Rattle.meta_rows.specs.declared.merging.Merging.{Merging}
 use Rattle.meta_rows.specs.declared.filling.Filling.{Filling}
-use Rattle.meta_rows.specs.Rows.{rows_after, key_of}
-use Rattle.meta_rows.specs.Table.{entries_after}
-use Rattle.meta_rows.specs.Chunks.{Entry}
-use Rattle.meta_rows.specs.Filling.{Rises, rows_of, HasSpace, IsFilling, Awaits}
-use Rattle.meta_rows.specs.Merging.{FirstNotBelow, TakesBelow, ops_left, IsMerging, Goes}
+use Rattle.meta_rows.specs.Prelude.{rows_after, key_of, entries_after, Entry, Rises, rows_of, HasSpace, IsFilling, Awaits, FirstNotBelow, TakesBelow, ops_left, IsMerging, Goes}
 use Rattle.meta_rows.proofs.PartLemmas.{less, turned, sorted_front, sorted_back, after_part, after_is, after_sorted}
 use Rattle.meta_rows.proofs.ChunkLemmas.{rest_above}
 use Rattle.meta_rows.proofs.FillLemmas.{later_await, all_await}

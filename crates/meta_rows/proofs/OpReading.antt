@@ -4,8 +4,7 @@ use Rattle.std.proofs.lemmas.List.{length-append}
 use Rattle.std.proofs.lemmas.List.Concat.{flat_map-cons}
 use Rattle.meta_rows.specs.declared.row_op.RowOp.{RowOp}
 use Rattle.meta_rows.specs.declared.row_op.RowOp.TheVariants.{Set, Drop, Flip}
-use Rattle.meta_rows.specs.Spelling.{key_bytes, value_bytes, op_bytes, ops_bytes, IsKey, FitsRowOp, AllFit}
-use Rattle.meta_rows.specs.Reading.{IsValue, BeginsWithNo, Reads, SpellOps}
+use Rattle.meta_rows.specs.Prelude.{key_bytes, value_bytes, op_bytes, ops_bytes, IsKey, FitsRowOp, AllFit, IsValue, BeginsWithNo, Reads, SpellOps}
 use Rattle.meta_rows.proofs.Ops.{key_front, op_front, length-op_bytes}
 
 -- behind the key of a set or of a flip there is a value

@@ -5,7 +5,7 @@ use Rattle.std.proofs.lemmas.List.{length-append}
 use Rattle.std.proofs.lemmas.List.Concat.{flat_map-cons}
 use Rattle.meta_rows.specs.declared.row_op.RowOp.{RowOp}
 use Rattle.meta_rows.specs.declared.row_op.RowOp.TheVariants.{Set, Drop, Flip}
-use Rattle.meta_rows.specs.Spelling.{key_bytes, value_bytes, op_bytes, ops_bytes, IsKey, FitsRowOp, AllFit}
+use Rattle.meta_rows.specs.Prelude.{key_bytes, value_bytes, op_bytes, ops_bytes, IsKey, FitsRowOp, AllFit}
 use Rattle.meta_rows.proofs.FieldLemmas.{text_front, wide16, wide32}
 
 rest_of : (a b : ℕ) (x y : List ℕ) → a ∷ x ≡ b ∷ y → x ≡ y

@@ -10,10 +10,8 @@ use Rattle.std.specs.FinMap as map
 use Rattle.std.specs.FinMap.{find, put, is_sorted, get-from_sorted}
 use Rattle.std.specs.FinMap.Entries.{below_all, by_order}
 use Rattle.byte_maps.specs.ByteMap.{byte_order}
-use Rattle.byte_maps.proofs.Places.{both_first, both_second, find_below, without, sorted_put, put_is_insert, sorted_without, without_is_remove, Stands, Lacks}
-use Rattle.byte_maps.proofs.Laws.{insert-remove}
-use Rattle.meta_rows.specs.Rows.{Rows, xor_bytes, all_zero, row, row_after, key_of}
-use Rattle.meta_rows.specs.Table.{AllBelow, with_left, value_left, with_value, entries_after, left_at, come_at}
+use Rattle.byte_maps.proofs.Prelude.{both_first, both_second, find_below, without, sorted_put, put_is_insert, sorted_without, without_is_remove, Stands, Lacks, insert-remove}
+use Rattle.meta_rows.specs.Prelude.{Rows, xor_bytes, all_zero, row, row_after, key_of, AllBelow, with_left, value_left, with_value, entries_after, left_at, come_at}
 use Rattle.meta_rows.specs.declared.row_op.RowOp.{RowOp}
 use Rattle.meta_rows.specs.declared.row_op.RowOp.TheVariants.{Set, Drop, Flip}
 

@@ -11,9 +11,8 @@ use Rattle.std.specs.FinMap as map
 use Rattle.std.specs.FinMap.{is_sorted, entries-from_sorted}
 use Rattle.std.specs.FinMap.Entries.{where_key, below_all}
 use Rattle.byte_maps.specs.ByteMap.{byte_order, in_range}
-use Rattle.byte_maps.proofs.Places.{same_bytes, both_first, both_second}
-use Rattle.meta_rows.specs.Table.{NoneBelow, is_from_to, rows_from_to, StartsAt, EndsAt}
-use Rattle.meta_rows.specs.Rows.{Rows}
+use Rattle.byte_maps.proofs.Prelude.{same_bytes, both_first, both_second}
+use Rattle.meta_rows.specs.Prelude.{NoneBelow, is_from_to, rows_from_to, StartsAt, EndsAt, Rows}
 use Rattle.std.proofs.Math.Seq.{drop-nil, take-nil}
 use Rattle.std.proofs.lemmas.List.{drop-take, take_all}
 

@@ -11,14 +11,10 @@ use Rattle.std.proofs.lemmas.List.{length-append, at_drop_more}
 use Rattle.std.proofs.lemmas.List.Concat.{flat_map-cons}
 use Rattle.byte_maps.specs.ByteMap.{byte_order}
 use Rattle.byte_maps.specs.Totals.{added, share}
-use Rattle.byte_maps.proofs.Places.{same_bytes, none_is_empty}
-use Rattle.byte_maps.proofs.Laws.{after_insert, after_remove, insert-remove}
-use Rattle.byte_maps.proofs.Sums.{total-insert}
+use Rattle.byte_maps.proofs.Prelude.{same_bytes, none_is_empty, after_insert, after_remove, insert-remove, total-insert}
 use Rattle.meta_rows.specs.declared.row_op.RowOp.{RowOp}
 use Rattle.meta_rows.specs.declared.row_op.RowOp.TheVariants.{Set, Drop, Flip}
-use Rattle.meta_rows.specs.Rows.{Rows, xor_bytes, all_zero, row, with_row, row_after, rows_after, key_of, LeaveAlone}
-use Rattle.meta_rows.specs.Spelling.{key_bytes, value_bytes, op_bytes, ops_bytes}
-use Rattle.meta_rows.specs.Table.{rows_size}
+use Rattle.meta_rows.specs.Prelude.{Rows, xor_bytes, all_zero, row, with_row, row_after, rows_after, key_of, LeaveAlone, key_bytes, value_bytes, op_bytes, ops_bytes, rows_size}
 use Rattle.meta_rows.proofs.XorLemmas.{length-xor_bytes}
 
 -- ---- one key

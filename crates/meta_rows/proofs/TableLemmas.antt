@@ -5,8 +5,7 @@ use Rattle.std.specs.FinMap.{is_sorted}
 use Rattle.std.proofs.lemmas.List.{length-append, length-take-le, take_at, get_or-drop, take-append-le, drop-append-le, drop_all}
 use Rattle.std.specs.Prelude.{true, false}
 use Rattle.byte_maps.specs.ByteMap.{byte_order}
-use Rattle.meta_rows.specs.Table.{AllBelow, NoneBelow, StartsAt, EndsAt}
-use Rattle.meta_rows.specs.Chunks.{Entry, joined, NoneEmpty, BelongsIn, IsPlace, rows_before}
+use Rattle.meta_rows.specs.Prelude.{AllBelow, NoneBelow, StartsAt, EndsAt, Entry, joined, NoneEmpty, BelongsIn, IsPlace, rows_before}
 use Rattle.meta_rows.proofs.PartLemmas.{sorted_front, sorted_back}
 use Rattle.meta_rows.proofs.RangeLemmas.{all_from, range_none}
 use Rattle.meta_rows.proofs.ChunkLemmas.{cut, joined-append, all_both, front_is, chunk_is, parts_are}

@@ -7,7 +7,7 @@ use Rattle.std.proofs.lemmas.List.{set-get_or}
 use Rattle.std.proofs.lemmas.Nat.{xor_comm}
 use Rattle.std.specs.Int.Bits.{xor_zero_r}
 use Rattle.std.proofs.lemmas.Bool.{eqb-true, false≢true}
-use Rattle.meta_rows.specs.Rows.{xor_bytes, all_zero}
+use Rattle.meta_rows.specs.Prelude.{xor_bytes, all_zero}
 
 pub xor_bytes-none : (xs : List ℕ) → xor_bytes xs [] ≡ xs
 xor_bytes-none [] = refl

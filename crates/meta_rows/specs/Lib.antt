@@ -5,3 +5,4 @@ pub mod Chunks
 pub mod Filling
 pub mod Merging
 pub mod Reading
+pub mod Prelude

@@ -3,12 +3,9 @@ use Rattle.std.proofs.Common.{◌≡◌, ℕ, ◌+◌, ◌*◌, ◌%◌, ◌<◌
 use Rattle.std.specs.Prelude.{IfSome, MatchOption}
 use Rattle.std.proofs.Math.Nat.{mul-le-mul_left}
 use Rattle.std.specs.Option.{option_map}
-use Rattle.meta_log.specs.Records.{unit_count}
-use Rattle.meta_log.specs.Pieces.{piece_count, piece_first, piece_units}
-use Rattle.meta_log.specs.Sealed.{sealed_units, piece_bytes}
+use Rattle.meta_log.specs.Prelude.{unit_count, piece_count, piece_first, piece_units, sealed_units, piece_bytes, active_unit}
 use Rattle.meta_log.proofs.PieceLemmas.{lies}
 use Rattle.meta_log.proofs.SealLemmas.{length-piece_bytes}
-use Rattle.meta_log.specs.Slots.{active_unit}
 use Rattle.meta_store.specs.declared.store.BegunRecord.{BegunRecord}
 use Rattle.meta_store.specs.declared.store.MetaStore.TheInside.{Inside}
 use Rattle.meta_store.specs.Store.{Begun, Meta, IsMeta, IsBegun, IsNextPiece, LiesBehindTail, IsPieceLeft, IsPieceOut, with_given}

@@ -4,12 +4,9 @@ use Rattle.std.specs.Option.{option_map}
 use Rattle.std.specs.FinMap as map
 use Rattle.std.specs.Coded.{Coded, coded_ℕ, coded_list}
 use Rattle.meta_rows.specs.declared.row_op.RowOp.{RowOp}
-use Rattle.meta_rows.specs.Rows.{Rows, rows_after}
+use Rattle.meta_rows.specs.Prelude.{Rows, rows_after}
 use Rattle.meta_log.specs.declared.slot.Super.{Super}
-use Rattle.meta_log.specs.Records.{unit_count}
-use Rattle.meta_log.specs.Pieces.{piece_count, piece_first}
-use Rattle.meta_log.specs.Sealed.{IsSealable, piece_bytes}
-use Rattle.meta_log.specs.Slots.{IsSuper, active_unit, data_unit}
+use Rattle.meta_log.specs.Prelude.{unit_count, piece_count, piece_first, IsSealable, piece_bytes, IsSuper, active_unit, data_unit}
 
 -- a record that is being written: its operations, and how many of its pieces were given and how many of these are written
 pub record Begun : Type 0 where

@@ -1,7 +1,6 @@
 //! The store: its rows, its room in the log, and the record that is being written.
 ghost use Rattle.std.specs.Prelude.{◌≡◌, ◌↔◌, ◌+◌, ◌-◌, ◌<◌, ◌≤◌, None, IsTrue, IfOk, IfErr, IfSome, OnOk, OnErr, OnSome, MatchOption};
-ghost use Rattle.meta_log.specs.Slots.{IsSuper, active_unit};
-ghost use Rattle.meta_log.specs.Sealed.{sealed_units};
+ghost use Rattle.meta_log.specs.Prelude.{IsSuper, active_unit, sealed_units};
 ghost use Rattle.meta_store.specs.Store.{IsMeta, found_meta, room_of, with_begun, with_given, with_written, after_flush};
 ghost use Rattle.meta_store.specs.Store.{IsAllGiven, IsPieceLeft, IsPieceOut, IsAllWritten, IsNextPiece, LiesBehindTail};
 

@@ -4,46 +4,29 @@ use Rattle.std.specs.List.{AllByRecursion}
 use Rattle.std.proofs.lemmas.Bool.{cases_lt, cases_eq}
 use Rattle.std.proofs.lemmas.List.{append-nil, take_all, take_at, take-append-le, drop-drop, length-append}
 use Rattle.byte_maps.specs.Units.{unit_at, zeros, IsUnits}
-use Rattle.byte_maps.proofs.UnitLemmas.{length-zeros, unit_at-zeros, unit_at-units_from}
-use Rattle.block_device.specs.Log.{last, WritesUnit, IsClean}
-use Rattle.block_device.specs.Disk.{History}
-use Rattle.block_device.specs.Facts.{with_event, last_at, EventFits}
+use Rattle.byte_maps.proofs.Prelude.{length-zeros, unit_at-zeros, unit_at-units_from}
+use Rattle.block_device.specs.Prelude.{last, WritesUnit, IsClean, History, with_event, last_at, EventFits}
 use Rattle.block_device.specs.declared.event.Event.{Event}
 use Rattle.block_device.specs.declared.event.Event.TheVariants.{Write, Flush, Done}
 use Rattle.block_device.proofs.LogLemmas.{last-push, length-after_event, clean_push, each_cut_push, slice_get-lt}
 use Rattle.block_device.proofs.QuietLemmas.{written_unit}
 use Rattle.object_model.specs.declared.book.Book.{Book}
-use Rattle.object_model.specs.Objects.{Objects}
+use Rattle.object_model.specs.Prelude.{Objects}
 use Rattle.meta_rows.specs.declared.row_op.RowOp.{RowOp}
 use Rattle.meta_log.specs.declared.slot.Super.{Super}
-use Rattle.meta_log.specs.Records.{active_half, AreRowsOf}
-use Rattle.meta_log.specs.Scanning.{units_of_records}
+use Rattle.meta_log.specs.Prelude.{active_half, AreRowsOf, units_of_records, width_of, IsSuper, IsActiveSlot, active_unit}
 use Rattle.meta_log.proofs.SlotLemmas.{same_active}
-use Rattle.meta_log.specs.Slots.{width_of, IsSuper, IsActiveSlot, active_unit}
-use Rattle.store_image.specs.BadRows.{NoBadRow}
-use Rattle.store_image.specs.Owners.{IsOwned, IsExactAs}
-use Rattle.store_image.specs.Stands.{ObjectsStand, StandsFor}
-use Rattle.store_image.specs.Durability.{LeavesPrefix, EachCutStands}
-use Rattle.store_image.proofs.ExactLemmas.{as_image, stays_by_rows}
-use Rattle.store_image.proofs.OneObjects.{same_rows}
-use Rattle.store_image.proofs.OwnedUnits.{objects_stand}
-use Rattle.store_image.proofs.PageUnits.{page_owned}
-use Rattle.store_image.proofs.StartLemmas.{start_is_durable}
-use Rattle.log_facts.specs.Flushing.{WritesNoneOf}
-use Rattle.log_facts.specs.SlotFacts.{SlotsStand}
-use Rattle.log_facts.specs.FoundHalf.{RecordsStand, EndsInZeros}
-use Rattle.log_facts.specs.Soundness.{SoundFor}
+use Rattle.store_image.specs.Prelude.{NoBadRow, IsOwned, IsExactAs, ObjectsStand, StandsFor, LeavesPrefix, EachCutStands}
+use Rattle.store_image.proofs.Prelude.{as_image, stays_by_rows, same_rows, objects_stand, page_owned, start_is_durable}
+use Rattle.log_facts.specs.Prelude.{WritesNoneOf, SlotsStand, RecordsStand, EndsInZeros, SoundFor}
 use Rattle.log_facts.proofs.Keeping.{slots_push, last_push, written_behind, half_spares_slots, half_spares_data}
 use Rattle.log_facts.proofs.Mounting.{fresh_slots}
 use Rattle.log_facts.proofs.Reading.{half_inside}
 use Rattle.log_facts.proofs.Found.{found_records, records_push, records_left, objects_left, cleared_half}
-use Rattle.store_steps.specs.Opened.{Found}
+use Rattle.store_steps.specs.Prelude.{Found}
 use Rattle.plan_rows.proofs.OnData.{owned_on_data}
 use Rattle.crash_facts.specs.Store.{contents_at, IsMounted}
-use Rattle.log_replay.specs.Cleared.{IsAllClean}
-use Rattle.log_replay.specs.Zeroing.{IsZeroing}
-use Rattle.log_replay.specs.Clearing.{IsCleared, ClearsSoFar}
-use Rattle.log_replay.specs.Opening.{IsFoundIn}
+use Rattle.log_replay.specs.Prelude.{IsAllClean, IsZeroing, IsCleared, ClearsSoFar, IsFoundIn}
 use Rattle.mount_replay.specs.Mounting.{behind_records}
 use Rattle.log_replay.proofs.RunLemmas.{by_length}
 

@@ -3,26 +3,19 @@ use Rattle.std.proofs.Common.{◌≡◌, ℕ, ◌+◌, ◌*◌, ◌<◌, ◌≤�
 use Rattle.std.specs.Prelude.{IfSome, All, Contains}
 use Rattle.std.proofs.lemmas.List.{take_at}
 use Rattle.byte_maps.specs.Units.{IsUnits}
-use Rattle.block_device.specs.Log.{last, IsClean}
-use Rattle.block_device.specs.Disk.{Disk, History, IsSound}
-use Rattle.object_model.specs.Objects.{Objects}
-use Rattle.meta_log.specs.Records.{active_half}
-use Rattle.store_image.specs.Stands.{StandsFor}
-use Rattle.store_image.specs.Durability.{IsStart, EachCutStands}
-use Rattle.unit_allocator.specs.Units.{Space}
-use Rattle.store_steps.specs.State.{State}
-use Rattle.store_steps.specs.Opened.{Found, opened}
-use Rattle.plan_rows.specs.Keeps.{IsGood}
-use Rattle.space_facts.proofs.Spaces.{counted_none}
-use Rattle.store_facts.specs.Kept.{IsOpenable, IsKept}
-use Rattle.store_facts.proofs.Kept.{kept_open}
+use Rattle.block_device.specs.Prelude.{last, IsClean, Disk, History, IsSound}
+use Rattle.object_model.specs.Prelude.{Objects}
+use Rattle.meta_log.specs.Prelude.{active_half}
+use Rattle.store_image.specs.Prelude.{StandsFor, IsStart, EachCutStands}
+use Rattle.unit_allocator.specs.Prelude.{Space}
+use Rattle.store_steps.specs.Prelude.{State, Found, opened}
+use Rattle.plan_rows.specs.Prelude.{IsGood}
+use Rattle.space_facts.proofs.Prelude.{counted_none}
+use Rattle.store_facts.specs.Prelude.{IsOpenable, IsKept}
+use Rattle.store_facts.proofs.Prelude.{kept_open}
 use Rattle.crash_facts.specs.Store.{KeepsDurable, IsMounted}
 use Rattle.crash_facts.proofs.Keeping.{mounted_keeps}
-use Rattle.log_replay.specs.Calls.{Told, IsLater}
-use Rattle.log_replay.specs.Cleared.{IsAllClean}
-use Rattle.log_replay.specs.Clearing.{AreClearing, IsCleared, ClearsSoFar}
-use Rattle.log_replay.specs.Opening.{IsAbout, IsFoundIn, IsRefused, IsUnopenable, FailsMount}
-use Rattle.log_replay.specs.FoundOn.{IsFoundOn, IsJudged, as_found, first_behind, half_end, rest_of, AreStaleOf, IsLogCleared, ClearsLog}
+use Rattle.log_replay.specs.Prelude.{Told, IsLater, IsAllClean, AreClearing, IsCleared, ClearsSoFar, IsAbout, IsFoundIn, IsRefused, IsUnopenable, FailsMount, IsFoundOn, IsJudged, as_found, first_behind, half_end, rest_of, AreStaleOf, IsLogCleared, ClearsLog}
 use Rattle.mount_replay.specs.Mounting.{behind_records, WasOpened, IsOpenedOn, StaysDurable}
 use Rattle.log_replay.specs.declared.opening.MountFail.{MountFail}
 use Rattle.log_replay.specs.declared.opening.MountFail.TheVariants.{Memory, NoSuper, BadRow, NotExact, WornOut, Fault}

@@ -4,27 +4,18 @@ use Rattle.std.specs.Prelude.{All}
 use Rattle.std.proofs.lemmas.List.Elements.{All-drop}
 use Rattle.std.specs.List.{AllByRecursion}
 use Rattle.byte_maps.specs.Units.{IsUnits, zeros}
-use Rattle.block_device.specs.Log.{last}
-use Rattle.block_device.specs.Disk.{Disk, History, IsSound}
-use Rattle.block_device.specs.Facts.{last_at}
+use Rattle.block_device.specs.Prelude.{last, Disk, History, IsSound, last_at}
 use Rattle.block_device.specs.declared.event.Event.{Event}
 use Rattle.block_device.specs.declared.event.Event.TheVariants.{Write, Flush, Done}
-use Rattle.object_model.specs.Objects.{Objects}
+use Rattle.object_model.specs.Prelude.{Objects}
 use Rattle.meta_log.specs.declared.slot.Super.{Super}
-use Rattle.meta_log.specs.Records.{AreRowsOf}
+use Rattle.meta_log.specs.Prelude.{AreRowsOf, width_of, active_unit}
 use Rattle.meta_log.proofs.SlotLemmas.{same_active}
-use Rattle.meta_log.specs.Slots.{width_of, active_unit}
-use Rattle.store_image.specs.BadRows.{NoBadRow}
-use Rattle.store_image.specs.Stands.{StandsFor, ObjectsStand}
-use Rattle.store_image.proofs.OneObjects.{same_rows}
-use Rattle.unit_allocator.specs.Units.{Space}
-use Rattle.store_steps.specs.State.{State}
-use Rattle.store_steps.specs.Opened.{Found}
-use Rattle.log_replay.specs.Calls.{Told, GoesOnBy}
-use Rattle.log_replay.specs.Cleared.{IsAllClean}
-use Rattle.log_replay.specs.Zeroing.{UnitRun, AreRuns, run_events, IsZeroing}
-use Rattle.log_replay.specs.Clearing.{IsFirstPart, flushed_runs, AreClearing, ClearsSoFar}
-use Rattle.log_replay.specs.Opening.{IsAbout, IsFoundIn, IsUnopenable, FailsMount}
+use Rattle.store_image.specs.Prelude.{NoBadRow, StandsFor, ObjectsStand}
+use Rattle.store_image.proofs.Prelude.{same_rows}
+use Rattle.unit_allocator.specs.Prelude.{Space}
+use Rattle.store_steps.specs.Prelude.{State, Found}
+use Rattle.log_replay.specs.Prelude.{Told, GoesOnBy, IsAllClean, UnitRun, AreRuns, run_events, IsZeroing, IsFirstPart, flushed_runs, AreClearing, ClearsSoFar, IsAbout, IsFoundIn, IsUnopenable, FailsMount}
 use Rattle.mount_replay.specs.Mounting.{behind_records, WasOpened, IsOpenedOn}
 use Rattle.mount_replay.specs.Mounted.{HoldsObjects, BeginsWith, RefusesStore}
 use Rattle.log_replay.specs.declared.opening.MountFail.{MountFail}

@@ -5,16 +5,13 @@ use Rattle.std.proofs.lemmas.List.Elements.{All-push, All-from_recursion}
 use Rattle.block_device.specs.declared.device.Ticket.{Ticket}
 use Rattle.block_device.specs.declared.event.Event.{Event}
 use Rattle.block_device.specs.declared.event.Event.TheVariants.{Done}
-use Rattle.block_device.specs.Disk.{Disk, IsSound, History, history_after, Waited}
+use Rattle.block_device.specs.Prelude.{Disk, IsSound, History, history_after, Waited}
 use Rattle.store_steps.specs.declared.step.Step.TheVariants.{Reap}
 use Rattle.store_steps.specs.declared.flight.Flying.{Flying}
 use Rattle.store_steps.specs.declared.flight.Job.{Job}
 use Rattle.store_steps.specs.declared.flight.Job.TheVariants as job
-use Rattle.store_steps.specs.State.{State}
-use Rattle.store_steps.specs.Changes.{after_done, after_good, flying_of, landed, reaped}
-use Rattle.store_steps.specs.Steps.{Takes}
-use Rattle.store_steps.specs.Runs.{Call, stepping, Calls, IsRun}
-use Rattle.log_replay.specs.Calls.{Told, GoesOn, IsLater}
+use Rattle.store_steps.specs.Prelude.{State, after_done, after_good, flying_of, landed, reaped, Takes, Call, stepping, Calls, IsRun}
+use Rattle.log_replay.specs.Prelude.{Told, GoesOn, IsLater}
 use Rattle.mount_replay.specs.Mounting.{IsReapedTo}
 use Rattle.log_replay.proofs.ZeroLemmas.{told_start, goes_on_same, goes_on_join}
 use Rattle.log_replay.proofs.MadeLemmas.{told_join}

@@ -1,17 +1,12 @@
 -- What a mount answers where the contents stand for objects.
 use Rattle.std.specs.Prelude.{◌≡◌, ℕ, [], length, Some, None}
-use Rattle.block_device.specs.Log.{last}
-use Rattle.block_device.specs.Disk.{Disk, History, IsSound, Rose}
-use Rattle.block_device.specs.Facts.{last_at}
-use Rattle.object_model.specs.Objects.{Objects}
-use Rattle.meta_log.specs.Slots.{width_of}
-use Rattle.store_image.specs.Stands.{StandsFor, ObjectsStand}
-use Rattle.store_image.specs.Durability.{EachCutStands}
-use Rattle.unit_allocator.specs.Units.{Space}
-use Rattle.store_steps.specs.State.{State}
-use Rattle.store_steps.specs.Opened.{Found}
-use Rattle.log_replay.specs.Cleared.{IsAllClean}
-use Rattle.log_replay.specs.Opening.{IsUnopenable, FailsMount}
+use Rattle.block_device.specs.Prelude.{last, Disk, History, IsSound, Rose, last_at}
+use Rattle.object_model.specs.Prelude.{Objects}
+use Rattle.meta_log.specs.Prelude.{width_of}
+use Rattle.store_image.specs.Prelude.{StandsFor, ObjectsStand, EachCutStands}
+use Rattle.unit_allocator.specs.Prelude.{Space}
+use Rattle.store_steps.specs.Prelude.{State, Found}
+use Rattle.log_replay.specs.Prelude.{IsAllClean, IsUnopenable, FailsMount}
 use Rattle.mount_replay.specs.Mounting.{IsOpenedOn}
 use Rattle.log_replay.specs.declared.opening.MountFail.{MountFail}
 use Rattle.log_replay.specs.declared.opening.MountFail.TheVariants.{Memory, NoSuper, BadRow, NotExact, WornOut, Fault}

@@ -1,23 +1,15 @@
 -- What mounting a store makes, and what unmounting it does.
 use Rattle.std.specs.Prelude.{◌≡◌, ℕ, ◌+◌, ◌*◌, List, [], length, drop, Some, All}
-use Rattle.block_device.specs.Log.{last}
-use Rattle.block_device.specs.Disk.{Disk, History}
+use Rattle.block_device.specs.Prelude.{last, Disk, History}
 use Rattle.block_device.specs.declared.event.Event.{Event}
-use Rattle.meta_log.specs.Records.{active_half}
-use Rattle.meta_log.specs.Slots.{active_unit}
-use Rattle.object_model.specs.Objects.{Objects}
-use Rattle.store_image.specs.Stands.{StandsFor}
-use Rattle.store_image.specs.Durability.{EachCutStands}
-use Rattle.unit_allocator.specs.Units.{Space}
+use Rattle.meta_log.specs.Prelude.{active_half, active_unit}
+use Rattle.object_model.specs.Prelude.{Objects}
+use Rattle.store_image.specs.Prelude.{StandsFor, EachCutStands}
+use Rattle.unit_allocator.specs.Prelude.{Space}
 use Rattle.store_steps.specs.declared.step.Step.TheVariants.{Reap}
-use Rattle.store_steps.specs.State.{State}
-use Rattle.store_steps.specs.Opened.{Found, opened}
-use Rattle.store_steps.specs.Runs.{Call, stepping, IsRun}
-use Rattle.store_facts.specs.Kept.{IsOpenable}
-use Rattle.log_replay.specs.Calls.{Told, GoesOn, GoesOnBy, IsLater}
-use Rattle.log_replay.specs.Cleared.{IsAllClean}
-use Rattle.log_replay.specs.Clearing.{AreClearing}
-use Rattle.log_replay.specs.Opening.{IsAbout, IsFoundIn, HasLowNumbers, AreUnmarkedFree}
+use Rattle.store_steps.specs.Prelude.{State, Found, opened, Call, stepping, IsRun}
+use Rattle.store_facts.specs.Prelude.{IsOpenable}
+use Rattle.log_replay.specs.Prelude.{Told, GoesOn, GoesOnBy, IsLater, IsAllClean, AreClearing, IsAbout, IsFoundIn, HasLowNumbers, AreUnmarkedFree}
 
 -- the bytes of the active half behind the records
 abbrev pub behind_records : List ℕ → Found → List ℕ

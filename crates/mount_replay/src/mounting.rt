@@ -1,15 +1,10 @@
 //! Mounting a store and unmounting it.
 ghost use Rattle.std.specs.Prelude.{◌≡◌, ◌≢◌, ◌≤◌, ℕ, List, [], true, false, IfOk, IfErr, IsErrOf, MatchResult};
-ghost use Rattle.block_device.specs.Disk.{IsSound, Rose};
-ghost use Rattle.unit_allocator.specs.Units.{Space};
+ghost use Rattle.block_device.specs.Prelude.{IsSound, Rose};
+ghost use Rattle.unit_allocator.specs.Prelude.{Space};
 ghost use Rattle.store_steps.specs.declared.step.Step.TheVariants.{Reap};
-ghost use Rattle.store_steps.specs.State.{State};
-ghost use Rattle.store_steps.specs.Opened.{Found};
-ghost use Rattle.store_steps.specs.Ready.{is_ready};
-ghost use Rattle.store_steps.specs.Runs.{Calls, stepping};
-ghost use Rattle.log_replay.specs.Calls.{Told, IsLater};
-ghost use Rattle.log_replay.specs.Opening.{FailsMount, SubmitsNothing};
-ghost use Rattle.log_replay.specs.FoundOn.{IsFoundOn, IsJudged, AreStaleOf, IsLogCleared, ClearsLog, as_found};
+ghost use Rattle.store_steps.specs.Prelude.{State, Found, is_ready, Calls, stepping};
+ghost use Rattle.log_replay.specs.Prelude.{Told, IsLater, FailsMount, SubmitsNothing, IsFoundOn, IsJudged, AreStaleOf, IsLogCleared, ClearsLog, as_found};
 ghost use Rattle.mount_replay.specs.Mounting.{IsOpenedOn, StaysDurable, IsReapedTo};
 
 use block_device::{Device, Failed};

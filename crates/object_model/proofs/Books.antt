@@ -4,8 +4,7 @@ use Rattle.std.specs.List.{IsDistinct}
 use Rattle.object_model.specs.declared.book.Entry.{Entry}
 use Rattle.object_model.specs.declared.book.Commit.{Commit}
 use Rattle.object_model.specs.declared.book.Book.{Book}
-use Rattle.object_model.specs.Objects.{Objects}
-use Rattle.object_model.specs.Book.{IsLegal}
+use Rattle.object_model.specs.Prelude.{Objects, IsLegal}
 
 nothing : (objects : Objects) → IsLegal objects (record { entries = []; commits = [] })
 unfolding IsDistinct

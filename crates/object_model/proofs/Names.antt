@@ -6,8 +6,8 @@ use Rattle.std.specs.declared.cmp.Ordering.{Ordering}
 use Rattle.std.specs.declared.cmp.Ordering.TheVariants.{Less, Equal, Greater}
 use Rattle.std.specs.Cmp.Lexicographic.{nat_list_cmp_total}
 use Rattle.std.proofs.lemmas.Bool.{or_parts}
-use Rattle.byte_maps.proofs.Places.{same_bytes}
-use Rattle.object_model.specs.Effect.{Change, is_same, names_of, is_named, any_named, OneName, HaveOneName}
+use Rattle.byte_maps.proofs.Prelude.{same_bytes}
+use Rattle.object_model.specs.Prelude.{Change, is_same, names_of, is_named, any_named, OneName, HaveOneName}
 
 -- ---- names that are the same
 

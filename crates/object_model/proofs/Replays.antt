@@ -2,11 +2,9 @@
 use Rattle.std.proofs.Common.{◌≡◌, ℕ, Bool, true, false, cond, List, [], ◌∷◌, ◌++◌, filter, Option, Some, None, Ok, Err, refl, sym, ap, ◌∙◌}
 use Rattle.std.specs.Cmp.Lexicographic.{nat_list_cmp_total}
 use Rattle.std.specs.FinMap as finite
-use Rattle.byte_maps.proofs.Laws.{same}
+use Rattle.byte_maps.proofs.Prelude.{same}
 use Rattle.object_model.specs.declared.op.Refusal.{Refusal}
-use Rattle.object_model.specs.Objects.{Collection, Objects}
-use Rattle.object_model.specs.Effect.{Outcome, Change, effects, with_collection, transaction_effect, ok_or, replay, is_same, ◌>>=◌}
-use Rattle.object_model.specs.Effect.{names_of, is_named, any_named, changes_on, HaveOneName}
+use Rattle.object_model.specs.Prelude.{Collection, Objects, Outcome, Change, effects, with_collection, transaction_effect, ok_or, replay, is_same, ◌>>=◌, names_of, is_named, any_named, changes_on, HaveOneName}
 use Rattle.object_model.proofs.Names.{same_name, is_same_itself, is_own, own_test, none_common}
 
 pub replay-append : (objects : Objects) (xs ys : List Change) → replay objects (xs ++ ys) ≡ replay (replay objects xs) ys

@@ -3,3 +3,4 @@ pub mod Effect
 pub mod Limits
 pub mod Reply
 pub mod Book
+pub mod Prelude

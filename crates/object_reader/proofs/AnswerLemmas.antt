@@ -3,35 +3,25 @@ use Rattle.std.proofs.Common.{◌≡◌, ℕ, ◌+◌, ◌/◌, ◌≤◌, Bool,
 use Rattle.std.specs.Prelude.{not, nat_lt, Result, Ok, Err, IsOk, IfOk, IfErr, MatchOption}
 use Rattle.std.specs.FinMap as finite
 use Rattle.std.proofs.lemmas.Bool.{le-ltb}
-use Rattle.block_device.specs.Disk.{Disk}
-use Rattle.object_model.specs.Objects.{Object}
-use Rattle.object_model.specs.Effect.{object_limit}
-use Rattle.object_model.specs.Reply.{answer_from, found_object}
-use Rattle.object_model.specs.Book.{is_refused}
+use Rattle.block_device.specs.Prelude.{Disk}
+use Rattle.object_model.specs.Prelude.{Object, object_limit, answer_from, found_object, is_refused}
 use Rattle.object_model.specs.declared.op.Refusal.{Refusal}
 use Rattle.object_model.specs.declared.op.Refusal.TheVariants.{NoObject, BadRange}
 use Rattle.object_model.specs.declared.command.Command.TheVariants as ask
 use Rattle.object_model.specs.declared.command.Answer.{Answer}
 use Rattle.object_model.specs.declared.command.Answer.TheVariants as answer
-use Rattle.meta_rows.specs.Rows.{Rows}
-use Rattle.unit_fields.specs.Names.{IsName, IsCollName}
+use Rattle.meta_rows.specs.Prelude.{Rows}
+use Rattle.unit_fields.specs.Prelude.{IsName, IsCollName}
 use Rattle.unit_fields.specs.declared.width.Width.{Width}
-use Rattle.row_format.specs.Extents.{Extent, own}
-use Rattle.row_format.specs.Keys.{coll_key, onode_key}
-use Rattle.row_format.specs.Row.{onode}
-use Rattle.store_image.specs.Pages.{HasKey, HasOnode, IsPageAt, HasPage}
-use Rattle.store_image.proofs.PageMap.{in_place}
-use Rattle.store_image.proofs.PageUnits.{on_own}
-use Rattle.page_lookup.specs.Found.{place_found}
-use Rattle.plan_rows.specs.Layouts.{IsSizeOf, missing, there}
+use Rattle.row_format.specs.Prelude.{Extent, own, coll_key, onode_key, onode}
+use Rattle.store_image.specs.Prelude.{HasKey, HasOnode, IsPageAt, HasPage}
+use Rattle.store_image.proofs.Prelude.{in_place, on_own}
+use Rattle.page_lookup.specs.Prelude.{place_found}
+use Rattle.plan_rows.specs.Prelude.{IsSizeOf, missing, there}
 use Rattle.object_rows.proofs.GoodPages.{good_page}
 use Rattle.onode_state.specs.Objects.{AreRowsOfAStore, AreRowsOfWidth, FindPagesOf}
 use Rattle.read_facts.specs.declared.view.BadSum.{BadSum}
-use Rattle.read_facts.specs.PageReads.{IsHeldAt, no_memory, pages_read}
-use Rattle.read_facts.specs.Refusals.{IsRefusedBy, IsNotRefused}
-use Rattle.read_facts.specs.Answers.{Gives, IsAnswerOf}
-use Rattle.read_facts.specs.Walks.{IsObject}
-use Rattle.read_facts.specs.Views.{sum_answer, IsViewOf}
+use Rattle.read_facts.specs.Prelude.{IsHeldAt, no_memory, pages_read, IsRefusedBy, IsNotRefused, Gives, IsAnswerOf, IsObject, sum_answer, IsViewOf}
 use Rattle.read_facts.proofs.Keys.{none_of}
 use Rattle.read_facts.proofs.Found.{answer_given, object_missing, object_there}
 use Rattle.object_reader.specs.declared.parts.PartFail.{PartFail}

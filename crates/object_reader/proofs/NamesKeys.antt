@@ -6,10 +6,10 @@ use Rattle.std.specs.declared.cmp.Ordering.{Ordering}
 use Rattle.std.specs.declared.cmp.Ordering.TheVariants.{Less, Equal, Greater}
 use Rattle.std.proofs.lemmas.Cmp.{tied_itself, nat_list_cmp_total}
 use Rattle.byte_maps.specs.ByteMap.{byte_order, in_range}
-use Rattle.unit_fields.specs.Names.{IsName}
-use Rattle.row_format.specs.Keys.{coll_key, onode_key}
+use Rattle.unit_fields.specs.Prelude.{IsName}
+use Rattle.row_format.specs.Prelude.{coll_key, onode_key}
 use Rattle.row_reading.proofs.KeyOrder.{after_front, has_front}
-use Rattle.read_facts.specs.Walks.{IsBehind}
+use Rattle.read_facts.specs.Prelude.{IsBehind}
 use Rattle.onode_codec.specs.Fronts.{colls_first, colls_end, objects_first, objects_end}
 use Rattle.object_reader.proofs.NamesRange.{from_range, to_range}
 use Rattle.object_reader.proofs.NamesOrder.{turned, turned_less, none_below, same_first, lesser_first, begins, ended, behind_zero, above_zero}

@@ -5,14 +5,13 @@ use Rattle.std.specs.Option.{IfSome}
 use Rattle.std.specs.FinMap as map
 use Rattle.std.specs.declared.cmp.Ordering.TheVariants.{Less}
 use Rattle.byte_maps.specs.ByteMap.{byte_order}
-use Rattle.meta_rows.specs.Rows.{Rows}
+use Rattle.meta_rows.specs.Prelude.{Rows}
 use Rattle.meta_log.specs.declared.slot.Super.{Super}
-use Rattle.meta_log.specs.Slots.{width_of}
-use Rattle.unit_fields.specs.Names.{IsName, IsCollName}
+use Rattle.meta_log.specs.Prelude.{width_of}
+use Rattle.unit_fields.specs.Prelude.{IsName, IsCollName}
 use Rattle.unit_fields.proofs.CollNames.{no_zero_in_coll}
-use Rattle.row_format.specs.Keys.{coll_key, onode_key}
-use Rattle.row_format.specs.Row.{Row, collection, onode, shard, bitmap, row_key, FitsRow}
-use Rattle.row_format.proofs.KeyLemmas.{same_head, first_zero, same_coll, coll_no_object, same_place, bitmap_no_coll}
+use Rattle.row_format.specs.Prelude.{coll_key, onode_key, Row, collection, onode, shard, bitmap, row_key, FitsRow}
+use Rattle.row_format.proofs.Prelude.{same_head, first_zero, same_coll, coll_no_object, same_place, bitmap_no_coll}
 use Rattle.onode_codec.specs.Fronts.{colls_first, colls_end, objects_first, objects_end}
 use Rattle.row_reading.proofs.KeyOrder.{page_bytes, onode_before}
 use Rattle.row_reading.specs.Reading.{IsNoKey, SpellsKey, part_bytes}
@@ -20,9 +19,8 @@ use Rattle.row_reading.specs.declared.key.Part.{Part}
 use Rattle.row_reading.specs.declared.key.Part.TheVariants.{Onode}
 use Rattle.row_reading.specs.declared.key.RowKey.{RowKey}
 use Rattle.row_reading.specs.declared.key.RowKey.TheVariants.{Collection, Object}
-use Rattle.store_image.specs.Pages.{HasKey}
-use Rattle.store_image.specs.BadRows.{IsGoodRow, IsInPlace, NoBadRow}
-use Rattle.read_facts.specs.Walks.{IsCollection, IsObject, IsBehind, IsNextOf, IsPast}
+use Rattle.store_image.specs.Prelude.{HasKey, IsGoodRow, IsInPlace, NoBadRow}
+use Rattle.read_facts.specs.Prelude.{IsCollection, IsObject, IsBehind, IsNextOf, IsPast}
 use Rattle.object_reader.specs.NextKeys.{IsLeastKey, HasNoKey}
 use Rattle.object_reader.proofs.NamesOrder.{same_first}
 use Rattle.object_reader.proofs.NamesKeys.{colls_key, coll_within, object_first, behind_coll}

@@ -10,9 +10,8 @@ use Rattle.std.specs.FinMap.{find, is_sorted}
 use Rattle.std.specs.FinMap.Entries.{below_all, is_sorted-where_key, find-where_key}
 use Rattle.std.proofs.lemmas.Cmp.{tied_itself, nat_list_cmp_total}
 use Rattle.byte_maps.specs.ByteMap.{byte_order, in_range}
-use Rattle.byte_maps.proofs.Places.{same_bytes, both_first, both_second}
-use Rattle.meta_rows.specs.Rows.{Rows}
-use Rattle.meta_rows.specs.Table.{rows_from_to}
+use Rattle.byte_maps.proofs.Prelude.{same_bytes, both_first, both_second}
+use Rattle.meta_rows.specs.Prelude.{Rows, rows_from_to}
 use Rattle.object_reader.specs.NextKeys.{IsLeastKey, HasNoKey}
 
 -- a row: its key and its value

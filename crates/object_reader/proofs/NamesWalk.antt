@@ -9,12 +9,11 @@ use Rattle.std.specs.FinMap as map
 use Rattle.std.specs.FinMap.{find}
 use Rattle.std.specs.FinMap.Entries.{where_key}
 use Rattle.byte_maps.specs.ByteMap.{byte_order, in_range}
-use Rattle.byte_maps.proofs.Places.{same_bytes}
-use Rattle.meta_rows.specs.Rows.{Rows}
-use Rattle.meta_rows.specs.Table.{rows_from_to}
-use Rattle.unit_fields.specs.Names.{IsName}
-use Rattle.row_format.specs.Keys.{onode_key}
-use Rattle.read_facts.specs.Walks.{IsObject, IsNextOf, IsPast, AreNext, last_of, AreAll}
+use Rattle.byte_maps.proofs.Prelude.{same_bytes}
+use Rattle.meta_rows.specs.Prelude.{Rows, rows_from_to}
+use Rattle.unit_fields.specs.Prelude.{IsName}
+use Rattle.row_format.specs.Prelude.{onode_key}
+use Rattle.read_facts.specs.Prelude.{IsObject, IsNextOf, IsPast, AreNext, last_of, AreAll}
 use Rattle.read_facts.proofs.Walks.{next_appended, last_appended}
 use Rattle.onode_codec.specs.Fronts.{objects_first, objects_end}
 use Rattle.object_reader.proofs.NamesKeys.{onode_within, own_before, range_within}

@@ -5,19 +5,17 @@ use Rattle.std.specs.Result.{IsErrAnd}
 use Rattle.std.proofs.lemmas.Bool.{cases_lt}
 use Rattle.std.proofs.lemmas.List.{length-take-le, get_or-set_same, get_or-set_other}
 use Rattle.byte_maps.specs.Units.{unit_at, zeros, IsUnits}
-use Rattle.byte_maps.proofs.UnitLemmas.{length-unit_at, length-zeros, unit_at-zeros, piece_of_front}
+use Rattle.byte_maps.proofs.Prelude.{length-unit_at, length-zeros, unit_at-zeros, piece_of_front}
 use Rattle.unit_fields.specs.declared.width.Width.{Width}
-use Rattle.crc32c_csum.specs.Crc32c.{after_bits, crc32c}
-use Rattle.block_device.specs.Log.{last, HasNoBadDone}
-use Rattle.block_device.specs.Disk.{Disk, History, HasRead, Flight, IsApart, IsNotInFlight}
-use Rattle.block_device.specs.Facts.{last_at}
-use Rattle.meta_rows.specs.Rows.{Rows}
-use Rattle.row_format.specs.Extents.{Extent, Place, own}
-use Rattle.store_image.proofs.PageUnits.{on_own}
-use Rattle.page_lookup.specs.Found.{place_found, HasUnit}
+use Rattle.crc32c_csum.specs.Prelude.{after_bits, crc32c}
+use Rattle.block_device.specs.Prelude.{last, HasNoBadDone, Disk, History, HasRead, Flight, IsApart, IsNotInFlight, last_at}
+use Rattle.meta_rows.specs.Prelude.{Rows}
+use Rattle.row_format.specs.Prelude.{Extent, Place, own}
+use Rattle.store_image.proofs.Prelude.{on_own}
+use Rattle.page_lookup.specs.Prelude.{place_found, HasUnit}
 use Rattle.onode_state.specs.Objects.{FindPagesOf}
 use Rattle.read_facts.specs.declared.view.BadSum.{BadSum}
-use Rattle.read_facts.specs.PageReads.{IsHeldAt, no_memory, IsGoodPage, hole, mapped, AreGoodPages, IsFirstBad}
+use Rattle.read_facts.specs.Prelude.{IsHeldAt, no_memory, IsGoodPage, hole, mapped, AreGoodPages, IsFirstBad}
 use Rattle.read_facts.proofs.Pages.{good_appended, none_good, bad_behind_good}
 use Rattle.object_reader.specs.declared.parts.PartFail.{PartFail}
 use Rattle.object_reader.specs.declared.parts.PartFail.TheVariants as why

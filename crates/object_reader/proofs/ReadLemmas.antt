@@ -5,13 +5,13 @@ use Rattle.std.proofs.lemmas.Bool.{ltb-true, ltb-false}
 use Rattle.std.proofs.lemmas.List.{take_all, length-take}
 use Rattle.std.proofs.Math.Seq.{take-append-add}
 use Rattle.byte_maps.specs.Units.{unit_at, IsUnits}
-use Rattle.byte_maps.proofs.UnitLemmas.{length-unit_at, piece_of_front}
-use Rattle.crc32c_csum.specs.Crc32c.{crc32c, remainder, all_ones}
+use Rattle.byte_maps.proofs.Prelude.{length-unit_at, piece_of_front}
+use Rattle.crc32c_csum.specs.Prelude.{crc32c, remainder, all_ones}
 use Rattle.crc32c_csum.proofs.Linear.{remainder-append}
-use Rattle.block_device.specs.Disk.{Disk}
-use Rattle.store_image.specs.Pages.{pages_of}
-use Rattle.row_format.specs.Extents.{Extent}
-use Rattle.read_facts.specs.PageReads.{read_end, pages_read}
+use Rattle.block_device.specs.Prelude.{Disk}
+use Rattle.store_image.specs.Prelude.{pages_of}
+use Rattle.row_format.specs.Prelude.{Extent}
+use Rattle.read_facts.specs.Prelude.{read_end, pages_read}
 use Rattle.object_reader.specs.Parts.{AreSums, GivesPages, IsPartFail, GivesRange, IsDigestOf, GivesSum}
 use Rattle.object_reader.specs.declared.parts.PartFail.{PartFail}
 use Rattle.object_reader.proofs.PartLemmas.{no_pages, more_pages, fails_behind}

@@ -1,12 +1,10 @@
 -- Collections and objects that plain objects of the rows' shape don't have, or have.
 use Rattle.std.specs.Prelude.{◌≡◌, List, ℕ, Err}
 use Rattle.object_model.specs.declared.op.Refusal.{Refusal}
-use Rattle.object_model.specs.Objects.{Objects}
-use Rattle.object_model.specs.Reply.{found_collection, found_object}
-use Rattle.meta_rows.specs.Rows.{Rows}
-use Rattle.row_format.specs.Keys.{coll_key, onode_key}
-use Rattle.store_image.specs.Pages.{HasKey}
-use Rattle.store_image.specs.Stands.{IsShape}
+use Rattle.object_model.specs.Prelude.{Objects, found_collection, found_object}
+use Rattle.meta_rows.specs.Prelude.{Rows}
+use Rattle.row_format.specs.Prelude.{coll_key, onode_key}
+use Rattle.store_image.specs.Prelude.{HasKey, IsShape}
 
 -- what looks for the collection is refused with this
 abbrev pub IsCollMissing : Rows → List ℕ → Refusal → Type 0

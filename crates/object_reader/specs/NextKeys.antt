@@ -2,8 +2,8 @@
 use Rattle.std.specs.Prelude.{◌≡◌, ℕ, true, List}
 use Rattle.std.specs.declared.cmp.Ordering.TheVariants.{Less}
 use Rattle.byte_maps.specs.ByteMap.{byte_order, in_range}
-use Rattle.meta_rows.specs.Rows.{Rows}
-use Rattle.store_image.specs.Pages.{HasKey}
+use Rattle.meta_rows.specs.Prelude.{Rows}
+use Rattle.store_image.specs.Prelude.{HasKey}
 
 -- of the keys of rows from `first` on that are below `end` it is the least
 pub record IsLeastKey (rows : Rows) (first end key : List ℕ) : Type 0 where

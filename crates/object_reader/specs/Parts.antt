@@ -2,15 +2,14 @@
 use Rattle.std.specs.Prelude.{◌≡◌, ◌≢◌, ℕ, ◌+◌, ◌-◌, ◌/◌, ◌%◌, ◌<◌, ◌≤◌, List, take, drop, get_or, Some, None}
 use Rattle.byte_maps.specs.Units.{unit_at, zeros, IsUnits}
 use Rattle.unit_fields.specs.declared.width.Width.{Width}
-use Rattle.crc32c_csum.specs.Crc32c.{crc32c, remainder, all_ones}
-use Rattle.block_device.specs.Disk.{Disk, HasRead}
-use Rattle.block_device.specs.Facts.{IsUntouched}
-use Rattle.meta_rows.specs.Rows.{Rows}
-use Rattle.row_format.specs.Extents.{Extent, own}
-use Rattle.page_lookup.specs.Found.{place_found}
+use Rattle.crc32c_csum.specs.Prelude.{crc32c, remainder, all_ones}
+use Rattle.block_device.specs.Prelude.{Disk, HasRead, IsUntouched}
+use Rattle.meta_rows.specs.Prelude.{Rows}
+use Rattle.row_format.specs.Prelude.{Extent, own}
+use Rattle.page_lookup.specs.Prelude.{place_found}
 use Rattle.onode_state.specs.Objects.{FindPagesOf}
 use Rattle.read_facts.specs.declared.view.BadSum.{BadSum}
-use Rattle.read_facts.specs.PageReads.{IsHeldAt, no_memory, AreGoodPages, IsFirstBad, read_end, pages_read}
+use Rattle.read_facts.specs.Prelude.{IsHeldAt, no_memory, AreGoodPages, IsFirstBad, read_end, pages_read}
 use Rattle.object_reader.specs.declared.parts.Run.{Run}
 use Rattle.object_reader.specs.declared.parts.Run.TheVariants.{Hole, Units}
 use Rattle.object_reader.specs.declared.parts.PartFail.{PartFail}

@@ -1,16 +1,13 @@
 -- What a read needs of rows and device, and what comes next in a walk.
 use Rattle.std.specs.Prelude.{◌≡◌, ℕ, List, Option, None}
 use Rattle.unit_fields.specs.declared.width.Width.{Width}
-use Rattle.block_device.specs.Disk.{Disk}
-use Rattle.block_device.specs.Facts.{IsUntouched}
-use Rattle.meta_rows.specs.Rows.{Rows}
+use Rattle.block_device.specs.Prelude.{Disk, IsUntouched}
+use Rattle.meta_rows.specs.Prelude.{Rows}
 use Rattle.meta_log.specs.declared.slot.Super.{Super}
-use Rattle.meta_log.specs.Slots.{IsSuper, width_of}
-use Rattle.store_image.specs.BadRows.{NoBadRow}
-use Rattle.store_image.specs.Pages.{HasPage}
+use Rattle.meta_log.specs.Prelude.{IsSuper, width_of}
+use Rattle.store_image.specs.Prelude.{NoBadRow, HasPage}
 use Rattle.read_facts.specs.declared.view.ObjectView.{ObjectView}
-use Rattle.read_facts.specs.Walks.{IsObject, IsNextOf}
-use Rattle.read_facts.specs.Views.{IsViewOf}
+use Rattle.read_facts.specs.Prelude.{IsObject, IsNextOf, IsViewOf}
 
 -- no row is bad for a store of as many units as the device has, with checksums of this width, and each unit on which a page stands, and that
 -- isn't in memory, is in no flight

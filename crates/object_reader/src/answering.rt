@@ -1,17 +1,14 @@
 //! Commands that read, answered.
 ghost use Rattle.std.specs.Prelude.{◌≡◌, ◌+◌, ◌≤◌, IfOk, IsErrOf, MatchOption};
 ghost use Rattle.std.specs.FinMap as finite;
-ghost use Rattle.block_device.specs.Disk.{Rose};
+ghost use Rattle.block_device.specs.Prelude.{Rose, Disk};
 ghost use Rattle.object_model.specs.declared.command.Command.TheVariants as ask;
-ghost use Rattle.object_model.specs.Effect.{object_limit};
+ghost use Rattle.object_model.specs.Prelude.{object_limit};
 ghost use Rattle.onode_state.specs.Objects.{AreRowsOfAStore};
-ghost use Rattle.block_device.specs.Disk.{Disk};
-ghost use Rattle.unit_fields.specs.Names.{IsName, IsCollName};
-ghost use Rattle.row_format.specs.Keys.{coll_key, onode_key};
-ghost use Rattle.store_image.specs.Pages.{HasKey};
-ghost use Rattle.read_facts.specs.PageReads.{IsHeldAt, no_memory};
-ghost use Rattle.read_facts.specs.Refusals.{IsRefusedBy};
-ghost use Rattle.read_facts.specs.Answers.{IsKnownRead, HasReadNames, IsAnswerOf};
+ghost use Rattle.unit_fields.specs.Prelude.{IsName, IsCollName};
+ghost use Rattle.row_format.specs.Prelude.{coll_key, onode_key};
+ghost use Rattle.store_image.specs.Prelude.{HasKey};
+ghost use Rattle.read_facts.specs.Prelude.{IsHeldAt, no_memory, IsRefusedBy, IsKnownRead, HasReadNames, IsAnswerOf};
 ghost use Rattle.object_reader.specs.Missing.{IsCollMissing, IsObjectMissing, HasObject};
 ghost use Rattle.object_reader.specs.Readable.{IsReadable};
 ghost use Rattle.object_reader.specs.PartFails.{IsCsumOf};

@@ -1,10 +1,10 @@
 //! Names of collections and objects, in byte order.
 ghost use Rattle.std.specs.Prelude.{◌≡◌, ℕ, List, IfOk, MatchOption};
 ghost use Rattle.std.specs.Option.{option_copied};
-ghost use Rattle.unit_fields.specs.Names.{IsName, IsCollName};
-ghost use Rattle.row_format.specs.Keys.{coll_key, onode_key};
+ghost use Rattle.unit_fields.specs.Prelude.{IsName, IsCollName};
+ghost use Rattle.row_format.specs.Prelude.{coll_key, onode_key};
 ghost use Rattle.onode_state.specs.Objects.{AreRowsOfAStore};
-ghost use Rattle.read_facts.specs.Walks.{IsCollection, IsObject, IsNextOf, IsPast, AreAll};
+ghost use Rattle.read_facts.specs.Prelude.{IsCollection, IsObject, IsNextOf, IsPast, AreAll};
 ghost use Rattle.object_reader.specs.NextKeys.{IsLeastKey, HasNoKey};
 
 use byte_maps::Bytes;

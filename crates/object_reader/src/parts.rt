@@ -1,10 +1,10 @@
 //! Pages read from the device, some at a time.
 ghost use Rattle.std.specs.Prelude.{◌≡◌, ◌+◌, ◌-◌, ◌*◌, ◌^◌, ◌<◌, ◌≤◌, None, Some, IsTrue, IfOk, IfErr, IfNone, IfSome, IsErrOf, OnOk, ℕ, length, get_or, min};
 ghost use Rattle.byte_maps.specs.Units.{unit_at, zeros, IsUnits};
-ghost use Rattle.page_lookup.specs.Found.{place_found};
-ghost use Rattle.crc32c_csum.specs.Crc32c.{crc32c};
-ghost use Rattle.row_format.specs.Extents.{own};
-ghost use Rattle.block_device.specs.Disk.{HasRead, IsNotInFlight, Rose};
+ghost use Rattle.page_lookup.specs.Prelude.{place_found};
+ghost use Rattle.crc32c_csum.specs.Prelude.{crc32c};
+ghost use Rattle.row_format.specs.Prelude.{own};
+ghost use Rattle.block_device.specs.Prelude.{HasRead, IsNotInFlight, Rose};
 ghost use Rattle.object_reader.specs.Parts.{HaveFewUnits, CanRead, AreHoles, AreKept, AreSums, IsRun, IsMismatch, IsUnitsFail, GivesPages, IsPartFail};
 ghost use Rattle.object_reader.specs.PartFails.{part_fail_of};
 ghost use Rattle.object_reader.specs.declared.parts.PartFail.TheVariants.{Memory};

@@ -1,10 +1,10 @@
 //! Bytes of an object, and their checksum.
 ghost use Rattle.std.specs.Prelude.{◌≡◌, ◌+◌, ◌-◌, ◌*◌, ◌/◌, ◌≤◌, ◌<◌, IfOk, IfErr, IsErrOf, length, take, drop};
-ghost use Rattle.block_device.specs.Disk.{Rose};
-ghost use Rattle.crc32c_csum.specs.Crc32c.{remainder};
-ghost use Rattle.object_model.specs.Effect.{object_limit};
-ghost use Rattle.store_image.specs.Pages.{pages_of};
-ghost use Rattle.read_facts.specs.PageReads.{pages_read};
+ghost use Rattle.block_device.specs.Prelude.{Rose};
+ghost use Rattle.crc32c_csum.specs.Prelude.{remainder};
+ghost use Rattle.object_model.specs.Prelude.{object_limit};
+ghost use Rattle.store_image.specs.Prelude.{pages_of};
+ghost use Rattle.read_facts.specs.Prelude.{pages_read};
 ghost use Rattle.object_reader.specs.Parts.{CanRead, AreSums, GivesPages, IsPartFail, GivesRange, GivesSum};
 
 use crate::parts::{PartFail, Sums, read_part};

@@ -1,10 +1,8 @@
 //! Walks over the objects of a collection.
 ghost use Rattle.std.specs.Prelude.{◌≡◌, ◌≤◌, IfOk, IsErrOf, MatchOption};
 ghost use Rattle.std.specs.Option.{option_copied};
-ghost use Rattle.block_device.specs.Disk.{Rose};
-ghost use Rattle.read_facts.specs.PageReads.{IsHeldAt, no_memory};
-ghost use Rattle.read_facts.specs.Walks.{IsObject, IsPast};
-ghost use Rattle.read_facts.specs.Views.{IsViewOf};
+ghost use Rattle.block_device.specs.Prelude.{Rose};
+ghost use Rattle.read_facts.specs.Prelude.{IsHeldAt, no_memory, IsObject, IsPast, IsViewOf};
 ghost use Rattle.object_reader.specs.PartFails.{IsSumOf};
 ghost use Rattle.object_reader.specs.Readable.{IsReadable, IsNextView};
 

@@ -3,26 +3,20 @@ use Rattle.std.proofs.Common.{◌≡◌, ◌⊎◌, ◌↔◌, inl, inr, ℕ, �
 use Rattle.std.specs.List.{AllByRecursion}
 use Rattle.std.specs.FinMap as map
 use Rattle.std.proofs.lemmas.Bool.{cases_lt}
-use Rattle.meta_rows.specs.Rows.{Rows}
+use Rattle.meta_rows.specs.Prelude.{Rows}
 use Rattle.meta_log.specs.declared.slot.Super.{Super}
-use Rattle.meta_log.specs.Slots.{width_of}
-use Rattle.object_model.specs.Effect.{object_limit}
-use Rattle.unit_fields.specs.Names.{IsName, IsCollName}
-use Rattle.row_format.specs.Keys.{coll_key, onode_key, shard_key, bitmap_key}
-use Rattle.row_format.specs.Extents.{Extent, FitsExtent, BeginsAt, ExtentsAscend, Place, own, place_of, page_end}
-use Rattle.row_format.specs.Row.{Row, collection, onode, shard, bitmap, row_key, row_value, FitsRow, FitsShard}
-use Rattle.row_format.proofs.KeyLemmas.{same_head, same_onode, same_shard, coll_no_object, onode_no_shard, bitmap_no_object}
-use Rattle.row_format.proofs.RowLemmas.{same_row}
-use Rattle.store_image.specs.Pages.{HasKey, HasRow, HasOnode, HasShard, PageUnit, IsPageAt, IsPageOn, pages_of}
-use Rattle.store_image.specs.BadRows.{IsOnData, IsShardInPlace, IsInPlace, IsGoodRow, NoBadRow}
-use Rattle.store_image.specs.Owners.{Owner, page_of, Owns, IsOwned, IsMarked}
-use Rattle.store_image.proofs.PageMap.{in_place}
-use Rattle.store_image.proofs.PageUnits.{stands_still}
+use Rattle.meta_log.specs.Prelude.{width_of}
+use Rattle.object_model.specs.Prelude.{object_limit}
+use Rattle.unit_fields.specs.Prelude.{IsName, IsCollName}
+use Rattle.row_format.specs.Prelude.{coll_key, onode_key, shard_key, bitmap_key, Extent, FitsExtent, BeginsAt, ExtentsAscend, Place, own, place_of, page_end, Row, collection, onode, shard, bitmap, row_key, row_value, FitsRow, FitsShard}
+use Rattle.row_format.proofs.Prelude.{same_head, same_onode, same_shard, coll_no_object, onode_no_shard, bitmap_no_object, same_row}
+use Rattle.store_image.specs.Prelude.{HasKey, HasRow, HasOnode, HasShard, PageUnit, IsPageAt, IsPageOn, pages_of, IsOnData, IsShardInPlace, IsInPlace, IsGoodRow, NoBadRow, Owner, page_of, Owns, IsOwned, IsMarked}
+use Rattle.store_image.proofs.Prelude.{in_place, stands_still}
 use Rattle.row_facts.proofs.Bits.{bits_stay}
 use Rattle.row_facts.proofs.ObjectUnder.{object_cases}
 use Rattle.row_facts.proofs.Shapes.{SameOthers}
-use Rattle.object_rows.specs.Operations.{CanReplace, replaced, IsOther, HasUnit, IsOwnedElsewhere}
-use Rattle.plan_rows.specs.Layouts.{IsKeyOf, AreReplaced}
+use Rattle.object_rows.specs.Prelude.{CanReplace, replaced, IsOther, HasUnit, IsOwnedElsewhere}
+use Rattle.plan_rows.specs.Prelude.{IsKeyOf, AreReplaced}
 use Rattle.object_rows.proofs.Ops.{are_replaced}
 
 -- the first extent begins at the page, or not

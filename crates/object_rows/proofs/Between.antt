@@ -10,15 +10,12 @@ use Rattle.unit_fields.specs.declared.width.Width.{Width}
 use Rattle.number_map.specs.NumberMap.{is_in}
 use Rattle.number_map.proofs.Places.{both_first, both_second}
 use Rattle.number_map.proofs.Search.{cmp_equal, cmp_less, cmp_greater, less_is}
-use Rattle.meta_rows.specs.Rows.{Rows}
-use Rattle.row_format.specs.Extents.{Place, own}
-use Rattle.store_image.specs.Pages.{IsPageAt}
-use Rattle.store_image.specs.Owners.{page_of, Owns, HasSoleOwner}
-use Rattle.blob_map.specs.Pages.{PageMap}
-use Rattle.plan_rows.specs.Layouts.{IsMapOf, own_units}
-use Rattle.object_rows.specs.Plans.{units_between}
-use Rattle.object_rows.specs.Writes.{StoodWritten}
-use Rattle.plan_rows.specs.Plans.{StandsOnce}
+use Rattle.meta_rows.specs.Prelude.{Rows}
+use Rattle.row_format.specs.Prelude.{Place, own}
+use Rattle.store_image.specs.Prelude.{IsPageAt, page_of, Owns, HasSoleOwner}
+use Rattle.blob_map.specs.Prelude.{PageMap}
+use Rattle.plan_rows.specs.Prelude.{IsMapOf, own_units, StandsOnce}
+use Rattle.object_rows.specs.Prelude.{units_between, StoodWritten}
 use Rattle.object_rows.proofs.Wrote.{written_or_not}
 
 -- ---- elements

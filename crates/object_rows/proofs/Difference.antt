@@ -7,12 +7,12 @@ use Rattle.std.specs.Cmp.{tied_itself}
 use Rattle.std.specs.Cmp.Lexicographic.{nat_list_cmp_total}
 use Rattle.std.specs.FinMap.{get}
 use Rattle.byte_maps.specs.ByteMap.{byte_order}
-use Rattle.byte_maps.proofs.Places.{same_bytes}
-use Rattle.meta_rows.specs.Rows.{Rows, row_after, rows_after, key_of, LeaveAlone}
+use Rattle.byte_maps.proofs.Prelude.{same_bytes}
+use Rattle.meta_rows.specs.Prelude.{Rows, row_after, rows_after, key_of, LeaveAlone}
 use Rattle.meta_rows.specs.declared.row_op.RowOp.{RowOp}
 use Rattle.meta_rows.specs.declared.row_op.RowOp.TheVariants.{Set, Drop, Flip}
 use Rattle.meta_rows.proofs.RowLemmas.{get-insert_same, get-remove_same, get-row_after_other, get-rows_after_other}
-use Rattle.plan_rows.specs.Difference.{Changes, IsDifference, KeysAscend}
+use Rattle.plan_rows.specs.Prelude.{Changes, IsDifference, KeysAscend}
 use Rattle.object_rows.proofs.GoodPages.{all_map}
 
 -- ---- one operation

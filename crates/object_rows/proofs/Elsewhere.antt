@@ -2,31 +2,25 @@
 use Rattle.std.proofs.Common.{◌≡◌, ◌⊎◌, inl, inr, ℕ, ◌/◌, true, List, [], ◌∷◌, None, map, is_some, refl, sym, ap, subst, ◌∙◌}
 use Rattle.std.specs.List.{AllByRecursion}
 use Rattle.std.specs.FinMap as finite
-use Rattle.meta_rows.specs.Rows.{Rows, rows_after, key_of, LeaveAlone}
+use Rattle.meta_rows.specs.Prelude.{Rows, rows_after, key_of, LeaveAlone}
 use Rattle.meta_rows.specs.declared.row_op.RowOp.{RowOp}
 use Rattle.meta_rows.proofs.BatchLemmas.{only_its_own}
 use Rattle.meta_rows.proofs.RowLemmas.{get-rows_after_other}
 use Rattle.meta_log.specs.declared.slot.Super.{Super}
-use Rattle.meta_log.specs.Slots.{width_of}
+use Rattle.meta_log.specs.Prelude.{width_of}
 use Rattle.object_model.specs.declared.op.Op.{Op}
 use Rattle.object_model.specs.declared.op.Op.TheVariants.{Touch, Write}
-use Rattle.object_model.specs.Effect.{Change, names_of}
+use Rattle.object_model.specs.Prelude.{Change, names_of}
 use Rattle.object_model.proofs.Names.{is_own}
 use Rattle.unit_fields.specs.declared.width.Width.{Width}
-use Rattle.row_format.specs.Keys.{coll_key, onode_key, shard_key}
-use Rattle.row_format.specs.Extents.{Extent, Place}
-use Rattle.store_image.specs.Pages.{HasKey, HasValue, IsPageAt}
-use Rattle.store_image.specs.Owners.{IsMarked, IsOwned, IsExactAs}
+use Rattle.row_format.specs.Prelude.{coll_key, onode_key, shard_key, Extent, Place}
+use Rattle.store_image.specs.Prelude.{HasKey, HasValue, IsPageAt, IsMarked, IsOwned, IsExactAs}
 use Rattle.row_facts.specs.Operations.{coll_change}
-use Rattle.blob_map.specs.Pages.{PageMap}
-use Rattle.blob_map.specs.Normal.{extents_of}
+use Rattle.blob_map.specs.Prelude.{PageMap, extents_of}
 use Rattle.plan_rows.specs.declared.plan.FreshUnit.{FreshUnit}
 use Rattle.plan_rows.specs.declared.plan.Plan.{Plan}
-use Rattle.plan_rows.specs.Difference.{Changes, IsDifference}
-use Rattle.plan_rows.specs.Layouts.{Layout, HasLayout, made_of, IsSizeOf, missing, there, IsMapOf, IsKeyOf, AreReplaced, GetsLayout, stays, replaces, MakesColl, MakesLayout}
-use Rattle.plan_rows.specs.Plans.{IsInColl, fresh_units, object_of, data_of}
-use Rattle.plan_rows.specs.Names.{IsKeyIn, AgreeOn}
-use Rattle.object_rows.specs.Planned.{AreFresh, CanPlanWrite, CanPlan, IsPlanned, makes_coll, changes_object}
+use Rattle.plan_rows.specs.Prelude.{Changes, IsDifference, Layout, HasLayout, made_of, IsSizeOf, missing, there, IsMapOf, IsKeyOf, AreReplaced, GetsLayout, stays, replaces, MakesColl, MakesLayout, IsInColl, fresh_units, object_of, data_of, IsKeyIn, AgreeOn}
+use Rattle.object_rows.specs.Prelude.{AreFresh, CanPlanWrite, CanPlan, IsPlanned, makes_coll, changes_object}
 use Rattle.object_rows.proofs.Difference.{still_changes, no_difference, same_unnamed}
 use Rattle.object_rows.proofs.GoodPages.{all_map}
 use Rattle.object_rows.proofs.PagesOn.{units_of_pages}

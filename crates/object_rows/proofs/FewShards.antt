@@ -1,19 +1,15 @@
 -- An object has at most as many shards as it may have pages.
 use Rattle.std.proofs.Common.{ℕ, ◌+◌, ◌<◌, ◌≤◌, ◌^◌, List, [], ◌∷◌, length, is_some, sym, ap, ◌∙◌, arith}
 use Rattle.std.specs.List.{AllByRecursion}
-use Rattle.meta_rows.specs.Rows.{Rows}
+use Rattle.meta_rows.specs.Prelude.{Rows}
 use Rattle.meta_log.specs.declared.slot.Super.{Super}
-use Rattle.meta_log.specs.Slots.{width_of}
-use Rattle.unit_fields.specs.Names.{IsName, IsCollName}
-use Rattle.unit_fields.specs.UnitSet.{Ascends}
+use Rattle.meta_log.specs.Prelude.{width_of}
+use Rattle.unit_fields.specs.Prelude.{IsName, IsCollName, Ascends}
 use Rattle.unit_fields.specs.declared.width.Width.{Width}
-use Rattle.row_format.specs.Keys.{shard_key}
-use Rattle.row_format.specs.Extents.{Extent, page_end, BeginsAt, FitsExtent}
-use Rattle.row_format.specs.Row.{onode, shard}
-use Rattle.store_image.specs.Pages.{HasKey, pages_of}
-use Rattle.store_image.specs.BadRows.{IsShardInPlace, NoBadRow}
-use Rattle.store_image.proofs.PageMap.{in_place}
-use Rattle.plan_rows.specs.Layouts.{IsSizeOf, missing, there}
+use Rattle.row_format.specs.Prelude.{shard_key, Extent, page_end, BeginsAt, FitsExtent, onode, shard}
+use Rattle.store_image.specs.Prelude.{HasKey, pages_of, IsShardInPlace, NoBadRow}
+use Rattle.store_image.proofs.Prelude.{in_place}
+use Rattle.plan_rows.specs.Prelude.{IsSizeOf, missing, there}
 use Rattle.object_rows.proofs.Lengths.{has_page}
 use Rattle.object_rows.proofs.Shards.{shard_under, both_all}
 

@@ -3,18 +3,18 @@ use Rattle.std.proofs.Common.{◌≡◌, ℕ, zero, suc, ◌/◌, ◌<◌, ◌�
 use Rattle.std.specs.List.{AllByRecursion}
 use Rattle.std.proofs.lemmas.List.{length-take-le}
 use Rattle.byte_maps.specs.Units.{unit_at}
-use Rattle.crc32c_csum.specs.Crc32c.{crc32c}
-use Rattle.meta_rows.specs.Rows.{Rows}
+use Rattle.crc32c_csum.specs.Prelude.{crc32c}
+use Rattle.meta_rows.specs.Prelude.{Rows}
 use Rattle.meta_log.specs.declared.slot.Super.{Super}
-use Rattle.meta_log.specs.Slots.{width_of}
+use Rattle.meta_log.specs.Prelude.{width_of}
 use Rattle.object_model.specs.declared.op.Op.TheVariants.{Write}
-use Rattle.unit_fields.specs.UnitSet.{Ascends}
-use Rattle.store_image.specs.Owners.{IsDataUnit, IsOwned, IsMarked}
-use Rattle.object_rows.specs.Planned.{AreFresh, CanPlanWrite}
-use Rattle.unit_allocator.specs.Units.{Space, free_units}
+use Rattle.unit_fields.specs.Prelude.{Ascends}
+use Rattle.store_image.specs.Prelude.{IsDataUnit, IsOwned, IsMarked}
+use Rattle.object_rows.specs.Prelude.{AreFresh, CanPlanWrite}
+use Rattle.unit_allocator.specs.Prelude.{Space, free_units}
 use Rattle.unit_allocator.proofs.Lists.{Contains-head, Contains-tail}
 use Rattle.unit_allocator.proofs.FreeUnits.{free_units_ascend}
-use Rattle.plan_rows.specs.Plans.{AreFreeOver, IsTaken, IsKnown}
+use Rattle.plan_rows.specs.Prelude.{AreFreeOver, IsTaken, IsKnown}
 
 -- ---- lists
 

@@ -4,17 +4,13 @@ use Rattle.std.specs.Prelude.{nat_le, nat_lt, ◌&&◌}
 use Rattle.std.specs.List.{AllByRecursion}
 use Rattle.std.proofs.lemmas.Bool.{cases_Bool, ltb-true, leb-true}
 use Rattle.unit_fields.specs.declared.width.Width.{Width}
-use Rattle.meta_rows.specs.Rows.{Rows}
+use Rattle.meta_rows.specs.Prelude.{Rows}
 use Rattle.meta_log.specs.declared.slot.Super.{Super}
-use Rattle.meta_log.specs.Slots.{width_of, data_unit}
-use Rattle.row_format.specs.Extents.{Extent, Body, private, page_count, page_end, place_in, place_of, Place, own, FitsBody, FitsExtent}
-use Rattle.row_format.specs.Row.{shard}
-use Rattle.row_format.specs.Csums.{FitsCsum}
-use Rattle.store_image.specs.Pages.{HasOnode, HasShard, IsPageAt, pages_of}
-use Rattle.store_image.specs.BadRows.{IsOnData, IsShardInPlace, NoBadRow}
-use Rattle.store_image.specs.Owners.{Owner, page_of, Owns, IsDataUnit, IsOwned}
-use Rattle.store_image.proofs.PageMap.{in_place}
-use Rattle.blob_map.specs.Pages.{StandsWithin}
+use Rattle.meta_log.specs.Prelude.{width_of, data_unit}
+use Rattle.row_format.specs.Prelude.{Extent, Body, private, page_count, page_end, place_in, place_of, Place, own, FitsBody, FitsExtent, shard, FitsCsum}
+use Rattle.store_image.specs.Prelude.{HasOnode, HasShard, IsPageAt, pages_of, IsOnData, IsShardInPlace, NoBadRow, Owner, page_of, Owns, IsDataUnit, IsOwned}
+use Rattle.store_image.proofs.Prelude.{in_place}
+use Rattle.blob_map.specs.Prelude.{StandsWithin}
 
 pub all_map : {X : Type 0} (P Q : X → Type 0) → ((x : X) → P x → Q x) → (xs : List X) → AllByRecursion P xs → AllByRecursion Q xs
 all_map P Q f [] all = tt

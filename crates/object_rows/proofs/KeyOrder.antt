@@ -10,19 +10,16 @@ use Rattle.std.proofs.lemmas.Nat.{from_be_bytes-to_be_bytes_4}
 use Rattle.byte_maps.specs.ByteMap.{byte_order}
 use Rattle.unit_fields.specs.declared.width.Width.{Width}
 use Rattle.number_map.proofs.Search.{cmp_less, cmp_equal}
-use Rattle.meta_rows.specs.Rows.{Rows, key_of}
+use Rattle.meta_rows.specs.Prelude.{Rows, key_of}
 use Rattle.meta_rows.specs.declared.row_op.RowOp.{RowOp}
 use Rattle.meta_rows.specs.declared.row_op.RowOp.TheVariants.{Drop}
 use Rattle.meta_log.specs.declared.slot.Super.{Super}
-use Rattle.meta_log.specs.Slots.{width_of}
-use Rattle.row_format.specs.Keys.{object_key, onode_key, shard_key, bitmap_key}
-use Rattle.row_format.specs.Extents.{Extent, FitsExtent}
-use Rattle.row_format.specs.Row.{shard}
+use Rattle.meta_log.specs.Prelude.{width_of}
+use Rattle.row_format.specs.Prelude.{object_key, onode_key, shard_key, bitmap_key, Extent, FitsExtent, shard}
 use Rattle.row_facts.specs.Operations.{set_row, set_onode}
 use Rattle.bitmap_freelist.specs.Bitmap.{Units, AreFlips, AreFlipsFrom}
-use Rattle.object_rows.specs.Operations.{says, drops, shard_ops, object_ops, CanReplace, Climb}
-use Rattle.plan_rows.specs.Layouts.{IsKeyOf}
-use Rattle.plan_rows.specs.Difference.{KeysAscend}
+use Rattle.object_rows.specs.Prelude.{says, drops, shard_ops, object_ops, CanReplace, Climb}
+use Rattle.plan_rows.specs.Prelude.{IsKeyOf, KeysAscend}
 use Rattle.object_rows.proofs.GoodPages.{all_map}
 use Rattle.object_rows.proofs.Ops.{all_append, all_kept, all_pass, lower, object_ops_own}
 use Rattle.object_rows.proofs.Shards.{both_all}

@@ -3,12 +3,12 @@ use Rattle.std.proofs.Common.{◌≡◌, ◌≢◌, ◌⊎◌, inl, inr, ℕ, ze
 use Rattle.std.specs.Prelude.{slice_index}
 use Rattle.std.specs.FinMap as finite
 use Rattle.byte_maps.specs.Units.{unit_at}
-use Rattle.crc32c_csum.specs.Crc32c.{crc32c}
+use Rattle.crc32c_csum.specs.Prelude.{crc32c}
 use Rattle.number_map.proofs.Laws.{get_same, get_other}
-use Rattle.row_format.specs.Extents.{Place, own}
-use Rattle.blob_map.specs.Pages.{PageMap, with_pages}
-use Rattle.object_rows.specs.Maps.{IsMapWritten}
-use Rattle.plan_rows.specs.Layouts.{new_pages}
+use Rattle.row_format.specs.Prelude.{Place, own}
+use Rattle.blob_map.specs.Prelude.{PageMap, with_pages}
+use Rattle.object_rows.specs.Prelude.{IsMapWritten}
+use Rattle.plan_rows.specs.Prelude.{new_pages}
 
 module _ (first : ℕ) (bytes : List ℕ) where
   abbrev new_place : ℕ → ℕ → Place

@@ -3,24 +3,18 @@ use Rattle.std.proofs.Common.{◌≡◌, inl, inr, ℕ, zero, suc, ◌+◌, ◌<
 use Rattle.std.specs.List.{AllByRecursion}
 use Rattle.std.specs.FinMap as finite
 use Rattle.std.proofs.lemmas.Bool.{cases_lt}
-use Rattle.meta_rows.specs.Rows.{Rows}
+use Rattle.meta_rows.specs.Prelude.{Rows}
 use Rattle.meta_log.specs.declared.slot.Super.{Super}
-use Rattle.meta_log.specs.Slots.{width_of}
-use Rattle.unit_fields.specs.Names.{IsName, IsCollName}
-use Rattle.unit_fields.specs.UnitSet.{Ascends}
+use Rattle.meta_log.specs.Prelude.{width_of}
+use Rattle.unit_fields.specs.Prelude.{IsName, IsCollName, Ascends}
 use Rattle.unit_fields.specs.declared.width.Width.{Width}
-use Rattle.row_format.specs.Keys.{onode_key, shard_key}
-use Rattle.row_format.specs.Extents.{Extent}
-use Rattle.row_format.specs.Row.{Row, collection, onode, shard, bitmap, row_key}
-use Rattle.row_format.proofs.KeyLemmas.{same_onode, onode_no_shard, coll_no_object, bitmap_no_object}
-use Rattle.row_format.proofs.RowLemmas.{same_row}
-use Rattle.store_image.specs.Pages.{HasKey, HasRow, HasOnode, HasShard}
-use Rattle.store_image.specs.BadRows.{NoBadRow}
-use Rattle.blob_map.specs.Pages.{extent_pages, with_pages}
+use Rattle.row_format.specs.Prelude.{onode_key, shard_key, Extent, Row, collection, onode, shard, bitmap, row_key}
+use Rattle.row_format.proofs.Prelude.{same_onode, onode_no_shard, coll_no_object, bitmap_no_object, same_row}
+use Rattle.store_image.specs.Prelude.{HasKey, HasRow, HasOnode, HasShard, NoBadRow}
+use Rattle.blob_map.specs.Prelude.{extent_pages, with_pages}
 use Rattle.blob_map.proofs.Places.{laid_alone}
-use Rattle.plan_rows.specs.Layouts.{Layout, HasLayout, IsMapOf, IsSizeOf, missing, there}
-use Rattle.object_rows.specs.Maps.{Rise, AreShardsOf, extents_in, first_pages}
-use Rattle.object_rows.specs.Operations.{AreShards, Climb}
+use Rattle.plan_rows.specs.Prelude.{Layout, HasLayout, IsMapOf, IsSizeOf, missing, there}
+use Rattle.object_rows.specs.Prelude.{Rise, AreShardsOf, extents_in, first_pages, AreShards, Climb}
 use Rattle.object_rows.proofs.FewShards.{page_small}
 use Rattle.object_rows.proofs.GoodPages.{all_map}
 use Rattle.object_rows.proofs.Shards.{shard_under, by_shards_ascend, by_shards_pages, by_shards_present, first_pages_climb}

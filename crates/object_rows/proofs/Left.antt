@@ -9,15 +9,14 @@ use Rattle.std.specs.FinMap.Entries.{where_key}
 use Rattle.std.proofs.lemmas.Bool.Decides.{nat_tests}
 use Rattle.byte_maps.specs.Units.{unit_at}
 use Rattle.unit_fields.specs.declared.width.Width.{Width}
-use Rattle.crc32c_csum.specs.Crc32c.{crc32c}
-use Rattle.meta_rows.specs.Rows.{Rows}
+use Rattle.crc32c_csum.specs.Prelude.{crc32c}
+use Rattle.meta_rows.specs.Prelude.{Rows}
 use Rattle.number_map.specs.NumberMap.{is_in}
-use Rattle.row_format.specs.Extents.{Place, own}
-use Rattle.store_image.specs.Owners.{page_of, IsOwned}
-use Rattle.blob_map.specs.Pages.{PageMap}
-use Rattle.plan_rows.specs.Layouts.{IsMapOf, own_units, is_same_place, is_moved, units_left}
-use Rattle.object_rows.specs.Maps.{IsMapWritten}
-use Rattle.object_rows.specs.Plans.{units_between}
+use Rattle.row_format.specs.Prelude.{Place, own}
+use Rattle.store_image.specs.Prelude.{page_of, IsOwned}
+use Rattle.blob_map.specs.Prelude.{PageMap}
+use Rattle.plan_rows.specs.Prelude.{IsMapOf, own_units, is_same_place, is_moved, units_left}
+use Rattle.object_rows.specs.Prelude.{IsMapWritten, units_between}
 use Rattle.object_rows.proofs.Between.{In, same_pair, in_found, inside_is, low_is, high_is}
 use Rattle.object_rows.proofs.Wrote.{written_or_not}
 

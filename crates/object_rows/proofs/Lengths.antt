@@ -1,30 +1,25 @@
 -- The operations have spellings, and how many bytes they take.
 use Rattle.std.proofs.Common.{◌≡◌, inl, inr, ℕ, ◌+◌, ◌*◌, ◌<◌, ◌≤◌, ◌^◌, Bool, true, false, cond, List, [], ◌∷◌, ◌++◌, length, ap, ◌∙◌, arith, length-append}
 use Rattle.std.specs.Prelude.{nat_lt, filter}
-use Rattle.row_format.proofs.ExtentReading.{length-csums}
+use Rattle.row_format.proofs.Prelude.{length-csums}
 use Rattle.std.specs.List.{flat_map, AllByRecursion}
 use Rattle.std.specs.Int.{w16, w32, w64, to_le_bytes, to_be_bytes}
 use Rattle.std.proofs.lemmas.Bool.{cases_Bool}
 use Rattle.std.proofs.lemmas.Bool.Decides.{nat_tests}
 use Rattle.std.proofs.lemmas.Grind.{flat_map-append}
-use Rattle.meta_rows.specs.Rows.{Rows}
+use Rattle.meta_rows.specs.Prelude.{Rows, key_bytes, value_bytes, op_bytes, ops_bytes, IsKey, FitsRowOp, AllFit}
 use Rattle.meta_rows.specs.declared.row_op.RowOp.{RowOp}
 use Rattle.meta_rows.specs.declared.row_op.RowOp.TheVariants.{Drop}
-use Rattle.meta_rows.specs.Spelling.{key_bytes, value_bytes, op_bytes, ops_bytes, IsKey, FitsRowOp, AllFit}
 use Rattle.meta_log.specs.declared.slot.Super.{Super}
-use Rattle.meta_log.specs.Slots.{width_of}
-use Rattle.unit_fields.specs.Names.{IsName, IsCollName}
+use Rattle.meta_log.specs.Prelude.{width_of}
+use Rattle.unit_fields.specs.Prelude.{IsName, IsCollName, bytes_of}
 use Rattle.unit_fields.specs.declared.width.Width.{Width}
 use Rattle.unit_fields.specs.declared.width.Width.TheVariants.{FourBytes}
-use Rattle.unit_fields.specs.Widths.{bytes_of}
-use Rattle.row_format.specs.Keys.{onode_key, shard_key}
-use Rattle.row_format.specs.Extents.{Extent, Body, private, page_count, page_end, body_bytes, extent_bytes, FitsBody, FitsExtent, ExtentsAscend}
-use Rattle.row_format.specs.Row.{Row, shard, row_key, row_value}
-use Rattle.row_format.specs.Csums.{csum_bytes}
-use Rattle.store_image.specs.Pages.{pages_of}
+use Rattle.row_format.specs.Prelude.{onode_key, shard_key, Extent, Body, private, page_count, page_end, body_bytes, extent_bytes, FitsBody, FitsExtent, ExtentsAscend, Row, shard, row_key, row_value, csum_bytes}
+use Rattle.store_image.specs.Prelude.{pages_of}
 use Rattle.row_facts.specs.Operations.{set_row, set_onode}
 use Rattle.row_facts.proofs.Lengths.{length-coll}
-use Rattle.object_rows.specs.Operations.{says, drops, onode_ops, shard_ops, object_ops, CanReplace}
+use Rattle.object_rows.specs.Prelude.{says, drops, onode_ops, shard_ops, object_ops, CanReplace}
 use Rattle.object_rows.proofs.Ops.{all_append}
 
 -- ---- extents

@@ -1,15 +1,13 @@
 -- An object that is missing can be made.
 use Rattle.std.proofs.Common.{◌≡◌, ℕ, ◌<◌, ◌^◌, [], List, None, is_some, sym, ap, ◌∙◌, arith}
 use Rattle.std.specs.FinMap as map
-use Rattle.meta_rows.specs.Rows.{Rows}
+use Rattle.meta_rows.specs.Prelude.{Rows}
 use Rattle.meta_log.specs.declared.slot.Super.{Super}
-use Rattle.unit_fields.specs.Names.{IsName, IsCollName}
-use Rattle.row_format.specs.Keys.{coll_key, onode_key, shard_key}
-use Rattle.row_format.specs.Row.{shard}
-use Rattle.store_image.specs.Pages.{HasKey}
-use Rattle.store_image.specs.BadRows.{NoBadRow}
-use Rattle.store_image.proofs.PageMap.{in_place}
-use Rattle.object_rows.specs.Operations.{CanReplace}
+use Rattle.unit_fields.specs.Prelude.{IsName, IsCollName}
+use Rattle.row_format.specs.Prelude.{coll_key, onode_key, shard_key, shard}
+use Rattle.store_image.specs.Prelude.{HasKey, NoBadRow}
+use Rattle.store_image.proofs.Prelude.{in_place}
+use Rattle.object_rows.specs.Prelude.{CanReplace}
 use Rattle.object_rows.proofs.Shards.{shard_under}
 
 -- it has no shards

@@ -3,22 +3,17 @@ use Rattle.std.proofs.Common.{◌≡◌, inl, inr, ℕ, ◌+◌, ◌≤◌, ◌^
 use Rattle.std.specs.Prelude.{slice_index}
 use Rattle.std.specs.FinMap as finite
 use Rattle.byte_maps.specs.Units.{unit_at}
-use Rattle.crc32c_csum.specs.Crc32c.{crc32c}
-use Rattle.meta_rows.specs.Rows.{Rows}
+use Rattle.crc32c_csum.specs.Prelude.{crc32c}
+use Rattle.meta_rows.specs.Prelude.{Rows}
 use Rattle.meta_log.specs.declared.slot.Super.{Super}
-use Rattle.meta_log.specs.Slots.{width_of, data_unit}
-use Rattle.row_format.specs.Extents.{Body, private, page_count, Place, own}
-use Rattle.row_format.specs.Row.{shard}
-use Rattle.store_image.specs.Pages.{IsPageAt, pages_of}
-use Rattle.store_image.specs.BadRows.{IsOnData}
-use Rattle.store_image.proofs.PageMap.{in_place}
-use Rattle.blob_map.specs.Pages.{PageMap, FitsPlace, StandsWithin, first_unit}
-use Rattle.blob_map.specs.Normal.{extents_of}
+use Rattle.meta_log.specs.Prelude.{width_of, data_unit}
+use Rattle.row_format.specs.Prelude.{Body, private, page_count, Place, own, shard}
+use Rattle.store_image.specs.Prelude.{IsPageAt, pages_of, IsOnData}
+use Rattle.store_image.proofs.Prelude.{in_place}
+use Rattle.blob_map.specs.Prelude.{PageMap, FitsPlace, StandsWithin, first_unit, extents_of}
 use Rattle.blob_map.proofs.Forms.{extents_places, extents_ascend, extents_fits, extents_within, extents_on}
-use Rattle.object_rows.specs.Operations.{CanReplace}
-use Rattle.plan_rows.specs.Layouts.{missing, there, IsSizeOf, IsMapOf}
-use Rattle.object_rows.specs.Writes.{IsWritten}
-use Rattle.object_rows.specs.Maps.{IsMapWritten, CanWrite}
+use Rattle.object_rows.specs.Prelude.{CanReplace, IsWritten, IsMapWritten, CanWrite}
+use Rattle.plan_rows.specs.Prelude.{missing, there, IsSizeOf, IsMapOf}
 use Rattle.object_rows.proofs.Wrote.{written_or_not}
 use Rattle.object_rows.proofs.GoodPages.{CsumFits, all_map, IsGoodPage, good_page}
 

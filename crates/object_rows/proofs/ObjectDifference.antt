@@ -9,20 +9,18 @@ use Rattle.std.specs.Cmp.{tied_itself}
 use Rattle.std.specs.Cmp.Lexicographic.{nat_list_cmp_total}
 use Rattle.std.specs.FinMap as map
 use Rattle.std.proofs.lemmas.Bool.{cases_Bool}
-use Rattle.byte_maps.proofs.Laws.{same}
+use Rattle.byte_maps.proofs.Prelude.{same}
 use Rattle.unit_fields.specs.declared.width.Width.{Width}
-use Rattle.meta_rows.specs.Rows.{Rows}
+use Rattle.meta_rows.specs.Prelude.{Rows}
 use Rattle.meta_rows.specs.declared.row_op.RowOp.{RowOp}
 use Rattle.meta_log.specs.declared.slot.Super.{Super}
-use Rattle.meta_log.specs.Slots.{width_of}
-use Rattle.object_model.specs.Effect.{is_same}
-use Rattle.row_format.specs.Keys.{coll_key, onode_key, shard_key}
-use Rattle.row_format.specs.Extents.{Extent, extent_bytes, BeginsAt}
-use Rattle.store_image.specs.Pages.{HasKey}
+use Rattle.meta_log.specs.Prelude.{width_of}
+use Rattle.object_model.specs.Prelude.{is_same}
+use Rattle.row_format.specs.Prelude.{coll_key, onode_key, shard_key, Extent, extent_bytes, BeginsAt}
+use Rattle.store_image.specs.Prelude.{HasKey}
 use Rattle.row_facts.specs.Operations.{set_onode, coll_ops}
-use Rattle.plan_rows.specs.Difference.{Changes, IsDifference}
-use Rattle.plan_rows.specs.Layouts.{AreReplaced, IsKeyOf}
-use Rattle.object_rows.specs.Operations.{says, drops, onode_ops, shard_ops, object_ops, CanReplace, replaced, Climb}
+use Rattle.plan_rows.specs.Prelude.{Changes, IsDifference, AreReplaced, IsKeyOf}
+use Rattle.object_rows.specs.Prelude.{says, drops, onode_ops, shard_ops, object_ops, CanReplace, replaced, Climb}
 use Rattle.object_rows.proofs.After.{begins_or_not}
 use Rattle.object_rows.proofs.KeyOrder.{ops_ascend}
 use Rattle.object_rows.proofs.Ops.{all_append, all_kept}

@@ -12,26 +12,24 @@ use Rattle.std.specs.FinMap as map
 use Rattle.std.proofs.lemmas.Bool.{cases_Bool, cases_lt}
 use Rattle.std.proofs.lemmas.Bool.Decides.{nat_tests}
 use Rattle.byte_maps.specs.ByteMap.{byte_order}
-use Rattle.byte_maps.proofs.Laws.{after_remove}
-use Rattle.byte_maps.proofs.Places.{same_bytes}
-use Rattle.meta_rows.specs.Rows.{Rows, rows_after, row_after, key_of, LeaveAlone}
+use Rattle.byte_maps.proofs.Prelude.{after_remove, same_bytes}
+use Rattle.meta_rows.specs.Prelude.{Rows, rows_after, row_after, key_of, LeaveAlone}
 use Rattle.meta_rows.specs.declared.row_op.RowOp.{RowOp}
 use Rattle.meta_rows.proofs.Folds.{rows_after-append}
 use Rattle.meta_rows.proofs.RowLemmas.{get-row_after_other, get-rows_after_other}
 use Rattle.meta_log.specs.declared.slot.Super.{Super}
-use Rattle.meta_log.specs.Slots.{width_of}
-use Rattle.object_model.specs.Effect.{is_same}
-use Rattle.unit_fields.specs.Names.{IsName, IsCollName}
+use Rattle.meta_log.specs.Prelude.{width_of}
+use Rattle.object_model.specs.Prelude.{is_same}
+use Rattle.unit_fields.specs.Prelude.{IsName, IsCollName}
 use Rattle.unit_fields.specs.declared.width.Width.{Width}
-use Rattle.row_format.specs.Keys.{onode_key, shard_key}
-use Rattle.row_format.specs.Extents.{Extent, extent_bytes, FitsExtent, BeginsAt}
-use Rattle.row_format.proofs.KeyLemmas.{same_shard, onode_no_shard}
-use Rattle.store_image.specs.Pages.{HasKey}
-use Rattle.store_image.proofs.ByteLemmas.{equal_or_not}
+use Rattle.row_format.specs.Prelude.{onode_key, shard_key, Extent, extent_bytes, FitsExtent, BeginsAt}
+use Rattle.row_format.proofs.Prelude.{same_shard, onode_no_shard}
+use Rattle.store_image.specs.Prelude.{HasKey}
+use Rattle.store_image.proofs.Prelude.{equal_or_not}
 use Rattle.row_facts.specs.Operations.{set_onode}
 use Rattle.row_facts.proofs.Maps.{get_same, get_other}
-use Rattle.object_rows.specs.Operations.{says, drops, onode_ops, shard_ops, object_ops, CanReplace, replaced}
-use Rattle.plan_rows.specs.Layouts.{IsKeyOf, AreReplaced}
+use Rattle.object_rows.specs.Prelude.{says, drops, onode_ops, shard_ops, object_ops, CanReplace, replaced}
+use Rattle.plan_rows.specs.Prelude.{IsKeyOf, AreReplaced}
 
 -- ---- lists of pages
 

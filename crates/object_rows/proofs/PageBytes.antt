@@ -5,9 +5,9 @@ use Rattle.std.proofs.lemmas.Bool.{cases_lt}
 use Rattle.std.proofs.lemmas.Bool.Decides.{nat_tests}
 use Rattle.std.proofs.lemmas.List.{get_or-take, get_or-drop, get_or_append_left, get_or-append_right, get_or_past, get_or-replicate, length-take, length-take-le, length-replicate, ext_get_or}
 use Rattle.byte_maps.specs.Units.{unit_at, zeros}
-use Rattle.byte_maps.proofs.UnitLemmas.{length-zeros, length-unit_at}
-use Rattle.object_model.specs.Effect.{resized, overwritten}
-use Rattle.store_image.specs.Stands.{page_bytes}
+use Rattle.byte_maps.proofs.Prelude.{length-zeros, length-unit_at}
+use Rattle.object_model.specs.Prelude.{resized, overwritten}
+use Rattle.store_image.specs.Prelude.{page_bytes}
 
 zero_there : (n i : ℕ) → get_or (zeros n) i 0 ≡ 0
 unfolding zeros

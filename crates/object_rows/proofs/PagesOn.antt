@@ -4,15 +4,15 @@ use Rattle.std.specs.Prelude.{slice_index}
 use Rattle.std.specs.List.{AllByRecursion}
 use Rattle.std.proofs.lemmas.Bool.{cases_lt}
 use Rattle.byte_maps.specs.Units.{unit_at}
-use Rattle.byte_maps.proofs.UnitLemmas.{length-unit_at}
-use Rattle.meta_rows.specs.Rows.{Rows}
+use Rattle.byte_maps.proofs.Prelude.{length-unit_at}
+use Rattle.meta_rows.specs.Prelude.{Rows}
 use Rattle.meta_log.specs.declared.slot.Super.{Super}
-use Rattle.meta_log.specs.Slots.{width_of}
-use Rattle.unit_fields.specs.UnitSet.{Ascends}
-use Rattle.store_image.specs.Owners.{IsDataUnit, IsOwned}
+use Rattle.meta_log.specs.Prelude.{width_of}
+use Rattle.unit_fields.specs.Prelude.{Ascends}
+use Rattle.store_image.specs.Prelude.{IsDataUnit, IsOwned}
 use Rattle.plan_rows.specs.declared.plan.FreshUnit.{FreshUnit}
-use Rattle.object_rows.specs.Writes.{AreDistinct}
-use Rattle.plan_rows.specs.Plans.{pages_on}
+use Rattle.object_rows.specs.Prelude.{AreDistinct}
+use Rattle.plan_rows.specs.Prelude.{pages_on}
 
 -- ---- ascending lists
 

@@ -1,21 +1,19 @@
 -- The operations of a plan are on rows of its collection, and behind them on the bits of its units.
 use Rattle.std.proofs.Common.{inl, ℕ, List, [], ◌∷◌, map, refl, sym, ap, subst, ◌∙◌, append-nil}
-use Rattle.meta_rows.specs.Rows.{Rows, key_of}
+use Rattle.meta_rows.specs.Prelude.{Rows, key_of}
 use Rattle.meta_rows.specs.declared.row_op.RowOp.{RowOp}
 use Rattle.meta_log.specs.declared.slot.Super.{Super}
-use Rattle.meta_log.specs.Slots.{width_of}
+use Rattle.meta_log.specs.Prelude.{width_of}
 use Rattle.object_model.specs.declared.op.Op.{Op}
 use Rattle.object_model.specs.declared.op.Op.TheVariants.{Touch, Write}
-use Rattle.object_model.specs.Effect.{Change, names_of}
+use Rattle.object_model.specs.Prelude.{Change, names_of}
 use Rattle.object_model.proofs.Names.{is_own}
-use Rattle.unit_fields.specs.Names.{IsCollName}
+use Rattle.unit_fields.specs.Prelude.{IsCollName}
 use Rattle.row_facts.specs.Operations.{coll_change, coll_ops}
 use Rattle.plan_rows.specs.declared.plan.FreshUnit.{FreshUnit}
 use Rattle.plan_rows.specs.declared.plan.Plan.{Plan}
-use Rattle.plan_rows.specs.Layouts.{made_of, TurnsBits, IsKeyOf}
-use Rattle.plan_rows.specs.Plans.{fresh_units, object_of, data_of}
-use Rattle.plan_rows.specs.Names.{IsKeyOfSome, AreOf}
-use Rattle.object_rows.specs.Planned.{CanPlan, IsPlanned, makes_coll, changes_object}
+use Rattle.plan_rows.specs.Prelude.{made_of, TurnsBits, IsKeyOf, fresh_units, object_of, data_of, IsKeyOfSome, AreOf}
+use Rattle.object_rows.specs.Prelude.{CanPlan, IsPlanned, makes_coll, changes_object}
 use Rattle.object_rows.proofs.Elsewhere.{key_in, layout_keys}
 use Rattle.object_rows.proofs.GoodPages.{all_map}
 use Rattle.object_rows.proofs.PagesOn.{units_of_pages}

@@ -5,31 +5,22 @@ use Rattle.std.specs.Ordering.{nat_cmp}
 use Rattle.std.specs.FinMap as finite
 use Rattle.std.specs.FinSet as set
 use Rattle.std.specs.FinMap.{entries}
-use Rattle.meta_rows.specs.Rows.{Rows}
+use Rattle.meta_rows.specs.Prelude.{Rows}
 use Rattle.meta_rows.specs.declared.row_op.RowOp.{RowOp}
 use Rattle.meta_log.specs.declared.slot.Super.{Super}
-use Rattle.meta_log.specs.Slots.{width_of}
+use Rattle.meta_log.specs.Prelude.{width_of}
 use Rattle.object_model.specs.declared.op.Op.{Op}
 use Rattle.object_model.specs.declared.op.Op.TheVariants.{Write}
-use Rattle.unit_fields.specs.Names.{IsName, IsCollName}
-use Rattle.row_format.specs.Keys.{coll_key, onode_key}
-use Rattle.row_format.specs.Extents.{Extent, Place}
-use Rattle.row_format.specs.Row.{shard}
-use Rattle.store_image.specs.Pages.{HasKey}
-use Rattle.store_image.specs.BadRows.{NoBadRow}
-use Rattle.store_image.specs.Owners.{IsOwned}
-use Rattle.store_image.proofs.PageMap.{in_place}
+use Rattle.unit_fields.specs.Prelude.{IsName, IsCollName}
+use Rattle.row_format.specs.Prelude.{coll_key, onode_key, Extent, Place, shard}
+use Rattle.store_image.specs.Prelude.{HasKey, NoBadRow, IsOwned}
+use Rattle.store_image.proofs.Prelude.{in_place}
 use Rattle.row_facts.specs.Operations.{coll_ops}
 use Rattle.bitmap_freelist.specs.Bitmap.{Units, Has, AreFlips}
-use Rattle.blob_map.specs.Pages.{PageMap, with_pages}
-use Rattle.blob_map.specs.Normal.{extents_of}
+use Rattle.blob_map.specs.Prelude.{PageMap, with_pages, extents_of}
 use Rattle.plan_rows.specs.declared.plan.Plan.{Plan}
-use Rattle.plan_rows.specs.Difference.{IsDifference}
-use Rattle.plan_rows.specs.Layouts.{Layout, HasLayout, made_of, units_left, AreReplaced, GetsLayout, stays, replaces, MakesColl, MakesLayout, IsMapOf, new_pages, TurnsBits, IsSizeOf, missing, there}
-use Rattle.object_rows.specs.Operations.{onode_ops, object_ops, replaced, CanReplace}
-use Rattle.plan_rows.specs.Plans.{pages_on}
-use Rattle.object_rows.specs.Planned.{CanPlanWrite}
-use Rattle.object_rows.specs.Plans.{units_between, WritesPages, touch_ops}
+use Rattle.plan_rows.specs.Prelude.{IsDifference, Layout, HasLayout, made_of, units_left, AreReplaced, GetsLayout, stays, replaces, MakesColl, MakesLayout, IsMapOf, new_pages, TurnsBits, IsSizeOf, missing, there, pages_on}
+use Rattle.object_rows.specs.Prelude.{onode_ops, object_ops, replaced, CanReplace, CanPlanWrite, units_between, WritesPages, touch_ops}
 use Rattle.object_rows.proofs.After.{are_then}
 use Rattle.object_rows.proofs.Between.{In, same_pair}
 use Rattle.object_rows.proofs.Difference.{one_difference, no_difference}

@@ -4,37 +4,24 @@ use Rattle.std.specs.Prelude.{◌^◌, IsOk, Any}
 use Rattle.std.specs.List.{AllByRecursion}
 use Rattle.std.specs.Int.{w32, to_le_bytes}
 use Rattle.byte_maps.specs.Units.{units_for}
-use Rattle.crc32c_csum.specs.Crc32c.{crc32c}
-use Rattle.meta_rows.specs.Rows.{Rows, rows_after}
-use Rattle.meta_rows.specs.Spelling.{ops_bytes, AllFit}
+use Rattle.crc32c_csum.specs.Prelude.{crc32c}
+use Rattle.meta_rows.specs.Prelude.{Rows, rows_after, ops_bytes, AllFit}
 use Rattle.meta_rows.specs.declared.row_op.RowOp.{RowOp}
 use Rattle.meta_log.specs.declared.slot.Super.{Super}
-use Rattle.meta_log.specs.Records.{record_head, record_bytes, unit_count}
-use Rattle.meta_log.specs.Slots.{width_of}
-use Rattle.object_model.specs.Objects.{Objects}
-use Rattle.object_model.specs.Effect.{Change, names_of, transaction_effect}
-use Rattle.unit_fields.specs.Names.{IsCollName}
-use Rattle.unit_fields.specs.UnitSet.{Ascends}
-use Rattle.store_image.specs.Pages.{HasPage}
-use Rattle.store_image.specs.BadRows.{NoBadRow}
-use Rattle.store_image.specs.Owners.{page_of, IsDataUnit, IsOwned, IsMarked, IsLeaked, IsExactAs, HasSoleOwner}
-use Rattle.store_image.specs.Stands.{ObjectsStand, IsShape}
-use Rattle.store_image.proofs.OwnedUnits.{objects_stand}
+use Rattle.meta_log.specs.Prelude.{record_head, record_bytes, unit_count, width_of}
+use Rattle.object_model.specs.Prelude.{Objects, Change, names_of, transaction_effect, submitted_effect}
+use Rattle.unit_fields.specs.Prelude.{IsCollName, Ascends}
+use Rattle.store_image.specs.Prelude.{HasPage, NoBadRow, page_of, IsDataUnit, IsOwned, IsMarked, IsLeaked, IsExactAs, HasSoleOwner, ObjectsStand, IsShape}
+use Rattle.store_image.proofs.Prelude.{objects_stand}
 use Rattle.row_facts.specs.Operations.{coll_change, coll_ops}
 use Rattle.row_facts.proofs.CollMade.{coll_good, coll_bits, coll_sole, coll_owned, coll_exact, coll_after, coll_shape, coll_stands}
 use Rattle.row_facts.proofs.Lengths.{coll_fits, coll_short}
 use Rattle.plan_rows.specs.declared.plan.Plan.{Plan}
-use Rattle.plan_rows.specs.Layouts.{made_of, is_moved}
-use Rattle.plan_rows.specs.Difference.{KeysAscend}
-use Rattle.plan_rows.specs.Names.{IsOwnedBy}
-use Rattle.object_rows.specs.Writes.{write_change, touch_change}
-use Rattle.object_rows.specs.Plans.{WritesPages, touch_ops}
-use Rattle.plan_rows.specs.Plans.{IsInColl, pages_on, HoldsFresh, IsFresh, StandsOnce, fresh_units, object_of, data_of}
-use Rattle.object_rows.specs.Planned.{CanPlanWrite, IsPlanned, makes_coll, AreFresh, CanPlan, changes_object}
+use Rattle.plan_rows.specs.Prelude.{made_of, is_moved, KeysAscend, IsOwnedBy, IsInColl, pages_on, HoldsFresh, IsFresh, StandsOnce, fresh_units, object_of, data_of}
+use Rattle.object_rows.specs.Prelude.{write_change, touch_change, WritesPages, touch_ops, CanPlanWrite, IsPlanned, makes_coll, AreFresh, CanPlan, changes_object}
 use Rattle.object_rows.proofs.Between.{some_owns, some_once}
 use Rattle.object_rows.proofs.PagesOn.{all_at, fresh_there, fresh_all, units_of_pages}
 use Rattle.object_rows.proofs.Touched.{touch_good, touch_bits, touch_fits, touch_ascend, touch_short, touch_owned, touch_sole, touch_exact, touch_shape, touch_stand}
-use Rattle.object_model.specs.Limits.{submitted_effect}
 use Rattle.object_model.proofs.Names.{is_own}
 use Rattle.row_facts.proofs.Replies.{coll_submitted, coll_made}
 use Rattle.object_rows.proofs.Replied.{touch_submitted, touch_ok, write_submitted, write_ok}

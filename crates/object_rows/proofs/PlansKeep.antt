@@ -1,19 +1,17 @@
 -- Each plan keeps and makes what is asked of a plan.
 use Rattle.std.proofs.Common.{◌≡◌, inl, inr, length, Result, Ok, Err, Contains, refl, subst, arith}
 use Rattle.std.specs.Prelude.{IsOk}
-use Rattle.meta_rows.specs.Rows.{Rows, rows_after}
+use Rattle.meta_rows.specs.Prelude.{Rows, rows_after}
 use Rattle.meta_log.specs.declared.slot.Super.{Super}
-use Rattle.meta_log.specs.Slots.{width_of}
+use Rattle.meta_log.specs.Prelude.{width_of}
 use Rattle.object_model.specs.declared.op.Refusal.{Refusal}
-use Rattle.object_model.specs.Objects.{Objects}
-use Rattle.object_model.specs.Effect.{Change, names_of, transaction_effect}
-use Rattle.store_image.specs.Owners.{IsDataUnit, IsOwned}
-use Rattle.store_image.specs.Stands.{IsShape}
-use Rattle.unit_allocator.specs.Units.{free_units}
+use Rattle.object_model.specs.Prelude.{Objects, Change, names_of, transaction_effect}
+use Rattle.store_image.specs.Prelude.{IsDataUnit, IsOwned, IsShape}
+use Rattle.unit_allocator.specs.Prelude.{free_units}
 use Rattle.plan_rows.specs.declared.plan.FreshUnit.{FreshUnit}
 use Rattle.plan_rows.specs.declared.plan.Plan.{Plan}
-use Rattle.plan_rows.specs.Keeps.{IsGood, Suits, OwnsItsUnits, AreWhole, PlanKeeps, PlanMakes, PlansKeep}
-use Rattle.object_rows.specs.Planned.{IsPlanned}
+use Rattle.plan_rows.specs.Prelude.{IsGood, Suits, OwnsItsUnits, AreWhole, PlanKeeps, PlanMakes, PlansKeep}
+use Rattle.object_rows.specs.Prelude.{IsPlanned}
 use Rattle.object_rows.proofs.Elsewhere.{planned_elsewhere}
 use Rattle.object_rows.proofs.GoodPages.{all_map}
 use Rattle.object_rows.proofs.PlanNames.{ops_are_of}

@@ -3,18 +3,15 @@ use Rattle.std.proofs.Common.{◌≡◌, inl, inr, ℕ, ◌+◌, ◌*◌, ◌<�
 use Rattle.std.specs.Prelude.{IsOk}
 use Rattle.std.specs.FinMap as map
 use Rattle.std.proofs.lemmas.Bool.{le-ltb, lt-ltb, cases_lt}
-use Rattle.meta_rows.specs.Rows.{Rows}
+use Rattle.meta_rows.specs.Prelude.{Rows}
 use Rattle.object_model.specs.declared.op.Op.TheVariants.{Touch, Write}
 use Rattle.object_model.specs.declared.op.Refusal.TheVariants.{NoCollection, TooBig}
-use Rattle.object_model.specs.Objects.{Collection, Objects}
-use Rattle.object_model.specs.Effect.{object_limit, overwritten, unless, making, effects, transaction_effect, ◌>>=◌}
-use Rattle.object_model.specs.Limits.{payload_limit, submitted_effect}
-use Rattle.row_format.specs.Keys.{coll_key}
-use Rattle.store_image.specs.Pages.{HasKey}
-use Rattle.store_image.specs.Stands.{IsShape}
+use Rattle.object_model.specs.Prelude.{Collection, Objects, object_limit, overwritten, unless, making, effects, transaction_effect, ◌>>=◌, payload_limit, submitted_effect}
+use Rattle.row_format.specs.Prelude.{coll_key}
+use Rattle.store_image.specs.Prelude.{HasKey, IsShape}
 use Rattle.row_facts.proofs.ObjectUnder.{after_outcome}
 use Rattle.row_facts.proofs.Replies.{coll_absent, coll_found}
-use Rattle.object_rows.specs.Writes.{write_change, touch_change}
+use Rattle.object_rows.specs.Prelude.{write_change, touch_change}
 use Rattle.object_rows.proofs.Wrote.{write_effect}
 
 -- ---- the size of the transaction

@@ -4,21 +4,17 @@ use Rattle.std.specs.Prelude.{nat_le, nat_lt, ◌&&◌, Contains}
 use Rattle.std.specs.List.{AllByRecursion}
 use Rattle.std.specs.FinMap as finite
 use Rattle.std.proofs.lemmas.Bool.{cases_Bool}
-use Rattle.meta_rows.specs.Rows.{Rows}
+use Rattle.meta_rows.specs.Prelude.{Rows}
 use Rattle.meta_log.specs.declared.slot.Super.{Super}
-use Rattle.meta_log.specs.Slots.{width_of, data_unit}
-use Rattle.unit_fields.specs.Names.{IsName, IsCollName}
+use Rattle.meta_log.specs.Prelude.{width_of, data_unit}
+use Rattle.unit_fields.specs.Prelude.{IsName, IsCollName}
 use Rattle.unit_fields.specs.declared.width.Width.{Width}
-use Rattle.row_format.specs.Keys.{shard_key}
-use Rattle.row_format.specs.Extents.{Extent, Body, private, page_count, page_end, place_in, place_of, Place, ExtentsAscend, BeginsAt, FitsExtent}
-use Rattle.row_format.specs.Row.{Row, collection, onode, shard, bitmap, row_key}
-use Rattle.row_format.proofs.KeyLemmas.{same_shard, coll_no_object, onode_no_shard, bitmap_no_object}
-use Rattle.store_image.specs.Pages.{HasKey, HasRow, HasOnode, HasShard, IsPageAt, pages_of}
-use Rattle.store_image.specs.BadRows.{IsOnData, IsShardInPlace, NoBadRow}
-use Rattle.store_image.proofs.PageMap.{in_place, one_place}
-use Rattle.blob_map.specs.Pages.{HasNumbers, first_unit}
-use Rattle.object_rows.specs.Operations.{AreShards, Climb}
-use Rattle.object_rows.specs.Maps.{Rise, AreShardsOf, extents_in}
+use Rattle.row_format.specs.Prelude.{shard_key, Extent, Body, private, page_count, page_end, place_in, place_of, Place, ExtentsAscend, BeginsAt, FitsExtent, Row, collection, onode, shard, bitmap, row_key}
+use Rattle.row_format.proofs.Prelude.{same_shard, coll_no_object, onode_no_shard, bitmap_no_object}
+use Rattle.store_image.specs.Prelude.{HasKey, HasRow, HasOnode, HasShard, IsPageAt, pages_of, IsOnData, IsShardInPlace, NoBadRow}
+use Rattle.store_image.proofs.Prelude.{in_place, one_place}
+use Rattle.blob_map.specs.Prelude.{HasNumbers, first_unit}
+use Rattle.object_rows.specs.Prelude.{AreShards, Climb, Rise, AreShardsOf, extents_in}
 use Rattle.object_rows.proofs.Ops.{all_append}
 use Rattle.object_rows.proofs.GoodPages.{all_map}
 

@@ -3,21 +3,18 @@ use Rattle.std.proofs.Common.{◌≡◌, ◌≢◌, ◌⊎◌, inl, inr, ℕ, tr
 use Rattle.std.specs.Prelude.{IsSome}
 use Rattle.std.specs.FinMap as map
 use Rattle.byte_maps.specs.ByteMap.{byte_order}
-use Rattle.meta_rows.specs.Rows.{Rows}
+use Rattle.meta_rows.specs.Prelude.{Rows}
 use Rattle.meta_log.specs.declared.slot.Super.{Super}
-use Rattle.meta_log.specs.Slots.{width_of}
-use Rattle.object_model.specs.Objects.{Object, Collection, Objects, empty_object}
-use Rattle.object_model.specs.Effect.{object_under}
-use Rattle.unit_fields.specs.Names.{IsName, IsCollName}
-use Rattle.row_format.specs.Keys.{onode_key}
-use Rattle.row_format.specs.Extents.{Extent}
-use Rattle.store_image.specs.Pages.{HasOnode, HasPage}
-use Rattle.store_image.specs.Stands.{IsObjectShape, IsShape, AreObjectBytes, AreBytes, ObjectsStand}
+use Rattle.meta_log.specs.Prelude.{width_of}
+use Rattle.object_model.specs.Prelude.{Object, Collection, Objects, empty_object, object_under}
+use Rattle.unit_fields.specs.Prelude.{IsName, IsCollName}
+use Rattle.row_format.specs.Prelude.{onode_key, Extent}
+use Rattle.store_image.specs.Prelude.{HasOnode, HasPage, IsObjectShape, IsShape, AreObjectBytes, AreBytes, ObjectsStand}
 use Rattle.row_facts.proofs.Maps.{keys_after}
 use Rattle.row_facts.proofs.PutRow.{no_other_kind}
 use Rattle.row_facts.proofs.Shapes.{shape_kept}
 use Rattle.row_facts.proofs.ObjectUnder.{object_cases, with_object, under_same, under_other}
-use Rattle.object_rows.specs.Operations.{CanReplace, replaced, IsOther}
+use Rattle.object_rows.specs.Prelude.{CanReplace, replaced, IsOther}
 use Rattle.object_rows.proofs.After.{then_good, then_sized, then_others_on, then_kinds, then_colls, then_onodes}
 
 -- the object, or an empty one where it is missing, with other bytes

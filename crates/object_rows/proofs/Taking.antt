@@ -2,19 +2,19 @@
 use Rattle.std.proofs.Common.{◌≡◌, inl, inr, ℕ, zero, suc, ◌<◌, ◌≤◌, true, List, [], ◌∷◌, length, map, take, get_or, Contains, refl, sym, ap, subst, ◌∙◌, arith}
 use Rattle.std.specs.List.{AllByRecursion, Any}
 use Rattle.std.proofs.lemmas.List.{length-map, length-take-le}
-use Rattle.meta_rows.specs.Rows.{Rows}
+use Rattle.meta_rows.specs.Prelude.{Rows}
 use Rattle.meta_log.specs.declared.slot.Super.{Super}
-use Rattle.meta_log.specs.Slots.{width_of}
+use Rattle.meta_log.specs.Prelude.{width_of}
 use Rattle.object_model.specs.declared.op.Op.{Op}
 use Rattle.object_model.specs.declared.op.Op.TheVariants.{MkColl, Touch, Write}
 use Rattle.unit_fields.specs.declared.width.Width.{Width}
-use Rattle.unit_allocator.specs.Units.{Space, IsWithin, is_free, free_units}
+use Rattle.unit_allocator.specs.Prelude.{Space, IsWithin, is_free, free_units}
 use Rattle.unit_allocator.proofs.Lists.{Contains-head, Contains-tail, Contains-cases}
 use Rattle.unit_allocator.proofs.FreeUnits.{listed_is_free}
 use Rattle.plan_rows.specs.declared.plan.FreshUnit.{FreshUnit}
 use Rattle.plan_rows.specs.declared.plan.Plan.{Plan}
-use Rattle.plan_rows.specs.Plans.{data_of, AreFreeOver, PlansObject, Plans, units_taken, IsKnown}
-use Rattle.object_rows.specs.Planned.{IsPlanned, makes_coll, changes_object}
+use Rattle.plan_rows.specs.Prelude.{data_of, AreFreeOver, PlansObject, Plans, units_taken, IsKnown}
+use Rattle.object_rows.specs.Prelude.{IsPlanned, makes_coll, changes_object}
 use Rattle.object_rows.proofs.FreeOver.{all_taken, all_listed, can_plan}
 use Rattle.object_rows.proofs.PagesOn.{units_of_pages}
 

@@ -1,29 +1,19 @@
 -- An object is touched: it is made where it is missing.
 use Rattle.std.proofs.Common.{◌<◌, ◌^◌, length, arith, ◌≡◌, ◌↔◌, inl, inr, ℕ, true, false, cond, List, [], Option, Some, None, Ok, is_some, refl, sym, ap, subst, ◌∙◌, append-nil}
 use Rattle.std.specs.FinMap as map
-use Rattle.meta_rows.specs.Rows.{Rows, rows_after}
-use Rattle.meta_rows.specs.Spelling.{ops_bytes, AllFit}
+use Rattle.meta_rows.specs.Prelude.{Rows, rows_after, ops_bytes, AllFit}
 use Rattle.meta_rows.specs.declared.row_op.RowOp.{RowOp}
 use Rattle.meta_log.specs.declared.slot.Super.{Super}
-use Rattle.meta_log.specs.Slots.{width_of}
-use Rattle.object_model.specs.Objects.{Objects}
-use Rattle.object_model.specs.Effect.{transaction_effect}
-use Rattle.unit_fields.specs.Names.{IsName, IsCollName}
-use Rattle.row_format.specs.Keys.{coll_key, onode_key}
-use Rattle.row_format.specs.Row.{shard}
-use Rattle.row_format.specs.Extents.{own}
-use Rattle.store_image.specs.Pages.{HasKey, IsPageAt, HasPage}
-use Rattle.store_image.specs.BadRows.{NoBadRow}
-use Rattle.store_image.specs.Owners.{Owner, page_of, Owns, IsOwned, IsMarked, IsExactBut, HasSoleOwner}
-use Rattle.store_image.specs.Stands.{IsShape, ObjectsStand}
-use Rattle.store_image.proofs.OwnedUnits.{objects_stand}
-use Rattle.store_image.proofs.PageMap.{in_place}
+use Rattle.meta_log.specs.Prelude.{width_of}
+use Rattle.object_model.specs.Prelude.{Objects, transaction_effect}
+use Rattle.unit_fields.specs.Prelude.{IsName, IsCollName}
+use Rattle.row_format.specs.Prelude.{coll_key, onode_key, shard, own}
+use Rattle.store_image.specs.Prelude.{HasKey, IsPageAt, HasPage, NoBadRow, Owner, page_of, Owns, IsOwned, IsMarked, IsExactBut, HasSoleOwner, IsShape, ObjectsStand}
+use Rattle.store_image.proofs.Prelude.{objects_stand, in_place}
 use Rattle.row_facts.proofs.Bits.{exact_stays}
 use Rattle.row_facts.proofs.ObjectUnder.{object_cases}
-use Rattle.object_rows.specs.Operations.{CanReplace, onode_ops, object_ops, replaced, HasUnit, IsOwnedElsewhere}
-use Rattle.plan_rows.specs.Difference.{KeysAscend}
-use Rattle.object_rows.specs.Plans.{touch_ops}
-use Rattle.object_rows.specs.Writes.{touch_change}
+use Rattle.object_rows.specs.Prelude.{CanReplace, onode_ops, object_ops, replaced, HasUnit, IsOwnedElsewhere, touch_ops, touch_change}
+use Rattle.plan_rows.specs.Prelude.{KeysAscend}
 use Rattle.object_rows.proofs.After.{then_good, then_owned, then_bits}
 use Rattle.object_rows.proofs.KeyOrder.{ops_ascend}
 use Rattle.object_rows.proofs.Lengths.{object_ops_fit, length-object_ops}

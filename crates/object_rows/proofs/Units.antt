@@ -2,16 +2,14 @@
 use Rattle.std.proofs.Common.{◌≡◌, ◌⊎◌, ◌↔◌, inl, inr, ℕ, ◌+◌, ◌<◌, ◌≤◌, List, length, Some, refl, sym, ap, subst, ◌∙◌, arith}
 use Rattle.std.specs.Prelude.{slice_index}
 use Rattle.byte_maps.specs.Units.{unit_at}
-use Rattle.crc32c_csum.specs.Crc32c.{crc32c}
-use Rattle.meta_rows.specs.Rows.{Rows}
+use Rattle.crc32c_csum.specs.Prelude.{crc32c}
+use Rattle.meta_rows.specs.Prelude.{Rows}
 use Rattle.meta_log.specs.declared.slot.Super.{Super}
-use Rattle.meta_log.specs.Slots.{width_of}
-use Rattle.row_format.specs.Extents.{Extent, own, place_of}
-use Rattle.store_image.specs.Pages.{IsPageAt}
-use Rattle.store_image.specs.Owners.{Owner, page_of, Owns, IsOwned, HasSoleOwner}
+use Rattle.meta_log.specs.Prelude.{width_of}
+use Rattle.row_format.specs.Prelude.{Extent, own, place_of}
+use Rattle.store_image.specs.Prelude.{IsPageAt, Owner, page_of, Owns, IsOwned, HasSoleOwner}
 use Rattle.row_facts.proofs.ObjectUnder.{object_cases}
-use Rattle.object_rows.specs.Operations.{CanReplace, replaced, IsOther, HasUnit, IsOwnedElsewhere, StandsAlone}
-use Rattle.object_rows.specs.Writes.{IsWritten, AreDistinct, IsLeft, IsOwnedBesidesWritten, StoodWritten}
+use Rattle.object_rows.specs.Prelude.{CanReplace, replaced, IsOther, HasUnit, IsOwnedElsewhere, StandsAlone, IsWritten, AreDistinct, IsLeft, IsOwnedBesidesWritten, StoodWritten}
 use Rattle.object_rows.proofs.After.{then_pages, then_others}
 use Rattle.object_rows.proofs.Wrote.{written_or_not}
 

@@ -7,38 +7,25 @@ use Rattle.std.proofs.lemmas.Bool.{cases_Bool}
 use Rattle.std.specs.FinMap as finite
 use Rattle.std.proofs.lemmas.Grind.{flat_map-append}
 use Rattle.byte_maps.specs.Units.{unit_at}
-use Rattle.crc32c_csum.specs.Crc32c.{crc32c}
-use Rattle.meta_rows.specs.Rows.{Rows, rows_after}
-use Rattle.meta_rows.specs.Spelling.{op_bytes, ops_bytes, FitsRowOp, AllFit}
+use Rattle.crc32c_csum.specs.Prelude.{crc32c}
+use Rattle.meta_rows.specs.Prelude.{Rows, rows_after, op_bytes, ops_bytes, FitsRowOp, AllFit}
 use Rattle.meta_rows.specs.declared.row_op.RowOp.{RowOp}
 use Rattle.meta_rows.proofs.Folds.{rows_after-append}
 use Rattle.meta_log.specs.declared.slot.Super.{Super}
-use Rattle.meta_log.specs.Slots.{width_of}
-use Rattle.object_model.specs.Objects.{Objects}
-use Rattle.object_model.specs.Effect.{object_limit, transaction_effect}
-use Rattle.unit_fields.specs.UnitSet.{Ascends}
-use Rattle.row_format.specs.Extents.{Extent, own}
-use Rattle.row_format.specs.Row.{onode}
-use Rattle.store_image.specs.Pages.{IsPageAt, HasPage, pages_of}
-use Rattle.store_image.specs.BadRows.{NoBadRow}
-use Rattle.store_image.specs.Owners.{Owner, page_of, Owns, IsDataUnit, IsOwned, IsMarked, IsLeaked, IsExactAs, HasSoleOwner}
-use Rattle.store_image.specs.Stands.{IsShape, ObjectsStand}
-use Rattle.store_image.proofs.PageMap.{in_place}
+use Rattle.meta_log.specs.Prelude.{width_of}
+use Rattle.object_model.specs.Prelude.{Objects, object_limit, transaction_effect}
+use Rattle.unit_fields.specs.Prelude.{Ascends}
+use Rattle.row_format.specs.Prelude.{Extent, own, onode}
+use Rattle.store_image.specs.Prelude.{IsPageAt, HasPage, pages_of, NoBadRow, Owner, page_of, Owns, IsDataUnit, IsOwned, IsMarked, IsLeaked, IsExactAs, HasSoleOwner, IsShape, ObjectsStand}
+use Rattle.store_image.proofs.Prelude.{in_place}
 use Rattle.bitmap_freelist.specs.Bitmap.{Has, AreAlikeButBits, ExactlyOne}
 use Rattle.bitmap_freelist.proofs.Alike.{flips_alike, alike_owns, alike_shape, alike_stand}
 use Rattle.bitmap_freelist.proofs.GoodBitmaps.{turned_good}
 use Rattle.bitmap_freelist.proofs.Records.{flips_fit, flips_size, flips_count}
 use Rattle.bitmap_freelist.proofs.Turning.{turn_their_units}
-use Rattle.blob_map.specs.Pages.{PageMap, with_pages}
-use Rattle.blob_map.specs.Normal.{extents_of}
-use Rattle.plan_rows.specs.Difference.{IsDifference, KeysAscend}
-use Rattle.plan_rows.specs.Layouts.{AreReplaced, IsSizeOf, new_pages, missing, there}
-use Rattle.object_rows.specs.Operations.{CanReplace, object_ops, replaced, Climb}
-use Rattle.object_rows.specs.Maps.{IsMapWritten, CanWrite}
-use Rattle.object_rows.specs.Writes.{write_change, IsWritten, HoldPages, AreDistinct, StoodWritten}
-use Rattle.object_rows.specs.Plans.{WritesPages}
-use Rattle.plan_rows.specs.Plans.{pages_on}
-use Rattle.object_rows.specs.Planned.{CanPlanWrite}
+use Rattle.blob_map.specs.Prelude.{PageMap, with_pages, extents_of}
+use Rattle.plan_rows.specs.Prelude.{IsDifference, KeysAscend, AreReplaced, IsSizeOf, new_pages, missing, there, pages_on}
+use Rattle.object_rows.specs.Prelude.{CanReplace, object_ops, replaced, Climb, IsMapWritten, CanWrite, write_change, IsWritten, HoldPages, AreDistinct, StoodWritten, WritesPages, CanPlanWrite}
 use Rattle.object_rows.proofs.After.{are_then, has_shard, then_good, then_bits}
 use Rattle.object_rows.proofs.Between.{at_index, between_stood}
 use Rattle.object_rows.proofs.FewShards.{few_shards}

@@ -4,29 +4,22 @@ use Rattle.std.specs.Prelude.{max, slice_index}
 use Rattle.std.specs.FinMap as map
 use Rattle.std.proofs.lemmas.Bool.{le-ltb, cases_lt}
 use Rattle.byte_maps.specs.Units.{unit_at}
-use Rattle.byte_maps.proofs.Laws.{insert_same}
-use Rattle.crc32c_csum.specs.Crc32c.{crc32c}
-use Rattle.meta_rows.specs.Rows.{Rows}
+use Rattle.byte_maps.proofs.Prelude.{insert_same}
+use Rattle.crc32c_csum.specs.Prelude.{crc32c}
+use Rattle.meta_rows.specs.Prelude.{Rows}
 use Rattle.meta_log.specs.declared.slot.Super.{Super}
-use Rattle.meta_log.specs.Slots.{width_of}
+use Rattle.meta_log.specs.Prelude.{width_of}
 use Rattle.object_model.specs.declared.op.Op.TheVariants.{Touch, Write}
 use Rattle.object_model.specs.declared.op.Refusal.TheVariants.{NoCollection, TooBig}
-use Rattle.object_model.specs.Objects.{Object, Collection, Objects, empty_object}
-use Rattle.object_model.specs.Effect.{object_limit, overwritten, unless, making, effects, transaction_effect, object_under, ◌>>=◌}
-use Rattle.unit_fields.specs.Names.{IsName, IsCollName}
-use Rattle.row_format.specs.Keys.{onode_key}
-use Rattle.row_format.specs.Extents.{Extent, Place, own, place_of}
-use Rattle.row_format.specs.Row.{onode, shard, row_value}
-use Rattle.row_format.proofs.RowLemmas.{same_row}
-use Rattle.store_image.specs.Pages.{HasKey, HasPage}
-use Rattle.store_image.specs.BadRows.{IsShardInPlace}
-use Rattle.store_image.specs.Stands.{page_bytes, IsShape, AreObjectBytes, ObjectsStand}
-use Rattle.store_image.proofs.PageMap.{in_place}
-use Rattle.store_image.proofs.PageUnits.{on_own, own_of}
+use Rattle.object_model.specs.Prelude.{Object, Collection, Objects, empty_object, object_limit, overwritten, unless, making, effects, transaction_effect, object_under, ◌>>=◌}
+use Rattle.unit_fields.specs.Prelude.{IsName, IsCollName}
+use Rattle.row_format.specs.Prelude.{onode_key, Extent, Place, own, place_of, onode, shard, row_value}
+use Rattle.row_format.proofs.Prelude.{same_row}
+use Rattle.store_image.specs.Prelude.{HasKey, HasPage, IsShardInPlace, page_bytes, IsShape, AreObjectBytes, ObjectsStand}
+use Rattle.store_image.proofs.Prelude.{in_place, on_own, own_of}
 use Rattle.row_facts.proofs.ObjectUnder.{after_outcome, with_object}
-use Rattle.object_rows.specs.Operations.{CanReplace, replaced}
-use Rattle.object_rows.specs.Writes.{write_change, touch_change, IsWritten, HoldPages}
-use Rattle.plan_rows.specs.Layouts.{missing, there, IsSizeOf}
+use Rattle.object_rows.specs.Prelude.{CanReplace, replaced, write_change, touch_change, IsWritten, HoldPages}
+use Rattle.plan_rows.specs.Prelude.{missing, there, IsSizeOf}
 use Rattle.object_rows.proofs.After.{then_pages}
 use Rattle.object_rows.proofs.PageBytes.{no_pages, over_length, page_outside, page_inside}
 use Rattle.object_rows.proofs.Stand.{with_bytes, under_is, later_shape, later_stand}

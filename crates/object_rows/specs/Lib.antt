@@ -3,3 +3,4 @@ pub mod Writes
 pub mod Maps
 pub mod Plans
 pub mod Planned
+pub mod Prelude

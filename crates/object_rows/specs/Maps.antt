@@ -3,20 +3,17 @@ use Rattle.std.specs.Prelude.{◌≡◌, ◌⊎◌, ℕ, ◌+◌, ◌*◌, ◌<�
 use Rattle.std.specs.List.{flat_map, AllByRecursion}
 use Rattle.std.specs.FinMap as finite
 use Rattle.byte_maps.specs.Units.{unit_at}
-use Rattle.crc32c_csum.specs.Crc32c.{crc32c}
-use Rattle.meta_rows.specs.Rows.{Rows}
+use Rattle.crc32c_csum.specs.Prelude.{crc32c}
+use Rattle.meta_rows.specs.Prelude.{Rows}
 use Rattle.meta_log.specs.declared.slot.Super.{Super}
-use Rattle.object_model.specs.Effect.{object_limit}
-use Rattle.unit_fields.specs.Names.{IsName, IsCollName}
+use Rattle.object_model.specs.Prelude.{object_limit}
+use Rattle.unit_fields.specs.Prelude.{IsName, IsCollName}
 use Rattle.unit_fields.specs.declared.width.Width.{Width}
-use Rattle.row_format.specs.Keys.{coll_key}
-use Rattle.row_format.specs.Extents.{Extent, own}
-use Rattle.store_image.specs.Pages.{HasKey, HasShard}
-use Rattle.store_image.specs.BadRows.{NoBadRow}
-use Rattle.store_image.specs.Owners.{IsDataUnit}
-use Rattle.blob_map.specs.Pages.{PageMap}
+use Rattle.row_format.specs.Prelude.{coll_key, Extent, own}
+use Rattle.store_image.specs.Prelude.{HasKey, HasShard, NoBadRow, IsDataUnit}
+use Rattle.blob_map.specs.Prelude.{PageMap}
 use Rattle.object_rows.specs.Operations.{AreShards}
-use Rattle.plan_rows.specs.Layouts.{IsSizeOf}
+use Rattle.plan_rows.specs.Prelude.{IsSizeOf}
 
 -- ---- shards
 

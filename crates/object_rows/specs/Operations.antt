@@ -4,20 +4,16 @@ use Rattle.std.specs.List.{AllByRecursion}
 use Rattle.std.specs.Int.{w64, to_le_bytes}
 use Rattle.std.specs.Option.{option_map_or}
 use Rattle.std.specs.FinMap as finite
-use Rattle.meta_rows.specs.Rows.{Rows, rows_after}
+use Rattle.meta_rows.specs.Prelude.{Rows, rows_after}
 use Rattle.meta_rows.specs.declared.row_op.RowOp.{RowOp}
 use Rattle.meta_rows.specs.declared.row_op.RowOp.TheVariants.{Drop}
 use Rattle.meta_log.specs.declared.slot.Super.{Super}
-use Rattle.meta_log.specs.Slots.{width_of}
-use Rattle.object_model.specs.Effect.{object_limit, is_same}
-use Rattle.unit_fields.specs.Names.{IsName, IsCollName}
+use Rattle.meta_log.specs.Prelude.{width_of}
+use Rattle.object_model.specs.Prelude.{object_limit, is_same}
+use Rattle.unit_fields.specs.Prelude.{IsName, IsCollName}
 use Rattle.unit_fields.specs.declared.width.Width.{Width}
-use Rattle.row_format.specs.Keys.{coll_key, onode_key, shard_key}
-use Rattle.row_format.specs.Extents.{Extent, FitsExtent, ExtentsAscend, own, place_of, page_end}
-use Rattle.row_format.specs.Row.{shard}
-use Rattle.store_image.specs.Pages.{HasKey, pages_of}
-use Rattle.store_image.specs.BadRows.{NoBadRow, IsOnData}
-use Rattle.store_image.specs.Owners.{page_of, Owns}
+use Rattle.row_format.specs.Prelude.{coll_key, onode_key, shard_key, Extent, FitsExtent, ExtentsAscend, own, place_of, page_end, shard}
+use Rattle.store_image.specs.Prelude.{HasKey, pages_of, NoBadRow, IsOnData, page_of, Owns}
 use Rattle.row_facts.specs.Operations.{set_row, set_onode}
 
 -- whether the rows have this value under this key

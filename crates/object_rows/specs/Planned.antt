@@ -3,22 +3,19 @@ use Rattle.std.specs.Prelude.{◌≡◌, ℕ, ◌+◌, ◌*◌, ◌/◌, ◌%◌
 use Rattle.std.specs.List.{AllByRecursion}
 use Rattle.std.specs.FinMap as finite
 use Rattle.byte_maps.specs.Units.{unit_at}
-use Rattle.crc32c_csum.specs.Crc32c.{crc32c}
-use Rattle.meta_rows.specs.Rows.{Rows}
+use Rattle.crc32c_csum.specs.Prelude.{crc32c}
+use Rattle.meta_rows.specs.Prelude.{Rows}
 use Rattle.meta_log.specs.declared.slot.Super.{Super}
-use Rattle.meta_log.specs.Slots.{width_of}
+use Rattle.meta_log.specs.Prelude.{width_of}
 use Rattle.object_model.specs.declared.op.Op.{Op}
 use Rattle.object_model.specs.declared.op.Op.TheVariants.{Touch, Write}
-use Rattle.object_model.specs.Effect.{Change, object_limit}
-use Rattle.object_model.specs.Limits.{payload_limit}
-use Rattle.unit_fields.specs.Names.{IsCollName}
-use Rattle.unit_fields.specs.UnitSet.{Ascends}
-use Rattle.row_format.specs.Keys.{coll_key}
-use Rattle.store_image.specs.Owners.{IsDataUnit, IsOwned, IsMarked}
+use Rattle.object_model.specs.Prelude.{Change, object_limit, payload_limit}
+use Rattle.unit_fields.specs.Prelude.{IsCollName, Ascends}
+use Rattle.row_format.specs.Prelude.{coll_key}
+use Rattle.store_image.specs.Prelude.{IsDataUnit, IsOwned, IsMarked}
 use Rattle.row_facts.specs.Operations.{coll_change}
 use Rattle.plan_rows.specs.declared.plan.Plan.{Plan}
-use Rattle.plan_rows.specs.Layouts.{Layout, HasLayout, made_of, MakesColl, MakesLayout}
-use Rattle.plan_rows.specs.Plans.{IsInColl, object_of, data_of, pages_on}
+use Rattle.plan_rows.specs.Prelude.{Layout, HasLayout, made_of, MakesColl, MakesLayout, IsInColl, object_of, data_of, pages_on}
 
 -- data units that nobody owns and whose bits are 0, ascending, whose numbers fit their fields
 pub record AreFresh (s : Super) (rows : Rows) (units : List ℕ) : Type 0 where

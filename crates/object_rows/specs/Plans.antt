@@ -5,16 +5,15 @@ use Rattle.std.specs.Ordering.{nat_cmp}
 use Rattle.std.specs.FinMap as finite
 use Rattle.std.specs.FinMap.Entries.{where_key}
 use Rattle.number_map.specs.NumberMap.{is_in}
-use Rattle.meta_rows.specs.Rows.{Rows}
+use Rattle.meta_rows.specs.Prelude.{Rows}
 use Rattle.meta_rows.specs.declared.row_op.RowOp.{RowOp}
-use Rattle.unit_fields.specs.UnitSet.{Ascends}
+use Rattle.unit_fields.specs.Prelude.{Ascends}
 use Rattle.unit_fields.specs.declared.width.Width.{Width}
-use Rattle.row_format.specs.Keys.{onode_key, shard_key}
-use Rattle.store_image.specs.Pages.{HasKey}
-use Rattle.blob_map.specs.Pages.{PageMap, with_pages}
-use Rattle.blob_map.specs.Normal.{extents_of}
+use Rattle.row_format.specs.Prelude.{onode_key, shard_key}
+use Rattle.store_image.specs.Prelude.{HasKey}
+use Rattle.blob_map.specs.Prelude.{PageMap, with_pages, extents_of}
 use Rattle.object_rows.specs.Operations.{onode_ops, object_ops, AreShards}
-use Rattle.plan_rows.specs.Layouts.{IsMapOf, IsSizeOf, new_pages, own_units, TurnsBits}
+use Rattle.plan_rows.specs.Prelude.{IsMapOf, IsSizeOf, new_pages, own_units, TurnsBits}
 
 -- those of the pages from one on, so many
 abbrev pub units_between : PageMap → ℕ → ℕ → List ℕ

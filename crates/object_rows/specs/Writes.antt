@@ -2,14 +2,13 @@
 use Rattle.std.specs.Prelude.{◌≡◌, ◌⊎◌, ◌↔◌, ℕ, ◌+◌, ◌*◌, ◌<◌, ◌≤◌, max, List, [], ◌∷◌, length, Some, slice_index}
 use Rattle.byte_maps.specs.Units.{unit_at}
 use Rattle.unit_fields.specs.declared.width.Width.{Width}
-use Rattle.crc32c_csum.specs.Crc32c.{crc32c}
-use Rattle.meta_rows.specs.Rows.{Rows}
+use Rattle.crc32c_csum.specs.Prelude.{crc32c}
+use Rattle.meta_rows.specs.Prelude.{Rows}
 use Rattle.object_model.specs.declared.op.Op.TheVariants.{Touch, Write}
-use Rattle.object_model.specs.Effect.{Change}
-use Rattle.row_format.specs.Extents.{Extent, Place, own, place_of}
-use Rattle.store_image.specs.Pages.{IsPageAt, HasPage}
-use Rattle.store_image.specs.Owners.{Owner, page_of, Owns}
-use Rattle.plan_rows.specs.Layouts.{IsSizeOf}
+use Rattle.object_model.specs.Prelude.{Change}
+use Rattle.row_format.specs.Prelude.{Extent, Place, own, place_of}
+use Rattle.store_image.specs.Prelude.{IsPageAt, HasPage, Owner, page_of, Owns}
+use Rattle.plan_rows.specs.Prelude.{IsSizeOf}
 use Rattle.object_rows.specs.Operations.{IsOther}
 
 -- the transaction that writes bytes from a page on

@@ -3,27 +3,19 @@ ghost use Rattle.std.specs.Prelude.{Some, None, Ok, ◌≡◌, ◌<◌, ◌≤�
 ghost use Rattle.std.specs.List.{flat_map, AllByRecursion};
 ghost use Rattle.std.specs.FinMap as map;
 ghost use Rattle.meta_log.specs.declared.slot.Super.{Super};
-ghost use Rattle.meta_rows.specs.Rows.{Rows, LeaveAlone};
+ghost use Rattle.meta_rows.specs.Prelude.{Rows, LeaveAlone, ops_bytes, AllFit};
 ghost use Rattle.meta_rows.specs.declared.row_op.RowOp.{RowOp};
-ghost use Rattle.meta_rows.specs.Spelling.{ops_bytes, AllFit};
-ghost use Rattle.object_model.specs.Objects.{Objects};
-ghost use Rattle.object_model.specs.Effect.{transaction_effect};
-ghost use Rattle.unit_fields.specs.Names.{IsName, IsCollName};
-ghost use Rattle.row_format.specs.Keys.{coll_key, onode_key, shard_key};
-ghost use Rattle.row_format.specs.Extents.{Extent, Place, place_of, page_end, extent_bytes, BeginsAt, ExtentsAscend, FitsExtent};
-ghost use Rattle.store_image.specs.Pages.{HasKey, HasOnode, IsPageAt, pages_of};
-ghost use Rattle.store_image.specs.BadRows.{IsOnData, NoBadRow};
-ghost use Rattle.store_image.specs.Owners.{IsOwned, HasSoleOwner};
-ghost use Rattle.store_image.specs.Stands.{ObjectsStand};
+ghost use Rattle.object_model.specs.Prelude.{Objects, transaction_effect};
+ghost use Rattle.unit_fields.specs.Prelude.{IsName, IsCollName};
+ghost use Rattle.row_format.specs.Prelude.{coll_key, onode_key, shard_key, Extent, Place, place_of, page_end, extent_bytes, BeginsAt, ExtentsAscend, FitsExtent};
+ghost use Rattle.store_image.specs.Prelude.{HasKey, HasOnode, IsPageAt, pages_of, IsOnData, NoBadRow, IsOwned, HasSoleOwner, ObjectsStand};
 ghost use Rattle.object_rows.specs.Operations.{AreShards, CanReplace, Climb, object_ops, replaced, IsOther, HasUnit, IsOwnedElsewhere, StandsAlone};
-ghost use Rattle.plan_rows.specs.Difference.{KeysAscend, IsDifference};
-ghost use Rattle.plan_rows.specs.Layouts.{IsKeyOf, IsMapOf, Layout, HasLayout, AreReplaced};
-ghost use Rattle.blob_map.specs.Pages.{PageMap, HasNumbers};
-ghost use Rattle.blob_map.specs.Normal.{extents_of};
+ghost use Rattle.plan_rows.specs.Prelude.{KeysAscend, IsDifference, IsKeyOf, IsMapOf, Layout, HasLayout, AreReplaced};
+ghost use Rattle.blob_map.specs.Prelude.{PageMap, HasNumbers, extents_of};
 ghost use Rattle.object_rows.specs.Maps.{AreShardsOf, extents_in, first_pages, IsMapWritten, CanWrite};
 ghost use Rattle.row_facts.specs.Operations.{coll_ops};
 ghost use Rattle.object_rows.specs.Writes.{write_change, touch_change, IsWritten, HoldPages, AreDistinct, IsOwnedBesidesWritten, StoodWritten};
-ghost use Rattle.meta_log.specs.Slots.{width_of};
+ghost use Rattle.meta_log.specs.Prelude.{width_of};
 ghost use Rattle.unit_fields.specs.declared.width.Width.{Width};
 
 /// Replacing an object's onode and extents leaves no bad row. The object has this size then, its pages are the extents', those of the

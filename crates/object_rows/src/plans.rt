@@ -4,31 +4,21 @@ ghost use Rattle.std.specs.List.{AllByRecursion};
 ghost use Rattle.std.specs.FinMap as map;
 ghost use Rattle.byte_maps.specs.Units.{units_for};
 ghost use Rattle.meta_log.specs.declared.slot.Super.{Super};
-ghost use Rattle.meta_log.specs.Records.{unit_count};
-ghost use Rattle.meta_rows.specs.Rows.{Rows, rows_after};
-ghost use Rattle.meta_rows.specs.Spelling.{ops_bytes, AllFit};
+ghost use Rattle.meta_log.specs.Prelude.{unit_count, width_of};
+ghost use Rattle.meta_rows.specs.Prelude.{Rows, rows_after, ops_bytes, AllFit};
 ghost use Rattle.meta_rows.specs.declared.row_op.RowOp.{RowOp};
-ghost use Rattle.object_model.specs.Objects.{Objects};
-ghost use Rattle.object_model.specs.Effect.{Change, transaction_effect, object_limit};
-ghost use Rattle.object_model.specs.Limits.{payload_limit, submitted_effect};
+ghost use Rattle.object_model.specs.Prelude.{Objects, Change, transaction_effect, object_limit, payload_limit, submitted_effect};
 ghost use Rattle.object_model.specs.declared.op.Op.TheVariants.{Write};
 ghost use Rattle.object_model.specs.declared.op.Refusal.TheVariants.{NoCollection, TooBig};
-ghost use Rattle.unit_fields.specs.UnitSet.{Ascends};
-ghost use Rattle.row_format.specs.Keys.{coll_key};
-ghost use Rattle.store_image.specs.Pages.{HasKey, HasPage};
-ghost use Rattle.store_image.specs.BadRows.{NoBadRow};
-ghost use Rattle.store_image.specs.Owners.{IsDataUnit, IsOwned, IsMarked, IsExactAs, HasSoleOwner};
-ghost use Rattle.store_image.specs.Stands.{IsShape, ObjectsStand};
+ghost use Rattle.unit_fields.specs.Prelude.{Ascends};
+ghost use Rattle.row_format.specs.Prelude.{coll_key};
+ghost use Rattle.store_image.specs.Prelude.{HasKey, HasPage, NoBadRow, IsDataUnit, IsOwned, IsMarked, IsExactAs, HasSoleOwner, IsShape, ObjectsStand};
 ghost use Rattle.row_facts.specs.Operations.{coll_ops};
-ghost use Rattle.plan_rows.specs.Layouts.{Layout, HasLayout, made_of, MakesColl, MakesLayout};
-ghost use Rattle.plan_rows.specs.Difference.{KeysAscend};
+ghost use Rattle.plan_rows.specs.Prelude.{Layout, HasLayout, made_of, MakesColl, MakesLayout, KeysAscend, PlansKeep, IsInColl, HoldsFresh, IsFresh, StandsOnce, fresh_units};
 ghost use Rattle.object_rows.specs.Plans.{WritesPages, touch_ops};
 ghost use Rattle.object_rows.specs.Writes.{write_change, touch_change};
 ghost use Rattle.plan_rows.specs.declared.plan.Plan.{Plan};
 ghost use Rattle.object_rows.specs.Planned.{CanPlanWrite, IsPlanned};
-ghost use Rattle.plan_rows.specs.Keeps.{PlansKeep};
-ghost use Rattle.plan_rows.specs.Plans.{IsInColl, HoldsFresh, IsFresh, StandsOnce, fresh_units};
-ghost use Rattle.meta_log.specs.Slots.{width_of};
 
 /// A planned transaction is accepted, its operations leave no bad row, and rows that stand for the objects after it, once its
 /// fresh units hold their bytes, and those on which pages stand what they held.

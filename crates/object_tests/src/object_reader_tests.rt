@@ -3,9 +3,8 @@
 //! the program `store_cases`.
 ghost use Rattle.std.specs.Prelude.{IfOk, IsTrue};
 ghost use Rattle.unit_fields.specs.declared.width.Width.TheVariants.{FourBytes};
-ghost use Rattle.block_device.specs.Memory.{disk_of};
-ghost use Rattle.read_facts.specs.Answers.{IsKnownRead};
-ghost use Rattle.read_facts.specs.PageReads.{no_memory};
+ghost use Rattle.block_device.specs.Prelude.{disk_of};
+ghost use Rattle.read_facts.specs.Prelude.{IsKnownRead, no_memory};
 ghost use Rattle.object_reader.specs.Readable.{IsReadable};
 
 use crate::rows::{COLL, ONODE_A, SHARD_A0, superblock, table_of};

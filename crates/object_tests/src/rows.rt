@@ -1,6 +1,6 @@
 //! Rows that are spelled by hand.
 ghost use Rattle.std.specs.Prelude.{◌≡◌, ◌≤◌};
-ghost use Rattle.meta_log.specs.Slots.{IsSuper};
+ghost use Rattle.meta_log.specs.Prelude.{IsSuper};
 
 use byte_maps::Bytes;
 use meta_log::Super;

@@ -2,7 +2,7 @@
 ghost use Rattle.std.specs.Prelude.{IsTrue, IfOk};
 ghost use Rattle.unit_fields.specs.declared.width.Width.TheVariants.{FourBytes};
 ghost use Rattle.onode_state.specs.Objects.{AreRowsOfWidth};
-ghost use Rattle.plan_rows.specs.Plans.{IsKnown};
+ghost use Rattle.plan_rows.specs.Prelude.{IsKnown};
 
 use crate::rows::{COLL, Entry, ONODE_A, SHARD_A0, superblock, table_of};
 use bytes::Bytes;

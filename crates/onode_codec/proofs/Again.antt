@@ -3,8 +3,8 @@ use Rattle.std.proofs.Common.{◌≡◌, ◌≢◌, ℕ, List, length, Option, S
 use Rattle.std.specs.Int.{w64, from_le_bytes}
 use Rattle.std.proofs.lemmas.Nat.{from_le_bytes-to_le_bytes_8}
 use Rattle.unit_fields.specs.declared.width.Width.{Width}
-use Rattle.row_format.specs.Extents.{Extent}
-use Rattle.row_format.proofs.ExtentReading.{extents-same}
+use Rattle.row_format.specs.Prelude.{Extent}
+use Rattle.row_format.proofs.Prelude.{extents-same}
 use Rattle.onode_codec.specs.declared.onode.Onode.{Onode}
 use Rattle.onode_codec.specs.Reading.{SpellsOnode, SpellExtents}
 

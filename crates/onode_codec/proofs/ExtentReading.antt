@@ -5,14 +5,12 @@ use Rattle.std.specs.Int.{w16, w32, to_le_bytes, from_le_bytes}
 use Rattle.std.proofs.lemmas.List.{length-append, length_push}
 use Rattle.std.proofs.lemmas.List.Concat.{flat_map-cons, flat_map-append}
 use Rattle.meta_rows.proofs.FieldLemmas.{number_front, wide16, wide32}
-use Rattle.unit_fields.specs.Fields.{IsTooShort, ReadsNumber}
+use Rattle.unit_fields.specs.Prelude.{IsTooShort, ReadsNumber, bytes_of}
 use Rattle.unit_fields.specs.declared.width.Width.{Width}
 use Rattle.unit_fields.specs.declared.width.Width.TheVariants.{FourBytes}
-use Rattle.unit_fields.specs.Widths.{bytes_of}
-use Rattle.row_format.specs.Extents.{Body, private, Extent, page_count, body_bytes, extent_bytes, FitsExtent}
-use Rattle.row_format.proofs.ExtentReading.{extent_front, bytes_less}
+use Rattle.row_format.specs.Prelude.{Body, private, Extent, page_count, body_bytes, extent_bytes, FitsExtent, csum_bytes, csum_in, FitsCsum}
+use Rattle.row_format.proofs.Prelude.{extent_front, bytes_less}
 pub use Rattle.row_format.proofs.ExtentReading.{length-csums}
-use Rattle.row_format.specs.Csums.{csum_bytes, csum_in, FitsCsum}
 use Rattle.onode_codec.specs.declared.extent.Head.{Head}
 use Rattle.onode_codec.specs.Reading.{extent_head, BeginsWithNoExtent, ReadsHead, ReadsCsum, ReadsCsums, ReadsExtent, SpellExtents}
 

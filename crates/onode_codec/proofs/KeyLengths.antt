@@ -1,9 +1,9 @@
 -- How long keys are.
 use Rattle.std.proofs.Common.{ℕ, zero, suc, ◌+◌, ◌/◌, ◌%◌, ◌≤◌, Bool, true, false, cond, ◌==◌, List, [], ◌∷◌, ◌++◌, length, subst, sym, arith, length-append}
 use Rattle.std.specs.Fmt.{digits, digits_onto, digit_glyph, decimal}
-use Rattle.meta_rows.specs.Spelling.{IsKey}
-use Rattle.unit_fields.specs.Names.{IsName, IsCollName, head_suffix}
-use Rattle.row_format.specs.Keys.{object_key}
+use Rattle.meta_rows.specs.Prelude.{IsKey}
+use Rattle.unit_fields.specs.Prelude.{IsName, IsCollName, head_suffix}
+use Rattle.row_format.specs.Prelude.{object_key}
 
 -- as many digits as there are steps
 digits_onto-most : (k base : ℕ) (upper : Bool) (n : ℕ) (acc : List ℕ) → length (digits_onto k base upper n acc) ≤ k + length acc

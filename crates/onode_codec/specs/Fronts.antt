@@ -1,6 +1,6 @@
 -- Where the keys of the collections begin and end, and those of a collection's objects.
 use Rattle.std.specs.Prelude.{ℕ, List, [], ◌∷◌, ◌++◌, Option, Some, None}
-use Rattle.row_format.specs.Keys.{object_key}
+use Rattle.row_format.specs.Prelude.{object_key}
 
 -- where the keys of the collections behind another one begin, or of all, and where they end
 abbrev pub colls_first : Option (List ℕ) → List ℕ

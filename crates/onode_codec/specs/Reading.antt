@@ -3,8 +3,7 @@ use Rattle.std.specs.Prelude.{◌≡◌, ◌≢◌, ℕ, ◌<◌, ◌≤◌, ◌
 use Rattle.std.specs.List.{flat_map, AllByRecursion}
 use Rattle.std.specs.Int.{w16, w32, w64, to_le_bytes}
 use Rattle.unit_fields.specs.declared.width.Width.{Width}
-use Rattle.row_format.specs.Extents.{Extent, extent_bytes, FitsExtent}
-use Rattle.row_format.specs.Csums.{csum_bytes, csum_in, FitsCsum}
+use Rattle.row_format.specs.Prelude.{Extent, extent_bytes, FitsExtent, csum_bytes, csum_in, FitsCsum}
 use Rattle.onode_codec.specs.declared.extent.Head.{Head}
 
 -- the bytes are the one spelling of an onode of this size

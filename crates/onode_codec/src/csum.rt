@@ -1,8 +1,7 @@
 //! The checksums that extents keep of their pages.
 ghost use Rattle.std.specs.Prelude.{◌≡◌, ◌++◌, OnOk, MatchOption};
-ghost use Rattle.unit_fields.specs.Fields.{IsTooShort};
-ghost use Rattle.unit_fields.specs.Widths.{bytes_of};
-ghost use Rattle.row_format.specs.Csums.{csum_bytes};
+ghost use Rattle.unit_fields.specs.Prelude.{IsTooShort, bytes_of};
+ghost use Rattle.row_format.specs.Prelude.{csum_bytes};
 ghost use Rattle.onode_codec.specs.Reading.{ReadsCsum};
 
 use std::alloc::AllocError;

@@ -1,9 +1,8 @@
 //! An object's extents, and their one spelling.
 ghost use Rattle.std.specs.Prelude.{◌≡◌, ◌<◌, ◌≤◌, ◌++◌, List, length, IfOk, OnOk, MatchOption};
 ghost use Rattle.std.specs.List.{flat_map, AllByRecursion};
-ghost use Rattle.unit_fields.specs.Widths.{bytes_of};
-ghost use Rattle.row_format.specs.Csums.{csum_bytes};
-ghost use Rattle.row_format.specs.Extents.{Extent, private, extent_bytes, FitsExtent};
+ghost use Rattle.unit_fields.specs.Prelude.{bytes_of};
+ghost use Rattle.row_format.specs.Prelude.{csum_bytes, Extent, private, extent_bytes, FitsExtent};
 ghost use Rattle.onode_codec.specs.Reading.{extent_head, BeginsWithNoExtent, ReadsHead, ReadsCsums, ReadsExtent, SpellExtents};
 
 use crate::csum::{push_csum, read_csum};
@@ -33,7 +32,7 @@ pub struct Extent {
 }
 
 impl Model for Extent {
-    ghost use Rattle.row_format.specs.Extents.{Extent};
+    ghost use Rattle.row_format.specs.Prelude.{Extent};
     ghost use Rattle.onode_codec.specs.Bodies.{body_of};
 
     ghost Value = { Extent };

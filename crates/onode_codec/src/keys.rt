@@ -2,8 +2,8 @@
 ghost use Rattle.std.specs.Prelude.{◌≡◌, ◌≤◌, [], ◌∷◌, ◌++◌, length, IfOk, IfSome, OnOk};
 ghost use Rattle.std.specs.Int.{w64, to_be_bytes};
 ghost use Rattle.std.specs.Option.{option_copied};
-ghost use Rattle.unit_fields.specs.Names.{IsName};
-ghost use Rattle.meta_rows.specs.Spelling.{IsKey};
+ghost use Rattle.unit_fields.specs.Prelude.{IsName};
+ghost use Rattle.meta_rows.specs.Prelude.{IsKey};
 ghost use Rattle.row_format.specs.Keys.{
   object_key,
   coll_key,

@@ -2,7 +2,7 @@
 
 ghost use Rattle.std.specs.Prelude.{◌≡◌, ℕ, List};
 ghost use Rattle.unit_fields.specs.declared.width.Width.{Width};
-ghost use Rattle.row_format.specs.Extents.{Extent};
+ghost use Rattle.row_format.specs.Prelude.{Extent};
 ghost use Rattle.onode_codec.specs.Reading.{SpellsOnode, SpellExtents};
 
 /// Bytes are the spelling of at most one onode.

@@ -1,20 +1,16 @@
 -- An object's pages, found among the extents that its shards' rows spell.
 use Rattle.std.proofs.Common.{◌≡◌, ℕ, List, [], ◌∷◌, ◌++◌, map, Some, refl, sym, ap, subst, ◌∙◌, arith}
 use Rattle.std.specs.List.{flat_map, AllByRecursion}
-use Rattle.meta_rows.specs.Rows.{Rows}
-use Rattle.meta_rows.specs.Table.{rows_from_to}
-use Rattle.unit_fields.specs.Names.{IsName, IsCollName}
+use Rattle.meta_rows.specs.Prelude.{Rows, rows_from_to}
+use Rattle.unit_fields.specs.Prelude.{IsName, IsCollName}
 use Rattle.unit_fields.specs.declared.width.Width.{Width}
-use Rattle.row_format.specs.Keys.{object_key, shard_key}
-use Rattle.row_format.specs.Extents.{Extent, own, extent_bytes, place_of}
-use Rattle.row_format.specs.Row.{shard}
-use Rattle.meta_log.specs.Slots.{width_of}
-use Rattle.store_image.proofs.PageMap.{in_place}
-use Rattle.object_rows.specs.Maps.{AreShardsOf, extents_in}
+use Rattle.row_format.specs.Prelude.{object_key, shard_key, Extent, own, extent_bytes, place_of, shard}
+use Rattle.meta_log.specs.Prelude.{width_of}
+use Rattle.store_image.proofs.Prelude.{in_place}
+use Rattle.object_rows.specs.Prelude.{AreShardsOf, extents_in}
 use Rattle.object_rows.proofs.Shards.{by_shards_ascend, by_shards_pages}
-use Rattle.page_lookup.specs.Bytes.{rows_read}
+use Rattle.page_lookup.specs.Prelude.{rows_read, place_found, HasUnit}
 use Rattle.object_rows.proofs.GoodPages.{good_page}
-use Rattle.page_lookup.specs.Found.{place_found, HasUnit}
 use Rattle.page_lookup.proofs.Reading.{read_spelled}
 use Rattle.page_lookup.proofs.Finding.{found_is}
 use Rattle.page_lookup.proofs.Rows.{one_row, no_row}

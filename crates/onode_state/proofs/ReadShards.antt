@@ -5,14 +5,14 @@ use Rattle.std.specs.FinMap as finite
 use Rattle.std.proofs.lemmas.List.{take_more, take_all}
 use Rattle.std.proofs.lemmas.List.Concat.{flat_map-cons, flat_map-append}
 use Rattle.unit_fields.specs.declared.width.Width.{Width}
-use Rattle.row_format.specs.Extents.{Extent, Body, private, extent_bytes, FitsExtent, BeginsAt}
+use Rattle.row_format.specs.Prelude.{Extent, Body, private, extent_bytes, FitsExtent, BeginsAt}
 use Rattle.onode_codec.specs.declared.extent.Head.{Head}
 use Rattle.onode_codec.specs.Reading.{BeginsWithNoExtent, ReadsHead, SpellExtents}
 use Rattle.onode_codec.proofs.Again.{same_extents}
 use Rattle.onode_codec.proofs.ExtentReading.{head_front}
-use Rattle.blob_map.specs.Pages.{PageMap, HasNumbers, extent_pages, with_pages}
+use Rattle.blob_map.specs.Prelude.{PageMap, HasNumbers, extent_pages, with_pages}
 use Rattle.blob_map.proofs.Lay.{laid_append}
-use Rattle.object_rows.specs.Maps.{extents_in, first_pages}
+use Rattle.object_rows.specs.Prelude.{extents_in, first_pages}
 use Rattle.object_rows.proofs.Ops.{all_append}
 use Rattle.onode_state.specs.Objects.{IsShardValue, AddsShard}
 use Rattle.onode_state.proofs.ShardRows.{shard_entry, FitsAsShard, IsShardEntry}

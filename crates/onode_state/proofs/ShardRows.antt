@@ -11,23 +11,18 @@ use Rattle.std.specs.FinMap.{is_sorted, entries, entries_sorted}
 use Rattle.std.specs.FinMap.Entries.{below_all}
 use Rattle.std.proofs.lemmas.Bool.{cases_Bool}
 use Rattle.byte_maps.specs.ByteMap.{byte_order, in_range}
-use Rattle.byte_maps.proofs.Places.{both_first, both_second}
-use Rattle.meta_rows.specs.Rows.{Rows}
-use Rattle.meta_rows.specs.Table.{rows_from_to}
+use Rattle.byte_maps.proofs.Prelude.{both_first, both_second}
+use Rattle.meta_rows.specs.Prelude.{Rows, rows_from_to}
 use Rattle.meta_log.specs.declared.slot.Super.{Super}
-use Rattle.meta_log.specs.Slots.{width_of}
-use Rattle.unit_fields.specs.Names.{IsName, IsCollName}
+use Rattle.meta_log.specs.Prelude.{width_of}
+use Rattle.unit_fields.specs.Prelude.{IsName, IsCollName}
 use Rattle.unit_fields.specs.declared.width.Width.{Width}
-use Rattle.row_format.specs.Keys.{object_key, onode_key, shard_key, bitmap_key}
-use Rattle.row_format.specs.Extents.{Extent, extent_bytes}
-use Rattle.row_format.specs.Row.{Row, collection, onode, shard, bitmap, row_key, row_value, FitsShard}
-use Rattle.row_format.proofs.KeyLemmas.{same_place, same_shard, coll_no_object, bitmap_no_object}
-use Rattle.row_format.proofs.ExtentReading.{extents-same}
+use Rattle.row_format.specs.Prelude.{object_key, onode_key, shard_key, bitmap_key, Extent, extent_bytes, Row, collection, onode, shard, bitmap, row_key, row_value, FitsShard}
+use Rattle.row_format.proofs.Prelude.{same_place, same_shard, coll_no_object, bitmap_no_object, extents-same}
 use Rattle.row_reading.proofs.KeyOrder.{after_front, has_front, lesser_page, onode_before}
 use Rattle.row_reading.proofs.Entries.{AreRows, all_rows, are_rows}
-use Rattle.store_image.specs.Pages.{HasRow, HasShard}
-use Rattle.store_image.specs.BadRows.{IsGoodRow, NoBadRow}
-use Rattle.object_rows.specs.Maps.{Rise, AreShardsOf}
+use Rattle.store_image.specs.Prelude.{HasRow, HasShard, IsGoodRow, NoBadRow}
+use Rattle.object_rows.specs.Prelude.{Rise, AreShardsOf}
 
 abbrev Entry : Type 0
 Entry = List ℕ × List ℕ

@@ -2,21 +2,17 @@
 use Rattle.std.proofs.Common.{◌≡◌, ℕ, true, List, [], ◌∷◌, Some, None, is_some, refl, sym, subst, ◌∙◌, arith}
 use Rattle.std.specs.List.{AllByRecursion}
 use Rattle.std.specs.FinMap as finite
-use Rattle.meta_rows.specs.Rows.{Rows}
-use Rattle.unit_fields.specs.Names.{IsName, IsCollName}
-use Rattle.unit_fields.specs.UnitSet.{Ascends}
-use Rattle.row_format.specs.Keys.{onode_key, shard_key}
-use Rattle.row_format.specs.Extents.{Extent}
-use Rattle.row_format.specs.Row.{onode, shard, row_value}
-use Rattle.meta_log.specs.Slots.{width_of}
+use Rattle.meta_rows.specs.Prelude.{Rows}
+use Rattle.unit_fields.specs.Prelude.{IsName, IsCollName, Ascends}
+use Rattle.row_format.specs.Prelude.{onode_key, shard_key, Extent, onode, shard, row_value}
+use Rattle.meta_log.specs.Prelude.{width_of}
 use Rattle.onode_codec.specs.Reading.{SpellsOnode}
 use Rattle.onode_codec.proofs.Again.{same_onode as same_size}
-use Rattle.store_image.specs.Pages.{HasKey, HasOnode}
-use Rattle.store_image.proofs.PageMap.{in_place}
-use Rattle.blob_map.specs.Pages.{PageMap, HasNumbers}
-use Rattle.object_rows.specs.Operations.{AreShards}
-use Rattle.object_rows.specs.Maps.{AreShardsOf, extents_in, first_pages}
-use Rattle.plan_rows.specs.Layouts.{IsMapOf, IsSizeOf, missing, there}
+use Rattle.store_image.specs.Prelude.{HasKey, HasOnode}
+use Rattle.store_image.proofs.Prelude.{in_place}
+use Rattle.blob_map.specs.Prelude.{PageMap, HasNumbers}
+use Rattle.object_rows.specs.Prelude.{AreShards, AreShardsOf, extents_in, first_pages}
+use Rattle.plan_rows.specs.Prelude.{IsMapOf, IsSizeOf, missing, there}
 use Rattle.object_rows.proofs.LayoutOf.{climb_ascends, keys_there, map_by_shards, onode_under as onode_found}
 use Rattle.object_rows.proofs.Shards.{by_shards_numbers, by_shards_present, first_pages_climb}
 use Rattle.onode_state.specs.Objects.{AreRowsOfAStore}

@@ -2,21 +2,18 @@
 use Rattle.std.specs.Prelude.{◌≡◌, ◌↔◌, ℕ, List, [], ◌∷◌, ◌++◌, Some}
 use Rattle.std.specs.List.{flat_map, AllByRecursion}
 use Rattle.std.specs.FinMap as finite
-use Rattle.meta_rows.specs.Rows.{Rows}
+use Rattle.meta_rows.specs.Prelude.{Rows}
 use Rattle.meta_log.specs.declared.slot.Super.{Super}
-use Rattle.meta_log.specs.Slots.{IsSuper, width_of}
-use Rattle.unit_fields.specs.UnitSet.{Ascends}
+use Rattle.meta_log.specs.Prelude.{IsSuper, width_of}
+use Rattle.unit_fields.specs.Prelude.{Ascends}
 use Rattle.unit_fields.specs.declared.width.Width.{Width}
-use Rattle.row_format.specs.Keys.{shard_key}
-use Rattle.row_format.specs.Extents.{Extent, Place, BeginsAt}
+use Rattle.row_format.specs.Prelude.{shard_key, Extent, Place, BeginsAt}
 use Rattle.onode_codec.specs.Reading.{SpellExtents}
-use Rattle.store_image.specs.Pages.{HasKey, IsPageAt}
-use Rattle.store_image.specs.BadRows.{NoBadRow}
-use Rattle.blob_map.specs.Pages.{PageMap, HasNumbers, extent_pages, with_pages}
-use Rattle.page_lookup.specs.Found.{place_found}
-use Rattle.object_rows.specs.Operations.{AreShards}
-use Rattle.object_rows.specs.Maps.{AreShardsOf, extents_in, first_pages}
-use Rattle.plan_rows.specs.Layouts.{IsMapOf, IsSizeOf}
+use Rattle.store_image.specs.Prelude.{HasKey, IsPageAt, NoBadRow}
+use Rattle.blob_map.specs.Prelude.{PageMap, HasNumbers, extent_pages, with_pages}
+use Rattle.page_lookup.specs.Prelude.{place_found}
+use Rattle.object_rows.specs.Prelude.{AreShards, AreShardsOf, extents_in, first_pages}
+use Rattle.plan_rows.specs.Prelude.{IsMapOf, IsSizeOf}
 
 -- no row is bad, for the sizes of some superblock
 pub record AreRowsOfAStore (rows : Rows) : Type 0 where

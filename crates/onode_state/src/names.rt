@@ -1,5 +1,5 @@
 //! Names are names: a function for each kind, which does nothing, for proofs alone.
-ghost use Rattle.unit_fields.specs.Names.{IsName, IsCollName};
+ghost use Rattle.unit_fields.specs.Prelude.{IsName, IsCollName};
 
 use unit_fields::{CollName, Name};
 

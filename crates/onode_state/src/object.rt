@@ -1,11 +1,10 @@
 //! What the rows say of an object: its size, where its pages stand, and which shards it has.
 ghost use Rattle.std.specs.Prelude.{◌≡◌, ℕ, Some, [], ◌∷◌, List, IfOk, OnOk};
-ghost use Rattle.meta_rows.specs.Table.{rows_from_to};
-ghost use Rattle.row_format.specs.Extents.{Extent, BeginsAt};
-ghost use Rattle.row_format.specs.Keys.{object_key, shard_key};
+ghost use Rattle.meta_rows.specs.Prelude.{rows_from_to};
+ghost use Rattle.row_format.specs.Prelude.{Extent, BeginsAt, object_key, shard_key};
 ghost use Rattle.onode_codec.specs.Reading.{SpellsOnode, SpellExtents};
-ghost use Rattle.plan_rows.specs.Layouts.{IsSizeOf};
-ghost use Rattle.page_lookup.specs.Found.{HasUnit};
+ghost use Rattle.plan_rows.specs.Prelude.{IsSizeOf};
+ghost use Rattle.page_lookup.specs.Prelude.{HasUnit};
 ghost use Rattle.onode_state.specs.Objects.{AreRowsOfAStore, AreRowsOfWidth};
 ghost use Rattle.onode_state.specs.Objects.{IsShardValue, AddsShard, HasShards, IsStateOf, FindPagesOf};
 

@@ -3,8 +3,8 @@ use Rattle.std.proofs.Common.{◌≡◌, inl, inr, ℕ, ◌-◌, ◌<◌, ◌≤
 use Rattle.std.specs.Prelude.{nat_lt, nat_le, ◌&&◌}
 use Rattle.std.specs.List.{AllByRecursion}
 use Rattle.std.proofs.lemmas.Bool.{lt-ltb, le-ltb, lt-leb, le-leb, cases_lt, cond-true, cond-false, and_left, and_right, and_from}
-use Rattle.row_format.specs.Extents.{Extent, Place, place_in, page_end, place_of, ExtentsAscend}
-use Rattle.page_lookup.specs.Found.{place_found, EndBehind, FindAlikeBefore}
+use Rattle.row_format.specs.Prelude.{Extent, Place, place_in, page_end, place_of, ExtentsAscend}
+use Rattle.page_lookup.specs.Prelude.{place_found, EndBehind, FindAlikeBefore}
 
 -- what is looked for behind the first extent's first page
 abbrev from_first : Extent → List Extent → ℕ → Option Place

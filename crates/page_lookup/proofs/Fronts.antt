@@ -2,16 +2,13 @@
 use Rattle.std.proofs.Common.{◌≡◌, ◌↔◌, ℕ, ◌+◌, ◌-◌, ◌<◌, ◌≤◌, ◌^◌, List, [], ◌∷◌, ◌++◌, length, drop, Option, Some, None, refl, sym, ap, subst, ◌∙◌, arith}
 use Rattle.std.specs.Prelude.{IfSome, IfNone, slice_index}
 use Rattle.std.specs.Int.{w16, w32, from_le_bytes, to_le_bytes}
-use Rattle.unit_fields.specs.Fields.{ReadsNumber}
+use Rattle.unit_fields.specs.Prelude.{ReadsNumber, bytes_of}
 use Rattle.unit_fields.specs.declared.width.Width.{Width}
-use Rattle.unit_fields.specs.Widths.{bytes_of}
-use Rattle.row_format.specs.Extents.{Extent, own, page_end, private, place_in}
+use Rattle.row_format.specs.Prelude.{Extent, own, page_end, private, place_in}
 use Rattle.std.proofs.lemmas.List.{drop-drop}
 use Rattle.page_lookup.specs.declared.shard.Head.{Head}
-use Rattle.page_lookup.specs.Bytes.{first_in, count_in, unit_in, csum_in, csums_in, size_in, extent_in, extents_read}
-use Rattle.page_lookup.specs.Found.{place_found, EndBehind, FindAlikeBefore, HasUnit}
-use Rattle.page_lookup.specs.Heads.{IsHeadOf}
-use Rattle.row_format.proofs.ExtentReading.{bytes_less}
+use Rattle.page_lookup.specs.Prelude.{first_in, count_in, unit_in, csum_in, csums_in, size_in, extent_in, extents_read, place_found, EndBehind, FindAlikeBefore, HasUnit, IsHeadOf}
+use Rattle.row_format.proofs.Prelude.{bytes_less}
 use Rattle.page_lookup.proofs.Reading.{read_none, read_more, csum_of, length-csums_in}
 use Rattle.page_lookup.proofs.Finding.{found_before, found_in, alike_less}
 

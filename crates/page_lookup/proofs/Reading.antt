@@ -1,9 +1,9 @@
 -- Extents as they are read from bytes.
 use Rattle.std.proofs.Common.{◌≡◌, ℕ, List, ap, ◌∙◌}
 use Rattle.unit_fields.specs.declared.width.Width.{Width}
-use Rattle.row_format.specs.Extents.{Extent}
+use Rattle.row_format.specs.Prelude.{Extent}
 use Rattle.onode_codec.specs.Reading.{SpellExtents}
-use Rattle.page_lookup.specs.Bytes.{extents_read}
+use Rattle.page_lookup.specs.Prelude.{extents_read}
 pub use Rattle.row_format.proofs.ExtentReading.{read_none, read_more, csum_of, length-csums_in, read_all}
 
 -- from a spelling of extents these are read

@@ -2,9 +2,8 @@
 use Rattle.std.proofs.Common.{◌≡◌, ℕ, ◌≤◌, List, [], ◌∷◌, ◌++◌, None, refl, sym, ap, ◌∙◌, arith}
 use Rattle.std.proofs.lemmas.List.Concat.{flat_map-cons}
 use Rattle.unit_fields.specs.declared.width.Width.{Width}
-use Rattle.row_format.specs.Extents.{Extent}
-use Rattle.page_lookup.specs.Bytes.{extents_read, rows_read}
-use Rattle.page_lookup.specs.Found.{place_found, EndBehind, FindAlike, FindAlikeBefore, HasUnit}
+use Rattle.row_format.specs.Prelude.{Extent}
+use Rattle.page_lookup.specs.Prelude.{extents_read, rows_read, place_found, EndBehind, FindAlike, FindAlikeBefore, HasUnit}
 use Rattle.page_lookup.proofs.Finding.{found_at_front}
 
 abbrev Entry : Type 0

@@ -2,7 +2,7 @@
 use Rattle.std.specs.Prelude.{ℕ, List}
 use Rattle.std.specs.List.{flat_map}
 use Rattle.unit_fields.specs.declared.width.Width.{Width}
-use Rattle.row_format.specs.Extents.{Extent}
+use Rattle.row_format.specs.Prelude.{Extent}
 unfoldable pub use Rattle.row_format.specs.Csums.{csum_in}
 unfoldable pub use Rattle.row_format.specs.ExtentReading.{first_in, count_in, unit_in, extents_read}
 pub use Rattle.row_format.specs.ExtentReading.{csums_in, size_in, extent_in, extents_by}

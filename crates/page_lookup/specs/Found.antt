@@ -1,6 +1,6 @@
 -- The place of a page, looked for among extents in their order.
 use Rattle.std.specs.Prelude.{◌≡◌, ℕ, ◌-◌, ◌<◌, ◌≤◌, ◌^◌, nat_lt, List, [], ◌∷◌, ◌++◌, Option, Some, None, if◌then◌else◌}
-use Rattle.row_format.specs.Extents.{Extent, Place, own, place_in, page_end}
+use Rattle.row_format.specs.Prelude.{Extent, Place, own, place_in, page_end}
 
 -- the place of a page, looked for no further than to the first extent that begins behind it; of extents that ascend it is the place
 abbrev pub place_found : List Extent → ℕ → Option Place

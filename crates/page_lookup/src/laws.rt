@@ -1,7 +1,7 @@
 //! What look-ups come to: the extents that are read from a spelling are those that it spells, and a page that is found stands there.
 ghost use Rattle.std.specs.Prelude.{◌≡◌, ℕ, List};
 ghost use Rattle.unit_fields.specs.declared.width.Width.{Width};
-ghost use Rattle.row_format.specs.Extents.{Extent, ExtentsAscend, place_of};
+ghost use Rattle.row_format.specs.Prelude.{Extent, ExtentsAscend, place_of};
 ghost use Rattle.onode_codec.specs.Reading.{SpellExtents};
 ghost use Rattle.page_lookup.specs.Bytes.{extents_read};
 ghost use Rattle.page_lookup.specs.Found.{place_found};

@@ -19,7 +19,7 @@ struct Rest<'a> {
 
 impl<'a> Model for Rest<'a> {
     ghost use Rattle.std.specs.Prelude.{List, ◌++◌};
-    ghost use Rattle.row_format.specs.Extents.{Extent};
+    ghost use Rattle.row_format.specs.Prelude.{Extent};
     ghost use Rattle.page_lookup.specs.Bytes.{extents_read, rows_read};
 
     ghost Value = { List Extent };
@@ -81,7 +81,7 @@ pub struct ShardPages<'a> {
 
 impl<'a> Model for ShardPages<'a> {
     ghost use Rattle.std.specs.Prelude.{List};
-    ghost use Rattle.row_format.specs.Extents.{Extent};
+    ghost use Rattle.row_format.specs.Prelude.{Extent};
     ghost use Rattle.page_lookup.specs.Bytes.{rows_read};
     ghost use Rattle.page_lookup.specs.Found.{FindAlike};
 

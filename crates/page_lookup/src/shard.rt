@@ -1,6 +1,6 @@
 //! A page looked up in the bytes of one shard.
 ghost use Rattle.std.specs.Prelude.{◌≡◌, ◌↔◌, ◌<◌, ◌≤◌, [], IfNone, IfSome, IsTrue, length, drop};
-ghost use Rattle.unit_fields.specs.Widths.{bytes_of};
+ghost use Rattle.unit_fields.specs.Prelude.{bytes_of};
 ghost use Rattle.page_lookup.specs.Bytes.{csum_in, size_in, extents_read};
 ghost use Rattle.page_lookup.specs.Found.{place_found, EndBehind, FindAlikeBefore, HasUnit};
 ghost use Rattle.page_lookup.specs.Heads.{IsHeadOf};

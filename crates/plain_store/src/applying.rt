@@ -1,6 +1,6 @@
 //! The effect of an operation on what stands under the name of its collection.
 ghost use Rattle.std.specs.Prelude.{Some};
-ghost use Rattle.object_model.specs.Effect.{effect, effect_on, effects};
+ghost use Rattle.object_model.specs.Prelude.{effect, effect_on, effects};
 ghost use Rattle.plain_store.specs.Gives.{Gives};
 
 use crate::collection::*;

@@ -2,8 +2,7 @@
 ghost use Rattle.std.specs.Prelude.{◌≡◌, ◌+◌, ◌<◌, ◌≤◌, Some, None, nat_lt, length, take, drop, IfOk, unwrap_or, MatchOption};
 ghost use Rattle.std.specs.FinMap as finite;
 ghost use Rattle.object_model.specs.declared.op.Op.TheVariants as does;
-ghost use Rattle.object_model.specs.Objects.{empty_object};
-ghost use Rattle.object_model.specs.Effect.{effect_on, object_limit, any_value_long, is_same, overwritten, resized};
+ghost use Rattle.object_model.specs.Prelude.{empty_object, effect_on, object_limit, any_value_long, is_same, overwritten, resized};
 ghost use Rattle.plain_store.specs.Gives.{GivesBy};
 
 use crate::fault::ArgFault;

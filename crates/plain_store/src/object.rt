@@ -1,7 +1,6 @@
 //! One object as plain bytes and maps, and what the operations make of its parts.
 ghost use Rattle.std.specs.Prelude.{◌≡◌, ◌+◌, ◌<◌, ◌^◌, length, IfOk};
-ghost use Rattle.object_model.specs.Objects.{empty_object};
-ghost use Rattle.object_model.specs.Effect.{resized, overwritten, with_pairs, without_keys, without_range};
+ghost use Rattle.object_model.specs.Prelude.{empty_object, resized, overwritten, with_pairs, without_keys, without_range};
 
 use byte_maps::{ByteMap, Bytes, Duplicate};
 use object_model::Pair;
@@ -23,7 +22,7 @@ pub struct PlainObject {
 }
 
 impl Model for PlainObject {
-    ghost use Rattle.object_model.specs.Objects.{Object, coded_object};
+    ghost use Rattle.object_model.specs.Prelude.{Object, coded_object};
 
     ghost Value = { Object };
 

@@ -1,9 +1,7 @@
 //! The reference store: the objects themselves, in memory.
 ghost use Rattle.std.specs.Prelude.{◌≡◌, IfOk, OnErr, option_copied};
 ghost use Rattle.std.specs.FinMap as finite;
-ghost use Rattle.object_model.specs.Effect.{effects, transaction_effect, object_under};
-ghost use Rattle.object_model.specs.Limits.{submitted_effect};
-ghost use Rattle.object_model.specs.Reply.{found_collection, found_object};
+ghost use Rattle.object_model.specs.Prelude.{effects, transaction_effect, object_under, submitted_effect, found_collection, found_object};
 ghost use Rattle.plain_store.specs.Gives.{Gives, GivesExactly, Applies, Passes};
 
 use crate::applying::effects;
@@ -25,7 +23,7 @@ pub struct Plain {
 impl Model for Plain {
     ghost use Rattle.std.specs.FinMap as map;
     ghost use Rattle.std.specs.Coded.{coded_ℕ, coded_list};
-    ghost use Rattle.object_model.specs.Objects.{Objects, coded_object};
+    ghost use Rattle.object_model.specs.Prelude.{Objects, coded_object};
 
     ghost Value = { Objects };
 

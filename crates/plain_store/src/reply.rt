@@ -3,9 +3,8 @@ ghost use Rattle.std.specs.Prelude.{◌≡◌, ◌+◌, ◌<◌, length, take, d
 ghost use Rattle.std.specs.FinMap as finite;
 ghost use Rattle.object_model.specs.declared.command.Answer.TheVariants as answer;
 ghost use Rattle.object_model.specs.declared.op.Refusal.TheVariants.{BadRange};
-ghost use Rattle.crc32c_csum.specs.Crc32c.{crc32c};
-ghost use Rattle.object_model.specs.Effect.{object_limit};
-ghost use Rattle.object_model.specs.Reply.{reply_of, value_of};
+ghost use Rattle.crc32c_csum.specs.Prelude.{crc32c};
+ghost use Rattle.object_model.specs.Prelude.{object_limit, reply_of, value_of};
 ghost use Rattle.plain_store.specs.Gives.{Answers};
 
 use crate::collection::Collection;

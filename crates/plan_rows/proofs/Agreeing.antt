@@ -1,10 +1,9 @@
 -- Rows that agree on collections, and plans over them.
 use Rattle.std.proofs.Common.{ℕ, List, refl, sym, ◌∙◌}
-use Rattle.meta_rows.specs.Rows.{Rows}
+use Rattle.meta_rows.specs.Prelude.{Rows}
 use Rattle.meta_log.specs.declared.slot.Super.{Super}
 use Rattle.plan_rows.specs.declared.plan.Plan.{Plan}
-use Rattle.plan_rows.specs.Names.{AgreeOn}
-use Rattle.plan_rows.specs.Keeps.{Suits, PlanKeeps}
+use Rattle.plan_rows.specs.Prelude.{AgreeOn, Suits, PlanKeeps}
 
 pub agree_itself : (names : List (List ℕ)) (rows : Rows) → AgreeOn names rows rows
 agree_itself names rows = record { own = λ key is. refl }

@@ -3,7 +3,7 @@ use Rattle.std.proofs.Common.{◌≡◌, ◌⊎◌, inl, inr, ℕ, true, false, 
 use Rattle.std.specs.Prelude.{unwrap_or}
 use Rattle.std.specs.List.{AllByRecursion}
 use Rattle.std.specs.FinMap as finite
-use Rattle.meta_rows.specs.Rows.{Rows, row, row_after, rows_after, key_of, LeaveAlone, xor_bytes, all_zero}
+use Rattle.meta_rows.specs.Prelude.{Rows, row, row_after, rows_after, key_of, LeaveAlone, xor_bytes, all_zero}
 use Rattle.meta_rows.specs.declared.row_op.RowOp.{RowOp}
 use Rattle.meta_rows.specs.declared.row_op.RowOp.TheVariants.{Set, Drop, Flip}
 use Rattle.meta_rows.proofs.RowLemmas.{get-insert_same, get-remove_same, get-row_after_other}

@@ -4,21 +4,21 @@ use Rattle.std.specs.Prelude.{unwrap_or}
 use Rattle.std.specs.List.{AllByRecursion}
 use Rattle.std.specs.Int.{w32, to_be_bytes}
 use Rattle.std.specs.FinMap as finite
-use Rattle.byte_maps.proofs.Laws.{same}
-use Rattle.unit_fields.specs.Names.{IsCollName}
+use Rattle.byte_maps.proofs.Prelude.{same}
+use Rattle.unit_fields.specs.Prelude.{IsCollName}
 use Rattle.unit_fields.proofs.CollNames.{no_zero_in_coll}
-use Rattle.meta_rows.specs.Rows.{Rows, rows_after, LeaveAlone}
+use Rattle.meta_rows.specs.Prelude.{Rows, rows_after, LeaveAlone}
 use Rattle.meta_rows.specs.declared.row_op.RowOp.{RowOp}
 use Rattle.meta_rows.proofs.Folds.{rows_after-append}
 use Rattle.meta_rows.proofs.RowLemmas.{get-rows_after_other}
-use Rattle.object_model.specs.Effect.{is_same, is_named}
+use Rattle.object_model.specs.Prelude.{is_same, is_named}
 use Rattle.object_model.proofs.Names.{same_name}
-use Rattle.row_format.specs.Bits.{bit_row, bit_in}
-use Rattle.row_format.proofs.KeyLemmas.{same_head, first_zero}
-use Rattle.store_image.specs.Owners.{bit_of, IsMarked}
+use Rattle.row_format.specs.Prelude.{bit_row, bit_in}
+use Rattle.row_format.proofs.Prelude.{same_head, first_zero}
+use Rattle.store_image.specs.Prelude.{bit_of, IsMarked}
 use Rattle.bitmap_freelist.specs.Bitmap.{AreBitmapRows, Has, IsOtherKey, ExactlyOne}
 use Rattle.bitmap_freelist.proofs.Turning.{leave_others, change_order, stay_in_table, turn_their_units}
-use Rattle.plan_rows.specs.Names.{IsObjectKind, IsKeyIn, IsKeyOfSome, AgreeOn, AreOf, HaveNoneInCommon}
+use Rattle.plan_rows.specs.Prelude.{IsObjectKind, IsKeyIn, IsKeyOfSome, AgreeOn, AreOf, HaveNoneInCommon}
 use Rattle.plan_rows.proofs.Alike.{after_alike, alone_or}
 
 -- ---- keys

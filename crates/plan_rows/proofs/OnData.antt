@@ -4,15 +4,13 @@ use Rattle.std.specs.Prelude.{nat_le, nat_lt, ◌&&◌}
 use Rattle.std.specs.List.{AllByRecursion}
 use Rattle.std.proofs.lemmas.Bool.{cases_Bool, and_parts, leb-true, ltb-true}
 use Rattle.std.proofs.lemmas.Option.{same_Some}
-use Rattle.meta_rows.specs.Rows.{Rows}
+use Rattle.meta_rows.specs.Prelude.{Rows}
 use Rattle.meta_log.specs.declared.slot.Super.{Super}
-use Rattle.meta_log.specs.Slots.{width_of, data_unit}
-use Rattle.row_format.specs.Extents.{Extent, Body, private, page_count, page_end, Place, own, place_in, place_of}
-use Rattle.row_format.specs.Row.{shard}
-use Rattle.store_image.specs.BadRows.{IsOnData, NoBadRow, IsShardInPlace}
-use Rattle.store_image.specs.Owners.{Owner, page_of, Owns, IsDataUnit, IsOwned}
-use Rattle.store_image.proofs.PageMap.{in_place}
-use Rattle.blob_map.specs.Pages.{StandsWithin}
+use Rattle.meta_log.specs.Prelude.{width_of, data_unit}
+use Rattle.row_format.specs.Prelude.{Extent, Body, private, page_count, page_end, Place, own, place_in, place_of, shard}
+use Rattle.store_image.specs.Prelude.{IsOnData, NoBadRow, IsShardInPlace, Owner, page_of, Owns, IsDataUnit, IsOwned}
+use Rattle.store_image.proofs.Prelude.{in_place}
+use Rattle.blob_map.specs.Prelude.{StandsWithin}
 
 body_on_data : (s : Super) (body : Body) (i : ℕ) → IsOnData s body → i < page_count body → StandsWithin (data_unit s) s.units (place_in body i)
 body_on_data s (private unit csums) i on below = (omega (arith, on.0), omega (arith, on.1, below))

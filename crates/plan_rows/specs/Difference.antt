@@ -4,10 +4,10 @@ use Rattle.std.specs.List.{AllByRecursion}
 use Rattle.std.specs.FinMap as finite
 use Rattle.std.specs.declared.cmp.Ordering.TheVariants.{Less}
 use Rattle.byte_maps.specs.ByteMap.{byte_order}
-use Rattle.meta_rows.specs.Rows.{Rows, rows_after, key_of}
+use Rattle.meta_rows.specs.Prelude.{Rows, rows_after, key_of}
 use Rattle.meta_rows.specs.declared.row_op.RowOp.{RowOp}
 use Rattle.meta_rows.specs.declared.row_op.RowOp.TheVariants.{Set, Drop, Flip}
-use Rattle.store_image.specs.Pages.{HasKey}
+use Rattle.store_image.specs.Prelude.{HasKey}
 
 -- The operation changes these rows: it sets a value that they don't have, or drops a row that they have. (One that turns bits has no place
 -- in a difference.)

@@ -1,19 +1,14 @@
 -- What each plan keeps and makes, whatever its operations are: all that is known of a plan above this crate.
 use Rattle.std.specs.Prelude.{◌≡◌, ◌⊎◌, ℕ, ◌≤◌, List, length, Contains, Ok}
 use Rattle.std.specs.List.{AllByRecursion}
-use Rattle.unit_fields.specs.UnitSet.{Ascends}
+use Rattle.unit_fields.specs.Prelude.{Ascends}
 use Rattle.unit_fields.specs.declared.width.Width.{Width}
-use Rattle.meta_rows.specs.Rows.{Rows, rows_after}
-use Rattle.meta_rows.specs.Spelling.{AllFit}
+use Rattle.meta_rows.specs.Prelude.{Rows, rows_after, AllFit}
 use Rattle.meta_log.specs.declared.slot.Super.{Super}
-use Rattle.meta_log.specs.Slots.{width_of}
-use Rattle.object_model.specs.Objects.{Objects}
-use Rattle.object_model.specs.Effect.{Change, names_of, transaction_effect}
-use Rattle.store_image.specs.Pages.{HasPage}
-use Rattle.store_image.specs.BadRows.{NoBadRow}
-use Rattle.store_image.specs.Owners.{IsDataUnit, IsOwned, IsMarked, IsExactAs}
-use Rattle.store_image.specs.Stands.{IsShape, ObjectsStand}
-use Rattle.unit_allocator.specs.Units.{Space, free_units}
+use Rattle.meta_log.specs.Prelude.{width_of}
+use Rattle.object_model.specs.Prelude.{Objects, Change, names_of, transaction_effect}
+use Rattle.store_image.specs.Prelude.{HasPage, NoBadRow, IsDataUnit, IsOwned, IsMarked, IsExactAs, IsShape, ObjectsStand}
+use Rattle.unit_allocator.specs.Prelude.{Space, free_units}
 use Rattle.plan_rows.specs.declared.plan.FreshUnit.{FreshUnit}
 use Rattle.plan_rows.specs.declared.plan.Plan.{Plan}
 use Rattle.plan_rows.specs.Plans.{IsKnown, AreFreeOver, Plans, HoldsFresh, StandsOnce, fresh_units, units_taken}

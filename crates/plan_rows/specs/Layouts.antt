@@ -7,17 +7,15 @@ use Rattle.std.specs.FinMap as finite
 use Rattle.std.specs.FinMap.Entries.{where_key}
 use Rattle.byte_maps.specs.Units.{unit_at}
 use Rattle.unit_fields.specs.declared.width.Width.{Width}
-use Rattle.crc32c_csum.specs.Crc32c.{crc32c}
-use Rattle.meta_rows.specs.Rows.{Rows}
+use Rattle.crc32c_csum.specs.Prelude.{crc32c}
+use Rattle.meta_rows.specs.Prelude.{Rows}
 use Rattle.meta_rows.specs.declared.row_op.RowOp.{RowOp}
 use Rattle.object_model.specs.declared.op.Op.{Op}
 use Rattle.object_model.specs.declared.op.Op.TheVariants.{Write}
-use Rattle.row_format.specs.Keys.{coll_key, onode_key, shard_key}
-use Rattle.row_format.specs.Extents.{Extent, Place, own, extent_bytes, BeginsAt}
-use Rattle.store_image.specs.Pages.{HasKey, HasOnode, IsPageAt}
+use Rattle.row_format.specs.Prelude.{coll_key, onode_key, shard_key, Extent, Place, own, extent_bytes, BeginsAt}
+use Rattle.store_image.specs.Prelude.{HasKey, HasOnode, IsPageAt}
 use Rattle.bitmap_freelist.specs.Bitmap.{Units, Has, AreFlips}
-use Rattle.blob_map.specs.Pages.{PageMap, with_pages}
-use Rattle.blob_map.specs.Normal.{extents_of}
+use Rattle.blob_map.specs.Prelude.{PageMap, with_pages, extents_of}
 use Rattle.plan_rows.specs.declared.plan.Plan.{Plan}
 use Rattle.plan_rows.specs.Difference.{IsDifference}
 

@@ -3,3 +3,4 @@ pub mod Layouts
 pub mod Plans
 pub mod Names
 pub mod Keeps
+pub mod Prelude

@@ -2,13 +2,13 @@
 use Rattle.std.specs.Prelude.{◌≡◌, ◌⊎◌, ℕ, true, List, ◌++◌}
 use Rattle.std.specs.List.{AllByRecursion}
 use Rattle.std.specs.FinMap as finite
-use Rattle.unit_fields.specs.Names.{IsCollName}
+use Rattle.unit_fields.specs.Prelude.{IsCollName}
 use Rattle.unit_fields.specs.declared.width.Width.{Width}
-use Rattle.meta_rows.specs.Rows.{Rows, key_of}
+use Rattle.meta_rows.specs.Prelude.{Rows, key_of}
 use Rattle.meta_rows.specs.declared.row_op.RowOp.{RowOp}
-use Rattle.object_model.specs.Effect.{is_named}
-use Rattle.row_format.specs.Keys.{object_key, coll_key}
-use Rattle.store_image.specs.Owners.{page_of, Owns}
+use Rattle.object_model.specs.Prelude.{is_named}
+use Rattle.row_format.specs.Prelude.{object_key, coll_key}
+use Rattle.store_image.specs.Prelude.{page_of, Owns}
 use Rattle.plan_rows.specs.Layouts.{TurnsBits}
 
 -- the kinds of an object's rows: its onode and its shards, its attributes, its header and omap

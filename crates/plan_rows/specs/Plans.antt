@@ -3,21 +3,18 @@ use Rattle.std.specs.Prelude.{◌≡◌, ℕ, ◌+◌, ◌<◌, ◌≤◌, ◌^�
 use Rattle.std.specs.List.{AllByRecursion}
 use Rattle.std.specs.FinMap as finite
 use Rattle.byte_maps.specs.Units.{unit_at}
-use Rattle.crc32c_csum.specs.Crc32c.{crc32c}
+use Rattle.crc32c_csum.specs.Prelude.{crc32c}
 use Rattle.object_model.specs.declared.op.Op.{Op}
 use Rattle.object_model.specs.declared.op.Op.TheVariants.{MkColl, Touch, Write}
-use Rattle.object_model.specs.Effect.{object_limit}
-use Rattle.object_model.specs.Limits.{payload_limit}
-use Rattle.meta_rows.specs.Rows.{Rows}
+use Rattle.object_model.specs.Prelude.{object_limit, payload_limit}
+use Rattle.meta_rows.specs.Prelude.{Rows}
 use Rattle.meta_log.specs.declared.slot.Super.{Super}
-use Rattle.meta_log.specs.Slots.{IsSuper, width_of}
-use Rattle.unit_fields.specs.Names.{IsName, IsCollName}
+use Rattle.meta_log.specs.Prelude.{IsSuper, width_of}
+use Rattle.unit_fields.specs.Prelude.{IsName, IsCollName}
 use Rattle.unit_fields.specs.declared.width.Width.{Width}
-use Rattle.row_format.specs.Keys.{coll_key}
-use Rattle.store_image.specs.Pages.{HasKey}
-use Rattle.store_image.specs.BadRows.{NoBadRow}
-use Rattle.store_image.specs.Owners.{IsDataUnit, IsOwned, IsMarked}
-use Rattle.unit_allocator.specs.Units.{Space, free_units}
+use Rattle.row_format.specs.Prelude.{coll_key}
+use Rattle.store_image.specs.Prelude.{HasKey, NoBadRow, IsDataUnit, IsOwned, IsMarked}
+use Rattle.unit_allocator.specs.Prelude.{Space, free_units}
 use Rattle.plan_rows.specs.declared.plan.FreshUnit.{FreshUnit}
 use Rattle.plan_rows.specs.declared.plan.Plan.{Plan}
 use Rattle.plan_rows.specs.Layouts.{Layout, HasLayout, made_of, MakesColl, MakesLayout}

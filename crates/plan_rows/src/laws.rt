@@ -1,11 +1,11 @@
 //! What the definitions of rows by their collections come to. Each function does nothing: its contract is the law.
 ghost use Rattle.std.specs.Prelude.{◌≡◌, ◌↔◌, ◌⊎◌, ℕ, ◌<◌, ◌^◌, List, Contains};
 ghost use Rattle.std.specs.List.{AllByRecursion};
-ghost use Rattle.unit_fields.specs.Names.{IsCollName};
-ghost use Rattle.meta_rows.specs.Rows.{Rows, rows_after};
+ghost use Rattle.unit_fields.specs.Prelude.{IsCollName};
+ghost use Rattle.meta_rows.specs.Prelude.{Rows, rows_after};
 ghost use Rattle.meta_rows.specs.declared.row_op.RowOp.{RowOp};
 ghost use Rattle.meta_log.specs.declared.slot.Super.{Super};
-ghost use Rattle.store_image.specs.Owners.{IsMarked};
+ghost use Rattle.store_image.specs.Prelude.{IsMarked};
 ghost use Rattle.bitmap_freelist.specs.Bitmap.{AreBitmapRows, ExactlyOne};
 ghost use Rattle.plan_rows.specs.declared.plan.Plan.{Plan};
 ghost use Rattle.plan_rows.specs.Names.{AgreeOn, AreOf, HaveNoneInCommon};

@@ -4,9 +4,8 @@ use Rattle.std.specs.Prelude.{min}
 use Rattle.std.proofs.lemmas.Bool.{ltb-true, ltb-false}
 use Rattle.std.proofs.lemmas.List.{get_or-take, get_or-drop, get_or_append_left, length-take, length-drop, ext_get_or}
 use Rattle.byte_maps.specs.Units.{unit_at, zeros, IsUnits}
-use Rattle.store_image.specs.Pages.{pages_of}
-use Rattle.store_image.specs.Stands.{page_bytes}
-use Rattle.read_facts.specs.PageReads.{read_end, pages_read}
+use Rattle.store_image.specs.Prelude.{pages_of, page_bytes}
+use Rattle.read_facts.specs.Prelude.{read_end, pages_read}
 
 -- the pages that are read reach from the page of the first byte to the end, if there is anything to read
 pages_enough : (off end : ℕ) → off < end → end - off ≤ 4096 * (pages_of end - off / 4096) - off % 4096

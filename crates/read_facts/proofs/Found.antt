@@ -3,24 +3,20 @@ use Rattle.std.proofs.Common.{◌≡◌, ℕ, List, length, Option, None, Result
 use Rattle.std.specs.Prelude.{not, IsOk, IsTrue}
 use Rattle.std.specs.Option.{option_map_or}
 use Rattle.std.specs.FinMap as finite
-use Rattle.crc32c_csum.specs.Crc32c.{crc32c}
+use Rattle.crc32c_csum.specs.Prelude.{crc32c}
 use Rattle.object_model.specs.declared.op.Refusal.{Refusal}
 use Rattle.object_model.specs.declared.op.Refusal.TheVariants.{NoCollection, NoObject}
 use Rattle.object_model.specs.declared.command.Command.TheVariants as ask
 use Rattle.object_model.specs.declared.command.Answer.{Answer}
 use Rattle.object_model.specs.declared.command.Answer.TheVariants as answer
-use Rattle.object_model.specs.Objects.{Object, Collection, Objects}
-use Rattle.object_model.specs.Effect.{object_under}
-use Rattle.object_model.specs.Reply.{answer_from, found_object}
-use Rattle.object_model.specs.Book.{is_refused}
-use Rattle.meta_rows.specs.Rows.{Rows}
-use Rattle.unit_fields.specs.Names.{IsName, IsCollName}
-use Rattle.row_format.specs.Keys.{coll_key, onode_key}
-use Rattle.store_image.specs.Pages.{HasKey}
-use Rattle.store_image.specs.Stands.{IsShape}
+use Rattle.object_model.specs.Prelude.{Object, Collection, Objects, object_under, answer_from, found_object, is_refused}
+use Rattle.meta_rows.specs.Prelude.{Rows}
+use Rattle.unit_fields.specs.Prelude.{IsName, IsCollName}
+use Rattle.row_format.specs.Prelude.{coll_key, onode_key}
+use Rattle.store_image.specs.Prelude.{HasKey, IsShape}
 use Rattle.row_facts.proofs.ByRow.{object_absent, object_present}
 use Rattle.row_facts.proofs.Replies.{coll_found}
-use Rattle.read_facts.specs.Refusals.{IsNotRefused}
+use Rattle.read_facts.specs.Prelude.{IsNotRefused}
 use Rattle.read_facts.proofs.Keys.{under_found, some_of}
 
 -- ---- lookups by what is under the names

@@ -1,21 +1,17 @@
 -- The names of collections and of objects that rows have are the keys of objects that have the shape of the rows.
 use Rattle.std.proofs.Common.{◌≡◌, ℕ, List, Option, Some, None, true, false, is_some, refl, sym, ap, subst, ◌∙◌, option_and_then}
 use Rattle.std.specs.FinMap as finite
-use Rattle.meta_rows.specs.Rows.{Rows}
+use Rattle.meta_rows.specs.Prelude.{Rows}
 use Rattle.meta_log.specs.declared.slot.Super.{Super}
-use Rattle.meta_log.specs.Slots.{width_of}
-use Rattle.object_model.specs.Objects.{Collection, Objects}
-use Rattle.object_model.specs.Effect.{object_under}
-use Rattle.unit_fields.specs.Names.{IsCollName}
+use Rattle.meta_log.specs.Prelude.{width_of}
+use Rattle.object_model.specs.Prelude.{Collection, Objects, object_under}
+use Rattle.unit_fields.specs.Prelude.{IsCollName}
 use Rattle.unit_fields.specs.declared.width.Width.{Width}
-use Rattle.row_format.specs.Keys.{coll_key}
-use Rattle.row_format.specs.Row.{Row, collection, onode, shard, bitmap, row_key, FitsRow}
-use Rattle.row_format.proofs.KeyLemmas.{same_coll, coll_no_object, bitmap_no_coll}
-use Rattle.store_image.specs.Pages.{HasKey}
-use Rattle.store_image.specs.BadRows.{NoBadRow}
-use Rattle.store_image.specs.Stands.{IsShape}
+use Rattle.row_format.specs.Prelude.{coll_key, Row, collection, onode, shard, bitmap, row_key, FitsRow}
+use Rattle.row_format.proofs.Prelude.{same_coll, coll_no_object, bitmap_no_coll}
+use Rattle.store_image.specs.Prelude.{HasKey, NoBadRow, IsShape}
 use Rattle.row_facts.proofs.ByRow.{object_present}
-use Rattle.read_facts.specs.Walks.{IsCollection, IsObject, AreAll}
+use Rattle.read_facts.specs.Prelude.{IsCollection, IsObject, AreAll}
 use Rattle.read_facts.proofs.Walks.{keys_are_all}
 
 -- a row under the key of a collection names a collection

@@ -3,12 +3,12 @@ use Rattle.std.proofs.Common.{◌≡◌, inl, inr, ℕ, ◌+◌, ◌-◌, ◌*�
 use Rattle.std.specs.Prelude.{MatchOption}
 use Rattle.std.proofs.lemmas.Bool.{cases_lt}
 use Rattle.byte_maps.specs.Units.{unit_at, IsUnits}
-use Rattle.byte_maps.proofs.UnitLemmas.{unit_at-append_front, unit_at-append_back}
+use Rattle.byte_maps.proofs.Prelude.{unit_at-append_front, unit_at-append_back}
 use Rattle.unit_fields.specs.declared.width.Width.{Width}
-use Rattle.crc32c_csum.specs.Crc32c.{crc32c}
-use Rattle.meta_rows.specs.Rows.{Rows}
-use Rattle.store_image.specs.Pages.{PageUnit, IsPageOn}
-use Rattle.read_facts.specs.PageReads.{IsGoodPage, mapped, IsBadPage, AreGoodPages, IsFirstBad}
+use Rattle.crc32c_csum.specs.Prelude.{crc32c}
+use Rattle.meta_rows.specs.Prelude.{Rows}
+use Rattle.store_image.specs.Prelude.{PageUnit, IsPageOn}
+use Rattle.read_facts.specs.Prelude.{IsGoodPage, mapped, IsBadPage, AreGoodPages, IsFirstBad}
 
 -- two runs of units, laid together, are as many units as both
 both_units : (n m : ℕ) (xs ys : List ℕ) → IsUnits n xs → IsUnits m ys → IsUnits (n + m) (xs ++ ys)

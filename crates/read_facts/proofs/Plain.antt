@@ -5,25 +5,18 @@ use Rattle.std.specs.Int.{w64, from_le_bytes}
 use Rattle.std.specs.Option.{option_map_or}
 use Rattle.std.proofs.lemmas.Nat.{from_le_bytes-to_le_bytes_8}
 use Rattle.std.specs.FinMap as finite
-use Rattle.crc32c_csum.specs.Crc32c.{crc32c}
+use Rattle.crc32c_csum.specs.Prelude.{crc32c}
 use Rattle.object_model.specs.declared.op.Refusal.TheVariants.{NoCollection, NoObject, BadRange}
 use Rattle.object_model.specs.declared.command.Command.{Command}
 use Rattle.object_model.specs.declared.command.Command.TheVariants as ask
 use Rattle.object_model.specs.declared.command.Answer.{Answer}
 use Rattle.object_model.specs.declared.command.Answer.TheVariants as answer
-use Rattle.object_model.specs.Objects.{Object, Collection, Objects}
-use Rattle.object_model.specs.Effect.{object_under, object_limit}
-use Rattle.object_model.specs.Reply.{answer_from, answer_of_object, reply_of}
-use Rattle.object_model.specs.Book.{is_refused, is_of_device}
-use Rattle.meta_rows.specs.Rows.{Rows}
-use Rattle.unit_fields.specs.Names.{IsCollName}
+use Rattle.object_model.specs.Prelude.{Object, Collection, Objects, object_under, object_limit, answer_from, answer_of_object, reply_of, is_refused, is_of_device}
+use Rattle.meta_rows.specs.Prelude.{Rows}
+use Rattle.unit_fields.specs.Prelude.{IsCollName}
 use Rattle.unit_fields.specs.declared.width.Width.{Width}
-use Rattle.store_image.specs.Pages.{HasOnode}
-use Rattle.store_image.specs.Stands.{IsShape}
-use Rattle.read_facts.specs.Walks.{IsObject}
-use Rattle.read_facts.specs.PageReads.{ReadsBytes}
-use Rattle.read_facts.specs.Answers.{HasReadNames, IsAnswerOf}
-use Rattle.read_facts.specs.Alike.{IsAlike}
+use Rattle.store_image.specs.Prelude.{HasOnode, IsShape}
+use Rattle.read_facts.specs.Prelude.{IsObject, ReadsBytes, HasReadNames, IsAnswerOf, IsAlike}
 use Rattle.read_facts.proofs.Walks.{one_order}
 use Rattle.read_facts.proofs.Keys.{object_keys}
 use Rattle.read_facts.proofs.Cut.{cut_length}

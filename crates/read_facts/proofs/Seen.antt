@@ -3,21 +3,16 @@ use Rattle.std.proofs.Common.{◌≡◌, ℕ, ◌+◌, ◌/◌, List, length, ta
 use Rattle.std.specs.Prelude.{IfSome, MatchOption}
 use Rattle.byte_maps.specs.Units.{unit_at}
 use Rattle.unit_fields.specs.declared.width.Width.{Width}
-use Rattle.crc32c_csum.specs.Crc32c.{crc32c}
-use Rattle.block_device.specs.Disk.{Disk, History}
-use Rattle.block_device.specs.Facts.{last_at}
-use Rattle.block_device.specs.Log.{HasNoBadDone}
+use Rattle.crc32c_csum.specs.Prelude.{crc32c}
+use Rattle.block_device.specs.Prelude.{Disk, History, last_at, HasNoBadDone}
 use Rattle.object_model.specs.declared.command.Command.{Command}
 use Rattle.object_model.specs.declared.command.Command.TheVariants as ask
 use Rattle.object_model.specs.declared.command.Answer.{Answer}
 use Rattle.object_model.specs.declared.command.Answer.TheVariants as answer
-use Rattle.object_model.specs.Objects.{Objects}
-use Rattle.object_model.specs.Reply.{reply_of}
-use Rattle.meta_rows.specs.Rows.{Rows}
-use Rattle.store_image.specs.Pages.{PageUnit}
-use Rattle.store_image.specs.Stands.{page_bytes, AreObjectBytes, ObjectsStand}
-use Rattle.read_facts.specs.PageReads.{IsHeldAt, IsGoodPage, hole, mapped, IsBadPage, ReadsBytes, FailsAt}
-use Rattle.read_facts.specs.Answers.{HasReadNames, IsAnswerOf}
+use Rattle.object_model.specs.Prelude.{Objects, reply_of}
+use Rattle.meta_rows.specs.Prelude.{Rows}
+use Rattle.store_image.specs.Prelude.{PageUnit, page_bytes, AreObjectBytes, ObjectsStand}
+use Rattle.read_facts.specs.Prelude.{IsHeldAt, IsGoodPage, hole, mapped, IsBadPage, ReadsBytes, FailsAt, HasReadNames, IsAnswerOf}
 use Rattle.read_facts.proofs.Cut.{cut_is}
 use Rattle.read_facts.proofs.Plain.{read_given, sum_given, size_is, plain_stat, plain_list}
 

@@ -8,20 +8,16 @@ use Rattle.std.specs.FinMap as finite
 use Rattle.std.proofs.lemmas.List.{length-replicate}
 use Rattle.std.proofs.lemmas.Option.{same_Some}
 use Rattle.byte_maps.specs.ByteMap.{byte_order}
-use Rattle.byte_maps.proofs.Places.{same_bytes}
-use Rattle.object_model.specs.Objects.{Object, Collection, Objects}
-use Rattle.object_model.specs.Effect.{object_under}
-use Rattle.meta_rows.specs.Rows.{Rows}
+use Rattle.byte_maps.proofs.Prelude.{same_bytes}
+use Rattle.object_model.specs.Prelude.{Object, Collection, Objects, object_under}
+use Rattle.meta_rows.specs.Prelude.{Rows}
 use Rattle.meta_log.specs.declared.slot.Super.{Super}
-use Rattle.meta_log.specs.Slots.{width_of}
-use Rattle.unit_fields.specs.Names.{IsName, IsCollName}
-use Rattle.row_format.specs.Keys.{coll_key, onode_key}
-use Rattle.row_format.specs.Row.{Row, collection, onode, shard, bitmap, row_key, FitsRow}
-use Rattle.row_format.proofs.KeyLemmas.{same_head, same_coll, coll_no_object, same_onode, onode_no_shard, bitmap_no_coll, bitmap_no_object}
-use Rattle.store_image.specs.Pages.{HasKey, HasRow, HasOnode}
-use Rattle.store_image.specs.BadRows.{IsInPlace, NoBadRow}
-use Rattle.store_image.specs.Stands.{IsObjectShape, IsShape}
-use Rattle.store_image.proofs.ByteLemmas.{equal_or_not}
+use Rattle.meta_log.specs.Prelude.{width_of}
+use Rattle.unit_fields.specs.Prelude.{IsName, IsCollName}
+use Rattle.row_format.specs.Prelude.{coll_key, onode_key, Row, collection, onode, shard, bitmap, row_key, FitsRow}
+use Rattle.row_format.proofs.Prelude.{same_head, same_coll, coll_no_object, same_onode, onode_no_shard, bitmap_no_coll, bitmap_no_object}
+use Rattle.store_image.specs.Prelude.{HasKey, HasRow, HasOnode, IsInPlace, NoBadRow, IsObjectShape, IsShape}
+use Rattle.store_image.proofs.Prelude.{equal_or_not}
 use Rattle.row_facts.proofs.Maps.{get_same, get_other, some_after}
 use Rattle.read_facts.proofs.Keys.{under_found, some_of, none_of}
 use Rattle.read_facts.proofs.Walks.{got_each}

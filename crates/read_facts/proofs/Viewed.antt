@@ -4,28 +4,20 @@ use Rattle.std.specs.List.{AllByRecursion}
 use Rattle.std.specs.FinMap as finite
 use Rattle.std.proofs.lemmas.Option.{same_Some}
 use Rattle.unit_fields.specs.declared.width.Width.{Width}
-use Rattle.crc32c_csum.specs.Crc32c.{crc32c}
-use Rattle.block_device.specs.Disk.{Disk, History}
-use Rattle.block_device.specs.Facts.{last_at}
-use Rattle.block_device.specs.Log.{HasNoBadDone}
+use Rattle.crc32c_csum.specs.Prelude.{crc32c}
+use Rattle.block_device.specs.Prelude.{Disk, History, last_at, HasNoBadDone}
 use Rattle.object_model.specs.declared.command.Command.TheVariants as ask
 use Rattle.object_model.specs.declared.command.Answer.{Answer}
 use Rattle.object_model.specs.declared.command.Answer.TheVariants as answer
-use Rattle.object_model.specs.Objects.{Object, Collection, Objects}
-use Rattle.object_model.specs.Effect.{object_under}
-use Rattle.object_model.specs.Reply.{reply_of}
-use Rattle.meta_rows.specs.Rows.{Rows}
+use Rattle.object_model.specs.Prelude.{Object, Collection, Objects, object_under, reply_of}
+use Rattle.meta_rows.specs.Prelude.{Rows}
 use Rattle.meta_log.specs.declared.slot.Super.{Super}
-use Rattle.store_image.specs.BadRows.{NoBadRow}
-use Rattle.store_image.specs.Stands.{ObjectsStand}
+use Rattle.store_image.specs.Prelude.{NoBadRow, ObjectsStand}
 use Rattle.row_facts.proofs.ByRow.{object_present}
 use Rattle.read_facts.specs.declared.view.BadSum.{BadSum}
 use Rattle.read_facts.specs.declared.view.CollView.{CollView}
 use Rattle.read_facts.specs.declared.view.ObjectView.{ObjectView}
-use Rattle.read_facts.specs.Walks.{IsCollection, IsObject}
-use Rattle.read_facts.specs.PageReads.{IsHeldAt}
-use Rattle.read_facts.specs.Answers.{Gives}
-use Rattle.read_facts.specs.Views.{sum_answer, IsViewOf, object_names, coll_names, IsViewed, IsWhole, AreWholeButLast, WalksTo, WalksAll, views_in, views_of, IsGoodView, HasGoodViews}
+use Rattle.read_facts.specs.Prelude.{IsCollection, IsObject, IsHeldAt, Gives, sum_answer, IsViewOf, object_names, coll_names, IsViewed, IsWhole, AreWholeButLast, WalksTo, WalksAll, views_in, views_of, IsGoodView, HasGoodViews}
 use Rattle.read_facts.proofs.Walks.{one_order, each_is, all_to, all_by, got_each}
 use Rattle.read_facts.proofs.Keys.{coll_keys, object_keys, under_found, some_of}
 use Rattle.read_facts.proofs.Found.{sum_taken}

@@ -9,8 +9,8 @@ use Rattle.std.specs.Cmp.Lexicographic.{nat_list_cmp_total}
 use Rattle.std.specs.FinMap as finite
 use Rattle.std.specs.FinMap.Entries.{find, below_all, is_sorted}
 use Rattle.byte_maps.specs.ByteMap.{byte_order, ByteMap}
-use Rattle.byte_maps.proofs.Places.{same_bytes, both_first, both_second}
-use Rattle.read_facts.specs.Walks.{IsBehind, IsNextOf, IsPast, AreNext, last_of, AreAll}
+use Rattle.byte_maps.proofs.Prelude.{same_bytes, both_first, both_second}
+use Rattle.read_facts.specs.Prelude.{IsBehind, IsNextOf, IsPast, AreNext, last_of, AreAll}
 
 -- one more name behind a walk
 pub next_appended : (Is : List ℕ → Type 0) (after : Option (List ℕ)) (names : List (List ℕ)) (name : List ℕ) → AreNext Is after names

@@ -8,10 +8,7 @@ use Rattle.object_model.specs.declared.command.Answer.{Answer}
 use Rattle.object_model.specs.declared.command.Answer.TheVariants as answer
 use Rattle.object_model.specs.declared.book.Entry.{Entry}
 use Rattle.object_model.specs.declared.book.Book.{Book}
-use Rattle.object_model.specs.Objects.{Objects}
-use Rattle.object_model.specs.Effect.{replay}
-use Rattle.object_model.specs.Reply.{reply_of}
-use Rattle.object_model.specs.Book.{accepted, is_refused, is_of_device, change_at, IsPrefixOf, places_of, committed_places, AreAckedFrom, acked_count, AreCountsWithin}
+use Rattle.object_model.specs.Prelude.{Objects, replay, reply_of, accepted, is_refused, is_of_device, change_at, IsPrefixOf, places_of, committed_places, AreAckedFrom, acked_count, AreCountsWithin}
 
 -- the answers are the same, or two to a read of bytes that are as many, or two to their sum that say the same size
 abbrev pub IsAlike : Command → Answer → Answer → Type 0

@@ -1,14 +1,14 @@
 -- What rows and units answer to a command that reads: units as in the reads of pages, by what is in memory and what is held.
 use Rattle.std.specs.Prelude.{◌≡◌, ℕ, List, Option}
-use Rattle.crc32c_csum.specs.Crc32c.{crc32c}
+use Rattle.crc32c_csum.specs.Prelude.{crc32c}
 use Rattle.object_model.specs.declared.command.Command.{Command}
 use Rattle.object_model.specs.declared.command.Command.TheVariants.{Read, Sum, Stat, List as ListObjects}
 use Rattle.object_model.specs.declared.command.Answer.{Answer}
 use Rattle.object_model.specs.declared.command.Answer.TheVariants as answer
-use Rattle.meta_rows.specs.Rows.{Rows}
-use Rattle.unit_fields.specs.Names.{IsName, IsCollName}
+use Rattle.meta_rows.specs.Prelude.{Rows}
+use Rattle.unit_fields.specs.Prelude.{IsName, IsCollName}
 use Rattle.unit_fields.specs.declared.width.Width.{Width}
-use Rattle.store_image.specs.Pages.{HasOnode}
+use Rattle.store_image.specs.Prelude.{HasOnode}
 use Rattle.read_facts.specs.Walks.{IsObject, AreAll}
 use Rattle.read_facts.specs.PageReads.{ReadsBytes, FailsAt}
 use Rattle.read_facts.specs.Refusals.{IsRefusedBy, IsNotRefused}

@@ -4,3 +4,4 @@ pub mod Refusals
 pub mod Answers
 pub mod Alike
 pub mod Views
+pub mod Prelude

@@ -2,12 +2,10 @@
 use Rattle.std.specs.Prelude.{◌≡◌, ◌≢◌, ℕ, ◌+◌, ◌-◌, ◌/◌, ◌%◌, ◌<◌, min, nat_lt, List, length, take, drop, Option, None, IfSome, MatchOption, if◌then◌else◌}
 use Rattle.byte_maps.specs.Units.{unit_at, zeros, IsUnits}
 use Rattle.unit_fields.specs.declared.width.Width.{Width}
-use Rattle.crc32c_csum.specs.Crc32c.{crc32c}
-use Rattle.block_device.specs.Log.{HasNoBadDone}
-use Rattle.block_device.specs.Disk.{Disk}
-use Rattle.block_device.specs.Facts.{last_at}
-use Rattle.meta_rows.specs.Rows.{Rows}
-use Rattle.store_image.specs.Pages.{HasOnode, PageUnit, IsPageOn, IsHole, pages_of}
+use Rattle.crc32c_csum.specs.Prelude.{crc32c}
+use Rattle.block_device.specs.Prelude.{HasNoBadDone, Disk, last_at}
+use Rattle.meta_rows.specs.Prelude.{Rows}
+use Rattle.store_image.specs.Prelude.{HasOnode, PageUnit, IsPageOn, IsHole, pages_of}
 
 -- the unit holds these bytes, as far as the device tells: those last written there, where no write of it ended badly
 abbrev pub IsHeldAt : Disk → ℕ → List ℕ → Type 0

@@ -3,11 +3,9 @@ use Rattle.std.specs.Prelude.{◌≡◌, not, IsTrue}
 use Rattle.object_model.specs.declared.op.Refusal.{Refusal}
 use Rattle.object_model.specs.declared.command.Command.{Command}
 use Rattle.object_model.specs.declared.command.Answer.TheVariants as answer
-use Rattle.object_model.specs.Objects.{Objects}
-use Rattle.object_model.specs.Reply.{reply_of}
-use Rattle.object_model.specs.Book.{is_refused}
-use Rattle.meta_rows.specs.Rows.{Rows}
-use Rattle.store_image.specs.Stands.{IsShape}
+use Rattle.object_model.specs.Prelude.{Objects, reply_of, is_refused}
+use Rattle.meta_rows.specs.Prelude.{Rows}
+use Rattle.store_image.specs.Prelude.{IsShape}
 
 -- Plain objects of the rows' shape refuse the command with this, whatever their bytes are. There are such objects where no row is bad, by a law
 -- of this crate; what is known of a kernel's book has some for its submitted rows: those after all accepted transactions.

@@ -2,27 +2,21 @@
 ghost use Rattle.std.specs.Prelude.{◌≡◌, ◌⊎◌, ◌≤◌, ℕ, ◌+◌, List, [], ◌∷◌, ◌++◌, IsTrue, not, Option, Some, unwrap_or};
 ghost use Rattle.std.specs.List.{AllByRecursion};
 ghost use Rattle.std.specs.FinMap as map;
-ghost use Rattle.block_device.specs.Disk.{Disk, History};
-ghost use Rattle.block_device.specs.Facts.{last_at};
-ghost use Rattle.block_device.specs.Log.{HasNoBadDone};
-ghost use Rattle.meta_rows.specs.Rows.{Rows};
+ghost use Rattle.block_device.specs.Prelude.{Disk, History, last_at, HasNoBadDone};
+ghost use Rattle.meta_rows.specs.Prelude.{Rows};
 ghost use Rattle.meta_log.specs.declared.slot.Super.{Super};
-ghost use Rattle.object_model.specs.Objects.{Collection, Objects};
-ghost use Rattle.object_model.specs.Reply.{reply_of};
-ghost use Rattle.object_model.specs.Book.{is_refused, is_of_device};
+ghost use Rattle.object_model.specs.Prelude.{Collection, Objects, reply_of, is_refused, is_of_device};
 ghost use Rattle.object_model.specs.declared.command.Command.{Command};
 ghost use Rattle.object_model.specs.declared.command.Answer.{Answer};
-ghost use Rattle.store_image.specs.BadRows.{NoBadRow};
-ghost use Rattle.store_image.specs.Pages.{PageUnit, IsPageOn};
-ghost use Rattle.store_image.specs.Stands.{IsShape, ObjectsStand};
-ghost use Rattle.unit_fields.specs.Names.{IsCollName};
+ghost use Rattle.store_image.specs.Prelude.{NoBadRow, PageUnit, IsPageOn, IsShape, ObjectsStand};
+ghost use Rattle.unit_fields.specs.Prelude.{IsCollName};
 ghost use Rattle.read_facts.specs.Walks.{IsCollection, IsObject, IsNextOf, AreNext, last_of, AreAll};
 ghost use Rattle.read_facts.specs.PageReads.{IsHeldAt, IsGoodPage, IsBadPage, AreGoodPages, IsFirstBad};
 ghost use Rattle.read_facts.specs.Answers.{HasReadNames, IsAnswerOf};
 ghost use Rattle.read_facts.specs.Alike.{IsAlike};
 ghost use Rattle.read_facts.specs.Views.{WalksTo, WalksAll, HasGoodViews, views_of};
 ghost use Rattle.read_facts.specs.declared.view.CollView.{CollView};
-ghost use Rattle.meta_log.specs.Slots.{width_of};
+ghost use Rattle.meta_log.specs.Prelude.{width_of};
 ghost use Rattle.unit_fields.specs.declared.width.Width.{Width};
 
 /// The names of collections, and of the objects of one, stand in one order: that of the keys of objects that have the shape of the rows.

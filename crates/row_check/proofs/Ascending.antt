@@ -3,7 +3,7 @@ use Rattle.std.proofs.Common.{◌≡◌, inl, inr, subst, ℕ, zero, suc, ◌+�
 use Rattle.std.specs.List.{AllByRecursion}
 use Rattle.std.proofs.lemmas.Bool.{cases_lt}
 use Rattle.std.proofs.lemmas.List.{get_or_default}
-use Rattle.row_format.specs.Extents.{Extent, page_end, ExtentsAscend}
+use Rattle.row_format.specs.Prelude.{Extent, page_end, ExtentsAscend}
 
 -- of the first n extents each ends where the next begins, or before
 abbrev pub InSteps : List Extent → ℕ → Type 0

@@ -4,16 +4,13 @@ use Rattle.std.specs.Prelude.{IsSome}
 use Rattle.std.specs.List.{AllByRecursion}
 use Rattle.std.specs.FinMap as map
 use Rattle.std.specs.Int.{w64, to_le_bytes}
-use Rattle.unit_fields.specs.Names.{IsName, IsCollName}
-use Rattle.meta_rows.specs.Rows.{Rows}
+use Rattle.unit_fields.specs.Prelude.{IsName, IsCollName}
+use Rattle.meta_rows.specs.Prelude.{Rows}
 use Rattle.meta_log.specs.declared.slot.Super.{Super}
-use Rattle.meta_log.specs.Slots.{width_of}
-use Rattle.row_format.specs.Keys.{coll_key, onode_key}
-use Rattle.row_format.specs.Extents.{Extent, page_end}
+use Rattle.meta_log.specs.Prelude.{width_of}
+use Rattle.row_format.specs.Prelude.{coll_key, onode_key, Extent, page_end, onode, shard}
 use Rattle.row_format.specs.Row as format
-use Rattle.row_format.specs.Row.{onode, shard}
-use Rattle.store_image.specs.Pages.{HasKey, HasRow, HasOnode, pages_of}
-use Rattle.store_image.specs.BadRows.{IsInPlace, IsShardInPlace}
+use Rattle.store_image.specs.Prelude.{HasKey, HasRow, HasOnode, pages_of, IsInPlace, IsShardInPlace}
 use Rattle.onode_codec.specs.Reading.{SpellsOnode}
 use Rattle.onode_codec.proofs.Again.{same_onode}
 use Rattle.row_reading.specs.declared.row.Row.{Row}

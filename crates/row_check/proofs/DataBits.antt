@@ -2,9 +2,8 @@
 use Rattle.std.proofs.Common.{◌≡◌, inl, inr, ℕ, ◌+◌, ◌*◌, ◌/◌, ◌%◌, ◌^◌, ◌<◌, ◌≤◌, List, slice_index, sym, ap, subst, ◌∙◌, arith}
 use Rattle.std.proofs.lemmas.Bool.{cases_lt}
 use Rattle.meta_log.specs.declared.slot.Super.{Super}
-use Rattle.row_format.specs.Bits.{bit_row, bit_in}
-use Rattle.store_image.specs.Owners.{IsDataUnit}
-use Rattle.store_image.specs.BadRows.{AreOfData}
+use Rattle.row_format.specs.Prelude.{bit_row, bit_in}
+use Rattle.store_image.specs.Prelude.{IsDataUnit, AreOfData}
 use Rattle.row_check.specs.DataBits.{bit_at_place, IsBitOfData}
 
 -- the bits before this place that are 1 are of data units

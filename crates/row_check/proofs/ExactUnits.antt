@@ -4,8 +4,8 @@ use Rattle.std.specs.FinSet as set
 use Rattle.std.proofs.lemmas.Bool.{cases_lt, cases_Bool}
 use Rattle.std.proofs.lemmas.List.{get_or_past}
 use Rattle.unit_fields.specs.declared.width.Width.{Width}
-use Rattle.meta_rows.specs.Rows.{Rows}
-use Rattle.store_image.specs.Owners.{HasSoleOwner, IsOwned, IsExactAs, IsInexact, IsLeastInexact}
+use Rattle.meta_rows.specs.Prelude.{Rows}
+use Rattle.store_image.specs.Prelude.{HasSoleOwner, IsOwned, IsExactAs, IsInexact, IsLeastInexact}
 use Rattle.bitmap_freelist.specs.Bitmap as freelist
 use Rattle.bitmap_freelist.specs.Bitmap.{Units}
 use Rattle.row_check.specs.Marks.{Marks}

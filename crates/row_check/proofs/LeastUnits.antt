@@ -6,7 +6,7 @@ use Rattle.std.specs.Cmp.{nat_cmp_total}
 use Rattle.std.specs.FinSet as set
 use Rattle.std.specs.FinSet.{contains-from_list}
 use Rattle.std.proofs.lemmas.Bool.{cases_lt, cases_eq}
-use Rattle.unit_fields.specs.UnitSet.{Ascends}
+use Rattle.unit_fields.specs.Prelude.{Ascends}
 use Rattle.unit_fields.proofs.Ascending.{contains_at}
 use Rattle.bitmap_freelist.specs.Bitmap.{Units, Has}
 use Rattle.row_check.specs.Least.{IsLeast, IsLeastOf, IsOutside, lesser_of}

@@ -3,11 +3,9 @@ use Rattle.std.proofs.Common.{◌≡◌, ℕ, zero, suc, ◌+◌, ◌<◌, ◌�
 use Rattle.std.specs.List.{flat_map, AllByRecursion}
 use Rattle.std.proofs.lemmas.List.{length-append, length-set, drop_at}
 use Rattle.std.proofs.lemmas.List.Concat.{flat_map-cons}
-use Rattle.unit_fields.specs.Fields.{ReadsBytes}
+use Rattle.unit_fields.specs.Prelude.{ReadsBytes, bytes_of}
 use Rattle.unit_fields.specs.declared.width.Width.{Width}
-use Rattle.unit_fields.specs.Widths.{bytes_of}
-use Rattle.row_format.specs.Extents.{Body, private, Extent, extent_bytes, FitsExtent}
-use Rattle.row_format.specs.Csums.{csum_bytes}
+use Rattle.row_format.specs.Prelude.{Body, private, Extent, extent_bytes, FitsExtent, csum_bytes}
 use Rattle.onode_codec.specs.declared.extent.Head.{Head}
 use Rattle.onode_codec.specs.Reading.{BeginsWithNoExtent, ReadsHead, SpellExtents}
 use Rattle.onode_codec.proofs.Again.{same_extents}

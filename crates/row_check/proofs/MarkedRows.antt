@@ -8,19 +8,14 @@ use Rattle.std.proofs.lemmas.Cmp.{tied_itself, nat_list_cmp_total}
 use Rattle.std.proofs.lemmas.List.{get_or-replicate, get_or_past, length-replicate}
 use Rattle.byte_maps.specs.ByteMap.{byte_order}
 use Rattle.unit_fields.specs.declared.width.Width.{Width}
-use Rattle.meta_rows.specs.Rows.{Rows}
+use Rattle.meta_rows.specs.Prelude.{Rows}
 use Rattle.meta_log.specs.declared.slot.Super.{Super}
-use Rattle.meta_log.specs.Slots.{width_of}
-use Rattle.row_format.specs.Keys.{shard_key}
-use Rattle.row_format.specs.Extents.{Body, private, Extent, own}
+use Rattle.meta_log.specs.Prelude.{width_of}
+use Rattle.row_format.specs.Prelude.{shard_key, Body, private, Extent, own, collection, onode, shard, bitmap}
 use Rattle.row_format.specs.Row as format
-use Rattle.row_format.specs.Row.{collection, onode, shard, bitmap}
-use Rattle.row_format.proofs.RowLemmas.{same_row}
-use Rattle.store_image.specs.Pages.{HasRow, HasShard, IsPageAt}
-use Rattle.store_image.specs.BadRows.{IsOnData, IsShardInPlace, IsGoodRow, NoBadRow}
-use Rattle.store_image.specs.Owners.{Owner, page_of, Owns}
-use Rattle.store_image.proofs.PageMap.{in_place}
-use Rattle.store_image.proofs.ByteLemmas.{equal_or_not}
+use Rattle.row_format.proofs.Prelude.{same_row}
+use Rattle.store_image.specs.Prelude.{HasRow, HasShard, IsPageAt, IsOnData, IsShardInPlace, IsGoodRow, NoBadRow, Owner, page_of, Owns}
+use Rattle.store_image.proofs.Prelude.{in_place, equal_or_not}
 use Rattle.row_reading.specs.Reading.{SpellsRow}
 use Rattle.onode_codec.specs.Reading.{SpellExtents}
 use Rattle.row_check.specs.Marks.{Marks, no_marks, extents_marked, EndsBy, AllEndBy, RowEndsBy, SpellExtentsBelow}

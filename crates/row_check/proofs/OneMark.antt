@@ -1,7 +1,7 @@
 -- The marks tell which units have an owner and which have two, by what owns what. One page more is one owner more.
 use Rattle.std.proofs.Common.{◌≡◌, ◌≢◌, ◌⊎◌, ◌↔◌, inl, inr, ℕ, ◌<◌, Bool, true, false, ◌||◌, length, get_or, set, refl, sym, subst, ◌∙◌, get_or-set_same, get_or-set_other}
 use Rattle.std.proofs.lemmas.Bool.{cases_eq}
-use Rattle.store_image.specs.Owners.{Owner}
+use Rattle.store_image.specs.Prelude.{Owner}
 use Rattle.row_check.specs.Marks.{Marks, one_more}
 
 -- two owners of the unit

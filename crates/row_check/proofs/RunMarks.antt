@@ -4,10 +4,9 @@ use Rattle.std.specs.Prelude.{nat_le, nat_lt, ◌&&◌, slice_index}
 use Rattle.std.specs.List.{AllByRecursion}
 use Rattle.std.proofs.lemmas.Bool.{cases_Bool, cases_lt, ltb-true, leb-true, lt-ltb, le-leb}
 use Rattle.std.proofs.lemmas.List.{length-set}
-use Rattle.row_format.specs.Extents.{Body, private, page_count, Extent, page_end, ExtentsAscend, Place, own, place_in, place_of, BeginsAt}
+use Rattle.row_format.specs.Prelude.{Body, private, page_count, Extent, page_end, ExtentsAscend, Place, own, place_in, place_of, BeginsAt, collection, onode, shard, bitmap}
 use Rattle.row_format.specs.Row as format
-use Rattle.row_format.specs.Row.{collection, onode, shard, bitmap}
-use Rattle.store_image.specs.Owners.{Owner, page_of}
+use Rattle.store_image.specs.Prelude.{Owner, page_of}
 use Rattle.row_check.specs.Marks.{Marks, run_marked, body_marked, extents_marked, row_marked, EndsBy, AllEndBy, RowEndsBy}
 use Rattle.row_check.proofs.OneMark.{Tells, HasUnits, tells_same, one_more_tells}
 

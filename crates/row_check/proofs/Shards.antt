@@ -5,19 +5,14 @@ use Rattle.std.specs.FinMap as map
 use Rattle.std.specs.declared.cmp.Ordering.TheVariants.{Less}
 use Rattle.std.proofs.lemmas.Bool.{cases_lt}
 use Rattle.byte_maps.specs.ByteMap.{byte_order}
-use Rattle.unit_fields.specs.Names.{IsName, IsCollName}
-use Rattle.meta_rows.specs.Rows.{Rows}
+use Rattle.unit_fields.specs.Prelude.{IsName, IsCollName}
+use Rattle.meta_rows.specs.Prelude.{Rows}
 use Rattle.meta_log.specs.declared.slot.Super.{Super}
-use Rattle.meta_log.specs.Slots.{width_of}
-use Rattle.row_format.specs.Keys.{onode_key, shard_key}
-use Rattle.row_format.specs.Extents.{Extent, page_end}
+use Rattle.meta_log.specs.Prelude.{width_of}
+use Rattle.row_format.specs.Prelude.{onode_key, shard_key, Extent, page_end, collection, onode, shard, bitmap}
 use Rattle.row_format.specs.Row as format
-use Rattle.row_format.specs.Row.{collection, onode, shard, bitmap}
-use Rattle.row_format.proofs.KeyLemmas.{coll_no_object, bitmap_no_object, same_place}
-use Rattle.row_format.proofs.ExtentReading.{extents-same}
-use Rattle.row_format.proofs.RowLemmas.{same_row}
-use Rattle.store_image.specs.Pages.{HasRow, HasShard}
-use Rattle.store_image.specs.BadRows.{IsInPlace, IsShardInPlace, IsGoodRow}
+use Rattle.row_format.proofs.Prelude.{coll_no_object, bitmap_no_object, same_place, extents-same, same_row}
+use Rattle.store_image.specs.Prelude.{HasRow, HasShard, IsInPlace, IsShardInPlace, IsGoodRow}
 use Rattle.row_reading.specs.declared.row.Row.{Row}
 use Rattle.row_reading.specs.declared.row.Row.TheVariants as read
 use Rattle.row_reading.specs.Reading.{row_of, SpellsRow}

@@ -7,12 +7,11 @@ use Rattle.std.proofs.lemmas.Cmp.{tied_itself, nat_list_cmp_total}
 use Rattle.std.proofs.lemmas.Bool.{cases_lt}
 use Rattle.byte_maps.specs.ByteMap.{byte_order}
 use Rattle.unit_fields.specs.declared.width.Width.{Width}
-use Rattle.meta_rows.specs.Rows.{Rows}
+use Rattle.meta_rows.specs.Prelude.{Rows}
 use Rattle.meta_log.specs.declared.slot.Super.{Super}
-use Rattle.meta_log.specs.Slots.{width_of}
+use Rattle.meta_log.specs.Prelude.{width_of}
 use Rattle.row_format.specs.Row as format
-use Rattle.store_image.specs.Pages.{HasRow}
-use Rattle.store_image.specs.BadRows.{IsGoodRow, NoBadRow}
+use Rattle.store_image.specs.Prelude.{HasRow, IsGoodRow, NoBadRow}
 use Rattle.row_reading.proofs.Entries.{rising, StandsAt, entry_is, AreRows}
 use Rattle.row_reading.specs.declared.row.Row.{Row}
 use Rattle.row_reading.specs.Reading.{row_of, SpellsRow}

@@ -5,14 +5,12 @@ use Rattle.std.specs.FinMap as map
 use Rattle.std.specs.declared.cmp.Ordering.TheVariants.{Less}
 use Rattle.byte_maps.specs.ByteMap.{byte_order}
 use Rattle.unit_fields.specs.declared.width.Width.{Width}
-use Rattle.meta_rows.specs.Rows.{Rows}
+use Rattle.meta_rows.specs.Prelude.{Rows}
 use Rattle.meta_log.specs.declared.slot.Super.{Super}
-use Rattle.meta_log.specs.Slots.{width_of}
-use Rattle.row_format.specs.Keys.{coll_key, onode_key}
-use Rattle.row_format.specs.Extents.{Extent, page_end, ExtentsAscend}
+use Rattle.meta_log.specs.Prelude.{width_of}
+use Rattle.row_format.specs.Prelude.{coll_key, onode_key, Extent, page_end, ExtentsAscend}
 use Rattle.row_format.specs.Row as format
-use Rattle.store_image.specs.Pages.{HasKey, HasRow, HasOnode, pages_of}
-use Rattle.store_image.specs.BadRows.{IsOnData, IsInPlace, IsGoodRow, IsBadRow}
+use Rattle.store_image.specs.Prelude.{HasKey, HasRow, HasOnode, pages_of, IsOnData, IsInPlace, IsGoodRow, IsBadRow}
 use Rattle.row_reading.specs.declared.row.Row.{Row}
 use Rattle.row_reading.specs.declared.row.Row.TheVariants as rows
 use Rattle.row_reading.specs.Reading.{row_of, SpellsRow}

@@ -1,7 +1,7 @@
 -- The bits of a row of the bitmap by their places in it.
 use Rattle.std.specs.Prelude.{◌≡◌, ℕ, ◌+◌, ◌*◌, ◌/◌, ◌%◌, ◌^◌, List, slice_index}
 use Rattle.meta_log.specs.declared.slot.Super.{Super}
-use Rattle.store_image.specs.Owners.{IsDataUnit}
+use Rattle.store_image.specs.Prelude.{IsDataUnit}
 
 -- the bit at a place of a row
 abbrev pub bit_at_place : List ℕ → ℕ → ℕ

@@ -3,7 +3,7 @@ use Rattle.std.specs.Prelude.{ℕ, zero, suc, ◌+◌, ◌≤◌, ◌||◌, Bool
 use Rattle.std.specs.List.{AllByRecursion}
 use Rattle.std.specs.Coded.{Coded, code_by, coded×, coded_list, coded_bool}
 use Rattle.unit_fields.specs.declared.width.Width.{Width}
-use Rattle.row_format.specs.Extents.{Body, private, Extent}
+use Rattle.row_format.specs.Prelude.{Body, private, Extent}
 use Rattle.row_format.specs.Row as format
 use Rattle.onode_codec.specs.Reading.{SpellExtents}
 

@@ -3,9 +3,9 @@ use Rattle.std.specs.Prelude.{◌≡◌, ◌↔◌, ℕ, Bool, true, false, IsTr
 use Rattle.std.specs.FinSet as set
 use Rattle.std.specs.Ordering.{nat_cmp}
 use Rattle.unit_fields.specs.declared.width.Width.{Width}
-use Rattle.meta_rows.specs.Rows.{Rows}
+use Rattle.meta_rows.specs.Prelude.{Rows}
 use Rattle.row_format.specs.Row as format
-use Rattle.store_image.specs.Owners.{IsOwned, HasSoleOwner}
+use Rattle.store_image.specs.Prelude.{IsOwned, HasSoleOwner}
 use Rattle.row_reading.specs.Reading.{SpellsRow}
 use Rattle.row_check.specs.Marks.{Marks, row_marked, RowEndsBy}
 

@@ -1,6 +1,6 @@
 //! The first bad row of a store.
 ghost use Rattle.std.specs.Prelude.{IfOk, MatchOption};
-ghost use Rattle.store_image.specs.BadRows.{IsGoodRow, NoBadRow};
+ghost use Rattle.store_image.specs.Prelude.{IsGoodRow, NoBadRow};
 ghost use Rattle.row_check.specs.Bad.{IsLeastBad, IsWalkedTo, IsGood};
 
 use crate::in_place::is_in_place;

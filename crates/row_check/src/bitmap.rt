@@ -2,9 +2,8 @@
 ghost use Rattle.std.specs.Prelude.{◌≡◌, ◌<◌, ℕ, true, false, length, slice_index, IsTrue, IfOk, IfErr, IfNone, IfSome};
 ghost use Rattle.std.specs.List.{AllByRecursion};
 ghost use Rattle.std.specs.FinSet as set;
-ghost use Rattle.meta_log.specs.Slots.{width_of, IsSuper};
-ghost use Rattle.store_image.specs.BadRows.{NoBadRow};
-ghost use Rattle.store_image.specs.Owners.{IsExactAs, IsLeastInexact};
+ghost use Rattle.meta_log.specs.Prelude.{width_of, IsSuper};
+ghost use Rattle.store_image.specs.Prelude.{NoBadRow, IsExactAs, IsLeastInexact};
 ghost use Rattle.bitmap_freelist.specs.Bitmap.{Has, AreMarked};
 ghost use Rattle.row_check.specs.Least.{IsLeastOf, IsOutside, IsWrong, lesser_of};
 

@@ -1,14 +1,10 @@
 //! Whether a row is in its place among the rows of a store.
 ghost use Rattle.std.specs.Prelude.{◌≡◌, ◌↔◌, ◌≤◌, ◌<◌, ℕ, IsTrue, IfOk, IfSome, length};
 ghost use Rattle.std.specs.List.{AllByRecursion};
-ghost use Rattle.unit_fields.specs.Names.{IsName, IsCollName};
-ghost use Rattle.row_format.specs.Keys.{coll_key, onode_key};
-ghost use Rattle.row_format.specs.Row.{onode, row_key, FitsRow};
-ghost use Rattle.row_format.specs.Extents.{page_end, ExtentsAscend};
-ghost use Rattle.meta_log.specs.Slots.{width_of};
-ghost use Rattle.store_image.specs.Pages.{HasKey, HasOnode, pages_of};
-ghost use Rattle.store_image.specs.BadRows.{IsOnData, AreOfData, IsInPlace};
-ghost use Rattle.store_image.specs.Owners.{IsDataUnit};
+ghost use Rattle.unit_fields.specs.Prelude.{IsName, IsCollName};
+ghost use Rattle.row_format.specs.Prelude.{coll_key, onode_key, onode, row_key, FitsRow, page_end, ExtentsAscend};
+ghost use Rattle.meta_log.specs.Prelude.{width_of};
+ghost use Rattle.store_image.specs.Prelude.{HasKey, HasOnode, pages_of, IsOnData, AreOfData, IsInPlace, IsDataUnit};
 ghost use Rattle.onode_codec.specs.Reading.{SpellsOnode};
 ghost use Rattle.row_reading.specs.Reading.{row_of};
 ghost use Rattle.row_check.specs.Bad.{EndsBefore, IsOfObjectIn, IsOnodeOf, IsWithinOnode, ShardStands, IsWalkedTo};

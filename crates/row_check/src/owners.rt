@@ -1,9 +1,8 @@
 //! The units that the rows own.
 ghost use Rattle.std.specs.Prelude.{ℕ, ◌≡◌, ◌<◌, ◌^◌, IfOk, false, length, slice_index_or};
 ghost use Rattle.std.specs.FinSet as set;
-ghost use Rattle.meta_log.specs.Slots.{width_of, IsSuper};
-ghost use Rattle.store_image.specs.BadRows.{NoBadRow};
-ghost use Rattle.store_image.specs.Owners.{IsOwned};
+ghost use Rattle.meta_log.specs.Prelude.{width_of, IsSuper};
+ghost use Rattle.store_image.specs.Prelude.{NoBadRow, IsOwned};
 ghost use Rattle.row_check.specs.Owned.{AreOwned, AreShared, AreMarked, AreMarkedOn, SpellsRowWithin, TellsShard};
 
 use crate::unit_marks::UnitMarks;

@@ -1,6 +1,6 @@
 //! Marks at the units where pages stand.
 ghost use Rattle.std.specs.Prelude.{◌≡◌, ◌+◌, ◌<◌, ◌≤◌, List, IfOk, false, length, replicate};
-ghost use Rattle.row_format.specs.Extents.{Extent};
+ghost use Rattle.row_format.specs.Prelude.{Extent};
 ghost use Rattle.onode_codec.specs.Reading.{SpellExtents};
 ghost use Rattle.row_check.specs.Marks.{no_marks, one_more, run_marked, extents_marked, SpellExtentsBelow};
 

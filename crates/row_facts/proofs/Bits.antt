@@ -2,11 +2,10 @@
 use Rattle.std.proofs.Common.{◌≡◌, ◌≢◌, ◌↔◌, inl, inr, ℕ, List, [], unwrap_or, sym, ap, ◌∙◌}
 use Rattle.std.specs.FinMap as map
 use Rattle.unit_fields.specs.declared.width.Width.{Width}
-use Rattle.meta_rows.specs.Rows.{Rows}
+use Rattle.meta_rows.specs.Prelude.{Rows}
 use Rattle.meta_rows.proofs.RowLemmas.{get-remove_other}
-use Rattle.row_format.specs.Keys.{bitmap_key}
-use Rattle.row_format.specs.Bits.{bit_row, bit_in}
-use Rattle.store_image.specs.Owners.{IsOwned, IsMarked, IsExactBut, HasSoleOwner}
+use Rattle.row_format.specs.Prelude.{bitmap_key, bit_row, bit_in}
+use Rattle.store_image.specs.Prelude.{IsOwned, IsMarked, IsExactBut, HasSoleOwner}
 use Rattle.row_facts.proofs.Maps.{get_other}
 
 -- the key is none of the bitmap's

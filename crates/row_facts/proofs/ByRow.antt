@@ -2,13 +2,11 @@
 use Rattle.std.proofs.Common.{◌≡◌, ℕ, List, false, Option, Some, None, is_some, refl, sym, ap, ◌∙◌, ◌↔◌}
 use Rattle.std.specs.Prelude.{IsSome}
 use Rattle.std.specs.FinMap as map
-use Rattle.meta_rows.specs.Rows.{Rows}
-use Rattle.object_model.specs.Objects.{Object, Objects}
-use Rattle.object_model.specs.Effect.{object_under}
-use Rattle.unit_fields.specs.Names.{IsName, IsCollName}
-use Rattle.row_format.specs.Keys.{onode_key}
-use Rattle.store_image.specs.Pages.{HasKey}
-use Rattle.store_image.specs.Stands.{IsShape}
+use Rattle.meta_rows.specs.Prelude.{Rows}
+use Rattle.object_model.specs.Prelude.{Object, Objects, object_under}
+use Rattle.unit_fields.specs.Prelude.{IsName, IsCollName}
+use Rattle.row_format.specs.Prelude.{onode_key}
+use Rattle.store_image.specs.Prelude.{HasKey, IsShape}
 
 module _ (rows : Rows) (objects : Objects) (c o : List ℕ) (shape : IsShape rows objects) (coll : IsCollName c) (name : IsName o) where
   there_cases : (x : Option Object) → object_under objects c o ≡ x

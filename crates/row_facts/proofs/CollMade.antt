@@ -1,24 +1,18 @@
 -- Rows after a collection is made.
 use Rattle.std.proofs.Common.{◌≡◌, ◌≢◌, inl, inr, ℕ, List, [], ◌∷◌, length, Option, Some, None, Ok, is_some, option_and_then, refl, sym, ap, subst, ◌∙◌, ◌↔◌}
 use Rattle.std.specs.FinMap as map
-use Rattle.meta_rows.specs.Rows.{Rows, rows_after}
+use Rattle.meta_rows.specs.Prelude.{Rows, rows_after}
 use Rattle.meta_log.specs.declared.slot.Super.{Super}
-use Rattle.meta_log.specs.Slots.{width_of}
-use Rattle.object_model.specs.Objects.{Collection, Objects}
-use Rattle.object_model.specs.Effect.{effects, with_collection, transaction_effect, object_under, ◌>>=◌}
+use Rattle.meta_log.specs.Prelude.{width_of}
+use Rattle.object_model.specs.Prelude.{Collection, Objects, effects, with_collection, transaction_effect, object_under, ◌>>=◌}
 use Rattle.object_model.specs.declared.op.Op.TheVariants.{MkColl}
-use Rattle.unit_fields.specs.Names.{IsCollName}
+use Rattle.unit_fields.specs.Prelude.{IsCollName}
 use Rattle.unit_fields.specs.declared.width.Width.{Width}
 use Rattle.byte_maps.specs.ByteMap.{byte_order}
-use Rattle.row_format.specs.Keys.{coll_key, onode_key}
-use Rattle.row_format.specs.Extents.{Extent, own}
-use Rattle.row_format.specs.Row.{Row, collection, onode, shard, bitmap}
-use Rattle.row_format.proofs.KeyLemmas.{same_coll, coll_no_object, bitmap_no_coll}
-use Rattle.store_image.specs.Pages.{HasOnode, HasShard}
-use Rattle.store_image.specs.BadRows.{IsInPlace, NoBadRow}
-use Rattle.store_image.specs.Owners.{Owner, page_of, Owns, IsOwned, IsMarked, IsExactBut, HasSoleOwner}
-use Rattle.store_image.specs.Stands.{IsShape, ObjectsStand}
-use Rattle.store_image.proofs.ByteLemmas.{equal_or_not}
+use Rattle.row_format.specs.Prelude.{coll_key, onode_key, Extent, own, Row, collection, onode, shard, bitmap}
+use Rattle.row_format.proofs.Prelude.{same_coll, coll_no_object, bitmap_no_coll}
+use Rattle.store_image.specs.Prelude.{HasOnode, HasShard, IsInPlace, NoBadRow, Owner, page_of, Owns, IsOwned, IsMarked, IsExactBut, HasSoleOwner, IsShape, ObjectsStand}
+use Rattle.store_image.proofs.Prelude.{equal_or_not}
 use Rattle.row_facts.specs.Operations.{coll_ops, coll_change}
 use Rattle.row_facts.proofs.Bits.{bits_stay_set, exact_stays}
 use Rattle.row_facts.proofs.Maps.{get_same, get_other}

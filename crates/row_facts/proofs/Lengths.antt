@@ -3,14 +3,14 @@ use Rattle.std.proofs.Common.{◌≡◌, ℕ, zero, suc, ◌+◌, ◌/◌, ◌%�
 use Rattle.std.specs.Prelude.{◌==◌}
 use Rattle.std.specs.Int.{w32, to_le_bytes}
 use Rattle.std.specs.Fmt.{digits, digits_onto, digit_glyph}
-use Rattle.crc32c_csum.specs.Crc32c.{crc32c}
+use Rattle.crc32c_csum.specs.Prelude.{crc32c}
 use Rattle.meta_rows.specs.declared.row_op.RowOp.{RowOp}
 use Rattle.meta_rows.specs.declared.row_op.RowOp.TheVariants.{Set}
-use Rattle.meta_rows.specs.Spelling.{key_bytes, value_bytes, op_bytes, ops_bytes, AllFit}
-use Rattle.meta_log.specs.Records.{record_head, record_bytes, unit_count}
+use Rattle.meta_rows.specs.Prelude.{key_bytes, value_bytes, op_bytes, ops_bytes, AllFit}
+use Rattle.meta_log.specs.Prelude.{record_head, record_bytes, unit_count}
 use Rattle.unit_fields.specs.Names as names
-use Rattle.unit_fields.specs.Names.{IsCollName}
-use Rattle.row_format.specs.Keys.{coll_key}
+use Rattle.unit_fields.specs.Prelude.{IsCollName}
+use Rattle.row_format.specs.Prelude.{coll_key}
 use Rattle.row_facts.specs.Operations.{coll_ops}
 
 -- ---- names of collections

@@ -6,9 +6,8 @@ use Rattle.std.specs.Cmp.{tied_itself}
 use Rattle.std.specs.Cmp.Lexicographic.{nat_list_cmp_total}
 use Rattle.std.specs.FinMap as map
 use Rattle.byte_maps.specs.ByteMap.{byte_order, ByteMap}
-use Rattle.byte_maps.proofs.Laws.{after_insert}
-use Rattle.byte_maps.proofs.Places.{same_bytes}
-use Rattle.store_image.proofs.ByteLemmas.{equal_or_not}
+use Rattle.byte_maps.proofs.Prelude.{after_insert, same_bytes}
+use Rattle.store_image.proofs.Prelude.{equal_or_not}
 
 module _ {X : Type 0} (m : ByteMap X) (k : List ℕ) (v : X) where
   pub get_same : map.get (map.insert m k v) k ≡ Some v

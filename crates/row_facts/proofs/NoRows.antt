@@ -3,17 +3,11 @@ use Rattle.std.proofs.Common.{◌≡◌, ℕ, ◌%◌, List, [], Option, None, s
 use Rattle.std.specs.FinMap as map
 use Rattle.byte_maps.specs.ByteMap.{byte_order}
 use Rattle.unit_fields.specs.declared.width.Width.{Width}
-use Rattle.meta_rows.specs.Rows.{Rows}
+use Rattle.meta_rows.specs.Prelude.{Rows}
 use Rattle.meta_log.specs.declared.slot.Super.{Super}
-use Rattle.object_model.specs.Objects.{Collection}
-use Rattle.object_model.specs.Effect.{object_under}
-use Rattle.row_format.specs.Keys.{coll_key, onode_key, bitmap_key}
-use Rattle.row_format.specs.Bits.{bit_row, bit_in}
-use Rattle.row_format.specs.Row.{Row, row_key, shard}
-use Rattle.store_image.specs.Pages.{HasRow}
-use Rattle.store_image.specs.BadRows.{NoBadRow}
-use Rattle.store_image.specs.Owners.{Owner, page_of, Owns, IsOwned, bit_of, IsMarked, IsExact}
-use Rattle.store_image.specs.Stands.{ObjectsStand}
+use Rattle.object_model.specs.Prelude.{Collection, object_under}
+use Rattle.row_format.specs.Prelude.{coll_key, onode_key, bitmap_key, bit_row, bit_in, Row, row_key, shard}
+use Rattle.store_image.specs.Prelude.{HasRow, NoBadRow, Owner, page_of, Owns, IsOwned, bit_of, IsMarked, IsExact, ObjectsStand}
 use Rattle.std.specs.Prelude.{option_and_then, is_some, unwrap_or}
 use Rattle.std.proofs.lemmas.Nat.Bits.{bit_at-zero}
 

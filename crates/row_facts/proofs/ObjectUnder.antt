@@ -2,9 +2,8 @@
 use Rattle.std.proofs.Common.{◌≡◌, ◌⊎◌, inl, inr, ℕ, List, Option, Some, Result, Ok, option_and_then, sym, ap, ◌∙◌}
 use Rattle.std.specs.FinMap as map
 use Rattle.object_model.specs.declared.op.Refusal.{Refusal}
-use Rattle.object_model.specs.Objects.{Object, Collection, Objects}
-use Rattle.object_model.specs.Effect.{Outcome, with_collection, object_under, ◌>>=◌}
-use Rattle.store_image.proofs.ByteLemmas.{equal_or_not}
+use Rattle.object_model.specs.Prelude.{Object, Collection, Objects, Outcome, with_collection, object_under, ◌>>=◌}
+use Rattle.store_image.proofs.Prelude.{equal_or_not}
 use Rattle.row_facts.proofs.Maps.{get_same, get_other}
 
 -- the object of a name, or another

@@ -2,17 +2,13 @@
 use Rattle.std.proofs.Common.{◌≡◌, ◌≢◌, ◌⊎◌, inl, inr, ℕ, List, ◌∷◌, Some, None, refl, sym, ap, ◌∙◌}
 use Rattle.std.specs.FinMap as map
 use Rattle.unit_fields.specs.declared.width.Width.{Width}
-use Rattle.meta_rows.specs.Rows.{Rows}
+use Rattle.meta_rows.specs.Prelude.{Rows}
 use Rattle.meta_log.specs.declared.slot.Super.{Super}
-use Rattle.meta_log.specs.Slots.{width_of}
-use Rattle.row_format.specs.Extents.{Extent, Place}
-use Rattle.row_format.specs.Row.{Row, collection, onode, shard, bitmap, row_key, row_value, FitsRow}
-use Rattle.row_format.proofs.RowLemmas.{same_row}
-use Rattle.row_format.proofs.KeyLemmas.{same_head}
-use Rattle.store_image.specs.Pages.{HasKey, HasRow, PageUnit, IsPageAt, IsPageOn}
-use Rattle.store_image.specs.BadRows.{IsInPlace, NoBadRow}
-use Rattle.store_image.proofs.ByteLemmas.{equal_or_not}
-use Rattle.store_image.proofs.PageUnits.{stands_still}
+use Rattle.meta_log.specs.Prelude.{width_of}
+use Rattle.row_format.specs.Prelude.{Extent, Place, Row, collection, onode, shard, bitmap, row_key, row_value, FitsRow}
+use Rattle.row_format.proofs.Prelude.{same_row, same_head}
+use Rattle.store_image.specs.Prelude.{HasKey, HasRow, PageUnit, IsPageAt, IsPageOn, IsInPlace, NoBadRow}
+use Rattle.store_image.proofs.Prelude.{equal_or_not, stands_still}
 use Rattle.row_facts.proofs.Maps.{get_same, get_other, some_after}
 
 abbrev pub put_row : Width → Rows → Row → Rows

@@ -1,15 +1,12 @@
 -- Which replies the rows decide.
 use Rattle.std.proofs.Common.{◌≡◌, ℕ, true, false, List, [], ◌∷◌, Option, Some, None, Ok, Err, is_some, refl, sym, ap, ◌∙◌}
 use Rattle.std.specs.FinMap as map
-use Rattle.meta_rows.specs.Rows.{Rows}
+use Rattle.meta_rows.specs.Prelude.{Rows}
 use Rattle.object_model.specs.declared.op.Op.TheVariants.{MkColl}
 use Rattle.object_model.specs.declared.op.Refusal.TheVariants.{CollectionExists}
-use Rattle.object_model.specs.Objects.{Collection, Objects}
-use Rattle.object_model.specs.Effect.{effects, transaction_effect}
-use Rattle.object_model.specs.Limits.{submitted_effect}
-use Rattle.row_format.specs.Keys.{coll_key}
-use Rattle.store_image.specs.Pages.{HasKey}
-use Rattle.store_image.specs.Stands.{IsShape}
+use Rattle.object_model.specs.Prelude.{Collection, Objects, effects, transaction_effect, submitted_effect}
+use Rattle.row_format.specs.Prelude.{coll_key}
+use Rattle.store_image.specs.Prelude.{HasKey, IsShape}
 use Rattle.row_facts.specs.Operations.{coll_change}
 use Rattle.row_facts.proofs.CollMade.{coll_effect}
 use Rattle.row_facts.proofs.ObjectUnder.{after_outcome}

@@ -2,11 +2,10 @@
 use Rattle.std.proofs.Common.{◌≡◌, ◌≢◌, ℕ, List, ◌∷◌, length, unwrap_or, [], refl, sym, ap, ◌∙◌, arith}
 use Rattle.std.specs.FinMap as map
 use Rattle.unit_fields.specs.declared.width.Width.{Width}
-use Rattle.meta_rows.specs.Rows.{Rows}
-use Rattle.object_model.specs.Objects.{Object}
-use Rattle.row_format.specs.Row.{Row}
-use Rattle.store_image.specs.Pages.{HasOnode, HasPage}
-use Rattle.store_image.specs.Stands.{IsObjectShape, AreObjectBytes}
+use Rattle.meta_rows.specs.Prelude.{Rows}
+use Rattle.object_model.specs.Prelude.{Object}
+use Rattle.row_format.specs.Prelude.{Row}
+use Rattle.store_image.specs.Prelude.{HasOnode, HasPage, IsObjectShape, AreObjectBytes}
 use Rattle.row_facts.proofs.PutRow.{put_row, IsApart, on_kept, on_was}
 
 -- rows of other kinds than collections, onodes, shards and those of the bitmap are the same

@@ -5,9 +5,8 @@ use Rattle.unit_fields.specs.declared.width.Width.{Width}
 use Rattle.meta_rows.specs.declared.row_op.RowOp.{RowOp}
 use Rattle.meta_rows.specs.declared.row_op.RowOp.TheVariants.{Set}
 use Rattle.object_model.specs.declared.op.Op.TheVariants.{MkColl}
-use Rattle.object_model.specs.Effect.{Change}
-use Rattle.row_format.specs.Keys.{coll_key, onode_key}
-use Rattle.row_format.specs.Row.{Row, row_key, row_value}
+use Rattle.object_model.specs.Prelude.{Change}
+use Rattle.row_format.specs.Prelude.{coll_key, onode_key, Row, row_key, row_value}
 
 -- the transaction that makes a collection
 abbrev pub coll_change : List ℕ → Change

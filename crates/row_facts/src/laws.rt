@@ -2,19 +2,13 @@
 ghost use Rattle.std.specs.Prelude.{IsSome, ◌≡◌, ◌↔◌, ◌≤◌, ℕ, List, length, None, Ok, Err};
 ghost use Rattle.std.specs.FinMap as map;
 ghost use Rattle.meta_log.specs.declared.slot.Super.{Super};
-ghost use Rattle.meta_log.specs.Records.{unit_count};
-ghost use Rattle.meta_rows.specs.Rows.{Rows, rows_after};
-ghost use Rattle.meta_rows.specs.Spelling.{ops_bytes, AllFit};
-ghost use Rattle.object_model.specs.Objects.{Objects};
-ghost use Rattle.object_model.specs.Effect.{transaction_effect, object_under};
-ghost use Rattle.object_model.specs.Limits.{submitted_effect};
+ghost use Rattle.meta_log.specs.Prelude.{unit_count};
+ghost use Rattle.meta_rows.specs.Prelude.{Rows, rows_after, ops_bytes, AllFit};
+ghost use Rattle.object_model.specs.Prelude.{Objects, transaction_effect, object_under, submitted_effect};
 ghost use Rattle.object_model.specs.declared.op.Refusal.TheVariants.{CollectionExists};
-ghost use Rattle.row_format.specs.Keys.{coll_key, onode_key};
-ghost use Rattle.store_image.specs.Pages.{HasKey};
-ghost use Rattle.unit_fields.specs.Names.{IsName, IsCollName};
-ghost use Rattle.store_image.specs.BadRows.{NoBadRow};
-ghost use Rattle.store_image.specs.Owners.{IsOwned, IsExact, HasSoleOwner};
-ghost use Rattle.store_image.specs.Stands.{IsShape, ObjectsStand};
+ghost use Rattle.row_format.specs.Prelude.{coll_key, onode_key};
+ghost use Rattle.store_image.specs.Prelude.{HasKey, NoBadRow, IsOwned, IsExact, HasSoleOwner, IsShape, ObjectsStand};
+ghost use Rattle.unit_fields.specs.Prelude.{IsName, IsCollName};
 ghost use Rattle.row_facts.specs.Operations.{coll_ops, coll_change};
 ghost use Rattle.unit_fields.specs.declared.width.Width.{Width};
 

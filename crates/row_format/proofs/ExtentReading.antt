@@ -9,10 +9,8 @@ use Rattle.std.proofs.lemmas.List.Concat.{flat_map-cons}
 use Rattle.std.proofs.lemmas.Nat.{from_le_bytes-to_le_bytes_2, from_le_bytes-to_le_bytes_4}
 use Rattle.unit_fields.specs.declared.width.Width.{Width}
 use Rattle.unit_fields.specs.declared.width.Width.TheVariants.{FourBytes}
-use Rattle.unit_fields.specs.Widths.{bytes_of}
-use Rattle.row_format.specs.Extents.{Body, private, Extent, extent_bytes, FitsBody, FitsExtent}
-use Rattle.row_format.specs.ExtentReading.{first_in, count_in, unit_in, csums_in, size_in, extent_in, extents_by, extents_read}
-use Rattle.row_format.specs.Csums.{csum_bytes, csum_in, FitsCsum}
+use Rattle.unit_fields.specs.Prelude.{bytes_of}
+use Rattle.row_format.specs.Prelude.{Body, private, Extent, extent_bytes, FitsBody, FitsExtent, first_in, count_in, unit_in, csums_in, size_in, extent_in, extents_by, extents_read, csum_bytes, csum_in, FitsCsum}
 
 -- ---- one extent after the other
 

@@ -4,9 +4,8 @@ use Rattle.std.specs.List.{AllByRecursion}
 use Rattle.std.specs.Int.{w32, to_be_bytes, from_be_bytes}
 use Rattle.std.proofs.lemmas.Nat.{from_be_bytes-to_be_bytes_4}
 use Rattle.meta_rows.proofs.FieldLemmas.{same_front}
-use Rattle.unit_fields.specs.Names.{IsName, IsCollName}
-use Rattle.row_format.specs.Keys.{object_key, coll_key, onode_key, shard_key, bitmap_key}
-use Rattle.row_format.specs.Bits.{bit_rows}
+use Rattle.unit_fields.specs.Prelude.{IsName, IsCollName}
+use Rattle.row_format.specs.Prelude.{object_key, coll_key, onode_key, shard_key, bitmap_key, bit_rows}
 use Rattle.unit_fields.proofs.CollNames.{no_zero_in_coll}
 
 head : List ℕ → ℕ

@@ -2,3 +2,4 @@ pub mod KeyLemmas
 pub mod ThingLemmas
 pub mod ExtentReading
 pub mod RowLemmas
+pub mod Prelude

@@ -3,8 +3,7 @@ use Rattle.std.proofs.Common.{◌≡◌, Some, refl, sym, ap, ◌∙◌, arith}
 use Rattle.std.specs.Prelude.{unwrap_or}
 use Rattle.std.proofs.lemmas.Nat.{from_le_bytes-to_le_bytes_8}
 use Rattle.unit_fields.specs.declared.width.Width.{Width}
-use Rattle.row_format.specs.Row.{Row, collection, onode, shard, bitmap, row_key, row_value, row_thing, row_of, FitsRow, IsOfSameThing}
-use Rattle.row_format.specs.Things.{thing_of}
+use Rattle.row_format.specs.Prelude.{Row, collection, onode, shard, bitmap, row_key, row_value, row_thing, row_of, FitsRow, IsOfSameThing, thing_of}
 use Rattle.row_format.proofs.ThingLemmas.{collection_again, onode_again, shard_again, bitmap_again}
 use Rattle.row_format.proofs.ExtentReading.{read_all}
 

@@ -3,11 +3,9 @@ use Rattle.std.proofs.Common.{◌≡◌, ℕ, zero, suc, ◌^◌, ◌<◌, List,
 use Rattle.std.specs.List.{AllByRecursion}
 use Rattle.std.specs.Int.{w32, to_be_bytes}
 use Rattle.std.proofs.lemmas.Nat.{from_be_bytes-to_be_bytes_4, from_be_bytes-to_be_bytes_8}
-use Rattle.unit_fields.specs.Names.{IsName, IsCollName}
+use Rattle.unit_fields.specs.Prelude.{IsName, IsCollName}
 use Rattle.unit_fields.proofs.CollNames.{no_zero_in_coll}
-use Rattle.row_format.specs.Keys.{coll_key, onode_key, shard_key, attr_key, header_key, omap_key, deferred_key, shared_key, bitmap_key}
-use Rattle.row_format.specs.Things.{a_collection, an_onode, a_shard, an_attribute, an_omap_header, an_omap_pair, a_deferred_write, a_shared_blob, a_bitmap_row}
-use Rattle.row_format.specs.Things.{name_in, behind_name, object_thing, thing_of}
+use Rattle.row_format.specs.Prelude.{coll_key, onode_key, shard_key, attr_key, header_key, omap_key, deferred_key, shared_key, bitmap_key, a_collection, an_onode, a_shard, an_attribute, an_omap_header, an_omap_pair, a_deferred_write, a_shared_blob, a_bitmap_row, name_in, behind_name, object_thing, thing_of}
 
 -- a name is read up to its zero
 name_again : (a x : List ℕ) → AllByRecursion (λ n. 0 < n) a → name_in (a ++ 0 ∷ x) ≡ a

@@ -2,7 +2,7 @@
 use Rattle.std.specs.Prelude.{ℕ, zero, suc, ◌+◌, nat_lt, List, [], ◌∷◌, length, drop, if◌then◌else◌}
 use Rattle.std.specs.Int.{w16, w32, from_le_bytes}
 use Rattle.unit_fields.specs.declared.width.Width.{Width}
-use Rattle.unit_fields.specs.Widths.{bytes_of}
+use Rattle.unit_fields.specs.Prelude.{bytes_of}
 use Rattle.row_format.specs.Extents.{Extent, private}
 use Rattle.row_format.specs.Csums.{csum_in}
 

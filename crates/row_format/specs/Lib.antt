@@ -5,3 +5,4 @@ pub mod Bits
 pub mod Things
 pub mod ExtentReading
 pub mod Row
+pub mod Prelude

@@ -1,7 +1,7 @@
 //! What the formats of rows come to.
 
 ghost use Rattle.std.specs.Prelude.{◌≡◌, ℕ, ◌<◌, ◌^◌, List, Some};
-ghost use Rattle.unit_fields.specs.Names.{IsName, IsCollName};
+ghost use Rattle.unit_fields.specs.Prelude.{IsName, IsCollName};
 ghost use Rattle.unit_fields.specs.declared.width.Width.{Width};
 ghost use Rattle.row_format.specs.Keys.{coll_key, onode_key, shard_key, attr_key, header_key, omap_key, deferred_key, shared_key, bitmap_key};
 ghost use Rattle.row_format.specs.Row.{Row, row_key, row_value, FitsRow, IsOfSameThing};

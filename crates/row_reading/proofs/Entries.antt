@@ -9,9 +9,8 @@ use Rattle.std.specs.FinMap.Entries.{where_key, below_all}
 use Rattle.std.proofs.lemmas.Cmp.{tied_itself, nat_list_cmp_total}
 use Rattle.std.proofs.lemmas.List.{get_or_default}
 use Rattle.byte_maps.specs.ByteMap.{byte_order}
-use Rattle.byte_maps.proofs.Places.{same_bytes, both_first, both_second}
-use Rattle.meta_rows.specs.Rows.{Rows}
-use Rattle.meta_rows.specs.Table.{is_from_to, rows_from_to}
+use Rattle.byte_maps.proofs.Prelude.{same_bytes, both_first, both_second}
+use Rattle.meta_rows.specs.Prelude.{Rows, is_from_to, rows_from_to}
 
 -- ---- entries in order
 

@@ -8,10 +8,10 @@ use Rattle.std.specs.FinMap.{nat_cmp-IsAntisymmetric}
 use Rattle.std.proofs.lemmas.Cmp.{ranked, tied_itself, nat_cmp_total, nat_list_cmp_total}
 use Rattle.std.proofs.lemmas.Nat.{from_be_bytes-to_be_bytes_4}
 use Rattle.byte_maps.specs.ByteMap.{byte_order}
-use Rattle.byte_maps.proofs.Places.{same_bytes}
-use Rattle.unit_fields.specs.Names.{IsName, IsCollName}
-use Rattle.row_format.specs.Keys.{object_key, onode_key, shard_key}
-use Rattle.row_format.proofs.KeyLemmas.{same_shard}
+use Rattle.byte_maps.proofs.Prelude.{same_bytes}
+use Rattle.unit_fields.specs.Prelude.{IsName, IsCollName}
+use Rattle.row_format.specs.Prelude.{object_key, onode_key, shard_key}
+use Rattle.row_format.proofs.Prelude.{same_shard}
 
 -- ---- byte strings with a common front
 

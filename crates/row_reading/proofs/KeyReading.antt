@@ -1,9 +1,9 @@
 -- Which bytes are the key of what.
 use Rattle.std.proofs.Common.{◌≡◌, ◌≢◌, ℕ, ◌<◌, List, [], ◌∷◌, ◌++◌, drop, sym, ap, subst, ◌∙◌, arith}
 use Rattle.std.specs.List.{AllByRecursion}
-use Rattle.unit_fields.specs.Names.{IsName, IsCollName}
+use Rattle.unit_fields.specs.Prelude.{IsName, IsCollName}
 use Rattle.unit_fields.proofs.CollNames.{no_zero_in_coll}
-use Rattle.row_format.proofs.KeyLemmas.{same_head, first_zero}
+use Rattle.row_format.proofs.Prelude.{same_head, first_zero}
 use Rattle.row_reading.specs.declared.key.Part.{Part}
 use Rattle.row_reading.specs.declared.key.RowKey.TheVariants.{Collection, Object, Bitmap}
 use Rattle.row_reading.specs.Reading.{part_bytes, IsNoObject}

@@ -1,13 +1,11 @@
 -- Which keys and values are which rows.
 use Rattle.std.proofs.Common.{◌≡◌, ◌≢◌, ◌↔◌, ℕ, ◌^◌, ◌<◌, Bool, true, false, not, IsTrue, List, length, refl, sym, ap, subst, ◌∙◌}
-use Rattle.unit_fields.specs.Names.{IsName, IsCollName}
+use Rattle.unit_fields.specs.Prelude.{IsName, IsCollName}
 use Rattle.unit_fields.specs.declared.width.Width.{Width}
-use Rattle.meta_rows.specs.Rows.{all_zero}
-use Rattle.row_format.specs.Keys.{onode_key, shard_key, bitmap_key}
-use Rattle.row_format.specs.Extents.{Extent, BeginsAt}
+use Rattle.meta_rows.specs.Prelude.{all_zero}
+use Rattle.row_format.specs.Prelude.{onode_key, shard_key, bitmap_key, Extent, BeginsAt, collection, onode, shard, bitmap}
 use Rattle.row_format.specs.Row as format
-use Rattle.row_format.specs.Row.{collection, onode, shard, bitmap}
-use Rattle.row_format.proofs.KeyLemmas.{coll_no_object, same_shard, onode_no_shard, bitmap_no_coll, bitmap_no_object}
+use Rattle.row_format.proofs.Prelude.{coll_no_object, same_shard, onode_no_shard, bitmap_no_coll, bitmap_no_object}
 use Rattle.onode_codec.specs.Reading.{SpellExtents}
 use Rattle.onode_codec.proofs.Again.{same_extents}
 use Rattle.row_reading.specs.declared.key.Part.TheVariants.{Onode, Shard}

@@ -1,10 +1,9 @@
 -- Keys and rows, read from bytes.
 use Rattle.std.specs.Prelude.{◌≡◌, ℕ, ◌<◌, ◌^◌, List, [], ◌∷◌, ◌++◌}
 use Rattle.std.specs.Int.{w32, to_be_bytes}
-use Rattle.unit_fields.specs.Names.{IsName, IsCollName}
+use Rattle.unit_fields.specs.Prelude.{IsName, IsCollName}
 use Rattle.unit_fields.specs.declared.width.Width.{Width}
-use Rattle.row_format.specs.Keys.{coll_key, object_key, bitmap_key}
-use Rattle.row_format.specs.Bits.{bit_rows}
+use Rattle.row_format.specs.Prelude.{coll_key, object_key, bitmap_key, bit_rows}
 use Rattle.row_format.specs.Row as format
 use Rattle.row_reading.specs.declared.key.Part.{Part}
 use Rattle.row_reading.specs.declared.key.Part.TheVariants.{Onode, Shard}

@@ -2,7 +2,7 @@
 ghost use Rattle.std.specs.Prelude.{◌≡◌, ◌≢◌, ◌<◌, ◌++◌, ◌∷◌, ℕ, length, slice_index, IfOk, IfNone, IfSome, MatchOption};
 ghost use Rattle.std.specs.List.{AllByRecursion};
 ghost use Rattle.std.specs.Int.{w32, to_be_bytes};
-ghost use Rattle.unit_fields.specs.Names.{IsCollName};
+ghost use Rattle.unit_fields.specs.Prelude.{IsCollName};
 ghost use Rattle.row_reading.specs.Reading.{IsPart, part_bytes, IsNoObject, IsNoKey, SpellsObject, SpellsKey};
 ghost use Rattle.row_reading.specs.declared.key.Part.{Part};
 

@@ -1,10 +1,9 @@
 //! Keys and values read as rows.
 ghost use Rattle.std.specs.Prelude.{◌≡◌, ◌↔◌, ◌<◌, false, length, IsTrue, IfOk, MatchOption};
-ghost use Rattle.meta_rows.specs.Rows.{all_zero};
-ghost use Rattle.unit_fields.specs.Names.{IsName, IsCollName};
+ghost use Rattle.meta_rows.specs.Prelude.{all_zero};
+ghost use Rattle.unit_fields.specs.Prelude.{IsName, IsCollName};
 ghost use Rattle.unit_fields.specs.declared.width.Width.{Width};
-ghost use Rattle.row_format.specs.Keys.{onode_key, shard_key, bitmap_key};
-ghost use Rattle.row_format.specs.Extents.{BeginsAt};
+ghost use Rattle.row_format.specs.Prelude.{onode_key, shard_key, bitmap_key, BeginsAt};
 ghost use Rattle.row_reading.specs.Reading.{row_of, SpellsRow, IsNoRow};
 
 use crate::key::{Part, RowKey, read_key_after};

@@ -3,10 +3,9 @@ use Rattle.std.proofs.Common.{◌≡◌, ℕ, List, [], ◌++◌, length, take, 
 use Rattle.std.proofs.Common.{append_assoc, append-nil}
 use Rattle.std.proofs.lemmas.List.{take-append-drop}
 use Rattle.std.proofs.Math.Seq.{take-append_seam}
-use Rattle.block_device.specs.Disk.{Rose}
+use Rattle.block_device.specs.Prelude.{Rose}
 use Rattle.end_points.specs.Sink.{with_bytes}
-use Rattle.run_texts.specs.Printed.{Output, TookFront, Printed}
-use Rattle.run_texts.specs.Printing.{Waiting, IsUnderWay, HasStopped, PrintedSoFar, Adds}
+use Rattle.run_texts.specs.Prelude.{Output, TookFront, Printed, Waiting, IsUnderWay, HasStopped, PrintedSoFar, Adds}
 use Rattle.run_texts.proofs.Taking.{with_nothing, with_two}
 
 -- what was printed so far, of the same text said otherwise

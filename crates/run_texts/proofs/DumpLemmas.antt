@@ -2,8 +2,7 @@
 use Rattle.std.proofs.Common.{◌≡◌, ℕ, List, [], ◌∷◌, ◌++◌, map, refl, ap, ◌∙◌, append_assoc, append-nil, sym}
 use Rattle.read_facts.specs.declared.view.CollView.{CollView}
 use Rattle.read_facts.specs.declared.view.ObjectView.{ObjectView}
-use Rattle.run_texts.specs.Texts.{as_text}
-use Rattle.run_texts.specs.DumpTexts.{view_line, coll_lines, walk_lines}
+use Rattle.run_texts.specs.Prelude.{as_text, view_line, coll_lines, walk_lines}
 use Rattle.run_texts.proofs.TextLemmas.{as_text-append}
 
 -- the text of objects

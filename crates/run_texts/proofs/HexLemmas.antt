@@ -1,7 +1,7 @@
 -- Digits of bytes, made piece by piece.
 use Rattle.std.proofs.Common.{◌≡◌, ℕ, ◌+◌, ◌*◌, ◌/◌, ◌%◌, ◌<◌, ◌≤◌, List, [], ◌∷◌, ◌++◌, length, take, drop, slice_index, slice_set, refl, ap, arith}
 use Rattle.std.proofs.lemmas.List.{append_assoc, append-nil, drop_all, drop_more, take_all, take_more_set, length-set}
-use Rattle.run_texts.specs.Hex.{hex_digit, hex_text}
+use Rattle.run_texts.specs.Prelude.{hex_digit, hex_text}
 
 -- the digits of bytes in two parts
 pub hex_append : (xs ys : List ℕ) → hex_text (xs ++ ys) ≡ hex_text xs ++ hex_text ys

@@ -5,10 +5,9 @@ use Rattle.std.specs.Prelude.{Bool, IfOk}
 use Rattle.std.proofs.lemmas.List.{take_more, length-take-le}
 use Rattle.object_model.specs.declared.book.Entry.{Entry}
 use Rattle.object_model.specs.declared.book.Commit.{Commit}
-use Rattle.script_text.specs.Grammar.{escape, escaped}
+use Rattle.script_text.specs.Prelude.{escape, escaped}
 use Rattle.script_text.proofs.Spelled.{spelled_nil, spelled_more}
-use Rattle.run_texts.specs.Texts.{as_text}
-use Rattle.run_texts.specs.Replies.{is_acked, names_text, entry_line, entry_lines}
+use Rattle.run_texts.specs.Prelude.{as_text, is_acked, names_text, entry_line, entry_lines}
 use Rattle.run_texts.proofs.TextLemmas.{as_text-append}
 
 -- names in two parts

@@ -4,8 +4,7 @@ use Rattle.std.proofs.Common.{append_assoc, sym, refl}
 use Rattle.std.specs.Fmt.{decimal}
 use Rattle.std.proofs.lemmas.Fmt.{decimal_digit}
 use Rattle.run_texts.specs.declared.status.Stop.{Stop}
-use Rattle.run_texts.specs.Status.{stop_number}
-use Rattle.run_texts.specs.Texts.{as_text, stopped_line}
+use Rattle.run_texts.specs.Prelude.{stop_number, as_text, stopped_line}
 
 -- a status has one digit
 pub stopped_is : (stop : Stop) (n : ℕ) → stop_number stop ≡ n → n < 10 → as_text (stopped_line stop ∷ []) ≡ codes "stopped " ++ ((48 + n) ∷ 10 ∷ [])

@@ -4,7 +4,7 @@ use Rattle.std.specs.List.{flat_map, list_any}
 use Rattle.read_facts.specs.declared.view.BadSum.{BadSum}
 use Rattle.read_facts.specs.declared.view.CollView.{CollView}
 use Rattle.read_facts.specs.declared.view.ObjectView.{ObjectView}
-use Rattle.script_text.specs.Grammar.{escaped}
+use Rattle.script_text.specs.Prelude.{escaped}
 use Rattle.run_texts.specs.declared.work_end.WorkEnd.{WorkEnd}
 use Rattle.run_texts.specs.declared.work_end.WorkEnd.TheVariants.{Done}
 use Rattle.run_texts.specs.Hex.{hex_sum}

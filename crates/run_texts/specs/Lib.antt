@@ -7,3 +7,4 @@ pub mod DumpTexts
 pub mod Printed
 pub mod Printing
 pub mod Reports
+pub mod Prelude

@@ -1,6 +1,6 @@
 -- What printing a text leaves.
 use Rattle.std.specs.Prelude.{◌≡◌, ◌⊎◌, ℕ, List, take, Option}
-use Rattle.block_device.specs.Disk.{Rose}
+use Rattle.block_device.specs.Prelude.{Rose}
 use Rattle.end_points.specs.Sink.{with_bytes}
 
 -- what is seen of a sink: the text that it tells, and its count of faults

@@ -1,6 +1,6 @@
 -- A text on its way to a sink: some of it was taken, some waits.
 use Rattle.std.specs.Prelude.{◌≡◌, ℕ, List, ◌++◌, Bool, true, false}
-use Rattle.block_device.specs.Disk.{Rose}
+use Rattle.block_device.specs.Prelude.{Rose}
 use Rattle.end_points.specs.Sink.{with_bytes}
 use Rattle.run_texts.specs.Printed.{Output}
 

@@ -13,7 +13,7 @@ use Rattle.run_texts.specs.declared.replies.Kind.{Kind}
 use Rattle.run_texts.specs.declared.replies.Kind.TheVariants.{Accepted, Refused, Read}
 use Rattle.object_model.specs.declared.book.Commit.{Commit}
 use Rattle.object_model.specs.declared.book.Book.{Book}
-use Rattle.script_text.specs.Grammar.{escaped}
+use Rattle.script_text.specs.Prelude.{escaped}
 use Rattle.run_texts.specs.Hex.{hex_or_dash, hex_sum}
 
 -- why a command is refused, by number and name

@@ -1,6 +1,6 @@
 //! The text of `dump`.
 ghost use Rattle.std.specs.Prelude.{◌≡◌, [], ◌∷◌, ◌++◌, map, codes};
-ghost use Rattle.script_text.specs.Grammar.{escaped};
+ghost use Rattle.script_text.specs.Prelude.{escaped};
 ghost use Rattle.run_texts.specs.Printed.{output};
 ghost use Rattle.run_texts.specs.Printing.{Adds};
 ghost use Rattle.run_texts.specs.Texts.{as_text};

@@ -1,5 +1,5 @@
 //! Names as scripts spell them.
-ghost use Rattle.script_text.specs.Grammar.{escaped};
+ghost use Rattle.script_text.specs.Prelude.{escaped};
 ghost use Rattle.run_texts.specs.Printed.{output};
 ghost use Rattle.run_texts.specs.Printing.{Adds};
 

@@ -3,7 +3,7 @@ use Rattle.std.proofs.Common.{◌≡◌, ◌≢◌, inl, inr, ℕ, ◌/◌, ◌<
 use Rattle.std.proofs.Common.{refl, sym, ap, subst, ◌∙◌, arith}
 use Rattle.std.proofs.lemmas.List.{length-replicate}
 use Rattle.std.specs.Prelude.{codes, decimal}
-use Rattle.script_text.specs.Grammar.{HasNo, EachIsByte, IsDataWord, IsFill, IsNumber, hex_pair, spelled_by}
+use Rattle.script_text.specs.Prelude.{HasNo, EachIsByte, IsDataWord, IsFill, IsNumber, hex_pair, spelled_by}
 use Rattle.script_text.proofs.Splits.{has_no-append, has_none}
 use Rattle.script_text.proofs.Spelled.{spelled-has_no, spelled_same, length-spelled}
 use Rattle.script_text.proofs.Digits.{pair_code, pair_no, pair_parts, length-pair}

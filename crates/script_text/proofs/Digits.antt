@@ -1,7 +1,7 @@
 -- Pairs of hexadecimal digits.
 use Rattle.std.proofs.Common.{◌≡◌, ◌≢◌, ℕ, ◌+◌, ◌*◌, ◌/◌, ◌%◌, ◌<◌, ◌≤◌, List, [], ◌∷◌, ◌++◌, length, refl, sym, ap, ◌∙◌, arith}
 use Rattle.std.proofs.lemmas.Bool.Decides.{nat_tests}
-use Rattle.script_text.specs.Grammar.{HasNo, hex_digit_from, hex_pair}
+use Rattle.script_text.specs.Prelude.{HasNo, hex_digit_from, hex_pair}
 use Rattle.script_text.proofs.Spelled.{IsCode}
 
 hex_digit-least : (ten d : ℕ) → 0x41 ≤ ten → 0x30 ≤ hex_digit_from ten d

@@ -1,12 +1,12 @@
 -- What a line can say that begins with a known word.
 use Rattle.std.proofs.Common.{◌≡◌, ◌≢◌, ℕ, false, List, [], ◌∷◌, refl, sym, ap, subst, ◌∙◌}
 use Rattle.std.specs.Prelude.{codes}
-use Rattle.object_model.specs.Effect.{Change}
+use Rattle.object_model.specs.Prelude.{Change}
 use Rattle.object_model.specs.declared.op.Op.{Op}
 use Rattle.object_model.specs.declared.op.Op.TheVariants.{MkColl, Touch, Write}
 use Rattle.object_model.specs.declared.command.Command.{Command as Asked}
 use Rattle.object_model.specs.declared.command.Command.TheVariants as command
-use Rattle.script_text.specs.Grammar.{IsNameWord, IsNumber, op_word, AreArgs, AreChangeWords, AreReadWords, AreObjectWords, AreListWords, AreWordsOf}
+use Rattle.script_text.specs.Prelude.{IsNameWord, IsNumber, op_word, AreArgs, AreChangeWords, AreReadWords, AreObjectWords, AreListWords, AreWordsOf}
 use Rattle.script_text.specs.declared.line.What.{What}
 use Rattle.script_text.specs.declared.line.What.TheVariants.{Command, Wait}
 use Rattle.script_text.proofs.Splits.{same_bytes, differ}

@@ -4,14 +4,12 @@ use Rattle.std.proofs.Common.{refl, sym, ap, subst, ◌∙◌, arith}
 use Rattle.std.specs.Prelude.{codes, IfOk, decimal}
 use Rattle.std.specs.Fmt.{digits}
 use Rattle.std.proofs.lemmas.Fmt.{digits_is_IsNumeral, decimal_is_IsNumeral}
-use Rattle.unit_fields.specs.Names.{IsCollName, head_suffix}
-use Rattle.object_model.specs.Effect.{Change}
+use Rattle.unit_fields.specs.Prelude.{IsCollName, head_suffix}
+use Rattle.object_model.specs.Prelude.{Change}
 use Rattle.object_model.specs.declared.op.Op.{Op}
 use Rattle.object_model.specs.declared.op.Op.TheVariants.{MkColl, Touch, Write}
 use Rattle.object_model.specs.declared.command.Command.TheVariants as command
-use Rattle.script_text.specs.Grammar.{HasNo, AreWords, in_words, IsNameWord, IsNumber, IsDataWord, op_word, AreTouchArgs, AreWriteArgs, AreArgs, AreChangeWords}
-use Rattle.script_text.specs.Grammar.{AreReadWords, AreObjectWords, AreListWords, AreWordsOf, HasWholePages, FitsWhat, IsLineOf, op_line, IsPassedOver}
-use Rattle.script_text.specs.Reading.{NamesObject, Reads, ReadsWords}
+use Rattle.script_text.specs.Prelude.{HasNo, AreWords, in_words, IsNameWord, IsNumber, IsDataWord, op_word, AreTouchArgs, AreWriteArgs, AreArgs, AreChangeWords, AreReadWords, AreObjectWords, AreListWords, AreWordsOf, HasWholePages, FitsWhat, IsLineOf, op_line, IsPassedOver, NamesObject, Reads, ReadsWords}
 use Rattle.script_text.specs.declared.line.What.{What}
 use Rattle.script_text.specs.declared.line.What.TheVariants.{Command, Wait}
 use Rattle.script_text.proofs.Splits.{parts, no_part, has_no-append, has_none, differ}

@@ -4,8 +4,7 @@ use Rattle.std.proofs.Common.{◌∷◌, ◌++◌, length, refl, sym, ap, subst,
 use Rattle.std.specs.List.{AllByRecursion}
 use Rattle.std.proofs.lemmas.Bool.{cases_Bool}
 use Rattle.std.proofs.lemmas.Bool.Decides.{nat_tests}
-use Rattle.script_text.specs.Grammar.{HasNo}
-use Rattle.script_text.specs.Script.{onto, lines_of, ended}
+use Rattle.script_text.specs.Prelude.{HasNo, onto, lines_of, ended}
 
 not_feed : (b : ℕ) → b ≢ 10 → (b == 10) ≡ false
 not_feed b apart = elim (cases_Bool (b == 10)) [ inl same ↦ (let is : b ≡ 10 = grind (arith, nat_tests) in absurd (apart is)) | inr other ↦ other ]

@@ -2,8 +2,8 @@
 use Rattle.std.proofs.Common.{◌≡◌, ◌≢◌, inl, inr, ℕ, ◌≤◌, Bool, true, false, cond, List}
 use Rattle.std.proofs.Common.{[], ◌∷◌, ◌++◌, length, Option, Some, None, MatchOption, sym, ap, subst, ◌∙◌, arith}
 use Rattle.std.proofs.lemmas.Bool.{cases_Bool}
-use Rattle.unit_fields.specs.Names.{IsName}
-use Rattle.script_text.specs.Grammar.{HasNo, EachIsByte, IsNameWord, is_plain, hex_pair, escape, escaped}
+use Rattle.unit_fields.specs.Prelude.{IsName}
+use Rattle.script_text.specs.Prelude.{HasNo, EachIsByte, IsNameWord, is_plain, hex_pair, escape, escaped}
 use Rattle.script_text.proofs.Spelled.{IsCode, spelled-has_no, spelled_same, length-spelled-le}
 use Rattle.script_text.proofs.Digits.{pair_parts, pair_no, length-pair}
 

@@ -10,8 +10,7 @@ use Rattle.std.proofs.lemmas.Fmt.{decimal_digit, first_decimal, decimal_is_IsNum
 use Rattle.std.proofs.lemmas.Str.{IsUtf8-from_ascii}
 use Rattle.std.proofs.lemmas.Str.Parse.{IsNumeralModel, numerals_by_value, tells_digits, parse_plain}
 use denote.Ref.{Bor}
-use Rattle.script_text.specs.Grammar.{HasNo, IsNumber}
-use Rattle.script_text.specs.Reading.{IsPlainNumber}
+use Rattle.script_text.specs.Prelude.{HasNo, IsNumber, IsPlainNumber}
 
 own : IsNumeralModel (AllDigits 10) (digits_value 10)
 own = numerals_by_value (AllDigits 10) tells_digits

@@ -1,11 +1,10 @@
 -- The lines of reads, and the words behind their first one.
 use Rattle.std.proofs.Common.{◌≡◌, ◌≢◌, ℕ, List, [], ◌∷◌, ◌++◌, refl, sym, ap, subst, ◌∙◌}
 use Rattle.std.specs.Prelude.{codes}
-use Rattle.unit_fields.specs.Names.{IsCollName}
+use Rattle.unit_fields.specs.Prelude.{IsCollName}
 use Rattle.object_model.specs.declared.command.Command.{Command as Asked}
 use Rattle.object_model.specs.declared.command.Command.TheVariants as command
-use Rattle.script_text.specs.Grammar.{AreWords, in_words, IsNameWord, IsNumber, AreObjectWords, AreWordsOf, FitsWhat, IsLineOf}
-use Rattle.script_text.specs.Reading.{NamesObject}
+use Rattle.script_text.specs.Prelude.{AreWords, in_words, IsNameWord, IsNumber, AreObjectWords, AreWordsOf, FitsWhat, IsLineOf, NamesObject}
 use Rattle.script_text.specs.declared.line.What.{What}
 use Rattle.script_text.specs.declared.line.What.TheVariants.{Command}
 use Rattle.script_text.proofs.Splits.{has_none}

@@ -2,9 +2,7 @@
 use Rattle.std.proofs.Common.{◌≡◌, ◌≢◌, inl, inr, ℕ, ◌+◌, ◌<◌, ◌≤◌, Bool, true, false, List, [], ◌∷◌, ◌++◌}
 use Rattle.std.proofs.Common.{length, Option, Some, None, MatchOption, refl, sym, ap, subst, ◌∙◌, arith, append_assoc, append-nil, length-append}
 use Rattle.std.specs.Prelude.{is_some, OnOk, Result, Ok, Err}
-use Rattle.script_text.specs.Grammar.{HasNo, IsLineOf, IsPassedOver, command_count}
-use Rattle.script_text.specs.Script.{script_limit, line_limit, lines_of, ended, kept_behind, AreGood, IsScript, IsOutside, IsBadAt}
-use Rattle.script_text.specs.Reading.{HasSaid, IsBadBehind, Ends, IsWithin, IsAfter, Takes, HasTaken, IsDone, ends_in_wait}
+use Rattle.script_text.specs.Prelude.{HasNo, IsLineOf, IsPassedOver, command_count, script_limit, line_limit, lines_of, ended, kept_behind, AreGood, IsScript, IsOutside, IsBadAt, HasSaid, IsBadBehind, Ends, IsWithin, IsAfter, Takes, HasTaken, IsDone, ends_in_wait}
 use Rattle.script_text.specs.declared.line.Line.{Line}
 use Rattle.script_text.specs.declared.line.What.{What}
 use Rattle.script_text.specs.declared.reader.Reader.{Reader}

@@ -4,10 +4,7 @@ use Rattle.std.proofs.Common.{Bool, true, false, if◌then◌else◌, length, Op
 use Rattle.std.specs.Prelude.{slice_get, ◌-◌, ◌&&◌}
 use Rattle.std.specs.List.{AllByRecursion}
 use Rattle.std.proofs.lemmas.Bool.{cases_lt}
-use Rattle.script_text.specs.Script.{line_limit, command_limit, lines_of, ended, Says, EachSays, commands}
-use Rattle.script_text.specs.Script.{numbered, kept_behind, waits_once, kept_lines, AreGood, IsScript, IsPastLimit, IsBad, IsBadAt}
-use Rattle.script_text.specs.Grammar.{command_count, is_wait}
-use Rattle.script_text.specs.Reading.{ends_in_wait}
+use Rattle.script_text.specs.Prelude.{line_limit, command_limit, lines_of, ended, Says, EachSays, commands, numbered, kept_behind, waits_once, kept_lines, AreGood, IsScript, IsPastLimit, IsBad, IsBadAt, command_count, is_wait, ends_in_wait}
 use Rattle.script_text.specs.declared.line.Line.{Line}
 use Rattle.script_text.specs.declared.line.What.{What}
 use Rattle.script_text.specs.declared.line.What.TheVariants.{Command, Wait}

@@ -4,8 +4,7 @@ use Rattle.std.proofs.Common.{take, drop, Option, Some, None, refl, sym, ap, sub
 use Rattle.std.specs.Prelude.{IfSome}
 use Rattle.std.proofs.lemmas.List.{take-append-drop, drop_all, drop_at, nil_from_length}
 use Rattle.end_points.specs.Source.{Took, without_first}
-use Rattle.script_text.specs.Script.{script_limit, IsTextOf}
-use Rattle.script_text.specs.Reading.{IsAfter, Takes, IsReadFrom, EndsBy, IsReadingOn, WasReadUpTo, WasRead}
+use Rattle.script_text.specs.Prelude.{script_limit, IsTextOf, IsAfter, Takes, IsReadFrom, EndsBy, IsReadingOn, WasReadUpTo, WasRead}
 use Rattle.script_text.specs.declared.reader.Reader.{Reader}
 
 -- a read's bytes, where nothing stood before them

@@ -1,7 +1,7 @@
 -- Bytes spelled one by one, each by its code: no two lists of bytes have one spelling.
 use Rattle.std.proofs.Common.{◌≡◌, ◌≢◌, ◌⊎◌, inl, inr, ℕ, ◌*◌, ◌<◌, ◌≤◌, List, [], ◌∷◌, ◌++◌, length, refl, sym, ap, subst, ◌∙◌, arith}
 use Rattle.std.proofs.Common.{append_assoc, append-nil, length-append}
-use Rattle.script_text.specs.Grammar.{HasNo, EachIsByte, spelled_by}
+use Rattle.script_text.specs.Prelude.{HasNo, EachIsByte, spelled_by}
 use Rattle.script_text.proofs.Splits.{has_no-append}
 
 -- no code begins another, and none is empty

@@ -2,7 +2,7 @@
 use Rattle.std.proofs.Common.{◌≡◌, ◌≢◌, ℕ, List, [], ◌∷◌, ◌++◌, refl, sym, ap, ◌∙◌}
 use Rattle.std.specs.Prelude.{Bool, true, false, not, Option, Some, None, is_some, MatchOption, IsTrue, ◌↔◌}
 use denote.Ref.{Bor}
-use Rattle.script_text.specs.Grammar.{HasNo, AreWords, in_words}
+use Rattle.script_text.specs.Prelude.{HasNo, AreWords, in_words}
 use Rattle.script_text.proofs.Splits.{parts, no_part}
 
 -- a text is one word where it isn't cut at a space

@@ -2,3 +2,4 @@ pub mod Grammar
 pub mod Kept
 pub mod Script
 pub mod Reading
+pub mod Prelude

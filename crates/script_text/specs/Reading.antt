@@ -1,7 +1,7 @@
 -- What is known of a reader of a script that has taken some of it.
 use Rattle.std.specs.Prelude.{◌≡◌, ◌⊎◌, slice_index, ℕ, ◌+◌, ◌≤◌, Bool, true, false, List, [], ◌∷◌, ◌++◌, length, Option, Some, None, MatchOption, IfSome}
 use Rattle.std.specs.List.{AllByRecursion}
-use Rattle.unit_fields.specs.Names.{IsCollName}
+use Rattle.unit_fields.specs.Prelude.{IsCollName}
 use Rattle.script_text.specs.Grammar.{HasNo, in_words, IsNameWord, AreWordsOf, FitsWhat, IsLineOf, IsPassedOver, is_wait}
 use Rattle.script_text.specs.Script.{script_limit, line_limit, command_limit, ended, commands, kept_lines}
 use Rattle.script_text.specs.Script.{AreGood, IsOutside, IsOneTooMany, IsScript, IsBadAt, IsTextOf}

@@ -1,6 +1,6 @@
 //! Reading a script.
 ghost use Rattle.std.specs.Prelude.{◌≡◌, ◌≤◌, [], ℕ, List, true, false, IfOk, IfErr, OnOk, IsErrOf};
-ghost use Rattle.block_device.specs.Disk.{Rose};
+ghost use Rattle.block_device.specs.Prelude.{Rose};
 ghost use Rattle.end_points.specs.Source.{Took, without_first};
 ghost use Rattle.script_text.specs.Script.{script_limit, IsScript, IsBadAt, IsTextOf};
 ghost use Rattle.script_text.specs.Reading.{IsAfter, WasReadUpTo, WasRead, IfLine};

@@ -3,14 +3,13 @@ use Rattle.std.proofs.Common.{◌≡◌, ℕ, cond, List, [], ◌∷◌, Option,
 use Rattle.std.specs.Prelude.{unwrap_or}
 use Rattle.std.specs.FinMap as finite
 use Rattle.byte_maps.specs.ByteMap.{byte_order}
-use Rattle.meta_rows.specs.Rows.{row_after, xor_bytes, all_zero}
+use Rattle.meta_rows.specs.Prelude.{row_after, xor_bytes, all_zero}
 use Rattle.meta_rows.specs.declared.row_op.RowOp.TheVariants.{Flip}
-use Rattle.row_format.specs.Bits.{bit_in}
-use Rattle.row_format.specs.Keys.{bitmap_key}
-use Rattle.store_image.specs.Owners.{bit_of, IsMarked}
+use Rattle.row_format.specs.Prelude.{bit_in, bitmap_key}
+use Rattle.store_image.specs.Prelude.{bit_of, IsMarked}
 use Rattle.unit_allocator.proofs.Lists.{Contains-head}
 use Rattle.plan_rows.proofs.Alike.{get-flip}
-use Rattle.store_steps.specs.Intents.{rows_by}
+use Rattle.store_steps.specs.Prelude.{rows_by}
 use Rattle.space_facts.specs.Example.{eighteen, both, two, no_rows}
 use Rattle.space_facts.proofs.Spaces.{IsBusyBy, taken_busy}
 

@@ -2,20 +2,19 @@
 use Rattle.std.proofs.Common.{◌≡◌, inl, inr, ℕ, ◌<◌, ◌≤◌, ◌^◌, true, List, [], ◌∷◌, ◌++◌, Contains, refl, sym, ap, subst, ◌∙◌, append-nil, append_assoc, arith}
 use Rattle.std.specs.List.{AllByRecursion}
 use Rattle.std.proofs.lemmas.List.Elements.{filter-append}
-use Rattle.meta_rows.specs.Rows.{Rows, rows_after}
+use Rattle.meta_rows.specs.Prelude.{Rows, rows_after}
 use Rattle.meta_log.specs.declared.slot.Super.{Super}
-use Rattle.meta_log.specs.Slots.{IsSuper}
+use Rattle.meta_log.specs.Prelude.{IsSuper}
 use Rattle.bitmap_freelist.specs.Bitmap.{AreBitmapRows}
 use Rattle.bitmap_freelist.proofs.GoodBitmaps.{bitmap_rows}
-use Rattle.store_image.specs.Owners.{IsMarked}
-use Rattle.plan_rows.specs.Names.{AgreeOn}
-use Rattle.plan_rows.specs.Keeps.{IsGood, Suits}
+use Rattle.store_image.specs.Prelude.{IsMarked}
+use Rattle.plan_rows.specs.Prelude.{AgreeOn, IsGood, Suits}
 use Rattle.plan_rows.proofs.Apart.{kept_apart}
 use Rattle.plan_rows.proofs.Agreeing.{agree_back, keeps_over}
 use Rattle.selections.specs.Fair.{under, IsFair, HasLast, ShareNoName}
 use Rattle.selections.proofs.Cuts.{end_cases}
 use Rattle.selections.proofs.Selecting.{fair_front, fair_all, with_last}
-use Rattle.store_steps.specs.Intents.{Intent, names_in, is_in, plan_of, rows_by, taken_by, IsPlannedOver, EachIsPlanned, AreTakenApart, CanJoin}
+use Rattle.store_steps.specs.Prelude.{Intent, names_in, is_in, plan_of, rows_by, taken_by, IsPlannedOver, EachIsPlanned, AreTakenApart, CanJoin}
 use Rattle.space_facts.proofs.Lists.{all_rest, all_join, listed_all, all_listed, in_or_not, same_ends, times, times_none, times_ascending}
 use Rattle.space_facts.proofs.Rows.{is_own, none_shared, rows_append, taken_append, IsOf, agree_by, move_last, share_none}
 use Rattle.space_facts.proofs.Selected.{units_of, taken_last, times_taken, selected_taken, plan_unmarked, keeps_on_data, small_of, selected_of, selection_good, idle_unmarked}

@@ -5,3 +5,4 @@ pub mod Joining
 pub mod Moving
 pub mod Spaces
 pub mod Example
+pub mod Prelude

@@ -4,9 +4,9 @@ use Rattle.std.specs.Prelude.{slice_index, count_by}
 use Rattle.std.specs.List.{AllByRecursion}
 use Rattle.std.proofs.lemmas.Bool.{cases_eq, eq-eqb, ne_eqb}
 use Rattle.std.proofs.lemmas.List.Sums.{sum_by-cons, sum_by-append}
-use Rattle.unit_fields.specs.UnitSet.{Ascends}
+use Rattle.unit_fields.specs.Prelude.{Ascends}
 use Rattle.unit_allocator.proofs.Lists.{Contains-head, Contains-tail, Contains-cases, above_first}
-use Rattle.plan_rows.specs.Plans.{StandsOnce}
+use Rattle.plan_rows.specs.Prelude.{StandsOnce}
 
 -- ---- what holds of all
 

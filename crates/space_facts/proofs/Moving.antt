@@ -2,18 +2,18 @@
 use Rattle.std.proofs.Common.{◌≡◌, inl, inr, ℕ, ◌<◌, ◌^◌, true, List, [], ◌∷◌, ◌++◌, Contains, refl, sym, subst, ◌∙◌, append_assoc, arith}
 use Rattle.std.specs.Prelude.{fold}
 use Rattle.std.proofs.lemmas.List.Elements.{Contains-append_left, Contains-append_right}
-use Rattle.meta_rows.specs.Rows.{Rows, rows_after}
+use Rattle.meta_rows.specs.Prelude.{Rows, rows_after}
 use Rattle.meta_log.specs.declared.slot.Super.{Super}
-use Rattle.meta_log.specs.Slots.{width_of, IsSuper}
+use Rattle.meta_log.specs.Prelude.{width_of, IsSuper}
 use Rattle.bitmap_freelist.specs.Bitmap.{AreBitmapRows}
 use Rattle.bitmap_freelist.proofs.GoodBitmaps.{bitmap_rows}
-use Rattle.store_image.specs.Owners.{IsMarked}
-use Rattle.plan_rows.specs.Keeps.{IsGood}
+use Rattle.store_image.specs.Prelude.{IsMarked}
+use Rattle.plan_rows.specs.Prelude.{IsGood}
 use Rattle.selections.specs.Fair.{under, IsFair, IsComplete}
 use Rattle.selections.proofs.Cuts.{not_empty}
 use Rattle.selections.proofs.Order.{moved, fold_alike}
 use Rattle.selections.proofs.Selecting.{fair_front, fair_all, fair_among, fair_behind, complete_is_fair, fair_none}
-use Rattle.store_steps.specs.Intents.{Intent, is_in, rows_by, taken_by, IsPlannedOver, EachIsPlanned, AreTakenApart}
+use Rattle.store_steps.specs.Prelude.{Intent, is_in, rows_by, taken_by, IsPlannedOver, EachIsPlanned, AreTakenApart}
 use Rattle.space_facts.specs.Owning.{OwnTheirUnits}
 use Rattle.space_facts.proofs.Lists.{all_listed, listed_all, times_some}
 use Rattle.space_facts.proofs.Rows.{each_named, rows_append, taken_append, IsOf, intents_change_places, table_stays}

@@ -3,18 +3,17 @@ use Rattle.std.proofs.Common.{◌≡◌, ℕ, Bool, true, false, cond, List, [],
 use Rattle.std.specs.List.{AllByRecursion}
 use Rattle.std.specs.FinMap as finite
 use Rattle.std.proofs.lemmas.List.Concat.{flat_map-append}
-use Rattle.unit_fields.specs.Names.{IsCollName}
-use Rattle.meta_rows.specs.Rows.{Rows, rows_after}
+use Rattle.unit_fields.specs.Prelude.{IsCollName}
+use Rattle.meta_rows.specs.Prelude.{Rows, rows_after}
 use Rattle.meta_rows.proofs.Folds.{rows_after-append}
-use Rattle.object_model.specs.Effect.{is_named}
+use Rattle.object_model.specs.Prelude.{is_named}
 use Rattle.object_model.proofs.Names.{same_name, is_same_itself}
 use Rattle.bitmap_freelist.specs.Bitmap.{AreBitmapRows}
-use Rattle.plan_rows.specs.Names.{IsKeyIn, IsKeyOfSome, AgreeOn, AreOf, HaveNoneInCommon}
-use Rattle.plan_rows.specs.Plans.{fresh_units}
+use Rattle.plan_rows.specs.Prelude.{IsKeyIn, IsKeyOfSome, AgreeOn, AreOf, HaveNoneInCommon, fresh_units}
 use Rattle.plan_rows.proofs.Alike.{after_alike}
 use Rattle.plan_rows.proofs.Apart.{named_coll, leaves, change_places, table_kept}
 use Rattle.selections.specs.Fair.{under, EachHasName, ShareNoName}
-use Rattle.store_steps.specs.Intents.{Intent, names_in, is_in, plan_of, rows_by, ops_by, taken_by, released_by}
+use Rattle.store_steps.specs.Prelude.{Intent, names_in, is_in, plan_of, rows_by, ops_by, taken_by, released_by}
 
 -- ---- names
 

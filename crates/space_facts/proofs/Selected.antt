@@ -3,22 +3,20 @@ use Rattle.std.proofs.Common.{◌≡◌, ◌⊎◌, inl, inr, ℕ, ◌+◌, ◌<
 use Rattle.std.specs.List.{AllByRecursion}
 use Rattle.std.proofs.lemmas.List.Elements.{Contains-append_left, Contains-append_right, Contains-append_cases}
 use Rattle.unit_fields.specs.declared.width.Width.{Width}
-use Rattle.meta_rows.specs.Rows.{Rows, rows_after}
+use Rattle.meta_rows.specs.Prelude.{Rows, rows_after}
 use Rattle.meta_log.specs.declared.slot.Super.{Super}
-use Rattle.meta_log.specs.Slots.{width_of, IsSuper}
-use Rattle.store_image.specs.Owners.{page_of, IsDataUnit, IsOwned, IsMarked, IsLeaked, IsExactAs}
-use Rattle.store_image.proofs.ExactLemmas.{as_itself, exact_onward}
+use Rattle.meta_log.specs.Prelude.{width_of, IsSuper}
+use Rattle.store_image.specs.Prelude.{page_of, IsDataUnit, IsOwned, IsMarked, IsLeaked, IsExactAs}
+use Rattle.store_image.proofs.Prelude.{as_itself, exact_onward}
 use Rattle.unit_allocator.proofs.Lists.{Contains-cases}
 use Rattle.plan_rows.specs.declared.plan.FreshUnit.{FreshUnit}
 use Rattle.plan_rows.specs.declared.plan.Plan.{Plan}
-use Rattle.plan_rows.specs.Plans.{fresh_units}
-use Rattle.plan_rows.specs.Names.{IsOwnedBy}
-use Rattle.plan_rows.specs.Keeps.{IsGood, Suits, OwnsItsUnits, PlanKeeps}
+use Rattle.plan_rows.specs.Prelude.{fresh_units, IsOwnedBy, IsGood, Suits, OwnsItsUnits, PlanKeeps}
 use Rattle.plan_rows.proofs.Apart.{bits_turned}
 use Rattle.plan_rows.proofs.Agreeing.{agree_itself}
 use Rattle.selections.specs.Fair.{IsFair}
 use Rattle.selections.proofs.Selecting.{fair_front, by_fronts, with_last, fair_none}
-use Rattle.store_steps.specs.Intents.{Intent, names_in, is_in, plan_of, rows_by, taken_by, released_by, IsPlannedOver, EachIsPlanned, AreTakenApart}
+use Rattle.store_steps.specs.Prelude.{Intent, names_in, is_in, plan_of, rows_by, taken_by, released_by, IsPlannedOver, EachIsPlanned, AreTakenApart}
 use Rattle.space_facts.specs.Owning.{OwnTheirUnits}
 use Rattle.space_facts.proofs.Lists.{all_join, listed_all, in_or_not, by_ends, times, times_append, times_none, times_some, some_times, times_once, once_times}
 use Rattle.space_facts.proofs.Rows.{is_own, each_named, rows_append, taken_append, released_append, IsOf}

@@ -2,19 +2,18 @@
 use Rattle.std.proofs.Common.{◌≡◌, ◌≢◌, ◌↔◌, ◌⊎◌, inl, inr, ℕ, zero, suc, ◌<◌, ◌^◌, Bool, true, false, List, [], ◌∷◌, ◌++◌, map, length, get_or, Contains, Any, refl, sym, ap, subst, arith}
 use Rattle.std.specs.List.{AllByRecursion}
 use Rattle.std.proofs.lemmas.List.Elements.{Contains-append_left, Contains-append_right, Contains-append_cases}
-use Rattle.meta_rows.specs.Rows.{Rows}
+use Rattle.meta_rows.specs.Prelude.{Rows}
 use Rattle.meta_log.specs.declared.slot.Super.{Super}
-use Rattle.meta_log.specs.Slots.{width_of, IsSuper}
-use Rattle.store_image.specs.Owners.{IsDataUnit, IsOwned, IsMarked, IsBusy}
-use Rattle.unit_allocator.specs.Units.{Space, IsWithin, is_free, free_units, taken_one, given_one, taken, given}
+use Rattle.meta_log.specs.Prelude.{width_of, IsSuper}
+use Rattle.store_image.specs.Prelude.{IsDataUnit, IsOwned, IsMarked, IsBusy}
+use Rattle.unit_allocator.specs.Prelude.{Space, IsWithin, is_free, free_units, taken_one, given_one, taken, given}
 use Rattle.unit_allocator.proofs.Lists.{Contains-head, Contains-tail, Contains-cases}
 use Rattle.unit_allocator.proofs.FreeUnits.{free_is_listed, listed_is_free, listed_is_within, free_after_taking, free_after_giving, range_stays}
-use Rattle.plan_rows.specs.Plans.{AreFreeOver}
-use Rattle.plan_rows.specs.Keeps.{IsGood, PlanKeeps}
+use Rattle.plan_rows.specs.Prelude.{AreFreeOver, IsGood, PlanKeeps}
 use Rattle.plan_rows.proofs.OnData.{owned_on_data}
 use Rattle.selections.specs.Fair.{IsComplete}
 use Rattle.selections.proofs.Selecting.{fair_all, complete_is_fair}
-use Rattle.store_steps.specs.Intents.{Intent, names_in, is_in, plan_of, rows_by, taken_by, released_by, EachIsPlanned, AreTakenApart, SpaceIsCounted, CanJoin}
+use Rattle.store_steps.specs.Prelude.{Intent, names_in, is_in, plan_of, rows_by, taken_by, released_by, EachIsPlanned, AreTakenApart, SpaceIsCounted, CanJoin}
 use Rattle.space_facts.specs.Spaces.{HasDataUnits, HasOnlyDataUnits, AreUnheld}
 use Rattle.space_facts.specs.Owning.{OwnTheirUnits}
 use Rattle.space_facts.proofs.Lists.{all_listed, listed_all, in_or_not, times, times_append, times_some, times_once}

@@ -1,10 +1,10 @@
 -- An example: a transaction takes unit 18, and a later one on the same collection takes 19 and releases 18.
 use Rattle.std.specs.Prelude.{ℕ, List, [], ◌∷◌}
 use Rattle.std.specs.FinMap as finite
-use Rattle.meta_rows.specs.Rows.{Rows}
+use Rattle.meta_rows.specs.Prelude.{Rows}
 use Rattle.meta_rows.specs.declared.row_op.RowOp.TheVariants.{Flip}
-use Rattle.row_format.specs.Keys.{bitmap_key}
-use Rattle.store_steps.specs.Intents.{Intent}
+use Rattle.row_format.specs.Prelude.{bitmap_key}
+use Rattle.store_steps.specs.Prelude.{Intent}
 
 -- masks of the bit of 18, and of those of 18 and 19
 abbrev pub eighteen : List ℕ

@@ -1,10 +1,10 @@
 -- What intents change of the owned units.
 use Rattle.std.specs.Prelude.{◌⊎◌, ℕ, List, Contains}
 use Rattle.unit_fields.specs.declared.width.Width.{Width}
-use Rattle.meta_rows.specs.Rows.{Rows}
-use Rattle.store_image.specs.Owners.{IsOwned}
-use Rattle.plan_rows.specs.Plans.{StandsOnce}
-use Rattle.store_steps.specs.Intents.{Intent, taken_by, released_by}
+use Rattle.meta_rows.specs.Prelude.{Rows}
+use Rattle.store_image.specs.Prelude.{IsOwned}
+use Rattle.plan_rows.specs.Prelude.{StandsOnce}
+use Rattle.store_steps.specs.Prelude.{Intent, taken_by, released_by}
 
 -- What is owned after was owned before or was taken, and what was owned before or taken is owned after or was released. What is released was
 -- owned before or taken, isn't owned after, and is released once.

@@ -1,8 +1,8 @@
 -- What an allocator's space is asked for.
 use Rattle.std.specs.Prelude.{◌≡◌, ℕ, List, Contains}
 use Rattle.meta_log.specs.declared.slot.Super.{Super}
-use Rattle.store_image.specs.Owners.{IsDataUnit}
-use Rattle.unit_allocator.specs.Units.{Space, IsWithin, holds_of}
+use Rattle.store_image.specs.Prelude.{IsDataUnit}
+use Rattle.unit_allocator.specs.Prelude.{Space, IsWithin, holds_of}
 
 -- the data units are units of the space
 abbrev pub HasDataUnits : Super → Space → Type 0

@@ -1,16 +1,14 @@
 //! How accepted transactions that are under way keep rows good and units apart.
 ghost use Rattle.std.specs.Prelude.{◌≡◌, ◌↔◌, ℕ, true, false, List, [], ◌∷◌, ◌++◌, map, Contains};
 ghost use Rattle.std.specs.List.{AllByRecursion};
-ghost use Rattle.meta_rows.specs.Rows.{Rows, rows_after};
+ghost use Rattle.meta_rows.specs.Prelude.{Rows, rows_after};
 ghost use Rattle.meta_log.specs.declared.slot.Super.{Super};
-ghost use Rattle.meta_log.specs.Slots.{width_of, IsSuper};
-ghost use Rattle.store_image.specs.Owners.{IsDataUnit, IsMarked, IsLeaked, IsExactAs, IsBusy};
-ghost use Rattle.unit_allocator.specs.Units.{Space, is_free, free_units, taken, given};
-ghost use Rattle.plan_rows.specs.Plans.{AreFreeOver, fresh_units};
-ghost use Rattle.plan_rows.specs.Keeps.{IsGood, Suits, PlanKeeps};
+ghost use Rattle.meta_log.specs.Prelude.{width_of, IsSuper};
+ghost use Rattle.store_image.specs.Prelude.{IsDataUnit, IsMarked, IsLeaked, IsExactAs, IsBusy};
+ghost use Rattle.unit_allocator.specs.Prelude.{Space, is_free, free_units, taken, given};
+ghost use Rattle.plan_rows.specs.Prelude.{AreFreeOver, fresh_units, IsGood, Suits, PlanKeeps};
 ghost use Rattle.selections.specs.Fair.{under, IsFair, IsComplete, HasLast};
-ghost use Rattle.store_steps.specs.Intents.{Intent, names_in, is_in, plan_of, rows_by, ops_by, released_by};
-ghost use Rattle.store_steps.specs.Intents.{EachIsPlanned, AreTakenApart, SpaceIsCounted, CanJoin};
+ghost use Rattle.store_steps.specs.Prelude.{Intent, names_in, is_in, plan_of, rows_by, ops_by, released_by, EachIsPlanned, AreTakenApart, SpaceIsCounted, CanJoin};
 ghost use Rattle.space_facts.specs.Example.{two, no_rows};
 ghost use Rattle.space_facts.specs.Spaces.{HasDataUnits, HasOnlyDataUnits, AreUnheld};
 ghost use Rattle.space_facts.specs.Owning.{OwnTheirUnits};

@@ -4,20 +4,17 @@ use Rattle.std.specs.List.{AllByRecursion}
 use Rattle.std.specs.Option.{option_map_or}
 use Rattle.std.proofs.lemmas.List.Elements.{Contains-append_left, Contains-append_right}
 use Rattle.unit_allocator.proofs.Lists.{Contains-head, Contains-tail}
-use Rattle.block_device.specs.Disk.{Disk}
+use Rattle.block_device.specs.Prelude.{Disk}
 use Rattle.meta_rows.specs.declared.row_op.RowOp.{RowOp}
 use Rattle.meta_log.specs.declared.slot.Super.{Super}
-use Rattle.meta_log.specs.Records.{unit_count}
-use Rattle.meta_log.specs.Slots.{active_unit, data_unit}
-use Rattle.store_image.specs.Owners.{IsDataUnit}
+use Rattle.meta_log.specs.Prelude.{unit_count, active_unit, data_unit}
+use Rattle.store_image.specs.Prelude.{IsDataUnit}
 use Rattle.plan_rows.specs.declared.plan.FreshUnit.{FreshUnit}
-use Rattle.space_facts.proofs.Lists.{times, times_append, times_some}
+use Rattle.space_facts.proofs.Prelude.{times, times_append, times_some}
 use Rattle.store_steps.specs.declared.context.Context.{Context}
 use Rattle.meta_store.specs.Store.{Begun}
-use Rattle.store_steps.specs.State.{Batch, State}
-use Rattle.store_steps.specs.UnderWay.{uncommitted, all_fresh, given_fresh}
-use Rattle.store_facts.specs.Jobs.{IsNone, IsGivenPiece}
-use Rattle.store_facts.specs.Kept.{IsKept, IsKeptUp}
+use Rattle.store_steps.specs.Prelude.{Batch, State, uncommitted, all_fresh, given_fresh}
+use Rattle.store_facts.specs.Prelude.{IsNone, IsGivenPiece, IsKept, IsKeptUp}
 use Rattle.store_facts.proofs.Lists.{all_left, all_right, all_join, all_take}
 use Rattle.store_facts.proofs.Untouched.{all_then}
 use Rattle.store_facts.proofs.PartsKept.{flat_intents}

@@ -2,44 +2,33 @@
 use Rattle.std.proofs.Common.{◌≡◌, true, ℕ, ◌+◌, ◌-◌, ◌*◌, ◌≤◌, List, [], ◌∷◌, ◌++◌, length, Option, Some, None, refl, sym, ap, subst, ◌∙◌, arith, length-append, map, is_some, is_none, take}
 use Rattle.std.specs.Option.{option_map_or}
 use Rattle.byte_maps.specs.Units.{units_from}
-use Rattle.block_device.specs.Disk.{Disk}
+use Rattle.block_device.specs.Prelude.{Disk}
 use Rattle.meta_rows.specs.declared.row_op.RowOp.{RowOp}
-use Rattle.meta_log.specs.Records.{unit_count, record_units}
-use Rattle.meta_log.specs.Slots.{active_unit}
-use Rattle.meta_log.specs.Pieces.{piece_first, piece_units, given_from, LiesInRecord}
+use Rattle.meta_log.specs.Prelude.{unit_count, record_units, active_unit, piece_first, piece_units, given_from, LiesInRecord}
 use Rattle.meta_log.proofs.PieceLemmas.{given_from-none}
-use Rattle.log_facts.specs.Flushing.{not_sent}
+use Rattle.log_facts.specs.Prelude.{not_sent}
 use Rattle.store_steps.specs.declared.context.Context.{Context}
 use Rattle.plan_rows.specs.declared.plan.FreshUnit.{FreshUnit}
 use Rattle.store_steps.specs.declared.step.Step.TheVariants as step
-use Rattle.store_steps.specs.State.{Batch, State}
+use Rattle.store_steps.specs.Prelude.{Batch, State, without_context, batch_ops, chosen, finished, taken_up, flush_sent, sync_sent, commit_of, acknowledged, is_ready, DoesTake, DoesFlush, DoesSeal, DoesRecord, DoesSync, DoesFinish, piece_unit, piece_bytes, uncommitted, given_fresh, begun_ops, submitted_from, second_flush, Intent, intent_of, intents, is_in, data_part, half_part, book_part, Adds, nothing, flushes, on_half, Footprint}
 use Rattle.meta_store.specs.Store.{Begun}
-use Rattle.store_steps.specs.Contexts.{without_context, batch_ops, chosen}
-use Rattle.store_steps.specs.Changes.{finished, taken_up, flush_sent, sync_sent, commit_of, acknowledged}
-use Rattle.store_steps.specs.Ready.{is_ready}
-use Rattle.store_steps.specs.Steps.{DoesTake, DoesFlush, DoesSeal, DoesRecord, DoesSync, DoesFinish, piece_unit, piece_bytes}
-use Rattle.store_facts.specs.Kept.{IsKept}
-use Rattle.store_steps.specs.UnderWay.{uncommitted, given_fresh, begun_ops, submitted_from, second_flush}
+use Rattle.store_facts.specs.Prelude.{IsKept}
 use Rattle.store_facts.proofs.Conditions.{HasRecord, ReadyRecord, number_low, seal_none}
 use Rattle.store_facts.proofs.Readiness.{ready_not_down, ready_by_table}
 use Rattle.store_facts.proofs.Numbers.{acknowledged_length}
 use Rattle.store_facts.proofs.Known.{flush_covers, sync_covers, known_seal, known_record, piece_lies, piece_size}
-use Rattle.store_steps.specs.Intents.{Intent, intent_of, intents, is_in}
-use Rattle.store_steps.specs.Parts.{data_part, half_part, book_part}
-use Rattle.store_steps.specs.Touch.{Adds, nothing, flushes, on_half}
 use Rattle.store_steps.specs.RowsGo as rows
 use Rattle.store_steps.specs.DataGoes as units
 use Rattle.store_steps.specs.HalfGoes as half
 use Rattle.store_steps.specs.BookGoes as book
-use Rattle.store_steps.specs.Footprint.{Footprint}
 use Rattle.store_facts.proofs.PartsKept.{book_alone, intents_both, given_both}
 use Rattle.store_facts.proofs.InFlight.{unsealed_second, record_second, sync_begun}
 use Rattle.store_facts.proofs.Choosing.{IsFirst, chosen_first}
 use Rattle.store_facts.proofs.Lists.{elsewhere, without_at}
 use Rattle.store_facts.proofs.MatchingSteps.{none_is}
-use Rattle.space_facts.proofs.Moving.{first_taken}
+use Rattle.space_facts.proofs.Prelude.{first_taken}
 use Rattle.selections.specs.Fair.{IsComplete}
-use Rattle.unit_fields.specs.UnitSet.{Ascends}
+use Rattle.unit_fields.specs.Prelude.{Ascends}
 use Rattle.std.proofs.lemmas.Bool.{and_parts}
 
 -- the device has no part in it

@@ -1,20 +1,13 @@
 -- What a call makes of the book keeps what is kept of it.
 use Rattle.std.proofs.Common.{◌≡◌, ℕ, ◌+◌, ◌<◌, ◌≤◌, true, List, [], ◌∷◌, ◌++◌, length, None, refl, sym, subst, append_assoc, append-nil, length-append, arith}
 use Rattle.std.proofs.lemmas.Bool.{ltb-true}
-use Rattle.block_device.specs.Disk.{Disk}
+use Rattle.block_device.specs.Prelude.{Disk}
 use Rattle.object_model.specs.declared.book.Commit.{Commit}
 use Rattle.store_steps.specs.declared.step.Step.TheVariants.{Finish}
-use Rattle.store_steps.specs.State.{State}
-use Rattle.store_steps.specs.Ready.{applied_count, is_ready}
-use Rattle.store_steps.specs.Intents.{Intent}
-use Rattle.store_steps.specs.Parts.{RowsPart, BookPart, book_part}
-use Rattle.store_steps.specs.Touch.{Touch}
-use Rattle.store_steps.specs.RowsGo.{RowsGo}
+use Rattle.store_steps.specs.Prelude.{State, applied_count, is_ready, Intent, RowsPart, BookPart, book_part, Touch, RowsGo, BookGoes, commits_of, IsCaused}
 use Rattle.store_steps.specs.RowsGo as rows
-use Rattle.store_steps.specs.BookGoes.{BookGoes, commits_of}
 use Rattle.store_steps.specs.BookGoes as book
-use Rattle.store_steps.specs.Footprint.{IsCaused}
-use Rattle.store_facts.specs.Room.{AcksAre, IsBookKept}
+use Rattle.store_facts.specs.Prelude.{AcksAre, IsBookKept}
 use Rattle.store_facts.proofs.Numbers.{acks_push, acks_more, acknowledged_length}
 use Rattle.store_facts.proofs.Readiness.{ready_not_down, ready_by_table}
 

@@ -3,12 +3,11 @@ use Rattle.std.proofs.Common.{◌≡◌, ◌&&◌, ◌||◌, Bool, true, false, 
 use Rattle.std.proofs.lemmas.Bool.{eqb-true, or_parts}
 use Rattle.std.proofs.lemmas.Option.{same_Some}
 use Rattle.std.specs.Prelude.{ℕ}
-use Rattle.object_model.specs.Effect.{is_same, is_named, any_named}
+use Rattle.object_model.specs.Prelude.{is_same, is_named, any_named}
 use Rattle.object_model.proofs.Names.{none_common}
 use Rattle.selections.specs.Fair.{under}
 use Rattle.store_steps.specs.declared.context.Context.{Context}
-use Rattle.store_steps.specs.Contexts.{is_done, colls_of, chosen_behind}
-use Rattle.store_steps.specs.Intents.{intent_of, intents, is_in}
+use Rattle.store_steps.specs.Prelude.{is_done, colls_of, chosen_behind, intent_of, intents, is_in}
 
 -- it stands among those that wait, and those before it have other names; so have these, which were taken before
 pub record IsFirst (names : List (List ℕ)) (x : Context) (xs : List Context) : Type 0 where

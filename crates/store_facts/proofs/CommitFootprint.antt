@@ -2,35 +2,24 @@
 use Rattle.std.proofs.Common.{◌≡◌, ◌≤◌, true, ℕ, ◌+◌, ◌-◌, List, [], ◌∷◌, ◌++◌, length, Option, Some, None, refl, sym, ap, subst, ◌∙◌, append_assoc, arith}
 use Rattle.std.specs.List.{AllByRecursion}
 use Rattle.std.proofs.lemmas.List.{take_all}
-use Rattle.block_device.specs.Disk.{Disk}
+use Rattle.block_device.specs.Prelude.{Disk}
 use Rattle.meta_rows.specs.declared.row_op.RowOp.{RowOp}
-use Rattle.meta_rows.specs.Rows.{rows_after}
-use Rattle.unit_allocator.specs.Units.{given}
-use Rattle.meta_log.specs.Records.{unit_count}
-use Rattle.meta_log.specs.Pieces.{given_from}
+use Rattle.meta_rows.specs.Prelude.{rows_after}
+use Rattle.unit_allocator.specs.Prelude.{given}
+use Rattle.meta_log.specs.Prelude.{unit_count, given_from}
 use Rattle.meta_log.proofs.PieceLemmas.{given_from-all}
 use Rattle.store_steps.specs.declared.context.Context.{Context}
 use Rattle.plan_rows.specs.declared.plan.FreshUnit.{FreshUnit}
 use Rattle.store_steps.specs.declared.step.Step.TheVariants as step
-use Rattle.store_steps.specs.State.{Batch, State}
-use Rattle.store_steps.specs.Contexts.{batch_ops, batch_released, sum_needs}
-use Rattle.store_steps.specs.Changes.{committed_batch}
-use Rattle.store_steps.specs.Ready.{is_ready}
-use Rattle.store_steps.specs.Steps.{DoesCommit}
-use Rattle.store_facts.specs.Kept.{IsKept}
+use Rattle.store_steps.specs.Prelude.{Batch, State, batch_ops, batch_released, sum_needs, committed_batch, is_ready, DoesCommit, all_fresh, given_fresh, begun_ops, submitted_from, Intent, intents, ops_by, released_by, needs_by, RowsPart, rows_part, nothing, Footprint}
+use Rattle.store_facts.specs.Prelude.{IsKept, IsAllGiven}
 use Rattle.store_facts.proofs.Conditions.{HasRecord, ReadyCommit, needs_are}
 use Rattle.store_facts.proofs.Readiness.{ready_not_down, ready_by_table}
 use Rattle.store_facts.proofs.Known.{known_commit, known_batch}
-use Rattle.store_facts.specs.Jobs.{IsAllGiven}
-use Rattle.store_steps.specs.UnderWay.{all_fresh, given_fresh, begun_ops, submitted_from}
-use Rattle.store_steps.specs.Intents.{Intent, intents, ops_by, released_by, needs_by}
-use Rattle.store_steps.specs.Parts.{RowsPart, rows_part}
-use Rattle.store_steps.specs.Touch.{nothing}
 use Rattle.store_steps.specs.RowsGo as rows
 use Rattle.store_steps.specs.DataGoes as units
 use Rattle.store_steps.specs.HalfGoes as half
 use Rattle.store_steps.specs.BookGoes as book
-use Rattle.store_steps.specs.Footprint.{Footprint}
 use Rattle.store_facts.proofs.PartsKept.{flat_intents, intents_both}
 use Rattle.store_facts.proofs.InFlight.{IsSynced, ready_synced}
 

@@ -3,28 +3,19 @@ use Rattle.std.proofs.Common.{◌≡◌, ℕ, ◌+◌, ◌-◌, ◌*◌, ◌^◌
 use Rattle.std.specs.List.{AllByRecursion, flat_map}
 use Rattle.std.specs.Option.{option_map_or}
 use Rattle.std.proofs.lemmas.Bool.{and_parts, ltb-true}
-use Rattle.block_device.specs.Disk.{Disk}
+use Rattle.block_device.specs.Prelude.{Disk}
 use Rattle.meta_rows.specs.declared.row_op.RowOp.{RowOp}
-use Rattle.meta_rows.specs.Spelling.{ops_bytes, FitsRowOp, AllFit}
-use Rattle.meta_log.specs.Records.{unit_count}
-use Rattle.meta_log.specs.Pieces.{piece_count}
+use Rattle.meta_rows.specs.Prelude.{ops_bytes, FitsRowOp, AllFit}
+use Rattle.meta_log.specs.Prelude.{unit_count, piece_count}
 use Rattle.store_steps.specs.declared.context.Context.{Context}
 use Rattle.store_steps.specs.declared.flight.FlushState.{FlushState}
 use Rattle.store_steps.specs.declared.flight.FlushState.TheVariants as flush
 use Rattle.store_steps.specs.declared.flight.Flying.{Flying}
 use Rattle.store_steps.specs.declared.step.Step.TheVariants.{Take, Seal, Record, Commit, Finish}
 use Rattle.meta_store.specs.Store.{Begun}
-use Rattle.store_steps.specs.State.{Batch, State}
-use Rattle.store_steps.specs.Contexts.{Unsent, unsent_units, run_bytes, next_unsent, chosen, batch_ops, sum_needs}
-use Rattle.store_steps.specs.Ready.{is_flushed, pieces_of, batch_is, begun_is, applied_count, is_ready_up}
-use Rattle.store_steps.specs.UnderWay.{uncommitted}
-use Rattle.store_steps.specs.Intents.{intent_of, intents, needs_by}
-use Rattle.store_steps.specs.Parts.{rows_part}
-use Rattle.store_facts.specs.Flights.{IsWritten, IsUnderWay}
-use Rattle.store_facts.specs.Jobs.{IsBatchOpen, IsLogFar, log_flying, IsAllGiven}
-use Rattle.store_facts.specs.Room.{FitsRecord, HasRoom}
-use Rattle.store_facts.specs.Work.{entry_work, work_left}
-use Rattle.store_facts.specs.Kept.{IsAlwaysKept, IsKeptUp}
+use Rattle.store_steps.specs.Prelude.{Batch, State, Unsent, unsent_units, run_bytes, next_unsent, chosen, batch_ops, sum_needs, pieces_of, batch_is, begun_is, applied_count, is_ready_up, uncommitted, intent_of, intents, needs_by, rows_part}
+use Rattle.store_steps.specs.Ready.{is_flushed}
+use Rattle.store_facts.specs.Prelude.{IsWritten, IsUnderWay, IsBatchOpen, IsLogFar, log_flying, IsAllGiven, FitsRecord, HasRoom, entry_work, work_left, IsAlwaysKept, IsKeptUp}
 use Rattle.store_facts.proofs.Numbers.{NextAcked, next_acked}
 use Rattle.store_facts.proofs.Flying.{same_count}
 use Rattle.store_facts.proofs.Pieces.{short_body}

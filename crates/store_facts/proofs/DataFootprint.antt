@@ -2,28 +2,18 @@
 use Rattle.std.proofs.Common.{◌≡◌, ℕ, ◌+◌, ◌*◌, ◌<◌, List, [], ◌∷◌, ◌++◌, length, map, take, true, Contains, Option, Some, None, refl, sym, ap, subst, ◌∙◌, append_assoc, arith}
 use Rattle.std.specs.List.{AllByRecursion}
 use Rattle.std.specs.Option.{option_map_or}
-use Rattle.unit_fields.specs.UnitSet.{Ascends}
-use Rattle.block_device.specs.Disk.{Disk}
-use Rattle.block_device.specs.Log.{WritesUnit}
-use Rattle.store_image.specs.Owners.{IsDataUnit}
+use Rattle.unit_fields.specs.Prelude.{Ascends}
+use Rattle.block_device.specs.Prelude.{Disk, WritesUnit}
+use Rattle.store_image.specs.Prelude.{IsDataUnit}
 use Rattle.plan_rows.specs.declared.plan.FreshUnit.{FreshUnit}
 use Rattle.store_steps.specs.declared.context.Context.{Context}
 use Rattle.store_steps.specs.declared.step.Step.TheVariants as step
-use Rattle.store_steps.specs.State.{Batch, State}
-use Rattle.store_steps.specs.Contexts.{Unsent, unsent_units, run_bytes, given_more, with_context}
-use Rattle.store_steps.specs.Ready.{is_ready}
-use Rattle.store_steps.specs.Steps.{DoesData}
-use Rattle.store_steps.specs.UnderWay.{uncommitted, all_fresh, given_fresh}
-use Rattle.store_steps.specs.Intents.{Intent}
-use Rattle.store_steps.specs.Parts.{rows_part, data_part}
-use Rattle.store_steps.specs.Touch.{on_data, run_write}
+use Rattle.store_steps.specs.Prelude.{Batch, State, Unsent, unsent_units, run_bytes, given_more, with_context, is_ready, DoesData, uncommitted, all_fresh, given_fresh, Intent, rows_part, data_part, on_data, run_write, IsInRow, Spares, Gives, Footprint}
 use Rattle.store_steps.specs.RowsGo as rows
-use Rattle.store_steps.specs.DataGoes.{IsInRow, Spares, Gives}
 use Rattle.store_steps.specs.DataGoes as units
 use Rattle.store_steps.specs.HalfGoes as half
 use Rattle.store_steps.specs.BookGoes as book
-use Rattle.store_steps.specs.Footprint.{Footprint}
-use Rattle.store_facts.specs.Kept.{IsKept}
+use Rattle.store_facts.specs.Prelude.{IsKept}
 use Rattle.store_facts.proofs.Untouched.{all_then}
 use Rattle.store_facts.proofs.Lists.{elsewhere, with_at, all_join}
 use Rattle.store_facts.proofs.RunUnits.{IsRunOf, given_units, row_at, row_bytes}

@@ -1,16 +1,13 @@
 -- A call that leaves the kernel up found it up.
 use Rattle.std.proofs.Common.{◌≡◌, ◌⊎◌, inl, inr, Bool, true, false, cond, Option, Some, None, is_some, refl, sym, ap, subst, ◌∙◌}
-use Rattle.block_device.specs.Disk.{Disk, Reaped, Waited}
+use Rattle.block_device.specs.Prelude.{Disk, Reaped, Waited}
 use Rattle.block_device.specs.declared.device.Ticket.{Ticket}
 use Rattle.store_steps.specs.declared.flight.Flying.{Flying}
 use Rattle.store_steps.specs.declared.flight.Job.{Job}
 use Rattle.store_steps.specs.declared.flight.Job.TheVariants as job
 use Rattle.store_steps.specs.declared.step.Step.{Step}
 use Rattle.store_steps.specs.declared.step.Step.TheVariants.{Data, Reap, Record}
-use Rattle.store_steps.specs.State.{State}
-use Rattle.store_steps.specs.Changes.{after_done, after_good, flying_of, landed, down_by, reaped}
-use Rattle.store_steps.specs.Steps.{Takes}
-use Rattle.store_steps.specs.Runs.{Call, submitting, reading, stepping, Calls, DoesOrFails, Submits, Reads}
+use Rattle.store_steps.specs.Prelude.{State, after_done, after_good, flying_of, landed, down_by, reaped, Takes, Call, submitting, reading, stepping, Calls, DoesOrFails, Submits, Reads}
 use Rattle.store_facts.proofs.Readiness.{Readiness, while_up, while_down, ready_cases}
 
 done_down : (j : Job) (s : State) → (after_done j s).down ≡ s.down

@@ -1,15 +1,14 @@
 -- What is in flight is what the device has in flight, as submissions come and go.
 use Rattle.std.proofs.Common.{◌≡◌, ℕ, ◌+◌, ◌≤◌, is_some, Bool, true, false, cond, not, ◌==◌, List, [], ◌∷◌, ◌++◌, length, map, filter, Option, Some, None, refl, sym, ap, subst, ◌∙◌, arith}
 use Rattle.std.proofs.lemmas.List.{map-append, length-map}
-use Rattle.block_device.specs.Disk.{Disk, Flight, flight_of, without, Submitted, Reaped}
+use Rattle.block_device.specs.Prelude.{Disk, Flight, flight_of, without, Submitted, Reaped}
 use Rattle.block_device.specs.declared.device.Ticket.{Ticket}
 use Rattle.block_device.specs.declared.event.Event.{Event}
 use Rattle.block_device.specs.declared.event.Event.TheVariants as event
 use Rattle.store_steps.specs.declared.flight.Flying.{Flying}
 use Rattle.store_steps.specs.declared.flight.Job.{Job}
-use Rattle.store_steps.specs.State.{State}
-use Rattle.store_steps.specs.Changes.{flying_of, landed, reaped, after_done, after_good}
-use Rattle.store_facts.specs.Flights.{AreFlights}
+use Rattle.store_steps.specs.Prelude.{State, flying_of, landed, reaped, after_done, after_good}
+use Rattle.store_facts.specs.Prelude.{AreFlights}
 
 -- ---- nothing flies
 

@@ -1,8 +1,8 @@
 -- The footprint of each call: by calls, and by steps.
 use Rattle.std.proofs.Common.{◌≡◌, inl, inr, true, ℕ, List, [], ◌∷◌, ◌++◌, length, take, None, refl, sym, ap, subst, arith}
 use Rattle.std.specs.Option.{option_map_or}
-use Rattle.block_device.specs.Disk.{Disk}
-use Rattle.object_model.specs.Effect.{Change}
+use Rattle.block_device.specs.Prelude.{Disk}
+use Rattle.object_model.specs.Prelude.{Change}
 use Rattle.object_model.specs.declared.command.Command.{Command}
 use Rattle.object_model.specs.declared.command.Command.TheVariants as ask
 use Rattle.object_model.specs.declared.command.Answer.{Answer}
@@ -11,22 +11,14 @@ use Rattle.store_steps.specs.declared.context.Context.{Context}
 use Rattle.plan_rows.specs.declared.plan.FreshUnit.{FreshUnit}
 use Rattle.store_steps.specs.declared.step.Step.{Step}
 use Rattle.store_steps.specs.declared.step.Step.TheVariants as step
-use Rattle.store_steps.specs.State.{Batch, State}
-use Rattle.store_steps.specs.Ready.{is_ready}
-use Rattle.store_steps.specs.Submit.{entered, accepted_with, context_of, Accepts}
-use Rattle.plan_rows.specs.Plans.{IsKnown}
-use Rattle.store_steps.specs.Runs.{Call, submitting, reading, stepping, Calls, DoesOrFails, TurnsAway}
-use Rattle.store_facts.specs.Kept.{IsKept}
-use Rattle.store_steps.specs.UnderWay.{given_fresh}
+use Rattle.store_steps.specs.Prelude.{Batch, State, is_ready, entered, accepted_with, context_of, Accepts, Call, submitting, reading, stepping, Calls, DoesOrFails, TurnsAway, given_fresh, Intent, intent_of, intents, rows_part, data_part, nothing, Replies, refuses, reads, Footprint}
+use Rattle.plan_rows.specs.Prelude.{IsKnown}
+use Rattle.store_facts.specs.Prelude.{IsKept}
 use Rattle.store_facts.proofs.Downs.{was_up, down_not_up}
-use Rattle.store_steps.specs.Intents.{Intent, intent_of, intents}
-use Rattle.store_steps.specs.Parts.{rows_part, data_part}
-use Rattle.store_steps.specs.Touch.{nothing}
 use Rattle.store_steps.specs.RowsGo as rows
 use Rattle.store_steps.specs.DataGoes as units
 use Rattle.store_steps.specs.HalfGoes as half
 use Rattle.store_steps.specs.BookGoes as book
-use Rattle.store_steps.specs.Footprint.{Replies, refuses, reads, Footprint}
 use Rattle.store_facts.proofs.PartsKept.{book_alone}
 use Rattle.store_facts.proofs.DataFootprint.{data_footprint}
 use Rattle.store_facts.proofs.ReapFootprint.{reap_footprint}

@@ -2,12 +2,11 @@
 use Rattle.std.proofs.Common.{◌≡◌, ℕ, ◌+◌, ◌<◌, ◌≤◌, Bool, true, false, cond, ◌==◌, ◌&&◌, nat_lt, List, ◌∷◌, ◌++◌, length, Option, Some, None, refl, sym, ap, subst, ◌∙◌, arith}
 use Rattle.std.specs.List.{AllByRecursion}
 use Rattle.std.proofs.lemmas.Bool.{and_parts, ltb-true, eq-eqb}
-use Rattle.block_device.specs.Disk.{Flight}
+use Rattle.block_device.specs.Prelude.{Flight}
 use Rattle.block_device.specs.declared.device.Ticket.{Ticket}
-use Rattle.log_facts.specs.Flushing.{not_sent, sent, flushed}
+use Rattle.log_facts.specs.Prelude.{not_sent, sent, flushed}
 use Rattle.meta_rows.specs.declared.row_op.RowOp.{RowOp}
-use Rattle.meta_log.specs.Records.{unit_count}
-use Rattle.meta_log.specs.Pieces.{piece_count}
+use Rattle.meta_log.specs.Prelude.{unit_count, piece_count}
 use Rattle.store_steps.specs.declared.context.Context.{Context}
 use Rattle.store_steps.specs.declared.flight.FlushState.{FlushState}
 use Rattle.store_steps.specs.declared.flight.FlushState.TheVariants as flush
@@ -15,13 +14,10 @@ use Rattle.store_steps.specs.declared.flight.Flying.{Flying}
 use Rattle.store_steps.specs.declared.flight.Job.{Job}
 use Rattle.store_steps.specs.declared.flight.Job.TheVariants as job
 use Rattle.store_steps.specs.declared.step.Step.TheVariants as step
-use Rattle.store_steps.specs.State.{Batch, State}
+use Rattle.store_steps.specs.Prelude.{Batch, State, batch_ops, is_not_sent, pieces_of, batch_is, begun_is, is_ready_up, flush_of, second_flush}
 use Rattle.meta_store.specs.Store.{Begun}
-use Rattle.store_steps.specs.Contexts.{batch_ops}
-use Rattle.store_steps.specs.Ready.{is_not_sent, is_flushed, pieces_of, batch_is, begun_is, is_ready_up}
-use Rattle.store_steps.specs.UnderWay.{flush_of, second_flush}
-use Rattle.store_facts.specs.Flights.{IsWritten, IsUnderWay}
-use Rattle.store_facts.specs.Jobs.{units_for, is_data, log_flying, IsPartGiven, IsAllGiven, IsBatchOpen, IsLogFar, TouchesGiven, IsWriteOf, IsOfJob, AreOfJobs}
+use Rattle.store_steps.specs.Ready.{is_flushed}
+use Rattle.store_facts.specs.Prelude.{IsWritten, IsUnderWay, units_for, is_data, log_flying, IsPartGiven, IsAllGiven, IsBatchOpen, IsLogFar, TouchesGiven, IsWriteOf, IsOfJob, AreOfJobs}
 use Rattle.store_facts.proofs.Lists.{StandsIn, any_stands, all_right}
 use Rattle.store_facts.proofs.Landing.{IsLeftOut, IsFlown, jobs_found}
 use Rattle.store_facts.proofs.Underway.{no_front, not_more, pieces_are, synced_way, Flies, first_flies, piece_flies, second_flies, what_flies}
@@ -104,8 +100,11 @@ found_tells s flights ticket out m = of_job out.flight.job refl
           item = at.item;
           back = at.back;
           is = at.is;
-          holds = (at.holds.0, within (at.item).done count (at.item).given _ _ _ part.counted (left_units (at.item).place ticket s.flying out)
-              (ap (λ (j : Job). units_for (at.item).place j) is ∙ ap (λ (b : Bool). cond b count 0) (eq-eqb place (at.item).place (sym at.holds.0))));
+          holds = (
+            at.holds.0,
+            within (at.item).done count (at.item).given _ _ _ part.counted (left_units (at.item).place ticket s.flying out)
+                (ap (λ (j : Job). units_for (at.item).place j) is ∙ ap (λ (b : Bool). cond b count 0) (eq-eqb place (at.item).place (sym at.holds.0))),
+          );
         }
       where
         within : (done count given all left one : ℕ) → done + all ≡ given → left + one ≡ all → one ≡ count → done + count ≤ given

@@ -2,20 +2,14 @@
 use Rattle.std.proofs.Common.{◌≡◌, inl, inr, ℕ, ◌+◌, ◌-◌, ◌*◌, ◌<◌, ◌≤◌, ◌==◌, ◌&&◌, Bool, true, false, not, List, [], ◌∷◌, length, map, nat_lt, Option, Some, None, is_some, is_none, refl, sym, ap, subst, ◌∙◌, arith}
 use Rattle.std.specs.Option.{option_map_or}
 use Rattle.std.proofs.lemmas.Bool.{and_parts}
-use Rattle.block_device.specs.Disk.{Disk, Flight, IsSound, Waited}
+use Rattle.block_device.specs.Prelude.{Disk, Flight, IsSound, Waited}
 use Rattle.block_device.specs.declared.device.Ticket.{Ticket}
 use Rattle.store_steps.specs.declared.flight.Flying.{Flying}
 use Rattle.store_steps.specs.declared.step.Step.{Step}
 use Rattle.store_steps.specs.declared.step.Step.TheVariants.{Data, Reap, Take, Flush, Seal, Record, Sync, Commit, Finish}
-use Rattle.store_steps.specs.State.{State}
-use Rattle.store_steps.specs.Contexts.{chosen}
-use Rattle.store_steps.specs.Changes.{down_by, landed}
-use Rattle.store_steps.specs.Ready.{is_ready, is_ready_up, is_ready_down, is_empty, is_not_sent, is_flushed, pieces_of, batch_is, begun_is, applied_count}
-use Rattle.store_steps.specs.Steps.{Takes}
-use Rattle.store_steps.specs.Runs.{Call, submitting, reading, stepping, DoesOrFails, Submits, Reads, Calls}
-use Rattle.store_facts.specs.Flights.{AreFlights}
-use Rattle.store_facts.specs.Work.{sum_work, batch_work, work_left, measure, budget}
-use Rattle.store_facts.specs.Kept.{IsAlwaysKept, IsKeptUp, IsKept}
+use Rattle.store_steps.specs.Prelude.{State, chosen, down_by, landed, is_ready, is_ready_up, is_ready_down, is_empty, is_not_sent, pieces_of, batch_is, begun_is, applied_count, Takes, Call, submitting, reading, stepping, DoesOrFails, Submits, Reads, Calls}
+use Rattle.store_steps.specs.Ready.{is_flushed}
+use Rattle.store_facts.specs.Prelude.{AreFlights, sum_work, batch_work, work_left, measure, budget, IsAlwaysKept, IsKeptUp, IsKept}
 use Rattle.store_facts.proofs.Flying.{others_of, Landed, landed_flight}
 use Rattle.store_facts.proofs.Readiness.{Readiness, while_up, while_down, ready_cases}
 use Rattle.store_facts.proofs.Conditions.{pending_fits, seal_none}

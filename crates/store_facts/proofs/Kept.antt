@@ -1,36 +1,23 @@
 -- Each call of the kernel keeps what it keeps.
 use Rattle.std.proofs.Common.{◌≡◌, inl, inr, ℕ, ◌+◌, ◌-◌, ◌*◌, ◌^◌, ◌<◌, ◌≤◌, true, List, [], ◌∷◌, ◌++◌, length, map, length-append, Option, None, is_some, refl, sym, ap, subst, ◌∙◌, arith}
 use Rattle.std.specs.Option.{option_map_or}
-use Rattle.block_device.specs.Disk.{Disk, Flight, IsSound, Waited}
-use Rattle.object_model.specs.Effect.{Change}
+use Rattle.block_device.specs.Prelude.{Disk, Flight, IsSound, Waited}
+use Rattle.object_model.specs.Prelude.{Change}
 use Rattle.object_model.specs.declared.command.Command.{Command}
 use Rattle.object_model.specs.declared.command.Command.TheVariants as ask
 use Rattle.object_model.specs.declared.command.Answer.{Answer}
 use Rattle.object_model.specs.declared.command.Answer.TheVariants as answer
 use Rattle.object_model.specs.declared.book.Entry.{Entry}
-use Rattle.meta_log.specs.Slots.{IsSuper}
-use Rattle.meta_log.specs.Pieces.{piece_count}
+use Rattle.meta_log.specs.Prelude.{IsSuper, piece_count}
 use Rattle.plan_rows.specs.declared.plan.Plan.{Plan}
-use Rattle.plan_rows.specs.Keeps.{PlansKeep}
-use Rattle.plan_rows.specs.Plans.{IsKnown}
-use Rattle.unit_allocator.specs.Units.{Space}
+use Rattle.plan_rows.specs.Prelude.{PlansKeep, IsKnown}
+use Rattle.unit_allocator.specs.Prelude.{Space}
 use Rattle.store_steps.specs.declared.context.Context.{Context}
 use Rattle.store_steps.specs.declared.step.Step.{Step}
-use Rattle.store_steps.specs.State.{Batch, State}
-use Rattle.store_steps.specs.Ready.{is_ready, applied_count}
-use Rattle.store_steps.specs.Submit.{entry_limit, need_of, context_of, accepted_with, entered, Accepts, Refuses}
-use Rattle.store_steps.specs.Opened.{Found, opened}
-use Rattle.store_steps.specs.Runs.{stepping, DoesOrFails, MayRead, AnswersRead, Reads}
-use Rattle.store_steps.specs.Intents.{Intent, intent_of}
-use Rattle.store_steps.specs.Parts.{rows_part, book_part}
-use Rattle.store_steps.specs.RowsGo.{joined}
+use Rattle.store_steps.specs.Prelude.{Batch, State, is_ready, applied_count, entry_limit, need_of, context_of, accepted_with, entered, Accepts, Refuses, Found, opened, stepping, DoesOrFails, MayRead, AnswersRead, Reads, Intent, intent_of, rows_part, book_part, joined, Footprint}
 use Rattle.store_steps.specs.RowsGo as rows
 use Rattle.store_steps.specs.BookGoes as book
-use Rattle.store_steps.specs.Footprint.{Footprint}
-use Rattle.store_facts.specs.Space.{AreRowsKept}
-use Rattle.store_facts.specs.Jobs.{AreOfJobs, FlightsMatch}
-use Rattle.store_facts.specs.Work.{sum_work, batch_work, work_left, entry_work, budget, measure}
-use Rattle.store_facts.specs.Kept.{IsAlwaysKept, IsKept, IsOpenable}
+use Rattle.store_facts.specs.Prelude.{AreRowsKept, AreOfJobs, FlightsMatch, sum_work, batch_work, work_left, entry_work, budget, measure, IsAlwaysKept, IsKept, IsOpenable}
 use Rattle.store_facts.proofs.Keeping.{StepOutcome, has_stepped, has_waited, has_gone_down, GoneDown, down_keeps, paid_within, waited_keeps, step_leaves, work_falls}
 use Rattle.store_facts.proofs.Footprints.{intents_push, footprint_of}
 use Rattle.store_facts.proofs.RowsKept.{rows_go}

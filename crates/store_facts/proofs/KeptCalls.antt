@@ -1,10 +1,9 @@
 -- Each call keeps what the kernel keeps, and so does a run.
 use Rattle.std.proofs.Common.{inl, inr, List, [], ◌∷◌, sym, subst}
-use Rattle.block_device.specs.Disk.{Disk, IsSound}
-use Rattle.plan_rows.specs.Keeps.{PlansKeep}
-use Rattle.store_steps.specs.State.{State}
-use Rattle.store_steps.specs.Runs.{Call, submitting, reading, stepping, Calls, IsRun}
-use Rattle.store_facts.specs.Kept.{IsKept}
+use Rattle.block_device.specs.Prelude.{Disk, IsSound}
+use Rattle.plan_rows.specs.Prelude.{PlansKeep}
+use Rattle.store_steps.specs.Prelude.{State, Call, submitting, reading, stepping, Calls, IsRun}
+use Rattle.store_facts.specs.Prelude.{IsKept}
 use Rattle.store_facts.proofs.Kept.{kept_step, kept_accept, kept_refuse, kept_read}
 
 pub kept_call : (call : Call) (s s' : State) (d d' : Disk) → PlansKeep → IsKept s d → Calls call s d s' d' → IsSound d' → IsKept s' d'

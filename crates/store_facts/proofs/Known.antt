@@ -3,28 +3,20 @@ use Rattle.std.proofs.Common.{◌≡◌, ℕ, zero, suc, ◌+◌, ◌-◌, ◌*�
 use Rattle.std.specs.List.{AllByRecursion}
 use Rattle.std.specs.Option.{option_map_or}
 use Rattle.std.proofs.lemmas.Bool.{and_parts, eqb-true}
-use Rattle.byte_maps.proofs.UnitLemmas.{length-units_from}
-use Rattle.block_device.specs.Disk.{Disk, IsNotInFlight}
-use Rattle.block_device.specs.Facts.{IsUntouched}
-use Rattle.meta_rows.specs.Spelling.{ops_bytes, AllFit}
+use Rattle.byte_maps.proofs.Prelude.{length-units_from}
+use Rattle.block_device.specs.Prelude.{Disk, IsNotInFlight, IsUntouched}
+use Rattle.meta_rows.specs.Prelude.{ops_bytes, AllFit}
 use Rattle.meta_log.specs.declared.slot.Super.{Super}
-use Rattle.meta_log.specs.Records.{record_units, unit_count}
-use Rattle.meta_log.specs.Pieces.{given_from, piece_first, piece_units, LiesInRecord}
+use Rattle.meta_log.specs.Prelude.{record_units, unit_count, given_from, piece_first, piece_units, LiesInRecord, IsSuper, active_unit}
 use Rattle.meta_log.proofs.PieceLemmas.{lies}
 use Rattle.meta_log.proofs.SealLemmas.{length-record_units}
-use Rattle.meta_log.specs.Slots.{IsSuper, active_unit}
-use Rattle.store_image.specs.Owners.{IsDataUnit}
+use Rattle.store_image.specs.Prelude.{IsDataUnit}
 use Rattle.plan_rows.specs.declared.plan.FreshUnit.{FreshUnit}
 use Rattle.store_steps.specs.declared.context.Context.{Context}
 use Rattle.store_steps.specs.declared.step.Step.TheVariants.{Data, Flush, Seal, Record, Sync, Commit, Finish}
 use Rattle.meta_store.specs.Store.{Begun}
-use Rattle.store_steps.specs.State.{Batch, State}
-use Rattle.store_steps.specs.Contexts.{Unsent, unsent_units, run_bytes, next_unsent, batch_ops}
-use Rattle.store_steps.specs.Ready.{is_not_sent, pieces_of, batch_is, begun_is, applied_count, is_ready, is_drained}
-use Rattle.store_steps.specs.Steps.{piece_unit, piece_bytes}
-use Rattle.store_steps.specs.UnderWay.{all_fresh}
-use Rattle.store_facts.specs.Jobs.{IsNone, IsGivenPiece}
-use Rattle.store_facts.specs.Kept.{IsKept, IsKeptUp}
+use Rattle.store_steps.specs.Prelude.{Batch, State, Unsent, unsent_units, run_bytes, next_unsent, batch_ops, is_not_sent, pieces_of, batch_is, begun_is, applied_count, is_ready, is_drained, piece_unit, piece_bytes, all_fresh}
+use Rattle.store_facts.specs.Prelude.{IsNone, IsGivenPiece, IsKept, IsKeptUp}
 use Rattle.store_facts.proofs.Numbers.{NextAcked}
 use Rattle.store_facts.proofs.Flying.{idle_device}
 use Rattle.store_facts.proofs.Lists.{StandsIn, all_join}

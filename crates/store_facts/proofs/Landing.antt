@@ -2,14 +2,13 @@
 use Rattle.std.proofs.Common.{◌≡◌, ℕ, ◌+◌, Bool, true, false, cond, not, ◌==◌, List, [], ◌∷◌, ◌++◌, length, map, Some, refl, ap, subst, ◌∙◌, arith}
 use Rattle.std.specs.List.{AllByRecursion}
 use Rattle.std.proofs.lemmas.Bool.{eqb-true}
-use Rattle.block_device.specs.Disk.{Flight, without}
+use Rattle.block_device.specs.Prelude.{Flight, without}
 use Rattle.block_device.specs.declared.device.Ticket.{Ticket}
 use Rattle.store_steps.specs.declared.context.Context.{Context}
 use Rattle.store_steps.specs.declared.flight.Flying.{Flying}
 use Rattle.meta_store.specs.Store.{Meta}
-use Rattle.store_steps.specs.Changes.{flying_of}
-use Rattle.store_facts.specs.Flights.{AreFlights}
-use Rattle.store_facts.specs.Jobs.{units_flying, is_data, log_flying, IsOfJob, AreOfJobs}
+use Rattle.store_steps.specs.Prelude.{flying_of}
+use Rattle.store_facts.specs.Prelude.{AreFlights, units_flying, is_data, log_flying, IsOfJob, AreOfJobs}
 use Rattle.store_facts.proofs.Flying.{others_of, none_out}
 
 pub units_both : (place : ℕ) (xs ys : List Flying) → units_flying place (xs ++ ys) ≡ units_flying place xs + units_flying place ys

@@ -37,3 +37,4 @@ pub mod RowsNow
 pub mod Keeping
 pub mod Kept
 pub mod KeptCalls
+pub mod Prelude

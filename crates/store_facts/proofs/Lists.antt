@@ -3,10 +3,10 @@ use Rattle.std.proofs.Common.{◌≡◌, inl, inr, ℕ, zero, suc, ◌+◌, ◌<
 use Rattle.std.specs.List.{AllByRecursion}
 use Rattle.std.proofs.lemmas.Bool.{eq-eqb, ne_eqb}
 use Rattle.std.proofs.lemmas.List.{map-append}
-use Rattle.unit_fields.specs.UnitSet.{Ascends}
+use Rattle.unit_fields.specs.Prelude.{Ascends}
 use Rattle.store_steps.specs.declared.context.Context.{Context}
-use Rattle.store_steps.specs.Contexts.{with_context, without_context}
-use Rattle.store_facts.specs.Jobs.{AnyByRecursion}
+use Rattle.store_steps.specs.Prelude.{with_context, without_context}
+use Rattle.store_facts.specs.Prelude.{AnyByRecursion}
 use Rattle.store_facts.proofs.Untouched.{all_then}
 
 -- ---- each member

@@ -2,13 +2,11 @@
 use Rattle.std.proofs.Common.{◌≡◌, inl, inr, ℕ, ◌+◌, ◌-◌, ◌*◌, ◌<◌, ◌≤◌, Bool, true, false, cond, not, List, [], ◌∷◌, ◌++◌, length, Option, Some, None, refl, sym, ap, subst, ◌∙◌, arith}
 use Rattle.std.specs.List.{AllByRecursion}
 use Rattle.std.proofs.lemmas.Bool.{cases_lt}
-use Rattle.byte_maps.proofs.UnitLemmas.{length-units_from}
-use Rattle.block_device.specs.Disk.{Flight, flight_of}
+use Rattle.byte_maps.proofs.Prelude.{length-units_from}
+use Rattle.block_device.specs.Prelude.{Flight, flight_of}
 use Rattle.block_device.specs.declared.device.Ticket.{Ticket}
 use Rattle.block_device.specs.declared.event.Event.TheVariants as event
-use Rattle.meta_log.specs.Records.{unit_count, record_units}
-use Rattle.meta_log.specs.Slots.{active_unit}
-use Rattle.meta_log.specs.Pieces.{piece_count, given_from, piece_first, piece_units, LiesInRecord}
+use Rattle.meta_log.specs.Prelude.{unit_count, record_units, active_unit, piece_count, given_from, piece_first, piece_units, LiesInRecord}
 use Rattle.meta_log.proofs.PieceLemmas.{lies}
 use Rattle.meta_log.proofs.SealLemmas.{length-record_units}
 use Rattle.store_steps.specs.declared.context.Context.{Context}
@@ -17,13 +15,9 @@ use Rattle.store_steps.specs.declared.flight.Flying.{Flying}
 use Rattle.store_steps.specs.declared.flight.Job.{Job}
 use Rattle.store_steps.specs.declared.flight.Job.TheVariants as job
 use Rattle.meta_store.specs.Store.{Meta, Begun}
-use Rattle.store_steps.specs.State.{Batch, State}
-use Rattle.store_steps.specs.Contexts.{batch_ops}
-use Rattle.store_steps.specs.Changes.{flush_sent, record_sent, sync_sent, sealed, log_after, committed_batch}
-use Rattle.store_steps.specs.Ready.{is_not_sent, is_flushed, pieces_of}
-use Rattle.store_steps.specs.Steps.{piece_unit, piece_bytes}
-use Rattle.store_facts.specs.Flights.{IsUnderWay}
-use Rattle.store_facts.specs.Jobs.{units_for, units_flying, is_data, log_flying, IsPartGiven, IsBatchOpen, IsLogFar, IsWriteOf, IsPieceOf, IsOfJob, AreOfJobs, FlightsMatch}
+use Rattle.store_steps.specs.Prelude.{Batch, State, batch_ops, flush_sent, record_sent, sync_sent, sealed, log_after, committed_batch, is_not_sent, pieces_of, piece_unit, piece_bytes}
+use Rattle.store_steps.specs.Ready.{is_flushed}
+use Rattle.store_facts.specs.Prelude.{IsUnderWay, units_for, units_flying, is_data, log_flying, IsPartGiven, IsBatchOpen, IsLogFar, IsWriteOf, IsPieceOf, IsOfJob, AreOfJobs, FlightsMatch}
 use Rattle.store_facts.proofs.Untouched.{all_then, apart_before, apart_behind}
 use Rattle.store_facts.proofs.Landing.{units_both, log_both, jobs_then, jobs_sent}
 use Rattle.store_facts.proofs.Underway.{flushing, flush_way, seal_way, record_way, sync_way, synced_way}

@@ -4,12 +4,11 @@ use Rattle.std.specs.List.{AllByRecursion}
 use Rattle.std.specs.Option.{option_map, option_or}
 use Rattle.std.proofs.lemmas.Bool.{eq-eqb, ne_eqb, cases_lt}
 use Rattle.std.proofs.lemmas.List.{map-append}
-use Rattle.unit_fields.specs.UnitSet.{Ascends}
-use Rattle.block_device.specs.Disk.{Flight, flight_of, without, IsApart}
+use Rattle.unit_fields.specs.Prelude.{Ascends}
+use Rattle.block_device.specs.Prelude.{Flight, flight_of, without, IsApart}
 use Rattle.block_device.specs.declared.device.Ticket.{Ticket}
 use Rattle.block_device.specs.declared.event.Event.TheVariants as event
-use Rattle.meta_log.specs.Records.{unit_count}
-use Rattle.meta_log.specs.Pieces.{piece_count}
+use Rattle.meta_log.specs.Prelude.{unit_count, piece_count}
 use Rattle.plan_rows.specs.declared.plan.FreshUnit.{FreshUnit}
 use Rattle.store_steps.specs.declared.context.Context.{Context}
 use Rattle.store_steps.specs.declared.flight.FlushState.{FlushState}
@@ -19,13 +18,8 @@ use Rattle.store_steps.specs.declared.flight.Job.{Job}
 use Rattle.store_steps.specs.declared.flight.Job.TheVariants as job
 use Rattle.meta_rows.specs.declared.row_op.RowOp.{RowOp}
 use Rattle.meta_store.specs.Store.{Meta, Begun}
-use Rattle.store_steps.specs.State.{Batch, State}
-use Rattle.store_steps.specs.Contexts.{Unsent, unsent_units, run_bytes, unsent, next_unsent, chosen, with_context, without_context, given_more, done_more, batch_ops}
-use Rattle.store_steps.specs.Changes.{data_sent, after_done, taken_up, written_more, first_flushed, second_flushed}
-use Rattle.store_facts.specs.Flights.{AreFlights, IsNotGiven, IsUnderWay}
-use Rattle.store_facts.specs.Jobs.{units_for, units_flying, is_data, log_flying, IsPartGiven, AreInPlace, IsLogFar, IsNone, TouchesGiven, AnyByRecursion, IsWriteOf, IsPieceOf, IsOfJob, AreOfJobs, FlightsMatch}
-use Rattle.store_steps.specs.Intents.{intent_of}
-use Rattle.store_facts.specs.Room.{FitsRecord}
+use Rattle.store_steps.specs.Prelude.{Batch, State, Unsent, unsent_units, run_bytes, unsent, next_unsent, chosen, with_context, without_context, given_more, done_more, batch_ops, data_sent, after_done, taken_up, written_more, first_flushed, second_flushed, intent_of}
+use Rattle.store_facts.specs.Prelude.{AreFlights, IsNotGiven, IsUnderWay, units_for, units_flying, is_data, log_flying, IsPartGiven, AreInPlace, IsLogFar, IsNone, TouchesGiven, AnyByRecursion, IsWriteOf, IsPieceOf, IsOfJob, AreOfJobs, FlightsMatch, FitsRecord}
 use Rattle.store_facts.proofs.Untouched.{all_then, apart_before, apart_behind}
 use Rattle.store_facts.proofs.RunUnits.{IsRunOf, run_of_left, row_bytes, row_at, all_front, given_units}
 use Rattle.store_facts.proofs.RunPlaces.{run_whole}

@@ -3,17 +3,13 @@ use Rattle.std.proofs.Common.{◌≡◌, inl, inr, ◌+◌, ◌==◌, ◌&&◌, 
 use Rattle.std.specs.List.{AllByRecursion}
 use Rattle.std.specs.Option.{option_map_or}
 use Rattle.std.proofs.lemmas.Bool.{and_parts, eqb-true, ltb-true}
-use Rattle.block_device.specs.Disk.{Disk, Flight, Waited}
+use Rattle.block_device.specs.Prelude.{Disk, Flight, Waited}
 use Rattle.block_device.specs.declared.event.Event.TheVariants as event
 use Rattle.store_steps.specs.declared.step.Step.TheVariants.{Flush, Seal, Record, Sync, Commit}
 use Rattle.meta_store.specs.Store.{Begun}
-use Rattle.store_steps.specs.State.{Batch, State}
-use Rattle.store_steps.specs.Contexts.{Unsent, unsent_units, run_bytes}
-use Rattle.store_steps.specs.Ready.{is_not_sent, is_flushed, pieces_of, batch_is, begun_is, is_ready_up}
-use Rattle.store_steps.specs.Steps.{Takes, DoesData, DoesTake, DoesFlush, DoesSeal, DoesRecord, DoesSync, DoesCommit, DoesFinish, piece_unit, piece_bytes}
-use Rattle.store_facts.specs.Flights.{AreFlights}
-use Rattle.store_steps.specs.Intents.{intent_of}
-use Rattle.store_facts.specs.Room.{FitsRecord}
+use Rattle.store_steps.specs.Prelude.{Batch, State, Unsent, unsent_units, run_bytes, is_not_sent, pieces_of, batch_is, begun_is, is_ready_up, Takes, DoesData, DoesTake, DoesFlush, DoesSeal, DoesRecord, DoesSync, DoesCommit, DoesFinish, piece_unit, piece_bytes, intent_of}
+use Rattle.store_steps.specs.Ready.{is_flushed}
+use Rattle.store_facts.specs.Prelude.{AreFlights, FitsRecord}
 use Rattle.store_facts.proofs.Flying.{sent_flights, Landed, landed_flight, reaped_good}
 use Rattle.store_facts.proofs.Landing.{IsLeftOut, left_out}
 use Rattle.store_facts.proofs.Matching.{Matches, flush_matches, sync_matches, seal_matches, record_matches, commit_matches}

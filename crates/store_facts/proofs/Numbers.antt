@@ -4,8 +4,8 @@ use Rattle.std.proofs.lemmas.Bool.{lt-ltb, le-ltb, cases_lt}
 use Rattle.std.proofs.lemmas.Option.{IfSome_then, slice_get_cases}
 use Rattle.block_device.proofs.LogLemmas.{slice_get-push_cases}
 use Rattle.object_model.specs.declared.book.Commit.{Commit}
-use Rattle.store_steps.specs.Changes.{acknowledged}
-use Rattle.store_facts.specs.Room.{AcksAre}
+use Rattle.store_steps.specs.Prelude.{acknowledged}
+use Rattle.store_facts.specs.Prelude.{AcksAre}
 
 -- the commit at this place, if there is one, is acknowledged where so many are
 abbrev IsAcked : ℕ → ℕ → Option Commit → Type 0

@@ -1,21 +1,14 @@
 -- What a change of one context leaves of the parts.
 use Rattle.std.proofs.Common.{◌≡◌, ℕ, Bool, true, false, cond, List, [], ◌∷◌, ◌++◌, ◌==◌, take, refl, ap, ◌∙◌, arith, sym, append_assoc}
 use Rattle.std.specs.List.{flat_map}
-use Rattle.block_device.specs.Disk.{Disk}
+use Rattle.block_device.specs.Prelude.{Disk}
 use Rattle.store_steps.specs.declared.context.Context.{Context}
-use Rattle.store_steps.specs.State.{State}
+use Rattle.store_steps.specs.Prelude.{State, with_context, given_fresh, Intent, intent_of, intents, rows_part, data_part, half_part, book_part, Adds, nothing, BookGoes, IsCaused, Footprint}
 use Rattle.plan_rows.specs.declared.plan.FreshUnit.{FreshUnit}
-use Rattle.store_steps.specs.Contexts.{with_context}
-use Rattle.store_steps.specs.UnderWay.{given_fresh}
-use Rattle.store_steps.specs.Intents.{Intent, intent_of, intents}
-use Rattle.store_steps.specs.Parts.{rows_part, data_part, half_part, book_part}
-use Rattle.store_steps.specs.Touch.{Adds, nothing}
 use Rattle.store_steps.specs.RowsGo as rows
 use Rattle.store_steps.specs.DataGoes as units
 use Rattle.store_steps.specs.HalfGoes as half
-use Rattle.store_steps.specs.BookGoes.{BookGoes}
 use Rattle.store_steps.specs.BookGoes as book
-use Rattle.store_steps.specs.Footprint.{IsCaused, Footprint}
 
 -- how far a context is doesn't change its intent
 pub intents_kept : (place : ℕ) (change : Context → Context) → ((x : Context) → intent_of (change x) ≡ intent_of x) → (front xs : List Context)

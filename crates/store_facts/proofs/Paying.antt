@@ -3,12 +3,11 @@ use Rattle.std.proofs.Common.{◌≡◌, ℕ, ◌+◌, ◌-◌, ◌*◌, ◌<◌
 use Rattle.std.specs.List.{AllByRecursion}
 use Rattle.std.specs.Option.{option_map, option_map_or}
 use Rattle.std.proofs.lemmas.Bool.{and_parts, ltb-true}
-use Rattle.block_device.specs.Disk.{Disk}
+use Rattle.block_device.specs.Prelude.{Disk}
 use Rattle.block_device.specs.declared.event.Event.{Event}
 use Rattle.block_device.specs.declared.event.Event.TheVariants as event
-use Rattle.unit_fields.specs.UnitSet.{Ascends}
-use Rattle.meta_log.specs.Records.{unit_count}
-use Rattle.meta_log.specs.Pieces.{piece_count}
+use Rattle.unit_fields.specs.Prelude.{Ascends}
+use Rattle.meta_log.specs.Prelude.{unit_count, piece_count}
 use Rattle.meta_rows.specs.declared.row_op.RowOp.{RowOp}
 use Rattle.store_steps.specs.declared.context.Context.{Context}
 use Rattle.store_steps.specs.declared.flight.FlushState.{FlushState}
@@ -18,16 +17,9 @@ use Rattle.store_steps.specs.declared.flight.Job.{Job}
 use Rattle.store_steps.specs.declared.flight.Job.TheVariants as job
 use Rattle.store_steps.specs.declared.step.Step.TheVariants.{Data, Flush, Record, Sync, Finish}
 use Rattle.meta_store.specs.Store.{Meta, Begun}
-use Rattle.store_steps.specs.State.{Batch, State}
-use Rattle.store_steps.specs.Contexts.{Unsent, unsent_units, run_bytes, given_more, done_more, with_context, without_context, batch_ops}
-use Rattle.store_steps.specs.Changes.{after_done, first_flushed, second_flushed, written_more, record_sent, sealed, commit_of, acknowledged}
-use Rattle.store_steps.specs.Ready.{is_not_sent, is_flushed, pieces_of, batch_is, begun_is, applied_count, is_ready_up}
-use Rattle.store_steps.specs.Steps.{Takes, DoesData, DoesTake, DoesFlush, DoesSeal, DoesRecord, DoesSync, DoesCommit, DoesFinish, piece_unit, piece_bytes}
-use Rattle.store_steps.specs.Intents.{intent_of}
-use Rattle.store_facts.specs.Flights.{AreFlights}
-use Rattle.store_facts.specs.Jobs.{IsLogFar, log_flying}
-use Rattle.store_facts.specs.Room.{FitsRecord}
-use Rattle.store_facts.specs.Work.{work_of, sum_work, flush_work, record_work, batch_work, work_left}
+use Rattle.store_steps.specs.Prelude.{Batch, State, Unsent, unsent_units, run_bytes, given_more, done_more, with_context, without_context, batch_ops, after_done, first_flushed, second_flushed, written_more, record_sent, sealed, commit_of, acknowledged, is_not_sent, pieces_of, batch_is, begun_is, applied_count, is_ready_up, Takes, DoesData, DoesTake, DoesFlush, DoesSeal, DoesRecord, DoesSync, DoesCommit, DoesFinish, piece_unit, piece_bytes, intent_of}
+use Rattle.store_steps.specs.Ready.{is_flushed}
+use Rattle.store_facts.specs.Prelude.{AreFlights, IsLogFar, log_flying, FitsRecord, work_of, sum_work, flush_work, record_work, batch_work, work_left}
 use Rattle.store_facts.proofs.Flying.{sent_flight, sent_units, others_of, Landed, landed_flight, reaped_good}
 use Rattle.store_facts.proofs.Landing.{IsLeftOut, left_out}
 use Rattle.store_facts.proofs.Lists.{StandsIn, AreElsewhere, elsewhere, with_at, without_at, all_right}
@@ -326,7 +318,7 @@ module _ (s : State) (d : Disk) where
       let was : option_map_or (batch_work s.log) s.batch 0 ≡ flush_work b + (1 + 2 * piece_count (unit_count s.log.number (batch_ops b))) + 1 + length b.contexts =
       batch_work_is s b does.begun ∙ ap (λ (o : Option Begun). let k : Meta = record s.log { begun = o } in batch_work k b) none in
       let then : option_map_or (batch_work (sealed b s).log) s.batch 0
-          ≡ flush_work b + 2 * (piece_count (unit_count s.log.number (batch_ops b)) - 0) + 1 + length b.contexts =
+      ≡ flush_work b + 2 * (piece_count (unit_count s.log.number (batch_ops b)) - 0) + 1 + length b.contexts =
       ap (λ (o : Option Batch). option_map_or (batch_work (sealed b s).log) o 0) does.begun in
       subst (λ (t : State). Paid s d t d') (sym does.after) (record {
         falls = less (length s.flying) (sum_work s.pending) (flush_work b) (piece_count (unit_count s.log.number (batch_ops b))) (length b.contexts) _ _
@@ -354,7 +346,7 @@ module _ (s : State) (d : Disk) where
       let was : option_map_or (batch_work s.log) s.batch 0 ≡ flush_work b + 2 * (pieces_of s.log.number r - r.given) + 1 + length b.contexts =
       batch_work_is s b is ∙ ap (λ (o : Option Begun). let k : Meta = record s.log { begun = o } in batch_work k b) does.begun in
       let then : option_map_or (batch_work (record_sent r does.ticket s).log) s.batch 0
-          ≡ flush_work b + 2 * (pieces_of s.log.number r - (r.given + 1)) + 1 + length b.contexts =
+      ≡ flush_work b + 2 * (pieces_of s.log.number r - (r.given + 1)) + 1 + length b.contexts =
       ap (λ (o : Option Batch). option_map_or (batch_work (record_sent r does.ticket s).log) o 0) is in
       subst (λ (t : State). Paid s d t d') (sym does.after) (record {
         falls = less (length s.flying) (length (s.flying ++ f ∷ [])) (sum_work s.pending) (flush_work b) (pieces_of s.log.number r) r.given (length b.contexts) _ _

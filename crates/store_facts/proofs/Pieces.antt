@@ -1,11 +1,10 @@
 -- How many units and pieces a record has.
 use Rattle.std.proofs.Common.{◌≡◌, ℕ, ◌+◌, ◌/◌, ◌^◌, ◌<◌, ◌≤◌, List, ◌++◌, length, sym, ap, ◌∙◌, length-append, arith}
 use Rattle.std.specs.Int.{w32, to_le_bytes}
-use Rattle.crc32c_csum.specs.Crc32c.{crc32c}
+use Rattle.crc32c_csum.specs.Prelude.{crc32c}
 use Rattle.meta_rows.specs.declared.row_op.RowOp.{RowOp}
-use Rattle.meta_rows.specs.Spelling.{ops_bytes}
-use Rattle.meta_log.specs.Records.{record_head, record_bytes, unit_count}
-use Rattle.meta_log.specs.Pieces.{piece_count}
+use Rattle.meta_rows.specs.Prelude.{ops_bytes}
+use Rattle.meta_log.specs.Prelude.{record_head, record_bytes, unit_count, piece_count}
 
 -- ---- units and pieces of any record
 

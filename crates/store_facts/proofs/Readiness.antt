@@ -3,11 +3,10 @@ use Rattle.std.proofs.Common.{◌≡◌, ℕ, ◌+◌, ◌-◌, ◌≤◌, ◌==
 use Rattle.std.specs.List.{AllByRecursion}
 use Rattle.std.specs.Option.{option_map_or, option_or}
 use Rattle.std.proofs.lemmas.Bool.{eq-eqb, lt-ltb, ltb-false}
-use Rattle.block_device.specs.Disk.{Disk}
+use Rattle.block_device.specs.Prelude.{Disk}
 use Rattle.block_device.specs.declared.device.Ticket.{Ticket}
 use Rattle.meta_rows.specs.declared.row_op.RowOp.{RowOp}
-use Rattle.meta_log.specs.Records.{unit_count}
-use Rattle.meta_log.specs.Pieces.{piece_count}
+use Rattle.meta_log.specs.Prelude.{unit_count, piece_count}
 use Rattle.plan_rows.specs.declared.plan.FreshUnit.{FreshUnit}
 use Rattle.store_steps.specs.declared.context.Context.{Context}
 use Rattle.store_steps.specs.declared.flight.FlushState.{FlushState}
@@ -16,14 +15,11 @@ use Rattle.store_steps.specs.declared.flight.Flying.{Flying}
 use Rattle.store_steps.specs.declared.step.Step.{Step}
 use Rattle.store_steps.specs.declared.step.Step.TheVariants.{Data, Reap, Take, Flush, Seal, Record, Sync, Commit, Finish}
 use Rattle.meta_store.specs.Store.{Begun}
-use Rattle.store_steps.specs.State.{Batch, State}
-use Rattle.store_steps.specs.Contexts.{next_unsent, run_of, is_done, chosen, chosen_behind, colls_of, batch_ops}
-use Rattle.store_steps.specs.Ready.{is_empty, is_not_sent, is_flushed, pieces_of, batch_is, begun_is, applied_count, is_ready_up, is_ready_down, is_ready, all_steps, is_drained}
-use Rattle.store_facts.specs.Flights.{IsUnderWay}
-use Rattle.store_facts.specs.Jobs.{IsPartGiven, IsBatchOpen, IsLogFar, log_flying}
+use Rattle.store_steps.specs.Prelude.{Batch, State, next_unsent, run_of, is_done, chosen, chosen_behind, colls_of, batch_ops, is_empty, is_not_sent, pieces_of, batch_is, begun_is, applied_count, is_ready_up, is_ready_down, is_ready, all_steps, is_drained, uncommitted}
+use Rattle.store_steps.specs.Ready.{is_flushed}
+use Rattle.store_facts.specs.Prelude.{IsUnderWay, IsPartGiven, IsBatchOpen, IsLogFar, log_flying}
 use Rattle.store_facts.proofs.Matching.{Matches}
 use Rattle.store_facts.proofs.Underway.{pieces_are}
-use Rattle.store_steps.specs.UnderWay.{uncommitted}
 
 -- ---- only Reap is ready while the kernel is down
 
@@ -170,19 +166,19 @@ drained_is_idle s d deep m up drained = record {
     of_batch : (o : Option Batch) → s.batch ≡ o → s.batch ≡ None
     of_batch None is = is
     of_batch (Some b) is = absurd (
-      stuck_way b.first b.second s.log.number (batch_ops b) s.log.begun
-      (subst (λ (fs : List Flying). IsUnderWay b.first b.second (piece_count (unit_count s.log.number (batch_ops b))) (batch_ops b) s.log.begun fs)
-      (ap log_flying none) far.far)
-      (holds (λ c. is_not_sent c.first) (not_left (batch_is (λ c. is_not_sent c.first) s) (nat_lt (length s.flying) d.depth) (table Flush each.1.1.1.0) room))
-      (not_right (is_some s.batch) (is_none s.log.begun) (table Seal each.1.1.1.1.0) (ap is_some is))
-      (λ flushed. not_right (batch_is (λ c. is_flushed c.first) s) (begun_is (λ r. nat_lt r.given (pieces_of s.log.number r)) s)
-      (not_left (batch_is (λ c. is_flushed c.first) s && begun_is (λ r. nat_lt r.given (pieces_of s.log.number r)) s) (nat_lt (length s.flying) d.depth)
-      (table Record each.1.1.1.1.1.0) room) (ap (λ (p : Option Batch). option_map_or (λ c. is_flushed c.first) p false) is ∙ flushed))
-      (λ not_sent. not_right (batch_is (λ c. is_not_sent c.second) s) (begun_is (λ r. r.written == pieces_of s.log.number r) s)
-      (not_left (batch_is (λ c. is_not_sent c.second) s && begun_is (λ r. r.written == pieces_of s.log.number r) s) (nat_lt (length s.flying) d.depth)
-      (table Sync each.1.1.1.1.1.1.0) room) (ap (λ (p : Option Batch). option_map_or (λ c. is_not_sent c.second) p false) is ∙ not_sent))
-      (holds (λ c. is_flushed c.second) (table Commit each.1.1.1.1.1.1.1.0))
-    )
+        stuck_way b.first b.second s.log.number (batch_ops b) s.log.begun
+        (subst (λ (fs : List Flying). IsUnderWay b.first b.second (piece_count (unit_count s.log.number (batch_ops b))) (batch_ops b) s.log.begun fs)
+        (ap log_flying none) far.far)
+        (holds (λ c. is_not_sent c.first) (not_left (batch_is (λ c. is_not_sent c.first) s) (nat_lt (length s.flying) d.depth) (table Flush each.1.1.1.0) room))
+        (not_right (is_some s.batch) (is_none s.log.begun) (table Seal each.1.1.1.1.0) (ap is_some is))
+        (λ flushed. not_right (batch_is (λ c. is_flushed c.first) s) (begun_is (λ r. nat_lt r.given (pieces_of s.log.number r)) s)
+        (not_left (batch_is (λ c. is_flushed c.first) s && begun_is (λ r. nat_lt r.given (pieces_of s.log.number r)) s) (nat_lt (length s.flying) d.depth)
+        (table Record each.1.1.1.1.1.0) room) (ap (λ (p : Option Batch). option_map_or (λ c. is_flushed c.first) p false) is ∙ flushed))
+        (λ not_sent. not_right (batch_is (λ c. is_not_sent c.second) s) (begun_is (λ r. r.written == pieces_of s.log.number r) s)
+        (not_left (batch_is (λ c. is_not_sent c.second) s && begun_is (λ r. r.written == pieces_of s.log.number r) s) (nat_lt (length s.flying) d.depth)
+        (table Sync each.1.1.1.1.1.1.0) room) (ap (λ (p : Option Batch). option_map_or (λ c. is_not_sent c.second) p false) is ∙ not_sent))
+        (holds (λ c. is_flushed c.second) (table Commit each.1.1.1.1.1.1.1.0))
+        )
       where
         far : IsBatchOpen s.log.number b s.log.begun (log_flying s.flying)
         far = subst (λ (p : Option Batch). IsLogFar s.log.number p s.log.begun (log_flying s.flying)) is m.log

@@ -1,27 +1,19 @@
 -- The footprint of Reap.
 use Rattle.std.proofs.Common.{◌≡◌, inl, inr, true, ℕ, ◌+◌, List, [], Option, Some, None, refl, sym, ap, subst, ◌∙◌}
 use Rattle.std.specs.Option.{option_map, option_map_or}
-use Rattle.block_device.specs.Disk.{Disk, Reaped, Waited}
+use Rattle.block_device.specs.Prelude.{Disk, Reaped, Waited}
 use Rattle.plan_rows.specs.declared.plan.FreshUnit.{FreshUnit}
 use Rattle.store_steps.specs.declared.flight.Flying.{Flying}
 use Rattle.store_steps.specs.declared.flight.Job.{Job}
 use Rattle.store_steps.specs.declared.flight.Job.TheVariants as job
-use Rattle.store_steps.specs.State.{Batch, State}
+use Rattle.store_steps.specs.Prelude.{Batch, State, done_more, after_done, first_flushed, second_flushed, written_more, DoesReap, begun_ops, Intent, rows_part, data_part, half_part, ends, Footprint}
 use Rattle.meta_store.specs.Store.{Begun}
-use Rattle.store_steps.specs.Contexts.{done_more}
-use Rattle.store_steps.specs.Changes.{after_done, first_flushed, second_flushed, written_more}
-use Rattle.store_steps.specs.Steps.{DoesReap}
-use Rattle.store_facts.specs.Kept.{IsKept}
+use Rattle.store_facts.specs.Prelude.{IsKept}
 use Rattle.store_facts.proofs.Flying.{others_of, Landed, landed_flight, reaped_good}
-use Rattle.store_steps.specs.UnderWay.{begun_ops}
-use Rattle.store_steps.specs.Intents.{Intent}
-use Rattle.store_steps.specs.Parts.{rows_part, data_part, half_part}
-use Rattle.store_steps.specs.Touch.{ends}
 use Rattle.store_steps.specs.RowsGo as rows
 use Rattle.store_steps.specs.DataGoes as units
 use Rattle.store_steps.specs.HalfGoes as half
 use Rattle.store_steps.specs.BookGoes as book
-use Rattle.store_steps.specs.Footprint.{Footprint}
 use Rattle.store_facts.proofs.PartsKept.{intents_kept, given_kept, book_alone}
 use Rattle.store_facts.proofs.InFlight.{IsOf, found_tells}
 use Rattle.store_facts.proofs.Landing.{IsLeftOut, left_out}

@@ -1,17 +1,14 @@
 -- What a call makes of the rows keeps the room that transactions have reserved in the log, and which units are those of the store.
 use Rattle.std.proofs.Common.{◌≡◌, ℕ, ◌+◌, ◌-◌, ◌≤◌, List, [], ◌∷◌, ◌++◌, fold, map, sym, ap, subst, ◌∙◌, arith}
 use Rattle.std.specs.List.{AllByRecursion}
-use Rattle.meta_log.specs.Records.{unit_count}
+use Rattle.meta_log.specs.Prelude.{unit_count}
 use Rattle.selections.specs.Fair.{IsComplete}
 use Rattle.selections.proofs.Selecting.{complete_is_fair, all_selected}
 use Rattle.selections.proofs.Order.{fold_alike, each_is}
-use Rattle.space_facts.proofs.Rows.{each_named}
-use Rattle.store_steps.specs.Intents.{Intent, is_in, ops_by, needs_by, released_by}
-use Rattle.store_steps.specs.Parts.{RowsPart}
-use Rattle.store_steps.specs.RowsGo.{RowsGo}
+use Rattle.space_facts.proofs.Prelude.{each_named}
+use Rattle.store_steps.specs.Prelude.{Intent, is_in, ops_by, needs_by, released_by, RowsPart, RowsGo}
 use Rattle.store_steps.specs.RowsGo as rows
-use Rattle.store_facts.specs.Room.{FitsRecord, HasRoom}
-use Rattle.store_facts.specs.Space.{IsSpaceOf}
+use Rattle.store_facts.specs.Prelude.{FitsRecord, HasRoom, IsSpaceOf}
 use Rattle.store_facts.proofs.Lists.{all_right, all_join}
 use Rattle.store_facts.proofs.SpaceUnits.{space_taken, space_given}
 

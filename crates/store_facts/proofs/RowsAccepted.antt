@@ -1,19 +1,12 @@
 -- A transaction that is accepted has a plan over the submitted rows, by which it joins those under way.
 use Rattle.std.proofs.Common.{ℕ, ◌≤◌, List, length, sym, subst, arith}
-use Rattle.meta_log.specs.Slots.{IsSuper}
-use Rattle.object_model.specs.Effect.{Change, names_of}
-use Rattle.plan_rows.specs.Plans.{IsKnown, AreFreeOver}
-use Rattle.plan_rows.specs.Keeps.{IsGood, PlanKeeps, PlanMakes, PlanTakes, PlansKeep}
+use Rattle.meta_log.specs.Prelude.{IsSuper}
+use Rattle.object_model.specs.Prelude.{Change, names_of}
+use Rattle.plan_rows.specs.Prelude.{IsKnown, AreFreeOver, IsGood, PlanKeeps, PlanMakes, PlanTakes, PlansKeep}
 use Rattle.selections.proofs.Selecting.{fair_all}
-use Rattle.store_steps.specs.State.{State}
-use Rattle.store_steps.specs.Submit.{context_of, Accepts}
-use Rattle.store_steps.specs.Intents.{Intent, intent_of, intents, is_in, CanJoin}
-use Rattle.store_steps.specs.UnderWay.{uncommitted}
-use Rattle.store_steps.specs.Parts.{rows_part}
-use Rattle.space_facts.proofs.Selected.{selection_good}
-use Rattle.space_facts.proofs.Spaces.{free_over, free_joins}
-use Rattle.store_facts.specs.Room.{FitsRecord}
-use Rattle.store_facts.specs.Space.{IsSpaceOf, AreRowsKept}
+use Rattle.store_steps.specs.Prelude.{State, context_of, Accepts, Intent, intent_of, intents, is_in, CanJoin, uncommitted, rows_part}
+use Rattle.space_facts.proofs.Prelude.{selection_good, free_over, free_joins}
+use Rattle.store_facts.specs.Prelude.{FitsRecord, IsSpaceOf, AreRowsKept}
 use Rattle.store_facts.proofs.SpaceUnits.{within_data}
 use Rattle.store_facts.proofs.Pieces.{same_units}
 

@@ -3,23 +3,17 @@ use Rattle.std.proofs.Common.{◌≡◌, ℕ, false, List, [], ◌∷◌, ◌++�
 use Rattle.std.specs.List.{flat_map, AllByRecursion}
 use Rattle.std.specs.Option.{option_map_or}
 use Rattle.std.proofs.lemmas.List.Elements.{Contains-append_left, Contains-append_right}
-use Rattle.block_device.specs.Disk.{Disk}
+use Rattle.block_device.specs.Prelude.{Disk}
 use Rattle.meta_log.specs.declared.slot.Super.{Super}
-use Rattle.store_image.specs.Owners.{IsDataUnit}
+use Rattle.store_image.specs.Prelude.{IsDataUnit}
 use Rattle.plan_rows.specs.declared.plan.FreshUnit.{FreshUnit}
-use Rattle.unit_allocator.specs.Units.{is_free, given}
+use Rattle.unit_allocator.specs.Prelude.{is_free, given}
 use Rattle.unit_allocator.proofs.Lists.{Contains-head, Contains-tail}
 use Rattle.selections.proofs.Selecting.{fair_all}
 use Rattle.store_steps.specs.declared.context.Context.{Context}
-use Rattle.store_steps.specs.State.{Batch, State}
-use Rattle.store_steps.specs.Contexts.{Unsent, unsent_units, next_unsent, batch_released}
-use Rattle.store_steps.specs.Intents.{Intent, intents, is_in, released_by, EachIsPlanned, AreTakenApart, SpaceIsCounted}
-use Rattle.store_steps.specs.UnderWay.{uncommitted}
-use Rattle.store_steps.specs.Parts.{rows_part}
-use Rattle.space_facts.proofs.Selected.{selected_on_data}
-use Rattle.space_facts.proofs.Spaces.{released_on_data, not_free_until}
-use Rattle.store_facts.specs.Space.{AreRowsKept}
-use Rattle.store_facts.specs.Kept.{IsKept}
+use Rattle.store_steps.specs.Prelude.{Batch, State, Unsent, unsent_units, next_unsent, batch_released, Intent, intents, is_in, released_by, EachIsPlanned, AreTakenApart, SpaceIsCounted, uncommitted, rows_part}
+use Rattle.space_facts.proofs.Prelude.{selected_on_data, released_on_data, not_free_until}
+use Rattle.store_facts.specs.Prelude.{AreRowsKept, IsKept}
 use Rattle.store_facts.proofs.SpaceUnits.{AreData, data_within}
 use Rattle.store_facts.proofs.PartsKept.{flat_intents, intents_both}
 use Rattle.store_facts.proofs.Lists.{StandsIn, all_right}

@@ -1,18 +1,13 @@
 -- What a call makes of the rows keeps what is kept of them.
 use Rattle.std.proofs.Common.{◌≡◌, ℕ, List, [], ◌∷◌, ◌++◌, sym, ap, subst, ◌∙◌}
-use Rattle.meta_rows.specs.Rows.{Rows, rows_after}
-use Rattle.meta_log.specs.Slots.{IsSuper}
-use Rattle.unit_allocator.specs.Units.{given}
+use Rattle.meta_rows.specs.Prelude.{Rows, rows_after}
+use Rattle.meta_log.specs.Prelude.{IsSuper}
+use Rattle.unit_allocator.specs.Prelude.{given}
 use Rattle.selections.specs.Fair.{IsComplete}
-use Rattle.store_steps.specs.Intents.{Intent, is_in, released_by, rows_by, EachIsPlanned, AreTakenApart, SpaceIsCounted, CanJoin}
-use Rattle.store_steps.specs.Parts.{RowsPart}
-use Rattle.store_steps.specs.RowsGo.{RowsGo, joined, applied}
+use Rattle.store_steps.specs.Prelude.{Intent, is_in, released_by, rows_by, EachIsPlanned, AreTakenApart, SpaceIsCounted, CanJoin, RowsPart, RowsGo, joined, applied}
 use Rattle.store_steps.specs.RowsGo as rows
-use Rattle.space_facts.proofs.Rows.{rows_append, rows_by_ops}
-use Rattle.space_facts.proofs.Joining.{each_joined, apart_joined}
-use Rattle.space_facts.proofs.Moving.{each_alike, rows_alike, apart_alike, each_committed, good_committed, apart_committed}
-use Rattle.space_facts.proofs.Spaces.{counted_alike, counted_joined, counted_committed}
-use Rattle.store_facts.specs.Space.{IsSpaceOf, AreRowsKept}
+use Rattle.space_facts.proofs.Prelude.{rows_append, rows_by_ops, each_joined, apart_joined, each_alike, rows_alike, apart_alike, each_committed, good_committed, apart_committed, counted_alike, counted_joined, counted_committed}
+use Rattle.store_facts.specs.Prelude.{IsSpaceOf, AreRowsKept}
 use Rattle.store_facts.proofs.SpaceUnits.{data_within}
 
 -- one that joins must be one that can

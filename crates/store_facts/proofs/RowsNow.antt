@@ -1,18 +1,13 @@
 -- What a kernel that is up knows of the rows that it has now, and of its free units.
 use Rattle.std.proofs.Common.{◌≡◌, List, None, sym, subst}
-use Rattle.block_device.specs.Disk.{Disk}
-use Rattle.meta_log.specs.Slots.{width_of}
-use Rattle.store_image.specs.Owners.{IsExactAs}
-use Rattle.plan_rows.specs.Plans.{AreFreeOver}
-use Rattle.plan_rows.specs.Keeps.{IsGood}
+use Rattle.block_device.specs.Prelude.{Disk}
+use Rattle.meta_log.specs.Prelude.{width_of}
+use Rattle.store_image.specs.Prelude.{IsExactAs}
+use Rattle.plan_rows.specs.Prelude.{AreFreeOver, IsGood}
 use Rattle.selections.proofs.Selecting.{fair_all}
-use Rattle.store_steps.specs.State.{State}
-use Rattle.store_steps.specs.Intents.{Intent, intents, is_in, SpaceIsCounted}
-use Rattle.store_steps.specs.UnderWay.{uncommitted}
-use Rattle.store_steps.specs.Parts.{rows_part}
-use Rattle.space_facts.proofs.Selected.{selection_exact}
-use Rattle.store_facts.specs.Space.{IsSpaceOf, AreRowsKept}
-use Rattle.store_facts.specs.Kept.{IsKept}
+use Rattle.store_steps.specs.Prelude.{State, Intent, intents, is_in, SpaceIsCounted, uncommitted, rows_part}
+use Rattle.space_facts.proofs.Prelude.{selection_exact}
+use Rattle.store_facts.specs.Prelude.{IsSpaceOf, AreRowsKept, IsKept}
 use Rattle.store_facts.proofs.RowsAccepted.{submitted_good, submitted_free}
 
 module _ (s : State) (d : Disk) (kept : IsKept s d) (up : s.down ≡ None) where

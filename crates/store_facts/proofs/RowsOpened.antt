@@ -1,11 +1,9 @@
 -- A kernel that was just opened has nothing under way.
 use Rattle.std.proofs.Common.{ℕ, refl}
-use Rattle.unit_allocator.specs.Units.{Space}
-use Rattle.store_steps.specs.Opened.{Found, opened}
-use Rattle.store_steps.specs.Parts.{rows_part}
-use Rattle.space_facts.proofs.Moving.{each_none, apart_none}
-use Rattle.store_facts.specs.Space.{AreRowsKept}
-use Rattle.store_facts.specs.Kept.{IsOpenable}
+use Rattle.unit_allocator.specs.Prelude.{Space}
+use Rattle.store_steps.specs.Prelude.{Found, opened, rows_part}
+use Rattle.space_facts.proofs.Prelude.{each_none, apart_none}
+use Rattle.store_facts.specs.Prelude.{AreRowsKept, IsOpenable}
 
 pub opened_rows : (f : Found) (space : Space) (events units : ℕ) → IsOpenable f space units → AreRowsKept (rows_part (opened f space events))
 opened_rows f space events units is = record {

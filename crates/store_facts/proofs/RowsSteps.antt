@@ -1,15 +1,10 @@
 -- A call that makes no entry of the book lets none join the rows.
 use Rattle.std.proofs.Common.{◌≡◌, ℕ, ◌+◌, List, [], ◌∷◌, length, ap, ◌∙◌, length-append, arith}
-use Rattle.block_device.specs.Disk.{Disk}
+use Rattle.block_device.specs.Prelude.{Disk}
 use Rattle.object_model.specs.declared.book.Entry.{Entry}
-use Rattle.store_steps.specs.State.{State}
-use Rattle.store_steps.specs.Parts.{RowsPart, BookPart}
-use Rattle.store_steps.specs.Touch.{Touch}
-use Rattle.store_steps.specs.RowsGo.{RowsGo}
+use Rattle.store_steps.specs.Prelude.{State, RowsPart, BookPart, Touch, RowsGo, BookGoes, AcceptsOne, IsCaused}
 use Rattle.store_steps.specs.RowsGo as rows
-use Rattle.store_steps.specs.BookGoes.{BookGoes}
 use Rattle.store_steps.specs.BookGoes as book
-use Rattle.store_steps.specs.Footprint.{AcceptsOne, IsCaused}
 use Rattle.store_facts.proofs.RowsKept.{MayGo}
 use Rattle.store_facts.proofs.RoomKept.{HasRoomTo}
 

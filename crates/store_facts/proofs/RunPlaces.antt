@@ -2,16 +2,14 @@
 use Rattle.std.proofs.Common.{◌≡◌, ℕ, suc, ◌+◌, ◌*◌, ◌<◌, ◌≤◌, List, [], ◌∷◌, ◌++◌, length, map, take, drop, sym, ap, subst, ◌∙◌, arith}
 use Rattle.std.specs.List.{AllByRecursion}
 use Rattle.std.proofs.lemmas.List.{take-append-drop}
-use Rattle.unit_fields.specs.UnitSet.{Ascends}
+use Rattle.unit_fields.specs.Prelude.{Ascends}
 use Rattle.block_device.specs.declared.event.Event.TheVariants.{Write}
 use Rattle.meta_log.specs.declared.slot.Super.{Super}
-use Rattle.store_image.specs.Owners.{IsDataUnit}
+use Rattle.store_image.specs.Prelude.{IsDataUnit}
 use Rattle.plan_rows.specs.declared.plan.FreshUnit.{FreshUnit}
 use Rattle.store_steps.specs.declared.context.Context.{Context}
-use Rattle.store_steps.specs.Contexts.{run_bytes, Unsent, unsent_units}
-use Rattle.store_steps.specs.Intents.{intent_of}
-use Rattle.store_facts.specs.Room.{FitsRecord}
-use Rattle.store_steps.specs.DataGoes.{Spares}
+use Rattle.store_steps.specs.Prelude.{run_bytes, Unsent, unsent_units, intent_of, Spares}
+use Rattle.store_facts.specs.Prelude.{FitsRecord}
 use Rattle.store_facts.proofs.RunUnits.{IsRunOf, row_bytes, row_at, all_drop, all_front}
 
 -- each unit is whole

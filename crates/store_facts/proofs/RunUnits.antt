@@ -5,11 +5,10 @@ use Rattle.std.proofs.Math.Seq.{take-add}
 use Rattle.std.proofs.lemmas.List.{drop-drop, take_at}
 use Rattle.std.proofs.lemmas.Bool.{cases_lt, and_parts, eqb-true, ltb-true}
 use Rattle.std.proofs.lemmas.Option.{same_Some}
-use Rattle.unit_fields.specs.UnitSet.{Ascends}
+use Rattle.unit_fields.specs.Prelude.{Ascends}
 use Rattle.plan_rows.specs.declared.plan.FreshUnit.{FreshUnit}
 use Rattle.store_steps.specs.declared.context.Context.{Context}
-use Rattle.store_steps.specs.Contexts.{run_from, run_bytes, Unsent, unsent_units, run_of, unsent}
-use Rattle.store_steps.specs.DataGoes.{IsInRow}
+use Rattle.store_steps.specs.Prelude.{run_from, run_bytes, Unsent, unsent_units, run_of, unsent, IsInRow}
 use Rattle.store_facts.proofs.Untouched.{all_then}
 
 -- ---- the longest front that does

@@ -2,10 +2,10 @@
 use Rattle.std.proofs.Common.{ℕ, ◌+◌, ◌-◌, true, false, List, [], ◌∷◌, Contains, ap, ◌∙◌, arith}
 use Rattle.std.proofs.lemmas.List.{length-set}
 use Rattle.meta_log.specs.declared.slot.Super.{Super}
-use Rattle.meta_log.specs.Slots.{data_unit}
-use Rattle.store_image.specs.Owners.{IsDataUnit}
-use Rattle.unit_allocator.specs.Units.{Space, IsWithin, taken_one, given_one, taken, given}
-use Rattle.store_facts.specs.Space.{IsSpaceOf}
+use Rattle.meta_log.specs.Prelude.{data_unit}
+use Rattle.store_image.specs.Prelude.{IsDataUnit}
+use Rattle.unit_allocator.specs.Prelude.{Space, IsWithin, taken_one, given_one, taken, given}
+use Rattle.store_facts.specs.Prelude.{IsSpaceOf}
 
 -- the units of a list are data units
 abbrev pub AreData : Super → List ℕ → Type 0

@@ -2,17 +2,16 @@
 use Rattle.std.proofs.Common.{◌≡◌, ℕ, ◌+◌, ◌<◌, ◌≤◌, true, List, [], ◌∷◌, ◌++◌, length, Option, Some, None, refl, sym, ap, subst, ◌∙◌, length-append, arith}
 use Rattle.block_device.specs.declared.device.Ticket.{Ticket}
 use Rattle.meta_rows.specs.declared.row_op.RowOp.{RowOp}
-use Rattle.meta_log.specs.Records.{unit_count}
-use Rattle.meta_log.specs.Pieces.{piece_count}
+use Rattle.meta_log.specs.Prelude.{unit_count, piece_count}
 use Rattle.store_steps.specs.declared.flight.FlushState.{FlushState}
 use Rattle.store_steps.specs.declared.flight.FlushState.TheVariants as flush
 use Rattle.store_steps.specs.declared.flight.Flying.{Flying}
 use Rattle.store_steps.specs.declared.flight.Job.{Job}
 use Rattle.store_steps.specs.declared.flight.Job.TheVariants as job
 use Rattle.meta_store.specs.Store.{Begun}
-use Rattle.store_steps.specs.Changes.{written_more}
-use Rattle.store_steps.specs.Ready.{is_not_sent, is_flushed, pieces_of}
-use Rattle.store_facts.specs.Flights.{IsNotGiven, IsWriting, IsWritten, IsUnderWay}
+use Rattle.store_steps.specs.Prelude.{written_more, is_not_sent, pieces_of}
+use Rattle.store_steps.specs.Ready.{is_flushed}
+use Rattle.store_facts.specs.Prelude.{IsNotGiven, IsWriting, IsWritten, IsUnderWay}
 use Rattle.store_facts.proofs.Pieces.{some_pieces}
 use Rattle.store_facts.proofs.Lists.{all_left, all_right, all_join}
 

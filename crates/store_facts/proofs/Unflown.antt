@@ -3,13 +3,10 @@ use Rattle.std.proofs.Common.{◌≡◌, inl, inr, ℕ, ◌+◌, ◌<◌, ◌≤
 use Rattle.std.specs.List.{AllByRecursion}
 use Rattle.std.proofs.lemmas.List.Elements.{All-cons, All-nil}
 use Rattle.std.proofs.lemmas.List.{take-append-drop}
-use Rattle.unit_fields.specs.UnitSet.{Ascends}
-use Rattle.block_device.specs.Disk.{Flight, IsApart}
-use Rattle.block_device.specs.Facts.{IsUntouched}
+use Rattle.unit_fields.specs.Prelude.{Ascends}
+use Rattle.block_device.specs.Prelude.{Flight, IsApart, IsUntouched}
 use Rattle.meta_rows.specs.declared.row_op.RowOp.{RowOp}
-use Rattle.meta_log.specs.Records.{unit_count}
-use Rattle.meta_log.specs.Slots.{active_unit}
-use Rattle.meta_log.specs.Pieces.{piece_count, given_from}
+use Rattle.meta_log.specs.Prelude.{unit_count, active_unit, piece_count, given_from}
 use Rattle.meta_log.proofs.PieceLemmas.{given_from-none}
 use Rattle.plan_rows.specs.declared.plan.FreshUnit.{FreshUnit}
 use Rattle.store_steps.specs.declared.context.Context.{Context}
@@ -19,13 +16,8 @@ use Rattle.store_steps.specs.declared.flight.Flying.{Flying}
 use Rattle.store_steps.specs.declared.flight.Job.{Job}
 use Rattle.store_steps.specs.declared.flight.Job.TheVariants as job
 use Rattle.meta_store.specs.Store.{Meta, Begun}
-use Rattle.store_steps.specs.State.{Batch, State}
-use Rattle.store_steps.specs.Contexts.{batch_ops}
-use Rattle.store_steps.specs.Ready.{is_not_sent, pieces_of}
-use Rattle.store_facts.specs.Flights.{IsNotGiven, IsUnderWay}
-use Rattle.store_facts.specs.Jobs.{is_data, log_flying, IsBatchOpen, IsLogFar, IsNone, TouchesGiven, AnyByRecursion, IsGivenPiece, IsPieceOf, IsOfJob, AreOfJobs}
-use Rattle.store_steps.specs.Intents.{intent_of}
-use Rattle.store_facts.specs.Room.{FitsRecord}
+use Rattle.store_steps.specs.Prelude.{Batch, State, batch_ops, is_not_sent, pieces_of, intent_of}
+use Rattle.store_facts.specs.Prelude.{IsNotGiven, IsUnderWay, is_data, log_flying, IsBatchOpen, IsLogFar, IsNone, TouchesGiven, AnyByRecursion, IsGivenPiece, IsPieceOf, IsOfJob, AreOfJobs, FitsRecord}
 use Rattle.store_facts.proofs.Untouched.{all_then}
 use Rattle.store_facts.proofs.Landing.{jobs_then}
 use Rattle.store_facts.proofs.Underway.{all_written}

@@ -2,8 +2,7 @@
 use Rattle.std.proofs.Common.{◌≡◌, inl, inr, ℕ, ◌+◌, ◌*◌, ◌<◌, ◌≤◌, List, [], ◌∷◌, length, get_or, All, arith}
 use Rattle.std.specs.List.{AllByRecursion}
 use Rattle.std.proofs.lemmas.Bool.{cases_lt}
-use Rattle.block_device.specs.Disk.{Flight, flight_of, IsApart}
-use Rattle.block_device.specs.Facts.{IsUntouched}
+use Rattle.block_device.specs.Prelude.{Flight, flight_of, IsApart, IsUntouched}
 use Rattle.block_device.specs.declared.event.Event.TheVariants as event
 
 -- ---- lists

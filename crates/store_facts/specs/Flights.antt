@@ -1,7 +1,7 @@
 -- What is in flight for the log: of the open batch a flush, then the pieces of its record, then a flush.
 use Rattle.std.specs.Prelude.{◌≡◌, ℕ, ◌+◌, ◌≤◌, List, [], ◌∷◌, length, map, Option, Some, None}
 use Rattle.std.specs.List.{AllByRecursion}
-use Rattle.block_device.specs.Disk.{Flight}
+use Rattle.block_device.specs.Prelude.{Flight}
 use Rattle.meta_rows.specs.declared.row_op.RowOp.{RowOp}
 use Rattle.store_steps.specs.declared.flight.FlushState.{FlushState}
 use Rattle.store_steps.specs.declared.flight.FlushState.TheVariants as flush

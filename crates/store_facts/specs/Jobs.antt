@@ -1,19 +1,16 @@
 -- What is in flight, part by part, for any number of contexts: the data writes of those that wait, and what is in flight for the log.
 use Rattle.std.specs.Prelude.{◌≡◌, ◌⊎◌, ℕ, ◌+◌, ◌<◌, ◌≤◌, ◌==◌, Bool, true, false, not, List, [], ◌∷◌, length, map, filter, take, Option, Some, None, if◌then◌else◌}
 use Rattle.std.specs.List.{AllByRecursion}
-use Rattle.unit_fields.specs.UnitSet.{Ascends}
-use Rattle.block_device.specs.Disk.{Flight, IsApart}
-use Rattle.meta_log.specs.Records.{unit_count}
-use Rattle.meta_log.specs.Slots.{active_unit}
-use Rattle.meta_log.specs.Pieces.{piece_count, given_from}
+use Rattle.unit_fields.specs.Prelude.{Ascends}
+use Rattle.block_device.specs.Prelude.{Flight, IsApart}
+use Rattle.meta_log.specs.Prelude.{unit_count, active_unit, piece_count, given_from}
 use Rattle.plan_rows.specs.declared.plan.FreshUnit.{FreshUnit}
 use Rattle.store_steps.specs.declared.context.Context.{Context}
 use Rattle.store_steps.specs.declared.flight.Flying.{Flying}
 use Rattle.store_steps.specs.declared.flight.Job.{Job}
 use Rattle.store_steps.specs.declared.flight.Job.TheVariants as job
 use Rattle.meta_store.specs.Store.{Meta, Begun}
-use Rattle.store_steps.specs.State.{Batch}
-use Rattle.store_steps.specs.Contexts.{batch_ops, sum_needs}
+use Rattle.store_steps.specs.Prelude.{Batch, batch_ops, sum_needs}
 use Rattle.store_facts.specs.Flights.{IsUnderWay}
 
 -- ---- data writes

@@ -1,15 +1,12 @@
 -- What the kernel keeps, whatever its device tells.
 use Rattle.std.specs.Prelude.{◌≡◌, ℕ, ◌+◌, ◌≤◌, ◌^◌, [], length, None}
-use Rattle.block_device.specs.Disk.{Disk, IsSound}
-use Rattle.meta_log.specs.Slots.{IsSuper}
-use Rattle.unit_allocator.specs.Units.{Space}
-use Rattle.plan_rows.specs.Keeps.{IsGood}
-use Rattle.store_steps.specs.State.{State}
-use Rattle.store_steps.specs.Opened.{Found}
+use Rattle.block_device.specs.Prelude.{Disk, IsSound}
+use Rattle.meta_log.specs.Prelude.{IsSuper}
+use Rattle.unit_allocator.specs.Prelude.{Space}
+use Rattle.plan_rows.specs.Prelude.{IsGood}
+use Rattle.store_steps.specs.Prelude.{State, Found, SpaceIsCounted, rows_part, book_part}
 use Rattle.store_facts.specs.Flights.{AreFlights}
 use Rattle.store_facts.specs.Jobs.{FlightsMatch}
-use Rattle.store_steps.specs.Intents.{SpaceIsCounted}
-use Rattle.store_steps.specs.Parts.{rows_part, book_part}
 use Rattle.store_facts.specs.Space.{IsSpaceOf, AreRowsKept}
 use Rattle.store_facts.specs.Room.{HasRoom, AreEntriesFew, IsBookKept}
 use Rattle.store_facts.specs.Work.{budget, work_left}

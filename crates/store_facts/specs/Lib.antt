@@ -4,3 +4,4 @@ pub mod Space
 pub mod Room
 pub mod Work
 pub mod Kept
+pub mod Prelude

@@ -1,13 +1,11 @@
 -- Room in the log, and the book.
 use Rattle.std.specs.Prelude.{◌≡◌, ℕ, ◌+◌, ◌≤◌, List, length, map, slice_get, IfSome, is_some, nat_lt}
 use Rattle.std.specs.List.{AllByRecursion}
-use Rattle.unit_fields.specs.UnitSet.{Ascends}
-use Rattle.meta_rows.specs.Spelling.{AllFit}
-use Rattle.meta_log.specs.Records.{unit_count}
+use Rattle.unit_fields.specs.Prelude.{Ascends}
+use Rattle.meta_rows.specs.Prelude.{AllFit}
+use Rattle.meta_log.specs.Prelude.{unit_count}
 use Rattle.object_model.specs.declared.book.Commit.{Commit}
-use Rattle.store_steps.specs.State.{State}
-use Rattle.store_steps.specs.Intents.{Intent, needs_by}
-use Rattle.store_steps.specs.Parts.{RowsPart, BookPart}
+use Rattle.store_steps.specs.Prelude.{State, Intent, needs_by, RowsPart, BookPart}
 
 -- The operations of a transaction have a spelling, and its record takes the units that it needs, whatever its number is. What it writes are whole
 -- units, ascending.

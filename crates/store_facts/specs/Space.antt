@@ -1,11 +1,10 @@
 -- What is kept of the rows and of the free units, whatever is under way.
 use Rattle.std.specs.Prelude.{◌≡◌, ℕ, ◌+◌, length}
 use Rattle.meta_log.specs.declared.slot.Super.{Super}
-use Rattle.meta_log.specs.Slots.{data_unit}
-use Rattle.plan_rows.specs.Keeps.{IsGood}
-use Rattle.unit_allocator.specs.Units.{Space, holds_of}
-use Rattle.store_steps.specs.Intents.{rows_by, EachIsPlanned, AreTakenApart, SpaceIsCounted}
-use Rattle.store_steps.specs.Parts.{RowsPart}
+use Rattle.meta_log.specs.Prelude.{data_unit}
+use Rattle.plan_rows.specs.Prelude.{IsGood}
+use Rattle.unit_allocator.specs.Prelude.{Space, holds_of}
+use Rattle.store_steps.specs.Prelude.{rows_by, EachIsPlanned, AreTakenApart, SpaceIsCounted, RowsPart}
 
 -- The data units are those of the allocator, and none is held: a hold is for units that committed deferred rows name, and there are none yet.
 pub record IsSpaceOf (sup : Super) (space : Space) : Type 0 where

@@ -1,13 +1,10 @@
 -- How much is left to do: a number that each step lowers, so that a run of steps ends.
 use Rattle.std.specs.Prelude.{ℕ, ◌+◌, ◌-◌, ◌*◌, ◌^◌, List, [], ◌∷◌, length, if◌then◌else◌}
 use Rattle.std.specs.Option.{option_map_or}
-use Rattle.meta_log.specs.Records.{unit_count}
-use Rattle.meta_log.specs.Pieces.{piece_count}
+use Rattle.meta_log.specs.Prelude.{unit_count, piece_count}
 use Rattle.store_steps.specs.declared.context.Context.{Context}
 use Rattle.meta_store.specs.Store.{Meta}
-use Rattle.store_steps.specs.State.{Batch, State}
-use Rattle.store_steps.specs.Contexts.{batch_ops}
-use Rattle.store_steps.specs.Ready.{is_not_sent, applied_count}
+use Rattle.store_steps.specs.Prelude.{Batch, State, batch_ops, is_not_sent, applied_count}
 
 -- a data write is submitted and ends; Take, two flushes that end, Seal, the pieces of a record that end, Commit and Finish
 abbrev pub work_of : Context → ℕ

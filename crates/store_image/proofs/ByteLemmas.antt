@@ -7,8 +7,8 @@ use Rattle.std.specs.Cmp.Lexicographic.{nat_list_cmp_total}
 use Rattle.std.proofs.lemmas.List.{get_or-take, get_or-drop, get_or_append_left, length-drop, ext_get_or}
 use Rattle.byte_maps.specs.ByteMap.{byte_order}
 use Rattle.byte_maps.specs.Units.{zeros}
-use Rattle.byte_maps.proofs.Places.{same_bytes}
-use Rattle.store_image.specs.Stands.{page_bytes}
+use Rattle.byte_maps.proofs.Prelude.{same_bytes}
+use Rattle.store_image.specs.Prelude.{page_bytes}
 
 apart : (x y : List ℕ) (r : Ordering) → byte_order x y ≡ r → (r ≢ Equal) → x ≢ y
 apart x y r is other e = other (sym is ∙ ap (byte_order x) (sym e) ∙ tied_itself nat_list_cmp_total x)

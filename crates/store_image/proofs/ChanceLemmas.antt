@@ -3,13 +3,12 @@ use Rattle.std.proofs.Common.{◌≡◌, ◌⊎◌, inl, inr, ℕ, zero, suc, �
 use Rattle.std.proofs.lemmas.List.{drop-drop}
 use Rattle.std.proofs.Math.Seq.{take-add}
 use Rattle.byte_maps.specs.Units.{unit_at, units_from}
-use Rattle.block_device.specs.Log.{last, IsCrashImage}
-use Rattle.block_device.specs.Tests.{is_dirty}
+use Rattle.block_device.specs.Prelude.{last, IsCrashImage, is_dirty}
 use Rattle.block_device.proofs.Places.{not_dirty-means}
 use Rattle.block_device.specs.declared.event.Event.{Event}
 use Rattle.meta_rows.specs.declared.row_op.RowOp.{RowOp}
-use Rattle.meta_log.specs.Records.{unit_count}
-use Rattle.store_image.specs.Chance.{HoldsAsWritten, AreAsWritten, HasDirty, TornAreAsWritten, IsOutranked, NoChanceMatch, NoTornMatch}
+use Rattle.meta_log.specs.Prelude.{unit_count}
+use Rattle.store_image.specs.Prelude.{HoldsAsWritten, AreAsWritten, HasDirty, TornAreAsWritten, IsOutranked, NoChanceMatch, NoTornMatch}
 
 -- one unit, and those behind it
 units_from-suc : (first n : ℕ) (xs : List ℕ) → units_from first (suc n) xs ≡ unit_at first xs ++ units_from (first + 1) n xs

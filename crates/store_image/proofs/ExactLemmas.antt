@@ -1,13 +1,11 @@
 -- How exactness goes from rows to rows, and from image to image.
 use Rattle.std.proofs.Common.{◌↔◌, inl, inr, ⊎_elim, ℕ, List, subst}
 use Rattle.unit_fields.specs.declared.width.Width.{Width}
-use Rattle.meta_rows.specs.Rows.{Rows}
+use Rattle.meta_rows.specs.Prelude.{Rows}
 use Rattle.meta_log.specs.declared.slot.Super.{Super}
-use Rattle.meta_log.specs.Records.{AreRowsOf}
+use Rattle.meta_log.specs.Prelude.{AreRowsOf, width_of, IsActiveSlot}
 use Rattle.meta_log.proofs.SlotLemmas.{same_active}
-use Rattle.meta_log.specs.Slots.{width_of, IsActiveSlot}
-use Rattle.store_image.specs.Owners.{IsLeaked, IsExactBut, IsExactAs, IsInexact}
-use Rattle.store_image.specs.Exact.{IsExactImageBut, IsExactImage, IsLeakedIn, StaysExact}
+use Rattle.store_image.specs.Prelude.{IsLeaked, IsExactBut, IsExactAs, IsInexact, IsExactImageBut, IsExactImage, IsLeakedIn, StaysExact}
 use Rattle.store_image.proofs.OneObjects.{same_rows}
 
 -- ---- rows

@@ -6,3 +6,4 @@ pub mod PageUnits
 pub mod ChanceLemmas
 pub mod StartLemmas
 pub mod ExactLemmas
+pub mod Prelude

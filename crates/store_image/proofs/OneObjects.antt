@@ -5,19 +5,16 @@ use Rattle.std.specs.Int.{w64, from_le_bytes}
 use Rattle.std.proofs.lemmas.Nat.{from_le_bytes-to_le_bytes_8}
 use Rattle.std.specs.FinMap as map
 use Rattle.byte_maps.specs.ByteMap.{ByteMap}
-use Rattle.byte_maps.proofs.Laws.{same}
-use Rattle.object_model.specs.Objects.{Object, Collection, Objects}
-use Rattle.object_model.specs.Effect.{object_under}
-use Rattle.meta_rows.specs.Rows.{Rows, rows_of_records}
+use Rattle.byte_maps.proofs.Prelude.{same}
+use Rattle.object_model.specs.Prelude.{Object, Collection, Objects, object_under}
+use Rattle.meta_rows.specs.Prelude.{Rows, rows_of_records}
 use Rattle.meta_log.specs.declared.slot.Super.{Super}
-use Rattle.meta_log.specs.Records.{AreRowsOf, active_half}
+use Rattle.meta_log.specs.Prelude.{AreRowsOf, active_half, width_of}
 use Rattle.meta_log.proofs.RecordLemmas.{same_records}
 use Rattle.meta_log.proofs.SlotLemmas.{same_active}
-use Rattle.meta_log.specs.Slots.{width_of}
-use Rattle.unit_fields.specs.Names.{IsName}
+use Rattle.unit_fields.specs.Prelude.{IsName}
 use Rattle.unit_fields.specs.declared.width.Width.{Width}
-use Rattle.store_image.specs.Pages.{PageUnit, IsHole}
-use Rattle.store_image.specs.Stands.{page_bytes, IsPageSeen, IsObjectShape, AreObjectBytes, ObjectsStand, StandsFor}
+use Rattle.store_image.specs.Prelude.{PageUnit, IsHole, page_bytes, IsPageSeen, IsObjectShape, AreObjectBytes, ObjectsStand, StandsFor}
 use Rattle.store_image.proofs.ByteLemmas.{equal_or_not, same_pages}
 
 -- a unit is seen in one way

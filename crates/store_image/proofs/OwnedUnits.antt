@@ -1,10 +1,9 @@
 -- What rows and units stand for depends on no unit but those that pages stand on.
 use Rattle.std.proofs.Common.{◌≡◌, ℕ, List, refl, ◌∙◌}
 use Rattle.unit_fields.specs.declared.width.Width.{Width}
-use Rattle.meta_rows.specs.Rows.{Rows}
-use Rattle.object_model.specs.Objects.{Objects}
-use Rattle.store_image.specs.Pages.{PageUnit, IsPageOn, HasPage}
-use Rattle.store_image.specs.Stands.{IsPageSeen, AreBytes, ObjectsStand}
+use Rattle.meta_rows.specs.Prelude.{Rows}
+use Rattle.object_model.specs.Prelude.{Objects}
+use Rattle.store_image.specs.Prelude.{PageUnit, IsPageOn, HasPage, IsPageSeen, AreBytes, ObjectsStand}
 
 module _ (w : Width) (at at' : ℕ → List ℕ) (rows : Rows) (same : (unit : ℕ) → HasPage w rows unit → at unit ≡ at' unit) where
   page_seen : (c o : List ℕ) (page : ℕ) (on : PageUnit) (bytes : List ℕ) → IsPageOn w rows c o page on → IsPageSeen at rows on bytes

@@ -4,15 +4,12 @@ use Rattle.std.specs.Prelude.{nat_le, nat_lt, ◌&&◌}
 use Rattle.std.specs.List.{AllByRecursion}
 use Rattle.std.specs.FinMap as map
 use Rattle.std.proofs.lemmas.Bool.{ltb-true, leb-true, cases_lt}
-use Rattle.meta_rows.specs.Rows.{Rows}
+use Rattle.meta_rows.specs.Prelude.{Rows}
 use Rattle.meta_log.specs.declared.slot.Super.{Super}
-use Rattle.meta_log.specs.Slots.{width_of}
-use Rattle.row_format.specs.Extents.{Extent, page_end, Place, place_in, place_of, ExtentsAscend, BeginsAt}
-use Rattle.row_format.specs.Row.{Row, shard, row_key, row_value}
-use Rattle.row_format.proofs.ExtentReading.{extents-same}
-use Rattle.row_format.proofs.RowLemmas.{same_row}
-use Rattle.store_image.specs.Pages.{HasRow, IsPageAt}
-use Rattle.store_image.specs.BadRows.{IsInPlace, NoBadRow}
+use Rattle.meta_log.specs.Prelude.{width_of}
+use Rattle.row_format.specs.Prelude.{Extent, page_end, Place, place_in, place_of, ExtentsAscend, BeginsAt, Row, shard, row_key, row_value}
+use Rattle.row_format.proofs.Prelude.{extents-same, same_row}
+use Rattle.store_image.specs.Prelude.{HasRow, IsPageAt, IsInPlace, NoBadRow}
 
 -- where no row is bad, a row that the rows have is in its place
 pub in_place : (s : Super) (rows : Rows) (row : Row) → NoBadRow s rows → HasRow (width_of s) rows row → IsInPlace s rows row

@@ -1,11 +1,9 @@
 -- The units on which pages stand: each is one that its page owns.
 use Rattle.std.proofs.Common.{◌≡◌, ◌↔◌, ℕ, List, refl, sym, subst, ◌∙◌}
 use Rattle.unit_fields.specs.declared.width.Width.{Width}
-use Rattle.meta_rows.specs.Rows.{Rows}
-use Rattle.row_format.specs.Extents.{Place, own}
-use Rattle.store_image.specs.Pages.{PageUnit, IsPageAt, StandsOn, IsPageOn, HasPage}
-use Rattle.store_image.specs.Owners.{page_of, Owner, Owns, IsOwned}
-use Rattle.store_image.specs.Stands.{IsSeen, AreObjectBytes}
+use Rattle.meta_rows.specs.Prelude.{Rows}
+use Rattle.row_format.specs.Prelude.{Place, own}
+use Rattle.store_image.specs.Prelude.{PageUnit, IsPageAt, StandsOn, IsPageOn, HasPage, page_of, Owner, Owns, IsOwned, IsSeen, AreObjectBytes}
 
 pub one_unit : (rows : Rows) (place : Place) (a b : PageUnit) → StandsOn rows place a → StandsOn rows place b → a ≡ b
 one_unit rows (own unit csum) a b p q = p ∙ sym q

@@ -2,15 +2,12 @@
 use Rattle.std.proofs.Common.{◌≡◌, ℕ, List, [], length, take, sym, ap, subst, ◌∙◌, arith}
 use Rattle.std.proofs.lemmas.List.{take_all}
 use Rattle.byte_maps.specs.Units.{IsUnits}
-use Rattle.block_device.specs.Log.{last, IsClean}
-use Rattle.block_device.specs.Disk.{History}
+use Rattle.block_device.specs.Prelude.{last, IsClean, History}
 use Rattle.block_device.proofs.LogLemmas.{each_cut_none}
 use Rattle.block_device.proofs.RangeLemmas.{clean_image}
-use Rattle.object_model.specs.Objects.{Objects}
+use Rattle.object_model.specs.Prelude.{Objects}
 use Rattle.object_model.specs.declared.book.Book.{Book}
-use Rattle.store_image.specs.Stands.{StandsFor}
-use Rattle.store_image.specs.Exact.{StaysExact}
-use Rattle.store_image.specs.Durability.{IsStart, LeavesPrefix, EachCutStands}
+use Rattle.store_image.specs.Prelude.{StandsFor, StaysExact, IsStart, LeavesPrefix, EachCutStands}
 
 abbrev empty_book : Book
 empty_book = record { entries = []; commits = [] }

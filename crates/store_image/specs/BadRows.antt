@@ -2,13 +2,10 @@
 use Rattle.std.specs.Prelude.{◌≡◌, ℕ, ◌+◌, ◌<◌, ◌≤◌, List, length, Some}
 use Rattle.std.specs.List.{AllByRecursion}
 use Rattle.std.specs.FinMap as map
-use Rattle.meta_rows.specs.Rows.{Rows}
+use Rattle.meta_rows.specs.Prelude.{Rows}
 use Rattle.meta_log.specs.declared.slot.Super.{Super}
-use Rattle.meta_log.specs.Slots.{data_unit, width_of}
-use Rattle.row_format.specs.Keys.{coll_key, onode_key}
-use Rattle.row_format.specs.Extents.{Body, private, Extent, page_end, ExtentsAscend}
-use Rattle.row_format.specs.Bits.{bit_row, bit_in}
-use Rattle.row_format.specs.Row.{Row, collection, onode, shard, bitmap, row_key, row_value, FitsRow}
+use Rattle.meta_log.specs.Prelude.{data_unit, width_of}
+use Rattle.row_format.specs.Prelude.{coll_key, onode_key, Body, private, Extent, page_end, ExtentsAscend, bit_row, bit_in, Row, collection, onode, shard, bitmap, row_key, row_value, FitsRow}
 use Rattle.store_image.specs.Pages.{HasKey, HasOnode, HasShard, pages_of}
 use Rattle.store_image.specs.Owners.{IsDataUnit}
 

@@ -1,13 +1,11 @@
 -- The premise on chance: no torn record and no torn slot is valid by chance. A checksum can't rule this out, so the theorem asks for it.
 use Rattle.std.specs.Prelude.{◌≡◌, ◌⊎◌, ℕ, ◌+◌, ◌-◌, ◌<◌, ◌≤◌, List, [], ◌∷◌, IsTrue}
 use Rattle.byte_maps.specs.Units.{unit_at, units_from}
-use Rattle.block_device.specs.Log.{last}
-use Rattle.block_device.specs.Tests.{is_dirty}
+use Rattle.block_device.specs.Prelude.{last, is_dirty}
 use Rattle.block_device.specs.declared.event.Event.{Event}
 use Rattle.meta_rows.specs.declared.row_op.RowOp.{RowOp}
 use Rattle.meta_log.specs.declared.slot.Super.{Super}
-use Rattle.meta_log.specs.Records.{unit_count, BeginsWithRecords, active_half}
-use Rattle.meta_log.specs.Slots.{IsValidSlot, IsActiveSlot, active_unit}
+use Rattle.meta_log.specs.Prelude.{unit_count, BeginsWithRecords, active_half, IsValidSlot, IsActiveSlot, active_unit}
 
 -- so many units, from one on, hold in the image what was last written there
 abbrev pub HoldsAsWritten : List ℕ → List ℕ → ℕ → ℕ → Type 0

@@ -1,12 +1,9 @@
 -- Prefix durability: what a crash at any cut of the device's log leaves.
 use Rattle.std.specs.Prelude.{ℕ, ◌≤◌, List, length, take}
-use Rattle.block_device.specs.Log.{last, IsClean, IsCrashImage, EachCut}
-use Rattle.block_device.specs.Disk.{History}
+use Rattle.block_device.specs.Prelude.{last, IsClean, IsCrashImage, EachCut, History}
 use Rattle.block_device.specs.declared.event.Event.{Event}
 use Rattle.object_model.specs.declared.book.Book.{Book}
-use Rattle.object_model.specs.Objects.{Objects}
-use Rattle.object_model.specs.Effect.{replay}
-use Rattle.object_model.specs.Book.{committed, HasAcked}
+use Rattle.object_model.specs.Prelude.{Objects, replay, committed, HasAcked}
 use Rattle.store_image.specs.Chance.{NoChanceMatch}
 use Rattle.store_image.specs.Stands.{StandsFor}
 use Rattle.store_image.specs.Exact.{StaysExact}

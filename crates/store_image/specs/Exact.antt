@@ -1,9 +1,8 @@
 -- Whether the bitmap of an image says which units its objects own.
 use Rattle.std.specs.Prelude.{ℕ, List}
-use Rattle.meta_rows.specs.Rows.{Rows}
+use Rattle.meta_rows.specs.Prelude.{Rows}
 use Rattle.meta_log.specs.declared.slot.Super.{Super}
-use Rattle.meta_log.specs.Records.{AreRowsOf}
-use Rattle.meta_log.specs.Slots.{IsActiveSlot, width_of}
+use Rattle.meta_log.specs.Prelude.{AreRowsOf, IsActiveSlot, width_of}
 use Rattle.store_image.specs.Owners.{IsLeaked, IsExactBut}
 
 -- the image's bitmap is exactly its objects' units and some of these leaked ones, which nobody owns; no unit has two owners

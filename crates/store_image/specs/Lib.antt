@@ -5,3 +5,4 @@ pub mod Exact
 pub mod Stands
 pub mod Chance
 pub mod Durability
+pub mod Prelude

@@ -1,12 +1,10 @@
 -- Who owns a unit, and whether the freelist's bitmap says so.
 use Rattle.std.specs.Prelude.{◌≡◌, ◌⊎◌, ℕ, ◌^◌, ◌<◌, ◌≤◌, List, Contains, Any}
 use Rattle.unit_fields.specs.declared.width.Width.{Width}
-use Rattle.meta_rows.specs.Rows.{Rows, row}
+use Rattle.meta_rows.specs.Prelude.{Rows, row}
 use Rattle.meta_log.specs.declared.slot.Super.{Super}
-use Rattle.meta_log.specs.Slots.{data_unit}
-use Rattle.row_format.specs.Keys.{bitmap_key}
-use Rattle.row_format.specs.Bits.{bit_row, bit_in}
-use Rattle.row_format.specs.Extents.{own}
+use Rattle.meta_log.specs.Prelude.{data_unit}
+use Rattle.row_format.specs.Prelude.{bitmap_key, bit_row, bit_in, own}
 use Rattle.store_image.specs.Pages.{IsPageAt}
 
 -- what may own a unit: a page of an object, that stands on a unit of the object's own (a slot of a shared blob is to be the other case)

@@ -3,10 +3,8 @@ use Rattle.std.specs.Prelude.{◌≡◌, ℕ, ◌+◌, ◌/◌, List, Some, IsSo
 use Rattle.std.specs.Int.{w64, to_le_bytes}
 use Rattle.std.specs.FinMap as map
 use Rattle.unit_fields.specs.declared.width.Width.{Width}
-use Rattle.meta_rows.specs.Rows.{Rows}
-use Rattle.row_format.specs.Keys.{onode_key}
-use Rattle.row_format.specs.Extents.{Extent, Place, own, place_of}
-use Rattle.row_format.specs.Row.{Row, shard, row_key, row_value, FitsRow, FitsOnode}
+use Rattle.meta_rows.specs.Prelude.{Rows}
+use Rattle.row_format.specs.Prelude.{onode_key, Extent, Place, own, place_of, Row, shard, row_key, row_value, FitsRow, FitsOnode}
 
 -- a row stands under the key, whatever it says
 abbrev pub HasKey : Rows → List ℕ → Type 0

@@ -2,16 +2,14 @@
 use Rattle.std.specs.Prelude.{◌≡◌, ℕ, ◌*◌, ◌≤◌, List, ◌++◌, length, take, drop, Some, None, IsSome}
 use Rattle.std.specs.FinMap as map
 use Rattle.byte_maps.specs.Units.{unit_at, zeros}
-use Rattle.crc32c_csum.specs.Crc32c.{crc32c}
-use Rattle.object_model.specs.Objects.{Object, Objects}
-use Rattle.object_model.specs.Effect.{object_under}
-use Rattle.meta_rows.specs.Rows.{Rows, row}
+use Rattle.crc32c_csum.specs.Prelude.{crc32c}
+use Rattle.object_model.specs.Prelude.{Object, Objects, object_under}
+use Rattle.meta_rows.specs.Prelude.{Rows, row}
 use Rattle.meta_log.specs.declared.slot.Super.{Super}
-use Rattle.meta_log.specs.Records.{AreRowsOf}
-use Rattle.meta_log.specs.Slots.{IsActiveSlot, width_of}
-use Rattle.unit_fields.specs.Names.{IsName, IsCollName}
+use Rattle.meta_log.specs.Prelude.{AreRowsOf, IsActiveSlot, width_of}
+use Rattle.unit_fields.specs.Prelude.{IsName, IsCollName}
 use Rattle.unit_fields.specs.declared.width.Width.{Width}
-use Rattle.row_format.specs.Keys.{coll_key, attr_key, header_key, omap_key, onode_key}
+use Rattle.row_format.specs.Prelude.{coll_key, attr_key, header_key, omap_key, onode_key}
 use Rattle.store_image.specs.Pages.{HasOnode, PageUnit, IsPageOn, IsHole}
 use Rattle.store_image.specs.BadRows.{NoBadRow}
 

@@ -1,34 +1,30 @@
 -- What preparing and accepting a transaction is, in the words of the kernel's state.
 use Rattle.std.proofs.Common.{◌≡◌, ℕ, ◌+◌, ◌<◌, ◌≤◌, ◌^◌, true, List, [], ◌∷◌, ◌++◌, length, map, Option, Some, None, refl, arith}
 use Rattle.std.specs.List.{AllByRecursion}
-use Rattle.block_device.specs.Disk.{Disk}
+use Rattle.block_device.specs.Prelude.{Disk}
 use Rattle.block_device.specs.declared.device.Ticket.{Ticket}
-use Rattle.object_model.specs.Effect.{Change, names_of}
+use Rattle.object_model.specs.Prelude.{Change, names_of}
 use Rattle.object_model.specs.declared.book.Commit.{Commit}
 use Rattle.object_model.specs.declared.book.Entry.{Entry}
 use Rattle.object_model.specs.declared.command.Command.TheVariants as ask
 use Rattle.object_model.specs.declared.command.Answer.TheVariants as answer
-use Rattle.unit_fields.specs.UnitSet.{Ascends}
-use Rattle.meta_rows.specs.Rows.{Rows, rows_after}
-use Rattle.meta_rows.specs.Spelling.{ops_bytes, AllFit}
-use Rattle.meta_log.specs.Slots.{width_of}
+use Rattle.unit_fields.specs.Prelude.{Ascends}
+use Rattle.meta_rows.specs.Prelude.{Rows, rows_after, ops_bytes, AllFit}
+use Rattle.meta_log.specs.Prelude.{width_of}
 use Rattle.meta_store.specs.Store as meta
-use Rattle.unit_allocator.specs.Units.{Space, IsWithin, is_free, taken}
+use Rattle.unit_allocator.specs.Prelude.{Space, IsWithin, is_free, taken}
 use Rattle.plan_rows.specs.declared.plan.FreshUnit.{FreshUnit}
 use Rattle.plan_rows.specs.declared.plan.Plan.{Plan}
-use Rattle.plan_rows.specs.Plans.{IsKnown, AreFreeOver}
-use Rattle.plan_rows.specs.Keeps.{IsGood, PlanKeeps}
-use Rattle.object_rows.specs.Planned.{IsPlanned}
+use Rattle.plan_rows.specs.Prelude.{IsKnown, AreFreeOver, IsGood, PlanKeeps}
+use Rattle.object_rows.specs.Prelude.{IsPlanned}
 use Rattle.object_rows.proofs.Planned.{plan_facts}
 use Rattle.object_rows.proofs.PlansKeep.{plans_keep}
 use Rattle.object_rows.proofs.Taking.{units_of, plan_takes_free, planned}
 use Rattle.store_steps.specs.declared.context.Context.{Context}
 use Rattle.store_steps.specs.declared.flight.Flying.{Flying}
-use Rattle.store_steps.specs.State.{State}
-use Rattle.store_steps.specs.Submit.{CanNote, Accepts, need_of}
-use Rattle.store_facts.specs.Kept.{IsKept}
-use Rattle.store_facts.proofs.Known.{idle_pending}
-use Rattle.store_facts.proofs.RowsNow.{kept_submitted, kept_free}
+use Rattle.store_steps.specs.Prelude.{State, CanNote, Accepts, need_of}
+use Rattle.store_facts.specs.Prelude.{IsKept}
+use Rattle.store_facts.proofs.Prelude.{idle_pending, kept_submitted, kept_free}
 use Rattle.onode_state.specs.Objects.{AreRowsOfAStore, AreRowsOfWidth}
 use Rattle.txn_planner.specs.PlanFails.{IsPlanFor}
 use Rattle.store_kernel.specs.declared.batch.OpenBatch.{OpenBatch}

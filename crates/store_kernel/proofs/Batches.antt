@@ -5,31 +5,20 @@ use Rattle.unit_allocator.proofs.Lists.{Contains-head}
 use Rattle.std.proofs.lemmas.List.Elements.{Contains-append_right}
 use Rattle.std.proofs.lemmas.Bool.{eq-eqb, lt-ltb, le-ltb, and_parts, cases_lt}
 use Rattle.std.proofs.lemmas.Option.{IfSome_then}
-use Rattle.block_device.specs.Disk.{Disk}
+use Rattle.block_device.specs.Prelude.{Disk}
 use Rattle.object_model.specs.declared.book.Commit.{Commit}
 use Rattle.meta_rows.specs.declared.row_op.RowOp.{RowOp}
-use Rattle.meta_rows.specs.Rows.{rows_after}
-use Rattle.meta_log.specs.Records.{unit_count}
-use Rattle.meta_log.specs.Pieces.{piece_count}
+use Rattle.meta_rows.specs.Prelude.{rows_after}
+use Rattle.meta_log.specs.Prelude.{unit_count, piece_count}
 use Rattle.meta_store.specs.Store as meta
-use Rattle.unit_allocator.specs.Units.{given}
+use Rattle.unit_allocator.specs.Prelude.{given}
 use Rattle.store_steps.specs.declared.context.Context.{Context}
 use Rattle.store_steps.specs.declared.flight.FlushState.TheVariants as flush
-use Rattle.store_steps.specs.State.{State}
-use Rattle.store_steps.specs.Contexts.{chosen, without_context, batch_ops, batch_released}
-use Rattle.store_steps.specs.Changes.{commit_of, log_after, committed_batch, acknowledged}
-use Rattle.store_steps.specs.Ready.{is_ready}
-use Rattle.store_steps.specs.Steps.{DoesTake, DoesCommit, DoesFinish}
-use Rattle.store_facts.specs.Room.{AcksAre}
-use Rattle.store_facts.specs.Kept.{IsKept}
-use Rattle.store_facts.proofs.Choosing.{IsFirst, chosen_first}
-use Rattle.store_facts.proofs.Readiness.{ready_not_down, ready_by_table, some_of}
-use Rattle.store_facts.proofs.Conditions.{HasRecord, ReadyCommit}
-use Rattle.store_facts.proofs.Known.{known_batch, known_commit, known_finish}
+use Rattle.store_steps.specs.Prelude.{State, chosen, without_context, batch_ops, batch_released, commit_of, log_after, committed_batch, acknowledged, is_ready, DoesTake, DoesCommit, DoesFinish}
+use Rattle.store_facts.specs.Prelude.{AcksAre, IsKept}
+use Rattle.store_facts.proofs.Prelude.{IsFirst, chosen_first, ready_not_down, ready_by_table, some_of, HasRecord, ReadyCommit, known_batch, known_commit, known_finish, data_within, space_given, back_data, back_in_turn}
 use Rattle.store_kernel.proofs.Sending.{alone}
-use Rattle.store_facts.proofs.SpaceUnits.{data_within, space_given}
-use Rattle.store_facts.proofs.RowsFacts.{back_data, back_in_turn}
-use Rattle.store_image.specs.Owners.{IsDataUnit}
+use Rattle.store_image.specs.Prelude.{IsDataUnit}
 use Rattle.store_kernel.specs.declared.batch.OpenBatch.{OpenBatch}
 use Rattle.store_kernel.specs.Seen.{batch_of}
 use Rattle.store_kernel.specs.Units.{CanBeGiven}

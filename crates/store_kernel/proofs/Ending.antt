@@ -3,7 +3,7 @@ use Rattle.std.proofs.Common.{◌≡◌, ℕ, ◌+◌, ◌^◌, ◌<◌, ◌≤�
 use Rattle.std.specs.Option.{option_map, option_or}
 use Rattle.std.specs.Prelude.{MatchOption}
 use Rattle.std.proofs.lemmas.Option.{same_Some}
-use Rattle.block_device.specs.Disk.{Disk, Reaped}
+use Rattle.block_device.specs.Prelude.{Disk, Reaped}
 use Rattle.block_device.specs.declared.device.Ticket.{Ticket}
 use Rattle.meta_store.specs.Store as meta
 use Rattle.store_steps.specs.declared.context.Context.{Context}
@@ -11,17 +11,10 @@ use Rattle.store_steps.specs.declared.flight.FlushState.TheVariants as flush
 use Rattle.store_steps.specs.declared.flight.Flying.{Flying}
 use Rattle.store_steps.specs.declared.flight.Job.{Job}
 use Rattle.store_steps.specs.declared.flight.Job.TheVariants as job
-use Rattle.store_steps.specs.State.{Batch, State}
-use Rattle.store_steps.specs.Contexts.{with_context, done_more}
-use Rattle.store_steps.specs.Changes.{after_done, after_good, first_flushed, second_flushed, written_more, down_by, flying_of, landed}
-use Rattle.store_steps.specs.Steps.{Takes}
+use Rattle.store_steps.specs.Prelude.{Batch, State, with_context, done_more, after_done, after_good, first_flushed, second_flushed, written_more, down_by, flying_of, landed, Takes}
 use Rattle.std.specs.List.{AllByRecursion}
-use Rattle.store_facts.specs.Jobs.{IsPartGiven}
-use Rattle.store_facts.specs.Kept.{IsKept}
-use Rattle.store_facts.proofs.Lists.{StandsIn}
-use Rattle.store_facts.proofs.Flying.{others_of, landed_flight, reaped_good}
-use Rattle.store_facts.proofs.Landing.{IsLeftOut, left_out}
-use Rattle.store_facts.proofs.InFlight.{IsOf, found_tells}
+use Rattle.store_facts.specs.Prelude.{IsPartGiven, IsKept}
+use Rattle.store_facts.proofs.Prelude.{StandsIn, others_of, landed_flight, reaped_good, IsLeftOut, left_out, IsOf, found_tells}
 use Rattle.store_kernel.specs.declared.batch.OpenBatch.{OpenBatch}
 use Rattle.store_kernel.specs.Seen.{listed, batch_of}
 use Rattle.store_kernel.specs.Seen as seen

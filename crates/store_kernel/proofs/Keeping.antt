@@ -1,16 +1,13 @@
 -- Each call keeps what is known of a kernel.
 use Rattle.std.proofs.Common.{◌≡◌, inl, inr, ℕ, true, refl}
-use Rattle.block_device.specs.Disk.{Disk, IsSound}
-use Rattle.object_model.specs.Effect.{Change}
+use Rattle.block_device.specs.Prelude.{Disk, IsSound}
+use Rattle.object_model.specs.Prelude.{Change}
 use Rattle.object_model.specs.declared.command.Command.{Command}
 use Rattle.object_model.specs.declared.command.Answer.{Answer}
 use Rattle.object_rows.proofs.PlansKeep.{plans_keep}
 use Rattle.store_steps.specs.declared.step.Step.{Step}
-use Rattle.store_steps.specs.State.{State}
-use Rattle.store_steps.specs.Ready.{is_ready}
-use Rattle.store_steps.specs.Submit.{Accepts, Refuses}
-use Rattle.store_steps.specs.Runs.{submitting, reading, stepping, DoesOrFails, Submits, MayRead, AnswersRead}
-use Rattle.store_facts.proofs.Kept.{kept_step, kept_accept, kept_refuse, kept_answer}
+use Rattle.store_steps.specs.Prelude.{State, is_ready, Accepts, Refuses, submitting, reading, stepping, DoesOrFails, Submits, MayRead, AnswersRead}
+use Rattle.store_facts.proofs.Prelude.{kept_step, kept_accept, kept_refuse, kept_answer}
 use Rattle.crash_facts.specs.Store.{KeepsDurable}
 use Rattle.crash_facts.proofs.Keeping.{call_keeps}
 use Rattle.store_kernel.specs.Known.{KnownOfKernel}

@@ -4,7 +4,7 @@ use Rattle.std.specs.Option.{option_or}
 use Rattle.std.proofs.lemmas.Bool.{lt-ltb, le-ltb, cases_lt}
 use Rattle.plan_rows.specs.declared.plan.FreshUnit.{FreshUnit}
 use Rattle.store_steps.specs.declared.context.Context.{Context}
-use Rattle.store_steps.specs.Contexts.{run_from, run_of, unsent, next_unsent}
+use Rattle.store_steps.specs.Prelude.{run_from, run_of, unsent, next_unsent}
 
 -- ---- whether a write is left
 

@@ -2,14 +2,13 @@
 use Rattle.std.proofs.Common.{◌≡◌, ℕ, Bool, true, false, not, ◌||◌, cond, filter, Option, None, List, [], ◌∷◌, refl, ap, ◌∙◌}
 use Rattle.std.specs.List.{list_any}
 use Rattle.std.specs.FinSet as set
-use Rattle.meta_rows.specs.Rows.{Rows}
+use Rattle.meta_rows.specs.Prelude.{Rows}
 use Rattle.meta_store.specs.Store.{Begun, Meta}
 use Rattle.object_model.specs.declared.book.Entry.{Entry}
 use Rattle.object_model.specs.declared.book.Commit.{Commit}
-use Rattle.unit_allocator.specs.Units.{Space}
+use Rattle.unit_allocator.specs.Prelude.{Space}
 use Rattle.store_steps.specs.declared.flight.Flying.{Flying}
-use Rattle.store_steps.specs.Opened.{opened}
-use Rattle.store_steps.specs.Ready.{is_empty}
+use Rattle.store_steps.specs.Prelude.{opened, is_empty}
 use Rattle.store_steps.specs.declared.step.Step.{Step}
 use Rattle.store_kernel.specs.Seen.{found_of, IsUnused, state_of}
 

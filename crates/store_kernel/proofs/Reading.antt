@@ -1,14 +1,11 @@
 -- What a read needs of the kernel's state.
 use Rattle.std.proofs.Common.{◌≡◌, ℕ, List, [], true, None, refl, sym, subst, arith}
-use Rattle.block_device.specs.Disk.{Disk, Flight}
-use Rattle.block_device.specs.Facts.{IsUntouched}
-use Rattle.meta_log.specs.Slots.{width_of}
-use Rattle.store_steps.specs.Ready.{is_drained}
-use Rattle.store_steps.specs.State.{State}
-use Rattle.store_facts.specs.Kept.{IsKept}
-use Rattle.store_facts.proofs.Known.{idle_disk}
-use Rattle.store_facts.proofs.RowsNow.{kept_submitted}
-use Rattle.read_facts.specs.PageReads.{no_memory}
+use Rattle.block_device.specs.Prelude.{Disk, Flight, IsUntouched}
+use Rattle.meta_log.specs.Prelude.{width_of}
+use Rattle.store_steps.specs.Prelude.{is_drained, State}
+use Rattle.store_facts.specs.Prelude.{IsKept}
+use Rattle.store_facts.proofs.Prelude.{idle_disk, kept_submitted}
+use Rattle.read_facts.specs.Prelude.{no_memory}
 use Rattle.object_reader.specs.Readable.{IsReadable}
 
 -- where nothing is in flight no unit is

@@ -3,37 +3,23 @@ use Rattle.std.proofs.Common.{◌≡◌, ℕ, ◌+◌, ◌*◌, ◌%◌, ◌^◌
 use Rattle.std.specs.Option.{option_map, option_map_or}
 use Rattle.std.specs.List.{AllByRecursion}
 use Rattle.std.proofs.lemmas.Bool.{eq-eqb, and_parts}
-use Rattle.block_device.specs.Disk.{Disk, Submitted, IsNotInFlight}
+use Rattle.block_device.specs.Prelude.{Disk, Submitted, IsNotInFlight}
 use Rattle.block_device.specs.declared.device.Ticket.{Ticket}
 use Rattle.block_device.specs.declared.event.Event.TheVariants as event
-use Rattle.unit_fields.specs.UnitSet.{Ascends}
+use Rattle.unit_fields.specs.Prelude.{Ascends}
 use Rattle.meta_rows.specs.declared.row_op.RowOp.{RowOp}
-use Rattle.meta_log.specs.Records.{unit_count}
-use Rattle.meta_log.specs.Sealed.{IsSealable}
+use Rattle.meta_log.specs.Prelude.{unit_count, IsSealable}
 use Rattle.meta_store.specs.Store as meta
-use Rattle.store_image.specs.Owners.{IsDataUnit}
+use Rattle.store_image.specs.Prelude.{IsDataUnit}
 use Rattle.plan_rows.specs.declared.plan.FreshUnit.{FreshUnit}
 use Rattle.store_steps.specs.declared.context.Context.{Context}
 use Rattle.store_steps.specs.declared.flight.FlushState.TheVariants as flush
 use Rattle.store_steps.specs.declared.flight.Job.TheVariants as job
 use Rattle.store_steps.specs.declared.step.Step.TheVariants.{Data, Flush, Seal, Record, Sync}
-use Rattle.store_steps.specs.State.{Batch, State}
-use Rattle.store_steps.specs.Contexts.{Unsent, unsent_units, run_bytes, next_unsent, with_context, given_more, batch_ops}
-use Rattle.store_steps.specs.Changes.{data_sent}
-use Rattle.store_steps.specs.Ready.{is_ready}
-use Rattle.store_steps.specs.Steps.{DoesData, DoesFlush, DoesSeal, DoesRecord, DoesSync, piece_unit}
+use Rattle.store_steps.specs.Prelude.{Batch, State, Unsent, unsent_units, run_bytes, next_unsent, with_context, given_more, batch_ops, data_sent, is_ready, DoesData, DoesFlush, DoesSeal, DoesRecord, DoesSync, piece_unit, intent_of}
 use Rattle.store_steps.specs.Steps as steps
-use Rattle.store_facts.specs.Room.{FitsRecord}
-use Rattle.store_facts.specs.Kept.{IsKept, IsKeptUp}
-use Rattle.store_facts.proofs.Lists.{StandsIn}
-use Rattle.store_facts.proofs.Conditions.{HasRecord, pending_fits, number_low}
-use Rattle.store_facts.proofs.Known.{known_data_room, known_record_room, known_seal, next_data_untouched, data_inside, few_units, whole_units, next_piece_untouched}
-use Rattle.store_facts.proofs.Readiness.{ready_not_down, ready_by_table}
-use Rattle.store_facts.proofs.RowsFacts.{pending_on_data}
-use Rattle.store_facts.proofs.RunUnits.{IsRunOf}
-use Rattle.store_facts.proofs.MatchingMore.{next_stands}
-use Rattle.store_steps.specs.Intents.{intent_of}
-use Rattle.store_facts.proofs.Untouched.{all_then}
+use Rattle.store_facts.specs.Prelude.{FitsRecord, IsKept, IsKeptUp}
+use Rattle.store_facts.proofs.Prelude.{StandsIn, HasRecord, pending_fits, number_low, known_data_room, known_record_room, known_seal, next_data_untouched, data_inside, few_units, whole_units, next_piece_untouched, ready_not_down, ready_by_table, pending_on_data, IsRunOf, next_stands, all_then}
 use Rattle.store_kernel.specs.declared.batch.OpenBatch.{OpenBatch}
 use Rattle.store_kernel.specs.declared.pending.NextWrite.{NextWrite}
 use Rattle.store_kernel.specs.Runs.{IsWriteOf}

@@ -2,9 +2,9 @@
 use Rattle.std.proofs.Common.{◌≡◌, ℕ, ◌+◌, ◌^◌, ◌<◌, ◌≤◌, false, List, [], ◌∷◌, map, drop, length, get_or, refl, sym, ap, subst, ◌∙◌, arith}
 use Rattle.std.specs.List.{AllByRecursion}
 use Rattle.std.proofs.lemmas.List.{drop_more}
-use Rattle.unit_fields.specs.UnitSet.{Ascends}
+use Rattle.unit_fields.specs.Prelude.{Ascends}
 use Rattle.plan_rows.specs.declared.plan.FreshUnit.{FreshUnit}
-use Rattle.unit_allocator.specs.Units.{Space, IsWithin, is_free, taken_one, given_one, taken, given}
+use Rattle.unit_allocator.specs.Prelude.{Space, IsWithin, is_free, taken_one, given_one, taken, given}
 use Rattle.unit_allocator.proofs.FreeUnits.{taken_is_not_free, range_stays}
 use Rattle.store_kernel.specs.Units.{IsFreeUnit, IsTakenUnit, CanBeTaken, CanBeGiven}
 

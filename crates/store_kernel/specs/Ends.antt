@@ -2,7 +2,7 @@
 use Rattle.std.specs.Prelude.{Option}
 use Rattle.std.specs.Option.{option_map}
 use Rattle.meta_store.specs.Store.{Meta, with_written}
-use Rattle.store_steps.specs.Contexts.{done_more}
+use Rattle.store_steps.specs.Prelude.{done_more}
 use Rattle.store_steps.specs.declared.context.Context.{Context}
 use Rattle.store_steps.specs.declared.flight.FlushState.{FlushState}
 use Rattle.store_steps.specs.declared.flight.FlushState.TheVariants as flush

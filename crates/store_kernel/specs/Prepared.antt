@@ -1,15 +1,14 @@
 -- A transaction that can be accepted.
 use Rattle.std.specs.Prelude.{◌≡◌, ℕ, ◌≤◌}
-use Rattle.object_model.specs.Effect.{Change}
+use Rattle.object_model.specs.Prelude.{Change}
 use Rattle.object_model.specs.declared.command.Command.TheVariants as ask
-use Rattle.meta_log.specs.Slots.{width_of}
-use Rattle.read_facts.specs.Refusals.{IsNotRefused}
+use Rattle.meta_log.specs.Prelude.{width_of}
+use Rattle.read_facts.specs.Prelude.{IsNotRefused}
 use Rattle.plan_rows.specs.declared.plan.Plan.{Plan}
 use Rattle.store_steps.specs.declared.context.Context.{Context}
-use Rattle.store_steps.specs.State.{State}
+use Rattle.store_steps.specs.Prelude.{State, need_of}
 use Rattle.meta_store.specs.Store.{room_of}
-use Rattle.plan_rows.specs.Plans.{Plans}
-use Rattle.store_steps.specs.Submit.{need_of}
+use Rattle.plan_rows.specs.Prelude.{Plans}
 use Rattle.store_kernel.specs.declared.prepared.Prepared.{Prepared}
 
 -- plain objects of the submitted rows' shape don't refuse the transaction, and this is its plan

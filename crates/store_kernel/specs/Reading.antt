@@ -1,8 +1,7 @@
 -- What comes of a read that isn't answered.
 use Rattle.std.specs.Prelude.{◌≡◌}
 use Rattle.object_model.specs.declared.command.Command.{Command}
-use Rattle.store_steps.specs.State.{State}
-use Rattle.store_steps.specs.Submit.{IsDownBy, IsBookFull}
+use Rattle.store_steps.specs.Prelude.{State, IsDownBy, IsBookFull}
 use Rattle.store_kernel.specs.declared.unanswered.Unanswered.{Unanswered}
 use Rattle.store_kernel.specs.declared.unanswered.Unanswered.TheVariants as why
 use Rattle.store_kernel.specs.declared.unanswered.WalkFail.{WalkFail}

@@ -2,7 +2,7 @@
 use Rattle.std.specs.Prelude.{◌≡◌, ℕ, List, take, length, MatchOption, Some}
 use Rattle.plan_rows.specs.declared.plan.FreshUnit.{FreshUnit}
 use Rattle.store_steps.specs.declared.context.Context.{Context}
-use Rattle.store_steps.specs.Contexts.{Unsent, unsent_units, run_of, run_bytes, next_unsent}
+use Rattle.store_steps.specs.Prelude.{Unsent, unsent_units, run_of, run_bytes, next_unsent}
 use Rattle.store_kernel.specs.declared.pending.NextWrite.{NextWrite}
 
 -- the first so many of these units are those of the next write

@@ -6,13 +6,12 @@ use Rattle.std.specs.FinMap as map
 use Rattle.block_device.specs.declared.device.Ticket.{Ticket}
 use Rattle.object_model.specs.declared.book.Entry.{Entry}
 use Rattle.object_model.specs.declared.book.Commit.{Commit}
-use Rattle.meta_rows.specs.Rows.{Rows}
+use Rattle.meta_rows.specs.Prelude.{Rows}
 use Rattle.meta_store.specs.Store as meta
-use Rattle.unit_allocator.specs.Units.{Space}
+use Rattle.unit_allocator.specs.Prelude.{Space}
 use Rattle.store_steps.specs.declared.context.Context.{Context}
 use Rattle.store_steps.specs.declared.flight.Flying.{Flying}
-use Rattle.store_steps.specs.State.{Batch, State}
-use Rattle.store_steps.specs.Opened.{Found}
+use Rattle.store_steps.specs.Prelude.{Batch, State, Found}
 use Rattle.store_kernel.specs.declared.batch.OpenBatch.{OpenBatch}
 
 -- at most one, as a list

@@ -1,12 +1,10 @@
 -- When a transaction may be submitted, and what comes of one that isn't accepted.
 use Rattle.std.specs.Prelude.{◌≡◌, ℕ, true, None}
-use Rattle.block_device.specs.Disk.{Disk}
-use Rattle.plan_rows.specs.Plans.{IsKnown}
-use Rattle.store_steps.specs.Ready.{is_drained}
-use Rattle.object_model.specs.Effect.{Change}
+use Rattle.block_device.specs.Prelude.{Disk}
+use Rattle.plan_rows.specs.Prelude.{IsKnown}
+use Rattle.store_steps.specs.Prelude.{is_drained, State, IsCause, Refuses, IsDownBy, IsBookFull}
+use Rattle.object_model.specs.Prelude.{Change}
 use Rattle.object_model.specs.declared.command.Answer.TheVariants as answer
-use Rattle.store_steps.specs.State.{State}
-use Rattle.store_steps.specs.Submit.{IsCause, Refuses, IsDownBy, IsBookFull}
 use Rattle.store_kernel.specs.declared.refused.Cause.{Cause}
 use Rattle.store_kernel.specs.declared.refused.Cause.TheVariants as cause
 use Rattle.store_kernel.specs.declared.refused.Refused.{Refused}

@@ -1,7 +1,7 @@
 -- Units that can be taken and given back.
 use Rattle.std.specs.Prelude.{◌≡◌, ℕ, ◌+◌, ◌<◌, ◌^◌, true, false, List, ◌∷◌, ◌++◌}
 use Rattle.std.specs.List.{AllByRecursion}
-use Rattle.unit_allocator.specs.Units.{Space, IsWithin, is_free, given}
+use Rattle.unit_allocator.specs.Prelude.{Space, IsWithin, is_free, given}
 
 -- a free unit of the space
 pub record IsFreeUnit (space : Space) (unit : ℕ) : Type 0 where

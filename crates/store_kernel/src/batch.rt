@@ -1,7 +1,8 @@
 //! The open batch, and how far its flushes are.
 ghost use Rattle.std.specs.Prelude.{◌≡◌};
 ghost use Rattle.std.specs.Option.{option_map};
-ghost use Rattle.store_steps.specs.Ready.{is_not_sent, is_flushed};
+ghost use Rattle.store_steps.specs.Prelude.{is_not_sent};
+ghost use Rattle.store_steps.specs.Ready.{is_flushed};
 ghost use Rattle.store_kernel.specs.Ends.{with_first, with_second};
 
 use store_steps::{Context, FlushState};

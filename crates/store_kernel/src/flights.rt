@@ -1,7 +1,7 @@
 //! What is in flight, in the order of the device's flights.
 ghost use Rattle.std.specs.Prelude.{◌≡◌, ◌==◌, not, filter, None, MatchOption};
 ghost use Rattle.std.specs.Option.{option_map};
-ghost use Rattle.store_steps.specs.Changes.{flying_of};
+ghost use Rattle.store_steps.specs.Prelude.{flying_of};
 
 use block_device::Ticket;
 use store_steps::{Flying, Job};

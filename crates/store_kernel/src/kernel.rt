@@ -1,13 +1,11 @@
 //! The kernel: its fields, how it begins and ends, and its steps.
 ghost use Rattle.std.specs.Prelude.{◌≡◌, ◌≢◌, ℕ, ◌≤◌, ◌<◌, ◌^◌, ◌==◌, ◌&&◌, nat_lt, [], true, false, None, is_some, length, OnOk, OnErr, IfOk, IfErr, IsErrOf, MatchResult};
 ghost use Rattle.std.specs.List.{list_any};
-ghost use Rattle.block_device.specs.Disk.{Rose};
-ghost use Rattle.store_steps.specs.Opened.{opened};
-ghost use Rattle.store_steps.specs.Ready.{is_ready, is_ready_up, all_steps, is_drained, is_not_sent, is_flushed, batch_is, applied_count};
-ghost use Rattle.store_steps.specs.Steps.{Takes, Does};
-ghost use Rattle.store_steps.specs.Submit.{free_count};
+ghost use Rattle.block_device.specs.Prelude.{Rose};
+ghost use Rattle.store_steps.specs.Prelude.{opened, is_ready, is_ready_up, all_steps, is_drained, is_not_sent, batch_is, applied_count, Takes, Does, free_count};
+ghost use Rattle.store_steps.specs.Ready.{is_flushed};
 ghost use Rattle.store_steps.specs.declared.step.Step.TheVariants.{Reap};
-ghost use Rattle.store_facts.specs.Kept.{IsKept};
+ghost use Rattle.store_facts.specs.Prelude.{IsKept};
 ghost use Rattle.crash_facts.specs.Store.{KeepsDurable};
 ghost use Rattle.store_kernel.specs.Seen.{found_of, IsUnused};
 ghost use Rattle.store_kernel.specs.Steps.{TakesMemory};
@@ -57,7 +55,7 @@ pub struct Kernel<D: Device> {
 
 impl<D: Device> Model for Kernel<D> {
     ghost use Rattle.std.specs.Coded.{codes};
-    ghost use Rattle.store_steps.specs.State.{Machine};
+    ghost use Rattle.store_steps.specs.Prelude.{Machine};
     ghost use Rattle.store_kernel.specs.Seen.{state_of, rows_code};
     ghost use Rattle.store_kernel.specs.Known.{KnownOfKernel};
 

@@ -1,7 +1,7 @@
 //! The context that is in no batch.
 ghost use Rattle.std.specs.Prelude.{◌≡◌, ◌+◌, ◌<◌, ◌≤◌, ◌^◌, is_some, true, length, IfOk, IfSome};
 ghost use Rattle.std.specs.Option.{option_map};
-ghost use Rattle.store_steps.specs.Contexts.{run_bytes, next_unsent, chosen, given_more, done_more};
+ghost use Rattle.store_steps.specs.Prelude.{run_bytes, next_unsent, chosen, given_more, done_more};
 ghost use Rattle.store_kernel.specs.Seen.{listed};
 ghost use Rattle.store_kernel.specs.Runs.{IsRunOf, IsWriteOf};
 

@@ -1,7 +1,7 @@
 //! A transaction with all that it takes to accept it.
 ghost use Rattle.std.specs.Prelude.{◌≡◌, ℕ, ◌<◌, ◌^◌, length};
-ghost use Rattle.meta_rows.specs.Spelling.{ops_bytes};
-ghost use Rattle.meta_log.specs.Records.{unit_count};
+ghost use Rattle.meta_rows.specs.Prelude.{ops_bytes};
+ghost use Rattle.meta_log.specs.Prelude.{unit_count};
 
 use byte_maps::Items;
 use meta_rows::{RowOp, encoded_len};

@@ -1,7 +1,7 @@
 //! The data units that transactions take and give back.
 ghost use Rattle.std.specs.Prelude.{◌≡◌, map};
-ghost use Rattle.unit_fields.specs.UnitSet.{Ascends};
-ghost use Rattle.unit_allocator.specs.Units.{taken, given};
+ghost use Rattle.unit_fields.specs.Prelude.{Ascends};
+ghost use Rattle.unit_allocator.specs.Prelude.{taken, given};
 ghost use Rattle.store_kernel.specs.Units.{CanBeTaken, CanBeGiven};
 
 use store_steps::FreshUnit;

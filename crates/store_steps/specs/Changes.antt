@@ -3,9 +3,9 @@ use Rattle.std.specs.Prelude.{ℕ, ◌+◌, ◌-◌, ◌==◌, not, Bool, true, 
 use Rattle.std.specs.Option.{option_map}
 use Rattle.block_device.specs.declared.device.Ticket.{Ticket}
 use Rattle.object_model.specs.declared.book.Commit.{Commit}
-use Rattle.meta_rows.specs.Rows.{rows_after}
-use Rattle.meta_log.specs.Records.{unit_count}
-use Rattle.unit_allocator.specs.Units.{given}
+use Rattle.meta_rows.specs.Prelude.{rows_after}
+use Rattle.meta_log.specs.Prelude.{unit_count}
+use Rattle.unit_allocator.specs.Prelude.{given}
 use Rattle.store_steps.specs.declared.context.Context.{Context}
 use Rattle.store_steps.specs.declared.flight.FlushState.TheVariants as flush
 use Rattle.store_steps.specs.declared.flight.Flying.{Flying}

@@ -1,11 +1,9 @@
 -- What a call makes of the data units that contexts took.
 use Rattle.std.specs.Prelude.{◌≡◌, ℕ, ◌+◌, List, [], ◌∷◌, ◌++◌, length}
 use Rattle.std.specs.List.{AllByRecursion}
-use Rattle.block_device.specs.Log.{WritesUnit}
-use Rattle.block_device.specs.Disk.{Flight}
-use Rattle.block_device.specs.Facts.{IsUntouched}
+use Rattle.block_device.specs.Prelude.{WritesUnit, Flight, IsUntouched}
 use Rattle.block_device.specs.declared.event.Event.{Event}
-use Rattle.log_facts.specs.Flushing.{not_sent, sent, flushed}
+use Rattle.log_facts.specs.Prelude.{not_sent, sent, flushed}
 use Rattle.plan_rows.specs.declared.plan.FreshUnit.{FreshUnit}
 use Rattle.store_steps.specs.Contexts.{Unsent, unsent_units}
 use Rattle.store_steps.specs.Parts.{DataPart}

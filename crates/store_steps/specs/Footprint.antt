@@ -1,7 +1,7 @@
 -- What a call changes, part by part.
 use Rattle.std.specs.Prelude.{◌≡◌, ℕ, ◌+◌, true}
-use Rattle.block_device.specs.Disk.{Disk}
-use Rattle.object_model.specs.Effect.{Change}
+use Rattle.block_device.specs.Prelude.{Disk}
+use Rattle.object_model.specs.Prelude.{Change}
 use Rattle.object_model.specs.declared.command.Answer.{Answer}
 use Rattle.object_model.specs.declared.command.Command.{Command}
 use Rattle.store_steps.specs.declared.step.Step.{Step}
@@ -9,7 +9,7 @@ use Rattle.store_steps.specs.declared.step.Step.TheVariants.{Take, Commit, Finis
 use Rattle.store_steps.specs.State.{State}
 use Rattle.store_steps.specs.Ready.{is_ready}
 use Rattle.store_steps.specs.Steps.{DoesTake, DoesCommit, DoesFinish}
-use Rattle.plan_rows.specs.Plans.{IsKnown}
+use Rattle.plan_rows.specs.Prelude.{IsKnown}
 use Rattle.store_steps.specs.Submit.{Accepts, Refuses}
 use Rattle.store_steps.specs.Runs.{AnswersRead}
 use Rattle.store_steps.specs.Parts.{RowsPart, BookPart, rows_part, data_part, half_part, book_part}

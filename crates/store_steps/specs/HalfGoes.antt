@@ -1,14 +1,11 @@
 -- What a call makes of the active half of the log.
 use Rattle.std.specs.Prelude.{◌≡◌, ℕ, ◌+◌, ◌-◌, ◌<◌, ◌≤◌, List, Some, None}
 use Rattle.byte_maps.specs.Units.{units_from}
-use Rattle.block_device.specs.Disk.{Flight}
-use Rattle.block_device.specs.Facts.{IsUntouched}
+use Rattle.block_device.specs.Prelude.{Flight, IsUntouched}
 use Rattle.meta_rows.specs.declared.row_op.RowOp.{RowOp}
-use Rattle.meta_rows.specs.Rows.{rows_after}
-use Rattle.meta_log.specs.Records.{unit_count, record_units}
-use Rattle.meta_log.specs.Slots.{active_unit}
-use Rattle.log_facts.specs.Flushing.{not_sent, sent, flushed}
-use Rattle.log_facts.specs.HalfFacts.{IsSpellable}
+use Rattle.meta_rows.specs.Prelude.{rows_after}
+use Rattle.meta_log.specs.Prelude.{unit_count, record_units, active_unit}
+use Rattle.log_facts.specs.Prelude.{not_sent, sent, flushed, IsSpellable}
 use Rattle.store_steps.specs.Parts.{HalfPart}
 use Rattle.store_steps.specs.Touch.{Touch, nothing, ends, flushes, on_half, IsNoPiece}
 

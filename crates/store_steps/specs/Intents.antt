@@ -1,17 +1,16 @@
 -- What accepted transactions are to do, however far they are, and the rows with those of some of them.
 use Rattle.std.specs.Prelude.{◌≡◌, ◌↔◌, ℕ, ◌+◌, ◌≤◌, ◌==◌, Bool, true, List, [], ◌∷◌, ◌++◌, map, count_by, Contains}
 use Rattle.std.specs.List.{flat_map, AllByRecursion}
-use Rattle.meta_rows.specs.Rows.{Rows, rows_after}
+use Rattle.meta_rows.specs.Prelude.{Rows, rows_after}
 use Rattle.meta_rows.specs.declared.row_op.RowOp.{RowOp}
 use Rattle.meta_log.specs.declared.slot.Super.{Super}
-use Rattle.object_model.specs.Effect.{is_named}
-use Rattle.store_image.specs.Owners.{IsDataUnit, IsMarked, IsBusy}
-use Rattle.unit_allocator.specs.Units.{Space, is_free}
+use Rattle.object_model.specs.Prelude.{is_named}
+use Rattle.store_image.specs.Prelude.{IsDataUnit, IsMarked, IsBusy}
+use Rattle.unit_allocator.specs.Prelude.{Space, is_free}
 use Rattle.selections.specs.Fair.{IsFair}
 use Rattle.plan_rows.specs.declared.plan.FreshUnit.{FreshUnit}
 use Rattle.plan_rows.specs.declared.plan.Plan.{Plan}
-use Rattle.plan_rows.specs.Plans.{fresh_units}
-use Rattle.plan_rows.specs.Keeps.{PlanKeeps}
+use Rattle.plan_rows.specs.Prelude.{fresh_units, PlanKeeps}
 use Rattle.store_steps.specs.declared.context.Context.{Context}
 
 -- what an accepted transaction is to do

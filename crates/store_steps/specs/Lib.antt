@@ -15,3 +15,4 @@ pub mod HalfGoes
 pub mod BookGoes
 pub mod Footprint
 pub mod Runs
+pub mod Prelude

@@ -1,8 +1,8 @@
 -- What a mount finds, and the state of a kernel that is opened on it.
 use Rattle.std.specs.Prelude.{ℕ, [], None}
-use Rattle.meta_rows.specs.Rows.{Rows}
+use Rattle.meta_rows.specs.Prelude.{Rows}
 use Rattle.meta_log.specs.declared.slot.Super.{Super}
-use Rattle.unit_allocator.specs.Units.{Space}
+use Rattle.unit_allocator.specs.Prelude.{Space}
 use Rattle.store_steps.specs.State.{State}
 
 -- What a mount finds in the log: the super, the rows that its records make, the units of the active half that they take, and the number of the next one.

@@ -3,11 +3,11 @@ use Rattle.std.specs.Prelude.{ℕ, List, [], Option}
 use Rattle.std.specs.Option.{option_map_or}
 use Rattle.object_model.specs.declared.book.Book.{Book}
 use Rattle.meta_rows.specs.declared.row_op.RowOp.{RowOp}
-use Rattle.meta_rows.specs.Rows.{Rows}
+use Rattle.meta_rows.specs.Prelude.{Rows}
 use Rattle.meta_log.specs.declared.slot.Super.{Super}
-use Rattle.log_facts.specs.Flushing.{FlushState, not_sent}
+use Rattle.log_facts.specs.Prelude.{FlushState, not_sent}
 use Rattle.plan_rows.specs.declared.plan.FreshUnit.{FreshUnit}
-use Rattle.unit_allocator.specs.Units.{Space}
+use Rattle.unit_allocator.specs.Prelude.{Space}
 use Rattle.store_steps.specs.State.{State}
 use Rattle.store_steps.specs.Ready.{applied_count}
 use Rattle.store_steps.specs.Intents.{Intent, intents}

@@ -1,8 +1,7 @@
 -- The table of steps: when each is ready.
 use Rattle.std.specs.Prelude.{ℕ, ◌-◌, ◌==◌, nat_lt, ◌&&◌, not, Bool, true, false, List, [], ◌∷◌, length, filter, is_some, is_none}
 use Rattle.std.specs.Option.{option_map_or}
-use Rattle.meta_log.specs.Records.{unit_count}
-use Rattle.meta_log.specs.Pieces.{piece_count}
+use Rattle.meta_log.specs.Prelude.{unit_count, piece_count}
 use Rattle.store_steps.specs.declared.step.Step.{Step}
 use Rattle.store_steps.specs.declared.step.Step.TheVariants.{Data, Reap, Take, Flush, Seal, Record, Sync, Commit, Finish}
 use Rattle.store_steps.specs.declared.flight.FlushState.{FlushState}

@@ -1,8 +1,8 @@
 -- What a call makes of the rows.
 use Rattle.std.specs.Prelude.{◌≡◌, ℕ, ◌+◌, ◌-◌, ◌≤◌, List, [], ◌∷◌, ◌++◌, map}
-use Rattle.meta_rows.specs.Rows.{rows_after}
-use Rattle.meta_log.specs.Records.{unit_count}
-use Rattle.unit_allocator.specs.Units.{given, taken}
+use Rattle.meta_rows.specs.Prelude.{rows_after}
+use Rattle.meta_log.specs.Prelude.{unit_count}
+use Rattle.unit_allocator.specs.Prelude.{given, taken}
 use Rattle.selections.specs.Fair.{IsComplete}
 use Rattle.store_steps.specs.Intents.{Intent, is_in, ops_by, released_by, needs_by}
 use Rattle.store_steps.specs.Parts.{RowsPart}

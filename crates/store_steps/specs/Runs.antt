@@ -1,19 +1,18 @@
 -- Runs: lists of calls, each of which does what its relation says.
 use Rattle.std.specs.Prelude.{◌≡◌, ◌⊎◌, ℕ, true, false, List, [], ◌∷◌, None}
 use Rattle.block_device.specs.declared.device.Ticket.{Ticket}
-use Rattle.block_device.specs.Disk.{Disk, IsSound}
-use Rattle.object_model.specs.Effect.{Change}
+use Rattle.block_device.specs.Prelude.{Disk, IsSound}
+use Rattle.object_model.specs.Prelude.{Change}
 use Rattle.object_model.specs.declared.command.Command.{Command}
 use Rattle.object_model.specs.declared.command.Answer.{Answer}
-use Rattle.meta_log.specs.Slots.{width_of}
-use Rattle.read_facts.specs.PageReads.{IsHeldAt, no_memory}
-use Rattle.read_facts.specs.Answers.{IsKnownRead, HasReadNames, IsAnswerOf}
+use Rattle.meta_log.specs.Prelude.{width_of}
+use Rattle.read_facts.specs.Prelude.{IsHeldAt, no_memory, IsKnownRead, HasReadNames, IsAnswerOf}
 use Rattle.store_steps.specs.declared.step.Step.{Step}
 use Rattle.store_steps.specs.declared.step.Step.TheVariants.{Reap}
 use Rattle.store_steps.specs.State.{State}
 use Rattle.store_steps.specs.Ready.{is_ready, is_drained}
 use Rattle.store_steps.specs.Steps.{Does, Takes}
-use Rattle.plan_rows.specs.Plans.{IsKnown}
+use Rattle.plan_rows.specs.Prelude.{IsKnown}
 use Rattle.store_steps.specs.Submit.{CanNote, entered, Accepts, Refuses, IsDownBy, IsBookFull}
 
 -- a call of the kernel that changes it

@@ -1,12 +1,10 @@
 -- What each step does, at the device and to the state.
 use Rattle.std.specs.Prelude.{◌≡◌, ◌⊎◌, ℕ, ◌+◌, Bool, true, List, length, Some}
 use Rattle.byte_maps.specs.Units.{units_from}
-use Rattle.block_device.specs.Disk.{Disk, Submitted, Reaped, Waited}
+use Rattle.block_device.specs.Prelude.{Disk, Submitted, Reaped, Waited}
 use Rattle.block_device.specs.declared.device.Ticket.{Ticket}
 use Rattle.block_device.specs.declared.event.Event.TheVariants as event
-use Rattle.meta_log.specs.Records.{record_units, unit_count}
-use Rattle.meta_log.specs.Pieces.{piece_first, piece_units}
-use Rattle.meta_log.specs.Slots.{active_unit}
+use Rattle.meta_log.specs.Prelude.{record_units, unit_count, piece_first, piece_units, active_unit}
 use Rattle.store_steps.specs.declared.context.Context.{Context}
 use Rattle.store_steps.specs.declared.step.Step.{Step}
 use Rattle.store_steps.specs.declared.step.Step.TheVariants.{Data, Reap, Take, Flush, Seal, Record, Sync, Commit, Finish}

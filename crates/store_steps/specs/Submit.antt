@@ -1,21 +1,20 @@
 -- What submitting a transaction does: it is accepted, or refused for a cause; either makes an entry of the book.
 use Rattle.std.specs.Prelude.{◌≡◌, ℕ, ◌+◌, ◌<◌, ◌≤◌, [], ◌∷◌, ◌++◌, length, map, Some, None}
 use Rattle.block_device.specs.declared.device.Ticket.{Ticket}
-use Rattle.object_model.specs.Effect.{Change}
+use Rattle.object_model.specs.Prelude.{Change}
 use Rattle.object_model.specs.declared.command.Command.{Command}
 use Rattle.object_model.specs.declared.command.Command.TheVariants as ask
 use Rattle.object_model.specs.declared.command.Answer.{Answer}
 use Rattle.object_model.specs.declared.command.Answer.TheVariants as answer
-use Rattle.meta_rows.specs.Rows.{rows_after}
-use Rattle.meta_log.specs.Records.{unit_count}
-use Rattle.meta_log.specs.Slots.{width_of}
-use Rattle.read_facts.specs.Refusals.{IsRefusedBy, IsNotRefused}
+use Rattle.meta_rows.specs.Prelude.{rows_after}
+use Rattle.meta_log.specs.Prelude.{unit_count, width_of}
+use Rattle.read_facts.specs.Prelude.{IsRefusedBy, IsNotRefused}
 use Rattle.plan_rows.specs.declared.plan.Plan.{Plan}
-use Rattle.unit_allocator.specs.Units.{Space, free_units, taken}
+use Rattle.unit_allocator.specs.Prelude.{Space, free_units, taken}
 use Rattle.store_steps.specs.declared.context.Context.{Context}
 use Rattle.meta_store.specs.Store.{Meta, room_of}
 use Rattle.store_steps.specs.State.{State}
-use Rattle.plan_rows.specs.Plans.{Plans, units_taken}
+use Rattle.plan_rows.specs.Prelude.{Plans, units_taken}
 
 -- the units of the log that the record of these operations alone takes: they are as many for each number
 abbrev pub need_of : Meta → Plan → ℕ

@@ -1,13 +1,12 @@
 -- What a call adds to the device's log, by where it writes.
 use Rattle.std.specs.Prelude.{◌≡◌, ℕ, ◌+◌, ◌*◌, ◌≤◌, true, List, length}
 use Rattle.std.specs.List.{AllByRecursion}
-use Rattle.block_device.specs.Disk.{Disk, History, Submitted, Reaped}
-use Rattle.block_device.specs.Facts.{with_event}
+use Rattle.block_device.specs.Prelude.{Disk, History, Submitted, Reaped, with_event}
 use Rattle.block_device.specs.declared.event.Event.{Event}
 use Rattle.block_device.specs.declared.event.Event.TheVariants.{Write, Flush, Done}
 use Rattle.meta_log.specs.declared.slot.Super.{Super}
-use Rattle.meta_log.specs.Slots.{active_unit}
-use Rattle.store_image.specs.Owners.{IsDataUnit}
+use Rattle.meta_log.specs.Prelude.{active_unit}
+use Rattle.store_image.specs.Prelude.{IsDataUnit}
 use Rattle.store_steps.specs.Contexts.{Unsent, unsent_units, run_bytes}
 
 -- the end of a submission, a flush, a write of fresh units, a write in the active half of the log, each by its ticket

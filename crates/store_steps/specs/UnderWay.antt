@@ -3,9 +3,8 @@ use Rattle.std.specs.Prelude.{ℕ, List, [], ◌++◌, take, Option}
 use Rattle.std.specs.List.{flat_map}
 use Rattle.std.specs.Option.{option_map, option_map_or}
 use Rattle.meta_rows.specs.declared.row_op.RowOp.{RowOp}
-use Rattle.meta_log.specs.Records.{unit_count}
-use Rattle.meta_log.specs.Pieces.{given_from}
-use Rattle.log_facts.specs.Flushing.{FlushState, not_sent, sent, flushed}
+use Rattle.meta_log.specs.Prelude.{unit_count, given_from}
+use Rattle.log_facts.specs.Prelude.{FlushState, not_sent, sent, flushed}
 use Rattle.plan_rows.specs.declared.plan.FreshUnit.{FreshUnit}
 use Rattle.meta_store.specs.Store.{Begun}
 use Rattle.store_steps.specs.declared.context.Context.{Context}

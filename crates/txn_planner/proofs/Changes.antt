@@ -6,17 +6,16 @@ use Rattle.std.specs.Ordering.{is_eq}
 use Rattle.std.specs.Cmp.{tied_itself}
 use Rattle.std.specs.Cmp.Lexicographic.{nat_list_cmp_total}
 use Rattle.unit_fields.specs.declared.width.Width.{Width}
-use Rattle.object_model.specs.Effect.{is_same}
+use Rattle.object_model.specs.Prelude.{is_same}
 use Rattle.std.specs.Int.{w64, to_le_bytes}
-use Rattle.meta_rows.specs.Rows.{Rows}
+use Rattle.meta_rows.specs.Prelude.{Rows}
 use Rattle.meta_rows.specs.declared.row_op.RowOp.{RowOp}
 use Rattle.std.proofs.lemmas.Bool.{cases_Bool}
-use Rattle.row_format.specs.Extents.{Extent, Place}
-use Rattle.row_format.specs.Row.{shard}
+use Rattle.row_format.specs.Prelude.{Extent, Place, shard}
 use Rattle.row_facts.specs.Operations.{set_row, set_onode}
-use Rattle.blob_map.specs.Normal.{single, follows, more, extents_from, extents_of}
-use Rattle.object_rows.specs.Operations.{drops, onode_ops, shard_ops}
-use Rattle.plan_rows.specs.Layouts.{IsSizeOf, missing, there}
+use Rattle.blob_map.specs.Prelude.{single, follows, more, extents_from, extents_of}
+use Rattle.object_rows.specs.Prelude.{drops, onode_ops, shard_ops}
+use Rattle.plan_rows.specs.Prelude.{IsSizeOf, missing, there}
 use Rattle.txn_planner.specs.declared.object_change.Part.TheVariants as part
 use Rattle.txn_planner.specs.Parts.{is_of}
 

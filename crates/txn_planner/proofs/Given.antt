@@ -1,20 +1,19 @@
 -- The plan that planning gives is the difference of the rows, where the free units are owned by nobody.
 use Rattle.std.proofs.Common.{ℕ, List, [], ◌∷◌, Result, Ok, Err, IfOk, refl, sym, ap, subst, arith}
 use Rattle.unit_fields.specs.declared.width.Width.{Width}
-use Rattle.meta_rows.specs.Rows.{Rows}
+use Rattle.meta_rows.specs.Prelude.{Rows}
 use Rattle.meta_log.specs.declared.slot.Super.{Super}
-use Rattle.meta_log.specs.Slots.{width_of}
+use Rattle.meta_log.specs.Prelude.{width_of}
 use Rattle.object_model.specs.declared.op.Op.TheVariants.{Touch, Write}
 use Rattle.object_model.specs.declared.command.Command.TheVariants as ask
-use Rattle.read_facts.specs.Refusals.{IsNotRefused}
+use Rattle.read_facts.specs.Prelude.{IsNotRefused}
 use Rattle.row_facts.specs.Operations.{coll_change}
 use Rattle.plan_rows.specs.declared.plan.Plan.{Plan}
-use Rattle.plan_rows.specs.Layouts.{MakesColl, MakesLayout}
-use Rattle.object_rows.specs.Writes.{touch_change}
+use Rattle.plan_rows.specs.Prelude.{MakesColl, MakesLayout, AreFreeOver, PlansObject, IsKnown}
+use Rattle.object_rows.specs.Prelude.{touch_change}
 use Rattle.object_rows.proofs.LayoutOf.{ObjectInRows, object_in_rows}
 use Rattle.object_rows.proofs.PlanOps.{layout_written, layout_touched, coll_put}
-use Rattle.unit_allocator.specs.Units.{Space}
-use Rattle.plan_rows.specs.Plans.{AreFreeOver, PlansObject, IsKnown}
+use Rattle.unit_allocator.specs.Prelude.{Space}
 use Rattle.object_rows.proofs.FreeOver.{can_plan}
 use Rattle.txn_planner.specs.Given.{GivesColl, GivesTouch, GivesPages}
 use Rattle.txn_planner.specs.Ops.{op_change}

@@ -2,13 +2,11 @@
 use Rattle.std.proofs.Common.{◌≡◌, ℕ, ◌+◌, ◌*◌, List, ◌++◌, length, max, ap, ◌∙◌}
 use Rattle.std.specs.FinMap as finite
 use Rattle.unit_fields.specs.declared.width.Width.{Width}
-use Rattle.meta_rows.specs.Rows.{Rows}
+use Rattle.meta_rows.specs.Prelude.{Rows}
 use Rattle.meta_rows.specs.declared.row_op.RowOp.{RowOp}
-use Rattle.blob_map.specs.Pages.{PageMap, with_pages}
-use Rattle.blob_map.specs.Normal.{extents_of}
-use Rattle.object_rows.specs.Operations.{object_ops}
-use Rattle.plan_rows.specs.Layouts.{new_pages, TurnsBits}
-use Rattle.object_rows.specs.Plans.{units_between, WritesPages}
+use Rattle.blob_map.specs.Prelude.{PageMap, with_pages, extents_of}
+use Rattle.object_rows.specs.Prelude.{object_ops, units_between, WritesPages}
+use Rattle.plan_rows.specs.Prelude.{new_pages, TurnsBits}
 use Rattle.onode_state.specs.Objects.{IsStateOf}
 
 pub writes_pages : (w : Width) (rows : Rows) (c o : List ℕ) (first : ℕ) (bytes units firsts : List ℕ) (size most : ℕ) (pages after : PageMap)

@@ -2,17 +2,17 @@
 use Rattle.std.specs.Prelude.{◌≡◌, ℕ, ◌<◌, ◌≤◌, ◌^◌, ◌/◌, List, [], length, take, None}
 use Rattle.std.specs.FinMap as finite
 use Rattle.byte_maps.specs.Units.{unit_at}
-use Rattle.crc32c_csum.specs.Crc32c.{crc32c}
+use Rattle.crc32c_csum.specs.Prelude.{crc32c}
 use Rattle.object_model.specs.declared.op.Op.TheVariants.{Write}
-use Rattle.meta_rows.specs.Rows.{Rows}
-use Rattle.unit_fields.specs.Names.{IsCollName}
+use Rattle.meta_rows.specs.Prelude.{Rows}
+use Rattle.unit_fields.specs.Prelude.{IsCollName}
 use Rattle.unit_fields.specs.declared.width.Width.{Width}
-use Rattle.row_format.specs.Keys.{coll_key}
+use Rattle.row_format.specs.Prelude.{coll_key}
 use Rattle.row_facts.specs.Operations.{coll_ops}
 use Rattle.plan_rows.specs.declared.plan.Plan.{Plan}
-use Rattle.object_rows.specs.Plans.{WritesPages, touch_ops}
-use Rattle.plan_rows.specs.Plans.{pages_on, IsInColl, IsTaken}
-use Rattle.unit_allocator.specs.Units.{Space, free_units}
+use Rattle.object_rows.specs.Prelude.{WritesPages, touch_ops}
+use Rattle.plan_rows.specs.Prelude.{pages_on, IsInColl, IsTaken}
+use Rattle.unit_allocator.specs.Prelude.{Space, free_units}
 
 -- the operation that makes a missing collection
 pub record GivesColl (c : List ℕ) (rows : Rows) (plan : Plan) : Type 0 where

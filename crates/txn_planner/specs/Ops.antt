@@ -2,13 +2,13 @@
 use Rattle.std.specs.Prelude.{◌≡◌, ℕ, ◌<◌, ◌^◌, List, [], ◌∷◌, length}
 use Rattle.byte_maps.specs.Units.{unit_at}
 use Rattle.unit_fields.specs.declared.width.Width.{Width}
-use Rattle.crc32c_csum.specs.Crc32c.{crc32c}
+use Rattle.crc32c_csum.specs.Prelude.{crc32c}
 use Rattle.object_model.specs.declared.op.Op.{Op}
-use Rattle.object_model.specs.Effect.{Change}
-use Rattle.meta_rows.specs.Rows.{Rows}
+use Rattle.object_model.specs.Prelude.{Change}
+use Rattle.meta_rows.specs.Prelude.{Rows}
 use Rattle.plan_rows.specs.declared.plan.Plan.{Plan}
-use Rattle.object_rows.specs.Plans.{WritesPages}
-use Rattle.plan_rows.specs.Plans.{pages_on}
+use Rattle.object_rows.specs.Prelude.{WritesPages}
+use Rattle.plan_rows.specs.Prelude.{pages_on}
 use Rattle.unit_allocator.specs.declared.allocator.TakeFail.{TakeFail}
 use Rattle.unit_allocator.specs.declared.allocator.TakeFail.TheVariants as take
 use Rattle.txn_planner.specs.declared.planning.PlanFail.{PlanFail}

@@ -1,16 +1,16 @@
 -- What planning answers: a plan of a transaction that the rows take, or why there is none.
 use Rattle.std.specs.Prelude.{◌≡◌, ◌<◌}
 use Rattle.unit_fields.specs.declared.width.Width.{Width}
-use Rattle.object_model.specs.Effect.{Change}
+use Rattle.object_model.specs.Prelude.{Change}
 use Rattle.object_model.specs.declared.command.Command.TheVariants as ask
-use Rattle.meta_rows.specs.Rows.{Rows}
+use Rattle.meta_rows.specs.Prelude.{Rows}
 use Rattle.meta_log.specs.declared.slot.Super.{Super}
-use Rattle.meta_log.specs.Slots.{width_of}
-use Rattle.read_facts.specs.Refusals.{IsRefusedBy, IsNotRefused}
+use Rattle.meta_log.specs.Prelude.{width_of}
+use Rattle.read_facts.specs.Prelude.{IsRefusedBy, IsNotRefused}
 use Rattle.plan_rows.specs.declared.plan.Plan.{Plan}
-use Rattle.unit_allocator.specs.Units.{Space}
-use Rattle.plan_rows.specs.Plans.{AreFreeOver, Plans, units_taken}
-use Rattle.store_steps.specs.Submit.{free_count}
+use Rattle.unit_allocator.specs.Prelude.{Space}
+use Rattle.plan_rows.specs.Prelude.{AreFreeOver, Plans, units_taken}
+use Rattle.store_steps.specs.Prelude.{free_count}
 use Rattle.txn_planner.specs.declared.planning.PlanFail.{PlanFail}
 use Rattle.txn_planner.specs.declared.planning.PlanFail.TheVariants as fail
 

@@ -3,13 +3,12 @@ ghost use Rattle.std.specs.Prelude.{◌≡◌, ◌++◌, false, filter, IfOk, On
 ghost use Rattle.std.specs.Option.{option_map_or};
 ghost use Rattle.std.specs.FinMap as finite;
 ghost use Rattle.meta_rows.specs.declared.row_op.RowOp.TheVariants.{Drop};
-ghost use Rattle.object_model.specs.Effect.{is_same};
-ghost use Rattle.row_format.specs.Keys.{shard_key};
-ghost use Rattle.row_format.specs.Row.{shard};
+ghost use Rattle.object_model.specs.Prelude.{is_same};
+ghost use Rattle.row_format.specs.Prelude.{shard_key, shard};
 ghost use Rattle.row_facts.specs.Operations.{set_row};
-ghost use Rattle.blob_map.specs.Normal.{extents_of};
-ghost use Rattle.object_rows.specs.Operations.{drops, onode_ops, shard_ops};
-ghost use Rattle.plan_rows.specs.Layouts.{IsSizeOf};
+ghost use Rattle.blob_map.specs.Prelude.{extents_of};
+ghost use Rattle.object_rows.specs.Prelude.{drops, onode_ops, shard_ops};
+ghost use Rattle.plan_rows.specs.Prelude.{IsSizeOf};
 ghost use Rattle.txn_planner.specs.Parts.{is_of};
 
 use blob_map::PageMap;

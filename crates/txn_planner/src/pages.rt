@@ -4,11 +4,10 @@ ghost use Rattle.std.specs.Ordering.{nat_cmp};
 ghost use Rattle.std.specs.List.{flat_map};
 ghost use Rattle.std.specs.FinMap.Entries.{where_key};
 ghost use Rattle.byte_maps.specs.Units.{unit_at};
-ghost use Rattle.crc32c_csum.specs.Crc32c.{crc32c};
+ghost use Rattle.crc32c_csum.specs.Prelude.{crc32c};
 ghost use Rattle.number_map.specs.NumberMap.{is_in};
-ghost use Rattle.blob_map.specs.Pages.{with_pages};
-ghost use Rattle.plan_rows.specs.Layouts.{new_pages, own_units};
-ghost use Rattle.plan_rows.specs.Plans.{pages_on};
+ghost use Rattle.blob_map.specs.Prelude.{with_pages};
+ghost use Rattle.plan_rows.specs.Prelude.{new_pages, own_units, pages_on};
 
 use blob_map::{PageMap, Place};
 use byte_maps::Items;

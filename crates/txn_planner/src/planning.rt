@@ -1,16 +1,14 @@
 //! What a transaction is turned into before it is accepted: its plan, or why there is none.
 ghost use Rattle.std.specs.Prelude.{◌≡◌, ◌+◌, ◌*◌, ◌≤◌, false, [], ◌∷◌, length, IfOk, IfErr};
 ghost use Rattle.std.specs.FinMap as finite;
-ghost use Rattle.object_model.specs.Effect.{object_limit};
-ghost use Rattle.object_model.specs.Limits.{is_too_large};
+ghost use Rattle.object_model.specs.Prelude.{object_limit, is_too_large};
 ghost use Rattle.object_model.specs.declared.op.Op.TheVariants.{Write};
 ghost use Rattle.object_model.specs.declared.command.Command.TheVariants as ask;
-ghost use Rattle.read_facts.specs.Refusals.{IsNotRefused};
-ghost use Rattle.row_format.specs.Keys.{coll_key, onode_key};
+ghost use Rattle.read_facts.specs.Prelude.{IsNotRefused};
+ghost use Rattle.row_format.specs.Prelude.{coll_key, onode_key};
 ghost use Rattle.row_facts.specs.Operations.{coll_ops, coll_change};
-ghost use Rattle.object_rows.specs.Plans.{touch_ops};
-ghost use Rattle.object_rows.specs.Writes.{touch_change};
-ghost use Rattle.plan_rows.specs.Plans.{IsKnown};
+ghost use Rattle.object_rows.specs.Prelude.{touch_ops, touch_change};
+ghost use Rattle.plan_rows.specs.Prelude.{IsKnown};
 ghost use Rattle.onode_state.specs.Objects.{AreRowsOfWidth};
 ghost use Rattle.txn_planner.specs.Given.{GivesColl, GivesTouch, GivesPages};
 ghost use Rattle.txn_planner.specs.PlanFails.{IsPlanFor, IsPlanFail};

@@ -2,7 +2,7 @@
 //!
 //! In Ceph's BlueStore `_txc_finalize_kv` calls `allocate` and `release` of the freelist for the units of a transaction.
 ghost use Rattle.std.specs.Prelude.{IfOk, OnOk};
-ghost use Rattle.plan_rows.specs.Layouts.{TurnsBits};
+ghost use Rattle.plan_rows.specs.Prelude.{TurnsBits};
 ghost use Rattle.txn_planner.specs.Turns.{AddsUnits};
 
 use bitmap_freelist::flip_ops;

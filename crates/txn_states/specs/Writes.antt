@@ -1,7 +1,7 @@
 -- The data write that comes next, as the code makes it.
 use Rattle.std.specs.Prelude.{◌≡◌, ℕ, List, Option, Some, take, length, MatchOption}
 use Rattle.plan_rows.specs.declared.plan.FreshUnit.{FreshUnit}
-use Rattle.store_steps.specs.Contexts.{Unsent, unsent_units, run_of, run_bytes}
+use Rattle.store_steps.specs.Prelude.{Unsent, unsent_units, run_of, run_bytes}
 use Rattle.txn_states.specs.declared.next_write.NextWrite.{NextWrite}
 
 -- the first so many of these units are those of the next write

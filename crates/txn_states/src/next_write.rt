@@ -1,6 +1,6 @@
 //! The data write that a context submits next.
 ghost use Rattle.std.specs.Prelude.{◌≡◌, ◌≤◌, true, is_some, length, IfOk};
-ghost use Rattle.store_steps.specs.Contexts.{run_bytes, unsent};
+ghost use Rattle.store_steps.specs.Prelude.{run_bytes, unsent};
 ghost use Rattle.txn_states.specs.Writes.{IsRunOf, IsWrite};
 
 use std::alloc::{AllocError, Global};

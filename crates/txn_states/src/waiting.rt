@@ -1,6 +1,6 @@
 //! A transaction whose data writes are under way.
 ghost use Rattle.std.specs.Prelude.{◌≡◌, ◌+◌, ◌≤◌, true, is_some, length, IfOk};
-ghost use Rattle.store_steps.specs.Contexts.{unsent, is_done, given_more, done_more};
+ghost use Rattle.store_steps.specs.Prelude.{unsent, is_done, given_more, done_more};
 ghost use Rattle.txn_states.specs.States.{IsUnderWay};
 ghost use Rattle.txn_states.specs.Writes.{IsWrite};
 

@@ -3,9 +3,7 @@ use Rattle.std.proofs.Common.{◌≡◌, ◌≢◌, ℕ, zero, suc, ◌+◌, ◌
 use Rattle.std.specs.List.{filter, range_with_len}
 use Rattle.std.proofs.lemmas.List.{get_or-set_same, get_or-set_other}
 use Rattle.std.proofs.lemmas.Bool.{cases_eq}
-use Rattle.unit_allocator.specs.Words.{bit}
-use Rattle.unit_allocator.specs.Units.{idle_and_unheld}
-use Rattle.unit_allocator.specs.Sound.{IsSound}
+use Rattle.unit_allocator.specs.Prelude.{bit, idle_and_unheld, IsSound}
 
 pub same_filter : (p t : ℕ → Bool) (a n : ℕ) → ((q : ℕ) → a ≤ q → q < a + n → t q ≡ p q) → filter t (range_with_len a n) ≡ filter p (range_with_len a n)
 same_filter p t a zero is = refl

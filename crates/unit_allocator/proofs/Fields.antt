@@ -13,10 +13,7 @@ use Rattle.std.proofs.lemmas.Bool.Decides.{nat_tests}
 use Rattle.number_map.specs.NumberMap.{NumberMap}
 use Rattle.number_map.proofs.Laws.{get_same, get_other}
 use Rattle.number_map.proofs.Places.{same_number}
-use Rattle.unit_allocator.specs.Words.{bit}
-use Rattle.unit_allocator.specs.Units.{Space, IsWithin, idle_and_unheld, unheld, holds_of}
-use Rattle.unit_allocator.specs.Sound.{IsSound}
-use Rattle.unit_allocator.specs.Fields.{flags, hold_count, hold_counts, count_or_none, AreSound}
+use Rattle.unit_allocator.specs.Prelude.{bit, Space, IsWithin, idle_and_unheld, unheld, holds_of, IsSound, flags, hold_count, hold_counts, count_or_none, AreSound}
 use Rattle.unit_allocator.proofs.Steps.{take_step, give_step, hold_step, unhold_step, hold_same, unhold_held, give_held_step, hold_busy_step}
 use Rattle.unit_allocator.proofs.Counts.{all_pass}
 

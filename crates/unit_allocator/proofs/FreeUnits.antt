@@ -4,8 +4,8 @@ use Rattle.std.specs.Prelude.{◌↔◌}
 use Rattle.std.specs.List.{filter, range_with_len, Contains}
 use Rattle.std.proofs.lemmas.Bool.{cases_eq}
 use Rattle.std.proofs.lemmas.List.{length-set, length-map}
-use Rattle.unit_fields.specs.UnitSet.{Ascends}
-use Rattle.unit_allocator.specs.Units.{Space, free_units, is_free, is_idle, holds_of, IsWithin, idle_and_unheld, taken_one, given_one, held, unheld, IsLowestFree, OthersStay}
+use Rattle.unit_fields.specs.Prelude.{Ascends}
+use Rattle.unit_allocator.specs.Prelude.{Space, free_units, is_free, is_idle, holds_of, IsWithin, idle_and_unheld, taken_one, given_one, held, unheld, IsLowestFree, OthersStay}
 use Rattle.unit_allocator.proofs.Counts.{idle_here, idle_there, holds_here, holds_there, one_less}
 use Rattle.unit_allocator.proofs.Steps.{held_not_free}
 use Rattle.unit_allocator.proofs.Lists.{Contains-head, Contains-cases, Contains-map, Contains-from_map, passing_is_listed, listed_passes, passing_ascend, shifted_ascend, above_first}

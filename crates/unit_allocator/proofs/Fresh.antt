@@ -5,7 +5,7 @@ use Rattle.std.specs.FinSet as finite
 use Rattle.std.specs.Ordering.{nat_cmp}
 use Rattle.std.proofs.lemmas.Bool.{cases_eq}
 use Rattle.std.proofs.lemmas.List.{get_or-replicate, length-replicate}
-use Rattle.unit_allocator.specs.Units.{Space, is_free, holds_of, IsWithin, given_one, freed_from, no_idle_units}
+use Rattle.unit_allocator.specs.Prelude.{Space, is_free, holds_of, IsWithin, given_one, freed_from, no_idle_units}
 use Rattle.unit_allocator.proofs.FreeUnits.{given_is_free, range_stays}
 
 -- a unit after another one was looked at

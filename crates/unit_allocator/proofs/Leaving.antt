@@ -8,8 +8,7 @@ use Rattle.std.proofs.lemmas.Bool.{cases_eq, cases_lt}
 use Rattle.std.proofs.lemmas.Bool.Decides.{nat_tests}
 use Rattle.std.proofs.lemmas.List.{get_or-replicate, get_or_past, length-replicate, length-set, ext_get_or, get_or-set_same, get_or-set_other}
 use Rattle.std.proofs.lemmas.List.Folds.{list_any_more}
-use Rattle.unit_allocator.specs.Units.{Space, is_free, is_idle, holds_of, IsWithin, taken_one, given_one, freed_from, no_idle_units}
-use Rattle.unit_allocator.specs.Fields.{IsWithout}
+use Rattle.unit_allocator.specs.Prelude.{Space, is_free, is_idle, holds_of, IsWithin, taken_one, given_one, freed_from, no_idle_units, IsWithout}
 use Rattle.unit_allocator.proofs.Fresh.{step, new_is_free, new_is_unheld}
 
 -- a test and a test that holds

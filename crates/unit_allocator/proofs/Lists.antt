@@ -2,7 +2,7 @@
 use Rattle.std.proofs.Common.{◌≡◌, ℕ, zero, suc, ◌+◌, ◌<◌, ◌≤◌, Bool, true, false, cond, List, [], ◌∷◌, map, length, slice_index_or, refl, sym, ap, subst, ◌∙◌, arith, inl, inr, ◌⊎◌}
 use Rattle.std.specs.List.{filter, range_with_len, Contains, AllByRecursion}
 use Rattle.std.proofs.lemmas.Bool.{cases_eq}
-use Rattle.unit_fields.specs.UnitSet.{Ascends}
+use Rattle.unit_fields.specs.Prelude.{Ascends}
 
 pub Contains-head : (x : ℕ) (xs : List ℕ) → Contains (x ∷ xs) x
 Contains-head x xs = (0, omega arith, refl)

@@ -3,9 +3,7 @@ use Rattle.std.proofs.Common.{◌≡◌, ℕ, zero, suc, ◌+◌, ◌-◌, ◌<�
 use Rattle.std.specs.List.{filter, range_with_len}
 use Rattle.std.proofs.lemmas.Bool.{cases_lt}
 use Rattle.std.proofs.lemmas.List.{get_or_past, append_assoc}
-use Rattle.unit_allocator.specs.Words.{bit, IsFirstBitFrom, HasNoBitFrom}
-use Rattle.unit_allocator.specs.Units.{Space, free_units, idle_and_unheld}
-use Rattle.unit_allocator.specs.Sound.{IsSound}
+use Rattle.unit_allocator.specs.Prelude.{bit, IsFirstBitFrom, HasNoBitFrom, Space, free_units, idle_and_unheld, IsSound}
 use Rattle.unit_allocator.proofs.Counts.{none_pass}
 
 -- the free units at or behind a place

@@ -11,7 +11,7 @@ use Rattle.std.proofs.lemmas.Nat.{pow-add}
 use Rattle.std.proofs.Math.Pow.{pow-lt}
 use Rattle.std.proofs.lemmas.Nat.Bits.{bit_at-zero, bit_at_ones, bit_at_ones_above, bit_at_above, bit_at_set_same, bit_at_set_other, bit_at_clear_same, bit_at_clear_other, bit_at-trailing_zeros}
 use Rattle.std.specs.Prelude.{Option, Some, None, MatchOption}
-use Rattle.unit_allocator.specs.Words.{bit, HasNoBitBetween, HasNoBitFrom, IsFirstBitFrom}
+use Rattle.unit_allocator.specs.Prelude.{bit, HasNoBitBetween, HasNoBitFrom, IsFirstBitFrom}
 
 same_place : (q i : ℕ) → (q ≡ i) ⊎ (q ≢ i)
 same_place q i = cases_eq q i

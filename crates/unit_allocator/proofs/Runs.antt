@@ -5,7 +5,7 @@ use Rattle.std.proofs.lemmas.List.{append-nil, length-set, length_push, get_or-s
 use Rattle.std.specs.Prelude.{◌&&◌, ◌==◌}
 use Rattle.std.proofs.Common.{◌≢◌}
 use Rattle.unit_allocator.specs.declared.allocator.Run.{Run}
-use Rattle.unit_allocator.specs.Units.{Space, free_units, taken, taken_one, given, given_one, is_free, IsWithin, units_of, units_of_run}
+use Rattle.unit_allocator.specs.Prelude.{Space, free_units, taken, taken_one, given, given_one, is_free, IsWithin, units_of, units_of_run}
 
 pub units_push : (xs : List Run) (r : Run) → units_of (xs ++ r ∷ []) ≡ units_of xs ++ units_of_run r
 units_push [] r = append-nil _

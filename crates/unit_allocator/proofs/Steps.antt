@@ -6,9 +6,7 @@ use Rattle.std.specs.Int.{bit_at}
 use Rattle.std.proofs.lemmas.Nat.Bits.{bit_at-zero}
 use Rattle.std.proofs.lemmas.Bool.{cases_lt}
 use Rattle.std.proofs.lemmas.Bool.Decides.{nat_tests}
-use Rattle.unit_allocator.specs.Words.{bit}
-use Rattle.unit_allocator.specs.Units.{idle_and_unheld, Space, IsWithin, free_units, taken_one}
-use Rattle.unit_allocator.specs.Sound.{IsSound}
+use Rattle.unit_allocator.specs.Prelude.{bit, idle_and_unheld, Space, IsWithin, free_units, taken_one, IsSound}
 use Rattle.unit_allocator.proofs.Counts.{Lost, lost, Won, won, kept, idle_here, idle_there, holds_here, holds_there, first_passes, none_pass}
 
 -- a number above zero

@@ -4,7 +4,7 @@ use Rattle.std.specs.Int.{bit_at, trailing_zeros}
 use Rattle.std.proofs.lemmas.List.{get_or_past, length-replicate}
 use Rattle.std.proofs.lemmas.Bool.{cases_eq, cases_lt}
 use Rattle.std.proofs.lemmas.Nat.Bits.{bit_at-zero}
-use Rattle.unit_allocator.specs.Words.{bit, HasNoBitFrom, IsFirstBitFrom, IsSummary}
+use Rattle.unit_allocator.specs.Prelude.{bit, HasNoBitFrom, IsFirstBitFrom, IsSummary}
 use Rattle.unit_allocator.proofs.OneBit.{first_in}
 use Rattle.unit_allocator.proofs.Steps.{no_bit, not_zero}
 

@@ -3,3 +3,4 @@ pub mod Units
 pub mod Sound
 pub mod Fields
 pub mod Fails
+pub mod Prelude

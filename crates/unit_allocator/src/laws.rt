@@ -3,7 +3,7 @@ ghost use Rattle.std.specs.Prelude.{◌≡◌, ◌≢◌, ◌↔◌, ◌⊎◌, 
 ghost use Rattle.std.specs.List.{range_with_len};
 ghost use Rattle.std.specs.FinSet as set;
 ghost use Rattle.std.specs.Ordering.{nat_cmp};
-ghost use Rattle.unit_fields.specs.UnitSet.{Ascends};
+ghost use Rattle.unit_fields.specs.Prelude.{Ascends};
 ghost use Rattle.unit_allocator.specs.Units.{Space, free_units, is_free, is_idle, holds_of, IsWithin, taken_one, given_one, taken, held, unheld};
 ghost use Rattle.unit_allocator.specs.Units.{no_idle_units, freed_from, IsLowestFree, OthersStay};
 

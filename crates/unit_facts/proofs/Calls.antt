@@ -5,33 +5,20 @@ use Rattle.std.proofs.lemmas.Option.{same_Some}
 use Rattle.std.specs.List.{AllByRecursion}
 use Rattle.std.specs.Option.{option_map_or}
 use Rattle.byte_maps.specs.Units.{IsUnits}
-use Rattle.block_device.specs.Log.{last, IsClean}
-use Rattle.block_device.specs.Disk.{Disk, History, Flight}
-use Rattle.log_facts.specs.Flushing.{not_sent}
-use Rattle.store_image.specs.Owners.{IsDataUnit}
+use Rattle.block_device.specs.Prelude.{last, IsClean, Disk, History, Flight}
+use Rattle.log_facts.specs.Prelude.{not_sent, SlotsStand, ActiveHalfStands}
+use Rattle.store_image.specs.Prelude.{IsDataUnit}
 use Rattle.store_steps.specs.declared.context.Context.{Context}
 use Rattle.plan_rows.specs.declared.plan.FreshUnit.{FreshUnit}
-use Rattle.store_steps.specs.State.{Batch, State}
-use Rattle.store_facts.specs.Kept.{IsKept}
-use Rattle.store_steps.specs.UnderWay.{uncommitted, all_fresh, flush_of}
-use Rattle.store_steps.specs.Opened.{Found, opened}
-use Rattle.store_steps.specs.Runs.{Call, Calls}
-use Rattle.unit_allocator.specs.Units.{Space}
+use Rattle.store_steps.specs.Prelude.{Batch, State, uncommitted, all_fresh, flush_of, Found, opened, Call, Calls, data_part, half_part, Touch, after, Footprint}
+use Rattle.store_facts.specs.Prelude.{IsKept}
+use Rattle.unit_allocator.specs.Prelude.{Space}
 use Rattle.meta_rows.specs.declared.row_op.RowOp.{RowOp}
-use Rattle.log_facts.specs.SlotFacts.{SlotsStand}
-use Rattle.log_facts.specs.HalfFacts.{ActiveHalfStands}
-use Rattle.store_facts.proofs.Lists.{all_join, all_left, all_right}
-use Rattle.store_facts.proofs.Apart.{given_taken, taken_fresh}
-use Rattle.store_facts.proofs.RowsFacts.{taken_data}
-use Rattle.store_facts.proofs.Downs.{was_up}
-use Rattle.store_facts.proofs.Footprints.{footprint_of}
+use Rattle.store_facts.proofs.Prelude.{all_join, all_left, all_right, given_taken, taken_fresh, taken_data, was_up, footprint_of}
 use Rattle.unit_facts.specs.DataUnits.{UnitsAreFlushed, BatchUnitsAreFlushed}
 use Rattle.unit_facts.specs.Known.{IsAnsweredSince, KnownOfUnits, Knows}
 use Rattle.unit_facts.proofs.Events.{IsTold, told_of}
 use Rattle.unit_facts.proofs.Units.{AreOnData}
-use Rattle.store_steps.specs.Parts.{data_part, half_part}
-use Rattle.store_steps.specs.Touch.{Touch, after}
-use Rattle.store_steps.specs.Footprint.{Footprint}
 use Rattle.unit_facts.proofs.DataKnown.{AreKnown, AreOnDevice, units_known}
 use Rattle.unit_facts.proofs.HalfKnown.{HalfStands, half_known}
 

@@ -1,28 +1,24 @@
 -- What is known of the data units is kept, whatever a call makes of them.
 use Rattle.std.proofs.Common.{◌≡◌, ◌≢◌, inl, inr, ℕ, true, List, [], ◌∷◌, ◌++◌, length, sym, subst, arith}
 use Rattle.std.specs.List.{AllByRecursion}
-use Rattle.block_device.specs.Log.{last, WritesUnit, WritesNothing}
-use Rattle.block_device.specs.Disk.{History, Flight}
-use Rattle.block_device.specs.Facts.{with_event, last_at, EventFits, IsUntouched, EachWriteIsAnswered, QuietAt}
+use Rattle.block_device.specs.Prelude.{last, WritesUnit, WritesNothing, History, Flight, with_event, last_at, EventFits, IsUntouched, EachWriteIsAnswered, QuietAt}
 use Rattle.block_device.specs.declared.event.Event.{Event}
 use Rattle.block_device.specs.declared.event.Event.TheVariants.{Write, Flush, Done}
 use Rattle.block_device.proofs.LogLemmas.{clean_push}
 use Rattle.byte_maps.specs.Units.{IsUnits}
 use Rattle.meta_log.specs.declared.slot.Super.{Super}
-use Rattle.meta_log.specs.Slots.{IsSuper}
-use Rattle.store_image.specs.Owners.{IsDataUnit}
-use Rattle.log_facts.specs.Flushing.{sent, flushed}
+use Rattle.meta_log.specs.Prelude.{IsSuper}
+use Rattle.store_image.specs.Prelude.{IsDataUnit}
+use Rattle.log_facts.specs.Prelude.{sent, flushed}
 use Rattle.log_facts.proofs.Keeping.{half_before_data, flush_sent}
 use Rattle.plan_rows.specs.declared.plan.FreshUnit.{FreshUnit}
-use Rattle.store_steps.specs.Contexts.{Unsent, unsent_units}
-use Rattle.store_facts.proofs.Lists.{all_join, all_left, all_right}
+use Rattle.store_steps.specs.Prelude.{Unsent, unsent_units, DataPart, Touch, nothing, ends, flushes, on_data, on_half, after, run_write, IsPlaced, IsNoData, DataGoes, Gives, gives, opens, flushes_batch, retires}
+use Rattle.store_facts.proofs.Prelude.{all_join, all_left, all_right}
 use Rattle.unit_facts.specs.DataUnits.{IsElsewhere, OtherUnitsAreClean, HeldBytesAreLast, UnitsAreFlushed}
 use Rattle.unit_facts.proofs.RunWrites.{row_spares, run_held}
 use Rattle.unit_facts.proofs.Units.{AreOnData, spares_data, none_written, fits_quiet, clean_on, held_on, flushed_on, none_flushed, units_cleaned, data_elsewhere, half_spares_others, other_or_clean}
-use Rattle.store_steps.specs.Parts.{DataPart}
-use Rattle.store_steps.specs.Touch.{Touch, nothing, ends, flushes, on_data, on_half, after, run_write, IsPlaced, IsNoData}
 use Rattle.unit_facts.proofs.Events.{HasNextTicket}
-use Rattle.store_steps.specs.DataGoes.{DataGoes, Gives, same, gives, opens, flushes_batch, is_flushed, retires}
+use Rattle.store_steps.specs.DataGoes.{same, is_flushed}
 
 -- what is known of the data units of contexts
 pub record AreKnown (h : History) (p : DataPart) : Type 0 where

@@ -2,12 +2,11 @@
 use Rattle.std.proofs.Common.{◌≡◌, ℕ, ◌+◌, ◌≤◌, true, [], ◌∷◌, ◌++◌, length, Option, Some, None, sym, ap, subst, ◌∙◌, arith}
 use Rattle.std.specs.Prelude.{IfSome}
 use Rattle.std.proofs.lemmas.List.{length-append}
-use Rattle.block_device.specs.Disk.{Disk, History, history_after, flight_of, find_flight, without, Submitted, Reaped}
-use Rattle.block_device.specs.Facts.{with_event, EachWriteIsAnswered}
+use Rattle.block_device.specs.Prelude.{Disk, History, history_after, flight_of, find_flight, without, Submitted, Reaped, with_event, EachWriteIsAnswered}
 use Rattle.block_device.specs.declared.event.Event.{Event}
 use Rattle.block_device.specs.declared.event.Event.TheVariants.{Write, Flush, Done}
 use Rattle.block_device.proofs.QuietLemmas.{quiet_push, answered_submit, answered_done}
-use Rattle.store_steps.specs.Touch.{Touch, nothing, ends, flushes, on_data, on_half, Adds, after, events_of, run_write}
+use Rattle.store_steps.specs.Prelude.{Touch, nothing, ends, flushes, on_data, on_half, Adds, after, events_of, run_write}
 use Rattle.unit_facts.specs.Known.{IsAnsweredSince}
 
 -- a flush has the next ticket

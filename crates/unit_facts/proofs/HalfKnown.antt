@@ -1,24 +1,17 @@
 -- What is known of the slots and of the active half is kept, whatever a call makes of them.
 use Rattle.std.proofs.Common.{◌≡◌, ℕ, true, List, [], ◌∷◌, ◌++◌, length, Option, Some, None, refl, sym, subst, arith}
 use Rattle.byte_maps.specs.Units.{IsUnits}
-use Rattle.block_device.specs.Log.{last, WritesNothing}
-use Rattle.block_device.specs.Disk.{History, Flight}
-use Rattle.block_device.specs.Facts.{with_event, EventFits, EachWriteIsAnswered, QuietAt}
+use Rattle.block_device.specs.Prelude.{last, WritesNothing, History, Flight, with_event, EventFits, EachWriteIsAnswered, QuietAt}
 use Rattle.block_device.specs.declared.event.Event.{Event}
 use Rattle.block_device.specs.declared.event.Event.TheVariants.{Write, Flush, Done}
 use Rattle.meta_rows.specs.declared.row_op.RowOp.{RowOp}
-use Rattle.meta_log.specs.Slots.{IsSuper}
-use Rattle.log_facts.specs.Flushing.{FlushState, not_sent, sent, flushed, WritesNoneOf}
-use Rattle.log_facts.specs.SlotFacts.{SlotsStand}
-use Rattle.log_facts.specs.HalfFacts.{ActiveHalfStands}
-use Rattle.meta_log.specs.Slots.{active_unit}
+use Rattle.meta_log.specs.Prelude.{IsSuper, active_unit}
+use Rattle.log_facts.specs.Prelude.{FlushState, not_sent, sent, flushed, WritesNoneOf, SlotsStand, ActiveHalfStands}
 use Rattle.log_facts.proofs.Keeping.{data_spares_slots, data_spares_half, half_spares_slots, half_before_data, slots_push, half_push, slots_quiet, half_quiet}
 use Rattle.log_facts.proofs.Writing.{half_begin, half_piece, half_sync, half_synced, half_commit}
-use Rattle.store_steps.specs.Contexts.{unsent_units, run_bytes}
-use Rattle.store_steps.specs.Parts.{HalfPart}
-use Rattle.store_steps.specs.Touch.{Touch, nothing, ends, flushes, on_data, on_half, after, run_write, IsPlaced, IsNoPiece}
+use Rattle.store_steps.specs.Prelude.{unsent_units, run_bytes, HalfPart, Touch, nothing, ends, flushes, on_data, on_half, after, run_write, IsPlaced, IsNoPiece, HalfGoes, begins, gives_piece, syncs, is_synced, moves_on}
 use Rattle.unit_facts.proofs.Events.{HasNextTicket}
-use Rattle.store_steps.specs.HalfGoes.{HalfGoes, same, begins, gives_piece, syncs, is_synced, moves_on}
+use Rattle.store_steps.specs.HalfGoes.{same}
 
 -- the slots, and the active half with some records
 pub record HalfStands (h : History) (p : HalfPart) : Type 0 where

@@ -2,17 +2,13 @@
 use Rattle.std.proofs.Common.{◌≡◌, ◌≢◌, ℕ, suc, ◌+◌, ◌*◌, ◌<◌, ◌≤◌, List, [], ◌∷◌, length, refl, ap, ◌∙◌, arith}
 use Rattle.std.specs.List.{AllByRecursion}
 use Rattle.byte_maps.specs.Units.{unit_at}
-use Rattle.byte_maps.proofs.UnitLemmas.{unit_at-whole, unit_at-append_front, unit_at-append_back}
-use Rattle.block_device.specs.Log.{last, WritesUnit}
-use Rattle.block_device.specs.Disk.{History}
-use Rattle.block_device.specs.Facts.{with_event, last_at}
+use Rattle.byte_maps.proofs.Prelude.{unit_at-whole, unit_at-append_front, unit_at-append_back}
+use Rattle.block_device.specs.Prelude.{last, WritesUnit, History, with_event, last_at}
 use Rattle.block_device.specs.declared.event.Event.TheVariants.{Write}
 use Rattle.block_device.proofs.QuietLemmas.{written_unit}
 use Rattle.plan_rows.specs.declared.plan.FreshUnit.{FreshUnit}
-use Rattle.store_steps.specs.Contexts.{run_bytes}
-use Rattle.store_steps.specs.DataGoes.{IsInRow}
-use Rattle.store_facts.proofs.RunPlaces.{AreWholeUnits}
-use Rattle.store_facts.proofs.RunUnits.{row_bytes, row_at}
+use Rattle.store_steps.specs.Prelude.{run_bytes, IsInRow}
+use Rattle.store_facts.proofs.Prelude.{AreWholeUnits, row_bytes, row_at}
 use Rattle.unit_facts.specs.DataUnits.{HeldBytesAreLast}
 
 -- ---- which units it touches

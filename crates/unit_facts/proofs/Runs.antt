@@ -1,28 +1,20 @@
 -- Runs of calls from a store that was just opened, and what is known when they are over.
 use Rattle.std.proofs.Common.{◌≡◌, inl, inr, ℕ, ◌+◌, ◌-◌, ◌<◌, List, [], ◌∷◌, true, Option, None, sym, ap, subst, ◌∙◌, arith}
 use Rattle.std.proofs.lemmas.Bool.{cases_lt}
-use Rattle.block_device.specs.Log.{IsClean}
-use Rattle.block_device.specs.Disk.{Disk, History}
+use Rattle.block_device.specs.Prelude.{IsClean, Disk, History}
 use Rattle.meta_rows.specs.declared.row_op.RowOp.{RowOp}
-use Rattle.meta_rows.specs.Rows.{Rows}
+use Rattle.meta_rows.specs.Prelude.{Rows}
 use Rattle.meta_log.specs.declared.slot.Super.{Super}
-use Rattle.meta_log.specs.Slots.{active_unit}
-use Rattle.plan_rows.specs.Keeps.{PlansKeep}
+use Rattle.meta_log.specs.Prelude.{active_unit}
+use Rattle.plan_rows.specs.Prelude.{PlansKeep}
 use Rattle.store_steps.specs.declared.context.Context.{Context}
 use Rattle.meta_store.specs.Store.{Begun}
-use Rattle.store_steps.specs.State.{State}
-use Rattle.store_steps.specs.Ready.{is_drained}
-use Rattle.store_steps.specs.Runs.{Call, IsRun}
-use Rattle.store_steps.specs.UnderWay.{uncommitted, given_fresh, begun_ops, submitted_from, second_flush}
-use Rattle.store_facts.specs.Kept.{IsKept}
-use Rattle.store_facts.proofs.KeptCalls.{kept_call}
-use Rattle.store_facts.proofs.Known.{known_idle}
-use Rattle.store_facts.proofs.Readiness.{IsIdle, idle_uncommitted}
-use Rattle.log_facts.specs.Flushing.{FlushState}
-use Rattle.log_facts.specs.HalfFacts.{ActiveHalfStands}
+use Rattle.store_steps.specs.Prelude.{State, is_drained, Call, IsRun, uncommitted, given_fresh, begun_ops, submitted_from, second_flush}
+use Rattle.store_facts.specs.Prelude.{IsKept}
+use Rattle.store_facts.proofs.Prelude.{kept_call, known_idle, IsIdle, idle_uncommitted, was_up}
+use Rattle.log_facts.specs.Prelude.{FlushState, ActiveHalfStands}
 use Rattle.unit_facts.specs.DataUnits.{IsElsewhere, OtherUnitsAreClean}
 use Rattle.unit_facts.specs.Known.{KnownOfUnits, Knows}
-use Rattle.store_facts.proofs.Downs.{was_up}
 use Rattle.unit_facts.proofs.Calls.{call_knows}
 
 -- ---- a run that leaves the kernel up found it up

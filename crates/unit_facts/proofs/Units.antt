@@ -4,19 +4,17 @@ use Rattle.std.proofs.Common.{subst}
 use Rattle.std.proofs.Common.{◌∙◌, arith}
 use Rattle.std.specs.List.{AllByRecursion}
 use Rattle.std.proofs.lemmas.Bool.{cases_eq}
-use Rattle.block_device.specs.Log.{last, WritesUnit, WritesNothing, IsClean}
-use Rattle.block_device.specs.Disk.{History}
-use Rattle.block_device.specs.Facts.{with_event, EventFits}
+use Rattle.block_device.specs.Prelude.{last, WritesUnit, WritesNothing, IsClean, History, with_event, EventFits}
 use Rattle.block_device.specs.declared.event.Event.{Event}
 use Rattle.block_device.specs.declared.event.Event.TheVariants.{Write, Flush, Done}
 use Rattle.block_device.proofs.LogLemmas.{clean_push}
 use Rattle.meta_log.specs.declared.slot.Super.{Super}
-use Rattle.meta_log.specs.Slots.{active_unit}
-use Rattle.store_image.specs.Owners.{IsDataUnit}
-use Rattle.log_facts.specs.Flushing.{FlushState, not_sent, sent, flushed}
+use Rattle.meta_log.specs.Prelude.{active_unit}
+use Rattle.store_image.specs.Prelude.{IsDataUnit}
+use Rattle.log_facts.specs.Prelude.{FlushState, not_sent, sent, flushed}
 use Rattle.log_facts.proofs.Keeping.{last_push, flushed_push, flush_ended, nothing_written, half_before_data}
 use Rattle.plan_rows.specs.declared.plan.FreshUnit.{FreshUnit}
-use Rattle.store_steps.specs.DataGoes.{Spares}
+use Rattle.store_steps.specs.Prelude.{Spares}
 use Rattle.unit_facts.specs.DataUnits.{IsElsewhere, OtherUnitsAreClean, HeldBytesAreLast, UnitsAreFlushed}
 
 -- ---- the fresh units are data units

@@ -1,15 +1,12 @@
 -- What is known of the units outside the log, by those that the contexts under way have taken.
 use Rattle.std.specs.Prelude.{◌≡◌, ◌≢◌, ◌⊎◌, ℕ, ◌+◌, ◌<◌, ◌≤◌, List, Option, Some, None}
 use Rattle.std.specs.List.{AllByRecursion}
-use Rattle.block_device.specs.Log.{IsClean}
-use Rattle.block_device.specs.Disk.{History}
-use Rattle.block_device.specs.Facts.{last_at}
+use Rattle.block_device.specs.Prelude.{IsClean, History, last_at}
 use Rattle.meta_log.specs.declared.slot.Super.{Super}
-use Rattle.meta_log.specs.Slots.{active_unit}
-use Rattle.log_facts.specs.Flushing.{FlushState, IsFlushed}
+use Rattle.meta_log.specs.Prelude.{active_unit}
+use Rattle.log_facts.specs.Prelude.{FlushState, IsFlushed}
 use Rattle.plan_rows.specs.declared.plan.FreshUnit.{FreshUnit}
-use Rattle.store_steps.specs.State.{Batch}
-use Rattle.store_steps.specs.UnderWay.{flush_of, all_fresh}
+use Rattle.store_steps.specs.Prelude.{Batch, flush_of, all_fresh}
 
 -- the unit is none of the active half of the log
 abbrev pub IsElsewhere : Super → ℕ → Type 0

@@ -1,14 +1,10 @@
 -- What is known of a device that tells its log, while the kernel isn't down.
 use Rattle.std.specs.Prelude.{◌≡◌, ℕ, ◌+◌, List, length, Some}
-use Rattle.block_device.specs.Disk.{Disk, History, Flight}
-use Rattle.block_device.specs.Facts.{EachWriteIsAnswered, QuietAt}
+use Rattle.block_device.specs.Prelude.{Disk, History, Flight, EachWriteIsAnswered, QuietAt}
 use Rattle.meta_rows.specs.declared.row_op.RowOp.{RowOp}
-use Rattle.log_facts.specs.Flushing.{FlushState}
-use Rattle.log_facts.specs.SlotFacts.{SlotsStand}
-use Rattle.log_facts.specs.HalfFacts.{ActiveHalfStands}
+use Rattle.log_facts.specs.Prelude.{FlushState, SlotsStand, ActiveHalfStands}
 use Rattle.meta_store.specs.Store.{Meta}
-use Rattle.store_steps.specs.State.{State}
-use Rattle.store_steps.specs.UnderWay.{uncommitted, given_fresh, second_flush, begun_ops, submitted_from}
+use Rattle.store_steps.specs.Prelude.{State, uncommitted, given_fresh, second_flush, begun_ops, submitted_from}
 use Rattle.unit_facts.specs.DataUnits.{OtherUnitsAreClean, HeldBytesAreLast, BatchUnitsAreFlushed}
 
 -- The device was quiet when it had `base` events, each submission since is in flight or has ended well, and all its events since are counted.

@@ -1,18 +1,12 @@
 //! What is known of a quiet device, how each call keeps it, and what follows once a kernel is drained.
 ghost use Rattle.std.specs.Prelude.{◌≡◌, ℕ, true, List, [], Some, None};
-ghost use Rattle.block_device.specs.Log.{IsClean};
-ghost use Rattle.block_device.specs.Disk.{Disk, History};
+ghost use Rattle.block_device.specs.Prelude.{IsClean, Disk, History};
 ghost use Rattle.meta_rows.specs.declared.row_op.RowOp.{RowOp};
-ghost use Rattle.log_facts.specs.Flushing.{not_sent};
-ghost use Rattle.log_facts.specs.SlotFacts.{SlotsStand};
-ghost use Rattle.log_facts.specs.HalfFacts.{ActiveHalfStands};
-ghost use Rattle.unit_allocator.specs.Units.{Space};
-ghost use Rattle.plan_rows.specs.Keeps.{PlansKeep};
-ghost use Rattle.store_steps.specs.State.{State};
-ghost use Rattle.store_steps.specs.Ready.{is_drained};
-ghost use Rattle.store_steps.specs.Opened.{Found, opened};
-ghost use Rattle.store_steps.specs.Runs.{Call, Calls, IsRun};
-ghost use Rattle.store_facts.specs.Kept.{IsKept};
+ghost use Rattle.log_facts.specs.Prelude.{not_sent, SlotsStand, ActiveHalfStands};
+ghost use Rattle.unit_allocator.specs.Prelude.{Space};
+ghost use Rattle.plan_rows.specs.Prelude.{PlansKeep};
+ghost use Rattle.store_steps.specs.Prelude.{State, is_drained, Found, opened, Call, Calls, IsRun};
+ghost use Rattle.store_facts.specs.Prelude.{IsKept};
 ghost use Rattle.unit_facts.specs.Known.{IsAnsweredSince, KnownOfUnits, Knows};
 
 /// A device without a dirty unit, where nothing is in flight and all events since a quiet moment are counted, is known from its slots and

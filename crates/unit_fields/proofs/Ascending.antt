@@ -8,7 +8,7 @@ use Rattle.std.specs.FinSet as set
 use Rattle.std.specs.FinSet.{from_list, contains, contains-from_list, contains-insert, contains-remove, same_set, nat_cmp-IsAntisymmetric, len-insert, len-empty}
 use Rattle.std.proofs.lemmas.Bool.Decides.{nat_tests}
 use Rattle.std.proofs.lemmas.List.Sorted.{searched}
-use Rattle.unit_fields.specs.UnitSet.{Ascends, IsPlaceOf, IsGapFor, IsAboveLast}
+use Rattle.unit_fields.specs.Prelude.{Ascends, IsPlaceOf, IsGapFor, IsAboveLast}
 use Rattle.unit_fields.proofs.Sets.{insert_same}
 
 -- ---- order

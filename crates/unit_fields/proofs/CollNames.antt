@@ -12,7 +12,7 @@ use Rattle.std.proofs.lemmas.Str.{IsAscii-append, IsUtf8-from_ascii}
 use Rattle.std.proofs.lemmas.Str.Parse.{without_leading_plus_none}
 use Rattle.std.proofs.lemmas.Str.Pattern.{IsSplitOnceResult, split_after}
 use denote.Ref.{Bor}
-use Rattle.unit_fields.specs.Names.{coll_name, head_suffix, IsCollName}
+use Rattle.unit_fields.specs.Prelude.{coll_name, head_suffix, IsCollName}
 
 below_ascii : (c : ℕ) → digit_value c < 36 → c < 128
 below_ascii c is = grind (arith, nat_tests)

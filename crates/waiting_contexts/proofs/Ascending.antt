@@ -3,7 +3,7 @@ use Rattle.std.proofs.Common.{◌≡◌, ℕ, ◌+◌, ◌<◌, not, Bool, cond,
 use Rattle.std.specs.Map.{values_of}
 use Rattle.std.proofs.lemmas.Bool.{ne_eqb}
 use Rattle.store_steps.specs.declared.context.Context.{Context}
-use Rattle.store_steps.specs.Contexts.{with_context, without_context}
+use Rattle.store_steps.specs.Prelude.{with_context, without_context}
 use Rattle.waiting_contexts.specs.Places.{AreByPlace}
 use Rattle.waiting_contexts.specs.Unsent.{PlacesAscend}
 

@@ -8,7 +8,7 @@ use Rattle.std.specs.declared.cmp.Ordering.TheVariants.{Greater}
 use Rattle.std.proofs.lemmas.Bool.Decides.{nat_tests}
 use Rattle.std.proofs.lemmas.Bool.{eqb-true, cases_Bool}
 use Rattle.store_steps.specs.declared.context.Context.{Context}
-use Rattle.store_steps.specs.Contexts.{with_context, without_context}
+use Rattle.store_steps.specs.Prelude.{with_context, without_context}
 use Rattle.waiting_contexts.proofs.Ascending.{places_ascend, none_below, none_goes}
 use Rattle.waiting_contexts.specs.Places.{AreByPlace, IsAboveAll, context_at}
 

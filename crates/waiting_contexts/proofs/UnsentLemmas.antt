@@ -5,7 +5,7 @@ use Rattle.std.specs.Prelude.{IfSome}
 use Rattle.std.proofs.lemmas.Bool.{eq-eqb, ne_eqb, eqb-true, cases_Bool, lt-ltb, le-ltb, false≢true}
 use Rattle.plan_rows.specs.declared.plan.FreshUnit.{FreshUnit}
 use Rattle.store_steps.specs.declared.context.Context.{Context}
-use Rattle.store_steps.specs.Contexts.{Unsent, unsent, unsent_units, run_from, run_of, next_unsent, with_context, without_context, given_more, done_more}
+use Rattle.store_steps.specs.Prelude.{Unsent, unsent, unsent_units, run_from, run_of, next_unsent, with_context, without_context, given_more, done_more}
 use Rattle.waiting_contexts.specs.Places.{context_at}
 use Rattle.waiting_contexts.proofs.Ascending.{none_below, none_goes}
 use Rattle.waiting_contexts.specs.Unsent.{unsent_places, has_unsent_at, PlacesAscend, IsOfNext}

@@ -2,7 +2,7 @@
 use Rattle.std.specs.Prelude.{◌≡◌, ℕ, ◌+◌, ◌≤◌, List, [], ◌∷◌, length, Bool, false, Option, Some, is_some, if◌then◌else◌}
 use Rattle.std.specs.Option.{option_map_or}
 use Rattle.store_steps.specs.declared.context.Context.{Context}
-use Rattle.store_steps.specs.Contexts.{Unsent, unsent, unsent_units}
+use Rattle.store_steps.specs.Prelude.{Unsent, unsent, unsent_units}
 use Rattle.waiting_contexts.specs.Places.{context_at}
 
 -- their places, in the order of the contexts

@@ -1,6 +1,6 @@
 //! Contexts by their places in the book.
 ghost use Rattle.std.specs.Prelude.{◌≡◌, ◌+◌, ◌≤◌, ◌∷◌, ◌++◌, [], find, ◌==◌, length, option_copied, IfSome, IfErr, OnOk, OnErr};
-ghost use Rattle.store_steps.specs.Contexts.{with_context, without_context, given_more, done_more};
+ghost use Rattle.store_steps.specs.Prelude.{with_context, without_context, given_more, done_more};
 ghost use Rattle.waiting_contexts.specs.Places.{IsAboveAll, context_at};
 ghost use Rattle.waiting_contexts.specs.Unsent.{PlacesAscend, has_unsent_at};
 

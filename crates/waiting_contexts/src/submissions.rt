@@ -1,6 +1,6 @@
 //! Which data write is submitted next.
 ghost use Rattle.std.specs.Prelude.{◌≡◌, ◌+◌, ◌≤◌, ◌++◌, ◌∷◌, [], true, is_some, None, IfOk, IfErr, IfSome, OnOk, OnErr};
-ghost use Rattle.store_steps.specs.Contexts.{unsent, next_unsent, with_context, without_context, given_more, done_more};
+ghost use Rattle.store_steps.specs.Prelude.{unsent, next_unsent, with_context, without_context, given_more, done_more};
 ghost use Rattle.txn_states.specs.Writes.{IsWrite};
 ghost use Rattle.waiting_contexts.specs.Places.{IsAboveAll, context_at};
 ghost use Rattle.waiting_contexts.specs.Unsent.{IsOfNext};

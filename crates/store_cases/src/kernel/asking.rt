@@ -1,6 +1,6 @@
 //! Reads that the kernel answers.
 ghost use Rattle.std.specs.Prelude.{◌≡◌, IfOk};
-ghost use Rattle.read_facts.specs.Answers.{IsKnownRead};
+ghost use Rattle.read_facts.specs.Prelude.{IsKnownRead};
 
 use crate::names::{coll_of, name_of};
 use block_device::MemoryDevice;

@@ -1,6 +1,6 @@
 //! Making stores, mounting them, and unmounting them.
 ghost use Rattle.std.specs.Prelude.{◌≡◌, ◌≤◌, [], IfOk};
-ghost use Rattle.block_device.specs.Memory.{disk_of};
+ghost use Rattle.block_device.specs.Prelude.{disk_of};
 
 use crate::kernel::lines::KernelLines;
 use crate::kernel::mounted::Mounted;

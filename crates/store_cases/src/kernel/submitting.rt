@@ -1,6 +1,6 @@
 //! Transactions that are submitted.
 ghost use Rattle.std.specs.Prelude.{◌≡◌, ◌<◌, ◌%◌, [], ◌∷◌, length, IfOk};
-ghost use Rattle.plan_rows.specs.Plans.{IsKnown};
+ghost use Rattle.plan_rows.specs.Prelude.{IsKnown};
 
 use crate::names::{coll_of, name_of};
 use block_device::MemoryDevice;

@@ -1,12 +1,10 @@
 //! Commands that read. A read leaves the kernel as it is but for its entry of the book.
 ghost use Rattle.std.specs.Prelude.{◌≡◌, ◌≤◌, length, OnOk, IfOk, IfErr, IsErrOf};
-ghost use Rattle.meta_log.specs.Slots.{width_of};
-ghost use Rattle.block_device.specs.Disk.{Rose};
+ghost use Rattle.meta_log.specs.Prelude.{width_of};
+ghost use Rattle.block_device.specs.Prelude.{Rose};
 ghost use Rattle.object_model.specs.declared.command.Answer.{Answer};
-ghost use Rattle.read_facts.specs.PageReads.{IsHeldAt, no_memory};
-ghost use Rattle.read_facts.specs.Answers.{HasReadNames, IsAnswerOf};
-ghost use Rattle.store_steps.specs.Runs.{MayRead, AnswersRead};
-ghost use Rattle.store_steps.specs.Submit.{CanNote};
+ghost use Rattle.read_facts.specs.Prelude.{IsHeldAt, no_memory, HasReadNames, IsAnswerOf};
+ghost use Rattle.store_steps.specs.Prelude.{MayRead, AnswersRead, CanNote};
 ghost use Rattle.store_kernel.specs.Reading.{UnansweredBy, IsDeviceRead};
 
 use super::Kernel;

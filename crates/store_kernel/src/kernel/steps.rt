@@ -1,8 +1,7 @@
 //! The steps, one by one. Each has at most one event of the device.
 ghost use Rattle.std.specs.Prelude.{◌≡◌, ◌≤◌, true, false, OnOk, IfErr};
-ghost use Rattle.block_device.specs.Disk.{Rose};
-ghost use Rattle.store_steps.specs.Ready.{is_ready};
-ghost use Rattle.store_steps.specs.Steps.{Takes, DoesData, DoesReap, DoesTake, DoesFlush, DoesSeal, DoesRecord, DoesSync, DoesCommit, DoesFinish};
+ghost use Rattle.block_device.specs.Prelude.{Rose};
+ghost use Rattle.store_steps.specs.Prelude.{is_ready, Takes, DoesData, DoesReap, DoesTake, DoesFlush, DoesSeal, DoesRecord, DoesSync, DoesCommit, DoesFinish};
 ghost use Rattle.store_steps.specs.declared.step.Step.TheVariants as step;
 
 use super::Kernel;

@@ -1,7 +1,7 @@
 //! Submitting a transaction: it is accepted, or refused for a cause.
 ghost use Rattle.std.specs.Prelude.{◌≡◌, ◌<◌, ◌^◌, length, OnOk, OnErr, IfOk, IfErr};
-ghost use Rattle.meta_rows.specs.Spelling.{ops_bytes, AllFit};
-ghost use Rattle.store_steps.specs.Submit.{IsCause, CanNote, Accepts, Refuses};
+ghost use Rattle.meta_rows.specs.Prelude.{ops_bytes, AllFit};
+ghost use Rattle.store_steps.specs.Prelude.{IsCause, CanNote, Accepts, Refuses};
 ghost use Rattle.store_kernel.specs.Prepared.{IsPlanOf, IsPrepared};
 ghost use Rattle.store_kernel.specs.Submitting.{MaySubmit, IsCauseOf, RefusesBy};
 

@@ -1,12 +1,11 @@
 //! Walks over all collections and objects. They change nothing, and make no entry of the book.
 ghost use Rattle.std.specs.Prelude.{◌≡◌, ◌≤◌, None, true, IfOk, IfErr, IsErrOf, MatchOption};
 ghost use Rattle.std.specs.Option.{option_copied};
-ghost use Rattle.meta_log.specs.Slots.{width_of};
-ghost use Rattle.block_device.specs.Disk.{Rose};
-ghost use Rattle.read_facts.specs.Walks.{IsCollection, IsObject, IsNextOf, IsPast};
-ghost use Rattle.read_facts.specs.PageReads.{IsHeldAt, no_memory};
+ghost use Rattle.meta_log.specs.Prelude.{width_of};
+ghost use Rattle.block_device.specs.Prelude.{Rose};
+ghost use Rattle.read_facts.specs.Prelude.{IsCollection, IsObject, IsNextOf, IsPast, IsHeldAt, no_memory};
 ghost use Rattle.object_reader.specs.Readable.{IsNextView};
-ghost use Rattle.store_steps.specs.Ready.{is_drained};
+ghost use Rattle.store_steps.specs.Prelude.{is_drained};
 ghost use Rattle.store_kernel.specs.Reading.{IsDownFail};
 
 use super::Kernel;

@@ -1,5 +1,5 @@
 use Rattle.std.proofs.Common.{length}
-use Rattle.meta_rows.specs.Spelling.{AllFit}
+use Rattle.meta_rows.specs.Prelude.{AllFit}
 use Rattle.bitmap_freelist.proofs.Flipped.{IsFlippedTo}
 use Rattle.bitmap_freelist.proofs.flips.flip_ops.Given as goal
 

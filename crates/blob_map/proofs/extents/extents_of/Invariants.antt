@@ -1,8 +1,8 @@
 use Rattle.std.proofs.Common.{◌≡◌, ◌++◌, drop}
 use Rattle.std.specs.Prelude.{IfSome}
 use Rattle.std.specs.List.{AllByRecursion}
-use Rattle.row_format.specs.Extents.{FitsExtent}
-use Rattle.blob_map.specs.Normal.{finished, extents_of}
+use Rattle.row_format.specs.Prelude.{FitsExtent}
+use Rattle.blob_map.specs.Prelude.{finished, extents_of}
 use Rattle.blob_map.proofs.extents.extents_of.Given as goal
 
 abbrev pub invariant-loop-entry : goal.invariant-loop-entry

@@ -1,8 +1,7 @@
 use Rattle.std.proofs.Common.{rules, ◌≡◌, ◌<◌, ◌^◌, ℕ, List, [], ◌∷◌, ◌++◌, sym, subst, ◌∙◌, ap}
 use Rattle.unit_fields.specs.declared.width.Width.{Width}
 use Rattle.unit_fields.specs.declared.width.Width.TheVariants.{FourBytes}
-use Rattle.row_format.specs.Extents.{private, own, FitsExtent}
-use Rattle.row_format.specs.Csums.{FitsCsum}
+use Rattle.row_format.specs.Prelude.{private, own, FitsExtent, FitsCsum}
 use Rattle.blob_map.proofs.Forms.{fits_single}
 use Rattle.blob_map.proofs.extents.single.Goals as goal
 

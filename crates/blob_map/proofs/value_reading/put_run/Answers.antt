@@ -1,7 +1,7 @@
 use Rattle.std.proofs.Common.{◌≡◌, ◌+◌, ◌<◌, length, rules, arith, ap, ◌∙◌}
 use Rattle.std.specs.FinMap as finite
-use Rattle.unit_fields.specs.Widths.{bytes_of}
-use Rattle.row_format.specs.Extents.{own}
+use Rattle.unit_fields.specs.Prelude.{bytes_of}
+use Rattle.row_format.specs.Prelude.{own}
 use Rattle.onode_codec.specs.Reading.{ReadsCsum}
 use Rattle.blob_map.proofs.Values.{puts_none, puts_next, csum_there}
 use Rattle.blob_map.proofs.value_reading.put_run.Goals as goal

@@ -1,4 +1,4 @@
-use Rattle.blob_map.specs.Values.{PutsFirst}
+use Rattle.blob_map.specs.Prelude.{PutsFirst}
 use Rattle.blob_map.proofs.value_reading.put_run.Given as goal
 
 abbrev pub invariant-loop-i : goal.invariant-loop-i

@@ -1,6 +1,6 @@
 use Rattle.std.proofs.Common.{◌≡◌, ◌+◌, ◌<◌, ◌≤◌, length, get_or, ap, sym, ◌∙◌, arith}
 use Rattle.std.proofs.lemmas.List.{get_or_default, length-drop}
-use Rattle.row_format.specs.Extents.{own}
+use Rattle.row_format.specs.Prelude.{own}
 use Rattle.blob_map.proofs.Runs.{one_grows, next_of, next_grows, size_of_csums, ends_here, ends_with_all}
 use Rattle.blob_map.proofs.value_writing.first_run.Goals as goal
 

@@ -1,7 +1,7 @@
 use Rattle.std.proofs.Common.{◌≡◌, ◌++◌, take}
 use Rattle.std.specs.List.{flat_map}
-use Rattle.row_format.specs.Csums.{csum_bytes}
-use Rattle.blob_map.specs.Values.{csums_of}
+use Rattle.row_format.specs.Prelude.{csum_bytes}
+use Rattle.blob_map.specs.Prelude.{csums_of}
 use Rattle.blob_map.proofs.value_writing.push_csums.Given as goal
 
 abbrev pub invariant-loop-page : goal.invariant-loop-page

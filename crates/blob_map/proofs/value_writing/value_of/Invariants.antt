@@ -1,7 +1,7 @@
 use Rattle.std.proofs.Common.{◌≡◌, ◌++◌, length}
 use Rattle.std.specs.List.{flat_map}
-use Rattle.row_format.specs.Extents.{extent_bytes}
-use Rattle.blob_map.specs.Normal.{extents_of}
+use Rattle.row_format.specs.Prelude.{extent_bytes}
+use Rattle.blob_map.specs.Prelude.{extents_of}
 use Rattle.blob_map.proofs.value_writing.value_of.Given as goal
 
 abbrev pub invariant-runs : goal.invariant-runs

@@ -1,7 +1,7 @@
 use Rattle.std.proofs.Common.{◌+◌, ◌*◌, ◌≤◌, ℕ, List, inl, inr, length, sym, ◌∙◌, ap, arith}
 use Rattle.std.proofs.lemmas.Bool.{cases_eq, false≢true}
 use Rattle.byte_maps.specs.Units.{unit_at}
-use Rattle.block_device.specs.Laying.{mark}
+use Rattle.block_device.specs.Prelude.{mark}
 use Rattle.block_device.proofs.PutLemmas.{unit_at-laid_one, unit_at-laid_itself}
 use Rattle.block_device.proofs.ImageLemmas.{filled_more}
 use Rattle.block_device.proofs.image.fill_torn.Goals as goal

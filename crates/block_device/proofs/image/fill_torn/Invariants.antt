@@ -1,6 +1,6 @@
 use Rattle.std.proofs.Common.{◌≡◌, ◌<◌, ℕ, length, true, false}
 use Rattle.byte_maps.specs.Units.{unit_at}
-use Rattle.block_device.specs.Laying.{mark}
+use Rattle.block_device.specs.Prelude.{mark}
 use Rattle.block_device.proofs.image.fill_torn.Given as goal
 
 abbrev pub invariant-loop-k : goal.invariant-loop-k

@@ -1,7 +1,7 @@
 use Rattle.std.proofs.Common.{◌≡◌, ℕ, length, ap, refl, ◌∙◌, subst, arith}
 use Rattle.std.specs.Prelude.{slice_get, Some}
 use Rattle.std.proofs.lemmas.List.{with_items_is, length-replicate}
-use Rattle.block_device.specs.Image.{noise}
+use Rattle.block_device.specs.Prelude.{noise}
 use Rattle.block_device.specs.declared.event.Event.TheVariants.{Write}
 use Rattle.block_device.proofs.ImageLemmas.{IsImageUpTo, image_start, image_write, image_other, image_all, image_filled, torn_is_crash}
 use Rattle.block_device.proofs.LogLemmas.{slice_get-is}

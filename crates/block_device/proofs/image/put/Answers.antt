@@ -1,6 +1,6 @@
 use Rattle.std.proofs.Common.{◌≡◌, set, ◌+◌, ◌*◌, ◌≤◌, length, ℕ, List, Bool, not, ◌||◌, refl, sym, ◌∙◌, ap, arith}
 use Rattle.byte_maps.specs.Units.{unit_at, overlaid}
-use Rattle.block_device.specs.Laying.{is_laid, mark}
+use Rattle.block_device.specs.Prelude.{is_laid, mark}
 use Rattle.block_device.proofs.PutLemmas.{put_none, put_one, put_more, put_all, unit_piece, length-unit_at}
 use Rattle.block_device.proofs.image.put.Goals as goal
 use Rattle.block_device.proofs.image.put.Goals.{then-takes, else-takes, then-torn-k, else-torn-k}

@@ -1,5 +1,5 @@
 use Rattle.std.proofs.Common.{◌≡◌, ◌++◌, take, drop, map}
-use Rattle.block_device.specs.Pending.{lowered}
+use Rattle.block_device.specs.Prelude.{lowered}
 use Rattle.block_device.proofs.pending.lower_lags.Given as goal
 
 abbrev pub invariant-loop-p : goal.invariant-loop-p

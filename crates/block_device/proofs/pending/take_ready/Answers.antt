@@ -1,7 +1,7 @@
 use Rattle.std.proofs.Common.{◌≡◌, List, length, map, ◌∙◌, ap, arith}
 use Rattle.std.proofs.lemmas.List.{with_items_is, length-map}
 use Rattle.std.specs.Vec.{with_items}
-use Rattle.block_device.specs.Pending.{lowered}
+use Rattle.block_device.specs.Prelude.{lowered}
 use Rattle.block_device.proofs.Pendings.{was_taken}
 use Rattle.block_device.specs.declared.pending.Pending.{Pending}
 use Rattle.block_device.proofs.pending.take_ready.Goals as goal

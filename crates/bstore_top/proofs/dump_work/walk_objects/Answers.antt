@@ -1,8 +1,8 @@
 use Rattle.std.proofs.Common.{ap, sym, subst, refl, arith, ◌∙◌, length}
 use Rattle.std.specs.Option.{option_copied}
 use Rattle.std.specs.FinMap as finite
-use Rattle.unit_fields.specs.Names.{IsCollName}
-use Rattle.meta_log.specs.Slots.{width_of}
+use Rattle.unit_fields.specs.Prelude.{IsCollName}
+use Rattle.meta_log.specs.Prelude.{width_of}
 use Rattle.bstore_top.proofs.DumpWalks.{view_found, one_viewed, few_viewed, fewer_left}
 use Rattle.bstore_top.proofs.dump_work.walk_objects.Goals as goal
 

@@ -1,8 +1,7 @@
 use Rattle.std.proofs.Common.{◌≡◌, ◌≤◌, ◌-◌, length}
 use Rattle.std.specs.FinMap as finite
-use Rattle.meta_log.specs.Slots.{width_of}
-use Rattle.read_facts.specs.PageReads.{IsHeldAt, no_memory}
-use Rattle.read_facts.specs.Views.{IsViewed}
+use Rattle.meta_log.specs.Prelude.{width_of}
+use Rattle.read_facts.specs.Prelude.{IsHeldAt, no_memory, IsViewed}
 use Rattle.bstore_top.proofs.dump_work.walk_objects.Given as goal
 
 abbrev pub invariant-objects : goal.invariant-objects

@@ -1,11 +1,9 @@
 use Rattle.std.proofs.Common.{List, [], ◌∷◌, ◌++◌, None, length, ap, sym, subst, arith, ◌∙◌}
 use Rattle.std.specs.Option.{option_copied}
 use Rattle.std.specs.FinMap as finite
-use Rattle.meta_log.specs.Slots.{width_of}
+use Rattle.meta_log.specs.Prelude.{width_of}
 use Rattle.read_facts.specs.declared.view.CollView.{CollView}
-use Rattle.read_facts.specs.PageReads.{IsHeldAt, no_memory}
-use Rattle.read_facts.specs.Walks.{IsCollection, IsNextOf, last_of}
-use Rattle.read_facts.specs.Views.{WalksTo, coll_names}
+use Rattle.read_facts.specs.Prelude.{IsHeldAt, no_memory, IsCollection, IsNextOf, last_of, WalksTo, coll_names}
 use Rattle.bstore_top.proofs.DumpWalks.{coll_found, so_far, one_walked, part_walked, few_walked, fewer_left, whole_at, viewed_at}
 use Rattle.bstore_top.proofs.dump_work.walk_store.Goals as goal
 

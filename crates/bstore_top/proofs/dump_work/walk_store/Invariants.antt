@@ -1,6 +1,6 @@
 use Rattle.std.proofs.Common.{◌≡◌, ◌≤◌, ◌-◌, length}
 use Rattle.std.specs.FinMap as finite
-use Rattle.meta_log.specs.Slots.{width_of}
+use Rattle.meta_log.specs.Prelude.{width_of}
 use Rattle.bstore_top.proofs.DumpWalks.{WalksWhole}
 use Rattle.bstore_top.proofs.dump_work.walk_store.Given as goal
 

@@ -1,7 +1,7 @@
 use Rattle.std.proofs.Common.{Err, ap, arith}
 use Rattle.std.proofs.lemmas.Result.{err_from_is_err_and}
 use Rattle.store_kernel.specs.declared.step_fail.StepFail.{StepFail}
-use Rattle.store_facts.proofs.Keeping.{work_falls}
+use Rattle.store_facts.proofs.Prelude.{work_falls}
 use Rattle.bstore_top.proofs.RunLemmas.{does_well, drain_goes_on, drain_stops}
 use Rattle.bstore_top.proofs.stepping.drain.Goals as goal
 

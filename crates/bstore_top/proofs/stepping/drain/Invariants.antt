@@ -1,6 +1,5 @@
 use Rattle.std.proofs.Common.{◌≤◌}
-use Rattle.store_facts.specs.Kept.{IsKept}
-use Rattle.store_facts.specs.Work.{measure}
+use Rattle.store_facts.specs.Prelude.{IsKept, measure}
 use Rattle.bstore_top.proofs.RunLemmas.{IsDraining}
 use Rattle.bstore_top.proofs.stepping.drain.Given as goal
 

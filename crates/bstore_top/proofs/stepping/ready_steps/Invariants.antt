@@ -1,6 +1,6 @@
 use Rattle.std.proofs.Common.{◌≡◌, ◌≤◌, length, take}
 use Rattle.std.specs.Prelude.{filter}
-use Rattle.store_steps.specs.Ready.{is_ready, all_steps}
+use Rattle.store_steps.specs.Prelude.{is_ready, all_steps}
 use Rattle.bstore_top.proofs.stepping.ready_steps.Given as goal
 
 abbrev pub invariant-steps : goal.invariant-steps

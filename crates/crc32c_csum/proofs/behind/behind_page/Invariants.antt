@@ -1,6 +1,6 @@
 use Rattle.std.proofs.Common.{◌≡◌, ◌*◌, ◌^◌, ◌<◌}
 use Rattle.std.specs.Prelude.{bit_xor}
-use Rattle.crc32c_csum.specs.Steps.{after_zeros}
+use Rattle.crc32c_csum.specs.Prelude.{after_zeros}
 use Rattle.crc32c_csum.proofs.behind.behind_page.Given as goal
 
 abbrev pub invariant-loop-i : goal.invariant-loop-i

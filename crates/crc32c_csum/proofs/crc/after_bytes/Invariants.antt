@@ -1,5 +1,5 @@
 use Rattle.std.proofs.Common.{◌≡◌, drop}
-use Rattle.crc32c_csum.specs.Crc32c.{remainder}
+use Rattle.crc32c_csum.specs.Prelude.{remainder}
 use Rattle.crc32c_csum.proofs.crc.after_bytes.Given as goal
 
 abbrev pub invariant-loop-byte : goal.invariant-loop-byte

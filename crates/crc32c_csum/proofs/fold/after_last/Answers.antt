@@ -1,5 +1,5 @@
 use Rattle.std.proofs.Common.{◌-◌, ◌*◌, ◌/◌, length, arith}
-use Rattle.crc32c_csum.specs.Folding.{of_taken}
+use Rattle.crc32c_csum.specs.Prelude.{of_taken}
 use Rattle.crc32c_csum.proofs.Folding.{last_out}
 use Rattle.crc32c_csum.proofs.fold.after_last.Goals as goal
 

@@ -1,8 +1,7 @@
 use Rattle.std.proofs.Common.{◌*◌, ap, ◌∙◌, drop, arith, le_antisymm}
 use Rattle.std.specs.Int.Bits.{xor_zero_r}
 use Rattle.std.specs.Prelude.{bit_xor}
-use Rattle.crc32c_csum.specs.Crc32c.{remainder}
-use Rattle.crc32c_csum.specs.Folding.{of_taken}
+use Rattle.crc32c_csum.specs.Prelude.{remainder, of_taken}
 use Rattle.crc32c_csum.proofs.Folding.{all_done}
 use Rattle.crc32c_csum.proofs.fold.of_last.Goals as goal
 

@@ -1,7 +1,6 @@
 use Rattle.std.proofs.Common.{◌≡◌, ◌*◌, drop}
 use Rattle.std.specs.Prelude.{bit_xor}
-use Rattle.crc32c_csum.specs.Crc32c.{remainder}
-use Rattle.crc32c_csum.specs.Folding.{of_taken}
+use Rattle.crc32c_csum.specs.Prelude.{remainder, of_taken}
 use Rattle.crc32c_csum.proofs.fold.of_last.Given as goal
 
 abbrev pub invariant-loop-i : goal.invariant-loop-i

@@ -1,7 +1,6 @@
 use Rattle.std.proofs.Common.{ap, sym, ◌∙◌, drop, length, arith}
 use Rattle.std.proofs.lemmas.List.{drop_all}
-use Rattle.crc32c_csum.specs.Crc32c.{remainder}
-use Rattle.crc32c_csum.specs.Folding.{of_taken}
+use Rattle.crc32c_csum.specs.Prelude.{remainder, of_taken}
 use Rattle.crc32c_csum.proofs.fold.take_all_out.Goals as goal
 
 pub returns : goal.returns

@@ -1,5 +1,5 @@
 use Rattle.std.proofs.Common.{◌∙◌, arith}
-use Rattle.crc32c_csum.specs.Folding.{of_taken}
+use Rattle.crc32c_csum.specs.Prelude.{of_taken}
 use Rattle.crc32c_csum.proofs.Folding.{piece_out}
 use Rattle.crc32c_csum.proofs.fold.take_pieces_out.Goals as goal
 

@@ -1,6 +1,5 @@
 use Rattle.std.proofs.Common.{◌≡◌, ◌≤◌, length}
-use Rattle.crc32c_csum.specs.Crc32c.{remainder}
-use Rattle.crc32c_csum.specs.Folding.{of_taken}
+use Rattle.crc32c_csum.specs.Prelude.{remainder, of_taken}
 use Rattle.crc32c_csum.proofs.fold.take_pieces_out.Given as goal
 
 abbrev pub invariant-loop-left : goal.invariant-loop-left

@@ -1,7 +1,6 @@
 use Rattle.std.proofs.Common.{true, false, length, Err, ap, sym, subst, arith}
-use Rattle.block_device.specs.Disk.{Disk}
-use Rattle.log_replay.specs.Calls.{Told}
-use Rattle.log_replay.specs.Zeroing.{ZeroesOnly}
+use Rattle.block_device.specs.Prelude.{Disk}
+use Rattle.log_replay.specs.Prelude.{Told, ZeroesOnly}
 use Rattle.log_replay.proofs.CallLemmas.{either_failure}
 use Rattle.log_replay.proofs.ZeroLemmas.{not_empty}
 use Rattle.log_replay.proofs.ClearLemmas.{cleared_others, only_flush}

@@ -1,9 +1,8 @@
 use Rattle.std.proofs.Common.{◌≡◌, ℕ, ◌+◌, true, false, Err, List, length, ap, sym, subst, ◌∙◌, arith}
 use Rattle.byte_maps.specs.Units.{zeros}
-use Rattle.byte_maps.proofs.UnitLemmas.{length-zeros}
-use Rattle.block_device.specs.Disk.{Disk}
-use Rattle.log_replay.specs.Calls.{Told}
-use Rattle.log_replay.specs.Clearing.{ClearsSoFar}
+use Rattle.byte_maps.proofs.Prelude.{length-zeros}
+use Rattle.block_device.specs.Prelude.{Disk}
+use Rattle.log_replay.specs.Prelude.{Told, ClearsSoFar}
 use Rattle.log_replay.proofs.CallLemmas.{either_failure}
 use Rattle.log_replay.proofs.ClearLemmas.{cleared_unit, clears_one, clears_two, clears_none}
 use Rattle.log_replay.proofs.clearing.clear_unit.Goals as goal

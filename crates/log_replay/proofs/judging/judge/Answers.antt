@@ -1,4 +1,4 @@
-use Rattle.log_replay.specs.FoundOn.{as_found}
+use Rattle.log_replay.specs.Prelude.{as_found}
 use Rattle.log_replay.proofs.JudgeLemmas.{judged}
 use Rattle.log_replay.proofs.judging.judge.Goals as goal
 

@@ -1,7 +1,6 @@
 use Rattle.std.proofs.Common.{Err, ap, ◌+◌, subst}
-use Rattle.block_device.specs.Disk.{Disk}
-use Rattle.log_replay.specs.Calls.{Told, GoesOnWell, GoesOnToBadEnd}
-use Rattle.log_replay.specs.Zeroing.{WasZeroed}
+use Rattle.block_device.specs.Prelude.{Disk}
+use Rattle.log_replay.specs.Prelude.{Told, GoesOnWell, GoesOnToBadEnd, WasZeroed}
 use Rattle.log_replay.proofs.MadeLemmas.{cleared}
 use Rattle.log_replay.proofs.StopLemmas.{same_failure, well_written, well_after, bad_after, stops_same, stops_bad}
 use Rattle.log_replay.proofs.making.clear.Goals as goal

@@ -1,8 +1,8 @@
 use Rattle.std.proofs.Common.{Err, ◌≡◌, ℕ, List, length, ap, ◌∙◌, arith}
 use Rattle.meta_log.specs.declared.slot.Super.{Super}
 use Rattle.meta_log.proofs.SlotLemmas.{length-super_bytes}
-use Rattle.meta_log.specs.Slots.{super_bytes}
-use Rattle.log_replay.specs.NewSuper.{new_super}
+use Rattle.meta_log.specs.Prelude.{super_bytes}
+use Rattle.log_replay.specs.Prelude.{new_super}
 use Rattle.log_replay.proofs.MadeLemmas.{made}
 use Rattle.log_replay.proofs.StopLemmas.{same_failure, well_none, well_after, bad_after}
 use Rattle.log_replay.proofs.making.write_slot.Goals as goal

@@ -1,8 +1,8 @@
 use Rattle.std.proofs.Common.{◌≡◌, subst, sym}
 use Rattle.std.specs.Prelude.{MatchOption, IfSome}
-use Rattle.block_device.specs.Disk.{Disk}
-use Rattle.meta_log.specs.Slots.{IsSuper, IsActiveSlot}
-use Rattle.log_replay.specs.Opening.{IsAbout, HasNoSuper, newer_of}
+use Rattle.block_device.specs.Prelude.{Disk}
+use Rattle.meta_log.specs.Prelude.{IsSuper, IsActiveSlot}
+use Rattle.log_replay.specs.Prelude.{IsAbout, HasNoSuper, newer_of}
 use Rattle.log_replay.proofs.OpeningLemmas.{Shows, about_both, newest, newest_of}
 use Rattle.log_replay.proofs.opening.find_super.Goals as goal
 

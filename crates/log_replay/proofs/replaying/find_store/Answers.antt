@@ -1,8 +1,7 @@
 use Rattle.std.proofs.Common.{◌≡◌, subst}
-use Rattle.block_device.specs.Disk.{Disk}
-use Rattle.meta_log.specs.Slots.{IsSuper, IsActiveSlot}
-use Rattle.log_replay.specs.Opening.{IsAbout}
-use Rattle.log_replay.specs.HalfReading.{IsHalfRead}
+use Rattle.block_device.specs.Prelude.{Disk}
+use Rattle.meta_log.specs.Prelude.{IsSuper, IsActiveSlot}
+use Rattle.log_replay.specs.Prelude.{IsAbout, IsHalfRead}
 use Rattle.log_replay.proofs.HalfLemmas.{found_on}
 use Rattle.log_replay.proofs.replaying.find_store.Goals as goal
 

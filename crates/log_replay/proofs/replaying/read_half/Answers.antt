@@ -1,6 +1,6 @@
 use Rattle.std.proofs.Common.{◌+◌, subst}
-use Rattle.block_device.specs.Disk.{Disk}
-use Rattle.log_replay.specs.HalfReading.{HasStale}
+use Rattle.block_device.specs.Prelude.{Disk}
+use Rattle.log_replay.specs.Prelude.{HasStale}
 use Rattle.log_replay.proofs.HalfLemmas.{new_again, half_was_read}
 use Rattle.log_replay.proofs.replaying.read_half.Goals as goal
 

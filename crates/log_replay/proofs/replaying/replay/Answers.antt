@@ -1,9 +1,8 @@
 use Rattle.std.proofs.Common.{◌≤◌, refl, sym, subst, ◌∙◌, arith}
-use Rattle.block_device.specs.Disk.{Disk}
-use Rattle.meta_rows.specs.Rows.{Rows}
-use Rattle.meta_log.specs.Scanning.{IsAtFront}
-use Rattle.log_replay.specs.HalfReading.{left_of, ReadsOn, HasNoRecord}
-use Rattle.log_replay.specs.Gathering.{rows_so_far}
+use Rattle.block_device.specs.Prelude.{Disk}
+use Rattle.meta_rows.specs.Prelude.{Rows}
+use Rattle.meta_log.specs.Prelude.{IsAtFront}
+use Rattle.log_replay.specs.Prelude.{left_of, ReadsOn, HasNoRecord, rows_so_far}
 use Rattle.log_replay.proofs.HalfLemmas.{ReplayedHalf, half_begun, half_read, half_replayed, half_done, record_there}
 use Rattle.log_replay.proofs.replaying.replay.Goals as goal
 

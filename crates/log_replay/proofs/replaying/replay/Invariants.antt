@@ -1,5 +1,5 @@
 use Rattle.std.proofs.Common.{◌≡◌, ◌≤◌, ◌-◌}
-use Rattle.log_replay.specs.Gathering.{rows_so_far, IsParted}
+use Rattle.log_replay.specs.Prelude.{rows_so_far, IsParted}
 use Rattle.log_replay.proofs.HalfLemmas.{ReplayedHalf}
 use Rattle.log_replay.proofs.replaying.replay.Given as goal
 

@@ -1,6 +1,6 @@
 use Rattle.std.proofs.Common.{◌≡◌, refl, arith, subst, ◌∙◌}
-use Rattle.block_device.specs.Disk.{IsSound, HasRead}
-use Rattle.log_replay.specs.HalfReading.{AddsUnits}
+use Rattle.block_device.specs.Prelude.{IsSound, HasRead}
+use Rattle.log_replay.specs.Prelude.{AddsUnits}
 use Rattle.log_replay.proofs.StaleLemmas.{adds_no_units, adds_more_units, all_before}
 use Rattle.log_replay.proofs.stale.add_stale_between.Goals as goal
 

@@ -1,5 +1,5 @@
 use Rattle.std.proofs.Common.{◌≡◌, ◌≤◌, ◌-◌}
-use Rattle.log_replay.specs.HalfReading.{AddsUnits}
+use Rattle.log_replay.specs.Prelude.{AddsUnits}
 use Rattle.log_replay.proofs.stale.add_stale_between.Given as goal
 
 -- the units so far were read

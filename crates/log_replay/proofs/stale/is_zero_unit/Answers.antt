@@ -1,7 +1,7 @@
 use Rattle.std.proofs.Common.{◌≡◌, ◌+◌, ◌-◌, ◌*◌, sym, ap, subst, arith, take, drop}
 use Rattle.std.specs.Prelude.{All}
 use Rattle.byte_maps.specs.Units.{unit_at}
-use Rattle.byte_maps.proofs.UnitLemmas.{length-unit_at}
+use Rattle.byte_maps.proofs.Prelude.{length-unit_at}
 use Rattle.log_replay.proofs.StaleLemmas.{zeros-from_all, all_of_zeros}
 use Rattle.log_replay.proofs.stale.is_zero_unit.Goals as goal
 

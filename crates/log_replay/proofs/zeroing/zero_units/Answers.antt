@@ -1,8 +1,7 @@
 use Rattle.std.proofs.Common.{◌≡◌, ◌*◌, false, Err, length, ap, sym, subst, ◌∙◌, arith}
-use Rattle.byte_maps.proofs.UnitLemmas.{length-zeros}
-use Rattle.block_device.specs.Disk.{Disk}
-use Rattle.log_replay.specs.Calls.{Told}
-use Rattle.log_replay.specs.Zeroing.{ZeroesOnly}
+use Rattle.byte_maps.proofs.Prelude.{length-zeros}
+use Rattle.block_device.specs.Prelude.{Disk}
+use Rattle.log_replay.specs.Prelude.{Told, ZeroesOnly}
 use Rattle.log_replay.proofs.CallLemmas.{either_failure}
 use Rattle.log_replay.proofs.ZeroLemmas.{not_empty, none_left, zeroed_none, zeroed_tail, run_fits, only_after, wrote_all}
 use Rattle.log_replay.proofs.StopLemmas.{same_failure, well_so_far, bad_after}

@@ -1,6 +1,5 @@
 use Rattle.std.proofs.Common.{◌≡◌, length, ap, arith}
-use Rattle.meta_rows.specs.Spelling.{ops_bytes}
-use Rattle.meta_rows.specs.Reading.{SpellOps}
+use Rattle.meta_rows.specs.Prelude.{ops_bytes, SpellOps}
 use Rattle.meta_log.proofs.PartLemmas.{parts_of_record, ops_of_record, no_record, is_record}
 use Rattle.meta_log.proofs.scanning.read_record.Goals as goal
 use Rattle.meta_log.proofs.scanning.read_record.Goals.{else-number-lt-NUMBER_LIMIT-via-then-number-lt-NUMBER_LIMIT+else-len-parts, else-number-lt-NUMBER_LIMIT-via-else-number-lt-NUMBER_LIMIT}

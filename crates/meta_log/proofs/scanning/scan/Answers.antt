@@ -1,7 +1,6 @@
 use Rattle.std.proofs.Common.{◌∷◌, [], length, sym, ap, subst, arith}
 use Rattle.std.proofs.lemmas.List.{length-append}
-use Rattle.meta_log.specs.Records.{BeginsWithRecord}
-use Rattle.meta_log.specs.Scanning.{IsAtFront}
+use Rattle.meta_log.specs.Prelude.{BeginsWithRecord, IsAtFront}
 use Rattle.meta_log.proofs.ScanLemmas.{one_more, these_are_all, units-one_more, length-with_record}
 use Rattle.meta_log.proofs.scanning.scan.Goals as goal
 

@@ -1,5 +1,5 @@
 use Rattle.std.proofs.Common.{◌≡◌, ◌+◌, ◌*◌, length}
-use Rattle.meta_log.specs.Scanning.{units_of_records}
+use Rattle.meta_log.specs.Prelude.{units_of_records}
 use Rattle.meta_log.proofs.ScanLemmas.{StandUpTo}
 use Rattle.meta_log.proofs.scanning.scan.Given as goal
 

@@ -1,6 +1,6 @@
 use Rattle.std.proofs.Common.{ℕ, List, ◌++◌, length, ap, ap₂, ◌∙◌, arith}
-use Rattle.crc32c_csum.specs.Crc32c.{crc32c}
-use Rattle.meta_log.specs.Records.{head_of}
+use Rattle.crc32c_csum.specs.Prelude.{crc32c}
+use Rattle.meta_log.specs.Prelude.{head_of}
 use Rattle.meta_log.proofs.RecordLemmas.{count_below}
 use Rattle.meta_log.proofs.SealLemmas.{record_of_parts}
 use Rattle.meta_log.proofs.sealed.spelled.Goals as goal

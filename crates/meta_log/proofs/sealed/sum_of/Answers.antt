@@ -1,6 +1,6 @@
 use Rattle.std.proofs.Common.{ap, sym, ◌∙◌}
 use Rattle.std.specs.Prelude.{bit_xor}
-use Rattle.crc32c_csum.specs.Crc32c.{all_ones, remainder}
+use Rattle.crc32c_csum.specs.Prelude.{all_ones, remainder}
 use Rattle.crc32c_csum.proofs.Laws.{crc32c-append}
 use Rattle.meta_log.proofs.sealed.sum_of.Goals as goal
 

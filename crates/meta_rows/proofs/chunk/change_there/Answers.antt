@@ -1,6 +1,6 @@
 use Rattle.std.proofs.Common.{sym, ap, ◌∙◌, [], Some, arith}
 use Rattle.std.proofs.lemmas.List.{get_or_read}
-use Rattle.meta_rows.specs.Table.{left_at, value_left}
+use Rattle.meta_rows.specs.Prelude.{left_at, value_left}
 use Rattle.meta_rows.proofs.ListSizes.{set_grows, remove_grows}
 use Rattle.meta_rows.proofs.PartLemmas.{remove_set}
 use Rattle.meta_rows.proofs.chunk.change_there.Goals as goal

@@ -1,4 +1,4 @@
-use Rattle.byte_maps.proofs.Places.{comparisons_rise}
+use Rattle.byte_maps.proofs.Prelude.{comparisons_rise}
 use Rattle.meta_rows.proofs.RangeLemmas.{starts_there, starts_between}
 use Rattle.meta_rows.proofs.chunk.start_of.Goals as goal
 

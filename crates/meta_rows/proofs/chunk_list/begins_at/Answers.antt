@@ -1,6 +1,6 @@
 use Rattle.std.proofs.Common.{rules}
 use Rattle.std.proofs.lemmas.Fn.{always_returns_same}
-use Rattle.meta_rows.specs.Chunks.{first_order}
+use Rattle.meta_rows.specs.Prelude.{first_order}
 use Rattle.meta_rows.proofs.chunk_list.begins_at.Goals as goal
 
 pub returns-clause-position : goal.returns-clause-position

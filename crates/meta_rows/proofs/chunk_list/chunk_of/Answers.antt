@@ -2,7 +2,7 @@ use Rattle.std.proofs.Common.{◌≡◌, subst}
 use Rattle.std.specs.List.Sorted.{IsNonDecreasingBy, IsPartitionPoint}
 use Rattle.std.specs.Ordering.{ordering_index}
 use Rattle.std.specs.declared.cmp.Ordering.TheVariants.{Less, Greater}
-use Rattle.meta_rows.specs.Chunks.{first_order}
+use Rattle.meta_rows.specs.Prelude.{first_order}
 use Rattle.meta_rows.proofs.ChunkLemmas.{belongs_equal, belongs_first, belongs_between}
 use Rattle.meta_rows.proofs.chunk_list.chunk_of.Goals as goal
 

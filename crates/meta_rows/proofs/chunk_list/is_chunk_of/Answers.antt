@@ -1,6 +1,6 @@
 use Rattle.std.proofs.Common.{◌≡◌, ◌<◌, [], get_or, inl, inr, arith}
 use Rattle.std.specs.declared.cmp.Ordering.TheVariants.{Greater}
-use Rattle.meta_rows.specs.Chunks.{first_order}
+use Rattle.meta_rows.specs.Prelude.{first_order}
 use Rattle.meta_rows.proofs.ChunkLemmas.{belongs_here}
 use Rattle.meta_rows.proofs.chunk_list.is_chunk_of.Goals.{else-at-gt0-via-then-at-gt0+else-begins_above, else-at-gt0-via-else-at-gt0}
 use Rattle.meta_rows.proofs.chunk_list.is_chunk_of.Goals as goal

@@ -1,6 +1,5 @@
 use Rattle.std.proofs.Common.{◌≢◌, [], rules}
-use Rattle.meta_rows.specs.Spelling.{op_bytes, FitsRowOp}
-use Rattle.meta_rows.specs.Reading.{BeginsWithNo}
+use Rattle.meta_rows.specs.Prelude.{op_bytes, FitsRowOp, BeginsWithNo}
 use Rattle.meta_rows.proofs.OpReading.{no_spelling}
 use Rattle.meta_rows.proofs.reading.decode.Goals as goal
 

@@ -1,5 +1,5 @@
 use Rattle.std.proofs.Common.{◌≡◌, ◌++◌, length}
-use Rattle.meta_rows.specs.Spelling.{ops_bytes, AllFit}
+use Rattle.meta_rows.specs.Prelude.{ops_bytes, AllFit}
 use Rattle.meta_rows.proofs.reading.decode.Given as goal
 
 abbrev pub invariant-ops : goal.invariant-ops

@@ -1,5 +1,5 @@
 use Rattle.std.proofs.Common.{◌≡◌, take}
-use Rattle.meta_rows.specs.Rows.{xor_bytes}
+use Rattle.meta_rows.specs.Prelude.{xor_bytes}
 use Rattle.meta_rows.proofs.row_change.xored_into.Given as goal
 
 abbrev pub invariant-loop-i : goal.invariant-loop-i

@@ -1,7 +1,7 @@
 use Rattle.std.proofs.Common.{sym, subst, T}
 use Rattle.std.specs.FinMap.{is_sorted}
 use Rattle.byte_maps.specs.ByteMap.{byte_order}
-use Rattle.meta_rows.specs.Table.{StartsAt}
+use Rattle.meta_rows.specs.Prelude.{StartsAt}
 use Rattle.meta_rows.proofs.TableLemmas.{rows_order, begins_there}
 use Rattle.meta_rows.proofs.row_table.begin_of.Goals as goal
 

@@ -1,6 +1,6 @@
 use Rattle.std.proofs.Common.{◌≡◌, ◌+◌, ◌-◌, ◌++◌, ◌∙◌, take, drop, get_or, ap, sym, subst, arith, append-nil}
 use Rattle.std.proofs.lemmas.List.{take_rest}
-use Rattle.meta_rows.specs.Chunks.{joined}
+use Rattle.meta_rows.specs.Prelude.{joined}
 use Rattle.meta_rows.proofs.TableLemmas.{between_apart, between_inside, between_none}
 use Rattle.meta_rows.proofs.row_table.between.Goals as goal
 

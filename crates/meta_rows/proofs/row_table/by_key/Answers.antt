@@ -2,7 +2,7 @@ use Rattle.std.proofs.Common.{rules}
 use Rattle.std.specs.Cmp.Lexicographic.{nat_list_cmp_total}
 use Rattle.std.proofs.lemmas.Fn.{always_returns_same}
 use Rattle.std.proofs.lemmas.List.Sorted.{ranks_by}
-use Rattle.meta_rows.specs.Rows.{key_of}
+use Rattle.meta_rows.specs.Prelude.{key_of}
 use Rattle.meta_rows.proofs.BatchLemmas.{is_before, in_another_order}
 use Rattle.meta_rows.proofs.FillLemmas.{rises}
 use Rattle.meta_rows.proofs.row_table.by_key.Goals as goal

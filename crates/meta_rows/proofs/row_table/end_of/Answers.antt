@@ -1,7 +1,6 @@
 use Rattle.std.proofs.Common.{◌≡◌, ◌-◌, length, get_or, sym, subst}
 use Rattle.std.specs.Option.{option_copied}
-use Rattle.meta_rows.specs.Table.{EndsAt}
-use Rattle.meta_rows.specs.Chunks.{joined, rows_before}
+use Rattle.meta_rows.specs.Prelude.{EndsAt, joined, rows_before}
 use Rattle.meta_rows.proofs.TableLemmas.{ends_last}
 use Rattle.meta_rows.proofs.row_table.end_of.Goals as goal
 

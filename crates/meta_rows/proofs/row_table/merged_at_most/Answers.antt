@@ -1,5 +1,5 @@
 use Rattle.std.proofs.Common.{◌≡◌, ◌+◌, suc, length, take, ap, arith}
-use Rattle.meta_rows.specs.Chunks.{joined}
+use Rattle.meta_rows.specs.Prelude.{joined}
 use Rattle.meta_rows.proofs.ChunkLemmas.{joined_more}
 use Rattle.meta_rows.proofs.row_table.merged_at_most.Goals as goal
 

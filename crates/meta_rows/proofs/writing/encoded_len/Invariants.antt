@@ -1,5 +1,5 @@
 use Rattle.std.proofs.Common.{◌≡◌, ◌<◌, ◌+◌, ◌^◌, length, drop}
-use Rattle.meta_rows.specs.Spelling.{ops_bytes}
+use Rattle.meta_rows.specs.Prelude.{ops_bytes}
 use Rattle.meta_rows.proofs.writing.encoded_len.Given as goal
 
 abbrev pub invariant-loop-op : goal.invariant-loop-op

@@ -1,11 +1,10 @@
 use Rattle.std.proofs.Common.{IfOk, sym, subst}
 use Rattle.std.proofs.lemmas.Result.{IfOk-weaker}
-use Rattle.block_device.specs.Disk.{Disk}
-use Rattle.unit_allocator.specs.Units.{Space}
-use Rattle.store_steps.specs.Opened.{Found}
-use Rattle.log_replay.specs.FoundOn.{as_found}
+use Rattle.block_device.specs.Prelude.{Disk}
+use Rattle.unit_allocator.specs.Prelude.{Space}
+use Rattle.store_steps.specs.Prelude.{Found}
+use Rattle.log_replay.specs.Prelude.{as_found, IsLater}
 use Rattle.mount_replay.specs.Mounting.{IsOpenedOn, StaysDurable}
-use Rattle.log_replay.specs.Calls.{IsLater}
 use Rattle.log_replay.proofs.ZeroLemmas.{later_same}
 use Rattle.mount_replay.proofs.MountLemmas.{stays_same, refused_fails}
 use Rattle.mount_replay.proofs.mounting.mount.Goals as goal

@@ -1,11 +1,11 @@
 use Rattle.std.proofs.Common.{ap, sym, subst, ◌∙◌}
-use Rattle.block_device.specs.Disk.{Disk}
+use Rattle.block_device.specs.Prelude.{Disk}
 use Rattle.meta_store.specs.Store.{Meta}
-use Rattle.store_steps.specs.Opened.{opened}
-use Rattle.store_facts.specs.Kept.{IsKept}
+use Rattle.store_steps.specs.Prelude.{opened}
+use Rattle.store_facts.specs.Prelude.{IsKept}
 use Rattle.crash_facts.specs.Store.{KeepsDurable}
 use Rattle.store_kernel.specs.Seen.{found_of}
-use Rattle.log_replay.specs.FoundOn.{as_found}
+use Rattle.log_replay.specs.Prelude.{as_found}
 use Rattle.mount_replay.specs.Mounting.{IsOpenedOn, StaysDurable}
 use Rattle.mount_replay.proofs.MountLemmas.{stays_begun, opened_durable, opened_kept, opened_on}
 use Rattle.mount_replay.proofs.mounting.open_on.Goals as goal

@@ -1,5 +1,5 @@
 use Rattle.std.proofs.Common.{◌≡◌, ◌+◌, drop}
-use Rattle.object_model.specs.Limits.{payload_of_keys}
+use Rattle.object_model.specs.Prelude.{payload_of_keys}
 use Rattle.object_model.proofs.transaction.left_by_keys.Given as goal
 
 abbrev pub invariant-loop-key : goal.invariant-loop-key

@@ -1,5 +1,5 @@
 use Rattle.std.proofs.Common.{◌≡◌, ◌+◌, drop}
-use Rattle.object_model.specs.Limits.{payload_of_pairs}
+use Rattle.object_model.specs.Prelude.{payload_of_pairs}
 use Rattle.object_model.proofs.transaction.left_by_pairs.Given as goal
 
 abbrev pub invariant-loop-pair : goal.invariant-loop-pair

@@ -1,6 +1,5 @@
 use Rattle.std.proofs.Common.{sym, subst}
-use Rattle.read_facts.specs.PageReads.{IsHeldAt, no_memory}
-use Rattle.read_facts.specs.Answers.{IsAnswerOf}
+use Rattle.read_facts.specs.Prelude.{IsHeldAt, no_memory, IsAnswerOf}
 use Rattle.object_reader.proofs.answering.answer.Goals as goal
 
 pub returns-in_ok-answer_stat-in-Stat-clause-ok : goal.returns-in_ok-answer_stat-in-Stat-clause-ok

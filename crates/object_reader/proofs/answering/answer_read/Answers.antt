@@ -1,8 +1,7 @@
 use Rattle.std.proofs.Common.{◌+◌, ◌≤◌, sym, subst}
-use Rattle.object_model.specs.Effect.{object_limit}
+use Rattle.object_model.specs.Prelude.{object_limit}
 use Rattle.object_model.specs.declared.command.Command.TheVariants as ask
-use Rattle.read_facts.specs.PageReads.{IsHeldAt, no_memory}
-use Rattle.read_facts.specs.Answers.{IsAnswerOf}
+use Rattle.read_facts.specs.Prelude.{IsHeldAt, no_memory, IsAnswerOf}
 use Rattle.object_reader.specs.Missing.{HasObject}
 use Rattle.object_reader.specs.Parts.{GivesRange}
 use Rattle.object_reader.specs.PartFails.{IsCsumOf}

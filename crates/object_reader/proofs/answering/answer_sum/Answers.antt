@@ -1,6 +1,5 @@
 use Rattle.object_model.specs.declared.command.Command.TheVariants as ask
-use Rattle.read_facts.specs.PageReads.{IsHeldAt, no_memory}
-use Rattle.read_facts.specs.Answers.{IsAnswerOf}
+use Rattle.read_facts.specs.Prelude.{IsHeldAt, no_memory, IsAnswerOf}
 use Rattle.object_reader.specs.Missing.{HasObject}
 use Rattle.object_reader.specs.PartFails.{IsCsumOf}
 use Rattle.read_facts.proofs.Found.{sum_taken}

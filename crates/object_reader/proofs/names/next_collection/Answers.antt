@@ -1,6 +1,6 @@
 use Rattle.std.proofs.Common.{ℕ, List, sym, subst, ◌∙◌}
 use Rattle.std.specs.Option.{option_copied}
-use Rattle.read_facts.specs.Walks.{IsCollection, IsNextOf}
+use Rattle.read_facts.specs.Prelude.{IsCollection, IsNextOf}
 use Rattle.onode_codec.specs.Fronts.{colls_first, colls_end}
 use Rattle.object_reader.specs.NextKeys.{IsLeastKey, HasNoKey}
 use Rattle.object_reader.proofs.NamesNext.{next_coll, no_coll}

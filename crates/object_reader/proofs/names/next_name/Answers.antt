@@ -1,6 +1,6 @@
 use Rattle.std.proofs.Common.{ℕ, List, sym, subst, ◌∙◌}
 use Rattle.std.specs.Option.{option_copied}
-use Rattle.read_facts.specs.Walks.{IsObject, IsNextOf}
+use Rattle.read_facts.specs.Prelude.{IsObject, IsNextOf}
 use Rattle.onode_codec.specs.Fronts.{objects_first, objects_end}
 use Rattle.object_reader.specs.NextKeys.{IsLeastKey, HasNoKey}
 use Rattle.object_reader.proofs.NamesNext.{next_onode, no_onode}

@@ -1,5 +1,5 @@
 use Rattle.std.proofs.Common.{◌∙◌, ap, refl, sym, arith}
-use Rattle.crc32c_csum.specs.Crc32c.{crc32c}
+use Rattle.crc32c_csum.specs.Prelude.{crc32c}
 use Rattle.object_reader.proofs.PartLemmas.{sums_more}
 use Rattle.object_reader.proofs.parts.first_mismatch.Goals as goal
 

@@ -1,5 +1,5 @@
 use Rattle.std.proofs.Common.{◌≡◌, ◌+◌, ◌∙◌, None, refl, sym, subst}
-use Rattle.page_lookup.specs.Found.{place_found}
+use Rattle.page_lookup.specs.Prelude.{place_found}
 use Rattle.object_reader.specs.Parts.{HaveFewUnits}
 use Rattle.object_reader.proofs.PartLemmas.{one_hole, hole_more}
 use Rattle.object_reader.proofs.parts.hole_pages.Goals as goal

@@ -1,6 +1,6 @@
 use Rattle.std.proofs.Common.{◌≡◌, ◌+◌, ◌∙◌, Some, refl, sym, subst, arith}
-use Rattle.row_format.specs.Extents.{own}
-use Rattle.page_lookup.specs.Found.{place_found}
+use Rattle.row_format.specs.Prelude.{own}
+use Rattle.page_lookup.specs.Prelude.{place_found}
 use Rattle.object_reader.specs.Parts.{HaveFewUnits}
 use Rattle.object_reader.proofs.PartLemmas.{kept_more}
 use Rattle.object_reader.proofs.parts.unit_pages.Goals as goal

@@ -1,5 +1,5 @@
 use Rattle.std.proofs.Common.{◌≡◌, ◌-◌, ◌+◌, ◌*◌, ◌≤◌, take, ap, refl, arith, subst, sym, ◌∙◌}
-use Rattle.read_facts.specs.PageReads.{pages_read}
+use Rattle.read_facts.specs.Prelude.{pages_read}
 use Rattle.object_reader.specs.Parts.{CanRead, GivesPages, IsPartFail, IsDigestOf}
 use Rattle.object_reader.proofs.PartLemmas.{handed_on}
 use Rattle.object_reader.proofs.ReadLemmas.{digest_of_none, digest_of_more, sums_of_front, sum_of_all, sum_fails_behind}

@@ -1,5 +1,5 @@
 use Rattle.std.proofs.Common.{◌*◌, ◌/◌, take, length, ap, ap₂, ◌∙◌, le_antisymm}
-use Rattle.crc32c_csum.specs.Crc32c.{remainder}
+use Rattle.crc32c_csum.specs.Prelude.{remainder}
 use Rattle.object_reader.proofs.ReadLemmas.{page_in, rest_in}
 use Rattle.object_reader.proofs.reading.take_in.Goals as goal
 

@@ -1,5 +1,5 @@
 use Rattle.std.proofs.Common.{◌≡◌, ◌*◌, take}
-use Rattle.crc32c_csum.specs.Crc32c.{remainder}
+use Rattle.crc32c_csum.specs.Prelude.{remainder}
 use Rattle.object_reader.proofs.reading.take_in.Given as goal
 
 -- the pages so far were taken in

@@ -1,6 +1,6 @@
 use Rattle.std.proofs.Common.{◌≡◌, ◌++◌, length}
 use Rattle.std.specs.List.{flat_map, AllByRecursion}
-use Rattle.row_format.specs.Extents.{extent_bytes, FitsExtent}
+use Rattle.row_format.specs.Prelude.{extent_bytes, FitsExtent}
 use Rattle.onode_codec.proofs.extent.decode_extents.Given as goal
 
 abbrev pub invariant-extents : goal.invariant-extents

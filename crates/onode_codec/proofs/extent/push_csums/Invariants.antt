@@ -1,6 +1,6 @@
 use Rattle.std.proofs.Common.{◌≡◌, ◌++◌, take}
 use Rattle.std.specs.List.{flat_map}
-use Rattle.row_format.specs.Csums.{csum_bytes}
+use Rattle.row_format.specs.Prelude.{csum_bytes}
 use Rattle.onode_codec.proofs.extent.push_csums.Given as goal
 
 abbrev pub invariant-loop-csum : goal.invariant-loop-csum

@@ -1,5 +1,5 @@
 use Rattle.std.proofs.Common.{◌<◌, length, rules}
-use Rattle.unit_fields.specs.Widths.{bytes_of}
+use Rattle.unit_fields.specs.Prelude.{bytes_of}
 use Rattle.onode_codec.proofs.ExtentReading.{csums_missing}
 use Rattle.onode_codec.proofs.extent.read_extent.Goals as goal
 

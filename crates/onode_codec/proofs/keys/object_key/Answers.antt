@@ -1,6 +1,6 @@
 use Rattle.std.proofs.Common.{◌≡◌, arith}
 use Rattle.std.proofs.lemmas.Grind.{common_steps}
-use Rattle.row_format.specs.Keys.{object_key}
+use Rattle.row_format.specs.Prelude.{object_key}
 use Rattle.onode_codec.proofs.KeyLengths.{object_key-size}
 use Rattle.onode_codec.proofs.keys.object_key.Goals as goal
 

@@ -1,6 +1,5 @@
 use Rattle.std.proofs.Common.{ℕ, rules, sym, subst}
-use Rattle.page_lookup.specs.Bytes.{rows_read}
-use Rattle.page_lookup.specs.Found.{HasUnit}
+use Rattle.page_lookup.specs.Prelude.{rows_read, HasUnit}
 use Rattle.onode_state.specs.Objects.{FindPagesOf}
 use Rattle.onode_state.proofs.FoundPages.{pages_found, units_fit}
 use Rattle.onode_state.proofs.object.object_pages.Goals as goal

@@ -1,6 +1,6 @@
 use Rattle.std.proofs.Common.{◌≡◌, Some, None, ap, sym, subst, ◌∙◌}
 use Rattle.std.specs.FinMap as map
-use Rattle.row_format.specs.Keys.{onode_key}
+use Rattle.row_format.specs.Prelude.{onode_key}
 use Rattle.onode_codec.specs.Reading.{SpellsOnode}
 use Rattle.onode_state.proofs.States.{onode_under, size_read, no_size}
 use Rattle.onode_state.proofs.object.object_size.Goals as goal

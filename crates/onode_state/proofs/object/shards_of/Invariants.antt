@@ -1,6 +1,6 @@
 use Rattle.std.proofs.Common.{◌≡◌, ℕ, Some, ◌∷◌, [], take, drop}
-use Rattle.meta_rows.specs.Table.{rows_from_to}
-use Rattle.row_format.specs.Keys.{object_key, shard_key}
+use Rattle.meta_rows.specs.Prelude.{rows_from_to}
+use Rattle.row_format.specs.Prelude.{object_key, shard_key}
 use Rattle.onode_state.proofs.ReadShards.{AreRead}
 use Rattle.onode_state.proofs.object.shards_of.Given as goal
 

@@ -1,5 +1,5 @@
 use Rattle.std.proofs.Common.{◌≡◌, length, ap, ◌∙◌, arith, rules}
-use Rattle.unit_fields.specs.Widths.{bytes_of}
+use Rattle.unit_fields.specs.Prelude.{bytes_of}
 use Rattle.page_lookup.proofs.Fronts.{too_few, head_is}
 use Rattle.page_lookup.proofs.shard.head_in.Goals as goal
 

@@ -1,9 +1,8 @@
 use Rattle.std.proofs.Common.{◌≡◌, ◌<◌, ◌+◌, ◌-◌, ◌∙◌, Some, None, ap, sym, length, drop, arith, rules}
 use Rattle.std.proofs.lemmas.List.{length-drop}
-use Rattle.unit_fields.specs.Widths.{bytes_of}
-use Rattle.row_format.specs.Extents.{own}
-use Rattle.page_lookup.specs.Bytes.{csum_in, size_in}
-use Rattle.page_lookup.specs.Found.{place_found}
+use Rattle.unit_fields.specs.Prelude.{bytes_of}
+use Rattle.row_format.specs.Prelude.{own}
+use Rattle.page_lookup.specs.Prelude.{csum_in, size_in, place_found}
 use Rattle.page_lookup.proofs.Fronts.{none_read, hole_before, below, csum_there, place_read, unit_fits}
 use Rattle.page_lookup.proofs.shard.place_at_front.Goals as goal
 

@@ -1,5 +1,5 @@
 use Rattle.std.proofs.Common.{rules}
-use Rattle.page_lookup.specs.Bytes.{extents_read}
+use Rattle.page_lookup.specs.Prelude.{extents_read}
 use Rattle.page_lookup.proofs.Fronts.{none_read, ends_behind, none_behind, left_out}
 use Rattle.page_lookup.proofs.shard.skip_to.Goals as goal
 

@@ -1,6 +1,5 @@
 use Rattle.std.proofs.Common.{length}
-use Rattle.page_lookup.specs.Bytes.{extents_read}
-use Rattle.page_lookup.specs.Found.{FindAlikeBefore}
+use Rattle.page_lookup.specs.Prelude.{extents_read, FindAlikeBefore}
 use Rattle.page_lookup.proofs.shard.skip_to.Given as goal
 
 -- what was left out ends in front of the page

@@ -1,5 +1,5 @@
 use Rattle.std.proofs.Common.{◌≡◌, drop}
-use Rattle.object_model.specs.Effect.{effects}
+use Rattle.object_model.specs.Prelude.{effects}
 use Rattle.plain_store.proofs.applying.effects.Given as goal
 
 abbrev pub invariant-loop-op : goal.invariant-loop-op

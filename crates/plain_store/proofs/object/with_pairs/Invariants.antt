@@ -1,5 +1,5 @@
 use Rattle.std.proofs.Common.{◌≡◌, drop}
-use Rattle.object_model.specs.Effect.{with_pairs}
+use Rattle.object_model.specs.Prelude.{with_pairs}
 use Rattle.plain_store.proofs.object.with_pairs.Given as goal
 
 abbrev pub invariant-loop-pair : goal.invariant-loop-pair

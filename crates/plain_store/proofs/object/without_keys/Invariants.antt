@@ -1,5 +1,5 @@
 use Rattle.std.proofs.Common.{◌≡◌, drop}
-use Rattle.object_model.specs.Effect.{without_keys}
+use Rattle.object_model.specs.Prelude.{without_keys}
 use Rattle.plain_store.proofs.object.without_keys.Given as goal
 
 abbrev pub invariant-loop-key : goal.invariant-loop-key

@@ -1,4 +1,4 @@
-use Rattle.read_facts.specs.PageReads.{IsHeldAt}
+use Rattle.read_facts.specs.Prelude.{IsHeldAt}
 use Rattle.read_facts.proofs.Pages.{good_in_memory, not_bad_in_memory}
 use Rattle.read_facts.proofs.laws.bytes_in_memory_are_read.Goals as goal
 

@@ -1,4 +1,4 @@
-use Rattle.read_facts.specs.Walks.{IsCollection, IsObject}
+use Rattle.read_facts.specs.Prelude.{IsCollection, IsObject}
 use Rattle.read_facts.proofs.Walks.{one_order}
 use Rattle.read_facts.proofs.Keys.{coll_keys, object_keys}
 use Rattle.read_facts.proofs.laws.names_come_in_one_order.Goals as goal

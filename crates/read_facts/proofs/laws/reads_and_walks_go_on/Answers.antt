@@ -1,7 +1,6 @@
 use Rattle.read_facts.proofs.Pages.{good_appended, none_good, bad_behind_good}
 use Rattle.read_facts.proofs.Walks.{next_appended, last_appended}
-use Rattle.read_facts.specs.PageReads.{IsHeldAt}
-use Rattle.read_facts.specs.Walks.{IsCollection, IsObject}
+use Rattle.read_facts.specs.Prelude.{IsHeldAt, IsCollection, IsObject}
 use Rattle.read_facts.proofs.laws.reads_and_walks_go_on.Goals as goal
 
 pub returns-clause-no_page : goal.returns-clause-no_page

@@ -1,4 +1,4 @@
-use Rattle.read_facts.specs.PageReads.{IsHeldAt}
+use Rattle.read_facts.specs.Prelude.{IsHeldAt}
 use Rattle.read_facts.proofs.Plain.{plain_answer}
 use Rattle.read_facts.proofs.laws.reads_are_plain_but_for_bytes.Goals as goal
 

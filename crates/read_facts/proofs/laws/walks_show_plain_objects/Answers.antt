@@ -1,4 +1,4 @@
-use Rattle.meta_log.specs.Slots.{width_of}
+use Rattle.meta_log.specs.Prelude.{width_of}
 use Rattle.read_facts.proofs.Viewed.{walk_is, walk_good}
 use Rattle.read_facts.proofs.laws.walks_show_plain_objects.Goals as goal
 

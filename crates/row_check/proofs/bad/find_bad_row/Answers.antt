@@ -1,7 +1,7 @@
 use Rattle.std.proofs.Common.{◌+◌, [], None, refl, sym, subst, ◌∙◌}
-use Rattle.meta_rows.specs.Table.{rows_from_to}
+use Rattle.meta_rows.specs.Prelude.{rows_from_to}
 use Rattle.meta_rows.proofs.RangeLemmas.{left_more, left_none}
-use Rattle.store_image.specs.BadRows.{IsGoodRow}
+use Rattle.store_image.specs.Prelude.{IsGoodRow}
 use Rattle.row_check.specs.Bad.{IsLeastBad, IsGood}
 use Rattle.row_reading.proofs.Entries.{AreRows, are_rows}
 use Rattle.row_check.proofs.Walk.{Walked, at_start, step_to, step_on, step_bad, all_good}

@@ -1,5 +1,5 @@
 use Rattle.std.proofs.Common.{◌≡◌, ℕ, [], None, drop}
-use Rattle.meta_rows.specs.Table.{rows_from_to}
+use Rattle.meta_rows.specs.Prelude.{rows_from_to}
 use Rattle.row_check.proofs.Walk.{Walked}
 use Rattle.row_check.proofs.bad.find_bad_row.Given as goal
 

@@ -1,5 +1,5 @@
 use Rattle.std.proofs.Common.{◌≡◌, true, false, sym, subst, ◌∙◌}
-use Rattle.store_image.specs.BadRows.{IsInPlace}
+use Rattle.store_image.specs.Prelude.{IsInPlace}
 use Rattle.row_reading.specs.Reading.{row_of, SpellsRow}
 use Rattle.row_check.proofs.Shards.{no_good}
 use Rattle.row_check.proofs.bad.good_row.Goals as goal

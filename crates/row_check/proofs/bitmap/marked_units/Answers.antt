@@ -1,6 +1,6 @@
 use Rattle.std.proofs.Common.{sym, subst}
-use Rattle.meta_log.specs.Slots.{width_of}
-use Rattle.store_image.specs.Owners.{IsLeastInexact}
+use Rattle.meta_log.specs.Prelude.{width_of}
+use Rattle.store_image.specs.Prelude.{IsLeastInexact}
 use Rattle.bitmap_freelist.proofs.GoodBitmaps.{bitmap_rows}
 use Rattle.row_check.proofs.ExactUnits.{AreUnitsOf, found_exact, found_inexact}
 use Rattle.row_check.proofs.bitmap.marked_units.Goals as goal

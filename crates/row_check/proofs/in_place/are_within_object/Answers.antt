@@ -1,6 +1,6 @@
 use Rattle.std.proofs.Common.{◌≡◌, Some, rules}
 use Rattle.std.specs.FinMap as map
-use Rattle.row_format.specs.Keys.{onode_key}
+use Rattle.row_format.specs.Prelude.{onode_key}
 use Rattle.row_check.proofs.Before.{within_size, within_found}
 use Rattle.row_check.proofs.in_place.are_within_object.Goals as goal
 

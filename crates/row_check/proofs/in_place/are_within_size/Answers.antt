@@ -1,7 +1,7 @@
 use Rattle.std.proofs.Common.{◌≡◌, ◌≤◌, ◌↔◌, true, subst, ◌∙◌}
 use Rattle.std.specs.List.{AllByRecursion}
-use Rattle.row_format.specs.Extents.{page_end}
-use Rattle.store_image.specs.Pages.{pages_of}
+use Rattle.row_format.specs.Prelude.{page_end}
+use Rattle.store_image.specs.Prelude.{pages_of}
 use Rattle.row_check.proofs.Ascending.{pages_ceil}
 use Rattle.row_check.proofs.in_place.are_within_size.Goals as goal
 

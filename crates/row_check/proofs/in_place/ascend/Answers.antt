@@ -1,5 +1,5 @@
 use Rattle.std.proofs.Common.{◌≡◌, ◌≤◌, ◌-◌, true, false, subst, sym, ap, ◌∙◌, refl, arith}
-use Rattle.row_format.specs.Extents.{Extent, page_end}
+use Rattle.row_format.specs.Prelude.{Extent, page_end}
 use Rattle.row_check.proofs.Ascending.{ascending, overlapping}
 use Rattle.row_check.proofs.in_place.ascend.Goals as goal
 

@@ -1,6 +1,6 @@
 use Rattle.std.proofs.Common.{◌≡◌, true, false, sym, ◌∙◌}
 use Rattle.row_check.specs.Bad.{EndsBefore}
-use Rattle.row_format.specs.Row.{row_key}
+use Rattle.row_format.specs.Prelude.{row_key}
 use Rattle.row_reading.specs.Reading.{row_of}
 use Rattle.row_check.proofs.Shards.{shard_answer, shard_refused}
 use Rattle.row_check.proofs.Before.{collection_before, onode_before}

@@ -1,7 +1,7 @@
 use Rattle.std.proofs.Common.{◌+◌, [], length, None, refl, sym, subst, ◌∙◌}
-use Rattle.meta_rows.specs.Table.{rows_from_to}
+use Rattle.meta_rows.specs.Prelude.{rows_from_to}
 use Rattle.meta_rows.proofs.RangeLemmas.{left_more, left_none}
-use Rattle.meta_log.specs.Slots.{width_of}
+use Rattle.meta_log.specs.Prelude.{width_of}
 use Rattle.row_check.specs.Owned.{SpellsRowWithin, AreMarkedOn}
 use Rattle.row_reading.proofs.Entries.{AreRows, are_rows}
 use Rattle.row_check.proofs.MarkedRows.{MarkedTo, none_marked, spells_within, row_step, all_marked}

@@ -1,6 +1,6 @@
 use Rattle.std.proofs.Common.{◌≡◌, ℕ, [], None, drop}
-use Rattle.meta_rows.specs.Table.{rows_from_to}
-use Rattle.meta_log.specs.Slots.{width_of}
+use Rattle.meta_rows.specs.Prelude.{rows_from_to}
+use Rattle.meta_log.specs.Prelude.{width_of}
 use Rattle.row_check.proofs.MarkedRows.{MarkedTo}
 use Rattle.row_check.proofs.owners.marks_of.Given as goal
 

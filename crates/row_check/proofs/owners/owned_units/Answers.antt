@@ -1,4 +1,4 @@
-use Rattle.meta_log.specs.Slots.{width_of}
+use Rattle.meta_log.specs.Prelude.{width_of}
 use Rattle.row_check.proofs.ExactUnits.{owned_below}
 use Rattle.row_check.proofs.owners.owned_units.Goals as goal
 

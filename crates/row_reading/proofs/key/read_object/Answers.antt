@@ -1,4 +1,4 @@
-use Rattle.unit_fields.specs.Names.{IsName, IsCollName}
+use Rattle.unit_fields.specs.Prelude.{IsName, IsCollName}
 use Rattle.row_reading.proofs.KeyReading.{cut_twice, no_first_zero, no_second_zero, no_part, no_coll, no_object}
 use Rattle.row_reading.proofs.key.read_object.Goals as goal
 

@@ -1,5 +1,5 @@
 use Rattle.std.proofs.Common.{◌≡◌, true, false, List, sym, subst, ◌∙◌}
-use Rattle.row_format.specs.Extents.{Extent, BeginsAt}
+use Rattle.row_format.specs.Prelude.{Extent, BeginsAt}
 use Rattle.onode_codec.specs.Reading.{SpellExtents}
 use Rattle.row_reading.proofs.RowReading.{no_extents, other_page}
 use Rattle.row_reading.proofs.row.read_shard.Goals as goal

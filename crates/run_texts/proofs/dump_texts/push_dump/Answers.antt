@@ -1,6 +1,5 @@
 use Rattle.std.proofs.Common.{Bool, ap, sym}
-use Rattle.run_texts.specs.Texts.{as_text}
-use Rattle.run_texts.specs.DumpTexts.{walk_lines, has_bad_view, last_lines}
+use Rattle.run_texts.specs.Prelude.{as_text, walk_lines, has_bad_view, last_lines}
 use Rattle.run_texts.proofs.TextLemmas.{as_text-append}
 use Rattle.run_texts.proofs.Adding.{both, said}
 use Rattle.run_texts.proofs.dump_texts.push_dump.Goals as goal

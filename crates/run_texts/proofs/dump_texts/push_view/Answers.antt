@@ -1,5 +1,5 @@
 use Rattle.std.proofs.Common.{ap}
-use Rattle.script_text.specs.Grammar.{escaped}
+use Rattle.script_text.specs.Prelude.{escaped}
 use Rattle.run_texts.proofs.Adding.{both, said}
 use Rattle.run_texts.proofs.dump_texts.push_view.Goals as goal
 

@@ -1,5 +1,5 @@
 use Rattle.std.proofs.Common.{drop}
-use Rattle.run_texts.specs.Printed.{output}
+use Rattle.run_texts.specs.Prelude.{output}
 use Rattle.run_texts.proofs.Adding.{IsAddedUpTo}
 use Rattle.run_texts.proofs.DumpLemmas.{walk_text}
 use Rattle.run_texts.proofs.dump_texts.push_walk.Given as goal

@@ -1,4 +1,4 @@
-use Rattle.run_texts.specs.Hex.{hex_text}
+use Rattle.run_texts.specs.Prelude.{hex_text}
 use Rattle.run_texts.proofs.HexLemmas.{hex_append}
 use Rattle.run_texts.proofs.Adding.{more_added}
 use Rattle.run_texts.proofs.hex.push_hex.Goals as goal

@@ -1,7 +1,6 @@
 use Rattle.std.proofs.Common.{length}
-use Rattle.run_texts.specs.Printed.{output}
+use Rattle.run_texts.specs.Prelude.{output, hex_text}
 use Rattle.run_texts.proofs.Adding.{IsAddedUpTo}
-use Rattle.run_texts.specs.Hex.{hex_text}
 use Rattle.run_texts.proofs.hex.push_hex.Given as goal
 
 abbrev pub invariant-pieces : goal.invariant-pieces

@@ -1,5 +1,5 @@
 use Rattle.std.proofs.Common.{◌≡◌, ◌*◌, ◌++◌, take, drop}
-use Rattle.run_texts.specs.Hex.{hex_text}
+use Rattle.run_texts.specs.Prelude.{hex_text}
 use Rattle.run_texts.proofs.hex.write_digits.Given as goal
 
 abbrev pub invariant-bytes : goal.invariant-bytes

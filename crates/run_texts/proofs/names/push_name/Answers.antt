@@ -1,6 +1,6 @@
 use Rattle.std.proofs.Common.{◌<◌, [], ◌∷◌, length, get_or, sym, ◌∙◌, rules}
 use Rattle.std.proofs.lemmas.List.{drop_more}
-use Rattle.script_text.specs.Grammar.{escape, escaped}
+use Rattle.script_text.specs.Prelude.{escape, escaped}
 use Rattle.script_text.proofs.Spelled.{spelled_nil}
 use Rattle.run_texts.proofs.ReplyLemmas.{escaped-append, escaped_one}
 use Rattle.run_texts.proofs.Adding.{said, none_added, more_added}

@@ -1,7 +1,7 @@
 use Rattle.std.proofs.Common.{drop}
-use Rattle.run_texts.specs.Printed.{output}
+use Rattle.run_texts.specs.Prelude.{output}
 use Rattle.run_texts.proofs.Adding.{IsAddedUpTo}
-use Rattle.script_text.specs.Grammar.{escaped}
+use Rattle.script_text.specs.Prelude.{escaped}
 use Rattle.run_texts.proofs.names.push_name.Given as goal
 
 abbrev pub invariant-loop-byte : goal.invariant-loop-byte

@@ -1,5 +1,5 @@
 use Rattle.std.proofs.Common.{◌≡◌, ◌<◌, ℕ, length, take, get_or, false}
-use Rattle.run_texts.specs.Replies.{is_acked}
+use Rattle.run_texts.specs.Prelude.{is_acked}
 use Rattle.run_texts.proofs.replies.acked_entries.Given as goal
 
 abbrev pub invariant-loop-commit : goal.invariant-loop-commit

@@ -1,5 +1,5 @@
 use Rattle.std.proofs.Common.{◌≡◌, take}
-use Rattle.run_texts.specs.Replies.{answers_of}
+use Rattle.run_texts.specs.Prelude.{answers_of}
 use Rattle.run_texts.proofs.replies.count.Given as goal
 
 abbrev pub invariant-loop-entry : goal.invariant-loop-entry

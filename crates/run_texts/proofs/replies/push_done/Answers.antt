@@ -2,7 +2,7 @@ use Rattle.std.proofs.Common.{List, ap, ◌∙◌}
 use Rattle.std.specs.Prelude.{decimal}
 use Rattle.object_model.specs.declared.book.Entry.{Entry}
 use Rattle.run_texts.specs.declared.replies.Kind.TheVariants.{Accepted, Refused, Read}
-use Rattle.run_texts.specs.Replies.{answers_of}
+use Rattle.run_texts.specs.Prelude.{answers_of}
 use Rattle.run_texts.proofs.Adding.{both, said}
 use Rattle.run_texts.proofs.replies.push_done.Goals as goal
 

@@ -1,7 +1,7 @@
 use Rattle.std.proofs.Common.{ℕ, List, ◌≡◌, ◌<◌, ◌+◌, [], ◌∷◌, length, drop, sym, ap, ◌∙◌, rules}
 use Rattle.std.proofs.lemmas.List.{drop_more}
-use Rattle.script_text.specs.Grammar.{escaped}
-use Rattle.run_texts.specs.Replies.{names_text}
+use Rattle.script_text.specs.Prelude.{escaped}
+use Rattle.run_texts.specs.Prelude.{names_text}
 use Rattle.run_texts.proofs.ReplyLemmas.{names-append, one_name}
 use Rattle.run_texts.proofs.Adding.{both, said, more_added}
 use Rattle.run_texts.proofs.replies.push_names.Goals as goal

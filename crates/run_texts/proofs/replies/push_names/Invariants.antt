@@ -1,7 +1,6 @@
 use Rattle.std.proofs.Common.{drop}
-use Rattle.run_texts.specs.Printed.{output}
+use Rattle.run_texts.specs.Prelude.{output, names_text}
 use Rattle.run_texts.proofs.Adding.{IsAddedUpTo}
-use Rattle.run_texts.specs.Replies.{names_text}
 use Rattle.run_texts.proofs.replies.push_names.Given as goal
 
 abbrev pub invariant-loop-name : goal.invariant-loop-name

@@ -1,7 +1,7 @@
 use Rattle.std.proofs.Common.{◌≡◌, ◌<◌, [], List, ℕ, length, false, ap, ◌∙◌, arith}
 use Rattle.std.proofs.lemmas.List.{get_or_read}
 use Rattle.object_model.specs.declared.book.Commit.{Commit}
-use Rattle.run_texts.specs.Replies.{is_acked}
+use Rattle.run_texts.specs.Prelude.{is_acked}
 use Rattle.run_texts.proofs.ReplyLemmas.{at_ok, next_line}
 use Rattle.run_texts.proofs.Adding.{both, said}
 use Rattle.run_texts.proofs.replies.push_replies.Goals.{in-Ok, in-Err}

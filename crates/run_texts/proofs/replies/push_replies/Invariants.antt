@@ -1,8 +1,5 @@
 use Rattle.std.proofs.Common.{take}
-use Rattle.run_texts.specs.Printed.{output}
-use Rattle.run_texts.specs.Printing.{Adds}
-use Rattle.run_texts.specs.Texts.{as_text}
-use Rattle.run_texts.specs.Replies.{entry_lines}
+use Rattle.run_texts.specs.Prelude.{output, Adds, as_text, entry_lines}
 use Rattle.run_texts.proofs.replies.push_replies.Given as goal
 
 abbrev pub invariant-loop-place : goal.invariant-loop-place

@@ -1,6 +1,6 @@
 use Rattle.std.proofs.Common.{ap, sym}
 use Rattle.object_model.specs.declared.command.Answer.{Answer}
-use Rattle.run_texts.specs.Replies.{reply_text}
+use Rattle.run_texts.specs.Prelude.{reply_text}
 use Rattle.run_texts.proofs.Adding.{said}
 use Rattle.run_texts.proofs.replies.push_reply.Goals as goal
 

@@ -1,5 +1,5 @@
 use Rattle.std.proofs.Common.{Bool, ap, ◌∙◌}
-use Rattle.run_texts.specs.StepTexts.{end_status}
+use Rattle.run_texts.specs.Prelude.{end_status}
 use Rattle.run_texts.proofs.Adding.{from_nothing, with_end}
 use Rattle.run_texts.proofs.reports.report_dump.Goals as goal
 

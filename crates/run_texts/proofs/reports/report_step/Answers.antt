@@ -1,7 +1,6 @@
 use Rattle.std.proofs.Common.{List, Bool, ap, ◌∙◌}
 use Rattle.object_model.specs.declared.book.Entry.{Entry}
-use Rattle.run_texts.specs.Replies.{has_csum}
-use Rattle.run_texts.specs.StepTexts.{end_status}
+use Rattle.run_texts.specs.Prelude.{has_csum, end_status}
 use Rattle.run_texts.proofs.Adding.{from_nothing, with_end}
 use Rattle.run_texts.proofs.reports.report_step.Goals as goal
 

@@ -1,7 +1,6 @@
 use Rattle.std.proofs.Common.{ap, sym}
 use Rattle.run_texts.specs.declared.work_end.WorkEnd.{WorkEnd}
-use Rattle.run_texts.specs.Texts.{as_text}
-use Rattle.run_texts.specs.StepTexts.{fail_lines}
+use Rattle.run_texts.specs.Prelude.{as_text, fail_lines}
 use Rattle.run_texts.proofs.Adding.{said}
 use Rattle.run_texts.proofs.step_texts.push_fail.Goals as goal
 

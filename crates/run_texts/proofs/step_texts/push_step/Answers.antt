@@ -1,6 +1,5 @@
 use Rattle.std.proofs.Common.{sym}
-use Rattle.run_texts.specs.Replies.{entry_lines}
-use Rattle.run_texts.specs.StepTexts.{end_lines}
+use Rattle.run_texts.specs.Prelude.{entry_lines, end_lines}
 use Rattle.run_texts.proofs.TextLemmas.{as_text-append}
 use Rattle.run_texts.proofs.Adding.{both, said}
 use Rattle.run_texts.proofs.step_texts.push_step.Goals as goal

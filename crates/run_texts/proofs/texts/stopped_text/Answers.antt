@@ -1,5 +1,5 @@
 use Rattle.std.proofs.Common.{ap, sym, arith}
-use Rattle.run_texts.specs.Status.{stop_number}
+use Rattle.run_texts.specs.Prelude.{stop_number}
 use Rattle.run_texts.proofs.TextLemmas.{stopped_is}
 use Rattle.run_texts.proofs.texts.stopped_text.Goals as goal
 

@@ -1,5 +1,5 @@
 use Rattle.std.proofs.Common.{arith, ◌≡◌, ℕ, MatchOption, List, Option}
-use Rattle.unit_fields.specs.Names.{IsName}
+use Rattle.unit_fields.specs.Prelude.{IsName}
 use Rattle.script_text.proofs.Forms.{if_ok}
 use Rattle.script_text.proofs.Names.{name_found, name_word_short}
 use Rattle.script_text.proofs.escape.read_name.Goals as goal

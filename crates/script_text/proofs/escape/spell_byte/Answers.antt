@@ -1,5 +1,5 @@
 use Rattle.std.proofs.Common.{ℕ, List, [], ◌∷◌, ◌++◌, ◌/◌, ap, sym, ◌∙◌}
-use Rattle.script_text.specs.Grammar.{hex_digit_from, hex_pair}
+use Rattle.script_text.specs.Prelude.{hex_digit_from, hex_pair}
 use Rattle.script_text.proofs.Names.{escape_plain, escape_other}
 use Rattle.script_text.proofs.escape.spell_byte.Goals as goal
 

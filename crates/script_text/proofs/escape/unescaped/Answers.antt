@@ -1,6 +1,6 @@
 use Rattle.std.proofs.Common.{rules, ◌≡◌, ◌≢◌, [], length}
 use Rattle.std.proofs.lemmas.List.{nil_from_length}
-use Rattle.script_text.specs.Grammar.{escape}
+use Rattle.script_text.specs.Prelude.{escape}
 use Rattle.script_text.proofs.Spelled.{code_behind, read_none, read_more, read_no_more, read_all}
 use Rattle.script_text.proofs.Names.{escape_code}
 use Rattle.script_text.proofs.escape.unescaped.Goals as goal

@@ -1,5 +1,5 @@
 use Rattle.std.proofs.Common.{length}
-use Rattle.script_text.specs.Grammar.{escape}
+use Rattle.script_text.specs.Prelude.{escape}
 use Rattle.script_text.proofs.Spelled.{IsReadOf}
 use Rattle.script_text.proofs.escape.unescaped.Given as goal
 

@@ -1,6 +1,6 @@
 use Rattle.std.proofs.Common.{rules, arith, ◌≡◌, ◌≢◌, [], length}
 use Rattle.std.proofs.lemmas.List.{nil_from_length}
-use Rattle.script_text.specs.Grammar.{hex_pair}
+use Rattle.script_text.specs.Prelude.{hex_pair}
 use Rattle.script_text.proofs.Spelled.{code_behind, read_none, read_more, read_no_more, read_all}
 use Rattle.script_text.proofs.Digits.{pair_code}
 use Rattle.script_text.proofs.hex.read_hex.Goals as goal

@@ -1,5 +1,5 @@
 use Rattle.std.proofs.Common.{length}
-use Rattle.script_text.specs.Grammar.{hex_pair}
+use Rattle.script_text.specs.Prelude.{hex_pair}
 use Rattle.script_text.proofs.Spelled.{IsReadOf}
 use Rattle.script_text.proofs.hex.read_hex.Given as goal
 

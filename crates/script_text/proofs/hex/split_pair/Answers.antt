@@ -1,5 +1,5 @@
 use Rattle.std.proofs.Common.{◌≡◌, ◌/◌, ◌%◌, List, [], ◌∷◌, ◌++◌, ℕ, ap, ◌∙◌, arith}
-use Rattle.script_text.specs.Grammar.{hex_pair, hex_digit_from}
+use Rattle.script_text.specs.Prelude.{hex_pair, hex_digit_from}
 use Rattle.script_text.proofs.Digits.{pair_of_digits}
 use Rattle.script_text.proofs.hex.split_pair.Goals as goal
 

@@ -1,5 +1,5 @@
 use Rattle.std.proofs.Common.{◌≡◌}
-use Rattle.script_text.specs.Reading.{IsReadingOn}
+use Rattle.script_text.specs.Prelude.{IsReadingOn}
 use Rattle.script_text.proofs.script.read_pieces.Given as goal
 
 abbrev pub invariant-pieces : goal.invariant-pieces

@@ -1,5 +1,5 @@
 use Rattle.std.proofs.Common.{[], refl, subst}
-use Rattle.script_text.specs.Reading.{WasReadUpTo}
+use Rattle.script_text.specs.Prelude.{WasReadUpTo}
 use Rattle.script_text.proofs.Sources.{ended_read, full_read, past_read}
 use Rattle.script_text.proofs.script.read_through.Goals as goal
 

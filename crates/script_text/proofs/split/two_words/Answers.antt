@@ -1,5 +1,5 @@
 use Rattle.std.proofs.Common.{◌≡◌, ℕ, true, false, List, [], sym, subst, ◌∙◌}
-use Rattle.script_text.specs.Grammar.{HasNo}
+use Rattle.script_text.specs.Prelude.{HasNo}
 use Rattle.script_text.proofs.Words.{cut_word, no_words}
 use Rattle.script_text.proofs.split.two_words.Goals as goal
 

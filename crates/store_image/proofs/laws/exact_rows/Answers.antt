@@ -1,4 +1,4 @@
-use Rattle.store_image.specs.Owners.{IsLeaked}
+use Rattle.store_image.specs.Prelude.{IsLeaked}
 use Rattle.store_image.proofs.ExactLemmas.{as_itself, no_new_leaks, exact_onward, no_inexact}
 use Rattle.store_image.proofs.laws.exact_rows.Goals as goal
 

@@ -1,4 +1,4 @@
-use Rattle.meta_log.specs.Slots.{width_of}
+use Rattle.meta_log.specs.Prelude.{width_of}
 use Rattle.store_image.proofs.PageUnits.{some_unit}
 use Rattle.store_image.proofs.laws.placed_pages_stand.Goals as goal
 

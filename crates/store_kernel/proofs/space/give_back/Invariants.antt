@@ -1,5 +1,5 @@
 use Rattle.std.proofs.Common.{◌≡◌, drop}
-use Rattle.unit_allocator.specs.Units.{given}
+use Rattle.unit_allocator.specs.Prelude.{given}
 use Rattle.store_kernel.specs.Units.{CanBeGiven}
 use Rattle.store_kernel.proofs.space.give_back.Given as goal
 

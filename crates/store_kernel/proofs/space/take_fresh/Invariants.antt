@@ -1,5 +1,5 @@
 use Rattle.std.proofs.Common.{◌≡◌, map, drop}
-use Rattle.unit_allocator.specs.Units.{taken}
+use Rattle.unit_allocator.specs.Prelude.{taken}
 use Rattle.store_kernel.proofs.SpaceCalls.{CanTake}
 use Rattle.store_kernel.proofs.space.take_fresh.Given as goal
 

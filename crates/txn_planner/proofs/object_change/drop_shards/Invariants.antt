@@ -1,6 +1,6 @@
 use Rattle.std.proofs.Common.{◌≡◌, ◌++◌, drop}
 use Rattle.std.specs.Prelude.{filter}
-use Rattle.object_rows.specs.Operations.{drops}
+use Rattle.object_rows.specs.Prelude.{drops}
 use Rattle.txn_planner.specs.Parts.{is_of}
 use Rattle.txn_planner.proofs.object_change.drop_shards.Given as goal
 

@@ -1,8 +1,8 @@
 use Rattle.std.proofs.Common.{◌≡◌, ◌++◌, ap, sym, ◌∙◌}
 use Rattle.std.specs.Prelude.{filter, slice_get}
 use Rattle.std.specs.FinMap as finite
-use Rattle.blob_map.specs.Normal.{extents_of}
-use Rattle.object_rows.specs.Operations.{drops, shard_ops}
+use Rattle.blob_map.specs.Prelude.{extents_of}
+use Rattle.object_rows.specs.Prelude.{drops, shard_ops}
 use Rattle.txn_planner.specs.declared.object_change.Part.TheVariants as part
 use Rattle.txn_planner.specs.Parts.{is_of}
 use Rattle.txn_planner.proofs.Changes.{on_ok_with, none_first, some_first, all_dropped, parts_replaced}

@@ -1,5 +1,5 @@
 use Rattle.std.proofs.Common.{◌≡◌, sym, subst, ◌∙◌, arith}
-use Rattle.plan_rows.specs.Layouts.{IsSizeOf}
+use Rattle.plan_rows.specs.Prelude.{IsSizeOf}
 use Rattle.txn_planner.proofs.Changes.{size_said}
 use Rattle.txn_planner.proofs.object_change.size_ops.Goals as goal
 

@@ -1,5 +1,5 @@
 use Rattle.std.proofs.Common.{◌≡◌, ◌++◌, drop}
-use Rattle.plan_rows.specs.Plans.{pages_on}
+use Rattle.plan_rows.specs.Prelude.{pages_on}
 use Rattle.txn_planner.proofs.pages.fresh_units.Given as goal
 
 abbrev pub invariant-loop-i : goal.invariant-loop-i

@@ -1,8 +1,8 @@
 use Rattle.std.proofs.Common.{◌≡◌, ◌<◌, ◌^◌, ℕ, drop}
 use Rattle.byte_maps.specs.Units.{unit_at}
-use Rattle.crc32c_csum.specs.Crc32c.{crc32c}
-use Rattle.blob_map.specs.Pages.{with_pages}
-use Rattle.plan_rows.specs.Layouts.{new_pages}
+use Rattle.crc32c_csum.specs.Prelude.{crc32c}
+use Rattle.blob_map.specs.Prelude.{with_pages}
+use Rattle.plan_rows.specs.Prelude.{new_pages}
 use Rattle.txn_planner.proofs.pages.lay_pages.Given as goal
 
 abbrev pub invariant-loop-i : goal.invariant-loop-i

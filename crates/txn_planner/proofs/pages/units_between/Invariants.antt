@@ -2,7 +2,7 @@ use Rattle.std.proofs.Common.{◌≡◌, ◌++◌, flat_map, drop}
 use Rattle.std.specs.Ordering.{nat_cmp}
 use Rattle.std.specs.FinMap.Entries.{where_key}
 use Rattle.number_map.specs.NumberMap.{is_in}
-use Rattle.plan_rows.specs.Layouts.{own_units}
+use Rattle.plan_rows.specs.Prelude.{own_units}
 use Rattle.txn_planner.proofs.pages.units_between.Given as goal
 
 abbrev pub invariant-loop-page : goal.invariant-loop-page

@@ -3,13 +3,12 @@ use Rattle.std.specs.Ordering.{nat_cmp}
 use Rattle.std.specs.FinMap as finite
 use Rattle.std.specs.FinMap.Entries.{where_key}
 use Rattle.number_map.specs.NumberMap.{is_in}
-use Rattle.row_format.specs.Extents.{Place}
+use Rattle.row_format.specs.Prelude.{Place}
 use Rattle.byte_maps.specs.Units.{unit_at}
-use Rattle.crc32c_csum.specs.Crc32c.{crc32c}
-use Rattle.blob_map.specs.Pages.{with_pages}
-use Rattle.blob_map.specs.Normal.{extents_of}
-use Rattle.object_rows.specs.Operations.{shard_ops, object_ops}
-use Rattle.plan_rows.specs.Layouts.{new_pages, own_units, TurnsBits}
+use Rattle.crc32c_csum.specs.Prelude.{crc32c}
+use Rattle.blob_map.specs.Prelude.{with_pages, extents_of}
+use Rattle.object_rows.specs.Prelude.{shard_ops, object_ops}
+use Rattle.plan_rows.specs.Prelude.{new_pages, own_units, TurnsBits}
 use Rattle.txn_planner.proofs.Written.{writes_pages}
 use Rattle.txn_planner.proofs.planning.pages_on.Goals as goal
 

@@ -2,10 +2,10 @@ use Rattle.std.proofs.Common.{[], ◌∷◌, IfOk, sym, subst}
 use Rattle.object_model.specs.declared.op.Op.{Op}
 use Rattle.object_model.specs.declared.op.Op.TheVariants.{Write}
 use Rattle.object_model.specs.declared.command.Command.TheVariants as ask
-use Rattle.read_facts.specs.Refusals.{IsNotRefused}
+use Rattle.read_facts.specs.Prelude.{IsNotRefused}
 use Rattle.row_facts.specs.Operations.{coll_change}
-use Rattle.object_rows.specs.Writes.{touch_change}
-use Rattle.plan_rows.specs.Plans.{IsKnown}
+use Rattle.object_rows.specs.Prelude.{touch_change}
+use Rattle.plan_rows.specs.Prelude.{IsKnown}
 use Rattle.txn_planner.specs.Given.{GivesColl, GivesTouch, GivesPages}
 use Rattle.txn_planner.specs.Ops.{op_change}
 use Rattle.txn_planner.specs.PlanFails.{IsPlanFor}

@@ -1,5 +1,5 @@
 use Rattle.std.proofs.Common.{◌≡◌, take}
-use Rattle.store_steps.specs.Contexts.{run_bytes}
+use Rattle.store_steps.specs.Prelude.{run_bytes}
 use Rattle.txn_states.proofs.next_write.bytes_of.Given as goal
 
 abbrev pub invariant-loop-next : goal.invariant-loop-next

@@ -1,5 +1,5 @@
 use Rattle.std.proofs.Common.{ap, sym, ◌∙◌, ◌∷◌, [], ◌++◌}
-use Rattle.unit_allocator.specs.Units.{units_of}
+use Rattle.unit_allocator.specs.Prelude.{units_of}
 use Rattle.unit_allocator.proofs.Runs.{longer_last}
 use Rattle.unit_allocator.proofs.allocator.add_unit.Goals as goal
 

@@ -1,6 +1,6 @@
 use Rattle.std.proofs.Common.{sym, ap, subst, ◌∙◌}
 use Rattle.std.specs.FinMap as finite
-use Rattle.unit_allocator.specs.Fields.{hold_counts, AreSound}
+use Rattle.unit_allocator.specs.Prelude.{hold_counts, AreSound}
 use Rattle.unit_allocator.proofs.Fields.{all_free_sound, all_flags, no_counts}
 use Rattle.unit_allocator.proofs.allocator.all_free.Goals as goal
 

@@ -1,5 +1,5 @@
 use Rattle.std.proofs.Common.{◌*◌}
-use Rattle.unit_allocator.specs.Words.{HasNoBitBetween}
+use Rattle.unit_allocator.specs.Prelude.{HasNoBitBetween}
 use Rattle.unit_allocator.proofs.bits.next_in_words.Given as goal
 
 abbrev pub invariant-loop-w : goal.invariant-loop-w

@@ -1,5 +1,5 @@
 use Rattle.std.proofs.Common.{◌+◌, ap, ◌∙◌}
-use Rattle.unit_allocator.specs.Fields.{hold_count}
+use Rattle.unit_allocator.specs.Prelude.{hold_count}
 use Rattle.unit_allocator.proofs.Fields.{insert_here, insert_there}
 use Rattle.unit_allocator.proofs.hold_counts.add_hold.Goals as goal
 

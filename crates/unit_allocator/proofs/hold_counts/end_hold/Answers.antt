@@ -1,5 +1,5 @@
 use Rattle.std.proofs.Common.{◌≡◌, ◌-◌, ap, ◌∙◌, arith}
-use Rattle.unit_allocator.specs.Fields.{hold_count}
+use Rattle.unit_allocator.specs.Prelude.{hold_count}
 use Rattle.unit_allocator.proofs.Fields.{insert_here, insert_there, remove_here, remove_there, held_has_entry, false_true}
 use Rattle.unit_allocator.proofs.hold_counts.end_hold.Goals as goal
 

@@ -1,7 +1,6 @@
 use Rattle.std.proofs.Common.{◌≡◌, ℕ, ◌+◌, ◌*◌, ◌-◌, ◌≤◌, List, length, take, drop, ◌∙◌, ap, arith}
 use Rattle.byte_maps.specs.Units.{units_from}
-use Rattle.block_device.specs.Log.{last}
-use Rattle.block_device.specs.Memory.{MemoryDisk}
+use Rattle.block_device.specs.Prelude.{last, MemoryDisk}
 use Rattle.block_device.proofs.MemoryLemmas.{read_now}
 use Rattle.block_device.proofs.memory.MemoryDeviceDevice.read.Goals as goal
 

@@ -1,8 +1,7 @@
 use Rattle.std.proofs.Common.{◌<◌, length, refl, ◌∙◌, ap, arith}
 use Rattle.std.proofs.lemmas.Bool.Decides.{nat_tests}
 use Rattle.std.proofs.lemmas.List.{length_push, length-map}
-use Rattle.block_device.specs.Pending.{lowered}
-use Rattle.block_device.specs.MemoryInside.{memory_disk}
+use Rattle.block_device.specs.Prelude.{lowered, memory_disk}
 use Rattle.block_device.proofs.MemoryLemmas.{sound_kept, kept_none, waited_now, kept_done, reaped_now, length-taken, contents_push}
 use Rattle.block_device.specs.declared.event.Event.TheVariants.{Done}
 use Rattle.block_device.proofs.memory.MemoryDeviceDevice.reap.Goals as goal

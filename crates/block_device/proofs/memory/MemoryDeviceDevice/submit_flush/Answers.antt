@@ -1,6 +1,6 @@
 use Rattle.std.proofs.Common.{◌≡◌, ◌+◌, length, refl, ◌∙◌, ap, arith}
 use Rattle.std.proofs.lemmas.List.{length_push}
-use Rattle.block_device.specs.MemoryInside.{memory_disk}
+use Rattle.block_device.specs.Prelude.{memory_disk}
 use Rattle.block_device.proofs.MemoryLemmas.{sound_kept, kept_submit, submitted_now, contents_push, few_flights}
 use Rattle.block_device.specs.declared.event.Event.TheVariants.{Flush}
 use Rattle.block_device.proofs.memory.MemoryDeviceDevice.submit_flush.Goals as goal

@@ -2,9 +2,8 @@ use Rattle.std.proofs.Common.{◌≡◌, ◌+◌, ◌*◌, ◌/◌, ◌≤◌, l
 use Rattle.std.proofs.lemmas.List.{length_push, with_items_is}
 use Rattle.std.specs.Vec.{with_items}
 use Rattle.byte_maps.specs.Units.{overlaid}
-use Rattle.byte_maps.proofs.UnitLemmas.{length-overlaid}
-use Rattle.block_device.specs.Memory.{MemoryDisk}
-use Rattle.block_device.specs.MemoryInside.{memory_disk}
+use Rattle.byte_maps.proofs.Prelude.{length-overlaid}
+use Rattle.block_device.specs.Prelude.{MemoryDisk, memory_disk}
 use Rattle.block_device.proofs.MemoryLemmas.{sound_kept, kept_submit, submitted_now, contents_push, few_flights}
 use Rattle.block_device.specs.declared.event.Event.TheVariants.{Write}
 use Rattle.block_device.proofs.memory.MemoryDeviceDevice.submit_write.Goals as goal

@@ -1,6 +1,6 @@
 use Rattle.std.proofs.Common.{ap, ◌∙◌}
 use Rattle.std.specs.Prelude.{bit_xor}
-use Rattle.crc32c_csum.specs.Crc32c.{remainder}
+use Rattle.crc32c_csum.specs.Prelude.{remainder}
 use Rattle.crc32c_csum.proofs.ByBits.{part_in}
 use Rattle.crc32c_csum.proofs.crc.Digest.update_page.Goals as goal
 

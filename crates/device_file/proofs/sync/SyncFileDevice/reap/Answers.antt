@@ -1,5 +1,5 @@
 use Rattle.std.proofs.Common.{◌≤◌, All, arith, ap, length, map, subst}
-use Rattle.block_device.specs.Disk.{Reaped}
+use Rattle.block_device.specs.Prelude.{Reaped}
 use Rattle.device_file.specs.FileDisk.{FileDisk, silent}
 use Rattle.device_file.specs.Sync.{flight}
 use Rattle.device_file.proofs.Tickets.{reaped, ascend_rest, ascend_later, first_is_least}

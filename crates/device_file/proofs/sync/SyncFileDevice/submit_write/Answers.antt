@@ -1,5 +1,5 @@
 use Rattle.std.proofs.Common.{◌≡◌, refl, arith, length, map, subst}
-use Rattle.block_device.specs.Disk.{Submitted}
+use Rattle.block_device.specs.Prelude.{Submitted}
 use Rattle.block_device.specs.declared.event.Event.TheVariants.{Write}
 use Rattle.device_file.specs.FileDisk.{FileDisk, silent}
 use Rattle.device_file.specs.Sync.{flight}

@@ -1,7 +1,7 @@
 use Rattle.std.proofs.Common.{◌≡◌, length}
 use Rattle.std.specs.Vec.Iter.{into_iter_items, into_iter_len}
-use Rattle.meta_rows.specs.Rows.{rows_after}
-use Rattle.log_replay.specs.Gathering.{rows_so_far, IsParted}
+use Rattle.meta_rows.specs.Prelude.{rows_after}
+use Rattle.log_replay.specs.Prelude.{rows_so_far, IsParted}
 use Rattle.log_replay.proofs.gathering.Gathered.add.Given as goal
 
 abbrev pub invariant-loop-op : goal.invariant-loop-op

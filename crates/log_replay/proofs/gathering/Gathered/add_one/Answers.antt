@@ -1,7 +1,7 @@
 use Rattle.std.proofs.Common.{◌≡◌, ◌++◌, false, List, ap, sym, ◌∙◌}
-use Rattle.meta_rows.specs.Rows.{rows_after}
+use Rattle.meta_rows.specs.Prelude.{rows_after}
 use Rattle.meta_rows.specs.declared.row_op.RowOp.{RowOp}
-use Rattle.log_replay.specs.Gathering.{is_bitmap_key}
+use Rattle.log_replay.specs.Prelude.{is_bitmap_key}
 use Rattle.log_replay.proofs.GatherLemmas.{is_bits, one_more_bits, one_more_other}
 use Rattle.log_replay.proofs.gathering.Gathered.add_one.Goals as goal
 

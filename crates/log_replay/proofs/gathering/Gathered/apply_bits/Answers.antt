@@ -1,8 +1,8 @@
 use Rattle.std.proofs.Common.{◌≡◌, ◌++◌, [], List, ap, ◌∙◌, append-nil}
 use Rattle.std.proofs.lemmas.Result.{on_ok_weaker}
-use Rattle.meta_rows.specs.Rows.{Rows, rows_after}
+use Rattle.meta_rows.specs.Prelude.{Rows, rows_after}
 use Rattle.meta_rows.specs.declared.row_op.RowOp.{RowOp}
-use Rattle.log_replay.specs.Gathering.{rows_so_far}
+use Rattle.log_replay.specs.Prelude.{rows_so_far}
 use Rattle.log_replay.proofs.GatherLemmas.{bits_first}
 use Rattle.log_replay.proofs.gathering.Gathered.apply_bits.Goals as goal
 

@@ -1,9 +1,9 @@
 use Rattle.std.proofs.Common.{◌≡◌, ◌++◌, [], List, ap, sym, ◌∙◌}
 use Rattle.std.proofs.lemmas.Result.{on_ok_weaker}
-use Rattle.meta_rows.specs.Rows.{Rows, rows_after}
+use Rattle.meta_rows.specs.Prelude.{Rows, rows_after}
 use Rattle.meta_rows.specs.declared.row_op.RowOp.{RowOp}
 use Rattle.meta_rows.proofs.Folds.{rows_after-append}
-use Rattle.log_replay.specs.Gathering.{rows_so_far}
+use Rattle.log_replay.specs.Prelude.{rows_so_far}
 use Rattle.log_replay.proofs.gathering.Gathered.apply_many_others.Goals as goal
 
 pub returns-clause-same : goal.returns-clause-same

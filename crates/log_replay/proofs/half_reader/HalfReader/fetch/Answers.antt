@@ -1,6 +1,6 @@
 use Rattle.std.proofs.Common.{refl, subst, ◌∙◌, arith}
-use Rattle.block_device.specs.Disk.{Disk}
-use Rattle.log_replay.specs.HalfReading.{ReadsOn}
+use Rattle.block_device.specs.Prelude.{Disk}
+use Rattle.log_replay.specs.Prelude.{ReadsOn}
 use Rattle.log_replay.proofs.HalfLemmas.{reads_none, reads_join}
 use Rattle.log_replay.proofs.half_reader.HalfReader.fetch.Goals as goal
 

@@ -1,5 +1,5 @@
 use Rattle.std.proofs.Common.{◌≡◌, ◌≤◌, ◌-◌}
-use Rattle.log_replay.specs.HalfReading.{ReadsOn}
+use Rattle.log_replay.specs.Prelude.{ReadsOn}
 use Rattle.log_replay.proofs.half_reader.HalfReader.fetch.Given as goal
 
 -- the units so far were read

@@ -1,7 +1,7 @@
 use Rattle.std.proofs.Common.{ℕ, List, subst}
-use Rattle.block_device.specs.Disk.{Disk}
-use Rattle.meta_log.specs.Scanning.{BeginsNoRecord, TakesUnits}
-use Rattle.log_replay.specs.HalfReading.{ReadsOn}
+use Rattle.block_device.specs.Prelude.{Disk}
+use Rattle.meta_log.specs.Prelude.{BeginsNoRecord, TakesUnits}
+use Rattle.log_replay.specs.Prelude.{ReadsOn}
 use Rattle.log_replay.proofs.HalfLemmas.{reads_join, none_by_head, none_by_size, holds_record}
 use Rattle.log_replay.proofs.half_reader.HalfReader.fetch_record.Goals as goal
 

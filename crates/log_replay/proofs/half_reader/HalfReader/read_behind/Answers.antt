@@ -1,5 +1,5 @@
 use Rattle.std.proofs.Common.{refl, subst, arith}
-use Rattle.block_device.specs.Disk.{IsSound}
+use Rattle.block_device.specs.Prelude.{IsSound}
 use Rattle.log_replay.proofs.HalfLemmas.{reads_piece}
 use Rattle.log_replay.proofs.half_reader.HalfReader.read_behind.Goals as goal
 

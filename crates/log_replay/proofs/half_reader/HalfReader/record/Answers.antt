@@ -1,9 +1,8 @@
 use Rattle.std.proofs.Common.{Bool, List, ℕ, subst}
 use Rattle.std.specs.Prelude.{MatchOption}
 use Rattle.meta_rows.specs.declared.row_op.RowOp.{RowOp}
-use Rattle.meta_log.specs.Records.{BeginsWithRecord}
-use Rattle.meta_log.specs.Scanning.{IsAtFront}
-use Rattle.log_replay.specs.HalfReading.{MayStand}
+use Rattle.meta_log.specs.Prelude.{BeginsWithRecord, IsAtFront}
+use Rattle.log_replay.specs.Prelude.{MayStand}
 use Rattle.log_replay.proofs.HalfLemmas.{record_or_none}
 use Rattle.log_replay.proofs.half_reader.HalfReader.record.Goals as goal
 

@@ -1,5 +1,5 @@
 use Rattle.std.proofs.Common.{ℕ, ◌-◌, List, refl, subst}
-use Rattle.log_replay.specs.Stale.{AddsStale}
+use Rattle.log_replay.specs.Prelude.{AddsStale}
 use Rattle.log_replay.proofs.StaleLemmas.{stale_found}
 use Rattle.log_replay.proofs.half_reader.HalfReader.stale.Goals as goal
 

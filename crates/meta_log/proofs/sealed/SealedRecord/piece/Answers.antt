@@ -1,7 +1,5 @@
 use Rattle.std.proofs.Common.{◌≡◌, ◌-◌, ◌*◌, ◌<◌, ◌≤◌, List, length, ap, ◌∙◌, arith}
-use Rattle.meta_log.specs.Pieces.{piece_first, piece_units}
-use Rattle.meta_log.specs.Records.{record_units}
-use Rattle.meta_log.specs.Sealed.{sealed_units}
+use Rattle.meta_log.specs.Prelude.{piece_first, piece_units, record_units, sealed_units}
 use Rattle.meta_log.proofs.PieceLemmas.{lies}
 use Rattle.meta_log.proofs.SealLemmas.{length-record_units, only_piece, piece_is}
 use Rattle.meta_rows.specs.declared.row_op.RowOp.{RowOp}

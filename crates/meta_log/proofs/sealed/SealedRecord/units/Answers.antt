@@ -1,5 +1,5 @@
 use Rattle.std.proofs.Common.{ap, ◌∙◌}
-use Rattle.meta_log.specs.Sealed.{sealed_units}
+use Rattle.meta_log.specs.Prelude.{sealed_units}
 use Rattle.meta_log.proofs.sealed.SealedRecord.units.Goals as goal
 
 pub returns-clause-units : goal.returns-clause-units

@@ -5,7 +5,7 @@ use Rattle.meta_log.proofs.SlotLemmas.{HasWidths, length-super_fields}
 use Rattle.meta_log.proofs.SlotReading.{all_of_zeros, body_of, only_super, is_slot}
 use Rattle.meta_log.proofs.slot.Super.read.Goals as goal
 use Rattle.meta_log.proofs.slot.Super.read.Goals.{else-is_within_limits-via-then-is_within_limits+then-found-from+else-is_zero, else-is_within_limits-via-then-is_within_limits+else-found-from, else-is_within_limits-via-else-is_within_limits}
-use Rattle.meta_log.specs.Slots.{super_front, super_fields, IsSuper}
+use Rattle.meta_log.specs.Prelude.{super_front, super_fields, IsSuper}
 
 pub returns-in_err-summed : goal.returns-in_err-summed
 returns-in_err-summed c = rw c.from_residual.ensures (λ s is. c.in_err-summed.ensures (super_fields s) (record { size = length-super_fields s; spelled = is.spelled }))

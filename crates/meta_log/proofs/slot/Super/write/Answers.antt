@@ -1,9 +1,9 @@
 use Rattle.std.proofs.Common.{◌≡◌, ℕ, List, ◌++◌, ap, ap₂, ◌∙◌}
 use Rattle.std.specs.Int.{w32, to_le_bytes}
 use Rattle.byte_maps.specs.Units.{zeros}
-use Rattle.crc32c_csum.specs.Crc32c.{crc32c}
+use Rattle.crc32c_csum.specs.Prelude.{crc32c}
 use Rattle.meta_log.proofs.slot.Super.write.Goals as goal
-use Rattle.meta_log.specs.Slots.{super_fields}
+use Rattle.meta_log.specs.Prelude.{super_fields}
 
 pub returns : goal.returns
 returns c =

@@ -1,8 +1,8 @@
 use Rattle.std.proofs.Common.{ap, sym, ◌∙◌, T, subst}
 use Rattle.std.specs.FinMap.{is_sorted}
 use Rattle.byte_maps.specs.ByteMap.{byte_order}
-use Rattle.byte_maps.proofs.Places.{Stands, Lacks, found, absent}
-use Rattle.meta_rows.specs.Table.{entries_after}
+use Rattle.byte_maps.proofs.Prelude.{Stands, Lacks, found, absent}
+use Rattle.meta_rows.specs.Prelude.{entries_after}
 use Rattle.meta_rows.proofs.PartLemmas.{left_after, come_after}
 use Rattle.meta_rows.proofs.chunk.Chunk.change.Goals as goal
 

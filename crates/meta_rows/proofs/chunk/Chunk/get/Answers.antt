@@ -1,7 +1,7 @@
 use Rattle.std.proofs.Common.{ap, sym, ◌∙◌, Some, T, subst}
 use Rattle.std.specs.FinMap.{is_sorted, find}
 use Rattle.byte_maps.specs.ByteMap.{byte_order}
-use Rattle.byte_maps.proofs.Places.{found, absent}
+use Rattle.byte_maps.proofs.Prelude.{found, absent}
 use Rattle.meta_rows.proofs.chunk.Chunk.get.Goals as goal
 
 pub returns-in-Ok : goal.returns-in-Ok

@@ -1,5 +1,5 @@
 use Rattle.std.proofs.Common.{◌∙◌, ◌%◌, ap, sym}
-use Rattle.meta_rows.specs.Table.{list_size}
+use Rattle.meta_rows.specs.Prelude.{list_size}
 use Rattle.meta_rows.proofs.chunk_list.ChunkList.apply_one.Goals as goal
 
 pub returns-clause-rows : goal.returns-clause-rows

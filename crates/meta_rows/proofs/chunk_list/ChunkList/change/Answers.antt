@@ -1,7 +1,6 @@
 use Rattle.std.proofs.Common.{◌∙◌, ◌%◌, length, ap, sym, subst, refl, arith}
 use Rattle.std.proofs.lemmas.List.{get_or-set_same}
-use Rattle.meta_rows.specs.Table.{list_size}
-use Rattle.meta_rows.specs.Chunks.{IsOpen, joined}
+use Rattle.meta_rows.specs.Prelude.{list_size, IsOpen, joined}
 use Rattle.meta_rows.proofs.ChunkLemmas.{held_order, set_rows, grown, set_chunked, set_room, removed_rows, removed_chunked, removed_room, within}
 use Rattle.meta_rows.proofs.chunk_list.ChunkList.change.Goals as goal
 

@@ -1,5 +1,5 @@
 use Rattle.std.proofs.Common.{◌∙◌, ◌≤◌, ap, sym, subst, length, arith}
-use Rattle.meta_rows.specs.Chunks.{BelongsIn, first_order}
+use Rattle.meta_rows.specs.Prelude.{BelongsIn, first_order}
 use Rattle.meta_rows.proofs.ChunkLemmas.{chunk_is, open_as_is, open_lower, open_upper, upper_at}
 use Rattle.meta_rows.proofs.chunk_list.ChunkList.open.Goals as goal
 

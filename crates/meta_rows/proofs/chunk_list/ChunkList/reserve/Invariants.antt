@@ -1,6 +1,6 @@
 use Rattle.std.proofs.Common.{◌≡◌, ◌+◌, ◌≤◌}
 use Rattle.std.specs.Vec.{vec_len, vec_capacity}
-use Rattle.meta_rows.specs.Chunks.{AllEmpty}
+use Rattle.meta_rows.specs.Prelude.{AllEmpty}
 use Rattle.meta_rows.proofs.chunk_list.ChunkList.reserve.Given as goal
 
 abbrev pub invariant-loop : goal.invariant-loop

@@ -1,8 +1,5 @@
 use Rattle.std.proofs.Common.{◌∙◌, ap, sym, subst}
-use Rattle.meta_rows.specs.Rows.{key_of}
-use Rattle.meta_rows.specs.Table.{AllBelow, value_left}
-use Rattle.meta_rows.specs.Chunks.{joined}
-use Rattle.meta_rows.specs.Filling.{rows_of, held_rows, held_value, Holds, NotBelow}
+use Rattle.meta_rows.specs.Prelude.{key_of, AllBelow, value_left, joined, rows_of, held_rows, held_value, Holds, NotBelow}
 use Rattle.meta_rows.proofs.FillLemmas.{changed_held, still_filling, all_under, comes_behind, under_later, awaits_left}
 use Rattle.meta_rows.proofs.filling.Filling.take.Goals as goal
 

@@ -3,8 +3,7 @@ use Rattle.std.specs.List.{AllByRecursion}
 use Rattle.std.specs.FinMap as map
 use Rattle.std.specs.Vec.Iter.{into_iter_items}
 use Rattle.byte_maps.specs.ByteMap.{byte_order}
-use Rattle.meta_rows.specs.Rows.{rows_after, key_of}
-use Rattle.meta_rows.specs.Filling.{Rises, rows_of, HasSpace, Awaits}
+use Rattle.meta_rows.specs.Prelude.{rows_after, key_of, Rises, rows_of, HasSpace, Awaits}
 use Rattle.meta_rows.proofs.PartLemmas.{after_is}
 use Rattle.meta_rows.proofs.FillLemmas.{later_await}
 use Rattle.meta_rows.proofs.filling.Filling.take_all.Goals as goal

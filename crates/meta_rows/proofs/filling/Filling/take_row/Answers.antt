@@ -1,4 +1,4 @@
-use Rattle.meta_rows.specs.Filling.{rows_of}
+use Rattle.meta_rows.specs.Prelude.{rows_of}
 use Rattle.meta_rows.proofs.FillLemmas.{row_under}
 use Rattle.meta_rows.proofs.filling.Filling.take_row.Goals as goal
 

@@ -4,10 +4,7 @@ use Rattle.std.specs.List.{AllByRecursion}
 use Rattle.std.specs.Vec.Iter.{into_iter_items}
 use Rattle.std.specs.FinMap as map
 use Rattle.byte_maps.specs.ByteMap.{byte_order}
-use Rattle.meta_rows.specs.Rows.{key_of, rows_after}
-use Rattle.meta_rows.specs.Chunks.{joined}
-use Rattle.meta_rows.specs.Filling.{rows_of, Awaits}
-use Rattle.meta_rows.specs.Merging.{Goes, ops_left}
+use Rattle.meta_rows.specs.Prelude.{key_of, rows_after, joined, rows_of, Awaits, Goes, ops_left}
 use Rattle.meta_rows.proofs.MergeLemmas.{IsInOrder, part_in_order, with_none, goes_both, goes_front}
 use Rattle.meta_rows.proofs.merging.Merging.take_all.Goals as goal
 

@@ -1,7 +1,6 @@
 use Rattle.std.proofs.Common.{◌≡◌, length}
 use Rattle.std.specs.Vec.Iter.{into_iter_items, into_iter_len}
-use Rattle.meta_rows.specs.Chunks.{joined}
-use Rattle.meta_rows.specs.Merging.{IsMerging, Goes}
+use Rattle.meta_rows.specs.Prelude.{joined, IsMerging, Goes}
 use Rattle.meta_rows.proofs.merging.Merging.take_all.Given as goal
 
 abbrev pub invariant-loop-chunk : goal.invariant-loop-chunk

@@ -1,7 +1,6 @@
 use Rattle.std.proofs.Common.{◌++◌, [], ◌∷◌, length, ap, sym, subst, arith}
 use Rattle.std.specs.Vec.Iter.{into_iter_items}
-use Rattle.meta_rows.specs.Filling.{rows_of}
-use Rattle.meta_rows.specs.Merging.{Goes}
+use Rattle.meta_rows.specs.Prelude.{rows_of, Goes}
 use Rattle.meta_rows.proofs.MergeLemmas.{IsInOrder, part_in_order, with_none, goes_both, goes_front}
 use Rattle.meta_rows.proofs.merging.Merging.take_chunk.Goals as goal
 

@@ -1,8 +1,7 @@
 use Rattle.std.proofs.Common.{◌≡◌, ◌∙◌, true, [], ◌∷◌, reverse, ap, sym, subst}
 use Rattle.std.specs.Ordering.{is_lt}
 use Rattle.byte_maps.specs.ByteMap.{byte_order}
-use Rattle.meta_rows.specs.Rows.{key_of}
-use Rattle.meta_rows.specs.Merging.{FirstNotBelow}
+use Rattle.meta_rows.specs.Prelude.{key_of, FirstNotBelow}
 use Rattle.meta_rows.specs.declared.merging.Merging.{Merging}
 use Rattle.meta_rows.proofs.MergeLemmas.{first_awaits, merging_op, merging_row, goes_none, goes_both, goes_op, goes_row}
 use Rattle.meta_rows.proofs.merging.Merging.take_row.Goals as goal

@@ -1,5 +1,5 @@
 use Rattle.std.proofs.Common.{[], ◌∷◌, length}
-use Rattle.meta_rows.specs.Merging.{IsMerging, Goes}
+use Rattle.meta_rows.specs.Prelude.{IsMerging, Goes}
 use Rattle.meta_rows.proofs.merging.Merging.take_row.Given as goal
 
 abbrev pub invariant-loop-op : goal.invariant-loop-op

@@ -1,6 +1,6 @@
 use Rattle.std.proofs.Common.{◌≡◌, ◌+◌, ◌≤◌, length}
 use Rattle.std.specs.Vec.Iter.{into_iter_items, into_iter_len}
-use Rattle.meta_rows.specs.Rows.{rows_after}
+use Rattle.meta_rows.specs.Prelude.{rows_after}
 use Rattle.meta_rows.proofs.row_table.RowTable.apply.Given as goal
 
 abbrev pub invariant-loop-op : goal.invariant-loop-op

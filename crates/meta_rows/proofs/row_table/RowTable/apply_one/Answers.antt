@@ -1,8 +1,6 @@
 use Rattle.std.proofs.Common.{◌≡◌, ◌-◌, ap, ◌∙◌, suc, subst, arith}
 use Rattle.std.specs.FinMap as map
-use Rattle.meta_rows.specs.Rows.{row_after}
-use Rattle.meta_rows.specs.Table.{list_size}
-use Rattle.meta_rows.specs.Chunks.{joined, HasRoom}
+use Rattle.meta_rows.specs.Prelude.{row_after, list_size, joined, HasRoom}
 use Rattle.meta_rows.proofs.PartLemmas.{after_is}
 use Rattle.meta_rows.proofs.ListSizes.{kept_grows}
 use Rattle.meta_rows.proofs.row_table.RowTable.apply_one.Goals as goal

@@ -2,7 +2,7 @@ use Rattle.std.proofs.Common.{ap, sym, ◌∙◌}
 use Rattle.std.specs.FinMap as map
 use Rattle.std.specs.FinMap.{get-from_sorted}
 use Rattle.byte_maps.specs.ByteMap.{byte_order}
-use Rattle.meta_rows.specs.Chunks.{joined}
+use Rattle.meta_rows.specs.Prelude.{joined}
 use Rattle.meta_rows.proofs.row_table.RowTable.get.Goals as goal
 
 pub returns : goal.returns

@@ -4,7 +4,7 @@ use Rattle.std.proofs.lemmas.List.{nil_from_length}
 use Rattle.std.specs.FinMap as map
 use Rattle.std.specs.FinMap.{entries-from_sorted, len-entries}
 use Rattle.byte_maps.specs.ByteMap.{byte_order}
-use Rattle.meta_rows.specs.Chunks.{joined}
+use Rattle.meta_rows.specs.Prelude.{joined}
 use Rattle.meta_rows.proofs.TableLemmas.{joined_some}
 use Rattle.meta_rows.proofs.row_table.RowTable.is_empty.Goals as goal
 

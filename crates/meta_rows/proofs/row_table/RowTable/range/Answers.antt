@@ -1,7 +1,7 @@
 use Rattle.std.proofs.Common.{◌≡◌, ◌∙◌, [], length, ap, sym, arith}
 use Rattle.std.proofs.lemmas.Bool.Decides.{nat_tests}
 use Rattle.std.proofs.lemmas.List.{nil_from_length}
-use Rattle.meta_rows.specs.Chunks.{joined}
+use Rattle.meta_rows.specs.Prelude.{joined}
 use Rattle.meta_rows.proofs.RangeLemmas.{range_rows}
 use Rattle.meta_rows.proofs.TableLemmas.{ends_at_none}
 use Rattle.meta_rows.proofs.row_table.RowTable.range.Goals as goal

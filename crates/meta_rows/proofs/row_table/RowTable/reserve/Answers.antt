@@ -1,6 +1,5 @@
 use Rattle.std.proofs.Common.{◌∙◌, ◌%◌, ap, sym, length, arith}
-use Rattle.meta_rows.specs.Table.{list_size}
-use Rattle.meta_rows.specs.Chunks.{joined}
+use Rattle.meta_rows.specs.Prelude.{list_size, joined}
 use Rattle.meta_rows.proofs.ChunkLemmas.{has_room}
 use Rattle.meta_rows.proofs.row_table.RowTable.reserve.Goals as goal
 

@@ -1,5 +1,5 @@
 use Rattle.std.proofs.Common.{ap, arith}
-use Rattle.meta_rows.specs.Chunks.{joined}
+use Rattle.meta_rows.specs.Prelude.{joined}
 use Rattle.meta_rows.proofs.RowLemmas.{rows_size_is}
 use Rattle.meta_rows.proofs.row_table.RowTable.size.Goals as goal
 

@@ -1,5 +1,5 @@
 use Rattle.std.proofs.Common.{◌≡◌, [], rules}
-use Rattle.page_lookup.specs.Bytes.{extents_read}
+use Rattle.page_lookup.specs.Prelude.{extents_read}
 use Rattle.page_lookup.proofs.Rows.{next_row, nothing_left}
 use Rattle.page_lookup.proofs.pages.Rest.find.Goals as goal
 

@@ -1,6 +1,5 @@
 use Rattle.std.proofs.Common.{length, ◌++◌}
-use Rattle.page_lookup.specs.Bytes.{extents_read, rows_read}
-use Rattle.page_lookup.specs.Found.{EndBehind, FindAlike}
+use Rattle.page_lookup.specs.Prelude.{extents_read, rows_read, EndBehind, FindAlike}
 use Rattle.page_lookup.proofs.pages.Rest.find.Given as goal
 
 -- what was left out ends in front of the page

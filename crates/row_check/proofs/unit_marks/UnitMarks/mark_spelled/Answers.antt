@@ -1,6 +1,5 @@
 use Rattle.std.proofs.Common.{◌≡◌, ap, subst, ◌∙◌, arith}
-use Rattle.unit_fields.specs.Fields.{ReadsBytes}
-use Rattle.unit_fields.specs.Widths.{bytes_of}
+use Rattle.unit_fields.specs.Prelude.{ReadsBytes, bytes_of}
 use Rattle.row_check.specs.Marks.{run_marked}
 use Rattle.row_check.proofs.MarkSteps.{none_marked, units_there, csums_there, fewer, one_marked, all_marked}
 use Rattle.row_check.proofs.unit_marks.UnitMarks.mark_spelled.Goals as goal

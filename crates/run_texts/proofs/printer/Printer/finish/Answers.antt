@@ -1,6 +1,5 @@
 use Rattle.std.proofs.Common.{◌≡◌, ◌++◌, [], true, Bool, ap, sym, ◌∙◌, subst}
-use Rattle.run_texts.specs.Printed.{output}
-use Rattle.run_texts.specs.Printing.{Waiting, PrintedSoFar}
+use Rattle.run_texts.specs.Prelude.{output, Waiting, PrintedSoFar}
 use Rattle.run_texts.proofs.Adding.{stopped_in}
 use Rattle.run_texts.proofs.printer.Printer.finish.Goals as goal
 

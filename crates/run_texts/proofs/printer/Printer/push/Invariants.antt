@@ -1,5 +1,5 @@
 use Rattle.std.proofs.Common.{length}
-use Rattle.run_texts.specs.Printed.{output}
+use Rattle.run_texts.specs.Prelude.{output}
 use Rattle.run_texts.proofs.Adding.{IsAddedUpTo, as_they_are}
 use Rattle.run_texts.proofs.printer.Printer.push.Given as goal
 

@@ -1,5 +1,5 @@
 use Rattle.std.proofs.Common.{◌≡◌, false, ap, sym, ◌∙◌}
-use Rattle.run_texts.specs.Printing.{Waiting}
+use Rattle.run_texts.specs.Prelude.{Waiting}
 use Rattle.run_texts.proofs.Adding.{front_written}
 use Rattle.run_texts.proofs.printer.Printer.write_waiting.Goals as goal
 

@@ -1,5 +1,5 @@
 use Rattle.std.proofs.Common.{◌+◌, false, ◌∙◌, arith}
-use Rattle.script_text.specs.Reading.{ends_in_wait}
+use Rattle.script_text.specs.Prelude.{ends_in_wait}
 use Rattle.script_text.proofs.Readers.{kept_line}
 use Rattle.script_text.proofs.Scripts.{kept_added, kept_passed_over, wait_counts_none}
 use Rattle.script_text.proofs.reader.Reader.keep.Goals as goal

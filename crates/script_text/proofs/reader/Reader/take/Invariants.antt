@@ -1,5 +1,5 @@
 use Rattle.std.proofs.Common.{length}
-use Rattle.script_text.specs.Reading.{HasTaken}
+use Rattle.script_text.specs.Prelude.{HasTaken}
 use Rattle.script_text.proofs.reader.Reader.take.Given as goal
 
 abbrev pub invariant-lines : goal.invariant-lines

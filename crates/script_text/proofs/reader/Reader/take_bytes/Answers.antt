@@ -1,5 +1,5 @@
 use Rattle.std.proofs.Common.{◌+◌, ◌<◌, length, arith}
-use Rattle.script_text.specs.Script.{line_limit}
+use Rattle.script_text.specs.Prelude.{line_limit}
 use Rattle.script_text.proofs.Readers.{none_of, too_long}
 use Rattle.script_text.proofs.reader.Reader.take_bytes.Goals as goal
 

@@ -1,5 +1,5 @@
 use Rattle.std.proofs.Common.{ap, ◌∙◌, not}
-use Rattle.store_steps.specs.Ready.{is_ready, all_steps}
+use Rattle.store_steps.specs.Prelude.{is_ready, all_steps}
 use Rattle.store_kernel.proofs.Opening.{none_ready}
 use Rattle.store_kernel.proofs.kernel.Kernel.drained.Goals as goal
 

@@ -1,5 +1,5 @@
 use Rattle.std.proofs.Common.{sym, subst}
-use Rattle.store_steps.specs.State.{State}
+use Rattle.store_steps.specs.Prelude.{State}
 use Rattle.store_kernel.specs.Known.{KnownOfKernel}
 use Rattle.store_kernel.proofs.Opening.{opened_is}
 use Rattle.store_kernel.proofs.kernel.Kernel.open.Goals as goal

@@ -1,7 +1,7 @@
 use Rattle.std.proofs.Common.{◌≡◌, ◌+◌, ◌≤◌, ap, ◌∙◌, sym, subst, ℕ, List}
 use Rattle.std.specs.Option.{option_map}
 use Rattle.meta_rows.specs.declared.row_op.RowOp.{RowOp}
-use Rattle.meta_log.specs.Sealed.{Sealed, sealed_units}
+use Rattle.meta_log.specs.Prelude.{Sealed, sealed_units}
 use Rattle.store_steps.specs.declared.step.Step.TheVariants.{Seal}
 use Rattle.store_kernel.proofs.Keeping.{known_step}
 use Rattle.store_kernel.specs.Seen.{batch_of}

@@ -1,6 +1,6 @@
 use Rattle.std.proofs.Common.{refl}
 use Rattle.store_steps.specs.declared.step.Step.TheVariants.{Flush}
-use Rattle.store_facts.proofs.Known.{known_flush_room}
+use Rattle.store_facts.proofs.Prelude.{known_flush_room}
 use Rattle.store_kernel.proofs.Keeping.{known_step}
 use Rattle.store_kernel.proofs.Sending.{flush_does}
 use Rattle.store_kernel.proofs.kernel.Kernel.send_flush.Goals as goal

@@ -1,5 +1,5 @@
 use Rattle.std.proofs.Common.{refl, subst, ℕ}
-use Rattle.block_device.specs.Disk.{Submitted}
+use Rattle.block_device.specs.Prelude.{Submitted}
 use Rattle.block_device.specs.declared.event.Event.TheVariants.{Write}
 use Rattle.store_steps.specs.declared.step.Step.TheVariants.{Record}
 use Rattle.store_kernel.proofs.Keeping.{known_step}

@@ -1,5 +1,5 @@
 use Rattle.std.proofs.Common.{refl, sym, subst, Bool, inl, inr, ◌∙◌}
-use Rattle.block_device.specs.Disk.{Reaped}
+use Rattle.block_device.specs.Prelude.{Reaped}
 use Rattle.store_steps.specs.declared.step.Step.TheVariants.{Reap}
 use Rattle.store_kernel.proofs.Keeping.{known_step}
 use Rattle.store_kernel.proofs.Ending.{it_counts, it_counts_not, was_flying, ended_for, can_count_done, piece_out, bad_takes, late_takes, good_takes, is_bad, is_good}

@@ -1,5 +1,5 @@
 use Rattle.std.proofs.Common.{arith}
-use Rattle.unit_allocator.specs.Fields.{hold_counts}
+use Rattle.unit_allocator.specs.Prelude.{hold_counts}
 use Rattle.unit_allocator.proofs.Fields.{contains_test}
 use Rattle.unit_allocator.proofs.allocator.Allocator.contains.Goals as goal
 

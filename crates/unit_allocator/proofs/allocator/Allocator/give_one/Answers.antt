@@ -1,6 +1,5 @@
 use Rattle.std.proofs.Common.{◌≡◌, ◌-◌, ◌<◌, true, ap, sym, subst, ◌∙◌, rules}
-use Rattle.unit_allocator.specs.Units.{is_free, holds_of}
-use Rattle.unit_allocator.specs.Fields.{hold_counts}
+use Rattle.unit_allocator.specs.Prelude.{is_free, holds_of, hold_counts}
 use Rattle.unit_allocator.proofs.Fields.{place_within, idle_within, give_fields, give_held, held_by_test, view_flagged}
 use Rattle.unit_allocator.proofs.allocator.Allocator.give_one.Goals as goal
 

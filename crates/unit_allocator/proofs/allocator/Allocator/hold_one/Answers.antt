@@ -1,6 +1,5 @@
 use Rattle.std.proofs.Common.{◌+◌, ◌-◌, ap, sym, ◌∙◌}
-use Rattle.unit_allocator.specs.Units.{holds_of}
-use Rattle.unit_allocator.specs.Fields.{flags, hold_counts}
+use Rattle.unit_allocator.specs.Prelude.{holds_of, flags, hold_counts}
 use Rattle.unit_allocator.proofs.Fields.{place_within, hold_fields, hold_again, holds_are, view_counted}
 use Rattle.unit_allocator.proofs.allocator.Allocator.hold_one.Goals as goal
 

@@ -1,5 +1,5 @@
 use Rattle.std.proofs.Common.{◌-◌, ap, ◌∙◌}
-use Rattle.unit_allocator.specs.Fields.{flags, hold_count, hold_counts}
+use Rattle.unit_allocator.specs.Prelude.{flags, hold_count, hold_counts}
 use Rattle.unit_allocator.proofs.Fields.{place_within, holds_are}
 use Rattle.unit_allocator.proofs.allocator.Allocator.holds.Goals as goal
 

@@ -1,6 +1,5 @@
 use Rattle.std.proofs.Common.{◌-◌, ap, ◌∙◌}
-use Rattle.unit_allocator.specs.Units.{is_free, idle_and_unheld}
-use Rattle.unit_allocator.specs.Fields.{flags, hold_counts}
+use Rattle.unit_allocator.specs.Prelude.{is_free, idle_and_unheld, flags, hold_counts}
 use Rattle.unit_allocator.proofs.allocator.Allocator.is_free.Goals as goal
 
 pub returns : goal.returns

@@ -1,6 +1,5 @@
 use Rattle.std.proofs.Common.{◌∙◌}
-use Rattle.unit_allocator.specs.Units.{holds_of}
-use Rattle.unit_allocator.specs.Fields.{flags, hold_counts}
+use Rattle.unit_allocator.specs.Prelude.{holds_of, flags, hold_counts}
 use Rattle.unit_allocator.proofs.Fields.{place_within, holds_are, zero_test}
 use Rattle.unit_allocator.proofs.allocator.Allocator.is_unheld.Goals as goal
 

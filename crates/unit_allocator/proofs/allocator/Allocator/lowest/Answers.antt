@@ -1,5 +1,5 @@
 use Rattle.std.proofs.Common.{◌≡◌, ◌+◌, ◌∷◌, [], map, ap, subst}
-use Rattle.unit_allocator.specs.Units.{free_units, taken_one}
+use Rattle.unit_allocator.specs.Prelude.{free_units, taken_one}
 use Rattle.unit_allocator.proofs.Steps.{lowest_is, lowest_none}
 use Rattle.unit_allocator.proofs.allocator.Allocator.lowest.Goals as goal
 

@@ -1,5 +1,5 @@
 use Rattle.std.proofs.Common.{◌≡◌, ◌+◌, ◌∷◌, [], ℕ, map, ap, sym, subst}
-use Rattle.unit_allocator.specs.Units.{Space, free_units, taken_one}
+use Rattle.unit_allocator.specs.Prelude.{Space, free_units, taken_one}
 use Rattle.unit_allocator.proofs.Steps.{lowest_is, lowest_none}
 use Rattle.unit_allocator.proofs.allocator.Allocator.lowest_free.Goals as goal
 

@@ -1,6 +1,6 @@
 use Rattle.std.proofs.Common.{◌≡◌, ◌+◌, ◌++◌, List, [], ◌∷◌, ℕ, length, sym, ap, subst, ◌∙◌, arith}
 use Rattle.std.proofs.lemmas.List.{append-nil, length-append}
-use Rattle.unit_allocator.specs.Units.{free_units}
+use Rattle.unit_allocator.specs.Prelude.{free_units}
 use Rattle.unit_allocator.proofs.Lowest.{free_behind, all_behind_low, next_free, none_free, found_more}
 use Rattle.unit_allocator.proofs.allocator.Allocator.lowest_units.Goals as goal
 

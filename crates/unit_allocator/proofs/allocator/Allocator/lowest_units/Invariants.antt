@@ -1,5 +1,5 @@
 use Rattle.std.proofs.Common.{◌≡◌, ◌≤◌, ◌++◌, length, vec_capacity}
-use Rattle.unit_allocator.specs.Units.{free_units}
+use Rattle.unit_allocator.specs.Prelude.{free_units}
 use Rattle.unit_allocator.proofs.Lowest.{free_behind}
 use Rattle.unit_allocator.proofs.allocator.Allocator.lowest_units.Given as goal
 

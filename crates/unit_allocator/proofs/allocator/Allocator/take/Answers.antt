@@ -1,5 +1,5 @@
 use Rattle.std.proofs.Common.{arith, ◌∙◌, ap}
-use Rattle.unit_allocator.specs.Units.{taken_one}
+use Rattle.unit_allocator.specs.Prelude.{taken_one}
 use Rattle.unit_allocator.proofs.Runs.{takes_on}
 use Rattle.unit_allocator.proofs.allocator.Allocator.take.Goals as goal
 

@@ -1,5 +1,5 @@
 use Rattle.std.proofs.Common.{◌≡◌, ◌≤◌, ◌++◌, length, vec_len, vec_capacity}
-use Rattle.unit_allocator.specs.Units.{free_units, taken, units_of}
+use Rattle.unit_allocator.specs.Prelude.{free_units, taken, units_of}
 use Rattle.unit_allocator.proofs.allocator.Allocator.take.Given as goal
 
 abbrev pub invariant-loop : goal.invariant-loop

@@ -1,6 +1,5 @@
 use Rattle.std.proofs.Common.{◌-◌, false, ap, ◌∙◌}
-use Rattle.unit_allocator.specs.Units.{is_free}
-use Rattle.unit_allocator.specs.Fields.{hold_counts}
+use Rattle.unit_allocator.specs.Prelude.{is_free, hold_counts}
 use Rattle.unit_allocator.proofs.Fields.{place_within, idle_within, take_fields, view_flagged}
 use Rattle.unit_allocator.proofs.allocator.Allocator.take_one.Goals as goal
 

@@ -1,7 +1,5 @@
 use Rattle.std.proofs.Common.{◌-◌, ◌<◌, ap, sym, subst, ◌∙◌, arith, rules}
-use Rattle.unit_allocator.specs.Words.{bit}
-use Rattle.unit_allocator.specs.Units.{holds_of}
-use Rattle.unit_allocator.specs.Fields.{flags, hold_counts}
+use Rattle.unit_allocator.specs.Prelude.{bit, holds_of, flags, hold_counts}
 use Rattle.unit_allocator.proofs.Fields.{place_within, unhold_fields, unhold_still_held, unhold_not_idle, holds_are, view_counted}
 use Rattle.unit_allocator.proofs.allocator.Allocator.unhold_one.Goals as goal
 use Rattle.unit_allocator.proofs.allocator.Allocator.unhold_one.Goals.{else-left-eq0-via-then-left-eq0+else-test, else-left-eq0-via-else-left-eq0}

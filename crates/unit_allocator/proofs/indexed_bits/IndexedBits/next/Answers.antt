@@ -1,5 +1,5 @@
 use Rattle.std.proofs.Common.{◌+◌, ◌*◌, ◌/◌, ◌∙◌, subst}
-use Rattle.unit_allocator.specs.Words.{HasNoBitBetween}
+use Rattle.unit_allocator.specs.Prelude.{HasNoBitBetween}
 use Rattle.unit_allocator.proofs.OneBit.{after_word}
 use Rattle.unit_allocator.proofs.indexed_bits.IndexedBits.next.Goals as goal
 

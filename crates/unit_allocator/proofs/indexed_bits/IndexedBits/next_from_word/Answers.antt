@@ -1,7 +1,7 @@
 use Rattle.std.proofs.Common.{◌≡◌, ◌+◌, ◌*◌, ◌<◌, ◌^◌, length, get_or, sym, ap, subst, ◌∙◌, arith, w64}
 use Rattle.std.specs.Int.{trailing_zeros}
 use Rattle.std.proofs.lemmas.List.{get_or_default}
-use Rattle.unit_allocator.specs.Words.{IsFirstBitFrom}
+use Rattle.unit_allocator.specs.Prelude.{IsFirstBitFrom}
 use Rattle.unit_allocator.proofs.Summary.{marked_within, first_marked}
 use Rattle.unit_allocator.proofs.indexed_bits.IndexedBits.next_from_word.Goals as goal
 

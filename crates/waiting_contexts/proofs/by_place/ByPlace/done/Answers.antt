@@ -5,7 +5,7 @@ use Rattle.std.specs.BTreeMap.{BTreeMap, is_at}
 use Rattle.std.specs.Ordering.{nat_cmp}
 use Rattle.std.proofs.Common.{ℕ}
 use Rattle.store_steps.specs.declared.context.Context.{Context}
-use Rattle.store_steps.specs.Contexts.{with_context, done_more}
+use Rattle.store_steps.specs.Prelude.{with_context, done_more}
 use Rattle.waiting_contexts.specs.declared.by_place.ByPlace.TheInside.{Inside}
 use Rattle.waiting_contexts.specs.Places.{AreByPlace, context_at}
 use Rattle.waiting_contexts.proofs.PlaceLemmas.{lookup_is_context, set_is_change, by_place_set, none_there}

@@ -1,5 +1,5 @@
 use Rattle.std.proofs.Common.{ap, ◌∙◌}
-use Rattle.store_steps.specs.Contexts.{without_context}
+use Rattle.store_steps.specs.Prelude.{without_context}
 use Rattle.std.specs.Map.{values_of}
 use Rattle.waiting_contexts.specs.Places.{context_at}
 use Rattle.waiting_contexts.proofs.PlaceLemmas.{lookup_is_context, remove_is_without, by_place_remove}

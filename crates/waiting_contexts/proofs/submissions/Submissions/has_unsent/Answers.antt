@@ -1,6 +1,6 @@
 use Rattle.std.proofs.Common.{List, is_some, ap, ◌∙◌}
 use Rattle.store_steps.specs.declared.context.Context.{Context}
-use Rattle.store_steps.specs.Contexts.{next_unsent}
+use Rattle.store_steps.specs.Prelude.{next_unsent}
 use Rattle.waiting_contexts.proofs.UnsentLemmas.{is_left}
 use Rattle.waiting_contexts.proofs.submissions.Submissions.has_unsent.Goals as goal
 

@@ -2,7 +2,7 @@ use Rattle.std.proofs.Common.{◌≡◌, List, Option, Some, None, is_some, subs
 use Rattle.std.specs.Prelude.{IfOk}
 use Rattle.std.proofs.lemmas.Bool.{false≢true}
 use Rattle.store_steps.specs.declared.context.Context.{Context}
-use Rattle.store_steps.specs.Contexts.{Unsent, unsent, next_unsent}
+use Rattle.store_steps.specs.Prelude.{Unsent, unsent, next_unsent}
 use Rattle.txn_states.specs.Writes.{IsWrite}
 use Rattle.waiting_contexts.proofs.UnsentLemmas.{HasNext, is_left, front_has_next}
 use Rattle.waiting_contexts.proofs.submissions.Submissions.next_write.Goals as goal

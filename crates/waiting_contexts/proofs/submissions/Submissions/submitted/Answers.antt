@@ -1,7 +1,7 @@
 use Rattle.std.proofs.Common.{◌+◌, ◌≤◌, true, false, length, List, Option, subst, sym, refl, ◌∙◌}
 use Rattle.std.specs.Prelude.{IfSome}
 use Rattle.store_steps.specs.declared.context.Context.{Context}
-use Rattle.store_steps.specs.Contexts.{next_unsent}
+use Rattle.store_steps.specs.Prelude.{next_unsent}
 use Rattle.waiting_contexts.specs.Unsent.{IsOfNext}
 use Rattle.waiting_contexts.proofs.UnsentLemmas.{IsSent, is_sent, queue_sent}
 use Rattle.waiting_contexts.proofs.submissions.Submissions.submitted.Goals as goal

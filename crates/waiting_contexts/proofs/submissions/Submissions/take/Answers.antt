@@ -1,7 +1,7 @@
 use Rattle.std.proofs.Common.{◌≡◌, None, List, subst, sym, ap, ◌∙◌}
 use Rattle.std.specs.Prelude.{IfSome}
 use Rattle.store_steps.specs.declared.context.Context.{Context}
-use Rattle.store_steps.specs.Contexts.{unsent}
+use Rattle.store_steps.specs.Prelude.{unsent}
 use Rattle.waiting_contexts.specs.Places.{context_at}
 use Rattle.waiting_contexts.specs.Unsent.{unsent_places}
 use Rattle.waiting_contexts.proofs.UnsentLemmas.{same_without}

@@ -13,7 +13,7 @@ none_below least place (t ∷ ts) up lt h = elim (or_cases (t.place == place) (h
   | inr later ↦ none_below (t.place + 1) place ts up.1 (omega (arith, up.0, lt)) later
 ]
 
-same_below : (least place : ℕ) (ts : List Turn) → AscendFrom least ts → place < least → ts ≡ done_at place ts
+pub same_below : (least place : ℕ) (ts : List Turn) → AscendFrom least ts → place < least → ts ≡ done_at place ts
 same_below least place [] up lt = refl
 same_below least place (t ∷ ts) up lt =
     ap (λ (l : List Turn). t ∷ l) (same_below (t.place + 1) place ts up.1 (omega (arith, up.0, lt)))

@@ -3,3 +3,8 @@ pub mod PlaceLemmas
 pub mod QueueLemmas
 pub mod HeadLemmas
 pub mod UnsentLemmas
+pub mod ChosenLemmas
+pub mod HeadCounts
+pub mod StepLemmas
+pub mod TakeLemmas
+pub mod TiedLemmas

@@ -176,7 +176,7 @@ place_of_found p (y ∷ ys) x at = elim (cases_Bool (y.place == p)) [
   | inr other ↦ place_of_found p ys x (sym (ap (λ (b : Bool). cond b (Some y) (context_at p ys)) other) ∙ at)
 ]
 
-changed_at : (p : ℕ) (xs : List Context) (x : Context) (f : Context → Context) → ((z : Context) → z.place ≡ (f z).place) → context_at p xs ≡ Some x
+pub changed_at : (p : ℕ) (xs : List Context) (x : Context) (f : Context → Context) → ((z : Context) → z.place ≡ (f z).place) → context_at p xs ≡ Some x
     → context_at p (with_context p f xs) ≡ Some (f x)
 changed_at p [] x f place at = absurd (cc)
 changed_at p (y ∷ ys) x f place at = elim (cases_Bool (y.place == p)) [

@@ -1,7 +1,9 @@
 -- Contexts by place.
-use Rattle.std.specs.Prelude.{◌≡◌, ℕ, ◌+◌, ◌<◌, ◌≤◌, ◌==◌, List, [], ◌∷◌, find, Option}
+use Rattle.std.specs.Prelude.{◌≡◌, ℕ, ◌+◌, ◌<◌, ◌≤◌, ◌==◌, Bool, false, List, [], ◌∷◌, ◌++◌, find, Option}
 use Rattle.std.specs.List.{AllByRecursion}
+use Rattle.std.specs.Option.{option_map_or}
 use Rattle.store_steps.specs.declared.context.Context.{Context}
+use Rattle.store_steps.specs.Prelude.{is_done}
 
 -- the entries have ascending keys, from this one on, and each key is the place of its context
 abbrev pub AreByPlace : ℕ → List (ℕ × Context) → Type 0
@@ -15,3 +17,15 @@ IsAboveAll place xs = AllByRecursion (λ x. x.place < place) xs
 -- the context at a place
 abbrev pub context_at : ℕ → List Context → Option Context
 context_at place xs = find (λ x. x.place == place) xs
+
+-- the context at a place has reached the device with all its units
+abbrev pub is_done_at : ℕ → List Context → Bool
+is_done_at place xs = option_map_or (λ (x : Context). is_done x) (context_at place xs) false
+
+-- the last context has this place, which is above the others
+pub record IsLast (place : ℕ) (xs : List Context) : Type 0 where
+  pub front : List Context
+  pub last : Context
+  pub is : xs ≡ front ++ last ∷ []
+  pub of_place : last.place ≡ place
+  pub above : IsAboveAll place front

@@ -1,18 +1,19 @@
 //! Contexts by their places in the book.
-ghost use Rattle.std.specs.Prelude.{◌≡◌, ◌+◌, ◌≤◌, ◌∷◌, ◌++◌, [], find, ◌==◌, length, option_copied, IfSome, IfErr, OnOk, OnErr};
+ghost use Rattle.std.specs.Prelude.{◌≡◌, ◌+◌, ◌<◌, ◌≤◌, ◌^◌, ◌∷◌, ◌++◌, [], length, option_copied, IfSome, IfErr, OnOk, OnErr};
 ghost use Rattle.store_steps.specs.Prelude.{with_context, without_context, given_more, done_more};
-ghost use Rattle.waiting_contexts.specs.Places.{IsAboveAll, context_at};
+ghost use Rattle.txn_states.specs.States.{IsUnderWay};
+ghost use Rattle.waiting_contexts.specs.Places.{IsAboveAll, context_at, is_done_at};
 ghost use Rattle.waiting_contexts.specs.Unsent.{PlacesAscend, has_unsent_at};
 
+use crate::named_context::NamedContext;
 use std::alloc::Global;
 use std::collections::BTreeMap;
 use std::marker::Model;
-use txn_states::Waiting;
 
 /// Contexts, seen as the list of them by place. Each call takes as many steps at most as the number of contexts has digits.
 #[derive(Drop)]
 pub struct ByPlace {
-    contexts: BTreeMap<u32, Waiting>,
+    contexts: BTreeMap<u32, NamedContext>,
 }
 
 impl Model for ByPlace {
@@ -48,13 +49,14 @@ impl ByPlace {
 
     /// How many contexts there are.
     pub fn len(&self) -> usize
-        ensures { result ≡ length self.now }
+        ensures count { result ≡ length self.now }
+        ensures few { result < 2 ^ 63 }
     {
         self.contexts.len()
     }
 
     /// Adds a context behind all others. Where memory runs out it comes back.
-    pub fn push(&mut self, context: Waiting) -> Result<(), Waiting>
+    pub fn push(&mut self, context: NamedContext) -> Result<(), NamedContext>
         requires { IsAboveAll context.place self.old }
         ensures ok { OnOk result (self.new ≡ self.old ++ context ∷ []) }
         ensures err { OnErr result (self.new ≡ self.old) }
@@ -68,7 +70,7 @@ impl ByPlace {
     }
 
     /// The context at a place, lent.
-    pub fn get(&self, place: u32) -> Option<&Waiting>
+    pub fn get(&self, place: u32) -> Option<&NamedContext>
         ensures { option_copied result ≡ context_at place self.now }
     {
         self.contexts.get(&place)
@@ -80,6 +82,20 @@ impl ByPlace {
     {
         match self.get(place) {
             Some(context) => context.has_unsent(),
+            None => false,
+        }
+    }
+
+    /// Whether all units of the context at a place have reached the device.
+    pub fn is_done_at(&self, place: u32) -> bool
+        ensures done { result ≡ is_done_at place self.now }
+        ensures facts { IfSome (context_at place self.now) IsUnderWay }
+    {
+        match self.get(place) {
+            Some(context) => {
+                context.facts();
+                context.is_done()
+            }
             None => false,
         }
     }
@@ -105,7 +121,7 @@ impl ByPlace {
     }
 
     /// Takes the context at a place away.
-    pub fn take(&mut self, place: u32) -> Option<Waiting>
+    pub fn take(&mut self, place: u32) -> Option<NamedContext>
         ensures taken { result ≡ context_at place self.old }
         ensures left { self.new ≡ without_context place self.old }
     {

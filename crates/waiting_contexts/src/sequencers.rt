@@ -2,6 +2,7 @@
 ghost use Rattle.std.specs.Prelude.{◌≡◌, ℕ, ◌++◌, List, ◌∷◌, [], true, IfOk, OnOk, OnErr};
 ghost use Rattle.op_sequencer.specs.Turns.{IsAboveAll, has_turn, done_at, ready, without_ready};
 ghost use Rattle.waiting_contexts.specs.Queues.{turns_in, ChangesAt, SameTurns};
+ghost use Rattle.waiting_contexts.specs.Ties.{is_ready_at};
 
 use bytes::Bytes;
 use op_sequencer::Sequencer;
@@ -76,6 +77,16 @@ impl Sequencers {
         match self.by_coll.get(coll) {
             Some(sequencer) => sequencer.head_ready(),
             None => None,
+        }
+    }
+
+    /// Whether the first context of a collection has this place, and is done.
+    pub fn is_ready_at(&self, coll: &Bytes, place: u32) -> bool
+        ensures { result ≡ is_ready_at place (turns_in self.now coll.now) }
+    {
+        match self.head_ready(coll) {
+            Some(first) => first == place,
+            None => false,
         }
     }
 

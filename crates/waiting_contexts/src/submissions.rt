@@ -1,15 +1,17 @@
 //! Which data write is submitted next.
-ghost use Rattle.std.specs.Prelude.{◌≡◌, ◌+◌, ◌≤◌, ◌++◌, ◌∷◌, [], true, is_some, None, IfOk, IfErr, IfSome, OnOk, OnErr};
+ghost use Rattle.std.specs.Prelude.{◌≡◌, ◌+◌, ◌<◌, ◌≤◌, ◌^◌, ◌++◌, ◌∷◌, [], true, is_some, length, option_copied, None, IfOk, IfErr, IfSome, OnOk, OnErr};
 ghost use Rattle.store_steps.specs.Prelude.{unsent, next_unsent, with_context, without_context, given_more, done_more};
 ghost use Rattle.txn_states.specs.Writes.{IsWrite};
-ghost use Rattle.waiting_contexts.specs.Places.{IsAboveAll, context_at};
-ghost use Rattle.waiting_contexts.specs.Unsent.{IsOfNext};
+ghost use Rattle.txn_states.specs.States.{IsUnderWay};
+ghost use Rattle.waiting_contexts.specs.Places.{IsAboveAll, IsLast, context_at, is_done_at};
+ghost use Rattle.waiting_contexts.specs.Unsent.{PlacesAscend, IsOfNext};
 
 use crate::by_place::ByPlace;
+use crate::named_context::NamedContext;
 use std::alloc::{AllocError, Global};
 use std::collections::VecDeque;
 use std::marker::Model;
-use txn_states::{NextWrite, Waiting};
+use txn_states::NextWrite;
 
 /// Contexts by place, with the queue of those that have a data write which isn't submitted: the next one is at its front.
 #[derive(Drop)]
@@ -44,7 +46,7 @@ impl Submissions {
     }
 
     /// Adds a context behind all others. Where memory runs out it comes back.
-    pub fn push(&mut self, context: Waiting) -> Result<(), Waiting>
+    pub fn push(&mut self, context: NamedContext) -> Result<(), NamedContext>
         requires { IsAboveAll context.place self.old }
         ensures ok { OnOk result (self.new ≡ self.old ++ context ∷ []) }
         ensures err { OnErr result (self.new ≡ self.old) }
@@ -64,6 +66,36 @@ impl Submissions {
             }
             Err(back) => Err(back),
         }
+    }
+
+    /// The places of contexts ascend.
+    pub fn facts(&self)
+        ensures { PlacesAscend 0 self.now }
+    {
+        self.contexts.facts();
+    }
+
+    /// How many contexts there are.
+    pub fn len(&self) -> usize
+        ensures count { result ≡ length self.now }
+        ensures few { result < 2 ^ 63 }
+    {
+        self.contexts.len()
+    }
+
+    /// The context at a place, lent.
+    pub fn get(&self, place: u32) -> Option<&NamedContext>
+        ensures { option_copied result ≡ context_at place self.now }
+    {
+        self.contexts.get(place)
+    }
+
+    /// Whether all units of the context at a place have reached the device.
+    pub fn is_done_at(&self, place: u32) -> bool
+        ensures done { result ≡ is_done_at place self.now }
+        ensures facts { IfSome (context_at place self.now) IsUnderWay }
+    {
+        self.contexts.is_done_at(place)
     }
 
     /// Whether a data write isn't submitted yet.
@@ -109,8 +141,20 @@ impl Submissions {
         self.contexts.done(place, count);
     }
 
+    /// Takes the last context away again, whose place this is.
+    pub(crate) fn withdraw(&mut self, place: u32) -> Option<NamedContext>
+        requires { IsLast place self.old }
+        ensures taken { result ≡ context_at place self.old }
+        ensures left { self.new ≡ without_context place self.old }
+    {
+        if self.contexts.has_unsent_at(place) {
+            self.unsent.pop_back();
+        }
+        self.contexts.take(place)
+    }
+
     /// Takes the context at a place away, of which no data write is left to submit.
-    pub fn take(&mut self, place: u32) -> Option<Waiting>
+    pub fn take(&mut self, place: u32) -> Option<NamedContext>
         requires { IfSome (context_at place self.old) (λ x. unsent x ≡ None) }
         ensures taken { result ≡ context_at place self.old }
         ensures left { self.new ≡ without_context place self.old }

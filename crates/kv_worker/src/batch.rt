@@ -1,15 +1,16 @@
 //! The batch, and its way into the log.
-ghost use Rattle.std.specs.Prelude.{◌≡◌, ◌∷◌, [], map, OnOk, OnErr, IfOk, IfErr};
+ghost use Rattle.std.specs.Prelude.{◌≡◌, ◌∷◌, [], map, MatchOption, OnOk, OnErr, IfOk, IfErr};
 ghost use Rattle.meta_store.specs.Store.{with_begun};
 ghost use Rattle.store_steps.specs.Prelude.{log_after};
 ghost use Rattle.txn_states.specs.States.{committed_of};
-ghost use Rattle.kv_worker.specs.Batches.{flushed_batch, ops_of, CanSeal, CanCommit};
+ghost use Rattle.kv_worker.specs.Batches.{flushed_batch, ops_of, TakesNone, TakesOne, CanSeal, CanCommit};
 
 use meta_log::SealedRecord;
 use meta_store::MetaStore;
 use std::alloc::Global;
 use std::marker::Model;
 use txn_states::{Committed, Queued};
+use waiting_contexts::Contexts;
 
 /// What one record of the log is made of: for now one transaction. A clause sees the contexts of its transactions.
 #[derive(Drop)]
@@ -69,6 +70,17 @@ impl Batch {
             Err(_) => Err(self),
         }
     }
+}
+
+/// Takes the batch that comes next: the transaction of least place whose data writes have all ended and before which none of its collection
+/// waits, one a batch. None where there is no such transaction. (Ceph: what `_kv_sync_thread` takes out of its queue.)
+pub fn take_batch(contexts: &mut Contexts) -> Option<Batch>
+    ensures { MatchOption result (TakesNone contexts.old contexts.new) (λ batch. TakesOne contexts.old contexts.new batch) }
+{
+    if !contexts.has_done() {
+        return None;
+    }
+    Some(Batch::of(contexts.take_chosen()))
 }
 
 impl SealedBatch {

@@ -4,4 +4,4 @@
 
 mod batch;
 
-pub use batch::{Batch, SealedBatch, commit};
+pub use batch::{Batch, SealedBatch, commit, take_batch};

@@ -77,7 +77,8 @@ fn enter(
 fn settle(submissions: &Submissions, sequencers: &Sequencers, heads: &mut DoneHeads, place: u32)
     requires tied { HaveTurnsOf submissions.now sequencers.now }
     requires room { length heads.old.places < heads.old.room }
-    ensures places { (q : ℕ) → count_of q heads.new.places ≡ count_of q (if is_head place submissions.now then place ∷ heads.old.places else heads.old.places) }
+    ensures places { (q : ℕ) → count_of q heads.new.places
+        ≡ count_of q (if is_head place submissions.now then place ∷ heads.old.places else heads.old.places) }
     ensures room { heads.old.room ≤ heads.new.room }
 {
     if let Some(context) = submissions.get(place)
@@ -90,7 +91,8 @@ fn settle(submissions: &Submissions, sequencers: &Sequencers, heads: &mut DoneHe
 // The place of the first context of a collection comes among the heads, if it is done.
 fn advance(sequencers: &Sequencers, heads: &mut DoneHeads, coll: &Bytes)
     requires { length heads.old.places < heads.old.room }
-    ensures places { (q : ℕ) → count_of q heads.new.places ≡ (if is_ready_at q (turns_in sequencers.now coll.now) then 1 else 0) + count_of q heads.old.places }
+    ensures places { (q : ℕ) → count_of q heads.new.places
+        ≡ (if is_ready_at q (turns_in sequencers.now coll.now) then 1 else 0) + count_of q heads.old.places }
     ensures room { heads.old.room ≤ heads.new.room }
 {
     if let Some(next) = sequencers.head_ready(coll) {

@@ -10,7 +10,7 @@ use std::alloc::Global;
 use std::collections::BTreeMap;
 use std::marker::Model;
 
-/// Contexts, seen as the list of them by place. Each call takes as many steps at most as the number of contexts has digits.
+/// Contexts, seen as the list of them by place. Each call but `len` goes down one path of the map.
 #[derive(Drop)]
 pub struct ByPlace {
     contexts: BTreeMap<u32, NamedContext>,

@@ -19,7 +19,7 @@ use txn_states::{NextWrite, Queued, Waiting};
 
 /// The transactions whose data writes are under way, seen as the list of their contexts by place.
 ///
-/// No call costs in proportion to how many there are: each takes as many steps at most as their number has digits.
+/// No call goes over them: each goes down a path of a map or of a heap. Now and then `push` moves a queue or the heap to larger memory.
 #[derive(Drop)]
 pub struct Contexts {
     submissions: Submissions,
@@ -192,7 +192,7 @@ impl Contexts {
         let Some(place) = self.heads.pop() else {
             unreachable!();
         };
-        // It is done, so that no write of it is left to submit.
+        // for the fact that it ensures: a context that is done has no write left to submit
         self.submissions.is_done_at(place);
         let Some(context) = self.submissions.take(place) else {
             unreachable!();

@@ -1,4 +1,4 @@
-//! The transactions whose data writes are under way, any number of them. No call costs in proportion to how many wait.
+//! The transactions whose data writes are under way, any number of them. No call goes over all that wait.
 #![tactic(auto)]
 
 mod by_place;

@@ -31,7 +31,7 @@ pub record AcceptsOne (s : State) (d : Disk) (s' : State) : Type 0 where
 
 -- it answers without one: it refuses a transaction, or answers a read
 pub data Replies (s : State) (d : Disk) (s' : State) : Type 0 where
-  refuses : (client line : ℕ) (change : Change) (a : Answer) → Refuses client line change a s s' → Replies s d s'
+  refuses : (client line : ℕ) (change : Change) (a : Answer) → Refuses client line change a s d s' → Replies s d s'
   reads : (client line : ℕ) (command : Command) (a : Answer) → AnswersRead client line command a s d s' → Replies s d s'
 
 -- it is this step, which is ready

@@ -7,7 +7,7 @@ pub use Rattle.store_steps.specs.Steps.{piece_unit, piece_bytes, DoesData, Takes
 pub use Rattle.store_steps.specs.Submit.{need_of, free_count, entry_limit, context_of, entered, noted, accepted_with, CanNote, Accepts, IsCause, Refuses, IsDownBy, IsBookFull}
 pub use Rattle.store_steps.specs.Intents.{Intent, intent_of, intents, names_in, is_in, plan_of, rows_by, ops_by, taken_by, released_by, needs_by, IsPlannedOver, EachIsPlanned, AreTakenApart, SpaceIsCounted, CanJoin}
 pub use Rattle.store_steps.specs.Opened.{Found, opened}
-pub use Rattle.store_steps.specs.UnderWay.{uncommitted, all_fresh, given_fresh, flush_of, second_flush, begun_ops, submitted_from}
+pub use Rattle.store_steps.specs.UnderWay.{uncommitted, all_fresh, bytes_in, memory_of, given_fresh, flush_of, second_flush, begun_ops, submitted_from}
 pub use Rattle.store_steps.specs.Parts.{RowsPart, rows_part, DataPart, data_part, HalfPart, half_part, BookPart, book_part}
 pub use Rattle.store_steps.specs.Touch.{Touch, nothing, ends, flushes, on_data, on_half, run_write, Adds, events_of, after, IsPlaced, IsNoData, IsNoPiece}
 pub use Rattle.store_steps.specs.RowsGo.{joined, applied, RowsGo, joins, reorders}
@@ -15,4 +15,4 @@ pub use Rattle.store_steps.specs.DataGoes.{IsInRow, Spares, Gives, DataGoes, giv
 pub use Rattle.store_steps.specs.HalfGoes.{HalfGoes, begins, gives_piece, syncs, is_synced, moves_on}
 pub use Rattle.store_steps.specs.BookGoes.{commits_of, BookGoes, enters, commits, acknowledges}
 pub use Rattle.store_steps.specs.Footprint.{AcceptsOne, Replies, refuses, reads, IsCaused, Footprint}
-pub use Rattle.store_steps.specs.Runs.{Call, submitting, reading, stepping, MayRead, TurnsAway, Submits, AnswersRead, Reads, DoesOrFails, Calls, IsRun}
+pub use Rattle.store_steps.specs.Runs.{Call, submitting, reading, stepping, TurnsAway, Submits, AnswersRead, Reads, DoesOrFails, Calls, IsRun}

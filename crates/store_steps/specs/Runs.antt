@@ -6,12 +6,13 @@ use Rattle.object_model.specs.Prelude.{Change}
 use Rattle.object_model.specs.declared.command.Command.{Command}
 use Rattle.object_model.specs.declared.command.Answer.{Answer}
 use Rattle.meta_log.specs.Prelude.{width_of}
-use Rattle.read_facts.specs.Prelude.{IsHeldAt, no_memory, IsKnownRead, HasReadNames, IsAnswerOf}
+use Rattle.read_facts.specs.Prelude.{IsHeldAt, IsKnownRead, HasReadNames, IsAnswerOf}
 use Rattle.store_steps.specs.declared.step.Step.{Step}
 use Rattle.store_steps.specs.declared.step.Step.TheVariants.{Reap}
 use Rattle.store_steps.specs.State.{State}
-use Rattle.store_steps.specs.Ready.{is_ready, is_drained}
+use Rattle.store_steps.specs.Ready.{is_ready}
 use Rattle.store_steps.specs.Steps.{Does, Takes}
+use Rattle.store_steps.specs.UnderWay.{memory_of}
 use Rattle.plan_rows.specs.Prelude.{IsKnown}
 use Rattle.store_steps.specs.Submit.{CanNote, entered, Accepts, Refuses, IsDownBy, IsBookFull}
 
@@ -21,25 +22,21 @@ pub data Call : Type 0 where
   reading : (client line : ℕ) (command : Command) → Call
   stepping : (step : Step) → Call
 
--- A command that reads may be given where the kernel is drained, or down.
-pub record MayRead (command : Command) (s : State) (d : Disk) : Type 0 where
-  pub drained : (s.down ≡ None) → is_drained d.depth s ≡ true
-  pub known : IsKnownRead command
-
 -- it is turned away: nothing changes
 pub record TurnsAway (s s' : State) : Type 0 where
   pub cause : ((ticket : Ticket) × IsDownBy ticket s) ⊎ IsBookFull s
   pub same : s' ≡ s
 
 -- it is accepted, refused with an answer, or turned away
-abbrev pub Submits : ℕ → ℕ → Change → State → State → Type 0
-Submits client line change s s' = Accepts client line change s s' ⊎ ((a : Answer) × Refuses client line change a s s') ⊎ TurnsAway s s'
+abbrev pub Submits : ℕ → ℕ → Change → State → Disk → State → Type 0
+Submits client line change s d s' = Accepts client line change s s' ⊎ ((a : Answer) × Refuses client line change a s d s') ⊎ TurnsAway s s'
 
--- A read is answered by the submitted rows and by what the device holds: no bytes are in memory. Nothing but the book changes.
+-- A read is answered by the submitted rows, by the bytes of units that aren't committed, which are in memory, and by what the device holds of all
+-- others. Nothing but the book changes.
 pub record AnswersRead (client line : ℕ) (command : Command) (a : Answer) (s : State) (d : Disk) (s' : State) : Type 0 where
   pub can_note : CanNote s
   pub names : HasReadNames command
-  pub given : IsAnswerOf (width_of s.log.sup) no_memory (IsHeldAt d) s.submitted command a
+  pub given : IsAnswerOf (width_of s.log.sup) (memory_of s) (IsHeldAt d) s.submitted command a
   pub after : s' ≡ entered client line command a s
 
 -- it is answered, or turned away
@@ -51,10 +48,10 @@ abbrev pub DoesOrFails : Step → State → Disk → State → Disk → Type 0
 DoesOrFails Reap s d s' d' = Does Reap s d s' d' ⊎ Takes s d false s' d'
 DoesOrFails step s d s' d' = Does step s d s' d'
 
--- what a call that is made does; a transaction may be submitted at any time, if its operations are known
+-- what a call that is made does; each may be made at any time, if its operations, or what it reads, are known
 abbrev pub Calls : Call → State → Disk → State → Disk → Type 0
-Calls (submitting client line change) s d s' d' = IsKnown change.ops × Submits client line change s s' × (d' ≡ d)
-Calls (reading client line command) s d s' d' = MayRead command s d × Reads client line command s d s' × (d' ≡ d)
+Calls (submitting client line change) s d s' d' = IsKnown change.ops × Submits client line change s d s' × (d' ≡ d)
+Calls (reading client line command) s d s' d' = IsKnownRead command × Reads client line command s d s' × (d' ≡ d)
 Calls (stepping step) s d s' d' = (is_ready step d.depth s ≡ true) × DoesOrFails step s d s' d'
 
 -- Calls, one after another, lead from one state of kernel and device to another. Behind each of them holds of the device what holds of every device.

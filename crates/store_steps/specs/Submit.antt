@@ -1,5 +1,6 @@
 -- What submitting a transaction does: it is accepted, or refused for a cause; either makes an entry of the book.
 use Rattle.std.specs.Prelude.{◌≡◌, ℕ, ◌+◌, ◌<◌, ◌≤◌, [], ◌∷◌, ◌++◌, length, map, Some, None}
+use Rattle.block_device.specs.Prelude.{Disk}
 use Rattle.block_device.specs.declared.device.Ticket.{Ticket}
 use Rattle.object_model.specs.Prelude.{Change}
 use Rattle.object_model.specs.declared.command.Command.{Command}
@@ -75,20 +76,20 @@ pub record Accepts (client line : ℕ) (change : Change) (s s' : State) : Type 0
   pub fits : need_of s.log plan ≤ room_of s.log
   pub after : s' ≡ accepted_with client line change plan s
 
--- it is refused with this answer, for its cause; nothing but the book changes
-abbrev pub IsCause : Answer → Change → State → Type 0
-IsCause (answer.Refused refusal) change s = IsRefusedBy s.submitted (ask.Change change) refusal
-IsCause (answer.NoSpace need free) change s =
+-- It is refused with this answer, for its cause; nothing but the book changes. No cause is of the device yet: no operation reads old bytes.
+abbrev pub IsCause : Answer → Change → State → Disk → Type 0
+IsCause (answer.Refused refusal) change s d = IsRefusedBy s.submitted (ask.Change change) refusal
+IsCause (answer.NoSpace need free) change s d =
     IsNotRefused s.submitted (ask.Change change) × (need ≡ units_taken change.ops) × (free ≡ free_count s.space) × (free < need)
-IsCause (answer.MetaFull need room) change s =
+IsCause (answer.MetaFull need room) change s d =
     IsNotRefused s.submitted (ask.Change change)
     × ((plan : Plan) × (Plans (width_of s.log.sup) change.coll change.ops s.submitted s.space plan × (need ≡ need_of s.log plan)))
     × (room ≡ room_of s.log) × (room < need)
-IsCause a change s = ⊥
+IsCause a change s d = ⊥
 
-pub record Refuses (client line : ℕ) (change : Change) (a : Answer) (s s' : State) : Type 0 where
+pub record Refuses (client line : ℕ) (change : Change) (a : Answer) (s : State) (d : Disk) (s' : State) : Type 0 where
   pub can_note : CanNote s
-  pub cause : IsCause a change s
+  pub cause : IsCause a change s d
   pub after : s' ≡ noted client line change a s
 
 -- It is turned away, and leaves no entry: the kernel is down, by this ticket, or it isn't and its book is full.

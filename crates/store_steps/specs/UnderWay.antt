@@ -1,5 +1,5 @@
 -- What is under way, in the words of what is known of the log and of the data units.
-use Rattle.std.specs.Prelude.{ℕ, List, [], ◌++◌, take, Option}
+use Rattle.std.specs.Prelude.{ℕ, List, [], ◌∷◌, ◌++◌, ◌==◌, take, Option, Some, None, if◌then◌else◌}
 use Rattle.std.specs.List.{flat_map}
 use Rattle.std.specs.Option.{option_map, option_map_or}
 use Rattle.meta_rows.specs.declared.row_op.RowOp.{RowOp}
@@ -19,6 +19,15 @@ uncommitted s = option_map_or (λ b. b.contexts) s.batch [] ++ s.pending
 -- the fresh units of contexts
 abbrev pub all_fresh : List Context → List FreshUnit
 all_fresh contexts = flat_map (λ x. x.fresh) contexts
+
+-- the bytes of a unit, if it is one of these
+abbrev pub bytes_in : List FreshUnit → ℕ → Option (List ℕ)
+bytes_in [] unit = None
+bytes_in (f ∷ more) unit = if f.unit == unit then Some f.bytes else bytes_in more unit
+
+-- What reads find in memory: the bytes of the units that accepted transactions took, until these are committed.
+abbrev pub memory_of : State → ℕ → Option (List ℕ)
+memory_of s = bytes_in (all_fresh (uncommitted s))
 
 -- those whose writes were submitted
 abbrev pub given_fresh : List Context → List FreshUnit

@@ -1,5 +1,5 @@
--- Reads where the device tells what it holds, and no write of it ended badly, over a valuation of units: bytes in memory, else those last written.
-use Rattle.std.proofs.Common.{◌≡◌, ℕ, ◌+◌, ◌/◌, List, length, take, drop, Option, Some, None, unwrap_or, sym, ap, subst, ◌∙◌, arith, take_all}
+-- Reads where the device tells what it holds, and no write of the units that it reads ended badly, over a valuation of units: bytes in memory, else those last written.
+use Rattle.std.proofs.Common.{◌≡◌, ℕ, ◌+◌, ◌/◌, List, length, take, drop, Option, Some, None, unwrap_or, refl, sym, ap, subst, ◌∙◌, arith, take_all}
 use Rattle.std.specs.Prelude.{IfSome, MatchOption}
 use Rattle.byte_maps.specs.Units.{unit_at}
 use Rattle.unit_fields.specs.declared.width.Width.{Width}
@@ -11,40 +11,42 @@ use Rattle.object_model.specs.declared.command.Answer.{Answer}
 use Rattle.object_model.specs.declared.command.Answer.TheVariants as answer
 use Rattle.object_model.specs.Prelude.{Objects, reply_of}
 use Rattle.meta_rows.specs.Prelude.{Rows}
-use Rattle.store_image.specs.Prelude.{PageUnit, page_bytes, AreObjectBytes, ObjectsStand}
+use Rattle.store_image.specs.Prelude.{PageUnit, IsPageOn, HasPage, page_bytes, AreObjectBytes, ObjectsStand}
 use Rattle.read_facts.specs.Prelude.{IsHeldAt, IsGoodPage, hole, mapped, IsBadPage, ReadsBytes, FailsAt, HasReadNames, IsAnswerOf}
 use Rattle.read_facts.proofs.Cut.{cut_is}
 use Rattle.read_facts.proofs.Plain.{read_given, sum_given, size_is, plain_stat, plain_list}
 
-module _ (w : Width) (memory : ℕ → Option (List ℕ)) (d : Disk) (h : History) (tells : d.history ≡ Some h)
-    (answered : (unit : ℕ) → HasNoBadDone h.log unit) (at : ℕ → List ℕ)
+module _ (w : Width) (memory : ℕ → Option (List ℕ)) (d : Disk) (h : History) (tells : d.history ≡ Some h) (rows : Rows)
+    (answered : (unit : ℕ) → HasPage w rows unit → memory unit ≡ None → HasNoBadDone h.log unit) (at : ℕ → List ℕ)
     (valued : (unit : ℕ) → at unit ≡ unwrap_or (memory unit) (last_at h unit)) where
-  -- what a unit holds is what was last written there
-  held_is : (unit : ℕ) (bytes : List ℕ) → IsHeldAt d unit bytes → bytes ≡ last_at h unit
-  held_is unit bytes held =
-      let of : IfSome (Some h) (λ (g : History). HasNoBadDone g.log unit → bytes ≡ last_at g unit) =
-      subst (λ (x : Option History). IfSome x (λ (g : History). HasNoBadDone g.log unit → bytes ≡ last_at g unit)) tells held in
-      of (answered unit)
+  -- what the unit of a page holds that isn't in memory is what was last written there
+  held_is : (c o : List ℕ) (page : ℕ) (on : PageUnit) (bytes : List ℕ) → IsPageOn w rows c o page on → memory on.unit ≡ None
+      → IsHeldAt d on.unit bytes → bytes ≡ last_at h on.unit
+  held_is c o page on bytes is_on none held =
+      let of : IfSome (Some h) (λ (g : History). HasNoBadDone g.log on.unit → bytes ≡ last_at g on.unit) =
+      subst (λ (x : Option History). IfSome x (λ (g : History). HasNoBadDone g.log on.unit → bytes ≡ last_at g on.unit)) tells held in
+      of (answered on.unit (record { coll = c; object = o; page = page; on = on; is_on = is_on; is_unit = refl }) none)
 
-  -- what a unit gives is what it is valued at
-  given_is : (on : PageUnit) (copy : Option (List ℕ)) (bytes : List ℕ)
-      → MatchOption copy (IsHeldAt d on.unit bytes × (crc32c bytes ≡ on.csum)) (λ b. bytes ≡ b) → bytes ≡ unwrap_or copy (last_at h on.unit)
-  given_is on None bytes is = held_is on.unit bytes is.0
-  given_is on (Some b) bytes is = is
+  -- what it gives is what it is valued at
+  given_is : (c o : List ℕ) (page : ℕ) (on : PageUnit) (copy : Option (List ℕ)) (bytes : List ℕ) → IsPageOn w rows c o page on
+      → memory on.unit ≡ copy → MatchOption copy (IsHeldAt d on.unit bytes × (crc32c bytes ≡ on.csum)) (λ b. bytes ≡ b)
+      → bytes ≡ unwrap_or copy (last_at h on.unit)
+  given_is c o page on None bytes is_on none is = held_is c o page on bytes is_on none is.0
+  given_is c o page on (Some b) bytes is_on some is = is
 
-  module _ (rows : Rows) (c o : List ℕ) (bytes : List ℕ) (are : AreObjectBytes w at rows c o bytes) where
+  module _ (c o : List ℕ) (bytes : List ℕ) (are : AreObjectBytes w at rows c o bytes) where
     -- a good page is the object's
     good_is : (page : ℕ) (read : List ℕ) → IsGoodPage w memory (IsHeldAt d) rows c o page read → read ≡ page_bytes bytes page
     good_is page read (hole nowhere zero) = zero ∙ sym (are.holes page nowhere)
     good_is page read (mapped on is gives) =
-        given_is on (memory on.unit) read gives ∙ sym (valued on.unit) ∙ sym (are.mapped page on is).seen
+        given_is c o page on (memory on.unit) read is refl gives ∙ sym (valued on.unit) ∙ sym (are.mapped page on is).seen
 
     -- no page is bad
     none_bad : (page unit kept found : ℕ) → IsBadPage w memory (IsHeldAt d) rows c o page unit kept found → ⊥
     none_bad page unit kept found bad =
         let seen = are.mapped page (record { unit = unit; csum = kept }) bad.is_on in
         let same : bad.bytes ≡ page_bytes bytes page =
-        held_is unit bad.bytes bad.holds
+        held_is c o page (record { unit = unit; csum = kept }) bad.bytes bad.is_on bad.not_in_memory bad.holds
         ∙ sym (valued unit ∙ ap (λ (copy : Option (List ℕ)). unwrap_or copy (last_at h unit)) bad.not_in_memory) ∙ sym seen.seen in
         bad.differs (bad.is_found ∙ ap crc32c same ∙ seen.kept)
 
@@ -58,7 +60,7 @@ module _ (w : Width) (memory : ℕ → Option (List ℕ)) (d : Disk) (h : Histor
     pub none_fails : (size off len unit kept found : ℕ) → FailsAt w memory (IsHeldAt d) rows c o size off len unit kept found → ⊥
     none_fails size off len unit kept found f = none_bad (off / 4096 + f.first_bad.index) unit kept found f.first_bad.bad
 
-  module _ (rows : Rows) (objects : Objects) (stand : ObjectsStand w at rows objects) where
+  module _ (objects : Objects) (stand : ObjectsStand w at rows objects) where
     -- a read of bytes is answered as the objects do
     seen_read : (c o : List ℕ) (off len : ℕ) (a : Answer) → IsAnswerOf w memory (IsHeldAt d) rows (ask.Read c o off len) a
         → a ≡ reply_of (ask.Read c o off len) objects
@@ -69,12 +71,12 @@ module _ (w : Width) (memory : ℕ → Option (List ℕ)) (d : Disk) (h : Histor
         let size : is.1.0 ≡ length given.object.bytes =
         size_is w rows objects stand.shape c o given.object is.1.0 given.under read.has_size in
         let same : bytes ≡ take len (drop off given.object.bytes) =
-        bytes_are rows c o given.object.bytes (stand.bytes c o given.object given.under) off len bytes
+        bytes_are c o given.object.bytes (stand.bytes c o given.object given.under) off len bytes
         (subst (λ (n : ℕ). ReadsBytes w memory (IsHeldAt d) rows c o n off len bytes) size read) in
         ap answer.Bytes same ∙ sym given.reply
     seen_read c o off len (answer.Csum unit kept found) is =
         let given = read_given objects c o off len (is.0 objects stand.shape) in
-        absurd (none_fails rows c o given.object.bytes (stand.bytes c o given.object given.under) is.1.0 off len unit kept found is.1.1)
+        absurd (none_fails c o given.object.bytes (stand.bytes c o given.object given.under) is.1.0 off len unit kept found is.1.1)
     seen_read c o off len a is = absurd is.1
 
     -- so is a sum
@@ -86,14 +88,14 @@ module _ (w : Width) (memory : ℕ → Option (List ℕ)) (d : Disk) (h : Histor
         let read : ReadsBytes w memory (IsHeldAt d) rows c o size 0 size is.1.0 = is.1.1.0 in
         let same_size : size ≡ length bytes = size_is w rows objects stand.shape c o given.object size given.under read.has_size in
         let same : is.1.0 ≡ take size (drop 0 bytes) =
-        bytes_are rows c o bytes (stand.bytes c o given.object given.under) 0 size is.1.0
+        bytes_are c o bytes (stand.bytes c o given.object given.under) 0 size is.1.0
         (subst (λ (n : ℕ). ReadsBytes w memory (IsHeldAt d) rows c o n 0 size is.1.0) same_size read) in
         let crc_is : crc ≡ crc32c bytes =
         is.1.1.1 ∙ ap crc32c (same ∙ ap (λ (n : ℕ). take n bytes) same_size ∙ take_all (length bytes) bytes (omega arith)) in
         ap (λ (n : ℕ). answer.Sum n crc) same_size ∙ ap (answer.Sum (length bytes)) crc_is ∙ sym given.reply
     seen_sum c o (answer.Csum unit kept found) is =
         let given = sum_given objects c o (is.0 objects stand.shape) in
-        absurd (none_fails rows c o given.object.bytes (stand.bytes c o given.object given.under) is.1.0 0 is.1.0 unit kept found is.1.1)
+        absurd (none_fails c o given.object.bytes (stand.bytes c o given.object given.under) is.1.0 0 is.1.0 unit kept found is.1.1)
     seen_sum c o a is = absurd is.1
 
     -- a read is answered as the objects do

@@ -12,7 +12,7 @@ use Rattle.object_model.specs.declared.command.Answer.TheVariants as answer
 use Rattle.object_model.specs.Prelude.{Object, Collection, Objects, object_under, reply_of}
 use Rattle.meta_rows.specs.Prelude.{Rows}
 use Rattle.meta_log.specs.declared.slot.Super.{Super}
-use Rattle.store_image.specs.Prelude.{NoBadRow, ObjectsStand}
+use Rattle.store_image.specs.Prelude.{NoBadRow, HasPage, ObjectsStand}
 use Rattle.row_facts.proofs.ByRow.{object_present}
 use Rattle.read_facts.specs.declared.view.BadSum.{BadSum}
 use Rattle.read_facts.specs.declared.view.CollView.{CollView}
@@ -58,9 +58,8 @@ crc_of (answer.Sum size crc) = crc
 crc_of a = 0
 
 module _ (w : Width) (memory : ℕ → Option (List ℕ)) (d : Disk) (h : History) (tells : d.history ≡ Some h)
-    (answered : (unit : ℕ) → HasNoBadDone h.log unit) (at : ℕ → List ℕ)
-    (valued : (unit : ℕ) → at unit ≡ unwrap_or (memory unit) (last_at h unit))
-    (rows : Rows) (objects : Objects) (stand : ObjectsStand w at rows objects) where
+    (rows : Rows) (answered : (unit : ℕ) → HasPage w rows unit → memory unit ≡ None → HasNoBadDone h.log unit) (at : ℕ → List ℕ)
+    (valued : (unit : ℕ) → at unit ≡ unwrap_or (memory unit) (last_at h unit)) (objects : Objects) (stand : ObjectsStand w at rows objects) where
   -- ---- one object
 
   module _ (c o : List ℕ) (coll : IsCollection rows c) (is : IsObject rows c o) (object : Object)
@@ -76,11 +75,11 @@ module _ (w : Width) (memory : ℕ → Option (List ℕ)) (d : Disk) (h : Histor
     sum_is : (size : ℕ) (sum : Result ℕ BadSum) → Gives w memory (IsHeldAt d) rows (ask.Sum c o) (sum_answer size sum)
         → sum ≡ Ok (crc32c object.bytes)
     sum_is size (Ok crc) gives =
-        let e = seen_answer w memory d h tells answered at valued rows objects stand (ask.Sum c o) (answer.Sum size crc) (coll.named, is.named)
+        let e = seen_answer w memory d h tells rows answered at valued objects stand (ask.Sum c o) (answer.Sum size crc) (coll.named, is.named)
         (sum_taken rows c o coll.named is.named coll.there is.there, gives) in
         ap Ok (ap crc_of (e ∙ sym sum_reply))
     sum_is size (Err bad) gives =
-        let e = seen_answer w memory d h tells answered at valued rows objects stand (ask.Sum c o) (answer.Csum bad.unit bad.kept bad.found)
+        let e = seen_answer w memory d h tells rows answered at valued objects stand (ask.Sum c o) (answer.Csum bad.unit bad.kept bad.found)
         (coll.named, is.named) (sum_taken rows c o coll.named is.named coll.there is.there, gives) in
         absurd (let same = e ∙ sym sum_reply in cc)
 

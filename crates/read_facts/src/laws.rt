@@ -1,5 +1,5 @@
 //! What the definitions come to. Each function has laws for its contract and does nothing.
-ghost use Rattle.std.specs.Prelude.{◌≡◌, ◌⊎◌, ◌≤◌, ℕ, ◌+◌, List, [], ◌∷◌, ◌++◌, IsTrue, not, Option, Some, unwrap_or};
+ghost use Rattle.std.specs.Prelude.{◌≡◌, ◌⊎◌, ◌≤◌, ℕ, ◌+◌, List, [], ◌∷◌, ◌++◌, IsTrue, not, Option, Some, None, unwrap_or};
 ghost use Rattle.std.specs.List.{AllByRecursion};
 ghost use Rattle.std.specs.FinMap as map;
 ghost use Rattle.block_device.specs.Prelude.{Disk, History, last_at, HasNoBadDone};
@@ -8,7 +8,7 @@ ghost use Rattle.meta_log.specs.declared.slot.Super.{Super};
 ghost use Rattle.object_model.specs.Prelude.{Collection, Objects, reply_of, is_refused, is_of_device};
 ghost use Rattle.object_model.specs.declared.command.Command.{Command};
 ghost use Rattle.object_model.specs.declared.command.Answer.{Answer};
-ghost use Rattle.store_image.specs.Prelude.{NoBadRow, PageUnit, IsPageOn, IsShape, ObjectsStand};
+ghost use Rattle.store_image.specs.Prelude.{NoBadRow, PageUnit, IsPageOn, HasPage, IsShape, ObjectsStand};
 ghost use Rattle.unit_fields.specs.Prelude.{IsCollName};
 ghost use Rattle.read_facts.specs.Walks.{IsCollection, IsObject, IsNextOf, AreNext, last_of, AreAll};
 ghost use Rattle.read_facts.specs.PageReads.{IsHeldAt, IsGoodPage, IsBadPage, AreGoodPages, IsFirstBad};
@@ -72,11 +72,13 @@ pub fn reads_are_plain_but_for_bytes()
         ⊎ (IsTrue (is_of_device command a) × IsTrue (not (is_refused (reply_of command objects)))) }
 {}
 
-/// Where the device tells what it holds, no write of it ended badly, and rows and units stand for objects, a read is answered as these do, and so
-/// never by a bad unit. What a unit is taken to hold are its bytes in memory, else those last written there.
+/// Where the device tells what it holds, no write ended badly of a unit of the rows' pages that isn't in memory, and rows and units stand for
+/// objects, a read is answered as these do, and so never by a bad unit. What a unit is taken to hold are its bytes in memory, else those last
+/// written there.
 pub fn reads_are_as_plain_objects()
     ensures { (w : Width) (memory : ℕ → Option (List ℕ)) (d : Disk) (h : History) (at : ℕ → List ℕ) (rows : Rows) (objects : Objects)
-        (command : Command) (a : Answer) → d.history ≡ Some h → ((unit : ℕ) → HasNoBadDone h.log unit)
+        (command : Command) (a : Answer) → d.history ≡ Some h
+        → ((unit : ℕ) → HasPage w rows unit → memory unit ≡ None → HasNoBadDone h.log unit)
         → ((unit : ℕ) → at unit ≡ unwrap_or (memory unit) (last_at h unit)) → ObjectsStand w at rows objects → HasReadNames command
         → IsAnswerOf w memory (IsHeldAt d) rows command a → a ≡ reply_of command objects }
 {}
@@ -84,11 +86,13 @@ pub fn reads_are_as_plain_objects()
 /// And a walk shows just these objects, no page of which is bad.
 pub fn walks_show_plain_objects()
     ensures all { (memory : ℕ → Option (List ℕ)) (d : Disk) (h : History) (at : ℕ → List ℕ) (s : Super) (rows : Rows) (objects : Objects)
-        (colls : List CollView) → d.history ≡ Some h → ((unit : ℕ) → HasNoBadDone h.log unit)
+        (colls : List CollView) → d.history ≡ Some h
+        → ((unit : ℕ) → HasPage (width_of s) rows unit → memory unit ≡ None → HasNoBadDone h.log unit)
         → ((unit : ℕ) → at unit ≡ unwrap_or (memory unit) (last_at h unit)) → NoBadRow s rows
         → ObjectsStand (width_of s) at rows objects → WalksAll (width_of s) memory (IsHeldAt d) rows colls → colls ≡ views_of objects }
     ensures good { (w : Width) (memory : ℕ → Option (List ℕ)) (d : Disk) (h : History) (at : ℕ → List ℕ) (rows : Rows) (objects : Objects)
-        (colls : List CollView) → d.history ≡ Some h → ((unit : ℕ) → HasNoBadDone h.log unit)
+        (colls : List CollView) → d.history ≡ Some h
+        → ((unit : ℕ) → HasPage w rows unit → memory unit ≡ None → HasNoBadDone h.log unit)
         → ((unit : ℕ) → at unit ≡ unwrap_or (memory unit) (last_at h unit)) → ObjectsStand w at rows objects
         → WalksTo w memory (IsHeldAt d) rows colls → AllByRecursion HasGoodViews colls }
 {}

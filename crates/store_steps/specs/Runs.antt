@@ -1,5 +1,5 @@
 -- Runs: lists of calls, each of which does what its relation says.
-use Rattle.std.specs.Prelude.{◌≡◌, ◌⊎◌, ℕ, true, false, List, [], ◌∷◌, None}
+use Rattle.std.specs.Prelude.{◌≡◌, ◌⊎◌, ℕ, true, false, List, [], ◌∷◌}
 use Rattle.block_device.specs.declared.device.Ticket.{Ticket}
 use Rattle.block_device.specs.Prelude.{Disk, IsSound}
 use Rattle.object_model.specs.Prelude.{Change}

@@ -38,10 +38,10 @@ rests d d' same = (ap (λ (e : Disk). e.history) same, ap (λ (e : Disk). e.flig
 -- ---- Take
 
 module _ (s : State) (x : Context) (none : s.batch ≡ None) (at : IsFirst [] x s.pending) (places : Ascends (map (λ (z : Context). z.place) s.pending)) where
-  before_it : uncommitted s ≡ at.front ++ x ∷ at.back
+  pub before_it : uncommitted s ≡ at.front ++ x ∷ at.back
   before_it = ap (λ (o : Option Batch). option_map_or (λ b. b.contexts) o [] ++ s.pending) none ∙ at.is
 
-  behind_it : uncommitted (taken_up x s) ≡ x ∷ (at.front ++ at.back)
+  pub behind_it : uncommitted (taken_up x s) ≡ x ∷ (at.front ++ at.back)
   behind_it = ap (λ (xs : List Context). x ∷ xs) (ap (without_context x.place) at.is
       ∙ without_at at.front x at.back (elsewhere at.front x at.back (subst (λ (xs : List Context). Ascends (map (λ (z : Context). z.place) xs)) at.is places)))
 

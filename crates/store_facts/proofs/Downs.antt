@@ -6,7 +6,7 @@ use Rattle.store_steps.specs.declared.flight.Flying.{Flying}
 use Rattle.store_steps.specs.declared.flight.Job.{Job}
 use Rattle.store_steps.specs.declared.flight.Job.TheVariants as job
 use Rattle.store_steps.specs.declared.step.Step.{Step}
-use Rattle.store_steps.specs.declared.step.Step.TheVariants.{Data, Reap, Record}
+use Rattle.store_steps.specs.declared.step.Step.TheVariants.{Reap}
 use Rattle.store_steps.specs.Prelude.{State, after_done, after_good, flying_of, landed, down_by, reaped, Takes, Call, submitting, reading, stepping, Calls, DoesOrFails, Submits, Reads}
 use Rattle.store_facts.proofs.Readiness.{Readiness, while_up, while_down, ready_cases}
 
@@ -45,7 +45,7 @@ reap_up s d s' d' (inr ended) up = absurd (down_not_up s d s' d' ended up)
 pub was_up : (call : Call) (s : State) (d : Disk) (s' : State) (d' : Disk) → Calls call s d s' d' → s'.down ≡ None → s.down ≡ None
 was_up (submitting client line change) s d s' d' made up = of_answer made.1
   where
-    of_answer : Submits client line change s s' → s.down ≡ None
+    of_answer : Submits client line change s d s' → s.down ≡ None
     of_answer (inl accepts) = accepts.can_note.up
     of_answer (inr (inl refused)) = refused.1.can_note.up
     of_answer (inr (inr turned)) = sym (ap (λ (t : State). t.down) turned.same) ∙ up

@@ -193,7 +193,7 @@ pub down_call : (call : Call) (s : State) (d : Disk) (s' : State) (d' : Disk) (f
     → Calls call s d s' d' → GoesDown s d s' d'
 down_call (submitting client line change) s d s' d' first kept down made = inr (of_answer made.1)
   where
-    of_answer : Submits client line change s s' → IsStill s d s' d'
+    of_answer : Submits client line change s d s' → IsStill s d s' d'
     of_answer (inl accepts) = absurd (not_both s'.down first (ap (λ (t : State). t.down) accepts.after ∙ accepts.can_note.up) down)
     of_answer (inr (inl refused)) = absurd (not_both s'.down first (ap (λ (t : State). t.down) refused.1.after ∙ refused.1.can_note.up) down)
     of_answer (inr (inr turned)) = record { state = turned.same; history = ap (λ (e : Disk). e.history) made.2 }

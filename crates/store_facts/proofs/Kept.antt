@@ -14,9 +14,8 @@ use Rattle.plan_rows.specs.Prelude.{PlansKeep, IsKnown}
 use Rattle.unit_allocator.specs.Prelude.{Space}
 use Rattle.store_steps.specs.declared.context.Context.{Context}
 use Rattle.store_steps.specs.declared.step.Step.{Step}
-use Rattle.store_steps.specs.Prelude.{Batch, State, is_ready, applied_count, entry_limit, need_of, context_of, accepted_with, entered, Accepts, Refuses, Found, opened, stepping, DoesOrFails, MayRead, AnswersRead, Reads, Intent, intent_of, rows_part, book_part, joined, Footprint}
+use Rattle.store_steps.specs.Prelude.{Batch, State, is_ready, applied_count, entry_limit, need_of, context_of, accepted_with, entered, Accepts, Refuses, Found, opened, stepping, DoesOrFails, AnswersRead, Reads, Intent, intent_of, rows_part, book_part, joined, Footprint}
 use Rattle.store_steps.specs.RowsGo as rows
-use Rattle.store_steps.specs.BookGoes as book
 use Rattle.store_facts.specs.Prelude.{AreRowsKept, AreOfJobs, FlightsMatch, sum_work, batch_work, work_left, entry_work, budget, measure, IsAlwaysKept, IsKept, IsOpenable}
 use Rattle.store_facts.proofs.Keeping.{StepOutcome, has_stepped, has_waited, has_gone_down, GoneDown, down_keeps, paid_within, waited_keeps, step_leaves, work_falls}
 use Rattle.store_facts.proofs.Footprints.{intents_push, footprint_of}
@@ -231,7 +230,7 @@ pub kept_accept : PlansKeep → (s s' : State) (d : Disk) (client line : ℕ) (c
 kept_accept keep s s' d client line change kept known does = accepted_kept keep s d client line change s' kept known does
 
 pub kept_refuse : (s s' : State) (d : Disk) (client line : ℕ) (change : Change) (a : Answer) → IsKept s d → IsKnown change.ops
-    → Refuses client line change a s s' → IsKept s' d
+    → Refuses client line change a s d s' → IsKept s' d
 kept_refuse s s' d client line change a kept may does = subst (λ (t : State). IsKept t d) (sym does.after)
     (entered_kept s d client line (ask.Change change) a kept does.can_note.up does.can_note.room)
 
@@ -287,11 +286,10 @@ pub law_accept : (client line : ℕ) (change : Change) (s s' : State) (d : Disk)
 law_accept client line change s s' d keep = kept_accept keep s s' d client line change
 
 pub law_refuse : (client line : ℕ) (change : Change) (a : Answer) (s s' : State) (d : Disk) → IsKept s d → IsKnown change.ops
-    → Refuses client line change a s s' → IsKept s' d
+    → Refuses client line change a s d s' → IsKept s' d
 law_refuse client line change a s s' d = kept_refuse s s' d client line change a
 
-pub law_read : (client line : ℕ) (command : Command) (s s' : State) (d : Disk) → IsKept s d → MayRead command s d → Reads client line command s d s'
-    → IsKept s' d
-law_read client line command s s' d kept may reads = kept_read s s' d client line command kept reads
+pub law_read : (client line : ℕ) (command : Command) (s s' : State) (d : Disk) → IsKept s d → Reads client line command s d s' → IsKept s' d
+law_read client line command s s' d kept reads = kept_read s s' d client line command kept reads
 
 pub ruleset step_laws = (kept_step, step_less)

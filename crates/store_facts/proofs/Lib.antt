@@ -34,6 +34,7 @@ pub mod RowsSteps
 pub mod RowsAccepted
 pub mod RowsOpened
 pub mod RowsNow
+pub mod Memory
 pub mod Keeping
 pub mod Kept
 pub mod KeptCalls

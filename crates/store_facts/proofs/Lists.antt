@@ -1,5 +1,5 @@
 -- Lists taken apart: what holds of each or of some member, contexts by their places, and what flies but for one.
-use Rattle.std.proofs.Common.{◌≡◌, inl, inr, ℕ, zero, suc, ◌+◌, ◌<◌, Bool, false, cond, not, ◌==◌, List, [], ◌∷◌, ◌++◌, map, take, refl, ap, ◌∙◌, arith}
+use Rattle.std.proofs.Common.{◌≡◌, inl, inr, ℕ, zero, suc, ◌<◌, Bool, false, cond, not, ◌==◌, List, [], ◌∷◌, ◌++◌, map, take, refl, ap, ◌∙◌, arith}
 use Rattle.std.specs.List.{AllByRecursion}
 use Rattle.std.proofs.lemmas.Bool.{eq-eqb, ne_eqb}
 use Rattle.std.proofs.lemmas.List.{map-append}

@@ -15,7 +15,7 @@ use Rattle.store_steps.specs.declared.flight.FlushState.TheVariants as flush
 use Rattle.store_steps.specs.declared.flight.Flying.{Flying}
 use Rattle.store_steps.specs.declared.flight.Job.{Job}
 use Rattle.store_steps.specs.declared.flight.Job.TheVariants as job
-use Rattle.store_steps.specs.declared.step.Step.TheVariants.{Data, Flush, Record, Sync, Finish}
+use Rattle.store_steps.specs.declared.step.Step.TheVariants.{Flush, Record, Sync, Finish}
 use Rattle.meta_store.specs.Store.{Meta, Begun}
 use Rattle.store_steps.specs.Prelude.{Batch, State, Unsent, unsent_units, run_bytes, given_more, done_more, with_context, without_context, batch_ops, after_done, first_flushed, second_flushed, written_more, record_sent, sealed, commit_of, acknowledged, is_not_sent, pieces_of, batch_is, begun_is, applied_count, is_ready_up, Takes, DoesData, DoesTake, DoesFlush, DoesSeal, DoesRecord, DoesSync, DoesCommit, DoesFinish, piece_unit, piece_bytes, intent_of}
 use Rattle.store_steps.specs.Ready.{is_flushed}

@@ -24,6 +24,7 @@ pub use Rattle.store_facts.proofs.RoomKept.{needs_join}
 pub use Rattle.store_facts.proofs.RowsSteps.{IsNoJoin, none_joins}
 pub use Rattle.store_facts.proofs.RowsAccepted.{submitted_good, submitted_free, accepted_keeps, accepted_makes, accepted_takes, accepted_joins}
 pub use Rattle.store_facts.proofs.RowsNow.{kept_rows, kept_submitted, kept_free, kept_space}
+pub use Rattle.store_facts.proofs.Memory.{bytes_both, bytes_none, none_of_bytes, bytes_all, bytes_one, contexts_both, untaken_bytes, memory_whole, page_on_data, readable_now, free_not_in_memory, fresh_not_in_memory, accepted_not_in_memory, accepted_ascend, memory_accepted, memory_same, memory_changed, memory_given, memory_reaped, memory_batch, memory_taken, memory_committed}
 pub use Rattle.store_facts.proofs.Keeping.{StepOutcome, has_stepped, has_waited, has_gone_down, step_leaves, work_falls, down_call}
 pub use Rattle.store_facts.proofs.Kept.{kept_step, kept_accept, kept_refuse, kept_answer, kept_open}
 pub use Rattle.store_facts.proofs.KeptCalls.{kept_call, kept_run}

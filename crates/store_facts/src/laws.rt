@@ -1,20 +1,24 @@
 //! What the kernel keeps, and that its steps come to an end. Each function has laws for its contract and does nothing.
-ghost use Rattle.std.specs.Prelude.{◌≡◌, ℕ, ◌+◌, ◌*◌, ◌^◌, ◌<◌, ◌≤◌, true, List, [], ◌∷◌, ◌++◌, length, take, Option, Some, None, IfSome};
+ghost use Rattle.std.specs.Prelude.{◌≡◌, ℕ, ◌+◌, ◌*◌, ◌^◌, ◌<◌, ◌≤◌, Bool, true, List, [], ◌∷◌, ◌++◌, length, take, Contains, Option, Some, None, is_some, IfSome, if◌then◌else◌};
 ghost use Rattle.std.specs.List.{AllByRecursion};
+ghost use Rattle.std.specs.Option.{option_or};
+ghost use Rattle.block_device.specs.declared.device.Ticket.{Ticket};
 ghost use Rattle.block_device.specs.Prelude.{Disk, Flight, IsSound, IsNotInFlight, IsUntouched};
 ghost use Rattle.meta_rows.specs.Prelude.{ops_bytes, AllFit};
-ghost use Rattle.meta_log.specs.Prelude.{unit_count, active_unit};
+ghost use Rattle.meta_log.specs.Prelude.{unit_count, active_unit, width_of};
 ghost use Rattle.object_model.specs.Prelude.{Change};
+ghost use Rattle.store_image.specs.Prelude.{HasPage};
+ghost use Rattle.plan_rows.specs.declared.plan.Plan.{Plan};
 ghost use Rattle.plan_rows.specs.Prelude.{PlansKeep, IsKnown};
 ghost use Rattle.object_model.specs.declared.command.Command.{Command};
 ghost use Rattle.object_model.specs.declared.command.Answer.{Answer};
-ghost use Rattle.unit_allocator.specs.Prelude.{Space};
+ghost use Rattle.unit_allocator.specs.Prelude.{Space, free_units};
 ghost use Rattle.store_steps.specs.declared.step.Step.{Step};
 ghost use Rattle.store_steps.specs.declared.step.Step.TheVariants.{Data, Flush, Seal, Record, Sync};
 ghost use Rattle.store_steps.specs.declared.context.Context.{Context};
 ghost use Rattle.store_steps.specs.declared.flight.Flying.{Flying};
 ghost use Rattle.meta_store.specs.Store.{Meta, Begun};
-ghost use Rattle.store_steps.specs.Prelude.{Batch, State, Unsent, unsent_units, run_bytes, next_unsent, batch_ops, piece_unit, piece_bytes, Found, opened, is_ready, is_ready_up, is_drained, DoesOrFails, MayRead, Reads, Call, Calls, IsRun, Accepts, Refuses, uncommitted, all_fresh, intents, SpaceIsCounted, Footprint};
+ghost use Rattle.store_steps.specs.Prelude.{Batch, State, Unsent, unsent_units, run_bytes, next_unsent, batch_ops, piece_unit, piece_bytes, Found, opened, is_ready, is_ready_up, is_drained, DoesOrFails, Reads, Call, Calls, IsRun, Accepts, Refuses, chosen, accepted_with, data_sent, reaped, taken_up, committed_batch, uncommitted, all_fresh, bytes_in, memory_of, intents, SpaceIsCounted, Footprint};
 ghost use Rattle.store_facts.specs.Jobs.{IsNone, IsGivenPiece, AreOfJobs, FlightsMatch};
 ghost use Rattle.store_facts.specs.Work.{measure};
 ghost use Rattle.store_facts.specs.Kept.{IsKept, IsOpenable};
@@ -35,9 +39,9 @@ pub fn transactions_keep()
     ensures accepted { (client line : ℕ) (change : Change) (s s' : State) (d : Disk) → PlansKeep → IsKept s d → IsKnown change.ops
         → Accepts client line change s s' → IsKept s' d }
     ensures refused { (client line : ℕ) (change : Change) (a : Answer) (s s' : State) (d : Disk) → IsKept s d → IsKnown change.ops
-        → Refuses client line change a s s' → IsKept s' d }
-    ensures read { (client line : ℕ) (command : Command) (s s' : State) (d : Disk) → IsKept s d → MayRead command s d
-        → Reads client line command s d s' → IsKept s' d }
+        → Refuses client line change a s d s' → IsKept s' d }
+    ensures read { (client line : ℕ) (command : Command) (s s' : State) (d : Disk) → IsKept s d → Reads client line command s d s'
+        → IsKept s' d }
 {}
 
 /// So a run of calls keeps it.
@@ -51,6 +55,31 @@ pub fn a_run_keeps_what_the_kernel_keeps()
 pub fn free_units_are_not_busy()
     ensures { (s : State) (d : Disk) → IsKept s d → s.down ≡ None
         → SpaceIsCounted s.log.sup s.log.rows (intents (uncommitted s)) s.space }
+{}
+
+/// A unit of a page of the submitted rows that isn't in memory is in no flight, so that it can be read at any time. Whole units are in memory.
+pub fn units_not_in_memory_can_be_read()
+    ensures readable { (s : State) (d : Disk) → IsKept s d → s.down ≡ None → (unit : ℕ) → HasPage (width_of s.log.sup) s.submitted unit
+        → memory_of s unit ≡ None → IsUntouched d.flights unit }
+    ensures whole { (s : State) (d : Disk) → IsKept s d → s.down ≡ None → (unit : ℕ) (bytes : List ℕ) → memory_of s unit ≡ Some bytes
+        → length bytes ≡ 4096 }
+{}
+
+/// The bytes of the units that a transaction takes are in memory from when it is accepted, before which they weren't, until it is committed:
+/// whatever else happens leaves there what is there, so also the ends of submissions, and a batch that is opened.
+pub fn bytes_are_in_memory_until_committed()
+    ensures accepted { (client line : ℕ) (change : Change) (plan : Plan) (s : State) (unit : ℕ)
+        → memory_of (accepted_with client line change plan s) unit ≡ option_or (memory_of s unit) (bytes_in plan.fresh unit) }
+    ensures free { (s : State) (d : Disk) → IsKept s d → s.down ≡ None → (unit : ℕ) → Contains (free_units s.space) unit
+        → memory_of s unit ≡ None }
+    ensures same { (s s' : State) → intents (uncommitted s') ≡ intents (uncommitted s) → memory_of s' ≡ memory_of s }
+    ensures given { (place count : ℕ) (ticket : Ticket) (s : State) → memory_of (data_sent place count ticket s) ≡ memory_of s }
+    ensures reaped { (ticket : Ticket) (good : Bool) (s : State) → memory_of (reaped ticket good s) ≡ memory_of s }
+    ensures opened { (s : State) (d : Disk) → IsKept s d → s.down ≡ None → (x : Context) → s.batch ≡ None → chosen s.pending ≡ Some x
+        → memory_of (taken_up x s) ≡ memory_of s }
+    ensures committed { (s : State) (d : Disk) → IsKept s d → s.down ≡ None → (b : Batch) → s.batch ≡ Some b → (unit : ℕ)
+        → memory_of (committed_batch b s) unit
+        ≡ (if is_some (bytes_in (all_fresh b.contexts) unit) then None else memory_of s unit) }
 {}
 
 /// A kernel that is opened on a store with good rows keeps it from the start.

@@ -16,10 +16,10 @@ use Rattle.meta_rows.specs.Prelude.{rows_after}
 use Rattle.meta_log.specs.Prelude.{width_of}
 use Rattle.store_image.specs.Prelude.{IsShape}
 use Rattle.plan_rows.specs.declared.plan.Plan.{Plan}
-use Rattle.read_facts.specs.Prelude.{IsAnsweredAlike, IsNotRefused, HasReadNames, IsHeldAt, no_memory}
+use Rattle.read_facts.specs.Prelude.{IsAnsweredAlike, IsNotRefused, HasReadNames, IsHeldAt}
 use Rattle.read_facts.proofs.Plain.{plain_answer}
 use Rattle.store_steps.specs.declared.context.Context.{Context}
-use Rattle.store_steps.specs.Prelude.{State, context_of, entered, noted, accepted_with, IsCause, AnswersRead, Intent, intent_of, intents, book_part}
+use Rattle.store_steps.specs.Prelude.{State, context_of, entered, noted, accepted_with, IsCause, AnswersRead, memory_of, Intent, intent_of, intents, book_part}
 use Rattle.store_facts.proofs.Prelude.{intents_both, all_join, all_right}
 use Rattle.book_facts.specs.Prelude.{IsOfEntry, IsBookKnown, KnownOfBook}
 use Rattle.book_facts.proofs.Entries.{accepted_push, none_accepted, alike_push, counts_push, change_last, of_entries_push}
@@ -130,27 +130,27 @@ module _ (opening : Objects) (s : State) (client line : ℕ) (command : Command)
 -- ---- a transaction is refused
 
 -- its entry accepts nothing
-pub cause_refuses : (change : Change) (s : State) (a : Answer) → IsCause a change s → accepted_change (ask.Change change) a ≡ None
-cause_refuses change s (answer.Refused refusal) cause = refl
-cause_refuses change s (answer.NoSpace need free) cause = refl
-cause_refuses change s (answer.MetaFull need room) cause = refl
-cause_refuses change s a cause = absurd cause
+pub cause_refuses : (change : Change) (s : State) (d : Disk) (a : Answer) → IsCause a change s d → accepted_change (ask.Change change) a ≡ None
+cause_refuses change s d (answer.Refused refusal) cause = refl
+cause_refuses change s d (answer.NoSpace need free) cause = refl
+cause_refuses change s d (answer.MetaFull need room) cause = refl
+cause_refuses change s d a cause = absurd cause
 
-module _ (opening : Objects) (s : State) (client line : ℕ) (change : Change) (book : KnownOfBook opening s) where
+module _ (opening : Objects) (s : State) (d : Disk) (client line : ℕ) (change : Change) (book : KnownOfBook opening s) where
   abbrev noting : Answer → Entry
   noting a = record { client = client; line = line; command = ask.Change change; answer = a; acks = s.acked }
 
   abbrev objects_now : Objects
   objects_now = replay opening (accepted s.book.entries)
 
-  cause_answers : (a : Answer) → IsCause a change s → IsAnsweredAlike objects_now (noting a)
+  cause_answers : (a : Answer) → IsCause a change s d → IsAnsweredAlike objects_now (noting a)
   cause_answers (answer.Refused refusal) cause = inl (sym (cause objects_now book.shape))
   cause_answers (answer.NoSpace need free) cause = inr (refl, cause.0 objects_now book.shape)
   cause_answers (answer.MetaFull need room) cause = inr (refl, cause.0 objects_now book.shape)
   cause_answers a cause = absurd cause
 
-  pub book_notes : (a : Answer) → IsCause a change s → KnownOfBook opening (noted client line change a s)
-  book_notes a cause = book_enters opening s client line (ask.Change change) a (cause_refuses change s a cause) book (cause_answers a cause)
+  pub book_notes : (a : Answer) → IsCause a change s d → KnownOfBook opening (noted client line change a s)
+  book_notes a cause = book_enters opening s client line (ask.Change change) a (cause_refuses change s d a cause) book (cause_answers a cause)
 
 -- ---- a read is answered
 
@@ -167,5 +167,5 @@ pub book_answers : (opening : Objects) (s : State) (d : Disk) (client line : ℕ
 book_answers opening s d client line command a s' book is =
     subst (KnownOfBook opening) (sym is.after)
     (book_enters opening s client line command a (read_accepts_none command a is.names) book
-    (plain_answer (width_of s.log.sup) s.submitted (replay opening (accepted s.book.entries)) book.shape no_memory (IsHeldAt d) command a
+    (plain_answer (width_of s.log.sup) s.submitted (replay opening (accepted s.book.entries)) book.shape (memory_of s) (IsHeldAt d) command a
     is.names is.given))

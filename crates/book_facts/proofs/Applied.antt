@@ -1,21 +1,22 @@
 -- The transactions of the applied commits, and how far they are all that were accepted.
 use Rattle.std.proofs.Common.{◌≡◌, ℕ, ◌+◌, ◌-◌, Bool, true, false, cond, List, [], ◌∷◌, ◌++◌, length, take, drop, Option}
-use Rattle.std.proofs.Common.{Some, None, refl, sym, ap, ◌∙◌, append-nil, append_assoc, length-append, arith}
+use Rattle.std.proofs.Common.{Some, None, refl, sym, ap, ◌∙◌, append_assoc, length-append, arith}
 use Rattle.std.specs.Prelude.{IsSome, slice_get, option_and_then}
 use Rattle.std.specs.List.{AllByRecursion, cons_option}
-use Rattle.std.proofs.lemmas.List.{take-map, take_all, take-append-drop, length-map}
-use Rattle.std.proofs.lemmas.List.Elements.{filter_map-append}
+use Rattle.std.proofs.lemmas.List.{take-map, take_all, take-append-drop, length-map, map-append}
+use Rattle.std.proofs.lemmas.List.Elements.{filter-append, filter_map-append}
 use Rattle.object_model.specs.declared.book.Entry.{Entry}
 use Rattle.object_model.specs.declared.book.Commit.{Commit}
 use Rattle.object_model.specs.Prelude.{Objects, Change, replay, names_of, is_named, changes_on, accepted, change_at, committed, is_on, places_from, committed_places}
 use Rattle.object_model.proofs.Names.{have_one_name}
 use Rattle.object_model.proofs.Replays.{replay-append, replay-by_collections}
-use Rattle.store_steps.specs.Prelude.{Batch, State, committed_batch, applied_count, Intent, intents}
-use Rattle.book_facts.specs.Prelude.{commit_places, AreQueued, places, KnownOfBook, applied_changes, changes_of}
+use Rattle.store_steps.specs.declared.context.Context.{Context}
+use Rattle.store_steps.specs.Prelude.{Batch, State, committed_batch, applied_count, Intent, intents, is_in, uncommitted}
+use Rattle.book_facts.specs.Prelude.{commit_places, AreQueued, IsOfEntry, intents_on, places, KnownOfBook, applied_changes, changes_of}
 use Rattle.book_facts.proofs.Entries.{own_change, committed_kept}
 use Rattle.book_facts.proofs.Commits.{places_on, places_by_places, changes_at, committed_by_places}
 use Rattle.std.specs.Option.{option_map_or}
-use Rattle.store_facts.proofs.Prelude.{all_take}
+use Rattle.store_facts.proofs.Prelude.{all_right, all_take, intents_both}
 
 -- ---- by places
 
@@ -121,12 +122,52 @@ accepted_on coll front (e ∷ back) = by_change (own_change e) refl (more (accep
         by_test true = ap (λ (l : List Change). t ∷ l) same ∙ sym (ap (λ (o : Option Change). cons_option o (changes_at es rest)) (here ∙ is))
         by_test false = same
 
--- where nothing waits the commits are all that was accepted
-pub all_committed : (opening : Objects) (es : List Entry) (cs : List Commit) → AreQueued (record { entries = es; commits = cs }) []
-    → replay opening (committed es cs) ≡ replay opening (accepted es)
-all_committed opening es cs queued =
-    replay-by_collections opening (committed es cs) (accepted es) (have_one_name (committed es cs)) (have_one_name (accepted es)) (λ coll.
-    ap (changes_on coll) (committed_by_places es cs)
-    ∙ on_coll coll es (commit_places cs)
-    ∙ ap (changes_at es) (sym (places_by_places coll es cs) ∙ sym (append-nil (committed_places coll es cs)) ∙ sym (queued.in_order coll))
+-- the intents on a collection, by their places
+intents_placed : (coll : List ℕ) (es : List Entry) (xs : List Intent) → AllByRecursion (IsOfEntry es) xs
+    → places_on coll es (places xs) ≡ places (intents_on coll xs)
+intents_placed coll es [] all = refl
+intents_placed coll es (x ∷ xs) all =
+    ap (λ (b : Bool). cond b (x.place ∷ places_on coll es (places xs)) (places_on coll es (places xs)))
+    (ap (is_on coll) (all.0).accepted ∙ ap (is_named coll) (all.0).same_names)
+    ∙ by_test (is_in coll x) (intents_placed coll es xs all.1)
+  where
+    by_test : (b : Bool) → places_on coll es (places xs) ≡ places (intents_on coll xs)
+        → cond b (x.place ∷ places_on coll es (places xs)) (places_on coll es (places xs))
+        ≡ places (cond b (x ∷ intents_on coll xs) (intents_on coll xs))
+    by_test true more = ap (λ (l : List ℕ). x.place ∷ l) more
+    by_test false more = more
+
+-- the transactions of the commits, and behind them those that wait, are all that was accepted
+all_queued : (opening : Objects) (es : List Entry) (cs : List Commit) (waiting : List Intent) → AllByRecursion (IsOfEntry es) waiting
+    → AreQueued (record { entries = es; commits = cs }) waiting
+    → replay opening (changes_at es (commit_places cs ++ places waiting)) ≡ replay opening (accepted es)
+all_queued opening es cs waiting of_entries queued =
+    let ps : List ℕ = commit_places cs ++ places waiting in
+    replay-by_collections opening (changes_at es ps) (accepted es) (have_one_name (changes_at es ps)) (have_one_name (accepted es)) (λ coll.
+    on_coll coll es ps
+    ∙ ap (changes_at es) (filter-append (λ p. is_on coll (change_at es p)) (commit_places cs) (places waiting)
+    ∙ ap (λ (l : List ℕ). l ++ places_on coll es (places waiting)) (sym (places_by_places coll es cs))
+    ∙ ap (λ (l : List ℕ). committed_places coll es cs ++ l) (intents_placed coll es waiting of_entries)
+    ∙ sym (queued.in_order coll))
     ∙ sym (accepted_on coll [] es))
+
+-- so are those of the applied commits, and of all that is under way
+pub all_under_way : (opening : Objects) (s : State) → KnownOfBook opening s
+    → replay (replay opening (applied_changes s)) (changes_of s.book.entries (intents (uncommitted s))) ≡ replay opening (accepted s.book.entries)
+all_under_way opening s known =
+    let es : List Entry = s.book.entries in
+    let n : ℕ = applied_count s in
+    let ps : List ℕ = commit_places s.book.commits in
+    let batch : List Context = option_map_or (λ (b : Batch). b.contexts) s.batch [] in
+    let xs : List Intent = intents (uncommitted s) in
+    let waiting : List Intent = intents s.pending in
+    let placed : places xs ≡ drop n ps ++ places waiting =
+    ap places (intents_both batch s.pending) ∙ map-append (λ (x : Intent). x.place) (intents batch) waiting
+    ∙ ap (λ (l : List ℕ). l ++ places waiting) (sym known.last_committed) in
+    sym (replay-append opening (applied_changes s) (changes_of es xs))
+    ∙ ap (replay opening) (ap (λ (l : List Change). l ++ changes_of es xs) (applied_by_places es s.book.commits n)
+    ∙ ap (λ (l : List Change). changes_at es (take n ps) ++ l) (changes_by_places es xs)
+    ∙ sym (filter_map-append (change_at es) (take n ps) (places xs))
+    ∙ ap (changes_at es) (ap (λ (l : List ℕ). take n ps ++ l) placed ∙ sym (append_assoc (take n ps) (drop n ps) (places waiting))
+    ∙ ap (λ (l : List ℕ). l ++ places waiting) (take-append-drop n ps)))
+    ∙ all_queued opening es s.book.commits waiting (all_right (IsOfEntry es) (intents batch) waiting known.contexts) known.queued

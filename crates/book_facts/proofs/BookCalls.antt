@@ -97,7 +97,7 @@ module _ (K : State → Type 0) (fact : IsBookFact K) where
 
 book_replies : (opening : Objects) (s : State) (d : Disk) (s' : State) → Replies s d s' → KnownOfBook opening s → KnownOfBook opening s'
 book_replies opening s d s' (refuses client line change a is) known =
-    subst (KnownOfBook opening) (sym is.after) (book_notes opening s client line change known a is.cause)
+    subst (KnownOfBook opening) (sym is.after) (book_notes opening s d client line change known a is.cause)
 book_replies opening s d s' (reads client line command a is) known = book_answers opening s d client line command a s' known is
 
 book_fact : (opening : Objects) → IsBookFact (KnownOfBook opening)
@@ -127,7 +127,7 @@ legal_run opening calls s s' d d' plans kept known run = known_legal opening s' 
 
 order_replies : (s : State) (d : Disk) (s' : State) → Replies s d s' → IsInOrder s → IsInOrder s'
 order_replies s d s' (refuses client line change a is) known = subst IsInOrder (sym is.after)
-    (order_enters s client line (ask.Change change) a (cause_refuses change s a is.cause) known)
+    (order_enters s client line (ask.Change change) a (cause_refuses change s d a is.cause) known)
 order_replies s d s' (reads client line command a is) known = subst IsInOrder (sym is.after)
     (order_enters s client line command a (read_accepts_none command a is.names) known)
 

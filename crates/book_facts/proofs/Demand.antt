@@ -10,9 +10,9 @@ use Rattle.object_model.specs.declared.command.Command.{Command}
 use Rattle.object_model.specs.declared.command.Command.TheVariants as ask
 use Rattle.object_model.specs.Prelude.{Change}
 use Rattle.meta_log.specs.Prelude.{width_of}
-use Rattle.read_facts.specs.Prelude.{IsHeldAt, no_memory, HasReadNames, IsAnswerOf}
+use Rattle.read_facts.specs.Prelude.{IsHeldAt, HasReadNames, IsAnswerOf}
 use Rattle.plan_rows.specs.Prelude.{units_taken, PlansKeep}
-use Rattle.store_steps.specs.Prelude.{Call, submitting, reading, stepping, Calls, IsRun, State, free_count, IsCause}
+use Rattle.store_steps.specs.Prelude.{Call, submitting, reading, stepping, Calls, IsRun, State, free_count, IsCause, memory_of}
 use Rattle.store_facts.specs.Prelude.{IsKept}
 use Rattle.book_facts.specs.Prelude.{taken_by, units_asked, demanded_by, is_no_space, any_no_space}
 use Rattle.store_facts.proofs.Prelude.{kept_call}
@@ -74,15 +74,16 @@ module _ (free : ℕ) (s s' : State) (within : IsWithin free s) (keeps : KeepsSp
   }
 
 -- a cause of this kind tells both numbers
-cause_wants : (change : Change) (s : State) (a : Answer) → IsCause a change s → is_no_space a ≡ true → free_count s.space < units_taken change.ops
-cause_wants change s (answer.NoSpace need free) cause is = omega (arith, cause.1, cause.2, cause.3)
-cause_wants change s (answer.Refused refusal) cause is = absurd cc
-cause_wants change s (answer.MetaFull need room) cause is = absurd cc
-cause_wants change s a cause is = absurd cause
+cause_wants : (change : Change) (s : State) (d : Disk) (a : Answer) → IsCause a change s d → is_no_space a ≡ true
+    → free_count s.space < units_taken change.ops
+cause_wants change s d (answer.NoSpace need free) cause is = omega (arith, cause.1, cause.2, cause.3)
+cause_wants change s d (answer.Refused refusal) cause is = absurd cc
+cause_wants change s d (answer.MetaFull need room) cause is = absurd cc
+cause_wants change s d a cause is = absurd cause
 
 -- a read isn't answered so
 read_wants : (d : Disk) (s : State) (command : Command) (a : Answer) → HasReadNames command
-    → IsAnswerOf (width_of s.log.sup) no_memory (IsHeldAt d) s.submitted command a → is_no_space a ≡ true
+    → IsAnswerOf (width_of s.log.sup) (memory_of s) (IsHeldAt d) s.submitted command a → is_no_space a ≡ true
     → free_count s.space < units_asked command
 read_wants d s (ask.Read c o off len) (answer.NoSpace need free) names given is = absurd given.1
 read_wants d s (ask.Sum c o) (answer.NoSpace need free) names given is = absurd given.1
@@ -100,7 +101,7 @@ call_within free (submitting client line change) s s' d d' plans kept made withi
           (ap (λ (z : State). z.book.entries) does.after) (λ is. absurd cc)
       | inr (inl refuses) ↦ entry_within free s s' within keeps
           (record { client = client; line = line; command = ask.Change change; answer = refuses.0; acks = s.acked })
-          (ap (λ (z : State). z.book.entries) refuses.1.after) (cause_wants change s refuses.0 refuses.1.cause)
+          (ap (λ (z : State). z.book.entries) refuses.1.after) (cause_wants change s d refuses.0 refuses.1.cause)
       | inr (inr away) ↦ same_within free s s' within keeps (ap (λ (z : State). z.book.entries) away.same)
     ]
 call_within free (reading client line command) s s' d d' plans kept made within =

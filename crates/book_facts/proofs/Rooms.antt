@@ -11,7 +11,6 @@ use Rattle.object_model.specs.declared.command.Command.TheVariants as ask
 use Rattle.object_model.specs.Prelude.{Change, accepted_change, accepted}
 use Rattle.meta_log.specs.Prelude.{unit_count}
 use Rattle.plan_rows.specs.declared.plan.FreshUnit.{FreshUnit}
-use Rattle.store_steps.specs.declared.flight.Job.TheVariants as job
 use Rattle.store_steps.specs.declared.step.Step.{Step}
 use Rattle.store_steps.specs.Prelude.{State, is_ready, Call, submitting, reading, stepping, DoesOrFails, Submits, Reads, Calls, IsRun, need_of, free_count, entered, Accepts, Refuses, ops_by, released_by, needs_by, RowsPart, rows_part, RowsGo, Footprint}
 use Rattle.plan_rows.specs.Prelude.{IsKnown, units_taken, fresh_units, PlansKeep}
@@ -131,9 +130,9 @@ module _ (s : State) (d : Disk) (client line : ℕ) (change : Change) (s' : Stat
       let here : taken_by (entry ∷ []) ≡ units_taken change.ops + 0 = refl in
       omega (arith, free, count, more, here))
 
-  refused_space : (a : Answer) → Refuses client line change a s s' → KeepsSpace s s'
+  refused_space : (a : Answer) → Refuses client line change a s d s' → KeepsSpace s s'
   refused_space a does = subst (KeepsSpace s) (sym does.after) (
-      entered_space s client line (ask.Change change) a (cause_refuses change s a does.cause))
+      entered_space s client line (ask.Change change) a (cause_refuses change s d a does.cause))
 
 pub call_space : (call : Call) (s s' : State) (d d' : Disk) → PlansKeep → IsKept s d → Calls call s d s' d' → KeepsSpace s s'
 call_space (submitting client line change) s s' d d' plans kept made = elim made.1 [
@@ -160,7 +159,7 @@ run_space (call ∷ calls) s s' d d' plans kept run =
 
 -- want of space comes where more is asked for than was free at the mount
 pub want_of_space : (calls : List Call) (s s' t : State) (d d' : Disk) (client line need free : ℕ) (change : Change) → PlansKeep → IsKept s d
-    → s.book.entries ≡ [] → IsRun s d calls s' d' → Refuses client line change (answer.NoSpace need free) s' t → free_count s.space < taken_by s'.book.entries + need
+    → s.book.entries ≡ [] → IsRun s d calls s' d' → Refuses client line change (answer.NoSpace need free) s' d' t → free_count s.space < taken_by s'.book.entries + need
 want_of_space calls s s' t d d' client line need free change plans kept empty run refuses =
     let kept_free = run_space calls s s' d d' plans kept run in
     let none = ap taken_by empty in
@@ -185,7 +184,7 @@ steps_room step s s' d d' kept ready does sound = (step_room s d s' d' step kept
 
 -- a submitted transaction lowers the room by its need, if it is accepted
 submitted_room : (s s' : State) (d : Disk) (client line : ℕ) (change : Change) → IsKept s d → IsKnown change.ops
-    → (made : Submits client line change s s') → room_of s.log ≤ room_of s'.log + need_if_accepted client line change s s' made
+    → (made : Submits client line change s d s') → room_of s.log ≤ room_of s'.log + need_if_accepted client line change s d s' made
 submitted_room s s' d client line change kept known (inl accepts) = let room = accepted_room s s' d client line change kept known accepts in omega (arith, room)
 submitted_room s s' d client line change kept known (inr (inl refuses)) =
     let same = ap (λ (t : State). room_of t.log) refuses.1.after in omega (arith, same)
@@ -223,7 +222,7 @@ run_room (stepping step ∷ calls) s s' d d' plans kept run =
 
 -- want of room comes where more is asked for than there was at the mount
 pub want_of_room : (calls : List Call) (s s' t : State) (d d' : Disk) (client line need room : ℕ) (change : Change) → PlansKeep → IsKept s d
-    → (run : IsRun s d calls s' d') → Refuses client line change (answer.MetaFull need room) s' t → room_of s.log < needs_in calls s d s' d' run + need
+    → (run : IsRun s d calls s' d') → Refuses client line change (answer.MetaFull need room) s' d' t → room_of s.log < needs_in calls s d s' d' run + need
 want_of_room calls s s' t d d' client line need room change plans kept run refuses =
     let kept_room = run_room calls s s' d d' plans kept run in
     let is = refuses.cause.2 in

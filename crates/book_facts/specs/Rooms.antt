@@ -44,14 +44,14 @@ any_no_space [] = false
 any_no_space (e ∷ es) = is_no_space e.answer || any_no_space es
 
 -- the units of the log that a submitted transaction needs, if it is accepted
-abbrev pub need_if_accepted : (client line : ℕ) (change : Change) (s s' : State) → Submits client line change s s' → ℕ
-need_if_accepted client line change s s' (inl accepts) = need_of s.log accepts.plan
-need_if_accepted client line change s s' (inr other) = 0
+abbrev pub need_if_accepted : (client line : ℕ) (change : Change) (s : State) (d : Disk) (s' : State) → Submits client line change s d s' → ℕ
+need_if_accepted client line change s d s' (inl accepts) = need_of s.log accepts.plan
+need_if_accepted client line change s d s' (inr other) = 0
 
 -- those that all transactions accepted in a run need
 abbrev pub needs_in : (calls : List Call) (s : State) (d : Disk) (s' : State) (d' : Disk) → IsRun s d calls s' d' → ℕ
 needs_in [] s d s' d' run = 0
 needs_in (submitting client line change ∷ calls) s d s' d' run =
-    need_if_accepted client line change s run.0 run.1.1.0.1 + needs_in calls run.0 run.1.0 s' d' run.1.1.1.1
+    need_if_accepted client line change s d run.0 run.1.1.0.1 + needs_in calls run.0 run.1.0 s' d' run.1.1.1.1
 needs_in (reading client line command ∷ calls) s d s' d' run = needs_in calls run.0 run.1.0 s' d' run.1.1.1.1
 needs_in (stepping step ∷ calls) s d s' d' run = needs_in calls run.0 run.1.0 s' d' run.1.1.1.1

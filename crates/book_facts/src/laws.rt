@@ -62,7 +62,7 @@ pub fn space_suffices()
     ensures kept { (calls : List Call) (s s' : State) (d d' : Disk) → PlansKeep → IsKept s d → IsRun s d calls s' d'
         → free_count s.space + taken_by s.book.entries ≤ free_count s'.space + taken_by s'.book.entries }
     ensures refused { (calls : List Call) (s s' t : State) (d d' : Disk) (client line need free : ℕ) (change : Change) → PlansKeep → IsKept s d
-        → s.book.entries ≡ [] → IsRun s d calls s' d' → Refuses client line change (answer.NoSpace need free) s' t
+        → s.book.entries ≡ [] → IsRun s d calls s' d' → Refuses client line change (answer.NoSpace need free) s' d' t
         → free_count s.space < taken_by s'.book.entries + need }
 {}
 
@@ -83,6 +83,6 @@ pub fn room_suffices()
     ensures kept { (calls : List Call) (s s' : State) (d d' : Disk) → PlansKeep → IsKept s d → (run : IsRun s d calls s' d')
         → room_of s.log ≤ room_of s'.log + needs_in calls s d s' d' run }
     ensures refused { (calls : List Call) (s s' t : State) (d d' : Disk) (client line need room : ℕ) (change : Change) → PlansKeep → IsKept s d
-        → (run : IsRun s d calls s' d') → Refuses client line change (answer.MetaFull need room) s' t
+        → (run : IsRun s d calls s' d') → Refuses client line change (answer.MetaFull need room) s' d' t
         → room_of s.log < needs_in calls s d s' d' run + need }
 {}

@@ -2,7 +2,7 @@
 use Rattle.std.proofs.Common.{◌≡◌, inl, inr, ℕ, Bool, true, false, cond, List, [], ◌∷◌, ◌++◌, None, Result, Ok, Err, refl, sym, ap, subst}
 use Rattle.std.specs.Prelude.{nat_lt, take, drop, ◌+◌}
 use Rattle.std.specs.List.{AllByRecursion}
-use Rattle.block_device.specs.Prelude.{Disk, History, last_at}
+use Rattle.block_device.specs.Prelude.{Disk, History}
 use Rattle.object_model.specs.Prelude.{Object, Collection, Objects, Change, replay, object_limit, answer_from, found_collection, found_object, reply_of, accepted, AnswersFrom, IsLegal}
 use Rattle.object_model.specs.Book.{IsAnswered as IsRight}
 use Rattle.object_model.specs.declared.book.Entry.{Entry}
@@ -13,14 +13,14 @@ use Rattle.object_model.specs.declared.command.Command.TheVariants as ask
 use Rattle.object_model.specs.declared.command.Answer.{Answer}
 use Rattle.object_model.specs.declared.command.Answer.TheVariants as answer
 use Rattle.meta_log.specs.Prelude.{width_of}
-use Rattle.read_facts.specs.Prelude.{HasReadNames, no_memory, IsNoCsum, AnswersAlikeFrom, IsLegalButBytes}
+use Rattle.read_facts.specs.Prelude.{HasReadNames, IsNoCsum, AnswersAlikeFrom, IsLegalButBytes}
 use Rattle.read_facts.proofs.Seen.{seen_answer}
-use Rattle.store_steps.specs.Prelude.{State, IsCause, Call, submitting, reading, stepping, MayRead, AnswersRead, Reads, Submits, Calls}
+use Rattle.store_steps.specs.Prelude.{State, IsCause, Call, submitting, reading, stepping, AnswersRead, Reads, Submits, Calls, memory_of}
 use Rattle.store_facts.specs.Prelude.{IsKept}
 use Rattle.book_facts.specs.Prelude.{KnownOfBook}
 use Rattle.book_facts.proofs.Prelude.{known_legal, answers_push, alike_last, step_room}
 use Rattle.crash_facts.specs.Store.{KnownOfStore, IsDurable}
-use Rattle.crash_facts.proofs.Idle.{drained_submitted, drained_good}
+use Rattle.crash_facts.proofs.Submitted.{seen_at, submitted_stand, unread_good}
 use Rattle.store_facts.proofs.Prelude.{all_join}
 
 -- each entry has the answer that plain objects give, and none names a bad unit
@@ -62,11 +62,11 @@ reply_no_csum command objects names = absurd names
 -- ---- a transaction
 
 -- nor does the answer to one
-cause_no_csum : (a : Answer) (change : Change) (s : State) → IsCause a change s → IsNoCsum a
-cause_no_csum (answer.Refused refusal) change s cause = tt
-cause_no_csum (answer.NoSpace need free) change s cause = tt
-cause_no_csum (answer.MetaFull need room) change s cause = tt
-cause_no_csum a change s cause = absurd cause
+cause_no_csum : (a : Answer) (change : Change) (s : State) (d : Disk) → IsCause a change s d → IsNoCsum a
+cause_no_csum (answer.Refused refusal) change s d cause = tt
+cause_no_csum (answer.NoSpace need free) change s d cause = tt
+cause_no_csum (answer.MetaFull need room) change s d cause = tt
+cause_no_csum a change s d cause = absurd cause
 
 -- what is known of its answer says all, since it reads no bytes
 submitted_one : (opening : Objects) (s : State) (client line : ℕ) (change : Change) (a : Answer) (es' : List Entry) → IsNoCsum a
@@ -78,39 +78,37 @@ submitted_one opening s client line change a es' no_csum same alike are =
     (alike_last opening s.book.entries e (subst (AnswersAlikeFrom opening) same alike)) no_csum)
 
 -- what a submission leaves
-submit_answers : (opening : Objects) (client line : ℕ) (change : Change) (s s' : State) → AreAnswered opening s.book.entries → KnownOfBook opening s'
-    → Submits client line change s s' → AreAnswered opening s'.book.entries
-submit_answers opening client line change s s' are book (inl does) =
+submit_answers : (opening : Objects) (client line : ℕ) (change : Change) (s : State) (d : Disk) (s' : State) → AreAnswered opening s.book.entries
+    → KnownOfBook opening s' → Submits client line change s d s' → AreAnswered opening s'.book.entries
+submit_answers opening client line change s d s' are book (inl does) =
     submitted_one opening s client line change answer.Accepted s'.book.entries tt (ap (λ (t : State). t.book.entries) does.after) book.answers are
-submit_answers opening client line change s s' are book (inr (inl (a, refuses))) =
-    submitted_one opening s client line change a s'.book.entries (cause_no_csum a change s refuses.cause)
+submit_answers opening client line change s d s' are book (inr (inl (a, refuses))) =
+    submitted_one opening s client line change a s'.book.entries (cause_no_csum a change s d refuses.cause)
     (ap (λ (t : State). t.book.entries) refuses.after) book.answers are
-submit_answers opening client line change s s' are book (inr (inr turned)) =
+submit_answers opening client line change s d s' are book (inr (inr turned)) =
     subst (λ (t : State). AreAnswered opening t.book.entries) (sym turned.same) are
 
 -- ---- a read
 
--- of a drained kernel gives what plain objects have
+-- gives what plain objects have, whatever is under way
 read_is_plain : (base : ℕ) (opening : Objects) (client line : ℕ) (command : Command) (a : Answer) (s s' : State) (d : Disk) (h : History) → IsKept s d
-    → MayRead command s d → KnownOfStore base opening s d h → AnswersRead client line command a s d s'
-    → a ≡ reply_of command (replay opening (accepted s.book.entries))
-read_is_plain base opening client line command a s s' d h kept may known is =
+    → KnownOfStore base opening s d h → AnswersRead client line command a s d s' → a ≡ reply_of command (replay opening (accepted s.book.entries))
+read_is_plain base opening client line command a s s' d h kept known is =
     let up : s.down ≡ None = is.can_note.up in
-    seen_answer (width_of s.log.sup) no_memory d h known.units.told (drained_good base opening s d h kept up (may.drained up) known) (last_at h)
-    (λ unit. refl) s.submitted
-    (replay opening (accepted s.book.entries)) (drained_submitted base opening s d h kept up (may.drained up) known) command a is.names is.given
+    seen_answer (width_of s.log.sup) (memory_of s) d h known.units.told s.submitted (unread_good base opening s d h kept up known) (seen_at s h)
+    (λ unit. refl) (replay opening (accepted s.book.entries)) (submitted_stand base opening s d h kept up known) command a is.names is.given
 
 -- what a read leaves
-read_answers : (base : ℕ) (opening : Objects) (client line : ℕ) (command : Command) (s s' : State) (d : Disk) → IsKept s d → MayRead command s d
+read_answers : (base : ℕ) (opening : Objects) (client line : ℕ) (command : Command) (s s' : State) (d : Disk) → IsKept s d
     → IsDurable base opening s d → AreAnswered opening s.book.entries → Reads client line command s d s' → AreAnswered opening s'.book.entries
-read_answers base opening client line command s s' d kept may durable are (inl (a, is)) =
+read_answers base opening client line command s s' d kept durable are (inl (a, is)) =
     let objects : Objects = replay opening (accepted s.book.entries) in
     let e : Entry = record { client = client; line = line; command = command; answer = a; acks = s.acked } in
     let plain : a ≡ reply_of command objects =
-    read_is_plain base opening client line command a s s' d durable.history kept may (durable.up is.can_note.up) is in
+    read_is_plain base opening client line command a s s' d durable.history kept (durable.up is.can_note.up) is in
     subst (λ (t : State). AreAnswered opening t.book.entries) (sym is.after)
     (answered_push opening s.book.entries e are (inl plain) (subst IsNoCsum (sym plain) (reply_no_csum command objects is.names)))
-read_answers base opening client line command s s' d kept may durable are (inr turned) =
+read_answers base opening client line command s s' d kept durable are (inr turned) =
     subst (λ (t : State). AreAnswered opening t.book.entries) (sym turned.same) are
 
 -- ---- each call
@@ -123,8 +121,8 @@ call_answers base opening call s s' d d' kept durable book' made = of_call call 
     are = record { answers = durable.answers; no_csum = durable.no_csum }
 
     of_call : (c : Call) → Calls c s d s' d' → AreAnswered opening s'.book.entries
-    of_call (submitting client line change) does = submit_answers opening client line change s s' are book' does.1
-    of_call (reading client line command) does = read_answers base opening client line command s s' d kept does.0 durable are does.1
+    of_call (submitting client line change) does = submit_answers opening client line change s d s' are book' does.1
+    of_call (reading client line command) does = read_answers base opening client line command s s' d kept durable are does.1
     of_call (stepping step) does = subst (AreAnswered opening) (sym (step_room s d s' d' step kept does.0 does.1).entries) are
 
 -- ---- the book of a durable store

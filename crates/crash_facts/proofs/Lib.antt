@@ -5,7 +5,7 @@ pub mod Joining
 pub mod Admitting
 pub mod Standing
 pub mod Now
-pub mod Idle
+pub mod Submitted
 pub mod Answered
 pub mod Cuts
 pub mod Runs

@@ -27,7 +27,7 @@ use Rattle.unit_facts.specs.Known.{KnownOfUnits}
 use Rattle.unit_facts.proofs.Calls.{footprint_known, opened_known}
 use Rattle.unit_facts.proofs.Runs.{idle_half, drained_clean}
 use Rattle.crash_facts.specs.Store.{contents_at, KnownOfStore, IsDurable, IsMounted}
-use Rattle.crash_facts.proofs.Idle.{idle_objects}
+use Rattle.crash_facts.proofs.Submitted.{idle_objects}
 use Rattle.crash_facts.proofs.Answered.{AreAnswered, call_answers}
 use Rattle.crash_facts.proofs.Standing.{footprint_stand}
 use Rattle.crash_facts.proofs.Exact.{rows_exact, exact_none, footprint_exact}
@@ -173,7 +173,7 @@ drained_stands base opening s d h kept up drained known =
     let half = idle_half base s d h known.units idle.begun in
     log_stands h s.log.sup s.log.rows s.log.tail s.log.number 0 (second_flush s.batch) half.0 (replay opening (accepted s.book.entries))
     (size_now s d h kept known.units.told) known.units.slots half.1 (kept.up up).rows.good.good
-    (idle_objects base opening s d h idle known)
+    (idle_objects base opening s d h kept up known idle)
 
 pub drained_exact : (base : ℕ) (opening : Objects) (s : State) (d : Disk) (h : History) → IsKept s d → s.down ≡ None → is_drained d.depth s ≡ true
     → KnownOfStore base opening s d h → StaysExact (contents_at base h) (last h.start h.log)

@@ -15,7 +15,6 @@ use Rattle.store_image.specs.Prelude.{NoBadRow, HasPage, ObjectsStand}
 use Rattle.store_image.proofs.Prelude.{objects_stand, page_owned}
 use Rattle.log_facts.proofs.Keeping.{last_push, half_before_data}
 use Rattle.plan_rows.specs.declared.plan.FreshUnit.{FreshUnit}
-use Rattle.store_steps.specs.declared.step.Step.TheVariants as step
 use Rattle.store_steps.specs.Prelude.{Batch, State, unsent_units, acknowledged, committed_batch, DoesCommit, Intent, intents, is_in, rows_by, uncommitted, given_fresh, RowsPart, DataPart, BookPart, rows_part, data_part, book_part, Touch, nothing, ends, flushes, on_data, on_half, after, run_write, IsPlaced, IsNoData, RowsGo, DataGoes, BookGoes, commits_of, AcceptsOne, IsCaused, Footprint}
 use Rattle.store_steps.specs.RowsGo as rows
 use Rattle.store_steps.specs.DataGoes as units

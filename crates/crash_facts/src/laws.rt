@@ -1,12 +1,12 @@
 //! Prefix durability along the calls of a kernel, and what its device stands for once it is drained.
-ghost use Rattle.std.specs.Prelude.{◌≡◌, ℕ, ◌+◌, true, List, [], length, Some, None};
+ghost use Rattle.std.specs.Prelude.{◌≡◌, ℕ, ◌+◌, true, List, [], length, Some, None, unwrap_or};
 ghost use Rattle.std.specs.List.{AllByRecursion};
 ghost use Rattle.block_device.specs.Prelude.{last, IsClean, HasNoBadDone, last_at, Disk, History, IsSound};
 ghost use Rattle.object_model.specs.Prelude.{Objects, replay, accepted, IsLegal};
-ghost use Rattle.store_image.specs.Prelude.{ObjectsStand, StandsFor, StaysExact, IsStart, EachCutStands};
+ghost use Rattle.store_image.specs.Prelude.{HasPage, ObjectsStand, StandsFor, StaysExact, IsStart, EachCutStands};
 ghost use Rattle.read_facts.specs.Prelude.{IsNoCsum};
 ghost use Rattle.unit_allocator.specs.Prelude.{Space};
-ghost use Rattle.store_steps.specs.Prelude.{State, is_drained, Found, opened, Call, Calls, IsRun};
+ghost use Rattle.store_steps.specs.Prelude.{State, is_drained, Found, opened, Call, Calls, IsRun, memory_of};
 ghost use Rattle.plan_rows.specs.Prelude.{PlansKeep};
 ghost use Rattle.store_facts.specs.Prelude.{IsKept};
 ghost use Rattle.crash_facts.specs.Store.{contents_at, KnownOfStore, IsDurable, KeepsDurable, IsMounted};
@@ -50,14 +50,17 @@ pub fn a_durable_book_is_legal()
         AllByRecursion (λ e. IsNoCsum e.answer) s.book.entries }
 {}
 
-/// Once the kernel is drained, and not down, the submitted rows and the units as last written stand for the objects after all accepted
-/// transactions, and no write ended badly: so a read gives just what these objects have.
-pub fn a_drained_store_can_be_read()
+/// While the kernel isn't down, whatever is under way, the submitted rows stand for the objects after all accepted transactions, over the bytes
+/// that units have in memory, or as last written. And of a unit with a page that isn't in memory no write ended badly. So a read gives just what
+/// these objects have.
+pub fn a_store_can_be_read()
     ensures stand { (base : ℕ) (opening : Objects) (s : State) (d : Disk) (h : History) → IsKept s d → s.down ≡ None →
-        is_drained d.depth s ≡ true → KnownOfStore base opening s d h →
-        ObjectsStand (width_of s.log.sup) (last_at h) s.submitted (replay opening (accepted s.book.entries)) }
+        KnownOfStore base opening s d h →
+        ObjectsStand (width_of s.log.sup) (λ unit. unwrap_or (memory_of s unit) (last_at h unit)) s.submitted
+        (replay opening (accepted s.book.entries)) }
     ensures answered { (base : ℕ) (opening : Objects) (s : State) (d : Disk) (h : History) → IsKept s d → s.down ≡ None →
-        is_drained d.depth s ≡ true → KnownOfStore base opening s d h → (unit : ℕ) → HasNoBadDone h.log unit }
+        KnownOfStore base opening s d h → (unit : ℕ) → HasPage (width_of s.log.sup) s.submitted unit → memory_of s unit ≡ None →
+        HasNoBadDone h.log unit }
 {}
 
 /// Prefix durability of runs: whatever a crash at any cut of the log since the start leaves stands for the objects after the first

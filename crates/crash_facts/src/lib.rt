@@ -7,7 +7,7 @@ mod laws;
 
 pub use laws::{
     a_call_keeps_a_store_durable, a_call_keeps_durability, a_drained_run_stands,
-    a_drained_store_can_be_read, a_drained_store_stands, a_durable_book_is_legal,
-    a_kernel_is_durable, a_mounted_store_is_durable, a_mounted_store_keeps_durability,
-    a_run_keeps_a_store_durable, each_crash_leaves_a_prefix,
+    a_drained_store_stands, a_durable_book_is_legal, a_kernel_is_durable,
+    a_mounted_store_is_durable, a_mounted_store_keeps_durability, a_run_keeps_a_store_durable,
+    a_store_can_be_read, each_crash_leaves_a_prefix,
 };

@@ -1,4 +1,4 @@
--- The fair selections of intents: what stands for nothing and for all of them, and where none is under way.
+-- The fair selections of intents: what stands for all of them, and where none is under way.
 use Rattle.std.proofs.Common.{ℕ, List, []}
 use Rattle.unit_fields.specs.declared.width.Width.{Width}
 use Rattle.object_model.specs.declared.book.Entry.{Entry}
@@ -8,7 +8,7 @@ use Rattle.meta_rows.specs.Prelude.{Rows}
 use Rattle.store_image.specs.Prelude.{ObjectsStand}
 use Rattle.store_steps.specs.Prelude.{Intent, is_in, rows_by}
 use Rattle.selections.specs.Fair.{EachHasName}
-use Rattle.selections.proofs.Selecting.{fair_nil, fair_all, each_of_none}
+use Rattle.selections.proofs.Selecting.{fair_all, each_of_none}
 use Rattle.book_facts.specs.Prelude.{changes_of, SelectionsStand}
 
 -- each intent changes a collection
@@ -18,10 +18,6 @@ has_coll x = (x.coll, is_same_itself x.coll)
 -- with the operations of these intents the rows stand for the objects after their transactions
 abbrev StandsWith : Width → (ℕ → List ℕ) → Rows → Objects → List Entry → List Intent → Type 0
 StandsWith w at rows objects entries some = ObjectsStand w at (rows_by rows some) (replay objects (changes_of entries some))
-
-pub none_selected : (w : Width) (at : ℕ → List ℕ) (rows : Rows) (xs : List Intent) (objects : Objects) (entries : List Entry)
-    → SelectionsStand w at rows xs objects entries → ObjectsStand w at rows objects
-none_selected w at rows xs objects entries stand = stand [] (fair_nil is_in xs)
 
 pub all_selected : (w : Width) (at : ℕ → List ℕ) (rows : Rows) (xs : List Intent) (objects : Objects) (entries : List Entry)
     → SelectionsStand w at rows xs objects entries → ObjectsStand w at (rows_by rows xs) (replay objects (changes_of entries xs))

@@ -1,0 +1,8 @@
+//! Bytes of data units that are still being written, in memory.
+//!
+//! In Ceph's BlueStore these are the buffers in `STATE_WRITING` of a `BufferSpace`.
+#![tactic(auto)]
+
+mod buffers;
+
+pub use buffers::WriteBuffers;

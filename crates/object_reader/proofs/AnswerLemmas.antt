@@ -21,7 +21,7 @@ use Rattle.plan_rows.specs.Prelude.{IsSizeOf, missing, there}
 use Rattle.object_rows.proofs.GoodPages.{good_page}
 use Rattle.onode_state.specs.Objects.{AreRowsOfAStore, AreRowsOfWidth, FindPagesOf}
 use Rattle.read_facts.specs.declared.view.BadSum.{BadSum}
-use Rattle.read_facts.specs.Prelude.{IsHeldAt, no_memory, pages_read, IsRefusedBy, IsNotRefused, Gives, IsAnswerOf, IsObject, sum_answer, IsViewOf}
+use Rattle.read_facts.specs.Prelude.{IsHeldAt, pages_read, IsRefusedBy, IsNotRefused, Gives, IsAnswerOf, IsObject, sum_answer, IsViewOf}
 use Rattle.read_facts.proofs.Keys.{none_of}
 use Rattle.read_facts.proofs.Found.{answer_given, object_missing, object_there}
 use Rattle.object_reader.specs.declared.parts.PartFail.{PartFail}
@@ -84,7 +84,8 @@ pub has_size : (rows : Rows) (c o : List ℕ) (size : ℕ) → HasKey rows (onod
 has_size rows c o size key (missing none) = absurd (let gone : is_some (finite.get rows (onode_key c o)) ≡ false = ap is_some none in cc)
 has_size rows c o size key (there n has) = has
 
-module _ (w : Width) (d : Disk) (rows : Rows) (c o : List ℕ) (size : ℕ) (pages : List Extent) (can : IsReadable w no_memory rows d)
+module _ (w : Width) (memory : ℕ → Option (List ℕ)) (d : Disk) (rows : Rows) (c o : List ℕ) (size : ℕ) (pages : List Extent)
+    (can : IsReadable w memory rows d)
     (was_long : IsSizeOf rows c o size) (are_pages : FindPagesOf w rows c o pages) (key : HasKey rows (onode_key c o)) where
   has : HasOnode rows c o size
   has = has_size rows c o size key was_long
@@ -100,68 +101,69 @@ module _ (w : Width) (d : Disk) (rows : Rows) (c o : List ℕ) (size : ℕ) (pag
     is_unit = refl;
   }
 
-  pub can_read : CanRead d pages
+  pub can_read : CanRead memory d pages
   can_read = record {
     units_most = omega (arith, can.units, can.limits.units_most);
-    free = λ page unit csum at. can.free unit (page_on page unit csum at) refl;
+    free = λ page unit csum at none. can.free unit (page_on page unit csum at) none;
     inside = λ page unit csum at.
         let here = subst (λ v. IsPageAt v rows c o page (own unit csum)) (sym can.wide) ((are_pages page (own unit csum)).0 at) in
         let good = good_page can.sup rows c o can.good size page (own unit csum) has here in
         omega (arith, can.units, good.on_data.1);
+    whole = can.whole;
   }
 
   pub size_most : size ≤ object_limit
   size_most = (in_place can.sup rows (onode c o size) can.good has).1
 
   -- the bytes of a range
-  pub bytes_answer : (off len : ℕ) (bytes : List ℕ) → IsNotRefused rows (ask.Read c o off len) → GivesRange d pages size off len bytes
-      → IsAnswerOf w no_memory (IsHeldAt d) rows (ask.Read c o off len) (answer.Bytes bytes)
+  pub bytes_answer : (off len : ℕ) (bytes : List ℕ) → IsNotRefused rows (ask.Read c o off len) → GivesRange memory d pages size off len bytes
+      → IsAnswerOf w memory (IsHeldAt d) rows (ask.Read c o off len) (answer.Bytes bytes)
   bytes_answer off len bytes none gives =
       (none, (size, record { has_size = has; pages = gives.whole; good = gives.good.good w rows c o are_pages; cut = gives.cut }))
 
   -- a bad page of a range
   pub read_fails : (off len : ℕ) (fail : PartFail) (a : Answer) → IsNotRefused rows (ask.Read c o off len)
-      → IsPartFail d pages (off / 4096) (pages_read size off len) fail → IsCsumOf fail a
-      → IsAnswerOf w no_memory (IsHeldAt d) rows (ask.Read c o off len) a
-  read_fails off len (why.BadPage bad) a none fails is = subst (IsAnswerOf w no_memory (IsHeldAt d) rows (ask.Read c o off len)) (sym is)
+      → IsPartFail memory d pages (off / 4096) (pages_read size off len) fail → IsCsumOf fail a
+      → IsAnswerOf w memory (IsHeldAt d) rows (ask.Read c o off len) a
+  read_fails off len (why.BadPage bad) a none fails is = subst (IsAnswerOf w memory (IsHeldAt d) rows (ask.Read c o off len)) (sym is)
       (none, (size, record { has_size = has; first_bad = fails w rows c o are_pages }))
   read_fails off len why.Memory a none fails is = absurd is
   read_fails off len why.Fault a none fails is = absurd is
 
   -- the checksum of all bytes
-  gives_sum : (crc : ℕ) → GivesSum d pages size crc → Gives w no_memory (IsHeldAt d) rows (ask.Sum c o) (answer.Sum size crc)
+  gives_sum : (crc : ℕ) → GivesSum memory d pages size crc → Gives w memory (IsHeldAt d) rows (ask.Sum c o) (answer.Sum size crc)
   gives_sum crc gives =
       let whole = gives.gives in (
         gives.bytes,
         (record { has_size = has; pages = whole.whole; good = whole.good.good w rows c o are_pages; cut = whole.cut }, gives.is),
       )
 
-  gives_bad : (bad : BadSum) → IsPartFail d pages 0 (pages_read size 0 size) (why.BadPage bad)
-      → Gives w no_memory (IsHeldAt d) rows (ask.Sum c o) (answer.Csum bad.unit bad.kept bad.found)
+  gives_bad : (bad : BadSum) → IsPartFail memory d pages 0 (pages_read size 0 size) (why.BadPage bad)
+      → Gives w memory (IsHeldAt d) rows (ask.Sum c o) (answer.Csum bad.unit bad.kept bad.found)
   gives_bad bad fails = (size, record { has_size = has; first_bad = fails w rows c o are_pages })
 
-  pub sum_gives : (crc : ℕ) → IsNotRefused rows (ask.Sum c o) → GivesSum d pages size crc
-      → IsAnswerOf w no_memory (IsHeldAt d) rows (ask.Sum c o) (answer.Sum size crc)
+  pub sum_gives : (crc : ℕ) → IsNotRefused rows (ask.Sum c o) → GivesSum memory d pages size crc
+      → IsAnswerOf w memory (IsHeldAt d) rows (ask.Sum c o) (answer.Sum size crc)
   sum_gives crc none gives = (none, gives_sum crc gives)
 
-  pub sum_fails : (fail : PartFail) (a : Answer) → IsNotRefused rows (ask.Sum c o) → IsPartFail d pages 0 (pages_read size 0 size) fail
-      → IsCsumOf fail a → IsAnswerOf w no_memory (IsHeldAt d) rows (ask.Sum c o) a
-  sum_fails (why.BadPage bad) a none fails is = subst (IsAnswerOf w no_memory (IsHeldAt d) rows (ask.Sum c o)) (sym is) (none, gives_bad bad fails)
+  pub sum_fails : (fail : PartFail) (a : Answer) → IsNotRefused rows (ask.Sum c o) → IsPartFail memory d pages 0 (pages_read size 0 size) fail
+      → IsCsumOf fail a → IsAnswerOf w memory (IsHeldAt d) rows (ask.Sum c o) a
+  sum_fails (why.BadPage bad) a none fails is = subst (IsAnswerOf w memory (IsHeldAt d) rows (ask.Sum c o)) (sym is) (none, gives_bad bad fails)
   sum_fails why.Memory a none fails is = absurd is
   sum_fails why.Fault a none fails is = absurd is
 
   -- what a view shows
-  sums : (read : Result ℕ PartFail) (sum : Result ℕ BadSum) → IfOk read (GivesSum d pages size)
-      → IfErr read (IsPartFail d pages 0 (pages_read size 0 size)) → IsSumOf read sum
-      → Gives w no_memory (IsHeldAt d) rows (ask.Sum c o) (sum_answer size sum)
+  sums : (read : Result ℕ PartFail) (sum : Result ℕ BadSum) → IfOk read (GivesSum memory d pages size)
+      → IfErr read (IsPartFail memory d pages 0 (pages_read size 0 size)) → IsSumOf read sum
+      → Gives w memory (IsHeldAt d) rows (ask.Sum c o) (sum_answer size sum)
   sums (Ok crc) sum good fails is =
-      subst (λ (s : Result ℕ BadSum). Gives w no_memory (IsHeldAt d) rows (ask.Sum c o) (sum_answer size s)) (sym is) (gives_sum crc good)
+      subst (λ (s : Result ℕ BadSum). Gives w memory (IsHeldAt d) rows (ask.Sum c o) (sum_answer size s)) (sym is) (gives_sum crc good)
   sums (Err (why.BadPage bad)) sum good fails is =
-      subst (λ (s : Result ℕ BadSum). Gives w no_memory (IsHeldAt d) rows (ask.Sum c o) (sum_answer size s)) (sym is) (gives_bad bad fails)
+      subst (λ (s : Result ℕ BadSum). Gives w memory (IsHeldAt d) rows (ask.Sum c o) (sum_answer size s)) (sym is) (gives_bad bad fails)
   sums (Err why.Memory) sum good fails is = absurd is
   sums (Err why.Fault) sum good fails is = absurd is
 
-  pub shows : (read : Result ℕ PartFail) (sum : Result ℕ BadSum) → IsObject rows c o → IfOk read (GivesSum d pages size)
-      → IfErr read (IsPartFail d pages 0 (pages_read size 0 size)) → IsSumOf read sum
-      → IsViewOf w no_memory (IsHeldAt d) rows c (record { name = o; size = size; sum = sum })
+  pub shows : (read : Result ℕ PartFail) (sum : Result ℕ BadSum) → IsObject rows c o → IfOk read (GivesSum memory d pages size)
+      → IfErr read (IsPartFail memory d pages 0 (pages_read size 0 size)) → IsSumOf read sum
+      → IsViewOf w memory (IsHeldAt d) rows c (record { name = o; size = size; sum = sum })
   shows read sum is good fails same = record { is = is; has_size = has; sums = sums read sum good fails same }

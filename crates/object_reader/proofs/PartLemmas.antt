@@ -1,11 +1,11 @@
 -- Runs of pages, and what reads of them give.
 use Rattle.std.proofs.Common.{◌≡◌, inl, inr, ℕ, ◌+◌, ◌-◌, ◌*◌, ◌<◌, ◌≤◌, List, [], ◌++◌, length, take, set, get_or, Option, Some, None, refl, sym, ap, subst, ◌∙◌, arith, length-append}
-use Rattle.std.specs.Prelude.{IfSome, Result, Ok, Err, IfErr, IsErr}
+use Rattle.std.specs.Prelude.{IfSome, MatchOption, Result, Ok, Err, IfErr, IsErr}
 use Rattle.std.specs.Result.{IsErrAnd}
 use Rattle.std.proofs.lemmas.Bool.{cases_lt}
 use Rattle.std.proofs.lemmas.List.{length-take-le, get_or-set_same, get_or-set_other}
 use Rattle.byte_maps.specs.Units.{unit_at, zeros, IsUnits}
-use Rattle.byte_maps.proofs.Prelude.{length-unit_at, length-zeros, unit_at-zeros, piece_of_front}
+use Rattle.byte_maps.proofs.Prelude.{length-unit_at, length-zeros, unit_at-zeros, unit_at-whole, piece_of_front}
 use Rattle.unit_fields.specs.declared.width.Width.{Width}
 use Rattle.crc32c_csum.specs.Prelude.{after_bits, crc32c}
 use Rattle.block_device.specs.Prelude.{last, HasNoBadDone, Disk, History, HasRead, Flight, IsApart, IsNotInFlight, last_at}
@@ -15,18 +15,19 @@ use Rattle.store_image.proofs.Prelude.{on_own}
 use Rattle.page_lookup.specs.Prelude.{place_found, HasUnit}
 use Rattle.onode_state.specs.Objects.{FindPagesOf}
 use Rattle.read_facts.specs.declared.view.BadSum.{BadSum}
-use Rattle.read_facts.specs.Prelude.{IsHeldAt, no_memory, IsGoodPage, hole, mapped, AreGoodPages, IsFirstBad}
+use Rattle.read_facts.specs.Prelude.{IsHeldAt, IsGoodPage, hole, mapped, AreGoodPages, IsFirstBad}
 use Rattle.read_facts.proofs.Pages.{good_appended, none_good, bad_behind_good}
+use Rattle.write_buffers.specs.Prelude.{AreNotIn}
 use Rattle.object_reader.specs.declared.parts.PartFail.{PartFail}
 use Rattle.object_reader.specs.declared.parts.PartFail.TheVariants as why
-use Rattle.object_reader.specs.Parts.{HaveFewUnits, CanRead, AreHoles, AreOnUnits, AreKept, IsChecked, AreChecked, AreSums, IsMismatch, GivesPages, GivesBad, IsPartFail, IsUnitsFail}
+use Rattle.object_reader.specs.Parts.{HaveFewUnits, CanRead, AreHoles, IsOnUnit, AreOnUnits, AreKept, IsChecked, AreChecked, AreSums, IsMismatch, GivesPages, GivesBad, IsPartFail, IsUnitsFail}
 
 -- so each of the units has a number of 32 bits
 pub has_unit : (pages : List Extent) (page : ℕ) → HaveFewUnits pages → HasUnit pages page
 has_unit pages page few unit csum is = let below : unit < 1048576 = few page unit csum is in omega (arith, below)
 
-pub few_units : (d : Disk) (pages : List Extent) → CanRead d pages → HaveFewUnits pages
-few_units d pages can page unit csum is = let below : unit < d.units = can.inside page unit csum is in omega (arith, below, can.units_most)
+pub few_units : (memory : ℕ → Option (List ℕ)) (d : Disk) (pages : List Extent) → CanRead memory d pages → HaveFewUnits pages
+few_units memory d pages can page unit csum is = let below : unit < d.units = can.inside page unit csum is in omega (arith, below, can.units_most)
 
 -- what holds of number 0 holds of each below 1
 pub each_of_one : (P : ℕ → Type 0) → P 0 → (i : ℕ) → i < 1 → P i
@@ -85,9 +86,10 @@ sums_checked pages first at count n bytes sums le kept are i lt unit csum there 
     sym (are i lt) ∙ sym (same_csum unit csum (at + i) (get_or sums i 0) (sym there ∙ kept i (omega (arith, lt, le))))
 
 -- the units of a run lie inside the device
-pub run_inside : (d : Disk) (pages : List Extent) (first at count : ℕ) → CanRead d pages → AreOnUnits pages first at count → 0 < count
+pub run_inside : (memory : ℕ → Option (List ℕ)) (d : Disk) (pages : List Extent) (first at count : ℕ) → CanRead memory d pages
+    → AreOnUnits pages first at count → 0 < count
     → at + count ≤ d.units
-run_inside d pages first at count can on some =
+run_inside memory d pages first at count can on some =
     let last = on (count - 1) (omega (arith, some)) in
     let below : at + (count - 1) < d.units = can.inside (first + (count - 1)) (at + (count - 1)) last.0 last.1 in
     omega (arith, below, some)
@@ -113,11 +115,12 @@ run_apart at count f some each = elim (cases_lt f.first at) [
     of_inside from (inr (inl before)) = inl (omega (arith, from, before))
     of_inside from (inr (inr behind)) = absurd (omega (arith, from, behind))
 
--- no write in flight touches the units of a run
-pub run_free : (d : Disk) (pages : List Extent) (first at count : ℕ) → CanRead d pages → AreOnUnits pages first at count → 0 < count
-    → IsNotInFlight d at (4096 * count)
-run_free d pages first at count can on some =
-    λ k f below. run_apart at count (get_or d.flights k f) some (λ i lt. can.free (first + i) (at + i) (on i lt).0 (on i lt).1 k f below)
+-- no write in flight touches the units of a run that aren't in memory
+pub run_free : (memory : ℕ → Option (List ℕ)) (d : Disk) (pages : List Extent) (first at count : ℕ) → CanRead memory d pages
+    → AreOnUnits pages first at count
+    → AreNotIn memory at count → 0 < count → IsNotInFlight d at (4096 * count)
+run_free memory d pages first at count can on out some =
+    λ k f below. run_apart at count (get_or d.flights k f) some (λ i lt. can.free (first + i) (at + i) (on i lt).0 (on i lt).1 (out i lt) k f below)
 
 -- what was read is what the units hold
 held_by : (told : Option History) (at count i : ℕ) (bytes : List ℕ) → i < count
@@ -129,24 +132,27 @@ held_by (Some h) at count i bytes lt units = units i lt
 held : (d : Disk) (at count i : ℕ) (bytes : List ℕ) → HasRead d at count bytes → i < count → IsHeldAt d (at + i) (unit_at i bytes)
 held d at count i bytes read lt = held_by d.history at count i bytes lt read.units
 
--- a page that was read, with the checksum that is kept for it, is good
-good_unit : (w : Width) (d : Disk) (pages : List Extent) (first at count i : ℕ) (bytes : List ℕ) (rows : Rows) (c o : List ℕ)
-    → AreOnUnits pages first at count
+-- a page whose unit isn't in memory and that was read, with the checksum that is kept for it, is good
+good_unit : (w : Width) (memory : ℕ → Option (List ℕ)) (d : Disk) (pages : List Extent) (first at count i : ℕ) (bytes : List ℕ) (rows : Rows) (c o : List ℕ)
+    → AreOnUnits pages first at count → AreNotIn memory at count
     → HasRead d at count bytes → FindPagesOf w rows c o pages → i < count → IsChecked pages (first + i) (unit_at i bytes)
-    → IsGoodPage w no_memory (IsHeldAt d) rows c o (first + i) (unit_at i bytes)
-good_unit w d pages first at count i bytes rows c o on read is lt checked =
+    → IsGoodPage w memory (IsHeldAt d) rows c o (first + i) (unit_at i bytes)
+good_unit w memory d pages first at count i bytes rows c o on out read is lt checked =
     let stand = on i lt in
     let there = on_own w rows c o (first + i) (at + i) stand.0 ((is (first + i) (own (at + i) stand.0)).0 stand.1) in
-    mapped (record { unit = at + i; csum = stand.0 }) there (held d at count i bytes read lt, checked (at + i) stand.0 stand.1)
+    mapped (record { unit = at + i; csum = stand.0 }) there
+    (subst (λ (copy : Option (List ℕ)). MatchOption copy (IsHeldAt d (at + i) (unit_at i bytes) × (crc32c (unit_at i bytes) ≡ stand.0)) (λ b. unit_at i bytes ≡ b))
+    (sym (out i lt)) (held d at count i bytes read lt, checked (at + i) stand.0 stand.1))
 
 -- pages on consecutive units that were read, with the checksums that are kept for them, are good
-pub good_units : (d : Disk) (pages : List Extent) (first at count : ℕ) (bytes : List ℕ) → AreOnUnits pages first at count → HasRead d at count bytes
-    → AreChecked pages first count bytes → GivesPages d pages first count bytes
-good_units d pages first at count bytes on read checked = record {
+pub good_units : (memory : ℕ → Option (List ℕ)) (d : Disk) (pages : List Extent) (first at count : ℕ) (bytes : List ℕ)
+    → AreOnUnits pages first at count
+    → AreNotIn memory at count → HasRead d at count bytes → AreChecked pages first count bytes → GivesPages memory d pages first count bytes
+good_units memory d pages first at count bytes on out read checked = record {
   size = read.size;
   good = λ w rows c o is. record {
     size = read.size;
-    each = λ i lt. good_unit w d pages first at count i bytes rows c o on read is lt (checked i lt);
+    each = λ i lt. good_unit w memory d pages first at count i bytes rows c o on out read is lt (checked i lt);
   };
 }
 
@@ -155,23 +161,24 @@ unit_of_front : (n i : ℕ) (bytes : List ℕ) → i < n → unit_at i (take (40
 unfolding unit_at
 unit_of_front n i bytes lt = piece_of_front (4096 * i) 4096 (4096 * n) bytes (omega (arith, lt))
 
-good_front : (w : Width) (d : Disk) (pages : List Extent) (first at count n : ℕ) (bytes : List ℕ) (rows : Rows) (c o : List ℕ)
-    → AreOnUnits pages first at count
+good_front : (w : Width) (memory : ℕ → Option (List ℕ)) (d : Disk) (pages : List Extent) (first at count n : ℕ) (bytes : List ℕ) (rows : Rows) (c o : List ℕ)
+    → AreOnUnits pages first at count → AreNotIn memory at count
     → HasRead d at count bytes → FindPagesOf w rows c o pages → n < count → AreChecked pages first n bytes
-    → AreGoodPages w no_memory (IsHeldAt d) rows c o first n (take (4096 * n) bytes)
-good_front w d pages first at count n bytes rows c o on read is lt checked = record {
+    → AreGoodPages w memory (IsHeldAt d) rows c o first n (take (4096 * n) bytes)
+good_front w memory d pages first at count n bytes rows c o on out read is lt checked = record {
   size = length-take-le (4096 * n) bytes (omega (arith, lt, read.size));
-  each = λ i below. subst (IsGoodPage w no_memory (IsHeldAt d) rows c o (first + i)) (sym (unit_of_front n i bytes below))
-      (good_unit w d pages first at count i bytes rows c o on read is (omega (arith, below, lt)) (checked i below));
+  each = λ i below. subst (IsGoodPage w memory (IsHeldAt d) rows c o (first + i)) (sym (unit_of_front n i bytes below))
+      (good_unit w memory d pages first at count i bytes rows c o on out read is (omega (arith, below, lt)) (checked i below));
 }
 
 same_unit : (unit csum at kept : ℕ) → Some (own unit csum) ≡ Some (own at kept) → unit ≡ at
 same_unit unit csum at kept is = cc
 
 -- the first mismatch of pages that were read is the first bad page
-pub bad_unit : (d : Disk) (pages : List Extent) (first at count : ℕ) (bytes sums : List ℕ) (bad : BadSum) → AreKept pages first at count sums
-    → HasRead d at count bytes → IsMismatch at count bytes sums bad → GivesBad d pages first count bad
-bad_unit d pages first at count bytes sums bad kept read m w rows c o is =
+pub bad_unit : (memory : ℕ → Option (List ℕ)) (d : Disk) (pages : List Extent) (first at count : ℕ) (bytes sums : List ℕ) (bad : BadSum)
+    → AreKept pages first at count sums
+    → AreNotIn memory at count → HasRead d at count bytes → IsMismatch at count bytes sums bad → GivesBad memory d pages first count bad
+bad_unit memory d pages first at count bytes sums bad kept out read m w rows c o is =
     let there : place_found pages (first + m.index) ≡ Some (own bad.unit bad.kept) =
     kept m.index m.within ∙ ap (λ u. Some (own u (get_or sums m.index 0))) (sym m.unit) ∙ ap (λ k. Some (own bad.unit k)) (sym m.is_kept) in
     let whole : 4096 * m.index + 4096 ≤ length bytes = omega (arith, m.within, read.size) in
@@ -179,11 +186,11 @@ bad_unit d pages first at count bytes sums bad kept read m w rows c o is =
       index = m.index;
       within = m.within;
       before = take (4096 * m.index) bytes;
-      good = good_front w d pages first at count m.index bytes rows c o (on_units pages first at count sums kept) read is m.within
+      good = good_front w memory d pages first at count m.index bytes rows c o (on_units pages first at count sums kept) out read is m.within
           (sums_checked pages first at count m.index bytes sums (omega (arith, m.within)) kept m.before);
       bad = record {
         is_on = on_own w rows c o (first + m.index) bad.unit bad.kept ((is (first + m.index) (own bad.unit bad.kept)).0 there);
-        not_in_memory = refl;
+        not_in_memory = ap memory m.unit ∙ out m.index m.within;
         bytes = unit_at m.index bytes;
         size = length-unit_at m.index bytes whole;
         holds = subst (λ (u : ℕ). IsHeldAt d u (unit_at m.index bytes)) (sym m.unit) (held d at count m.index bytes read m.within);
@@ -193,16 +200,46 @@ bad_unit d pages first at count bytes sums bad kept read m w rows c o is =
     }
 
 -- so a failed read of units is one of the pages that stand on them
-pub units_fail : (d : Disk) (pages : List Extent) (first at count : ℕ) (sums : List ℕ) (fail : PartFail) → AreKept pages first at count sums
-    → IsUnitsFail d at count sums fail → IsPartFail d pages first count fail
-units_fail d pages first at count sums (why.BadPage bad) kept is = bad_unit d pages first at count is.0 sums bad kept is.1 is.2
-units_fail d pages first at count sums why.Memory kept is = tt
-units_fail d pages first at count sums why.Fault kept is = tt
+pub units_fail : (memory : ℕ → Option (List ℕ)) (d : Disk) (pages : List Extent) (first at count : ℕ) (sums : List ℕ) (fail : PartFail)
+    → AreKept pages first at count sums
+    → AreNotIn memory at count → IsUnitsFail d at count sums fail → IsPartFail memory d pages first count fail
+units_fail memory d pages first at count sums (why.BadPage bad) kept out is = bad_unit memory d pages first at count is.0 sums bad kept out is.1 is.2
+units_fail memory d pages first at count sums why.Memory kept out is = tt
+units_fail memory d pages first at count sums why.Fault kept out is = tt
+
+-- a page whose unit is in memory is good, with the bytes there
+pub good_copy : (memory : ℕ → Option (List ℕ)) (d : Disk) (pages : List Extent) (first unit : ℕ) (bytes : List ℕ) → CanRead memory d pages
+    → IsOnUnit pages first unit → memory unit ≡ Some bytes → GivesPages memory d pages first 1 bytes
+good_copy memory d pages first unit bytes can on there =
+    let long : length bytes ≡ 4096 = can.whole unit bytes there in
+    let size : IsUnits 1 bytes = omega (arith, long) in
+    let same : unit_at 0 bytes ≡ bytes = unit_at-whole bytes long in
+    let page : first + 0 ≡ first = omega arith in
+    record {
+      size = size;
+      good = λ w rows c o is.
+          let stands = on_own w rows c o first unit on.0 ((is first (own unit on.0)).0 on.1) in
+          let good : IsGoodPage w memory (IsHeldAt d) rows c o first bytes = mapped (record { unit = unit; csum = on.0 }) stands
+          (subst (λ (copy : Option (List ℕ)). MatchOption copy (IsHeldAt d unit bytes × (crc32c bytes ≡ on.0)) (λ b. bytes ≡ b)) (sym there) refl) in
+          record {
+            size = size;
+            each = each_of_one (λ i. IsGoodPage w memory (IsHeldAt d) rows c o (first + i) (unit_at i bytes))
+                (subst (λ (p : ℕ). IsGoodPage w memory (IsHeldAt d) rows c o p (unit_at 0 bytes)) (sym page)
+                (subst (IsGoodPage w memory (IsHeldAt d) rows c o first) (sym same) good));
+          };
+    }
+
+-- and its checksum is the first one
+pub copy_sums : (memory : ℕ → Option (List ℕ)) (d : Disk) (pages : List Extent) (unit : ℕ) (bytes sums : List ℕ) → CanRead memory d pages
+    → memory unit ≡ Some bytes → get_or sums 0 0 ≡ crc32c bytes → AreSums 1 bytes sums
+copy_sums memory d pages unit bytes sums can there is =
+    each_of_one (λ i. get_or sums i 0 ≡ crc32c (unit_at i bytes)) (is ∙ ap crc32c (sym (unit_at-whole bytes (can.whole unit bytes there))))
 
 -- holes are good, with zeros
-pub good_holes : (d : Disk) (pages : List Extent) (first count : ℕ) (bytes : List ℕ) → AreHoles pages first count → bytes ≡ zeros (4096 * count)
-    → GivesPages d pages first count bytes
-good_holes d pages first count bytes are same = subst (GivesPages d pages first count) (sym same) (record {
+pub good_holes : (memory : ℕ → Option (List ℕ)) (d : Disk) (pages : List Extent) (first count : ℕ) (bytes : List ℕ) → AreHoles pages first count
+    → bytes ≡ zeros (4096 * count)
+    → GivesPages memory d pages first count bytes
+good_holes memory d pages first count bytes are same = subst (GivesPages memory d pages first count) (sym same) (record {
   size = length-zeros (4096 * count);
   good = λ w rows c o is. record {
     size = length-zeros (4096 * count);
@@ -216,9 +253,9 @@ good_holes d pages first count bytes are same = subst (GivesPages d pages first 
 -- ---- failures
 
 -- the first bad page of some is the first of more
-bad_of_more : (w : Width) (d : Disk) (rows : Rows) (c o : List ℕ) (first count n unit kept found : ℕ) → count ≤ n
-    → IsFirstBad w no_memory (IsHeldAt d) rows c o first count unit kept found → IsFirstBad w no_memory (IsHeldAt d) rows c o first n unit kept found
-bad_of_more w d rows c o first count n unit kept found le f = record {
+bad_of_more : (w : Width) (memory : ℕ → Option (List ℕ)) (d : Disk) (rows : Rows) (c o : List ℕ) (first count n unit kept found : ℕ) → count ≤ n
+    → IsFirstBad w memory (IsHeldAt d) rows c o first count unit kept found → IsFirstBad w memory (IsHeldAt d) rows c o first n unit kept found
+bad_of_more w memory d rows c o first count n unit kept found le f = record {
   index = f.index;
   within = omega (arith, f.within, le);
   before = f.before;
@@ -227,45 +264,49 @@ bad_of_more w d rows c o first count n unit kept found le f = record {
 }
 
 -- a failed read of some pages is one of more
-pub fails_of_more : (d : Disk) (pages : List Extent) (first count n : ℕ) (fail : PartFail) → count ≤ n → IsPartFail d pages first count fail
-    → IsPartFail d pages first n fail
-fails_of_more d pages first count n (why.BadPage bad) le is =
-    λ w rows c o map. bad_of_more w d rows c o first count n bad.unit bad.kept bad.found le (is w rows c o map)
-fails_of_more d pages first count n why.Memory le is = tt
-fails_of_more d pages first count n why.Fault le is = tt
+pub fails_of_more : (memory : ℕ → Option (List ℕ)) (d : Disk) (pages : List Extent) (first count n : ℕ) (fail : PartFail) → count ≤ n
+    → IsPartFail memory d pages first count fail
+    → IsPartFail memory d pages first n fail
+fails_of_more memory d pages first count n (why.BadPage bad) le is =
+    λ w rows c o map. bad_of_more w memory d rows c o first count n bad.unit bad.kept bad.found le (is w rows c o map)
+fails_of_more memory d pages first count n why.Memory le is = tt
+fails_of_more memory d pages first count n why.Fault le is = tt
 
 -- a failed read behind good pages
-pub fails_behind : (d : Disk) (pages : List Extent) (first next end : ℕ) (xs : List ℕ) (fail : PartFail) → first ≤ next → next ≤ end
-    → GivesPages d pages first (next - first) xs → IsPartFail d pages next (end - next) fail → IsPartFail d pages first (end - first) fail
-fails_behind d pages first next end xs (why.BadPage bad) from below front is =
+pub fails_behind : (memory : ℕ → Option (List ℕ)) (d : Disk) (pages : List Extent) (first next end : ℕ) (xs : List ℕ) (fail : PartFail)
+    → first ≤ next → next ≤ end
+    → GivesPages memory d pages first (next - first) xs → IsPartFail memory d pages next (end - next) fail → IsPartFail memory d pages first (end - first) fail
+fails_behind memory d pages first next end xs (why.BadPage bad) from below front is =
     λ w rows c o map.
     let same : next ≡ first + (next - first) = omega (arith, from) in
-    bad_behind_good w no_memory (IsHeldAt d) rows c o first (next - first) (end - next) (end - first) bad.unit bad.kept bad.found xs
+    bad_behind_good w memory (IsHeldAt d) rows c o first (next - first) (end - next) (end - first) bad.unit bad.kept bad.found xs
     (front.good w rows c o map)
-    (subst (λ (p : ℕ). IsFirstBad w no_memory (IsHeldAt d) rows c o p (end - next) bad.unit bad.kept bad.found) same (is w rows c o map))
+    (subst (λ (p : ℕ). IsFirstBad w memory (IsHeldAt d) rows c o p (end - next) bad.unit bad.kept bad.found) same (is w rows c o map))
     (omega (arith, from, below))
-fails_behind d pages first next end xs why.Memory from below front is = tt
-fails_behind d pages first next end xs why.Fault from below front is = tt
+fails_behind memory d pages first next end xs why.Memory from below front is = tt
+fails_behind memory d pages first next end xs why.Fault from below front is = tt
 
 -- ---- runs laid together
 
 -- no page
-pub no_pages : (d : Disk) (pages : List Extent) (first n : ℕ) (bytes : List ℕ) → n ≡ 0 → bytes ≡ [] → GivesPages d pages first n bytes
-no_pages d pages first n bytes none empty = subst (GivesPages d pages first n) (sym empty)
-    (subst (λ (m : ℕ). GivesPages d pages first m []) (sym none)
-    (record { size = refl; good = λ w rows c o is. none_good w no_memory (IsHeldAt d) rows c o first }))
+pub no_pages : (memory : ℕ → Option (List ℕ)) (d : Disk) (pages : List Extent) (first n : ℕ) (bytes : List ℕ) → n ≡ 0 → bytes ≡ []
+    → GivesPages memory d pages first n bytes
+no_pages memory d pages first n bytes none empty = subst (GivesPages memory d pages first n) (sym empty)
+    (subst (λ (m : ℕ). GivesPages memory d pages first m []) (sym none)
+    (record { size = refl; good = λ w rows c o is. none_good w memory (IsHeldAt d) rows c o first }))
 
 -- one run behind the others
-pub more_pages : (d : Disk) (pages : List Extent) (first next count : ℕ) (xs ys both : List ℕ) → first ≤ next → both ≡ xs ++ ys
-    → GivesPages d pages first (next - first) xs → GivesPages d pages next count ys → GivesPages d pages first (next + count - first) both
-more_pages d pages first next count xs ys both from is front back =
+pub more_pages : (memory : ℕ → Option (List ℕ)) (d : Disk) (pages : List Extent) (first next count : ℕ) (xs ys both : List ℕ) → first ≤ next
+    → both ≡ xs ++ ys
+    → GivesPages memory d pages first (next - first) xs → GivesPages memory d pages next count ys → GivesPages memory d pages first (next + count - first) both
+more_pages memory d pages first next count xs ys both from is front back =
     let same : next ≡ first + (next - first) = omega (arith, from) in
     let many : (next - first) + count ≡ next + count - first = omega (arith, from) in
     let good = λ (w : Width) (rows : Rows) (c o : List ℕ) (is : FindPagesOf w rows c o pages).
-    subst (λ (n : ℕ). AreGoodPages w no_memory (IsHeldAt d) rows c o first n (xs ++ ys)) many
-    (good_appended w no_memory (IsHeldAt d) rows c o first (next - first) count xs ys (front.good w rows c o is)
-    (subst (λ (p : ℕ). AreGoodPages w no_memory (IsHeldAt d) rows c o p count ys) same (back.good w rows c o is))) in
-    subst (GivesPages d pages first (next + count - first)) (sym is) (record { size = both_sizes; good = good })
+    subst (λ (n : ℕ). AreGoodPages w memory (IsHeldAt d) rows c o first n (xs ++ ys)) many
+    (good_appended w memory (IsHeldAt d) rows c o first (next - first) count xs ys (front.good w rows c o is)
+    (subst (λ (p : ℕ). AreGoodPages w memory (IsHeldAt d) rows c o p count ys) same (back.good w rows c o is))) in
+    subst (GivesPages memory d pages first (next + count - first)) (sym is) (record { size = both_sizes; good = good })
   where
     both_sizes : IsUnits (next + count - first) (xs ++ ys)
     both_sizes = omega (arith, from, front.size, back.size, length-append xs ys)

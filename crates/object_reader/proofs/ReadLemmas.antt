@@ -1,5 +1,5 @@
 -- Ranges of an object, and its checksum.
-use Rattle.std.proofs.Common.{◌≡◌, ℕ, zero, suc, ◌+◌, ◌-◌, ◌*◌, ◌/◌, ◌%◌, ◌<◌, ◌≤◌, Bool, true, false, cond, List, [], ◌++◌, length, take, drop, take-add, take-append-drop, get_or, refl, sym, ap, subst, ◌∙◌, arith}
+use Rattle.std.proofs.Common.{◌≡◌, ℕ, zero, suc, ◌+◌, ◌-◌, ◌*◌, ◌/◌, ◌%◌, ◌<◌, ◌≤◌, Bool, true, false, cond, List, [], ◌++◌, length, take, drop, take-add, take-append-drop, get_or, Option, refl, sym, ap, subst, ◌∙◌, arith}
 use Rattle.std.specs.Prelude.{nat_lt, bit_xor, min}
 use Rattle.std.proofs.lemmas.Bool.{ltb-true, ltb-false}
 use Rattle.std.proofs.lemmas.List.{take_all, length-take}
@@ -33,28 +33,30 @@ some_page_read size off len lt = by (nat_lt off (read_end size off len)) refl
     by false is = absurd (omega (arith, lt, ltb-false off (read_end size off len) is))
 
 -- an empty range
-pub empty_range : (d : Disk) (pages : List Extent) (size off len end : ℕ) (bytes : List ℕ) → end ≡ read_end size off len → end ≤ off → bytes ≡ []
-    → GivesRange d pages size off len bytes
-empty_range d pages size off len end bytes is le none =
+pub empty_range : (memory : ℕ → Option (List ℕ)) (d : Disk) (pages : List Extent) (size off len end : ℕ) (bytes : List ℕ)
+    → end ≡ read_end size off len → end ≤ off → bytes ≡ []
+    → GivesRange memory d pages size off len bytes
+empty_range memory d pages size off len end bytes is le none =
     let gone : read_end size off len - off ≡ 0 = omega (arith, is, le) in
     record {
       whole = [];
-      good = no_pages d pages (off / 4096) (pages_read size off len) [] (no_page_read size off len (omega (arith, is, le))) refl;
+      good = no_pages memory d pages (off / 4096) (pages_read size off len) [] (no_page_read size off len (omega (arith, is, le))) refl;
       cut = none ∙ sym (ap (λ n. take n (drop (off % 4096) [])) gone);
     }
 
 -- a range with bytes, from the pages that it must read
-pub cut_range : (d : Disk) (pages : List Extent) (size off len end first behind : ℕ) (whole bytes : List ℕ) → end ≡ read_end size off len → off < end
-    → first ≡ off / 4096 → behind ≡ pages_of end → GivesPages d pages first (behind - first) whole
-    → bytes ≡ take (end - off) (drop (off % 4096) whole) → GivesRange d pages size off len bytes
-cut_range d pages size off len end first behind whole bytes is lt from to good cut =
+pub cut_range : (memory : ℕ → Option (List ℕ)) (d : Disk) (pages : List Extent) (size off len end first behind : ℕ) (whole bytes : List ℕ)
+    → end ≡ read_end size off len → off < end
+    → first ≡ off / 4096 → behind ≡ pages_of end → GivesPages memory d pages first (behind - first) whole
+    → bytes ≡ take (end - off) (drop (off % 4096) whole) → GivesRange memory d pages size off len bytes
+cut_range memory d pages size off len end first behind whole bytes is lt from to good cut =
     let many : behind - first ≡ pages_read size off len =
     ap (λ n. n - first) (to ∙ ap pages_of is) ∙ ap (λ n. pages_of (read_end size off len) - n) from
     ∙ sym (some_page_read size off len (omega (arith, is, lt))) in
     record {
       whole = whole;
-      good = subst (λ (n : ℕ). GivesPages d pages (off / 4096) n whole) many
-          (subst (λ (p : ℕ). GivesPages d pages p (behind - first) whole) from good);
+      good = subst (λ (n : ℕ). GivesPages memory d pages (off / 4096) n whole) many
+          (subst (λ (p : ℕ). GivesPages memory d pages p (behind - first) whole) from good);
       cut = cut ∙ ap (λ n. take (n - off) (drop (off % 4096) whole)) is;
     }
 
@@ -66,19 +68,20 @@ range_fits off end first behind size lt from to is = omega (arith, lt, from, to,
 -- ---- the checksum
 
 -- of no page
-pub digest_of_none : (d : Disk) (pages : List Extent) (size : ℕ) → IsDigestOf d pages size 0 all_ones
-digest_of_none d pages size = record {
+pub digest_of_none : (memory : ℕ → Option (List ℕ)) (d : Disk) (pages : List Extent) (size : ℕ) → IsDigestOf memory d pages size 0 all_ones
+digest_of_none memory d pages size = record {
   whole = [];
-  good = no_pages d pages 0 0 [] refl refl;
+  good = no_pages memory d pages 0 0 [] refl refl;
   remains = sym
       (ap (remainder all_ones) (take_all size [] (omega arith)));
 }
 
 -- of one run more
-pub digest_of_more : (d : Disk) (pages : List Extent) (size next count digest : ℕ) (part front : List ℕ) → 4096 * next ≤ size
-    → front ≡ take (size - 4096 * next) part → IsDigestOf d pages size next digest → GivesPages d pages next count part
-    → IsDigestOf d pages size (next + count) (remainder digest front)
-digest_of_more d pages size next count digest part front fits is so_far more =
+pub digest_of_more : (memory : ℕ → Option (List ℕ)) (d : Disk) (pages : List Extent) (size next count digest : ℕ) (part front : List ℕ)
+    → 4096 * next ≤ size
+    → front ≡ take (size - 4096 * next) part → IsDigestOf memory d pages size next digest → GivesPages memory d pages next count part
+    → IsDigestOf memory d pages size (next + count) (remainder digest front)
+digest_of_more memory d pages size next count digest part front fits is so_far more =
     let held : length so_far.whole ≡ 4096 * next = so_far.good.size in
     let all : take size so_far.whole ≡ so_far.whole = take_all size so_far.whole (omega (arith, held, fits)) in
     let left : length so_far.whole + (size - 4096 * next) ≡ size = omega (arith, held, fits) in
@@ -90,9 +93,9 @@ digest_of_more d pages size next count digest part front fits is so_far more =
     let before : digest ≡ remainder all_ones so_far.whole = so_far.remains ∙ ap (remainder all_ones) all in
     record {
       whole = so_far.whole ++ part;
-      good = subst (λ (n : ℕ). GivesPages d pages 0 n (so_far.whole ++ part)) many
-          (more_pages d pages 0 next count so_far.whole part _ (omega arith) refl
-          (subst (λ (n : ℕ). GivesPages d pages 0 n so_far.whole) from_0 so_far.good) more);
+      good = subst (λ (n : ℕ). GivesPages memory d pages 0 n (so_far.whole ++ part)) many
+          (more_pages memory d pages 0 next count so_far.whole part _ (omega arith) refl
+          (subst (λ (n : ℕ). GivesPages memory d pages 0 n so_far.whole) from_0 so_far.good) more);
       remains = ap (λ r. remainder r front) before ∙ sym (remainder-append so_far.whole front all_ones) ∙ ap (remainder all_ones) (sym both);
     }
 
@@ -139,28 +142,30 @@ pub no_more_pages : (size : ℕ) → pages_of size ≡ pages_read size 0 size
 no_more_pages size = sym (pages_of_all size)
 
 -- of all pages of an object
-pub sum_of_all : (d : Disk) (pages : List Extent) (size count digest crc : ℕ) → count ≡ pages_of size → crc ≡ bit_xor digest all_ones
-    → IsDigestOf d pages size count digest → GivesSum d pages size crc
+pub sum_of_all : (memory : ℕ → Option (List ℕ)) (d : Disk) (pages : List Extent) (size count digest crc : ℕ) → count ≡ pages_of size
+    → crc ≡ bit_xor digest all_ones
+    → IsDigestOf memory d pages size count digest → GivesSum memory d pages size crc
 unfolding crc32c
-sum_of_all d pages size count digest crc is sum all = record {
+sum_of_all memory d pages size count digest crc is sum all = record {
   bytes = take size all.whole;
   gives = record {
     whole = all.whole;
-    good = subst (λ (n : ℕ). GivesPages d pages 0 n all.whole) (is ∙ no_more_pages size) all.good;
+    good = subst (λ (n : ℕ). GivesPages memory d pages 0 n all.whole) (is ∙ no_more_pages size) all.good;
     cut = ap (λ n. take n all.whole) (sym (end_less_none size));
   };
   is = sum ∙ ap (λ r. bit_xor r all_ones) all.remains;
 }
 
 -- a bad page behind those that were taken in
-pub sum_fails_behind : (d : Disk) (pages : List Extent) (size next end digest : ℕ) (fail : PartFail) → end ≡ pages_of size → next ≤ end
-    → IsDigestOf d pages size next digest → IsPartFail d pages next (end - next) fail → IsPartFail d pages 0 (pages_read size 0 size) fail
-sum_fails_behind d pages size next end digest fail is below so_far fails =
+pub sum_fails_behind : (memory : ℕ → Option (List ℕ)) (d : Disk) (pages : List Extent) (size next end digest : ℕ) (fail : PartFail)
+    → end ≡ pages_of size → next ≤ end
+    → IsDigestOf memory d pages size next digest → IsPartFail memory d pages next (end - next) fail → IsPartFail memory d pages 0 (pages_read size 0 size) fail
+sum_fails_behind memory d pages size next end digest fail is below so_far fails =
     let from_0 : next ≡ next - 0 = omega arith in
     let many : end - 0 ≡ pages_read size 0 size = sym from_end ∙ is ∙ no_more_pages size in
-    subst (λ (n : ℕ). IsPartFail d pages 0 n fail) many
-    (fails_behind d pages 0 next end so_far.whole fail (omega arith) below
-    (subst (λ (n : ℕ). GivesPages d pages 0 n so_far.whole) from_0 so_far.good) fails)
+    subst (λ (n : ℕ). IsPartFail memory d pages 0 n fail) many
+    (fails_behind memory d pages 0 next end so_far.whole fail (omega arith) below
+    (subst (λ (n : ℕ). GivesPages memory d pages 0 n so_far.whole) from_0 so_far.good) fails)
   where
     from_end : end ≡ end - 0
     from_end = omega arith

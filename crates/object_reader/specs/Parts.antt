@@ -1,5 +1,5 @@
 -- Pages of an object read some at a time, each where it is found among the object's extents.
-use Rattle.std.specs.Prelude.{◌≡◌, ◌≢◌, ℕ, ◌+◌, ◌-◌, ◌/◌, ◌%◌, ◌<◌, ◌≤◌, List, take, drop, get_or, Some, None}
+use Rattle.std.specs.Prelude.{◌≡◌, ◌≢◌, ℕ, ◌+◌, ◌-◌, ◌/◌, ◌%◌, ◌<◌, ◌≤◌, List, length, take, drop, get_or, Option, Some, None, IsSome}
 use Rattle.byte_maps.specs.Units.{unit_at, zeros, IsUnits}
 use Rattle.unit_fields.specs.declared.width.Width.{Width}
 use Rattle.crc32c_csum.specs.Prelude.{crc32c, remainder, all_ones}
@@ -9,9 +9,10 @@ use Rattle.row_format.specs.Prelude.{Extent, own}
 use Rattle.page_lookup.specs.Prelude.{place_found}
 use Rattle.onode_state.specs.Objects.{FindPagesOf}
 use Rattle.read_facts.specs.declared.view.BadSum.{BadSum}
-use Rattle.read_facts.specs.Prelude.{IsHeldAt, no_memory, AreGoodPages, IsFirstBad, read_end, pages_read}
+use Rattle.read_facts.specs.Prelude.{IsHeldAt, AreGoodPages, IsFirstBad, read_end, pages_read}
+use Rattle.write_buffers.specs.Prelude.{AreNotIn}
 use Rattle.object_reader.specs.declared.parts.Run.{Run}
-use Rattle.object_reader.specs.declared.parts.Run.TheVariants.{Hole, Units}
+use Rattle.object_reader.specs.declared.parts.Run.TheVariants.{Hole, Units, InMemory}
 use Rattle.object_reader.specs.declared.parts.PartFail.{PartFail}
 use Rattle.object_reader.specs.declared.parts.PartFail.TheVariants as why
 
@@ -19,11 +20,12 @@ use Rattle.object_reader.specs.declared.parts.PartFail.TheVariants as why
 abbrev pub HaveFewUnits : List Extent → Type 0
 HaveFewUnits pages = (page unit csum : ℕ) → place_found pages page ≡ Some (own unit csum) → unit < 1048576
 
--- these pages can be read: each stands inside the device, on a unit that is in no flight
-pub record CanRead (d : Disk) (pages : List Extent) : Type 0 where
+-- these pages can be read: each stands inside the device, on a unit that is in memory, whole, or in no flight
+pub record CanRead (memory : ℕ → Option (List ℕ)) (d : Disk) (pages : List Extent) : Type 0 where
   pub units_most : d.units ≤ 1048576
-  pub free : (page unit csum : ℕ) → place_found pages page ≡ Some (own unit csum) → IsUntouched d.flights unit
+  pub free : (page unit csum : ℕ) → place_found pages page ≡ Some (own unit csum) → memory unit ≡ None → IsUntouched d.flights unit
   pub inside : (page unit csum : ℕ) → place_found pages page ≡ Some (own unit csum) → unit < d.units
+  pub whole : (unit : ℕ) (bytes : List ℕ) → memory unit ≡ Some bytes → length bytes ≡ 4096
 
 -- the page stands on the unit, which is the object's own
 abbrev pub IsOnUnit : List Extent → ℕ → ℕ → Type 0
@@ -45,11 +47,12 @@ AreKept pages first at count sums = (i : ℕ) → i < count → place_found page
 abbrev pub AreSums : ℕ → List ℕ → List ℕ → Type 0
 AreSums count bytes sums = (i : ℕ) → i < count → get_or sums i 0 ≡ crc32c (unit_at i bytes)
 
--- the pages of a run, at least one and at most so many, and the checksums that they must have
-abbrev pub IsRun : List Extent → ℕ → ℕ → List ℕ → Run → Type 0
-IsRun pages first most sums (Hole count) = (0 < count) × (count ≤ most) × AreHoles pages first count
+-- the pages of a run, at least one and at most so many, and the checksums that they must have; or one page, whose unit is in memory
+abbrev pub IsRun : (ℕ → Option (List ℕ)) → List Extent → ℕ → ℕ → List ℕ → Run → Type 0
+IsRun memory pages first most sums (Hole count) = (0 < count) × (count ≤ most) × AreHoles pages first count
     × ((i : ℕ) → i < count → get_or sums i 0 ≡ crc32c (zeros 4096))
-IsRun pages first most sums (Units at count) = (0 < count) × (count ≤ most) × AreKept pages first at count sums
+IsRun memory pages first most sums (Units at count) = (0 < count) × (count ≤ most) × AreKept pages first at count sums × AreNotIn memory at count
+IsRun memory pages first most sums (InMemory unit) = IsOnUnit pages first unit × IsSome (memory unit)
 
 -- a page that isn't a hole has bytes with the checksum that is kept for it
 abbrev pub IsChecked : List Extent → ℕ → List ℕ → Type 0
@@ -71,21 +74,21 @@ pub record IsMismatch (at count : ℕ) (bytes sums : List ℕ) (bad : BadSum) : 
 
 -- of each object with these pages, however wide the checksums are in its rows, so many pages from the first on are good, and these are their
 -- bytes
-pub record GivesPages (d : Disk) (pages : List Extent) (first count : ℕ) (bytes : List ℕ) : Type 0 where
+pub record GivesPages (memory : ℕ → Option (List ℕ)) (d : Disk) (pages : List Extent) (first count : ℕ) (bytes : List ℕ) : Type 0 where
   pub size : IsUnits count bytes
   pub good : (w : Width) (rows : Rows) (c o : List ℕ) → FindPagesOf w rows c o pages
-      → AreGoodPages w no_memory (IsHeldAt d) rows c o first count bytes
+      → AreGoodPages w memory (IsHeldAt d) rows c o first count bytes
 
 -- of each object with these pages, it is the first bad page of so many
-abbrev pub GivesBad : Disk → List Extent → ℕ → ℕ → BadSum → Type 0
-GivesBad d pages first count bad =
+abbrev pub GivesBad : (ℕ → Option (List ℕ)) → Disk → List Extent → ℕ → ℕ → BadSum → Type 0
+GivesBad memory d pages first count bad =
     (w : Width) (rows : Rows) (c o : List ℕ) → FindPagesOf w rows c o pages
-    → IsFirstBad w no_memory (IsHeldAt d) rows c o first count bad.unit bad.kept bad.found
+    → IsFirstBad w memory (IsHeldAt d) rows c o first count bad.unit bad.kept bad.found
 
 -- what a failed read of so many pages says of them
-abbrev pub IsPartFail : Disk → List Extent → ℕ → ℕ → PartFail → Type 0
-IsPartFail d pages first count (why.BadPage bad) = GivesBad d pages first count bad
-IsPartFail d pages first count fail = Unit {0}
+abbrev pub IsPartFail : (ℕ → Option (List ℕ)) → Disk → List Extent → ℕ → ℕ → PartFail → Type 0
+IsPartFail memory d pages first count (why.BadPage bad) = GivesBad memory d pages first count bad
+IsPartFail memory d pages first count fail = Unit {0}
 
 -- what a failed read of so many units says of them
 abbrev pub IsUnitsFail : Disk → ℕ → ℕ → List ℕ → PartFail → Type 0
@@ -93,19 +96,19 @@ IsUnitsFail d at count sums (why.BadPage bad) = (bytes : List ℕ) × HasRead d 
 IsUnitsFail d at count sums fail = Unit {0}
 
 -- of each object of this size with these pages, the bytes of a range
-pub record GivesRange (d : Disk) (pages : List Extent) (size off len : ℕ) (bytes : List ℕ) : Type 0 where
+pub record GivesRange (memory : ℕ → Option (List ℕ)) (d : Disk) (pages : List Extent) (size off len : ℕ) (bytes : List ℕ) : Type 0 where
   pub whole : List ℕ
-  pub good : GivesPages d pages (off / 4096) (pages_read size off len) whole
+  pub good : GivesPages memory d pages (off / 4096) (pages_read size off len) whole
   pub cut : bytes ≡ take (read_end size off len - off) (drop (off % 4096) whole)
 
 -- so many pages from page 0 on were read, and this is the remainder of their bytes below a size
-pub record IsDigestOf (d : Disk) (pages : List Extent) (size count digest : ℕ) : Type 0 where
+pub record IsDigestOf (memory : ℕ → Option (List ℕ)) (d : Disk) (pages : List Extent) (size count digest : ℕ) : Type 0 where
   pub whole : List ℕ
-  pub good : GivesPages d pages 0 count whole
+  pub good : GivesPages memory d pages 0 count whole
   pub remains : digest ≡ remainder all_ones (take size whole)
 
 -- of each object of this size with these pages, the checksum of its bytes
-pub record GivesSum (d : Disk) (pages : List Extent) (size crc : ℕ) : Type 0 where
+pub record GivesSum (memory : ℕ → Option (List ℕ)) (d : Disk) (pages : List Extent) (size crc : ℕ) : Type 0 where
   pub bytes : List ℕ
-  pub gives : GivesRange d pages size 0 size bytes
+  pub gives : GivesRange memory d pages size 0 size bytes
   pub is : crc ≡ crc32c bytes

@@ -1,5 +1,5 @@
 //! Commands that read, answered.
-ghost use Rattle.std.specs.Prelude.{◌≡◌, ◌+◌, ◌≤◌, IfOk, IsErrOf, MatchOption};
+ghost use Rattle.std.specs.Prelude.{◌≡◌, ℕ, ◌+◌, ◌≤◌, List, Option, IfOk, IsErrOf, MatchOption};
 ghost use Rattle.std.specs.FinMap as finite;
 ghost use Rattle.block_device.specs.Prelude.{Rose, Disk};
 ghost use Rattle.object_model.specs.declared.command.Command.TheVariants as ask;
@@ -8,7 +8,8 @@ ghost use Rattle.onode_state.specs.Objects.{AreRowsOfAStore};
 ghost use Rattle.unit_fields.specs.Prelude.{IsName, IsCollName};
 ghost use Rattle.row_format.specs.Prelude.{coll_key, onode_key};
 ghost use Rattle.store_image.specs.Prelude.{HasKey};
-ghost use Rattle.read_facts.specs.Prelude.{IsHeldAt, no_memory, IsRefusedBy, IsKnownRead, HasReadNames, IsAnswerOf};
+ghost use Rattle.read_facts.specs.Prelude.{IsHeldAt, IsRefusedBy, IsKnownRead, HasReadNames, IsAnswerOf};
+ghost use Rattle.write_buffers.specs.Prelude.{memory_in};
 ghost use Rattle.object_reader.specs.Missing.{IsCollMissing, IsObjectMissing, HasObject};
 ghost use Rattle.object_reader.specs.Readable.{IsReadable};
 ghost use Rattle.object_reader.specs.PartFails.{IsCsumOf};
@@ -25,20 +26,23 @@ use onode_codec::{coll_key, onode_key};
 use onode_state::{coll_name_is_one, name_is_one, object_pages, object_size};
 use std::alloc::{AllocError, Global};
 use unit_fields::{CollName, Name, Width};
+use write_buffers::WriteBuffers;
 
-/// The answer to a command that reads, by the rows of a store and the device that holds its units: a refusal, what it asks for, or the first of
-/// the units that must be read whose bytes have another checksum than the one that is kept. The kernel calls it, with the submitted rows.
+/// The answer to a command that reads, by the rows of a store, the bytes of units that are in memory and the device that holds the others: a
+/// refusal, what it asks for, or the first of the units that must be read of the device whose bytes have another checksum than the one that is
+/// kept. The kernel calls it, with the submitted rows.
 pub fn answer<D: Device>(
     alloc: Global,
     device: &mut D,
+    buffers: &WriteBuffers,
     width: Width,
     rows: &RowTable,
     command: &Command,
 ) -> Result<Answer, ReadFail>
-    requires readable { IsReadable width no_memory rows.now.rows (D.disk device.old) }
+    requires readable { IsReadable width (memory_in buffers.now) rows.now.rows (D.disk device.old) }
     requires known { IsKnownRead command.now }
     ensures names { HasReadNames command.now }
-    ensures ok { IfOk result (IsAnswerOf width no_memory (IsHeldAt (D.disk device.old)) rows.now.rows command.now) }
+    ensures ok { IfOk result (IsAnswerOf width (memory_in buffers.now) (IsHeldAt (D.disk device.old)) rows.now.rows command.now) }
     ensures same { D.disk device.new ≡ D.disk device.old }
     ensures later { D.faults device.old ≤ D.faults device.new }
     ensures cause { IsErrOf result ReadFail.Fault → Rose (D.faults device.old) (D.faults device.new) }
@@ -49,8 +53,12 @@ pub fn answer<D: Device>(
             object,
             off,
             len,
-        } => answer_read(alloc, device, width, rows, coll, object, *off, *len),
-        Command::Sum { coll, object } => answer_sum(alloc, device, width, rows, coll, object),
+        } => answer_read(
+            alloc, device, buffers, width, rows, coll, object, *off, *len,
+        ),
+        Command::Sum { coll, object } => answer_sum(
+            alloc, device, buffers, width, rows, coll, object,
+        ),
         Command::Stat { coll, object } => Ok(answer_stat(alloc, rows, coll, object)?),
         Command::List { coll } => Ok(answer_list(alloc, rows, coll)?),
         _ => unreachable!(),
@@ -142,6 +150,7 @@ fn csum_answer(why: PartFail) -> Result<Answer, ReadFail>
 fn answer_read<D: Device>(
     alloc: Global,
     device: &mut D,
+    buffers: &WriteBuffers,
     width: Width,
     rows: &RowTable,
     coll: &CollName,
@@ -149,9 +158,9 @@ fn answer_read<D: Device>(
     off: u64,
     len: u64,
 ) -> Result<Answer, ReadFail>
-    requires readable { IsReadable width no_memory rows.now.rows (D.disk device.old) }
+    requires readable { IsReadable width (memory_in buffers.now) rows.now.rows (D.disk device.old) }
     ensures names { IsCollName coll.now × IsName object.now }
-    ensures ok { IfOk result (IsAnswerOf width no_memory (IsHeldAt (D.disk device.old)) rows.now.rows (ask.Read coll.now object.now off len)) }
+    ensures ok { IfOk result (IsAnswerOf width (memory_in buffers.now) (IsHeldAt (D.disk device.old)) rows.now.rows (ask.Read coll.now object.now off len)) }
     ensures same { D.disk device.new ≡ D.disk device.old }
     ensures later { D.faults device.old ≤ D.faults device.new }
     ensures cause { IsErrOf result ReadFail.Fault → Rose (D.faults device.old) (D.faults device.new) }
@@ -161,7 +170,7 @@ fn answer_read<D: Device>(
     }
     let size = object_size(alloc, rows, coll, object)?;
     let mut pages = object_pages(alloc, width, rows, coll, object)?;
-    match read_range(alloc, device, &mut pages, size, off, len) {
+    match read_range(alloc, device, buffers, &mut pages, size, off, len) {
         Ok(bytes) => Ok(Answer::Bytes(Bytes::from_vec(bytes))),
         Err(why) => csum_answer(why),
     }
@@ -170,14 +179,15 @@ fn answer_read<D: Device>(
 fn answer_sum<D: Device>(
     alloc: Global,
     device: &mut D,
+    buffers: &WriteBuffers,
     width: Width,
     rows: &RowTable,
     coll: &CollName,
     object: &Name,
 ) -> Result<Answer, ReadFail>
-    requires readable { IsReadable width no_memory rows.now.rows (D.disk device.old) }
+    requires readable { IsReadable width (memory_in buffers.now) rows.now.rows (D.disk device.old) }
     ensures names { IsCollName coll.now × IsName object.now }
-    ensures ok { IfOk result (IsAnswerOf width no_memory (IsHeldAt (D.disk device.old)) rows.now.rows (ask.Sum coll.now object.now)) }
+    ensures ok { IfOk result (IsAnswerOf width (memory_in buffers.now) (IsHeldAt (D.disk device.old)) rows.now.rows (ask.Sum coll.now object.now)) }
     ensures same { D.disk device.new ≡ D.disk device.old }
     ensures later { D.faults device.old ≤ D.faults device.new }
     ensures cause { IsErrOf result ReadFail.Fault → Rose (D.faults device.old) (D.faults device.new) }
@@ -187,7 +197,7 @@ fn answer_sum<D: Device>(
     }
     let size = object_size(alloc, rows, coll, object)?;
     let mut pages = object_pages(alloc, width, rows, coll, object)?;
-    match sum(alloc, device, &mut pages, size) {
+    match sum(alloc, device, buffers, &mut pages, size) {
         Ok(crc) => Ok(Answer::Sum { size, crc }),
         Err(why) => csum_answer(why),
     }
@@ -201,7 +211,8 @@ fn answer_stat(
 ) -> Result<Answer, AllocError>
     requires { AreRowsOfAStore rows.now.rows }
     ensures names { IsCollName coll.now × IsName object.now }
-    ensures ok { IfOk result (λ a. (width : Width) (d : Disk) → IsAnswerOf width no_memory (IsHeldAt d) rows.now.rows (ask.Stat coll.now object.now) a) }
+    ensures ok { IfOk result (λ a. (width : Width) (memory : ℕ → Option (List ℕ)) (d : Disk)
+        → IsAnswerOf width memory (IsHeldAt d) rows.now.rows (ask.Stat coll.now object.now) a) }
 {
     if let Some(refusal) = object_refusal(alloc, rows, coll, object)? {
         return Ok(Answer::Refused(refusal));
@@ -212,7 +223,8 @@ fn answer_stat(
 fn answer_list(alloc: Global, rows: &RowTable, coll: &CollName) -> Result<Answer, AllocError>
     requires { AreRowsOfAStore rows.now.rows }
     ensures names { IsCollName coll.now }
-    ensures ok { IfOk result (λ a. (width : Width) (d : Disk) → IsAnswerOf width no_memory (IsHeldAt d) rows.now.rows (ask.List coll.now) a) }
+    ensures ok { IfOk result (λ a. (width : Width) (memory : ℕ → Option (List ℕ)) (d : Disk)
+        → IsAnswerOf width memory (IsHeldAt d) rows.now.rows (ask.List coll.now) a) }
 {
     coll_name_is_one(coll);
     if let Some(refusal) = coll_refusal(alloc, rows, coll)? {

@@ -1,10 +1,11 @@
-//! Pages read from the device, some at a time.
-ghost use Rattle.std.specs.Prelude.{◌≡◌, ◌+◌, ◌-◌, ◌*◌, ◌^◌, ◌<◌, ◌≤◌, None, Some, IsTrue, IfOk, IfErr, IfNone, IfSome, IsErrOf, OnOk, ℕ, length, get_or, min};
+//! Pages read from memory or from the device, some at a time.
+ghost use Rattle.std.specs.Prelude.{◌≡◌, ◌+◌, ◌-◌, ◌*◌, ◌^◌, ◌<◌, ◌≤◌, None, Some, IsTrue, IsSome, IfOk, IfErr, IfNone, IfSome, IsErrOf, OnOk, ℕ, length, get_or, min};
 ghost use Rattle.byte_maps.specs.Units.{unit_at, zeros, IsUnits};
 ghost use Rattle.page_lookup.specs.Prelude.{place_found};
 ghost use Rattle.crc32c_csum.specs.Prelude.{crc32c};
 ghost use Rattle.row_format.specs.Prelude.{own};
 ghost use Rattle.block_device.specs.Prelude.{HasRead, IsNotInFlight, Rose};
+ghost use Rattle.write_buffers.specs.Prelude.{memory_in, AreNotIn};
 ghost use Rattle.object_reader.specs.Parts.{HaveFewUnits, CanRead, AreHoles, AreKept, AreSums, IsRun, IsMismatch, IsUnitsFail, GivesPages, IsPartFail};
 ghost use Rattle.object_reader.specs.PartFails.{part_fail_of};
 ghost use Rattle.object_reader.specs.declared.parts.PartFail.TheVariants.{Memory};
@@ -16,6 +17,7 @@ use read_facts::BadSum;
 use std::alloc::AllocError;
 use unit_fields::UnitNo;
 use unit_fields::limits::UNIT_BYTES;
+use write_buffers::WriteBuffers;
 
 // The most units of one read.
 const MOST_UNITS: u32 = 64;
@@ -56,10 +58,12 @@ impl From<Failed> for PartFail {
     }
 }
 
-// Consecutive pages that are read at once: holes, or pages on consecutive units.
+// Consecutive pages that are read at once: holes, pages on consecutive units that the device is asked for, or one page whose unit is in
+// memory.
 enum Run {
     Hole { count: u32 },
     Units { at: u32, count: u32 },
+    InMemory { unit: u32 },
 }
 
 fn is_hole(pages: &mut ShardPages, page: u32) -> bool
@@ -132,20 +136,42 @@ fn lay_zeros_sums(sums: &mut Sums)
     *sums = [ZEROS_SUM; 64];
 }
 
-// The run of pages from the first on, below the end. The checksums that are kept for its pages go into `sums`, and for holes that of
-// a page of zeros.
-fn run_from(pages: &mut ShardPages, first: u32, end: u32, sums: &mut Sums) -> Run
+// How many of the units from one on, at most so many, aren't in memory in a row.
+fn units_to_read(buffers: &WriteBuffers, at: u32, most: u32) -> u32
+    ensures few { result ≤ most }
+    ensures units { AreNotIn (memory_in buffers.now) at result }
+    ensures next { result < most → IsSome (memory_in buffers.now (at + result)) }
+{
+    match buffers.first_in(at, most) {
+        Some(unit) => unit - at,
+        None => most,
+    }
+}
+
+// The run of pages from the first on, below the end, and before the next page whose unit is in memory. The checksums that are kept for its
+// pages go into `sums`, and for holes that of a page of zeros.
+fn run_from(
+    pages: &mut ShardPages,
+    buffers: &WriteBuffers,
+    first: u32,
+    end: u32,
+    sums: &mut Sums,
+) -> Run
     requires some { first < end }
     requires inside { HaveFewUnits pages.old }
-    ensures run { IsRun pages.old first (min (end - first) 64) sums.new result }
+    ensures run { IsRun (memory_in buffers.now) pages.old first (min (end - first) 64) sums.new result }
     ensures kept { pages.new ≡ pages.old }
 {
     let most = (end - first).min(MOST_UNITS);
     match pages.find(first) {
         Some(place) => {
             let at = place.unit.number();
+            let free = units_to_read(buffers, at, most);
+            if free == 0 {
+                return Run::InMemory { unit: at };
+            }
             sums[0] = place.csum;
-            let count = unit_pages(pages, first, at, most, sums);
+            let count = unit_pages(pages, first, at, free, sums);
             Run::Units { at, count }
         }
         None => {
@@ -217,30 +243,51 @@ fn read_units<D: Device>(
     }
 }
 
+// The bytes of a unit that is in memory, in place of what `part` held, and their checksum, which is compared with none.
+fn copy_page(
+    buffers: &WriteBuffers,
+    unit: u32,
+    sums: &mut Sums,
+    part: &mut Vec<u8>,
+) -> Result<(), AllocError>
+    requires there { IsSome (memory_in buffers.now unit) }
+    ensures bytes { OnOk result (memory_in buffers.now unit ≡ Some part.new.items) }
+    ensures sum { OnOk result (get_or sums.new 0 0 ≡ crc32c part.new.items) }
+{
+    let Some(bytes) = buffers.get(unit) else {
+        unreachable!()
+    };
+    part.clear();
+    part.extend_from_slice(bytes.as_slice())?;
+    sums[0] = crc32c(bytes.as_slice());
+    Ok(())
+}
+
 /// Reads a run of pages of an object, from the first on and below the end, in place of what `part` held, and gives how many: at most 64
-/// that are holes, or that stand on consecutive units, which one call of the device reads. Their checksums go into `sums`. A bad page is
-/// the first one of the run.
+/// that are holes, or that stand on consecutive units none of which is in memory, which one call of the device reads; or one, whose unit is in
+/// memory. Their checksums go into `sums`. A bad page is the first one of the run.
 pub fn read_part<D: Device>(
     device: &mut D,
+    buffers: &WriteBuffers,
     pages: &mut ShardPages,
     first: u32,
     end: u32,
     sums: &mut Sums,
     part: &mut Vec<u8>,
 ) -> Result<u32, PartFail>
-    requires can { CanRead (D.disk device.old) pages.old }
+    requires can { CanRead (memory_in buffers.now) (D.disk device.old) pages.old }
     requires below { first < end }
     ensures some { IfOk result (λ count. 0 < count) }
     ensures few { IfOk result (λ count. (count ≤ 64) × (first + count ≤ end)) }
-    ensures good { IfOk result (λ count. GivesPages (D.disk device.old) pages.old first count part.new.items) }
+    ensures good { IfOk result (λ count. GivesPages (memory_in buffers.now) (D.disk device.old) pages.old first count part.new.items) }
     ensures sums { IfOk result (λ count. AreSums count part.new.items sums.new) }
-    ensures fail { IfErr result (IsPartFail (D.disk device.old) pages.old first (end - first)) }
+    ensures fail { IfErr result (IsPartFail (memory_in buffers.now) (D.disk device.old) pages.old first (end - first)) }
     ensures same { D.disk device.new ≡ D.disk device.old }
     ensures later { D.faults device.old ≤ D.faults device.new }
     ensures cause { IsErrOf result PartFail.Fault → Rose (D.faults device.old) (D.faults device.new) }
     ensures kept { pages.new ≡ pages.old }
 {
-    match run_from(pages, first, end, sums) {
+    match run_from(pages, buffers, first, end, sums) {
         Run::Hole { count } => {
             lay_zeros(part, count)?;
             Ok(count)
@@ -248,6 +295,10 @@ pub fn read_part<D: Device>(
         Run::Units { at, count } => {
             read_units(device, at, count, sums, part)?;
             Ok(count)
+        }
+        Run::InMemory { unit } => {
+            copy_page(buffers, unit, sums, part)?;
+            Ok(1)
         }
     }
 }

@@ -5,6 +5,7 @@ ghost use Rattle.crc32c_csum.specs.Prelude.{remainder};
 ghost use Rattle.object_model.specs.Prelude.{object_limit};
 ghost use Rattle.store_image.specs.Prelude.{pages_of};
 ghost use Rattle.read_facts.specs.Prelude.{pages_read};
+ghost use Rattle.write_buffers.specs.Prelude.{memory_in};
 ghost use Rattle.object_reader.specs.Parts.{CanRead, AreSums, GivesPages, IsPartFail, GivesRange, GivesSum};
 
 use crate::parts::{PartFail, Sums, read_part};
@@ -13,6 +14,7 @@ use crc32c_csum::Digest;
 use page_lookup::ShardPages;
 use std::alloc::Global;
 use unit_fields::limits::UNIT_BYTES;
+use write_buffers::WriteBuffers;
 
 // The bytes of a page, as sizes of objects count them.
 const PAGE_BYTES: u64 = UNIT_BYTES as u64;
@@ -30,25 +32,26 @@ fn pages_of(size: u64) -> u32
 fn read_pages<D: Device>(
     alloc: Global,
     device: &mut D,
+    buffers: &WriteBuffers,
     pages: &mut ShardPages,
     first: u32,
     end: u32,
 ) -> Result<Vec<u8>, PartFail>
-    requires can { CanRead (D.disk device.old) pages.old }
+    requires can { CanRead (memory_in buffers.now) (D.disk device.old) pages.old }
     requires below { first < end }
-    ensures good { IfOk result (λ bytes. GivesPages (D.disk device.old) pages.old first (end - first) bytes.items) }
-    ensures fail { IfErr result (IsPartFail (D.disk device.old) pages.old first (end - first)) }
+    ensures good { IfOk result (λ bytes. GivesPages (memory_in buffers.now) (D.disk device.old) pages.old first (end - first) bytes.items) }
+    ensures fail { IfErr result (IsPartFail (memory_in buffers.now) (D.disk device.old) pages.old first (end - first)) }
     ensures same { D.disk device.new ≡ D.disk device.old }
     ensures later { D.faults device.old ≤ D.faults device.new }
     ensures cause { IsErrOf result PartFail.Fault → Rose (D.faults device.old) (D.faults device.new) }
 {
     let mut bytes = Vec::with_capacity(alloc, (end - first) as usize * UNIT_BYTES)?;
     let mut sums = [0; 64];
-    let front = read_part(device, pages, first, end, &mut sums, &mut bytes)?;
+    let front = read_part(device, buffers, pages, first, end, &mut sums, &mut bytes)?;
     let mut part = Vec::new(alloc);
     let mut next = first + front;
     'parts: while next < end {
-        let count = read_part(device, pages, next, end, &mut sums, &mut part)?;
+        let count = read_part(device, buffers, pages, next, end, &mut sums, &mut part)?;
         bytes.extend_from_slice(&part)?;
         next += count;
     }
@@ -72,15 +75,16 @@ fn cut(mut bytes: Vec<u8>, skip: usize, len: usize) -> Vec<u8>
 pub fn read_range<D: Device>(
     alloc: Global,
     device: &mut D,
+    buffers: &WriteBuffers,
     pages: &mut ShardPages,
     size: u64,
     off: u64,
     len: u64,
 ) -> Result<Vec<u8>, PartFail>
-    requires can { CanRead (D.disk device.old) pages.old }
+    requires can { CanRead (memory_in buffers.now) (D.disk device.old) pages.old }
     requires limit { off + len ≤ object_limit }
-    ensures good { IfOk result (λ bytes. GivesRange (D.disk device.old) pages.old size off len bytes.items) }
-    ensures fail { IfErr result (IsPartFail (D.disk device.old) pages.old (off / 4096) (pages_read size off len)) }
+    ensures good { IfOk result (λ bytes. GivesRange (memory_in buffers.now) (D.disk device.old) pages.old size off len bytes.items) }
+    ensures fail { IfErr result (IsPartFail (memory_in buffers.now) (D.disk device.old) pages.old (off / 4096) (pages_read size off len)) }
     ensures same { D.disk device.new ≡ D.disk device.old }
     ensures later { D.faults device.old ≤ D.faults device.new }
     ensures cause { IsErrOf result PartFail.Fault → Rose (D.faults device.old) (D.faults device.new) }
@@ -90,7 +94,7 @@ pub fn read_range<D: Device>(
         return Ok(Vec::new(alloc));
     }
     let first = (off / PAGE_BYTES) as u32;
-    let bytes = read_pages(alloc, device, pages, first, pages_of(end))?;
+    let bytes = read_pages(alloc, device, buffers, pages, first, pages_of(end))?;
     Ok(cut(bytes, (off % PAGE_BYTES) as usize, (end - off) as usize))
 }
 
@@ -119,17 +123,18 @@ fn take_in(digest: &mut Digest, front: &[u8], sums: &Sums)
 }
 
 /// The CRC-32C of the bytes of an object of this size with these pages. It reads the pages part by part, and holds one part at a time. The
-/// bytes of a whole page aren't summed again: its checksum, which was compared, is taken in.
+/// bytes of a whole page aren't summed again: its checksum, which was compared or taken of its bytes in memory, is taken in.
 pub fn sum<D: Device>(
     alloc: Global,
     device: &mut D,
+    buffers: &WriteBuffers,
     pages: &mut ShardPages,
     size: u64,
 ) -> Result<u32, PartFail>
-    requires can { CanRead (D.disk device.old) pages.old }
+    requires can { CanRead (memory_in buffers.now) (D.disk device.old) pages.old }
     requires limit { size ≤ object_limit }
-    ensures good { IfOk result (GivesSum (D.disk device.old) pages.old size) }
-    ensures fail { IfErr result (IsPartFail (D.disk device.old) pages.old 0 (pages_read size 0 size)) }
+    ensures good { IfOk result (GivesSum (memory_in buffers.now) (D.disk device.old) pages.old size) }
+    ensures fail { IfErr result (IsPartFail (memory_in buffers.now) (D.disk device.old) pages.old 0 (pages_read size 0 size)) }
     ensures same { D.disk device.new ≡ D.disk device.old }
     ensures later { D.faults device.old ≤ D.faults device.new }
     ensures cause { IsErrOf result PartFail.Fault → Rose (D.faults device.old) (D.faults device.new) }
@@ -140,7 +145,7 @@ pub fn sum<D: Device>(
     let mut sums = [0; 64];
     let mut next = 0;
     'parts: while next < end {
-        let count = read_part(device, pages, next, end, &mut sums, &mut part)?;
+        let count = read_part(device, buffers, pages, next, end, &mut sums, &mut part)?;
         let left = size - next as u64 * PAGE_BYTES;
         take_in(&mut digest, front(&part, left), &sums);
         next += count;

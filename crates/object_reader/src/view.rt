@@ -2,7 +2,8 @@
 ghost use Rattle.std.specs.Prelude.{◌≡◌, ◌≤◌, IfOk, IsErrOf, MatchOption};
 ghost use Rattle.std.specs.Option.{option_copied};
 ghost use Rattle.block_device.specs.Prelude.{Rose};
-ghost use Rattle.read_facts.specs.Prelude.{IsHeldAt, no_memory, IsObject, IsPast, IsViewOf};
+ghost use Rattle.read_facts.specs.Prelude.{IsHeldAt, IsObject, IsPast, IsViewOf};
+ghost use Rattle.write_buffers.specs.Prelude.{memory_in};
 ghost use Rattle.object_reader.specs.PartFails.{IsSumOf};
 ghost use Rattle.object_reader.specs.Readable.{IsReadable, IsNextView};
 
@@ -16,6 +17,7 @@ use onode_state::{object_pages, object_size};
 use read_facts::{BadSum, ObjectView};
 use std::alloc::Global;
 use unit_fields::{CollName, Name, Width};
+use write_buffers::WriteBuffers;
 
 // What a read of all pages of an object came to: their checksum, or the first bad one.
 fn sum_or_bad(read: Result<u32, PartFail>) -> Result<Result<u32, BadSum>, ReadFail>
@@ -34,22 +36,23 @@ fn sum_or_bad(read: Result<u32, PartFail>) -> Result<Result<u32, BadSum>, ReadFa
 fn view_of<D: Device>(
     alloc: Global,
     device: &mut D,
+    buffers: &WriteBuffers,
     width: Width,
     rows: &RowTable,
     coll: &CollName,
     name: Name,
 ) -> Result<ObjectView, ReadFail>
-    requires readable { IsReadable width no_memory rows.now.rows (D.disk device.old) }
+    requires readable { IsReadable width (memory_in buffers.now) rows.now.rows (D.disk device.old) }
     requires is { IsObject rows.now.rows coll.now name }
     ensures name { IfOk result (λ view. view.name ≡ name) }
-    ensures ok { IfOk result (IsViewOf width no_memory (IsHeldAt (D.disk device.old)) rows.now.rows coll.now) }
+    ensures ok { IfOk result (IsViewOf width (memory_in buffers.now) (IsHeldAt (D.disk device.old)) rows.now.rows coll.now) }
     ensures same { D.disk device.new ≡ D.disk device.old }
     ensures later { D.faults device.old ≤ D.faults device.new }
     ensures cause { IsErrOf result ReadFail.Fault → Rose (D.faults device.old) (D.faults device.new) }
 {
     let size = object_size(alloc, rows, coll, &name)?;
     let mut pages = object_pages(alloc, width, rows, coll, &name)?;
-    let sum = sum_or_bad(sum(alloc, device, &mut pages, size))?;
+    let sum = sum_or_bad(sum(alloc, device, buffers, &mut pages, size))?;
     Ok(ObjectView { name, size, sum })
 }
 
@@ -58,14 +61,15 @@ fn view_of<D: Device>(
 pub fn next_object<D: Device>(
     alloc: Global,
     device: &mut D,
+    buffers: &WriteBuffers,
     width: Width,
     rows: &RowTable,
     coll: &CollName,
     after: Option<&Name>,
 ) -> Result<Option<ObjectView>, ReadFail>
-    requires readable { IsReadable width no_memory rows.now.rows (D.disk device.old) }
+    requires readable { IsReadable width (memory_in buffers.now) rows.now.rows (D.disk device.old) }
     ensures ok { IfOk result (λ found. MatchOption found (IsPast (IsObject rows.now.rows coll.now) (option_copied after.entry))
-        (IsNextView width no_memory (IsHeldAt (D.disk device.old)) rows.now.rows coll.now (option_copied after.entry))) }
+        (IsNextView width (memory_in buffers.now) (IsHeldAt (D.disk device.old)) rows.now.rows coll.now (option_copied after.entry))) }
     ensures same { D.disk device.new ≡ D.disk device.old }
     ensures later { D.faults device.old ≤ D.faults device.new }
     ensures cause { IsErrOf result ReadFail.Fault → Rose (D.faults device.old) (D.faults device.new) }
@@ -73,5 +77,5 @@ pub fn next_object<D: Device>(
     let Some(name) = next_name(alloc, rows, coll, after)? else {
         return Ok(None);
     };
-    Ok(Some(view_of(alloc, device, width, rows, coll, name)?))
+    Ok(Some(view_of(alloc, device, buffers, width, rows, coll, name)?))
 }

@@ -1,16 +1,18 @@
-//! Reads of an object over a device in memory: in as few reads of the device as it takes, and with one that fails. The store has 200
-//! units, with data units from 18 on; each holds its own number in every byte. Refusals, names, walks and changed bytes are cases of
+//! Reads of an object over a device in memory: in as few reads of the device as it takes, with one that fails, and with the bytes of a unit that
+//! are still being written. The store has 200 units, with data units from 18 on; each holds its own number in every byte. Refusals, names, walks and changed bytes are cases of
 //! the program `store_cases`.
-ghost use Rattle.std.specs.Prelude.{IfOk, IsTrue};
+ghost use Rattle.std.specs.Prelude.{◌≡◌, ℕ, List, Some, IfOk, IsTrue, length};
 ghost use Rattle.unit_fields.specs.declared.width.Width.TheVariants.{FourBytes};
 ghost use Rattle.block_device.specs.Prelude.{disk_of};
-ghost use Rattle.read_facts.specs.Prelude.{IsKnownRead, no_memory};
+ghost use Rattle.read_facts.specs.Prelude.{IsKnownRead};
+ghost use Rattle.write_buffers.specs.Prelude.{memory_in};
 ghost use Rattle.object_reader.specs.Readable.{IsReadable};
 
 use crate::rows::{COLL, ONODE_A, SHARD_A0, superblock, table_of};
 use blob_map::{PageMap, Place};
 use block_device::{Device, Kind, MemoryDevice};
 use byte_maps::Bytes;
+use bytes::Bytes as SharedBytes;
 use crc32c_csum::crc32c;
 use meta_rows::{RowOp, RowTable};
 use object_model::{Answer, Command};
@@ -19,6 +21,7 @@ use row_check::find_bad_row;
 use std::alloc::{AllocError, Global};
 use std::test::Fail;
 use unit_fields::{CollName, Name, UnitNo, Width};
+use write_buffers::WriteBuffers;
 
 // A page on a unit.
 fn page_on(alloc: Global, unit: u32) -> Result<Vec<u8>, AllocError> {
@@ -78,9 +81,29 @@ fn rows_of(alloc: Global, object: &Object) -> Result<RowTable, AllocError> {
     Ok(rows)
 }
 
+// What a unit holds that is still being written.
+static NEW_BYTES: [u8; 4096] = [0x6d; 4096];
+
+// The bytes of this unit in memory, or of none.
+fn buffers(alloc: Global, written: Option<u32>) -> Result<WriteBuffers, AllocError>
+    ensures { IfOk result (λ made. (unit : ℕ) (bytes : List ℕ) → memory_in made unit ≡ Some bytes → length bytes ≡ 4096) }
+{
+    let mut buffers = WriteBuffers::new(alloc);
+    if let Some(unit) = written {
+        buffers.insert(unit, SharedBytes::from_static(&NEW_BYTES))?;
+    }
+    Ok(buffers)
+}
+
 // Whether the rows and the device can be read.
-fn is_readable(alloc: Global, device: &MemoryDevice, rows: &RowTable) -> Result<bool, AllocError>
-    ensures { IfOk result (λ yes. IsTrue yes → IsReadable FourBytes no_memory rows.now.rows (disk_of device.now)) }
+fn is_readable(
+    alloc: Global,
+    device: &MemoryDevice,
+    buffers: &WriteBuffers,
+    rows: &RowTable,
+) -> Result<bool, AllocError>
+    requires { (unit : ℕ) (bytes : List ℕ) → memory_in buffers.now unit ≡ Some bytes → length bytes ≡ 4096 }
+    ensures { IfOk result (λ yes. IsTrue yes → IsReadable FourBytes (memory_in buffers.now) rows.now.rows (disk_of device.now)) }
 {
     if device.units() != 200 || device.in_flight() != 0 {
         return Ok(false);
@@ -126,13 +149,20 @@ fn told(answered: &Result<Answer, ReadFail>) -> Told {
 }
 
 // What is answered where the rows and the device can be read.
-fn answered(alloc: Global, device: &mut MemoryDevice, rows: &RowTable, command: &Command) -> Told
-    requires { IsKnownRead command.now }
+fn answered(
+    alloc: Global,
+    device: &mut MemoryDevice,
+    buffers: &WriteBuffers,
+    rows: &RowTable,
+    command: &Command,
+) -> Told
+    requires known { IsKnownRead command.now }
+    requires whole { (unit : ℕ) (bytes : List ℕ) → memory_in buffers.now unit ≡ Some bytes → length bytes ≡ 4096 }
 {
-    if !is_readable(alloc, device, rows)? {
+    if !is_readable(alloc, device, buffers, rows)? {
         return Ok(None);
     }
-    told(&answer(alloc, device, Width::FourBytes, rows, command))
+    told(&answer(alloc, device, buffers, Width::FourBytes, rows, command))
 }
 
 // Pages 0, 2 and 3 of an object that ends in page 3.
@@ -142,6 +172,10 @@ const SOME: Object = (b"\x64\x30\0\0\0\0\0\0", &[(0, 40, 1), (2, 60, 2)]);
 const LONG: Object = (b"\0\x60\x09\0\0\0\0\0", &[(0, 40, 150)]);
 
 const SCATTERED: Object = (b"\0\x30\0\0\0\0\0\0", &[(0, 40, 1), (1, 42, 1), (2, 41, 1)]);
+
+const FOUR: Object = (b"\0\x40\0\0\0\0\0\0", &[(0, 40, 4)]);
+
+const ONE: Object = (b"\xa0\x0f\0\0\0\0\0\0", &[(0, 40, 1)]);
 
 const HOLES: Object = (b"\x88\x13\0\0\0\0\0\0", &[]);
 
@@ -165,18 +199,47 @@ static CASES: [Case; 8] = [
     ),
 ];
 
-fn told_of(alloc: Global, case: &Case) -> Result<Told, Fail> {
+fn told_of(alloc: Global, case: &Case, written: Option<u32>) -> Result<Told, Fail> {
     let (object, asked, fails, _) = case;
     let command = command(alloc, *asked)?;
     let rows = rows_of(alloc, object)?;
     let mut device = device(alloc, *fails)?;
-    Ok(answered(alloc, &mut device, &rows, &command))
+    let buffers = buffers(alloc, written)?;
+    Ok(answered(alloc, &mut device, &buffers, &rows, &command))
 }
 
 #[test]
 fn answers(rt: HostRuntime) -> Result<(), Fail> {
     for (i, case) in CASES.iter().enumerate() {
-        let told = told_of(rt.alloc(), case)?;
+        let told = told_of(rt.alloc(), case, None)?;
+        assert!(rt; told == case.3, "case {i}");
+    }
+    Ok(())
+}
+
+// The same with the bytes of this unit in memory.
+static WRITTEN: [(u32, Case); 4] = [
+    // no read of the device
+    (
+        40,
+        (ONE, Asked::Read, Some(0), Ok(Some((4000, 0x3c2b5819)))),
+    ),
+    // two, of the pages before it and behind it
+    (
+        42,
+        (FOUR, Asked::Read, Some(2), Ok(Some((16384, 0x4f955b6c)))),
+    ),
+    (
+        42,
+        (FOUR, Asked::Sum, Some(2), Ok(Some((16384, 0x4f955b6c)))),
+    ),
+    (42, (FOUR, Asked::Sum, Some(1), Err(ReadFail::Fault))),
+];
+
+#[test]
+fn answers_from_memory(rt: HostRuntime) -> Result<(), Fail> {
+    for (i, (unit, case)) in WRITTEN.iter().enumerate() {
+        let told = told_of(rt.alloc(), case, Some(*unit))?;
         assert!(rt; told == case.3, "case {i}");
     }
     Ok(())

@@ -1,7 +1,8 @@
 use Rattle.std.proofs.Common.{◌+◌, ◌≤◌, sym, subst}
 use Rattle.object_model.specs.Prelude.{object_limit}
 use Rattle.object_model.specs.declared.command.Command.TheVariants as ask
-use Rattle.read_facts.specs.Prelude.{IsHeldAt, no_memory, IsAnswerOf}
+use Rattle.read_facts.specs.Prelude.{IsHeldAt, IsAnswerOf}
+use Rattle.write_buffers.specs.Prelude.{memory_in}
 use Rattle.object_reader.specs.Missing.{HasObject}
 use Rattle.object_reader.specs.Parts.{GivesRange}
 use Rattle.object_reader.specs.PartFails.{IsCsumOf}
@@ -18,7 +19,7 @@ read_range-requires-clause-can g c =
     let key = taken.0.1 in
     let size = c.in_ok-size.size in
     let pages = c.in_ok-pages.pages in
-    can_read c.args.width (g.D.Device.disk c.args.device.now) rows coll object size pages c.requires.readable
+    can_read c.args.width (memory_in c.args.buffers.now) (g.D.Device.disk c.args.device.now) rows coll object size pages c.requires.readable
     c.in_ok-size.ensures c.in_ok-pages.ensures.found key
 
 pub read_range-requires-clause-limit : goal.read_range-requires-clause-limit
@@ -43,9 +44,9 @@ returns-in-Ok-clause-ok g c =
     let key = taken.0.1 in
     let size = c.in_ok-size.size in
     let pages = c.in_ok-pages.pages in
-    bytes_answer c.args.width d rows coll object size pages c.requires.readable c.in_ok-size.ensures c.in_ok-pages.ensures.found key off len
+    bytes_answer c.args.width (memory_in c.args.buffers.now) d rows coll object size pages c.requires.readable c.in_ok-size.ensures c.in_ok-pages.ensures.found key off len
     c.from_vec.result none
-    (subst (GivesRange d pages size off len) (sym c.from_vec.ensures) c.in-Ok.ensures.good)
+    (subst (GivesRange (memory_in c.args.buffers.now) d pages size off len) (sym c.from_vec.ensures) c.in-Ok.ensures.good)
 
 pub returns-in-Err-clause-ok : goal.returns-in-Err-clause-ok
 returns-in-Err-clause-ok g c =
@@ -60,7 +61,7 @@ returns-in-Err-clause-ok g c =
     let key = taken.0.1 in
     let size = c.in_ok-size.size in
     let pages = c.in_ok-pages.pages in
-    ok_of c.csum_answer.result (IsCsumOf c.in-Err.why) (IsAnswerOf c.args.width no_memory (IsHeldAt d) rows (ask.Read coll object off len))
-    (λ a is. read_fails c.args.width d rows coll object size pages c.requires.readable c.in_ok-size.ensures c.in_ok-pages.ensures.found key off len
+    ok_of c.csum_answer.result (IsCsumOf c.in-Err.why) (IsAnswerOf c.args.width (memory_in c.args.buffers.now) (IsHeldAt d) rows (ask.Read coll object off len))
+    (λ a is. read_fails c.args.width (memory_in c.args.buffers.now) d rows coll object size pages c.requires.readable c.in_ok-size.ensures c.in_ok-pages.ensures.found key off len
     c.in-Err.why a none
     c.in-Err.ensures.fail is) c.csum_answer.ensures.ok

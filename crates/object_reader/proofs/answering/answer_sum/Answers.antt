@@ -1,5 +1,6 @@
 use Rattle.object_model.specs.declared.command.Command.TheVariants as ask
-use Rattle.read_facts.specs.Prelude.{IsHeldAt, no_memory, IsAnswerOf}
+use Rattle.read_facts.specs.Prelude.{IsHeldAt, IsAnswerOf}
+use Rattle.write_buffers.specs.Prelude.{memory_in}
 use Rattle.object_reader.specs.Missing.{HasObject}
 use Rattle.object_reader.specs.PartFails.{IsCsumOf}
 use Rattle.read_facts.proofs.Found.{sum_taken}
@@ -15,7 +16,7 @@ sum-requires-clause-can g c =
     let key = taken.1 in
     let size = c.in_ok-size.size in
     let pages = c.in_ok-pages.pages in
-    can_read c.args.width (g.D.Device.disk c.args.device.now) rows coll object size pages c.requires.readable
+    can_read c.args.width (memory_in c.args.buffers.now) (g.D.Device.disk c.args.device.now) rows coll object size pages c.requires.readable
     c.in_ok-size.ensures c.in_ok-pages.ensures.found key
 
 pub sum-requires-clause-limit : goal.sum-requires-clause-limit
@@ -27,7 +28,7 @@ sum-requires-clause-limit g c =
     let key = taken.1 in
     let size = c.in_ok-size.size in
     let pages = c.in_ok-pages.pages in
-    size_most c.args.width (g.D.Device.disk c.args.device.now) rows coll object size pages c.requires.readable
+    size_most c.args.width (memory_in c.args.buffers.now) (g.D.Device.disk c.args.device.now) rows coll object size pages c.requires.readable
     c.in_ok-size.ensures c.in_ok-pages.ensures.found key
 
 pub returns-in-Ok-clause-ok : goal.returns-in-Ok-clause-ok
@@ -39,7 +40,7 @@ returns-in-Ok-clause-ok g c =
     let none = sum_taken rows coll object c.object_refusal.ensures.names.0 c.object_refusal.ensures.names.1 taken.0 taken.1 in
     let size = c.in_ok-size.size in
     let pages = c.in_ok-pages.pages in
-    sum_gives c.args.width
+    sum_gives c.args.width (memory_in c.args.buffers.now)
     (g.D.Device.disk c.args.device.now) rows coll object size pages c.requires.readable c.in_ok-size.ensures c.in_ok-pages.ensures.found
     taken.1 c.in-Ok.crc none c.in-Ok.ensures.good
 
@@ -53,6 +54,6 @@ returns-in-Err-clause-ok g c =
     let none = sum_taken rows coll object c.object_refusal.ensures.names.0 c.object_refusal.ensures.names.1 taken.0 taken.1 in
     let size = c.in_ok-size.size in
     let pages = c.in_ok-pages.pages in
-    ok_of c.csum_answer.result (IsCsumOf c.in-Err.why) (IsAnswerOf c.args.width no_memory (IsHeldAt d) rows (ask.Sum coll object))
-    (λ a is. sum_fails c.args.width d rows coll object size pages c.requires.readable c.in_ok-size.ensures c.in_ok-pages.ensures.found
+    ok_of c.csum_answer.result (IsCsumOf c.in-Err.why) (IsAnswerOf c.args.width (memory_in c.args.buffers.now) (IsHeldAt d) rows (ask.Sum coll object))
+    (λ a is. sum_fails c.args.width (memory_in c.args.buffers.now) d rows coll object size pages c.requires.readable c.in_ok-size.ensures c.in_ok-pages.ensures.found
     taken.1 c.in-Err.why a none c.in-Err.ensures.fail is) c.csum_answer.ensures.ok

@@ -1,5 +1,5 @@
 //! The batch, and its way into the log.
-ghost use Rattle.std.specs.Prelude.{◌≡◌, ◌∷◌, [], map, MatchOption, OnOk, OnErr, IfOk, IfErr};
+ghost use Rattle.std.specs.Prelude.{◌≡◌, ◌∷◌, [], length, map, MatchOption, OnOk, OnErr, IfOk, IfErr};
 ghost use Rattle.meta_store.specs.Store.{with_begun};
 ghost use Rattle.store_steps.specs.Prelude.{log_after};
 ghost use Rattle.txn_states.specs.States.{committed_of};
@@ -50,6 +50,21 @@ impl Batch {
         Batch { queued }
     }
 
+    /// The transaction of the batch.
+    pub fn queued(&self) -> &Queued
+        ensures { self.now ≡ result.now ∷ [] }
+    {
+        &self.queued
+    }
+
+    /// How many transactions it is of.
+    pub fn len(&self) -> usize
+        ensures { result ≡ length self.now }
+    {
+        let _ = &self.queued;
+        1
+    }
+
     /// Makes the batch's record, of its operations under the store's next number, and begins to write it. Where memory runs out the batch
     /// comes back, and the store is as it was. (Ceph: the write batch that `_kv_sync_thread` submits.)
     pub fn seal(self, alloc: Global, meta: &mut MetaStore) -> Result<SealedBatch, Batch>
@@ -89,6 +104,14 @@ impl SealedBatch {
         ensures { self.now ≡ result.now ∷ [] }
     {
         &self.queued
+    }
+
+    /// How many transactions it is of.
+    pub fn len(&self) -> usize
+        ensures { result ≡ length self.now }
+    {
+        let _ = &self.queued;
+        1
     }
 }
 

@@ -4,6 +4,7 @@ ghost use Rattle.txn_states.specs.States.{IsWritten, committed_of};
 
 use crate::committed::Committed;
 use meta_rows::RowOp;
+use plan_rows::FreshUnit;
 use std::marker::Model;
 use store_steps::Context;
 use unit_fields::UnitNo;
@@ -53,6 +54,13 @@ impl Queued {
         ensures { result.now ≡ self.now.ops }
     {
         self.context.ops.as_slice()
+    }
+
+    /// The units that it took, with their bytes.
+    pub fn fresh(&self) -> &[FreshUnit]
+        ensures { result.now ≡ self.now.fresh }
+    {
+        self.context.fresh.as_slice()
     }
 
     /// The units of the log that are reserved for a record of these operations.

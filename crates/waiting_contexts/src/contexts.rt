@@ -1,5 +1,5 @@
 //! The transactions whose data writes are under way.
-ghost use Rattle.std.specs.Prelude.{◌≡◌, ℕ, ◌+◌, ◌<◌, ◌≤◌, ◌++◌, ◌∷◌, List, [], true, is_some, length, Some, IfOk, IfErr, IfSome, OnOk, OnErr, if◌then◌else◌};
+ghost use Rattle.std.specs.Prelude.{◌≡◌, ℕ, ◌+◌, ◌<◌, ◌≤◌, ◌++◌, ◌∷◌, List, [], true, is_some, length, option_copied, Some, IfOk, IfErr, IfSome, OnOk, OnErr, if◌then◌else◌};
 ghost use Rattle.store_steps.specs.Prelude.{chosen, next_unsent, with_context, without_context, given_more, done_more};
 ghost use Rattle.txn_states.specs.Writes.{IsWrite};
 ghost use Rattle.waiting_contexts.specs.Places.{IsAboveAll, context_at};
@@ -130,6 +130,13 @@ impl Contexts {
         }
         settle(&self.submissions, &self.sequencers, &mut self.heads, place);
         Ok(())
+    }
+
+    /// The context at a place, lent.
+    pub fn get(&self, place: u32) -> Option<&NamedContext>
+        ensures { option_copied result ≡ context_at place self.now }
+    {
+        self.submissions.get(place)
     }
 
     /// Whether a data write isn't submitted yet.

@@ -5,6 +5,7 @@ ghost use Rattle.txn_states.specs.States.{IsUnderWay};
 ghost use Rattle.txn_states.specs.Writes.{IsWrite};
 
 use bytes::Bytes;
+use plan_rows::FreshUnit;
 use std::alloc::{AllocError, Global};
 use std::marker::Model;
 use txn_states::{NextWrite, Queued, Waiting};
@@ -58,6 +59,13 @@ impl NamedContext {
         ensures { result.now ≡ self.now.coll }
     {
         &self.coll
+    }
+
+    /// The units that it took, with their bytes.
+    pub fn fresh(&self) -> &[FreshUnit]
+        ensures { result.now ≡ self.now.fresh }
+    {
+        self.context.fresh()
     }
 
     /// Whether a data write isn't submitted yet.

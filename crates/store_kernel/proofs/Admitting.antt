@@ -1,5 +1,5 @@
 -- What preparing and accepting a transaction is, in the words of the kernel's state.
-use Rattle.std.proofs.Common.{◌≡◌, ℕ, ◌+◌, ◌<◌, ◌≤◌, ◌^◌, true, List, [], ◌∷◌, ◌++◌, length, map, Option, Some, None, refl, arith}
+use Rattle.std.proofs.Common.{◌≡◌, None, Some, ℕ, ◌+◌, ◌<◌, ◌≤◌, ◌^◌, true, List, [], ◌∷◌, ◌++◌, length, map, Option, refl, sym, subst, arith}
 use Rattle.std.specs.List.{AllByRecursion}
 use Rattle.block_device.specs.Prelude.{Disk}
 use Rattle.block_device.specs.declared.device.Ticket.{Ticket}
@@ -15,24 +15,28 @@ use Rattle.meta_store.specs.Store as meta
 use Rattle.unit_allocator.specs.Prelude.{Space, IsWithin, is_free, taken}
 use Rattle.plan_rows.specs.declared.plan.FreshUnit.{FreshUnit}
 use Rattle.plan_rows.specs.declared.plan.Plan.{Plan}
-use Rattle.plan_rows.specs.Prelude.{IsKnown, AreFreeOver, IsGood, PlanKeeps}
+use Rattle.plan_rows.specs.Prelude.{IsKnown, AreFreeOver, IsGood, PlanKeeps, PlanTakes}
 use Rattle.object_rows.specs.Prelude.{IsPlanned}
 use Rattle.object_rows.proofs.Planned.{plan_facts}
 use Rattle.object_rows.proofs.PlansKeep.{plans_keep}
 use Rattle.object_rows.proofs.Taking.{units_of, plan_takes_free, planned}
 use Rattle.store_steps.specs.declared.context.Context.{Context}
 use Rattle.store_steps.specs.declared.flight.Flying.{Flying}
-use Rattle.store_steps.specs.Prelude.{State, CanNote, Accepts, need_of}
+use Rattle.store_steps.specs.Prelude.{State, CanNote, Accepts, accepted_with, need_of, memory_of}
 use Rattle.store_facts.specs.Prelude.{IsKept}
-use Rattle.store_facts.proofs.Prelude.{idle_pending, kept_submitted, kept_free}
+use Rattle.store_facts.proofs.Prelude.{kept_submitted, kept_free, fresh_not_in_memory}
 use Rattle.onode_state.specs.Objects.{AreRowsOfAStore, AreRowsOfWidth}
 use Rattle.txn_planner.specs.PlanFails.{IsPlanFor}
 use Rattle.store_kernel.specs.declared.batch.OpenBatch.{OpenBatch}
 use Rattle.store_kernel.specs.declared.prepared.Prepared.{Prepared}
-use Rattle.store_kernel.specs.Prepared.{IsPlanOf, IsPrepared, context_at}
-use Rattle.store_kernel.specs.Seen.{listed, state_of}
+use Rattle.txn_states.specs.States.{context_of}
+use Rattle.waiting_contexts.specs.Places.{IsAboveAll, context_at}
+use Rattle.waiting_contexts.proofs.TiedLemmas.{found_last, not_lost}
+use Rattle.store_kernel.proofs.Sending.{few_between}
+use Rattle.store_image.specs.Prelude.{IsDataUnit}
+use Rattle.store_kernel.specs.Prepared.{IsPlanOf, IsPrepared}
+use Rattle.store_kernel.specs.Seen.{state_of}
 use Rattle.store_kernel.specs.Units.{CanBeTaken}
-use Rattle.store_kernel.specs.Submitting.{MaySubmit}
 
 -- ---- preparing
 
@@ -71,6 +75,21 @@ pub enough : (m : meta.Meta) (plan : Plan) (need room : ℕ) → need ≡ need_o
     → need_of m plan ≤ meta.room_of m
 enough m plan need room is_need is_room fits = rw (← is_need) (omega (arith, is_room, fits))
 
+-- the place of the next entry is above those of all that wait
+pub above_all : (s : State) (d : Disk) (place : ℕ) → IsKept s d → CanNote s → place ≡ length s.book.entries → IsAboveAll place s.pending
+above_all s d place kept can is = subst (λ (n : ℕ). IsAboveAll n s.pending) (sym is) (kept.up can.up).flights.places.below
+
+-- the context that was added is found at its place
+pub found_added : (s : State) (d : Disk) (pending' : List Context) (x y : Context) (place : ℕ) → IsKept s d → CanNote s → place ≡ length s.book.entries
+    → place ≡ x.place → pending' ≡ s.pending ++ x ∷ [] → Some y ≡ context_at place pending' → y ≡ x
+found_added s d pending' x y place kept can is same grown found =
+    found_last s.pending pending' x y place (subst (λ (n : ℕ). IsAboveAll n s.pending) same (above_all s d place kept can is)) same grown found
+
+pub added_is_found : (s : State) (d : Disk) (pending' : List Context) (x : Context) (place : ℕ) → IsKept s d → CanNote s → place ≡ length s.book.entries
+    → place ≡ x.place → pending' ≡ s.pending ++ x ∷ [] → None ≡ context_at place pending' → ⊥
+added_is_found s d pending' x place kept can is same grown none =
+    not_lost s.pending pending' x place (subst (λ (n : ℕ). IsAboveAll n s.pending) same (above_all s d place kept can is)) same grown none
+
 -- ---- accepting
 
 free_units_are : (space : Space) (us : List ℕ) → AllByRecursion (λ u. IsWithin space u × (is_free space u ≡ true)) us → CanBeTaken us space
@@ -83,33 +102,64 @@ pub fresh_is_free : (change : Change) (s : State) (plan : Plan) → IsKnown chan
 fresh_is_free change s plan known is =
     free_units_are s.space (units_of plan.fresh) (plan_takes_free (width_of s.log.sup) change.coll change.ops s.submitted s.space plan known is.plans)
 
--- nothing waits where a transaction may be submitted
-none_listed : (p : Option Context) → listed p ≡ [] → p ≡ None
-none_listed None none = refl
-none_listed (Some x) none = cc
+-- they are few
+pub fresh_are_few : (s : State) (d : Disk) (change : Change) (plan : Plan) → IsKept s d → CanNote s → IsKnown change.ops → IsPlanOf change s plan
+    → length plan.fresh < 2 ^ 32
+fresh_are_few s d change plan kept can known is =
+    let free : AreFreeOver s.log.sup s.submitted s.space = kept_free s d kept can.up in
+    let keeps : PlanKeeps s.log.sup (names_of change) s.submitted plan =
+    (plans_keep s.log.sup s.submitted s.space change plan (kept_submitted s d kept can.up) free known is.plans).0 in
+    few (length plan.fresh) s.log.sup.units (few_between 0 s.log.sup.units plan.fresh (omega arith) (low plan.fresh) (below plan.fresh keeps.fresh.on_data) keeps.ascend)
+    kept.always.limits.units_most
+  where
+    few : (n units : ℕ) → 0 + n ≤ units → units ≤ 1048576 → n < 2 ^ 32
+    few n units within most = omega (arith, within, most)
 
-module _ (m : meta.Meta) (submitted : Rows) (pending : Option Context) (batch : Option OpenBatch) (flying : List Flying) (down : Option Ticket)
+    low : (fs : List FreshUnit) → AllByRecursion (λ f. 0 ≤ f.unit) fs
+    low [] = tt
+    low (f ∷ fs) = (omega arith, low fs)
+
+    below : (fs : List FreshUnit) → AllByRecursion (λ f. IsDataUnit s.log.sup f.unit) fs → AllByRecursion (λ f. f.unit < s.log.sup.units) fs
+    below [] all = tt
+    below (f ∷ fs) all = (all.0.1, below fs all.1)
+
+-- and none of them is in memory
+pub fresh_absent : (s : State) (d : Disk) (change : Change) (plan : Plan) (memory : ℕ → Option (List ℕ)) → IsKept s d → CanNote s
+    → IsKnown change.ops → IsPlanOf change s plan → memory ≡ memory_of s → AllByRecursion (λ f. memory f.unit ≡ None) plan.fresh
+fresh_absent s d change plan memory kept can known is same =
+    let takes : PlanTakes s.space change plan =
+    (plans_keep s.log.sup s.submitted s.space change plan (kept_submitted s d kept can.up) (kept_free s d kept can.up) known is.plans).1.1 in
+    subst (λ (m : ℕ → Option (List ℕ)). AllByRecursion (λ f. m f.unit ≡ None) plan.fresh) (sym same)
+    (fresh_not_in_memory s d kept can.up plan.fresh takes.free)
+
+module _ (m : meta.Meta) (submitted : Rows) (pending : List Context) (batch : Option OpenBatch) (flying : List Flying) (down : Option Ticket)
     (events : ℕ) (space : Space) (entries : List Entry) (commits : List Commit) (acked : ℕ) where
   -- the state of these parts
   abbrev before : State
   before = state_of m submitted pending batch flying down events space entries commits acked
 
-  -- the kernel's parts after it was accepted
-  pub accepted : (d : Disk) (client line : ℕ) (change : Change) (ready : Prepared)
-      (m' : meta.Meta) (submitted' : Rows) (x : Context) (place : ℕ) (space' : Space) (entries' : List Entry)
-      → IsKept before d → MaySubmit change before d → CanNote before → IsPrepared ready change before
-      → (let after : meta.Meta = record m { reserved = m.reserved + ready.need } in m' ≡ after)
-      → submitted' ≡ rows_after submitted ready.copy → x ≡ context_at ready place → place ≡ length entries
-      → space' ≡ taken space (map (λ (f : FreshUnit). f.unit) x.fresh)
-      → entries' ≡ entries ++ record { client = client; line = line; command = ask.Change change; answer = answer.Accepted; acks = acked } ∷ []
-      → Accepts client line change before (state_of m' submitted' (Some x) batch flying down events space' entries' commits acked)
-  accepted d client line change ready m' submitted' x place space' entries' kept may can prepared is_meta is_submitted is_context is_place is_space is_entries =
-      let idle : pending ≡ None = none_listed pending (idle_pending before d kept can.up (may.drained can.up)) in
-      record {
-        can_note = can;
-        not_refused = prepared.plan.not_refused;
-        plan = ready.plan;
-        plans = prepared.plan.plans;
-        fits = prepared.fits;
-        after = rw (is_meta, is_submitted, is_space, is_context, is_place, is_entries, prepared.copy, prepared.coll, prepared.need, idle) refl;
-      }
+  module _ (client line : ℕ) (change : Change) (ready : Prepared)
+      (m' : meta.Meta) (submitted' : Rows) (pending' : List Context) (x : Context) (place : ℕ) (space' : Space) (entries' : List Entry)
+      (can : CanNote before) (prepared : IsPrepared ready change before)
+      (is_meta : let after : meta.Meta = record m { reserved = m.reserved + ready.need } in m' ≡ after)
+      (is_submitted : submitted' ≡ rows_after submitted ready.copy) (is_pending : pending' ≡ pending ++ x ∷ [])
+      (is_context : x ≡ context_of place ready.coll ready.plan ready.need) (is_place : place ≡ length entries)
+      (is_space : space' ≡ taken space (map (λ (f : FreshUnit). f.unit) x.fresh))
+      (is_entries : entries' ≡ entries ++ record { client = client; line = line; command = ask.Change change; answer = answer.Accepted; acks = acked } ∷ []) where
+    -- the kernel's parts after it was accepted
+    abbrev after_it : State
+    after_it = state_of m' submitted' pending' batch flying down events space' entries' commits acked
+
+    pub accepted_state : after_it ≡ accepted_with client line change ready.plan before
+    accepted_state =
+        rw (is_meta, is_submitted, is_pending, is_space, is_context, is_place, is_entries, prepared.copy, prepared.coll, prepared.need) refl
+
+    pub accepted : Accepts client line change before after_it
+    accepted = record {
+      can_note = can;
+      not_refused = prepared.plan.not_refused;
+      plan = ready.plan;
+      plans = prepared.plan.plans;
+      fits = prepared.fits;
+      after = accepted_state;
+    }

@@ -1,101 +1,108 @@
 -- What the steps that the device has no part in do to the state.
-use Rattle.std.proofs.Common.{◌≡◌, inl, inr, ℕ, zero, suc, ◌+◌, ◌-◌, ◌^◌, ◌<◌, ◌≤◌, nat_lt, not, Bool, true, cond, List, [], ◌∷◌, ◌++◌, length, Option, Some, None, is_some, is_none, slice_get, get_or, set, refl, sym, ap, subst, ◌∙◌, append-nil, arith}
-use Rattle.std.specs.Prelude.{MatchOption, Contains}
+use Rattle.std.proofs.Common.{◌≡◌, inl, inr, ℕ, zero, suc, ◌+◌, ◌^◌, ◌<◌, ◌≤◌, nat_lt, Bool, true, false, cond, List, [], ◌∷◌, ◌++◌, length, Option, Some, None, is_some, is_none, slice_get, get_or, set, refl, sym, ap, subst, ◌∙◌, append-nil, arith}
+use Rattle.std.specs.Prelude.{Contains}
 use Rattle.unit_allocator.proofs.Lists.{Contains-head}
 use Rattle.std.proofs.lemmas.List.Elements.{Contains-append_right}
-use Rattle.std.proofs.lemmas.Bool.{eq-eqb, lt-ltb, le-ltb, and_parts, cases_lt}
+use Rattle.std.proofs.lemmas.Bool.{lt-ltb, le-ltb, and_parts, cases_lt}
 use Rattle.std.proofs.lemmas.Option.{IfSome_then}
 use Rattle.block_device.specs.Prelude.{Disk}
 use Rattle.object_model.specs.declared.book.Commit.{Commit}
 use Rattle.meta_rows.specs.declared.row_op.RowOp.{RowOp}
-use Rattle.meta_rows.specs.Prelude.{rows_after}
 use Rattle.meta_log.specs.Prelude.{unit_count, piece_count}
 use Rattle.meta_store.specs.Store as meta
 use Rattle.unit_allocator.specs.Prelude.{given}
 use Rattle.store_steps.specs.declared.context.Context.{Context}
 use Rattle.store_steps.specs.declared.flight.FlushState.TheVariants as flush
-use Rattle.store_steps.specs.Prelude.{State, chosen, without_context, batch_ops, batch_released, commit_of, log_after, committed_batch, acknowledged, is_ready, DoesTake, DoesCommit, DoesFinish}
-use Rattle.store_facts.specs.Prelude.{AcksAre, IsKept}
-use Rattle.store_facts.proofs.Prelude.{IsFirst, chosen_first, ready_not_down, ready_by_table, some_of, HasRecord, ReadyCommit, known_batch, known_commit, known_finish, data_within, space_given, back_data, back_in_turn}
-use Rattle.store_kernel.proofs.Sending.{alone}
+use Rattle.store_steps.specs.Prelude.{Batch, State, chosen, without_context, batch_released, log_after, acknowledged, is_ready, DoesTake, DoesCommit, DoesFinish}
+use Rattle.store_facts.specs.Prelude.{AcksAre, IsKept, IsLogFar, log_flying}
+use Rattle.store_facts.proofs.Prelude.{ready_not_down, ready_by_table, some_of, HasRecord, ReadyCommit, known_batch, known_commit, known_finish, data_within, space_given, back_data, back_in_turn}
+use Rattle.kv_worker.specs.Batches.{TakesOne, CanCommit, flushed_batch}
 use Rattle.store_image.specs.Prelude.{IsDataUnit}
 use Rattle.store_kernel.specs.declared.batch.OpenBatch.{OpenBatch}
-use Rattle.store_kernel.specs.Seen.{batch_of}
+use Rattle.store_kernel.specs.Seen.{contexts_of, batch_of, is_sealed, IsStageOf}
 use Rattle.store_kernel.specs.Units.{CanBeGiven}
 use Rattle.store_steps.specs.declared.step.Step.TheVariants as step
 
+-- ---- a batch of one
+
+-- what comes back at its commit
+one_released : (b : OpenBatch) (x : Context) → contexts_of b.stage ≡ x ∷ [] → batch_released (batch_of b) ≡ x.released
+one_released b x one =
+    ap (λ (xs : List Context). batch_released (record { contexts = xs; first = b.first; second = b.second })) one ∙ append-nil x.released
+
 -- ---- Take
 
-is_the_chosen : (s : State) (d : Disk) (x : Context) → is_ready step.Take d.depth s ≡ true → s.pending ≡ x ∷ [] → chosen s.pending ≡ Some x
-is_the_chosen s d x ready pending =
+-- where a batch is taken, one can be
+pub one_is_chosen : (s : State) (d : Disk) → is_ready step.Take d.depth s ≡ true → chosen s.pending ≡ None → ⊥
+one_is_chosen s d ready none =
     let table = ready_by_table s d.depth step.Take (ready_not_down s d.depth step.Take refl ready) ready in
     let found = some_of (chosen s.pending) (and_parts (is_none s.batch) (is_some (chosen s.pending)) table).1 in
-    let first : IsFirst [] found.0 s.pending = chosen_first [] s.pending found.0 found.1 in
-    found.1 ∙ ap Some (sym (alone (λ (y : Context). y ≡ found.0) x
-    (record { front = first.front; item = found.0; back = first.back; is = sym pending ∙ first.is; holds = refl })))
+    let both : None ≡ Some found.0 = sym none ∙ found.1 in
+    cc
 
-none_left : (x : Context) → without_context x.place (x ∷ []) ≡ []
-none_left x = ap (λ (b : Bool). cond (not b) (x ∷ []) []) (eq-eqb x.place x.place refl)
+-- and no record is begun
+pub none_begun : (s : State) (d : Disk) → IsKept s d → is_ready step.Take d.depth s ≡ true → false ≡ is_some s.log.begun
+none_begun s d kept ready =
+    let up : s.down ≡ None = ready_not_down s d.depth step.Take refl ready in
+    let table = ready_by_table s d.depth step.Take up ready in
+    of_batch s.batch (and_parts (is_none s.batch) (is_some (chosen s.pending)) table).0 (kept.up up).flights.log
+  where
+    of_batch : (o : Option Batch) → is_none o ≡ true → IsLogFar s.log.number o s.log.begun (log_flying s.flying) → false ≡ is_some s.log.begun
+    of_batch None none far = sym (ap is_some far.0)
+    of_batch (Some b) none far = cc
 
-pub take_does : (s : State) (d : Disk) (x : Context) → is_ready step.Take d.depth s ≡ true → s.pending ≡ x ∷ []
+pub take_does : (s : State) (d : Disk) (xs batch : List Context) (x : Context) → TakesOne s.pending xs batch → batch ≡ x ∷ []
     → DoesTake s d (record s {
-      pending = [];
-      batch = Some (record { contexts = x ∷ []; first = flush.NotSent; second = flush.NotSent });
+      pending = xs;
+      batch = Some (record { contexts = batch; first = flush.NotSent; second = flush.NotSent });
       book = record s.book { commits = s.book.commits ++ record { place = x.place; acked_at = None } ∷ [] };
     }) d
-take_does s d x ready pending = record {
-  context = x;
-  is_chosen = is_the_chosen s d x ready pending;
+take_does s d xs batch x takes is = record {
+  context = takes.context;
+  is_chosen = takes.is_chosen;
   same = refl;
-  after = ap (λ (l : List Context). let after : State = record s {
-    pending = l;
-    batch = Some (record { contexts = x ∷ []; first = flush.NotSent; second = flush.NotSent });
-    book = record s.book { commits = s.book.commits ++ commit_of x ∷ [] };
-  } in after)
-      (sym (ap (without_context x.place) pending ∙ none_left x));
+  after =
+      ap (λ (l : List Context). after_with l batch x.place) takes.left
+      ∙ ap (λ (l : List Context). after_with (without_context takes.context.place s.pending) l x.place) takes.is
+      ∙ ap (λ (p : ℕ). after_with (without_context takes.context.place s.pending) (takes.context ∷ []) p) (ap first_place (sym is ∙ takes.is));
 }
+  where
+    after_with : List Context → List Context → ℕ → State
+    after_with l b p = record s {
+      pending = l;
+      batch = Some (record { contexts = b; first = flush.NotSent; second = flush.NotSent });
+      book = record s.book { commits = s.book.commits ++ record { place = p; acked_at = None } ∷ [] };
+    }
+
+    first_place : List Context → ℕ
+    first_place [] = 0
+    first_place (y ∷ ys) = y.place
 
 -- ---- Commit
 
--- the record that is being written, as the metadata store has it
-pub record Written (m : meta.Meta) (b : OpenBatch) : Type 0 where
-  pub now : meta.Begun
-  pub begun : m.begun ≡ Some now
-  pub ops : now.ops ≡ b.context.ops
-  pub all : now.written ≡ meta.piece_count_of m now
-
-written_of : (m : meta.Meta) (b : OpenBatch) (r : meta.Begun) → m.begun ≡ Some r → r.ops ≡ batch_ops (batch_of b)
-    → r.written ≡ piece_count (unit_count m.number (batch_ops (batch_of b))) → Written m b
-written_of m b r is ops written = record {
-  now = r;
-  begun = is;
-  ops = ops ∙ append-nil b.context.ops;
-  all = written ∙ ap (λ (l : List RowOp). piece_count (unit_count m.number l)) (sym ops);
-}
-
-pub is_written : (s : State) (d : Disk) (m : meta.Meta) (b : OpenBatch) → IsKept s d → is_ready step.Commit d.depth s ≡ true
-    → s.batch ≡ Some (batch_of b) → s.log ≡ m → Written m b
-is_written s d m b kept ready batch log =
+-- the record that is being written is the batch's, and all of it is written
+pub can_commit : (s : State) (d : Disk) (m : meta.Meta) (b : OpenBatch) → IsKept s d → is_ready step.Commit d.depth s ≡ true
+    → s.batch ≡ Some (batch_of b) → s.log ≡ m → CanCommit (contexts_of b.stage) m
+can_commit s d m b kept ready batch log =
     let facts : ReadyCommit s (batch_of b) = known_commit s d (batch_of b) kept ready batch in
-    written_of m b facts.writing (ap (λ (l : meta.Meta). l.begun) (sym log) ∙ facts.begun) facts.ops
-    (subst (λ (l : meta.Meta). facts.writing.written ≡ piece_count (unit_count l.number (batch_ops (batch_of b)))) log facts.written)
+    let of_batch : HasRecord s (batch_of b) = known_batch s d (batch_of b) kept (ready_not_down s d.depth step.Commit refl ready) batch in
+    subst (CanCommit (contexts_of b.stage)) log (record {
+      writing = facts.writing;
+      begun = facts.begun;
+      ops = facts.ops;
+      written = facts.written ∙ ap (λ (l : List RowOp). piece_count (unit_count s.log.number l)) (sym facts.ops);
+      reserved = of_batch.needs;
+    })
 
-pub can_flush : (m : meta.Meta) (b : OpenBatch) → Written m b → meta.IsAllWritten m
-can_flush m b w = subst (λ (o : Option meta.Begun). MatchOption o ⊥ (λ (r : meta.Begun). r.written ≡ meta.piece_count_of m r)) (sym w.begun) w.all
-
--- what the contexts had reserved is reserved
-pub can_release : (s : State) (d : Disk) (m : meta.Meta) (b : OpenBatch) → IsKept s d → is_ready step.Commit d.depth s ≡ true → s.batch ≡ Some (batch_of b) → s.log ≡ m
-    → b.context.need ≤ (meta.after_flush m m.begun).reserved
-can_release s d m b kept ready batch log =
-    let facts : HasRecord s (batch_of b) = known_batch s d (batch_of b) kept (ready_not_down s d.depth step.Commit refl ready) batch in
-    let w : Written m b = is_written s d m b kept ready batch log in
-    let same : (meta.after_flush m m.begun).reserved ≡ s.log.reserved = ap (λ (o : Option meta.Begun). (meta.after_flush m o).reserved) w.begun ∙ ap (λ (l : meta.Meta). l.reserved) (sym log) in
-    omega (arith, facts.needs, same)
+-- so its record is made
+pub is_made : (s : State) (d : Disk) (b : OpenBatch) → IsKept s d → is_ready step.Commit d.depth s ≡ true → s.batch ≡ Some (batch_of b)
+    → IsStageOf s.log.begun (Some b) → is_sealed b.stage ≡ true
+is_made s d b kept ready batch stage = stage ∙ ap is_some (known_commit s d (batch_of b) kept ready batch).begun
 
 -- the released units can come back
-pub come_back : (s : State) (d : Disk) (b : OpenBatch) → IsKept s d → is_ready step.Commit d.depth s ≡ true → s.batch ≡ Some (batch_of b)
-    → CanBeGiven b.context.released s.space
-come_back s d b kept ready batch front rest u is = record {
+pub come_back : (s : State) (d : Disk) (b : OpenBatch) (x : Context) → IsKept s d → is_ready step.Commit d.depth s ≡ true → s.batch ≡ Some (batch_of b)
+    → contexts_of b.stage ≡ x ∷ [] → CanBeGiven x.released s.space
+come_back s d b x kept ready batch one front rest u is = record {
   within = data_within s.log.sup (given s.space front) u (space_given s.log.sup s.space front kept.always.space) on;
   taken = back_in_turn s d kept up (batch_of b) batch front rest u all;
   fits = below u s.log.sup.units on.1 kept.always.limits.units_most;
@@ -105,7 +112,7 @@ come_back s d b kept ready batch front rest u is = record {
     up = ready_not_down s d.depth step.Commit refl ready
 
     all : batch_released (batch_of b) ≡ front ++ (u ∷ rest)
-    all = append-nil b.context.released ∙ is
+    all = one_released b x one ∙ is
 
     on : IsDataUnit s.log.sup u
     on = back_data s d kept up (batch_of b) batch u
@@ -114,44 +121,19 @@ come_back s d b kept ready batch front rest u is = record {
     below : (u units : ℕ) → u < units → units ≤ 1048576 → u + 1 < 2 ^ 32
     below u units lt most = omega (arith, lt, most)
 
-pub commit_does : (s : State) (d : Disk) (m : meta.Meta) (b : OpenBatch) → IsKept s d → is_ready step.Commit d.depth s ≡ true → s.batch ≡ Some (batch_of b) → s.log ≡ m
-    → DoesCommit s d (record s {
-      log = (let flushed : meta.Meta = meta.after_flush m m.begun in (record flushed { reserved = flushed.reserved - b.context.need }));
-      batch = None;
-      space = given s.space b.context.released;
-    }) d
-commit_does s d m b kept ready batch log = record { batch = batch_of b; begun = batch; same = refl; after = after }
-  where
-    w : Written m b
-    w = is_written s d m b kept ready batch log
-
-    ops_same : w.now.ops ≡ batch_ops (batch_of b)
-    ops_same = w.ops ∙ sym (append-nil b.context.ops)
-
-    none_more : (n : ℕ) → n ≡ n + 0
-    none_more n = omega arith
-
-    log_same : (let flushed : meta.Meta = meta.after_flush m m.begun in (record flushed { reserved = flushed.reserved - b.context.need })) ≡ log_after (batch_of b) s.log
-    log_same =
-        ap (λ (o : Option meta.Begun). let flushed : meta.Meta = meta.after_flush m o in (record flushed { reserved = flushed.reserved - b.context.need })) w.begun
-        ∙ ap (λ (ops : List RowOp). let l : meta.Meta = record m {
-          rows = rows_after m.rows ops;
-          tail = m.tail + unit_count m.number ops;
-          number = m.number + 1;
-          reserved = m.reserved - b.context.need;
-          begun = None;
-        } in l) ops_same
-        ∙ ap (λ (need : ℕ). let l : meta.Meta = record (log_after (batch_of b) m) { reserved = m.reserved - need } in l) (none_more b.context.need)
-        ∙ ap (log_after (batch_of b)) (sym log)
-
-    after : (let later : State = record s {
-      log = (let flushed : meta.Meta = meta.after_flush m m.begun in (record flushed { reserved = flushed.reserved - b.context.need }));
-      batch = None;
-      space = given s.space b.context.released;
-    } in later) ≡ committed_batch (batch_of b) s
-    after =
-        ap (λ (l : meta.Meta). let later : State = record s { log = l; batch = None; space = given s.space b.context.released } in later) log_same
-        ∙ ap (λ (units : List ℕ). let later : State = record s { log = log_after (batch_of b) s.log; batch = None; space = given s.space units } in later) (sym (append-nil b.context.released))
+pub commit_does : (s : State) (d : Disk) (m m' : meta.Meta) (b : OpenBatch) (x : Context) → s.batch ≡ Some (batch_of b) → s.log ≡ m
+    → contexts_of b.stage ≡ x ∷ [] → m' ≡ log_after (flushed_batch (contexts_of b.stage)) m
+    → DoesCommit s d (record s { log = m'; batch = None; space = given s.space x.released }) d
+commit_does s d m m' b x batch log one made = record {
+  batch = batch_of b;
+  begun = batch;
+  same = refl;
+  after =
+      ap (λ (l : meta.Meta). let later : State = record s { log = l; batch = None; space = given s.space x.released } in later)
+      (made ∙ ap (log_after (flushed_batch (contexts_of b.stage))) (sym log))
+      ∙ ap (λ (units : List ℕ). let later : State = record s { log = log_after (batch_of b) s.log; batch = None; space = given s.space units } in later)
+      (sym (one_released b x one));
+}
 
 -- ---- Finish
 

@@ -1,5 +1,5 @@
 -- What the end of a submission does to the state.
-use Rattle.std.proofs.Common.{◌≡◌, ℕ, ◌+◌, ◌^◌, ◌<◌, ◌≤◌, not, Bool, true, false, cond, List, [], ◌∷◌, length, Option, Some, None, is_some, IfSome, refl, sym, ap, subst, ◌∙◌, arith}
+use Rattle.std.proofs.Common.{◌≡◌, ℕ, ◌+◌, ◌<◌, ◌≤◌, not, Bool, true, false, cond, List, [], ◌∷◌, ◌++◌, map, Option, Some, None, is_some, IfSome, refl, sym, ap, subst, ◌∙◌, arith}
 use Rattle.std.specs.Option.{option_map, option_or}
 use Rattle.std.specs.Prelude.{MatchOption}
 use Rattle.std.proofs.lemmas.Option.{same_Some}
@@ -11,15 +11,16 @@ use Rattle.store_steps.specs.declared.flight.FlushState.TheVariants as flush
 use Rattle.store_steps.specs.declared.flight.Flying.{Flying}
 use Rattle.store_steps.specs.declared.flight.Job.{Job}
 use Rattle.store_steps.specs.declared.flight.Job.TheVariants as job
-use Rattle.store_steps.specs.Prelude.{Batch, State, with_context, done_more, after_done, after_good, first_flushed, second_flushed, written_more, down_by, flying_of, landed, Takes}
+use Rattle.store_steps.specs.Prelude.{Batch, State, after_done, after_good, first_flushed, second_flushed, written_more, down_by, flying_of, landed, Takes}
 use Rattle.std.specs.List.{AllByRecursion}
-use Rattle.store_facts.specs.Prelude.{IsPartGiven, IsKept}
+use Rattle.store_facts.specs.Prelude.{IsKept}
 use Rattle.store_facts.proofs.Prelude.{StandsIn, others_of, landed_flight, reaped_good, IsLeftOut, left_out, IsOf, found_tells}
 use Rattle.store_kernel.specs.declared.batch.OpenBatch.{OpenBatch}
-use Rattle.store_kernel.specs.Seen.{listed, batch_of}
-use Rattle.store_kernel.specs.Seen as seen
-use Rattle.store_kernel.specs.Ends.{with_first, with_second, pending_after, batch_after, meta_after}
-use Rattle.store_kernel.proofs.Sending.{with_one, alone, few_fresh}
+use Rattle.store_kernel.specs.Seen.{batch_of}
+use Rattle.store_kernel.specs.Ends.{with_first, with_second, contexts_after, batch_after, meta_after}
+use Rattle.waiting_contexts.specs.Places.{context_at}
+use Rattle.unit_fields.specs.Prelude.{Ascends}
+use Rattle.std.proofs.lemmas.Bool.{eq-eqb, ne_eqb}
 
 -- what has ended was in flight
 landed_one : (s : State) (d d' : Disk) (t : Ticket) (ok : Bool) → IsKept s d → Reaped d t.place ok d' → IsLeftOut t s.flying
@@ -96,22 +97,29 @@ tells : (s : State) (d : Disk) (t : Ticket) (j : Job) → IsKept s d → s.down 
 tells s d t j kept down ended =
     subst (IsOf s.pending s.batch s.log.begun t.place) ended.its_job (found_tells s d.flights t ended.out (kept.up down).flights)
 
--- a data write was of the one context
-tells_data : (s : State) (d : Disk) (x : Context) (t : Ticket) (place count : ℕ) → IsKept s d → s.down ≡ None → s.pending ≡ x ∷ []
-    → EndedFor s t (job.Data place count) → (x.place ≡ place) × (x.done + count ≤ x.given)
-tells_data s d x t place count kept down pending ended = alone (λ (y : Context). (y.place ≡ place) × (y.done + count ≤ y.given)) x
-    (subst (StandsIn (λ (y : Context). (y.place ≡ place) × (y.done + count ≤ y.given))) pending (tells s d t (job.Data place count) kept down ended))
-
--- its units can be counted
-pub can_count_done : (s : State) (d : Disk) (p : Option Context) (t : Ticket) (j : Job) → IsKept s d → s.down ≡ None → s.pending ≡ listed p
-    → EndedFor s t j → (place count : ℕ) → j ≡ job.Data place count → IfSome p (λ x. x.done + count < 2 ^ 32)
-can_count_done s d None t j kept down pending ended place count is = tt
-can_count_done s d (Some x) t j kept down pending ended place count is =
-    few x.done count x.given (length x.fresh) (tells_data s d x t place count kept down pending (subst (EndedFor s t) is ended)).1
-    (subst (AllByRecursion (IsPartGiven s.flying)) pending (kept.up down).flights.waiting).0.within (few_fresh s d x kept down pending)
+-- of several contexts whose places ascend the one at a place is found
+found_there : (P : Context → Type 0) (place : ℕ) (front : List Context) (x : Context) (back : List Context)
+    → Ascends (map (λ (y : Context). y.place) (front ++ x ∷ back)) → x.place ≡ place → P x → IfSome (context_at place (front ++ x ∷ back)) P
+found_there P place [] x back ascend same holds =
+    subst (λ (b : Bool). IfSome (cond b (Some x) (context_at place back)) P) (sym (eq-eqb x.place place same)) holds
+found_there P place (y ∷ front) x back ascend same holds =
+    subst (λ (b : Bool). IfSome (cond b (Some y) (context_at place (front ++ x ∷ back))) P)
+    (sym (ne_eqb y.place place (λ e. absurd (omega (arith, e, same, before front ascend.0)))))
+    (found_there P place front x back ascend.1 same holds)
   where
-    few : (done count given all : ℕ) → done + count ≤ given → given ≤ all → all ≤ 1048576 → done + count < 2 ^ 32
-    few done count given all one two three = omega (arith, one, two, three)
+    before : (zs : List Context) → AllByRecursion (λ v. y.place < v) (map (λ (z : Context). z.place) (zs ++ x ∷ back)) → y.place < x.place
+    before [] all = all.0
+    before (z ∷ zs) all = before zs all.1
+
+-- so many units of the context of a data write were given that weren't counted as done
+pub can_count_done : (s : State) (d : Disk) (t : Ticket) (j : Job) → IsKept s d → s.down ≡ None → EndedFor s t j → (place count : ℕ)
+    → j ≡ job.Data place count → IfSome (context_at place s.pending) (λ x. x.done + count ≤ x.given)
+can_count_done s d t j kept down ended place count is =
+    let at : StandsIn (λ (y : Context). (y.place ≡ place) × (y.done + count ≤ y.given)) s.pending =
+    tells s d t (job.Data place count) kept down (subst (EndedFor s t) is ended) in
+    subst (λ (xs : List Context). IfSome (context_at place xs) (λ x. x.done + count ≤ x.given)) (sym at.is)
+    (found_there (λ x. x.done + count ≤ x.given) place at.front at.item at.back
+    (subst (λ (xs : List Context). Ascends (map (λ (y : Context). y.place) xs)) at.is (kept.up down).flights.places.ascend) at.holds.0 at.holds.1)
 
 -- a piece of a record that was in flight is of one that is being written
 pub piece_out : (s : State) (d : Disk) (m : meta.Meta) (t : Ticket) (j : Job) → IsKept s d → s.down ≡ None → s.log ≡ m → EndedFor s t j → j ≡ job.Record
@@ -142,48 +150,36 @@ second_of : (b : Option OpenBatch) → option_map batch_of (option_map (with_sec
 second_of None = refl
 second_of (Some b) = refl
 
--- the one context has the place of the data write
-counted : (s : State) (d : Disk) (p : Option Context) (t : Ticket) (place count : ℕ) → IsKept s d → s.down ≡ None → s.pending ≡ listed p
-    → EndedFor s t (job.Data place count) → listed (option_map (done_more count) p) ≡ with_context place (done_more count) s.pending
-counted s d None t place count kept down pending ended = sym (ap (with_context place (done_more count)) pending)
-counted s d (Some x) t place count kept down pending ended =
-    sym (ap (with_context place (done_more count)) pending
-    ∙ with_one x place (done_more count) (tells_data s d x t place count kept down pending ended).0)
-
-done_is : (s : State) (d : Disk) (m : meta.Meta) (p : Option Context) (b : Option OpenBatch) (t : Ticket) (j : Job) → IsKept s d → s.down ≡ None
-    → s.log ≡ m → s.pending ≡ listed p → s.batch ≡ option_map batch_of b → EndedFor s t j
-    → with_parts s (others_of t s.flying) ((meta_after j m)) (listed (pending_after j p)) (option_map batch_of (batch_after j b))
+done_is : (s : State) (m : meta.Meta) (b : Option OpenBatch) (t : Ticket) (j : Job) → s.log ≡ m → s.batch ≡ option_map batch_of b
+    → with_parts s (others_of t s.flying) ((meta_after j m)) (contexts_after j s.pending) (option_map batch_of (batch_after j b))
     ≡ after_done j (landed t s)
-done_is s d m p b t (job.Data place count) kept down log pending batch ended =
-    same_parts s (others_of t s.flying) m s.log _ _ _ s.batch (sym log) (counted s d p t place count kept down pending ended) (sym batch)
-done_is s d m p b t job.DataFlush kept down log pending batch ended =
-    same_parts s (others_of t s.flying) m s.log _ s.pending _ _ (sym log) (sym pending)
-    (first_of b ∙ ap (option_map first_flushed) (sym batch))
-done_is s d m p b t job.Record kept down log pending batch ended =
+done_is s m b t (job.Data place count) log batch = same_parts s (others_of t s.flying) m s.log _ _ _ s.batch (sym log) refl (sym batch)
+done_is s m b t job.DataFlush log batch =
+    same_parts s (others_of t s.flying) m s.log _ s.pending _ _ (sym log) refl (first_of b ∙ ap (option_map first_flushed) (sym batch))
+done_is s m b t job.Record log batch =
     same_parts s (others_of t s.flying) ((meta.with_written m)) _ _ s.pending _ s.batch
-    (ap (λ (l : meta.Meta). let k : meta.Meta = record l { begun = option_map written_more l.begun } in k) (sym log)) (sym pending) (sym batch)
-done_is s d m p b t job.RecordFlush kept down log pending batch ended =
-    same_parts s (others_of t s.flying) m s.log _ s.pending _ _ (sym log) (sym pending)
-    (second_of b ∙ ap (option_map second_flushed) (sym batch))
+    (ap (λ (l : meta.Meta). let k : meta.Meta = record l { begun = option_map written_more l.begun } in k) (sym log)) refl (sym batch)
+done_is s m b t job.RecordFlush log batch =
+    same_parts s (others_of t s.flying) m s.log _ s.pending _ _ (sym log) refl (second_of b ∙ ap (option_map second_flushed) (sym batch))
 
-pub good_takes : (s : State) (d d' : Disk) (t : Ticket) (j : Job) (m : meta.Meta) (p : Option Context) (b : Option OpenBatch) (flying : List Flying)
-    → IsKept s d → s.down ≡ None → s.log ≡ m → s.pending ≡ listed p → s.batch ≡ option_map batch_of b → flying ≡ others_of t s.flying
+pub good_takes : (s : State) (d d' : Disk) (t : Ticket) (j : Job) (m : meta.Meta) (b : Option OpenBatch) (flying : List Flying)
+    → IsKept s d → s.down ≡ None → s.log ≡ m → s.batch ≡ option_map batch_of b → flying ≡ others_of t s.flying
     → option_map (λ (f : Flying). f.job) (flying_of t s.flying) ≡ Some j → Reaped d t.place true d'
     → Takes s d true (record s {
       log = (meta_after j m);
-      pending = listed (pending_after j p);
+      pending = contexts_after j s.pending;
       batch = option_map batch_of (batch_after j b);
       flying = flying;
       events = s.events + 1;
     }) d'
-good_takes s d d' t j m p b flying kept down log pending batch left is ended =
+good_takes s d d' t j m b flying kept down log batch left is ended =
     let out : EndedFor s t j = ended_for s d d' t true j kept ended is in
     record {
       ticket = t;
       ended = ended;
       after =
-          ap (λ (l : List Flying). with_parts s l ((meta_after j m)) (listed (pending_after j p)) (option_map batch_of (batch_after j b))) left
-          ∙ done_is s d m p b t j kept down log pending batch out
+          ap (λ (l : List Flying). with_parts s l ((meta_after j m)) (contexts_after j s.pending) (option_map batch_of (batch_after j b))) left
+          ∙ done_is s m b t j log batch
           ∙ ap (λ (k : Job). after_done k (landed t s)) (sym out.its_job)
           ∙ sym (reaped_good s t out.out.flight down out.out.found);
     }

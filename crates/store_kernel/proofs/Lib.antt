@@ -1,5 +1,4 @@
 pub mod SpaceCalls
-pub mod NextWrites
 pub mod Admitting
 pub mod Sending
 pub mod Batches
@@ -7,3 +6,6 @@ pub mod Ending
 pub mod Opening
 pub mod Keeping
 pub mod Reading
+pub mod Stages
+pub mod BufferLemmas
+pub mod Memories

@@ -1,28 +1,29 @@
 -- A kernel as it is opened.
 use Rattle.std.proofs.Common.{◌≡◌, ℕ, Bool, true, false, not, ◌||◌, cond, filter, Option, None, List, [], ◌∷◌, refl, ap, ◌∙◌}
 use Rattle.std.specs.List.{list_any}
-use Rattle.std.specs.FinSet as set
 use Rattle.meta_rows.specs.Prelude.{Rows}
 use Rattle.meta_store.specs.Store.{Begun, Meta}
 use Rattle.object_model.specs.declared.book.Entry.{Entry}
 use Rattle.object_model.specs.declared.book.Commit.{Commit}
 use Rattle.unit_allocator.specs.Prelude.{Space}
+use Rattle.store_steps.specs.declared.context.Context.{Context}
 use Rattle.store_steps.specs.declared.flight.Flying.{Flying}
 use Rattle.store_steps.specs.Prelude.{opened, is_empty}
 use Rattle.store_steps.specs.declared.step.Step.{Step}
 use Rattle.store_kernel.specs.Seen.{found_of, IsUnused, state_of}
 
 -- the state of the kernel's fields as they begin
-pub opened_is : (m : Meta) (rows : Rows) (flying : List Flying) (entries : List Entry) (commits : List Commit) (space : Space) (events : ℕ)
-    → IsUnused m → rows ≡ m.rows → flying ≡ [] → entries ≡ [] → commits ≡ []
-    → state_of m rows None None flying None events space entries commits 0 ≡ opened (found_of m) space events
-opened_is m rows flying entries commits space events unused same none_flying none_entered none_committed =
-    ap (λ (x : Rows). state_of m x None None flying None events space entries commits 0) same
-    ∙ ap (λ (x : List Flying). state_of m m.rows None None x None events space entries commits 0) none_flying
-    ∙ ap (λ (x : List Entry). state_of m m.rows None None [] None events space x commits 0) none_entered
-    ∙ ap (λ (x : List Commit). state_of m m.rows None None [] None events space [] x 0) none_committed
-    ∙ ap (λ (r : ℕ). let t : Meta = record m { reserved = r } in state_of t m.rows None None [] None events space [] [] 0) unused.none_reserved
-    ∙ ap (λ (b : Option Begun). let t : Meta = record m { reserved = 0; begun = b } in state_of t m.rows None None [] None events space [] [] 0)
+pub opened_is : (m : Meta) (rows : Rows) (pending : List Context) (flying : List Flying) (entries : List Entry) (commits : List Commit) (space : Space) (events : ℕ)
+    → IsUnused m → rows ≡ m.rows → pending ≡ [] → flying ≡ [] → entries ≡ [] → commits ≡ []
+    → state_of m rows pending None flying None events space entries commits 0 ≡ opened (found_of m) space events
+opened_is m rows pending flying entries commits space events unused same none_pending none_flying none_entered none_committed =
+    ap (λ (x : Rows). state_of m x pending None flying None events space entries commits 0) same
+    ∙ ap (λ (x : List Context). state_of m m.rows x None flying None events space entries commits 0) none_pending
+    ∙ ap (λ (x : List Flying). state_of m m.rows [] None x None events space entries commits 0) none_flying
+    ∙ ap (λ (x : List Entry). state_of m m.rows [] None [] None events space x commits 0) none_entered
+    ∙ ap (λ (x : List Commit). state_of m m.rows [] None [] None events space [] x 0) none_committed
+    ∙ ap (λ (r : ℕ). let t : Meta = record m { reserved = r } in state_of t m.rows [] None [] None events space [] [] 0) unused.none_reserved
+    ∙ ap (λ (b : Option Begun). let t : Meta = record m { reserved = 0; begun = b } in state_of t m.rows [] None [] None events space [] [] 0)
     unused.none_begun
 
 -- no step is ready where none of them all is

@@ -1,29 +1,28 @@
 -- What the steps that submit ask of the device, and what they do to the state.
-use Rattle.std.proofs.Common.{◌≡◌, ℕ, ◌+◌, ◌*◌, ◌%◌, ◌^◌, ◌<◌, ◌≤◌, nat_lt, Bool, true, false, cond, List, [], ◌∷◌, ◌++◌, length, map, Option, Some, None, IfSome, refl, sym, ap, subst, ◌∙◌, append-nil, length-append, arith}
+use Rattle.std.proofs.Common.{◌≡◌, is_none, is_some, ℕ, ◌+◌, ◌*◌, ◌%◌, ◌<◌, ◌≤◌, nat_lt, Bool, true, false, List, [], ◌∷◌, ◌++◌, length, map, Option, Some, None, refl, sym, ap, subst, ◌∙◌, arith}
 use Rattle.std.specs.Option.{option_map, option_map_or}
 use Rattle.std.specs.List.{AllByRecursion}
-use Rattle.std.proofs.lemmas.Bool.{eq-eqb, and_parts}
+use Rattle.std.proofs.lemmas.Bool.{and_parts}
 use Rattle.block_device.specs.Prelude.{Disk, Submitted, IsNotInFlight}
 use Rattle.block_device.specs.declared.device.Ticket.{Ticket}
 use Rattle.block_device.specs.declared.event.Event.TheVariants as event
 use Rattle.unit_fields.specs.Prelude.{Ascends}
-use Rattle.meta_rows.specs.declared.row_op.RowOp.{RowOp}
-use Rattle.meta_log.specs.Prelude.{unit_count, IsSealable}
 use Rattle.meta_store.specs.Store as meta
-use Rattle.store_image.specs.Prelude.{IsDataUnit}
 use Rattle.plan_rows.specs.declared.plan.FreshUnit.{FreshUnit}
 use Rattle.store_steps.specs.declared.context.Context.{Context}
 use Rattle.store_steps.specs.declared.flight.FlushState.TheVariants as flush
 use Rattle.store_steps.specs.declared.flight.Job.TheVariants as job
 use Rattle.store_steps.specs.declared.step.Step.TheVariants.{Data, Flush, Seal, Record, Sync}
-use Rattle.store_steps.specs.Prelude.{Batch, State, Unsent, unsent_units, run_bytes, next_unsent, with_context, given_more, batch_ops, data_sent, is_ready, DoesData, DoesFlush, DoesSeal, DoesRecord, DoesSync, piece_unit, intent_of}
+use Rattle.store_steps.specs.Prelude.{Batch, State, Unsent, unsent_units, run_bytes, next_unsent, with_context, given_more, is_ready, DoesData, DoesFlush, DoesSeal, DoesRecord, DoesSync, piece_unit}
 use Rattle.store_steps.specs.Steps as steps
-use Rattle.store_facts.specs.Prelude.{FitsRecord, IsKept, IsKeptUp}
-use Rattle.store_facts.proofs.Prelude.{StandsIn, HasRecord, pending_fits, number_low, known_data_room, known_record_room, known_seal, next_data_untouched, data_inside, few_units, whole_units, next_piece_untouched, ready_not_down, ready_by_table, pending_on_data, IsRunOf, next_stands, all_then}
+use Rattle.store_facts.specs.Prelude.{IsKept}
+use Rattle.store_facts.proofs.Prelude.{HasRecord, number_low, known_data_room, known_record_room, known_seal, next_data_untouched, data_inside, few_units, whole_units, next_piece_untouched, ready_not_down, ready_by_table}
 use Rattle.store_kernel.specs.declared.batch.OpenBatch.{OpenBatch}
-use Rattle.store_kernel.specs.declared.pending.NextWrite.{NextWrite}
-use Rattle.store_kernel.specs.Runs.{IsWriteOf}
-use Rattle.store_kernel.specs.Seen.{listed, batch_of}
+use Rattle.txn_states.specs.declared.next_write.NextWrite.{NextWrite}
+use Rattle.txn_states.specs.Writes.{IsWrite}
+use Rattle.waiting_contexts.specs.Unsent.{IsOfNext}
+use Rattle.kv_worker.specs.Batches.{CanSeal, ops_of}
+use Rattle.store_kernel.specs.Seen.{contexts_of, batch_of}
 use Rattle.store_kernel.specs.Ends.{with_first, with_second}
 
 -- what the device asks of a write of these bytes from this unit on
@@ -35,10 +34,10 @@ pub record CanWrite (d : Disk) (at size : ℕ) : Type 0 where
   pub inside : 4096 * at + size ≤ 4096 * d.units
   pub free : IsNotInFlight d at size
 
--- ---- a context that waits
+-- ---- units in order
 
 -- so many units are not more than those between two numbers that they lie between
-few_between : (lo end : ℕ) (fs : List FreshUnit) → lo ≤ end → AllByRecursion (λ f. lo ≤ f.unit) fs → AllByRecursion (λ f. f.unit < end) fs
+pub few_between : (lo end : ℕ) (fs : List FreshUnit) → lo ≤ end → AllByRecursion (λ f. lo ≤ f.unit) fs → AllByRecursion (λ f. f.unit < end) fs
     → Ascends (map (λ f. f.unit) fs) → lo + length fs ≤ end
 few_between lo end [] within above below ascend = omega (arith, within)
 few_between lo end (f ∷ fs) within above below ascend =
@@ -49,33 +48,9 @@ few_between lo end (f ∷ fs) within above below ascend =
     higher [] all = tt
     higher (g ∷ gs) all = (omega (arith, above.0, all.0), higher gs all.1)
 
--- those of the context that waits are so few that they can be counted
-pub few_fresh : (s : State) (d : Disk) (x : Context) → IsKept s d → s.down ≡ None → s.pending ≡ x ∷ [] → length x.fresh ≤ 1048576
-few_fresh s d x kept down pending =
-    let up : IsKeptUp s d = kept.up down in
-    let fits : FitsRecord (intent_of x) = (subst (AllByRecursion (λ (c : Context). FitsRecord (intent_of c))) pending (pending_fits s up.room)).0 in
-    let on_data : AllByRecursion (λ (f : FreshUnit). IsDataUnit s.log.sup f.unit) x.fresh =
-    (subst (AllByRecursion (λ (c : Context). AllByRecursion (λ f. IsDataUnit s.log.sup f.unit) c.fresh)) pending (pending_on_data s d kept down)).0 in
-    let most : 0 + length x.fresh ≤ s.log.sup.units = few_between 0 s.log.sup.units x.fresh (omega arith)
-    (all_then (λ f. IsDataUnit s.log.sup f.unit) (λ f. 0 ≤ f.unit) (λ f on. omega arith) x.fresh on_data)
-    (all_then (λ f. IsDataUnit s.log.sup f.unit) (λ f. f.unit < s.log.sup.units) (λ f on. on.1) x.fresh on_data) fits.ascend in
-    omega (arith, most, kept.always.limits.units_most)
-
--- what holds of the one that stands in a list of one
-pub alone : {A : Type 0} (P : A → Type 0) (x : A) → StandsIn P (x ∷ []) → P x
-alone {A} P x at = of_front at.front at.is
-  where
-    of_front : (front : List A) → x ∷ [] ≡ front ++ at.item ∷ at.back → P x
-    of_front [] is = let same : x ≡ at.item = cc in subst P (sym same) at.holds
-    of_front (y ∷ front) is = absurd (omega (arith, ap (λ (l : List A). length l) is, length-append front (at.item ∷ at.back)))
-
 -- ---- Data
 
--- the change of the one context
-pub with_one : (x : Context) (place : ℕ) (change : Context → Context) → x.place ≡ place → with_context place change (x ∷ []) ≡ change x ∷ []
-with_one x place change same = ap (λ (b : Bool). cond b (change x) x ∷ []) (eq-eqb x.place place same)
-
-pub can_write_data : (s : State) (d : Disk) (w : NextWrite) → IsKept s d → is_ready Data d.depth s ≡ true → IsWriteOf s.pending w
+pub can_write_data : (s : State) (d : Disk) (w : NextWrite) → IsKept s d → is_ready Data d.depth s ≡ true → IsWrite (next_unsent s.pending) w
     → CanWrite d w.unit (length w.bytes.items)
 can_write_data s d w kept ready is =
     let n : Unsent = is.next in
@@ -105,60 +80,36 @@ can_write_data s d w kept ready is =
     there : (first unit bytes size units : ℕ) → unit ≡ first → size ≡ bytes → 4096 * first + bytes ≤ 4096 * units → 4096 * unit + size ≤ 4096 * units
     there first unit bytes size units one two le = omega (arith, one, two, le)
 
--- the next write is of the one context
-run_alone : (x : Context) (n : Unsent) → next_unsent (x ∷ []) ≡ Some n → IsRunOf x n
-run_alone x n is = alone (λ (y : Context). IsRunOf y n) x (next_stands (x ∷ []) n is)
-
--- the units that are given can be counted
-pub can_count_given : (s : State) (d : Disk) (p : Option Context) (w : NextWrite) → IsKept s d → is_ready Data d.depth s ≡ true → s.pending ≡ listed p
-    → IsWriteOf (listed p) w → IfSome p (λ x. x.given + w.count < 2 ^ 32)
-can_count_given s d None w kept ready pending is = tt
-can_count_given s d (Some x) w kept ready pending is =
-    few x.given w.count (length (unsent_units is.next)) (length x.fresh) is.count (run_alone x is.next is.is_next).within
-    (few_fresh s d x kept (ready_not_down s d.depth Data refl ready) pending)
-  where
-    few : (given count units all : ℕ) → count ≡ units → given + units ≤ all → all ≤ 1048576 → given + count < 2 ^ 32
-    few given count units all is within most = omega (arith, is, within, most)
+-- its units are the first ones of the next write
+pub is_of_next : (xs : List Context) (w : NextWrite) → IsWrite (next_unsent xs) w → IsOfNext w.place w.count (next_unsent xs)
+is_of_next xs w is = record { next = is.next; is_next = is.is_next; of_place = sym is.place; within = omega (arith, is.count) }
 
 -- one more data write is in flight
-abbrev sent_as : State → Ticket → ℕ → ℕ → List Context → State
-sent_as s t place count xs = record s {
-  pending = xs;
+abbrev sent_as : State → Ticket → ℕ → ℕ → State
+sent_as s t place count = record s {
+  pending = with_context place (given_more count) s.pending;
   flying = s.flying ++ record { ticket = t; job = job.Data place count } ∷ [];
   events = s.events + 1;
 }
 
-pub data_does : (s : State) (d d' : Disk) (p : Option Context) (w : NextWrite) (t : Ticket) → s.pending ≡ listed p → IsWriteOf (listed p) w
+pub data_does : (s : State) (d d' : Disk) (w : NextWrite) (t : Ticket) → IsWrite (next_unsent s.pending) w
     → Submitted d t.place (event.Write w.unit w.bytes.items) d'
     → DoesData s d (record s {
-      pending = listed (option_map (given_more w.count) p);
+      pending = with_context w.place (given_more w.count) s.pending;
       flying = s.flying ++ record { ticket = t; job = job.Data w.place w.count } ∷ [];
       events = s.events + 1;
     }) d'
-data_does s d d' None w t pending is submitted = let none : None ≡ Some is.next = is.is_next in absurd cc
-data_does s d d' (Some x) w t pending is submitted = record {
+data_does s d d' w t is submitted = record {
   ticket = t;
   next = n;
-  is_next = ap next_unsent pending ∙ is.is_next;
+  is_next = is.is_next;
   submitted = subst (λ (bytes : List ℕ). Submitted d t.place (event.Write n.first.unit bytes) d') is.bytes
       (subst (λ (u : ℕ). Submitted d t.place (event.Write u w.bytes.items) d') is.unit submitted);
-  after = after;
+  after = ap (λ (p : ℕ). sent_as s t p w.count) is.place ∙ ap (λ (count : ℕ). sent_as s t n.place count) is.count;
 }
   where
     n : Unsent
     n = is.next
-
-    place : x.place ≡ n.place
-    place = (run_alone x n is.is_next).place
-
-    counted : with_context n.place (given_more (length (unsent_units n))) s.pending ≡ given_more (length (unsent_units n)) x ∷ []
-    counted = ap (with_context n.place (given_more (length (unsent_units n)))) pending ∙ with_one x n.place (given_more (length (unsent_units n))) place
-
-    after : sent_as s t w.place w.count (given_more w.count x ∷ []) ≡ data_sent n.place (length (unsent_units n)) t s
-    after =
-        ap (λ (p : ℕ). sent_as s t p w.count (given_more w.count x ∷ [])) is.place
-        ∙ ap (λ (count : ℕ). sent_as s t n.place count (given_more count x ∷ [])) is.count
-        ∙ ap (λ (xs : List Context). sent_as s t n.place (length (unsent_units n)) xs) (sym counted)
 
 -- ---- the flushes
 
@@ -194,31 +145,33 @@ sync_does s d d' (Some b) t ready batch submitted =
 
 -- ---- Seal
 
--- one context's operations
-ops_alone : (b : OpenBatch) → batch_ops (batch_of b) ≡ b.context.ops
-ops_alone b = append-nil b.context.ops
-
-pub can_seal : (s : State) (d : Disk) (b : OpenBatch) → IsKept s d → is_ready Seal d.depth s ≡ true → s.batch ≡ Some (batch_of b)
-    → IsSealable s.log.number b.context.ops
-can_seal s d b kept ready batch =
+-- the record of the batch can be made, and fits
+pub can_seal : (s : State) (d : Disk) (m : meta.Meta) (b : OpenBatch) → IsKept s d → is_ready Seal d.depth s ≡ true → s.batch ≡ Some (batch_of b)
+    → s.log ≡ m → CanSeal (contexts_of b.stage) m
+can_seal s d m b kept ready batch log =
     let facts : HasRecord s (batch_of b) = known_seal s d (batch_of b) kept ready batch in
-    subst (IsSealable s.log.number) (ops_alone b)
-    (record { number_below = number_low s d kept.always; body_below = facts.body; fit = facts.fit })
+    subst (CanSeal (contexts_of b.stage)) log (record {
+      idle = is_idle s.log.begun (and_parts (is_some s.batch) (is_none s.log.begun) (ready_by_table s d.depth Seal (ready_not_down s d.depth Seal refl ready) ready)).1;
+      sealable = record { number_below = number_low s d kept.always; body_below = facts.body; fit = facts.fit };
+      fits = facts.room;
+    })
+  where
+    is_idle : (o : Option meta.Begun) → is_none o ≡ true → o ≡ None
+    is_idle None none = refl
+    is_idle (Some r) none = cc
 
-pub record_fits : (s : State) (d : Disk) (b : OpenBatch) → IsKept s d → is_ready Seal d.depth s ≡ true → s.batch ≡ Some (batch_of b)
-    → s.log.tail + unit_count s.log.number b.context.ops ≤ s.log.sup.half
-record_fits s d b kept ready batch =
-    subst (λ (ops : List RowOp). s.log.tail + unit_count s.log.number ops ≤ s.log.sup.half) (ops_alone b)
-    (known_seal s d (batch_of b) kept ready batch).room
-
-pub seal_does : (s : State) (d : Disk) (b : OpenBatch) → s.batch ≡ Some (batch_of b)
-    → DoesSeal s d (record s { log = record s.log { begun = Some (record { ops = b.context.ops; given = 0; written = 0 }) } }) d
-seal_does s d b batch = record {
+pub seal_does : (s : State) (d : Disk) (m m' : meta.Meta) (b : OpenBatch) (xs : List Context) → s.batch ≡ Some (batch_of b) → s.log ≡ m
+    → m' ≡ meta.with_begun m (ops_of (contexts_of b.stage)) → xs ≡ contexts_of b.stage
+    → DoesSeal s d (record s { log = m'; batch = Some (record { contexts = xs; first = b.first; second = b.second }) }) d
+seal_does s d m m' b xs batch log made same = record {
   batch = batch_of b;
   begun = batch;
   same = refl;
-  after = ap (λ (ops : List RowOp). let after : State = record s { log = record s.log { begun = Some (record { ops = ops; given = 0; written = 0 }) } }
-      in after) (sym (ops_alone b));
+  after =
+      ap (λ (ys : List Context). let later : State = record s { log = m'; batch = Some (record { contexts = ys; first = b.first; second = b.second }) } in later) same
+      ∙ ap (λ (o : Option Batch). let later : State = record s { log = m'; batch = o } in later) (sym batch)
+      ∙ ap (λ (l : meta.Meta). let later : State = record s { log = l } in later)
+      (made ∙ ap (λ (l : meta.Meta). meta.with_begun l (ops_of (contexts_of b.stage))) (sym log));
 }
 
 -- ---- Record

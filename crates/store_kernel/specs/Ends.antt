@@ -1,8 +1,8 @@
 -- What the good end of a submission changes of the kernel's parts.
-use Rattle.std.specs.Prelude.{Option}
+use Rattle.std.specs.Prelude.{List, Option}
 use Rattle.std.specs.Option.{option_map}
 use Rattle.meta_store.specs.Store.{Meta, with_written}
-use Rattle.store_steps.specs.Prelude.{done_more}
+use Rattle.store_steps.specs.Prelude.{with_context, done_more}
 use Rattle.store_steps.specs.declared.context.Context.{Context}
 use Rattle.store_steps.specs.declared.flight.FlushState.{FlushState}
 use Rattle.store_steps.specs.declared.flight.FlushState.TheVariants as flush
@@ -17,11 +17,11 @@ with_first state b = record b { first = state }
 abbrev pub with_second : FlushState → OpenBatch → OpenBatch
 with_second state b = record b { second = state }
 
-abbrev pub pending_after : Job → Option Context → Option Context
-pending_after (Data place count) pending = option_map (done_more count) pending
-pending_after DataFlush pending = pending
-pending_after Record pending = pending
-pending_after RecordFlush pending = pending
+abbrev pub contexts_after : Job → List Context → List Context
+contexts_after (Data place count) xs = with_context place (done_more count) xs
+contexts_after DataFlush xs = xs
+contexts_after Record xs = xs
+contexts_after RecordFlush xs = xs
 
 abbrev pub batch_after : Job → Option OpenBatch → Option OpenBatch
 batch_after (Data place count) batch = batch

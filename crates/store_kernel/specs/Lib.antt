@@ -1,7 +1,6 @@
 pub mod Seen
 pub mod Ends
 pub mod Units
-pub mod Runs
 pub mod Steps
 pub mod Prepared
 pub mod Submitting

@@ -1,11 +1,10 @@
 -- A transaction that can be accepted.
-use Rattle.std.specs.Prelude.{◌≡◌, ℕ, ◌≤◌}
+use Rattle.std.specs.Prelude.{◌≡◌, ◌≤◌}
 use Rattle.object_model.specs.Prelude.{Change}
 use Rattle.object_model.specs.declared.command.Command.TheVariants as ask
 use Rattle.meta_log.specs.Prelude.{width_of}
 use Rattle.read_facts.specs.Prelude.{IsNotRefused}
 use Rattle.plan_rows.specs.declared.plan.Plan.{Plan}
-use Rattle.store_steps.specs.declared.context.Context.{Context}
 use Rattle.store_steps.specs.Prelude.{State, need_of}
 use Rattle.meta_store.specs.Store.{room_of}
 use Rattle.plan_rows.specs.Prelude.{Plans}
@@ -23,16 +22,3 @@ pub record IsPrepared (ready : Prepared) (change : Change) (s : State) : Type 0 
   pub fits : need_of s.log ready.plan ≤ room_of s.log
   pub copy : ready.copy ≡ ready.plan.ops
   pub coll : ready.coll ≡ change.coll
-
--- the context that is made of it
-abbrev pub context_at : Prepared → ℕ → Context
-context_at ready place = record {
-  place = place;
-  coll = ready.coll;
-  ops = ready.plan.ops;
-  need = ready.need;
-  fresh = ready.plan.fresh;
-  released = ready.plan.released;
-  given = 0;
-  done = 0;
-}

@@ -1,5 +1,5 @@
 -- What clauses see of a kernel: its device, and its state as plain data.
-use Rattle.std.specs.Prelude.{◌≡◌, ℕ, List, [], ◌∷◌, Option, Some, None}
+use Rattle.std.specs.Prelude.{◌≡◌, ℕ, Bool, true, false, List, Option, Some, None, is_some}
 use Rattle.std.specs.Option.{option_map}
 use Rattle.std.specs.Coded.{Coded, coded_ℕ, coded_list}
 use Rattle.std.specs.FinMap as map
@@ -13,15 +13,27 @@ use Rattle.store_steps.specs.declared.context.Context.{Context}
 use Rattle.store_steps.specs.declared.flight.Flying.{Flying}
 use Rattle.store_steps.specs.Prelude.{Batch, State, Found}
 use Rattle.store_kernel.specs.declared.batch.OpenBatch.{OpenBatch}
+use Rattle.store_kernel.specs.declared.batch.Stage.{Stage}
+use Rattle.store_kernel.specs.declared.batch.Stage.TheVariants.{Taken, Sealed}
 
--- at most one, as a list
-abbrev pub listed : {A : Type 0} → Option A → List A
-listed None = []
-listed (Some x) = x ∷ []
+-- the contexts of a batch, whether its record is made or not
+abbrev pub contexts_of : Stage → List Context
+contexts_of (Taken xs) = xs
+contexts_of (Sealed xs) = xs
 
--- an open batch has one context
+-- an open batch
 abbrev pub batch_of : OpenBatch → Batch
-batch_of b = record { contexts = b.context ∷ []; first = b.first; second = b.second }
+batch_of b = record { contexts = contexts_of b.stage; first = b.first; second = b.second }
+
+-- the batch's record is made
+abbrev pub is_sealed : Stage → Bool
+is_sealed (Taken xs) = false
+is_sealed (Sealed xs) = true
+
+-- a batch's record is made where one is begun in the metadata store
+abbrev pub IsStageOf : Option meta.Begun → Option OpenBatch → Type 0
+IsStageOf begun None = Unit {0}
+IsStageOf begun (Some b) = is_sealed b.stage ≡ is_some begun
 
 -- what a metadata store has that nobody has used yet: the super, the rows, and where the log stands
 abbrev pub found_of : meta.Meta → Found
@@ -33,12 +45,12 @@ pub record IsUnused (m : meta.Meta) : Type 0 where
   pub none_begun : m.begun ≡ None
 
 -- the state, of the kernel's fields
-abbrev pub state_of : meta.Meta → Rows → Option Context → Option OpenBatch → List Flying → Option Ticket → ℕ → Space
+abbrev pub state_of : meta.Meta → Rows → List Context → Option OpenBatch → List Flying → Option Ticket → ℕ → Space
     → List Entry → List Commit → ℕ → State
 state_of m submitted pending batch flying down events space entries commits acked = record {
   log = m;
   submitted = submitted;
-  pending = listed pending;
+  pending = pending;
   batch = option_map batch_of batch;
   flying = flying;
   down = down;

@@ -1,20 +1,41 @@
-//! The open batch, and how far its flushes are.
-ghost use Rattle.std.specs.Prelude.{◌≡◌};
+//! The open batch, and how far its record and its flushes are.
+ghost use Rattle.std.specs.Prelude.{◌≡◌, length};
 ghost use Rattle.std.specs.Option.{option_map};
 ghost use Rattle.store_steps.specs.Prelude.{is_not_sent};
 ghost use Rattle.store_steps.specs.Ready.{is_flushed};
+ghost use Rattle.store_kernel.specs.Seen.{contexts_of};
 ghost use Rattle.store_kernel.specs.Ends.{with_first, with_second};
 
-use store_steps::{Context, FlushState};
+use kv_worker::{Batch, SealedBatch};
+use store_steps::FlushState;
 
-/// A batch of one context, on its way to the log. (In Ceph it is what one round of the thread that syncs the log takes.)
+/// Whether a batch's record is made.
+#[derive(Drop)]
+pub enum Stage {
+    Taken(Batch),
+    Sealed(SealedBatch),
+}
+
+/// A batch on its way to the log. (In Ceph it is what one round of the thread that syncs the log takes.)
 #[derive(Drop)]
 pub struct OpenBatch {
-    pub context: Context,
+    pub stage: Stage,
     /// The flush of the data writes, before the record is written.
     pub first: FlushState,
     /// The flush of the record.
     pub second: FlushState,
+}
+
+impl OpenBatch {
+    /// How many transactions it is of.
+    pub fn len(&self) -> usize
+        ensures { result ≡ length (contexts_of self.now.stage) }
+    {
+        match &self.stage {
+            Stage::Taken(batch) => batch.len(),
+            Stage::Sealed(batch) => batch.len(),
+        }
+    }
 }
 
 /// Whether a flush isn't submitted yet.

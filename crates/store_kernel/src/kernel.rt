@@ -16,7 +16,6 @@ mod submitting;
 mod walking;
 
 use crate::batch::{OpenBatch, flushed, not_sent};
-use crate::pending::{has_done, has_unsent};
 use crate::step_fail::StepFail;
 use block_device::{Device, Ticket};
 use byte_maps::Items;
@@ -25,12 +24,14 @@ use meta_store::MetaStore;
 use object_model::{Book, Commit, Entry};
 use std::alloc::Global;
 use std::marker::Model;
-use store_steps::{ALL_STEPS, Context, Flying, Step};
+use store_steps::{ALL_STEPS, Flying, Step};
 use unit_allocator::Allocator;
+use waiting_contexts::Contexts;
+use write_buffers::WriteBuffers;
 
 /// A store at work on its device: committed and submitted rows, what is under way, free units, and the book of the mount.
 ///
-/// One transaction is under way at a time: the writes of its data, and then those of its record, are in flight together.
+/// Any number of transactions may be under way. No call goes over those that wait.
 pub struct Kernel<D: Device> {
     device: D,
     // the committed rows, and the log
@@ -38,8 +39,10 @@ pub struct Kernel<D: Device> {
     // the rows with the operations of all accepted transactions
     submitted: RowTable,
     // accepted, and in no batch
-    pending: Option<Context>,
+    contexts: Contexts,
     batch: Option<OpenBatch>,
+    // the bytes of the units that these took, for reads
+    buffers: WriteBuffers,
     // in the order of the device's flights
     flying: Vec<Flying>,
     // the first submission that ended badly
@@ -65,11 +68,11 @@ impl<D: Device> Model for Kernel<D> {
 
     ghost view = { λ k. record {
       device = k.device;
-      state = state_of k.meta k.submitted.rows k.pending k.batch k.flying.items k.down k.events k.space k.entries.items k.commits.items k.acked;
+      state = state_of k.meta k.submitted.rows k.contexts k.batch k.flying.items k.down k.events k.space k.entries.items k.commits.items k.acked;
     } };
 
-    ghost invariant = { λ k. KnownOfKernel
-        (state_of k.meta k.submitted.rows k.pending k.batch k.flying.items k.down k.events k.space k.entries.items k.commits.items k.acked) (D.disk k.device) };
+    ghost invariant = { λ k. KnownOfKernel k.buffers k.batch
+        (state_of k.meta k.submitted.rows k.contexts k.batch k.flying.items k.down k.events k.space k.entries.items k.commits.items k.acked) (D.disk k.device) };
 }
 
 impl<D: Device> Kernel<D> {
@@ -95,8 +98,9 @@ impl<D: Device> Kernel<D> {
             device,
             meta,
             submitted,
-            pending: None,
+            contexts: Contexts::new(alloc),
             batch: None,
+            buffers: WriteBuffers::new(alloc),
             flying: Vec::new(alloc),
             down: None,
             events,
@@ -118,8 +122,9 @@ impl<D: Device> Kernel<D> {
             device,
             meta: _,
             submitted: _,
-            pending: _,
+            contexts: _,
             batch: _,
+            buffers: _,
             flying: _,
             down: _,
             events: _,
@@ -192,9 +197,9 @@ impl<D: Device> Kernel<D> {
         ensures { result ≡ is_ready_up step (D.disk self.now.device).depth self.now.state }
     {
         match step {
-            Step::Data => has_unsent(&self.pending) && self.has_room(),
+            Step::Data => self.contexts.has_unsent() && self.has_room(),
             Step::Reap => !self.flying.is_empty(),
-            Step::Take => self.batch.is_none() && has_done(&self.pending),
+            Step::Take => self.batch.is_none() && self.contexts.has_done(),
             Step::Flush => self.first_not_sent() && self.has_room(),
             Step::Seal => self.batch.is_some() && self.meta.is_idle(),
             Step::Record => self.first_flushed() && self.meta.has_piece_left() && self.has_room(),
@@ -269,7 +274,7 @@ impl<D: Device> Kernel<D> {
         ensures { result ≡ applied_count self.now.state }
     {
         match &self.batch {
-            Some(_) => self.commits.len().saturating_sub(1),
+            Some(open) => self.commits.len().saturating_sub(open.len()),
             None => self.commits.len(),
         }
     }

@@ -3,14 +3,15 @@
 //! all accepted transactions and by what the device holds.
 //!
 //! It stands in the place of the transaction state machine of Ceph's BlueStore (`_txc_state_proc` and the threads behind it).
-//! For now it has one transaction under way at a time, with several submissions of it in flight.
+//! Any number of transactions are under way at a time: each waits for its own data writes, those of a collection keep their order, and one batch
+//! after the other goes to the log.
 #![tactic(auto)]
 
 mod batch;
+mod buffers;
 mod ends;
 mod flights;
 mod kernel;
-mod pending;
 mod prepared;
 mod refused;
 mod space;

@@ -5,7 +5,8 @@ ghost use Rattle.meta_log.specs.Prelude.{unit_count};
 
 use byte_maps::Items;
 use meta_rows::{RowOp, encoded_len};
-use store_steps::{Context, Plan};
+use store_steps::Plan;
+use txn_states::{Prepared as PreparedContext, Waiting};
 use unit_fields::CollName;
 use unit_fields::limits::UNIT_BYTES;
 
@@ -25,11 +26,12 @@ pub struct Prepared {
 }
 
 impl Prepared {
-    ghost use Rattle.store_kernel.specs.Prepared.{context_at};
+    ghost use Rattle.txn_states.specs.States.{context_of};
 
     /// The context at this place of the book, none of whose data writes is submitted, and the operations for the submitted rows.
-    pub fn split(self, place: u32) -> (Context, Vec<RowOp>)
-        ensures context { result.0 ≡ context_at self place }
+    pub fn split(self, place: u32) -> (Waiting, Vec<RowOp>)
+        requires { length self.plan.fresh < 2 ^ 32 }
+        ensures context { result.0 ≡ context_of place self.coll self.plan self.need }
         ensures copy { result.1.items ≡ self.copy }
     {
         let Prepared {
@@ -38,22 +40,8 @@ impl Prepared {
             copy,
             coll,
         } = self;
-        let Plan {
-            ops,
-            fresh,
-            released,
-        } = plan;
-        let context = Context {
-            place,
-            coll,
-            ops,
-            need,
-            fresh,
-            released,
-            given: 0,
-            done: 0,
-        };
-        (context, copy.into_vec())
+        let context = PreparedContext::new(place, coll, plan, need);
+        (context.start(), copy.into_vec())
     }
 }
 

@@ -3,8 +3,8 @@ ghost use Rattle.std.specs.Prelude.{◌≡◌, ◌≤◌, length, OnOk, IfOk, If
 ghost use Rattle.meta_log.specs.Prelude.{width_of};
 ghost use Rattle.block_device.specs.Prelude.{Rose};
 ghost use Rattle.object_model.specs.declared.command.Answer.{Answer};
-ghost use Rattle.read_facts.specs.Prelude.{IsHeldAt, no_memory, HasReadNames, IsAnswerOf};
-ghost use Rattle.store_steps.specs.Prelude.{MayRead, AnswersRead, CanNote};
+ghost use Rattle.read_facts.specs.Prelude.{IsHeldAt, IsKnownRead, HasReadNames, IsAnswerOf};
+ghost use Rattle.store_steps.specs.Prelude.{AnswersRead, CanNote, memory_of};
 ghost use Rattle.store_kernel.specs.Reading.{UnansweredBy, IsDeviceRead};
 
 use super::Kernel;
@@ -26,7 +26,7 @@ impl<D: Device> Kernel<D> {
         line: u32,
         command: Command,
     ) -> Result<u32, Unanswered>
-        requires { MayRead command self.old.state (D.disk self.old.device) }
+        requires { IsKnownRead command }
         ensures place { IfOk result (λ place. place ≡ length self.old.state.book.entries) }
         ensures answered { OnOk result ((a : Answer) × AnswersRead client line command a self.old.state (D.disk self.old.device) self.new.state) }
         ensures unanswered { IfErr result (λ why. UnansweredBy why command self.old.state self.new.state) }
@@ -53,12 +53,12 @@ impl<D: Device> Kernel<D> {
         }
     }
 
-    // The answer, by the submitted rows and the device.
+    // The answer, by the submitted rows, what isn't committed, and the device.
     fn answered(&mut self, alloc: Global, command: &Command) -> Result<Answer, ReadFail>
-        requires may { MayRead command.now self.old.state (D.disk self.old.device) }
+        requires known { IsKnownRead command.now }
         requires can_note { CanNote self.old.state }
         ensures names { HasReadNames command.now }
-        ensures ok { IfOk result (IsAnswerOf (width_of self.old.state.log.sup) no_memory (IsHeldAt (D.disk self.old.device))
+        ensures ok { IfOk result (IsAnswerOf (width_of self.old.state.log.sup) (memory_of self.old.state) (IsHeldAt (D.disk self.old.device))
             self.old.state.submitted command.now) }
         ensures same { self.new.state ≡ self.old.state }
         ensures disk { D.disk self.new.device ≡ D.disk self.old.device }
@@ -66,7 +66,14 @@ impl<D: Device> Kernel<D> {
         ensures cause { IsErrOf result ReadFail.Fault → Rose (D.faults self.old.device) (D.faults self.new.device) }
     {
         let width = self.meta.sup().width();
-        answer(alloc, &mut self.device, width, &self.submitted, command)
+        answer(
+            alloc,
+            &mut self.device,
+            &self.buffers,
+            width,
+            &self.submitted,
+            command,
+        )
     }
 
     // Makes an entry of the book. The command comes back where there is no room for it.
@@ -77,10 +84,10 @@ impl<D: Device> Kernel<D> {
         command: Command,
         answer: Answer,
     ) -> Result<u32, Command>
-        requires may { MayRead command self.old.state (D.disk self.old.device) }
+        requires known { IsKnownRead command }
         requires can_note { CanNote self.old.state }
         requires names { HasReadNames command }
-        requires given { IsAnswerOf (width_of self.old.state.log.sup) no_memory (IsHeldAt (D.disk self.old.device))
+        requires given { IsAnswerOf (width_of self.old.state.log.sup) (memory_of self.old.state) (IsHeldAt (D.disk self.old.device))
             self.old.state.submitted command answer }
         ensures place { IfOk result (λ place. place ≡ length self.old.state.book.entries) }
         ensures ok { OnOk result (AnswersRead client line command answer self.old.state (D.disk self.old.device) self.new.state) }

@@ -5,17 +5,18 @@ ghost use Rattle.store_steps.specs.Prelude.{is_ready, Takes, DoesData, DoesReap,
 ghost use Rattle.store_steps.specs.declared.step.Step.TheVariants as step;
 
 use super::Kernel;
-use crate::batch::{OpenBatch, set_first, set_second};
+use crate::batch::{OpenBatch, Stage, set_first, set_second};
+use crate::buffers::let_go;
 use crate::ends::count_end;
 use crate::flights::{counting, land};
-use crate::pending::{NextWrite, count_given, next_write};
 use crate::space::give_back;
 use crate::step_fail::StepFail;
 use block_device::Device;
-use meta_log::SealedRecord;
+use kv_worker::{commit, take_batch};
 use object_model::Commit;
 use std::alloc::Global;
 use store_steps::{FlushState, Flying, Job};
+use txn_states::NextWrite;
 
 impl<D: Device> Kernel<D> {
     pub(super) fn send_data(&mut self, alloc: Global) -> Result<(), StepFail>
@@ -25,7 +26,7 @@ impl<D: Device> Kernel<D> {
             × (D.disk self.new.device ≡ D.disk self.old.device)) }
         ensures faults { D.faults self.new.device ≡ D.faults self.old.device }
     {
-        let Ok(write) = next_write(alloc, &self.pending) else {
+        let Ok(write) = self.contexts.next_write(alloc) else {
             return Err(StepFail::Memory);
         };
         let NextWrite {
@@ -40,7 +41,7 @@ impl<D: Device> Kernel<D> {
         let Ok(ticket) = self.device.submit_write(unit.number(), bytes) else {
             return Err(StepFail::Memory);
         };
-        count_given(&mut self.pending, count);
+        self.contexts.submitted(place, count);
         self.flying.push_reserved(Flying {
             ticket,
             job: Job::Data { place, count },
@@ -67,7 +68,7 @@ impl<D: Device> Kernel<D> {
             return Err(StepFail::Fault);
         }
         if let Some(job) = counting(self.down, landed) {
-            count_end(job, &mut self.pending, &mut self.batch, &mut self.meta);
+            count_end(job, &mut self.contexts, &mut self.batch, &mut self.meta);
         }
         Ok(())
     }
@@ -82,15 +83,15 @@ impl<D: Device> Kernel<D> {
         if self.commits.reserve(1).is_err() {
             return Err(StepFail::Memory);
         }
-        let Some(context) = self.pending.take() else {
+        let Some(batch) = take_batch(&mut self.contexts) else {
             unreachable!();
         };
         self.commits.push_reserved(Commit {
-            place: context.place,
+            place: batch.queued().place(),
             acked_at: None,
         });
         self.batch = Some(OpenBatch {
-            context,
+            stage: Stage::Taken(batch),
             first: FlushState::NotSent,
             second: FlushState::NotSent,
         });
@@ -126,17 +127,35 @@ impl<D: Device> Kernel<D> {
             × (D.disk self.new.device ≡ D.disk self.old.device)) }
         ensures faults { D.faults self.new.device ≡ D.faults self.old.device }
     {
-        let Some(open) = &self.batch else {
+        let Some(open) = self.batch.take() else {
             unreachable!();
         };
-        let number = self.meta.next_number();
-        let Ok(sealed) = SealedRecord::seal(alloc, number, open.context.ops.as_slice()) else {
-            return Err(StepFail::Memory);
+        let OpenBatch {
+            stage,
+            first,
+            second,
+        } = open;
+        let Stage::Taken(batch) = stage else {
+            unreachable!();
         };
-        let Ok(()) = self.meta.begin(sealed) else {
-            return Err(StepFail::Memory);
-        };
-        Ok(())
+        match batch.seal(alloc, &mut self.meta) {
+            Ok(sealed) => {
+                self.batch = Some(OpenBatch {
+                    stage: Stage::Sealed(sealed),
+                    first,
+                    second,
+                });
+                Ok(())
+            }
+            Err(back) => {
+                self.batch = Some(OpenBatch {
+                    stage: Stage::Taken(back),
+                    first,
+                    second,
+                });
+                Err(StepFail::Memory)
+            }
+        }
     }
 
     pub(super) fn send_record(&mut self, alloc: Global) -> Result<(), StepFail>
@@ -198,10 +217,13 @@ impl<D: Device> Kernel<D> {
         let Some(open) = self.batch.take() else {
             unreachable!();
         };
-        self.meta.flushed();
-        self.meta.release(open.context.need);
-        give_back(&mut self.space, open.context.released.as_slice());
-        drop(open);
+        let Stage::Sealed(sealed) = open.stage else {
+            unreachable!();
+        };
+        let queued = sealed.queued();
+        give_back(&mut self.space, queued.released());
+        let_go(&mut self.buffers, queued.fresh());
+        drop(commit(sealed, &mut self.meta));
     }
 
     pub(super) fn finish(&mut self)

@@ -2,10 +2,12 @@
 ghost use Rattle.std.specs.Prelude.{◌≡◌, ◌<◌, ◌^◌, length, OnOk, OnErr, IfOk, IfErr};
 ghost use Rattle.meta_rows.specs.Prelude.{ops_bytes, AllFit};
 ghost use Rattle.store_steps.specs.Prelude.{IsCause, CanNote, Accepts, Refuses};
+ghost use Rattle.plan_rows.specs.Prelude.{IsKnown};
 ghost use Rattle.store_kernel.specs.Prepared.{IsPlanOf, IsPrepared};
-ghost use Rattle.store_kernel.specs.Submitting.{MaySubmit, IsCauseOf, RefusesBy};
+ghost use Rattle.store_kernel.specs.Submitting.{IsCauseOf, RefusesBy};
 
 use super::Kernel;
+use crate::buffers::enter;
 use crate::prepared::{Prepared, units_needed};
 use crate::refused::{Cause, Refused};
 use crate::space::take_fresh;
@@ -28,10 +30,10 @@ impl<D: Device> Kernel<D> {
         line: u32,
         txn: Transaction,
     ) -> Result<u32, Refused>
-        requires { MaySubmit txn self.old.state (D.disk self.old.device) }
+        requires { IsKnown txn.ops }
         ensures place { IfOk result (λ place. place ≡ length self.old.state.book.entries) }
         ensures accepted { OnOk result (Accepts client line txn self.old.state self.new.state) }
-        ensures refused { IfErr result (λ why. RefusesBy why client line txn self.old.state self.new.state) }
+        ensures refused { IfErr result (λ why. RefusesBy why client line txn self.old.state (D.disk self.old.device) self.new.state) }
         ensures disk { D.disk self.new.device ≡ D.disk self.old.device }
         ensures faults { D.faults self.new.device ≡ D.faults self.old.device }
     {
@@ -42,7 +44,7 @@ impl<D: Device> Kernel<D> {
             return Err(Refused::BookFull(txn));
         }
         match self.prepare(alloc, &txn) {
-            Ok(ready) => match self.accept(client, line, txn, ready) {
+            Ok(ready) => match self.accept(alloc, client, line, txn, ready) {
                 Ok(place) => Ok(place),
                 Err(back) => Err(Refused::Memory(back)),
             },
@@ -52,10 +54,10 @@ impl<D: Device> Kernel<D> {
 
     // The plan of a transaction, and all that accepting it takes memory for but for room in lists.
     fn prepare(&self, alloc: Global, txn: &Transaction) -> Result<Prepared, Cause>
-        requires may { MaySubmit txn.now self.now.state (D.disk self.now.device) }
+        requires known { IsKnown txn.now.ops }
         requires can_note { CanNote self.now.state }
         ensures ok { IfOk result (λ ready. IsPrepared ready txn.now self.now.state) }
-        ensures err { IfErr result (λ cause. IsCauseOf cause txn.now self.now.state) }
+        ensures err { IfErr result (λ cause. IsCauseOf cause txn.now self.now.state (D.disk self.now.device)) }
     {
         let plan = self.planned(alloc, txn)?;
         let need = units_needed(plan.ops.as_slice());
@@ -79,12 +81,12 @@ impl<D: Device> Kernel<D> {
 
     // The plan over the submitted rows and the free units. Its operations have a spelling, which is short.
     fn planned(&self, alloc: Global, txn: &Transaction) -> Result<Plan, Cause>
-        requires may { MaySubmit txn.now self.now.state (D.disk self.now.device) }
+        requires known { IsKnown txn.now.ops }
         requires can_note { CanNote self.now.state }
         ensures ok { IfOk result (IsPlanOf txn.now self.now.state) }
         ensures fit { IfOk result (λ plan. AllFit plan.ops) }
         ensures short { IfOk result (λ plan. length (ops_bytes plan.ops) < 2 ^ 32) }
-        ensures err { IfErr result (λ cause. IsCauseOf cause txn.now self.now.state) }
+        ensures err { IfErr result (λ cause. IsCauseOf cause txn.now self.now.state (D.disk self.now.device)) }
     {
         let width = self.meta.sup().width();
         match plan(alloc, width, &self.submitted, &self.space, txn) {
@@ -98,12 +100,13 @@ impl<D: Device> Kernel<D> {
     // Makes room in the lists, and then the context and the entry. The transaction comes back where there is no room.
     fn accept(
         &mut self,
+        alloc: Global,
         client: u32,
         line: u32,
         txn: Transaction,
         ready: Prepared,
     ) -> Result<u32, Transaction>
-        requires may { MaySubmit txn self.old.state (D.disk self.old.device) }
+        requires known { IsKnown txn.ops }
         requires can_note { CanNote self.old.state }
         requires prepared { IsPrepared ready txn self.old.state }
         ensures place { IfOk result (λ place. place ≡ length self.old.state.book.entries) }
@@ -113,22 +116,25 @@ impl<D: Device> Kernel<D> {
         ensures disk { D.disk self.new.device ≡ D.disk self.old.device }
         ensures faults { D.faults self.new.device ≡ D.faults self.old.device }
     {
-        if self.entries.reserve(1).is_err() {
-            drop(ready);
-            return Err(txn);
-        }
-        if self.submitted.reserve(ready.copy.len()).is_err() {
+        if self.entries.reserve(1).is_err() || self.submitted.reserve(ready.copy.len()).is_err() {
             drop(ready);
             return Err(txn);
         }
         let place = self.entries.len() as u32;
-        let Ok(()) = self.meta.reserve(ready.need) else {
+        let need = ready.need;
+        let (context, copy) = ready.split(place);
+        let Ok(()) = enter(alloc, &mut self.contexts, &mut self.buffers, context) else {
+            drop(copy);
+            return Err(txn);
+        };
+        let Ok(()) = self.meta.reserve(need) else {
             unreachable!();
         };
-        let (context, copy) = ready.split(place);
         self.submitted.apply(copy);
-        take_fresh(&mut self.space, context.fresh.as_slice());
-        self.pending = Some(context);
+        let Some(added) = self.contexts.get(place) else {
+            unreachable!();
+        };
+        take_fresh(&mut self.space, added.fresh());
         self.entries.push_reserved(Entry {
             client,
             line,
@@ -141,10 +147,10 @@ impl<D: Device> Kernel<D> {
 
     // Refuses a transaction.
     fn refuse(&mut self, client: u32, line: u32, txn: Transaction, cause: Cause) -> Refused
-        requires may { MaySubmit txn self.old.state (D.disk self.old.device) }
+        requires known { IsKnown txn.ops }
         requires can_note { CanNote self.old.state }
-        requires cause { IsCauseOf cause txn self.old.state }
-        ensures refused { RefusesBy result client line txn self.old.state self.new.state }
+        requires cause { IsCauseOf cause txn self.old.state (D.disk self.old.device) }
+        ensures refused { RefusesBy result client line txn self.old.state (D.disk self.old.device) self.new.state }
         ensures disk { D.disk self.new.device ≡ D.disk self.old.device }
         ensures faults { D.faults self.new.device ≡ D.faults self.old.device }
     {
@@ -179,10 +185,10 @@ impl<D: Device> Kernel<D> {
         txn: Transaction,
         answer: Answer,
     ) -> Result<(), Transaction>
-        requires may { MaySubmit txn self.old.state (D.disk self.old.device) }
+        requires known { IsKnown txn.ops }
         requires can_note { CanNote self.old.state }
-        requires cause { IsCause answer txn self.old.state }
-        ensures ok { OnOk result (Refuses client line txn answer self.old.state self.new.state) }
+        requires cause { IsCause answer txn self.old.state (D.disk self.old.device) }
+        ensures ok { OnOk result (Refuses client line txn answer self.old.state (D.disk self.old.device) self.new.state) }
         ensures err { OnErr result (self.new.state ≡ self.old.state) }
         ensures back { IfErr result (λ back. back ≡ txn) }
         ensures disk { D.disk self.new.device ≡ D.disk self.old.device }

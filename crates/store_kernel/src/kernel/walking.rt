@@ -1,11 +1,11 @@
 //! Walks over all collections and objects. They change nothing, and make no entry of the book.
-ghost use Rattle.std.specs.Prelude.{◌≡◌, ◌≤◌, None, true, IfOk, IfErr, IsErrOf, MatchOption};
+ghost use Rattle.std.specs.Prelude.{◌≡◌, ◌≤◌, IfOk, IfErr, IsErrOf, MatchOption};
 ghost use Rattle.std.specs.Option.{option_copied};
 ghost use Rattle.meta_log.specs.Prelude.{width_of};
 ghost use Rattle.block_device.specs.Prelude.{Rose};
-ghost use Rattle.read_facts.specs.Prelude.{IsCollection, IsObject, IsNextOf, IsPast, IsHeldAt, no_memory};
+ghost use Rattle.read_facts.specs.Prelude.{IsCollection, IsObject, IsNextOf, IsPast, IsHeldAt};
 ghost use Rattle.object_reader.specs.Readable.{IsNextView};
-ghost use Rattle.store_steps.specs.Prelude.{is_drained};
+ghost use Rattle.store_steps.specs.Prelude.{memory_of};
 ghost use Rattle.store_kernel.specs.Reading.{IsDownFail};
 
 use super::Kernel;
@@ -46,9 +46,8 @@ impl<D: Device> Kernel<D> {
         coll: &CollName,
         after: Option<&Name>,
     ) -> Result<Option<ObjectView>, WalkFail>
-        requires { (self.old.state.down ≡ None) → is_drained (D.disk self.old.device).depth self.old.state ≡ true }
         ensures ok { IfOk result (λ found. MatchOption found (IsPast (IsObject self.old.state.submitted coll.now) (option_copied after.entry))
-            (IsNextView (width_of self.old.state.log.sup) no_memory (IsHeldAt (D.disk self.old.device)) self.old.state.submitted
+            (IsNextView (width_of self.old.state.log.sup) (memory_of self.old.state) (IsHeldAt (D.disk self.old.device)) self.old.state.submitted
             coll.now (option_copied after.entry))) }
         ensures fail { IfErr result (λ why. IsDownFail why self.old.state) }
         ensures same { self.new.state ≡ self.old.state }
@@ -60,7 +59,15 @@ impl<D: Device> Kernel<D> {
             return Err(WalkFail::Down { ticket });
         }
         let width = self.meta.sup().width();
-        match next_object(alloc, &mut self.device, width, &self.submitted, coll, after) {
+        match next_object(
+            alloc,
+            &mut self.device,
+            &self.buffers,
+            width,
+            &self.submitted,
+            coll,
+            after,
+        ) {
             Ok(found) => Ok(found),
             Err(ReadFail::Memory) => Err(WalkFail::Memory),
             Err(ReadFail::Fault) => Err(WalkFail::DeviceRead),

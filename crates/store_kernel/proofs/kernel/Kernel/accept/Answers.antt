@@ -1,38 +1,103 @@
-use Rattle.store_kernel.proofs.Keeping.{known_accept}
-use Rattle.store_kernel.proofs.Admitting.{planned_fits, fresh_is_free, accepted}
+use Rattle.std.proofs.Common.{◌≡◌, List, length, map, ap, sym, ◌∙◌, rules}
+use Rattle.plan_rows.specs.declared.plan.FreshUnit.{FreshUnit}
+use Rattle.store_steps.specs.declared.context.Context.{Context}
+use Rattle.unit_allocator.specs.Prelude.{taken}
+use Rattle.write_buffers.specs.Prelude.{memory_in}
+use Rattle.store_kernel.proofs.Keeping.{known_accept, known_same}
+use Rattle.store_kernel.proofs.Memories.{accept_memory}
+use Rattle.store_kernel.proofs.Admitting.{planned_fits, fresh_is_free, fresh_are_few, fresh_absent, found_added, added_is_found, accepted_state, accepted}
 use Rattle.store_kernel.proofs.kernel.Kernel.accept.Goals as goal
+
+pub split-context-requires : goal.split-context-requires
+split-context-requires g c =
+    let can = rw (← c.self.view_is) at c.requires.can_note in
+    let prepared = rw (← c.self.view_is) at c.requires.prepared in
+    fresh_are_few _ _ c.args.txn c.args.ready.plan c.self.invariant.kept can c.requires.known prepared.plan
+
+pub enter-requires-clause-absent : goal.enter-requires-clause-absent
+enter-requires-clause-absent g c =
+    let can = rw (← c.self.view_is) at c.requires.can_note in
+    let prepared = rw (← c.self.view_is) at c.requires.prepared in
+    rw c.split-context.ensures.context
+    (fresh_absent _ _ c.args.txn c.args.ready.plan _ c.self.invariant.kept can c.requires.known prepared.plan c.self.invariant.memory)
+
+pub enter-requires-clause-ascend : goal.enter-requires-clause-ascend
+enter-requires-clause-ascend g c =
+    let can = rw (← c.self.view_is) at c.requires.can_note in
+    let prepared = rw (← c.self.view_is) at c.requires.prepared in
+    rw c.split-context.ensures.context
+    (planned_fits _ _ c.args.txn c.args.ready.plan c.self.invariant.kept can c.requires.known prepared.plan).ascend
+
+pub unreachable-requires-in_default-get : goal.unreachable-requires-in_default-get
+unreachable-requires-in_default-get g c =
+    let can = rw (← c.self.view_is) at c.requires.can_note in
+    let place : c.len-place.result ≡ c.split-context.result.0.place = sym (ap (λ (x : Context). x.place) c.split-context.ensures.context) in
+    let entry : c.len-place.result ≡ length c.self.inside.entries.items = search rules in
+    added_is_found _ _ c.enter.new.contexts c.split-context.result.0 c.len-place.result c.self.invariant.kept can entry place c.in-Ok.ensures.waits
+    c.in_default-get.ensures
 
 pub take_fresh-requires-clause-ascend : goal.take_fresh-requires-clause-ascend
 take_fresh-requires-clause-ascend g c =
     let can = rw (← c.self.view_is) at c.requires.can_note in
     let prepared = rw (← c.self.view_is) at c.requires.prepared in
-    rw (c.as_slice.ensures, c.split-context.ensures.context)
-    (planned_fits _ _ c.args.txn c.args.ready.plan c.self.invariant.kept can c.requires.may.known prepared.plan).ascend
+    let place : c.len-place.result ≡ c.split-context.result.0.place = sym (ap (λ (x : Context). x.place) c.split-context.ensures.context) in
+    let entry : c.len-place.result ≡ length c.self.inside.entries.items = search rules in
+    let added : c.in-Some.added.now ≡ c.split-context.result.0 =
+    found_added _ _ c.enter.new.contexts c.split-context.result.0 c.in-Some.added.now c.len-place.result c.self.invariant.kept can entry place c.in-Ok.ensures.waits
+    c.in-Some.ensures in
+    rw (c.fresh.ensures, added, c.split-context.ensures.context)
+    (planned_fits _ _ c.args.txn c.args.ready.plan c.self.invariant.kept can c.requires.known prepared.plan).ascend
 
 pub take_fresh-requires-clause-free : goal.take_fresh-requires-clause-free
 take_fresh-requires-clause-free g c =
+    let can = rw (← c.self.view_is) at c.requires.can_note in
     let prepared = rw (← c.self.view_is) at c.requires.prepared in
-    rw (c.as_slice.ensures, c.split-context.ensures.context)
-    (fresh_is_free c.args.txn _ c.args.ready.plan c.requires.may.known prepared.plan)
+    let place : c.len-place.result ≡ c.split-context.result.0.place = sym (ap (λ (x : Context). x.place) c.split-context.ensures.context) in
+    let entry : c.len-place.result ≡ length c.self.inside.entries.items = search rules in
+    let added : c.in-Some.added.now ≡ c.split-context.result.0 =
+    found_added _ _ c.enter.new.contexts c.split-context.result.0 c.in-Some.added.now c.len-place.result c.self.invariant.kept can entry place c.in-Ok.ensures.waits
+    c.in-Some.ensures in
+    rw (c.fresh.ensures, added, c.split-context.ensures.context) (fresh_is_free c.args.txn _ c.args.ready.plan c.requires.known prepared.plan)
+
+pub invariant_of-self-in_default : goal.invariant_of-self-in_default
+invariant_of-self-in_default g c =
+    rw (c.in_default.ensures.same, c.reserve-else-is_err.ensures.rows, c.reserve.ensures.items)
+    (known_same _ _ _ _ _ c.self.invariant c.in_default.ensures.err)
 
 pub invariant_of-self-2 : goal.invariant_of-self-2
 invariant_of-self-2 g c =
     let k = c.self.inside in
-    let may = rw (← c.self.view_is) at c.requires.may in
     let can = rw (← c.self.view_is) at c.requires.can_note in
     let prepared = rw (← c.self.view_is) at c.requires.prepared in
-    known_accept _ _ _ c.args.client c.args.line c.args.txn c.self.invariant may
-    (accepted k.meta k.submitted.rows k.pending k.batch k.flying.items k.down k.events k.space k.entries.items k.commits.items k.acked
-    _ c.args.client c.args.line c.args.txn c.args.ready _ _ _ _ _ _ c.self.invariant.kept may can prepared
-    c.in-Ok.ensures.set_aside (cc) c.split-context.ensures.context (cc) (cc) (cc))
+    let x = c.split-context.result.0 in
+    let place : c.len-place.result ≡ x.place = sym (ap (λ (y : Context). y.place) c.split-context.ensures.context) in
+    let entry : c.len-place.result ≡ length c.self.inside.entries.items = cc in
+    let added : c.in-Some.added.now ≡ x =
+    found_added _ _ c.enter.new.contexts x c.in-Some.added.now c.len-place.result c.self.invariant.kept can entry place c.in-Ok.ensures.waits c.in-Some.ensures in
+    let space = c.take_fresh.ensures ∙ ap (λ (fs : List FreshUnit). taken k.space (map (λ (f : FreshUnit). f.unit) fs)) (c.fresh.ensures ∙ ap (λ (y : Context). y.fresh) added) in
+    let fresh = ap (λ (y : Context). y.fresh) c.split-context.ensures.context in
+    let is = accepted_state k.meta k.submitted.rows k.contexts k.batch k.flying.items k.down k.events k.space k.entries.items k.commits.items k.acked
+    c.args.client c.args.line c.args.txn c.args.ready c.reserve-2.new.self c.apply.new.self.rows c.enter.new.contexts x c.len-place.result c.take_fresh.new.space
+    c.push_reserved.new.self.items can prepared c.in-Ok-reserve.ensures.set_aside (cc) c.in-Ok.ensures.waits c.split-context.ensures.context entry space (cc) in
+    known_accept _ _ _ _ _ _ c.args.client c.args.line c.args.txn c.self.invariant c.requires.known
+    (accepted k.meta k.submitted.rows k.contexts k.batch k.flying.items k.down k.events k.space k.entries.items k.commits.items k.acked
+    c.args.client c.args.line c.args.txn c.args.ready c.reserve-2.new.self c.apply.new.self.rows c.enter.new.contexts x c.len-place.result c.take_fresh.new.space
+    c.push_reserved.new.self.items can prepared c.in-Ok-reserve.ensures.set_aside (cc) c.in-Ok.ensures.waits c.split-context.ensures.context entry space (cc))
+    (accept_memory _ _ c.args.client c.args.line c.args.txn c.args.ready.plan x (memory_in k.buffers) (memory_in c.enter.new.buffers) is fresh
+    c.self.invariant.memory c.in-Ok.ensures.found)
 
 pub returns-clause-accepted : goal.returns-clause-accepted
 returns-clause-accepted g c =
     let k = c.self.inside in
-    let may = rw (← c.self.view_is) at c.requires.may in
     let can = rw (← c.self.view_is) at c.requires.can_note in
     let prepared = rw (← c.self.view_is) at c.requires.prepared in
+    let x = c.split-context.result.0 in
+    let place : c.len-place.result ≡ x.place = sym (ap (λ (y : Context). y.place) c.split-context.ensures.context) in
+    let entry : c.len-place.result ≡ length c.self.inside.entries.items = cc in
+    let added : c.in-Some.added.now ≡ x =
+    found_added _ _ c.enter.new.contexts x c.in-Some.added.now c.len-place.result c.self.invariant.kept can entry place c.in-Ok.ensures.waits c.in-Some.ensures in
+    let space = c.take_fresh.ensures ∙ ap (λ (fs : List FreshUnit). taken k.space (map (λ (f : FreshUnit). f.unit) fs)) (c.fresh.ensures ∙ ap (λ (y : Context). y.fresh) added) in
     rw (← c.self.view_is)
-    (accepted k.meta k.submitted.rows k.pending k.batch k.flying.items k.down k.events k.space k.entries.items k.commits.items k.acked
-    _ c.args.client c.args.line c.args.txn c.args.ready _ _ _ _ _ _ c.self.invariant.kept may can prepared
-    c.in-Ok.ensures.set_aside (cc) c.split-context.ensures.context (cc) (cc) (cc))
+    (accepted k.meta k.submitted.rows k.contexts k.batch k.flying.items k.down k.events k.space k.entries.items k.commits.items k.acked
+    c.args.client c.args.line c.args.txn c.args.ready c.reserve-2.new.self c.apply.new.self.rows c.enter.new.contexts x c.len-place.result c.take_fresh.new.space
+    c.push_reserved.new.self.items can prepared c.in-Ok-reserve.ensures.set_aside (cc) c.in-Ok.ensures.waits c.split-context.ensures.context entry space (cc))

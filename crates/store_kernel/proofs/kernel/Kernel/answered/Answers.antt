@@ -3,6 +3,5 @@ use Rattle.store_kernel.proofs.kernel.Kernel.answered.Goals as goal
 
 pub answer-requires-clause-readable : goal.answer-requires-clause-readable
 answer-requires-clause-readable g c =
-    let may = rw (← c.self.view_is) at c.requires.may in
     let can = rw (← c.self.view_is) at c.requires.can_note in
-    rw (c.width-width.ensures) (readable _ _ c.self.invariant.kept can.up (may.drained can.up))
+    rw (c.width-width.ensures) (readable _ _ _ c.self.invariant.kept can.up c.self.invariant.memory)

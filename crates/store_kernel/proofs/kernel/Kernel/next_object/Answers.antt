@@ -4,6 +4,5 @@ use Rattle.store_kernel.proofs.kernel.Kernel.next_object.Goals as goal
 
 pub next_object-requires : goal.next_object-requires
 next_object-requires g c =
-    let drained = rw (← c.self.view_is) at c.requires in
     let up : c.self.inside.down ≡ None = search rules in
-    record { readable = rw (c.width-width.ensures) (readable _ _ c.self.invariant.kept up (drained up)) }
+    record { readable = rw (c.width-width.ensures) (readable _ _ _ c.self.invariant.kept up c.self.invariant.memory) }

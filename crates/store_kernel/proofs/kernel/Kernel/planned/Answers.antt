@@ -16,13 +16,13 @@ pub returns-in-Ok-clause-fit : goal.returns-in-Ok-clause-fit
 returns-in-Ok-clause-fit g c =
     let can = rw (← c.self.view_is) at c.requires.can_note in
     let disk = g.D.Device.disk c.self.inside.device in
-    (planned_fits _ disk c.args.txn.now c.in-Ok.plan c.self.invariant.kept can c.requires.may.known
+    (planned_fits _ disk c.args.txn.now c.in-Ok.plan c.self.invariant.kept can c.requires.known
     (given _ disk c.args.txn.now c.in-Ok.plan c.self.invariant.kept can (rw (c.width-width.ensures) at c.in-Ok.ensures.ok))).fit
 
 pub returns-in-Ok-clause-short : goal.returns-in-Ok-clause-short
 returns-in-Ok-clause-short g c =
     let can = rw (← c.self.view_is) at c.requires.can_note in
     let disk = g.D.Device.disk c.self.inside.device in
-    (planned_fits _ disk c.args.txn.now c.in-Ok.plan c.self.invariant.kept can c.requires.may.known
+    (planned_fits _ disk c.args.txn.now c.in-Ok.plan c.self.invariant.kept can c.requires.known
     (given _ disk c.args.txn.now c.in-Ok.plan c.self.invariant.kept can
     (rw (c.width-width.ensures) at c.in-Ok.ensures.ok))).short

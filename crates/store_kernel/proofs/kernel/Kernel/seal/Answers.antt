@@ -1,38 +1,38 @@
-use Rattle.std.proofs.Common.{◌≡◌, ◌+◌, ◌≤◌, ap, ◌∙◌, sym, subst, ℕ, List}
+use Rattle.std.proofs.Common.{◌≡◌, List, Option, Some, is_some, refl, sym, ap, subst, ◌∙◌}
 use Rattle.std.specs.Option.{option_map}
-use Rattle.meta_rows.specs.declared.row_op.RowOp.{RowOp}
-use Rattle.meta_log.specs.Prelude.{Sealed, sealed_units}
+use Rattle.meta_store.specs.Store.{Meta, with_begun}
+use Rattle.store_steps.specs.declared.context.Context.{Context}
 use Rattle.store_steps.specs.declared.step.Step.TheVariants.{Seal}
+use Rattle.kv_worker.specs.Batches.{ops_of}
+use Rattle.store_kernel.specs.declared.batch.OpenBatch.{OpenBatch}
+use Rattle.store_kernel.specs.declared.batch.Stage.{Stage}
+use Rattle.store_kernel.specs.declared.batch.Stage.TheVariants.{Taken}
+use Rattle.store_kernel.specs.Known.{KnownOfKernel}
+use Rattle.store_kernel.specs.Seen.{contexts_of, batch_of, state_of}
 use Rattle.store_kernel.proofs.Keeping.{known_step}
-use Rattle.store_kernel.specs.Seen.{batch_of}
-use Rattle.store_kernel.proofs.Sending.{can_seal, record_fits, seal_does}
+use Rattle.store_kernel.proofs.Sending.{seal_does}
+use Rattle.store_kernel.proofs.Memories.{seal_memory}
 use Rattle.store_kernel.proofs.kernel.Kernel.seal.Goals as goal
 
-pub seal-requires : goal.seal-requires
-seal-requires g c =
-    let ready = rw (← c.self.view_is) at c.requires in
-    rw (c.next_number-number.ensures, c.as_slice.ensures) (can_seal _ _ c.in-Some.open c.self.invariant.kept ready (ap (option_map batch_of) c.in-Some.is))
-
-pub begin-requires-clause-fits : goal.begin-requires-clause-fits
-begin-requires-clause-fits g c =
+pub invariant_of-self : goal.invariant_of-self
+invariant_of-self g c =
     let k = c.self.inside in
     let ready = rw (← c.self.view_is) at c.requires in
-    let made : c.in-Ok.sealed ≡ record { number = k.meta.number; ops = c.in-Some.open.context.ops } =
-    c.in-Ok.ensures
-    ∙ ap (λ (n : ℕ). let w : Sealed = record { number = n; ops = c.as_slice.result.now } in w) c.next_number-number.ensures
-    ∙ ap (λ (ops : List RowOp). let w : Sealed = record { number = k.meta.number; ops = ops } in w) c.as_slice.ensures in
-    subst (λ (w : Sealed). k.meta.tail + sealed_units w ≤ k.meta.sup.half) (sym made)
-    (record_fits _ _ c.in-Some.open c.self.invariant.kept ready (ap (option_map batch_of) c.in-Some.is))
+    let batch : k.batch ≡ Some c.in-Some.open = sym c.take.ensures.value ∙ c.in-Some.is in
+    let taken : contexts_of c.in-Some.open.stage ≡ c.in-Taken.batch = ap contexts_of c.in-Taken.is in
+    let does = seal_does _ _ k.meta c.seal.new.meta c.in-Some.open c.in-Ok.sealed (ap (option_map batch_of) batch) refl
+    (c.in-Ok.ensures.begun ∙ ap (λ (xs : List Context). with_begun k.meta (ops_of xs)) (sym taken)) (c.in-Ok.ensures.same ∙ sym taken) in
+    known_step Seal _ _ _ _ _ _ _ _ c.self.invariant ready does c.self.invariant.kept.always.device
+    (sym (ap (λ (m : Meta). is_some m.begun) c.in-Ok.ensures.begun)) (c.self.invariant.memory ∙ sym (seal_memory _ _ _ _ does))
 
-pub invariant_of-self-2 : goal.invariant_of-self-2
-invariant_of-self-2 g c =
-    let ready = rw (← c.self.view_is) at c.requires in
-    let ops : c.in-Ok.sealed.ops ≡ c.in-Some.open.context.ops = ap (λ (w : Sealed). w.ops) c.in-Ok.ensures ∙ c.as_slice.ensures in
-    rw (c.in-Ok-begin.ensures.ok, ops)
-    (known_step Seal _ _ _ _ c.self.invariant ready (seal_does _ _ c.in-Some.open (ap (option_map batch_of) c.in-Some.is)) c.self.invariant.kept.always.device)
-
-pub returns-clause-ok : goal.returns-clause-ok
-returns-clause-ok g c =
-    let ready = rw (← c.self.view_is) at c.requires in
-    let ops : c.in-Ok.sealed.ops ≡ c.in-Some.open.context.ops = ap (λ (w : Sealed). w.ops) c.in-Ok.ensures ∙ c.as_slice.ensures in
-    rw (c.in-Ok-begin.ensures.ok, ops, ← c.self.view_is) (seal_does _ _ c.in-Some.open (ap (option_map batch_of) c.in-Some.is))
+pub invariant_of-self-in-Err : goal.invariant_of-self-in-Err
+invariant_of-self-in-Err g c =
+    let k = c.self.inside in
+    let same : k.batch ≡ Some (record { stage = Taken c.in-Err.back; first = c.in-Some.open.first; second = c.in-Some.open.second }) =
+    sym c.take.ensures.value ∙ c.in-Some.is
+    ∙ ap (λ (stage : Stage). let b : OpenBatch = record { stage = stage; first = c.in-Some.open.first; second = c.in-Some.open.second } in Some b)
+    (c.in-Taken.is ∙ ap Taken (sym c.in-Err.ensures.back)) in
+    rw c.in-Err.ensures.err
+    (subst (λ (o : Option OpenBatch). KnownOfKernel k.buffers o
+    (state_of k.meta k.submitted.rows k.contexts o k.flying.items k.down k.events k.space k.entries.items k.commits.items k.acked)
+    (g.D.Device.disk k.device)) same c.self.invariant)

@@ -1,5 +1,5 @@
 -- A walk over a mounted store leaves the device as the mount left it, and shows what the contents stood for.
-use Rattle.std.proofs.Common.{◌≡◌, ℕ, ◌≤◌, true, List, [], length, Some, None, Result, Ok, Err, refl, sym, ap, subst, ◌∙◌, arith}
+use Rattle.std.proofs.Common.{◌≡◌, ℕ, ◌≤◌, true, List, [], length, Option, Some, None, unwrap_or, Result, Ok, Err, refl, sym, ap, subst, ◌∙◌, arith}
 use Rattle.std.specs.Prelude.{IfErr, OnOk}
 use Rattle.std.specs.List.{AllByRecursion}
 use Rattle.unit_fields.specs.declared.width.Width.{Width}
@@ -8,15 +8,15 @@ use Rattle.block_device.specs.declared.event.Event.{Event}
 use Rattle.meta_rows.specs.Prelude.{Rows}
 use Rattle.object_model.specs.Prelude.{Objects, replay, accepted}
 use Rattle.meta_log.specs.Prelude.{width_of}
-use Rattle.store_image.specs.Prelude.{NoBadRow, ObjectsStand, StandsFor, EachCutStands}
+use Rattle.store_image.specs.Prelude.{NoBadRow, HasPage, ObjectsStand, StandsFor, EachCutStands}
 use Rattle.read_facts.specs.declared.view.CollView.{CollView}
 use Rattle.read_facts.specs.Prelude.{WalksTo, WalksAll, HasGoodViews, views_of, IsHeldAt, no_memory}
 use Rattle.read_facts.proofs.Viewed.{walk_is, walk_good}
 use Rattle.unit_allocator.specs.Prelude.{Space}
-use Rattle.store_steps.specs.Prelude.{State, Found, opened, is_drained}
+use Rattle.store_steps.specs.Prelude.{State, Found, opened, is_drained, memory_of}
 use Rattle.store_facts.specs.Prelude.{IsKept}
 use Rattle.crash_facts.specs.Store.{KnownOfStore, IsDurable, KeepsDurable}
-use Rattle.crash_facts.proofs.Idle.{drained_submitted, drained_good}
+use Rattle.crash_facts.proofs.Submitted.{submitted_stand, unread_good}
 use Rattle.store_kernel.specs.declared.unanswered.WalkFail.{WalkFail}
 use Rattle.store_kernel.specs.declared.unanswered.WalkFail.TheVariants as walk
 use Rattle.log_replay.specs.Prelude.{IsLater}
@@ -90,6 +90,10 @@ module _ (given : Disk) (f : Found) (space : Space) (start : Disk) (s : State) (
   pub opened_drained : is_drained start.depth s ≡ true
   opened_drained = ap (λ (z : State). is_drained start.depth z) mounted.state ∙ drained_open start.depth f space mounted.events
 
+  -- nothing of it is in memory
+  pub opened_empty : memory_of s ≡ no_memory
+  opened_empty = ap memory_of mounted.state
+
   -- nor is it down
   pub opened_is_up : s.down ≡ None
   opened_is_up = ap (λ (z : State). z.down) mounted.state
@@ -146,11 +150,13 @@ module _ (given : Disk) (f : Found) (space : Space) (start : Disk) (s : State) (
     -- the rows and the units stand for the objects
     stand : ObjectsStand (width_of s.log.sup) (last_at durable.history) s.submitted objects
     stand = subst (ObjectsStand (width_of s.log.sup) (last_at durable.history) s.submitted) none_accepted
-        (drained_submitted 0 objects s start durable.history kept opened_is_up opened_drained known)
+        (subst (λ (m : ℕ → Option (List ℕ)). ObjectsStand (width_of s.log.sup) (λ unit. unwrap_or (m unit) (last_at durable.history unit)) s.submitted
+        (replay objects (accepted s.book.entries))) opened_empty (submitted_stand 0 objects s start durable.history kept opened_is_up known))
 
-    -- no write ended badly
-    answered : (unit : ℕ) → HasNoBadDone durable.history.log unit
-    answered = drained_good 0 objects s start durable.history kept opened_is_up opened_drained known
+    -- no write of a unit with a page ended badly
+    answered : (unit : ℕ) → HasPage (width_of s.log.sup) s.submitted unit → no_memory unit ≡ None → HasNoBadDone durable.history.log unit
+    answered unit has none = unread_good 0 objects s start durable.history kept opened_is_up known unit has
+        (ap (λ (m : ℕ → Option (List ℕ)). m unit) opened_empty)
 
     -- no row is bad
     good_rows : NoBadRow f.sup s.submitted
@@ -158,14 +164,14 @@ module _ (given : Disk) (f : Found) (space : Space) (start : Disk) (s : State) (
 
     -- a walk to the end shows just these objects
     shows_all : (colls : List CollView) → WalksAll (width_of s.log.sup) no_memory (IsHeldAt start) s.submitted colls → colls ≡ views_of objects
-    shows_all colls all = walk_is (width_of s.log.sup) no_memory start durable.history durable.told answered (last_at durable.history)
-        (λ unit. refl) s.submitted objects stand f.sup good_rows colls all
+    shows_all colls all = walk_is (width_of s.log.sup) no_memory start durable.history durable.told s.submitted answered (last_at durable.history)
+        (λ unit. refl) objects stand f.sup good_rows colls all
 
     -- and no walk shows a bad unit
     shows_good : (colls : List CollView) → WalksTo (width_of s.log.sup) no_memory (IsHeldAt start) s.submitted colls
         → AllByRecursion HasGoodViews colls
-    shows_good colls so_far = walk_good (width_of s.log.sup) no_memory start durable.history durable.told answered (last_at durable.history)
-        (λ unit. refl) s.submitted objects stand colls so_far
+    shows_good colls so_far = walk_good (width_of s.log.sup) no_memory start durable.history durable.told s.submitted answered (last_at durable.history)
+        (λ unit. refl) objects stand colls so_far
 
     -- so it is of the walk, whatever its end
     pub walk_shows : (r : Result (Unit {0}) WalkFail) (free : ℕ) (colls : List CollView)

@@ -154,16 +154,17 @@ coll_found rows later found after last c same last_is is next =
     subst (λ (r : Rows). IsNextOf (IsCollection r) last c) same (next_found (IsCollection later) found after last c last_is is next)
 
 -- an object that was found is the next one, and the view is of it
-pub view_found : (w : Width) (d e : Disk) (rows later : Rows) (c : List ℕ) (found : Option ObjectView) (after last : Option (List ℕ)) (o : ObjectView)
-    → e ≡ d → later ≡ rows → after ≡ last → found ≡ Some o
-    → MatchOption found (IsPast (IsObject later c) after) (IsNextView w no_memory (IsHeldAt e) later c after)
+pub view_found : (w : Width) (m : ℕ → Option (List ℕ)) (d e : Disk) (rows later : Rows) (c : List ℕ) (found : Option ObjectView) (after last : Option (List ℕ)) (o : ObjectView)
+    → m ≡ no_memory → e ≡ d → later ≡ rows → after ≡ last → found ≡ Some o
+    → MatchOption found (IsPast (IsObject later c) after) (IsNextView w m (IsHeldAt e) later c after)
     → IsNextView w no_memory (IsHeldAt d) rows c last o
-view_found w d e rows later c found after last o device same last_is is next =
-    let at : IsNextView w no_memory (IsHeldAt e) later c after o =
-    subst (λ (f : Option ObjectView). MatchOption f (IsPast (IsObject later c) after) (IsNextView w no_memory (IsHeldAt e) later c after)) is next in
+view_found w m d e rows later c found after last o nothing device same last_is is next =
+    let at : IsNextView w m (IsHeldAt e) later c after o =
+    subst (λ (f : Option ObjectView). MatchOption f (IsPast (IsObject later c) after) (IsNextView w m (IsHeldAt e) later c after)) is next in
     subst (λ (x : Option (List ℕ)). IsNextView w no_memory (IsHeldAt d) rows c x o) last_is
     (subst (λ (r : Rows). IsNextView w no_memory (IsHeldAt d) r c after o) same
-    (subst (λ (x : Disk). IsNextView w no_memory (IsHeldAt x) later c after o) device at))
+    (subst (λ (x : Disk). IsNextView w no_memory (IsHeldAt x) later c after o) device
+    (subst (λ (n : ℕ → Option (List ℕ)). IsNextView w n (IsHeldAt e) later c after o) nothing at)))
 
 -- ---- objects that were seen
 

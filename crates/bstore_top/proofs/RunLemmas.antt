@@ -22,10 +22,10 @@ use Rattle.store_steps.specs.declared.flight.Job.{Job}
 use Rattle.store_steps.specs.declared.flight.Job.TheVariants as job
 use Rattle.store_steps.specs.declared.step.Step.{Step}
 use Rattle.store_steps.specs.declared.step.Step.TheVariants.{Data, Reap, Take, Flush, Seal, Record, Sync, Commit, Finish}
-use Rattle.store_steps.specs.Prelude.{State, landed, after_done, after_good, flying_of, down_by, is_drained, is_empty, Takes, Does, entered, Accepts, Refuses, IsDownBy, IsBookFull, Call, reading, stepping, MayRead, AnswersRead, DoesOrFails, Calls}
+use Rattle.store_steps.specs.Prelude.{State, landed, after_done, after_good, flying_of, down_by, Takes, Does, entered, Accepts, Refuses, IsDownBy, IsBookFull, Call, reading, stepping, AnswersRead, DoesOrFails, Calls}
 use Rattle.plan_rows.specs.Prelude.{IsKnown}
 use Rattle.read_facts.specs.Prelude.{IsKnownRead}
-use Rattle.store_kernel.specs.Submitting.{MaySubmit, RefusesBy}
+use Rattle.store_kernel.specs.Submitting.{RefusesBy}
 use Rattle.store_kernel.specs.Reading.{UnansweredBy, IsDeviceRead}
 use Rattle.store_kernel.specs.declared.unanswered.Unanswered.{Unanswered}
 use Rattle.store_kernel.specs.declared.unanswered.Unanswered.TheVariants as unanswered
@@ -192,22 +192,12 @@ drain_stops fail.Fault x0 s0 d0 x s d step x' s' d' so_far next sound fault memo
 
 -- ---- the client
 
--- nothing is ready, so the kernel is drained
-none_drained : (depth : ℕ) (s : State) → ready_list depth s ≡ [] → is_drained depth s ≡ true
-unfolding ready_list
-none_drained depth s none = ap (λ (l : List Step). is_empty l) none
-
 -- operations that scripts can have are known to the store
-known_ops : (ops : List Op) → HasWholePages ops → IsKnown ops
+pub known_ops : (ops : List Op) → HasWholePages ops → IsKnown ops
 known_ops (op.MkColl ∷ []) pages = tt
 known_ops (op.Touch o ∷ []) pages = tt
 known_ops (op.Write o off bytes ∷ []) pages = pages
 known_ops ops pages = absurd pages
-
--- a transaction that scripts can have may be submitted where nothing is ready
-pub may_submit : (change : Change) (s : State) (d : Disk) → ready_list d.depth s ≡ [] → FitsWhat (what.Command (command.Change change))
-    → MaySubmit change s d
-may_submit change s d none fits = record { drained = λ up. none_drained d.depth s none; known = known_ops change.ops fits }
 
 -- the command is no transaction
 abbrev pub IsNoChange : Command → Type 0
@@ -240,10 +230,6 @@ known_read (command.OmapHeader coll object) is fits = absurd fits
 pub known_other : (c : Command) → ((change : Change) → c ≡ command.Change change → ⊥) → FitsWhat (what.Command c) → IsKnownRead c
 known_other c other fits = known_read c (other_read c other) fits
 
--- it may be asked where nothing is ready
-pub may_read : (c : Command) (s : State) (d : Disk) → ready_list d.depth s ≡ [] → IsKnownRead c → MayRead c s d
-may_read c s d none known = record { drained = λ up. none_drained d.depth s none; known = known }
-
 -- the kernel isn't down, and its book isn't full
 not_down : (s : State) (ticket : Ticket) → s.down ≡ None → IsDownBy ticket s → ⊥
 not_down s ticket up down = let never : None ≡ Some ticket = sym up ∙ down in cc
@@ -253,15 +239,15 @@ not_full : (s : State) → length s.book.entries < 1048576 → IsBookFull s → 
 not_full s room full = omega (arith, room, full.full)
 
 -- so it turns no transaction away
-pub not_turned_away : (line : ℕ) (change : Change) (r : Result ℕ Refused) (s s' : State) → s.down ≡ None → length s.book.entries < 1048576
-    → IfErr r (λ why. RefusesBy why 0 line change s s') → IsNotTurnedAway r
-not_turned_away line change (Ok place) s s' up room refuses = tt
-not_turned_away line change (Err (refused.Refusal refusal)) s s' up room refuses = tt
-not_turned_away line change (Err (refused.NoSpace need free)) s s' up room refuses = tt
-not_turned_away line change (Err (refused.MetaFull need left)) s s' up room refuses = tt
-not_turned_away line change (Err (refused.Memory back)) s s' up room refuses = tt
-not_turned_away line change (Err (refused.Down ticket back)) s s' up room refuses = absurd (not_down s ticket up refuses.0)
-not_turned_away line change (Err (refused.BookFull back)) s s' up room refuses = absurd (not_full s room refuses.0)
+pub not_turned_away : (line : ℕ) (change : Change) (r : Result ℕ Refused) (s : State) (d : Disk) (s' : State) → s.down ≡ None → length s.book.entries < 1048576
+    → IfErr r (λ why. RefusesBy why 0 line change s d s') → IsNotTurnedAway r
+not_turned_away line change (Ok place) s d s' up room refuses = tt
+not_turned_away line change (Err (refused.Refusal refusal)) s d s' up room refuses = tt
+not_turned_away line change (Err (refused.NoSpace need free)) s d s' up room refuses = tt
+not_turned_away line change (Err (refused.MetaFull need left)) s d s' up room refuses = tt
+not_turned_away line change (Err (refused.Memory back)) s d s' up room refuses = tt
+not_turned_away line change (Err (refused.Down ticket back)) s d s' up room refuses = absurd (not_down s ticket up refuses.0)
+not_turned_away line change (Err (refused.BookFull back)) s d s' up room refuses = absurd (not_full s room refuses.0)
 
 -- nor does it turn a read away
 pub no_turn_away : (c : Command) (r : Result ℕ Unanswered) (s s' : State) → s.down ≡ None → length s.book.entries < 1048576
@@ -293,19 +279,19 @@ module _ (line : ℕ) (c : Command) (s : State) (d : Disk) (s' : State) (d' : Di
     }
 
 -- a transaction that was refused with an answer has its entry
-made_refused : (line : ℕ) (change : Change) (reply : Answer) (s : State) (d : Disk) (s' : State) (d' : Disk) → s.down ≡ None → MaySubmit change s d
-    → d' ≡ d → Refuses 0 line change reply s s' → IsMade line (command.Change change) s d s' d'
+made_refused : (line : ℕ) (change : Change) (reply : Answer) (s : State) (d : Disk) (s' : State) (d' : Disk) → s.down ≡ None → IsKnown change.ops
+    → d' ≡ d → Refuses 0 line change reply s d s' → IsMade line (command.Change change) s d s' d'
 made_refused line change reply s d s' d' up may same refuses =
-    made_by line (command.Change change) s d s' d' up (may.known, inr (inl (reply, refuses)), same) reply s refl refl refuses.after
+    made_by line (command.Change change) s d s' d' up (may, inr (inl (reply, refuses)), same) reply s refl refl refuses.after
 
 -- what a submission makes, by its end
 pub submitted_ends : (line : ℕ) (change : Change) (r : Result ℕ Refused) (out : Result (Unit {0}) RunFail) (s : State) (d : Disk) (s' : State)
     (d' : Disk)
-    → s.down ≡ None → MaySubmit change s d → d' ≡ d → OnOk r (Accepts 0 line change s s') → IfErr r (λ why. RefusesBy why 0 line change s s')
+    → s.down ≡ None → IsKnown change.ops → d' ≡ d → OnOk r (Accepts 0 line change s s') → IfErr r (λ why. RefusesBy why 0 line change s d s')
     → MatchResult out (λ _. IsNoted r) (λ e. (e ≡ run.Memory) × IsNotNoted r)
     → MatchResult out (λ _. IsMade line (command.Change change) s d s' d') (λ e. IsUnmade e s d s' d')
 submitted_ends line change (Ok place) (Ok u) s d s' d' up may same accepted refuses noted =
-    made_by line (command.Change change) s d s' d' up (may.known, inl accepted, same) answer.Accepted _ refl refl accepted.after
+    made_by line (command.Change change) s d s' d' up (may, inl accepted, same) answer.Accepted _ refl refl accepted.after
 submitted_ends line change (Err (refused.Refusal refusal)) (Ok u) s d s' d' up may same accepted refuses noted =
     made_refused line change (answer.Refused refusal) s d s' d' up may same refuses
 submitted_ends line change (Err (refused.NoSpace need free)) (Ok u) s d s' d' up may same accepted refuses noted =
@@ -342,11 +328,11 @@ unanswered_same e why c s d s' d' away same is = absurd is
 -- what a read makes, by its end
 pub replied_ends : (line : ℕ) (c : Command) (r : Result ℕ Unanswered) (out : Result (Unit {0}) RunFail) (s : State) (d : Disk) (s' : State)
     (d' : Disk)
-    → s.down ≡ None → MayRead c s d → d' ≡ d → OnOk r ((a : Answer) × AnswersRead 0 line c a s d s') → IfErr r (λ why. UnansweredBy why c s s')
+    → s.down ≡ None → IsKnownRead c → d' ≡ d → OnOk r ((a : Answer) × AnswersRead 0 line c a s d s') → IfErr r (λ why. UnansweredBy why c s s')
     → MatchResult out (λ _. IsReplied r) (λ e. IsFailOf e r) → MatchResult out (λ _. IsMade line c s d s' d') (λ e. IsUnmade e s d s' d')
 replied_ends line c (Ok place) (Ok u) s d s' d' up may same answered away replied =
     let called : Calls (call_of line c) s d s' d' =
-    subst (λ (call : Call). Calls call s d s' d') (sym (call_reads line c may.known)) (may, inl answered, same) in
+    subst (λ (call : Call). Calls call s d s' d') (sym (call_reads line c may)) (may, inl answered, same) in
     made_by line c s d s' d' up called answered.0 s refl refl answered.1.after
 replied_ends line c (Err why) (Err e) s d s' d' up may same answered away replied = unanswered_same e why c s d s' d' away same replied
 replied_ends line c (Ok place) (Err run.Memory) s d s' d' up may same answered away replied = absurd replied

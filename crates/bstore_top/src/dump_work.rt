@@ -5,7 +5,7 @@ ghost use Rattle.meta_log.specs.Prelude.{width_of};
 ghost use Rattle.block_device.specs.Prelude.{IsSound, IsFresh, Rose};
 ghost use Rattle.unit_fields.specs.Prelude.{IsCollName};
 ghost use Rattle.read_facts.specs.Prelude.{IsHeldAt, no_memory, last_of, IsViewed, IsWhole, WalksTo, WalksAll, object_names, coll_names};
-ghost use Rattle.store_steps.specs.Prelude.{is_drained};
+ghost use Rattle.store_steps.specs.Prelude.{memory_of};
 ghost use Rattle.log_replay.specs.Prelude.{IsLater};
 ghost use Rattle.command_words.specs.declared.command_line.CommandLine.TheVariants.{Dump};
 ghost use Rattle.bstore_top.specs.Dumping.{IsOfUp, end_of_walk};
@@ -62,7 +62,7 @@ fn walk_objects<D: Device>(
     view: &mut CollView,
 ) -> Result<(), WalkFail>
     requires up { kernel.old.state.down ≡ None }
-    requires drained { is_drained (D.disk kernel.old.device).depth kernel.old.state ≡ true }
+    requires nothing { memory_of kernel.old.state ≡ no_memory }
     requires named { IsCollName view.old.coll }
     requires none { view.old.objects ≡ [] }
     ensures coll { view.new.coll ≡ view.old.coll }
@@ -95,7 +95,7 @@ fn walk_store<D: Device>(
     walk: &mut Vec<CollView>,
 ) -> Result<(), WalkFail>
     requires up { kernel.old.state.down ≡ None }
-    requires drained { is_drained (D.disk kernel.old.device).depth kernel.old.state ≡ true }
+    requires nothing { memory_of kernel.old.state ≡ no_memory }
     requires none { walk.old.items ≡ [] }
     ensures walked { WalksTo (width_of kernel.old.state.log.sup) no_memory (IsHeldAt (D.disk kernel.old.device))
         kernel.old.state.submitted walk.new.items }

@@ -117,7 +117,6 @@ fn submit<D: Device>(
     txn: Transaction,
 ) -> Result<(), RunFail>
     requires up { kernel.old.state.down ≡ None }
-    requires drained { ready_list (D.disk kernel.old.device).depth kernel.old.state ≡ [] }
     requires fits { FitsWhat (what.Command (command.Change txn)) }
     requires room { length kernel.old.state.book.entries < 1048576 }
     ensures made { MatchResult result
@@ -142,7 +141,6 @@ fn ask_read<D: Device>(
     read: Command,
 ) -> Result<(), RunFail>
     requires up { kernel.old.state.down ≡ None }
-    requires drained { ready_list (D.disk kernel.old.device).depth kernel.old.state ≡ [] }
     requires known { IsKnownRead read }
     requires room { length kernel.old.state.book.entries < 1048576 }
     ensures made { MatchResult result
@@ -167,7 +165,6 @@ fn make<D: Device>(
     command: Command,
 ) -> Result<(), RunFail>
     requires up { kernel.old.state.down ≡ None }
-    requires drained { ready_list (D.disk kernel.old.device).depth kernel.old.state ≡ [] }
     requires fits { FitsWhat (what.Command command) }
     requires room { length kernel.old.state.book.entries < 1048576 }
     ensures made { MatchResult result

@@ -1,6 +1,10 @@
 use Rattle.std.proofs.Common.{inr}
-use Rattle.bstore_top.proofs.DumpKept.{stays_durable, walk_counted, later_unmounted, durable_unmounted, store_walked, walk_shows}
+use Rattle.bstore_top.proofs.DumpKept.{opened_empty, stays_durable, walk_counted, later_unmounted, durable_unmounted, store_walked, walk_shows}
 use Rattle.bstore_top.proofs.dump_work.dump_on.Goals as goal
+
+pub walk_store-walked-requires-clause-nothing : goal.walk_store-walked-requires-clause-nothing
+walk_store-walked-requires-clause-nothing g c =
+    opened_empty _ c.in-Ok.ensures.ok.0 c.in-Ok.ensures.ok.1.0 _ _ c.in-Ok.ensures.ok.1.1
 
 pub returns-in-Err-clause-durable : goal.returns-in-Err-clause-durable
 returns-in-Err-clause-durable g c sound fresh =

@@ -4,8 +4,12 @@ use Rattle.std.specs.FinMap as finite
 use Rattle.meta_log.specs.Prelude.{width_of}
 use Rattle.read_facts.specs.declared.view.CollView.{CollView}
 use Rattle.read_facts.specs.Prelude.{IsHeldAt, no_memory, IsCollection, IsNextOf, last_of, WalksTo, coll_names}
+use Rattle.store_steps.specs.Prelude.{memory_of}
 use Rattle.bstore_top.proofs.DumpWalks.{coll_found, so_far, one_walked, part_walked, few_walked, fewer_left, whole_at, viewed_at}
 use Rattle.bstore_top.proofs.dump_work.walk_store.Goals as goal
+
+pub walk_objects-walked-requires-clause-nothing : goal.walk_objects-walked-requires-clause-nothing
+walk_objects-walked-requires-clause-nothing g c = ap memory_of c.colls.invariant.same ∙ c.requires.nothing
 
 pub colls-preserved : goal.colls-preserved
 colls-preserved g c =

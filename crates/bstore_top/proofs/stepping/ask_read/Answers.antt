@@ -1,8 +1,5 @@
-use Rattle.bstore_top.proofs.RunLemmas.{may_read, no_turn_away, replied_ends, read_rose}
+use Rattle.bstore_top.proofs.RunLemmas.{no_turn_away, replied_ends, read_rose}
 use Rattle.bstore_top.proofs.stepping.ask_read.Goals as goal
-
-pub ask-answered-requires : goal.ask-answered-requires
-ask-answered-requires g c = may_read c.args.read _ _ c.requires.drained c.requires.known
 
 pub replied-end-requires : goal.replied-end-requires
 replied-end-requires g c = no_turn_away c.args.read c.ask-answered.result _ _ c.requires.up c.requires.room c.ask-answered.ensures.unanswered
@@ -10,7 +7,7 @@ replied-end-requires g c = no_turn_away c.args.read c.ask-answered.result _ _ c.
 pub returns-clause-made : goal.returns-clause-made
 returns-clause-made g c =
     replied_ends c.args.line c.args.read c.ask-answered.result c.replied-end.result _ _ _ _ c.requires.up
-    (may_read c.args.read _ _ c.requires.drained c.requires.known)
+    c.requires.known
     c.ask-answered.ensures.disk c.ask-answered.ensures.answered c.ask-answered.ensures.unanswered c.replied-end.ensures
 
 pub returns-clause-cause : goal.returns-clause-cause

@@ -1,6 +1,6 @@
-//! Reads of an object over a device in memory: in as few reads of the device as it takes, with one that fails, and with the bytes of a unit that
-//! are still being written. The store has 200 units, with data units from 18 on; each holds its own number in every byte. Refusals, names, walks and changed bytes are cases of
-//! the program `store_cases`.
+//! Reads of an object over a device in memory: in as few reads of the device as it takes, with one that fails, and with a unit whose bytes are
+//! in memory. The store has 200 units, with data units from 18 on; each holds its own number in every byte. Refusals, names, walks and changed
+//! bytes are cases of the program `store_cases`.
 ghost use Rattle.std.specs.Prelude.{◌≡◌, ℕ, List, Some, IfOk, IsTrue, length};
 ghost use Rattle.unit_fields.specs.declared.width.Width.TheVariants.{FourBytes};
 ghost use Rattle.block_device.specs.Prelude.{disk_of};
@@ -81,7 +81,7 @@ fn rows_of(alloc: Global, object: &Object) -> Result<RowTable, AllocError> {
     Ok(rows)
 }
 
-// What a unit holds that is still being written.
+// The bytes of a unit that are in memory.
 static NEW_BYTES: [u8; 4096] = [0x6d; 4096];
 
 // The bytes of this unit in memory, or of none.

@@ -72,7 +72,8 @@ impl<D: Device> Model for Kernel<D> {
     } };
 
     ghost invariant = { λ k. KnownOfKernel k.buffers k.batch
-        (state_of k.meta k.submitted.rows k.contexts k.batch k.flying.items k.down k.events k.space k.entries.items k.commits.items k.acked) (D.disk k.device) };
+        (state_of k.meta k.submitted.rows k.contexts k.batch k.flying.items k.down k.events k.space k.entries.items k.commits.items k.acked)
+        (D.disk k.device) };
 }
 
 impl<D: Device> Kernel<D> {

@@ -1,4 +1,4 @@
-//! Bytes of data units that are still being written, in memory.
+//! Bytes of data units whose transactions aren't committed, in memory.
 //!
 //! In Ceph's BlueStore these are the buffers in `STATE_WRITING` of a `BufferSpace`.
 #![tactic(auto)]

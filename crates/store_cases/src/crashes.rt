@@ -7,6 +7,7 @@ mod dumped;
 mod history;
 mod image;
 mod judged;
+mod left;
 mod lines;
 mod object;
 mod reader;
@@ -16,4 +17,8 @@ mod spelled;
 mod sweep;
 mod swept;
 
-pub use sweep::Sweep;
+pub use history::{Past, apply, objects_behind};
+pub use left::{COLLS, Judge, Left};
+pub use spelled::NAMES;
+pub use sweep::{Sweep, TEARS, tear_of};
+pub use swept::Counts;

@@ -1,8 +1,12 @@
 //! Calls of the kernel over devices in memory, step by step, with making stores, mounting and unmounting them.
 
 mod asking;
+mod crowding;
+mod cutting;
 mod devices;
+mod drawing;
 mod lines;
+mod lists;
 mod mounted;
 mod stepping;
 mod submitting;

@@ -14,7 +14,7 @@ pub struct Past {
 }
 
 /// Applies the transaction of an entry.
-fn apply(alloc: Global, plain: &mut Plain, entry: Option<&Entry>) -> Result<(), CaseError> {
+pub fn apply(alloc: Global, plain: &mut Plain, entry: Option<&Entry>) -> Result<(), CaseError> {
     let Some(entry) = entry else {
         return Err(CaseError::Line("a commit of no entry"));
     };

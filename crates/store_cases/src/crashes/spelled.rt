@@ -24,34 +24,70 @@ fn push_object(out: &mut Vec<u8>, bytes: Option<&[u8]>) -> Result<(), AllocError
     Ok(())
 }
 
-/// Plain objects, spelled so.
-pub fn spelled_plain(alloc: Global, plain: &Plain) -> Result<Vec<u8>, CaseError> {
-    let mut out = Vec::new(alloc);
-    let coll = coll_of(alloc, COLL.as_bytes())?;
+/// Adds a collection of plain objects.
+fn push_plain(
+    alloc: Global,
+    out: &mut Vec<u8>,
+    plain: &Plain,
+    coll: &str,
+) -> Result<(), CaseError> {
+    let coll = coll_of(alloc, coll.as_bytes())?;
     out.push(plain.collection(&coll).is_ok() as u8)?;
     for name in NAMES {
         match plain.find(&coll, &name_of(alloc, name.as_bytes())?) {
-            Some(object) => push_object(&mut out, Some(object.bytes.as_slice()))?,
-            None => push_object(&mut out, None)?,
+            Some(object) => push_object(out, Some(object.bytes.as_slice()))?,
+            None => push_object(out, None)?,
         }
+    }
+    Ok(())
+}
+
+/// Plain objects of these collections, spelled so.
+pub fn spelled_plain(alloc: Global, plain: &Plain, colls: &[&str]) -> Result<Vec<u8>, CaseError> {
+    let mut out = Vec::new(alloc);
+    for coll in colls {
+        push_plain(alloc, &mut out, plain, coll)?;
     }
     Ok(out)
 }
 
-/// What was found in an image, spelled so; None where it has something else, or an object that can't be read.
-pub fn spelled(alloc: Global, found: &Found, image: &[u8]) -> Result<Option<Vec<u8>>, CaseError> {
-    let mut out = Vec::new(alloc);
-    let has_coll = found.has_collection(COLL.as_bytes());
+/// Adds a collection that was found, and tells how many rows it is; None where an object can't be read.
+fn push_found(
+    alloc: Global,
+    out: &mut Vec<u8>,
+    found: &Found,
+    image: &[u8],
+    coll: &str,
+) -> Result<Option<usize>, CaseError> {
+    let has_coll = found.has_collection(coll.as_bytes());
     out.push(has_coll as u8)?;
     let mut rows = has_coll as usize;
     for name in NAMES {
-        match found.object(alloc, image, COLL.as_bytes(), name.as_bytes())? {
+        match found.object(alloc, image, coll.as_bytes(), name.as_bytes())? {
             Object::Damaged => return Ok(None),
-            Object::Missing => push_object(&mut out, None)?,
+            Object::Missing => push_object(out, None)?,
             Object::Whole(bytes, shards) => {
                 rows = rows.wrapping_add(1).wrapping_add(shards);
-                push_object(&mut out, Some(bytes.as_slice()))?;
+                push_object(out, Some(bytes.as_slice()))?;
             }
+        }
+    }
+    Ok(Some(rows))
+}
+
+/// What was found in an image, spelled so; None where it has something else than these collections, or an object that can't be read.
+pub fn spelled(
+    alloc: Global,
+    found: &Found,
+    image: &[u8],
+    colls: &[&str],
+) -> Result<Option<Vec<u8>>, CaseError> {
+    let mut out = Vec::new(alloc);
+    let mut rows = 0usize;
+    for coll in colls {
+        match push_found(alloc, &mut out, found, image, coll)? {
+            Some(more) => rows = rows.wrapping_add(more),
+            None => return Ok(None),
         }
     }
     // There is nothing beside these.

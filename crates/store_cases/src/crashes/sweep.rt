@@ -2,7 +2,7 @@
 
 use crate::crashes::history::{Past, apply_commit, objects_behind};
 use crate::crashes::image::Found;
-use crate::crashes::spelled::spelled_plain;
+use crate::crashes::spelled::{COLL, spelled_plain};
 use crate::runs::Case;
 use block_device::{MemoryDevice, Tear};
 use case_text::{CaseError, Setup, Text, Words, look_up, number};
@@ -42,13 +42,18 @@ pub fn tear_of(word: &str) -> Result<Tear, CaseError> {
     }
 }
 
-/// The objects after each number of commits, from these on.
-fn states(alloc: Global, mut plain: Plain, book: &Book) -> Result<Vec<Vec<u8>>, CaseError> {
+/// The objects of these collections after each number of commits, from these on.
+pub fn states(
+    alloc: Global,
+    mut plain: Plain,
+    book: &Book,
+    colls: &[&str],
+) -> Result<Vec<Vec<u8>>, CaseError> {
     let mut states = Vec::new(alloc);
-    states.push(spelled_plain(alloc, &plain)?)?;
+    states.push(spelled_plain(alloc, &plain, colls)?)?;
     for at in 0..book.commits.len() {
         apply_commit(alloc, &mut plain, book, at)?;
-        states.push(spelled_plain(alloc, &plain)?)?;
+        states.push(spelled_plain(alloc, &plain, colls)?)?;
     }
     Ok(states)
 }
@@ -93,7 +98,7 @@ impl Sweep {
         };
         self.case
             .run_line(&["bstore", "step", "dev", "--seed", seed, script])?;
-        self.states = states(self.alloc, plain, self.book()?)?;
+        self.states = states(self.alloc, plain, self.book()?, &[COLL])?;
         Ok(())
     }
 

@@ -31,7 +31,7 @@ static READ_KINDS: [(&str, ReadKind); 4] = [
 ];
 
 /// The read of these words.
-fn question(alloc: Global, mut words: Words<'_>) -> Result<Command, CaseError>
+pub fn question(alloc: Global, mut words: Words<'_>) -> Result<Command, CaseError>
     ensures { IfOk result (λ command. IsKnownRead command) }
 {
     let Some(kind) = look_up(&READ_KINDS, words.next()?) else {
@@ -108,18 +108,14 @@ fn print_unanswered(why: &Unanswered, out: &mut Text) {
 }
 
 /// Asks for a read, as client 3 at line 7.
-fn answered(
+pub fn answered(
     alloc: Global,
     kernel: &mut Kernel<MemoryDevice>,
     command: Command,
-) -> Result<Result<u32, Unanswered>, CaseError>
+) -> Result<u32, Unanswered>
     requires { IsKnownRead command }
 {
-    if kernel.down().is_none() && !kernel.drained() {
-        drop(command);
-        return Err(CaseError::Line("the kernel isn't drained"));
-    }
-    Ok(kernel.ask(alloc, 3, 7, command))
+    kernel.ask(alloc, 3, 7, command)
 }
 
 /// Follows `ask READ`, from its second word on.
@@ -130,7 +126,7 @@ pub fn ask(
     out: &mut Text,
 ) -> Result<(), CaseError> {
     let command = question(alloc, words)?;
-    match answered(alloc, kernel, command)? {
+    match answered(alloc, kernel, command) {
         Ok(place) => print_entry(kernel, place, out),
         Err(why) => {
             print_unanswered(&why, out);

@@ -2,6 +2,7 @@
 ghost use Rattle.std.specs.Prelude.{◌≡◌, ◌≤◌, [], IfOk};
 ghost use Rattle.block_device.specs.Prelude.{disk_of};
 
+use crate::crashes::Left;
 use crate::kernel::lines::KernelLines;
 use crate::kernel::mounted::Mounted;
 use crate::runs::last_written;
@@ -75,7 +76,8 @@ fn made(
     mkfs(alloc, dev, half, 32768)
 }
 
-fn opened(
+/// Mounts a device on which nothing is in flight.
+pub fn opened(
     alloc: Global,
     dev: MemoryDevice,
 ) -> Result<Kernel<MemoryDevice>, (MountFail, MemoryDevice)>
@@ -127,6 +129,7 @@ impl KernelLines {
             return Err(CaseError::Line("a store is mounted"));
         }
         let dev = self.setup.device(name)?;
+        self.remember()?;
         match opened(self.alloc, dev) {
             Ok(kernel) => {
                 self.keep_mounted(kernel, out);
@@ -158,7 +161,9 @@ impl KernelLines {
         let (dev, book) = mounted.close();
         print_device(&dev, out);
         print_book(&book, out);
-        self.keep(name, &dev)
+        self.keep(name, &dev)?;
+        self.left = Some(Left { dev, book });
+        Ok(())
     }
 
     /// Follows `see NAME AT COUNT`, from its second word on: shows bytes of a device, as runs of equal ones.

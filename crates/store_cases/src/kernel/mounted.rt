@@ -1,7 +1,10 @@
 //! A store that is mounted, and what it is called for.
 
 use crate::kernel::asking::ask;
-use crate::kernel::stepping::{drain, print_acked, print_ready, print_state, step};
+use crate::kernel::crowding::{crowd, wait_beside};
+use crate::kernel::stepping::{
+    drain, print_acked, print_commits, print_ready, print_state, settle, step,
+};
 use crate::kernel::submitting::submit;
 use crate::kernel::walking::walk;
 use block_device::MemoryDevice;
@@ -18,16 +21,24 @@ pub enum KernelCall {
     Submit,
     /// `ask READ`
     Ask,
-    /// `step NAME`: does a step, if it is ready.
+    /// `step NAME ..`: does each step that is ready when its turn comes.
     Step,
     /// `drain`: does the first ready step until none is.
     Drain,
+    /// `settle`, `settle first STEP`, `settle last STEP`: the same, with one step before all others or behind them.
+    Settle,
     /// `ready`: shows the ready steps.
     Ready,
     /// `state`: shows the kernel's state.
     State,
     /// `acked PLACE`: shows whether a transaction is acknowledged.
     Acked,
+    /// `commits`: shows the commits.
+    Commits,
+    /// `crowd COLL`: submits objects until one is refused.
+    Crowd,
+    /// `waiting COUNT TURNS`: commits so many pages while so many others wait.
+    Waiting,
     /// `walk`: shows all collections and objects.
     Walk,
 }
@@ -57,6 +68,13 @@ impl Mounted {
             KernelCall::Ask => ask(self.alloc, &mut self.kernel, words, out),
             KernelCall::Step => step(self.alloc, &mut self.kernel, words, out),
             KernelCall::Drain => drain(self.alloc, &mut self.kernel, out),
+            KernelCall::Settle => settle(self.alloc, &mut self.kernel, words),
+            KernelCall::Crowd => crowd(self.alloc, &mut self.kernel, words, out),
+            KernelCall::Waiting => wait_beside(self.alloc, &mut self.kernel, words, out),
+            KernelCall::Commits => {
+                print_commits(&self.kernel, out);
+                Ok(())
+            }
             KernelCall::Ready => {
                 print_ready(&self.kernel, out);
                 Ok(())

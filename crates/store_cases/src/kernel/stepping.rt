@@ -9,6 +9,9 @@ use store_steps::{ALL_STEPS, Step};
 /// The most steps of one `drain`.
 const MOST_STEPS: u32 = 1000;
 
+/// The most steps of one `settle`, also where each submission waits for 63 reaps.
+const MOST_UNSHOWN: u32 = 100_000;
+
 /// Their names.
 static STEP_NAMES: [(&str, Step); 9] = [
     ("Data", Step::Data),
@@ -32,7 +35,7 @@ fn show_step(did: Result<(), StepFail>, step: Step, out: &mut Text) {
 }
 
 /// Does a step, if it is ready.
-fn step_if_ready(
+pub fn step_if_ready(
     alloc: Global,
     kernel: &mut Kernel<MemoryDevice>,
     step: Step,
@@ -70,6 +73,93 @@ pub fn drain(
     Err(CaseError::Line("it isn't drained"))
 }
 
+/// Which of the ready steps is done: the first one in the order of the table, or one that goes before all others or behind them.
+#[derive(Clone, Copy)]
+enum Choice {
+    InOrder,
+    First(Step),
+    Last(Step),
+}
+
+/// The choice of these words: none, `first STEP` or `last STEP`.
+fn choice_of(mut words: Words<'_>) -> Result<Choice, CaseError> {
+    if words.is_empty() {
+        return Ok(Choice::InOrder);
+    }
+    let which = words.next()?;
+    let Some(step) = look_up(&STEP_NAMES, words.last()?) else {
+        return Err(CaseError::Line("no such step"));
+    };
+    match which {
+        "first" => Ok(Choice::First(step)),
+        "last" => Ok(Choice::Last(step)),
+        _ => Err(CaseError::Line("no such choice")),
+    }
+}
+
+/// Does the first ready step in the order of the table that isn't this one.
+fn step_other(
+    alloc: Global,
+    kernel: &mut Kernel<MemoryDevice>,
+    not: Option<Step>,
+) -> Option<Result<(), StepFail>> {
+    for step in ALL_STEPS {
+        if not != Some(step)
+            && let Some(did) = step_if_ready(alloc, kernel, step)
+        {
+            return Some(did);
+        }
+    }
+    None
+}
+
+/// Does the ready step of this choice.
+fn step_chosen(
+    alloc: Global,
+    kernel: &mut Kernel<MemoryDevice>,
+    choice: Choice,
+) -> Option<Result<(), StepFail>> {
+    match choice {
+        Choice::InOrder => step_other(alloc, kernel, None),
+        Choice::First(step) => match step_if_ready(alloc, kernel, step) {
+            Some(did) => Some(did),
+            None => step_other(alloc, kernel, None),
+        },
+        Choice::Last(step) => match step_other(alloc, kernel, Some(step)) {
+            Some(did) => Some(did),
+            None => step_if_ready(alloc, kernel, step),
+        },
+    }
+}
+
+/// Does steps of this choice until none is ready, whether they fail or not.
+fn settled(
+    alloc: Global,
+    kernel: &mut Kernel<MemoryDevice>,
+    choice: Choice,
+) -> Result<(), CaseError> {
+    for _ in 0..MOST_UNSHOWN {
+        if step_chosen(alloc, kernel, choice).is_none() {
+            return Ok(());
+        }
+    }
+    Err(CaseError::Line("it isn't drained"))
+}
+
+/// Does the first ready step until none is ready.
+pub fn settle_in_order(alloc: Global, kernel: &mut Kernel<MemoryDevice>) -> Result<(), CaseError> {
+    settled(alloc, kernel, Choice::InOrder)
+}
+
+/// Follows `settle`, `settle first STEP` and `settle last STEP`, from its second word on.
+pub fn settle(
+    alloc: Global,
+    kernel: &mut Kernel<MemoryDevice>,
+    words: Words<'_>,
+) -> Result<(), CaseError> {
+    settled(alloc, kernel, choice_of(words)?)
+}
+
 /// Follows `ready`.
 pub fn print_ready(kernel: &Kernel<MemoryDevice>, out: &mut Text) {
     out.print("ready");
@@ -94,24 +184,48 @@ pub fn print_state(kernel: &Kernel<MemoryDevice>, out: &mut Text) {
     out.println(format_args!(" drained={drained} free={free} entries={entries} commits={commits}"));
 }
 
-/// Follows `step NAME`, from its second word on.
+/// Does a step of this name, if it is ready, and shows it.
+fn step_of(
+    alloc: Global,
+    kernel: &mut Kernel<MemoryDevice>,
+    name: &str,
+    out: &mut Text,
+) -> Result<(), CaseError> {
+    let Some(step) = look_up(&STEP_NAMES, name) else {
+        return Err(CaseError::Line("no such step"));
+    };
+    match step_if_ready(alloc, kernel, step) {
+        Some(did) => show_step(did, step, out),
+        None => out.print(format_args!(" {step:?}=not-ready")),
+    }
+    Ok(())
+}
+
+/// Follows `step NAME ..`, from its second word on: does each of them that is ready.
 pub fn step(
     alloc: Global,
     kernel: &mut Kernel<MemoryDevice>,
     words: Words<'_>,
     out: &mut Text,
 ) -> Result<(), CaseError> {
-    let Some(step) = look_up(&STEP_NAMES, words.last()?) else {
-        return Err(CaseError::Line("no such step"));
-    };
-    let Some(did) = step_if_ready(alloc, kernel, step) else {
-        out.println("not ready");
-        return Ok(());
-    };
     out.print("steps");
-    show_step(did, step, out);
+    for name in words.list(alloc)? {
+        step_of(alloc, kernel, name, out)?;
+    }
     out.print("\n");
     Ok(())
+}
+
+/// Follows `commits`: shows the places of the commits in their order, each with the number of events at which it was acknowledged.
+pub fn print_commits(kernel: &Kernel<MemoryDevice>, out: &mut Text) {
+    out.print("commits");
+    for commit in kernel.commits() {
+        match commit.acked_at {
+            Some(at) => out.print(format_args!(" {}@{at}", commit.place)),
+            None => out.print(format_args!(" {}@never", commit.place)),
+        }
+    }
+    out.print("\n");
 }
 
 /// Follows `acked PLACE`, from its second word on.

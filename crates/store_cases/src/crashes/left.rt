@@ -1,0 +1,163 @@
+//! What mounts leave: a device and the book of what was done. The plain reader says of each image of the device whether it is of a front
+//! of the commits.
+
+use crate::crashes::history::{Past, acknowledged, objects_behind};
+use crate::crashes::image::Found;
+use crate::crashes::object::Object;
+use crate::crashes::spelled::{NAMES, spelled};
+use crate::crashes::sweep::{TEARS, states};
+use crate::crashes::swept::{Counts, has_from};
+use block_device::{MemoryDevice, Tear};
+use case_text::{CaseError, Text, number};
+use crc32c_csum::crc32c;
+use object_model::Book;
+use std::alloc::Global;
+
+/// The collections that are looked at.
+pub const COLLS: [&str; 4] = ["1.0_head", "2.0_head", "3.0_head", "4.0_head"];
+
+/// What a mount left.
+#[derive(Drop)]
+pub struct Left {
+    pub dev: MemoryDevice,
+    pub book: Book,
+}
+
+impl Left {
+    /// What a crash behind so many events leaves, torn in this way.
+    pub fn image(&self, cut: u64, tear: Tear) -> Result<Vec<u8>, CaseError> {
+        if self.dev.events() < cut {
+            return Err(CaseError::Line("the log is shorter"));
+        }
+        Ok(self.dev.image(cut, tear)?)
+    }
+
+    /// The place of a cut: a number of events, or `end`.
+    pub fn cut_of(&self, word: &str) -> Result<u64, CaseError> {
+        if word == "end" {
+            return Ok(self.dev.events());
+        }
+        number(word)
+    }
+
+    /// What the plain reader finds behind a cut.
+    pub fn dumped(&self, alloc: Global, cut: u64, tear: Tear) -> Result<Vec<u8>, CaseError> {
+        let image = self.image(cut, tear)?;
+        let mut out = Text::new(alloc);
+        match Found::read(alloc, &image)? {
+            Some(found) => print_found(alloc, &found, &image, &mut out)?,
+            None => out.println("no store"),
+        }
+        Ok(out.finish()?.as_bytes().to_vec(alloc)?)
+    }
+}
+
+/// Shows a collection that was found.
+fn print_collection(
+    alloc: Global,
+    found: &Found,
+    image: &[u8],
+    coll: &str,
+    out: &mut Text,
+) -> Result<(), CaseError> {
+    if found.has_collection(coll.as_bytes()) {
+        out.println(format_args!("coll {coll}"));
+    }
+    for name in NAMES {
+        match found.object(alloc, image, coll.as_bytes(), name.as_bytes())? {
+            Object::Missing => {}
+            Object::Damaged => out.println(format_args!("object {name} damaged")),
+            Object::Whole(bytes, _shards) => {
+                let size = bytes.len();
+                let sum = crc32c(&bytes);
+                out.println(format_args!("object {name} size {size} crc {sum:08x}"));
+            }
+        }
+    }
+    Ok(())
+}
+
+/// Shows all collections that were found.
+fn print_found(
+    alloc: Global,
+    found: &Found,
+    image: &[u8],
+    out: &mut Text,
+) -> Result<(), CaseError> {
+    for coll in COLLS {
+        print_collection(alloc, found, image, coll, out)?;
+    }
+    out.println("end");
+    Ok(())
+}
+
+/// What the images of a mount may be.
+#[derive(Drop)]
+pub struct Judge {
+    alloc: Global,
+    /// What the objects are after each number of commits, from none to all.
+    states: Vec<Vec<u8>>,
+    /// The units that the device had leaked before.
+    leaked: Vec<u32>,
+    /// So many events too early each commit counts as acknowledged.
+    earlier: u64,
+}
+
+impl Judge {
+    /// Of a mount of a store that has these runs behind it.
+    pub fn new(
+        alloc: Global,
+        left: &Left,
+        history: &[Past],
+        earlier: u64,
+    ) -> Result<Judge, CaseError> {
+        let before = objects_behind(alloc, history)?;
+        let start = left.image(0, Tear::Old)?;
+        let Some(found) = Found::read(alloc, &start)? else {
+            return Err(CaseError::Line("there is no store"));
+        };
+        let Some(leaked) = found.leaked(alloc)? else {
+            return Err(CaseError::Line("the store isn't exact"));
+        };
+        Ok(Judge {
+            alloc,
+            states: states(alloc, before, &left.book, &COLLS)?,
+            leaked,
+            earlier,
+        })
+    }
+
+    /// Whether an image is of one of the states from this place on, and its bitmap exact but for what was leaked before.
+    fn is_of(&self, image: &[u8], least: usize) -> Result<bool, CaseError> {
+        let Some(found) = Found::read(self.alloc, image)? else {
+            return Ok(false);
+        };
+        match found.leaked(self.alloc)? {
+            Some(units) if units == self.leaked => {}
+            _ => return Ok(false),
+        }
+        match spelled(self.alloc, &found, image, &COLLS)? {
+            Some(objects) => Ok(has_from(&self.states, least, &objects)),
+            None => Ok(false),
+        }
+    }
+
+    /// Looks at each image of a cut.
+    fn judge_cut(&self, left: &Left, cut: u64, counts: &mut Counts) -> Result<(), CaseError> {
+        let least = acknowledged(&left.book, cut, self.earlier);
+        counts.cuts = counts.cuts.wrapping_add(1);
+        for tear in TEARS {
+            let good = self.is_of(&left.image(cut, tear)?, least)?;
+            counts.count(cut, tear, good);
+        }
+        Ok(())
+    }
+
+    /// Looks at each image of each cut, and shows those that are of no front of the commits with all that were acknowledged.
+    pub fn judge_all(&self, left: &Left, counts: &mut Counts) -> Result<(), CaseError> {
+        for cut in 0..=left.dev.events() {
+            self.judge_cut(left, cut, counts)?;
+        }
+        Ok(())
+    }
+}

@@ -1,0 +1,66 @@
+//! Calls of the kernel that are drawn from a seed.
+
+use crate::crashes::{COLLS, NAMES};
+use case_text::CaseError;
+use std::alloc::Global;
+
+/// A linear congruential generator modulo 2^64.
+#[derive(Clone, Copy)]
+pub struct Draws {
+    x: u64,
+}
+
+impl Draws {
+    /// What is drawn from this seed.
+    pub fn of(seed: u64) -> Draws {
+        Draws { x: seed }
+    }
+
+    /// A number below this one, or 0.
+    pub fn below(&mut self, count: u64) -> u64 {
+        self.x = self
+            .x
+            .wrapping_mul(6364136223846793005)
+            .wrapping_add(1442695040888963407);
+        if count == 0 {
+            0
+        } else {
+            (self.x >> 33) % count
+        }
+    }
+
+    /// One of these words.
+    pub fn word<'a>(&mut self, words: &[&'a str]) -> &'a str {
+        let at = self.below(words.len() as u64);
+        match words.get(at as usize) {
+            Some(word) => word,
+            None => "",
+        }
+    }
+
+    /// How many reaps submissions wait: most wait for few, some for up to 63.
+    pub fn lags(&mut self, alloc: Global) -> Result<Vec<u8>, CaseError> {
+        let mut lags = Vec::new(alloc);
+        for _ in 0..self.below(12) {
+            let most = if self.below(4) == 0 { 64 } else { 6 };
+            lags.push(self.below(most) as u8)?;
+        }
+        Ok(lags)
+    }
+
+    /// The line of a transaction: a write of one to three pages, an object, or a collection that there is.
+    pub fn transaction(&mut self, alloc: Global) -> Result<String, CaseError> {
+        let coll = self.word(&COLLS);
+        let name = self.word(&NAMES);
+        let byte = self.below(256);
+        match self.below(8) {
+            0 => Ok(format!(in alloc; "mkcoll {coll}")?),
+            1 | 2 => Ok(format!(in alloc; "touch {coll} {name}")?),
+            _ => {
+                let first = self.below(3);
+                let count = self.below(3).wrapping_add(1);
+                Ok(format!(in alloc; "write {coll} {name} {first} {count} {byte:02x}")?)
+            }
+        }
+    }
+}

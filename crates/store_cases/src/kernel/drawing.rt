@@ -43,7 +43,7 @@ impl Draws {
         let mut lags = Vec::new(alloc);
         for _ in 0..self.below(12) {
             let most = if self.below(4) == 0 { 64 } else { 6 };
-            lags.push(self.below(most) as u8)?;
+            lags.push((self.below(most) % 64) as u8)?;
         }
         Ok(lags)
     }

@@ -5,7 +5,7 @@ ghost use Rattle.page_lookup.specs.Prelude.{place_found};
 ghost use Rattle.crc32c_csum.specs.Prelude.{crc32c};
 ghost use Rattle.row_format.specs.Prelude.{own};
 ghost use Rattle.block_device.specs.Prelude.{HasRead, IsNotInFlight, Rose};
-ghost use Rattle.write_buffers.specs.Prelude.{memory_in, AreNotIn};
+ghost use Rattle.write_buffers.specs.Prelude.{memory_in};
 ghost use Rattle.object_reader.specs.Parts.{HaveFewUnits, CanRead, AreHoles, AreKept, AreSums, IsRun, IsMismatch, IsUnitsFail, GivesPages, IsPartFail};
 ghost use Rattle.object_reader.specs.PartFails.{part_fail_of};
 ghost use Rattle.object_reader.specs.declared.parts.PartFail.TheVariants.{Memory};
@@ -136,18 +136,6 @@ fn lay_zeros_sums(sums: &mut Sums)
     *sums = [ZEROS_SUM; 64];
 }
 
-// How many of the units from one on, at most so many, aren't in memory in a row.
-fn units_to_read(buffers: &WriteBuffers, at: u32, most: u32) -> u32
-    ensures few { result ≤ most }
-    ensures units { AreNotIn (memory_in buffers.now) at result }
-    ensures next { result < most → IsSome (memory_in buffers.now (at + result)) }
-{
-    match buffers.first_in(at, most) {
-        Some(unit) => unit - at,
-        None => most,
-    }
-}
-
 // The run of pages from the first on, below the end, and before the next page whose unit is in memory. The checksums that are kept for its
 // pages go into `sums`, and for holes that of a page of zeros.
 fn run_from(
@@ -166,7 +154,7 @@ fn run_from(
     match pages.find(first) {
         Some(place) => {
             let at = place.unit.number();
-            let free = units_to_read(buffers, at, most);
+            let free = buffers.absent_from(at, most);
             if free == 0 {
                 return Run::InMemory { unit: at };
             }

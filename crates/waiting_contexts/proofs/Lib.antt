@@ -2,6 +2,8 @@ pub mod Ascending
 pub mod PlaceLemmas
 pub mod QueueLemmas
 pub mod HeadLemmas
+pub mod NewestLemmas
+pub mod AtPlace
 pub mod UnsentLemmas
 pub mod ChosenLemmas
 pub mod HeadCounts

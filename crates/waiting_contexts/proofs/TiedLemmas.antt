@@ -279,17 +279,16 @@ ends p count xs ys a b changed was is test way le = by_option (context_at p xs) 
     by_option (Some x) at = by_tests x (is_done x) (is_done (done_more count x)) at refl refl
 
 -- all writes of a context that is done were submitted
-all_sent : (x : Context) → IsUnderWay x → is_done x ≡ true → unsent x ≡ None
+pub all_sent : (x : Context) → IsUnderWay x → is_done x ≡ true → unsent x ≡ None
 all_sent x way done =
     let n : x.given ≡ length x.fresh = omega (arith, way.done, way.given, eqb-true x.done (length x.fresh) done) in
     ap (λ (k : ℕ). run_of x.place (drop k x.fresh)) n ∙ ap (run_of x.place) (drop_all (length x.fresh) x.fresh (omega arith))
 
-pub taken_is_sent : (p : ℕ) (xs : List Context) (ps : List ℕ) → PlacesAscend 0 xs → AreHeads ps xs → IsLeast p ps → IfSome (context_at p xs) IsUnderWay
-    → IfSome (context_at p xs) (λ x. unsent x ≡ None)
-taken_is_sent p xs ps up are is_least way =
+pub taken_is_done : (p : ℕ) (xs : List Context) (ps : List ℕ) → PlacesAscend 0 xs → AreHeads ps xs → IsLeast p ps
+    → IfSome (context_at p xs) (λ x. is_done x ≡ true)
+taken_is_done p xs ps up are is_least =
     let k : IsTaken xs p = least_is_chosen xs ps p up are is_least in
-    let w : IsUnderWay k.context = subst (λ (o : Option Context). IfSome o IsUnderWay) k.at way in
-    subst (λ (o : Option Context). IfSome o (λ x. unsent x ≡ None)) (sym k.at) (all_sent k.context w k.what.done)
+    subst (λ (o : Option Context). IfSome o (λ x. is_done x ≡ true)) (sym k.at) k.what.done
 
 pub taken_tied : (p : ℕ) (xs ys : List Context) (x : Context) (c : List ℕ) (s t : Sequencers) (h l g : Heads) → PlacesAscend 0 xs → IsTied xs s h → IsLeast p h.places
     → Some x ≡ context_at p xs → c ≡ x.coll → ys ≡ without_context p xs → ChangesAt c (without_ready (turns_in s c)) s t
@@ -385,15 +384,40 @@ none_found p count xs ys e changed found =
     let none : ◌≡◌ {A = Option Context} None (Some (done_more count e.context)) = found ∙ ap (context_at p) changed ∙ done_after p count xs e.context e.at in
     absurd (cc)
 
-pub pushed_as : (xs ys : List Context) (x n : Context) (p k : ℕ) (t : Sequencers) (h m g : Heads) → IsAboveAll x.place xs → n ≡ x → ys ≡ xs ++ n ∷ [] → p ≡ x.place
-    → AreHeads h.places xs → m.places ≡ h.places → HaveTurnsOf ys t → ((q : ℕ) → count_of q g.places ≡ count_of q (settled p ys m.places)) → k ≡ length xs → k + 1 ≤ m.room
-    → m.room ≤ g.room → IsTied ys t g
-pushed_as xs ys x n p k t h m g above is grown at are same tied settles counted room more =
-    let all : ys ≡ xs ++ x ∷ [] = grown ∙ ap (λ (z : Context). xs ++ z ∷ []) is in
-    let turns : HaveTurnsOf (xs ++ x ∷ []) t = subst (λ (zs : List Context). HaveTurnsOf zs t) all tied in
+pub pushed_as : (xs ys : List Context) (x : Context) (p k : ℕ) (b : Bool) (t : Sequencers) (h m g : Heads) → IsAboveAll x.place xs → ys ≡ xs ++ x ∷ [] → p ≡ x.place
+    → AreHeads h.places xs → m.places ≡ h.places → HaveTurnsOf ys t → b ≡ is_head x.place ys
+    → ((q : ℕ) → count_of q g.places ≡ count_of q (cond b (p ∷ m.places) m.places)) → length xs ≤ k → k + 1 ≤ m.room → m.room ≤ g.room → IsTied ys t g
+pushed_as xs ys x p k b t h m g above grown at are same tied told settles most room more =
+    let turns : HaveTurnsOf (xs ++ x ∷ []) t = subst (λ (zs : List Context). HaveTurnsOf zs t) grown tied in
     let places : (q : ℕ) → count_of q g.places ≡ count_of q (settled x.place (xs ++ x ∷ []) h.places) =
     λ q. settles q
-    ∙ ap (λ (zs : List Context). count_of q (settled p zs m.places)) all
-    ∙ ap (λ (i : ℕ). count_of q (settled i (xs ++ x ∷ []) m.places)) at
+    ∙ ap (λ (d : Bool). count_of q (cond d (p ∷ m.places) m.places)) (told ∙ ap (is_head x.place) grown)
+    ∙ ap (λ (i : ℕ). count_of q (cond (is_head x.place (xs ++ x ∷ [])) (i ∷ m.places) m.places)) at
     ∙ ap (λ (ps : List ℕ). count_of q (settled x.place (xs ++ x ∷ []) ps)) same in
-    subst (λ (zs : List Context). IsTied zs t g) (sym all) (pushed xs x t h g above are turns places (omega (arith, counted, room, more)))
+    subst (λ (zs : List Context). IsTied zs t g) (sym grown) (pushed xs x t h g above are turns places (omega (arith, most, room, more)))
+
+-- ---- what the calls of the parts tell
+
+not_true : (b : Bool) → not b ≡ true → b ≡ false
+not_true true h = absurd (false≢true h)
+not_true false h = refl
+
+not_false : (b : Bool) → not b ≡ false → b ≡ true
+not_false true h = refl
+not_false false h = absurd (false≢true (sym h))
+
+-- the context at a place is the first of its collection, and done, as its sequencer tells
+pub head_told : (p : ℕ) (ys : List Context) (y : Context) (c : List ℕ) (t : Sequencers) (b : Bool) → context_at p ys ≡ Some y → c ≡ y.coll → HaveTurnsOf ys t
+    → b ≡ is_ready_at p (turns_in t c) → b ≡ is_head p ys
+head_told p ys y c t b at name tied told =
+    told ∙ ap (is_ready_at p) (tied c) ∙ ap (λ (n : List ℕ). is_ready_at p (turns_of n ys)) name ∙ sym (head_at p ys y at)
+
+pub ends_told : (p count : ℕ) (xs ys : List Context) (b : Bool) → ys ≡ with_context p (done_more count) xs → b ≡ not (beq (is_done_at p ys) (is_done_at p xs)) → b ≡ true
+    → IfSome (context_at p xs) IsUnderWay → IfSome (context_at p xs) (λ x. x.done + count ≤ x.given) → Ends p count xs
+ends_told p count xs ys b changed told is way le =
+    ends p count xs ys (is_done_at p xs) (is_done_at p ys) changed refl refl (not_true (beq (is_done_at p ys) (is_done_at p xs)) (sym told ∙ is)) way le
+
+pub same_told : (p count : ℕ) (xs ys : List Context) (b : Bool) → ys ≡ with_context p (done_more count) xs → b ≡ not (beq (is_done_at p ys) (is_done_at p xs)) → b ≡ false
+    → (x : Context) → context_at p xs ≡ Some x → is_done (done_more count x) ≡ is_done x
+same_told p count xs ys b changed told is =
+    same_test p count xs ys (is_done_at p xs) (is_done_at p ys) changed refl refl (not_false (beq (is_done_at p ys) (is_done_at p xs)) (sym told ∙ is))

@@ -1,7 +1,7 @@
 -- Contexts by place.
-use Rattle.std.specs.Prelude.{◌≡◌, ℕ, ◌+◌, ◌<◌, ◌≤◌, ◌==◌, Bool, false, List, [], ◌∷◌, ◌++◌, find, Option}
+use Rattle.std.specs.Prelude.{◌≡◌, ℕ, ◌+◌, ◌<◌, ◌≤◌, ◌==◌, Bool, false, List, [], ◌∷◌, ◌++◌, find, Option, IfSome}
 use Rattle.std.specs.List.{AllByRecursion}
-use Rattle.std.specs.Option.{option_map_or}
+use Rattle.std.specs.Option.{option_map_or, option_to_list}
 use Rattle.store_steps.specs.declared.context.Context.{Context}
 use Rattle.store_steps.specs.Prelude.{is_done}
 
@@ -9,6 +9,14 @@ use Rattle.store_steps.specs.Prelude.{is_done}
 abbrev pub AreByPlace : ℕ → List (ℕ × Context) → Type 0
 AreByPlace least [] = Unit {0}
 AreByPlace least (e ∷ es) = (e.1.place ≡ e.0) × (least ≤ e.0) × AreByPlace (e.0 + 1) es
+
+-- the older contexts, and the newest behind them
+abbrev pub with_newest : Option Context → List Context → List Context
+with_newest newest older = older ++ option_to_list newest
+
+-- the newest has this place
+abbrev pub is_newest_at : ℕ → Option Context → Bool
+is_newest_at place newest = option_map_or (λ (x : Context). x.place == place) newest false
 
 -- the place is above those of all contexts
 abbrev pub IsAboveAll : ℕ → List Context → Type 0
@@ -29,3 +37,7 @@ pub record IsLast (place : ℕ) (xs : List Context) : Type 0 where
   pub is : xs ≡ front ++ last ∷ []
   pub of_place : last.place ≡ place
   pub above : IsAboveAll place front
+
+-- the newest is above the older ones
+abbrev pub IsNewest : Option Context → List Context → Type 0
+IsNewest newest older = IfSome newest (λ x. IsAboveAll x.place older)

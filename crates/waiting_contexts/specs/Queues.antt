@@ -1,6 +1,6 @@
 -- The turns of each collection.
 use Rattle.std.specs.Prelude.{◌≡◌, ◌≢◌, ℕ, List, [], unwrap_or}
-use Rattle.std.specs.BTreeMap.{get}
+use Rattle.std.specs.BTreeMap.{get_by}
 use Rattle.std.specs.Ordering.{nat_cmp}
 use Rattle.std.specs.Cmp.Lexicographic.{slice_cmp}
 use Rattle.op_sequencer.specs.declared.sequencer.Turn.{Turn}
@@ -8,7 +8,7 @@ use Rattle.waiting_contexts.specs.declared.sequencers.Sequencers.{Sequencers}
 
 -- the turns of a collection: none where it has no sequencer
 abbrev pub turns_in : Sequencers → List ℕ → List Turn
-turns_in s coll = unwrap_or (get (slice_cmp nat_cmp) s.by_coll coll) []
+turns_in s coll = unwrap_or (get_by (λ name. slice_cmp nat_cmp coll name.items) s.by_coll) []
 
 -- one collection has these turns now, and the others have what they had
 pub record ChangesAt (coll : List ℕ) (turns : List Turn) (old new : Sequencers) : Type 0 where

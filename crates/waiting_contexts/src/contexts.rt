@@ -1,18 +1,16 @@
 //! The transactions whose data writes are under way.
-ghost use Rattle.std.specs.Prelude.{◌≡◌, ℕ, ◌+◌, ◌<◌, ◌≤◌, ◌++◌, ◌∷◌, List, [], true, is_some, length, option_copied, Some, IfOk, IfErr, IfSome, OnOk, OnErr, if◌then◌else◌};
+ghost use Rattle.std.specs.Prelude.{◌≡◌, ℕ, ◌+◌, ◌==◌, ◌<◌, ◌≤◌, ◌++◌, ◌∷◌, List, [], true, false, is_some, length, option_copied, Some, IfOk, IfErr, IfSome, OnOk, OnErr, if◌then◌else◌};
+ghost use Rattle.std.specs.Option.{option_map_or};
 ghost use Rattle.store_steps.specs.Prelude.{chosen, next_unsent, with_context, without_context, given_more, done_more};
 ghost use Rattle.txn_states.specs.Writes.{IsWrite};
 ghost use Rattle.waiting_contexts.specs.Places.{IsAboveAll, context_at};
 ghost use Rattle.waiting_contexts.specs.Unsent.{IsOfNext};
 ghost use Rattle.waiting_contexts.specs.Heads.{count_of};
-ghost use Rattle.waiting_contexts.specs.Queues.{turns_in};
-ghost use Rattle.waiting_contexts.specs.Ties.{is_ready_at, is_head, HaveTurnsOf};
+ghost use Rattle.waiting_contexts.specs.Ties.{is_head, HaveTurnsOf};
 
 use crate::done_heads::DoneHeads;
-use crate::named_context::NamedContext;
 use crate::sequencers::Sequencers;
 use crate::submissions::Submissions;
-use bytes::Bytes;
 use std::alloc::{AllocError, Global};
 use std::marker::Model;
 use txn_states::{NextWrite, Queued, Waiting};
@@ -42,16 +40,18 @@ impl Model for Contexts {
     ghost invariant = { λ a. IsTied a.submissions a.sequencers a.heads };
 }
 
-// A context waits behind the others, and its turn behind those of its collection. Where memory runs out it comes back, and nobody has come.
+// A context waits behind the others, and its turn behind those of its collection. It tells whether a batch may take it. Where memory runs out
+// it comes back, and nobody has come.
 fn enter(
     alloc: Global,
     submissions: &mut Submissions,
     sequencers: &mut Sequencers,
-    context: NamedContext,
-) -> Result<(), NamedContext>
+    context: Waiting,
+) -> Result<bool, Waiting>
     requires above { IsAboveAll context.place submissions.old }
     requires tied { HaveTurnsOf submissions.old sequencers.old }
     ensures ok { OnOk result (submissions.new ≡ submissions.old ++ context ∷ []) }
+    ensures ready { IfOk result (λ ready. ready ≡ is_head context.place submissions.new) }
     ensures err { OnErr result (submissions.new ≡ submissions.old) }
     ensures back { IfErr result (λ back. back ≡ context) }
     ensures tied { HaveTurnsOf submissions.new sequencers.new }
@@ -63,40 +63,32 @@ fn enter(
         unreachable!();
     };
     match sequencers.push(alloc, added.coll(), place, is_done) {
-        Ok(()) => Ok(()),
-        Err(_) => {
-            let Some(back) = submissions.withdraw(place) else {
-                unreachable!();
-            };
-            Err(back)
-        }
+        Ok(ready) => Ok(ready),
+        Err(_) => Err(submissions.withdraw(place)),
     }
 }
 
 // The place of a context comes among the heads, if a batch may take it.
-fn settle(submissions: &Submissions, sequencers: &Sequencers, heads: &mut DoneHeads, place: u32)
-    requires tied { HaveTurnsOf submissions.now sequencers.now }
-    requires room { length heads.old.places < heads.old.room }
+fn settle(heads: &mut DoneHeads, place: u32, is_ready: bool)
+    requires { length heads.old.places < heads.old.room }
     ensures places { (q : ℕ) → count_of q heads.new.places
-        ≡ count_of q (if is_head place submissions.now then place ∷ heads.old.places else heads.old.places) }
+        ≡ count_of q (if is_ready then place ∷ heads.old.places else heads.old.places) }
     ensures room { heads.old.room ≤ heads.new.room }
 {
-    if let Some(context) = submissions.get(place)
-        && sequencers.is_ready_at(context.coll(), place)
-    {
+    if is_ready {
         heads.push(place);
     }
 }
 
 // The place of the first context of a collection comes among the heads, if it is done.
-fn advance(sequencers: &Sequencers, heads: &mut DoneHeads, coll: &Bytes)
+fn advance(heads: &mut DoneHeads, next: Option<u32>)
     requires { length heads.old.places < heads.old.room }
     ensures places { (q : ℕ) → count_of q heads.new.places
-        ≡ (if is_ready_at q (turns_in sequencers.now coll.now) then 1 else 0) + count_of q heads.old.places }
+        ≡ (if option_map_or (λ p. p == q) next false then 1 else 0) + count_of q heads.old.places }
     ensures room { heads.old.room ≤ heads.new.room }
 {
-    if let Some(next) = sequencers.head_ready(coll) {
-        heads.push(next);
+    if let Some(place) = next {
+        heads.push(place);
     }
 }
 
@@ -119,21 +111,22 @@ impl Contexts {
         ensures err { OnErr result (self.new ≡ self.old) }
         ensures back { IfErr result (λ back. back ≡ context) }
     {
-        let count = self.submissions.len() + 1;
-        let Ok(()) = self.heads.make_room(count) else {
+        let most = self.submissions.most() + 1;
+        let Ok(()) = self.heads.make_room(most) else {
             return Err(context);
         };
         let place = context.place();
-        let named = NamedContext::new(alloc, context)?;
-        if let Err(back) = enter(alloc, &mut self.submissions, &mut self.sequencers, named) {
-            return Err(back.into_waiting());
+        match enter(alloc, &mut self.submissions, &mut self.sequencers, context) {
+            Ok(is_ready) => {
+                settle(&mut self.heads, place, is_ready);
+                Ok(())
+            }
+            Err(back) => Err(back),
         }
-        settle(&self.submissions, &self.sequencers, &mut self.heads, place);
-        Ok(())
     }
 
     /// The context at a place, lent.
-    pub fn get(&self, place: u32) -> Option<&NamedContext>
+    pub fn get(&self, place: u32) -> Option<&Waiting>
         ensures { option_copied result ≡ context_at place self.now }
     {
         self.submissions.get(place)
@@ -169,16 +162,14 @@ impl Contexts {
         ensures { self.new ≡ with_context place (done_more count) self.old }
     {
         self.submissions.facts();
-        let was_done = self.submissions.is_done_at(place);
-        self.submissions.done(place, count);
-        if self.submissions.is_done_at(place) == was_done {
+        if !self.submissions.done(place, count) {
             return;
         }
         let Some(context) = self.submissions.get(place) else {
             unreachable!();
         };
-        self.sequencers.io_done(context.coll(), place);
-        settle(&self.submissions, &self.sequencers, &mut self.heads, place);
+        let is_ready = self.sequencers.io_done(context.coll(), place);
+        settle(&mut self.heads, place, is_ready);
     }
 
     /// Whether a batch can take one.
@@ -199,13 +190,11 @@ impl Contexts {
         let Some(place) = self.heads.pop() else {
             unreachable!();
         };
-        // for the fact that it ensures: a context that is done has no write left to submit
-        self.submissions.is_done_at(place);
         let Some(context) = self.submissions.take(place) else {
             unreachable!();
         };
-        self.sequencers.pop_ready(context.coll());
-        advance(&self.sequencers, &mut self.heads, context.coll());
+        let next = self.sequencers.pop_ready(context.coll());
+        advance(&mut self.heads, next);
         context.queue()
     }
 }

@@ -4,13 +4,13 @@
 mod by_place;
 mod contexts;
 mod done_heads;
-mod named_context;
+mod place_map;
 mod sequencers;
 mod submissions;
 
 pub use by_place::ByPlace;
 pub use contexts::Contexts;
 pub use done_heads::DoneHeads;
-pub use named_context::NamedContext;
+pub use place_map::PlaceMap;
 pub use sequencers::Sequencers;
 pub use submissions::Submissions;

@@ -1,18 +1,18 @@
-//! The sequencers of the collections that have a context waiting.
+//! The sequencers of collections.
 ghost use Rattle.std.specs.Prelude.{◌≡◌, ℕ, ◌++◌, List, ◌∷◌, [], true, IfOk, OnOk, OnErr};
 ghost use Rattle.op_sequencer.specs.Turns.{IsAboveAll, has_turn, done_at, ready, without_ready};
 ghost use Rattle.waiting_contexts.specs.Queues.{turns_in, ChangesAt, SameTurns};
 ghost use Rattle.waiting_contexts.specs.Ties.{is_ready_at};
 
-use bytes::Bytes;
 use op_sequencer::Sequencer;
 use std::alloc::{AllocError, Global};
 use std::collections::BTreeMap;
 
-/// The sequencer of each collection that has a context waiting, under the collection's name.
+/// The sequencer of each collection that has, or had, a context waiting, under the collection's name. Like Ceph's, which a collection keeps as
+/// long as it is loaded, it stays when nobody waits, so that the next context of the collection takes no memory for it.
 #[derive(Drop)]
 pub struct Sequencers {
-    by_coll: BTreeMap<Bytes, Sequencer>,
+    by_coll: BTreeMap<Vec<u8>, Sequencer>,
 }
 
 // A sequencer in which one context waits.
@@ -22,6 +22,15 @@ fn sequencer_of(alloc: Global, place: u32, done: bool) -> Result<Sequencer, Allo
     let mut made = Sequencer::new(alloc);
     made.push(place, done)?;
     Ok(made)
+}
+
+// The name of a collection, with memory of its own.
+fn name_of(alloc: Global, coll: &[u8]) -> Result<Vec<u8>, AllocError>
+    ensures { IfOk result (λ name. name.items ≡ coll.now) }
+{
+    let mut name = Vec::with_capacity(alloc, coll.len())?;
+    name.extend_from_slice(coll)?;
+    Ok(name)
 }
 
 impl Sequencers {
@@ -34,91 +43,53 @@ impl Sequencers {
         }
     }
 
-    /// A context waits behind the others of its collection.
+    /// A context waits behind the others of its collection. It tells whether it is the first, and done.
     pub fn push(
         &mut self,
         alloc: Global,
-        coll: &Bytes,
+        coll: &[u8],
         place: u32,
         done: bool,
-    ) -> Result<(), AllocError>
+    ) -> Result<bool, AllocError>
         requires { IsAboveAll place (turns_in self.old coll.now) }
         ensures ok { OnOk result (ChangesAt coll.now (turns_in self.old coll.now ++ record { place = place; done = done } ∷ []) self.old self.new) }
+        ensures ready { IfOk result (λ ready. ready ≡ is_ready_at place (turns_in self.new coll.now)) }
         ensures err { OnErr result (SameTurns self.old self.new) }
     {
         match self.by_coll.get_mut(coll) {
             Some(sequencer) => match sequencer.push(place, done) {
-                Ok(()) => Ok(()),
+                Ok(()) => Ok(sequencer.head_ready() == Some(place)),
                 Err(fail) => Err(fail),
             },
             None => {
                 let made = sequencer_of(alloc, place, done)?;
-                let key = coll.clone()?;
-                self.by_coll.insert(key, made)?;
-                Ok(())
+                let name = name_of(alloc, coll)?;
+                self.by_coll.insert(name, made)?;
+                Ok(done)
             }
         }
     }
 
-    /// All data writes of the context at this place have ended well.
-    pub fn io_done(&mut self, coll: &Bytes, place: u32)
+    /// All data writes of the context at this place have ended well. It tells whether it is the first of its collection.
+    pub fn io_done(&mut self, coll: &[u8], place: u32) -> bool
         requires { has_turn place (turns_in self.old coll.now) ≡ true }
-        ensures { ChangesAt coll.now (done_at place (turns_in self.old coll.now)) self.old self.new }
+        ensures done { ChangesAt coll.now (done_at place (turns_in self.old coll.now)) self.old self.new }
+        ensures ready { result ≡ is_ready_at place (turns_in self.new coll.now) }
     {
-        if let Some(sequencer) = self.by_coll.get_mut(coll) {
-            sequencer.io_done(place);
-        }
+        let Some(sequencer) = self.by_coll.get_mut(coll) else {
+            return false;
+        };
+        sequencer.io_done(place);
+        sequencer.head_ready() == Some(place)
     }
 
-    /// The place of the first context of a collection, if it is done.
-    pub fn head_ready(&self, coll: &Bytes) -> Option<u32>
-        ensures { result ≡ ready (turns_in self.now coll.now) }
-    {
-        match self.by_coll.get(coll) {
-            Some(sequencer) => sequencer.head_ready(),
-            None => None,
-        }
-    }
-
-    /// Whether the first context of a collection has this place, and is done.
-    pub fn is_ready_at(&self, coll: &Bytes, place: u32) -> bool
-        ensures { result ≡ is_ready_at place (turns_in self.now coll.now) }
-    {
-        match self.head_ready(coll) {
-            Some(first) => first == place,
-            None => false,
-        }
-    }
-
-    // Takes the first context of a collection out, if it is done. Its sequencer stays.
-    fn pop_first(&mut self, coll: &Bytes) -> Option<u32>
-        ensures popped { result ≡ ready (turns_in self.old coll.now) }
+    /// Takes the first context of a collection out, if it is done, and gives the place of the next one, if that is done too.
+    pub fn pop_ready(&mut self, coll: &[u8]) -> Option<u32>
         ensures left { ChangesAt coll.now (without_ready (turns_in self.old coll.now)) self.old self.new }
+        ensures next { result ≡ ready (turns_in self.new coll.now) }
     {
-        match self.by_coll.get_mut(coll) {
-            Some(sequencer) => sequencer.pop_ready(),
-            None => None,
-        }
-    }
-
-    // Drops the sequencer of a collection, if nobody waits there.
-    fn drop_empty(&mut self, coll: &Bytes)
-        ensures { SameTurns self.old self.new }
-    {
-        if let Some(sequencer) = self.by_coll.get(coll)
-            && sequencer.is_empty()
-        {
-            self.by_coll.remove(coll);
-        }
-    }
-
-    /// Takes the first context of a collection out, if it is done, and gives its place.
-    pub fn pop_ready(&mut self, coll: &Bytes) -> Option<u32>
-        ensures popped { result ≡ ready (turns_in self.old coll.now) }
-        ensures left { ChangesAt coll.now (without_ready (turns_in self.old coll.now)) self.old self.new }
-    {
-        let place = self.pop_first(coll);
-        self.drop_empty(coll);
-        place
+        let sequencer = self.by_coll.get_mut(coll)?;
+        sequencer.pop_ready();
+        sequencer.head_ready()
     }
 }

@@ -1,17 +1,17 @@
 //! Which data write is submitted next.
-ghost use Rattle.std.specs.Prelude.{◌≡◌, ◌+◌, ◌<◌, ◌≤◌, ◌^◌, ◌++◌, ◌∷◌, [], true, is_some, length, option_copied, None, IfOk, IfErr, IfSome, OnOk, OnErr};
-ghost use Rattle.store_steps.specs.Prelude.{unsent, next_unsent, with_context, without_context, given_more, done_more};
+ghost use Rattle.std.specs.Prelude.{◌≡◌, ◌+◌, ◌≤◌, ◌^◌, ◌++◌, ◌∷◌, [], true, not, is_some, length, option_copied, Some, IfOk, IfErr, IfSome, OnOk, OnErr};
+ghost use mathlib.Core.Bool.{beq};
+ghost use Rattle.store_steps.specs.Prelude.{next_unsent, is_done, with_context, without_context, given_more, done_more};
 ghost use Rattle.txn_states.specs.Writes.{IsWrite};
 ghost use Rattle.txn_states.specs.States.{IsUnderWay};
 ghost use Rattle.waiting_contexts.specs.Places.{IsAboveAll, IsLast, context_at, is_done_at};
 ghost use Rattle.waiting_contexts.specs.Unsent.{PlacesAscend, IsOfNext};
 
 use crate::by_place::ByPlace;
-use crate::named_context::NamedContext;
 use std::alloc::{AllocError, Global};
 use std::collections::VecDeque;
 use std::marker::Model;
-use txn_states::NextWrite;
+use txn_states::{NextWrite, Waiting};
 
 /// Contexts by place, with the queue of those that have a data write which isn't submitted: the next one is at its front.
 #[derive(Drop)]
@@ -46,7 +46,7 @@ impl Submissions {
     }
 
     /// Adds a context behind all others. Where memory runs out it comes back.
-    pub fn push(&mut self, context: NamedContext) -> Result<(), NamedContext>
+    pub fn push(&mut self, context: Waiting) -> Result<(), Waiting>
         requires { IsAboveAll context.place self.old }
         ensures ok { OnOk result (self.new ≡ self.old ++ context ∷ []) }
         ensures err { OnErr result (self.new ≡ self.old) }
@@ -75,27 +75,19 @@ impl Submissions {
         self.contexts.facts();
     }
 
-    /// How many contexts there are.
-    pub fn len(&self) -> usize
-        ensures count { result ≡ length self.now }
-        ensures few { result < 2 ^ 63 }
+    /// There are no more contexts than this, and it is one more at most.
+    pub fn most(&self) -> usize
+        ensures most { length self.now ≤ result }
+        ensures few { result ≤ 2 ^ 63 }
     {
-        self.contexts.len()
+        self.contexts.most()
     }
 
     /// The context at a place, lent.
-    pub fn get(&self, place: u32) -> Option<&NamedContext>
+    pub fn get(&self, place: u32) -> Option<&Waiting>
         ensures { option_copied result ≡ context_at place self.now }
     {
         self.contexts.get(place)
-    }
-
-    /// Whether all units of the context at a place have reached the device.
-    pub fn is_done_at(&self, place: u32) -> bool
-        ensures done { result ≡ is_done_at place self.now }
-        ensures facts { IfSome (context_at place self.now) IsUnderWay }
-    {
-        self.contexts.is_done_at(place)
     }
 
     /// Whether a data write isn't submitted yet.
@@ -127,39 +119,47 @@ impl Submissions {
         ensures { self.new ≡ with_context place (given_more count) self.old }
     {
         self.contexts.facts();
-        self.contexts.submitted(place, count);
-        if !self.contexts.has_unsent_at(place) {
+        if !self.contexts.submitted(place, count) {
             self.unsent.pop_front();
         }
     }
 
-    /// So many more units of the context at this place have reached the device.
-    pub fn done(&mut self, place: u32, count: u32)
+    /// So many more units of the context at this place have reached the device. It tells whether they were the last ones of it.
+    pub fn done(&mut self, place: u32, count: u32) -> bool
         requires { IfSome (context_at place self.old) (λ x. x.done + count ≤ x.given) }
-        ensures { self.new ≡ with_context place (done_more count) self.old }
+        ensures facts { IfSome (context_at place self.old) IsUnderWay }
+        ensures done { self.new ≡ with_context place (done_more count) self.old }
+        ensures last { result ≡ not (beq (is_done_at place self.new) (is_done_at place self.old)) }
     {
-        self.contexts.done(place, count);
+        self.contexts.done(place, count)
     }
 
     /// Takes the last context away again, whose place this is.
-    pub(crate) fn withdraw(&mut self, place: u32) -> Option<NamedContext>
+    pub(crate) fn withdraw(&mut self, place: u32) -> Waiting
         requires { IsLast place self.old }
-        ensures taken { result ≡ context_at place self.old }
+        ensures taken { context_at place self.old ≡ Some result }
         ensures left { self.new ≡ without_context place self.old }
     {
-        if self.contexts.has_unsent_at(place) {
+        let Some(back) = self.contexts.take(place) else {
+            unreachable!();
+        };
+        if back.has_unsent() {
             self.unsent.pop_back();
         }
-        self.contexts.take(place)
+        back
     }
 
-    /// Takes the context at a place away, of which no data write is left to submit.
-    pub fn take(&mut self, place: u32) -> Option<NamedContext>
-        requires { IfSome (context_at place self.old) (λ x. unsent x ≡ None) }
+    /// Takes the context at a place away, all of whose units have reached the device: no data write of it is left to submit.
+    pub fn take(&mut self, place: u32) -> Option<Waiting>
+        requires { IfSome (context_at place self.old) (λ x. is_done x ≡ true) }
         ensures taken { result ≡ context_at place self.old }
         ensures left { self.new ≡ without_context place self.old }
     {
         self.contexts.facts();
-        self.contexts.take(place)
+        let Some(taken) = self.contexts.take(place) else {
+            return None;
+        };
+        taken.facts();
+        Some(taken)
     }
 }

@@ -1,50 +1,48 @@
-use Rattle.std.proofs.Common.{◌+◌, ◌≤◌, length, List, Option, subst, sym, ap, ◌∙◌}
+use Rattle.std.proofs.Common.{◌+◌, ◌≤◌, length, List, Option, Some, is_some, false, subst, sym, ap, refl, ◌∙◌}
 use Rattle.std.specs.Prelude.{IfSome}
-use Rattle.std.specs.Map.{values_of, set_value}
-use Rattle.std.specs.BTreeMap.{BTreeMap, is_at}
-use Rattle.std.specs.Ordering.{nat_cmp}
-use Rattle.std.proofs.Common.{ℕ}
+use Rattle.std.specs.Option.{option_map_or}
 use Rattle.store_steps.specs.declared.context.Context.{Context}
-use Rattle.store_steps.specs.Prelude.{with_context, given_more}
-use Rattle.waiting_contexts.specs.declared.by_place.ByPlace.TheInside.{Inside}
-use Rattle.waiting_contexts.specs.Places.{AreByPlace, context_at}
-use Rattle.waiting_contexts.proofs.PlaceLemmas.{lookup_is_context, set_is_change, by_place_set, none_there}
+use Rattle.store_steps.specs.Prelude.{unsent, given_more}
+use Rattle.waiting_contexts.specs.Places.{IsNewest, with_newest}
+use Rattle.waiting_contexts.proofs.AtPlace.{left_there}
+use Rattle.waiting_contexts.proofs.NewestLemmas.{is_not_found, newest_there, older_there, newest_changes, older_changes, newest_with}
 use Rattle.waiting_contexts.proofs.by_place.ByPlace.submitted.Goals as goal
-use Rattle.waiting_contexts.proofs.by_place.ByPlace.submitted.Goals.{in-Some, in_default}
 
 pub submitted-requires : goal.submitted-requires
 submitted-requires c =
-    let P : Option Context → Type 0 = λ o. IfSome o (λ x. x.given + c.args.count ≤ length x.fresh) in
-    subst P
-    (sym (ap (context_at c.args.place) c.self.view_is) ∙ sym (lookup_is_context 0 c.args.place c.self.inside.contexts.entries c.self.invariant) ∙ sym c.in-Some.ensures.value)
+    subst (λ (o : Option Context). IfSome o (λ x. x.given + c.args.count ≤ length x.fresh))
+    (newest_there c.args.place c.self.inside.newest c.self.inside.older c.args.self.now c.in-Some.newest c.self.invariant (sym c.is_at.ensures ∙ c.if-is_at.true) c.in-Some.is c.self.view_is)
     c.requires
 
-pub invariant_of-self : goal.invariant_of-self
-invariant_of-self c = elim c.match-get_mut.branch [
-  | in-Some w ↦
-      subst (λ (es : List (ℕ × Context)). AreByPlace 0 es)
-      (sym (ap (λ (i : Inside). i.contexts.entries) w.self-inside-is ∙ (c.get_mut.follows.holds w.submitted.new.self).0))
-      (by_place_set 0 c.args.place c.self.inside.contexts.entries w.in-Some.context.now w.submitted.new.self c.self.invariant (sym w.in-Some.ensures.value)
-      (ap (λ (x : Context). x.place) w.submitted.ensures))
-  | in_default w ↦
-      subst (λ (es : List (ℕ × Context)). AreByPlace 0 es)
-      (sym (ap (λ (i : Inside). i.contexts.entries) w.self-inside-is ∙ ap (λ (m : BTreeMap ℕ Context). m.entries) c.get_mut.follows.holds-at-none))
-      c.self.invariant
-]
+pub returns-then-is_at-clause-given : goal.returns-then-is_at-clause-given
+returns-then-is_at-clause-given c =
+    newest_changes c.args.place (given_more c.args.count) c.self.inside.newest c.self.inside.older c.args.self.now c.in-Some.newest c.submitted.new.self c.self.invariant
+    (sym c.is_at.ensures ∙ c.if-is_at.true) c.in-Some.is c.submitted.ensures c.self.view_is
 
-pub returns : goal.returns
-returns c =
-    let es = c.self.inside.contexts.entries in
-    elim c.match-get_mut.branch [
-      | in-Some w ↦
-          ap (λ (i : Inside). values_of i.contexts.entries) w.self-inside-is
-          ∙ ap values_of (c.get_mut.follows.holds w.submitted.new.self).0
-          ∙ ap (λ (y : Context). values_of (set_value (is_at (nat_cmp c.args.place)) es y)) w.submitted.ensures
-          ∙ set_is_change 0 c.args.place (given_more c.args.count) es w.in-Some.context.now c.self.invariant (sym w.in-Some.ensures.value)
-          ∙ ap (with_context c.args.place (given_more c.args.count)) c.self.view_is
-      | in_default w ↦
-          ap (λ (i : Inside). values_of i.contexts.entries) w.self-inside-is
-          ∙ ap (λ (m : BTreeMap ℕ Context). values_of m.entries) c.get_mut.follows.holds-at-none
-          ∙ none_there 0 c.args.place (given_more c.args.count) es c.self.invariant (sym w.in_default.ensures.value)
-          ∙ ap (with_context c.args.place (given_more c.args.count)) c.self.view_is
-    ]
+pub submitted-requires-2 : goal.submitted-requires-2
+submitted-requires-2 c =
+    subst (λ (o : Option Context). IfSome o (λ x. x.given + c.args.count ≤ length x.fresh))
+    (sym (older_there c.args.place c.self.inside.newest c.self.inside.older c.args.self.now (sym c.is_at.ensures ∙ c.if-is_at.false) c.self.view_is)) c.requires
+
+pub invariant_of-self-2 : goal.invariant_of-self-2
+invariant_of-self-2 c =
+    subst (λ (ys : List Context). IsNewest c.self.inside.newest ys) (sym c.submitted-2.ensures.given)
+    (newest_with c.args.place (given_more c.args.count) c.self.inside.newest c.self.inside.older (λ z. refl) c.self.invariant)
+
+pub returns-clause-given : goal.returns-clause-given
+returns-clause-given c =
+    older_changes c.args.place (given_more c.args.count) c.self.inside.newest c.self.inside.older c.submitted-2.new.self c.args.self.now (sym c.is_at.ensures ∙ c.if-is_at.false)
+    c.submitted-2.ensures.given c.self.view_is
+
+pub returns-then-is_at-clause-left : goal.returns-then-is_at-clause-left
+returns-then-is_at-clause-left c =
+    let there = newest_there c.args.place c.self.inside.newest c.self.inside.older c.args.self.now c.in-Some.newest c.self.invariant (sym c.is_at.ensures ∙ c.if-is_at.true)
+    c.in-Some.is c.self.view_is in
+    left_there c.args.place (given_more c.args.count) (λ z. refl) c.args.self.now (with_newest (Some c.submitted.new.self) c.self.inside.older) (returns-then-is_at-clause-given c)
+    c.in-Some.newest c.submitted.new.self c.has_unsent.result there c.submitted.ensures c.has_unsent.ensures
+
+pub returns-clause-left : goal.returns-clause-left
+returns-clause-left c =
+    c.submitted-2.ensures.left
+    ∙ ap (λ (o : Option Context). option_map_or (λ (z : Context). is_some (unsent z)) o false)
+    (is_not_found c.args.place c.self.inside.newest c.submitted-2.new.self (sym c.is_at.ensures ∙ c.if-is_at.false))

@@ -1,12 +1,11 @@
-use Rattle.std.proofs.Common.{ℕ, ◌+◌, cond, List, Some, is_some, sym, ap, ◌∙◌, arith}
+use Rattle.std.proofs.Common.{ℕ, ◌+◌, ◌==◌, false, cond, List, Option, Some, is_some, sym, ap, ◌∙◌, arith}
+use Rattle.std.specs.Option.{option_map_or}
 use Rattle.std.proofs.lemmas.Bool.{false≢true}
 use Rattle.store_steps.specs.declared.context.Context.{Context}
 use Rattle.store_steps.specs.Prelude.{chosen, without_context}
 use Rattle.waiting_contexts.specs.Heads.{count_of}
-use Rattle.waiting_contexts.specs.Queues.{turns_in}
-use Rattle.waiting_contexts.specs.Ties.{is_ready_at}
 use Rattle.waiting_contexts.proofs.HeadCounts.{none_where_empty, heads_fit}
-use Rattle.waiting_contexts.proofs.TiedLemmas.{taken_is_sent, taken_tied, is_taken}
+use Rattle.waiting_contexts.proofs.TiedLemmas.{taken_is_done, taken_tied, is_taken}
 use Rattle.waiting_contexts.proofs.contexts.Contexts.take_chosen.Goals as goal
 
 pub unreachable-requires : goal.unreachable-requires
@@ -16,7 +15,7 @@ unreachable-requires c =
 
 pub take-requires : goal.take-requires
 take-requires c =
-    taken_is_sent c.in-Some.place c.self.inside.submissions c.self.inside.heads.places c.facts.ensures c.self.invariant.heads c.in-Some.ensures.least c.is_done_at.ensures.facts
+    taken_is_done c.in-Some.place c.self.inside.submissions c.self.inside.heads.places c.facts.ensures c.self.invariant.heads c.in-Some.ensures.least
 
 pub advance-requires : goal.advance-requires
 advance-requires c =
@@ -29,10 +28,11 @@ queue-requires c =
 
 pub invariant_of-self : goal.invariant_of-self
 invariant_of-self c =
-    taken_tied c.in-Some.place c.self.inside.submissions c.take.new.self c.in-Some-take.context c.coll.result.now c.self.inside.sequencers c.pop_ready.new.self c.self.inside.heads
+    taken_tied c.in-Some.place c.self.inside.submissions c.take.new.self c.in-Some-take.context c.coll.result.now c.self.inside.sequencers c.pop_ready-next.new.self c.self.inside.heads
     c.pop.new.self c.advance.new.heads c.facts.ensures c.self.invariant c.in-Some.ensures.least c.in-Some-take.ensures.taken c.coll.ensures c.in-Some-take.ensures.left
-    c.pop_ready.ensures.left c.in-Some.ensures.rest c.in-Some.ensures.room
-    (λ q. c.advance.ensures.places q ∙ ap (λ (n : List ℕ). cond (is_ready_at q (turns_in c.pop_ready.new.self n)) 1 0 + count_of q c.pop.new.self.places) (c.coll-2.ensures ∙ sym c.coll.ensures)) c.advance.ensures.room
+    c.pop_ready-next.ensures.left c.in-Some.ensures.rest c.in-Some.ensures.room
+    (λ q. c.advance.ensures.places q ∙ ap (λ (o : Option ℕ). cond (option_map_or (λ p. p == q) o false) 1 0 + count_of q c.pop.new.self.places) c.pop_ready-next.ensures.next)
+    c.advance.ensures.room
 
 pub returns-clause-taken : goal.returns-clause-taken
 returns-clause-taken c =

@@ -18,11 +18,11 @@ invariant_of-self c =
     let of : IsOfNext c.args.place c.args.count (next_unsent c.self.inside.contexts) =
     subst (λ (xs : List Context). IsOfNext c.args.place c.args.count (next_unsent xs)) (sym c.self.view_is) c.requires in
     queue_sent c.self.inside.contexts c.submitted.new.self c.args.place c.args.count c.self.inside.unsent.items c.pop_front.new.self.items false c.facts.ensures of
-    c.self.invariant c.submitted.ensures (sym c.has_unsent_at.ensures ∙ c.if-not-has_unsent_at.true) c.pop_front.ensures.rest
+    c.self.invariant c.submitted.ensures.given (sym c.submitted.ensures.left ∙ c.if-not-submitted.true) c.pop_front.ensures.rest
 
-pub invariant_of-self-else-not-has_unsent_at : goal.invariant_of-self-else-not-has_unsent_at
-invariant_of-self-else-not-has_unsent_at c =
+pub invariant_of-self-else-not-submitted : goal.invariant_of-self-else-not-submitted
+invariant_of-self-else-not-submitted c =
     let of : IsOfNext c.args.place c.args.count (next_unsent c.self.inside.contexts) =
     subst (λ (xs : List Context). IsOfNext c.args.place c.args.count (next_unsent xs)) (sym c.self.view_is) c.requires in
     queue_sent c.self.inside.contexts c.submitted.new.self c.args.place c.args.count c.self.inside.unsent.items c.self.inside.unsent.items true c.facts.ensures of
-    c.self.invariant c.submitted.ensures (sym c.has_unsent_at.ensures ∙ c.if-not-has_unsent_at.false) refl
+    c.self.invariant c.submitted.ensures.given (sym c.submitted.ensures.left ∙ c.if-not-submitted.false) refl

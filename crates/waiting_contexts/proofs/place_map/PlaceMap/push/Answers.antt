@@ -5,7 +5,7 @@ use Rattle.std.specs.Ordering.{nat_cmp}
 use Rattle.store_steps.specs.declared.context.Context.{Context}
 use Rattle.waiting_contexts.specs.Places.{AreByPlace, IsAboveAll}
 use Rattle.waiting_contexts.proofs.PlaceLemmas.{insert_is_push, by_place_push, values_push}
-use Rattle.waiting_contexts.proofs.by_place.ByPlace.push.Goals as goal
+use Rattle.waiting_contexts.proofs.place_map.PlaceMap.push.Goals as goal
 
 pub invariant_of-self : goal.invariant_of-self
 invariant_of-self c =

@@ -97,7 +97,6 @@ module _ (s : State) (d : Disk) (kept : IsKept s d) (up : s.down ≡ None) where
 
     -- those that come back one after the other aren't free until it is their turn
     pub back_in_turn : (given_back rest : List ℕ) (u : ℕ) → batch_released b ≡ given_back ++ (u ∷ rest) → is_free (given s.space given_back) u ≡ false
-    back_in_turn given_back rest u are = busy_is_not_free (given s.space given_back) u (
-      not_idle_until s.log.sup s.log.rows front back rows.good planned apart s.space given_back rest u
-          (λ v on. data_within s.log.sup s.space v kept.always.space on) counted (released_are ∙ are),
-    )
+    back_in_turn given_back rest u are = busy_is_not_free (given s.space given_back) u
+        (not_idle_until s.log.sup s.log.rows front back rows.good planned apart s.space given_back rest u
+        (λ v on. data_within s.log.sup s.space v kept.always.space on) counted (released_are ∙ are))

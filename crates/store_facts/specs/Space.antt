@@ -1,5 +1,5 @@
 -- What is kept of the rows and of the free units, whatever is under way.
-use Rattle.std.specs.Prelude.{◌≡◌, ℕ, ◌+◌, length}
+use Rattle.std.specs.Prelude.{◌≡◌, ◌+◌, length}
 use Rattle.meta_log.specs.declared.slot.Super.{Super}
 use Rattle.meta_log.specs.Prelude.{data_unit}
 use Rattle.plan_rows.specs.Prelude.{IsGood}

@@ -1,5 +1,5 @@
 -- The free units of a drained kernel are the data units whose bits are 0, by what its device holds.
-use Rattle.std.proofs.Common.{◌≡◌, inl, inr, ℕ, ◌+◌, ◌≤◌, true, List, [], length, None, refl, subst, arith}
+use Rattle.std.proofs.Common.{◌≡◌, inl, inr, ℕ, ◌+◌, ◌≤◌, true, List, [], length, None, refl, sym, subst, ◌∙◌, arith}
 use Rattle.byte_maps.specs.Units.{IsUnits}
 use Rattle.block_device.specs.Prelude.{last, Disk, History}
 use Rattle.meta_rows.specs.Prelude.{Rows}
@@ -10,16 +10,17 @@ use Rattle.log_facts.proofs.Reading.{behind_units, half_inside, slots_read, half
 use Rattle.unit_allocator.specs.Prelude.{Space, free_units, IsWithin}
 use Rattle.unit_allocator.proofs.FreeUnits.{free_units_ascend, listed_is_free, free_is_listed}
 use Rattle.store_steps.specs.declared.context.Context.{Context}
-use Rattle.store_steps.specs.Prelude.{State, intents, SpaceIsCounted, free_count, is_drained}
+use Rattle.store_steps.specs.Prelude.{State, intents, SpaceIsCounted, HoldsAreCounted, free_count, is_drained}
 use Rattle.store_facts.specs.Prelude.{IsSpaceOf, IsKept}
-use Rattle.store_facts.proofs.Prelude.{IsIdle, idle_uncommitted, known_idle, kept_rows, kept_space}
+use Rattle.store_facts.proofs.Prelude.{idle_is_free, IsIdle, idle_uncommitted, known_idle, kept_rows, kept_space}
 use Rattle.unit_facts.specs.Known.{KnownOfUnits}
 use Rattle.unit_facts.proofs.Runs.{idle_half}
 use Rattle.crash_facts.proofs.Now.{size_now}
 use Rattle.bstore_top.specs.Prelude.{AreUnmarked, HasFree}
 
 -- a free unit is a data unit whose bit is 0, and the other way round
-module _ (sup : Super) (rows : Rows) (space : Space) (is : IsSpaceOf sup space) (counted : SpaceIsCounted sup rows [] space) where
+module _ (sup : Super) (rows submitted : Rows) (space : Space) (is : IsSpaceOf sup space) (counted : SpaceIsCounted sup rows [] space)
+    (held : HoldsAreCounted sup submitted space) where
   data_of : (unit : ℕ) → IsWithin space unit → IsDataUnit sup unit
   data_of unit w = (omega (arith, w.from, is.first), omega (arith, w.to, is.first, is.count))
 
@@ -36,10 +37,10 @@ module _ (sup : Super) (rows : Rows) (space : Space) (is : IsSpaceOf sup space) 
     each = λ unit. (
       λ listed. let free = listed_is_free space unit listed in
           let on : IsDataUnit sup unit = data_of unit free.within in
-          (on, λ marked. (counted unit on).0 free.free (inl marked)),
+          (on, λ marked. (counted unit on).0 (sym (idle_is_free sup submitted space unit held on) ∙ free.free) (inl marked)),
       λ unmarked.
-          let free = (counted unit unmarked.0).1 (unmarked_idle unit unmarked.1) in
-          (free_is_listed space unit (within_of unit unmarked.0)).0 free,
+          let idle = (counted unit unmarked.0).1 (unmarked_idle unit unmarked.1) in
+          (free_is_listed space unit (within_of unit unmarked.0)).0 (idle_is_free sup submitted space unit held unmarked.0 ∙ idle),
     );
   }
 
@@ -66,6 +67,6 @@ drained_free base s d h kept known up drained =
       read = rows_read contents sup s.log.rows found.0 (behind_units contents sup tail) half.made half.spellable parts
           (no_record_behind contents sup tail within inside (λ some. (half.zero_behind tail (omega arith) some).last) (sup.first + length found.0));
       units = free_units s.space;
-      unmarked = free_unmarked sup s.log.rows s.space (kept_space s d kept up) counted;
+      unmarked = free_unmarked sup s.log.rows s.submitted s.space (kept_space s d kept up) counted (kept_rows s d kept up).held;
       count = refl;
     }

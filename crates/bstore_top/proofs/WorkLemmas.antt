@@ -221,6 +221,7 @@ later_of_run given start d' disk p q mounted first last leads later =
     let from : WentOn given d' =
     went_trans given start d' (record { units = mounted.units; depth = mounted.depth; told = mounted.told }) ran in
     record {
+      sound = later.sound;
       units = later.units ∙ from.units;
       depth = later.depth ∙ from.depth;
       idle = later.idle;

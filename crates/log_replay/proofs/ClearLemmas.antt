@@ -49,6 +49,7 @@ told_both P Q R (Some h) (Some k) step p q = step h k p q
 
 pub later_join : (d d1 d2 : Disk) → IsLater d d1 → IsLater d1 d2 → IsLater d d2
 later_join d d1 d2 first second = record {
+  sound = second.sound;
   units = second.units ∙ first.units;
   depth = second.depth ∙ first.depth;
   idle = second.idle;

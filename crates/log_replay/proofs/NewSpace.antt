@@ -7,7 +7,7 @@ use Rattle.std.proofs.Math.ListN.{length-set}
 use Rattle.std.proofs.lemmas.List.{length-replicate}
 use Rattle.meta_log.specs.declared.slot.Super.{Super}
 use Rattle.meta_log.specs.Prelude.{IsSuper, data_unit}
-use Rattle.unit_allocator.specs.Prelude.{Space, is_free, given_one, freed_from, no_idle_units}
+use Rattle.unit_allocator.specs.Prelude.{Space, is_free, holds_of, given_one, freed_from, no_idle_units}
 use Rattle.unit_allocator.proofs.Fresh.{new_is_free, new_is_unheld}
 use Rattle.store_image.specs.Prelude.{IsDataUnit}
 use Rattle.store_facts.specs.Prelude.{IsSpaceOf}
@@ -41,10 +41,13 @@ new_space_is sup first end busy limits from to =
     record {
       first = range.0 ∙ from;
       count = omega (arith, range.1, length-replicate (end - first) false, from, to, limits.room);
-      unheld = λ unit.
-          let at : ℕ = unit - (new_space first end busy).first in
-          ap (λ (holds : List ℕ). get_or holds at 0) (new_is_unheld first (end - first) busy) ∙ all_alike (end - first) at 0;
     }
+
+-- nobody holds one of them
+pub new_space_unheld : (first end : ℕ) (busy : set.FinSet nat_cmp) (unit : ℕ) → holds_of (new_space first end busy) unit ≡ 0
+new_space_unheld first end busy unit =
+    let at : ℕ = unit - (new_space first end busy).first in
+    ap (λ (holds : List ℕ). get_or holds at 0) (new_is_unheld first (end - first) busy) ∙ all_alike (end - first) at 0
 
 -- a data unit is free there exactly where it isn't busy
 pub new_space_free : (sup : Super) (first end : ℕ) (busy : set.FinSet nat_cmp) → IsSuper sup → first ≡ data_unit sup → end ≡ sup.units

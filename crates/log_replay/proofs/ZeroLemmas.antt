@@ -7,7 +7,7 @@ use Rattle.std.proofs.lemmas.List.{append-nil, get_or_default, get_or-take, take
 use Rattle.std.proofs.lemmas.List.Elements.{Contains-get_or, Contains-append_left, Contains-append_right, Contains-append_cases, Contains-push, All-get_or, All-drop}
 use Rattle.byte_maps.specs.Units.{unit_at, IsUnits, zeros}
 use Rattle.byte_maps.proofs.Prelude.{length-zeros, unit_at-zeros, unit_at-laid_inside}
-use Rattle.block_device.specs.Prelude.{last, after_event, WritesUnit, Disk, History, last_at}
+use Rattle.block_device.specs.Prelude.{last, after_event, WritesUnit, Disk, History, last_at, IsSound}
 use Rattle.block_device.specs.declared.event.Event.{Event}
 use Rattle.block_device.specs.declared.event.Event.TheVariants.{Write, Done}
 use Rattle.block_device.proofs.LogLemmas.{last-push, unit_at-after_event, length-after_event, slice_get-push_cases}
@@ -51,8 +51,8 @@ goes_on_call event ok h k on = record {
       ∙ append_assoc h.log (on.events ++ event ∷ []) (Done (length k.log) ok ∷ []);
 }
 
-pub later_same : (d : Disk) → d.flights ≡ [] → IsLater d d
-later_same d idle = record { units = refl; depth = refl; idle = idle; told = told_start GoesOn d.history goes_on_same }
+pub later_same : (d : Disk) → IsSound d → d.flights ≡ [] → IsLater d d
+later_same d sound idle = record { sound = sound; units = refl; depth = refl; idle = idle; told = told_start GoesOn d.history goes_on_same }
 
 told_any_call : (event : Event) (ok : Bool) (a b : Option History) → Told GoesOn a b → Told GoesOn a (with_call event ok b)
 told_any_call event ok None None p = tt
@@ -60,8 +60,9 @@ told_any_call event ok None (Some k) p = p
 told_any_call event ok (Some h) None p = p
 told_any_call event ok (Some h) (Some k) p = goes_on_call event ok h k p
 
-pub later_call : (event : Event) (ok : Bool) (old mid new : Disk) → IsLater old mid → Called mid event ok new → IsLater old new
-later_call event ok old mid new later called = subst (IsLater old) (sym called) (record {
+pub later_call : (event : Event) (ok : Bool) (old mid new : Disk) → IsLater old mid → Called mid event ok new → IsSound new → IsLater old new
+later_call event ok old mid new later called sound = subst (IsLater old) (sym called) (record {
+  sound = subst IsSound called sound;
   units = later.units;
   depth = later.depth;
   idle = later.idle;
@@ -136,12 +137,12 @@ was_zeroed_none h = record {
   others = λ unit not. refl;
 }
 
-pub zeroed_none : (units : List ℕ) (d : Disk) → d.flights ≡ [] → All (λ unit. unit < d.units) units → ZeroedSoFar units units 0 d d
-zeroed_none units d idle below = record {
+pub zeroed_none : (units : List ℕ) (d : Disk) → IsSound d → d.flights ≡ [] → All (λ unit. unit < d.units) units → ZeroedSoFar units units 0 d d
+zeroed_none units d sound idle below = record {
   done = [];
   parts = refl;
   below = below;
-  later = later_same d idle;
+  later = later_same d sound idle;
   told = told_start (WasZeroed []) d.history was_zeroed_none;
   runs = told_start (RunsSoFar units units 0) d.history (runs_none units);
   few = omega arith;
@@ -207,8 +208,8 @@ module _ (rest : List ℕ) (count : ℕ) (run : IsFirstRun rest count) (some : 0
       (λ h k only. only_call first end event ok h k (run_zeroes rest count first end some run was.0) only) was.1)
 
   zeroed_more : (units : List ℕ) (n : ℕ) (old mid new : Disk) → IfSome old.history (λ h. IsUnits old.units (last h.start h.log)) → ZeroedSoFar units rest n old mid
-      → Called mid (Write (slice_index rest 0) (zeros (4096 * count))) true new → ZeroedSoFar units (drop count rest) (n + 1) old new
-  zeroed_more units n old mid new size so_far called =
+      → Called mid (Write (slice_index rest 0) (zeros (4096 * count))) true new → IsSound new → ZeroedSoFar units (drop count rest) (n + 1) old new
+  zeroed_more units n old mid new size so_far called sound =
       let at = slice_index rest 0 in
       let event = Write at (zeros (4096 * count)) in
       let fits : at + count ≤ old.units = run_fits old.units so_far.below in
@@ -216,7 +217,7 @@ module _ (rest : List ℕ) (count : ℕ) (run : IsFirstRun rest count) (some : 0
         done = so_far.done ++ take count rest;
         parts = so_far.parts ∙ ap (λ l. so_far.done ++ l) (sym (take-append-drop count rest)) ∙ sym (append_assoc so_far.done (take count rest) (drop count rest));
         below = All-drop (λ unit. unit < old.units) count rest so_far.below;
-        later = later_call event true old mid new so_far.later called;
+        later = later_call event true old mid new so_far.later called sound;
         told = subst (λ d. Told (WasZeroed (so_far.done ++ take count rest)) old.history d.history) (sym called)
             (told_call (WasZeroed so_far.done) (WasZeroed (so_far.done ++ take count rest)) event old.history mid.history
             (λ h k was_h was_k was. was_zeroed_more so_far.done h k (omega (arith, fits, subst (λ o. IfSome o (λ t. IsUnits old.units (last t.start t.log))) was_h size)) was) so_far.told);
@@ -233,9 +234,10 @@ module _ (rest : List ℕ) (count : ℕ) (run : IsFirstRun rest count) (some : 0
 
   -- with what is left as the code cuts it off
   pub zeroed_tail : (units : List ℕ) (m : ℕ) (old mid new : Disk) (n : ℕ) → length rest ≤ count + n → IfSome old.history (λ h. IsUnits old.units (last h.start h.log)) → ZeroedSoFar units rest m old mid
-      → Called mid (Write (slice_index rest 0) (zeros (4096 * count))) true new → ZeroedSoFar units (take n (drop count rest)) (m + 1) old new
-  zeroed_tail units m old mid new n all size so_far called =
-      subst (λ l. ZeroedSoFar units l (m + 1) old new) (sym (take_all n (drop count rest) (omega (arith, all, length-drop count rest)))) (zeroed_more units m old mid new size so_far called)
+      → Called mid (Write (slice_index rest 0) (zeros (4096 * count))) true new → IsSound new
+      → ZeroedSoFar units (take n (drop count rest)) (m + 1) old new
+  zeroed_tail units m old mid new n all size so_far called sound =
+      subst (λ l. ZeroedSoFar units l (m + 1) old new) (sym (take_all n (drop count rest) (omega (arith, all, length-drop count rest)))) (zeroed_more units m old mid new size so_far called sound)
 
 pub zeroed_all : (units rest : List ℕ) (n : ℕ) (old new : Disk) → rest ≡ [] → ZeroedSoFar units rest n old new → Told (WasZeroed units) old.history new.history
 zeroed_all units rest n old new none so_far =

@@ -1,7 +1,7 @@
 -- Calls of a device, made one at a time: each is submitted with nothing else in flight, and its end is awaited.
 use Rattle.std.specs.Prelude.{◌≡◌, ◌⊎◌, ℕ, Bool, true, false, List, [], ◌∷◌, ◌++◌, length, map, Option, Some, None}
 use Rattle.std.specs.List.{AllByRecursion}
-use Rattle.block_device.specs.Prelude.{Disk, History, Flight, history_after}
+use Rattle.block_device.specs.Prelude.{Disk, History, Flight, IsSound, history_after}
 use Rattle.block_device.specs.declared.event.Event.{Event}
 use Rattle.block_device.specs.declared.event.Event.TheVariants.{Write, Flush, Done}
 
@@ -67,6 +67,7 @@ StopsAtFault old new = (new ≡ old) ⊎ GoesOnToBadEnd old new
 
 -- the same device later, with nothing in flight
 pub record IsLater (old new : Disk) : Type 0 where
+  pub sound : IsSound new
   pub units : new.units ≡ old.units
   pub depth : new.depth ≡ old.depth
   pub idle : new.flights ≡ []

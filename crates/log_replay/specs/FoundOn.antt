@@ -3,10 +3,10 @@ use Rattle.std.specs.Prelude.{◌≡◌, ◌≤◌, ℕ, ◌+◌, ◌-◌, ◌*�
 use Rattle.block_device.specs.Prelude.{Disk, History}
 use Rattle.meta_log.specs.Prelude.{active_half, IsSuper, active_unit}
 use Rattle.unit_allocator.specs.Prelude.{Space}
-use Rattle.store_steps.specs.Prelude.{Found}
+use Rattle.store_steps.specs.Prelude.{Found, HoldsAreCounted}
 use Rattle.plan_rows.specs.Prelude.{IsGood}
 use Rattle.store_facts.specs.Prelude.{IsSpaceOf}
-use Rattle.log_replay.specs.Opening.{IsAbout, IsFoundIn, HasLowNumbers, AreUnmarkedFree}
+use Rattle.log_replay.specs.Opening.{IsAbout, IsFoundIn, HasLowNumbers, AreUnmarkedIdle, AreUnmarkedFree}
 use Rattle.log_replay.specs.Stale.{AreNotZero}
 use Rattle.log_replay.specs.Clearing.{IsCleared, ClearsSoFar}
 use Rattle.log_replay.specs.declared.replaying.FoundStore.{FoundStore}
@@ -38,11 +38,14 @@ pub record IsFoundOn (d : Disk) (s : FoundStore) : Type 0 where
   pub stale : AreStaleOf half s
   pub about : IsAbout d (λ contents. IsFoundIn contents (as_found s) × (half ≡ active_half contents s.sup))
 
--- A kernel can be opened on it, with these free units: all whose bits are 0.
+-- A kernel can be opened on it, with these idle units: all whose bits are 0. They are held by as many as its rows say, and the free ones are the
+-- same.
 pub record IsJudged (f : Found) (space : Space) : Type 0 where
   pub good : IsGood f.sup f.rows
   pub numbers : HasLowNumbers f
   pub units : IsSpaceOf f.sup space
+  pub idle : AreUnmarkedIdle f space
+  pub held : HoldsAreCounted f.sup f.rows space
   pub unmarked : AreUnmarkedFree f space
 
 -- what is behind its records was cleared, in so many events

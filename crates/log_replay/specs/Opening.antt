@@ -5,7 +5,7 @@ use Rattle.block_device.specs.Prelude.{last, Disk, Rose}
 use Rattle.meta_log.specs.declared.slot.Super.{Super}
 use Rattle.meta_log.specs.Prelude.{active_half, width_of, IsValidSlot, IsActiveSlot, active_unit}
 use Rattle.store_image.specs.Prelude.{NoBadRow, IsDataUnit, IsMarked, IsExactAs, IsLeastInexact}
-use Rattle.unit_allocator.specs.Prelude.{Space, is_free}
+use Rattle.unit_allocator.specs.Prelude.{Space, is_idle, is_free}
 use Rattle.row_check.specs.Bad.{IsLeastBad}
 use Rattle.store_steps.specs.Prelude.{Found}
 use Rattle.log_replay.specs.Cleared.{IsAllClean}
@@ -49,7 +49,11 @@ HasLowNumbers f = (f.sup.epoch < 2 ^ 61) × (f.number < 2 ^ 61)
 abbrev pub IsWornOut : Found → ℕ → Type 0
 IsWornOut f value = ((2 ^ 61 ≤ f.sup.epoch) × (value ≡ f.sup.epoch)) ⊎ ((f.sup.epoch < 2 ^ 61) × (2 ^ 61 ≤ f.number) × (value ≡ f.number))
 
--- the free data units are exactly those whose bits are 0
+-- the idle data units are exactly those whose bits are 0
+abbrev pub AreUnmarkedIdle : Found → Space → Type 0
+AreUnmarkedIdle f space = (unit : ℕ) → IsDataUnit f.sup unit → (is_idle space unit ≡ true) ↔ (¬ IsMarked f.rows unit)
+
+-- and so are the free ones
 abbrev pub AreUnmarkedFree : Found → Space → Type 0
 AreUnmarkedFree f space = (unit : ℕ) → IsDataUnit f.sup unit → (is_free space unit ≡ true) ↔ (¬ IsMarked f.rows unit)
 

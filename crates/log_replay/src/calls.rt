@@ -1,6 +1,6 @@
 //! Calls of a device, one at a time: each is submitted with nothing else in flight, and its end is awaited.
 ghost use Rattle.std.specs.Prelude.{◌≡◌, ◌≤◌, ◌<◌, ◌+◌, ◌*◌, ◌%◌, [], true, false, length, OnOk, IsErrOf};
-ghost use Rattle.block_device.specs.Prelude.{Rose};
+ghost use Rattle.block_device.specs.Prelude.{IsSound, Rose};
 ghost use Rattle.block_device.specs.declared.event.Event.TheVariants.{Write, Flush};
 ghost use Rattle.log_replay.specs.Calls.{IsOnly, Ended, Called};
 
@@ -10,6 +10,7 @@ use block_device::{Device, Failed, Ticket};
 fn wait<D: Device>(dev: &mut D, ticket: Ticket) -> bool
     requires { IsOnly ticket.place (D.disk dev.old).flights }
     ensures ended { Ended (D.disk dev.old) ticket.place result (D.disk dev.new) }
+    ensures sound { IsSound (D.disk dev.new) }
     ensures later { D.faults dev.old ≤ D.faults dev.new }
     ensures cause { result ≡ false → Rose (D.faults dev.old) (D.faults dev.new) }
 {
@@ -23,6 +24,7 @@ fn wait<D: Device>(dev: &mut D, ticket: Ticket) -> bool
 
 /// Writes 1 to 64 whole units from unit `at` on.
 pub fn write_through<D: Device>(dev: &mut D, at: u32, bytes: Vec<u8>) -> Result<(), Failed>
+    requires sound { IsSound (D.disk dev.old) }
     requires idle { (D.disk dev.old).flights ≡ [] }
     requires some { 0 < length bytes.items }
     requires few { length bytes.items ≤ 4096 * 64 }
@@ -31,10 +33,10 @@ pub fn write_through<D: Device>(dev: &mut D, at: u32, bytes: Vec<u8>) -> Result<
     ensures ok { OnOk result (Called (D.disk dev.old) (Write at bytes.items) true (D.disk dev.new)) }
     ensures fault { IsErrOf result Failed.Fault → Called (D.disk dev.old) (Write at bytes.items) false (D.disk dev.new) }
     ensures memory { IsErrOf result Failed.Memory → D.disk dev.new ≡ D.disk dev.old }
+    ensures sound { IsSound (D.disk dev.new) }
     ensures later { D.faults dev.old ≤ D.faults dev.new }
     ensures cause { IsErrOf result Failed.Fault → Rose (D.faults dev.old) (D.faults dev.new) }
 {
-    let _ = dev.units();
     match dev.submit_write(at, bytes) {
         Ok(ticket) => {
             if wait(dev, ticket) {
@@ -49,14 +51,15 @@ pub fn write_through<D: Device>(dev: &mut D, at: u32, bytes: Vec<u8>) -> Result<
 
 /// Makes all that was written stable.
 pub fn flush_through<D: Device>(dev: &mut D) -> Result<(), Failed>
-    requires { (D.disk dev.old).flights ≡ [] }
+    requires sound { IsSound (D.disk dev.old) }
+    requires idle { (D.disk dev.old).flights ≡ [] }
     ensures ok { OnOk result (Called (D.disk dev.old) Flush true (D.disk dev.new)) }
     ensures fault { IsErrOf result Failed.Fault → Called (D.disk dev.old) Flush false (D.disk dev.new) }
     ensures memory { IsErrOf result Failed.Memory → D.disk dev.new ≡ D.disk dev.old }
+    ensures sound { IsSound (D.disk dev.new) }
     ensures later { D.faults dev.old ≤ D.faults dev.new }
     ensures cause { IsErrOf result Failed.Fault → Rose (D.faults dev.old) (D.faults dev.new) }
 {
-    let _ = dev.units();
     match dev.submit_flush() {
         Ok(ticket) => {
             if wait(dev, ticket) {

@@ -4,7 +4,7 @@
 //! cleared first, and is stable before any other is: otherwise a record behind it could come to follow the records while zeros
 //! are torn.
 ghost use Rattle.std.specs.Prelude.{◌≡◌, ◌≤◌, ◌<◌, ◌+◌, ◌-◌, ℕ, List, [], length, All, OnOk, IfOk, IsErrOf};
-ghost use Rattle.block_device.specs.Prelude.{Rose};
+ghost use Rattle.block_device.specs.Prelude.{IsSound, Rose};
 ghost use Rattle.log_replay.specs.Calls.{Told, IsLater};
 ghost use Rattle.log_replay.specs.Zeroing.{ZeroesOnly};
 ghost use Rattle.log_replay.specs.Stale.{AreNotZero};
@@ -17,6 +17,7 @@ use std::alloc::Global;
 
 /// Zeros over one unit, stable.
 fn clear_unit<D: Device>(alloc: Global, dev: &mut D, unit: u32) -> Result<(), Failed>
+    requires sound { IsSound (D.disk dev.old) }
     requires idle { (D.disk dev.old).flights ≡ [] }
     requires inside { unit < (D.disk dev.old).units }
     ensures later { IsLater (D.disk dev.old) (D.disk dev.new) }
@@ -25,7 +26,6 @@ fn clear_unit<D: Device>(alloc: Global, dev: &mut D, unit: u32) -> Result<(), Fa
     ensures faults { D.faults dev.old ≤ D.faults dev.new }
     ensures cause { IsErrOf result Failed.Fault → Rose (D.faults dev.old) (D.faults dev.new) }
 {
-    let _ = dev.units();
     let Ok(bytes) = zero_bytes(alloc, 1) else {
         return Err(Failed::Memory);
     };
@@ -51,6 +51,7 @@ fn clear_first<D: Device>(
     unit: u32,
     is_stale: bool,
 ) -> Result<u64, Failed>
+    requires sound { IsSound (D.disk dev.old) }
     requires idle { (D.disk dev.old).flights ≡ [] }
     requires inside { unit < (D.disk dev.old).units }
     ensures later { IsLater (D.disk dev.old) (D.disk dev.new) }
@@ -70,6 +71,7 @@ fn clear_first<D: Device>(
 
 /// Zeros over these units, which ascend, in maximal runs of at most 64, and a flush where there is one. Says how many events that took.
 fn clear_others<D: Device>(alloc: Global, dev: &mut D, units: &[u32]) -> Result<u64, Failed>
+    requires sound { IsSound (D.disk dev.old) }
     requires idle { (D.disk dev.old).flights ≡ [] }
     requires inside { All (λ unit. unit < (D.disk dev.old).units) units.now }
     requires few { length units.now ≤ 1048576 }
@@ -111,6 +113,7 @@ pub fn clear_behind<D: Device>(
     ensures faults { D.faults dev.old ≤ D.faults dev.new }
     ensures cause { IsErrOf result Failed.Fault → Rose (D.faults dev.old) (D.faults dev.new) }
 {
+    let _ = dev.units();
     if first == end {
         return Ok(0);
     }

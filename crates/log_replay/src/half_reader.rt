@@ -1,6 +1,6 @@
 //! A half of the log, read from its front in pieces as its records are asked for.
 ghost use Rattle.std.specs.Prelude.{◌≡◌, ◌≤◌, ◌<◌, ◌+◌, ◌*◌, ◌-◌, [], length, drop, OnOk, IfOk, IsErrOf, MatchOption};
-ghost use Rattle.block_device.specs.Prelude.{Rose};
+ghost use Rattle.block_device.specs.Prelude.{IsSound, Rose};
 ghost use Rattle.meta_log.specs.Prelude.{IsAtFront};
 ghost use Rattle.log_replay.specs.HalfReading.{left_of, IsReader, IsNew, Skips, ReadsOn, HasNoRecord, MayStand, HasStale};
 
@@ -218,6 +218,7 @@ impl HalfReader {
 
     /// The units that aren't zero, of those that weren't passed over, ascending. The half is read to its end.
     pub fn stale<D: Device>(&self, alloc: Global, dev: &mut D) -> Result<Vec<u32>, Failed>
+        requires sound { IsSound (D.disk dev.old) }
         requires idle { (D.disk dev.old).flights ≡ [] }
         requires reader { IsReader self.now }
         requires inside { self.now.end ≤ (D.disk dev.old).units }
@@ -226,7 +227,6 @@ impl HalfReader {
         ensures faults { D.faults dev.old ≤ D.faults dev.new }
         ensures cause { IsErrOf result Failed.Fault → Rose (D.faults dev.old) (D.faults dev.new) }
     {
-        let _ = dev.units();
         let mut units = Vec::new(alloc);
         let count = self.next - self.at;
         let Ok(()) = add_stale(&mut units, self.at, count, self.left()) else {

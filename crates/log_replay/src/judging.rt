@@ -4,7 +4,7 @@ ghost use Rattle.std.specs.FinSet as set;
 ghost use Rattle.meta_log.specs.Prelude.{IsSuper};
 ghost use Rattle.store_image.specs.Prelude.{IsDataUnit};
 ghost use Rattle.bitmap_freelist.specs.Bitmap.{AreMarked};
-ghost use Rattle.unit_allocator.specs.Prelude.{is_free};
+ghost use Rattle.unit_allocator.specs.Prelude.{is_free, holds_of};
 ghost use Rattle.plan_rows.specs.Prelude.{IsGood};
 ghost use Rattle.store_facts.specs.Prelude.{IsSpaceOf};
 ghost use Rattle.log_replay.specs.Opening.{HasLowNumbers, IsWornOut, IsRefused};
@@ -60,6 +60,7 @@ fn free_units(alloc: Global, sup: &Super, marked: &UnitSet) -> Result<Allocator,
     requires { IsSuper sup.now }
     ensures units { IfOk result (IsSpaceOf sup.now) }
     ensures free { IfOk result (λ space. (unit : ℕ) → IsDataUnit sup.now unit → is_free space unit ≡ not (set.contains marked.now unit)) }
+    ensures unheld { IfOk result (λ space. (unit : ℕ) → holds_of space unit ≡ 0) }
 {
     let first = UnitNo::new(2 + 2 * sup.half);
     let end = UnitNo::new(sup.units);

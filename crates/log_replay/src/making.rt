@@ -1,6 +1,6 @@
 //! Making an empty store.
 ghost use Rattle.std.specs.Prelude.{◌≡◌, ◌≤◌, ◌<◌, ◌+◌, ◌*◌, [], IfOk, IfErr, OnOk, IsErrOf, IsOk};
-ghost use Rattle.block_device.specs.Prelude.{IsQuiet, Rose};
+ghost use Rattle.block_device.specs.Prelude.{IsSound, IsQuiet, Rose};
 ghost use Rattle.log_replay.specs.Calls.{Told, GoesOnWell, GoesOnToBadEnd, StopsAtFault, IsLater};
 ghost use Rattle.log_replay.specs.Cleared.{WasCleared, WasMade};
 ghost use Rattle.log_replay.specs.NewSuper.{units_needed};
@@ -30,6 +30,7 @@ pub enum MkfsFail {
 
 /// Zeros in both slots and in half 0, stable.
 fn clear<D: Device>(alloc: Global, dev: &mut D, half: u32) -> Result<(), Failed>
+    requires sound { IsSound (D.disk dev.old) }
     requires idle { (D.disk dev.old).flights ≡ [] }
     requires half { half ≤ 65536 }
     requires inside { half + 2 ≤ (D.disk dev.old).units }
@@ -75,6 +76,7 @@ fn write_slot<D: Device>(alloc: Global, dev: &mut D, half: u32, prefer: u32) -> 
 }
 
 fn make<D: Device>(alloc: Global, dev: &mut D, half: u32, prefer: u32) -> Result<(), Failed>
+    requires sound { IsSound (D.disk dev.old) }
     requires idle { (D.disk dev.old).flights ≡ [] }
     requires least { 8 ≤ half }
     requires most { half ≤ 65536 }
@@ -88,7 +90,6 @@ fn make<D: Device>(alloc: Global, dev: &mut D, half: u32, prefer: u32) -> Result
 {
     clear(alloc, dev, half)?;
     write_slot(alloc, dev, half, prefer)?;
-    let _ = dev.units();
     Ok(())
 }
 

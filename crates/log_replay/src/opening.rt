@@ -1,6 +1,6 @@
 //! The superblock of a device, and why a mount opens no store.
 ghost use Rattle.std.specs.Prelude.{◌≡◌, ◌≤◌, ◌<◌, [], IfOk, IfSome, IsErrOf, MatchOption};
-ghost use Rattle.block_device.specs.Prelude.{Rose};
+ghost use Rattle.block_device.specs.Prelude.{IsSound, Rose};
 ghost use Rattle.meta_log.specs.declared.slot.Super.{Super};
 ghost use Rattle.meta_log.specs.Prelude.{IsSuper, IsSlotOf, IsValidSlot, IsActiveSlot};
 ghost use Rattle.log_replay.specs.Opening.{IsAbout, HasNoSuper, newer_of};
@@ -83,6 +83,7 @@ fn newer(first: Option<Super>, second: Option<Super>) -> Option<Super>
 pub fn find_super<D: Device>(alloc: Global, dev: &mut D) -> Result<Option<Super>, Failed>
     requires idle { (D.disk dev.old).flights ≡ [] }
     ensures same { D.disk dev.new ≡ D.disk dev.old }
+    ensures sound { IsSound (D.disk dev.old) }
     ensures active { IfOk result (λ found. IsAbout (D.disk dev.old) (λ contents. MatchOption found (HasNoSuper contents) (IsActiveSlot contents))) }
     ensures found { IfOk result (λ found. IfSome found (λ s. IsSuper s × (s.units ≡ (D.disk dev.old).units))) }
     ensures faults { D.faults dev.old ≤ D.faults dev.new }

@@ -1,6 +1,6 @@
 //! The active half of the log is read, and its records make the rows.
 ghost use Rattle.std.specs.Prelude.{◌≡◌, ◌≤◌, ◌+◌, [], IfOk, IfErr, IsErrOf};
-ghost use Rattle.block_device.specs.Prelude.{Rose};
+ghost use Rattle.block_device.specs.Prelude.{IsSound, Rose};
 ghost use Rattle.meta_log.specs.declared.slot.Super.{Super};
 ghost use Rattle.log_replay.specs.Opening.{FailsMount};
 ghost use Rattle.log_replay.specs.HalfReading.{IsNew, HasReplayed, IsHalfRead};
@@ -78,6 +78,7 @@ fn read_half<D: Device>(
     count: u32,
     number: u64,
 ) -> Result<(Replayed, Vec<u32>), Failed>
+    requires sound { IsSound (D.disk dev.old) }
     requires idle { (D.disk dev.old).flights ≡ [] }
     requires inside { first + count ≤ (D.disk dev.old).units }
     ensures same { D.disk dev.new ≡ D.disk dev.old }
@@ -85,7 +86,6 @@ fn read_half<D: Device>(
     ensures faults { D.faults dev.old ≤ D.faults dev.new }
     ensures cause { IsErrOf result Failed.Fault → Rose (D.faults dev.old) (D.faults dev.new) }
 {
-    let _ = dev.units();
     let mut half = HalfReader::new(alloc, first, first + count);
     let log = replay(alloc, dev, &mut half, number)?;
     let stale = half.stale(alloc, dev)?;
@@ -96,6 +96,7 @@ fn read_half<D: Device>(
 pub fn find_store<D: Device>(alloc: Global, dev: &mut D) -> Result<FoundStore, MountFail>
     requires idle { (D.disk dev.old).flights ≡ [] }
     ensures same { D.disk dev.new ≡ D.disk dev.old }
+    ensures sound { IsSound (D.disk dev.old) }
     ensures found { IfOk result (IsFoundOn (D.disk dev.old)) }
     ensures fails { IfErr result (λ fail. FailsMount fail (D.disk dev.old) (D.faults dev.old) (D.faults dev.new)) }
     ensures faults { D.faults dev.old ≤ D.faults dev.new }

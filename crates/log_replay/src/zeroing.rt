@@ -1,7 +1,7 @@
 //! Zeros over the units that hold something else, in few and large writes.
 ghost use Rattle.std.specs.Prelude.{◌≡◌, ◌≤◌, ◌<◌, ◌+◌, ◌*◌, ℕ, [], length, All, IfOk, IsErrOf};
 ghost use Rattle.byte_maps.specs.Units.{zeros};
-ghost use Rattle.block_device.specs.Prelude.{Rose};
+ghost use Rattle.block_device.specs.Prelude.{IsSound, Rose};
 ghost use Rattle.log_replay.specs.Calls.{Told, GoesOnToBadEnd, IsLater};
 ghost use Rattle.log_replay.specs.Zeroing.{IsFirstRun, WasZeroed, WroteRuns, ZeroesOnly};
 
@@ -35,6 +35,7 @@ pub fn zero_bytes(alloc: Global, count: usize) -> Result<Vec<u8>, AllocError>
 
 /// Writes zeros over these units, which ascend, in maximal runs of at most 64, and says in how many.
 pub fn zero_units<D: Device>(alloc: Global, dev: &mut D, units: &[u32]) -> Result<usize, Failed>
+    requires sound { IsSound (D.disk dev.old) }
     requires idle { (D.disk dev.old).flights ≡ [] }
     requires inside { All (λ unit. unit < (D.disk dev.old).units) units.now }
     requires few { length units.now ≤ 1048576 }
@@ -48,7 +49,6 @@ pub fn zero_units<D: Device>(alloc: Global, dev: &mut D, units: &[u32]) -> Resul
     ensures faults { D.faults dev.old ≤ D.faults dev.new }
     ensures cause { IsErrOf result Failed.Fault → Rose (D.faults dev.old) (D.faults dev.new) }
 {
-    let _ = dev.units();
     let mut rest = units;
     let mut runs = 0;
     'runs: while !rest.is_empty() {

@@ -154,7 +154,8 @@ module _ (s : FoundStore) (d : Disk) (sound : IsSound d) (found : IsFoundOn d s)
     tail = found.tail;
     good = judged.good;
     space = judged.units;
-    counted = counted_none s.sup s.log.rows.rows space judged.unmarked;
+    counted = counted_none s.sup s.log.rows.rows space judged.idle;
+    held = judged.held;
   }
 
   pub opened_kept : (space : Space) (count : ℕ) (now : Disk) → IsSound now → now.flights ≡ [] → now.units ≡ d.units → count ≤ 4194308

@@ -134,5 +134,5 @@ reaped_more s d t e t' e' so_far flies call sound =
       told = told_join GoesOn GoesOn GoesOn d.history e.history e'.history (λ h k m a b c p q. goes_on_join h k m p q) so_far.told one.told;
     }
 
-pub later_idle : (s : State) (d : Disk) (s' : State) (d' : Disk) → ReapedSoFar s d s' d' → d'.flights ≡ [] → IsLater d d'
-later_idle s d s' d' so_far idle = record { units = so_far.units; depth = so_far.depth; idle = idle; told = so_far.told }
+pub later_idle : (s : State) (d : Disk) (s' : State) (d' : Disk) → ReapedSoFar s d s' d' → IsSound d' → d'.flights ≡ [] → IsLater d d'
+later_idle s d s' d' so_far sound idle = record { sound = sound; units = so_far.units; depth = so_far.depth; idle = idle; told = so_far.told }

@@ -47,6 +47,7 @@ fn open_on<D: Device>(
     submitted: RowTable,
     space: Allocator,
 ) -> Result<Kernel<D>, (MountFail, D)>
+    requires sound { IsSound (D.disk dev) }
     requires idle { (D.disk dev).flights ≡ [] }
     requires found { IsFoundOn (D.disk dev) found }
     requires submitted { submitted.rows ≡ found.log.rows.rows }
@@ -59,12 +60,10 @@ fn open_on<D: Device>(
     ensures durable { MatchResult result (λ k. StaysDurable (D.disk dev) (D.disk k.device)) (λ e. StaysDurable (D.disk dev) (D.disk e.1)) }
 {
     let mut dev = dev;
-    let _ = dev.units();
     let events = match clear_log(alloc, &mut dev, &found) {
         Ok(events) => events,
         Err(why) => return Err((failed(why), dev)),
     };
-    let _ = dev.units();
     let FoundStore { sup, log, stale: _ } = found;
     let meta = MetaStore::open(&sup, log.rows, log.tail, log.number);
     Ok(Kernel::open(alloc, dev, meta, submitted, space, events))
@@ -84,7 +83,6 @@ pub fn mount<D: Device>(alloc: Global, dev: D) -> Result<Kernel<D>, (MountFail, 
     ensures durable { MatchResult result (λ k. StaysDurable (D.disk dev) (D.disk k.device)) (λ e. StaysDurable (D.disk dev) (D.disk e.1)) }
 {
     let mut dev = dev;
-    let _ = dev.units();
     let found = match find_store(alloc, &mut dev) {
         Ok(found) => found,
         Err(fail) => return Err((fail, dev)),
@@ -102,6 +100,7 @@ pub fn mount<D: Device>(alloc: Global, dev: D) -> Result<Kernel<D>, (MountFail, 
 /// Whether something is in flight.
 fn is_flying<D: Device>(kernel: &Kernel<D>) -> bool
     ensures ready { result ≡ is_ready Reap (D.disk kernel.now.device).depth kernel.now.state }
+    ensures sound { IsSound (D.disk kernel.now.device) }
     ensures flies { result ≡ true → (D.disk kernel.now.device).flights ≢ [] }
     ensures idle { result ≡ false → (D.disk kernel.now.device).flights ≡ [] }
 {

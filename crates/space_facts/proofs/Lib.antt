@@ -3,6 +3,7 @@ pub mod Rows
 pub mod Selected
 pub mod Joining
 pub mod Moving
+pub mod Idle
 pub mod Spaces
 pub mod Example
 pub mod Prelude

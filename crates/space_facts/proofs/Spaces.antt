@@ -1,103 +1,26 @@
--- The free units: what a submission takes and what a commit gives back.
-use Rattle.std.proofs.Common.{◌≡◌, ◌≢◌, ◌↔◌, ◌⊎◌, inl, inr, ℕ, zero, suc, ◌<◌, ◌^◌, Bool, true, false, List, [], ◌∷◌, ◌++◌, map, length, get_or, Contains, Any, refl, sym, ap, subst, arith}
+-- The idle units: what a submission takes and what a commit gives back.
+use Rattle.std.proofs.Common.{◌≡◌, ◌↔◌, ◌⊎◌, inl, inr, ℕ, zero, suc, ◌<◌, ◌^◌, Bool, true, false, List, [], ◌∷◌, ◌++◌, map, length, get_or, Contains, Any, refl, sym, ap, subst, arith}
 use Rattle.std.specs.List.{AllByRecursion}
 use Rattle.std.proofs.lemmas.List.Elements.{Contains-append_left, Contains-append_right, Contains-append_cases}
 use Rattle.meta_rows.specs.Prelude.{Rows}
 use Rattle.meta_log.specs.declared.slot.Super.{Super}
 use Rattle.meta_log.specs.Prelude.{width_of, IsSuper}
 use Rattle.store_image.specs.Prelude.{IsDataUnit, IsOwned, IsMarked, IsBusy}
-use Rattle.unit_allocator.specs.Prelude.{Space, IsWithin, is_free, free_units, taken_one, given_one, taken, given}
-use Rattle.unit_allocator.proofs.Lists.{Contains-head, Contains-tail, Contains-cases}
-use Rattle.unit_allocator.proofs.FreeUnits.{free_is_listed, listed_is_free, listed_is_within, free_after_taking, free_after_giving, range_stays}
+use Rattle.unit_allocator.specs.Prelude.{Space, is_idle, free_units, taken, given}
+use Rattle.unit_allocator.proofs.Lists.{Contains-head}
+use Rattle.unit_allocator.proofs.FreeUnits.{listed_is_within}
 use Rattle.plan_rows.specs.Prelude.{AreFreeOver, IsGood, PlanKeeps}
 use Rattle.plan_rows.proofs.OnData.{owned_on_data}
 use Rattle.selections.specs.Fair.{IsComplete}
 use Rattle.selections.proofs.Selecting.{fair_all, complete_is_fair}
 use Rattle.store_steps.specs.Prelude.{Intent, names_in, is_in, plan_of, rows_by, taken_by, released_by, EachIsPlanned, AreTakenApart, SpaceIsCounted, CanJoin}
-use Rattle.space_facts.specs.Spaces.{HasDataUnits, HasOnlyDataUnits, AreUnheld}
+use Rattle.space_facts.specs.Spaces.{HasDataUnits, HasOnlyDataUnits}
 use Rattle.space_facts.specs.Owning.{OwnTheirUnits}
+use Rattle.space_facts.proofs.Idle.{listed_is_idle, idle_taken, idle_given}
 use Rattle.space_facts.proofs.Lists.{all_listed, listed_all, in_or_not, times, times_append, times_some, times_once}
 use Rattle.space_facts.proofs.Rows.{taken_append, released_append}
 use Rattle.space_facts.proofs.Selected.{units_of, taken_before, taken_last, taken_cases, selected_taken, small_of, keeps_on_data, selected_on_data, selection_owns, selection_good, selection_exact, selection_leaked, idle_unmarked}
 use Rattle.space_facts.proofs.Moving.{batch_fair, good_committed, in_batch, in_pending, unmarked_first, not_both, batch_owns}
-
--- ---- units taken and given one after the other
-
-abbrev pub AreWithin : Space → List ℕ → Type 0
-AreWithin space us = (u : ℕ) → Contains us u → IsWithin space u
-
-module _ (v : ℕ) where
-  within_taken : (us : List ℕ) (space : Space) → IsWithin space v → IsWithin (taken space us) v
-  within_taken [] space w = w
-  within_taken (u ∷ us) space w = within_taken us (taken_one space u) (range_stays space u v w).0
-
-  within_given : (us : List ℕ) (space : Space) → IsWithin space v → IsWithin (given space us) v
-  within_given [] space w = w
-  within_given (u ∷ us) space w = within_given us (given_one space u) (range_stays space u v w).1
-
-  listed_taken : (us : List ℕ) (space : Space) → AreWithin space us
-      → Contains (free_units (taken space us)) v ↔ (Contains (free_units space) v × (Contains us v → ⊥))
-  listed_taken [] space within = (λ c. (c, λ d. omega (arith, d.1)), λ p. p.0)
-  listed_taken (u ∷ us) space within =
-      let one : Contains (free_units (taken_one space u)) v ↔ (Contains (free_units space) v × (v ≢ u)) =
-      free_after_taking space u v (within u (Contains-head u us)) in
-      let rest : Contains (free_units (taken (taken_one space u) us)) v ↔ (Contains (free_units (taken_one space u)) v × (Contains us v → ⊥)) =
-      listed_taken us (taken_one space u) (λ w c. (range_stays space u w (within w (Contains-tail u w us c))).0) in (
-        λ c.
-            let d : Contains (free_units (taken_one space u)) v × (Contains us v → ⊥) = rest.0 c in
-            let e : Contains (free_units space) v × (v ≢ u) = one.0 d.0 in
-            (e.0, λ k. elim (Contains-cases u v us k) [ inl same ↦ e.1 (sym same) | inr more ↦ d.1 more ]),
-        λ p. rest.1 (
-          one.1 (p.0, λ e. p.1 (subst (λ (x : ℕ). Contains (u ∷ us) x) (sym e) (Contains-head u us))),
-          λ c. p.1 (Contains-tail u v us c),
-        ),
-      )
-
-  listed_given : (us : List ℕ) (space : Space) → AreWithin space us → AreUnheld space us
-      → Contains (free_units (given space us)) v ↔ (Contains (free_units space) v ⊎ Contains us v)
-  listed_given [] space within unheld = (λ c. inl c, λ p. elim p [ inl c ↦ c | inr d ↦ absurd (omega (arith, d.1)) ])
-  listed_given (u ∷ us) space within unheld =
-      let one : Contains (free_units (given_one space u)) v ↔ (Contains (free_units space) v ⊎ (v ≡ u)) =
-      free_after_giving space u v (within u (Contains-head u us)) (unheld u (Contains-head u us)) in
-      let rest : Contains (free_units (given (given_one space u) us)) v ↔ (Contains (free_units (given_one space u)) v ⊎ Contains us v) =
-      listed_given us (given_one space u) (λ w c. (range_stays space u w (within w (Contains-tail u w us c))).1)
-      (λ w c. unheld w (Contains-tail u w us c)) in (
-        λ c. elim (rest.0 c) [
-          | inl d ↦ elim (one.0 d) [
-            | inl e ↦ inl e
-            | inr e ↦ inr (subst (λ (x : ℕ). Contains (u ∷ us) x) (sym e) (Contains-head u us))
-          ]
-          | inr d ↦ inr (Contains-tail u v us d)
-        ],
-        λ p. elim p [
-          | inl c ↦ rest.1 (inl (one.1 (inl c)))
-          | inr k ↦ elim (Contains-cases u v us k) [ inl e ↦ rest.1 (inl (one.1 (inr (sym e)))) | inr d ↦ rest.1 (inr d) ]
-        ],
-      )
-
-  module _ (space : Space) (on : IsWithin space v) (us : List ℕ) (within : AreWithin space us) where
-    free_taken : (is_free (taken space us) v ≡ true) ↔ ((is_free space v ≡ true) × (Contains us v → ⊥))
-    free_taken =
-        let now : (is_free space v ≡ true) ↔ Contains (free_units space) v = free_is_listed space v on in
-        let then : (is_free (taken space us) v ≡ true) ↔ Contains (free_units (taken space us)) v =
-        free_is_listed (taken space us) v (within_taken us space on) in
-        let list : Contains (free_units (taken space us)) v ↔ (Contains (free_units space) v × (Contains us v → ⊥)) =
-        listed_taken us space within in (
-          λ e. (now.1 (list.0 (then.0 e)).0, (list.0 (then.0 e)).1),
-          λ p. then.1 (list.1 (now.0 p.0, p.1)),
-        )
-
-    free_given : AreUnheld space us
-        → (is_free (given space us) v ≡ true) ↔ ((is_free space v ≡ true) ⊎ Contains us v)
-    free_given unheld =
-        let now : (is_free space v ≡ true) ↔ Contains (free_units space) v = free_is_listed space v on in
-        let then : (is_free (given space us) v ≡ true) ↔ Contains (free_units (given space us)) v =
-        free_is_listed (given space us) v (within_given us space on) in
-        let list : Contains (free_units (given space us)) v ↔ (Contains (free_units space) v ⊎ Contains us v) =
-        listed_given us space within unheld in (
-          λ e. elim (list.0 (then.0 e)) [ inl c ↦ inl (now.1 c) | inr d ↦ inr d ],
-          λ p. elim p [ inl e ↦ then.1 (list.1 (inl (now.0 e))) | inr d ↦ then.1 (list.1 (inr d)) ],
-        )
 
 -- ---- busy units
 
@@ -153,7 +76,7 @@ counted_alike sup rows xs ys space same counted v on = (
 
 -- where nothing is under way it depends on the bits of the committed rows
 pub counted_none : (sup : Super) (rows : Rows) (space : Space)
-    → ((unit : ℕ) → IsDataUnit sup unit → (is_free space unit ≡ true) ↔ (¬ IsMarked rows unit)) → SpaceIsCounted sup rows [] space
+    → ((unit : ℕ) → IsDataUnit sup unit → (is_idle space unit ≡ true) ↔ (¬ IsMarked rows unit)) → SpaceIsCounted sup rows [] space
 counted_none sup rows space bits unit on = (
   λ e busy. elim (busy_cases rows [] unit busy) [ inl marked ↦ (bits unit on).0 e marked | inr c ↦ omega (arith, c.1) ],
   λ idle. (bits unit on).1 (λ marked. idle (inl marked)),
@@ -165,7 +88,7 @@ counted_none sup rows space bits unit on = (
 free_is_idle : (sup : Super) (rows : Rows) (xs : List Intent) (space : Space) (unit : ℕ) → SpaceIsCounted sup rows xs space → IsDataUnit sup unit
     → Contains (free_units space) unit → (¬ IsMarked rows unit) × (¬ Contains (taken_by xs) unit)
 free_is_idle sup rows xs space unit counted on c =
-    let idle : ¬ IsBusyBy rows xs unit = (counted unit on).0 (listed_is_free space unit c).free in
+    let idle : ¬ IsBusyBy rows xs unit = (counted unit on).0 (listed_is_idle space unit c) in
     (λ marked. idle (inl marked), λ took. idle (taken_busy rows xs unit took))
 
 -- so a plan can be made over the submitted rows and the free units
@@ -201,12 +124,12 @@ free_joins sup rows xs x space counted keeps free = record {
 pub counted_joined : (sup : Super) (rows : Rows) (xs : List Intent) (x : Intent) (space : Space) → HasDataUnits sup space → CanJoin sup rows xs x
     → SpaceIsCounted sup rows xs space → SpaceIsCounted sup rows (xs ++ x ∷ []) (taken space (units_of x))
 counted_joined sup rows xs x space has can counted v on = (
-  λ e. let p : (is_free space v ≡ true) × (Contains (units_of x) v → ⊥) = free.0 e in
+  λ e. let p : (is_idle space v ≡ true) × (Contains (units_of x) v → ⊥) = after.0 e in
       λ busy. elim (busy_cases rows (xs ++ x ∷ []) v busy) [
         | inl marked ↦ was.0 p.0 (inl marked)
         | inr c ↦ elim (taken_cases xs x v c) [ inl old ↦ was.0 p.0 (taken_busy rows xs v old) | inr new ↦ p.1 new ]
       ],
-  λ idle. free.1 (
+  λ idle. after.1 (
     was.1 (λ busy. elim (busy_cases rows xs v busy) [
       | inl marked ↦ idle (inl marked)
       | inr c ↦ idle (taken_busy rows (xs ++ x ∷ []) v (taken_before xs x v c))
@@ -215,11 +138,11 @@ counted_joined sup rows xs x space has can counted v on = (
   ),
 )
   where
-    was : (is_free space v ≡ true) ↔ (¬ IsBusyBy rows xs v)
+    was : (is_idle space v ≡ true) ↔ (¬ IsBusyBy rows xs v)
     was = counted v on
 
-    free : (is_free (taken space (units_of x)) v ≡ true) ↔ ((is_free space v ≡ true) × (Contains (units_of x) v → ⊥))
-    free = free_taken v space (has v on) (units_of x)
+    after : (is_idle (taken space (units_of x)) v ≡ true) ↔ ((is_idle space v ≡ true) × (Contains (units_of x) v → ⊥))
+    after = idle_taken v (units_of x) space (has v on)
         (λ u c. has u (keeps_on_data sup (names_in x) (rows_by rows xs) (plan_of x) can.keeps u c))
 
 -- ---- a commit
@@ -292,14 +215,14 @@ module _ (sup : Super) (rows : Rows) (batch pending : List Intent) (good : IsGoo
         owned_or : IsOwned (width_of sup) later v ⊎ Contains (released_by batch) v → IsBusyBy later pending v ⊎ Contains (released_by batch) v
         owned_or is = elim is [ inl owned ↦ inl (inl (later_good.exact.owned_marked v owned)) | inr r ↦ inr r ]
 
-  pub counted_committed : IsSuper sup → (space : Space) → HasDataUnits sup space
-      → AreUnheld space (released_by batch) → SpaceIsCounted sup rows (batch ++ pending) space → SpaceIsCounted sup later pending (given space (released_by batch))
-  counted_committed limits space has unheld counted v on = (
-    λ e. elim (free.0 e) [
-      | inl was_free ↦ λ busy. was.0 was_free (busy_before v small busy)
+  pub counted_committed : IsSuper sup → (space : Space) → HasDataUnits sup space → SpaceIsCounted sup rows (batch ++ pending) space
+      → SpaceIsCounted sup later pending (given space (released_by batch))
+  counted_committed limits space has counted v on = (
+    λ e. elim (after.0 e) [
+      | inl was_idle ↦ λ busy. was.0 was_idle (busy_before v small busy)
       | inr r ↦ released_idle v small r
     ],
-    λ idle. free.1 (elim (in_or_not (released_by batch) v) [
+    λ idle. after.1 (elim (in_or_not (released_by batch) v) [
       | inl r ↦ inr r
       | inr out ↦ inl (was.1 (λ busy. elim (busy_then v small busy) [ inl then ↦ idle then | inr r ↦ out r ]))
     ]),
@@ -308,19 +231,18 @@ module _ (sup : Super) (rows : Rows) (batch pending : List Intent) (good : IsGoo
       small : v < 2 ^ 32
       small = small_of sup v limits on
 
-      was : (is_free space v ≡ true) ↔ (¬ IsBusyBy rows (batch ++ pending) v)
+      was : (is_idle space v ≡ true) ↔ (¬ IsBusyBy rows (batch ++ pending) v)
       was = counted v on
 
-      free : (is_free (given space (released_by batch)) v ≡ true) ↔ ((is_free space v ≡ true) ⊎ Contains (released_by batch) v)
-      free = free_given v space (has v on) (released_by batch) (λ u c. has u (released_on_data u c)) unheld
+      after : (is_idle (given space (released_by batch)) v ≡ true) ↔ ((is_idle space v ≡ true) ⊎ Contains (released_by batch) v)
+      after = idle_given v (released_by batch) space (has v on) (λ u c. has u (released_on_data u c))
 
-  -- the units come back one after the other, and none is free until it is its turn
-  pub not_free_until : (space : Space) (front rest : List ℕ) (unit : ℕ) → HasDataUnits sup space
-      → AreUnheld space (released_by batch) → SpaceIsCounted sup rows (batch ++ pending) space
-      → released_by batch ≡ front ++ unit ∷ rest → is_free (given space front) unit ≡ false
-  not_free_until space front rest unit has unheld counted are =
-      false_of (is_free (given space front) unit) (λ e. elim (free.0 e) [
-        | inl was_free ↦ (counted unit on).0 was_free busy
+  -- the units come back one after the other, and none is idle until it is its turn
+  pub not_idle_until : (space : Space) (front rest : List ℕ) (unit : ℕ) → HasDataUnits sup space
+      → SpaceIsCounted sup rows (batch ++ pending) space → released_by batch ≡ front ++ unit ∷ rest → is_idle (given space front) unit ≡ false
+  not_idle_until space front rest unit has counted are =
+      false_of (is_idle (given space front) unit) (λ e. elim (after.0 e) [
+        | inl was_idle ↦ (counted unit on).0 was_idle busy
         | inr again ↦ once again
       ])
     where
@@ -351,8 +273,8 @@ module _ (sup : Super) (rows : Rows) (batch pending : List Intent) (good : IsGoo
         times_some unit (unit ∷ rest) (Contains-head unit rest),
       )
 
-      free : (is_free (given space front) unit ≡ true) ↔ ((is_free space unit ≡ true) ⊎ Contains front unit)
-      free = free_given unit space (has unit on) front (λ u c. has u (released_on_data u (in_front u c))) (λ u c. unheld u (in_front u c))
+      after : (is_idle (given space front) unit ≡ true) ↔ ((is_idle space unit ≡ true) ⊎ Contains front unit)
+      after = idle_given unit front space (has unit on) (λ u c. has u (released_on_data u (in_front u c)))
 
       false_of : (b : Bool) → (b ≡ true → ⊥) → b ≡ false
       false_of true never = absurd (never refl)

@@ -1,8 +1,8 @@
 -- What an allocator's space is asked for.
-use Rattle.std.specs.Prelude.{◌≡◌, ℕ, List, Contains}
+use Rattle.std.specs.Prelude.{ℕ}
 use Rattle.meta_log.specs.declared.slot.Super.{Super}
 use Rattle.store_image.specs.Prelude.{IsDataUnit}
-use Rattle.unit_allocator.specs.Prelude.{Space, IsWithin, holds_of}
+use Rattle.unit_allocator.specs.Prelude.{Space, IsWithin}
 
 -- the data units are units of the space
 abbrev pub HasDataUnits : Super → Space → Type 0
@@ -11,7 +11,3 @@ HasDataUnits sup space = (unit : ℕ) → IsDataUnit sup unit → IsWithin space
 -- and it has no others
 abbrev pub HasOnlyDataUnits : Super → Space → Type 0
 HasOnlyDataUnits sup space = (unit : ℕ) → IsWithin space unit → IsDataUnit sup unit
-
--- nobody holds one of these units
-abbrev pub AreUnheld : Space → List ℕ → Type 0
-AreUnheld space units = (unit : ℕ) → Contains units unit → holds_of space unit ≡ 0

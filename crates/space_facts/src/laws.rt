@@ -5,12 +5,12 @@ ghost use Rattle.meta_rows.specs.Prelude.{Rows, rows_after};
 ghost use Rattle.meta_log.specs.declared.slot.Super.{Super};
 ghost use Rattle.meta_log.specs.Prelude.{width_of, IsSuper};
 ghost use Rattle.store_image.specs.Prelude.{IsDataUnit, IsMarked, IsLeaked, IsExactAs, IsBusy};
-ghost use Rattle.unit_allocator.specs.Prelude.{Space, is_free, free_units, taken, given};
+ghost use Rattle.unit_allocator.specs.Prelude.{Space, is_idle, free_units, taken, given};
 ghost use Rattle.plan_rows.specs.Prelude.{AreFreeOver, fresh_units, IsGood, Suits, PlanKeeps};
 ghost use Rattle.selections.specs.Fair.{under, IsFair, IsComplete, HasLast};
 ghost use Rattle.store_steps.specs.Prelude.{Intent, names_in, is_in, plan_of, rows_by, ops_by, released_by, EachIsPlanned, AreTakenApart, SpaceIsCounted, CanJoin};
 ghost use Rattle.space_facts.specs.Example.{two, no_rows};
-ghost use Rattle.space_facts.specs.Spaces.{HasDataUnits, HasOnlyDataUnits, AreUnheld};
+ghost use Rattle.space_facts.specs.Spaces.{HasDataUnits, HasOnlyDataUnits};
 ghost use Rattle.space_facts.specs.Owning.{OwnTheirUnits};
 
 /// Rows with some intents and then with others are those with all of them, and their operations as one list make the same rows.
@@ -19,12 +19,12 @@ pub fn rows_by_intents()
     ensures operations { (rows : Rows) (xs : List Intent) → rows_after rows (ops_by xs) ≡ rows_by rows xs }
 {}
 
-/// Where nothing is under way nothing is asked of plans, and a data unit is free exactly where it isn't marked.
+/// Where nothing is under way nothing is asked of plans, and of the space that a data unit is idle exactly where it isn't marked.
 pub fn nothing_under_way()
     ensures planned { (sup : Super) (rows : Rows) → EachIsPlanned sup rows [] }
     ensures apart { (rows : Rows) → AreTakenApart rows [] }
     ensures counted { (sup : Super) (rows : Rows) (space : Space)
-        → ((unit : ℕ) → IsDataUnit sup unit → (is_free space unit ≡ true) ↔ (¬ IsMarked rows unit)) → SpaceIsCounted sup rows [] space }
+        → ((unit : ℕ) → IsDataUnit sup unit → (is_idle space unit ≡ true) ↔ (¬ IsMarked rows unit)) → SpaceIsCounted sup rows [] space }
 {}
 
 /// The rows with a fair selection are good. What is leaked in them was leaked in the committed ones, and what was leaked there stays so.
@@ -100,25 +100,24 @@ pub fn commits_keep_plans()
         → EachIsPlanned sup rows (batch ++ pending) → AreTakenApart rows (batch ++ pending) → AreTakenApart (rows_by rows batch) pending }
 {}
 
-/// A data unit is free exactly where it isn't busy, after a submission that takes its units and after a commit that gives back what its batch
-/// released.
+/// A data unit is idle exactly where it isn't busy, after a submission that takes its units and after a commit that gives back what its batch
+/// released, whoever holds these.
 pub fn space_stays_counted()
     ensures submitted { (sup : Super) (rows : Rows) (xs : List Intent) (x : Intent) (space : Space)
         → HasDataUnits sup space → CanJoin sup rows xs x → SpaceIsCounted sup rows xs space
         → SpaceIsCounted sup rows (xs ++ x ∷ []) (taken space (fresh_units (plan_of x))) }
     ensures committed { (sup : Super) (rows : Rows) (batch pending : List Intent) (space : Space) → IsSuper sup → IsGood sup rows
         → EachIsPlanned sup rows (batch ++ pending) → AreTakenApart rows (batch ++ pending)
-        → HasDataUnits sup space → AreUnheld space (released_by batch) → SpaceIsCounted sup rows (batch ++ pending) space
+        → HasDataUnits sup space → SpaceIsCounted sup rows (batch ++ pending) space
         → SpaceIsCounted sup (rows_by rows batch) pending (given space (released_by batch)) }
 {}
 
-/// What a batch released comes back one unit after the other, and none is free until it is its turn.
+/// What a batch released comes back one unit after the other, and none is idle until it is its turn.
 pub fn released_come_back_in_turn()
     ensures { (sup : Super) (rows : Rows) (batch pending : List Intent) (space : Space) (front rest : List ℕ) (unit : ℕ) → IsGood sup rows
         → EachIsPlanned sup rows (batch ++ pending) → AreTakenApart rows (batch ++ pending)
-        → HasDataUnits sup space → AreUnheld space (released_by batch)
-        → SpaceIsCounted sup rows (batch ++ pending) space → released_by batch ≡ front ++ unit ∷ rest
-        → is_free (given space front) unit ≡ false }
+        → HasDataUnits sup space → SpaceIsCounted sup rows (batch ++ pending) space → released_by batch ≡ front ++ unit ∷ rest
+        → is_idle (given space front) unit ≡ false }
 {}
 
 /// An example: a transaction takes unit 18, and a later one takes 19 and releases 18. While both are under way the bit of 18 is 0 in the committed

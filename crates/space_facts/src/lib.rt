@@ -1,5 +1,5 @@
 //! What is known of rows and of free units while any number of accepted transactions is under way: each is planned over the rows of every fair
-//! selection before it, and a data unit is free exactly where it isn't busy. Each function has laws for its contract and does nothing.
+//! selection before it, and a data unit is idle exactly where it isn't busy. Each function has laws for its contract and does nothing.
 #![tactic(auto)]
 
 mod laws;

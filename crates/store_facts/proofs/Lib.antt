@@ -17,6 +17,7 @@ pub mod Paying
 pub mod Conditions
 pub mod Downs
 pub mod SpaceUnits
+pub mod Holds
 pub mod PartsKept
 pub mod RowsFacts
 pub mod Apart

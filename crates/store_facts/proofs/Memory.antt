@@ -16,7 +16,7 @@ use Rattle.meta_log.specs.Prelude.{width_of}
 use Rattle.store_image.specs.Prelude.{HasPage, IsDataUnit}
 use Rattle.store_image.proofs.Prelude.{page_owned}
 use Rattle.unit_allocator.specs.Prelude.{free_units}
-use Rattle.unit_allocator.proofs.FreeUnits.{listed_is_free, listed_is_within}
+use Rattle.unit_allocator.proofs.FreeUnits.{listed_is_within}
 use Rattle.plan_rows.specs.declared.plan.FreshUnit.{FreshUnit}
 use Rattle.plan_rows.specs.declared.plan.Plan.{Plan}
 use Rattle.plan_rows.specs.Prelude.{PlansKeep, IsKnown}
@@ -26,7 +26,7 @@ use Rattle.store_steps.specs.declared.flight.Job.{Job}
 use Rattle.store_steps.specs.declared.flight.Job.TheVariants as job
 use Rattle.store_steps.specs.declared.flight.Flying.{Flying}
 use Rattle.store_steps.specs.Prelude.{Batch, State, with_context, given_more, done_more, chosen, data_sent, first_flushed, second_flushed, after_done, after_good, flying_of, landed, reaped, taken_up, committed_batch, context_of, accepted_with, Accepts, Intent, intents, intent_of, uncommitted, all_fresh, bytes_in, memory_of}
-use Rattle.space_facts.proofs.Prelude.{in_or_not, taken_busy}
+use Rattle.space_facts.proofs.Prelude.{in_or_not, listed_is_idle, taken_busy}
 use Rattle.store_facts.specs.Prelude.{IsNone, IsKept, FitsRecord}
 use Rattle.store_facts.proofs.Lists.{all_left, all_right, all_join, all_take}
 use Rattle.store_facts.proofs.SpaceUnits.{within_data}
@@ -147,7 +147,7 @@ module _ (s : State) (d : Disk) (kept : IsKept s d) (up : s.down ≡ None) where
   pub free_not_in_memory : (unit : ℕ) → Contains (free_units s.space) unit → memory_of s unit ≡ None
   free_not_in_memory unit free = untaken_bytes (uncommitted s) unit (λ c.
       ((kept.up up).rows.counted unit (within_data s.log.sup s.space unit kept.always.space (listed_is_within s.space unit free))).0
-      (listed_is_free s.space unit free).free
+      (listed_is_idle s.space unit free)
       (taken_busy s.log.rows (intents (uncommitted s)) unit
       (subst (λ us. Contains us unit) (sym (flat_intents (λ x. units_of x.fresh) (uncommitted s))) c)))
 

@@ -13,6 +13,7 @@ pub use Rattle.store_facts.proofs.Numbers.{acknowledged_length}
 pub use Rattle.store_facts.proofs.Conditions.{pending_fits, batch_written, HasRecord, number_low, take_none, IsMade, made_batch, given_flushed, ReadyCommit, finish_ready}
 pub use Rattle.store_facts.proofs.Downs.{was_up, Ends, IsStill, GoesDown, not_both}
 pub use Rattle.store_facts.proofs.SpaceUnits.{data_within, space_given}
+pub use Rattle.store_facts.proofs.Holds.{nothing_is_held, idle_is_free}
 pub use Rattle.store_facts.proofs.PartsKept.{flat_intents, intents_both}
 pub use Rattle.store_facts.proofs.RowsFacts.{units_of, taken_by, taken_data, pending_on_data, back_data, back_in_turn}
 pub use Rattle.store_facts.proofs.Apart.{fresh_taken, taken_fresh, given_of_all, given_taken, parts_apart}

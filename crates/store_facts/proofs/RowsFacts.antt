@@ -12,7 +12,7 @@ use Rattle.unit_allocator.proofs.Lists.{Contains-head, Contains-tail}
 use Rattle.selections.proofs.Selecting.{fair_all}
 use Rattle.store_steps.specs.declared.context.Context.{Context}
 use Rattle.store_steps.specs.Prelude.{Batch, State, Unsent, unsent_units, next_unsent, batch_released, Intent, intents, is_in, released_by, EachIsPlanned, AreTakenApart, SpaceIsCounted, uncommitted, rows_part}
-use Rattle.space_facts.proofs.Prelude.{selected_on_data, released_on_data, not_free_until}
+use Rattle.space_facts.proofs.Prelude.{selected_on_data, released_on_data, not_idle_until, busy_is_not_free}
 use Rattle.store_facts.specs.Prelude.{AreRowsKept, IsKept}
 use Rattle.store_facts.proofs.SpaceUnits.{AreData, data_within}
 use Rattle.store_facts.proofs.PartsKept.{flat_intents, intents_both}
@@ -97,6 +97,6 @@ module _ (s : State) (d : Disk) (kept : IsKept s d) (up : s.down ≡ None) where
 
     -- those that come back one after the other aren't free until it is their turn
     pub back_in_turn : (given_back rest : List ℕ) (u : ℕ) → batch_released b ≡ given_back ++ (u ∷ rest) → is_free (given s.space given_back) u ≡ false
-    back_in_turn given_back rest u are =
-        not_free_until s.log.sup s.log.rows front back rows.good planned apart s.space given_back rest u
-        (λ v on. data_within s.log.sup s.space v kept.always.space on) (λ v c. kept.always.space.unheld v) counted (released_are ∙ are)
+    back_in_turn given_back rest u are = busy_is_not_free (given s.space given_back) u
+        (not_idle_until s.log.sup s.log.rows front back rows.good planned apart s.space given_back rest u
+        (λ v on. data_within s.log.sup s.space v kept.always.space on) counted (released_are ∙ are))

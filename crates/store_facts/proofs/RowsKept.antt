@@ -1,5 +1,5 @@
 -- What a call makes of the rows keeps what is kept of them.
-use Rattle.std.proofs.Common.{◌≡◌, ℕ, List, [], ◌∷◌, ◌++◌, sym, ap, subst, ◌∙◌}
+use Rattle.std.proofs.Common.{◌≡◌, ℕ, List, [], ◌∷◌, ◌++◌, map, sym, ap, subst, ◌∙◌}
 use Rattle.meta_rows.specs.Prelude.{Rows, rows_after}
 use Rattle.meta_log.specs.Prelude.{IsSuper}
 use Rattle.unit_allocator.specs.Prelude.{given}
@@ -9,6 +9,7 @@ use Rattle.store_steps.specs.RowsGo as rows
 use Rattle.space_facts.proofs.Prelude.{rows_append, rows_by_ops, each_joined, apart_joined, each_alike, rows_alike, apart_alike, each_committed, good_committed, apart_committed, counted_alike, counted_joined, counted_committed}
 use Rattle.store_facts.specs.Prelude.{IsSpaceOf, AreRowsKept}
 use Rattle.store_facts.proofs.SpaceUnits.{data_within}
+use Rattle.store_facts.proofs.Holds.{nothing_is_held, holds_taken, holds_given}
 
 -- one that joins must be one that can
 abbrev pub MayGo : (p : RowsPart) {q : RowsPart} → RowsGo p q → Type 0
@@ -23,6 +24,9 @@ module _ (p : RowsPart) (limits : IsSuper p.sup) (space : IsSpaceOf p.sup p.spac
     planned = each_joined p.sup p.rows p.intents x limits kept.good kept.planned kept.apart can;
     apart = apart_joined p.sup p.rows p.intents x limits kept.good kept.planned kept.apart can;
     counted = counted_joined p.sup p.rows p.intents x p.space (λ u on. data_within p.sup p.space u space on) can kept.counted;
+    held = λ u on.
+        holds_taken (map (λ f. f.unit) x.fresh) p.space u ∙ kept.held u on ∙ nothing_is_held p.submitted u
+        ∙ sym (nothing_is_held (rows_after p.submitted x.ops) u);
   }
 
   reorder_keeps : (later : List Intent) → IsComplete is_in p.intents later → AreRowsKept (record p { intents = later })
@@ -32,6 +36,7 @@ module _ (p : RowsPart) (limits : IsSuper p.sup) (space : IsSpaceOf p.sup p.spac
     planned = each_alike p.sup p.rows p.intents later complete kept.planned;
     apart = apart_alike p.rows p.intents later complete kept.apart;
     counted = counted_alike p.sup p.rows p.intents later p.space complete kept.counted;
+    held = kept.held;
   }
 
   module _ (number : ℕ) (front back : List Intent) (both : p.intents ≡ front ++ back) where
@@ -60,7 +65,8 @@ module _ (p : RowsPart) (limits : IsSuper p.sup) (space : IsSpaceOf p.sup p.spac
       planned = each_committed p.sup p.rows front back planned;
       apart = apart_committed p.sup p.rows front back kept.good planned apart limits;
       counted = counted_committed p.sup p.rows front back kept.good planned apart limits p.space (λ u on. data_within p.sup p.space u space on)
-          (λ u c. space.unheld u) counted;
+          counted;
+      held = λ u on. holds_given (released_by front) p.space u ∙ kept.held u on;
     })
 
 pub rows_go : (p q : RowsPart) (goes : RowsGo p q) → IsSuper p.sup → IsSpaceOf p.sup p.space → MayGo p goes → AreRowsKept p → AreRowsKept q

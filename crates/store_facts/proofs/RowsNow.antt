@@ -5,7 +5,7 @@ use Rattle.meta_log.specs.Prelude.{width_of}
 use Rattle.store_image.specs.Prelude.{IsExactAs}
 use Rattle.plan_rows.specs.Prelude.{AreFreeOver, IsGood}
 use Rattle.selections.proofs.Selecting.{fair_all}
-use Rattle.store_steps.specs.Prelude.{State, Intent, intents, is_in, SpaceIsCounted, uncommitted, rows_part}
+use Rattle.store_steps.specs.Prelude.{State, Intent, intents, is_in, SpaceIsCounted, HoldsAreCounted, uncommitted, rows_part}
 use Rattle.space_facts.proofs.Prelude.{selection_exact}
 use Rattle.store_facts.specs.Prelude.{IsSpaceOf, AreRowsKept, IsKept}
 use Rattle.store_facts.proofs.RowsAccepted.{submitted_good, submitted_free}
@@ -35,5 +35,8 @@ module _ (s : State) (d : Disk) (kept : IsKept s d) (up : s.down ≡ None) where
   kept_space = kept.always.space
 
 -- for the law
-pub law_free : (s : State) (d : Disk) → IsKept s d → s.down ≡ None → SpaceIsCounted s.log.sup s.log.rows (intents (uncommitted s)) s.space
-law_free s d kept up = (kept.up up).rows.counted
+pub law_idle : (s : State) (d : Disk) → IsKept s d → s.down ≡ None → SpaceIsCounted s.log.sup s.log.rows (intents (uncommitted s)) s.space
+law_idle s d kept up = (kept_rows s d kept up).counted
+
+pub law_held : (s : State) (d : Disk) → IsKept s d → s.down ≡ None → HoldsAreCounted s.log.sup s.submitted s.space
+law_held s d kept up = (kept_rows s d kept up).held

@@ -12,4 +12,5 @@ opened_rows f space events units is = record {
   planned = each_none f.sup f.rows;
   apart = apart_none f.rows;
   counted = is.counted;
+  held = is.held;
 }

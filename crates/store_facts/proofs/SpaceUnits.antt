@@ -23,14 +23,12 @@ module _ (sup : Super) where
   one_taken space u is = record {
     first = is.first;
     count = ap (λ n. data_unit sup + n) (length-set space.idle (u - space.first) false) ∙ is.count;
-    unheld = is.unheld;
   }
 
   one_given : (space : Space) (u : ℕ) → IsSpaceOf sup space → IsSpaceOf sup (given_one space u)
   one_given space u is = record {
     first = is.first;
     count = ap (λ n. data_unit sup + n) (length-set space.idle (u - space.first) true) ∙ is.count;
-    unheld = is.unheld;
   }
 
   pub space_taken : (space : Space) (us : List ℕ) → IsSpaceOf sup space → IsSpaceOf sup (taken space us)

@@ -4,7 +4,7 @@ use Rattle.block_device.specs.Prelude.{Disk, IsSound}
 use Rattle.meta_log.specs.Prelude.{IsSuper}
 use Rattle.unit_allocator.specs.Prelude.{Space}
 use Rattle.plan_rows.specs.Prelude.{IsGood}
-use Rattle.store_steps.specs.Prelude.{State, Found, SpaceIsCounted, rows_part, book_part}
+use Rattle.store_steps.specs.Prelude.{State, Found, SpaceIsCounted, HoldsAreCounted, rows_part, book_part}
 use Rattle.store_facts.specs.Flights.{AreFlights}
 use Rattle.store_facts.specs.Jobs.{FlightsMatch}
 use Rattle.store_facts.specs.Space.{IsSpaceOf, AreRowsKept}
@@ -42,3 +42,4 @@ pub record IsOpenable (f : Found) (s : Space) (units : ℕ) : Type 0 where
   pub good : IsGood f.sup f.rows
   pub space : IsSpaceOf f.sup s
   pub counted : SpaceIsCounted f.sup f.rows [] s
+  pub held : HoldsAreCounted f.sup f.rows s

@@ -1,22 +1,23 @@
 -- What is kept of the rows and of the free units, whatever is under way.
-use Rattle.std.specs.Prelude.{◌≡◌, ℕ, ◌+◌, length}
+use Rattle.std.specs.Prelude.{◌≡◌, ◌+◌, length}
 use Rattle.meta_log.specs.declared.slot.Super.{Super}
 use Rattle.meta_log.specs.Prelude.{data_unit}
 use Rattle.plan_rows.specs.Prelude.{IsGood}
-use Rattle.unit_allocator.specs.Prelude.{Space, holds_of}
-use Rattle.store_steps.specs.Prelude.{rows_by, EachIsPlanned, AreTakenApart, SpaceIsCounted, RowsPart}
+use Rattle.unit_allocator.specs.Prelude.{Space}
+use Rattle.store_steps.specs.Prelude.{rows_by, EachIsPlanned, AreTakenApart, SpaceIsCounted, HoldsAreCounted, RowsPart}
 
--- The data units are those of the allocator, and none is held: a hold is for units that committed deferred rows name, and there are none yet.
+-- the data units are those of the allocator
 pub record IsSpaceOf (sup : Super) (space : Space) : Type 0 where
   pub first : space.first ≡ data_unit sup
   pub count : data_unit sup + length space.idle ≡ sup.units
-  pub unheld : (unit : ℕ) → holds_of space unit ≡ 0
 
 -- The submitted rows are the committed ones with all transactions under way. The committed ones are good; each of these was planned over the rows
--- that it may come to stand on, what they took was taken once, and all other data units whose bits are 0 in the committed rows are free.
+-- that it may come to stand on, what they took was taken once, and all other data units whose bits are 0 in the committed rows are idle. Each is
+-- held by as many as the submitted rows say.
 pub record AreRowsKept (p : RowsPart) : Type 0 where
   pub submitted : p.submitted ≡ rows_by p.rows p.intents
   pub good : IsGood p.sup p.rows
   pub planned : EachIsPlanned p.sup p.rows p.intents
   pub apart : AreTakenApart p.rows p.intents
   pub counted : SpaceIsCounted p.sup p.rows p.intents p.space
+  pub held : HoldsAreCounted p.sup p.submitted p.space

@@ -18,7 +18,7 @@ ghost use Rattle.store_steps.specs.declared.step.Step.TheVariants.{Data, Flush, 
 ghost use Rattle.store_steps.specs.declared.context.Context.{Context};
 ghost use Rattle.store_steps.specs.declared.flight.Flying.{Flying};
 ghost use Rattle.meta_store.specs.Store.{Meta, Begun};
-ghost use Rattle.store_steps.specs.Prelude.{Batch, State, Unsent, unsent_units, run_bytes, next_unsent, batch_ops, piece_unit, piece_bytes, Found, opened, is_ready, is_ready_up, is_drained, DoesOrFails, Reads, Call, Calls, IsRun, Accepts, Refuses, chosen, accepted_with, data_sent, reaped, taken_up, committed_batch, uncommitted, all_fresh, bytes_in, memory_of, intents, SpaceIsCounted, Footprint};
+ghost use Rattle.store_steps.specs.Prelude.{Batch, State, Unsent, unsent_units, run_bytes, next_unsent, batch_ops, piece_unit, piece_bytes, Found, opened, is_ready, is_ready_up, is_drained, DoesOrFails, Reads, Call, Calls, IsRun, Accepts, Refuses, chosen, accepted_with, data_sent, reaped, taken_up, committed_batch, uncommitted, all_fresh, bytes_in, memory_of, intents, SpaceIsCounted, HoldsAreCounted, Footprint};
 ghost use Rattle.store_facts.specs.Jobs.{IsNone, IsGivenPiece, AreOfJobs, FlightsMatch};
 ghost use Rattle.store_facts.specs.Work.{measure};
 ghost use Rattle.store_facts.specs.Kept.{IsKept, IsOpenable};
@@ -50,11 +50,12 @@ pub fn a_run_keeps_what_the_kernel_keeps()
     ensures { (calls : List Call) (s s' : State) (d d' : Disk) → PlansKeep → IsKept s d → IsRun s d calls s' d' → IsKept s' d' }
 {}
 
-/// A data unit is free exactly where it isn't busy: its bit is 0 in the committed rows, and no transaction that isn't committed has it. So what
-/// a transaction releases comes back at its commit, and not before.
-pub fn free_units_are_not_busy()
-    ensures { (s : State) (d : Disk) → IsKept s d → s.down ≡ None
+/// A data unit is idle exactly where it isn't busy: its bit is 0 in the committed rows, and no transaction that isn't committed has it. So what
+/// a transaction releases comes back at its commit, and not before. It is held by as many as the submitted rows say.
+pub fn idle_units_are_not_busy()
+    ensures idle { (s : State) (d : Disk) → IsKept s d → s.down ≡ None
         → SpaceIsCounted s.log.sup s.log.rows (intents (uncommitted s)) s.space }
+    ensures held { (s : State) (d : Disk) → IsKept s d → s.down ≡ None → HoldsAreCounted s.log.sup s.submitted s.space }
 {}
 
 /// A unit of a page of the submitted rows that isn't in memory is in no flight, so that it can be read at any time. Whole units are in memory.

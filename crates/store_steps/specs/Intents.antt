@@ -6,7 +6,7 @@ use Rattle.meta_rows.specs.declared.row_op.RowOp.{RowOp}
 use Rattle.meta_log.specs.declared.slot.Super.{Super}
 use Rattle.object_model.specs.Prelude.{is_named}
 use Rattle.store_image.specs.Prelude.{IsDataUnit, IsMarked, IsBusy}
-use Rattle.unit_allocator.specs.Prelude.{Space, is_free}
+use Rattle.unit_allocator.specs.Prelude.{Space, is_idle, holds_of}
 use Rattle.selections.specs.Fair.{IsFair}
 use Rattle.plan_rows.specs.declared.plan.FreshUnit.{FreshUnit}
 use Rattle.plan_rows.specs.declared.plan.Plan.{Plan}
@@ -74,10 +74,19 @@ pub record AreTakenApart (rows : Rows) (xs : List Intent) : Type 0 where
   pub unmarked : AllByRecursion (λ u. ¬ IsMarked rows u) (taken_by xs)
   pub apart : (unit : ℕ) → count_by (λ u. u == unit) (taken_by xs) ≤ 1
 
--- a data unit is free exactly where it isn't busy
+-- a data unit is idle exactly where it isn't busy
 abbrev pub SpaceIsCounted : Super → Rows → List Intent → Space → Type 0
 SpaceIsCounted sup rows xs space = (unit : ℕ) → IsDataUnit sup unit
-    → (is_free space unit ≡ true) ↔ (¬ IsBusy rows (map (λ x. fresh_units (plan_of x)) xs) unit)
+    → (is_idle space unit ≡ true) ↔ (¬ IsBusy rows (map (λ x. fresh_units (plan_of x)) xs) unit)
+
+-- How many hold a unit by the rows of the store: the deferred rows that name the unit. There are none yet.
+unfoldable pub holds_in : Rows → ℕ → ℕ
+holds_in rows unit = 0
+
+-- A data unit is held by as many as the rows say. These are the submitted rows: a deferred row holds the units that it names from when its
+-- transaction is accepted until it is dropped.
+abbrev pub HoldsAreCounted : Super → Rows → Space → Type 0
+HoldsAreCounted sup submitted space = (unit : ℕ) → IsDataUnit sup unit → holds_of space unit ≡ holds_in submitted unit
 
 -- A plan over the submitted rows, whose units aren't marked in the committed ones and taken by none.
 pub record CanJoin (sup : Super) (rows : Rows) (xs : List Intent) (x : Intent) : Type 0 where

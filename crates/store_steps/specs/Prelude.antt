@@ -5,7 +5,8 @@ pub use Rattle.store_steps.specs.Changes.{data_sent, flush_sent, record_sent, sy
 pub use Rattle.store_steps.specs.Ready.{is_empty, is_not_sent, pieces_of, batch_is, begun_is, applied_count, is_ready_up, is_ready_down, is_ready, all_steps, ready_steps, is_drained}
 pub use Rattle.store_steps.specs.Steps.{piece_unit, piece_bytes, DoesData, Takes, DoesReap, DoesTake, DoesFlush, DoesSeal, DoesRecord, DoesSync, DoesCommit, DoesFinish, Does}
 pub use Rattle.store_steps.specs.Submit.{need_of, free_count, entry_limit, context_of, entered, noted, accepted_with, CanNote, Accepts, IsCause, Refuses, IsDownBy, IsBookFull}
-pub use Rattle.store_steps.specs.Intents.{Intent, intent_of, intents, names_in, is_in, plan_of, rows_by, ops_by, taken_by, released_by, needs_by, IsPlannedOver, EachIsPlanned, AreTakenApart, SpaceIsCounted, CanJoin}
+pub use Rattle.store_steps.specs.Intents.{Intent, intent_of, intents, names_in, is_in, plan_of, rows_by, ops_by, taken_by, released_by, needs_by, IsPlannedOver, EachIsPlanned, AreTakenApart, SpaceIsCounted, HoldsAreCounted, CanJoin}
+unfoldable pub use Rattle.store_steps.specs.Intents.{holds_in}
 pub use Rattle.store_steps.specs.Opened.{Found, opened}
 pub use Rattle.store_steps.specs.UnderWay.{uncommitted, all_fresh, bytes_in, memory_of, given_fresh, flush_of, second_flush, begun_ops, submitted_from}
 pub use Rattle.store_steps.specs.Parts.{RowsPart, rows_part, DataPart, data_part, HalfPart, half_part, BookPart, book_part}

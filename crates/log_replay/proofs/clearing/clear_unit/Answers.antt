@@ -52,7 +52,7 @@ pub returns-clause-cleared : goal.returns-clause-cleared
 returns-clause-cleared g c =
     let disk = g.D.Device.disk in
     let written = rw c.in-Ok.ensures at c.in_ok-write_through.ensures.ok in
-    cleared_unit c.args.unit (disk c.args.dev.now) (disk c.write_through.new.dev) (disk c.flush_through.new.dev) c.requires.inside c.units.ensures.sound.size_now
+    cleared_unit c.args.unit (disk c.args.dev.now) (disk c.write_through.new.dev) (disk c.flush_through.new.dev) c.requires.inside c.requires.sound.size_now
     written c.in_ok-flush_through.ensures.ok
 
 pub returns-clause-only : goal.returns-clause-only

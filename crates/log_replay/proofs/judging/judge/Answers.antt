@@ -7,4 +7,4 @@ returns-in-Ok-clause-judged c =
     let known = c.in_ok-marked.ensures in
     let made = c.in-Ok.ensures in
     judged (as_found c.args.found.now) c.in_ok-marked.marked c.in-Ok.space c.requires known.good known.marked c.in_default.ensures made.units
-    made.free
+    made.free made.unheld

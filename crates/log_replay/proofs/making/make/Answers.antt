@@ -11,7 +11,7 @@ returns-clause-made g c quiet =
     let units = (disk c.clear.new.dev).units in
     let same : units ≡ (disk c.write_slot.new.dev).units = sym second.later.units in
     holds_empty_store c.args.half c.args.prefer units (disk c.args.dev.now) (disk c.clear.new.dev) (disk c.write_slot.new.dev) c.requires.least c.requires.most c.requires.prefer
-    (omega (arith, c.requires.room, first.later.units)) same second.later.idle c.units.ensures.sound first.cleared second.made quiet
+    (omega (arith, c.requires.room, first.later.units)) same second.later.idle second.later.sound first.cleared second.made quiet
 
 pub returns-in_err-write_slot-clause-stops : goal.returns-in_err-write_slot-clause-stops
 returns-in_err-write_slot-clause-stops g c is =

@@ -11,6 +11,6 @@ pub returns-clause-read : goal.returns-clause-read
 returns-clause-read g c =
     let d = g.D.Device.disk c.args.dev.now in
     let half = c.replay.new.half in
-    half_was_read d c.new-half.result half c.args.first c.args.count c.args.number c.in_ok-log.log c.in_ok-stale.stale.items c.units.ensures.sound
+    half_was_read d c.new-half.result half c.args.first c.args.count c.args.number c.in_ok-log.log c.in_ok-stale.stale.items c.requires.sound
     c.requires.inside c.new-half.ensures c.in_ok-log.ensures.replayed
     (subst (λ (e : Disk). HasStale e half c.in_ok-stale.stale.items) c.replay.ensures.same c.in_ok-stale.ensures.stale)

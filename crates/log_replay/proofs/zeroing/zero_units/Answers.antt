@@ -8,7 +8,7 @@ use Rattle.log_replay.proofs.StopLemmas.{same_failure, well_so_far, bad_after}
 use Rattle.log_replay.proofs.zeroing.zero_units.Goals as goal
 
 pub runs-init : goal.runs-init
-runs-init g c = (zeroed_none c.args.units.now (g.D.Device.disk c.args.dev.now) c.requires.idle c.requires.inside, omega arith)
+runs-init g c = (zeroed_none c.args.units.now (g.D.Device.disk c.args.dev.now) c.requires.sound c.requires.idle c.requires.inside, omega arith)
 
 pub write_through-requires-clause-some : goal.write_through-requires-clause-some
 write_through-requires-clause-some g c =
@@ -36,9 +36,9 @@ pub runs-preserved : goal.runs-preserved
 runs-preserved g c =
     let n = c.first_run-count.result in
     let disk = g.D.Device.disk in
-    let size = c.units.ensures.sound.size_now in (
+    let size = c.requires.sound.size_now in (
       zeroed_tail c.runs.rest.now n c.first_run-count.ensures (not_empty c.runs.rest.now _ c.is_empty.ensures c.runs-test.true) c.args.units.now c.runs.runs (disk c.args.dev.now) (disk c.runs.dev) _ _ (omega arith) size c.runs.invariant.0
-          (rw c.in-Ok.ensures at c.in_ok-write_through.ensures.ok),
+          (rw c.in-Ok.ensures at c.in_ok-write_through.ensures.ok) c.write_through.ensures.sound,
       omega (arith, c.runs.invariant.1, c.in_ok-write_through.ensures.later),
     )
 

@@ -12,7 +12,7 @@ use Rattle.mount_replay.proofs.mounting.mount.Goals as goal
 pub returns-in-Err-clause-durable : goal.returns-in-Err-clause-durable
 returns-in-Err-clause-durable g c =
     let old = g.D.Device.disk c.args.dev in
-    subst (λ (d : Disk). StaysDurable old d) (sym c.find_store.ensures.same) (stays_same old c.units.ensures.sound)
+    subst (λ (d : Disk). StaysDurable old d) (sym c.find_store.ensures.same) (stays_same old c.find_store.ensures.sound)
 
 pub returns-in-Err-judge-clause-fails : goal.returns-in-Err-judge-clause-fails
 returns-in-Err-judge-clause-fails g c =
@@ -21,22 +21,22 @@ returns-in-Err-judge-clause-fails g c =
 pub returns-in-Err-judge-clause-durable : goal.returns-in-Err-judge-clause-durable
 returns-in-Err-judge-clause-durable g c =
     let old = g.D.Device.disk c.args.dev in
-    subst (λ (d : Disk). StaysDurable old d) (sym c.find_store.ensures.same) (stays_same old c.units.ensures.sound)
+    subst (λ (d : Disk). StaysDurable old d) (sym c.find_store.ensures.same) (stays_same old c.find_store.ensures.sound)
 
 pub returns-in-Err-judge-clause-back : goal.returns-in-Err-judge-clause-back
 returns-in-Err-judge-clause-back g c =
     let old = g.D.Device.disk c.args.dev in
-    subst (λ (d : Disk). IsLater old d) (sym c.find_store.ensures.same) (later_same old c.requires.idle)
+    subst (λ (d : Disk). IsLater old d) (sym c.find_store.ensures.same) (later_same old c.find_store.ensures.sound c.requires.idle)
 
 pub returns-in_default-clause-back : goal.returns-in_default-clause-back
 returns-in_default-clause-back g c =
     let old = g.D.Device.disk c.args.dev in
-    subst (λ (d : Disk). IsLater old d) (sym c.find_store.ensures.same) (later_same old c.requires.idle)
+    subst (λ (d : Disk). IsLater old d) (sym c.find_store.ensures.same) (later_same old c.find_store.ensures.sound c.requires.idle)
 
 pub returns-in_default-clause-durable : goal.returns-in_default-clause-durable
 returns-in_default-clause-durable g c =
     let old = g.D.Device.disk c.args.dev in
-    subst (λ (d : Disk). StaysDurable old d) (sym c.find_store.ensures.same) (stays_same old c.units.ensures.sound)
+    subst (λ (d : Disk). StaysDurable old d) (sym c.find_store.ensures.same) (stays_same old c.find_store.ensures.sound)
 
 pub returns-clause-ok : goal.returns-clause-ok
 returns-clause-ok g c =

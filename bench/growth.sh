@@ -1,7 +1,7 @@
 #!/usr/bin/env bash
 # Tells what grows: the processor time of one operation, on a file in memory, beside stores of more and more objects whose names came
 # in falling, rising and scrambled order, and beside an object of more and more pages; and what opening each store takes. What
-# opening takes is taken off from the operations. The least of three runs. Usage: bench/growth.sh [MOST OBJECTS] [FOLDER] [ANOTHER PROGRAM]
+# opening takes is taken off from the operations, each of which is waited for. The least of three runs. Usage: bench/growth.sh [MOST OBJECTS] [FOLDER] [ANOTHER PROGRAM]
 set -eu
 here=$(cd "$(dirname "${BASH_SOURCE[0]}")" && pwd)
 . "$here/about.sh"
@@ -47,7 +47,7 @@ for order in rising falling scrambled; do
   for count in 1000 40000 "$most"; do
     [ "$count" -le "$most" ] || continue
     { echo 'mkcoll 1.0_head'; names "$order" "$count" | sed 's/.*/write 1.0_head o& 0 fill:5a:4096/'; } | set_up
-    for ((i = 0; i < 1000; i++)); do printf 'write 1.0_head o%06d 0 fill:5b:4096\n' $((i * 7907 % count * 10 + 1 + i / count)); done >"$made/script"
+    for ((i = 0; i < 1000; i++)); do printf 'write 1.0_head o%06d 0 fill:5b:4096\nwait\n' $((i * 7907 % count * 10 + 1 + i / count)); done >"$made/script"
     opening=$(took "$made/empty")
     all=$(took "$made/script")
     awk -v o="$order" -v n="$count" -v a="$all" -v b="$opening" 'BEGIN { printf "%-34s %12d %14.1f\n", n " " o, b, (a - b) }'
@@ -62,7 +62,7 @@ for pages in 1 16 512 4096 32768; do
     done
   } | set_up
   opening=$(took "$made/empty")
-  for ((i = 0; i < 500; i++)); do printf 'write 1.0_head a %d fill:5b:4096\n' $((i * 7919 % pages * 4096)); done >"$made/script"
+  for ((i = 0; i < 500; i++)); do printf 'write 1.0_head a %d fill:5b:4096\nwait\n' $((i * 7919 % pages * 4096)); done >"$made/script"
   writes=$(took "$made/script")
   for ((i = 0; i < 2000; i++)); do printf 'read 1.0_head a %d 4096\n' $((i * 7919 % pages * 4096)); done >"$made/script"
   reads=$(took "$made/script")

@@ -36,11 +36,13 @@ told() {
   printf '%-52s %11d  %s %d\n' "$1" "$3" "$verdict" "$2" | tee -a "$made/told"
 }
 
-# each NAME BOUND COUNT: the instructions of one line, of a script of so many from standard input and of one of half as many.
+# each NAME BOUND COUNT: the instructions of one line, of a script of so many from standard input and of one of half as many. Behind each
+# write stands a `wait`, whose line is in it.
 each() {
   local once twice
-  cat >"$made/all"
-  head -n $(($3 / 2)) "$made/all" >"$made/half"
+  cat >"$made/lines"
+  sed '/^write/a wait' "$made/lines" >"$made/all"
+  head -n $(($3 / 2)) "$made/lines" | sed '/^write/a wait' >"$made/half"
   once=$(counted "$made/half")
   twice=$(counted "$made/all")
   told "$1" "$2" $(((twice - once) / ($3 - $3 / 2)))
@@ -48,14 +50,14 @@ each() {
 
 about
 set_up 4096 12000 <<<'mkcoll 1.0_head'
-for ((i = 0; i < 400; i++)); do echo 'mkcoll 1.0_head'; done | each 'a line that is refused' 4150 400
+for ((i = 0; i < 400; i++)); do echo 'mkcoll 1.0_head'; done | each 'a line that is refused' 4650 400
 
 {
   echo 'mkcoll 1.0_head'
   for ((i = 0; i < 100; i++)); do printf 'write 1.0_head o%d 0 fill:%02x:4096\n' "$i" "$i"; done
 } | set_up 4096 12000
 for ((i = 0; i < 400; i++)); do printf 'write 1.0_head o%d 0 fill:%02x:4096\n' $((i % 100)) $((i % 256)); done |
-  each 'a page over a page, 100 objects' 39500 400
+  each 'a page over a page, 100 objects' 41500 400
 
 for many in 2000 40000; do
   {
@@ -63,7 +65,7 @@ for many in 2000 40000; do
     for ((i = 0; i < many; i++)); do printf 'write 1.0_head o%06d 0 fill:%02x:4096\n' $((i * 37 % many * 10)) $((i % 256)); done
   } | set_up 65536 200000
   for ((i = 0; i < 200; i++)); do printf 'write 1.0_head o%06d 0 fill:%02x:4096\n' $((i * 97 * many / 2000 % many * 10 + 5)) "$i"; done |
-    each "a page of a new object, among $many" 53000 200
+    each "a page of a new object, among $many" 55800 200
 done
 
 {

@@ -11,7 +11,7 @@ import tempfile
 
 sys.dont_write_bytecode = True
 sys.path.insert(0, os.path.join(os.path.dirname(os.path.abspath(__file__)), "..", "tests"))
-from model import Store, script_of  # pylint: disable=wrong-import-position
+from model import drawn_script  # pylint: disable=wrong-import-position
 
 
 def told(program, *words):
@@ -41,9 +41,9 @@ def differs(programs, seed):
     dice = random.Random(seed)
     half = dice.choice([8, 12, 40, 200])
     units = 2 * half + 2 + dice.choice([1, 2, 5, 20, 60, 300, 2000])
-    store, scripts = Store(units, half), []
+    scripts = []
     for number in range(dice.choice([1, 2, 3])):
-        lines, _, _ = script_of(dice, store)
+        lines, _ = drawn_script(dice)
         scripts.append(f"script{number}")
         with open(scripts[-1], "w", encoding="ascii") as it:
             it.write("\n".join(lines) + "\n")

@@ -1,6 +1,7 @@
-/* The peer of bench/step.sh: a plain loop of write, fdatasync, write, fdatasync over one file: what a store does that puts data down,
-   makes it stable, and then a record of it of 4096 bytes. Takes the file, the number of rounds and the bytes of a data write, fills the
-   file, and prints the nanoseconds that the rounds took. Data goes round in the space of twelve writes, as a store's freed units do. */
+/* The peer of bench/step.sh and bench/clients.sh: a plain loop of write, fdatasync, write, fdatasync over one file: what a store does that
+   puts data down, makes it stable, and then a record of it of 4096 bytes. Takes the file, the number of rounds, the bytes of a data write
+   and how many of those come before the first fdatasync of a round (1, where that isn't said), fills the file, and prints the nanoseconds
+   that the rounds took. Data goes round in the space of twelve writes, or of a hundred pages, as a store's freed units do. */
 #define _GNU_SOURCE
 #include <fcntl.h>
 #include <stdint.h>
@@ -13,7 +14,7 @@
 enum { UNIT = 4096, PLACES = 12 };
 
 static int put(int fd, const unsigned char *bytes, size_t size, off_t at) {
-    return pwrite(fd, bytes, size, at) == (ssize_t)size && fdatasync(fd) == 0;
+    return pwrite(fd, bytes, size, at) == (ssize_t)size;
 }
 
 int main(int argc, char **argv) {
@@ -21,6 +22,7 @@ int main(int argc, char **argv) {
         return 0;
     uint64_t rounds = strtoull(argv[2], NULL, 10);
     size_t size = strtoull(argv[3], NULL, 10);
+    uint64_t writes = argc > 4 ? strtoull(argv[4], NULL, 10) : 1;
     uint64_t places = size > UNIT ? PLACES : 100;
     int fd = open(argv[1], O_RDWR | O_CREAT, 0644);
     unsigned char *bytes = calloc(1, size > UNIT ? size : UNIT);
@@ -36,7 +38,10 @@ int main(int argc, char **argv) {
     clock_gettime(CLOCK_MONOTONIC, &start);
     for (uint64_t round = 0; round < rounds; round++) {
         memset(bytes, (int)(round & 255), size);
-        if (!put(fd, bytes, size, data + (off_t)(round % places * size)) || !put(fd, bytes, UNIT, (off_t)round * UNIT))
+        for (uint64_t it = round * writes; it < (round + 1) * writes; it++)
+            if (!put(fd, bytes, size, data + (off_t)(it % places * size)))
+                return 1;
+        if (fdatasync(fd) != 0 || !put(fd, bytes, UNIT, (off_t)round * UNIT) || fdatasync(fd) != 0)
             return 1;
     }
     clock_gettime(CLOCK_MONOTONIC, &end);

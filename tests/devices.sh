@@ -82,11 +82,12 @@ can_trace=no
 strace -qq -o probe -e inject=getuid:error=EPERM true 2>probe_complaints && can_trace=yes
 
 run mkfs NEW "${small[@]}"
-printf 'mkcoll 1.0_head\nwrite 1.0_head a 0 fill:5a:4096\n' >script
+# The client waits for its collection, so that the page's calls come behind those of the collection.
+printf 'mkcoll 1.0_head\nwait\nwrite 1.0_head a 0 fill:5a:4096\n' >script
 : >empty
 cp NEW TWO
 run step TWO --seed 1 script
-says 'two transactions' ended 0 '0:1 ok' '0:2 ok' 'done accepted=2 refused=0 reads=0 commits=2 free=45'
+says 'two transactions' ended 0 '0:1 ok' '0:3 ok' 'done accepted=2 refused=0 reads=0 commits=2 free=45'
 
 # ---- the calls of good runs: one flush at the opening, before anything is read or written; then two for each transaction with
 # data, between data and record and behind the record, and one for each without
@@ -95,10 +96,10 @@ calls_of_good_runs() {
     local settled='lock flush' flushed='log flush' with_data='data flush log flush'
     trace mkfs CALLS "${small[@]}"
     says 'calls: a store is made' made_calls CALLS lock cut flush folder read slot flush slot flush
-    printf 'mkcoll 1.0_head\ntouch 1.0_head a\nwrite 1.0_head a 0 fill:5a:4096\nwrite 1.0_head b 4096 fill:5b:81920\n' >calls
+    printf '%s\nwait\n' 'mkcoll 1.0_head' 'touch 1.0_head a' 'write 1.0_head a 0 fill:5a:4096' 'write 1.0_head b 4096 fill:5b:81920' >calls
     trace step CALLS --seed 1 calls
     says 'calls: transactions without data and with' made_calls CALLS $settled read $flushed $flushed $with_data $with_data
-    printf 'write 1.0_head a 0 fill:5c:4096\nmkcoll 1.0_head\nread 1.0_head b 4096 1\nwait\nwrite 1.0_head a 0 fill:5d:4096\n' >calls
+    printf 'write 1.0_head a 0 fill:5c:4096\nmkcoll 1.0_head\nwait\nread 1.0_head b 4096 1\nwrite 1.0_head a 0 fill:5d:4096\n' >calls
     trace step CALLS --seed 2 calls
     says 'calls: a refusal and a read flush nothing' made_calls CALLS $settled read $with_data read $with_data
     trace step CALLS --seed 3 empty
@@ -114,7 +115,7 @@ calls_of_good_runs() {
     says 'calls: the folder that a link leads to is flushed' grep -Eq '^fsync\([0-9]+<[^>]*/folder>\) += 0$' trace
 }
 
-# Seeds give other orders of steps, and the same calls, since one client runs alone.
+# Seeds give other orders of steps, and the same calls, since one client runs alone and waits for each of its transactions.
 calls_of_seeds() {
     local seed same=yes
     for seed in 0 7 4294967295; do
@@ -149,7 +150,7 @@ keeps_acknowledged() {
     run dump "$1"
     [ "$status" = 0 ] || return 1
     ! grep -q '^0:1 ok' replies || grep -q '^coll 1.0_head' output || return 1
-    ! grep -q '^0:2 ok' replies || grep -q '^object a size 4096 crc 37f18c49' output
+    ! grep -q '^0:3 ok' replies || grep -q '^object a size 4096 crc 37f18c49' output
 }
 
 # Each of the three writes and of the three flushes of a run of two transactions.
@@ -290,7 +291,7 @@ says 'a lock of another program: it is gone' is_one_of 0
 cp NEW LIMITED
 (ulimit -f 72; timeout 60 "$top/bstore" step LIMITED --seed 1 script 2>complaints </dev/null | cat >output; exit "${PIPESTATUS[0]}")
 status=$?
-says 'a limit of file sizes' ended 3 '0:1 ok' '0:2 sent' 'stopped 3'
+says 'a limit of file sizes' ended 3 '0:1 ok' '0:3 sent' 'stopped 3'
 run dump LIMITED
 says 'a limit of file sizes: what was acknowledged is there' ended 0 'coll 1.0_head' 'end'
 
@@ -305,9 +306,9 @@ full_file_system() {
     mounts+=("$room/full")
     run mkfs full/DEV "${small[@]}"
     says 'a small file system: a store' ended 0 "$made"
-    { cat script; printf 'write 1.0_head b 0 fill:5b:8192\n'; } >fuller
+    { cat script; printf 'wait\nwrite 1.0_head b 0 fill:5b:8192\n'; } >fuller
     run step full/DEV --seed 1 fuller
-    says 'a small file system: it is full' ended 3 '0:1 ok' '0:2 ok' '0:3 sent' 'stopped 3'
+    says 'a small file system: it is full' ended 3 '0:1 ok' '0:3 ok' '0:5 sent' 'stopped 3'
     cp full/DEV FULLER
     run dump FULLER
     says 'a small file system: what was acknowledged is there' ended 0 'coll 1.0_head' 'object a size 4096 crc 37f18c49' 'end'
@@ -354,7 +355,7 @@ block_devices() {
     run mkfs FILE "${small[@]}"
     says 'a block device: the same bytes as in a file' cmp -s "$device" FILE
     run step "$device" --seed 1 script
-    says 'a block device: step' ended 0 '0:1 ok' '0:2 ok' 'done accepted=2 refused=0 reads=0 commits=2 free=45'
+    says 'a block device: step' ended 0 '0:1 ok' '0:3 ok' 'done accepted=2 refused=0 reads=0 commits=2 free=45'
     run dump "$device"
     says 'a block device: dump' ended 0 'coll 1.0_head' 'object a size 4096 crc 37f18c49' 'end'
     run step FILE --seed 1 script
@@ -410,7 +411,7 @@ bare_root() {
     says 'a bare root: a store' ended 0 "$made"
     timeout 60 chroot bare /bstore step /DEV --seed 1 /script >output 2>complaints </dev/null
     status=$?
-    says 'a bare root: step' ended 0 '0:1 ok' '0:2 ok' 'done accepted=2 refused=0 reads=0 commits=2 free=45'
+    says 'a bare root: step' ended 0 '0:1 ok' '0:3 ok' 'done accepted=2 refused=0 reads=0 commits=2 free=45'
     timeout 60 chroot bare /bstore mkfs /CLOSED "${small[@]}" >&- 2>&- <&-
     status=$?
     says 'a bare root: all three descriptors closed' is_one_of 6

@@ -1,11 +1,13 @@
 #!/usr/bin/env python3
-"""Runs random scripts by the built program on real files, and compares what it says and leaves with a second store that is written
-here from the documents and shares nothing with the crates: each reply, the last line, `dump`, and the device, read byte by byte.
-The device must have exactly the objects and records of the model, each page must have its checksum, and the bitmap must have
-exactly the units that objects own. One run in seven is killed at some moment: then the device must be that of the model after
-some of the commands, from the first on.
+"""Runs random scripts of 1 to 8 clients by the built program on real files, and compares what it says and leaves with a second store
+that is written here from the documents and shares nothing with the crates: each reply, the last line, `dump`, and the device, read byte
+by byte. The model draws from the seed what comes next, as the program does, so it knows in which order clients and steps come. The
+device must have exactly the objects and records of the model, each page must have its checksum, and the bitmap must have exactly the
+units that objects own. One run in seven is killed at some moment: then the device must be that of the model after some of the commits,
+from the first on. Before these rounds the program runs scripts whose replies were reckoned by hand.
 
-Usage: tests/model.py [ROUNDS] [SEED] [PROGRAM]. It ends with status 1 where something differs, and says in which round."""
+Usage: tests/model.py [ROUNDS] [SEED] [PROGRAM], or tests/model.py --self-test, which runs the model alone on the scripts whose replies
+were reckoned by hand. It ends with status 1 where something differs, and says in which round."""
 
 import os
 import random
@@ -14,13 +16,17 @@ import subprocess
 import sys
 import tempfile
 import time
+from collections import deque
 from dataclasses import dataclass, field
+from functools import partial
 
 UNIT = 4096
 OBJECT_LIMIT = 134217728
 TRANSACTION_LIMIT = 1048576
 ROW_UNITS = 128
 RUN_PAGES = 256
+WRITE_UNITS = 64
+DEPTH = 64
 
 # ---- the checksum
 
@@ -80,20 +86,54 @@ def escaped(name):
     return "".join(chr(byte) if byte in plain else f"%{byte:02X}" for byte in name)
 
 
+@dataclass
+class Transaction:
+    """An accepted transaction: its collection and what that has after it, the units that it takes and releases, how many its record
+    has, and whose it is. Of its data writes, so many are submitted, and so many have ended."""
+
+    coll: bytes
+    objects: dict
+    taken: list
+    released: list
+    record: int
+    client: object = None
+    sent: int = 0
+    ended: int = 0
+
+    def __post_init__(self):
+        self.writes = len(runs_of(self.taken))
+
+
+def runs_of(units):
+    """The runs of consecutive units, each as [first, count]: what one data write is of."""
+    runs = []
+    for unit in units:
+        if runs and sum(runs[-1]) == unit and runs[-1][1] < WRITE_UNITS:
+            runs[-1][1] += 1
+        else:
+            runs.append([unit, 1])
+    return runs
+
+
 class Store:
-    """What a store has: collections of objects, free units, and how many units the log's records take."""
+    """What a store has: collections of objects, free units, and how many units the log's records take. Objects aren't changed, and the
+    objects of a collection are replaced as a whole, so that copies share them."""
 
     def __init__(self, units, half):
         self.units, self.half, self.tail = units, half, 0
-        self.colls, self.free = {}, set(range(2 * half + 2, units))
+        self.colls, self.free, self.accepted = {}, set(range(2 * half + 2, units)), None
 
     def copy(self):
         other = Store(self.units, self.half)
-        other.colls = {
-            coll: {name: Object(it.size, dict(it.pages)) for name, it in objects.items()}
-            for coll, objects in self.colls.items()
-        }
-        other.free, other.tail = set(self.free), self.tail
+        other.colls, other.free, other.tail = dict(self.colls), set(self.free), self.tail
+        return other
+
+    def with_commit(self, it):
+        """The store of a device with this transaction's record behind the others."""
+        other = self.copy()
+        other.colls[it.coll] = it.objects
+        other.free = self.free - set(it.taken) | set(it.released)
+        other.tail += it.record
         return other
 
     def refusal(self, coll, name=None):
@@ -101,31 +141,30 @@ class Store:
             return "E1 NoCollection"
         return "E4 NoObject" if name is not None and name not in self.colls[coll] else None
 
-    def log_refusal(self, body):
-        """Why there is no room for a record with a body of so many bytes; else the record is behind the others."""
+    def accept(self, body, coll, objects, taken=(), released=()):
+        """Accepts a transaction whose record has a body of so many bytes, or says why there is no room for it. What it releases isn't
+        free before it is committed."""
         need, room = (24 + body + UNIT - 1) // UNIT, self.half - self.tail
         if room < need:
             return f"E10 MetaFull need={need} room={room}"
         self.tail += need
-        return None
+        self.free -= set(taken)
+        self.colls[coll] = objects
+        self.accepted = Transaction(coll, objects, list(taken), list(released), need)
+        return "ok"
 
     def mkcoll(self, coll):
         if coll in self.colls:
             return "E2 CollectionExists"
-        refused = self.log_refusal(7 + 1 + len(coll))
-        if not refused:
-            self.colls[coll] = {}
-        return refused or "ok"
+        return self.accept(7 + 1 + len(coll), coll, {})
 
     def touch(self, coll, name):
         refused = self.refusal(coll)
         if refused:
             return refused
-        is_new = name not in self.colls[coll]
-        refused = self.log_refusal(7 + len(onode_key(coll, name)) + 8 if is_new else 0)
-        if is_new and not refused:
-            self.colls[coll][name] = Object()
-        return refused or "ok"
+        if name in self.colls[coll]:
+            return self.accept(0, coll, self.colls[coll])
+        return self.accept(7 + len(onode_key(coll, name)) + 8, coll, {**self.colls[coll], name: Object()})
 
     def write(self, coll, name, offset, byte, length):
         if length > TRANSACTION_LIMIT:
@@ -151,11 +190,7 @@ class Store:
             body += 3 + key + 5
         body += 7 + key + 5 + sum(11 + 4 * pages for _, pages, _ in after.extents())
         body += (7 + 5 + 16) * len({unit // ROW_UNITS for unit in taken + released})
-        refused = self.log_refusal(body)
-        if not refused:
-            self.free = self.free - set(taken) | set(released)
-            self.colls[coll][name] = after
-        return refused or "ok"
+        return self.accept(body, coll, {**self.colls[coll], name: after}, taken, released)
 
     def read(self, coll, name, offset, length):
         refused = self.refusal(coll, name)
@@ -189,6 +224,146 @@ def onode_key(coll, name):
 
 def sum_of(it):
     return it.size, checksum(it.data(0, it.size))
+
+
+# ---- the kernel's steps
+
+
+@dataclass
+class Batch:
+    """The open batch: its transaction, whether its record is made, and of the pieces of that how many are given and written. Its flushes
+    aren't submitted (0), in flight (1) or have ended (2)."""
+
+    transaction: Transaction
+    is_sealed: bool = False
+    given: int = 0
+    written: int = 0
+    first: int = 0
+    second: int = 0
+
+    @property
+    def pieces(self):
+        return (self.transaction.record + WRITE_UNITS - 1) // WRITE_UNITS
+
+
+class Kernel:
+    """The table of steps of docs/steps.md over a store, on a device that does each submission at once and gives the ends in order. It
+    keeps the stores of devices with each front of the commits."""
+
+    def __init__(self, store):
+        self.store, self.commits = store, [store.copy()]
+        self.pending, self.flying, self.batch, self.applied = [], deque(), None, deque()
+
+    def submit(self, client, command):
+        """The reply to a command. A transaction that is accepted waits in the kernel, for its client."""
+        self.store.accepted = None
+        reply = getattr(self.store, command[0])(*command[1:])
+        if self.store.accepted:
+            self.store.accepted.client = client
+            self.pending.append(self.store.accepted)
+        return reply
+
+    def next_unsent(self):
+        return next((it for it in self.pending if it.sent < it.writes), None)
+
+    def chosen(self):
+        """The first whose data writes have all ended and before which none of its collection waits."""
+        earlier = set()
+        for it in self.pending:
+            if it.ended == it.writes and it.coll not in earlier:
+                return it
+            earlier.add(it.coll)
+        return None
+
+    def ready(self):
+        """The steps that are ready, in the order of the table."""
+        batch, has_room = self.batch, len(self.flying) < DEPTH
+        table = [
+            (self.data, self.next_unsent() and has_room),
+            (self.reap, self.flying),
+            (self.take, not batch and self.chosen()),
+            (self.flush, batch and batch.first == 0 and has_room),
+            (self.seal, batch and not batch.is_sealed),
+            (self.record, batch and batch.first == 2 and batch.is_sealed and batch.given < batch.pieces and has_room),
+            (self.sync, batch and batch.second == 0 and batch.is_sealed and batch.written == batch.pieces and has_room),
+            (self.commit, batch and batch.second == 2),
+            (self.finish, self.applied),
+        ]
+        return [step for step, is_ready in table if is_ready]
+
+    def data(self):
+        it = self.next_unsent()
+        it.sent += 1
+        self.flying.append((it, "ended"))
+
+    def reap(self):
+        it, counted = self.flying.popleft()
+        setattr(it, counted, getattr(it, counted) + 1)
+
+    def take(self):
+        self.batch = Batch(self.chosen())
+        self.pending.remove(self.batch.transaction)
+
+    def flush(self):
+        self.batch.first = 1
+        self.flying.append((self.batch, "first"))
+
+    def seal(self):
+        self.batch.is_sealed = True
+
+    def record(self):
+        self.batch.given += 1
+        self.flying.append((self.batch, "written"))
+
+    def sync(self):
+        self.batch.second = 1
+        self.flying.append((self.batch, "second"))
+
+    def commit(self):
+        it = self.batch.transaction
+        self.store.free |= set(it.released)
+        self.commits.append(self.commits[-1].with_commit(it))
+        self.applied.append(it)
+        self.batch = None
+
+    def finish(self):
+        self.applied.popleft().client.waits_for -= 1
+
+
+class Client:
+    """A client: the commands that it has left, each with its line, None for a `wait`; its replies so far, each with its line; and how
+    many of its transactions are accepted and not acknowledged."""
+
+    def __init__(self, commands):
+        self.left, self.replies, self.waits_for = deque(commands), [], 0
+
+    def is_ready(self):
+        """Whether a command other than `wait` is left, and the `wait`s before it are over."""
+        while self.left and self.left[0][1] is None and self.waits_for == 0:
+            self.left.popleft()
+        return bool(self.left) and self.left[0][1] is not None
+
+    def make(self, kernel):
+        """Makes its next command."""
+        line, command = self.left.popleft()
+        reply = kernel.submit(self, command)
+        self.waits_for += reply == "ok"
+        self.replies.append((line, reply))
+
+
+def run(store, scripts, seed):
+    """What is to be printed of a run of these scripts, one a client, and the stores of devices with each front of its commits. The store
+    becomes that behind the run."""
+    kernel, clients, drawn = Kernel(store), [Client(script) for script in scripts], seed
+    while choices := [partial(it.make, kernel) for it in clients if it.is_ready()] + kernel.ready():
+        drawn = (6364136223846793005 * drawn + 1442695040888963407) % 2**64
+        choices[(drawn >> 33) % len(choices)]()
+    replies = [(number, *reply) for number, client in enumerate(clients) for reply in client.replies]
+    accepted = sum(reply == "ok" for _, _, reply in replies)
+    refused = sum(reply.startswith("E") for _, _, reply in replies)
+    told = f"accepted={accepted} refused={refused} reads={len(replies) - accepted - refused} commits={len(kernel.commits) - 1}"
+    lines = [f"{number}:{line} {reply}" for number, line, reply in replies]
+    return [*lines, f"done {told} free={len(store.free)}"], kernel.commits
 
 
 # ---- the device
@@ -330,22 +505,18 @@ def spelled(kind, coll, *words):
     return " ".join(line)
 
 
-def script_of(dice, store):
-    """A script's lines, what is to be printed, and the store before the first command and after each that changes it, which it does."""
-    lines, wanted, states, counts = [], [], [store.copy()], {"accepted": 0, "refused": 0, "reads": 0}
-    for _ in range(dice.choice([5, 30, 120])):
+def drawn_script(dice):
+    """The lines of a script, and its commands, each with its line: None for a `wait`."""
+    lines, commands = [], []
+    for _ in range(dice.choice([0, 5, 30, 120])):
         command = drawn_command(dice, dice.choice([3, 12, 300]))
         if dice.random() < 0.1:
             lines.append(dice.choice(["wait", "", "# a note"]))
+            if lines[-1] == "wait":
+                commands.append((len(lines), None))
         lines.append(spelled(*command))
-        reply = getattr(store, command[0])(*command[1:])
-        wanted.append(f"0:{len(lines)} {reply}")
-        is_refused = reply.startswith("E")
-        counts["refused" if is_refused else "accepted" if reply == "ok" else "reads"] += 1
-        if reply == "ok":
-            states.append(store.copy())
-    told = " ".join(f"{name}={count}" for name, count in counts.items())
-    return lines, [*wanted, f"done {told} commits={counts['accepted']} free={len(store.free)}"], states
+        commands.append((len(lines), command))
+    return lines, commands
 
 
 # ---- rounds
@@ -363,20 +534,20 @@ def expect_same(found, wanted, what):
     expect(len(found) == len(wanted), f"{what} has {len(found)} lines, not {len(wanted)}")
 
 
-def killed_run(dice, program, seed, states):
-    """Runs the script for some time, and returns the state of the model that the device then has."""
-    ran = subprocess.Popen([program, "step", "device", "--seed", seed, "script"], stdout=subprocess.DEVNULL)
+def killed_run(dice, program, seed, names, commits):
+    """Runs the scripts for some time, and returns the store that the device then has."""
+    ran = subprocess.Popen([program, "step", "device", "--seed", str(seed), *names], stdout=subprocess.DEVNULL)
     time.sleep(dice.random() * 0.004)
     ran.kill()
     ran.wait()
     left = Device("device")
-    found = next((state for state in states if left.is_of(state)), None)
-    expect(found, "the device of a run that was killed is that of no front of the commands")
+    found = next((store for store in commits if left.is_of(store)), None)
+    expect(found, "the device of a run that was killed is that of no front of the commits")
     return found.copy()
 
 
-def whole_run(program, seed, wanted, store):
-    expect_same(printed(program, "step", "device", "--seed", seed, "script"), wanted, "step")
+def whole_run(program, seed, names, wanted, store):
+    expect_same(printed(program, "step", "device", "--seed", str(seed), *names), wanted, "step")
     expect(Device("device").is_of(store), "the device has other objects or records")
     expect_same(printed(program, "dump", "device"), store.dump(), "dump")
 
@@ -388,33 +559,110 @@ def play(program, seed):
     store = Store(2 * half + 2 + dice.choice([1, 2, 5, 20, 60, 300]), half)
     printed(program, "mkfs", "device", "--half", str(half), "--units", str(store.units))
     for _ in range(dice.choice([1, 2, 3])):
-        lines, wanted, states = script_of(dice, store)
-        with open("script", "w", encoding="ascii") as it:
-            it.write("\n".join(lines) + dice.choice(["", "\n", "\n"]))
+        scripts = [drawn_script(dice) for _ in range(dice.choice([1, 1, 2, 3, dice.randrange(4, 9)]))]
+        names = [f"script{number}" for number in range(len(scripts))]
+        for name, (lines, _) in zip(names, scripts):
+            with open(name, "w", encoding="ascii") as it:
+                it.write("\n".join(lines) + dice.choice(["", "\n", "\n"]))
+        drawn = dice.randrange(2**32)
+        wanted, commits = run(store, [commands for _, commands in scripts], drawn)
         if dice.random() < 0.15:
-            store = killed_run(dice, program, str(dice.randrange(2**32)), states)
+            store = killed_run(dice, program, drawn, names, commits)
         else:
-            whole_run(program, str(dice.randrange(2**32)), wanted, store)
+            whole_run(program, drawn, names, wanted, store)
+
+
+# ---- the model's own checks
+
+
+def read_command(line):
+    """A command as a script spells it, without names that are escaped; `fill:XX` is short for a page of it."""
+    kind, *words = line.split()
+    if kind == "wait":
+        return None
+    coll, *rest = (word.encode() for word in words)
+    if kind == "write":
+        _, byte, *size = words[3].split(":")
+        return kind, coll, rest[0], int(rest[1]), int(byte, 16), int(size[0]) if size else UNIT
+    if kind == "read":
+        return kind, coll, rest[0], int(rest[1]), int(rest[2])
+    return kind, coll, *rest
+
+
+PAGES_OF_TWO = [
+    ["mkcoll 1.0_head", "write 1.0_head a 0 fill:41", "wait", "read 1.0_head a 0 1"],
+    ["mkcoll 2.1_head", "write 2.1_head a 0 fill:42", "wait", "read 2.1_head a 0 1"],
+    ["touch 1.0_head z"],
+]
+OF_PAGES = "0:1 ok, 0:2 ok, 0:4 data 41, 1:1 ok, 1:2 ok, 1:4 data 42, "
+NO_TOUCH = OF_PAGES + "2:1 E1 NoCollection, done accepted=4 refused=1 reads=2 commits=4 free=44"
+FEW_UNITS = [
+    ["mkcoll 1.0_head", "write 1.0_head a 0 fill:41", "write 1.0_head a 0 fill:42", "wait", "write 1.0_head b 0 fill:43"],
+    ["write 1.0_head c 0 fill:44", "write 1.0_head c 0 fill:45", "list 1.0_head"],
+]
+NO_SPACE, NO_COLL = "E9 NoSpace need=1 free=0", "E1 NoCollection"
+# The units of a store with halves of 8, its scripts, the seed, and what is printed.
+CHECKS = [(64, PAGES_OF_TWO, seed, NO_TOUCH) for seed in range(8)] + [
+    (64, PAGES_OF_TWO, 8, OF_PAGES + "2:1 ok, done accepted=5 refused=0 reads=2 commits=5 free=44"),
+    (20, FEW_UNITS, 1, f"0:1 ok, 0:2 ok, 0:3 ok, 0:5 ok, 1:1 {NO_SPACE}, 1:2 {NO_SPACE}, 1:3 objects a, "
+     "done accepted=4 refused=2 reads=1 commits=4 free=0"),
+    (20, FEW_UNITS, 4, f"0:1 ok, 0:2 ok, 0:3 {NO_SPACE}, 0:5 {NO_SPACE}, 1:1 ok, 1:2 {NO_SPACE}, 1:3 objects a c, "
+     "done accepted=3 refused=3 reads=1 commits=3 free=0"),
+    (20, FEW_UNITS, 9, f"0:1 ok, 0:2 ok, 0:3 ok, 0:5 ok, 1:1 {NO_COLL}, 1:2 {NO_COLL}, 1:3 objects, "
+     "done accepted=4 refused=2 reads=1 commits=4 free=0"),
+    (20, FEW_UNITS, 11, f"0:1 ok, 0:2 {NO_SPACE}, 0:3 {NO_SPACE}, 0:5 {NO_SPACE}, 1:1 ok, 1:2 ok, 1:3 objects c, "
+     "done accepted=3 refused=3 reads=1 commits=3 free=1"),
+    (20, FEW_UNITS, 15, f"0:1 ok, 0:2 ok, 0:3 ok, 0:5 ok, 1:1 {NO_COLL}, 1:2 {NO_COLL}, 1:3 {NO_COLL}, "
+     "done accepted=4 refused=3 reads=0 commits=4 free=0"),
+]
+
+
+def check(units, scripts, seed, wanted):
+    commands = [[(at + 1, read_command(line)) for at, line in enumerate(script)] for script in scripts]
+    store = Store(units, 8)
+    found, commits = run(store, commands, seed)
+    expect_same(found, wanted.split(", "), f"seed {seed}")
+    expect(commits[-1].colls == store.colls and commits[-1].free == store.free, f"seed {seed}: the last commit leaves another store")
+
+
+def check_program(program, units, scripts, seed, wanted):
+    """The same of the program, on a new store."""
+    names = [f"script{number}" for number in range(len(scripts))]
+    for name, lines in zip(names, scripts):
+        with open(name, "w", encoding="ascii") as it:
+            it.writelines(f"{line}:{UNIT}\n" if "fill:" in line else f"{line}\n" for line in lines)
+    printed(program, "mkfs", "device", "--half", "8", "--units", str(units))
+    expect_same(printed(program, "step", "device", "--seed", str(seed), *names), wanted.split(", "), f"seed {seed}")
+
+
+def all_pass(tries):
+    """Makes these tries, each with what it is called, and says which fail and how many. Whether none does."""
+    failed = 0
+    for called, attempt in tries:
+        try:
+            attempt()
+        except BadDevice as why:
+            failed += 1
+            print(f"FAILED  {called}: {why}")
+    print(f"{len(tries) - failed} passed, {failed} failed")
+    return failed == 0
 
 
 def main():
+    if sys.argv[1:] == ["--self-test"]:
+        return 0 if all_pass([("the model's own checks", partial(check, *it)) for it in CHECKS]) else 1
     rounds, seed = (int(sys.argv[at]) if len(sys.argv) > at else value for at, value in ((1, 120), (2, 1)))
     top = os.path.dirname(os.path.dirname(os.path.abspath(__file__)))
     program = os.path.abspath(sys.argv[3]) if len(sys.argv) > 3 else f"{top}/crates/bstore/out/bstore"
     if not os.access(program, os.X_OK):
         subprocess.run([f"{top}/bstore"], stdout=subprocess.DEVNULL, check=False)
-    failed = 0
+    tries = [("the program, scripts reckoned by hand", partial(check_program, program, *it)) for it in CHECKS]
+    tries += [(f"the model, round of seed {seed + number}", partial(play, program, seed + number)) for number in range(rounds)]
     with tempfile.TemporaryDirectory() as room:
         os.chdir(room)
-        for number in range(rounds):
-            try:
-                play(program, seed + number)
-            except BadDevice as why:
-                failed += 1
-                print(f"FAILED  the model, round of seed {seed + number}: {why}")
+        passed = all_pass(tries)
         os.chdir(top)
-    print(f"{rounds - failed} passed, {failed} failed")
-    return 1 if failed else 0
+    return 0 if passed else 1
 
 
 if __name__ == "__main__":

@@ -334,6 +334,17 @@ run dump SESSION
 says 'the session: all objects' ended 0 'coll 1.0_head' 'object a size 4096 crc 37f18c49' 'object b size 8192 crc e5ada115' \
     'object c size 0 crc 00000000' 'end'
 
+printf 'mkcoll 2.0_head\nwrite 2.0_head a 0 fill:41:4096\nwait\nread 2.0_head a 0 2\n' >first
+printf 'touch 2.0_head b\nlist 2.0_head\n' >second
+run mkfs SESSION "${small[@]}"
+run step SESSION --seed 1 first second
+says 'the session: two clients' ended 0 '0:1 ok' '0:2 ok' '0:4 data 4141' '1:1 ok' '1:2 objects a b' \
+    'done accepted=3 refused=0 reads=2 commits=3 free=45'
+run mkfs SESSION "${small[@]}"
+run step SESSION --seed 3 first second
+says 'the session: the second client comes too early' ended 0 '0:1 ok' '0:2 ok' '0:4 data 4141' '1:1 E1 NoCollection' '1:2 E1 NoCollection' \
+    'done accepted=2 refused=2 reads=1 commits=2 free=45'
+
 # One byte of a page is changed: byte 100 of unit 18.
 cp T CHANGED
 printf 'X' | dd of=CHANGED bs=1 seek=$((4096 * 18 + 100)) conv=notrunc status=none
@@ -396,6 +407,24 @@ for seed in 0 2 3 7 50 4294967295; do
 done
 says 'step: other seeds' test "$same" = yes
 
+# Scripts of three clients. The third one's collection isn't there yet, but for one of these seeds.
+printf 'mkcoll 1.0_head\nwrite 1.0_head a 0 fill:41:4096\nwait\nread 1.0_head a 0 1\n' >client0
+printf 'mkcoll 2.1_head\nwrite 2.1_head a 0 fill:42:4096\nwait\nread 2.1_head a 0 1\n' >client1
+echo 'touch 1.0_head z' >client2
+clients=('0:1 ok' '0:2 ok' '0:4 data 41' '1:1 ok' '1:2 ok' '1:4 data 42')
+same=yes
+for seed in 0 1 2 3 4 5 6 7; do
+    run mkfs CLIENTS "${small[@]}"
+    run step CLIENTS --seed "$seed" client0 client1 client2
+    ended 0 "${clients[@]}" '2:1 E1 NoCollection' 'done accepted=4 refused=1 reads=2 commits=4 free=44' || same=no
+done
+says 'step: three clients' test "$same" = yes
+run mkfs CLIENTS "${small[@]}"
+run step CLIENTS --seed 8 client0 client1 client2
+says 'step: three clients, by another seed' ended 0 "${clients[@]}" '2:1 ok' 'done accepted=5 refused=0 reads=2 commits=5 free=44'
+run step CLIENTS --seed 1 $(printf 'empty %.0s' {1..64})
+says 'step: 64 clients' ended 0 'done accepted=0 refused=0 reads=0 commits=0 free=44'
+
 # Each refusal: a full store, and a full log.
 run mkfs SMALL --half 8 --units 19
 printf '# a store with one data unit\nmkcoll 1.0_head\nmkcoll 1.0_head\nwrite 2.0_head a 0 fill:41:4096\nwrite 1.0_head a 0 fill:41:4096\n\nwrite 1.0_head b 0 fill:42:4096\n' >full
@@ -413,10 +442,15 @@ printf 'mkcoll 1.0_head\n\n#\n\n\n\nwriet 1.0_head a 0 fill:41:4096\n' >bad
 run step ABSENT --seed 1 bad
 says 'step: a bad line' ended 2 'script 0 line 7' 'stopped 2'
 says 'step: no device was made' test ! -e ABSENT
+printf 'mkcoll 1.0_head\n\nwrite 1.0_head a 0 hex:41\n' >bad
+run step ABSENT --seed 1 script bad
+says 'step: a bad line of the second script' ended 2 'script 1 line 3' 'stopped 2'
 run step ABSENT --seed 1 script
 says 'step: no device' ended 7 'stopped 7'
 run step T --seed 1 nowhere
 says 'step: no script' ended 7 'stopped 7'
+run step T --seed 1 script nowhere
+says 'step: no second script' ended 7 'stopped 7'
 
 run mkfs OUT "${small[@]}"
 "$program" step OUT --seed 1 script >/dev/full 2>complaints </dev/null
@@ -425,7 +459,7 @@ says 'step: a full output' is_one_of 6
 says 'step: a full output: the same store' cmp -s OUT BEFORE
 
 says 'step: no script named' is_refused step DEV --seed 1
-says 'step: two scripts' is_refused step DEV --seed 1 script full
+says 'step: 65 scripts' is_refused step DEV --seed 1 $(printf 'script %.0s' {1..65})
 says 'step: no seed' is_refused step DEV script
 says 'step: another order' is_refused step --seed 1 DEV script
 for seed in 4294967296 01 -1 '' x; do

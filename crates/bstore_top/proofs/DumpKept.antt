@@ -46,7 +46,7 @@ stays_durable given disk fresh stays h objects told stands =
 -- nothing was seen, so no bad unit was
 shows_none : (end : WorkEnd) (given : Disk) (before now : ℕ) (objects : Objects) → FailsToMount end given before now → Shows end objects []
 shows_none (Done free) given before now objects fails = absurd fails
-shows_none (BadLine n) given before now objects fails = tt
+shows_none (BadLine script n) given before now objects fails = tt
 shows_none NoSuper given before now objects fails = tt
 shows_none (BadRow key) given before now objects fails = tt
 shows_none (NotExact unit) given before now objects fails = tt

@@ -92,7 +92,7 @@ dump_shows dev seen bay_old bay_new before now old new ran =
 -- where the walk shows what objects have, it shows no bad unit
 shows_good : (end : WorkEnd) (objects : Objects) (colls : List CollView) → Shows end objects colls → AllByRecursion HasGoodViews colls
 shows_good (Done free) objects colls shows = shows.1
-shows_good (BadLine n) objects colls shows = shows
+shows_good (BadLine script n) objects colls shows = shows
 shows_good NoSuper objects colls shows = shows
 shows_good (BadRow key) objects colls shows = shows
 shows_good (NotExact unit) objects colls shows = shows
@@ -106,7 +106,7 @@ walk_ends : (w : Width) (end : WorkEnd) (d : Disk) (rows : Rows) (colls : List C
     → Walked w end d rows colls
     → EndsInOrder end
 walk_ends w (Done free) d rows colls now none counted walked = inl refl
-walk_ends w (BadLine n) d rows colls now none counted walked = absurd walked
+walk_ends w (BadLine script n) d rows colls now none counted walked = absurd walked
 walk_ends w NoSuper d rows colls now none counted walked = absurd walked
 walk_ends w (BadRow key) d rows colls now none counted walked = absurd walked
 walk_ends w (NotExact unit) d rows colls now none counted walked = absurd walked
@@ -118,7 +118,7 @@ walk_ends w BayFault d rows colls now none counted walked = absurd walked
 -- so was a run that opened no device
 unopened_ends : (end : WorkEnd) (before now : ℕ) → ¬ Rose before now → FailsUnopened end before now → EndsInOrder end
 unopened_ends (Done free) before now same fails = absurd fails
-unopened_ends (BadLine n) before now same fails = absurd fails
+unopened_ends (BadLine script n) before now same fails = absurd fails
 unopened_ends NoSuper before now same fails = absurd fails
 unopened_ends (BadRow key) before now same fails = absurd fails
 unopened_ends (NotExact unit) before now same fails = absurd fails

@@ -1,7 +1,9 @@
 -- A start that nothing stands against ends well, or for want of memory.
-use Rattle.std.proofs.Common.{◌≡◌, ◌⊎◌, inl, inr, ℕ, ◌+◌, ◌<◌, ◌%◌, List, [], length, Option, Some, Bool, false, refl, sym, ap, subst, ◌∙◌, arith}
+use Rattle.std.proofs.Common.{◌≡◌, ◌⊎◌, inl, inr, ℕ, zero, suc, ◌+◌, ◌<◌, ◌%◌, List, [], ◌∷◌, ◌++◌, length, replicate, get_or, Option, Some, None, Bool, false, refl, sym, ap, subst, ◌∙◌, arith}
+use Rattle.std.specs.List.{AllByRecursion}
 use Rattle.std.specs.Prelude.{IfSome, Any}
 use Rattle.std.specs.FinMap as finite
+use Rattle.std.proofs.lemmas.List.Quantifiers.{Any-push}
 use Rattle.std.proofs.lemmas.Option.{same_Some}
 use Rattle.unit_fields.specs.declared.width.Width.{Width}
 use Rattle.block_device.specs.Prelude.{last, IsClean, Disk, History, Rose}
@@ -17,13 +19,16 @@ use Rattle.script_text.specs.Prelude.{IsBadAt}
 use Rattle.script_text.proofs.Scripts.{script_has_no_bad}
 use Rattle.store_image.specs.Prelude.{NoBadRow, IsLeaked, IsExactBut, IsInexact}
 use Rattle.store_image.proofs.Prelude.{no_inexact, same_rows}
-use Rattle.store_steps.specs.Prelude.{Found}
+use Rattle.store_steps.specs.Prelude.{Found, free_count}
+use Rattle.script_reading.specs.Prelude.{HasBadScript, HasFault}
+use Rattle.client_runs.specs.declared.run_fail.RunFail.{RunFail}
+use Rattle.client_runs.specs.declared.run_fail.RunFail.TheVariants as run
 use Rattle.log_replay.specs.Prelude.{IsAbout, IsFoundIn, IsUnopenable}
 use Rattle.log_replay.specs.declared.opening.MountFail.TheVariants as fail
 use Rattle.run_texts.specs.declared.work_end.WorkEnd.{WorkEnd}
 use Rattle.run_texts.specs.declared.work_end.WorkEnd.TheVariants.{Done, BadLine, NoSuper, BadRow, NotExact, WornOut}
 use Rattle.run_texts.specs.declared.work_end.WorkEnd.TheVariants.{DeviceFault, OutOfMemory, BayFault}
-use Rattle.bstore_top.specs.Prelude.{Position, HasGoodStore, IsGoodStart, HasNoFault, EndsAt, Seen, FailsBefore, FailsToMount, HasCounted, EndsOpened, IsStepDone, RanStep}
+use Rattle.bstore_top.specs.Prelude.{HasGoodStore, IsScriptUnder, IsGoodStart, HasNoFault, end_of_run, Seen, FailsBefore, FailsToMount, HasCounted, EndsOpened, IsStepDone, RanStep}
 use Rattle.run_texts.specs.Prelude.{Output, Printed, has_csum, end_status, step_number, step_text}
 use Rattle.bstore_top.proofs.RunLaws.{clean_of_none}
 
@@ -118,7 +123,7 @@ module _ (dev : List ℕ) (names : Names) (start : HasGoodStore names dev) where
   pub unmounted_ends : (end : WorkEnd) (given : Disk) (now : ℕ) → now ≡ 0 → given.history ≡ Some (record { start = start.contents; log = [] })
       → FailsToMount end given 0 now → EndsInOrder end
   unmounted_ends (Done free) given now none begins fails = absurd fails
-  unmounted_ends (BadLine n) given now none begins fails = absurd fails
+  unmounted_ends (BadLine script n) given now none begins fails = absurd fails
   unmounted_ends NoSuper given now none begins fails = absurd (not_no_super (about_start (IsUnopenable fail.NoSuper) given begins fails))
   unmounted_ends (BadRow key) given now none begins fails =
       absurd (not_bad_row key (about_start (IsUnopenable (fail.BadRow key)) given begins fails))
@@ -130,53 +135,72 @@ module _ (dev : List ℕ) (names : Names) (start : HasGoodStore names dev) where
   unmounted_ends OutOfMemory given now none begins fails = inr refl
   unmounted_ends BayFault given now none begins fails = absurd fails
 
--- ---- a run of a script
+-- ---- a run of scripts
 
-ran_ends : (end : WorkEnd) (p : Position) (now : ℕ) → now ≡ 0 → HasCounted end 0 now → EndsAt end p → EndsInOrder end
-ran_ends (Done free) p now none counted ended = inl refl
-ran_ends (BadLine n) p now none counted ended = absurd ended
-ran_ends NoSuper p now none counted ended = absurd ended
-ran_ends (BadRow key) p now none counted ended = absurd ended
-ran_ends (NotExact unit) p now none counted ended = absurd ended
-ran_ends WornOut p now none counted ended = absurd ended
-ran_ends DeviceFault p now none counted ended = absurd (omega (arith, counted, none))
-ran_ends OutOfMemory p now none counted ended = inr refl
-ran_ends BayFault p now none counted ended = absurd ended
+run_ends : (fail : Option RunFail) (free now : ℕ) → now ≡ 0 → HasCounted (end_of_run fail free) 0 now → EndsInOrder (end_of_run fail free)
+run_ends None free now none counted = inl refl
+run_ends (Some run.Memory) free now none counted = inr refl
+run_ends (Some run.Fault) free now none counted = absurd (omega (arith, counted, none))
+run_ends (Some run.DeviceRead) free now none counted = absurd (omega (arith, counted, none))
 
-module _ (dev script : List ℕ) (bay : BayView) (start : IsGoodStart dev script bay) where
+ran_ends : (end : WorkEnd) (fail : Option RunFail) (free now : ℕ) → now ≡ 0 → HasCounted end 0 now → end ≡ end_of_run fail free → EndsInOrder end
+ran_ends end fail free now none counted is =
+    subst EndsInOrder (sym is) (run_ends fail free now none (subst (λ (e : WorkEnd). HasCounted e 0 now) is counted))
+
+-- of those that are each of a kind, the one at a place is
+item_of : {A : Type 0} (P : A → Type 0) (xs : List A) (i : ℕ) (d : A) → AllByRecursion P xs → i < length xs → P (get_or xs i d)
+item_of P [] i d all within = absurd (omega (arith, within))
+item_of P (x ∷ xs) zero d all within = all.0
+item_of P (x ∷ xs) (suc i) d all within = item_of P xs i d all.1 (omega (arith, within))
+
+-- a source that has failed is among those that are seen
+any_behind : (n count : ℕ) → 0 < count → Any (λ n. 0 < n) (replicate n 0 ++ count ∷ [])
+any_behind n count some = Any-push (λ n. 0 < n) (replicate n 0) count some
+
+module _ (dev : List ℕ) (files : List (List ℕ)) (bay : BayView) (start : IsGoodStart dev files bay) where
+  no_bad_script : (script n : ℕ) (sources : List ℕ) (before now : ℕ) → ¬ HasBadScript script n bay.names files sources before now
+  no_bad_script script n sources before now bad =
+      let good : IsScriptUnder start.names (get_or files script []) = item_of (IsScriptUnder start.names) files script [] start.scripts bad.front.within in
+      let under : finite.get start.names.texts (get_or files script []) ≡ Some bad.bad.text =
+      subst (λ (o : Option Names). IfSome o (λ m. finite.get m.texts (get_or files script []) ≡ Some bad.bad.text)) start.told bad.bad.under in
+      let text : bad.bad.text ≡ good.text = same_Some bad.bad.text good.text (sym under ∙ good.under) in
+      script_has_no_bad good.text good.lines n good.is_script (subst (λ (t : List ℕ). IsBadAt t n) text bad.bad.bad)
+
+  no_fault : (sources : List ℕ) (before now : ℕ) → ¬ Any (λ n. 0 < n) sources → ¬ Rose before now → ¬ HasFault bay.names files sources before now
+  no_fault sources before now none same fault = elim fault.cause [
+    | inl source ↦ none (subst (λ (l : List ℕ). Any (λ n. 0 < n) l) (sym source.sources) (any_behind fault.script source.count source.some))
+    | inr opening ↦ same opening.rose
+  ]
+
   unopened_ends : (end : WorkEnd) (sources : List ℕ) (before now : ℕ) → ¬ Any (λ n. 0 < n) sources → ¬ Rose before now
-      → FailsBefore end bay.names script sources before now → EndsInOrder end
+      → FailsBefore end bay.names files sources before now → EndsInOrder end
   unopened_ends (Done free) sources before now none same fails = absurd fails
-  unopened_ends (BadLine n) sources before now none same fails =
-      let under : finite.get start.names.texts script ≡ Some fails.0.text =
-      subst (λ (o : Option Names). IfSome o (λ m. finite.get m.texts script ≡ Some fails.0.text)) start.told fails.0.under in
-      let text : fails.0.text ≡ start.text = same_Some fails.0.text start.text (sym under ∙ start.under_script) in
-      absurd (script_has_no_bad start.text start.lines n start.is_script (subst (λ (t : List ℕ). IsBadAt t n) text fails.0.bad))
+  unopened_ends (BadLine script n) sources before now none same fails = absurd (no_bad_script script n sources before now fails)
   unopened_ends NoSuper sources before now none same fails = absurd fails
   unopened_ends (BadRow key) sources before now none same fails = absurd fails
   unopened_ends (NotExact unit) sources before now none same fails = absurd fails
   unopened_ends WornOut sources before now none same fails = absurd fails
   unopened_ends DeviceFault sources before now none same fails = absurd fails
   unopened_ends OutOfMemory sources before now none same fails = inr refl
-  unopened_ends BayFault sources before now none same (inl rose) = absurd (none rose)
-  unopened_ends BayFault sources before now none same (inr rose) = absurd (same rose.0)
+  unopened_ends BayFault sources before now none same (inl fault) = absurd (no_fault sources before now none same fault)
+  unopened_ends BayFault sources before now none same (inr opening) = absurd (same opening.rose)
 
   module _ (seed : ℕ) (end : WorkEnd) (seen : Seen) (bay_new : BayView) (before now : ℕ) (old new : Output)
       (none : HasNoFault seen before now old new) where
-    opened_ends : (e : EndsOpened dev script seed end seen bay bay_new before now) → EndsInOrder end
+    opened_ends : (e : EndsOpened dev files seed end seen bay bay_new before now) → EndsInOrder end
     opened_ends e = elim e.works [
-      | inl failed ↦ unmounted_ends dev start.names start.store end e.given e.faults no_fault told failed.0
-      | inr ran ↦ ran_ends end ran.1.last e.faults no_fault ran.0 ran.1.ended
+      | inl failed ↦ unmounted_ends dev start.names start.store end e.given e.faults none_counted told failed.0
+      | inr ran ↦ ran_ends end ran.1.fail (free_count ran.1.last.space) e.faults none_counted ran.0 ran.1.ended
     ]
       where
-        no_fault : e.faults ≡ 0
-        no_fault = subst (λ (o : Option ℕ). IfSome o (λ n. n ≡ 0)) e.are_faults none.device
+        none_counted : e.faults ≡ 0
+        none_counted = subst (λ (o : Option ℕ). IfSome o (λ n. n ≡ 0)) e.are_faults none.device
 
         told : e.given.history ≡ Some (record { start = start.store.contents; log = [] })
         told = told_start dev start.names start.store bay e.given start.told e.handed_out.contents
 
     -- no reply names a bad unit, and the end is in order
-    course_ends : IsStepDone dev script seed end seen bay bay_new before now → (has_csum seen.book.entries ≡ false) × EndsInOrder end
+    course_ends : IsStepDone dev files seed end seen bay bay_new before now → (has_csum seen.book.entries ≡ false) × EndsInOrder end
     course_ends (inl e) = (
       ap (λ (b : Book). has_csum b.entries) e.no_book,
       unopened_ends end seen.source_faults before now none.sources none.bay e.cause,
@@ -192,7 +216,7 @@ module _ (dev script : List ℕ) (bay : BayView) (start : IsGoodStart dev script
 -- the status is that of the end
 pub reported : (end : ℕ) (text : List ℕ) (status : ℕ) (old new : Output) → ¬ Rose old.faults new.faults → (end ≡ 0) ⊎ (end ≡ 5)
     → Printed end text status old new → (status ≡ 0) ⊎ (status ≡ 5)
-reported end text status old new none (inl zero) (inl whole) = inl (whole.0 ∙ zero)
+reported end text status old new none (inl done) (inl whole) = inl (whole.0 ∙ done)
 reported end text status old new none (inr five) (inl whole) = inr (whole.0 ∙ five)
 reported end text status old new none ends (inr front) = absurd (none front.1.rose)
 
@@ -200,10 +224,10 @@ reported end text status old new none ends (inr front) = absurd (none front.1.ro
 pub in_order : (bad : Bool) (end : WorkEnd) → bad ≡ false → EndsInOrder end → (end_status bad end ≡ 0) ⊎ (end_status bad end ≡ 5)
 in_order bad end none ends = subst (λ (b : Bool). (end_status b end ≡ 0) ⊎ (end_status b end ≡ 5)) (sym none) ends
 
-pub good_start : (dev script : List ℕ) (seed status : ℕ) (seen : Seen) (bay_old bay_new : BayView) (before now : ℕ) (old new : Output)
-    → RanStep dev script seed status seen bay_old bay_new before now old new → IsGoodStart dev script bay_old → HasNoFault seen before now old new
+pub good_start : (dev : List ℕ) (files : List (List ℕ)) (seed status : ℕ) (seen : Seen) (bay_old bay_new : BayView) (before now : ℕ) (old new : Output)
+    → RanStep dev files seed status seen bay_old bay_new before now old new → IsGoodStart dev files bay_old → HasNoFault seen before now old new
     → (status ≡ 0) ⊎ (status ≡ 5)
-good_start dev script seed status seen bay_old bay_new before now old new ran start none =
-    let course = course_ends dev script bay_old start seed ran.end seen bay_new before now old new none ran.course in
+good_start dev files seed status seen bay_old bay_new before now old new ran start none =
+    let course = course_ends dev files bay_old start seed ran.end seen bay_new before now old new none ran.course in
     reported (step_number seen.book ran.end) (step_text seen.book ran.end) status old new none.sink
     (in_order (has_csum seen.book.entries) ran.end course.0 course.1) ran.printed

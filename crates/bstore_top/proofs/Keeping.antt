@@ -19,8 +19,7 @@ use Rattle.run_texts.specs.declared.work_end.WorkEnd.{WorkEnd}
 use Rattle.run_texts.specs.Prelude.{has_csum}
 use Rattle.bstore_top.specs.Prelude.{IsDurableFrom, StaysDurable, KeepsStore, EachCrashLeavesPrefix, Seen, FailsToMount, EndsOpened, IsStepDone, empty_book, end_of_mount}
 use Rattle.bstore_top.proofs.WorkLemmas.{mount_fails}
-use Rattle.bstore_top.proofs.RunLaws.{log_empty, clean_of_none, same_start, RanKept, script_legal, script_no_csum, script_durable, script_finished}
-use Rattle.bstore_top.proofs.RunLaws.{script_complete}
+use Rattle.bstore_top.proofs.RunLaws.{log_empty, clean_of_none, same_start, RanKept, run_legal, run_no_csum, run_durable_to, run_finished, run_complete}
 
 -- why nothing was mounted, as the end of the run
 pub mount_failed : (why : MountFail) (end : WorkEnd) (given : Disk) (before now : ℕ) → end ≡ end_of_mount why → FailsMount why given before now
@@ -53,23 +52,22 @@ failed_keeps given disk end book before now fresh cause no_book stays = record {
               (subst (λ (n : ℕ). EachCutStands n still.history objects empty_book) (ap (λ (l : List Event). length l) none) still.cuts);
         }
 
--- ---- a device on which the script was run
+-- ---- a device on which the scripts were run
 
-pub ran_keeps : (seed : ℕ) (lines : List Line) (given disk : Disk) (end : WorkEnd) (book : Book) → IsFresh given → IsLater given disk
-    → RanKept seed lines given end book disk → KeepsStore given end book disk
-ran_keeps seed lines given disk end book fresh later all = record {
-  legal = λ h objects told stands. script_legal seed lines given disk end book all h objects fresh told stands;
-  no_csum = λ h objects told stands. script_no_csum seed lines given disk end book all h objects fresh told stands;
+pub ran_keeps : (seed : ℕ) (scripts : List (List Line)) (given disk : Disk) (end : WorkEnd) (book : Book) → IsFresh given → IsLater given disk
+    → RanKept seed scripts given end book disk → KeepsStore given end book disk
+ran_keeps seed scripts given disk end book fresh later all = record {
+  legal = λ h objects told stands. run_legal seed scripts given disk end book all h objects fresh told stands;
+  no_csum = λ h objects told stands. run_no_csum seed scripts given disk end book all h objects fresh told stands;
   durable = durable;
   at_end = λ free h objects is told stands.
-      script_finished seed free lines given disk h objects book fresh told later stands
-      (subst (λ (e : WorkEnd). RanKept seed lines given e book disk) is all);
-  complete = λ free is. script_complete seed free lines given disk book (subst (λ (e : WorkEnd). RanKept seed lines given e book disk) is all);
+      run_finished seed free scripts given disk book (subst (λ (e : WorkEnd). RanKept seed scripts given e book disk) is all) h objects fresh told stands;
+  complete = λ free is. run_complete seed free scripts given disk book (subst (λ (e : WorkEnd). RanKept seed scripts given e book disk) is all);
 }
   where
     durable : StaysDurable given book disk
     durable h objects told stands =
-        let after : IsDurable 0 objects all.ran.closed disk = script_durable seed lines given disk end book all h objects fresh told stands in
+        let after : IsDurable 0 objects all.ran.closed disk = run_durable_to seed scripts given disk end book all h objects fresh told stands in
         record {
           history = after.history;
           told = after.told;
@@ -80,10 +78,10 @@ ran_keeps seed lines given disk end book fresh later all = record {
 -- ---- the device that comes back
 
 -- the device that a bay gave began with what the bay has under its name
-opened_durable : (dev script : List ℕ) (seed : ℕ) (end : WorkEnd) (seen : Seen) (old new : BayView) (before now : ℕ)
-    (e : EndsOpened dev script seed end seen old new before now)
-    → EachCrashLeavesPrefix (Step dev seed script) old (Some e.disk) seen.book
-opened_durable dev script seed end seen old new before now e = of_names old.names e.handed_out.contents
+opened_durable : (dev : List ℕ) (files : List (List ℕ)) (seed : ℕ) (end : WorkEnd) (seen : Seen) (old new : BayView) (before now : ℕ)
+    (e : EndsOpened dev files seed end seen old new before now)
+    → EachCrashLeavesPrefix (Step dev seed files) old (Some e.disk) seen.book
+opened_durable dev files seed end seen old new before now e = of_names old.names e.handed_out.contents
   where
     of_names : (names : Option Names) → IfSome names (λ n. StartsWith e.given (finite.get n.devices dev))
         → IfSome names (λ n. (contents : List ℕ) (objects : Objects) → finite.get n.devices dev ≡ Some contents → StandsFor contents objects
@@ -93,10 +91,10 @@ opened_durable dev script seed end seen old new before now e = of_names old.name
         let told : e.given.history ≡ Some (record { start = contents; log = [] }) = subst (StartsWith e.given) is begins in
         e.keeps.durable (record { start = contents; log = [] }) objects told stands
 
-pub done_durable : (dev script : List ℕ) (seed : ℕ) (end : WorkEnd) (seen : Seen) (old new : BayView) (before now : ℕ)
-    → IsStepDone dev script seed end seen old new before now → EachCrashLeavesPrefix (Step dev seed script) old seen.disk seen.book
-done_durable dev script seed end seen old new before now (inl e) =
-    subst (λ (d : Option Disk). EachCrashLeavesPrefix (Step dev seed script) old d seen.book) (sym e.no_disk) tt
-done_durable dev script seed end seen old new before now (inr e) =
-    subst (λ (d : Option Disk). EachCrashLeavesPrefix (Step dev seed script) old d seen.book) (sym e.is_disk)
-    (opened_durable dev script seed end seen old new before now e)
+pub done_durable : (dev : List ℕ) (files : List (List ℕ)) (seed : ℕ) (end : WorkEnd) (seen : Seen) (old new : BayView) (before now : ℕ)
+    → IsStepDone dev files seed end seen old new before now → EachCrashLeavesPrefix (Step dev seed files) old seen.disk seen.book
+done_durable dev files seed end seen old new before now (inl e) =
+    subst (λ (d : Option Disk). EachCrashLeavesPrefix (Step dev seed files) old d seen.book) (sym e.no_disk) tt
+done_durable dev files seed end seen old new before now (inr e) =
+    subst (λ (d : Option Disk). EachCrashLeavesPrefix (Step dev seed files) old d seen.book) (sym e.is_disk)
+    (opened_durable dev files seed end seen old new before now e)

@@ -1,6 +1,7 @@
-pub mod DrawLemmas
-pub mod RunLemmas
 pub mod FreeLemmas
+pub mod Scripts
+pub mod Acked
+pub mod Waits
 pub mod RunLaws
 pub mod Demand
 pub mod WorkLemmas

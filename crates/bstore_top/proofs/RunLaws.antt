@@ -1,6 +1,6 @@
--- What holds at the end of a run of a script: the run is one of the kernel, so what is known of these holds of it.
+-- What holds at the end of a run of scripts: the run is one of the kernel, so what is known of these holds of it.
 use Rattle.std.proofs.Common.{◌≡◌, ℕ, suc, ◌+◌, ◌<◌, ◌≤◌, Bool, true, false, is_some, slice_get, length-append, List, [], ◌∷◌, ◌++◌, length}
-use Rattle.std.proofs.Common.{Option, Some, None, refl, sym, ap, subst, ◌∙◌, arith, inl, inr, append-nil}
+use Rattle.std.proofs.Common.{Option, Some, None, map, refl, sym, ap, subst, ◌∙◌, arith, inl, inr, append-nil}
 use Rattle.std.specs.Prelude.{◌||◌, IfSome, All}
 use Rattle.std.specs.List.{AllByRecursion}
 use Rattle.std.proofs.lemmas.List.Elements.{All-head}
@@ -20,9 +20,12 @@ use Rattle.object_model.specs.declared.book.Book.{Book}
 use Rattle.store_image.specs.Prelude.{IsShape, StandsFor}
 use Rattle.unit_allocator.specs.Prelude.{Space}
 use Rattle.script_text.specs.declared.line.Line.{Line}
+use Rattle.client_runs.specs.Prelude.{Ask, asks_of, ready_list, client_calls, Position, at_position, calls_at, IsDrawnRun, EndsRun, RunsUpTo}
+use Rattle.client_runs.specs.declared.run_fail.RunFail.{RunFail}
+use Rattle.client_runs.specs.declared.run_fail.RunFail.TheVariants as run
 use Rattle.store_steps.specs.declared.step.Step.{Step}
 use Rattle.store_steps.specs.declared.step.Step.TheVariants.{Reap}
-use Rattle.store_steps.specs.Prelude.{State, intents, Found, is_drained, is_empty, Call, stepping, Calls, IsRun}
+use Rattle.store_steps.specs.Prelude.{State, intents, Found, free_count, is_drained, is_empty, Call, stepping, Calls, IsRun}
 use Rattle.store_steps.specs.declared.context.Context.{Context}
 use Rattle.store_facts.specs.Prelude.{AcksAre, IsKept}
 use Rattle.store_facts.proofs.Prelude.{none_ready, idle_pending, idle_acked, kept_run}
@@ -34,14 +37,15 @@ use Rattle.crash_facts.specs.Store.{KnownOfStore, IsDurable, KeepsDurable}
 use Rattle.crash_facts.proofs.Answered.{durable_legal, durable_sums}
 use Rattle.crash_facts.proofs.Runs.{run_durable, drained_stands, drained_exact}
 use Rattle.read_facts.specs.Prelude.{IsNoCsum, IsLegalButBytes}
-use Rattle.log_replay.specs.Prelude.{Told, GoesOn, IsLater}
+use Rattle.log_replay.specs.Prelude.{Told, GoesOn}
 use Rattle.mount_replay.specs.Mounting.{IsOpenedOn, WasOpened}
 use Rattle.run_texts.specs.declared.work_end.WorkEnd.{WorkEnd}
 use Rattle.run_texts.specs.declared.work_end.WorkEnd.TheVariants.{Done, BadLine, NoSuper, BadRow, NotExact, WornOut}
 use Rattle.run_texts.specs.declared.work_end.WorkEnd.TheVariants.{DeviceFault, OutOfMemory, BayFault}
-use Rattle.bstore_top.specs.Prelude.{ready_list, Position, IsDrawnRun, Seen, AskedUpTo, RunsScript, WorksOn, EndsOpened, IsStepDone, RanStep, HasFree, IsFinished, IsComplete, KeepsStore, FinishesOn, Succeeded}
+use Rattle.bstore_top.specs.Prelude.{end_of_run, Seen, RunsScripts, WorksOn, EndsOpened, IsStepDone, RanStep, HasFree, IsFinished, IsComplete, KeepsStore, FinishesOn, AreAllAsked, Succeeded}
 use Rattle.run_texts.specs.Prelude.{Output, TookAll, Printed, is_csum, has_csum, end_status, step_number, step_text}
 use Rattle.bstore_top.proofs.FreeLemmas.{drained_free}
+use Rattle.bstore_top.proofs.Acked.{none_both, all_asked}
 
 -- ---- replies that name no bad unit
 
@@ -63,17 +67,48 @@ no_csum (e ∷ es) none = ap (λ (b : Bool). b || has_csum es) (no_csum_answer e
 
 -- ---- runs
 
--- drawn calls are a run of the kernel
-pub drawn_run : (p : Position) (calls : List Call) (q : Position) → IsDrawnRun p calls q → IsRun p.state p.disk calls q.state q.disk
-drawn_run p [] q run = (ap (λ (z : Position). z.state) run, ap (λ (z : Position). z.disk) run)
-drawn_run p (call ∷ calls) q run = (run.0.state, (run.0.disk, (run.1.0.called, (run.1.0.sound, drawn_run run.0 calls q run.1.1))))
-
 -- a run behind another
 pub joined_run : (xs ys : List Call) (s t u : State) (d e f : Disk) → IsRun s d xs t e → IsRun t e ys u f → IsRun s d (xs ++ ys) u f
 joined_run [] ys s t u d e f first second =
     subst (λ (z : State). IsRun z d ys u f) first.0 (subst (λ (z : Disk). IsRun t z ys u f) first.1 second)
 joined_run (x ∷ xs) ys s t u d e f first second =
     (first.0, (first.1.0, (first.1.1.0, (first.1.1.1.0, joined_run xs ys first.0 t u first.1.0 e f first.1.1.1.1 second))))
+
+-- drawn calls are a run of the kernel
+pub drawn_run : (p : Position) (calls : List Call) (q : Position) → IsDrawnRun p calls q → IsRun p.state p.disk calls q.state q.disk
+drawn_run p [] q run = (ap (λ (z : Position). z.state) run, ap (λ (z : Position). z.disk) run)
+drawn_run p (call ∷ calls) q run = (run.0.state, (run.0.disk, (run.1.0.called, (run.1.0.sound, drawn_run run.0 calls q run.1.1))))
+
+-- where nothing comes behind a position, no call does
+ends_there : (p q : Position) → q ≡ p → (calls : List Call) × IsRun p.state p.disk calls q.state q.disk
+ends_there p q same = ([], (ap (λ (z : Position). z.state) same, ap (λ (z : Position). z.disk) same))
+
+-- behind where the clients were come the calls that were drawn since a read was lost
+ends_run : (fail : Option RunFail) (p q : Position) → EndsRun fail p q → (calls : List Call) × IsRun p.state p.disk calls q.state q.disk
+ends_run None p q ended = ends_there p q ended.0
+ends_run (Some run.Fault) p q ended = ends_there p q ended.0
+ends_run (Some run.Memory) p q ended = ends_there p q ended.0
+ends_run (Some run.DeviceRead) p q ended =
+    let calls : List Call = ended.leads.calls in
+    let behind : IsRun ended.resumed.state ended.resumed.disk calls q.state q.disk = drawn_run ended.resumed calls q ended.leads.run in (
+      calls,
+      subst (λ (z : State). IsRun z p.disk calls q.state q.disk) ended.lost.state
+          (subst (λ (z : Disk). IsRun ended.resumed.state z calls q.state q.disk) ended.lost.disk behind),
+    )
+
+-- the clients' run is a run of the kernel, to its last state
+pub clients_run : (fail : Option RunFail) (x : ℕ) (scripts : List (List Line)) (s : State) (d : Disk) (s' : State) (d' : Disk)
+    → RunsUpTo fail x scripts s d s' d' → (calls : List Call) × IsRun s d calls s' d'
+clients_run fail x scripts s d s' d' ran =
+    let front : List Call = ran.leads.calls in
+    let behind = ends_run fail ran.reached ran.last ran.ended in
+    let last : IsRun ran.reached.state ran.reached.disk behind.0 s' d' =
+    subst (λ (z : State). IsRun ran.reached.state ran.reached.disk behind.0 z d') ran.state
+    (subst (λ (z : Disk). IsRun ran.reached.state ran.reached.disk behind.0 ran.last.state z) ran.disk behind.1) in (
+      front ++ behind.0,
+      joined_run front behind.0 s ran.reached.state s' d ran.reached.disk d'
+          (drawn_run (at_position x (map asks_of scripts) s d) front ran.reached ran.leads.run) last,
+    )
 
 -- ---- opened
 
@@ -131,50 +166,81 @@ module _ (given : Disk) (h : History) (fresh : IsFresh given) (told : given.hist
         stands = subst (λ (bytes : List ℕ). StandsFor bytes objects) (sym opened_by.by.same_start) stands;
       })
 
--- ---- a run of a script, however it ended
+-- ---- a run of scripts, however it ended
 
 -- the run, with what the mounted kernel keeps
-pub record RanKept (seed : ℕ) (lines : List Line) (given : Disk) (end : WorkEnd) (book : Book) (disk : Disk) : Type 0 where
-  pub ran : RunsScript seed lines given end book disk
+pub record RanKept (seed : ℕ) (scripts : List (List Line)) (given : Disk) (end : WorkEnd) (book : Book) (disk : Disk) : Type 0 where
+  pub ran : RunsScripts seed scripts given end book disk
   pub kept : IsKept ran.first ran.start
   pub durable : KeepsDurable ran.first ran.start
 
-module _ (seed : ℕ) (lines : List Line) (given disk : Disk) (end : WorkEnd) (book : Book) (all : RanKept seed lines given end book disk) where
-  abbrev ran : RunsScript seed lines given end book disk
+module _ (seed : ℕ) (scripts : List (List Line)) (given disk : Disk) (end : WorkEnd) (book : Book)
+    (all : RanKept seed scripts given end book disk) where
+  abbrev ran : RunsScripts seed scripts given end book disk
   ran = all.ran
 
-  -- up to its last position
-  script_run : IsRun ran.first ran.start ran.calls ran.last.state ran.last.disk
-  script_run = drawn_run _ ran.calls ran.last ran.drawn
+  -- up to its last state
+  up_to_last : (calls : List Call) × IsRun ran.first ran.start calls ran.last ran.left
+  up_to_last = clients_run ran.fail seed scripts ran.first ran.start ran.last ran.left ran.ran
 
   -- with the ends that unmounting takes
-  whole_run : IsRun ran.first ran.start (ran.calls ++ ran.reaped.calls) ran.closed disk
-  whole_run = joined_run ran.calls ran.reaped.calls ran.first ran.last.state ran.closed ran.start ran.last.disk disk script_run ran.reaped.run
+  whole_run : IsRun ran.first ran.start (up_to_last.0 ++ ran.reaped.calls) ran.closed disk
+  whole_run = joined_run up_to_last.0 ran.reaped.calls ran.first ran.last ran.closed ran.start ran.left disk up_to_last.1 ran.reaped.run
 
   module _ (h : History) (objects : Objects) (fresh : IsFresh given) (told : given.history ≡ Some h) (stands : StandsFor h.start objects) where
     first_durable : IsDurable 0 objects ran.first ran.start
     first_durable = start_durable given h fresh told ran.found ran.space ran.start ran.first objects ran.mounted all.durable stands
 
-    pub script_durable : IsDurable 0 objects ran.closed disk
-    script_durable = run_durable 0 objects (ran.calls ++ ran.reaped.calls) ran.first ran.closed ran.start disk plans_keep all.kept first_durable whole_run
+    pub run_durable_to : IsDurable 0 objects ran.closed disk
+    run_durable_to =
+        run_durable 0 objects (up_to_last.0 ++ ran.reaped.calls) ran.first ran.closed ran.start disk plans_keep all.kept first_durable whole_run
 
-    last_durable : IsDurable 0 objects ran.last.state ran.last.disk
-    last_durable = run_durable 0 objects ran.calls ran.first ran.last.state ran.start ran.last.disk plans_keep all.kept first_durable script_run
+    last_durable : IsDurable 0 objects ran.last ran.left
+    last_durable = run_durable 0 objects up_to_last.0 ran.first ran.last ran.start ran.left plans_keep all.kept first_durable up_to_last.1
 
     -- for these objects the book is legal
-    pub script_legal : IsLegal objects book
-    script_legal = subst (IsLegal objects) (sym ran.book_is) (durable_legal 0 objects ran.closed disk script_durable)
+    pub run_legal : IsLegal objects book
+    run_legal = subst (IsLegal objects) (sym ran.book_is) (durable_legal 0 objects ran.closed disk run_durable_to)
 
     -- and none of its replies names a bad unit
-    pub script_no_csum : has_csum book.entries ≡ false
-    script_no_csum =
-        ap (λ (b : Book). has_csum b.entries) ran.book_is ∙ no_csum ran.closed.book.entries (durable_sums 0 objects ran.closed disk script_durable)
+    pub run_no_csum : has_csum book.entries ≡ false
+    run_no_csum =
+        ap (λ (b : Book). has_csum b.entries) ran.book_is ∙ no_csum ran.closed.book.entries (durable_sums 0 objects ran.closed disk run_durable_to)
 
 -- ---- a run that did all that there was to do
 
-drained_of : (depth : ℕ) (s : State) → ready_list depth s ≡ [] → is_drained depth s ≡ true
+-- where a run ends well nothing failed, and so many units are free
+ended_well : (fail : Option RunFail) (free n : ℕ) → Done free ≡ end_of_run fail n → (fail ≡ None) × (free ≡ n)
+ended_well None free n is = (refl, cc)
+ended_well (Some run.Memory) free n is = absurd cc
+ended_well (Some run.Fault) free n is = absurd cc
+ended_well (Some run.DeviceRead) free n is = absurd cc
+
+-- No client has a call, no step is ready, and no submission has ended badly.
+record IsThrough (clients : List (List Ask)) (s : State) (d : Disk) : Type 0 where
+  pub no_call : client_calls 0 clients s.book ≡ []
+  pub drained : is_drained d.depth s ≡ true
+  pub up : s.down ≡ None
+
+no_step : (steps : List Step) → map stepping steps ≡ [] → is_empty steps ≡ true
+no_step [] none = refl
+no_step (step ∷ steps) none = absurd cc
+
+nothing_to_draw : (p : Position) → calls_at p ≡ [] → p.state.down ≡ None → IsThrough p.clients p.state p.disk
 unfolding ready_list
-drained_of depth s none = ap (λ (l : List Step). is_empty l) none
+nothing_to_draw p none up =
+    let parts = none_both (client_calls 0 p.clients p.state.book) (map stepping (ready_list p.disk.depth p.state)) none in
+    record { no_call = parts.0; drained = no_step (ready_list p.disk.depth p.state) parts.1; up = up }
+
+-- so it is behind a run in which nothing failed
+run_through : (fail : Option RunFail) (x : ℕ) (scripts : List (List Line)) (s : State) (d : Disk) (s' : State) (d' : Disk)
+    → (ran : RunsUpTo fail x scripts s d s' d') → fail ≡ None → IsThrough ran.reached.clients s' d'
+run_through fail x scripts s d s' d' ran none =
+    let ended : EndsRun None ran.reached ran.last = subst (λ (f : Option RunFail). EndsRun f ran.reached ran.last) none ran.ended in
+    let through : IsThrough ran.reached.clients ran.reached.state ran.reached.disk = nothing_to_draw ran.reached ended.1.0 ended.1.1 in
+    let state : ran.reached.state ≡ s' = ap (λ (z : Position). z.state) (sym ended.0) ∙ ran.state in
+    let disk : ran.reached.disk ≡ d' = ap (λ (z : Position). z.disk) (sym ended.0) ∙ ran.disk in
+    subst (λ (z : State). IsThrough ran.reached.clients z d') state (subst (λ (z : Disk). IsThrough ran.reached.clients ran.reached.state z) disk through)
 
 -- a drained kernel takes no end
 pub no_reap : (calls : List Call) (s s' : State) (d d' : Disk) → is_drained d.depth s ≡ true → All (λ call. call ≡ stepping Reap) calls
@@ -186,33 +252,6 @@ no_reap (call ∷ calls) s s' d d' drained reaps run =
     subst (λ (c : Call). Calls c s d run.0 run.1.0) (All-head (λ c. c ≡ stepping Reap) call calls reaps) run.1.1.0 in
     let none : false ≡ true = sym (none_ready d.depth s drained).1.0 ∙ made.0 in
     absurd cc
-
-pub script_finished : (seed free : ℕ) (lines : List Line) (given disk : Disk) (h : History) (objects : Objects) (book : Book) → IsFresh given
-    → given.history ≡ Some h → IsLater given disk → StandsFor h.start objects → RanKept seed lines given (Done free) book disk
-    → (h' : History) × (disk.history ≡ Some h') × IsFinished objects free book h'
-script_finished seed free lines given disk h objects book fresh told later stands all =
-    let ran : RunsScript seed lines given (Done free) book disk = all.ran in
-    let s : State = ran.last.state in
-    let d : Disk = ran.last.disk in
-    let up : s.down ≡ None = ran.ended.2 in
-    let drained : is_drained d.depth s ≡ true = drained_of d.depth s ran.ended.1 in
-    let kept : IsKept s d = kept_run ran.calls ran.first s ran.start d plans_keep all.kept (script_run seed lines given disk (Done free) book all) in
-    let after : IsDurable 0 objects s d = last_durable seed lines given disk (Done free) book all h objects fresh told stands in
-    let known : KnownOfStore 0 objects s d after.history = after.up up in
-    let same = no_reap ran.reaped.calls s ran.closed d disk drained ran.reaped.reaps ran.reaped.run in
-    let book_is : s.book ≡ book = sym (ran.book_is ∙ ap (λ (z : State). z.book) same.0) in
-    let told_after : disk.history ≡ Some after.history = ap (λ (z : Disk). z.history) same.1 ∙ after.told in
-    let contents : List ℕ = last after.history.start after.history.log in (
-      after.history,
-      told_after,
-      record {
-        stands = subst (λ (b : Book). StandsFor contents (replay objects (accepted b.entries))) book_is
-            (drained_stands 0 objects s d after.history kept up drained known);
-        clean = drained_clean 0 s d after.history kept known.units up drained;
-        exact = drained_exact 0 objects s d after.history kept up drained known;
-        has_free = subst (HasFree contents) (sym ran.ended.3) (drained_free 0 s d after.history kept known.units up drained);
-      },
-    )
 
 -- all that was accepted is committed and acknowledged
 
@@ -235,18 +274,66 @@ order_complete s d kept known up drained =
       acked = acked_below s.acked s.book.commits kept.always.book.acks (omega (arith, idle_acked s d kept up drained));
     }
 
-pub script_complete : (seed free : ℕ) (lines : List Line) (given disk : Disk) (book : Book) → RanKept seed lines given (Done free) book disk → IsComplete book
-script_complete seed free lines given disk book all =
-    let ran : RunsScript seed lines given (Done free) book disk = all.ran in
-    let s : State = ran.last.state in
-    let d : Disk = ran.last.disk in
-    let drained : is_drained d.depth s ≡ true = drained_of d.depth s ran.ended.1 in
-    let run : IsRun ran.first ran.start ran.calls s d = script_run seed lines given disk (Done free) book all in
-    let kept : IsKept s d = kept_run ran.calls ran.first s ran.start d plans_keep all.kept run in
-    let first : IsInOrder ran.first = subst IsInOrder (sym ran.mounted.state) (order_opened ran.found ran.space ran.mounted.events) in
-    let known : IsInOrder s = order_run ran.calls ran.first s ran.start d plans_keep all.kept first run in
-    let same = no_reap ran.reaped.calls s ran.closed d disk drained ran.reaped.reaps ran.reaped.run in
-    subst IsComplete (sym (ran.book_is ∙ ap (λ (z : State). z.book) same.0)) (order_complete s d kept known ran.ended.2 drained)
+-- ---- the end of such a run
+
+module _ (seed free : ℕ) (scripts : List (List Line)) (given disk : Disk) (book : Book) (ran : RunsScripts seed scripts given (Done free) book disk) where
+  well : (ran.fail ≡ None) × (free ≡ free_count ran.last.space)
+  well = ended_well ran.fail free (free_count ran.last.space) ran.ended
+
+  through : IsThrough ran.ran.reached.clients ran.last ran.left
+  through = run_through ran.fail seed scripts ran.first ran.start ran.last ran.left ran.ran well.0
+
+  -- unmounting finds nothing in flight
+  same_end : (ran.closed ≡ ran.last) × (disk ≡ ran.left)
+  same_end = no_reap ran.reaped.calls ran.last ran.closed ran.left disk through.drained ran.reaped.reaps ran.reaped.run
+
+  book_at_end : book ≡ ran.last.book
+  book_at_end = ran.book_is ∙ ap (λ (z : State). z.book) same_end.0
+
+  -- no client has a command left
+  run_all_asked : IsComplete book → AreAllAsked scripts book.entries
+  run_all_asked complete = all_asked scripts book ran.ran.reached.clients complete
+      (subst (λ (b : Book). client_calls 0 ran.ran.reached.clients b ≡ []) (sym book_at_end) through.no_call) ran.entries
+
+module _ (seed free : ℕ) (scripts : List (List Line)) (given disk : Disk) (book : Book) (all : RanKept seed scripts given (Done free) book disk) where
+  abbrev done : RunsScripts seed scripts given (Done free) book disk
+  done = all.ran
+
+  idle : IsThrough done.ran.reached.clients done.last done.left
+  idle = through seed free scripts given disk book done
+
+  up_to_end : (calls : List Call) × IsRun done.first done.start calls done.last done.left
+  up_to_end = up_to_last seed scripts given disk (Done free) book all
+
+  kept_to_end : IsKept done.last done.left
+  kept_to_end = kept_run up_to_end.0 done.first done.last done.start done.left plans_keep all.kept up_to_end.1
+
+  pub run_complete : IsComplete book
+  run_complete =
+      let first : IsInOrder done.first = subst IsInOrder (sym done.mounted.state) (order_opened done.found done.space done.mounted.events) in
+      let known : IsInOrder done.last = order_run up_to_end.0 done.first done.last done.start done.left plans_keep all.kept first up_to_end.1 in
+      subst IsComplete (sym (book_at_end seed free scripts given disk book done))
+      (order_complete done.last done.left kept_to_end known idle.up idle.drained)
+
+  pub run_finished : (h : History) (objects : Objects) → IsFresh given → given.history ≡ Some h → StandsFor h.start objects
+      → (h' : History) × (disk.history ≡ Some h') × IsFinished objects free book h'
+  run_finished h objects fresh told stands =
+      let s : State = done.last in
+      let d : Disk = done.left in
+      let after : IsDurable 0 objects s d = last_durable seed scripts given disk (Done free) book all h objects fresh told stands in
+      let known : KnownOfStore 0 objects s d after.history = after.up idle.up in
+      let contents : List ℕ = last after.history.start after.history.log in (
+        after.history,
+        ap (λ (z : Disk). z.history) (same_end seed free scripts given disk book done).1 ∙ after.told,
+        record {
+          stands = subst (λ (b : Book). StandsFor contents (replay objects (accepted b.entries))) (sym (book_at_end seed free scripts given disk book done))
+              (drained_stands 0 objects s d after.history kept_to_end idle.up idle.drained known);
+          clean = drained_clean 0 s d after.history kept_to_end known.units idle.up idle.drained;
+          exact = drained_exact 0 objects s d after.history kept_to_end idle.up idle.drained known;
+          has_free = subst (HasFree contents) (sym (well seed free scripts given disk book done).1)
+              (drained_free 0 s d after.history kept_to_end known.units idle.up idle.drained);
+        },
+      )
 
 -- ---- a run that returns 0
 
@@ -264,7 +351,7 @@ pub record EndsWell (bad : Bool) (end : WorkEnd) : Type 0 where
 pub ends_well : (bad : Bool) (end : WorkEnd) → 0 ≡ end_status bad end → EndsWell bad end
 ends_well true end is = absurd (omega (arith, is))
 ends_well false (Done free) is = record { free = free; is = refl; none_bad = refl }
-ends_well false (BadLine n) is = absurd (omega (arith, is))
+ends_well false (BadLine script n) is = absurd (omega (arith, is))
 ends_well false NoSuper is = absurd (omega (arith, is))
 ends_well false (BadRow key) is = absurd (omega (arith, is))
 ends_well false (NotExact unit) is = absurd (omega (arith, is))
@@ -287,14 +374,14 @@ finishes dev free given disk book (Some n) keeps begins = λ contents objects is
       finished = done.2;
     }
 
-module _ (dev script : List ℕ) (seed : ℕ) (seen : Seen) (bay_old bay_new : BayView) (before now : ℕ) (old new : Output) (free : ℕ)
+module _ (dev : List ℕ) (files : List (List ℕ)) (seed : ℕ) (seen : Seen) (bay_old bay_new : BayView) (before now : ℕ) (old new : Output) (free : ℕ)
     (no_bad : has_csum seen.book.entries ≡ false) (printed : TookAll (step_text seen.book (Done free)) old new) where
-  ran_well : (e : EndsOpened dev script seed (Done free) seen bay_old bay_new before now) → RunsScript seed e.lines e.given (Done free) seen.book e.disk
-      → Succeeded dev script seed seen bay_old old new
+  ran_well : (e : EndsOpened dev files seed (Done free) seen bay_old bay_new before now) → RunsScripts seed e.scripts e.given (Done free) seen.book e.disk
+      → Succeeded dev files seed seen bay_old old new
   ran_well e ran = record {
+    scripts = e.scripts;
     lines = e.lines;
-    has_script = e.has_script;
-    all = subst (AskedUpTo e.lines seen.book.entries) ran.ended.0 ran.entries;
+    all = run_all_asked seed free e.scripts e.given e.disk seen.book ran (e.keeps.complete free refl);
     complete = e.keeps.complete free refl;
     no_csum = no_bad;
     free = free;
@@ -306,20 +393,20 @@ module _ (dev script : List ℕ) (seed : ℕ) (seen : Seen) (bay_old bay_new : B
     finished = finishes dev free e.given e.disk seen.book bay_old.names e.keeps e.handed_out.contents;
   }
 
-  worked_well : (e : EndsOpened dev script seed (Done free) seen bay_old bay_new before now) → WorksOn seed e.lines e.given 0 (Done free) seen.book e.disk e.faults
-      → Succeeded dev script seed seen bay_old old new
+  worked_well : (e : EndsOpened dev files seed (Done free) seen bay_old bay_new before now) → WorksOn seed e.scripts e.given 0 (Done free) seen.book e.disk e.faults
+      → Succeeded dev files seed seen bay_old old new
   worked_well e (inl failed) = absurd failed.0
   worked_well e (inr ran) = ran_well e ran.1
 
-  done_well : IsStepDone dev script seed (Done free) seen bay_old bay_new before now → Succeeded dev script seed seen bay_old old new
+  done_well : IsStepDone dev files seed (Done free) seen bay_old bay_new before now → Succeeded dev files seed seen bay_old old new
   done_well (inl e) = absurd e.cause
   done_well (inr e) = worked_well e e.works
 
-pub step_succeeded : (dev script : List ℕ) (seed : ℕ) (seen : Seen) (bay_old bay_new : BayView) (before now : ℕ) (old new : Output)
-    → RanStep dev script seed 0 seen bay_old bay_new before now old new → Succeeded dev script seed seen bay_old old new
-step_succeeded dev script seed seen bay_old bay_new before now old new ran =
+pub step_succeeded : (dev : List ℕ) (files : List (List ℕ)) (seed : ℕ) (seen : Seen) (bay_old bay_new : BayView) (before now : ℕ) (old new : Output)
+    → RanStep dev files seed 0 seen bay_old bay_new before now old new → Succeeded dev files seed seen bay_old old new
+step_succeeded dev files seed seen bay_old bay_new before now old new ran =
     let took = printed_well (step_number seen.book ran.end) (step_text seen.book ran.end) old new ran.printed in
     let well : EndsWell (has_csum seen.book.entries) ran.end = ends_well (has_csum seen.book.entries) ran.end took.0 in
-    done_well dev script seed seen bay_old bay_new before now old new well.free well.none_bad
+    done_well dev files seed seen bay_old bay_new before now old new well.free well.none_bad
     (subst (λ (e : WorkEnd). TookAll (step_text seen.book e) old new) well.is took.1)
-    (subst (λ (e : WorkEnd). IsStepDone dev script seed e seen bay_old bay_new before now) well.is ran.course)
+    (subst (λ (e : WorkEnd). IsStepDone dev files seed e seen bay_old bay_new before now) well.is ran.course)

@@ -1,6 +1,7 @@
 -- Starts of `step` and of `dump` that nothing stands against.
 use Rattle.std.specs.Prelude.{◌≡◌, ℕ, ◌<◌, List, Any, Some, IfSome}
 use Rattle.std.specs.FinMap as map
+use Rattle.std.specs.List.{AllByRecursion}
 use Rattle.block_device.specs.Prelude.{Rose}
 use Rattle.end_points.specs.Bay.{Names, BayView}
 use Rattle.object_model.specs.Prelude.{Objects}
@@ -25,14 +26,18 @@ pub record HasGoodStore (names : Names) (dev : List ℕ) : Type 0 where
   pub exact : IsExactAs (width_of found.sup) found.rows found.rows
   pub numbers : HasLowNumbers found
 
--- The bay tells its names. Under the script's there is a script, and under the device's such a store.
-pub record IsGoodStart (dev script : List ℕ) (bay : BayView) : Type 0 where
-  pub names : Names
-  pub told : bay.names ≡ Some names
+-- there is a script under this name
+pub record IsScriptUnder (names : Names) (file : List ℕ) : Type 0 where
   pub text : List ℕ
-  pub under_script : map.get names.texts script ≡ Some text
+  pub under : map.get names.texts file ≡ Some text
   pub lines : List Line
   pub is_script : IsScript text lines
+
+-- The bay tells its names. Under each script's there is a script, and under the device's such a store.
+pub record IsGoodStart (dev : List ℕ) (files : List (List ℕ)) (bay : BayView) : Type 0 where
+  pub names : Names
+  pub told : bay.names ≡ Some names
+  pub scripts : AllByRecursion (IsScriptUnder names) files
   pub store : HasGoodStore names dev
 
 -- such a start of a command that reads no script

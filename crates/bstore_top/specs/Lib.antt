@@ -1,11 +1,10 @@
-pub mod Choice
 pub mod Standing
 pub mod Keeping
+pub mod Waiting
 pub mod StepRun
 pub mod DumpRun
 pub mod Dumping
 pub mod Finished
 pub mod GoodStart
-pub mod Stepping
 pub mod Run
 pub mod Prelude

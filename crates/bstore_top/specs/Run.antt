@@ -41,7 +41,7 @@ pub record RanMkfs (half units : ℕ) (status : ℕ) (dev_faults : Option ℕ) (
 -- a run of a command line
 abbrev pub Ran : CommandLine → ℕ → Seen → BayView → BayView → ℕ → ℕ → Output → Output → Type 0
 Ran (Mkfs dev half units) status seen bay_old bay_new before now old new = RanMkfs half units status seen.dev_faults before now old new
-Ran (Step dev seed script) status seen bay_old bay_new before now old new = RanStep dev script seed status seen bay_old bay_new before now old new
+Ran (Step dev seed scripts) status seen bay_old bay_new before now old new = RanStep dev scripts seed status seen bay_old bay_new before now old new
 Ran (Dump dev) status seen bay_old bay_new before now old new = RanDump dev status seen bay_old bay_new before now old new
 
 -- the disk is a later state of the device that the bay gave under this name
@@ -54,7 +54,7 @@ pub record IsOfGiven (name : List ℕ) (how : How) (old : BayView) (disk : Disk)
 abbrev pub ComesBack : CommandLine → BayView → Option Disk → BayView → Type 0
 ComesBack line old None new = new ≡ old
 ComesBack (Mkfs name half units) old (Some disk) new = IsOfGiven name (Make units) old disk new
-ComesBack (Step name seed script) old (Some disk) new = IsOfGiven name Plain old disk new
+ComesBack (Step name seed scripts) old (Some disk) new = IsOfGiven name Plain old disk new
 ComesBack (Dump name) old (Some disk) new = IsOfGiven name Plain old disk new
 
 -- of a run with these words: the bay gave no device, or the one that comes back, for the command line that they spell
@@ -70,14 +70,14 @@ CrashesLeavePrefix name bay disk book = IfSome bay.names (λ names. (contents : 
 
 -- so it is of the device that `step` or `dump` names, and of the book that comes back
 abbrev pub EachCrashLeavesPrefix : CommandLine → BayView → Option Disk → Book → Type 0
-EachCrashLeavesPrefix (Step name seed script) bay (Some disk) book = CrashesLeavePrefix name bay disk book
+EachCrashLeavesPrefix (Step name seed scripts) bay (Some disk) book = CrashesLeavePrefix name bay disk book
 EachCrashLeavesPrefix (Dump name) bay (Some disk) book = CrashesLeavePrefix name bay disk book
 EachCrashLeavesPrefix line bay disk book = Unit {0}
 
 -- `mkfs` leaves an empty store with the numbers that were asked for
 abbrev pub HasStore : CommandLine → Disk → Type 0
 HasStore (Mkfs name half units) disk = (disk.units ≡ units) × HoldsEmptyStore half 32768 disk
-HasStore (Step name seed script) disk = Unit {0}
+HasStore (Step name seed scripts) disk = Unit {0}
 HasStore (Dump name) disk = Unit {0}
 
 -- for the command line that the words spell, where they spell one
@@ -89,10 +89,10 @@ pub record IsBare {S : Type 0} (sources : List S) (book : Book) : Type 0 where
   pub no_source : sources ≡ []
   pub no_book : book ≡ record { entries = []; commits = [] }
 
--- only `step` opens a script and has a book
+-- only `step` opens scripts and has a book
 abbrev pub LeavesBook : {S : Type 0} → CommandLine → List S → Book → Type 0
 LeavesBook (Mkfs dev half units) sources book = IsBare sources book
-LeavesBook (Step dev seed script) sources book = Unit {0}
+LeavesBook (Step dev seed scripts) sources book = Unit {0}
 LeavesBook (Dump dev) sources book = IsBare sources book
 
 -- words that spell no `step` open no script, and have no book

@@ -1,104 +1,96 @@
--- What a run of `step` does: it reads a script, mounts a store, and runs the script on it.
-use Rattle.std.specs.Prelude.{◌≡◌, ◌⊎◌, ℕ, ◌<◌, ◌≤◌, List, [], ◌∷◌, ◌++◌, map, Any, Option, Some, None, Result, Ok, Err, is_some, true, false, IfSome}
-use Rattle.std.specs.FinMap as finite
+-- What a run of `step` does: it reads its scripts, mounts a store, and runs the scripts beside each other on it.
+use Rattle.std.specs.Prelude.{◌≡◌, ◌⊎◌, ℕ, ◌+◌, ◌≤◌, List, [], ◌∷◌, length, map, replicate, Option, Some, None, false}
 use Rattle.block_device.specs.Prelude.{Disk, IsSound, Rose}
+use Rattle.block_device.specs.declared.device.Failed.{Failed}
+use Rattle.block_device.specs.declared.device.Failed.TheVariants as failed
 use Rattle.end_points.specs.Bay.{BayView, Names, HandedOut}
 use Rattle.end_points.specs.declared.bay.How.TheVariants.{Plain}
 use Rattle.object_model.specs.Prelude.{Objects}
 use Rattle.object_model.specs.declared.book.Book.{Book}
-use Rattle.object_model.specs.declared.book.Entry.{Entry}
-use Rattle.object_model.specs.declared.command.Command.{Command}
 use Rattle.unit_allocator.specs.Prelude.{Space}
-use Rattle.script_text.specs.Prelude.{IsScript, IsBadAt}
-use Rattle.script_text.specs.declared.fail.ScriptFail.{ScriptFail}
-use Rattle.script_text.specs.declared.fail.ScriptFail.TheVariants as script
 use Rattle.script_text.specs.declared.line.Line.{Line}
-use Rattle.store_steps.specs.Prelude.{State, Found, free_count, Call}
 use Rattle.store_image.specs.Prelude.{IsShape}
+use Rattle.store_steps.specs.Prelude.{State, Found, free_count}
 use Rattle.book_facts.specs.Prelude.{demand_of, any_no_space}
 use Rattle.log_replay.specs.Prelude.{IsLater, FailsMount}
-use Rattle.mount_replay.specs.Mounting.{IsOpenedOn, IsReapedTo}
-use Rattle.read_facts.specs.Prelude.{IsLegalButBytes}
-use Rattle.bstore_top.specs.declared.run_fail.RunFail.{RunFail}
-use Rattle.bstore_top.specs.declared.run_fail.RunFail.TheVariants as run
 use Rattle.log_replay.specs.declared.opening.MountFail.{MountFail}
 use Rattle.log_replay.specs.declared.opening.MountFail.TheVariants as fail
-use Rattle.block_device.specs.declared.device.Failed.{Failed}
-use Rattle.block_device.specs.declared.device.Failed.TheVariants as failed
+use Rattle.mount_replay.specs.Mounting.{IsOpenedOn, IsReapedTo}
+use Rattle.read_facts.specs.Prelude.{IsLegalButBytes}
+use Rattle.script_reading.specs.Prelude.{HaveScripts, AreReadWhole, FailsToRead}
+use Rattle.script_reading.specs.declared.unread.Unread.{Unread}
+use Rattle.script_reading.specs.declared.unread.Unread.TheVariants as unread
+use Rattle.client_runs.specs.Prelude.{asks_of, AreAsked, RunsUpTo}
+use Rattle.client_runs.specs.declared.run_fail.RunFail.{RunFail}
+use Rattle.client_runs.specs.declared.run_fail.RunFail.TheVariants as run
 use Rattle.run_texts.specs.declared.work_end.WorkEnd.{WorkEnd}
 use Rattle.run_texts.specs.declared.work_end.WorkEnd.TheVariants.{Done, BadLine, NoSuper, BadRow, NotExact, WornOut, DeviceFault, OutOfMemory, BayFault}
 use Rattle.run_texts.specs.Prelude.{Output, ReportsStep}
 use Rattle.bstore_top.specs.Keeping.{KeepsStore}
-use Rattle.bstore_top.specs.Choice.{Ask, asks_of, ready_list, Position, at_position, IsDrawnRun}
+use Rattle.bstore_top.specs.Waiting.{HaveWaited}
 
--- ---- the script
+-- ---- ends
 
--- the bay has this text under this name, where it tells
-abbrev pub IsTextUnder : Option Names → List ℕ → List ℕ → Type 0
-IsTextUnder names name text = IfSome names (λ n. finite.get n.texts name ≡ Some text)
+-- how a run ends whose scripts weren't read
+abbrev pub end_of_scripts : Unread → WorkEnd
+end_of_scripts unread.Memory = OutOfMemory
+end_of_scripts (unread.Line script n) = BadLine script n
+end_of_scripts unread.Fault = BayFault
 
--- the script under a name has these lines
-pub record HasScript (names : Option Names) (name : List ℕ) (lines : List Line) : Type 0 where
-  pub text : List ℕ
-  pub under : IsTextUnder names name text
-  pub script : IsScript text lines
+-- for which the bay gave no device
+abbrev pub end_of_bay : Failed → WorkEnd
+end_of_bay failed.Memory = OutOfMemory
+end_of_bay failed.Fault = BayFault
 
--- this line of it is the first that is outside the grammar or the limits
-pub record HasBadLine (names : Option Names) (name : List ℕ) (n : ℕ) : Type 0 where
-  pub text : List ℕ
-  pub under : IsTextUnder names name text
-  pub bad : IsBadAt text n
+-- that mounted nothing
+abbrev pub end_of_mount : MountFail → WorkEnd
+end_of_mount fail.Memory = OutOfMemory
+end_of_mount fail.NoSuper = NoSuper
+end_of_mount (fail.BadRow key) = BadRow key
+end_of_mount (fail.NotExact unit) = NotExact unit
+end_of_mount (fail.WornOut value) = WornOut
+end_of_mount fail.Fault = DeviceFault
+
+-- that ran the scripts, with so many units free
+abbrev pub end_of_run : Option RunFail → ℕ → WorkEnd
+end_of_run None free = Done free
+end_of_run (Some run.Memory) free = OutOfMemory
+end_of_run (Some run.Fault) free = DeviceFault
+end_of_run (Some run.DeviceRead) free = DeviceFault
 
 -- ---- the run
 
--- what an entry of the book says of a command: the client, the line, and the command
-pub record Asked : Type 0 where
-  pub client : ℕ
-  pub line : ℕ
-  pub command : Command
-
-abbrev pub asked_in : Entry → Asked
-asked_in e = record { client = e.client; line = e.line; command = e.command }
-
--- a command of the script of client 0
-abbrev pub asked_by : Ask → Asked
-asked_by a = record { client = 0; line = a.line; command = a.command }
-
--- the entries are the first commands of the script, in order, each with its line, and these are left
-abbrev pub AskedUpTo : List Line → List Entry → List Ask → Type 0
-AskedUpTo lines entries left = map asked_by (asks_of lines) ≡ map asked_in entries ++ map asked_by left
-
--- the units that its commands ask for together: the pages that its writes touch
+-- the units that the commands of a script ask for together: the pages that its writes touch
 abbrev pub script_demand : List Line → ℕ
 script_demand lines = demand_of (map (λ a. a.command) (asks_of lines))
 
--- where a run ended: with all commands in the book and nothing left to do, at a bad end of a submission or, with nothing left to do, at a read
--- that failed, or for want of memory
-abbrev pub EndsAt : WorkEnd → Position → Type 0
-EndsAt (Done free) p = (p.asks ≡ []) × (ready_list p.disk.depth p.state ≡ []) × (p.state.down ≡ None) × (free ≡ free_count p.state.space)
-EndsAt DeviceFault p = (is_some p.state.down ≡ true) ⊎ ((ready_list p.disk.depth p.state ≡ []) × (p.state.down ≡ None))
-EndsAt OutOfMemory p = p.state.down ≡ None
-EndsAt end p = ⊥
+-- and those of all scripts
+abbrev pub scripts_demand : List (List Line) → ℕ
+scripts_demand [] = 0
+scripts_demand (lines ∷ scripts) = script_demand lines + scripts_demand scripts
 
--- A script was run on a store: the calls that were drawn lead from the mounted kernel, over the device as the mount left it, to the last one,
--- whose book it is. But for the bytes that reads gave, the book is legal for all objects whose shape the rows which were found have. If the script
--- asks for no more units than were free, no transaction was refused for want of units.
-pub record RunsScript (seed : ℕ) (lines : List Line) (given : Disk) (end : WorkEnd) (book : Book) (disk : Disk) : Type 0 where
+-- Scripts were run on a store, each by a client of its own: the clients' run leads from the mounted kernel, over the device as the mount left it, to
+-- the last state, whose book it is. But for the bytes that reads gave, the book is legal for all objects whose shape the rows which were found have.
+-- If the scripts together ask for no more units than were free, no transaction was refused for want of units. A command behind a `wait` came once
+-- the accepted transactions of its client before it were acknowledged.
+pub record RunsScripts (seed : ℕ) (scripts : List (List Line)) (given : Disk) (end : WorkEnd) (book : Book) (disk : Disk) : Type 0 where
   pub found : Found
   pub space : Space
   pub start : Disk
   pub first : State
   pub mounted : IsOpenedOn given found space start first
-  pub calls : List Call
-  pub last : Position
-  pub drawn : IsDrawnRun (at_position seed (asks_of lines) first start) calls last
-  pub ended : EndsAt end last
-  pub entries : AskedUpTo lines book.entries last.asks
+  pub fail : Option RunFail
+  pub last : State
+  pub left : Disk
+  pub ran : RunsUpTo fail seed scripts first start last left
+  pub ended : end ≡ end_of_run fail (free_count last.space)
   pub closed : State
-  pub reaped : IsReapedTo last.state last.disk closed disk
+  pub reaped : IsReapedTo last left closed disk
   pub book_is : book ≡ closed.book
+  pub entries : AreAsked (map asks_of scripts) book.entries ran.reached.clients
   pub legal : (objects : Objects) → IsShape found.rows objects → IsLegalButBytes objects book
-  pub within : script_demand lines ≤ free_count first.space → any_no_space book.entries ≡ false
+  pub within : scripts_demand scripts ≤ free_count first.space → any_no_space book.entries ≡ false
+  pub waited : HaveWaited scripts book
 
 -- ---- the whole
 
@@ -115,44 +107,21 @@ seen disk dev_faults source_faults book = record { disk = disk; dev_faults = dev
 abbrev pub empty_book : Book
 empty_book = record { entries = []; commits = [] }
 
--- the bay opened the one script that was asked for, and neither it nor a read of the script has failed
-pub record IsReadWhole (source_faults : List ℕ) (before now : ℕ) : Type 0 where
-  pub source : source_faults ≡ 0 ∷ []
-  pub bay : now ≡ before
+-- all scripts were read, and then the bay failed to give the device
+pub record FailsToOpen (names : Option Names) (files : List (List ℕ)) (source_faults : List ℕ) (before now : ℕ) : Type 0 where
+  pub scripts : List (List Line)
+  pub lines : HaveScripts names files scripts
+  pub sources : source_faults ≡ replicate (length files) 0
+  pub rose : Rose before now
 
--- Why no device was opened: memory ran out, the script has a bad line and no read up to it failed, or the count of a source rose or that of
--- the bay. The bay opened no script then, or the script has lines.
-abbrev pub FailsBefore : WorkEnd → Option Names → List ℕ → List ℕ → ℕ → ℕ → Type 0
-FailsBefore (BadLine n) names script source_faults before now = HasBadLine names script n × IsReadWhole source_faults before now
-FailsBefore OutOfMemory names script source_faults before now = Unit {0}
-FailsBefore BayFault names script source_faults before now =
-    Any (λ n. 0 < n) source_faults ⊎ (Rose before now × ((source_faults ≡ []) ⊎ ((lines : List Line) × HasScript names script lines)))
-FailsBefore end names script source_faults before now = ⊥
-
--- how a run ends that mounted nothing, that ran the script, or for which the bay gave no device
-abbrev pub end_of_mount : MountFail → WorkEnd
-end_of_mount fail.Memory = OutOfMemory
-end_of_mount fail.NoSuper = NoSuper
-end_of_mount (fail.BadRow key) = BadRow key
-end_of_mount (fail.NotExact unit) = NotExact unit
-end_of_mount (fail.WornOut value) = WornOut
-end_of_mount fail.Fault = DeviceFault
-
-abbrev pub end_of_run : Result (Unit {0}) RunFail → ℕ → WorkEnd
-end_of_run (Ok done) free = Done free
-end_of_run (Err run.Memory) free = OutOfMemory
-end_of_run (Err run.Fault) free = DeviceFault
-end_of_run (Err run.DeviceRead) free = DeviceFault
-
-abbrev pub end_of_bay : Failed → WorkEnd
-end_of_bay failed.Memory = OutOfMemory
-end_of_bay failed.Fault = BayFault
-
--- how a run ends whose script wasn't read
-abbrev pub end_of_script : ScriptFail → WorkEnd
-end_of_script script.Memory = OutOfMemory
-end_of_script (script.Line n) = BadLine n
-end_of_script script.ReadFault = BayFault
+-- Why no device was opened: memory ran out, a script has a bad line, or the source of a script or the bay has failed. The scripts read until then
+-- have lines, and of those none has failed.
+abbrev pub FailsBefore : WorkEnd → Option Names → List (List ℕ) → List ℕ → ℕ → ℕ → Type 0
+FailsBefore (BadLine script n) names files source_faults before now = FailsToRead (unread.Line script n) names files source_faults before now
+FailsBefore OutOfMemory names files source_faults before now = Unit {0}
+FailsBefore BayFault names files source_faults before now =
+    FailsToRead unread.Fault names files source_faults before now ⊎ FailsToOpen names files source_faults before now
+FailsBefore end names files source_faults before now = ⊥
 
 -- Why the device that was opened wasn't mounted. The counts are those of its faults.
 abbrev pub FailsToMount : WorkEnd → Disk → ℕ → ℕ → Type 0
@@ -176,23 +145,24 @@ LeftByMount DeviceFault given disk = IsLater given disk
 LeftByMount OutOfMemory given disk = IsLater given disk
 LeftByMount end given disk = disk ≡ given
 
--- the device wasn't mounted, and the book is empty; or the script was run on it
-abbrev pub WorksOn : ℕ → List Line → Disk → ℕ → WorkEnd → Book → Disk → ℕ → Type 0
-WorksOn seed lines given before end book disk now =
+-- the device wasn't mounted, and the book is empty; or the scripts were run on it
+abbrev pub WorksOn : ℕ → List (List Line) → Disk → ℕ → WorkEnd → Book → Disk → ℕ → Type 0
+WorksOn seed scripts given before end book disk now =
     (FailsToMount end given before now × (book ≡ empty_book) × LeftByMount end given disk)
-    ⊎ (HasCounted end before now × RunsScript seed lines given end book disk)
+    ⊎ (HasCounted end before now × RunsScripts seed scripts given end book disk)
 
 -- no device was opened
-pub record EndsUnopened (script : List ℕ) (end : WorkEnd) (seen : Seen) (names : Option Names) (before now : ℕ) : Type 0 where
+pub record EndsUnopened (files : List (List ℕ)) (end : WorkEnd) (seen : Seen) (names : Option Names) (before now : ℕ) : Type 0 where
   pub no_disk : seen.disk ≡ None
   pub no_book : seen.book ≡ empty_book
-  pub cause : FailsBefore end names script seen.source_faults before now
+  pub cause : FailsBefore end names files seen.source_faults before now
 
--- the script was read and the device opened, and it comes back
-pub record EndsOpened (dev script : List ℕ) (seed : ℕ) (end : WorkEnd) (seen : Seen) (old new : BayView) (before now : ℕ) : Type 0 where
-  pub lines : List Line
-  pub has_script : HasScript old.names script lines
-  pub read : IsReadWhole seen.source_faults before now
+-- the scripts were read and the device opened, and it comes back
+pub record EndsOpened (dev : List ℕ) (files : List (List ℕ)) (seed : ℕ) (end : WorkEnd) (seen : Seen) (old new : BayView) (before now : ℕ)
+    : Type 0 where
+  pub scripts : List (List Line)
+  pub lines : HaveScripts old.names files scripts
+  pub read : AreReadWhole (length files) seen.source_faults before now
   pub given : Disk
   pub handed_out : HandedOut old dev Plain given 0 new
   pub sound : IsSound given
@@ -200,16 +170,17 @@ pub record EndsOpened (dev script : List ℕ) (seed : ℕ) (end : WorkEnd) (seen
   pub is_disk : seen.disk ≡ Some disk
   pub faults : ℕ
   pub are_faults : seen.dev_faults ≡ Some faults
-  pub works : WorksOn seed lines given 0 end seen.book disk faults
+  pub works : WorksOn seed scripts given 0 end seen.book disk faults
   pub keeps : KeepsStore given end seen.book disk
 
 -- how far a run came
-abbrev pub IsStepDone : List ℕ → List ℕ → ℕ → WorkEnd → Seen → BayView → BayView → ℕ → ℕ → Type 0
-IsStepDone dev script seed end seen bay_old bay_new before now =
-    EndsUnopened script end seen bay_old.names before now ⊎ EndsOpened dev script seed end seen bay_old bay_new before now
+abbrev pub IsStepDone : List ℕ → List (List ℕ) → ℕ → WorkEnd → Seen → BayView → BayView → ℕ → ℕ → Type 0
+IsStepDone dev files seed end seen bay_old bay_new before now =
+    EndsUnopened files end seen bay_old.names before now ⊎ EndsOpened dev files seed end seen bay_old bay_new before now
 
 -- A run of `step`: how far it came, and the text of that.
-pub record RanStep (dev script : List ℕ) (seed status : ℕ) (seen : Seen) (bay_old bay_new : BayView) (before now : ℕ) (old new : Output) : Type 0 where
+pub record RanStep (dev : List ℕ) (files : List (List ℕ)) (seed status : ℕ) (seen : Seen) (bay_old bay_new : BayView) (before now : ℕ)
+    (old new : Output) : Type 0 where
   pub end : WorkEnd
-  pub course : IsStepDone dev script seed end seen bay_old bay_new before now
+  pub course : IsStepDone dev files seed end seen bay_old bay_new before now
   pub printed : ReportsStep seen.book end status old new

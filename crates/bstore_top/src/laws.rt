@@ -1,15 +1,17 @@
-//! What a run of a script on a store comes to, whatever the seed is and whatever the device answers. Each function has a law for its
+//! What a run of scripts on a store comes to, whatever the seed is and whatever the device answers. Each function has a law for its
 //! contract and does nothing.
-ghost use Rattle.std.specs.Prelude.{◌≡◌, ◌⊎◌, ◌≤◌, ℕ, List, false};
+ghost use Rattle.std.specs.Prelude.{◌≡◌, ◌⊎◌, ◌≤◌, ℕ, List, Option, false};
 ghost use Rattle.block_device.specs.Prelude.{Disk};
 ghost use Rattle.object_model.specs.declared.book.Book.{Book};
 ghost use Rattle.script_text.specs.declared.line.Line.{Line};
-ghost use Rattle.store_steps.specs.Prelude.{free_count, Call, IsRun};
+ghost use Rattle.store_steps.specs.Prelude.{State, free_count, Call, IsRun};
 ghost use Rattle.book_facts.specs.Prelude.{any_no_space};
 ghost use Rattle.run_texts.specs.declared.work_end.WorkEnd.{WorkEnd};
 ghost use Rattle.end_points.specs.Bay.{BayView};
-ghost use Rattle.bstore_top.specs.Choice.{Position, IsDrawnRun};
-ghost use Rattle.bstore_top.specs.StepRun.{RanStep, RunsScript, Seen, script_demand};
+ghost use Rattle.client_runs.specs.Choice.{Position, IsDrawnRun};
+ghost use Rattle.client_runs.specs.Running.{RunsUpTo};
+ghost use Rattle.client_runs.specs.declared.run_fail.RunFail.{RunFail};
+ghost use Rattle.bstore_top.specs.StepRun.{RanStep, RunsScripts, Seen, scripts_demand};
 ghost use Rattle.bstore_top.specs.DumpRun.{RanDump, Dumped};
 ghost use Rattle.run_texts.specs.Prelude.{Output};
 ghost use Rattle.bstore_top.specs.Finished.{Succeeded};
@@ -21,27 +23,33 @@ pub fn a_drawn_run_is_a_run()
     ensures { (p : Position) (calls : List Call) (q : Position) → IsDrawnRun p calls q → IsRun p.state p.disk calls q.state q.disk }
 {}
 
-/// A run of `step` that returns 0 has made all commands of its script, none was answered by a bad unit, and each transaction that was
+/// The run of clients is a run of the kernel, also where a read was lost on the way.
+pub fn a_run_of_scripts_is_a_run()
+    ensures { (fail : Option RunFail) (x : ℕ) (scripts : List (List Line)) (s : State) (d : Disk) (s' : State) (d' : Disk) →
+        RunsUpTo fail x scripts s d s' d' → (calls : List Call) × IsRun s d calls s' d' }
+{}
+
+/// A run of `step` that returns 0 has made all commands of all scripts, none was answered by a bad unit, and each transaction that was
 /// accepted is committed and acknowledged. Where the bay tells what stands under its names, and that stands for some objects, the device
 /// stands for what they are after all accepted transactions.
 pub fn a_run_that_returns_0_has_succeeded()
-    ensures { (dev script : List ℕ) (seed : ℕ) (seen : Seen) (bay_old bay_new : BayView) (before now : ℕ) (old new : Output) →
-        RanStep dev script seed 0 seen bay_old bay_new before now old new → Succeeded dev script seed seen bay_old old new }
+    ensures { (dev : List ℕ) (files : List (List ℕ)) (seed : ℕ) (seen : Seen) (bay_old bay_new : BayView) (before now : ℕ) (old new : Output) →
+        RanStep dev files seed 0 seen bay_old bay_new before now old new → Succeeded dev files seed seen bay_old old new }
 {}
 
-/// A run of `step` that nothing stands against ends well, or for want of memory. The script has lines; the device holds a store that stands
-/// for some objects, of this version, with numbers far from their end; and no count of faults rose.
+/// A run of `step` that nothing stands against ends well, or for want of memory. The scripts have lines; the device holds a store that
+/// stands for some objects, of this version, with numbers far from their end; and no count of faults rose.
 pub fn a_good_start_ends_well()
-    ensures { (dev script : List ℕ) (seed status : ℕ) (seen : Seen) (bay_old bay_new : BayView) (before now : ℕ) (old new : Output) →
-        RanStep dev script seed status seen bay_old bay_new before now old new → IsGoodStart dev script bay_old →
+    ensures { (dev : List ℕ) (files : List (List ℕ)) (seed status : ℕ) (seen : Seen) (bay_old bay_new : BayView) (before now : ℕ) (old new : Output) →
+        RanStep dev files seed status seen bay_old bay_new before now old new → IsGoodStart dev files bay_old →
         HasNoFault seen before now old new → (status ≡ 0) ⊎ (status ≡ 5) }
 {}
 
-/// A run of a script that asks for no more units than are free when the store is opened refuses no transaction for want of units, whatever
-/// the seed is: in a book that such a run leaves there is no `NoSpace`.
-pub fn a_script_within_the_free_units_has_no_want_of_them()
-    ensures { (seed : ℕ) (lines : List Line) (given : Disk) (end : WorkEnd) (book : Book) (disk : Disk) →
-        (ran : RunsScript seed lines given end book disk) → script_demand lines ≤ free_count ran.first.space → any_no_space book.entries ≡ false }
+/// A run of scripts that together ask for no more units than are free when the store is opened refuses no transaction for want of units,
+/// whatever the seed is: in a book that such a run leaves there is no `NoSpace`.
+pub fn scripts_within_the_free_units_have_no_want_of_them()
+    ensures { (seed : ℕ) (scripts : List (List Line)) (given : Disk) (end : WorkEnd) (book : Book) (disk : Disk) →
+        (ran : RunsScripts seed scripts given end book disk) → scripts_demand scripts ≤ free_count ran.first.space → any_no_space book.entries ≡ false }
 {}
 
 /// A run of `dump` that returns 0 has printed each collection and each object that there is. Where the bay tells what stands under its names,

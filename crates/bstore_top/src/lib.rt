@@ -3,19 +3,16 @@
 #![tactic(auto)]
 
 mod dump_work;
-mod generator;
 mod laws;
 mod making;
 mod outcome;
-mod run_fail;
 mod running;
 mod script_work;
-mod stepping;
 
 pub use laws::{
     a_drawn_run_is_a_run, a_dump_that_returns_0_shows_all, a_good_dump_ends_well,
-    a_good_start_ends_well, a_run_that_returns_0_has_succeeded,
-    a_script_within_the_free_units_has_no_want_of_them,
+    a_good_start_ends_well, a_run_of_scripts_is_a_run, a_run_that_returns_0_has_succeeded,
+    scripts_within_the_free_units_have_no_want_of_them,
 };
 pub use outcome::Outcome;
 pub use running::{solo, top};

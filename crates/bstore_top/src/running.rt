@@ -12,7 +12,7 @@ use crate::Outcome;
 use crate::dump_work::{DumpWork, dump_store};
 use crate::making::{Work, make_store};
 use crate::script_work::{StepWork, run_store};
-use command_words::{CommandLine, FileName, read_words};
+use command_words::{CommandLine, FileName, FileNames, read_words};
 use end_points::{Bay, Gate, Sink};
 use object_model::Book;
 use run_texts::{Status, report_dump, report_mkfs, report_step, show_usage};
@@ -63,17 +63,17 @@ fn run_step<B: Bay, K: Sink>(
     alloc: Global,
     dev: &FileName<'_>,
     seed: u32,
-    script: &FileName<'_>,
+    scripts: &FileNames<'_>,
     bay: &mut B,
     out: &mut K,
 ) -> Outcome<B::Dev, B::Src>
     requires given { (B.bay bay.old).given < 4294967294 }
-    ensures run { RanStep dev.now script.now seed result.status
+    ensures run { RanStep dev.now scripts.now seed result.status
         (seen (option_map B.Dev.disk result.dev) (option_map B.Dev.faults result.dev) (map B.Src.faults result.sources.items) result.book)
         (B.bay bay.old) (B.bay bay.new) (B.faults bay.old) (B.faults bay.new)
         (output (K.written out.old) (K.faults out.old)) (output (K.written out.new) (K.faults out.new)) }
-    ensures device { ComesBack (Step dev.now seed script.now) (B.bay bay.old) (option_map B.Dev.disk result.dev) (B.bay bay.new) }
-    ensures durable { EachCrashLeavesPrefix (Step dev.now seed script.now) (B.bay bay.old) (option_map B.Dev.disk result.dev) result.book }
+    ensures device { ComesBack (Step dev.now seed scripts.now) (B.bay bay.old) (option_map B.Dev.disk result.dev) (B.bay bay.new) }
+    ensures durable { EachCrashLeavesPrefix (Step dev.now seed scripts.now) (B.bay bay.old) (option_map B.Dev.disk result.dev) result.book }
     ensures turns { result.turns.items ≡ [] }
 {
     let StepWork {
@@ -81,7 +81,7 @@ fn run_step<B: Bay, K: Sink>(
         dev,
         sources,
         book,
-    } = run_store(alloc, dev, seed, script, bay);
+    } = run_store(alloc, dev, seed, scripts, bay);
     let status = report_step(alloc, &book, &end, out);
     Outcome {
         status: status.number(),
@@ -134,7 +134,7 @@ fn run<B: Bay, K: Sink>(
 {
     match line {
         CommandLine::Mkfs { dev, half, units } => run_mkfs(alloc, dev, *half, *units, bay, out),
-        CommandLine::Step { dev, seed, script } => run_step(alloc, dev, *seed, script, bay, out),
+        CommandLine::Step { dev, seed, scripts } => run_step(alloc, dev, *seed, scripts, bay, out),
         CommandLine::Dump { dev } => run_dump(alloc, dev, bay, out),
     }
 }

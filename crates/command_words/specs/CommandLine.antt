@@ -1,9 +1,10 @@
 -- Command lines: which words are one, and what they say.
-use Rattle.std.specs.Prelude.{◌≡◌, ◌≢◌, ◌⊎◌, ℕ, ◌<◌, ◌≤◌, ◌^◌, List, [], ◌∷◌, length, map, drop, slice_index, codes, decimal}
+use Rattle.std.specs.Prelude.{◌≡◌, ◌⊎◌, ℕ, ◌<◌, ◌≤◌, ◌^◌, List, [], ◌∷◌, map, drop, slice_index, codes, decimal}
 use Rattle.std.specs.Prelude.{Vec, String, string_bytes}
 use Rattle.std.specs.declared.alloc.Global.{Global}
 use Rattle.command_words.specs.declared.command_line.CommandLine.{CommandLine}
 use Rattle.command_words.specs.declared.command_line.CommandLine.TheVariants.{Mkfs, Step, Dump}
+pub use Rattle.command_words.specs.FileNames.{IsFileName, AreFileNames}
 
 -- the words that a program was started with, as their bytes: the first is its own name
 abbrev pub words_of : Vec (String Global) Global → List (List ℕ)
@@ -12,10 +13,6 @@ words_of words = map string_bytes words.items
 -- a zero alone, or another digit at the front
 abbrev pub IsPlain : List ℕ → Type 0
 IsPlain text = (text ≡ 0x30 ∷ []) ⊎ ((0x31 ≤ slice_index text 0) × (slice_index text 0 ≤ 0x39))
-
--- the name of a device or of a script isn't empty, and doesn't begin with a dash
-abbrev pub IsFileName : List ℕ → Type 0
-IsFileName name = (0 < length name) × (slice_index name 0 ≢ 0x2d)
 
 -- the units of a log half
 abbrev pub IsHalf : ℕ → Type 0
@@ -28,13 +25,13 @@ IsUnitCount units = (1 ≤ units) × (units ≤ 1048576)
 -- names and numbers are within their limits
 abbrev pub IsInRange : CommandLine → Type 0
 IsInRange (Mkfs dev half units) = IsFileName dev × IsHalf half × IsUnitCount units
-IsInRange (Step dev seed script) = IsFileName dev × (seed < 2 ^ 32) × IsFileName script
+IsInRange (Step dev seed scripts) = IsFileName dev × (seed < 2 ^ 32) × AreFileNames scripts
 IsInRange (Dump dev) = IsFileName dev
 
 -- a command line's words, behind the program's name
 abbrev pub spelling : CommandLine → List (List ℕ)
 spelling (Mkfs dev half units) = codes "mkfs" ∷ dev ∷ codes "--half" ∷ decimal half ∷ codes "--units" ∷ decimal units ∷ []
-spelling (Step dev seed script) = codes "step" ∷ dev ∷ codes "--seed" ∷ decimal seed ∷ script ∷ []
+spelling (Step dev seed scripts) = codes "step" ∷ dev ∷ codes "--seed" ∷ decimal seed ∷ scripts
 spelling (Dump dev) = codes "dump" ∷ dev ∷ []
 
 -- the words spell this command line
@@ -52,7 +49,7 @@ IsNoMkfs words = (dev : List ℕ) (half units : ℕ) → ¬ Spells words (Mkfs d
 
 -- the words spell no `step`
 abbrev pub IsNoStep : List (List ℕ) → Type 0
-IsNoStep words = (dev : List ℕ) (seed : ℕ) (script : List ℕ) → ¬ Spells words (Step dev seed script)
+IsNoStep words = (dev : List ℕ) (seed : ℕ) (scripts : List (List ℕ)) → ¬ Spells words (Step dev seed scripts)
 
 -- the words spell no `dump`
 abbrev pub IsNoDump : List (List ℕ) → Type 0

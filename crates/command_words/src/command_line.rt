@@ -1,32 +1,9 @@
 //! Command lines: which words are one, and what they say.
 ghost use Rattle.std.specs.Prelude.{◌≡◌, ◌≢◌, ◌↔◌, ◌≤◌, ◌<◌, ◌^◌, ℕ, IsTrue, Some, IfSome, MatchOption, decimal, string_bytes};
-ghost use Rattle.command_words.specs.CommandLine.{words_of, IsPlain, IsFileName, IsNoCommandLine, IsNoMkfs, IsNoStep, IsNoDump, Spells};
+ghost use Rattle.command_words.specs.CommandLine.{words_of, IsPlain, IsNoCommandLine, IsNoMkfs, IsNoStep, IsNoDump, Spells};
 
-use std::marker::Model;
+use crate::file_names::{FileName, FileNames, read_file_name, read_file_names};
 use unit_fields::limits::{LEAST_HALF, MOST_HALF, MOST_UNITS};
-
-/// The name of a device or of a script, lent by the words: not empty, and without a dash at its front.
-#[derive(Drop)]
-pub struct FileName<'a> {
-    text: &'a str,
-}
-
-impl<'a> Model for FileName<'a> {
-    ghost use Rattle.std.specs.Prelude.{List, ℕ};
-
-    ghost Value = { List ℕ };
-
-    ghost view = { λ a. a.text.now };
-}
-
-impl<'a> FileName<'a> {
-    /// The name, lent.
-    pub fn as_str(&self) -> &str
-        ensures { result.now ≡ self.now }
-    {
-        self.text
-    }
-}
 
 /// A command line.
 #[derive(Drop)]
@@ -37,12 +14,12 @@ pub enum CommandLine<'a> {
         half: u32,
         units: u32,
     },
-    /// `step DEV --seed S SCRIPT`: mounts the store on a device and runs a script on it, in one thread. Which step comes next is
-    /// drawn from S.
+    /// `step DEV --seed S SCRIPT..`: mounts the store on a device and runs 1 to 64 scripts on it, one a client, in one thread.
+    /// Which client or which step comes next is drawn from S.
     Step {
         dev: FileName<'a>,
         seed: u32,
-        script: FileName<'a>,
+        scripts: FileNames<'a>,
     },
     /// `dump DEV`: mounts the store on a device and prints every collection and every object, with its size and its checksum.
     Dump {
@@ -80,15 +57,6 @@ fn read_number(text: &str, least: u32, most: u32) -> Option<u32>
     Some(n)
 }
 
-fn read_file_name(text: &str) -> Option<FileName<'_>>
-    ensures { MatchOption result (¬ (IsFileName text.now)) (λ name. (name ≡ text.now) × IsFileName text.now) }
-{
-    match text.as_bytes() {
-        [] | [b'-', ..] => None,
-        _ => Some(FileName { text }),
-    }
-}
-
 fn is_word(word: &String, text: &str) -> bool
     ensures { IsTrue result ↔ (string_bytes word.now ≡ text.now) }
 {
@@ -114,11 +82,11 @@ fn read_mkfs(words: &Vec<String>) -> Option<CommandLine<'_>>
     Some(CommandLine::Mkfs { dev, half, units })
 }
 
-/// `step DEV --seed S SCRIPT`.
+/// `step DEV --seed S SCRIPT..`.
 fn read_step(words: &Vec<String>) -> Option<CommandLine<'_>>
     ensures { MatchOption result (IsNoStep (words_of words.now)) (Spells (words_of words.now)) }
 {
-    let [_program, command, dev, seed_word, seed, script] = words.as_slice() else {
+    let [_program, command, dev, seed_word, seed, scripts @ ..] = words.as_slice() else {
         return None;
     };
     if !is_word(command, "step") || !is_word(seed_word, "--seed") {
@@ -126,8 +94,8 @@ fn read_step(words: &Vec<String>) -> Option<CommandLine<'_>>
     }
     let dev = read_file_name(dev.as_str())?;
     let seed = read_decimal(seed.as_str())?;
-    let script = read_file_name(script.as_str())?;
-    Some(CommandLine::Step { dev, seed, script })
+    let scripts = read_file_names(scripts)?;
+    Some(CommandLine::Step { dev, seed, scripts })
 }
 
 /// `dump DEV`.
@@ -145,7 +113,8 @@ fn read_dump(words: &Vec<String>) -> Option<CommandLine<'_>>
 }
 
 /// The command line that the words spell, of which the first is the program's name. Behind it stands exactly `mkfs DEV --half H --units N`
-/// with H from 8 to 65536 and N from 1 to 1048576, `step DEV --seed S SCRIPT` with S from 0 to 4294967295, or `dump DEV`.
+/// with H from 8 to 65536 and N from 1 to 1048576, `step DEV --seed S SCRIPT..` with S from 0 to 4294967295 and 1 to 64 scripts, or
+/// `dump DEV`.
 pub fn read_words(words: &Vec<String>) -> Option<CommandLine<'_>>
     ensures { MatchOption result (IsNoCommandLine (words_of words.now)) (Spells (words_of words.now)) }
 {

@@ -2,5 +2,7 @@
 #![tactic(auto)]
 
 mod command_line;
+mod file_names;
 
-pub use command_line::{CommandLine, FileName, read_words};
+pub use command_line::{CommandLine, read_words};
+pub use file_names::{FileName, FileNames, MOST_SCRIPTS};

@@ -40,18 +40,23 @@ fn name(alloc: Global) -> Result<Name, Fail> {
     Ok(Name::read(alloc, b"a")?.ok_or("a name")?)
 }
 
-// The book of a run with one command, which is answered by these bytes.
-fn book_of(alloc: Global, asked: Asked, bytes: Vec<u8>) -> Result<Book, Fail> {
+// An entry of a client, whose command is answered by these bytes.
+fn entry_of(alloc: Global, client: u32, asked: Asked, bytes: Vec<u8>) -> Result<Entry, Fail> {
     let coll = CollName::new(alloc, 1, 0)?;
     let command = command(asked, coll, name(alloc)?, name(alloc)?);
-    let mut book = Book::new(alloc);
-    book.entries.push(Entry {
-        client: 3,
+    Ok(Entry {
+        client,
         line: 70,
         command,
         answer: Answer::Bytes(Bytes::from_vec(bytes)),
         acks: 0,
-    })?;
+    })
+}
+
+// The book of a run with one command, which is answered by these bytes.
+fn book_of(alloc: Global, asked: Asked, bytes: Vec<u8>) -> Result<Book, Fail> {
+    let mut book = Book::new(alloc);
+    book.entries.push(entry_of(alloc, 3, asked, bytes)?)?;
     Ok(book)
 }
 
@@ -97,5 +102,37 @@ fn long_read(alloc: Global) -> Result<(Status, usize), Fail> {
 #[test]
 fn a_sink_that_fails(rt: HostRuntime) -> Result<(), Fail> {
     assert_eq!(rt; long_read(rt.alloc())?, (Status::SinkFault, 16384));
+    Ok(())
+}
+
+// The book of a run with a command of each of these clients, one behind another, which reads the byte of its place.
+fn book_of_clients(alloc: Global, clients: &[u32]) -> Result<Book, Fail> {
+    let mut book = Book::new(alloc);
+    let mut place = 0u8;
+    for client in clients {
+        let bytes = vec![in alloc; place; 1]?;
+        book.entries
+            .push(entry_of(alloc, *client, Asked::Read, bytes)?)?;
+        place = place.wrapping_add(1);
+    }
+    Ok(book)
+}
+
+// What is printed of such a run in which the script of client 7 has a bad line.
+fn clients_text(alloc: Global, clients: &[u32]) -> Result<MemorySink, Fail> {
+    let book = book_of_clients(alloc, clients)?;
+    let mut sink = MemorySink::new(alloc, 4096, 4096, Vec::new(alloc))?;
+    let end = WorkEnd::BadLine { script: 7, n: 19 };
+    report_step(alloc, &book, &end, &mut sink);
+    Ok(sink)
+}
+
+// The replies of each client come together, in the order of the clients' numbers.
+#[test]
+fn clients_one_behind_another(rt: HostRuntime) -> Result<(), Fail> {
+    let sink = clients_text(rt.alloc(), &[63, 2, 0, 2, 63, 0, 2])?;
+    let wanted =
+        "0:70 data 02\n0:70 data 05\n2:70 data 01\n2:70 data 03\n2:70 data 06\n63:70 data 00\n63:70 data 04\nscript 7 line 19\nstopped 2\n";
+    assert_eq!(rt; sink.text(), wanted.as_bytes());
     Ok(())
 }

@@ -2,6 +2,7 @@ pub mod Status
 pub mod Texts
 pub mod Hex
 pub mod Replies
+pub mod ReplyIndex
 pub mod StepTexts
 pub mod DumpTexts
 pub mod Printed

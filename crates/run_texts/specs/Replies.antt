@@ -1,6 +1,6 @@
 -- The replies: a line for each entry of the book.
 use Rattle.std.specs.Prelude.{ℕ, ◌+◌, ◌==◌, ◌&&◌, Bool, true, false, List, [], ◌∷◌, ◌++◌, length, count_by, is_some, if◌then◌else◌, codes, decimal}
-use Rattle.std.specs.List.{list_any}
+use Rattle.std.specs.List.{list_any, flat_map, range_with_len}
 use Rattle.object_model.specs.declared.op.Refusal.{Refusal}
 use Rattle.object_model.specs.declared.op.Refusal.TheVariants.{NoCollection, CollectionExists, NotEmpty, NoObject, NoAttr}
 use Rattle.object_model.specs.declared.op.Refusal.TheVariants.{SameObject, BadRange, TooBig}
@@ -65,10 +65,15 @@ abbrev pub entry_line : Bool → Entry → List ℕ
 entry_line acked e =
     decimal e.client ++ codes ":" ++ decimal e.line ++ codes " " ++ reply_text acked e.command e.answer
 
--- the lines of entries, of which the first is at this place
-abbrev pub entry_lines : List Commit → ℕ → List Entry → List (List ℕ)
-entry_lines commits place [] = []
-entry_lines commits place (e ∷ es) = entry_line (is_acked commits place) e ∷ entry_lines commits (place + 1) es
+-- the lines of the entries of one client, where the first of these entries is at this place
+abbrev pub client_lines : List Commit → ℕ → ℕ → List Entry → List (List ℕ)
+client_lines commits client place [] = []
+client_lines commits client place (e ∷ es) =
+    (if e.client == client then entry_line (is_acked commits place) e ∷ [] else []) ++ client_lines commits client (place + 1) es
+
+-- the lines of all entries: client by client, those of each in the book's order
+abbrev pub reply_lines : Book → List (List ℕ)
+reply_lines book = flat_map (λ client. client_lines book.commits client 0 book.entries) (range_with_len 0 64)
 
 -- a transaction was accepted
 abbrev pub is_accepted : Answer → Bool

@@ -7,13 +7,13 @@ use Rattle.run_texts.specs.declared.work_end.WorkEnd.{WorkEnd}
 use Rattle.run_texts.specs.declared.work_end.WorkEnd.TheVariants.{Done, BadLine, NoSuper, BadRow, NotExact, WornOut, DeviceFault, OutOfMemory, BayFault}
 use Rattle.run_texts.specs.Status.{end_number}
 use Rattle.run_texts.specs.Texts.{as_text, stopped_line}
-use Rattle.run_texts.specs.Replies.{entry_lines, done_line, has_csum}
+use Rattle.run_texts.specs.Replies.{reply_lines, done_line, has_csum}
 use Rattle.run_texts.specs.Hex.{hex_text}
 
 -- what the run stopped for, if its work wasn't done
 abbrev pub stop_of : WorkEnd → Option Stop
 stop_of (Done free) = None
-stop_of (BadLine n) = Some stop.BadScript
+stop_of (BadLine script n) = Some stop.BadScript
 stop_of NoSuper = Some stop.Refused
 stop_of (BadRow key) = Some stop.Refused
 stop_of (NotExact unit) = Some stop.Refused
@@ -36,9 +36,9 @@ end_status false end = end_number (stop_of end)
 abbrev pub step_number : Book → WorkEnd → ℕ
 step_number book end = end_status (has_csum book.entries) end
 
--- the first bad line of the script of client 0
-abbrev pub script_line : ℕ → List ℕ
-script_line n = codes "script 0 line " ++ decimal n
+-- the first bad line of a client's script
+abbrev pub script_line : ℕ → ℕ → List ℕ
+script_line script n = codes "script " ++ decimal script ++ codes " line " ++ decimal n
 
 -- the store has a bad row, under this key
 abbrev pub bad_row_line : List ℕ → List ℕ
@@ -51,7 +51,7 @@ not_exact_line unit = codes "mount NotExact unit=" ++ decimal unit
 -- the last lines of a run that stopped before its work was done
 abbrev pub fail_lines : Bool → WorkEnd → List (List ℕ)
 fail_lines bad (Done free) = []
-fail_lines bad (BadLine n) = script_line n ∷ stopped_line stop.BadScript ∷ []
+fail_lines bad (BadLine script n) = script_line script n ∷ stopped_line stop.BadScript ∷ []
 fail_lines bad NoSuper = codes "mount NoSuper" ∷ stopped_line stop.Refused ∷ []
 fail_lines bad (BadRow key) = bad_row_line key ∷ stopped_line stop.Refused ∷ []
 fail_lines bad (NotExact unit) = not_exact_line unit ∷ stopped_line stop.Refused ∷ []
@@ -67,4 +67,4 @@ end_lines book end = fail_lines (has_csum book.entries) end
 
 -- the whole text
 abbrev pub step_text : Book → WorkEnd → List ℕ
-step_text book end = as_text (entry_lines book.commits 0 book.entries ++ end_lines book end)
+step_text book end = as_text (reply_lines book ++ end_lines book end)

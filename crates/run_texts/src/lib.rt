@@ -8,6 +8,7 @@ mod hex;
 mod names;
 mod printer;
 mod replies;
+mod reply_index;
 mod reports;
 mod status;
 mod step_texts;

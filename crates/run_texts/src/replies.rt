@@ -1,19 +1,21 @@
-//! The replies of `step`: a line for each entry of the book.
-ghost use Rattle.std.specs.Prelude.{◌≡◌, ℕ, ◌<◌, [], ◌∷◌, ◌++◌, false, length, slice_index_or, IfOk, decimal, codes};
+//! The replies of `step`: a line for each entry of the book, client by client.
+ghost use Rattle.std.specs.Prelude.{◌≡◌, ◌<◌, [], ◌∷◌, ◌++◌, IfSome, decimal, codes};
 ghost use Rattle.run_texts.specs.Texts.{as_text};
 ghost use Rattle.run_texts.specs.Hex.{hex_or_dash, hex_sum};
 ghost use Rattle.run_texts.specs.Printed.{output};
 ghost use Rattle.run_texts.specs.Printing.{Adds};
-ghost use Rattle.run_texts.specs.Replies.{refusal_text, is_acked, bytes_word, csum_text, names_text, reply_text, entry_line, entry_lines};
+ghost use Rattle.run_texts.specs.Replies.{refusal_text, bytes_word, csum_text, names_text, reply_text, entry_line, client_lines, reply_lines};
+ghost use Rattle.run_texts.specs.ReplyIndex.{IsIndexOf};
 ghost use Rattle.run_texts.specs.Replies.{is_accepted, counts_as_refused, is_csum, is_read, is_of, has_csum, answers_of, done_line};
 
 use crate::hex::{push_hex_or_dash, push_hex_sum};
 use crate::names::push_name;
 use crate::printer::Printer;
+use crate::reply_index::{CLIENTS, ReplyIndex, first_place, is_acked_at, place_behind};
 use byte_maps::Bytes;
 use end_points::Sink;
-use object_model::{Answer, Book, Command, Commit, Entry, Refusal};
-use std::alloc::{AllocError, Global};
+use object_model::{Answer, Book, Command, Entry, Refusal};
+use std::alloc::Global;
 use unit_fields::UnitNo;
 
 fn refusal_text(refusal: Refusal) -> &'static str
@@ -31,21 +33,6 @@ fn refusal_text(refusal: Refusal) -> &'static str
     }
 }
 
-/// For each of so many entries, whether its commit is acknowledged: one pass over the commits.
-fn acked_entries(alloc: Global, commits: &[Commit], count: usize) -> Result<Vec<bool>, AllocError>
-    ensures count { IfOk result (λ flags. length flags.items ≡ count) }
-    ensures acked { IfOk result (λ flags. (place : ℕ) → place < count → slice_index_or flags.items place false ≡ is_acked commits.now place) }
-{
-    let mut flags = vec![in alloc; false; count]?;
-    for commit in commits {
-        let place = commit.place as usize;
-        if place < count && commit.acked_at.is_some() {
-            flags[place] = true;
-        }
-    }
-    Ok(flags)
-}
-
 /// What stands before the bytes that a command has read.
 fn bytes_word(command: &Command) -> &'static str
     ensures { result.now ≡ bytes_word command.now }
@@ -57,13 +44,6 @@ fn bytes_word(command: &Command) -> &'static str
         Command::OmapHeader { .. } => "header ",
         _ => "",
     }
-}
-
-/// Whether the commit of the entry at this place is acknowledged, looked for among all commits.
-fn is_acked(commits: &[Commit], place: usize) -> bool
-    ensures { result ≡ is_acked commits.now place }
-{
-    commits.iter().any(|commit| commit.place as usize == place && commit.acked_at.is_some())
 }
 
 /// Adds the reply that names a unit with another checksum than the one that is kept for it. Lines of `dump` have it too.
@@ -185,21 +165,37 @@ fn push_entry<K: Sink>(text: &mut Printer, out: &mut K, acked: bool, entry: &Ent
     text.push_str(out, "\n")
 }
 
-/// Adds the lines of the book's entries. Which of them are acknowledged is noted beforehand, in one pass over the commits;
-/// where there is no memory for that it is looked for at each entry.
-pub fn push_replies<K: Sink>(alloc: Global, text: &mut Printer, out: &mut K, book: &Book)
-    ensures { Adds (as_text (entry_lines book.now.commits 0 book.now.entries)) text.old text.new
+/// Adds the lines of the entries of one client.
+fn push_client<K: Sink>(
+    text: &mut Printer,
+    out: &mut K,
+    book: &Book,
+    index: &Option<ReplyIndex>,
+    client: usize,
+)
+    requires client { client < 64 }
+    requires index { IfSome index.now (λ index. IsIndexOf index book.now.commits book.now.entries) }
+    ensures { Adds (as_text (client_lines book.now.commits client 0 book.now.entries)) text.old text.new
         (output (K.written out.old) (K.faults out.old)) (output (K.written out.new) (K.faults out.new)) }
 {
-    let commits = book.commits.as_slice();
     let entries = book.entries.as_slice();
-    let flags = acked_entries(alloc, commits, entries.len());
-    for (place, entry) in entries.iter().enumerate() {
-        let acked = match &flags {
-            Ok(flags) => flags[place],
-            Err(AllocError) => is_acked(commits, place),
-        };
-        push_entry(text, out, acked, entry);
+    let mut place = first_place(entries, index, client);
+    while place < entries.len() {
+        let acked = is_acked_at(book.commits.as_slice(), index, place);
+        push_entry(text, out, acked, &entries[place]);
+        place = place_behind(entries, index, client, place);
+    }
+}
+
+/// Adds the lines of the book's entries, client by client. Where the entries of each client are, and which of them are
+/// acknowledged, is noted beforehand; where there is no memory for that it is looked for.
+pub fn push_replies<K: Sink>(alloc: Global, text: &mut Printer, out: &mut K, book: &Book)
+    ensures { Adds (as_text (reply_lines book.now)) text.old text.new
+        (output (K.written out.old) (K.faults out.old)) (output (K.written out.new) (K.faults out.new)) }
+{
+    let index = ReplyIndex::of(alloc, book.commits.as_slice(), book.entries.as_slice()).ok();
+    for client in 0..CLIENTS {
+        push_client(text, out, book, &index, client);
     }
 }
 

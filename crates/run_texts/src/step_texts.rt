@@ -22,12 +22,14 @@ fn first_cause(bad: bool, why: Stop) -> Stop
     if bad { Stop::Refused } else { why }
 }
 
-/// Adds the lines of a run whose script has a bad line, the first of this number.
-fn push_bad_line<K: Sink>(text: &mut Printer, out: &mut K, line: u32)
-    ensures { Adds (as_text (script_line line ∷ stopped_line BadScript ∷ [])) text.old text.new
+/// Adds the lines of a run in which the script of this number has a bad line, the first of this number.
+fn push_bad_line<K: Sink>(text: &mut Printer, out: &mut K, script: u32, line: u32)
+    ensures { Adds (as_text (script_line script line ∷ stopped_line BadScript ∷ [])) text.old text.new
         (output (K.written out.old) (K.faults out.old)) (output (K.written out.new) (K.faults out.new)) }
 {
-    text.push_str(out, "script 0 line ");
+    text.push_str(out, "script ");
+    text.push_number(out, script as u64);
+    text.push_str(out, " line ");
     text.push_number(out, line as u64);
     text.push_str(out, "\n");
     push_stopped(text, out, Stop::BadScript)
@@ -73,7 +75,7 @@ pub fn push_fail<K: Sink>(text: &mut Printer, out: &mut K, bad: bool, end: &Work
 {
     match end {
         WorkEnd::Done { .. } => text.push_str(out, ""),
-        WorkEnd::BadLine { n } => push_bad_line(text, out, *n),
+        WorkEnd::BadLine { script, n } => push_bad_line(text, out, *script, *n),
         WorkEnd::NoSuper => push_no_store(text, out, "mount NoSuper"),
         WorkEnd::BadRow { key } => push_bad_row(text, out, key.as_slice()),
         WorkEnd::NotExact { unit } => push_not_exact(text, out, *unit),

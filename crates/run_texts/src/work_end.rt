@@ -8,13 +8,17 @@ use byte_maps::Bytes;
 /// How the work of `step` or of `dump` ended, before anything of it was printed.
 #[derive(Debug, Drop)]
 pub enum WorkEnd {
-    /// The script has ended and the kernel is drained, or the walk has come to its end.
+    /// The scripts have ended and the kernel is drained, or the walk has come to its end.
     Done {
         /// The free data units.
         free: u32,
     },
-    /// A line of the script is outside the grammar or the limits, the first such line. The device wasn't opened.
+    /// A line of a script is outside the grammar or the limits, the first such line of the first such script. The device wasn't
+    /// opened.
     BadLine {
+        /// The script's number, which is its client's.
+        script: u32,
+        /// The line's number.
         n: u32,
     },
     /// The device holds no store.
@@ -32,7 +36,7 @@ pub enum WorkEnd {
     /// The device failed, at a write, a flush or a read.
     DeviceFault,
     OutOfMemory,
-    /// The bay failed, or the source of the script did.
+    /// The bay failed, or the source of a script did.
     BayFault,
 }
 

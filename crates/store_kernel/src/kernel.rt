@@ -186,6 +186,13 @@ impl<D: Device> Kernel<D> {
             .any(|c| c.place == place && c.acked_at.is_some())
     }
 
+    /// How many commits are acknowledged: the first so many of them.
+    pub fn acked_count(&self) -> u32
+        ensures { result ≡ self.now.state.acked }
+    {
+        self.acked
+    }
+
     // Whether one more submission may be in flight.
     fn has_room(&self) -> bool
         ensures { result ≡ nat_lt (length self.now.state.flying) (D.disk self.now.device).depth }

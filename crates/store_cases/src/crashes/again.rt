@@ -88,8 +88,8 @@ impl Sweep {
         let image = self.image(cut, tear)?;
         let plain = self.objects_after(&image)?;
         let setup = self.second_setup(image, next.script)?;
-        let mut second = Sweep::of(setup);
-        second.step_from(next.seed, "script", plain)?;
+        let mut second = Sweep::of(setup, self.colls);
+        second.step_from(next.seed, &["script"], plain)?;
         Ok(second)
     }
 

@@ -2,7 +2,7 @@
 
 use crate::crashes::history::{Past, acknowledged};
 use crate::crashes::image::Found;
-use crate::crashes::spelled::{COLL, spelled};
+use crate::crashes::spelled::spelled;
 use crate::crashes::sweep::{Sweep, tear_of};
 use case_text::{CaseError, Text, Words, small};
 use object_model::Book;
@@ -12,7 +12,7 @@ impl Sweep {
     /// The objects in contents, spelled; None where there is no store, or it has something else.
     pub fn objects_in(&self, contents: &[u8]) -> Result<Option<Vec<u8>>, CaseError> {
         match Found::read(self.alloc, contents)? {
-            Some(found) => spelled(self.alloc, &found, contents, &[COLL]),
+            Some(found) => spelled(self.alloc, &found, contents, self.colls),
             None => Ok(None),
         }
     }
@@ -66,6 +66,12 @@ impl Sweep {
         }
         let exact = self.is_exact(&contents)?;
         out.println(if exact { ", exact" } else { ", not exact" });
+        Ok(())
+    }
+
+    /// Follows `collections COUNT`, from its second word on: says how many collections are looked at, from `1.0_head` on.
+    pub fn set_collections(&mut self, words: Words<'_>) -> Result<(), CaseError> {
+        self.colls = small(words.last()?)?;
         Ok(())
     }
 

@@ -16,6 +16,9 @@ use std::alloc::Global;
 /// The collections that are looked at.
 pub const COLLS: [&str; 4] = ["1.0_head", "2.0_head", "3.0_head", "4.0_head"];
 
+/// How many they are.
+const COLL_COUNT: u32 = 4;
+
 /// What a mount left.
 #[derive(Drop)]
 pub struct Left {
@@ -121,7 +124,7 @@ impl Judge {
         };
         Ok(Judge {
             alloc,
-            states: states(alloc, before, &left.book, &COLLS)?,
+            states: states(alloc, before, &left.book, COLL_COUNT)?,
             leaked,
             earlier,
         })
@@ -136,7 +139,7 @@ impl Judge {
             Some(units) if units == self.leaked => {}
             _ => return Ok(false),
         }
-        match spelled(self.alloc, &found, image, &COLLS)? {
+        match spelled(self.alloc, &found, image, COLL_COUNT)? {
             Some(objects) => Ok(has_from(&self.states, least, &objects)),
             None => Ok(false),
         }

@@ -11,6 +11,8 @@ enum LineKind {
     Forget,
     /// `leaked UNIT ..`: says what was leaked before the last run, which makes a judgement wrong.
     Leaked,
+    /// `collections COUNT`: how many collections are looked at.
+    Collections,
     /// `rows`: which of the bitmap's first two rows there are.
     Rows,
     /// A line that is shown before what it comes to.
@@ -20,7 +22,7 @@ enum LineKind {
 /// The kinds of lines that are shown.
 #[derive(Clone, Copy)]
 enum ShownKind {
-    /// `step SEED SCRIPT`: a run of `step` on `dev`.
+    /// `step SEED SCRIPT ..`: a run of `step` on `dev`.
     Step,
     /// `sweep EVERY` and `sweep EVERY LEAST`: looks at each so many-th cut.
     Sweep,
@@ -41,7 +43,7 @@ enum ShownKind {
 }
 
 /// The first words of these lines.
-static LINE_KINDS: [(&str, LineKind); 12] = [
+static LINE_KINDS: [(&str, LineKind); 13] = [
     ("step", LineKind::Shown(ShownKind::Step)),
     ("sweep", LineKind::Shown(ShownKind::Sweep)),
     ("early", LineKind::Shown(ShownKind::Early)),
@@ -53,6 +55,7 @@ static LINE_KINDS: [(&str, LineKind); 12] = [
     ("leaked", LineKind::Leaked),
     ("leaks", LineKind::Shown(ShownKind::Leaks)),
     ("collection", LineKind::Shown(ShownKind::Collection)),
+    ("collections", LineKind::Collections),
     ("rows", LineKind::Rows),
 ];
 
@@ -68,6 +71,7 @@ impl Sweep {
         match kind {
             LineKind::Forget => self.forget(words),
             LineKind::Leaked => self.set_leaked(words),
+            LineKind::Collections => self.set_collections(words),
             LineKind::Rows => self.show_rows(words, out),
             LineKind::Shown(kind) => {
                 out.println(line);
@@ -99,7 +103,7 @@ impl Sweep {
 
 impl Follow for Sweep {
     fn begin(alloc: Global) -> Result<Sweep, CaseError> {
-        Ok(Sweep::of(Setup::new(alloc)?))
+        Ok(Sweep::of(Setup::new(alloc)?, 1))
     }
 
     fn follow(&mut self, line: &str, out: &mut Text) -> Result<(), CaseError> {

@@ -7,10 +7,16 @@ use case_text::CaseError;
 use plain_store::Plain;
 use std::alloc::{AllocError, Global};
 
-/// The collection of all scripts, and their objects.
+/// The collection of a case that names no more of them.
 pub const COLL: &str = "1.0_head";
 
+/// The objects that are looked for in each collection.
 pub const NAMES: [&str; 5] = ["a", "b", "c", "d", "e"];
+
+/// The name of the collection of this number, from 1 on: `1.0_head`, `2.0_head` and so on.
+fn coll_name(alloc: Global, number: u32) -> Result<String, AllocError> {
+    format!(in alloc; "{number}.0_head")
+}
 
 fn push_object(out: &mut Vec<u8>, bytes: Option<&[u8]>) -> Result<(), AllocError> {
     match bytes {
@@ -42,11 +48,12 @@ fn push_plain(
     Ok(())
 }
 
-/// Plain objects of these collections, spelled so.
-pub fn spelled_plain(alloc: Global, plain: &Plain, colls: &[&str]) -> Result<Vec<u8>, CaseError> {
+/// Plain objects of the first so many collections, spelled so.
+pub fn spelled_plain(alloc: Global, plain: &Plain, colls: u32) -> Result<Vec<u8>, CaseError> {
     let mut out = Vec::new(alloc);
-    for coll in colls {
-        push_plain(alloc, &mut out, plain, coll)?;
+    for number in 1..=colls {
+        let coll = coll_name(alloc, number)?;
+        push_plain(alloc, &mut out, plain, coll.as_str())?;
     }
     Ok(out)
 }
@@ -75,17 +82,19 @@ fn push_found(
     Ok(Some(rows))
 }
 
-/// What was found in an image, spelled so; None where it has something else than these collections, or an object that can't be read.
+/// What was found in an image, spelled so; None where it has something else than the first so many collections, or an object that
+/// can't be read.
 pub fn spelled(
     alloc: Global,
     found: &Found,
     image: &[u8],
-    colls: &[&str],
+    colls: u32,
 ) -> Result<Option<Vec<u8>>, CaseError> {
     let mut out = Vec::new(alloc);
     let mut rows = 0usize;
-    for coll in colls {
-        match push_found(alloc, &mut out, found, image, coll)? {
+    for number in 1..=colls {
+        let coll = coll_name(alloc, number)?;
+        match push_found(alloc, &mut out, found, image, coll.as_str())? {
             Some(more) => rows = rows.wrapping_add(more),
             None => return Ok(None),
         }

@@ -2,7 +2,7 @@
 
 use crate::crashes::history::{Past, apply_commit, objects_behind};
 use crate::crashes::image::Found;
-use crate::crashes::spelled::{COLL, spelled_plain};
+use crate::crashes::spelled::spelled_plain;
 use crate::runs::Case;
 use block_device::{MemoryDevice, Tear};
 use case_text::{CaseError, Setup, Text, Words, look_up, number};
@@ -17,6 +17,8 @@ pub const TEARS: [Tear; 5] = [Tear::Old, Tear::New, Tear::First, Tear::Odd, Tear
 pub struct Sweep {
     pub alloc: Global,
     pub case: Case,
+    /// How many collections are looked at, from `1.0_head` on.
+    pub colls: u32,
     /// The runs before the last one.
     pub history: Vec<Past>,
     /// The units that the device had leaked before the last run.
@@ -42,12 +44,12 @@ pub fn tear_of(word: &str) -> Result<Tear, CaseError> {
     }
 }
 
-/// The objects of these collections after each number of commits, from these on.
+/// The objects of the first so many collections after each number of commits, from these on.
 pub fn states(
     alloc: Global,
     mut plain: Plain,
     book: &Book,
-    colls: &[&str],
+    colls: u32,
 ) -> Result<Vec<Vec<u8>>, CaseError> {
     let mut states = Vec::new(alloc);
     states.push(spelled_plain(alloc, &plain, colls)?)?;
@@ -59,12 +61,13 @@ pub fn states(
 }
 
 impl Sweep {
-    /// A case with this set up, before its first run.
-    pub fn of(setup: Setup) -> Sweep {
+    /// A case with this set up, before its first run, in which so many collections are looked at.
+    pub fn of(setup: Setup, colls: u32) -> Sweep {
         let alloc = setup.alloc;
         Sweep {
             alloc,
             case: Case::of(setup),
+            colls,
             history: Vec::new(alloc),
             leaked: Vec::new(alloc),
             states: Vec::new(alloc),
@@ -79,26 +82,33 @@ impl Sweep {
         }
     }
 
-    /// Follows `step SEED SCRIPT`, from its second word on: runs a script on the store `dev`, whose objects are those behind the
-    /// earlier runs.
-    pub fn step(&mut self, words: Words<'_>, out: &mut Text) -> Result<(), CaseError> {
-        let (seed, script) = words.last_two()?;
+    /// Follows `step SEED SCRIPT ..`, from its second word on: runs scripts, one a client, on the store `dev`, whose objects are those
+    /// behind the earlier runs.
+    pub fn step(&mut self, mut words: Words<'_>, out: &mut Text) -> Result<(), CaseError> {
+        let seed = words.next()?;
+        let scripts = words.list(self.alloc)?;
         let plain = objects_behind(self.alloc, &self.history)?;
-        self.step_from(seed, script, plain)?;
+        self.step_from(seed, &scripts, plain)?;
         self.case.print_run(out);
         Ok(())
     }
 
-    /// Runs a script on the store `dev`, which has these objects.
-    pub fn step_from(&mut self, seed: &str, script: &str, plain: Plain) -> Result<(), CaseError> {
+    /// Runs scripts on the store `dev`, which has these objects.
+    pub fn step_from<'a>(
+        &mut self,
+        seed: &'a str,
+        scripts: &[&'a str],
+        plain: Plain,
+    ) -> Result<(), CaseError> {
         let contents = self.case.setup.contents("dev")?;
         self.leaked = match self.leaked_in(&contents)? {
             Some(units) => units,
             None => return Err(CaseError::Line("the store isn't exact")),
         };
-        self.case
-            .run_line(&["bstore", "step", "dev", "--seed", seed, script])?;
-        self.states = states(self.alloc, plain, self.book()?, &[COLL])?;
+        let mut words = vec![in self.alloc; "bstore", "step", "dev", "--seed", seed]?;
+        words.extend_from_slice(scripts)?;
+        self.case.run_line(&words)?;
+        self.states = states(self.alloc, plain, self.book()?, self.colls)?;
         Ok(())
     }
 

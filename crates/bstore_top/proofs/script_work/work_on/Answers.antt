@@ -7,16 +7,16 @@ pub returns-clause-works : goal.returns-clause-works
 returns-clause-works g c =
     let reaped = c.unmount-dev.ensures.reaped in
     rw c.ended-end.ensures (inr (
-      run_counted c.run_script-ran.result c.free_units.result _ _ _ _ c.run_script-ran.ensures.cause c.run_script-ran.ensures.read_cause
+      run_counted c.run_scripts-ran.result c.free_units.result _ _ _ _ c.run_scripts-ran.ensures.cause c.run_scripts-ran.ensures.read_cause
           c.in-Ok.ensures.later c.unmount-dev.ensures.later,
       (works_mounted _ _ _ c.in-Ok.ensures.ok.0 c.in-Ok.ensures.ok.1.0 _ _ _ _ _ _
           (record { mounted = c.in-Ok.ensures.ok.1.1; kept = c.facts.ensures.kept; durable = c.facts.ensures.durable })
           (record { closed = reaped.0; reaped = reaped.1.0; book_is = reaped.1.1; same = c.unmount-dev.ensures.book })
-          c.run_script-ran.result c.free_units.result c.run_script-ran.ensures.ran c.free_units.ensures).ran,
+          c.run_scripts-ran.result c.free_units.result c.run_scripts-ran.ensures.ran c.free_units.ensures).ran,
     ))
 
 pub returns-clause-later : goal.returns-clause-later
-returns-clause-later g c = later_ran c.run_script-ran.result _ _ _ _ _ _ _ _ c.run_script-ran.ensures.ran c.in-Ok.ensures.ok.1.1.later
+returns-clause-later g c = later_ran c.run_scripts-ran.result _ _ _ _ _ _ _ _ c.run_scripts-ran.ensures.ran c.in-Ok.ensures.ok.1.1.later
     c.unmount-dev.ensures.same
 
 pub returns-clause-keeps : goal.returns-clause-keeps
@@ -26,7 +26,7 @@ returns-clause-keeps g c sound fresh =
     (works_mounted _ _ _ c.in-Ok.ensures.ok.0 c.in-Ok.ensures.ok.1.0 _ _ _ _ _ _
     (record { mounted = c.in-Ok.ensures.ok.1.1; kept = c.facts.ensures.kept; durable = c.facts.ensures.durable })
     (record { closed = reaped.0; reaped = reaped.1.0; book_is = reaped.1.1; same = c.unmount-dev.ensures.book })
-    c.run_script-ran.result c.free_units.result c.run_script-ran.ensures.ran c.free_units.ensures))
+    c.run_scripts-ran.result c.free_units.result c.run_scripts-ran.ensures.ran c.free_units.ensures))
 
 pub returns-in-Err-clause-works : goal.returns-in-Err-clause-works
 returns-in-Err-clause-works g c =

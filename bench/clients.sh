@@ -1,0 +1,108 @@
+#!/usr/bin/env bash
+# Times transactions of one fresh page by several clients of `bstore step` beside each other, each in a collection of its own and with a
+# `wait` behind each, in one run of several turns:
+# - on a real file, by 1, 16 and 64 clients, beside a plain loop in C of write, fdatasync, write, fdatasync on the same disk, and that
+#   loop with 64 pages before its first fdatasync: transactions a second, by the least times. What the loops have none of is taken off:
+#   what scripts of as many lines take whose writes are refused.
+# - on a file in memory, three times a turn, the processor time of a transaction with 64 clients and with one.
+# - on that file, the time of one client's writes without a `wait`, beside the same with one behind each; and the peak memory of a
+#   transaction while all of them wait.
+# It says what is wanted of each ratio, and ends with status 1 where one is beyond that.
+# Usage: bench/clients.sh [TRANSACTIONS, a multiple of 64] [FOLDER ON THE DISK] [TURNS] [PROGRAM] [WRITES WITHOUT A WAIT, at most 16383]
+set -eu
+here=$(cd "$(dirname "${BASH_SOURCE[0]}")" && pwd)
+. "$here/about.sh"
+count=${1:-12800}
+made=$(mktemp -d "${2:-$here}/clients.XXXXXX")
+memory=$(mktemp -d /dev/shm/clients.XXXXXX)
+turns=${3:-3}
+program=$(program_of "${4:-}")
+many=${5:-16000}
+trap 'rm -rf "$made" "$memory"' EXIT
+gcc -O2 -o "$made/loop" "$here/step.c"
+most=$((count > many ? count : many))
+half=$((most + 100))
+units=$((2 * half + 2 + most + 100))
+dd if=/dev/zero of="$made/disk" bs=1M count=$((units / 256 + 1)) conv=fsync status=none
+cp "$made/disk" "$memory/disk"
+
+# scripts NAME CLIENTS TRANSACTIONS FIRST-LINE BEHIND-EACH: scripts of so many clients, one a file, in a folder of that name. The first line
+# and what comes behind each write may be empty.
+scripts() {
+  mkdir "$made/$1"
+  awk -v folder="$made/$1" -v clients="$2" -v count="$3" -v first="$4" -v behind="$5" 'BEGIN {
+    for (client = 1; client <= clients; client++) {
+      file = sprintf("%s/%02d", folder, client)
+      if (first) printf "%s %d.0_head\n", first, client > file
+      for (at = 0; at < count / clients; at++) printf "write %d.0_head o%d 0 fill:%02x:4096\n%s", client, at, at % 256, behind > file
+      close(file)
+    }
+  }'
+}
+
+for clients in 1 16 64; do
+  scripts "$clients" "$clients" "$count" mkcoll 'wait\n'
+  scripts "$clients-refused" "$clients" "$count" '' 'wait\n'
+done
+scripts each 1 "$many" mkcoll 'wait\n'
+scripts all 1 "$many" mkcoll ''
+
+# steps WHERE NAME ACCEPTED: runs the scripts of this name on a new store in this folder, and adds a line of times: where and which, its
+# nanoseconds, its processor time in seconds, and its peak memory in KiB.
+steps() {
+  local began took
+  "$program" mkfs "$1/disk" --half "$half" --units "$units" >/dev/null
+  began=$(date +%s%N)
+  /usr/bin/env time -f '%U %S %M' -o "$made/used" "$program" step "$1/disk" --seed "$turn" "$made/$2"/* >"$made/output" ||
+    { tail -n 2 "$made/output"; exit 1; }
+  took=$(($(date +%s%N) - began))
+  echo "${1##*/} $2 $took $(tail -n 1 "$made/used" | awk '{ print $1 + $2, $3 }')" >>"$made/times"
+  [[ $(tail -n 1 "$made/output") == "done accepted=$3 "* ]] || { tail -n 1 "$made/output"; exit 1; }
+}
+
+about
+for ((turn = 1; turn <= turns; turn++)); do
+  for clients in 1 16 64; do
+    steps "$made" "$clients" $((count + clients))
+    steps "$made" "$clients-refused" 0
+  done
+  echo "loop 1 $("$made/loop" "$made/file" "$count" 4096 1) 0 0" >>"$made/times"
+  echo "loop 64 $("$made/loop" "$made/file" $((count / 64)) 4096 64) 0 0" >>"$made/times"
+  for again in 1 2 3; do
+    for clients in 1 64; do
+      steps "$memory" "$clients" $((count + clients))
+    done
+    steps "$memory" each $((many + 1))
+    steps "$memory" all $((many + 1))
+  done
+done
+
+awk -v n="$count" -v many="$many" -v turns="$turns" -v disk="${made##*/}" -v memory="${memory##*/}" '
+  function least_of(kept, at, value) { if (!(at in kept) || value < kept[at]) kept[at] = value }
+  { at = $1 " " $2; least_of(time, at, $3); least_of(used, at, $4); if ($5 > peak[at]) peak[at] = $5 }
+  function rate(clients) { return n * 1e9 / (time[disk " " clients] - time[disk " " clients "-refused"]) }
+  function wanted(what, value, bound, is_most) {
+    good = is_most ? value <= bound : value >= bound
+    printf "%-58s %.2f, %s %s: %s\n", what, value, is_most ? "at most" : "at least", bound, good ? "within" : "BEYOND"
+    if (!good) beyond = 1
+  }
+  END {
+    printf "%d transactions of a fresh page of 4096 bytes, %d turns\n", n, turns
+    for (clients = 1; clients <= 64; clients *= clients == 1 ? 16 : 4)
+      printf "%2d clients                  %6.0f a second\n", clients, rate(clients)
+    plain = n * 1e9 / time["loop 1"]
+    printf "plain loop, C               %6.0f a second\n", plain
+    printf "64 pages a round, C         %6.0f a second\n", n * 1e9 / time["loop 64"]
+    one = used[memory " 1"] * 1e6 / n
+    more = used[memory " 64"] * 1e6 / n
+    printf "processor time              %6.1f us with one client, %.1f us with 64\n", one, more
+    each = time[memory " each"] / 1e9
+    all = time[memory " all"] / 1e9
+    printf "%d writes of one client  %6.3f s with a wait behind each, %.3f s without, peak memory %.1f MiB\n", many, each, all, peak[memory " all"] / 1024
+    wanted("64 clients against one", rate(64) / rate(1), 0.95, 0)
+    wanted("64 clients against the plain loop", rate(64) / plain, 0.75, 0)
+    wanted("processor time, 64 clients against one", more / one, 1.25, 1)
+    wanted("time without a wait against with one", all / each, 1.3, 1)
+    wanted("peak memory of a transaction without a wait, in KiB", peak[memory " all"] / many, 12, 1)
+    exit beyond
+  }' "$made/times"

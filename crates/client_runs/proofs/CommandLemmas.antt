@@ -1,0 +1,207 @@
+-- Commands of clients, and their entries.
+use Rattle.std.proofs.Common.{◌≡◌, inl, inr, ℕ, ◌<◌, Bool, true, false, List, [], ◌∷◌, ◌++◌, length, Some, None}
+use Rattle.std.proofs.Common.{Result, Ok, Err, OnOk, IfErr, MatchResult, ap, ◌∙◌, sym, refl, subst, arith}
+use Rattle.std.specs.Prelude.{is_some, ◌&&◌}
+use Rattle.std.proofs.lemmas.Bool.{eq-eqb}
+use Rattle.block_device.specs.Prelude.{Disk}
+use Rattle.block_device.specs.declared.device.Ticket.{Ticket}
+use Rattle.object_model.specs.declared.op.Op.{Op}
+use Rattle.object_model.specs.declared.op.Op.TheVariants as op
+use Rattle.object_model.specs.Prelude.{Change, accepted_change}
+use Rattle.object_model.specs.declared.book.Book.{Book}
+use Rattle.object_model.specs.declared.command.Answer.{Answer}
+use Rattle.object_model.specs.declared.command.Answer.TheVariants as answer
+use Rattle.object_model.specs.declared.command.Command.{Command}
+use Rattle.object_model.specs.declared.command.Command.TheVariants as command
+use Rattle.object_model.specs.declared.book.Entry.{Entry}
+use Rattle.script_text.specs.Prelude.{FitsWhat, HasWholePages}
+use Rattle.script_text.specs.declared.line.What.TheVariants as what
+use Rattle.store_steps.specs.Prelude.{State, entered, Accepts, Refuses, IsDownBy, IsBookFull, Call, reading, AnswersRead, Calls}
+use Rattle.plan_rows.specs.Prelude.{IsKnown}
+use Rattle.read_facts.specs.Prelude.{IsKnownRead}
+use Rattle.store_kernel.specs.Submitting.{RefusesBy}
+use Rattle.store_kernel.specs.Reading.{UnansweredBy, IsDeviceRead}
+use Rattle.store_kernel.specs.declared.unanswered.Unanswered.{Unanswered}
+use Rattle.store_kernel.specs.declared.unanswered.Unanswered.TheVariants as unanswered
+use Rattle.store_kernel.specs.declared.refused.Refused.{Refused}
+use Rattle.store_kernel.specs.declared.refused.Refused.TheVariants as refused
+use Rattle.client_runs.specs.declared.run_fail.RunFail.{RunFail}
+use Rattle.client_runs.specs.declared.run_fail.RunFail.TheVariants as run
+use Rattle.client_runs.specs.Prelude.{call_of, IsNoted, IsNotNoted, IsNotTurnedAway, IsReplied, IsNoTurnAway, IsFailOf, IsMade, IsUnmade}
+
+-- ---- what the store knows
+
+-- operations that scripts can have are known to the store
+pub known_ops : (ops : List Op) → HasWholePages ops → IsKnown ops
+known_ops (op.MkColl ∷ []) pages = tt
+known_ops (op.Touch o ∷ []) pages = tt
+known_ops (op.Write o off bytes ∷ []) pages = pages
+known_ops ops pages = absurd pages
+
+-- the command is no transaction
+abbrev pub IsNoChange : Command → Type 0
+IsNoChange (command.Change change) = ⊥
+IsNoChange read = Unit {0}
+
+-- a command other than a transaction is a read
+other_read : (c : Command) → ((change : Change) → c ≡ command.Change change → ⊥) → IsNoChange c
+other_read (command.Change change) other = other change refl
+other_read (command.Read coll object off len) other = tt
+other_read (command.Sum coll object) other = tt
+other_read (command.Stat coll object) other = tt
+other_read (command.GetAttr coll object name) other = tt
+other_read (command.OmapGet coll object key) other = tt
+other_read (command.OmapHeader coll object) other = tt
+other_read (command.List coll) other = tt
+
+-- a read that scripts can have is known to the store
+known_read : (c : Command) → IsNoChange c → FitsWhat (what.Command c) → IsKnownRead c
+known_read (command.Read coll object off len) is fits = tt
+known_read (command.Sum coll object) is fits = tt
+known_read (command.Stat coll object) is fits = tt
+known_read (command.List coll) is fits = tt
+known_read (command.Change change) is fits = absurd is
+known_read (command.GetAttr coll object name) is fits = absurd fits
+known_read (command.OmapGet coll object key) is fits = absurd fits
+known_read (command.OmapHeader coll object) is fits = absurd fits
+
+-- a command that scripts can have, and that is no transaction, is a read that the store knows
+pub known_other : (c : Command) → ((change : Change) → c ≡ command.Change change → ⊥) → FitsWhat (what.Command c) → IsKnownRead c
+known_other c other fits = known_read c (other_read c other) fits
+
+-- the kernel isn't down, and its book isn't full
+not_down : (s : State) (ticket : Ticket) → s.down ≡ None → IsDownBy ticket s → ⊥
+not_down s ticket up down = let never : None ≡ Some ticket = sym up ∙ down in cc
+
+-- a book with room isn't full
+not_full : (s : State) → length s.book.entries < 1048576 → IsBookFull s → ⊥
+not_full s room full = omega (arith, room, full.full)
+
+-- so it turns no transaction away
+pub not_turned_away : (client line : ℕ) (change : Change) (r : Result ℕ Refused) (s : State) (d : Disk) (s' : State) → s.down ≡ None → length s.book.entries < 1048576
+    → IfErr r (λ why. RefusesBy why client line change s d s') → IsNotTurnedAway r
+not_turned_away client line change (Ok place) s d s' up room refuses = tt
+not_turned_away client line change (Err (refused.Refusal refusal)) s d s' up room refuses = tt
+not_turned_away client line change (Err (refused.NoSpace need free)) s d s' up room refuses = tt
+not_turned_away client line change (Err (refused.MetaFull need left)) s d s' up room refuses = tt
+not_turned_away client line change (Err (refused.Memory back)) s d s' up room refuses = tt
+not_turned_away client line change (Err (refused.Down ticket back)) s d s' up room refuses = absurd (not_down s ticket up refuses.0)
+not_turned_away client line change (Err (refused.BookFull back)) s d s' up room refuses = absurd (not_full s room refuses.0)
+
+-- nor does it turn a read away
+pub no_turn_away : (c : Command) (r : Result ℕ Unanswered) (s s' : State) → s.down ≡ None → length s.book.entries < 1048576
+    → IfErr r (λ why. UnansweredBy why c s s') → IsNoTurnAway r
+no_turn_away c (Ok place) s s' up room unanswered = tt
+no_turn_away c (Err (unanswered.DeviceRead back)) s s' up room away = tt
+no_turn_away c (Err (unanswered.Memory back)) s s' up room away = tt
+no_turn_away c (Err (unanswered.Down ticket back)) s s' up room away = absurd (not_down s ticket up away.0)
+no_turn_away c (Err (unanswered.BookFull back)) s s' up room away = absurd (not_full s room away.0)
+
+-- ---- the entry of a command
+
+-- a call that leaves the kernel up, with one more entry, has made the command
+made_by : (client line : ℕ) (c : Command) (a : Answer) (accepted : Bool) (s t : State) (d : Disk) (s' : State) (d' : Disk) → s.down ≡ None
+    → Calls (call_of client line c) s d s' d' → t.down ≡ s.down → t.book ≡ s.book → is_some (accepted_change c a) ≡ accepted
+    → s' ≡ entered client line c a t → IsMade client line c accepted s d s' d'
+made_by client line c a accepted s t d s' d' up called same book takes after =
+    let entry : Entry = record { client = client; line = line; command = c; answer = a; acks = t.acked } in
+    record {
+      called = called;
+      up = ap (λ (z : State). z.down) after ∙ (same ∙ up);
+      entry = entry;
+      asked = refl;
+      entries = ap (λ (z : State). z.book.entries) after ∙ ap (λ (b : Book). b.entries ++ entry ∷ []) book;
+      commits = ap (λ (z : State). z.book.commits) after ∙ ap (λ (b : Book). b.commits) book;
+      accepted_is = ap (λ (b : Bool). b && is_some (accepted_change c a)) (eq-eqb client client refl) ∙ takes;
+    }
+
+-- a transaction that was refused with an answer has its entry
+made_refused : (client line : ℕ) (change : Change) (reply : Answer) (s : State) (d : Disk) (s' : State) (d' : Disk) → s.down ≡ None
+    → IsKnown change.ops → d' ≡ d → is_some (accepted_change (command.Change change) reply) ≡ false → Refuses client line change reply s d s'
+    → IsMade client line (command.Change change) false s d s' d'
+made_refused client line change reply s d s' d' up may same none refuses =
+    made_by client line (command.Change change) reply false s s d s' d' up (may, inr (inl (reply, refuses)), same) refl refl none refuses.after
+
+-- what a submission makes, by its end
+pub submitted_ends : (client line : ℕ) (change : Change) (r : Result ℕ Refused) (out : Result Bool RunFail) (s : State) (d : Disk) (s' : State)
+    (d' : Disk)
+    → s.down ≡ None → IsKnown change.ops → d' ≡ d → OnOk r (Accepts client line change s s')
+    → IfErr r (λ why. RefusesBy why client line change s d s')
+    → MatchResult out (λ accepted. IsNoted accepted r) (λ e. (e ≡ run.Memory) × IsNotNoted r)
+    → MatchResult out (λ accepted. IsMade client line (command.Change change) accepted s d s' d')
+    (λ e. IsUnmade e client line (command.Change change) s d s' d')
+submitted_ends client line change (Ok place) (Ok true) s d s' d' up may same accepted refuses noted =
+    made_by client line (command.Change change) answer.Accepted true s _ d s' d' up (may, inl accepted, same) refl refl refl accepted.after
+submitted_ends client line change (Err (refused.Refusal refusal)) (Ok false) s d s' d' up may same accepted refuses noted =
+    made_refused client line change (answer.Refused refusal) s d s' d' up may same refl refuses
+submitted_ends client line change (Err (refused.NoSpace need free)) (Ok false) s d s' d' up may same accepted refuses noted =
+    made_refused client line change (answer.NoSpace need free) s d s' d' up may same refl refuses
+submitted_ends client line change (Err (refused.MetaFull need room)) (Ok false) s d s' d' up may same accepted refuses noted =
+    made_refused client line change (answer.MetaFull need room) s d s' d' up may same refl refuses
+submitted_ends client line change (Err (refused.Memory back)) (Err e) s d s' d' up may same accepted refuses noted =
+    subst (λ (z : RunFail). IsUnmade z client line (command.Change change) s d s' d') (sym noted.0) (refuses.0, same)
+submitted_ends client line change (Ok place) (Ok false) s d s' d' up may same accepted refuses noted = absurd noted
+submitted_ends client line change (Err (refused.Refusal refusal)) (Ok true) s d s' d' up may same accepted refuses noted = absurd noted
+submitted_ends client line change (Err (refused.NoSpace need free)) (Ok true) s d s' d' up may same accepted refuses noted = absurd noted
+submitted_ends client line change (Err (refused.MetaFull need room)) (Ok true) s d s' d' up may same accepted refuses noted = absurd noted
+submitted_ends client line change (Err (refused.Down ticket back)) (Ok true) s d s' d' up may same accepted refuses noted = absurd noted
+submitted_ends client line change (Err (refused.Down ticket back)) (Ok false) s d s' d' up may same accepted refuses noted = absurd noted
+submitted_ends client line change (Err (refused.Down ticket back)) (Err e) s d s' d' up may same accepted refuses noted = absurd noted.1
+submitted_ends client line change (Err (refused.BookFull back)) (Ok true) s d s' d' up may same accepted refuses noted = absurd noted
+submitted_ends client line change (Err (refused.BookFull back)) (Ok false) s d s' d' up may same accepted refuses noted = absurd noted
+submitted_ends client line change (Err (refused.BookFull back)) (Err e) s d s' d' up may same accepted refuses noted = absurd noted.1
+submitted_ends client line change (Err (refused.Memory back)) (Ok true) s d s' d' up may same accepted refuses noted = absurd noted
+submitted_ends client line change (Err (refused.Memory back)) (Ok false) s d s' d' up may same accepted refuses noted = absurd noted
+submitted_ends client line change (Ok place) (Err e) s d s' d' up may same accepted refuses noted = absurd noted.1
+submitted_ends client line change (Err (refused.Refusal refusal)) (Err e) s d s' d' up may same accepted refuses noted = absurd noted.1
+submitted_ends client line change (Err (refused.NoSpace need free)) (Err e) s d s' d' up may same accepted refuses noted = absurd noted.1
+submitted_ends client line change (Err (refused.MetaFull need room)) (Err e) s d s' d' up may same accepted refuses noted = absurd noted.1
+
+-- a known read is a call that reads, and accepts nothing
+call_reads : (client line : ℕ) (c : Command) → IsKnownRead c → call_of client line c ≡ reading client line c
+call_reads client line (command.Read coll object off len) known = refl
+call_reads client line (command.Sum coll object) known = refl
+call_reads client line (command.Stat coll object) known = refl
+call_reads client line (command.List coll) known = refl
+call_reads client line c known = absurd known
+
+accepts_none : (c : Command) (a : Answer) → IsKnownRead c → is_some (accepted_change c a) ≡ false
+accepts_none (command.Read coll object off len) a known = refl
+accepts_none (command.Sum coll object) a known = refl
+accepts_none (command.Stat coll object) a known = refl
+accepts_none (command.List coll) a known = refl
+accepts_none c a known = absurd known
+
+-- a read that has no answer leaves the kernel as it was
+unanswered_same : (e : RunFail) (why : Unanswered) (client line : ℕ) (c : Command) (s : State) (d : Disk) (s' : State) (d' : Disk) → IsKnownRead c
+    → UnansweredBy why c s s' → d' ≡ d → IsFailOf e (Err why) → IsUnmade e client line c s d s' d'
+unanswered_same run.DeviceRead (unanswered.DeviceRead back) client line c s d s' d' may away same is = (call_reads client line c may, away.0, same)
+unanswered_same run.Memory (unanswered.Memory back) client line c s d s' d' may away same is = (away.0, same)
+unanswered_same e why client line c s d s' d' may away same is = absurd is
+
+-- what a read makes, by its end
+pub replied_ends : (client line : ℕ) (c : Command) (r : Result ℕ Unanswered) (out : Result (Unit {0}) RunFail) (s : State) (d : Disk) (s' : State)
+    (d' : Disk)
+    → s.down ≡ None → IsKnownRead c → d' ≡ d → OnOk r ((a : Answer) × AnswersRead client line c a s d s')
+    → IfErr r (λ why. UnansweredBy why c s s')
+    → MatchResult out (λ _. IsReplied r) (λ e. IsFailOf e r)
+    → MatchResult out (λ _. IsMade client line c false s d s' d') (λ e. IsUnmade e client line c s d s' d')
+replied_ends client line c (Ok place) (Ok u) s d s' d' up may same answered away replied =
+    let called : Calls (call_of client line c) s d s' d' =
+    subst (λ (call : Call). Calls call s d s' d') (sym (call_reads client line c may)) (may, inl answered, same) in
+    made_by client line c answered.0 false s s d s' d' up called refl refl (accepts_none c answered.0 may) answered.1.after
+replied_ends client line c (Err why) (Err e) s d s' d' up may same answered away replied =
+    unanswered_same e why client line c s d s' d' may away same replied
+replied_ends client line c (Ok place) (Err run.Memory) s d s' d' up may same answered away replied = absurd replied
+replied_ends client line c (Ok place) (Err run.Fault) s d s' d' up may same answered away replied = absurd replied
+replied_ends client line c (Ok place) (Err run.DeviceRead) s d s' d' up may same answered away replied = absurd replied
+replied_ends client line c (Err why) (Ok u) s d s' d' up may same answered away replied = absurd replied
+
+-- what is known where the device failed at a read is known where that is why the read has no entry
+pub read_rose : (r : Result ℕ Unanswered) (out : Result (Unit {0}) RunFail) (A : Type 0) → IfErr r (λ why. IsDeviceRead why → A)
+    → MatchResult out (λ _. IsReplied r) (λ e. IsFailOf e r) → out ≡ Err run.DeviceRead → A
+read_rose (Err (unanswered.DeviceRead back)) (Err run.DeviceRead) A cause replied is = cause tt
+read_rose r (Err run.DeviceRead) A cause replied is = absurd replied
+read_rose r (Err run.Memory) A cause replied is = absurd cc
+read_rose r (Err run.Fault) A cause replied is = absurd cc
+read_rose r (Ok u) A cause replied is = absurd cc

@@ -1,0 +1,11 @@
+pub mod DrawLemmas
+pub mod ClientLemmas
+pub mod TieLemmas
+pub mod RunLemmas
+pub mod StepLemmas
+pub mod SteppingLemmas
+pub mod CommandLemmas
+pub mod AskLemmas
+pub mod ClientRunLemmas
+pub mod Prelude
+pub mod EndLemmas

@@ -1,0 +1,15 @@
+use Rattle.std.proofs.Common.{◌≤◌}
+use Rattle.store_facts.specs.Prelude.{IsKept, measure}
+use Rattle.client_runs.specs.Standing.{StepsOn}
+use Rattle.client_runs.proofs.stepping.next_client.Given as goal
+
+abbrev pub invariant-steps : goal.invariant-steps
+invariant-steps g l = record {
+  so_far : StepsOn l.initial.generator.x l.initial.clients l.initial.kernel.state (g.D.Device.disk l.initial.kernel.device)
+      l.generator.x l.clients l.kernel.state (g.D.Device.disk l.kernel.device);
+  kept : IsKept l.kernel.state (g.D.Device.disk l.kernel.device);
+  later : g.D.Device.faults l.initial.kernel.device ≤ g.D.Device.faults l.kernel.device;
+}
+
+abbrev pub decreases-steps : goal.decreases-steps
+decreases-steps g l = measure l.kernel.state (g.D.Device.disk l.kernel.device).waits

@@ -1,0 +1,5 @@
+pub mod Choice
+pub mod Running
+pub mod Clients
+pub mod Standing
+pub mod Prelude

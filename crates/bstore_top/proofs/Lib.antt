@@ -3,6 +3,7 @@ pub mod Scripts
 pub mod Acked
 pub mod Waits
 pub mod RunLaws
+pub mod Room
 pub mod Demand
 pub mod WorkLemmas
 pub mod Keeping

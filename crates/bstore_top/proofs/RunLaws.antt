@@ -20,7 +20,7 @@ use Rattle.object_model.specs.declared.book.Book.{Book}
 use Rattle.store_image.specs.Prelude.{IsShape, StandsFor}
 use Rattle.unit_allocator.specs.Prelude.{Space}
 use Rattle.script_text.specs.declared.line.Line.{Line}
-use Rattle.client_runs.specs.Prelude.{Ask, asks_of, ready_list, client_calls, Position, at_position, calls_at, IsDrawnRun, EndsRun, RunsUpTo}
+use Rattle.client_runs.specs.Prelude.{Ask, asks_of, ready_list, client_calls, Position, at_position, calls_at, EndsRun, RunsUpTo}
 use Rattle.client_runs.specs.declared.run_fail.RunFail.{RunFail}
 use Rattle.client_runs.specs.declared.run_fail.RunFail.TheVariants as run
 use Rattle.store_steps.specs.declared.step.Step.{Step}
@@ -45,7 +45,8 @@ use Rattle.run_texts.specs.declared.work_end.WorkEnd.TheVariants.{DeviceFault, O
 use Rattle.bstore_top.specs.Prelude.{end_of_run, Seen, RunsScripts, WorksOn, EndsOpened, IsStepDone, RanStep, HasFree, IsFinished, IsComplete, KeepsStore, FinishesOn, AreAllAsked, Succeeded}
 use Rattle.run_texts.specs.Prelude.{Output, TookAll, Printed, is_csum, has_csum, end_status, step_number, step_text}
 use Rattle.bstore_top.proofs.FreeLemmas.{drained_free}
-use Rattle.bstore_top.proofs.Acked.{none_both, all_asked}
+use Rattle.client_runs.proofs.Prelude.{drawn_run, both_empty}
+use Rattle.bstore_top.proofs.Acked.{all_asked}
 
 -- ---- replies that name no bad unit
 
@@ -73,11 +74,6 @@ joined_run [] ys s t u d e f first second =
     subst (λ (z : State). IsRun z d ys u f) first.0 (subst (λ (z : Disk). IsRun t z ys u f) first.1 second)
 joined_run (x ∷ xs) ys s t u d e f first second =
     (first.0, (first.1.0, (first.1.1.0, (first.1.1.1.0, joined_run xs ys first.0 t u first.1.0 e f first.1.1.1.1 second))))
-
--- drawn calls are a run of the kernel
-pub drawn_run : (p : Position) (calls : List Call) (q : Position) → IsDrawnRun p calls q → IsRun p.state p.disk calls q.state q.disk
-drawn_run p [] q run = (ap (λ (z : Position). z.state) run, ap (λ (z : Position). z.disk) run)
-drawn_run p (call ∷ calls) q run = (run.0.state, (run.0.disk, (run.1.0.called, (run.1.0.sound, drawn_run run.0 calls q run.1.1))))
 
 -- where nothing comes behind a position, no call does
 ends_there : (p q : Position) → q ≡ p → (calls : List Call) × IsRun p.state p.disk calls q.state q.disk
@@ -229,7 +225,7 @@ no_step (step ∷ steps) none = absurd cc
 nothing_to_draw : (p : Position) → calls_at p ≡ [] → p.state.down ≡ None → IsThrough p.clients p.state p.disk
 unfolding ready_list
 nothing_to_draw p none up =
-    let parts = none_both (client_calls 0 p.clients p.state.book) (map stepping (ready_list p.disk.depth p.state)) none in
+    let parts = both_empty (client_calls 0 p.clients p.state.book) (map stepping (ready_list p.disk.depth p.state)) none in
     record { no_call = parts.0; drained = no_step (ready_list p.disk.depth p.state) parts.1; up = up }
 
 -- so it is behind a run in which nothing failed

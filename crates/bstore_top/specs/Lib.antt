@@ -1,6 +1,7 @@
 pub mod Standing
 pub mod Keeping
 pub mod Waiting
+pub mod Room
 pub mod StepRun
 pub mod DumpRun
 pub mod Dumping

@@ -27,6 +27,7 @@ use Rattle.run_texts.specs.declared.work_end.WorkEnd.{WorkEnd}
 use Rattle.run_texts.specs.declared.work_end.WorkEnd.TheVariants.{Done, BadLine, NoSuper, BadRow, NotExact, WornOut, DeviceFault, OutOfMemory, BayFault}
 use Rattle.run_texts.specs.Prelude.{Output, ReportsStep}
 use Rattle.bstore_top.specs.Keeping.{KeepsStore}
+use Rattle.bstore_top.specs.Room.{EachFullOnlyBeyond}
 use Rattle.bstore_top.specs.Waiting.{HaveWaited}
 
 -- ---- ends
@@ -71,8 +72,9 @@ scripts_demand (lines ∷ scripts) = script_demand lines + scripts_demand script
 
 -- Scripts were run on a store, each by a client of its own: the clients' run leads from the mounted kernel, over the device as the mount left it, to
 -- the last state, whose book it is. But for the bytes that reads gave, the book is legal for all objects whose shape the rows which were found have.
--- If the scripts together ask for no more units than were free, no transaction was refused for want of units. A command behind a `wait` came once
--- the accepted transactions of its client before it were acknowledged.
+-- If the scripts together ask for no more units than were free, no transaction was refused for want of units; one was refused for want of room in the
+-- log only where it and those accepted before it together need more than there was room for. A command behind a `wait` came once the accepted
+-- transactions of its client before it were acknowledged.
 pub record RunsScripts (seed : ℕ) (scripts : List (List Line)) (given : Disk) (end : WorkEnd) (book : Book) (disk : Disk) : Type 0 where
   pub found : Found
   pub space : Space
@@ -90,6 +92,7 @@ pub record RunsScripts (seed : ℕ) (scripts : List (List Line)) (given : Disk) 
   pub entries : AreAsked (map asks_of scripts) book.entries ran.reached.clients
   pub legal : (objects : Objects) → IsShape found.rows objects → IsLegalButBytes objects book
   pub within : scripts_demand scripts ≤ free_count first.space → any_no_space book.entries ≡ false
+  pub room : EachFullOnlyBeyond first start [] book.entries
   pub waited : HaveWaited scripts book
 
 -- ---- the whole

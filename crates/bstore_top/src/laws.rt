@@ -8,7 +8,6 @@ ghost use Rattle.store_steps.specs.Prelude.{State, free_count, Call, IsRun};
 ghost use Rattle.book_facts.specs.Prelude.{any_no_space};
 ghost use Rattle.run_texts.specs.declared.work_end.WorkEnd.{WorkEnd};
 ghost use Rattle.end_points.specs.Bay.{BayView};
-ghost use Rattle.client_runs.specs.Choice.{Position, IsDrawnRun};
 ghost use Rattle.client_runs.specs.Running.{RunsUpTo};
 ghost use Rattle.client_runs.specs.declared.run_fail.RunFail.{RunFail};
 ghost use Rattle.bstore_top.specs.StepRun.{RanStep, RunsScripts, Seen, scripts_demand};
@@ -16,12 +15,6 @@ ghost use Rattle.bstore_top.specs.DumpRun.{RanDump, Dumped};
 ghost use Rattle.run_texts.specs.Prelude.{Output};
 ghost use Rattle.bstore_top.specs.Finished.{Succeeded};
 ghost use Rattle.bstore_top.specs.GoodStart.{IsGoodStart, IsGoodStore, HasNoFault};
-
-/// Calls that were drawn, one after another, are a run of the kernel.
-#[tactic(auto, using(crate::proofs::RunLaws::drawn_run))]
-pub fn a_drawn_run_is_a_run()
-    ensures { (p : Position) (calls : List Call) (q : Position) → IsDrawnRun p calls q → IsRun p.state p.disk calls q.state q.disk }
-{}
 
 /// The run of clients is a run of the kernel, also where a read was lost on the way.
 pub fn a_run_of_scripts_is_a_run()

@@ -97,6 +97,10 @@ module _ (client : ℕ) (old new : List Client) (l : Line) (took : TakesOf clien
   pub length_took : length new ≡ length old
   length_took = ap (λ (cs : List Client). length cs) took.is ∙ length_changed client (λ c. took.after) old
 
+  pub well_took : AllByRecursion IsClient old → AllByRecursion IsClient new
+  well_took well = subst (λ (cs : List Client). AllByRecursion IsClient cs) (sym took.is)
+      (well_changed IsClient client (λ k. took.after) old (λ k is. took.takes.well) well)
+
   changed_there : (i : ℕ) (cs : List Client) (P : Client → Type 0) (after : Client) → i < length cs → P after → IsOfOne P i (changed i (λ c. after) cs)
   changed_there i [] P after there is = absurd (omega (arith, there))
   changed_there zero (x ∷ xs) P after there is = is
@@ -210,9 +214,7 @@ module _ (client : ℕ) (clients : Clients) (l : Line) (new : List Client) (took
       entry client ∙ ap (λ (b : Bool). unacked client s.book + one_if b) made.accepted_is in
       let others : (m : ℕ) → m ≢ client → unacked m s'.book ≡ unacked m s.book =
       λ m other. entry m ∙ (ap (λ (b : Bool). unacked m s.book + one_if b) (not_of m client made.entry own_client other) ∙ omega arith) in
-      let well_new : AllByRecursion IsClient new =
-      subst (λ (cs : List Client). AllByRecursion IsClient cs) (sym took.is)
-      (well_changed IsClient client (λ k. took.after) old (λ k well. took.takes.well) tied.clients_are.well) in
+      let well_new : AllByRecursion IsClient new = well_took client old new l took tied.clients_are.well in
       let many : length clients'.all.items ≡ length old =
       ap (λ (cs : List Client). length cs) all ∙ (length_if accepted new ∙ length_took client old new l took) in
       record {

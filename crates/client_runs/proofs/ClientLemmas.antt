@@ -1,13 +1,13 @@
 -- The clients, one of which is changed, and which of them can go on.
 use Rattle.std.proofs.Common.{◌≡◌, ℕ, zero, suc, ◌+◌, ◌-◌, ◌<◌, ◌≤◌, Bool, true, false, cond, List, [], ◌∷◌, ◌++◌, map, length, take, Some}
-use Rattle.std.proofs.Common.{ap, ◌∙◌, sym, refl, arith, length-append}
-use Rattle.std.proofs.lemmas.Bool.{ne_eqb}
+use Rattle.std.proofs.Common.{ap, ◌∙◌, sym, refl, subst, arith, length-append, nat_lt}
+use Rattle.std.proofs.lemmas.Bool.{lt-ltb, le-ltb}
 use Rattle.book_facts.proofs.Prelude.{all_push}
-use Rattle.std.specs.Prelude.{slice_get, slice_index_or, slice_set, is_some, ◌&&◌, ◌||◌, not, ◌==◌}
+use Rattle.std.specs.Prelude.{slice_get, slice_index_or, slice_set, insert, remove}
 use Rattle.std.specs.List.{AllByRecursion}
 use Rattle.script_text.specs.declared.line.Line.{Line}
 use Rattle.client_runs.specs.declared.client.Client.{Client}
-use Rattle.client_runs.specs.Prelude.{Ask, asks_of, left_of, lefts, IsClient, IsNewClient, is_able, TakesLine, one_less, able_of, changed, IsOfOne, TakesOf}
+use Rattle.client_runs.specs.Prelude.{Ask, asks_of, left_of, lefts, IsClient, IsNewClient, is_able, TakesLine, able_of, below, able_after, changed, IsOfOne, TakesOf}
 use Rattle.client_runs.proofs.DrawLemmas.{item_at}
 
 -- ---- those that can go on
@@ -102,12 +102,133 @@ set_by P f i cs c d y there is new =
     ∙ (ap (λ (z : Client). changed i (λ x. f z) cs) is
     ∙ changed_as i cs f (slice_index_or cs i d) (item_at i cs d (there_is P i cs there))))
 
--- a change that leaves it as able as it was
-pub able_same : (number i : ℕ) (f : Client → Client) (cs : List Client) → IsOfOne (λ c. is_able (f c) ≡ is_able c) i cs
-    → able_of number (changed i f cs) ≡ able_of number cs
-able_same number i f [] same = absurd same
-able_same number zero f (x ∷ xs) same = ap (λ (b : Bool). cond b (number ∷ able_of (number + 1) xs) (able_of (number + 1) xs)) same
-able_same number (suc i) f (x ∷ xs) same = ap (λ (l : List ℕ). cond (is_able x) (number ∷ l) l) (able_same (number + 1) i f xs same)
+-- ---- who can go on after a change
+
+-- none of those behind is below
+below_none : (n first : ℕ) (cs : List Client) → n ≤ first → below n (able_of first cs) ≡ 0
+below_none n first [] none = refl
+below_none n first (c ∷ cs) none = by_able (is_able c) (below_none n (first + 1) cs (omega (arith, none)))
+  where
+    by_able : (b : Bool) → below n (able_of (first + 1) cs) ≡ 0 → below n (cond b (first ∷ able_of (first + 1) cs) (able_of (first + 1) cs)) ≡ 0
+    by_able true ih = ap (λ (b : Bool). cond b (suc (below n (able_of (first + 1) cs))) 0) (le-ltb first n none)
+    by_able false ih = ih
+
+-- behind a lower number
+after_lower : (n first : ℕ) (was is : Bool) (able : List ℕ) → first < n → able_after n was is (first ∷ able) ≡ first ∷ able_after n was is able
+after_lower n first true true able lower = refl
+after_lower n first false false able lower = refl
+after_lower n first true false able lower = ap (λ (b : Bool). remove (first ∷ able) (cond b (suc (below n able)) 0)) (lt-ltb first n lower)
+after_lower n first false true able lower = ap (λ (b : Bool). insert (first ∷ able) (cond b (suc (below n able)) 0) n) (lt-ltb first n lower)
+
+-- in front of higher ones
+after_higher : (n : ℕ) (was is : Bool) (cs : List Client)
+    → cond is (n ∷ able_of (n + 1) cs) (able_of (n + 1) cs) ≡ able_after n was is (cond was (n ∷ able_of (n + 1) cs) (able_of (n + 1) cs))
+after_higher n true true cs = refl
+after_higher n false false cs = refl
+after_higher n true false cs =
+    sym (ap (λ (b : Bool). remove (n ∷ able_of (n + 1) cs) (cond b (suc (below n (able_of (n + 1) cs))) 0)) (le-ltb n n (omega arith)))
+after_higher n false true cs = sym (ap (λ (k : ℕ). insert (able_of (n + 1) cs) k n) (below_none n (n + 1) cs (omega arith)))
+
+-- those that can go on, of which one was changed
+pub able_changed : (first i n : ℕ) (f : Client → Client) (cs : List Client) (c : Client) → n ≡ first + i → slice_get cs i ≡ Some c
+    → able_of first (changed i f cs) ≡ able_after n (is_able c) (is_able (f c)) (able_of first cs)
+able_changed first i n f [] c is at = absurd cc
+able_changed first zero n f (x ∷ xs) c is at =
+    let same : x ≡ c = cc in
+    let here : n ≡ first = omega (arith, is) in
+    ap (λ (y : Client). cond (is_able (f y)) (first ∷ able_of (first + 1) xs) (able_of (first + 1) xs)) same
+    ∙ (after_higher first (is_able c) (is_able (f c)) xs
+    ∙ (ap (λ (m : ℕ). able_after m (is_able c) (is_able (f c)) (cond (is_able c) (first ∷ able_of (first + 1) xs) (able_of (first + 1) xs))) (sym here)
+    ∙ ap (λ (y : Client). able_after n (is_able c) (is_able (f c)) (cond (is_able y) (first ∷ able_of (first + 1) xs) (able_of (first + 1) xs))) (sym same)))
+able_changed first (suc i) n f (x ∷ xs) c is at = by_able (is_able x) (able_changed (first + 1) i n f xs c (omega (arith, is)) at)
+  where
+    old : List ℕ
+    old = able_of (first + 1) xs
+
+    new : List ℕ
+    new = able_of (first + 1) (changed i f xs)
+
+    by_able : (b : Bool) → new ≡ able_after n (is_able c) (is_able (f c)) old
+        → cond b (first ∷ new) new ≡ able_after n (is_able c) (is_able (f c)) (cond b (first ∷ old) old)
+    by_able true ih = ap (λ (l : List ℕ). first ∷ l) ih ∙ sym (after_lower n first (is_able c) (is_able (f c)) old (omega (arith, is)))
+    by_able false ih = ih
+
+-- one that can go on is among them
+pub able_there : (first i n : ℕ) (cs : List Client) (c : Client) → n ≡ first + i → slice_get cs i ≡ Some c → is_able c ≡ true
+    → below n (able_of first cs) < length (able_of first cs)
+able_there first i n [] c is at able = absurd cc
+able_there first zero n (x ∷ xs) c is at able =
+    let same : x ≡ c = cc in
+    by_able (is_able x) (ap is_able same ∙ able)
+  where
+    by_able : (b : Bool) → b ≡ true
+        → below n (cond b (first ∷ able_of (first + 1) xs) (able_of (first + 1) xs)) < length (cond b (first ∷ able_of (first + 1) xs) (able_of (first + 1) xs))
+    by_able true can = omega (
+      arith,
+      ap (λ (b : Bool). cond b (suc (below n (able_of (first + 1) xs))) 0) (le-ltb first n (omega (arith, is))),
+    )
+    by_able false cannot = absurd cc
+able_there first (suc i) n (x ∷ xs) c is at able = by_able (is_able x) (able_there (first + 1) i n xs c (omega (arith, is)) at able)
+  where
+    old : List ℕ
+    old = able_of (first + 1) xs
+
+    by_able : (b : Bool) → below n old < length old → below n (cond b (first ∷ old) old) < length (cond b (first ∷ old) old)
+    by_able true ih = omega (arith, ih, ap (λ (b : Bool). cond b (suc (below n old)) 0) (lt-ltb first n (omega (arith, is))))
+    by_able false ih = ih
+
+-- where one can't, they are fewer than the clients
+pub able_fewer : (first i : ℕ) (cs : List Client) (c : Client) → slice_get cs i ≡ Some c → is_able c ≡ false → length (able_of first cs) < length cs
+able_fewer first i [] c at able = absurd cc
+able_fewer first zero (x ∷ xs) c at able =
+    let same : x ≡ c = cc in
+    by_able (is_able x) (ap is_able same ∙ able)
+  where
+    by_able : (b : Bool) → b ≡ false → length (cond b (first ∷ able_of (first + 1) xs) (able_of (first + 1) xs)) < suc (length xs)
+    by_able true can = absurd cc
+    by_able false cannot = let few = able_few (first + 1) xs in omega (arith, few)
+able_fewer first (suc i) (x ∷ xs) c at able = by_able (is_able x) (able_fewer (first + 1) i xs c at able)
+  where
+    by_able : (b : Bool) → length (able_of (first + 1) xs) < length xs
+        → length (cond b (first ∷ able_of (first + 1) xs) (able_of (first + 1) xs)) < suc (length xs)
+    by_able true ih = omega (arith, ih)
+    by_able false ih = omega (arith, ih)
+
+pub below_few : (n : ℕ) (able : List ℕ) → below n able ≤ length able
+below_few n [] = omega arith
+below_few n (x ∷ xs) = by_lower (nat_lt x n) (below_few n xs)
+  where
+    by_lower : (b : Bool) → below n xs ≤ length xs → cond b (suc (below n xs)) 0 ≤ suc (length xs)
+    by_lower true ih = omega (arith, ih)
+    by_lower false ih = omega arith
+
+-- A client is looked at before and after a change: it is told whether it could go on, and whether it can.
+module _ (client : ℕ) (cs : List Client) (able : List ℕ) (d : Client) (was : Bool) (ables : able ≡ able_of 0 cs) (there : client < length cs)
+    (was_able : was ≡ is_able (slice_index_or cs client d)) where
+  abbrev before : Client
+  before = slice_index_or cs client d
+
+  at : slice_get cs client ≡ Some before
+  at = item_at client cs d there
+
+  pub leaves_there : was ≡ true → below client able < length able
+  leaves_there could = subst (λ (l : List ℕ). below client l < length l) (sym ables)
+      (able_there 0 client client cs before (omega arith) at (sym was_able ∙ could))
+
+  pub joins_within : was ≡ false → length cs ≤ 64 → length able < 64
+  joins_within could_not few =
+      let fewer = able_fewer 0 client cs before at (sym was_able ∙ could_not) in
+      omega (arith, fewer, few, ap (λ (l : List ℕ). length l) ables)
+
+  pub able_noted : (after : Client) (is : Bool) (cs' : List Client) (able' : List ℕ) → is ≡ is_able after → cs' ≡ slice_set cs client after
+      → able' ≡ able_after client was is able → able' ≡ able_of 0 cs'
+  able_noted after is cs' able' is_able_now set noted =
+      noted
+      ∙ (ap (λ (b : Bool). able_after client b is able) was_able
+      ∙ (ap (λ (b : Bool). able_after client (is_able before) b able) is_able_now
+      ∙ (ap (λ (l : List ℕ). able_after client (is_able before) (is_able after) l) ables
+      ∙ (sym (able_changed 0 client client (λ c. after) cs before (omega arith) at)
+      ∙ (ap (λ (l : List Client). able_of 0 l) (sym (set_changes client cs after)) ∙ ap (λ (l : List Client). able_of 0 l) (sym set))))))
 
 -- what is left is as it was where a change leaves it so
 pub lefts_same : (i : ℕ) (f : Client → Client) (cs : List Client) → ((c : Client) → left_of (f c) ≡ left_of c) → lefts (changed i f cs) ≡ lefts cs
@@ -138,24 +259,6 @@ takes_of client cs b d l after there is takes = record {
   takes = takes;
   is = set_changes client cs after;
 }
-
--- ---- counting
-
--- it is as able as it was where one transaction less is under way, but not none
-pub less_able : (P : Client → Type 0) (client : ℕ) (cs : List Client) (d : Client) → IsOfOne P client cs → 0 < (slice_index_or cs client d).unacked
-    → (((slice_index_or cs client d).unacked - 1) == 0) ≡ false → able_of 0 (changed client one_less cs) ≡ able_of 0 cs
-less_able P client cs d there some more =
-    able_same 0 client one_less cs (one_by P (λ c. is_able (one_less c) ≡ is_able c) client cs d there (same (slice_index_or cs client d) some more))
-  where
-    same : (c : Client) → 0 < c.unacked → ((c.unacked - 1) == 0) ≡ false → is_able (one_less c) ≡ is_able c
-    same c some more =
-        let was : (c.unacked == 0) ≡ false = ne_eqb c.unacked 0 (λ e. omega (arith, e, some)) in
-        ap (λ (b : Bool). is_some c.next && (not c.waits || b)) (more ∙ sym was)
-
-    one_by : (P Q : Client → Type 0) (i : ℕ) (cs : List Client) (d : Client) → IsOfOne P i cs → Q (slice_index_or cs i d) → IsOfOne Q i cs
-    one_by P Q i [] d there is = absurd there
-    one_by P Q zero (x ∷ xs) d there is = is
-    one_by P Q (suc i) (x ∷ xs) d there is = one_by P Q i xs d there is
 
 -- ---- new clients
 

@@ -74,43 +74,32 @@ all_of : (cs : List Commit) → ((i : ℕ) → i < length cs → IfSome (slice_g
 all_of [] acks = tt
 all_of (c ∷ cs) acks = (acks 0 (omega arith), all_of cs (λ i below. acks (suc i) (omega (arith, below))))
 
--- ---- a drained kernel
+-- ---- a book that is complete
 
-module _ (s : State) (d : Disk) (kept : IsKept s d) (order : IsInOrder s) (up : s.down ≡ None) (drained : is_drained d.depth s ≡ true) where
-  abbrev commits : List Commit
-  commits = s.book.commits
-
-  all_acked : AllByRecursion (λ c. is_some c.acked_at ≡ true) commits
-  all_acked = all_of commits (λ i below. IfSome_then (slice_get commits i) (kept.always.book.acks i)
-      (λ (c : Commit) is. is ∙ lt-ltb i s.acked (omega (arith, below, idle_acked s d kept up drained))))
-
-  each_place : (coll : List ℕ) → places_of coll s.book.entries ≡ committed_places coll s.book.entries commits
-  each_place coll =
-      let queued : AreQueued s.book [] =
-      subst (λ (xs : List Context). AreQueued s.book (intents xs)) (idle_pending s d kept up drained) order.queued in
-      queued.in_order coll ∙ append-nil (committed_places coll s.book.entries commits)
-
+-- each commit is acknowledged, and each collection's accepted transactions are committed
+module _ (book : Book) (all_acked : AllByRecursion (λ c. is_some c.acked_at ≡ true) book.commits)
+    (each_place : (coll : List ℕ) → places_of coll book.entries ≡ committed_places coll book.entries book.commits) where
   -- what was accepted is acknowledged
-  acked_at : (p : ℕ) (o : Option Change) → change_at s.book.entries p ≡ o → is_some o ≡ true → is_acknowledged commits p ≡ true
+  acked_at : (p : ℕ) (o : Option Change) → change_at book.entries p ≡ o → is_some o ≡ true → is_acknowledged book.commits p ≡ true
   acked_at p None is some = absurd cc
   acked_at p (Some change) is some =
-      let on : is_on change.coll (change_at s.book.entries p) ≡ true = ap (λ (o : Option Change). is_on change.coll o) is ∙ is_same_itself change.coll in
-      let among : is_among p (places_of change.coll s.book.entries) ≡ true =
-      ap (λ (n : ℕ). is_among n (places_of change.coll s.book.entries)) {x = p} {y = 0 + p} (omega arith) ∙ place_among change.coll 0 p s.book.entries on in
-      among_acked change.coll s.book.entries p commits all_acked (subst (λ (l : List ℕ). is_among p l ≡ true) (each_place change.coll) among)
+      let on : is_on change.coll (change_at book.entries p) ≡ true = ap (λ (o : Option Change). is_on change.coll o) is ∙ is_same_itself change.coll in
+      let among : is_among p (places_of change.coll book.entries) ≡ true =
+      ap (λ (n : ℕ). is_among n (places_of change.coll book.entries)) {x = p} {y = 0 + p} (omega arith) ∙ place_among change.coll 0 p book.entries on in
+      among_acked change.coll book.entries p book.commits all_acked (subst (λ (l : List ℕ). is_among p l ≡ true) (each_place change.coll) among)
 
   -- so no client has a transaction under way
   none_from : (client place : ℕ) (es : List Entry)
-      → ((i : ℕ) → IfSome (slice_get es i) (λ e. is_some (accepted_change e.command e.answer) ≡ true → is_acknowledged commits (place + i) ≡ true))
-      → unacked_from client commits place es ≡ 0
+      → ((i : ℕ) → IfSome (slice_get es i) (λ e. is_some (accepted_change e.command e.answer) ≡ true → is_acknowledged book.commits (place + i) ≡ true))
+      → unacked_from client book.commits place es ≡ 0
   none_from client place [] acks = refl
   none_from client place (e ∷ es) acks =
       let ih = none_from client (place + 1) es (λ i. IfSome_then (slice_get es i) (acks (suc i))
-      (λ (x : Entry) is some. ap (λ (n : ℕ). is_acknowledged commits n) {x = place + 1 + i} {y = place + suc i} (omega arith) ∙ is some)) in
-      let here : one_if (is_accepted_of client e && not (is_acknowledged commits place)) ≡ 0 =
-      nothing (e.client == client) (is_some (accepted_change e.command e.answer)) (is_acknowledged commits place)
-      (λ some. ap (λ (n : ℕ). is_acknowledged commits n) {x = place} {y = place + 0} (omega arith) ∙ acks 0 some) in
-      omega (arith, unacked_cons client commits place e es, ih, here)
+      (λ (x : Entry) is some. ap (λ (n : ℕ). is_acknowledged book.commits n) {x = place + 1 + i} {y = place + suc i} (omega arith) ∙ is some)) in
+      let here : one_if (is_accepted_of client e && not (is_acknowledged book.commits place)) ≡ 0 =
+      nothing (e.client == client) (is_some (accepted_change e.command e.answer)) (is_acknowledged book.commits place)
+      (λ some. ap (λ (n : ℕ). is_acknowledged book.commits n) {x = place} {y = place + 0} (omega arith) ∙ acks 0 some) in
+      omega (arith, unacked_cons client book.commits place e es, ih, here)
     where
       nothing : (a b k : Bool) → (b ≡ true → k ≡ true) → one_if ((a && b) && not k) ≡ 0
       nothing true true true acked = refl
@@ -123,14 +112,14 @@ module _ (s : State) (d : Disk) (kept : IsKept s d) (order : IsInOrder s) (up : 
   change_of (e ∷ es) zero = refl
   change_of (e ∷ es) (suc i) = change_of es i
 
-  pub none_under_way : (client : ℕ) → unacked client s.book ≡ 0
-  none_under_way client = none_from client 0 s.book.entries (λ i. IfSome_then (slice_get s.book.entries i) (change_of s.book.entries i)
-      (λ (e : Entry) is some. ap (λ (n : ℕ). is_acknowledged commits n) {x = 0 + i} {y = i} (omega arith)
+  none_under_way : (client : ℕ) → unacked client book ≡ 0
+  none_under_way client = none_from client 0 book.entries (λ i. IfSome_then (slice_get book.entries i) (change_of book.entries i)
+      (λ (e : Entry) is some. ap (λ (n : ℕ). is_acknowledged book.commits n) {x = 0 + i} {y = i} (omega arith)
       ∙ acked_at i (accepted_change e.command e.answer) is some))
 
 -- ---- the end of a run
 
-both_empty : {A : Type 0} (xs ys : List A) → xs ++ ys ≡ [] → (xs ≡ []) × (ys ≡ [])
+pub both_empty : {A : Type 0} (xs ys : List A) → xs ++ ys ≡ [] → (xs ≡ []) × (ys ≡ [])
 both_empty [] ys none = (refl, none)
 both_empty (x ∷ xs) ys none = absurd cc
 
@@ -157,9 +146,28 @@ no_clients_left client (asks ∷ more) book idle none =
     let both = both_empty (next_call client asks book) (client_calls (client + 1) more book) none in
     (no_next client asks book (idle client) both.0, no_clients_left (client + 1) more book idle both.1)
 
+-- where no client has a call
+pub no_command_left : (clients : List (List Ask)) (book : Book) → AllByRecursion (λ c. is_some c.acked_at ≡ true) book.commits
+    → ((coll : List ℕ) → places_of coll book.entries ≡ committed_places coll book.entries book.commits) → client_calls 0 clients book ≡ []
+    → AllByRecursion (λ asks. asks ≡ []) clients
+no_command_left clients book all each none = no_clients_left 0 clients book (none_under_way book all each) none
+
+-- ---- a drained kernel
+
+module _ (s : State) (d : Disk) (kept : IsKept s d) (order : IsInOrder s) (up : s.down ≡ None) (drained : is_drained d.depth s ≡ true) where
+  commits_acked : AllByRecursion (λ c. is_some c.acked_at ≡ true) s.book.commits
+  commits_acked = all_of s.book.commits (λ i below. IfSome_then (slice_get s.book.commits i) (kept.always.book.acks i)
+      (λ (c : Commit) is. is ∙ lt-ltb i s.acked (omega (arith, below, idle_acked s d kept up drained))))
+
+  all_committed : (coll : List ℕ) → places_of coll s.book.entries ≡ committed_places coll s.book.entries s.book.commits
+  all_committed coll =
+      let queued : AreQueued s.book [] =
+      subst (λ (xs : List Context). AreQueued s.book (intents xs)) (idle_pending s d kept up drained) order.queued in
+      queued.in_order coll ∙ append-nil (committed_places coll s.book.entries s.book.commits)
+
 pub none_left : (p : Position) → IsKept p.state p.disk → IsInOrder p.state → p.state.down ≡ None → calls_at p ≡ []
     → AllByRecursion (λ asks. asks ≡ []) p.clients
 none_left p kept order up none =
     let both = both_empty (client_calls 0 p.clients p.state.book) (map stepping (ready_list p.disk.depth p.state)) none in
-    no_clients_left 0 p.clients p.state.book
-    (none_under_way p.state p.disk kept order up (drained_of p.disk.depth p.state (no_steps (ready_list p.disk.depth p.state) both.1))) both.0
+    let drained = drained_of p.disk.depth p.state (no_steps (ready_list p.disk.depth p.state) both.1) in
+    no_command_left p.clients p.state.book (commits_acked p.state p.disk kept order up drained) (all_committed p.state p.disk kept order up drained) both.0

@@ -7,5 +7,5 @@ pub mod SteppingLemmas
 pub mod CommandLemmas
 pub mod AskLemmas
 pub mod ClientRunLemmas
-pub mod Prelude
 pub mod EndLemmas
+pub mod Prelude

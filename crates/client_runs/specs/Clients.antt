@@ -1,5 +1,5 @@
 -- The clients of a run as the program has them, and how they are tied to the scripts and to the book.
-use Rattle.std.specs.Prelude.{◌≡◌, ℕ, zero, suc, ◌+◌, ◌-◌, ◌<◌, ◌≤◌, ◌==◌, ◌&&◌, ◌||◌, not, Bool, false, if◌then◌else◌, List, [], ◌∷◌, length, map, slice_get, Option, Some, None, is_some, IfSome, IsSomeAnd}
+use Rattle.std.specs.Prelude.{insert, remove, ◌≡◌, ℕ, zero, suc, ◌+◌, ◌-◌, ◌<◌, ◌≤◌, ◌==◌, ◌&&◌, ◌||◌, nat_lt, not, Bool, true, false, if◌then◌else◌, List, [], ◌∷◌, length, map, slice_get, Option, Some, None, is_some, IfSome, IsSomeAnd}
 use Rattle.std.specs.List.{AllByRecursion}
 use Rattle.std.specs.Vec.Iter.{into_iter_items, into_iter_len}
 use Rattle.object_model.specs.declared.book.Book.{Book}
@@ -68,6 +68,17 @@ one_less c = record c { unacked = c.unacked - 1 }
 abbrev pub able_of : ℕ → List Client → List ℕ
 able_of number [] = []
 able_of number (c ∷ cs) = let later : List ℕ = able_of (number + 1) cs in if is_able c then number ∷ later else later
+
+-- how many of these numbers, from the first on, are below this one
+abbrev pub below : ℕ → List ℕ → ℕ
+below number [] = 0
+below number (n ∷ ns) = if nat_lt n number then suc (below number ns) else 0
+
+-- These ascending numbers are of those that can go on. Of the client of this number it is told whether it could, and whether it can now.
+abbrev pub able_after : ℕ → Bool → Bool → List ℕ → List ℕ
+able_after number true false able = remove able (below number able)
+able_after number false true able = insert able (below number able) number
+able_after number was is able = able
 
 -- the clients, of which one was changed
 abbrev pub changed : ℕ → (Client → Client) → List Client → List Client

@@ -1,18 +1,18 @@
 //! The clients of a run, and which of them can go on.
-ghost use Rattle.std.specs.Prelude.{◌≡◌, ◌<◌, ◌≤◌, length, map, is_some, true, IfOk, if◌then◌else◌};
-ghost use Rattle.std.specs.List.{AllByRecursion};
-ghost use Rattle.client_runs.specs.Clients.{IsClient, able_of, changed, IsOfOne, AreClients, AreNewClients, TakesOf, one_more, one_less};
+ghost use Rattle.std.specs.Prelude.{◌≡◌, ◌<◌, ◌≤◌, length, map, true, false, IfOk, if◌then◌else◌};
+ghost use Rattle.client_runs.specs.Clients.{is_able, able_of, below, able_after, changed, IsOfOne, AreClients, AreNewClients, TakesOf, one_more, one_less};
 
 use crate::client::Client;
 use arrayvec::ArrayVec;
 use script_text::Line;
 use std::alloc::{AllocError, Global};
+use unit_fields::limits::CLIENT_LIMIT;
 
 /// The most clients of a run.
-pub const CLIENT_LIMIT: usize = 64;
+const CLIENTS: usize = CLIENT_LIMIT as usize;
 
 /// The numbers of clients.
-pub type Numbers = ArrayVec<u32, CLIENT_LIMIT>;
+pub type Numbers = ArrayVec<u32, CLIENTS>;
 
 /// The clients of a run, by their numbers, and the numbers of those that can go on.
 #[derive(Drop)]
@@ -33,6 +33,37 @@ fn able_now(all: &[Client]) -> Numbers
         }
     }
     able
+}
+
+/// How many of ascending numbers are below a client's: the position at which its own belongs.
+fn rank_in(able: &[u32], client: u32) -> usize
+    ensures { result ≡ below client able.now }
+{
+    for (at, number) in able.iter().enumerate() {
+        if client <= *number {
+            return at;
+        }
+    }
+    able.len()
+}
+
+/// A client could go on or not, and now it can or not: its number joins those of the others that can, or leaves them.
+fn note_able(able: &mut Numbers, client: u32, was: bool, is: bool)
+    requires there { was ≡ true → is ≡ false → below client able.old.items < length able.old.items }
+    requires room { was ≡ false → is ≡ true → length able.old.items < 64 }
+    ensures { able.new.items ≡ able_after client was is able.old.items }
+{
+    match (was, is) {
+        (true, false) => {
+            let at = rank_in(able.as_slice(), client);
+            able.remove(at);
+        }
+        (false, true) => {
+            let at = rank_in(able.as_slice(), client);
+            able.insert(at, client);
+        }
+        (true, true) | (false, false) => {}
+    }
 }
 
 impl Clients {
@@ -57,26 +88,34 @@ impl Clients {
         self.able.as_slice()
     }
 
-    /// The line of the next command of a client that can go on.
+    /// The line of the next command of a client that can go on. It goes on behind it.
     pub fn take(&mut self, client: u32) -> Line
-        requires well { AllByRecursion IsClient self.old.all.items }
-        requires some { IsOfOne (λ c. is_some c.next ≡ true) client self.old.all.items }
-        ensures { TakesOf client self.old.all.items result self.new.all.items }
+        requires clients { AreClients self.old }
+        requires can { IsOfOne (λ c. is_able c ≡ true) client self.old.all.items }
+        ensures taken { TakesOf client self.old.all.items result self.new.all.items }
+        ensures able { self.new.able.items ≡ able_of 0 self.new.all.items }
     {
-        self.all[client as usize].take()
+        let it = &mut self.all[client as usize];
+        let line = it.take();
+        let is = it.is_able();
+        note_able(&mut self.able, client, true, is);
+        line
     }
 
-    /// Counts a transaction of a client where it was accepted, and finds anew who can go on.
+    /// Counts a transaction of a client where it was accepted.
     pub fn made(&mut self, client: u32, accepted: bool)
-        requires few { length self.old.all.items ≤ 64 }
+        requires clients { AreClients self.old }
         requires room { IsOfOne (λ c. c.unacked < 4294967295) client self.old.all.items }
         ensures counted { self.new.all.items ≡ (if accepted then changed client one_more self.old.all.items else self.old.all.items) }
         ensures able { self.new.able.items ≡ able_of 0 self.new.all.items }
     {
         if accepted {
-            self.all[client as usize].count_accepted();
+            let it = &mut self.all[client as usize];
+            let was = it.is_able();
+            it.count_accepted();
+            let is = it.is_able();
+            note_able(&mut self.able, client, was, is);
         }
-        self.able = able_now(&self.all);
     }
 
     /// A transaction of a client is acknowledged.
@@ -86,8 +125,10 @@ impl Clients {
         ensures counted { self.new.all.items ≡ changed client one_less self.old.all.items }
         ensures able { self.new.able.items ≡ able_of 0 self.new.all.items }
     {
-        if self.all[client as usize].count_acknowledged() {
-            self.able = able_now(&self.all);
-        }
+        let it = &mut self.all[client as usize];
+        let was = it.is_able();
+        it.count_acknowledged();
+        let is = it.is_able();
+        note_able(&mut self.able, client, was, is);
     }
 }

@@ -4,9 +4,7 @@ ghost use Rattle.std.specs.Prelude.{◌≡◌, ◌↔◌, ◌<◌, ℕ, [], IsTr
 ghost use Rattle.command_words.specs.FileNames.{IsFileName, AreFileNames};
 
 use std::marker::Model;
-
-/// The most scripts of a run of `step`: clients are numbered from 0 to 63.
-pub const MOST_SCRIPTS: usize = 64;
+use unit_fields::limits::CLIENT_LIMIT;
 
 /// The name of a device or of a script, lent by the words: not empty, and without a dash at its front.
 #[derive(Drop)]
@@ -103,7 +101,7 @@ pub fn read_file_names(words: &[String]) -> Option<FileNames<'_>>
     ensures { MatchOption result (¬ (AreFileNames (map string_bytes words.now)))
         (λ names. (names ≡ map string_bytes words.now) × AreFileNames (map string_bytes words.now)) }
 {
-    if words.is_empty() || MOST_SCRIPTS < words.len() || !are_file_names(words) {
+    if words.is_empty() || (CLIENT_LIMIT as usize) < words.len() || !are_file_names(words) {
         return None;
     }
     Some(FileNames { words })

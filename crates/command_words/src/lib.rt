@@ -5,4 +5,4 @@ mod command_line;
 mod file_names;
 
 pub use command_line::{CommandLine, read_words};
-pub use file_names::{FileName, FileNames, MOST_SCRIPTS};
+pub use file_names::{FileName, FileNames};

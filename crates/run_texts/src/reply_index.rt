@@ -5,9 +5,10 @@ ghost use Rattle.run_texts.specs.ReplyIndex.{clients_of, place_from, AreLinked, 
 
 use object_model::{Commit, Entry};
 use std::alloc::{AllocError, Global};
+use unit_fields::limits::CLIENT_LIMIT;
 
 /// How many clients there are at most: they are numbered from 0 on.
-pub const CLIENTS: usize = 64;
+pub const CLIENTS: usize = CLIENT_LIMIT as usize;
 
 /// What is noted of the entries of a book before their lines are printed.
 #[derive(Drop)]

@@ -1,5 +1,5 @@
 //! The kernel: its fields, how it begins and ends, and its steps.
-ghost use Rattle.std.specs.Prelude.{◌≡◌, ◌≢◌, ℕ, ◌≤◌, ◌<◌, ◌^◌, ◌==◌, ◌&&◌, nat_lt, [], true, false, None, is_some, length, OnOk, OnErr, IfOk, IfErr, IsErrOf, MatchResult};
+ghost use Rattle.std.specs.Prelude.{◌≡◌, ◌≢◌, ℕ, ◌≤◌, ◌<◌, ◌^◌, nat_lt, [], true, false, None, length, OnOk, OnErr, IfOk, IfErr, IsErrOf, MatchResult};
 ghost use Rattle.std.specs.List.{list_any};
 ghost use Rattle.block_device.specs.Prelude.{Rose};
 ghost use Rattle.store_steps.specs.Prelude.{opened, is_ready, is_ready_up, all_steps, is_drained, is_not_sent, batch_is, applied_count, Takes, Does, free_count};
@@ -175,15 +175,6 @@ impl<D: Device> Kernel<D> {
         ensures { result.now ≡ self.now.state.book.commits }
     {
         self.commits.as_slice()
-    }
-
-    /// Whether the transaction at this place of the book is acknowledged.
-    pub fn acked(&self, place: u32) -> bool
-        ensures { result ≡ list_any (λ c. (c.place == place) && is_some c.acked_at) self.now.state.book.commits }
-    {
-        self.commits
-            .iter()
-            .any(|c| c.place == place && c.acked_at.is_some())
     }
 
     /// How many commits are acknowledged: the first so many of them.

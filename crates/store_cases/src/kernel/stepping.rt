@@ -235,6 +235,10 @@ pub fn print_acked(
     out: &mut Text,
 ) -> Result<(), CaseError> {
     let place = small(words.last()?)?;
-    out.println(kernel.acked(place));
+    let acked = kernel
+        .commits()
+        .iter()
+        .any(|commit| commit.place == place && commit.acked_at.is_some());
+    out.println(acked);
     Ok(())
 }

@@ -24,8 +24,11 @@ module _ (s : State) (d : Disk) (kept : IsKept s d) where
   full_push : (before es : List Entry) (e : Entry) → EachFullOnlyBeyond s d before es → FullOnlyBeyond s d (before ++ es) e.answer
       → EachFullOnlyBeyond s d before (es ++ e ∷ [])
   full_push before [] e each one = (subst (λ (l : List Entry). FullOnlyBeyond s d l e.answer) (append-nil before) one, tt)
-  full_push before (x ∷ es) e each one = (each.0, full_push (before ++ x ∷ []) es e each.1
-      (subst (λ (l : List Entry). FullOnlyBeyond s d l e.answer) (sym (append_assoc before (x ∷ []) es)) one))
+  full_push before (x ∷ es) e each one = (
+    each.0,
+    full_push (before ++ x ∷ []) es e each.1
+        (subst (λ (l : List Entry). FullOnlyBeyond s d l e.answer) (sym (append_assoc before (x ∷ []) es)) one),
+  )
 
   -- the entries of a state
   abbrev FullIn : State → Type 0

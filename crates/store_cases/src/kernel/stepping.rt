@@ -235,10 +235,8 @@ pub fn print_acked(
     out: &mut Text,
 ) -> Result<(), CaseError> {
     let place = small(words.last()?)?;
-    let acked = kernel
-        .commits()
-        .iter()
-        .any(|commit| commit.place == place && commit.acked_at.is_some());
+    let acked = kernel.commits().iter().any(|commit| commit.place == place
+        && commit.acked_at.is_some());
     out.println(acked);
     Ok(())
 }

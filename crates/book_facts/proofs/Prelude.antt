@@ -7,5 +7,5 @@ pub use Rattle.book_facts.proofs.Order.{order_opened}
 pub use Rattle.book_facts.proofs.Selecting.{has_coll, all_selected, stand_none}
 pub use Rattle.book_facts.proofs.BookCalls.{book_call, book_run, order_run}
 pub use Rattle.book_facts.proofs.Applied.{applied_by_places, applied_committed, batch_last, applied_entry, all_under_way}
-pub use Rattle.book_facts.proofs.Rooms.{step_room}
+pub use Rattle.book_facts.proofs.Rooms.{step_room, run_room}
 pub use Rattle.book_facts.proofs.Demand.{want_is_beyond_the_demand}

@@ -1,7 +1,6 @@
 -- Want of room in the log comes only where more is needed than there was room for at the mount.
-use Rattle.std.proofs.Common.{◌≡◌, inl, inr, List, [], ◌∷◌, ◌++◌, refl, sym, ap, subst, append_assoc, append-nil}
+use Rattle.std.proofs.Common.{◌≡◌, inl, inr, ℕ, ◌+◌, ◌<◌, ◌≤◌, List, [], ◌∷◌, ◌++◌, refl, sym, ap, subst, ◌∙◌, arith}
 use Rattle.block_device.specs.Prelude.{Disk}
-use Rattle.object_model.specs.declared.book.Book.{Book}
 use Rattle.object_model.specs.declared.book.Entry.{Entry}
 use Rattle.object_model.specs.declared.command.Answer.{Answer}
 use Rattle.object_model.specs.declared.command.Answer.TheVariants as answer
@@ -9,89 +8,106 @@ use Rattle.object_model.specs.declared.command.Command.{Command}
 use Rattle.object_model.specs.declared.command.Command.TheVariants as ask
 use Rattle.object_model.specs.Prelude.{Change}
 use Rattle.meta_log.specs.Prelude.{width_of}
+use Rattle.meta_store.specs.Store.{room_of}
 use Rattle.object_rows.proofs.PlansKeep.{plans_keep}
 use Rattle.read_facts.specs.Prelude.{IsHeldAt, HasReadNames, IsAnswerOf}
 use Rattle.store_steps.specs.Prelude.{State, Call, submitting, reading, stepping, Calls, IsRun, Refuses, memory_of}
 use Rattle.store_facts.specs.Prelude.{IsKept}
 use Rattle.store_facts.proofs.Prelude.{kept_call}
-use Rattle.book_facts.proofs.Prelude.{step_room}
-use Rattle.book_facts.proofs.Rooms.{want_of_room}
-use Rattle.bstore_top.specs.Room.{FullOnlyBeyond, EachFullOnlyBeyond}
-use Rattle.bstore_top.proofs.RunLaws.{joined_run}
+use Rattle.book_facts.proofs.Prelude.{step_room, run_room}
+use Rattle.client_runs.specs.Prelude.{Position, Draws, IsDrawnRun}
+use Rattle.bstore_top.specs.Room.{need_of_call, FullOnlyBeyond, EachFullOnlyBeyond}
 
-module _ (s : State) (d : Disk) (kept : IsKept s d) where
-  -- one entry more
-  full_push : (before es : List Entry) (e : Entry) → EachFullOnlyBeyond s d before es → FullOnlyBeyond s d (before ++ es) e.answer
-      → EachFullOnlyBeyond s d before (es ++ e ∷ [])
-  full_push before [] e each one = (subst (λ (l : List Entry). FullOnlyBeyond s d l e.answer) (append-nil before) one, tt)
-  full_push before (x ∷ es) e each one = (
-    each.0,
-    full_push (before ++ x ∷ []) es e each.1
-        (subst (λ (l : List Entry). FullOnlyBeyond s d l e.answer) (sym (append_assoc before (x ∷ []) es)) one),
-  )
+-- ---- the entry that a call adds
 
-  -- the entries of a state
-  abbrev FullIn : State → Type 0
-  FullIn t = EachFullOnlyBeyond s d [] t.book.entries
+same_last : {A : Type 0} (xs : List A) (x w : A) → xs ++ x ∷ [] ≡ xs ++ w ∷ [] → w ≡ x
+same_last [] x w e = cc
+same_last (y ∷ ys) x w e = same_last ys x w cc
 
-  entry_full : (t t' : State) (e : Entry) → FullIn t → t'.book.entries ≡ t.book.entries ++ e ∷ [] → FullOnlyBeyond s d t.book.entries e.answer → FullIn t'
-  entry_full t t' e full entries one =
-      subst (EachFullOnlyBeyond s d []) (sym entries) (full_push [] t.book.entries e full one)
+none_added : {A : Type 0} (xs : List A) (x : A) → xs ≡ xs ++ x ∷ [] → ⊥
+none_added [] x e = cc
+none_added (y ∷ ys) x e = none_added ys x cc
 
-  same_full : (t t' : State) → FullIn t → t'.book.entries ≡ t.book.entries → FullIn t'
-  same_full t t' full entries = subst (EachFullOnlyBeyond s d []) (sym entries) full
+-- a read isn't answered with want of room
+read_not_full : (e : Disk) (t : State) (command : Command) (a : Answer) (need left : ℕ) → HasReadNames command
+    → IsAnswerOf (width_of t.log.sup) (memory_of t) (IsHeldAt e) t.submitted command a → a ≡ answer.MetaFull need left → ⊥
+read_not_full e t (ask.Read c o off len) (answer.MetaFull need room) n l names given is = given.1
+read_not_full e t (ask.Sum c o) (answer.MetaFull need room) n l names given is = given.1
+read_not_full e t (ask.Stat c o) (answer.MetaFull need room) n l names given is = given.1
+read_not_full e t (ask.List c) (answer.MetaFull need room) n l names given is = given.1
+read_not_full e t command (answer.MetaFull need room) n l names given is = names
+read_not_full e t command a n l names given is = cc
 
-  -- a read isn't answered so
-  read_full : (before : List Entry) (e : Disk) (t : State) (command : Command) (a : Answer) → HasReadNames command
-      → IsAnswerOf (width_of t.log.sup) (memory_of t) (IsHeldAt e) t.submitted command a → FullOnlyBeyond s d before a
-  read_full before e t (ask.Read c o off len) (answer.MetaFull need room) names given = absurd given.1
-  read_full before e t (ask.Sum c o) (answer.MetaFull need room) names given = absurd given.1
-  read_full before e t (ask.Stat c o) (answer.MetaFull need room) names given = absurd given.1
-  read_full before e t (ask.List c) (answer.MetaFull need room) names given = absurd given.1
-  read_full before e t command (answer.MetaFull need room) names given = absurd names
-  read_full before e t command a names given = tt
+-- ---- a call
 
-  -- calls that led here
-  module _ (front : List Call) (t : State) (e : Disk) (led : IsRun s d front t e) where
-    refusal_full : (client line : _) (change : Change) (a : Answer) (t' : State) → Refuses client line change a t e t' → FullOnlyBeyond s d t.book.entries a
-    refusal_full client line change (answer.MetaFull need room) t' refuses = record {
-      calls = front;
-      last = t;
-      disk = e;
-      run = led;
-      made = refl;
-      beyond = want_of_room front s t t' d e client line need room change plans_keep kept led refuses;
-    }
-    refusal_full client line change a t' refuses = tt
+module _ (room needed : ℕ) (p q : Position) (kept : IsKept p.state p.disk) (before : room ≤ room_of p.state.log + needed) where
+  -- whose entry tells of want of room
+  module _ (e : Entry) (need left : ℕ) (added : q.state.book.entries ≡ p.state.book.entries ++ e ∷ []) (full : e.answer ≡ answer.MetaFull need left) where
+    own_full : (own : Entry) → q.state.book.entries ≡ p.state.book.entries ++ own ∷ [] → own.answer ≡ answer.MetaFull need left
+    own_full own entries = ap (λ (x : Entry). x.answer) (same_last p.state.book.entries e own (sym added ∙ entries)) ∙ full
 
-    call_full : (call : Call) (t' : State) (e' : Disk) → IsKept t e → Calls call t e t' e' → FullIn t → FullIn t'
-    call_full (submitting client line change) t' e' now made full = elim made.1 [
-      | inl does ↦ entry_full t t' (record { client = client; line = line; command = ask.Change change; answer = answer.Accepted; acks = t.acked }) full
-          (ap (λ (z : State). z.book.entries) does.after) tt
-      | inr (inl refuses) ↦ entry_full t t' (record { client = client; line = line; command = ask.Change change; answer = refuses.0; acks = t.acked }) full
-          (ap (λ (z : State). z.book.entries) refuses.1.after) (refusal_full client line change refuses.0 t' refuses.1)
-      | inr (inr away) ↦ same_full t t' full (ap (λ (z : State). z.book.entries) away.same)
-    ]
-    call_full (reading client line command) t' e' now made full = elim made.1 [
-      | inl is ↦ entry_full t t' (record { client = client; line = line; command = command; answer = is.0; acks = t.acked }) full
-          (ap (λ (z : State). z.book.entries) is.1.after) (read_full t.book.entries e t command is.0 is.1.names is.1.given)
-      | inr away ↦ same_full t t' full (ap (λ (z : State). z.book.entries) away.same)
-    ]
-    call_full (stepping step) t' e' now made full = same_full t t' full (step_room t e t' e' step now made.0 made.1).entries
+    none_here : q.state.book.entries ≡ p.state.book.entries → ⊥
+    none_here same = none_added p.state.book.entries e (sym same ∙ added)
 
-  -- a run behind the calls that led here
-  calls_full : (calls front : List Call) (t : State) (e : Disk) (s' : State) (d' : Disk) → IsRun s d front t e → IsKept t e → FullIn t
-      → IsRun t e calls s' d' → FullIn s'
-  calls_full [] front t e s' d' led now full run = subst FullIn (sym run.0) full
-  calls_full (call ∷ calls) front t e s' d' led now full run =
-      let u : State = run.0 in
-      let f : Disk = run.1.0 in
-      let one : IsRun t e (call ∷ []) u f = (u, (f, (run.1.1.0, (run.1.1.1.0, (refl, refl))))) in
-      calls_full calls (front ++ call ∷ []) u f s' d' (joined_run front (call ∷ []) s t u d e f led one)
-      (kept_call call t u e f plans_keep now run.1.1.0 run.1.1.1.0) (call_full front t e led call u f now run.1.1.0 full) run.1.1.1.1
+    refused_full : (client line : ℕ) (change : Change) (a : Answer) → Refuses client line change a p.state p.disk q.state → room < needed + need
+    refused_full client line change a refuses =
+        let own : Entry = record { client = client; line = line; command = ask.Change change; answer = a; acks = p.state.acked } in
+        let is : a ≡ answer.MetaFull need left = own_full own (ap (λ (z : State). z.book.entries) refuses.after) in
+        let refuses_so : Refuses client line change (answer.MetaFull need left) p.state p.disk q.state =
+        subst (λ (b : Answer). Refuses client line change b p.state p.disk q.state) is refuses in
+        let told = refuses_so.cause.2 in
+        let less = refuses_so.cause.3 in
+        omega (arith, before, told, less)
 
-  pub run_full : (calls : List Call) (s' : State) (d' : Disk) (book : Book) → s.book.entries ≡ [] → IsRun s d calls s' d' → book ≡ s'.book
-      → EachFullOnlyBeyond s d [] book.entries
-  run_full calls s' d' book empty run book_is =
-      let full : FullIn s' = calls_full calls [] s d s' d' (refl, refl) kept (subst (EachFullOnlyBeyond s d []) (sym empty) tt) run in
-      subst (λ (b : Book). EachFullOnlyBeyond s d [] b.entries) (sym book_is) full
+  call_full : (call : Call) → Draws p call q → FullOnlyBeyond room needed p q
+  call_full (submitting client line change) draws = λ e need left added full.
+      elim draws.called.1 [
+        | inl does ↦ (
+          let own : Entry = record { client = client; line = line; command = ask.Change change; answer = answer.Accepted; acks = p.state.acked } in
+          let is : answer.Accepted ≡ answer.MetaFull need left = own_full e need left added full own (ap (λ (z : State). z.book.entries) does.after) in
+          absurd cc)
+        | inr (inl refuses) ↦ refused_full e need left added full client line change refuses.0 refuses.1
+        | inr (inr away) ↦ absurd (none_here e need left added full (ap (λ (z : State). z.book.entries) away.same))
+      ]
+  call_full (reading client line command) draws = λ e need left added full.
+      elim draws.called.1 [
+        | inl is ↦ (
+          let own : Entry = record { client = client; line = line; command = command; answer = is.0; acks = p.state.acked } in
+          absurd (read_not_full p.disk p.state command is.0 need left is.1.names is.1.given
+          (own_full e need left added full own (ap (λ (z : State). z.book.entries) is.1.after))))
+        | inr away ↦ absurd (none_here e need left added full (ap (λ (z : State). z.book.entries) away.same))
+      ]
+  call_full (stepping step) draws = λ e need left added full.
+      absurd (none_here e need left added full (step_room p.state p.disk q.state q.disk step kept draws.called.0 draws.called.1).entries)
+
+-- an accepted transaction takes the room that it needs, and no other call takes any
+call_room : (call : Call) (p q : Position) (draws : Draws p call q) → IsKept p.state p.disk
+    → room_of p.state.log ≤ room_of q.state.log + need_of_call call p q draws
+call_room (submitting client line change) p q draws kept =
+    let one : room_of p.state.log ≤ room_of q.state.log + (need_of_call (submitting client line change) p q draws + 0) =
+    run_room (submitting client line change ∷ []) p.state q.state p.disk q.disk plans_keep kept
+    (q.state, (q.disk, (draws.called, (draws.sound, (refl, refl))))) in
+    omega (arith, one)
+call_room (reading client line command) p q draws kept =
+    run_room (reading client line command ∷ []) p.state q.state p.disk q.disk plans_keep kept
+    (q.state, (q.disk, (draws.called, (draws.sound, (refl, refl)))))
+call_room (stepping step) p q draws kept =
+    run_room (stepping step ∷ []) p.state q.state p.disk q.disk plans_keep kept (q.state, (q.disk, (draws.called, (draws.sound, (refl, refl)))))
+
+-- ---- a run
+
+each_full : (room needed : ℕ) (p : Position) (calls : List Call) (q : Position) (run : IsDrawnRun p calls q) → IsKept p.state p.disk
+    → room ≤ room_of p.state.log + needed → EachFullOnlyBeyond room needed p calls q run
+each_full room needed p [] q run kept before = tt
+each_full room needed p (call ∷ calls) q run kept before =
+    let r : Position = run.0 in
+    let draws : Draws p call r = run.1.0 in
+    let here = call_room call p r draws kept in (
+      call_full room needed p r kept before call draws,
+      each_full room (needed + need_of_call call p r draws) r calls q run.1.1
+          (kept_call call p.state r.state p.disk r.disk plans_keep kept draws.called draws.sound) (omega (arith, before, here)),
+    )
+
+pub run_full : (p : Position) (calls : List Call) (q : Position) (run : IsDrawnRun p calls q) → IsKept p.state p.disk
+    → EachFullOnlyBeyond (room_of p.state.log) 0 p calls q run
+run_full p calls q run kept = each_full (room_of p.state.log) 0 p calls q run kept (omega arith)

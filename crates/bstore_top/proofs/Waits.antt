@@ -24,7 +24,8 @@ use Rattle.store_facts.proofs.Prelude.{kept_call}
 use Rattle.book_facts.specs.Prelude.{commit_places}
 use Rattle.book_facts.proofs.Prelude.{places_acknowledged}
 use Rattle.object_rows.proofs.PlansKeep.{plans_keep}
-use Rattle.client_runs.specs.Prelude.{Ask, asks_of, is_acknowledged, is_accepted_of, unacked_from, unacked, may_ask, call_of, next_call, client_calls, ready_list, behind, asks_after, Position, calls_at, Draws, IsDrawnRun, command_sum, Asked, asked_in, asked_by, entries_of, EachAskedUpTo, at_position, IsNew, EndsRun, RunsUpTo}
+use Rattle.object_model.specs.Prelude.{is_acknowledged}
+use Rattle.client_runs.specs.Prelude.{Ask, asks_of, is_accepted_of, unacked_from, unacked, may_ask, call_of, next_call, client_calls, ready_list, behind, asks_after, Position, calls_at, Draws, IsDrawnRun, command_sum, Asked, asked_in, asked_by, entries_of, EachAskedUpTo, at_position, IsNew, EndsRun, RunsUpTo}
 use Rattle.client_runs.specs.declared.run_fail.RunFail.{RunFail}
 use Rattle.client_runs.specs.declared.run_fail.RunFail.TheVariants as run
 use Rattle.bstore_top.specs.Waiting.{is_among_first, HasWaited, IsBehindWait, EachHasWaited, HaveWaited}
@@ -504,6 +505,12 @@ ends_goes_on (Some run.Memory) p q ended = book_stays _ _ (ap (λ (z : Position)
 ends_goes_on (Some run.DeviceRead) p q ended =
     subst (λ (s : State). BookGoesOn s.book q.state.book) ended.lost.state
     (run_goes_on ended.resumed ended.leads.calls q ended.leads.run ended.lost.clients)
+
+-- the entries are those up to where the clients were
+pub ends_entries : (fail : Option RunFail) (x : ℕ) (scripts : List (List Line)) (s : State) (d : Disk) (s' : State) (d' : Disk)
+    → (ran : RunsUpTo fail x scripts s d s' d') → s'.book.entries ≡ ran.reached.state.book.entries
+ends_entries fail x scripts s d s' d' ran =
+    ap (λ (t : State). t.book.entries) (sym ran.state) ∙ (ends_goes_on fail ran.reached ran.last ran.ended).entries
 
 -- ---- all commands are entries or left
 

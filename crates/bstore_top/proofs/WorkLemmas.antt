@@ -18,14 +18,14 @@ use Rattle.log_replay.specs.declared.opening.MountFail.{MountFail}
 use Rattle.log_replay.specs.declared.opening.MountFail.TheVariants as fail
 use Rattle.log_replay.proofs.ZeroLemmas.{told_start, goes_on_same}
 use Rattle.log_replay.proofs.MadeLemmas.{told_join}
-use Rattle.client_runs.specs.Prelude.{asks_of, IsNew, AreAsked, RunsUpTo}
+use Rattle.client_runs.specs.Prelude.{asks_of, at_position, IsNew, AreAsked, RunsUpTo}
 use Rattle.client_runs.specs.declared.run_fail.RunFail.{RunFail}
 use Rattle.client_runs.specs.declared.run_fail.RunFail.TheVariants as run
 use Rattle.bstore_top.specs.Prelude.{FailsToMount, LeftByMount, HasCounted, end_of_mount, end_of_run, HaveWaited}
 use Rattle.bstore_top.proofs.RunLaws.{clients_run, joined_run, legal_of, RanKept}
 use Rattle.bstore_top.proofs.Demand.{found_within}
 use Rattle.bstore_top.proofs.Room.{run_full}
-use Rattle.bstore_top.proofs.Waits.{have_waited}
+use Rattle.bstore_top.proofs.Waits.{have_waited, ends_entries}
 
 -- ---- mounting
 
@@ -183,8 +183,8 @@ module _ (seed : ℕ) (scripts : List (List Line)) (given : Disk) (f : Found) (s
           legal = legal_of given f space start s closed.closed disk (run.0 ++ closed.reaped.calls) book known.mounted known.kept whole closed.book_is;
           within = found_within scripts given f space start s closed.closed disk (run.0 ++ closed.reaped.calls) book ran.reached.clients known.mounted
               known.kept whole closed.book_is asked;
-          room = run_full s start known.kept (run.0 ++ closed.reaped.calls) closed.closed disk book (ap (λ (z : State). z.book.entries) known.mounted.state)
-              whole closed.book_is;
+          drawn = ap (λ (b : Book). b.entries) closed.same ∙ ends_entries fail seed scripts s start s' d' ran;
+          room = run_full (at_position seed (map asks_of scripts) s start) ran.leads.calls ran.reached ran.leads.run known.kept;
           waited = subst (HaveWaited scripts) (sym closed.same)
               (have_waited fail seed scripts s start s' d' ran (opened_new given f space start s known.mounted) known.kept);
         };

@@ -1,29 +1,25 @@
 -- Where a run refuses a transaction for want of room in the log.
 use Rattle.std.specs.Prelude.{◌≡◌, ℕ, ◌+◌, ◌<◌, List, [], ◌∷◌, ◌++◌}
-use Rattle.block_device.specs.Prelude.{Disk}
 use Rattle.object_model.specs.declared.book.Entry.{Entry}
 use Rattle.object_model.specs.declared.command.Answer.{Answer}
 use Rattle.object_model.specs.declared.command.Answer.TheVariants as answer
-use Rattle.meta_store.specs.Store.{room_of}
-use Rattle.store_steps.specs.Prelude.{State, Call, IsRun}
-use Rattle.book_facts.specs.Prelude.{needs_in}
+use Rattle.store_steps.specs.Prelude.{Call, submitting, reading, stepping}
+use Rattle.book_facts.specs.Prelude.{need_if_accepted}
+use Rattle.client_runs.specs.Prelude.{Position, Draws, IsDrawnRun}
 
--- A run of the kernel that makes these entries: the transactions accepted in it and one more, which needs so much, together need more units of the log
--- than there was room for when it began.
-pub record IsBeyondRoom (s : State) (d : Disk) (entries : List Entry) (need : ℕ) : Type 0 where
-  pub calls : List Call
-  pub last : State
-  pub disk : Disk
-  pub run : IsRun s d calls last disk
-  pub made : last.book.entries ≡ entries
-  pub beyond : room_of s.log < needs_in calls s d last disk run + need
+-- the units of the log that a drawn call's transaction needs, if it is accepted
+abbrev pub need_of_call : (call : Call) (p q : Position) → Draws p call q → ℕ
+need_of_call (submitting client line change) p q draws = need_if_accepted client line change p.state p.disk q.state draws.called.1
+need_of_call (reading client line command) p q draws = 0
+need_of_call (stepping step) p q draws = 0
 
--- so it is where this is the answer behind these entries, if it tells of want of room
-abbrev pub FullOnlyBeyond : State → Disk → List Entry → Answer → Type 0
-FullOnlyBeyond s d before (answer.MetaFull need room) = IsBeyondRoom s d before need
-FullOnlyBeyond s d before other = Unit {0}
+-- An entry that a call adds tells of want of room only where it, with so many units that were needed before, needs more than there was room for.
+abbrev pub FullOnlyBeyond : ℕ → ℕ → Position → Position → Type 0
+FullOnlyBeyond room needed p q = (e : Entry) (need left : ℕ) → q.state.book.entries ≡ p.state.book.entries ++ e ∷ []
+    → e.answer ≡ answer.MetaFull need left → room < needed + need
 
--- and so of each of the entries that stand behind others
-abbrev pub EachFullOnlyBeyond : State → Disk → List Entry → List Entry → Type 0
-EachFullOnlyBeyond s d before [] = Unit {0}
-EachFullOnlyBeyond s d before (e ∷ es) = FullOnlyBeyond s d before e.answer × EachFullOnlyBeyond s d (before ++ e ∷ []) es
+-- So it is with each call of a drawn run: what was needed before it is what the transactions accepted by the calls before it need.
+abbrev pub EachFullOnlyBeyond : ℕ → ℕ → (p : Position) (calls : List Call) (q : Position) → IsDrawnRun p calls q → Type 0
+EachFullOnlyBeyond room needed p [] q run = Unit {0}
+EachFullOnlyBeyond room needed p (call ∷ calls) q run =
+    FullOnlyBeyond room needed p run.0 × EachFullOnlyBeyond room (needed + need_of_call call p run.0 run.1.0) run.0 calls q run.1.1

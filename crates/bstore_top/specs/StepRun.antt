@@ -10,6 +10,7 @@ use Rattle.object_model.specs.declared.book.Book.{Book}
 use Rattle.unit_allocator.specs.Prelude.{Space}
 use Rattle.script_text.specs.declared.line.Line.{Line}
 use Rattle.store_image.specs.Prelude.{IsShape}
+use Rattle.meta_store.specs.Store.{room_of}
 use Rattle.store_steps.specs.Prelude.{State, Found, free_count}
 use Rattle.book_facts.specs.Prelude.{demand_of, any_no_space}
 use Rattle.log_replay.specs.Prelude.{IsLater, FailsMount}
@@ -20,7 +21,7 @@ use Rattle.read_facts.specs.Prelude.{IsLegalButBytes}
 use Rattle.script_reading.specs.Prelude.{HaveScripts, AreReadWhole, FailsToRead}
 use Rattle.script_reading.specs.declared.unread.Unread.{Unread}
 use Rattle.script_reading.specs.declared.unread.Unread.TheVariants as unread
-use Rattle.client_runs.specs.Prelude.{asks_of, AreAsked, RunsUpTo}
+use Rattle.client_runs.specs.Prelude.{asks_of, at_position, AreAsked, RunsUpTo}
 use Rattle.client_runs.specs.declared.run_fail.RunFail.{RunFail}
 use Rattle.client_runs.specs.declared.run_fail.RunFail.TheVariants as run
 use Rattle.run_texts.specs.declared.work_end.WorkEnd.{WorkEnd}
@@ -72,9 +73,10 @@ scripts_demand (lines ∷ scripts) = script_demand lines + scripts_demand script
 
 -- Scripts were run on a store, each by a client of its own: the clients' run leads from the mounted kernel, over the device as the mount left it, to
 -- the last state, whose book it is. But for the bytes that reads gave, the book is legal for all objects whose shape the rows which were found have.
--- If the scripts together ask for no more units than were free, no transaction was refused for want of units; one was refused for want of room in the
--- log only where it and those accepted before it together need more than there was room for. A command behind a `wait` came once the accepted
--- transactions of its client before it were acknowledged.
+-- If the scripts together ask for no more units than were free, no transaction was refused for want of units. Each entry was added by one of the drawn
+-- calls that led to where the clients were, and tells of want of room in the log only where its transaction and those accepted by the calls before
+-- it together need more than there was room for at the mount. A command behind a `wait` came once the accepted transactions of its client before it
+-- were acknowledged.
 pub record RunsScripts (seed : ℕ) (scripts : List (List Line)) (given : Disk) (end : WorkEnd) (book : Book) (disk : Disk) : Type 0 where
   pub found : Found
   pub space : Space
@@ -92,7 +94,8 @@ pub record RunsScripts (seed : ℕ) (scripts : List (List Line)) (given : Disk) 
   pub entries : AreAsked (map asks_of scripts) book.entries ran.reached.clients
   pub legal : (objects : Objects) → IsShape found.rows objects → IsLegalButBytes objects book
   pub within : scripts_demand scripts ≤ free_count first.space → any_no_space book.entries ≡ false
-  pub room : EachFullOnlyBeyond first start [] book.entries
+  pub drawn : book.entries ≡ ran.reached.state.book.entries
+  pub room : EachFullOnlyBeyond (room_of first.log) 0 (at_position seed (map asks_of scripts) first start) ran.leads.calls ran.reached ran.leads.run
   pub waited : HaveWaited scripts book
 
 -- ---- the whole

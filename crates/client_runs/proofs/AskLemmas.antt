@@ -5,7 +5,7 @@ use Rattle.std.specs.Prelude.{slice_get, is_some, IsSome, ◌==◌, ◌&&◌, �
 use Rattle.std.specs.List.{AllByRecursion}
 use Rattle.std.proofs.lemmas.Bool.{ne_eqb, and_parts, eqb-true, eqb-false}
 use Rattle.block_device.specs.Prelude.{Disk, IsSound}
-use Rattle.object_model.specs.Prelude.{accepted_change, change_at}
+use Rattle.object_model.specs.Prelude.{accepted_change, change_at, is_acknowledged}
 use Rattle.object_model.specs.declared.book.Book.{Book}
 use Rattle.object_model.specs.declared.book.Commit.{Commit}
 use Rattle.object_model.specs.declared.book.Entry.{Entry}
@@ -20,7 +20,7 @@ use Rattle.client_runs.specs.declared.client.Client.{Client}
 use Rattle.client_runs.specs.declared.clients.Clients.{Clients}
 use Rattle.client_runs.specs.declared.run_fail.RunFail.{RunFail}
 use Rattle.client_runs.specs.declared.run_fail.RunFail.TheVariants as run
-use Rattle.client_runs.specs.Prelude.{Ask, Asked, call_of, behind, is_acknowledged, is_accepted_of, unacked, command_sum, left_of, lefts, IsClient, is_able, one_more, able_of, changed, IsOfOne, TakesOf, AreCounts, AreOfClients, AreTied, FitsAsk, EachFits, IsMade, IsUnmade, AsksNext, AsksInVain}
+use Rattle.client_runs.specs.Prelude.{Ask, Asked, call_of, behind, is_accepted_of, unacked, command_sum, left_of, lefts, IsClient, is_able, one_more, able_of, changed, IsOfOne, TakesOf, AreCounts, AreOfClients, AreTied, FitsAsk, EachFits, IsMade, IsUnmade, AsksNext, AsksInVain}
 use Rattle.client_runs.proofs.DrawLemmas.{get_map}
 use Rattle.client_runs.proofs.ClientLemmas.{length_changed, well_changed, lefts_same}
 use Rattle.client_runs.proofs.TieLemmas.{one_if, unacked_push, unacked_few, count_of, counts_by, counts_changed}

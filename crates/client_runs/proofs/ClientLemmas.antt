@@ -1,6 +1,6 @@
 -- The clients, one of which is changed, and which of them can go on.
 use Rattle.std.proofs.Common.{◌≡◌, ℕ, zero, suc, ◌+◌, ◌-◌, ◌<◌, ◌≤◌, Bool, true, false, cond, List, [], ◌∷◌, ◌++◌, map, length, take, Some}
-use Rattle.std.proofs.Common.{ap, ◌∙◌, sym, refl, subst, arith, length-append, nat_lt}
+use Rattle.std.proofs.Common.{ap, ◌∙◌, sym, refl, subst, arith, length-append, append-nil, nat_lt}
 use Rattle.std.proofs.lemmas.Bool.{lt-ltb, le-ltb}
 use Rattle.book_facts.proofs.Prelude.{all_push}
 use Rattle.std.specs.Prelude.{slice_get, slice_index_or, slice_set, insert, remove}
@@ -42,17 +42,13 @@ able_on i j cs d within next able =
     ∙ (ap (λ (b : Bool). able_of 0 (take i cs) ++ cond b ((0 + i) ∷ []) []) able
     ∙ ap (λ (n : ℕ). able_of 0 (take i cs) ++ (n ∷ [])) {x = 0 + i} {y = i} (omega arith)))
 
-append_none : {A : Type 0} (xs : List A) → xs ++ [] ≡ xs
-append_none [] = refl
-append_none {A} (x ∷ xs) = ap (λ (l : List A). x ∷ l) (append_none xs)
-
 pub able_off : (i j : ℕ) (cs : List Client) (d : Client) → i < length cs → j ≡ i + 1 → is_able (slice_index_or cs i d) ≡ false
     → able_of 0 (take j cs) ≡ able_of 0 (take i cs)
 able_off i j cs d within next able =
     let c : Client = slice_index_or cs i d in
     ap (λ (n : ℕ). able_of 0 (take n cs)) {x = j} {y = suc i} (omega (arith, next))
     ∙ (able_taken 0 i cs c (item_at i cs d within)
-    ∙ (ap (λ (b : Bool). able_of 0 (take i cs) ++ cond b ((0 + i) ∷ []) []) able ∙ append_none (able_of 0 (take i cs))))
+    ∙ (ap (λ (b : Bool). able_of 0 (take i cs) ++ cond b ((0 + i) ∷ []) []) able ∙ append-nil (able_of 0 (take i cs))))
 
 -- they are no more than the clients
 pub able_few : (number : ℕ) (cs : List Client) → length (able_of number cs) ≤ length cs
@@ -295,4 +291,4 @@ making_goes_on scripts left more lines all c making is new = record {
 
 pub making_ends : (scripts left : List (List Line)) (all : List Client) → IsMaking scripts all left → left ≡ [] → map asks_of scripts ≡ lefts all
 making_ends scripts left all making none =
-    making.so_far ∙ (ap (λ (l : List (List Line)). lefts all ++ map asks_of l) none ∙ append_none (lefts all))
+    making.so_far ∙ (ap (λ (l : List (List Line)). lefts all ++ map asks_of l) none ∙ append-nil (lefts all))

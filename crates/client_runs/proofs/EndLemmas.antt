@@ -6,7 +6,7 @@ use Rattle.std.specs.List.{AllByRecursion, list_any}
 use Rattle.std.proofs.lemmas.Bool.{eq-eqb, lt-ltb}
 use Rattle.std.proofs.lemmas.Option.{IfSome_then}
 use Rattle.block_device.specs.Prelude.{Disk}
-use Rattle.object_model.specs.Prelude.{Change, accepted_change, change_at, is_on, places_from, places_of, committed_places}
+use Rattle.object_model.specs.Prelude.{Change, accepted_change, change_at, is_on, places_from, places_of, committed_places, is_acknowledged}
 use Rattle.object_model.proofs.Names.{is_same_itself}
 use Rattle.object_model.specs.declared.book.Book.{Book}
 use Rattle.object_model.specs.declared.book.Commit.{Commit}
@@ -17,7 +17,7 @@ use Rattle.store_steps.specs.Prelude.{State, Call, stepping, intents, is_drained
 use Rattle.store_facts.specs.Prelude.{IsKept}
 use Rattle.store_facts.proofs.Prelude.{idle_pending, idle_acked}
 use Rattle.book_facts.specs.Prelude.{IsInOrder, AreQueued}
-use Rattle.client_runs.specs.Prelude.{Ask, is_acknowledged, is_accepted_of, unacked_from, unacked, may_ask, call_of, next_call, client_calls, ready_list, Position, calls_at}
+use Rattle.client_runs.specs.Prelude.{Ask, is_accepted_of, unacked_from, unacked, may_ask, call_of, next_call, client_calls, ready_list, Position, calls_at}
 use Rattle.client_runs.proofs.TieLemmas.{one_if, unacked_cons}
 
 -- ---- places

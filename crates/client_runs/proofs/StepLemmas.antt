@@ -5,7 +5,7 @@ use Rattle.std.specs.Prelude.{slice_get, slice_index_or, is_some, IsSome, IfSome
 use Rattle.std.specs.List.{AllByRecursion, IsDistinct}
 use Rattle.std.proofs.lemmas.Bool.{ne_eqb, eq-eqb, le-ltb}
 use Rattle.block_device.specs.Prelude.{Disk, IsSound}
-use Rattle.object_model.specs.Prelude.{accepted_change, change_at}
+use Rattle.object_model.specs.Prelude.{accepted_change, change_at, is_acknowledged}
 use Rattle.object_model.specs.declared.book.Book.{Book}
 use Rattle.object_model.specs.declared.book.Commit.{Commit}
 use Rattle.object_model.specs.declared.book.Entry.{Entry}
@@ -20,7 +20,7 @@ use Rattle.book_facts.specs.Prelude.{commit_places, places, IsInOrder}
 use Rattle.book_facts.proofs.Prelude.{order_run}
 use Rattle.client_runs.specs.declared.client.Client.{Client}
 use Rattle.client_runs.specs.declared.clients.Clients.{Clients}
-use Rattle.client_runs.specs.Prelude.{is_acknowledged, unacked, IsClient, one_less, able_of, changed, AreCounts, AreOfClients, AreTied, IsOfOne, IsAckedNext}
+use Rattle.client_runs.specs.Prelude.{unacked, IsClient, one_less, able_of, changed, AreCounts, AreOfClients, AreTied, IsOfOne, IsAckedNext}
 use Rattle.client_runs.proofs.DrawLemmas.{item_at}
 use Rattle.client_runs.proofs.ClientLemmas.{length_changed, well_changed}
 use Rattle.client_runs.proofs.TieLemmas.{one_if, unacked_by, acknowledged_push, acknowledged_next, not_acknowledged, counted_off, accepted_of, count_at, counts_by, counts_changed}

@@ -5,14 +5,14 @@ use Rattle.std.specs.Prelude.{slice_get, is_some, IfSome, ◌&&◌, ◌||◌, no
 use Rattle.std.specs.List.{AllByRecursion, IsDistinct}
 use Rattle.std.proofs.lemmas.Bool.{ne_eqb, eq-eqb, eqb-false, lt-ltb, le-ltb, ltb-true, ltb-false}
 use Rattle.std.proofs.lemmas.Option.{IfSome_then}
-use Rattle.object_model.specs.Prelude.{accepted_change}
+use Rattle.object_model.specs.Prelude.{accepted_change, is_acknowledged}
 use Rattle.object_model.specs.declared.book.Book.{Book}
 use Rattle.object_model.specs.declared.book.Commit.{Commit}
 use Rattle.object_model.specs.declared.book.Entry.{Entry}
 use Rattle.store_steps.specs.Prelude.{acknowledged}
 use Rattle.book_facts.specs.Prelude.{commit_places}
 use Rattle.client_runs.specs.declared.client.Client.{Client}
-use Rattle.client_runs.specs.Prelude.{is_acknowledged, is_accepted_of, unacked_from, unacked, changed, AreCounts, IsOfOne}
+use Rattle.client_runs.specs.Prelude.{is_accepted_of, unacked_from, unacked, changed, AreCounts, IsOfOne}
 
 -- ---- counts
 

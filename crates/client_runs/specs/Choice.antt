@@ -1,8 +1,7 @@
 -- Which call comes next: it is drawn from the calls that can be made, the clients' and the kernel's steps.
 use Rattle.std.specs.Prelude.{◌≡◌, ℕ, zero, suc, ◌+◌, ◌*◌, ◌/◌, ◌%◌, ◌^◌, ◌==◌, ◌&&◌, ◌||◌, not, Bool, false, if◌then◌else◌, List, [], ◌∷◌, ◌++◌, length, map, drop, slice_get, Some, is_some}
-use Rattle.std.specs.List.{list_any}
 use Rattle.block_device.specs.Prelude.{Disk, IsSound}
-use Rattle.object_model.specs.Prelude.{accepted_change}
+use Rattle.object_model.specs.Prelude.{accepted_change, is_acknowledged}
 use Rattle.object_model.specs.declared.book.Book.{Book}
 use Rattle.object_model.specs.declared.book.Commit.{Commit}
 use Rattle.object_model.specs.declared.book.Entry.{Entry}
@@ -38,10 +37,6 @@ abbrev pub asks_of : List Line → List Ask
 asks_of lines = asks_from false lines
 
 -- ---- waiting
-
--- whether the transaction at a place is acknowledged
-abbrev pub is_acknowledged : List Commit → ℕ → Bool
-is_acknowledged commits place = list_any (λ c. (c.place == place) && is_some c.acked_at) commits
 
 -- whether an entry is an accepted transaction of a client
 abbrev pub is_accepted_of : ℕ → Entry → Bool

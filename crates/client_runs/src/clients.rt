@@ -88,7 +88,7 @@ impl Clients {
         self.able.as_slice()
     }
 
-    /// The line of the next command of a client that can go on. It goes on behind it.
+    /// The line of the next command of a client that can go on, which has it behind it from then on.
     pub fn take(&mut self, client: u32) -> Line
         requires clients { AreClients self.old }
         requires can { IsOfOne (λ c. is_able c ≡ true) client self.old.all.items }

@@ -1,6 +1,6 @@
 -- The book of a mount: what clients asked and were answered, what was committed and acknowledged, and when all this is legal.
-use Rattle.std.specs.Prelude.{◌≡◌, ℕ, ◌+◌, ◌<◌, ◌≤◌, Bool, true, false, not, ◌⊎◌, ⊤, List, [], ◌∷◌, ◌++◌, map, filter, slice_get, count_by, nat_eq, Option, Some, None, is_some, option_and_then, if◌then◌else◌, IsTrue, IsSome, IsNone, IfSome, IsSomeAnd, MatchOption}
-use Rattle.std.specs.List.{filter_map, AllByRecursion, IsDistinct}
+use Rattle.std.specs.Prelude.{◌≡◌, ℕ, ◌+◌, ◌<◌, ◌≤◌, Bool, true, false, not, ◌==◌, ◌&&◌, ◌⊎◌, ⊤, List, [], ◌∷◌, ◌++◌, map, filter, slice_get, count_by, nat_eq, Option, Some, None, is_some, option_and_then, if◌then◌else◌, IsTrue, IsSome, IsNone, IfSome, IsSomeAnd, MatchOption}
+use Rattle.std.specs.List.{filter_map, list_any, AllByRecursion, IsDistinct}
 use Rattle.object_model.specs.declared.command.Command.{Command}
 use Rattle.object_model.specs.declared.command.Command.TheVariants as ask
 use Rattle.object_model.specs.declared.command.Answer.{Answer}
@@ -79,6 +79,10 @@ IsPrefixOf {A} xs ys = (rest : List A) × (ys ≡ xs ++ rest)
 abbrev pub AreAckedFrom : ℕ → List Commit → Type 0
 AreAckedFrom least [] = ⊤
 AreAckedFrom least (c ∷ cs) = MatchOption c.acked_at (AllByRecursion (λ d. IsNone d.acked_at) cs) (λ a. (least ≤ a) × AreAckedFrom a cs)
+
+-- whether the commit of the entry at a place is acknowledged
+abbrev pub is_acknowledged : List Commit → ℕ → Bool
+is_acknowledged commits place = list_any (λ c. (c.place == place) && is_some c.acked_at) commits
 
 -- how many commits are acknowledged
 abbrev pub acked_count : List Commit → ℕ

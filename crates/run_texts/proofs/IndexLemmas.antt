@@ -8,7 +8,8 @@ use Rattle.std.proofs.lemmas.List.{drop-drop, drop-map, drop_all, drop_more, get
 use Rattle.std.proofs.lemmas.List.Concat.{flat_map-append}
 use Rattle.object_model.specs.declared.book.Entry.{Entry}
 use Rattle.object_model.specs.declared.book.Commit.{Commit}
-use Rattle.run_texts.specs.Prelude.{as_text, is_acked, entry_line, client_lines, clients_of, next_place, place_from, AreLinked, Output, Waiting, Adds}
+use Rattle.object_model.specs.Prelude.{is_acknowledged}
+use Rattle.run_texts.specs.Prelude.{as_text, entry_line, client_lines, clients_of, next_place, place_from, AreLinked, Output, Waiting, Adds}
 use Rattle.run_texts.proofs.TextLemmas.{as_text-append}
 use Rattle.run_texts.proofs.Adding.{both, said, nothing}
 
@@ -73,7 +74,7 @@ skipped commits client entries place (e ∷ es) is =
     lines p = client_lines commits client p (drop p entries)
 
     own : Bool → List (List ℕ)
-    own b = (if b then entry_line (is_acked commits place) e ∷ [] else []) ++ client_lines commits client (place + 1) es
+    own b = (if b then entry_line (is_acknowledged commits place) e ∷ [] else []) ++ client_lines commits client (place + 1) es
 
     by : (b : Bool) → (e.client == client) ≡ b → lines (place + 1) ≡ lines next → lines place ≡ lines (if b then place else next)
     by true same later = refl
@@ -119,7 +120,7 @@ none_pushed commits client entries place p o is = record {
 -- one more was
 pub one_pushed : {p q r : Waiting} {o1 o2 o3 : Output} (commits : List Commit) (client : ℕ) (entries : List Entry) (place next : ℕ) (e : Entry)
     (acked : Bool) → IsPushedUpTo commits client entries place p q o1 o2 → place < length entries → e ≡ get_or entries place e
-    → acked ≡ is_acked commits place → Adds (entry_line acked e ++ (10 ∷ [])) q r o2 o3
+    → acked ≡ is_acknowledged commits place → Adds (entry_line acked e ++ (10 ∷ [])) q r o2 o3
     → next ≡ place_from (clients_of entries) client (place + 1) → IsPushedUpTo commits client entries next p r o1 o3
 one_pushed {p} {q} {r} {o1} {o2} {o3} commits client entries place next e acked so_far within is acked_is added next_is =
     let line : List ℕ = entry_line acked e in
@@ -131,7 +132,7 @@ one_pushed {p} {q} {r} {o1} {o2} {o3} commits client entries place next e acked 
     eq-eqb e.client client (ap (λ (x : Entry). x.client) is ∙ (sym (get_or-map (λ (x : Entry). x.client) entries place e 64 within) ∙ so_far.own within)) in
     let text : as_text (client_lines commits client place (drop place entries)) ≡ line ++ (10 ∷ as_text behind) =
     ap (λ (l : List Entry). as_text (client_lines commits client place l)) here
-    ∙ (ap (λ (b : Bool). as_text ((if b then entry_line (is_acked commits place) e ∷ [] else []) ++ behind)) own
+    ∙ (ap (λ (b : Bool). as_text ((if b then entry_line (is_acknowledged commits place) e ∷ [] else []) ++ behind)) own
     ∙ ap (λ (b : Bool). entry_line b e ++ (10 ∷ as_text behind)) (sym acked_is)) in
     record {
       front = so_far.front ++ (line ++ (10 ∷ []));

@@ -2,7 +2,7 @@
 pub use Rattle.run_texts.specs.Status.{stop_number, number, end_number}
 pub use Rattle.run_texts.specs.Texts.{as_text, stopped_line, mkfs_text}
 pub use Rattle.run_texts.specs.Hex.{hex_digit, hex_text}
-pub use Rattle.run_texts.specs.Replies.{is_acked, names_text, reply_text, entry_line, client_lines, reply_lines, is_csum, has_csum, answers_of}
+pub use Rattle.run_texts.specs.Replies.{names_text, reply_text, entry_line, client_lines, reply_lines, is_csum, has_csum, answers_of}
 pub use Rattle.run_texts.specs.ReplyIndex.{clients_of, next_place, place_from, AreLinked, IsIndexOf}
 pub use Rattle.run_texts.specs.StepTexts.{end_status, step_number, fail_lines, end_lines, step_text}
 pub use Rattle.run_texts.specs.DumpTexts.{view_line, coll_lines, walk_lines, is_bad, has_bad_view, last_lines, dump_text, dump_number}

@@ -1,5 +1,5 @@
 -- The replies: a line for each entry of the book.
-use Rattle.std.specs.Prelude.{ℕ, ◌+◌, ◌==◌, ◌&&◌, Bool, true, false, List, [], ◌∷◌, ◌++◌, length, count_by, is_some, if◌then◌else◌, codes, decimal}
+use Rattle.std.specs.Prelude.{ℕ, ◌+◌, ◌==◌, Bool, true, false, List, [], ◌∷◌, ◌++◌, length, count_by, if◌then◌else◌, codes, decimal}
 use Rattle.std.specs.List.{list_any, flat_map, range_with_len}
 use Rattle.object_model.specs.declared.op.Refusal.{Refusal}
 use Rattle.object_model.specs.declared.op.Refusal.TheVariants.{NoCollection, CollectionExists, NotEmpty, NoObject, NoAttr}
@@ -13,6 +13,7 @@ use Rattle.run_texts.specs.declared.replies.Kind.{Kind}
 use Rattle.run_texts.specs.declared.replies.Kind.TheVariants.{Accepted, Refused, Read}
 use Rattle.object_model.specs.declared.book.Commit.{Commit}
 use Rattle.object_model.specs.declared.book.Book.{Book}
+use Rattle.object_model.specs.Prelude.{is_acknowledged}
 use Rattle.script_text.specs.Prelude.{escaped}
 use Rattle.run_texts.specs.Hex.{hex_or_dash, hex_sum}
 
@@ -26,10 +27,6 @@ refusal_text NoAttr = codes "E5 NoAttr"
 refusal_text SameObject = codes "E6 SameObject"
 refusal_text BadRange = codes "E7 BadRange"
 refusal_text TooBig = codes "E8 TooBig"
-
--- the commit of the entry at this place is acknowledged
-abbrev pub is_acked : List Commit → ℕ → Bool
-is_acked commits place = list_any (λ c. (c.place == place) && is_some c.acked_at) commits
 
 -- what stands before the bytes that a command has read
 abbrev pub bytes_word : Command → List ℕ
@@ -69,7 +66,7 @@ entry_line acked e =
 abbrev pub client_lines : List Commit → ℕ → ℕ → List Entry → List (List ℕ)
 client_lines commits client place [] = []
 client_lines commits client place (e ∷ es) =
-    (if e.client == client then entry_line (is_acked commits place) e ∷ [] else []) ++ client_lines commits client (place + 1) es
+    (if e.client == client then entry_line (is_acknowledged commits place) e ∷ [] else []) ++ client_lines commits client (place + 1) es
 
 -- the lines of all entries: client by client, those of each in the book's order
 abbrev pub reply_lines : Book → List (List ℕ)

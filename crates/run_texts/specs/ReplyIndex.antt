@@ -2,8 +2,8 @@
 use Rattle.std.specs.Prelude.{◌≡◌, ℕ, ◌+◌, ◌<◌, ◌≤◌, ◌==◌, false, List, [], ◌∷◌, length, map, drop, slice_index_or, if◌then◌else◌}
 use Rattle.object_model.specs.declared.book.Commit.{Commit}
 use Rattle.object_model.specs.declared.book.Entry.{Entry}
+use Rattle.object_model.specs.Prelude.{is_acknowledged}
 use Rattle.run_texts.specs.declared.reply_index.ReplyIndex.{ReplyIndex}
-use Rattle.run_texts.specs.Replies.{is_acked}
 
 -- the client of each entry
 abbrev pub clients_of : List Entry → List ℕ
@@ -30,5 +30,5 @@ pub record AreLinked (clients : List ℕ) (from : ℕ) (first next : List ℕ) :
 -- the index says of each entry whether its commit is acknowledged, and where the next one of its client is
 pub record IsIndexOf (index : ReplyIndex) (commits : List Commit) (entries : List Entry) : Type 0 where
   pub flags : length index.acked.items ≡ length entries
-  pub acked : (place : ℕ) → place < length entries → slice_index_or index.acked.items place false ≡ is_acked commits place
+  pub acked : (place : ℕ) → place < length entries → slice_index_or index.acked.items place false ≡ is_acknowledged commits place
   pub linked : AreLinked (clients_of entries) 0 index.first index.next.items

@@ -1,6 +1,6 @@
 //! Where the entries of each client are among those of a book, and which of them are acknowledged.
 ghost use Rattle.std.specs.Prelude.{◌≡◌, ℕ, ◌+◌, ◌<◌, ◌≤◌, false, length, slice_index_or, IfOk, IfSome};
-ghost use Rattle.run_texts.specs.Replies.{is_acked};
+ghost use Rattle.object_model.specs.Prelude.{is_acknowledged};
 ghost use Rattle.run_texts.specs.ReplyIndex.{clients_of, place_from, AreLinked, IsIndexOf};
 
 use object_model::{Commit, Entry};
@@ -24,7 +24,7 @@ pub struct ReplyIndex {
 /// For each of so many entries, whether its commit is acknowledged: one pass over the commits.
 fn acked_entries(alloc: Global, commits: &[Commit], count: usize) -> Result<Vec<bool>, AllocError>
     ensures count { IfOk result (λ flags. length flags.items ≡ count) }
-    ensures acked { IfOk result (λ flags. (place : ℕ) → place < count → slice_index_or flags.items place false ≡ is_acked commits.now place) }
+    ensures acked { IfOk result (λ flags. (place : ℕ) → place < count → slice_index_or flags.items place false ≡ is_acknowledged commits.now place) }
 {
     let mut flags = vec![in alloc; false; count]?;
     for commit in commits {
@@ -71,7 +71,7 @@ impl ReplyIndex {
 
 /// Whether the commit of the entry at this place is acknowledged, looked for among all commits.
 fn is_acked(commits: &[Commit], place: usize) -> bool
-    ensures { result ≡ is_acked commits.now place }
+    ensures { result ≡ is_acknowledged commits.now place }
 {
     commits.iter().any(|commit| commit.place as usize == place && commit.acked_at.is_some())
 }
@@ -79,8 +79,8 @@ fn is_acked(commits: &[Commit], place: usize) -> bool
 /// Whether the commit of the entry at this place is acknowledged: looked up in the index, or looked for where there is none.
 pub fn is_acked_at(commits: &[Commit], index: &Option<ReplyIndex>, place: usize) -> bool
     requires place { IfSome index.now (λ index. place < length index.acked.items) }
-    requires index { IfSome index.now (λ index. slice_index_or index.acked.items place false ≡ is_acked commits.now place) }
-    ensures { result ≡ is_acked commits.now place }
+    requires index { IfSome index.now (λ index. slice_index_or index.acked.items place false ≡ is_acknowledged commits.now place) }
+    ensures { result ≡ is_acknowledged commits.now place }
 {
     match index {
         Some(index) => index.acked[place],

@@ -1,7 +1,8 @@
 use Rattle.std.proofs.Common.{ℕ, List, ◌+◌, ◌<◌, ◌≤◌, length, ap, sym, subst, ◌∙◌, arith}
 use Rattle.object_model.specs.declared.book.Entry.{Entry}
 use Rattle.object_model.specs.declared.book.Commit.{Commit}
-use Rattle.run_texts.specs.Prelude.{clients_of, place_from, is_acked}
+use Rattle.object_model.specs.Prelude.{is_acknowledged}
+use Rattle.run_texts.specs.Prelude.{clients_of, place_from}
 use Rattle.run_texts.proofs.IndexLemmas.{none_pushed, one_pushed, all_pushed, next_later}
 use Rattle.run_texts.proofs.replies.push_client.Goals as goal
 
@@ -25,7 +26,7 @@ loop-place-preserved g c =
     let within : place < length book.entries = omega (arith, c.loop-place-test.true, ap length same) in
     one_pushed book.commits c.args.client book.entries place c.place_behind-place.result c.index-entries-place.result c.is_acked_at-acked.result
     c.loop-place.invariant within (rw same at c.index-entries-place.is)
-    (c.is_acked_at-acked.ensures ∙ ap (λ (cs : List Commit). is_acked cs place) c.as_slice.ensures) c.push_entry.ensures
+    (c.is_acked_at-acked.ensures ∙ ap (λ (cs : List Commit). is_acknowledged cs place) c.as_slice.ensures) c.push_entry.ensures
     (c.place_behind-place.ensures ∙ ap (λ (es : List Entry). place_from (clients_of es) c.args.client (place + 1)) same)
 
 pub returns : goal.returns

@@ -216,6 +216,14 @@ impl Chunk {
         MOST <= self.rows.as_slice().len()
     }
 
+    /// How many rows stand before a key.
+    pub fn place_of(&self, key: &[u8]) -> usize {
+        match place_for(&self.rows, key) {
+            Ok(at) => at,
+            Err(at) => at,
+        }
+    }
+
     /// How its first key compares with this one.
     pub fn first_order(&self, key: &[u8]) -> Ordering
         ensures { result ≡ first_order key.now self.now }

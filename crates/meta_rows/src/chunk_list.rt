@@ -26,10 +26,8 @@ pub struct ChunkList {
     pub near: usize,
 }
 
-// The rows that the lower part of a split chunk keeps: half of them, or more where rows come in the order of their keys.
-const HALF: usize = 64;
-
-const MORE: usize = 96;
+/// The most rows that either part of a split chunk has.
+const MOST_OF_A_PART: usize = 96;
 
 // The most rows of two neighbours that are joined. Those of a split chunk have twice as many.
 const FEW: usize = 64;
@@ -115,17 +113,19 @@ impl ChunkList {
         chunks[chunk_of(chunks, key)].get(key)
     }
 
-    // How many rows the lower part of a chunk keeps that is split for a key: most of them where the key comes behind all others.
+    // How many rows the lower part of a chunk keeps that is split for a key: those before the key, as far as neither part has too many. So
+    // rows that come in the order of their keys come behind the others of their chunk from then on, and move none.
     fn cut_of(&self, at: usize, key: &[u8]) -> usize
         requires { at < vec_len self.now.list }
         ensures { (32 ≤ result) × (result ≤ 96) }
     {
-        if at + 1 < self.list.len() {
-            return HALF;
-        }
-        match self.list[at].rows().last() {
-            Some(row) if row.0.as_slice() < key => MORE,
-            _ => HALF,
+        let before = self.list[at].place_of(key);
+        if before < FEWEST {
+            FEWEST
+        } else if MOST_OF_A_PART < before {
+            MOST_OF_A_PART
+        } else {
+            before
         }
     }
 

@@ -49,14 +49,15 @@ scripts all 1 "$many" mkcoll ''
 
 # steps WHERE NAME ACCEPTED: runs the scripts of this name on a new store in this folder, and adds a line of times: where and which, its
 # nanoseconds, its processor time in seconds, and its peak memory in KiB.
+TIMEFORMAT='%3U %3S'
 steps() {
   local began took
   "$program" mkfs "$1/disk" --half "$half" --units "$units" >/dev/null
   began=$(date +%s%N)
-  /usr/bin/env time -f '%U %S %M' -o "$made/used" "$program" step "$1/disk" --seed "$turn" "$made/$2"/* >"$made/output" ||
+  { time /usr/bin/env time -f %M -o "$made/peak" "$program" step "$1/disk" --seed "$turn" "$made/$2"/* >"$made/output"; } 2>"$made/used" ||
     { tail -n 2 "$made/output"; exit 1; }
   took=$(($(date +%s%N) - began))
-  echo "${1##*/} $2 $took $(tail -n 1 "$made/used" | awk '{ print $1 + $2, $3 }')" >>"$made/times"
+  echo "${1##*/} $2 $took $(awk '{ print $1 + $2 }' "$made/used") $(tail -n 1 "$made/peak")" >>"$made/times"
   [[ $(tail -n 1 "$made/output") == "done accepted=$3 "* ]] || { tail -n 1 "$made/output"; exit 1; }
 }
 

@@ -1,11 +1,21 @@
 -- Where the bytes of a byte string lie.
-use Rattle.std.specs.Prelude.{ℕ, List, take, nat_eq, if◌then◌else◌, ◌≤◌}
+use Rattle.std.specs.Prelude.{ℕ, List, take, ◌≤◌}
 use Rattle.byte_maps.specs.declared.bytes.Bytes.TheInside.{Inside}
+use Rattle.byte_maps.specs.declared.bytes.Held.{Held}
+use Rattle.byte_maps.specs.declared.bytes.Held.TheVariants.{Few, Many}
 
--- the bytes: in the buffer, or the first ones of the array
-abbrev pub bytes_in : Inside → List ℕ
-bytes_in a = if nat_eq a.count 32 then a.many.items else take a.count a.few
+-- the bytes: the first ones of the array, or all of the buffer
+abbrev pub bytes_of : Held → List ℕ
+bytes_of (Few alloc count few) = take count few
+bytes_of (Many bytes) = bytes.items
 
 -- those in the array fit there
+abbrev pub Fits : Held → Type 0
+Fits (Few alloc count few) = count ≤ 30
+Fits (Many bytes) = Unit {0}
+
+abbrev pub bytes_in : Inside → List ℕ
+bytes_in a = bytes_of a.held
+
 abbrev pub IsHeld : Inside → Type 0
-IsHeld a = a.count ≤ 32
+IsHeld a = Fits a.held

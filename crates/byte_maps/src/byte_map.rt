@@ -101,7 +101,8 @@ impl<V> ByteMap<V> {
     {
         match place_of(&self.entries, key) {
             Ok(at) => {
-                let (_key, value) = self.entries.remove(at);
+                let (key, value) = self.entries.remove(at);
+                drop(key);
                 Some(value)
             }
             Err(_) => None,
@@ -120,6 +121,7 @@ impl<V: Drop> ByteMap<V> {
             Ok(at) => {
                 let entry = &mut self.entries[at];
                 entry.1 = value;
+                drop(key);
                 Ok(())
             }
             Err(at) => Ok(self.entries.insert(at, (key, value))?),

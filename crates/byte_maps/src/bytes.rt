@@ -1,23 +1,30 @@
 //! Byte strings, and what it is to be copied where memory may run out.
 ghost use Rattle.std.specs.Prelude.{◌≡◌, ◌↔◌, ◌≤◌, ◌<◌, ◌++◌, ◌∷◌, ℕ, List, [], length, take, slice_set, IsTrue, IfOk, OnOk, OnErr};
+ghost use Rattle.byte_maps.specs.Held.{bytes_of, Fits};
 
 use std::alloc::{AllocError, Global};
 use std::marker::Model;
 
-// The most bytes that lie in the value itself. Most keys of rows, their values and names are as short.
-const SHORT: usize = 31;
+// The most bytes that lie in the value itself, which has 32 bytes then. Most keys of rows, their values and names are as short.
+const SHORT: usize = 30;
 
-// The count of those that lie in a buffer.
-const MANY: u8 = 32;
+// Where the bytes lie.
+#[derive(Debug, Drop)]
+enum Held {
+    // The first ones of the array.
+    Few {
+        alloc: Global,
+        count: u8,
+        few: [u8; SHORT],
+    },
+    // In a buffer.
+    Many(Vec<u8>),
+}
 
-/// A byte string, seen as the list of its bytes. Up to 31 bytes lie in the value itself, so that they take no other memory.
+/// A byte string, seen as the list of its bytes. It takes 32 bytes. Up to 30 of its bytes lie there, so that they take no other memory.
 #[derive(Debug, Drop)]
 pub struct Bytes {
-    // So many of the few, or MANY.
-    count: u8,
-    few: [u8; SHORT],
-    // All bytes, where they are many.
-    many: Vec<u8>,
+    held: Held,
 }
 
 impl Model for Bytes {
@@ -34,7 +41,7 @@ impl Model for Bytes {
 
 // Few bytes in an array.
 fn few_of(bytes: &[u8]) -> [u8; SHORT]
-    requires { length bytes.now ≤ 31 }
+    requires { length bytes.now ≤ 30 }
     ensures { take (length bytes.now) result ≡ bytes.now }
 {
     let mut few = [0u8; SHORT];
@@ -52,16 +59,47 @@ fn joined(alloc: Global, bytes: &[u8], others: &[u8]) -> Result<Vec<u8>, AllocEr
     Ok(both)
 }
 
+impl Held {
+    // The bytes, lent.
+    fn as_slice(&self) -> &[u8]
+        requires { Fits self.now }
+        ensures { result.now ≡ bytes_of self.now }
+    {
+        match self {
+            Held::Few {
+                alloc: _,
+                count,
+                few,
+            } => &few[..usize::from(*count)],
+            Held::Many(bytes) => bytes.as_slice(),
+        }
+    }
+
+    // Where their memory is from.
+    fn allocator(&self) -> Global {
+        match self {
+            Held::Few {
+                alloc,
+                count: _,
+                few: _,
+            } => *alloc,
+            Held::Many(bytes) => *bytes.allocator(),
+        }
+    }
+}
+
 impl Bytes {
     // Few bytes.
     fn short(alloc: Global, bytes: &[u8]) -> Bytes
-        requires { length bytes.now ≤ 31 }
+        requires { length bytes.now ≤ 30 }
         ensures { result ≡ bytes.now }
     {
         Bytes {
-            count: bytes.len() as u8,
-            few: few_of(bytes),
-            many: Vec::new(alloc),
+            held: Held::Few {
+                alloc,
+                count: bytes.len() as u8,
+                few: few_of(bytes),
+            },
         }
     }
 
@@ -70,9 +108,7 @@ impl Bytes {
         ensures { result ≡ many.items }
     {
         Bytes {
-            count: MANY,
-            few: [0; SHORT],
-            many,
+            held: Held::Many(many),
         }
     }
 
@@ -108,21 +144,17 @@ impl Bytes {
     pub fn into_vec(self, alloc: Global) -> Result<Vec<u8>, AllocError>
         ensures { IfOk result (λ bytes. bytes.items ≡ self) }
     {
-        if self.count == MANY {
-            return Ok(self.many);
+        match self.held {
+            Held::Many(bytes) => Ok(bytes),
+            few => Vec::from_slice(alloc, few.as_slice()),
         }
-        Vec::from_slice(alloc, self.as_slice())
     }
 
     /// The bytes, lent.
     pub fn as_slice(&self) -> &[u8]
         ensures { result.now ≡ self.now }
     {
-        if self.count == MANY {
-            self.many.as_slice()
-        } else {
-            &self.few[..usize::from(self.count)]
-        }
+        self.held.as_slice()
     }
 
     /// How many bytes there are.
@@ -144,10 +176,13 @@ impl Bytes {
         requires { at < length self.old }
         ensures { self.new ≡ slice_set self.old at byte }
     {
-        if self.count == MANY {
-            self.many[at] = byte;
-        } else {
-            self.few[at] = byte;
+        match &mut self.held {
+            Held::Few {
+                alloc: _,
+                count: _,
+                few,
+            } => few[at] = byte,
+            Held::Many(bytes) => bytes[at] = byte,
         }
     }
 
@@ -164,12 +199,11 @@ impl Bytes {
         ensures ok { OnOk result (self.new ≡ self.old ++ bytes.now) }
         ensures err { OnErr result (self.new ≡ self.old) }
     {
-        if self.count == MANY {
-            return self.many.extend_from_slice(bytes);
+        if let Held::Many(many) = &mut self.held {
+            return many.extend_from_slice(bytes);
         }
-        let alloc = *self.many.allocator();
-        self.many = joined(alloc, self.as_slice(), bytes)?;
-        self.count = MANY;
+        let both = joined(self.held.allocator(), self.as_slice(), bytes)?;
+        self.held = Held::Many(both);
         Ok(())
     }
 
@@ -177,10 +211,10 @@ impl Bytes {
     pub fn reserve(&mut self, more: usize) -> Result<(), AllocError>
         ensures { self.new ≡ self.old }
     {
-        if self.count == MANY {
-            return self.many.reserve(more);
+        match &mut self.held {
+            Held::Few { .. } => Ok(()),
+            Held::Many(bytes) => bytes.reserve(more),
         }
-        Ok(())
     }
 }
 
@@ -193,13 +227,19 @@ pub trait Duplicate {
 
 impl Duplicate for Bytes {
     fn duplicate(&self, alloc: Global) -> Result<Bytes, AllocError> {
-        if self.count == MANY {
-            return Ok(Bytes::long(Vec::from_slice(alloc, self.many.as_slice())?));
+        match &self.held {
+            Held::Few {
+                alloc: _,
+                count,
+                few,
+            } => Ok(Bytes {
+                held: Held::Few {
+                    alloc,
+                    count: *count,
+                    few: *few,
+                },
+            }),
+            Held::Many(bytes) => Ok(Bytes::long(Vec::from_slice(alloc, bytes.as_slice())?)),
         }
-        Ok(Bytes {
-            count: self.count,
-            few: self.few,
-            many: Vec::new(alloc),
-        })
     }
 }

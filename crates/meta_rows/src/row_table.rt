@@ -22,7 +22,7 @@ use std::mem::replace;
 ///
 /// They lie in chunks of 1 to 128 rows in the order of their keys. A look-up bisects the chunks by their first keys, and then one
 /// chunk; an operation looks first into the chunk of the one before. A row that comes or goes moves those behind it in its chunk
-/// alone, 112 bytes each. A chunk of 128 rows is split before one more comes, into a spare chunk of 14336 bytes: where the key
+/// alone, 64 bytes each. A chunk of 128 rows is split before one more comes, into a spare chunk of 8192 bytes: where the key
 /// comes, but neither part has more than 96 rows. So rows that come in the order of their keys, also in several places by turns, soon
 /// move no others, and leave no chunk half empty. A chunk that loses a row is joined with a neighbour where they have 64 rows together or fewer, and is spare again. Spare chunks that no operation
 /// for which there is room needs are given back, but for 32. In Ceph it is RocksDB that holds the rows.
@@ -169,7 +169,7 @@ impl RowTable {
     }
 
     /// The same rows once more. It looks at each row once, and makes one buffer for each chunk, and for each key and each value of more than
-    /// 31 bytes.
+    /// 30 bytes.
     pub fn copy(&self, alloc: Global) -> Result<RowTable, AllocError>
         ensures { IfOk result (λ t. t.rows ≡ self.now.rows) }
     {

@@ -81,7 +81,8 @@ impl Queued {
     pub fn commit(self) -> Committed
         ensures { result ≡ committed_of self }
     {
-        let Context { place, ops, .. } = self.context;
+        let context = self.context;
+        let Context { place, ops, .. } = context;
         Committed::of(place, ops)
     }
 }

@@ -4,14 +4,12 @@
 
 mod crashes;
 mod kernel;
-mod names;
-mod objects;
 mod runs;
 
 use case_text::{look_up, run_file};
 use crashes::Sweep;
 use kernel::KernelLines;
-use objects::ObjectLines;
+use object_lines::ObjectLines;
 use runs::Case;
 use std::{env, io};
 

@@ -1,10 +1,9 @@
 //! Stores that are opened after each crash of a run, and every cut of what is done then.
 
-use crate::crashes::history::{apply_front, objects_behind};
-use crate::crashes::sweep::{Sweep, tear_of};
-use crate::crashes::swept::Counts;
+use crate::crashes::sweep::Sweep;
 use block_device::Tear;
 use case_text::{CaseError, Setup, Text, Words, bytes_of, number};
+use plain_reader::{Counts, apply_front, objects_behind, tear_of};
 use plain_store::Plain;
 use std::alloc::Global;
 

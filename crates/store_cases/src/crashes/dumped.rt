@@ -1,13 +1,12 @@
 //! What `dump` shows of each image that a crash leaves: plain objects after a front of the commits, as they print.
 
-use crate::crashes::history::{acknowledged, apply_commit, objects_behind};
-use crate::crashes::spelled::{COLL, NAMES};
-use crate::crashes::sweep::{Sweep, TEARS};
-use crate::crashes::swept::{Counts, has_from};
-use crate::names::{coll_of, name_of};
+use crate::crashes::sweep::Sweep;
 use crate::runs::Case;
 use case_text::{CaseError, Setup, Text, Words};
 use crc32c_csum::crc32c;
+use plain_reader::{
+    COLL, Counts, NAMES, TEARS, acknowledged, apply_commit, coll_of, has_from, name_of, objects_behind,
+};
 use plain_store::Plain;
 use std::alloc::Global;
 

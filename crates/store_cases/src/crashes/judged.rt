@@ -1,11 +1,9 @@
 //! What a device is of, judged by the last run; and the crashes that a case goes on from.
 
-use crate::crashes::history::{Past, acknowledged};
-use crate::crashes::image::Found;
-use crate::crashes::spelled::spelled;
-use crate::crashes::sweep::{Sweep, tear_of};
+use crate::crashes::sweep::Sweep;
 use case_text::{CaseError, Text, Words, small};
 use object_model::Book;
+use plain_reader::{Found, Past, acknowledged, spelled, tear_of};
 use std::mem;
 
 impl Sweep {

@@ -1,9 +1,9 @@
 //! What the plain reader finds in a device.
 
-use crate::crashes::image::Found;
 use crate::crashes::sweep::Sweep;
 use block_device::Tear;
 use case_text::{CaseError, Text, Words};
+use plain_reader::Found;
 
 fn print_leaked(units: &[u32], out: &mut Text) {
     out.print("leaked");

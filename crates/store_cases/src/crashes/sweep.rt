@@ -1,16 +1,12 @@
 //! What the lines of a case work on.
 
-use crate::crashes::history::{Past, apply_commit, objects_behind};
-use crate::crashes::image::Found;
-use crate::crashes::spelled::spelled_plain;
 use crate::runs::Case;
 use block_device::{MemoryDevice, Tear};
-use case_text::{CaseError, Setup, Text, Words, look_up, number};
+use case_text::{CaseError, Setup, Text, Words, number};
 use object_model::Book;
+use plain_reader::{Found, Past, objects_behind, states};
 use plain_store::Plain;
 use std::alloc::Global;
-
-pub const TEARS: [Tear; 5] = [Tear::Old, Tear::New, Tear::First, Tear::Odd, Tear::Noise];
 
 /// A case whose runs of `step`, on the store `dev`, are compared with plain objects.
 #[derive(Drop)]
@@ -25,39 +21,6 @@ pub struct Sweep {
     pub leaked: Vec<u32>,
     /// What the objects are after each number of commits of the last run, from none to all.
     pub states: Vec<Vec<u8>>,
-}
-
-/// Their names.
-static TEAR_NAMES: [(&str, Tear); 5] = [
-    ("Old", Tear::Old),
-    ("New", Tear::New),
-    ("First", Tear::First),
-    ("Odd", Tear::Odd),
-    ("Noise", Tear::Noise),
-];
-
-/// The tear of this name.
-pub fn tear_of(word: &str) -> Result<Tear, CaseError> {
-    match look_up(&TEAR_NAMES, word) {
-        Some(tear) => Ok(tear),
-        None => Err(CaseError::Line("no tear")),
-    }
-}
-
-/// The objects of the first so many collections after each number of commits, from these on.
-pub fn states(
-    alloc: Global,
-    mut plain: Plain,
-    book: &Book,
-    colls: u32,
-) -> Result<Vec<Vec<u8>>, CaseError> {
-    let mut states = Vec::new(alloc);
-    states.push(spelled_plain(alloc, &plain, colls)?)?;
-    for at in 0..book.commits.len() {
-        apply_commit(alloc, &mut plain, book, at)?;
-        states.push(spelled_plain(alloc, &plain, colls)?)?;
-    }
-    Ok(states)
 }
 
 impl Sweep {

@@ -2,10 +2,10 @@
 ghost use Rattle.std.specs.Prelude.{◌≡◌, IfOk};
 ghost use Rattle.read_facts.specs.Prelude.{IsKnownRead};
 
-use crate::names::{coll_of, name_of};
 use block_device::MemoryDevice;
 use case_text::{CaseError, Text, Words, look_up, print_bytes};
 use object_model::{Answer, Command};
+use plain_reader::{coll_of, name_of};
 use std::alloc::Global;
 use store_kernel::{Kernel, Unanswered};
 use unit_fields::CollName;

@@ -1,10 +1,10 @@
 //! Many transactions at a time.
 
-use crate::crashes::COLLS;
 use crate::kernel::stepping::step_if_ready;
 use crate::kernel::submitting::{print_refused, submitted, transaction};
 use block_device::MemoryDevice;
 use case_text::{CaseError, Text, Words};
+use plain_reader::COLLS;
 use std::alloc::Global;
 use store_kernel::{Kernel, Refused};
 use store_steps::Step;

@@ -1,8 +1,8 @@
 //! What crashes of the last mount leave.
 
-use crate::crashes::{Counts, Judge, Left, Past, TEARS, tear_of};
 use crate::kernel::lines::KernelLines;
 use case_text::{CaseError, Text, Words, number, print_text};
+use plain_reader::{Counts, Judge, Left, Past, TEARS, tear_of};
 use std::alloc::Global;
 
 /// Adds a text to those that aren't the same.

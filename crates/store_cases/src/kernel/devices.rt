@@ -2,7 +2,6 @@
 ghost use Rattle.std.specs.Prelude.{◌≡◌, ◌≤◌, [], IfOk};
 ghost use Rattle.block_device.specs.Prelude.{disk_of};
 
-use crate::crashes::Left;
 use crate::kernel::lines::KernelLines;
 use crate::kernel::mounted::Mounted;
 use crate::runs::last_written;
@@ -10,6 +9,7 @@ use block_device::{Device, MemoryDevice};
 use case_text::{CaseError, Text, Words, print_piece};
 use mount_replay::{MkfsFail, MountFail, mkfs, mount};
 use object_model::Book;
+use plain_reader::Left;
 use std::alloc::Global;
 use store_kernel::Kernel;
 

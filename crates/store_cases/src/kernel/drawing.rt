@@ -1,7 +1,7 @@
 //! Calls of the kernel that are drawn from a seed.
 
-use crate::crashes::{COLLS, NAMES};
 use case_text::CaseError;
+use plain_reader::{COLLS, NAMES};
 use std::alloc::Global;
 
 /// A linear congruential generator modulo 2^64.

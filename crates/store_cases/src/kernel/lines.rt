@@ -1,8 +1,8 @@
 //! The lines of a case, and what they work on.
 
-use crate::crashes::{Left, Past};
 use crate::kernel::mounted::{KernelCall, Mounted};
 use case_text::{CaseError, Follow, Setup, Text, Words, kind_of};
+use plain_reader::{Left, Past};
 use std::alloc::Global;
 
 /// The kinds of lines that are shown.

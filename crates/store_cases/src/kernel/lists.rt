@@ -2,7 +2,6 @@
 ghost use Rattle.std.specs.Prelude.{◌≡◌, [], IfOk};
 ghost use Rattle.block_device.specs.Prelude.{disk_of};
 
-use crate::crashes::{COLLS, Counts, Judge, Left, NAMES, apply, objects_behind};
 use crate::kernel::asking::{answered, question};
 use crate::kernel::devices::opened;
 use crate::kernel::drawing::Draws;
@@ -10,11 +9,13 @@ use crate::kernel::lines::KernelLines;
 use crate::kernel::mounted::Mounted;
 use crate::kernel::stepping::{settle_in_order, step_if_ready};
 use crate::kernel::submitting::{submitted, transaction};
-use crate::names::{coll_of, name_of};
 use block_device::MemoryDevice;
 use case_text::{CaseError, Setup, Text, Words};
 use crc32c_csum::crc32c;
 use object_model::{Answer, Book};
+use plain_reader::{
+    COLLS, Counts, Judge, Left, NAMES, apply, coll_of, name_of, objects_behind,
+};
 use plain_store::Plain;
 use std::alloc::Global;
 use store_kernel::Refused;

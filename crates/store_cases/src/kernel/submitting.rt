@@ -2,11 +2,11 @@
 ghost use Rattle.std.specs.Prelude.{◌≡◌, ◌<◌, ◌%◌, [], ◌∷◌, length, IfOk};
 ghost use Rattle.plan_rows.specs.Prelude.{IsKnown};
 
-use crate::names::{coll_of, name_of};
 use block_device::MemoryDevice;
 use bytes::Bytes;
 use case_text::{CaseError, Text, Words, look_up};
 use object_model::{Op, Transaction};
+use plain_reader::{coll_of, name_of};
 use std::alloc::Global;
 use store_kernel::{Kernel, Refused};
 use unit_fields::CollName;

@@ -1,7 +1,7 @@
 //! What the rows say of each data unit: its bit in the freelist's bitmap, and the pages that stand on it.
 
-use crate::crashes::object::{is_shard_key, read_head};
-use crate::crashes::reader::Reader;
+use crate::object::{is_shard_key, read_head};
+use crate::reader::Reader;
 use byte_maps::Bytes;
 use std::alloc::{AllocError, Global};
 

@@ -1,8 +1,8 @@
 //! The bytes of an object, of its rows and its pages.
 
-use crate::crashes::image::unit;
-use crate::crashes::reader::{Reader, number_at};
-use crate::crashes::record::value_of;
+use crate::image::unit;
+use crate::reader::{Reader, number_at};
+use crate::record::value_of;
 use byte_maps::Bytes;
 use crc32c_csum::crc32c;
 use std::alloc::{AllocError, Global};

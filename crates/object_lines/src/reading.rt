@@ -1,9 +1,9 @@
 //! The names and the bytes that words spell.
 
-use crate::names::name_of;
 use byte_maps::{Bytes, Items};
 use case_text::{CaseError, Words, number};
 use object_model::Pair;
+use plain_reader::name_of;
 use std::alloc::Global;
 use unit_fields::Name;
 

@@ -1,6 +1,6 @@
 //! Reads.
 
-use crate::objects::reading::{last_name, next_name};
+use crate::reading::{last_name, next_name};
 use case_text::{CaseError, Words, kind_of};
 use object_model::Command;
 use std::alloc::{AllocError, Global};

@@ -1,6 +1,6 @@
 //! Records of the log, and the rows that their operations make.
 
-use crate::crashes::reader::{Reader, are_zeros, number_at, small_at};
+use crate::reader::{Reader, are_zeros, number_at, small_at};
 use byte_maps::Bytes;
 use crc32c_csum::Digest;
 use std::alloc::{AllocError, Global};

@@ -1,8 +1,8 @@
 //! The lines of a case: reads, and transactions whose operations have semicolons between them.
 
-use crate::objects::answers::print_answer;
-use crate::objects::operations::operation;
-use crate::objects::questions::{question, the_collection};
+use crate::answers::print_answer;
+use crate::operations::operation;
+use crate::questions::{question, the_collection};
 use case_text::{CaseError, Follow, Text, Words};
 use object_model::{Answer, Command, Op, Transaction};
 use plain_store::{ArgFault, Plain};

@@ -1,9 +1,9 @@
 //! What an image of a device holds.
 
-use crate::crashes::bitmap::{leaked_units, row_number};
-use crate::crashes::object::{Object, read_object};
-use crate::crashes::reader::{are_zeros, number_at, small_at};
-use crate::crashes::record::{Rows, make_all, read_record, value_of};
+use crate::bitmap::{leaked_units, row_number};
+use crate::object::{Object, read_object};
+use crate::reader::{are_zeros, number_at, small_at};
+use crate::record::{Rows, make_all, read_record, value_of};
 use byte_maps::Bytes;
 use crc32c_csum::crc32c;
 use std::alloc::{AllocError, Global};

@@ -1,6 +1,6 @@
 //! Operations of a transaction.
 
-use crate::objects::reading::{keys, last_bytes, last_name, next_name, pairs};
+use crate::reading::{keys, last_bytes, last_name, next_name, pairs};
 use bytes::Bytes as SharedBytes;
 use case_text::{CaseError, Words, kind_of};
 use object_model::Op;

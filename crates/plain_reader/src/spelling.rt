@@ -1,7 +1,7 @@
 //! The objects of a store as bytes that differ where they differ: for each name, an object's size and its bytes.
 
-use crate::crashes::image::Found;
-use crate::crashes::object::Object;
+use crate::image::Found;
+use crate::object::Object;
 use crate::names::{coll_of, name_of};
 use case_text::CaseError;
 use plain_store::Plain;

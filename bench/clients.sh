@@ -2,8 +2,8 @@
 # Times transactions of one fresh page by several clients of `bstore step` beside each other, each in a collection of its own and with a
 # `wait` behind each, in one run of several turns:
 # - on a real file, by 1, 16 and 64 clients, beside a plain loop in C of write, fdatasync, write, fdatasync on the same disk, and that
-#   loop with 64 pages before its first fdatasync: transactions a second, by the least times. What the loops have none of is taken off:
-#   what scripts of as many lines take whose writes are refused.
+#   loop with 64 pages before its first fdatasync: transactions a second, by the middle one of the turns' times, since a disk has good and
+#   bad moments. What the loops have none of is taken off: what scripts of as many lines take whose writes are refused.
 # - on a file in memory, three times a turn, the processor time of a transaction with 64 clients and with one.
 # - on that file, the time of one client's writes without a `wait`, beside the same with one behind each; and the peak memory of a
 #   transaction while all of them wait.
@@ -79,9 +79,15 @@ for ((turn = 1; turn <= turns; turn++)); do
 done
 
 awk -v n="$count" -v many="$many" -v turns="$turns" -v disk="${made##*/}" -v memory="${memory##*/}" '
-  function least_of(kept, at, value) { if (!(at in kept) || value < kept[at]) kept[at] = value }
-  { at = $1 " " $2; least_of(time, at, $3); least_of(used, at, $4); if ($5 > peak[at]) peak[at] = $5 }
-  function rate(clients) { return n * 1e9 / (time[disk " " clients] - time[disk " " clients "-refused"]) }
+  # puts a value among those that there are, in ascending order
+  function keep(all, many, at, value, i) {
+    for (i = many[at]++; i > 0 && all[at, i - 1] > value; i--) all[at, i] = all[at, i - 1]
+    all[at, i] = value
+  }
+  function middle(all, many, at) { return (all[at, int((many[at] - 1) / 2)] + all[at, int(many[at] / 2)]) / 2 }
+  { at = $1 " " $2; keep(times, runs, at, $3); keep(used, uses, at, $4); if ($5 > peak[at]) peak[at] = $5 }
+  function time_of(at) { return middle(times, runs, at) }
+  function rate(clients) { return n * 1e9 / (time_of(disk " " clients) - time_of(disk " " clients "-refused")) }
   function wanted(what, value, bound, is_most) {
     good = is_most ? value <= bound : value >= bound
     printf "%-58s %.2f, %s %s: %s\n", what, value, is_most ? "at most" : "at least", bound, good ? "within" : "BEYOND"
@@ -91,19 +97,19 @@ awk -v n="$count" -v many="$many" -v turns="$turns" -v disk="${made##*/}" -v mem
     printf "%d transactions of a fresh page of 4096 bytes, %d turns\n", n, turns
     for (clients = 1; clients <= 64; clients *= clients == 1 ? 16 : 4)
       printf "%2d clients                  %6.0f a second\n", clients, rate(clients)
-    plain = n * 1e9 / time["loop 1"]
+    plain = n * 1e9 / time_of("loop 1")
     printf "plain loop, C               %6.0f a second\n", plain
-    printf "64 pages a round, C         %6.0f a second\n", n * 1e9 / time["loop 64"]
-    one = used[memory " 1"] * 1e6 / n
-    more = used[memory " 64"] * 1e6 / n
+    printf "64 pages a round, C         %6.0f a second\n", n * 1e9 / time_of("loop 64")
+    one = middle(used, uses, memory " 1") * 1e6 / n
+    more = middle(used, uses, memory " 64") * 1e6 / n
     printf "processor time              %6.1f us with one client, %.1f us with 64\n", one, more
-    each = time[memory " each"] / 1e9
-    all = time[memory " all"] / 1e9
-    printf "%d writes of one client  %6.3f s with a wait behind each, %.3f s without, peak memory %.1f MiB\n", many, each, all, peak[memory " all"] / 1024
+    each = time_of(memory " each") / 1e9
+    without = time_of(memory " all") / 1e9
+    printf "%d writes of one client  %6.3f s with a wait behind each, %.3f s without, peak memory %.1f MiB\n", many, each, without, peak[memory " all"] / 1024
     wanted("64 clients against one", rate(64) / rate(1), 0.95, 0)
     wanted("64 clients against the plain loop", rate(64) / plain, 0.75, 0)
     wanted("processor time, 64 clients against one", more / one, 1.25, 1)
-    wanted("time without a wait against with one", all / each, 1.3, 1)
+    wanted("time without a wait against with one", without / each, 1.3, 1)
     wanted("peak memory of a transaction without a wait, in KiB", peak[memory " all"] / many, 12, 1)
     exit beyond
   }' "$made/times"

@@ -11,7 +11,7 @@ use Rattle.meta_log.specs.Prelude.{width_of}
 use Rattle.meta_store.specs.Store.{room_of}
 use Rattle.object_rows.proofs.PlansKeep.{plans_keep}
 use Rattle.read_facts.specs.Prelude.{IsHeldAt, HasReadNames, IsAnswerOf}
-use Rattle.store_steps.specs.Prelude.{State, Call, submitting, reading, stepping, Calls, IsRun, Refuses, memory_of}
+use Rattle.store_steps.specs.Prelude.{State, Call, submitting, reading, stepping, Refuses, memory_of}
 use Rattle.store_facts.specs.Prelude.{IsKept}
 use Rattle.store_facts.proofs.Prelude.{kept_call}
 use Rattle.book_facts.proofs.Prelude.{step_room, run_room}
@@ -63,18 +63,18 @@ module _ (room needed : ℕ) (p q : Position) (kept : IsKept p.state p.disk) (be
   call_full (submitting client line change) draws = λ e need left added full.
       elim draws.called.1 [
         | inl does ↦ (
-          let own : Entry = record { client = client; line = line; command = ask.Change change; answer = answer.Accepted; acks = p.state.acked } in
-          let is : answer.Accepted ≡ answer.MetaFull need left = own_full e need left added full own (ap (λ (z : State). z.book.entries) does.after) in
-          absurd cc)
+            let own : Entry = record { client = client; line = line; command = ask.Change change; answer = answer.Accepted; acks = p.state.acked } in
+            let is : answer.Accepted ≡ answer.MetaFull need left = own_full e need left added full own (ap (λ (z : State). z.book.entries) does.after) in
+            absurd cc)
         | inr (inl refuses) ↦ refused_full e need left added full client line change refuses.0 refuses.1
         | inr (inr away) ↦ absurd (none_here e need left added full (ap (λ (z : State). z.book.entries) away.same))
       ]
   call_full (reading client line command) draws = λ e need left added full.
       elim draws.called.1 [
         | inl is ↦ (
-          let own : Entry = record { client = client; line = line; command = command; answer = is.0; acks = p.state.acked } in
-          absurd (read_not_full p.disk p.state command is.0 need left is.1.names is.1.given
-          (own_full e need left added full own (ap (λ (z : State). z.book.entries) is.1.after))))
+            let own : Entry = record { client = client; line = line; command = command; answer = is.0; acks = p.state.acked } in
+            absurd (read_not_full p.disk p.state command is.0 need left is.1.names is.1.given
+            (own_full e need left added full own (ap (λ (z : State). z.book.entries) is.1.after))))
         | inr away ↦ absurd (none_here e need left added full (ap (λ (z : State). z.book.entries) away.same))
       ]
   call_full (stepping step) draws = λ e need left added full.

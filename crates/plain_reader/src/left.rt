@@ -1,13 +1,13 @@
 //! What mounts leave: a device and the book of what was done. The plain reader says of each image of the device whether it is of a front
 //! of the commits.
 
+use crate::commit_states::states;
+use crate::counts::{Counts, has_from};
 use crate::history::{Past, acknowledged, objects_behind};
 use crate::image::Found;
 use crate::object::Object;
 use crate::spelling::{NAMES, spelled};
-use crate::commit_states::states;
 use crate::tears::TEARS;
-use crate::counts::{Counts, has_from};
 use block_device::{MemoryDevice, Tear};
 use case_text::{CaseError, Text, number};
 use crc32c_csum::crc32c;

@@ -1,8 +1,8 @@
 //! The objects of a store as bytes that differ where they differ: for each name, an object's size and its bytes.
 
 use crate::image::Found;
-use crate::object::Object;
 use crate::names::{coll_of, name_of};
+use crate::object::Object;
 use case_text::CaseError;
 use plain_store::Plain;
 use std::alloc::{AllocError, Global};

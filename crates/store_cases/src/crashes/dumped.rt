@@ -5,7 +5,8 @@ use crate::runs::Case;
 use case_text::{CaseError, Setup, Text, Words};
 use crc32c_csum::crc32c;
 use plain_reader::{
-    COLL, Counts, NAMES, TEARS, acknowledged, apply_commit, coll_of, has_from, name_of, objects_behind,
+    COLL, Counts, NAMES, TEARS, acknowledged, apply_commit, coll_of, has_from, name_of,
+    objects_behind,
 };
 use plain_store::Plain;
 use std::alloc::Global;

@@ -13,9 +13,7 @@ use block_device::MemoryDevice;
 use case_text::{CaseError, Setup, Text, Words};
 use crc32c_csum::crc32c;
 use object_model::{Answer, Book};
-use plain_reader::{
-    COLLS, Counts, Judge, Left, NAMES, apply, coll_of, name_of, objects_behind,
-};
+use plain_reader::{COLLS, Counts, Judge, Left, NAMES, apply, coll_of, name_of, objects_behind};
 use plain_store::Plain;
 use std::alloc::Global;
 use store_kernel::Refused;

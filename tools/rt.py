@@ -5,6 +5,10 @@ With the words `below NAME --jobs N` it proves the libraries that a crate stands
 most N at a time: rt gives each one processor, or does one after the other. Those with the longest chains of crates above them may
 use all N processors, since nothing is done before these chains are, and those that can wait give way to them.
 
+With `program NAME --jobs N` it proves a program and all that it stands on as the gate does, and builds it: from nothing, each crate over
+the statements of those below it and not over their proofs, which takes half as long; but a crate that changes is proved anew as a whole
+then, and so is each one above it. What an earlier run of this or of the gate proved on this machine, over the same files, is taken over.
+
 rt knows by a stamp whether a library is as it was: a sum of its sources and of the stamps of all libraries that it names. It
 reckons each of them anew wherever one is named, which for the program bstore takes longer than the proofs. Here the stamp of a
 folder is reckoned once a run, so the sources must not change meanwhile. Where the kit's rt is built otherwise, it runs as it is.
@@ -62,26 +66,55 @@ def longest_chains(crates):
     return chains
 
 
-def prove_one(crate, jobs, nice, ended):
-    """Proves a library with so many jobs and this niceness, and tells its status and what it printed."""
+def prove_one(prove, crate, jobs, nice, ended):
+    """Proves a crate with so many jobs and this niceness, and tells its status and what it printed."""
     status, said = 1, ""
     try:
         if nice:
             os.setpriority(os.PRIO_PROCESS, threading.get_native_id(), nice)  # what the thread starts has it too
         os.makedirs(os.path.join(crate.folder, "out"), exist_ok=True)
         with tempfile.TemporaryFile("a+", errors="replace") as crate.out:
-            status = crate.build_rlib(["--jobs", str(jobs)], anew=False)
+            status = prove(crate, ["--jobs", str(jobs)])
             crate.out.seek(0)
             said = crate.out.read()
     finally:
         ended.put((crate, status, said))
 
 
+def named(crates, name):
+    """The crate of this name."""
+    return next(it for it in crates if it.name == name)
+
+
 def prove_below(kit, name, most):
-    """Proves what a crate stands on. Those with the longest chains above them come first."""
+    """Proves what a crate stands on, as libraries over which a check goes on."""
+    todo = named(kit.rtlib.crates_below(os.getcwd()), name).below()
+    return prove_all(kit, todo, most, lambda crate, flags: crate.build_rlib(flags, anew=False))
+
+
+def prove_program(kit, name, most):
+    """Proves a program and what it stands on as the gate does, and builds it."""
+    kit.Crate.cuts_libraries = True
+    kit.Crate.allowed = kit.handles_of(os.getcwd())
+    crates = kit.crates_of(os.getcwd())
+    kept, program = kit.Kept(crates), named(crates, name)
+
+    def prove(crate, flags):
+        key = kept.key(crate)
+        is_given = kept.give(crate, False, key)
+        status = 0 if is_given else crate.ci(flags, False)
+        if not status:
+            kept.is_built(crate)
+            if not is_given:
+                kept.keep(crate, False, key)
+        return status
+
+    return prove_all(kit, [*program.below(), program], most, prove)
+
+
+def prove_all(kit, todo, most, prove):
+    """Proves these crates, each behind those that it stands on. Those with the longest chains above them come first."""
     kit.rtlib.guarded()  # it can't be called first in a thread
-    crates = kit.rtlib.crates_below(os.getcwd())
-    todo = next(it for it in crates if it.name == name).below()
     held = kit.rtlib.lock(todo)
     chains, done, ended, busy, failed = longest_chains(todo), set(), queue.Queue(), set(), 0
     while busy or todo and not failed:
@@ -96,7 +129,7 @@ def prove_below(kit, name, most):
             is_urgent = chains[crate] >= URGENT * longest
             jobs = most if is_urgent else max(1, most // (len(ready) + len(busy)))
             nice = 0 if chains[crate] == longest else 5 if is_urgent else 10
-            threading.Thread(target=prove_one, args=(crate, jobs, nice, ended), daemon=True).start()
+            threading.Thread(target=prove_one, args=(prove, crate, jobs, nice, ended), daemon=True).start()
         crate, status, said = ended.get()
         busy.remove(crate)
         failed = failed or status
@@ -116,8 +149,9 @@ def prepared(file, words):
         return lambda: kit.main(*words[1:])
     kit = loaded(file)
     keep_stamps(kit.rtlib.Crate)
-    if words[:1] == ["below"]:
-        return lambda: prove_below(kit, words[1], int(words[3]))
+    for word, call in (("below", prove_below), ("program", prove_program)):
+        if words[:1] == [word]:
+            return lambda: call(kit, words[1], int(words[3]))
     return lambda: kit.main(words)
 
 

@@ -114,7 +114,7 @@ impl ChunkList {
     }
 
     // How many rows the lower part of a chunk keeps that is split for a key: those before the key, as far as neither part has too many. So
-    // rows that come in the order of their keys move at most 32 others from then on.
+    // rows that come in the order of their keys in one place move at most 32 others from then on.
     fn cut_of(&self, at: usize, key: &[u8]) -> usize
         requires { at < vec_len self.now.list }
         ensures { (32 ≤ result) × (result ≤ 96) }

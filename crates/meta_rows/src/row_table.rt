@@ -23,8 +23,8 @@ use std::mem::replace;
 /// They lie in chunks of 1 to 128 rows in the order of their keys. A look-up bisects the chunks by their first keys, and then one
 /// chunk; an operation looks first into the chunk of the one before. A row that comes or goes moves those behind it in its chunk
 /// alone, 64 bytes each. A chunk of 128 rows is split before one more comes, into a spare chunk of 8192 bytes: where the key comes, but
-/// neither part has more than 96 rows. So rows that come in the order of their keys, also in several places by turns, move at most 32 others
-/// from then on. A chunk that loses a row is joined with a neighbour where they have 64 rows together or fewer, and is spare again. Spare
+/// neither part has more than 96 rows. So rows that come in the order of their keys in one place move at most 32 others from then on.
+/// A chunk that loses a row is joined with a neighbour where they have 64 rows together or fewer, and is spare again. Spare
 /// chunks that no operation for which there is room needs are given back, but for 32. In Ceph it is RocksDB that holds the rows.
 #[derive(Debug, Drop)]
 pub struct RowTable {

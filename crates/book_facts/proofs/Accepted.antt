@@ -20,7 +20,7 @@ use Rattle.read_facts.specs.Prelude.{IsAnsweredAlike, IsNotRefused, HasReadNames
 use Rattle.read_facts.proofs.Plain.{plain_answer}
 use Rattle.store_steps.specs.declared.context.Context.{Context}
 use Rattle.store_steps.specs.Prelude.{State, context_of, entered, noted, accepted_with, IsCause, AnswersRead, memory_of, Intent, intent_of, intents, book_part}
-use Rattle.store_facts.proofs.Prelude.{intents_both, all_join, all_right}
+use Rattle.run_facts.proofs.Prelude.{intents_both, all_join, all_right}
 use Rattle.book_facts.specs.Prelude.{IsOfEntry, IsBookKnown, KnownOfBook}
 use Rattle.book_facts.proofs.Entries.{accepted_push, none_accepted, alike_push, counts_push, change_last, of_entries_push}
 use Rattle.book_facts.proofs.Answers.{has_effect, reply_accepted}

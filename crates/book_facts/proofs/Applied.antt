@@ -16,7 +16,7 @@ use Rattle.book_facts.specs.Prelude.{commit_places, AreQueued, IsOfEntry, intent
 use Rattle.book_facts.proofs.Entries.{own_change, committed_kept}
 use Rattle.book_facts.proofs.Commits.{places_on, places_by_places, changes_at, committed_by_places}
 use Rattle.std.specs.Option.{option_map_or}
-use Rattle.store_facts.proofs.Prelude.{all_right, all_take, intents_both}
+use Rattle.run_facts.proofs.Prelude.{all_right, all_take, intents_both}
 
 -- ---- by places
 

@@ -13,8 +13,8 @@ use Rattle.store_steps.specs.declared.step.Step.TheVariants as step
 use Rattle.store_steps.specs.Prelude.{Batch, State, taken_up, committed_batch, finished, Accepts, Call, Calls, IsRun, intents, uncommitted, RowsPart, BookPart, rows_part, book_part, Touch, events_of, RowsGo, BookGoes, Replies, refuses, reads, IsCaused, Footprint}
 use Rattle.store_steps.specs.RowsGo as rows
 use Rattle.store_steps.specs.BookGoes as book
-use Rattle.store_facts.specs.Prelude.{IsKept}
-use Rattle.store_facts.proofs.Prelude.{ready_by_table, take_none, finish_ready, intents_both, IsFirst, chosen_first, was_up, GoesDown, down_call, footprint_of, kept_call}
+use Rattle.run_facts.specs.Prelude.{IsKept}
+use Rattle.run_facts.proofs.Prelude.{ready_by_table, take_none, finish_ready, intents_both, IsFirst, chosen_first, was_up, GoesDown, down_call, footprint_of, kept_call}
 use Rattle.unit_fields.specs.Prelude.{Ascends}
 use Rattle.book_facts.specs.Prelude.{KnownOfBook, IsInOrder}
 use Rattle.book_facts.proofs.Books.{KeepBook, batch_of, book_stays, book_takes, book_commits, book_finishes, known_legal}

@@ -14,7 +14,7 @@ use Rattle.store_image.specs.Prelude.{IsShape}
 use Rattle.unit_allocator.specs.Prelude.{Space}
 use Rattle.store_steps.specs.declared.context.Context.{Context}
 use Rattle.store_steps.specs.Prelude.{Batch, State, without_context, Found, opened, commit_of, taken_up, acknowledged, finished, committed_batch, applied_count, Intent, intent_of, intents, BookPart, book_part}
-use Rattle.store_facts.proofs.Prelude.{IsFirst, elsewhere, without_at, all_right, intents_both}
+use Rattle.run_facts.proofs.Prelude.{IsFirst, elsewhere, without_at, all_right, intents_both}
 use Rattle.unit_fields.specs.Prelude.{Ascends}
 use Rattle.book_facts.specs.Prelude.{commit_places, IsOfEntry, AreCommits, IsBookKnown, KnownOfBook, AreQueued}
 use Rattle.book_facts.proofs.Entries.{counts_more}

@@ -10,7 +10,7 @@ use Rattle.object_model.specs.declared.book.Commit.{Commit}
 use Rattle.object_model.specs.Prelude.{Change, change_at, committed, is_on, committed_places, AreAckedFrom, acked_count}
 use Rattle.store_steps.specs.Prelude.{acknowledged}
 use Rattle.book_facts.specs.Prelude.{commit_places}
-use Rattle.store_facts.proofs.Prelude.{all_left}
+use Rattle.flight_facts.proofs.Prelude.{all_left}
 
 -- ---- facts of each element
 

@@ -13,9 +13,9 @@ use Rattle.meta_log.specs.Prelude.{width_of}
 use Rattle.read_facts.specs.Prelude.{IsHeldAt, HasReadNames, IsAnswerOf}
 use Rattle.plan_rows.specs.Prelude.{units_taken, PlansKeep}
 use Rattle.store_steps.specs.Prelude.{Call, submitting, reading, stepping, Calls, IsRun, State, free_count, IsCause, memory_of}
-use Rattle.store_facts.specs.Prelude.{IsKept}
+use Rattle.run_facts.specs.Prelude.{IsKept}
 use Rattle.book_facts.specs.Prelude.{taken_by, units_asked, demanded_by, is_no_space, any_no_space}
-use Rattle.store_facts.proofs.Prelude.{kept_call}
+use Rattle.run_facts.proofs.Prelude.{kept_call}
 use Rattle.book_facts.proofs.Rooms.{KeepsSpace, call_space, taken_push, step_room}
 
 -- ---- entries

@@ -9,8 +9,8 @@ use Rattle.plan_rows.specs.declared.plan.Plan.{Plan}
 use Rattle.plan_rows.specs.Prelude.{fresh_units, IsGood, Suits, PlanKeeps, PlanMakes, PlanTakes, PlansKeep, IsKnown}
 use Rattle.plan_rows.proofs.Agreeing.{agree_itself}
 use Rattle.store_steps.specs.Prelude.{State, Accepts, rows_part}
-use Rattle.store_facts.specs.Prelude.{IsKept, IsSpaceOf, AreRowsKept}
-use Rattle.store_facts.proofs.Prelude.{submitted_good, submitted_free, accepted_keeps, accepted_makes, accepted_takes}
+use Rattle.run_facts.specs.Prelude.{IsKept, IsSpaceOf, AreRowsKept}
+use Rattle.run_facts.proofs.Prelude.{submitted_good, submitted_free, accepted_keeps, accepted_makes, accepted_takes}
 use Rattle.book_facts.proofs.Commits.{all_then}
 
 -- The submitted rows are good and suit the plan, and it keeps, makes and takes what plans do.

@@ -12,7 +12,7 @@ use Rattle.plan_rows.specs.declared.plan.Plan.{Plan}
 use Rattle.unit_allocator.specs.Prelude.{Space}
 use Rattle.store_steps.specs.declared.context.Context.{Context}
 use Rattle.store_steps.specs.Prelude.{Batch, State, commit_of, taken_up, acknowledged, finished, committed_batch, context_of, entered, accepted_with, Found, opened, Intent, intent_of, intents, BookPart, book_part}
-use Rattle.store_facts.proofs.Prelude.{intents_both, IsFirst, all_join, all_right}
+use Rattle.run_facts.proofs.Prelude.{intents_both, IsFirst, all_join, all_right}
 use Rattle.unit_fields.specs.Prelude.{Ascends}
 use Rattle.book_facts.specs.Prelude.{IsOfEntry, KnownOfOrder, IsInOrder}
 use Rattle.book_facts.proofs.Entries.{change_last, of_entries_push}

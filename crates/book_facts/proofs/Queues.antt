@@ -17,7 +17,7 @@ use Rattle.store_steps.specs.Prelude.{Intent, names_in, is_in}
 use Rattle.book_facts.specs.Prelude.{places, commit_places, intents_on, IsOfEntry, AreQueued}
 use Rattle.book_facts.proofs.Entries.{own_change, change_below, change_push, places_kept, place_if, places_push}
 use Rattle.book_facts.proofs.Commits.{all_then, AreAtPlaces, at_places, places_on, places_by_places, distinct_front, none_above}
-use Rattle.store_facts.proofs.Prelude.{all_join}
+use Rattle.flight_facts.proofs.Prelude.{all_join}
 
 -- ---- intents of entries
 

@@ -17,10 +17,10 @@ use Rattle.plan_rows.specs.Prelude.{IsKnown, units_taken, fresh_units, PlansKeep
 use Rattle.unit_allocator.specs.Prelude.{IsWithin, is_free, free_units}
 use Rattle.unit_allocator.proofs.FreeUnits.{listed_is_free}
 use Rattle.meta_store.specs.Store.{room_of}
-use Rattle.store_facts.specs.Prelude.{IsKept, HasRoom}
+use Rattle.run_facts.specs.Prelude.{IsKept, HasRoom}
 use Rattle.store_steps.specs.RowsGo as rows
 use Rattle.meta_log.specs.declared.slot.Super.{Super}
-use Rattle.store_facts.proofs.Prelude.{footprint_of, IsNoJoin, none_joins, needs_join, StepOutcome, has_stepped, has_waited, has_gone_down, step_leaves, kept_call}
+use Rattle.run_facts.proofs.Prelude.{footprint_of, IsNoJoin, none_joins, needs_join, StepOutcome, has_stepped, has_waited, has_gone_down, kept_leaves, kept_call}
 use Rattle.book_facts.specs.Prelude.{units_taken_by, taken_by, need_if_accepted, needs_in}
 use Rattle.book_facts.proofs.Accepted.{cause_refuses, read_accepts_none}
 use Rattle.book_facts.proofs.Entries.{own_change, accepted_push, none_accepted}
@@ -70,7 +70,7 @@ part_leaves p q (rows.applies number front back both fits is) alone has = subst 
 
 pub step_room : (s : State) (d : Disk) (s' : State) (d' : Disk) (step : Step) → IsKept s d → is_ready step d.depth s ≡ true → DoesOrFails step s d s' d'
     → LeavesRoom s s'
-step_room s d s' d' step kept ready does = of_leaves (step_leaves step s d s' d' kept ready does)
+step_room s d s' d' step kept ready does = of_leaves (kept_leaves step s d s' d' kept ready does)
   where
     of_leaves : StepOutcome s d s' d' → LeavesRoom s s'
     of_leaves (has_stepped up paid matches) =

@@ -12,7 +12,7 @@ ghost use Rattle.store_steps.specs.declared.context.Context.{Context};
 ghost use Rattle.store_steps.specs.declared.step.Step.{Step};
 ghost use Rattle.store_steps.specs.Prelude.{State, colls_of, Found, opened, is_ready, need_of, free_count, Accepts, Refuses, DoesOrFails, Call, Calls, IsRun};
 ghost use Rattle.meta_store.specs.Store.{room_of};
-ghost use Rattle.store_facts.specs.Prelude.{IsKept};
+ghost use Rattle.run_facts.specs.Prelude.{IsKept};
 ghost use Rattle.book_facts.specs.BookFacts.{KnownOfBook, IsInOrder};
 ghost use Rattle.book_facts.specs.Rooms.{taken_by, needs_in, demanded_by, any_no_space};
 

@@ -11,7 +11,7 @@ use Rattle.unit_allocator.specs.Prelude.{Space}
 use Rattle.object_rows.proofs.PlansKeep.{plans_keep}
 use Rattle.script_text.specs.declared.line.Line.{Line}
 use Rattle.store_steps.specs.Prelude.{State, Found, free_count, Call, IsRun}
-use Rattle.store_facts.specs.Prelude.{IsKept}
+use Rattle.run_facts.specs.Prelude.{IsKept}
 use Rattle.book_facts.specs.Prelude.{units_asked, demand_of, demanded_by, any_no_space}
 use Rattle.book_facts.proofs.Prelude.{want_is_beyond_the_demand}
 use Rattle.mount_replay.specs.Mounting.{IsOpenedOn}

@@ -14,7 +14,7 @@ use Rattle.read_facts.specs.Prelude.{WalksTo, WalksAll, HasGoodViews, views_of, 
 use Rattle.read_facts.proofs.Viewed.{walk_is, walk_good}
 use Rattle.unit_allocator.specs.Prelude.{Space}
 use Rattle.store_steps.specs.Prelude.{State, Found, opened, is_drained, memory_of}
-use Rattle.store_facts.specs.Prelude.{IsKept}
+use Rattle.run_facts.specs.Prelude.{IsKept}
 use Rattle.crash_facts.specs.Store.{KnownOfStore, IsDurable, KeepsDurable}
 use Rattle.crash_facts.proofs.Submitted.{submitted_stand, unread_good}
 use Rattle.store_kernel.specs.declared.unanswered.WalkFail.{WalkFail}

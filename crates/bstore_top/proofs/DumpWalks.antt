@@ -25,7 +25,7 @@ use Rattle.read_facts.specs.Prelude.{IsHeldAt, no_memory, IsCollection, IsObject
 use Rattle.read_facts.specs.declared.view.CollView.{CollView}
 use Rattle.read_facts.specs.declared.view.ObjectView.{ObjectView}
 use Rattle.read_facts.proofs.Walks.{next_appended, all_to}
-use Rattle.store_facts.proofs.Prelude.{all_join}
+use Rattle.flight_facts.proofs.Prelude.{all_join}
 
 -- ---- the last name
 

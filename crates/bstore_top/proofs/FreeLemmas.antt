@@ -11,8 +11,8 @@ use Rattle.unit_allocator.specs.Prelude.{Space, free_units, IsWithin}
 use Rattle.unit_allocator.proofs.FreeUnits.{free_units_ascend, listed_is_free, free_is_listed}
 use Rattle.store_steps.specs.declared.context.Context.{Context}
 use Rattle.store_steps.specs.Prelude.{State, intents, SpaceIsCounted, HoldsAreCounted, free_count, is_drained}
-use Rattle.store_facts.specs.Prelude.{IsSpaceOf, IsKept}
-use Rattle.store_facts.proofs.Prelude.{idle_is_free, IsIdle, idle_uncommitted, known_idle, kept_rows, kept_space}
+use Rattle.run_facts.specs.Prelude.{IsSpaceOf, IsKept}
+use Rattle.run_facts.proofs.Prelude.{idle_is_free, IsIdle, idle_uncommitted, known_idle, kept_rows, kept_space}
 use Rattle.unit_facts.specs.Known.{KnownOfUnits}
 use Rattle.unit_facts.proofs.Runs.{idle_half}
 use Rattle.crash_facts.proofs.Now.{size_now}

@@ -12,8 +12,8 @@ use Rattle.meta_store.specs.Store.{room_of}
 use Rattle.object_rows.proofs.PlansKeep.{plans_keep}
 use Rattle.read_facts.specs.Prelude.{IsHeldAt, HasReadNames, IsAnswerOf}
 use Rattle.store_steps.specs.Prelude.{State, Call, submitting, reading, stepping, Refuses, memory_of}
-use Rattle.store_facts.specs.Prelude.{IsKept}
-use Rattle.store_facts.proofs.Prelude.{kept_call}
+use Rattle.run_facts.specs.Prelude.{IsKept}
+use Rattle.run_facts.proofs.Prelude.{kept_call}
 use Rattle.book_facts.proofs.Prelude.{step_room, run_room}
 use Rattle.client_runs.specs.Prelude.{Position, Draws, IsDrawnRun}
 use Rattle.bstore_top.specs.Room.{need_of_call, FullOnlyBeyond, EachFullOnlyBeyond}

@@ -27,8 +27,8 @@ use Rattle.store_steps.specs.declared.step.Step.{Step}
 use Rattle.store_steps.specs.declared.step.Step.TheVariants.{Reap}
 use Rattle.store_steps.specs.Prelude.{State, intents, Found, free_count, is_drained, is_empty, Call, stepping, Calls, IsRun}
 use Rattle.store_steps.specs.declared.context.Context.{Context}
-use Rattle.store_facts.specs.Prelude.{AcksAre, IsKept}
-use Rattle.store_facts.proofs.Prelude.{none_ready, idle_pending, idle_acked, kept_run}
+use Rattle.run_facts.specs.Prelude.{AcksAre, IsKept}
+use Rattle.run_facts.proofs.Prelude.{none_ready, idle_pending, idle_acked, kept_run}
 use Rattle.unit_facts.proofs.Runs.{drained_clean}
 use Rattle.object_rows.proofs.PlansKeep.{plans_keep}
 use Rattle.book_facts.specs.Prelude.{KnownOfBook, AreQueued, IsInOrder}

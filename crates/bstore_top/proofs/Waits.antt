@@ -19,8 +19,8 @@ use Rattle.store_steps.specs.declared.flight.Job.TheVariants as job
 use Rattle.store_steps.specs.declared.step.Step.{Step}
 use Rattle.store_steps.specs.declared.step.Step.TheVariants as steps
 use Rattle.store_steps.specs.Prelude.{State, landed, after_done, after_good, flying_of, Call, stepping, Submits, Reads, DoesOrFails, Calls}
-use Rattle.store_facts.specs.Prelude.{AcksAre, IsKept}
-use Rattle.store_facts.proofs.Prelude.{kept_call}
+use Rattle.run_facts.specs.Prelude.{AcksAre, IsKept}
+use Rattle.run_facts.proofs.Prelude.{kept_call}
 use Rattle.book_facts.specs.Prelude.{commit_places}
 use Rattle.book_facts.proofs.Prelude.{places_acknowledged}
 use Rattle.object_rows.proofs.PlansKeep.{plans_keep}

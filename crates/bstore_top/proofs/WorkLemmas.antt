@@ -10,7 +10,7 @@ use Rattle.script_text.specs.declared.line.Line.{Line}
 use Rattle.store_steps.specs.declared.step.Step.{Step}
 use Rattle.store_steps.specs.declared.step.Step.TheVariants.{Data, Reap, Take, Flush, Seal, Record, Sync, Commit, Finish}
 use Rattle.store_steps.specs.Prelude.{State, Found, free_count, Call, submitting, reading, stepping, DoesOrFails, Calls, IsRun}
-use Rattle.store_facts.specs.Prelude.{IsKept}
+use Rattle.run_facts.specs.Prelude.{IsKept}
 use Rattle.crash_facts.specs.Store.{KeepsDurable}
 use Rattle.log_replay.specs.Prelude.{Told, GoesOn, IsLater, FailsMount, SubmitsNothing}
 use Rattle.mount_replay.specs.Mounting.{IsOpenedOn, IsReapedTo}

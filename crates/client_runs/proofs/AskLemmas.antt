@@ -14,7 +14,7 @@ use Rattle.script_text.specs.Prelude.{is_wait, FitsWhat}
 use Rattle.script_text.specs.declared.line.Line.{Line}
 use Rattle.script_text.specs.declared.line.What.TheVariants as what
 use Rattle.store_steps.specs.Prelude.{State}
-use Rattle.store_facts.specs.Prelude.{IsKept}
+use Rattle.run_facts.specs.Prelude.{IsKept}
 use Rattle.book_facts.proofs.Prelude.{all_push, all_then}
 use Rattle.client_runs.specs.declared.client.Client.{Client}
 use Rattle.client_runs.specs.declared.clients.Clients.{Clients}

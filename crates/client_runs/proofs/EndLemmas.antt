@@ -14,8 +14,8 @@ use Rattle.object_model.specs.declared.book.Entry.{Entry}
 use Rattle.store_steps.specs.declared.context.Context.{Context}
 use Rattle.store_steps.specs.declared.step.Step.{Step}
 use Rattle.store_steps.specs.Prelude.{State, Call, stepping, intents, is_drained, is_empty}
-use Rattle.store_facts.specs.Prelude.{IsKept}
-use Rattle.store_facts.proofs.Prelude.{idle_pending, idle_acked}
+use Rattle.run_facts.specs.Prelude.{IsKept}
+use Rattle.run_facts.proofs.Prelude.{idle_pending, idle_acked}
 use Rattle.book_facts.specs.Prelude.{IsInOrder, AreQueued}
 use Rattle.client_runs.specs.Prelude.{Ask, is_accepted_of, unacked_from, unacked, may_ask, call_of, next_call, client_calls, ready_list, Position, calls_at}
 use Rattle.client_runs.proofs.TieLemmas.{one_if, unacked_cons}

@@ -13,8 +13,8 @@ use Rattle.store_steps.specs.declared.step.Step.{Step}
 use Rattle.store_steps.specs.declared.step.Step.TheVariants.{Take, Finish}
 use Rattle.store_steps.specs.Prelude.{State, is_ready, Does, Call, stepping, Calls, intents, acknowledged}
 use Rattle.store_kernel.specs.declared.step_fail.StepFail.{StepFail}
-use Rattle.store_facts.specs.Prelude.{IsKept}
-use Rattle.store_facts.proofs.Prelude.{ready_by_table, finish_ready, all_left}
+use Rattle.run_facts.specs.Prelude.{IsKept}
+use Rattle.run_facts.proofs.Prelude.{ready_by_table, finish_ready, all_left}
 use Rattle.object_rows.proofs.PlansKeep.{plans_keep}
 use Rattle.book_facts.specs.Prelude.{commit_places, places, IsInOrder}
 use Rattle.book_facts.proofs.Prelude.{order_run}

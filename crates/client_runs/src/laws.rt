@@ -2,7 +2,7 @@
 ghost use Rattle.std.specs.Prelude.{◌≡◌, List, [], None};
 ghost use Rattle.std.specs.List.{AllByRecursion};
 ghost use Rattle.store_steps.specs.Prelude.{Call, IsRun};
-ghost use Rattle.store_facts.specs.Prelude.{IsKept};
+ghost use Rattle.run_facts.specs.Prelude.{IsKept};
 ghost use Rattle.book_facts.specs.Prelude.{IsInOrder};
 ghost use Rattle.client_runs.specs.Choice.{Position, calls_at, IsDrawnRun};
 

@@ -13,8 +13,8 @@ use Rattle.plan_rows.specs.declared.plan.Plan.{Plan}
 use Rattle.plan_rows.specs.Prelude.{PlanMakes}
 use Rattle.store_steps.specs.declared.context.Context.{Context}
 use Rattle.store_steps.specs.Prelude.{Intent, intent_of, intents, CanJoin, Batch, State, context_of, accepted_with, applied_count, uncommitted, rows_part}
-use Rattle.store_facts.specs.Prelude.{AreRowsKept}
-use Rattle.store_facts.proofs.Prelude.{intents_both}
+use Rattle.run_facts.specs.Prelude.{AreRowsKept}
+use Rattle.run_facts.proofs.Prelude.{intents_both}
 use Rattle.book_facts.specs.Prelude.{IsOfEntry, KnownOfBook, applied_changes, SelectionsStand}
 use Rattle.book_facts.proofs.Prelude.{change_last, applied_entry}
 use Rattle.crash_facts.specs.HeldBytes.{held_or_last}

@@ -16,12 +16,12 @@ use Rattle.meta_log.specs.Prelude.{width_of}
 use Rattle.read_facts.specs.Prelude.{HasReadNames, IsNoCsum, AnswersAlikeFrom, IsLegalButBytes}
 use Rattle.read_facts.proofs.Seen.{seen_answer}
 use Rattle.store_steps.specs.Prelude.{State, IsCause, Call, submitting, reading, stepping, AnswersRead, Reads, Submits, Calls, memory_of}
-use Rattle.store_facts.specs.Prelude.{IsKept}
+use Rattle.run_facts.specs.Prelude.{IsKept}
 use Rattle.book_facts.specs.Prelude.{KnownOfBook}
 use Rattle.book_facts.proofs.Prelude.{known_legal, answers_push, alike_last, step_room}
 use Rattle.crash_facts.specs.Store.{KnownOfStore, IsDurable}
 use Rattle.crash_facts.proofs.Submitted.{seen_at, submitted_stand, unread_good}
-use Rattle.store_facts.proofs.Prelude.{all_join}
+use Rattle.flight_facts.proofs.Prelude.{all_join}
 
 -- each entry has the answer that plain objects give, and none names a bad unit
 pub record AreAnswered (opening : Objects) (entries : List Entry) : Type 0 where

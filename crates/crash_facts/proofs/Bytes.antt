@@ -16,7 +16,7 @@ use Rattle.store_steps.specs.Prelude.{Intent, is_in, intents, taken_by, all_fres
 use Rattle.selections.specs.Fair.{IsComplete}
 use Rattle.selections.proofs.Selecting.{complete_is_fair, all_selected}
 use Rattle.space_facts.proofs.Prelude.{times, times_append, times_some, each_named}
-use Rattle.store_facts.proofs.Prelude.{all_then, flat_intents, all_left, all_right, all_join, fresh_taken, units_of}
+use Rattle.run_facts.proofs.Prelude.{all_then, flat_intents, all_left, all_right, all_join, fresh_taken, units_of}
 use Rattle.crash_facts.specs.HeldBytes.{bytes_with, fresh_by, held_or_last}
 use Rattle.unit_fields.specs.Prelude.{Ascends}
 use Rattle.unit_facts.proofs.Units.{none_written, fits_quiet}

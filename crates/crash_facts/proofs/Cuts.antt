@@ -19,7 +19,7 @@ use Rattle.meta_log.specs.Prelude.{active_unit}
 use Rattle.store_image.specs.Prelude.{StaysExact, StandsFor, NoChanceMatch, AreAsWritten, IsOutranked, LeavesPrefix, EachCutStands}
 use Rattle.store_steps.specs.Prelude.{acknowledged, Intent, BookPart, Touch, nothing, ends, flushes, on_data, on_half, after, run_write, BookGoes, enters, commits, acknowledges, commits_of}
 use Rattle.store_steps.specs.BookGoes.{same, applies}
-use Rattle.store_facts.proofs.Prelude.{acknowledged_length}
+use Rattle.flight_facts.proofs.Prelude.{acknowledged_length}
 use Rattle.book_facts.proofs.Prelude.{places_acknowledged, changes_at, applied_by_places, applied_entry}
 use Rattle.crash_facts.proofs.Exact.{same_contents}
 

@@ -15,9 +15,9 @@ use Rattle.store_image.proofs.Prelude.{renamed, is_left_out}
 use Rattle.store_steps.specs.Prelude.{Intent, intents, is_in, rows_by, uncommitted, begun_ops, RowsPart, rows_part, Touch, after, run_write, RowsGo, joins, reorders, joined, Footprint, Batch, State, batch_ops}
 use Rattle.store_steps.specs.Touch as touch
 use Rattle.store_steps.specs.RowsGo.{same, applies}
-use Rattle.store_facts.specs.Prelude.{IsKept, AreRowsKept}
+use Rattle.run_facts.specs.Prelude.{IsKept, AreRowsKept}
 use Rattle.space_facts.proofs.Prelude.{selection_exact, rows_append, rows_by_ops}
-use Rattle.store_facts.proofs.Prelude.{IsMade, made_batch, flat_intents}
+use Rattle.run_facts.proofs.Prelude.{IsMade, made_batch, flat_intents}
 use Rattle.meta_store.specs.Store.{Begun}
 use Rattle.std.specs.Option.{option_map_or}
 use Rattle.selections.proofs.Selecting.{fair_nil, fair_among, fair_behind, each_of_none}

@@ -21,8 +21,8 @@ use Rattle.selections.proofs.Selecting.{fair_behind}
 use Rattle.space_facts.proofs.Prelude.{rows_append, batch_fair, good_committed, pending_unmarked}
 use Rattle.store_steps.specs.declared.context.Context.{Context}
 use Rattle.store_steps.specs.Prelude.{State, Intent, intents, is_in, rows_by, EachIsPlanned, AreTakenApart, uncommitted, all_fresh, given_fresh, rows_part}
-use Rattle.store_facts.specs.Prelude.{IsAllGiven, IsKept, AreRowsKept}
-use Rattle.store_facts.proofs.Prelude.{all_left, units_of, taken_by, flat_intents, intents_both, taken_fresh, given_taken, parts_apart, given_all}
+use Rattle.run_facts.specs.Prelude.{IsAllGiven, IsKept, AreRowsKept}
+use Rattle.run_facts.proofs.Prelude.{all_left, units_of, taken_by, flat_intents, intents_both, taken_fresh, given_taken, parts_apart, given_all}
 use Rattle.book_facts.specs.Prelude.{IsFairSelection, changes_of, SelectionsStand}
 use Rattle.unit_facts.specs.DataUnits.{HeldBytesAreLast, UnitsAreFlushed, OtherUnitsAreClean}
 use Rattle.unit_facts.proofs.DataKnown.{retired}

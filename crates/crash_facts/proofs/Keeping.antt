@@ -12,8 +12,8 @@ use Rattle.store_image.specs.Prelude.{StandsFor, IsStart, EachCutStands}
 use Rattle.unit_allocator.specs.Prelude.{Space}
 use Rattle.store_steps.specs.Prelude.{State, Found, opened, Call, Calls, Touch, nothing, ends, flushes, on_data, on_half, Adds, events_of, run_write, Footprint}
 use Rattle.plan_rows.specs.Prelude.{PlansKeep}
-use Rattle.store_facts.specs.Prelude.{IsKept}
-use Rattle.store_facts.proofs.Prelude.{GoesDown, down_call, footprint_of}
+use Rattle.run_facts.specs.Prelude.{IsKept}
+use Rattle.run_facts.proofs.Prelude.{GoesDown, down_call, footprint_of}
 use Rattle.crash_facts.specs.Store.{IsDurable, KeepsDurable, IsMounted}
 use Rattle.crash_facts.proofs.Runs.{call_durable, mounted_durable}
 

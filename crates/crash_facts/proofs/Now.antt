@@ -20,8 +20,8 @@ use Rattle.log_facts.proofs.Cuts.{cut_stands}
 use Rattle.store_steps.specs.declared.flight.FlushState.{FlushState}
 use Rattle.meta_store.specs.Store.{Begun}
 use Rattle.store_steps.specs.Prelude.{Batch, State, applied_count, uncommitted, all_fresh, flush_of, begun_ops, submitted_from, second_flush, intents}
-use Rattle.store_facts.specs.Prelude.{AcksAre, IsKept}
-use Rattle.store_facts.proofs.Prelude.{batch_written, given_flushed, some_units}
+use Rattle.run_facts.specs.Prelude.{AcksAre, IsKept}
+use Rattle.run_facts.proofs.Prelude.{batch_written, given_flushed, some_units}
 use Rattle.book_facts.specs.Prelude.{applied_changes, changes_of}
 use Rattle.book_facts.proofs.Prelude.{applied_committed, batch_last}
 use Rattle.unit_facts.specs.DataUnits.{UnitsAreFlushed, BatchUnitsAreFlushed}

@@ -18,8 +18,8 @@ use Rattle.log_facts.proofs.Cuts.{exact_image}
 use Rattle.unit_allocator.specs.Prelude.{Space}
 use Rattle.store_steps.specs.Prelude.{State, is_drained, Found, opened, intents, book_part, after, Footprint, Call, Calls, IsRun, uncommitted, second_flush}
 use Rattle.plan_rows.specs.Prelude.{PlansKeep}
-use Rattle.store_facts.specs.Prelude.{IsKept}
-use Rattle.store_facts.proofs.Prelude.{IsIdle, known_idle, kept_call, kept_run, footprint_of, was_up, Ends, IsStill, not_both, down_call}
+use Rattle.run_facts.specs.Prelude.{IsKept}
+use Rattle.run_facts.proofs.Prelude.{IsIdle, known_idle, kept_call, kept_run, footprint_of, was_up, Ends, IsStill, not_both, down_call}
 use Rattle.book_facts.specs.Prelude.{KnownOfBook}
 use Rattle.book_facts.proofs.Prelude.{book_opened, book_call, stand_none}
 use Rattle.crash_facts.specs.HeldBytes.{held_or_last}

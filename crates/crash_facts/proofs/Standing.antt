@@ -19,8 +19,8 @@ use Rattle.store_steps.specs.Prelude.{Batch, State, unsent_units, acknowledged, 
 use Rattle.store_steps.specs.RowsGo as rows
 use Rattle.store_steps.specs.DataGoes as units
 use Rattle.store_steps.specs.BookGoes as book
-use Rattle.store_facts.specs.Prelude.{IsKept, IsSpaceOf, AreRowsKept}
-use Rattle.store_facts.proofs.Prelude.{accepted_makes, accepted_joins, batch_written, given_of_all, all_left, all_right}
+use Rattle.run_facts.specs.Prelude.{IsKept, IsSpaceOf, AreRowsKept}
+use Rattle.run_facts.proofs.Prelude.{accepted_makes, accepted_joins, batch_written, given_of_all, all_left, all_right}
 use Rattle.plan_rows.specs.Prelude.{PlansKeep}
 use Rattle.space_facts.proofs.Prelude.{selection_good, each_named}
 use Rattle.plan_rows.proofs.OnData.{owned_on_data}

@@ -12,8 +12,8 @@ use Rattle.store_image.proofs.Prelude.{objects_stand}
 use Rattle.plan_rows.specs.declared.plan.FreshUnit.{FreshUnit}
 use Rattle.store_steps.specs.declared.context.Context.{Context}
 use Rattle.store_steps.specs.Prelude.{State, Intent, intents, rows_by, uncommitted, all_fresh, bytes_in, memory_of}
-use Rattle.store_facts.specs.Prelude.{IsKept}
-use Rattle.store_facts.proofs.Prelude.{IsIdle, idle_uncommitted, given_of_all, none_of_bytes, page_on_data}
+use Rattle.run_facts.specs.Prelude.{IsKept}
+use Rattle.run_facts.proofs.Prelude.{IsIdle, idle_uncommitted, given_of_all, none_of_bytes, page_on_data}
 use Rattle.book_facts.specs.Prelude.{applied_changes}
 use Rattle.book_facts.proofs.Prelude.{all_selected, all_under_way}
 use Rattle.unit_facts.proofs.Units.{data_elsewhere}

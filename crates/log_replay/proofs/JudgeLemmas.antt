@@ -11,8 +11,8 @@ use Rattle.store_image.specs.Prelude.{IsDataUnit, IsMarked}
 use Rattle.bitmap_freelist.specs.Bitmap.{AreMarked}
 use Rattle.unit_allocator.specs.Prelude.{Space, is_free, holds_of}
 use Rattle.plan_rows.specs.Prelude.{IsGood}
-use Rattle.store_facts.specs.Prelude.{IsSpaceOf}
-use Rattle.store_facts.proofs.Prelude.{nothing_is_held, idle_is_free}
+use Rattle.run_facts.specs.Prelude.{IsSpaceOf}
+use Rattle.run_facts.proofs.Prelude.{nothing_is_held, idle_is_free}
 use Rattle.store_steps.specs.Prelude.{Found, HoldsAreCounted}
 use Rattle.log_replay.specs.Prelude.{HasLowNumbers, AreUnmarkedIdle, AreUnmarkedFree, IsJudged}
 use Rattle.log_replay.proofs.NewSpace.{new_space, new_space_is, new_space_free, new_space_unheld}

@@ -10,7 +10,7 @@ use Rattle.meta_log.specs.Prelude.{IsSuper, data_unit}
 use Rattle.unit_allocator.specs.Prelude.{Space, is_free, holds_of, given_one, freed_from, no_idle_units}
 use Rattle.unit_allocator.proofs.Fresh.{new_is_free, new_is_unheld}
 use Rattle.store_image.specs.Prelude.{IsDataUnit}
-use Rattle.store_facts.specs.Prelude.{IsSpaceOf}
+use Rattle.run_facts.specs.Prelude.{IsSpaceOf}
 
 -- a new allocator has the range that it was made for
 same_range : (s : Space) (busy : set.FinSet nat_cmp) (units : List ℕ)

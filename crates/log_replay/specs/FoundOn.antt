@@ -5,7 +5,7 @@ use Rattle.meta_log.specs.Prelude.{active_half, IsSuper, active_unit}
 use Rattle.unit_allocator.specs.Prelude.{Space}
 use Rattle.store_steps.specs.Prelude.{Found, HoldsAreCounted}
 use Rattle.plan_rows.specs.Prelude.{IsGood}
-use Rattle.store_facts.specs.Prelude.{IsSpaceOf}
+use Rattle.run_facts.specs.Prelude.{IsSpaceOf}
 use Rattle.log_replay.specs.Opening.{IsAbout, IsFoundIn, HasLowNumbers, AreUnmarkedIdle, AreUnmarkedFree}
 use Rattle.log_replay.specs.Stale.{AreNotZero}
 use Rattle.log_replay.specs.Clearing.{IsCleared, ClearsSoFar}

@@ -6,7 +6,7 @@ ghost use Rattle.store_image.specs.Prelude.{IsDataUnit};
 ghost use Rattle.bitmap_freelist.specs.Bitmap.{AreMarked};
 ghost use Rattle.unit_allocator.specs.Prelude.{is_free, holds_of};
 ghost use Rattle.plan_rows.specs.Prelude.{IsGood};
-ghost use Rattle.store_facts.specs.Prelude.{IsSpaceOf};
+ghost use Rattle.run_facts.specs.Prelude.{IsSpaceOf};
 ghost use Rattle.log_replay.specs.Opening.{HasLowNumbers, IsWornOut, IsRefused};
 ghost use Rattle.log_replay.specs.FoundOn.{IsJudged, as_found};
 

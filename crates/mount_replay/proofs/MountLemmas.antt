@@ -11,8 +11,8 @@ use Rattle.unit_allocator.specs.Prelude.{Space}
 use Rattle.store_steps.specs.Prelude.{State, Found, opened}
 use Rattle.plan_rows.specs.Prelude.{IsGood}
 use Rattle.space_facts.proofs.Prelude.{counted_none}
-use Rattle.store_facts.specs.Prelude.{IsOpenable, IsKept}
-use Rattle.store_facts.proofs.Prelude.{kept_open}
+use Rattle.run_facts.specs.Prelude.{IsOpenable, IsKept}
+use Rattle.run_facts.proofs.Prelude.{kept_open}
 use Rattle.crash_facts.specs.Store.{KeepsDurable, IsMounted}
 use Rattle.crash_facts.proofs.Keeping.{mounted_keeps}
 use Rattle.log_replay.specs.Prelude.{Told, IsLater, IsAllClean, AreClearing, IsCleared, ClearsSoFar, IsAbout, IsFoundIn, IsRefused, IsUnopenable, FailsMount, IsFoundOn, IsJudged, as_found, first_behind, half_end, rest_of, AreStaleOf, IsLogCleared, ClearsLog}

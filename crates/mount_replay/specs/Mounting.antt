@@ -8,7 +8,7 @@ use Rattle.store_image.specs.Prelude.{StandsFor, EachCutStands}
 use Rattle.unit_allocator.specs.Prelude.{Space}
 use Rattle.store_steps.specs.declared.step.Step.TheVariants.{Reap}
 use Rattle.store_steps.specs.Prelude.{State, Found, opened, Call, stepping, IsRun}
-use Rattle.store_facts.specs.Prelude.{IsOpenable}
+use Rattle.run_facts.specs.Prelude.{IsOpenable}
 use Rattle.log_replay.specs.Prelude.{Told, GoesOn, GoesOnBy, IsLater, IsAllClean, AreClearing, IsAbout, IsFoundIn, HasLowNumbers, AreUnmarkedFree}
 
 -- the bytes of the active half behind the records

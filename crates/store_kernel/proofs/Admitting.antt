@@ -23,8 +23,8 @@ use Rattle.object_rows.proofs.Taking.{units_of, plan_takes_free, planned}
 use Rattle.store_steps.specs.declared.context.Context.{Context}
 use Rattle.store_steps.specs.declared.flight.Flying.{Flying}
 use Rattle.store_steps.specs.Prelude.{State, CanNote, Accepts, accepted_with, need_of, memory_of}
-use Rattle.store_facts.specs.Prelude.{IsKept}
-use Rattle.store_facts.proofs.Prelude.{kept_submitted, kept_free, fresh_not_in_memory}
+use Rattle.run_facts.specs.Prelude.{IsKept}
+use Rattle.run_facts.proofs.Prelude.{kept_submitted, kept_free, fresh_not_in_memory}
 use Rattle.onode_state.specs.Objects.{AreRowsOfAStore, AreRowsOfWidth}
 use Rattle.txn_planner.specs.PlanFails.{IsPlanFor}
 use Rattle.store_kernel.specs.declared.batch.OpenBatch.{OpenBatch}

@@ -14,8 +14,8 @@ use Rattle.unit_allocator.specs.Prelude.{given}
 use Rattle.store_steps.specs.declared.context.Context.{Context}
 use Rattle.store_steps.specs.declared.flight.FlushState.TheVariants as flush
 use Rattle.store_steps.specs.Prelude.{Batch, State, chosen, without_context, batch_released, log_after, acknowledged, is_ready, DoesTake, DoesCommit, DoesFinish}
-use Rattle.store_facts.specs.Prelude.{AcksAre, IsKept, IsLogFar, log_flying}
-use Rattle.store_facts.proofs.Prelude.{ready_not_down, ready_by_table, some_of, HasRecord, ReadyCommit, known_batch, known_commit, known_finish, data_within, space_given, back_data, back_in_turn}
+use Rattle.run_facts.specs.Prelude.{AcksAre, IsKept, IsLogFar, log_flying}
+use Rattle.run_facts.proofs.Prelude.{ready_not_down, ready_by_table, some_of, HasRecord, ReadyCommit, known_batch, known_commit, known_finish, data_within, space_given, back_data, back_in_turn}
 use Rattle.kv_worker.specs.Batches.{TakesOne, CanCommit, flushed_batch}
 use Rattle.store_image.specs.Prelude.{IsDataUnit}
 use Rattle.store_kernel.specs.declared.batch.OpenBatch.{OpenBatch}

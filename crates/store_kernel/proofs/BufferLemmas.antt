@@ -7,7 +7,7 @@ use Rattle.std.proofs.lemmas.Bool.{eq-eqb, ne_eqb, eqb-true, cases_Bool}
 use Rattle.unit_fields.specs.Prelude.{Ascends}
 use Rattle.plan_rows.specs.declared.plan.FreshUnit.{FreshUnit}
 use Rattle.store_steps.specs.Prelude.{bytes_in}
-use Rattle.store_facts.proofs.Prelude.{bytes_both, all_take}
+use Rattle.run_facts.proofs.Prelude.{bytes_both, all_take}
 
 abbrev Memory : Type 0
 Memory = ℕ → Option (List ℕ)

@@ -13,8 +13,8 @@ use Rattle.store_steps.specs.declared.flight.Job.{Job}
 use Rattle.store_steps.specs.declared.flight.Job.TheVariants as job
 use Rattle.store_steps.specs.Prelude.{Batch, State, after_done, after_good, first_flushed, second_flushed, written_more, down_by, flying_of, landed, Takes}
 use Rattle.std.specs.List.{AllByRecursion}
-use Rattle.store_facts.specs.Prelude.{IsKept}
-use Rattle.store_facts.proofs.Prelude.{StandsIn, others_of, landed_flight, reaped_good, IsLeftOut, left_out, IsOf, found_tells}
+use Rattle.run_facts.specs.Prelude.{IsKept}
+use Rattle.flight_facts.proofs.Prelude.{StandsIn, others_of, landed_flight, reaped_good, IsLeftOut, left_out, IsOf, found_tells}
 use Rattle.store_kernel.specs.declared.batch.OpenBatch.{OpenBatch}
 use Rattle.store_kernel.specs.Seen.{batch_of}
 use Rattle.store_kernel.specs.Ends.{with_first, with_second, contexts_after, batch_after, meta_after}

@@ -12,7 +12,7 @@ use Rattle.plan_rows.specs.Prelude.{IsKnown}
 use Rattle.read_facts.specs.Prelude.{IsKnownRead}
 use Rattle.write_buffers.specs.declared.buffers.WriteBuffers.{WriteBuffers}
 use Rattle.write_buffers.specs.Prelude.{memory_in}
-use Rattle.store_facts.proofs.Prelude.{kept_step, kept_accept, kept_refuse, kept_answer}
+use Rattle.run_facts.proofs.Prelude.{kept_step, kept_accept, kept_refuse, kept_answer}
 use Rattle.crash_facts.specs.Store.{KeepsDurable}
 use Rattle.crash_facts.proofs.Keeping.{call_keeps}
 use Rattle.store_kernel.specs.declared.batch.OpenBatch.{OpenBatch}

@@ -11,8 +11,8 @@ use Rattle.std.proofs.lemmas.Option.{same_Some}
 use Rattle.store_steps.specs.declared.context.Context.{Context}
 use Rattle.store_steps.specs.declared.step.Step.TheVariants as step
 use Rattle.store_steps.specs.Prelude.{Batch, State, chosen, committed_batch, bytes_in, all_fresh, memory_of, is_ready, DoesData, Takes, DoesTake, DoesFlush, DoesSeal, DoesRecord, DoesSync, DoesCommit, DoesFinish, accepted_with}
-use Rattle.store_facts.specs.Prelude.{IsKept}
-use Rattle.store_facts.proofs.Prelude.{ready_not_down, ready_by_table, memory_given, memory_reaped, memory_taken, memory_batch, memory_committed, memory_accepted}
+use Rattle.run_facts.specs.Prelude.{IsKept}
+use Rattle.run_facts.proofs.Prelude.{ready_not_down, ready_by_table, memory_given, memory_reaped, memory_taken, memory_batch, memory_committed, memory_accepted}
 
 -- ---- steps that leave it
 

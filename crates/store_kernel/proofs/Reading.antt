@@ -3,8 +3,8 @@ use Rattle.std.proofs.Common.{◌≡◌, ℕ, List, Option, None, refl, sym, sub
 use Rattle.block_device.specs.Prelude.{Disk}
 use Rattle.meta_log.specs.Prelude.{width_of}
 use Rattle.store_steps.specs.Prelude.{State, memory_of}
-use Rattle.store_facts.specs.Prelude.{IsKept}
-use Rattle.store_facts.proofs.Prelude.{kept_submitted, readable_now, memory_whole}
+use Rattle.run_facts.specs.Prelude.{IsKept}
+use Rattle.run_facts.proofs.Prelude.{kept_submitted, readable_now, memory_whole}
 use Rattle.object_reader.specs.Readable.{IsReadable}
 
 -- no submitted row is bad, and what isn't in memory can be read, where the kernel isn't down

@@ -15,8 +15,8 @@ use Rattle.store_steps.specs.declared.flight.Job.TheVariants as job
 use Rattle.store_steps.specs.declared.step.Step.TheVariants.{Data, Flush, Seal, Record, Sync}
 use Rattle.store_steps.specs.Prelude.{Batch, State, Unsent, unsent_units, run_bytes, next_unsent, with_context, given_more, is_ready, DoesData, DoesFlush, DoesSeal, DoesRecord, DoesSync, piece_unit}
 use Rattle.store_steps.specs.Steps as steps
-use Rattle.store_facts.specs.Prelude.{IsKept}
-use Rattle.store_facts.proofs.Prelude.{HasRecord, number_low, known_data_room, known_record_room, known_seal, next_data_untouched, data_inside, few_units, whole_units, next_piece_untouched, ready_not_down, ready_by_table}
+use Rattle.run_facts.specs.Prelude.{IsKept}
+use Rattle.run_facts.proofs.Prelude.{HasRecord, number_low, known_data_room, known_record_room, known_seal, next_data_untouched, data_inside, few_units, whole_units, next_piece_untouched, ready_not_down, ready_by_table}
 use Rattle.store_kernel.specs.declared.batch.OpenBatch.{OpenBatch}
 use Rattle.txn_states.specs.declared.next_write.NextWrite.{NextWrite}
 use Rattle.txn_states.specs.Writes.{IsWrite}

@@ -2,7 +2,7 @@
 use Rattle.std.specs.Prelude.{◌≡◌, Option}
 use Rattle.block_device.specs.Prelude.{Disk}
 use Rattle.store_steps.specs.Prelude.{State, memory_of}
-use Rattle.store_facts.specs.Prelude.{IsKept}
+use Rattle.run_facts.specs.Prelude.{IsKept}
 use Rattle.crash_facts.specs.Store.{KeepsDurable}
 use Rattle.write_buffers.specs.declared.buffers.WriteBuffers.{WriteBuffers}
 use Rattle.write_buffers.specs.Prelude.{memory_in}

@@ -5,7 +5,7 @@ ghost use Rattle.block_device.specs.Prelude.{Rose};
 ghost use Rattle.store_steps.specs.Prelude.{opened, is_ready, is_ready_up, all_steps, is_drained, is_not_sent, batch_is, applied_count, Takes, Does, free_count};
 ghost use Rattle.store_steps.specs.Ready.{is_flushed};
 ghost use Rattle.store_steps.specs.declared.step.Step.TheVariants.{Reap};
-ghost use Rattle.store_facts.specs.Prelude.{IsKept};
+ghost use Rattle.run_facts.specs.Prelude.{IsKept};
 ghost use Rattle.crash_facts.specs.Store.{KeepsDurable};
 ghost use Rattle.store_kernel.specs.Seen.{found_of, IsUnused};
 ghost use Rattle.store_kernel.specs.Steps.{TakesMemory};

@@ -11,10 +11,10 @@ use Rattle.store_image.specs.Prelude.{IsDataUnit}
 use Rattle.store_steps.specs.declared.context.Context.{Context}
 use Rattle.plan_rows.specs.declared.plan.FreshUnit.{FreshUnit}
 use Rattle.store_steps.specs.Prelude.{Batch, State, uncommitted, all_fresh, flush_of, Found, opened, Call, Calls, data_part, half_part, Touch, after, Footprint}
-use Rattle.store_facts.specs.Prelude.{IsKept}
+use Rattle.run_facts.specs.Prelude.{IsKept}
 use Rattle.unit_allocator.specs.Prelude.{Space}
 use Rattle.meta_rows.specs.declared.row_op.RowOp.{RowOp}
-use Rattle.store_facts.proofs.Prelude.{all_join, all_left, all_right, given_taken, taken_fresh, taken_data, was_up, footprint_of}
+use Rattle.run_facts.proofs.Prelude.{all_join, all_left, all_right, given_taken, taken_fresh, taken_data, was_up, footprint_of}
 use Rattle.unit_facts.specs.DataUnits.{UnitsAreFlushed, BatchUnitsAreFlushed}
 use Rattle.unit_facts.specs.Known.{IsAnsweredSince, KnownOfUnits, Knows}
 use Rattle.unit_facts.proofs.Events.{IsTold, told_of}

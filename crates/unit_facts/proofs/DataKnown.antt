@@ -13,7 +13,7 @@ use Rattle.log_facts.specs.Prelude.{sent, flushed}
 use Rattle.log_facts.proofs.Keeping.{half_before_data, flush_sent}
 use Rattle.plan_rows.specs.declared.plan.FreshUnit.{FreshUnit}
 use Rattle.store_steps.specs.Prelude.{Unsent, unsent_units, DataPart, Touch, nothing, ends, flushes, on_data, on_half, after, run_write, IsPlaced, IsNoData, DataGoes, Gives, gives, opens, flushes_batch, retires}
-use Rattle.store_facts.proofs.Prelude.{all_join, all_left, all_right}
+use Rattle.flight_facts.proofs.Prelude.{all_join, all_left, all_right}
 use Rattle.unit_facts.specs.DataUnits.{IsElsewhere, OtherUnitsAreClean, HeldBytesAreLast, UnitsAreFlushed}
 use Rattle.unit_facts.proofs.RunWrites.{row_spares, run_held}
 use Rattle.unit_facts.proofs.Units.{AreOnData, spares_data, none_written, fits_quiet, clean_on, held_on, flushed_on, none_flushed, units_cleaned, data_elsewhere, half_spares_others, other_or_clean}

@@ -8,7 +8,7 @@ use Rattle.block_device.specs.declared.event.Event.TheVariants.{Write}
 use Rattle.block_device.proofs.QuietLemmas.{written_unit}
 use Rattle.plan_rows.specs.declared.plan.FreshUnit.{FreshUnit}
 use Rattle.store_steps.specs.Prelude.{run_bytes, IsInRow}
-use Rattle.store_facts.proofs.Prelude.{AreWholeUnits, row_bytes, row_at}
+use Rattle.flight_facts.proofs.Prelude.{AreWholeUnits, row_bytes, row_at}
 use Rattle.unit_facts.specs.DataUnits.{HeldBytesAreLast}
 
 -- ---- which units it touches

@@ -10,8 +10,8 @@ use Rattle.plan_rows.specs.Prelude.{PlansKeep}
 use Rattle.store_steps.specs.declared.context.Context.{Context}
 use Rattle.meta_store.specs.Store.{Begun}
 use Rattle.store_steps.specs.Prelude.{State, is_drained, Call, IsRun, uncommitted, given_fresh, begun_ops, submitted_from, second_flush}
-use Rattle.store_facts.specs.Prelude.{IsKept}
-use Rattle.store_facts.proofs.Prelude.{kept_call, known_idle, IsIdle, idle_uncommitted, was_up}
+use Rattle.run_facts.specs.Prelude.{IsKept}
+use Rattle.run_facts.proofs.Prelude.{kept_call, known_idle, IsIdle, idle_uncommitted, was_up}
 use Rattle.log_facts.specs.Prelude.{FlushState, ActiveHalfStands}
 use Rattle.unit_facts.specs.DataUnits.{IsElsewhere, OtherUnitsAreClean}
 use Rattle.unit_facts.specs.Known.{KnownOfUnits, Knows}

@@ -6,7 +6,7 @@ ghost use Rattle.log_facts.specs.Prelude.{not_sent, SlotsStand, ActiveHalfStands
 ghost use Rattle.unit_allocator.specs.Prelude.{Space};
 ghost use Rattle.plan_rows.specs.Prelude.{PlansKeep};
 ghost use Rattle.store_steps.specs.Prelude.{State, is_drained, Found, opened, Call, Calls, IsRun};
-ghost use Rattle.store_facts.specs.Prelude.{IsKept};
+ghost use Rattle.run_facts.specs.Prelude.{IsKept};
 ghost use Rattle.unit_facts.specs.Known.{IsAnsweredSince, KnownOfUnits, Knows};
 
 /// A device without a dirty unit, where nothing is in flight and all events since a quiet moment are counted, is known from its slots and

@@ -1,5 +1,5 @@
 use Rattle.std.proofs.Common.{◌≤◌}
-use Rattle.store_facts.specs.Prelude.{IsKept, measure}
+use Rattle.run_facts.specs.Prelude.{IsKept, measure}
 use Rattle.client_runs.proofs.SteppingLemmas.{IsDraining}
 use Rattle.client_runs.proofs.stepping.drain.Given as goal
 

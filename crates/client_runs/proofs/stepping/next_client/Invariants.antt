@@ -1,5 +1,5 @@
 use Rattle.std.proofs.Common.{◌≤◌}
-use Rattle.store_facts.specs.Prelude.{IsKept, measure}
+use Rattle.run_facts.specs.Prelude.{IsKept, measure}
 use Rattle.client_runs.specs.Standing.{StepsOn}
 use Rattle.client_runs.proofs.stepping.next_client.Given as goal
 

@@ -2,7 +2,7 @@ use Rattle.std.proofs.Common.{ap, sym, subst, ◌∙◌}
 use Rattle.block_device.specs.Prelude.{Disk}
 use Rattle.meta_store.specs.Store.{Meta}
 use Rattle.store_steps.specs.Prelude.{opened}
-use Rattle.store_facts.specs.Prelude.{IsKept}
+use Rattle.run_facts.specs.Prelude.{IsKept}
 use Rattle.crash_facts.specs.Store.{KeepsDurable}
 use Rattle.store_kernel.specs.Seen.{found_of}
 use Rattle.log_replay.specs.Prelude.{as_found}

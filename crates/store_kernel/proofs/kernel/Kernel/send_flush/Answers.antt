@@ -1,6 +1,6 @@
 use Rattle.std.proofs.Common.{refl, sym, ◌∙◌}
 use Rattle.store_steps.specs.declared.step.Step.TheVariants.{Flush}
-use Rattle.store_facts.proofs.Prelude.{known_flush_room}
+use Rattle.run_facts.proofs.Prelude.{known_flush_room}
 use Rattle.store_kernel.proofs.Keeping.{known_step}
 use Rattle.store_kernel.proofs.Stages.{stage_first}
 use Rattle.store_kernel.proofs.Sending.{flush_does}

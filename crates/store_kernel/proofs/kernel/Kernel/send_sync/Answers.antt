@@ -1,6 +1,6 @@
 use Rattle.std.proofs.Common.{refl, sym, ◌∙◌}
 use Rattle.store_steps.specs.declared.step.Step.TheVariants.{Sync}
-use Rattle.store_facts.proofs.Prelude.{known_sync_room}
+use Rattle.run_facts.proofs.Prelude.{known_sync_room}
 use Rattle.store_kernel.proofs.Keeping.{known_step}
 use Rattle.store_kernel.proofs.Stages.{stage_second}
 use Rattle.store_kernel.proofs.Sending.{sync_does}

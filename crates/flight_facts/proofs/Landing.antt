@@ -1,0 +1,111 @@
+-- What flies but for one: which it was, and what is left, by part.
+use Rattle.std.proofs.Common.{◌≡◌, ℕ, ◌+◌, Bool, true, false, cond, not, ◌==◌, List, [], ◌∷◌, ◌++◌, length, map, Some, refl, ap, subst, ◌∙◌, arith}
+use Rattle.std.specs.List.{AllByRecursion}
+use Rattle.std.proofs.lemmas.Bool.{eqb-true}
+use Rattle.block_device.specs.Prelude.{Flight, without}
+use Rattle.block_device.specs.declared.device.Ticket.{Ticket}
+use Rattle.store_steps.specs.declared.context.Context.{Context}
+use Rattle.store_steps.specs.declared.flight.Flying.{Flying}
+use Rattle.meta_store.specs.Store.{Meta}
+use Rattle.store_steps.specs.Prelude.{flying_of}
+use Rattle.flight_facts.specs.Prelude.{AreFlights, units_flying, is_data, log_flying, IsOfJob, AreOfJobs}
+use Rattle.flight_facts.proofs.Flying.{others_of, none_out}
+
+pub units_both : (place : ℕ) (xs ys : List Flying) → units_flying place (xs ++ ys) ≡ units_flying place xs + units_flying place ys
+units_both place [] ys = omega arith
+units_both place (x ∷ xs) ys = omega (arith, units_both place xs ys)
+
+pub log_both : (xs ys : List Flying) → log_flying (xs ++ ys) ≡ log_flying xs ++ log_flying ys
+log_both [] ys = refl
+log_both (x ∷ xs) ys = of_test (is_data x.job) (log_both xs ys)
+  where
+    of_test : (b : Bool) → log_flying (xs ++ ys) ≡ log_flying xs ++ log_flying ys
+        → cond (not b) (x ∷ log_flying (xs ++ ys)) (log_flying (xs ++ ys)) ≡ cond (not b) (x ∷ log_flying xs) (log_flying xs) ++ log_flying ys
+    of_test true rest = rest
+    of_test false rest = ap (λ (zs : List Flying). x ∷ zs) rest
+
+-- the one of this ticket, and the others
+pub record IsLeftOut (ticket : Ticket) (fs : List Flying) : Type 0 where
+  pub front : List Flying
+  pub flight : Flying
+  pub back : List Flying
+  pub is : fs ≡ front ++ flight ∷ back
+  pub its : flight.ticket.place ≡ ticket.place
+  pub found : flying_of ticket fs ≡ Some flight
+  pub left : others_of ticket fs ≡ front ++ back
+
+pub left_out : (ticket : Ticket) (fs : List Flying) → length (others_of ticket fs) + 1 ≡ length fs → IsLeftOut ticket fs
+left_out ticket [] fewer = absurd (omega (arith, fewer))
+left_out ticket (f ∷ fs) fewer = of_test (f.ticket.place == ticket.place) refl (λ e. left_out ticket fs e) fewer
+  where
+    of_test : (b : Bool) → f.ticket.place == ticket.place ≡ b → (length (others_of ticket fs) + 1 ≡ length fs → IsLeftOut ticket fs)
+        → length (cond (not b) (f ∷ others_of ticket fs) (others_of ticket fs)) + 1 ≡ length (f ∷ fs) → IsLeftOut ticket (f ∷ fs)
+    of_test true its rest e = record {
+      front = [];
+      flight = f;
+      back = fs;
+      is = refl;
+      its = eqb-true f.ticket.place ticket.place its;
+      found = ap (λ (b : Bool). cond b (Some f) (flying_of ticket fs)) its;
+      left = ap (λ (b : Bool). cond (not b) (f ∷ others_of ticket fs) (others_of ticket fs)) its ∙ none_out ticket fs (omega (arith, e));
+    }
+    of_test false its rest e =
+        let out : IsLeftOut ticket fs = rest (omega (arith, e)) in
+        record {
+          front = f ∷ out.front;
+          flight = out.flight;
+          back = out.back;
+          is = ap (λ (gs : List Flying). f ∷ gs) out.is;
+          its = out.its;
+          found = ap (λ (b : Bool). cond b (Some f) (flying_of ticket fs)) its ∙ out.found;
+          left = ap (λ (b : Bool). cond (not b) (f ∷ others_of ticket fs) (others_of ticket fs)) its ∙ ap (λ (gs : List Flying). f ∷ gs) out.left;
+        }
+
+-- ---- what is touched, as submissions come and go
+
+pub jobs_then : (m m' : Meta) (pending later : List Context) (flying : List Flying) (flights : List Flight)
+    → AllByRecursion (λ f. (g : Flight) → IsOfJob m pending f.job g → IsOfJob m' later f.job g) flying
+    → AreOfJobs m pending flying flights → AreOfJobs m' later flying flights
+jobs_then m m' pending later [] [] each are = tt
+jobs_then m m' pending later [] (g ∷ gs) each are = absurd are
+jobs_then m m' pending later (f ∷ fs) [] each are = absurd are
+jobs_then m m' pending later (f ∷ fs) (g ∷ gs) each are = (each.0 g are.0, jobs_then m m' pending later fs gs each.1 are.1)
+
+pub jobs_sent : (m : Meta) (pending : List Context) (flying : List Flying) (flights : List Flight) (f : Flying) (g : Flight)
+    → AreOfJobs m pending flying flights → IsOfJob m pending f.job g → AreOfJobs m pending (flying ++ f ∷ []) (flights ++ g ∷ [])
+jobs_sent m pending [] [] f g are is = (is, tt)
+jobs_sent m pending [] (h ∷ hs) f g are is = absurd are
+jobs_sent m pending (e ∷ es) [] f g are is = absurd are
+jobs_sent m pending (e ∷ es) (h ∷ hs) f g are is = (are.0, jobs_sent m pending es hs f g are.1 is)
+
+pub jobs_left : (m : Meta) (pending : List Context) (ticket : Ticket) (flying : List Flying) (flights : List Flight) → AreFlights flying flights
+    → AreOfJobs m pending flying flights → AreOfJobs m pending (others_of ticket flying) (without ticket.place flights)
+jobs_left m pending ticket [] [] mirror are = tt
+jobs_left m pending ticket [] (g ∷ gs) mirror are = absurd are
+jobs_left m pending ticket (f ∷ fs) [] mirror are = absurd are
+jobs_left m pending ticket (f ∷ fs) (g ∷ gs) mirror are =
+    subst (λ (n : ℕ). AreOfJobs m pending (others_of ticket (f ∷ fs)) (cond (not (n == ticket.place)) (g ∷ without ticket.place gs) (without ticket.place gs)))
+    (same_heads mirror) (of_test (f.ticket.place == ticket.place) (jobs_left m pending ticket fs gs (same_tails mirror) are.1))
+  where
+    same_heads : f.ticket.place ∷ map (λ f. f.ticket.place) fs ≡ g.ticket ∷ map (λ f. f.ticket) gs → f.ticket.place ≡ g.ticket
+    same_heads e = cc
+
+    same_tails : f.ticket.place ∷ map (λ f. f.ticket.place) fs ≡ g.ticket ∷ map (λ f. f.ticket) gs → AreFlights fs gs
+    same_tails e = cc
+
+    of_test : (b : Bool) → AreOfJobs m pending (others_of ticket fs) (without ticket.place gs)
+        → AreOfJobs m pending (cond (not b) (f ∷ others_of ticket fs) (others_of ticket fs)) (cond (not b) (g ∷ without ticket.place gs) (without ticket.place gs))
+    of_test true rest = rest
+    of_test false rest = (are.0, rest)
+
+-- what flies in the middle is of its job
+pub record IsFlown (m : Meta) (pending : List Context) (f : Flying) : Type 0 where
+  pub flight : Flight
+  pub of : IsOfJob m pending f.job flight
+
+pub jobs_found : (m : Meta) (pending : List Context) (front : List Flying) (f : Flying) (back : List Flying) (flights : List Flight)
+    → AreOfJobs m pending (front ++ f ∷ back) flights → IsFlown m pending f
+jobs_found m pending [] f back [] are = absurd are
+jobs_found m pending [] f back (g ∷ gs) are = record { flight = g; of = are.0 }
+jobs_found m pending (e ∷ es) f back [] are = absurd are
+jobs_found m pending (e ∷ es) f back (g ∷ gs) are = jobs_found m pending es f back gs are.1

@@ -1,0 +1,6 @@
+pub mod Flights
+pub mod Jobs
+pub mod Records
+pub mod Work
+pub mod Known
+pub mod Prelude

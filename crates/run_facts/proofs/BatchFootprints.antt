@@ -1,0 +1,228 @@
+-- The footprints of the steps of a batch: Take, Flush, Seal, Record, Sync; and of Finish.
+use Rattle.std.proofs.Common.{◌≡◌, true, ℕ, ◌+◌, ◌-◌, ◌*◌, ◌≤◌, List, [], ◌∷◌, ◌++◌, length, Option, Some, None, refl, sym, ap, subst, ◌∙◌, arith, length-append, map, is_some, is_none, take}
+use Rattle.std.specs.Option.{option_map_or}
+use Rattle.byte_maps.specs.Units.{units_from}
+use Rattle.block_device.specs.Prelude.{Disk}
+use Rattle.meta_rows.specs.declared.row_op.RowOp.{RowOp}
+use Rattle.meta_log.specs.Prelude.{unit_count, record_units, active_unit, piece_first, piece_units, given_from, LiesInRecord}
+use Rattle.meta_log.proofs.PieceLemmas.{given_from-none}
+use Rattle.log_facts.specs.Prelude.{not_sent}
+use Rattle.store_steps.specs.declared.context.Context.{Context}
+use Rattle.plan_rows.specs.declared.plan.FreshUnit.{FreshUnit}
+use Rattle.store_steps.specs.declared.step.Step.TheVariants as step
+use Rattle.store_steps.specs.Prelude.{Batch, State, without_context, batch_ops, chosen, finished, taken_up, flush_sent, sync_sent, commit_of, acknowledged, is_ready, DoesTake, DoesFlush, DoesSeal, DoesRecord, DoesSync, DoesFinish, piece_unit, piece_bytes, uncommitted, given_fresh, begun_ops, submitted_from, second_flush, Intent, intent_of, intents, is_in, data_part, half_part, book_part, Adds, nothing, flushes, on_half, Footprint}
+use Rattle.meta_store.specs.Store.{Begun}
+use Rattle.store_steps.specs.RowsGo as rows
+use Rattle.store_steps.specs.DataGoes as units
+use Rattle.store_steps.specs.HalfGoes as half
+use Rattle.store_steps.specs.BookGoes as book
+use Rattle.flight_facts.proofs.Prelude.{seal_none, ready_not_down, ready_by_table, acknowledged_length, unsealed_second, record_second, sync_begun, IsFirst, chosen_first, elsewhere, without_at, none_is}
+use Rattle.run_facts.specs.Prelude.{IsKept}
+use Rattle.run_facts.proofs.Conditions.{HasRecord, ReadyRecord, number_low}
+use Rattle.run_facts.proofs.Known.{flush_covers, sync_covers, known_seal, known_record, piece_lies, piece_size}
+use Rattle.run_facts.proofs.PartsKept.{book_alone, intents_both, given_both}
+use Rattle.space_facts.proofs.Prelude.{first_taken}
+use Rattle.selections.specs.Fair.{IsComplete}
+use Rattle.unit_fields.specs.Prelude.{Ascends}
+use Rattle.std.proofs.lemmas.Bool.{and_parts}
+
+-- the device has no part in it
+pub rests : (d d' : Disk) → d' ≡ d → Adds nothing d d'
+rests d d' same = (ap (λ (e : Disk). e.history) same, ap (λ (e : Disk). e.flights) same)
+
+-- ---- Take
+
+module _ (s : State) (x : Context) (none : s.batch ≡ None) (at : IsFirst [] x s.pending) (places : Ascends (map (λ (z : Context). z.place) s.pending)) where
+  pub before_it : uncommitted s ≡ at.front ++ x ∷ at.back
+  before_it = ap (λ (o : Option Batch). option_map_or (λ b. b.contexts) o [] ++ s.pending) none ∙ at.is
+
+  pub behind_it : uncommitted (taken_up x s) ≡ x ∷ (at.front ++ at.back)
+  behind_it = ap (λ (xs : List Context). x ∷ xs) (ap (without_context x.place) at.is
+      ∙ without_at at.front x at.back (elsewhere at.front x at.back (subst (λ (xs : List Context). Ascends (map (λ (z : Context). z.place) xs)) at.is places)))
+
+  -- it changes places with those of other collections
+  order : IsComplete is_in (intents (uncommitted s)) (intents (uncommitted (taken_up x s)))
+  order = subst (λ (xs : List Intent). IsComplete is_in xs (intents (uncommitted (taken_up x s)))) (sym (ap intents before_it ∙ intents_both at.front (x ∷ at.back)))
+      (subst (λ (xs : List Intent). IsComplete is_in (intents at.front ++ intent_of x ∷ intents at.back) xs)
+      (sym (ap intents behind_it ∙ ap (λ (is : List Intent). intent_of x ∷ is) (intents_both at.front at.back)))
+      (first_taken (intents at.front) (intents at.back) (intent_of x) at.first))
+
+  given_before_it : given_fresh (uncommitted s) ≡ given_fresh at.front ++ (take x.given x.fresh ++ given_fresh at.back)
+  given_before_it = ap given_fresh before_it ∙ given_both at.front (x ∷ at.back)
+
+  given_behind_it : given_fresh (uncommitted (taken_up x s)) ≡ take x.given x.fresh ++ (given_fresh at.front ++ given_fresh at.back)
+  given_behind_it = ap given_fresh behind_it ∙ ap (λ (fs : List FreshUnit). take x.given x.fresh ++ fs) (given_both at.front at.back)
+
+  applied_as_before : length (s.book.commits ++ commit_of x ∷ []) - 1 ≡ length s.book.commits - option_map_or (λ (b : Batch). length b.contexts) s.batch 0
+  applied_as_before = less (length s.book.commits) (length (s.book.commits ++ commit_of x ∷ [])) (length-append s.book.commits (commit_of x ∷ []))
+      ∙ ap (λ (o : Option Batch). length s.book.commits - option_map_or (λ (b : Batch). length b.contexts) o 0) (sym none)
+    where
+      less : (n m : ℕ) → m ≡ n + 1 → m - 1 ≡ n - 0
+      less n m is = omega (arith, is)
+
+pub take_footprint : (s : State) (d : Disk) (s' : State) (d' : Disk) → IsKept s d → is_ready step.Take d.depth s ≡ true → DoesTake s d s' d'
+    → Footprint s d s' d'
+take_footprint s d s' d' kept ready does =
+    let x : Context = does.context in
+    let up : s.down ≡ None = ready_not_down s d.depth step.Take refl ready in
+    let none : s.batch ≡ None = none_is s.batch
+    (and_parts (is_none s.batch) (is_some (chosen s.pending)) (ready_by_table s d.depth step.Take up ready)).0 in
+    let at : IsFirst [] x s.pending = chosen_first [] s.pending x does.is_chosen in
+    let places : Ascends (map (λ (z : Context). z.place) s.pending) = (kept.up up).flights.places.ascend in
+    subst (λ (t : State). Footprint s d t d') (sym does.after) (record {
+      touch = nothing;
+      device = rests d d' does.same;
+      placed = tt;
+      counted = omega arith;
+      rows = rows.reorders (intents (uncommitted (taken_up x s))) (order s x none at places) refl;
+      units = units.opens (given_fresh at.front) (take x.given x.fresh) (given_fresh at.back) (x.fresh ++ []) (given_before_it s x none at places)
+          (ap (λ (fs : List FreshUnit). record (data_part s) { given = fs; fresh = x.fresh ++ []; first = not_sent }) (given_behind_it s x none at places));
+      half = half.same tt (ap (λ f. record (half_part s) { second = f }) (ap second_flush (sym none)));
+      book = book.commits (intent_of x ∷ []) (ap (λ (o : Option Batch). intents (option_map_or (λ (b : Batch). b.contexts) o [])) none)
+          (ap (λ (n : ℕ). record (book_part s) {
+            book = record s.book { commits = s.book.commits ++ commit_of x ∷ [] };
+            applied = n;
+            batch = intent_of x ∷ [];
+          }) (applied_as_before s x none at places));
+      caused = record { ready = ready; does = record { context = x; is_chosen = does.is_chosen; after = refl; same = does.same } };
+    })
+
+-- ---- the two flushes
+
+pub flush_footprint : (s : State) (d : Disk) (s' : State) (d' : Disk) → IsKept s d → is_ready step.Flush d.depth s ≡ true → DoesFlush s d s' d'
+    → Footprint s d s' d'
+flush_footprint s d s' d' kept ready does =
+    let b : Batch = does.batch in
+    subst (λ (t : State). Footprint s d t d') (sym does.after)
+    (subst (λ (o : Option Batch). (let t : State = record s { batch = o } in Footprint t d (flush_sent b does.ticket t) d')) (sym does.begun) (record {
+      touch = flushes does.ticket.place;
+      device = does.submitted;
+      placed = tt;
+      counted = refl;
+      rows = rows.same refl;
+      units = units.flushes_batch does.ticket.place (flush_covers s d b kept ready does.begun) refl;
+      half = half.same tt refl;
+      book = book.same refl;
+      caused = tt;
+    }))
+
+pub sync_footprint : (s : State) (d : Disk) (s' : State) (d' : Disk) → IsKept s d → is_ready step.Sync d.depth s ≡ true → DoesSync s d s' d'
+    → Footprint s d s' d'
+sync_footprint s d s' d' kept ready does =
+    let b : Batch = does.batch in
+    let up : s.down ≡ None = ready_not_down s d.depth step.Sync refl ready in
+    let is = sync_begun s d.depth (ready_by_table s d.depth step.Sync up ready) in
+    let second : second_flush (Some b) ≡ not_sent = ap second_flush (sym does.begun) ∙ is.0 in
+    subst (λ (t : State). Footprint s d t d') (sym does.after)
+    (subst (λ (o : Option Batch). (let t : State = record s { batch = o } in Footprint t d (sync_sent b does.ticket t) d')) (sym does.begun) (record {
+      touch = flushes does.ticket.place;
+      device = does.submitted;
+      placed = tt;
+      counted = refl;
+      rows = rows.same refl;
+      units = units.same tt refl;
+      half = half.syncs does.ticket.place is.1.0.ops (ap begun_ops is.1.1) second
+          (λ j low high. sync_covers s d is.1.0 j kept ready is.1.1 high) refl;
+      book = book.same refl;
+      caused = tt;
+    }))
+
+-- ---- the record
+
+pub seal_footprint : (s : State) (d : Disk) (s' : State) (d' : Disk) → IsKept s d → is_ready step.Seal d.depth s ≡ true → DoesSeal s d s' d'
+    → Footprint s d s' d'
+seal_footprint s d s' d' kept ready does =
+    let ops : List RowOp = batch_ops does.batch in
+    let r : HasRecord s does.batch = known_seal s d does.batch kept ready does.begun in
+    let up : s.down ≡ None = ready_not_down s d.depth step.Seal refl ready in
+    let none : s.log.begun ≡ None = seal_none s d.depth (ready_by_table s d.depth step.Seal up ready) in
+    let second : second_flush s.batch ≡ not_sent = unsealed_second s d.flights (kept.up up).flights none in
+    subst (λ (t : State). Footprint s d t d') (sym does.after) (record {
+      touch = nothing;
+      device = rests d d' does.same;
+      placed = tt;
+      counted = omega arith;
+      rows = rows.same refl;
+      units = units.same tt refl;
+      half = half.begins ops (ap begun_ops none) (record { number_below = number_low s d kept.always; body_below = r.body; fit = r.fit }) r.room
+          (ap (λ (n : ℕ). record (half_part s) { begun = Some ops; from = n }) (given_from-none (unit_count s.log.number ops))
+          ∙ ap (λ f. record (half_part s) { begun = Some ops; from = unit_count s.log.number ops; second = f }) second);
+      book = book.same refl;
+      caused = tt;
+    })
+
+-- where the next piece lies
+module _ (s : State) (d : Disk) (r : Begun) (lying : LiesInRecord (unit_count s.log.number r.ops) r.given) where
+  abbrev count : ℕ
+  count = unit_count s.log.number r.ops
+
+  abbrev from : ℕ
+  from = given_from count (r.given + 1)
+
+  piece_place : piece_unit s.log r ≡ active_unit s.log.sup + s.log.tail + from
+  piece_place = ap (λ (n : ℕ). active_unit s.log.sup + s.log.tail + n) lying.begins
+
+  piece_cut : piece_bytes s.log.number r ≡ units_from from (given_from count r.given - from) (record_units s.log.number r.ops)
+  piece_cut = ap (λ (n : ℕ). units_from n (piece_units count r.given) (record_units s.log.number r.ops)) lying.begins
+      ∙ ap (λ (n : ℕ). units_from from n (record_units s.log.number r.ops))
+      (rest (piece_first count r.given) (piece_units count r.given) from (given_from count r.given) lying.begins lying.ends)
+    where
+      rest : (first count from end : ℕ) → first ≡ from → first + count ≡ end → count ≡ end - from
+      rest first count from end begins ends = omega (arith, begins, ends)
+
+  piece_earlier : from ≤ given_from count r.given
+  piece_earlier = lower (piece_first count r.given) (piece_units count r.given) from (given_from count r.given) lying.begins lying.ends
+    where
+      lower : (first count from end : ℕ) → first ≡ from → first + count ≡ end → from ≤ end
+      lower first count from end begins ends = omega (arith, begins, ends)
+
+  piece_in_half : s.log.tail + count ≤ s.log.sup.half → length (piece_bytes s.log.number r) ≡ 4096 * piece_units count r.given
+      → 4096 * piece_unit s.log r + length (piece_bytes s.log.number r) ≤ 4096 * (active_unit s.log.sup + s.log.sup.half)
+  piece_in_half room size = inside (active_unit s.log.sup) s.log.tail (piece_first count r.given) (piece_units count r.given) count s.log.sup.half
+      (length (piece_bytes s.log.number r)) lying.within room size
+    where
+      inside : (active tail first count units half size : ℕ) → first + count ≤ units → tail + units ≤ half → size ≡ 4096 * count
+          → 4096 * (active + tail + first) + size ≤ 4096 * (active + half)
+      inside active tail first count units half size within room is = omega (arith, within, room, is)
+
+pub record_footprint : (s : State) (d : Disk) (s' : State) (d' : Disk) → IsKept s d → is_ready step.Record d.depth s ≡ true → DoesRecord s d s' d'
+    → Footprint s d s' d'
+record_footprint s d s' d' kept ready does =
+    let r : Begun = does.writing in
+    let up : s.down ≡ None = ready_not_down s d.depth step.Record refl ready in
+    let known : ReadyRecord s r = known_record s d r kept ready does.begun in
+    let lying : LiesInRecord (unit_count s.log.number r.ops) r.given = piece_lies s d r kept ready does.begun in
+    subst (λ (t : State). Footprint s d t d') (sym does.after) (record {
+      touch = on_half does.ticket.place (piece_unit s.log r) (piece_bytes s.log.number r);
+      device = does.submitted;
+      placed = (omega (arith, piece_place s d r lying), piece_in_half s d r lying known.room (piece_size s d r kept ready does.begun));
+      counted = refl;
+      rows = rows.same refl;
+      units = units.same tt refl;
+      half = half.gives_piece does.ticket.place (piece_unit s.log r) (piece_bytes s.log.number r) (record {
+        ops = r.ops;
+        begun = ap begun_ops does.begun;
+        second = record_second s d.flights d.depth r (kept.up up).flights (ready_by_table s d.depth step.Record up ready) does.begun;
+        from = from s d r lying;
+        earlier = subst (λ (n : ℕ). from s d r lying ≤ n) (sym (ap (submitted_from s.log.number) does.begun)) (piece_earlier s d r lying);
+        place = piece_place s d r lying;
+        cut = piece_cut s d r lying
+            ∙ ap (λ (n : ℕ). units_from (from s d r lying) (n - from s d r lying) (record_units s.log.number r.ops)) (sym (ap (submitted_from s.log.number) does.begun));
+        then = ap (λ o. record (half_part s) { begun = o; from = from s d r lying }) (sym (ap begun_ops does.begun));
+      });
+      book = book.same refl;
+      caused = tt;
+    })
+
+-- ---- Finish
+
+pub finish_footprint : (s : State) (d : Disk) (s' : State) (d' : Disk) → is_ready step.Finish d.depth s ≡ true → DoesFinish s d s' d'
+    → Footprint s d s' d'
+finish_footprint s d s' d' ready does = subst (λ (t : State). Footprint s d t d') (sym does.after)
+    (book_alone s d (finished s) d' (rests d d' does.same) refl refl refl refl
+    (book.acknowledges (ap (λ (n : ℕ). record (book_part s) {
+      book = record s.book { commits = acknowledged s.events s.book.commits };
+      acked = s.acked + 1;
+      applied = n - option_map_or (λ (b : Batch). length b.contexts) s.batch 0;
+    }) (acknowledged_length s.events s.book.commits)))
+    (record { ready = ready; does = record { after = refl; same = does.same } }))

@@ -1,0 +1,293 @@
+-- Each call of the kernel keeps what it keeps.
+use Rattle.std.proofs.Common.{◌≡◌, inl, inr, ℕ, ◌+◌, ◌-◌, ◌*◌, ◌^◌, ◌<◌, ◌≤◌, true, List, [], ◌∷◌, ◌++◌, length, map, length-append, Option, None, is_some, refl, sym, ap, subst, ◌∙◌, arith}
+use Rattle.std.specs.Option.{option_map_or}
+use Rattle.block_device.specs.Prelude.{Disk, Flight, IsSound, Waited}
+use Rattle.object_model.specs.Prelude.{Change}
+use Rattle.object_model.specs.declared.command.Command.{Command}
+use Rattle.object_model.specs.declared.command.Command.TheVariants as ask
+use Rattle.object_model.specs.declared.command.Answer.{Answer}
+use Rattle.object_model.specs.declared.command.Answer.TheVariants as answer
+use Rattle.object_model.specs.declared.book.Entry.{Entry}
+use Rattle.meta_log.specs.Prelude.{IsSuper, piece_count}
+use Rattle.plan_rows.specs.declared.plan.Plan.{Plan}
+use Rattle.plan_rows.specs.Prelude.{PlansKeep, IsKnown}
+use Rattle.unit_allocator.specs.Prelude.{Space}
+use Rattle.store_steps.specs.declared.context.Context.{Context}
+use Rattle.store_steps.specs.declared.step.Step.{Step}
+use Rattle.store_steps.specs.Prelude.{Batch, State, is_ready, applied_count, entry_limit, need_of, context_of, accepted_with, entered, Accepts, Refuses, Found, opened, stepping, DoesOrFails, AnswersRead, Reads, Intent, intent_of, rows_part, book_part, joined, Footprint}
+use Rattle.store_steps.specs.RowsGo as rows
+use Rattle.flight_facts.specs.Prelude.{AreOfJobs, FlightsMatch, sum_work, batch_work, work_left, entry_work, budget, measure}
+use Rattle.flight_facts.proofs.Prelude.{StepOutcome, has_stepped, has_waited, has_gone_down, GoneDown, Matches, one_more_waits, one_more_entry, waited_does, Paid, sum_both}
+use Rattle.run_facts.specs.Prelude.{AreRowsKept, IsAlwaysKept, IsKept, IsOpenable}
+use Rattle.run_facts.proofs.Keeping.{down_keeps, paid_within, waited_keeps, kept_leaves, work_falls}
+use Rattle.run_facts.proofs.Footprints.{intents_push, footprint_of}
+use Rattle.run_facts.proofs.RowsKept.{rows_go}
+use Rattle.run_facts.proofs.RoomKept.{room_go, space_go, sup_go}
+use Rattle.run_facts.proofs.BookKept.{book_go, acked_in_turn}
+use Rattle.run_facts.proofs.RowsSteps.{MayAll, may_all}
+use Rattle.run_facts.proofs.RowsAccepted.{accepted_joins, accepted_record, accepted_few}
+use Rattle.run_facts.proofs.RowsOpened.{opened_rows}
+
+-- ---- steps
+
+few_more : (commits commits' pending pending' entries : ℕ) → commits + pending ≤ entries → commits' + pending' ≡ commits + pending → commits' + pending' ≤ entries
+few_more commits commits' pending pending' entries le is = omega (arith, le, is)
+
+-- a step that was paid, of a kernel that stays up
+paid_keeps : (step : Step) (s : State) (d : Disk) (s' : State) (d' : Disk) → IsKept s d → IsSound d' → s.down ≡ None → is_ready step d.depth s ≡ true
+    → DoesOrFails step s d s' d' → Paid s d s' d' → Matches s' d'.flights → IsKept s' d'
+paid_keeps step s d s' d' kept sound up ready does paid matches = record {
+  always = record {
+    device = sound;
+    limits = subst IsSuper (sym same) a.limits;
+    units = ap (λ sup. sup.units) same ∙ a.units ∙ sym paid.units;
+    space = space_go (rows_part s) (rows_part s') f.rows a.space;
+    flights = paid.flights;
+    few = record {
+      commits = subst (λ (es : List Entry). length s'.book.commits + length s'.pending ≤ length es) (sym paid.near.entries)
+          (few_more (length s.book.commits) (length s'.book.commits) (length s.pending) (length s'.pending) (length s.book.entries) a.few.commits paid.near.under);
+      entries = subst (λ (es : List Entry). length es ≤ 1048576) (sym paid.near.entries) a.few.entries;
+    };
+    book = book_go s.events f.touch (book_part s) (book_part s') f.book (acked_in_turn s d s' d' f.rows f.book f.caused) a.book;
+    events = subst (λ (es : List Entry). s'.events + work_left s' ≤ 2 ^ 61 + entry_work * length es) (sym paid.near.entries)
+        (paid_within s.events s'.events (work_left s) (work_left s') (budget s) a.events paid.falls paid.near.events);
+    numbers = subst (λ (es : List Entry). s'.log.number + work_left s' ≤ 2 ^ 61 + entry_work * length es) (sym paid.near.entries)
+        (paid_within s.log.number s'.log.number (work_left s) (work_left s') (budget s) a.numbers paid.falls paid.near.number);
+  };
+  up = λ _. record {
+    flights = matches;
+    rows = rows_go (rows_part s) (rows_part s') f.rows a.limits a.space may.rows (kept.up up).rows;
+    room = room_go (rows_part s) (rows_part s') f.rows may.room (kept.up up).room;
+  };
+}
+  where
+    a : IsAlwaysKept s d
+    a = kept.always
+
+    f : Footprint s d s' d'
+    f = footprint_of (stepping step) s d s' d' kept (paid.near.up ∙ up) (ready, does)
+
+    same : s'.log.sup ≡ s.log.sup
+    same = sup_go (rows_part s) (rows_part s') f.rows
+
+    may : MayAll (rows_part s) f.rows
+    may = may_all s d s' d' paid.near.entries (rows_part s) f.rows f.book f.caused
+
+-- where the kernel is down nothing else is asked
+down_kept : (s : State) (d : Disk) (s' : State) (d' : Disk) → IsSound d' → IsAlwaysKept s d → GoneDown s d s' d' → IsKept s' d'
+down_kept s d s' d' sound a t = record { always = down_keeps s d s' d' sound a t; up = λ none. absurd (not_down s'.down none t.down) }
+  where
+    not_down : {A : Type 0} (o : Option A) → o ≡ None → is_some o ≡ true → ⊥
+    not_down o none some = let e = ap is_some none in cc
+
+-- an answer None leaves what is in flight as it is
+waited_kept : (s : State) (d d' : Disk) → IsSound d' → IsKept s d → Waited d d' → IsKept s d'
+waited_kept s d d' sound kept waited = record {
+  always = waited_keeps s d d' sound kept.always waited;
+  up = λ down. record { flights = waited_does s d d' (kept.up down).flights waited; rows = (kept.up down).rows; room = (kept.up down).room };
+}
+
+pub kept_step : (step : Step) (s s' : State) (d d' : Disk) → IsKept s d → is_ready step d.depth s ≡ true → DoesOrFails step s d s' d' → IsSound d'
+    → IsKept s' d'
+kept_step step s s' d d' kept ready does sound = of_leaves (kept_leaves step s d s' d' kept ready does)
+  where
+    of_leaves : StepOutcome s d s' d' → IsKept s' d'
+    of_leaves (has_stepped up paid matches) = paid_keeps step s d s' d' kept sound up ready does paid matches
+    of_leaves (has_waited none same some) = subst (λ (t : State). IsKept t d') (sym same) (waited_kept s d d' sound kept none)
+    of_leaves (has_gone_down gone) = down_kept s d s' d' sound kept.always gone
+
+-- ---- an entry of the book
+
+-- one entry more
+matches_push : (s : State) (t : State) (flights : List Flight) (e : Entry) → t.book.entries ≡ s.book.entries ++ e ∷ []
+    → FlightsMatch t.log (length s.book.entries + 1) t.pending t.batch t.flying flights → Matches t flights
+matches_push s t flights e is m = subst (λ (n : ℕ). FlightsMatch t.log n t.pending t.batch t.flying flights)
+    (sym (ap (λ (es : List Entry). length es) is ∙ length-append s.book.entries (e ∷ []))) m
+
+-- which may add so much work, and leaves room for events and numbers
+more_within : (e w w' entries entries' : ℕ) → e + w ≤ 2 ^ 61 + entry_work * entries → w' ≤ w + entry_work → entries' ≡ entries + 1
+    → e + w' ≤ 2 ^ 61 + entry_work * entries'
+more_within e w w' entries entries' le more is = omega (arith, le, more, is)
+
+-- an answer without a transaction
+entered_kept : (s : State) (d : Disk) (client line : ℕ) (command : Command) (a : Answer) → IsKept s d → s.down ≡ None → length s.book.entries < entry_limit
+    → IsKept (entered client line command a s) d
+entered_kept s d client line command a kept up below =
+    let entry : Entry = record { client = client; line = line; command = command; answer = a; acks = s.acked } in
+    let entries : length (s.book.entries ++ entry ∷ []) ≡ length s.book.entries + 1 = length-append s.book.entries (entry ∷ []) in
+    let was : IsAlwaysKept s d = kept.always in
+    record {
+      always = record {
+        device = was.device;
+        limits = was.limits;
+        units = was.units;
+        space = was.space;
+        flights = was.flights;
+        few = record { commits = omega (arith, entries, was.few.commits); entries = omega (arith, entries, below) };
+        book = record { acks = was.book.acks; within = was.book.within; all = was.book.all };
+        events = more_within s.events (work_left s) (work_left s) (length s.book.entries) _ was.events (most (work_left s)) entries;
+        numbers = more_within s.log.number (work_left s) (work_left s) (length s.book.entries) _ was.numbers (most (work_left s)) entries;
+      };
+      up = λ _. record {
+        flights = matches_push s (entered client line command a s) d.flights entry refl
+            (one_more_entry s.log (length s.book.entries) s.pending s.batch s.flying d.flights (kept.up up).flights);
+        rows = (kept.up up).rows;
+        room = (kept.up up).room;
+      };
+    }
+  where
+    most : (w : ℕ) → w ≤ w + entry_work
+    most w = omega arith
+
+-- ---- submitting
+
+-- one more joins the rows
+joined_rows : (s : State) (client line : ℕ) (change : Change) (plan : Plan)
+    → rows_part (accepted_with client line change plan s)
+    ≡ joined (intent_of (context_of (length s.book.entries) change s.log plan)) (rows_part s)
+joined_rows s client line change plan =
+    ap (λ (is : List Intent). (let t : State = accepted_with client line change plan s in record (rows_part t) { intents = is }))
+    (intents_push (option_map_or (λ (b : Batch). b.contexts) s.batch []) s.pending (context_of (length s.book.entries) change s.log plan))
+
+module _ (keep : PlansKeep) (s : State) (d : Disk) (client line : ℕ) (change : Change) (s' : State) (kept : IsKept s d) (known : IsKnown change.ops)
+    (does : Accepts client line change s s') where
+  up : s.down ≡ None
+  up = does.can_note.up
+
+  a : IsAlwaysKept s d
+  a = kept.always
+
+  were : AreRowsKept (rows_part s)
+  were = (kept.up up).rows
+
+  abbrev x : Context
+  x = context_of (length s.book.entries) change s.log does.plan
+
+  abbrev t : State
+  t = accepted_with client line change does.plan s
+
+  abbrev entry : Entry
+  entry = record { client = client; line = line; command = ask.Change change; answer = answer.Accepted; acks = s.acked }
+
+  entries : length (s.book.entries ++ entry ∷ []) ≡ length s.book.entries + 1
+  entries = length-append s.book.entries (entry ∷ [])
+
+  waits : length (s.pending ++ x ∷ []) ≡ length s.pending + 1
+  waits = length-append s.pending (x ∷ [])
+
+  abbrev goes : rows.RowsGo (rows_part s) (rows_part t)
+  goes = rows.joins (intent_of x) (joined_rows s client line change does.plan)
+
+  -- the work that it adds
+  more : work_left t ≤ work_left s + entry_work
+  more = much (length s.flying) (sum_work s.pending) (sum_work (s.pending ++ x ∷ [])) (length does.plan.fresh) (need_of s.log does.plan)
+      s.log.sup.half s.log.tail s.log.reserved (option_map_or (batch_work s.log) s.batch 0) (applied_count s - s.acked) (sum_both s.pending (x ∷ []))
+      (accepted_few keep s client line change s' a.limits a.space were known does) does.fits a.limits.half_most
+    where
+      pieces : (need half tail reserved : ℕ) → need ≤ half - tail - reserved → half ≤ 65536 → piece_count need ≤ 1024
+      pieces need half tail reserved fits most = omega (arith, fits, most)
+
+      many : (flies work work' fresh count batch left : ℕ) → work' ≡ work + ((2 * (fresh - 0) + 8 + 2 * count) + 0) → fresh ≤ 1048576 → count ≤ 1024
+          → flies + work' + batch + left ≤ flies + work + batch + left + entry_work
+      many flies work work' fresh count batch left is few fewer = omega (arith, is, few, fewer)
+
+      much : (flies work work' fresh need half tail reserved batch left : ℕ) → work' ≡ work + ((2 * (fresh - 0) + 8 + 2 * piece_count need) + 0)
+          → fresh ≤ 1048576 → need ≤ half - tail - reserved → half ≤ 65536 → flies + work' + batch + left ≤ flies + work + batch + left + entry_work
+      much flies work work' fresh need half tail reserved batch left is few fits most =
+          many flies work work' fresh (piece_count need) batch left is few (pieces need half tail reserved fits most)
+
+  room : s.log.tail + (s.log.reserved + need_of s.log does.plan) ≤ s.log.sup.half
+  room = behind s.log.tail s.log.reserved s.log.sup.half (need_of s.log does.plan) does.fits (kept.up up).room.room
+    where
+      behind : (tail reserved half need : ℕ) → need ≤ half - tail - reserved → tail + reserved ≤ half → tail + (reserved + need) ≤ half
+      behind tail reserved half need fits le = omega (arith, fits, le)
+
+  pub accepted_kept : IsKept s' d
+  accepted_kept = subst (λ (z : State). IsKept z d) (sym does.after) (record {
+    always = record {
+      device = a.device;
+      limits = a.limits;
+      units = a.units;
+      space = space_go (rows_part s) (rows_part t) goes a.space;
+      flights = a.flights;
+      few = record { commits = omega (arith, entries, waits, a.few.commits); entries = omega (arith, entries, does.can_note.room) };
+      book = record { acks = a.book.acks; within = a.book.within; all = a.book.all };
+      events = more_within s.events (work_left s) (work_left t) (length s.book.entries) _ a.events more entries;
+      numbers = more_within s.log.number (work_left s) (work_left t) (length s.book.entries) _ a.numbers more entries;
+    };
+    up = λ _. record {
+      flights = matches_push s t d.flights entry refl
+          (one_more_waits s.log t.log (length s.book.entries) s.pending s.batch s.flying d.flights x refl refl refl refl (kept.up up).flights);
+      rows = rows_go (rows_part s) (rows_part t) goes a.limits a.space (accepted_joins keep s client line change s' a.limits a.space were known does) were;
+      room = room_go (rows_part s) (rows_part t) goes (accepted_record keep s client line change s' a.limits a.space were known does, room) (kept.up up).room;
+    };
+  })
+
+pub kept_accept : PlansKeep → (s s' : State) (d : Disk) (client line : ℕ) (change : Change) → IsKept s d → IsKnown change.ops
+    → Accepts client line change s s' → IsKept s' d
+kept_accept keep s s' d client line change kept known does = accepted_kept keep s d client line change s' kept known does
+
+pub kept_refuse : (s s' : State) (d : Disk) (client line : ℕ) (change : Change) (a : Answer) → IsKept s d → IsKnown change.ops
+    → Refuses client line change a s d s' → IsKept s' d
+kept_refuse s s' d client line change a kept may does = subst (λ (t : State). IsKept t d) (sym does.after)
+    (entered_kept s d client line (ask.Change change) a kept does.can_note.up does.can_note.room)
+
+-- ---- reading
+
+-- a read that is answered adds an entry to the book
+pub kept_answer : (s s' : State) (d : Disk) (client line : ℕ) (command : Command) (a : Answer) → IsKept s d
+    → AnswersRead client line command a s d s' → IsKept s' d
+kept_answer s s' d client line command a kept is = subst (λ (t : State). IsKept t d) (sym is.after)
+    (entered_kept s d client line command a kept is.can_note.up is.can_note.room)
+
+-- so does one that is turned away
+pub kept_read : (s s' : State) (d : Disk) (client line : ℕ) (command : Command) → IsKept s d → Reads client line command s d s' → IsKept s' d
+kept_read s s' d client line command kept (inl (a, is)) = kept_answer s s' d client line command a kept is
+kept_read s s' d client line command kept (inr away) = subst (λ (t : State). IsKept t d) (sym away.same) kept
+
+-- ---- opening
+
+pub kept_open : (f : Found) (space : Space) (events : ℕ) (d : Disk) → IsSound d → d.flights ≡ [] → events ≤ 2 ^ 61 → IsOpenable f space d.units
+    → IsKept (opened f space events) d
+kept_open f space events d sound idle few is = record {
+  always = record {
+    device = sound;
+    limits = is.limits;
+    units = is.units_are;
+    space = is.space;
+    flights = sym (ap (map (λ f. f.ticket)) idle);
+    few = record { commits = omega arith; entries = omega arith };
+    book = record { acks = λ i. tt; within = omega arith; all = omega arith };
+    events = omega (arith, few);
+    numbers = omega (arith, is.number);
+  };
+  up = λ _. record {
+    flights = record {
+      places = record { ascend = tt; below = tt };
+      waiting = tt;
+      log = (refl, refl);
+      touches = subst (λ (fs : List Flight). AreOfJobs (opened f space events).log [] [] fs) (sym idle) tt;
+    };
+    rows = opened_rows f space events d.units is;
+    room = record { fits = tt; reserved = refl; room = omega (arith, is.tail) };
+  };
+}
+
+-- ---- for the laws
+
+pub step_less : (step : Step) (s s' : State) (d d' : Disk) → IsKept s d → is_ready step d.depth s ≡ true → DoesOrFails step s d s' d' → IsSound d'
+    → measure s' d'.waits < measure s d.waits
+step_less step s s' d d' kept ready does sound = work_falls step s d s' d' kept ready does
+
+pub law_accept : (client line : ℕ) (change : Change) (s s' : State) (d : Disk) → PlansKeep → IsKept s d → IsKnown change.ops
+    → Accepts client line change s s' → IsKept s' d
+law_accept client line change s s' d keep = kept_accept keep s s' d client line change
+
+pub law_refuse : (client line : ℕ) (change : Change) (a : Answer) (s s' : State) (d : Disk) → IsKept s d → IsKnown change.ops
+    → Refuses client line change a s d s' → IsKept s' d
+law_refuse client line change a s s' d = kept_refuse s s' d client line change a
+
+pub law_read : (client line : ℕ) (command : Command) (s s' : State) (d : Disk) → IsKept s d → Reads client line command s d s' → IsKept s' d
+law_read client line command s s' d kept reads = kept_read s s' d client line command kept reads
+
+pub ruleset step_laws = (kept_step, step_less)

@@ -1,0 +1,282 @@
+-- The bytes that reads find in memory: those of the units that transactions took which aren't committed. What each call makes of them, and that
+-- all other units of pages can be read.
+use Rattle.std.proofs.Common.{◌≡◌, ◌≢◌, ◌⊎◌, inl, inr, ℕ, Bool, true, false, cond, ◌==◌, List, [], ◌∷◌, ◌++◌, length, map, take, Contains, Option, Some, None, is_some, refl, sym, ap, subst, ◌∙◌}
+use Rattle.std.specs.List.{AllByRecursion, flat_map}
+use Rattle.std.specs.Option.{option_map, option_map_or, option_or}
+use Rattle.std.proofs.lemmas.Bool.{cases_eq, eq-eqb, ne_eqb}
+use Rattle.std.proofs.lemmas.List.Concat.{flat_map-append}
+use Rattle.std.proofs.lemmas.List.Elements.{Contains-append_left}
+use Rattle.std.proofs.lemmas.Option.{same_Some}
+use Rattle.std.proofs.Math.Path.{fun_ext}
+use Rattle.unit_fields.specs.Prelude.{Ascends}
+use Rattle.block_device.specs.declared.device.Ticket.{Ticket}
+use Rattle.block_device.specs.Prelude.{Disk, IsUntouched}
+use Rattle.object_model.specs.Prelude.{Change}
+use Rattle.meta_log.specs.Prelude.{width_of}
+use Rattle.store_image.specs.Prelude.{HasPage, IsDataUnit}
+use Rattle.store_image.proofs.Prelude.{page_owned}
+use Rattle.unit_allocator.specs.Prelude.{free_units}
+use Rattle.unit_allocator.proofs.FreeUnits.{listed_is_within}
+use Rattle.plan_rows.specs.declared.plan.FreshUnit.{FreshUnit}
+use Rattle.plan_rows.specs.declared.plan.Plan.{Plan}
+use Rattle.plan_rows.specs.Prelude.{PlansKeep, IsKnown}
+use Rattle.plan_rows.proofs.OnData.{owned_on_data}
+use Rattle.store_steps.specs.declared.context.Context.{Context}
+use Rattle.store_steps.specs.declared.flight.Job.{Job}
+use Rattle.store_steps.specs.declared.flight.Job.TheVariants as job
+use Rattle.store_steps.specs.declared.flight.Flying.{Flying}
+use Rattle.store_steps.specs.Prelude.{Batch, State, with_context, given_more, done_more, chosen, data_sent, first_flushed, second_flushed, after_done, after_good, flying_of, landed, reaped, taken_up, committed_batch, context_of, accepted_with, Accepts, Intent, intents, intent_of, uncommitted, all_fresh, bytes_in, memory_of}
+use Rattle.space_facts.proofs.Prelude.{in_or_not, listed_is_idle, taken_busy}
+use Rattle.flight_facts.specs.Prelude.{IsNone, FitsRecord}
+use Rattle.flight_facts.proofs.Prelude.{all_left, all_right, all_join, all_take, unflown, IsFirst, chosen_first}
+use Rattle.run_facts.specs.Prelude.{IsKept}
+use Rattle.run_facts.proofs.SpaceUnits.{within_data}
+use Rattle.run_facts.proofs.PartsKept.{intents_kept, flat_intents}
+use Rattle.run_facts.proofs.RowsFacts.{units_of, taken_by}
+use Rattle.run_facts.proofs.Apart.{fresh_taken, taken_fresh, parts_apart, batch_apart, not_in_record}
+use Rattle.run_facts.proofs.BatchFootprints.{before_it, behind_it}
+use Rattle.run_facts.proofs.RowsAccepted.{accepted_keeps, accepted_takes}
+use Rattle.run_facts.proofs.RowsNow.{kept_submitted}
+
+-- ---- the bytes of a unit among fresh ones
+
+-- the first has its bytes, and all others are looked for behind it
+bytes_first : (f : FreshUnit) (fs : List FreshUnit) (unit : ℕ) → f.unit ≡ unit → bytes_in (f ∷ fs) unit ≡ Some f.bytes
+bytes_first f fs unit same = ap (λ (b : Bool). cond b (Some f.bytes) (bytes_in fs unit)) (eq-eqb f.unit unit same)
+
+bytes_behind : (f : FreshUnit) (fs : List FreshUnit) (unit : ℕ) → f.unit ≢ unit → bytes_in (f ∷ fs) unit ≡ bytes_in fs unit
+bytes_behind f fs unit other = ap (λ (b : Bool). cond b (Some f.bytes) (bytes_in fs unit)) (ne_eqb f.unit unit other)
+
+-- those of two lists
+pub bytes_both : (fs gs : List FreshUnit) (unit : ℕ) → bytes_in (fs ++ gs) unit ≡ option_or (bytes_in fs unit) (bytes_in gs unit)
+bytes_both [] gs unit = refl
+bytes_both (f ∷ fs) gs unit = by_test (f.unit == unit) (bytes_both fs gs unit)
+  where
+    by_test : (b : Bool) → bytes_in (fs ++ gs) unit ≡ option_or (bytes_in fs unit) (bytes_in gs unit)
+        → cond b (Some f.bytes) (bytes_in (fs ++ gs) unit) ≡ option_or (cond b (Some f.bytes) (bytes_in fs unit)) (bytes_in gs unit)
+    by_test true more = refl
+    by_test false more = more
+
+-- a unit that is none of them
+pub bytes_none : (fs : List FreshUnit) (unit : ℕ) → IsNone fs unit → bytes_in fs unit ≡ None
+bytes_none [] unit none = refl
+bytes_none (f ∷ fs) unit none = bytes_behind f fs unit none.0 ∙ bytes_none fs unit none.1
+
+pub none_of_bytes : (fs : List FreshUnit) (unit : ℕ) → bytes_in fs unit ≡ None → IsNone fs unit
+none_of_bytes [] unit is = tt
+none_of_bytes (f ∷ fs) unit is = elim (cases_eq f.unit unit) [
+  | inl same ↦ absurd (let both : Some f.bytes ≡ None = sym (bytes_first f fs unit same) ∙ is in cc)
+  | inr other ↦ (other, none_of_bytes fs unit (sym (bytes_behind f fs unit other) ∙ is))
+]
+
+-- what holds of all bytes holds of these
+pub bytes_all : (P : List ℕ → Type 0) (fs : List FreshUnit) (unit : ℕ) (bytes : List ℕ) → AllByRecursion (λ f. P f.bytes) fs
+    → bytes_in fs unit ≡ Some bytes → P bytes
+bytes_all P [] unit bytes all is = absurd cc
+bytes_all P (f ∷ fs) unit bytes all is = elim (cases_eq f.unit unit) [
+  | inl same ↦ subst P (same_Some f.bytes bytes (sym (bytes_first f fs unit same) ∙ is)) all.0
+  | inr other ↦ bytes_all P fs unit bytes all.1 (sym (bytes_behind f fs unit other) ∙ is)
+]
+
+-- one behind others that aren't of its unit
+pub bytes_one : (front back : List FreshUnit) (f : FreshUnit) → IsNone front f.unit → bytes_in (front ++ f ∷ back) f.unit ≡ Some f.bytes
+bytes_one [] back f none = bytes_first f back f.unit refl
+bytes_one (g ∷ front) back f none = bytes_behind g (front ++ f ∷ back) f.unit none.0 ∙ bytes_one front back f none.1
+
+-- ---- of contexts
+
+fresh_both : (xs ys : List Context) → all_fresh (xs ++ ys) ≡ all_fresh xs ++ all_fresh ys
+fresh_both xs ys = flat_map-append (λ (x : Context). x.fresh) xs ys
+
+-- those of some, and of others behind them
+pub contexts_both : (xs ys : List Context) (unit : ℕ)
+    → bytes_in (all_fresh (xs ++ ys)) unit ≡ option_or (bytes_in (all_fresh xs) unit) (bytes_in (all_fresh ys) unit)
+contexts_both xs ys unit =
+    ap (λ (fs : List FreshUnit). bytes_in fs unit) (fresh_both xs ys) ∙ bytes_both (all_fresh xs) (all_fresh ys) unit
+
+-- a unit that they didn't take
+pub untaken_bytes : (xs : List Context) (unit : ℕ) → (Contains (taken_by xs) unit → ⊥) → bytes_in (all_fresh xs) unit ≡ None
+untaken_bytes xs unit out = bytes_none (all_fresh xs) unit
+    (taken_fresh (λ u. ¬ (u ≡ unit)) xs (λ u c same. out (subst (Contains (taken_by xs)) same c)))
+
+-- one that has bytes was taken
+bytes_taken : (xs : List Context) (unit : ℕ) (bytes : List ℕ) → bytes_in (all_fresh xs) unit ≡ Some bytes → Contains (taken_by xs) unit
+bytes_taken xs unit bytes is = elim (in_or_not (taken_by xs) unit) [
+  | inl c ↦ c
+  | inr out ↦ absurd (let both : None ≡ Some bytes = sym (untaken_bytes xs unit out) ∙ is in cc)
+]
+
+-- they are whole units
+each_whole : (xs : List Context) → AllByRecursion FitsRecord (intents xs) → AllByRecursion (λ f. length f.bytes ≡ 4096) (all_fresh xs)
+each_whole [] fits = tt
+each_whole (x ∷ xs) fits = all_join (λ f. length f.bytes ≡ 4096) x.fresh (all_fresh xs) (fits.0).whole (each_whole xs fits.1)
+
+-- a unit that is none of theirs is none that they gave
+none_given : (unit : ℕ) (xs : List Context) → IsNone (all_fresh xs) unit → AllByRecursion (λ x. IsNone (take x.given x.fresh) unit) xs
+none_given unit [] none = tt
+none_given unit (x ∷ xs) none = (
+  all_take (λ f. ¬ (f.unit ≡ unit)) x.given x.fresh (all_left (λ f. ¬ (f.unit ≡ unit)) x.fresh (all_fresh xs) none),
+  none_given unit xs (all_right (λ f. ¬ (f.unit ≡ unit)) x.fresh (all_fresh xs) none),
+)
+
+-- ---- what is in memory, and what isn't
+
+abbrev batched : State → List Context
+batched s = option_map_or (λ (b : Batch). b.contexts) s.batch []
+
+module _ (s : State) (d : Disk) (kept : IsKept s d) (up : s.down ≡ None) where
+  -- whole units are in memory
+  pub memory_whole : (unit : ℕ) (bytes : List ℕ) → memory_of s unit ≡ Some bytes → length bytes ≡ 4096
+  memory_whole unit bytes is = bytes_all (λ bs. length bs ≡ 4096) (all_fresh (uncommitted s)) unit bytes
+      (each_whole (uncommitted s) (kept.up up).room.fits) is
+
+  -- a unit of a page is a data unit
+  pub page_on_data : (unit : ℕ) → HasPage (width_of s.log.sup) s.submitted unit → IsDataUnit s.log.sup unit
+  page_on_data unit has = owned_on_data s.log.sup s.submitted unit (kept_submitted s d kept up).good
+      (page_owned (width_of s.log.sup) s.submitted unit has)
+
+  -- one that isn't in memory is in no flight, so that it can be read
+  pub readable_now : (unit : ℕ) → HasPage (width_of s.log.sup) s.submitted unit → memory_of s unit ≡ None → IsUntouched d.flights unit
+  readable_now unit has none = unflown s.log s.pending s.flying d.flights unit (kept.up up).flights.touches
+      (all_right (λ x. IsNone (take x.given x.fresh) unit) (batched s) s.pending
+      (none_given unit (uncommitted s) (none_of_bytes (all_fresh (uncommitted s)) unit none)))
+      (not_in_record s d kept up unit (page_on_data unit has))
+
+  -- a free unit isn't in memory
+  pub free_not_in_memory : (unit : ℕ) → Contains (free_units s.space) unit → memory_of s unit ≡ None
+  free_not_in_memory unit free = untaken_bytes (uncommitted s) unit (λ c.
+      ((kept.up up).rows.counted unit (within_data s.log.sup s.space unit kept.always.space (listed_is_within s.space unit free))).0
+      (listed_is_idle s.space unit free)
+      (taken_busy s.log.rows (intents (uncommitted s)) unit
+      (subst (λ us. Contains us unit) (sym (flat_intents (λ x. units_of x.fresh) (uncommitted s))) c)))
+
+  -- so none of those that a plan takes is
+  pub fresh_not_in_memory : (fresh : List FreshUnit) → AllByRecursion (λ u. Contains (free_units s.space) u) (map (λ f. f.unit) fresh)
+      → AllByRecursion (λ f. memory_of s f.unit ≡ None) fresh
+  fresh_not_in_memory [] free = tt
+  fresh_not_in_memory (f ∷ fresh) free = (free_not_in_memory f.unit free.0, fresh_not_in_memory fresh free.1)
+
+  module _ (plans : PlansKeep) (client line : ℕ) (change : Change) (s' : State) (known : IsKnown change.ops)
+      (does : Accepts client line change s s') where
+    pub accepted_not_in_memory : AllByRecursion (λ f. memory_of s f.unit ≡ None) does.plan.fresh
+    accepted_not_in_memory = fresh_not_in_memory does.plan.fresh
+        (accepted_takes plans s client line change s' kept.always.limits kept.always.space (kept.up up).rows known does).free
+
+    pub accepted_ascend : Ascends (map (λ f. f.unit) does.plan.fresh)
+    accepted_ascend = (accepted_keeps plans s client line change s' kept.always.limits kept.always.space (kept.up up).rows known does).ascend
+
+-- ---- how it changes
+
+-- a transaction that is accepted adds its units
+pub memory_accepted : (client line : ℕ) (change : Change) (plan : Plan) (s : State) (unit : ℕ)
+    → memory_of (accepted_with client line change plan s) unit ≡ option_or (memory_of s unit) (bytes_in plan.fresh unit)
+memory_accepted client line change plan s unit =
+    let x : Context = context_of (length s.book.entries) change s.log plan in
+    contexts_both (batched s) (s.pending ++ x ∷ []) unit
+    ∙ ap (option_or (bytes_in (all_fresh (batched s)) unit)) (contexts_both s.pending (x ∷ []) unit
+    ∙ ap (option_or (bytes_in (all_fresh s.pending) unit)) (bytes_both plan.fresh [] unit ∙ last (bytes_in plan.fresh unit)))
+    ∙ grouped (bytes_in (all_fresh (batched s)) unit) (bytes_in (all_fresh s.pending) unit) (bytes_in plan.fresh unit)
+    ∙ ap (λ (o : Option (List ℕ)). option_or o (bytes_in plan.fresh unit)) (sym (contexts_both (batched s) s.pending unit))
+  where
+    last : (o : Option (List ℕ)) → option_or o None ≡ o
+    last None = refl
+    last (Some bytes) = refl
+
+    grouped : (a b c : Option (List ℕ)) → option_or a (option_or b c) ≡ option_or (option_or a b) c
+    grouped None b c = refl
+    grouped (Some bytes) b c = refl
+
+-- where what is under way is to do the same it is the same
+pub memory_same : (s s' : State) → intents (uncommitted s') ≡ intents (uncommitted s) → memory_of s' ≡ memory_of s
+memory_same s s' same = ap bytes_in (sym (flat_intents (λ (x : Intent). x.fresh) (uncommitted s'))
+    ∙ ap (flat_map (λ (x : Intent). x.fresh)) same ∙ flat_intents (λ (x : Intent). x.fresh) (uncommitted s))
+
+-- so it is while the units of a context are written
+pub memory_changed : (s : State) (place : ℕ) (change : Context → Context) → ((x : Context) → intent_of (change x) ≡ intent_of x)
+    → (let t : State = record s { pending = with_context place change s.pending } in memory_of t ≡ memory_of s)
+memory_changed s place change same =
+    let t : State = record s { pending = with_context place change s.pending } in
+    memory_same s t (intents_kept place change same (batched s) s.pending)
+
+pub memory_given : (place count : ℕ) (ticket : Ticket) (s : State) → memory_of (data_sent place count ticket s) ≡ memory_of s
+memory_given place count ticket s = memory_changed s place (given_more count) (λ x. refl)
+
+-- and at the end of a submission, whatever it was for
+memory_done : (j : Job) (s : State) → memory_of (after_done j s) ≡ memory_of s
+memory_done (job.Data place count) s = memory_changed s place (done_more count) (λ x. refl)
+memory_done job.DataFlush s = ap (λ (xs : List Context). bytes_in (all_fresh (xs ++ s.pending))) (still s.batch)
+  where
+    still : (o : Option Batch) → option_map_or (λ b. b.contexts) (option_map first_flushed o) [] ≡ option_map_or (λ b. b.contexts) o []
+    still None = refl
+    still (Some b) = refl
+memory_done job.Record s = refl
+memory_done job.RecordFlush s = ap (λ (xs : List Context). bytes_in (all_fresh (xs ++ s.pending))) (still s.batch)
+  where
+    still : (o : Option Batch) → option_map_or (λ b. b.contexts) (option_map second_flushed o) [] ≡ option_map_or (λ b. b.contexts) o []
+    still None = refl
+    still (Some b) = refl
+
+pub memory_reaped : (ticket : Ticket) (good : Bool) (s : State) → memory_of (reaped ticket good s) ≡ memory_of s
+memory_reaped ticket false s = refl
+memory_reaped ticket true s = by_test (is_some s.down)
+  where
+    of_flying : (o : Option Flying) → memory_of (after_good o (landed ticket s)) ≡ memory_of s
+    of_flying None = refl
+    of_flying (Some f) = memory_done f.job (landed ticket s)
+
+    by_test : (b : Bool) → memory_of (cond b (landed ticket s) (after_good (flying_of ticket s.flying) (landed ticket s))) ≡ memory_of s
+    by_test true = refl
+    by_test false = of_flying (flying_of ticket s.flying)
+
+-- where a batch is open, its contexts come first
+pub memory_batch : (s : State) (b : Batch) → s.batch ≡ Some b → memory_of s ≡ bytes_in (all_fresh (b.contexts ++ s.pending))
+memory_batch s b is = ap (λ (o : Option Batch). bytes_in (all_fresh (option_map_or (λ c. c.contexts) o [] ++ s.pending))) is
+
+module _ (s : State) (d : Disk) (kept : IsKept s d) (up : s.down ≡ None) where
+  -- a batch is opened of one of them: each unit is of one alone
+  pub memory_taken : (x : Context) → s.batch ≡ None → chosen s.pending ≡ Some x → memory_of (taken_up x s) ≡ memory_of s
+  memory_taken x none is = fun_ext (λ unit.
+      ap (λ (xs : List Context). bytes_in (all_fresh xs) unit) behind
+      ∙ bytes_both x.fresh (all_fresh (at.front ++ at.back)) unit
+      ∙ ap (option_or (bytes_in x.fresh unit)) (contexts_both at.front at.back unit)
+      ∙ sym (turned (bytes_in (all_fresh at.front) unit) (bytes_in x.fresh unit) (bytes_in (all_fresh at.back) unit) (either unit))
+      ∙ ap (option_or (bytes_in (all_fresh at.front) unit)) (sym (bytes_both x.fresh (all_fresh at.back) unit))
+      ∙ sym (contexts_both at.front (x ∷ at.back) unit)
+      ∙ ap (λ (xs : List Context). bytes_in (all_fresh xs) unit) (sym before))
+    where
+      at : IsFirst [] x s.pending
+      at = chosen_first [] s.pending x is
+
+      before : uncommitted s ≡ at.front ++ x ∷ at.back
+      before = before_it s x none at (kept.up up).flights.places.ascend
+
+      behind : uncommitted (taken_up x s) ≡ x ∷ (at.front ++ at.back)
+      behind = behind_it s x none at (kept.up up).flights.places.ascend
+
+      turned : (a b c : Option (List ℕ)) → (a ≡ None) ⊎ (b ≡ None) → option_or a (option_or b c) ≡ option_or b (option_or a c)
+      turned a b c (inl e) = ap (λ (o : Option (List ℕ)). option_or o (option_or b c)) e
+          ∙ sym (ap (λ (o : Option (List ℕ)). option_or b (option_or o c)) e)
+      turned a b c (inr e) = ap (λ (o : Option (List ℕ)). option_or a (option_or o c)) e
+          ∙ sym (ap (λ (o : Option (List ℕ)). option_or o (option_or a c)) e)
+
+      either : (unit : ℕ) → (bytes_in (all_fresh at.front) unit ≡ None) ⊎ (bytes_in x.fresh unit ≡ None)
+      either unit = elim (in_or_not (taken_by at.front) unit) [
+        | inl c ↦ inr (bytes_none x.fresh unit (fresh_taken (λ u. ¬ (u ≡ unit)) x.fresh (λ u mine same.
+            parts_apart s d kept up at.front (x ∷ at.back) before unit c (in_first (subst (Contains (units_of x.fresh)) same mine)))))
+        | inr out ↦ inl (untaken_bytes at.front unit out)
+      ]
+        where
+          in_first : Contains (units_of x.fresh) unit → Contains (taken_by (x ∷ at.back)) unit
+          in_first c = Contains-append_left (units_of x.fresh) (taken_by at.back) unit c
+
+  -- it is committed: its units are in memory no more, and all others are as they were
+  pub memory_committed : (b : Batch) → s.batch ≡ Some b → (unit : ℕ)
+      → memory_of (committed_batch b s) unit ≡ cond (is_some (bytes_in (all_fresh b.contexts) unit)) None (memory_of s unit)
+  memory_committed b is unit = of_bytes (bytes_in (all_fresh b.contexts) unit) refl
+      ∙ ap (cond (is_some (bytes_in (all_fresh b.contexts) unit)) None)
+      (sym (ap (λ (m : ℕ → Option (List ℕ)). m unit) (memory_batch s b is) ∙ contexts_both b.contexts s.pending unit))
+    where
+      of_bytes : (o : Option (List ℕ)) → bytes_in (all_fresh b.contexts) unit ≡ o
+          → bytes_in (all_fresh s.pending) unit ≡ cond (is_some o) None (option_or o (bytes_in (all_fresh s.pending) unit))
+      of_bytes None e = refl
+      of_bytes (Some bytes) e = untaken_bytes s.pending unit (batch_apart s d kept up b is unit (bytes_taken b.contexts unit bytes e))

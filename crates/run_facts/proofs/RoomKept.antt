@@ -1,0 +1,91 @@
+-- What a call makes of the rows keeps the room that transactions have reserved in the log, and which units are those of the store.
+use Rattle.std.proofs.Common.{◌≡◌, ℕ, ◌+◌, ◌-◌, ◌≤◌, List, [], ◌∷◌, ◌++◌, fold, map, sym, ap, subst, ◌∙◌, arith}
+use Rattle.std.specs.List.{AllByRecursion}
+use Rattle.meta_log.specs.Prelude.{unit_count}
+use Rattle.selections.specs.Fair.{IsComplete}
+use Rattle.selections.proofs.Selecting.{complete_is_fair, all_selected}
+use Rattle.selections.proofs.Order.{fold_alike, each_is}
+use Rattle.space_facts.proofs.Prelude.{each_named}
+use Rattle.store_steps.specs.Prelude.{Intent, is_in, ops_by, needs_by, released_by, RowsPart, RowsGo}
+use Rattle.store_steps.specs.RowsGo as rows
+use Rattle.flight_facts.specs.Prelude.{FitsRecord}
+use Rattle.flight_facts.proofs.Prelude.{all_right, all_join}
+use Rattle.run_facts.specs.Prelude.{HasRoom, IsSpaceOf}
+use Rattle.run_facts.proofs.SpaceUnits.{space_taken, space_given}
+
+-- ---- needs do not depend on an order
+
+as_fold : (n : ℕ) (xs : List Intent) → n + needs_by xs ≡ fold (λ k x. k + x.need) n xs
+as_fold n [] = omega arith
+as_fold n (x ∷ xs) = moved n x.need (needs_by xs) ∙ as_fold (n + x.need) xs
+  where
+    moved : (n need rest : ℕ) → n + (need + rest) ≡ (n + need) + rest
+    moved n need rest = omega arith
+
+needs_alike : (xs ys : List Intent) → IsComplete is_in xs ys → needs_by ys ≡ needs_by xs
+needs_alike xs ys same = as_sum ys ∙
+    fold_alike is_in (λ k x. k + x.need) (λ k. Unit {0}) (λ x. Unit {0}) (λ k x of fine. tt) (λ k x y of_x of_y fine share. turned k x.need y.need)
+    each_named 0 ys xs (each_is (λ x. Unit {0}) (λ x. tt) ys) (each_is (λ x. Unit {0}) (λ x. tt) xs) tt same
+    ∙ sym (as_sum xs)
+  where
+    none : (n : ℕ) → n ≡ 0 + n
+    none n = omega arith
+
+    as_sum : (zs : List Intent) → needs_by zs ≡ fold (λ k x. k + x.need) 0 zs
+    as_sum zs = none (needs_by zs) ∙ as_fold 0 zs
+
+    turned : (k a b : ℕ) → k + b + a ≡ k + a + b
+    turned k a b = omega arith
+
+pub needs_join : (xs ys : List Intent) → needs_by (xs ++ ys) ≡ needs_by xs + needs_by ys
+needs_join [] ys = omega arith
+needs_join (x ∷ xs) ys = omega (arith, needs_join xs ys)
+
+-- ---- each change
+
+-- one that joins has room for its record
+abbrev pub HasRoomTo : (p : RowsPart) {q : RowsPart} → RowsGo p q → Type 0
+HasRoomTo p (rows.joins x is) = FitsRecord x × (p.tail + (p.reserved + x.need) ≤ p.sup.half)
+HasRoomTo p other = Unit {0}
+
+pub room_go : (p q : RowsPart) (goes : RowsGo p q) → HasRoomTo p goes → HasRoom p → HasRoom q
+room_go p q (rows.same is) to has = subst HasRoom (sym is) has
+room_go p q (rows.joins x is) to has = subst HasRoom (sym is) (record {
+  fits = all_join FitsRecord p.intents (x ∷ []) has.fits (to.0, tt);
+  reserved = omega (arith, has.reserved, needs_join p.intents (x ∷ []));
+  room = to.1;
+})
+room_go p q (rows.reorders later complete is) to has = subst HasRoom (sym is) (record {
+  fits = all_selected is_in each_named FitsRecord p.intents later (complete_is_fair is_in p.intents later complete) has.fits;
+  reserved = has.reserved ∙ sym (needs_alike p.intents later complete);
+  room = has.room;
+})
+room_go p q (rows.applies number front back both fits is) to has = subst HasRoom (sym is) (record {
+  fits = all_right FitsRecord front back (subst (AllByRecursion FitsRecord) both has.fits);
+  reserved = rest p.reserved (needs_by front) (needs_by back) (has.reserved ∙ ap needs_by both ∙ needs_join front back);
+  room = behind p.tail p.reserved p.sup.half (unit_count number (ops_by front)) (needs_by front) (needs_by back) has.room fits
+      (has.reserved ∙ ap needs_by both ∙ needs_join front back);
+})
+  where
+    rest : (reserved front back : ℕ) → reserved ≡ front + back → reserved - front ≡ back
+    rest reserved front back is = omega (arith, is)
+
+    behind : (tail reserved half units front back : ℕ) → tail + reserved ≤ half → units ≤ front → reserved ≡ front + back
+        → (tail + units) + (reserved - front) ≤ half
+    behind tail reserved half units front back le fits is = omega (arith, le, fits, is)
+
+-- which units are those of the store isn't changed
+pub space_go : (p q : RowsPart) → RowsGo p q → IsSpaceOf p.sup p.space → IsSpaceOf q.sup q.space
+space_go p q (rows.same is) has = subst (λ (r : RowsPart). IsSpaceOf r.sup r.space) (sym is) has
+space_go p q (rows.joins x is) has =
+    subst (λ (r : RowsPart). IsSpaceOf r.sup r.space) (sym is) (space_taken p.sup p.space (map (λ f. f.unit) x.fresh) has)
+space_go p q (rows.reorders later complete is) has = subst (λ (r : RowsPart). IsSpaceOf r.sup r.space) (sym is) has
+space_go p q (rows.applies number front back both fits is) has =
+    subst (λ (r : RowsPart). IsSpaceOf r.sup r.space) (sym is) (space_given p.sup p.space (released_by front) has)
+
+-- nor is the super
+pub sup_go : (p q : RowsPart) → RowsGo p q → q.sup ≡ p.sup
+sup_go p q (rows.same is) = ap (λ (r : RowsPart). r.sup) is
+sup_go p q (rows.joins x is) = ap (λ (r : RowsPart). r.sup) is
+sup_go p q (rows.reorders later complete is) = ap (λ (r : RowsPart). r.sup) is
+sup_go p q (rows.applies number front back both fits is) = ap (λ (r : RowsPart). r.sup) is

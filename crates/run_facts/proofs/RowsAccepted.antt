@@ -1,0 +1,59 @@
+-- A transaction that is accepted has a plan over the submitted rows, by which it joins those under way.
+use Rattle.std.proofs.Common.{ℕ, ◌≤◌, List, length, sym, subst, arith}
+use Rattle.meta_log.specs.Prelude.{IsSuper}
+use Rattle.object_model.specs.Prelude.{Change, names_of}
+use Rattle.plan_rows.specs.Prelude.{IsKnown, AreFreeOver, IsGood, PlanKeeps, PlanMakes, PlanTakes, PlansKeep}
+use Rattle.selections.proofs.Selecting.{fair_all}
+use Rattle.store_steps.specs.Prelude.{State, context_of, Accepts, Intent, intent_of, intents, is_in, CanJoin, uncommitted, rows_part}
+use Rattle.space_facts.proofs.Prelude.{selection_good, free_over, free_joins}
+use Rattle.flight_facts.specs.Prelude.{FitsRecord}
+use Rattle.flight_facts.proofs.Prelude.{same_units}
+use Rattle.run_facts.specs.Prelude.{IsSpaceOf, AreRowsKept}
+use Rattle.run_facts.proofs.SpaceUnits.{within_data}
+
+-- ---- the submitted rows, and the free units over them
+
+module _ (s : State) (limits : IsSuper s.log.sup) (space : IsSpaceOf s.log.sup s.space) (kept : AreRowsKept (rows_part s)) where
+  abbrev xs : List Intent
+  xs = intents (uncommitted s)
+
+  pub submitted_good : IsGood s.log.sup s.submitted
+  submitted_good =
+      subst (IsGood s.log.sup) (sym kept.submitted) (selection_good s.log.sup s.log.rows xs kept.good kept.planned xs (fair_all is_in xs))
+
+  pub submitted_free : AreFreeOver s.log.sup s.submitted s.space
+  submitted_free = subst (λ rows. AreFreeOver s.log.sup rows s.space) (sym kept.submitted)
+      (free_over s.log.sup s.log.rows xs s.space limits kept.good kept.planned kept.apart (λ u w. within_data s.log.sup s.space u space w) kept.counted)
+
+-- ---- the plan of an accepted transaction
+
+module _ (keep : PlansKeep) (s : State) (client line : ℕ) (change : Change) (s' : State) (limits : IsSuper s.log.sup)
+    (space : IsSpaceOf s.log.sup s.space) (kept : AreRowsKept (rows_part s)) (known : IsKnown change.ops) (does : Accepts client line change s s') where
+  plans : PlanKeeps s.log.sup (names_of change) s.submitted does.plan
+      × (PlanMakes s.log.sup change s.submitted does.plan × PlanTakes s.space change does.plan)
+  plans = keep s.log.sup s.submitted s.space change does.plan (submitted_good s limits space kept) (submitted_free s limits space kept) known does.plans
+
+  pub accepted_keeps : PlanKeeps s.log.sup (names_of change) s.submitted does.plan
+  accepted_keeps = plans.0
+
+  pub accepted_makes : PlanMakes s.log.sup change s.submitted does.plan
+  accepted_makes = plans.1.0
+
+  pub accepted_takes : PlanTakes s.space change does.plan
+  accepted_takes = plans.1.1
+
+  pub accepted_joins : CanJoin s.log.sup s.log.rows (intents (uncommitted s)) (intent_of (context_of (length s.book.entries) change s.log does.plan))
+  accepted_joins = free_joins s.log.sup s.log.rows (intents (uncommitted s)) (intent_of (context_of (length s.book.entries) change s.log does.plan)) s.space
+      kept.counted (subst (λ rows. PlanKeeps s.log.sup (names_of change) rows does.plan) kept.submitted accepted_keeps) accepted_takes.free
+
+  -- its context has room for its record
+  pub accepted_record : FitsRecord (intent_of (context_of (length s.book.entries) change s.log does.plan))
+  accepted_record = record {
+    fit = accepted_keeps.fit;
+    need = λ number. same_units number s.log.number does.plan.ops;
+    whole = accepted_keeps.fresh.whole;
+    ascend = accepted_keeps.ascend;
+  }
+
+  pub accepted_few : length does.plan.fresh ≤ 1048576
+  accepted_few = omega (arith, accepted_takes.within, accepted_takes.few)

@@ -1,0 +1,43 @@
+-- What the kernel keeps, whatever its device tells.
+use Rattle.std.specs.Prelude.{◌≡◌, ℕ, ◌+◌, ◌≤◌, ◌^◌, [], length, None}
+use Rattle.block_device.specs.Prelude.{Disk, IsSound}
+use Rattle.meta_log.specs.Prelude.{IsSuper}
+use Rattle.unit_allocator.specs.Prelude.{Space}
+use Rattle.plan_rows.specs.Prelude.{IsGood}
+use Rattle.store_steps.specs.Prelude.{State, Found, SpaceIsCounted, HoldsAreCounted, rows_part, book_part}
+use Rattle.flight_facts.specs.Prelude.{AreFlights, FlightsMatch, budget, work_left}
+use Rattle.run_facts.specs.Space.{IsSpaceOf, AreRowsKept}
+use Rattle.run_facts.specs.Room.{HasRoom, AreEntriesFew, IsBookKept}
+
+-- what it keeps always, also while it is down
+pub record IsAlwaysKept (s : State) (d : Disk) : Type 0 where
+  pub device : IsSound d
+  pub limits : IsSuper s.log.sup
+  pub units : s.log.sup.units ≡ d.units
+  pub space : IsSpaceOf s.log.sup s.space
+  pub flights : AreFlights s.flying d.flights
+  pub few : AreEntriesFew s
+  pub book : IsBookKept (book_part s)
+  pub events : s.events + work_left s ≤ budget s
+  pub numbers : s.log.number + work_left s ≤ budget s
+
+-- what it keeps while it isn't
+pub record IsKeptUp (s : State) (d : Disk) : Type 0 where
+  pub flights : FlightsMatch s.log (length s.book.entries) s.pending s.batch s.flying d.flights
+  pub rows : AreRowsKept (rows_part s)
+  pub room : HasRoom (rows_part s)
+
+pub record IsKept (s : State) (d : Disk) : Type 0 where
+  pub always : IsAlwaysKept s d
+  pub up : s.down ≡ None → IsKeptUp s d
+
+-- What a kernel asks of the store that it is opened on, whose device has so many units.
+pub record IsOpenable (f : Found) (s : Space) (units : ℕ) : Type 0 where
+  pub limits : IsSuper f.sup
+  pub units_are : f.sup.units ≡ units
+  pub number : f.number ≤ 2 ^ 61
+  pub tail : f.tail ≤ f.sup.half
+  pub good : IsGood f.sup f.rows
+  pub space : IsSpaceOf f.sup s
+  pub counted : SpaceIsCounted f.sup f.rows [] s
+  pub held : HoldsAreCounted f.sup f.rows s

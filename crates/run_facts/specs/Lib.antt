@@ -1,0 +1,4 @@
+pub mod Space
+pub mod Room
+pub mod Kept
+pub mod Prelude

@@ -1,0 +1,12 @@
+//! What the kernel keeps from call to call and so along runs, whatever its device is, and that each call which leaves it up has
+//! a footprint: facts of the whole state, rows and room and book beside what is in flight, and a law for each call that says
+//! that it keeps them.
+#![tactic(auto)]
+
+mod laws;
+
+pub use laws::{
+    a_call_has_a_footprint, a_run_keeps_what_the_kernel_keeps, bytes_are_in_memory_until_committed,
+    drained_is_idle, flushes_cover, idle_units_are_not_busy, next_is_untouched, opened_keeps,
+    steps_have_room, steps_keep, transactions_keep, units_not_in_memory_can_be_read,
+};

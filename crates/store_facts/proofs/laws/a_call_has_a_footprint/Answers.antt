@@ -1,5 +1,0 @@
-use Rattle.store_facts.proofs.Footprints.{footprint_of}
-use Rattle.store_facts.proofs.laws.a_call_has_a_footprint.Goals as goal
-
-pub returns : goal.returns
-returns c = footprint_of

@@ -1,5 +1,0 @@
-use Rattle.store_facts.proofs.Kept.{kept_open}
-use Rattle.store_facts.proofs.laws.opened_keeps.Goals as goal
-
-pub returns : goal.returns
-returns c = kept_open

@@ -1,7 +1,0 @@
-pub mod Flights
-pub mod Jobs
-pub mod Space
-pub mod Room
-pub mod Work
-pub mod Kept
-pub mod Prelude

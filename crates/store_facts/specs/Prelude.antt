@@ -1,7 +1,0 @@
--- What other crates and the proofs cite, passed on from one place.
-pub use Rattle.store_facts.specs.Flights.{AreFlights, IsNotGiven, IsWriting, IsWritten, IsUnderWay}
-pub use Rattle.store_facts.specs.Jobs.{units_for, units_flying, IsPartGiven, IsAllGiven, AreInPlace, is_data, log_flying, IsBatchOpen, IsLogFar, IsNone, TouchesGiven, AnyByRecursion, IsWriteOf, IsGivenPiece, IsPieceOf, IsOfJob, AreOfJobs, FlightsMatch}
-pub use Rattle.store_facts.specs.Space.{IsSpaceOf, AreRowsKept}
-pub use Rattle.store_facts.specs.Room.{FitsRecord, HasRoom, AcksAre, IsBookKept}
-pub use Rattle.store_facts.specs.Work.{work_of, sum_work, flush_work, record_work, batch_work, work_left, measure, entry_work, budget}
-pub use Rattle.store_facts.specs.Kept.{IsAlwaysKept, IsKeptUp, IsKept, IsOpenable}

@@ -1,24 +1,16 @@
 -- How the book goes on at a submission or a read: an entry more, and where it is an accepted transaction a context more.
 use Rattle.std.proofs.Common.{◌≡◌, inl, inr, ℕ, List, [], ◌∷◌, ◌++◌, length, None, Ok}
 use Rattle.std.proofs.Common.{Err, refl, sym, ap, subst, ◌∙◌, append_assoc, arith}
+use Rattle.run_facts.proofs.Common.{AllByRecursion, Disk, Answer, Command, Entry, Objects, Change, replay, accepted_change, accepted, rows_after, width_of, Plan, Context}
 use Rattle.std.specs.Prelude.{IsOk, Result}
-use Rattle.std.specs.List.{AllByRecursion}
-use Rattle.block_device.specs.Prelude.{Disk}
-use Rattle.object_model.specs.declared.command.Answer.{Answer}
 use Rattle.object_model.specs.declared.command.Answer.TheVariants as answer
-use Rattle.object_model.specs.declared.command.Command.{Command}
 use Rattle.object_model.specs.declared.command.Command.TheVariants as ask
 use Rattle.object_model.specs.declared.op.Refusal.{Refusal}
-use Rattle.object_model.specs.declared.book.Entry.{Entry}
-use Rattle.object_model.specs.Prelude.{Objects, Change, replay, ok_or, transaction_effect, accepted_change, accepted}
+use Rattle.object_model.specs.Prelude.{ok_or, transaction_effect}
 use Rattle.object_model.proofs.Replays.{replay-append}
-use Rattle.meta_rows.specs.Prelude.{rows_after}
-use Rattle.meta_log.specs.Prelude.{width_of}
 use Rattle.store_image.specs.Prelude.{IsShape}
-use Rattle.plan_rows.specs.declared.plan.Plan.{Plan}
 use Rattle.read_facts.specs.Prelude.{IsAnsweredAlike, IsNotRefused, HasReadNames, IsHeldAt}
 use Rattle.read_facts.proofs.Plain.{plain_answer}
-use Rattle.store_steps.specs.declared.context.Context.{Context}
 use Rattle.store_steps.specs.Prelude.{State, context_of, entered, noted, accepted_with, IsCause, AnswersRead, memory_of, Intent, intent_of, intents, book_part}
 use Rattle.run_facts.proofs.Prelude.{intents_both, all_join, all_right}
 use Rattle.book_facts.specs.Prelude.{IsOfEntry, IsBookKnown, KnownOfBook}

@@ -1,21 +1,17 @@
 -- The transactions of the applied commits, and how far they are all that were accepted.
 use Rattle.std.proofs.Common.{◌≡◌, ℕ, ◌+◌, ◌-◌, Bool, true, false, cond, List, [], ◌∷◌, ◌++◌, length, take, drop, Option}
 use Rattle.std.proofs.Common.{Some, None, refl, sym, ap, ◌∙◌, append_assoc, length-append, arith}
+use Rattle.run_facts.proofs.Common.{AllByRecursion, cons_option, Entry, Commit, Objects, Change, replay, names_of, is_named, accepted, change_at, committed, is_on, committed_places, Context, option_map_or}
 use Rattle.std.specs.Prelude.{IsSome, slice_get, option_and_then}
-use Rattle.std.specs.List.{AllByRecursion, cons_option}
 use Rattle.std.proofs.lemmas.List.{take-map, take_all, take-append-drop, length-map, map-append}
 use Rattle.std.proofs.lemmas.List.Elements.{filter-append, filter_map-append}
-use Rattle.object_model.specs.declared.book.Entry.{Entry}
-use Rattle.object_model.specs.declared.book.Commit.{Commit}
-use Rattle.object_model.specs.Prelude.{Objects, Change, replay, names_of, is_named, changes_on, accepted, change_at, committed, is_on, places_from, committed_places}
+use Rattle.object_model.specs.Prelude.{changes_on, places_from}
 use Rattle.object_model.proofs.Names.{have_one_name}
 use Rattle.object_model.proofs.Replays.{replay-append, replay-by_collections}
-use Rattle.store_steps.specs.declared.context.Context.{Context}
 use Rattle.store_steps.specs.Prelude.{Batch, State, committed_batch, applied_count, Intent, intents, is_in, uncommitted}
 use Rattle.book_facts.specs.Prelude.{commit_places, AreQueued, IsOfEntry, intents_on, places, KnownOfBook, applied_changes, changes_of}
 use Rattle.book_facts.proofs.Entries.{own_change, committed_kept}
 use Rattle.book_facts.proofs.Commits.{places_on, places_by_places, changes_at, committed_by_places}
-use Rattle.std.specs.Option.{option_map_or}
 use Rattle.run_facts.proofs.Prelude.{all_right, all_take, intents_both}
 
 -- ---- by places

@@ -1,21 +1,15 @@
 -- Each call of the kernel keeps what is known of the book, and so does a run: by what calls make of rows and book.
 use Rattle.std.proofs.Common.{◌≡◌, inl, inr, ◌+◌, ◌<◌, ◌++◌, length, List, [], ◌∷◌, ℕ, Option, Some, None, refl, sym, ap, subst, ◌∙◌, arith, map}
-use Rattle.std.specs.Option.{option_map_or}
+use Rattle.run_facts.proofs.Common.{option_map_or, Ticket, Disk, Objects, Change, PlansKeep, IsKnown, Context, Ascends}
 use Rattle.std.proofs.lemmas.List.{append_cancel_left}
-use Rattle.block_device.specs.declared.device.Ticket.{Ticket}
-use Rattle.block_device.specs.Prelude.{Disk}
-use Rattle.object_model.specs.Prelude.{Objects, Change}
 use Rattle.object_model.specs.declared.command.Command.TheVariants as ask
-use Rattle.plan_rows.specs.Prelude.{PlansKeep, IsKnown}
 use Rattle.read_facts.specs.Prelude.{IsLegalButBytes}
-use Rattle.store_steps.specs.declared.context.Context.{Context}
 use Rattle.store_steps.specs.declared.step.Step.TheVariants as step
 use Rattle.store_steps.specs.Prelude.{Batch, State, taken_up, committed_batch, finished, Accepts, Call, Calls, IsRun, intents, uncommitted, RowsPart, BookPart, rows_part, book_part, Touch, events_of, RowsGo, BookGoes, Replies, refuses, reads, IsCaused, Footprint}
 use Rattle.store_steps.specs.RowsGo as rows
 use Rattle.store_steps.specs.BookGoes as book
 use Rattle.run_facts.specs.Prelude.{IsKept}
 use Rattle.run_facts.proofs.Prelude.{ready_by_table, take_none, finish_ready, intents_both, IsFirst, chosen_first, was_up, GoesDown, down_call, footprint_of, kept_call}
-use Rattle.unit_fields.specs.Prelude.{Ascends}
 use Rattle.book_facts.specs.Prelude.{KnownOfBook, IsInOrder}
 use Rattle.book_facts.proofs.Books.{KeepBook, batch_of, book_stays, book_takes, book_commits, book_finishes, known_legal}
 use Rattle.book_facts.proofs.Order.{order_stays, order_takes, order_commits, order_finishes, order_accepts, order_enters}

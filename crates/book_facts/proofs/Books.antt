@@ -1,27 +1,20 @@
 -- How each call keeps what is known of the book.
 use Rattle.std.proofs.Common.{◌≡◌, ℕ, ◌+◌, ◌-◌, ◌<◌, ◌≤◌, List, [], ◌∷◌, ◌++◌, length, drop, map}
 use Rattle.std.proofs.Common.{Option, None, refl, sym, ap, subst, ◌∙◌, length-append, arith}
+use Rattle.run_facts.proofs.Common.{IsDistinct, AllByRecursion, option_map_or, Commit, Objects, change_at, Rows, Space, Context, Ascends, Entry}
 use Rattle.std.specs.Prelude.{is_some, IsSome, IfSome, nat_eq}
-use Rattle.std.specs.List.{IsDistinct, AllByRecursion}
-use Rattle.std.specs.Option.{option_map_or}
 use Rattle.std.proofs.lemmas.List.{map-append, drop_at, drop_all, length-map}
-use Rattle.object_model.specs.declared.book.Commit.{Commit}
 use Rattle.object_model.specs.declared.book.Book.{Book}
-use Rattle.object_model.specs.Prelude.{Objects, change_at, AreCountsWithin, acked_count}
+use Rattle.object_model.specs.Prelude.{AreCountsWithin, acked_count}
 use Rattle.read_facts.specs.Prelude.{IsLegalButBytes}
-use Rattle.meta_rows.specs.Prelude.{Rows}
 use Rattle.store_image.specs.Prelude.{IsShape}
-use Rattle.unit_allocator.specs.Prelude.{Space}
-use Rattle.store_steps.specs.declared.context.Context.{Context}
 use Rattle.store_steps.specs.Prelude.{Batch, State, without_context, Found, opened, commit_of, taken_up, acknowledged, finished, committed_batch, applied_count, Intent, intent_of, intents, BookPart, book_part}
-use Rattle.run_facts.proofs.Prelude.{IsFirst, elsewhere, without_at, all_right, intents_both}
-use Rattle.unit_fields.specs.Prelude.{Ascends}
+use Rattle.run_facts.proofs.Prelude.{IsFirst, without_in, all_right, acknowledged_length, intents_both}
 use Rattle.book_facts.specs.Prelude.{commit_places, IsOfEntry, AreCommits, IsBookKnown, KnownOfBook, AreQueued}
 use Rattle.book_facts.proofs.Entries.{counts_more}
 use Rattle.book_facts.proofs.Commits.{all_push, acked_push, by_now_more, by_now_acknowledged, acked_acknowledged}
-use Rattle.book_facts.proofs.Commits.{count_push, count_acknowledged, places_acknowledged, length_acknowledged, AreAtPlaces, at_places, of_places}
+use Rattle.book_facts.proofs.Commits.{count_push, count_acknowledged, places_acknowledged, AreAtPlaces, at_places, of_places}
 use Rattle.book_facts.proofs.Queues.{queued_taken, queued_places, once_committed, committed_in_order}
-use Rattle.object_model.specs.declared.book.Entry.{Entry}
 
 -- ---- a known book is legal, but for the bytes that reads gave
 
@@ -99,8 +92,7 @@ queues_taken es commits x xs at is queued =
 -- those that wait then
 pub waiting_then : (s : State) (x : Context) (at : IsFirst [] x s.pending) → Ascends (map (λ z. z.place) s.pending)
     → without_context x.place s.pending ≡ at.front ++ at.back
-waiting_then s x at places = ap (without_context x.place) at.is
-    ∙ without_at at.front x at.back (elsewhere at.front x at.back (subst (λ (xs : List Context). Ascends (map (λ (z : Context). z.place) xs)) at.is places))
+waiting_then s x at places = without_in at.front x at.back s.pending at.is places
 
 module _ (opening : Objects) (s : State) (x : Context) (at : IsFirst [] x s.pending) where
   -- the state before it, without a batch
@@ -179,7 +171,7 @@ book_finishes opening s below known = record {
   contexts = known.contexts;
   last_committed =
       ap (λ (n : ℕ). drop (n - option_map_or (λ (b : Batch). length b.contexts) s.batch 0) (commit_places (acknowledged s.events s.book.commits)))
-      (length_acknowledged s.events s.book.commits)
+      (acknowledged_length s.events s.book.commits)
       ∙ ap (drop (applied_count s)) (places_acknowledged s.events s.book.commits) ∙ known.last_committed;
   shape = known.shape;
 }

@@ -1,13 +1,11 @@
 -- One more commit, and one more acknowledgement.
-use Rattle.std.proofs.Common.{◌≡◌, ℕ, suc, ◌+◌, ◌<◌, ◌≤◌, Bool, true, false, cond, List, [], ◌∷◌, ◌++◌, length, map, filter, Option}
+use Rattle.std.proofs.Common.{◌≡◌, ℕ, ◌+◌, ◌<◌, ◌≤◌, Bool, true, false, cond, List, [], ◌∷◌, ◌++◌, length, map, filter, Option}
 use Rattle.std.proofs.Common.{Some, None, refl, sym, ap, subst, ◌∙◌, arith}
+use Rattle.run_facts.proofs.Common.{AllByRecursion, IsDistinct, cons_option, ne_eqb, Entry, Commit, Change, change_at, committed, is_on, committed_places}
 use Rattle.std.specs.Prelude.{is_some, IsSome, IsNone, IfSome, nat_eq, MatchOption, filter_map}
-use Rattle.std.specs.List.{AllByRecursion, IsDistinct, cons_option, list_any}
+use Rattle.std.specs.List.{list_any}
 use Rattle.std.proofs.lemmas.List.Sums.{sum_by-cons, sum_by_push}
-use Rattle.std.proofs.lemmas.Bool.{ne_eqb}
-use Rattle.object_model.specs.declared.book.Entry.{Entry}
-use Rattle.object_model.specs.declared.book.Commit.{Commit}
-use Rattle.object_model.specs.Prelude.{Change, change_at, committed, is_on, committed_places, AreAckedFrom, acked_count}
+use Rattle.object_model.specs.Prelude.{AreAckedFrom, acked_count}
 use Rattle.store_steps.specs.Prelude.{acknowledged}
 use Rattle.book_facts.specs.Prelude.{commit_places}
 use Rattle.flight_facts.proofs.Prelude.{all_left}
@@ -125,15 +123,6 @@ places_acknowledged events (c ∷ cs) = by_test (is_some c.acked_at) (places_ack
     by_test : (b : Bool) → commit_places (acknowledged events cs) ≡ commit_places cs
         → commit_places (cond b (c ∷ acknowledged events cs) (record c { acked_at = Some events } ∷ cs)) ≡ c.place ∷ commit_places cs
     by_test true more = ap (λ (l : List ℕ). c.place ∷ l) more
-    by_test false more = refl
-
-pub length_acknowledged : (events : ℕ) (cs : List Commit) → length (acknowledged events cs) ≡ length cs
-length_acknowledged events [] = refl
-length_acknowledged events (c ∷ cs) = by_test (is_some c.acked_at) (length_acknowledged events cs)
-  where
-    by_test : (b : Bool) → length (acknowledged events cs) ≡ length cs
-        → length (cond b (c ∷ acknowledged events cs) (record c { acked_at = Some events } ∷ cs)) ≡ suc (length cs)
-    by_test true more = ap suc more
     by_test false more = refl
 
 -- what is said of the places of commits alone

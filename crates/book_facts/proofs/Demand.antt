@@ -1,17 +1,12 @@
 -- Want of space comes only where a run's commands ask for more units than were free when it began.
 use Rattle.std.proofs.Common.{◌≡◌, inl, inr, ℕ, ◌+◌, ◌<◌, ◌≤◌, Bool, true, false, List, [], ◌∷◌, ◌++◌}
 use Rattle.std.proofs.Common.{refl, sym, ap, subst, ◌∙◌, arith}
+use Rattle.run_facts.proofs.Common.{Disk, Entry, Answer, Command, Change, width_of, PlansKeep}
 use Rattle.std.specs.Prelude.{◌||◌}
-use Rattle.block_device.specs.Prelude.{Disk}
-use Rattle.object_model.specs.declared.book.Entry.{Entry}
-use Rattle.object_model.specs.declared.command.Answer.{Answer}
 use Rattle.object_model.specs.declared.command.Answer.TheVariants as answer
-use Rattle.object_model.specs.declared.command.Command.{Command}
 use Rattle.object_model.specs.declared.command.Command.TheVariants as ask
-use Rattle.object_model.specs.Prelude.{Change}
-use Rattle.meta_log.specs.Prelude.{width_of}
 use Rattle.read_facts.specs.Prelude.{IsHeldAt, HasReadNames, IsAnswerOf}
-use Rattle.plan_rows.specs.Prelude.{units_taken, PlansKeep}
+use Rattle.plan_rows.specs.Prelude.{units_taken}
 use Rattle.store_steps.specs.Prelude.{Call, submitting, reading, stepping, Calls, IsRun, State, free_count, IsCause, memory_of}
 use Rattle.run_facts.specs.Prelude.{IsKept}
 use Rattle.book_facts.specs.Prelude.{taken_by, units_asked, demanded_by, is_no_space, any_no_space}
@@ -23,10 +18,6 @@ use Rattle.book_facts.proofs.Rooms.{KeepsSpace, call_space, taken_push, step_roo
 demanded_push : (es : List Entry) (e : Entry) → demanded_by (es ++ e ∷ []) ≡ demanded_by es + units_asked e.command
 demanded_push [] e = omega arith
 demanded_push (x ∷ es) e = let rest = demanded_push es e in omega (arith, rest)
-
-or_false : (b : Bool) → (b || false) ≡ b
-or_false true = refl
-or_false false = refl
 
 no_space_push : (es : List Entry) (e : Entry) → is_no_space e.answer ≡ false → any_no_space (es ++ e ∷ []) ≡ any_no_space es
 no_space_push [] e is = ap (λ (b : Bool). b || false) is

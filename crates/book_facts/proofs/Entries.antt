@@ -1,12 +1,10 @@
 -- One more entry of a book.
 use Rattle.std.proofs.Common.{◌≡◌, ℕ, zero, suc, ◌+◌, ◌<◌, ◌≤◌, Bool, true, false, cond, List, [], ◌∷◌, ◌++◌, length, map, filter, Option}
 use Rattle.std.proofs.Common.{Some, None, refl, sym, ap, subst, ◌∙◌, append-nil, arith}
+use Rattle.run_facts.proofs.Common.{AllByRecursion, cons_option, Entry, Commit, Objects, Change, replay, accepted_change, accepted, change_at, committed, is_on, committed_places}
 use Rattle.std.specs.Prelude.{slice_get, option_and_then, is_some, IsSome}
-use Rattle.std.specs.List.{AllByRecursion, cons_option}
 use Rattle.std.proofs.lemmas.List.Elements.{filter_map-append}
-use Rattle.object_model.specs.declared.book.Entry.{Entry}
-use Rattle.object_model.specs.declared.book.Commit.{Commit}
-use Rattle.object_model.specs.Prelude.{Objects, Change, replay, accepted_change, accepted, IsAnswered, AnswersFrom, change_at, committed, is_on, places_from, places_of, committed_places, AreCountsWithin}
+use Rattle.object_model.specs.Prelude.{IsAnswered, AnswersFrom, places_from, places_of, AreCountsWithin}
 use Rattle.read_facts.specs.Prelude.{IsAnsweredAlike, AnswersAlikeFrom}
 
 -- ---- answers

@@ -1,12 +1,8 @@
 -- What is known of the plan of an accepted transaction.
 use Rattle.std.proofs.Common.{ℕ, Contains}
-use Rattle.block_device.specs.Prelude.{Disk}
-use Rattle.meta_log.specs.Prelude.{IsSuper}
-use Rattle.object_model.specs.Prelude.{Change, names_of}
+use Rattle.run_facts.proofs.Common.{Disk, IsSuper, Change, names_of, free_units, Plan, IsGood, PlansKeep, IsKnown}
 use Rattle.store_image.specs.Prelude.{IsMarked}
-use Rattle.unit_allocator.specs.Prelude.{free_units}
-use Rattle.plan_rows.specs.declared.plan.Plan.{Plan}
-use Rattle.plan_rows.specs.Prelude.{fresh_units, IsGood, Suits, PlanKeeps, PlanMakes, PlanTakes, PlansKeep, IsKnown}
+use Rattle.plan_rows.specs.Prelude.{fresh_units, Suits, PlanKeeps, PlanMakes, PlanTakes}
 use Rattle.plan_rows.proofs.Agreeing.{agree_itself}
 use Rattle.store_steps.specs.Prelude.{State, Accepts, rows_part}
 use Rattle.run_facts.specs.Prelude.{IsKept, IsSpaceOf, AreRowsKept}

@@ -1,19 +1,11 @@
 -- How each call keeps what is known of the order alone.
 use Rattle.std.proofs.Common.{◌≡◌, ℕ, List, [], ◌∷◌, ◌++◌, length, Option, None, refl, sym, ap, subst, append_assoc, map}
+use Rattle.run_facts.proofs.Common.{AllByRecursion, Entry, Answer, Command, Change, accepted_change, change_at, Plan, Space, Context, Ascends}
 use Rattle.std.specs.Prelude.{is_some, IsSome}
-use Rattle.std.specs.List.{AllByRecursion}
-use Rattle.object_model.specs.declared.book.Entry.{Entry}
-use Rattle.object_model.specs.declared.command.Answer.{Answer}
 use Rattle.object_model.specs.declared.command.Answer.TheVariants as answer
-use Rattle.object_model.specs.declared.command.Command.{Command}
 use Rattle.object_model.specs.declared.command.Command.TheVariants as ask
-use Rattle.object_model.specs.Prelude.{Change, accepted_change, change_at}
-use Rattle.plan_rows.specs.declared.plan.Plan.{Plan}
-use Rattle.unit_allocator.specs.Prelude.{Space}
-use Rattle.store_steps.specs.declared.context.Context.{Context}
 use Rattle.store_steps.specs.Prelude.{Batch, State, commit_of, taken_up, acknowledged, finished, committed_batch, context_of, entered, accepted_with, Found, opened, Intent, intent_of, intents, BookPart, book_part}
 use Rattle.run_facts.proofs.Prelude.{intents_both, IsFirst, all_join, all_right}
-use Rattle.unit_fields.specs.Prelude.{Ascends}
 use Rattle.book_facts.specs.Prelude.{IsOfEntry, KnownOfOrder, IsInOrder}
 use Rattle.book_facts.proofs.Entries.{change_last, of_entries_push}
 use Rattle.book_facts.proofs.Commits.{all_push, places_acknowledged, AreAtPlaces, at_places, of_places}

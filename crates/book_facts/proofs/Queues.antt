@@ -1,18 +1,16 @@
 -- How the queues of collections go on.
 use Rattle.std.proofs.Common.{◌≡◌, ℕ, ◌<◌, Bool, true, false, cond, List, [], ◌∷◌, ◌++◌, length, Option, Some, None}
 use Rattle.std.proofs.Common.{refl, sym, ap, subst, ◌∙◌, append-nil, append_assoc}
+use Rattle.run_facts.proofs.Common.{AllByRecursion, IsDistinct, Entry, Commit, Change, names_of, is_named, change_at, is_on, committed_places}
 use Rattle.std.specs.Prelude.{is_some, IsSome, nat_eq}
-use Rattle.std.specs.List.{AllByRecursion, IsDistinct}
 use Rattle.std.specs.Cmp.{nat_eq_equiv}
 use Rattle.std.proofs.lemmas.List.{map-append}
 use Rattle.std.proofs.lemmas.List.Elements.{filter-append}
 use Rattle.std.proofs.lemmas.Map.Keys.{IsDistinct-push, IsDistinct-IsPermutation}
 use Rattle.std.specs.List.Sorted.{IsPermutation}
 use Rattle.std.proofs.lemmas.List.Sorted.{IsPermutation-append_right, IsPermutation-middle}
-use Rattle.object_model.specs.declared.book.Entry.{Entry}
-use Rattle.object_model.specs.declared.book.Commit.{Commit}
 use Rattle.object_model.specs.declared.book.Book.{Book}
-use Rattle.object_model.specs.Prelude.{Change, names_of, is_named, change_at, is_on, places_of, committed_places, IsPrefixOf}
+use Rattle.object_model.specs.Prelude.{places_of, IsPrefixOf}
 use Rattle.store_steps.specs.Prelude.{Intent, names_in, is_in}
 use Rattle.book_facts.specs.Prelude.{places, commit_places, intents_on, IsOfEntry, AreQueued}
 use Rattle.book_facts.proofs.Entries.{own_change, change_below, change_push, places_kept, place_if, places_push}

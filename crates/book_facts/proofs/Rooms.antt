@@ -1,25 +1,16 @@
 -- Units and room go to accepted transactions alone: no other call takes any.
 use Rattle.std.proofs.Common.{◌≡◌, inl, inr, ℕ, ◌+◌, ◌-◌, ◌<◌, ◌≤◌, true, List, [], ◌∷◌, ◌++◌, length}
 use Rattle.std.proofs.Common.{None, Contains, refl, sym, ap, subst, ◌∙◌, arith}
+use Rattle.run_facts.proofs.Common.{Disk, IsSound, Entry, Answer, Command, Change, accepted_change, accepted, unit_count, FreshUnit, Step, IsKnown, PlansKeep, IsWithin, is_free, free_units, Super}
 use Rattle.std.proofs.lemmas.List.{length-map}
-use Rattle.block_device.specs.Prelude.{Disk, IsSound}
-use Rattle.object_model.specs.declared.book.Entry.{Entry}
-use Rattle.object_model.specs.declared.command.Answer.{Answer}
 use Rattle.object_model.specs.declared.command.Answer.TheVariants as answer
-use Rattle.object_model.specs.declared.command.Command.{Command}
 use Rattle.object_model.specs.declared.command.Command.TheVariants as ask
-use Rattle.object_model.specs.Prelude.{Change, accepted_change, accepted}
-use Rattle.meta_log.specs.Prelude.{unit_count}
-use Rattle.plan_rows.specs.declared.plan.FreshUnit.{FreshUnit}
-use Rattle.store_steps.specs.declared.step.Step.{Step}
 use Rattle.store_steps.specs.Prelude.{State, is_ready, Call, submitting, reading, stepping, DoesOrFails, Submits, Reads, Calls, IsRun, need_of, free_count, entered, Accepts, Refuses, ops_by, released_by, needs_by, RowsPart, rows_part, RowsGo, Footprint}
-use Rattle.plan_rows.specs.Prelude.{IsKnown, units_taken, fresh_units, PlansKeep}
-use Rattle.unit_allocator.specs.Prelude.{IsWithin, is_free, free_units}
+use Rattle.plan_rows.specs.Prelude.{units_taken, fresh_units}
 use Rattle.unit_allocator.proofs.FreeUnits.{listed_is_free}
 use Rattle.meta_store.specs.Store.{room_of}
 use Rattle.run_facts.specs.Prelude.{IsKept, HasRoom}
 use Rattle.store_steps.specs.RowsGo as rows
-use Rattle.meta_log.specs.declared.slot.Super.{Super}
 use Rattle.run_facts.proofs.Prelude.{footprint_of, IsNoJoin, none_joins, needs_join, StepOutcome, has_stepped, has_waited, has_gone_down, kept_leaves, kept_call}
 use Rattle.book_facts.specs.Prelude.{units_taken_by, taken_by, need_if_accepted, needs_in}
 use Rattle.book_facts.proofs.Accepted.{cause_refuses, read_accepts_none}

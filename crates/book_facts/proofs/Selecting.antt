@@ -1,10 +1,8 @@
 -- The fair selections of intents: what stands for all of them, and where none is under way.
 use Rattle.std.proofs.Common.{ℕ, List, []}
+use Rattle.run_facts.proofs.Common.{Entry, Objects, replay, Rows}
 use Rattle.unit_fields.specs.declared.width.Width.{Width}
-use Rattle.object_model.specs.declared.book.Entry.{Entry}
-use Rattle.object_model.specs.Prelude.{Objects, replay}
 use Rattle.object_model.proofs.Names.{is_same_itself}
-use Rattle.meta_rows.specs.Prelude.{Rows}
 use Rattle.store_image.specs.Prelude.{ObjectsStand}
 use Rattle.store_steps.specs.Prelude.{Intent, is_in, rows_by}
 use Rattle.selections.specs.Fair.{EachHasName}

@@ -1,12 +1,11 @@
 -- The context that the next batch takes: all of its units have reached the device, and none before it has a name of it.
 use Rattle.std.proofs.Common.{◌≡◌, ◌&&◌, ◌||◌, Bool, true, false, cond, not, List, [], ◌∷◌, ◌++◌, length, Some, refl, ap, subst, ◌∙◌}
-use Rattle.std.proofs.lemmas.Bool.{eqb-true, or_parts}
-use Rattle.std.proofs.lemmas.Option.{same_Some}
+use Rattle.flight_facts.proofs.Common.{eqb-true, same_Some, Context}
+use Rattle.std.proofs.lemmas.Bool.{or_parts}
 use Rattle.std.specs.Prelude.{ℕ}
 use Rattle.object_model.specs.Prelude.{is_same, is_named, any_named}
 use Rattle.object_model.proofs.Names.{none_common}
 use Rattle.selections.specs.Fair.{under}
-use Rattle.store_steps.specs.declared.context.Context.{Context}
 use Rattle.store_steps.specs.Prelude.{is_done, colls_of, chosen_behind, intent_of, intents, is_in}
 
 -- it stands among those that wait, and those before it have other names; so have these, which were taken before

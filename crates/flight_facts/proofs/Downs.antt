@@ -1,11 +1,7 @@
 -- A call that leaves the kernel up found it up.
 use Rattle.std.proofs.Common.{◌≡◌, ◌⊎◌, inl, inr, Bool, true, false, cond, Option, Some, None, is_some, refl, sym, ap, subst, ◌∙◌}
-use Rattle.block_device.specs.Prelude.{Disk, Reaped, Waited}
-use Rattle.block_device.specs.declared.device.Ticket.{Ticket}
-use Rattle.store_steps.specs.declared.flight.Flying.{Flying}
-use Rattle.store_steps.specs.declared.flight.Job.{Job}
+use Rattle.flight_facts.proofs.Common.{Disk, Reaped, Waited, Ticket, Flying, Job, Step}
 use Rattle.store_steps.specs.declared.flight.Job.TheVariants as job
-use Rattle.store_steps.specs.declared.step.Step.{Step}
 use Rattle.store_steps.specs.declared.step.Step.TheVariants.{Reap}
 use Rattle.store_steps.specs.Prelude.{State, after_done, after_good, flying_of, landed, down_by, reaped, Takes, Call, submitting, reading, stepping, Calls, DoesOrFails, Submits, Reads}
 use Rattle.flight_facts.proofs.Readiness.{Readiness, while_up, while_down, ready_cases}

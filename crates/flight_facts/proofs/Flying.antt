@@ -1,12 +1,10 @@
 -- What is in flight is what the device has in flight, as submissions come and go.
 use Rattle.std.proofs.Common.{◌≡◌, ℕ, ◌+◌, ◌≤◌, is_some, Bool, true, false, cond, not, ◌==◌, List, [], ◌∷◌, ◌++◌, length, map, filter, Option, Some, None, refl, sym, ap, subst, ◌∙◌, arith}
+use Rattle.flight_facts.proofs.Common.{Disk, Flight, flight_of, without, Reaped, Ticket, Flying, Job}
 use Rattle.std.proofs.lemmas.List.{map-append, length-map}
-use Rattle.block_device.specs.Prelude.{Disk, Flight, flight_of, without, Submitted, Reaped}
-use Rattle.block_device.specs.declared.device.Ticket.{Ticket}
+use Rattle.block_device.specs.Prelude.{Submitted}
 use Rattle.block_device.specs.declared.event.Event.{Event}
 use Rattle.block_device.specs.declared.event.Event.TheVariants as event
-use Rattle.store_steps.specs.declared.flight.Flying.{Flying}
-use Rattle.store_steps.specs.declared.flight.Job.{Job}
 use Rattle.store_steps.specs.Prelude.{State, flying_of, landed, reaped, after_done, after_good}
 use Rattle.flight_facts.specs.Prelude.{AreFlights}
 
@@ -76,31 +74,22 @@ module _ (ticket : Ticket) where
   abbrev other_numbers : List ℕ → List ℕ
   other_numbers ns = filter (λ n. not (n == ticket.place)) ns
 
-  flying_numbers : (fs : List Flying) → map (λ (f : Flying). f.ticket.place) (others_of ticket fs)
-      ≡ other_numbers (map (λ (f : Flying). f.ticket.place) fs)
-  flying_numbers [] = refl
-  flying_numbers (f ∷ fs) = of_test (is_its f) (flying_numbers fs)
+  numbers_left : {A : Type 0} (number : A → ℕ) (xs : List A) → map number (filter (λ x. not (number x == ticket.place)) xs) ≡ other_numbers (map number xs)
+  numbers_left number [] = refl
+  numbers_left {A} number (x ∷ xs) = of_test (number x == ticket.place) (numbers_left number xs)
     where
-      of_test : (b : Bool) → map (λ (g : Flying). g.ticket.place) (others_of ticket fs) ≡ other_numbers (map (λ (g : Flying). g.ticket.place) fs)
-          → map (λ (g : Flying). g.ticket.place) (cond (not b) (f ∷ others_of ticket fs) (others_of ticket fs))
-          ≡ cond (not b) (f.ticket.place ∷ other_numbers (map (λ (g : Flying). g.ticket.place) fs))
-          (other_numbers (map (λ (g : Flying). g.ticket.place) fs))
-      of_test true rest = rest
-      of_test false rest = ap (λ (ns : List ℕ). f.ticket.place ∷ ns) rest
+      left : List A
+      left = filter (λ y. not (number y == ticket.place)) xs
 
-  flight_numbers : (fs : List Flight) → map (λ (f : Flight). f.ticket) (without ticket.place fs) ≡ other_numbers (map (λ (f : Flight). f.ticket) fs)
-  flight_numbers [] = refl
-  flight_numbers (f ∷ fs) = of_test (f.ticket == ticket.place) (flight_numbers fs)
-    where
-      of_test : (b : Bool) → map (λ (g : Flight). g.ticket) (without ticket.place fs) ≡ other_numbers (map (λ (g : Flight). g.ticket) fs)
-          → map (λ (g : Flight). g.ticket) (cond (not b) (f ∷ without ticket.place fs) (without ticket.place fs))
-          ≡ cond (not b) (f.ticket ∷ other_numbers (map (λ (g : Flight). g.ticket) fs)) (other_numbers (map (λ (g : Flight). g.ticket) fs))
+      of_test : (b : Bool) → map number left ≡ other_numbers (map number xs)
+          → map number (cond (not b) (x ∷ left) left) ≡ cond (not b) (number x ∷ other_numbers (map number xs)) (other_numbers (map number xs))
       of_test true rest = rest
-      of_test false rest = ap (λ (ns : List ℕ). f.ticket ∷ ns) rest
+      of_test false rest = ap (λ (ns : List ℕ). number x ∷ ns) rest
 
   pub left_flights : (flying : List Flying) (flights : List Flight) → AreFlights flying flights
       → AreFlights (others_of ticket flying) (without ticket.place flights)
-  left_flights flying flights are = flying_numbers flying ∙ ap other_numbers are ∙ sym (flight_numbers flights)
+  left_flights flying flights are =
+      numbers_left (λ (f : Flying). f.ticket.place) flying ∙ ap other_numbers are ∙ sym (numbers_left (λ (f : Flight). f.ticket) flights)
 
 -- as many fly as the device has in flight
 pub same_count : (flying : List Flying) (flights : List Flight) → AreFlights flying flights → length flying ≡ length flights

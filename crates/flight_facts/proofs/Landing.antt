@@ -1,12 +1,7 @@
 -- What flies but for one: which it was, and what is left, by part.
 use Rattle.std.proofs.Common.{◌≡◌, ℕ, ◌+◌, Bool, true, false, cond, not, ◌==◌, List, [], ◌∷◌, ◌++◌, length, map, Some, refl, ap, subst, ◌∙◌, arith}
-use Rattle.std.specs.List.{AllByRecursion}
-use Rattle.std.proofs.lemmas.Bool.{eqb-true}
-use Rattle.block_device.specs.Prelude.{Flight, without}
-use Rattle.block_device.specs.declared.device.Ticket.{Ticket}
-use Rattle.store_steps.specs.declared.context.Context.{Context}
-use Rattle.store_steps.specs.declared.flight.Flying.{Flying}
-use Rattle.meta_store.specs.Store.{Meta}
+use Rattle.flight_facts.proofs.Common.{AllByRecursion, eqb-true, Flight, without, Ticket, Context, Flying, Meta}
+use Rattle.std.proofs.lemmas.List.Elements.{filter-append}
 use Rattle.store_steps.specs.Prelude.{flying_of}
 use Rattle.flight_facts.specs.Prelude.{AreFlights, units_flying, is_data, log_flying, IsOfJob, AreOfJobs}
 use Rattle.flight_facts.proofs.Flying.{others_of, none_out}
@@ -16,13 +11,7 @@ units_both place [] ys = omega arith
 units_both place (x ∷ xs) ys = omega (arith, units_both place xs ys)
 
 pub log_both : (xs ys : List Flying) → log_flying (xs ++ ys) ≡ log_flying xs ++ log_flying ys
-log_both [] ys = refl
-log_both (x ∷ xs) ys = of_test (is_data x.job) (log_both xs ys)
-  where
-    of_test : (b : Bool) → log_flying (xs ++ ys) ≡ log_flying xs ++ log_flying ys
-        → cond (not b) (x ∷ log_flying (xs ++ ys)) (log_flying (xs ++ ys)) ≡ cond (not b) (x ∷ log_flying xs) (log_flying xs) ++ log_flying ys
-    of_test true rest = rest
-    of_test false rest = ap (λ (zs : List Flying). x ∷ zs) rest
+log_both xs ys = filter-append (λ (f : Flying). not (is_data f.job)) xs ys
 
 -- the one of this ticket, and the others
 pub record IsLeftOut (ticket : Ticket) (fs : List Flying) : Type 0 where
@@ -67,16 +56,14 @@ pub jobs_then : (m m' : Meta) (pending later : List Context) (flying : List Flyi
     → AllByRecursion (λ f. (g : Flight) → IsOfJob m pending f.job g → IsOfJob m' later f.job g) flying
     → AreOfJobs m pending flying flights → AreOfJobs m' later flying flights
 jobs_then m m' pending later [] [] each are = tt
-jobs_then m m' pending later [] (g ∷ gs) each are = absurd are
-jobs_then m m' pending later (f ∷ fs) [] each are = absurd are
 jobs_then m m' pending later (f ∷ fs) (g ∷ gs) each are = (each.0 g are.0, jobs_then m m' pending later fs gs each.1 are.1)
+jobs_then m m' pending later fs gs each are = absurd are
 
 pub jobs_sent : (m : Meta) (pending : List Context) (flying : List Flying) (flights : List Flight) (f : Flying) (g : Flight)
     → AreOfJobs m pending flying flights → IsOfJob m pending f.job g → AreOfJobs m pending (flying ++ f ∷ []) (flights ++ g ∷ [])
 jobs_sent m pending [] [] f g are is = (is, tt)
-jobs_sent m pending [] (h ∷ hs) f g are is = absurd are
-jobs_sent m pending (e ∷ es) [] f g are is = absurd are
 jobs_sent m pending (e ∷ es) (h ∷ hs) f g are is = (are.0, jobs_sent m pending es hs f g are.1 is)
+jobs_sent m pending es hs f g are is = absurd are
 
 pub jobs_left : (m : Meta) (pending : List Context) (ticket : Ticket) (flying : List Flying) (flights : List Flight) → AreFlights flying flights
     → AreOfJobs m pending flying flights → AreOfJobs m pending (others_of ticket flying) (without ticket.place flights)

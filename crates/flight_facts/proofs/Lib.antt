@@ -1,3 +1,4 @@
+pub mod Common
 pub mod Untouched
 pub mod Lists
 pub mod Pieces

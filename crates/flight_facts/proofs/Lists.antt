@@ -1,13 +1,9 @@
 -- Lists taken apart: what holds of each or of some member, contexts by their places, and what flies but for one.
-use Rattle.std.proofs.Common.{◌≡◌, inl, inr, ℕ, zero, suc, ◌<◌, Bool, false, cond, not, ◌==◌, List, [], ◌∷◌, ◌++◌, map, take, refl, ap, ◌∙◌, arith}
-use Rattle.std.specs.List.{AllByRecursion}
-use Rattle.std.proofs.lemmas.Bool.{eq-eqb, ne_eqb}
+use Rattle.std.proofs.Common.{◌≡◌, inl, inr, ℕ, zero, suc, ◌+◌, ◌<◌, Bool, false, cond, not, ◌==◌, List, [], ◌∷◌, ◌++◌, map, take, length, refl, ap, subst, ◌∙◌, length-append, arith}
+use Rattle.flight_facts.proofs.Common.{AllByRecursion, eq-eqb, ne_eqb, Ascends, Context}
 use Rattle.std.proofs.lemmas.List.{map-append}
-use Rattle.unit_fields.specs.Prelude.{Ascends}
-use Rattle.store_steps.specs.declared.context.Context.{Context}
 use Rattle.store_steps.specs.Prelude.{with_context, without_context}
 use Rattle.flight_facts.specs.Prelude.{AnyByRecursion}
-use Rattle.flight_facts.proofs.Untouched.{all_then}
 
 -- ---- each member
 
@@ -27,6 +23,19 @@ pub all_take : {A : Type 0} (P : A → Type 0) (n : ℕ) (xs : List A) → AllBy
 all_take P zero xs all = tt
 all_take P (suc n) [] all = tt
 all_take P (suc n) (x ∷ xs) all = (all.0, all_take P n xs all.1)
+
+-- so it holds of the one in the middle
+pub all_at : {A : Type 0} (P : A → Type 0) (front : List A) (x : A) (back xs : List A) → xs ≡ front ++ x ∷ back → AllByRecursion P xs → P x
+all_at P front x back xs is all = (all_right P front (x ∷ back) (subst (AllByRecursion P) is all)).0
+
+-- ---- lengths
+
+pub length_push : {A : Type 0} (xs : List A) (y : A) → length (xs ++ y ∷ []) ≡ length xs + 1
+length_push xs y = length-append xs (y ∷ [])
+
+pub length_middle : {A : Type 0} (front : List A) (x : A) (back : List A) → length (front ++ x ∷ back) ≡ length (front ++ back) + 1
+length_middle [] x back = omega arith
+length_middle (y ∷ front) x back = omega (arith, length_middle front x back)
 
 -- ---- some member
 
@@ -48,11 +57,6 @@ pub stands_any : {A : Type 0} (P : A → Type 0) (front : List A) (x : A) (back 
 stands_any P [] x back here = inl here
 stands_any P (y ∷ front) x back here = inr (stands_any P front x back here)
 
-pub any_map : {A : Type 0} (P Q : A → Type 0) (f : A → A) → ((x : A) → P x → Q (f x)) → (xs : List A) → AnyByRecursion P xs → AnyByRecursion Q (map f xs)
-any_map P Q f then [] any = absurd any
-any_map P Q f then (x ∷ xs) (inl here) = inl (then x here)
-any_map P Q f then (x ∷ xs) (inr more) = inr (any_map P Q f then xs more)
-
 pub any_front : {A : Type 0} (P : A → Type 0) (xs ys : List A) → AnyByRecursion P xs → AnyByRecursion P (xs ++ ys)
 any_front P [] ys any = absurd any
 any_front P (x ∷ xs) ys (inl here) = inl here
@@ -60,32 +64,26 @@ any_front P (x ∷ xs) ys (inr more) = inr (any_front P xs ys more)
 
 -- ---- contexts by their places
 
+-- none of the others stands at this place
 pub record AreElsewhere (place : ℕ) (front back : List Context) : Type 0 where
-  pub ahead : AllByRecursion (λ y. y.place < place) front
-  pub behind : AllByRecursion (λ y. place < y.place) back
+  pub ahead : AllByRecursion (λ y. y.place == place ≡ false) front
+  pub behind : AllByRecursion (λ y. y.place == place ≡ false) back
 
-all_map : (P : ℕ → Type 0) (xs : List Context) → AllByRecursion P (map (λ x. x.place) xs) → AllByRecursion (λ x. P x.place) xs
-all_map P [] all = tt
-all_map P (x ∷ xs) all = (all.0, all_map P xs all.1)
+behind_all : (place : ℕ) (xs : List Context) → AllByRecursion (λ v. place < v) (map (λ x. x.place) xs) → AllByRecursion (λ y. y.place == place ≡ false) xs
+behind_all place [] all = tt
+behind_all place (x ∷ xs) all = (ne_eqb x.place place (omega (arith, all.0)), behind_all place xs all.1)
 
-middle_of : (P : Context → Type 0) (front : List Context) (x : Context) (back : List Context) → AllByRecursion P (front ++ x ∷ back) → P x
-middle_of P front x back all = (all_right P front (x ∷ back) all).0
+below_middle : (place : ℕ) (front : List Context) (x : Context) (back : List Context)
+    → AllByRecursion (λ v. place < v) (map (λ y. y.place) (front ++ x ∷ back)) → place < x.place
+below_middle place [] x back all = all.0
+below_middle place (y ∷ front) x back all = below_middle place front x back all.1
 
 pub elsewhere : (front : List Context) (x : Context) (back : List Context) → Ascends (map (λ x. x.place) (front ++ x ∷ back))
     → AreElsewhere x.place front back
-elsewhere [] x back up = record { ahead = tt; behind = all_map (λ v. x.place < v) back up.0 }
+elsewhere [] x back up = record { ahead = tt; behind = behind_all x.place back up.0 }
 elsewhere (y ∷ front) x back up =
     let rest : AreElsewhere x.place front back = elsewhere front x back up.1 in
-    record {
-      ahead = (middle_of (λ z. y.place < z.place) front x back (all_map (λ v. y.place < v) (front ++ x ∷ back) up.0), rest.ahead);
-      behind = rest.behind;
-    }
-
-pub before_all : (place : ℕ) (xs : List Context) → AllByRecursion (λ y. y.place < place) xs → AllByRecursion (λ y. y.place == place ≡ false) xs
-before_all place xs all = all_then (λ y. y.place < place) (λ y. y.place == place ≡ false) (λ y lt. ne_eqb y.place place (omega (arith, lt))) xs all
-
-pub behind_all : (place : ℕ) (xs : List Context) → AllByRecursion (λ y. place < y.place) xs → AllByRecursion (λ y. y.place == place ≡ false) xs
-behind_all place xs all = all_then (λ y. place < y.place) (λ y. y.place == place ≡ false) (λ y lt. ne_eqb y.place place (omega (arith, lt))) xs all
+    record { ahead = (ne_eqb y.place x.place (omega (arith, below_middle y.place front x back up.0)), rest.ahead); behind = rest.behind }
 
 with_away : (place : ℕ) (change : Context → Context) (xs : List Context) → AllByRecursion (λ y. y.place == place ≡ false) xs → with_context place change xs ≡ xs
 with_away place change [] away = refl
@@ -99,21 +97,31 @@ without_away place (x ∷ xs) away =
     ∙ ap (λ (ys : List Context). x ∷ ys) (without_away place xs away.1)
 
 -- the context at its place is changed, and no other
-pub with_at : (change : Context → Context) (front : List Context) (x : Context) (back : List Context) → AreElsewhere x.place front back
+with_at : (change : Context → Context) (front : List Context) (x : Context) (back : List Context) → AreElsewhere x.place front back
     → with_context x.place change (front ++ x ∷ back) ≡ front ++ change x ∷ back
 with_at change front x back others =
     map-append (λ (y : Context). cond (y.place == x.place) (change y) y) front (x ∷ back)
-    ∙ ap (λ (ys : List Context). ys ++ with_context x.place change (x ∷ back)) (with_away x.place change front (before_all x.place front others.ahead))
+    ∙ ap (λ (ys : List Context). ys ++ with_context x.place change (x ∷ back)) (with_away x.place change front others.ahead)
     ∙ ap (λ (b : Bool). front ++ cond b (change x) x ∷ with_context x.place change back) (eq-eqb x.place x.place refl)
-    ∙ ap (λ (ys : List Context). front ++ change x ∷ ys) (with_away x.place change back (behind_all x.place back others.behind))
+    ∙ ap (λ (ys : List Context). front ++ change x ∷ ys) (with_away x.place change back others.behind)
+
+-- so it is in contexts whose places ascend
+pub with_in : (change : Context → Context) (front : List Context) (x : Context) (back xs : List Context) → xs ≡ front ++ x ∷ back
+    → Ascends (map (λ y. y.place) xs) → with_context x.place change xs ≡ front ++ change x ∷ back
+with_in change front x back xs is up = ap (with_context x.place change) is
+    ∙ with_at change front x back (elsewhere front x back (subst (λ (ys : List Context). Ascends (map (λ y. y.place) ys)) is up))
 
 -- it is left out, and no other
-pub without_at : (front : List Context) (x : Context) (back : List Context) → AreElsewhere x.place front back
+without_at : (front : List Context) (x : Context) (back : List Context) → AreElsewhere x.place front back
     → without_context x.place (front ++ x ∷ back) ≡ front ++ back
 without_at [] x back others =
     ap (λ (b : Bool). cond (not b) (x ∷ without_context x.place back) (without_context x.place back)) (eq-eqb x.place x.place refl)
-    ∙ without_away x.place back (behind_all x.place back others.behind)
+    ∙ without_away x.place back others.behind
 without_at (y ∷ front) x back others =
     ap (λ (b : Bool). cond (not b) (y ∷ without_context x.place (front ++ x ∷ back)) (without_context x.place (front ++ x ∷ back)))
-    (before_all x.place (y ∷ front) others.ahead).0
-    ∙ ap (λ (ys : List Context). y ∷ ys) (without_at front x back (record { ahead = others.ahead.1; behind = others.behind }))
+    others.ahead.0 ∙ ap (λ (ys : List Context). y ∷ ys) (without_at front x back (record { ahead = others.ahead.1; behind = others.behind }))
+
+pub without_in : (front : List Context) (x : Context) (back xs : List Context) → xs ≡ front ++ x ∷ back → Ascends (map (λ y. y.place) xs)
+    → without_context x.place xs ≡ front ++ back
+without_in front x back xs is up = ap (without_context x.place) is
+    ∙ without_at front x back (elsewhere front x back (subst (λ (ys : List Context). Ascends (map (λ y. y.place) ys)) is up))

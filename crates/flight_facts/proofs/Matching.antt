@@ -1,22 +1,13 @@
 -- Each step keeps what is in flight, part by part, for any number of contexts.
 use Rattle.std.proofs.Common.{◌≡◌, inl, inr, ℕ, ◌+◌, ◌-◌, ◌*◌, ◌<◌, ◌≤◌, Bool, true, false, cond, not, List, [], ◌∷◌, ◌++◌, length, Option, Some, None, refl, sym, ap, subst, ◌∙◌, arith}
-use Rattle.std.specs.List.{AllByRecursion}
-use Rattle.std.proofs.lemmas.Bool.{cases_lt}
+use Rattle.flight_facts.proofs.Common.{AllByRecursion, cases_lt, Flight, flight_of, Ticket, unit_count, record_units, active_unit, piece_count, given_from, piece_first, piece_units, LiesInRecord, Context, Flying, Job, Meta, Begun, is_flushed}
 use Rattle.byte_maps.proofs.Prelude.{length-units_from}
-use Rattle.block_device.specs.Prelude.{Flight, flight_of}
-use Rattle.block_device.specs.declared.device.Ticket.{Ticket}
 use Rattle.block_device.specs.declared.event.Event.TheVariants as event
-use Rattle.meta_log.specs.Prelude.{unit_count, record_units, active_unit, piece_count, given_from, piece_first, piece_units, LiesInRecord}
 use Rattle.meta_log.proofs.PieceLemmas.{lies}
 use Rattle.meta_log.proofs.SealLemmas.{length-record_units}
-use Rattle.store_steps.specs.declared.context.Context.{Context}
 use Rattle.store_steps.specs.declared.flight.FlushState.TheVariants as flush
-use Rattle.store_steps.specs.declared.flight.Flying.{Flying}
-use Rattle.store_steps.specs.declared.flight.Job.{Job}
 use Rattle.store_steps.specs.declared.flight.Job.TheVariants as job
-use Rattle.meta_store.specs.Store.{Meta, Begun}
 use Rattle.store_steps.specs.Prelude.{Batch, State, batch_ops, flush_sent, record_sent, sync_sent, sealed, log_after, committed_batch, is_not_sent, pieces_of, piece_unit, piece_bytes}
-use Rattle.store_steps.specs.Ready.{is_flushed}
 use Rattle.flight_facts.specs.Prelude.{IsUnderWay, units_for, units_flying, is_data, log_flying, IsPartGiven, IsBatchOpen, IsLogFar, IsWriteOf, IsPieceOf, IsOfJob, AreOfJobs, FlightsMatch}
 use Rattle.flight_facts.proofs.Untouched.{all_then, apart_before, apart_behind}
 use Rattle.flight_facts.proofs.Landing.{units_both, log_both, jobs_then, jobs_sent}
@@ -59,65 +50,69 @@ jobs_change m m' pending later writes pieces flying flights =
     by job.DataFlush g is = is
     by job.RecordFlush g is = is
 
+-- ---- the log, where a batch is open
+
+-- how far it is
+pub open_far : (s : State) (flights : List Flight) (b : Batch) → Matches s flights → s.batch ≡ Some b
+    → IsBatchOpen s.log.number b s.log.begun (log_flying s.flying)
+open_far s flights b m is = subst (λ (o : Option Batch). IsLogFar s.log.number o s.log.begun (log_flying s.flying)) is m.log
+
+-- and with its record, or where none is made
+pub begun_far : (s : State) (flights : List Flight) (b : Batch) (o : Option Begun) → Matches s flights → s.batch ≡ Some b → s.log.begun ≡ o
+    → IsUnderWay b.first b.second (piece_count (unit_count s.log.number (batch_ops b))) (batch_ops b) o (log_flying s.flying)
+begun_far s flights b o m is begun =
+    subst (λ (o : Option Begun). IsUnderWay b.first b.second (piece_count (unit_count s.log.number (batch_ops b))) (batch_ops b) o (log_flying s.flying))
+    begun (open_far s flights b m is).far
+
+-- one more submission for it
+log_sent : (s : State) (flights : List Flight) (f : Flying) (g : Flight) (m' : Meta) (batch : Option Batch) → ((place : ℕ) → units_for place f.job ≡ 0)
+    → Matches s flights → IsLogFar m'.number batch m'.begun (log_flying s.flying ++ log_flying (f ∷ [])) → AreOfJobs m' s.pending s.flying flights
+    → IsOfJob m' s.pending f.job g → FlightsMatch m' (length s.book.entries) s.pending batch (s.flying ++ f ∷ []) (flights ++ g ∷ [])
+log_sent s flights f g m' batch none m far touches is = record {
+  places = m.places;
+  waiting = waiting_same s.flying (s.flying ++ f ∷ []) s.pending
+      (every (λ x. units_flying x.place (s.flying ++ f ∷ []) ≡ units_flying x.place s.flying) (λ x. log_units x.place s.flying f (none x.place)) s.pending) m.waiting;
+  log = subst (IsLogFar m'.number batch m'.begun) (sym (log_both s.flying (f ∷ []))) far;
+  touches = jobs_sent m' s.pending s.flying flights f g touches is;
+}
+
 -- ---- the two flushes
 
 pub flush_matches : (s : State) (flights : List Flight) (b : Batch) (ticket : Ticket) → Matches s flights → s.batch ≡ Some b → is_not_sent b.first ≡ true
     → Matches (flush_sent b ticket s) (flights ++ flight_of ticket.place event.Flush ∷ [])
 flush_matches s flights b ticket m is ready =
-    let f : Flying = flushing ticket job.DataFlush in
-    let opened : IsBatchOpen s.log.number b s.log.begun (log_flying s.flying) =
-    subst (λ (o : Option Batch). IsLogFar s.log.number o s.log.begun (log_flying s.flying)) is m.log in
-    let pieces : ℕ = piece_count (unit_count s.log.number (batch_ops b)) in
-    record {
-      places = m.places;
-      waiting = waiting_same s.flying (s.flying ++ f ∷ []) s.pending
-          (every (λ x. units_flying x.place (s.flying ++ f ∷ []) ≡ units_flying x.place s.flying) (λ x. log_units x.place s.flying f refl) s.pending) m.waiting;
-      log = record {
-        needed = opened.needed;
-        written = opened.written;
-        far = subst (λ (fs : List Flying). IsUnderWay (flush.Sent ticket) b.second pieces (batch_ops b) s.log.begun fs) (sym (log_both s.flying (f ∷ [])))
-            (flush_way b.first b.second pieces (batch_ops b) s.log.begun (log_flying s.flying) ticket ready opened.far);
-      };
-      touches = jobs_sent s.log s.pending s.flying flights f (flight_of ticket.place event.Flush) m.touches refl;
-    }
+    let opened = open_far s flights b m is in
+    log_sent s flights (flushing ticket job.DataFlush) (flight_of ticket.place event.Flush) s.log (flush_sent b ticket s).batch (λ place. refl) m (record {
+      needed = opened.needed;
+      written = opened.written;
+      far = flush_way b.first b.second _ (batch_ops b) s.log.begun (log_flying s.flying) ticket ready opened.far;
+    }) m.touches refl
 
 pub sync_matches : (s : State) (flights : List Flight) (b : Batch) (r : Begun) (ticket : Ticket) → Matches s flights → s.batch ≡ Some b → s.log.begun ≡ Some r
     → is_not_sent b.second ≡ true → r.written ≡ pieces_of s.log.number r → Matches (sync_sent b ticket s) (flights ++ flight_of ticket.place event.Flush ∷ [])
 sync_matches s flights b r ticket m is begun ready all =
-    let f : Flying = flushing ticket job.RecordFlush in
-    let opened : IsBatchOpen s.log.number b s.log.begun (log_flying s.flying) =
-    subst (λ (o : Option Batch). IsLogFar s.log.number o s.log.begun (log_flying s.flying)) is m.log in
+    let opened = open_far s flights b m is in
+    let more : List Flying = log_flying s.flying ++ flushing ticket job.RecordFlush ∷ [] in
     let pieces : ℕ = piece_count (unit_count s.log.number (batch_ops b)) in
-    record {
-      places = m.places;
-      waiting = waiting_same s.flying (s.flying ++ f ∷ []) s.pending
-          (every (λ x. units_flying x.place (s.flying ++ f ∷ []) ≡ units_flying x.place s.flying) (λ x. log_units x.place s.flying f refl) s.pending) m.waiting;
-      log = record {
-        needed = opened.needed;
-        written = opened.written;
-        far = subst (λ (o : Option Begun). IsUnderWay b.first (flush.Sent ticket) pieces (batch_ops b) o (log_flying (s.flying ++ f ∷ []))) (sym begun)
-            (subst (λ (fs : List Flying). IsUnderWay b.first (flush.Sent ticket) pieces (batch_ops b) (Some r) fs) (sym (log_both s.flying (f ∷ [])))
-            (sync_way b.first b.second s.log.number (batch_ops b) r (log_flying s.flying) ticket ready all
-            (subst (λ (o : Option Begun). IsUnderWay b.first b.second pieces (batch_ops b) o (log_flying s.flying)) begun opened.far)));
-      };
-      touches = jobs_sent s.log s.pending s.flying flights f (flight_of ticket.place event.Flush) m.touches refl;
-    }
+    log_sent s flights (flushing ticket job.RecordFlush) (flight_of ticket.place event.Flush) s.log (sync_sent b ticket s).batch (λ place. refl) m (record {
+      needed = opened.needed;
+      written = opened.written;
+      far = subst (λ (o : Option Begun). IsUnderWay b.first (flush.Sent ticket) pieces (batch_ops b) o more) (sym begun)
+          (sync_way b.first b.second s.log.number (batch_ops b) r (log_flying s.flying) ticket ready all (begun_far s flights b (Some r) m is begun));
+    }) m.touches refl
 
 -- ---- the record
 
 pub seal_matches : (s : State) (flights : List Flight) (b : Batch) → Matches s flights → s.batch ≡ Some b → s.log.begun ≡ None → Matches (sealed b s) flights
 seal_matches s flights b m is none =
-    let opened : IsBatchOpen s.log.number b s.log.begun (log_flying s.flying) =
-    subst (λ (o : Option Batch). IsLogFar s.log.number o s.log.begun (log_flying s.flying)) is m.log in
-    let pieces : ℕ = piece_count (unit_count s.log.number (batch_ops b)) in
+    let opened = open_far s flights b m is in
     record {
       places = m.places;
       waiting = m.waiting;
       log = subst (λ (o : Option Batch). IsLogFar s.log.number o (sealed b s).log.begun (log_flying s.flying)) (sym is) (record {
         needed = opened.needed;
         written = opened.written;
-        far = seal_way b.first b.second pieces (batch_ops b) (log_flying s.flying)
-            (subst (λ (o : Option Begun). IsUnderWay b.first b.second pieces (batch_ops b) o (log_flying s.flying)) none opened.far);
+        far = seal_way b.first b.second _ (batch_ops b) (log_flying s.flying) (begun_far s flights b None m is none);
       });
       touches = jobs_change s.log (sealed b s).log s.pending s.pending (λ place count g w. w)
           (λ g p. absurd (subst (λ (o : Option Begun). IsPieceOf s.log o g) none p)) s.flying flights m.touches;
@@ -187,33 +182,23 @@ pub record_matches : (s : State) (flights : List Flight) (b : Batch) (r : Begun)
     → s.log.begun ≡ Some r → is_flushed b.first ≡ true → r.given < pieces_of s.log.number r
     → Matches (record_sent r ticket s) (flights ++ flight_of ticket.place (event.Write (piece_unit s.log r) (piece_bytes s.log.number r)) ∷ [])
 record_matches s flights b r ticket m is begun ready more =
-    let f : Flying = flushing ticket job.Record in
-    let opened : IsBatchOpen s.log.number b s.log.begun (log_flying s.flying) =
-    subst (λ (o : Option Batch). IsLogFar s.log.number o s.log.begun (log_flying s.flying)) is m.log in
-    let pieces : ℕ = piece_count (unit_count s.log.number (batch_ops b)) in
-    let then : Option Begun = Some (record r { given = r.given + 1 }) in
-    let m' : Meta = record s.log { begun = then } in
-    record {
-      places = m.places;
-      waiting = waiting_same s.flying (s.flying ++ f ∷ []) s.pending
-          (every (λ x. units_flying x.place (s.flying ++ f ∷ []) ≡ units_flying x.place s.flying) (λ x. log_units x.place s.flying f refl) s.pending) m.waiting;
-      log = subst (λ (o : Option Batch). IsLogFar s.log.number o then (log_flying (s.flying ++ f ∷ []))) (sym is) (record {
-        needed = opened.needed;
-        written = opened.written;
-        far = subst (λ (fs : List Flying). IsUnderWay b.first b.second pieces (batch_ops b) then fs) (sym (log_both s.flying (f ∷ [])))
-            (record_way b.first b.second s.log.number (batch_ops b) r (log_flying s.flying) ticket ready more
-            (subst (λ (o : Option Begun). IsUnderWay b.first b.second pieces (batch_ops b) o (log_flying s.flying)) begun opened.far));
-      });
-      touches = jobs_sent m' s.pending s.flying flights f (flight_of ticket.place (event.Write (piece_unit s.log r) (piece_bytes s.log.number r)))
-          (jobs_change s.log m' s.pending s.pending (λ place count g w. w)
-          (λ g p. pieces_more s.log r g (subst (λ (o : Option Begun). IsPieceOf s.log o g) begun p)) s.flying flights m.touches)
-          (piece_of_record s.log r ticket.place more);
-    }
+    let opened = open_far s flights b m is in
+    let m' : Meta = (record_sent r ticket s).log in
+    let g : Flight = flight_of ticket.place (event.Write (piece_unit s.log r) (piece_bytes s.log.number r)) in
+    log_sent s flights (flushing ticket job.Record) g m' s.batch (λ place. refl) m
+    (subst (λ (o : Option Batch). IsLogFar s.log.number o m'.begun (log_flying s.flying ++ flushing ticket job.Record ∷ [])) (sym is) (record {
+      needed = opened.needed;
+      written = opened.written;
+      far = record_way b.first b.second s.log.number (batch_ops b) r (log_flying s.flying) ticket ready more (begun_far s flights b (Some r) m is begun);
+    }))
+    (jobs_change s.log m' s.pending s.pending (λ place count g w. w)
+    (λ g p. pieces_more s.log r g (subst (λ (o : Option Begun). IsPieceOf s.log o g) begun p)) s.flying flights m.touches)
+    (piece_of_record s.log r ticket.place more)
 
 -- ---- Commit
 
 -- where nothing flies for the log, only data writes fly
-pub only_data : (fs : List Flying) → log_flying fs ≡ [] → AllByRecursion (λ f. is_data f.job ≡ true) fs
+only_data : (fs : List Flying) → log_flying fs ≡ [] → AllByRecursion (λ f. is_data f.job ≡ true) fs
 only_data [] none = tt
 only_data (f ∷ fs) none = of_test (λ e. only_data fs e) (is_data f.job) refl none
   where
@@ -222,23 +207,26 @@ only_data (f ∷ fs) none = of_test (λ e. only_data fs e) (is_data f.job) refl 
     of_test rest true e n = (e, rest n)
     of_test rest false e n = absurd (cc)
 
-pub data_jobs : (m m' : Meta) (pending : List Context) (j : Job) (g : Flight) → is_data j ≡ true → IsOfJob m pending j g → IsOfJob m' pending j g
+data_jobs : (m m' : Meta) (pending : List Context) (j : Job) (g : Flight) → is_data j ≡ true → IsOfJob m pending j g → IsOfJob m' pending j g
 data_jobs m m' pending (job.Data place count) g is of = of
 data_jobs m m' pending job.Record g is of = absurd (cc)
 data_jobs m m' pending job.DataFlush g is of = of
 data_jobs m m' pending job.RecordFlush g is of = of
 
+-- so what flies touches what it touches, whatever the log is
+pub data_alone : (m m' : Meta) (pending : List Context) (flying : List Flying) (flights : List Flight) → log_flying flying ≡ []
+    → AreOfJobs m pending flying flights → AreOfJobs m' pending flying flights
+data_alone m m' pending flying flights none = jobs_then m m' pending pending flying flights
+    (all_then (λ f. is_data f.job ≡ true) (λ f. (g : Flight) → IsOfJob m pending f.job g → IsOfJob m' pending f.job g)
+    (λ f e g of. data_jobs m m' pending f.job g e of) flying (only_data flying none))
+
 pub commit_matches : (s : State) (flights : List Flight) (b : Batch) → Matches s flights → s.batch ≡ Some b → is_flushed b.second ≡ true
     → Matches (committed_batch b s) flights
 commit_matches s flights b m is ready =
-    let opened : IsBatchOpen s.log.number b s.log.begun (log_flying s.flying) =
-    subst (λ (o : Option Batch). IsLogFar s.log.number o s.log.begun (log_flying s.flying)) is m.log in
-    let done = synced_way b.first b.second (piece_count (unit_count s.log.number (batch_ops b))) (batch_ops b) s.log.begun (log_flying s.flying) ready opened.far in
+    let done = synced_way b.first b.second _ (batch_ops b) s.log.begun (log_flying s.flying) ready (open_far s flights b m is).far in
     record {
       places = m.places;
       waiting = m.waiting;
       log = (refl, done.2);
-      touches = jobs_then s.log (log_after b s.log) s.pending s.pending s.flying flights
-          (all_then (λ f. is_data f.job ≡ true) (λ f. (g : Flight) → IsOfJob s.log s.pending f.job g → IsOfJob (log_after b s.log) s.pending f.job g)
-          (λ f e g of. data_jobs s.log (log_after b s.log) s.pending f.job g e of) s.flying (only_data s.flying done.2)) m.touches;
+      touches = data_alone s.log (log_after b s.log) s.pending s.flying flights done.2 m.touches;
     }

@@ -1,29 +1,16 @@
 -- Data, Take, and the ends of submissions, of any number of contexts; a transaction that joins.
 use Rattle.std.proofs.Common.{◌≡◌, inl, inr, ℕ, ◌+◌, ◌<◌, ◌≤◌, ◌==◌, Bool, true, false, cond, not, List, [], ◌∷◌, ◌++◌, length, map, take, Option, Some, None, refl, sym, ap, subst, ◌∙◌, append-nil, arith}
-use Rattle.std.specs.List.{AllByRecursion}
-use Rattle.std.specs.Option.{option_map, option_or}
-use Rattle.std.proofs.lemmas.Bool.{eq-eqb, ne_eqb, cases_lt}
+use Rattle.flight_facts.proofs.Common.{AllByRecursion, option_map, option_or, eq-eqb, ne_eqb, cases_lt, Ascends, Flight, flight_of, without, IsApart, Ticket, unit_count, piece_count, FreshUnit, Context, FlushState, Flying, Job, RowOp, Meta, Begun}
 use Rattle.std.proofs.lemmas.List.{map-append}
-use Rattle.unit_fields.specs.Prelude.{Ascends}
-use Rattle.block_device.specs.Prelude.{Flight, flight_of, without, IsApart}
-use Rattle.block_device.specs.declared.device.Ticket.{Ticket}
 use Rattle.block_device.specs.declared.event.Event.TheVariants as event
-use Rattle.meta_log.specs.Prelude.{unit_count, piece_count}
-use Rattle.plan_rows.specs.declared.plan.FreshUnit.{FreshUnit}
-use Rattle.store_steps.specs.declared.context.Context.{Context}
-use Rattle.store_steps.specs.declared.flight.FlushState.{FlushState}
 use Rattle.store_steps.specs.declared.flight.FlushState.TheVariants as flush
-use Rattle.store_steps.specs.declared.flight.Flying.{Flying}
-use Rattle.store_steps.specs.declared.flight.Job.{Job}
 use Rattle.store_steps.specs.declared.flight.Job.TheVariants as job
-use Rattle.meta_rows.specs.declared.row_op.RowOp.{RowOp}
-use Rattle.meta_store.specs.Store.{Meta, Begun}
-use Rattle.store_steps.specs.Prelude.{Batch, State, Unsent, unsent_units, run_bytes, unsent, next_unsent, chosen, with_context, without_context, given_more, done_more, batch_ops, data_sent, after_done, taken_up, written_more, first_flushed, second_flushed, intent_of}
-use Rattle.flight_facts.specs.Prelude.{AreFlights, IsNotGiven, IsUnderWay, units_for, units_flying, is_data, log_flying, IsPartGiven, AreInPlace, IsLogFar, IsNone, TouchesGiven, AnyByRecursion, IsWriteOf, IsPieceOf, IsOfJob, AreOfJobs, FlightsMatch, FitsRecord}
+use Rattle.store_steps.specs.Prelude.{Batch, State, Unsent, unsent_units, run_bytes, unsent, next_unsent, chosen, with_context, given_more, done_more, batch_ops, data_sent, after_done, taken_up, written_more, first_flushed, second_flushed, intent_of}
+use Rattle.flight_facts.specs.Prelude.{AreFlights, IsNotGiven, IsUnderWay, units_for, units_flying, is_data, log_flying, IsPartGiven, AreInPlace, IsBatchOpen, IsLogFar, IsNone, TouchesGiven, AnyByRecursion, IsWriteOf, IsPieceOf, IsOfJob, AreOfJobs, FlightsMatch, FitsRecord}
 use Rattle.flight_facts.proofs.Untouched.{all_then, apart_before, apart_behind}
-use Rattle.flight_facts.proofs.RunUnits.{IsRunOf, run_of_left, row_bytes, row_at, all_front, given_units}
+use Rattle.flight_facts.proofs.RunUnits.{IsRunOf, run_of_left, row_bytes, row_at, given_units}
 use Rattle.flight_facts.proofs.RunPlaces.{run_whole}
-use Rattle.flight_facts.proofs.Lists.{all_left, all_right, all_join, StandsIn, any_stands, stands_any, any_front, AreElsewhere, elsewhere, before_all, behind_all, with_at, without_at}
+use Rattle.flight_facts.proofs.Lists.{all_left, all_right, all_join, StandsIn, any_stands, stands_any, any_front, all_at, AreElsewhere, elsewhere, with_in, without_in}
 use Rattle.flight_facts.proofs.Flying.{others_of}
 use Rattle.flight_facts.proofs.Landing.{units_both, log_both, IsLeftOut, jobs_then, jobs_sent, jobs_left, IsFlown, jobs_found}
 use Rattle.flight_facts.proofs.Underway.{flushing, Flies, first_flies, piece_flies, second_flies, what_flies, first_ended, no_front}
@@ -60,11 +47,6 @@ more_fly flying f xs none = all_then (λ y. units_for y.place f.job ≡ 0) (λ y
     less : (n m : ℕ) → m ≡ 0 → n + (m + 0) ≡ n
     less n m is = omega (arith, is)
 
--- one context in the middle is another one, of the same place
-pub record AreChanged (x y : Context) (front back : List Context) : Type 0 where
-  pub place : y.place ≡ x.place
-  pub others : AreElsewhere x.place front back
-
 places_as : (x y : Context) (front back : List Context) → y.place ≡ x.place
     → map (λ (z : Context). z.place) (front ++ y ∷ back) ≡ map (λ (z : Context). z.place) (front ++ x ∷ back)
 places_as x y front back same = map-append (λ (z : Context). z.place) front (y ∷ back)
@@ -98,7 +80,7 @@ run_touches u run ticket unit whole none = elim (cases_lt unit u) [
 -- what touches given units touches units that are given then
 touches_more : (x : Context) (n : Unsent) (g : Flight) → IsRunOf x n → TouchesGiven x g → TouchesGiven (given_more (length (unsent_units n)) x) g
 touches_more x n g run touches unit none =
-    touches unit (all_front (λ f. ¬ (f.unit ≡ unit)) (take x.given x.fresh) (unsent_units n)
+    touches unit (all_left (λ f. ¬ (f.unit ≡ unit)) (take x.given x.fresh) (unsent_units n)
     (subst (λ (fs : List FreshUnit). IsNone fs unit) (given_units x n run) none))
 
 run_of_given : (x : Context) (n : Unsent) (ticket : ℕ) → IsRunOf x n → FitsRecord (intent_of x)
@@ -124,6 +106,27 @@ writes_more front x y back same more place count g w = record { some = w.some; o
     from (f ∷ fs) (inl here) = inl here
     from (f ∷ fs) (inr rest) = inr (from fs rest)
 
+-- one context has changed with what flies, and the units of no other that fly
+one_changed : (s : State) (flights : List Flight) (front : List Context) (x y : Context) (back : List Context) (flying' : List Flying) (flights' : List Flight)
+    → s.pending ≡ front ++ x ∷ back → Matches s flights → y.place ≡ x.place
+    → ((xs : List Context) → AllByRecursion (λ z. z.place == x.place ≡ false) xs → AllByRecursion (λ z. units_flying z.place flying' ≡ units_flying z.place s.flying) xs)
+    → (IsPartGiven s.flying x → IsPartGiven flying' y) → log_flying flying' ≡ log_flying s.flying
+    → (AreOfJobs s.log (front ++ x ∷ back) s.flying flights → AreOfJobs s.log (front ++ y ∷ back) flying' flights')
+    → FlightsMatch s.log (length s.book.entries) (front ++ y ∷ back) s.batch flying' flights'
+one_changed s flights front x y back flying' flights' is m same others part log touches =
+    let places : AreInPlace (length s.book.entries) (front ++ x ∷ back) = subst (AreInPlace (length s.book.entries)) is m.places in
+    let away : AreElsewhere x.place front back = elsewhere front x back places.ascend in
+    let waiting : AllByRecursion (IsPartGiven s.flying) (front ++ x ∷ back) = subst (AllByRecursion (IsPartGiven s.flying)) is m.waiting in
+    let behind : AllByRecursion (IsPartGiven s.flying) (x ∷ back) = all_right (IsPartGiven s.flying) front (x ∷ back) waiting in
+    record {
+      places = in_place_as (length s.book.entries) x y front back same places;
+      waiting = all_join (IsPartGiven flying') front (y ∷ back)
+          (waiting_same s.flying flying' front (others front away.ahead) (all_left (IsPartGiven s.flying) front (x ∷ back) waiting))
+          (part behind.0, waiting_same s.flying flying' back (others back away.behind) behind.1);
+      log = subst (IsLogFar s.log.number s.batch s.log.begun) (sym log) m.log;
+      touches = touches (subst (λ (xs : List Context). AreOfJobs s.log xs s.flying flights) is m.touches);
+    }
+
 data_among : (s : State) (flights : List Flight) (n : Unsent) (ticket : Ticket) (front : List Context) (x : Context) (back : List Context)
     → s.pending ≡ front ++ x ∷ back → IsRunOf x n → FitsRecord (intent_of x) → Matches s flights
     → FlightsMatch s.log (length s.book.entries) (front ++ given_more (length (unsent_units n)) x ∷ back) s.batch
@@ -134,30 +137,16 @@ data_among s flights n ticket front x back is run fits m =
     let y : Context = given_more count x in
     let f : Flying = flushing ticket (job.Data x.place count) in
     let g : Flight = flight_of ticket.place (event.Write n.first.unit (run_bytes (unsent_units n))) in
-    let places : AreInPlace (length s.book.entries) (front ++ x ∷ back) = subst (AreInPlace (length s.book.entries)) is m.places in
-    let others : AreElsewhere x.place front back = elsewhere front x back places.ascend in
-    let waiting : AllByRecursion (IsPartGiven s.flying) (front ++ x ∷ back) = subst (AllByRecursion (IsPartGiven s.flying)) is m.waiting in
-    let behind : AllByRecursion (IsPartGiven s.flying) (x ∷ back) = all_right (IsPartGiven s.flying) front (x ∷ back) waiting in
-    record {
-      places = in_place_as (length s.book.entries) x y front back refl places;
-      waiting = all_join (IsPartGiven (s.flying ++ f ∷ [])) front (y ∷ back)
-          (waiting_same s.flying (s.flying ++ f ∷ []) front (more_fly s.flying f front (others_none count x.place front (before_all x.place front others.ahead)))
-          (all_left (IsPartGiven s.flying) front (x ∷ back) waiting)) (
-            record {
-              within = run.within;
-              counted = counted x.done (units_flying x.place s.flying) x.given count _ _ (behind.0).counted
-                  (units_both x.place s.flying (f ∷ [])) (ap (λ (b : Bool). cond b count 0) (eq-eqb x.place x.place refl));
-            },
-            waiting_same s.flying (s.flying ++ f ∷ []) back (more_fly s.flying f back (others_none count x.place back (behind_all x.place back others.behind))) behind.1,
-          );
-      log = subst (λ (fs : List Flying). IsLogFar s.log.number s.batch s.log.begun fs)
-          (sym (log_both s.flying (f ∷ []) ∙ append-nil (log_flying s.flying))) m.log;
-      touches = jobs_sent s.log (front ++ y ∷ back) s.flying flights f g
-          (jobs_change s.log s.log (front ++ x ∷ back) (front ++ y ∷ back)
-          (writes_more front x y back refl (λ h t. touches_more x n h run t)) (λ h p. p) s.flying flights
-          (subst (λ (xs : List Context). AreOfJobs s.log xs s.flying flights) is m.touches))
-          (record { some = omega arith; of = stands_any (λ z. (z.place ≡ x.place) × TouchesGiven z g) front y back (refl, run_of_given x n ticket.place run fits) });
-    }
+    one_changed s flights front x y back (s.flying ++ f ∷ []) (flights ++ g ∷ []) is m refl (λ xs away. more_fly s.flying f xs (others_none count x.place xs away))
+    (λ part. record {
+      within = run.within;
+      counted = counted x.done (units_flying x.place s.flying) x.given count _ _ part.counted (units_both x.place s.flying (f ∷ []))
+          (ap (λ (b : Bool). cond b count 0) (eq-eqb x.place x.place refl));
+    })
+    (log_both s.flying (f ∷ []) ∙ append-nil (log_flying s.flying))
+    (λ of. jobs_sent s.log (front ++ y ∷ back) s.flying flights f g
+    (jobs_change s.log s.log (front ++ x ∷ back) (front ++ y ∷ back) (writes_more front x y back refl (λ h t. touches_more x n h run t)) (λ h p. p) s.flying flights of)
+    (record { some = omega arith; of = stands_any (λ z. (z.place ≡ x.place) × TouchesGiven z g) front y back (refl, run_of_given x n ticket.place run fits) }))
   where
     counted : (done units given count count' units' : ℕ) → done + units ≡ given → units' ≡ units + (count' + 0) → count' ≡ count → done + units' ≡ given + count
     counted done units given count count' units' is is' same = omega (arith, is, is', same)
@@ -170,15 +159,10 @@ data_matches s flights n ticket m fits is =
     let x : Context = at.item in
     let count : ℕ = length (unsent_units n) in
     let flights' : List Flight = flights ++ flight_of ticket.place (event.Write n.first.unit (run_bytes (unsent_units n))) ∷ [] in
-    let others : AreElsewhere x.place at.front at.back =
-    elsewhere at.front x at.back (subst (λ (xs : List Context). Ascends (map (λ (z : Context). z.place) xs)) at.is m.places.ascend) in
-    let fits_x : FitsRecord (intent_of x) =
-    (all_right (λ z. FitsRecord (intent_of z)) at.front (x ∷ at.back) (subst (AllByRecursion (λ z. FitsRecord (intent_of z))) at.is fits)).0 in
-    let then : with_context x.place (given_more count) s.pending ≡ at.front ++ given_more count x ∷ at.back =
-    ap (λ (xs : List Context). with_context x.place (given_more count) xs) at.is ∙ with_at (given_more count) at.front x at.back others in
     subst (λ (p : ℕ). Matches (data_sent p count ticket s) flights') at.holds.place
     (subst (λ (xs : List Context). FlightsMatch s.log (length s.book.entries) xs s.batch (s.flying ++ flushing ticket (job.Data x.place count) ∷ []) flights')
-    (sym then) (data_among s flights n ticket at.front x at.back at.is at.holds fits_x m))
+    (sym (with_in (given_more count) at.front x at.back s.pending at.is m.places.ascend))
+    (data_among s flights n ticket at.front x at.back at.is at.holds (all_at (λ z. FitsRecord (intent_of z)) at.front x at.back s.pending at.is fits) m))
 
 -- ---- Take
 
@@ -270,12 +254,9 @@ pub take_matches : (s : State) (flights : List Flight) (x : Context) → Matches
     → s.batch ≡ None → chosen s.pending ≡ Some x → Matches (taken_up x s) flights
 take_matches s flights x m fits none is =
     let at : IsFirst [] x s.pending = chosen_first [] s.pending x is in
-    let others : AreElsewhere x.place at.front at.back =
-    elsewhere at.front x at.back (subst (λ (xs : List Context). Ascends (map (λ (z : Context). z.place) xs)) at.is m.places.ascend) in
     subst (λ (xs : List Context). FlightsMatch s.log (length s.book.entries) xs (Some (new_batch x)) s.flying flights)
-    (sym (ap (λ (xs : List Context). without_context x.place xs) at.is ∙ without_at at.front x at.back others))
-    (take_among s flights at.front x at.back at.is at.done
-    (all_right (λ z. FitsRecord (intent_of z)) at.front (x ∷ at.back) (subst (AllByRecursion (λ z. FitsRecord (intent_of z))) at.is fits)).0 none m)
+    (sym (without_in at.front x at.back s.pending at.is m.places.ascend))
+    (take_among s flights at.front x at.back at.is at.done (all_at (λ z. FitsRecord (intent_of z)) at.front x at.back s.pending at.is fits) none m)
 
 -- ---- the ends of submissions
 
@@ -312,27 +293,15 @@ data_left : (s : State) (flights : List Flight) (ticket : Ticket) (out : IsLeftO
 data_left s flights ticket out front x back count is its mirror m =
     let y : Context = done_more count x in
     let left : List Flying = others_of ticket s.flying in
-    let places : AreInPlace (length s.book.entries) (front ++ x ∷ back) = subst (AreInPlace (length s.book.entries)) is m.places in
-    let others : AreElsewhere x.place front back = elsewhere front x back places.ascend in
-    let waiting : AllByRecursion (IsPartGiven s.flying) (front ++ x ∷ back) = subst (AllByRecursion (IsPartGiven s.flying)) is m.waiting in
-    let behind : AllByRecursion (IsPartGiven s.flying) (x ∷ back) = all_right (IsPartGiven s.flying) front (x ∷ back) waiting in
-    record {
-      places = in_place_as (length s.book.entries) x y front back refl places;
-      waiting = all_join (IsPartGiven left) front (y ∷ back)
-          (waiting_same s.flying left front (left_same ticket s.flying out front (none_of front (before_all x.place front others.ahead)))
-          (all_left (IsPartGiven s.flying) front (x ∷ back) waiting)) (
-            record {
-              within = (behind.0).within;
-              counted = counted x.done count (units_flying x.place left) (units_flying x.place s.flying) x.given _ (left_units x.place ticket s.flying out)
-                  (ap (λ (j : Job). units_for x.place j) its ∙ ap (λ (b : Bool). cond b count 0) (eq-eqb x.place x.place refl)) (behind.0).counted;
-            },
-            waiting_same s.flying left back (left_same ticket s.flying out back (none_of back (behind_all x.place back others.behind))) behind.1,
-          );
-      log = subst (λ (fs : List Flying). IsLogFar s.log.number s.batch s.log.begun fs) (sym same_log) m.log;
-      touches = jobs_change s.log s.log (front ++ x ∷ back) (front ++ y ∷ back) (writes_more front x y back refl (λ h t. t)) (λ h p. p) left
-          (without ticket.place flights)
-          (subst (λ (xs : List Context). AreOfJobs s.log xs left (without ticket.place flights)) is (jobs_left s.log s.pending ticket s.flying flights mirror m.touches));
-    }
+    one_changed s flights front x y back left (without ticket.place flights) is m refl (λ xs away. left_same ticket s.flying out xs (none_of xs away))
+    (λ part. record {
+      within = part.within;
+      counted = counted x.done count (units_flying x.place left) (units_flying x.place s.flying) x.given _ (left_units x.place ticket s.flying out)
+          (ap (λ (j : Job). units_for x.place j) its ∙ ap (λ (b : Bool). cond b count 0) (eq-eqb x.place x.place refl)) part.counted;
+    })
+    same_log
+    (λ of. jobs_change s.log s.log (front ++ x ∷ back) (front ++ y ∷ back) (writes_more front x y back refl (λ h t. t)) (λ h p. p) left (without ticket.place flights)
+    (jobs_left s.log (front ++ x ∷ back) ticket s.flying flights mirror of))
   where
     none_of : (xs : List Context) → AllByRecursion (λ z. z.place == x.place ≡ false) xs → AllByRecursion (λ z. units_for z.place out.flight.job ≡ 0) xs
     none_of xs away = subst (λ (j : Job). AllByRecursion (λ z. units_for z.place j ≡ 0) xs) (sym its) (others_none count x.place xs away)
@@ -354,69 +323,61 @@ data_ended s flights ticket out place count its mirror m =
     let of : IsWriteOf s.pending place count flown.flight = subst (λ (j : Job). IsOfJob s.log s.pending j flown.flight) its flown.of in
     let at : StandsIn (λ z. (z.place ≡ place) × TouchesGiven z flown.flight) s.pending = any_stands (λ z. (z.place ≡ place) × TouchesGiven z flown.flight) s.pending of.of in
     let x : Context = at.item in
-    let others : AreElsewhere x.place at.front at.back =
-    elsewhere at.front x at.back (subst (λ (xs : List Context). Ascends (map (λ (z : Context). z.place) xs)) at.is m.places.ascend) in
     subst (λ (p : ℕ). FlightsMatch s.log (length s.book.entries) (with_context p (done_more count) s.pending) s.batch (others_of ticket s.flying) (without ticket.place flights))
     at.holds.0
     (subst (λ (xs : List Context). FlightsMatch s.log (length s.book.entries) xs s.batch (others_of ticket s.flying) (without ticket.place flights))
-    (sym (ap (λ (xs : List Context). with_context x.place (done_more count) xs) at.is ∙ with_at (done_more count) at.front x at.back others))
+    (sym (with_in (done_more count) at.front x at.back s.pending at.is m.places.ascend))
     (data_left s flights ticket out at.front x at.back count at.is (its ∙ ap (λ (p : ℕ). job.Data p count) (sym at.holds.0)) mirror m))
 
--- the end of a submission for the log leaves the contexts as they are
-module _ (number : ℕ) (front : List Flying) (f : Flying) (back : List Flying) where
-  flush_ended : (o : Option Batch) (begun : Option Begun) → f.job ≡ job.DataFlush → IsLogFar number o begun (front ++ f ∷ back)
-      → IsLogFar number (option_map first_flushed o) begun (front ++ back)
-  flush_ended None begun its h = absurd (no_front front f back h.1)
-  flush_ended (Some b) begun its h = of_flies (what_flies b.first b.second pieces (batch_ops b) begun front f back h.far)
+-- what flies for the log flies for a batch that is open
+pub record FliesFor (number : ℕ) (o : Option Batch) (begun : Option Begun) (front : List Flying) (f : Flying) (back : List Flying) : Type 0 where
+  pub batch : Batch
+  pub is_open : o ≡ Some batch
+  pub far : IsBatchOpen number batch begun (front ++ f ∷ back)
+  pub flies : Flies batch.first batch.second (piece_count (unit_count number (batch_ops batch))) (batch_ops batch) begun front f back
+
+pub flies_for : (number : ℕ) (o : Option Batch) (begun : Option Begun) (front : List Flying) (f : Flying) (back : List Flying)
+    → IsLogFar number o begun (front ++ f ∷ back) → FliesFor number o begun front f back
+flies_for number None begun front f back h = absurd (no_front front f back h.1)
+flies_for number (Some b) begun front f back h =
+    record { batch = b; is_open = refl; far = h; flies = what_flies b.first b.second _ (batch_ops b) begun front f back h.far }
+
+-- its end leaves the log so far
+module _ (t : State) (front : List Flying) (f : Flying) (back : List Flying) where
+  abbrev IsLeftFar : Job → Type 0
+  IsLeftFar j = (let u : State = after_done j t in IsLogFar u.log.number u.batch u.log.begun (front ++ back))
+
+  log_ended : IsLogFar t.log.number t.batch t.log.begun (front ++ f ∷ back) → IsLeftFar f.job
+  log_ended h =
+      let l : FliesFor t.log.number t.batch t.log.begun front f back = flies_for t.log.number t.batch t.log.begun front f back h in
+      of_flies l.batch l.is_open l.far l.flies
     where
-      pieces : ℕ
-      pieces = piece_count (unit_count number (batch_ops b))
+      pieces : Batch → ℕ
+      pieces b = piece_count (unit_count t.log.number (batch_ops b))
 
-      of_flies : Flies b.first b.second pieces (batch_ops b) begun front f back → IsLogFar number (Some (first_flushed b)) begun (front ++ back)
-      of_flies (first_flies is second first none left) = record {
-        needed = h.needed;
-        written = h.written;
-        far = subst (λ (e : FlushState). IsUnderWay flush.Flushed e pieces (batch_ops b) begun (front ++ back)) (sym second)
-            (first_ended pieces (batch_ops b) begun (front ++ back) none left);
-      }
-      of_flies (piece_flies is first second r made w) = absurd (cc)
-      of_flies (second_flies is first second w left) = absurd (cc)
-
-  piece_ended : (o : Option Batch) (begun : Option Begun) → f.job ≡ job.Record → IsLogFar number o begun (front ++ f ∷ back)
-      → IsLogFar number o (option_map written_more begun) (front ++ back)
-  piece_ended None begun its h = absurd (no_front front f back h.1)
-  piece_ended (Some b) begun its h = of_flies (what_flies b.first b.second pieces (batch_ops b) begun front f back h.far)
-    where
-      pieces : ℕ
-      pieces = piece_count (unit_count number (batch_ops b))
-
-      of_flies : Flies b.first b.second pieces (batch_ops b) begun front f back → IsLogFar number (Some b) (option_map written_more begun) (front ++ back)
-      of_flies (first_flies is second first none left) = absurd (cc)
-      of_flies (piece_flies is first second r made w) = record {
-        needed = h.needed;
-        written = h.written;
-        far = subst (λ (o : Option Begun). IsUnderWay b.first b.second pieces (batch_ops b) (option_map written_more o) (front ++ back)) (sym made)
-            (subst (λ (e : FlushState). IsUnderWay e b.second pieces (batch_ops b) (Some (written_more r)) (front ++ back)) (sym first)
-            (subst (λ (e : FlushState). IsUnderWay flush.Flushed e pieces (batch_ops b) (Some (written_more r)) (front ++ back)) (sym second) w));
-      }
-      of_flies (second_flies is first second w left) = absurd (cc)
-
-  sync_ended : (o : Option Batch) (begun : Option Begun) → f.job ≡ job.RecordFlush → IsLogFar number o begun (front ++ f ∷ back)
-      → IsLogFar number (option_map second_flushed o) begun (front ++ back)
-  sync_ended None begun its h = absurd (no_front front f back h.1)
-  sync_ended (Some b) begun its h = of_flies (what_flies b.first b.second pieces (batch_ops b) begun front f back h.far)
-    where
-      pieces : ℕ
-      pieces = piece_count (unit_count number (batch_ops b))
-
-      of_flies : Flies b.first b.second pieces (batch_ops b) begun front f back → IsLogFar number (Some (second_flushed b)) begun (front ++ back)
-      of_flies (first_flies is second first none left) = absurd (cc)
-      of_flies (piece_flies is first second r made w) = absurd (cc)
-      of_flies (second_flies is first second w left) = record {
-        needed = h.needed;
-        written = h.written;
-        far = subst (λ (e : FlushState). IsUnderWay e flush.Flushed pieces (batch_ops b) begun (front ++ back)) (sym first) (w, left);
-      }
+      of_flies : (b : Batch) → t.batch ≡ Some b → IsBatchOpen t.log.number b t.log.begun (front ++ f ∷ back)
+          → Flies b.first b.second (pieces b) (batch_ops b) t.log.begun front f back → IsLeftFar f.job
+      of_flies b is o (first_flies its second first none left) = subst IsLeftFar (sym its)
+          (subst (λ (p : Option Batch). IsLogFar t.log.number (option_map first_flushed p) t.log.begun (front ++ back)) (sym is) (record {
+            needed = o.needed;
+            written = o.written;
+            far = subst (λ (e : FlushState). IsUnderWay flush.Flushed e (pieces b) (batch_ops b) t.log.begun (front ++ back)) (sym second)
+                (first_ended (pieces b) (batch_ops b) t.log.begun (front ++ back) none left);
+          }))
+      of_flies b is o (piece_flies its first second r made w) = subst IsLeftFar (sym its)
+          (subst (λ (p : Option Batch). IsLogFar t.log.number p (option_map written_more t.log.begun) (front ++ back)) (sym is) (record {
+            needed = o.needed;
+            written = o.written;
+            far = subst (λ (n : Option Begun). IsUnderWay b.first b.second (pieces b) (batch_ops b) (option_map written_more n) (front ++ back)) (sym made)
+                (subst (λ (e : FlushState). IsUnderWay e b.second (pieces b) (batch_ops b) (Some (written_more r)) (front ++ back)) (sym first)
+                (subst (λ (e : FlushState). IsUnderWay flush.Flushed e (pieces b) (batch_ops b) (Some (written_more r)) (front ++ back)) (sym second) w));
+          }))
+      of_flies b is o (second_flies its first second w left) = subst IsLeftFar (sym its)
+          (subst (λ (p : Option Batch). IsLogFar t.log.number (option_map second_flushed p) t.log.begun (front ++ back)) (sym is) (record {
+            needed = o.needed;
+            written = o.written;
+            far = subst (λ (e : FlushState). IsUnderWay e flush.Flushed (pieces b) (batch_ops b) t.log.begun (front ++ back)) (sym first) (w, left);
+          }))
 
 pieces_written : (m : Meta) (o : Option Begun) (g : Flight) → IsPieceOf m o g
     → (let m' : Meta = record m { begun = option_map written_more o } in IsPieceOf m' m'.begun g)
@@ -436,50 +397,41 @@ pub reap_matches : (s : State) (flights : List Flight) (ticket : Ticket) (events
     → (let t : State = record s { flying = others_of ticket s.flying; events = events } in Matches (after_done out.flight.job t) (without ticket.place flights))
 reap_matches s flights ticket events out mirror m = of_job out.flight.job refl
   where
-    left : List Flying
-    left = others_of ticket s.flying
+    t : State
+    t = record s { flying = others_of ticket s.flying; events = events }
 
-    touches : AreOfJobs s.log s.pending left (without ticket.place flights)
+    left : List Flight
+    left = without ticket.place flights
+
+    touches : AreOfJobs s.log s.pending t.flying left
     touches = jobs_left s.log s.pending ticket s.flying flights mirror m.touches
 
-    front : List Flying
-    front = log_flying out.front
+    -- how far the log is behind it
+    far : (j : Job) → out.flight.job ≡ j → is_data j ≡ false → IsLeftFar t (log_flying out.front) out.flight (log_flying out.back) j
+    far j its own = subst (IsLeftFar t (log_flying out.front) out.flight (log_flying out.back)) its
+        (log_ended t (log_flying out.front) out.flight (log_flying out.back)
+        (subst (IsLogFar s.log.number s.batch s.log.begun) (log_parts ticket s.flying out (ap is_data its ∙ own)) m.log))
 
-    back : List Flying
-    back = log_flying out.back
+    of_log : (m' : Meta) (batch : Option Batch) → ((place : ℕ) → units_for place out.flight.job ≡ 0)
+        → IsLogFar m'.number batch m'.begun (log_flying out.front ++ log_flying out.back) → AreOfJobs m' s.pending t.flying left
+        → FlightsMatch m' (length s.book.entries) s.pending batch t.flying left
+    of_log m' batch none far of = record {
+      places = m.places;
+      waiting = waiting_same s.flying t.flying s.pending
+          (left_same ticket s.flying out s.pending (every (λ y. units_for y.place out.flight.job ≡ 0) (λ y. none y.place) s.pending)) m.waiting;
+      log = subst (IsLogFar m'.number batch m'.begun) (sym (log_rest ticket s.flying out)) far;
+      touches = of;
+    }
 
-    waiting : ((place : ℕ) → units_for place out.flight.job ≡ 0) → AllByRecursion (IsPartGiven left) s.pending
-    waiting none = waiting_same s.flying left s.pending
-        (left_same ticket s.flying out s.pending (every (λ y. units_for y.place out.flight.job ≡ 0) (λ y. none y.place) s.pending)) m.waiting
-
-    log : is_data out.flight.job ≡ false → IsLogFar s.log.number s.batch s.log.begun (front ++ out.flight ∷ back)
-    log is = subst (λ (fs : List Flying). IsLogFar s.log.number s.batch s.log.begun fs) (log_parts ticket s.flying out is) m.log
-
-    of_job : (j : Job) → out.flight.job ≡ j
-        → (let t : State = record s { flying = others_of ticket s.flying; events = events } in Matches (after_done j t) (without ticket.place flights))
+    of_job : (j : Job) → out.flight.job ≡ j → Matches (after_done j t) left
     of_job (job.Data place count) its = data_ended s flights ticket out place count its mirror m
-    of_job job.DataFlush its = record {
-      places = m.places;
-      waiting = waiting (λ place. ap (λ (j : Job). units_for place j) its);
-      log = subst (λ (fs : List Flying). IsLogFar s.log.number (option_map first_flushed s.batch) s.log.begun fs) (sym (log_rest ticket s.flying out))
-          (flush_ended s.log.number front out.flight back s.batch s.log.begun its (log (ap is_data its)));
-      touches = touches;
-    }
-    of_job job.Record its = record {
-      places = m.places;
-      waiting = waiting (λ place. ap (λ (j : Job). units_for place j) its);
-      log = subst (λ (fs : List Flying). IsLogFar s.log.number s.batch (option_map written_more s.log.begun) fs) (sym (log_rest ticket s.flying out))
-          (piece_ended s.log.number front out.flight back s.batch s.log.begun its (log (ap is_data its)));
-      touches = jobs_change s.log (record s.log { begun = option_map written_more s.log.begun }) s.pending s.pending (λ place count g w. w)
-          (λ g p. pieces_written s.log s.log.begun g p) left (without ticket.place flights) touches;
-    }
-    of_job job.RecordFlush its = record {
-      places = m.places;
-      waiting = waiting (λ place. ap (λ (j : Job). units_for place j) its);
-      log = subst (λ (fs : List Flying). IsLogFar s.log.number (option_map second_flushed s.batch) s.log.begun fs) (sym (log_rest ticket s.flying out))
-          (sync_ended s.log.number front out.flight back s.batch s.log.begun its (log (ap is_data its)));
-      touches = touches;
-    }
+    of_job job.DataFlush its = of_log s.log (option_map first_flushed s.batch) (λ place. ap (λ (j : Job). units_for place j) its) (far job.DataFlush its refl) touches
+    of_job job.Record its =
+        let m' : Meta = record s.log { begun = option_map written_more s.log.begun } in
+        of_log m' s.batch (λ place. ap (λ (j : Job). units_for place j) its) (far job.Record its refl)
+        (jobs_change s.log m' s.pending s.pending (λ place count g w. w) (λ g p. pieces_written s.log s.log.begun g p) t.flying left touches)
+    of_job job.RecordFlush its =
+        of_log s.log (option_map second_flushed s.batch) (λ place. ap (λ (j : Job). units_for place j) its) (far job.RecordFlush its refl) touches
 
 -- ---- a transaction that joins, and an entry of the book
 

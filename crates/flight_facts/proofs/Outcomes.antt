@@ -1,20 +1,14 @@
 -- What a step leaves: it has stepped, or waited, or a submission has ended badly; and that it leaves less work.
-use Rattle.std.proofs.Common.{◌≡◌, inl, inr, ℕ, ◌+◌, ◌-◌, ◌*◌, ◌<◌, ◌==◌, ◌&&◌, Bool, true, false, not, List, [], ◌∷◌, length, map, nat_lt, Option, Some, None, is_some, is_none, refl, sym, ap, subst, ◌∙◌, arith}
-use Rattle.std.specs.Option.{option_map_or}
-use Rattle.std.proofs.lemmas.Bool.{and_parts}
-use Rattle.block_device.specs.Prelude.{Disk, Flight, Waited}
-use Rattle.block_device.specs.declared.device.Ticket.{Ticket}
-use Rattle.store_steps.specs.declared.flight.Flying.{Flying}
-use Rattle.store_steps.specs.declared.step.Step.{Step}
+use Rattle.std.proofs.Common.{◌≡◌, inl, inr, ℕ, ◌+◌, ◌-◌, ◌*◌, ◌<◌, ◌==◌, true, false, not, List, [], ◌∷◌, length, Option, Some, None, is_some, is_none, refl, sym, ap, subst, ◌∙◌, arith}
+use Rattle.flight_facts.proofs.Common.{option_map_or, and_parts, Disk, Flight, Waited, Ticket, Flying, Step, is_flushed}
 use Rattle.store_steps.specs.declared.step.Step.TheVariants.{Data, Reap, Take, Flush, Seal, Record, Sync, Commit, Finish}
-use Rattle.store_steps.specs.Prelude.{State, chosen, down_by, landed, is_ready, is_ready_up, is_ready_down, is_empty, is_not_sent, pieces_of, batch_is, begun_is, applied_count, Takes, DoesOrFails}
-use Rattle.store_steps.specs.Ready.{is_flushed}
+use Rattle.store_steps.specs.Prelude.{State, chosen, down_by, landed, is_ready, is_ready_up, is_ready_down, is_empty, pieces_of, applied_count, Takes, DoesOrFails}
 use Rattle.flight_facts.specs.Prelude.{AreFlights, FlightsMatch, sum_work, batch_work, work_left, measure, AreFlightsKnown}
 use Rattle.flight_facts.proofs.Flying.{others_of, Landed, landed_flight}
 use Rattle.flight_facts.proofs.Readiness.{Readiness, while_up, while_down, ready_cases}
 use Rattle.flight_facts.proofs.Matching.{Matches}
 use Rattle.flight_facts.proofs.Downs.{Ends, bad_end, late_end}
-use Rattle.flight_facts.proofs.MatchingSteps.{some_is, none_is, seal_none, data_does, reap_does, take_does, flush_does, seal_does, record_does, sync_does, commit_does, finish_does, waited_does}
+use Rattle.flight_facts.proofs.MatchingSteps.{some_is, none_is, record_tests, sync_tests, seal_none, data_does, reap_does, take_does, flush_does, seal_does, record_does, sync_does, commit_does, finish_does, waited_does}
 use Rattle.flight_facts.proofs.Paying.{Paid, data_pays, reap_pays, take_pays, flush_pays, sync_pays, seal_pays, record_pays, commit_pays, finish_pays}
 
 -- ---- an answer None
@@ -95,14 +89,10 @@ up_leaves Flush s d s' d' k down ready does =
 up_leaves Seal s d s' d' k down ready does =
     has_stepped down (seal_pays s d s' d' k.tickets (seal_none s d.depth ready) does) (seal_does s d s' d' (k.parts down) ready does)
 up_leaves Record s d s' d' k down ready does =
-    let left : Bool = begun_is (λ r. nat_lt r.given (pieces_of s.log.number r)) s in
-    let b = some_is (λ b. is_flushed b.first) s.batch (and_parts (batch_is (λ b. is_flushed b.first) s) left
-    (and_parts (batch_is (λ b. is_flushed b.first) s && left) (nat_lt (length s.flying) d.depth) ready).0).0 in
+    let b = some_is (λ b. is_flushed b.first) s.batch (record_tests s d.depth ready).0 in
     has_stepped down (record_pays s d s' d' k.tickets b.0 b.1 ready does) (record_does s d s' d' (k.parts down) ready b.0 b.1 does)
 up_leaves Sync s d s' d' k down ready does =
-    let ended : Bool = begun_is (λ r. r.written == pieces_of s.log.number r) s in
-    let r = some_is (λ r. r.written == pieces_of s.log.number r) s.log.begun (and_parts (batch_is (λ b. is_not_sent b.second) s) ended
-    (and_parts (batch_is (λ b. is_not_sent b.second) s && ended) (nat_lt (length s.flying) d.depth) ready).0).1 in
+    let r = some_is (λ r. r.written == pieces_of s.log.number r) s.log.begun (sync_tests s d.depth ready).1 in
     has_stepped down (sync_pays s d s' d' k.tickets ready does) (sync_does s d s' d' (k.parts down) ready r.0 r.1 does)
 up_leaves Commit s d s' d' k down ready does =
     has_stepped down (commit_pays s d s' d' k.tickets k.acked does) (commit_does s d s' d' (k.parts down) ready does)

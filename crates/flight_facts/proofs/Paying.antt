@@ -1,34 +1,22 @@
 -- What each step pays: it leaves less work, for any number of contexts, and what else it does to the device and to the counts.
-use Rattle.std.proofs.Common.{◌≡◌, ℕ, ◌+◌, ◌-◌, ◌*◌, ◌<◌, ◌≤◌, ◌==◌, ◌&&◌, Bool, true, false, cond, nat_lt, suc, List, [], ◌∷◌, ◌++◌, length, map, Option, Some, None, is_some, refl, sym, ap, subst, ◌∙◌, length-append, append-nil, arith}
-use Rattle.std.specs.List.{AllByRecursion}
-use Rattle.std.specs.Option.{option_map, option_map_or}
-use Rattle.std.proofs.lemmas.Bool.{and_parts, ltb-true}
-use Rattle.block_device.specs.Prelude.{Disk}
+use Rattle.std.proofs.Common.{◌≡◌, ℕ, ◌+◌, ◌-◌, ◌*◌, ◌<◌, ◌≤◌, ◌==◌, Bool, true, false, cond, suc, List, [], ◌∷◌, ◌++◌, length, Option, Some, None, is_some, refl, sym, ap, subst, ◌∙◌, append-nil, arith}
+use Rattle.flight_facts.proofs.Common.{AllByRecursion, option_map, option_map_or, ltb-true, Disk, Ticket, unit_count, piece_count, RowOp, Context, Flying, Job, Meta, Begun}
 use Rattle.object_model.specs.declared.book.Commit.{Commit}
 use Rattle.block_device.specs.declared.event.Event.{Event}
 use Rattle.block_device.specs.declared.event.Event.TheVariants as event
-use Rattle.unit_fields.specs.Prelude.{Ascends}
-use Rattle.meta_log.specs.Prelude.{unit_count, piece_count}
-use Rattle.meta_rows.specs.declared.row_op.RowOp.{RowOp}
-use Rattle.store_steps.specs.declared.context.Context.{Context}
-use Rattle.store_steps.specs.declared.flight.FlushState.{FlushState}
 use Rattle.store_steps.specs.declared.flight.FlushState.TheVariants as flush
-use Rattle.store_steps.specs.declared.flight.Flying.{Flying}
-use Rattle.store_steps.specs.declared.flight.Job.{Job}
 use Rattle.store_steps.specs.declared.flight.Job.TheVariants as job
 use Rattle.store_steps.specs.declared.step.Step.TheVariants.{Flush, Record, Sync, Finish}
-use Rattle.meta_store.specs.Store.{Meta, Begun}
-use Rattle.store_steps.specs.Prelude.{Batch, State, Unsent, unsent_units, run_bytes, given_more, done_more, with_context, without_context, batch_ops, after_done, first_flushed, second_flushed, written_more, record_sent, sealed, commit_of, acknowledged, is_not_sent, pieces_of, batch_is, begun_is, applied_count, is_ready_up, Takes, DoesData, DoesTake, DoesFlush, DoesSeal, DoesRecord, DoesSync, DoesCommit, DoesFinish, piece_unit, piece_bytes, intent_of}
-use Rattle.store_steps.specs.Ready.{is_flushed}
+use Rattle.store_steps.specs.Prelude.{Batch, State, Unsent, unsent_units, run_bytes, given_more, done_more, with_context, without_context, batch_ops, after_done, first_flushed, second_flushed, written_more, record_sent, sealed, commit_of, acknowledged, is_not_sent, pieces_of, applied_count, is_ready_up, Takes, DoesData, DoesTake, DoesFlush, DoesSeal, DoesRecord, DoesSync, DoesCommit, DoesFinish, piece_unit, piece_bytes, intent_of}
 use Rattle.flight_facts.specs.Prelude.{AreFlights, IsLogFar, log_flying, FitsRecord, work_of, sum_work, flush_work, record_work, batch_work, work_left}
 use Rattle.flight_facts.proofs.Flying.{sent_flight, sent_units, others_of, Landed, landed_flight, reaped_good}
 use Rattle.flight_facts.proofs.Landing.{IsLeftOut, left_out}
-use Rattle.flight_facts.proofs.Lists.{StandsIn, AreElsewhere, elsewhere, with_at, without_at, all_right}
+use Rattle.flight_facts.proofs.Lists.{StandsIn, with_in, without_in, all_at, length_push, length_middle}
 use Rattle.flight_facts.proofs.RunUnits.{IsRunOf}
 use Rattle.flight_facts.proofs.Choosing.{IsFirst, chosen_first}
 use Rattle.flight_facts.proofs.Matching.{Matches}
 use Rattle.flight_facts.proofs.MatchingMore.{next_stands, new_batch}
-use Rattle.flight_facts.proofs.MatchingSteps.{test_of}
+use Rattle.flight_facts.proofs.MatchingSteps.{test_of, first_waits, sync_tests, pieces_left}
 
 -- no entry is made, what waits becomes a commit at most, and events and records come one by one
 pub record IsNear (s s' : State) : Type 0 where
@@ -54,12 +42,6 @@ sum_both (x ∷ xs) ys = omega (arith, sum_both xs ys)
 sum_middle : (front : List Context) (x : Context) (back : List Context) → sum_work (front ++ x ∷ back) ≡ sum_work front + (work_of x + sum_work back)
 sum_middle front x back = sum_both front (x ∷ back)
 
-length_middle : (front : List Context) (x : Context) (back : List Context) → length (front ++ x ∷ back) ≡ length (front ++ back) + 1
-length_middle front x back = counts (length front) (length back) _ _ (length-append front (x ∷ back)) (length-append front back)
-  where
-    counts : (a b all less : ℕ) → all ≡ a + suc b → less ≡ a + b → all ≡ less + 1
-    counts a b all less is is' = omega (arith, is, is')
-
 -- contexts as many, of as much work
 pub record AreAsMany (xs ys : List Context) : Type 0 where
   pub work : sum_work ys ≡ sum_work xs
@@ -76,9 +58,6 @@ done_as_many place count (x ∷ xs) =
         → sum_work (cond b (done_more count x) x ∷ with_context place (done_more count) xs) ≡ sum_work (x ∷ xs)
     of_test true rest = ap (λ (n : ℕ). work_of x + n) rest
     of_test false rest = ap (λ (n : ℕ). work_of x + n) rest
-
-length_push : {A : Type 0} (xs : List A) (y : A) → length (xs ++ y ∷ []) ≡ length xs + 1
-length_push xs y = length-append xs (y ∷ [])
 
 -- as many commits, whichever are acknowledged
 pub acknowledged_length : (events : ℕ) (cs : List Commit) → length (acknowledged events cs) ≡ length cs
@@ -99,17 +78,11 @@ applied_is : (s : State) (b : Batch) → s.batch ≡ Some b → applied_count s 
 applied_is s b is = ap (λ (o : Option Batch). length s.book.commits - option_map_or (λ (c : Batch). length c.contexts) o 0) is
 
 -- a flush that is submitted is paid
-first_paid : (b : Batch) (f : FlushState) → is_not_sent b.first ≡ true → is_not_sent f ≡ false → flush_work (record b { first = f }) + 2 ≡ flush_work b
-first_paid b f was is = sums _ _ _ (ap (λ (t : Bool). cond t 2 0) was) (ap (λ (t : Bool). cond t 2 0) is)
-  where
-    sums : (a b c : ℕ) → a ≡ 2 → b ≡ 0 → (b + c) + 2 ≡ a + c
-    sums a b c is is' = omega (arith, is, is')
+first_paid : (b : Batch) (ticket : Ticket) → is_not_sent b.first ≡ true → flush_work (record b { first = flush.Sent ticket }) + 2 ≡ flush_work b
+first_paid b ticket was = let is : ◌≡◌ {A = ℕ} (cond (is_not_sent b.first) 2 0) 2 = ap (λ (t : Bool). cond t 2 0) was in omega (arith, is)
 
-second_paid : (b : Batch) (f : FlushState) → is_not_sent b.second ≡ true → is_not_sent f ≡ false → flush_work (record b { second = f }) + 2 ≡ flush_work b
-second_paid b f was is = sums _ _ _ (ap (λ (t : Bool). cond t 2 0) was) (ap (λ (t : Bool). cond t 2 0) is)
-  where
-    sums : (a b c : ℕ) → a ≡ 2 → b ≡ 0 → (c + b) + 2 ≡ c + a
-    sums a b c is is' = omega (arith, is, is')
+second_paid : (b : Batch) (ticket : Ticket) → is_not_sent b.second ≡ true → flush_work (record b { second = flush.Sent ticket }) + 2 ≡ flush_work b
+second_paid b ticket was = let is : ◌≡◌ {A = ℕ} (cond (is_not_sent b.second) 2 0) 2 = ap (λ (t : Bool). cond t 2 0) was in omega (arith, is)
 
 -- one whose end has come costs no more than before
 less_flush : (t : Bool) → cond false 2 0 ≤ cond t 2 0
@@ -144,11 +117,9 @@ module _ (s : State) (d : Disk) where
       let at : StandsIn (λ x. IsRunOf x n) s.pending = next_stands s.pending n does.is_next in
       let x : Context = at.item in
       let count : ℕ = length (unsent_units n) in
-      let others : AreElsewhere x.place at.front at.back =
-      elsewhere at.front x at.back (subst (λ (xs : List Context). Ascends (map (λ (z : Context). z.place) xs)) at.is m.places.ascend) in
       let then : with_context n.place (given_more count) s.pending ≡ at.front ++ given_more count x ∷ at.back =
       ap (λ (place : ℕ). with_context place (given_more count) s.pending) (sym at.holds.place)
-      ∙ ap (λ (xs : List Context). with_context x.place (given_more count) xs) at.is ∙ with_at (given_more count) at.front x at.back others in
+      ∙ with_in (given_more count) at.front x at.back s.pending at.is m.places.ascend in
       let f : Flying = record { ticket = does.ticket; job = job.Data n.place count } in
       let e : Event = event.Write n.first.unit (run_bytes (unsent_units n)) in
       subst (λ (t : State). Paid s d t d') (sym does.after) (record {
@@ -246,12 +217,8 @@ module _ (s : State) (d : Disk) where
       let x : Context = does.context in
       let at : IsFirst [] x s.pending = chosen_first [] s.pending x does.is_chosen in
       let here : s.pending ≡ at.front ++ x ∷ at.back = at.is in
-      let others : AreElsewhere x.place at.front at.back =
-      elsewhere at.front x at.back (subst (λ (xs : List Context). Ascends (map (λ (z : Context). z.place) xs)) here m.places.ascend) in
-      let then : without_context x.place s.pending ≡ at.front ++ at.back =
-      ap (λ (xs : List Context). without_context x.place xs) here ∙ without_at at.front x at.back others in
-      let fits_x : FitsRecord (intent_of x) =
-      (all_right (λ z. FitsRecord (intent_of z)) at.front (x ∷ at.back) (subst (AllByRecursion (λ z. FitsRecord (intent_of z))) here fits)).0 in
+      let then : without_context x.place s.pending ≡ at.front ++ at.back = without_in at.front x at.back s.pending here m.places.ascend in
+      let fits_x : FitsRecord (intent_of x) = all_at (λ z. FitsRecord (intent_of z)) at.front x at.back s.pending here fits in
       let begun : s.log.begun ≡ None =
       (subst (λ (o : Option Batch). IsLogFar s.log.number o s.log.begun (log_flying s.flying)) none m.log).0 in
       let pieces : piece_count (unit_count s.log.number (x.ops ++ [])) ≡ piece_count x.need =
@@ -292,12 +259,11 @@ module _ (s : State) (d : Disk) where
   flush_pays s' d' mirror ready does =
       let b : Batch = does.batch in
       let f : Flying = record { ticket = does.ticket; job = job.DataFlush } in
-      let first : is_not_sent b.first ≡ true = test_of (λ b. is_not_sent b.first) s.batch b does.begun
-      (and_parts (batch_is (λ b. is_not_sent b.first) s) (nat_lt (length s.flying) d.depth) ready).0 in
+      let first : is_not_sent b.first ≡ true = first_waits s d.depth b ready does.begun in
       subst (λ (t : State). Paid s d t d') (sym does.after) (record {
         falls = less_flushed (length s.flying) (length (s.flying ++ f ∷ [])) (sum_work s.pending) (flush_work b) (record_work s.log b) (length b.contexts) _ _
             (length s.book.commits - length b.contexts) (applied_count s) s.acked (length_push s.flying f) (batch_work_is s b does.begun)
-            (first_paid b (flush.Sent does.ticket) first refl) (applied_is s b does.begun);
+            (first_paid b does.ticket first) (applied_is s b does.begun);
         flights = sent_flight s.flying d d' does.ticket job.DataFlush event.Flush mirror does.submitted;
         units = sent_units d d' does.ticket.place event.Flush does.submitted;
         near = record { entries = refl; under = refl; events = omega arith; number = omega arith; up = refl };
@@ -307,14 +273,11 @@ module _ (s : State) (d : Disk) where
   sync_pays s' d' mirror ready does =
       let b : Batch = does.batch in
       let f : Flying = record { ticket = does.ticket; job = job.RecordFlush } in
-      let ended : Bool = begun_is (λ r. r.written == pieces_of s.log.number r) s in
-      let second : is_not_sent b.second ≡ true = test_of (λ b. is_not_sent b.second) s.batch b does.begun
-      (and_parts (batch_is (λ b. is_not_sent b.second) s) ended
-      (and_parts (batch_is (λ b. is_not_sent b.second) s && ended) (nat_lt (length s.flying) d.depth) ready).0).0 in
+      let second : is_not_sent b.second ≡ true = test_of (λ b. is_not_sent b.second) s.batch b does.begun (sync_tests s d.depth ready).0 in
       subst (λ (t : State). Paid s d t d') (sym does.after) (record {
         falls = less_flushed (length s.flying) (length (s.flying ++ f ∷ [])) (sum_work s.pending) (flush_work b) (record_work s.log b) (length b.contexts) _ _
             (length s.book.commits - length b.contexts) (applied_count s) s.acked (length_push s.flying f) (batch_work_is s b does.begun)
-            (second_paid b (flush.Sent does.ticket) second refl) (applied_is s b does.begun);
+            (second_paid b does.ticket second) (applied_is s b does.begun);
         flights = sent_flight s.flying d d' does.ticket job.RecordFlush event.Flush mirror does.submitted;
         units = sent_units d d' does.ticket.place event.Flush does.submitted;
         near = record { entries = refl; under = refl; events = omega arith; number = omega arith; up = refl };
@@ -348,11 +311,7 @@ module _ (s : State) (d : Disk) where
       let r : Begun = does.writing in
       let f : Flying = record { ticket = does.ticket; job = job.Record } in
       let e : Event = event.Write (piece_unit s.log r) (piece_bytes s.log.number r) in
-      let left : Bool = begun_is (λ r. nat_lt r.given (pieces_of s.log.number r)) s in
-      let more : r.given < pieces_of s.log.number r =
-      ltb-true r.given (pieces_of s.log.number r) (test_of (λ r. nat_lt r.given (pieces_of s.log.number r)) s.log.begun r does.begun
-      (and_parts (batch_is (λ b. is_flushed b.first) s) left
-      (and_parts (batch_is (λ b. is_flushed b.first) s && left) (nat_lt (length s.flying) d.depth) ready).0).1) in
+      let more : r.given < pieces_of s.log.number r = pieces_left s d.depth r ready does.begun in
       let was : option_map_or (batch_work s.log) s.batch 0 ≡ flush_work b + 2 * (pieces_of s.log.number r - r.given) + 1 + length b.contexts =
       batch_work_is s b is ∙ ap (λ (o : Option Begun). let k : Meta = record s.log { begun = o } in batch_work k b) does.begun in
       let then : option_map_or (batch_work (record_sent r does.ticket s).log) s.batch 0

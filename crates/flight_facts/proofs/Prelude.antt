@@ -1,16 +1,16 @@
 -- The lemmas that other crates cite, passed on from one place.
 pub use Rattle.flight_facts.proofs.Flying.{idle_device, same_count, Landed, landed_flight, reaped_good, others_of}
 pub use Rattle.flight_facts.proofs.Untouched.{all_then, run_untouched}
-pub use Rattle.flight_facts.proofs.Lists.{all_left, all_right, all_join, all_take, StandsIn, elsewhere, with_at, without_at}
+pub use Rattle.flight_facts.proofs.Lists.{all_left, all_right, all_join, all_take, StandsIn, elsewhere, with_in, without_in, all_at}
 pub use Rattle.flight_facts.proofs.Landing.{IsLeftOut, left_out}
 pub use Rattle.flight_facts.proofs.Pieces.{same_units, some_units, short_body}
 pub use Rattle.flight_facts.proofs.Underway.{synced_way}
-pub use Rattle.flight_facts.proofs.RunUnits.{IsRunOf, row_bytes, row_at, all_front, given_units}
+pub use Rattle.flight_facts.proofs.RunUnits.{IsRunOf, row_bytes, row_at, given_units}
 pub use Rattle.flight_facts.proofs.RunPlaces.{earlier_spared, run_has, run_whole, given_before, run_inside, AreWholeUnits}
 pub use Rattle.flight_facts.proofs.Choosing.{IsFirst, chosen_first}
-pub use Rattle.flight_facts.proofs.Matching.{Matches}
+pub use Rattle.flight_facts.proofs.Matching.{Matches, open_far, begun_far, record_long}
 pub use Rattle.flight_facts.proofs.MatchingMore.{next_stands, one_more_waits, one_more_entry}
-pub use Rattle.flight_facts.proofs.MatchingSteps.{test_of, none_is, seal_none, waited_does, some_is}
+pub use Rattle.flight_facts.proofs.MatchingSteps.{test_of, none_is, some_is, seal_none, first_waits, record_tests, pieces_left, sync_tests, pieces_ended, waited_does}
 pub use Rattle.flight_facts.proofs.Unflown.{unflown, none_left, rest_not_given, flush_unflown, sync_unflown}
 pub use Rattle.flight_facts.proofs.Readiness.{ready_not_down, ready_by_table, some_of, none_ready, IsIdle, idle_uncommitted, drained_is_idle}
 pub use Rattle.flight_facts.proofs.Paying.{Paid, sum_both, acknowledged_length}

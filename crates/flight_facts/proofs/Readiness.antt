@@ -1,24 +1,12 @@
 -- Which steps are ready, taken apart; and that nothing is under way where none is.
 use Rattle.std.proofs.Common.{◌≡◌, ℕ, ◌+◌, ◌-◌, ◌≤◌, ◌==◌, ◌&&◌, Bool, true, false, cond, not, nat_lt, List, [], ◌∷◌, ◌++◌, filter, length, drop, Option, Some, None, is_some, is_none, refl, sym, ap, subst, ◌∙◌, length-drop, arith}
-use Rattle.std.specs.List.{AllByRecursion}
-use Rattle.std.specs.Option.{option_map_or, option_or}
-use Rattle.std.proofs.lemmas.Bool.{eq-eqb, lt-ltb, ltb-false}
-use Rattle.block_device.specs.Prelude.{Disk}
-use Rattle.block_device.specs.declared.device.Ticket.{Ticket}
-use Rattle.meta_rows.specs.declared.row_op.RowOp.{RowOp}
-use Rattle.meta_log.specs.Prelude.{unit_count, piece_count}
-use Rattle.plan_rows.specs.declared.plan.FreshUnit.{FreshUnit}
-use Rattle.store_steps.specs.declared.context.Context.{Context}
-use Rattle.store_steps.specs.declared.flight.FlushState.{FlushState}
+use Rattle.flight_facts.proofs.Common.{AllByRecursion, option_map_or, option_or, eq-eqb, Disk, Ticket, RowOp, unit_count, piece_count, FreshUnit, Context, FlushState, Flying, Step, Begun, is_flushed}
+use Rattle.std.proofs.lemmas.Bool.{lt-ltb, ltb-false}
 use Rattle.store_steps.specs.declared.flight.FlushState.TheVariants as flush
-use Rattle.store_steps.specs.declared.flight.Flying.{Flying}
-use Rattle.store_steps.specs.declared.step.Step.{Step}
 use Rattle.store_steps.specs.declared.step.Step.TheVariants.{Data, Reap, Take, Flush, Seal, Record, Sync, Commit, Finish}
-use Rattle.meta_store.specs.Store.{Begun}
 use Rattle.store_steps.specs.Prelude.{Batch, State, next_unsent, run_of, is_done, chosen, chosen_behind, colls_of, batch_ops, is_empty, is_not_sent, pieces_of, batch_is, begun_is, applied_count, is_ready_up, is_ready_down, is_ready, all_steps, is_drained, uncommitted}
-use Rattle.store_steps.specs.Ready.{is_flushed}
-use Rattle.flight_facts.specs.Prelude.{IsUnderWay, IsPartGiven, IsBatchOpen, IsLogFar, log_flying}
-use Rattle.flight_facts.proofs.Matching.{Matches}
+use Rattle.flight_facts.specs.Prelude.{IsUnderWay, IsPartGiven, IsLogFar, log_flying}
+use Rattle.flight_facts.proofs.Matching.{Matches, open_far}
 use Rattle.flight_facts.proofs.Underway.{pieces_are}
 
 -- ---- only Reap is ready while the kernel is down
@@ -92,8 +80,7 @@ stuck_way : (first second : FlushState) (number : ℕ) (ops : List RowOp) (o : O
     → (is_not_sent second ≡ true → option_map_or (λ r. r.written == pieces_of number r) o false ≡ false) → is_flushed second ≡ false → ⊥
 stuck_way flush.NotSent second number ops o h not_flush not_seal not_record not_sync not_commit = cc
 stuck_way (flush.Sent t) flush.NotSent number ops o h not_flush not_seal not_record not_sync not_commit = let e = h.1 in cc
-stuck_way (flush.Sent t) (flush.Sent u) number ops o h not_flush not_seal not_record not_sync not_commit = h
-stuck_way (flush.Sent t) flush.Flushed number ops o h not_flush not_seal not_record not_sync not_commit = h
+stuck_way (flush.Sent t) second number ops o h not_flush not_seal not_record not_sync not_commit = h
 stuck_way flush.Flushed flush.NotSent number ops None h not_flush not_seal not_record not_sync not_commit = cc
 stuck_way flush.Flushed flush.NotSent number ops (Some r) h not_flush not_seal not_record not_sync not_commit =
     let least : pieces_of number r ≤ r.given = ltb-false r.given (pieces_of number r) (not_record refl) in
@@ -168,7 +155,7 @@ drained_is_idle s d deep m up drained = record {
     of_batch (Some b) is = absurd (
         stuck_way b.first b.second s.log.number (batch_ops b) s.log.begun
         (subst (λ (fs : List Flying). IsUnderWay b.first b.second (piece_count (unit_count s.log.number (batch_ops b))) (batch_ops b) s.log.begun fs)
-        (ap log_flying none) far.far)
+        (ap log_flying none) (open_far s d.flights b m is).far)
         (holds (λ c. is_not_sent c.first) (not_left (batch_is (λ c. is_not_sent c.first) s) (nat_lt (length s.flying) d.depth) (table Flush each.1.1.1.0) room))
         (not_right (is_some s.batch) (is_none s.log.begun) (table Seal each.1.1.1.1.0) (ap is_some is))
         (λ flushed. not_right (batch_is (λ c. is_flushed c.first) s) (begun_is (λ r. nat_lt r.given (pieces_of s.log.number r)) s)
@@ -180,9 +167,6 @@ drained_is_idle s d deep m up drained = record {
         (holds (λ c. is_flushed c.second) (table Commit each.1.1.1.1.1.1.1.0))
         )
       where
-        far : IsBatchOpen s.log.number b s.log.begun (log_flying s.flying)
-        far = subst (λ (p : Option Batch). IsLogFar s.log.number p s.log.begun (log_flying s.flying)) is m.log
-
         holds : (test : Batch → Bool) → batch_is test s ≡ false → test b ≡ false
         holds test not_so = sym (ap (λ (p : Option Batch). option_map_or test p false) is) ∙ not_so
 

@@ -1,16 +1,14 @@
 -- A run of fresh units as it is written: where it stands among those of its context, and that its write spares those given before.
 use Rattle.std.proofs.Common.{◌≡◌, ℕ, suc, ◌+◌, ◌*◌, ◌<◌, ◌≤◌, List, [], ◌∷◌, ◌++◌, length, map, take, drop, sym, ap, subst, ◌∙◌, arith}
-use Rattle.std.specs.List.{AllByRecursion}
+use Rattle.flight_facts.proofs.Common.{AllByRecursion, Ascends, FreshUnit, Context}
 use Rattle.std.proofs.lemmas.List.{take-append-drop}
-use Rattle.unit_fields.specs.Prelude.{Ascends}
 use Rattle.block_device.specs.declared.event.Event.TheVariants.{Write}
 use Rattle.meta_log.specs.declared.slot.Super.{Super}
 use Rattle.store_image.specs.Prelude.{IsDataUnit}
-use Rattle.plan_rows.specs.declared.plan.FreshUnit.{FreshUnit}
-use Rattle.store_steps.specs.declared.context.Context.{Context}
 use Rattle.store_steps.specs.Prelude.{run_bytes, Unsent, unsent_units, intent_of, Spares}
 use Rattle.flight_facts.specs.Prelude.{FitsRecord}
-use Rattle.flight_facts.proofs.RunUnits.{IsRunOf, row_bytes, row_at, all_drop, all_front}
+use Rattle.flight_facts.proofs.Lists.{all_left}
+use Rattle.flight_facts.proofs.RunUnits.{IsRunOf, row_bytes, row_at, all_drop}
 
 -- each unit is whole
 abbrev pub AreWholeUnits : List FreshUnit → Type 0
@@ -40,7 +38,7 @@ module _ (x : Context) (n : Unsent) (run : IsRunOf x n) where
 
   -- what holds of all holds of those of the run
   pub run_has : (P : FreshUnit → Type 0) → AllByRecursion P x.fresh → AllByRecursion P (unsent_units n)
-  run_has P all = all_front P (unsent_units n) (drop (x.given + count) x.fresh) (subst (AllByRecursion P) run.left (all_drop P x.given x.fresh all))
+  run_has P all = all_left P (unsent_units n) (drop (x.given + count) x.fresh) (subst (AllByRecursion P) run.left (all_drop P x.given x.fresh all))
 
   pub run_whole : FitsRecord (intent_of x) → AreWholeUnits (unsent_units n)
   run_whole fits = run_has (λ f. length f.bytes ≡ 4096) fits.whole

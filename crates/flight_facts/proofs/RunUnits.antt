@@ -1,15 +1,9 @@
 -- Runs of fresh units: what a data write takes of what a context has left, and what is left behind it.
-use Rattle.std.proofs.Common.{◌≡◌, inl, inr, ℕ, zero, suc, ◌+◌, ◌-◌, ◌*◌, ◌<◌, ◌≤◌, Bool, true, false, cond, ◌&&◌, ◌==◌, nat_lt, List, [], ◌∷◌, ◌++◌, length, map, take, drop, Some, refl, sym, ap, subst, ◌∙◌, length-append, length-drop, arith}
-use Rattle.std.specs.List.{AllByRecursion}
+use Rattle.std.proofs.Common.{◌≡◌, inl, inr, ℕ, zero, suc, ◌+◌, ◌-◌, ◌*◌, ◌<◌, ◌≤◌, Bool, true, false, cond, ◌&&◌, ◌==◌, nat_lt, List, [], ◌∷◌, ◌++◌, length, take, drop, Some, refl, sym, ap, subst, ◌∙◌, length-append, length-drop, arith}
+use Rattle.flight_facts.proofs.Common.{AllByRecursion, cases_lt, and_parts, eqb-true, ltb-true, same_Some, FreshUnit, Context}
 use Rattle.std.proofs.Math.Seq.{take-add}
 use Rattle.std.proofs.lemmas.List.{drop-drop, take_at}
-use Rattle.std.proofs.lemmas.Bool.{cases_lt, and_parts, eqb-true, ltb-true}
-use Rattle.std.proofs.lemmas.Option.{same_Some}
-use Rattle.unit_fields.specs.Prelude.{Ascends}
-use Rattle.plan_rows.specs.declared.plan.FreshUnit.{FreshUnit}
-use Rattle.store_steps.specs.declared.context.Context.{Context}
 use Rattle.store_steps.specs.Prelude.{run_from, run_bytes, Unsent, unsent_units, run_of, unsent, IsInRow}
-use Rattle.flight_facts.proofs.Untouched.{all_then}
 
 -- ---- the longest front that does
 
@@ -102,48 +96,12 @@ row_at P u (f ∷ fs) row all k from to = elim (cases_lt u k) [
   | inr most ↦ subst P (let same : u ≡ k = omega (arith, from, most) in row.0 ∙ same) all.0
 ]
 
--- units that ascend from one on, and begin with such a row, are beyond it then
-pub row_behind : (u : ℕ) (run rest : List FreshUnit) → IsInRow u run → AllByRecursion (λ v. u ≤ v) (map (λ f. f.unit) (run ++ rest))
-    → Ascends (map (λ f. f.unit) (run ++ rest)) → AllByRecursion (λ f. u + length run ≤ f.unit) rest
-row_behind u [] rest row above ascend = of_rest rest above
-  where
-    of_rest : (fs : List FreshUnit) → AllByRecursion (λ v. u ≤ v) (map (λ (f : FreshUnit). f.unit) fs)
-        → AllByRecursion (λ (f : FreshUnit). u + 0 ≤ f.unit) fs
-    of_rest [] all = tt
-    of_rest (f ∷ fs) all = (let le : u ≤ f.unit = all.0 in omega (arith, le), of_rest fs all.1)
-row_behind u (f ∷ run) rest row above ascend =
-    let up : AllByRecursion (λ (v : ℕ). u + 1 ≤ v) (map (λ (g : FreshUnit). g.unit) (run ++ rest)) =
-    all_then (λ (v : ℕ). f.unit < v) (λ (v : ℕ). u + 1 ≤ v) (λ v lt. omega (arith, lt, row.0)) _ ascend.0 in
-    all_then (λ (g : FreshUnit). (u + 1) + length run ≤ g.unit) (λ (g : FreshUnit). u + length (f ∷ run) ≤ g.unit)
-    (λ g le. further u (length run) g.unit le) rest (row_behind (u + 1) run rest row.1 up ascend.1)
-  where
-    further : (u n k : ℕ) → (u + 1) + n ≤ k → u + suc n ≤ k
-    further u n k le = omega (arith, le)
-
--- ---- parts of what ascends, or holds
-
-pub ascend_drop : (k : ℕ) (fs : List FreshUnit) → Ascends (map (λ f. f.unit) fs) → Ascends (map (λ f. f.unit) (drop k fs))
-ascend_drop zero fs up = up
-ascend_drop (suc k) [] up = tt
-ascend_drop (suc k) (f ∷ fs) up = ascend_drop k fs up.1
+-- ---- parts
 
 pub all_drop : (P : FreshUnit → Type 0) (k : ℕ) (fs : List FreshUnit) → AllByRecursion P fs → AllByRecursion P (drop k fs)
 all_drop P zero fs all = all
 all_drop P (suc k) [] all = tt
 all_drop P (suc k) (f ∷ fs) all = all_drop P k fs all.1
-
-pub all_front : (P : FreshUnit → Type 0) (fs gs : List FreshUnit) → AllByRecursion P (fs ++ gs) → AllByRecursion P fs
-all_front P [] gs all = tt
-all_front P (f ∷ fs) gs all = (all.0, all_front P fs gs all.1)
-
-pub all_behind : (P : FreshUnit → Type 0) (fs gs : List FreshUnit) → AllByRecursion P (fs ++ gs) → AllByRecursion P gs
-all_behind P [] gs all = all
-all_behind P (f ∷ fs) gs all = all_behind P fs gs all.1
-
-pub all_both : (P Q R : FreshUnit → Type 0) → ((f : FreshUnit) → P f → Q f → R f) → (fs : List FreshUnit) → AllByRecursion P fs → AllByRecursion Q fs
-    → AllByRecursion R fs
-all_both P Q R both [] ps qs = tt
-all_both P Q R both (f ∷ fs) ps qs = (both f ps.0 qs.0, all_both P Q R both fs ps.1 qs.1)
 
 -- once it is submitted, what was given of the context are the units that were given before, and those of the run
 pub given_units : (x : Context) (n : Unsent) → IsRunOf x n → take (x.given + length (unsent_units n)) x.fresh ≡ take x.given x.fresh ++ unsent_units n

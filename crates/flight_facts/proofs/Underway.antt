@@ -1,19 +1,12 @@
 -- How far the log is with the open batch, as its submissions come and go.
-use Rattle.std.proofs.Common.{◌≡◌, ℕ, ◌+◌, ◌<◌, ◌≤◌, true, List, [], ◌∷◌, ◌++◌, length, Option, Some, None, refl, sym, ap, subst, ◌∙◌, length-append, arith}
-use Rattle.block_device.specs.declared.device.Ticket.{Ticket}
-use Rattle.meta_rows.specs.declared.row_op.RowOp.{RowOp}
-use Rattle.meta_log.specs.Prelude.{unit_count, piece_count}
-use Rattle.store_steps.specs.declared.flight.FlushState.{FlushState}
+use Rattle.std.proofs.Common.{◌≡◌, ℕ, ◌+◌, ◌<◌, ◌≤◌, true, List, [], ◌∷◌, ◌++◌, length, Option, Some, None, refl, sym, ap, subst, ◌∙◌, arith}
+use Rattle.flight_facts.proofs.Common.{Ticket, RowOp, unit_count, piece_count, FlushState, Flying, Job, Begun, is_flushed}
 use Rattle.store_steps.specs.declared.flight.FlushState.TheVariants as flush
-use Rattle.store_steps.specs.declared.flight.Flying.{Flying}
-use Rattle.store_steps.specs.declared.flight.Job.{Job}
 use Rattle.store_steps.specs.declared.flight.Job.TheVariants as job
-use Rattle.meta_store.specs.Store.{Begun}
 use Rattle.store_steps.specs.Prelude.{written_more, is_not_sent, pieces_of}
-use Rattle.store_steps.specs.Ready.{is_flushed}
 use Rattle.flight_facts.specs.Prelude.{IsNotGiven, IsWriting, IsWritten, IsUnderWay}
 use Rattle.flight_facts.proofs.Pieces.{some_pieces}
-use Rattle.flight_facts.proofs.Lists.{all_left, all_right, all_join}
+use Rattle.flight_facts.proofs.Lists.{all_left, all_right, all_join, length_push, length_middle}
 
 pub no_front : (front : List Flying) (f : Flying) (back : List Flying) → front ++ f ∷ back ≡ [] → ⊥
 no_front [] f back is = cc
@@ -30,13 +23,6 @@ lone [] f (g ∷ back) e is = absurd (cc)
 lone (h ∷ []) f back e is = absurd (cc)
 lone (h ∷ i ∷ front) f back e is = absurd (cc)
 
-length_middle : (front : List Flying) (f : Flying) (back : List Flying) → length (front ++ f ∷ back) ≡ length (front ++ back) + 1
-length_middle [] f back = omega arith
-length_middle (e ∷ front) f back = omega (arith, length_middle front f back)
-
-pub length_more : (fs : List Flying) (f : Flying) → length (fs ++ f ∷ []) ≡ length fs + 1
-length_more fs f = length-append fs (f ∷ [])
-
 -- ---- submissions
 
 -- the flight of a flush
@@ -48,10 +34,8 @@ pub flush_way : (first second : FlushState) (pieces : ℕ) (ops : List RowOp) (b
     → IsUnderWay (flush.Sent ticket) second pieces ops begun (flying ++ flushing ticket job.DataFlush ∷ [])
 flush_way flush.NotSent flush.NotSent pieces ops begun flying ticket is h =
     (h.0, ap (λ (fs : List Flying). fs ++ flushing ticket job.DataFlush ∷ []) h.1)
-flush_way flush.NotSent (flush.Sent t) pieces ops begun flying ticket is h = absurd h
-flush_way flush.NotSent flush.Flushed pieces ops begun flying ticket is h = absurd h
-flush_way (flush.Sent t) second pieces ops begun flying ticket is h = absurd (cc)
-flush_way flush.Flushed second pieces ops begun flying ticket is h = absurd (cc)
+flush_way flush.NotSent second pieces ops begun flying ticket is h = absurd h
+flush_way first second pieces ops begun flying ticket is h = absurd (cc)
 
 -- a record that was just made
 abbrev pub made_record : List RowOp → Begun
@@ -60,15 +44,12 @@ made_record ops = record { ops = ops; given = 0; written = 0 }
 pub seal_way : (first second : FlushState) (pieces : ℕ) (ops : List RowOp) (flying : List Flying)
     → IsUnderWay first second pieces ops None flying → IsUnderWay first second pieces ops (Some (made_record ops)) flying
 seal_way flush.NotSent flush.NotSent pieces ops flying h = ((refl, refl, refl), h.1)
-seal_way flush.NotSent (flush.Sent t) pieces ops flying h = absurd h
-seal_way flush.NotSent flush.Flushed pieces ops flying h = absurd h
 seal_way (flush.Sent ticket) flush.NotSent pieces ops flying h = ((refl, refl, refl), h.1)
-seal_way (flush.Sent ticket) (flush.Sent t) pieces ops flying h = absurd h
-seal_way (flush.Sent ticket) flush.Flushed pieces ops flying h = absurd h
 seal_way flush.Flushed flush.NotSent pieces ops flying h =
     subst (λ (fs : List Flying). IsWriting pieces ops (Some (made_record ops)) fs) (sym h) (refl, omega arith, refl, tt)
 seal_way flush.Flushed (flush.Sent ticket) pieces ops flying h = absurd h.0
 seal_way flush.Flushed flush.Flushed pieces ops flying h = absurd h.0
+seal_way first second pieces ops flying h = absurd h
 
 pub not_more : (a b c : ℕ) → a ≡ b → b ≡ c → a < c → ⊥
 not_more a b c is same lt = omega (arith, is, same, lt)
@@ -81,12 +62,10 @@ pub record_way : (first second : FlushState) (number : ℕ) (ops : List RowOp) (
     → is_flushed first ≡ true → r.given < pieces_of number r
     → IsUnderWay first second (piece_count (unit_count number ops)) ops (Some r) flying
     → IsUnderWay first second (piece_count (unit_count number ops)) ops (Some (record r { given = r.given + 1 })) (flying ++ flushing ticket job.Record ∷ [])
-record_way flush.NotSent second number ops r flying ticket is more h = absurd (cc)
-record_way (flush.Sent t) second number ops r flying ticket is more h = absurd (cc)
 record_way flush.Flushed flush.NotSent number ops r flying ticket is more h = (
   h.0,
   next r.given (pieces_of number r) (piece_count (unit_count number ops)) more (pieces_are number ops r h.0),
-  counted r.written (length flying) _ r.given h.2 (length_more flying (flushing ticket job.Record)),
+  counted r.written (length flying) _ r.given h.2 (length_push flying (flushing ticket job.Record)),
   all_join (λ f. f.job ≡ job.Record) flying (flushing ticket job.Record ∷ []) h.3 (refl, tt),
 )
   where
@@ -95,10 +74,9 @@ record_way flush.Flushed flush.NotSent number ops r flying ticket is more h = (
 
     counted : (written flying flying' given : ℕ) → written + flying ≡ given → flying' ≡ flying + 1 → written + flying' ≡ given + 1
     counted written flying flying' given is is' = omega (arith, is, is')
-record_way flush.Flushed (flush.Sent t) number ops r flying ticket is more h =
+record_way flush.Flushed second number ops r flying ticket is more h =
     absurd (not_more r.given (piece_count (unit_count number ops)) (pieces_of number r) h.0.1 (pieces_are number ops r h.0.0) more)
-record_way flush.Flushed flush.Flushed number ops r flying ticket is more h =
-    absurd (not_more r.given (piece_count (unit_count number ops)) (pieces_of number r) h.0.1 (pieces_are number ops r h.0.0) more)
+record_way first second number ops r flying ticket is more h = absurd (cc)
 
 none_written : (number : ℕ) (ops : List RowOp) (r : Begun) → IsNotGiven ops (Some r) → r.written ≡ pieces_of number r → ⊥
 none_written number ops r none all = not_more 0 r.written (pieces_of number r) (sym none.2) all (some_pieces number r.ops)
@@ -107,8 +85,6 @@ none_written number ops r none all = not_more 0 r.written (pieces_of number r) (
 pub all_written : (first second : FlushState) (number : ℕ) (ops : List RowOp) (r : Begun) (flying : List Flying)
     → is_not_sent second ≡ true → r.written ≡ pieces_of number r → IsUnderWay first second (piece_count (unit_count number ops)) ops (Some r) flying
     → (first ≡ flush.Flushed) × (second ≡ flush.NotSent) × IsWritten (piece_count (unit_count number ops)) ops (Some r) × (flying ≡ [])
-all_written first (flush.Sent t) number ops r flying is all h = absurd (cc)
-all_written first flush.Flushed number ops r flying is all h = absurd (cc)
 all_written flush.NotSent flush.NotSent number ops r flying is all h = absurd (none_written number ops r h.0 all)
 all_written (flush.Sent t) flush.NotSent number ops r flying is all h = absurd (none_written number ops r h.0 all)
 all_written flush.Flushed flush.NotSent number ops r flying is all h =
@@ -128,6 +104,7 @@ all_written flush.Flushed flush.NotSent number ops r flying is all h =
     none : (fs : List Flying) → length fs ≡ 0 → fs ≡ []
     none [] is = refl
     none (f ∷ fs) is = absurd (omega (arith, is))
+all_written first second number ops r flying is all h = absurd (cc)
 
 pub sync_way : (first second : FlushState) (number : ℕ) (ops : List RowOp) (r : Begun) (flying : List Flying) (ticket : Ticket)
     → is_not_sent second ≡ true → r.written ≡ pieces_of number r → IsUnderWay first second (piece_count (unit_count number ops)) ops (Some r) flying
@@ -140,11 +117,9 @@ sync_way first second number ops r flying ticket is all h =
 -- behind the second flush nothing flies for the log
 pub synced_way : (first second : FlushState) (pieces : ℕ) (ops : List RowOp) (begun : Option Begun) (flying : List Flying) → is_flushed second ≡ true
     → IsUnderWay first second pieces ops begun flying → (first ≡ flush.Flushed) × IsWritten pieces ops begun × (flying ≡ [])
-synced_way first flush.NotSent pieces ops begun flying is h = absurd (cc)
-synced_way first (flush.Sent t) pieces ops begun flying is h = absurd (cc)
-synced_way flush.NotSent flush.Flushed pieces ops begun flying is h = absurd h
-synced_way (flush.Sent t) flush.Flushed pieces ops begun flying is h = absurd h
 synced_way flush.Flushed flush.Flushed pieces ops begun flying is h = (refl, h.0, h.1)
+synced_way first flush.Flushed pieces ops begun flying is h = absurd h
+synced_way first second pieces ops begun flying is h = absurd (cc)
 
 -- ---- ends
 
@@ -160,13 +135,9 @@ pub data Flies (first second : FlushState) (pieces : ℕ) (ops : List RowOp) (be
 pub what_flies : (first second : FlushState) (pieces : ℕ) (ops : List RowOp) (begun : Option Begun) (front : List Flying) (f : Flying) (back : List Flying)
     → IsUnderWay first second pieces ops begun (front ++ f ∷ back) → Flies first second pieces ops begun front f back
 what_flies flush.NotSent flush.NotSent pieces ops begun front f back h = absurd (no_front front f back h.1)
-what_flies flush.NotSent (flush.Sent t) pieces ops begun front f back h = absurd h
-what_flies flush.NotSent flush.Flushed pieces ops begun front f back h = absurd h
 what_flies (flush.Sent ticket) flush.NotSent pieces ops begun front f back h =
     let one = lone front f back (flushing ticket job.DataFlush) h.1 in
     first_flies (ap (λ (g : Flying). g.job) one.same) refl (ap (λ (g : Flying). flush.Sent g.ticket) (sym one.same)) h.0 one.left
-what_flies (flush.Sent ticket) (flush.Sent t) pieces ops begun front f back h = absurd h
-what_flies (flush.Sent ticket) flush.Flushed pieces ops begun front f back h = absurd h
 what_flies flush.Flushed flush.NotSent pieces ops None front f back h = absurd (no_front front f back h)
 what_flies flush.Flushed flush.NotSent pieces ops (Some r) front f back h =
     let behind = all_right (λ (g : Flying). g.job ≡ job.Record) front (f ∷ back) h.3 in
@@ -183,6 +154,7 @@ what_flies flush.Flushed (flush.Sent ticket) pieces ops begun front f back h =
     let one = lone front f back (flushing ticket job.RecordFlush) h.1 in
     second_flies (ap (λ (g : Flying). g.job) one.same) refl (ap (λ (g : Flying). flush.Sent g.ticket) (sym one.same)) h.0 one.left
 what_flies flush.Flushed flush.Flushed pieces ops begun front f back h = absurd (no_front front f back h.1)
+what_flies first second pieces ops begun front f back h = absurd h
 
 -- the first flush has ended
 pub first_ended : (pieces : ℕ) (ops : List RowOp) (begun : Option Begun) (flying : List Flying) → IsNotGiven ops begun → flying ≡ []

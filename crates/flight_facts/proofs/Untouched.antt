@@ -1,8 +1,6 @@
 -- What is apart from what is in flight, unit by unit: a run of units, and the flights as they come and go.
 use Rattle.std.proofs.Common.{◌≡◌, inl, inr, ℕ, ◌+◌, ◌*◌, ◌<◌, ◌≤◌, List, [], ◌∷◌, length, get_or, All, arith}
-use Rattle.std.specs.List.{AllByRecursion}
-use Rattle.std.proofs.lemmas.Bool.{cases_lt}
-use Rattle.block_device.specs.Prelude.{Flight, flight_of, IsApart, IsUntouched}
+use Rattle.flight_facts.proofs.Common.{AllByRecursion, cases_lt, Flight, flight_of, IsApart, IsUntouched}
 use Rattle.block_device.specs.declared.event.Event.TheVariants as event
 
 -- ---- lists

@@ -1,18 +1,10 @@
 -- The units of transactions under way are apart: those of one are none of another's, and none is one of the log's.
 use Rattle.std.proofs.Common.{◌≡◌, ℕ, zero, suc, ◌+◌, ◌*◌, ◌%◌, ◌<◌, ◌≤◌, List, [], ◌∷◌, ◌++◌, take, Contains, Option, Some, None, IfSome, refl, sym, ap, subst, ◌∙◌, append_assoc, arith}
-use Rattle.std.specs.List.{AllByRecursion}
-use Rattle.std.specs.Option.{option_map_or}
+use Rattle.run_facts.proofs.Common.{AllByRecursion, option_map_or, Disk, RowOp, Super, unit_count, active_unit, IsDataUnit, FreshUnit, Context, Begun}
 use Rattle.std.proofs.lemmas.List.Elements.{Contains-append_left, Contains-append_right}
 use Rattle.unit_allocator.proofs.Lists.{Contains-head, Contains-tail}
-use Rattle.block_device.specs.Prelude.{Disk}
-use Rattle.meta_rows.specs.declared.row_op.RowOp.{RowOp}
-use Rattle.meta_log.specs.declared.slot.Super.{Super}
-use Rattle.meta_log.specs.Prelude.{unit_count, active_unit, data_unit}
-use Rattle.store_image.specs.Prelude.{IsDataUnit}
-use Rattle.plan_rows.specs.declared.plan.FreshUnit.{FreshUnit}
+use Rattle.meta_log.specs.Prelude.{data_unit}
 use Rattle.space_facts.proofs.Prelude.{times, times_append, times_some}
-use Rattle.store_steps.specs.declared.context.Context.{Context}
-use Rattle.meta_store.specs.Store.{Begun}
 use Rattle.store_steps.specs.Prelude.{Batch, State, uncommitted, all_fresh, given_fresh}
 use Rattle.flight_facts.specs.Prelude.{IsNone, IsGivenPiece}
 use Rattle.flight_facts.proofs.Prelude.{all_left, all_right, all_join, all_take, all_then}

@@ -1,30 +1,22 @@
 -- The footprints of the steps of a batch: Take, Flush, Seal, Record, Sync; and of Finish.
 use Rattle.std.proofs.Common.{◌≡◌, true, ℕ, ◌+◌, ◌-◌, ◌*◌, ◌≤◌, List, [], ◌∷◌, ◌++◌, length, Option, Some, None, refl, sym, ap, subst, ◌∙◌, arith, length-append, map, is_some, is_none, take}
-use Rattle.std.specs.Option.{option_map_or}
+use Rattle.run_facts.proofs.Common.{option_map_or, Disk, RowOp, unit_count, record_units, active_unit, piece_first, piece_units, given_from, LiesInRecord, Context, FreshUnit, Begun, Ascends, and_parts}
 use Rattle.byte_maps.specs.Units.{units_from}
-use Rattle.block_device.specs.Prelude.{Disk}
-use Rattle.meta_rows.specs.declared.row_op.RowOp.{RowOp}
-use Rattle.meta_log.specs.Prelude.{unit_count, record_units, active_unit, piece_first, piece_units, given_from, LiesInRecord}
 use Rattle.meta_log.proofs.PieceLemmas.{given_from-none}
 use Rattle.log_facts.specs.Prelude.{not_sent}
-use Rattle.store_steps.specs.declared.context.Context.{Context}
-use Rattle.plan_rows.specs.declared.plan.FreshUnit.{FreshUnit}
 use Rattle.store_steps.specs.declared.step.Step.TheVariants as step
 use Rattle.store_steps.specs.Prelude.{Batch, State, without_context, batch_ops, chosen, finished, taken_up, flush_sent, sync_sent, commit_of, acknowledged, is_ready, DoesTake, DoesFlush, DoesSeal, DoesRecord, DoesSync, DoesFinish, piece_unit, piece_bytes, uncommitted, given_fresh, begun_ops, submitted_from, second_flush, Intent, intent_of, intents, is_in, data_part, half_part, book_part, Adds, nothing, flushes, on_half, Footprint}
-use Rattle.meta_store.specs.Store.{Begun}
 use Rattle.store_steps.specs.RowsGo as rows
 use Rattle.store_steps.specs.DataGoes as units
 use Rattle.store_steps.specs.HalfGoes as half
 use Rattle.store_steps.specs.BookGoes as book
-use Rattle.flight_facts.proofs.Prelude.{seal_none, ready_not_down, ready_by_table, acknowledged_length, unsealed_second, record_second, sync_begun, IsFirst, chosen_first, elsewhere, without_at, none_is}
+use Rattle.flight_facts.proofs.Prelude.{seal_none, ready_not_down, ready_by_table, acknowledged_length, unsealed_second, record_second, sync_begun, IsFirst, chosen_first, elsewhere, none_is, without_in}
 use Rattle.run_facts.specs.Prelude.{IsKept}
-use Rattle.run_facts.proofs.Conditions.{HasRecord, ReadyRecord, number_low}
+use Rattle.run_facts.proofs.Conditions.{HasRecord, ReadyRecord, number_low, take_none}
 use Rattle.run_facts.proofs.Known.{flush_covers, sync_covers, known_seal, known_record, piece_lies, piece_size}
-use Rattle.run_facts.proofs.PartsKept.{book_alone, intents_both, given_both}
+use Rattle.run_facts.proofs.PartsKept.{book_alone, device_alone, intents_both, given_both}
 use Rattle.space_facts.proofs.Prelude.{first_taken}
 use Rattle.selections.specs.Fair.{IsComplete}
-use Rattle.unit_fields.specs.Prelude.{Ascends}
-use Rattle.std.proofs.lemmas.Bool.{and_parts}
 
 -- the device has no part in it
 pub rests : (d d' : Disk) → d' ≡ d → Adds nothing d d'
@@ -37,8 +29,7 @@ module _ (s : State) (x : Context) (none : s.batch ≡ None) (at : IsFirst [] x 
   before_it = ap (λ (o : Option Batch). option_map_or (λ b. b.contexts) o [] ++ s.pending) none ∙ at.is
 
   pub behind_it : uncommitted (taken_up x s) ≡ x ∷ (at.front ++ at.back)
-  behind_it = ap (λ (xs : List Context). x ∷ xs) (ap (without_context x.place) at.is
-      ∙ without_at at.front x at.back (elsewhere at.front x at.back (subst (λ (xs : List Context). Ascends (map (λ (z : Context). z.place) xs)) at.is places)))
+  behind_it = ap (λ (xs : List Context). x ∷ xs) (without_in at.front x at.back s.pending at.is places)
 
   -- it changes places with those of other collections
   order : IsComplete is_in (intents (uncommitted s)) (intents (uncommitted (taken_up x s)))
@@ -65,8 +56,7 @@ pub take_footprint : (s : State) (d : Disk) (s' : State) (d' : Disk) → IsKept 
 take_footprint s d s' d' kept ready does =
     let x : Context = does.context in
     let up : s.down ≡ None = ready_not_down s d.depth step.Take refl ready in
-    let none : s.batch ≡ None = none_is s.batch
-    (and_parts (is_none s.batch) (is_some (chosen s.pending)) (ready_by_table s d.depth step.Take up ready)).0 in
+    let none : s.batch ≡ None = take_none s d.depth (ready_by_table s d.depth step.Take up ready) in
     let at : IsFirst [] x s.pending = chosen_first [] s.pending x does.is_chosen in
     let places : Ascends (map (λ (z : Context). z.place) s.pending) = (kept.up up).flights.places.ascend in
     subst (λ (t : State). Footprint s d t d') (sym does.after) (record {
@@ -94,17 +84,9 @@ pub flush_footprint : (s : State) (d : Disk) (s' : State) (d' : Disk) → IsKept
 flush_footprint s d s' d' kept ready does =
     let b : Batch = does.batch in
     subst (λ (t : State). Footprint s d t d') (sym does.after)
-    (subst (λ (o : Option Batch). (let t : State = record s { batch = o } in Footprint t d (flush_sent b does.ticket t) d')) (sym does.begun) (record {
-      touch = flushes does.ticket.place;
-      device = does.submitted;
-      placed = tt;
-      counted = refl;
-      rows = rows.same refl;
-      units = units.flushes_batch does.ticket.place (flush_covers s d b kept ready does.begun) refl;
-      half = half.same tt refl;
-      book = book.same refl;
-      caused = tt;
-    }))
+    (subst (λ (o : Option Batch). (let t : State = record s { batch = o } in Footprint t d (flush_sent b does.ticket t) d')) (sym does.begun)
+    (device_alone (record s { batch = Some b }) d _ d' (flushes does.ticket.place) does.submitted tt refl refl
+    (units.flushes_batch does.ticket.place (flush_covers s d b kept ready does.begun) refl) (half.same tt refl) refl))
 
 pub sync_footprint : (s : State) (d : Disk) (s' : State) (d' : Disk) → IsKept s d → is_ready step.Sync d.depth s ≡ true → DoesSync s d s' d'
     → Footprint s d s' d'
@@ -114,18 +96,9 @@ sync_footprint s d s' d' kept ready does =
     let is = sync_begun s d.depth (ready_by_table s d.depth step.Sync up ready) in
     let second : second_flush (Some b) ≡ not_sent = ap second_flush (sym does.begun) ∙ is.0 in
     subst (λ (t : State). Footprint s d t d') (sym does.after)
-    (subst (λ (o : Option Batch). (let t : State = record s { batch = o } in Footprint t d (sync_sent b does.ticket t) d')) (sym does.begun) (record {
-      touch = flushes does.ticket.place;
-      device = does.submitted;
-      placed = tt;
-      counted = refl;
-      rows = rows.same refl;
-      units = units.same tt refl;
-      half = half.syncs does.ticket.place is.1.0.ops (ap begun_ops is.1.1) second
-          (λ j low high. sync_covers s d is.1.0 j kept ready is.1.1 high) refl;
-      book = book.same refl;
-      caused = tt;
-    }))
+    (subst (λ (o : Option Batch). (let t : State = record s { batch = o } in Footprint t d (sync_sent b does.ticket t) d')) (sym does.begun)
+    (device_alone (record s { batch = Some b }) d _ d' (flushes does.ticket.place) does.submitted tt refl refl (units.same tt refl)
+    (half.syncs does.ticket.place is.1.0.ops (ap begun_ops is.1.1) second (λ j low high. sync_covers s d is.1.0 j kept ready is.1.1 high) refl) refl))
 
 -- ---- the record
 
@@ -137,19 +110,10 @@ seal_footprint s d s' d' kept ready does =
     let up : s.down ≡ None = ready_not_down s d.depth step.Seal refl ready in
     let none : s.log.begun ≡ None = seal_none s d.depth (ready_by_table s d.depth step.Seal up ready) in
     let second : second_flush s.batch ≡ not_sent = unsealed_second s d.flights (kept.up up).flights none in
-    subst (λ (t : State). Footprint s d t d') (sym does.after) (record {
-      touch = nothing;
-      device = rests d d' does.same;
-      placed = tt;
-      counted = omega arith;
-      rows = rows.same refl;
-      units = units.same tt refl;
-      half = half.begins ops (ap begun_ops none) (record { number_below = number_low s d kept.always; body_below = r.body; fit = r.fit }) r.room
-          (ap (λ (n : ℕ). record (half_part s) { begun = Some ops; from = n }) (given_from-none (unit_count s.log.number ops))
-          ∙ ap (λ f. record (half_part s) { begun = Some ops; from = unit_count s.log.number ops; second = f }) second);
-      book = book.same refl;
-      caused = tt;
-    })
+    subst (λ (t : State). Footprint s d t d') (sym does.after) (device_alone s d _ d' nothing (rests d d' does.same) tt (omega arith) refl (units.same tt refl)
+    (half.begins ops (ap begun_ops none) (record { number_below = number_low s d kept.always; body_below = r.body; fit = r.fit }) r.room
+    (ap (λ (n : ℕ). record (half_part s) { begun = Some ops; from = n }) (given_from-none (unit_count s.log.number ops))
+    ∙ ap (λ f. record (half_part s) { begun = Some ops; from = unit_count s.log.number ops; second = f }) second)) refl)
 
 -- where the next piece lies
 module _ (s : State) (d : Disk) (r : Begun) (lying : LiesInRecord (unit_count s.log.number r.ops) r.given) where

@@ -1,8 +1,6 @@
 -- What a call makes of the book keeps what is kept of it.
 use Rattle.std.proofs.Common.{◌≡◌, ℕ, ◌<◌, ◌≤◌, true, List, [], ◌∷◌, ◌++◌, length, None, refl, sym, subst, append_assoc, append-nil, length-append, arith}
-use Rattle.std.proofs.lemmas.Bool.{ltb-true}
-use Rattle.block_device.specs.Prelude.{Disk}
-use Rattle.object_model.specs.declared.book.Commit.{Commit}
+use Rattle.run_facts.proofs.Common.{ltb-true, Disk, Commit}
 use Rattle.store_steps.specs.declared.step.Step.TheVariants.{Finish}
 use Rattle.store_steps.specs.Prelude.{State, applied_count, is_ready, Intent, RowsPart, BookPart, book_part, Touch, RowsGo, BookGoes, commits_of, IsCaused}
 use Rattle.store_steps.specs.RowsGo as rows
@@ -50,11 +48,6 @@ module _ (s : State) (d : Disk) (s' : State) (d' : Disk) where
 
   pub acked_in_turn : {p q : RowsPart} {events : ℕ} {t : Touch} {c : BookPart} (moved : RowsGo p q) (goes : BookGoes events t (book_part s) c)
       → IsCaused s d s' d' moved goes → IsAckedInTurn (book_part s) goes
-  acked_in_turn moved (book.same is) caused = tt
-  acked_in_turn moved (book.enters e is) caused = tt
-  acked_in_turn moved (book.commits xs none is) caused = tt
-  acked_in_turn moved (book.applies count all is) caused = tt
   acked_in_turn (rows.same kept) (book.acknowledges is) caused = in_turn caused.ready
-  acked_in_turn (rows.joins x joined) (book.acknowledges is) caused = absurd caused
-  acked_in_turn (rows.reorders later complete kept) (book.acknowledges is) caused = absurd caused
-  acked_in_turn (rows.applies number front back both fits applied) (book.acknowledges is) caused = absurd caused
+  acked_in_turn moved (book.acknowledges is) caused = absurd caused
+  acked_in_turn moved goes caused = tt

@@ -1,15 +1,8 @@
 -- The footprint of Commit.
 use Rattle.std.proofs.Common.{◌≡◌, ◌≤◌, true, ℕ, ◌+◌, ◌-◌, List, [], ◌∷◌, ◌++◌, length, Option, Some, None, refl, sym, ap, subst, ◌∙◌, append_assoc, arith}
-use Rattle.std.specs.List.{AllByRecursion}
+use Rattle.run_facts.proofs.Common.{AllByRecursion, Disk, RowOp, rows_after, given, unit_count, given_from, Context, FreshUnit}
 use Rattle.std.proofs.lemmas.List.{take_all}
-use Rattle.block_device.specs.Prelude.{Disk}
-use Rattle.meta_rows.specs.declared.row_op.RowOp.{RowOp}
-use Rattle.meta_rows.specs.Prelude.{rows_after}
-use Rattle.unit_allocator.specs.Prelude.{given}
-use Rattle.meta_log.specs.Prelude.{unit_count, given_from}
 use Rattle.meta_log.proofs.PieceLemmas.{given_from-all}
-use Rattle.store_steps.specs.declared.context.Context.{Context}
-use Rattle.plan_rows.specs.declared.plan.FreshUnit.{FreshUnit}
 use Rattle.store_steps.specs.declared.step.Step.TheVariants as step
 use Rattle.store_steps.specs.Prelude.{Batch, State, batch_ops, batch_released, sum_needs, committed_batch, is_ready, DoesCommit, all_fresh, given_fresh, begun_ops, submitted_from, Intent, intents, ops_by, released_by, needs_by, RowsPart, rows_part, nothing, Footprint}
 use Rattle.store_steps.specs.RowsGo as rows

@@ -1,22 +1,12 @@
 -- What is known where a step is ready: the conditions under which the kernel calls the device and the log.
 use Rattle.std.proofs.Common.{◌≡◌, ℕ, ◌+◌, ◌-◌, ◌*◌, ◌^◌, ◌<◌, ◌≤◌, ◌&&◌, Bool, true, nat_lt, List, [], ◌∷◌, ◌++◌, length, Option, Some, None, is_some, is_none, refl, sym, ap, subst, ◌∙◌, arith}
-use Rattle.std.specs.List.{AllByRecursion, flat_map}
-use Rattle.std.specs.Option.{option_map_or}
-use Rattle.std.proofs.lemmas.Bool.{and_parts, ltb-true}
-use Rattle.block_device.specs.Prelude.{Disk}
-use Rattle.meta_rows.specs.declared.row_op.RowOp.{RowOp}
-use Rattle.meta_rows.specs.Prelude.{ops_bytes, FitsRowOp, AllFit}
-use Rattle.meta_log.specs.Prelude.{unit_count, piece_count}
-use Rattle.store_steps.specs.declared.context.Context.{Context}
-use Rattle.store_steps.specs.declared.flight.FlushState.{FlushState}
+use Rattle.run_facts.proofs.Common.{AllByRecursion, flat_map, option_map_or, and_parts, ltb-true, Disk, RowOp, ops_bytes, unit_count, piece_count, Context, FlushState, Flying, Begun, is_flushed}
+use Rattle.meta_rows.specs.Prelude.{FitsRowOp, AllFit}
 use Rattle.store_steps.specs.declared.flight.FlushState.TheVariants as flush
-use Rattle.store_steps.specs.declared.flight.Flying.{Flying}
 use Rattle.store_steps.specs.declared.step.Step.TheVariants.{Take, Seal, Record, Commit, Finish}
-use Rattle.meta_store.specs.Store.{Begun}
 use Rattle.store_steps.specs.Prelude.{Batch, State, Unsent, unsent_units, run_bytes, next_unsent, chosen, batch_ops, sum_needs, pieces_of, batch_is, begun_is, applied_count, is_ready_up, uncommitted, intent_of, intents, needs_by, rows_part}
-use Rattle.store_steps.specs.Ready.{is_flushed}
 use Rattle.flight_facts.specs.Prelude.{IsWritten, IsUnderWay, IsBatchOpen, IsLogFar, log_flying, IsAllGiven, FitsRecord, entry_work, work_left}
-use Rattle.flight_facts.proofs.Prelude.{same_count, short_body, IsRunOf, row_bytes, run_whole, StandsIn, all_left, all_right, all_join, synced_way, next_stands, test_of, some_is, none_is}
+use Rattle.flight_facts.proofs.Prelude.{same_count, short_body, IsRunOf, row_bytes, run_whole, StandsIn, all_left, all_right, all_join, synced_way, next_stands, test_of, some_is, none_is, all_at, open_far, begun_far, record_tests, pieces_left}
 use Rattle.run_facts.specs.Prelude.{HasRoom, IsAlwaysKept, IsKeptUp}
 use Rattle.run_facts.proofs.Numbers.{NextAcked, next_acked}
 
@@ -67,19 +57,15 @@ data_ready s n room is = record { at = at; fits = fits; whole = whole; size = ro
     at = next_stands s.pending n is
 
     fits : FitsRecord (intent_of at.item)
-    fits = (all_right (λ x. FitsRecord (intent_of x)) at.front (at.item ∷ at.back)
-        (subst (AllByRecursion (λ x. FitsRecord (intent_of x))) at.is (pending_fits s room))).0
+    fits = all_at (λ x. FitsRecord (intent_of x)) at.front at.item at.back s.pending at.is (pending_fits s room)
 
     whole : AllByRecursion (λ f. length f.bytes ≡ 4096) (unsent_units n)
     whole = run_whole at.item n at.holds fits
 
 -- ---- the open batch
 
-open_far : (s : State) (d : Disk) (b : Batch) → IsKeptUp s d → s.batch ≡ Some b → IsBatchOpen s.log.number b s.log.begun (log_flying s.flying)
-open_far s d b up is = subst (λ (o : Option Batch). IsLogFar s.log.number o s.log.begun (log_flying s.flying)) is up.flights.log
-
 pub batch_written : (s : State) (d : Disk) (b : Batch) → IsKeptUp s d → s.batch ≡ Some b → AllByRecursion IsAllGiven b.contexts
-batch_written s d b up is = (open_far s d b up is).written
+batch_written s d b up is = (open_far s d.flights b up.flights is).written
 
 -- its operations have a spelling
 ops_fit : (xs : List Context) → AllByRecursion (λ x. FitsRecord (intent_of x)) xs → AllFit (flat_map (λ x. x.ops) xs)
@@ -104,7 +90,7 @@ has_record s d b a up is = record {
 }
   where
     needed : unit_count s.log.number (batch_ops b) ≤ sum_needs b.contexts
-    needed = (open_far s d b up is).needed
+    needed = (open_far s d.flights b up.flights is).needed
 
     reserved : s.log.reserved ≡ sum_needs (b.contexts ++ s.pending)
     reserved = up.room.reserved ∙ needs_are (uncommitted s)
@@ -147,19 +133,14 @@ pub record ReadyRecord (s : State) (r : Begun) : Type 0 where
 made_way : (first second : FlushState) (pieces : ℕ) (ops : List RowOp) (r : Begun) (flying : List Flying)
     → IsUnderWay first second pieces ops (Some r) flying → r.ops ≡ ops
 made_way flush.NotSent flush.NotSent pieces ops r flying h = (h.0).0
-made_way flush.NotSent (flush.Sent u) pieces ops r flying h = absurd h
-made_way flush.NotSent flush.Flushed pieces ops r flying h = absurd h
 made_way (flush.Sent t) flush.NotSent pieces ops r flying h = (h.0).0
-made_way (flush.Sent t) (flush.Sent u) pieces ops r flying h = absurd h
-made_way (flush.Sent t) flush.Flushed pieces ops r flying h = absurd h
 made_way flush.Flushed flush.NotSent pieces ops r flying h = h.0
-made_way flush.Flushed (flush.Sent u) pieces ops r flying h = (h.0).0
-made_way flush.Flushed flush.Flushed pieces ops r flying h = (h.0).0
+made_way flush.Flushed second pieces ops r flying h = (h.0).0
+made_way first second pieces ops r flying h = absurd h
 
 pub made_ops : (s : State) (d : Disk) (b : Batch) (r : Begun) → IsKeptUp s d → s.batch ≡ Some b → s.log.begun ≡ Some r → r.ops ≡ batch_ops b
-made_ops s d b r up is begun = made_way b.first b.second (piece_count (unit_count s.log.number (batch_ops b))) (batch_ops b) r (log_flying s.flying)
-    (subst (λ (o : Option Begun). IsUnderWay b.first b.second (piece_count (unit_count s.log.number (batch_ops b))) (batch_ops b) o (log_flying s.flying)) begun
-    (open_far s d b up is).far)
+made_ops s d b r up is begun =
+    made_way b.first b.second _ (batch_ops b) r (log_flying s.flying) (begun_far s d.flights b (Some r) up.flights is begun)
 
 -- and there is one where a record is made
 pub record IsMade (s : State) (r : Begun) : Type 0 where
@@ -178,43 +159,27 @@ made_batch s d r up begun = of_batch s.batch refl (subst (λ (o : Option Begun).
 given_way : (first second : FlushState) (pieces : ℕ) (ops : List RowOp) (r : Begun) (flying : List Flying)
     → IsUnderWay first second pieces ops (Some r) flying → 0 < r.given → first ≡ flush.Flushed
 given_way flush.NotSent flush.NotSent pieces ops r flying h some = absurd (omega (arith, (h.0).1, some))
-given_way flush.NotSent (flush.Sent u) pieces ops r flying h some = absurd h
-given_way flush.NotSent flush.Flushed pieces ops r flying h some = absurd h
 given_way (flush.Sent t) flush.NotSent pieces ops r flying h some = absurd (omega (arith, (h.0).1, some))
-given_way (flush.Sent t) (flush.Sent u) pieces ops r flying h some = absurd h
-given_way (flush.Sent t) flush.Flushed pieces ops r flying h some = absurd h
 given_way flush.Flushed second pieces ops r flying h some = refl
+given_way first second pieces ops r flying h some = absurd h
 
 pub given_flushed : (s : State) (d : Disk) (b : Batch) (r : Begun) → IsKeptUp s d → s.batch ≡ Some b → s.log.begun ≡ Some r → 0 < r.given
     → b.first ≡ flush.Flushed
-given_flushed s d b r up is begun = given_way b.first b.second (piece_count (unit_count s.log.number (batch_ops b))) (batch_ops b) r (log_flying s.flying)
-    (subst (λ (o : Option Begun). IsUnderWay b.first b.second (piece_count (unit_count s.log.number (batch_ops b))) (batch_ops b) o (log_flying s.flying)) begun
-    (open_far s d b up is).far)
+given_flushed s d b r up is begun =
+    given_way b.first b.second _ (batch_ops b) r (log_flying s.flying) (begun_far s d.flights b (Some r) up.flights is begun)
 
 pub record_ready : (s : State) (d : Disk) (r : Begun) → IsAlwaysKept s d → IsKeptUp s d → is_ready_up Record d.depth s ≡ true → s.log.begun ≡ Some r
     → ReadyRecord s r
 record_ready s d r a up ready begun =
-    let left : Bool = begun_is (λ r. nat_lt r.given (pieces_of s.log.number r)) s in
-    let both = and_parts (batch_is (λ b. is_flushed b.first) s) left
-    (and_parts (batch_is (λ b. is_flushed b.first) s && left) (nat_lt (length s.flying) d.depth) ready).0 in
-    let b = some_is (λ b. is_flushed b.first) s.batch both.0 in
+    let b = some_is (λ b. is_flushed b.first) s.batch (record_tests s d.depth ready).0 in
     let ops : r.ops ≡ batch_ops b.0 = made_ops s d b.0 r up b.1 begun in
     record {
       batch = b.0;
       is_open = b.1;
       ops = ops;
-      more = ltb-true r.given (pieces_of s.log.number r) (test_of (λ r. nat_lt r.given (pieces_of s.log.number r)) s.log.begun r begun both.1);
+      more = pieces_left s d.depth r ready begun;
       room = subst (λ (o : List RowOp). s.log.tail + unit_count s.log.number o ≤ s.log.sup.half) (sym ops) (has_record s d b.0 a up b.1).room;
     }
-
--- there is one
-pub record_begun : (s : State) (depth : ℕ) → is_ready_up Record depth s ≡ true → is_some s.log.begun ≡ true
-record_begun s depth ready =
-    let left : Bool = begun_is (λ r. nat_lt r.given (pieces_of s.log.number r)) s in
-    let r = some_is (λ r. nat_lt r.given (pieces_of s.log.number r)) s.log.begun
-    (and_parts (batch_is (λ b. is_flushed b.first) s) left
-    (and_parts (batch_is (λ b. is_flushed b.first) s && left) (nat_lt (length s.flying) depth) ready).0).1 in
-    ap is_some r.1
 
 -- ---- Commit
 
@@ -228,8 +193,8 @@ pub record ReadyCommit (s : State) (b : Batch) : Type 0 where
 
 pub commit_ready : (s : State) (d : Disk) (b : Batch) → IsKeptUp s d → is_ready_up Commit d.depth s ≡ true → s.batch ≡ Some b → ReadyCommit s b
 commit_ready s d b up ready is =
-    of_begun s.log.begun refl (synced_way b.first b.second (piece_count (unit_count s.log.number (batch_ops b))) (batch_ops b) s.log.begun (log_flying s.flying)
-    (test_of (λ b. is_flushed b.second) s.batch b is ready) (open_far s d b up is).far).1
+    of_begun s.log.begun refl (synced_way b.first b.second _ (batch_ops b) s.log.begun (log_flying s.flying)
+    (test_of (λ b. is_flushed b.second) s.batch b is ready) (open_far s d.flights b up.flights is).far).1
   where
     of_begun : (o : Option Begun) → s.log.begun ≡ o → IsWritten (piece_count (unit_count s.log.number (batch_ops b))) (batch_ops b) o → ReadyCommit s b
     of_begun None is w = absurd w

@@ -1,19 +1,14 @@
 -- The footprint of Data.
 use Rattle.std.proofs.Common.{◌≡◌, ℕ, ◌+◌, ◌*◌, ◌<◌, List, [], ◌∷◌, ◌++◌, length, map, take, true, Contains, Option, Some, None, refl, sym, ap, subst, ◌∙◌, append_assoc, arith}
-use Rattle.std.specs.List.{AllByRecursion}
-use Rattle.std.specs.Option.{option_map_or}
-use Rattle.unit_fields.specs.Prelude.{Ascends}
-use Rattle.block_device.specs.Prelude.{Disk, WritesUnit}
-use Rattle.store_image.specs.Prelude.{IsDataUnit}
-use Rattle.plan_rows.specs.declared.plan.FreshUnit.{FreshUnit}
-use Rattle.store_steps.specs.declared.context.Context.{Context}
+use Rattle.run_facts.proofs.Common.{AllByRecursion, option_map_or, Ascends, Disk, IsDataUnit, FreshUnit, Context}
+use Rattle.block_device.specs.Prelude.{WritesUnit}
 use Rattle.store_steps.specs.declared.step.Step.TheVariants as step
 use Rattle.store_steps.specs.Prelude.{Batch, State, Unsent, unsent_units, run_bytes, given_more, with_context, is_ready, DoesData, uncommitted, all_fresh, given_fresh, Intent, rows_part, data_part, on_data, run_write, IsInRow, Spares, Gives, Footprint}
 use Rattle.store_steps.specs.RowsGo as rows
 use Rattle.store_steps.specs.DataGoes as units
 use Rattle.store_steps.specs.HalfGoes as half
 use Rattle.store_steps.specs.BookGoes as book
-use Rattle.flight_facts.proofs.Prelude.{all_then, elsewhere, with_at, all_join, IsRunOf, given_units, row_at, row_bytes, run_has, run_inside, given_before, earlier_spared, ready_not_down}
+use Rattle.flight_facts.proofs.Prelude.{all_then, elsewhere, all_join, IsRunOf, given_units, row_at, row_bytes, run_has, run_inside, given_before, earlier_spared, ready_not_down, with_in}
 use Rattle.run_facts.specs.Prelude.{IsKept}
 use Rattle.run_facts.proofs.Conditions.{ReadyData}
 use Rattle.run_facts.proofs.RowsFacts.{units_of, taken_by, next_on_data}
@@ -69,9 +64,7 @@ module _ (s : State) (d : Disk) (kept : IsKept s d) (up : s.down ≡ None) (n : 
   -- the contexts behind it
   then : with_context n.place (given_more count) s.pending ≡ front ++ given_more count x ∷ back
   then = ap (λ (place : ℕ). with_context place (given_more count) s.pending) (sym run.place)
-      ∙ ap (with_context x.place (given_more count)) (r.at).is
-      ∙ with_at (given_more count) front x back (elsewhere front x back
-      (subst (λ (xs : List Context). Ascends (map (λ (z : Context). z.place) xs)) (r.at).is (kept.up up).flights.places.ascend))
+      ∙ with_in (given_more count) front x back s.pending (r.at).is (kept.up up).flights.places.ascend
 
   -- what was given, and what is given then
   before : given_fresh (uncommitted s) ≡ (given_fresh batch ++ (given_fresh front ++ take x.given x.fresh)) ++ given_fresh back

@@ -1,18 +1,10 @@
 -- The footprint of each call: by calls, and by steps.
 use Rattle.std.proofs.Common.{◌≡◌, inl, inr, true, ℕ, List, [], ◌∷◌, ◌++◌, length, take, None, refl, sym, ap, subst, arith}
-use Rattle.std.specs.Option.{option_map_or}
-use Rattle.block_device.specs.Prelude.{Disk}
-use Rattle.object_model.specs.Prelude.{Change}
-use Rattle.object_model.specs.declared.command.Command.{Command}
+use Rattle.run_facts.proofs.Common.{option_map_or, Disk, Change, Command, Answer, Context, FreshUnit, Step, IsKnown}
 use Rattle.object_model.specs.declared.command.Command.TheVariants as ask
-use Rattle.object_model.specs.declared.command.Answer.{Answer}
 use Rattle.object_model.specs.declared.command.Answer.TheVariants as answer
-use Rattle.store_steps.specs.declared.context.Context.{Context}
-use Rattle.plan_rows.specs.declared.plan.FreshUnit.{FreshUnit}
-use Rattle.store_steps.specs.declared.step.Step.{Step}
 use Rattle.store_steps.specs.declared.step.Step.TheVariants as step
 use Rattle.store_steps.specs.Prelude.{Batch, State, is_ready, entered, accepted_with, context_of, Accepts, Call, submitting, reading, stepping, Calls, DoesOrFails, TurnsAway, given_fresh, Intent, intent_of, intents, rows_part, data_part, nothing, Replies, refuses, reads, Footprint}
-use Rattle.plan_rows.specs.Prelude.{IsKnown}
 use Rattle.store_steps.specs.RowsGo as rows
 use Rattle.store_steps.specs.DataGoes as units
 use Rattle.store_steps.specs.HalfGoes as half

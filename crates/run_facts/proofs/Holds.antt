@@ -1,9 +1,7 @@
 -- How many hold the data units.
 use Rattle.std.proofs.Common.{◌≡◌, ℕ, ◌==◌, ◌&&◌, Bool, true, false, List, [], ◌∷◌, refl, ap, ◌∙◌}
-use Rattle.meta_rows.specs.Prelude.{Rows}
-use Rattle.meta_log.specs.declared.slot.Super.{Super}
-use Rattle.store_image.specs.Prelude.{IsDataUnit}
-use Rattle.unit_allocator.specs.Prelude.{Space, is_free, is_idle, holds_of, taken_one, given_one, taken, given}
+use Rattle.run_facts.proofs.Common.{Rows, Super, IsDataUnit, Space, is_free, taken_one, given_one, taken, given}
+use Rattle.unit_allocator.specs.Prelude.{is_idle, holds_of}
 use Rattle.store_steps.specs.Prelude.{holds_in, HoldsAreCounted}
 
 -- No row is a deferred one yet, so that nothing is held by the rows. This is the place that changes once there are such rows: nothing else unfolds

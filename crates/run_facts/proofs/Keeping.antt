@@ -1,8 +1,6 @@
 -- What the kernel keeps while it waits, and while it is down; and that a step lowers the measure.
 use Rattle.std.proofs.Common.{◌≡◌, inl, inr, ℕ, ◌+◌, ◌<◌, ◌≤◌, true, map, Some, None, sym, ap, subst, ◌∙◌, arith}
-use Rattle.block_device.specs.Prelude.{Disk, Flight, IsSound, Waited}
-use Rattle.block_device.specs.declared.device.Ticket.{Ticket}
-use Rattle.store_steps.specs.declared.step.Step.{Step}
+use Rattle.run_facts.proofs.Common.{Disk, Flight, IsSound, Waited, Ticket, Step}
 use Rattle.store_steps.specs.Prelude.{State, landed, is_ready, Call, submitting, reading, stepping, DoesOrFails, Submits, Reads, Calls}
 use Rattle.flight_facts.specs.Prelude.{work_left, measure, budget, AreFlightsKnown}
 use Rattle.flight_facts.proofs.Prelude.{Landed, landed_flight, Ends, IsStill, GoesDown, waited_history, not_both, GoneDown, StepOutcome, has_stepped, has_waited, has_gone_down, step_leaves, measure_falls}

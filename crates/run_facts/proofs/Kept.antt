@@ -1,19 +1,8 @@
 -- Each call of the kernel keeps what it keeps.
 use Rattle.std.proofs.Common.{◌≡◌, inl, inr, ℕ, ◌+◌, ◌-◌, ◌*◌, ◌^◌, ◌<◌, ◌≤◌, true, List, [], ◌∷◌, ◌++◌, length, map, length-append, Option, None, is_some, refl, sym, ap, subst, ◌∙◌, arith}
-use Rattle.std.specs.Option.{option_map_or}
-use Rattle.block_device.specs.Prelude.{Disk, Flight, IsSound, Waited}
-use Rattle.object_model.specs.Prelude.{Change}
-use Rattle.object_model.specs.declared.command.Command.{Command}
+use Rattle.run_facts.proofs.Common.{option_map_or, Disk, Flight, IsSound, Waited, Change, Command, Answer, Entry, IsSuper, piece_count, Plan, PlansKeep, IsKnown, Space, Context, Step}
 use Rattle.object_model.specs.declared.command.Command.TheVariants as ask
-use Rattle.object_model.specs.declared.command.Answer.{Answer}
 use Rattle.object_model.specs.declared.command.Answer.TheVariants as answer
-use Rattle.object_model.specs.declared.book.Entry.{Entry}
-use Rattle.meta_log.specs.Prelude.{IsSuper, piece_count}
-use Rattle.plan_rows.specs.declared.plan.Plan.{Plan}
-use Rattle.plan_rows.specs.Prelude.{PlansKeep, IsKnown}
-use Rattle.unit_allocator.specs.Prelude.{Space}
-use Rattle.store_steps.specs.declared.context.Context.{Context}
-use Rattle.store_steps.specs.declared.step.Step.{Step}
 use Rattle.store_steps.specs.Prelude.{Batch, State, is_ready, applied_count, entry_limit, need_of, context_of, accepted_with, entered, Accepts, Refuses, Found, opened, stepping, DoesOrFails, AnswersRead, Reads, Intent, intent_of, rows_part, book_part, joined, Footprint}
 use Rattle.store_steps.specs.RowsGo as rows
 use Rattle.flight_facts.specs.Prelude.{AreOfJobs, FlightsMatch, sum_work, batch_work, work_left, entry_work, budget, measure}
@@ -278,16 +267,5 @@ kept_open f space events d sound idle few is = record {
 pub step_less : (step : Step) (s s' : State) (d d' : Disk) → IsKept s d → is_ready step d.depth s ≡ true → DoesOrFails step s d s' d' → IsSound d'
     → measure s' d'.waits < measure s d.waits
 step_less step s s' d d' kept ready does sound = work_falls step s d s' d' kept ready does
-
-pub law_accept : (client line : ℕ) (change : Change) (s s' : State) (d : Disk) → PlansKeep → IsKept s d → IsKnown change.ops
-    → Accepts client line change s s' → IsKept s' d
-law_accept client line change s s' d keep = kept_accept keep s s' d client line change
-
-pub law_refuse : (client line : ℕ) (change : Change) (a : Answer) (s s' : State) (d : Disk) → IsKept s d → IsKnown change.ops
-    → Refuses client line change a s d s' → IsKept s' d
-law_refuse client line change a s s' d = kept_refuse s s' d client line change a
-
-pub law_read : (client line : ℕ) (command : Command) (s s' : State) (d : Disk) → IsKept s d → Reads client line command s d s' → IsKept s' d
-law_read client line command s s' d kept reads = kept_read s s' d client line command kept reads
 
 pub ruleset step_laws = (kept_step, step_less)

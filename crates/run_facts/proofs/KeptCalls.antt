@@ -1,7 +1,6 @@
 -- Each call keeps what the kernel keeps, and so does a run.
 use Rattle.std.proofs.Common.{inl, inr, List, [], ◌∷◌, sym, subst}
-use Rattle.block_device.specs.Prelude.{Disk, IsSound}
-use Rattle.plan_rows.specs.Prelude.{PlansKeep}
+use Rattle.run_facts.proofs.Common.{Disk, IsSound, PlansKeep}
 use Rattle.store_steps.specs.Prelude.{State, Call, submitting, reading, stepping, Calls, IsRun}
 use Rattle.run_facts.specs.Prelude.{IsKept}
 use Rattle.run_facts.proofs.Kept.{kept_step, kept_accept, kept_refuse, kept_read}

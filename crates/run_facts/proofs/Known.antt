@@ -1,23 +1,15 @@
 -- What a kernel that keeps its facts knows at each call: the conditions of what it calls in turn.
 use Rattle.std.proofs.Common.{◌≡◌, ℕ, zero, suc, ◌+◌, ◌-◌, ◌*◌, ◌%◌, ◌^◌, ◌<◌, ◌≤◌, ◌==◌, ◌&&◌, Bool, true, nat_lt, List, [], ◌∷◌, length, take, drop, Contains, Option, Some, None, IfSome, refl, sym, ap, subst, arith}
-use Rattle.std.specs.List.{AllByRecursion}
-use Rattle.std.specs.Option.{option_map_or}
-use Rattle.std.proofs.lemmas.Bool.{and_parts, eqb-true}
+use Rattle.run_facts.proofs.Common.{AllByRecursion, option_map_or, and_parts, eqb-true, Disk, IsUntouched, ops_bytes, Super, record_units, unit_count, given_from, piece_first, piece_units, LiesInRecord, IsSuper, active_unit, IsDataUnit, FreshUnit, Context, Begun}
 use Rattle.byte_maps.proofs.Prelude.{length-units_from}
-use Rattle.block_device.specs.Prelude.{Disk, IsNotInFlight, IsUntouched}
-use Rattle.meta_rows.specs.Prelude.{ops_bytes, AllFit}
-use Rattle.meta_log.specs.declared.slot.Super.{Super}
-use Rattle.meta_log.specs.Prelude.{record_units, unit_count, given_from, piece_first, piece_units, LiesInRecord, IsSuper, active_unit}
+use Rattle.block_device.specs.Prelude.{IsNotInFlight}
+use Rattle.meta_rows.specs.Prelude.{AllFit}
 use Rattle.meta_log.proofs.PieceLemmas.{lies}
 use Rattle.meta_log.proofs.SealLemmas.{length-record_units}
-use Rattle.store_image.specs.Prelude.{IsDataUnit}
-use Rattle.plan_rows.specs.declared.plan.FreshUnit.{FreshUnit}
-use Rattle.store_steps.specs.declared.context.Context.{Context}
 use Rattle.store_steps.specs.declared.step.Step.TheVariants.{Data, Flush, Seal, Record, Sync, Commit, Finish}
-use Rattle.meta_store.specs.Store.{Begun}
 use Rattle.store_steps.specs.Prelude.{Batch, State, Unsent, unsent_units, run_bytes, next_unsent, batch_ops, is_not_sent, pieces_of, batch_is, begun_is, applied_count, is_ready, is_drained, piece_unit, piece_bytes, all_fresh}
 use Rattle.flight_facts.specs.Prelude.{IsNone, IsGivenPiece}
-use Rattle.flight_facts.proofs.Prelude.{idle_device, StandsIn, all_join, IsRunOf, row_at, all_front, run_has, run_inside, run_untouched, ready_not_down, ready_by_table, IsIdle, drained_is_idle, unflown, none_left, rest_not_given, flush_unflown, sync_unflown, test_of, some_is}
+use Rattle.flight_facts.proofs.Prelude.{record_long, idle_device, StandsIn, all_join, IsRunOf, row_at, run_has, run_inside, run_untouched, ready_not_down, ready_by_table, IsIdle, drained_is_idle, unflown, none_left, rest_not_given, flush_unflown, sync_unflown, test_of, some_is, first_waits, sync_tests, all_left, pieces_ended}
 use Rattle.run_facts.specs.Prelude.{IsKept, IsKeptUp}
 use Rattle.run_facts.proofs.Numbers.{NextAcked}
 use Rattle.run_facts.proofs.RowsFacts.{units_of, next_on_data}
@@ -31,8 +23,7 @@ pub flush_covers : (s : State) (d : Disk) (b : Batch) → IsKept s d → is_read
     → AllByRecursion (λ f. IsUntouched d.flights f.unit) (all_fresh b.contexts)
 flush_covers s d b kept ready is =
     let down : s.down ≡ None = ready_not_down s d.depth Flush refl ready in
-    let first : is_not_sent b.first ≡ true = test_of (λ b. is_not_sent b.first) s.batch b is
-    (and_parts (batch_is (λ b. is_not_sent b.first) s) (nat_lt (length s.flying) d.depth) (ready_by_table s d.depth Flush down ready)).0 in
+    let first : is_not_sent b.first ≡ true = first_waits s d.depth b (ready_by_table s d.depth Flush down ready) is in
     taken_fresh (IsUntouched d.flights) b.contexts
     (λ u c. flush_unflown s d.flights b u (kept.up down).flights is first (none_given u s.pending (batch_apart s d kept down b is u c)))
 
@@ -42,13 +33,11 @@ pub sync_covers : (s : State) (d : Disk) (r : Begun) (j : ℕ) → IsKept s d �
 sync_covers s d r j kept ready begun below =
     let down : s.down ≡ None = ready_not_down s d.depth Sync refl ready in
     let up : IsKeptUp s d = kept.up down in
-    let ended : Bool = begun_is (λ r. r.written == pieces_of s.log.number r) s in
-    let both = and_parts (batch_is (λ b. is_not_sent b.second) s) ended
-    (and_parts (batch_is (λ b. is_not_sent b.second) s && ended) (nat_lt (length s.flying) d.depth) (ready_by_table s d.depth Sync down ready)).0 in
-    let b = some_is (λ b. is_not_sent b.second) s.batch both.0 in
+    let by_table = ready_by_table s d.depth Sync down ready in
+    let not_sent = (sync_tests s d.depth by_table).0 in
+    let b = some_is (λ b. is_not_sent b.second) s.batch not_sent in
     sync_unflown s d.flights b.0 r (active_unit s.log.sup + (s.log.tail + j)) up.flights b.1 begun
-    (test_of (λ b. is_not_sent b.second) s.batch b.0 b.1 both.0)
-    (eqb-true r.written (pieces_of s.log.number r) (test_of (λ r. r.written == pieces_of s.log.number r) s.log.begun r begun both.1))
+    (test_of (λ b. is_not_sent b.second) s.batch b.0 b.1 not_sent) (pieces_ended s d.depth r by_table begun)
     (not_given s d kept down j (within s.log.tail j (unit_count s.log.number r.ops) s.log.sup.half below (record_behind s d kept down r begun)))
   where
     within : (tail j units half : ℕ) → j < units → tail + units ≤ half → tail + j < half
@@ -131,7 +120,7 @@ data_untouched s d n kept ready is = row_at (IsUntouched d.flights) n.first.unit
     own = run_has x n at.holds (λ f. Contains (units_of x.fresh) f.unit) (fresh_taken (Contains (units_of x.fresh)) x.fresh (λ u c. c))
 
     none : AllByRecursion (λ f. IsNone (take x.given x.fresh) f.unit) (unsent_units n)
-    none = all_front (λ f. IsNone (take x.given x.fresh) f.unit) (unsent_units n) (drop (x.given + length (unsent_units n)) x.fresh)
+    none = all_left (λ f. IsNone (take x.given x.fresh) f.unit) (unsent_units n) (drop (x.given + length (unsent_units n)) x.fresh)
         (subst (λ (fs : List FreshUnit). AllByRecursion (λ f. IsNone (take x.given x.fresh) f.unit) fs) at.holds.left (none_left x known.fits))
 
     spared : (u : ℕ) → Contains (units_of x.fresh) u → IsNone (take x.given x.fresh) u → AllByRecursion (λ y. IsNone (take y.given y.fresh) u) s.pending
@@ -172,14 +161,7 @@ piece_lies s d r kept ready is = lies (unit_count s.log.number r.ops) r.given (k
 
 pub piece_size : (s : State) (d : Disk) (r : Begun) → IsKept s d → is_ready Record d.depth s ≡ true → s.log.begun ≡ Some r
     → length (piece_bytes s.log.number r) ≡ 4096 * piece_units (unit_count s.log.number r.ops) r.given
-piece_size s d r kept ready is =
-    let units : ℕ = unit_count s.log.number r.ops in
-    length-units_from (piece_first units r.given) (piece_units units r.given) (record_units s.log.number r.ops)
-    (within (piece_first units r.given) (piece_units units r.given) units (length (record_units s.log.number r.ops))
-    (piece_lies s d r kept ready is).within (length-record_units s.log.number r.ops))
-  where
-    within : (first count units size : ℕ) → first + count ≤ units → size ≡ 4096 * units → 4096 * first + 4096 * count ≤ size
-    within first count units size le is = omega (arith, le, is)
+piece_size s d r kept ready is = record_long s.log.number r (known_record s d r kept ready is).more
 
 -- no unit of what isn't given yet of the record is in flight
 pub record_untouched : (s : State) (d : Disk) (r : Begun) → IsKept s d → is_ready Record d.depth s ≡ true → s.log.begun ≡ Some r
@@ -214,27 +196,6 @@ next_piece_untouched s d r kept ready is =
     in_record : (k active tail first count end : ℕ) → first + count ≡ end → active + tail + first ≤ k → k < active + tail + first + count
         → (j : ℕ) × ((k ≡ active + (tail + j)) × (j < end))
     in_record k active tail first count end is from to = (k - (active + tail), (omega (arith, from), omega (arith, is, from, to)))
-
--- it lies in the active half, and so on the device
-pub piece_inside : (s : State) (d : Disk) (r : Begun) → IsKept s d → is_ready Record d.depth s ≡ true → s.log.begun ≡ Some r
-    → 4096 * piece_unit s.log r + length (piece_bytes s.log.number r) ≤ 4096 * d.units
-piece_inside s d r kept ready is =
-    let units : ℕ = unit_count s.log.number r.ops in
-    inside (active_unit s.log.sup) s.log.tail (piece_first units r.given) (piece_units units r.given) units s.log.sup.half s.log.sup.units d.units
-    (length (piece_bytes s.log.number r)) (piece_lies s d r kept ready is).within (known_record s d r kept ready is).room
-    (half_inside s.log.sup kept.always.limits) kept.always.units (piece_size s d r kept ready is)
-  where
-    inside : (active tail first count units half all on size : ℕ) → first + count ≤ units → tail + units ≤ half → active + half ≤ all → all ≡ on
-        → size ≡ 4096 * count → 4096 * (active + tail + first) + size ≤ 4096 * on
-    inside active tail first count units half all on size within room below same is = omega (arith, within, room, below, same, is)
-
-    of_half : (sup : Super) (which : ℕ) → which < 2 → IsSuper sup → 2 + sup.half * which + sup.half ≤ sup.units
-    of_half sup zero lt limits = omega (arith, limits.room)
-    of_half sup (suc zero) lt limits = omega (arith, limits.room)
-    of_half sup (suc (suc n)) lt limits = absurd (omega (arith, lt))
-
-    half_inside : (sup : Super) → IsSuper sup → active_unit sup + sup.half ≤ sup.units
-    half_inside sup limits = of_half sup (sup.epoch % 2) (omega arith) limits
 
 -- ---- for the laws
 

@@ -1,30 +1,16 @@
 -- The bytes that reads find in memory: those of the units that transactions took which aren't committed. What each call makes of them, and that
 -- all other units of pages can be read.
 use Rattle.std.proofs.Common.{◌≡◌, ◌≢◌, ◌⊎◌, inl, inr, ℕ, Bool, true, false, cond, ◌==◌, List, [], ◌∷◌, ◌++◌, length, map, take, Contains, Option, Some, None, is_some, refl, sym, ap, subst, ◌∙◌}
-use Rattle.std.specs.List.{AllByRecursion, flat_map}
-use Rattle.std.specs.Option.{option_map, option_map_or, option_or}
-use Rattle.std.proofs.lemmas.Bool.{cases_eq, eq-eqb, ne_eqb}
+use Rattle.run_facts.proofs.Common.{AllByRecursion, flat_map, option_map, option_map_or, option_or, eq-eqb, ne_eqb, same_Some, Ascends, Ticket, Disk, IsUntouched, Change, width_of, IsDataUnit, free_units, FreshUnit, Plan, PlansKeep, IsKnown, Context, Job, Flying}
+use Rattle.std.proofs.lemmas.Bool.{cases_eq}
 use Rattle.std.proofs.lemmas.List.Concat.{flat_map-append}
 use Rattle.std.proofs.lemmas.List.Elements.{Contains-append_left}
-use Rattle.std.proofs.lemmas.Option.{same_Some}
 use Rattle.std.proofs.Math.Path.{fun_ext}
-use Rattle.unit_fields.specs.Prelude.{Ascends}
-use Rattle.block_device.specs.declared.device.Ticket.{Ticket}
-use Rattle.block_device.specs.Prelude.{Disk, IsUntouched}
-use Rattle.object_model.specs.Prelude.{Change}
-use Rattle.meta_log.specs.Prelude.{width_of}
-use Rattle.store_image.specs.Prelude.{HasPage, IsDataUnit}
+use Rattle.store_image.specs.Prelude.{HasPage}
 use Rattle.store_image.proofs.Prelude.{page_owned}
-use Rattle.unit_allocator.specs.Prelude.{free_units}
 use Rattle.unit_allocator.proofs.FreeUnits.{listed_is_within}
-use Rattle.plan_rows.specs.declared.plan.FreshUnit.{FreshUnit}
-use Rattle.plan_rows.specs.declared.plan.Plan.{Plan}
-use Rattle.plan_rows.specs.Prelude.{PlansKeep, IsKnown}
 use Rattle.plan_rows.proofs.OnData.{owned_on_data}
-use Rattle.store_steps.specs.declared.context.Context.{Context}
-use Rattle.store_steps.specs.declared.flight.Job.{Job}
 use Rattle.store_steps.specs.declared.flight.Job.TheVariants as job
-use Rattle.store_steps.specs.declared.flight.Flying.{Flying}
 use Rattle.store_steps.specs.Prelude.{Batch, State, with_context, given_more, done_more, chosen, data_sent, first_flushed, second_flushed, after_done, after_good, flying_of, landed, reaped, taken_up, committed_batch, context_of, accepted_with, Accepts, Intent, intents, intent_of, uncommitted, all_fresh, bytes_in, memory_of}
 use Rattle.space_facts.proofs.Prelude.{in_or_not, listed_is_idle, taken_busy}
 use Rattle.flight_facts.specs.Prelude.{IsNone, FitsRecord}
@@ -77,11 +63,6 @@ bytes_all P (f ∷ fs) unit bytes all is = elim (cases_eq f.unit unit) [
   | inl same ↦ subst P (same_Some f.bytes bytes (sym (bytes_first f fs unit same) ∙ is)) all.0
   | inr other ↦ bytes_all P fs unit bytes all.1 (sym (bytes_behind f fs unit other) ∙ is)
 ]
-
--- one behind others that aren't of its unit
-pub bytes_one : (front back : List FreshUnit) (f : FreshUnit) → IsNone front f.unit → bytes_in (front ++ f ∷ back) f.unit ≡ Some f.bytes
-bytes_one [] back f none = bytes_first f back f.unit refl
-bytes_one (g ∷ front) back f none = bytes_behind g (front ++ f ∷ back) f.unit none.0 ∙ bytes_one front back f none.1
 
 -- ---- of contexts
 

@@ -1,13 +1,11 @@
 -- What a change of one context leaves of the parts.
-use Rattle.std.proofs.Common.{◌≡◌, ℕ, Bool, true, false, cond, List, [], ◌∷◌, ◌++◌, ◌==◌, take, refl, ap, ◌∙◌, arith, sym, append_assoc}
-use Rattle.std.specs.List.{flat_map}
-use Rattle.block_device.specs.Prelude.{Disk}
-use Rattle.store_steps.specs.declared.context.Context.{Context}
-use Rattle.store_steps.specs.Prelude.{State, with_context, given_fresh, Intent, intent_of, intents, rows_part, data_part, half_part, book_part, Adds, nothing, BookGoes, IsCaused, Footprint}
-use Rattle.plan_rows.specs.declared.plan.FreshUnit.{FreshUnit}
+use Rattle.std.proofs.Common.{◌≡◌, ℕ, ◌+◌, Bool, true, false, cond, List, [], ◌∷◌, ◌++◌, ◌==◌, take, refl, ap, ◌∙◌, arith, sym, append_assoc}
+use Rattle.run_facts.proofs.Common.{flat_map, Disk, Context, FreshUnit}
+use Rattle.store_steps.specs.Prelude.{State, with_context, given_fresh, Intent, intent_of, intents, rows_part, data_part, half_part, book_part, Adds, nothing, BookGoes, IsCaused, Footprint, Touch, IsPlaced, events_of, DataGoes, HalfGoes}
 use Rattle.store_steps.specs.RowsGo as rows
 use Rattle.store_steps.specs.DataGoes as units
 use Rattle.store_steps.specs.HalfGoes as half
+use Rattle.store_steps.specs.BookGoes as book
 
 -- how far a context is doesn't change its intent
 pub intents_kept : (place : ℕ) (change : Context → Context) → ((x : Context) → intent_of (change x) ≡ intent_of x) → (front xs : List Context)
@@ -48,6 +46,22 @@ pub given_both : (xs ys : List Context) → given_fresh (xs ++ ys) ≡ given_fre
 given_both [] ys = refl
 given_both (x ∷ xs) ys = ap (λ (fs : List FreshUnit). take x.given x.fresh ++ fs) (given_both xs ys)
     ∙ sym (append_assoc (take x.given x.fresh) (given_fresh xs) (given_fresh ys))
+
+-- a call that changes neither rows nor book
+pub device_alone : (s : State) (d : Disk) (s' : State) (d' : Disk) (t : Touch) → Adds t d d' → IsPlaced s.log.sup t → s'.events ≡ s.events + events_of t
+    → rows_part s' ≡ rows_part s → DataGoes d.flights t (data_part s) (data_part s') → HalfGoes d.flights t (half_part s) (half_part s')
+    → book_part s' ≡ book_part s → Footprint s d s' d'
+device_alone s d s' d' t adds placed counted same_rows units half same_book = record {
+  touch = t;
+  device = adds;
+  placed = placed;
+  counted = counted;
+  rows = rows.same same_rows;
+  units = units;
+  half = half;
+  book = book.same same_book;
+  caused = tt;
+}
 
 -- a call that the device has no part in, and that changes nothing but the book
 pub book_alone : (s : State) (d : Disk) (s' : State) (d' : Disk) → Adds nothing d d' → s'.events ≡ s.events

@@ -1,20 +1,15 @@
 -- The footprint of Reap.
 use Rattle.std.proofs.Common.{◌≡◌, inl, inr, true, ℕ, ◌+◌, List, [], Option, Some, None, refl, sym, ap, subst, ◌∙◌}
-use Rattle.std.specs.Option.{option_map, option_map_or}
-use Rattle.block_device.specs.Prelude.{Disk, Reaped, Waited}
-use Rattle.plan_rows.specs.declared.plan.FreshUnit.{FreshUnit}
-use Rattle.store_steps.specs.declared.flight.Flying.{Flying}
-use Rattle.store_steps.specs.declared.flight.Job.{Job}
+use Rattle.run_facts.proofs.Common.{option_map, option_map_or, Disk, Reaped, Waited, FreshUnit, Flying, Job, Begun}
 use Rattle.store_steps.specs.declared.flight.Job.TheVariants as job
 use Rattle.store_steps.specs.Prelude.{Batch, State, done_more, after_done, first_flushed, second_flushed, written_more, DoesReap, begun_ops, Intent, rows_part, data_part, half_part, ends, Footprint}
-use Rattle.meta_store.specs.Store.{Begun}
 use Rattle.store_steps.specs.RowsGo as rows
 use Rattle.store_steps.specs.DataGoes as units
 use Rattle.store_steps.specs.HalfGoes as half
 use Rattle.store_steps.specs.BookGoes as book
 use Rattle.flight_facts.proofs.Prelude.{others_of, Landed, landed_flight, reaped_good, IsOf, found_tells, IsLeftOut, left_out}
 use Rattle.run_facts.specs.Prelude.{IsKept}
-use Rattle.run_facts.proofs.PartsKept.{intents_kept, given_kept, book_alone}
+use Rattle.run_facts.proofs.PartsKept.{intents_kept, given_kept, book_alone, device_alone}
 
 -- how many pieces have ended doesn't matter to the log
 half_kept : (s : State) (o : Option Begun) → (let t : State = record s { log = record s.log { begun = option_map written_more o } } in
@@ -25,56 +20,22 @@ half_kept s (Some r) = refl
 -- the end of a submission for this job
 of_job : (s : State) (d d' : Disk) (ticket : ℕ) (left : List Flying) (j : Job) → Reaped d ticket true d' → IsOf s.pending s.batch s.log.begun ticket j
     → (let t : State = record s { flying = left; events = s.events + 1 } in Footprint s d (after_done j t) d')
-of_job s d d' ticket left (job.Data place count) ended is = record {
-  touch = ends ticket;
-  device = ended;
-  placed = tt;
-  counted = refl;
-  rows = rows.same (ap (λ (is : List Intent). record (rows_part s) { intents = is })
-      (intents_kept place (done_more count) (λ x. refl) (option_map_or (λ (b : Batch). b.contexts) s.batch []) s.pending));
-  units = units.same tt (ap (λ (fs : List FreshUnit). record (data_part s) { given = fs })
-      (given_kept place (done_more count) (λ x. refl) (option_map_or (λ (b : Batch). b.contexts) s.batch []) s.pending));
-  half = half.same tt refl;
-  book = book.same refl;
-  caused = tt;
-}
+of_job s d d' ticket left (job.Data place count) ended is = device_alone s d _ d' (ends ticket) ended tt refl
+    (ap (λ (is : List Intent). record (rows_part s) { intents = is })
+    (intents_kept place (done_more count) (λ x. refl) (option_map_or (λ (b : Batch). b.contexts) s.batch []) s.pending))
+    (units.same tt (ap (λ (fs : List FreshUnit). record (data_part s) { given = fs })
+    (given_kept place (done_more count) (λ x. refl) (option_map_or (λ (b : Batch). b.contexts) s.batch []) s.pending))) (half.same tt refl) refl
 of_job s d d' ticket left job.DataFlush ended (b, is, first) =
     subst (λ (o : Option Batch). Footprint (record s { batch = o }) d
-    (record s { batch = option_map first_flushed o; flying = left; events = s.events + 1 }) d') (sym is) (record {
-      touch = ends ticket;
-      device = ended;
-      placed = tt;
-      counted = refl;
-      rows = rows.same refl;
-      units = units.is_flushed ticket first refl;
-      half = half.same tt refl;
-      book = book.same refl;
-      caused = tt;
-    })
-of_job s d d' ticket left job.Record ended is = record {
-  touch = ends ticket;
-  device = ended;
-  placed = tt;
-  counted = refl;
-  rows = rows.same refl;
-  units = units.same tt refl;
-  half = half.same tt (half_kept s s.log.begun);
-  book = book.same refl;
-  caused = tt;
-}
+    (record s { batch = option_map first_flushed o; flying = left; events = s.events + 1 }) d') (sym is)
+    (device_alone (record s { batch = Some b }) d _ d' (ends ticket) ended tt refl refl (units.is_flushed ticket first refl) (half.same tt refl) refl)
+of_job s d d' ticket left job.Record ended is =
+    device_alone s d _ d' (ends ticket) ended tt refl refl (units.same tt refl) (half.same tt (half_kept s s.log.begun)) refl
 of_job s d d' ticket left job.RecordFlush ended (b, is, second, (r, begun)) =
     subst (λ (o : Option Batch). Footprint (record s { batch = o }) d
-    (record s { batch = option_map second_flushed o; flying = left; events = s.events + 1 }) d') (sym is) (record {
-      touch = ends ticket;
-      device = ended;
-      placed = tt;
-      counted = refl;
-      rows = rows.same refl;
-      units = units.same tt refl;
-      half = half.is_synced ticket r.ops (ap begun_ops begun) second refl;
-      book = book.same refl;
-      caused = tt;
-    })
+    (record s { batch = option_map second_flushed o; flying = left; events = s.events + 1 }) d') (sym is)
+    (device_alone (record s { batch = Some b }) d _ d' (ends ticket) ended tt refl refl (units.same tt refl)
+    (half.is_synced ticket r.ops (ap begun_ops begun) second refl) refl)
 
 -- none was ready
 waited_same : (d d' : Disk) → Waited d d' → (d'.history ≡ d.history) × (d'.flights ≡ d.flights)

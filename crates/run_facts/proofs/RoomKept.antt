@@ -1,7 +1,6 @@
 -- What a call makes of the rows keeps the room that transactions have reserved in the log, and which units are those of the store.
 use Rattle.std.proofs.Common.{◌≡◌, ℕ, ◌+◌, ◌-◌, ◌≤◌, List, [], ◌∷◌, ◌++◌, fold, map, sym, ap, subst, ◌∙◌, arith}
-use Rattle.std.specs.List.{AllByRecursion}
-use Rattle.meta_log.specs.Prelude.{unit_count}
+use Rattle.run_facts.proofs.Common.{AllByRecursion, unit_count}
 use Rattle.selections.specs.Fair.{IsComplete}
 use Rattle.selections.proofs.Selecting.{complete_is_fair, all_selected}
 use Rattle.selections.proofs.Order.{fold_alike, each_is}

@@ -1,8 +1,7 @@
 -- A transaction that is accepted has a plan over the submitted rows, by which it joins those under way.
 use Rattle.std.proofs.Common.{ℕ, ◌≤◌, List, length, sym, subst, arith}
-use Rattle.meta_log.specs.Prelude.{IsSuper}
-use Rattle.object_model.specs.Prelude.{Change, names_of}
-use Rattle.plan_rows.specs.Prelude.{IsKnown, AreFreeOver, IsGood, PlanKeeps, PlanMakes, PlanTakes, PlansKeep}
+use Rattle.run_facts.proofs.Common.{IsSuper, Change, names_of, IsKnown, IsGood, PlansKeep}
+use Rattle.plan_rows.specs.Prelude.{AreFreeOver, PlanKeeps, PlanMakes, PlanTakes}
 use Rattle.selections.proofs.Selecting.{fair_all}
 use Rattle.store_steps.specs.Prelude.{State, context_of, Accepts, Intent, intent_of, intents, is_in, CanJoin, uncommitted, rows_part}
 use Rattle.space_facts.proofs.Prelude.{selection_good, free_over, free_joins}

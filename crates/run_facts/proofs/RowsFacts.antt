@@ -1,19 +1,12 @@
 -- What a kernel that is up needs to know of units: those that it takes, writes and gives back.
 use Rattle.std.proofs.Common.{◌≡◌, ℕ, false, List, [], ◌∷◌, ◌++◌, map, Contains, Some, None, sym, ap, subst, ◌∙◌}
-use Rattle.std.specs.List.{flat_map, AllByRecursion}
-use Rattle.std.specs.Option.{option_map_or}
+use Rattle.run_facts.proofs.Common.{flat_map, AllByRecursion, option_map_or, Disk, Super, IsDataUnit, FreshUnit, is_free, given, Context}
 use Rattle.std.proofs.lemmas.List.Elements.{Contains-append_left, Contains-append_right}
-use Rattle.block_device.specs.Prelude.{Disk}
-use Rattle.meta_log.specs.declared.slot.Super.{Super}
-use Rattle.store_image.specs.Prelude.{IsDataUnit}
-use Rattle.plan_rows.specs.declared.plan.FreshUnit.{FreshUnit}
-use Rattle.unit_allocator.specs.Prelude.{is_free, given}
 use Rattle.unit_allocator.proofs.Lists.{Contains-head, Contains-tail}
 use Rattle.selections.proofs.Selecting.{fair_all}
-use Rattle.store_steps.specs.declared.context.Context.{Context}
 use Rattle.store_steps.specs.Prelude.{Batch, State, Unsent, unsent_units, next_unsent, batch_released, Intent, intents, is_in, released_by, EachIsPlanned, AreTakenApart, SpaceIsCounted, uncommitted, rows_part}
 use Rattle.space_facts.proofs.Prelude.{selected_on_data, released_on_data, not_idle_until, busy_is_not_free}
-use Rattle.flight_facts.proofs.Prelude.{StandsIn, all_right, IsRunOf, run_has, next_stands}
+use Rattle.flight_facts.proofs.Prelude.{StandsIn, all_right, IsRunOf, run_has, next_stands, all_at}
 use Rattle.run_facts.specs.Prelude.{AreRowsKept, IsKept}
 use Rattle.run_facts.proofs.SpaceUnits.{AreData, data_within}
 use Rattle.run_facts.proofs.PartsKept.{flat_intents, intents_both}
@@ -62,8 +55,7 @@ module _ (s : State) (d : Disk) (kept : IsKept s d) (up : s.down ≡ None) where
   next_on_data n is =
       let at : StandsIn (λ x. IsRunOf x n) s.pending = next_stands s.pending n is in
       run_has at.item n at.holds (λ f. IsDataUnit s.log.sup f.unit)
-      (all_right (λ x. AllByRecursion (λ f. IsDataUnit s.log.sup f.unit) x.fresh) at.front (at.item ∷ at.back)
-      (subst (AllByRecursion (λ x. AllByRecursion (λ f. IsDataUnit s.log.sup f.unit) x.fresh)) at.is pending_on_data)).0
+      (all_at (λ x. AllByRecursion (λ f. IsDataUnit s.log.sup f.unit) x.fresh) at.front at.item at.back s.pending at.is pending_on_data)
 
   -- ---- the units that the batch releases
 

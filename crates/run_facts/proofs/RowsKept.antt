@@ -1,8 +1,6 @@
 -- What a call makes of the rows keeps what is kept of them.
 use Rattle.std.proofs.Common.{◌≡◌, ℕ, List, [], ◌∷◌, ◌++◌, map, sym, ap, subst, ◌∙◌}
-use Rattle.meta_rows.specs.Prelude.{Rows, rows_after}
-use Rattle.meta_log.specs.Prelude.{IsSuper}
-use Rattle.unit_allocator.specs.Prelude.{given}
+use Rattle.run_facts.proofs.Common.{Rows, rows_after, IsSuper, given}
 use Rattle.selections.specs.Fair.{IsComplete}
 use Rattle.store_steps.specs.Prelude.{Intent, is_in, released_by, rows_by, EachIsPlanned, AreTakenApart, SpaceIsCounted, CanJoin, RowsPart, RowsGo, joined, applied}
 use Rattle.store_steps.specs.RowsGo as rows

@@ -1,7 +1,6 @@
 -- A call that makes no entry of the book lets none join the rows.
 use Rattle.std.proofs.Common.{◌≡◌, ℕ, ◌+◌, List, [], ◌∷◌, length, ap, ◌∙◌, length-append, arith}
-use Rattle.block_device.specs.Prelude.{Disk}
-use Rattle.object_model.specs.declared.book.Entry.{Entry}
+use Rattle.run_facts.proofs.Common.{Disk, Entry}
 use Rattle.store_steps.specs.Prelude.{State, RowsPart, BookPart, Touch, RowsGo, BookGoes, AcceptsOne, IsCaused}
 use Rattle.store_steps.specs.RowsGo as rows
 use Rattle.store_steps.specs.BookGoes as book
@@ -29,22 +28,15 @@ pub record MayAll (p : RowsPart) {q : RowsPart} (goes : RowsGo p q) : Type 0 whe
   pub room : HasRoomTo p goes
 
 all_may : (p : RowsPart) {q : RowsPart} (goes : RowsGo p q) → IsNoJoin goes → MayAll p goes
-all_may p (rows.same is) not = record { rows = tt; room = tt }
 all_may p (rows.joins x is) not = absurd not
-all_may p (rows.reorders later complete is) not = record { rows = tt; room = tt }
-all_may p (rows.applies number front back both fits is) not = record { rows = tt; room = tt }
+all_may p other not = record { rows = tt; room = tt }
 
 module _ (s : State) (d : Disk) (s' : State) (d' : Disk) (same : entries_of s' ≡ entries_of s) where
   pub none_joins : {p q : RowsPart} {events : ℕ} {t : Touch} {b c : BookPart} (goes : RowsGo p q) (made : BookGoes events t b c)
       → IsCaused s d s' d' goes made → IsNoJoin goes
   none_joins (rows.joins x is) (book.enters e entered) caused = none_accepted s d s' same caused
-  none_joins (rows.joins x is) (book.same kept) caused = caused
-  none_joins (rows.joins x is) (book.commits xs none opened) caused = caused
-  none_joins (rows.joins x is) (book.applies count all counted) caused = caused
-  none_joins (rows.joins x is) (book.acknowledges acknowledged) caused = caused
-  none_joins (rows.same is) made caused = tt
-  none_joins (rows.reorders later complete is) made caused = tt
-  none_joins (rows.applies number front back both fits is) made caused = tt
+  none_joins (rows.joins x is) other caused = caused
+  none_joins goes made caused = tt
 
   pub may_all : (p : RowsPart) {q : RowsPart} {events : ℕ} {t : Touch} {b c : BookPart} (goes : RowsGo p q) (made : BookGoes events t b c)
       → IsCaused s d s' d' goes made → MayAll p goes

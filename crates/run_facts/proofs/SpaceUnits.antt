@@ -1,10 +1,8 @@
 -- Which units are those of a store, also after some were taken or given back.
 use Rattle.std.proofs.Common.{ℕ, ◌+◌, ◌-◌, true, false, List, [], ◌∷◌, Contains, ap, ◌∙◌, arith}
+use Rattle.run_facts.proofs.Common.{Super, IsDataUnit, Space, IsWithin, taken_one, given_one, taken, given}
 use Rattle.std.proofs.lemmas.List.{length-set}
-use Rattle.meta_log.specs.declared.slot.Super.{Super}
 use Rattle.meta_log.specs.Prelude.{data_unit}
-use Rattle.store_image.specs.Prelude.{IsDataUnit}
-use Rattle.unit_allocator.specs.Prelude.{Space, IsWithin, taken_one, given_one, taken, given}
 use Rattle.run_facts.specs.Prelude.{IsSpaceOf}
 
 -- the units of a list are data units

@@ -1,7 +1,7 @@
 -- The lemmas that other crates cite, passed on from one place.
 pub use Rattle.flight_facts.proofs.Flying.{idle_device, same_count, Landed, landed_flight, reaped_good, others_of}
 pub use Rattle.flight_facts.proofs.Untouched.{all_then, run_untouched}
-pub use Rattle.flight_facts.proofs.Lists.{all_left, all_right, all_join, all_take, StandsIn, elsewhere, with_in, without_in, all_at}
+pub use Rattle.flight_facts.proofs.Lists.{all_left, all_right, all_join, all_take, StandsIn, with_in, without_in, all_at}
 pub use Rattle.flight_facts.proofs.Landing.{IsLeftOut, left_out}
 pub use Rattle.flight_facts.proofs.Pieces.{same_units, some_units, short_body}
 pub use Rattle.flight_facts.proofs.Underway.{synced_way}

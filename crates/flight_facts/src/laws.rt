@@ -36,8 +36,8 @@ pub fn flights_match()
         → IfSome m.begun (λ r. ¬ IsGivenPiece m r unit) → IsUntouched flights unit }
 {}
 
-/// At the first flush of a batch a unit that no waiting context gave to the device is in no flight, and at the second neither is any unit of the
-/// record: all that was submitted of the batch, and of its record, has ended.
+/// At the first flush of a batch a unit that no waiting context gave to the device is in no flight, and so it is at the second, be it one of the
+/// record: all that was submitted of the batch, and then of its record, has ended.
 pub fn flushed_units_have_landed()
     ensures flush { (s : State) (flights : List Flight) (b : Batch) (unit : ℕ)
         → FlightsMatch s.log (length s.book.entries) s.pending s.batch s.flying flights → s.batch ≡ Some b → is_not_sent b.first ≡ true

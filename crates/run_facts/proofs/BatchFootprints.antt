@@ -1,16 +1,16 @@
 -- The footprints of the steps of a batch: Take, Flush, Seal, Record, Sync; and of Finish.
-use Rattle.std.proofs.Common.{◌≡◌, true, ℕ, ◌+◌, ◌-◌, ◌*◌, ◌≤◌, List, [], ◌∷◌, ◌++◌, length, Option, Some, None, refl, sym, ap, subst, ◌∙◌, arith, length-append, map, is_some, is_none, take}
-use Rattle.run_facts.proofs.Common.{option_map_or, Disk, RowOp, unit_count, record_units, active_unit, piece_first, piece_units, given_from, LiesInRecord, Context, FreshUnit, Begun, Ascends, and_parts}
+use Rattle.std.proofs.Common.{◌≡◌, true, ℕ, ◌+◌, ◌-◌, ◌*◌, ◌≤◌, List, [], ◌∷◌, ◌++◌, length, Option, Some, None, refl, sym, ap, subst, ◌∙◌, arith, length-append, map, take}
+use Rattle.run_facts.proofs.Common.{option_map_or, Disk, RowOp, unit_count, record_units, active_unit, piece_first, piece_units, given_from, LiesInRecord, Context, FreshUnit, Begun, Ascends}
 use Rattle.byte_maps.specs.Units.{units_from}
 use Rattle.meta_log.proofs.PieceLemmas.{given_from-none}
 use Rattle.log_facts.specs.Prelude.{not_sent}
 use Rattle.store_steps.specs.declared.step.Step.TheVariants as step
-use Rattle.store_steps.specs.Prelude.{Batch, State, without_context, batch_ops, chosen, finished, taken_up, flush_sent, sync_sent, commit_of, acknowledged, is_ready, DoesTake, DoesFlush, DoesSeal, DoesRecord, DoesSync, DoesFinish, piece_unit, piece_bytes, uncommitted, given_fresh, begun_ops, submitted_from, second_flush, Intent, intent_of, intents, is_in, data_part, half_part, book_part, Adds, nothing, flushes, on_half, Footprint}
+use Rattle.store_steps.specs.Prelude.{Batch, State, batch_ops, finished, taken_up, flush_sent, sync_sent, commit_of, acknowledged, is_ready, DoesTake, DoesFlush, DoesSeal, DoesRecord, DoesSync, DoesFinish, piece_unit, piece_bytes, uncommitted, given_fresh, begun_ops, submitted_from, second_flush, Intent, intent_of, intents, is_in, data_part, half_part, book_part, Adds, nothing, flushes, on_half, Footprint}
 use Rattle.store_steps.specs.RowsGo as rows
 use Rattle.store_steps.specs.DataGoes as units
 use Rattle.store_steps.specs.HalfGoes as half
 use Rattle.store_steps.specs.BookGoes as book
-use Rattle.flight_facts.proofs.Prelude.{seal_none, ready_not_down, ready_by_table, acknowledged_length, unsealed_second, record_second, sync_begun, IsFirst, chosen_first, elsewhere, none_is, without_in}
+use Rattle.flight_facts.proofs.Prelude.{seal_none, ready_not_down, ready_by_table, acknowledged_length, unsealed_second, record_second, sync_begun, IsFirst, chosen_first, without_in}
 use Rattle.run_facts.specs.Prelude.{IsKept}
 use Rattle.run_facts.proofs.Conditions.{HasRecord, ReadyRecord, number_low, take_none}
 use Rattle.run_facts.proofs.Known.{flush_covers, sync_covers, known_seal, known_record, piece_lies, piece_size}

@@ -1,5 +1,5 @@
 -- What most proofs about calls and runs cite of the crates below, passed on from one place.
-pub use Rattle.flight_facts.proofs.Common.{AllByRecursion, Ascends, Begun, Context, Disk, Flight, FlushState, Flying, FreshUnit, IsSound, IsSuper, IsUntouched, Job, LiesInRecord, Reaped, RowOp, Step, Ticket, Waited, active_unit, and_parts, cases_lt, eq-eqb, eqb-true, flat_map, given_from, is_flushed, ltb-true, ne_eqb, option_map, option_map_or, option_or, piece_count, piece_first, piece_units, record_units, same_Some, unit_count}
+pub use Rattle.flight_facts.proofs.Common.{AllByRecursion, Ascends, Begun, Context, Disk, Flight, FlushState, Flying, FreshUnit, IsSound, IsSuper, IsUntouched, Job, LiesInRecord, Reaped, RowOp, Step, Ticket, Waited, active_unit, and_parts, eq-eqb, flat_map, given_from, is_flushed, ltb-true, ne_eqb, option_map, option_map_or, option_or, piece_count, piece_first, piece_units, record_units, same_Some, unit_count}
 pub use Rattle.std.specs.List.{cons_option}
 unfoldable pub use Rattle.std.specs.List.{IsDistinct}
 pub use Rattle.meta_rows.specs.Prelude.{Rows, ops_bytes, rows_after}

@@ -1,11 +1,11 @@
 -- What is known where a step is ready: the conditions under which the kernel calls the device and the log.
-use Rattle.std.proofs.Common.{◌≡◌, ℕ, ◌+◌, ◌-◌, ◌*◌, ◌^◌, ◌<◌, ◌≤◌, ◌&&◌, Bool, true, nat_lt, List, [], ◌∷◌, ◌++◌, length, Option, Some, None, is_some, is_none, refl, sym, ap, subst, ◌∙◌, arith}
+use Rattle.std.proofs.Common.{◌≡◌, ℕ, ◌+◌, ◌-◌, ◌*◌, ◌^◌, ◌<◌, ◌≤◌, true, nat_lt, List, [], ◌∷◌, ◌++◌, length, Option, Some, None, is_some, is_none, refl, sym, ap, subst, ◌∙◌, arith}
 use Rattle.run_facts.proofs.Common.{AllByRecursion, flat_map, option_map_or, and_parts, ltb-true, Disk, RowOp, ops_bytes, unit_count, piece_count, Context, FlushState, Flying, Begun, is_flushed}
 use Rattle.meta_rows.specs.Prelude.{FitsRowOp, AllFit}
 use Rattle.store_steps.specs.declared.flight.FlushState.TheVariants as flush
-use Rattle.store_steps.specs.declared.step.Step.TheVariants.{Take, Seal, Record, Commit, Finish}
-use Rattle.store_steps.specs.Prelude.{Batch, State, Unsent, unsent_units, run_bytes, next_unsent, chosen, batch_ops, sum_needs, pieces_of, batch_is, begun_is, applied_count, is_ready_up, uncommitted, intent_of, intents, needs_by, rows_part}
-use Rattle.flight_facts.specs.Prelude.{IsWritten, IsUnderWay, IsBatchOpen, IsLogFar, log_flying, IsAllGiven, FitsRecord, entry_work, work_left}
+use Rattle.store_steps.specs.declared.step.Step.TheVariants.{Take, Record, Commit, Finish}
+use Rattle.store_steps.specs.Prelude.{Batch, State, Unsent, unsent_units, run_bytes, next_unsent, chosen, batch_ops, sum_needs, applied_count, is_ready_up, uncommitted, intent_of, intents, needs_by, rows_part}
+use Rattle.flight_facts.specs.Prelude.{IsWritten, IsUnderWay, IsLogFar, log_flying, IsAllGiven, FitsRecord, entry_work, work_left}
 use Rattle.flight_facts.proofs.Prelude.{same_count, short_body, IsRunOf, row_bytes, run_whole, StandsIn, all_left, all_right, all_join, synced_way, next_stands, test_of, some_is, none_is, all_at, open_far, begun_far, record_tests, pieces_left}
 use Rattle.run_facts.specs.Prelude.{HasRoom, IsAlwaysKept, IsKeptUp}
 use Rattle.run_facts.proofs.Numbers.{NextAcked, next_acked}

@@ -1,6 +1,6 @@
 -- The footprint of Data.
-use Rattle.std.proofs.Common.{◌≡◌, ℕ, ◌+◌, ◌*◌, ◌<◌, List, [], ◌∷◌, ◌++◌, length, map, take, true, Contains, Option, Some, None, refl, sym, ap, subst, ◌∙◌, append_assoc, arith}
-use Rattle.run_facts.proofs.Common.{AllByRecursion, option_map_or, Ascends, Disk, IsDataUnit, FreshUnit, Context}
+use Rattle.std.proofs.Common.{◌≡◌, ℕ, ◌+◌, ◌*◌, ◌<◌, List, [], ◌∷◌, ◌++◌, length, take, true, Contains, Option, Some, None, refl, sym, ap, subst, ◌∙◌, append_assoc, arith}
+use Rattle.run_facts.proofs.Common.{AllByRecursion, option_map_or, Disk, IsDataUnit, FreshUnit, Context}
 use Rattle.block_device.specs.Prelude.{WritesUnit}
 use Rattle.store_steps.specs.declared.step.Step.TheVariants as step
 use Rattle.store_steps.specs.Prelude.{Batch, State, Unsent, unsent_units, run_bytes, given_more, with_context, is_ready, DoesData, uncommitted, all_fresh, given_fresh, Intent, rows_part, data_part, on_data, run_write, IsInRow, Spares, Gives, Footprint}
@@ -8,7 +8,7 @@ use Rattle.store_steps.specs.RowsGo as rows
 use Rattle.store_steps.specs.DataGoes as units
 use Rattle.store_steps.specs.HalfGoes as half
 use Rattle.store_steps.specs.BookGoes as book
-use Rattle.flight_facts.proofs.Prelude.{all_then, elsewhere, all_join, IsRunOf, given_units, row_at, row_bytes, run_has, run_inside, given_before, earlier_spared, ready_not_down, with_in}
+use Rattle.flight_facts.proofs.Prelude.{all_then, all_join, IsRunOf, given_units, row_at, row_bytes, run_has, run_inside, given_before, earlier_spared, ready_not_down, with_in}
 use Rattle.run_facts.specs.Prelude.{IsKept}
 use Rattle.run_facts.proofs.Conditions.{ReadyData}
 use Rattle.run_facts.proofs.RowsFacts.{units_of, taken_by, next_on_data}

@@ -1,5 +1,5 @@
 -- What the kernel keeps while it waits, and while it is down; and that a step lowers the measure.
-use Rattle.std.proofs.Common.{◌≡◌, inl, inr, ℕ, ◌+◌, ◌<◌, ◌≤◌, true, map, Some, None, sym, ap, subst, ◌∙◌, arith}
+use Rattle.std.proofs.Common.{◌≡◌, inl, inr, ℕ, ◌+◌, ◌<◌, ◌≤◌, true, map, Some, sym, ap, subst, ◌∙◌, arith}
 use Rattle.run_facts.proofs.Common.{Disk, Flight, IsSound, Waited, Ticket, Step}
 use Rattle.store_steps.specs.Prelude.{State, landed, is_ready, Call, submitting, reading, stepping, DoesOrFails, Submits, Reads, Calls}
 use Rattle.flight_facts.specs.Prelude.{work_left, measure, budget, AreFlightsKnown}

@@ -1,13 +1,11 @@
 -- What a kernel that keeps its facts knows at each call: the conditions of what it calls in turn.
-use Rattle.std.proofs.Common.{◌≡◌, ℕ, zero, suc, ◌+◌, ◌-◌, ◌*◌, ◌%◌, ◌^◌, ◌<◌, ◌≤◌, ◌==◌, ◌&&◌, Bool, true, nat_lt, List, [], ◌∷◌, length, take, drop, Contains, Option, Some, None, IfSome, refl, sym, ap, subst, arith}
-use Rattle.run_facts.proofs.Common.{AllByRecursion, option_map_or, and_parts, eqb-true, Disk, IsUntouched, ops_bytes, Super, record_units, unit_count, given_from, piece_first, piece_units, LiesInRecord, IsSuper, active_unit, IsDataUnit, FreshUnit, Context, Begun}
-use Rattle.byte_maps.proofs.Prelude.{length-units_from}
+use Rattle.std.proofs.Common.{◌≡◌, ℕ, ◌+◌, ◌-◌, ◌*◌, ◌^◌, ◌<◌, ◌≤◌, true, nat_lt, List, [], ◌∷◌, length, take, drop, Contains, Option, Some, None, IfSome, refl, sym, ap, subst, arith}
+use Rattle.run_facts.proofs.Common.{AllByRecursion, option_map_or, and_parts, Disk, IsUntouched, ops_bytes, unit_count, given_from, piece_first, piece_units, LiesInRecord, active_unit, IsDataUnit, FreshUnit, Context, Begun}
 use Rattle.block_device.specs.Prelude.{IsNotInFlight}
 use Rattle.meta_rows.specs.Prelude.{AllFit}
 use Rattle.meta_log.proofs.PieceLemmas.{lies}
-use Rattle.meta_log.proofs.SealLemmas.{length-record_units}
 use Rattle.store_steps.specs.declared.step.Step.TheVariants.{Data, Flush, Seal, Record, Sync, Commit, Finish}
-use Rattle.store_steps.specs.Prelude.{Batch, State, Unsent, unsent_units, run_bytes, next_unsent, batch_ops, is_not_sent, pieces_of, batch_is, begun_is, applied_count, is_ready, is_drained, piece_unit, piece_bytes, all_fresh}
+use Rattle.store_steps.specs.Prelude.{Batch, State, Unsent, unsent_units, run_bytes, next_unsent, batch_ops, is_not_sent, applied_count, is_ready, is_drained, piece_unit, piece_bytes, all_fresh}
 use Rattle.flight_facts.specs.Prelude.{IsNone, IsGivenPiece}
 use Rattle.flight_facts.proofs.Prelude.{record_long, idle_device, StandsIn, all_join, IsRunOf, row_at, run_has, run_inside, run_untouched, ready_not_down, ready_by_table, IsIdle, drained_is_idle, unflown, none_left, rest_not_given, flush_unflown, sync_unflown, test_of, some_is, first_waits, sync_tests, all_left, pieces_ended}
 use Rattle.run_facts.specs.Prelude.{IsKept, IsKeptUp}

@@ -3,7 +3,6 @@ use Rattle.std.proofs.Common.{◌≡◌, inl, inr, true, ℕ, ◌+◌, List, [],
 use Rattle.run_facts.proofs.Common.{option_map, option_map_or, Disk, Reaped, Waited, FreshUnit, Flying, Job, Begun}
 use Rattle.store_steps.specs.declared.flight.Job.TheVariants as job
 use Rattle.store_steps.specs.Prelude.{Batch, State, done_more, after_done, first_flushed, second_flushed, written_more, DoesReap, begun_ops, Intent, rows_part, data_part, half_part, ends, Footprint}
-use Rattle.store_steps.specs.RowsGo as rows
 use Rattle.store_steps.specs.DataGoes as units
 use Rattle.store_steps.specs.HalfGoes as half
 use Rattle.store_steps.specs.BookGoes as book

@@ -6,7 +6,7 @@ use Rattle.unit_allocator.proofs.Lists.{Contains-head, Contains-tail}
 use Rattle.selections.proofs.Selecting.{fair_all}
 use Rattle.store_steps.specs.Prelude.{Batch, State, Unsent, unsent_units, next_unsent, batch_released, Intent, intents, is_in, released_by, EachIsPlanned, AreTakenApart, SpaceIsCounted, uncommitted, rows_part}
 use Rattle.space_facts.proofs.Prelude.{selected_on_data, released_on_data, not_idle_until, busy_is_not_free}
-use Rattle.flight_facts.proofs.Prelude.{StandsIn, all_right, IsRunOf, run_has, next_stands, all_at}
+use Rattle.flight_facts.proofs.Prelude.{StandsIn, IsRunOf, run_has, next_stands, all_at}
 use Rattle.run_facts.specs.Prelude.{AreRowsKept, IsKept}
 use Rattle.run_facts.proofs.SpaceUnits.{AreData, data_within}
 use Rattle.run_facts.proofs.PartsKept.{flat_intents, intents_both}

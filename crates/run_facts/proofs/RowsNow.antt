@@ -1,11 +1,8 @@
 -- What a kernel that is up knows of the rows that it has now, and of its free units.
-use Rattle.std.proofs.Common.{◌≡◌, List, None, sym, subst}
-use Rattle.run_facts.proofs.Common.{Disk, width_of, IsGood}
-use Rattle.store_image.specs.Prelude.{IsExactAs}
+use Rattle.std.proofs.Common.{◌≡◌, None}
+use Rattle.run_facts.proofs.Common.{Disk, IsGood}
 use Rattle.plan_rows.specs.Prelude.{AreFreeOver}
-use Rattle.selections.proofs.Selecting.{fair_all}
-use Rattle.store_steps.specs.Prelude.{State, Intent, intents, is_in, SpaceIsCounted, HoldsAreCounted, uncommitted, rows_part}
-use Rattle.space_facts.proofs.Prelude.{selection_exact}
+use Rattle.store_steps.specs.Prelude.{State, rows_part}
 use Rattle.run_facts.specs.Prelude.{IsSpaceOf, AreRowsKept, IsKept}
 use Rattle.run_facts.proofs.RowsAccepted.{submitted_good, submitted_free}
 

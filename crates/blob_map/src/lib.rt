@@ -9,7 +9,6 @@ mod extents;
 mod laws;
 mod page_map;
 mod place;
-mod put_pages;
 mod value_reading;
 mod value_writing;
 

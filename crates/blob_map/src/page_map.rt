@@ -1,5 +1,5 @@
 //! The page map of an object.
-ghost use Rattle.std.specs.Prelude.{◌≡◌, ◌<◌, ◌≤◌, ◌+◌, ◌^◌, ◌⊎◌, ℕ, Some, length, slice_index_or, not, List, OnOk, OnErr, IfOk};
+ghost use Rattle.std.specs.Prelude.{◌≡◌, ◌<◌, ◌+◌, ◌^◌, not, List, OnOk, OnErr, IfOk};
 ghost use Rattle.std.specs.Ordering.{nat_cmp};
 ghost use Rattle.std.specs.List.{flat_map, AllByRecursion};
 ghost use Rattle.std.specs.FinMap as map;
@@ -13,7 +13,6 @@ ghost use Rattle.blob_map.specs.Normal.{extents_of};
 
 use crate::extents::extents_of;
 use crate::place::Place;
-use crate::put_pages::put_places;
 use crate::value_reading::put_value;
 use crate::value_writing::value_of;
 use byte_maps::Bytes;
@@ -75,21 +74,6 @@ impl PageMap {
         ensures err { OnErr result (self.new ≡ self.old) }
     {
         self.pages.insert(page, place)
-    }
-
-    /// Puts consecutive pages from the first on in these places, wherever they stood. Where memory runs out the map is as it was.
-    pub fn put(&mut self, alloc: Global, first: u32, places: &[Place]) -> Result<(), AllocError>
-        requires { first + length places.now ≤ 2 ^ 32 }
-        ensures inside { OnOk result ((i : ℕ) (d : Place) → i < length places.now →
-            map.get self.new (first + i) ≡ Some (slice_index_or places.now i d)) }
-        ensures outside { OnOk result ((page : ℕ) → (page < first) ⊎ (first + length places.now ≤ page) →
-            map.get self.new page ≡ map.get self.old page) }
-        ensures err { OnErr result (self.new ≡ self.old) }
-    {
-        let mut pages = self.pages.copy(alloc)?;
-        put_places(&mut pages, first, places)?;
-        self.pages = pages;
-        Ok(())
     }
 
     /// Makes a hole of so many pages from the first on, and gives where those stood that weren't holes, ascending. Where memory runs

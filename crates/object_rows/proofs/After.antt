@@ -1,6 +1,8 @@
 -- Rows after an object's are replaced: which there are, that none is bad, and where pages stand.
-use Rattle.std.proofs.Common.{◌≡◌, ◌⊎◌, ◌↔◌, inl, inr, ℕ, ◌<◌, ◌≤◌, ◌^◌, List, [], ◌∷◌, Some, is_some, refl, sym, ap, subst, ◌∙◌, arith}
+use Rattle.std.proofs.Common.{◌≡◌, ◌⊎◌, ◌↔◌, inl, inr, ℕ, ◌<◌, ◌≤◌, ◌^◌, List, [], ◌∷◌, Option, Some, None, is_some, refl, sym, ap, subst, ◌∙◌, arith}
+use Rattle.std.specs.Prelude.{unwrap_or, option_map}
 use Rattle.std.specs.List.{AllByRecursion}
+use Rattle.std.specs.Int.{w64, to_le_bytes}
 use Rattle.std.specs.FinMap as map
 use Rattle.std.proofs.lemmas.Bool.{cases_lt}
 use Rattle.meta_rows.specs.Prelude.{Rows}
@@ -8,6 +10,7 @@ use Rattle.meta_log.specs.declared.slot.Super.{Super}
 use Rattle.meta_log.specs.Prelude.{width_of}
 use Rattle.object_model.specs.Prelude.{object_limit}
 use Rattle.unit_fields.specs.Prelude.{IsName, IsCollName}
+use Rattle.unit_fields.specs.declared.width.Width.{Width}
 use Rattle.row_format.specs.Prelude.{coll_key, onode_key, shard_key, bitmap_key, Extent, FitsExtent, BeginsAt, ExtentsAscend, Place, own, place_of, page_end, Row, collection, onode, shard, bitmap, row_key, row_value, FitsRow, FitsShard}
 use Rattle.row_format.proofs.Prelude.{same_head, same_onode, same_shard, coll_no_object, onode_no_shard, bitmap_no_object, same_row}
 use Rattle.store_image.specs.Prelude.{HasKey, HasRow, HasOnode, HasShard, PageUnit, IsPageAt, IsPageOn, pages_of, IsOnData, IsShardInPlace, IsInPlace, IsGoodRow, NoBadRow, Owner, page_of, Owns, IsOwned, IsMarked}
@@ -17,6 +20,7 @@ use Rattle.row_facts.proofs.ObjectUnder.{object_cases}
 use Rattle.row_facts.proofs.Shapes.{SameOthers}
 use Rattle.object_rows.specs.Prelude.{CanReplace, replaced, IsOther, HasUnit, IsOwnedElsewhere}
 use Rattle.plan_rows.specs.Prelude.{IsKeyOf, AreReplaced}
+use Rattle.object_rows.proofs.Lengths.{has_page}
 use Rattle.object_rows.proofs.Ops.{are_replaced}
 
 -- the first extent begins at the page, or not
@@ -30,21 +34,29 @@ begins_or_not page (e ∷ es) = elim (cases_lt e.first page) [
   ]
 ]
 
+-- where all end by the first page there are none, since each that fits has a page
+pub no_extents : (w : Width) (es : List Extent) → AllByRecursion (FitsExtent w) es → AllByRecursion (λ e. page_end e ≤ 0) es → es ≡ []
+no_extents w [] fit within = refl
+no_extents w (e ∷ es) fit within = absurd (omega (arith, has_page w e.body fit.0.body, within.0))
+
 one_begin : (page other : ℕ) (es : List Extent) → BeginsAt page es → BeginsAt other es → page ≡ other
 one_begin page other [] p q = absurd p
 one_begin page other (e ∷ es) p q = sym p ∙ q
 
-module _ (s : Super) (rows after : Rows) (c o : List ℕ) (size : ℕ) (extents : List Extent) (coll : IsCollName c) (name : IsName o)
-    (most : size ≤ object_limit)
+module _ (s : Super) (rows after : Rows) (c o : List ℕ) (size : Option ℕ) (extents : List Extent) (coll : IsCollName c) (name : IsName o)
+    (most : unwrap_or size 0 ≤ object_limit)
     (fit : AllByRecursion (FitsExtent (width_of s)) extents) (are : AreReplaced (width_of s) rows after c o size extents) where
-  abbrev new_onode : Row
-  new_onode = onode c o size
+  within_limit : (n : ℕ) → size ≡ Some n → n ≤ object_limit
+  within_limit n is = subst (λ m. unwrap_or m 0 ≤ object_limit) is most
 
-  onode_fits : FitsRow (width_of s) new_onode
-  onode_fits = (coll, name, omega (arith, most))
+  onode_fits : (n : ℕ) → size ≡ Some n → FitsRow (width_of s) (onode c o n)
+  onode_fits n is = (coll, name, omega (arith, within_limit n is))
 
-  pub has_onode : HasRow (width_of s) after new_onode
-  has_onode = record { fits = onode_fits; stands = are.onode }
+  pub has_onode : (n : ℕ) → size ≡ Some n → HasRow (width_of s) after (onode c o n)
+  has_onode n is = record { fits = onode_fits n is; stands = are.onode ∙ ap (option_map (to_le_bytes w64)) is }
+
+  pub no_onode : size ≡ None → map.get after (onode_key c o) ≡ None
+  no_onode is = are.onode ∙ ap (option_map (to_le_bytes w64)) is
 
   first_fits : (page : ℕ) (es : List Extent) → AllByRecursion (FitsExtent (width_of s)) es → BeginsAt page es → page < 2 ^ 32
   first_fits page [] all begins = absurd begins
@@ -85,10 +97,15 @@ module _ (s : Super) (rows after : Rows) (c o : List ℕ) (size : ℕ) (extents 
 
   -- ---- rows that are there
 
-  own_onode : (n : ℕ) → HasOnode after c o n → n ≡ size
-  own_onode n has =
-      let value : Some (row_value (width_of s) (onode c o n)) ≡ Some (row_value (width_of s) new_onode) = sym has.stands ∙ are.onode in
-      let same : onode c o n ≡ new_onode = same_row (width_of s) (onode c o n) new_onode has.fits onode_fits refl cc in cc
+  pub own_onode : (n : ℕ) → HasOnode after c o n → size ≡ Some n
+  own_onode n has = elim size as (λ m. size ≡ m → m ≡ Some n) [
+    | None ↦ λ p. absurd (let e = sym has.stands ∙ no_onode p in cc)
+    | Some m ↦ λ p.
+        let value : Some (row_value (width_of s) (onode c o m)) ≡ Some (row_value (width_of s) (onode c o n)) =
+        sym (has_onode m p).stands ∙ has.stands in
+        let same : onode c o m ≡ onode c o n = same_row (width_of s) (onode c o m) (onode c o n) (onode_fits m p) has.fits refl cc in
+        let sizes : m ≡ n = cc in ap Some sizes
+  ] refl
 
   own_shard : (page : ℕ) (es : List Extent) → HasShard (width_of s) after c o page es → BeginsAt page extents × (es ≡ extents)
   own_shard page es has = elim (begins_or_not page extents) [
@@ -103,7 +120,7 @@ module _ (s : Super) (rows after : Rows) (c o : List ℕ) (size : ℕ) (extents 
 
   -- a row of an onode or a shard is the object's, or another object's that was there
   onode_cases : (d u : List ℕ) (n : ℕ) → HasOnode after d u n
-      → ((d ≡ c) × (u ≡ o) × (n ≡ size)) ⊎ (IsOther c o d u × HasOnode rows d u n)
+      → ((d ≡ c) × (u ≡ o) × (size ≡ Some n)) ⊎ (IsOther c o d u × HasOnode rows d u n)
   onode_cases d u n has = elim (object_cases c o d u) [
     | inl e ↦ inl (e.0, e.1, own_onode n (subst (λ x. HasOnode after x o n) e.0 (subst (λ x. HasOnode after d x n) e.1 has)))
     | inr other ↦ inr (other, record { fits = has.fits; stands = sym (onode_same d u has.fits.0 has.fits.1 other) ∙ has.stands })
@@ -202,17 +219,27 @@ module _ (s : Super) (rows after : Rows) (c o : List ℕ) (size : ℕ) (extents 
   -- ---- no row is bad
 
   module _ (good : NoBadRow s rows) (has_collection : HasKey rows (coll_key c)) (ascend : ExtentsAscend extents)
-      (within : AllByRecursion (λ e. page_end e ≤ pages_of size) extents) (on_data : AllByRecursion (λ e. IsOnData s e.body) extents) where
+      (within : AllByRecursion (λ e. page_end e ≤ pages_of (unwrap_or size 0)) extents) (on_data : AllByRecursion (λ e. IsOnData s e.body) extents) where
     coll_there : HasKey after (coll_key c)
     coll_there = ap is_some (coll_same c) ∙ has_collection
+
+    -- an object that has extents is there
+    onode_there : (page : ℕ) → BeginsAt page extents → HasKey after (onode_key c o)
+    onode_there page begins = elim size as (λ m. size ≡ m → HasKey after (onode_key c o)) [
+      | None ↦ λ p.
+          let none : extents ≡ [] =
+          no_extents (width_of s) extents fit (subst (λ m. AllByRecursion (λ e. page_end e ≤ pages_of (unwrap_or m 0)) extents) p within) in
+          absurd (subst (BeginsAt page) none begins)
+      | Some n ↦ λ p. ap is_some (has_onode n p).stands
+    ] refl
 
     new_in_place : (page : ℕ) → BeginsAt page extents → IsShardInPlace s after c o page extents
     new_in_place page begins = record {
       has_collection = coll_there;
-      has_onode = ap is_some are.onode;
+      has_onode = onode_there page begins;
       ascend = ascend;
       behind = λ earlier es below has. absurd (omega (arith, below, one_begin earlier page extents (own_shard earlier es has).0 begins));
-      within = λ n has. subst (λ m. AllByRecursion (λ e. page_end e ≤ pages_of m) extents) (sym (own_onode n has)) within;
+      within = λ n has. subst (λ m. AllByRecursion (λ e. page_end e ≤ pages_of (unwrap_or m 0)) extents) (own_onode n has) within;
       on_data = on_data;
     }
 
@@ -235,7 +262,7 @@ module _ (s : Super) (rows after : Rows) (c o : List ℕ) (size : ℕ) (extents 
     placed : (x : Row) → HasRow (width_of s) after x → IsInPlace s after x
     placed (collection d) has = tt
     placed (onode d u n) has = elim (onode_cases d u n has) [
-      | inl its ↦ (subst (λ x. HasKey after (coll_key x)) (sym its.0) coll_there, subst (λ m. m ≤ object_limit) (sym its.2) most)
+      | inl its ↦ (subst (λ x. HasKey after (coll_key x)) (sym its.0) coll_there, within_limit n its.2)
       | inr old ↦ let was = in_place s rows (onode d u n) good old.1 in (ap is_some (coll_same d) ∙ was.0, was.1)
     ]
     placed (shard d u page es) has = elim (shard_cases d u page es has) [
@@ -266,7 +293,10 @@ module _ (s : Super) (rows after : Rows) (c o : List ℕ) (size : ℕ) (extents 
     pub after_good : NoBadRow s after
     after_good key value stands = elim (are.others key) [
       | inl its ↦ elim its [
-        | inl e ↦ own_good key value new_onode stands has_onode e
+        | inl e ↦ elim size as (λ m. size ≡ m → IsGoodRow s after key value) [
+          | None ↦ λ p. absurd (let t = sym stands ∙ ap (λ k. map.get after k) e ∙ no_onode p in cc)
+          | Some n ↦ λ p. own_good key value (onode c o n) stands (has_onode n p) e
+        ] refl
         | inr p ↦ elim (begins_or_not p.0 extents) [
           | inl begins ↦ own_good key value (shard c o p.0 extents) stands (has_shard p.0 begins) p.2
           | inr not ↦ absurd (let e = sym stands ∙ ap (λ k. map.get after k) p.2 ∙ are.no_other p.0 p.1 not in cc)
@@ -277,7 +307,7 @@ module _ (s : Super) (rows after : Rows) (c o : List ℕ) (size : ℕ) (extents 
 
 -- ---- for the operations
 
-module _ (s : Super) (rows : Rows) (c o : List ℕ) (size : ℕ) (extents : List Extent) (present : List ℕ) (can : CanReplace s rows c o size extents present) where
+module _ (s : Super) (rows : Rows) (c o : List ℕ) (size : Option ℕ) (extents : List Extent) (present : List ℕ) (can : CanReplace s rows c o size extents present) where
   abbrev then : Rows
   then = replaced (width_of s) rows c o size extents present
 
@@ -289,8 +319,11 @@ module _ (s : Super) (rows : Rows) (c o : List ℕ) (size : ℕ) (extents : List
       s rows then c o size extents can.coll_name can.object_name can.size_most can.fit are_then can.good can.has_collection can.ascend
       can.within can.on_data
 
-  pub then_sized : HasOnode then c o size
+  pub then_sized : (n : ℕ) → size ≡ Some n → HasOnode then c o n
   then_sized = has_onode s rows then c o size extents can.coll_name can.object_name can.size_most can.fit are_then
+
+  pub then_gone : size ≡ None → map.get then (onode_key c o) ≡ None
+  then_gone = no_onode s rows then c o size extents can.coll_name can.object_name can.size_most can.fit are_then
 
   module _ (page : ℕ) (place : Place) where
     pub then_pages : IsPageAt (width_of s) then c o page place ↔ (place_of extents page ≡ Some place)

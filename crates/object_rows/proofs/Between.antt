@@ -1,13 +1,11 @@
--- The units of the pages of a range.
-use Rattle.std.proofs.Common.{◌≡◌, ◌⊎◌, ◌↔◌, inl, inr, ℕ, zero, suc, ◌+◌, ◌<◌, ◌≤◌, Bool, true, false, cond, T, List, [], ◌∷◌, length, get_or, flat_map, Contains, Some, refl, sym, ap, subst, ◌∙◌, arith}
+-- The units of some pages of a map.
+use Rattle.std.proofs.Common.{◌≡◌, ◌⊎◌, ◌↔◌, inl, inr, ℕ, zero, suc, ◌<◌, Bool, true, cond, T, List, [], ◌∷◌, length, get_or, flat_map, Contains, Some, refl, sym, ap, subst, ◌∙◌, arith}
 use Rattle.std.specs.Prelude.{slice_index}
 use Rattle.std.specs.Ordering.{nat_cmp, is_eq}
 use Rattle.std.specs.FinMap.{find, is_sorted, entries, entries_sorted, get-entries}
 use Rattle.std.specs.FinMap.Entries.{where_key, below_all}
 use Rattle.std.proofs.lemmas.Bool.{cases_Bool, cases_lt}
-use Rattle.std.proofs.lemmas.Bool.Decides.{nat_tests}
 use Rattle.unit_fields.specs.declared.width.Width.{Width}
-use Rattle.number_map.specs.NumberMap.{is_in}
 use Rattle.number_map.proofs.Places.{both_first, both_second}
 use Rattle.number_map.proofs.Search.{cmp_equal, cmp_less, cmp_greater, less_is}
 use Rattle.meta_rows.specs.Prelude.{Rows}
@@ -15,8 +13,6 @@ use Rattle.row_format.specs.Prelude.{Place, own}
 use Rattle.store_image.specs.Prelude.{IsPageAt, page_of, Owns, HasSoleOwner}
 use Rattle.blob_map.specs.Prelude.{PageMap}
 use Rattle.plan_rows.specs.Prelude.{IsMapOf, own_units, StandsOnce}
-use Rattle.object_rows.specs.Prelude.{units_between, StoodWritten}
-use Rattle.object_rows.proofs.Wrote.{written_or_not}
 
 -- ---- elements
 
@@ -25,12 +21,12 @@ abbrev pub In : {X : Type 0} → List X → X → Type 0
 In [] x = ⊥
 In (e ∷ es) x = (e ≡ x) ⊎ In es x
 
-at_in : (us : List ℕ) (v k : ℕ) → k < length us → get_or us k v ≡ v → In us v
+pub at_in : (us : List ℕ) (v k : ℕ) → k < length us → get_or us k v ≡ v → In us v
 at_in [] v k lt is = absurd (omega (arith, lt))
 at_in (u ∷ us) v zero lt is = inl is
 at_in (u ∷ us) v (suc k) lt is = inr (at_in us v k (omega (arith, lt)) is)
 
-in_at : (us : List ℕ) (v : ℕ) → In us v → Contains us v
+pub in_at : (us : List ℕ) (v : ℕ) → In us v → Contains us v
 in_at [] v h = absurd h
 in_at (u ∷ us) v (inl is) = (0, omega arith, is)
 in_at (u ∷ us) v (inr later) = let c = in_at us v later in (suc c.0, omega (arith, c.1), c.2)
@@ -75,7 +71,7 @@ find_here page p ps is = ap (λ r. cond (is_eq r) (Some p.1) (find nat_cmp page 
 pub same_pair : (p : ℕ × Place) (page : ℕ) (place : Place) → p.0 ≡ page → p.1 ≡ place → p ≡ (page, place)
 same_pair p page place a b = λ i. (a i, b i)
 
-found_in : (es : List (ℕ × Place)) (page : ℕ) (place : Place) → find nat_cmp page es ≡ Some place → In es (page, place)
+pub found_in : (es : List (ℕ × Place)) (page : ℕ) (place : Place) → find nat_cmp page es ≡ Some place → In es (page, place)
 found_in [] page place is = absurd cc
 found_in (e ∷ es) page place is = elim (cases_lt page e.0) [
   | inl lt ↦ inr (found_in es page place (sym (find_step page e es (inl lt)) ∙ is))
@@ -101,16 +97,7 @@ in_found (e ∷ es) page place sorted (inr later) =
     let above : e.0 < page = below_in e.0 es page place (both_first _ (is_sorted nat_cmp es) sorted) later in
     find_step page e es (inr above) ∙ in_found es page place (both_second (below_all nat_cmp e.0 es) _ sorted) later
 
--- ---- the pages of a range
-
-pub inside_is : (from end page : ℕ) → from ≤ page → page < end → is_in from end page ≡ true
-inside_is from end page le lt = grind (arith, nat_tests)
-
-pub low_is : (from end page : ℕ) → page < from → is_in from end page ≡ false
-low_is from end page lt = grind (arith, nat_tests)
-
-pub high_is : (from end page : ℕ) → end ≤ page → is_in from end page ≡ false
-high_is from end page le = grind (arith, nat_tests)
+-- ---- units of pages
 
 -- the pages that pass a test
 module _ (w : Width) (test : ℕ → Bool) where
@@ -118,7 +105,7 @@ module _ (w : Width) (test : ℕ → Bool) where
   units_in es = flat_map (λ p. own_units p.1) (where_key nat_cmp test es)
 
   -- an entry that passes has the unit
-  record Stands (es : List (ℕ × Place)) (v : ℕ) : Type 0 where
+  pub record Stands (es : List (ℕ × Place)) (v : ℕ) : Type 0 where
     pub page : ℕ
     pub csum : ℕ
     pub there : In es (page, own v csum)
@@ -128,7 +115,7 @@ module _ (w : Width) (test : ℕ → Bool) where
   abbrev front : ℕ × Place → List (ℕ × Place) → Bool → List ℕ
   front e es b = flat_map (λ p. own_units p.1) (cond b (e ∷ where_key nat_cmp test es) (where_key nat_cmp test es))
 
-  unit_stands : (es : List (ℕ × Place)) (v : ℕ) → In (units_in es) v → Stands es v
+  pub unit_stands : (es : List (ℕ × Place)) (v : ℕ) → In (units_in es) v → Stands es v
   unit_stands [] v h = absurd h
   unit_stands ((n, own w k) ∷ es) v h = elim (cases_Bool (test n)) [
     | inl is ↦
@@ -143,7 +130,7 @@ module _ (w : Width) (test : ℕ → Bool) where
       behind : Stands es v → Stands ((n, own w k) ∷ es) v
       behind x = record { page = x.page; csum = x.csum; there = inr x.there; inside = x.inside }
 
-  stands_unit : (es : List (ℕ × Place)) (v page csum : ℕ) → In es (page, own v csum) → test page ≡ true → In (units_in es) v
+  pub stands_unit : (es : List (ℕ × Place)) (v page csum : ℕ) → In es (page, own v csum) → test page ≡ true → In (units_in es) v
   stands_unit [] v page csum h is = absurd h
   stands_unit ((n, own w k) ∷ es) v page csum (inl here) is =
       let passes : test n ≡ true = ap (λ (p : ℕ × Place). test p.0) here ∙ is in
@@ -192,35 +179,3 @@ module _ (w : Width) (test : ℕ → Bool) where
         one p q a b x y =
             let owner : page_of c o p ≡ page_of c o q =
             sole (page_of c o p) (page_of c o q) (a, page_in p (own v a) x) (b, page_in q (own v b) y) in cc
-
--- the units of a range are those where its pages stand
-module _ (w : Width) (first count : ℕ) (rows : Rows) (c o : List ℕ) (pages : PageMap) (are : IsMapOf w rows c o pages) where
-  abbrev inside : ℕ → Bool
-  inside = is_in first (first + count)
-
-  pub between_stood : (v : ℕ) → Contains (units_between pages first count) v ↔ StoodWritten w rows c o first count v
-  between_stood v = (
-    λ k. stood (unit_stands w inside (entries pages) v (at_in (units_between pages first count) v k.0 k.1 k.2)),
-    λ there.
-        let found = found_in (entries pages) (first + there.index) (own v there.owns.0)
-        (sym (get-entries pages (first + there.index)) ∙ (are (first + there.index) (own v there.owns.0)).1 there.owns.1) in
-        in_at (units_between pages first count) v
-        (stands_unit w inside (entries pages) v (first + there.index) there.owns.0 found
-        (inside_is first (first + count) (first + there.index) (omega arith) (omega (arith, there.small)))),
-  )
-    where
-      stood : Stands w inside (entries pages) v → StoodWritten w rows c o first count v
-      stood x = elim (written_or_not first count x.page) [
-        | inl p ↦ record {
-          index = p.0;
-          small = p.1;
-          owns = (
-            x.csum,
-            subst (λ n. IsPageAt w rows c o n (own v x.csum)) p.2 (page_in w inside rows c o pages are x.page (own v x.csum) x.there),
-          );
-        }
-        | inr out ↦ elim out [
-          | inl lt ↦ absurd (let t = sym x.inside ∙ low_is first (first + count) x.page lt in cc)
-          | inr le ↦ absurd (let t = sym x.inside ∙ high_is first (first + count) x.page le in cc)
-        ]
-      ]

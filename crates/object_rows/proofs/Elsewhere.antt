@@ -1,5 +1,5 @@
 -- A plan over rows is one over all rows that agree with them on its collection, where the units that it takes are unmarked.
-use Rattle.std.proofs.Common.{◌≡◌, ◌⊎◌, inl, inr, ℕ, ◌/◌, true, List, [], ◌∷◌, None, map, is_some, refl, sym, ap, subst, ◌∙◌}
+use Rattle.std.proofs.Common.{◌≡◌, ◌⊎◌, inl, inr, ℕ, true, List, [], ◌∷◌, Option, Some, None, is_some, refl, sym, ap, subst, ◌∙◌}
 use Rattle.std.specs.List.{AllByRecursion}
 use Rattle.std.specs.FinMap as finite
 use Rattle.meta_rows.specs.Prelude.{Rows, rows_after, key_of, LeaveAlone}
@@ -9,22 +9,20 @@ use Rattle.meta_rows.proofs.RowLemmas.{get-rows_after_other}
 use Rattle.meta_log.specs.declared.slot.Super.{Super}
 use Rattle.meta_log.specs.Prelude.{width_of}
 use Rattle.object_model.specs.declared.op.Op.{Op}
-use Rattle.object_model.specs.declared.op.Op.TheVariants.{Touch, Write}
+use Rattle.object_model.specs.declared.op.Op.TheVariants.{Touch, Write, Zero, Truncate, Remove}
 use Rattle.object_model.specs.Prelude.{Change, names_of}
 use Rattle.object_model.proofs.Names.{is_own}
 use Rattle.unit_fields.specs.declared.width.Width.{Width}
 use Rattle.row_format.specs.Prelude.{coll_key, onode_key, shard_key, Extent, Place}
 use Rattle.store_image.specs.Prelude.{HasKey, HasValue, IsPageAt, IsMarked, IsOwned, IsExactAs}
 use Rattle.row_facts.specs.Operations.{coll_change}
-use Rattle.blob_map.specs.Prelude.{PageMap, extents_of}
-use Rattle.plan_rows.specs.declared.plan.FreshUnit.{FreshUnit}
+use Rattle.blob_map.specs.Prelude.{PageMap}
 use Rattle.plan_rows.specs.declared.plan.Plan.{Plan}
-use Rattle.plan_rows.specs.Prelude.{Changes, IsDifference, Layout, HasLayout, made_of, IsSizeOf, missing, there, IsMapOf, IsKeyOf, AreReplaced, GetsLayout, stays, replaces, MakesColl, MakesLayout, IsInColl, fresh_units, object_of, data_of, IsKeyIn, AgreeOn}
-use Rattle.object_rows.specs.Prelude.{AreFresh, CanPlanWrite, CanPlan, IsPlanned, makes_coll, changes_object}
+use Rattle.plan_rows.specs.Prelude.{Changes, IsDifference, Layout, HasLayout, made_of, size_at, extents_at, IsMapOf, IsKeyOf, AreReplaced, GetsLayout, stays, replaces, MakesColl, MakesLayout, IsInColl, IsTaken, fresh_units, object_of, IsKeyIn, AgreeOn}
+use Rattle.object_rows.specs.Prelude.{op_change, AreFresh, IsPlannedOn, IsPlanned, makes_coll, changes_object}
 use Rattle.object_rows.proofs.Difference.{still_changes, no_difference, same_unnamed}
 use Rattle.object_rows.proofs.GoodPages.{all_map}
-use Rattle.object_rows.proofs.PagesOn.{units_of_pages}
-use Rattle.object_rows.proofs.PlanOps.{coll_put, coll_by}
+use Rattle.object_rows.proofs.Planned.{coll_put, coll_by}
 
 -- ---- the keys of a difference
 
@@ -42,9 +40,9 @@ all_named P (op ∷ ops) each = (
 )
 
 -- an object's rows are all that changes when it gets a layout
-pub layout_keys : (w : Width) (rows : Rows) (c o : List ℕ) (x y : Layout) (after : Rows) (ops : List RowOp) → GetsLayout w rows c o x y after
+pub layout_keys : (w : Width) (rows : Rows) (c o : List ℕ) (x y : Option Layout) (after : Rows) (ops : List RowOp) → GetsLayout w rows c o x y after
     → IsDifference rows after ops → AllByRecursion (λ op. IsKeyOf c o (key_of op)) ops
-layout_keys w rows c o x y after ops (stays has same) is = subst (AllByRecursion (λ op. IsKeyOf c o (key_of op))) (sym (no_difference rows ops is)) tt
+layout_keys w rows c o x y after ops (stays same) is = subst (AllByRecursion (λ op. IsKeyOf c o (key_of op))) (sym (no_difference rows ops is)) tt
 layout_keys w rows c o x y after ops (replaces r changed are) is = all_named (IsKeyOf c o) ops (λ key. elim (are.others key) [
   | inl its ↦ inl its
   | inr same ↦ inr (same_unnamed rows after ops key is same)
@@ -87,18 +85,15 @@ module _ (c : List ℕ) (rows other : Rows) (agree : AreSameIn c rows other) whe
   key_there key is has = ap is_some (agree key is) ∙ has
 
   module _ (w : Width) (o : List ℕ) where
-    size_there : (size : ℕ) → IsSizeOf rows c o size → IsSizeOf other c o size
-    size_there size (missing none) = missing (agree (onode_key c o) (onode_in c o) ∙ none)
-    size_there size (there n has) = there n (value_there c rows other _ _ _ agree (onode_in c o) has)
-
     map_there : (pages : PageMap) → IsMapOf w rows c o pages → IsMapOf w other c o pages
     map_there pages is page place = (
       λ found. page_there c w rows other o page place agree ((is page place).0 found),
       λ at. (is page place).1 (page_there c w other rows o page place (λ key its. sym (agree key its)) at),
     )
 
-    layout_there : (x : Layout) → HasLayout w rows c o x → HasLayout w other c o x
-    layout_there x has = record { was_long = size_there x.size has.was_long; are_pages = map_there x.pages has.are_pages }
+    layout_there : (x : Option Layout) → HasLayout w rows c o x → HasLayout w other c o x
+    layout_there None none = agree (onode_key c o) (onode_in c o) ∙ none
+    layout_there (Some l) has = (value_there c rows other _ _ _ agree (onode_in c o) has.0, map_there l.pages has.1)
 
     -- ---- a difference of the object's rows
 
@@ -113,7 +108,7 @@ module _ (c : List ℕ) (rows other : Rows) (agree : AreSameIn c rows other) whe
       same_then : (key : List ℕ) → IsKeyIn c key → finite.get (rows_after other ops) key ≡ finite.get after key
       same_then key its = same_after rows other ops key (agree key its) ∙ ap (λ r. finite.get r key) is.makes
 
-      replaced_there : (size : ℕ) (extents : List Extent) → AreReplaced w rows after c o size extents
+      replaced_there : (size : Option ℕ) (extents : List Extent) → AreReplaced w rows after c o size extents
           → AreReplaced w other (rows_after other ops) c o size extents
       replaced_there size extents are = record {
         onode = same_then (onode_key c o) (onode_in c o) ∙ are.onode;
@@ -128,15 +123,14 @@ module _ (c : List ℕ) (rows other : Rows) (agree : AreSameIn c rows other) whe
       difference_there : AllByRecursion (λ op. IsKeyOf c o (key_of op)) ops → IsDifference other (rows_after other ops) ops
       difference_there keys = record { in_order = is.in_order; changes = changes_there ops keys is.changes; makes = refl }
 
-    gets_there : (x y : Layout) (after : Rows) (ops : List RowOp) → GetsLayout w rows c o x y after → IsDifference rows after ops
+    gets_there : (x y : Option Layout) (after : Rows) (ops : List RowOp) → GetsLayout w rows c o x y after → IsDifference rows after ops
         → GetsLayout w other c o x y (rows_after other ops)
-    gets_there x y after ops (stays has same) is = subst (λ l. GetsLayout w other c o x y (rows_after other l)) (sym (no_difference rows ops is))
-        (stays (key_there (onode_key c o) (onode_in c o) has) same)
-    gets_there x y after ops (replaces r changed are) is = replaces (rows_after other ops)
-        (elim changed [ inl none ↦ inl (agree (onode_key c o) (onode_in c o) ∙ none) | inr moved ↦ inr moved ])
-        (replaced_there after ops is y.size (extents_of (finite.entries y.pages)) are)
+    gets_there x y after ops (stays same) is =
+        subst (λ l. GetsLayout w other c o x y (rows_after other l)) (sym (no_difference rows ops is)) (stays same)
+    gets_there x y after ops (replaces r apart are) is =
+        replaces (rows_after other ops) apart (replaced_there after ops is (size_at y) (extents_at y) are)
 
-    pub makes_there : (x y : Layout) (units : List ℕ) (plan : Plan) → MakesLayout w rows c o x y units plan → MakesLayout w other c o x y units plan
+    pub makes_there : (x y : Option Layout) (units : List ℕ) (plan : Plan) → MakesLayout w rows c o x y units plan → MakesLayout w other c o x y units plan
     makes_there x y units plan p = record {
       after = rows_after other p.difference;
       gets = gets_there x y p.after p.difference p.gets p.is_difference;
@@ -157,6 +151,14 @@ module _ (c : List ℕ) (rows other : Rows) (agree : AreSameIn c rows other) whe
   in_coll_there : (o : List ℕ) → IsInColl c o rows → IsInColl c o other
   in_coll_there o is = record { coll_named = is.coll_named; named = is.named; there = key_there (coll_key c) (inl refl) is.there }
 
+  taken_there : (op : Op) → IsTaken rows c op → IsTaken other c op
+  taken_there (Touch o) taken = in_coll_there o taken
+  taken_there (Write o off bytes) taken = (in_coll_there o taken.0, taken.1, taken.2)
+  taken_there (Zero o off len) taken = (in_coll_there o taken.0, taken.1)
+  taken_there (Truncate o to) taken = (in_coll_there o taken.0, taken.1)
+  taken_there (Remove o) taken = in_coll_there o taken
+  taken_there op taken = absurd taken
+
   module _ (s : Super) (units : List ℕ) (unmarked : AllByRecursion (λ u. ¬ IsMarked other u) units) (exact : IsExactAs (width_of s) other other) where
     -- a unit that isn't marked has no owner
     fresh_there : AreFresh s rows units → AreFresh s other units
@@ -168,37 +170,30 @@ module _ (c : List ℕ) (rows other : Rows) (agree : AreSameIn c rows other) whe
       fit = are.fit;
     }
 
-    write_there : (o : List ℕ) (first : ℕ) (bytes : List ℕ) → CanPlanWrite s rows c o first bytes units → CanPlanWrite s other c o first bytes units
-    write_there o first bytes can = record {
-      in_coll = in_coll_there o can.in_coll;
-      units_most = can.units_most;
-      fresh = fresh_there can.fresh;
-      some = can.some;
-      whole = can.whole;
-      short = can.short;
-      within = can.within;
-      csums_fit = can.csums_fit;
-    }
-
-    can_there : (op : Op) → CanPlan s rows c op units → CanPlan s other c op units
-    can_there (Touch o) can = (in_coll_there o can.0, can.1)
-    can_there (Write o off bytes) can = (can.0, write_there o (off / 4096) bytes can.1)
-    can_there op can = absurd can
-
 -- ---- the plan
 
 pub planned_elsewhere : (s : Super) (rows other : Rows) {change : Change} {plan : Plan} → AgreeOn (names_of change) other rows
-    → AllByRecursion (λ u. ¬ IsMarked other u) (fresh_units plan) → IsExactAs (width_of s) other other → IsPlanned s rows change plan
+    → AllByRecursion (λ u. ¬ IsMarked other u) (fresh_units plan) → IsExactAs (width_of s) other other
+    → (units : (c : List ℕ) (op : Op) (p : IsPlannedOn s rows c op plan) → fresh_units plan ≡ p.units) → IsPlanned s rows change plan
     → IsPlanned s other change plan
-planned_elsewhere s rows other agree unmarked exact (makes_coll c plan name none p) =
+planned_elsewhere s rows other agree unmarked exact units (makes_coll c plan name none p) =
     let same : AreSameIn c rows other =
     λ key is. agree.own key (record { coll = c; among = is_own (coll_change c); of = is }) in
     makes_coll c plan name (same (coll_key c) (inl refl) ∙ none) (coll_there c rows other same plan none p)
-planned_elsewhere s rows other agree unmarked exact (changes_object c op units x plan can has p fresh) =
+planned_elsewhere s rows other agree unmarked exact units (changes_object c op plan p) =
     let same : AreSameIn c rows other =
-    λ key is. agree.own key (record { coll = c; among = is_own (record { coll = c; ops = op ∷ [] }); of = is }) in
-    let units_are : fresh_units plan ≡ units = ap (map (λ (f : FreshUnit). f.unit)) fresh ∙ units_of_pages (data_of op) units 0 in
-    changes_object c op units x plan
-    (can_there c rows other same s units (subst (AllByRecursion (λ u. ¬ IsMarked other u)) units_are unmarked) exact op can)
-    (layout_there c rows other same (width_of s) (object_of op) x has)
-    (makes_there c rows other same (width_of s) (object_of op) x (made_of op units x) units plan p) fresh
+    λ key is. agree.own key (record { coll = c; among = is_own (op_change c op); of = is }) in
+    let clear : AllByRecursion (λ u. ¬ IsMarked other u) p.units = subst (AllByRecursion (λ u. ¬ IsMarked other u)) (units c op p) unmarked in
+    changes_object c op plan (record {
+      taken = taken_there c rows other same op p.taken;
+      units_most = p.units_most;
+      layout = p.layout;
+      has = layout_there c rows other same (width_of s) (object_of op) p.layout p.has;
+      reads = p.reads;
+      units = p.units;
+      are_fresh = fresh_there c rows other same s p.units clear exact p.are_fresh;
+      enough = p.enough;
+      makes = makes_there c rows other same (width_of s) (object_of op) p.layout (made_of op plan.read p.units p.layout) p.units plan p.makes;
+      fresh = p.fresh;
+      csums_fit = p.csums_fit;
+    })

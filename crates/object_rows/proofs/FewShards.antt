@@ -1,4 +1,4 @@
--- An object has at most as many shards as it may have pages.
+-- The shards of an object begin at pages that it may have, so they are no more than these.
 use Rattle.std.proofs.Common.{ℕ, ◌+◌, ◌<◌, ◌≤◌, ◌^◌, List, [], ◌∷◌, length, is_some, sym, ap, ◌∙◌, arith}
 use Rattle.std.specs.List.{AllByRecursion}
 use Rattle.meta_rows.specs.Prelude.{Rows}

@@ -1,8 +1,8 @@
 -- The operations are in the order of their keys.
-use Rattle.std.proofs.Common.{◌≡◌, inl, inr, ℕ, suc, ◌+◌, ◌*◌, ◌/◌, ◌%◌, ◌<◌, ◌^◌, Bool, cond, List, [], ◌∷◌, ◌++◌, refl, sym, ap, subst, ◌∙◌, arith}
+use Rattle.std.proofs.Common.{◌≡◌, inl, inr, ℕ, suc, ◌+◌, ◌*◌, ◌/◌, ◌%◌, ◌<◌, ◌^◌, Bool, cond, List, [], ◌∷◌, ◌++◌, Option, refl, sym, ap, subst, ◌∙◌, arith}
 use Rattle.std.specs.Prelude.{nat_lt, filter}
 use Rattle.std.specs.List.{AllByRecursion}
-use Rattle.std.specs.Int.{w32, w64, to_be_bytes, to_le_bytes}
+use Rattle.std.specs.Int.{w32, to_be_bytes}
 use Rattle.std.specs.Ordering.{ordering_then}
 use Rattle.std.specs.declared.cmp.Ordering.TheVariants.{Less}
 use Rattle.std.proofs.lemmas.Bool.{cases_Bool, cases_lt}
@@ -15,13 +15,12 @@ use Rattle.meta_rows.specs.declared.row_op.RowOp.{RowOp}
 use Rattle.meta_rows.specs.declared.row_op.RowOp.TheVariants.{Drop}
 use Rattle.meta_log.specs.declared.slot.Super.{Super}
 use Rattle.meta_log.specs.Prelude.{width_of}
-use Rattle.row_format.specs.Prelude.{object_key, onode_key, shard_key, bitmap_key, Extent, FitsExtent, shard}
-use Rattle.row_facts.specs.Operations.{set_row, set_onode}
+use Rattle.row_format.specs.Prelude.{object_key, onode_key, shard_key, bitmap_key, Extent, FitsExtent}
 use Rattle.bitmap_freelist.specs.Bitmap.{Units, AreFlips, AreFlipsFrom}
-use Rattle.object_rows.specs.Prelude.{says, drops, shard_ops, object_ops, CanReplace, Climb}
+use Rattle.object_rows.specs.Prelude.{drops, shard_set, shard_ops, object_ops, CanReplace, Climb}
 use Rattle.plan_rows.specs.Prelude.{IsKeyOf, KeysAscend}
 use Rattle.object_rows.proofs.GoodPages.{all_map}
-use Rattle.object_rows.proofs.Ops.{all_append, all_kept, all_pass, lower, object_ops_own}
+use Rattle.object_rows.proofs.Ops.{all_append, all_kept, all_pass, lower, onode_by, shard_set_by, object_ops_own}
 use Rattle.object_rows.proofs.Shards.{both_all}
 
 -- ---- keys
@@ -116,7 +115,7 @@ module _ (w : Width) (c o : List ℕ) where
     | inr f ↦ subst (λ b. Climb (cond b (p ∷ filter test ps) (filter test ps))) (sym f) (still_climb test ps climb.1)
   ]
 
-  module _ (present : List ℕ) (climb : Climb present) (below : AllByRecursion (λ p. p < 2 ^ 32) present) where
+  module _ (rows : Rows) (present : List ℕ) (climb : Climb present) (below : AllByRecursion (λ p. p < 2 ^ 32) present) where
     module _ (e : Extent) (es : List Extent) (first_below : e.first < 2 ^ 32) where
       abbrev low : List ℕ
       low = filter (λ page. nat_lt page e.first) present
@@ -124,8 +123,11 @@ module _ (w : Width) (c o : List ℕ) where
       abbrev high : List ℕ
       high = filter (nat_lt e.first) present
 
+      abbrev one : List RowOp
+      one = shard_set w rows c o e es
+
       abbrev upper : List RowOp
-      upper = set_row w (shard c o e.first (e ∷ es)) ∷ drops c o high
+      upper = one ++ drops c o high
 
       high_from : AllByRecursion (λ p. e.first < p) high
       high_from = all_pass (nat_lt e.first) (λ p. e.first < p) (λ p is. lower e.first p is) present
@@ -133,21 +135,28 @@ module _ (w : Width) (c o : List ℕ) where
       high_below : AllByRecursion (λ p. p < 2 ^ 32) high
       high_below = all_kept (nat_lt e.first) (λ p. p < 2 ^ 32) present below
 
+      -- what holds of the shard's key holds of the operation on it
+      one_all : (P : List ℕ → Type 0) → P (shard_key c o e.first) → AllByRecursion (λ op. P (key_of op)) one
+      one_all P is = shard_set_by w rows c o e es (λ ops. AllByRecursion (λ op. P (key_of op)) ops) (λ said. tt) (λ not. (is, tt))
+
       upper_ascend : KeysAscend upper
-      upper_ascend = (later_drops e.first high high_from high_below, drops_ascend high (still_climb (nat_lt e.first) present climb) high_below)
+      upper_ascend = joined one (drops c o high) (shard_set_by w rows c o e es KeysAscend (λ is. tt) (λ not. (tt, tt)))
+          (drops_ascend high (still_climb (nat_lt e.first) present climb) high_below)
+          (one_all (λ key. AllByRecursion (λ op. byte_order key (key_of op) ≡ Less) (drops c o high)) (later_drops e.first high high_from high_below))
 
       low_first : AllByRecursion (λ x. AllByRecursion (Before x) upper) (drops c o low)
-      low_first = drops_all (λ x. AllByRecursion (Before x) upper) (λ p. p < e.first) (λ p lt. (
-        shard_before p e.first lt first_below,
-        later_drops p high (all_pass (nat_lt e.first) (λ q. p < q) (λ q is. omega (arith, lt, lower e.first q is)) present) high_below,
-      )) low (all_pass (λ page. nat_lt page e.first) (λ p. p < e.first) (λ p is. lower p e.first is) present)
+      low_first = drops_all (λ x. AllByRecursion (Before x) upper) (λ p. p < e.first) (λ p lt.
+          all_append (Before (Drop (shard_key c o p))) one (drops c o high)
+          (one_all (λ key. byte_order (shard_key c o p) key ≡ Less) (shard_before p e.first lt first_below))
+          (later_drops p high (all_pass (nat_lt e.first) (λ q. p < q) (λ q is. omega (arith, lt, lower e.first q is)) present) high_below)
+          ) low (all_pass (λ page. nat_lt page e.first) (λ p. p < e.first) (λ p is. lower p e.first is) present)
 
-      parts_ascend : KeysAscend (shard_ops w c o (e ∷ es) present)
+      parts_ascend : KeysAscend (shard_ops w rows c o (e ∷ es) present)
       parts_ascend = joined (drops c o low) upper
           (drops_ascend low (still_climb (λ page. nat_lt page e.first) present climb) (all_kept (λ page. nat_lt page e.first) (λ p. p < 2 ^ 32) present below))
           upper_ascend low_first
 
-    shards_ascend : (extents : List Extent) → AllByRecursion (FitsExtent w) extents → KeysAscend (shard_ops w c o extents present)
+    shards_ascend : (extents : List Extent) → AllByRecursion (FitsExtent w) extents → KeysAscend (shard_ops w rows c o extents present)
     shards_ascend [] fit = drops_ascend present climb below
     shards_ascend (e ∷ es) fit = parts_ascend e es fit.0.first
 
@@ -156,22 +165,23 @@ module _ (w : Width) (c o : List ℕ) where
     drops_behind [] = tt
     drops_behind (p ∷ ps) = (onode_before p, drops_behind ps)
 
-    shards_behind : (extents : List Extent) → AllByRecursion (λ op. byte_order (onode_key c o) (key_of op) ≡ Less) (shard_ops w c o extents present)
+    shards_behind : (extents : List Extent)
+        → AllByRecursion (λ op. byte_order (onode_key c o) (key_of op) ≡ Less) (shard_ops w rows c o extents present)
     shards_behind [] = drops_behind present
     shards_behind (e ∷ es) = all_append (λ op. byte_order (onode_key c o) (key_of op) ≡ Less) (drops c o (filter (λ page. nat_lt page e.first) present)) _
-        (drops_behind _) (onode_before e.first, drops_behind _)
+        (drops_behind _)
+        (all_append (λ op. byte_order (onode_key c o) (key_of op) ≡ Less) (shard_set w rows c o e es) (drops c o (filter (nat_lt e.first) present))
+        (shard_set_by w rows c o e es (λ ops. AllByRecursion (λ op. byte_order (onode_key c o) (key_of op) ≡ Less) ops) (λ is. tt)
+        (λ not. (onode_before e.first, tt)))
+        (drops_behind _))
 
-    all_ascend : (rows : Rows) (size : ℕ) (extents : List Extent) → AllByRecursion (FitsExtent w) extents
-        → KeysAscend (object_ops w rows c o size extents present)
-    all_ascend rows size extents fit = elim (cases_Bool (says rows (onode_key c o) (to_le_bytes w64 size))) [
-      | inl is ↦ subst (λ b. KeysAscend (cond b [] (set_onode c o size ∷ []) ++ shard_ops w c o extents present)) (sym is) (shards_ascend extents fit)
-      | inr is ↦ subst (λ b. KeysAscend (cond b [] (set_onode c o size ∷ []) ++ shard_ops w c o extents present)) (sym is)
-          (shards_behind extents, shards_ascend extents fit)
-    ]
+    all_ascend : (size : Option ℕ) (extents : List Extent) → AllByRecursion (FitsExtent w) extents → KeysAscend (object_ops w rows c o size extents present)
+    all_ascend size extents fit = onode_by rows c o (λ ops. KeysAscend (ops ++ shard_ops w rows c o extents present)) size (shards_ascend extents fit)
+        (λ n not. (shards_behind extents, shards_ascend extents fit)) (λ is. (shards_behind extents, shards_ascend extents fit))
 
-pub ops_ascend : (s : Super) (rows : Rows) (c o : List ℕ) (size : ℕ) (extents : List Extent) (present : List ℕ)
+pub ops_ascend : (s : Super) (rows : Rows) (c o : List ℕ) (size : Option ℕ) (extents : List Extent) (present : List ℕ)
     → CanReplace s rows c o size extents present → Climb present → KeysAscend (object_ops (width_of s) rows c o size extents present)
-ops_ascend s rows c o size extents present can climb = all_ascend (width_of s) c o present climb can.shards.below rows size extents can.fit
+ops_ascend s rows c o size extents present can climb = all_ascend (width_of s) c o rows present climb can.shards.below size extents can.fit
 
 -- ---- operations on the bitmap behind them
 
@@ -214,7 +224,7 @@ flips_behind c o key units from (op ∷ ops) own are = (
   flips_behind c o key units (suc are.0) ops own are.2,
 )
 
-pub with_flips_ascend : (s : Super) (rows : Rows) (c o : List ℕ) (size : ℕ) (extents : List Extent) (present : List ℕ)
+pub with_flips_ascend : (s : Super) (rows : Rows) (c o : List ℕ) (size : Option ℕ) (extents : List Extent) (present : List ℕ)
     → CanReplace s rows c o size extents present → Climb present → (units : Units) (flips : List RowOp) → AreFlips units flips
     → KeysAscend (object_ops (width_of s) rows c o size extents present ++ flips)
 with_flips_ascend s rows c o size extents present can climb units flips are =

@@ -1,5 +1,5 @@
 -- Where no row is bad each object has a layout, and a list of its shards.
-use Rattle.std.proofs.Common.{◌≡◌, inl, inr, ℕ, zero, suc, ◌+◌, ◌<◌, ◌≤◌, true, false, List, [], ◌∷◌, Contains, Some, None, is_some, flat_map, refl, sym, ap, subst, ◌∙◌, arith}
+use Rattle.std.proofs.Common.{◌≡◌, inl, inr, ℕ, zero, suc, ◌+◌, ◌<◌, ◌≤◌, true, false, List, [], ◌∷◌, Contains, Option, Some, None, is_some, flat_map, refl, sym, ap, subst, ◌∙◌, arith}
 use Rattle.std.specs.List.{AllByRecursion}
 use Rattle.std.specs.FinMap as finite
 use Rattle.std.proofs.lemmas.Bool.{cases_lt}
@@ -54,7 +54,7 @@ module _ (s : Super) (rows : Rows) (c o : List ℕ) (good : NoBadRow s rows) whe
         let g = good (onode_key c o) value is in
         onode_row g.row (record { fits = g.fits; stands = ap (finite.get rows) (sym g.key_is) ∙ is ∙ ap Some g.value_is }) g.key_is
 
-    size_of : (size : ℕ) × IsSizeOf rows c o size
+    pub size_of : (size : ℕ) × IsSizeOf rows c o size
     size_of = elim (finite.get rows (onode_key c o)) as (λ r. finite.get rows (onode_key c o) ≡ r → (size : ℕ) × IsSizeOf rows c o size) [
       | None ↦ λ p. (0, missing p)
       | Some value ↦ λ p. let found = onode_under value p in (found.0, there found.0 found.1)
@@ -128,9 +128,22 @@ module _ (s : Super) (rows : Rows) (c o : List ℕ) (good : NoBadRow s rows) whe
           },
         )
 
+    -- its layout, if it is there
+    layout_by : (shards : List (ℕ × List Extent)) → AreShardsOf (width_of s) rows c o shards → (x : Option Layout) × HasLayout (width_of s) rows c o x
+    layout_by shards are =
+        elim (finite.get rows (onode_key c o)) as
+        (λ r. finite.get rows (onode_key c o) ≡ r → (x : Option Layout) × HasLayout (width_of s) rows c o x) [
+          | None ↦ λ p. (None, p)
+          | Some value ↦ λ p.
+              let found = onode_under value p in (
+                Some (record { size = found.0; pages = with_pages finite.empty (flat_map extent_pages (extents_in shards)) }),
+                (found.1, map_by_shards shards are),
+              )
+        ] refl
+
 -- an object by its rows
 pub record ObjectInRows (w : Width) (rows : Rows) (c o : List ℕ) : Type 0 where
-  pub layout : Layout
+  pub layout : Option Layout
   pub has : HasLayout w rows c o layout
   pub present : List ℕ
   pub are_shards : AreShards rows c o present
@@ -139,11 +152,11 @@ pub record ObjectInRows (w : Width) (rows : Rows) (c o : List ℕ) : Type 0 wher
 
 pub object_in_rows : (s : Super) (rows : Rows) (c o : List ℕ) → NoBadRow s rows → IsCollName c → IsName o → ObjectInRows (width_of s) rows c o
 object_in_rows s rows c o good coll name =
-    let size = size_of s rows c o good coll name in
     let shards = shards_by s rows c o good coll name 32768 refl in
+    let layout = layout_by s rows c o good coll name shards.0 shards.1 in
     record {
-      layout = record { size = size.0; pages = with_pages finite.empty (flat_map extent_pages (extents_in shards.0)) };
-      has = record { was_long = size.1; are_pages = map_by_shards s rows c o good shards.0 shards.1 };
+      layout = layout.0;
+      has = layout.1;
       present = first_pages shards.0;
       are_shards = by_shards_present s rows c o good shards.0 shards.1 coll name;
       there = keys_there s rows c o good shards.0 shards.1.there;

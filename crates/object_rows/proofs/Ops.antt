@@ -2,7 +2,7 @@
 use Rattle.std.proofs.Common.{◌≡◌, ◌≢◌, ◌⊎◌, inl, inr, ℕ, zero, suc, ◌<◌, ◌^◌, Bool, true, false, cond, List, [], ◌∷◌, ◌++◌, length, get_or, Option, Some, None, is_some, refl, sym, ap, subst, ◌∙◌, arith}
 use Rattle.std.specs.Prelude.{nat_lt, filter, Contains}
 use Rattle.std.specs.List.{flat_map, AllByRecursion}
-use Rattle.std.specs.Option.{option_map_or}
+use Rattle.std.specs.Option.{option_map, option_map_or}
 use Rattle.std.specs.Ordering.{eq_by_cmp, is_eq}
 use Rattle.std.specs.declared.cmp.Ordering.TheVariants.{Less, Equal, Greater}
 use Rattle.std.specs.Cmp.{tied_itself}
@@ -15,6 +15,7 @@ use Rattle.byte_maps.specs.ByteMap.{byte_order}
 use Rattle.byte_maps.proofs.Prelude.{after_remove, same_bytes}
 use Rattle.meta_rows.specs.Prelude.{Rows, rows_after, row_after, key_of, LeaveAlone}
 use Rattle.meta_rows.specs.declared.row_op.RowOp.{RowOp}
+use Rattle.meta_rows.specs.declared.row_op.RowOp.TheVariants.{Drop}
 use Rattle.meta_rows.proofs.Folds.{rows_after-append}
 use Rattle.meta_rows.proofs.RowLemmas.{get-row_after_other, get-rows_after_other}
 use Rattle.meta_log.specs.declared.slot.Super.{Super}
@@ -22,13 +23,13 @@ use Rattle.meta_log.specs.Prelude.{width_of}
 use Rattle.object_model.specs.Prelude.{is_same}
 use Rattle.unit_fields.specs.Prelude.{IsName, IsCollName}
 use Rattle.unit_fields.specs.declared.width.Width.{Width}
-use Rattle.row_format.specs.Prelude.{onode_key, shard_key, Extent, extent_bytes, FitsExtent, BeginsAt}
+use Rattle.row_format.specs.Prelude.{onode_key, shard_key, Extent, extent_bytes, FitsExtent, BeginsAt, shard}
 use Rattle.row_format.proofs.Prelude.{same_shard, onode_no_shard}
 use Rattle.store_image.specs.Prelude.{HasKey}
 use Rattle.store_image.proofs.Prelude.{equal_or_not}
-use Rattle.row_facts.specs.Operations.{set_onode}
+use Rattle.row_facts.specs.Operations.{set_row, set_onode}
 use Rattle.row_facts.proofs.Maps.{get_same, get_other}
-use Rattle.object_rows.specs.Prelude.{says, drops, onode_ops, shard_ops, object_ops, CanReplace, replaced}
+use Rattle.object_rows.specs.Prelude.{says, drops, onode_ops, shard_set, shard_ops, object_ops, CanReplace, replaced}
 use Rattle.plan_rows.specs.Prelude.{IsKeyOf, AreReplaced}
 
 -- ---- lists of pages
@@ -79,6 +80,44 @@ is_lower a b lt = grind (arith, nat_tests)
 pub all_append : {X : Type 0} (P : X → Type 0) (xs ys : List X) → AllByRecursion P xs → AllByRecursion P ys → AllByRecursion P (xs ++ ys)
 all_append P [] ys p q = q
 all_append P (x ∷ xs) ys p q = (p.0, all_append P xs ys p.1 q)
+
+-- ---- rows that say a value
+
+same_is : (x y : List ℕ) → is_same x y ≡ true → x ≡ y
+same_is x y is = elim (byte_order x y) as (λ r. byte_order x y ≡ r → is_eq r ≡ true → x ≡ y) [
+  | Less ↦ λ p t. absurd cc
+  | Equal ↦ λ p t. same_bytes x y p
+  | Greater ↦ λ p t. absurd cc
+] refl is
+
+pub said : (rows : Rows) (key value : List ℕ) → says rows key value ≡ true → map.get rows key ≡ Some value
+said rows key value is = elim (map.get rows key) as (λ x. option_map_or (λ there. is_same there value) x false ≡ true → x ≡ Some value) [
+  | None ↦ λ t. absurd cc
+  | Some v ↦ λ t. ap Some (same_is v value t)
+] is
+
+none_is : {X : Type 0} (x : Option X) → is_some x ≡ false → x ≡ None
+none_is None is = refl
+none_is (Some v) is = absurd cc
+
+-- what holds of all that the operations on the onode may be, and of the one on the shard
+module _ (rows : Rows) (c o : List ℕ) (P : List RowOp → Type 0) where
+  pub onode_by : (size : Option ℕ) → P [] → ((n : ℕ) → says rows (onode_key c o) (to_le_bytes w64 n) ≡ false → P (set_onode c o n ∷ []))
+      → (HasKey rows (onode_key c o) → P (Drop (onode_key c o) ∷ [])) → P (onode_ops rows c o size)
+  onode_by (Some n) none set drop = elim (says rows (onode_key c o) (to_le_bytes w64 n)) as
+      (λ b. says rows (onode_key c o) (to_le_bytes w64 n) ≡ b → P (cond b [] (set_onode c o n ∷ []))) [ true ↦ λ is. none | false ↦ λ is. set n is ] refl
+  onode_by None none set drop = elim (map.contains_key rows (onode_key c o)) as
+      (λ b. map.contains_key rows (onode_key c o) ≡ b → P (cond b (Drop (onode_key c o) ∷ []) [])) [ true ↦ λ is. drop is | false ↦ λ is. none ] refl
+
+module _ (w : Width) (rows : Rows) (c o : List ℕ) (e : Extent) (es : List Extent) (P : List RowOp → Type 0) where
+  pub shard_set_by : (says rows (shard_key c o e.first) (flat_map (extent_bytes w) (e ∷ es)) ≡ true → P [])
+      → (says rows (shard_key c o e.first) (flat_map (extent_bytes w) (e ∷ es)) ≡ false → P (set_row w (shard c o e.first (e ∷ es)) ∷ []))
+      → P (shard_set w rows c o e es)
+  shard_set_by none set = elim (says rows (shard_key c o e.first) (flat_map (extent_bytes w) (e ∷ es))) as
+      (λ b. says rows (shard_key c o e.first) (flat_map (extent_bytes w) (e ∷ es)) ≡ b → P (cond b [] (set_row w (shard c o e.first (e ∷ es)) ∷ []))) [
+        | true ↦ none
+        | false ↦ set
+      ] refl
 
 -- ---- rows that are dropped
 
@@ -152,7 +191,9 @@ module _ (w : Width) (c o : List ℕ) where
       pub shard : (page : ℕ) → BeginsAt page extents → map.get after (shard_key c o page) ≡ Some (flat_map (extent_bytes w) extents)
       pub no_other : (page : ℕ) → page < 2 ^ 32 → (BeginsAt page extents → ⊥) → map.get after (shard_key c o page) ≡ None
 
-    module _ (rows : Rows) (present : List ℕ) (below : AllByRecursion (λ p. p < 2 ^ 32) present)
+    -- the one shard's row is set where these rows, which have the object's shards as the table does, say something else of it
+    module _ (told rows : Rows) (as_told : (page : ℕ) → map.get rows (shard_key c o page) ≡ map.get told (shard_key c o page)) (present : List ℕ)
+        (below : AllByRecursion (λ p. p < 2 ^ 32) present)
         (all : (page : ℕ) → page < 2 ^ 32 → HasKey rows (shard_key c o page) → In page present) where
       no_extents : Sharded rows (rows_after rows (drops c o present)) []
       no_extents = record {
@@ -176,10 +217,13 @@ module _ (w : Width) (c o : List ℕ) where
         lowered = rows_after rows (drops c o low)
 
         abbrev middle : Rows
-        middle = map.insert lowered (shard_key c o e.first) bytes
+        middle = rows_after lowered (shard_set w told c o e es)
 
         low_below : AllByRecursion (λ p. p < 2 ^ 32) low
         low_below = all_kept (λ page. nat_lt page e.first) (λ p. p < 2 ^ 32) present below
+
+        low_apart : AllByRecursion (λ p. p ≢ e.first) low
+        low_apart = all_pass (λ page. nat_lt page e.first) (λ p. p ≢ e.first) (λ p is same. omega (arith, lower p e.first is, same)) present
 
         high_below : AllByRecursion (λ p. p < 2 ^ 32) high
         high_below = all_kept (nat_lt e.first) (λ p. p < 2 ^ 32) present below
@@ -187,20 +231,30 @@ module _ (w : Width) (c o : List ℕ) where
         high_apart : AllByRecursion (λ p. p ≢ e.first) high
         high_apart = all_pass (nat_lt e.first) (λ p. p ≢ e.first) (λ p is same. omega (arith, lower e.first p is, same)) present
 
-        middle_other : (page : ℕ) → page < 2 ^ 32 → page ≢ e.first → map.get middle (shard_key c o page) ≡ map.get lowered (shard_key c o page)
-        middle_other page lt apart = get_other lowered (shard_key c o e.first) bytes (shard_key c o page) (shards_apart page e.first lt first_below apart)
+        middle_own : map.get middle (shard_key c o e.first) ≡ Some bytes
+        middle_own = shard_set_by w told c o e es (λ ops. map.get (rows_after lowered ops) (shard_key c o e.first) ≡ Some bytes)
+            (λ is. get-rows_after_other rows (drops c o low) (shard_key c o e.first) (shard_left e.first low first_below low_below low_apart)
+            ∙ as_told e.first ∙ said told (shard_key c o e.first) bytes is)
+            (λ not. get_same lowered (shard_key c o e.first) bytes)
+
+        middle_other : (key : List ℕ) → key ≢ shard_key c o e.first → map.get middle key ≡ map.get lowered key
+        middle_other key apart = shard_set_by w told c o e es (λ ops. map.get (rows_after lowered ops) key ≡ map.get lowered key)
+            (λ is. refl) (λ not. get_other lowered (shard_key c o e.first) bytes key apart)
+
+        middle_shard : (page : ℕ) → page < 2 ^ 32 → page ≢ e.first → map.get middle (shard_key c o page) ≡ map.get lowered (shard_key c o page)
+        middle_shard page lt apart = middle_other (shard_key c o page) (shards_apart page e.first lt first_below apart)
 
         -- a lower shard goes first, a higher one last
         lower_gone : (page : ℕ) → page < 2 ^ 32 → page < e.first → map.get (rows_after middle (drops c o high)) (shard_key c o page) ≡ None
         lower_gone page lt less = drops_none (shard_key c o page) high middle
-            (middle_other page lt (λ same. omega (arith, less, same))
+            (middle_shard page lt (λ same. omega (arith, less, same))
             ∙ gone page low rows (λ has. still_in (λ page. nat_lt page e.first) page present (is_lower page e.first less) (all page lt has)))
 
         higher_gone : (page : ℕ) → page < 2 ^ 32 → e.first < page → map.get (rows_after middle (drops c o high)) (shard_key c o page) ≡ None
         higher_gone page lt more = elim (map.get rows (shard_key c o page)) as
             (λ x. map.get rows (shard_key c o page) ≡ x → map.get (rows_after middle (drops c o high)) (shard_key c o page) ≡ None) [
               | None ↦ λ p. drops_none (shard_key c o page) high middle
-                  (middle_other page lt (λ same. omega (arith, more, same)) ∙ drops_none (shard_key c o page) low rows p)
+                  (middle_shard page lt (λ same. omega (arith, more, same)) ∙ drops_none (shard_key c o page) low rows p)
               | Some v ↦ λ p. dropped page high middle (still_in (nat_lt e.first) page present (is_lower e.first page more) (all page lt (ap is_some p)))
             ] refl
 
@@ -216,87 +270,86 @@ module _ (w : Width) (c o : List ℕ) where
         put : Sharded rows (rows_after middle (drops c o high)) (e ∷ es)
         put = record {
           onode = get-rows_after_other middle (drops c o high) (onode_key c o) (onode_left high)
-              ∙ get_other lowered (shard_key c o e.first) bytes (onode_key c o) (onode_no_shard c o c o e.first coll name coll name)
+              ∙ middle_other (onode_key c o) (onode_no_shard c o c o e.first coll name coll name)
               ∙ get-rows_after_other rows (drops c o low) (onode_key c o) (onode_left low);
           shard = λ page begins. ap (λ q. map.get (rows_after middle (drops c o high)) (shard_key c o q)) (sym begins)
               ∙ get-rows_after_other middle (drops c o high) (shard_key c o e.first) (shard_left e.first high first_below high_below high_apart)
-              ∙ get_same lowered (shard_key c o e.first) bytes;
+              ∙ middle_own;
           no_other = other_gone;
         }
 
-        ops_own : AllByRecursion (λ op. IsKeyOf c o (key_of op)) (shard_ops w c o (e ∷ es) present)
-        ops_own = all_append (λ (op : RowOp). IsKeyOf c o (key_of op)) (drops c o low) _ (drops_own low low_below) (inr (e.first, first_below, refl), drops_own high high_below)
+        parts : rows_after middle (drops c o high) ≡ rows_after rows (shard_ops w told c o (e ∷ es) present)
+        parts = sym (rows_after-append rows (drops c o low) (shard_set w told c o e es ++ drops c o high)
+            ∙ rows_after-append lowered (shard_set w told c o e es) (drops c o high))
+
+        ops_own : AllByRecursion (λ op. IsKeyOf c o (key_of op)) (shard_ops w told c o (e ∷ es) present)
+        ops_own = all_append (λ (op : RowOp). IsKeyOf c o (key_of op)) (drops c o low) _ (drops_own low low_below)
+            (all_append (λ (op : RowOp). IsKeyOf c o (key_of op)) (shard_set w told c o e es) (drops c o high)
+            (shard_set_by w told c o e es (λ ops. AllByRecursion (λ op. IsKeyOf c o (key_of op)) ops) (λ is. tt)
+            (λ not. (inr (e.first, first_below, refl), tt)))
+            (drops_own high high_below))
 
       sharded : (extents : List Extent) → AllByRecursion (FitsExtent w) extents
-          → Sharded rows (rows_after rows (shard_ops w c o extents present)) extents
+          → Sharded rows (rows_after rows (shard_ops w told c o extents present)) extents
       sharded [] fit = no_extents
-      sharded (e ∷ es) fit = subst (λ m. Sharded rows m (e ∷ es)) (sym (rows_after-append rows (drops c o (low e es fit.0.first)) _)) (put e es fit.0.first)
+      sharded (e ∷ es) fit = subst (λ m. Sharded rows m (e ∷ es)) (parts e es fit.0.first) (put e es fit.0.first)
 
       shards_own : (extents : List Extent) → AllByRecursion (FitsExtent w) extents
-          → AllByRecursion (λ op. IsKeyOf c o (key_of op)) (shard_ops w c o extents present)
+          → AllByRecursion (λ op. IsKeyOf c o (key_of op)) (shard_ops w told c o extents present)
       shards_own [] fit = drops_own present below
       shards_own (e ∷ es) fit = ops_own e es fit.0.first
 
 -- ---- the onode
 
-same_is : (x y : List ℕ) → is_same x y ≡ true → x ≡ y
-same_is x y is = elim (byte_order x y) as (λ r. byte_order x y ≡ r → is_eq r ≡ true → x ≡ y) [
-  | Less ↦ λ p t. absurd cc
-  | Equal ↦ λ p t. same_bytes x y p
-  | Greater ↦ λ p t. absurd cc
-] refl is
+module _ (rows : Rows) (c o : List ℕ) where
+  abbrev with_onode : Option ℕ → Rows
+  with_onode size = rows_after rows (onode_ops rows c o size)
 
-said : (rows : Rows) (key value : List ℕ) → says rows key value ≡ true → map.get rows key ≡ Some value
-said rows key value is = elim (map.get rows key) as (λ x. option_map_or (λ there. is_same there value) x false ≡ true → x ≡ Some value) [
-  | None ↦ λ t. absurd cc
-  | Some v ↦ λ t. ap Some (same_is v value t)
-] is
-
-module _ (rows : Rows) (c o : List ℕ) (size : ℕ) where
-  abbrev setting : List RowOp
-  setting = set_onode c o size ∷ []
-
-  abbrev with_onode : Rows
-  with_onode = rows_after rows (onode_ops rows c o size)
-
-  onode_put : map.get with_onode (onode_key c o) ≡ Some (to_le_bytes w64 size)
-  onode_put = elim (cases_Bool (says rows (onode_key c o) (to_le_bytes w64 size))) [
-    | inl is ↦ ap (λ b. map.get (rows_after rows (cond b [] setting)) (onode_key c o)) is ∙ said rows (onode_key c o) (to_le_bytes w64 size) is
-    | inr is ↦ ap (λ b. map.get (rows_after rows (cond b [] setting)) (onode_key c o)) is ∙ get_same rows (onode_key c o) (to_le_bytes w64 size)
+  onode_put : (size : Option ℕ) → map.get (with_onode size) (onode_key c o) ≡ option_map (to_le_bytes w64) size
+  onode_put (Some n) = elim (cases_Bool (says rows (onode_key c o) (to_le_bytes w64 n))) [
+    | inl is ↦ ap (λ b. map.get (rows_after rows (cond b [] (set_onode c o n ∷ []))) (onode_key c o)) is
+        ∙ said rows (onode_key c o) (to_le_bytes w64 n) is
+    | inr is ↦ ap (λ b. map.get (rows_after rows (cond b [] (set_onode c o n ∷ []))) (onode_key c o)) is
+        ∙ get_same rows (onode_key c o) (to_le_bytes w64 n)
+  ]
+  onode_put None = elim (cases_Bool (map.contains_key rows (onode_key c o))) [
+    | inl is ↦ ap (λ b. map.get (rows_after rows (cond b (Drop (onode_key c o) ∷ []) [])) (onode_key c o)) is ∙ get_removed rows (onode_key c o)
+    | inr is ↦ ap (λ b. map.get (rows_after rows (cond b (Drop (onode_key c o) ∷ []) [])) (onode_key c o)) is ∙ none_is (map.get rows (onode_key c o)) is
   ]
 
-  onode_own : AllByRecursion (λ op. IsKeyOf c o (key_of op)) (onode_ops rows c o size)
-  onode_own = elim (cases_Bool (says rows (onode_key c o) (to_le_bytes w64 size))) [
-    | inl is ↦ subst (λ b. AllByRecursion (λ op. IsKeyOf c o (key_of op)) (cond b [] setting)) (sym is) tt
-    | inr is ↦ subst (λ b. AllByRecursion (λ op. IsKeyOf c o (key_of op)) (cond b [] setting)) (sym is) (inl refl, tt)
-  ]
+  onode_own : (size : Option ℕ) → AllByRecursion (λ op. IsKeyOf c o (key_of op)) (onode_ops rows c o size)
+  onode_own size = onode_by rows c o (λ ops. AllByRecursion (λ op. IsKeyOf c o (key_of op)) ops) size tt (λ n not. (inl refl, tt)) (λ is. (inl refl, tt))
 
-  onode_others : (key : List ℕ) → key ≢ onode_key c o → map.get with_onode key ≡ map.get rows key
-  onode_others key apart = elim (cases_Bool (says rows (onode_key c o) (to_le_bytes w64 size))) [
-    | inl is ↦ ap (λ b. map.get (rows_after rows (cond b [] setting)) key) is
-    | inr is ↦ ap (λ b. map.get (rows_after rows (cond b [] setting)) key) is ∙ get_other rows (onode_key c o) (to_le_bytes w64 size) key apart
-  ]
+  onode_others : (size : Option ℕ) (key : List ℕ) → key ≢ onode_key c o → map.get (with_onode size) key ≡ map.get rows key
+  onode_others size key apart = onode_by rows c o (λ ops. map.get (rows_after rows ops) key ≡ map.get rows key) size refl
+      (λ n not. get_other rows (onode_key c o) (to_le_bytes w64 n) key apart)
+      (λ is. get-row_after_other rows (Drop (onode_key c o)) key (λ e. apart (sym e)))
 
 -- ---- both
 
-module _ (s : Super) (rows : Rows) (c o : List ℕ) (size : ℕ) (extents : List Extent) (present : List ℕ)
+module _ (s : Super) (rows : Rows) (c o : List ℕ) (size : Option ℕ) (extents : List Extent) (present : List ℕ)
     (can : CanReplace s rows c o size extents present) where
-  shards_there : (page : ℕ) → page < 2 ^ 32 → HasKey (with_onode rows c o size) (shard_key c o page) → In page present
-  shards_there page lt has = contained page present (can.shards.all page lt (sym (ap is_some (onode_others rows c o size (shard_key c o page)
-      (λ e. onode_no_shard c o c o page can.coll_name can.object_name can.coll_name can.object_name (sym e)))) ∙ has))
+  abbrev first : Rows
+  first = with_onode rows c o size
+
+  shards_same : (page : ℕ) → map.get first (shard_key c o page) ≡ map.get rows (shard_key c o page)
+  shards_same page = onode_others rows c o size (shard_key c o page)
+      (λ e. onode_no_shard c o c o page can.coll_name can.object_name can.coll_name can.object_name (sym e))
+
+  shards_there : (page : ℕ) → page < 2 ^ 32 → HasKey first (shard_key c o page) → In page present
+  shards_there page lt has = contained page present (can.shards.all page lt (sym (ap is_some (shards_same page)) ∙ has))
 
   -- each key is the object's
   pub object_ops_own : AllByRecursion (λ op. IsKeyOf c o (key_of op)) (object_ops (width_of s) rows c o size extents present)
-  object_ops_own = all_append (λ op. IsKeyOf c o (key_of op)) (onode_ops rows c o size) (shard_ops (width_of s) c o extents present)
+  object_ops_own = all_append (λ op. IsKeyOf c o (key_of op)) (onode_ops rows c o size) (shard_ops (width_of s) rows c o extents present)
       (onode_own rows c o size)
-      (shards_own (width_of s) c o can.coll_name can.object_name (with_onode rows c o size) present can.shards.below shards_there extents can.fit)
+      (shards_own (width_of s) c o can.coll_name can.object_name rows first shards_same present can.shards.below shards_there extents can.fit)
 
   pub are_replaced : AreReplaced (width_of s) rows (replaced (width_of s) rows c o size extents present) c o size extents
   are_replaced =
-      let first : Rows = with_onode rows c o size in
-      let made = sharded (width_of s) c o can.coll_name can.object_name first present can.shards.below shards_there extents can.fit in
-      let cut : rows_after first (shard_ops (width_of s) c o extents present) ≡ replaced (width_of s) rows c o size extents present =
-      sym (rows_after-append rows (onode_ops rows c o size) (shard_ops (width_of s) c o extents present)) in
+      let made = sharded (width_of s) c o can.coll_name can.object_name rows first shards_same present can.shards.below shards_there extents can.fit in
+      let cut : rows_after first (shard_ops (width_of s) rows c o extents present) ≡ replaced (width_of s) rows c o size extents present =
+      sym (rows_after-append rows (onode_ops rows c o size) (shard_ops (width_of s) rows c o extents present)) in
       let shards = subst (λ m. Sharded (width_of s) c o can.coll_name can.object_name first m extents) cut made in
       record {
         onode = shards.onode ∙ onode_put rows c o size;

@@ -1,32 +1,41 @@
 -- The operations of a plan are on rows of its collection, and behind them on the bits of its units.
-use Rattle.std.proofs.Common.{inl, ℕ, List, [], ◌∷◌, map, refl, sym, ap, subst, ◌∙◌, append-nil}
+use Rattle.std.proofs.Common.{inl, inr, ℕ, [], ◌∷◌, true≢false, refl, sym, subst, ◌∙◌, arith, append-nil}
+use Rattle.std.specs.Ordering.{nat_cmp}
+use Rattle.std.specs.FinSet as set
 use Rattle.meta_rows.specs.Prelude.{Rows, key_of}
 use Rattle.meta_rows.specs.declared.row_op.RowOp.{RowOp}
 use Rattle.meta_log.specs.declared.slot.Super.{Super}
 use Rattle.meta_log.specs.Prelude.{width_of}
-use Rattle.object_model.specs.declared.op.Op.{Op}
-use Rattle.object_model.specs.declared.op.Op.TheVariants.{Touch, Write}
 use Rattle.object_model.specs.Prelude.{Change, names_of}
 use Rattle.object_model.proofs.Names.{is_own}
-use Rattle.unit_fields.specs.Prelude.{IsCollName}
+use Rattle.store_image.specs.Prelude.{NoBadRow}
+use Rattle.bitmap_freelist.specs.Bitmap.{Has}
 use Rattle.row_facts.specs.Operations.{coll_change, coll_ops}
-use Rattle.plan_rows.specs.declared.plan.FreshUnit.{FreshUnit}
 use Rattle.plan_rows.specs.declared.plan.Plan.{Plan}
-use Rattle.plan_rows.specs.Prelude.{made_of, TurnsBits, IsKeyOf, fresh_units, object_of, data_of, IsKeyOfSome, AreOf}
-use Rattle.object_rows.specs.Prelude.{CanPlan, IsPlanned, makes_coll, changes_object}
+use Rattle.plan_rows.specs.Prelude.{made_of, TurnsBits, IsKeyOf, fresh_units, object_of, IsKeyOfSome, AreOf}
+use Rattle.object_rows.specs.Prelude.{op_change, IsPlanned, makes_coll, changes_object}
 use Rattle.object_rows.proofs.Elsewhere.{key_in, layout_keys}
 use Rattle.object_rows.proofs.GoodPages.{all_map}
-use Rattle.object_rows.proofs.PagesOn.{units_of_pages}
-use Rattle.object_rows.proofs.PlanOps.{turns_none, coll_by}
+use Rattle.object_rows.proofs.Made.{in_coll}
+use Rattle.object_rows.proofs.Planned.{units_are, coll_by}
 
-coll_of : (s : Super) (rows : Rows) (c : List ℕ) (op : Op) (units : List ℕ) → CanPlan s rows c op units → IsCollName c
-coll_of s rows c (Touch o) units can = can.0.coll_named
-coll_of s rows c (Write o off bytes) units can = can.1.in_coll.coll_named
-coll_of s rows c op units can = absurd can
+-- without a unit no bit is turned
+turns_none : TurnsBits [] [] []
+turns_none = record {
+  units = set.empty;
+  are_units = λ unit. (
+    λ has. absurd (none_has unit has),
+    λ either. elim either [ inl k ↦ absurd (omega (arith, k.1)) | inr k ↦ absurd (omega (arith, k.1)) ],
+  );
+  are_flips = λ unit has. absurd (none_has unit has);
+}
+  where
+    none_has : (unit : ℕ) → Has set.empty unit → ⊥
+    none_has unit has = true≢false (sym has ∙ set.contains-empty nat_cmp unit)
 
-pub ops_are_of : (s : Super) (rows : Rows) {change : Change} {plan : Plan} → IsPlanned s rows change plan
+pub ops_are_of : (s : Super) (rows : Rows) {change : Change} {plan : Plan} → NoBadRow s rows → IsPlanned s rows change plan
     → AreOf (names_of change) (fresh_units plan) plan.released plan.ops
-ops_are_of s rows (makes_coll c plan name none p) =
+ops_are_of s rows good (makes_coll c plan name none p) =
     subst (λ q. AreOf (c ∷ []) (fresh_units q) q.released q.ops) (coll_by rows c plan none p) (record {
       named = (name, tt);
       own = coll_ops c;
@@ -35,20 +44,20 @@ ops_are_of s rows (makes_coll c plan name none p) =
       keys = (record { coll = c; among = is_own (coll_change c); of = inl refl }, tt);
       turns = turns_none;
     })
-ops_are_of s rows (changes_object c op units x plan can has p fresh) = record {
-  named = (coll_of s rows c op units can, tt);
-  own = p.difference;
-  flips = p.flips;
-  is = p.ops_are;
-  keys = all_map (λ row_op. IsKeyOf c (object_of op) (key_of row_op)) (λ row_op. IsKeyOfSome (c ∷ []) (key_of row_op)) named p.difference
-      (layout_keys (width_of s) rows c (object_of op) x (made_of op units x) p.after p.difference p.gets p.is_difference);
-  turns = subst (λ us. TurnsBits us plan.released p.flips)
-      (sym (ap (map (λ (f : FreshUnit). f.unit)) fresh ∙ units_of_pages (data_of op) units 0)) p.turns;
+ops_are_of s rows good (changes_object c op plan p) = record {
+  named = ((in_coll rows c op p.taken).coll_named, tt);
+  own = p.makes.difference;
+  flips = p.makes.flips;
+  is = p.makes.ops_are;
+  keys = all_map (λ row_op. IsKeyOf c (object_of op) (key_of row_op)) (λ row_op. IsKeyOfSome (c ∷ []) (key_of row_op)) named p.makes.difference
+      (layout_keys (width_of s) rows c (object_of op) p.layout (made_of op plan.read p.units p.layout) p.makes.after p.makes.difference p.makes.gets
+      p.makes.is_difference);
+  turns = subst (λ us. TurnsBits us plan.released p.makes.flips) (sym (units_are s rows good c op plan p)) p.makes.turns;
 }
   where
     named : (row_op : RowOp) → IsKeyOf c (object_of op) (key_of row_op) → IsKeyOfSome (c ∷ []) (key_of row_op)
     named row_op is = record {
       coll = c;
-      among = is_own (record { coll = c; ops = op ∷ [] });
+      among = is_own (op_change c op);
       of = key_in c (object_of op) (key_of row_op) is;
     }

@@ -1,6 +1,6 @@
 pub mod Operations
-pub mod Writes
 pub mod Maps
-pub mod Plans
+pub mod Relaid
+pub mod Gives
 pub mod Planned
 pub mod Prelude

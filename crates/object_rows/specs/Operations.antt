@@ -1,6 +1,6 @@
 -- The row operations that replace an object's onode and extents.
-use Rattle.std.specs.Prelude.{◌≡◌, ℕ, ◌<◌, ◌≤◌, ◌^◌, nat_lt, Bool, false, List, [], ◌∷◌, ◌++◌, map, filter, Contains, Some, if◌then◌else◌}
-use Rattle.std.specs.List.{AllByRecursion}
+use Rattle.std.specs.Prelude.{◌≡◌, ℕ, ◌<◌, ◌≤◌, ◌^◌, nat_lt, Bool, false, List, [], ◌∷◌, ◌++◌, map, filter, Contains, Option, Some, None, unwrap_or, if◌then◌else◌}
+use Rattle.std.specs.List.{flat_map, AllByRecursion}
 use Rattle.std.specs.Int.{w64, to_le_bytes}
 use Rattle.std.specs.Option.{option_map_or}
 use Rattle.std.specs.FinMap as finite
@@ -12,7 +12,7 @@ use Rattle.meta_log.specs.Prelude.{width_of}
 use Rattle.object_model.specs.Prelude.{object_limit, is_same}
 use Rattle.unit_fields.specs.Prelude.{IsName, IsCollName}
 use Rattle.unit_fields.specs.declared.width.Width.{Width}
-use Rattle.row_format.specs.Prelude.{coll_key, onode_key, shard_key, Extent, FitsExtent, ExtentsAscend, own, place_of, page_end, shard}
+use Rattle.row_format.specs.Prelude.{coll_key, onode_key, shard_key, Extent, extent_bytes, FitsExtent, ExtentsAscend, own, place_of, page_end, shard}
 use Rattle.store_image.specs.Prelude.{HasKey, pages_of, NoBadRow, IsOnData, page_of, Owns}
 use Rattle.row_facts.specs.Operations.{set_row, set_onode}
 
@@ -24,20 +24,27 @@ says rows key value = option_map_or (λ there. is_same there value) (finite.get 
 abbrev pub drops : List ℕ → List ℕ → List ℕ → List RowOp
 drops c o pages = map (λ page. Drop (shard_key c o page)) pages
 
--- the object's onode, where there is none, or one of another size
-abbrev pub onode_ops : Rows → List ℕ → List ℕ → ℕ → List RowOp
-onode_ops rows c o size = if says rows (onode_key c o) (to_le_bytes w64 size) then [] else set_onode c o size ∷ []
+-- The object's onode: one of this size where there is none, or one of another size. It goes with its object where it is there.
+abbrev pub onode_ops : Rows → List ℕ → List ℕ → Option ℕ → List RowOp
+onode_ops rows c o (Some size) = if says rows (onode_key c o) (to_le_bytes w64 size) then [] else set_onode c o size ∷ []
+onode_ops rows c o None = if finite.contains_key rows (onode_key c o) then Drop (onode_key c o) ∷ [] else []
+
+-- the one shard with these extents, where it isn't there with this value
+abbrev pub shard_set : Width → Rows → List ℕ → List ℕ → Extent → List Extent → List RowOp
+shard_set w rows c o e es = if says rows (shard_key c o e.first) (flat_map (extent_bytes w) (e ∷ es)) then []
+    else set_row w (shard c o e.first (e ∷ es)) ∷ []
 
 -- The one shard with all extents, if there are any, in the place of the present ones: the operations are in the order of their keys
 -- where the present ones are.
-abbrev pub shard_ops : Width → List ℕ → List ℕ → List Extent → List ℕ → List RowOp
-shard_ops w c o [] present = drops c o present
-shard_ops w c o (e ∷ es) present = drops c o (filter (λ page. nat_lt page e.first) present)
-    ++ (set_row w (shard c o e.first (e ∷ es)) ∷ drops c o (filter (nat_lt e.first) present))
+abbrev pub shard_ops : Width → Rows → List ℕ → List ℕ → List Extent → List ℕ → List RowOp
+shard_ops w rows c o [] present = drops c o present
+shard_ops w rows c o (e ∷ es) present = drops c o (filter (λ page. nat_lt page e.first) present)
+    ++ (shard_set w rows c o e es ++ drops c o (filter (nat_lt e.first) present))
 
--- an object with this size and these extents, in the place of what the rows have of it: `present` are the first pages of its shards
-abbrev pub object_ops : Width → Rows → List ℕ → List ℕ → ℕ → List Extent → List ℕ → List RowOp
-object_ops w rows c o size extents present = onode_ops rows c o size ++ shard_ops w c o extents present
+-- An object with this size and these extents, in the place of what the rows have of it, or none of it where there is no size: `present` are
+-- the first pages of its shards.
+abbrev pub object_ops : Width → Rows → List ℕ → List ℕ → Option ℕ → List Extent → List ℕ → List RowOp
+object_ops w rows c o size extents present = onode_ops rows c o size ++ shard_ops w rows c o extents present
 
 -- the first pages of the object's shards
 pub record AreShards (rows : Rows) (c o : List ℕ) (present : List ℕ) : Type 0 where
@@ -45,21 +52,21 @@ pub record AreShards (rows : Rows) (c o : List ℕ) (present : List ℕ) : Type 
   pub all : (page : ℕ) → page < 2 ^ 32 → HasKey rows (shard_key c o page) → Contains present page
 
 -- Rows of which none is bad, a collection that they have, a size within the limit, and extents that are a good shard's: the object can
--- have them.
-pub record CanReplace (s : Super) (rows : Rows) (c o : List ℕ) (size : ℕ) (extents : List Extent) (present : List ℕ) : Type 0 where
+-- have them. It can go where there is no size and no extent.
+pub record CanReplace (s : Super) (rows : Rows) (c o : List ℕ) (size : Option ℕ) (extents : List Extent) (present : List ℕ) : Type 0 where
   pub good : NoBadRow s rows
   pub coll_name : IsCollName c
   pub object_name : IsName o
   pub has_collection : HasKey rows (coll_key c)
-  pub size_most : size ≤ object_limit
+  pub size_most : unwrap_or size 0 ≤ object_limit
   pub fit : AllByRecursion (FitsExtent (width_of s)) extents
   pub ascend : ExtentsAscend extents
-  pub within : AllByRecursion (λ e. page_end e ≤ pages_of size) extents
+  pub within : AllByRecursion (λ e. page_end e ≤ pages_of (unwrap_or size 0)) extents
   pub on_data : AllByRecursion (λ e. IsOnData s e.body) extents
   pub shards : AreShards rows c o present
 
 -- the rows then
-abbrev pub replaced : Width → Rows → List ℕ → List ℕ → ℕ → List Extent → List ℕ → Rows
+abbrev pub replaced : Width → Rows → List ℕ → List ℕ → Option ℕ → List Extent → List ℕ → Rows
 replaced w rows c o size extents present = rows_after rows (object_ops w rows c o size extents present)
 
 -- another object

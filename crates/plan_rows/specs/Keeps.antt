@@ -7,11 +7,13 @@ use Rattle.meta_rows.specs.Prelude.{Rows, rows_after, AllFit}
 use Rattle.meta_log.specs.declared.slot.Super.{Super}
 use Rattle.meta_log.specs.Prelude.{width_of}
 use Rattle.object_model.specs.Prelude.{Objects, Change, names_of, transaction_effect}
+use Rattle.row_format.specs.Prelude.{Place}
 use Rattle.store_image.specs.Prelude.{HasPage, NoBadRow, IsDataUnit, IsOwned, IsMarked, IsExactAs, IsShape, ObjectsStand}
 use Rattle.unit_allocator.specs.Prelude.{Space, free_units}
 use Rattle.plan_rows.specs.declared.plan.FreshUnit.{FreshUnit}
 use Rattle.plan_rows.specs.declared.plan.Plan.{Plan}
-use Rattle.plan_rows.specs.Plans.{IsKnown, AreFreeOver, Plans, HoldsFresh, StandsOnce, fresh_units, units_taken}
+use Rattle.plan_rows.specs.Plans.{IsKnown, AreFreeOver, Plans, HoldsFresh, StandsOnce, fresh_units, most_units}
+use Rattle.plan_rows.specs.Asks.{AsksFor}
 use Rattle.plan_rows.specs.Names.{AgreeOn, AreOf, IsOwnedBy}
 
 -- no row is bad, and the bitmap is exactly the owned units and what is leaked
@@ -51,9 +53,9 @@ pub record PlanKeeps (s : Super) (names : List (List ℕ)) (view : Rows) (plan :
   pub exact : (rows : Rows) → Suits names view plan rows → IsGood s rows → IsExactAs (width_of s) rows (rows_after rows plan.ops)
   pub owns : (rows : Rows) → Suits names view plan rows → IsGood s rows → OwnsItsUnits (width_of s) names rows (rows_after rows plan.ops) plan
 
--- the units whose old bytes are in the pages that it writes hold these (no operation reads old bytes yet)
+-- the units whose old bytes are in the pages that it writes hold these
 abbrev pub HoldsRead : (ℕ → List ℕ) → Plan → Type 0
-HoldsRead at plan = Unit {0}
+HoldsRead at plan = AllByRecursion (λ r. at r.unit ≡ r.bytes) plan.read
 
 -- Over all such rows it makes what the transaction makes of the objects that they stand for, which don't refuse it: the shape whatever units
 -- hold, and the bytes where the fresh units hold theirs and those on which pages stood hold what they held.
@@ -67,15 +69,19 @@ pub record PlanMakes (s : Super) (change : Change) (view : Rows) (plan : Plan) :
       → ((unit : ℕ) → HasPage (width_of s) rows unit → later_at unit ≡ at unit)
       → ObjectsStand (width_of s) later_at (rows_after rows plan.ops) after
 
--- The units that it takes are free, and no more than the transaction asks for. A transaction has at most 1048576 bytes, and each of its units
--- some of them.
+-- The units that it takes are free, and no more than the transaction asks for at most.
 pub record PlanTakes (space : Space) (change : Change) (plan : Plan) : Type 0 where
   pub free : AllByRecursion (λ u. Contains (free_units space) u) (fresh_units plan)
-  pub within : length plan.fresh ≤ units_taken change.ops
-  pub few : units_taken change.ops ≤ 1048576
+  pub within : length plan.fresh ≤ most_units change.ops
+  pub few : most_units change.ops ≤ 1048576
 
 -- So is each plan that the planner may make, over good rows and units that are free over them.
 abbrev pub PlansKeep : Type 0
 PlansKeep = (s : Super) (view : Rows) (space : Space) (change : Change) (plan : Plan) → IsGood s view → AreFreeOver s view space
     → IsKnown change.ops → Plans (width_of s) change.coll change.ops view space plan
     → PlanKeeps s (names_of change) view plan × (PlanMakes s change view plan × PlanTakes space change plan)
+
+-- And what a transaction asks for is no more than its operations ask for at most, whatever the rows are.
+abbrev pub AsksAreFew : Type 0
+AsksAreFew = (w : Width) (change : Change) (rows : Rows) (need : ℕ) (places : List Place) → AsksFor w change rows need places
+    → need ≤ most_units change.ops

@@ -1,23 +1,24 @@
 -- Objects as rows say them, what an operation makes of one, and the rows then.
-use Rattle.std.specs.Prelude.{◌≡◌, ◌⊎◌, ◌↔◌, ℕ, ◌+◌, ◌/◌, ◌<◌, ◌^◌, ◌==◌, ◌&&◌, max, not, Bool, true, false, List, [], ◌∷◌, ◌++◌, length, Option, Some, None, Contains}
+use Rattle.std.specs.Prelude.{◌≡◌, ◌⊎◌, ◌↔◌, ℕ, ◌<◌, ◌^◌, ◌==◌, ◌&&◌, not, Bool, true, false, List, [], ◌++◌, Option, Some, None, Contains}
+use Rattle.std.specs.Option.{option_map}
 use Rattle.std.specs.List.{flat_map}
 use Rattle.std.specs.Int.{w64, to_le_bytes}
 use Rattle.std.specs.Ordering.{nat_cmp}
 use Rattle.std.specs.FinMap as finite
 use Rattle.std.specs.FinMap.Entries.{where_key}
-use Rattle.byte_maps.specs.Units.{unit_at}
 use Rattle.unit_fields.specs.declared.width.Width.{Width}
-use Rattle.crc32c_csum.specs.Prelude.{crc32c}
 use Rattle.meta_rows.specs.Prelude.{Rows}
 use Rattle.meta_rows.specs.declared.row_op.RowOp.{RowOp}
 use Rattle.object_model.specs.declared.op.Op.{Op}
-use Rattle.object_model.specs.declared.op.Op.TheVariants.{Write}
+use Rattle.object_model.specs.declared.op.Op.TheVariants.{Truncate, Remove}
 use Rattle.row_format.specs.Prelude.{coll_key, onode_key, shard_key, Extent, Place, own, extent_bytes, BeginsAt}
-use Rattle.store_image.specs.Prelude.{HasKey, HasOnode, IsPageAt}
+use Rattle.store_image.specs.Prelude.{HasOnode, IsPageAt}
 use Rattle.bitmap_freelist.specs.Bitmap.{Units, Has, AreFlips}
-use Rattle.blob_map.specs.Prelude.{PageMap, with_pages, extents_of}
+use Rattle.blob_map.specs.Prelude.{PageMap, extents_of}
 use Rattle.plan_rows.specs.declared.plan.Plan.{Plan}
+use Rattle.plan_rows.specs.declared.plan.ReadUnit.{ReadUnit}
 use Rattle.plan_rows.specs.Difference.{IsDifference}
+use Rattle.plan_rows.specs.Edits.{Edit, edit_of, edited, own_units}
 
 -- ---- layouts
 
@@ -35,28 +36,31 @@ pub record Layout : Type 0 where
   pub size : ℕ
   pub pages : PageMap
 
--- the rows give the object this layout; one that is missing has no bytes and no pages
-pub record HasLayout (w : Width) (rows : Rows) (c o : List ℕ) (x : Layout) : Type 0 where
-  pub was_long : IsSizeOf rows c o x.size
-  pub are_pages : IsMapOf w rows c o x.pages
+-- the rows give the object this layout, or it is missing
+abbrev pub HasLayout : Width → Rows → List ℕ → List ℕ → Option Layout → Type 0
+HasLayout w rows c o None = finite.get rows (onode_key c o) ≡ None
+HasLayout w rows c o (Some x) = HasOnode rows c o x.size × IsMapOf w rows c o x.pages
 
--- pages from one on, each on its unit: the bytes are those of all pages, one behind the other
-abbrev pub new_pages : ℕ → ℕ → List ℕ → List ℕ → List (ℕ × Place)
-new_pages first i [] bytes = []
-new_pages first i (u ∷ us) bytes = (first + i, own u (crc32c (unit_at i bytes))) ∷ new_pages first (i + 1) us bytes
+-- an object that is missing has no bytes and no pages
+abbrev pub or_empty : Option Layout → Layout
+or_empty None = record { size = 0; pages = finite.empty }
+or_empty (Some x) = x
 
--- the unit of the object's own on which a page stands (one on a slot of a shared blob is to have none)
-abbrev pub own_units : Place → List ℕ
-own_units (own unit csum) = unit ∷ []
+-- the layout after an edit, where these old bytes were read, on these units
+abbrev pub with_edit : Edit → List ReadUnit → List ℕ → Layout → Layout
+with_edit e read units x = record { size = e.size; pages = edited e read units x.pages }
 
--- What an operation makes of a layout, on these units. The operations that the store knows so far are a write of whole pages, each of which
--- comes on its unit, and a touch, which leaves the layout as it is.
-abbrev pub made_of : Op → List ℕ → Layout → Layout
-made_of (Write o off bytes) units x = record {
-  size = max x.size (off + length bytes);
-  pages = with_pages x.pages (new_pages (off / 4096) 0 units bytes);
-}
-made_of op units x = x
+-- What an operation makes of an object: it goes, stays missing, or gets another layout.
+abbrev pub made_of : Op → List ReadUnit → List ℕ → Option Layout → Option Layout
+made_of (Remove o) read units x = None
+made_of (Truncate o to) read units None = None
+made_of op read units x = Some (with_edit (edit_of op (or_empty x).size) read units (or_empty x))
+
+-- the edit of an object's pages that an operation is: none where the object goes or stays missing
+abbrev pub edit_on : Op → Option Layout → Option Edit
+edit_on (Remove o) x = None
+edit_on (Truncate o to) None = None
+edit_on op x = Some (edit_of op (or_empty x).size)
 
 -- whether a page stands at one place in two maps
 abbrev pub is_same_place : Option Place → Option Place → Bool
@@ -78,20 +82,25 @@ units_left old new = flat_map (λ p. own_units p.1) (where_key nat_cmp (is_moved
 abbrev pub IsKeyOf : List ℕ → List ℕ → List ℕ → Type 0
 IsKeyOf c o key = (key ≡ onode_key c o) ⊎ ((page : ℕ) × (page < 2 ^ 32) × (key ≡ shard_key c o page))
 
--- What an object's rows are when they are replaced: its onode says this size, and its one shard, which is where the extents begin, has them
--- all. Each other row is as it was.
-pub record AreReplaced (w : Width) (rows after : Rows) (c o : List ℕ) (size : ℕ) (extents : List Extent) : Type 0 where
-  pub onode : finite.get after (onode_key c o) ≡ Some (to_le_bytes w64 size)
+-- how long the object is, if it is there, and the extents of its pages
+abbrev pub size_at : Option Layout → Option ℕ
+size_at x = option_map (λ x. x.size) x
+
+abbrev pub extents_at : Option Layout → List Extent
+extents_at x = extents_of (finite.entries (or_empty x).pages)
+
+-- What an object's rows are when they are replaced: its onode says this size, or there is none, and its one shard, which is where the extents begin,
+-- has them all. Each other row is as it was.
+pub record AreReplaced (w : Width) (rows after : Rows) (c o : List ℕ) (size : Option ℕ) (extents : List Extent) : Type 0 where
+  pub onode : finite.get after (onode_key c o) ≡ option_map (to_le_bytes w64) size
   pub shard : (page : ℕ) → BeginsAt page extents → finite.get after (shard_key c o page) ≡ Some (flat_map (extent_bytes w) extents)
   pub no_other : (page : ℕ) → page < 2 ^ 32 → (BeginsAt page extents → ⊥) → finite.get after (shard_key c o page) ≡ None
   pub others : (key : List ℕ) → IsKeyOf c o key ⊎ (finite.get after key ≡ finite.get rows key)
 
--- The rows after an object of this layout gets that one: they stay where the object is there and its layout does, and else its rows are
--- replaced.
-pub data GetsLayout (w : Width) (rows : Rows) (c o : List ℕ) (x y : Layout) : Rows → Type 0 where
-  stays : HasKey rows (onode_key c o) → x ≡ y → GetsLayout w rows c o x y rows
-  replaces : (after : Rows) → (finite.get rows (onode_key c o) ≡ None) ⊎ (¬ (x ≡ y))
-      → AreReplaced w rows after c o y.size (extents_of (finite.entries y.pages)) → GetsLayout w rows c o x y after
+-- The rows after an object of this layout gets that one, or goes: they stay where it stays as it is, and else they are replaced.
+pub data GetsLayout (w : Width) (rows : Rows) (c o : List ℕ) (x y : Option Layout) : Rows → Type 0 where
+  stays : x ≡ y → GetsLayout w rows c o x y rows
+  replaces : (after : Rows) → ¬ (x ≡ y) → AreReplaced w rows after c o (size_at y) (extents_at y) → GetsLayout w rows c o x y after
 
 -- The operations turn the bits of the units that are taken and of those that are released, each bit once.
 pub record TurnsBits (taken released : List ℕ) (flips : List RowOp) : Type 0 where
@@ -104,10 +113,11 @@ pub record MakesColl (rows : Rows) (c : List ℕ) (plan : Plan) : Type 0 where
   pub is_difference : IsDifference rows (finite.insert rows (coll_key c) []) plan.ops
   pub none_fresh : plan.fresh ≡ []
   pub none_released : plan.released ≡ []
+  pub none_read : plan.read ≡ []
 
 -- The plan turns the one layout into the other, on these units: its operations are the difference of the rows, and behind it those that turn
 -- the bits of the units that are taken and of those that are left, whose keys are behind all others.
-pub record MakesLayout (w : Width) (rows : Rows) (c o : List ℕ) (x y : Layout) (units : List ℕ) (plan : Plan) : Type 0 where
+pub record MakesLayout (w : Width) (rows : Rows) (c o : List ℕ) (x y : Option Layout) (units : List ℕ) (plan : Plan) : Type 0 where
   pub after : Rows
   pub gets : GetsLayout w rows c o x y after
   pub difference : List RowOp
@@ -115,4 +125,4 @@ pub record MakesLayout (w : Width) (rows : Rows) (c o : List ℕ) (x y : Layout)
   pub flips : List RowOp
   pub turns : TurnsBits units plan.released flips
   pub ops_are : plan.ops ≡ difference ++ flips
-  pub released_are : plan.released ≡ units_left x.pages y.pages
+  pub released_are : plan.released ≡ units_left (or_empty x).pages (or_empty y).pages

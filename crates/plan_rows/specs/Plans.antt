@@ -1,51 +1,66 @@
 -- What an accepted transaction makes of rows: the row operations, the units that it takes and those that it releases.
-use Rattle.std.specs.Prelude.{◌≡◌, ℕ, ◌+◌, ◌<◌, ◌≤◌, ◌^◌, ◌/◌, ◌%◌, List, [], ◌∷◌, length, map, take, None, Any, Contains, slice_index}
+use Rattle.std.specs.Prelude.{◌≡◌, ℕ, ◌+◌, ◌<◌, ◌≤◌, ◌^◌, ◌==◌, List, [], ◌∷◌, length, map, take, Option, None, Any, Contains, MatchOption, slice_index, if◌then◌else◌}
 use Rattle.std.specs.List.{AllByRecursion}
+use Rattle.std.specs.Option.{option_map_or}
 use Rattle.std.specs.FinMap as finite
-use Rattle.byte_maps.specs.Units.{unit_at}
 use Rattle.crc32c_csum.specs.Prelude.{crc32c}
 use Rattle.object_model.specs.declared.op.Op.{Op}
-use Rattle.object_model.specs.declared.op.Op.TheVariants.{MkColl, Touch, Write}
+use Rattle.object_model.specs.declared.op.Op.TheVariants.{MkColl, Touch, Write, Zero, Truncate, Remove}
 use Rattle.object_model.specs.Prelude.{object_limit, payload_limit}
 use Rattle.meta_rows.specs.Prelude.{Rows}
 use Rattle.meta_log.specs.declared.slot.Super.{Super}
 use Rattle.meta_log.specs.Prelude.{IsSuper, width_of}
 use Rattle.unit_fields.specs.Prelude.{IsName, IsCollName}
 use Rattle.unit_fields.specs.declared.width.Width.{Width}
-use Rattle.row_format.specs.Prelude.{coll_key}
+use Rattle.row_format.specs.Prelude.{coll_key, Place}
 use Rattle.store_image.specs.Prelude.{HasKey, NoBadRow, IsDataUnit, IsOwned, IsMarked}
 use Rattle.unit_allocator.specs.Prelude.{Space, free_units}
-use Rattle.plan_rows.specs.declared.plan.FreshUnit.{FreshUnit}
 use Rattle.plan_rows.specs.declared.plan.Plan.{Plan}
-use Rattle.plan_rows.specs.Layouts.{Layout, HasLayout, made_of, MakesColl, MakesLayout}
+use Rattle.plan_rows.specs.declared.plan.ReadUnit.{ReadUnit}
+use Rattle.plan_rows.specs.Edits.{pages_touched, pages_put, places_read, puts_of, filled, IsReadFor}
+use Rattle.plan_rows.specs.Layouts.{Layout, HasLayout, or_empty, made_of, edit_on, MakesColl, MakesLayout}
 
--- The transactions that the store knows so far: one makes a collection, one makes an object, one writes whole pages from a page's start on.
+-- The transactions that the store knows so far are of one operation: it makes a collection, or is on an object and on its bytes.
 abbrev pub IsKnown : List Op → Type 0
 IsKnown (MkColl ∷ []) = Unit {0}
 IsKnown (Touch o ∷ []) = Unit {0}
-IsKnown (Write o off bytes ∷ []) = (off % 4096 ≡ 0) × (length bytes % 4096 ≡ 0) × (0 < length bytes)
+IsKnown (Write o off bytes ∷ []) = Unit {0}
+IsKnown (Zero o off len ∷ []) = Unit {0}
+IsKnown (Truncate o to ∷ []) = Unit {0}
+IsKnown (Remove o ∷ []) = Unit {0}
 IsKnown ops = ⊥
 
 -- the object that it is on
 abbrev pub object_of : Op → List ℕ
 object_of (Touch o) = o
 object_of (Write o off bytes) = o
+object_of (Zero o off len) = o
+object_of (Truncate o to) = o
+object_of (Remove o) = o
 object_of op = []
 
--- the bytes that it puts on units
-abbrev pub data_of : Op → List ℕ
-data_of (Write o off bytes) = bytes
-data_of op = []
+-- At most so many units are taken by a transaction: a write takes one for each page that it touches, zeros for the first and the last page, and a
+-- truncate for the page of its size.
+abbrev pub most_units : List Op → ℕ
+most_units (Write o off bytes ∷ []) = length (pages_touched off (off + length bytes))
+most_units (Zero o off len ∷ []) = if len == 0 then 0 else 2
+most_units (Truncate o to ∷ []) = 1
+most_units ops = 0
 
--- the units, each with its page of the bytes, from one on
-abbrev pub pages_on : List ℕ → ℕ → List ℕ → List FreshUnit
-pages_on [] i bytes = []
-pages_on (u ∷ us) i bytes = record { unit = u; bytes = unit_at i bytes } ∷ pages_on us (i + 1) bytes
+-- the pages that get new bytes in an operation on this object, with these bytes: none where it goes or stays missing
+abbrev pub puts_on : Op → List ReadUnit → Option Layout → List (ℕ × List ℕ)
+puts_on op read x = option_map_or (λ e. puts_of e read (or_empty x).pages) (edit_on op x) []
 
--- how many units a transaction takes
-abbrev pub units_taken : List Op → ℕ
-units_taken (Write o off bytes ∷ []) = length bytes / 4096
-units_taken ops = 0
+-- how many these are, and the places whose old bytes are needed for them
+abbrev pub units_on : Op → Option Layout → ℕ
+units_on op x = option_map_or (λ e. length (pages_put e (or_empty x).pages)) (edit_on op x) 0
+
+abbrev pub places_on : Op → Option Layout → List Place
+places_on op x = option_map_or (λ e. places_read e (or_empty x).pages) (edit_on op x) []
+
+-- just the units whose old bytes it needs were read
+abbrev pub IsReadOf : Op → Option Layout → List ReadUnit → Type 0
+IsReadOf op x read = MatchOption (edit_on op x) (read ≡ []) (λ e. IsReadFor e (or_empty x).pages read)
 
 -- The superblock is within its limits, no row is bad, and each free unit is a data unit that nobody owns and whose bit is 0.
 pub record AreFreeOver (s : Super) (rows : Rows) (space : Space) : Type 0 where
@@ -64,19 +79,24 @@ pub record IsInColl (c o : List ℕ) (rows : Rows) : Type 0 where
 abbrev pub IsTaken : Rows → List ℕ → Op → Type 0
 IsTaken rows c (Touch o) = IsInColl c o rows
 IsTaken rows c (Write o off bytes) = IsInColl c o rows × (length bytes ≤ payload_limit) × (off + length bytes ≤ object_limit)
+IsTaken rows c (Zero o off len) = IsInColl c o rows × (off + len ≤ object_limit)
+IsTaken rows c (Truncate o to) = IsInColl c o rows × (to ≤ object_limit)
+IsTaken rows c (Remove o) = IsInColl c o rows
 IsTaken rows c op = ⊥
 
--- The layout of the operation's object becomes what the operation makes of it. Each page takes the lowest free unit that is left.
+-- The object becomes what the operation makes of it. Each page that gets new bytes takes the lowest free unit that is left; the old bytes of those
+-- that get only some were read.
 pub record PlansObject (w : Width) (c : List ℕ) (op : Op) (rows : Rows) (space : Space) (plan : Plan) : Type 0 where
   pub taken : IsTaken rows c op
-  pub units : List ℕ
-  pub enough : units_taken (op ∷ []) ≤ length (free_units space)
-  pub lowest : units ≡ take (units_taken (op ∷ [])) (free_units space)
-  pub layout : Layout
+  pub layout : Option Layout
   pub has : HasLayout w rows c (object_of op) layout
-  pub makes : MakesLayout w rows c (object_of op) layout (made_of op units layout) units plan
-  pub fresh : plan.fresh ≡ pages_on units 0 (data_of op)
-  pub csums_fit : (i : ℕ) → i < length units → crc32c (unit_at i (data_of op)) < 2 ^ 32
+  pub reads : IsReadOf op layout plan.read
+  pub units : List ℕ
+  pub enough : units_on op layout ≤ length (free_units space)
+  pub lowest : units ≡ take (units_on op layout) (free_units space)
+  pub makes : MakesLayout w rows c (object_of op) layout (made_of op plan.read units layout) units plan
+  pub fresh : plan.fresh ≡ filled units (puts_on op plan.read layout)
+  pub csums_fit : AllByRecursion (λ f. crc32c f.bytes < 2 ^ 32) plan.fresh
 
 -- The rows don't have the collection, and get it.
 pub record PlansColl (c : List ℕ) (rows : Rows) (plan : Plan) : Type 0 where

@@ -5,4 +5,4 @@ mod laws;
 mod plan;
 
 pub use laws::{agreement, collections_are_apart};
-pub use plan::{FreshUnit, Plan};
+pub use plan::{FreshUnit, Plan, ReadUnit};

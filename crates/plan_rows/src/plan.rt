@@ -13,6 +13,14 @@ pub struct FreshUnit {
     pub bytes: Bytes,
 }
 
+/// A unit whose old bytes are in a page that a transaction changes in part.
+#[derive(Drop)]
+pub struct ReadUnit {
+    pub unit: UnitNo,
+    /// Its 4096 bytes, shared with the memory that they were found in or the buffer that they were read into.
+    pub bytes: Bytes,
+}
+
 /// What accepting a transaction takes: the rows that it changes, the units that it writes, and those that it frees.
 #[derive(Drop)]
 pub struct Plan {
@@ -22,4 +30,6 @@ pub struct Plan {
     pub fresh: Items<FreshUnit>,
     /// The units that come back to the free ones at its commit.
     pub released: Items<UnitNo>,
+    /// The units whose old bytes were read for it, in the order of their pages.
+    pub read: Items<ReadUnit>,
 }

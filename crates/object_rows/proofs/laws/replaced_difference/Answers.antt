@@ -5,7 +5,7 @@ use Rattle.object_rows.proofs.laws.replaced_difference.Goals as goal
 pub returns : goal.returns
 returns c = record {
   collection = coll_difference;
-  object = λ s rows coll o size extents present can climb there new. object_difference s rows coll o size extents present can climb there new;
+  object = λ s rows coll o size extents present can climb there. object_difference s rows coll o size extents present can climb there;
   replaced = are_then;
   one = one_replaced;
 }

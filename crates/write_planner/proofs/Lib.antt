@@ -1,0 +1,17 @@
+pub mod Lists
+pub mod PageRanges
+pub mod EditedMaps
+pub mod EditSizes
+pub mod PageBytes
+pub mod OldPages
+pub mod EditedBytes
+pub mod OperationBytes
+pub mod Counts
+pub mod Entries
+pub mod LeftUnits
+pub mod Prelude
+pub mod ReachedPages
+pub mod Patches
+pub mod PutsOnUnits
+pub mod Cleared
+pub mod Results

@@ -1,5 +1,5 @@
 -- An object as its rows have it, and its shards as they are read.
-use Rattle.std.specs.Prelude.{◌≡◌, ◌↔◌, ℕ, List, [], ◌∷◌, ◌++◌, Some}
+use Rattle.std.specs.Prelude.{◌≡◌, ℕ, List, [], ◌∷◌, ◌++◌, Option, Some, None}
 use Rattle.std.specs.List.{flat_map, AllByRecursion}
 use Rattle.std.specs.FinMap as finite
 use Rattle.meta_rows.specs.Prelude.{Rows}
@@ -7,13 +7,12 @@ use Rattle.meta_log.specs.declared.slot.Super.{Super}
 use Rattle.meta_log.specs.Prelude.{IsSuper, width_of}
 use Rattle.unit_fields.specs.Prelude.{Ascends}
 use Rattle.unit_fields.specs.declared.width.Width.{Width}
-use Rattle.row_format.specs.Prelude.{shard_key, Extent, Place, BeginsAt}
+use Rattle.row_format.specs.Prelude.{onode_key, shard_key, Extent, BeginsAt}
 use Rattle.onode_codec.specs.Reading.{SpellExtents}
-use Rattle.store_image.specs.Prelude.{HasKey, IsPageAt, NoBadRow}
+use Rattle.store_image.specs.Prelude.{HasKey, HasOnode, NoBadRow}
 use Rattle.blob_map.specs.Prelude.{PageMap, HasNumbers, extent_pages, with_pages}
-use Rattle.page_lookup.specs.Prelude.{place_found}
 use Rattle.object_rows.specs.Prelude.{AreShards, AreShardsOf, extents_in, first_pages}
-use Rattle.plan_rows.specs.Prelude.{IsMapOf, IsSizeOf}
+use Rattle.plan_rows.specs.Prelude.{Layout, HasLayout, or_empty, size_at}
 
 -- no row is bad, for the sizes of some superblock
 pub record AreRowsOfAStore (rows : Rows) : Type 0 where
@@ -50,14 +49,17 @@ pub record HasShards (w : Width) (rows : Rows) (c o : List ℕ) (firsts : List �
   pub firsts_are : firsts ≡ first_pages shards
   pub pages_are : pages ≡ with_pages finite.empty (flat_map extent_pages (extents_in shards))
 
--- the object has so many bytes, its pages stand where the map says, and its shards begin at these pages
-pub record IsStateOf (w : Width) (rows : Rows) (c o : List ℕ) (size : ℕ) (pages : PageMap) (firsts : List ℕ) : Type 0 where
-  pub was_long : IsSizeOf rows c o size
-  pub are_pages : IsMapOf w rows c o pages
+-- the object's onode says so many bytes, or it is missing
+abbrev pub IsSizeAt : Rows → List ℕ → List ℕ → Option ℕ → Type 0
+IsSizeAt rows c o None = finite.get rows (onode_key c o) ≡ None
+IsSizeAt rows c o (Some size) = HasOnode rows c o size
+
+-- The object has so many bytes, or is missing, its pages stand where the map says, and its shards begin at these pages. A missing one has none.
+pub record IsStateOf (w : Width) (rows : Rows) (c o : List ℕ) (size : Option ℕ) (pages : PageMap) (firsts : List ℕ) : Type 0 where
+  pub layout : Option Layout
+  pub has : HasLayout w rows c o layout
+  pub size_is : size ≡ size_at layout
+  pub pages_are : pages ≡ (or_empty layout).pages
   pub are_shards : AreShards rows c o firsts
   pub there : AllByRecursion (λ page. HasKey rows (shard_key c o page)) firsts
   pub in_order : Ascends firsts
-
--- the object's pages are found among these extents, each in its place, and no others
-abbrev pub FindPagesOf : Width → Rows → List ℕ → List ℕ → List Extent → Type 0
-FindPagesOf w rows c o es = (page : ℕ) (place : Place) → (place_found es page ≡ Some place) ↔ IsPageAt w rows c o page place

@@ -4,9 +4,9 @@ ghost use Rattle.meta_rows.specs.Prelude.{rows_from_to};
 ghost use Rattle.row_format.specs.Prelude.{Extent, BeginsAt, object_key, shard_key};
 ghost use Rattle.onode_codec.specs.Reading.{SpellsOnode, SpellExtents};
 ghost use Rattle.plan_rows.specs.Prelude.{IsSizeOf};
-ghost use Rattle.page_lookup.specs.Prelude.{HasUnit};
+ghost use Rattle.page_lookup.specs.Prelude.{HasUnit, FindPagesOf};
 ghost use Rattle.onode_state.specs.Objects.{AreRowsOfAStore, AreRowsOfWidth};
-ghost use Rattle.onode_state.specs.Objects.{IsShardValue, AddsShard, HasShards, IsStateOf, FindPagesOf};
+ghost use Rattle.onode_state.specs.Objects.{IsShardValue, AddsShard, HasShards, IsSizeAt, IsStateOf};
 
 use crate::names::{coll_name_is_one, name_is_one};
 use blob_map::PageMap;
@@ -17,11 +17,11 @@ use page_lookup::ShardPages;
 use std::alloc::{AllocError, Global};
 use unit_fields::{CollName, Fields, Name, Width};
 
-/// An object as its rows have it. A missing one has no bytes, pages or shards.
+/// An object as its rows have it. A missing one has no pages and no shards.
 #[derive(Drop)]
 pub struct ObjectState {
-    /// Its bytes.
-    pub size: u64,
+    /// Its bytes. None: it is missing.
+    pub size: Option<u64>,
     /// Where its pages stand.
     pub pages: PageMap,
     /// The first page of each of its shards, ascending.
@@ -46,6 +46,25 @@ fn size_in(value: &[u8]) -> u64
     }
 }
 
+// The bytes of an object, by its onode alone, where it is there.
+fn size_if_there(
+    alloc: Global,
+    rows: &RowTable,
+    coll: &CollName,
+    object: &Name,
+) -> Result<Option<u64>, AllocError>
+    requires { AreRowsOfAStore rows.now.rows }
+    ensures { IfOk result (IsSizeAt rows.now.rows coll.now object.now) }
+{
+    coll_name_is_one(coll);
+    name_is_one(object);
+    let key = onode_key(alloc, coll, object)?;
+    match rows.get(key.as_slice()) {
+        Some(value) => Ok(Some(size_in(value.as_slice()))),
+        None => Ok(None),
+    }
+}
+
 /// The bytes of an object, by its onode alone. A missing one has none.
 pub fn object_size(
     alloc: Global,
@@ -56,13 +75,7 @@ pub fn object_size(
     requires { AreRowsOfAStore rows.now.rows }
     ensures { IfOk result (IsSizeOf rows.now.rows coll.now object.now) }
 {
-    coll_name_is_one(coll);
-    name_is_one(object);
-    let key = onode_key(alloc, coll, object)?;
-    match rows.get(key.as_slice()) {
-        Some(value) => Ok(size_in(value.as_slice())),
-        None => Ok(0),
-    }
+    Ok(size_if_there(alloc, rows, coll, object)?.unwrap_or(0))
 }
 
 // The rows of an object's shards, in the order of their pages.
@@ -140,7 +153,8 @@ fn shards_of(
     Ok(shards)
 }
 
-/// The object as the rows have it. One range of rows has its shards, and each is read once, straight into the map.
+/// The object as the rows have it. One range of rows has its shards, and each is read once, straight into the map. Those of a missing object
+/// aren't looked for.
 pub fn object_state(
     alloc: Global,
     width: Width,
@@ -153,7 +167,14 @@ pub fn object_state(
 {
     coll_name_is_one(coll);
     name_is_one(object);
-    let size = object_size(alloc, rows, coll, object)?;
+    let size = size_if_there(alloc, rows, coll, object)?;
+    if size.is_none() {
+        return Ok(ObjectState {
+            size,
+            pages: PageMap::new(alloc),
+            shards: Vec::new(alloc),
+        });
+    }
     let Shards { firsts, pages } = shards_of(alloc, width, rows, coll, object)?;
     Ok(ObjectState {
         size,

@@ -1,6 +1,9 @@
 -- The place of a page, looked for among extents in their order.
-use Rattle.std.specs.Prelude.{◌≡◌, ℕ, ◌-◌, ◌<◌, ◌≤◌, ◌^◌, nat_lt, List, [], ◌∷◌, ◌++◌, Option, Some, None, if◌then◌else◌}
+use Rattle.std.specs.Prelude.{◌≡◌, ◌↔◌, ℕ, ◌-◌, ◌<◌, ◌≤◌, ◌^◌, nat_lt, List, [], ◌∷◌, ◌++◌, Option, Some, None, if◌then◌else◌}
+use Rattle.unit_fields.specs.declared.width.Width.{Width}
+use Rattle.meta_rows.specs.Prelude.{Rows}
 use Rattle.row_format.specs.Prelude.{Extent, Place, own, place_in, page_end}
+use Rattle.store_image.specs.Prelude.{IsPageAt}
 
 -- the place of a page, looked for no further than to the first extent that begins behind it; of extents that ascend it is the place
 abbrev pub place_found : List Extent → ℕ → Option Place
@@ -25,3 +28,7 @@ FindAlikeBefore page later earlier = (behind : List Extent) → FindAlike page (
 -- the page's unit has a number of 32 bits, if it is found
 abbrev pub HasUnit : List Extent → ℕ → Type 0
 HasUnit es page = (unit csum : ℕ) → place_found es page ≡ Some (own unit csum) → unit < 2 ^ 32
+
+-- the object's pages are found among these extents, each in its place, and no others
+abbrev pub FindPagesOf : Width → Rows → List ℕ → List ℕ → List Extent → Type 0
+FindPagesOf w rows c o es = (page : ℕ) (place : Place) → (place_found es page ≡ Some place) ↔ IsPageAt w rows c o page place

@@ -1,7 +1,7 @@
 -- The operations on an object's shards, one part behind the other.
-use Rattle.std.proofs.Common.{◌≡◌, inl, inr, cond, ℕ, zero, ◌<◌, Bool, false, List, [], ◌∷◌, ◌++◌, Option, Some, None, Result, Ok, Err, OnOk, refl, sym, ap, ◌∙◌, append_assoc, arith}
+use Rattle.std.proofs.Common.{◌≡◌, inl, inr, cond, ℕ, Bool, true, false, eqb, List, [], ◌∷◌, ◌++◌, Option, Some, None, is_some, Result, Ok, Err, OnOk, refl, sym, ap, ◌∙◌, append_assoc}
 use Rattle.std.specs.Prelude.{filter, slice_get}
-use Rattle.std.specs.Option.{option_map_or}
+use Rattle.std.specs.Option.{option_map_or, option_eq}
 use Rattle.std.specs.Ordering.{is_eq}
 use Rattle.std.specs.Cmp.{tied_itself}
 use Rattle.std.specs.Cmp.Lexicographic.{nat_list_cmp_total}
@@ -10,14 +10,15 @@ use Rattle.object_model.specs.Prelude.{is_same}
 use Rattle.std.specs.Int.{w64, to_le_bytes}
 use Rattle.meta_rows.specs.Prelude.{Rows}
 use Rattle.meta_rows.specs.declared.row_op.RowOp.{RowOp}
-use Rattle.std.proofs.lemmas.Bool.{cases_Bool}
-use Rattle.row_format.specs.Prelude.{Extent, Place, shard}
-use Rattle.row_facts.specs.Operations.{set_row, set_onode}
+use Rattle.meta_rows.specs.declared.row_op.RowOp.TheVariants.{Drop}
+use Rattle.std.proofs.lemmas.Bool.{cases_Bool, eqb-true}
+use Rattle.row_format.specs.Prelude.{onode_key, Extent, Place}
+use Rattle.row_facts.specs.Operations.{set_onode}
 use Rattle.blob_map.specs.Prelude.{single, follows, more, extents_from, extents_of}
 use Rattle.object_rows.specs.Prelude.{drops, onode_ops, shard_ops}
-use Rattle.plan_rows.specs.Prelude.{IsSizeOf, missing, there}
+use Rattle.onode_state.specs.Objects.{IsSizeAt}
 use Rattle.txn_planner.specs.declared.object_change.Part.TheVariants as part
-use Rattle.txn_planner.specs.Parts.{is_of}
+use Rattle.txn_planner.specs.Parts.{is_of, shard_put}
 
 pub on_ok_with : {A E : Type 0} (P Q : Type 0) (r : Result A E) → (P → Q) → OnOk r P → OnOk r Q
 on_ok_with P Q (Ok a) f p = f p
@@ -50,31 +51,43 @@ some_first (q ∷ ps) p is =
     let found = grown_first ps (single q) in
     (found.0, found.1, found.2 ∙ ap (λ (x : ℕ × Place). x.0) same, found.3)
 
-module _ (w : Width) (c o : List ℕ) (extents : List Extent) (present : List ℕ) (ops : List RowOp) where
+module _ (w : Width) (rows : Rows) (c o : List ℕ) (extents : List Extent) (present : List ℕ) (ops : List RowOp) where
   -- without extents all shards go
   pub all_dropped : (new : List RowOp) → extents ≡ [] → new ≡ ops ++ drops c o (filter (is_of part.All) present)
-      → new ≡ ops ++ shard_ops w c o extents present
-  all_dropped new none is = is ∙ ap (λ ps. ops ++ drops c o ps) (all_of present) ∙ sym (ap (λ es. ops ++ shard_ops w c o es present) none)
+      → new ≡ ops ++ shard_ops w rows c o extents present
+  all_dropped new none is = is ∙ ap (λ ps. ops ++ drops c o ps) (all_of present) ∙ sym (ap (λ es. ops ++ shard_ops w rows c o es present) none)
 
   -- with some the lower ones go, the new one comes, and the higher ones go
-  pub parts_replaced : (e : Extent) (rest : List Extent) (first : ℕ) (op : RowOp) (low with_new new : List RowOp)
+  pub parts_replaced : (e : Extent) (rest : List Extent) (first : ℕ) (low with_new new : List RowOp)
       → extents ≡ e ∷ rest → first ≡ e.first → low ≡ ops ++ drops c o (filter (is_of (part.Below first)) present)
-      → op ≡ set_row w (shard c o first extents) → with_new ≡ low ++ op ∷ []
-      → new ≡ with_new ++ drops c o (filter (is_of (part.Above first)) present) → new ≡ ops ++ shard_ops w c o extents present
-  parts_replaced e rest first op low with_new new is first_is low_is op_is with_is new_is =
+      → with_new ≡ low ++ shard_put w rows c o first extents
+      → new ≡ with_new ++ drops c o (filter (is_of (part.Above first)) present) → new ≡ ops ++ shard_ops w rows c o extents present
+  parts_replaced e rest first low with_new new is first_is low_is with_is new_is =
       let below : ℕ → List RowOp = λ n. drops c o (filter (is_of (part.Below n)) present) in
       let above : ℕ → List RowOp = λ n. drops c o (filter (is_of (part.Above n)) present) in
-      new_is ∙ ap (λ l. l ++ above first) with_is ∙ append_assoc low (op ∷ []) (above first)
-      ∙ ap (λ l. l ++ op ∷ above first) low_is ∙ append_assoc ops (below first) (op ∷ above first)
-      ∙ ap (λ x. ops ++ (below first ++ x ∷ above first)) op_is
-      ∙ ap (λ n. ops ++ (below n ++ set_row w (shard c o n extents) ∷ above n)) first_is
-      ∙ ap (λ es. ops ++ (below e.first ++ set_row w (shard c o e.first es) ∷ above e.first)) is
-      ∙ sym (ap (λ es. ops ++ shard_ops w c o es present) is)
+      let put : ℕ → List Extent → List RowOp = shard_put w rows c o in
+      new_is ∙ ap (λ l. l ++ above first) with_is ∙ append_assoc low (put first extents) (above first)
+      ∙ ap (λ l. l ++ (put first extents ++ above first)) low_is ∙ append_assoc ops (below first) (put first extents ++ above first)
+      ∙ ap (λ n. ops ++ (below n ++ (put n extents ++ above n))) first_is
+      ∙ ap (λ es. ops ++ (below e.first ++ (put e.first es ++ above e.first))) is
+      ∙ sym (ap (λ es. ops ++ shard_ops w rows c o es present) is)
 
--- the onode of an object that has bytes says how many
-pub size_said : (rows : Rows) (c o : List ℕ) (size : ℕ) → IsSizeOf rows c o size → 0 < size → onode_ops rows c o size ≡ []
-size_said rows c o zero (missing none) some = absurd (omega (arith, some))
-size_said rows c o n (there size has) some =
+-- what isn't there
+pub none_of : {X : Type 0} (x : Option X) → is_some x ≡ false → x ≡ None
+none_of None e = refl
+none_of (Some x) e = absurd cc
+
+-- sizes that a test finds the same
+pub same_size : (x y : Option ℕ) → option_eq eqb x y ≡ true → x ≡ y
+same_size None None is = refl
+same_size None (Some n) is = absurd cc
+same_size (Some n) None is = absurd cc
+same_size (Some n) (Some m) is = ap Some (eqb-true n m is)
+
+-- the onode of an object says how long it is, and one that is missing has none
+pub size_said : (rows : Rows) (c o : List ℕ) (size : Option ℕ) → IsSizeAt rows c o size → onode_ops rows c o size ≡ []
+size_said rows c o None none = ap (λ (x : Option (List ℕ)). cond (is_some x) (Drop (onode_key c o) ∷ []) []) none
+size_said rows c o (Some size) has =
     let value : List ℕ = to_le_bytes w64 size in
     let said : Option (List ℕ) → Bool = λ held. option_map_or (λ there. is_same there value) held false in
     ap (λ (b : Bool). cond b [] (set_onode c o size ∷ [])) (ap said has.stands ∙ ap is_eq (tied_itself nat_list_cmp_total value))

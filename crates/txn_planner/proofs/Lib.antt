@@ -1,4 +1,8 @@
 pub mod Changes
-pub mod Given
 pub mod Turned
-pub mod Written
+pub mod Left
+pub mod Edited
+pub mod Operations
+pub mod Found
+pub mod Stays
+pub mod Drafts

@@ -1,5 +1,5 @@
-pub mod Given
 pub mod PlanFails
-pub mod Ops
+pub mod Operations
+pub mod Drafts
 pub mod Parts
 pub mod Turns

@@ -1,15 +1,16 @@
 -- What planning answers: a plan of a transaction that the rows take, or why there is none.
-use Rattle.std.specs.Prelude.{◌≡◌, ◌<◌}
+use Rattle.std.specs.Prelude.{◌≡◌, ◌<◌, List}
 use Rattle.unit_fields.specs.declared.width.Width.{Width}
 use Rattle.object_model.specs.Prelude.{Change}
 use Rattle.object_model.specs.declared.command.Command.TheVariants as ask
 use Rattle.meta_rows.specs.Prelude.{Rows}
 use Rattle.meta_log.specs.declared.slot.Super.{Super}
 use Rattle.meta_log.specs.Prelude.{width_of}
+use Rattle.row_format.specs.Prelude.{Place}
 use Rattle.read_facts.specs.Prelude.{IsRefusedBy, IsNotRefused}
 use Rattle.plan_rows.specs.declared.plan.Plan.{Plan}
 use Rattle.unit_allocator.specs.Prelude.{Space}
-use Rattle.plan_rows.specs.Prelude.{AreFreeOver, Plans, units_taken}
+use Rattle.plan_rows.specs.Prelude.{AreFreeOver, Plans, AsksFor}
 use Rattle.store_steps.specs.Prelude.{free_count}
 use Rattle.txn_planner.specs.declared.planning.PlanFail.{PlanFail}
 use Rattle.txn_planner.specs.declared.planning.PlanFail.TheVariants as fail
@@ -21,8 +22,8 @@ pub record IsPlanFor (w : Width) (change : Change) (rows : Rows) (space : Space)
   pub plans : (s : Super) → width_of s ≡ w → AreFreeOver s rows space → Plans w change.coll change.ops rows space plan
 
 -- why there is no plan; want of memory comes of nothing that a clause sees
-abbrev pub IsPlanFail : Change → Rows → Space → PlanFail → Type 0
-IsPlanFail change rows space (fail.Refusal refusal) = IsRefusedBy rows (ask.Change change) refusal
-IsPlanFail change rows space (fail.NoSpace need free) =
-    IsNotRefused rows (ask.Change change) × (need ≡ units_taken change.ops) × (free ≡ free_count space) × (free < need)
-IsPlanFail change rows space fail.Memory = Unit {0}
+abbrev pub IsPlanFail : Width → Change → Rows → Space → PlanFail → Type 0
+IsPlanFail w change rows space (fail.Refusal refusal) = IsRefusedBy rows (ask.Change change) refusal
+IsPlanFail w change rows space (fail.NoSpace need free) =
+    IsNotRefused rows (ask.Change change) × ((places : List Place) × AsksFor w change rows need places) × (free ≡ free_count space) × (free < need)
+IsPlanFail w change rows space fail.Memory = Unit {0}

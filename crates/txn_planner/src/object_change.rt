@@ -1,15 +1,12 @@
 //! The row operations that replace an object's onode and its shards.
-ghost use Rattle.std.specs.Prelude.{◌≡◌, ◌++◌, false, filter, IfOk, OnOk};
-ghost use Rattle.std.specs.Option.{option_map_or};
+ghost use Rattle.std.specs.Prelude.{◌≡◌, ◌++◌, filter, IfOk, OnOk};
 ghost use Rattle.std.specs.FinMap as finite;
 ghost use Rattle.meta_rows.specs.declared.row_op.RowOp.TheVariants.{Drop};
-ghost use Rattle.object_model.specs.Prelude.{is_same};
-ghost use Rattle.row_format.specs.Prelude.{shard_key, shard};
-ghost use Rattle.row_facts.specs.Operations.{set_row};
+ghost use Rattle.row_format.specs.Prelude.{shard_key};
 ghost use Rattle.blob_map.specs.Prelude.{extents_of};
-ghost use Rattle.object_rows.specs.Prelude.{drops, onode_ops, shard_ops};
-ghost use Rattle.plan_rows.specs.Prelude.{IsSizeOf};
-ghost use Rattle.txn_planner.specs.Parts.{is_of};
+ghost use Rattle.object_rows.specs.Prelude.{says, drops, onode_ops, shard_ops, object_ops};
+ghost use Rattle.onode_state.specs.Objects.{IsSizeAt};
+ghost use Rattle.txn_planner.specs.Parts.{is_of, shard_put};
 
 use blob_map::PageMap;
 use byte_maps::{Bytes, Items};
@@ -44,7 +41,7 @@ impl Part {
 
 // Whether the rows have this value under the key.
 fn says(rows: &RowTable, key: &Bytes, value: &Bytes) -> bool
-    ensures { result ≡ option_map_or (λ held. is_same held value.now) (finite.get rows.now.rows key.now) false }
+    ensures { result ≡ says rows.now.rows key.now value.now }
 {
     match rows.get(key.as_slice()) {
         Some(held) => held.as_slice().cmp(value.as_slice()) == Ordering::Equal,
@@ -52,38 +49,47 @@ fn says(rows: &RowTable, key: &Bytes, value: &Bytes) -> bool
     }
 }
 
-/// What gives an object this size: nothing where its onode says it.
-pub fn onode_ops(
+// What gives an object this size, or takes its onode away where there is none: nothing where it stands so.
+fn onode_ops(
     alloc: Global,
     rows: &RowTable,
     coll: &CollName,
     object: &Name,
-    size: u64,
+    size: Option<u64>,
 ) -> Result<Items<RowOp>, AllocError>
     ensures { IfOk result (λ ops. ops ≡ onode_ops rows.now.rows coll.now object.now size) }
 {
     let key = onode_key(alloc, coll, object)?;
-    let value = Onode { size }.encode(alloc)?;
     let mut ops = Items::new(alloc);
-    if !says(rows, &key, &value) {
-        ops.push(RowOp::Set { key, value })?;
+    match size {
+        Some(size) => {
+            let value = Onode { size }.encode(alloc)?;
+            if !says(rows, &key, &value) {
+                ops.push(RowOp::Set { key, value })?;
+            }
+        }
+        None => {
+            if rows.get(key.as_slice()).is_some() {
+                ops.push(RowOp::Drop { key })?;
+            }
+        }
     }
     Ok(ops)
 }
 
-/// The same of an object of `before` bytes: where it keeps these, its onode isn't spelled to be compared.
-pub fn size_ops(
+// The same of an object of which it is known how long it was, or that it was missing: where that stays, its onode isn't looked for.
+fn size_ops(
     alloc: Global,
     rows: &RowTable,
     coll: &CollName,
     object: &Name,
-    before: u64,
-    size: u64,
+    before: Option<u64>,
+    size: Option<u64>,
 ) -> Result<Items<RowOp>, AllocError>
-    requires { IsSizeOf rows.now.rows coll.now object.now before }
+    requires { IsSizeAt rows.now.rows coll.now object.now before }
     ensures { IfOk result (λ ops. ops ≡ onode_ops rows.now.rows coll.now object.now size) }
 {
-    if 0 < size && size == before {
+    if size == before {
         return Ok(Items::new(alloc));
     }
     onode_ops(alloc, rows, coll, object, size)
@@ -120,40 +126,70 @@ fn drop_shards(
     Ok(())
 }
 
-fn shard_set(
+// Sets the one shard with these pages, where the rows don't have it.
+fn set_shard(
     alloc: Global,
     width: Width,
+    rows: &RowTable,
+    ops: &mut Items<RowOp>,
     coll: &CollName,
     object: &Name,
     first: u32,
     pages: &PageMap,
-) -> Result<RowOp, AllocError>
-    ensures { IfOk result (λ op. op ≡ set_row width (shard coll.now object.now first (extents_of (finite.entries pages.now)))) }
+) -> Result<(), AllocError>
+    ensures { OnOk result (ops.new ≡ ops.old
+        ++ shard_put width rows.now.rows coll.now object.now first (extents_of (finite.entries pages.now))) }
 {
     let key = shard_key(alloc, coll, object, first)?;
     let value = pages.to_value(alloc, width)?;
-    Ok(RowOp::Set { key, value })
+    if !says(rows, &key, &value) {
+        ops.push(RowOp::Set { key, value })?;
+    }
+    Ok(())
 }
 
-/// The one shard with these pages, and checksums of this width, takes the place of the present ones, where it would stand among them.
-/// Without pages there is none.
-/// `present` are the first pages of the object's shards.
-pub fn replace_shards(
+// The one shard with these pages, and checksums of this width, takes the place of the present ones, where it would stand among them.
+// Without pages there is none.
+fn replace_shards(
     alloc: Global,
     width: Width,
+    rows: &RowTable,
     ops: &mut Items<RowOp>,
     coll: &CollName,
     object: &Name,
     pages: &PageMap,
     present: &[u32],
 ) -> Result<(), AllocError>
-    ensures { OnOk result (ops.new ≡ ops.old ++ shard_ops width coll.now object.now (extents_of (finite.entries pages.now)) present.now) }
+    ensures { OnOk result (ops.new ≡ ops.old
+        ++ shard_ops width rows.now.rows coll.now object.now (extents_of (finite.entries pages.now)) present.now) }
 {
     let Some(lowest) = pages.pages().first() else {
         return drop_shards(alloc, ops, coll, object, present, Part::All);
     };
     let first = lowest.0;
     drop_shards(alloc, ops, coll, object, present, Part::Below(first))?;
-    ops.push(shard_set(alloc, width, coll, object, first, pages)?)?;
+    set_shard(alloc, width, rows, ops, coll, object, first, pages)?;
     drop_shards(alloc, ops, coll, object, present, Part::Above(first))
+}
+
+/// What gives an object that was so long, or missing, this size and these pages, or takes it away where there is no size.
+/// `present` are the first pages of its shards.
+pub fn object_ops(
+    alloc: Global,
+    width: Width,
+    rows: &RowTable,
+    coll: &CollName,
+    object: &Name,
+    before: Option<u64>,
+    size: Option<u64>,
+    pages: &PageMap,
+    present: &[u32],
+) -> Result<Items<RowOp>, AllocError>
+    requires { IsSizeAt rows.now.rows coll.now object.now before }
+    ensures { IfOk result (λ ops.
+        ops ≡ object_ops width rows.now.rows coll.now object.now size (extents_of (finite.entries pages.now)) present.now) }
+{
+    let mut ops = size_ops(alloc, rows, coll, object, before, size)?;
+    replace_shards(alloc, width, rows, &mut ops, coll, object, pages, present)?;
+    Ok(ops)
 }

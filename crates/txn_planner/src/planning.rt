@@ -1,34 +1,34 @@
-//! What a transaction is turned into before it is accepted: its plan, or why there is none.
-ghost use Rattle.std.specs.Prelude.{◌≡◌, ◌+◌, ◌*◌, ◌≤◌, false, [], ◌∷◌, length, IfOk, IfErr};
-ghost use Rattle.std.specs.FinMap as finite;
-ghost use Rattle.object_model.specs.Prelude.{object_limit, is_too_large};
-ghost use Rattle.object_model.specs.declared.op.Op.TheVariants.{Write};
+//! What a transaction is turned into before it is accepted: its plan, by way of a draft, or why there is none.
+ghost use Rattle.std.specs.Prelude.{◌≡◌, [], ◌∷◌, false, IfOk, IfErr, OnOk};
+ghost use Rattle.object_model.specs.Prelude.{is_too_large};
 ghost use Rattle.object_model.specs.declared.command.Command.TheVariants as ask;
+ghost use Rattle.meta_rows.specs.Prelude.{Rows};
 ghost use Rattle.read_facts.specs.Prelude.{IsNotRefused};
-ghost use Rattle.row_format.specs.Prelude.{coll_key, onode_key};
-ghost use Rattle.row_facts.specs.Operations.{coll_ops, coll_change};
-ghost use Rattle.object_rows.specs.Prelude.{touch_ops, touch_change};
-ghost use Rattle.plan_rows.specs.Prelude.{IsKnown};
+ghost use Rattle.row_facts.specs.Operations.{coll_change};
+ghost use Rattle.object_rows.specs.Prelude.{op_change};
+ghost use Rattle.plan_rows.specs.Prelude.{IsKnown, IsTaken, AreReadAt};
+ghost use Rattle.unit_allocator.specs.Prelude.{Space};
+ghost use Rattle.unit_fields.specs.declared.width.Width.{Width};
 ghost use Rattle.onode_state.specs.Objects.{AreRowsOfWidth};
-ghost use Rattle.txn_planner.specs.Given.{GivesColl, GivesTouch, GivesPages};
+ghost use Rattle.txn_planner.specs.Drafts.{places_of, IsDraftFor};
+ghost use Rattle.object_rows.specs.Prelude.{IsOnObject};
+ghost use Rattle.txn_planner.specs.Operations.{fail_of, IsOfBytes, is_beyond};
 ghost use Rattle.txn_planner.specs.PlanFails.{IsPlanFor, IsPlanFail};
-ghost use Rattle.txn_planner.specs.Ops.{fail_of, op_change, WritesOn};
 ghost use Rattle.txn_planner.specs.declared.planning.PlanFail.TheVariants.{Memory};
+ghost use Rattle.txn_planner.specs.declared.planning.Work.TheVariants.{Planned};
 
-use crate::object_change::{onode_ops, replace_shards, size_ops};
-use crate::pages::{fresh_units, lay_pages, units_between};
-use crate::turns::turned_bits;
-use byte_maps::{Bytes, Items};
-use bytes::Bytes as SharedBytes;
-use meta_rows::{RowOp, RowTable};
+use crate::edits::{object_in, places_needed, stays_missing, units_needed};
+use crate::plans::{collection_made, edited, has_collection, removed, touched, unchanged};
+use blob_map::Place;
+use byte_maps::Items;
+use meta_rows::RowTable;
 use object_model::{Op, Refusal, Transaction, ends_too_far};
-use onode_codec::{coll_key, onode_key};
 use onode_state::{ObjectState, coll_name_is_one, name_is_one, object_state};
+use plan_rows::ReadUnit;
 use std::alloc::{AllocError, Global};
 use store_steps::Plan;
 use unit_allocator::{Allocator, TakeFail};
-use unit_fields::limits::UNIT_BYTES;
-use unit_fields::{CollName, Name, UnitNo, Width};
+use unit_fields::{CollName, UnitNo, Width};
 
 /// Why there is no plan.
 #[derive(Clone, Copy, Debug, PartialEq, Eq)]
@@ -60,232 +60,209 @@ impl From<TakeFail> for PlanFail {
     }
 }
 
-/// The plan of a transaction over the submitted rows, which have checksums of this width, and the free units. `submit` calls it before
+// What is left to do for a plan.
+#[derive(Drop)]
+enum Work {
+    // Nothing: this is it.
+    Planned(Plan),
+    // An object that stands so is edited, whose pages get these units where they get new bytes.
+    Edits(ObjectState, Vec<UnitNo>),
+}
+
+/// A transaction that can be planned once old bytes are there.
+#[derive(Drop)]
+pub struct Draft {
+    work: Work,
+    places: Items<Place>,
+}
+
+impl Draft {
+    // That of a plan which needs no old bytes.
+    fn planned(alloc: Global, plan: Plan) -> Draft
+        ensures work { result.work ≡ Planned plan }
+        ensures places { result.places ≡ [] }
+    {
+        Draft {
+            work: Work::Planned(plan),
+            places: Items::new(alloc),
+        }
+    }
+
+    /// Where the pages stand whose old bytes the plan needs: at most two, the first and the last page of what is edited.
+    pub fn places(&self) -> &[Place]
+        ensures { result.now ≡ places_of self.now }
+    {
+        self.places.as_slice()
+    }
+
+    /// The plan, where these old bytes were read, each unit whole, in the order of their places.
+    ///
+    /// Each page that gets new bytes takes the lowest free unit that is left, and the units are released on which changed pages stood. The bits
+    /// of all these in the freelist are turned by the last operations. The bytes of whole pages aren't copied.
+    pub fn finish(
+        self,
+        alloc: Global,
+        width: Width,
+        rows: &RowTable,
+        space: &Allocator,
+        txn: &Transaction,
+        read: Items<ReadUnit>,
+    ) -> Result<Plan, AllocError>
+        requires good { AreRowsOfWidth width rows.now.rows }
+        requires draft { IsDraftFor width txn.now rows.now.rows space.now self }
+        requires read { AreReadAt (places_of self) read }
+        ensures ok { IfOk result (IsPlanFor width txn.now rows.now.rows space.now) }
+        ensures read { IfOk result (λ plan. plan.read ≡ read) }
+    {
+        let Draft { work, .. } = self;
+        match work {
+            Work::Planned(plan) => Ok(plan),
+            Work::Edits(object, units) => match txn.ops() {
+                [op] => edited(
+                    alloc,
+                    width,
+                    rows,
+                    space,
+                    txn.coll(),
+                    op,
+                    object,
+                    &units,
+                    read,
+                ),
+                _ => unreachable!(),
+            },
+        }
+    }
+}
+
+/// The draft of a transaction over the submitted rows, which have checksums of this width, and the free units. `submit` calls it before
 /// it changes anything.
-///
-/// Each page takes the lowest free unit that is left, and releases the one that it stood on. The bits of both in the freelist are turned by
-/// the last operations. The bytes aren't copied.
-pub fn plan(
+pub fn begin(
     alloc: Global,
     width: Width,
     rows: &RowTable,
     space: &Allocator,
     txn: &Transaction,
-) -> Result<Plan, PlanFail>
+) -> Result<Draft, PlanFail>
     requires known { IsKnown txn.now.ops }
     requires good { AreRowsOfWidth width rows.now.rows }
-    ensures ok { IfOk result (IsPlanFor width txn.now rows.now.rows space.now) }
-    ensures fail { IfErr result (IsPlanFail txn.now rows.now.rows space.now) }
+    ensures ok { IfOk result (IsDraftFor width txn.now rows.now.rows space.now) }
+    ensures fail { IfErr result (IsPlanFail width txn.now rows.now.rows space.now) }
 {
     if txn.is_too_large() {
         return Err(PlanFail::Refusal(Refusal::TooBig));
     }
     match txn.ops() {
-        [op] => plan_op(alloc, width, rows, space, txn.coll(), op),
+        [Op::MkColl] => begin_collection(alloc, width, rows, space, txn.coll()),
+        [op] => begin_on_object(alloc, width, rows, space, txn.coll(), op),
         _ => unreachable!(),
     }
 }
 
-// The plan of a transaction of one operation, which isn't too large.
-fn plan_op(
+fn begin_collection(
+    alloc: Global,
+    width: Width,
+    rows: &RowTable,
+    space: &Allocator,
+    coll: &CollName,
+) -> Result<Draft, PlanFail>
+    ensures ok { IfOk result (IsDraftFor width (coll_change coll.now) rows.now.rows space.now) }
+    ensures fail { IfErr result (IsPlanFail width (coll_change coll.now) rows.now.rows space.now) }
+{
+    coll_name_is_one(coll);
+    if has_collection(alloc, rows, coll)? {
+        return Err(PlanFail::Refusal(Refusal::CollectionExists));
+    }
+    let plan = collection_made(alloc, coll)?;
+    Ok(Draft::planned(alloc, plan))
+}
+
+// Whether the bytes that an operation is about end past the limit of an object.
+fn ends_beyond(op: &Op) -> bool
+    ensures { result ≡ is_beyond op.now }
+{
+    match op {
+        Op::Write { off, bytes, .. } => ends_too_far(*off, bytes.len() as u64),
+        Op::Zero { off, len, .. } => ends_too_far(*off, *len),
+        Op::Truncate { size, .. } => ends_too_far(0, *size),
+        _ => false,
+    }
+}
+
+// Refuses an operation on an object whose collection is missing, or whose bytes would end past its limit.
+fn check_taken(alloc: Global, rows: &RowTable, coll: &CollName, op: &Op) -> Result<(), PlanFail>
+    requires small { is_too_large (op_change coll.now op.now) ≡ false }
+    requires on { IsOnObject op.now }
+    ensures taken { OnOk result (IsTaken rows.now.rows coll.now op.now) }
+    ensures not_refused { OnOk result (IsNotRefused rows.now.rows (ask.Change (op_change coll.now op.now))) }
+    ensures fail { IfErr result (λ why. (w : Width) (space : Space) → IsPlanFail w (op_change coll.now op.now) rows.now.rows space why) }
+{
+    coll_name_is_one(coll);
+    name_is_one(object_in(op));
+    if !has_collection(alloc, rows, coll)? {
+        return Err(PlanFail::Refusal(Refusal::NoCollection));
+    }
+    if ends_beyond(op) {
+        return Err(PlanFail::Refusal(Refusal::TooBig));
+    }
+    Ok(())
+}
+
+// The draft of a transaction of one operation on an object, which isn't too large.
+fn begin_on_object(
     alloc: Global,
     width: Width,
     rows: &RowTable,
     space: &Allocator,
     coll: &CollName,
     op: &Op,
-) -> Result<Plan, PlanFail>
-    requires known { IsKnown (op.now ∷ []) }
+) -> Result<Draft, PlanFail>
     requires small { is_too_large (op_change coll.now op.now) ≡ false }
+    requires on { IsOnObject op.now }
     requires good { AreRowsOfWidth width rows.now.rows }
-    ensures ok { IfOk result (IsPlanFor width (op_change coll.now op.now) rows.now.rows space.now) }
-    ensures fail { IfErr result (IsPlanFail (op_change coll.now op.now) rows.now.rows space.now) }
+    ensures ok { IfOk result (IsDraftFor width (op_change coll.now op.now) rows.now.rows space.now) }
+    ensures fail { IfErr result (IsPlanFail width (op_change coll.now op.now) rows.now.rows space.now) }
 {
+    check_taken(alloc, rows, coll, op)?;
     match op {
-        Op::MkColl => plan_collection(alloc, rows, space, coll),
-        Op::Touch { object } => plan_touch(alloc, rows, space, coll, object),
-        Op::Write { object, off, bytes } => {
-            plan_write(alloc, width, rows, space, coll, object, *off, bytes)
+        Op::Touch { object } => {
+            let plan = touched(alloc, width, rows, space, coll, object)?;
+            Ok(Draft::planned(alloc, plan))
         }
-        _ => unreachable!(),
+        Op::Remove { object } => {
+            let plan = removed(alloc, width, rows, space, coll, object)?;
+            Ok(Draft::planned(alloc, plan))
+        }
+        _ => begin_edit(alloc, width, rows, space, coll, op),
     }
 }
 
-fn has_row(rows: &RowTable, key: &Bytes) -> bool
-    ensures { result ≡ finite.contains_key rows.now.rows key.now }
-{
-    rows.get(key.as_slice()).is_some()
-}
-
-fn has_collection(alloc: Global, rows: &RowTable, coll: &CollName) -> Result<bool, AllocError>
-    ensures { IfOk result (λ there. there ≡ finite.contains_key rows.now.rows (coll_key coll.now)) }
-{
-    let key = coll_key(alloc, coll)?;
-    Ok(has_row(rows, &key))
-}
-
-fn has_onode(
-    alloc: Global,
-    rows: &RowTable,
-    coll: &CollName,
-    object: &Name,
-) -> Result<bool, AllocError>
-    ensures { IfOk result (λ there. there ≡ finite.contains_key rows.now.rows (onode_key coll.now object.now)) }
-{
-    let key = onode_key(alloc, coll, object)?;
-    Ok(has_row(rows, &key))
-}
-
-// The operation that makes a collection.
-fn collection_made(alloc: Global, coll: &CollName) -> Result<Items<RowOp>, AllocError>
-    ensures { IfOk result (λ ops. ops ≡ coll_ops coll.now) }
-{
-    let key = coll_key(alloc, coll)?;
-    let value = Bytes::new(alloc);
-    let mut ops = Items::new(alloc);
-    ops.push(RowOp::Set { key, value })?;
-    Ok(ops)
-}
-
-// A plan that takes no unit.
-fn rows_alone(alloc: Global, ops: Items<RowOp>) -> Plan
-    ensures { result ≡ record { ops = ops; fresh = []; released = [] } }
-{
-    Plan {
-        ops,
-        fresh: Items::new(alloc),
-        released: Items::new(alloc),
-    }
-}
-
-fn plan_collection(
-    alloc: Global,
-    rows: &RowTable,
-    space: &Allocator,
-    coll: &CollName,
-) -> Result<Plan, PlanFail>
-    ensures not_refused { IfOk result (λ plan. IsNotRefused rows.now.rows (ask.Change (coll_change coll.now))) }
-    ensures ok { IfOk result (GivesColl coll.now rows.now.rows) }
-    ensures fail { IfErr result (IsPlanFail (coll_change coll.now) rows.now.rows space.now) }
-{
-    coll_name_is_one(coll);
-    if has_collection(alloc, rows, coll)? {
-        return Err(PlanFail::Refusal(Refusal::CollectionExists));
-    }
-    let ops = collection_made(alloc, coll)?;
-    Ok(rows_alone(alloc, ops))
-}
-
-// What makes an object where it is missing.
-fn object_made(
-    alloc: Global,
-    rows: &RowTable,
-    coll: &CollName,
-    object: &Name,
-) -> Result<Items<RowOp>, AllocError>
-    ensures { IfOk result (λ ops. ops ≡ touch_ops rows.now.rows coll.now object.now) }
-{
-    if has_onode(alloc, rows, coll, object)? {
-        Ok(Items::new(alloc))
-    } else {
-        onode_ops(alloc, rows, coll, object, 0)
-    }
-}
-
-fn plan_touch(
-    alloc: Global,
-    rows: &RowTable,
-    space: &Allocator,
-    coll: &CollName,
-    object: &Name,
-) -> Result<Plan, PlanFail>
-    ensures not_refused { IfOk result (λ plan. IsNotRefused rows.now.rows (ask.Change (touch_change coll.now object.now))) }
-    ensures ok { IfOk result (GivesTouch coll.now object.now rows.now.rows) }
-    ensures fail { IfErr result (IsPlanFail (touch_change coll.now object.now) rows.now.rows space.now) }
-{
-    coll_name_is_one(coll);
-    name_is_one(object);
-    if !has_collection(alloc, rows, coll)? {
-        return Err(PlanFail::Refusal(Refusal::NoCollection));
-    }
-    let ops = object_made(alloc, rows, coll, object)?;
-    Ok(rows_alone(alloc, ops))
-}
-
-// The write of whole pages from one on, each on its unit: what becomes of the object's rows and of the units' bits, and which units go.
-fn pages_on(
+// The draft of an operation on the bytes of an object, which is taken.
+fn begin_edit(
     alloc: Global,
     width: Width,
     rows: &RowTable,
+    space: &Allocator,
     coll: &CollName,
-    object: &Name,
-    first: u32,
-    bytes: &SharedBytes,
-    units: &[UnitNo],
-) -> Result<Plan, AllocError>
+    op: &Op,
+) -> Result<Draft, PlanFail>
+    requires bytes { IsOfBytes op.now }
     requires good { AreRowsOfWidth width rows.now.rows }
-    requires whole { length bytes.now ≡ 4096 * length units.now }
-    requires within { 4096 * first + length bytes.now ≤ object_limit }
-    ensures { IfOk result (WritesOn width rows.now.rows coll.now object.now first bytes.now units.now) }
+    requires taken { IsTaken rows.now.rows coll.now op.now }
+    requires not_refused { IsNotRefused rows.now.rows (ask.Change (op_change coll.now op.now)) }
+    ensures ok { IfOk result (IsDraftFor width (op_change coll.now op.now) rows.now.rows space.now) }
+    ensures fail { IfErr result (IsPlanFail width (op_change coll.now op.now) rows.now.rows space.now) }
 {
-    let ObjectState {
-        size,
-        mut pages,
-        shards,
-    } = object_state(alloc, width, rows, coll, object)?;
-    let count = units.len() as u32;
-    let released = units_between(alloc, pages.pages(), first, first + count)?;
-    lay_pages(&mut pages, first, units, bytes.as_slice())?;
-    let end = UNIT_BYTES as u64 * (u64::from(first) + u64::from(count));
-    let mut ops = size_ops(alloc, rows, coll, object, size, size.max(end))?;
-    replace_shards(alloc, width, &mut ops, coll, object, &pages, &shards)?;
-    let mut flips = turned_bits(alloc, units, released.as_slice())?;
-    let mut all = ops.into_vec();
-    all.append(&mut flips)?;
-    let fresh = fresh_units(alloc, units, bytes)?;
-    Ok(Plan {
-        ops: Items::from_vec(all),
-        fresh,
-        released,
+    let object = object_state(alloc, width, rows, coll, object_in(op))?;
+    if stays_missing(op, object.size) {
+        return Ok(Draft::planned(alloc, unchanged(alloc)?));
+    }
+    let size = object.size.unwrap_or(0);
+    let need = units_needed(op, size, &object.pages);
+    let units = space.lowest_units(alloc, need)?;
+    let places = places_needed(alloc, op, size, &object.pages)?;
+    Ok(Draft {
+        work: Work::Edits(object, units),
+        places,
     })
-}
-
-fn plan_write(
-    alloc: Global,
-    width: Width,
-    rows: &RowTable,
-    space: &Allocator,
-    coll: &CollName,
-    object: &Name,
-    off: u64,
-    bytes: &SharedBytes,
-) -> Result<Plan, PlanFail>
-    requires known { IsKnown (Write object.now off bytes.now ∷ []) }
-    requires small { is_too_large (op_change coll.now (Write object.now off bytes.now)) ≡ false }
-    requires good { AreRowsOfWidth width rows.now.rows }
-    ensures not_refused { IfOk result (λ plan. IsNotRefused rows.now.rows (ask.Change (op_change coll.now (Write object.now off bytes.now)))) }
-    ensures ok { IfOk result (GivesPages width coll.now object.now off bytes.now rows.now.rows space.now) }
-    ensures fail { IfErr result (IsPlanFail (op_change coll.now (Write object.now off bytes.now)) rows.now.rows space.now) }
-{
-    coll_name_is_one(coll);
-    name_is_one(object);
-    if !has_collection(alloc, rows, coll)? {
-        return Err(PlanFail::Refusal(Refusal::NoCollection));
-    }
-    if ends_too_far(off, bytes.len() as u64) {
-        return Err(PlanFail::Refusal(Refusal::TooBig));
-    }
-    let need = bytes.len() / UNIT_BYTES;
-    let units = space.lowest_units(alloc, need as u32)?;
-    let first = off / UNIT_BYTES as u64;
-    Ok(pages_on(
-        alloc,
-        width,
-        rows,
-        coll,
-        object,
-        first as u32,
-        bytes,
-        &units,
-    )?)
 }

@@ -1,6 +1,5 @@
 use Rattle.std.proofs.Common.{ℕ, rules, sym, subst}
-use Rattle.page_lookup.specs.Prelude.{rows_read, HasUnit}
-use Rattle.onode_state.specs.Objects.{FindPagesOf}
+use Rattle.page_lookup.specs.Prelude.{rows_read, HasUnit, FindPagesOf}
 use Rattle.onode_state.proofs.FoundPages.{pages_found, units_fit}
 use Rattle.onode_state.proofs.object.object_pages.Goals as goal
 

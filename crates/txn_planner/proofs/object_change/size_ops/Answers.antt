@@ -1,10 +1,12 @@
-use Rattle.std.proofs.Common.{◌≡◌, sym, subst, ◌∙◌, arith}
-use Rattle.plan_rows.specs.Prelude.{IsSizeOf}
-use Rattle.txn_planner.proofs.Changes.{size_said}
+use Rattle.std.proofs.Common.{sym, subst, ◌∙◌}
+use Rattle.onode_state.specs.Objects.{IsSizeAt}
+use Rattle.txn_planner.proofs.Changes.{size_said, same_size}
 use Rattle.txn_planner.proofs.object_change.size_ops.Goals as goal
 
-pub returns-then-size-before : goal.returns-then-size-before
-returns-then-size-before c =
-    let same : c.args.before ≡ c.args.size = omega (arith, c.if-size-before.true) in
-    c.new.ensures ∙ sym (size_said c.args.rows.now.rows c.args.coll.now c.args.object.now c.args.size
-    (subst (λ n. IsSizeOf c.args.rows.now.rows c.args.coll.now c.args.object.now n) same c.requires) (omega (arith, c.if-size-gt0.true)))
+pub returns-then-eq : goal.returns-then-eq
+returns-then-eq c =
+    let rows = c.args.rows.now.rows in
+    let coll = c.args.coll.now in
+    let object = c.args.object.now in
+    c.new.ensures ∙ sym (size_said rows coll object c.args.size
+    (subst (IsSizeAt rows coll object) (sym (same_size c.args.size c.args.before (sym c.eq.ensures ∙ c.if-eq.true))) c.requires))

@@ -16,19 +16,20 @@ use Rattle.unit_fields.specs.declared.width.Width.{Width}
 use Rattle.row_format.specs.Prelude.{Extent, own, coll_key, onode_key, onode}
 use Rattle.store_image.specs.Prelude.{HasKey, HasOnode, IsPageAt, HasPage}
 use Rattle.store_image.proofs.Prelude.{in_place, on_own}
-use Rattle.page_lookup.specs.Prelude.{place_found}
+use Rattle.page_lookup.specs.Prelude.{place_found, FindPagesOf}
 use Rattle.plan_rows.specs.Prelude.{IsSizeOf, missing, there}
 use Rattle.object_rows.proofs.GoodPages.{good_page}
-use Rattle.onode_state.specs.Objects.{AreRowsOfAStore, AreRowsOfWidth, FindPagesOf}
+use Rattle.onode_state.specs.Objects.{AreRowsOfAStore, AreRowsOfWidth}
 use Rattle.read_facts.specs.declared.view.BadSum.{BadSum}
 use Rattle.read_facts.specs.Prelude.{IsHeldAt, pages_read, IsRefusedBy, IsNotRefused, Gives, IsAnswerOf, IsObject, sum_answer, IsViewOf}
 use Rattle.read_facts.proofs.Keys.{none_of}
 use Rattle.read_facts.proofs.Found.{answer_given, object_missing, object_there}
-use Rattle.object_reader.specs.declared.parts.PartFail.{PartFail}
-use Rattle.object_reader.specs.declared.parts.PartFail.TheVariants as why
+use Rattle.page_sources.specs.declared.parts.PartFail.{PartFail}
+use Rattle.page_sources.specs.declared.parts.PartFail.TheVariants as why
+use Rattle.page_sources.specs.Prelude.{CanRead, IsPartFail}
 use Rattle.object_reader.specs.Missing.{IsObjectMissing, HasObject}
 use Rattle.object_reader.specs.Readable.{IsReadable}
-use Rattle.object_reader.specs.Parts.{CanRead, IsPartFail, GivesRange, GivesSum}
+use Rattle.object_reader.specs.Ranges.{GivesRange, GivesSum}
 use Rattle.object_reader.specs.PartFails.{IsCsumOf, IsSumOf}
 
 -- rows that can be read are a store's

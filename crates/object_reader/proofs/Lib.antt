@@ -3,6 +3,5 @@ pub mod NamesOrder
 pub mod NamesKeys
 pub mod NamesNext
 pub mod NamesWalk
-pub mod PartLemmas
 pub mod ReadLemmas
 pub mod AnswerLemmas

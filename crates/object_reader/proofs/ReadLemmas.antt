@@ -12,9 +12,10 @@ use Rattle.block_device.specs.Prelude.{Disk}
 use Rattle.store_image.specs.Prelude.{pages_of}
 use Rattle.row_format.specs.Prelude.{Extent}
 use Rattle.read_facts.specs.Prelude.{read_end, pages_read}
-use Rattle.object_reader.specs.Parts.{AreSums, GivesPages, IsPartFail, GivesRange, IsDigestOf, GivesSum}
-use Rattle.object_reader.specs.declared.parts.PartFail.{PartFail}
-use Rattle.object_reader.proofs.PartLemmas.{no_pages, more_pages, fails_behind}
+use Rattle.page_sources.specs.declared.parts.PartFail.{PartFail}
+use Rattle.page_sources.specs.Prelude.{AreSums, GivesPages, IsPartFail}
+use Rattle.page_sources.proofs.PartLemmas.{no_pages, more_pages, fails_behind}
+use Rattle.object_reader.specs.Ranges.{GivesRange, IsDigestOf, GivesSum}
 
 -- how many pages a range must read: none where it ends where it begins or before
 pub no_page_read : (size off len : ℕ) → read_end size off len ≤ off → pages_read size off len ≡ 0

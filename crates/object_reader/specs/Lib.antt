@@ -1,5 +1,5 @@
 pub mod Missing
 pub mod Readable
 pub mod NextKeys
-pub mod Parts
+pub mod Ranges
 pub mod PartFails

@@ -1,17 +1,10 @@
--- Failures of the device, as those of a read of pages, and what these answer.
+-- What failed reads of pages answer.
 use Rattle.std.specs.Prelude.{◌≡◌, ℕ, Result, Ok, Err}
-use Rattle.block_device.specs.declared.device.Failed.{Failed}
-use Rattle.block_device.specs.declared.device.Failed.TheVariants as failed
 use Rattle.object_model.specs.declared.command.Answer.{Answer}
 use Rattle.object_model.specs.declared.command.Answer.TheVariants as answer
 use Rattle.read_facts.specs.declared.view.BadSum.{BadSum}
-use Rattle.object_reader.specs.declared.parts.PartFail.{PartFail}
-use Rattle.object_reader.specs.declared.parts.PartFail.TheVariants as why
-
--- why pages weren't read, where the device says why
-abbrev pub part_fail_of : Failed → PartFail
-part_fail_of failed.Memory = why.Memory
-part_fail_of failed.Fault = why.Fault
+use Rattle.page_sources.specs.declared.parts.PartFail.{PartFail}
+use Rattle.page_sources.specs.declared.parts.PartFail.TheVariants as why
 
 -- the answer is the bad page
 abbrev pub IsCsumOf : PartFail → Answer → Type 0

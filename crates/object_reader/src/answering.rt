@@ -16,7 +16,6 @@ ghost use Rattle.object_reader.specs.PartFails.{IsCsumOf};
 
 use crate::fail::ReadFail;
 use crate::names::object_names;
-use crate::parts::PartFail;
 use crate::reading::{read_range, sum};
 use block_device::Device;
 use byte_maps::{Bytes, Items};
@@ -24,6 +23,7 @@ use meta_rows::RowTable;
 use object_model::{Answer, Command, Refusal, ends_too_far};
 use onode_codec::{coll_key, onode_key};
 use onode_state::{coll_name_is_one, name_is_one, object_pages, object_size};
+use page_sources::PartFail;
 use std::alloc::{AllocError, Global};
 use unit_fields::{CollName, Name, Width};
 use write_buffers::WriteBuffers;

@@ -8,7 +8,6 @@
 mod answering;
 mod fail;
 mod names;
-mod parts;
 mod reading;
 mod view;
 

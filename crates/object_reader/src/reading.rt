@@ -6,12 +6,13 @@ ghost use Rattle.object_model.specs.Prelude.{object_limit};
 ghost use Rattle.store_image.specs.Prelude.{pages_of};
 ghost use Rattle.read_facts.specs.Prelude.{pages_read};
 ghost use Rattle.write_buffers.specs.Prelude.{memory_in};
-ghost use Rattle.object_reader.specs.Parts.{CanRead, AreSums, GivesPages, IsPartFail, GivesRange, GivesSum};
+ghost use Rattle.page_sources.specs.Prelude.{CanRead, AreSums, GivesPages, IsPartFail};
+ghost use Rattle.object_reader.specs.Ranges.{GivesRange, GivesSum};
 
-use crate::parts::{PartFail, Sums, read_part};
 use block_device::Device;
 use crc32c_csum::Digest;
 use page_lookup::ShardPages;
+use page_sources::{PartFail, Sums, read_part};
 use std::alloc::Global;
 use unit_fields::limits::UNIT_BYTES;
 use write_buffers::WriteBuffers;

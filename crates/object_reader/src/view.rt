@@ -9,11 +9,11 @@ ghost use Rattle.object_reader.specs.Readable.{IsReadable, IsNextView};
 
 use crate::fail::ReadFail;
 use crate::names::next_name;
-use crate::parts::PartFail;
 use crate::reading::sum;
 use block_device::Device;
 use meta_rows::RowTable;
 use onode_state::{object_pages, object_size};
+use page_sources::PartFail;
 use read_facts::{BadSum, ObjectView};
 use std::alloc::Global;
 use unit_fields::{CollName, Name, Width};

@@ -27,6 +27,15 @@ one_size rows c o m n p q =
     let e = ap (λ (v : Option (List ℕ)). unwrap_or v []) (sym p.stands ∙ q.stands) in
     sym (from_le_bytes-to_le_bytes_8 m p.fits.2) ∙ ap (from_le_bytes w64) e ∙ from_le_bytes-to_le_bytes_8 n q.fits.2
 
+-- an object that the rows have is among the objects of their shape
+pub onode_object : (rows : Rows) (objects : Objects) → IsShape rows objects → (c o : List ℕ) (size : ℕ) → HasOnode rows c o size
+    → (object : Object) × (object_under objects c o ≡ Some object)
+onode_object rows objects shape c o size there = of_found (object_under objects c o) refl
+  where
+    of_found : (x : Option Object) → object_under objects c o ≡ x → (object : Object) × (object_under objects c o ≡ Some object)
+    of_found None is = let none = shape.missing c o there.fits.0 there.fits.1 is in absurd (let never = sym there.stands ∙ none in cc)
+    of_found (Some object) is = (object, is)
+
 -- ---- what isn't refused is answered from what is found
 
 abbrev IsGivenAnswer : Answer → Type 0

@@ -11,21 +11,34 @@ use Rattle.object_model.specs.declared.command.Answer.{Answer}
 use Rattle.object_model.specs.declared.command.Answer.TheVariants as answer
 use Rattle.object_model.specs.Prelude.{Objects, reply_of}
 use Rattle.meta_rows.specs.Prelude.{Rows}
-use Rattle.store_image.specs.Prelude.{PageUnit, IsPageOn, HasPage, page_bytes, AreObjectBytes, ObjectsStand}
-use Rattle.read_facts.specs.Prelude.{IsHeldAt, IsGoodPage, hole, mapped, IsBadPage, ReadsBytes, FailsAt, HasReadNames, IsAnswerOf}
+use Rattle.row_format.specs.Prelude.{own}
+use Rattle.store_image.specs.Prelude.{HasOnode, PageUnit, IsPageAt, IsPageOn, HasPage, page_bytes, AreObjectBytes, ObjectsStand}
+use Rattle.read_facts.specs.Prelude.{IsHeldAt, IsFound, IsGoodPage, hole, mapped, IsBadPage, IsBadUnit, ReadsBytes, FailsAt, HasReadNames, IsAnswerOf}
 use Rattle.read_facts.proofs.Cut.{cut_is}
-use Rattle.read_facts.proofs.Plain.{read_given, sum_given, size_is, plain_stat, plain_list}
+use Rattle.read_facts.proofs.Plain.{onode_object, read_given, sum_given, size_is, plain_stat, plain_list}
 
 module _ (w : Width) (memory : ℕ → Option (List ℕ)) (d : Disk) (h : History) (tells : d.history ≡ Some h) (rows : Rows)
     (answered : (unit : ℕ) → HasPage w rows unit → memory unit ≡ None → HasNoBadDone h.log unit) (at : ℕ → List ℕ)
     (valued : (unit : ℕ) → at unit ≡ unwrap_or (memory unit) (last_at h unit)) where
-  -- what the unit of a page holds that isn't in memory is what was last written there
+  -- what a unit with a page holds that isn't in memory is what was last written there
+  held_there : (unit : ℕ) (bytes : List ℕ) → HasPage w rows unit → memory unit ≡ None → IsHeldAt d unit bytes → bytes ≡ last_at h unit
+  held_there unit bytes has none held =
+      let of : IfSome (Some h) (λ (g : History). HasNoBadDone g.log unit → bytes ≡ last_at g unit) =
+      subst (λ (x : Option History). IfSome x (λ (g : History). HasNoBadDone g.log unit → bytes ≡ last_at g unit)) tells held in
+      of (answered unit has none)
+
   held_is : (c o : List ℕ) (page : ℕ) (on : PageUnit) (bytes : List ℕ) → IsPageOn w rows c o page on → memory on.unit ≡ None
       → IsHeldAt d on.unit bytes → bytes ≡ last_at h on.unit
-  held_is c o page on bytes is_on none held =
-      let of : IfSome (Some h) (λ (g : History). HasNoBadDone g.log on.unit → bytes ≡ last_at g on.unit) =
-      subst (λ (x : Option History). IfSome x (λ (g : History). HasNoBadDone g.log on.unit → bytes ≡ last_at g on.unit)) tells held in
-      of (answered on.unit (record { coll = c; object = o; page = page; on = on; is_on = is_on; is_unit = refl }) none)
+  held_is c o page on bytes is_on = held_there on.unit bytes (record { coll = c; object = o; page = page; on = on; is_on = is_on; is_unit = refl })
+
+  -- so what it gives is what it is valued at
+  pub found_is : (unit : ℕ) (bytes : List ℕ) → HasPage w rows unit → IsFound memory (IsHeldAt d) unit bytes → bytes ≡ at unit
+  found_is unit bytes has found = by_copy (memory unit) refl found ∙ sym (valued unit)
+    where
+      by_copy : (copy : Option (List ℕ)) → memory unit ≡ copy → MatchOption copy (IsHeldAt d unit bytes) (λ b. bytes ≡ b)
+          → bytes ≡ unwrap_or copy (last_at h unit)
+      by_copy None none held = held_there unit bytes has none held
+      by_copy (Some b) some same = same
 
   -- what it gives is what it is valued at
   given_is : (c o : List ℕ) (page : ℕ) (on : PageUnit) (copy : Option (List ℕ)) (bytes : List ℕ) → IsPageOn w rows c o page on
@@ -61,6 +74,21 @@ module _ (w : Width) (memory : ℕ → Option (List ℕ)) (d : Disk) (h : Histor
     none_fails size off len unit kept found f = none_bad (off / 4096 + f.first_bad.index) unit kept found f.first_bad.bad
 
   module _ (objects : Objects) (stand : ObjectsStand w at rows objects) where
+    -- no place of an object's page is on a bad unit
+    pub place_not_bad : (c o : List ℕ) (size page unit kept found : ℕ) → HasOnode rows c o size → IsPageAt w rows c o page (own unit kept)
+        → IsBadUnit memory (IsHeldAt d) unit kept found → ⊥
+    place_not_bad c o size page unit kept found there is_at bad =
+        let object = onode_object rows objects stand.shape c o size there in
+        none_bad c o object.0.bytes (stand.bytes c o object.0 object.1) page unit kept found (record {
+          is_on = record { place = own unit kept; at = is_at; stands = refl };
+          not_in_memory = bad.not_in_memory;
+          bytes = bad.bytes;
+          size = bad.size;
+          holds = bad.holds;
+          is_found = bad.is_found;
+          differs = bad.differs;
+        })
+
     -- a read of bytes is answered as the objects do
     seen_read : (c o : List ℕ) (off len : ℕ) (a : Answer) → IsAnswerOf w memory (IsHeldAt d) rows (ask.Read c o off len) a
         → a ≡ reply_of (ask.Read c o off len) objects

@@ -1,10 +1,12 @@
 -- Pages of an object, read from memory or from the device: which bytes of units are in memory, and what bytes a unit holds else, are arguments.
-use Rattle.std.specs.Prelude.{◌≡◌, ◌≢◌, ℕ, ◌+◌, ◌-◌, ◌/◌, ◌%◌, ◌<◌, min, nat_lt, List, length, take, drop, Option, None, IfSome, MatchOption, if◌then◌else◌}
+use Rattle.std.specs.Prelude.{◌≡◌, ◌≢◌, ℕ, ◌+◌, ◌-◌, ◌/◌, ◌%◌, ◌<◌, min, nat_lt, List, ◌∷◌, ◌++◌, length, take, drop, Option, None, IfSome, MatchOption, if◌then◌else◌}
 use Rattle.byte_maps.specs.Units.{unit_at, zeros, IsUnits}
 use Rattle.unit_fields.specs.declared.width.Width.{Width}
 use Rattle.crc32c_csum.specs.Prelude.{crc32c}
 use Rattle.block_device.specs.Prelude.{HasNoBadDone, Disk, last_at}
 use Rattle.meta_rows.specs.Prelude.{Rows}
+use Rattle.std.specs.List.{AllByRecursion}
+use Rattle.row_format.specs.Prelude.{Place, own}
 use Rattle.store_image.specs.Prelude.{HasOnode, PageUnit, IsPageOn, IsHole, pages_of}
 
 -- the unit holds these bytes, as far as the device tells: those last written there, where no write of it ended badly
@@ -18,6 +20,10 @@ no_memory unit = None
 -- what a unit gives to a reader: its bytes in memory as they are, or those that it holds where they have the checksum that is kept
 abbrev pub IsRead : (ℕ → Option (List ℕ)) → (ℕ → List ℕ → Type 0) → PageUnit → List ℕ → Type 0
 IsRead memory held on bytes = MatchOption (memory on.unit) (held on.unit bytes × (crc32c bytes ≡ on.csum)) (λ b. bytes ≡ b)
+
+-- what a unit gives, its checksum aside: its bytes in memory, or those that it holds
+abbrev pub IsFound : (ℕ → Option (List ℕ)) → (ℕ → List ℕ → Type 0) → ℕ → List ℕ → Type 0
+IsFound memory held unit bytes = MatchOption (memory unit) (held unit bytes) (λ b. bytes ≡ b)
 
 -- A page of an object is good: it is a hole and its bytes are zeros, or its unit gives them.
 pub data IsGoodPage (w : Width) (memory : ℕ → Option (List ℕ)) (held : ℕ → List ℕ → Type 0) (rows : Rows) (c o : List ℕ) (page : ℕ)
@@ -50,6 +56,29 @@ pub record IsFirstBad (w : Width) (memory : ℕ → Option (List ℕ)) (held : �
   pub before : List ℕ
   pub good : AreGoodPages w memory held rows c o first index before
   pub bad : IsBadPage w memory held rows c o (first + index) unit kept found
+
+-- ---- units by their places
+
+-- the place gives bytes, with their checksum where its unit isn't in memory
+abbrev pub IsGoodPlace : (ℕ → Option (List ℕ)) → (ℕ → List ℕ → Type 0) → Place → Type 0
+IsGoodPlace memory held (own unit csum) = (bytes : List ℕ) × IsRead memory held (record { unit = unit; csum = csum }) bytes
+
+-- A unit is bad, as a page on it: it isn't in memory and holds bytes whose checksum isn't the one that is kept.
+pub record IsBadUnit (memory : ℕ → Option (List ℕ)) (held : ℕ → List ℕ → Type 0) (unit kept found : ℕ) : Type 0 where
+  pub not_in_memory : memory unit ≡ None
+  pub bytes : List ℕ
+  pub size : length bytes ≡ 4096
+  pub holds : held unit bytes
+  pub is_found : found ≡ crc32c bytes
+  pub differs : found ≢ kept
+
+-- of the units of these places it is the first bad one
+pub record IsFirstBadUnit (memory : ℕ → Option (List ℕ)) (held : ℕ → List ℕ → Type 0) (places : List Place) (unit kept found : ℕ) : Type 0 where
+  pub front : List Place
+  pub rest : List Place
+  pub is : places ≡ front ++ own unit kept ∷ rest
+  pub good : AllByRecursion (IsGoodPlace memory held) front
+  pub bad : IsBadUnit memory held unit kept found
 
 -- ---- ranges of bytes
 

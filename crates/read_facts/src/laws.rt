@@ -8,10 +8,11 @@ ghost use Rattle.meta_log.specs.declared.slot.Super.{Super};
 ghost use Rattle.object_model.specs.Prelude.{Collection, Objects, reply_of, is_refused, is_of_device};
 ghost use Rattle.object_model.specs.declared.command.Command.{Command};
 ghost use Rattle.object_model.specs.declared.command.Answer.{Answer};
-ghost use Rattle.store_image.specs.Prelude.{NoBadRow, PageUnit, IsPageOn, HasPage, IsShape, ObjectsStand};
+ghost use Rattle.row_format.specs.Prelude.{own};
+ghost use Rattle.store_image.specs.Prelude.{HasOnode, NoBadRow, PageUnit, IsPageAt, IsPageOn, HasPage, IsShape, ObjectsStand};
 ghost use Rattle.unit_fields.specs.Prelude.{IsCollName};
 ghost use Rattle.read_facts.specs.Walks.{IsCollection, IsObject, IsNextOf, AreNext, last_of, AreAll};
-ghost use Rattle.read_facts.specs.PageReads.{IsHeldAt, IsGoodPage, IsBadPage, AreGoodPages, IsFirstBad};
+ghost use Rattle.read_facts.specs.PageReads.{IsHeldAt, IsFound, IsGoodPage, IsBadPage, AreGoodPages, IsFirstBad, IsBadUnit};
 ghost use Rattle.read_facts.specs.Answers.{HasReadNames, IsAnswerOf};
 ghost use Rattle.read_facts.specs.Alike.{IsAlike};
 ghost use Rattle.read_facts.specs.Views.{WalksTo, WalksAll, HasGoodViews, views_of};
@@ -81,6 +82,20 @@ pub fn reads_are_as_plain_objects()
         → ((unit : ℕ) → HasPage w rows unit → memory unit ≡ None → HasNoBadDone h.log unit)
         → ((unit : ℕ) → at unit ≡ unwrap_or (memory unit) (last_at h unit)) → ObjectsStand w at rows objects → HasReadNames command
         → IsAnswerOf w memory (IsHeldAt d) rows command a → a ≡ reply_of command objects }
+{}
+
+/// So is what a unit with a page is found to hold, and no place of a page of these objects is on a bad unit.
+pub fn units_are_as_plain_objects()
+    ensures found { (w : Width) (memory : ℕ → Option (List ℕ)) (d : Disk) (h : History) (at : ℕ → List ℕ) (rows : Rows) (unit : ℕ)
+        (bytes : List ℕ) → d.history ≡ Some h
+        → ((unit : ℕ) → HasPage w rows unit → memory unit ≡ None → HasNoBadDone h.log unit)
+        → ((unit : ℕ) → at unit ≡ unwrap_or (memory unit) (last_at h unit)) → HasPage w rows unit → IsFound memory (IsHeldAt d) unit bytes
+        → bytes ≡ at unit }
+    ensures never_bad { (w : Width) (memory : ℕ → Option (List ℕ)) (d : Disk) (h : History) (at : ℕ → List ℕ) (rows : Rows) (objects : Objects)
+        (c o : List ℕ) (size page unit kept found : ℕ) → d.history ≡ Some h
+        → ((unit : ℕ) → HasPage w rows unit → memory unit ≡ None → HasNoBadDone h.log unit)
+        → ((unit : ℕ) → at unit ≡ unwrap_or (memory unit) (last_at h unit)) → ObjectsStand w at rows objects → HasOnode rows c o size
+        → IsPageAt w rows c o page (own unit kept) → ¬ IsBadUnit memory (IsHeldAt d) unit kept found }
 {}
 
 /// And a walk shows just these objects, no page of which is bad.

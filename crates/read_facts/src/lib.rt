@@ -8,6 +8,6 @@ mod view;
 pub use laws::{
     bytes_in_memory_are_read, names_come_in_one_order, reads_and_walks_go_on,
     reads_are_as_plain_objects, reads_are_plain_but_for_bytes, rows_have_objects,
-    walks_show_plain_objects,
+    units_are_as_plain_objects, walks_show_plain_objects,
 };
 pub use view::{BadSum, CollView, ObjectView};

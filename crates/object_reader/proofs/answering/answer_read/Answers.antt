@@ -4,7 +4,7 @@ use Rattle.object_model.specs.declared.command.Command.TheVariants as ask
 use Rattle.read_facts.specs.Prelude.{IsHeldAt, IsAnswerOf}
 use Rattle.write_buffers.specs.Prelude.{memory_in}
 use Rattle.object_reader.specs.Missing.{HasObject}
-use Rattle.object_reader.specs.Parts.{GivesRange}
+use Rattle.object_reader.specs.Ranges.{GivesRange}
 use Rattle.object_reader.specs.PartFails.{IsCsumOf}
 use Rattle.object_reader.proofs.AnswerLemmas.{ok_of, at_none, read_taken, can_read, bytes_answer, read_fails}
 use Rattle.object_reader.proofs.answering.answer_read.Goals as goal

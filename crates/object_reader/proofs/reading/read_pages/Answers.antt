@@ -1,7 +1,7 @@
 use Rattle.std.proofs.Common.{◌≡◌, ◌+◌, ◌-◌, ℕ, arith, subst, ◌∙◌}
 use Rattle.write_buffers.specs.Prelude.{memory_in}
-use Rattle.object_reader.specs.Parts.{GivesPages, IsPartFail}
-use Rattle.object_reader.proofs.PartLemmas.{more_pages, fails_behind, handed_on}
+use Rattle.page_sources.specs.Prelude.{GivesPages, IsPartFail}
+use Rattle.page_sources.proofs.PartLemmas.{more_pages, fails_behind, handed_on}
 use Rattle.object_reader.proofs.reading.read_pages.Goals as goal
 
 pub parts-init : goal.parts-init

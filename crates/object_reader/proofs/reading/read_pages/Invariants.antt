@@ -1,6 +1,6 @@
 use Rattle.std.proofs.Common.{◌≡◌, ◌≤◌, ◌-◌}
 use Rattle.write_buffers.specs.Prelude.{memory_in}
-use Rattle.object_reader.specs.Parts.{GivesPages}
+use Rattle.page_sources.specs.Prelude.{GivesPages}
 use Rattle.object_reader.proofs.reading.read_pages.Given as goal
 
 -- the pages so far were read

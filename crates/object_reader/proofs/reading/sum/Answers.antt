@@ -1,8 +1,9 @@
 use Rattle.std.proofs.Common.{◌≡◌, ◌-◌, ◌+◌, ◌*◌, ◌≤◌, take, ap, refl, arith, subst, sym, ◌∙◌}
 use Rattle.read_facts.specs.Prelude.{pages_read}
 use Rattle.write_buffers.specs.Prelude.{memory_in}
-use Rattle.object_reader.specs.Parts.{CanRead, GivesPages, IsPartFail, IsDigestOf}
-use Rattle.object_reader.proofs.PartLemmas.{handed_on}
+use Rattle.page_sources.specs.Prelude.{CanRead, GivesPages, IsPartFail}
+use Rattle.page_sources.proofs.PartLemmas.{handed_on}
+use Rattle.object_reader.specs.Ranges.{IsDigestOf}
 use Rattle.object_reader.proofs.ReadLemmas.{digest_of_none, digest_of_more, sums_of_front, sum_of_all, sum_fails_behind}
 use Rattle.object_reader.proofs.reading.sum.Goals as goal
 

@@ -1,6 +1,6 @@
 use Rattle.std.proofs.Common.{◌≡◌, ◌≤◌, ◌-◌}
 use Rattle.write_buffers.specs.Prelude.{memory_in}
-use Rattle.object_reader.specs.Parts.{IsDigestOf}
+use Rattle.object_reader.specs.Ranges.{IsDigestOf}
 use Rattle.object_reader.proofs.reading.sum.Given as goal
 
 -- the pages so far were taken in

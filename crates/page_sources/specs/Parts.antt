@@ -1,20 +1,26 @@
--- Pages of an object read some at a time, each where it is found among the object's extents.
-use Rattle.std.specs.Prelude.{◌≡◌, ◌≢◌, ℕ, ◌+◌, ◌-◌, ◌/◌, ◌%◌, ◌<◌, ◌≤◌, List, length, take, drop, get_or, Option, Some, None, IsSome}
+-- Pages of an object read some at a time, each where it is found among the object's extents, and why they weren't.
+use Rattle.std.specs.Prelude.{◌≡◌, ◌≢◌, ℕ, ◌+◌, ◌<◌, ◌≤◌, List, length, get_or, Option, Some, None, IsSome}
 use Rattle.byte_maps.specs.Units.{unit_at, zeros, IsUnits}
 use Rattle.unit_fields.specs.declared.width.Width.{Width}
-use Rattle.crc32c_csum.specs.Prelude.{crc32c, remainder, all_ones}
+use Rattle.crc32c_csum.specs.Prelude.{crc32c}
 use Rattle.block_device.specs.Prelude.{Disk, HasRead, IsUntouched}
+use Rattle.block_device.specs.declared.device.Failed.{Failed}
+use Rattle.block_device.specs.declared.device.Failed.TheVariants as failed
 use Rattle.meta_rows.specs.Prelude.{Rows}
 use Rattle.row_format.specs.Prelude.{Extent, own}
-use Rattle.page_lookup.specs.Prelude.{place_found}
-use Rattle.onode_state.specs.Objects.{FindPagesOf}
+use Rattle.page_lookup.specs.Prelude.{place_found, FindPagesOf}
 use Rattle.read_facts.specs.declared.view.BadSum.{BadSum}
-use Rattle.read_facts.specs.Prelude.{IsHeldAt, AreGoodPages, IsFirstBad, read_end, pages_read}
+use Rattle.read_facts.specs.Prelude.{IsHeldAt, AreGoodPages, IsFirstBad}
 use Rattle.write_buffers.specs.Prelude.{AreNotIn}
-use Rattle.object_reader.specs.declared.parts.Run.{Run}
-use Rattle.object_reader.specs.declared.parts.Run.TheVariants.{Hole, Units, InMemory}
-use Rattle.object_reader.specs.declared.parts.PartFail.{PartFail}
-use Rattle.object_reader.specs.declared.parts.PartFail.TheVariants as why
+use Rattle.page_sources.specs.declared.parts.Run.{Run}
+use Rattle.page_sources.specs.declared.parts.Run.TheVariants.{Hole, Units, InMemory}
+use Rattle.page_sources.specs.declared.parts.PartFail.{PartFail}
+use Rattle.page_sources.specs.declared.parts.PartFail.TheVariants as why
+
+-- why pages weren't read, where the device says why
+abbrev pub part_fail_of : Failed → PartFail
+part_fail_of failed.Memory = why.Memory
+part_fail_of failed.Fault = why.Fault
 
 -- the units that pages stand on are few
 abbrev pub HaveFewUnits : List Extent → Type 0
@@ -94,21 +100,3 @@ IsPartFail memory d pages first count fail = Unit {0}
 abbrev pub IsUnitsFail : Disk → ℕ → ℕ → List ℕ → PartFail → Type 0
 IsUnitsFail d at count sums (why.BadPage bad) = (bytes : List ℕ) × HasRead d at count bytes × IsMismatch at count bytes sums bad
 IsUnitsFail d at count sums fail = Unit {0}
-
--- of each object of this size with these pages, the bytes of a range
-pub record GivesRange (memory : ℕ → Option (List ℕ)) (d : Disk) (pages : List Extent) (size off len : ℕ) (bytes : List ℕ) : Type 0 where
-  pub whole : List ℕ
-  pub good : GivesPages memory d pages (off / 4096) (pages_read size off len) whole
-  pub cut : bytes ≡ take (read_end size off len - off) (drop (off % 4096) whole)
-
--- so many pages from page 0 on were read, and this is the remainder of their bytes below a size
-pub record IsDigestOf (memory : ℕ → Option (List ℕ)) (d : Disk) (pages : List Extent) (size count digest : ℕ) : Type 0 where
-  pub whole : List ℕ
-  pub good : GivesPages memory d pages 0 count whole
-  pub remains : digest ≡ remainder all_ones (take size whole)
-
--- of each object of this size with these pages, the checksum of its bytes
-pub record GivesSum (memory : ℕ → Option (List ℕ)) (d : Disk) (pages : List Extent) (size crc : ℕ) : Type 0 where
-  pub bytes : List ℕ
-  pub gives : GivesRange memory d pages size 0 size bytes
-  pub is : crc ≡ crc32c bytes

@@ -1,6 +1,6 @@
 use Rattle.std.proofs.Common.{◌≡◌, ◌+◌, ◌-◌, ◌*◌, ap, take, drop, arith}
 use Rattle.byte_maps.specs.Units.{unit_at}
-use Rattle.object_reader.proofs.parts.page_at.Goals as goal
+use Rattle.page_sources.proofs.parts.page_at.Goals as goal
 
 pub returns : goal.returns
 unfolding unit_at

@@ -1,8 +1,8 @@
 use Rattle.std.proofs.Common.{◌≡◌, ◌+◌, ◌∙◌, None, refl, sym, subst}
 use Rattle.page_lookup.specs.Prelude.{place_found}
-use Rattle.object_reader.specs.Parts.{HaveFewUnits}
-use Rattle.object_reader.proofs.PartLemmas.{one_hole, hole_more}
-use Rattle.object_reader.proofs.parts.hole_pages.Goals as goal
+use Rattle.page_sources.specs.Parts.{HaveFewUnits}
+use Rattle.page_sources.proofs.PartLemmas.{one_hole, hole_more}
+use Rattle.page_sources.proofs.parts.hole_pages.Goals as goal
 
 pub loop-i-init : goal.loop-i-init
 loop-i-init c = (refl, one_hole c.args.pages.now c.args.first c.requires.hole)

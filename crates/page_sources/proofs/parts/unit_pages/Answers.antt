@@ -1,9 +1,9 @@
 use Rattle.std.proofs.Common.{◌≡◌, ◌+◌, ◌∙◌, Some, refl, sym, subst, arith}
 use Rattle.row_format.specs.Prelude.{own}
 use Rattle.page_lookup.specs.Prelude.{place_found}
-use Rattle.object_reader.specs.Parts.{HaveFewUnits}
-use Rattle.object_reader.proofs.PartLemmas.{kept_more}
-use Rattle.object_reader.proofs.parts.unit_pages.Goals as goal
+use Rattle.page_sources.specs.Parts.{HaveFewUnits}
+use Rattle.page_sources.proofs.PartLemmas.{kept_more}
+use Rattle.page_sources.proofs.parts.unit_pages.Goals as goal
 
 pub loop-i-init : goal.loop-i-init
 loop-i-init c = (refl, c.requires.stands)

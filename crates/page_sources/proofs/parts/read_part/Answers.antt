@@ -1,8 +1,8 @@
 use Rattle.std.proofs.Common.{◌-◌, arith}
 use Rattle.write_buffers.specs.Prelude.{memory_in}
-use Rattle.object_reader.specs.Parts.{IsPartFail}
-use Rattle.object_reader.proofs.PartLemmas.{run_free, good_holes, good_units, on_units, sums_checked, hole_sums, units_fail, fails_of_more, handed_on, good_copy, copy_sums}
-use Rattle.object_reader.proofs.parts.read_part.Goals as goal
+use Rattle.page_sources.specs.Parts.{IsPartFail}
+use Rattle.page_sources.proofs.PartLemmas.{run_free, good_holes, good_units, on_units, sums_checked, hole_sums, units_fail, fails_of_more, handed_on, good_copy, copy_sums}
+use Rattle.page_sources.proofs.parts.read_part.Goals as goal
 
 pub read_units-requires-clause-free : goal.read_units-requires-clause-free
 read_units-requires-clause-free g c =

@@ -1,7 +1,7 @@
 use Rattle.std.proofs.Common.{◌∙◌, ap, refl, sym, arith}
 use Rattle.crc32c_csum.specs.Prelude.{crc32c}
-use Rattle.object_reader.proofs.PartLemmas.{sums_more}
-use Rattle.object_reader.proofs.parts.first_mismatch.Goals as goal
+use Rattle.page_sources.proofs.PartLemmas.{sums_more}
+use Rattle.page_sources.proofs.parts.first_mismatch.Goals as goal
 
 pub loop-i-init : goal.loop-i-init
 loop-i-init c = λ i lt. absurd (omega (arith, lt))

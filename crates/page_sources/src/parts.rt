@@ -6,9 +6,8 @@ ghost use Rattle.crc32c_csum.specs.Prelude.{crc32c};
 ghost use Rattle.row_format.specs.Prelude.{own};
 ghost use Rattle.block_device.specs.Prelude.{HasRead, IsNotInFlight, Rose};
 ghost use Rattle.write_buffers.specs.Prelude.{memory_in};
-ghost use Rattle.object_reader.specs.Parts.{HaveFewUnits, CanRead, AreHoles, AreKept, AreSums, IsRun, IsMismatch, IsUnitsFail, GivesPages, IsPartFail};
-ghost use Rattle.object_reader.specs.PartFails.{part_fail_of};
-ghost use Rattle.object_reader.specs.declared.parts.PartFail.TheVariants.{Memory};
+ghost use Rattle.page_sources.specs.Parts.{part_fail_of, HaveFewUnits, CanRead, AreHoles, AreKept, AreSums, IsRun, IsMismatch, IsUnitsFail, GivesPages, IsPartFail};
+ghost use Rattle.page_sources.specs.declared.parts.PartFail.TheVariants.{Memory};
 
 use block_device::{Device, Failed};
 use crc32c_csum::crc32c;
@@ -206,7 +205,7 @@ fn first_mismatch(at: u32, count: u32, sums: &Sums, part: &[u8]) -> Option<BadSu
 }
 
 // Reads consecutive units, and compares the checksum of each.
-fn read_units<D: Device>(
+pub(crate) fn read_units<D: Device>(
     device: &mut D,
     at: u32,
     count: u32,

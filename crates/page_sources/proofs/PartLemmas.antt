@@ -12,15 +12,14 @@ use Rattle.block_device.specs.Prelude.{last, HasNoBadDone, Disk, History, HasRea
 use Rattle.meta_rows.specs.Prelude.{Rows}
 use Rattle.row_format.specs.Prelude.{Extent, Place, own}
 use Rattle.store_image.proofs.Prelude.{on_own}
-use Rattle.page_lookup.specs.Prelude.{place_found, HasUnit}
-use Rattle.onode_state.specs.Objects.{FindPagesOf}
+use Rattle.page_lookup.specs.Prelude.{place_found, HasUnit, FindPagesOf}
 use Rattle.read_facts.specs.declared.view.BadSum.{BadSum}
 use Rattle.read_facts.specs.Prelude.{IsHeldAt, IsGoodPage, hole, mapped, AreGoodPages, IsFirstBad}
 use Rattle.read_facts.proofs.Pages.{good_appended, none_good, bad_behind_good}
 use Rattle.write_buffers.specs.Prelude.{AreNotIn}
-use Rattle.object_reader.specs.declared.parts.PartFail.{PartFail}
-use Rattle.object_reader.specs.declared.parts.PartFail.TheVariants as why
-use Rattle.object_reader.specs.Parts.{HaveFewUnits, CanRead, AreHoles, IsOnUnit, AreOnUnits, AreKept, IsChecked, AreChecked, AreSums, IsMismatch, GivesPages, GivesBad, IsPartFail, IsUnitsFail}
+use Rattle.page_sources.specs.declared.parts.PartFail.{PartFail}
+use Rattle.page_sources.specs.declared.parts.PartFail.TheVariants as why
+use Rattle.page_sources.specs.Parts.{HaveFewUnits, CanRead, AreHoles, IsOnUnit, AreOnUnits, AreKept, IsChecked, AreChecked, AreSums, IsMismatch, GivesPages, GivesBad, IsPartFail, IsUnitsFail}
 
 -- so each of the units has a number of 32 bits
 pub has_unit : (pages : List Extent) (page : ℕ) → HaveFewUnits pages → HasUnit pages page
@@ -129,7 +128,7 @@ held_by : (told : Option History) (at count i : ℕ) (bytes : List ℕ) → i < 
 held_by None at count i bytes lt units = tt
 held_by (Some h) at count i bytes lt units = units i lt
 
-held : (d : Disk) (at count i : ℕ) (bytes : List ℕ) → HasRead d at count bytes → i < count → IsHeldAt d (at + i) (unit_at i bytes)
+pub held : (d : Disk) (at count i : ℕ) (bytes : List ℕ) → HasRead d at count bytes → i < count → IsHeldAt d (at + i) (unit_at i bytes)
 held d at count i bytes read lt = held_by d.history at count i bytes lt read.units
 
 -- a page whose unit isn't in memory and that was read, with the checksum that is kept for it, is good

@@ -1,5 +1,0 @@
-use Rattle.object_reader.specs.Parts.{AreSums}
-use Rattle.object_reader.proofs.parts.first_mismatch.Given as goal
-
-abbrev pub invariant-loop-i : goal.invariant-loop-i
-invariant-loop-i l = AreSums l.i l.part l.sums

@@ -125,6 +125,7 @@ module _ (opening : Objects) (s : State) (client line : ℕ) (command : Command)
 pub cause_refuses : (change : Change) (s : State) (d : Disk) (a : Answer) → IsCause a change s d → accepted_change (ask.Change change) a ≡ None
 cause_refuses change s d (answer.Refused refusal) cause = refl
 cause_refuses change s d (answer.NoSpace need free) cause = refl
+cause_refuses change s d (answer.Csum unit kept found) cause = refl
 cause_refuses change s d (answer.MetaFull need room) cause = refl
 cause_refuses change s d a cause = absurd cause
 
@@ -138,6 +139,7 @@ module _ (opening : Objects) (s : State) (d : Disk) (client line : ℕ) (change 
   cause_answers : (a : Answer) → IsCause a change s d → IsAnsweredAlike objects_now (noting a)
   cause_answers (answer.Refused refusal) cause = inl (sym (cause objects_now book.shape))
   cause_answers (answer.NoSpace need free) cause = inr (refl, cause.0 objects_now book.shape)
+  cause_answers (answer.Csum unit kept found) cause = inr (refl, cause.not_refused objects_now book.shape)
   cause_answers (answer.MetaFull need room) cause = inr (refl, cause.0 objects_now book.shape)
   cause_answers a cause = absurd cause
 

@@ -44,7 +44,7 @@ down_keeps s d s' d' (inr still) = subst (KeepBook s) (sym still.state)
 record IsBookFact (K : State → Type 0) : Type 0 where
   stays : (s s' : State) → KeepBook s s' → K s → K s'
   accepts : (s : State) (d : Disk) (s' : State) (client line : ℕ) (change : Change) → PlansKeep → IsKept s d → IsKnown change.ops
-      → Accepts client line change s s' → K s → K s'
+      → Accepts client line change s d s' → K s → K s'
   replies : (s : State) (d : Disk) (s' : State) → Replies s d s' → K s → K s'
   takes : (s : State) (x : Context) → s.batch ≡ None → IsFirst [] x s.pending → Ascends (map (λ z. z.place) s.pending) → K s → K (taken_up x s)
   commits : (s : State) (b : Batch) → K s → K (committed_batch b s)

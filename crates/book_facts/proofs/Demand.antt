@@ -6,7 +6,7 @@ use Rattle.std.specs.Prelude.{◌||◌}
 use Rattle.object_model.specs.declared.command.Answer.TheVariants as answer
 use Rattle.object_model.specs.declared.command.Command.TheVariants as ask
 use Rattle.read_facts.specs.Prelude.{IsHeldAt, HasReadNames, IsAnswerOf}
-use Rattle.plan_rows.specs.Prelude.{units_taken}
+use Rattle.plan_rows.specs.Prelude.{most_units, AsksAreFew}
 use Rattle.store_steps.specs.Prelude.{Call, submitting, reading, stepping, Calls, IsRun, State, free_count, IsCause, memory_of}
 use Rattle.run_facts.specs.Prelude.{IsKept}
 use Rattle.book_facts.specs.Prelude.{taken_by, units_asked, demanded_by, is_no_space, any_no_space}
@@ -65,12 +65,14 @@ module _ (free : ℕ) (s s' : State) (within : IsWithin free s) (keeps : KeepsSp
   }
 
 -- a cause of this kind tells both numbers
-cause_wants : (change : Change) (s : State) (d : Disk) (a : Answer) → IsCause a change s d → is_no_space a ≡ true
-    → free_count s.space < units_taken change.ops
-cause_wants change s d (answer.NoSpace need free) cause is = omega (arith, cause.1, cause.2, cause.3)
-cause_wants change s d (answer.Refused refusal) cause is = absurd cc
-cause_wants change s d (answer.MetaFull need room) cause is = absurd cc
-cause_wants change s d a cause is = absurd cause
+cause_wants : AsksAreFew → (change : Change) (s : State) (d : Disk) (a : Answer) → IsCause a change s d → is_no_space a ≡ true
+    → free_count s.space < most_units change.ops
+cause_wants asks change s d (answer.NoSpace need free) cause is =
+    omega (arith, asks (width_of s.log.sup) change s.submitted need cause.1.0 cause.1.1, cause.2, cause.3)
+cause_wants asks change s d (answer.Refused refusal) cause is = absurd cc
+cause_wants asks change s d (answer.Csum unit kept found) cause is = absurd cc
+cause_wants asks change s d (answer.MetaFull need room) cause is = absurd cc
+cause_wants asks change s d a cause is = absurd cause
 
 -- a read isn't answered so
 read_wants : (d : Disk) (s : State) (command : Command) (a : Answer) → HasReadNames command
@@ -83,8 +85,9 @@ read_wants d s (ask.List c) (answer.NoSpace need free) names given is = absurd g
 read_wants d s command (answer.NoSpace need free) names given is = absurd names
 read_wants d s command a names given is = absurd cc
 
-call_within : (free : ℕ) (call : Call) (s s' : State) (d d' : Disk) → PlansKeep → IsKept s d → Calls call s d s' d' → IsWithin free s → IsWithin free s'
-call_within free (submitting client line change) s s' d d' plans kept made within =
+call_within : (free : ℕ) (call : Call) (s s' : State) (d d' : Disk) → PlansKeep → AsksAreFew → IsKept s d → Calls call s d s' d' → IsWithin free s
+    → IsWithin free s'
+call_within free (submitting client line change) s s' d d' plans asks kept made within =
     let keeps = call_space (submitting client line change) s s' d d' plans kept made in
     elim made.1 [
       | inl does ↦ entry_within free s s' within keeps
@@ -92,10 +95,10 @@ call_within free (submitting client line change) s s' d d' plans kept made withi
           (ap (λ (z : State). z.book.entries) does.after) (λ is. absurd cc)
       | inr (inl refuses) ↦ entry_within free s s' within keeps
           (record { client = client; line = line; command = ask.Change change; answer = refuses.0; acks = s.acked })
-          (ap (λ (z : State). z.book.entries) refuses.1.after) (cause_wants change s d refuses.0 refuses.1.cause)
+          (ap (λ (z : State). z.book.entries) refuses.1.after) (cause_wants asks change s d refuses.0 refuses.1.cause)
       | inr (inr away) ↦ same_within free s s' within keeps (ap (λ (z : State). z.book.entries) away.same)
     ]
-call_within free (reading client line command) s s' d d' plans kept made within =
+call_within free (reading client line command) s s' d d' plans asks kept made within =
     let keeps = call_space (reading client line command) s s' d d' plans kept made in
     elim made.1 [
       | inl is ↦ entry_within free s s' within keeps
@@ -103,19 +106,20 @@ call_within free (reading client line command) s s' d d' plans kept made within 
           (ap (λ (z : State). z.book.entries) is.1.after) (read_wants d s command is.0 is.1.names is.1.given)
       | inr away ↦ same_within free s s' within keeps (ap (λ (z : State). z.book.entries) away.same)
     ]
-call_within free (stepping step) s s' d d' plans kept made within =
+call_within free (stepping step) s s' d d' plans asks kept made within =
     let leaves = step_room s d s' d' step kept made.0 made.1 in
     same_within free s s' within (call_space (stepping step) s s' d d' plans kept made) leaves.entries
 
 -- ---- runs
 
-run_within : (free : ℕ) (calls : List Call) (s s' : State) (d d' : Disk) → PlansKeep → IsKept s d → IsRun s d calls s' d' → IsWithin free s → IsWithin free s'
-run_within free [] s s' d d' plans kept run within = subst (IsWithin free) (sym run.0) within
-run_within free (call ∷ calls) s s' d d' plans kept run within =
+run_within : (free : ℕ) (calls : List Call) (s s' : State) (d d' : Disk) → PlansKeep → AsksAreFew → IsKept s d → IsRun s d calls s' d' → IsWithin free s
+    → IsWithin free s'
+run_within free [] s s' d d' plans asks kept run within = subst (IsWithin free) (sym run.0) within
+run_within free (call ∷ calls) s s' d d' plans asks kept run within =
     let t : State = run.0 in
     let e : Disk = run.1.0 in
-    run_within free calls t s' e d' plans (kept_call call s t d e plans kept run.1.1.0 run.1.1.1.0) run.1.1.1.1
-    (call_within free call s t d e plans kept run.1.1.0 within)
+    run_within free calls t s' e d' plans asks (kept_call call s t d e plans kept run.1.1.0 run.1.1.1.0) run.1.1.1.1
+    (call_within free call s t d e plans asks kept run.1.1.0 within)
 
 none_within : (s : State) → s.book.entries ≡ [] → IsWithin (free_count s.space) s
 none_within s empty = record {
@@ -124,7 +128,8 @@ none_within s empty = record {
   want = λ any. let none : any_no_space s.book.entries ≡ false = ap any_no_space empty in absurd cc;
 }
 
-pub want_is_beyond_the_demand : (calls : List Call) (s s' : State) (d d' : Disk) → PlansKeep → IsKept s d → s.book.entries ≡ [] → IsRun s d calls s' d'
+pub want_is_beyond_the_demand : (calls : List Call) (s s' : State) (d d' : Disk) → PlansKeep → AsksAreFew → IsKept s d → s.book.entries ≡ []
+    → IsRun s d calls s' d'
     → any_no_space s'.book.entries ≡ true → free_count s.space < demanded_by s'.book.entries
-want_is_beyond_the_demand calls s s' d d' plans kept empty run =
-    (run_within (free_count s.space) calls s s' d d' plans kept run (none_within s empty)).want
+want_is_beyond_the_demand calls s s' d d' plans asks kept empty run =
+    (run_within (free_count s.space) calls s s' d d' plans asks kept run (none_within s empty)).want

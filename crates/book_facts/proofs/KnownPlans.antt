@@ -18,12 +18,12 @@ pub record IsKnownPlan (s : State) (change : Change) (plan : Plan) : Type 0 wher
   pub takes : PlanTakes s.space change plan
 
 pub known_plan : PlansKeep → (s : State) (d : Disk) (client line : ℕ) (change : Change) (s' : State) → IsKept s d → IsKnown change.ops
-    → (does : Accepts client line change s s') → IsKnownPlan s change does.plan
+    → (does : Accepts client line change s d s') → IsKnownPlan s change does.plan
 known_plan plans s d client line change s' kept known does =
     let limits : IsSuper s.log.sup = kept.always.limits in
     let space : IsSpaceOf s.log.sup s.space = kept.always.space in
     let rows : AreRowsKept (rows_part s) = (kept.up does.can_note.up).rows in
-    let takes : PlanTakes s.space change does.plan = accepted_takes plans s client line change s' limits space rows known does in
+    let takes : PlanTakes s.space change does.plan = accepted_takes plans s d client line change s' limits space rows known does in
     record {
       good = submitted_good s limits space rows;
       suits = record {
@@ -31,7 +31,7 @@ known_plan plans s d client line change s' kept known does =
         unmarked = all_then (λ u. Contains (free_units s.space) u) (λ u. ¬ IsMarked s.submitted u) (fresh_units does.plan)
             (λ u free. ((submitted_free s limits space rows).free u free).2) takes.free;
       };
-      keeps = accepted_keeps plans s client line change s' limits space rows known does;
-      makes = accepted_makes plans s client line change s' limits space rows known does;
+      keeps = accepted_keeps plans s d client line change s' limits space rows known does;
+      makes = accepted_makes plans s d client line change s' limits space rows known does;
       takes = takes;
     }

@@ -6,7 +6,7 @@ use Rattle.std.proofs.lemmas.List.{length-map}
 use Rattle.object_model.specs.declared.command.Answer.TheVariants as answer
 use Rattle.object_model.specs.declared.command.Command.TheVariants as ask
 use Rattle.store_steps.specs.Prelude.{State, is_ready, Call, submitting, reading, stepping, DoesOrFails, Submits, Reads, Calls, IsRun, need_of, free_count, entered, Accepts, Refuses, ops_by, released_by, needs_by, RowsPart, rows_part, RowsGo, Footprint}
-use Rattle.plan_rows.specs.Prelude.{units_taken, fresh_units}
+use Rattle.plan_rows.specs.Prelude.{most_units, fresh_units}
 use Rattle.unit_allocator.proofs.FreeUnits.{listed_is_free}
 use Rattle.meta_store.specs.Store.{room_of}
 use Rattle.run_facts.specs.Prelude.{IsKept, HasRoom}
@@ -107,7 +107,7 @@ entered_space s client line command a none =
 
 module _ (s : State) (d : Disk) (client line : ℕ) (change : Change) (s' : State) (plans : PlansKeep) (kept : IsKept s d)
     (known : IsKnown change.ops) where
-  accepted_space : Accepts client line change s s' → KeepsSpace s s'
+  accepted_space : Accepts client line change s d s' → KeepsSpace s s'
   accepted_space does = subst (KeepsSpace s) (sym does.after) (
       let is : IsKnownPlan s change does.plan = known_plan plans s d client line change s' kept known does in
       let units : List ℕ = fresh_units does.plan in
@@ -115,10 +115,10 @@ module _ (s : State) (d : Disk) (client line : ℕ) (change : Change) (s' : Stat
       let free = count_taken units s.space is.keeps.ascend
       (all_then (λ u. Contains (free_units s.space) u) (λ u. IsWithin s.space u × (is_free s.space u ≡ true)) units
       (λ u c. let found = listed_is_free s.space u c in (found.within, found.free)) is.takes.free) in
-      let count : length units ≤ units_taken change.ops =
+      let count : length units ≤ most_units change.ops =
       let long = length-map does.plan.fresh (λ (f : FreshUnit). f.unit) in omega (arith, long, is.takes.within) in
       let more = taken_push s.book.entries entry in
-      let here : taken_by (entry ∷ []) ≡ units_taken change.ops + 0 = refl in
+      let here : taken_by (entry ∷ []) ≡ most_units change.ops + 0 = refl in
       omega (arith, free, count, more, here))
 
   refused_space : (a : Answer) → Refuses client line change a s d s' → KeepsSpace s s'
@@ -161,7 +161,7 @@ want_of_space calls s s' t d d' client line need free change plans kept empty ru
 -- ---- room in the log
 
 pub accepted_room : (s s' : State) (d : Disk) (client line : ℕ) (change : Change) → IsKept s d → IsKnown change.ops
-    → (a : Accepts client line change s s') → room_of s'.log + need_of s.log a.plan ≡ room_of s.log
+    → (a : Accepts client line change s d s') → room_of s'.log + need_of s.log a.plan ≡ room_of s.log
 accepted_room s s' d client line change kept known a =
     ap (λ (t : State). room_of t.log + need_of s.log a.plan) a.after
     ∙ by_number s.log.sup.half s.log.tail s.log.reserved (need_of s.log a.plan) a.fits

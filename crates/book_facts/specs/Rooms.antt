@@ -8,21 +8,21 @@ use Rattle.object_model.specs.declared.command.Answer.{Answer}
 use Rattle.object_model.specs.declared.command.Answer.TheVariants as answer
 use Rattle.object_model.specs.declared.command.Command.{Command}
 use Rattle.object_model.specs.declared.command.Command.TheVariants as ask
-use Rattle.plan_rows.specs.Prelude.{units_taken}
+use Rattle.plan_rows.specs.Prelude.{most_units}
 use Rattle.store_steps.specs.Prelude.{Call, submitting, reading, stepping, Submits, IsRun, State, need_of}
 
--- the units that transactions take
+-- the units that transactions take at most
 abbrev pub units_taken_by : List Change → ℕ
 units_taken_by [] = 0
-units_taken_by (change ∷ changes) = units_taken change.ops + units_taken_by changes
+units_taken_by (change ∷ changes) = most_units change.ops + units_taken_by changes
 
--- those that the accepted transactions of entries took
+-- those that the accepted transactions of entries took at most
 abbrev pub taken_by : List Entry → ℕ
 taken_by entries = units_taken_by (accepted entries)
 
--- the units that a command asks for: the pages that its write touches
+-- the units that a command asks for at most, whatever the rows are
 abbrev pub units_asked : Command → ℕ
-units_asked (ask.Change change) = units_taken change.ops
+units_asked (ask.Change change) = most_units change.ops
 units_asked other = 0
 
 -- those that commands ask for together, also where they are refused

@@ -6,7 +6,7 @@ ghost use Rattle.object_model.specs.Prelude.{Objects, Change, is_named, OneName}
 ghost use Rattle.object_model.specs.declared.command.Answer.TheVariants as answer;
 ghost use Rattle.store_image.specs.Prelude.{IsShape};
 ghost use Rattle.unit_allocator.specs.Prelude.{Space};
-ghost use Rattle.plan_rows.specs.Prelude.{PlansKeep, IsKnown};
+ghost use Rattle.plan_rows.specs.Prelude.{PlansKeep, AsksAreFew, IsKnown};
 ghost use Rattle.read_facts.specs.Prelude.{IsLegalButBytes};
 ghost use Rattle.store_steps.specs.declared.context.Context.{Context};
 ghost use Rattle.store_steps.specs.declared.step.Step.{Step};
@@ -56,8 +56,8 @@ pub fn a_run_makes_a_legal_book()
         IsRun s d calls s' d' → IsLegalButBytes opening s'.book }
 {}
 
-/// Free units go to accepted transactions alone: what was free before a run is free after it, or was taken by those accepted in it. So want
-/// of space comes only where the units of all transactions accepted since the mount and of the refused one are more than were free then.
+/// Free units go to accepted transactions alone: what was free before a run is free after it, or is within what those accepted in it take at
+/// most. So want of space comes only where that and what the refused one needs are together more than were free at the mount.
 pub fn space_suffices()
     ensures kept { (calls : List Call) (s s' : State) (d d' : Disk) → PlansKeep → IsKept s d → IsRun s d calls s' d'
         → free_count s.space + taken_by s.book.entries ≤ free_count s'.space + taken_by s'.book.entries }
@@ -69,15 +69,15 @@ pub fn space_suffices()
 /// In a run whose commands together ask for at most as many units as were free when it began, no transaction is refused for want of
 /// units.
 pub fn want_of_space_is_beyond_the_demand()
-    ensures { (calls : List Call) (s s' : State) (d d' : Disk) → PlansKeep → IsKept s d → s.book.entries ≡ [] → IsRun s d calls s' d'
-        → any_no_space s'.book.entries ≡ true → free_count s.space < demanded_by s'.book.entries }
+    ensures { (calls : List Call) (s s' : State) (d d' : Disk) → PlansKeep → AsksAreFew → IsKept s d → s.book.entries ≡ []
+        → IsRun s d calls s' d' → any_no_space s'.book.entries ≡ true → free_count s.space < demanded_by s'.book.entries }
 {}
 
 /// An accepted transaction lowers the room in the log by its need, and no step or read lowers it. So want of room comes only where the needs of
 /// all transactions accepted since the mount and of the refused one together are more than the room was then.
 pub fn room_suffices()
     ensures accepted { (client line : ℕ) (change : Change) (s s' : State) (d : Disk) → IsKept s d → IsKnown change.ops
-        → (a : Accepts client line change s s') → room_of s'.log + need_of s.log a.plan ≡ room_of s.log }
+        → (a : Accepts client line change s d s') → room_of s'.log + need_of s.log a.plan ≡ room_of s.log }
     ensures steps { (step : Step) (s s' : State) (d d' : Disk) → IsKept s d → is_ready step d.depth s ≡ true
         → DoesOrFails step s d s' d' → IsSound d' → room_of s.log ≤ room_of s'.log }
     ensures kept { (calls : List Call) (s s' : State) (d d' : Disk) → PlansKeep → IsKept s d → (run : IsRun s d calls s' d')

@@ -10,7 +10,7 @@ use Rattle.object_model.specs.declared.command.Command.TheVariants as ask
 use Rattle.meta_rows.specs.Prelude.{Rows}
 use Rattle.meta_log.specs.Prelude.{width_of, IsSuper}
 use Rattle.plan_rows.specs.declared.plan.Plan.{Plan}
-use Rattle.plan_rows.specs.Prelude.{PlanMakes}
+use Rattle.plan_rows.specs.Prelude.{HoldsRead, PlanMakes}
 use Rattle.store_steps.specs.declared.context.Context.{Context}
 use Rattle.store_steps.specs.Prelude.{Intent, intent_of, intents, CanJoin, Batch, State, context_of, accepted_with, applied_count, uncommitted, rows_part}
 use Rattle.run_facts.specs.Prelude.{AreRowsKept}
@@ -29,7 +29,7 @@ under_way_of opening s book = subst (AllByRecursion (IsOfEntry s.book.entries))
 module _ (opening : Objects) (s : State) (client line : ℕ) (change : Change) (plan : Plan) (h : History) (limits : IsSuper s.log.sup)
     (kept : AreRowsKept (rows_part s)) (makes : PlanMakes s.log.sup change s.submitted plan)
     (can : CanJoin s.log.sup s.log.rows (intents (uncommitted s)) (intent_of (context_of (length s.book.entries) change s.log plan)))
-    (book : KnownOfBook opening s) (stand : ContextsStand opening s h) where
+    (read : HoldsRead (held_or_last h (intents (uncommitted s))) plan) (book : KnownOfBook opening s) (stand : ContextsStand opening s h) where
   abbrev es : List Entry
   es = s.book.entries
 
@@ -52,7 +52,7 @@ module _ (opening : Objects) (s : State) (client line : ℕ) (change : Change) (
       (replay opening (applied_changes s)) (es ++ entry ∷ [])
   unfolding of_one
   stand_now = one_more_stands s.log.sup s.log.rows xs one limits kept.good kept.planned kept.apart can h (replay opening (applied_changes s)) es entry
-      (under_way_of opening s book) of_one (subst (λ (rows : Rows). PlanMakes s.log.sup change rows plan) kept.submitted makes) tt stand
+      (under_way_of opening s book) of_one plan.read (subst (λ (rows : Rows). PlanMakes s.log.sup change rows plan) kept.submitted makes) read stand
 
   -- the context is the last of those under way
   pushed : (let t : State = accepted_with client line change plan s in intents (uncommitted t) ≡ xs ++ one ∷ [])

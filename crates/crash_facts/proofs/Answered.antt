@@ -20,6 +20,7 @@ use Rattle.run_facts.specs.Prelude.{IsKept}
 use Rattle.book_facts.specs.Prelude.{KnownOfBook}
 use Rattle.book_facts.proofs.Prelude.{known_legal, answers_push, alike_last, step_room}
 use Rattle.crash_facts.specs.Store.{KnownOfStore, IsDurable}
+use Rattle.crash_facts.proofs.OldBytes.{meets_none}
 use Rattle.crash_facts.proofs.Submitted.{seen_at, submitted_stand, unread_good}
 use Rattle.flight_facts.proofs.Prelude.{all_join}
 
@@ -61,14 +62,17 @@ reply_no_csum command objects names = absurd names
 
 -- ---- a transaction
 
--- nor does the answer to one
-cause_no_csum : (a : Answer) (change : Change) (s : State) (d : Disk) → IsCause a change s d → IsNoCsum a
-cause_no_csum (answer.Refused refusal) change s d cause = tt
-cause_no_csum (answer.NoSpace need free) change s d cause = tt
-cause_no_csum (answer.MetaFull need room) change s d cause = tt
-cause_no_csum a change s d cause = absurd cause
+-- nor does the answer to one, since none of the units whose old bytes it asks for is bad
+cause_no_csum : (base : ℕ) (opening : Objects) (a : Answer) (change : Change) (s : State) (d : Disk) → IsKept s d → IsDurable base opening s d
+    → s.down ≡ None → IsCause a change s d → IsNoCsum a
+cause_no_csum base opening (answer.Refused refusal) change s d kept durable up cause = tt
+cause_no_csum base opening (answer.NoSpace need free) change s d kept durable up cause = tt
+cause_no_csum base opening (answer.Csum unit sum found) change s d kept durable up cause =
+    absurd (meets_none base opening s d durable.history kept up (durable.up up) change unit sum found cause)
+cause_no_csum base opening (answer.MetaFull need room) change s d kept durable up cause = tt
+cause_no_csum base opening a change s d kept durable up cause = absurd cause
 
--- what is known of its answer says all, since it reads no bytes
+-- what is known of its answer says all, since it gives no bytes
 submitted_one : (opening : Objects) (s : State) (client line : ℕ) (change : Change) (a : Answer) (es' : List Entry) → IsNoCsum a
     → (let e : Entry = record { client = client; line = line; command = ask.Change change; answer = a; acks = s.acked } in
     es' ≡ s.book.entries ++ e ∷ [] → AnswersAlikeFrom opening es' → AreAnswered opening s.book.entries → AreAnswered opening es')
@@ -78,14 +82,16 @@ submitted_one opening s client line change a es' no_csum same alike are =
     (alike_last opening s.book.entries e (subst (AnswersAlikeFrom opening) same alike)) no_csum)
 
 -- what a submission leaves
-submit_answers : (opening : Objects) (client line : ℕ) (change : Change) (s : State) (d : Disk) (s' : State) → AreAnswered opening s.book.entries
-    → KnownOfBook opening s' → Submits client line change s d s' → AreAnswered opening s'.book.entries
-submit_answers opening client line change s d s' are book (inl does) =
+submit_answers : (base : ℕ) (opening : Objects) (client line : ℕ) (change : Change) (s : State) (d : Disk) (s' : State) → IsKept s d
+    → IsDurable base opening s d → AreAnswered opening s.book.entries → KnownOfBook opening s' → Submits client line change s d s'
+    → AreAnswered opening s'.book.entries
+submit_answers base opening client line change s d s' kept durable are book (inl does) =
     submitted_one opening s client line change answer.Accepted s'.book.entries tt (ap (λ (t : State). t.book.entries) does.after) book.answers are
-submit_answers opening client line change s d s' are book (inr (inl (a, refuses))) =
-    submitted_one opening s client line change a s'.book.entries (cause_no_csum a change s d refuses.cause)
+submit_answers base opening client line change s d s' kept durable are book (inr (inl (a, refuses))) =
+    submitted_one opening s client line change a s'.book.entries
+    (cause_no_csum base opening a change s d kept durable refuses.can_note.up refuses.cause)
     (ap (λ (t : State). t.book.entries) refuses.after) book.answers are
-submit_answers opening client line change s d s' are book (inr (inr turned)) =
+submit_answers base opening client line change s d s' kept durable are book (inr (inr turned)) =
     subst (λ (t : State). AreAnswered opening t.book.entries) (sym turned.same) are
 
 -- ---- a read
@@ -121,7 +127,7 @@ call_answers base opening call s s' d d' kept durable book' made = of_call call 
     are = record { answers = durable.answers; no_csum = durable.no_csum }
 
     of_call : (c : Call) → Calls c s d s' d' → AreAnswered opening s'.book.entries
-    of_call (submitting client line change) does = submit_answers opening client line change s d s' are book' does.1
+    of_call (submitting client line change) does = submit_answers base opening client line change s d s' kept durable are book' does.1
     of_call (reading client line command) does = read_answers base opening client line command s s' d kept durable are does.1
     of_call (stepping step) does = subst (AreAnswered opening) (sym (step_room s d s' d' step kept does.0 does.1).entries) are
 

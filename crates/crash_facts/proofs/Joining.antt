@@ -15,6 +15,8 @@ use Rattle.object_model.specs.declared.op.Refusal.{Refusal}
 use Rattle.object_model.proofs.Replays.{replay-append, replay-by_collections}
 use Rattle.store_image.specs.Prelude.{IsOwned, IsMarked, ObjectsStand}
 use Rattle.store_image.proofs.Prelude.{objects_stand, page_owned}
+use Rattle.plan_rows.specs.declared.plan.Plan.{Plan}
+use Rattle.plan_rows.specs.declared.plan.ReadUnit.{ReadUnit}
 use Rattle.plan_rows.specs.Prelude.{HoldsFresh, fresh_units, IsGood, Suits, HoldsRead, PlanMakes}
 use Rattle.selections.specs.Fair.{under, HasLast}
 use Rattle.selections.proofs.Selecting.{own_last, other_last, other_inside, with_last, all_selected}
@@ -78,13 +80,16 @@ entry_changes es e (x ∷ xs) are =
 module _ (sup : Super) (rows : Rows) (xs : List Intent) (x : Intent) (limits : IsSuper sup) (good : IsGood sup rows)
     (each : EachIsPlanned sup rows xs) (apart : AreTakenApart rows xs) (can : CanJoin sup rows xs x) (h : History) (objects : Objects)
     (es : List Entry) (e : Entry) (of_entries : AllByRecursion (IsOfEntry es) xs) (of_x : IsOfEntry (es ++ e ∷ []) x)
-    (makes : PlanMakes sup of_x.change (rows_by rows xs) (plan_of x)) (reads : HoldsRead (held_or_last h xs) (plan_of x))
-    (stand : SelectionsStand (width_of sup) (held_or_last h xs) rows xs objects es) where
+    (read : List ReadUnit) (makes : PlanMakes sup of_x.change (rows_by rows xs) (record (plan_of x) { read = read }))
+    (reads : HoldsRead (held_or_last h xs) (record (plan_of x) { read = read })) (stand : SelectionsStand (width_of sup) (held_or_last h xs) rows xs objects es) where
   abbrev w : Width
   w = width_of sup
 
   abbrev more : List Entry
   more = es ++ e ∷ []
+
+  abbrev plan : Plan
+  plan = record (plan_of x) { read = read }
 
   abbrev at : ℕ → List ℕ
   at = held_or_last h xs
@@ -130,9 +135,13 @@ module _ (sup : Super) (rows : Rows) (xs : List Intent) (x : Intent) (limits : I
     abbrev was : Objects
     was = replay objects (changes_of es rest)
 
-    suits : Suits (names_of of_x.change) (rows_by rows xs) (plan_of x) before
-    suits = subst (λ (names : List (List ℕ)). Suits names (rows_by rows xs) (plan_of x) before) (sym of_x.same_names)
+    unread_suits : Suits (names_of of_x.change) (rows_by rows xs) (plan_of x) before
+    unread_suits = subst (λ (names : List (List ℕ)). Suits names (rows_by rows xs) (plan_of x) before) (sym of_x.same_names)
         (suits_last sup rows xs x limits good each apart can some has)
+
+    -- whatever old bytes were read
+    suits : Suits (names_of of_x.change) (rows_by rows xs) plan before
+    suits = record { agree = unread_suits.agree; unmarked = unread_suits.unmarked }
 
     is_good : IsGood sup before
     is_good = selection_good sup rows xs good each rest has.without

@@ -6,6 +6,7 @@ pub mod Admitting
 pub mod Standing
 pub mod Now
 pub mod Submitted
+pub mod OldBytes
 pub mod Answered
 pub mod Cuts
 pub mod Runs

@@ -29,6 +29,7 @@ use Rattle.unit_facts.proofs.Runs.{idle_half, drained_clean}
 use Rattle.crash_facts.specs.Store.{contents_at, KnownOfStore, IsDurable, IsMounted}
 use Rattle.crash_facts.proofs.Submitted.{idle_objects}
 use Rattle.crash_facts.proofs.Answered.{AreAnswered, call_answers}
+use Rattle.crash_facts.proofs.OldBytes.{old_bytes}
 use Rattle.crash_facts.proofs.Standing.{footprint_stand}
 use Rattle.crash_facts.proofs.Exact.{rows_exact, exact_none, footprint_exact}
 use Rattle.crash_facts.proofs.Now.{now_stands, size_now}
@@ -58,7 +59,8 @@ module _ (base : ℕ) (opening : Objects) (call : Call) (s s' : State) (d d' : D
       let known : KnownOfStore base opening s' d' h' = record {
         units = units;
         book = book';
-        stand = footprint_stand opening s s' d d' h plans kept before (size_now s d h kept durable.told) store.units.held durable.book store.stand f;
+        stand = footprint_stand opening s s' d d' h plans kept before (size_now s d h kept durable.told) store.units.held durable.book store.stand
+            (old_bytes base opening s s' d h kept before store) f;
         exact = footprint_exact base s s' d d' h f kept' up (omega (arith, durable.counted)) store.exact;
       } in
       let now : LeavesPrefix base h'.start opening s'.book h'.log = now_stands base opening s' d' h' kept' up known in

@@ -21,7 +21,8 @@ use Rattle.store_steps.specs.DataGoes as units
 use Rattle.store_steps.specs.BookGoes as book
 use Rattle.run_facts.specs.Prelude.{IsKept, IsSpaceOf, AreRowsKept}
 use Rattle.run_facts.proofs.Prelude.{accepted_makes, accepted_joins, batch_written, given_of_all, all_left, all_right}
-use Rattle.plan_rows.specs.Prelude.{PlansKeep}
+use Rattle.plan_rows.specs.declared.plan.Plan.{Plan}
+use Rattle.plan_rows.specs.Prelude.{HoldsRead, PlansKeep}
 use Rattle.space_facts.proofs.Prelude.{selection_good, each_named}
 use Rattle.plan_rows.proofs.OnData.{owned_on_data}
 use Rattle.book_facts.specs.Prelude.{IsOfEntry, KnownOfBook, IsFairSelection, applied_changes, changes_of, SelectionsStand}
@@ -120,16 +121,21 @@ changes_acknowledged events p q xs same = subst (λ (r : BookPart). AreSameChang
 
 -- ---- a transaction is accepted
 
+-- the units whose old bytes it was planned over are to hold these, once all that is under way has reached the device
+abbrev pub HoldsOldBytes : State → History → Plan → Type 0
+HoldsOldBytes s h plan = HoldsRead (held_or_last h (intents (uncommitted s))) plan
+
 accepts_stand : (opening : Objects) (s : State) (d : Disk) (s' : State) (h : History) → PlansKeep → IsKept s d → s.down ≡ None
-    → KnownOfBook opening s → ContextsStand opening s h → AcceptsOne s d s' → ContextsStand opening s' h
-accepts_stand opening s d s' h plans kept up known stand one =
+    → KnownOfBook opening s → ContextsStand opening s h → (one : AcceptsOne s d s') → HoldsOldBytes s h one.accepts.plan
+    → ContextsStand opening s' h
+accepts_stand opening s d s' h plans kept up known stand one read =
     let limits : IsSuper s.log.sup = kept.always.limits in
     let space : IsSpaceOf s.log.sup s.space = kept.always.space in
     let rows : AreRowsKept (rows_part s) = (kept.up up).rows in
     subst (λ (t : State). ContextsStand opening t h) (sym one.accepts.after)
     (accept_stand opening s one.client one.line one.change one.accepts.plan h limits rows
-    (accepted_makes plans s one.client one.line one.change s' limits space rows one.known one.accepts)
-    (accepted_joins plans s one.client one.line one.change s' limits space rows one.known one.accepts) known stand)
+    (accepted_makes plans s d one.client one.line one.change s' limits space rows one.known one.accepts)
+    (accepted_joins plans s d one.client one.line one.change s' limits space rows one.known one.accepts) read known stand)
 
 -- ---- the batch is committed
 
@@ -152,7 +158,7 @@ commits_stand opening s d s' d' h kept up held known stand does =
 
 module _ (opening : Objects) (s s' : State) (d d' : Disk) (h : History) (plans : PlansKeep) (kept : IsKept s d)
     (up : s.down ≡ None) (size : IsUnits s.log.sup.units (last h.start h.log)) (held : HeldBytesAreLast h (given_fresh (uncommitted s))) (known : KnownOfBook opening s)
-    (stand : ContextsStand opening s h) where
+    (stand : ContextsStand opening s h) (reads : (one : AcceptsOne s d s') → HoldsOldBytes s h one.accepts.plan) where
   abbrev xs : List Intent
   xs = intents (uncommitted s)
 
@@ -215,7 +221,7 @@ module _ (opening : Objects) (s s' : State) (d d' : Disk) (h : History) (plans :
       same_stand xs (λ n. refl) is (λ some of. changes_acknowledged s.events (book_part s) (book_part s') some same) t u placed
   of_parts t u placed (rows.reorders later order is) (book.commits more none same) caused =
       same_stand later order is (λ some of. changes_committed (book_part s) (book_part s') more some same of) t u placed
-  of_parts t u placed (rows.joins x is) (book.enters e entered) caused = accepts_stand opening s d s' h plans kept up known stand caused
+  of_parts t u placed (rows.joins x is) (book.enters e entered) caused = accepts_stand opening s d s' h plans kept up known stand caused (reads caused)
   of_parts t u placed (rows.applies number front back both fits is) (book.applies count all counted) caused =
       commits_stand opening s d s' d' h kept up held known stand caused.does
   of_parts t u placed go b caused = absurd caused

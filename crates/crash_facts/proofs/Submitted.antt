@@ -35,6 +35,11 @@ with_found (f ∷ fs) at unit = by_test (f.unit == unit) (with_found fs at unit)
 abbrev pub seen_at : State → History → ℕ → List ℕ
 seen_at s h unit = unwrap_or (memory_of s unit) (last_at h unit)
 
+-- and what units are to hold once all that is under way has reached the device is that
+pub held_is_seen : (s : State) (h : History) (unit : ℕ) → held_or_last h (intents (uncommitted s)) unit ≡ seen_at s h unit
+held_is_seen s h unit = ap (λ (fs : List FreshUnit). bytes_with fs (last_at h) unit) (fresh_are (uncommitted s))
+    ∙ with_found (all_fresh (uncommitted s)) (last_at h) unit
+
 module _ (base : ℕ) (opening : Objects) (s : State) (d : Disk) (h : History) (kept : IsKept s d) (up : s.down ≡ None)
     (known : KnownOfStore base opening s d h) where
   abbrev xs : List Intent
@@ -53,8 +58,7 @@ module _ (base : ℕ) (opening : Objects) (s : State) (d : Disk) (h : History) (
   -- so they stand for the objects after all accepted transactions
   pub submitted_stand : ObjectsStand (width_of s.log.sup) (seen_at s h) s.submitted objects
   submitted_stand = objects_stand (width_of s.log.sup) (held_or_last h xs) (seen_at s h) s.submitted
-      (λ unit has. ap (λ (fs : List FreshUnit). bytes_with fs (last_at h) unit) (fresh_are (uncommitted s))
-      ∙ with_found (all_fresh (uncommitted s)) (last_at h) unit) objects held_stand
+      (λ unit has. held_is_seen s h unit) objects held_stand
 
   -- each ticket has one end
   answered_once : IsAnsweredOnce h.log

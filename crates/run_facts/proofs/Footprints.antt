@@ -30,7 +30,7 @@ given_push [] (y ∷ xs) x none = ap (λ (fs : List FreshUnit). take y.given y.f
 given_push (y ∷ front) xs x none = ap (λ (fs : List FreshUnit). take y.given y.fresh ++ fs) (given_push front xs x none)
 
 accept_footprint : (client line : ℕ) (change : Change) (s : State) (d : Disk) (s' : State) (d' : Disk) → d' ≡ d → IsKnown change.ops
-    → Accepts client line change s s' → Footprint s d s' d'
+    → Accepts client line change s d s' → Footprint s d s' d'
 accept_footprint client line change s d s' d' same known does =
     let x : Context = context_of (length s.book.entries) change s.log does.plan in
     let front : List Context = option_map_or (λ (b : Batch). b.contexts) s.batch [] in
@@ -50,7 +50,7 @@ accept_footprint client line change s d s' d' same known does =
         line = line;
         change = change;
         known = known;
-        accepts = subst (λ (t : State). Accepts client line change s t) does.after does;
+        accepts = subst (λ (t : State). Accepts client line change s d t) does.after does;
       };
     })
 

@@ -139,7 +139,7 @@ joined_rows s client line change plan =
     (intents_push (option_map_or (λ (b : Batch). b.contexts) s.batch []) s.pending (context_of (length s.book.entries) change s.log plan))
 
 module _ (keep : PlansKeep) (s : State) (d : Disk) (client line : ℕ) (change : Change) (s' : State) (kept : IsKept s d) (known : IsKnown change.ops)
-    (does : Accepts client line change s s') where
+    (does : Accepts client line change s d s') where
   up : s.down ≡ None
   up = does.can_note.up
 
@@ -171,7 +171,7 @@ module _ (keep : PlansKeep) (s : State) (d : Disk) (client line : ℕ) (change :
   more : work_left t ≤ work_left s + entry_work
   more = much (length s.flying) (sum_work s.pending) (sum_work (s.pending ++ x ∷ [])) (length does.plan.fresh) (need_of s.log does.plan)
       s.log.sup.half s.log.tail s.log.reserved (option_map_or (batch_work s.log) s.batch 0) (applied_count s - s.acked) (sum_both s.pending (x ∷ []))
-      (accepted_few keep s client line change s' a.limits a.space were known does) does.fits a.limits.half_most
+      (accepted_few keep s d client line change s' a.limits a.space were known does) does.fits a.limits.half_most
     where
       pieces : (need half tail reserved : ℕ) → need ≤ half - tail - reserved → half ≤ 65536 → piece_count need ≤ 1024
       pieces need half tail reserved fits most = omega (arith, fits, most)
@@ -207,13 +207,13 @@ module _ (keep : PlansKeep) (s : State) (d : Disk) (client line : ℕ) (change :
     up = λ _. record {
       flights = matches_push s t d.flights entry refl
           (one_more_waits s.log t.log (length s.book.entries) s.pending s.batch s.flying d.flights x refl refl refl refl (kept.up up).flights);
-      rows = rows_go (rows_part s) (rows_part t) goes a.limits a.space (accepted_joins keep s client line change s' a.limits a.space were known does) were;
-      room = room_go (rows_part s) (rows_part t) goes (accepted_record keep s client line change s' a.limits a.space were known does, room) (kept.up up).room;
+      rows = rows_go (rows_part s) (rows_part t) goes a.limits a.space (accepted_joins keep s d client line change s' a.limits a.space were known does) were;
+      room = room_go (rows_part s) (rows_part t) goes (accepted_record keep s d client line change s' a.limits a.space were known does, room) (kept.up up).room;
     };
   })
 
 pub kept_accept : PlansKeep → (s s' : State) (d : Disk) (client line : ℕ) (change : Change) → IsKept s d → IsKnown change.ops
-    → Accepts client line change s s' → IsKept s' d
+    → Accepts client line change s d s' → IsKept s' d
 kept_accept keep s s' d client line change kept known does = accepted_kept keep s d client line change s' kept known does
 
 pub kept_refuse : (s s' : State) (d : Disk) (client line : ℕ) (change : Change) (a : Answer) → IsKept s d → IsKnown change.ops

@@ -138,13 +138,13 @@ module _ (s : State) (d : Disk) (kept : IsKept s d) (up : s.down ≡ None) where
   fresh_not_in_memory (f ∷ fresh) free = (free_not_in_memory f.unit free.0, fresh_not_in_memory fresh free.1)
 
   module _ (plans : PlansKeep) (client line : ℕ) (change : Change) (s' : State) (known : IsKnown change.ops)
-      (does : Accepts client line change s s') where
+      (does : Accepts client line change s d s') where
     pub accepted_not_in_memory : AllByRecursion (λ f. memory_of s f.unit ≡ None) does.plan.fresh
     accepted_not_in_memory = fresh_not_in_memory does.plan.fresh
-        (accepted_takes plans s client line change s' kept.always.limits kept.always.space (kept.up up).rows known does).free
+        (accepted_takes plans s d client line change s' kept.always.limits kept.always.space (kept.up up).rows known does).free
 
     pub accepted_ascend : Ascends (map (λ f. f.unit) does.plan.fresh)
-    accepted_ascend = (accepted_keeps plans s client line change s' kept.always.limits kept.always.space (kept.up up).rows known does).ascend
+    accepted_ascend = (accepted_keeps plans s d client line change s' kept.always.limits kept.always.space (kept.up up).rows known does).ascend
 
 -- ---- how it changes
 

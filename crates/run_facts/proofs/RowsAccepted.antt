@@ -1,7 +1,10 @@
 -- A transaction that is accepted has a plan over the submitted rows, by which it joins those under way.
-use Rattle.std.proofs.Common.{ℕ, ◌≤◌, List, length, sym, subst, arith}
-use Rattle.run_facts.proofs.Common.{IsSuper, Change, names_of, IsKnown, IsGood, PlansKeep}
-use Rattle.plan_rows.specs.Prelude.{AreFreeOver, PlanKeeps, PlanMakes, PlanTakes}
+use Rattle.std.proofs.Common.{ℕ, ◌≤◌, List, [], length, sym, subst, arith}
+use Rattle.unit_fields.specs.declared.width.Width.{Width}
+use Rattle.run_facts.proofs.Common.{Disk, IsSuper, width_of, Super, Change, names_of, IsKnown, IsGood, PlansKeep}
+use Rattle.meta_rows.specs.Prelude.{Rows, rows_after}
+use Rattle.plan_rows.specs.declared.plan.Plan.{Plan}
+use Rattle.plan_rows.specs.Prelude.{AreFreeOver, Suits, OwnsItsUnits, PlanKeeps, PlanMakes, PlanTakes}
 use Rattle.selections.proofs.Selecting.{fair_all}
 use Rattle.store_steps.specs.Prelude.{State, context_of, Accepts, Intent, intent_of, intents, is_in, CanJoin, uncommitted, rows_part}
 use Rattle.space_facts.proofs.Prelude.{selection_good, free_over, free_joins}
@@ -9,6 +12,30 @@ use Rattle.flight_facts.specs.Prelude.{FitsRecord}
 use Rattle.flight_facts.proofs.Prelude.{same_units}
 use Rattle.run_facts.specs.Prelude.{IsSpaceOf, AreRowsKept}
 use Rattle.run_facts.proofs.SpaceUnits.{within_data}
+
+-- ---- what a plan keeps hangs on none of the old bytes that were read for it
+
+unread_suits : (names : List (List ℕ)) (view : Rows) (plan : Plan) (rows : Rows) → Suits names view (record plan { read = [] }) rows
+    → Suits names view plan rows
+unread_suits names view plan rows suits = record { agree = suits.agree; unmarked = suits.unmarked }
+
+unread_owns : (w : Width) (names : List (List ℕ)) (before after : Rows) (plan : Plan) → OwnsItsUnits w names before after plan
+    → OwnsItsUnits w names before after (record plan { read = [] })
+unread_owns w names before after plan owns =
+    record { new = owns.new; left = owns.left; taken = owns.taken; was = owns.was; gone = owns.gone; once = owns.once }
+
+unread_keeps : (s : Super) (names : List (List ℕ)) (view : Rows) (plan : Plan) → PlanKeeps s names view plan
+    → PlanKeeps s names view (record plan { read = [] })
+unread_keeps s names view plan keeps = record {
+  of = keeps.of;
+  fit = keeps.fit;
+  fresh = keeps.fresh;
+  ascend = keeps.ascend;
+  good = λ rows suits. keeps.good rows (unread_suits names view plan rows suits);
+  exact = λ rows suits. keeps.exact rows (unread_suits names view plan rows suits);
+  owns = λ rows suits is. unread_owns (width_of s) names rows (rows_after rows plan.ops) plan
+      (keeps.owns rows (unread_suits names view plan rows suits) is);
+}
 
 -- ---- the submitted rows, and the free units over them
 
@@ -26,8 +53,8 @@ module _ (s : State) (limits : IsSuper s.log.sup) (space : IsSpaceOf s.log.sup s
 
 -- ---- the plan of an accepted transaction
 
-module _ (keep : PlansKeep) (s : State) (client line : ℕ) (change : Change) (s' : State) (limits : IsSuper s.log.sup)
-    (space : IsSpaceOf s.log.sup s.space) (kept : AreRowsKept (rows_part s)) (known : IsKnown change.ops) (does : Accepts client line change s s') where
+module _ (keep : PlansKeep) (s : State) (d : Disk) (client line : ℕ) (change : Change) (s' : State) (limits : IsSuper s.log.sup)
+    (space : IsSpaceOf s.log.sup s.space) (kept : AreRowsKept (rows_part s)) (known : IsKnown change.ops) (does : Accepts client line change s d s') where
   plans : PlanKeeps s.log.sup (names_of change) s.submitted does.plan
       × (PlanMakes s.log.sup change s.submitted does.plan × PlanTakes s.space change does.plan)
   plans = keep s.log.sup s.submitted s.space change does.plan (submitted_good s limits space kept) (submitted_free s limits space kept) known does.plans
@@ -43,7 +70,8 @@ module _ (keep : PlansKeep) (s : State) (client line : ℕ) (change : Change) (s
 
   pub accepted_joins : CanJoin s.log.sup s.log.rows (intents (uncommitted s)) (intent_of (context_of (length s.book.entries) change s.log does.plan))
   accepted_joins = free_joins s.log.sup s.log.rows (intents (uncommitted s)) (intent_of (context_of (length s.book.entries) change s.log does.plan)) s.space
-      kept.counted (subst (λ rows. PlanKeeps s.log.sup (names_of change) rows does.plan) kept.submitted accepted_keeps) accepted_takes.free
+      kept.counted (subst (λ rows. PlanKeeps s.log.sup (names_of change) rows (record does.plan { read = [] })) kept.submitted
+      (unread_keeps s.log.sup (names_of change) s.submitted does.plan accepted_keeps)) accepted_takes.free
 
   -- its context has room for its record
   pub accepted_record : FitsRecord (intent_of (context_of (length s.book.entries) change s.log does.plan))

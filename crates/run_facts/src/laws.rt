@@ -35,7 +35,7 @@ pub fn steps_keep()
 /// them good. What is turned away changes nothing.
 pub fn transactions_keep()
     ensures accepted { (client line : ℕ) (change : Change) (s s' : State) (d : Disk) → PlansKeep → IsKept s d → IsKnown change.ops
-        → Accepts client line change s s' → IsKept s' d }
+        → Accepts client line change s d s' → IsKept s' d }
     ensures refused { (client line : ℕ) (change : Change) (a : Answer) (s s' : State) (d : Disk) → IsKept s d → IsKnown change.ops
         → Refuses client line change a s d s' → IsKept s' d }
     ensures read { (client line : ℕ) (command : Command) (s s' : State) (d : Disk) → IsKept s d → Reads client line command s d s'

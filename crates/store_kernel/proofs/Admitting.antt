@@ -1,5 +1,6 @@
 -- What preparing and accepting a transaction is, in the words of the kernel's state.
-use Rattle.std.proofs.Common.{◌≡◌, None, Some, ℕ, ◌+◌, ◌<◌, ◌≤◌, ◌^◌, true, List, [], ◌∷◌, ◌++◌, length, map, Option, refl, sym, subst, arith}
+use Rattle.std.proofs.Common.{◌≡◌, None, Some, Ok, Err, ℕ, ◌+◌, ◌<◌, ◌≤◌, ◌^◌, List, [], ◌∷◌, ◌++◌, length, map, Contains, Option, refl, sym, subst, arith}
+use Rattle.std.specs.Prelude.{Result, IsErr, IsErrAnd, IfErr}
 use Rattle.std.specs.List.{AllByRecursion}
 use Rattle.block_device.specs.Prelude.{Disk}
 use Rattle.block_device.specs.declared.device.Ticket.{Ticket}
@@ -12,21 +13,31 @@ use Rattle.unit_fields.specs.Prelude.{Ascends}
 use Rattle.meta_rows.specs.Prelude.{Rows, rows_after, ops_bytes, AllFit}
 use Rattle.meta_log.specs.Prelude.{width_of}
 use Rattle.meta_store.specs.Store as meta
-use Rattle.unit_allocator.specs.Prelude.{Space, IsWithin, is_free, taken}
+use Rattle.unit_allocator.specs.Prelude.{Space, free_units, taken}
+use Rattle.unit_allocator.proofs.FreeUnits.{listed_is_free}
 use Rattle.plan_rows.specs.declared.plan.FreshUnit.{FreshUnit}
 use Rattle.plan_rows.specs.declared.plan.Plan.{Plan}
+use Rattle.plan_rows.specs.declared.plan.ReadUnit.{ReadUnit}
 use Rattle.plan_rows.specs.Prelude.{IsKnown, AreFreeOver, IsGood, PlanKeeps, PlanTakes}
 use Rattle.object_rows.specs.Prelude.{IsPlanned}
 use Rattle.object_rows.proofs.Planned.{plan_facts}
 use Rattle.object_rows.proofs.PlansKeep.{plans_keep}
-use Rattle.object_rows.proofs.Taking.{units_of, plan_takes_free, planned}
+use Rattle.object_rows.proofs.Taking.{units_of, planned}
 use Rattle.store_steps.specs.declared.context.Context.{Context}
 use Rattle.store_steps.specs.declared.flight.Flying.{Flying}
 use Rattle.store_steps.specs.Prelude.{State, CanNote, Accepts, accepted_with, need_of, memory_of}
 use Rattle.run_facts.specs.Prelude.{IsKept}
 use Rattle.run_facts.proofs.Prelude.{kept_submitted, kept_free, fresh_not_in_memory}
 use Rattle.onode_state.specs.Objects.{AreRowsOfAStore, AreRowsOfWidth}
-use Rattle.txn_planner.specs.PlanFails.{IsPlanFor}
+use Rattle.read_facts.specs.Prelude.{IsHeldAt, IsFound}
+use Rattle.page_sources.specs.Prelude.{IsPlacesFail}
+use Rattle.page_sources.specs.declared.parts.PartFail.{PartFail}
+use Rattle.page_sources.specs.declared.parts.PartFail.TheVariants as part
+use Rattle.txn_planner.specs.declared.planning.Draft.{Draft}
+use Rattle.txn_planner.specs.declared.planning.PlanFail.{PlanFail}
+use Rattle.txn_planner.specs.declared.planning.PlanFail.TheVariants as fail
+use Rattle.txn_planner.specs.Drafts.{places_of, IsDraftFor}
+use Rattle.txn_planner.specs.PlanFails.{IsPlanFor, IsPlanFail}
 use Rattle.store_kernel.specs.declared.batch.OpenBatch.{OpenBatch}
 use Rattle.store_kernel.specs.declared.prepared.Prepared.{Prepared}
 use Rattle.txn_states.specs.States.{context_of}
@@ -35,6 +46,9 @@ use Rattle.waiting_contexts.proofs.TiedLemmas.{found_last, not_lost}
 use Rattle.store_kernel.proofs.Sending.{few_between}
 use Rattle.store_image.specs.Prelude.{IsDataUnit}
 use Rattle.store_kernel.specs.Prepared.{IsPlanOf, IsPrepared}
+use Rattle.store_kernel.specs.Submitting.{cause_of_plan, cause_of_read, IsCauseOf}
+use Rattle.store_kernel.specs.declared.refused.Cause.{Cause}
+use Rattle.store_kernel.specs.declared.refused.Cause.TheVariants as cause
 use Rattle.store_kernel.specs.Seen.{state_of}
 use Rattle.store_kernel.specs.Units.{CanBeTaken}
 
@@ -47,11 +61,44 @@ rows_of_a_store s d kept up = record { sup = s.log.sup; limits = kept.always.lim
 pub rows_of_width : (s : State) (d : Disk) → IsKept s d → CanNote s → AreRowsOfWidth (width_of s.log.sup) s.submitted
 rows_of_width s d kept can = record { store = rows_of_a_store s d kept can.up; wide = refl }
 
--- what planning gives is a plan of the submitted rows
-pub given : (s : State) (d : Disk) (change : Change) (plan : Plan) → IsKept s d → CanNote s
-    → IsPlanFor (width_of s.log.sup) change s.submitted s.space plan → IsPlanOf change s plan
-given s d change plan kept can is =
-    record { not_refused = is.not_refused; plans = is.plans s.log.sup refl (kept_free s d kept can.up) }
+-- what planning gives is a plan of the submitted rows, over the old bytes that were read
+pub given : (s : State) (d : Disk) (change : Change) (plan : Plan) (memory : ℕ → Option (List ℕ)) (read : List ReadUnit) → IsKept s d → CanNote s
+    → memory ≡ memory_of s → IsPlanFor (width_of s.log.sup) change s.submitted s.space plan → plan.read ≡ read
+    → AllByRecursion (λ r. IsFound memory (IsHeldAt d) r.unit r.bytes) read → IsPlanOf change s d plan
+given s d change plan memory read kept can same is read_is found = record {
+  not_refused = is.not_refused;
+  plans = is.plans s.log.sup refl (kept_free s d kept can.up);
+  read = subst (AllByRecursion (λ r. IsFound (memory_of s) (IsHeldAt d) r.unit r.bytes)) (sym read_is)
+      (subst (λ (m : ℕ → Option (List ℕ)). AllByRecursion (λ r. IsFound m (IsHeldAt d) r.unit r.bytes) read) same found);
+}
+
+-- why there is none: it is refused, units are wanting, or memory is
+pub no_draft : (s : State) (d : Disk) (change : Change) (why : PlanFail) → IsPlanFail (width_of s.log.sup) change s.submitted s.space why
+    → IsCauseOf (cause_of_plan why) change s d
+no_draft s d change (fail.Refusal refusal) fails = fails
+no_draft s d change (fail.NoSpace need free) fails = fails
+no_draft s d change fail.Memory fails = tt
+
+-- why old bytes weren't read
+pub not_read : (s : State) (d : Disk) (change : Change) (memory : ℕ → Option (List ℕ)) (draft : Draft) (why : PartFail) → memory ≡ memory_of s
+    → IsDraftFor (width_of s.log.sup) change s.submitted s.space draft → IsPlacesFail memory d (places_of draft) why
+    → IsCauseOf (cause_of_read why) change s d
+not_read s d change memory draft (part.BadPage bad) same is fails = record {
+  not_refused = is.not_refused;
+  need = is.need;
+  places = places_of draft;
+  asks = is.asks;
+  enough = is.enough;
+  first_bad = subst (λ (m : ℕ → Option (List ℕ)). IsPlacesFail m d (places_of draft) (part.BadPage bad)) same fails;
+}
+not_read s d change memory draft part.Fault same is fails = tt
+not_read s d change memory draft part.Memory same is fails = tt
+
+-- a cause that is handed on
+pub handed_on : {T : Type 0} (P : Cause → Type 0) (result : Result T Cause) (why : Cause) → IsErr result × IsErrAnd result (λ e. e ≡ why) → P why
+    → IfErr result P
+handed_on P (Ok x) why is holds = tt
+handed_on P (Err e) why is holds = subst P (sym is.1) holds
 
 -- A plan's operations have spellings, which are short enough for a record, and its units ascend.
 pub record PlanFits (plan : Plan) : Type 0 where
@@ -60,14 +107,14 @@ pub record PlanFits (plan : Plan) : Type 0 where
   pub ascend : Ascends (units_of plan.fresh)
 
 pub planned_fits : (s : State) (d : Disk) (change : Change) (plan : Plan) → IsKept s d → CanNote s → IsKnown change.ops
-    → IsPlanOf change s plan → PlanFits plan
+    → IsPlanOf change s d plan → PlanFits plan
 planned_fits s d change plan kept can known is =
     let good : IsGood s.log.sup s.submitted = kept_submitted s d kept can.up in
     let free : AreFreeOver s.log.sup s.submitted s.space = kept_free s d kept can.up in
     let keeps : PlanKeeps s.log.sup (names_of change) s.submitted plan =
     (plans_keep s.log.sup s.submitted s.space change plan good free known is.plans).0 in
     let one : IsPlanned s.log.sup s.submitted change plan =
-    planned s.log.sup s.submitted s.space free change.coll change.ops plan known is.plans in
+    (planned s.log.sup s.submitted s.space free good.good change.coll change.ops plan known is.plans).0 in
     record { fit = keeps.fit; short = (plan_facts s.log.sup s.submitted one good.good).short; ascend = keeps.ascend }
 
 -- a record that fits into the room that was counted fits into the log
@@ -92,18 +139,21 @@ added_is_found s d pending' x place kept can is same grown none =
 
 -- ---- accepting
 
-free_units_are : (space : Space) (us : List ℕ) → AllByRecursion (λ u. IsWithin space u × (is_free space u ≡ true)) us → CanBeTaken us space
+free_units_are : (space : Space) (us : List ℕ) → AllByRecursion (λ u. Contains (free_units space) u) us → CanBeTaken us space
 free_units_are space [] all = tt
-free_units_are space (u ∷ us) all = (record { within = all.0.0; free = all.0.1 }, free_units_are space us all.1)
+free_units_are space (u ∷ us) all =
+    let one = listed_is_free space u all.0 in (record { within = one.within; free = one.free }, free_units_are space us all.1)
 
 -- the units that a plan takes are free
-pub fresh_is_free : (change : Change) (s : State) (plan : Plan) → IsKnown change.ops → IsPlanOf change s plan
+pub fresh_is_free : (s : State) (d : Disk) (change : Change) (plan : Plan) → IsKept s d → CanNote s → IsKnown change.ops → IsPlanOf change s d plan
     → CanBeTaken (units_of plan.fresh) s.space
-fresh_is_free change s plan known is =
-    free_units_are s.space (units_of plan.fresh) (plan_takes_free (width_of s.log.sup) change.coll change.ops s.submitted s.space plan known is.plans)
+fresh_is_free s d change plan kept can known is =
+    let takes : PlanTakes s.space change plan =
+    (plans_keep s.log.sup s.submitted s.space change plan (kept_submitted s d kept can.up) (kept_free s d kept can.up) known is.plans).1.1 in
+    free_units_are s.space (units_of plan.fresh) takes.free
 
 -- they are few
-pub fresh_are_few : (s : State) (d : Disk) (change : Change) (plan : Plan) → IsKept s d → CanNote s → IsKnown change.ops → IsPlanOf change s plan
+pub fresh_are_few : (s : State) (d : Disk) (change : Change) (plan : Plan) → IsKept s d → CanNote s → IsKnown change.ops → IsPlanOf change s d plan
     → length plan.fresh < 2 ^ 32
 fresh_are_few s d change plan kept can known is =
     let free : AreFreeOver s.log.sup s.submitted s.space = kept_free s d kept can.up in
@@ -125,7 +175,7 @@ fresh_are_few s d change plan kept can known is =
 
 -- and none of them is in memory
 pub fresh_absent : (s : State) (d : Disk) (change : Change) (plan : Plan) (memory : ℕ → Option (List ℕ)) → IsKept s d → CanNote s
-    → IsKnown change.ops → IsPlanOf change s plan → memory ≡ memory_of s → AllByRecursion (λ f. memory f.unit ≡ None) plan.fresh
+    → IsKnown change.ops → IsPlanOf change s d plan → memory ≡ memory_of s → AllByRecursion (λ f. memory f.unit ≡ None) plan.fresh
 fresh_absent s d change plan memory kept can known is same =
     let takes : PlanTakes s.space change plan =
     (plans_keep s.log.sup s.submitted s.space change plan (kept_submitted s d kept can.up) (kept_free s d kept can.up) known is.plans).1.1 in
@@ -138,9 +188,9 @@ module _ (m : meta.Meta) (submitted : Rows) (pending : List Context) (batch : Op
   abbrev before : State
   before = state_of m submitted pending batch flying down events space entries commits acked
 
-  module _ (client line : ℕ) (change : Change) (ready : Prepared)
+  module _ (client line : ℕ) (change : Change) (ready : Prepared) (d : Disk)
       (m' : meta.Meta) (submitted' : Rows) (pending' : List Context) (x : Context) (place : ℕ) (space' : Space) (entries' : List Entry)
-      (can : CanNote before) (prepared : IsPrepared ready change before)
+      (can : CanNote before) (prepared : IsPrepared ready change before d)
       (is_meta : let after : meta.Meta = record m { reserved = m.reserved + ready.need } in m' ≡ after)
       (is_submitted : submitted' ≡ rows_after submitted ready.copy) (is_pending : pending' ≡ pending ++ x ∷ [])
       (is_context : x ≡ context_of place ready.coll ready.plan ready.need) (is_place : place ≡ length entries)
@@ -154,12 +204,13 @@ module _ (m : meta.Meta) (submitted : Rows) (pending : List Context) (batch : Op
     accepted_state =
         rw (is_meta, is_submitted, is_pending, is_space, is_context, is_place, is_entries, prepared.copy, prepared.coll, prepared.need) refl
 
-    pub accepted : Accepts client line change before after_it
+    pub accepted : Accepts client line change before d after_it
     accepted = record {
       can_note = can;
       not_refused = prepared.plan.not_refused;
       plan = ready.plan;
       plans = prepared.plan.plans;
+      read = prepared.plan.read;
       fits = prepared.fits;
       after = accepted_state;
     }

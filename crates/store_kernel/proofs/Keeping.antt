@@ -35,7 +35,7 @@ known_submit client line change w b s s' d known known_ops submits =
     call_keeps (submitting client line change) s s' d d plans_keep known.kept known.kept.always.device known.durable (known_ops, submits, refl)
 
 pub known_accept : (w w' : WriteBuffers) (b : Option OpenBatch) (s s' : State) (d : Disk) (client line : ℕ) (change : Change) → KnownOfKernel w b s d → IsKnown change.ops
-    → Accepts client line change s s' → memory_in w' ≡ memory_of s' → KnownOfKernel w' b s' d
+    → Accepts client line change s d s' → memory_in w' ≡ memory_of s' → KnownOfKernel w' b s' d
 known_accept w w' b s s' d client line change known known_ops accepts memory = record {
   kept = kept_accept plans_keep s s' d client line change known.kept known_ops accepts;
   durable = known_submit client line change w b s s' d known known_ops (inl accepts);

@@ -27,7 +27,7 @@ pub record AcceptsOne (s : State) (d : Disk) (s' : State) : Type 0 where
   pub line : ℕ
   pub change : Change
   pub known : IsKnown change.ops
-  pub accepts : Accepts client line change s s'
+  pub accepts : Accepts client line change s d s'
 
 -- it answers without one: it refuses a transaction, or answers a read
 pub data Replies (s : State) (d : Disk) (s' : State) : Type 0 where

@@ -35,9 +35,9 @@ names_in x = x.coll ∷ []
 abbrev pub is_in : List ℕ → Intent → Bool
 is_in c x = is_named c (names_in x)
 
--- what it was planned to be
+-- what it was planned to be, but for the old bytes that were read for it
 abbrev pub plan_of : Intent → Plan
-plan_of x = record { ops = x.ops; fresh = x.fresh; released = x.released }
+plan_of x = record { ops = x.ops; fresh = x.fresh; released = x.released; read = [] }
 
 -- rows with the operations of intents, one after another
 abbrev pub rows_by : Rows → List Intent → Rows

@@ -29,7 +29,7 @@ pub record TurnsAway (s s' : State) : Type 0 where
 
 -- it is accepted, refused with an answer, or turned away
 abbrev pub Submits : ℕ → ℕ → Change → State → Disk → State → Type 0
-Submits client line change s d s' = Accepts client line change s s' ⊎ ((a : Answer) × Refuses client line change a s d s') ⊎ TurnsAway s s'
+Submits client line change s d s' = Accepts client line change s d s' ⊎ ((a : Answer) × Refuses client line change a s d s') ⊎ TurnsAway s s'
 
 -- A read is answered by the submitted rows, by the bytes of units that aren't committed, which are in memory, and by what the device holds of all
 -- others. Nothing but the book changes.

@@ -28,7 +28,7 @@ impl Model for Prepared {
 
 impl Prepared {
     /// The transaction at this place of the book, on this collection, with its plan and the units that a record of its operations takes.
-    /// The kernel makes one when it accepts a transaction.
+    /// The kernel makes one when it accepts a transaction. The old bytes that were read for the plan are let go.
     pub fn new(place: u32, coll: CollName, plan: Plan, need: u32) -> Prepared
         requires { length plan.fresh < 2 ^ 32 }
         ensures { result ≡ context_of place coll plan need }
@@ -37,6 +37,7 @@ impl Prepared {
             ops,
             fresh,
             released,
+            ..
         } = plan;
         let context = Context {
             place,

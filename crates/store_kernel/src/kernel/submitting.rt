@@ -1,10 +1,11 @@
 //! Submitting a transaction: it is accepted, or refused for a cause.
-ghost use Rattle.std.specs.Prelude.{◌≡◌, ◌<◌, ◌^◌, length, OnOk, OnErr, IfOk, IfErr};
+ghost use Rattle.std.specs.Prelude.{◌≡◌, ◌≤◌, ◌<◌, ◌^◌, length, OnOk, OnErr, IfOk, IfErr, IsErrOf};
+ghost use Rattle.block_device.specs.Prelude.{Rose};
 ghost use Rattle.meta_rows.specs.Prelude.{ops_bytes, AllFit};
 ghost use Rattle.store_steps.specs.Prelude.{IsCause, CanNote, Accepts, Refuses};
 ghost use Rattle.plan_rows.specs.Prelude.{IsKnown};
 ghost use Rattle.store_kernel.specs.Prepared.{IsPlanOf, IsPrepared};
-ghost use Rattle.store_kernel.specs.Submitting.{IsCauseOf, RefusesBy};
+ghost use Rattle.store_kernel.specs.Submitting.{IsCauseOf, RefusesBy, IsReadFail};
 
 use super::Kernel;
 use crate::buffers::enter;
@@ -14,15 +15,20 @@ use crate::space::take_fresh;
 use block_device::Device;
 use byte_maps::Duplicate;
 use object_model::{Answer, Command, Entry, Transaction};
+use page_sources::read_places;
 use std::alloc::Global;
 use store_steps::Plan;
-use txn_planner::{PlanFail, plan};
+use txn_planner::begin;
 use unit_fields::limits::BOOK_LIMIT;
 
 impl<D: Device> Kernel<D> {
     /// Accepts a transaction, or refuses it for a cause. Either makes an entry of the book, into which the transaction is moved;
     /// an accepted one is committed by the steps that follow. A kernel that is down, or whose book is full, turns it away without
-    /// an entry. For now the store knows three: one makes a collection, one makes an object, and one writes whole pages.
+    /// an entry, and a read that the device fails leaves none. For now a transaction is of one operation: it makes a collection, or
+    /// is on an object and on its bytes.
+    ///
+    /// Of pages that change in part the old bytes are read, once the transaction is known to be taken and units suffice for it:
+    /// from memory where an accepted transaction isn't committed yet, and else from the device, with their checksum.
     pub fn submit(
         &mut self,
         alloc: Global,
@@ -32,10 +38,11 @@ impl<D: Device> Kernel<D> {
     ) -> Result<u32, Refused>
         requires { IsKnown txn.ops }
         ensures place { IfOk result (λ place. place ≡ length self.old.state.book.entries) }
-        ensures accepted { OnOk result (Accepts client line txn self.old.state self.new.state) }
+        ensures accepted { OnOk result (Accepts client line txn self.old.state (D.disk self.old.device) self.new.state) }
         ensures refused { IfErr result (λ why. RefusesBy why client line txn self.old.state (D.disk self.old.device) self.new.state) }
         ensures disk { D.disk self.new.device ≡ D.disk self.old.device }
-        ensures faults { D.faults self.new.device ≡ D.faults self.old.device }
+        ensures later { D.faults self.old.device ≤ D.faults self.new.device }
+        ensures cause { IfErr result (λ why. IsReadFail why → Rose (D.faults self.old.device) (D.faults self.new.device)) }
     {
         if let Some(ticket) = self.down {
             return Err(Refused::Down { ticket, back: txn });
@@ -53,11 +60,15 @@ impl<D: Device> Kernel<D> {
     }
 
     // The plan of a transaction, and all that accepting it takes memory for but for room in lists.
-    fn prepare(&self, alloc: Global, txn: &Transaction) -> Result<Prepared, Cause>
+    fn prepare(&mut self, alloc: Global, txn: &Transaction) -> Result<Prepared, Cause>
         requires known { IsKnown txn.now.ops }
-        requires can_note { CanNote self.now.state }
-        ensures ok { IfOk result (λ ready. IsPrepared ready txn.now self.now.state) }
-        ensures err { IfErr result (λ cause. IsCauseOf cause txn.now self.now.state (D.disk self.now.device)) }
+        requires can_note { CanNote self.old.state }
+        ensures ok { IfOk result (λ ready. IsPrepared ready txn.now self.old.state (D.disk self.old.device)) }
+        ensures err { IfErr result (λ cause. IsCauseOf cause txn.now self.old.state (D.disk self.old.device)) }
+        ensures same { self.new.state ≡ self.old.state }
+        ensures disk { D.disk self.new.device ≡ D.disk self.old.device }
+        ensures later { D.faults self.old.device ≤ D.faults self.new.device }
+        ensures cause { IsErrOf result Cause.DeviceRead → Rose (D.faults self.old.device) (D.faults self.new.device) }
     {
         let plan = self.planned(alloc, txn)?;
         let need = units_needed(plan.ops.as_slice());
@@ -65,12 +76,8 @@ impl<D: Device> Kernel<D> {
         if room < need {
             return Err(Cause::MetaFull { need, room });
         }
-        let Ok(copy) = plan.ops.duplicate(alloc) else {
-            return Err(Cause::Memory);
-        };
-        let Ok(coll) = txn.coll().copy(alloc) else {
-            return Err(Cause::Memory);
-        };
+        let copy = plan.ops.duplicate(alloc)?;
+        let coll = txn.coll().copy(alloc)?;
         Ok(Prepared {
             plan,
             need,
@@ -79,22 +86,24 @@ impl<D: Device> Kernel<D> {
         })
     }
 
-    // The plan over the submitted rows and the free units. Its operations have a spelling, which is short.
-    fn planned(&self, alloc: Global, txn: &Transaction) -> Result<Plan, Cause>
+    // The plan over the submitted rows and the free units, and over the old bytes that it keeps. Its operations have a spelling, which is short.
+    fn planned(&mut self, alloc: Global, txn: &Transaction) -> Result<Plan, Cause>
         requires known { IsKnown txn.now.ops }
-        requires can_note { CanNote self.now.state }
-        ensures ok { IfOk result (IsPlanOf txn.now self.now.state) }
+        requires can_note { CanNote self.old.state }
+        ensures ok { IfOk result (IsPlanOf txn.now self.old.state (D.disk self.old.device)) }
         ensures fit { IfOk result (λ plan. AllFit plan.ops) }
         ensures short { IfOk result (λ plan. length (ops_bytes plan.ops) < 2 ^ 32) }
-        ensures err { IfErr result (λ cause. IsCauseOf cause txn.now self.now.state (D.disk self.now.device)) }
+        ensures err { IfErr result (λ cause. IsCauseOf cause txn.now self.old.state (D.disk self.old.device)) }
+        ensures same { self.new.state ≡ self.old.state }
+        ensures disk { D.disk self.new.device ≡ D.disk self.old.device }
+        ensures later { D.faults self.old.device ≤ D.faults self.new.device }
+        ensures cause { IsErrOf result Cause.DeviceRead → Rose (D.faults self.old.device) (D.faults self.new.device) }
     {
         let width = self.meta.sup().width();
-        match plan(alloc, width, &self.submitted, &self.space, txn) {
-            Ok(plan) => Ok(plan),
-            Err(PlanFail::Refusal(refusal)) => Err(Cause::Refusal(refusal)),
-            Err(PlanFail::NoSpace { need, free }) => Err(Cause::NoSpace { need, free }),
-            Err(PlanFail::Memory) => Err(Cause::Memory),
-        }
+        let draft = begin(alloc, width, &self.submitted, &self.space, txn)?;
+        let read = read_places(alloc, &mut self.device, &self.buffers, draft.places())?;
+        let plan = draft.finish(alloc, width, &self.submitted, &self.space, txn, read)?;
+        Ok(plan)
     }
 
     // Makes room in the lists, and then the context and the entry. The transaction comes back where there is no room.
@@ -108,9 +117,9 @@ impl<D: Device> Kernel<D> {
     ) -> Result<u32, Transaction>
         requires known { IsKnown txn.ops }
         requires can_note { CanNote self.old.state }
-        requires prepared { IsPrepared ready txn self.old.state }
+        requires prepared { IsPrepared ready txn self.old.state (D.disk self.old.device) }
         ensures place { IfOk result (λ place. place ≡ length self.old.state.book.entries) }
-        ensures accepted { OnOk result (Accepts client line txn self.old.state self.new.state) }
+        ensures accepted { OnOk result (Accepts client line txn self.old.state (D.disk self.old.device) self.new.state) }
         ensures err { OnErr result (self.new.state ≡ self.old.state) }
         ensures back { IfErr result (λ back. back ≡ txn) }
         ensures disk { D.disk self.new.device ≡ D.disk self.old.device }
@@ -151,6 +160,7 @@ impl<D: Device> Kernel<D> {
         requires can_note { CanNote self.old.state }
         requires cause { IsCauseOf cause txn self.old.state (D.disk self.old.device) }
         ensures refused { RefusesBy result client line txn self.old.state (D.disk self.old.device) self.new.state }
+        ensures read { IsReadFail result → cause ≡ Cause.DeviceRead }
         ensures disk { D.disk self.new.device ≡ D.disk self.old.device }
         ensures faults { D.faults self.new.device ≡ D.faults self.old.device }
     {
@@ -167,12 +177,19 @@ impl<D: Device> Kernel<D> {
                     Err(back) => Refused::Memory(back),
                 }
             }
+            Cause::Csum { unit, kept, found } => {
+                match self.note(client, line, txn, Answer::Csum { unit, kept, found }) {
+                    Ok(()) => Refused::Csum { unit, kept, found },
+                    Err(back) => Refused::Memory(back),
+                }
+            }
             Cause::MetaFull { need, room } => {
                 match self.note(client, line, txn, Answer::MetaFull { need, room }) {
                     Ok(()) => Refused::MetaFull { need, room },
                     Err(back) => Refused::Memory(back),
                 }
             }
+            Cause::DeviceRead => Refused::DeviceRead(txn),
             Cause::Memory => Refused::Memory(txn),
         }
     }

@@ -57,7 +57,7 @@ take_fresh-requires-clause-free g c =
     let added : c.in-Some.added.now ≡ c.split-context.result.0 =
     found_added _ _ c.enter.new.contexts c.split-context.result.0 c.in-Some.added.now c.len-place.result c.self.invariant.kept can entry place c.in-Ok.ensures.waits
     c.in-Some.ensures in
-    rw (c.fresh.ensures, added, c.split-context.ensures.context) (fresh_is_free c.args.txn _ c.args.ready.plan c.requires.known prepared.plan)
+    rw (c.fresh.ensures, added, c.split-context.ensures.context) (fresh_is_free _ _ c.args.txn c.args.ready.plan c.self.invariant.kept can c.requires.known prepared.plan)
 
 pub invariant_of-self-in_default : goal.invariant_of-self-in_default
 invariant_of-self-in_default g c =
@@ -77,11 +77,11 @@ invariant_of-self-2 g c =
     let space = c.take_fresh.ensures ∙ ap (λ (fs : List FreshUnit). taken k.space (map (λ (f : FreshUnit). f.unit) fs)) (c.fresh.ensures ∙ ap (λ (y : Context). y.fresh) added) in
     let fresh = ap (λ (y : Context). y.fresh) c.split-context.ensures.context in
     let is = accepted_state k.meta k.submitted.rows k.contexts k.batch k.flying.items k.down k.events k.space k.entries.items k.commits.items k.acked
-    c.args.client c.args.line c.args.txn c.args.ready c.reserve-2.new.self c.apply.new.self.rows c.enter.new.contexts x c.len-place.result c.take_fresh.new.space
+    c.args.client c.args.line c.args.txn c.args.ready (g.D.Device.disk k.device) c.reserve-2.new.self c.apply.new.self.rows c.enter.new.contexts x c.len-place.result c.take_fresh.new.space
     c.push_reserved.new.self.items can prepared c.in-Ok-reserve.ensures.set_aside (cc) c.in-Ok.ensures.waits c.split-context.ensures.context entry space (cc) in
     known_accept _ _ _ _ _ _ c.args.client c.args.line c.args.txn c.self.invariant c.requires.known
     (accepted k.meta k.submitted.rows k.contexts k.batch k.flying.items k.down k.events k.space k.entries.items k.commits.items k.acked
-    c.args.client c.args.line c.args.txn c.args.ready c.reserve-2.new.self c.apply.new.self.rows c.enter.new.contexts x c.len-place.result c.take_fresh.new.space
+    c.args.client c.args.line c.args.txn c.args.ready (g.D.Device.disk k.device) c.reserve-2.new.self c.apply.new.self.rows c.enter.new.contexts x c.len-place.result c.take_fresh.new.space
     c.push_reserved.new.self.items can prepared c.in-Ok-reserve.ensures.set_aside (cc) c.in-Ok.ensures.waits c.split-context.ensures.context entry space (cc))
     (accept_memory _ _ c.args.client c.args.line c.args.txn c.args.ready.plan x (memory_in k.buffers) (memory_in c.enter.new.buffers) is fresh
     c.self.invariant.memory c.in-Ok.ensures.found)
@@ -99,5 +99,5 @@ returns-clause-accepted g c =
     let space = c.take_fresh.ensures ∙ ap (λ (fs : List FreshUnit). taken k.space (map (λ (f : FreshUnit). f.unit) fs)) (c.fresh.ensures ∙ ap (λ (y : Context). y.fresh) added) in
     rw (← c.self.view_is)
     (accepted k.meta k.submitted.rows k.contexts k.batch k.flying.items k.down k.events k.space k.entries.items k.commits.items k.acked
-    c.args.client c.args.line c.args.txn c.args.ready c.reserve-2.new.self c.apply.new.self.rows c.enter.new.contexts x c.len-place.result c.take_fresh.new.space
+    c.args.client c.args.line c.args.txn c.args.ready (g.D.Device.disk k.device) c.reserve-2.new.self c.apply.new.self.rows c.enter.new.contexts x c.len-place.result c.take_fresh.new.space
     c.push_reserved.new.self.items can prepared c.in-Ok-reserve.ensures.set_aside (cc) c.in-Ok.ensures.waits c.split-context.ensures.context entry space (cc))

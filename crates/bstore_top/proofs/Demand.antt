@@ -8,6 +8,7 @@ use Rattle.block_device.specs.Prelude.{Disk}
 use Rattle.object_model.specs.declared.book.Book.{Book}
 use Rattle.object_model.specs.declared.book.Entry.{Entry}
 use Rattle.unit_allocator.specs.Prelude.{Space}
+use Rattle.object_rows.proofs.AsksAreFew.{asks_are_few}
 use Rattle.object_rows.proofs.PlansKeep.{plans_keep}
 use Rattle.script_text.specs.declared.line.Line.{Line}
 use Rattle.store_steps.specs.Prelude.{State, Found, free_count, Call, IsRun}
@@ -124,7 +125,7 @@ found_within scripts given f space start s closed disk calls book lefts mounted 
     by false is = refl
     by true is =
         let same = ap (λ (b : Book). b.entries) book_is in
-        let beyond = want_is_beyond_the_demand calls s closed start disk plans_keep kept (ap (λ (z : State). z.book.entries) mounted.state) run
+        let beyond = want_is_beyond_the_demand calls s closed start disk plans_keep asks_are_few kept (ap (λ (z : State). z.book.entries) mounted.state) run
         (sym (ap any_no_space same) ∙ is) in
         let few = asked_within scripts book.entries lefts asked in
         absurd (omega (arith, beyond, ap demanded_by same, few, within))

@@ -62,7 +62,8 @@ end_of_run (Some run.DeviceRead) free = DeviceFault
 
 -- ---- the run
 
--- the units that the commands of a script ask for together: the pages that its writes touch
+-- The units that the commands of a script ask for together at most: a write asks for one for each page that it touches, zeros for one for the
+-- first and the last page, and a truncate for one.
 abbrev pub script_demand : List Line → ℕ
 script_demand lines = demand_of (map (λ a. a.command) (asks_of lines))
 

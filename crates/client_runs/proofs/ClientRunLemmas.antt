@@ -13,7 +13,7 @@ use Rattle.script_text.specs.declared.line.Line.{Line}
 use Rattle.script_text.specs.declared.line.What.{What}
 use Rattle.script_text.specs.declared.line.What.TheVariants as what
 use Rattle.script_text.specs.Prelude.{is_wait}
-use Rattle.store_steps.specs.Prelude.{State, Call}
+use Rattle.store_steps.specs.Prelude.{State}
 use Rattle.store_kernel.specs.declared.step_fail.StepFail.{StepFail}
 use Rattle.store_kernel.specs.declared.step_fail.StepFail.TheVariants as fail
 use Rattle.std.specs.Prelude.{IsSome, nat_eq}
@@ -283,14 +283,14 @@ module _ (p : Position) (x : ℕ) (c : Clients) (s : State) (d : Disk) (so_far :
           line = vain.next.line;
           command = vain.next.command;
           x = one.drawn.turn;
-          drawn = subst (λ (call : Call). IsDrawnOf x' (calls_at (position_of one.y c' s' d')) call) vain.unmade.0 (drawn_so vain.next vain.rest vain.left);
+          drawn = drawn_so vain.next vain.rest vain.left;
           clients = refl;
-          state = vain.unmade.1;
-          disk = vain.unmade.2;
+          state = vain.unmade.0;
+          disk = vain.unmade.1;
         },
-        ap (λ (z : State). z.down) vain.unmade.1 ∙ before_it.up,
+        ap (λ (z : State). z.down) vain.unmade.0 ∙ before_it.up,
       );
-      asked = λ scripts was. subst (λ (z : State). AreAsked scripts z.book.entries (lefts c'.all.items)) (sym vain.unmade.1) (before_it.asked scripts was);
+      asked = λ scripts was. subst (λ (z : State). AreAsked scripts z.book.entries (lefts c'.all.items)) (sym vain.unmade.0) (before_it.asked scripts was);
     }
 
 -- ---- the whole run

@@ -14,12 +14,12 @@ use Rattle.object_model.specs.declared.command.Answer.TheVariants as answer
 use Rattle.object_model.specs.declared.command.Command.{Command}
 use Rattle.object_model.specs.declared.command.Command.TheVariants as command
 use Rattle.object_model.specs.declared.book.Entry.{Entry}
-use Rattle.script_text.specs.Prelude.{FitsWhat, HasWholePages}
+use Rattle.script_text.specs.Prelude.{FitsWhat, IsKnownChange}
 use Rattle.script_text.specs.declared.line.What.TheVariants as what
 use Rattle.store_steps.specs.Prelude.{State, entered, Accepts, Refuses, IsDownBy, IsBookFull, Call, reading, AnswersRead, Calls}
 use Rattle.plan_rows.specs.Prelude.{IsKnown}
 use Rattle.read_facts.specs.Prelude.{IsKnownRead}
-use Rattle.store_kernel.specs.Submitting.{RefusesBy}
+use Rattle.store_kernel.specs.Submitting.{RefusesBy, IsReadFail}
 use Rattle.store_kernel.specs.Reading.{UnansweredBy, IsDeviceRead}
 use Rattle.store_kernel.specs.declared.unanswered.Unanswered.{Unanswered}
 use Rattle.store_kernel.specs.declared.unanswered.Unanswered.TheVariants as unanswered
@@ -32,11 +32,14 @@ use Rattle.client_runs.specs.Prelude.{call_of, IsNoted, IsNotNoted, IsNotTurnedA
 -- ---- what the store knows
 
 -- operations that scripts can have are known to the store
-pub known_ops : (ops : List Op) → HasWholePages ops → IsKnown ops
-known_ops (op.MkColl ∷ []) pages = tt
-known_ops (op.Touch o ∷ []) pages = tt
-known_ops (op.Write o off bytes ∷ []) pages = pages
-known_ops ops pages = absurd pages
+pub known_ops : (ops : List Op) → IsKnownChange ops → IsKnown ops
+known_ops (op.MkColl ∷ []) known = tt
+known_ops (op.Touch o ∷ []) known = tt
+known_ops (op.Write o off bytes ∷ []) known = tt
+known_ops (op.Zero o off len ∷ []) known = tt
+known_ops (op.Truncate o size ∷ []) known = tt
+known_ops (op.Remove o ∷ []) known = tt
+known_ops ops known = absurd known
 
 -- the command is no transaction
 abbrev pub IsNoChange : Command → Type 0
@@ -83,7 +86,9 @@ pub not_turned_away : (client line : ℕ) (change : Change) (r : Result ℕ Refu
 not_turned_away client line change (Ok place) s d s' up room refuses = tt
 not_turned_away client line change (Err (refused.Refusal refusal)) s d s' up room refuses = tt
 not_turned_away client line change (Err (refused.NoSpace need free)) s d s' up room refuses = tt
+not_turned_away client line change (Err (refused.Csum unit kept found)) s d s' up room refuses = tt
 not_turned_away client line change (Err (refused.MetaFull need left)) s d s' up room refuses = tt
+not_turned_away client line change (Err (refused.DeviceRead back)) s d s' up room refuses = tt
 not_turned_away client line change (Err (refused.Memory back)) s d s' up room refuses = tt
 not_turned_away client line change (Err (refused.Down ticket back)) s d s' up room refuses = absurd (not_down s ticket up refuses.0)
 not_turned_away client line change (Err (refused.BookFull back)) s d s' up room refuses = absurd (not_full s room refuses.0)
@@ -122,12 +127,19 @@ made_refused : (client line : ℕ) (change : Change) (reply : Answer) (s : State
 made_refused client line change reply s d s' d' up may same none refuses =
     made_by client line (command.Change change) reply false s s d s' d' up (may, inr (inl (reply, refuses)), same) refl refl none refuses.after
 
+-- one that has no entry leaves the kernel as it was
+refused_same : (e : RunFail) (why : Refused) (client line : ℕ) (change : Change) (s : State) (d : Disk) (s' : State) (d' : Disk)
+    → RefusesBy why client line change s d s' → d' ≡ d → IsNotNoted e (Err why) → IsUnmade e client line (command.Change change) s d s' d'
+refused_same run.DeviceRead (refused.DeviceRead back) client line change s d s' d' away same is = (away.0, same)
+refused_same run.Memory (refused.Memory back) client line change s d s' d' away same is = (away.0, same)
+refused_same e why client line change s d s' d' away same is = absurd is
+
 -- what a submission makes, by its end
 pub submitted_ends : (client line : ℕ) (change : Change) (r : Result ℕ Refused) (out : Result Bool RunFail) (s : State) (d : Disk) (s' : State)
     (d' : Disk)
-    → s.down ≡ None → IsKnown change.ops → d' ≡ d → OnOk r (Accepts client line change s s')
+    → s.down ≡ None → IsKnown change.ops → d' ≡ d → OnOk r (Accepts client line change s d s')
     → IfErr r (λ why. RefusesBy why client line change s d s')
-    → MatchResult out (λ accepted. IsNoted accepted r) (λ e. (e ≡ run.Memory) × IsNotNoted r)
+    → MatchResult out (λ accepted. IsNoted accepted r) (λ e. IsNotNoted e r)
     → MatchResult out (λ accepted. IsMade client line (command.Change change) accepted s d s' d')
     (λ e. IsUnmade e client line (command.Change change) s d s' d')
 submitted_ends client line change (Ok place) (Ok true) s d s' d' up may same accepted refuses noted =
@@ -136,26 +148,26 @@ submitted_ends client line change (Err (refused.Refusal refusal)) (Ok false) s d
     made_refused client line change (answer.Refused refusal) s d s' d' up may same refl refuses
 submitted_ends client line change (Err (refused.NoSpace need free)) (Ok false) s d s' d' up may same accepted refuses noted =
     made_refused client line change (answer.NoSpace need free) s d s' d' up may same refl refuses
+submitted_ends client line change (Err (refused.Csum unit kept found)) (Ok false) s d s' d' up may same accepted refuses noted =
+    made_refused client line change (answer.Csum unit kept found) s d s' d' up may same refl refuses
 submitted_ends client line change (Err (refused.MetaFull need room)) (Ok false) s d s' d' up may same accepted refuses noted =
     made_refused client line change (answer.MetaFull need room) s d s' d' up may same refl refuses
-submitted_ends client line change (Err (refused.Memory back)) (Err e) s d s' d' up may same accepted refuses noted =
-    subst (λ (z : RunFail). IsUnmade z client line (command.Change change) s d s' d') (sym noted.0) (refuses.0, same)
-submitted_ends client line change (Ok place) (Ok false) s d s' d' up may same accepted refuses noted = absurd noted
-submitted_ends client line change (Err (refused.Refusal refusal)) (Ok true) s d s' d' up may same accepted refuses noted = absurd noted
-submitted_ends client line change (Err (refused.NoSpace need free)) (Ok true) s d s' d' up may same accepted refuses noted = absurd noted
-submitted_ends client line change (Err (refused.MetaFull need room)) (Ok true) s d s' d' up may same accepted refuses noted = absurd noted
-submitted_ends client line change (Err (refused.Down ticket back)) (Ok true) s d s' d' up may same accepted refuses noted = absurd noted
-submitted_ends client line change (Err (refused.Down ticket back)) (Ok false) s d s' d' up may same accepted refuses noted = absurd noted
-submitted_ends client line change (Err (refused.Down ticket back)) (Err e) s d s' d' up may same accepted refuses noted = absurd noted.1
-submitted_ends client line change (Err (refused.BookFull back)) (Ok true) s d s' d' up may same accepted refuses noted = absurd noted
-submitted_ends client line change (Err (refused.BookFull back)) (Ok false) s d s' d' up may same accepted refuses noted = absurd noted
-submitted_ends client line change (Err (refused.BookFull back)) (Err e) s d s' d' up may same accepted refuses noted = absurd noted.1
-submitted_ends client line change (Err (refused.Memory back)) (Ok true) s d s' d' up may same accepted refuses noted = absurd noted
-submitted_ends client line change (Err (refused.Memory back)) (Ok false) s d s' d' up may same accepted refuses noted = absurd noted
-submitted_ends client line change (Ok place) (Err e) s d s' d' up may same accepted refuses noted = absurd noted.1
-submitted_ends client line change (Err (refused.Refusal refusal)) (Err e) s d s' d' up may same accepted refuses noted = absurd noted.1
-submitted_ends client line change (Err (refused.NoSpace need free)) (Err e) s d s' d' up may same accepted refuses noted = absurd noted.1
-submitted_ends client line change (Err (refused.MetaFull need room)) (Err e) s d s' d' up may same accepted refuses noted = absurd noted.1
+submitted_ends client line change (Err why) (Err e) s d s' d' up may same accepted refuses noted =
+    refused_same e why client line change s d s' d' refuses same noted
+submitted_ends client line change (Ok place) (Err run.Memory) s d s' d' up may same accepted refuses noted = absurd noted
+submitted_ends client line change (Ok place) (Err run.Fault) s d s' d' up may same accepted refuses noted = absurd noted
+submitted_ends client line change (Ok place) (Err run.DeviceRead) s d s' d' up may same accepted refuses noted = absurd noted
+submitted_ends client line change r (Ok true) s d s' d' up may same accepted refuses noted = absurd noted
+submitted_ends client line change r (Ok false) s d s' d' up may same accepted refuses noted = absurd noted
+
+-- what is known where the device failed at a read of old bytes is known where that is why the transaction has no entry
+pub submit_rose : (r : Result ℕ Refused) (out : Result Bool RunFail) (A : Type 0) → IfErr r (λ why. IsReadFail why → A)
+    → MatchResult out (λ accepted. IsNoted accepted r) (λ e. IsNotNoted e r) → out ≡ Err run.DeviceRead → A
+submit_rose (Err (refused.DeviceRead back)) (Err run.DeviceRead) A cause noted is = cause tt
+submit_rose r (Err run.DeviceRead) A cause noted is = absurd noted
+submit_rose r (Err run.Memory) A cause noted is = absurd cc
+submit_rose r (Err run.Fault) A cause noted is = absurd cc
+submit_rose r (Ok accepted) A cause noted is = absurd cc
 
 -- a known read is a call that reads, and accepts nothing
 call_reads : (client line : ℕ) (c : Command) → IsKnownRead c → call_of client line c ≡ reading client line c
@@ -175,7 +187,7 @@ accepts_none c a known = absurd known
 -- a read that has no answer leaves the kernel as it was
 unanswered_same : (e : RunFail) (why : Unanswered) (client line : ℕ) (c : Command) (s : State) (d : Disk) (s' : State) (d' : Disk) → IsKnownRead c
     → UnansweredBy why c s s' → d' ≡ d → IsFailOf e (Err why) → IsUnmade e client line c s d s' d'
-unanswered_same run.DeviceRead (unanswered.DeviceRead back) client line c s d s' d' may away same is = (call_reads client line c may, away.0, same)
+unanswered_same run.DeviceRead (unanswered.DeviceRead back) client line c s d s' d' may away same is = (away.0, same)
 unanswered_same run.Memory (unanswered.Memory back) client line c s d s' d' may away same is = (away.0, same)
 unanswered_same e why client line c s d s' d' may away same is = absurd is
 

@@ -7,12 +7,12 @@ use Rattle.object_model.specs.declared.book.Entry.{Entry}
 use Rattle.object_model.specs.declared.command.Command.{Command}
 use Rattle.script_text.specs.Prelude.{FitsWhat}
 use Rattle.script_text.specs.declared.line.Line.{Line}
-use Rattle.store_steps.specs.Prelude.{State, reading}
+use Rattle.store_steps.specs.Prelude.{State}
 use Rattle.store_kernel.specs.declared.step_fail.StepFail.{StepFail}
 use Rattle.store_kernel.specs.declared.step_fail.StepFail.TheVariants as step
 use Rattle.client_runs.specs.declared.run_fail.RunFail.{RunFail}
 use Rattle.client_runs.specs.declared.run_fail.RunFail.TheVariants as run
-use Rattle.client_runs.specs.Choice.{Ask, asks_of, turned, IsDrawnOf, calls_at, Position, at_position, LeadsTo}
+use Rattle.client_runs.specs.Choice.{Ask, asks_of, turned, call_of, IsDrawnOf, calls_at, Position, at_position, LeadsTo}
 
 -- ---- before a run
 
@@ -70,13 +70,14 @@ pub record AreAsked (scripts : List (List Ask)) (entries : List Entry) (lefts : 
 
 -- ---- ends
 
--- A client's read was drawn, and the device failed at it: it has no answer, and from then on no client has commands left.
+-- A command of a client was drawn, a read or a transaction that keeps old bytes, and the device failed at a read for it: it has no entry, and
+-- from then on no client has commands left.
 pub record LosesRead (p q : Position) : Type 0 where
   pub client : ℕ
   pub line : ℕ
   pub command : Command
   pub x : q.x ≡ turned p.x
-  pub drawn : IsDrawnOf q.x (calls_at p) (reading client line command)
+  pub drawn : IsDrawnOf q.x (calls_at p) (call_of client line command)
   pub clients : q.clients ≡ []
   pub state : q.state ≡ p.state
   pub disk : q.disk ≡ p.disk

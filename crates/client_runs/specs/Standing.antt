@@ -5,7 +5,7 @@ use Rattle.object_model.specs.declared.book.Commit.{Commit}
 use Rattle.object_model.specs.declared.book.Entry.{Entry}
 use Rattle.object_model.specs.declared.command.Command.{Command}
 use Rattle.store_steps.specs.declared.step.Step.{Step}
-use Rattle.store_steps.specs.Prelude.{State, reading, Calls}
+use Rattle.store_steps.specs.Prelude.{State, Calls}
 use Rattle.store_kernel.specs.declared.refused.Refused.{Refused}
 use Rattle.store_kernel.specs.declared.refused.Refused.TheVariants as refused
 use Rattle.store_kernel.specs.declared.step_fail.StepFail.{StepFail}
@@ -90,17 +90,20 @@ IsNotTurnedAway (Err (refused.Down ticket txn)) = ⊥
 IsNotTurnedAway (Err (refused.BookFull txn)) = ⊥
 IsNotTurnedAway submitted = Unit {0}
 
--- a transaction that was submitted has its entry, accepted or not, or it hasn't, for want of memory
+-- a transaction that was submitted has its entry, accepted or not
 abbrev pub IsNoted : Bool → Result ℕ Refused → Type 0
 IsNoted true (Ok place) = Unit {0}
 IsNoted false (Err (refused.Refusal refusal)) = Unit {0}
 IsNoted false (Err (refused.NoSpace need free)) = Unit {0}
+IsNoted false (Err (refused.Csum unit kept found)) = Unit {0}
 IsNoted false (Err (refused.MetaFull need room)) = Unit {0}
 IsNoted accepted submitted = ⊥
 
-abbrev pub IsNotNoted : Result ℕ Refused → Type 0
-IsNotNoted (Err (refused.Memory txn)) = Unit {0}
-IsNotNoted submitted = ⊥
+-- why a run ends whose transaction has none: the device or memory failed
+abbrev pub IsNotNoted : RunFail → Result ℕ Refused → Type 0
+IsNotNoted run.DeviceRead (Err (refused.DeviceRead txn)) = Unit {0}
+IsNotNoted run.Memory (Err (refused.Memory txn)) = Unit {0}
+IsNotNoted fail submitted = ⊥
 
 -- it wasn't turned away: the kernel was up, and its book had room
 abbrev pub IsNoTurnAway : Result ℕ Unanswered → Type 0
@@ -132,7 +135,7 @@ pub record IsMade (client line : ℕ) (command : Command) (accepted : Bool) (s :
 -- the command has no entry, since the device failed at a read or memory ran out, and nothing changed
 abbrev pub IsUnmade : RunFail → ℕ → ℕ → Command → State → Disk → State → Disk → Type 0
 IsUnmade run.Fault client line command s d s' d' = ⊥
-IsUnmade run.DeviceRead client line command s d s' d' = (call_of client line command ≡ reading client line command) × (s' ≡ s) × (d' ≡ d)
+IsUnmade run.DeviceRead client line command s d s' d' = (s' ≡ s) × (d' ≡ d)
 IsUnmade run.Memory client line command s d s' d' = (s' ≡ s) × (d' ≡ d)
 
 -- the next command of a client was made, and the client goes on behind it

@@ -17,15 +17,22 @@ use script_text::{Line, Said, What};
 use std::alloc::Global;
 use store_kernel::{Kernel, Refused, Unanswered};
 
-/// Whether a transaction was accepted. It has its entry in the book, accepted or refused: all but want of memory make one.
+/// Whether a transaction was accepted. It has its entry in the book, accepted or refused: all but want of memory and a read of the device
+/// that failed make one.
 fn noted(submitted: &Result<u32, Refused>) -> Result<bool, RunFail>
     requires { IsNotTurnedAway submitted.now }
-    ensures { MatchResult result (λ accepted. IsNoted accepted submitted.now) (λ e. (e ≡ RunFail.Memory) × IsNotNoted submitted.now) }
+    ensures { MatchResult result (λ accepted. IsNoted accepted submitted.now) (λ e. IsNotNoted e submitted.now) }
 {
     match submitted {
         Ok(_) => Ok(true),
-        Err(Refused::Refusal(_) | Refused::NoSpace { .. } | Refused::MetaFull { .. }) => Ok(false),
+        Err(
+            Refused::Refusal(_)
+            | Refused::NoSpace { .. }
+            | Refused::Csum { .. }
+            | Refused::MetaFull { .. },
+        ) => Ok(false),
         Err(Refused::Down { .. } | Refused::BookFull(_)) => unreachable!(),
+        Err(Refused::DeviceRead(_)) => Err(RunFail::DeviceRead),
         Err(Refused::Memory(_)) => Err(RunFail::Memory),
     }
 }
@@ -43,7 +50,7 @@ fn replied(answered: &Result<u32, Unanswered>) -> Result<(), RunFail>
     }
 }
 
-/// Submits a transaction of a client. Whether it was accepted.
+/// Submits a transaction of a client, for which the kernel may read old bytes. Whether it was accepted.
 fn submit<D: Device>(
     alloc: Global,
     kernel: &mut Kernel<D>,
@@ -58,8 +65,8 @@ fn submit<D: Device>(
         (λ accepted. IsMade client line (command.Change txn) accepted kernel.old.state (D.disk kernel.old.device) kernel.new.state (D.disk kernel.new.device))
         (λ e. IsUnmade e client line (command.Change txn) kernel.old.state (D.disk kernel.old.device) kernel.new.state (D.disk kernel.new.device)) }
     ensures sound { IsSound (D.disk kernel.new.device) }
-    ensures faults { D.faults kernel.new.device ≡ D.faults kernel.old.device }
-    ensures cause { ¬ IsErrOf result RunFail.DeviceRead }
+    ensures later { D.faults kernel.old.device ≤ D.faults kernel.new.device }
+    ensures cause { IsErrOf result RunFail.DeviceRead → Rose (D.faults kernel.old.device) (D.faults kernel.new.device) }
 {
     let submitted = kernel.submit(alloc, client, line, txn);
     kernel.facts();

@@ -7,6 +7,7 @@ pub enum RunFail {
     Memory,
     /// A submission ended badly: the kernel is down.
     Fault,
-    /// The device failed at a read. From then on no client went on, and steps alone were drawn.
+    /// The device failed at a read, that of a client or one of the old bytes that a transaction keeps. From then on no client went on, and
+    /// steps alone were drawn.
     DeviceRead,
 }

@@ -78,8 +78,8 @@ fn wind_up<D: Device>(
 /// Runs the scripts, each by a client of its own, numbered from 0 on, beside each other on a kernel of which nothing was asked
 /// yet. What comes next is drawn by a generator that begins with the seed: from the clients that have a command left and whose
 /// `wait` before it is over, in the order of their numbers, and then from the ready steps in the order of their table. The run ends
-/// where there is nothing to be drawn. The data of a line are written out when its turn comes. After a read that the device failed no
-/// client goes on; steps are drawn until none is ready, and whatever ends that, the run ends for the read.
+/// where there is nothing to be drawn. The data of a line are written out when its turn comes. After a read that the device failed, be it one
+/// of old bytes for a transaction, no client goes on; steps are drawn until none is ready, and whatever ends that, the run ends for the read.
 pub fn run_scripts<D: Device>(
     alloc: Global,
     kernel: &mut Kernel<D>,

@@ -1,12 +1,11 @@
 -- Data as they are spelled.
-use Rattle.std.proofs.Common.{◌≡◌, ◌≢◌, inl, inr, ℕ, ◌/◌, ◌<◌, ◌≤◌, List, ◌∷◌, ◌++◌, length, replicate, Option, Some, None, MatchOption}
+use Rattle.std.proofs.Common.{◌≡◌, ◌≢◌, inl, inr, ℕ, ◌<◌, ◌≤◌, List, ◌∷◌, ◌++◌, replicate, Option, Some, None, MatchOption}
 use Rattle.std.proofs.Common.{refl, sym, ap, subst, ◌∙◌, arith}
-use Rattle.std.proofs.lemmas.List.{length-replicate}
 use Rattle.std.specs.Prelude.{codes, decimal}
 use Rattle.script_text.specs.Prelude.{HasNo, EachIsByte, IsDataWord, IsFill, IsNumber, hex_pair, spelled_by}
 use Rattle.script_text.proofs.Splits.{has_no-append, has_none}
-use Rattle.script_text.proofs.Spelled.{spelled-has_no, spelled_same, length-spelled}
-use Rattle.script_text.proofs.Digits.{pair_code, pair_no, pair_parts, length-pair}
+use Rattle.script_text.proofs.Spelled.{spelled-has_no, spelled_same}
+use Rattle.script_text.proofs.Digits.{pair_code, pair_no, pair_parts}
 use Rattle.script_text.proofs.Numbers.{number_no_space, same_number}
 
 pub small_pair : (b c : ℕ) (x y : List ℕ) → hex_pair 0x61 b ++ x ≡ hex_pair 0x61 c ++ y → (b ≡ c) × (x ≡ y)
@@ -104,12 +103,3 @@ same_data word bytes other (inl hex) is =
     spelled_same (hex_pair 0x61) (pair_code 0x61 (omega arith)) bytes other (sym (hex_behind word _ bytes hex.spelled (inl hex)).1 ∙ (hex_behind word _ other hex.spelled is).1)
 same_data word bytes other (inr fill) is =
     fill.filled ∙ sym (fill_of_same fill.text other fill.byte fill.count (fill_behind word fill.text other fill.spelled is) fill.fill)
-
--- ---- sizes
-
-pub hex_size : (word digits bytes : List ℕ) → word ≡ codes "hex:" ++ digits → IsDataWord word bytes → length digits / 2 ≡ length bytes
-hex_size word digits bytes cut is =
-    omega (arith, ap length (hex_behind word digits bytes cut is).1, length-spelled (hex_pair 0x61) 2 (length-pair 0x61) bytes)
-
-pub fill_size : (text bytes : List ℕ) (b n : ℕ) → IsFillOf text bytes → IsFill text b n → n ≡ length bytes
-fill_size text bytes b n of is = sym (ap length (fill_of_same text bytes b n of is) ∙ length-replicate n b)

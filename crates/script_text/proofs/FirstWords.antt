@@ -3,7 +3,7 @@ use Rattle.std.proofs.Common.{◌≡◌, ◌≢◌, ℕ, false, List, [], ◌∷
 use Rattle.std.specs.Prelude.{codes}
 use Rattle.object_model.specs.Prelude.{Change}
 use Rattle.object_model.specs.declared.op.Op.{Op}
-use Rattle.object_model.specs.declared.op.Op.TheVariants.{MkColl, Touch, Write}
+use Rattle.object_model.specs.declared.op.Op.TheVariants.{MkColl, Touch, Write, Zero, Truncate, Remove}
 use Rattle.object_model.specs.declared.command.Command.{Command as Asked}
 use Rattle.object_model.specs.declared.command.Command.TheVariants as command
 use Rattle.script_text.specs.Prelude.{IsNameWord, IsNumber, op_word, AreArgs, AreChangeWords, AreReadWords, AreObjectWords, AreListWords, AreWordsOf}
@@ -13,11 +13,18 @@ use Rattle.script_text.proofs.Splits.{same_bytes, differ}
 use Rattle.script_text.proofs.Numbers.{same_number}
 use Rattle.script_text.proofs.Names.{same_name}
 
--- none of the words that a line of several words begins with
-pub record IsOtherWord (word : List ℕ) : Type 0 where
+-- none of the words that a transaction begins with
+pub record IsNoOpWord (word : List ℕ) : Type 0 where
   pub no_mkcoll : word ≢ codes "mkcoll"
   pub no_touch : word ≢ codes "touch"
   pub no_write : word ≢ codes "write"
+  pub no_zero : word ≢ codes "zero"
+  pub no_truncate : word ≢ codes "truncate"
+  pub no_remove : word ≢ codes "remove"
+
+-- none of the words that a line of several words begins with
+pub record IsOtherWord (word : List ℕ) : Type 0 where
+  pub no_op : IsNoOpWord word
   pub no_read : word ≢ codes "read"
   pub no_sum : word ≢ codes "sum"
   pub no_stat : word ≢ codes "stat"
@@ -30,31 +37,38 @@ apart a b words more behind test is also =
     let first : a ≡ b = cc in differ a b test first
 
 -- a transaction begins with the word of an operation
-op_first : (word : List ℕ) (op : Op) (args : List (List ℕ)) → word ≢ codes "mkcoll" → word ≢ codes "touch" → word ≢ codes "write" → word ≡ op_word op
-    → AreArgs args op → ⊥
-op_first word MkColl args no_mkcoll no_touch no_write first about = no_mkcoll first
-op_first word (Touch object) args no_mkcoll no_touch no_write first about = no_touch first
-op_first word (Write object off bytes) args no_mkcoll no_touch no_write first about = no_write first
-op_first word op args no_mkcoll no_touch no_write first about = about
+op_first : (word : List ℕ) (op : Op) (args : List (List ℕ)) → IsNoOpWord word → word ≡ op_word op → AreArgs args op → ⊥
+op_first word MkColl args none first about = none.no_mkcoll first
+op_first word (Touch o) args none first about = none.no_touch first
+op_first word (Write o off bytes) args none first about = none.no_write first
+op_first word (Zero o off len) args none first about = none.no_zero first
+op_first word (Truncate o size) args none first about = none.no_truncate first
+op_first word (Remove o) args none first about = none.no_remove first
+op_first word op args none first about = about
 
 -- words that begin with none of these are no transaction
-no_change : (word : List ℕ) (words more : List (List ℕ)) (change : Change) → word ≢ codes "mkcoll" → word ≢ codes "touch" → word ≢ codes "write"
-    → words ≡ word ∷ more → AreChangeWords words change → ⊥
-no_change word words more change no_mkcoll no_touch no_write is say =
+no_change : (word : List ℕ) (words more : List (List ℕ)) (change : Change) → IsNoOpWord word → words ≡ word ∷ more → AreChangeWords words change → ⊥
+no_change word words more change none is say =
     let both : word ∷ more ≡ op_word say.op ∷ change.coll ∷ say.args = sym is ∙ say.whole in
-    let first : word ≡ op_word say.op = cc in op_first word say.op say.args no_mkcoll no_touch no_write first say.about
+    let first : word ≡ op_word say.op = cc in op_first word say.op say.args none first say.about
 
--- the same of a known word: the tests compute
-known_no_change : (word : List ℕ) (words more : List (List ℕ)) (change : Change) → same_bytes word (codes "mkcoll") ≡ false
-    → same_bytes word (codes "touch") ≡ false
-    → same_bytes word (codes "write") ≡ false → words ≡ word ∷ more → AreChangeWords words change → ⊥
-known_no_change word words more change mkcoll touch write is say =
-    no_change word words more change (differ word (codes "mkcoll") mkcoll) (differ word (codes "touch") touch) (differ word (codes "write") write) is say
+-- a known word is none of them: the tests compute
+no_op_word : (word : List ℕ) → same_bytes word (codes "mkcoll") ≡ false → same_bytes word (codes "touch") ≡ false
+    → same_bytes word (codes "write") ≡ false → same_bytes word (codes "zero") ≡ false → same_bytes word (codes "truncate") ≡ false
+    → same_bytes word (codes "remove") ≡ false → IsNoOpWord word
+no_op_word word mkcoll touch write zero truncate remove = record {
+  no_mkcoll = differ word (codes "mkcoll") mkcoll;
+  no_touch = differ word (codes "touch") touch;
+  no_write = differ word (codes "write") write;
+  no_zero = differ word (codes "zero") zero;
+  no_truncate = differ word (codes "truncate") truncate;
+  no_remove = differ word (codes "remove") remove;
+}
 
 -- words that begin with another word say nothing, if they are several
 pub other_words : (word n : List ℕ) (ws : List (List ℕ)) (what : What) → IsOtherWord word → AreWordsOf (word ∷ n ∷ ws) what → ⊥
 other_words word n ws (Command (command.Change change)) other say =
-    no_change word (word ∷ n ∷ ws) (n ∷ ws) change other.no_mkcoll other.no_touch other.no_write refl say
+    no_change word (word ∷ n ∷ ws) (n ∷ ws) change other.no_op refl say
 other_words word n ws (Command (command.Read c o off len)) other say =
     let both : word ∷ n ∷ ws ≡ codes "read" ∷ c ∷ say.object_word ∷ say.off_word ∷ say.len_word ∷ [] = say.whole in
     let first : word ≡ codes "read" = cc in other.no_read first
@@ -105,7 +119,7 @@ pub record IsReadLine (words : List (List ℕ)) (what : What) : Type 0 where
 
 -- what begins with `read`
 pub read_only : (words ws : List (List ℕ)) (what : What) → words ≡ codes "read" ∷ ws → AreWordsOf words what → IsReadLine words what
-read_only words ws (Command (command.Change change)) is say = absurd (known_no_change (codes "read") words ws change refl refl refl is say)
+read_only words ws (Command (command.Change change)) is say = absurd (no_change (codes "read") words ws change (no_op_word (codes "read") refl refl refl refl refl refl) is say)
 read_only words ws (Command (command.Read c o off len)) is say = record { coll = c; object = o; off = off; len = len; says = refl; are = say }
 read_only words ws (Command (command.Sum c o)) is say =
     absurd (apart (codes "read") (codes "sum") words ws (c ∷ say.object_word ∷ []) refl is say.whole)
@@ -125,7 +139,7 @@ pub record IsObjectLine (word : List ℕ) (form : List ℕ → List ℕ → Aske
 -- what begins with `sum`
 pub sum_only : (words ws : List (List ℕ)) (what : What) → words ≡ codes "sum" ∷ ws → AreWordsOf words what
     → IsObjectLine (codes "sum") (λ c o. command.Sum c o) words what
-sum_only words ws (Command (command.Change change)) is say = absurd (known_no_change (codes "sum") words ws change refl refl refl is say)
+sum_only words ws (Command (command.Change change)) is say = absurd (no_change (codes "sum") words ws change (no_op_word (codes "sum") refl refl refl refl refl refl) is say)
 sum_only words ws (Command (command.Read c o off len)) is say =
     absurd (apart (codes "sum") (codes "read") words ws (c ∷ say.object_word ∷ say.off_word ∷ say.len_word ∷ []) refl is say.whole)
 sum_only words ws (Command (command.Sum c o)) is say = record { coll = c; object = o; says = refl; are = say }
@@ -138,7 +152,7 @@ sum_only words ws what is say = absurd say
 -- what begins with `stat`
 pub stat_only : (words ws : List (List ℕ)) (what : What) → words ≡ codes "stat" ∷ ws → AreWordsOf words what
     → IsObjectLine (codes "stat") (λ c o. command.Stat c o) words what
-stat_only words ws (Command (command.Change change)) is say = absurd (known_no_change (codes "stat") words ws change refl refl refl is say)
+stat_only words ws (Command (command.Change change)) is say = absurd (no_change (codes "stat") words ws change (no_op_word (codes "stat") refl refl refl refl refl refl) is say)
 stat_only words ws (Command (command.Read c o off len)) is say =
     absurd (apart (codes "stat") (codes "read") words ws (c ∷ say.object_word ∷ say.off_word ∷ say.len_word ∷ []) refl is say.whole)
 stat_only words ws (Command (command.Sum c o)) is say =
@@ -156,7 +170,7 @@ pub record IsListLine (words : List (List ℕ)) (what : What) : Type 0 where
 
 -- what begins with `list`
 pub list_only : (words ws : List (List ℕ)) (what : What) → words ≡ codes "list" ∷ ws → AreWordsOf words what → IsListLine words what
-list_only words ws (Command (command.Change change)) is say = absurd (known_no_change (codes "list") words ws change refl refl refl is say)
+list_only words ws (Command (command.Change change)) is say = absurd (no_change (codes "list") words ws change (no_op_word (codes "list") refl refl refl refl refl refl) is say)
 list_only words ws (Command (command.Read c o off len)) is say =
     absurd (apart (codes "list") (codes "read") words ws (c ∷ say.object_word ∷ say.off_word ∷ say.len_word ∷ []) refl is say.whole)
 list_only words ws (Command (command.Sum c o)) is say =
@@ -169,7 +183,7 @@ list_only words ws what is say = absurd say
 
 -- what begins with `wait`
 pub wait_only : (words ws : List (List ℕ)) (what : What) → words ≡ codes "wait" ∷ ws → AreWordsOf words what → what ≡ Wait
-wait_only words ws (Command (command.Change change)) is say = absurd (known_no_change (codes "wait") words ws change refl refl refl is say)
+wait_only words ws (Command (command.Change change)) is say = absurd (no_change (codes "wait") words ws change (no_op_word (codes "wait") refl refl refl refl refl refl) is say)
 wait_only words ws (Command (command.Read c o off len)) is say =
     absurd (apart (codes "wait") (codes "read") words ws (c ∷ say.object_word ∷ say.off_word ∷ say.len_word ∷ []) refl is say.whole)
 wait_only words ws (Command (command.Sum c o)) is say =

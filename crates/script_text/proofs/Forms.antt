@@ -1,5 +1,5 @@
 -- What the words of a line say.
-use Rattle.std.proofs.Common.{◌≡◌, ◌≢◌, ℕ, ◌≤◌, ◌<◌, ◌%◌, false, List, [], ◌∷◌, ◌++◌, length, Option, Some, None, Result, Ok, Err}
+use Rattle.std.proofs.Common.{◌≡◌, ◌≢◌, ℕ, ◌≤◌, true, false, List, [], ◌∷◌, ◌++◌, Option, Some, None, Result, Ok, Err}
 use Rattle.std.proofs.Common.{refl, sym, ap, subst, ◌∙◌, arith}
 use Rattle.std.specs.Prelude.{codes, IfOk, decimal}
 use Rattle.std.specs.Fmt.{digits}
@@ -7,16 +7,17 @@ use Rattle.std.proofs.lemmas.Fmt.{digits_is_IsNumeral, decimal_is_IsNumeral}
 use Rattle.unit_fields.specs.Prelude.{IsCollName, head_suffix}
 use Rattle.object_model.specs.Prelude.{Change}
 use Rattle.object_model.specs.declared.op.Op.{Op}
-use Rattle.object_model.specs.declared.op.Op.TheVariants.{MkColl, Touch, Write}
+use Rattle.object_model.specs.declared.op.Op.TheVariants.{MkColl, Touch, Write, Zero, Truncate, Remove}
 use Rattle.object_model.specs.declared.command.Command.TheVariants as command
-use Rattle.script_text.specs.Prelude.{HasNo, AreWords, in_words, IsNameWord, IsNumber, IsDataWord, op_word, AreTouchArgs, AreWriteArgs, AreArgs, AreChangeWords, AreReadWords, AreObjectWords, AreListWords, AreWordsOf, HasWholePages, FitsWhat, IsLineOf, op_line, IsPassedOver, NamesObject, Reads, ReadsWords}
+use Rattle.script_text.specs.Prelude.{HasNo, AreWords, in_words, IsNameWord, IsNumber, IsDataWord, op_word, AreObjectArgs, AreWriteArgs, AreRangeArgs, AreSizeArgs, AreArgs, AreChangeWords, AreReadWords, AreObjectWords, AreListWords, AreWordsOf, FitsWhat, IsLineOf, op_line, IsPassedOver, NamesObject, NamesRange, NamesSize, Reads, ReadsWords}
 use Rattle.script_text.specs.declared.line.What.{What}
 use Rattle.script_text.specs.declared.line.What.TheVariants.{Command, Wait}
-use Rattle.script_text.proofs.Splits.{parts, no_part, has_no-append, has_none, differ}
-use Rattle.script_text.proofs.Numbers.{no_space_digits, number_no_space, same_number}
-use Rattle.script_text.proofs.Names.{name_no_space, same_name}
-use Rattle.script_text.proofs.DataWords.{data_no_space, same_data}
+use Rattle.script_text.proofs.Splits.{parts, no_part, has_no-append, lacks, has_none, same_bytes}
+use Rattle.script_text.proofs.Numbers.{no_space_digits, number_no_space}
+use Rattle.script_text.proofs.Names.{name_no_space}
+use Rattle.script_text.proofs.DataWords.{data_no_space}
 use Rattle.script_text.proofs.Words.{same_words}
+use Rattle.script_text.proofs.OpWords.{IsWriteOp, known_args, mkcoll_only, touch_only, write_only, zero_only, truncate_only, remove_only, op_same}
 use Rattle.script_text.proofs.FirstWords.{IsOtherWord, other_words, change_only, read_only, sum_only, stat_only, list_only, wait_only}
 use Rattle.script_text.proofs.FirstWords.{read_same, object_same, list_same}
 
@@ -44,11 +45,36 @@ pub record IsWorded (words : List (List ℕ)) : Type 0 where
   pub whole : words ≡ (first ∷ word) ∷ behind
   pub no_spaces : AreWords ((first ∷ word) ∷ behind)
 
+object_args_words : (args : List (List ℕ)) (object : List ℕ) → AreObjectArgs args object → AreWords args
+object_args_words args object is = subst AreWords (sym is.words) (name_no_space is.object_word object is.names, tt)
+
 write_args_words : (args : List (List ℕ)) (object : List ℕ) (off : ℕ) (bytes : List ℕ) → AreWriteArgs args object off bytes → AreWords args
 write_args_words args object off bytes is = subst AreWords (sym is.words) (
   name_no_space is.object_word object is.names,
   (number_no_space is.off_word off is.offset, (data_no_space is.data_word bytes is.holds, tt)),
 )
+
+range_args_words : (args : List (List ℕ)) (object : List ℕ) (off len : ℕ) → AreRangeArgs args object off len → AreWords args
+range_args_words args object off len is = subst AreWords (sym is.words) (
+  name_no_space is.object_word object is.names,
+  (number_no_space is.off_word off is.offset, (number_no_space is.len_word len is.count, tt)),
+)
+
+size_args_words : (args : List (List ℕ)) (object : List ℕ) (size : ℕ) → AreSizeArgs args object size → AreWords args
+size_args_words args object size is = subst AreWords (sym is.words) (
+  name_no_space is.object_word object is.names,
+  (number_no_space is.size_word size is.sized, tt),
+)
+
+-- the words behind a collection's
+pub args_words : (op : Op) (args : List (List ℕ)) → AreArgs args op → AreWords args
+args_words MkColl args is = subst AreWords (sym is) tt
+args_words (Touch o) args is = object_args_words args o is
+args_words (Write o off bytes) args is = write_args_words args o off bytes is
+args_words (Zero o off len) args is = range_args_words args o off len is
+args_words (Truncate o size) args is = size_args_words args o size is
+args_words (Remove o) args is = object_args_words args o is
+args_words op args is = absurd is
 
 op_worded : (op : Op) (coll : List ℕ) (args : List (List ℕ)) → HasNo 0x20 coll → AreArgs args op → IsWorded (op_word op ∷ coll ∷ args)
 op_worded MkColl coll args none is = record {
@@ -57,23 +83,47 @@ op_worded MkColl coll args none is = record {
   behind = coll ∷ args;
   letter = omega arith;
   whole = refl;
-  no_spaces = (has_none 0x20 (codes "mkcoll") refl, (none, subst AreWords (sym is) tt));
+  no_spaces = (has_none 0x20 (codes "mkcoll") refl, (none, args_words MkColl args is));
 }
-op_worded (Touch object) coll args none is = record {
+op_worded (Touch o) coll args none is = record {
   first = 0x74;
   word = codes "ouch";
   behind = coll ∷ args;
   letter = omega arith;
   whole = refl;
-  no_spaces = (has_none 0x20 (codes "touch") refl, (none, subst AreWords (sym is.words) (name_no_space is.object_word object is.names, tt)));
+  no_spaces = (has_none 0x20 (codes "touch") refl, (none, args_words (Touch o) args is));
 }
-op_worded (Write object off bytes) coll args none is = record {
+op_worded (Write o off bytes) coll args none is = record {
   first = 0x77;
   word = codes "rite";
   behind = coll ∷ args;
   letter = omega arith;
   whole = refl;
-  no_spaces = (has_none 0x20 (codes "write") refl, (none, write_args_words args object off bytes is));
+  no_spaces = (has_none 0x20 (codes "write") refl, (none, args_words (Write o off bytes) args is));
+}
+op_worded (Zero o off len) coll args none is = record {
+  first = 0x7a;
+  word = codes "ero";
+  behind = coll ∷ args;
+  letter = omega arith;
+  whole = refl;
+  no_spaces = (has_none 0x20 (codes "zero") refl, (none, args_words (Zero o off len) args is));
+}
+op_worded (Truncate o size) coll args none is = record {
+  first = 0x74;
+  word = codes "runcate";
+  behind = coll ∷ args;
+  letter = omega arith;
+  whole = refl;
+  no_spaces = (has_none 0x20 (codes "truncate") refl, (none, args_words (Truncate o size) args is));
+}
+op_worded (Remove o) coll args none is = record {
+  first = 0x72;
+  word = codes "emove";
+  behind = coll ∷ args;
+  letter = omega arith;
+  whole = refl;
+  no_spaces = (has_none 0x20 (codes "remove") refl, (none, args_words (Remove o) args is));
 }
 op_worded op coll args none is = absurd is
 
@@ -190,39 +240,6 @@ passed_or_line text what passed line =
 
 -- ---- a line says one thing
 
-write_args_same : (args : List (List ℕ)) (o p : List ℕ) (n m : ℕ) (b c : List ℕ) → AreWriteArgs args o n b → AreWriteArgs args p m c
-    → Write o n b ≡ Write p m c
-write_args_same args o p n m b c x y =
-    let words : x.object_word ∷ x.off_word ∷ x.data_word ∷ [] ≡ y.object_word ∷ y.off_word ∷ y.data_word ∷ [] = sym x.words ∙ y.words in
-    let object_words : y.object_word ≡ x.object_word = cc in
-    let off_words : y.off_word ≡ x.off_word = cc in
-    let data_words : y.data_word ≡ x.data_word = cc in
-    let objects : o ≡ p = same_name x.object_word o p x.names (subst (λ (l : List ℕ). IsNameWord l p) object_words y.names) in
-    let offs : n ≡ m = same_number x.off_word n m x.offset (subst (λ (l : List ℕ). IsNumber l m) off_words y.offset) in
-    let datas : b ≡ c = same_data x.data_word b c x.holds (subst (λ (l : List ℕ). IsDataWord l c) data_words y.holds) in
-    cc
-
-touch_args_same : (args : List (List ℕ)) (o p : List ℕ) → AreTouchArgs args o → AreTouchArgs args p → Touch o ≡ Touch p
-touch_args_same args o p x y =
-    let words : x.object_word ∷ [] ≡ y.object_word ∷ [] = sym x.words ∙ y.words in
-    let object_words : y.object_word ≡ x.object_word = cc in
-    ap Touch (same_name x.object_word o p x.names (subst (λ (l : List ℕ). IsNameWord l p) object_words y.names))
-
-op_same : (args : List (List ℕ)) (a b : Op) → op_word a ≡ op_word b → AreArgs args a → AreArgs args b → a ≡ b
-op_same args MkColl MkColl word x y = refl
-op_same args MkColl (Touch p) word x y = absurd (differ (codes "mkcoll") (codes "touch") refl word)
-op_same args MkColl (Write p m c) word x y = absurd (differ (codes "mkcoll") (codes "write") refl word)
-op_same args (Touch o) MkColl word x y = absurd (differ (codes "touch") (codes "mkcoll") refl word)
-op_same args (Touch o) (Touch p) word x y = touch_args_same args o p x y
-op_same args (Touch o) (Write p m c) word x y = absurd (differ (codes "touch") (codes "write") refl word)
-op_same args (Write o n b) MkColl word x y = absurd (differ (codes "write") (codes "mkcoll") refl word)
-op_same args (Write o n b) (Touch p) word x y = absurd (differ (codes "write") (codes "touch") refl word)
-op_same args (Write o n b) (Write p m c) word x y = write_args_same args o p n m b c x y
-op_same args MkColl b word x y = absurd y
-op_same args (Touch o) b word x y = absurd y
-op_same args (Write o n bytes) b word x y = absurd y
-op_same args a b word x y = absurd x
-
 change_is : (a b : Change) → a.coll ≡ b.coll → a.ops ≡ b.ops → a ≡ b
 change_is a b colls lists =
     let first : a ≡ record { coll = b.coll; ops = a.ops } = ap (λ (l : List ℕ). record { coll = l; ops = a.ops }) colls in
@@ -314,39 +331,61 @@ pub no_line : (word rest : List ℕ) (what : What) → HasNo 0x20 word → IsOth
 no_line word rest what none other line =
     let behind = behind_first word rest what none line in other_words word behind.next behind.words what other behind.say
 
+-- ---- a line of a transaction
+
+-- the words of a line that begins with an operation's word
+pub record IsOpLine (word rest : List ℕ) : Type 0 where
+  pub coll : List ℕ
+  pub op : Op
+  pub args : List (List ℕ)
+  pub named : IsCollName coll
+  pub word_is : word ≡ op_word op
+  pub whole : rest ≡ in_words (coll ∷ args)
+  pub about : AreArgs args op
+
+-- what begins with none of these words, which the tests compute, is a line of a transaction
+pub op_says : (word rest : List ℕ) (what : What) → lacks 0x20 word ≡ true → same_bytes word (codes "read") ≡ false → same_bytes word (codes "sum") ≡ false
+    → same_bytes word (codes "stat") ≡ false → same_bytes word (codes "list") ≡ false → same_bytes word (codes "wait") ≡ false
+    → IsLineOf (word ++ (0x20 ∷ rest)) what → IsOpLine word rest
+op_says word rest what none read sum stat list wait line =
+    let behind = behind_first word rest what (has_none 0x20 word none) line in
+    let of = change_only word (behind.next ∷ behind.words) what read sum stat list wait behind.say in
+    let both : word ∷ behind.next ∷ behind.words ≡ op_word of.are.op ∷ of.change.coll ∷ of.are.args = of.are.whole in
+    let first : word ≡ op_word of.are.op = cc in
+    let tails : behind.next ∷ behind.words ≡ of.change.coll ∷ of.are.args = cc in
+    record {
+      coll = of.change.coll;
+      op = of.are.op;
+      args = of.are.args;
+      named = of.are.named;
+      word_is = first;
+      whole = behind.whole ∙ ap in_words tails;
+      about = of.are.about;
+    }
+
+-- an operation's word, a collection's and those of its arguments are a line
+pub op_said : (rest coll : List ℕ) (op : Op) (args : List (List ℕ)) (what : What) → IsCollName coll → rest ≡ in_words (coll ∷ args) → AreArgs args op
+    → what ≡ op_line coll op → IsLineOf (op_word op ++ (0x20 ∷ rest)) what
+op_said rest coll op args what named whole about says =
+    subst (λ (w : What). IsLineOf (op_word op ++ (0x20 ∷ rest)) w) (sym says) (record {
+      words = op_word op ∷ coll ∷ args;
+      whole = ap (λ (l : List ℕ). op_word op ++ (0x20 ∷ l)) whole;
+      say = record { op = op; args = args; alone = refl; named = named; whole = refl; about = about };
+      fits = known_args op args about;
+    })
+
 -- ---- `mkcoll`
-
-mkcoll_args : (op : Op) (args : List (List ℕ)) → codes "mkcoll" ≡ op_word op → AreArgs args op → args ≡ []
-mkcoll_args MkColl args word about = about
-mkcoll_args (Touch object) args word about = absurd (differ (codes "mkcoll") (codes "touch") refl word)
-mkcoll_args (Write object off bytes) args word about = absurd (differ (codes "mkcoll") (codes "write") refl word)
-mkcoll_args op args word about = absurd about
-
-mkcoll_words : (n : List ℕ) (ws : List (List ℕ)) (what : What) → AreWordsOf (codes "mkcoll" ∷ n ∷ ws) what → IsCollName n × (ws ≡ [])
-mkcoll_words n ws what say =
-    let of = change_only (codes "mkcoll") (n ∷ ws) what refl refl refl refl refl say in
-    let both : codes "mkcoll" ∷ n ∷ ws ≡ op_word of.are.op ∷ of.change.coll ∷ of.are.args = of.are.whole in
-    let word : codes "mkcoll" ≡ op_word of.are.op = cc in
-    let coll : of.change.coll ≡ n = cc in
-    let args : ws ≡ of.are.args = cc in
-    (subst IsCollName coll of.are.named, args ∙ mkcoll_args of.are.op of.are.args word of.are.about)
 
 pub mkcoll_says : (rest : List ℕ) (what : What) → IsLineOf (codes "mkcoll" ++ (0x20 ∷ rest)) what → IsCollName rest
 mkcoll_says rest what line =
-    let behind = behind_first (codes "mkcoll") rest what (has_none 0x20 (codes "mkcoll") refl) line in
-    let both = mkcoll_words behind.next behind.words what behind.say in
-    subst IsCollName (sym (behind.whole ∙ ap (λ (l : List (List ℕ)). in_words (behind.next ∷ l)) both.1)) both.0
+    let of = op_says (codes "mkcoll") rest what refl refl refl refl refl refl line in
+    let none = (mkcoll_only of.op of.args of.word_is of.about).1 in
+    subst IsCollName (sym (of.whole ∙ ap (λ (l : List (List ℕ)). in_words (of.coll ∷ l)) none)) of.named
 
 pub mkcoll_line : (rest coll : List ℕ) (what : What) → coll ≡ rest → IsCollName rest → what ≡ op_line coll MkColl → IsLineOf (codes "mkcoll" ++ (0x20 ∷ rest)) what
-mkcoll_line rest coll what is named says =
-    subst (λ (w : What). IsLineOf (codes "mkcoll" ++ (0x20 ∷ rest)) w) (sym (says ∙ ap (λ (l : List ℕ). op_line l MkColl) is)) (record {
-      words = codes "mkcoll" ∷ rest ∷ [];
-      whole = refl;
-      say = record { op = MkColl; args = []; alone = refl; named = named; whole = refl; about = refl };
-      fits = tt;
-    })
+mkcoll_line rest coll what is named says = op_said rest coll MkColl [] what (subst IsCollName (sym is) named) (sym is) refl says
 
--- ---- `touch`
+-- ---- `touch` and `remove`
 
 -- the text names an object
 pub record HasObject (text : List ℕ) : Type 0 where
@@ -361,64 +400,41 @@ names_behind word n ws rest coll object object_word is both named names =
     let tails : n ∷ ws ≡ coll ∷ object_word ∷ [] = cc in
     record { object_word = object_word; named = named; whole = is ∙ ap in_words tails; names = names }
 
--- what is known of the arguments of a touch
-record HasTouch (args : List (List ℕ)) : Type 0 where
-  object : List ℕ
-  are : AreTouchArgs args object
-
--- behind `touch` stand the arguments of a touch
-touch_args : (op : Op) (args : List (List ℕ)) → codes "touch" ≡ op_word op → AreArgs args op → HasTouch args
-touch_args MkColl args word about = absurd (differ (codes "touch") (codes "mkcoll") refl word)
-touch_args (Touch object) args word about = record { object = object; are = about }
-touch_args (Write object off bytes) args word about = absurd (differ (codes "touch") (codes "write") refl word)
-touch_args op args word about = absurd about
-
--- words that are a collection's name and the arguments of a touch
-touched : (n : List ℕ) (ws : List (List ℕ)) (rest coll : List ℕ) (args : List (List ℕ)) → rest ≡ in_words (n ∷ ws) → n ∷ ws ≡ coll ∷ args
-    → IsCollName coll → HasTouch args → HasObject rest
-touched n ws rest coll args is tails named touch = record {
-  coll = coll;
-  object = touch.object;
-  names = record {
-    object_word = touch.are.object_word;
-    named = named;
-    whole = is ∙ ap in_words (tails ∙ ap (λ (l : List (List ℕ)). coll ∷ l) touch.are.words);
-    names = touch.are.names;
-  };
+-- a collection's word and an object's name it
+objects_of : (rest coll object : List ℕ) (args : List (List ℕ)) → IsCollName coll → rest ≡ in_words (coll ∷ args) → AreObjectArgs args object
+    → NamesObject rest coll object
+objects_of rest coll object args named whole are = record {
+  object_word = are.object_word;
+  named = named;
+  whole = whole ∙ ap (λ (l : List (List ℕ)). in_words (coll ∷ l)) are.words;
+  names = are.names;
 }
 
--- the words of a line of `touch` name an object
-touch_words : (n : List ℕ) (ws : List (List ℕ)) (rest : List ℕ) (what : What) → rest ≡ in_words (n ∷ ws) → AreWordsOf (codes "touch" ∷ n ∷ ws) what
-    → HasObject rest
-touch_words n ws rest what is say =
-    let of = change_only (codes "touch") (n ∷ ws) what refl refl refl refl refl say in
-    let both : codes "touch" ∷ n ∷ ws ≡ op_word of.are.op ∷ of.change.coll ∷ of.are.args = of.are.whole in
-    let word : codes "touch" ≡ op_word of.are.op = cc in
-    let tails : n ∷ ws ≡ of.change.coll ∷ of.are.args = cc in
-    touched n ws rest of.change.coll of.are.args is tails of.are.named (touch_args of.are.op of.are.args word of.are.about)
+-- the words of a text that names an object, behind the collection's
+object_args : (rest c o : List ℕ) (is : NamesObject rest c o) → AreObjectArgs (is.object_word ∷ []) o
+object_args rest c o is = record { object_word = is.object_word; words = refl; names = is.names }
 
 -- a line of `touch` names an object
 pub touch_says : (rest : List ℕ) (what : What) → IsLineOf (codes "touch" ++ (0x20 ∷ rest)) what → HasObject rest
 touch_says rest what line =
-    let behind = behind_first (codes "touch") rest what (has_none 0x20 (codes "touch") refl) line in
-    touch_words behind.next behind.words rest what behind.whole behind.say
+    let of = op_says (codes "touch") rest what refl refl refl refl refl refl line in
+    let only = touch_only of.op of.args of.word_is of.about in
+    record { coll = of.coll; object = only.object; names = objects_of rest of.coll only.object of.args of.named of.whole only.are }
 
 -- a text that names an object behind `touch`
 pub touch_line : (rest c o : List ℕ) (what : What) → NamesObject rest c o → what ≡ op_line c (Touch o) → IsLineOf (codes "touch" ++ (0x20 ∷ rest)) what
-touch_line rest c o what is says =
-    subst (λ (w : What). IsLineOf (codes "touch" ++ (0x20 ∷ rest)) w) (sym says) (record {
-      words = codes "touch" ∷ c ∷ is.object_word ∷ [];
-      whole = ap (λ (l : List ℕ). codes "touch" ++ (0x20 ∷ l)) is.whole;
-      say = record {
-        op = Touch o;
-        args = is.object_word ∷ [];
-        alone = refl;
-        named = is.named;
-        whole = refl;
-        about = record { object_word = is.object_word; words = refl; names = is.names };
-      };
-      fits = tt;
-    })
+touch_line rest c o what is says = op_said rest c (Touch o) (is.object_word ∷ []) what is.named is.whole (object_args rest c o is) says
+
+-- a line of `remove` names an object
+pub remove_says : (rest : List ℕ) (what : What) → IsLineOf (codes "remove" ++ (0x20 ∷ rest)) what → HasObject rest
+remove_says rest what line =
+    let of = op_says (codes "remove") rest what refl refl refl refl refl refl line in
+    let only = remove_only of.op of.args of.word_is of.about in
+    record { coll = of.coll; object = only.object; names = objects_of rest of.coll only.object of.args of.named of.whole only.are }
+
+-- a text that names an object behind `remove`
+pub remove_line : (rest c o : List ℕ) (what : What) → NamesObject rest c o → what ≡ op_line c (Remove o) → IsLineOf (codes "remove" ++ (0x20 ∷ rest)) what
+remove_line rest c o what is says = op_said rest c (Remove o) (is.object_word ∷ []) what is.named is.whole (object_args rest c o is) says
 
 -- a text that isn't two words names no object
 pub no_names : (text : List ℕ) (coll object : List ℕ) → ((a b : List ℕ) → AreWords (a ∷ b ∷ []) → text ≢ in_words (a ∷ b ∷ []))
@@ -436,6 +452,143 @@ two_names text a b coll object are whole is =
     let words : is.object_word ≡ b = cc in
     (subst IsCollName colls is.named, subst (λ (w : List ℕ). IsNameWord w object) words is.names)
 
+-- ---- a range, and a size
+
+-- a text that isn't four words names no range
+pub no_range : (text coll object : List ℕ) (off len : ℕ) → ((a b c d : List ℕ) → AreWords (a ∷ b ∷ c ∷ d ∷ []) → text ≢ in_words (a ∷ b ∷ c ∷ d ∷ []))
+    → ¬ (NamesRange text coll object off len)
+no_range text coll object off len none is =
+    none coll is.are.object_word is.are.off_word is.are.len_word
+    (coll_no_space coll is.named, subst AreWords is.are.words (range_args_words is.args object off len is.are))
+    (is.whole ∙ ap (λ (l : List (List ℕ)). in_words (coll ∷ l)) is.are.words)
+
+-- what four words say
+pub record AreRangeWords (a b c d coll object : List ℕ) (off len : ℕ) : Type 0 where
+  pub named : IsCollName a
+  pub names : IsNameWord b object
+  pub offset : IsNumber c off
+  pub count : IsNumber d len
+
+-- the four words of a text that names a range
+pub range_words : (text a b c d coll object : List ℕ) (off len : ℕ) → AreWords (a ∷ b ∷ c ∷ d ∷ []) → text ≡ in_words (a ∷ b ∷ c ∷ d ∷ [])
+    → NamesRange text coll object off len → AreRangeWords a b c d coll object off len
+range_words text a b c d coll object off len are whole is =
+    let same = same_words a coll (b ∷ c ∷ d ∷ []) is.args are
+    (coll_no_space coll is.named, range_args_words is.args object off len is.are) (sym whole ∙ is.whole) in
+    let colls : coll ≡ a = cc in
+    let args : is.args ≡ b ∷ c ∷ d ∷ [] = cc in
+    let words : is.are.object_word ∷ is.are.off_word ∷ is.are.len_word ∷ [] ≡ b ∷ c ∷ d ∷ [] = sym is.are.words ∙ args in
+    let object_words : is.are.object_word ≡ b = cc in
+    let off_words : is.are.off_word ≡ c = cc in
+    let len_words : is.are.len_word ≡ d = cc in
+    record {
+      named = subst IsCollName colls is.named;
+      names = subst (λ (w : List ℕ). IsNameWord w object) object_words is.are.names;
+      offset = subst (λ (w : List ℕ). IsNumber w off) off_words is.are.offset;
+      count = subst (λ (w : List ℕ). IsNumber w len) len_words is.are.count;
+    }
+
+-- four good words name a range
+pub range_named : (text a b c d coll object : List ℕ) (off len : ℕ) → text ≡ in_words (a ∷ b ∷ c ∷ d ∷ []) → coll ≡ a → IsCollName a → IsNameWord b object
+    → IsNumber c off → IsNumber d len → NamesRange text coll object off len
+range_named text a b c d coll object off len whole is named names offset count = record {
+  named = subst IsCollName (sym is) named;
+  args = b ∷ c ∷ d ∷ [];
+  whole = whole ∙ ap (λ (l : List ℕ). in_words (l ∷ b ∷ c ∷ d ∷ [])) (sym is);
+  are = record { object_word = b; off_word = c; len_word = d; words = refl; names = names; offset = offset; count = count };
+}
+
+-- the text names a range
+pub record HasRange (text : List ℕ) : Type 0 where
+  pub coll : List ℕ
+  pub object : List ℕ
+  pub off : ℕ
+  pub len : ℕ
+  pub names : NamesRange text coll object off len
+
+-- a line of `zero` names a range
+pub zero_says : (rest : List ℕ) (what : What) → IsLineOf (codes "zero" ++ (0x20 ∷ rest)) what → HasRange rest
+zero_says rest what line =
+    let of = op_says (codes "zero") rest what refl refl refl refl refl refl line in
+    let only = zero_only of.op of.args of.word_is of.about in
+    record {
+      coll = of.coll;
+      object = only.object;
+      off = only.off;
+      len = only.len;
+      names = record { named = of.named; args = of.args; whole = of.whole; are = only.are };
+    }
+
+-- a text that names a range behind `zero`
+pub zero_line : (rest c o : List ℕ) (off len : ℕ) (what : What) → NamesRange rest c o off len → what ≡ op_line c (Zero o off len)
+    → IsLineOf (codes "zero" ++ (0x20 ∷ rest)) what
+zero_line rest c o off len what is says = op_said rest c (Zero o off len) is.args what is.named is.whole is.are says
+
+-- a text that isn't three words names no size
+pub no_size : (text coll object : List ℕ) (size : ℕ) → ((a b c : List ℕ) → AreWords (a ∷ b ∷ c ∷ []) → text ≢ in_words (a ∷ b ∷ c ∷ []))
+    → ¬ (NamesSize text coll object size)
+no_size text coll object size none is =
+    none coll is.are.object_word is.are.size_word
+    (coll_no_space coll is.named, subst AreWords is.are.words (size_args_words is.args object size is.are))
+    (is.whole ∙ ap (λ (l : List (List ℕ)). in_words (coll ∷ l)) is.are.words)
+
+-- what three words say
+pub record AreSizeWords (a b c coll object : List ℕ) (size : ℕ) : Type 0 where
+  pub named : IsCollName a
+  pub names : IsNameWord b object
+  pub sized : IsNumber c size
+
+-- the three words of a text that names a size
+pub size_words : (text a b c coll object : List ℕ) (size : ℕ) → AreWords (a ∷ b ∷ c ∷ []) → text ≡ in_words (a ∷ b ∷ c ∷ [])
+    → NamesSize text coll object size → AreSizeWords a b c coll object size
+size_words text a b c coll object size are whole is =
+    let same = same_words a coll (b ∷ c ∷ []) is.args are
+    (coll_no_space coll is.named, size_args_words is.args object size is.are) (sym whole ∙ is.whole) in
+    let colls : coll ≡ a = cc in
+    let args : is.args ≡ b ∷ c ∷ [] = cc in
+    let words : is.are.object_word ∷ is.are.size_word ∷ [] ≡ b ∷ c ∷ [] = sym is.are.words ∙ args in
+    let object_words : is.are.object_word ≡ b = cc in
+    let sizes : is.are.size_word ≡ c = cc in
+    record {
+      named = subst IsCollName colls is.named;
+      names = subst (λ (w : List ℕ). IsNameWord w object) object_words is.are.names;
+      sized = subst (λ (w : List ℕ). IsNumber w size) sizes is.are.sized;
+    }
+
+-- three good words name a size
+pub size_named : (text a b c coll object : List ℕ) (size : ℕ) → text ≡ in_words (a ∷ b ∷ c ∷ []) → coll ≡ a → IsCollName a → IsNameWord b object
+    → IsNumber c size → NamesSize text coll object size
+size_named text a b c coll object size whole is named names sized = record {
+  named = subst IsCollName (sym is) named;
+  args = b ∷ c ∷ [];
+  whole = whole ∙ ap (λ (l : List ℕ). in_words (l ∷ b ∷ c ∷ [])) (sym is);
+  are = record { object_word = b; size_word = c; words = refl; names = names; sized = sized };
+}
+
+-- the text names a size
+pub record HasSize (text : List ℕ) : Type 0 where
+  pub coll : List ℕ
+  pub object : List ℕ
+  pub size : ℕ
+  pub names : NamesSize text coll object size
+
+-- a line of `truncate` names a size
+pub truncate_says : (rest : List ℕ) (what : What) → IsLineOf (codes "truncate" ++ (0x20 ∷ rest)) what → HasSize rest
+truncate_says rest what line =
+    let of = op_says (codes "truncate") rest what refl refl refl refl refl refl line in
+    let only = truncate_only of.op of.args of.word_is of.about in
+    record {
+      coll = of.coll;
+      object = only.object;
+      size = only.size;
+      names = record { named = of.named; args = of.args; whole = of.whole; are = only.are };
+    }
+
+-- a text that names a size behind `truncate`
+pub truncate_line : (rest c o : List ℕ) (size : ℕ) (what : What) → NamesSize rest c o size → what ≡ op_line c (Truncate o size)
+    → IsLineOf (codes "truncate" ++ (0x20 ∷ rest)) what
+truncate_line rest c o size what is says = op_said rest c (Truncate o size) is.args what is.named is.whole is.are says
+
 -- ---- `write`
 
 -- the words behind `write` say this
@@ -447,7 +600,6 @@ pub record IsWrite (coll object off holds : List ℕ) : Type 0 where
   pub at : ℕ
   pub offset : IsNumber off at
   pub spelled : IsDataWord holds bytes
-  pub pages : (at % 4096 ≡ 0) × (length bytes % 4096 ≡ 0) × (0 < length bytes)
 
 -- four words, and what they hold
 record AreFour (n : List ℕ) (ws : List (List ℕ)) : Type 0 where
@@ -457,43 +609,37 @@ record AreFour (n : List ℕ) (ws : List (List ℕ)) : Type 0 where
   four : ws ≡ object ∷ off ∷ holds ∷ []
   write : IsWrite n object off holds
 
-four_args : (n coll : List ℕ) (args : List (List ℕ)) (op : Op) → codes "write" ≡ op_word op → AreArgs args op → HasWholePages (op ∷ []) → coll ≡ n
-    → IsCollName coll → AreFour n args
-four_args n coll args MkColl word about page is named = absurd (differ (codes "write") (codes "mkcoll") refl word)
-four_args n coll args (Touch object) word about page is named = absurd (differ (codes "write") (codes "touch") refl word)
-four_args n coll args (Write object off bytes) word about page is named = record {
-  object = about.object_word;
-  off = about.off_word;
-  holds = about.data_word;
-  four = about.words;
+-- the words of a write, behind a collection's
+four_of : (n coll : List ℕ) (ws args : List (List ℕ)) (op : Op) → coll ≡ n → ws ≡ args → IsCollName coll → IsWriteOp args op → AreFour n ws
+four_of n coll ws args op is same named of = record {
+  object = of.are.object_word;
+  off = of.are.off_word;
+  holds = of.are.data_word;
+  four = same ∙ of.are.words;
   write = record {
-    name = object;
-    bytes = bytes;
+    name = of.object;
+    bytes = of.bytes;
     is_coll = subst IsCollName is named;
-    names = about.names;
-    at = off;
-    offset = about.offset;
-    spelled = about.holds;
-    pages = page;
+    names = of.are.names;
+    at = of.off;
+    offset = of.are.offset;
+    spelled = of.are.holds;
   };
 }
-four_args n coll args op word about page is named = absurd about
 
-four_words : (n : List ℕ) (ws : List (List ℕ)) (what : What) → AreWordsOf (codes "write" ∷ n ∷ ws) what → FitsWhat what → AreFour n ws
-four_words n ws what say fits =
+four_words : (n : List ℕ) (ws : List (List ℕ)) (what : What) → AreWordsOf (codes "write" ∷ n ∷ ws) what → AreFour n ws
+four_words n ws what say =
     let of = change_only (codes "write") (n ∷ ws) what refl refl refl refl refl say in
-    let pages : HasWholePages of.change.ops = subst FitsWhat of.says fits in
     let both : codes "write" ∷ n ∷ ws ≡ op_word of.are.op ∷ of.change.coll ∷ of.are.args = of.are.whole in
     let word : codes "write" ≡ op_word of.are.op = cc in
     let coll : of.change.coll ≡ n = cc in
-    let args : of.are.args ≡ ws = cc in
-    subst (λ (l : List (List ℕ)). AreFour n l) args
-    (four_args n of.change.coll of.are.args of.are.op word of.are.about (subst HasWholePages of.are.alone pages) coll of.are.named)
+    let args : ws ≡ of.are.args = cc in
+    four_of n of.change.coll ws of.are.args of.are.op coll args of.are.named (write_only of.are.op of.are.args word of.are.about)
 
-pub write_words : (coll object off holds : List ℕ) (what : What) → AreWordsOf (codes "write" ∷ coll ∷ object ∷ off ∷ holds ∷ []) what → FitsWhat what
+pub write_words : (coll object off holds : List ℕ) (what : What) → AreWordsOf (codes "write" ∷ coll ∷ object ∷ off ∷ holds ∷ []) what
     → IsWrite coll object off holds
-write_words coll object off holds what say fits =
-    let of = four_words coll (object ∷ off ∷ holds ∷ []) what say fits in
+write_words coll object off holds what say =
+    let of = four_words coll (object ∷ off ∷ holds ∷ []) what say in
     let both : of.object ∷ of.off ∷ of.holds ∷ [] ≡ object ∷ off ∷ holds ∷ [] = sym of.four in
     let objects : of.object ≡ object = cc in
     let offs : of.off ≡ off = cc in
@@ -502,9 +648,9 @@ write_words coll object off holds what say fits =
     (subst (λ (l : List ℕ). IsWrite coll l of.off of.holds) objects of.write))
 
 pub write_say : (coll object off holds c o : List ℕ) (n : ℕ) (bytes : List ℕ) (what : What) → c ≡ coll → IsCollName coll → IsNameWord object o → IsNumber off n
-    → IsDataWord holds bytes → (n % 4096 ≡ 0) × (length bytes % 4096 ≡ 0) × (0 < length bytes) → what ≡ op_line c (Write o n bytes)
+    → IsDataWord holds bytes → what ≡ op_line c (Write o n bytes)
     → AreWordsOf (codes "write" ∷ coll ∷ object ∷ off ∷ holds ∷ []) what × FitsWhat what
-write_say coll object off holds c o n bytes what is named names offset spelled page says =
+write_say coll object off holds c o n bytes what is named names offset spelled says =
     subst (λ (w : What). AreWordsOf (codes "write" ∷ coll ∷ object ∷ off ∷ holds ∷ []) w × FitsWhat w)
     (sym (says ∙ ap (λ (l : List ℕ). op_line l (Write o n bytes)) is)) (
       record {
@@ -515,7 +661,7 @@ write_say coll object off holds c o n bytes what is named names offset spelled p
         whole = refl;
         about = record { object_word = object; off_word = off; data_word = holds; words = refl; names = names; offset = offset; holds = spelled };
       },
-      page,
+      tt,
     )
 
 -- a line of `write` has four words behind it
@@ -523,7 +669,7 @@ pub no_four : (rest : List ℕ) (what : What) → ((a b c d : List ℕ) → AreW
     → ¬ (IsLineOf (codes "write" ++ (0x20 ∷ rest)) what)
 no_four rest what none line =
     let behind = behind_first (codes "write") rest what (has_none 0x20 (codes "write") refl) line in
-    let of = four_words behind.next behind.words what behind.say line.fits in
+    let of = four_words behind.next behind.words what behind.say in
     none behind.next of.object of.off of.holds
     (subst (λ (l : List (List ℕ)). AreWords (behind.next ∷ l)) of.four behind.no_spaces)
     (behind.whole ∙ ap (λ (l : List (List ℕ)). in_words (behind.next ∷ l)) of.four)

@@ -5,6 +5,7 @@ pub mod Names
 pub mod Numbers
 pub mod DataWords
 pub mod Words
+pub mod OpWords
 pub mod FirstWords
 pub mod Forms
 pub mod ReadForms

@@ -1,15 +1,15 @@
 -- The lines of reads, and the words behind their first one.
-use Rattle.std.proofs.Common.{◌≡◌, ◌≢◌, ℕ, List, [], ◌∷◌, ◌++◌, refl, sym, ap, subst, ◌∙◌}
+use Rattle.std.proofs.Common.{◌≡◌, ℕ, List, [], ◌∷◌, ◌++◌, refl, sym, ap, subst, ◌∙◌}
 use Rattle.std.specs.Prelude.{codes}
 use Rattle.unit_fields.specs.Prelude.{IsCollName}
 use Rattle.object_model.specs.declared.command.Command.{Command as Asked}
 use Rattle.object_model.specs.declared.command.Command.TheVariants as command
-use Rattle.script_text.specs.Prelude.{AreWords, in_words, IsNameWord, IsNumber, AreObjectWords, AreWordsOf, FitsWhat, IsLineOf, NamesObject}
+use Rattle.script_text.specs.Prelude.{in_words, AreObjectWords, IsLineOf, NamesObject, NamesRange}
 use Rattle.script_text.specs.declared.line.What.{What}
 use Rattle.script_text.specs.declared.line.What.TheVariants.{Command}
 use Rattle.script_text.proofs.Splits.{has_none}
 use Rattle.script_text.proofs.FirstWords.{IsObjectLine, read_only, sum_only, stat_only, list_only}
-use Rattle.script_text.proofs.Forms.{behind_first, HasObject, names_behind}
+use Rattle.script_text.proofs.Forms.{behind_first, HasObject, names_behind, HasRange, range_named}
 
 -- ---- `sum` and `stat`
 
@@ -80,61 +80,37 @@ list_line rest coll is named = record {
 
 -- ---- `read`
 
--- the words behind `read` say this
-pub record IsReadAt (coll object off len : List ℕ) : Type 0 where
-  pub name : List ℕ
-  pub at : ℕ
-  pub count : ℕ
-  pub is_coll : IsCollName coll
-  pub names : IsNameWord object name
-  pub offset : IsNumber off at
-  pub size : IsNumber len count
-
--- what the words behind `read` say
-pub read_words : (coll object off len : List ℕ) (what : What) → AreWordsOf (codes "read" ∷ coll ∷ object ∷ off ∷ len ∷ []) what
-    → IsReadAt coll object off len
-read_words coll object off len what say =
-    let of = read_only (codes "read" ∷ coll ∷ object ∷ off ∷ len ∷ []) (coll ∷ object ∷ off ∷ len ∷ []) what refl say in
-    let both : codes "read" ∷ of.coll ∷ of.are.object_word ∷ of.are.off_word ∷ of.are.len_word ∷ [] ≡ codes "read" ∷ coll ∷ object ∷ off ∷ len ∷ []
-    = sym of.are.whole in
-    let colls : of.coll ≡ coll = cc in
-    let objects : of.are.object_word ≡ object = cc in
-    let offs : of.are.off_word ≡ off = cc in
-    let lens : of.are.len_word ≡ len = cc in
-    record {
-      name = of.object;
-      at = of.off;
-      count = of.len;
-      is_coll = subst IsCollName colls of.are.named;
-      names = subst (λ (w : List ℕ). IsNameWord w of.object) objects of.are.names;
-      offset = subst (λ (w : List ℕ). IsNumber w of.off) offs of.are.offset;
-      size = subst (λ (w : List ℕ). IsNumber w of.len) lens of.are.size;
-    }
-
--- four good words behind `read` say a read
-pub read_say : (coll object off len c o : List ℕ) (n k : ℕ) → c ≡ coll → IsCollName coll → IsNameWord object o → IsNumber off n → IsNumber len k
-    → AreWordsOf (codes "read" ∷ coll ∷ object ∷ off ∷ len ∷ []) (Command (command.Read c o n k)) × FitsWhat (Command (command.Read c o n k))
-read_say coll object off len c o n k is named names offset size = (
-  record {
-    object_word = object;
-    off_word = off;
-    len_word = len;
-    named = subst IsCollName (sym is) named;
-    whole = ap (λ (l : List ℕ). codes "read" ∷ l ∷ object ∷ off ∷ len ∷ []) (sym is);
-    names = names;
-    offset = offset;
-    size = size;
-  },
-  tt,
-)
-
--- a line of `read` has four words behind it
-pub no_read : (rest : List ℕ) (what : What) → ((a b c d : List ℕ) → AreWords (a ∷ b ∷ c ∷ d ∷ []) → rest ≢ in_words (a ∷ b ∷ c ∷ d ∷ []))
-    → ¬ (IsLineOf (codes "read" ++ (0x20 ∷ rest)) what)
-no_read rest what none line =
+-- a line of `read` names a range
+pub read_says : (rest : List ℕ) (what : What) → IsLineOf (codes "read" ++ (0x20 ∷ rest)) what → HasRange rest
+read_says rest what line =
     let behind = behind_first (codes "read") rest what (has_none 0x20 (codes "read") refl) line in
     let of = read_only (codes "read" ∷ behind.next ∷ behind.words) (behind.next ∷ behind.words) what refl behind.say in
-    let both : codes "read" ∷ behind.next ∷ behind.words ≡ codes "read" ∷ of.coll ∷ of.are.object_word ∷ of.are.off_word ∷ of.are.len_word ∷ []
-    = of.are.whole in
-    let tails : behind.next ∷ behind.words ≡ of.coll ∷ of.are.object_word ∷ of.are.off_word ∷ of.are.len_word ∷ [] = cc in
-    none of.coll of.are.object_word of.are.off_word of.are.len_word (subst AreWords tails behind.no_spaces) (behind.whole ∙ ap in_words tails)
+    let are = of.are in
+    let both : codes "read" ∷ behind.next ∷ behind.words ≡ codes "read" ∷ of.coll ∷ are.object_word ∷ are.off_word ∷ are.len_word ∷ [] = are.whole in
+    let tails : behind.next ∷ behind.words ≡ of.coll ∷ are.object_word ∷ are.off_word ∷ are.len_word ∷ [] = cc in
+    record {
+      coll = of.coll;
+      object = of.object;
+      off = of.off;
+      len = of.len;
+      names = range_named rest of.coll are.object_word are.off_word are.len_word of.coll of.object of.off of.len (behind.whole ∙ ap in_words tails) refl
+          are.named are.names are.offset are.size;
+    }
+
+-- a text that names a range behind `read`
+pub read_line : (rest c o : List ℕ) (off len : ℕ) → NamesRange rest c o off len → IsLineOf (codes "read" ++ (0x20 ∷ rest)) (Command (command.Read c o off len))
+read_line rest c o off len is = record {
+  words = codes "read" ∷ c ∷ is.are.object_word ∷ is.are.off_word ∷ is.are.len_word ∷ [];
+  whole = ap (λ (l : List ℕ). codes "read" ++ (0x20 ∷ l)) (is.whole ∙ ap (λ (l : List (List ℕ)). in_words (c ∷ l)) is.are.words);
+  say = record {
+    object_word = is.are.object_word;
+    off_word = is.are.off_word;
+    len_word = is.are.len_word;
+    named = is.named;
+    whole = refl;
+    names = is.are.names;
+    offset = is.are.offset;
+    size = is.are.count;
+  };
+  fits = tt;
+}

@@ -40,12 +40,6 @@ unfolding spelled_by
 length-spelled-le code most few [] = omega arith
 length-spelled-le code most few (b ∷ bs) = omega (arith, few b, length-spelled-le code most few bs, length-append (code b) (spelled_by code bs))
 
-pub length-spelled : (code : ℕ → List ℕ) (size : ℕ) → ((b : ℕ) → length (code b) ≡ size) → (bytes : List ℕ)
-    → length (spelled_by code bytes) ≡ size * length bytes
-unfolding spelled_by
-length-spelled code size exact [] = omega arith
-length-spelled code size exact (b ∷ bs) = omega (arith, exact b, length-spelled code size exact bs, length-append (code b) (spelled_by code bs))
-
 -- ---- reading from the front
 
 spelled-push : (code : ℕ → List ℕ) (bytes : List ℕ) (b : ℕ) → spelled_by code (bytes ++ (b ∷ [])) ≡ spelled_by code bytes ++ code b

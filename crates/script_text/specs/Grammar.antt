@@ -1,10 +1,10 @@
 -- How a line is spelled. A line says at most one thing, and data may have two spellings.
 use Rattle.std.specs.Prelude.{◌≡◌, ◌≢◌, ◌⊎◌, ℕ, ◌+◌, ◌-◌, ◌/◌, ◌%◌, ◌^◌, ◌<◌, ◌≤◌, nat_lt, nat_le, ◌==◌}
-use Rattle.std.specs.Prelude.{Bool, true, false, ◌&&◌, ◌||◌, if◌then◌else◌, List, [], ◌∷◌, ◌++◌, length, replicate, codes, decimal}
+use Rattle.std.specs.Prelude.{Bool, true, false, ◌&&◌, ◌||◌, if◌then◌else◌, List, [], ◌∷◌, ◌++◌, replicate, codes, decimal}
 use Rattle.std.specs.List.{AllByRecursion}
 use Rattle.unit_fields.specs.Prelude.{IsCollName, IsName}
 use Rattle.object_model.specs.declared.op.Op.{Op}
-use Rattle.object_model.specs.declared.op.Op.TheVariants.{MkColl, Touch, Write}
+use Rattle.object_model.specs.declared.op.Op.TheVariants.{MkColl, Touch, Write, Zero, Truncate, Remove}
 use Rattle.object_model.specs.Prelude.{Change}
 use Rattle.object_model.specs.declared.command.Command.TheVariants as command
 use Rattle.script_text.specs.declared.line.What.{What}
@@ -104,10 +104,13 @@ abbrev pub op_word : Op → List ℕ
 op_word MkColl = codes "mkcoll"
 op_word (Touch object) = codes "touch"
 op_word (Write object off bytes) = codes "write"
+op_word (Zero object off len) = codes "zero"
+op_word (Truncate object size) = codes "truncate"
+op_word (Remove object) = codes "remove"
 op_word op = []
 
 -- `O`
-pub record AreTouchArgs (args : List (List ℕ)) (object : List ℕ) : Type 0 where
+pub record AreObjectArgs (args : List (List ℕ)) (object : List ℕ) : Type 0 where
   pub object_word : List ℕ
   pub words : args ≡ object_word ∷ []
   pub names : IsNameWord object_word object
@@ -122,11 +125,32 @@ pub record AreWriteArgs (args : List (List ℕ)) (object : List ℕ) (off : ℕ)
   pub offset : IsNumber off_word off
   pub holds : IsDataWord data_word bytes
 
+-- `O NUM NUM`, the offset and the length
+pub record AreRangeArgs (args : List (List ℕ)) (object : List ℕ) (off len : ℕ) : Type 0 where
+  pub object_word : List ℕ
+  pub off_word : List ℕ
+  pub len_word : List ℕ
+  pub words : args ≡ object_word ∷ off_word ∷ len_word ∷ []
+  pub names : IsNameWord object_word object
+  pub offset : IsNumber off_word off
+  pub count : IsNumber len_word len
+
+-- `O NUM`, the size
+pub record AreSizeArgs (args : List (List ℕ)) (object : List ℕ) (size : ℕ) : Type 0 where
+  pub object_word : List ℕ
+  pub size_word : List ℕ
+  pub words : args ≡ object_word ∷ size_word ∷ []
+  pub names : IsNameWord object_word object
+  pub sized : IsNumber size_word size
+
 -- the words behind the collection's
 abbrev pub AreArgs : List (List ℕ) → Op → Type 0
 AreArgs args MkColl = args ≡ []
-AreArgs args (Touch object) = AreTouchArgs args object
+AreArgs args (Touch object) = AreObjectArgs args object
 AreArgs args (Write object off bytes) = AreWriteArgs args object off bytes
+AreArgs args (Zero object off len) = AreRangeArgs args object off len
+AreArgs args (Truncate object size) = AreSizeArgs args object size
+AreArgs args (Remove object) = AreObjectArgs args object
 AreArgs args op = ⊥
 
 -- the words of a transaction of one operation: the operation's, the collection, and what they are about
@@ -171,16 +195,19 @@ AreWordsOf words (Command (command.List coll)) = AreListWords words coll
 AreWordsOf words Wait = words ≡ codes "wait" ∷ []
 AreWordsOf words what = ⊥
 
--- a transaction that the kernel can do so far: a write is of whole pages, at least one
-abbrev pub HasWholePages : List Op → Type 0
-HasWholePages (MkColl ∷ []) = Unit {0}
-HasWholePages (Touch object ∷ []) = Unit {0}
-HasWholePages (Write object off bytes ∷ []) = (off % 4096 ≡ 0) × (length bytes % 4096 ≡ 0) × (0 < length bytes)
-HasWholePages ops = ⊥
+-- the transactions that the kernel can do so far, each of one operation
+abbrev pub IsKnownChange : List Op → Type 0
+IsKnownChange (MkColl ∷ []) = Unit {0}
+IsKnownChange (Touch object ∷ []) = Unit {0}
+IsKnownChange (Write object off bytes ∷ []) = Unit {0}
+IsKnownChange (Zero object off len ∷ []) = Unit {0}
+IsKnownChange (Truncate object size ∷ []) = Unit {0}
+IsKnownChange (Remove object ∷ []) = Unit {0}
+IsKnownChange ops = ⊥
 
 -- what the kernel can do so far, each of these reads too: any other line is a bad one
 abbrev pub FitsWhat : What → Type 0
-FitsWhat (Command (command.Change change)) = HasWholePages change.ops
+FitsWhat (Command (command.Change change)) = IsKnownChange change.ops
 FitsWhat (Command (command.Read coll object off len)) = Unit {0}
 FitsWhat (Command (command.Sum coll object)) = Unit {0}
 FitsWhat (Command (command.Stat coll object)) = Unit {0}

@@ -2,7 +2,7 @@
 use Rattle.std.specs.Prelude.{◌≡◌, ◌⊎◌, slice_index, ℕ, ◌+◌, ◌≤◌, Bool, true, false, List, [], ◌∷◌, ◌++◌, length, Option, Some, None, MatchOption, IfSome}
 use Rattle.std.specs.List.{AllByRecursion}
 use Rattle.unit_fields.specs.Prelude.{IsCollName}
-use Rattle.script_text.specs.Grammar.{HasNo, in_words, IsNameWord, AreWordsOf, FitsWhat, IsLineOf, IsPassedOver, is_wait}
+use Rattle.script_text.specs.Grammar.{HasNo, in_words, IsNameWord, AreRangeArgs, AreSizeArgs, AreWordsOf, FitsWhat, IsLineOf, IsPassedOver, is_wait}
 use Rattle.script_text.specs.Script.{script_limit, line_limit, command_limit, ended, commands, kept_lines}
 use Rattle.script_text.specs.Script.{AreGood, IsOutside, IsOneTooMany, IsScript, IsBadAt, IsTextOf}
 use Rattle.script_text.specs.declared.fail.ScriptFail.{ScriptFail}
@@ -34,6 +34,20 @@ pub record NamesObject (text coll object : List ℕ) : Type 0 where
   pub named : IsCollName coll
   pub whole : text ≡ in_words (coll ∷ object_word ∷ [])
   pub names : IsNameWord object_word object
+
+-- the text is those two and two numbers
+pub record NamesRange (text coll object : List ℕ) (off len : ℕ) : Type 0 where
+  pub named : IsCollName coll
+  pub args : List (List ℕ)
+  pub whole : text ≡ in_words (coll ∷ args)
+  pub are : AreRangeArgs args object off len
+
+-- the text is those two and one number
+pub record NamesSize (text coll object : List ℕ) (size : ℕ) : Type 0 where
+  pub named : IsCollName coll
+  pub args : List (List ℕ)
+  pub whole : text ≡ in_words (coll ∷ args)
+  pub are : AreSizeArgs args object size
 
 -- what a line was found to be
 abbrev pub IsReading : List ℕ → Reading → Type 0

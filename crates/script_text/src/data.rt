@@ -1,5 +1,5 @@
 //! Data as it is spelled.
-ghost use Rattle.std.specs.Prelude.{◌≡◌, ◌≢◌, ℕ, List, Some, length, replicate, IfOk, IfSome, MatchOption};
+ghost use Rattle.std.specs.Prelude.{◌≡◌, ◌≢◌, ℕ, List, Some, replicate, IfOk, IfSome, MatchOption};
 ghost use Rattle.script_text.specs.Grammar.{EachIsByte, hex_pair, spelled_by, IsDataWord, IsFill};
 
 use crate::hex::{read_hex, split_pair};
@@ -88,22 +88,6 @@ fn read_fill(text: &[u8]) -> Option<(u8, u64)>
         return None;
     }
     Some((byte, count))
-}
-
-/// The number of bytes of the data that a word spells, which is known before they are made. Of a word that spells none it may be any.
-pub fn data_size(word: &[u8]) -> Option<u64>
-    ensures { (bytes : List ℕ) → IsDataWord word.now bytes → result ≡ Some (length bytes) }
-{
-    if let Some(digits) = split_front(word, b"hex:") {
-        return Some(digits.len() as u64 / 2);
-    }
-    let Some(text) = split_front(word, b"fill:") else {
-        return None;
-    };
-    let Some((_, count)) = read_fill(text) else {
-        return None;
-    };
-    Some(count)
 }
 
 /// The data that digits spell.

@@ -1,20 +1,17 @@
 //! What a line says.
-ghost use Rattle.std.specs.Prelude.{◌≡◌, ◌↔◌, ◌<◌, ◌%◌, ◌++◌, ◌∷◌, [], ℕ, List, IfOk, MatchOption, IsTrue, codes};
+ghost use Rattle.std.specs.Prelude.{◌↔◌, ◌++◌, ◌∷◌, [], ℕ, List, IfOk, MatchOption, IsTrue, codes};
 ghost use Rattle.script_text.specs.Grammar.{HasNo, IsPassedOver};
-ghost use Rattle.script_text.specs.Reading.{IsReading, NamesObject, Reads, ReadsWords};
+ghost use Rattle.script_text.specs.Reading.{IsReading, NamesObject, NamesRange, NamesSize, Reads, ReadsWords};
 
-use crate::data::{data_size, read_data};
+use crate::data::read_data;
 use crate::escape::read_name;
 use crate::number::read_number;
 use crate::said::change;
-use crate::split::{four_words, split_once, two_words};
+use crate::split::{four_words, split_once, three_words, two_words};
 use crate::{Said, What};
 use object_model::{Command, Op};
 use std::alloc::{AllocError, Global};
 use unit_fields::{CollName, Name};
-
-/// The bytes of a page.
-const PAGE_BYTES: u64 = 4096;
 
 /// What a line is.
 #[derive(Drop)]
@@ -65,6 +62,17 @@ fn read_touch(alloc: Global, rest: &[u8]) -> Result<Option<Said>, AllocError>
     Ok(Some(Said::of(what)))
 }
 
+/// `remove C O`: what a line says that has this behind its first word.
+fn read_remove(alloc: Global, rest: &[u8]) -> Result<Option<Said>, AllocError>
+    ensures { IfOk result (Reads (codes "remove" ++ (0x20 ∷ rest.now))) }
+{
+    let Some((coll, object)) = read_object(alloc, rest)? else {
+        return Ok(None);
+    };
+    let what = change(alloc, coll, Op::Remove { object })?;
+    Ok(Some(Said::of(what)))
+}
+
 /// `sum C O`: what a line says that has this behind its first word.
 fn read_sum(alloc: Global, rest: &[u8]) -> Result<Option<Said>, AllocError>
     ensures { IfOk result (Reads (codes "sum" ++ (0x20 ∷ rest.now))) }
@@ -95,16 +103,14 @@ fn read_list(alloc: Global, rest: &[u8]) -> Result<Option<Said>, AllocError>
     Ok(Some(Said::of(What::Command(Command::List { coll }))))
 }
 
-/// What the words of a read of an object's bytes say.
-fn read_of(
-    alloc: Global,
-    coll: &[u8],
-    object: &[u8],
-    off: &[u8],
-    len: &[u8],
-) -> Result<Option<Said>, AllocError>
-    ensures { IfOk result (ReadsWords (codes "read" ∷ coll.now ∷ object.now ∷ off.now ∷ len.now ∷ [])) }
+/// `C O NUM NUM`: the names of a collection and of an object in it, an offset and a length.
+fn read_range(alloc: Global, text: &[u8]) -> Result<Option<(CollName, Name, u64, u64)>, AllocError>
+    ensures { IfOk result (λ found. MatchOption found ((coll object : List ℕ) (off len : ℕ) → ¬ (NamesRange text.now coll object off len))
+        (λ x. NamesRange text.now x.0 x.1 x.2 x.3)) }
 {
+    let Some((coll, object, off, len)) = four_words(text) else {
+        return Ok(None);
+    };
     let Some(off) = read_number(off) else {
         return Ok(None);
     };
@@ -117,6 +123,36 @@ fn read_of(
     let Some(object) = read_name(alloc, object)? else {
         return Ok(None);
     };
+    Ok(Some((coll, object, off, len)))
+}
+
+/// `C O NUM`: the names of a collection and of an object in it, and a size.
+fn read_size(alloc: Global, text: &[u8]) -> Result<Option<(CollName, Name, u64)>, AllocError>
+    ensures { IfOk result (λ found. MatchOption found ((coll object : List ℕ) (size : ℕ) → ¬ (NamesSize text.now coll object size))
+        (λ x. NamesSize text.now x.0 x.1 x.2)) }
+{
+    let Some((coll, object, size)) = three_words(text) else {
+        return Ok(None);
+    };
+    let Some(size) = read_number(size) else {
+        return Ok(None);
+    };
+    let Some(coll) = CollName::read(alloc, coll)? else {
+        return Ok(None);
+    };
+    let Some(object) = read_name(alloc, object)? else {
+        return Ok(None);
+    };
+    Ok(Some((coll, object, size)))
+}
+
+/// `read C O NUM NUM`: what a line says that has this behind its first word.
+fn read_read(alloc: Global, rest: &[u8]) -> Result<Option<Said>, AllocError>
+    ensures { IfOk result (Reads (codes "read" ++ (0x20 ∷ rest.now))) }
+{
+    let Some((coll, object, off, len)) = read_range(alloc, rest)? else {
+        return Ok(None);
+    };
     Ok(Some(Said::of(What::Command(Command::Read {
         coll,
         object,
@@ -125,21 +161,26 @@ fn read_of(
     }))))
 }
 
-/// `read C O NUM NUM`: what a line says that has this behind its first word.
-fn read_read(alloc: Global, rest: &[u8]) -> Result<Option<Said>, AllocError>
-    ensures { IfOk result (Reads (codes "read" ++ (0x20 ∷ rest.now))) }
+/// `zero C O NUM NUM`: what a line says that has this behind its first word.
+fn read_zero(alloc: Global, rest: &[u8]) -> Result<Option<Said>, AllocError>
+    ensures { IfOk result (Reads (codes "zero" ++ (0x20 ∷ rest.now))) }
 {
-    let Some((coll, object, off, len)) = four_words(rest) else {
+    let Some((coll, object, off, len)) = read_range(alloc, rest)? else {
         return Ok(None);
     };
-    read_of(alloc, coll, object, off, len)
+    let what = change(alloc, coll, Op::Zero { object, off, len })?;
+    Ok(Some(Said::of(what)))
 }
 
-/// Whether a write of so many bytes at this offset is of whole pages, at least one, which is all that the kernel can do so far.
-fn is_whole_pages(off: u64, size: u64) -> bool
-    ensures { IsTrue result ↔ ((off % 4096 ≡ 0) × (size % 4096 ≡ 0) × (0 < size)) }
+/// `truncate C O NUM`: what a line says that has this behind its first word.
+fn read_truncate(alloc: Global, rest: &[u8]) -> Result<Option<Said>, AllocError>
+    ensures { IfOk result (Reads (codes "truncate" ++ (0x20 ∷ rest.now))) }
 {
-    off % PAGE_BYTES == 0 && size % PAGE_BYTES == 0 && size > 0
+    let Some((coll, object, size)) = read_size(alloc, rest)? else {
+        return Ok(None);
+    };
+    let what = change(alloc, coll, Op::Truncate { object, size })?;
+    Ok(Some(Said::of(what)))
 }
 
 /// What the words of a write say. The data are read last, once all else is known to be good.
@@ -155,12 +196,6 @@ fn write_of(
     let Some(off) = read_number(off) else {
         return Ok(None);
     };
-    let Some(size) = data_size(data_word) else {
-        return Ok(None);
-    };
-    if !is_whole_pages(off, size) {
-        return Ok(None);
-    }
     let Some(coll) = CollName::read(alloc, coll)? else {
         return Ok(None);
     };
@@ -194,6 +229,12 @@ fn read_words(alloc: Global, word: &[u8], rest: &[u8]) -> Result<Option<Said>, A
         read_touch(alloc, rest)
     } else if word == b"write".as_slice() {
         read_write(alloc, rest)
+    } else if word == b"zero".as_slice() {
+        read_zero(alloc, rest)
+    } else if word == b"truncate".as_slice() {
+        read_truncate(alloc, rest)
+    } else if word == b"remove".as_slice() {
+        read_remove(alloc, rest)
     } else if word == b"read".as_slice() {
         read_read(alloc, rest)
     } else if word == b"sum".as_slice() {

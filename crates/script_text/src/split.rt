@@ -60,7 +60,7 @@ pub fn two_words(text: &[u8]) -> Option<(&[u8], &[u8])>
 }
 
 /// The words of a text of three.
-fn three_words(text: &[u8]) -> Option<(&[u8], &[u8], &[u8])>
+pub fn three_words(text: &[u8]) -> Option<(&[u8], &[u8], &[u8])>
     ensures { MatchOption result ((a b c : List ℕ) → AreWords (a ∷ b ∷ c ∷ []) → text.now ≢ in_words (a ∷ b ∷ c ∷ []))
         (λ x. AreWords (x.0.now ∷ x.1.now ∷ x.2.now ∷ []) × (text.now ≡ in_words (x.0.now ∷ x.1.now ∷ x.2.now ∷ []))) }
 {

@@ -1,0 +1,14 @@
+use Rattle.std.proofs.Common.{◌∙◌}
+use Rattle.script_text.proofs.Forms.{remove_says, remove_line}
+use Rattle.script_text.proofs.grammar.read_remove.Goals as goal
+
+pub returns-in_default : goal.returns-in_default
+returns-in_default c what line =
+    let unnamed = rw c.in_default.is at c.in_ok-coll.ensures in
+    let of = remove_says c.args.rest.now what line in
+    unnamed of.coll of.object of.names
+
+pub returns : goal.returns
+returns c =
+    let names = rw c.in-Some.is at c.in_ok-coll.ensures in
+    remove_line c.args.rest.now c.in-Some.coll c.in-Some.object c.of.result names (c.of.ensures ∙ c.in_ok-what.ensures)

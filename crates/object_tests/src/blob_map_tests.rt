@@ -38,7 +38,8 @@ fn a_value_by_hand(rt: HostRuntime) -> Result<(), Fail> {
 
 // The map with pages 1 and 2 on units 60 and 61, then with holes for pages 2 to 4, and then in memory of its own.
 fn changed(alloc: Global, mut map: PageMap) -> Result<PageMap, AllocError> {
-    map.put(alloc, 1, &[place(60), place(61)])?;
+    map.set(1, place(60))?;
+    map.set(2, place(61))?;
     map.punch(alloc, 2, 3)?;
     map.copy(alloc)
 }

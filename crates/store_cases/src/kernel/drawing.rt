@@ -48,14 +48,42 @@ impl Draws {
         Ok(lags)
     }
 
-    /// The line of a transaction: a write of one to three pages, an object, or a collection that there is.
+    /// The place of a byte at the begin or at the end of one of the first three pages.
+    fn place(&mut self) -> u64 {
+        let page = self.below(3).wrapping_mul(4096);
+        let end = self.below(2).wrapping_mul(4094);
+        page.wrapping_add(end).wrapping_add(self.below(2))
+    }
+
+    /// The line of a transaction on some bytes of an object, or on all of it: it may change pages in part.
+    fn edit(
+        &mut self,
+        alloc: Global,
+        coll: &str,
+        name: &str,
+        byte: u64,
+    ) -> Result<String, CaseError> {
+        let off = self.place();
+        match self.below(4) {
+            0 => Ok(format!(in alloc; "remove {coll} {name}")?),
+            1 => Ok(format!(in alloc; "truncate {coll} {name} {off}")?),
+            2 => {
+                let len = self.below(9000);
+                Ok(format!(in alloc; "zero {coll} {name} {off} {len}")?)
+            }
+            _ => Ok(format!(in alloc; "bytes {coll} {name} {off} {byte:02x}{byte:02x}{byte:02x}")?),
+        }
+    }
+
+    /// The line of a transaction: a write of one to three pages, an edit of bytes, an object, or a collection that there is.
     pub fn transaction(&mut self, alloc: Global) -> Result<String, CaseError> {
         let coll = self.word(&COLLS);
         let name = self.word(&NAMES);
         let byte = self.below(256);
         match self.below(8) {
             0 => Ok(format!(in alloc; "mkcoll {coll}")?),
-            1 | 2 => Ok(format!(in alloc; "touch {coll} {name}")?),
+            1 => Ok(format!(in alloc; "touch {coll} {name}")?),
+            2 | 3 | 4 => self.edit(alloc, coll, name, byte),
             _ => {
                 let first = self.below(3);
                 let count = self.below(3).wrapping_add(1);

@@ -1,15 +1,15 @@
 //! Transactions that are submitted.
-ghost use Rattle.std.specs.Prelude.{◌≡◌, ◌<◌, ◌%◌, [], ◌∷◌, length, IfOk};
+ghost use Rattle.std.specs.Prelude.{[], ◌∷◌, IfOk};
 ghost use Rattle.plan_rows.specs.Prelude.{IsKnown};
 
 use block_device::MemoryDevice;
 use bytes::Bytes;
-use case_text::{CaseError, Text, Words, look_up};
+use case_text::{CaseError, Text, Words, look_up, read_hex};
 use object_model::{Op, Transaction};
 use plain_reader::{coll_of, name_of};
 use std::alloc::Global;
 use store_kernel::{Kernel, Refused};
-use unit_fields::CollName;
+use unit_fields::{CollName, Name};
 
 /// A transaction of one operation.
 fn one(alloc: Global, coll: CollName, op: Op) -> Result<Transaction, CaseError>
@@ -25,32 +25,51 @@ fn one(alloc: Global, coll: CollName, op: Op) -> Result<Transaction, CaseError>
     }
 }
 
-/// The most pages of a write.
-const MOST_PAGES: u32 = 65535;
-
-/// The bytes of so many pages, each of them this one.
-fn pages(alloc: Global, count: u32, value: u8) -> Result<Bytes, CaseError>
-    ensures { IfOk result (λ bytes. (length bytes % 4096 ≡ 0) × (0 < length bytes)) }
-{
-    if count == 0 || MOST_PAGES < count {
-        return Err(CaseError::Line("no number of pages"));
-    }
-    let pages = vec![in alloc; value; 4096 * count as usize]?;
-    match Bytes::from_vec(pages) {
+fn shared(bytes: Vec<u8>) -> Result<Bytes, CaseError> {
+    match Bytes::from_vec(bytes) {
         Ok(bytes) => Ok(bytes),
         Err(_) => Err(CaseError::OutOfMemory),
     }
 }
 
-/// A write of the words NAME, FIRST, COUNT and BYTE, in pages.
-fn write(alloc: Global, coll: CollName, mut words: Words<'_>) -> Result<Transaction, CaseError>
+/// The most pages of a write.
+const MOST_PAGES: u32 = 65535;
+
+/// The bytes of so many pages, each of them this one.
+fn pages(alloc: Global, count: u32, value: u8) -> Result<Bytes, CaseError> {
+    if count == 0 || MOST_PAGES < count {
+        return Err(CaseError::Line("no number of pages"));
+    }
+    shared(vec![in alloc; value; 4096 * count as usize]?)
+}
+
+/// A write of the words FIRST, COUNT and BYTE, in pages.
+fn write(
+    alloc: Global,
+    coll: CollName,
+    object: Name,
+    mut words: Words<'_>,
+) -> Result<Transaction, CaseError>
     ensures { IfOk result (λ t. IsKnown t.ops) }
 {
-    let object = name_of(alloc, words.next()?.as_bytes())?;
     let off = 4096 * u64::from(words.small()?);
     let count = words.small()?;
     let bytes = pages(alloc, count, words.byte()?)?;
     words.end()?;
+    one(alloc, coll, Op::Write { object, off, bytes })
+}
+
+/// A write of the words OFF and DIGITS.
+fn write_bytes(
+    alloc: Global,
+    coll: CollName,
+    object: Name,
+    mut words: Words<'_>,
+) -> Result<Transaction, CaseError>
+    ensures { IfOk result (λ t. IsKnown t.ops) }
+{
+    let off = words.number()?;
+    let bytes = shared(read_hex(alloc, words.last()?)?)?;
     one(alloc, coll, Op::Write { object, off, bytes })
 }
 
@@ -59,17 +78,68 @@ fn write(alloc: Global, coll: CollName, mut words: Words<'_>) -> Result<Transact
 enum TransactionKind {
     /// `mkcoll COLL`
     MkColl,
+    /// `WORD COLL NAME ..`: something on an object.
+    Object(ObjectChange),
+}
+
+/// What one does on an object.
+#[derive(Clone, Copy)]
+enum ObjectChange {
     /// `touch COLL NAME`
     Touch,
     /// `write COLL NAME FIRST COUNT BYTE`: so many pages of one byte.
     Write,
+    /// `bytes COLL NAME OFF DIGITS`: writes these bytes from an offset on.
+    Bytes,
+    /// `zero COLL NAME OFF LEN`
+    Zero,
+    /// `truncate COLL NAME SIZE`
+    Truncate,
+    /// `remove COLL NAME`
+    Remove,
 }
 
-static TRANSACTION_KINDS: [(&str, TransactionKind); 3] = [
+static TRANSACTION_KINDS: [(&str, TransactionKind); 7] = [
     ("mkcoll", TransactionKind::MkColl),
-    ("touch", TransactionKind::Touch),
-    ("write", TransactionKind::Write),
+    ("touch", TransactionKind::Object(ObjectChange::Touch)),
+    ("write", TransactionKind::Object(ObjectChange::Write)),
+    ("bytes", TransactionKind::Object(ObjectChange::Bytes)),
+    ("zero", TransactionKind::Object(ObjectChange::Zero)),
+    ("truncate", TransactionKind::Object(ObjectChange::Truncate)),
+    ("remove", TransactionKind::Object(ObjectChange::Remove)),
 ];
+
+/// One that changes an object, from its fourth word on.
+fn change(
+    alloc: Global,
+    kind: ObjectChange,
+    coll: CollName,
+    object: Name,
+    words: Words<'_>,
+) -> Result<Transaction, CaseError>
+    ensures { IfOk result (λ t. IsKnown t.ops) }
+{
+    match kind {
+        ObjectChange::Touch => {
+            words.end()?;
+            one(alloc, coll, Op::Touch { object })
+        }
+        ObjectChange::Write => write(alloc, coll, object, words),
+        ObjectChange::Bytes => write_bytes(alloc, coll, object, words),
+        ObjectChange::Zero => {
+            let [off, len] = words.numbers::<2>()?;
+            one(alloc, coll, Op::Zero { object, off, len })
+        }
+        ObjectChange::Truncate => {
+            let [size] = words.numbers::<1>()?;
+            one(alloc, coll, Op::Truncate { object, size })
+        }
+        ObjectChange::Remove => {
+            words.end()?;
+            one(alloc, coll, Op::Remove { object })
+        }
+    }
+}
 
 /// The transaction of these words.
 pub fn transaction(alloc: Global, mut words: Words<'_>) -> Result<Transaction, CaseError>
@@ -81,11 +151,10 @@ pub fn transaction(alloc: Global, mut words: Words<'_>) -> Result<Transaction, C
     let coll = coll_of(alloc, words.next()?.as_bytes())?;
     match kind {
         TransactionKind::MkColl => one(alloc, coll, Op::MkColl),
-        TransactionKind::Touch => {
-            let object = name_of(alloc, words.last()?.as_bytes())?;
-            one(alloc, coll, Op::Touch { object })
+        TransactionKind::Object(kind) => {
+            let object = name_of(alloc, words.next()?.as_bytes())?;
+            change(alloc, kind, coll, object, words)
         }
-        TransactionKind::Write => write(alloc, coll, words),
     }
 }
 
@@ -95,11 +164,16 @@ pub fn print_refused(why: &Refused, out: &mut Text) {
         Refused::NoSpace { need, free } => out.println(format_args!(
             "NoSpace need={need} free={free}"
         )),
+        Refused::Csum { unit, kept, found } => {
+            let unit = unit.number();
+            out.println(format_args!("Csum unit={unit} kept={kept:08x} found={found:08x}"));
+        }
         Refused::MetaFull { need, room } => out.println(format_args!(
             "MetaFull need={need} room={room}"
         )),
         Refused::Down { ticket, back: _ } => out.println(format_args!("down by {}", ticket.place)),
         Refused::BookFull(_) => out.println("the book is full"),
+        Refused::DeviceRead(_) => out.println("the device failed"),
         Refused::Memory(_) => out.println("out of memory"),
     }
 }

@@ -6,28 +6,10 @@
 set -eu
 here=$(cd "$(dirname "${BASH_SOURCE[0]}")" && pwd)
 . "$here/about.sh"
+. "$here/callgrind.sh"
 made=$(mktemp -d "${TMPDIR:-/tmp}/instructions.XXXXXX")
 trap 'rm -rf "$made"' EXIT
 program=$(program_of "${1:-}")
-
-# counted SCRIPT: the instructions of a run of the script on a copy of the device that is set up.
-counted() {
-  cp --sparse=always "$made/disk" "$made/work"
-  valgrind --tool=callgrind --callgrind-out-file="$made/counts" "$program" step "$made/work" --seed 1 "$1" >"$made/output" 2>"$made/said" ||
-    { tail -n 2 "$made/output" "$made/said" >&2; exit 1; }
-  awk '$1 == "summary:" || $1 == "totals:" { n = $2 } END { print n }' "$made/counts"
-}
-
-# set_up HALF UNITS: a store after the commands on standard input, by scripts of at most 16384 each.
-set_up() {
-  local part
-  "$program" mkfs "$made/disk" --half "$1" --units "$2" >/dev/null
-  rm -f "$made"/part.*
-  split -l 16000 - "$made/part."
-  for part in "$made"/part.*; do
-    "$program" step "$made/disk" --seed 1 "$part" >"$made/output" || { tail -n 2 "$made/output" >&2; exit 1; }
-  done
-}
 
 # told NAME BOUND COUNT
 told() {
@@ -36,16 +18,11 @@ told() {
   printf '%-52s %11d  %s %d\n' "$1" "$3" "$verdict" "$2" | tee -a "$made/told"
 }
 
-# each NAME BOUND COUNT: the instructions of one line, of a script of so many from standard input and of one of half as many. Behind each
-# write stands a `wait`, whose line is in it.
+# each NAME BOUND COUNT: the instructions of one of so many lines from standard input.
 each() {
-  local once twice
-  cat >"$made/lines"
-  sed '/^write/a wait' "$made/lines" >"$made/all"
-  head -n $(($3 / 2)) "$made/lines" | sed '/^write/a wait' >"$made/half"
-  once=$(counted "$made/half")
-  twice=$(counted "$made/all")
-  told "$1" "$2" $(((twice - once) / ($3 - $3 / 2)))
+  local found
+  found=$(count_of "$3")
+  told "$1" "$2" "$found"
 }
 
 about

@@ -102,6 +102,10 @@ calls_of_good_runs() {
     printf 'write 1.0_head a 0 fill:5c:4096\nmkcoll 1.0_head\nwait\nread 1.0_head b 4096 1\nwrite 1.0_head a 0 fill:5d:4096\n' >calls
     trace step CALLS --seed 2 calls
     says 'calls: a refusal and a read flush nothing' made_calls CALLS $settled read $with_data read $with_data
+    cp TWO PART
+    printf 'touch 1.0_head c\nwait\nwrite 1.0_head a 5 hex:41\nwait\nzero 1.0_head a 0 4096\n' >calls
+    trace step PART --seed 2 calls
+    says 'calls: a page that is changed in part is read' made_calls PART $settled read $flushed read $with_data $flushed
     trace step CALLS --seed 3 empty
     says 'calls: a run without transactions' made_calls CALLS $settled read
     trace dump CALLS
@@ -170,6 +174,12 @@ failing_writes_and_flushes() {
     cp TWO FAILS
     trace dump FAILS
     says 'a read fails' stops 3 FAILS
+    # Three reads are those of the opening.
+    inject=(-P "$room/FAILS" -e inject=pread64:error=EIO:when=4)
+    echo 'write 1.0_head a 5 hex:41' >part
+    trace step FAILS --seed 1 part
+    says 'a read of old bytes fails' ended 3 'stopped 3'
+    says 'a read of old bytes fails: the store is as it was' cmp -s FAILS TWO
     inject=()
 }
 

@@ -57,15 +57,17 @@ def checksum(data):
 
 @dataclass
 class Object:
-    """Its size in bytes, and for each page that isn't a hole its unit and the byte that fills it: the scripts write no others."""
+    """Its size in bytes, and for each page that isn't a hole its unit and its bytes."""
 
     size: int = 0
     pages: dict = field(default_factory=dict)
 
+    def page(self, number):
+        return self.pages[number][1] if number in self.pages else bytes(UNIT)
+
     def data(self, first, end):
         end = min(end, self.size)
-        whole = range(first // UNIT, (end + UNIT - 1) // UNIT)
-        held = b"".join(bytes([self.pages[page][1] if page in self.pages else 0]) * UNIT for page in whole)
+        held = b"".join(self.page(number) for number in range(first // UNIT, units_in(end)))
         return held[first % UNIT : first % UNIT + max(end - first, 0)]
 
     def extents(self):
@@ -79,6 +81,11 @@ class Object:
             else:
                 runs.append([page, 1, unit])
         return runs
+
+
+def units_in(length):
+    """How many units so many bytes take."""
+    return (length + UNIT - 1) // UNIT
 
 
 def escaped(name):
@@ -144,7 +151,7 @@ class Store:
     def accept(self, body, coll, objects, taken=(), released=()):
         """Accepts a transaction whose record has a body of so many bytes, or says why there is no room for it. What it releases isn't
         free before it is committed."""
-        need, room = (24 + body + UNIT - 1) // UNIT, self.half - self.tail
+        need, room = units_in(24 + body), self.half - self.tail
         if room < need:
             return f"E10 MetaFull need={need} room={room}"
         self.tail += need
@@ -166,31 +173,68 @@ class Store:
             return self.accept(0, coll, self.colls[coll])
         return self.accept(7 + len(onode_key(coll, name)) + 8, coll, {**self.colls[coll], name: Object()})
 
-    def write(self, coll, name, offset, byte, length):
-        if length > TRANSACTION_LIMIT:
+    def write(self, coll, name, offset, word):
+        data = data_of(word)
+        if len(data) > TRANSACTION_LIMIT:
             return "E8 TooBig"
+        old, end = self.colls.get(coll, {}).get(name, Object()), offset + len(data)
+        refused = self.refusal(coll) or too_big(end)
+        if refused:
+            return refused
+        pages = {}
+        for page in range(offset // UNIT, units_in(end)) if data else ():
+            start = page * UNIT
+            front, back = max(offset - start, 0), max(end - start, 0)
+            held = old.page(page)
+            pages[page] = held[:front] + data[max(start - offset, 0) : start + UNIT - offset] + held[back:]
+        return self.change(coll, name, max(old.size, end) if data else old.size, pages)
+
+    def zero(self, coll, name, offset, length):
+        refused = self.refusal(coll) or too_big(offset + length)
+        if refused:
+            return refused
+        old, end = self.colls[coll].get(name, Object()), offset + length
+        return self.change(coll, name, max(old.size, end) if length else old.size, cleared(old, offset, end))
+
+    def truncate(self, coll, name, size):
+        refused = self.refusal(coll) or too_big(size)
+        if refused:
+            return refused
+        old = self.colls[coll].get(name)
+        if old is None:
+            return self.accept(0, coll, self.colls[coll])
+        return self.change(coll, name, size, cleared(old, size, OBJECT_LIMIT) if size < old.size else {})
+
+    def change(self, coll, name, size, pages):
+        """Gives an object this size and these bytes of pages: each goes to the lowest free unit, and one that is None becomes a hole."""
+        need, old = sum(data is not None for data in pages.values()), self.colls[coll].get(name)
+        if need > len(self.free):
+            return f"E9 NoSpace need={need} free={len(self.free)}"
+        taken, before = sorted(self.free)[:need], old or Object()
+        units, after = iter(taken), Object(size, dict(before.pages))
+        released = [after.pages.pop(page)[0] for page in sorted(pages) if page in before.pages]
+        after.pages.update((page, (next(units), pages[page])) for page in sorted(pages) if pages[page] is not None)
+
+        key, body = len(onode_key(coll, name)), turned(taken + released)
+        if old is None or size != old.size:
+            body += 7 + key + 8
+        if before.pages and min(before.pages) != min(after.pages, default=None):
+            body += 3 + key + 5
+        if after.pages and pages:
+            body += 7 + key + 5 + sum(11 + 4 * count for _, count, _ in after.extents())
+        return self.accept(body, coll, {**self.colls[coll], name: after}, taken, released)
+
+    def remove(self, coll, name):
         refused = self.refusal(coll)
         if refused:
             return refused
-        if offset + length > OBJECT_LIMIT:
-            return "E8 TooBig"
-        first, count = offset // UNIT, length // UNIT
-        if count > len(self.free):
-            return f"E9 NoSpace need={count} free={len(self.free)}"
-        taken, old = sorted(self.free)[:count], self.colls[coll].get(name)
-        before = old or Object()
-        released = [before.pages[page][0] for page in range(first, first + count) if page in before.pages]
-        after = Object(max(before.size, offset + length), dict(before.pages))
-        after.pages.update({first + at: (unit, byte) for at, unit in enumerate(taken)})
-
-        key, body = len(onode_key(coll, name)), 0
-        if old is None or after.size != old.size:
-            body += 7 + key + 8
-        if before.pages and min(before.pages) != min(after.pages):
-            body += 3 + key + 5
-        body += 7 + key + 5 + sum(11 + 4 * pages for _, pages, _ in after.extents())
-        body += (7 + 5 + 16) * len({unit // ROW_UNITS for unit in taken + released})
-        return self.accept(body, coll, {**self.colls[coll], name: after}, taken, released)
+        others = {other: it for other, it in self.colls[coll].items() if other != name}
+        if name not in self.colls[coll]:
+            return self.accept(0, coll, others)
+        pages = self.colls[coll][name].pages
+        released = [pages[page][0] for page in sorted(pages)]
+        key = len(onode_key(coll, name))
+        return self.accept(3 + key + (3 + key + 5 if pages else 0) + turned(released), coll, others, (), released)
 
     def read(self, coll, name, offset, length):
         refused = self.refusal(coll, name)
@@ -216,6 +260,31 @@ class Store:
             for name in sorted(self.colls[coll]):
                 lines.append("object {} size {} crc {:08x}".format(escaped(name), *sum_of(self.colls[coll][name])))
         return [*lines, "end"]
+
+
+def too_big(end):
+    return "E8 TooBig" if end > OBJECT_LIMIT else None
+
+
+def data_of(word):
+    """The bytes that a word of a script spells: `hex:` and digits, or `fill:XX:NUM`."""
+    form, *rest = word.split(":")
+    return bytes.fromhex(rest[0]) if form == "hex" else bytes([int(rest[0], 16)]) * int(rest[1])
+
+
+def cleared(old, first, end):
+    """What becomes of an object's pages where the bytes from the one to the other are cleared: None is a hole. Holes stay as they are."""
+    pages = {}
+    for page, (_, held) in old.pages.items():
+        front, back = min(max(first - page * UNIT, 0), UNIT), min(max(end - page * UNIT, 0), UNIT)
+        if front < back:
+            pages[page] = None if back - front == UNIT else held[:front] + bytes(back - front) + held[back:]
+    return pages
+
+
+def turned(units):
+    """The bytes of the operations that turn these units' bits in the bitmap."""
+    return (7 + 5 + 16) * len({unit // ROW_UNITS for unit in units})
 
 
 def onode_key(coll, name):
@@ -469,7 +538,7 @@ class Device:
                 expect(checksum(held) == kept, f"the checksum of unit {unit + page}")
                 expect(unit + page not in self.owned, f"two owners of unit {unit + page}")
                 self.owned.add(unit + page)
-                owner.pages[first + page] = unit + page, held[0]
+                owner.pages[first + page] = unit + page, held
             at += 11 + 4 * count
 
     def is_of(self, store):
@@ -479,30 +548,63 @@ class Device:
 # ---- scripts
 
 
-def drawn_command(dice, most):
-    """A command of the model, with its arguments. A write has at most so many pages."""
-    coll = dice.choice([b"1.0_head", b"1.1_head", b"22.ff_head"])
-    name = dice.choice([b"a", b"b", b"a b", b"ab", b"\xff\x01", b"x" * dice.choice([1, 40, 255])])
-    kind = dice.choices(["mkcoll", "touch", "write", "read", "sum", "stat", "list"], [2, 3, 12, 4, 3, 2, 1])[0]
-    if kind in ("mkcoll", "list"):
-        return kind, coll
+def drawn_offset(dice):
+    """An offset, often at a border of pages or near one."""
+    page = dice.choice([0, 0, 1, 2, 3, 7, dice.randrange(60)])
+    return max(UNIT * page + dice.choice([0, 0, 0, -1, 1, 100, dice.randrange(UNIT)]), 0)
+
+
+def drawn_length(dice, most):
+    """A length of less than so many pages, often of whole ones."""
+    pages = dice.choice([1, 1, 1, 2, 3, dice.randrange(1, most)])
+    return dice.choice([UNIT * pages, UNIT * pages, UNIT - 1, UNIT + 1, dice.randrange(20), dice.randrange(UNIT * pages)])
+
+
+def drawn_data(dice, most):
+    length = drawn_length(dice, most)
+    if length < 3 * UNIT and dice.random() < 0.4:
+        return "hex:" + dice.randbytes(length).hex()
+    return f"fill:{dice.randrange(256):02x}:{length}"
+
+
+WEIGHTS = {"mkcoll": 2, "touch": 3, "write": 12, "zero": 5, "truncate": 4, "remove": 2, "read": 5, "sum": 3, "stat": 2, "list": 1}
+# Arguments at the limit of objects and past it, of which none makes a large object, since its checksum would take long.
+AT_LIMIT = {
+    "write": [(OBJECT_LIMIT - 1, "fill:5a:2"), (OBJECT_LIMIT, "hex:"), (OBJECT_LIMIT + 1, "hex:"), (2**64 - 1, "hex:00")],
+    "zero": [(OBJECT_LIMIT - 1, 2), (OBJECT_LIMIT, 0), (OBJECT_LIMIT + 1, 0), (1, 2**64 - 1)],
+    "truncate": [(OBJECT_LIMIT + 1,), (2**64 - 1,)],
+}
+
+
+def drawn_words(dice, kind, most):
+    """The arguments behind an object's name. A write has less than so many pages."""
+    if kind in AT_LIMIT and dice.random() < 0.03:
+        return dice.choice(AT_LIMIT[kind])
     if kind == "write":
-        page = dice.choice([0, 1, 2, 3, 7, dice.randrange(60), OBJECT_LIMIT // UNIT])
-        pages = dice.choice([1, 1, 1, 2, 3, dice.randrange(1, most)])
-        return kind, coll, name, UNIT * page, dice.randrange(256), UNIT * pages
+        return drawn_offset(dice), drawn_data(dice, most)
+    if kind == "zero":
+        return drawn_offset(dice), drawn_length(dice, most)
+    if kind == "truncate":
+        return (dice.choice([drawn_offset(dice), drawn_length(dice, most)]),)
     if kind == "read":
         offset = dice.choice([0, 1, UNIT - 1, UNIT, dice.randrange(40000), OBJECT_LIMIT])
-        return kind, coll, name, offset, dice.choice([0, 1, 2, UNIT, 5000, dice.randrange(20000)])
-    return kind, coll, name
+        return offset, dice.choice([0, 1, 2, UNIT, 5000, dice.randrange(20000)])
+    return ()
+
+
+def drawn_command(dice, most):
+    """A command of the model, with its arguments."""
+    coll = dice.choice([b"1.0_head", b"1.1_head", b"22.ff_head"])
+    name = dice.choice([b"a", b"b", b"a b", b"ab", b"\xff\x01", b"x" * dice.choice([1, 40, 255])])
+    kind = dice.choices([*WEIGHTS], [*WEIGHTS.values()])[0]
+    if kind in ("mkcoll", "list"):
+        return kind, coll
+    return kind, coll, name, *drawn_words(dice, kind, most)
 
 
 def spelled(kind, coll, *words):
-    line = [kind, coll.decode(), *(escaped(it) for it in words[:1])]
-    if kind == "write":
-        line += [str(words[1]), f"fill:{words[2]:02x}:{words[3]}"]
-    if kind == "read":
-        line += [str(it) for it in words[1:]]
-    return " ".join(line)
+    """A command as a line of a script: behind an object's name stand numbers, and at last a write's data."""
+    return " ".join([kind, coll.decode(), *(escaped(it) for it in words[:1]), *(str(it) for it in words[1:])])
 
 
 def drawn_script(dice):
@@ -576,30 +678,41 @@ def play(program, seed):
 
 
 def read_command(line):
-    """A command as a script spells it, without names that are escaped; `fill:XX` is short for a page of it."""
+    """A command as a script spells it, without names that are escaped."""
     kind, *words = line.split()
     if kind == "wait":
         return None
-    coll, *rest = (word.encode() for word in words)
-    if kind == "write":
-        _, byte, *size = words[3].split(":")
-        return kind, coll, rest[0], int(rest[1]), int(byte, 16), int(size[0]) if size else UNIT
-    if kind == "read":
-        return kind, coll, rest[0], int(rest[1]), int(rest[2])
-    return kind, coll, *rest
+    coll, *rest = words
+    return kind, coll.encode(), *(it.encode() for it in rest[:1]), *(int(it) if it.isdigit() else it for it in rest[1:])
 
 
 PAGES_OF_TWO = [
-    ["mkcoll 1.0_head", "write 1.0_head a 0 fill:41", "wait", "read 1.0_head a 0 1"],
-    ["mkcoll 2.1_head", "write 2.1_head a 0 fill:42", "wait", "read 2.1_head a 0 1"],
+    ["mkcoll 1.0_head", "write 1.0_head a 0 fill:41:4096", "wait", "read 1.0_head a 0 1"],
+    ["mkcoll 2.1_head", "write 2.1_head a 0 fill:42:4096", "wait", "read 2.1_head a 0 1"],
     ["touch 1.0_head z"],
 ]
 OF_PAGES = "0:1 ok, 0:2 ok, 0:4 data 41, 1:1 ok, 1:2 ok, 1:4 data 42, "
 NO_TOUCH = OF_PAGES + "2:1 E1 NoCollection, done accepted=4 refused=1 reads=2 commits=4 free=44"
 FEW_UNITS = [
-    ["mkcoll 1.0_head", "write 1.0_head a 0 fill:41", "write 1.0_head a 0 fill:42", "wait", "write 1.0_head b 0 fill:43"],
-    ["write 1.0_head c 0 fill:44", "write 1.0_head c 0 fill:45", "list 1.0_head"],
+    ["mkcoll 1.0_head", "write 1.0_head a 0 fill:41:4096", "write 1.0_head a 0 fill:42:4096", "wait", "write 1.0_head b 0 fill:43:4096"],
+    ["write 1.0_head c 0 fill:44:4096", "write 1.0_head c 0 fill:45:4096", "list 1.0_head"],
 ]
+PARTS_OF_PAGES = [
+    ["mkcoll 1.0_head", "write 1.0_head a 4090 fill:41:10", "wait", "read 1.0_head a 4088 12", "zero 1.0_head a 4095 2", "wait",
+     "read 1.0_head a 4094 4", "truncate 1.0_head a 4096", "zero 1.0_head a 0 8192", "stat 1.0_head a", "remove 1.0_head a", "wait",
+     "list 1.0_head"],
+]
+OF_PARTS = ("0:1 ok, 0:2 ok, 0:4 data 000041414141414141414141, 0:5 ok, 0:7 data 41000041, 0:8 ok, 0:9 ok, 0:10 size 8192, 0:11 ok, "
+            "0:13 objects, done accepted=6 refused=0 reads=4 commits=6 free=46")
+NO_UNIT = [
+    ["mkcoll 1.0_head", "write 1.0_head a 4095 hex:4142", "zero 1.0_head a 0 1", "zero 1.0_head a 0 4096", "wait",
+     "truncate 1.0_head a 4097", "write 1.0_head b 0 hex:", "truncate 1.0_head b 134217728", "truncate 1.0_head b 134217729",
+     "zero 1.0_head b 134217728 1", "truncate 1.0_head c 1", "remove 2.0_head a", "wait", "read 1.0_head a 4094 3", "stat 1.0_head b",
+     "list 1.0_head"],
+]
+OF_NO_UNIT = ("0:1 ok, 0:2 ok, 0:3 E9 NoSpace need=1 free=0, 0:4 ok, 0:6 ok, 0:7 ok, 0:8 ok, 0:9 E8 TooBig, 0:10 E8 TooBig, 0:11 ok, "
+              "0:12 E1 NoCollection, 0:14 data 000042, 0:15 size 134217728, 0:16 objects a b, "
+              "done accepted=7 refused=4 reads=3 commits=7 free=1")
 NO_SPACE, NO_COLL = "E9 NoSpace need=1 free=0", "E1 NoCollection"
 # The units of a store with halves of 8, its scripts, the seed, and what is printed.
 CHECKS = [(64, PAGES_OF_TWO, seed, NO_TOUCH) for seed in range(8)] + [
@@ -614,6 +727,8 @@ CHECKS = [(64, PAGES_OF_TWO, seed, NO_TOUCH) for seed in range(8)] + [
      "done accepted=3 refused=3 reads=1 commits=3 free=1"),
     (20, FEW_UNITS, 15, f"0:1 ok, 0:2 ok, 0:3 ok, 0:5 ok, 1:1 {NO_COLL}, 1:2 {NO_COLL}, 1:3 {NO_COLL}, "
      "done accepted=4 refused=3 reads=0 commits=4 free=0"),
+    *((64, PARTS_OF_PAGES, seed, OF_PARTS) for seed in range(4)),
+    *((20, NO_UNIT, seed, OF_NO_UNIT) for seed in range(4)),
 ]
 
 
@@ -630,7 +745,7 @@ def check_program(program, units, scripts, seed, wanted):
     names = [f"script{number}" for number in range(len(scripts))]
     for name, lines in zip(names, scripts):
         with open(name, "w", encoding="ascii") as it:
-            it.writelines(f"{line}:{UNIT}\n" if "fill:" in line else f"{line}\n" for line in lines)
+            it.writelines(f"{line}\n" for line in lines)
     printed(program, "mkfs", "device", "--half", "8", "--units", str(units))
     expect_same(printed(program, "step", "device", "--seed", str(seed), *names), wanted.split(", "), f"seed {seed}")
 

@@ -135,9 +135,12 @@ turn() {
     printf '03050062%08x10000000%s' $(($1 / 128)) "$mask"
 }
 
-# onode NAME: the operation that sets the onode of an object of one page. The name is two hexadecimal digits, the collection 1.0_head.
+# onode NAME [BYTES]: the operation that sets the onode of an object of so many bytes, or of a page. The name is two hexadecimal digits, the
+# collection 1.0_head.
 onode() {
-    printf '010d004f312e305f6865616400%s006f080000000010000000000000' "$1"
+    local size=${2:-4096} at
+    printf '010d004f312e305f6865616400%s006f08000000' "$1"
+    for at in {0..7}; do printf %02x $((size >> 8 * at & 255)); done
 }
 
 # shard NAME UNIT: the operation that sets its shard. The page, 4096 times Z, stands on a unit below 256.
@@ -284,6 +287,132 @@ says 'bitmap: nothing stands on the leaked one' cmp -s found <(head -c 4096 /dev
 run step FILLED --seed 1 empty
 says 'bitmap: and so it stays' ended 0 'done accepted=0 refused=0 reads=0 commits=0 free=0'
 
+# ---- ranges of bytes. The checksums were made apart, bit by bit.
+
+# pieces BYTE:COUNT ..: prints each byte so many times. It is two hexadecimal digits.
+pieces() {
+    local piece
+    for piece; do
+        head -c "${piece#*:}" /dev/zero | tr '\0' "\\$(printf %03o "0x${piece%:*}")"
+    done
+}
+
+# holds UNIT BYTE:COUNT ..: the unit holds these bytes.
+holds() {
+    local at=$1
+    shift
+    unit "$at" RANGES | cmp -s - <(pieces "$@")
+}
+
+# lines LINE ..: the script 'ranges' makes the collection and has these lines; the script 'waiting' has a wait behind each.
+lines() {
+    printf '%s\n' 'mkcoll 1.0_head' "$@" >ranges
+    sed 'a wait' ranges >waiting
+}
+
+# on_new SCRIPT HALF UNITS: runs it on a new store, whose data units hold zeros.
+on_new() {
+    rm -f RANGES
+    run mkfs RANGES --half "$2" --units "$3"
+    run step RANGES --seed 1 "$1"
+}
+
+# has_object SIZE CHECKSUM: the object `a` is all that the store has in its collection.
+has_object() {
+    run dump RANGES
+    ended 0 'coll 1.0_head' "object a size $1 crc $2" 'end'
+}
+
+# The key of the object's onode and that of its shard at page 0, each behind its length.
+onode_key=0d004f312e305f686561640061006f
+shard_key=12004f312e305f686561640061006f0000000078
+
+lines 'write 1.0_head a 0 hex:313233343536373839' 'sum 1.0_head a'
+on_new ranges 8 64
+says 'ranges: nine bytes' ended 0 '0:1 ok' '0:2 ok' '0:3 sum 9 e3069283' 'done accepted=2 refused=0 reads=1 commits=2 free=45'
+says 'ranges: nine bytes, and zeros behind them' holds 18 31:1 32:1 33:1 34:1 35:1 36:1 37:1 38:1 39:1 00:4087
+lines 'write 1.0_head a 10 hex:' 'stat 1.0_head a'
+on_new ranges 64 256
+says 'ranges: no bytes' ended 0 '0:1 ok' '0:2 ok' '0:3 size 0' 'done accepted=2 refused=0 reads=1 commits=2 free=126'
+says 'ranges: no bytes: its record' has_record RANGES 1 "$(onode 61 0)"
+
+# The page of the first byte is on unit 130. Two bytes over it and behind it take the two units behind that one.
+lines 'write 1.0_head a 4095 hex:41' 'write 1.0_head a 4095 hex:4243' 'read 1.0_head a 4094 4'
+on_new ranges 64 256
+says 'ranges: over two pages' ended 0 '0:1 ok' '0:2 ok' '0:3 ok' '0:4 data 004243' 'done accepted=3 refused=0 reads=1 commits=3 free=124'
+says 'ranges: over two pages: the first' holds 131 00:4095 42:1
+says 'ranges: over two pages: the second' holds 132 43:1 00:4095
+says 'ranges: over two pages: the record' has_record RANGES 2 "$(onode 61 4097)" \
+    "01${shard_key}130000000000000002000083000000c22cb9382acbdf90" "0305006200000001100000001c$zeros15"
+says 'ranges: over two pages: the object' has_object 4097 22d85206
+
+# The pages are on units 130 and 131. The first one's unit is 132 once it is cut.
+lines 'write 1.0_head a 0 fill:5a:5000' 'truncate 1.0_head a 100' 'truncate 1.0_head a 5000' 'read 1.0_head a 99 3' 'stat 1.0_head a'
+on_new ranges 64 256
+says 'ranges: cut and made longer' ended 0 '0:1 ok' '0:2 ok' '0:3 ok' '0:4 ok' '0:5 data 5a0000' '0:6 size 5000' \
+    'done accepted=4 refused=0 reads=2 commits=4 free=125'
+says 'ranges: cut and made longer: its page' holds 132 5a:100 00:3996
+says 'ranges: cut and made longer: the record of the cut' has_record RANGES 2 "$(onode 61 100)" \
+    "01${shard_key}0f00000000000000010000840000007940a4a1" "0305006200000001100000001c$zeros15"
+says 'ranges: cut and made longer: the last record' has_record RANGES 3 "$(onode 61 5000)"
+says 'ranges: cut and made longer: the object' has_object 5000 79ae77ca
+
+# Three pages on units 130 to 132. Of the zeros in them the first and the last page are on units 133 and 134, and the one between is a hole.
+# The page that is left at the end is on the lowest unit that is free then.
+lines 'write 1.0_head a 0 fill:61:12288' 'zero 1.0_head a 1000 10000' 'read 1.0_head a 998 3' 'read 1.0_head a 10999 2' 'sum 1.0_head a' \
+    'truncate 1.0_head a 4096' 'sum 1.0_head a' 'truncate 1.0_head a 4095'
+on_new ranges 64 256
+says 'ranges: zeros over three pages' ended 0 '0:1 ok' '0:2 ok' '0:3 ok' '0:4 data 616100' '0:5 data 0061' '0:6 sum 12288 30050003' '0:7 ok' \
+    '0:8 sum 4096 2c7f47f5' '0:9 ok' 'done accepted=5 refused=0 reads=4 commits=5 free=125'
+says 'ranges: zeros over three pages: the first' holds 133 61:1000 00:3096
+says 'ranges: zeros over three pages: the last' holds 134 00:2808 61:1288
+says 'ranges: zeros over three pages: the record' has_record RANGES 2 \
+    "01${shard_key}1e0000000000000001000085000000f5477f2c0200000001000086000000de63465e" "0305006200000001100000007c$zeros15"
+says 'ranges: zeros over three pages: what is left' holds 135 61:1000 00:3096
+says 'ranges: zeros over three pages: the first unit is as it was' holds 130 61:4096
+says 'ranges: zeros over three pages: the object' has_object 4095 aca65e2f
+on_new waiting 64 256
+says 'ranges: zeros, with waits' ended 0 '0:1 ok' '0:3 ok' '0:5 ok' '0:7 data 616100' '0:9 data 0061' '0:11 sum 12288 30050003' '0:13 ok' \
+    '0:15 sum 4096 2c7f47f5' '0:17 ok' 'done accepted=5 refused=0 reads=4 commits=5 free=125'
+says 'ranges: zeros, with waits: the first' holds 133 61:1000 00:3096
+says 'ranges: zeros, with waits: the last' holds 134 00:2808 61:1288
+says 'ranges: zeros, with waits: what is left' holds 130 61:1000 00:3096
+says 'ranges: zeros, with waits: no other unit was taken' holds 135 00:4096
+says 'ranges: zeros, with waits: the record of the first cut' has_record RANGES 3 "$(onode 61)" \
+    "01${shard_key}0f0000000000000001000085000000f5477f2c" "03050062000000011000000040$zeros15"
+says 'ranges: zeros, with waits: the object' has_object 4095 aca65e2f
+
+# A store of one data unit: a page that stands on it can't be changed in part, but its object can go.
+lines 'write 1.0_head a 0 fill:61:4096' 'write 1.0_head a 0 hex:62' 'truncate 1.0_head a 5' 'remove 1.0_head a' 'write 1.0_head a 0 hex:63'
+on_new waiting 8 19
+says 'ranges: one data unit' ended 0 '0:1 ok' '0:3 ok' '0:5 E9 NoSpace need=1 free=0' '0:7 E9 NoSpace need=1 free=0' '0:9 ok' '0:11 ok' \
+    'done accepted=4 refused=2 reads=0 commits=4 free=0'
+says 'ranges: one data unit: the record of the removal' has_record RANGES 2 "02$onode_key" "02$shard_key" "$(turn 18)"
+says 'ranges: one data unit: the page' holds 18 63:1 00:4095
+says 'ranges: one data unit: the object' has_object 1 20eb33c7
+
+# What ends behind an object's most bytes is refused. What changes nothing has a record without operations.
+lines 'zero 1.0_head a 134217728 1' 'truncate 1.0_head q 134217729' 'write 1.0_head a 134217728 hex:41' 'truncate 1.0_head q 134217728' \
+    'remove 1.0_head q' 'stat 1.0_head q' 'zero 1.0_head a 134217728 0' 'stat 1.0_head a' 'zero 1.0_head a 134217727 1' 'stat 1.0_head a'
+on_new ranges 8 64
+says 'ranges: the most bytes' ended 0 '0:1 ok' '0:2 E8 TooBig' '0:3 E8 TooBig' '0:4 E8 TooBig' '0:5 ok' '0:6 ok' '0:7 E4 NoObject' '0:8 ok' \
+    '0:9 size 0' '0:10 ok' '0:11 size 134217728' 'done accepted=5 refused=4 reads=2 commits=5 free=46'
+says 'ranges: the record of a truncate that changes nothing' has_record RANGES 1
+says 'ranges: the record of a removal that changes nothing' has_record RANGES 2
+says 'ranges: the record of no zeros' has_record RANGES 3 "$(onode 61 0)"
+says 'ranges: the record of a zero in a hole' has_record RANGES 4 "$(onode 61 134217728)"
+
+# One byte of a page is changed: byte 7 of unit 18. What keeps some of the page's bytes is refused, and what covers it wholly is not.
+lines 'write 1.0_head a 0 fill:61:4096'
+on_new ranges 8 64
+printf 'X' | dd of=RANGES bs=1 seek=$((4096 * 18 + 7)) conv=notrunc status=none
+bad='E14 Csum unit=18 kept=26c74ca2 found=35140c63'
+printf '%s\n' 'write 1.0_head a 0 hex:62' 'zero 1.0_head a 5 6' 'truncate 1.0_head a 7' 'write 1.0_head a 0 fill:62:4096' \
+    'write 1.0_head a 1 hex:63' >over
+run step RANGES --seed 1 over
+says 'ranges: a changed byte' ended 4 "0:1 $bad" "0:2 $bad" "0:3 $bad" '0:4 ok' '0:5 ok' 'done accepted=2 refused=3 reads=0 commits=2 free=45'
+says 'ranges: a changed byte: it is gone' has_object 4096 6174a978
+
 # ---- reads and dump. The checksums were made apart, bit by bit.
 
 cp T BEFORE_READS
@@ -333,6 +462,12 @@ says 'the session: more objects' ended 0 '0:1 E2 CollectionExists' '0:2 ok' '0:3
 run dump SESSION
 says 'the session: all objects' ended 0 'coll 1.0_head' 'object a size 4096 crc 37f18c49' 'object b size 8192 crc e5ada115' \
     'object c size 0 crc 00000000' 'end'
+printf 'write 1.0_head b 8190 hex:58595a\nzero 1.0_head b 4096 4094\ntruncate 1.0_head c 2\nremove 1.0_head a\nwait\nread 1.0_head b 8188 9\n' >parts
+run step SESSION --seed 4 parts
+says 'the session: parts of pages' ended 0 '0:1 ok' '0:2 ok' '0:3 ok' '0:4 ok' '0:6 data 000058595a' \
+    'done accepted=4 refused=0 reads=1 commits=4 free=44'
+run dump SESSION
+says 'the session: what is left' ended 0 'coll 1.0_head' 'object b size 8193 crc 9a35370a' 'object c size 2 crc f16177d2' 'end'
 
 printf 'mkcoll 2.0_head\nwrite 2.0_head a 0 fill:41:4096\nwait\nread 2.0_head a 0 2\n' >first
 printf 'touch 2.0_head b\nlist 2.0_head\n' >second
@@ -442,7 +577,7 @@ printf 'mkcoll 1.0_head\n\n#\n\n\n\nwriet 1.0_head a 0 fill:41:4096\n' >bad
 run step ABSENT --seed 1 bad
 says 'step: a bad line' ended 2 'script 0 line 7' 'stopped 2'
 says 'step: no device was made' test ! -e ABSENT
-printf 'mkcoll 1.0_head\n\nwrite 1.0_head a 0 hex:41\n' >bad
+printf 'mkcoll 1.0_head\n\nwrite 1.0_head a 0 hex:4\n' >bad
 run step ABSENT --seed 1 script bad
 says 'step: a bad line of the second script' ended 2 'script 1 line 3' 'stopped 2'
 run step ABSENT --seed 1 script

@@ -2,5 +2,3 @@ pub mod Lay
 pub mod Places
 pub mod Back
 pub mod Forms
-pub mod Values
-pub mod Runs

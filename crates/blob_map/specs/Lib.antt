@@ -1,4 +1,3 @@
 pub mod Pages
 pub mod Normal
-pub mod Values
 pub mod Prelude

@@ -1,16 +1,13 @@
 //! The page map of an object: where each of its pages stands, and the extents that say so in rows.
 //!
 //! In Ceph's BlueStore this is `ExtentMap` with its blobs. Here the map goes from page to place, and the extents are written from it into
-//! rows: there is one list of extents for a map, so that nothing has to be kept in order meanwhile. Rows are read straight into the map, and
-//! written straight from it, without the extents between.
+//! rows: there is one list of extents for a map, so that nothing has to be kept in order meanwhile.
 #![tactic(auto)]
 
 mod extents;
 mod laws;
 mod page_map;
 mod place;
-mod value_reading;
-mod value_writing;
 
 pub use laws::{bounds_of_extents, normal_form, one_map_for_extents};
 pub use page_map::PageMap;

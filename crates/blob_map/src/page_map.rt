@@ -1,21 +1,15 @@
 //! The page map of an object.
-ghost use Rattle.std.specs.Prelude.{◌≡◌, ◌<◌, ◌+◌, ◌^◌, not, List, OnOk, OnErr, IfOk};
+ghost use Rattle.std.specs.Prelude.{◌≡◌, ◌<◌, ◌+◌, ◌^◌, not, OnOk, OnErr, IfOk};
 ghost use Rattle.std.specs.Ordering.{nat_cmp};
-ghost use Rattle.std.specs.List.{flat_map, AllByRecursion};
+ghost use Rattle.std.specs.List.{AllByRecursion};
 ghost use Rattle.std.specs.FinMap as map;
 ghost use Rattle.std.specs.FinMap.Entries.{where_key};
 ghost use Rattle.number_map.specs.NumberMap.{is_in};
-ghost use Rattle.row_format.specs.Prelude.{Extent, Place, extent_bytes, FitsExtent};
-ghost use Rattle.onode_codec.specs.Reading.{SpellExtents};
-ghost use Rattle.blob_map.specs.Pages.{extent_pages, with_pages};
-ghost use Rattle.blob_map.specs.Values.{SpellPages};
+ghost use Rattle.row_format.specs.Prelude.{Place, FitsExtent};
 ghost use Rattle.blob_map.specs.Normal.{extents_of};
 
 use crate::extents::extents_of;
 use crate::place::Place;
-use crate::value_reading::put_value;
-use crate::value_writing::value_of;
-use byte_maps::Bytes;
 use number_map::NumberMap;
 use onode_codec::Extent;
 use std::alloc::{AllocError, Global};
@@ -50,15 +44,6 @@ impl PageMap {
         PageMap {
             pages: NumberMap::new(alloc),
         }
-    }
-
-    /// Puts the pages that the value of a shard's row spells, with checksums of this width, in their places, wherever they stood. Where
-    /// memory runs out, some of them are put.
-    pub fn put_value(&mut self, width: Width, value: &[u8]) -> Result<(), AllocError>
-        requires { SpellPages width value.now }
-        ensures { OnOk result ((es : List Extent) → SpellExtents width value.now es → self.new ≡ with_pages self.old (flat_map extent_pages es)) }
-    {
-        put_value(&mut self.pages, width, value)
     }
 
     /// Where a page stands. None: it is a hole.
@@ -114,12 +99,5 @@ impl PageMap {
         ensures fit { IfOk result (λ es. AllByRecursion (FitsExtent width) es.items) }
     {
         extents_of(alloc, width, self.pages.entries())
-    }
-
-    /// The value of the row of a shard with all pages of the map: what its extents spell, with checksums of this width.
-    pub fn to_value(&self, alloc: Global, width: Width) -> Result<Bytes, AllocError>
-        ensures { IfOk result (λ bytes. bytes ≡ flat_map (extent_bytes width) (extents_of (map.entries self.now))) }
-    {
-        value_of(alloc, width, self.pages.entries())
     }
 }

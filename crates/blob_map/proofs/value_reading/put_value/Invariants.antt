@@ -1,9 +1,0 @@
-use Rattle.std.proofs.Common.{length}
-use Rattle.blob_map.proofs.Values.{AreLeft}
-use Rattle.blob_map.proofs.value_reading.put_value.Given as goal
-
-abbrev pub invariant-extents : goal.invariant-extents
-invariant-extents l = AreLeft l.width l.bytes l.fields l.fn.pages l.pages
-
-abbrev pub decreases-extents : goal.decreases-extents
-decreases-extents l = length l.fields

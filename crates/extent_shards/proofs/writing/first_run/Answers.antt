@@ -1,0 +1,54 @@
+use Rattle.std.proofs.Common.{◌≡◌, ◌+◌, ◌<◌, ◌≤◌, length, get_or, ap, sym, ◌∙◌, arith}
+use Rattle.std.proofs.lemmas.List.{get_or_default, length-drop}
+use Rattle.row_format.specs.Prelude.{own}
+use Rattle.extent_shards.proofs.Runs.{one_grows, next_of, next_grows, size_of_csums, ends_here, ends_with_all}
+use Rattle.extent_shards.proofs.writing.first_run.Goals as goal
+
+pub loop-page-init : goal.loop-page-init
+loop-page-init c =
+    let ps = c.args.pages.now in
+    let d = c.index-pages-0-2.result in
+    let some : 0 < length ps = omega arith in
+    let same : get_or ps 0 c.index-pages-0.result ≡ get_or ps 0 d = get_or_default ps 0 c.index-pages-0.result d some in
+    let place : own c.place.inside.unit c.place.inside.csum ≡ (get_or ps 0 d).1 = c.place.view_is ∙ ap (λ p. p.1) same in
+    record {
+      counted = omega arith;
+      grows = one_grows ps (record { first = (get_or ps 0 d).0; count = 1; unit = c.place.inside.unit }) c.place.inside.csum d some (omega arith)
+          (λ i. ((get_or ps 0 d).0, place i));
+    }
+
+pub loop-page-preserved : goal.loop-page-preserved
+loop-page-preserved c =
+    let ps = c.args.pages.now in
+    let h = c.loop-page.head in
+    let q = c.loop-page-item.result in
+    let grows = c.loop-page.invariant.grows in
+    let is : q ≡ get_or ps h.count q =
+    next_of ps c.behind-page-items.result.now h c.loop-page.page-index q c.behind-page-items.ensures c.loop-page.invariant.counted c.loop-page-item.is in
+    let lt : h.count < length ps =
+    omega (arith, c.loop-page.invariant.counted, c.loop-page-test.true, ap length c.behind-page-items.ensures, length-drop 1 ps) in
+    record {
+      counted = omega arith;
+      grows = next_grows ps h q grows lt is (record h { count = h.count + 1 })
+          (sym (c.follows.ensures _ (size_of_csums ps h grows)) ∙ c.if-not-follows.false) (λ i. record h { count = h.count + 1 });
+    }
+
+pub returns-then-not-follows : goal.returns-then-not-follows
+returns-then-not-follows c =
+    let ps = c.args.pages.now in
+    let h = c.loop-page.head in
+    let q = c.loop-page-item.result in
+    let grows = c.loop-page.invariant.grows in
+    let is : q ≡ get_or ps h.count q =
+    next_of ps c.behind-page-items.result.now h c.loop-page.page-index q c.behind-page-items.ensures c.loop-page.invariant.counted c.loop-page-item.is in
+    let lt : h.count < length ps =
+    omega (arith, c.loop-page.invariant.counted, c.loop-page-test.true, ap length c.behind-page-items.ensures, length-drop 1 ps) in
+    ends_here ps h q grows lt is (sym (c.follows.ensures _ (size_of_csums ps h grows)) ∙ c.if-not-follows.true)
+
+pub returns : goal.returns
+returns c =
+    let ps = c.args.pages.now in
+    let h = c.loop-page.head in
+    let le : length ps ≤ h.count =
+    omega (arith, c.loop-page.invariant.counted, c.loop-page-test.false, ap length c.behind-page-items.ensures, length-drop 1 ps) in
+    ends_with_all ps h c.loop-page.invariant.grows le

@@ -1,0 +1,54 @@
+//! Some of the pages of a map, whose extents stand in one row.
+ghost use Rattle.std.specs.Prelude.{◌≡◌, ◌<◌, length, IfOk};
+ghost use Rattle.row_format.specs.Prelude.{BeginsAt};
+ghost use Rattle.blob_map.specs.Prelude.{extents_of};
+ghost use Rattle.extent_shards.specs.Shards.{shard_bytes};
+
+use crate::writing::value_of;
+use blob_map::Place;
+use byte_maps::Bytes;
+use std::alloc::{AllocError, Global};
+use std::marker::Model;
+use unit_fields::Width;
+
+/// A shard of an object, lent by the map whose pages it has, and seen as its extents. It has at least one.
+#[derive(Drop)]
+pub struct Shard<'a> {
+    pages: &'a [(u32, Place)],
+}
+
+impl<'a> Model for Shard<'a> {
+    ghost use Rattle.std.specs.Prelude.{List, ◌<◌, length};
+    ghost use Rattle.row_format.specs.Prelude.{Extent};
+    ghost use Rattle.blob_map.specs.Prelude.{extents_of};
+
+    ghost Value = { List Extent };
+
+    ghost view = { λ a. extents_of a.pages.now };
+
+    ghost invariant = { λ a. 0 < length a.pages.now };
+}
+
+impl<'a> Shard<'a> {
+    // The shard of these pages.
+    pub(crate) fn new(pages: &'a [(u32, Place)]) -> Shard<'a>
+        requires { 0 < length pages.now }
+        ensures { result ≡ extents_of pages.now }
+    {
+        Shard { pages }
+    }
+
+    /// The first of its pages, by which its row is named.
+    pub fn first_page(&self) -> u32
+        ensures { BeginsAt result self.now }
+    {
+        self.pages[0].0
+    }
+
+    /// The value of its row, with checksums of this width.
+    pub fn encode(&self, alloc: Global, width: Width) -> Result<Bytes, AllocError>
+        ensures { IfOk result (λ bytes. bytes ≡ shard_bytes width self.now) }
+    {
+        value_of(alloc, width, self.pages)
+    }
+}

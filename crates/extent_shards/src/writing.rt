@@ -1,0 +1,96 @@
+//! The value of a shard's row, written from the pages of a map.
+ghost use Rattle.std.specs.Prelude.{◌≡◌, ◌++◌, ◌<◌, ◌≤◌, List, ℕ, length, drop, IfOk, OnOk};
+ghost use Rattle.std.specs.List.{flat_map};
+ghost use Rattle.row_format.specs.Prelude.{csum_bytes, extent_bytes};
+ghost use Rattle.blob_map.specs.Prelude.{follows, extents_of};
+ghost use Rattle.extent_shards.specs.Values.{extent_with, csums_of, IsFirstRun, WritesRun};
+
+use blob_map::Place;
+use byte_maps::Bytes;
+use onode_codec::{Head, push_csum};
+use std::alloc::{AllocError, Global};
+use unit_fields::Width;
+use unit_fields::limits::EXTENT_PAGES;
+
+/// The bytes of an extent in front of its checksums.
+pub const HEAD_BYTES: usize = 11;
+
+// Whether the page may be the next of the extent with this head.
+fn follows(head: &Head, page: u32, place: &Place) -> bool
+    ensures { (csums : List ℕ) → length csums ≡ head.now.count → result ≡ follows (extent_with head.now csums) (page, place.now) }
+{
+    let count = u64::from(head.count);
+    head.count < EXTENT_PAGES
+        && u64::from(page) == u64::from(head.first) + count
+        && u64::from(place.unit.number()) == u64::from(head.unit.number()) + count
+}
+
+/// The pages behind so many.
+pub fn behind(pages: &[(u32, Place)], count: usize) -> &[(u32, Place)]
+    requires { count ≤ length pages.now }
+    ensures { result.now ≡ drop count pages.now }
+{
+    &pages[count..]
+}
+
+/// The head of the first of the pages' extents.
+pub fn first_run(pages: &[(u32, Place)]) -> Head
+    requires { 0 < length pages.now }
+    ensures { IsFirstRun pages.now result }
+{
+    let place = &pages[0].1;
+    let mut head = Head {
+        first: pages[0].0,
+        count: 1,
+        unit: place.unit,
+    };
+    for (page, place) in behind(pages, 1) {
+        if !follows(&head, *page, place) {
+            return head;
+        }
+        head.count += 1;
+    }
+    head
+}
+
+fn push_csums(out: &mut Vec<u8>, width: Width, pages: &[(u32, Place)]) -> Result<(), AllocError>
+    ensures { OnOk result (out.new.items ≡ out.old.items ++ flat_map (csum_bytes width) (csums_of pages.now)) }
+{
+    for (_page, place) in pages {
+        push_csum(out, width, place.csum)?;
+    }
+    Ok(())
+}
+
+// Writes the first of the pages' extents, and says how many of them it has.
+fn push_run(out: &mut Vec<u8>, width: Width, pages: &[(u32, Place)]) -> Result<usize, AllocError>
+    requires { 0 < length pages.now }
+    ensures { IfOk result (λ count. WritesRun width pages.now count out.old.items out.new.items) }
+{
+    let head = first_run(pages);
+    head.push(out)?;
+    let count = usize::from(head.count);
+    push_csums(out, width, &pages[..count])?;
+    Ok(count)
+}
+
+// How many bytes the extents of pages have at the least: as many as one extent has.
+fn least_bytes(width: Width, pages: &[(u32, Place)]) -> usize {
+    pages
+        .len()
+        .saturating_mul(width.bytes_of(1))
+        .saturating_add(HEAD_BYTES)
+}
+
+/// The bytes of the extents of pages, one extent behind the other, with checksums of this width.
+pub fn value_of(alloc: Global, width: Width, pages: &[(u32, Place)]) -> Result<Bytes, AllocError>
+    ensures { IfOk result (λ bytes. bytes ≡ flat_map (extent_bytes width) (extents_of pages.now)) }
+{
+    let mut out = Vec::with_capacity(alloc, least_bytes(width, pages))?;
+    let mut left = pages;
+    'runs: while !left.is_empty() {
+        let count = push_run(&mut out, width, left)?;
+        left = behind(left, count);
+    }
+    Ok(Bytes::from_vec(out))
+}

@@ -8,9 +8,9 @@ use Rattle.meta_rows.specs.Prelude.{Rows, rows_after}
 use Rattle.meta_rows.specs.declared.row_op.RowOp.{RowOp}
 use Rattle.meta_log.specs.declared.slot.Super.{Super}
 use Rattle.meta_log.specs.Prelude.{width_of}
-use Rattle.row_format.specs.Prelude.{bit_in, object_key, bitmap_key, coll_key, onode_key, Row, collection, onode, shard, bitmap, row_key, row_value, FitsRow, FitsBitmap}
+use Rattle.row_format.specs.Prelude.{bit_in, object_key, bitmap_key, coll_key, onode_key, Row, collection, onode, shard, attribute, omap_header, omap_pair, bitmap, row_key, row_value, FitsRow, FitsBitmap}
 use Rattle.row_format.proofs.Prelude.{same_head}
-use Rattle.store_image.specs.Prelude.{HasKey, HasRow, IsDataUnit, IsMarked, AreOfData, IsInPlace, IsGoodRow, NoBadRow}
+use Rattle.store_image.specs.Prelude.{HasKey, HasRow, IsDataUnit, IsMarked, HasObject, AreOfData, IsInPlace, IsGoodRow, NoBadRow}
 use Rattle.bitmap_freelist.specs.Bitmap.{Units, Has, AreFlips, AreBitmapRows, NoneIsZero, IsOtherKey, AreAlikeButBits}
 use Rattle.bitmap_freelist.proofs.Bits.{bit_in-zeros}
 use Rattle.bitmap_freelist.proofs.Turning.{same_row, Turns, at_any, turn_their_units, stay_in_table, stay_some}
@@ -32,6 +32,9 @@ by_kind : (s : Super) (rows : Rows) (row : Row) (rest value : List ℕ) → Fits
 by_kind s rows (collection c) rest value fits key is place = absurd (omega (arith, same_head _ _ _ _ key))
 by_kind s rows (onode c o size) rest value fits key is place = absurd (omega (arith, same_head _ _ _ _ key))
 by_kind s rows (shard c o page extents) rest value fits key is place = absurd (omega (arith, same_head _ _ _ _ key))
+by_kind s rows (attribute c o name v) rest value fits key is place = absurd (omega (arith, same_head _ _ _ _ key))
+by_kind s rows (omap_header c o v) rest value fits key is place = absurd (omega (arith, same_head _ _ _ _ key))
+by_kind s rows (omap_pair c o k v) rest value fits key is place = absurd (omega (arith, same_head _ _ _ _ key))
 by_kind s rows (bitmap r bits) rest value fits key is place =
     record { r = r; key_is = key; fits = subst (FitsBitmap r) (sym is) fits; of_data = subst (AreOfData s r) (sym is) place }
 
@@ -80,6 +83,9 @@ module _ (s : Super) (rows other : Rows) (alike : AreAlikeButBits rows other) wh
   was : (row : Row) → IsOtherKey (row_key row) → HasRow (width_of s) other row → HasRow (width_of s) rows row
   was row is_other has = alike_has_row (width_of s) other rows row (alike_back rows other alike) is_other has
 
+  has_object : (c o : List ℕ) → HasObject rows c o → HasObject other c o
+  has_object c o has = (has_key (coll_key c) (coll_key_is_other c) has.0, has_key (onode_key c o) (keys c o _) has.1)
+
   -- what a row needs of the others isn't bits
   alike_in_place : (row : Row) → IsInPlace s rows row → IsInPlace s other row
   alike_in_place (collection c) is = tt
@@ -92,6 +98,9 @@ module _ (s : Super) (rows other : Rows) (alike : AreAlikeButBits rows other) wh
     within = λ size there. is.within size (was (onode c o size) (keys c o _) there);
     on_data = is.on_data;
   }
+  alike_in_place (attribute c o name value) is = has_object c o is
+  alike_in_place (omap_header c o value) is = has_object c o is
+  alike_in_place (omap_pair c o key value) is = has_object c o is
   alike_in_place (bitmap r bits) is = is
 
   -- so a good row stays good

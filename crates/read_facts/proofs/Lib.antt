@@ -3,6 +3,7 @@ pub mod Walks
 pub mod Keys
 pub mod Cut
 pub mod Found
+pub mod Fronts
 pub mod Shaped
 pub mod Plain
 pub mod Seen

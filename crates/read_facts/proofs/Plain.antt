@@ -6,14 +6,15 @@ use Rattle.std.specs.Option.{option_map_or}
 use Rattle.std.proofs.lemmas.Nat.{from_le_bytes-to_le_bytes_8}
 use Rattle.std.specs.FinMap as finite
 use Rattle.crc32c_csum.specs.Prelude.{crc32c}
-use Rattle.object_model.specs.declared.op.Refusal.TheVariants.{NoCollection, NoObject, BadRange}
+use Rattle.object_model.specs.declared.op.Refusal.TheVariants.{NoCollection, NoObject, NoAttr, BadRange}
 use Rattle.object_model.specs.declared.command.Command.{Command}
 use Rattle.object_model.specs.declared.command.Command.TheVariants as ask
 use Rattle.object_model.specs.declared.command.Answer.{Answer}
 use Rattle.object_model.specs.declared.command.Answer.TheVariants as answer
-use Rattle.object_model.specs.Prelude.{Object, Collection, Objects, object_under, object_limit, answer_from, answer_of_object, reply_of, is_refused, is_of_device}
+use Rattle.object_model.specs.Prelude.{Object, Collection, Objects, object_under, object_limit, answer_from, answer_of_object, value_of, reply_of, is_refused, is_of_device}
 use Rattle.meta_rows.specs.Prelude.{Rows}
-use Rattle.unit_fields.specs.Prelude.{IsCollName}
+use Rattle.byte_maps.specs.ByteMap.{ByteMap}
+use Rattle.unit_fields.specs.Prelude.{IsName, IsCollName}
 use Rattle.unit_fields.specs.declared.width.Width.{Width}
 use Rattle.store_image.specs.Prelude.{HasOnode, IsShape}
 use Rattle.read_facts.specs.Prelude.{IsObject, ReadsBytes, HasReadNames, IsAnswerOf, IsAlike}
@@ -92,6 +93,18 @@ module _ (objects : Objects) (c o : List ℕ) where
       → IsGiven objects c o (reply_of (ask.Sum c o) objects) (λ b. answer.Sum (length b.bytes) (crc32c b.bytes))
   sum_given is = object_given (λ b. answer.Sum (length b.bytes) (crc32c b.bytes)) is
 
+  pub attr_given : (name : List ℕ) → IsGivenAnswer (reply_of (ask.GetAttr c o name) objects)
+      → IsGiven objects c o (reply_of (ask.GetAttr c o name) objects) (λ b. value_of b.attrs name)
+  attr_given name is = object_given (λ b. value_of b.attrs name) is
+
+  pub pair_given : (key : List ℕ) → IsGivenAnswer (reply_of (ask.OmapGet c o key) objects)
+      → IsGiven objects c o (reply_of (ask.OmapGet c o key) objects) (λ b. value_of b.omap key)
+  pair_given key is = object_given (λ b. value_of b.omap key) is
+
+  pub header_given : IsGivenAnswer (reply_of (ask.OmapHeader c o) objects)
+      → IsGiven objects c o (reply_of (ask.OmapHeader c o) objects) (λ b. answer.Bytes b.header)
+  header_given is = object_given (λ b. answer.Bytes b.header) is
+
   pub stat_given : IsGivenAnswer (reply_of (ask.Stat c o) objects)
       → IsGiven objects c o (reply_of (ask.Stat c o) objects) (λ b. answer.Size (length b.bytes))
   stat_given is = object_given (λ b. answer.Size (length b.bytes)) is
@@ -158,6 +171,34 @@ module _ (w : Width) (rows : Rows) (objects : Objects) (shape : IsShape rows obj
         ap answer.Size (size_is c o given.object size given.under is.1) ∙ sym given.reply
     plain_stat c o a is = absurd is.1
 
+    -- a value that is found is the answer
+    found_value : (m : ByteMap (List ℕ)) (name value : List ℕ) → finite.get m name ≡ Some value → answer.Bytes value ≡ value_of m name
+    found_value m name value is = sym (ap (λ x. option_map_or (λ v. answer.Bytes v) x (answer.Refused NoAttr)) is)
+
+    -- answers with values
+    pub plain_attr : (c o name : List ℕ) (a : Answer) → IsName name → IsAnswerOf w memory held rows (ask.GetAttr c o name) a
+        → a ≡ reply_of (ask.GetAttr c o name) objects
+    plain_attr c o name (answer.Refused r) named is = sym (is objects shape)
+    plain_attr c o name (answer.Bytes value) named is =
+        let given = attr_given objects c o name (is.0 objects shape) in
+        found_value given.object.attrs name value ((shape.present c o given.object given.under).attrs name named ∙ is.1) ∙ sym given.reply
+    plain_attr c o name a named is = absurd is.1
+
+    pub plain_pair : (c o key : List ℕ) (a : Answer) → IsName key → IsAnswerOf w memory held rows (ask.OmapGet c o key) a
+        → a ≡ reply_of (ask.OmapGet c o key) objects
+    plain_pair c o key (answer.Refused r) named is = sym (is objects shape)
+    plain_pair c o key (answer.Bytes value) named is =
+        let given = pair_given objects c o key (is.0 objects shape) in
+        found_value given.object.omap key value ((shape.present c o given.object given.under).omap key named ∙ is.1) ∙ sym given.reply
+    plain_pair c o key a named is = absurd is.1
+
+    pub plain_header : (c o : List ℕ) (a : Answer) → IsAnswerOf w memory held rows (ask.OmapHeader c o) a → a ≡ reply_of (ask.OmapHeader c o) objects
+    plain_header c o (answer.Refused r) is = sym (is objects shape)
+    plain_header c o (answer.Bytes value) is =
+        let given = header_given objects c o (is.0 objects shape) in
+        ap answer.Bytes (is.1 ∙ sym (shape.present c o given.object given.under).header) ∙ sym given.reply
+    plain_header c o a is = absurd is.1
+
     -- an answer with names
     pub plain_list : (c : List ℕ) (a : Answer) → IsCollName c → IsAnswerOf w memory held rows (ask.List c) a → a ≡ reply_of (ask.List c) objects
     plain_list c (answer.Refused r) coll is = sym (is objects shape)
@@ -172,5 +213,8 @@ module _ (w : Width) (rows : Rows) (objects : Objects) (shape : IsShape rows obj
     plain_answer (ask.Read c o off len) a names is = plain_read c o off len a is
     plain_answer (ask.Sum c o) a names is = plain_sum c o a is
     plain_answer (ask.Stat c o) a names is = inl (plain_stat c o a is)
+    plain_answer (ask.GetAttr c o name) a names is = inl (plain_attr c o name a names.2 is)
+    plain_answer (ask.OmapGet c o key) a names is = inl (plain_pair c o key a names.2 is)
+    plain_answer (ask.OmapHeader c o) a names is = inl (plain_header c o a is)
     plain_answer (ask.List c) a names is = inl (plain_list c a names is)
     plain_answer command a names is = absurd names

@@ -15,7 +15,7 @@ use Rattle.row_format.specs.Prelude.{own}
 use Rattle.store_image.specs.Prelude.{HasOnode, PageUnit, IsPageAt, IsPageOn, HasPage, page_bytes, AreObjectBytes, ObjectsStand}
 use Rattle.read_facts.specs.Prelude.{IsHeldAt, IsFound, IsGoodPage, hole, mapped, IsBadPage, IsBadUnit, ReadsBytes, FailsAt, HasReadNames, IsAnswerOf}
 use Rattle.read_facts.proofs.Cut.{cut_is}
-use Rattle.read_facts.proofs.Plain.{onode_object, read_given, sum_given, size_is, plain_stat, plain_list}
+use Rattle.read_facts.proofs.Plain.{onode_object, read_given, sum_given, size_is, plain_stat, plain_attr, plain_pair, plain_header, plain_list}
 
 module _ (w : Width) (memory : ℕ → Option (List ℕ)) (d : Disk) (h : History) (tells : d.history ≡ Some h) (rows : Rows)
     (answered : (unit : ℕ) → HasPage w rows unit → memory unit ≡ None → HasNoBadDone h.log unit) (at : ℕ → List ℕ)
@@ -132,5 +132,8 @@ module _ (w : Width) (memory : ℕ → Option (List ℕ)) (d : Disk) (h : Histor
     seen_answer (ask.Read c o off len) a names is = seen_read c o off len a is
     seen_answer (ask.Sum c o) a names is = seen_sum c o a is
     seen_answer (ask.Stat c o) a names is = plain_stat w rows objects stand.shape memory (IsHeldAt d) c o a is
+    seen_answer (ask.GetAttr c o name) a names is = plain_attr w rows objects stand.shape memory (IsHeldAt d) c o name a names.2 is
+    seen_answer (ask.OmapGet c o key) a names is = plain_pair w rows objects stand.shape memory (IsHeldAt d) c o key a names.2 is
+    seen_answer (ask.OmapHeader c o) a names is = plain_header w rows objects stand.shape memory (IsHeldAt d) c o a is
     seen_answer (ask.List c) a names is = plain_list w rows objects stand.shape memory (IsHeldAt d) c a names is
     seen_answer command a names is = absurd names

@@ -1,5 +1,6 @@
--- Rows of which none is bad have objects of their shape: each with as many zeros as its onode says, in the collection of its row.
-use Rattle.std.proofs.Common.{◌≡◌, ◌≢◌, ◌⊎◌, inl, inr, ℕ, ◌||◌, Bool, true, false, List, [], ◌∷◌, length, map, replicate, Option, Some, None, is_some, unwrap_or, option_and_then, refl, sym, ap, subst, ◌∙◌, arith}
+-- Rows of which none is bad have objects of their shape: each with as many zeros as its onode says, with the attributes and the omap of its rows, in
+-- the collection of its row.
+use Rattle.std.proofs.Common.{◌≡◌, ◌≢◌, ◌⊎◌, inl, inr, ℕ, ◌||◌, Bool, true, false, List, [], ◌∷◌, ◌++◌, length, map, replicate, Option, Some, None, is_some, option_and_then, refl, sym, ap, subst, ◌∙◌, append_assoc, arith}
 use Rattle.std.specs.List.{list_any, AllByRecursion}
 use Rattle.std.specs.Ordering.{is_eq, eq_by_cmp}
 use Rattle.std.specs.declared.cmp.Ordering.{Ordering}
@@ -10,131 +11,171 @@ use Rattle.std.proofs.lemmas.Option.{same_Some}
 use Rattle.byte_maps.specs.ByteMap.{byte_order}
 use Rattle.byte_maps.proofs.Prelude.{same_bytes}
 use Rattle.object_model.specs.Prelude.{Object, Collection, Objects, object_under}
-use Rattle.meta_rows.specs.Prelude.{Rows}
+use Rattle.meta_rows.specs.Prelude.{Rows, row}
 use Rattle.meta_log.specs.declared.slot.Super.{Super}
 use Rattle.meta_log.specs.Prelude.{width_of}
 use Rattle.unit_fields.specs.Prelude.{IsName, IsCollName}
-use Rattle.row_format.specs.Prelude.{coll_key, onode_key, Row, collection, onode, shard, bitmap, row_key, FitsRow}
+use Rattle.row_format.specs.Prelude.{object_key, coll_key, onode_key, attr_key, header_key, omap_key, Row, collection, onode, shard, attribute, omap_header, omap_pair, bitmap, row_key, FitsRow}
 use Rattle.row_format.proofs.Prelude.{same_head, same_coll, coll_no_object, same_onode, onode_no_shard, bitmap_no_coll, bitmap_no_object}
 use Rattle.store_image.specs.Prelude.{HasKey, HasRow, HasOnode, IsInPlace, NoBadRow, IsObjectShape, IsShape}
 use Rattle.store_image.proofs.Prelude.{equal_or_not}
 use Rattle.row_facts.proofs.Maps.{get_same, get_other, some_after}
+use Rattle.row_facts.proofs.ValueRows.{attribute_is, pair_is}
+use Rattle.read_facts.proofs.Fronts.{values_behind, value_behind}
 use Rattle.read_facts.proofs.Keys.{under_found, some_of, none_of}
 use Rattle.read_facts.proofs.Walks.{got_each}
+
+-- what stands behind the names of a key of an object's row
+pub key_front : (kind : ℕ) (c o front rest : List ℕ) → object_key kind c o front ++ rest ≡ object_key kind c o (front ++ rest)
+key_front kind c o front rest =
+    ap (λ (l : List ℕ). kind ∷ l)
+    (append_assoc c (0 ∷ (o ++ 0 ∷ front)) rest ∙ ap (λ (l : List ℕ). c ++ 0 ∷ l) (append_assoc o (0 ∷ front) rest))
 
 -- the row is one of these
 abbrev IsIn : Row → List Row → Type 0
 IsIn r [] = ⊥
 IsIn r (x ∷ xs) = (x ≡ r) ⊎ IsIn r xs
 
-abbrev zeros_object : ℕ → Object
-zeros_object size = record { bytes = replicate size 0; attrs = finite.empty; header = []; omap = finite.empty }
+abbrev zeros_object : Rows → List ℕ → List ℕ → ℕ → Object
+zeros_object rows c o size = record {
+  bytes = replicate size 0;
+  attrs = values_behind (attr_key c o []) rows;
+  header = row rows (header_key c o);
+  omap = values_behind (omap_key c o []) rows;
+}
 
--- ---- the objects of a collection
+-- ---- what the rows say
 
--- one is put in if it is of the collection
-abbrev put_in : (c d : List ℕ) → (d ≡ c) ⊎ (d ≢ c) → List ℕ → ℕ → Collection → Collection
-put_in c d (inl same) o size m = finite.insert m o (zeros_object size)
-put_in c d (inr apart) o size m = m
+module _ (rows : Rows) where
+  -- ---- the objects of a collection
 
-abbrev objects_in : List ℕ → List Row → Collection
-objects_in c [] = finite.empty
-objects_in c (collection d ∷ rs) = objects_in c rs
-objects_in c (onode d o size ∷ rs) = put_in c d (equal_or_not d c) o size (objects_in c rs)
-objects_in c (shard d o page extents ∷ rs) = objects_in c rs
-objects_in c (bitmap r bits ∷ rs) = objects_in c rs
+  -- one is put in if it is of the collection
+  abbrev put_in : (c d : List ℕ) → (d ≡ c) ⊎ (d ≢ c) → List ℕ → ℕ → Collection → Collection
+  put_in c d (inl same) o size m = finite.insert m o (zeros_object rows c o size)
+  put_in c d (inr apart) o size m = m
 
--- an object is as its onode says
-abbrev IsOfOnode : List ℕ → List ℕ → Object → List Row → Type 0
-IsOfOnode c o object rs = (size : ℕ) × ((object ≡ zeros_object size) × IsIn (onode c o size) rs)
+  abbrev objects_in : List ℕ → List Row → Collection
+  objects_in c [] = finite.empty
+  objects_in c (collection d ∷ rs) = objects_in c rs
+  objects_in c (onode d o size ∷ rs) = put_in c d (equal_or_not d c) o size (objects_in c rs)
+  objects_in c (shard d o page extents ∷ rs) = objects_in c rs
+  objects_in c (attribute d u name v ∷ rs) = objects_in c rs
+  objects_in c (omap_header d u v ∷ rs) = objects_in c rs
+  objects_in c (omap_pair d u k v ∷ rs) = objects_in c rs
+  objects_in c (bitmap r bits ∷ rs) = objects_in c rs
 
-module _ (c : List ℕ) where
-  later : (r : Row) (rs : List Row) (o : List ℕ) (object : Object) → IsOfOnode c o object rs → IsOfOnode c o object (r ∷ rs)
-  later r rs o object is = (is.0, (is.1.0, inr is.1.1))
+  -- an object is as its onode says
+  abbrev IsOfOnode : List ℕ → List ℕ → Object → List Row → Type 0
+  IsOfOnode c o object rs = (size : ℕ) × ((object ≡ zeros_object rows c o size) × IsIn (onode c o size) rs)
 
-  put_row : (d u : List ℕ) (size : ℕ) (rs : List Row) (t : (d ≡ c) ⊎ (d ≢ c)) (o : List ℕ) (object : Object)
-      → (finite.get (objects_in c rs) o ≡ Some object → IsOfOnode c o object rs)
-      → finite.get (put_in c d t u size (objects_in c rs)) o ≡ Some object → IsOfOnode c o object (onode d u size ∷ rs)
-  put_row d u size rs (inl same) o object before is = elim (equal_or_not o u) [
-    | inl e ↦
-        let m : Collection = finite.insert (objects_in c rs) u (zeros_object size) in
-        let here = same_Some object (zeros_object size) (sym is ∙ ap (finite.get m) e ∙ get_same (objects_in c rs) u (zeros_object size)) in
-        (size, (here, inl (λ i. onode (same i) (sym e i) size)))
-    | inr apart ↦ later (onode d u size) rs o object (before (sym (get_other (objects_in c rs) u (zeros_object size) o apart) ∙ is))
-  ]
-  put_row d u size rs (inr apart) o object before is = later (onode d u size) rs o object (before is)
+  module _ (c : List ℕ) where
+    later : (r : Row) (rs : List Row) (o : List ℕ) (object : Object) → IsOfOnode c o object rs → IsOfOnode c o object (r ∷ rs)
+    later r rs o object is = (is.0, (is.1.0, inr is.1.1))
 
-  found_row : (rs : List Row) (o : List ℕ) (object : Object) → finite.get (objects_in c rs) o ≡ Some object → IsOfOnode c o object rs
-  found_row [] o object is = absurd (let e = sym (finite.get-empty byte_order o) ∙ is in cc)
-  found_row (collection d ∷ rs) o object is = later (collection d) rs o object (found_row rs o object is)
-  found_row (onode d u size ∷ rs) o object is = put_row d u size rs (equal_or_not d c) o object (found_row rs o object) is
-  found_row (shard d u page extents ∷ rs) o object is = later (shard d u page extents) rs o object (found_row rs o object is)
-  found_row (bitmap r bits ∷ rs) o object is = later (bitmap r bits) rs o object (found_row rs o object is)
+    put_row : (d u : List ℕ) (size : ℕ) (rs : List Row) (t : (d ≡ c) ⊎ (d ≢ c)) (o : List ℕ) (object : Object)
+        → (finite.get (objects_in c rs) o ≡ Some object → IsOfOnode c o object rs)
+        → finite.get (put_in c d t u size (objects_in c rs)) o ≡ Some object → IsOfOnode c o object (onode d u size ∷ rs)
+    put_row d u size rs (inl same) o object before is = elim (equal_or_not o u) [
+      | inl e ↦
+          let m : Collection = finite.insert (objects_in c rs) u (zeros_object rows c u size) in
+          let here = same_Some object (zeros_object rows c u size) (sym is ∙ ap (finite.get m) e ∙ get_same (objects_in c rs) u (zeros_object rows c u size)) in
+          (size, (here ∙ ap (λ (n : List ℕ). zeros_object rows c n size) (sym e), inl (λ i. onode (same i) (sym e i) size)))
+      | inr apart ↦ later (onode d u size) rs o object (before (sym (get_other (objects_in c rs) u (zeros_object rows c u size) o apart) ∙ is))
+    ]
+    put_row d u size rs (inr apart) o object before is = later (onode d u size) rs o object (before is)
 
-  row_put : (d u : List ℕ) (n : ℕ) (rs : List Row) (t : (d ≡ c) ⊎ (d ≢ c)) (o : List ℕ) (size : ℕ)
-      → (IsIn (onode c o size) rs → is_some (finite.get (objects_in c rs) o) ≡ true)
-      → IsIn (onode c o size) (onode d u n ∷ rs) → is_some (finite.get (put_in c d t u n (objects_in c rs)) o) ≡ true
-  row_put d u n rs (inl same) o size before (inl e) =
-      let m : Collection = finite.insert (objects_in c rs) u (zeros_object n) in
-      let name : o ≡ u = cc in
-      ap (λ (x : List ℕ). is_some (finite.get m x)) name ∙ ap is_some (get_same (objects_in c rs) u (zeros_object n))
-  row_put d u n rs (inl same) o size before (inr old) = some_after (objects_in c rs) u (zeros_object n) o (before old)
-  row_put d u n rs (inr apart) o size before (inl e) = absurd (let same : d ≡ c = cc in apart same)
-  row_put d u n rs (inr apart) o size before (inr old) = before old
+    found_row : (rs : List Row) (o : List ℕ) (object : Object) → finite.get (objects_in c rs) o ≡ Some object → IsOfOnode c o object rs
+    found_row [] o object is = absurd (let e = sym (finite.get-empty byte_order o) ∙ is in cc)
+    found_row (collection d ∷ rs) o object is = later (collection d) rs o object (found_row rs o object is)
+    found_row (onode d u size ∷ rs) o object is = put_row d u size rs (equal_or_not d c) o object (found_row rs o object) is
+    found_row (shard d u page extents ∷ rs) o object is = later (shard d u page extents) rs o object (found_row rs o object is)
+    found_row (attribute d u name v ∷ rs) o object is = later (attribute d u name v) rs o object (found_row rs o object is)
+    found_row (omap_header d u v ∷ rs) o object is = later (omap_header d u v) rs o object (found_row rs o object is)
+    found_row (omap_pair d u k v ∷ rs) o object is = later (omap_pair d u k v) rs o object (found_row rs o object is)
+    found_row (bitmap r bits ∷ rs) o object is = later (bitmap r bits) rs o object (found_row rs o object is)
 
-  row_found : (rs : List Row) (o : List ℕ) (size : ℕ) → IsIn (onode c o size) rs → is_some (finite.get (objects_in c rs) o) ≡ true
-  row_found [] o size is = absurd is
-  row_found (collection d ∷ rs) o size (inl e) = absurd cc
-  row_found (collection d ∷ rs) o size (inr old) = row_found rs o size old
-  row_found (onode d u n ∷ rs) o size is = row_put d u n rs (equal_or_not d c) o size (row_found rs o size) is
-  row_found (shard d u page extents ∷ rs) o size (inl e) = absurd cc
-  row_found (shard d u page extents ∷ rs) o size (inr old) = row_found rs o size old
-  row_found (bitmap r bits ∷ rs) o size (inl e) = absurd cc
-  row_found (bitmap r bits ∷ rs) o size (inr old) = row_found rs o size old
+    row_put : (d u : List ℕ) (n : ℕ) (rs : List Row) (t : (d ≡ c) ⊎ (d ≢ c)) (o : List ℕ) (size : ℕ)
+        → (IsIn (onode c o size) rs → is_some (finite.get (objects_in c rs) o) ≡ true)
+        → IsIn (onode c o size) (onode d u n ∷ rs) → is_some (finite.get (put_in c d t u n (objects_in c rs)) o) ≡ true
+    row_put d u n rs (inl same) o size before (inl e) =
+        let m : Collection = finite.insert (objects_in c rs) u (zeros_object rows c u n) in
+        let name : o ≡ u = cc in
+        ap (λ (x : List ℕ). is_some (finite.get m x)) name ∙ ap is_some (get_same (objects_in c rs) u (zeros_object rows c u n))
+    row_put d u n rs (inl same) o size before (inr old) = some_after (objects_in c rs) u (zeros_object rows c u n) o (before old)
+    row_put d u n rs (inr apart) o size before (inl e) = absurd (let same : d ≡ c = cc in apart same)
+    row_put d u n rs (inr apart) o size before (inr old) = before old
 
--- ---- the collections
+    row_found : (rs : List Row) (o : List ℕ) (size : ℕ) → IsIn (onode c o size) rs → is_some (finite.get (objects_in c rs) o) ≡ true
+    row_found [] o size is = absurd is
+    row_found (collection d ∷ rs) o size (inl e) = absurd cc
+    row_found (collection d ∷ rs) o size (inr old) = row_found rs o size old
+    row_found (onode d u n ∷ rs) o size is = row_put d u n rs (equal_or_not d c) o size (row_found rs o size) is
+    row_found (shard d u page extents ∷ rs) o size (inl e) = absurd cc
+    row_found (shard d u page extents ∷ rs) o size (inr old) = row_found rs o size old
+    row_found (attribute d u name v ∷ rs) o size (inl e) = absurd cc
+    row_found (omap_header d u v ∷ rs) o size (inl e) = absurd cc
+    row_found (omap_pair d u k v ∷ rs) o size (inl e) = absurd cc
+    row_found (bitmap r bits ∷ rs) o size (inl e) = absurd cc
+    row_found (attribute d u name v ∷ rs) o size (inr old) = row_found rs o size old
+    row_found (omap_header d u v ∷ rs) o size (inr old) = row_found rs o size old
+    row_found (omap_pair d u k v ∷ rs) o size (inr old) = row_found rs o size old
+    row_found (bitmap r bits ∷ rs) o size (inr old) = row_found rs o size old
 
-module _ (all : List Row) where
-  -- each has the objects of all rows
-  abbrev colls_of : List Row → Objects
-  colls_of [] = finite.empty
-  colls_of (collection c ∷ rs) = finite.insert (colls_of rs) c (objects_in c all)
-  colls_of (onode d o size ∷ rs) = colls_of rs
-  colls_of (shard d o page extents ∷ rs) = colls_of rs
-  colls_of (bitmap r bits ∷ rs) = colls_of rs
+  -- ---- the collections
 
-  -- a collection is as its row says
-  abbrev IsOfColl : List ℕ → Collection → List Row → Type 0
-  IsOfColl c found rs = (found ≡ objects_in c all) × IsIn (collection c) rs
+  module _ (all : List Row) where
+    -- each has the objects of all rows
+    abbrev colls_of : List Row → Objects
+    colls_of [] = finite.empty
+    colls_of (collection c ∷ rs) = finite.insert (colls_of rs) c (objects_in c all)
+    colls_of (onode d o size ∷ rs) = colls_of rs
+    colls_of (shard d o page extents ∷ rs) = colls_of rs
+    colls_of (attribute d u name v ∷ rs) = colls_of rs
+    colls_of (omap_header d u v ∷ rs) = colls_of rs
+    colls_of (omap_pair d u k v ∷ rs) = colls_of rs
+    colls_of (bitmap r bits ∷ rs) = colls_of rs
 
-  coll_row : (rs : List Row) (c : List ℕ) (found : Collection) → finite.get (colls_of rs) c ≡ Some found → IsOfColl c found rs
-  coll_row [] c found is = absurd (let e = sym (finite.get-empty byte_order c) ∙ is in cc)
-  coll_row (collection d ∷ rs) c found is = elim (equal_or_not c d) [
-    | inl e ↦
+    -- a collection is as its row says
+    abbrev IsOfColl : List ℕ → Collection → List Row → Type 0
+    IsOfColl c found rs = (found ≡ objects_in c all) × IsIn (collection c) rs
+
+    coll_row : (rs : List Row) (c : List ℕ) (found : Collection) → finite.get (colls_of rs) c ≡ Some found → IsOfColl c found rs
+    coll_row [] c found is = absurd (let e = sym (finite.get-empty byte_order c) ∙ is in cc)
+    coll_row (collection d ∷ rs) c found is = elim (equal_or_not c d) [
+      | inl e ↦
+          let m : Objects = finite.insert (colls_of rs) d (objects_in d all) in
+          let here = same_Some found (objects_in d all) (sym is ∙ ap (finite.get m) e ∙ get_same (colls_of rs) d (objects_in d all)) in
+          (here ∙ ap (λ (x : List ℕ). objects_in x all) (sym e), inl (ap collection (sym e)))
+      | inr apart ↦
+          let old = coll_row rs c found (sym (get_other (colls_of rs) d (objects_in d all) c apart) ∙ is) in
+          (old.0, inr old.1)
+    ]
+    coll_row (onode d o size ∷ rs) c found is = let old = coll_row rs c found is in (old.0, inr old.1)
+    coll_row (shard d o page extents ∷ rs) c found is = let old = coll_row rs c found is in (old.0, inr old.1)
+    coll_row (attribute d u name v ∷ rs) c found is = let old = coll_row rs c found is in (old.0, inr old.1)
+    coll_row (omap_header d u v ∷ rs) c found is = let old = coll_row rs c found is in (old.0, inr old.1)
+    coll_row (omap_pair d u k v ∷ rs) c found is = let old = coll_row rs c found is in (old.0, inr old.1)
+    coll_row (bitmap r bits ∷ rs) c found is = let old = coll_row rs c found is in (old.0, inr old.1)
+
+    row_coll : (rs : List Row) (c : List ℕ) → IsIn (collection c) rs → is_some (finite.get (colls_of rs) c) ≡ true
+    row_coll [] c is = absurd is
+    row_coll (collection d ∷ rs) c (inl e) =
         let m : Objects = finite.insert (colls_of rs) d (objects_in d all) in
-        let here = same_Some found (objects_in d all) (sym is ∙ ap (finite.get m) e ∙ get_same (colls_of rs) d (objects_in d all)) in
-        (here ∙ ap (λ (x : List ℕ). objects_in x all) (sym e), inl (ap collection (sym e)))
-    | inr apart ↦
-        let old = coll_row rs c found (sym (get_other (colls_of rs) d (objects_in d all) c apart) ∙ is) in
-        (old.0, inr old.1)
-  ]
-  coll_row (onode d o size ∷ rs) c found is = let old = coll_row rs c found is in (old.0, inr old.1)
-  coll_row (shard d o page extents ∷ rs) c found is = let old = coll_row rs c found is in (old.0, inr old.1)
-  coll_row (bitmap r bits ∷ rs) c found is = let old = coll_row rs c found is in (old.0, inr old.1)
-
-  row_coll : (rs : List Row) (c : List ℕ) → IsIn (collection c) rs → is_some (finite.get (colls_of rs) c) ≡ true
-  row_coll [] c is = absurd is
-  row_coll (collection d ∷ rs) c (inl e) =
-      let m : Objects = finite.insert (colls_of rs) d (objects_in d all) in
-      let name : c ≡ d = cc in
-      ap (λ (x : List ℕ). is_some (finite.get m x)) name ∙ ap is_some (get_same (colls_of rs) d (objects_in d all))
-  row_coll (collection d ∷ rs) c (inr old) = some_after (colls_of rs) d (objects_in d all) c (row_coll rs c old)
-  row_coll (onode d o size ∷ rs) c (inl e) = absurd cc
-  row_coll (onode d o size ∷ rs) c (inr old) = row_coll rs c old
-  row_coll (shard d o page extents ∷ rs) c (inl e) = absurd cc
-  row_coll (shard d o page extents ∷ rs) c (inr old) = row_coll rs c old
-  row_coll (bitmap r bits ∷ rs) c (inl e) = absurd cc
-  row_coll (bitmap r bits ∷ rs) c (inr old) = row_coll rs c old
+        let name : c ≡ d = cc in
+        ap (λ (x : List ℕ). is_some (finite.get m x)) name ∙ ap is_some (get_same (colls_of rs) d (objects_in d all))
+    row_coll (collection d ∷ rs) c (inr old) = some_after (colls_of rs) d (objects_in d all) c (row_coll rs c old)
+    row_coll (onode d o size ∷ rs) c (inl e) = absurd cc
+    row_coll (onode d o size ∷ rs) c (inr old) = row_coll rs c old
+    row_coll (shard d o page extents ∷ rs) c (inl e) = absurd cc
+    row_coll (shard d o page extents ∷ rs) c (inr old) = row_coll rs c old
+    row_coll (attribute d u name v ∷ rs) c (inl e) = absurd cc
+    row_coll (omap_header d u v ∷ rs) c (inl e) = absurd cc
+    row_coll (omap_pair d u k v ∷ rs) c (inl e) = absurd cc
+    row_coll (bitmap r bits ∷ rs) c (inl e) = absurd cc
+    row_coll (attribute d u name v ∷ rs) c (inr old) = row_coll rs c old
+    row_coll (omap_header d u v ∷ rs) c (inr old) = row_coll rs c old
+    row_coll (omap_pair d u k v ∷ rs) c (inr old) = row_coll rs c old
+    row_coll (bitmap r bits ∷ rs) c (inr old) = row_coll rs c old
 
 -- ---- rows of which none is bad
 
@@ -194,6 +235,9 @@ module _ (s : Super) (rows : Rows) (good : NoBadRow s rows) where
       is_coll (collection d) e is = subst (λ (x : List ℕ). IsIn (collection x) all_rows) (sym (same_coll c d e)) is
       is_coll (onode d u size) e is = absurd (coll_no_object c d u _ e)
       is_coll (shard d u page extents) e is = absurd (coll_no_object c d u _ e)
+      is_coll (attribute d u n v) e is = absurd (omega (arith, same_head _ _ _ _ e))
+      is_coll (omap_header d u v) e is = absurd (omega (arith, same_head _ _ _ _ e))
+      is_coll (omap_pair d u k v) e is = absurd (omega (arith, same_head _ _ _ _ e))
       is_coll (bitmap r bits) e is = absurd (bitmap_no_coll r c (sym e))
 
   -- the onode of an object
@@ -210,61 +254,59 @@ module _ (s : Super) (rows : Rows) (good : NoBadRow s rows) where
       is_onode (shard d u page extents) e is =
           let fits : FitsRow (width_of s) (shard d u page extents) = (stands_in (shard d u page extents) is).0.fits in
           absurd (onode_no_shard c o d u page coll name fits.coll_name fits.object_name e)
+      is_onode (attribute d u n v) e is = absurd (omega (arith, same_head _ _ _ _ e))
+      is_onode (omap_header d u v) e is = absurd (omega (arith, same_head _ _ _ _ e))
+      is_onode (omap_pair d u k v) e is = absurd (omega (arith, same_head _ _ _ _ e))
       is_onode (bitmap r bits) e is = absurd (bitmap_no_object r c o _ (sym e))
-
-  -- no row is of another kind
-  no_kind : (k : ℕ) (rest : List ℕ) → k ≢ 0x43 → k ≢ 0x4f → k ≢ 0x62 → finite.get rows (k ∷ rest) ≡ None
-  no_kind k rest coll object bits = none_of (finite.get rows (k ∷ rest)) (by (is_some (finite.get rows (k ∷ rest))) refl)
-    where
-      other : (r : Row) → k ∷ rest ≡ row_key r → ⊥
-      other (collection d) e = coll (same_head _ _ _ _ e)
-      other (onode d u size) e = object (same_head _ _ _ _ e)
-      other (shard d u page extents) e = object (same_head _ _ _ _ e)
-      other (bitmap r bits') e = bits (same_head _ _ _ _ e)
-
-      by : (b : Bool) → is_some (finite.get rows (k ∷ rest)) ≡ b → is_some (finite.get rows (k ∷ rest)) ≡ false
-      by true has = let found = has_in (k ∷ rest) has in absurd (other found.0 found.1.0)
-      by false none = none
 
   -- ---- the objects
 
   abbrev rows_objects : Objects
-  rows_objects = colls_of all_rows all_rows
+  rows_objects = colls_of rows all_rows all_rows
 
-  under : (c o : List ℕ) (object : Object) → object_under rows_objects c o ≡ Some object → IsOfOnode c o object all_rows
+  under : (c o : List ℕ) (object : Object) → object_under rows_objects c o ≡ Some object → IsOfOnode rows c o object all_rows
   under c o object is = by (finite.get rows_objects c) refl
     where
-      by : (x : Option Collection) → finite.get rows_objects c ≡ x → IsOfOnode c o object all_rows
+      by : (x : Option Collection) → finite.get rows_objects c ≡ x → IsOfOnode rows c o object all_rows
       by None e = absurd (let none = sym (ap (λ (x : Option Collection). option_and_then (λ (coll : Collection). finite.get coll o) x) e) ∙ is in cc)
       by (Some found) e =
-          let coll = coll_row all_rows all_rows c found e in
-          found_row c all_rows o object (ap (λ (m : Collection). finite.get m o) (sym coll.0) ∙ sym (under_found rows_objects c o found e) ∙ is)
+          let coll = coll_row rows all_rows all_rows c found e in
+          found_row rows c all_rows o object (ap (λ (m : Collection). finite.get m o) (sym coll.0) ∙ sym (under_found rows_objects c o found e) ∙ is)
 
   onode_under : (c o : List ℕ) (size : ℕ) → IsIn (onode c o size) all_rows → is_some (object_under rows_objects c o) ≡ true
   onode_under c o size is =
       let place : IsInPlace s rows (onode c o size) = (stands_in (onode c o size) is).1 in
-      let found = some_of (finite.get rows_objects c) (row_coll all_rows all_rows c (coll_in c place.0)) in
-      let coll = coll_row all_rows all_rows c found.0 found.1 in
+      let found = some_of (finite.get rows_objects c) (row_coll rows all_rows all_rows c (coll_in c place.0)) in
+      let coll = coll_row rows all_rows all_rows c found.0 found.1 in
       ap is_some (under_found rows_objects c o found.0 found.1) ∙ ap (λ (m : Collection). is_some (finite.get m o)) coll.0
-      ∙ row_found c all_rows o size is
+      ∙ row_found rows c all_rows o size is
 
-  zeros_shape : (c o : List ℕ) (size : ℕ) → IsIn (onode c o size) all_rows → IsObjectShape rows c o (zeros_object size)
+  zeros_shape : (c o : List ℕ) (size : ℕ) → IsIn (onode c o size) all_rows → IsObjectShape rows c o (zeros_object rows c o size)
   zeros_shape c o size is =
       let at = stands_in (onode c o size) is in
       let place : IsInPlace s rows (onode c o size) = at.1 in
       let long : length (replicate size 0) ≡ size = length-replicate size 0 in
+      let coll : IsCollName c = at.0.fits.0 in
+      let object : IsName o = at.0.fits.1 in
       record {
         size = subst (λ (n : ℕ). HasOnode rows c o n) (sym long) at.0;
         size_most = omega (arith, long, place.1);
-        attr_names = λ name its. absurd (let none = sym (ap is_some (finite.get-empty byte_order name)) ∙ its in cc);
-        attrs = λ name its. finite.get-empty byte_order name
-            ∙ sym (no_kind 0x41 _ (λ e. omega (arith, e)) (λ e. omega (arith, e)) (λ e. omega (arith, e)));
-        header = sym (ap (λ (x : Option (List ℕ)). unwrap_or x [])
-            (no_kind 0x4d _ (λ e. omega (arith, e)) (λ e. omega (arith, e)) (λ e. omega (arith, e))));
-        omap_keys = λ key its. absurd (let none = sym (ap is_some (finite.get-empty byte_order key)) ∙ its in cc);
-        omap = λ key its. finite.get-empty byte_order key
-            ∙ sym (no_kind 0x4d _ (λ e. omega (arith, e)) (λ e. omega (arith, e)) (λ e. omega (arith, e)));
+        attr_names = λ name its.
+            let value = some_of (finite.get rows (attr_key c o name)) (sym (ap is_some (get_attr c o name)) ∙ its) in
+            ((attribute_is s rows c o coll object name value.0).0 (good (attr_key c o name) value.0 value.1)).0.named;
+        attrs = λ name its. get_attr c o name;
+        header = refl;
+        omap_keys = λ key its.
+            let value = some_of (finite.get rows (omap_key c o key)) (sym (ap is_some (get_pair c o key)) ∙ its) in
+            ((pair_is s rows c o coll object key value.0).0 (good (omap_key c o key) value.0 value.1)).0.named;
+        omap = λ key its. get_pair c o key;
       }
+    where
+      get_attr : (c o name : List ℕ) → finite.get (values_behind (attr_key c o []) rows) name ≡ finite.get rows (attr_key c o name)
+      get_attr c o name = value_behind (attr_key c o []) rows name ∙ ap (finite.get rows) (key_front 0x41 c o [] name)
+
+      get_pair : (c o key : List ℕ) → finite.get (values_behind (omap_key c o []) rows) key ≡ finite.get rows (omap_key c o key)
+      get_pair c o key = value_behind (omap_key c o []) rows key ∙ ap (finite.get rows) (key_front 0x4d c o (0x2e ∷ []) key)
 
   same_colls : (c : List ℕ) → finite.contains_key rows_objects c ≡ finite.contains_key rows (coll_key c)
   same_colls c = by (finite.contains_key rows_objects c) (finite.contains_key rows (coll_key c)) refl refl
@@ -272,9 +314,9 @@ module _ (s : Super) (rows : Rows) (good : NoBadRow s rows) where
       by : (a b : Bool) → finite.contains_key rows_objects c ≡ a → finite.contains_key rows (coll_key c) ≡ b → a ≡ b
       by true b has is =
           let found = some_of (finite.get rows_objects c) has in
-          let coll = coll_row all_rows all_rows c found.0 found.1 in
+          let coll = coll_row rows all_rows all_rows c found.0 found.1 in
           sym (ap is_some (stands_in (collection c) coll.1).0.stands) ∙ is
-      by false true none has = sym none ∙ row_coll all_rows all_rows c (coll_in c has)
+      by false true none has = sym none ∙ row_coll rows all_rows all_rows c (coll_in c has)
       by false false none is = refl
 
   pub rows_shape : IsShape rows rows_objects

@@ -1,5 +1,5 @@
 -- A walk over all objects, where the device tells what it holds, shows the objects that rows and units stand for, over the valuation of `Seen`.
-use Rattle.std.proofs.Common.{◌≡◌, ℕ, List, [], ◌∷◌, length, map, Option, Some, None, unwrap_or, Result, Ok, Err, refl, sym, ap, ◌∙◌}
+use Rattle.std.proofs.Common.{◌≡◌, ℕ, List, [], ◌∷◌, length, map, Option, Some, None, unwrap_or, is_some, true, Result, Ok, Err, refl, sym, ap, ◌∙◌}
 use Rattle.std.specs.List.{AllByRecursion}
 use Rattle.std.specs.FinMap as finite
 use Rattle.std.proofs.lemmas.Option.{same_Some}
@@ -10,15 +10,19 @@ use Rattle.object_model.specs.declared.command.Command.TheVariants as ask
 use Rattle.object_model.specs.declared.command.Answer.{Answer}
 use Rattle.object_model.specs.declared.command.Answer.TheVariants as answer
 use Rattle.object_model.specs.Prelude.{Object, Collection, Objects, object_under, reply_of}
+use Rattle.byte_maps.specs.ByteMap.{ByteMap}
+use Rattle.unit_fields.specs.Prelude.{IsName}
 use Rattle.meta_rows.specs.Prelude.{Rows}
+use Rattle.row_format.specs.Prelude.{attr_key, omap_key}
 use Rattle.meta_log.specs.declared.slot.Super.{Super}
-use Rattle.store_image.specs.Prelude.{NoBadRow, HasPage, ObjectsStand}
+use Rattle.store_image.specs.Prelude.{NoBadRow, HasPage, IsObjectShape, ObjectsStand}
 use Rattle.row_facts.proofs.ByRow.{object_present}
 use Rattle.read_facts.specs.declared.view.BadSum.{BadSum}
 use Rattle.read_facts.specs.declared.view.CollView.{CollView}
 use Rattle.read_facts.specs.declared.view.ObjectView.{ObjectView}
-use Rattle.read_facts.specs.Prelude.{IsCollection, IsObject, IsHeldAt, Gives, sum_answer, IsViewOf, object_names, coll_names, IsViewed, IsWhole, AreWholeButLast, WalksTo, WalksAll, views_in, views_of, IsGoodView, HasGoodViews}
-use Rattle.read_facts.proofs.Walks.{one_order, each_is, all_to, all_by, got_each}
+use Rattle.read_facts.specs.declared.view.ValueView.{ValueView}
+use Rattle.read_facts.specs.Prelude.{IsCollection, IsObject, IsHeldAt, Gives, IsValue, value_names, AreValues, sum_answer, IsViewOf, object_names, coll_names, IsViewed, IsWhole, AreWholeButLast, WalksTo, WalksAll, values_in, object_view, views_in, views_of, IsGoodView, HasGoodViews}
+use Rattle.read_facts.proofs.Walks.{one_order, each_is, all_to, all_by, got_each, keys_are_all}
 use Rattle.read_facts.proofs.Keys.{coll_keys, object_keys, under_found, some_of}
 use Rattle.read_facts.proofs.Found.{sum_taken}
 use Rattle.read_facts.proofs.Plain.{size_is, sum_given}
@@ -51,6 +55,31 @@ each_viewed : (w : Width) (memory : ℕ → Option (List ℕ)) (held : ℕ → L
 each_viewed w memory held rows [] are = tt
 each_viewed w memory held rows (v ∷ []) are = (are, tt)
 each_viewed w memory held rows (v ∷ next ∷ more) are = (are.0.viewed, each_viewed w memory held rows (next ∷ more) are.1)
+
+-- ---- an object's values of one kind
+
+-- all values that rows have are those of a map, where it has under each name what the rows have under its key
+module _ (key_of : List ℕ → List ℕ) (rows : Rows) (m : ByteMap (List ℕ))
+    (named : (name : List ℕ) → is_some (finite.get m name) ≡ true → IsName name)
+    (same : (name : List ℕ) → IsName name → finite.get m name ≡ finite.get rows (key_of name)) where
+  -- a value is the map's entry of its name
+  value_is : (v : ValueView) (e : List ℕ × List ℕ) → v.name ≡ e.0 → finite.get rows (key_of v.name) ≡ Some v.value → finite.get m e.0 ≡ Some e.1
+      → v ≡ record { name = e.0; value = e.1 }
+  value_is v e name held got =
+      let value : v.value ≡ e.1 =
+      same_Some v.value e.1 (sym held ∙ ap (λ (n : List ℕ). finite.get rows (key_of n)) name ∙ sym (same e.0 (named e.0 (ap is_some got))) ∙ got) in
+      λ i. record { name = name i; value = value i }
+
+  pub values_are : (values : List ValueView) → AreValues key_of rows values → values ≡ values_in m
+  values_are values are =
+      let names : value_names values ≡ finite.keys m =
+      one_order (IsValue key_of rows) (value_names values) (finite.keys m) are.all
+      (keys_are_all (IsValue key_of rows) m (λ name its. ap is_some (same name its.named) ∙ its.there) (λ name has.
+      let is : IsName name = named name has in
+      record { named = is; there = sym (ap is_some (same name is)) ∙ has })) in
+      made_of (λ (v : ValueView). v.name) (λ (e : List ℕ × List ℕ). e.0) (λ (e : List ℕ × List ℕ). record { name = e.0; value = e.1 })
+      (λ (v : ValueView). finite.get rows (key_of v.name) ≡ Some v.value) (λ (e : List ℕ × List ℕ). finite.get m e.0 ≡ Some e.1) value_is values
+      (finite.entries m) names are.each (got_each m)
 
 -- the checksum in an answer
 abbrev crc_of : Answer → ℕ
@@ -93,12 +122,16 @@ module _ (w : Width) (memory : ℕ → Option (List ℕ)) (d : Disk) (h : Histor
   -- it is the view of the object under its name
   view_is : (c : List ℕ) (found : Collection) → IsCollection rows c → finite.get objects c ≡ Some found → (v : ObjectView) (e : List ℕ × Object)
       → v.name ≡ e.0 → IsViewOf w memory (IsHeldAt d) rows c v → finite.get found e.0 ≡ Some e.1
-      → v ≡ record { name = e.0; size = length e.1.bytes; sum = Ok (crc32c e.1.bytes) }
+      → v ≡ object_view e.0 e.1
   view_is c found coll there v e name view got =
       let under : object_under objects c v.name ≡ Some e.1 = under_found objects c v.name found there ∙ ap (finite.get found) name ∙ got in
       let size : v.size ≡ length e.1.bytes = size_is w rows objects stand.shape c v.name e.1 v.size under view.has_size in
       let sum : v.sum ≡ Ok (crc32c e.1.bytes) = sum_is c v.name coll view.is e.1 under v.size v.sum view.sums in
-      λ i. record { name = name i; size = size i; sum = sum i }
+      let shape : IsObjectShape rows c v.name e.1 = stand.shape.present c v.name e.1 under in
+      let attrs : v.attrs ≡ values_in e.1.attrs = values_are (attr_key c v.name) rows e.1.attrs shape.attr_names shape.attrs v.attrs view.attrs in
+      let header : v.header ≡ e.1.header = view.header ∙ sym shape.header in
+      let omap : v.omap ≡ values_in e.1.omap = values_are (omap_key c v.name) rows e.1.omap shape.omap_keys shape.omap v.omap view.omap in
+      λ i. record { name = name i; size = size i; sum = sum i; attrs = attrs i; header = header i; omap = omap i }
 
   -- ---- one collection
 
@@ -118,7 +151,7 @@ module _ (w : Width) (memory : ℕ → Option (List ℕ)) (d : Disk) (h : Histor
       (object_keys rows objects v.coll e.1 stand.shape coll.named there) in
       let views : v.objects ≡ views_in e.1 =
       made_of (λ (view : ObjectView). view.name) (λ (f : List ℕ × Object). f.0)
-      (λ (f : List ℕ × Object). record { name = f.0; size = length f.1.bytes; sum = Ok (crc32c f.1.bytes) })
+      (λ (f : List ℕ × Object). object_view f.0 f.1)
       (IsViewOf w memory (IsHeldAt d) rows v.coll) (λ (f : List ℕ × Object). finite.get e.1 f.0 ≡ Some f.1) (view_is v.coll e.1 coll there) v.objects
       (finite.entries e.1)
       names whole.viewed.each (got_each e.1) in

@@ -114,11 +114,11 @@ module _ {V : Type 0} where
   passed q e es lt = ap (λ (r : Ordering). cond (is_eq r) (Some e.1) (find byte_order q es)) (turned_less e.0 q lt)
 
   -- the entry is found under its key
-  abbrev IsFoundIn : List (List ℕ × V) → List ℕ × V → Type 0
+  abbrev pub IsFoundIn : List (List ℕ × V) → List ℕ × V → Type 0
   IsFoundIn es e = find byte_order e.0 es ≡ Some e.1
 
   -- each entry of entries in order is found
-  found_each : (es : List (List ℕ × V)) → T (is_sorted byte_order es) → AllByRecursion (IsFoundIn es) es
+  pub found_each : (es : List (List ℕ × V)) → T (is_sorted byte_order es) → AllByRecursion (IsFoundIn es) es
   found_each [] h = tt
   found_each (e ∷ es) h = (
     ap (λ (r : Ordering). cond (is_eq r) (Some e.1) (find byte_order e.0 es)) (tied_itself nat_list_cmp_total e.0),
@@ -186,13 +186,19 @@ module _ {V : Type 0} where
         let up : AreAbove e.0 es = above e.0 es (both_first _ _ h) in
         keys_past (Some e.0) es (both_second _ _ h) (rest_behind after e es up are.1) (rest_found after e es are.0 found)
 
+    -- The keys of entries in order are all names of a kind, where each is one and something is found under each.
+    pub entries_are_all : (es : List (List ℕ × V)) → T (is_sorted byte_order es) → AllByRecursion (λ (e : List ℕ × V). Is e.0) es
+        → ((name : List ℕ) → Is name → is_some (find byte_order name es) ≡ true) → AreAll Is (map (λ (e : List ℕ × V). e.0) es)
+    entries_are_all es sorted are found =
+        let is : AllByRecursion (IsEntryBehind None) es = all_to (λ (e : List ℕ × V). Is e.0) (IsEntryBehind None) (λ e its. (its, tt)) es are in
+        let each : AreFound None es = λ name its behind. found name its in
+        record { next = keys_next None es sorted is each; past = keys_past None es sorted is each }
+
     -- the keys of a map are all names of a kind, where these are the names that it has something under
     pub keys_are_all : (m : ByteMap V) → ((name : List ℕ) → Is name → is_some (finite.get m name) ≡ true)
         → ((name : List ℕ) → is_some (finite.get m name) ≡ true → Is name) → AreAll Is (finite.keys m)
     keys_are_all m to from =
         let es : List (List ℕ × V) = finite.entries m in
-        let sorted : T (is_sorted byte_order es) = finite.entries_sorted m in
-        let is : AllByRecursion (IsEntryBehind None) es =
-        all_to (λ (e : List ℕ × V). finite.get m e.0 ≡ Some e.1) (IsEntryBehind None) (λ e got. (from e.0 (ap is_some got), tt)) es (got_each m) in
-        let found : AreFound None es = λ name its behind. sym (ap is_some (finite.get-entries m name)) ∙ to name its in
-        record { next = keys_next None es sorted is found; past = keys_past None es sorted is found }
+        entries_are_all es (finite.entries_sorted m)
+        (all_to (λ (e : List ℕ × V). finite.get m e.0 ≡ Some e.1) (λ (e : List ℕ × V). Is e.0) (λ e got. from e.0 (ap is_some got)) es (got_each m))
+        (λ name its. sym (ap is_some (finite.get-entries m name)) ∙ to name its)

@@ -4,4 +4,4 @@ pub use Rattle.read_facts.specs.PageReads.{IsHeldAt, no_memory, IsRead, IsFound,
 pub use Rattle.read_facts.specs.Refusals.{IsRefusedBy, IsNotRefused}
 pub use Rattle.read_facts.specs.Answers.{IsKnownRead, HasReadNames, Gives, IsAnswerOf}
 pub use Rattle.read_facts.specs.Alike.{IsAlike, IsAnsweredAlike, AnswersAlikeFrom, IsLegalButBytes, IsNoCsum}
-pub use Rattle.read_facts.specs.Views.{sum_answer, IsViewOf, object_names, coll_names, IsViewed, IsWhole, AreWholeButLast, WalksTo, WalksAll, views_in, views_of, IsGoodView, HasGoodViews}
+pub use Rattle.read_facts.specs.Views.{IsValue, value_names, AreValues, sum_answer, IsViewOf, object_names, coll_names, IsViewed, IsWhole, AreWholeButLast, WalksTo, WalksAll, values_in, object_view, views_in, views_of, IsGoodView, HasGoodViews}

@@ -10,4 +10,4 @@ pub use laws::{
     reads_are_as_plain_objects, reads_are_plain_but_for_bytes, rows_have_objects,
     units_are_as_plain_objects, walks_show_plain_objects,
 };
-pub use view::{BadSum, CollView, ObjectView};
+pub use view::{BadSum, CollView, ObjectView, ValueView};

@@ -8,41 +8,58 @@ use Rattle.unit_fields.specs.Prelude.{IsName, IsCollName}
 use Rattle.meta_rows.specs.Prelude.{Rows}
 use Rattle.meta_log.specs.declared.slot.Super.{Super}
 use Rattle.meta_log.specs.Prelude.{width_of}
-use Rattle.row_format.specs.Prelude.{coll_key, onode_key, Extent, page_end, onode, shard}
+use Rattle.row_format.specs.Prelude.{coll_key, onode_key, Extent, page_end, onode, shard, attribute, omap_header, omap_pair}
 use Rattle.row_format.specs.Row as format
-use Rattle.store_image.specs.Prelude.{HasKey, HasRow, HasOnode, pages_of, IsInPlace, IsShardInPlace}
+use Rattle.store_image.specs.Prelude.{HasKey, HasRow, HasOnode, pages_of, HasObject, IsInPlace, IsShardInPlace}
 use Rattle.onode_codec.specs.Reading.{SpellsOnode}
 use Rattle.onode_codec.proofs.Again.{same_onode}
 use Rattle.row_reading.specs.declared.row.Row.{Row}
 use Rattle.row_reading.specs.declared.row.Row.TheVariants as read
-use Rattle.row_check.specs.Bad.{IsRightBefore, IsWalkedTo, IsOfObjectIn, IsOnodeOf, IsWithinOnode}
+use Rattle.row_check.specs.Bad.{IsRightBefore, IsWalkedTo, IsOfObject, IsOfObjectIn, IsOnodeOf, IsWithinOnode}
 use Rattle.row_check.proofs.Shards.{good_in_place}
 
 module _ (s : Super) (rows : Rows) (key : List ℕ) where
-  -- a good row of an object has its collection's row
+  -- the row right before is in its place
+  before_in_place : (last : Option Row) (r : format.Row) → IsWalkedTo s rows last key → IsRightBefore (width_of s) rows key r → IsInPlace s rows r
+  before_in_place last r walked right =
+      good_in_place s rows r right.has (walked.good (format.row_key r) (format.row_value (width_of s) r) right.below right.has.stands)
+
+  same_object : (d u c o : List ℕ) → HasObject rows d u → (d ≡ c) × (u ≡ o) → HasObject rows c o
+  same_object d u c o has same = subst (λ n. HasObject rows n o) same.0 (subst (λ n. HasObject rows d n) same.1 has)
+
+  -- a good row of an object has the object's rows
+  pub object_before : (last : Option Row) (c o : List ℕ) → IsWalkedTo s rows last key → IsOfObject last c o → HasObject rows c o
+  object_before None c o walked same = absurd same
+  object_before (Some (read.Collection d)) c o walked same = absurd same
+  object_before (Some (read.Bitmap r bits)) c o walked same = absurd same
+  object_before (Some (read.Onode d u size)) c o walked same =
+      let right : IsRightBefore (width_of s) rows key (onode d u size) = walked.last_is.1 in
+      let place : IsInPlace s rows (onode d u size) = before_in_place (Some (read.Onode d u size)) (onode d u size) walked right in
+      same_object d u c o (place.0, subst IsSome (sym right.has.stands) refl) same
+  object_before (Some (read.Shard d u first es)) c o walked same =
+      let place : IsShardInPlace s rows d u first es = before_in_place (Some (read.Shard d u first es)) (shard d u first es) walked walked.last_is.1 in
+      same_object d u c o (place.has_collection, place.has_onode) same
+  object_before (Some (read.Attribute d u name)) c o walked same = same_object d u c o
+      (before_in_place (Some (read.Attribute d u name)) (attribute d u name walked.last_is.0) walked walked.last_is.1) same
+  object_before (Some (read.OmapHeader d u)) c o walked same = same_object d u c o
+      (before_in_place (Some (read.OmapHeader d u)) (omap_header d u walked.last_is.0) walked walked.last_is.1) same
+  object_before (Some (read.OmapPair d u k)) c o walked same = same_object d u c o
+      (before_in_place (Some (read.OmapPair d u k)) (omap_pair d u k walked.last_is.0) walked walked.last_is.1) same
+
+  -- and so its collection's
   pub collection_before : (last : Option Row) (c : List ℕ) → IsWalkedTo s rows last key → IsOfObjectIn last c → HasKey rows (coll_key c)
-  collection_before None c walked same = absurd same
-  collection_before (Some (read.Collection d)) c walked same = absurd same
-  collection_before (Some (read.Bitmap r bits)) c walked same = absurd same
-  collection_before (Some (read.Onode d u size)) c walked same =
-      let right : IsRightBefore (width_of s) rows key (onode d u size) = walked.last_is in
-      let good = walked.good (format.row_key (onode d u size)) (format.row_value (width_of s) (onode d u size)) right.below right.has.stands in
-      let place : IsInPlace s rows (onode d u size) = good_in_place s rows (onode d u size) right.has good in
-      subst (λ n. HasKey rows (coll_key n)) same place.0
-  collection_before (Some (read.Shard d u first es)) c walked same =
-      let right : IsRightBefore (width_of s) rows key (shard d u first es) = walked.last_is in
-      let good = walked.good (format.row_key (shard d u first es))
-      (format.row_value (width_of s) (shard d u first es)) right.below right.has.stands in
-      let place : IsShardInPlace s rows d u first es = good_in_place s rows (shard d u first es) right.has good in
-      subst (λ n. HasKey rows (coll_key n)) same place.has_collection
+  collection_before last c walked is = (object_before last c is.0 walked is.1).0
 
   pub onode_before : (last : Option Row) (c o : List ℕ) (size : ℕ) → IsWalkedTo s rows last key → IsOnodeOf last c o size → HasOnode rows c o size
   onode_before None c o size walked same = absurd same
   onode_before (Some (read.Collection d)) c o size walked same = absurd same
   onode_before (Some (read.Bitmap r bits)) c o size walked same = absurd same
   onode_before (Some (read.Shard d u first es)) c o size walked same = absurd same
+  onode_before (Some (read.Attribute d u name)) c o size walked same = absurd same
+  onode_before (Some (read.OmapHeader d u)) c o size walked same = absurd same
+  onode_before (Some (read.OmapPair d u k)) c o size walked same = absurd same
   onode_before (Some (read.Onode d u own)) c o size walked same =
-      let right : IsRightBefore (width_of s) rows key (onode d u own) = walked.last_is in
+      let right : IsRightBefore (width_of s) rows key (onode d u own) = walked.last_is.1 in
       subst (HasRow (width_of s) rows) (λ i. onode (same.0 i) (same.1 i) (same.2 i)) right.has
 
 -- the onode says one size

@@ -11,7 +11,7 @@ use Rattle.unit_fields.specs.declared.width.Width.{Width}
 use Rattle.meta_rows.specs.Prelude.{Rows}
 use Rattle.meta_log.specs.declared.slot.Super.{Super}
 use Rattle.meta_log.specs.Prelude.{width_of}
-use Rattle.row_format.specs.Prelude.{shard_key, Body, private, Extent, own, collection, onode, shard, bitmap}
+use Rattle.row_format.specs.Prelude.{shard_key, Body, private, Extent, own, collection, onode, shard, attribute, omap_header, omap_pair, bitmap}
 use Rattle.row_format.specs.Row as format
 use Rattle.row_format.proofs.Prelude.{same_row}
 use Rattle.store_image.specs.Prelude.{HasRow, HasShard, IsPageAt, IsOnData, IsShardInPlace, IsGoodRow, NoBadRow, Owner, page_of, Owns}
@@ -71,6 +71,9 @@ shard_below w key value units within told = by within.row within.spells within.w
     by (collection c) s within = absurd ((told (collection c) s).0 refl)
     by (onode c o size) s within = absurd ((told (onode c o size) s).0 refl)
     by (shard c o page es) s within = record { extents = es; spelled = record { fit = s.fits.fit; spelled = s.value_is }; below = within }
+    by (attribute c o name v) s within = absurd ((told (attribute c o name v) s).0 refl)
+    by (omap_header c o v) s within = absurd ((told (omap_header c o v) s).0 refl)
+    by (omap_pair c o k v) s within = absurd ((told (omap_pair c o k v) s).0 refl)
     by (bitmap r bits) s within = absurd ((told (bitmap r bits) s).0 refl)
 
 pub shard_marked : (w : Width) (key value : List ℕ) (old new : Marks) → TellsShard w key value true
@@ -78,12 +81,18 @@ pub shard_marked : (w : Width) (key value : List ℕ) (old new : Marks) → Tell
 shard_marked w key value old new told all (collection c) s = absurd ((told (collection c) s).0 refl)
 shard_marked w key value old new told all (onode c o size) s = absurd ((told (onode c o size) s).0 refl)
 shard_marked w key value old new told all (shard c o page es) s = all es (record { fit = s.fits.fit; spelled = s.value_is })
+shard_marked w key value old new told all (attribute c o name v) s = absurd ((told (attribute c o name v) s).0 refl)
+shard_marked w key value old new told all (omap_header c o v) s = absurd ((told (omap_header c o v) s).0 refl)
+shard_marked w key value old new told all (omap_pair c o k v) s = absurd ((told (omap_pair c o k v) s).0 refl)
 shard_marked w key value old new told all (bitmap r bits) s = absurd ((told (bitmap r bits) s).0 refl)
 
 pub no_shard_marked : (w : Width) (key value : List ℕ) (old : Marks) → TellsShard w key value false → AreMarkedOn w key value old old
 no_shard_marked w key value old told (collection c) s = refl
 no_shard_marked w key value old told (onode c o size) s = refl
 no_shard_marked w key value old told (shard c o page es) s = absurd (let is = (told (shard c o page es) s).1 tt in cc)
+no_shard_marked w key value old told (attribute c o name v) s = refl
+no_shard_marked w key value old told (omap_header c o v) s = refl
+no_shard_marked w key value old told (omap_pair c o k v) s = refl
 no_shard_marked w key value old told (bitmap r bits) s = refl
 
 pub same_spelled : (w : Width) (key value : List ℕ) (a b : format.Row) → SpellsRow w key value a → SpellsRow w key value b → a ≡ b
@@ -100,6 +109,9 @@ module _ (s : Super) (rows : Rows) (good : NoBadRow s rows) where
   row_ends : (row : format.Row) → HasRow (width_of s) rows row → RowEndsBy s.units row
   row_ends (collection c) has = tt
   row_ends (onode c o size) has = tt
+  row_ends (attribute c o name v) has = tt
+  row_ends (omap_header c o v) has = tt
+  row_ends (omap_pair c o k v) has = tt
   row_ends (bitmap r bits) has = tt
   row_ends (shard c o page es) has =
       let place : IsShardInPlace s rows c o page es = in_place s rows (shard c o page es) good has in all_end s es place.on_data
@@ -107,6 +119,9 @@ module _ (s : Super) (rows : Rows) (good : NoBadRow s rows) where
   row_ascends : (row : format.Row) → HasRow (width_of s) rows row → RowAscends row
   row_ascends (collection c) has = tt
   row_ascends (onode c o size) has = tt
+  row_ascends (attribute c o name v) has = tt
+  row_ascends (omap_header c o v) has = tt
+  row_ascends (omap_pair c o k v) has = tt
   row_ascends (bitmap r bits) has = tt
   row_ascends (shard c o page es) has =
       let place : IsShardInPlace s rows c o page es = in_place s rows (shard c o page es) good has in place.ascend
@@ -159,9 +174,15 @@ module _ (s : Super) (rows : Rows) (good : NoBadRow s rows) where
       → format.row_key r ≡ format.row_key t
   same_key (collection c) t a v w p q x y = absurd x
   same_key (onode c o size) t a v w p q x y = absurd x
+  same_key (attribute c o name value) t a v w p q x y = absurd x
+  same_key (omap_header c o value) t a v w p q x y = absurd x
+  same_key (omap_pair c o k value) t a v w p q x y = absurd x
   same_key (bitmap r bits) t a v w p q x y = absurd x
   same_key (shard c o first es) (collection d) a v w p q x y = absurd y
   same_key (shard c o first es) (onode d u size) a v w p q x y = absurd y
+  same_key (shard c o first es) (attribute d u name value) a v w p q x y = absurd y
+  same_key (shard c o first es) (omap_header d u value) a v w p q x y = absurd y
+  same_key (shard c o first es) (omap_pair d u k value) a v w p q x y = absurd y
   same_key (shard c o first es) (bitmap r bits) a v w p q x y = absurd y
   same_key (shard c o first es) (shard d u other fs) a v w p q x y = owned_key c o d u first other es fs a v w p q x y
 
@@ -255,6 +276,9 @@ module _ (w : Width) (rows : Rows) (es : List (List ℕ × List ℕ)) (are : Are
   row_owner : (row : format.Row) (a : Owner) (v : ℕ) → HasRow w rows row → RowOwns row a v → Owns w rows a v
   row_owner (collection c) a v has owns = absurd owns
   row_owner (onode c o size) a v has owns = absurd owns
+  row_owner (attribute c o name value) a v has owns = absurd owns
+  row_owner (omap_header c o value) a v has owns = absurd owns
+  row_owner (omap_pair c o k value) a v has owns = absurd owns
   row_owner (bitmap r bits) a v has owns = absurd owns
   row_owner (shard c o first xs) a v has owns = subst (λ b. Owns w rows b v) (sym owns.owner_is)
       (owns.csum, record { first = first; extents = xs; has_shard = has; has_page = owns.found })

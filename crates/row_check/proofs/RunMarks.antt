@@ -4,7 +4,7 @@ use Rattle.std.specs.Prelude.{nat_le, nat_lt, ◌&&◌, slice_index}
 use Rattle.std.specs.List.{AllByRecursion}
 use Rattle.std.proofs.lemmas.Bool.{cases_Bool, cases_lt, ltb-true, leb-true, lt-ltb, le-leb}
 use Rattle.std.proofs.lemmas.List.{length-set}
-use Rattle.row_format.specs.Prelude.{Body, private, page_count, Extent, page_end, ExtentsAscend, Place, own, place_in, place_of, BeginsAt, collection, onode, shard, bitmap}
+use Rattle.row_format.specs.Prelude.{Body, private, page_count, Extent, page_end, ExtentsAscend, Place, own, place_in, place_of, BeginsAt, collection, onode, shard, attribute, omap_header, omap_pair, bitmap}
 use Rattle.row_format.specs.Row as format
 use Rattle.store_image.specs.Prelude.{Owner, page_of}
 use Rattle.row_check.specs.Marks.{Marks, run_marked, body_marked, extents_marked, row_marked, EndsBy, AllEndBy, RowEndsBy}
@@ -28,6 +28,9 @@ extents_units units (e ∷ es) m has = extents_units units es (body_marked m e.b
 pub row_units : (units : ℕ) (row : format.Row) (m : Marks) → HasUnits units m → HasUnits units (row_marked m row)
 row_units units (collection c) m has = has
 row_units units (onode c o size) m has = has
+row_units units (attribute c o name v) m has = has
+row_units units (omap_header c o v) m has = has
+row_units units (omap_pair c o k v) m has = has
 row_units units (bitmap r bits) m has = has
 row_units units (shard c o page es) m has = extents_units units es m has
 
@@ -273,4 +276,7 @@ pub row_tells : (row : format.Row) (P : Owner → ℕ → Type 0) (m : Marks) (u
 row_tells (collection c) P m units old has ends ascend apart = tells_same P _ m (nothing_more P) old
 row_tells (onode c o size) P m units old has ends ascend apart = tells_same P _ m (nothing_more P) old
 row_tells (shard c o page es) P m units old has ends ascend apart = extents_tells c o es P m units old has ends ascend apart
+row_tells (attribute c o name v) P m units old has ends ascend apart = tells_same P _ m (nothing_more P) old
+row_tells (omap_header c o v) P m units old has ends ascend apart = tells_same P _ m (nothing_more P) old
+row_tells (omap_pair c o k v) P m units old has ends ascend apart = tells_same P _ m (nothing_more P) old
 row_tells (bitmap r bits) P m units old has ends ascend apart = tells_same P _ m (nothing_more P) old

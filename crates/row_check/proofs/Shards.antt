@@ -9,14 +9,14 @@ use Rattle.unit_fields.specs.Prelude.{IsName, IsCollName}
 use Rattle.meta_rows.specs.Prelude.{Rows}
 use Rattle.meta_log.specs.declared.slot.Super.{Super}
 use Rattle.meta_log.specs.Prelude.{width_of}
-use Rattle.row_format.specs.Prelude.{onode_key, shard_key, Extent, page_end, collection, onode, shard, bitmap}
+use Rattle.row_format.specs.Prelude.{onode_key, shard_key, Extent, page_end, collection, onode, shard, attribute, omap_header, omap_pair, bitmap}
 use Rattle.row_format.specs.Row as format
-use Rattle.row_format.proofs.Prelude.{coll_no_object, bitmap_no_object, same_place, extents-same, same_row}
+use Rattle.row_format.proofs.Prelude.{same_head, coll_no_object, bitmap_no_object, same_place, extents-same, same_row}
 use Rattle.store_image.specs.Prelude.{HasRow, HasShard, IsInPlace, IsShardInPlace, IsGoodRow}
 use Rattle.row_reading.specs.declared.row.Row.{Row}
 use Rattle.row_reading.specs.declared.row.Row.TheVariants as read
 use Rattle.row_reading.specs.Reading.{row_of, SpellsRow}
-use Rattle.row_check.specs.Bad.{IsRightBefore, IsWalkedTo, EndsBefore, ShardStands}
+use Rattle.row_check.specs.Bad.{IsRightBefore, IsWalkedTo, IsWalkedToRow, EndsBefore, ShardStands}
 use Rattle.row_reading.proofs.KeyOrder.{has_front, onode_front, shard_front, page_bytes, lesser_page, lesser_shard, onode_before}
 
 -- a good row is in its place
@@ -69,19 +69,25 @@ module _ (s : Super) (rows : Rows) (c o : List ℕ) (page : ℕ) (coll : IsCollN
   behind_last : (last : Option Row) → IsWalkedTo s rows last (shard_key c o page) → EndsBefore last c o page → IsBehind
   behind_last None walked ends earlier es less has = absurd (walked.last_is _ _ has.stands (earlier_less earlier es less has))
   behind_last (Some (read.Collection d)) walked ends earlier es less has =
-      let front = last_front earlier es less has (collection d) walked.last_is in
+      let front = last_front earlier es less has (collection d) walked.last_is.1 in
       absurd (coll_no_object d c o (0x6f ∷ front.0) (front.1 ∙ onode_front c o front.0))
   behind_last (Some (read.Bitmap r bits)) walked ends earlier es less has =
-      let front = last_front earlier es less has (bitmap r bits) walked.last_is in
+      let front = last_front earlier es less has (bitmap r bits) walked.last_is.1 in
       absurd (bitmap_no_object r c o (0x6f ∷ front.0) (front.1 ∙ onode_front c o front.0))
+  behind_last (Some (read.Attribute d u name)) walked ends earlier es less has =
+      let front = last_front earlier es less has (attribute d u name walked.last_is.0) walked.last_is.1 in absurd (omega (arith, same_head _ _ _ _ front.1))
+  behind_last (Some (read.OmapHeader d u)) walked ends earlier es less has =
+      let front = last_front earlier es less has (omap_header d u walked.last_is.0) walked.last_is.1 in absurd (omega (arith, same_head _ _ _ _ front.1))
+  behind_last (Some (read.OmapPair d u k)) walked ends earlier es less has =
+      let front = last_front earlier es less has (omap_pair d u k walked.last_is.0) walked.last_is.1 in absurd (omega (arith, same_head _ _ _ _ front.1))
   behind_last (Some (read.Onode d u size)) walked ends earlier es less has =
-      let right : IsRightBefore (width_of s) rows (shard_key c o page) (onode d u size) = walked.last_is in
+      let right : IsRightBefore (width_of s) rows (shard_key c o page) (onode d u size) = walked.last_is.1 in
       let front = last_front earlier es less has (onode d u size) right in
       let same = same_place 0x4f d u c o (0x6f ∷ []) (0x6f ∷ front.0) right.has.fits.0 right.has.fits.1 coll name (front.1 ∙ onode_front c o front.0) in
       let key : onode_key d u ≡ onode_key c o = λ i. onode_key (same.0 i) (same.1 i) in
       absurd (right.nearest _ _ has.stands (earlier_less earlier es less has) (ap (λ k. byte_order k (shard_key c o earlier)) key ∙ onode_before c o coll name earlier))
   behind_last (Some (read.Shard d u q fs)) walked ends earlier es less has =
-      let right : IsRightBefore (width_of s) rows (shard_key c o page) (shard d u q fs) = walked.last_is in
+      let right : IsRightBefore (width_of s) rows (shard_key c o page) (shard d u q fs) = walked.last_is.1 in
       let front = last_front earlier es less has (shard d u q fs) right in
       let same = same_place 0x4f d u c o _ (0x6f ∷ front.0) right.has.fits.coll_name right.has.fits.object_name coll name (front.1 ∙ onode_front c o front.0) in
       let row : shard d u q fs ≡ shard c o q fs = λ i. shard (same.0 i) (same.1 i) q fs in
@@ -94,9 +100,12 @@ module _ (s : Super) (rows : Rows) (c o : List ℕ) (page : ℕ) (coll : IsCollN
   last_behind None walked behind = tt
   last_behind (Some (read.Collection d)) walked behind = tt
   last_behind (Some (read.Onode d u size)) walked behind = tt
+  last_behind (Some (read.Attribute d u name)) walked behind = tt
+  last_behind (Some (read.OmapHeader d u)) walked behind = tt
+  last_behind (Some (read.OmapPair d u k)) walked behind = tt
   last_behind (Some (read.Bitmap r bits)) walked behind = tt
   last_behind (Some (read.Shard d u q fs)) walked behind = λ e f.
-      let right : IsRightBefore (width_of s) rows (shard_key c o page) (shard d u q fs) = walked.last_is in
+      let right : IsRightBefore (width_of s) rows (shard_key c o page) (shard d u q fs) = walked.last_is.1 in
       let row : shard d u q fs ≡ shard c o q fs = λ i. shard (e i) (f i) q fs in
       let here = subst (IsRightBefore (width_of s) rows (shard_key c o page)) row right in
       behind q fs (lesser_page c o coll name q page here.has.fits.page_below below here.below) here.has
@@ -121,26 +130,27 @@ module _ (s : Super) (rows : Rows) (c o : List ℕ) (page : ℕ) (coll : IsCollN
 
 -- the answer of `is_in_place` at a shard whose predecessor ends before it
 pub shard_answer : {E : Type 0} (s : Super) (rows : Rows) (last : Option Row) (row : Row) (c o : List ℕ) (page : ℕ) (es fs : List Extent) (r : Result Bool E)
-    → row ≡ read.Shard c o page es → fs ≡ es → format.FitsRow (width_of s) (row_of row)
-    → IsWalkedTo s rows last (format.row_key (row_of row)) → EndsBefore last c o page
-    → IfOk r (λ stands. IsTrue stands ↔ ShardStands s rows c o fs) → IfOk r (λ place. IsTrue place ↔ IsInPlace s rows (row_of row))
-shard_answer s rows last row c o page es fs (Err e) is same = λ fits walked ends h. tt
+    → row ≡ read.Shard c o page es → fs ≡ es → IsWalkedToRow s rows last row → EndsBefore last c o page
+    → IfOk r (λ stands. IsTrue stands ↔ ShardStands s rows c o fs)
+    → IfOk r (λ place. (value : List ℕ) → IsTrue place ↔ IsInPlace s rows (row_of row value))
+shard_answer s rows last row c o page es fs (Err e) is same = λ to ends h. tt
 shard_answer s rows last row c o page es fs (Ok b) is same =
-    subst (λ (x : Row). format.FitsRow (width_of s) (row_of x) → IsWalkedTo s rows last (format.row_key (row_of x)) → EndsBefore last c o page
-    → (IsTrue b ↔ ShardStands s rows c o fs) → IsTrue b ↔ IsInPlace s rows (row_of x)) (sym is)
-    (λ fits walked ends h.
-    let by = placed s rows c o page fits.coll_name fits.object_name fits.page_below last es walked ends in
+    subst (λ (x : Row). IsWalkedToRow s rows last x → EndsBefore last c o page
+    → (IsTrue b ↔ ShardStands s rows c o fs) → (value : List ℕ) → IsTrue b ↔ IsInPlace s rows (row_of x value)) (sym is)
+    (λ to ends h value.
+    let by = placed s rows c o page to.fits.coll_name to.fits.object_name to.fits.page_below last es to.walked ends in
     let own = subst (λ l. IsTrue b ↔ ShardStands s rows c o l) same h in
     (λ yes. by.0 (own.0 yes), λ place. own.1 (by.1 place)))
 
 -- at a shard whose predecessor reaches into it
 pub shard_refused : (s : Super) (rows : Rows) (last : Option Row) (row : Row) (c o : List ℕ) (page : ℕ) (es : List Extent)
-    → row ≡ read.Shard c o page es → format.FitsRow (width_of s) (row_of row) → IsWalkedTo s rows last (format.row_key (row_of row))
-    → ¬ (EndsBefore last c o page) → ¬ (IsInPlace s rows (row_of row))
+    → row ≡ read.Shard c o page es → IsWalkedToRow s rows last row
+    → ¬ (EndsBefore last c o page) → (value : List ℕ) → ¬ (IsInPlace s rows (row_of row value))
 shard_refused s rows last row c o page es is =
-    subst (λ (x : Row). format.FitsRow (width_of s) (row_of x) → IsWalkedTo s rows last (format.row_key (row_of x))
-    → ¬ (EndsBefore last c o page) → ¬ (IsInPlace s rows (row_of x))) (sym is)
-    (λ fits walked apart place. apart (last_behind s rows c o page fits.coll_name fits.object_name fits.page_below last walked place.behind))
+    subst (λ (x : Row). IsWalkedToRow s rows last x
+    → ¬ (EndsBefore last c o page) → (value : List ℕ) → ¬ (IsInPlace s rows (row_of x value))) (sym is)
+    (λ to apart value place.
+    apart (last_behind s rows c o page to.fits.coll_name to.fits.object_name to.fits.page_below last to.walked place.behind))
 
 -- a row that isn't in its place isn't good
 pub no_good : (s : Super) (rows : Rows) (key value : List ℕ) (r : format.Row) → SpellsRow (width_of s) key value r → ¬ (IsInPlace s rows r)

@@ -33,7 +33,7 @@ pub record Walked (s : Super) (rows : Rows) (es : List (List ℕ × List ℕ)) (
   pub good : (j : ℕ) (d : List ℕ × List ℕ) → j < i → j < length es → IsGoodRow s rows (get_or es j d).0 (get_or es j d).1
   pub none : i ≡ 0 → last ≡ None
   pub some : (j : ℕ) → j + 1 ≡ i
-      → (row : Row) × (last ≡ Some row) × ((d : List ℕ × List ℕ) → SpellsRow (width_of s) (get_or es j d).0 (get_or es j d).1 (row_of row))
+      → (row : Row) × (last ≡ Some row) × ((d : List ℕ × List ℕ) → SpellsRow (width_of s) (get_or es j d).0 (get_or es j d).1 (row_of row (get_or es j d).1))
 
 pub at_start : (s : Super) (rows : Rows) (es : List (List ℕ × List ℕ)) → Walked s rows es 0 None
 at_start s rows es = record { good = λ j d lt l. absurd (omega arith); none = λ e. refl; some = λ j e. absurd (omega arith) }
@@ -98,13 +98,13 @@ module _ (s : Super) (rows : Rows) (es : List (List ℕ × List ℕ)) (are : Are
     good = before_good d l;
     last_is = elim (cases_lt 0 i) [
       | inr start ↦ subst (λ o. MatchOption o (IsFirst rows (get_or es i d).0)
-          (λ row. IsRightBefore (width_of s) rows (get_or es i d).0 (row_of row))) (sym (walked.none (omega arith))) (none_before d l (omega arith))
+          (λ row. (value : List ℕ) × IsRightBefore (width_of s) rows (get_or es i d).0 (row_of row value))) (sym (walked.none (omega arith))) (none_before d l (omega arith))
       | inl more ↦
           let one : (i - 1) + 1 ≡ i = omega arith in
           let is = walked.some (i - 1) one in
           subst (λ o. MatchOption o (IsFirst rows (get_or es i d).0)
-          (λ row. IsRightBefore (width_of s) rows (get_or es i d).0 (row_of row))) (sym is.1)
-          (right_before d (i - 1) (row_of is.0) l one (is.2 d))
+          (λ row. (value : List ℕ) × IsRightBefore (width_of s) rows (get_or es i d).0 (row_of row value))) (sym is.1)
+          ((get_or es (i - 1) d).1, right_before d (i - 1) (row_of is.0 (get_or es (i - 1) d).1) l one (is.2 d))
     ];
   }
 
@@ -115,14 +115,14 @@ module _ (s : Super) (rows : Rows) (es : List (List ℕ × List ℕ)) (are : Are
       | inr ge ↦
           let here : j ≡ i = omega arith in
           subst (λ (e : List ℕ × List ℕ). IsGoodRow s rows e.0 e.1) (sym (ap (λ n. get_or es n d) here ∙ is d))
-          (record { row = row_of row; fits = good.spells.fits; key_is = good.spells.key_is; value_is = good.spells.value_is; in_place = good.in_place })
+          (record { row = row_of row value; fits = good.spells.fits; key_is = good.spells.key_is; value_is = good.spells.value_is; in_place = good.in_place })
     ];
     none = λ e. absurd (omega arith);
     some = λ j e.
         let here : j ≡ i = omega arith in (
           row,
           refl,
-          λ d. subst (λ (e : List ℕ × List ℕ). SpellsRow (width_of s) e.0 e.1 (row_of row))
+          λ d. subst (λ (e : List ℕ × List ℕ). SpellsRow (width_of s) e.0 e.1 (row_of row e.1))
               (sym (ap (λ n. get_or es n d) here ∙ is d)) good.spells,
         );
   }

@@ -37,23 +37,40 @@ pub record IsRightBefore (w : Width) (rows : Rows) (key : List ℕ) (r : format.
 -- the rows whose keys are below this one are good, and `last` is the last of them
 pub record IsWalkedTo (s : Super) (rows : Rows) (last : Option Row) (key : List ℕ) : Type 0 where
   pub good : AreGoodBefore s rows key
-  pub last_is : MatchOption last (IsFirst rows key) (λ row. IsRightBefore (width_of s) rows key (row_of row))
+  pub last_is : MatchOption last (IsFirst rows key) (λ row. (value : List ℕ) × IsRightBefore (width_of s) rows key (row_of row value))
+
+-- this row was read from some value, and the rows whose keys are below its own are good
+pub record IsWalkedToRow (s : Super) (rows : Rows) (last : Option Row) (row : Row) : Type 0 where
+  pub value : List ℕ
+  pub fits : format.FitsRow (width_of s) (row_of row value)
+  pub walked : IsWalkedTo s rows last (format.row_key (row_of row value))
 
 -- the key and the value are this row, which is in its place
 pub record IsGood (s : Super) (rows : Rows) (key value : List ℕ) (row : Row) : Type 0 where
-  pub spells : SpellsRow (width_of s) key value (row_of row)
-  pub in_place : IsInPlace s rows (row_of row)
+  pub spells : SpellsRow (width_of s) key value (row_of row value)
+  pub in_place : IsInPlace s rows (row_of row value)
 
 -- this row is no shard of the object, or one whose pages are all before this one
 abbrev pub EndsBefore : Option Row → List ℕ → List ℕ → ℕ → Type 0
 EndsBefore (Some (rows.Shard d u first es)) c o page = d ≡ c → u ≡ o → AllByRecursion (λ e. page_end e ≤ page) es
 EndsBefore _ c o page = Unit {0}
 
--- this row is of an object of the collection
+-- this row is of the object
+abbrev pub IsOfObject : Option Row → List ℕ → List ℕ → Type 0
+IsOfObject (Some (rows.Onode d u size)) c o = (d ≡ c) × (u ≡ o)
+IsOfObject (Some (rows.Shard d u first es)) c o = (d ≡ c) × (u ≡ o)
+IsOfObject (Some (rows.Attribute d u name)) c o = (d ≡ c) × (u ≡ o)
+IsOfObject (Some (rows.OmapHeader d u)) c o = (d ≡ c) × (u ≡ o)
+IsOfObject (Some (rows.OmapPair d u key)) c o = (d ≡ c) × (u ≡ o)
+IsOfObject _ c o = ⊥
+
+-- of none
+abbrev pub IsOfNoObject : Option Row → Type 0
+IsOfNoObject last = (c o : List ℕ) → ¬ IsOfObject last c o
+
+-- of an object of the collection
 abbrev pub IsOfObjectIn : Option Row → List ℕ → Type 0
-IsOfObjectIn (Some (rows.Onode d u size)) c = d ≡ c
-IsOfObjectIn (Some (rows.Shard d u first es)) c = d ≡ c
-IsOfObjectIn _ c = ⊥
+IsOfObjectIn last c = (o : List ℕ) × IsOfObject last c o
 
 -- this row is the object's onode, and says this size
 abbrev pub IsOnodeOf : Option Row → List ℕ → List ℕ → ℕ → Type 0

@@ -3,7 +3,7 @@ ghost use Rattle.std.specs.Prelude.{IfOk, MatchOption};
 ghost use Rattle.store_image.specs.Prelude.{IsGoodRow, NoBadRow};
 ghost use Rattle.row_check.specs.Bad.{IsLeastBad, IsWalkedTo, IsGood};
 
-use crate::in_place::is_in_place;
+use crate::in_place::{is_in_place, object_of};
 use byte_maps::Bytes;
 use meta_log::Super;
 use meta_rows::RowTable;
@@ -13,23 +13,9 @@ use unit_fields::CollName;
 
 // The collection of an object that a row is of.
 fn coll_of(row: &Option<Row>) -> Option<&CollName> {
-    match row {
-        Some(
-            Row::Onode {
-                coll,
-                object: _object,
-                size: _size,
-            },
-        ) => Some(coll),
-        Some(
-            Row::Shard {
-                coll,
-                object: _object,
-                page: _page,
-                extents: _extents,
-            },
-        ) => Some(coll),
-        _ => None,
+    match object_of(row) {
+        Some((coll, _)) => Some(coll),
+        None => None,
     }
 }
 

@@ -1,13 +1,12 @@
 //! Whether a row is in its place among the rows of a store.
-ghost use Rattle.std.specs.Prelude.{◌≡◌, ◌↔◌, ◌≤◌, ◌<◌, ℕ, IsTrue, IfOk, IfSome, length};
+ghost use Rattle.std.specs.Prelude.{◌≡◌, ◌↔◌, ◌≤◌, ◌<◌, ℕ, List, IsTrue, IfOk, IfSome, MatchOption, length};
 ghost use Rattle.std.specs.List.{AllByRecursion};
 ghost use Rattle.unit_fields.specs.Prelude.{IsName, IsCollName};
-ghost use Rattle.row_format.specs.Prelude.{coll_key, onode_key, onode, row_key, FitsRow, page_end, ExtentsAscend};
-ghost use Rattle.meta_log.specs.Prelude.{width_of};
-ghost use Rattle.store_image.specs.Prelude.{HasKey, HasOnode, pages_of, IsOnData, AreOfData, IsInPlace, IsDataUnit};
+ghost use Rattle.row_format.specs.Prelude.{coll_key, onode_key, page_end, ExtentsAscend};
+ghost use Rattle.store_image.specs.Prelude.{HasKey, HasOnode, pages_of, IsOnData, HasObject, AreOfData, IsInPlace, IsDataUnit};
 ghost use Rattle.onode_codec.specs.Reading.{SpellsOnode};
 ghost use Rattle.row_reading.specs.Reading.{row_of};
-ghost use Rattle.row_check.specs.Bad.{EndsBefore, IsOfObjectIn, IsOnodeOf, IsWithinOnode, ShardStands, IsWalkedTo};
+ghost use Rattle.row_check.specs.Bad.{EndsBefore, IsOfObject, IsOfNoObject, IsOfObjectIn, IsOnodeOf, IsWithinOnode, ShardStands, IsWalkedToRow};
 ghost use Rattle.row_check.specs.DataBits.{bit_at_place, IsBitOfData};
 
 use meta_log::Super;
@@ -93,27 +92,62 @@ fn ends_before(last: &Option<Row>, coll: &CollName, object: &Name, page: u32) ->
     }
 }
 
-// Whether the row before is of an object of this collection.
-fn is_of_object_in(last: &Option<Row>, coll: &CollName) -> bool
-    ensures { IsTrue result → IsOfObjectIn last.now coll.now }
+/// The names of the object that the row before is of, if it is of one.
+pub fn object_of(last: &Option<Row>) -> Option<(&CollName, &Name)>
+    ensures { MatchOption result (IsOfNoObject last.now) (λ names. IsOfObject last.now names.0.now names.1.now) }
 {
     match last {
         Some(
             Row::Onode {
-                coll: of_coll,
-                object: _object,
+                coll,
+                object,
                 size: _size,
             },
-        ) => of_coll.as_slice() == coll.as_slice(),
+        ) => Some((coll, object)),
         Some(
             Row::Shard {
-                coll: of_coll,
-                object: _object,
+                coll,
+                object,
                 page: _page,
                 extents: _extents,
             },
-        ) => of_coll.as_slice() == coll.as_slice(),
-        _ => false,
+        ) => Some((coll, object)),
+        Some(
+            Row::Attribute {
+                coll,
+                object,
+                name: _name,
+            },
+        ) => Some((coll, object)),
+        Some(Row::OmapHeader { coll, object }) => Some((coll, object)),
+        Some(
+            Row::OmapPair {
+                coll,
+                object,
+                key: _key,
+            },
+        ) => Some((coll, object)),
+        _ => None,
+    }
+}
+
+// Whether the row before is of an object of this collection.
+fn is_last_in(last: &Option<Row>, coll: &CollName) -> bool
+    ensures { IsTrue result ↔ IsOfObjectIn last.now coll.now }
+{
+    match object_of(last) {
+        Some((of_coll, _)) => of_coll.as_slice() == coll.as_slice(),
+        None => false,
+    }
+}
+
+// Whether the row before is of this object.
+fn is_last_of(last: &Option<Row>, coll: &CollName, object: &Name) -> bool
+    ensures { IsTrue result ↔ IsOfObject last.now coll.now object.now }
+{
+    match object_of(last) {
+        Some((of_coll, of_object)) => is_of_object(of_coll, of_object, coll, object),
+        None => false,
     }
 }
 
@@ -127,11 +161,42 @@ fn has_collection(
     requires { IsOfObjectIn last.now coll.now → HasKey rows.now.rows (coll_key coll.now) }
     ensures { IfOk result (λ there. IsTrue there ↔ HasKey rows.now.rows (coll_key coll.now)) }
 {
-    if is_of_object_in(last, coll) {
+    if is_last_in(last, coll) {
         return Ok(true);
     }
     let key = coll_key(alloc, coll)?;
     Ok(rows.get(key.as_slice()).is_some())
+}
+
+// Whether the object's onode is there.
+fn has_onode(
+    alloc: Global,
+    rows: &RowTable,
+    coll: &CollName,
+    object: &Name,
+) -> Result<bool, AllocError>
+    ensures { IfOk result (λ there. IsTrue there ↔ HasKey rows.now.rows (onode_key coll.now object.now)) }
+{
+    let key = onode_key(alloc, coll, object)?;
+    Ok(rows.get(key.as_slice()).is_some())
+}
+
+// Whether the object is there. Where the row before is good and one of the object's, it is.
+fn has_object(
+    alloc: Global,
+    rows: &RowTable,
+    last: &Option<Row>,
+    coll: &CollName,
+    object: &Name,
+) -> Result<bool, AllocError>
+    requires collection { IsOfObjectIn last.now coll.now → HasKey rows.now.rows (coll_key coll.now) }
+    requires object { IsOfObject last.now coll.now object.now → HasObject rows.now.rows coll.now object.now }
+    ensures { IfOk result (λ there. IsTrue there ↔ HasObject rows.now.rows coll.now object.now) }
+{
+    if is_last_of(last, coll, object) {
+        return Ok(true);
+    }
+    Ok(has_collection(alloc, rows, last, coll)? && has_onode(alloc, rows, coll, object)?)
 }
 
 // Whether the extents end within an object of this size.
@@ -260,9 +325,8 @@ pub fn is_in_place(
     last: &Option<Row>,
     row: &Row,
 ) -> Result<bool, AllocError>
-    requires fits { FitsRow (width_of sup.now) (row_of row.now) }
-    requires walked { IsWalkedTo sup.now rows.now.rows last.now (row_key (row_of row.now)) }
-    ensures { IfOk result (λ placed. IsTrue placed ↔ IsInPlace sup.now rows.now.rows (row_of row.now)) }
+    requires { IsWalkedToRow sup.now rows.now.rows last.now row.now }
+    ensures { IfOk result (λ placed. (value : List ℕ) → IsTrue placed ↔ IsInPlace sup.now rows.now.rows (row_of row.now value)) }
 {
     match row {
         Row::Collection { coll: _coll } => Ok(true),
@@ -283,6 +347,17 @@ pub fn is_in_place(
                 Ok(false)
             }
         }
+        Row::Attribute {
+            coll,
+            object,
+            name: _name,
+        } => has_object(alloc, rows, last, coll, object),
+        Row::OmapHeader { coll, object } => has_object(alloc, rows, last, coll, object),
+        Row::OmapPair {
+            coll,
+            object,
+            key: _key,
+        } => has_object(alloc, rows, last, coll, object),
         Row::Bitmap { row, bits } => Ok(are_of_data(sup, *row, bits.as_slice())),
     }
 }

@@ -9,15 +9,15 @@ use Rattle.object_model.specs.declared.op.Op.TheVariants.{MkColl}
 use Rattle.unit_fields.specs.Prelude.{IsCollName}
 use Rattle.unit_fields.specs.declared.width.Width.{Width}
 use Rattle.byte_maps.specs.ByteMap.{byte_order}
-use Rattle.row_format.specs.Prelude.{coll_key, onode_key, Extent, own, Row, collection, onode, shard, bitmap}
-use Rattle.row_format.proofs.Prelude.{same_coll, coll_no_object, bitmap_no_coll}
-use Rattle.store_image.specs.Prelude.{HasOnode, HasShard, IsInPlace, NoBadRow, Owner, page_of, Owns, IsOwned, IsMarked, IsExactBut, HasSoleOwner, IsShape, ObjectsStand}
+use Rattle.row_format.specs.Prelude.{coll_key, onode_key, Extent, own, Row, collection, onode, shard, attribute, omap_header, omap_pair, bitmap}
+use Rattle.row_format.proofs.Prelude.{same_head, same_coll, coll_no_object, bitmap_no_coll}
+use Rattle.store_image.specs.Prelude.{HasOnode, HasShard, HasObject, IsInPlace, NoBadRow, Owner, page_of, Owns, IsOwned, IsMarked, IsExactBut, HasSoleOwner, IsShape, ObjectsStand}
 use Rattle.store_image.proofs.Prelude.{equal_or_not}
 use Rattle.row_facts.specs.Operations.{coll_ops, coll_change}
 use Rattle.row_facts.proofs.Bits.{bits_stay_set, exact_stays}
 use Rattle.row_facts.proofs.Maps.{get_same, get_other}
-use Rattle.row_facts.proofs.PutRow.{put_row, kind_kept, key_kept, row_kept, row_cases, good_after, IsApart, page_kept, page_was}
-use Rattle.row_facts.proofs.Shapes.{shape_kept, bytes_kept}
+use Rattle.row_facts.proofs.PutRow.{put_row, key_kept, row_kept, row_cases, good_after, IsApart, page_kept, page_was}
+use Rattle.row_facts.proofs.Shapes.{SameOthers, shape_kept, bytes_kept}
 
 -- the effect of the transaction
 pub coll_effect : (objects : Objects) (c : List ℕ) → map.get objects c ≡ None → transaction_effect (coll_change c) objects ≡ Ok (map.insert objects c map.empty)
@@ -88,12 +88,15 @@ module _ (w : Width) (rows : Rows) (c : List ℕ) where
     onode_kept : (d u : List ℕ) (size : ℕ) → HasOnode rows d u size → HasOnode (put_row w rows r) d u size
     onode_kept d u size has = row_kept w rows r (onode d u size) has (key_apart d u [])
 
+    same_others : SameOthers rows (put_row w rows r)
+    same_others k rest other object bits = get_other rows (coll_key c) [] (k ∷ rest) (λ e. other (same_head _ _ _ _ e))
+
     pub coll_shape : IsShape rows objects → IsShape (rows_after rows (coll_ops c)) (map.insert objects c map.empty)
     coll_shape shape = record {
       collections = λ d. same_colls d (shape.collections d);
       present = λ d u object is.
           let old = shape.present d u object (sym (same_under d u) ∙ is) in
-          shape_kept rows (put_row w rows r) d u object (kind_kept w rows r) (onode_kept d u (length object.bytes) old.size) old;
+          shape_kept rows (put_row w rows r) d u object same_others (onode_kept d u (length object.bytes) old.size) old;
       missing = λ d u coll name is. same_onode d u ∙ shape.missing d u coll name (sym (same_under d u) ∙ is);
     }
 
@@ -115,6 +118,10 @@ coll_after objects after c is = elim (map.get objects c) as (λ x. map.get objec
 
 -- ---- good rows
 
+object_kept : (s : Super) (rows : Rows) (c d u : List ℕ) → HasObject rows d u → HasObject (put_row (width_of s) rows (collection c)) d u
+object_kept s rows c d u has =
+    (key_kept (width_of s) rows (collection c) (coll_key d) has.0, key_kept (width_of s) rows (collection c) (onode_key d u) has.1)
+
 kept_in_place : (s : Super) (rows : Rows) (c : List ℕ) → IsCollName c → (x : Row) → IsInPlace s rows x
     → IsInPlace s (put_row (width_of s) rows (collection c)) x
 kept_in_place s rows c name (collection d) is = tt
@@ -127,6 +134,9 @@ kept_in_place s rows c name (shard d u page es) is = record {
   within = λ size has. is.within size (was_onode (width_of s) rows c name d u size has);
   on_data = is.on_data;
 }
+kept_in_place s rows c name (attribute d u n v) is = object_kept s rows c d u is
+kept_in_place s rows c name (omap_header d u v) is = object_kept s rows c d u is
+kept_in_place s rows c name (omap_pair d u k v) is = object_kept s rows c d u is
 kept_in_place s rows c name (bitmap q bits) is = is
 
 pub coll_good : (s : Super) (rows : Rows) (c : List ℕ) → IsCollName c → NoBadRow s rows → NoBadRow s (rows_after rows (coll_ops c))

@@ -8,3 +8,4 @@ pub mod Replies
 pub mod NoRows
 pub mod Lengths
 pub mod ByRow
+pub mod ValueRows

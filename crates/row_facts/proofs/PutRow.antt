@@ -1,12 +1,12 @@
 -- Rows after one row is put in.
-use Rattle.std.proofs.Common.{◌≡◌, ◌≢◌, ◌⊎◌, inl, inr, ℕ, List, ◌∷◌, Some, None, refl, sym, ap, ◌∙◌}
+use Rattle.std.proofs.Common.{◌≡◌, ◌≢◌, ◌⊎◌, inl, inr, ℕ, List, Some, sym, ap, ◌∙◌}
 use Rattle.std.specs.FinMap as map
 use Rattle.unit_fields.specs.declared.width.Width.{Width}
 use Rattle.meta_rows.specs.Prelude.{Rows}
 use Rattle.meta_log.specs.declared.slot.Super.{Super}
 use Rattle.meta_log.specs.Prelude.{width_of}
-use Rattle.row_format.specs.Prelude.{Extent, Place, Row, collection, onode, shard, bitmap, row_key, row_value, FitsRow}
-use Rattle.row_format.proofs.Prelude.{same_row, same_head}
+use Rattle.row_format.specs.Prelude.{Extent, Place, Row, shard, row_key, row_value, FitsRow}
+use Rattle.row_format.proofs.Prelude.{same_row}
 use Rattle.store_image.specs.Prelude.{HasKey, HasRow, PageUnit, IsPageAt, IsPageOn, IsInPlace, NoBadRow}
 use Rattle.store_image.proofs.Prelude.{equal_or_not, stands_still}
 use Rattle.row_facts.proofs.Maps.{get_same, get_other, some_after}
@@ -14,32 +14,7 @@ use Rattle.row_facts.proofs.Maps.{get_same, get_other, some_after}
 abbrev pub put_row : Width → Rows → Row → Rows
 put_row w rows r = map.insert rows (row_key r) (row_value w r)
 
--- the heads of the keys of all rows
-data Begins (k : ℕ) : Type 0 where
-  of_coll : k ≡ 0x43 → Begins k
-  of_object : k ≡ 0x4f → Begins k
-  of_bits : k ≡ 0x62 → Begins k
-
-key_begins : (r : Row) (k : ℕ) (rest : List ℕ) → k ∷ rest ≡ row_key r → Begins k
-key_begins (collection c) k rest e = of_coll (same_head _ _ _ _ e)
-key_begins (onode c o size) k rest e = of_object (same_head _ _ _ _ e)
-key_begins (shard c o page es) k rest e = of_object (same_head _ _ _ _ e)
-key_begins (bitmap r bits) k rest e = of_bits (same_head _ _ _ _ e)
-
--- no row has a key of another kind
-pub no_other_kind : (s : Super) (rows : Rows) → NoBadRow s rows → (k : ℕ) (rest : List ℕ) → k ≢ 0x43 → k ≢ 0x4f → k ≢ 0x62
-    → map.get rows (k ∷ rest) ≡ None
-no_other_kind s rows good k rest c o b = elim (map.get rows (k ∷ rest)) as (λ x. map.get rows (k ∷ rest) ≡ x → x ≡ None) [
-  | None ↦ λ p. refl
-  | Some v ↦ λ p. absurd
-      (let g = good (k ∷ rest) v p in elim (key_begins g.row k rest g.key_is) [ of_coll e ↦ c e | of_object e ↦ o e | of_bits e ↦ b e ])
-] refl
-
 module _ (w : Width) (rows : Rows) (r : Row) where
-  pub kind_kept : (k : ℕ) (rest : List ℕ) → k ≢ 0x43 → k ≢ 0x4f → k ≢ 0x62 → map.get (put_row w rows r) (k ∷ rest) ≡ map.get rows (k ∷ rest)
-  kind_kept k rest c o b = get_other rows (row_key r) (row_value w r) (k ∷ rest)
-      (λ e. elim (key_begins r k rest e) [ of_coll is ↦ c is | of_object is ↦ o is | of_bits is ↦ b is ])
-
   pub key_kept : (key : List ℕ) → HasKey rows key → HasKey (put_row w rows r) key
   key_kept key there = some_after rows (row_key r) (row_value w r) key there
 

@@ -6,8 +6,8 @@ ghost use Rattle.meta_log.specs.Prelude.{unit_count};
 ghost use Rattle.meta_rows.specs.Prelude.{Rows, rows_after, ops_bytes, AllFit};
 ghost use Rattle.object_model.specs.Prelude.{Objects, transaction_effect, object_under, submitted_effect};
 ghost use Rattle.object_model.specs.declared.op.Refusal.TheVariants.{CollectionExists};
-ghost use Rattle.row_format.specs.Prelude.{coll_key, onode_key};
-ghost use Rattle.store_image.specs.Prelude.{HasKey, NoBadRow, IsOwned, IsExact, HasSoleOwner, IsShape, ObjectsStand};
+ghost use Rattle.row_format.specs.Prelude.{coll_key, onode_key, attr_key, header_key, omap_key, FitsNamed, FitsHeader};
+ghost use Rattle.store_image.specs.Prelude.{HasKey, HasObject, IsGoodRow, NoBadRow, IsOwned, IsExact, HasSoleOwner, IsShape, ObjectsStand};
 ghost use Rattle.unit_fields.specs.Prelude.{IsName, IsCollName};
 ghost use Rattle.row_facts.specs.Operations.{coll_ops, coll_change};
 ghost use Rattle.unit_fields.specs.declared.width.Width.{Width};
@@ -61,4 +61,25 @@ pub fn record_of_a_collection()
     ensures fits { (c : List ℕ) → IsCollName c → AllFit (coll_ops c) }
     ensures short { (c : List ℕ) → IsCollName c → length (ops_bytes (coll_ops c)) ≤ 4072 }
     ensures one_unit { (number : ℕ) (c : List ℕ) → IsCollName c → unit_count number (coll_ops c) ≡ 1 }
+{}
+
+/// An attribute, an omap header or a pair is good exactly where its value fits and its object is there, whatever else the rows say. So it stays
+/// good where the object stays.
+pub fn values_are_good_by_their_objects()
+    ensures attributes { (s : Super) (rows : Rows) (c o name value : List ℕ) → IsCollName c → IsName o
+        → IsGoodRow s rows (attr_key c o name) value ↔ (FitsNamed c o name value × HasObject rows c o) }
+    ensures headers { (s : Super) (rows : Rows) (c o value : List ℕ) → IsCollName c → IsName o
+        → IsGoodRow s rows (header_key c o) value ↔ (FitsHeader c o value × HasObject rows c o) }
+    ensures pairs { (s : Super) (rows : Rows) (c o key value : List ℕ) → IsCollName c → IsName o
+        → IsGoodRow s rows (omap_key c o key) value ↔ (FitsNamed c o key value × HasObject rows c o) }
+{}
+
+/// On good rows an object without an onode has no attribute, no omap header and no pair.
+pub fn missing_objects_have_no_values()
+    ensures attributes { (s : Super) (rows : Rows) (c o name : List ℕ) → NoBadRow s rows → IsCollName c → IsName o
+        → map.get rows (onode_key c o) ≡ None → map.get rows (attr_key c o name) ≡ None }
+    ensures headers { (s : Super) (rows : Rows) (c o : List ℕ) → NoBadRow s rows → IsCollName c → IsName o
+        → map.get rows (onode_key c o) ≡ None → map.get rows (header_key c o) ≡ None }
+    ensures pairs { (s : Super) (rows : Rows) (c o key : List ℕ) → NoBadRow s rows → IsCollName c → IsName o
+        → map.get rows (onode_key c o) ≡ None → map.get rows (omap_key c o key) ≡ None }
 {}

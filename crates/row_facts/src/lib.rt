@@ -1,10 +1,13 @@
 //! What rows stand for, as far as it has nothing to do with an object's pages.
 //!
-//! The laws are of no rows, of rows after a collection is made, of the objects that are there by the rows of their onodes, and of the
-//! reply that the making of a collection gets. What comes of an object's onode and extents is in the crate `object_rows`, whose proofs
-//! stand on the lemmas here: of a row that is put in, of maps, and of objects under their names.
+//! The laws are of no rows, of rows after a collection is made, of the objects that are there by the rows of their onodes, of the rows
+//! of attributes and omaps, and of the reply that the making of a collection gets. What comes of an object's onode and extents is in
+//! the crate `object_rows`, whose proofs stand on the lemmas here: of a row that is put in, of maps, and of objects under their names.
 #![tactic(auto)]
 
 mod laws;
 
-pub use laws::{made_collection, no_rows, object_by_row, record_of_a_collection, replies_by_rows};
+pub use laws::{
+    made_collection, missing_objects_have_no_values, no_rows, object_by_row,
+    record_of_a_collection, replies_by_rows, values_are_good_by_their_objects,
+};

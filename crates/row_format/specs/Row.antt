@@ -1,27 +1,33 @@
--- Rows as what they say. The kinds here are collections, onodes, shards of extents and rows of the freelist's bitmap; the others of the keys' table are
--- to be further cases.
-use Rattle.std.specs.Prelude.{◌≡◌, ℕ, ◌<◌, ◌^◌, List, [], length, false, Option, Some, None}
+-- Rows as what they say. The kinds here are collections, onodes, shards of extents, attributes, omap headers, omap pairs and rows of the freelist's
+-- bitmap; deferred writes and shared blobs, the others of the keys' table, are to be further cases.
+use Rattle.std.specs.Prelude.{◌≡◌, ℕ, ◌<◌, ◌≤◌, ◌^◌, List, [], length, false, Option, Some, None}
 use Rattle.std.specs.List.{flat_map, AllByRecursion}
 use Rattle.std.specs.Int.{w64, to_le_bytes, from_le_bytes}
 use Rattle.unit_fields.specs.Prelude.{IsName, IsCollName}
 use Rattle.unit_fields.specs.declared.width.Width.{Width}
 use Rattle.meta_rows.specs.Prelude.{all_zero}
 use Rattle.row_format.specs.Bits.{bit_rows}
-use Rattle.row_format.specs.Keys.{coll_key, onode_key, shard_key, bitmap_key}
+use Rattle.row_format.specs.Keys.{coll_key, onode_key, shard_key, attr_key, header_key, omap_key, bitmap_key}
 use Rattle.row_format.specs.Extents.{Extent, extent_bytes, FitsExtent, BeginsAt}
 use Rattle.row_format.specs.ExtentReading.{extents_read}
-use Rattle.row_format.specs.Things.{Thing, a_collection, an_onode, a_shard, a_bitmap_row}
+use Rattle.row_format.specs.Things.{Thing, a_collection, an_onode, a_shard, an_attribute, an_omap_header, an_omap_pair, a_bitmap_row}
 
 pub data Row : Type 0 where
   collection : (c : List ℕ) → Row
   onode : (c o : List ℕ) (size : ℕ) → Row
   shard : (c o : List ℕ) (page : ℕ) (extents : List Extent) → Row
+  attribute : (c o name value : List ℕ) → Row
+  omap_header : (c o value : List ℕ) → Row
+  omap_pair : (c o key value : List ℕ) → Row
   bitmap : (r : ℕ) (bits : List ℕ) → Row
 
 abbrev pub row_key : Row → List ℕ
 row_key (collection c) = coll_key c
 row_key (onode c o size) = onode_key c o
 row_key (shard c o page extents) = shard_key c o page
+row_key (attribute c o name value) = attr_key c o name
+row_key (omap_header c o value) = header_key c o
+row_key (omap_pair c o key value) = omap_key c o key
 row_key (bitmap r bits) = bitmap_key r
 
 -- the value, with checksums of this width in shards
@@ -29,6 +35,9 @@ abbrev pub row_value : Width → Row → List ℕ
 row_value w (collection c) = []
 row_value w (onode c o size) = to_le_bytes w64 size
 row_value w (shard c o page extents) = flat_map (extent_bytes w) extents
+row_value w (attribute c o name value) = value
+row_value w (omap_header c o value) = value
+row_value w (omap_pair c o key value) = value
 row_value w (bitmap r bits) = bits
 
 -- an object's names, and a size that fits its field
@@ -43,6 +52,20 @@ pub record FitsShard (w : Width) (c o : List ℕ) (page : ℕ) (extents : List E
   pub begins : BeginsAt page extents
   pub fit : AllByRecursion (FitsExtent w) extents
 
+-- a value under a name that an object gives it: an attribute's, or a key of the omap
+pub record FitsNamed (c o name value : List ℕ) : Type 0 where
+  pub coll_name : IsCollName c
+  pub object_name : IsName o
+  pub named : IsName name
+  pub short : length value ≤ 65535
+
+-- an omap header; an empty one has no row
+pub record FitsHeader (c o value : List ℕ) : Type 0 where
+  pub coll_name : IsCollName c
+  pub object_name : IsName o
+  pub some : 0 < length value
+  pub short : length value ≤ 65535
+
 -- the bits of 128 units, not all of them 0
 pub record FitsBitmap (r : ℕ) (bits : List ℕ) : Type 0 where
   pub below : r < bit_rows
@@ -54,6 +77,9 @@ abbrev pub FitsRow : Width → Row → Type 0
 FitsRow w (collection c) = IsCollName c
 FitsRow w (onode c o size) = FitsOnode c o size
 FitsRow w (shard c o page extents) = FitsShard w c o page extents
+FitsRow w (attribute c o name value) = FitsNamed c o name value
+FitsRow w (omap_header c o value) = FitsHeader c o value
+FitsRow w (omap_pair c o key value) = FitsNamed c o key value
 FitsRow w (bitmap r bits) = FitsBitmap r bits
 
 -- what a row is of
@@ -61,6 +87,9 @@ abbrev pub row_thing : Row → Thing
 row_thing (collection c) = a_collection c
 row_thing (onode c o size) = an_onode c o
 row_thing (shard c o page extents) = a_shard c o page
+row_thing (attribute c o name value) = an_attribute c o name
+row_thing (omap_header c o value) = an_omap_header c o
+row_thing (omap_pair c o key value) = an_omap_pair c o key
 row_thing (bitmap r bits) = a_bitmap_row r
 
 -- two rows say something of the same thing
@@ -72,5 +101,8 @@ abbrev pub row_of : Width → Thing → List ℕ → Option Row
 row_of w (a_collection c) value = Some (collection c)
 row_of w (an_onode c o) value = Some (onode c o (from_le_bytes w64 value))
 row_of w (a_shard c o page) value = Some (shard c o page (extents_read w value))
+row_of w (an_attribute c o name) value = Some (attribute c o name value)
+row_of w (an_omap_header c o) value = Some (omap_header c o value)
+row_of w (an_omap_pair c o key) value = Some (omap_pair c o key value)
 row_of w (a_bitmap_row r) value = Some (bitmap r value)
 row_of w _ value = None

@@ -4,9 +4,7 @@ use Rattle.std.specs.List.{AllByRecursion}
 use Rattle.unit_fields.specs.Prelude.{IsName, IsCollName}
 use Rattle.unit_fields.proofs.CollNames.{no_zero_in_coll}
 use Rattle.row_format.proofs.Prelude.{same_head, first_zero}
-use Rattle.row_reading.specs.declared.key.Part.{Part}
-use Rattle.row_reading.specs.declared.key.RowKey.TheVariants.{Collection, Object, Bitmap}
-use Rattle.row_reading.specs.Reading.{part_bytes, IsNoObject}
+use Rattle.row_reading.specs.Reading.{part_bytes, IsNoPart, IsNoObject}
 
 positive : (xs : List ℕ) → AllByRecursion (λ b. b ≢ 0) xs → AllByRecursion (λ b. 0 < b) xs
 positive [] none = tt
@@ -37,34 +35,28 @@ same_cut bytes a b rest c o behind cut coll object is =
     let second = first_zero b o rest behind (positive b cut.object) object.no_zero first.1 in
     (first.0, second.0, second.1)
 
-pub no_first_zero : (bytes : List ℕ) → AllByRecursion (λ b. b ≢ 0) bytes → IsNoObject bytes
-no_first_zero bytes none (Collection d) s = absurd (omega (arith, same_head _ _ _ _ s.spelled))
-no_first_zero bytes none (Bitmap r) s = absurd (omega (arith, same_head _ _ _ _ s.spelled))
-no_first_zero bytes none (Object c o part) s = no_zero_inside bytes c _ none (ap (drop 1) s.spelled)
+pub no_first_zero : (kind : ℕ) (bytes : List ℕ) → AllByRecursion (λ b. b ≢ 0) bytes → IsNoObject kind bytes
+no_first_zero kind bytes none c o part s = no_zero_inside bytes c _ none (ap (drop 1) s.spelled)
 
-pub no_second_zero : (bytes a rest : List ℕ) → AllByRecursion (λ b. b ≢ 0) a → bytes ≡ a ++ (0 ∷ rest) → AllByRecursion (λ b. b ≢ 0) rest → IsNoObject bytes
-no_second_zero bytes a rest first is none (Collection d) s = absurd (omega (arith, same_head _ _ _ _ s.spelled))
-no_second_zero bytes a rest first is none (Bitmap r) s = absurd (omega (arith, same_head _ _ _ _ s.spelled))
-no_second_zero bytes a rest first is none (Object c o part) s =
+pub no_second_zero : (kind : ℕ) (bytes a rest : List ℕ) → AllByRecursion (λ b. b ≢ 0) a → bytes ≡ a ++ (0 ∷ rest) → AllByRecursion (λ b. b ≢ 0) rest → IsNoObject kind bytes
+no_second_zero kind bytes a rest first is none c o part s =
     let cut = first_zero a c rest (o ++ (0 ∷ part_bytes part)) (positive a first) (no_zero_in_coll c s.fits.0) (sym is ∙ ap (drop 1) s.spelled) in
     no_zero_inside rest o (part_bytes part) none cut.1
 
-module _ (bytes a b rest : List ℕ) (cut : IsCut bytes a b rest) where
-  pub no_part : ((part : Part) → rest ≢ part_bytes part) → IsNoObject bytes
-  no_part none (Collection d) s = absurd (omega (arith, same_head _ _ _ _ s.spelled))
-  no_part none (Bitmap r) s = absurd (omega (arith, same_head _ _ _ _ s.spelled))
-  no_part none (Object c o part) s = none part (same_cut bytes a b rest c o (part_bytes part) cut s.fits.0 s.fits.1 (ap (drop 1) s.spelled)).2
+module _ (kind : ℕ) (bytes a b rest : List ℕ) (cut : IsCut bytes a b rest) where
+  pub no_part : IsNoPart kind rest → IsNoObject kind bytes
+  no_part none c o part s = none part (record {
+    fits = s.fits.2;
+    kind_is = same_head _ _ _ _ s.spelled;
+    spelled = (same_cut bytes a b rest c o (part_bytes part) cut s.fits.0 s.fits.1 (ap (drop 1) s.spelled)).2;
+  })
 
-  pub no_coll : ¬ (IsCollName a) → IsNoObject bytes
-  no_coll none (Collection d) s = absurd (omega (arith, same_head _ _ _ _ s.spelled))
-  no_coll none (Bitmap r) s = absurd (omega (arith, same_head _ _ _ _ s.spelled))
-  no_coll none (Object c o part) s =
+  pub no_coll : ¬ (IsCollName a) → IsNoObject kind bytes
+  no_coll none c o part s =
       let same = same_cut bytes a b rest c o (part_bytes part) cut s.fits.0 s.fits.1 (ap (drop 1) s.spelled) in
       none (subst IsCollName (sym same.0) s.fits.0)
 
-  pub no_object : ¬ (IsName b) → IsNoObject bytes
-  no_object none (Collection d) s = absurd (omega (arith, same_head _ _ _ _ s.spelled))
-  no_object none (Bitmap r) s = absurd (omega (arith, same_head _ _ _ _ s.spelled))
-  no_object none (Object c o part) s =
+  pub no_object : ¬ (IsName b) → IsNoObject kind bytes
+  no_object none c o part s =
       let same = same_cut bytes a b rest c o (part_bytes part) cut s.fits.0 s.fits.1 (ap (drop 1) s.spelled) in
       none (subst IsName (sym same.1) s.fits.1)

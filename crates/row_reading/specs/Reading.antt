@@ -6,30 +6,48 @@ use Rattle.unit_fields.specs.declared.width.Width.{Width}
 use Rattle.row_format.specs.Prelude.{coll_key, object_key, bitmap_key, bit_rows}
 use Rattle.row_format.specs.Row as format
 use Rattle.row_reading.specs.declared.key.Part.{Part}
-use Rattle.row_reading.specs.declared.key.Part.TheVariants.{Onode, Shard}
+use Rattle.row_reading.specs.declared.key.Part.TheVariants.{Onode, Shard, Attribute, OmapHeader, OmapPair}
 use Rattle.row_reading.specs.declared.key.RowKey.{RowKey}
 use Rattle.row_reading.specs.declared.key.RowKey.TheVariants.{Collection, Object, Bitmap}
 use Rattle.row_reading.specs.declared.row.Row as row
 use Rattle.row_reading.specs.declared.row.Row.TheVariants as rows
 
--- what stands behind the names in the key of an onode, and of a shard
+-- the kind of the key of this part of an object
+abbrev pub part_kind : Part → ℕ
+part_kind Onode = 0x4f
+part_kind (Shard page) = 0x4f
+part_kind (Attribute name) = 0x41
+part_kind OmapHeader = 0x4d
+part_kind (OmapPair key) = 0x4d
+
+-- what stands behind the names in that key
 abbrev pub part_bytes : Part → List ℕ
 part_bytes Onode = 0x6f ∷ []
 part_bytes (Shard page) = 0x6f ∷ (to_be_bytes w32 page ++ 0x78 ∷ [])
+part_bytes (Attribute name) = name
+part_bytes OmapHeader = 0x2d ∷ []
+part_bytes (OmapPair key) = 0x2e ∷ key
 
 abbrev pub FitsPart : Part → Type 0
 FitsPart Onode = Unit {0}
 FitsPart (Shard page) = page < 2 ^ 32
+FitsPart (Attribute name) = IsName name
+FitsPart OmapHeader = Unit {0}
+FitsPart (OmapPair key) = IsName key
 
--- the bytes are the one spelling of this part
-pub record IsPart (bytes : List ℕ) (part : Part) : Type 0 where
+-- the bytes are the one spelling of this part in keys of this kind
+pub record IsPart (kind : ℕ) (bytes : List ℕ) (part : Part) : Type 0 where
   pub fits : FitsPart part
+  pub kind_is : kind ≡ part_kind part
   pub spelled : bytes ≡ part_bytes part
+
+abbrev pub IsNoPart : ℕ → List ℕ → Type 0
+IsNoPart kind bytes = (part : Part) → ¬ IsPart kind bytes part
 
 -- the key of what is named
 abbrev pub key_bytes : RowKey → List ℕ
 key_bytes (Collection c) = coll_key c
-key_bytes (Object c o part) = object_key 0x4f c o (part_bytes part)
+key_bytes (Object c o part) = object_key (part_kind part) c o (part_bytes part)
 key_bytes (Bitmap r) = bitmap_key r
 
 abbrev pub FitsKey : RowKey → Type 0
@@ -42,22 +60,26 @@ pub record SpellsKey (bytes : List ℕ) (key : RowKey) : Type 0 where
   pub fits : FitsKey key
   pub spelled : bytes ≡ key_bytes key
 
--- the same of what stands behind the first byte of an object's key
-abbrev pub SpellsObject : List ℕ → RowKey → Type 0
-SpellsObject bytes key = SpellsKey (0x4f ∷ bytes) key
+-- the same, by the kind and what stands behind it
+abbrev pub SpellsObject : ℕ → List ℕ → RowKey → Type 0
+SpellsObject kind bytes key = SpellsKey (kind ∷ bytes) key
 
 abbrev pub IsNoKey : List ℕ → Type 0
 IsNoKey bytes = (key : RowKey) → ¬ SpellsKey bytes key
 
-abbrev pub IsNoObject : List ℕ → Type 0
-IsNoObject bytes = (key : RowKey) → ¬ SpellsObject bytes key
+-- they are the key of no row of an object
+abbrev pub IsNoObject : ℕ → List ℕ → Type 0
+IsNoObject kind bytes = (c o : List ℕ) (part : Part) → ¬ SpellsObject kind bytes (Object c o part)
 
--- a row that was read, as the formats name it
-abbrev pub row_of : row.Row → format.Row
-row_of (rows.Collection c) = format.collection c
-row_of (rows.Onode c o size) = format.onode c o size
-row_of (rows.Shard c o page extents) = format.shard c o page extents
-row_of (rows.Bitmap r bits) = format.bitmap r bits
+-- a row that was read from this value, as the formats name it
+abbrev pub row_of : row.Row → List ℕ → format.Row
+row_of (rows.Collection c) value = format.collection c
+row_of (rows.Onode c o size) value = format.onode c o size
+row_of (rows.Shard c o page extents) value = format.shard c o page extents
+row_of (rows.Attribute c o name) value = format.attribute c o name value
+row_of (rows.OmapHeader c o) value = format.omap_header c o value
+row_of (rows.OmapPair c o key) value = format.omap_pair c o key value
+row_of (rows.Bitmap r bits) value = format.bitmap r bits
 
 -- the key and the value are the one spelling of this row, with checksums of this width
 pub record SpellsRow (w : Width) (key value : List ℕ) (r : format.Row) : Type 0 where

@@ -3,8 +3,7 @@ ghost use Rattle.std.specs.Prelude.{◌≡◌, ◌≢◌, ◌<◌, ◌++◌, ◌
 ghost use Rattle.std.specs.List.{AllByRecursion};
 ghost use Rattle.std.specs.Int.{w32, to_be_bytes};
 ghost use Rattle.unit_fields.specs.Prelude.{IsCollName};
-ghost use Rattle.row_reading.specs.Reading.{IsPart, part_bytes, IsNoObject, IsNoKey, SpellsObject, SpellsKey};
-ghost use Rattle.row_reading.specs.declared.key.Part.{Part};
+ghost use Rattle.row_reading.specs.Reading.{IsPart, IsNoPart, IsNoObject, IsNoKey, SpellsObject, SpellsKey};
 
 use std::alloc::{AllocError, Global};
 use unit_fields::{CollName, Fields, Name};
@@ -12,8 +11,12 @@ use unit_fields::{CollName, Fields, Name};
 // The first byte of a key: the kind of its row.
 const COLLECTION: u8 = b'C';
 
-/// The same of an object's own rows.
+/// The same of an object's onode and its shards.
 pub const OBJECT: u8 = b'O';
+
+const ATTRIBUTE: u8 = b'A';
+
+const OMAP: u8 = b'M';
 
 const BITMAP: u8 = b'b';
 
@@ -22,16 +25,27 @@ const ONODE: u8 = b'o';
 
 const SHARD: u8 = b'x';
 
+// What follows them in the keys of its omap's header and pairs.
+const HEADER: u8 = b'-';
+
+const PAIR: u8 = b'.';
+
 // So many rows have the bits of all units, whose numbers have 32 bits.
 const BIT_ROWS: u32 = 33554432;
 
 /// Which row of an object's own a key names.
-#[derive(Clone, Copy, Debug, PartialEq, Eq)]
+#[derive(Debug, Drop)]
 pub enum Part {
     /// The onode.
     Onode,
     /// The shard of its extents that begins at this page.
     Shard { page: u32 },
+    /// The attribute of this name.
+    Attribute { name: Name },
+    /// The header of its omap.
+    OmapHeader,
+    /// The pair of its omap under this key.
+    OmapPair { key: Name },
 }
 
 /// What the key of a row names.
@@ -41,7 +55,7 @@ pub enum RowKey {
     Collection {
         coll: CollName,
     },
-    /// An object's onode, or one of its shards.
+    /// A row of an object.
     Object {
         coll: CollName,
         object: Name,
@@ -74,9 +88,9 @@ fn until_zero(bytes: &[u8]) -> Option<(&[u8], &[u8])>
     Some((&bytes[..place], &bytes[place + 1..]))
 }
 
-// What stands behind an object's names.
-fn read_part(bytes: &[u8]) -> Option<Part>
-    ensures { MatchOption result ((part : Part) → bytes.now ≢ part_bytes part) (IsPart bytes.now) }
+// What stands behind an object's names in the key of its onode or of a shard.
+fn read_onode_or_shard(bytes: &[u8]) -> Option<Part>
+    ensures { MatchOption result (IsNoPart 0x4f bytes.now) (IsPart 0x4f bytes.now) }
 {
     let mut fields = Fields::new(bytes);
     if fields.u8()? != ONODE {
@@ -90,6 +104,45 @@ fn read_part(bytes: &[u8]) -> Option<Part>
         Some(Part::Shard { page })
     } else {
         None
+    }
+}
+
+// The same in the key of an attribute.
+fn read_attribute(alloc: Global, bytes: &[u8]) -> Result<Option<Part>, AllocError>
+    ensures { IfOk result (λ found. MatchOption found (IsNoPart 0x41 bytes.now) (IsPart 0x41 bytes.now)) }
+{
+    match Name::read(alloc, bytes)? {
+        Some(name) => Ok(Some(Part::Attribute { name })),
+        None => Ok(None),
+    }
+}
+
+// The same in the key of its omap's header or of a pair.
+fn read_header_or_pair(alloc: Global, bytes: &[u8]) -> Result<Option<Part>, AllocError>
+    ensures { IfOk result (λ found. MatchOption found (IsNoPart 0x4d bytes.now) (IsPart 0x4d bytes.now)) }
+{
+    let Some((first, key)) = bytes.split_first() else {
+        return Ok(None);
+    };
+    match *first {
+        HEADER if key.is_empty() => Ok(Some(Part::OmapHeader)),
+        PAIR => match Name::read(alloc, key)? {
+            Some(key) => Ok(Some(Part::OmapPair { key })),
+            None => Ok(None),
+        },
+        _ => Ok(None),
+    }
+}
+
+// The same in a key of this kind.
+fn read_part(alloc: Global, kind: u8, bytes: &[u8]) -> Result<Option<Part>, AllocError>
+    ensures { IfOk result (λ found. MatchOption found (IsNoPart kind bytes.now) (IsPart kind bytes.now)) }
+{
+    match kind {
+        OBJECT => Ok(read_onode_or_shard(bytes)),
+        ATTRIBUTE => read_attribute(alloc, bytes),
+        OMAP => read_header_or_pair(alloc, bytes),
+        _ => Ok(None),
     }
 }
 
@@ -107,13 +160,14 @@ fn read_coll(
     }
 }
 
-// The key of an object's row behind its first byte.
+// The key of an object's row behind its first byte, the kind.
 fn read_object(
     alloc: Global,
     known: Option<&CollName>,
+    kind: u8,
     bytes: &[u8],
 ) -> Result<Option<RowKey>, AllocError>
-    ensures { IfOk result (λ found. MatchOption found (IsNoObject bytes.now) (SpellsObject bytes.now)) }
+    ensures { IfOk result (λ found. MatchOption found (IsNoObject kind bytes.now) (SpellsObject kind bytes.now)) }
 {
     let Some((coll, rest)) = until_zero(bytes) else {
         return Ok(None);
@@ -121,7 +175,7 @@ fn read_object(
     let Some((object, rest)) = until_zero(rest) else {
         return Ok(None);
     };
-    let Some(part) = read_part(rest) else {
+    let Some(part) = read_part(alloc, kind, rest)? else {
         return Ok(None);
     };
     let Some(coll) = read_coll(alloc, known, coll)? else {
@@ -170,11 +224,10 @@ pub fn read_key_after(
             Some(coll) => Ok(Some(RowKey::Collection { coll })),
             None => Ok(None),
         },
-        OBJECT => read_object(alloc, known, rest),
         BITMAP => match read_bit_row(rest) {
             Some(row) => Ok(Some(RowKey::Bitmap { row })),
             None => Ok(None),
         },
-        _ => Ok(None),
+        kind => read_object(alloc, known, kind, rest),
     }
 }

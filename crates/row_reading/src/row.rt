@@ -1,21 +1,23 @@
 //! Keys and values read as rows.
-ghost use Rattle.std.specs.Prelude.{◌≡◌, ◌↔◌, ◌<◌, false, length, IsTrue, IfOk, MatchOption};
+ghost use Rattle.std.specs.Prelude.{◌≡◌, ◌↔◌, ◌<◌, ◌≤◌, false, length, IsTrue, IfOk, MatchOption};
 ghost use Rattle.meta_rows.specs.Prelude.{all_zero};
 ghost use Rattle.unit_fields.specs.Prelude.{IsName, IsCollName};
 ghost use Rattle.unit_fields.specs.declared.width.Width.{Width};
-ghost use Rattle.row_format.specs.Prelude.{onode_key, shard_key, bitmap_key, BeginsAt};
+ghost use Rattle.row_format.specs.Prelude.{onode_key, shard_key, attr_key, header_key, omap_key, bitmap_key, BeginsAt};
 ghost use Rattle.row_reading.specs.Reading.{row_of, SpellsRow, IsNoRow};
 
 use crate::key::{Part, RowKey, read_key_after};
 use byte_maps::{Bytes, Items, is_zero};
 use onode_codec::{Extent, Onode, decode_extents};
 use std::alloc::{AllocError, Global};
+use unit_fields::limits::VALUE_LIMIT;
 use unit_fields::{CollName, Name, Width};
 
 // The bytes of a row of the bitmap.
 const ROW_BYTES: usize = 16;
 
-/// A row by what it says.
+/// A row by what it says. The bytes that an attribute, an omap header or a pair gives stay in the value that the row was read from: they are
+/// only measured.
 #[derive(Debug, Drop)]
 pub enum Row {
     /// There is a collection.
@@ -35,6 +37,23 @@ pub enum Row {
         page: u32,
         extents: Items<Extent>,
     },
+    /// An object has an attribute of this name.
+    Attribute {
+        coll: CollName,
+        object: Name,
+        name: Name,
+    },
+    /// An object's omap has a header.
+    OmapHeader {
+        coll: CollName,
+        object: Name,
+    },
+    /// An object's omap has a pair under this key.
+    OmapPair {
+        coll: CollName,
+        object: Name,
+        key: Name,
+    },
     /// These are the bits of 128 units of the freelist.
     Bitmap {
         row: u32,
@@ -47,7 +66,7 @@ fn read_onode(coll: CollName, object: Name, value: &[u8]) -> Option<Row>
     requires coll { IsCollName coll }
     requires object { IsName object }
     ensures { MatchOption result ((width : Width) → IsNoRow width (onode_key coll object) value.now)
-        (λ row. (width : Width) → SpellsRow width (onode_key coll object) value.now (row_of row)) }
+        (λ row. (width : Width) → SpellsRow width (onode_key coll object) value.now (row_of row value.now)) }
 {
     match Onode::decode(value) {
         Some(onode) => Some(Row::Onode {
@@ -81,7 +100,7 @@ fn read_shard(
     requires coll { IsCollName coll }
     requires object { IsName object }
     ensures { IfOk result (λ found. MatchOption found (IsNoRow width (shard_key coll object page) value.now)
-        (λ row. SpellsRow width (shard_key coll object page) value.now (row_of row))) }
+        (λ row. SpellsRow width (shard_key coll object page) value.now (row_of row value.now))) }
 {
     let Some(extents) = decode_extents(alloc, width, value)? else {
         return Ok(None);
@@ -98,6 +117,61 @@ fn read_shard(
     }))
 }
 
+// Whether this can be the value of an attribute or of a pair.
+fn is_value(value: &[u8]) -> bool
+    ensures { IsTrue result ↔ (length value.now ≤ 65535) }
+{
+    value.len() <= VALUE_LIMIT
+}
+
+// Whether this can be that of an omap header.
+fn is_header(value: &[u8]) -> bool
+    ensures { IsTrue result ↔ ((0 < length value.now) × (length value.now ≤ 65535)) }
+{
+    !value.is_empty() && is_value(value)
+}
+
+// The row of an attribute with this value.
+fn read_attribute(coll: CollName, object: Name, name: Name, value: &[u8]) -> Option<Row>
+    requires coll { IsCollName coll }
+    requires object { IsName object }
+    requires name { IsName name }
+    ensures { MatchOption result ((width : Width) → IsNoRow width (attr_key coll object name) value.now)
+        (λ row. (width : Width) → SpellsRow width (attr_key coll object name) value.now (row_of row value.now)) }
+{
+    if !is_value(value) {
+        return None;
+    }
+    Some(Row::Attribute { coll, object, name })
+}
+
+// The row of an omap header with this value.
+fn read_header(coll: CollName, object: Name, value: &[u8]) -> Option<Row>
+    requires coll { IsCollName coll }
+    requires object { IsName object }
+    ensures { MatchOption result ((width : Width) → IsNoRow width (header_key coll object) value.now)
+        (λ row. (width : Width) → SpellsRow width (header_key coll object) value.now (row_of row value.now)) }
+{
+    if !is_header(value) {
+        return None;
+    }
+    Some(Row::OmapHeader { coll, object })
+}
+
+// The row of a pair of an omap with this value.
+fn read_pair(coll: CollName, object: Name, key: Name, value: &[u8]) -> Option<Row>
+    requires coll { IsCollName coll }
+    requires object { IsName object }
+    requires key { IsName key }
+    ensures { MatchOption result ((width : Width) → IsNoRow width (omap_key coll object key) value.now)
+        (λ row. (width : Width) → SpellsRow width (omap_key coll object key) value.now (row_of row value.now)) }
+{
+    if !is_value(value) {
+        return None;
+    }
+    Some(Row::OmapPair { coll, object, key })
+}
+
 // Whether this is the value of a row of the bitmap.
 fn are_bits(value: &[u8]) -> bool
     ensures { IsTrue result ↔ ((length value.now ≡ 16) × (all_zero value.now ≡ false)) }
@@ -109,7 +183,7 @@ fn are_bits(value: &[u8]) -> bool
 fn read_bits(alloc: Global, row: u32, value: &[u8]) -> Result<Option<Row>, AllocError>
     requires { row < 33554432 }
     ensures { IfOk result (λ found. MatchOption found ((width : Width) → IsNoRow width (bitmap_key row) value.now)
-        (λ r. (width : Width) → SpellsRow width (bitmap_key row) value.now (row_of r))) }
+        (λ r. (width : Width) → SpellsRow width (bitmap_key row) value.now (row_of r value.now))) }
 {
     if !are_bits(value) {
         return Ok(None);
@@ -127,7 +201,7 @@ pub fn read_row(
     value: &[u8],
 ) -> Result<Option<Row>, AllocError>
     ensures { IfOk result (λ found. MatchOption found (IsNoRow width key.now value.now)
-        (λ row. SpellsRow width key.now value.now (row_of row))) }
+        (λ row. SpellsRow width key.now value.now (row_of row value.now))) }
 {
     read_row_after(alloc, width, None, key, value)
 }
@@ -141,7 +215,7 @@ pub fn read_row_after(
     value: &[u8],
 ) -> Result<Option<Row>, AllocError>
     ensures { IfOk result (λ found. MatchOption found (IsNoRow width key.now value.now)
-        (λ row. SpellsRow width key.now value.now (row_of row))) }
+        (λ row. SpellsRow width key.now value.now (row_of row value.now))) }
 {
     match read_key_after(alloc, known, key)? {
         None => Ok(None),
@@ -150,6 +224,9 @@ pub fn read_row_after(
         Some(RowKey::Object { coll, object, part }) => match part {
             Part::Onode => Ok(read_onode(coll, object, value)),
             Part::Shard { page } => read_shard(alloc, width, coll, object, page, value),
+            Part::Attribute { name } => Ok(read_attribute(coll, object, name, value)),
+            Part::OmapHeader => Ok(read_header(coll, object, value)),
+            Part::OmapPair { key } => Ok(read_pair(coll, object, key, value)),
         },
         Some(RowKey::Bitmap { row }) => read_bits(alloc, row, value),
     }

@@ -5,7 +5,7 @@ use Rattle.std.specs.FinMap as map
 use Rattle.meta_rows.specs.Prelude.{Rows}
 use Rattle.meta_log.specs.declared.slot.Super.{Super}
 use Rattle.meta_log.specs.Prelude.{data_unit, width_of}
-use Rattle.row_format.specs.Prelude.{coll_key, onode_key, Body, private, Extent, page_end, ExtentsAscend, bit_row, bit_in, Row, collection, onode, shard, bitmap, row_key, row_value, FitsRow}
+use Rattle.row_format.specs.Prelude.{coll_key, onode_key, Body, private, Extent, page_end, ExtentsAscend, bit_row, bit_in, Row, collection, onode, shard, attribute, omap_header, omap_pair, bitmap, row_key, row_value, FitsRow}
 use Rattle.store_image.specs.Pages.{HasKey, HasOnode, HasShard, pages_of}
 use Rattle.store_image.specs.Owners.{IsDataUnit}
 
@@ -24,6 +24,10 @@ pub record IsShardInPlace (s : Super) (rows : Rows) (c o : List ℕ) (page : ℕ
   pub within : (size : ℕ) → HasOnode rows c o size → AllByRecursion (λ e. page_end e ≤ pages_of size) extents
   pub on_data : AllByRecursion (λ e. IsOnData s e.body) extents
 
+-- The object is there: its collection and it have their rows. A row that is there but bad itself is there.
+abbrev pub HasObject : Rows → List ℕ → List ℕ → Type 0
+HasObject rows c o = HasKey rows (coll_key c) × HasKey rows (onode_key c o)
+
 -- the bits that are 1 are of data units
 abbrev pub AreOfData : Super → ℕ → List ℕ → Type 0
 AreOfData s r bits = (unit : ℕ) → bit_row unit ≡ r → bit_in bits unit ≡ 1 → IsDataUnit s unit
@@ -33,6 +37,9 @@ abbrev pub IsInPlace : Super → Rows → Row → Type 0
 IsInPlace s rows (collection c) = Unit {0}
 IsInPlace s rows (onode c o size) = HasKey rows (coll_key c) × (size ≤ 134217728)
 IsInPlace s rows (shard c o page extents) = IsShardInPlace s rows c o page extents
+IsInPlace s rows (attribute c o name value) = HasObject rows c o
+IsInPlace s rows (omap_header c o value) = HasObject rows c o
+IsInPlace s rows (omap_pair c o key value) = HasObject rows c o
 IsInPlace s rows (bitmap r bits) = AreOfData s r bits
 
 -- the key and the value are a row of the table, with checksums as wide as the store's, and in its place

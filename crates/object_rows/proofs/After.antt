@@ -1,5 +1,5 @@
 -- Rows after an object's are replaced: which there are, that none is bad, and where pages stand.
-use Rattle.std.proofs.Common.{◌≡◌, ◌⊎◌, ◌↔◌, inl, inr, ℕ, ◌<◌, ◌≤◌, ◌^◌, List, [], ◌∷◌, Option, Some, None, is_some, refl, sym, ap, subst, ◌∙◌, arith}
+use Rattle.std.proofs.Common.{◌≡◌, ◌≢◌, ◌⊎◌, ◌↔◌, inl, inr, ℕ, ◌<◌, ◌≤◌, ◌^◌, List, [], ◌∷◌, Option, Some, None, is_some, refl, sym, ap, subst, ◌∙◌, arith}
 use Rattle.std.specs.Prelude.{unwrap_or, option_map}
 use Rattle.std.specs.List.{AllByRecursion}
 use Rattle.std.specs.Int.{w64, to_le_bytes}
@@ -11,15 +11,16 @@ use Rattle.meta_log.specs.Prelude.{width_of}
 use Rattle.object_model.specs.Prelude.{object_limit}
 use Rattle.unit_fields.specs.Prelude.{IsName, IsCollName}
 use Rattle.unit_fields.specs.declared.width.Width.{Width}
-use Rattle.row_format.specs.Prelude.{coll_key, onode_key, shard_key, bitmap_key, Extent, FitsExtent, BeginsAt, ExtentsAscend, Place, own, place_of, page_end, Row, collection, onode, shard, bitmap, row_key, row_value, FitsRow, FitsShard}
+use Rattle.row_format.specs.Prelude.{coll_key, onode_key, shard_key, bitmap_key, Extent, FitsExtent, BeginsAt, ExtentsAscend, Place, own, place_of, page_end, Row, collection, onode, shard, omap_header, omap_pair, bitmap, row_key, row_value, FitsRow, FitsShard}
+use Rattle.row_format.specs.Row as format
 use Rattle.row_format.proofs.Prelude.{same_head, same_onode, same_shard, coll_no_object, onode_no_shard, bitmap_no_object, same_row}
-use Rattle.store_image.specs.Prelude.{HasKey, HasRow, HasOnode, HasShard, PageUnit, IsPageAt, IsPageOn, pages_of, IsOnData, IsShardInPlace, IsInPlace, IsGoodRow, NoBadRow, Owner, page_of, Owns, IsOwned, IsMarked}
+use Rattle.store_image.specs.Prelude.{HasKey, HasRow, HasOnode, HasShard, PageUnit, IsPageAt, IsPageOn, pages_of, IsOnData, IsShardInPlace, HasObject, IsInPlace, IsGoodRow, NoBadRow, Owner, page_of, Owns, IsOwned, IsMarked}
 use Rattle.store_image.proofs.Prelude.{in_place, stands_still}
 use Rattle.row_facts.proofs.Bits.{bits_stay}
 use Rattle.row_facts.proofs.ObjectUnder.{object_cases}
 use Rattle.row_facts.proofs.Shapes.{SameOthers}
-use Rattle.object_rows.specs.Prelude.{CanReplace, replaced, IsOther, HasUnit, IsOwnedElsewhere}
-use Rattle.plan_rows.specs.Prelude.{IsKeyOf, AreReplaced}
+use Rattle.object_rows.specs.Prelude.{HasNoValues, CanReplace, replaced, IsOther, HasUnit, IsOwnedElsewhere}
+use Rattle.plan_rows.specs.Prelude.{ValueKey, attribute, header, pair, value_key, IsValueKey, IsKeyOf, AreReplaced}
 use Rattle.object_rows.proofs.Lengths.{has_page}
 use Rattle.object_rows.proofs.Ops.{are_replaced}
 
@@ -218,7 +219,8 @@ module _ (s : Super) (rows after : Rows) (c o : List ℕ) (size : Option ℕ) (e
 
   -- ---- no row is bad
 
-  module _ (good : NoBadRow s rows) (has_collection : HasKey rows (coll_key c)) (ascend : ExtentsAscend extents)
+  module _ (good : NoBadRow s rows) (has_collection : HasKey rows (coll_key c)) (bare : size ≡ None → HasNoValues rows c o)
+      (ascend : ExtentsAscend extents)
       (within : AllByRecursion (λ e. page_end e ≤ pages_of (unwrap_or size 0)) extents) (on_data : AllByRecursion (λ e. IsOnData s e.body) extents) where
     coll_there : HasKey after (coll_key c)
     coll_there = ap is_some (coll_same c) ∙ has_collection
@@ -259,6 +261,26 @@ module _ (s : Super) (rows after : Rows) (c o : List ℕ) (size : Option ℕ) (e
           on_data = was.on_data;
         }
 
+    -- an object with a value is there still
+    value_there : (d u : List ℕ) → IsCollName d → IsName u → HasObject rows d u → (k : ValueKey) → IsValueKey k → (value : List ℕ)
+        → map.get rows (value_key d u k) ≡ Some value → HasObject after d u
+    value_there d u coll_is name_is has k named value is = (
+      ap is_some (coll_same d) ∙ has.0,
+      elim (object_cases c o d u) [
+        | inl e ↦ subst (λ x. HasKey after (onode_key x u)) (sym e.0) (subst (λ x. HasKey after (onode_key c x)) (sym e.1)
+            (elim size as (λ m. size ≡ m → HasKey after (onode_key c o)) [
+              | None ↦ λ p. absurd (let t = sym (bare p k named)
+                  ∙ ap (λ x. map.get rows (value_key x o k)) (sym e.0) ∙ ap (λ x. map.get rows (value_key d x k)) (sym e.1) ∙ is in cc)
+              | Some n ↦ λ p. ap is_some (has_onode n p).stands
+            ] refl))
+        | inr other ↦ ap is_some (onode_same d u coll_is name_is other) ∙ has.1
+      ],
+    )
+
+    value_was : (kind : ℕ) (rest value : List ℕ) → kind ≢ 0x43 → kind ≢ 0x4f → kind ≢ 0x62 → map.get after (kind ∷ rest) ≡ Some value
+        → map.get rows (kind ∷ rest) ≡ Some value
+    value_was kind rest value a b bits is = sym (kind_same kind rest a b bits) ∙ is
+
     placed : (x : Row) → HasRow (width_of s) after x → IsInPlace s after x
     placed (collection d) has = tt
     placed (onode d u n) has = elim (onode_cases d u n has) [
@@ -270,6 +292,18 @@ module _ (s : Super) (rows after : Rows) (c o : List ℕ) (size : Option ℕ) (e
           (subst (IsShardInPlace s after c o page) (sym its.3) (new_in_place page its.2)))
       | inr old ↦ old_in_place d u page es old.0 old.1
     ]
+    placed (format.attribute d u n value) has =
+        let was = value_was 0x41 _ value (λ e. omega (arith, e)) (λ e. omega (arith, e)) (λ e. omega (arith, e)) has.stands in
+        value_there d u has.fits.coll_name has.fits.object_name (in_place s rows (format.attribute d u n value) good
+        (record { fits = has.fits; stands = was })) (attribute n) has.fits.named value was
+    placed (omap_header d u value) has =
+        let was = value_was 0x4d _ value (λ e. omega (arith, e)) (λ e. omega (arith, e)) (λ e. omega (arith, e)) has.stands in
+        value_there d u has.fits.coll_name has.fits.object_name (in_place s rows (omap_header d u value) good
+        (record { fits = has.fits; stands = was })) header tt value was
+    placed (omap_pair d u key value) has =
+        let was = value_was 0x4d _ value (λ e. omega (arith, e)) (λ e. omega (arith, e)) (λ e. omega (arith, e)) has.stands in
+        value_there d u has.fits.coll_name has.fits.object_name (in_place s rows (omap_pair d u key value) good
+        (record { fits = has.fits; stands = was })) (pair key) has.fits.named value was
     placed (bitmap r bits) has = in_place s rows (bitmap r bits) good (record { fits = has.fits; stands = sym (bits_same r) ∙ has.stands })
 
     -- a row by its key and its value
@@ -316,7 +350,7 @@ module _ (s : Super) (rows : Rows) (c o : List ℕ) (size : Option ℕ) (extents
 
   pub then_good : NoBadRow s then
   then_good = after_good
-      s rows then c o size extents can.coll_name can.object_name can.size_most can.fit are_then can.good can.has_collection can.ascend
+      s rows then c o size extents can.coll_name can.object_name can.size_most can.fit are_then can.good can.has_collection can.bare can.ascend
       can.within can.on_data
 
   pub then_sized : (n : ℕ) → size ≡ Some n → HasOnode then c o n

@@ -50,7 +50,7 @@ one_op rows x (Flip key mask) a b keys made = absurd b
 
 -- ---- operations in order
 
-less_apart : (a b : List ℕ) → byte_order a b ≡ Less → a ≢ b
+pub less_apart : (a b : List ℕ) → byte_order a b ≡ Less → a ≢ b
 less_apart a b less same =
     let tied : byte_order a b ≡ Equal = ap (byte_order a) (sym same) ∙ tied_itself nat_list_cmp_total a in
     let t = sym less ∙ tied in cc
@@ -133,6 +133,27 @@ one_difference = one_list
 
 pub no_difference : (rows : Rows) (ops : List RowOp) → IsDifference rows rows ops → ops ≡ []
 no_difference rows ops is = one_list rows rows ops [] is (record { in_order = tt; changes = tt; makes = refl })
+
+-- ---- what is said after
+
+-- what an operation sets stands there after it
+abbrev pub SaysAfter : Rows → RowOp → Type 0
+SaysAfter after (Set key value) = get after key ≡ Some value
+SaysAfter after op = Unit {0}
+
+pub said_after : (rows : Rows) (ops : List RowOp) → KeysAscend ops → AllByRecursion (SaysAfter (rows_after rows ops)) ops
+said_after rows [] order = tt
+said_after rows (op ∷ ops) order = (
+  first op (λ key is. get-rows_after_other (row_after rows op) ops key (behind_alone key ops
+      (subst (λ k. AreBehind k ops) is order.0))),
+  said_after (row_after rows op) ops order.1,
+)
+  where
+    first : (op : RowOp) → ((key : List ℕ) → key_of op ≡ key → get (rows_after (row_after rows op) ops) key ≡ get (row_after rows op) key)
+        → SaysAfter (rows_after rows (op ∷ ops)) op
+    first (Set key value) same = same key refl ∙ get-insert_same rows key value
+    first (Drop key) same = tt
+    first (Flip key mask) same = tt
 
 -- ---- keys
 

@@ -9,7 +9,7 @@ use Rattle.meta_rows.proofs.RowLemmas.{get-rows_after_other}
 use Rattle.meta_log.specs.declared.slot.Super.{Super}
 use Rattle.meta_log.specs.Prelude.{width_of}
 use Rattle.object_model.specs.declared.op.Op.{Op}
-use Rattle.object_model.specs.declared.op.Op.TheVariants.{Touch, Write, Zero, Truncate, Remove}
+use Rattle.object_model.specs.declared.op.Op.TheVariants.{Touch, Write, Zero, Truncate, Remove, SetAttr, RmAttr, RmAttrs, OmapSet, OmapRm, OmapRmRange, OmapClear, OmapHeader}
 use Rattle.object_model.specs.Prelude.{Change, names_of}
 use Rattle.object_model.proofs.Names.{is_own}
 use Rattle.unit_fields.specs.declared.width.Width.{Width}
@@ -18,11 +18,12 @@ use Rattle.store_image.specs.Prelude.{HasKey, HasValue, IsPageAt, IsMarked, IsOw
 use Rattle.row_facts.specs.Operations.{coll_change}
 use Rattle.blob_map.specs.Prelude.{PageMap}
 use Rattle.plan_rows.specs.declared.plan.Plan.{Plan}
-use Rattle.plan_rows.specs.Prelude.{Changes, IsDifference, Layout, HasLayout, made_of, size_at, extents_at, IsMapOf, IsKeyOf, AreReplaced, GetsLayout, stays, replaces, MakesColl, MakesLayout, IsInColl, IsTaken, fresh_units, object_of, IsKeyIn, AgreeOn}
-use Rattle.object_rows.specs.Prelude.{op_change, AreFresh, IsPlannedOn, IsPlanned, makes_coll, changes_object}
+use Rattle.plan_rows.specs.Prelude.{Changes, IsDifference, Layout, HasLayout, made_of, size_at, extents_at, IsMapOf, IsKeyOf, AreReplaced, GetsLayout, stays, replaces, MakesColl, DropsColl, MakesObject, ValueKey, attribute, header, pair, value_key, IsValueKey, value_after, IsKeyOfValue, GetsValues, ChangesValues, IsEmptyColl, IsInColl, IsInObject, IsTaken, fresh_units, object_of, IsKeyIn, AgreeOn}
+use Rattle.object_rows.specs.Prelude.{op_change, no_coll_change, AreFresh, IsPlannedOn, IsPlanned, makes_coll, drops_coll, changes_object}
 use Rattle.object_rows.proofs.Difference.{still_changes, no_difference, same_unnamed}
 use Rattle.object_rows.proofs.GoodPages.{all_map}
-use Rattle.object_rows.proofs.Planned.{coll_put, coll_by}
+use Rattle.object_rows.proofs.ValueKeys.{value_key_in, keyed_in, all_named, as_difference, values_keys}
+use Rattle.object_rows.proofs.Planned.{coll_put, coll_by, no_coll_put, no_coll_by}
 
 -- ---- the keys of a difference
 
@@ -30,14 +31,6 @@ use Rattle.object_rows.proofs.Planned.{coll_put, coll_by}
 pub key_in : (c o key : List ℕ) → IsKeyOf c o key → IsKeyIn c key
 key_in c o key (inl is) = inr (0x4f, o, _, inl refl, is)
 key_in c o key (inr its) = inr (0x4f, o, _, inl refl, its.2)
-
--- where all other keys are left alone, each operation is on one of these
-pub all_named : (P : List ℕ → Type 0) (ops : List RowOp) → ((key : List ℕ) → P key ⊎ LeaveAlone ops key) → AllByRecursion (λ op. P (key_of op)) ops
-all_named P [] each = tt
-all_named P (op ∷ ops) each = (
-  elim (each (key_of op)) [ inl is ↦ is | inr alone ↦ absurd (alone.0 refl) ],
-  all_named P ops (λ key. elim (each key) [ inl is ↦ inl is | inr alone ↦ inr alone.1 ]),
-)
 
 -- an object's rows are all that changes when it gets a layout
 pub layout_keys : (w : Width) (rows : Rows) (c o : List ℕ) (x y : Option Layout) (after : Rows) (ops : List RowOp) → GetsLayout w rows c o x y after
@@ -97,11 +90,11 @@ module _ (c : List ℕ) (rows other : Rows) (agree : AreSameIn c rows other) whe
 
     -- ---- a difference of the object's rows
 
-    changes_there : (ops : List RowOp) → AllByRecursion (λ op. IsKeyOf c o (key_of op)) ops → AllByRecursion (Changes rows) ops
-        → AllByRecursion (Changes other) ops
-    changes_there [] keys changes = tt
-    changes_there (op ∷ ops) keys changes =
-        (still_changes rows other op (agree (key_of op) (key_in c o (key_of op) keys.0)) changes.0, changes_there ops keys.1 changes.1)
+    changes_there : (P : List ℕ → Type 0) → ((key : List ℕ) → P key → IsKeyIn c key) → (ops : List RowOp) → AllByRecursion (λ op. P (key_of op)) ops
+        → AllByRecursion (Changes rows) ops → AllByRecursion (Changes other) ops
+    changes_there P inside [] keys changes = tt
+    changes_there P inside (op ∷ ops) keys changes =
+        (still_changes rows other op (agree (key_of op) (inside (key_of op) keys.0)) changes.0, changes_there P inside ops keys.1 changes.1)
 
     module _ (after : Rows) (ops : List RowOp) (is : IsDifference rows after ops) where
       -- the object's rows are the same after
@@ -121,7 +114,7 @@ module _ (c : List ℕ) (rows other : Rows) (agree : AreSameIn c rows other) whe
       }
 
       difference_there : AllByRecursion (λ op. IsKeyOf c o (key_of op)) ops → IsDifference other (rows_after other ops) ops
-      difference_there keys = record { in_order = is.in_order; changes = changes_there ops keys is.changes; makes = refl }
+      difference_there keys = record { in_order = is.in_order; changes = changes_there (IsKeyOf c o) (key_in c o) ops keys is.changes; makes = refl }
 
     gets_there : (x y : Option Layout) (after : Rows) (ops : List RowOp) → GetsLayout w rows c o x y after → IsDifference rows after ops
         → GetsLayout w other c o x y (rows_after other ops)
@@ -130,26 +123,47 @@ module _ (c : List ℕ) (rows other : Rows) (agree : AreSameIn c rows other) whe
     gets_there x y after ops (replaces r apart are) is =
         replaces (rows_after other ops) apart (replaced_there after ops is (size_at y) (extents_at y) are)
 
-    pub makes_there : (x y : Option Layout) (units : List ℕ) (plan : Plan) → MakesLayout w rows c o x y units plan → MakesLayout w other c o x y units plan
-    makes_there x y units plan p = record {
-      after = rows_after other p.difference;
-      gets = gets_there x y p.after p.difference p.gets p.is_difference;
-      difference = p.difference;
-      is_difference = difference_there p.after p.difference p.is_difference
-          (layout_keys w rows c o x y p.after p.difference p.gets p.is_difference);
-      flips = p.flips;
-      turns = p.turns;
-      ops_are = p.ops_are;
-      released_are = p.released_are;
+    -- ---- operations on its values
+
+    values_there : (op : Op) (ops : List RowOp) → ChangesValues op rows c o ops → ChangesValues op other c o ops
+    values_there op ops is = record {
+      in_order = is.in_order;
+      changes = changes_there (IsKeyOfValue c o) (keyed_in c o) ops (values_keys op rows c o ops is) is.changes;
+      gets = record {
+        own = λ k named. same_after rows other ops (value_key c o k) (agree (value_key c o k) (value_key_in c o k)) ∙ is.gets.own k named
+            ∙ ap (value_after op k) (sym (agree (value_key c o k) (value_key_in c o k)));
+        others = λ key. elim (is.gets.others key) [
+          | inl its ↦ inl its
+          | inr same ↦ inr (get-rows_after_other other ops key
+              (same_unnamed rows (rows_after rows ops) ops key (as_difference op rows c o ops is) same))
+        ];
+      };
     }
+
+  -- rows after the same operations agree too
+  agree_after : (ops : List RowOp) → AreSameIn c (rows_after rows ops) (rows_after other ops)
+  agree_after ops key its = same_after rows other ops key (agree key its)
 
   coll_there : (plan : Plan) → finite.get rows (coll_key c) ≡ None → MakesColl rows c plan → MakesColl other c plan
   coll_there plan none p = subst (MakesColl other c) (coll_by rows c plan none p) (coll_put other c (agree (coll_key c) (inl refl) ∙ none))
+
+  empty_there : IsEmptyColl rows c → IsEmptyColl other c
+  empty_there is = record {
+    named = is.named;
+    there = key_there (coll_key c) (inl refl) is.there;
+    empty = λ o name. agree (onode_key c o) (onode_in c o) ∙ is.empty o name;
+  }
+
+  no_coll_there : (plan : Plan) → HasKey rows (coll_key c) → DropsColl rows c plan → DropsColl other c plan
+  no_coll_there plan has p = subst (DropsColl other c) (no_coll_by rows c plan has p) (no_coll_put other c (key_there (coll_key c) (inl refl) has))
 
   -- ---- what an operation needs of the rows and of its units
 
   in_coll_there : (o : List ℕ) → IsInColl c o rows → IsInColl c o other
   in_coll_there o is = record { coll_named = is.coll_named; named = is.named; there = key_there (coll_key c) (inl refl) is.there }
+
+  in_object_there : (o : List ℕ) → IsInObject c o rows → IsInObject c o other
+  in_object_there o is = record { in_coll = in_coll_there o is.in_coll; has_onode = key_there (onode_key c o) (onode_in c o) is.has_onode }
 
   taken_there : (op : Op) → IsTaken rows c op → IsTaken other c op
   taken_there (Touch o) taken = in_coll_there o taken
@@ -157,6 +171,14 @@ module _ (c : List ℕ) (rows other : Rows) (agree : AreSameIn c rows other) whe
   taken_there (Zero o off len) taken = (in_coll_there o taken.0, taken.1)
   taken_there (Truncate o to) taken = (in_coll_there o taken.0, taken.1)
   taken_there (Remove o) taken = in_coll_there o taken
+  taken_there (SetAttr o name value) taken = (in_object_there o taken.0, taken.1, taken.2)
+  taken_there (RmAttr o name) taken = (in_object_there o taken.0, taken.1)
+  taken_there (RmAttrs o) taken = in_coll_there o taken
+  taken_there (OmapSet o pairs) taken = (in_object_there o taken.0, taken.1, taken.2)
+  taken_there (OmapRm o keys) taken = (in_object_there o taken.0, taken.1, taken.2)
+  taken_there (OmapRmRange o first last) taken = in_object_there o taken
+  taken_there (OmapClear o) taken = in_coll_there o taken
+  taken_there (OmapHeader o value) taken = (in_object_there o taken.0, taken.1)
   taken_there op taken = absurd taken
 
   module _ (s : Super) (units : List ℕ) (unmarked : AllByRecursion (λ u. ¬ IsMarked other u) units) (exact : IsExactAs (width_of s) other other) where
@@ -172,6 +194,24 @@ module _ (c : List ℕ) (rows other : Rows) (agree : AreSameIn c rows other) whe
 
 -- ---- the plan
 
+makes_there : (c : List ℕ) (rows other : Rows) → AreSameIn c rows other → (w : Width) (op : Op) (o : List ℕ) (x y : Option Layout) (units : List ℕ)
+    (plan : Plan) → MakesObject w op rows c o x y units plan → MakesObject w op other c o x y units plan
+makes_there c rows other agree w op o x y units plan p =
+    let then : AreSameIn c (rows_after rows p.values) (rows_after other p.values) = agree_after c rows other agree p.values in
+    record {
+      values = p.values;
+      changes = values_there c rows other agree w o op p.values p.changes;
+      after = rows_after (rows_after other p.values) p.difference;
+      gets = gets_there c (rows_after rows p.values) (rows_after other p.values) then w o x y p.after p.difference p.gets p.is_difference;
+      difference = p.difference;
+      is_difference = difference_there c (rows_after rows p.values) (rows_after other p.values) then w o p.after p.difference p.is_difference
+          (layout_keys w (rows_after rows p.values) c o x y p.after p.difference p.gets p.is_difference);
+      flips = p.flips;
+      turns = p.turns;
+      ops_are = p.ops_are;
+      released_are = p.released_are;
+    }
+
 pub planned_elsewhere : (s : Super) (rows other : Rows) {change : Change} {plan : Plan} → AgreeOn (names_of change) other rows
     → AllByRecursion (λ u. ¬ IsMarked other u) (fresh_units plan) → IsExactAs (width_of s) other other
     → (units : (c : List ℕ) (op : Op) (p : IsPlannedOn s rows c op plan) → fresh_units plan ≡ p.units) → IsPlanned s rows change plan
@@ -180,6 +220,10 @@ planned_elsewhere s rows other agree unmarked exact units (makes_coll c plan nam
     let same : AreSameIn c rows other =
     λ key is. agree.own key (record { coll = c; among = is_own (coll_change c); of = is }) in
     makes_coll c plan name (same (coll_key c) (inl refl) ∙ none) (coll_there c rows other same plan none p)
+planned_elsewhere s rows other agree unmarked exact units (drops_coll c plan is p) =
+    let same : AreSameIn c rows other =
+    λ key its. agree.own key (record { coll = c; among = is_own (no_coll_change c); of = its }) in
+    drops_coll c plan (empty_there c rows other same is) (no_coll_there c rows other same plan is.there p)
 planned_elsewhere s rows other agree unmarked exact units (changes_object c op plan p) =
     let same : AreSameIn c rows other =
     λ key is. agree.own key (record { coll = c; among = is_own (op_change c op); of = is }) in
@@ -193,7 +237,7 @@ planned_elsewhere s rows other agree unmarked exact units (changes_object c op p
       units = p.units;
       are_fresh = fresh_there c rows other same s p.units clear exact p.are_fresh;
       enough = p.enough;
-      makes = makes_there c rows other same (width_of s) (object_of op) p.layout (made_of op plan.read p.units p.layout) p.units plan p.makes;
+      makes = makes_there c rows other same (width_of s) op (object_of op) p.layout (made_of op plan.read p.units p.layout) p.units plan p.makes;
       fresh = p.fresh;
       csums_fit = p.csums_fit;
     })

@@ -11,7 +11,7 @@ use Rattle.unit_fields.specs.Prelude.{IsName, IsCollName, Ascends}
 use Rattle.row_format.specs.Prelude.{coll_key, shard_key, Place}
 use Rattle.store_image.specs.Prelude.{HasKey, IsPageAt, NoBadRow}
 use Rattle.plan_rows.specs.Prelude.{IsDifference, Layout, HasLayout, or_empty, size_at, extents_at, AreReplaced, GetsLayout, stays, replaces}
-use Rattle.object_rows.specs.Prelude.{AreShards, CanReplace, Climb, IsRelaid, FindsOps, none, replacing, object_ops, replaced}
+use Rattle.object_rows.specs.Prelude.{AreShards, HasNoValues, CanReplace, Climb, IsRelaid, FindsOps, none, replacing, object_ops, replaced}
 use Rattle.object_rows.proofs.After.{has_onode, no_onode, own_pages, after_good}
 use Rattle.object_rows.proofs.Difference.{one_difference, no_difference}
 use Rattle.object_rows.proofs.GoodPages.{IsGoodPage}
@@ -27,7 +27,12 @@ climbs (p ∷ ps) order = (order.0, climbs ps order.1)
 
 module _ (s : Super) (rows : Rows) (c o : List ℕ) (coll : IsCollName c) (name : IsName o) (has_coll : HasKey rows (coll_key c)) (good : NoBadRow s rows)
     (units_most : s.units ≤ 2 ^ 32) (x y : Option Layout) (has : HasLayout (width_of s) rows c o x) (most : (or_empty y).size ≤ object_limit)
-    (pages : (page : ℕ) (place : Place) → finite.get (or_empty y).pages page ≡ Some place → IsGoodPage s (or_empty y).size page place) where
+    (pages : (page : ℕ) (place : Place) → finite.get (or_empty y).pages page ≡ Some place → IsGoodPage s (or_empty y).size page place)
+    (bare : y ≡ None → HasNoValues rows c o) where
+  gone : (z : Option Layout) → size_at z ≡ None → z ≡ None
+  gone None is = refl
+  gone (Some l) is = absurd cc
+
   module _ (after : Rows) (are : AreReplaced (width_of s) rows after c o (size_at y) (extents_at y)) where
     own_at : (page : ℕ) (place : Place) → IsPageAt (width_of s) after c o page place ↔ (finite.get (or_empty y).pages page ≡ Some place)
     own_at page place =
@@ -50,7 +55,7 @@ module _ (s : Super) (rows : Rows) (c o : List ℕ) (coll : IsCollName c) (name 
     replaced_relaid : IsRelaid s rows after c o y
     replaced_relaid = record {
       good = after_good s rows after c o (size_at y) (extents_at y) coll name (layout_most s y most units_most pages)
-          (layout_fit s y most units_most pages) are good has_coll (layout_ascend s y most units_most pages)
+          (layout_fit s y most units_most pages) are good has_coll (λ is. bare (gone y is)) (layout_ascend s y most units_most pages)
           (layout_within s y most units_most pages) (layout_on_data s y most units_most pages);
       has = has_after y refl;
       others = are.others;
@@ -71,7 +76,7 @@ module _ (s : Super) (rows : Rows) (c o : List ℕ) (coll : IsCollName c) (name 
     then = replaced (width_of s) rows c o (size_at y) (extents_at y) present
 
     can : CanReplace s rows c o (size_at y) (extents_at y) present
-    can = can_replace s y most units_most pages rows c o present good coll name has_coll shards
+    can = can_replace s y most units_most pages rows c o present good coll name has_coll (λ is. bare (gone y is)) shards
 
     pub then_replaced : AreReplaced (width_of s) rows then c o (size_at y) (extents_at y)
     then_replaced = are_replaced s rows c o (size_at y) (extents_at y) present can

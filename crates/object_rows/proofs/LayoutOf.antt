@@ -8,8 +8,9 @@ use Rattle.meta_log.specs.declared.slot.Super.{Super}
 use Rattle.meta_log.specs.Prelude.{width_of}
 use Rattle.unit_fields.specs.Prelude.{IsName, IsCollName, Ascends}
 use Rattle.unit_fields.specs.declared.width.Width.{Width}
-use Rattle.row_format.specs.Prelude.{onode_key, shard_key, Extent, Row, collection, onode, shard, bitmap, row_key}
-use Rattle.row_format.proofs.Prelude.{same_onode, onode_no_shard, coll_no_object, bitmap_no_object, same_row}
+use Rattle.row_format.specs.Prelude.{onode_key, shard_key, Extent, Row, collection, onode, shard, omap_header, omap_pair, bitmap, row_key}
+use Rattle.row_format.specs.Row as format
+use Rattle.row_format.proofs.Prelude.{same_head, same_onode, onode_no_shard, coll_no_object, bitmap_no_object, same_row}
 use Rattle.store_image.specs.Prelude.{HasKey, HasRow, HasOnode, HasShard, NoBadRow}
 use Rattle.blob_map.specs.Prelude.{extent_pages, with_pages}
 use Rattle.blob_map.proofs.Places.{laid_alone}
@@ -47,6 +48,9 @@ module _ (s : Super) (rows : Rows) (c o : List ℕ) (good : NoBadRow s rows) whe
         let is = same_onode c o d u coll name has.fits.0 has.fits.1 key in
         (size, subst (HasRow (width_of s) rows) (λ i. onode (sym is.0 i) (sym is.1 i) size) has)
     onode_row (shard d u page es) has key = absurd (onode_no_shard c o d u page coll name has.fits.coll_name has.fits.object_name key)
+    onode_row (format.attribute d u n value) has key = absurd (omega (arith, same_head _ _ _ _ key))
+    onode_row (omap_header d u value) has key = absurd (omega (arith, same_head _ _ _ _ key))
+    onode_row (omap_pair d u q value) has key = absurd (omega (arith, same_head _ _ _ _ key))
     onode_row (bitmap r bits) has key = absurd (bitmap_no_object r c o _ (sym key))
 
     pub onode_under : (value : List ℕ) → finite.get rows (onode_key c o) ≡ Some value → (size : ℕ) × HasOnode rows c o size

@@ -13,7 +13,7 @@ use Rattle.store_image.specs.Prelude.{HasKey, NoBadRow, pages_of, IsOnData}
 use Rattle.blob_map.specs.Prelude.{FitsPlace, StandsWithin, first_unit}
 use Rattle.blob_map.proofs.Forms.{extents_places, extents_ascend, extents_fits, extents_within, extents_on}
 use Rattle.plan_rows.specs.Prelude.{Layout, or_empty, size_at, extents_at}
-use Rattle.object_rows.specs.Prelude.{AreShards, CanReplace}
+use Rattle.object_rows.specs.Prelude.{AreShards, HasNoValues, CanReplace}
 use Rattle.object_rows.proofs.GoodPages.{CsumFits, all_map, IsGoodPage}
 
 on_data_body : (s : Super) (body : Body) → (data_unit s ≤ first_unit body) × (first_unit body + page_count body ≤ s.units) → IsOnData s body
@@ -56,13 +56,14 @@ module _ (s : Super) (y : Option Layout) (most : (or_empty y).size ≤ object_li
       (extents_on (or_empty y).pages (data_unit s) s.units (λ page place is. (good page place is).on_data))
 
   pub can_replace : (rows : Rows) (c o : List ℕ) (present : List ℕ) → NoBadRow s rows → IsCollName c → IsName o → HasKey rows (coll_key c)
-      → AreShards rows c o present → CanReplace s rows c o (size_at y) (extents_at y) present
-  can_replace rows c o present no_bad coll name has shards = record {
+      → (size_at y ≡ None → HasNoValues rows c o) → AreShards rows c o present → CanReplace s rows c o (size_at y) (extents_at y) present
+  can_replace rows c o present no_bad coll name has bare shards = record {
     good = no_bad;
     coll_name = coll;
     object_name = name;
     has_collection = has;
     size_most = layout_most;
+    bare = bare;
     fit = layout_fit;
     ascend = layout_ascend;
     within = layout_within;

@@ -83,7 +83,7 @@ all_append P (x ∷ xs) ys p q = (p.0, all_append P xs ys p.1 q)
 
 -- ---- rows that say a value
 
-same_is : (x y : List ℕ) → is_same x y ≡ true → x ≡ y
+pub same_is : (x y : List ℕ) → is_same x y ≡ true → x ≡ y
 same_is x y is = elim (byte_order x y) as (λ r. byte_order x y ≡ r → is_eq r ≡ true → x ≡ y) [
   | Less ↦ λ p t. absurd cc
   | Equal ↦ λ p t. same_bytes x y p
@@ -121,7 +121,7 @@ module _ (w : Width) (rows : Rows) (c o : List ℕ) (e : Extent) (es : List Exte
 
 -- ---- rows that are dropped
 
-none_either : {X : Type 0} (b : Bool) (x : Option X) → x ≡ None → cond b None x ≡ None
+pub none_either : {X : Type 0} (b : Bool) (x : Option X) → x ≡ None → cond b None x ≡ None
 none_either true x is = refl
 none_either false x is = is
 

@@ -1,5 +1,5 @@
 -- The operations of a plan take few bytes.
-use Rattle.std.proofs.Common.{◌≡◌, ℕ, ◌+◌, ◌*◌, ◌≤◌, ◌^◌, Bool, not, List, [], ◌∷◌, ◌++◌, length, Option, Some, refl, ap, arith, length-append}
+use Rattle.std.proofs.Common.{◌≡◌, ℕ, ◌+◌, ◌*◌, ◌≤◌, ◌^◌, Bool, not, List, [], ◌∷◌, ◌++◌, length, Option, Some, None, refl, ap, arith, length-append}
 use Rattle.std.specs.Prelude.{nat_lt, filter}
 use Rattle.std.specs.List.{flat_map, AllByRecursion}
 use Rattle.std.specs.Int.{w16, w64, to_le_bytes}
@@ -19,7 +19,7 @@ use Rattle.row_facts.specs.Operations.{set_row, set_onode}
 use Rattle.row_facts.proofs.Lengths.{length-coll}
 use Rattle.store_image.specs.Prelude.{HasKey, NoBadRow}
 use Rattle.plan_rows.specs.Prelude.{IsDifference, Layout, HasLayout, or_empty, size_at, extents_at, GetsLayout}
-use Rattle.object_rows.specs.Prelude.{drops, onode_ops, shard_set, shard_ops, object_ops, CanReplace}
+use Rattle.object_rows.specs.Prelude.{drops, onode_ops, shard_set, shard_ops, object_ops, HasNoValues, CanReplace}
 use Rattle.object_rows.proofs.FewShards.{few_shards}
 use Rattle.object_rows.proofs.Gets.{gets_by}
 use Rattle.object_rows.proofs.GoodPages.{IsGoodPage}
@@ -27,13 +27,13 @@ use Rattle.object_rows.proofs.LayoutOf.{size_of}
 use Rattle.object_rows.proofs.Lengths.{length-onode_key, length-shard_key, value_short}
 use Rattle.object_rows.proofs.Ops.{onode_by, shard_set_by}
 
-length-set : (w : Width) (row : Row) → length (op_bytes (set_row w row)) ≡ 7 + length (row_key row) + length (row_value w row)
+pub length-set : (w : Width) (row : Row) → length (op_bytes (set_row w row)) ≡ 7 + length (row_key row) + length (row_value w row)
 length-set w row = omega (arith, length-append (key_bytes (row_key row)) (value_bytes (row_value w row)))
 
 length-set_onode : (c o : List ℕ) (size : ℕ) → length (op_bytes (set_onode c o size)) ≡ 15 + length (onode_key c o)
 length-set_onode c o size = omega (arith, length-append (key_bytes (onode_key c o)) (value_bytes (to_le_bytes w64 size)))
 
-length-drop : (key : List ℕ) → length (op_bytes (Drop key)) ≡ 3 + length key
+pub length-drop : (key : List ℕ) → length (op_bytes (Drop key)) ≡ 3 + length key
 length-drop key = omega (arith, length-append (to_le_bytes w16 (length key)) key)
 
 module _ (w : Width) (c o : List ℕ) (coll : IsCollName c) (name : IsName o) where
@@ -104,7 +104,8 @@ module _ (w : Width) (c o : List ℕ) (coll : IsCollName c) (name : IsName o) wh
 
 module _ (s : Super) (rows : Rows) (c o : List ℕ) (coll : IsCollName c) (name : IsName o) (has_coll : HasKey rows (coll_key c)) (good : NoBadRow s rows)
     (units_most : s.units ≤ 2 ^ 32) (x y : Option Layout) (has : HasLayout (width_of s) rows c o x) (most : (or_empty y).size ≤ object_limit)
-    (pages : (page : ℕ) (place : Place) → finite.get (or_empty y).pages page ≡ Some place → IsGoodPage s (or_empty y).size page place) where
+    (pages : (page : ℕ) (place : Place) → finite.get (or_empty y).pages page ≡ Some place → IsGoodPage s (or_empty y).size page place)
+    (bare : y ≡ None → HasNoValues rows c o) where
   length-object_ops : (present : List ℕ) → CanReplace s rows c o (size_at y) (extents_at y) present
       → AllByRecursion (λ page. HasKey rows (shard_key c o page)) present → Ascends present
       → length (ops_bytes (object_ops (width_of s) rows c o (size_at y) (extents_at y) present)) ≤ 26800000
@@ -124,5 +125,5 @@ module _ (s : Super) (rows : Rows) (c o : List ℕ) (coll : IsCollName c) (name 
   -- those that give the object another layout take less than a record's length can tell
   pub gets_short : (after : Rows) (difference : List RowOp) → GetsLayout (width_of s) rows c o x y after → IsDifference rows after difference
       → length (ops_bytes difference) ≤ 26800000
-  gets_short = gets_by s rows c o coll name has_coll good units_most x y has most pages (λ ops. length (ops_bytes ops) ≤ 26800000) (omega arith)
+  gets_short = gets_by s rows c o coll name has_coll good units_most x y has most pages bare (λ ops. length (ops_bytes ops) ≤ 26800000) (omega arith)
       length-object_ops

@@ -9,8 +9,9 @@ use Rattle.meta_log.specs.declared.slot.Super.{Super}
 use Rattle.meta_log.specs.Prelude.{width_of, data_unit}
 use Rattle.unit_fields.specs.Prelude.{IsName, IsCollName}
 use Rattle.unit_fields.specs.declared.width.Width.{Width}
-use Rattle.row_format.specs.Prelude.{shard_key, Extent, Body, private, page_count, page_end, place_in, place_of, Place, ExtentsAscend, BeginsAt, FitsExtent, Row, collection, onode, shard, bitmap, row_key}
-use Rattle.row_format.proofs.Prelude.{same_shard, coll_no_object, onode_no_shard, bitmap_no_object}
+use Rattle.row_format.specs.Prelude.{shard_key, Extent, Body, private, page_count, page_end, place_in, place_of, Place, ExtentsAscend, BeginsAt, FitsExtent, Row, collection, onode, shard, omap_header, omap_pair, bitmap, row_key}
+use Rattle.row_format.specs.Row as format
+use Rattle.row_format.proofs.Prelude.{same_head, same_shard, coll_no_object, onode_no_shard, bitmap_no_object}
 use Rattle.store_image.specs.Prelude.{HasKey, HasRow, HasOnode, HasShard, IsPageAt, pages_of, IsOnData, IsShardInPlace, NoBadRow}
 use Rattle.store_image.proofs.Prelude.{in_place, one_place}
 use Rattle.blob_map.specs.Prelude.{HasNumbers, first_unit}
@@ -115,6 +116,9 @@ module _ (s : Super) (rows : Rows) (c o : List ℕ) (good : NoBadRow s rows) whe
       → (es : List Extent) × HasShard (width_of s) rows c o page es
   shard_row coll name page lt (collection d) has e = absurd (coll_no_object d c o _ (sym e))
   shard_row coll name page lt (onode d u n) has e = absurd (onode_no_shard d u c o page has.fits.0 has.fits.1 coll name (sym e))
+  shard_row coll name page lt (format.attribute d u n value) has e = absurd (omega (arith, same_head _ _ _ _ e))
+  shard_row coll name page lt (omap_header d u value) has e = absurd (omega (arith, same_head _ _ _ _ e))
+  shard_row coll name page lt (omap_pair d u key value) has e = absurd (omega (arith, same_head _ _ _ _ e))
   shard_row coll name page lt (shard d u other es) has e =
       let is = same_shard c o d u page other coll name has.fits.coll_name has.fits.object_name lt has.fits.page_below e in
       (es, subst (HasRow (width_of s) rows) (λ i. shard (sym is.0 i) (sym is.1 i) (sym is.2 i) es) has)

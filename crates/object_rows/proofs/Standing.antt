@@ -16,15 +16,15 @@ use Rattle.row_format.proofs.Prelude.{same_row}
 use Rattle.store_image.specs.Prelude.{HasOnode, PageUnit, HasPage, IsHole, NoBadRow, page_bytes, IsObjectShape, IsShape, AreObjectBytes, AreBytes, ObjectsStand}
 use Rattle.store_image.proofs.Prelude.{in_place, on_own, own_of}
 use Rattle.row_facts.proofs.Maps.{keys_after}
-use Rattle.row_facts.proofs.PutRow.{no_other_kind}
 use Rattle.row_facts.proofs.Shapes.{shape_kept}
 use Rattle.row_facts.proofs.ObjectUnder.{object_cases}
-use Rattle.plan_rows.specs.Prelude.{Layout, HasLayout, or_empty, size_at, HoldBytes}
+use Rattle.plan_rows.specs.Prelude.{Layout, HasLayout, or_empty, size_at, HoldBytes, ValueKey, attribute, header, pair, value_key, IsValueKey}
 use Rattle.object_rows.specs.Prelude.{IsOther, IsRelaid}
 use Rattle.object_rows.proofs.Effects.{bytes_of, with_bytes, put, with_put, under_put, under_others}
 use Rattle.object_rows.proofs.OtherRows.{kinds_same, colls_same, onodes_same, pages_on_same}
 use Rattle.object_rows.proofs.PageBytes.{no_pages}
 use Rattle.object_rows.proofs.Relaid.{layout_pages}
+use Rattle.object_rows.proofs.Valued.{no_values}
 
 -- ---- bytes by rows, and by a layout
 
@@ -90,8 +90,8 @@ bytes_before s rows c o coll name objects (Some l) good has at stand None p =
 
 -- ---- the objects after
 
-module _ (s : Super) (rows after : Rows) (c o : List ℕ) (coll : IsCollName c) (name : IsName o) (y : Option Layout) (re : IsRelaid s rows after c o y)
-    (objects : Objects) (shape : IsShape rows objects) (k : Collection) (found : map.get objects c ≡ Some k) (bytes : Option (List ℕ))
+module _ (s : Super) (rows after : Rows) (c o : List ℕ) (coll : IsCollName c) (name : IsName o) (good : NoBadRow s rows) (y : Option Layout)
+    (re : IsRelaid s rows after c o y) (objects : Objects) (shape : IsShape rows objects) (k : Collection) (found : map.get objects c ≡ Some k) (bytes : Option (List ℕ))
     (sized : size_at y ≡ option_map length bytes) where
   abbrev new : Option Object
   new = option_map (with_bytes (map.get k o)) bytes
@@ -116,28 +116,32 @@ module _ (s : Super) (rows after : Rows) (c o : List ℕ) (coll : IsCollName c) 
       by None none e = none
       by (Some l) has e = absurd cc
 
-  absent : (kind : ℕ) (rest : List ℕ) → kind ≢ 0x43 → kind ≢ 0x4f → kind ≢ 0x62 → map.get after (kind ∷ rest) ≡ None
-  absent = no_other_kind s after re.good
-
   nothing : (q : List ℕ) {P : Type 0} → IsSome (map.get (map.empty {X = List ℕ} {R = byte_order}) q) → P
   nothing q some = absurd (let e : false ≡ true = sym (ap is_some (map.get-empty byte_order q)) ∙ some in cc)
 
   size_most : (b : List ℕ) → bytes ≡ Some b → length b ≤ 134217728
   size_most b p = (in_place s after (onode c o (length b)) re.good (has_size b p)).1
 
-  made_shape : (b : List ℕ) → bytes ≡ Some b → IsObjectShape after c o (with_bytes None b)
-  made_shape b p = record {
+  others_same : (kind : ℕ) (rest : List ℕ) → kind ≢ 0x43 → kind ≢ 0x4f → kind ≢ 0x62 → map.get after (kind ∷ rest) ≡ map.get rows (kind ∷ rest)
+  others_same = kinds_same (width_of s) rows after c o coll name re.others
+
+  -- a value of an object that was missing is missing
+  no_value : object_under objects c o ≡ None → (k : ValueKey) → IsValueKey k → map.get rows (value_key c o k) ≡ None
+  no_value none = no_values s rows good c o coll name (shape.missing c o coll name none)
+
+  made_shape : object_under objects c o ≡ None → (b : List ℕ) → bytes ≡ Some b → IsObjectShape after c o (with_bytes None b)
+  made_shape none b p = record {
     size = has_size b p;
     size_most = size_most b p;
     attr_names = λ q some. nothing q some;
-    attrs = λ q is. map.get-empty byte_order q ∙ sym (absent 0x41 _ (λ e. omega (arith, e)) (λ e. omega (arith, e)) (λ e. omega (arith, e)));
-    header = ap (λ x. unwrap_or x []) (sym (absent 0x4d _ (λ e. omega (arith, e)) (λ e. omega (arith, e)) (λ e. omega (arith, e))));
+    attrs = λ q is. map.get-empty byte_order q
+        ∙ sym (others_same 0x41 _ (λ e. omega (arith, e)) (λ e. omega (arith, e)) (λ e. omega (arith, e)) ∙ no_value none (attribute q) is);
+    header = ap (λ x. unwrap_or x []) (sym (others_same 0x4d _ (λ e. omega (arith, e)) (λ e. omega (arith, e)) (λ e. omega (arith, e))
+        ∙ no_value none header tt));
     omap_keys = λ q some. nothing q some;
-    omap = λ q is. map.get-empty byte_order q ∙ sym (absent 0x4d _ (λ e. omega (arith, e)) (λ e. omega (arith, e)) (λ e. omega (arith, e)));
+    omap = λ q is. map.get-empty byte_order q
+        ∙ sym (others_same 0x4d _ (λ e. omega (arith, e)) (λ e. omega (arith, e)) (λ e. omega (arith, e)) ∙ no_value none (pair q) is);
   }
-
-  others_same : (kind : ℕ) (rest : List ℕ) → kind ≢ 0x43 → kind ≢ 0x4f → kind ≢ 0x62 → map.get after (kind ∷ rest) ≡ map.get rows (kind ∷ rest)
-  others_same = kinds_same (width_of s) rows after c o coll name re.others
 
   changed_shape : (old : Object) → IsObjectShape rows c o old → (b : List ℕ) → bytes ≡ Some b → IsObjectShape after c o (with_bytes (Some old) b)
   changed_shape old was b p = record {
@@ -152,7 +156,7 @@ module _ (s : Super) (rows after : Rows) (c o : List ℕ) (coll : IsCollName c) 
 
   new_shape : (b : List ℕ) → bytes ≡ Some b → IsObjectShape after c o (with_bytes (map.get k o) b)
   new_shape b p = elim (map.get k o) as (λ x. object_under objects c o ≡ x → IsObjectShape after c o (with_bytes x b)) [
-    | None ↦ λ q. made_shape b p
+    | None ↦ λ q. made_shape q b p
     | Some old ↦ λ q. changed_shape old (shape.present c o old q) b p
   ] under_is
 

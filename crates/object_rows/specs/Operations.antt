@@ -15,6 +15,7 @@ use Rattle.unit_fields.specs.declared.width.Width.{Width}
 use Rattle.row_format.specs.Prelude.{coll_key, onode_key, shard_key, Extent, extent_bytes, FitsExtent, ExtentsAscend, own, place_of, page_end, shard}
 use Rattle.store_image.specs.Prelude.{HasKey, pages_of, NoBadRow, IsOnData, page_of, Owns}
 use Rattle.row_facts.specs.Operations.{set_row, set_onode}
+use Rattle.plan_rows.specs.Values.{ValueKey, value_key, IsValueKey}
 
 -- whether the rows have this value under this key
 abbrev pub says : Rows → List ℕ → List ℕ → Bool
@@ -51,14 +52,19 @@ pub record AreShards (rows : Rows) (c o : List ℕ) (present : List ℕ) : Type 
   pub below : AllByRecursion (λ page. page < 2 ^ 32) present
   pub all : (page : ℕ) → page < 2 ^ 32 → HasKey rows (shard_key c o page) → Contains present page
 
+-- the object has no attributes, no header and no pairs
+abbrev pub HasNoValues : Rows → List ℕ → List ℕ → Type 0
+HasNoValues rows c o = (k : ValueKey) → IsValueKey k → finite.get rows (value_key c o k) ≡ None
+
 -- Rows of which none is bad, a collection that they have, a size within the limit, and extents that are a good shard's: the object can
--- have them. It can go where there is no size and no extent.
+-- have them. It can go where there is no size and no extent, and it has no values.
 pub record CanReplace (s : Super) (rows : Rows) (c o : List ℕ) (size : Option ℕ) (extents : List Extent) (present : List ℕ) : Type 0 where
   pub good : NoBadRow s rows
   pub coll_name : IsCollName c
   pub object_name : IsName o
   pub has_collection : HasKey rows (coll_key c)
   pub size_most : unwrap_or size 0 ≤ object_limit
+  pub bare : size ≡ None → HasNoValues rows c o
   pub fit : AllByRecursion (FitsExtent (width_of s)) extents
   pub ascend : ExtentsAscend extents
   pub within : AllByRecursion (λ e. page_end e ≤ pages_of (unwrap_or size 0)) extents

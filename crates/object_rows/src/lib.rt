@@ -12,4 +12,6 @@ pub use laws::{
     object_by_shards, object_has_layout, one_difference, record_of_an_object, replaced_difference,
     replaced_rows, replaced_units,
 };
-pub use plans::{asks_are_few, plans_by_operations, plans_keep, replies_by_objects_rows};
+pub use plans::{
+    asks_are_few, plans_by_operations, plans_keep, replies_by_collections, replies_by_objects_rows,
+};

@@ -3,18 +3,16 @@ use Rattle.std.proofs.Common.{◌≡◌, ℕ, zero, suc, ◌+◌, ◌<◌, ◌�
 use Rattle.std.specs.List.{flat_map, AllByRecursion}
 use Rattle.std.specs.FinMap as finite
 use Rattle.std.proofs.lemmas.List.{take_more, take_all}
-use Rattle.std.proofs.lemmas.List.Concat.{flat_map-cons, flat_map-append}
+use Rattle.std.proofs.lemmas.List.Concat.{flat_map-append}
 use Rattle.unit_fields.specs.declared.width.Width.{Width}
-use Rattle.row_format.specs.Prelude.{Extent, Body, private, extent_bytes, FitsExtent, BeginsAt}
-use Rattle.onode_codec.specs.declared.extent.Head.{Head}
-use Rattle.onode_codec.specs.Reading.{BeginsWithNoExtent, ReadsHead, SpellExtents}
+use Rattle.row_format.specs.Prelude.{Extent, BeginsAt}
+use Rattle.onode_codec.specs.Reading.{SpellExtents}
 use Rattle.onode_codec.proofs.Again.{same_extents}
-use Rattle.onode_codec.proofs.ExtentReading.{head_front}
 use Rattle.blob_map.specs.Prelude.{PageMap, HasNumbers, extent_pages, with_pages}
 use Rattle.blob_map.proofs.Lay.{laid_append}
 use Rattle.object_rows.specs.Prelude.{extents_in, first_pages}
 use Rattle.object_rows.proofs.Ops.{all_append}
-use Rattle.onode_state.specs.Objects.{IsShardValue, AddsShard}
+use Rattle.extent_shards.specs.Prelude.{IsShardValue, AddsShard}
 use Rattle.onode_state.proofs.ShardRows.{shard_entry, FitsAsShard, IsShardEntry}
 
 abbrev Entry : Type 0
@@ -126,23 +124,3 @@ read_more w c o value es i e firsts firsts' pages pages' all lt is value_is adds
 pub all_read : (w : Width) (c o firsts : List ℕ) (es : List Entry) (i : ℕ) (pages : PageMap) → length es ≤ i → AreRead w c o (take i es) firsts pages
     → AreRead w c o es firsts pages
 all_read w c o firsts es i pages le read = subst (λ l. AreRead w c o l firsts pages) (take_all i es le) read
-
--- the first page of a shard is that of the head in its value
-first_read : (w : Width) (value mid rest : List ℕ) (h : Head) (first : ℕ) (b : Body) → ReadsHead value mid h
-    → FitsExtent w (record { first = first; body = b })
-    → value ≡ extent_bytes w (record { first = first; body = b }) ++ rest → first ≡ h.first
-first_read w value mid rest h first (private unit csums) read fits is = sym (head_front w value mid rest h first unit csums read fits is).first_is
-
-pub page_read : (w : Width) (value mid : List ℕ) (h : Head) → ReadsHead value mid h → (es : List Extent) → SpellExtents w value es
-    → BeginsAt h.first es
-page_read w value mid h read [] spelled = absurd (omega (arith, ap length (sym read.spelled ∙ spelled.spelled)))
-page_read w value mid h read (e ∷ es) spelled =
-    first_read w value mid (flat_map (extent_bytes w) es) h e.first e.body read spelled.fit.0 (spelled.spelled ∙ flat_map-cons (extent_bytes w) e es)
-
--- there is one
-pub head_there : (w : Width) (value : List ℕ) → IsShardValue w value → BeginsWithNoExtent w value → ⊥
-head_there w value of_shard none = there of_shard.extents of_shard.begins of_shard.spelled
-  where
-    there : (es : List Extent) → BeginsAt of_shard.page es → SpellExtents w value es → ⊥
-    there [] begins spelled = begins
-    there (e ∷ es) begins spelled = none e (flat_map (extent_bytes w) es) spelled.fit.0 (spelled.spelled ∙ flat_map-cons (extent_bytes w) e es)

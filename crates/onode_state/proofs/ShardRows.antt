@@ -17,8 +17,8 @@ use Rattle.meta_log.specs.declared.slot.Super.{Super}
 use Rattle.meta_log.specs.Prelude.{width_of}
 use Rattle.unit_fields.specs.Prelude.{IsName, IsCollName}
 use Rattle.unit_fields.specs.declared.width.Width.{Width}
-use Rattle.row_format.specs.Prelude.{object_key, onode_key, shard_key, bitmap_key, Extent, extent_bytes, Row, collection, onode, shard, bitmap, row_key, row_value, FitsShard}
-use Rattle.row_format.proofs.Prelude.{same_place, same_shard, coll_no_object, bitmap_no_object, extents-same}
+use Rattle.row_format.specs.Prelude.{object_key, onode_key, shard_key, attr_key, header_key, omap_key, bitmap_key, Extent, extent_bytes, Row, collection, onode, shard, attribute, omap_header, omap_pair, bitmap, row_key, row_value, FitsShard}
+use Rattle.row_format.proofs.Prelude.{same_head, same_place, same_shard, coll_no_object, bitmap_no_object, extents-same}
 use Rattle.row_reading.proofs.KeyOrder.{after_front, has_front, lesser_page, onode_before}
 use Rattle.row_reading.proofs.Entries.{AreRows, all_rows, are_rows}
 use Rattle.store_image.specs.Prelude.{HasRow, HasShard, IsGoodRow, NoBadRow}
@@ -182,6 +182,12 @@ module _ (w : Width) (c o : List ℕ) where
           fits = subst (λ x. FitsShard w x o page es) same.0 (subst (λ x. FitsShard w d x page es) same.1 has.fits);
           is = λ i. (shard_key (same.0 i) (same.1 i) page, flat_map (extent_bytes w) es);
         }
+    row_between (attribute d u n value) rows has is =
+        let key = of_this (attr_key d u n) is in absurd (omega (arith, same_head _ _ _ _ key.1))
+    row_between (omap_header d u value) rows has is =
+        let key = of_this (header_key d u) is in absurd (omega (arith, same_head _ _ _ _ key.1))
+    row_between (omap_pair d u k value) rows has is =
+        let key = of_this (omap_key d u k) is in absurd (omega (arith, same_head _ _ _ _ key.1))
     row_between (bitmap r bits) rows has is = let key = of_this (bitmap_key r) is in absurd (bitmap_no_object r c o key.0 key.1)
 
     -- ---- shards by their entries

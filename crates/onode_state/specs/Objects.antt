@@ -1,5 +1,5 @@
 -- An object as its rows have it, and its shards as they are read.
-use Rattle.std.specs.Prelude.{◌≡◌, ℕ, List, [], ◌∷◌, ◌++◌, Option, Some, None}
+use Rattle.std.specs.Prelude.{◌≡◌, ℕ, List, Option, Some, None}
 use Rattle.std.specs.List.{flat_map, AllByRecursion}
 use Rattle.std.specs.FinMap as finite
 use Rattle.meta_rows.specs.Prelude.{Rows}
@@ -7,10 +7,9 @@ use Rattle.meta_log.specs.declared.slot.Super.{Super}
 use Rattle.meta_log.specs.Prelude.{IsSuper, width_of}
 use Rattle.unit_fields.specs.Prelude.{Ascends}
 use Rattle.unit_fields.specs.declared.width.Width.{Width}
-use Rattle.row_format.specs.Prelude.{onode_key, shard_key, Extent, BeginsAt}
-use Rattle.onode_codec.specs.Reading.{SpellExtents}
+use Rattle.row_format.specs.Prelude.{onode_key, shard_key, Extent}
 use Rattle.store_image.specs.Prelude.{HasKey, HasOnode, NoBadRow}
-use Rattle.blob_map.specs.Prelude.{PageMap, HasNumbers, extent_pages, with_pages}
+use Rattle.blob_map.specs.Prelude.{PageMap, extent_pages, with_pages}
 use Rattle.object_rows.specs.Prelude.{AreShards, AreShardsOf, extents_in, first_pages}
 use Rattle.plan_rows.specs.Prelude.{Layout, HasLayout, or_empty, size_at}
 
@@ -24,23 +23,6 @@ pub record AreRowsOfAStore (rows : Rows) : Type 0 where
 pub record AreRowsOfWidth (w : Width) (rows : Rows) : Type 0 where
   pub store : AreRowsOfAStore rows
   pub wide : width_of store.sup ≡ w
-
--- the value of the row of some shard
-pub record IsShardValue (w : Width) (value : List ℕ) : Type 0 where
-  pub page : ℕ
-  pub extents : List Extent
-  pub begins : BeginsAt page extents
-  pub spelled : SpellExtents w value extents
-  pub numbers : AllByRecursion HasNumbers extents
-
--- one shard more, behind the others: the value of its row spells its extents, its first page is theirs, and their pages are put in the map
-pub record AddsShard (w : Width) (value firsts : List ℕ) (pages : PageMap) (firsts' : List ℕ) (pages' : PageMap) : Type 0 where
-  pub page : ℕ
-  pub own : List Extent
-  pub begins : BeginsAt page own
-  pub spelled : SpellExtents w value own
-  pub firsts_are : firsts' ≡ firsts ++ page ∷ []
-  pub pages_are : pages' ≡ with_pages pages (flat_map extent_pages own)
 
 -- the object's shards have these first pages, and their pages put in a map are these
 pub record HasShards (w : Width) (rows : Rows) (c o : List ℕ) (firsts : List ℕ) (pages : PageMap) : Type 0 where

@@ -1,21 +1,22 @@
 //! What the rows say of an object: its size, where its pages stand, and which shards it has.
-ghost use Rattle.std.specs.Prelude.{◌≡◌, ℕ, Some, [], ◌∷◌, List, IfOk, OnOk};
+ghost use Rattle.std.specs.Prelude.{◌≡◌, ℕ, Some, [], ◌∷◌, IfOk};
 ghost use Rattle.meta_rows.specs.Prelude.{rows_from_to};
-ghost use Rattle.row_format.specs.Prelude.{Extent, BeginsAt, object_key, shard_key};
-ghost use Rattle.onode_codec.specs.Reading.{SpellsOnode, SpellExtents};
+ghost use Rattle.row_format.specs.Prelude.{object_key, shard_key};
+ghost use Rattle.onode_codec.specs.Reading.{SpellsOnode};
 ghost use Rattle.plan_rows.specs.Prelude.{IsSizeOf};
 ghost use Rattle.page_lookup.specs.Prelude.{HasUnit, FindPagesOf};
 ghost use Rattle.onode_state.specs.Objects.{AreRowsOfAStore, AreRowsOfWidth};
-ghost use Rattle.onode_state.specs.Objects.{IsShardValue, AddsShard, HasShards, IsSizeAt, IsStateOf};
+ghost use Rattle.onode_state.specs.Objects.{HasShards, IsSizeAt, IsStateOf};
 
 use crate::names::{coll_name_is_one, name_is_one};
 use blob_map::PageMap;
 use byte_maps::Bytes;
+use extent_shards::JoinedShards;
 use meta_rows::{RowRange, RowTable};
-use onode_codec::{Head, Onode, onode_key, shard_key, shards_end};
+use onode_codec::{Onode, onode_key, shard_key, shards_end};
 use page_lookup::ShardPages;
 use std::alloc::{AllocError, Global};
-use unit_fields::{CollName, Fields, Name, Width};
+use unit_fields::{CollName, Name, Width};
 
 /// An object as its rows have it. A missing one has no pages and no shards.
 #[derive(Drop)]
@@ -26,13 +27,6 @@ pub struct ObjectState {
     pub pages: PageMap,
     /// The first page of each of its shards, ascending.
     pub shards: Vec<u32>,
-}
-
-// An object's shards: the first page of each, and where the pages of all of them stand.
-#[derive(Drop)]
-struct Shards {
-    firsts: Vec<u32>,
-    pages: PageMap,
 }
 
 // The size that the value of an onode's row says.
@@ -111,44 +105,22 @@ pub fn object_pages<'a>(
     Ok(ShardPages::new(width, shards))
 }
 
-// The first page of the extents that the value of a shard's row spells, however wide their checksums are.
-fn first_page(value: &[u8]) -> u32
-    requires { (width : Width) × IsShardValue width value.now }
-    ensures { (width : Width) (es : List Extent) → SpellExtents width value.now es → BeginsAt result es }
-{
-    match Head::read(&mut Fields::new(value)) {
-        Some(head) => head.first,
-        None => unreachable!(),
-    }
-}
-
-// One shard more, behind the others.
-fn add_shard(shards: &mut Shards, width: Width, value: &[u8]) -> Result<(), AllocError>
-    requires { IsShardValue width value.now }
-    ensures { OnOk result (AddsShard width value.now shards.old.firsts.items shards.old.pages shards.new.firsts.items shards.new.pages) }
-{
-    shards.firsts.push(first_page(value))?;
-    shards.pages.put_value(width, value)
-}
-
+// The shards of an object, joined.
 fn shards_of(
     alloc: Global,
     width: Width,
     rows: &RowTable,
     coll: &CollName,
     object: &Name,
-) -> Result<Shards, AllocError>
+) -> Result<JoinedShards, AllocError>
     requires { AreRowsOfWidth width rows.now.rows }
     ensures { IfOk result (λ shards. HasShards width rows.now.rows coll.now object.now shards.firsts.items shards.pages) }
 {
     coll_name_is_one(coll);
     name_is_one(object);
-    let mut shards = Shards {
-        firsts: Vec::new(alloc),
-        pages: PageMap::new(alloc),
-    };
+    let mut shards = JoinedShards::new(alloc);
     for (_, value) in shard_rows(alloc, rows, coll, object)? {
-        add_shard(&mut shards, width, value.as_slice())?;
+        shards.add(width, value.as_slice())?;
     }
     Ok(shards)
 }
@@ -175,7 +147,7 @@ pub fn object_state(
             shards: Vec::new(alloc),
         });
     }
-    let Shards { firsts, pages } = shards_of(alloc, width, rows, coll, object)?;
+    let JoinedShards { firsts, pages } = shards_of(alloc, width, rows, coll, object)?;
     Ok(ObjectState {
         size,
         pages,

@@ -2,7 +2,7 @@
 use Rattle.std.specs.Prelude.{◌≡◌, ℕ, List, [], ◌∷◌, length, map, Option}
 use Rattle.std.specs.List.{AllByRecursion, flat_map}
 use Rattle.object_model.specs.declared.op.Op.{Op}
-use Rattle.object_model.specs.declared.op.Op.TheVariants.{MkColl}
+use Rattle.object_model.specs.declared.op.Op.TheVariants.{MkColl, RmColl}
 use Rattle.object_model.specs.Prelude.{Change}
 use Rattle.meta_rows.specs.Prelude.{Rows}
 use Rattle.unit_fields.specs.declared.width.Width.{Width}
@@ -19,9 +19,15 @@ pub record AsksOn (w : Width) (c : List ℕ) (op : Op) (rows : Rows) (need : ℕ
   pub need_is : need ≡ units_on op layout
   pub places_are : places ≡ places_on op layout
 
--- A transaction asks for so many free units, and for the old bytes of these places: for nothing where it makes a collection.
+-- it makes a collection, or takes one away
+abbrev pub IsOnColl : Op → Type 0
+IsOnColl MkColl = Unit {0}
+IsOnColl RmColl = Unit {0}
+IsOnColl op = ⊥
+
+-- A transaction asks for so many free units, and for the old bytes of these places: for nothing where it is on a collection.
 pub data AsksFor (w : Width) (change : Change) (rows : Rows) (need : ℕ) (places : List Place) : Type 0 where
-  asks_none : change.ops ≡ MkColl ∷ [] → need ≡ 0 → places ≡ [] → AsksFor w change rows need places
+  asks_none : (op : Op) → change.ops ≡ op ∷ [] → IsOnColl op → need ≡ 0 → places ≡ [] → AsksFor w change rows need places
   asks_for : (op : Op) → change.ops ≡ op ∷ [] → AsksOn w change.coll op rows need places → AsksFor w change rows need places
 
 -- these are the units of the places, in their order, each with 4096 bytes

@@ -1,16 +1,16 @@
 -- Objects as rows say them, what an operation makes of one, and the rows then.
 use Rattle.std.specs.Prelude.{◌≡◌, ◌⊎◌, ◌↔◌, ℕ, ◌<◌, ◌^◌, ◌==◌, ◌&&◌, not, Bool, true, false, List, [], ◌++◌, Option, Some, None, Contains}
-use Rattle.std.specs.Option.{option_map}
+use Rattle.std.specs.Option.{option_map, option_map_or}
 use Rattle.std.specs.List.{flat_map}
 use Rattle.std.specs.Int.{w64, to_le_bytes}
 use Rattle.std.specs.Ordering.{nat_cmp}
 use Rattle.std.specs.FinMap as finite
 use Rattle.std.specs.FinMap.Entries.{where_key}
 use Rattle.unit_fields.specs.declared.width.Width.{Width}
-use Rattle.meta_rows.specs.Prelude.{Rows}
+use Rattle.meta_rows.specs.Prelude.{Rows, rows_after}
 use Rattle.meta_rows.specs.declared.row_op.RowOp.{RowOp}
 use Rattle.object_model.specs.declared.op.Op.{Op}
-use Rattle.object_model.specs.declared.op.Op.TheVariants.{Truncate, Remove}
+use Rattle.object_model.specs.declared.op.Op.TheVariants.{Touch, Write, Zero, Truncate, Remove}
 use Rattle.row_format.specs.Prelude.{coll_key, onode_key, shard_key, Extent, Place, own, extent_bytes, BeginsAt}
 use Rattle.store_image.specs.Prelude.{HasOnode, IsPageAt}
 use Rattle.bitmap_freelist.specs.Bitmap.{Units, Has, AreFlips}
@@ -19,6 +19,7 @@ use Rattle.plan_rows.specs.declared.plan.Plan.{Plan}
 use Rattle.plan_rows.specs.declared.plan.ReadUnit.{ReadUnit}
 use Rattle.plan_rows.specs.Difference.{IsDifference}
 use Rattle.plan_rows.specs.Edits.{Edit, edit_of, edited, own_units}
+use Rattle.plan_rows.specs.Values.{ChangesValues}
 
 -- ---- layouts
 
@@ -50,17 +51,18 @@ or_empty (Some x) = x
 abbrev pub with_edit : Edit → List ReadUnit → List ℕ → Layout → Layout
 with_edit e read units x = record { size = e.size; pages = edited e read units x.pages }
 
--- What an operation makes of an object: it goes, stays missing, or gets another layout.
+-- the edit of an object's pages that an operation is: none where the object goes or stays missing, or where it isn't about its bytes
+abbrev pub edit_on : Op → Option Layout → Option Edit
+edit_on (Touch o) x = Some (edit_of (Touch o) (or_empty x).size)
+edit_on (Write o off bytes) x = Some (edit_of (Write o off bytes) (or_empty x).size)
+edit_on (Zero o off len) x = Some (edit_of (Zero o off len) (or_empty x).size)
+edit_on (Truncate o to) (Some x) = Some (edit_of (Truncate o to) x.size)
+edit_on op x = None
+
+-- What an operation makes of an object's layout: the object goes, gets another layout by an edit, or keeps its own.
 abbrev pub made_of : Op → List ReadUnit → List ℕ → Option Layout → Option Layout
 made_of (Remove o) read units x = None
-made_of (Truncate o to) read units None = None
-made_of op read units x = Some (with_edit (edit_of op (or_empty x).size) read units (or_empty x))
-
--- the edit of an object's pages that an operation is: none where the object goes or stays missing
-abbrev pub edit_on : Op → Option Layout → Option Edit
-edit_on (Remove o) x = None
-edit_on (Truncate o to) None = None
-edit_on op x = Some (edit_of op (or_empty x).size)
+made_of op read units x = option_map_or (λ e. Some (with_edit e read units (or_empty x))) (edit_on op x) x
 
 -- whether a page stands at one place in two maps
 abbrev pub is_same_place : Option Place → Option Place → Bool
@@ -108,21 +110,31 @@ pub record TurnsBits (taken released : List ℕ) (flips : List RowOp) : Type 0 w
   pub are_units : (unit : ℕ) → Has units unit ↔ (Contains taken unit ⊎ Contains released unit)
   pub are_flips : AreFlips units flips
 
--- The plan puts in the row of a collection: its operations are the difference of the rows, and it takes no unit and releases none.
-pub record MakesColl (rows : Rows) (c : List ℕ) (plan : Plan) : Type 0 where
-  pub is_difference : IsDifference rows (finite.insert rows (coll_key c) []) plan.ops
+-- The plan turns the rows into these, and takes no unit and releases none: its operations are the difference.
+pub record MakesRows (rows after : Rows) (plan : Plan) : Type 0 where
+  pub is_difference : IsDifference rows after plan.ops
   pub none_fresh : plan.fresh ≡ []
   pub none_released : plan.released ≡ []
   pub none_read : plan.read ≡ []
 
--- The plan turns the one layout into the other, on these units: its operations are the difference of the rows, and behind it those that turn
--- the bits of the units that are taken and of those that are left, whose keys are behind all others.
-pub record MakesLayout (w : Width) (rows : Rows) (c o : List ℕ) (x y : Option Layout) (units : List ℕ) (plan : Plan) : Type 0 where
+-- it puts in the row of a collection, or takes it away
+abbrev pub MakesColl : Rows → List ℕ → Plan → Type 0
+MakesColl rows c plan = MakesRows rows (finite.insert rows (coll_key c) []) plan
+
+abbrev pub DropsColl : Rows → List ℕ → Plan → Type 0
+DropsColl rows c plan = MakesRows rows (finite.remove rows (coll_key c)) plan
+
+-- The plan makes of the object's values what the operation does, and then turns the one layout into the other, on these units. Its operations are the
+-- difference in the values, then that in the onode and the shards, whose keys are behind all values', and last those that turn the bits of the
+-- units that are taken and of those that are left, whose keys are behind all others.
+pub record MakesObject (w : Width) (op : Op) (rows : Rows) (c o : List ℕ) (x y : Option Layout) (units : List ℕ) (plan : Plan) : Type 0 where
+  pub values : List RowOp
+  pub changes : ChangesValues op rows c o values
   pub after : Rows
-  pub gets : GetsLayout w rows c o x y after
+  pub gets : GetsLayout w (rows_after rows values) c o x y after
   pub difference : List RowOp
-  pub is_difference : IsDifference rows after difference
+  pub is_difference : IsDifference (rows_after rows values) after difference
   pub flips : List RowOp
   pub turns : TurnsBits units plan.released flips
-  pub ops_are : plan.ops ≡ difference ++ flips
+  pub ops_are : plan.ops ≡ values ++ (difference ++ flips)
   pub released_are : plan.released ≡ units_left (or_empty x).pages (or_empty y).pages

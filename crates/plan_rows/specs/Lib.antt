@@ -1,5 +1,6 @@
 pub mod Difference
 pub mod Edits
+pub mod Values
 pub mod Layouts
 pub mod Plans
 pub mod Asks

@@ -15,11 +15,11 @@ loop-value-init c = record {
   finite = tt;
   at = 0;
   left = c.into_iter-value-iterator.ensures.into_iter_gives ∙ c.in_ok-items.ensures;
-  read = none_read c.args.width c.args.coll.now c.args.object.now c.new.result.items c.new-2.result c.new.ensures.items c.new-2.ensures;
+  read = none_read c.args.width c.args.coll.now c.args.object.now c.new-shards.result.firsts.items c.new-shards.result.pages c.new-shards.ensures.firsts c.new-shards.ensures.pages;
 }
 
-pub add_shard-requires : goal.add_shard-requires
-add_shard-requires c =
+pub add-requires : goal.add-requires
+add-requires c =
     let coll = c.args.coll.now in
     let object = c.args.object.now in
     let es = rows_from_to c.args.rows.now.rows (shard_key coll object 0) (Some (object_key 0x4f coll object (0x70 ∷ []))) in
@@ -51,8 +51,8 @@ loop-value-preserved c =
       finite = tt;
       at = at + 1;
       left = more.2;
-      read = read_more c.args.width coll object c.as_slice.result.now es at x c.loop-value.shards.firsts.items c.add_shard.new.shards.firsts.items
-          c.loop-value.shards.pages c.add_shard.new.shards.pages all more.0 more.1 c.as_slice.ensures c.in_ok-add_shard.ensures
+      read = read_more c.args.width coll object c.as_slice.result.now es at x c.loop-value.shards.firsts.items c.add.new.self.firsts.items
+          c.loop-value.shards.pages c.add.new.self.pages all more.0 more.1 c.as_slice.ensures c.in_ok-add.ensures
           c.loop-value.invariant.read;
     }
 

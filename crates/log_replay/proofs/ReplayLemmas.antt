@@ -1,5 +1,5 @@
 -- Records, one after another.
-use Rattle.std.proofs.Common.{◌≡◌, ℕ, ◌+◌, ◌*◌, List, [], ◌∷◌, ◌++◌, length, drop, refl, sym, ap, subst, ◌∙◌, arith}
+use Rattle.std.proofs.Common.{◌≡◌, ℕ, ◌+◌, ◌*◌, ◌≤◌, List, [], ◌∷◌, ◌++◌, length, drop, refl, sym, ap, subst, ◌∙◌, arith}
 use Rattle.std.specs.FinMap as map
 use Rattle.std.proofs.lemmas.List.{length-append}
 use Rattle.meta_rows.specs.declared.row_op.RowOp.{RowOp}
@@ -8,6 +8,8 @@ use Rattle.meta_rows.proofs.Folds.{rows_of_records-push}
 use Rattle.meta_log.specs.Prelude.{BeginsWithRecord, IsAtFront, units_of_records}
 use Rattle.meta_log.specs.declared.scanning.FoundRecord.{FoundRecord}
 use Rattle.meta_log.proofs.ScanLemmas.{StandUpTo, one_more, these_are_all, units-one_more, length-with_record}
+use Rattle.store_steps.specs.Prelude.{rows_units}
+use Rattle.space_facts.proofs.Prelude.{rows_units-records}
 use Rattle.log_replay.specs.Prelude.{IsReplay}
 
 -- ---- records, one after another
@@ -56,3 +58,8 @@ replayed_all half first left rows tail number none so_far = record {
   number_is = so_far.number_is;
   within = omega (arith, so_far.size);
 }
+
+-- the rows as one record take no more units than the records that make them
+pub replay_within : (half : List ℕ) (first : ℕ) (rows : Rows) (tail number : ℕ) → IsReplay half first rows tail number → rows_units rows ≤ tail
+replay_within half first rows tail number is = subst (λ n. rows_units rows ≤ n) (sym is.tail_is)
+    (subst (λ r. rows_units r ≤ units_of_records first is.records) (sym is.made) (rows_units-records first is.records))

@@ -152,6 +152,7 @@ module _ (s : FoundStore) (d : Disk) (sound : IsSound d) (found : IsFoundOn d s)
     units_are = same;
     number = omega (arith, judged.numbers.1);
     tail = found.tail;
+    within = found.within;
     good = judged.good;
     space = judged.units;
     counted = counted_none s.sup s.log.rows.rows space judged.idle;

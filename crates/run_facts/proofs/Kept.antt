@@ -5,13 +5,14 @@ use Rattle.object_model.specs.declared.command.Command.TheVariants as ask
 use Rattle.object_model.specs.declared.command.Answer.TheVariants as answer
 use Rattle.store_steps.specs.Prelude.{Batch, State, is_ready, applied_count, entry_limit, need_of, context_of, accepted_with, entered, Accepts, Refuses, Found, opened, stepping, DoesOrFails, AnswersRead, Reads, Intent, intent_of, rows_part, book_part, joined, Footprint}
 use Rattle.store_steps.specs.RowsGo as rows
-use Rattle.flight_facts.specs.Prelude.{AreOfJobs, FlightsMatch, sum_work, batch_work, work_left, entry_work, budget, measure}
+use Rattle.flight_facts.specs.Prelude.{AreOfJobs, FitsRecord, FlightsMatch, sum_work, batch_work, work_left, entry_work, budget, measure}
 use Rattle.flight_facts.proofs.Prelude.{StepOutcome, has_stepped, has_waited, has_gone_down, GoneDown, Matches, one_more_waits, one_more_entry, waited_does, Paid, sum_both}
 use Rattle.run_facts.specs.Prelude.{AreRowsKept, IsAlwaysKept, IsKept, IsOpenable}
+use Rattle.space_facts.proofs.Prelude.{within_opened}
 use Rattle.run_facts.proofs.Keeping.{down_keeps, paid_within, waited_keeps, kept_leaves, work_falls}
 use Rattle.run_facts.proofs.Footprints.{intents_push, footprint_of}
 use Rattle.run_facts.proofs.RowsKept.{rows_go}
-use Rattle.run_facts.proofs.RoomKept.{room_go, space_go, sup_go}
+use Rattle.run_facts.proofs.RoomKept.{room_go, within_go, space_go, sup_go}
 use Rattle.run_facts.proofs.BookKept.{book_go, acked_in_turn}
 use Rattle.run_facts.proofs.RowsSteps.{MayAll, may_all}
 use Rattle.run_facts.proofs.RowsAccepted.{accepted_joins, accepted_record, accepted_few}
@@ -47,6 +48,7 @@ paid_keeps step s d s' d' kept sound up ready does paid matches = record {
     flights = matches;
     rows = rows_go (rows_part s) (rows_part s') f.rows a.limits a.space may.rows (kept.up up).rows;
     room = room_go (rows_part s) (rows_part s') f.rows may.room (kept.up up).room;
+    within = within_go (rows_part s) (rows_part s') f.rows may.room (kept.up up).rows.submitted (kept.up up).room (kept.up up).within;
   };
 }
   where
@@ -73,7 +75,12 @@ down_kept s d s' d' sound a t = record { always = down_keeps s d s' d' sound a t
 waited_kept : (s : State) (d d' : Disk) → IsSound d' → IsKept s d → Waited d d' → IsKept s d'
 waited_kept s d d' sound kept waited = record {
   always = waited_keeps s d d' sound kept.always waited;
-  up = λ down. record { flights = waited_does s d d' (kept.up down).flights waited; rows = (kept.up down).rows; room = (kept.up down).room };
+  up = λ down. record {
+    flights = waited_does s d d' (kept.up down).flights waited;
+    rows = (kept.up down).rows;
+    room = (kept.up down).room;
+    within = (kept.up down).within;
+  };
 }
 
 pub kept_step : (step : Step) (s s' : State) (d d' : Disk) → IsKept s d → is_ready step d.depth s ≡ true → DoesOrFails step s d s' d' → IsSound d'
@@ -122,6 +129,7 @@ entered_kept s d client line command a kept up below =
             (one_more_entry s.log (length s.book.entries) s.pending s.batch s.flying d.flights (kept.up up).flights);
         rows = (kept.up up).rows;
         room = (kept.up up).room;
+        within = (kept.up up).within;
       };
     }
   where
@@ -191,6 +199,9 @@ module _ (keep : PlansKeep) (s : State) (d : Disk) (client line : ℕ) (change :
       behind : (tail reserved half need : ℕ) → need ≤ half - tail - reserved → tail + reserved ≤ half → tail + (reserved + need) ≤ half
       behind tail reserved half need fits le = omega (arith, fits, le)
 
+  fits_record : FitsRecord (intent_of x)
+  fits_record = accepted_record keep s d client line change s' a.limits a.space were known does
+
   pub accepted_kept : IsKept s' d
   accepted_kept = subst (λ (z : State). IsKept z d) (sym does.after) (record {
     always = record {
@@ -208,7 +219,8 @@ module _ (keep : PlansKeep) (s : State) (d : Disk) (client line : ℕ) (change :
       flights = matches_push s t d.flights entry refl
           (one_more_waits s.log t.log (length s.book.entries) s.pending s.batch s.flying d.flights x refl refl refl refl (kept.up up).flights);
       rows = rows_go (rows_part s) (rows_part t) goes a.limits a.space (accepted_joins keep s d client line change s' a.limits a.space were known does) were;
-      room = room_go (rows_part s) (rows_part t) goes (accepted_record keep s d client line change s' a.limits a.space were known does, room) (kept.up up).room;
+      room = room_go (rows_part s) (rows_part t) goes (fits_record, room) (kept.up up).room;
+      within = within_go (rows_part s) (rows_part t) goes (fits_record, room) were.submitted (kept.up up).room (kept.up up).within;
     };
   })
 
@@ -259,6 +271,7 @@ kept_open f space events d sound idle few is = record {
     };
     rows = opened_rows f space events d.units is;
     room = record { fits = tt; reserved = refl; room = omega (arith, is.tail) };
+    within = within_opened (rows_part (opened f space events)) refl is.within;
   };
 }
 

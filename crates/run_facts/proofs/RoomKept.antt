@@ -4,8 +4,8 @@ use Rattle.run_facts.proofs.Common.{AllByRecursion, unit_count}
 use Rattle.selections.specs.Fair.{IsComplete}
 use Rattle.selections.proofs.Selecting.{complete_is_fair, all_selected}
 use Rattle.selections.proofs.Order.{fold_alike, each_is}
-use Rattle.space_facts.proofs.Prelude.{each_named}
-use Rattle.store_steps.specs.Prelude.{Intent, is_in, ops_by, needs_by, released_by, RowsPart, RowsGo}
+use Rattle.space_facts.proofs.Prelude.{each_named, within_joined, within_applied}
+use Rattle.store_steps.specs.Prelude.{Intent, is_in, ops_by, rows_by, needs_by, released_by, RowsPart, RowsGo, NeedsEnough, AreRowsWithin}
 use Rattle.store_steps.specs.RowsGo as rows
 use Rattle.flight_facts.specs.Prelude.{FitsRecord}
 use Rattle.flight_facts.proofs.Prelude.{all_right, all_join}
@@ -72,6 +72,28 @@ room_go p q (rows.applies number front back both fits is) to has = subst HasRoom
     behind : (tail reserved half units front back : ℕ) → tail + reserved ≤ half → units ≤ front → reserved ≡ front + back
         → (tail + units) + (reserved - front) ≤ half
     behind tail reserved half units front back le fits is = omega (arith, le, fits, is)
+
+-- the record of one that fits takes what it needs
+takes : (x : Intent) → FitsRecord x → NeedsEnough x
+takes x fits number = exact (unit_count number x.ops) x.need (fits.need number)
+  where
+    exact : (units need : ℕ) → units ≡ need → units ≤ need
+    exact units need is = omega (arith, is)
+
+enough : (xs : List Intent) → AllByRecursion FitsRecord xs → AllByRecursion NeedsEnough xs
+enough [] all = tt
+enough (x ∷ xs) all = (takes x all.0, enough xs all.1)
+
+-- the rows stay within the records and what is reserved
+pub within_go : (p q : RowsPart) (goes : RowsGo p q) → HasRoomTo p goes → p.submitted ≡ rows_by p.rows p.intents → HasRoom p → AreRowsWithin p
+    → AreRowsWithin q
+within_go p q (rows.same is) to are has within = subst AreRowsWithin (sym is) within
+within_go p q (rows.joins x is) to are has within = subst AreRowsWithin (sym is) (within_joined p x (takes x to.0) within)
+within_go p q (rows.reorders later complete is) to are has within =
+    subst AreRowsWithin (sym is) (record { committed = within.committed; submitted = within.submitted })
+within_go p q (rows.applies number front back both fits is) to are has within = subst AreRowsWithin (sym is)
+    (within_applied p number front back (are ∙ ap (rows_by p.rows) both) (has.reserved ∙ ap needs_by both ∙ needs_join front back)
+    (enough back (all_right FitsRecord front back (subst (AllByRecursion FitsRecord) both has.fits))) within)
 
 -- which units are those of the store isn't changed
 pub space_go : (p q : RowsPart) → RowsGo p q → IsSpaceOf p.sup p.space → IsSpaceOf q.sup q.space

@@ -1,8 +1,10 @@
 -- What a kernel that is up knows of the rows that it has now, and of its free units.
-use Rattle.std.proofs.Common.{◌≡◌, None}
+use Rattle.std.proofs.Common.{◌≡◌, None, ℕ, ◌+◌, ◌*◌, ◌^◌, ◌≤◌, arith}
 use Rattle.run_facts.proofs.Common.{Disk, IsGood}
+use Rattle.meta_rows.specs.Prelude.{rows_size}
 use Rattle.plan_rows.specs.Prelude.{AreFreeOver}
-use Rattle.store_steps.specs.Prelude.{State, rows_part}
+use Rattle.store_steps.specs.Prelude.{State, rows_part, rows_units}
+use Rattle.space_facts.proofs.Prelude.{rows_units-bytes}
 use Rattle.run_facts.specs.Prelude.{IsSpaceOf, AreRowsKept, IsKept}
 use Rattle.run_facts.proofs.RowsAccepted.{submitted_good, submitted_free}
 
@@ -18,3 +20,12 @@ module _ (s : State) (d : Disk) (kept : IsKept s d) (up : s.down ≡ None) where
 
   pub kept_space : IsSpaceOf s.log.sup s.space
   kept_space = kept.always.space
+
+  -- the submitted rows as one record fit half of the log
+  pub submitted_short : rows_size s.submitted ≤ 2 ^ 28
+  submitted_short = short (rows_size s.submitted) (rows_units s.submitted) s.log.tail s.log.reserved s.log.sup.half (rows_units-bytes s.submitted)
+      (kept.up up).within.submitted (kept.up up).room.room kept.always.limits.half_most
+    where
+      short : (bytes units tail reserved half : ℕ) → bytes ≤ 4096 * units → units ≤ tail + reserved → tail + reserved ≤ half → half ≤ 65536
+          → bytes ≤ 2 ^ 28
+      short bytes units tail reserved half le within room most = omega (arith, le, within, room, most)

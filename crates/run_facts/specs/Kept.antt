@@ -4,7 +4,7 @@ use Rattle.block_device.specs.Prelude.{Disk, IsSound}
 use Rattle.meta_log.specs.Prelude.{IsSuper}
 use Rattle.unit_allocator.specs.Prelude.{Space}
 use Rattle.plan_rows.specs.Prelude.{IsGood}
-use Rattle.store_steps.specs.Prelude.{State, Found, SpaceIsCounted, HoldsAreCounted, rows_part, book_part}
+use Rattle.store_steps.specs.Prelude.{State, Found, SpaceIsCounted, HoldsAreCounted, rows_units, AreRowsWithin, rows_part, book_part}
 use Rattle.flight_facts.specs.Prelude.{AreFlights, FlightsMatch, budget, work_left}
 use Rattle.run_facts.specs.Space.{IsSpaceOf, AreRowsKept}
 use Rattle.run_facts.specs.Room.{HasRoom, AreEntriesFew, IsBookKept}
@@ -26,6 +26,7 @@ pub record IsKeptUp (s : State) (d : Disk) : Type 0 where
   pub flights : FlightsMatch s.log (length s.book.entries) s.pending s.batch s.flying d.flights
   pub rows : AreRowsKept (rows_part s)
   pub room : HasRoom (rows_part s)
+  pub within : AreRowsWithin (rows_part s)
 
 pub record IsKept (s : State) (d : Disk) : Type 0 where
   pub always : IsAlwaysKept s d
@@ -37,6 +38,7 @@ pub record IsOpenable (f : Found) (s : Space) (units : ℕ) : Type 0 where
   pub units_are : f.sup.units ≡ units
   pub number : f.number ≤ 2 ^ 61
   pub tail : f.tail ≤ f.sup.half
+  pub within : rows_units f.rows ≤ f.tail
   pub good : IsGood f.sup f.rows
   pub space : IsSpaceOf f.sup s
   pub counted : SpaceIsCounted f.sup f.rows [] s

@@ -4,7 +4,7 @@ ghost use Rattle.std.specs.List.{AllByRecursion};
 ghost use Rattle.std.specs.Option.{option_or};
 ghost use Rattle.block_device.specs.declared.device.Ticket.{Ticket};
 ghost use Rattle.block_device.specs.Prelude.{Disk, IsSound, IsNotInFlight, IsUntouched};
-ghost use Rattle.meta_rows.specs.Prelude.{ops_bytes, AllFit};
+ghost use Rattle.meta_rows.specs.Prelude.{ops_bytes, rows_size, AllFit};
 ghost use Rattle.meta_log.specs.Prelude.{unit_count, active_unit, width_of};
 ghost use Rattle.object_model.specs.Prelude.{Change};
 ghost use Rattle.store_image.specs.Prelude.{HasPage};
@@ -54,6 +54,11 @@ pub fn idle_units_are_not_busy()
     ensures idle { (s : State) (d : Disk) → IsKept s d → s.down ≡ None
         → SpaceIsCounted s.log.sup s.log.rows (intents (uncommitted s)) s.space }
     ensures held { (s : State) (d : Disk) → IsKept s d → s.down ≡ None → HoldsAreCounted s.log.sup s.submitted s.space }
+{}
+
+/// The submitted rows are short, since as one record they fit half of the log: so what takes rows away is short too.
+pub fn submitted_rows_are_short()
+    ensures { (s : State) (d : Disk) → IsKept s d → s.down ≡ None → rows_size s.submitted ≤ 2 ^ 28 }
 {}
 
 /// A unit of a page of the submitted rows that isn't in memory is in no flight, so that it can be read at any time. Whole units are in memory.

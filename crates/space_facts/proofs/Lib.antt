@@ -5,5 +5,6 @@ pub mod Joining
 pub mod Moving
 pub mod Idle
 pub mod Spaces
+pub mod Within
 pub mod Example
 pub mod Prelude

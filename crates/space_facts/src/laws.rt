@@ -1,14 +1,16 @@
 //! How accepted transactions that are under way keep rows good and units apart.
-ghost use Rattle.std.specs.Prelude.{◌≡◌, ◌↔◌, ℕ, true, false, List, [], ◌∷◌, ◌++◌, map, Contains};
+ghost use Rattle.std.specs.Prelude.{◌≡◌, ◌↔◌, ℕ, ◌+◌, ◌*◌, ◌≤◌, true, false, List, [], ◌∷◌, ◌++◌, map, Contains};
 ghost use Rattle.std.specs.List.{AllByRecursion};
-ghost use Rattle.meta_rows.specs.Prelude.{Rows, rows_after};
+ghost use Rattle.std.specs.FinMap as finite;
+ghost use Rattle.meta_rows.specs.Prelude.{Rows, rows_after, rows_of_records, rows_size};
+ghost use Rattle.meta_rows.specs.declared.row_op.RowOp.{RowOp};
 ghost use Rattle.meta_log.specs.declared.slot.Super.{Super};
-ghost use Rattle.meta_log.specs.Prelude.{width_of, IsSuper};
+ghost use Rattle.meta_log.specs.Prelude.{width_of, IsSuper, unit_count, units_of_records};
 ghost use Rattle.store_image.specs.Prelude.{IsDataUnit, IsMarked, IsLeaked, IsExactAs, IsBusy};
 ghost use Rattle.unit_allocator.specs.Prelude.{Space, is_idle, free_units, taken, given};
 ghost use Rattle.plan_rows.specs.Prelude.{AreFreeOver, fresh_units, IsGood, Suits, PlanKeeps};
 ghost use Rattle.selections.specs.Fair.{under, IsFair, IsComplete, HasLast};
-ghost use Rattle.store_steps.specs.Prelude.{Intent, names_in, is_in, plan_of, rows_by, ops_by, released_by, EachIsPlanned, AreTakenApart, SpaceIsCounted, CanJoin};
+ghost use Rattle.store_steps.specs.Prelude.{Intent, names_in, is_in, plan_of, rows_by, ops_by, released_by, EachIsPlanned, AreTakenApart, SpaceIsCounted, CanJoin, needs_by, RowsPart, joined, applied, rows_units, NeedsEnough, AreRowsWithin};
 ghost use Rattle.space_facts.specs.Example.{two, no_rows};
 ghost use Rattle.space_facts.specs.Spaces.{HasDataUnits, HasOnlyDataUnits};
 ghost use Rattle.space_facts.specs.Owning.{OwnTheirUnits};
@@ -118,6 +120,24 @@ pub fn released_come_back_in_turn()
         → EachIsPlanned sup rows (batch ++ pending) → AreTakenApart rows (batch ++ pending)
         → HasDataUnits sup space → SpaceIsCounted sup rows (batch ++ pending) space → released_by batch ≡ front ++ unit ∷ rest
         → is_idle (given space front) unit ≡ false }
+{}
+
+/// Operations make rows longer by their own bytes at most. So the rows as one record take no more units than the records that made them, each of
+/// which has a head and whole units of its own.
+pub fn rows_are_no_longer_than_records()
+    ensures after { (rows : Rows) (number : ℕ) (ops : List RowOp) → rows_units (rows_after rows ops) ≤ rows_units rows + unit_count number ops }
+    ensures made { (number : ℕ) (records : List (List RowOp)) → rows_units (rows_of_records finite.empty records) ≤ units_of_records number records }
+    ensures bytes { (rows : Rows) → rows_size rows ≤ 4096 * rows_units rows }
+{}
+
+/// The committed rows stay within the records of the log, and the submitted ones within these and what is reserved: when a kernel is opened, when a
+/// transaction joins that reserves enough, and when the first ones are committed, whatever of what they had reserved is left over then.
+pub fn rows_stay_within_the_log()
+    ensures opened { (p : RowsPart) → p.submitted ≡ p.rows → rows_units p.rows ≤ p.tail → AreRowsWithin p }
+    ensures joined { (p : RowsPart) (x : Intent) → NeedsEnough x → AreRowsWithin p → AreRowsWithin (joined x p) }
+    ensures applied { (p : RowsPart) (number : ℕ) (front back : List Intent) → p.submitted ≡ rows_by p.rows (front ++ back)
+        → p.reserved ≡ needs_by front + needs_by back → AllByRecursion NeedsEnough back → AreRowsWithin p
+        → AreRowsWithin (applied number front back p) }
 {}
 
 /// An example: a transaction takes unit 18, and a later one takes 19 and releases 18. While both are under way the bit of 18 is 0 in the committed

@@ -10,6 +10,7 @@ pub mod UnderWay
 pub mod Parts
 pub mod Touch
 pub mod RowsGo
+pub mod RowsWithin
 pub mod DataGoes
 pub mod HalfGoes
 pub mod BookGoes

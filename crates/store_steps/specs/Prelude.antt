@@ -12,6 +12,7 @@ pub use Rattle.store_steps.specs.UnderWay.{uncommitted, all_fresh, bytes_in, mem
 pub use Rattle.store_steps.specs.Parts.{RowsPart, rows_part, DataPart, data_part, HalfPart, half_part, BookPart, book_part}
 pub use Rattle.store_steps.specs.Touch.{Touch, nothing, ends, flushes, on_data, on_half, run_write, Adds, events_of, after, IsPlaced, IsNoData, IsNoPiece}
 pub use Rattle.store_steps.specs.RowsGo.{joined, applied, RowsGo, joins, reorders}
+pub use Rattle.store_steps.specs.RowsWithin.{body_units, rows_units, NeedsEnough, AreRowsWithin}
 pub use Rattle.store_steps.specs.DataGoes.{IsInRow, Spares, Gives, DataGoes, gives, opens, flushes_batch, retires}
 pub use Rattle.store_steps.specs.HalfGoes.{HalfGoes, begins, gives_piece, syncs, is_synced, moves_on}
 pub use Rattle.store_steps.specs.BookGoes.{commits_of, BookGoes, enters, commits, acknowledges}

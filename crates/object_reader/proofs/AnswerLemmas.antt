@@ -10,10 +10,10 @@ use Rattle.object_model.specs.declared.op.Refusal.TheVariants.{NoObject, BadRang
 use Rattle.object_model.specs.declared.command.Command.TheVariants as ask
 use Rattle.object_model.specs.declared.command.Answer.{Answer}
 use Rattle.object_model.specs.declared.command.Answer.TheVariants as answer
-use Rattle.meta_rows.specs.Prelude.{Rows}
+use Rattle.meta_rows.specs.Prelude.{Rows, row}
 use Rattle.unit_fields.specs.Prelude.{IsName, IsCollName}
 use Rattle.unit_fields.specs.declared.width.Width.{Width}
-use Rattle.row_format.specs.Prelude.{Extent, own, coll_key, onode_key, onode}
+use Rattle.row_format.specs.Prelude.{Extent, own, coll_key, onode_key, attr_key, header_key, omap_key, onode}
 use Rattle.store_image.specs.Prelude.{HasKey, HasOnode, IsPageAt, HasPage}
 use Rattle.store_image.proofs.Prelude.{in_place, on_own}
 use Rattle.page_lookup.specs.Prelude.{place_found, FindPagesOf}
@@ -21,7 +21,8 @@ use Rattle.plan_rows.specs.Prelude.{IsSizeOf, missing, there}
 use Rattle.object_rows.proofs.GoodPages.{good_page}
 use Rattle.onode_state.specs.Objects.{AreRowsOfAStore, AreRowsOfWidth}
 use Rattle.read_facts.specs.declared.view.BadSum.{BadSum}
-use Rattle.read_facts.specs.Prelude.{IsHeldAt, pages_read, IsRefusedBy, IsNotRefused, Gives, IsAnswerOf, IsObject, sum_answer, IsViewOf}
+use Rattle.read_facts.specs.declared.view.ValueView.{ValueView}
+use Rattle.read_facts.specs.Prelude.{IsHeldAt, pages_read, IsRefusedBy, IsNotRefused, Gives, IsAnswerOf, IsObject, AreValues, sum_answer, IsViewOf}
 use Rattle.read_facts.proofs.Keys.{none_of}
 use Rattle.read_facts.proofs.Found.{answer_given, object_missing, object_there}
 use Rattle.page_sources.specs.declared.parts.PartFail.{PartFail}
@@ -166,5 +167,14 @@ module _ (w : Width) (memory : ℕ → Option (List ℕ)) (d : Disk) (rows : Row
 
   pub shows : (read : Result ℕ PartFail) (sum : Result ℕ BadSum) → IsObject rows c o → IfOk read (GivesSum memory d pages size)
       → IfErr read (IsPartFail memory d pages 0 (pages_read size 0 size)) → IsSumOf read sum
-      → IsViewOf w memory (IsHeldAt d) rows c (record { name = o; size = size; sum = sum })
-  shows read sum is good fails same = record { is = is; has_size = has; sums = sums read sum good fails same }
+      → (attrs omap : List ValueView) (header : List ℕ) → AreValues (attr_key c o) rows attrs → AreValues (omap_key c o) rows omap
+      → header ≡ row rows (header_key c o)
+      → IsViewOf w memory (IsHeldAt d) rows c (record { name = o; size = size; sum = sum; attrs = attrs; header = header; omap = omap })
+  shows read sum is good fails same attrs omap header are_attrs are_pairs is_header = record {
+    is = is;
+    has_size = has;
+    sums = sums read sum good fails same;
+    attrs = are_attrs;
+    header = is_header;
+    omap = are_pairs;
+  }

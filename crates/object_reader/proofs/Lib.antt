@@ -5,3 +5,4 @@ pub mod NamesNext
 pub mod NamesWalk
 pub mod ReadLemmas
 pub mod AnswerLemmas
+pub mod ValueRanges

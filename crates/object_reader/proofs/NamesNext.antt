@@ -10,13 +10,14 @@ use Rattle.meta_log.specs.declared.slot.Super.{Super}
 use Rattle.meta_log.specs.Prelude.{width_of}
 use Rattle.unit_fields.specs.Prelude.{IsName, IsCollName}
 use Rattle.unit_fields.proofs.CollNames.{no_zero_in_coll}
-use Rattle.row_format.specs.Prelude.{coll_key, onode_key, Row, collection, onode, shard, bitmap, row_key, FitsRow}
+use Rattle.row_format.specs.Prelude.{coll_key, onode_key, object_key, Row, collection, onode, shard, omap_header, omap_pair, bitmap, row_key, FitsRow}
+use Rattle.row_format.specs.Row as format
 use Rattle.row_format.proofs.Prelude.{same_head, first_zero, same_coll, coll_no_object, same_place, bitmap_no_coll}
 use Rattle.onode_codec.specs.Fronts.{colls_first, colls_end, objects_first, objects_end}
 use Rattle.row_reading.proofs.KeyOrder.{page_bytes, onode_before}
-use Rattle.row_reading.specs.Reading.{IsNoKey, SpellsKey, part_bytes}
+use Rattle.row_reading.specs.Reading.{IsNoKey, SpellsKey, part_kind, part_bytes}
 use Rattle.row_reading.specs.declared.key.Part.{Part}
-use Rattle.row_reading.specs.declared.key.Part.TheVariants.{Onode}
+use Rattle.row_reading.specs.declared.key.Part.TheVariants.{Onode, Shard, Attribute, OmapHeader, OmapPair}
 use Rattle.row_reading.specs.declared.key.RowKey.{RowKey}
 use Rattle.row_reading.specs.declared.key.RowKey.TheVariants.{Collection, Object}
 use Rattle.store_image.specs.Prelude.{HasKey, IsGoodRow, IsInPlace, NoBadRow}
@@ -55,6 +56,9 @@ module _ (s : Super) (rows : Rows) (good : NoBadRow s rows) where
   coll_named name (collection d) fits is = subst IsCollName (sym (same_coll name d is)) fits
   coll_named name (onode d u size) fits is = absurd (omega (arith, same_head _ _ _ _ is))
   coll_named name (shard d u page es) fits is = absurd (omega (arith, same_head _ _ _ _ is))
+  coll_named name (format.attribute d u n value) fits is = absurd (omega (arith, same_head _ _ _ _ is))
+  coll_named name (omap_header d u value) fits is = absurd (omega (arith, same_head _ _ _ _ is))
+  coll_named name (omap_pair d u q value) fits is = absurd (omega (arith, same_head _ _ _ _ is))
   coll_named name (bitmap r bits) fits is = absurd (bitmap_no_coll r name (sym is))
 
   -- the least key behind a collection is that of the next one
@@ -114,6 +118,9 @@ module _ (s : Super) (rows : Rows) (good : NoBadRow s rows) where
           there = subst (λ (x : List ℕ). HasKey rows (onode_key x u)) (sym same.0) place.has_onode;
           own_or_later = inr (ap (λ (x : List ℕ). byte_order (onode_key c u) (behind_coll c x)) same.1 ∙ onode_before c u coll fits.object_name page);
         }
+    object_of rest (format.attribute d u n value) fits place has is = absurd (omega (arith, same_head _ _ _ _ is))
+    object_of rest (omap_header d u value) fits place has is = absurd (omega (arith, same_head _ _ _ _ is))
+    object_of rest (omap_pair d u q value) fits place has is = absurd (omega (arith, same_head _ _ _ _ is))
     object_of rest (bitmap r bits) fits place has is = absurd (omega (arith, same_head _ _ _ _ is))
 
     module _ (after : Option (List ℕ)) (named : IfSome after IsName) where
@@ -171,13 +178,21 @@ pub onode_is_read : (key : List ℕ) (found : Option RowKey) → MatchOption fou
 onode_is_read key found read got is =
     spells_none key found (Object is.0 is.1 Onode) read got (record { fits = (is.2, is.3, tt); spelled = is.4 })
 
+-- no part of an object is of a collection's kind
+part_no_coll : (part : Part) → part_kind part ≢ 0x43
+part_no_coll Onode e = omega (arith, e)
+part_no_coll (Shard page) e = omega (arith, e)
+part_no_coll (Attribute name) e = omega (arith, e)
+part_no_coll OmapHeader e = omega (arith, e)
+part_no_coll (OmapPair key) e = omega (arith, e)
+
 -- a collection's key is not read as an object's
 pub coll_reads_no_object : (key : List ℕ) (found : Option RowKey) (named : RowKey) (c o : List ℕ) (part : Part)
     → MatchOption found (IsNoKey key) (SpellsKey key) → found ≡ Some named → named ≡ Object c o part
     → (coll : List ℕ) × IsCollName coll × (key ≡ coll_key coll) → ⊥
 coll_reads_no_object key found named c o part read got same is =
     let spells = spells_as key found (Object c o part) read (got ∙ ap (λ (k : RowKey). Some k) same) in
-    coll_no_object is.0 c o (part_bytes part) (sym is.2 ∙ spells.spelled)
+    part_no_coll part (sym (same_head _ _ _ _ (sym is.2 ∙ spells.spelled)))
 
 -- an onode's key is not read as a collection's
 pub onode_reads_no_coll : (key : List ℕ) (found : Option RowKey) (named : RowKey) (name : List ℕ)
@@ -192,6 +207,8 @@ pub reads_object : (key : List ℕ) (found : Option RowKey) (c o : List ℕ) (pa
     → found ≡ Some (Object c o part) → (coll object : List ℕ) → IsCollName coll → IsName object → key ≡ onode_key coll object → o ≡ object
 reads_object key found c o part read got coll object coll_is object_is is =
     let spells = spells_as key found (Object c o part) read got in
+    let both : object_key (part_kind part) c o (part_bytes part) ≡ onode_key coll object = sym spells.spelled ∙ is in
+    let kind : part_kind part ≡ 0x4f = same_head _ _ _ _ both in
     let same = same_place 0x4f c o coll object (part_bytes part) (0x6f ∷ []) spells.fits.0 spells.fits.1 coll_is object_is
-    (sym spells.spelled ∙ is) in
+    (ap (λ k. object_key k c o (part_bytes part)) (sym kind) ∙ both) in
     same.1

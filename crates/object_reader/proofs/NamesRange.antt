@@ -38,7 +38,7 @@ below_first q k (e ∷ es) less h =
     ∙ below_first q k es less (both_second _ _ h)
 
 -- a value that is left by a test
-cut : (b : Bool) (o : Option (List ℕ)) (v : List ℕ) → cond b o None ≡ Some v → (b ≡ true) × (o ≡ Some v)
+pub cut : (b : Bool) (o : Option (List ℕ)) (v : List ℕ) → cond b o None ≡ Some v → (b ≡ true) × (o ≡ Some v)
 cut true o v e = (refl, e)
 cut false o v e = absurd cc
 

@@ -3,3 +3,4 @@ pub mod Readable
 pub mod NextKeys
 pub mod Ranges
 pub mod PartFails
+pub mod ValueRows

@@ -1,6 +1,9 @@
 //! Commands that read, answered.
 ghost use Rattle.std.specs.Prelude.{◌≡◌, ℕ, ◌+◌, ◌≤◌, List, Option, IfOk, IsErrOf, MatchOption};
+ghost use Rattle.std.specs.Option.{option_map_or};
 ghost use Rattle.std.specs.FinMap as finite;
+ghost use Rattle.object_model.specs.declared.op.Refusal.TheVariants.{NoAttr};
+ghost use Rattle.object_model.specs.declared.command.Answer.TheVariants as answer;
 ghost use Rattle.block_device.specs.Prelude.{Rose, Disk};
 ghost use Rattle.object_model.specs.declared.command.Command.TheVariants as ask;
 ghost use Rattle.object_model.specs.Prelude.{object_limit};
@@ -17,11 +20,12 @@ ghost use Rattle.object_reader.specs.PartFails.{IsCsumOf};
 use crate::fail::ReadFail;
 use crate::names::object_names;
 use crate::reading::{read_range, sum};
+use crate::values::row_bytes;
 use block_device::Device;
 use byte_maps::{Bytes, Items};
 use meta_rows::RowTable;
 use object_model::{Answer, Command, Refusal, ends_too_far};
-use onode_codec::{coll_key, onode_key};
+use onode_codec::{attr_key, coll_key, header_key, omap_key, onode_key};
 use onode_state::{coll_name_is_one, name_is_one, object_pages, object_size};
 use page_sources::PartFail;
 use std::alloc::{AllocError, Global};
@@ -60,6 +64,13 @@ pub fn answer<D: Device>(
             alloc, device, buffers, width, rows, coll, object,
         ),
         Command::Stat { coll, object } => Ok(answer_stat(alloc, rows, coll, object)?),
+        Command::GetAttr { coll, object, name } => {
+            Ok(answer_attr(alloc, rows, coll, object, name)?)
+        }
+        Command::OmapGet { coll, object, key } => {
+            Ok(answer_pair(alloc, rows, coll, object, key)?)
+        }
+        Command::OmapHeader { coll, object } => Ok(answer_header(alloc, rows, coll, object)?),
         Command::List { coll } => Ok(answer_list(alloc, rows, coll)?),
         _ => unreachable!(),
     }
@@ -218,6 +229,71 @@ fn answer_stat(
         return Ok(Answer::Refused(refusal));
     }
     Ok(Answer::Size(object_size(alloc, rows, coll, object)?))
+}
+
+// The value that stands under a key, or that there is none.
+fn value_answer(alloc: Global, rows: &RowTable, key: &Bytes) -> Result<Answer, AllocError>
+    ensures { IfOk result (λ a. a ≡ option_map_or (λ value. answer.Bytes value) (finite.get rows.now.rows key.now) (answer.Refused NoAttr)) }
+{
+    match rows.get(key.as_slice()) {
+        Some(value) => Ok(Answer::Bytes(Bytes::from_slice(alloc, value.as_slice())?)),
+        None => Ok(Answer::Refused(Refusal::NoAttr)),
+    }
+}
+
+fn answer_attr(
+    alloc: Global,
+    rows: &RowTable,
+    coll: &CollName,
+    object: &Name,
+    name: &Name,
+) -> Result<Answer, AllocError>
+    ensures names { IsCollName coll.now × IsName object.now × IsName name.now }
+    ensures ok { IfOk result (λ a. (width : Width) (memory : ℕ → Option (List ℕ)) (d : Disk)
+        → IsAnswerOf width memory (IsHeldAt d) rows.now.rows (ask.GetAttr coll.now object.now name.now) a) }
+{
+    name_is_one(name);
+    if let Some(refusal) = object_refusal(alloc, rows, coll, object)? {
+        return Ok(Answer::Refused(refusal));
+    }
+    let key = attr_key(alloc, coll, object, name)?;
+    value_answer(alloc, rows, &key)
+}
+
+fn answer_pair(
+    alloc: Global,
+    rows: &RowTable,
+    coll: &CollName,
+    object: &Name,
+    key: &Name,
+) -> Result<Answer, AllocError>
+    ensures names { IsCollName coll.now × IsName object.now × IsName key.now }
+    ensures ok { IfOk result (λ a. (width : Width) (memory : ℕ → Option (List ℕ)) (d : Disk)
+        → IsAnswerOf width memory (IsHeldAt d) rows.now.rows (ask.OmapGet coll.now object.now key.now) a) }
+{
+    name_is_one(key);
+    if let Some(refusal) = object_refusal(alloc, rows, coll, object)? {
+        return Ok(Answer::Refused(refusal));
+    }
+    let row = omap_key(alloc, coll, object, key)?;
+    value_answer(alloc, rows, &row)
+}
+
+fn answer_header(
+    alloc: Global,
+    rows: &RowTable,
+    coll: &CollName,
+    object: &Name,
+) -> Result<Answer, AllocError>
+    ensures names { IsCollName coll.now × IsName object.now }
+    ensures ok { IfOk result (λ a. (width : Width) (memory : ℕ → Option (List ℕ)) (d : Disk)
+        → IsAnswerOf width memory (IsHeldAt d) rows.now.rows (ask.OmapHeader coll.now object.now) a) }
+{
+    if let Some(refusal) = object_refusal(alloc, rows, coll, object)? {
+        return Ok(Answer::Refused(refusal));
+    }
+    let key = header_key(alloc, coll, object)?;
+    Ok(Answer::Bytes(row_bytes(alloc, rows, &key)?))
 }
 
 fn answer_list(alloc: Global, rows: &RowTable, coll: &CollName) -> Result<Answer, AllocError>

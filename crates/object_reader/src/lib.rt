@@ -9,6 +9,7 @@ mod answering;
 mod fail;
 mod names;
 mod reading;
+mod values;
 mod view;
 
 pub use answering::answer;

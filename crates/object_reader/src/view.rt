@@ -10,8 +10,10 @@ ghost use Rattle.object_reader.specs.Readable.{IsReadable, IsNextView};
 use crate::fail::ReadFail;
 use crate::names::next_name;
 use crate::reading::sum;
+use crate::values::{attributes_of, pairs_of, row_bytes};
 use block_device::Device;
 use meta_rows::RowTable;
+use onode_codec::header_key;
 use onode_state::{object_pages, object_size};
 use page_sources::PartFail;
 use read_facts::{BadSum, ObjectView};
@@ -32,7 +34,7 @@ fn sum_or_bad(read: Result<u32, PartFail>) -> Result<Result<u32, BadSum>, ReadFa
     }
 }
 
-// An object with its size and the checksum of its bytes.
+// An object with its size, the checksum of its bytes and all its values. The values are copied, each once.
 fn view_of<D: Device>(
     alloc: Global,
     device: &mut D,
@@ -53,11 +55,21 @@ fn view_of<D: Device>(
     let size = object_size(alloc, rows, coll, &name)?;
     let mut pages = object_pages(alloc, width, rows, coll, &name)?;
     let sum = sum_or_bad(sum(alloc, device, buffers, &mut pages, size))?;
-    Ok(ObjectView { name, size, sum })
+    let attrs = attributes_of(alloc, rows, coll, &name)?;
+    let header = row_bytes(alloc, rows, &header_key(alloc, coll, &name)?)?;
+    let omap = pairs_of(alloc, rows, coll, &name)?;
+    Ok(ObjectView {
+        name,
+        size,
+        sum,
+        attrs,
+        header,
+        omap,
+    })
 }
 
-/// The object of a collection that comes next behind another one in byte order, or the first one, with its size and the checksum of its bytes.
-/// None: there is none behind it, or no such collection.
+/// The object of a collection that comes next behind another one in byte order, or the first one, with its size, the checksum of its
+/// bytes, its attributes and its omap. None: there is none behind it, or no such collection.
 pub fn next_object<D: Device>(
     alloc: Global,
     device: &mut D,

@@ -6,7 +6,7 @@ use Rattle.unit_fields.specs.Prelude.{IsCollName}
 use Rattle.unit_fields.specs.declared.width.Width.{Width}
 use Rattle.meta_rows.specs.Prelude.{Rows}
 use Rattle.object_model.specs.declared.op.Op.{Op}
-use Rattle.object_model.specs.declared.op.Op.TheVariants.{Touch, Write, Zero, Truncate, Remove}
+use Rattle.object_model.specs.declared.op.Op.TheVariants.{MkColl, RmColl, Touch, Write, Zero, Truncate, Remove, SetAttr, RmAttr, RmAttrs, OmapSet, OmapRm, OmapRmRange, OmapClear, OmapHeader}
 use Rattle.object_model.specs.declared.command.Command.TheVariants as ask
 use Rattle.object_model.specs.Prelude.{Change}
 use Rattle.row_format.specs.Prelude.{coll_key, Place}
@@ -18,20 +18,22 @@ use Rattle.unit_allocator.specs.declared.allocator.TakeFail.TheVariants.{NoSpace
 use Rattle.unit_allocator.specs.Fails.{FailsBy}
 use Rattle.plan_rows.specs.declared.plan.Plan.{Plan}
 use Rattle.plan_rows.specs.declared.plan.ReadUnit.{ReadUnit}
-use Rattle.plan_rows.specs.Prelude.{MakesColl, PlansObject, Plans, edit_of, pages_put, places_read, Layout, HasLayout, size_at, IsTaken, object_of, units_on, places_on, AsksFor, asks_none, asks_for, AreReadAt}
-use Rattle.object_rows.specs.Prelude.{op_change, GivesObject}
+use Rattle.plan_rows.specs.Prelude.{MakesColl, DropsColl, IsEmptyColl, PlansObject, Plans, edit_of, pages_put, places_read, Layout, HasLayout, size_at, IsTaken, object_of, units_on, places_on, AsksFor, asks_none, asks_for, AreReadAt}
+use Rattle.meta_rows.specs.declared.row_op.RowOp.TheVariants.{Drop}
+use Rattle.object_rows.specs.Prelude.{op_change, no_coll_change, GivesObject}
 use Rattle.object_rows.proofs.ObjectDifference.{coll_difference}
 use Rattle.object_rows.proofs.LayoutOf.{object_in_rows}
 use Rattle.onode_state.specs.declared.object.ObjectState.{ObjectState}
 use Rattle.onode_state.specs.Objects.{AreRowsOfWidth, IsStateOf}
 use Rattle.txn_planner.specs.declared.planning.Draft.{Draft}
 use Rattle.txn_planner.specs.declared.planning.Work.TheVariants as work
-use Rattle.txn_planner.specs.Operations.{fail_of, IsEdit, StaysMissing, IsFoundFor, IsPlanWith}
+use Rattle.txn_planner.specs.Operations.{fail_of, IsOfValues, IsEdit, StaysMissing, IsFoundFor, IsPlanWith}
 use Rattle.txn_planner.specs.Drafts.{places_for, IsEditOn, IsEditFor, IsWorkFor, IsDraftFor}
 use Rattle.txn_planner.specs.PlanFails.{IsPlanFor, IsPlanFail}
-use Rattle.txn_planner.proofs.Operations.{in_coll, size_of, units_are, places_are}
+use Rattle.txn_planner.proofs.Operations.{in_coll, keeps_layout, size_of, units_are, places_are}
 use Rattle.txn_planner.proofs.Stays.{truncate_missing}
 use Rattle.object_rows.proofs.Given.{object_planned}
+use Rattle.object_rows.proofs.Planned.{no_coll_put}
 
 -- ---- plans
 
@@ -43,6 +45,14 @@ plans_of w rows space c (Write o off bytes) plan p taken = p
 plans_of w rows space c (Zero o off len) plan p taken = p
 plans_of w rows space c (Truncate o to) plan p taken = p
 plans_of w rows space c (Remove o) plan p taken = p
+plans_of w rows space c (SetAttr o name value) plan p taken = p
+plans_of w rows space c (RmAttr o name) plan p taken = p
+plans_of w rows space c (RmAttrs o) plan p taken = p
+plans_of w rows space c (OmapSet o pairs) plan p taken = p
+plans_of w rows space c (OmapRm o keys) plan p taken = p
+plans_of w rows space c (OmapRmRange o first last) plan p taken = p
+plans_of w rows space c (OmapClear o) plan p taken = p
+plans_of w rows space c (OmapHeader o value) plan p taken = p
 plans_of w rows space c op plan p taken = absurd taken
 
 module _ (w : Width) (rows : Rows) (space : Space) (c : List ℕ) where
@@ -84,7 +94,18 @@ module _ (w : Width) (rows : Rows) (space : Space) (c : List ℕ) where
       → finite.get rows (coll_key c) ≡ None → plan ≡ record { ops = coll_ops c; fresh = []; released = []; read = [] }
       → draft.work ≡ work.Planned plan → draft.places ≡ [] → IsDraftFor w (coll_change c) rows space draft
   coll_draft draft plan not_refused named gone is work_is none =
-      planned (coll_change c) draft plan not_refused (asks_none refl refl refl) (coll_for plan not_refused named gone is)
+      planned (coll_change c) draft plan not_refused (asks_none MkColl refl tt refl refl) (coll_for plan not_refused named gone is)
+      (ap (λ (p : Plan). p.read) is) work_is none
+
+  pub no_coll_draft : (draft : Draft) (plan : Plan) → IsNotRefused rows (ask.Change (no_coll_change c)) → IsEmptyColl rows c
+      → plan ≡ record { ops = Drop (coll_key c) ∷ []; fresh = []; released = []; read = [] }
+      → draft.work ≡ work.Planned plan → draft.places ≡ [] → IsDraftFor w (no_coll_change c) rows space draft
+  no_coll_draft draft plan not_refused empty is work_is none =
+      planned (no_coll_change c) draft plan not_refused (asks_none RmColl refl tt refl refl)
+      (record {
+        not_refused = not_refused;
+        plans = λ s wide over. record { is = empty; makes = subst (DropsColl rows c) (sym is) (no_coll_put rows c empty.there) };
+      })
       (ap (λ (p : Plan). p.read) is) work_is none
 
   -- each object has a layout
@@ -116,6 +137,14 @@ module _ (w : Width) (rows : Rows) (space : Space) (c : List ℕ) where
   remove_draft o draft plan not_refused taken good =
       let held = layout_of (Remove o) taken good in
       planned_on (Remove o) draft plan not_refused taken (λ x has. (refl, refl)) held.0 held.1
+
+  pub values_draft : (op : Op) (draft : Draft) (plan : Plan) → IsNotRefused rows (ask.Change (op_change c op)) → IsTaken rows c op
+      → AreRowsOfWidth w rows → IsOfValues op → IsFoundFor w c op rows space plan → plan.read ≡ [] → draft.work ≡ work.Planned plan
+      → draft.places ≡ [] → IsDraftFor w (op_change c op) rows space draft
+  values_draft op draft plan not_refused taken good of_values =
+      let held = layout_of op taken good in
+      planned_on op draft plan not_refused taken
+      (λ x has. let keeps = keeps_layout op x of_values in (keeps.no_unit, keeps.no_place)) held.0 held.1
 
   -- ---- an object that is edited, or stays missing
 

@@ -23,9 +23,10 @@ use Rattle.object_rows.specs.Prelude.{object_ops, FindsOps, none, replacing, Giv
 use Rattle.onode_state.specs.Objects.{IsStateOf}
 use Rattle.write_planner.specs.Touched.{units_touched}
 use Rattle.write_planner.proofs.LeftUnits.{left_touched}
+use Rattle.attr_omap.proofs.Changes.{none_change}
 use Rattle.txn_planner.specs.Operations.{IsEdit, IsFoundFor, IsPlanWith}
 use Rattle.txn_planner.proofs.Edited.{changed, unchanged}
-use Rattle.txn_planner.proofs.Operations.{taken_is_there, size_of, made_is, units_are, puts_are, reads_are}
+use Rattle.txn_planner.proofs.Operations.{keeps_values, taken_is_there, size_of, made_is, units_are, puts_are, reads_are}
 
 -- an edit, by what is given and what is found
 pub record Edits (w : Width) (rows : Rows) (space : Space) (c : List ℕ) (op : Op) (size : Option ℕ) (pages : PageMap) (firsts units : List ℕ)
@@ -130,6 +131,8 @@ module _ (s : Super) (rows : Rows) (space : Space) (over : AreFreeOver s rows sp
           units = units;
           enough = omega (arith, count, d.enough);
           lowest = d.lowest ∙ ap (λ n. take n (free_units space)) (sym count);
+          values = [];
+          changes = none_change rows c (object_of op) op (keeps_values op size d.edits);
           ops = ops;
           found = subst (λ y. FindsOps (width_of s) rows c (object_of op) l y ops) (sym made) ops_found;
           flips = p.flips;

@@ -6,3 +6,5 @@ pub mod Operations
 pub mod Found
 pub mod Stays
 pub mod Drafts
+pub mod ObjectsThere
+pub mod TakenOps

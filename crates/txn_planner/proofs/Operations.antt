@@ -5,13 +5,13 @@ use Rattle.std.specs.Option.{option_to_list, option_map_or}
 use Rattle.std.specs.FinMap as finite
 use Rattle.meta_rows.specs.Prelude.{Rows}
 use Rattle.object_model.specs.declared.op.Op.{Op}
-use Rattle.object_model.specs.declared.op.Op.TheVariants.{Touch, Write, Zero, Truncate, Remove}
+use Rattle.object_model.specs.declared.op.Op.TheVariants.{Touch, Write, Zero, Truncate, Remove, SetAttr, RmAttr, RmAttrs, OmapSet, OmapRm, OmapRmRange, OmapClear, OmapHeader}
 use Rattle.blob_map.specs.Prelude.{PageMap}
 use Rattle.unit_allocator.proofs.Lists.{Contains-head, Contains-tail, Contains-cases}
 use Rattle.plan_rows.specs.declared.plan.ReadUnit.{ReadUnit}
-use Rattle.plan_rows.specs.Prelude.{Edit, edit_of, own_units, units_at, pages_touched, pages_put, pages_read, places_read, puts_of, IsReadFor, Layout, or_empty, size_at, with_edit, made_of, edit_on, IsWithin, IsTaken, IsInColl, IsReadOf, object_of, puts_on, units_on, places_on, AreReadAt}
+use Rattle.plan_rows.specs.Prelude.{Edit, edit_of, own_units, units_at, pages_touched, pages_put, pages_read, places_read, puts_of, IsReadFor, Layout, or_empty, size_at, with_edit, made_of, edit_on, IsWithin, IsTaken, IsInColl, IsReadOf, object_of, puts_on, units_on, places_on, AreReadAt, ValueKey, value_after}
 use Rattle.object_rows.specs.Prelude.{IsOnObject}
-use Rattle.txn_planner.specs.Operations.{IsOfBytes, IsEdit}
+use Rattle.txn_planner.specs.Operations.{IsOfBytes, IsOfValues, IsEdit}
 
 -- ---- which operations they are
 
@@ -21,15 +21,21 @@ in_coll rows c (Write o off bytes) taken = taken.0
 in_coll rows c (Zero o off len) taken = taken.0
 in_coll rows c (Truncate o to) taken = taken.0
 in_coll rows c (Remove o) taken = taken
+in_coll rows c (SetAttr o name value) taken = taken.0.in_coll
+in_coll rows c (RmAttr o name) taken = taken.0.in_coll
+in_coll rows c (RmAttrs o) taken = taken
+in_coll rows c (OmapSet o pairs) taken = taken.0.in_coll
+in_coll rows c (OmapRm o keys) taken = taken.0.in_coll
+in_coll rows c (OmapRmRange o first last) taken = taken.in_coll
+in_coll rows c (OmapClear o) taken = taken
+in_coll rows c (OmapHeader o value) taken = taken.0.in_coll
 in_coll rows c op taken = absurd taken
 
 pub within_limit : (rows : Rows) (c : List ℕ) (op : Op) → IsTaken rows c op → IsWithin op
-within_limit rows c (Touch o) taken = tt
 within_limit rows c (Write o off bytes) taken = taken.2
 within_limit rows c (Zero o off len) taken = taken.1
 within_limit rows c (Truncate o to) taken = taken.1
-within_limit rows c (Remove o) taken = tt
-within_limit rows c op taken = absurd taken
+within_limit rows c op taken = tt
 
 pub of_bytes : (op : Op) (size : Option ℕ) → IsEdit op size → IsOfBytes op
 of_bytes (Write o off bytes) size edits = tt
@@ -43,6 +49,32 @@ on_object (Write o off bytes) is = tt
 on_object (Zero o off len) is = tt
 on_object (Truncate o to) is = tt
 on_object op is = absurd is
+
+-- an operation on bytes changes no value
+pub keeps_values : (op : Op) (size : Option ℕ) → IsEdit op size → (k : ValueKey) (old : Option (List ℕ)) → value_after op k old ≡ old
+keeps_values (Write o off bytes) size edits k old = refl
+keeps_values (Zero o off len) size edits k old = refl
+keeps_values (Truncate o to) (Some size) edits k old = refl
+keeps_values (Truncate o to) None edits k old = absurd edits
+keeps_values op size edits k old = absurd edits
+
+-- one on values takes no unit, and leaves the object's layout as it is
+pub record KeepsLayout (op : Op) (x : Option Layout) : Type 0 where
+  pub no_unit : units_on op x ≡ 0
+  pub no_place : places_on op x ≡ []
+  pub none_read : IsReadOf op x []
+  pub stays : x ≡ made_of op [] [] x
+
+pub keeps_layout : (op : Op) (x : Option Layout) → IsOfValues op → KeepsLayout op x
+keeps_layout (SetAttr o name value) x is = record { no_unit = refl; no_place = refl; none_read = refl; stays = refl }
+keeps_layout (RmAttr o name) x is = record { no_unit = refl; no_place = refl; none_read = refl; stays = refl }
+keeps_layout (RmAttrs o) x is = record { no_unit = refl; no_place = refl; none_read = refl; stays = refl }
+keeps_layout (OmapSet o pairs) x is = record { no_unit = refl; no_place = refl; none_read = refl; stays = refl }
+keeps_layout (OmapRm o keys) x is = record { no_unit = refl; no_place = refl; none_read = refl; stays = refl }
+keeps_layout (OmapRmRange o first last) x is = record { no_unit = refl; no_place = refl; none_read = refl; stays = refl }
+keeps_layout (OmapClear o) x is = record { no_unit = refl; no_place = refl; none_read = refl; stays = refl }
+keeps_layout (OmapHeader o value) x is = record { no_unit = refl; no_place = refl; none_read = refl; stays = refl }
+keeps_layout op x is = absurd is
 
 -- ---- lists
 

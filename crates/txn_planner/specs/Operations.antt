@@ -1,9 +1,12 @@
 -- The words of planning one operation.
 use Rattle.std.specs.Prelude.{◌≡◌, ℕ, ◌+◌, Bool, false, List, ◌++◌, length, nat_lt, Option, Some, None}
+use Rattle.std.specs.List.{AllByRecursion}
 use Rattle.unit_fields.specs.declared.width.Width.{Width}
 use Rattle.object_model.specs.declared.op.Op.{Op}
-use Rattle.object_model.specs.declared.op.Op.TheVariants.{Write, Zero, Truncate}
-use Rattle.object_model.specs.Prelude.{object_limit}
+use Rattle.object_model.specs.declared.op.Op.TheVariants.{Write, Zero, Truncate, SetAttr, RmAttr, RmAttrs, OmapSet, OmapRm, OmapRmRange, OmapClear, OmapHeader}
+use Rattle.object_model.specs.Prelude.{object_limit, any_value_long}
+use Rattle.object_model.specs.Effect.{value_limit}
+use Rattle.unit_fields.specs.Prelude.{IsName}
 use Rattle.meta_rows.specs.Prelude.{Rows}
 use Rattle.meta_rows.specs.declared.row_op.RowOp.{RowOp}
 use Rattle.meta_log.specs.declared.slot.Super.{Super}
@@ -24,11 +27,14 @@ abbrev pub fail_of : TakeFail → PlanFail
 fail_of (take.NoSpace need free) = fail.NoSpace need free
 fail_of take.Memory = fail.Memory
 
--- its bytes would end past the limit of an object
+-- its bytes would end past the limit of an object, or a value is too long
 abbrev pub is_beyond : Op → Bool
 is_beyond (Write o off bytes) = nat_lt object_limit (off + length bytes)
 is_beyond (Zero o off len) = nat_lt object_limit (off + len)
 is_beyond (Truncate o to) = nat_lt object_limit to
+is_beyond (SetAttr o name value) = nat_lt value_limit (length value)
+is_beyond (OmapSet o pairs) = any_value_long pairs
+is_beyond (OmapHeader o value) = nat_lt value_limit (length value)
 is_beyond op = false
 
 -- it is about the bytes of an object
@@ -37,6 +43,26 @@ IsOfBytes (Write o off bytes) = Unit {0}
 IsOfBytes (Zero o off len) = Unit {0}
 IsOfBytes (Truncate o to) = Unit {0}
 IsOfBytes op = ⊥
+
+-- it changes values of an object, and nothing else of it
+abbrev pub IsOfValues : Op → Type 0
+IsOfValues (SetAttr o name value) = Unit {0}
+IsOfValues (RmAttr o name) = Unit {0}
+IsOfValues (RmAttrs o) = Unit {0}
+IsOfValues (OmapSet o pairs) = Unit {0}
+IsOfValues (OmapRm o keys) = Unit {0}
+IsOfValues (OmapRmRange o first last) = Unit {0}
+IsOfValues (OmapClear o) = Unit {0}
+IsOfValues (OmapHeader o value) = Unit {0}
+IsOfValues op = ⊥
+
+-- the names and keys that it gives are names
+abbrev pub HasNames : Op → Type 0
+HasNames (SetAttr o name value) = IsName name
+HasNames (RmAttr o name) = IsName name
+HasNames (OmapSet o pairs) = AllByRecursion (λ p. IsName p.key) pairs
+HasNames (OmapRm o keys) = AllByRecursion IsName keys
+HasNames op = Unit {0}
 
 -- It edits the bytes of an object of this size: a write and zeros those of a missing one too, a truncate doesn't.
 abbrev pub IsEdit : Op → Option ℕ → Type 0

@@ -29,7 +29,15 @@ pub fn object_in(op: &Op) -> &Name
         | Op::Write { object, .. }
         | Op::Zero { object, .. }
         | Op::Truncate { object, .. }
-        | Op::Remove { object } => object,
+        | Op::Remove { object }
+        | Op::SetAttr { object, .. }
+        | Op::RmAttr { object, .. }
+        | Op::RmAttrs { object }
+        | Op::OmapSet { object, .. }
+        | Op::OmapRm { object, .. }
+        | Op::OmapRmRange { object, .. }
+        | Op::OmapClear { object }
+        | Op::OmapHeader { object, .. } => object,
         _ => unreachable!(),
     }
 }

@@ -12,6 +12,8 @@ mod edits;
 mod object_change;
 mod planning;
 mod plans;
+mod presence;
+mod taking;
 mod turns;
 
 pub use planning::{Draft, PlanFail, begin};

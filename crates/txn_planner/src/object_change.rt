@@ -6,35 +6,33 @@ ghost use Rattle.row_format.specs.Prelude.{shard_key};
 ghost use Rattle.blob_map.specs.Prelude.{extents_of};
 ghost use Rattle.object_rows.specs.Prelude.{says, drops, onode_ops, shard_ops, object_ops};
 ghost use Rattle.onode_state.specs.Objects.{IsSizeAt};
-ghost use Rattle.txn_planner.specs.Parts.{is_of, shard_put};
+ghost use Rattle.txn_planner.specs.Parts.{is_between, shard_put};
 
 use blob_map::PageMap;
 use byte_maps::{Bytes, Items};
+use extent_shards::{Shard, split};
 use meta_rows::{RowOp, RowTable};
 use onode_codec::{Onode, onode_key, shard_key};
 use std::alloc::{AllocError, Global};
 use std::cmp::Ordering;
 use unit_fields::{CollName, Name, Width};
 
-// Some of an object's shards, by their first pages.
+// Some of an object's shards, by their first pages: those behind a page and in front of another, where there are such.
 #[derive(Clone, Copy)]
-enum Part {
-    // All of them.
-    All,
-    // Those before this page.
-    Below(u32),
-    // Those behind it.
-    Above(u32),
+struct Part {
+    behind: Option<u32>,
+    before: Option<u32>,
 }
 
 impl Part {
     fn has(self, page: u32) -> bool
-        ensures { result ≡ is_of self page }
+        ensures { result ≡ is_between self.behind self.before page }
     {
-        match self {
-            Part::All => true,
-            Part::Below(end) => page < end,
-            Part::Above(last) => last < page,
+        match (self.behind, self.before) {
+            (None, None) => true,
+            (None, Some(before)) => page < before,
+            (Some(behind), None) => behind < page,
+            (Some(behind), Some(before)) => behind < page && page < before,
         }
     }
 }
@@ -116,7 +114,7 @@ fn drop_shards(
     present: &[u32],
     part: Part,
 ) -> Result<(), AllocError>
-    ensures { OnOk result (ops.new ≡ ops.old ++ drops coll.now object.now (filter (is_of part) present.now)) }
+    ensures { OnOk result (ops.new ≡ ops.old ++ drops coll.now object.now (filter (is_between part.behind part.before) present.now)) }
 {
     for page in present {
         if part.has(*page) {
@@ -126,7 +124,7 @@ fn drop_shards(
     Ok(())
 }
 
-// Sets the one shard with these pages, where the rows don't have it.
+// Sets a shard that begins at this page, where the rows don't have it.
 fn set_shard(
     alloc: Global,
     width: Width,
@@ -135,21 +133,20 @@ fn set_shard(
     coll: &CollName,
     object: &Name,
     first: u32,
-    pages: &PageMap,
+    shard: &Shard,
 ) -> Result<(), AllocError>
-    ensures { OnOk result (ops.new ≡ ops.old
-        ++ shard_put width rows.now.rows coll.now object.now first (extents_of (finite.entries pages.now))) }
+    ensures { OnOk result (ops.new ≡ ops.old ++ shard_put width rows.now.rows coll.now object.now first shard.now) }
 {
     let key = shard_key(alloc, coll, object, first)?;
-    let value = pages.to_value(alloc, width)?;
+    let value = shard.encode(alloc, width)?;
     if !says(rows, &key, &value) {
         ops.push(RowOp::Set { key, value })?;
     }
     Ok(())
 }
 
-// The one shard with these pages, and checksums of this width, takes the place of the present ones, where it would stand among them.
-// Without pages there is none.
+// The shards of these pages, with checksums of this width, take the place of the present ones: each stands where it would stand among them.
+// There is no bound on their bytes, so there is one, or none without pages.
 fn replace_shards(
     alloc: Global,
     width: Width,
@@ -163,13 +160,17 @@ fn replace_shards(
     ensures { OnOk result (ops.new ≡ ops.old
         ++ shard_ops width rows.now.rows coll.now object.now (extents_of (finite.entries pages.now)) present.now) }
 {
-    let Some(lowest) = pages.pages().first() else {
-        return drop_shards(alloc, ops, coll, object, present, Part::All);
-    };
-    let first = lowest.0;
-    drop_shards(alloc, ops, coll, object, present, Part::Below(first))?;
-    set_shard(alloc, width, rows, ops, coll, object, first, pages)?;
-    drop_shards(alloc, ops, coll, object, present, Part::Above(first))
+    let shards = split(alloc, width, pages, None)?;
+    let mut behind = None;
+    for shard in shards.as_slice() {
+        let first = shard.first_page();
+        let before = Some(first);
+        drop_shards(alloc, ops, coll, object, present, Part { behind, before })?;
+        set_shard(alloc, width, rows, ops, coll, object, first, shard)?;
+        behind = before;
+    }
+    let before = None;
+    drop_shards(alloc, ops, coll, object, present, Part { behind, before })
 }
 
 /// What gives an object that was so long, or missing, this size and these pages, or takes it away where there is no size.

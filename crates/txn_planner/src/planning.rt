@@ -5,25 +5,27 @@ ghost use Rattle.object_model.specs.declared.command.Command.TheVariants as ask;
 ghost use Rattle.meta_rows.specs.Prelude.{Rows};
 ghost use Rattle.read_facts.specs.Prelude.{IsNotRefused};
 ghost use Rattle.row_facts.specs.Operations.{coll_change};
-ghost use Rattle.object_rows.specs.Prelude.{op_change};
+ghost use Rattle.object_rows.specs.Prelude.{op_change, no_coll_change};
 ghost use Rattle.plan_rows.specs.Prelude.{IsKnown, IsTaken, AreReadAt};
 ghost use Rattle.unit_allocator.specs.Prelude.{Space};
 ghost use Rattle.unit_fields.specs.declared.width.Width.{Width};
 ghost use Rattle.onode_state.specs.Objects.{AreRowsOfWidth};
 ghost use Rattle.txn_planner.specs.Drafts.{places_of, IsDraftFor};
 ghost use Rattle.object_rows.specs.Prelude.{IsOnObject};
-ghost use Rattle.txn_planner.specs.Operations.{fail_of, IsOfBytes, is_beyond};
+ghost use Rattle.txn_planner.specs.Operations.{fail_of, IsOfBytes};
 ghost use Rattle.txn_planner.specs.PlanFails.{IsPlanFor, IsPlanFail};
 ghost use Rattle.txn_planner.specs.declared.planning.PlanFail.TheVariants.{Memory};
 ghost use Rattle.txn_planner.specs.declared.planning.Work.TheVariants.{Planned};
 
 use crate::edits::{object_in, places_needed, stays_missing, units_needed};
-use crate::plans::{collection_made, edited, has_collection, removed, touched, unchanged};
+use crate::plans::{collection_gone, collection_made, edited, removed, touched, unchanged, valued};
+use crate::presence::{has_collection, has_objects};
+use crate::taking::check_taken;
 use blob_map::Place;
 use byte_maps::Items;
 use meta_rows::RowTable;
-use object_model::{Op, Refusal, Transaction, ends_too_far};
-use onode_state::{ObjectState, coll_name_is_one, name_is_one, object_state};
+use object_model::{Op, Refusal, Transaction};
+use onode_state::{ObjectState, coll_name_is_one, object_state};
 use plan_rows::ReadUnit;
 use std::alloc::{AllocError, Global};
 use store_steps::Plan;
@@ -154,6 +156,7 @@ pub fn begin(
     }
     match txn.ops() {
         [Op::MkColl] => begin_collection(alloc, width, rows, space, txn.coll()),
+        [Op::RmColl] => begin_no_collection(alloc, width, rows, space, txn.coll()),
         [op] => begin_on_object(alloc, width, rows, space, txn.coll(), op),
         _ => unreachable!(),
     }
@@ -177,35 +180,26 @@ fn begin_collection(
     Ok(Draft::planned(alloc, plan))
 }
 
-// Whether the bytes that an operation is about end past the limit of an object.
-fn ends_beyond(op: &Op) -> bool
-    ensures { result ≡ is_beyond op.now }
-{
-    match op {
-        Op::Write { off, bytes, .. } => ends_too_far(*off, bytes.len() as u64),
-        Op::Zero { off, len, .. } => ends_too_far(*off, *len),
-        Op::Truncate { size, .. } => ends_too_far(0, *size),
-        _ => false,
-    }
-}
-
-// Refuses an operation on an object whose collection is missing, or whose bytes would end past its limit.
-fn check_taken(alloc: Global, rows: &RowTable, coll: &CollName, op: &Op) -> Result<(), PlanFail>
-    requires small { is_too_large (op_change coll.now op.now) ≡ false }
-    requires on { IsOnObject op.now }
-    ensures taken { OnOk result (IsTaken rows.now.rows coll.now op.now) }
-    ensures not_refused { OnOk result (IsNotRefused rows.now.rows (ask.Change (op_change coll.now op.now))) }
-    ensures fail { IfErr result (λ why. (w : Width) (space : Space) → IsPlanFail w (op_change coll.now op.now) rows.now.rows space why) }
+fn begin_no_collection(
+    alloc: Global,
+    width: Width,
+    rows: &RowTable,
+    space: &Allocator,
+    coll: &CollName,
+) -> Result<Draft, PlanFail>
+    requires good { AreRowsOfWidth width rows.now.rows }
+    ensures ok { IfOk result (IsDraftFor width (no_coll_change coll.now) rows.now.rows space.now) }
+    ensures fail { IfErr result (IsPlanFail width (no_coll_change coll.now) rows.now.rows space.now) }
 {
     coll_name_is_one(coll);
-    name_is_one(object_in(op));
     if !has_collection(alloc, rows, coll)? {
         return Err(PlanFail::Refusal(Refusal::NoCollection));
     }
-    if ends_beyond(op) {
-        return Err(PlanFail::Refusal(Refusal::TooBig));
+    if has_objects(alloc, width, rows, coll)? {
+        return Err(PlanFail::Refusal(Refusal::NotEmpty));
     }
-    Ok(())
+    let plan = collection_gone(alloc, coll)?;
+    Ok(Draft::planned(alloc, plan))
 }
 
 // The draft of a transaction of one operation on an object, which isn't too large.
@@ -233,7 +227,13 @@ fn begin_on_object(
             let plan = removed(alloc, width, rows, space, coll, object)?;
             Ok(Draft::planned(alloc, plan))
         }
-        _ => begin_edit(alloc, width, rows, space, coll, op),
+        Op::Write { .. } | Op::Zero { .. } | Op::Truncate { .. } => {
+            begin_edit(alloc, width, rows, space, coll, op)
+        }
+        _ => {
+            let plan = valued(alloc, width, rows, space, coll, op)?;
+            Ok(Draft::planned(alloc, plan))
+        }
     }
 }
 

@@ -1,51 +1,34 @@
 //! The plans of single operations.
-ghost use Rattle.std.specs.Prelude.{◌≡◌, Bool, true, false, Some, [], unwrap_or, IfOk};
+ghost use Rattle.std.specs.Prelude.{◌≡◌, Bool, true, false, Some, [], ◌∷◌, ◌++◌, unwrap_or, IfOk};
 ghost use Rattle.std.specs.FinMap as finite;
+ghost use Rattle.meta_rows.specs.declared.row_op.RowOp.TheVariants.{Drop};
 ghost use Rattle.object_model.specs.declared.op.Op.TheVariants.{Touch, Remove};
-ghost use Rattle.row_format.specs.Prelude.{coll_key, onode_key};
+ghost use Rattle.row_format.specs.Prelude.{coll_key};
 ghost use Rattle.row_facts.specs.Operations.{coll_ops};
 ghost use Rattle.blob_map.specs.Prelude.{extents_of};
 ghost use Rattle.object_rows.specs.Prelude.{object_ops};
 ghost use Rattle.plan_rows.specs.Prelude.{IsTaken, AreReadAt};
 ghost use Rattle.onode_state.specs.Objects.{AreRowsOfWidth, IsSizeAt};
 ghost use Rattle.txn_planner.specs.Drafts.{IsEditOn, places_for};
-ghost use Rattle.txn_planner.specs.Operations.{IsFoundFor, IsPlanWith};
+ghost use Rattle.txn_planner.specs.Operations.{IsFoundFor, IsOfValues, IsPlanWith};
 
 use crate::edits::{edit_pages, object_in, size_after};
 use crate::object_change::object_ops;
+use crate::presence::has_onode;
 use crate::turns::turned_bits;
+use attr_omap::{removal_ops, value_ops};
 use blob_map::PageMap;
 use byte_maps::{Bytes, Items};
 use meta_rows::{RowOp, RowTable};
 use object_model::Op;
-use onode_codec::{coll_key, onode_key};
-use onode_state::{ObjectState, coll_name_is_one, name_is_one, object_state};
+use onode_codec::coll_key;
+use onode_state::{ObjectState, object_state};
 use plan_rows::ReadUnit;
 use std::alloc::{AllocError, Global};
 use store_steps::{FreshUnit, Plan};
 use unit_allocator::Allocator;
 use unit_fields::{CollName, Name, UnitNo, Width};
 use write_planner::{Edited, plan_remove};
-
-/// Whether the collection is there.
-pub fn has_collection(alloc: Global, rows: &RowTable, coll: &CollName) -> Result<bool, AllocError>
-    ensures { IfOk result (λ there. there ≡ finite.contains_key rows.now.rows (coll_key coll.now)) }
-{
-    let key = coll_key(alloc, coll)?;
-    Ok(rows.get(key.as_slice()).is_some())
-}
-
-fn has_onode(
-    alloc: Global,
-    rows: &RowTable,
-    coll: &CollName,
-    object: &Name,
-) -> Result<bool, AllocError>
-    ensures { IfOk result (λ there. there ≡ finite.contains_key rows.now.rows (onode_key coll.now object.now)) }
-{
-    let key = onode_key(alloc, coll, object)?;
-    Ok(rows.get(key.as_slice()).is_some())
-}
 
 /// The plan that makes a collection.
 pub fn collection_made(alloc: Global, coll: &CollName) -> Result<Plan, AllocError>
@@ -55,6 +38,21 @@ pub fn collection_made(alloc: Global, coll: &CollName) -> Result<Plan, AllocErro
     let value = Bytes::new(alloc);
     let mut ops = Items::new(alloc);
     ops.push(RowOp::Set { key, value })?;
+    Ok(Plan {
+        ops,
+        fresh: Items::new(alloc),
+        released: Items::new(alloc),
+        read: Items::new(alloc),
+    })
+}
+
+/// The plan that takes a collection away.
+pub fn collection_gone(alloc: Global, coll: &CollName) -> Result<Plan, AllocError>
+    ensures { IfOk result (λ plan. plan ≡ record { ops = Drop (coll_key coll.now) ∷ []; fresh = []; released = []; read = [] }) }
+{
+    let key = coll_key(alloc, coll)?;
+    let mut ops = Items::new(alloc);
+    ops.push(RowOp::Drop { key })?;
     Ok(Plan {
         ops,
         fresh: Items::new(alloc),
@@ -83,6 +81,16 @@ fn plan_with(
         released,
         read,
     })
+}
+
+// Operations, and others behind them.
+fn joined(ops: Items<RowOp>, more: Items<RowOp>) -> Result<Items<RowOp>, AllocError>
+    ensures { IfOk result (λ all. all ≡ ops ++ more) }
+{
+    let mut all = ops.into_vec();
+    let mut more = more.into_vec();
+    all.append(&mut more)?;
+    Ok(Items::from_vec(all))
 }
 
 // The plan of these operations, which takes no unit.
@@ -131,7 +139,26 @@ pub fn touched(
     without_units(alloc, ops, Items::new(alloc))
 }
 
-/// The plan that takes an object away where it is there.
+/// The plan that changes values of an object alone.
+pub fn valued(
+    alloc: Global,
+    width: Width,
+    rows: &RowTable,
+    space: &Allocator,
+    coll: &CollName,
+    op: &Op,
+) -> Result<Plan, AllocError>
+    requires good { AreRowsOfWidth width rows.now.rows }
+    requires taken { IsTaken rows.now.rows coll.now op.now }
+    requires values { IsOfValues op.now }
+    ensures found { IfOk result (IsFoundFor width coll.now op.now rows.now.rows space.now) }
+    ensures read { IfOk result (λ plan. plan.read ≡ []) }
+{
+    let ops = value_ops(alloc, rows, coll, op)?;
+    without_units(alloc, ops, Items::new(alloc))
+}
+
+/// The plan that takes an object away where it is there, with its values.
 pub fn removed(
     alloc: Global,
     width: Width,
@@ -150,13 +177,14 @@ pub fn removed(
         pages,
         shards,
     } = object_state(alloc, width, rows, coll, object)?;
+    let values = removal_ops(alloc, rows, coll, object)?;
     if size.is_none() {
-        return unchanged(alloc);
+        return without_units(alloc, values, Items::new(alloc));
     }
     let none = PageMap::new(alloc);
     let ops = object_ops(alloc, width, rows, coll, object, size, None, &none, &shards)?;
     let released = plan_remove(alloc, &pages)?;
-    without_units(alloc, ops, released)
+    without_units(alloc, joined(values, ops)?, released)
 }
 
 // The operations that give an object this size and these pages: none where it has them, its pages by what the caller tells.

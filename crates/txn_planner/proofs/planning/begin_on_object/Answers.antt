@@ -1,4 +1,4 @@
-use Rattle.std.proofs.Common.{sym, subst}
+use Rattle.std.proofs.Common.{rules, sym, subst}
 use Rattle.object_model.specs.declared.op.Op.{Op}
 use Rattle.object_model.specs.declared.command.Command.TheVariants as ask
 use Rattle.read_facts.specs.Prelude.{IsNotRefused}
@@ -6,7 +6,7 @@ use Rattle.plan_rows.specs.Prelude.{IsTaken}
 use Rattle.object_rows.specs.Prelude.{op_change}
 use Rattle.txn_planner.specs.Drafts.{IsDraftFor}
 use Rattle.txn_planner.specs.PlanFails.{IsPlanFail}
-use Rattle.txn_planner.proofs.Drafts.{touch_draft, remove_draft, told_err}
+use Rattle.txn_planner.proofs.Drafts.{touch_draft, remove_draft, values_draft, told_err}
 use Rattle.txn_planner.proofs.planning.begin_on_object.Goals as goal
 
 pub returns-in_err-check_taken-clause-fail : goal.returns-in_err-check_taken-clause-fail
@@ -41,3 +41,11 @@ returns-in_ok-plan-in-Remove-clause-ok c =
     (subst (IsTaken rows coll) c.in-Remove.is c.in_ok-check_taken.ensures.taken)
     c.requires.good c.in_ok-plan-in-Remove.ensures.found c.in_ok-plan-in-Remove.ensures.read c.planned-in-Remove.ensures.work
     c.planned-in-Remove.ensures.places)
+
+pub returns-in_ok-plan-in_default : goal.returns-in_ok-plan-in_default
+returns-in_ok-plan-in_default c = record {
+  ok = values_draft c.args.width c.args.rows.now.rows c.args.space.now c.args.coll.now c.args.op.now c.planned-in_default.result c.in_ok-plan-in_default.plan
+      c.in_ok-check_taken.ensures.not_refused c.in_ok-check_taken.ensures.taken c.requires.good (search rules) c.in_ok-plan-in_default.ensures.found
+      c.in_ok-plan-in_default.ensures.read c.planned-in_default.ensures.work c.planned-in_default.ensures.places;
+  fail = tt;
+}

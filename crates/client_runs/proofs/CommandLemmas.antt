@@ -33,12 +33,9 @@ use Rattle.client_runs.specs.Prelude.{call_of, IsNoted, IsNotNoted, IsNotTurnedA
 
 -- operations that scripts can have are known to the store
 pub known_ops : (ops : List Op) → IsKnownChange ops → IsKnown ops
-known_ops (op.MkColl ∷ []) known = tt
-known_ops (op.Touch o ∷ []) known = tt
-known_ops (op.Write o off bytes ∷ []) known = tt
-known_ops (op.Zero o off len ∷ []) known = tt
-known_ops (op.Truncate o size ∷ []) known = tt
-known_ops (op.Remove o ∷ []) known = tt
+known_ops (op.Clone o to ∷ []) known = absurd known
+known_ops (op.CloneRange o to src len dst ∷ []) known = absurd known
+known_ops (o ∷ []) known = tt
 known_ops ops known = absurd known
 
 -- the command is no transaction
@@ -59,14 +56,8 @@ other_read (command.List coll) other = tt
 
 -- a read that scripts can have is known to the store
 known_read : (c : Command) → IsNoChange c → FitsWhat (what.Command c) → IsKnownRead c
-known_read (command.Read coll object off len) is fits = tt
-known_read (command.Sum coll object) is fits = tt
-known_read (command.Stat coll object) is fits = tt
-known_read (command.List coll) is fits = tt
 known_read (command.Change change) is fits = absurd is
-known_read (command.GetAttr coll object name) is fits = absurd fits
-known_read (command.OmapGet coll object key) is fits = absurd fits
-known_read (command.OmapHeader coll object) is fits = absurd fits
+known_read c is fits = tt
 
 -- a command that scripts can have, and that is no transaction, is a read that the store knows
 pub known_other : (c : Command) → ((change : Change) → c ≡ command.Change change → ⊥) → FitsWhat (what.Command c) → IsKnownRead c
@@ -171,18 +162,12 @@ submit_rose r (Ok accepted) A cause noted is = absurd cc
 
 -- a known read is a call that reads, and accepts nothing
 call_reads : (client line : ℕ) (c : Command) → IsKnownRead c → call_of client line c ≡ reading client line c
-call_reads client line (command.Read coll object off len) known = refl
-call_reads client line (command.Sum coll object) known = refl
-call_reads client line (command.Stat coll object) known = refl
-call_reads client line (command.List coll) known = refl
-call_reads client line c known = absurd known
+call_reads client line (command.Change change) known = absurd known
+call_reads client line c known = refl
 
 accepts_none : (c : Command) (a : Answer) → IsKnownRead c → is_some (accepted_change c a) ≡ false
-accepts_none (command.Read coll object off len) a known = refl
-accepts_none (command.Sum coll object) a known = refl
-accepts_none (command.Stat coll object) a known = refl
-accepts_none (command.List coll) a known = refl
-accepts_none c a known = absurd known
+accepts_none (command.Change change) a known = absurd known
+accepts_none c a known = refl
 
 -- a read that has no answer leaves the kernel as it was
 unanswered_same : (e : RunFail) (why : Unanswered) (client line : ℕ) (c : Command) (s : State) (d : Disk) (s' : State) (d' : Disk) → IsKnownRead c

@@ -5,7 +5,7 @@ ghost use Rattle.client_runs.specs.Choice.{asks_from};
 ghost use Rattle.client_runs.specs.Clients.{asks_left, IsAtCommand, IsClient, IsNewClient, is_able, TakesLine, one_more, one_less};
 
 use script_text::Line;
-use std::vec;
+use std::{mem, vec};
 
 /// A client of a run.
 #[derive(Drop)]
@@ -65,12 +65,11 @@ impl Client {
         requires some { is_some self.old.next ≡ true }
         ensures { TakesLine self.old result self.new }
     {
-        let Some(line) = self.next.take() else {
+        let (next, waits) = next_command(&mut self.rest);
+        self.waits = waits;
+        let Some(line) = mem::replace(&mut self.next, next) else {
             unreachable!();
         };
-        let (next, waits) = next_command(&mut self.rest);
-        self.next = next;
-        self.waits = waits;
         line
     }
 

@@ -7,5 +7,6 @@ pub mod StepTexts
 pub mod DumpTexts
 pub mod Printed
 pub mod Printing
+pub mod Dumping
 pub mod Reports
 pub mod Prelude

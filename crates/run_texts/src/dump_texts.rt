@@ -1,21 +1,21 @@
 //! The text of `dump`.
-ghost use Rattle.std.specs.Prelude.{◌≡◌, [], ◌∷◌, ◌++◌, map, codes};
+ghost use Rattle.std.specs.Prelude.{◌≡◌, [], ◌∷◌, ◌++◌, codes};
 ghost use Rattle.script_text.specs.Prelude.{escaped};
 ghost use Rattle.run_texts.specs.Printed.{output};
 ghost use Rattle.run_texts.specs.Printing.{Adds};
 ghost use Rattle.run_texts.specs.Texts.{as_text};
-ghost use Rattle.run_texts.specs.DumpTexts.{sum_text, view_line, coll_lines, walk_lines, is_bad, has_bad_object, has_bad_view};
-ghost use Rattle.run_texts.specs.DumpTexts.{last_lines, dump_text};
+ghost use Rattle.run_texts.specs.DumpTexts.{sum_text, view_line, value_line, value_lines, header_lines, object_lines, coll_lines, is_bad, last_lines};
 ghost use Rattle.run_texts.specs.Hex.{hex_sum};
 
 use crate::WorkEnd;
-use crate::hex::push_hex_sum;
+use crate::hex::{push_hex, push_hex_or_dash, push_hex_sum};
 use crate::names::push_name;
 use crate::printer::Printer;
 use crate::replies::push_csum;
 use crate::step_texts::push_fail;
 use end_points::Sink;
-use read_facts::{BadSum, CollView, ObjectView};
+use read_facts::{BadSum, ObjectView, ValueView};
+use unit_fields::CollName;
 
 /// Adds the checksum of an object's bytes.
 fn push_crc<K: Sink>(text: &mut Printer, out: &mut K, crc: u32)
@@ -37,7 +37,7 @@ fn push_sum<K: Sink>(text: &mut Printer, out: &mut K, sum: &Result<u32, BadSum>)
     }
 }
 
-/// Adds the line of an object.
+/// Adds the line of an object's name, size and checksum.
 fn push_view<K: Sink>(text: &mut Printer, out: &mut K, view: &ObjectView)
     ensures { Adds (view_line view.now ++ 10 ∷ []) text.old text.new
         (output (K.written out.old) (K.faults out.old)) (output (K.written out.new) (K.faults out.new)) }
@@ -51,61 +51,71 @@ fn push_view<K: Sink>(text: &mut Printer, out: &mut K, view: &ObjectView)
     text.push_str(out, "\n")
 }
 
-/// Adds the lines of objects.
-fn push_views<K: Sink>(text: &mut Printer, out: &mut K, views: &[ObjectView])
-    ensures { Adds (as_text (map view_line views.now)) text.old text.new
+/// Adds the line of a value of an object, behind a word for its kind.
+fn push_value<K: Sink>(text: &mut Printer, out: &mut K, word: &str, view: &ValueView)
+    ensures { Adds (value_line word.now view.now ++ 10 ∷ []) text.old text.new
         (output (K.written out.old) (K.faults out.old)) (output (K.written out.new) (K.faults out.new)) }
 {
-    for view in views {
-        push_view(text, out, view);
+    text.push_str(out, word);
+    push_name(text, out, view.name.as_slice());
+    text.push_str(out, " ");
+    push_hex_or_dash(text, out, view.value.as_slice());
+    text.push_str(out, "\n")
+}
+
+/// Adds the lines of an object's values of one kind.
+fn push_values<K: Sink>(text: &mut Printer, out: &mut K, word: &str, values: &[ValueView])
+    ensures { Adds (as_text (value_lines word.now values.now)) text.old text.new
+        (output (K.written out.old) (K.faults out.old)) (output (K.written out.new) (K.faults out.new)) }
+{
+    for value in values {
+        push_value(text, out, word, value);
     }
 }
 
-/// Adds the lines of a collection: its own, and those of the objects that were seen of it.
-fn push_coll<K: Sink>(text: &mut Printer, out: &mut K, view: &CollView)
-    ensures { Adds (as_text (coll_lines view.now)) text.old text.new
+/// Adds the line of an omap's header, unless it is empty.
+fn push_header<K: Sink>(text: &mut Printer, out: &mut K, header: &[u8])
+    ensures { Adds (as_text (header_lines header.now)) text.old text.new
+        (output (K.written out.old) (K.faults out.old)) (output (K.written out.new) (K.faults out.new)) }
+{
+    if header.is_empty() {
+        return;
+    }
+    text.push_str(out, "header ");
+    push_hex(text, out, header);
+    text.push_str(out, "\n")
+}
+
+/// Adds the lines of an object: its own, and those of its values.
+pub fn push_object<K: Sink>(text: &mut Printer, out: &mut K, view: &ObjectView)
+    ensures { Adds (as_text (object_lines view.now)) text.old text.new
+        (output (K.written out.old) (K.faults out.old)) (output (K.written out.new) (K.faults out.new)) }
+{
+    push_view(text, out, view);
+    push_values(text, out, "attr ", view.attrs.as_slice());
+    push_header(text, out, view.header.as_slice());
+    push_values(text, out, "omap ", view.omap.as_slice())
+}
+
+/// Adds the line of a collection.
+pub fn push_coll<K: Sink>(text: &mut Printer, out: &mut K, coll: &CollName)
+    ensures { Adds (as_text (coll_lines (record { coll = coll.now; objects = [] }))) text.old text.new
         (output (K.written out.old) (K.faults out.old)) (output (K.written out.new) (K.faults out.new)) }
 {
     text.push_str(out, "coll ");
-    push_name(text, out, view.coll.as_slice());
-    text.push_str(out, "\n");
-    push_views(text, out, view.objects.as_slice())
+    push_name(text, out, coll.as_slice());
+    text.push_str(out, "\n")
 }
 
-/// Adds the lines of a walk.
-fn push_walk<K: Sink>(text: &mut Printer, out: &mut K, walk: &[CollView])
-    ensures { Adds (as_text (walk_lines walk.now)) text.old text.new
-        (output (K.written out.old) (K.faults out.old)) (output (K.written out.new) (K.faults out.new)) }
-{
-    for view in walk {
-        push_coll(text, out, view);
-    }
-}
-
-fn is_bad(sum: &Result<u32, BadSum>) -> bool
+/// Whether an object has a bad unit: the run then has the status of a store that isn't mounted, whatever ends it.
+pub fn is_bad(sum: &Result<u32, BadSum>) -> bool
     ensures { result ≡ is_bad sum.now }
 {
     sum.is_err()
 }
 
-fn has_bad_object(view: &CollView) -> bool
-    ensures { result ≡ has_bad_object view.now }
-{
-    view.objects
-        .as_slice()
-        .iter()
-        .any(|object| is_bad(&object.sum))
-}
-
-/// Whether the walk has met an object with a bad unit: the run then has the status of a store that isn't mounted, whatever ends it.
-pub fn has_bad_view(walk: &[CollView]) -> bool
-    ensures { result ≡ has_bad_view walk.now }
-{
-    walk.iter().any(|view| has_bad_object(view))
-}
-
 /// Adds the lines behind those of objects, for a run that has met a bad unit, or not.
-fn push_last<K: Sink>(text: &mut Printer, out: &mut K, bad: bool, end: &WorkEnd)
+pub fn push_last<K: Sink>(text: &mut Printer, out: &mut K, bad: bool, end: &WorkEnd)
     ensures { Adds (as_text (last_lines bad end.now)) text.old text.new
         (output (K.written out.old) (K.faults out.old)) (output (K.written out.new) (K.faults out.new)) }
 {
@@ -113,13 +123,4 @@ fn push_last<K: Sink>(text: &mut Printer, out: &mut K, bad: bool, end: &WorkEnd)
         WorkEnd::Done { .. } => text.push_str(out, "end\n"),
         _ => push_fail(text, out, bad, end),
     }
-}
-
-/// Adds what a run of `dump` prints whose walk saw these collections, as far as it came, and that ended so.
-pub fn push_dump<K: Sink>(text: &mut Printer, out: &mut K, walk: &[CollView], end: &WorkEnd)
-    ensures { Adds (dump_text walk.now end.now) text.old text.new
-        (output (K.written out.old) (K.faults out.old)) (output (K.written out.new) (K.faults out.new)) }
-{
-    push_walk(text, out, walk);
-    push_last(text, out, has_bad_view(walk), end)
 }

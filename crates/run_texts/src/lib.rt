@@ -3,6 +3,7 @@
 //! still says what came of it.
 #![tactic(auto)]
 
+mod dump_printer;
 mod dump_texts;
 mod hex;
 mod names;
@@ -15,6 +16,7 @@ mod step_texts;
 mod texts;
 mod work_end;
 
-pub use reports::{report_dump, report_mkfs, report_step, show_usage};
+pub use dump_printer::DumpPrinter;
+pub use reports::{report_mkfs, report_step, show_usage};
 pub use status::{Status, Stop};
 pub use work_end::WorkEnd;

@@ -5,9 +5,8 @@ ghost use Rattle.run_texts.specs.Texts.{mkfs_text};
 ghost use Rattle.run_texts.specs.Printed.{Output, output, Printed};
 ghost use Rattle.run_texts.specs.Printing.{Adds, PrintedSoFar};
 ghost use Rattle.run_texts.specs.StepTexts.{end_status};
-ghost use Rattle.run_texts.specs.Reports.{ReportsMkfs, ReportsStep, ReportsDump, ShowedUsage};
+ghost use Rattle.run_texts.specs.Reports.{ReportsMkfs, ReportsStep, ShowedUsage};
 
-use crate::dump_texts::{has_bad_view, push_dump};
 use crate::printer::Printer;
 use crate::replies::has_csum;
 use crate::step_texts::push_step;
@@ -15,10 +14,10 @@ use crate::texts::{USAGE, push_made, push_stopped, push_too_small};
 use crate::{Status, Stop, WorkEnd};
 use end_points::{Fault, Sink};
 use object_model::Book;
-use read_facts::CollView;
 use std::alloc::Global;
 
-fn status_of(stop: Option<Stop>) -> Status
+/// How a run has ended whose work was done, or stopped for this.
+pub fn status_of(stop: Option<Stop>) -> Status
     ensures { number result ≡ end_number stop }
 {
     match stop {
@@ -28,7 +27,7 @@ fn status_of(stop: Option<Stop>) -> Status
 }
 
 /// Prints what still waits of a text, and says how the run has ended that has this status otherwise.
-fn print_rest<K: Sink>(text: Printer, out: &mut K, status: Status) -> Status
+pub fn print_rest<K: Sink>(text: Printer, out: &mut K, status: Status) -> Status
     ensures { (start : Output) (printed : List ℕ) → PrintedSoFar text.failed start printed text.bytes (output (K.written out.old) (K.faults out.old)) →
         Printed (number status) printed (number result) start (output (K.written out.new) (K.faults out.new)) }
 {
@@ -65,7 +64,7 @@ pub fn report_mkfs<K: Sink>(half: u32, units: u32, stop: Option<Stop>, out: &mut
 }
 
 /// What a run stopped for that has met a bad unit, or not, if its work wasn't done or the store showed a bad unit.
-fn run_stop(bad: bool, end: &WorkEnd) -> Option<Stop>
+pub fn run_stop(bad: bool, end: &WorkEnd) -> Option<Stop>
     ensures { end_number result ≡ end_status bad end.now }
 {
     if bad { Some(Stop::Refused) } else { end.stop() }
@@ -80,17 +79,6 @@ pub fn report_step<K: Sink>(alloc: Global, book: &Book, end: &WorkEnd, out: &mut
     let mut text = Printer::new();
     push_step(alloc, &mut text, out, book, end);
     let stop = run_stop(has_csum(book.entries.as_slice()), end);
-    print_rest(text, out, status_of(stop))
-}
-
-/// Prints what came of a run of `dump`, and says how the run has ended.
-pub fn report_dump<K: Sink>(walk: &[CollView], end: &WorkEnd, out: &mut K) -> Status
-    ensures { ReportsDump walk.now end.now (number result)
-        (output (K.written out.old) (K.faults out.old)) (output (K.written out.new) (K.faults out.new)) }
-{
-    let mut text = Printer::new();
-    push_dump(&mut text, out, walk, end);
-    let stop = run_stop(has_bad_view(walk), end);
     print_rest(text, out, status_of(stop))
 }
 

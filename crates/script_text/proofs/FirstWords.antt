@@ -1,26 +1,36 @@
 -- What a line can say that begins with a known word.
-use Rattle.std.proofs.Common.{◌≡◌, ◌≢◌, ℕ, false, List, [], ◌∷◌, refl, sym, ap, subst, ◌∙◌}
-use Rattle.std.specs.Prelude.{codes}
+use Rattle.std.proofs.Common.{◌≡◌, ◌≢◌, ℕ, true, false, List, [], ◌∷◌, refl, sym, ap, subst, ◌∙◌}
+use Rattle.std.specs.Prelude.{codes, Bool, ◌||◌}
 use Rattle.object_model.specs.Prelude.{Change}
 use Rattle.object_model.specs.declared.op.Op.{Op}
-use Rattle.object_model.specs.declared.op.Op.TheVariants.{MkColl, Touch, Write, Zero, Truncate, Remove}
+use Rattle.object_model.specs.declared.op.Op.TheVariants.{MkColl, RmColl, Touch, Write, Zero, Truncate, Remove, SetAttr, RmAttr, RmAttrs, OmapSet, OmapRm, OmapRmRange, OmapClear, OmapHeader}
 use Rattle.object_model.specs.declared.command.Command.{Command as Asked}
 use Rattle.object_model.specs.declared.command.Command.TheVariants as command
-use Rattle.script_text.specs.Prelude.{IsNameWord, IsNumber, op_word, AreArgs, AreChangeWords, AreReadWords, AreObjectWords, AreListWords, AreWordsOf}
+use Rattle.script_text.specs.Prelude.{IsNameWord, IsNumber, op_word, AreArgs, AreChangeWords, AreReadWords, AreObjectWords, AreValueWords, AreListWords, AreWordsOf}
 use Rattle.script_text.specs.declared.line.What.{What}
 use Rattle.script_text.specs.declared.line.What.TheVariants.{Command, Wait}
 use Rattle.script_text.proofs.Splits.{same_bytes, differ}
 use Rattle.script_text.proofs.Numbers.{same_number}
 use Rattle.script_text.proofs.Names.{same_name}
+use Rattle.script_text.proofs.OpWords.{is_op_word, no_op_word}
 
 -- none of the words that a transaction begins with
 pub record IsNoOpWord (word : List ℕ) : Type 0 where
   pub no_mkcoll : word ≢ codes "mkcoll"
+  pub no_rmcoll : word ≢ codes "rmcoll"
   pub no_touch : word ≢ codes "touch"
   pub no_write : word ≢ codes "write"
   pub no_zero : word ≢ codes "zero"
   pub no_truncate : word ≢ codes "truncate"
   pub no_remove : word ≢ codes "remove"
+  pub no_setattr : word ≢ codes "setattr"
+  pub no_rmattr : word ≢ codes "rmattr"
+  pub no_rmattrs : word ≢ codes "rmattrs"
+  pub no_omapset : word ≢ codes "omapset"
+  pub no_omaprm : word ≢ codes "omaprm"
+  pub no_omaprmrange : word ≢ codes "omaprmrange"
+  pub no_omapclear : word ≢ codes "omapclear"
+  pub no_omapheader : word ≢ codes "omapheader"
 
 -- none of the words that a line of several words begins with
 pub record IsOtherWord (word : List ℕ) : Type 0 where
@@ -28,47 +38,94 @@ pub record IsOtherWord (word : List ℕ) : Type 0 where
   pub no_read : word ≢ codes "read"
   pub no_sum : word ≢ codes "sum"
   pub no_stat : word ≢ codes "stat"
+  pub no_getattr : word ≢ codes "getattr"
+  pub no_omapget : word ≢ codes "omapget"
+  pub no_omaphdr : word ≢ codes "omaphdr"
   pub no_list : word ≢ codes "list"
 
--- lists of words that begin with two known words differ
-apart : (a b : List ℕ) (words more behind : List (List ℕ)) → same_bytes a b ≡ false → words ≡ a ∷ more → words ≡ b ∷ behind → ⊥
-apart a b words more behind test is also =
-    let both : a ∷ more ≡ b ∷ behind = sym is ∙ also in
+-- ---- the first word
+
+-- the word that a read or a `wait` begins with; none for a transaction, which has its operation's
+abbrev pub what_word : What → List ℕ
+what_word (Command (command.Change change)) = []
+what_word (Command (command.Read c o off len)) = codes "read"
+what_word (Command (command.Sum c o)) = codes "sum"
+what_word (Command (command.Stat c o)) = codes "stat"
+what_word (Command (command.GetAttr c o name)) = codes "getattr"
+what_word (Command (command.OmapGet c o key)) = codes "omapget"
+what_word (Command (command.OmapHeader c o)) = codes "omaphdr"
+what_word (Command (command.List c)) = codes "list"
+what_word Wait = codes "wait"
+
+-- it is one of these
+abbrev pub is_read_word : List ℕ → Bool
+is_read_word word = same_bytes word (codes "read") || same_bytes word (codes "sum") || same_bytes word (codes "stat") || same_bytes word (codes "getattr")
+    || same_bytes word (codes "omapget") || same_bytes word (codes "omaphdr") || same_bytes word (codes "list") || same_bytes word (codes "wait")
+
+-- the words begin with this one
+pub record BeginWith (word : List ℕ) (words : List (List ℕ)) : Type 0 where
+  pub more : List (List ℕ)
+  pub whole : words ≡ word ∷ more
+
+-- words that begin with two known words differ
+apart : (a b : List ℕ) (words ws : List (List ℕ)) → same_bytes a b ≡ false → words ≡ a ∷ ws → BeginWith b words → ⊥
+apart a b words ws test is begin =
+    let both : a ∷ ws ≡ b ∷ begin.more = sym is ∙ begin.whole in
     let first : a ≡ b = cc in differ a b test first
+
+object_begins : (word : List ℕ) (words : List (List ℕ)) (c o : List ℕ) → AreObjectWords word words c o → BeginWith word words
+object_begins word words c o say = record { more = c ∷ say.object_word ∷ []; whole = say.whole }
+
+value_begins : (word : List ℕ) (words : List (List ℕ)) (c o n : List ℕ) → AreValueWords word words c o n → BeginWith word words
+value_begins word words c o n say = record { more = c ∷ say.object_word ∷ say.name_word ∷ []; whole = say.whole }
+
+-- a transaction begins with its operation's word
+change_begins : (words : List (List ℕ)) (change : Change) (say : AreChangeWords words change) → BeginWith (op_word say.op) words
+change_begins words change say = record { more = change.coll ∷ say.args; whole = say.whole }
+
+-- what is no transaction begins with its word
+begins : (words : List (List ℕ)) (what : What) → what_word what ≢ [] → AreWordsOf words what → BeginWith (what_word what) words
+begins words (Command (command.Change change)) other say = absurd (other refl)
+begins words (Command (command.Read c o off len)) other say =
+    record { more = c ∷ say.object_word ∷ say.off_word ∷ say.len_word ∷ []; whole = say.whole }
+begins words (Command (command.Sum c o)) other say = object_begins (codes "sum") words c o say
+begins words (Command (command.Stat c o)) other say = object_begins (codes "stat") words c o say
+begins words (Command (command.GetAttr c o name)) other say = value_begins (codes "getattr") words c o name say
+begins words (Command (command.OmapGet c o key)) other say = value_begins (codes "omapget") words c o key say
+begins words (Command (command.OmapHeader c o)) other say = object_begins (codes "omaphdr") words c o say
+begins words (Command (command.List c)) other say = record { more = c ∷ []; whole = say.whole }
+begins words Wait other say = record { more = []; whole = say }
 
 -- a transaction begins with the word of an operation
 op_first : (word : List ℕ) (op : Op) (args : List (List ℕ)) → IsNoOpWord word → word ≡ op_word op → AreArgs args op → ⊥
 op_first word MkColl args none first about = none.no_mkcoll first
+op_first word RmColl args none first about = none.no_rmcoll first
 op_first word (Touch o) args none first about = none.no_touch first
 op_first word (Write o off bytes) args none first about = none.no_write first
 op_first word (Zero o off len) args none first about = none.no_zero first
 op_first word (Truncate o size) args none first about = none.no_truncate first
 op_first word (Remove o) args none first about = none.no_remove first
+op_first word (SetAttr o name value) args none first about = none.no_setattr first
+op_first word (RmAttr o name) args none first about = none.no_rmattr first
+op_first word (RmAttrs o) args none first about = none.no_rmattrs first
+op_first word (OmapSet o pairs) args none first about = none.no_omapset first
+op_first word (OmapRm o keys) args none first about = none.no_omaprm first
+op_first word (OmapRmRange o first_key last_key) args none first about = none.no_omaprmrange first
+op_first word (OmapClear o) args none first about = none.no_omapclear first
+op_first word (OmapHeader o value) args none first about = none.no_omapheader first
 op_first word op args none first about = about
 
--- words that begin with none of these are no transaction
-no_change : (word : List ℕ) (words more : List (List ℕ)) (change : Change) → IsNoOpWord word → words ≡ word ∷ more → AreChangeWords words change → ⊥
-no_change word words more change none is say =
-    let both : word ∷ more ≡ op_word say.op ∷ change.coll ∷ say.args = sym is ∙ say.whole in
-    let first : word ≡ op_word say.op = cc in op_first word say.op say.args none first say.about
-
--- a known word is none of them: the tests compute
-no_op_word : (word : List ℕ) → same_bytes word (codes "mkcoll") ≡ false → same_bytes word (codes "touch") ≡ false
-    → same_bytes word (codes "write") ≡ false → same_bytes word (codes "zero") ≡ false → same_bytes word (codes "truncate") ≡ false
-    → same_bytes word (codes "remove") ≡ false → IsNoOpWord word
-no_op_word word mkcoll touch write zero truncate remove = record {
-  no_mkcoll = differ word (codes "mkcoll") mkcoll;
-  no_touch = differ word (codes "touch") touch;
-  no_write = differ word (codes "write") write;
-  no_zero = differ word (codes "zero") zero;
-  no_truncate = differ word (codes "truncate") truncate;
-  no_remove = differ word (codes "remove") remove;
-}
+-- words that begin with another word are no transaction
+no_change : (word : List ℕ) (words ws : List (List ℕ)) (change : Change) → is_op_word word ≡ false → words ≡ word ∷ ws → AreChangeWords words change → ⊥
+no_change word words ws change test is say =
+    let both : word ∷ ws ≡ op_word say.op ∷ change.coll ∷ say.args = sym is ∙ say.whole in
+    let first : word ≡ op_word say.op = cc in no_op_word word say.op say.args test first say.about
 
 -- words that begin with another word say nothing, if they are several
 pub other_words : (word n : List ℕ) (ws : List (List ℕ)) (what : What) → IsOtherWord word → AreWordsOf (word ∷ n ∷ ws) what → ⊥
 other_words word n ws (Command (command.Change change)) other say =
-    no_change word (word ∷ n ∷ ws) (n ∷ ws) change other.no_op refl say
+    let both : word ∷ n ∷ ws ≡ op_word say.op ∷ change.coll ∷ say.args = say.whole in
+    let first : word ≡ op_word say.op = cc in op_first word say.op say.args other.no_op first say.about
 other_words word n ws (Command (command.Read c o off len)) other say =
     let both : word ∷ n ∷ ws ≡ codes "read" ∷ c ∷ say.object_word ∷ say.off_word ∷ say.len_word ∷ [] = say.whole in
     let first : word ≡ codes "read" = cc in other.no_read first
@@ -78,11 +135,19 @@ other_words word n ws (Command (command.Sum c o)) other say =
 other_words word n ws (Command (command.Stat c o)) other say =
     let both : word ∷ n ∷ ws ≡ codes "stat" ∷ c ∷ say.object_word ∷ [] = say.whole in
     let first : word ≡ codes "stat" = cc in other.no_stat first
+other_words word n ws (Command (command.OmapHeader c o)) other say =
+    let both : word ∷ n ∷ ws ≡ codes "omaphdr" ∷ c ∷ say.object_word ∷ [] = say.whole in
+    let first : word ≡ codes "omaphdr" = cc in other.no_omaphdr first
+other_words word n ws (Command (command.GetAttr c o name)) other say =
+    let both : word ∷ n ∷ ws ≡ codes "getattr" ∷ c ∷ say.object_word ∷ say.name_word ∷ [] = say.whole in
+    let first : word ≡ codes "getattr" = cc in other.no_getattr first
+other_words word n ws (Command (command.OmapGet c o key)) other say =
+    let both : word ∷ n ∷ ws ≡ codes "omapget" ∷ c ∷ say.object_word ∷ say.name_word ∷ [] = say.whole in
+    let first : word ≡ codes "omapget" = cc in other.no_omapget first
 other_words word n ws (Command (command.List c)) other say =
     let both : word ∷ n ∷ ws ≡ codes "list" ∷ c ∷ [] = say.whole in
     let first : word ≡ codes "list" = cc in other.no_list first
 other_words word n ws Wait other say = let both : word ∷ n ∷ ws ≡ codes "wait" ∷ [] = say in absurd cc
-other_words word n ws what other say = absurd say
 
 -- ---- what begins with a known word
 
@@ -92,21 +157,18 @@ pub record IsChangeLine (words : List (List ℕ)) (what : What) : Type 0 where
   pub says : what ≡ Command (command.Change change)
   pub are : AreChangeWords words change
 
+-- a word that no read begins with isn't such a word
+no_read_word : (word other : List ℕ) (words ws : List (List ℕ)) → is_read_word word ≡ false → is_read_word other ≡ true → words ≡ word ∷ ws → BeginWith other words → ⊥
+no_read_word word other words ws test also is begin =
+    let both : word ∷ ws ≡ other ∷ begin.more = sym is ∙ begin.whole in
+    let first : other ≡ word = cc in
+    let never : true ≡ false = sym also ∙ ap is_read_word first ∙ test in cc
+
 -- words that begin with none of these say a transaction
-pub change_only : (word : List ℕ) (ws : List (List ℕ)) (what : What) → same_bytes word (codes "read") ≡ false → same_bytes word (codes "sum") ≡ false
-    → same_bytes word (codes "stat") ≡ false
-    → same_bytes word (codes "list") ≡ false → same_bytes word (codes "wait") ≡ false → AreWordsOf (word ∷ ws) what → IsChangeLine (word ∷ ws) what
-change_only word ws (Command (command.Change change)) read sum stat list wait say = record { change = change; says = refl; are = say }
-change_only word ws (Command (command.Read c o off len)) read sum stat list wait say =
-    absurd (apart word (codes "read") (word ∷ ws) ws (c ∷ say.object_word ∷ say.off_word ∷ say.len_word ∷ []) read refl say.whole)
-change_only word ws (Command (command.Sum c o)) read sum stat list wait say =
-    absurd (apart word (codes "sum") (word ∷ ws) ws (c ∷ say.object_word ∷ []) sum refl say.whole)
-change_only word ws (Command (command.Stat c o)) read sum stat list wait say =
-    absurd (apart word (codes "stat") (word ∷ ws) ws (c ∷ say.object_word ∷ []) stat refl say.whole)
-change_only word ws (Command (command.List c)) read sum stat list wait say =
-    absurd (apart word (codes "list") (word ∷ ws) ws (c ∷ []) list refl say.whole)
-change_only word ws Wait read sum stat list wait say = absurd (apart word (codes "wait") (word ∷ ws) ws [] wait refl say)
-change_only word ws what read sum stat list wait say = absurd say
+pub change_only : (word : List ℕ) (ws : List (List ℕ)) (what : What) → is_read_word word ≡ false → AreWordsOf (word ∷ ws) what → IsChangeLine (word ∷ ws) what
+change_only word ws (Command (command.Change change)) test say = record { change = change; says = refl; are = say }
+change_only word ws what test say =
+    absurd (no_read_word word (what_word what) (word ∷ ws) ws test refl refl (begins (word ∷ ws) what (λ is. let never : what_word what ≡ [] = is in cc) say))
 
 -- the words say a read of an object's bytes
 pub record IsReadLine (words : List (List ℕ)) (what : What) : Type 0 where
@@ -117,18 +179,6 @@ pub record IsReadLine (words : List (List ℕ)) (what : What) : Type 0 where
   pub says : what ≡ Command (command.Read coll object off len)
   pub are : AreReadWords words coll object off len
 
--- what begins with `read`
-pub read_only : (words ws : List (List ℕ)) (what : What) → words ≡ codes "read" ∷ ws → AreWordsOf words what → IsReadLine words what
-read_only words ws (Command (command.Change change)) is say = absurd (no_change (codes "read") words ws change (no_op_word (codes "read") refl refl refl refl refl refl) is say)
-read_only words ws (Command (command.Read c o off len)) is say = record { coll = c; object = o; off = off; len = len; says = refl; are = say }
-read_only words ws (Command (command.Sum c o)) is say =
-    absurd (apart (codes "read") (codes "sum") words ws (c ∷ say.object_word ∷ []) refl is say.whole)
-read_only words ws (Command (command.Stat c o)) is say =
-    absurd (apart (codes "read") (codes "stat") words ws (c ∷ say.object_word ∷ []) refl is say.whole)
-read_only words ws (Command (command.List c)) is say = absurd (apart (codes "read") (codes "list") words ws (c ∷ []) refl is say.whole)
-read_only words ws Wait is say = absurd (apart (codes "read") (codes "wait") words ws [] refl is say)
-read_only words ws what is say = absurd say
-
 -- the words say a read of an object as a whole, of this form and with this word
 pub record IsObjectLine (word : List ℕ) (form : List ℕ → List ℕ → Asked) (words : List (List ℕ)) (what : What) : Type 0 where
   pub coll : List ℕ
@@ -136,31 +186,13 @@ pub record IsObjectLine (word : List ℕ) (form : List ℕ → List ℕ → Aske
   pub says : what ≡ Command (form coll object)
   pub are : AreObjectWords word words coll object
 
--- what begins with `sum`
-pub sum_only : (words ws : List (List ℕ)) (what : What) → words ≡ codes "sum" ∷ ws → AreWordsOf words what
-    → IsObjectLine (codes "sum") (λ c o. command.Sum c o) words what
-sum_only words ws (Command (command.Change change)) is say = absurd (no_change (codes "sum") words ws change (no_op_word (codes "sum") refl refl refl refl refl refl) is say)
-sum_only words ws (Command (command.Read c o off len)) is say =
-    absurd (apart (codes "sum") (codes "read") words ws (c ∷ say.object_word ∷ say.off_word ∷ say.len_word ∷ []) refl is say.whole)
-sum_only words ws (Command (command.Sum c o)) is say = record { coll = c; object = o; says = refl; are = say }
-sum_only words ws (Command (command.Stat c o)) is say =
-    absurd (apart (codes "sum") (codes "stat") words ws (c ∷ say.object_word ∷ []) refl is say.whole)
-sum_only words ws (Command (command.List c)) is say = absurd (apart (codes "sum") (codes "list") words ws (c ∷ []) refl is say.whole)
-sum_only words ws Wait is say = absurd (apart (codes "sum") (codes "wait") words ws [] refl is say)
-sum_only words ws what is say = absurd say
-
--- what begins with `stat`
-pub stat_only : (words ws : List (List ℕ)) (what : What) → words ≡ codes "stat" ∷ ws → AreWordsOf words what
-    → IsObjectLine (codes "stat") (λ c o. command.Stat c o) words what
-stat_only words ws (Command (command.Change change)) is say = absurd (no_change (codes "stat") words ws change (no_op_word (codes "stat") refl refl refl refl refl refl) is say)
-stat_only words ws (Command (command.Read c o off len)) is say =
-    absurd (apart (codes "stat") (codes "read") words ws (c ∷ say.object_word ∷ say.off_word ∷ say.len_word ∷ []) refl is say.whole)
-stat_only words ws (Command (command.Sum c o)) is say =
-    absurd (apart (codes "stat") (codes "sum") words ws (c ∷ say.object_word ∷ []) refl is say.whole)
-stat_only words ws (Command (command.Stat c o)) is say = record { coll = c; object = o; says = refl; are = say }
-stat_only words ws (Command (command.List c)) is say = absurd (apart (codes "stat") (codes "list") words ws (c ∷ []) refl is say.whole)
-stat_only words ws Wait is say = absurd (apart (codes "stat") (codes "wait") words ws [] refl is say)
-stat_only words ws what is say = absurd say
+-- the words say a read of a value of an object, of this form and with this word
+pub record IsValueLine (word : List ℕ) (form : List ℕ → List ℕ → List ℕ → Asked) (words : List (List ℕ)) (what : What) : Type 0 where
+  pub coll : List ℕ
+  pub object : List ℕ
+  pub name : List ℕ
+  pub says : what ≡ Command (form coll object name)
+  pub are : AreValueWords word words coll object name
 
 -- the words say a read of a collection's names
 pub record IsListLine (words : List (List ℕ)) (what : What) : Type 0 where
@@ -168,31 +200,61 @@ pub record IsListLine (words : List (List ℕ)) (what : What) : Type 0 where
   pub says : what ≡ Command (command.List coll)
   pub are : AreListWords words coll
 
+-- what begins with `read`
+pub read_only : (words ws : List (List ℕ)) (what : What) → words ≡ codes "read" ∷ ws → AreWordsOf words what → IsReadLine words what
+read_only words ws (Command (command.Read c o off len)) is say = record { coll = c; object = o; off = off; len = len; says = refl; are = say }
+read_only words ws (Command (command.Change change)) is say = absurd (no_change (codes "read") words ws change refl is say)
+read_only words ws what is say =
+    absurd (apart (codes "read") (what_word what) words ws refl is (begins words what (λ none. let never : what_word what ≡ [] = none in cc) say))
+
+-- what begins with `sum`
+pub sum_only : (words ws : List (List ℕ)) (what : What) → words ≡ codes "sum" ∷ ws → AreWordsOf words what → IsObjectLine (codes "sum") (λ c o. command.Sum c o) words what
+sum_only words ws (Command (command.Sum c o)) is say = record { coll = c; object = o; says = refl; are = say }
+sum_only words ws (Command (command.Change change)) is say = absurd (no_change (codes "sum") words ws change refl is say)
+sum_only words ws what is say =
+    absurd (apart (codes "sum") (what_word what) words ws refl is (begins words what (λ none. let never : what_word what ≡ [] = none in cc) say))
+
+-- what begins with `stat`
+pub stat_only : (words ws : List (List ℕ)) (what : What) → words ≡ codes "stat" ∷ ws → AreWordsOf words what → IsObjectLine (codes "stat") (λ c o. command.Stat c o) words what
+stat_only words ws (Command (command.Stat c o)) is say = record { coll = c; object = o; says = refl; are = say }
+stat_only words ws (Command (command.Change change)) is say = absurd (no_change (codes "stat") words ws change refl is say)
+stat_only words ws what is say =
+    absurd (apart (codes "stat") (what_word what) words ws refl is (begins words what (λ none. let never : what_word what ≡ [] = none in cc) say))
+
+-- what begins with `omaphdr`
+pub omaphdr_only : (words ws : List (List ℕ)) (what : What) → words ≡ codes "omaphdr" ∷ ws → AreWordsOf words what → IsObjectLine (codes "omaphdr") (λ c o. command.OmapHeader c o) words what
+omaphdr_only words ws (Command (command.OmapHeader c o)) is say = record { coll = c; object = o; says = refl; are = say }
+omaphdr_only words ws (Command (command.Change change)) is say = absurd (no_change (codes "omaphdr") words ws change refl is say)
+omaphdr_only words ws what is say =
+    absurd (apart (codes "omaphdr") (what_word what) words ws refl is (begins words what (λ none. let never : what_word what ≡ [] = none in cc) say))
+
+-- what begins with `getattr`
+pub getattr_only : (words ws : List (List ℕ)) (what : What) → words ≡ codes "getattr" ∷ ws → AreWordsOf words what → IsValueLine (codes "getattr") (λ c o n. command.GetAttr c o n) words what
+getattr_only words ws (Command (command.GetAttr c o n)) is say = record { coll = c; object = o; name = n; says = refl; are = say }
+getattr_only words ws (Command (command.Change change)) is say = absurd (no_change (codes "getattr") words ws change refl is say)
+getattr_only words ws what is say =
+    absurd (apart (codes "getattr") (what_word what) words ws refl is (begins words what (λ none. let never : what_word what ≡ [] = none in cc) say))
+
+-- what begins with `omapget`
+pub omapget_only : (words ws : List (List ℕ)) (what : What) → words ≡ codes "omapget" ∷ ws → AreWordsOf words what → IsValueLine (codes "omapget") (λ c o n. command.OmapGet c o n) words what
+omapget_only words ws (Command (command.OmapGet c o n)) is say = record { coll = c; object = o; name = n; says = refl; are = say }
+omapget_only words ws (Command (command.Change change)) is say = absurd (no_change (codes "omapget") words ws change refl is say)
+omapget_only words ws what is say =
+    absurd (apart (codes "omapget") (what_word what) words ws refl is (begins words what (λ none. let never : what_word what ≡ [] = none in cc) say))
+
 -- what begins with `list`
 pub list_only : (words ws : List (List ℕ)) (what : What) → words ≡ codes "list" ∷ ws → AreWordsOf words what → IsListLine words what
-list_only words ws (Command (command.Change change)) is say = absurd (no_change (codes "list") words ws change (no_op_word (codes "list") refl refl refl refl refl refl) is say)
-list_only words ws (Command (command.Read c o off len)) is say =
-    absurd (apart (codes "list") (codes "read") words ws (c ∷ say.object_word ∷ say.off_word ∷ say.len_word ∷ []) refl is say.whole)
-list_only words ws (Command (command.Sum c o)) is say =
-    absurd (apart (codes "list") (codes "sum") words ws (c ∷ say.object_word ∷ []) refl is say.whole)
-list_only words ws (Command (command.Stat c o)) is say =
-    absurd (apart (codes "list") (codes "stat") words ws (c ∷ say.object_word ∷ []) refl is say.whole)
 list_only words ws (Command (command.List c)) is say = record { coll = c; says = refl; are = say }
-list_only words ws Wait is say = absurd (apart (codes "list") (codes "wait") words ws [] refl is say)
-list_only words ws what is say = absurd say
+list_only words ws (Command (command.Change change)) is say = absurd (no_change (codes "list") words ws change refl is say)
+list_only words ws what is say =
+    absurd (apart (codes "list") (what_word what) words ws refl is (begins words what (λ none. let never : what_word what ≡ [] = none in cc) say))
 
 -- what begins with `wait`
 pub wait_only : (words ws : List (List ℕ)) (what : What) → words ≡ codes "wait" ∷ ws → AreWordsOf words what → what ≡ Wait
-wait_only words ws (Command (command.Change change)) is say = absurd (no_change (codes "wait") words ws change (no_op_word (codes "wait") refl refl refl refl refl refl) is say)
-wait_only words ws (Command (command.Read c o off len)) is say =
-    absurd (apart (codes "wait") (codes "read") words ws (c ∷ say.object_word ∷ say.off_word ∷ say.len_word ∷ []) refl is say.whole)
-wait_only words ws (Command (command.Sum c o)) is say =
-    absurd (apart (codes "wait") (codes "sum") words ws (c ∷ say.object_word ∷ []) refl is say.whole)
-wait_only words ws (Command (command.Stat c o)) is say =
-    absurd (apart (codes "wait") (codes "stat") words ws (c ∷ say.object_word ∷ []) refl is say.whole)
-wait_only words ws (Command (command.List c)) is say = absurd (apart (codes "wait") (codes "list") words ws (c ∷ []) refl is say.whole)
 wait_only words ws Wait is say = refl
-wait_only words ws what is say = absurd say
+wait_only words ws (Command (command.Change change)) is say = absurd (no_change (codes "wait") words ws change refl is say)
+wait_only words ws what is say =
+    absurd (apart (codes "wait") (what_word what) words ws refl is (begins words what (λ none. let never : what_word what ≡ [] = none in cc) say))
 
 -- ---- the same words say the same
 
@@ -226,3 +288,15 @@ pub list_same : (words : List (List ℕ)) (c d : List ℕ) → AreListWords word
 list_same words c d x y =
     let both : codes "list" ∷ c ∷ [] ≡ codes "list" ∷ d ∷ [] = sym x.whole ∙ y.whole in
     let colls : c ≡ d = cc in ap (λ (l : List ℕ). command.List l) colls
+
+-- the words of a read of a value give its names
+pub value_same : (word : List ℕ) (form : List ℕ → List ℕ → List ℕ → Asked) (words : List (List ℕ)) (c d o p n m : List ℕ) → AreValueWords word words c o n
+    → AreValueWords word words d p m → form c o n ≡ form d p m
+value_same word form words c d o p n m x y =
+    let both : word ∷ c ∷ x.object_word ∷ x.name_word ∷ [] ≡ word ∷ d ∷ y.object_word ∷ y.name_word ∷ [] = sym x.whole ∙ y.whole in
+    let colls : c ≡ d = cc in
+    let object_words : y.object_word ≡ x.object_word = cc in
+    let name_words : y.name_word ≡ x.name_word = cc in
+    let objects : o ≡ p = same_name x.object_word o p x.names (subst (λ (w : List ℕ). IsNameWord w p) object_words y.names) in
+    let names : n ≡ m = same_name x.name_word n m x.called (subst (λ (w : List ℕ). IsNameWord w m) name_words y.called) in
+    ap (λ (l : List ℕ). form l o n) colls ∙ ap (λ (l : List ℕ). form d l n) objects ∙ ap (λ (l : List ℕ). form d p l) names

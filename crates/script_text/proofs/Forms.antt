@@ -7,19 +7,20 @@ use Rattle.std.proofs.lemmas.Fmt.{digits_is_IsNumeral, decimal_is_IsNumeral}
 use Rattle.unit_fields.specs.Prelude.{IsCollName, head_suffix}
 use Rattle.object_model.specs.Prelude.{Change}
 use Rattle.object_model.specs.declared.op.Op.{Op}
-use Rattle.object_model.specs.declared.op.Op.TheVariants.{MkColl, Touch, Write, Zero, Truncate, Remove}
+use Rattle.object_model.specs.declared.op.Op.TheVariants.{MkColl, RmColl, Touch, Write, Zero, Truncate, Remove, SetAttr, RmAttr, RmAttrs, OmapSet, OmapRm, OmapRmRange, OmapClear, OmapHeader}
+use Rattle.object_model.specs.declared.op.Pair.{Pair}
 use Rattle.object_model.specs.declared.command.Command.TheVariants as command
-use Rattle.script_text.specs.Prelude.{HasNo, AreWords, in_words, IsNameWord, IsNumber, IsDataWord, op_word, AreObjectArgs, AreWriteArgs, AreRangeArgs, AreSizeArgs, AreArgs, AreChangeWords, AreReadWords, AreObjectWords, AreListWords, AreWordsOf, FitsWhat, IsLineOf, op_line, IsPassedOver, NamesObject, NamesRange, NamesSize, Reads, ReadsWords}
+use Rattle.script_text.specs.Prelude.{HasNo, AreWords, in_words, IsNameWord, IsNumber, IsDataWord, op_word, AreObjectArgs, AreWriteArgs, AreRangeArgs, AreSizeArgs, AreNameArgs, AreDataArgs, AreAttrArgs, AreKeyRangeArgs, AreKeyWords, ArePairWords, AreKeysArgs, ArePairsArgs, AreArgs, AreChangeWords, AreReadWords, AreObjectWords, AreValueWords, AreListWords, AreWordsOf, FitsWhat, IsLineOf, op_line, IsPassedOver, NamesObject, NamesRange, NamesSize, Reads, ReadsWords}
 use Rattle.script_text.specs.declared.line.What.{What}
 use Rattle.script_text.specs.declared.line.What.TheVariants.{Command, Wait}
-use Rattle.script_text.proofs.Splits.{parts, no_part, has_no-append, lacks, has_none, same_bytes}
+use Rattle.script_text.proofs.Splits.{parts, no_part, has_no-append, lacks, has_none}
 use Rattle.script_text.proofs.Numbers.{no_space_digits, number_no_space}
 use Rattle.script_text.proofs.Names.{name_no_space}
 use Rattle.script_text.proofs.DataWords.{data_no_space}
 use Rattle.script_text.proofs.Words.{same_words}
-use Rattle.script_text.proofs.OpWords.{IsWriteOp, known_args, mkcoll_only, touch_only, write_only, zero_only, truncate_only, remove_only, op_same}
-use Rattle.script_text.proofs.FirstWords.{IsOtherWord, other_words, change_only, read_only, sum_only, stat_only, list_only, wait_only}
-use Rattle.script_text.proofs.FirstWords.{read_same, object_same, list_same}
+use Rattle.script_text.proofs.OpWords.{IsWriteOp, known_args, mkcoll_only, rmcoll_only, touch_only, write_only, zero_only, truncate_only, remove_only, op_same}
+use Rattle.script_text.proofs.FirstWords.{IsOtherWord, is_read_word, other_words, change_only, read_only, sum_only, stat_only, getattr_only, omapget_only, omaphdr_only, list_only, wait_only}
+use Rattle.script_text.proofs.FirstWords.{read_same, object_same, value_same, list_same}
 
 -- what is known of a result that is Ok
 pub if_ok : {X E : Type 0} (P Q : X → Type 0) (r : Result X E) → ((x : X) → P x → Q x) → IfOk r P → IfOk r Q
@@ -66,6 +67,48 @@ size_args_words args object size is = subst AreWords (sym is.words) (
   (number_no_space is.size_word size is.sized, tt),
 )
 
+pub name_args_words : (args : List (List ℕ)) (object name : List ℕ) → AreNameArgs args object name → AreWords args
+name_args_words args object name is = subst AreWords (sym is.words) (
+  name_no_space is.object_word object is.names,
+  (name_no_space is.name_word name is.called, tt),
+)
+
+pub data_args_words : (args : List (List ℕ)) (object value : List ℕ) → AreDataArgs args object value → AreWords args
+data_args_words args object value is = subst AreWords (sym is.words) (
+  name_no_space is.object_word object is.names,
+  (data_no_space is.data_word value is.holds, tt),
+)
+
+pub attr_args_words : (args : List (List ℕ)) (object name value : List ℕ) → AreAttrArgs args object name value → AreWords args
+attr_args_words args object name value is = subst AreWords (sym is.words) (
+  name_no_space is.object_word object is.names,
+  (name_no_space is.name_word name is.called, (data_no_space is.data_word value is.holds, tt)),
+)
+
+pub key_range_args_words : (args : List (List ℕ)) (object first last : List ℕ) → AreKeyRangeArgs args object first last → AreWords args
+key_range_args_words args object first last is = subst AreWords (sym is.words) (
+  name_no_space is.object_word object is.names,
+  (name_no_space is.first_word first is.begins, (name_no_space is.last_word last is.ends, tt)),
+)
+
+pub key_words_are : (words keys : List (List ℕ)) → AreKeyWords words keys → AreWords words
+key_words_are [] keys are = tt
+key_words_are (w ∷ words) [] are = absurd are
+key_words_are (w ∷ words) (k ∷ keys) are = (name_no_space w k are.0, key_words_are words keys are.1)
+
+pub pair_words_are : (words : List (List ℕ)) (pairs : List Pair) → ArePairWords words pairs → AreWords words
+pair_words_are [] pairs are = tt
+pair_words_are (w ∷ []) pairs are = absurd are
+pair_words_are (w ∷ v ∷ words) [] are = absurd are
+pair_words_are (w ∷ v ∷ words) (p ∷ pairs) are =
+    (name_no_space w p.key are.0, (data_no_space v p.value are.1, pair_words_are words pairs are.2))
+
+keys_args_words : (args : List (List ℕ)) (object : List ℕ) (keys : List (List ℕ)) → AreKeysArgs args object keys → AreWords args
+keys_args_words args object keys is = subst AreWords (sym is.words) (name_no_space is.object_word object is.names, key_words_are is.key_words keys is.spell)
+
+pairs_args_words : (args : List (List ℕ)) (object : List ℕ) (pairs : List Pair) → ArePairsArgs args object pairs → AreWords args
+pairs_args_words args object pairs is = subst AreWords (sym is.words) (name_no_space is.object_word object is.names, pair_words_are is.pair_words pairs is.spell)
+
 -- the words behind a collection's
 pub args_words : (op : Op) (args : List (List ℕ)) → AreArgs args op → AreWords args
 args_words MkColl args is = subst AreWords (sym is) tt
@@ -74,57 +117,45 @@ args_words (Write o off bytes) args is = write_args_words args o off bytes is
 args_words (Zero o off len) args is = range_args_words args o off len is
 args_words (Truncate o size) args is = size_args_words args o size is
 args_words (Remove o) args is = object_args_words args o is
+args_words RmColl args is = subst AreWords (sym is) tt
+args_words (SetAttr o name value) args is = attr_args_words args o name value is
+args_words (RmAttr o name) args is = name_args_words args o name is
+args_words (RmAttrs o) args is = object_args_words args o is
+args_words (OmapSet o pairs) args is = pairs_args_words args o pairs is
+args_words (OmapRm o keys) args is = keys_args_words args o keys is
+args_words (OmapRmRange o first last) args is = key_range_args_words args o first last is
+args_words (OmapClear o) args is = object_args_words args o is
+args_words (OmapHeader o value) args is = data_args_words args o value is
 args_words op args is = absurd is
 
+-- a known word, a collection's and others
+word_worded : (first : ℕ) (word coll : List ℕ) (args : List (List ℕ)) → 0x61 ≤ first → lacks 0x20 (first ∷ word) ≡ true → HasNo 0x20 coll → AreWords args
+    → IsWorded ((first ∷ word) ∷ coll ∷ args)
+word_worded first word coll args letter test none are = record {
+  first = first;
+  word = word;
+  behind = coll ∷ args;
+  letter = letter;
+  whole = refl;
+  no_spaces = (has_none 0x20 (first ∷ word) test, (none, are));
+}
+
 op_worded : (op : Op) (coll : List ℕ) (args : List (List ℕ)) → HasNo 0x20 coll → AreArgs args op → IsWorded (op_word op ∷ coll ∷ args)
-op_worded MkColl coll args none is = record {
-  first = 0x6d;
-  word = codes "kcoll";
-  behind = coll ∷ args;
-  letter = omega arith;
-  whole = refl;
-  no_spaces = (has_none 0x20 (codes "mkcoll") refl, (none, args_words MkColl args is));
-}
-op_worded (Touch o) coll args none is = record {
-  first = 0x74;
-  word = codes "ouch";
-  behind = coll ∷ args;
-  letter = omega arith;
-  whole = refl;
-  no_spaces = (has_none 0x20 (codes "touch") refl, (none, args_words (Touch o) args is));
-}
-op_worded (Write o off bytes) coll args none is = record {
-  first = 0x77;
-  word = codes "rite";
-  behind = coll ∷ args;
-  letter = omega arith;
-  whole = refl;
-  no_spaces = (has_none 0x20 (codes "write") refl, (none, args_words (Write o off bytes) args is));
-}
-op_worded (Zero o off len) coll args none is = record {
-  first = 0x7a;
-  word = codes "ero";
-  behind = coll ∷ args;
-  letter = omega arith;
-  whole = refl;
-  no_spaces = (has_none 0x20 (codes "zero") refl, (none, args_words (Zero o off len) args is));
-}
-op_worded (Truncate o size) coll args none is = record {
-  first = 0x74;
-  word = codes "runcate";
-  behind = coll ∷ args;
-  letter = omega arith;
-  whole = refl;
-  no_spaces = (has_none 0x20 (codes "truncate") refl, (none, args_words (Truncate o size) args is));
-}
-op_worded (Remove o) coll args none is = record {
-  first = 0x72;
-  word = codes "emove";
-  behind = coll ∷ args;
-  letter = omega arith;
-  whole = refl;
-  no_spaces = (has_none 0x20 (codes "remove") refl, (none, args_words (Remove o) args is));
-}
+op_worded MkColl coll args none is = word_worded 0x6d (codes "kcoll") coll args (omega arith) refl none (args_words MkColl args is)
+op_worded RmColl coll args none is = word_worded 0x72 (codes "mcoll") coll args (omega arith) refl none (args_words RmColl args is)
+op_worded (Touch o) coll args none is = word_worded 0x74 (codes "ouch") coll args (omega arith) refl none (args_words (Touch o) args is)
+op_worded (Write o off bytes) coll args none is = word_worded 0x77 (codes "rite") coll args (omega arith) refl none (args_words (Write o off bytes) args is)
+op_worded (Zero o off len) coll args none is = word_worded 0x7a (codes "ero") coll args (omega arith) refl none (args_words (Zero o off len) args is)
+op_worded (Truncate o size) coll args none is = word_worded 0x74 (codes "runcate") coll args (omega arith) refl none (args_words (Truncate o size) args is)
+op_worded (Remove o) coll args none is = word_worded 0x72 (codes "emove") coll args (omega arith) refl none (args_words (Remove o) args is)
+op_worded (SetAttr o name value) coll args none is = word_worded 0x73 (codes "etattr") coll args (omega arith) refl none (args_words (SetAttr o name value) args is)
+op_worded (RmAttr o name) coll args none is = word_worded 0x72 (codes "mattr") coll args (omega arith) refl none (args_words (RmAttr o name) args is)
+op_worded (RmAttrs o) coll args none is = word_worded 0x72 (codes "mattrs") coll args (omega arith) refl none (args_words (RmAttrs o) args is)
+op_worded (OmapSet o pairs) coll args none is = word_worded 0x6f (codes "mapset") coll args (omega arith) refl none (args_words (OmapSet o pairs) args is)
+op_worded (OmapRm o keys) coll args none is = word_worded 0x6f (codes "maprm") coll args (omega arith) refl none (args_words (OmapRm o keys) args is)
+op_worded (OmapRmRange o key_first key_last) coll args none is = word_worded 0x6f (codes "maprmrange") coll args (omega arith) refl none (args_words (OmapRmRange o key_first key_last) args is)
+op_worded (OmapClear o) coll args none is = word_worded 0x6f (codes "mapclear") coll args (omega arith) refl none (args_words (OmapClear o) args is)
+op_worded (OmapHeader o value) coll args none is = word_worded 0x6f (codes "mapheader") coll args (omega arith) refl none (args_words (OmapHeader o value) args is)
 op_worded op coll args none is = absurd is
 
 -- the words of a read of an object as a whole
@@ -137,6 +168,18 @@ object_worded first word words c o letter none say = subst IsWorded (sym say.who
   letter = letter;
   whole = refl;
   no_spaces = (none, (coll_no_space c say.named, (name_no_space say.object_word o say.names, tt)));
+})
+
+-- the words of a read of a value of an object
+value_worded : (first : ℕ) (word : List ℕ) (words : List (List ℕ)) (c o n : List ℕ) → 0x61 ≤ first → HasNo 0x20 (first ∷ word)
+    → AreValueWords (first ∷ word) words c o n → IsWorded words
+value_worded first word words c o n letter none say = subst IsWorded (sym say.whole) (record {
+  first = first;
+  word = word;
+  behind = c ∷ say.object_word ∷ say.name_word ∷ [];
+  letter = letter;
+  whole = refl;
+  no_spaces = (none, (coll_no_space c say.named, (name_no_space say.object_word o say.names, (name_no_space say.name_word n say.called, tt))));
 })
 
 -- the words of a read of an object's bytes
@@ -177,6 +220,9 @@ worded words (Command (command.Change change)) say =
 worded words (Command (command.Read c o off len)) say = read_worded words c o off len say
 worded words (Command (command.Sum c o)) say = object_worded 0x73 (codes "um") words c o (omega arith) (has_none 0x20 (codes "sum") refl) say
 worded words (Command (command.Stat c o)) say = object_worded 0x73 (codes "tat") words c o (omega arith) (has_none 0x20 (codes "stat") refl) say
+worded words (Command (command.GetAttr c o n)) say = value_worded 0x67 (codes "etattr") words c o n (omega arith) (has_none 0x20 (codes "getattr") refl) say
+worded words (Command (command.OmapGet c o n)) say = value_worded 0x6f (codes "mapget") words c o n (omega arith) (has_none 0x20 (codes "omapget") refl) say
+worded words (Command (command.OmapHeader c o)) say = object_worded 0x6f (codes "maphdr") words c o (omega arith) (has_none 0x20 (codes "omaphdr") refl) say
 worded words (Command (command.List c)) say = list_worded words c say
 worded words Wait say = record {
   first = 0x77;
@@ -186,7 +232,6 @@ worded words Wait say = record {
   whole = say;
   no_spaces = (has_none 0x20 (codes "wait") refl, tt);
 }
-worded words what say = absurd say
 
 -- the words of a line are the only ones
 pub line_words : (w : List ℕ) (ws : List (List ℕ)) (text : List ℕ) (what : What) → AreWords (w ∷ ws) → text ≡ in_words (w ∷ ws) → IsLineOf text what
@@ -276,6 +321,27 @@ stat_says_one words c o b x y =
     let is = stat_only words (c ∷ x.object_word ∷ []) b x.whole y in
     ap Command (object_same (codes "stat") (λ d p. command.Stat d p) words c is.coll o is.object x is.are) ∙ sym is.says
 
+-- words that say to read an attribute say nothing else
+getattr_says_one : (words : List (List ℕ)) (c o n : List ℕ) (b : What) → AreValueWords (codes "getattr") words c o n → AreWordsOf words b
+    → Command (command.GetAttr c o n) ≡ b
+getattr_says_one words c o n b x y =
+    let is = getattr_only words (c ∷ x.object_word ∷ x.name_word ∷ []) b x.whole y in
+    ap Command (value_same (codes "getattr") (λ d p m. command.GetAttr d p m) words c is.coll o is.object n is.name x is.are) ∙ sym is.says
+
+-- words that say to read a value of the omap say nothing else
+omapget_says_one : (words : List (List ℕ)) (c o n : List ℕ) (b : What) → AreValueWords (codes "omapget") words c o n → AreWordsOf words b
+    → Command (command.OmapGet c o n) ≡ b
+omapget_says_one words c o n b x y =
+    let is = omapget_only words (c ∷ x.object_word ∷ x.name_word ∷ []) b x.whole y in
+    ap Command (value_same (codes "omapget") (λ d p m. command.OmapGet d p m) words c is.coll o is.object n is.name x is.are) ∙ sym is.says
+
+-- words that say to read the header say nothing else
+omaphdr_says_one : (words : List (List ℕ)) (c o : List ℕ) (b : What) → AreObjectWords (codes "omaphdr") words c o → AreWordsOf words b
+    → Command (command.OmapHeader c o) ≡ b
+omaphdr_says_one words c o b x y =
+    let is = omaphdr_only words (c ∷ x.object_word ∷ []) b x.whole y in
+    ap Command (object_same (codes "omaphdr") (λ d p. command.OmapHeader d p) words c is.coll o is.object x is.are) ∙ sym is.says
+
 -- words that say a list say nothing else
 list_says_one : (words : List (List ℕ)) (c : List ℕ) (b : What) → AreListWords words c → AreWordsOf words b → Command (command.List c) ≡ b
 list_says_one words c b x y = let is = list_only words (c ∷ []) b x.whole y in ap Command (list_same words c is.coll x is.are) ∙ sym is.says
@@ -292,15 +358,22 @@ words_say_one words (Command (command.Change c)) (Command (command.Read d o off 
     sym (read_says_one words d o off len (Command (command.Change c)) y x)
 words_say_one words (Command (command.Change c)) (Command (command.Sum d o)) x y = sym (sum_says_one words d o (Command (command.Change c)) y x)
 words_say_one words (Command (command.Change c)) (Command (command.Stat d o)) x y = sym (stat_says_one words d o (Command (command.Change c)) y x)
+words_say_one words (Command (command.Change c)) (Command (command.GetAttr d o n)) x y =
+    sym (getattr_says_one words d o n (Command (command.Change c)) y x)
+words_say_one words (Command (command.Change c)) (Command (command.OmapGet d o n)) x y =
+    sym (omapget_says_one words d o n (Command (command.Change c)) y x)
+words_say_one words (Command (command.Change c)) (Command (command.OmapHeader d o)) x y =
+    sym (omaphdr_says_one words d o (Command (command.Change c)) y x)
 words_say_one words (Command (command.Change c)) (Command (command.List d)) x y = sym (list_says_one words d (Command (command.Change c)) y x)
 words_say_one words (Command (command.Change c)) Wait x y = sym (wait_says_one words (Command (command.Change c)) y x)
-words_say_one words (Command (command.Change c)) b x y = absurd y
 words_say_one words (Command (command.Read c o off len)) b x y = read_says_one words c o off len b x y
 words_say_one words (Command (command.Sum c o)) b x y = sum_says_one words c o b x y
 words_say_one words (Command (command.Stat c o)) b x y = stat_says_one words c o b x y
+words_say_one words (Command (command.GetAttr c o n)) b x y = getattr_says_one words c o n b x y
+words_say_one words (Command (command.OmapGet c o n)) b x y = omapget_says_one words c o n b x y
+words_say_one words (Command (command.OmapHeader c o)) b x y = omaphdr_says_one words c o b x y
 words_say_one words (Command (command.List c)) b x y = list_says_one words c b x y
 words_say_one words Wait b x y = wait_says_one words b x y
-words_say_one words a b x y = absurd x
 
 pub line_says_one : (text : List ℕ) (a b : What) → IsLineOf text a → IsLineOf text b → a ≡ b
 line_says_one text a b x y =
@@ -319,9 +392,11 @@ one_word text what none line = by what (line_words text [] text what (none, tt) 
         let two : text ∷ [] ≡ codes "read" ∷ c ∷ say.object_word ∷ say.off_word ∷ say.len_word ∷ [] = say.whole in absurd cc
     by (Command (command.Sum c o)) say = let two : text ∷ [] ≡ codes "sum" ∷ c ∷ say.object_word ∷ [] = say.whole in absurd cc
     by (Command (command.Stat c o)) say = let two : text ∷ [] ≡ codes "stat" ∷ c ∷ say.object_word ∷ [] = say.whole in absurd cc
+    by (Command (command.GetAttr c o n)) say = let two : text ∷ [] ≡ codes "getattr" ∷ c ∷ say.object_word ∷ say.name_word ∷ [] = say.whole in absurd cc
+    by (Command (command.OmapGet c o n)) say = let two : text ∷ [] ≡ codes "omapget" ∷ c ∷ say.object_word ∷ say.name_word ∷ [] = say.whole in absurd cc
+    by (Command (command.OmapHeader c o)) say = let two : text ∷ [] ≡ codes "omaphdr" ∷ c ∷ say.object_word ∷ [] = say.whole in absurd cc
     by (Command (command.List c)) say = let two : text ∷ [] ≡ codes "list" ∷ c ∷ [] = say.whole in absurd cc
     by Wait say = let one : text ∷ [] ≡ codes "wait" ∷ [] = say in cc
-    by what say = absurd say
 
 pub wait_line : (text : List ℕ) → text ≡ codes "wait" → IsLineOf text Wait
 wait_line text is = record { words = codes "wait" ∷ []; whole = is; say = refl; fits = tt }
@@ -344,12 +419,11 @@ pub record IsOpLine (word rest : List ℕ) : Type 0 where
   pub about : AreArgs args op
 
 -- what begins with none of these words, which the tests compute, is a line of a transaction
-pub op_says : (word rest : List ℕ) (what : What) → lacks 0x20 word ≡ true → same_bytes word (codes "read") ≡ false → same_bytes word (codes "sum") ≡ false
-    → same_bytes word (codes "stat") ≡ false → same_bytes word (codes "list") ≡ false → same_bytes word (codes "wait") ≡ false
+pub op_says : (word rest : List ℕ) (what : What) → lacks 0x20 word ≡ true → is_read_word word ≡ false
     → IsLineOf (word ++ (0x20 ∷ rest)) what → IsOpLine word rest
-op_says word rest what none read sum stat list wait line =
+op_says word rest what none test line =
     let behind = behind_first word rest what (has_none 0x20 word none) line in
-    let of = change_only word (behind.next ∷ behind.words) what read sum stat list wait behind.say in
+    let of = change_only word (behind.next ∷ behind.words) what test behind.say in
     let both : word ∷ behind.next ∷ behind.words ≡ op_word of.are.op ∷ of.change.coll ∷ of.are.args = of.are.whole in
     let first : word ≡ op_word of.are.op = cc in
     let tails : behind.next ∷ behind.words ≡ of.change.coll ∷ of.are.args = cc in
@@ -378,12 +452,21 @@ op_said rest coll op args what named whole about says =
 
 pub mkcoll_says : (rest : List ℕ) (what : What) → IsLineOf (codes "mkcoll" ++ (0x20 ∷ rest)) what → IsCollName rest
 mkcoll_says rest what line =
-    let of = op_says (codes "mkcoll") rest what refl refl refl refl refl refl line in
+    let of = op_says (codes "mkcoll") rest what refl refl line in
     let none = (mkcoll_only of.op of.args of.word_is of.about).1 in
     subst IsCollName (sym (of.whole ∙ ap (λ (l : List (List ℕ)). in_words (of.coll ∷ l)) none)) of.named
 
 pub mkcoll_line : (rest coll : List ℕ) (what : What) → coll ≡ rest → IsCollName rest → what ≡ op_line coll MkColl → IsLineOf (codes "mkcoll" ++ (0x20 ∷ rest)) what
 mkcoll_line rest coll what is named says = op_said rest coll MkColl [] what (subst IsCollName (sym is) named) (sym is) refl says
+
+pub rmcoll_says : (rest : List ℕ) (what : What) → IsLineOf (codes "rmcoll" ++ (0x20 ∷ rest)) what → IsCollName rest
+rmcoll_says rest what line =
+    let of = op_says (codes "rmcoll") rest what refl refl line in
+    let none = (rmcoll_only of.op of.args of.word_is of.about).1 in
+    subst IsCollName (sym (of.whole ∙ ap (λ (l : List (List ℕ)). in_words (of.coll ∷ l)) none)) of.named
+
+pub rmcoll_line : (rest coll : List ℕ) (what : What) → coll ≡ rest → IsCollName rest → what ≡ op_line coll RmColl → IsLineOf (codes "rmcoll" ++ (0x20 ∷ rest)) what
+rmcoll_line rest coll what is named says = op_said rest coll RmColl [] what (subst IsCollName (sym is) named) (sym is) refl says
 
 -- ---- `touch` and `remove`
 
@@ -401,7 +484,7 @@ names_behind word n ws rest coll object object_word is both named names =
     record { object_word = object_word; named = named; whole = is ∙ ap in_words tails; names = names }
 
 -- a collection's word and an object's name it
-objects_of : (rest coll object : List ℕ) (args : List (List ℕ)) → IsCollName coll → rest ≡ in_words (coll ∷ args) → AreObjectArgs args object
+pub objects_of : (rest coll object : List ℕ) (args : List (List ℕ)) → IsCollName coll → rest ≡ in_words (coll ∷ args) → AreObjectArgs args object
     → NamesObject rest coll object
 objects_of rest coll object args named whole are = record {
   object_word = are.object_word;
@@ -411,13 +494,13 @@ objects_of rest coll object args named whole are = record {
 }
 
 -- the words of a text that names an object, behind the collection's
-object_args : (rest c o : List ℕ) (is : NamesObject rest c o) → AreObjectArgs (is.object_word ∷ []) o
+pub object_args : (rest c o : List ℕ) (is : NamesObject rest c o) → AreObjectArgs (is.object_word ∷ []) o
 object_args rest c o is = record { object_word = is.object_word; words = refl; names = is.names }
 
 -- a line of `touch` names an object
 pub touch_says : (rest : List ℕ) (what : What) → IsLineOf (codes "touch" ++ (0x20 ∷ rest)) what → HasObject rest
 touch_says rest what line =
-    let of = op_says (codes "touch") rest what refl refl refl refl refl refl line in
+    let of = op_says (codes "touch") rest what refl refl line in
     let only = touch_only of.op of.args of.word_is of.about in
     record { coll = of.coll; object = only.object; names = objects_of rest of.coll only.object of.args of.named of.whole only.are }
 
@@ -428,7 +511,7 @@ touch_line rest c o what is says = op_said rest c (Touch o) (is.object_word ∷ 
 -- a line of `remove` names an object
 pub remove_says : (rest : List ℕ) (what : What) → IsLineOf (codes "remove" ++ (0x20 ∷ rest)) what → HasObject rest
 remove_says rest what line =
-    let of = op_says (codes "remove") rest what refl refl refl refl refl refl line in
+    let of = op_says (codes "remove") rest what refl refl line in
     let only = remove_only of.op of.args of.word_is of.about in
     record { coll = of.coll; object = only.object; names = objects_of rest of.coll only.object of.args of.named of.whole only.are }
 
@@ -509,7 +592,7 @@ pub record HasRange (text : List ℕ) : Type 0 where
 -- a line of `zero` names a range
 pub zero_says : (rest : List ℕ) (what : What) → IsLineOf (codes "zero" ++ (0x20 ∷ rest)) what → HasRange rest
 zero_says rest what line =
-    let of = op_says (codes "zero") rest what refl refl refl refl refl refl line in
+    let of = op_says (codes "zero") rest what refl refl line in
     let only = zero_only of.op of.args of.word_is of.about in
     record {
       coll = of.coll;
@@ -575,7 +658,7 @@ pub record HasSize (text : List ℕ) : Type 0 where
 -- a line of `truncate` names a size
 pub truncate_says : (rest : List ℕ) (what : What) → IsLineOf (codes "truncate" ++ (0x20 ∷ rest)) what → HasSize rest
 truncate_says rest what line =
-    let of = op_says (codes "truncate") rest what refl refl refl refl refl refl line in
+    let of = op_says (codes "truncate") rest what refl refl line in
     let only = truncate_only of.op of.args of.word_is of.about in
     record {
       coll = of.coll;
@@ -629,7 +712,7 @@ four_of n coll ws args op is same named of = record {
 
 four_words : (n : List ℕ) (ws : List (List ℕ)) (what : What) → AreWordsOf (codes "write" ∷ n ∷ ws) what → AreFour n ws
 four_words n ws what say =
-    let of = change_only (codes "write") (n ∷ ws) what refl refl refl refl refl say in
+    let of = change_only (codes "write") (n ∷ ws) what refl say in
     let both : codes "write" ∷ n ∷ ws ≡ op_word of.are.op ∷ of.change.coll ∷ of.are.args = of.are.whole in
     let word : codes "write" ≡ op_word of.are.op = cc in
     let coll : of.change.coll ≡ n = cc in

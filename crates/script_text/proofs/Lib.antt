@@ -9,6 +9,8 @@ pub mod OpWords
 pub mod FirstWords
 pub mod Forms
 pub mod ReadForms
+pub mod ValueForms
+pub mod Lists
 pub mod Scripts
 pub mod Lines
 pub mod Readers

@@ -2,7 +2,7 @@
 use Rattle.std.proofs.Common.{◌≡◌, ◌≢◌, ℕ, List, [], ◌∷◌, ◌++◌, refl, sym, ap, ◌∙◌}
 use Rattle.std.specs.Prelude.{Bool, true, false, not, Option, Some, None, is_some, MatchOption, IsTrue, ◌↔◌}
 use denote.Ref.{Bor}
-use Rattle.script_text.specs.Prelude.{HasNo, AreWords, in_words}
+use Rattle.script_text.specs.Prelude.{HasNo, AreWords, in_words, StandBefore}
 use Rattle.script_text.proofs.Splits.{parts, no_part}
 
 -- a text is one word where it isn't cut at a space
@@ -32,3 +32,12 @@ same_words w v (n ∷ ws) (m ∷ vs) first second is =
     let both = parts 0x20 w v (in_words (n ∷ ws)) (in_words (m ∷ vs)) first.0 second.0 is in
     let head : w ≡ v = both.0 in
     let tail : n ∷ ws ≡ m ∷ vs = same_words n m ws vs first.1 second.1 both.1 in cc
+
+-- in a text without a space no two words stand before others
+pub no_stand : (text a b rest : List ℕ) → HasNo 0x20 text → ¬ (StandBefore text a b rest)
+no_stand text a b rest none is = no_part 0x20 text a (b ++ (0x20 ∷ rest)) none is.whole
+
+-- nor where there is one space
+pub one_stands : (text first tail a b rest : List ℕ) → HasNo 0x20 first → text ≡ first ++ (0x20 ∷ tail) → HasNo 0x20 tail → ¬ (StandBefore text a b rest)
+one_stands text first tail a b rest none cut alone is =
+    let both = parts 0x20 first a tail (b ++ (0x20 ∷ rest)) none is.first_word (sym cut ∙ is.whole) in no_part 0x20 tail b rest alone both.1

@@ -1,10 +1,11 @@
 -- How a line is spelled. A line says at most one thing, and data may have two spellings.
 use Rattle.std.specs.Prelude.{◌≡◌, ◌≢◌, ◌⊎◌, ℕ, ◌+◌, ◌-◌, ◌/◌, ◌%◌, ◌^◌, ◌<◌, ◌≤◌, nat_lt, nat_le, ◌==◌}
-use Rattle.std.specs.Prelude.{Bool, true, false, ◌&&◌, ◌||◌, if◌then◌else◌, List, [], ◌∷◌, ◌++◌, replicate, codes, decimal}
+use Rattle.std.specs.Prelude.{Bool, true, false, ◌&&◌, ◌||◌, if◌then◌else◌, List, [], ◌∷◌, ◌++◌, length, replicate, codes, decimal}
 use Rattle.std.specs.List.{AllByRecursion}
 use Rattle.unit_fields.specs.Prelude.{IsCollName, IsName}
 use Rattle.object_model.specs.declared.op.Op.{Op}
-use Rattle.object_model.specs.declared.op.Op.TheVariants.{MkColl, Touch, Write, Zero, Truncate, Remove}
+use Rattle.object_model.specs.declared.op.Op.TheVariants.{MkColl, RmColl, Touch, Write, Zero, Truncate, Remove, SetAttr, RmAttr, RmAttrs, Clone, CloneRange, OmapSet, OmapRm, OmapRmRange, OmapClear, OmapHeader}
+use Rattle.object_model.specs.declared.op.Pair.{Pair}
 use Rattle.object_model.specs.Prelude.{Change}
 use Rattle.object_model.specs.declared.command.Command.TheVariants as command
 use Rattle.script_text.specs.declared.line.What.{What}
@@ -107,6 +108,15 @@ op_word (Write object off bytes) = codes "write"
 op_word (Zero object off len) = codes "zero"
 op_word (Truncate object size) = codes "truncate"
 op_word (Remove object) = codes "remove"
+op_word RmColl = codes "rmcoll"
+op_word (SetAttr object name value) = codes "setattr"
+op_word (RmAttr object name) = codes "rmattr"
+op_word (RmAttrs object) = codes "rmattrs"
+op_word (OmapSet object pairs) = codes "omapset"
+op_word (OmapRm object keys) = codes "omaprm"
+op_word (OmapRmRange object first last) = codes "omaprmrange"
+op_word (OmapClear object) = codes "omapclear"
+op_word (OmapHeader object value) = codes "omapheader"
 op_word op = []
 
 -- `O`
@@ -143,6 +153,72 @@ pub record AreSizeArgs (args : List (List ℕ)) (object : List ℕ) (size : ℕ)
   pub names : IsNameWord object_word object
   pub sized : IsNumber size_word size
 
+-- `O NAME`
+pub record AreNameArgs (args : List (List ℕ)) (object name : List ℕ) : Type 0 where
+  pub object_word : List ℕ
+  pub name_word : List ℕ
+  pub words : args ≡ object_word ∷ name_word ∷ []
+  pub names : IsNameWord object_word object
+  pub called : IsNameWord name_word name
+
+-- `O DATA`
+pub record AreDataArgs (args : List (List ℕ)) (object value : List ℕ) : Type 0 where
+  pub object_word : List ℕ
+  pub data_word : List ℕ
+  pub words : args ≡ object_word ∷ data_word ∷ []
+  pub names : IsNameWord object_word object
+  pub holds : IsDataWord data_word value
+
+-- `O NAME DATA`
+pub record AreAttrArgs (args : List (List ℕ)) (object name value : List ℕ) : Type 0 where
+  pub object_word : List ℕ
+  pub name_word : List ℕ
+  pub data_word : List ℕ
+  pub words : args ≡ object_word ∷ name_word ∷ data_word ∷ []
+  pub names : IsNameWord object_word object
+  pub called : IsNameWord name_word name
+  pub holds : IsDataWord data_word value
+
+-- `O NAME NAME`, the first key and the one behind the last
+pub record AreKeyRangeArgs (args : List (List ℕ)) (object first last : List ℕ) : Type 0 where
+  pub object_word : List ℕ
+  pub first_word : List ℕ
+  pub last_word : List ℕ
+  pub words : args ≡ object_word ∷ first_word ∷ last_word ∷ []
+  pub names : IsNameWord object_word object
+  pub begins : IsNameWord first_word first
+  pub ends : IsNameWord last_word last
+
+-- words for keys, one each
+abbrev pub AreKeyWords : List (List ℕ) → List (List ℕ) → Type 0
+AreKeyWords [] [] = Unit {0}
+AreKeyWords (word ∷ words) (key ∷ keys) = IsNameWord word key × AreKeyWords words keys
+AreKeyWords words keys = ⊥
+
+-- words for pairs, two each: the key and the value
+abbrev pub ArePairWords : List (List ℕ) → List Pair → Type 0
+ArePairWords [] [] = Unit {0}
+ArePairWords (key_word ∷ value_word ∷ words) (p ∷ pairs) = IsNameWord key_word p.key × IsDataWord value_word p.value × ArePairWords words pairs
+ArePairWords words pairs = ⊥
+
+-- `O` and one or more NAME
+pub record AreKeysArgs (args : List (List ℕ)) (object : List ℕ) (keys : List (List ℕ)) : Type 0 where
+  pub object_word : List ℕ
+  pub key_words : List (List ℕ)
+  pub words : args ≡ object_word ∷ key_words
+  pub names : IsNameWord object_word object
+  pub spell : AreKeyWords key_words keys
+  pub some : 0 < length keys
+
+-- `O` and one or more `NAME DATA`
+pub record ArePairsArgs (args : List (List ℕ)) (object : List ℕ) (pairs : List Pair) : Type 0 where
+  pub object_word : List ℕ
+  pub pair_words : List (List ℕ)
+  pub words : args ≡ object_word ∷ pair_words
+  pub names : IsNameWord object_word object
+  pub spell : ArePairWords pair_words pairs
+  pub some : 0 < length pairs
+
 -- the words behind the collection's
 abbrev pub AreArgs : List (List ℕ) → Op → Type 0
 AreArgs args MkColl = args ≡ []
@@ -151,6 +227,15 @@ AreArgs args (Write object off bytes) = AreWriteArgs args object off bytes
 AreArgs args (Zero object off len) = AreRangeArgs args object off len
 AreArgs args (Truncate object size) = AreSizeArgs args object size
 AreArgs args (Remove object) = AreObjectArgs args object
+AreArgs args RmColl = args ≡ []
+AreArgs args (SetAttr object name value) = AreAttrArgs args object name value
+AreArgs args (RmAttr object name) = AreNameArgs args object name
+AreArgs args (RmAttrs object) = AreObjectArgs args object
+AreArgs args (OmapSet object pairs) = ArePairsArgs args object pairs
+AreArgs args (OmapRm object keys) = AreKeysArgs args object keys
+AreArgs args (OmapRmRange object first last) = AreKeyRangeArgs args object first last
+AreArgs args (OmapClear object) = AreObjectArgs args object
+AreArgs args (OmapHeader object value) = AreDataArgs args object value
 AreArgs args op = ⊥
 
 -- the words of a transaction of one operation: the operation's, the collection, and what they are about
@@ -180,6 +265,15 @@ pub record AreObjectWords (word : List ℕ) (words : List (List ℕ)) (coll obje
   pub whole : words ≡ word ∷ coll ∷ object_word ∷ []
   pub names : IsNameWord object_word object
 
+-- the words of a read of a value of an object: this one, `C`, `O` and the value's name
+pub record AreValueWords (word : List ℕ) (words : List (List ℕ)) (coll object name : List ℕ) : Type 0 where
+  pub object_word : List ℕ
+  pub name_word : List ℕ
+  pub named : IsCollName coll
+  pub whole : words ≡ word ∷ coll ∷ object_word ∷ name_word ∷ []
+  pub names : IsNameWord object_word object
+  pub called : IsNameWord name_word name
+
 -- the words of a read of a collection's names: `list C`
 pub record AreListWords (words : List (List ℕ)) (coll : List ℕ) : Type 0 where
   pub named : IsCollName coll
@@ -191,29 +285,27 @@ AreWordsOf words (Command (command.Change change)) = AreChangeWords words change
 AreWordsOf words (Command (command.Read coll object off len)) = AreReadWords words coll object off len
 AreWordsOf words (Command (command.Sum coll object)) = AreObjectWords (codes "sum") words coll object
 AreWordsOf words (Command (command.Stat coll object)) = AreObjectWords (codes "stat") words coll object
+AreWordsOf words (Command (command.GetAttr coll object name)) = AreValueWords (codes "getattr") words coll object name
+AreWordsOf words (Command (command.OmapGet coll object key)) = AreValueWords (codes "omapget") words coll object key
+AreWordsOf words (Command (command.OmapHeader coll object)) = AreObjectWords (codes "omaphdr") words coll object
 AreWordsOf words (Command (command.List coll)) = AreListWords words coll
 AreWordsOf words Wait = words ≡ codes "wait" ∷ []
-AreWordsOf words what = ⊥
 
--- the transactions that the kernel can do so far, each of one operation
+-- the operations that the kernel can do so far: all but clones
+abbrev pub IsKnownChangeOp : Op → Type 0
+IsKnownChangeOp (Clone object to) = ⊥
+IsKnownChangeOp (CloneRange object to src len dst) = ⊥
+IsKnownChangeOp op = Unit {0}
+
+-- the transactions that it can do so far, each of one operation
 abbrev pub IsKnownChange : List Op → Type 0
-IsKnownChange (MkColl ∷ []) = Unit {0}
-IsKnownChange (Touch object ∷ []) = Unit {0}
-IsKnownChange (Write object off bytes ∷ []) = Unit {0}
-IsKnownChange (Zero object off len ∷ []) = Unit {0}
-IsKnownChange (Truncate object size ∷ []) = Unit {0}
-IsKnownChange (Remove object ∷ []) = Unit {0}
+IsKnownChange (op ∷ []) = IsKnownChangeOp op
 IsKnownChange ops = ⊥
 
--- what the kernel can do so far, each of these reads too: any other line is a bad one
+-- what the kernel can do so far, and each read: any other line is a bad one
 abbrev pub FitsWhat : What → Type 0
 FitsWhat (Command (command.Change change)) = IsKnownChange change.ops
-FitsWhat (Command (command.Read coll object off len)) = Unit {0}
-FitsWhat (Command (command.Sum coll object)) = Unit {0}
-FitsWhat (Command (command.Stat coll object)) = Unit {0}
-FitsWhat (Command (command.List coll)) = Unit {0}
-FitsWhat Wait = Unit {0}
-FitsWhat what = ⊥
+FitsWhat what = Unit {0}
 
 -- the text of a line says this
 pub record IsLineOf (text : List ℕ) (what : What) : Type 0 where

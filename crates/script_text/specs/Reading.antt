@@ -1,8 +1,9 @@
 -- What is known of a reader of a script that has taken some of it.
-use Rattle.std.specs.Prelude.{◌≡◌, ◌⊎◌, slice_index, ℕ, ◌+◌, ◌≤◌, Bool, true, false, List, [], ◌∷◌, ◌++◌, length, Option, Some, None, MatchOption, IfSome}
+use Rattle.std.specs.Prelude.{◌≡◌, ◌≢◌, ◌⊎◌, slice_index, codes, ℕ, ◌+◌, ◌<◌, ◌≤◌, Bool, true, false, List, [], ◌∷◌, ◌++◌, length, Option, Some, None, MatchOption, IfSome}
 use Rattle.std.specs.List.{AllByRecursion}
 use Rattle.unit_fields.specs.Prelude.{IsCollName}
-use Rattle.script_text.specs.Grammar.{HasNo, in_words, IsNameWord, AreRangeArgs, AreSizeArgs, AreWordsOf, FitsWhat, IsLineOf, IsPassedOver, is_wait}
+use Rattle.object_model.specs.declared.op.Pair.{Pair}
+use Rattle.script_text.specs.Grammar.{HasNo, in_words, IsNameWord, IsDataWord, AreRangeArgs, AreSizeArgs, AreNameArgs, AreDataArgs, AreAttrArgs, AreKeyRangeArgs, AreKeysArgs, ArePairsArgs, AreKeyWords, ArePairWords, AreWordsOf, FitsWhat, IsLineOf, IsPassedOver, is_wait}
 use Rattle.script_text.specs.Script.{script_limit, line_limit, command_limit, ended, commands, kept_lines}
 use Rattle.script_text.specs.Script.{AreGood, IsOutside, IsOneTooMany, IsScript, IsBadAt, IsTextOf}
 use Rattle.script_text.specs.declared.fail.ScriptFail.{ScriptFail}
@@ -48,6 +49,75 @@ pub record NamesSize (text coll object : List ℕ) (size : ℕ) : Type 0 where
   pub args : List (List ℕ)
   pub whole : text ≡ in_words (coll ∷ args)
   pub are : AreSizeArgs args object size
+
+-- the text is a collection's name, and words behind it that are these arguments
+pub record HasArgs (Are : List (List ℕ) → Type 0) (text coll : List ℕ) : Type 0 where
+  pub named : IsCollName coll
+  pub args : List (List ℕ)
+  pub whole : text ≡ in_words (coll ∷ args)
+  pub are : Are args
+
+-- `C O NAME`
+abbrev pub NamesValue : List ℕ → List ℕ → List ℕ → List ℕ → Type 0
+NamesValue text coll object name = HasArgs (λ args. AreNameArgs args object name) text coll
+
+-- `C O DATA`
+abbrev pub NamesHeader : List ℕ → List ℕ → List ℕ → List ℕ → Type 0
+NamesHeader text coll object value = HasArgs (λ args. AreDataArgs args object value) text coll
+
+-- `C O NAME DATA`
+abbrev pub NamesAttr : List ℕ → List ℕ → List ℕ → List ℕ → List ℕ → Type 0
+NamesAttr text coll object name value = HasArgs (λ args. AreAttrArgs args object name value) text coll
+
+-- `C O NAME NAME`
+abbrev pub NamesKeyRange : List ℕ → List ℕ → List ℕ → List ℕ → List ℕ → Type 0
+NamesKeyRange text coll object first last = HasArgs (λ args. AreKeyRangeArgs args object first last) text coll
+
+-- `C O` and one or more NAME
+abbrev pub NamesKeys : List ℕ → List ℕ → List ℕ → List (List ℕ) → Type 0
+NamesKeys text coll object keys = HasArgs (λ args. AreKeysArgs args object keys) text coll
+
+-- `C O` and one or more `NAME DATA`
+abbrev pub NamesPairs : List ℕ → List ℕ → List ℕ → List Pair → Type 0
+NamesPairs text coll object pairs = HasArgs (λ args. ArePairsArgs args object pairs) text coll
+
+-- the text is one or more NAME
+pub record SpellsKeys (text : List ℕ) (keys : List (List ℕ)) : Type 0 where
+  pub words : List (List ℕ)
+  pub whole : text ≡ in_words words
+  pub spell : AreKeyWords words keys
+  pub some : 0 < length keys
+
+-- the text is one or more `NAME DATA`
+pub record SpellsPairs (text : List ℕ) (pairs : List Pair) : Type 0 where
+  pub words : List (List ℕ)
+  pub whole : text ≡ in_words words
+  pub spell : ArePairWords words pairs
+  pub some : 0 < length pairs
+
+-- two words are the key and the value of this pair
+pub record SpellsPair (key_word value_word : List ℕ) (p : Pair) : Type 0 where
+  pub names : IsNameWord key_word p.key
+  pub holds : IsDataWord value_word p.value
+
+-- the first two words of the text, and what stands behind them
+pub record StandBefore (text first second rest : List ℕ) : Type 0 where
+  pub first_word : HasNo 0x20 first
+  pub second_word : HasNo 0x20 second
+  pub whole : text ≡ first ++ (0x20 ∷ (second ++ (0x20 ∷ rest)))
+
+-- the word begins no line about an object as a whole, its bytes, or a collection that is made or listed
+pub record IsLaterWord (word : List ℕ) : Type 0 where
+  pub no_mkcoll : word ≢ codes "mkcoll"
+  pub no_touch : word ≢ codes "touch"
+  pub no_write : word ≢ codes "write"
+  pub no_zero : word ≢ codes "zero"
+  pub no_truncate : word ≢ codes "truncate"
+  pub no_remove : word ≢ codes "remove"
+  pub no_read : word ≢ codes "read"
+  pub no_sum : word ≢ codes "sum"
+  pub no_stat : word ≢ codes "stat"
+  pub no_list : word ≢ codes "list"
 
 -- what a line was found to be
 abbrev pub IsReading : List ℕ → Reading → Type 0

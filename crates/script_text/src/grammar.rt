@@ -8,6 +8,7 @@ use crate::escape::read_name;
 use crate::number::read_number;
 use crate::said::change;
 use crate::split::{four_words, split_once, three_words, two_words};
+use crate::values::read_value_words;
 use crate::{Said, What};
 use object_model::{Command, Op};
 use std::alloc::{AllocError, Global};
@@ -35,7 +36,7 @@ fn read_mkcoll(alloc: Global, rest: &[u8]) -> Result<Option<Said>, AllocError>
 }
 
 /// `C O`: the names of a collection and of an object in it.
-fn read_object(alloc: Global, text: &[u8]) -> Result<Option<(CollName, Name)>, AllocError>
+pub fn read_object(alloc: Global, text: &[u8]) -> Result<Option<(CollName, Name)>, AllocError>
     ensures { IfOk result (λ found. MatchOption found ((coll object : List ℕ) → ¬ (NamesObject text.now coll object))
         (λ x. NamesObject text.now x.0 x.1)) }
 {
@@ -244,7 +245,7 @@ fn read_words(alloc: Global, word: &[u8], rest: &[u8]) -> Result<Option<Said>, A
     } else if word == b"list".as_slice() {
         read_list(alloc, rest)
     } else {
-        Ok(None)
+        read_value_words(alloc, word, rest)
     }
 }
 

@@ -9,10 +9,12 @@ mod hex;
 mod laws;
 mod line;
 mod number;
+mod pair;
 mod reader;
 mod said;
 mod script;
 mod split;
+mod values;
 
 pub use escape::spell_byte;
 pub use fail::ScriptFail;

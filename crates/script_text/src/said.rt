@@ -1,10 +1,12 @@
 //! What a line says, as it is kept until it is used.
 ghost use Rattle.std.specs.Prelude.{◌≡◌, IfOk};
-ghost use Rattle.object_model.specs.declared.op.Op.TheVariants.{Write};
+ghost use Rattle.object_model.specs.declared.op.Op.TheVariants.{Write, SetAttr, OmapHeader, OmapSet};
 ghost use Rattle.script_text.specs.Grammar.{command_count, is_wait, op_line};
 
 use crate::What;
 use crate::data::Data;
+use crate::pair::{KeptPair, written_out};
+use byte_maps::Items;
 use bytes::Bytes as SharedBytes;
 use object_model::{Command, Op, Transaction};
 use std::alloc::{AllocError, Global};
@@ -17,7 +19,7 @@ pub struct Said {
     kept: Kept,
 }
 
-/// A write with its data as they are spelled, or anything else.
+/// Something with its data as they are spelled, or anything else.
 #[derive(Drop)]
 enum Kept {
     Write {
@@ -25,6 +27,22 @@ enum Kept {
         object: Name,
         off: u64,
         bytes: Data,
+    },
+    SetAttr {
+        coll: CollName,
+        object: Name,
+        name: Name,
+        value: Data,
+    },
+    OmapHeader {
+        coll: CollName,
+        object: Name,
+        value: Data,
+    },
+    OmapSet {
+        coll: CollName,
+        object: Name,
+        pairs: Items<KeptPair>,
     },
     Other(What),
 }
@@ -52,6 +70,28 @@ pub fn change(alloc: Global, coll: CollName, op: Op) -> Result<What, AllocError>
     }
 }
 
+/// A transaction that sets an attribute to a value, which is written out.
+fn attr_set(
+    alloc: Global,
+    coll: CollName,
+    object: Name,
+    name: Name,
+    value: Data,
+) -> Result<What, AllocError>
+    ensures { IfOk result (λ what. what ≡ op_line coll (SetAttr object name value)) }
+{
+    let value = value.into_bytes(alloc)?;
+    change(
+        alloc,
+        coll,
+        Op::SetAttr {
+            object,
+            name,
+            value,
+        },
+    )
+}
+
 impl Said {
     /// What is said as it is.
     pub fn of(what: What) -> Said
@@ -76,12 +116,55 @@ impl Said {
         }
     }
 
+    /// An attribute that is set to this value.
+    pub fn set_attr(coll: CollName, object: Name, name: Name, value: Data) -> Said
+        ensures { result ≡ op_line coll (SetAttr object name value) }
+    {
+        Said {
+            kept: Kept::SetAttr {
+                coll,
+                object,
+                name,
+                value,
+            },
+        }
+    }
+
+    /// A header that is set to this value.
+    pub fn omap_header(coll: CollName, object: Name, value: Data) -> Said
+        ensures { result ≡ op_line coll (OmapHeader object value) }
+    {
+        Said {
+            kept: Kept::OmapHeader {
+                coll,
+                object,
+                value,
+            },
+        }
+    }
+
+    /// Pairs that are set.
+    pub fn omap_set(coll: CollName, object: Name, pairs: Items<KeptPair>) -> Said
+        ensures { result ≡ op_line coll (OmapSet object pairs) }
+    {
+        Said {
+            kept: Kept::OmapSet {
+                coll,
+                object,
+                pairs,
+            },
+        }
+    }
+
     /// 1 for a command, and 0 for `wait`.
     pub fn command_count(&self) -> u32
         ensures { result ≡ command_count self.now }
     {
         match &self.kept {
-            Kept::Write { .. } => 1,
+            Kept::Write { .. }
+            | Kept::SetAttr { .. }
+            | Kept::OmapHeader { .. }
+            | Kept::OmapSet { .. } => 1,
             Kept::Other(what) => what.command_count(),
         }
     }
@@ -106,6 +189,28 @@ impl Said {
             } => {
                 let bytes = SharedBytes::from_vec(bytes.into_bytes(alloc)?.into_vec(alloc)?)?;
                 change(alloc, coll, Op::Write { object, off, bytes })
+            }
+            Kept::SetAttr {
+                coll,
+                object,
+                name,
+                value,
+            } => attr_set(alloc, coll, object, name, value),
+            Kept::OmapHeader {
+                coll,
+                object,
+                value,
+            } => {
+                let value = value.into_bytes(alloc)?;
+                change(alloc, coll, Op::OmapHeader { object, value })
+            }
+            Kept::OmapSet {
+                coll,
+                object,
+                pairs,
+            } => {
+                let pairs = written_out(alloc, pairs)?;
+                change(alloc, coll, Op::OmapSet { object, pairs })
             }
             Kept::Other(what) => Ok(what),
         }

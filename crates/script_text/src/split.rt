@@ -1,6 +1,7 @@
 //! Texts cut in parts: at a byte, behind a front, in words.
 ghost use Rattle.std.specs.Prelude.{◌≡◌, ◌≢◌, ◌↔◌, ◌<◌, ◌++◌, ◌∷◌, [], ℕ, List, length, slice_index, MatchOption, IfSome, IfNone, IsTrue};
 ghost use Rattle.script_text.specs.Grammar.{HasNo, AreWords, in_words};
+ghost use Rattle.script_text.specs.Reading.{StandBefore};
 
 /// The first byte, and those behind it.
 pub fn split_first(text: &[u8]) -> Option<(u8, &[u8])>
@@ -85,4 +86,17 @@ pub fn four_words(text: &[u8]) -> Option<(&[u8], &[u8], &[u8], &[u8])>
         return None;
     };
     Some((first, second, third, fourth))
+}
+
+/// The first two words of a text, and what stands behind them.
+pub fn words_before(text: &[u8]) -> Option<(&[u8], &[u8], &[u8])>
+    ensures { MatchOption result ((a b rest : List ℕ) → ¬ (StandBefore text.now a b rest)) (λ x. StandBefore text.now x.0.now x.1.now x.2.now) }
+{
+    let Some((first, rest)) = split_once(text, b' ') else {
+        return None;
+    };
+    let Some((second, rest)) = split_once(rest, b' ') else {
+        return None;
+    };
+    Some((first, second, rest))
 }

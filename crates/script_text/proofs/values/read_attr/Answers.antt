@@ -1,0 +1,34 @@
+use Rattle.std.proofs.Common.{◌≡◌, None, Some}
+use Rattle.script_text.proofs.ValueForms.{no_attr, attr_words, attr_named}
+use Rattle.script_text.proofs.values.read_attr.Goals as goal
+
+pub returns-in_default : goal.returns-in_default
+returns-in_default c coll object name value is = no_attr c.args.text.now coll object name value c.in_default.ensures is
+
+pub returns-in_default-2 : goal.returns-in_default-2
+returns-in_default-2 c coll object name value is =
+    let unnamed = rw c.in_default-2.is at c.in_ok-coll.ensures in
+    unnamed (attr_words c.args.text.now c.in-Some.coll.now c.in-Some.object.now c.in-Some.name.now c.in-Some.value.now coll object name value c.in-Some.ensures.0 c.in-Some.ensures.1 is).0
+
+pub returns-in_default-3 : goal.returns-in_default-3
+returns-in_default-3 c coll object name value is =
+    let unnamed = rw c.in_default-3.is at c.in_ok-object.ensures in
+    unnamed object (attr_words c.args.text.now c.in-Some.coll.now c.in-Some.object.now c.in-Some.name.now c.in-Some.value.now coll object name value c.in-Some.ensures.0 c.in-Some.ensures.1 is).1
+
+pub returns-in_default-4 : goal.returns-in_default-4
+returns-in_default-4 c coll object name value is =
+    let unnamed = rw c.in_default-4.is at c.in_ok-name.ensures in
+    unnamed name (attr_words c.args.text.now c.in-Some.coll.now c.in-Some.object.now c.in-Some.name.now c.in-Some.value.now coll object name value c.in-Some.ensures.0 c.in-Some.ensures.1 is).2
+
+pub returns-in_default-5 : goal.returns-in_default-5
+returns-in_default-5 c coll object name value is =
+    let unread = rw c.in_default-5.is at c.in_ok-value.ensures.read in
+    let never : None ≡ Some value = unread value (attr_words c.args.text.now c.in-Some.coll.now c.in-Some.object.now c.in-Some.name.now c.in-Some.value.now coll object name value c.in-Some.ensures.0 c.in-Some.ensures.1 is).3 in absurd cc
+
+pub returns : goal.returns
+returns c =
+    let coll = rw c.in-Some-2.is at c.in_ok-coll.ensures in
+    let object = rw c.in-Some-3.is at c.in_ok-object.ensures in
+    let name = rw c.in-Some-4.is at c.in_ok-name.ensures in
+    let value = rw c.in-Some-5.is at c.in_ok-value.ensures.spelled in
+    attr_named c.args.text.now c.in-Some.coll.now c.in-Some.object.now c.in-Some.name.now c.in-Some.value.now c.in-Some-2.coll c.in-Some-3.object c.in-Some-4.name c.in-Some-5.value c.in-Some.ensures.1 coll.0 coll.1 object name value

@@ -1,0 +1,13 @@
+use Rattle.std.proofs.Common.{◌∙◌}
+use Rattle.script_text.proofs.Forms.{rmcoll_says, rmcoll_line}
+use Rattle.script_text.proofs.values.read_rmcoll.Goals as goal
+
+pub returns-in_default : goal.returns-in_default
+returns-in_default c what line =
+    let unnamed = rw c.in_default.is at c.in_ok-coll.ensures in
+    unnamed (rmcoll_says c.args.rest.now what line)
+
+pub returns : goal.returns
+returns c =
+    let coll = rw c.in-Some.is at c.in_ok-coll.ensures in
+    rmcoll_line c.args.rest.now c.in-Some.coll c.of.result coll.0 coll.1 (c.of.ensures ∙ c.in_ok-what.ensures)

@@ -1,0 +1,10 @@
+use Rattle.script_text.proofs.ValueForms.{setattr_none, setattr_line}
+use Rattle.script_text.proofs.values.read_setattr.Goals as goal
+
+pub returns-in_default : goal.returns-in_default
+returns-in_default c what line = setattr_none c.args.rest.now what (rw c.in_default.is at c.in_ok-coll.ensures) line
+
+pub returns : goal.returns
+returns c =
+    let names = rw c.in-Some.is at c.in_ok-coll.ensures in
+    setattr_line c.args.rest.now c.in-Some.coll c.in-Some.object c.in-Some.name c.in-Some.value c.set_attr.result names c.set_attr.ensures

@@ -150,11 +150,8 @@ module _ (opening : Objects) (s : State) (d : Disk) (client line : ℕ) (change 
 
 -- its entry accepts nothing
 pub read_accepts_none : (command : Command) (a : Answer) → HasReadNames command → accepted_change command a ≡ None
-read_accepts_none (ask.Read c o off len) a names = refl
-read_accepts_none (ask.Sum c o) a names = refl
-read_accepts_none (ask.Stat c o) a names = refl
-read_accepts_none (ask.List c) a names = refl
-read_accepts_none command a names = absurd names
+read_accepts_none (ask.Change change) a names = absurd names
+read_accepts_none command a names = refl
 
 pub book_answers : (opening : Objects) (s : State) (d : Disk) (client line : ℕ) (command : Command) (a : Answer) (s' : State) → KnownOfBook opening s
     → AnswersRead client line command a s d s' → KnownOfBook opening s'

@@ -81,6 +81,9 @@ read_wants : (d : Disk) (s : State) (command : Command) (a : Answer) → HasRead
 read_wants d s (ask.Read c o off len) (answer.NoSpace need free) names given is = absurd given.1
 read_wants d s (ask.Sum c o) (answer.NoSpace need free) names given is = absurd given.1
 read_wants d s (ask.Stat c o) (answer.NoSpace need free) names given is = absurd given.1
+read_wants d s (ask.GetAttr c o name) (answer.NoSpace need free) names given is = absurd given.1
+read_wants d s (ask.OmapGet c o key) (answer.NoSpace need free) names given is = absurd given.1
+read_wants d s (ask.OmapHeader c o) (answer.NoSpace need free) names given is = absurd given.1
 read_wants d s (ask.List c) (answer.NoSpace need free) names given is = absurd given.1
 read_wants d s command (answer.NoSpace need free) names given is = absurd names
 read_wants d s command a names given is = absurd cc

@@ -1,136 +1,171 @@
--- Walks over collections and objects: what was seen grows by what comes next, and each name has a row of its own, so a walk ends.
-use Rattle.std.proofs.Common.{◌≡◌, ℕ, ◌-◌, ◌≤◌, ◌<◌, true, false, cond, ◌||◌, List, [], ◌∷◌, ◌++◌, length, map, slice_get, length-append}
-use Rattle.std.proofs.Common.{Option, Some, None, MatchOption, is_some, refl, sym, ap, subst, ◌∙◌, arith}
-use Rattle.std.specs.List.{AllByRecursion, IsDistinct, list_any}
-use Rattle.std.specs.Map.{lookup}
-use Rattle.std.specs.Option.{option_map}
+-- Walks over collections and objects: what was seen grows by what comes next, each name has a row above those before it, so a walk ends, and the
+-- text grows by the lines of each.
+use Rattle.std.proofs.Common.{◌≡◌, ℕ, ◌+◌, ◌≤◌, ◌<◌, Bool, true, false, cond, ◌||◌, List, [], ◌∷◌, ◌++◌}
+use Rattle.std.proofs.Common.{Option, Some, None, MatchOption, is_some, Result, Ok, Err, refl, sym, ap, subst, ◌∙◌, arith, append-nil, codes}
+use Rattle.std.specs.Prelude.{IfSome}
+use Rattle.std.specs.List.{AllByRecursion}
 use Rattle.std.specs.FinMap as finite
 use Rattle.std.specs.FinMap.Entries.{find}
-use Rattle.std.specs.Ordering.{is_eq, eq_by_cmp}
+use Rattle.std.specs.Ordering.{is_eq, is_lt}
 use Rattle.std.specs.declared.cmp.Ordering.{Ordering}
 use Rattle.std.specs.declared.cmp.Ordering.TheVariants.{Less, Equal, Greater}
-use Rattle.std.proofs.lemmas.Cmp.{nat_list_cmp_total, eq_by_cmp_equiv, tied_itself}
-use Rattle.std.proofs.lemmas.List.{map-append, length-map}
-use Rattle.std.proofs.lemmas.Map.Steps.{length-le_from_keys}
+use Rattle.std.proofs.Math.Bool.{or_assoc, or-false}
+use Rattle.std.proofs.lemmas.Cmp.{nat_list_cmp_total, tied_itself}
+use Rattle.std.proofs.lemmas.Grind.{flat_map-append}
+use Rattle.std.proofs.lemmas.List.{map-append, flat_map_more}
+use Rattle.std.proofs.lemmas.List.Folds.{list_any-append}
 use Rattle.byte_maps.specs.ByteMap.{byte_order}
 use Rattle.byte_maps.proofs.Prelude.{same_bytes}
 use Rattle.block_device.specs.Prelude.{Disk}
 use Rattle.meta_rows.specs.Prelude.{Rows}
-use Rattle.unit_fields.specs.Prelude.{IsCollName}
+use Rattle.meta_log.specs.Prelude.{width_of}
+use Rattle.store_steps.specs.Prelude.{State}
+use Rattle.meta_rows.proofs.PartLemmas.{less}
 use Rattle.unit_fields.specs.declared.width.Width.{Width}
 use Rattle.row_format.specs.Prelude.{coll_key, onode_key}
-use Rattle.row_format.proofs.Prelude.{same_coll, same_onode}
 use Rattle.object_reader.specs.Readable.{IsNextView}
+use Rattle.object_reader.proofs.NamesOrder.{same_first}
+use Rattle.object_reader.proofs.NamesKeys.{onodes_in_order}
 use Rattle.read_facts.specs.Prelude.{IsHeldAt, no_memory, IsCollection, IsObject, IsNextOf, IsPast, AreNext, last_of, IsViewOf, object_names, coll_names, IsViewed, IsWhole, AreWholeButLast, WalksTo, WalksAll}
 use Rattle.read_facts.specs.declared.view.CollView.{CollView}
 use Rattle.read_facts.specs.declared.view.ObjectView.{ObjectView}
-use Rattle.read_facts.proofs.Walks.{next_appended, all_to}
+use Rattle.read_facts.proofs.Walks.{next_appended, last_appended}
 use Rattle.flight_facts.proofs.Prelude.{all_join}
+use Rattle.book_facts.proofs.Commits.{one_if}
+use Rattle.store_kernel.specs.declared.unanswered.WalkFail.{WalkFail}
+use Rattle.script_text.specs.Prelude.{escaped}
+use Rattle.run_texts.specs.Prelude.{Output, as_text, object_lines, coll_lines, is_bad, DumpSoFar, AddsLines, AddsWalk}
+use Rattle.run_texts.specs.DumpTexts.{has_bad_object}
+use Rattle.run_texts.proofs.TextLemmas.{as_text-append}
+use Rattle.run_texts.proofs.Adding.{both, said, nothing}
+use Rattle.bstore_top.specs.Prelude.{PrintsColl, PrintsWalk}
 
--- ---- the last name
+-- ---- the rows above a name
 
--- the last of some is that at their last place
-last_place : {X : Type 0} (name : X → List ℕ) (after : Option (List ℕ)) (y : X) (ys : List X) (x : X) → Some x ≡ slice_get (y ∷ ys) (length ys)
-    → Some (name x) ≡ last_of after (map name (y ∷ ys))
-last_place name after y [] x is = ap (λ o. option_map name o) is
-last_place name after y (z ∷ zs) x is = last_place name (Some (name y)) z zs x is
+-- a row: its key and its value
+abbrev Entry : Type 0
+Entry = List ℕ × List ℕ
 
--- the last name of some, by the last place
-pub last_named : {X : Type 0} (name : X → List ℕ) (xs : List X) (x : X) → Some x ≡ slice_get xs (length xs - 1)
-    → Some (name x) ≡ last_of None (map name xs)
-last_named name [] x is = absurd cc
-last_named name (y ∷ ys) x is =
-    last_place name None y ys x (is ∙ ap (λ (n : ℕ). slice_get (y ∷ ys) n) (omega arith))
-
--- ---- names that are next have keys of their own
-
--- the test for the same bytes says so
+-- a test for the same bytes says so
 is_equal : (r : Ordering) → is_eq r ≡ true → r ≡ Equal
 is_equal Less is = absurd cc
 is_equal Equal is = refl
 is_equal Greater is = absurd cc
 
--- a look-up by the order is that of the map
-found_by_order : {V : Type 0} (q : List ℕ) (es : List (List ℕ × V)) → lookup (eq_by_cmp byte_order q) es ≡ find byte_order q es
-found_by_order q [] = refl
-found_by_order q (e ∷ es) = ap (λ rest. cond (is_eq (byte_order q e.0)) (Some e.1) rest) (found_by_order q es)
+-- how many rows have keys that pass
+abbrev count_keys : (List ℕ → Bool) → List Entry → ℕ
+count_keys p [] = 0
+count_keys p (e ∷ es) = one_if (p e.0) + count_keys p es
 
--- what holds of each key
-all_keys : (key : List ℕ → List ℕ) (P : List ℕ → Type 0) (names : List (List ℕ)) → AllByRecursion (λ n. P (key n)) names
-    → AllByRecursion P (map key names)
-all_keys key P [] all = tt
-all_keys key P (n ∷ ns) all = (all.0, all_keys key P ns all.1)
+-- what passes the second test passes the first
+one_less : (b d : Bool) → (d ≡ true → b ≡ true) → one_if d ≤ one_if b
+one_less true true all = omega arith
+one_less true false all = omega arith
+one_less false true all = let no = all refl in absurd cc
+one_less false false all = omega arith
+
+module _ (p q : List ℕ → Bool) (within : (k : List ℕ) → q k ≡ true → p k ≡ true) where
+  no_more : (es : List Entry) → count_keys q es ≤ count_keys p es
+  no_more [] = omega arith
+  no_more (e ∷ es) = omega (arith, one_less (p e.0) (q e.0) (within e.0), no_more es)
+
+  -- a key that is there and passes the first alone makes a difference
+  fewer : (key : List ℕ) → p key ≡ true → q key ≡ false → (es : List Entry) → is_some (find byte_order key es) ≡ true
+      → count_keys q es < count_keys p es
+  fewer key there gone [] is = absurd cc
+  fewer key there gone (e ∷ es) is =
+      elim (is_eq (byte_order key e.0)) as (λ b. is_eq (byte_order key e.0) ≡ b → is_some (cond b (Some e.1) (find byte_order key es)) ≡ true
+      → count_keys q (e ∷ es) < count_keys p (e ∷ es)) [
+        | true ↦ λ t h.
+            let same : key ≡ e.0 = same_bytes key e.0 (is_equal (byte_order key e.0) t) in
+            let one : one_if (p e.0) ≡ 1 = ap one_if (sym (ap p same) ∙ there) in
+            let none : one_if (q e.0) ≡ 0 = ap one_if (sym (ap q same) ∙ gone) in
+            omega (arith, one, none, no_more es)
+        | false ↦ λ t h. omega (arith, one_less (p e.0) (q e.0) (within e.0), fewer key there gone es h)
+      ] refl is
+
+-- the key is above that of a name, if there is one
+abbrev is_above : (List ℕ → List ℕ) → Option (List ℕ) → List ℕ → Bool
+is_above key None k = true
+is_above key (Some name) k = is_lt (byte_order (key name) k)
+
+-- how many rows have such keys
+abbrev pub rows_above : (List ℕ → List ℕ) → Rows → Option (List ℕ) → ℕ
+rows_above key rows last = count_keys (is_above key last) (finite.entries rows)
 
 module _ (Is : List ℕ → Type 0) (key : List ℕ → List ℕ) (rows : Rows) (there : (n : List ℕ) → Is n → is_some (finite.get rows (key n)) ≡ true)
-    (one : (n m : List ℕ) → Is n → Is m → key n ≡ key m → n ≡ m) where
-  -- the names behind one are above it
-  above : (before : List ℕ) (names : List (List ℕ)) → AreNext Is (Some before) names → AllByRecursion (λ n. Is n × (byte_order before n ≡ Less)) names
-  above before [] are = tt
-  above before (n ∷ ns) are = (
-    (are.0.is, are.0.behind),
-    all_to (λ m. Is m × (byte_order n m ≡ Less)) (λ m. Is m × (byte_order before m ≡ Less))
-        (λ m p. (p.0, nat_list_cmp_total.trans before n m are.0.behind p.1)) ns (above n ns are.1),
-  )
+    (in_order : (n m : List ℕ) → Is n → Is m → byte_order n m ≡ Less → byte_order (key n) (key m) ≡ Less) where
+  -- a key of a name behind another one is above
+  next_above : (last : Option (List ℕ)) (name : List ℕ) → IfSome last Is → IsNextOf Is last name → is_above key last (key name) ≡ true
+  next_above None name is next = refl
+  next_above (Some before) name is next = ap is_lt (in_order before name is next.is next.behind)
 
-  -- so their keys are others
-  apart : (n m : List ℕ) → Is n → Is m → byte_order n m ≡ Less → eq_by_cmp byte_order (key n) (key m) ≡ false
-  apart n m is_n is_m less =
-      elim (is_eq (byte_order (key n) (key m))) as (λ b. is_eq (byte_order (key n) (key m)) ≡ b → b ≡ false) [
-        | true ↦ λ e.
-            let same : n ≡ m = one n m is_n is_m (same_bytes (key n) (key m) (is_equal (byte_order (key n) (key m)) e)) in
-            let equal : byte_order n m ≡ Equal = ap (byte_order n) (sym same) ∙ tied_itself nat_list_cmp_total n in
-            absurd cc
-        | false ↦ λ e. refl
-      ] refl
+  -- so are all above that
+  all_above : (last : Option (List ℕ)) (name : List ℕ) → IfSome last Is → IsNextOf Is last name → (k : List ℕ)
+      → is_above key (Some name) k ≡ true → is_above key last k ≡ true
+  all_above None name is next k up = refl
+  all_above (Some before) name is next k up =
+      ap is_lt (nat_list_cmp_total.trans (key before) (key name) k (in_order before name is next.is next.behind) (less (byte_order (key name) k) up))
 
-  -- each key is another one
-  distinct : (after : Option (List ℕ)) (names : List (List ℕ)) → AreNext Is after names → IsDistinct (eq_by_cmp byte_order) (map key names)
-  unfolding IsDistinct
-  distinct after [] are = tt
-  distinct after (n ∷ ns) are = (
-    all_keys key (λ k. eq_by_cmp byte_order (key n) k ≡ false) ns
-        (all_to (λ m. Is m × (byte_order n m ≡ Less)) (λ m. eq_by_cmp byte_order (key n) (key m) ≡ false)
-        (λ m p. apart n m are.0.is p.0 p.1) ns (above n ns are.1)),
-    distinct (Some n) ns are.1,
-  )
+  -- fewer are above the next name
+  fewer_above : (last : Option (List ℕ)) (name : List ℕ) → IfSome last Is → IsNextOf Is last name
+      → rows_above key rows (Some name) < rows_above key rows last
+  fewer_above last name is next =
+      fewer (is_above key last) (is_above key (Some name)) (all_above last name is next) (key name) (next_above last name is next)
+      (ap is_lt (tied_itself nat_list_cmp_total (key name))) (finite.entries rows)
+      (ap is_some (sym (finite.get-entries rows (key name))) ∙ there name next.is)
 
-  -- and each has a row
-  has_row : (after : Option (List ℕ)) (names : List (List ℕ)) (q : List ℕ) → AreNext Is after names
-      → list_any (eq_by_cmp byte_order q) (map key names) ≡ true → is_some (lookup (eq_by_cmp byte_order q) (finite.entries rows)) ≡ true
-  has_row after [] q are any = absurd cc
-  has_row after (n ∷ ns) q are any =
-      elim (is_eq (byte_order q (key n))) as (λ b. is_eq (byte_order q (key n)) ≡ b → (b || list_any (eq_by_cmp byte_order q) (map key ns)) ≡ true
-      → is_some (lookup (eq_by_cmp byte_order q) (finite.entries rows)) ≡ true) [
-        | true ↦ λ e h.
-            let same : q ≡ key n = same_bytes q (key n) (is_equal (byte_order q (key n)) e) in
-            ap is_some (found_by_order q (finite.entries rows)) ∙ (ap is_some (sym (finite.get-entries rows q))
-            ∙ (ap (λ (k : List ℕ). is_some (finite.get rows k)) same ∙ there n are.0.is))
-        | false ↦ λ e h. has_row (Some n) ns q are.1 h
-      ] refl any
+-- fewer rows are above the next collection
+pub fewer_colls : (rows : Rows) (last : Option (List ℕ)) (c : List ℕ) → IfSome last (IsCollection rows) → IsNextOf (IsCollection rows) last c
+    → rows_above coll_key rows (Some c) < rows_above coll_key rows last
+fewer_colls rows = fewer_above (IsCollection rows) coll_key rows (λ n is. is.there) (λ n m is_n is_m behind. same_first 0x43 n m ∙ behind)
 
-  -- so there are no more names than rows
-  pub few_names : (names : List (List ℕ)) → AreNext Is None names → length names ≤ length (finite.entries rows)
-  few_names names are =
-      let few : length (map key names) ≤ length (finite.entries rows) =
-      length-le_from_keys (eq_by_cmp_equiv nat_list_cmp_total) (map key names) (finite.entries rows) (distinct None names are)
-      (λ q any. has_row None names q are any) in
-      omega (arith, few, length-map names key)
+-- and above the next object
+pub fewer_objects : (rows : Rows) (c : List ℕ) (last : Option (List ℕ)) (o : List ℕ) → IfSome last (IsObject rows c)
+    → IsNextOf (IsObject rows c) last o
+    → rows_above (onode_key c) rows (Some o) < rows_above (onode_key c) rows last
+fewer_objects rows c = fewer_above (IsObject rows c) (onode_key c) rows (λ n is. is.there)
+    (λ n m is_n is_m behind. onodes_in_order c n m is_n.named is_m.named behind)
 
--- collections
-few_colls : (rows : Rows) (names : List (List ℕ)) → AreNext (IsCollection rows) None names → length names ≤ length (finite.entries rows)
-few_colls rows = few_names (IsCollection rows) coll_key rows (λ n is. is.there) (λ n m is_n is_m same. same_coll n m same)
+-- ---- lines behind lines
 
--- and objects of one
-few_objects : (rows : Rows) (c : List ℕ) → IsCollName c → (names : List (List ℕ)) → AreNext (IsObject rows c) None names
-    → length names ≤ length (finite.entries rows)
-few_objects rows c named = few_names (IsObject rows c) (onode_key c) rows (λ n is. is.there)
-    (λ n m is_n is_m same. (same_onode c n c m named is_n.named named is_m.named same).1)
+-- none, of no collection
+pub no_walk : (p : DumpSoFar) (o : Output) → AddsWalk [] p p o o
+no_walk p o = record { adds = nothing p.text o; noted = sym (or-false p.bad) }
 
--- one more makes what is left smaller
-pub fewer_left : {X : Type 0} (total : ℕ) (xs more : List X) (x : X) → more ≡ xs ++ x ∷ [] → length more ≤ total
-    → total - length more < total - length xs
-fewer_left {X} total xs more x is few =
-    omega (arith, few, ap (λ (l : List X). length l) is ∙ length-append xs (x ∷ []))
+-- the same lines, said otherwise
+lines_said : {p q : DumpSoFar} {o1 o2 : Output} {a b : List (List ℕ)} {x y : Bool} → a ≡ b → x ≡ y → AddsLines a x p q o1 o2 → AddsLines b y p q o1 o2
+lines_said {p} {q} {o1} {o2} {a} {b} {x} {y} same bad lines = record {
+  adds = said (ap (λ (l : List (List ℕ)). as_text l) same) lines.adds;
+  noted = lines.noted ∙ ap (λ (z : Bool). p.bad || z) bad;
+}
+
+module _ {p q r : DumpSoFar} {o1 o2 o3 : Output} where
+  lines_both : {a b : List (List ℕ)} {x y : Bool} → AddsLines a x p q o1 o2 → AddsLines b y q r o2 o3 → AddsLines (a ++ b) (x || y) p r o1 o3
+  lines_both {a} {b} {x} {y} first second = record {
+    adds = said (sym (as_text-append a b)) (both first.adds second.adds);
+    noted = second.noted ∙ ap (λ (z : Bool). z || y) first.noted ∙ or_assoc p.bad x y;
+  }
+
+  -- collections behind collections
+  walk_both : (colls more : List CollView) → AddsWalk colls p q o1 o2 → AddsWalk more q r o2 o3 → AddsWalk (colls ++ more) p r o1 o3
+  walk_both colls more first second = lines_said (sym (flat_map-append coll_lines colls more)) (sym (list_any-append has_bad_object colls more))
+      (lines_both first second)
+
+  -- a collection, and one more of its objects
+  object_behind : (v : CollView) (o : ObjectView) → AddsWalk (v ∷ []) p q o1 o2 → AddsLines (object_lines o) (is_bad o.sum) q r o2 o3
+      → AddsWalk (record { coll = v.coll; objects = v.objects ++ o ∷ [] } ∷ []) p r o1 o3
+  object_behind v o walked added = lines_said lines bad (lines_both walked added)
+    where
+      more : CollView
+      more = record { coll = v.coll; objects = v.objects ++ o ∷ [] }
+
+      lines : (coll_lines v ++ []) ++ object_lines o ≡ coll_lines more ++ []
+      lines = ap (λ (l : List (List ℕ)). l ++ object_lines o) (append-nil (coll_lines v))
+          ∙ flat_map_more object_lines ((codes "coll " ++ escaped v.coll) ∷ []) v.objects o ∙ sym (append-nil (coll_lines more))
+
+      bad : ((has_bad_object v || false) || is_bad o.sum) ≡ (has_bad_object more || false)
+      bad = simp (or-false, list_any-append)
 
 -- ---- what a kernel found, in the words of the walk
 
@@ -152,6 +187,13 @@ pub coll_found : (rows later : Rows) (found : Option (List ℕ)) (after last : O
     → found ≡ Some c → MatchOption found (IsPast (IsCollection later) after) (IsNextOf (IsCollection later) after) → IsNextOf (IsCollection rows) last c
 coll_found rows later found after last c same last_is is next =
     subst (λ (r : Rows). IsNextOf (IsCollection r) last c) same (next_found (IsCollection later) found after last c last_is is next)
+
+-- where none was found there is none behind the last one
+pub none_behind : (rows later : Rows) (found : Option (List ℕ)) (after last : Option (List ℕ)) → later ≡ rows → after ≡ last → found ≡ None
+    → MatchOption found (IsPast (IsCollection later) after) (IsNextOf (IsCollection later) after) → IsPast (IsCollection rows) last
+none_behind rows later found after last same last_is is next =
+    subst (λ (r : Rows). IsPast (IsCollection r) last) same
+    (none_found (IsCollection later) (IsNextOf (IsCollection later) after) found after last last_is is next)
 
 -- an object that was found is the next one, and the view is of it
 pub view_found : (w : Width) (m : ℕ → Option (List ℕ)) (d e : Disk) (rows later : Rows) (c : List ℕ) (found : Option ObjectView) (after last : Option (List ℕ)) (o : ObjectView)
@@ -191,11 +233,6 @@ module _ (w : Width) (d : Disk) (rows : Rows) where
             (all_join (IsViewOf w no_memory (IsHeldAt d) rows v.coll) v.objects (o ∷ []) viewed.each (next.view, tt)));
       }
 
-  -- they are no more than the rows
-  pub few_viewed : (v : CollView) → IsCollName v.coll → IsViewed w no_memory (IsHeldAt d) rows v → length v.objects ≤ length (finite.entries rows)
-  few_viewed v named viewed =
-      omega (arith, few_objects rows v.coll named (object_names v.objects) viewed.next, length-map v.objects (λ (x : ObjectView). x.name))
-
   -- ---- collections that were seen
 
   -- all objects of each of them were
@@ -226,17 +263,12 @@ module _ (w : Width) (d : Disk) (rows : Rows) where
   pub so_far : (colls : List CollView) → WalksWhole colls → WalksTo w no_memory (IsHeldAt d) rows colls
   so_far colls walked = record { next = walked.next; each = whole_but_last colls walked.each }
 
-  -- what was seen of a collection by rows and device that are these
-  pub whole_at : (e : Disk) (later : Rows) (v : CollView) → e ≡ d → later ≡ rows → IsWhole w no_memory (IsHeldAt e) later v
-      → IsWhole w no_memory (IsHeldAt d) rows v
-  whole_at e later v device same whole =
-      subst (λ (r : Rows). IsWhole w no_memory (IsHeldAt d) r v) same (subst (λ (x : Disk). IsWhole w no_memory (IsHeldAt x) later v) device whole)
-
-  -- the same, of some objects
-  pub viewed_at : (e : Disk) (later : Rows) (v : CollView) → e ≡ d → later ≡ rows → IsViewed w no_memory (IsHeldAt e) later v
-      → IsViewed w no_memory (IsHeldAt d) rows v
-  viewed_at e later v device same viewed =
-      subst (λ (r : Rows). IsViewed w no_memory (IsHeldAt d) r v) same (subst (λ (x : Disk). IsViewed w no_memory (IsHeldAt x) later v) device viewed)
+  -- a collection that is next is so by its view
+  next_view : (last : Option (List ℕ)) (c : List ℕ) (colls : List CollView) (v : CollView) → last_of None (coll_names colls) ≡ last → v.coll ≡ c
+      → IsNextOf (IsCollection rows) last c → IsNextOf (IsCollection rows) (last_of None (coll_names colls)) v.coll
+  next_view last c colls v last_is of_coll next =
+      subst (IsNextOf (IsCollection rows) (last_of None (coll_names colls))) (sym of_coll)
+      (subst (λ (x : Option (List ℕ)). IsNextOf (IsCollection rows) x c) (sym last_is) next)
 
   -- the names of the collections with the one that comes next
   names_more : (colls more : List CollView) (v : CollView) → more ≡ colls ++ v ∷ [] → WalksWhole colls
@@ -270,6 +302,128 @@ module _ (w : Width) (d : Disk) (rows : Rows) where
       → WalksAll w no_memory (IsHeldAt d) rows colls
   all_walked colls walked past = record { all = record { next = walked.next; past = past }; each = walked.each }
 
-  -- they are no more than the rows
-  pub few_walked : (colls : List CollView) → WalksWhole colls → length colls ≤ length (finite.entries rows)
-  few_walked colls walked = omega (arith, few_colls rows (coll_names colls) walked.next, length-map colls (λ (x : CollView). x.coll))
+  -- ---- what was printed
+
+  module _ (p q : DumpSoFar) (o1 o2 : Output) where
+    -- objects of a collection up to this last one were seen, and are printed
+    pub record PrintedObjects (coll : List ℕ) (last : Option (List ℕ)) : Type 0 where
+      pub view : CollView
+      pub of_coll : view.coll ≡ coll
+      pub viewed : IsViewed w no_memory (IsHeldAt d) rows view
+      pub last_is : last_of None (object_names view.objects) ≡ last
+      pub there : IfSome last (IsObject rows coll)
+      pub printed : AddsWalk (view ∷ []) p q o1 o2
+
+    -- so far none are, but the collection is
+    pub no_objects : (c : List ℕ) → AddsLines (coll_lines (record { coll = c; objects = [] })) false p q o1 o2 → PrintedObjects c None
+    no_objects c added =
+        let v : CollView = record { coll = c; objects = [] } in
+        record {
+          view = v;
+          of_coll = refl;
+          viewed = none_viewed v refl;
+          last_is = refl;
+          there = tt;
+          printed = lines_said (sym (append-nil (coll_lines v))) refl added;
+        }
+
+    -- some objects are printed of a collection whose walk has failed
+    pub part_printed : (c : List ℕ) (last : Option (List ℕ)) (why : WalkFail) → PrintedObjects c last → PrintsColl w d rows c (Err why) p q o1 o2
+    part_printed c last why done =
+        record { view = done.view; of_coll = done.of_coll; viewed = done.viewed; whole = tt; printed = done.printed }
+
+    -- all are where none comes next
+    pub whole_printed : (c : List ℕ) (last : Option (List ℕ)) (u : Unit {0}) → PrintedObjects c last → IsPast (IsObject rows c) last
+        → PrintsColl w d rows c (Ok u) p q o1 o2
+    whole_printed c last u done past = record {
+      view = done.view;
+      of_coll = done.of_coll;
+      viewed = done.viewed;
+      whole = record {
+        viewed = done.viewed;
+        past = subst (λ (x : List ℕ). IsPast (IsObject rows x) (last_of None (object_names done.view.objects))) (sym done.of_coll)
+            (subst (IsPast (IsObject rows c)) (sym done.last_is) past);
+      };
+      printed = done.printed;
+    }
+
+    -- all objects of collections up to this last one were seen, and are printed
+    pub record PrintedColls (last : Option (List ℕ)) : Type 0 where
+      pub colls : List CollView
+      pub walked : WalksWhole colls
+      pub last_is : last_of None (coll_names colls) ≡ last
+      pub there : IfSome last (IsCollection rows)
+      pub printed : AddsWalk colls p q o1 o2
+
+    -- a walk has come so far where it has failed
+    pub walk_failed : (last : Option (List ℕ)) (why : WalkFail) → PrintedColls last → PrintsWalk w d rows (Err why) p q o1 o2
+    walk_failed last why done = record { colls = done.colls; walked = so_far done.colls done.walked; all = tt; printed = done.printed }
+
+    -- to its end where none comes next
+    pub walk_ended : (last : Option (List ℕ)) (u : Unit {0}) → PrintedColls last → IsPast (IsCollection rows) last
+        → PrintsWalk w d rows (Ok u) p q o1 o2
+    walk_ended last u done past = record {
+      colls = done.colls;
+      walked = so_far done.colls done.walked;
+      all = all_walked done.colls done.walked (subst (IsPast (IsCollection rows)) (sym done.last_is) past);
+      printed = done.printed;
+    }
+
+  -- so far none are
+  pub no_colls : (p : DumpSoFar) (o : Output) → PrintedColls p p o o None
+  no_colls p o = record { colls = []; walked = none_walked [] refl; last_is = refl; there = tt; printed = no_walk p o }
+
+  module _ {p q r : DumpSoFar} {o1 o2 o3 : Output} where
+    -- one object more
+    pub object_printed : (c : List ℕ) (last : Option (List ℕ)) (o : ObjectView) → PrintedObjects p q o1 o2 c last
+        → IsNextView w no_memory (IsHeldAt d) rows c last o → AddsLines (object_lines o) (is_bad o.sum) q r o2 o3
+        → PrintedObjects p r o1 o3 c (Some o.name)
+    object_printed c last o done next added =
+        let v : CollView = done.view in
+        let more : CollView = record { coll = v.coll; objects = v.objects ++ o ∷ [] } in
+        let names : object_names (v.objects ++ o ∷ []) ≡ object_names v.objects ++ o.name ∷ [] =
+        map-append (λ (x : ObjectView). x.name) v.objects (o ∷ []) in
+        record {
+          view = more;
+          of_coll = done.of_coll;
+          viewed = one_viewed v more o refl refl done.viewed
+              (subst (λ (l : Option (List ℕ)). IsNextView w no_memory (IsHeldAt d) rows v.coll l o) (sym done.last_is)
+              (subst (λ (x : List ℕ). IsNextView w no_memory (IsHeldAt d) rows x last o) (sym done.of_coll) next));
+          last_is = ap (last_of None) names ∙ last_appended None (object_names v.objects) o.name;
+          there = next.next.is;
+          printed = object_behind v o done.printed added;
+        }
+
+    -- one collection more
+    pub coll_printed : (last : Option (List ℕ)) (c : List ℕ) (u : Unit {0}) → PrintedColls p q o1 o2 last → IsNextOf (IsCollection rows) last c
+        → PrintsColl w d rows c (Ok u) q r o2 o3 → PrintedColls p r o1 o3 (Some c)
+    coll_printed last c u done next coll =
+        let v : CollView = coll.view in
+        let names : coll_names (done.colls ++ v ∷ []) ≡ coll_names done.colls ++ v.coll ∷ [] =
+        map-append (λ (x : CollView). x.coll) done.colls (v ∷ []) in
+        record {
+          colls = done.colls ++ v ∷ [];
+          walked = one_walked done.colls (done.colls ++ v ∷ []) v refl done.walked (next_view last c done.colls v done.last_is coll.of_coll next) coll.whole;
+          last_is = ap (last_of None) names ∙ last_appended None (coll_names done.colls) v.coll ∙ ap (λ (x : List ℕ). Some x) coll.of_coll;
+          there = next.is;
+          printed = walk_both done.colls (v ∷ []) done.printed coll.printed;
+        }
+
+    -- or a part of one
+    pub last_printed : (last : Option (List ℕ)) (c : List ℕ) (why : WalkFail) → PrintedColls p q o1 o2 last → IsNextOf (IsCollection rows) last c
+        → PrintsColl w d rows c (Err why) q r o2 o3 → PrintsWalk w d rows (Err why) p r o1 o3
+    last_printed last c why done next coll =
+        let v : CollView = coll.view in
+        record {
+          colls = done.colls ++ v ∷ [];
+          walked = part_walked done.colls (done.colls ++ v ∷ []) v refl done.walked (next_view last c done.colls v done.last_is coll.of_coll next) coll.viewed;
+          all = tt;
+          printed = walk_both done.colls (v ∷ []) done.printed coll.printed;
+        }
+
+-- what was printed of a collection of a kernel that is in this state
+pub coll_at : (s later : State) (d e : Disk) (c : List ℕ) (r : Result (Unit {0}) WalkFail) (p q : DumpSoFar) (o1 o2 : Output) → later ≡ s → e ≡ d
+    → PrintsColl (width_of later.log.sup) e later.submitted c r p q o1 o2 → PrintsColl (width_of s.log.sup) d s.submitted c r p q o1 o2
+coll_at s later d e c r p q o1 o2 same device prints =
+    subst (λ (z : State). PrintsColl (width_of z.log.sup) d z.submitted c r p q o1 o2) same
+    (subst (λ (x : Disk). PrintsColl (width_of later.log.sup) x later.submitted c r p q o1 o2) device prints)

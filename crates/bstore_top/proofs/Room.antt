@@ -34,6 +34,9 @@ read_not_full : (e : Disk) (t : State) (command : Command) (a : Answer) (need le
 read_not_full e t (ask.Read c o off len) (answer.MetaFull need room) n l names given is = given.1
 read_not_full e t (ask.Sum c o) (answer.MetaFull need room) n l names given is = given.1
 read_not_full e t (ask.Stat c o) (answer.MetaFull need room) n l names given is = given.1
+read_not_full e t (ask.GetAttr c o name) (answer.MetaFull need room) n l names given is = given.1
+read_not_full e t (ask.OmapGet c o key) (answer.MetaFull need room) n l names given is = given.1
+read_not_full e t (ask.OmapHeader c o) (answer.MetaFull need room) n l names given is = given.1
 read_not_full e t (ask.List c) (answer.MetaFull need room) n l names given is = given.1
 read_not_full e t command (answer.MetaFull need room) n l names given is = names
 read_not_full e t command a n l names given is = cc

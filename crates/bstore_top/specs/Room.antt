@@ -1,7 +1,6 @@
 -- Where a run refuses a transaction for want of room in the log.
 use Rattle.std.specs.Prelude.{◌≡◌, ℕ, ◌+◌, ◌<◌, List, [], ◌∷◌, ◌++◌}
 use Rattle.object_model.specs.declared.book.Entry.{Entry}
-use Rattle.object_model.specs.declared.command.Answer.{Answer}
 use Rattle.object_model.specs.declared.command.Answer.TheVariants as answer
 use Rattle.store_steps.specs.Prelude.{Call, submitting, reading, stepping}
 use Rattle.book_facts.specs.Prelude.{need_if_accepted}

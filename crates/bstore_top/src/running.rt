@@ -15,7 +15,7 @@ use crate::script_work::{StepWork, run_store};
 use command_words::{CommandLine, FileName, FileNames, read_words};
 use end_points::{Bay, Gate, Sink};
 use object_model::Book;
-use run_texts::{Status, report_dump, report_mkfs, report_step, show_usage};
+use run_texts::{DumpPrinter, Status, report_mkfs, report_step, show_usage};
 use std::alloc::Global;
 
 /// An outcome of a run that opens no script and has no book.
@@ -109,8 +109,9 @@ fn run_dump<B: Bay, K: Sink>(
     ensures rest { IsBare result.sources.items result.book }
     ensures turns { result.turns.items ≡ [] }
 {
-    let DumpWork { end, walk, dev } = dump_store(alloc, dev, bay);
-    let status = report_dump(&walk, &end, out);
+    let mut text = DumpPrinter::new();
+    let DumpWork { end, dev } = dump_store(alloc, dev, bay, &mut text, out);
+    let status = text.report(&end, out);
     bare(alloc, status, dev)
 }
 

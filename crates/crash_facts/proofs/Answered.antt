@@ -1,13 +1,16 @@
 -- Each call leaves all entries with the answers that plain objects give, and none that names a bad unit.
-use Rattle.std.proofs.Common.{◌≡◌, inl, inr, ℕ, Bool, true, false, cond, List, [], ◌∷◌, ◌++◌, None, Result, Ok, Err, refl, sym, ap, subst}
+use Rattle.std.proofs.Common.{◌≡◌, inl, inr, ℕ, Bool, true, false, cond, List, [], ◌∷◌, ◌++◌, Some, None, Result, Ok, Err, refl, sym, ap, subst}
 use Rattle.std.specs.Prelude.{nat_lt, take, drop, ◌+◌}
 use Rattle.std.specs.List.{AllByRecursion}
+use Rattle.std.specs.Option.{option_map_or}
+use Rattle.std.specs.FinMap as finite
+use Rattle.byte_maps.specs.ByteMap.{ByteMap}
 use Rattle.block_device.specs.Prelude.{Disk, History}
-use Rattle.object_model.specs.Prelude.{Object, Collection, Objects, Change, replay, object_limit, answer_from, found_collection, found_object, reply_of, accepted, AnswersFrom, IsLegal}
+use Rattle.object_model.specs.Prelude.{Object, Collection, Objects, Change, replay, object_limit, answer_from, found_collection, found_object, value_of, reply_of, accepted, AnswersFrom, IsLegal}
 use Rattle.object_model.specs.Book.{IsAnswered as IsRight}
 use Rattle.object_model.specs.declared.book.Entry.{Entry}
 use Rattle.object_model.specs.declared.op.Refusal.{Refusal}
-use Rattle.object_model.specs.declared.op.Refusal.TheVariants.{BadRange}
+use Rattle.object_model.specs.declared.op.Refusal.TheVariants.{NoAttr, BadRange}
 use Rattle.object_model.specs.declared.command.Command.{Command}
 use Rattle.object_model.specs.declared.command.Command.TheVariants as ask
 use Rattle.object_model.specs.declared.command.Answer.{Answer}
@@ -49,6 +52,10 @@ range_no_csum : (b : Bool) (bytes : List ℕ) → IsNoCsum (cond b (answer.Refus
 range_no_csum true bytes = tt
 range_no_csum false bytes = tt
 
+-- nor does a value
+value_no_csum : (m : ByteMap (List ℕ)) (name : List ℕ) → IsNoCsum (value_of m name)
+value_no_csum m name = elim (finite.get m name) as (λ x. IsNoCsum (option_map_or (λ v. answer.Bytes v) x (answer.Refused NoAttr))) [ None ↦ tt | Some v ↦ tt ]
+
 -- so the answer to a read doesn't
 reply_no_csum : (command : Command) (objects : Objects) → HasReadNames command → IsNoCsum (reply_of command objects)
 reply_no_csum (ask.Read c o off len) objects names =
@@ -57,6 +64,9 @@ reply_no_csum (ask.Read c o off len) objects names =
     (λ (b : Object). range_no_csum (nat_lt object_limit (off + len)) (take len (drop off b.bytes)))
 reply_no_csum (ask.Sum c o) objects names = found_no_csum (found_object objects c o) _ (λ (b : Object). tt)
 reply_no_csum (ask.Stat c o) objects names = found_no_csum (found_object objects c o) _ (λ (b : Object). tt)
+reply_no_csum (ask.GetAttr c o name) objects names = found_no_csum (found_object objects c o) _ (λ (b : Object). value_no_csum b.attrs name)
+reply_no_csum (ask.OmapGet c o key) objects names = found_no_csum (found_object objects c o) _ (λ (b : Object). value_no_csum b.omap key)
+reply_no_csum (ask.OmapHeader c o) objects names = found_no_csum (found_object objects c o) _ (λ (b : Object). tt)
 reply_no_csum (ask.List c) objects names = found_no_csum (found_collection objects c) _ (λ (found : Collection). tt)
 reply_no_csum command objects names = absurd names
 

@@ -1,6 +1,6 @@
 -- The old bytes over which a transaction is planned are those that units hold to which its pages map, in memory or as last written; and none
 -- of these units is bad.
-use Rattle.std.proofs.Common.{◌≡◌, ℕ, List, [], ◌∷◌, ◌++◌, map, Option, Some, None, refl, sym, subst, ◌∙◌}
+use Rattle.std.proofs.Common.{◌≡◌, inl, inr, ℕ, List, [], ◌∷◌, ◌++◌, map, Option, Some, None, refl, sym, subst, ◌∙◌}
 use Rattle.std.specs.Prelude.{MatchOption}
 use Rattle.std.specs.List.{AllByRecursion, flat_map}
 use Rattle.std.specs.Option.{option_map_or, option_to_list}
@@ -9,7 +9,6 @@ use Rattle.std.specs.FinMap as finite
 use Rattle.unit_fields.specs.declared.width.Width.{Width}
 use Rattle.block_device.specs.Prelude.{Disk, History}
 use Rattle.object_model.specs.declared.op.Op.{Op}
-use Rattle.object_model.specs.declared.op.Op.TheVariants.{MkColl}
 use Rattle.object_model.specs.Prelude.{Objects, Change, replay, accepted}
 use Rattle.meta_rows.specs.Prelude.{Rows}
 use Rattle.meta_log.specs.Prelude.{width_of}
@@ -20,6 +19,7 @@ use Rattle.read_facts.proofs.Seen.{found_is, place_not_bad}
 use Rattle.unit_allocator.specs.Prelude.{Space}
 use Rattle.plan_rows.specs.declared.plan.Plan.{Plan}
 use Rattle.plan_rows.specs.declared.plan.ReadUnit.{ReadUnit}
+use Rattle.plan_rows.proofs.Reading.{none_or_on_object}
 use Rattle.plan_rows.specs.Prelude.{Edit, pages_read, own_units, units_at, places_read, IsReadFor, Layout, HasLayout, or_empty, edit_on, object_of, places_on, IsReadOf, PlansObject, Plans, AsksFor, asks_none, asks_for}
 use Rattle.store_steps.specs.Prelude.{State, intents, uncommitted, memory_of, MeetsBadUnit, AcceptsOne}
 use Rattle.run_facts.specs.Prelude.{IsKept}
@@ -109,10 +109,10 @@ object_read w c op rows space plan is = read_units w rows c (object_of op) is.la
 
 plan_read : (w : Width) (c : List ℕ) (ops : List Op) (rows : Rows) (space : Space) (plan : Plan) → Plans w c ops rows space plan
     → AllByRecursion (λ r. HasPage w rows r.unit) plan.read
-plan_read w c (MkColl ∷ []) rows space plan is =
-    subst (AllByRecursion (λ r. HasPage w rows r.unit)) (sym is.makes.none_read) tt
-plan_read w c (op ∷ []) rows space plan is = object_read w c op rows space plan is
-plan_read w c ops rows space plan is = absurd is
+plan_read w c ops rows space plan is = elim (none_or_on_object w c ops rows space plan is) [
+  | inl none ↦ subst (AllByRecursion (λ r. HasPage w rows r.unit)) (sym none) tt
+  | inr on ↦ object_read w c on.0 rows space plan on.1
+]
 
 -- a page of an object that is there stands at each place whose old bytes a transaction asks for
 record IsPageOfSome (w : Width) (rows : Rows) (place : Place) : Type 0 where
@@ -127,7 +127,7 @@ all_of_some w rows c o (place ∷ places) all = (record { coll = c; object = o; 
 
 asked_for : (w : Width) (change : Change) (rows : Rows) (need : ℕ) (places : List Place) → AsksFor w change rows need places
     → AllByRecursion (IsPageOfSome w rows) places
-asked_for w change rows need places (asks_none is none_needed none) = subst (AllByRecursion (IsPageOfSome w rows)) (sym none) tt
+asked_for w change rows need places (asks_none op is on none_needed none) = subst (AllByRecursion (IsPageOfSome w rows)) (sym none) tt
 asked_for w change rows need places (asks_for op is on) = subst (AllByRecursion (IsPageOfSome w rows)) (sym on.places_are)
     (all_of_some w rows change.coll (object_of op) (places_on op on.layout)
     (asked_places w rows change.coll (object_of op) on.layout on.has op))

@@ -10,7 +10,7 @@ use Rattle.object_model.specs.declared.book.Entry.{Entry}
 use Rattle.object_model.specs.declared.command.Command.TheVariants as ask
 use Rattle.object_model.specs.declared.command.Answer.TheVariants as answer
 use Rattle.unit_fields.specs.Prelude.{Ascends}
-use Rattle.meta_rows.specs.Prelude.{Rows, rows_after, ops_bytes, AllFit}
+use Rattle.meta_rows.specs.Prelude.{Rows, rows_after, rows_size, ops_bytes, AllFit}
 use Rattle.meta_log.specs.Prelude.{width_of}
 use Rattle.meta_store.specs.Store as meta
 use Rattle.unit_allocator.specs.Prelude.{Space, free_units, taken}
@@ -27,7 +27,7 @@ use Rattle.store_steps.specs.declared.context.Context.{Context}
 use Rattle.store_steps.specs.declared.flight.Flying.{Flying}
 use Rattle.store_steps.specs.Prelude.{State, CanNote, Accepts, accepted_with, need_of, memory_of}
 use Rattle.run_facts.specs.Prelude.{IsKept}
-use Rattle.run_facts.proofs.Prelude.{kept_submitted, kept_free, fresh_not_in_memory}
+use Rattle.run_facts.proofs.Prelude.{kept_submitted, kept_free, submitted_short, fresh_not_in_memory}
 use Rattle.onode_state.specs.Objects.{AreRowsOfAStore, AreRowsOfWidth}
 use Rattle.read_facts.specs.Prelude.{IsHeldAt, IsFound}
 use Rattle.page_sources.specs.Prelude.{IsPlacesFail}
@@ -115,7 +115,15 @@ planned_fits s d change plan kept can known is =
     (plans_keep s.log.sup s.submitted s.space change plan good free known is.plans).0 in
     let one : IsPlanned s.log.sup s.submitted change plan =
     (planned s.log.sup s.submitted s.space free good.good change.coll change.ops plan known is.plans).0 in
-    record { fit = keeps.fit; short = (plan_facts s.log.sup s.submitted one good.good).short; ascend = keeps.ascend }
+    record {
+      fit = keeps.fit;
+      short = within (length (ops_bytes plan.ops)) (rows_size s.submitted) (plan_facts s.log.sup s.submitted one good.good).short
+          (submitted_short s d kept can.up);
+      ascend = keeps.ascend;
+    }
+  where
+    within : (bytes rows : ℕ) → bytes ≤ 2 ^ 31 + rows → rows ≤ 2 ^ 28 → bytes < 2 ^ 32
+    within bytes rows le few = omega (arith, le, few)
 
 -- a record that fits into the room that was counted fits into the log
 pub enough : (m : meta.Meta) (plan : Plan) (need room : ℕ) → need ≡ need_of m plan → room ≡ meta.room_of m → need ≤ room

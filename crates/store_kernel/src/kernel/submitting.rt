@@ -24,8 +24,8 @@ use unit_fields::limits::BOOK_LIMIT;
 impl<D: Device> Kernel<D> {
     /// Accepts a transaction, or refuses it for a cause. Either makes an entry of the book, into which the transaction is moved;
     /// an accepted one is committed by the steps that follow. A kernel that is down, or whose book is full, turns it away without
-    /// an entry, and a read that the device fails leaves none. For now a transaction is of one operation: it makes a collection, or
-    /// is on an object and on its bytes.
+    /// an entry, and a read that the device fails leaves none. For now a transaction is of one operation, which may be any but a
+    /// clone.
     ///
     /// Of pages that change in part the old bytes are read, once the transaction is known to be taken and units suffice for it:
     /// from memory where an accepted transaction isn't committed yet, and else from the device, with their checksum.

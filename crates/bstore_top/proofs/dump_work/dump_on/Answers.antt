@@ -1,5 +1,8 @@
-use Rattle.std.proofs.Common.{inr}
-use Rattle.bstore_top.proofs.DumpKept.{opened_empty, stays_durable, walk_counted, later_unmounted, durable_unmounted, store_walked, walk_shows}
+use Rattle.std.proofs.Common.{[], inl, inr, refl}
+use Rattle.bstore_top.proofs.WorkLemmas.{left_by_mount}
+use Rattle.bstore_top.proofs.Keeping.{mount_failed}
+use Rattle.bstore_top.proofs.DumpWalks.{no_walk}
+use Rattle.bstore_top.proofs.DumpKept.{opened_empty, unmounted_shows, stays_durable, walk_counted, later_unmounted, durable_unmounted, store_walked, walk_shows}
 use Rattle.bstore_top.proofs.dump_work.dump_on.Goals as goal
 
 pub walk_store-walked-requires-clause-nothing : goal.walk_store-walked-requires-clause-nothing
@@ -10,21 +13,40 @@ pub returns-in-Err-clause-durable : goal.returns-in-Err-clause-durable
 returns-in-Err-clause-durable g c sound fresh =
     stays_durable (g.D.Device.disk c.args.dev) (g.D.Device.disk c.in-Err.dev) fresh c.in-Err.ensures.durable
 
-pub returns-clause-dumps : goal.returns-clause-dumps
-returns-clause-dumps g c =
+pub returns-in-Err-clause-prints : goal.returns-in-Err-clause-prints
+returns-in-Err-clause-prints g c =
+    let before = g.D.Device.faults c.args.dev in
+    let now = g.D.Device.faults c.in-Err.dev in
+    let given = g.D.Device.disk c.args.dev in
+    let failed = mount_failed c.in-Err.fail c.unmounted.result given before now c.unmounted.ensures c.in-Err.ensures.fails in
+    record {
+      colls = [];
+      dumps = inl (
+        failed,
+        refl,
+        rw c.unmounted.ensures (left_by_mount c.in-Err.fail given (g.D.Device.disk c.in-Err.dev) c.in-Err.ensures.same c.in-Err.ensures.back),
+      );
+      shows = λ sound fresh. unmounted_shows c.unmounted.result given before now [] failed refl;
+      printed = no_walk c.args.text.now _;
+    }
+
+pub returns-clause-prints : goal.returns-clause-prints
+returns-clause-prints g c =
     let walk = c.walk_store-walked in
     let reaped = c.unmount-dev.ensures.reaped in
-    rw c.ended-end.ensures (inr (
-      walk_counted walk.result c.free_units.result _ _ _ _ walk.ensures.fails walk.ensures.cause c.in-Ok.ensures.later c.unmount-dev.ensures.later,
-      store_walked _ c.in-Ok.ensures.ok.0 c.in-Ok.ensures.ok.1.0 _ _ c.in-Ok.ensures.ok.1.1 _ _ _ reaped.0 walk.ensures.same walk.ensures.disk
-          reaped.1.0 walk.result c.free_units.result walk.new.walk.items walk.ensures.fails walk.ensures.walked walk.ensures.all,
-    ))
-
-pub returns-clause-shows : goal.returns-clause-shows
-returns-clause-shows g c sound fresh h objects told stands =
-    let walk = c.walk_store-walked in
-    rw c.ended-end.ensures (walk_shows _ c.in-Ok.ensures.ok.0 c.in-Ok.ensures.ok.1.0 _ _ c.in-Ok.ensures.ok.1.1 c.facts.ensures.kept
-    c.facts.ensures.durable fresh h objects told stands walk.result c.free_units.result walk.new.walk.items walk.ensures.walked walk.ensures.all)
+    let seen = walk.ensures.prints in
+    record {
+      colls = seen.colls;
+      dumps = rw c.ended-end.ensures (inr (
+        walk_counted walk.result c.free_units.result _ _ _ _ walk.ensures.fails walk.ensures.cause c.in-Ok.ensures.later c.unmount-dev.ensures.later,
+        store_walked _ c.in-Ok.ensures.ok.0 c.in-Ok.ensures.ok.1.0 _ _ c.in-Ok.ensures.ok.1.1 _ _ _ reaped.0 walk.ensures.same walk.ensures.disk
+            reaped.1.0 walk.result c.free_units.result seen.colls walk.ensures.fails seen.walked seen.all,
+      ));
+      shows = λ sound fresh h objects told stands.
+          rw c.ended-end.ensures (walk_shows _ c.in-Ok.ensures.ok.0 c.in-Ok.ensures.ok.1.0 _ _ c.in-Ok.ensures.ok.1.1 c.facts.ensures.kept
+          c.facts.ensures.durable fresh h objects told stands walk.result c.free_units.result seen.colls seen.walked seen.all);
+      printed = seen.printed;
+    }
 
 pub returns-clause-durable : goal.returns-clause-durable
 returns-clause-durable g c sound fresh =

@@ -1,73 +1,67 @@
-use Rattle.std.proofs.Common.{List, [], ◌∷◌, ◌++◌, None, length, ap, sym, subst, arith, ◌∙◌}
+use Rattle.std.proofs.Common.{refl, arith, ap, ◌∙◌}
 use Rattle.std.specs.Option.{option_copied}
-use Rattle.std.specs.FinMap as finite
+use Rattle.std.proofs.lemmas.Result.{err_from_is_err_and}
 use Rattle.meta_log.specs.Prelude.{width_of}
-use Rattle.read_facts.specs.declared.view.CollView.{CollView}
-use Rattle.read_facts.specs.Prelude.{IsHeldAt, no_memory, IsCollection, IsNextOf, last_of, WalksTo, coll_names}
 use Rattle.store_steps.specs.Prelude.{memory_of}
-use Rattle.bstore_top.proofs.DumpWalks.{coll_found, so_far, one_walked, part_walked, few_walked, fewer_left, whole_at, viewed_at}
+use Rattle.bstore_top.proofs.DumpWalks.{coll_found, none_behind, no_colls, coll_printed, last_printed, walk_failed, walk_ended, coll_at, fewer_colls}
 use Rattle.bstore_top.proofs.dump_work.walk_store.Goals as goal
 
-pub walk_objects-walked-requires-clause-nothing : goal.walk_objects-walked-requires-clause-nothing
-walk_objects-walked-requires-clause-nothing g c = ap memory_of c.colls.invariant.same ∙ c.requires.nothing
+pub colls-init : goal.colls-init
+colls-init g c = record {
+  same = refl;
+  disk = refl;
+  faults = omega arith;
+  printed = no_colls (width_of c.args.kernel.now.state.log.sup) (g.D.Device.disk c.args.kernel.now.device) c.args.kernel.now.state.submitted
+      c.args.text.now _;
+}
+
+pub walk_coll-requires-clause-nothing : goal.walk_coll-requires-clause-nothing
+walk_coll-requires-clause-nothing g c = ap memory_of c.colls.invariant.same ∙ c.requires.nothing
 
 pub colls-preserved : goal.colls-preserved
 colls-preserved g c =
     let inv = c.colls.invariant in
+    let s = c.args.kernel.now.state in
     let d = g.D.Device.disk c.args.kernel.now.device in
-    let rows = c.args.kernel.now.state.submitted in
-    let same_rows = ap (λ s. s.submitted) inv.same in
-    let v : CollView = c.walk_objects-walked.new.view in
-    let last = c.last_coll.ensures ∙ ap (λ (l : List CollView). last_of None (coll_names l)) c.deref.ensures.value in
-    let next =
-    coll_found rows _ c.in_ok-coll.field-0 (option_copied c.last_coll.result) _ c.in-Some.coll same_rows last c.in-Some.is c.in_ok-coll.ensures.ok in
+    let next = coll_found s.submitted _ c.in_ok-coll.field-0 (option_copied c.as_ref.result) c.colls.last c.in-Some.coll
+    (ap (λ s. s.submitted) inv.same) c.as_ref.ensures.value c.in-Some.is c.in_ok-coll.ensures.ok in
     record {
-      same = c.walk_objects-walked.ensures.same ∙ inv.same;
-      disk = c.walk_objects-walked.ensures.disk ∙ inv.disk;
-      faults = omega (arith, inv.faults, c.walk_objects-walked.ensures.later);
-      walked = one_walked (width_of c.args.kernel.now.state.log.sup) d rows c.colls.walk.items c.push_reserved.new.self.items v
-          (c.push_reserved.ensures.items ∙ ap (λ (l : List CollView). l ++ v ∷ []) c.reserve.ensures.items) inv.walked
-          (subst (IsNextOf (IsCollection rows) (last_of None (coll_names c.colls.walk.items))) (sym c.walk_objects-walked.ensures.coll) next)
-          (whole_at (width_of c.args.kernel.now.state.log.sup) d rows _ _ v inv.disk same_rows c.in_ok-walked.ensures.whole);
+      same = c.walk_coll.ensures.same ∙ inv.same;
+      disk = c.walk_coll.ensures.disk ∙ inv.disk;
+      faults = omega (arith, inv.faults, c.walk_coll.ensures.later);
+      printed = coll_printed (width_of s.log.sup) d s.submitted c.colls.last c.in-Some.coll _ inv.printed next
+          (coll_at s _ d _ c.in-Some.coll _ _ _ _ _ inv.same inv.disk c.in_ok-walk_coll.ensures.prints);
     }
 
 pub colls-smaller : goal.colls-smaller
 colls-smaller g c =
-    let d = g.D.Device.disk c.args.kernel.now.device in
-    let rows = c.args.kernel.now.state.submitted in
-    let v : CollView = c.walk_objects-walked.new.view in
-    fewer_left (length (finite.entries rows)) c.colls.walk.items c.push_reserved.new.self.items v
-    (c.push_reserved.ensures.items ∙ ap (λ (l : List CollView). l ++ v ∷ []) c.reserve.ensures.items)
-    (few_walked (width_of c.args.kernel.now.state.log.sup) d rows c.push_reserved.new.self.items (colls-preserved g c).walked)
-
-pub returns-in_err-walked-clause-walked : goal.returns-in_err-walked-clause-walked
-returns-in_err-walked-clause-walked g c =
     let inv = c.colls.invariant in
+    let s = c.args.kernel.now.state in
+    let next = coll_found s.submitted _ c.in_ok-coll.field-0 (option_copied c.as_ref.result) c.colls.last c.in-Some.coll
+    (ap (λ s. s.submitted) inv.same) c.as_ref.ensures.value c.in-Some.is c.in_ok-coll.ensures.ok in
+    fewer_colls s.submitted c.colls.last c.in-Some.coll inv.printed.there next
+
+pub returns-in_err-walk_coll-clause-prints : goal.returns-in_err-walk_coll-clause-prints
+returns-in_err-walk_coll-clause-prints g c =
+    let inv = c.colls.invariant in
+    let s = c.args.kernel.now.state in
     let d = g.D.Device.disk c.args.kernel.now.device in
-    let rows = c.args.kernel.now.state.submitted in
-    let same_rows = ap (λ s. s.submitted) inv.same in
-    let v : CollView = c.walk_objects-walked.new.view in
-    let last = c.last_coll.ensures ∙ ap (λ (l : List CollView). last_of None (coll_names l)) c.deref.ensures.value in
-    let next =
-    coll_found rows _ c.in_ok-coll.field-0 (option_copied c.last_coll.result) _ c.in-Some.coll same_rows last c.in-Some.is c.in_ok-coll.ensures.ok in
-    part_walked (width_of c.args.kernel.now.state.log.sup) d rows c.colls.walk.items c.push_reserved.new.self.items v
-    (c.push_reserved.ensures.items ∙ ap (λ (l : List CollView). l ++ v ∷ []) c.reserve.ensures.items) inv.walked
-    (subst (IsNextOf (IsCollection rows) (last_of None (coll_names c.colls.walk.items))) (sym c.walk_objects-walked.ensures.coll) next)
-    (viewed_at (width_of c.args.kernel.now.state.log.sup) d rows _ _ v inv.disk same_rows c.walk_objects-walked.ensures.viewed)
+    let next = coll_found s.submitted _ c.in_ok-coll.field-0 (option_copied c.as_ref.result) c.colls.last c.in-Some.coll
+    (ap (λ s. s.submitted) inv.same) c.as_ref.ensures.value c.in-Some.is c.in_ok-coll.ensures.ok in
+    let p = err_from_is_err_and c.from_residual-in_err-walk_coll.result c.from_residual-in_err-walk_coll.ensures.1 in
+    rw (p.1, p.2) (last_printed (width_of s.log.sup) d s.submitted c.colls.last c.in-Some.coll c.in_err-walk_coll.field-0.0 inv.printed next
+    (coll_at s _ d _ c.in-Some.coll _ _ _ _ _ inv.same inv.disk c.in_err-walk_coll.ensures.prints))
 
-pub returns-in_err-coll-clause-walked : goal.returns-in_err-coll-clause-walked
-returns-in_err-coll-clause-walked g c =
-    so_far (width_of c.args.kernel.now.state.log.sup)
-    (g.D.Device.disk c.args.kernel.now.device) c.args.kernel.now.state.submitted c.colls.walk.items c.colls.invariant.walked
+pub returns-in_err-coll-clause-prints : goal.returns-in_err-coll-clause-prints
+returns-in_err-coll-clause-prints g c =
+    let p = err_from_is_err_and c.from_residual.result c.from_residual.ensures.1 in
+    rw p.1 (walk_failed (width_of c.args.kernel.now.state.log.sup) (g.D.Device.disk c.args.kernel.now.device) c.args.kernel.now.state.submitted
+    _ _ _ _ c.colls.last _ c.colls.invariant.printed)
 
-pub returns-in_default-reserve-clause-walked : goal.returns-in_default-reserve-clause-walked
-returns-in_default-reserve-clause-walked g c =
-    let d = g.D.Device.disk c.args.kernel.now.device in
-    let rows = c.args.kernel.now.state.submitted in
-    subst (WalksTo (width_of c.args.kernel.now.state.log.sup) no_memory (IsHeldAt d) rows) (sym c.reserve.ensures.items)
-    (so_far (width_of c.args.kernel.now.state.log.sup) d rows c.colls.walk.items c.colls.invariant.walked)
-
-pub returns-clause-walked : goal.returns-clause-walked
-returns-clause-walked g c =
-    so_far (width_of c.args.kernel.now.state.log.sup)
-    (g.D.Device.disk c.args.kernel.now.device) c.args.kernel.now.state.submitted c.colls.walk.items c.colls.invariant.walked
+pub returns-clause-prints : goal.returns-clause-prints
+returns-clause-prints g c =
+    let inv = c.colls.invariant in
+    let s = c.args.kernel.now.state in
+    walk_ended (width_of s.log.sup) (g.D.Device.disk c.args.kernel.now.device) s.submitted _ _ _ _ c.colls.last _ inv.printed
+    (none_behind s.submitted _ c.in_ok-coll.field-0 (option_copied c.as_ref.result) c.colls.last (ap (λ s. s.submitted) inv.same)
+    c.as_ref.ensures.value c.in_default.is c.in_ok-coll.ensures.ok)

@@ -1,7 +1,8 @@
-use Rattle.std.proofs.Common.{◌≡◌, ◌≤◌, ◌-◌, length}
-use Rattle.std.specs.FinMap as finite
+use Rattle.std.proofs.Common.{◌≡◌, ◌≤◌}
 use Rattle.meta_log.specs.Prelude.{width_of}
-use Rattle.bstore_top.proofs.DumpWalks.{WalksWhole}
+use Rattle.row_format.specs.Prelude.{coll_key}
+use Rattle.run_texts.specs.Prelude.{output}
+use Rattle.bstore_top.proofs.DumpWalks.{PrintedColls, rows_above}
 use Rattle.bstore_top.proofs.dump_work.walk_store.Given as goal
 
 abbrev pub invariant-colls : goal.invariant-colls
@@ -9,9 +10,10 @@ invariant-colls g l = record {
   same : l.kernel.state ≡ l.initial.kernel.state;
   disk : g.D.Device.disk l.kernel.device ≡ g.D.Device.disk l.initial.kernel.device;
   faults : g.D.Device.faults l.initial.kernel.device ≤ g.D.Device.faults l.kernel.device;
-  walked : WalksWhole (width_of l.initial.kernel.state.log.sup)
-      (g.D.Device.disk l.initial.kernel.device) l.initial.kernel.state.submitted l.walk.items;
+  printed : PrintedColls (width_of l.initial.kernel.state.log.sup) (g.D.Device.disk l.initial.kernel.device) l.initial.kernel.state.submitted
+      l.initial.text l.text (output (g.K.Sink.written l.initial.out) (g.K.Sink.faults l.initial.out))
+      (output (g.K.Sink.written l.out) (g.K.Sink.faults l.out)) l.last;
 }
 
 abbrev pub decreases-colls : goal.decreases-colls
-decreases-colls g l = length (finite.entries l.initial.kernel.state.submitted) - length l.walk.items
+decreases-colls g l = rows_above coll_key l.initial.kernel.state.submitted l.last

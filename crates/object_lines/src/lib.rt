@@ -8,3 +8,4 @@ mod questions;
 mod reading;
 
 pub use lines::ObjectLines;
+pub use operations::operation;

@@ -7,6 +7,8 @@ mod bitmap_freelist_tests;
 #[cfg(test)]
 mod blob_map_tests;
 #[cfg(test)]
+mod extent_shards_tests;
+#[cfg(test)]
 mod object_reader_tests;
 #[cfg(test)]
 mod row_check_tests;

@@ -8,7 +8,7 @@ ghost use Rattle.read_facts.specs.Prelude.{IsKnownRead};
 ghost use Rattle.write_buffers.specs.Prelude.{memory_in};
 ghost use Rattle.object_reader.specs.Readable.{IsReadable};
 
-use crate::rows::{COLL, ONODE_A, SHARD_A0, superblock, table_of};
+use crate::rows::{COLL, ONODE_A, SHARD_A0, shard_values, superblock, table_of};
 use blob_map::{PageMap, Place};
 use block_device::{Device, Kind, MemoryDevice};
 use byte_maps::Bytes;
@@ -66,7 +66,8 @@ fn shard_value(alloc: Global, pieces: &[Piece]) -> Result<Bytes, AllocError> {
     for piece in pieces {
         put_piece(alloc, &mut pages, piece)?;
     }
-    pages.to_value(alloc, Width::FourBytes)
+    let value = shard_values(alloc, &pages, None)?.pop();
+    Ok(value.unwrap_or(Bytes::new(alloc)))
 }
 
 // The rows of a collection with this object.

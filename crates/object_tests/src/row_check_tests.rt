@@ -1,6 +1,8 @@
 //! Tables of rows, and the least bad row of each.
 
 use crate::rows::{COLL, Entry, ONODE_A, SHARD_A0, superblock, table_of};
+use byte_maps::Bytes;
+use meta_rows::RowOp;
 use row_check::find_bad_row;
 use std::alloc::{AllocError, Global};
 use std::test::Fail;
@@ -19,10 +21,41 @@ const BITMAP_0: &[u8] = b"b\0\0\0\0";
 
 const BITMAP_1: &[u8] = b"b\0\0\0\x01";
 
+const ATTRIBUTE_A: &[u8] = b"A1.0_head\0a\0x";
+
+const HEADER_A: &[u8] = b"M1.0_head\0a\0-";
+
+const PAIR_A: &[u8] = b"M1.0_head\0a\0.k";
+
+const ATTRIBUTE_B: &[u8] = b"A1.0_head\0b\0x";
+
+const PAIR_B: &[u8] = b"M1.0_head\0b\0.k";
+
+// A pair of an object `a` in another collection.
+const PAIR_OF_OTHER: &[u8] = b"M2.0_head\0a\0.k";
+
+// What the keys of rows of the object `a` begin with.
+const ATTRIBUTES_A: &[u8] = b"A1.0_head\0a\0";
+
+const PAIRS_A: &[u8] = b"M1.0_head\0a\0.";
+
 // Keys of no row.
+const HEADER_AND_MORE: &[u8] = b"M1.0_head\0a\0-x";
+
+const PAIR_WITHOUT_KEY: &[u8] = b"M1.0_head\0a\0.";
+
+const NEITHER: &[u8] = b"M1.0_head\0a\0k";
+
+const NO_OMAP: &[u8] = b"M1.0_head\0a\0";
+
+const NO_ATTRIBUTE: &[u8] = b"A1.0_head\0a\0";
+
 const KEY_D: &[u8] = b"D";
 
 const KEY_Z: &[u8] = b"Z";
+
+// What an attribute, a header or a pair gives.
+const VALUE: &[u8] = b"v";
 
 // Sizes of an object.
 const ONE_PAGE: &[u8] = b"\0\x10\0\0\0\0\0\0";
@@ -69,7 +102,7 @@ fn is_least_bad(alloc: Global, rows: &[Entry], key: Option<&[u8]>) -> Result<boo
 // What the rows are, the rows, and the least bad one's key.
 type Judged = (&'static str, &'static [Entry], Option<&'static [u8]>);
 
-static JUDGED: [Judged; 18] = [
+static JUDGED: [Judged; 33] = [
     ("no rows", &[], None),
     (
         "three pages in two shards, and the largest object with pages on the last units",
@@ -82,6 +115,100 @@ static JUDGED: [Judged; 18] = [
             (SHARD_A0, TWO_ON_20),
         ],
         None,
+    ),
+    (
+        "attributes, a header and pairs of two objects",
+        &[
+            COLL,
+            (ONODE_A, ONE_PAGE),
+            (ONODE_B, LARGEST),
+            (ATTRIBUTE_A, EMPTY),
+            (ATTRIBUTE_B, VALUE),
+            (HEADER_A, VALUE),
+            (PAIR_A, EMPTY),
+            (PAIR_B, VALUE),
+        ],
+        None,
+    ),
+    (
+        "an attribute without its onode",
+        &[COLL, (ATTRIBUTE_A, VALUE)],
+        Some(ATTRIBUTE_A),
+    ),
+    (
+        "an attribute without its collection",
+        &[(ONODE_A, ONE_PAGE), (ATTRIBUTE_A, VALUE)],
+        Some(ATTRIBUTE_A),
+    ),
+    (
+        "a header without its onode",
+        &[COLL, (HEADER_A, VALUE)],
+        Some(HEADER_A),
+    ),
+    (
+        "a pair without its onode",
+        &[COLL, (PAIR_A, VALUE)],
+        Some(PAIR_A),
+    ),
+    (
+        "a pair without its onode behind another object's",
+        &[COLL, (ONODE_A, ONE_PAGE), (PAIR_A, VALUE), (PAIR_B, VALUE)],
+        Some(PAIR_B),
+    ),
+    (
+        "a pair of an object of this name in another collection",
+        &[
+            COLL,
+            (ONODE_A, ONE_PAGE),
+            (PAIR_A, VALUE),
+            (PAIR_OF_OTHER, VALUE),
+        ],
+        Some(PAIR_OF_OTHER),
+    ),
+    (
+        "a pair of an object whose onode is bad",
+        &[COLL, (ONODE_A, TOO_LARGE), (PAIR_A, VALUE)],
+        Some(ONODE_A),
+    ),
+    (
+        "an empty header",
+        &[COLL, (ONODE_A, ONE_PAGE), (HEADER_A, EMPTY)],
+        Some(HEADER_A),
+    ),
+    (
+        "more than a header",
+        &[COLL, (ONODE_A, ONE_PAGE), (HEADER_AND_MORE, VALUE)],
+        Some(HEADER_AND_MORE),
+    ),
+    (
+        "a pair without a key",
+        &[COLL, (ONODE_A, ONE_PAGE), (PAIR_WITHOUT_KEY, VALUE)],
+        Some(PAIR_WITHOUT_KEY),
+    ),
+    (
+        "neither a header nor a pair",
+        &[COLL, (ONODE_A, ONE_PAGE), (NEITHER, VALUE)],
+        Some(NEITHER),
+    ),
+    (
+        "no omap's row",
+        &[COLL, (ONODE_A, ONE_PAGE), (NO_OMAP, VALUE)],
+        Some(NO_OMAP),
+    ),
+    (
+        "an attribute without a name",
+        &[COLL, (ONODE_A, ONE_PAGE), (NO_ATTRIBUTE, VALUE)],
+        Some(NO_ATTRIBUTE),
+    ),
+    (
+        "a good attribute before a key of no row",
+        &[
+            COLL,
+            (ONODE_A, ONE_PAGE),
+            (ATTRIBUTE_A, VALUE),
+            (KEY_D, EMPTY),
+        ],
+        Some(KEY_D),
     ),
     (
         "bits of the first and the last unit",
@@ -175,6 +302,44 @@ static JUDGED: [Judged; 18] = [
 fn bad_rows(rt: HostRuntime) -> Result<(), Fail> {
     for (what, rows, key) in &JUDGED {
         assert!(rt; is_least_bad(rt.alloc(), rows, *key)?, "{what}");
+    }
+    Ok(())
+}
+
+// Whether no row is bad of the object `a` and one more of it, whose key ends in a name of so many bytes and whose value has so many.
+fn are_good(alloc: Global, front: &[u8], name: usize, value: usize) -> Result<bool, AllocError> {
+    let mut key = Vec::new(alloc);
+    key.extend_from_slice(front)?;
+    key.extend_from_slice(&vec![in alloc; b'n'; name]?)?;
+    let key = Bytes::from_vec(key);
+    let value = Bytes::from_vec(vec![in alloc; b'v'; value]?);
+    let mut rows = table_of(alloc, &[COLL, (ONODE_A, ONE_PAGE)])?;
+    rows.apply_all(alloc, vec![in alloc; RowOp::Set { key, value }]?)?;
+    Ok(find_bad_row(alloc, &superblock(100), &rows)?.is_none())
+}
+
+// How a key begins, how long its name and its value are, and whether the row is good.
+type Sized = (&'static [u8], usize, usize, bool);
+
+static SIZED: [Sized; 8] = [
+    (ATTRIBUTES_A, 255, 65535, true),
+    (ATTRIBUTES_A, 1, 0, true),
+    (ATTRIBUTES_A, 256, 1, false),
+    (ATTRIBUTES_A, 1, 65536, false),
+    (PAIRS_A, 255, 65535, true),
+    (PAIRS_A, 1, 0, true),
+    (PAIRS_A, 256, 1, false),
+    (PAIRS_A, 1, 65536, false),
+];
+
+#[test]
+fn lengths_of_names_and_values(rt: HostRuntime) -> Result<(), Fail> {
+    for (front, name, value, good) in &SIZED {
+        assert_eq!(rt;
+            are_good(rt.alloc(), front, *name, *value)?,
+            *good,
+            "{name} {value}"
+        );
     }
     Ok(())
 }

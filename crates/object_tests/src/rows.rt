@@ -2,10 +2,13 @@
 ghost use Rattle.std.specs.Prelude.{◌≡◌, ◌≤◌};
 ghost use Rattle.meta_log.specs.Prelude.{IsSuper};
 
+use blob_map::PageMap;
 use byte_maps::Bytes;
+use extent_shards::split;
 use meta_log::Super;
 use meta_rows::{RowOp, RowTable};
 use std::alloc::{AllocError, Global};
+use unit_fields::Width;
 
 /// A key and a value.
 pub type Entry = (&'static [u8], &'static [u8]);
@@ -50,4 +53,17 @@ pub fn table_of(alloc: Global, entries: &[Entry]) -> Result<RowTable, AllocError
     let mut rows = RowTable::new(alloc);
     rows.apply_all(alloc, ops)?;
     Ok(rows)
+}
+
+/// The values of the rows of a map's shards, split by a bound on their bytes, if there is one.
+pub fn shard_values(
+    alloc: Global,
+    pages: &PageMap,
+    bound: Option<u32>,
+) -> Result<Vec<Bytes>, AllocError> {
+    let mut values = Vec::new(alloc);
+    for shard in split(alloc, Width::FourBytes, pages, bound)?.as_slice() {
+        values.push(shard.encode(alloc, Width::FourBytes)?)?;
+    }
+    Ok(values)
 }

@@ -6,11 +6,11 @@ ghost use Rattle.plan_rows.specs.Prelude.{IsKnown, AreReadAt};
 
 use crate::rows::{COLL, Entry, ONODE_A, SHARD_A0, superblock, table_of};
 use blob_map::Place;
-use byte_maps::Items;
+use byte_maps::{Bytes as Value, Items};
 use bytes::Bytes;
 use crc32c_csum::crc32c;
 use meta_rows::{RowOp, RowTable};
-use object_model::{Op, Refusal, Transaction};
+use object_model::{Op, Pair, Refusal, Transaction};
 use plan_rows::{Plan, ReadUnit};
 use row_check::find_bad_row;
 use std::alloc::{AllocError, Global};
@@ -57,20 +57,59 @@ fn space(alloc: Global) -> Result<Allocator, AllocError> {
     Allocator::new(alloc, UnitNo::new(18), UnitNo::new(800), &busy)
 }
 
-// What a transaction does: it makes a collection, or changes the object `a`. A write, of bytes 07, and zeros begin at an offset and are so long.
+// A key of the omap and its value.
+type KeyValue = (&'static [u8], &'static [u8]);
+
+// What a transaction does: it makes a collection or takes it away, or changes the object `a`. A write, of bytes 07, and zeros begin at an offset
+// and are so long.
 #[derive(Clone, Copy)]
 enum Change {
     MkColl,
+    RmColl,
     Touch,
     Write(u64, usize),
     Zero(u64, u64),
     Truncate(u64),
     Remove,
+    SetAttr(&'static [u8], &'static [u8]),
+    RmAttr(&'static [u8]),
+    RmAttrs,
+    OmapSet(&'static [KeyValue]),
+    OmapRm(&'static [&'static [u8]]),
+    OmapRmRange(&'static [u8], &'static [u8]),
+    OmapClear,
+    OmapHeader(&'static [u8]),
 }
 
-fn op_of(alloc: Global, change: Change, object: Name) -> Result<Op, AllocError> {
+fn name_of(alloc: Global, bytes: &[u8]) -> Result<Name, Fail> {
+    match Name::read(alloc, bytes)? {
+        Some(name) => Ok(name),
+        None => Err("no name".into()),
+    }
+}
+
+fn pairs_of(alloc: Global, pairs: &[KeyValue]) -> Result<Items<Pair>, Fail> {
+    let mut made = Items::new(alloc);
+    for (key, value) in pairs {
+        let key = name_of(alloc, key)?;
+        let value = Value::from_slice(alloc, value)?;
+        made.push(Pair { key, value })?;
+    }
+    Ok(made)
+}
+
+fn names_of(alloc: Global, keys: &[&[u8]]) -> Result<Items<Name>, Fail> {
+    let mut names = Items::new(alloc);
+    for key in keys {
+        names.push(name_of(alloc, key)?)?;
+    }
+    Ok(names)
+}
+
+fn op_of(alloc: Global, change: Change, object: Name) -> Result<Op, Fail> {
     Ok(match change {
         Change::MkColl => Op::MkColl,
+        Change::RmColl => Op::RmColl,
         Change::Touch => Op::Touch { object },
         Change::Write(off, len) => Op::Write {
             object,
@@ -80,6 +119,42 @@ fn op_of(alloc: Global, change: Change, object: Name) -> Result<Op, AllocError> 
         Change::Zero(off, len) => Op::Zero { object, off, len },
         Change::Truncate(size) => Op::Truncate { object, size },
         Change::Remove => Op::Remove { object },
+        _ => value_op(alloc, change, object)?,
+    })
+}
+
+// An operation on the object's values.
+fn value_op(alloc: Global, change: Change, object: Name) -> Result<Op, Fail> {
+    Ok(match change {
+        Change::SetAttr(name, value) => Op::SetAttr {
+            object,
+            name: name_of(alloc, name)?,
+            value: Value::from_slice(alloc, value)?,
+        },
+        Change::RmAttr(name) => Op::RmAttr {
+            object,
+            name: name_of(alloc, name)?,
+        },
+        Change::RmAttrs => Op::RmAttrs { object },
+        Change::OmapSet(pairs) => Op::OmapSet {
+            object,
+            pairs: pairs_of(alloc, pairs)?,
+        },
+        Change::OmapRm(keys) => Op::OmapRm {
+            object,
+            keys: names_of(alloc, keys)?,
+        },
+        Change::OmapRmRange(first, last) => Op::OmapRmRange {
+            object,
+            first: name_of(alloc, first)?,
+            last: name_of(alloc, last)?,
+        },
+        Change::OmapClear => Op::OmapClear { object },
+        Change::OmapHeader(value) => Op::OmapHeader {
+            object,
+            value: Value::from_slice(alloc, value)?,
+        },
+        _ => return Err("an operation on no value".into()),
     })
 }
 
@@ -87,12 +162,8 @@ fn is_known(txn: &Transaction) -> bool
     ensures { IsTrue result → IsKnown txn.now.ops }
 {
     match txn.ops() {
-        [Op::MkColl]
-        | [Op::Touch { .. }]
-        | [Op::Write { .. }]
-        | [Op::Zero { .. }]
-        | [Op::Truncate { .. }]
-        | [Op::Remove { .. }] => true,
+        [Op::Clone { .. }] | [Op::CloneRange { .. }] => false,
+        [_] => true,
         _ => false,
     }
 }
@@ -100,7 +171,7 @@ fn is_known(txn: &Transaction) -> bool
 // A transaction on the collection `1.0_head`.
 fn transaction(alloc: Global, change: Change) -> Result<Transaction, Fail> {
     let coll = CollName::new(alloc, 1, 0)?;
-    let object = Name::read(alloc, b"a")?.ok_or("a name")?;
+    let object = name_of(alloc, b"a")?;
     match Transaction::new(alloc, coll, op_of(alloc, change, object)?) {
         Ok(txn) => Ok(txn),
         Err(_) => Err("no memory".into()),
@@ -191,7 +262,14 @@ const THREE: &[Entry] = &[COLL, THREE_PAGES, THREE_ON_40];
 
 const SIX: &[Entry] = &[COLL, SIX_PAGES, TWO_ON_40, ONE_ON_50];
 
-static CASES: [Case; 26] = [
+// More bytes than a value may have.
+const LONG: &[u8] = &[1; 65536];
+
+const NO_OBJECT: Result<Counts, PlanFail> = Err(PlanFail::Refusal(Refusal::NoObject));
+
+const NOT_EMPTY: Result<Counts, PlanFail> = Err(PlanFail::Refusal(Refusal::NotEmpty));
+
+static CASES: [Case; 44] = [
     (&[], Change::MkColl, Ok((1, 0, 0))),
     (MISSING, Change::Touch, Ok((1, 0, 0))),
     (MISSING, Change::Write(0, 12288), Ok((3, 3, 0))),
@@ -227,6 +305,31 @@ static CASES: [Case; 26] = [
         Change::MkColl,
         Err(PlanFail::Refusal(Refusal::CollectionExists)),
     ),
+    // A collection goes where it is there and has no object.
+    (&[], Change::RmColl, NO_COLLECTION),
+    (MISSING, Change::RmColl, Ok((1, 0, 0))),
+    (THREE, Change::RmColl, NOT_EMPTY),
+    // A value's limit is tried before its object is looked for. What takes all values passes over a missing object.
+    (&[], Change::SetAttr(b"x", LONG), NO_COLLECTION),
+    (MISSING, Change::SetAttr(b"x", LONG), TOO_BIG),
+    (MISSING, Change::OmapHeader(LONG), TOO_BIG),
+    (
+        MISSING,
+        Change::OmapSet(&[(b"k", b""), (b"l", LONG)]),
+        TOO_BIG,
+    ),
+    (MISSING, Change::SetAttr(b"x", b"1"), NO_OBJECT),
+    (MISSING, Change::RmAttr(b"x"), NO_OBJECT),
+    (MISSING, Change::OmapSet(&[]), NO_OBJECT),
+    (MISSING, Change::OmapRm(&[]), NO_OBJECT),
+    (MISSING, Change::OmapRmRange(b"k", b"l"), NO_OBJECT),
+    (MISSING, Change::OmapHeader(b""), NO_OBJECT),
+    (MISSING, Change::RmAttrs, Ok((0, 0, 0))),
+    (MISSING, Change::OmapClear, Ok((0, 0, 0))),
+    // An object without values.
+    (THREE, Change::RmAttrs, Ok((0, 0, 0))),
+    (THREE, Change::OmapClear, Ok((0, 0, 0))),
+    (THREE, Change::OmapHeader(b""), Ok((0, 0, 0))),
 ];
 
 #[test]
@@ -301,6 +404,94 @@ struct Edit {
 
 // The key of the bits of units 0 to 127.
 const BITS: &[u8] = b"b\0\0\0\0";
+
+// The keys of values of `a`, and rows of them. The object `a.` has some too.
+const ATTR_X: &[u8] = b"A1.0_head\0a\0x";
+
+const ATTR_Y: &[u8] = b"A1.0_head\0a\0y";
+
+const HEADER: &[u8] = b"M1.0_head\0a\0-";
+
+const PAIR_K: &[u8] = b"M1.0_head\0a\0.k";
+
+const PAIR_L: &[u8] = b"M1.0_head\0a\0.l";
+
+const PAIR_LL: &[u8] = b"M1.0_head\0a\0.l\xff";
+
+const VALUES: &[Entry] = &[
+    COLL,
+    (ONODE_A, b"\0\0\0\0\0\0\0\0"),
+    (b"O1.0_head\0a.\0o", b"\0\0\0\0\0\0\0\0"),
+    (ATTR_X, b"1"),
+    (ATTR_Y, b""),
+    (b"A1.0_head\0a.\0x", b"3"),
+    (HEADER, b"h"),
+    (PAIR_K, b"4"),
+    (PAIR_L, b""),
+    (PAIR_LL, b"6"),
+    (b"M1.0_head\0a.\0-", b"h"),
+    (b"M1.0_head\0a.\0.k", b"7"),
+];
+
+// What is planned of a change of the values of `a`: it takes no unit.
+type OnValues = (Change, &'static [Row]);
+
+static ON_VALUES: [OnValues; 18] = [
+    // An equal value is no operation. An empty one is a value.
+    (Change::SetAttr(b"x", b"1"), &[]),
+    (Change::SetAttr(b"y", b""), &[]),
+    (Change::SetAttr(b"x", b""), &[Row::Set(ATTR_X, b"")]),
+    (Change::SetAttr(b"y", b"2"), &[Row::Set(ATTR_Y, b"2")]),
+    (Change::RmAttr(b"x"), &[Row::Drop(ATTR_X)]),
+    (Change::RmAttr(b"z"), &[]),
+    (Change::RmAttrs, &[Row::Drop(ATTR_X), Row::Drop(ATTR_Y)]),
+    // Of two values for a key the later counts, also where it is the one that is there. They are set in the order of their keys.
+    (
+        Change::OmapSet(&[(b"l", b"8"), (b"k", b"5"), (b"l", b"9"), (b"m", b"0")]),
+        &[
+            Row::Set(PAIR_K, b"5"),
+            Row::Set(PAIR_L, b"9"),
+            Row::Set(b"M1.0_head\0a\0.m", b"0"),
+        ],
+    ),
+    (Change::OmapSet(&[(b"k", b"5"), (b"k", b"4")]), &[]),
+    (
+        Change::OmapRm(&[b"l\xff", b"m", b"k", b"l\xff"]),
+        &[Row::Drop(PAIR_K), Row::Drop(PAIR_LL)],
+    ),
+    // The end of a range stays.
+    (
+        Change::OmapRmRange(b"k", b"l\xff"),
+        &[Row::Drop(PAIR_K), Row::Drop(PAIR_L)],
+    ),
+    (Change::OmapRmRange(b"l", b"l"), &[]),
+    (Change::OmapRmRange(b"l", b"k"), &[]),
+    (
+        Change::OmapClear,
+        &[
+            Row::Drop(HEADER),
+            Row::Drop(PAIR_K),
+            Row::Drop(PAIR_L),
+            Row::Drop(PAIR_LL),
+        ],
+    ),
+    // An empty header is none.
+    (Change::OmapHeader(b""), &[Row::Drop(HEADER)]),
+    (Change::OmapHeader(b"h"), &[]),
+    (Change::OmapHeader(b"i"), &[Row::Set(HEADER, b"i")]),
+    (
+        Change::Remove,
+        &[
+            Row::Drop(ATTR_X),
+            Row::Drop(ATTR_Y),
+            Row::Drop(HEADER),
+            Row::Drop(PAIR_K),
+            Row::Drop(PAIR_L),
+            Row::Drop(PAIR_LL),
+            Row::Drop(ONODE_A),
+        ],
+    ),
+];
 
 static EDITS: [Edit; 6] = [
     // The last byte of page 0.
@@ -408,6 +599,17 @@ fn edits(rt: HostRuntime) -> Result<(), Fail> {
     for (i, edit) in EDITS.iter().enumerate() {
         match planned_over(rt.alloc(), edit.entries, edit.change)? {
             Ok(plan) => assert!(rt; is_edit(rt.alloc(), &plan, edit)?, "edit {i}"),
+            Err(_) => return Err("no plan".into()),
+        }
+    }
+    Ok(())
+}
+
+#[test]
+fn values(rt: HostRuntime) -> Result<(), Fail> {
+    for (i, (change, ops)) in ON_VALUES.iter().enumerate() {
+        match planned_over(rt.alloc(), VALUES, *change)? {
+            Ok(plan) => assert!(rt; are_rows(plan.ops.as_slice(), ops), "change {i}"),
             Err(_) => return Err("no plan".into()),
         }
     }

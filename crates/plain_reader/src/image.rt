@@ -4,6 +4,7 @@ use crate::bitmap::{leaked_units, row_number};
 use crate::object::{Object, read_object};
 use crate::reader::{are_zeros, number_at, small_at};
 use crate::record::{Rows, make_all, read_record, value_of};
+use crate::values::is_value;
 use byte_maps::Bytes;
 use crc32c_csum::crc32c;
 use std::alloc::{AllocError, Global};
@@ -102,11 +103,12 @@ fn are_bits(value: &[u8]) -> bool {
     value.len() == 16 && !are_zeros(value, 0)
 }
 
-/// Whether the row is one of a collection, of an object, of a shard, or of the bitmap.
+/// Whether the row is one of a collection, of an object, of a shard, of a value of an object, or of the bitmap.
 fn is_known(row: &(Bytes, Bytes)) -> bool {
     match row.0.as_slice() {
         [b'C', ..] => row.1.is_empty(),
         [b'O', ..] => !row.1.is_empty(),
+        key @ ([b'A', ..] | [b'M', ..]) => is_value(key, row.1.as_slice()),
         key => row_number(key).is_some() && are_bits(row.1.as_slice()),
     }
 }
@@ -126,7 +128,7 @@ impl Found {
         Ok(Some(Found { rows, first, count }))
     }
 
-    /// How many rows there are of collections, of objects and of shards together.
+    /// How many rows there are of collections, of objects, of shards and of values together.
     pub fn len(&self) -> usize {
         let mut count = 0usize;
         for row in &self.rows {

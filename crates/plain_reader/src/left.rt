@@ -8,6 +8,7 @@ use crate::image::Found;
 use crate::object::Object;
 use crate::spelling::{NAMES, spelled};
 use crate::tears::TEARS;
+use crate::values::Values;
 use block_device::{MemoryDevice, Tear};
 use case_text::{CaseError, Text, number};
 use crc32c_csum::crc32c;
@@ -56,6 +57,41 @@ impl Left {
     }
 }
 
+/// Shows bytes by their digits, `-` for none.
+fn print_digits(bytes: &[u8], out: &mut Text) {
+    if bytes.is_empty() {
+        out.print(format_args!("-"));
+    }
+    for byte in bytes {
+        out.print(format_args!("{byte:02x}"));
+    }
+}
+
+/// Shows a value behind its word, and its name, if it has one.
+fn print_value(word: &str, name: &[u8], value: &[u8], out: &mut Text) {
+    out.print(format_args!("{word} "));
+    if let Ok(name) = str::from_utf8(name) {
+        if !name.is_empty() {
+            out.print(format_args!("{name} "));
+        }
+    }
+    print_digits(value, out);
+    out.println("");
+}
+
+/// Shows the values of an object.
+fn print_values(values: &Values, out: &mut Text) {
+    for entry in values.entries() {
+        let value = entry.1.as_slice();
+        match entry.0.as_slice() {
+            [b'A', name @ ..] => print_value("attr", name, value, out),
+            [b'M', b'-'] => print_value("header", b"", value, out),
+            [b'M', b'.', key @ ..] => print_value("omap", key, value, out),
+            _ => out.println("no value"),
+        }
+    }
+}
+
 /// Shows a collection that was found.
 fn print_collection(
     alloc: Global,
@@ -71,10 +107,11 @@ fn print_collection(
         match found.object(alloc, image, coll.as_bytes(), name.as_bytes())? {
             Object::Missing => {}
             Object::Damaged => out.println(format_args!("object {name} damaged")),
-            Object::Whole(bytes, _shards) => {
+            Object::Whole(bytes, _shards, values) => {
                 let size = bytes.len();
                 let sum = crc32c(&bytes);
                 out.println(format_args!("object {name} size {size} crc {sum:08x}"));
+                print_values(&values, out);
             }
         }
     }

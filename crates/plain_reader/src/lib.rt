@@ -14,6 +14,7 @@ mod reader;
 mod record;
 mod spelling;
 mod tears;
+mod values;
 
 pub use commit_states::states;
 pub use counts::{Counts, has_from};

@@ -3,6 +3,7 @@
 use crate::image::unit;
 use crate::reader::{Reader, number_at};
 use crate::record::value_of;
+use crate::values::{Values, behind_name, values_of};
 use byte_maps::Bytes;
 use crc32c_csum::crc32c;
 use std::alloc::{AllocError, Global};
@@ -14,8 +15,8 @@ pub enum Object {
     Missing,
     /// A row says what no row says, or a page has another checksum than its row keeps.
     Damaged,
-    /// Its bytes, zeros where it has no page, and how many shards it has.
-    Whole(Vec<u8>, usize),
+    /// Its bytes, zeros where it has no page, how many shards it has, and its values.
+    Whole(Vec<u8>, usize, Values),
 }
 
 /// `O`, both names, and `o`: the key of the onode, and the front of those of its shards.
@@ -28,13 +29,6 @@ fn onode_key(alloc: Global, coll: &[u8], name: &[u8]) -> Result<Vec<u8>, AllocEr
     key.push(0)?;
     key.push(b'o')?;
     Ok(key)
-}
-
-/// What stands behind a name and the zero byte that ends it.
-fn behind_name(bytes: &[u8]) -> Option<&[u8]> {
-    let at = bytes.iter().position(|byte| *byte == 0)?;
-    let (_name, rest) = bytes.split_at_checked(at)?;
-    rest.get(1..)
 }
 
 /// Whether a key is that of a shard of any object: `O`, two names that zero bytes end, `o`, the page, and `x`.
@@ -155,7 +149,10 @@ pub fn read_object(
     };
     let mut bytes = vec![in alloc; 0u8; size]?;
     match lay_shards(image, rows, &key, &mut bytes) {
-        Some(shards) => Ok(Object::Whole(bytes, shards)),
+        Some(shards) => {
+            let values = values_of(alloc, rows, coll, name)?;
+            Ok(Object::Whole(bytes, shards, values))
+        }
         None => Ok(Object::Damaged),
     }
 }

@@ -1,8 +1,9 @@
-//! The objects of a store as bytes that differ where they differ: for each name, an object's size and its bytes.
+//! The objects of a store as bytes that differ where they differ: for each name, an object's size, its bytes and its values.
 
 use crate::image::Found;
 use crate::names::{coll_of, name_of};
 use crate::object::Object;
+use crate::values::{Values, push_values, values_in};
 use case_text::CaseError;
 use plain_store::Plain;
 use std::alloc::{AllocError, Global};
@@ -18,16 +19,16 @@ fn coll_name(alloc: Global, number: u32) -> Result<String, AllocError> {
     format!(in alloc; "{number}.0_head")
 }
 
-fn push_object(out: &mut Vec<u8>, bytes: Option<&[u8]>) -> Result<(), AllocError> {
-    match bytes {
-        None => out.push(0)?,
-        Some(bytes) => {
-            out.push(1)?;
-            out.extend_from_slice(&(bytes.len() as u64).to_le_bytes())?;
-            out.extend_from_slice(bytes)?;
-        }
-    }
+fn push_missing(out: &mut Vec<u8>) -> Result<(), CaseError> {
+    out.push(0)?;
     Ok(())
+}
+
+fn push_object(out: &mut Vec<u8>, bytes: &[u8], values: &Values) -> Result<(), CaseError> {
+    out.push(1)?;
+    out.extend_from_slice(&(bytes.len() as u64).to_le_bytes())?;
+    out.extend_from_slice(bytes)?;
+    push_values(out, values)
 }
 
 /// Adds a collection of plain objects.
@@ -41,8 +42,11 @@ fn push_plain(
     out.push(plain.collection(&coll).is_ok() as u8)?;
     for name in NAMES {
         match plain.find(&coll, &name_of(alloc, name.as_bytes())?) {
-            Some(object) => push_object(out, Some(object.bytes.as_slice()))?,
-            None => push_object(out, None)?,
+            Some(object) => {
+                let values = values_in(alloc, object)?;
+                push_object(out, object.bytes.as_slice(), &values)?;
+            }
+            None => push_missing(out)?,
         }
     }
     Ok(())
@@ -72,10 +76,13 @@ fn push_found(
     for name in NAMES {
         match found.object(alloc, image, coll.as_bytes(), name.as_bytes())? {
             Object::Damaged => return Ok(None),
-            Object::Missing => push_object(out, None)?,
-            Object::Whole(bytes, shards) => {
-                rows = rows.wrapping_add(1).wrapping_add(shards);
-                push_object(out, Some(bytes.as_slice()))?;
+            Object::Missing => push_missing(out)?,
+            Object::Whole(bytes, shards, values) => {
+                rows = rows
+                    .wrapping_add(1)
+                    .wrapping_add(shards)
+                    .wrapping_add(values.len());
+                push_object(out, bytes.as_slice(), &values)?;
             }
         }
     }

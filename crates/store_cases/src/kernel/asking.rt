@@ -21,9 +21,18 @@ enum ReadKind {
     Stat,
     /// `list COLL`
     List,
+    /// `getattr COLL NAME ATTR`
+    Attr,
+    /// `omapget COLL NAME KEY`
+    Pair,
+    /// `omaphdr COLL NAME`
+    Header,
 }
 
-static READ_KINDS: [(&str, ReadKind); 4] = [
+static READ_KINDS: [(&str, ReadKind); 7] = [
+    ("getattr", ReadKind::Attr),
+    ("omapget", ReadKind::Pair),
+    ("omaphdr", ReadKind::Header),
     ("read", ReadKind::Bytes),
     ("sum", ReadKind::Sum),
     ("stat", ReadKind::Stat),
@@ -49,6 +58,31 @@ pub fn question(alloc: Global, mut words: Words<'_>) -> Result<Command, CaseErro
             object: name_of(alloc, words.last()?.as_bytes())?,
         }),
         ReadKind::List => Ok(Command::List { coll }),
+        ReadKind::Attr | ReadKind::Pair => value_question(alloc, kind, coll, words),
+        ReadKind::Header => Ok(Command::OmapHeader {
+            coll,
+            object: name_of(alloc, words.last()?.as_bytes())?,
+        }),
+    }
+}
+
+fn value_question(
+    alloc: Global,
+    kind: ReadKind,
+    coll: CollName,
+    mut words: Words<'_>,
+) -> Result<Command, CaseError>
+    ensures { IfOk result (λ command. IsKnownRead command) }
+{
+    let object = name_of(alloc, words.next()?.as_bytes())?;
+    let name = name_of(alloc, words.last()?.as_bytes())?;
+    match kind {
+        ReadKind::Attr => Ok(Command::GetAttr { coll, object, name }),
+        _ => Ok(Command::OmapGet {
+            coll,
+            object,
+            key: name,
+        }),
     }
 }
 

@@ -75,15 +75,39 @@ impl Draws {
         }
     }
 
-    /// The line of a transaction: a write of one to three pages, an edit of bytes, an object, or a collection that there is.
+    /// The line of a transaction on the values of an object, or on a collection that may go.
+    fn values(
+        &mut self,
+        alloc: Global,
+        coll: &str,
+        name: &str,
+        byte: u64,
+    ) -> Result<String, CaseError> {
+        let key = self.word(&["k", "l", "m"]);
+        let other = self.word(&["k", "l", "m"]);
+        match self.below(9) {
+            0 => Ok(format!(in alloc; "on {coll} setattr {name} {key} {byte:02x}")?),
+            1 => Ok(format!(in alloc; "on {coll} rmattr {name} {key}")?),
+            2 => Ok(format!(in alloc; "on {coll} rmattrs {name}")?),
+            3 => Ok(format!(in alloc; "on {coll} omaprm {name} {key}")?),
+            4 => Ok(format!(in alloc; "on {coll} omaprmrange {name} {key} {other}")?),
+            5 => Ok(format!(in alloc; "on {coll} omapclear {name}")?),
+            6 => Ok(format!(in alloc; "on {coll} omapheader {name} {byte:02x}")?),
+            7 => Ok(format!(in alloc; "rmcoll {coll}")?),
+            _ => Ok(format!(in alloc; "on {coll} omapset {name} {key} {byte:02x} {other} -")?),
+        }
+    }
+
+    /// The line of a transaction: a write of one to three pages, an edit of bytes or of values, an object, or a collection that there is.
     pub fn transaction(&mut self, alloc: Global) -> Result<String, CaseError> {
         let coll = self.word(&COLLS);
         let name = self.word(&NAMES);
         let byte = self.below(256);
-        match self.below(8) {
+        match self.below(11) {
             0 => Ok(format!(in alloc; "mkcoll {coll}")?),
             1 => Ok(format!(in alloc; "touch {coll} {name}")?),
             2 | 3 | 4 => self.edit(alloc, coll, name, byte),
+            5 | 6 | 7 => self.values(alloc, coll, name, byte),
             _ => {
                 let first = self.below(3);
                 let count = self.below(3).wrapping_add(1);

@@ -1,10 +1,11 @@
 //! Transactions that are submitted.
-ghost use Rattle.std.specs.Prelude.{[], ◌∷◌, IfOk};
-ghost use Rattle.plan_rows.specs.Prelude.{IsKnown};
+ghost use Rattle.std.specs.Prelude.{◌≡◌, true, [], ◌∷◌, IfOk};
+ghost use Rattle.plan_rows.specs.Prelude.{IsKnownOp, IsKnown};
 
 use block_device::MemoryDevice;
 use bytes::Bytes;
 use case_text::{CaseError, Text, Words, look_up, read_hex};
+use object_lines::operation;
 use object_model::{Op, Transaction};
 use plain_reader::{coll_of, name_of};
 use std::alloc::Global;
@@ -73,11 +74,38 @@ fn write_bytes(
     one(alloc, coll, Op::Write { object, off, bytes })
 }
 
+/// Whether the store knows the operation.
+fn is_known(op: &Op) -> bool
+    ensures { result ≡ true → IsKnownOp op.now }
+{
+    match op {
+        Op::Clone { .. } | Op::CloneRange { .. } => false,
+        _ => true,
+    }
+}
+
+/// An operation in the words of the reference store's cases.
+fn operation_of(alloc: Global, coll: CollName, words: Words<'_>) -> Result<Transaction, CaseError>
+    ensures { IfOk result (λ t. IsKnown t.ops) }
+{
+    let op = operation(alloc, words.text())?;
+    if is_known(&op) {
+        one(alloc, coll, op)
+    } else {
+        drop(op);
+        Err(CaseError::Line("an operation that isn't known"))
+    }
+}
+
 /// What a transaction does.
 #[derive(Clone, Copy)]
 enum TransactionKind {
     /// `mkcoll COLL`
     MkColl,
+    /// `rmcoll COLL`
+    RmColl,
+    /// `on COLL OPERATION`
+    On,
     /// `WORD COLL NAME ..`: something on an object.
     Object(ObjectChange),
 }
@@ -99,8 +127,10 @@ enum ObjectChange {
     Remove,
 }
 
-static TRANSACTION_KINDS: [(&str, TransactionKind); 7] = [
+static TRANSACTION_KINDS: [(&str, TransactionKind); 9] = [
     ("mkcoll", TransactionKind::MkColl),
+    ("rmcoll", TransactionKind::RmColl),
+    ("on", TransactionKind::On),
     ("touch", TransactionKind::Object(ObjectChange::Touch)),
     ("write", TransactionKind::Object(ObjectChange::Write)),
     ("bytes", TransactionKind::Object(ObjectChange::Bytes)),
@@ -151,6 +181,8 @@ pub fn transaction(alloc: Global, mut words: Words<'_>) -> Result<Transaction, C
     let coll = coll_of(alloc, words.next()?.as_bytes())?;
     match kind {
         TransactionKind::MkColl => one(alloc, coll, Op::MkColl),
+        TransactionKind::RmColl => one(alloc, coll, Op::RmColl),
+        TransactionKind::On => operation_of(alloc, coll, words),
         TransactionKind::Object(kind) => {
             let object = name_of(alloc, words.next()?.as_bytes())?;
             change(alloc, kind, coll, object, words)

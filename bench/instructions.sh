@@ -34,7 +34,7 @@ for ((i = 0; i < 400; i++)); do echo 'mkcoll 1.0_head'; done | each 'a line that
   for ((i = 0; i < 100; i++)); do printf 'write 1.0_head o%d 0 fill:%02x:4096\n' "$i" "$i"; done
 } | set_up 4096 12000
 for ((i = 0; i < 400; i++)); do printf 'write 1.0_head o%d 0 fill:%02x:4096\n' $((i % 100)) $((i % 256)); done |
-  each 'a page over a page, 100 objects' 41500 400
+  each 'a page over a page, 100 objects' 43300 400
 
 for many in 2000 40000; do
   {

@@ -17,12 +17,13 @@ import sys
 import tempfile
 import time
 from collections import deque
-from dataclasses import dataclass, field
+from dataclasses import dataclass, field, replace
 from functools import partial
 
 UNIT = 4096
 OBJECT_LIMIT = 134217728
 TRANSACTION_LIMIT = 1048576
+VALUE_LIMIT = 65535
 ROW_UNITS = 128
 RUN_PAGES = 256
 WRITE_UNITS = 64
@@ -57,10 +58,13 @@ def checksum(data):
 
 @dataclass
 class Object:
-    """Its size in bytes, and for each page that isn't a hole its unit and its bytes."""
+    """Its size in bytes, for each page that isn't a hole its unit and its bytes, its attributes, its header, and its omap."""
 
     size: int = 0
     pages: dict = field(default_factory=dict)
+    attrs: dict = field(default_factory=dict)
+    header: bytes = b""
+    omap: dict = field(default_factory=dict)
 
     def page(self, number):
         return self.pages[number][1] if number in self.pages else bytes(UNIT)
@@ -69,6 +73,13 @@ class Object:
         end = min(end, self.size)
         held = b"".join(self.page(number) for number in range(first // UNIT, units_in(end)))
         return held[first % UNIT : first % UNIT + max(end - first, 0)]
+
+    def rows(self, coll, name):
+        """The rows of its attributes, its header and its omap: keys and values."""
+        owner = coll + b"\0" + name + b"\0"
+        rows = {b"A" + owner + attr: value for attr, value in self.attrs.items()}
+        rows |= {b"M" + owner + b"." + key: value for key, value in self.omap.items()}
+        return rows | ({b"M" + owner + b"-": self.header} if self.header else {})
 
     def extents(self):
         """Its pages as runs [first page, pages, first unit]: both consecutive, at most 256 at a time."""
@@ -138,10 +149,17 @@ class Store:
     def with_commit(self, it):
         """The store of a device with this transaction's record behind the others."""
         other = self.copy()
-        other.colls[it.coll] = it.objects
+        other.put(it.coll, it.objects)
         other.free = self.free - set(it.taken) | set(it.released)
         other.tail += it.record
         return other
+
+    def put(self, coll, objects):
+        """Gives a collection these objects; with None it goes."""
+        if objects is None:
+            self.colls.pop(coll, None)
+        else:
+            self.colls[coll] = objects
 
     def refusal(self, coll, name=None):
         if coll not in self.colls:
@@ -156,7 +174,7 @@ class Store:
             return f"E10 MetaFull need={need} room={room}"
         self.tail += need
         self.free -= set(taken)
-        self.colls[coll] = objects
+        self.put(coll, objects)
         self.accepted = Transaction(coll, objects, list(taken), list(released), need)
         return "ok"
 
@@ -164,6 +182,14 @@ class Store:
         if coll in self.colls:
             return "E2 CollectionExists"
         return self.accept(7 + 1 + len(coll), coll, {})
+
+    def rmcoll(self, coll):
+        refused = self.refusal(coll)
+        if refused:
+            return refused
+        if self.colls[coll]:
+            return "E3 NotEmpty"
+        return self.accept(3 + 1 + len(coll), coll, None)
 
     def touch(self, coll, name):
         refused = self.refusal(coll)
@@ -211,7 +237,7 @@ class Store:
         if need > len(self.free):
             return f"E9 NoSpace need={need} free={len(self.free)}"
         taken, before = sorted(self.free)[:need], old or Object()
-        units, after = iter(taken), Object(size, dict(before.pages))
+        units, after = iter(taken), replace(before, size=size, pages=dict(before.pages))
         released = [after.pages.pop(page)[0] for page in sorted(pages) if page in before.pages]
         after.pages.update((page, (next(units), pages[page])) for page in sorted(pages) if pages[page] is not None)
 
@@ -234,7 +260,61 @@ class Store:
         pages = self.colls[coll][name].pages
         released = [pages[page][0] for page in sorted(pages)]
         key = len(onode_key(coll, name))
-        return self.accept(3 + key + (3 + key + 5 if pages else 0) + turned(released), coll, others, (), released)
+        values = difference(self.colls[coll][name].rows(coll, name), {})
+        return self.accept(3 + key + (3 + key + 5 if pages else 0) + values + turned(released), coll, others, (), released)
+
+    def change_values(self, coll, name, values, names=(), is_passed_over=False, **parts):
+        """Gives an object the attributes, the header or the omap that functions make of it, by these values and names of values. Where it
+        is missing it is passed over, or the transaction refused."""
+        if sum(map(len, (*values, *names))) > TRANSACTION_LIMIT:
+            return "E8 TooBig"
+        is_long = any(len(value) > VALUE_LIMIT for value in values)
+        refused = self.refusal(coll) or ("E8 TooBig" if is_long else None) or self.refusal(coll, None if is_passed_over else name)
+        if refused:
+            return refused
+        old = self.colls[coll].get(name)
+        if old is None:
+            return self.accept(0, coll, self.colls[coll])
+        new = replace(old, **{part: made(old) for part, made in parts.items()})
+        return self.accept(difference(old.rows(coll, name), new.rows(coll, name)), coll, {**self.colls[coll], name: new})
+
+    def setattr(self, coll, name, attr, word):
+        value = data_of(word)
+        return self.change_values(coll, name, [value], [attr], attrs=lambda it: {**it.attrs, attr: value})
+
+    def rmattr(self, coll, name, attr):
+        return self.change_values(coll, name, [], [attr], attrs=lambda it: without(it.attrs, [attr]))
+
+    def rmattrs(self, coll, name):
+        return self.change_values(coll, name, [], is_passed_over=True, attrs=lambda it: {})
+
+    def omapset(self, coll, name, *words):
+        keys, values = words[::2], [data_of(word) for word in words[1::2]]
+        return self.change_values(coll, name, values, keys, omap=lambda it: {**it.omap, **dict(zip(keys, values))})
+
+    def omaprm(self, coll, name, *keys):
+        return self.change_values(coll, name, [], keys, omap=lambda it: without(it.omap, keys))
+
+    def omaprmrange(self, coll, name, first, last):
+        return self.change_values(
+            coll, name, [], [first, last], omap=lambda it: without(it.omap, [key for key in it.omap if first <= key < last])
+        )
+
+    def omapclear(self, coll, name):
+        return self.change_values(coll, name, [], is_passed_over=True, header=lambda it: b"", omap=lambda it: {})
+
+    def omapheader(self, coll, name, word):
+        value = data_of(word)
+        return self.change_values(coll, name, [value], header=lambda it: value)
+
+    def getattr(self, coll, name, attr):
+        return self.refusal(coll, name) or value_reply("attr", self.colls[coll][name].attrs.get(attr))
+
+    def omapget(self, coll, name, key):
+        return self.refusal(coll, name) or value_reply("omap", self.colls[coll][name].omap.get(key))
+
+    def omaphdr(self, coll, name):
+        return self.refusal(coll, name) or value_reply("header", self.colls[coll][name].header)
 
     def read(self, coll, name, offset, length):
         refused = self.refusal(coll, name)
@@ -258,7 +338,11 @@ class Store:
         for coll in sorted(self.colls):
             lines.append(f"coll {coll.decode()}")
             for name in sorted(self.colls[coll]):
-                lines.append("object {} size {} crc {:08x}".format(escaped(name), *sum_of(self.colls[coll][name])))
+                it = self.colls[coll][name]
+                lines.append("object {} size {} crc {:08x}".format(escaped(name), *sum_of(it)))
+                lines += [f"attr {escaped(attr)} {hex_of(it.attrs[attr])}" for attr in sorted(it.attrs)]
+                lines += [f"header {hex_of(it.header)}"] if it.header else []
+                lines += [f"omap {escaped(key)} {hex_of(it.omap[key])}" for key in sorted(it.omap)]
         return [*lines, "end"]
 
 
@@ -270,6 +354,25 @@ def data_of(word):
     """The bytes that a word of a script spells: `hex:` and digits, or `fill:XX:NUM`."""
     form, *rest = word.split(":")
     return bytes.fromhex(rest[0]) if form == "hex" else bytes([int(rest[0], 16)]) * int(rest[1])
+
+
+def hex_of(data):
+    """The digits of bytes, or `-` where there are none."""
+    return data.hex() or "-"
+
+
+def value_reply(kind, value):
+    return "E5 NoAttr" if value is None else f"{kind} {hex_of(value)}"
+
+
+def without(values, keys):
+    return {key: value for key, value in values.items() if key not in keys}
+
+
+def difference(old, new):
+    """The bytes of the operations that make rows of others: one for each that is new, has another value, or goes."""
+    made = sum(7 + len(key) + len(value) for key, value in new.items() if old.get(key) != value)
+    return made + sum(3 + len(key) for key in old if key not in new)
 
 
 def cleared(old, first, end):
@@ -456,8 +559,11 @@ class Device:
         self.half, epoch, self.number = self.active_slot()
         self.rows, self.tail, self.colls, self.owned, self.marked = {}, 0, {}, set(), set()
         self.read_records(2 + self.half * (epoch % 2))
+        self.values = []
         for key in sorted(self.rows):
             self.read_row(key, self.rows[key])
+        for key, value in self.values:
+            self.read_value(key, value)
         expect(self.owned == self.marked, f"the bitmap differs in {sorted(self.owned ^ self.marked)[:5]}")
 
     def at(self, unit, count=1):
@@ -517,6 +623,9 @@ class Device:
             expect(len(value) == ROW_UNITS // 8 and any(value), "a row of the bitmap")
             first = ROW_UNITS * struct.unpack(">I", key[1:])[0]
             self.marked |= {first + at for at in range(ROW_UNITS) if value[at // 8] >> at % 8 & 1}
+        elif key[:1] in (b"A", b"M"):
+            # The row of the object comes later.
+            self.values.append((key, value))
         else:
             expect(key[:1] == b"O", f"the key {key!r}")
             coll, name, rest = key[1:].split(b"\0", 2)
@@ -526,6 +635,18 @@ class Device:
                 expect(len(rest) == 6 and rest[:1] == b"o" and rest[-1:] == b"x", f"the key {key!r}")
                 expect(value[:4] == rest[4:0:-1], "the first page of a shard")
                 self.read_extents(self.colls[coll][name], value)
+
+    def read_value(self, key, value):
+        coll, name, rest = key[1:].split(b"\0", 2)
+        expect(name in self.colls.get(coll, {}) and len(value) <= VALUE_LIMIT, f"the row {key!r}")
+        it = self.colls[coll][name]
+        if key[:1] == b"A":
+            it.attrs[rest] = value
+        elif rest[:1] == b".":
+            it.omap[rest[1:]] = value
+        else:
+            expect(rest == b"-" and value, f"the key {key!r}")
+            it.header = value
 
     def read_extents(self, owner, value):
         at = 0
@@ -567,7 +688,21 @@ def drawn_data(dice, most):
     return f"fill:{dice.randrange(256):02x}:{length}"
 
 
+def drawn_value(dice):
+    """The word of a value, of which few are long and one in many is past the limit."""
+    form = dice.random()
+    if form < 0.1:
+        return f"fill:{dice.randrange(256):02x}:{dice.choice([3000, 5000, VALUE_LIMIT, VALUE_LIMIT + 1, 2097152])}"
+    return "hex:" + dice.randbytes(dice.choice([0, 1, 3, 30, 100])).hex()
+
+
+def drawn_key(dice):
+    return dice.choice([b"k", b"k1", b"k2", b"l", b"-", b".", b"a b", b"\xff", b"y" * dice.choice([2, 254, 255])])
+
+
 WEIGHTS = {"mkcoll": 2, "touch": 3, "write": 12, "zero": 5, "truncate": 4, "remove": 2, "read": 5, "sum": 3, "stat": 2, "list": 1}
+WEIGHTS |= {"rmcoll": 1, "setattr": 5, "rmattr": 2, "rmattrs": 1, "omapset": 6, "omaprm": 2, "omaprmrange": 2, "omapclear": 1, "omapheader": 3}
+WEIGHTS |= {"getattr": 3, "omapget": 3, "omaphdr": 2}
 # Arguments at the limit of objects and past it, of which none makes a large object, since its checksum would take long.
 AT_LIMIT = {
     "write": [(OBJECT_LIMIT - 1, "fill:5a:2"), (OBJECT_LIMIT, "hex:"), (OBJECT_LIMIT + 1, "hex:"), (2**64 - 1, "hex:00")],
@@ -589,6 +724,24 @@ def drawn_words(dice, kind, most):
     if kind == "read":
         offset = dice.choice([0, 1, UNIT - 1, UNIT, dice.randrange(40000), OBJECT_LIMIT])
         return offset, dice.choice([0, 1, 2, UNIT, 5000, dice.randrange(20000)])
+    return drawn_value_words(dice, kind)
+
+
+def drawn_value_words(dice, kind):
+    """The arguments of a command of values: keys, and values as words."""
+    if kind == "setattr":
+        return drawn_key(dice), drawn_value(dice)
+    if kind == "omapheader":
+        return (drawn_value(dice),)
+    if kind == "omaprmrange":
+        return drawn_key(dice), drawn_key(dice)
+    if kind in ("rmattr", "getattr", "omapget"):
+        return (drawn_key(dice),)
+    count = dice.choice([1, 1, 2, 3, 20])
+    if kind == "omaprm":
+        return tuple(drawn_key(dice) for _ in range(count))
+    if kind == "omapset":
+        return tuple(word for _ in range(count) for word in (drawn_key(dice), drawn_value(dice)))
     return ()
 
 
@@ -597,14 +750,14 @@ def drawn_command(dice, most):
     coll = dice.choice([b"1.0_head", b"1.1_head", b"22.ff_head"])
     name = dice.choice([b"a", b"b", b"a b", b"ab", b"\xff\x01", b"x" * dice.choice([1, 40, 255])])
     kind = dice.choices([*WEIGHTS], [*WEIGHTS.values()])[0]
-    if kind in ("mkcoll", "list"):
+    if kind in ("mkcoll", "rmcoll", "list"):
         return kind, coll
     return kind, coll, name, *drawn_words(dice, kind, most)
 
 
 def spelled(kind, coll, *words):
-    """A command as a line of a script: behind an object's name stand numbers, and at last a write's data."""
-    return " ".join([kind, coll.decode(), *(escaped(it) for it in words[:1]), *(str(it) for it in words[1:])])
+    """A command as a line of a script: names are bytes, and behind them stand numbers and words of data."""
+    return " ".join([kind, coll.decode(), *(escaped(it) if isinstance(it, bytes) else str(it) for it in words)])
 
 
 def drawn_script(dice):
@@ -683,7 +836,12 @@ def read_command(line):
     if kind == "wait":
         return None
     coll, *rest = words
-    return kind, coll.encode(), *(it.encode() for it in rest[:1]), *(int(it) if it.isdigit() else it for it in rest[1:])
+    return kind, coll.encode(), *(it.encode() for it in rest[:1]), *(read_word(it) for it in rest[1:])
+
+
+def read_word(word):
+    """A number, a word of data as it is, or a name."""
+    return int(word) if word.isdigit() else word if ":" in word else word.encode()
 
 
 PAGES_OF_TWO = [
@@ -713,6 +871,32 @@ NO_UNIT = [
 OF_NO_UNIT = ("0:1 ok, 0:2 ok, 0:3 E9 NoSpace need=1 free=0, 0:4 ok, 0:6 ok, 0:7 ok, 0:8 ok, 0:9 E8 TooBig, 0:10 E8 TooBig, 0:11 ok, "
               "0:12 E1 NoCollection, 0:14 data 000042, 0:15 size 134217728, 0:16 objects a b, "
               "done accepted=7 refused=4 reads=3 commits=7 free=1")
+VALUES_OF_OMAPS = [
+    ["mkcoll 1.0_head", "touch 1.0_head o", "omapset 1.0_head o a hex:01 b hex:02 c hex:03 d hex:04", "omaprmrange 1.0_head o b d",
+     "omaprmrange 1.0_head o a a", "omapset 1.0_head o d hex:05 d hex:", "wait", "omapget 1.0_head o a", "omapget 1.0_head o b",
+     "omapget 1.0_head o d", "omaphdr 1.0_head o", "omapclear 1.0_head p", "omaprm 1.0_head p a", "rmcoll 1.0_head"],
+]
+OF_OMAPS = ("0:1 ok, 0:2 ok, 0:3 ok, 0:4 ok, 0:5 ok, 0:6 ok, 0:8 omap 01, 0:9 E5 NoAttr, 0:10 omap -, 0:11 header -, 0:12 ok, "
+            "0:13 E4 NoObject, 0:14 E3 NotEmpty, done accepted=7 refused=3 reads=3 commits=7 free=46")
+VALUES_OF_ATTRS = [
+    ["mkcoll 1.0_head", "touch 1.0_head o", "setattr 1.0_head o n hex:", "setattr 1.0_head q n fill:00:65536", "setattr 1.0_head q n hex:01",
+     "setattr 9.9_head q n fill:00:65536", "setattr 9.9_head q n fill:00:1048576", "wait", "getattr 1.0_head o n", "omapheader 1.0_head o hex:41",
+     "rmattr 1.0_head o m", "wait", "omaphdr 1.0_head o", "remove 1.0_head o", "touch 1.0_head o", "wait", "getattr 1.0_head o n",
+     "omaphdr 1.0_head o"],
+]
+OF_ATTRS = ("0:1 ok, 0:2 ok, 0:3 ok, 0:4 E8 TooBig, 0:5 E4 NoObject, 0:6 E1 NoCollection, 0:7 E8 TooBig, 0:9 attr -, 0:10 ok, 0:11 ok, "
+            "0:13 header 41, 0:14 ok, 0:15 ok, 0:17 E5 NoAttr, 0:18 header -, "
+            "done accepted=7 refused=5 reads=3 commits=7 free=46")
+# The record of the pair has 24576 bytes, six units; with one more byte it takes seven.
+FULL_LOG = [["mkcoll 1.0_head", "touch 1.0_head o", "omapset 1.0_head o k fill:5a:24531", "wait", "touch 1.0_head p"]]
+OF_FULL_LOG = "0:1 ok, 0:2 ok, 0:3 ok, 0:5 E10 MetaFull need=1 room=0, done accepted=3 refused=1 reads=0 commits=3 free=46"
+OVERFULL_LOG = [["mkcoll 1.0_head", "touch 1.0_head o", "omapset 1.0_head o k fill:5a:24532"]]
+OF_OVERFULL_LOG = "0:1 ok, 0:2 ok, 0:3 E10 MetaFull need=7 room=6, done accepted=2 refused=1 reads=0 commits=2 free=46"
+EMPTY_AGAIN = [
+    ["mkcoll 1.0_head", "touch 1.0_head o", "rmcoll 1.0_head", "remove 1.0_head o", "rmcoll 1.0_head", "touch 1.0_head o", "rmcoll 1.0_head"],
+]
+OF_EMPTY_AGAIN = ("0:1 ok, 0:2 ok, 0:3 E3 NotEmpty, 0:4 ok, 0:5 ok, 0:6 E1 NoCollection, 0:7 E1 NoCollection, "
+                  "done accepted=4 refused=3 reads=0 commits=4 free=46")
 NO_SPACE, NO_COLL = "E9 NoSpace need=1 free=0", "E1 NoCollection"
 # The units of a store with halves of 8, its scripts, the seed, and what is printed.
 CHECKS = [(64, PAGES_OF_TWO, seed, NO_TOUCH) for seed in range(8)] + [
@@ -729,6 +913,9 @@ CHECKS = [(64, PAGES_OF_TWO, seed, NO_TOUCH) for seed in range(8)] + [
      "done accepted=4 refused=3 reads=0 commits=4 free=0"),
     *((64, PARTS_OF_PAGES, seed, OF_PARTS) for seed in range(4)),
     *((20, NO_UNIT, seed, OF_NO_UNIT) for seed in range(4)),
+    *((64, *of, seed, told) for seed in range(2) for *of, told in (
+        (VALUES_OF_OMAPS, OF_OMAPS), (VALUES_OF_ATTRS, OF_ATTRS), (FULL_LOG, OF_FULL_LOG), (OVERFULL_LOG, OF_OVERFULL_LOG),
+        (EMPTY_AGAIN, OF_EMPTY_AGAIN))),
 ]
 
 

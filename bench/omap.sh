@@ -16,7 +16,7 @@ made=$(mktemp -d "${2:-$here}/omap.XXXXXX")
 turns=${3:-4}
 fast=$(mktemp -d "${4:-/dev/shm}/omap.XXXXXX")
 trap 'rm -rf "$made" "$fast"' EXIT
-gcc -O2 -o "$made/loop" "$here/omap.c"
+gcc -O2 -o "$made/loop" "$here/step.c"
 program=$(program_of "${5:-}")
 : >"$fast/empty"
 value=fill:5a:100
@@ -51,7 +51,7 @@ about
 for ((turn = 1; turn <= turns; turn++)); do
   timed ours script $((count + 2))
   timed refused refused 2
-  echo "peer $("$made/loop" "$made/file" "$count" 4096)" >>"$made/times"
+  echo "peer $("$made/loop" "$made/file" "$count" 4096 0)" >>"$made/times"
 done
 sort -k1,1 -k2,2n "$made/times" | awk -v n="$count" -v turns="$turns" '
   { time[$1, ++seen[$1]] = $2 }

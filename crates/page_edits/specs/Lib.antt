@@ -1,0 +1,3 @@
+pub mod Ranges
+pub mod Takings
+pub mod Writes

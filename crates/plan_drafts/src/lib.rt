@@ -1,0 +1,9 @@
+//! What a transaction of several operations makes of its collection, one operation after the other, and which plans it may have.
+//!
+//! Nothing here looks at rows in between: each object is a draft, in which a page either stands where it stood or is put by one of the
+//! transaction's takings of a unit. Which units these are and what they hold is said at the end, of the last draft alone.
+#![tactic(auto)]
+
+mod draft;
+
+pub use draft::Draft;

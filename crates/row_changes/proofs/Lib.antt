@@ -1,0 +1,5 @@
+pub mod Keys
+pub mod Puts
+pub mod Sorted
+pub mod Ranges
+pub mod Logs

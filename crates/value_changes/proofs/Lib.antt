@@ -1,0 +1,4 @@
+pub mod ValueKeys
+pub mod GoodRows
+pub mod Named
+pub mod Gone

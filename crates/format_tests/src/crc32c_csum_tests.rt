@@ -1,7 +1,6 @@
 //! Checksums that other programs made.
 
 use crc32c_csum::crc32c;
-use std::test::*;
 
 const RISING: &[u8] =
     b"\x00\x01\x02\x03\x04\x05\x06\x07\x08\x09\x0a\x0b\x0c\x0d\x0e\x0f\x10\x11\x12\x13\x14\x15\x16\x17\x18\x19\x1a\x1b\x1c\x1d\x1e\x1f";
@@ -15,9 +14,12 @@ static VECTORS: [(&[u8], u32); 6] = [
     (&[], 0),
 ];
 
-#[test]
-fn vectors(rt: HostRuntime) {
-    for (bytes, want) in &VECTORS {
-        assert_eq!(rt; crc32c(bytes), *want);
+/// The place of the first case that comes out otherwise.
+pub fn first_wrong() -> Option<usize> {
+    for (i, (bytes, want)) in VECTORS.iter().enumerate() {
+        if crc32c(bytes) != *want {
+            return Some(i);
+        }
     }
+    None
 }

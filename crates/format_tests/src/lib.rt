@@ -3,13 +3,9 @@
 #![tactic(auto)]
 
 #[cfg(test)]
-mod block_device_tests;
-#[cfg(test)]
-mod byte_maps_tests;
+mod cases;
 #[cfg(test)]
 mod crc32c_csum_tests;
-#[cfg(test)]
-mod end_points_tests;
 #[cfg(test)]
 mod meta_log_tests;
 #[cfg(test)]
@@ -19,9 +15,9 @@ mod meta_store_tests;
 #[cfg(test)]
 mod onode_codec_tests;
 #[cfg(test)]
-mod op_sequencer_tests;
-#[cfg(test)]
 mod script_text_tests;
+#[cfg(test)]
+mod txn_codec_tests;
 #[cfg(test)]
 mod unit_allocator_tests;
 #[cfg(test)]

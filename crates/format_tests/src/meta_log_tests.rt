@@ -1,12 +1,10 @@
 //! A slot and a record spelled by hand, and records that are changed or torn.
-ghost use Rattle.std.specs.Prelude.{◌<◌, ◌^◌, length};
-ghost use Rattle.meta_rows.specs.Prelude.{IsKey};
 
+use crate::cases::first_false;
 use byte_maps::Bytes;
 use meta_log::{SealedRecord, Super, scan};
 use meta_rows::RowOp;
 use std::alloc::{AllocError, Global};
-use std::test::*;
 
 const UNIT: usize = 4096;
 
@@ -49,17 +47,16 @@ fn laid(alloc: Global, parts: &[(usize, &[u8])]) -> Result<Vec<u8>, AllocError> 
     Ok(bytes)
 }
 
-#[test]
-fn a_slot_by_hand(rt: HostRuntime) -> Result<(), Fail> {
-    let unit = laid(rt.alloc(), SLOT)?;
-    assert_eq!(rt; SUPER.write(rt.alloc())?, unit);
-    assert_eq!(rt; Super::read(&unit, 0), Some(SUPER));
-    Ok(())
+// Whether the slot is written so, and read again.
+fn is_slot(alloc: Global) -> Result<bool, AllocError> {
+    let unit = laid(alloc, SLOT)?;
+    let written = SUPER.write(alloc)?;
+    Ok(written == unit && Super::read(&unit, 0) == Some(SUPER))
 }
 
-// Whether a record of this number is found at the front.
-fn is_found(alloc: Global, half: &[u8], number: u64) -> Result<bool, AllocError> {
-    Ok(!scan(alloc, half, number)?.records.is_empty())
+// Whether a record of number 7 is found at the front.
+fn is_found(alloc: Global, half: &[u8]) -> Result<bool, AllocError> {
+    Ok(!scan(alloc, half, 7)?.records.is_empty())
 }
 
 fn turn(bytes: &mut [u8], bit: usize) {
@@ -69,45 +66,34 @@ fn turn(bytes: &mut [u8], bit: usize) {
 }
 
 // How many bits of the record's unit there are with which turned it is found.
-fn bits_that_pass(alloc: Global, unit: &mut [u8]) -> Result<u32, AllocError> {
+fn bits_that_pass(alloc: Global) -> Result<u32, AllocError> {
+    let mut unit = laid(alloc, &[(0, RECORD)])?;
     let mut count = 0u32;
     for bit in 0..8 * UNIT {
-        turn(unit, bit);
-        if is_found(alloc, unit, 7)? {
+        turn(&mut unit, bit);
+        if is_found(alloc, &unit)? {
             count = count.saturating_add(1);
         }
-        turn(unit, bit);
+        turn(&mut unit, bit);
     }
     Ok(count)
 }
 
-#[test]
-fn one_bit_changed(rt: HostRuntime) -> Result<(), Fail> {
-    let mut unit = laid(rt.alloc(), &[(0, RECORD)])?;
-    assert_eq!(rt; bits_that_pass(rt.alloc(), &mut unit)?, 0);
-    assert!(rt; is_found(rt.alloc(), &unit, 7)?);
-    Ok(())
+// Whether the record is found where no bit is turned.
+fn is_found_whole(alloc: Global) -> Result<bool, AllocError> {
+    is_found(alloc, &laid(alloc, &[(0, RECORD)])?)
 }
 
-// The record of this number that sets one row.
-fn sealed(
-    alloc: Global,
-    number: u64,
-    key: &[u8],
-    value: Vec<u8>,
-) -> Result<SealedRecord, AllocError>
-    requires number { number < 2 ^ 62 }
-    requires key { IsKey key.now }
-    requires value { length value.items < 2000000 }
-{
-    let key = Bytes::from_slice(alloc, key)?;
-    let value = Bytes::from_vec(value);
-    let ops = vec![in alloc; RowOp::Set { key, value }]?;
-    SealedRecord::seal(alloc, number, &ops)
+// The record of number 7 that makes the collection, with so many units of bytes as its row's value.
+fn sealed(alloc: Global, more: u8) -> Result<SealedRecord, AllocError> {
+    let key = Bytes::from_slice(alloc, b"C1.0_head")?;
+    let value = Bytes::from_vec(vec![in alloc; 0xabu8; usize::from(more) * UNIT]?);
+    SealedRecord::seal(alloc, 7, &vec![in alloc; RowOp::Set { key, value }]?)
 }
 
-// A half of 66 units with the first pieces of a record, in the order of writing.
-fn written(alloc: Global, made: &SealedRecord, pieces: u32) -> Result<Vec<u8>, AllocError> {
+// A half of 66 units with the first pieces of such a record, in the order of writing.
+fn written(alloc: Global, more: u8, pieces: u32) -> Result<Vec<u8>, AllocError> {
+    let made = sealed(alloc, more)?;
     let mut half = vec![in alloc; 0u8; 66 * UNIT]?;
     for k in 0..pieces.min(made.pieces()) {
         let (first, bytes) = made.piece(alloc, k)?;
@@ -116,45 +102,52 @@ fn written(alloc: Global, made: &SealedRecord, pieces: u32) -> Result<Vec<u8>, A
     Ok(half)
 }
 
-#[test]
-fn a_record_by_hand(rt: HostRuntime) -> Result<(), Fail> {
-    let made = sealed(rt.alloc(), 7, b"C1.0_head", Vec::new(rt.alloc()))?;
-    let half = written(rt.alloc(), &made, 1)?;
-    let wanted = laid(rt.alloc(), &[(0, RECORD)])?;
-    assert_eq!(rt; half.get(..UNIT), Some(wanted.as_slice()));
-    Ok(())
+// Whether the record is written as it is spelled by hand.
+fn is_record(alloc: Global) -> Result<bool, AllocError> {
+    let wanted = laid(alloc, &[(0, RECORD)])?;
+    Ok(written(alloc, 0, 1)?.get(..UNIT) == Some(wanted.as_slice()))
 }
 
-// Whether a record of one unit more than so many is found, of which some pieces are written, and one unit isn't.
-fn is_found_torn(alloc: Global, more: u8, pieces: u32, missing: u8) -> Result<bool, AllocError> {
-    let value = vec![in alloc; 0xabu8; usize::from(more) * UNIT]?;
-    let made = sealed(alloc, 1, b"k", value)?;
-    let mut half = written(alloc, &made, pieces)?;
-    put(&mut half, usize::from(missing) * UNIT, &[0; UNIT]);
-    is_found(alloc, &half, 1)
+// A record of one unit more than so many, of which some pieces are written, and one unit isn't: whether it is found. The piece with the head is
+// written last.
+type Torn = (u8, u32, u8, bool);
+
+static TORN: [Torn; 11] = [
+    (1, 1, 65, true),
+    (1, 1, 0, false),
+    (1, 1, 1, false),
+    (64, 2, 65, true),
+    (64, 1, 65, false),
+    (64, 2, 64, false),
+    (64, 2, 63, false),
+    (64, 2, 30, false),
+    (64, 2, 1, false),
+    (64, 2, 0, false),
+    (66, 2, 255, false),
+];
+
+fn is_found_torn(alloc: Global, torn: &Torn) -> Result<bool, AllocError> {
+    let mut half = written(alloc, torn.0, torn.1)?;
+    put(&mut half, usize::from(torn.2) * UNIT, &[0; UNIT]);
+    is_found(alloc, &half)
 }
 
-// The piece with the head is written last.
-#[test]
-fn torn_records(rt: HostRuntime) -> Result<(), Fail> {
-    for (more, pieces, missing, wanted) in [
-        (1, 1, 65, true),
-        (1, 1, 0, false),
-        (1, 1, 1, false),
-        (64, 2, 65, true),
-        (64, 1, 65, false),
-        (64, 2, 64, false),
-        (64, 2, 63, false),
-        (64, 2, 30, false),
-        (64, 2, 1, false),
-        (64, 2, 0, false),
-        (66, 2, 255, false),
-    ] {
-        assert_eq!(rt;
-            is_found_torn(rt.alloc(), more, pieces, missing)?,
-            wanted,
-            "{pieces} pieces of {more} and a unit, without {missing}"
-        );
+/// The place of the first of these that comes out otherwise.
+pub fn first_wrong_torn(alloc: Global) -> Result<Option<usize>, AllocError> {
+    for (i, torn) in TORN.iter().enumerate() {
+        if is_found_torn(alloc, torn)? != torn.3 {
+            return Ok(Some(i));
+        }
     }
-    Ok(())
+    Ok(None)
+}
+
+/// Which comes out otherwise: the slot, the record, its reading, or that of the record with a bit turned.
+pub fn first_wrong(alloc: Global) -> Result<Option<usize>, AllocError> {
+    Ok(first_false(&[
+        is_slot(alloc)?,
+        is_record(alloc)?,
+        is_found_whole(alloc)?,
+        bits_that_pass(alloc)? == 0,
+    ]))
 }

@@ -1,8 +1,7 @@
 //! Row operations spelled by hand, the rows that they leave, and how many chunks these lie in.
-use byte_maps::Bytes;
-use meta_rows::{RowOp, RowTable, decode, encode};
+use crate::cases::first_false;
+use meta_rows::{RowTable, decode, encode};
 use std::alloc::{AllocError, Global};
-use std::test::*;
 
 // Sets of f to 0f, of c to 01 02 and of x to 6f.
 const EARLIER: &[u8] =
@@ -42,16 +41,27 @@ static LATER: [(&[u8], &[u8]); 7] = [
     (b"z", b"last"),
 ];
 
-// The operations that the bytes spell, or none.
-fn decoded(alloc: Global, bytes: &[u8]) -> Result<Vec<RowOp>, AllocError> {
-    Ok(decode(alloc, bytes)?.unwrap_or(Vec::new(alloc)))
+// Applies the operations that the bytes spell, with room for so many, at least as many as they are. They must be written again as they were, or
+// nothing is done.
+fn apply(alloc: Global, rows: &mut RowTable, bytes: &[u8], room: usize) -> Result<(), AllocError> {
+    let ops = decode(alloc, bytes)?.unwrap_or(Vec::new(alloc));
+    if encode(alloc, &ops)?.as_slice() == bytes {
+        rows.reserve(room.max(ops.len()))?;
+        rows.apply(ops);
+    }
+    Ok(())
 }
 
-// Applies them with room for so many, at least as many as they are.
-fn apply(rows: &mut RowTable, ops: Vec<RowOp>, room: usize) -> Result<(), AllocError> {
-    rows.reserve(room.max(ops.len()))?;
-    rows.apply(ops);
-    Ok(())
+// Spelled operations, and for how many there is room.
+type Batch<'a> = (&'a [u8], usize);
+
+// The rows that some batches leave.
+fn rows_after(alloc: Global, batches: &[Batch]) -> Result<RowTable, AllocError> {
+    let mut rows = RowTable::new(alloc);
+    for (bytes, room) in batches {
+        apply(alloc, &mut rows, bytes, *room)?;
+    }
+    Ok(rows)
 }
 
 // Whether these are all rows.
@@ -66,85 +76,50 @@ fn are_rows(rows: &RowTable, wanted: &[(&[u8], &[u8])]) -> bool {
     left.is_empty()
 }
 
-#[test]
-fn a_batch(rt: HostRuntime) -> Result<(), Fail> {
-    let mut rows = RowTable::new(rt.alloc());
-    for bytes in [EARLIER, BATCH] {
-        apply(&mut rows, decoded(rt.alloc(), bytes)?, 0)?;
-    }
-    assert!(rt; are_rows(&rows, &LATER));
-    Ok(())
+// Whether the later rows are all that both leave.
+fn are_later(alloc: Global) -> Result<bool, AllocError> {
+    let rows = rows_after(alloc, &[(EARLIER, 0), (BATCH, 0)])?;
+    Ok(are_rows(&rows, &LATER))
 }
 
-// The operations that the bytes spell, written again.
-fn again(alloc: Global, bytes: &[u8]) -> Result<Option<Vec<u8>>, AllocError> {
-    match decode(alloc, bytes)? {
-        Some(ops) => Ok(Some(encode(alloc, &ops)?)),
-        None => Ok(None),
-    }
-}
-
-#[test]
-fn operations_by_hand(rt: HostRuntime) -> Result<(), Fail> {
-    assert_eq!(rt; again(rt.alloc(), BATCH)?.as_deref(), Some(BATCH));
-    Ok(())
-}
-
-// A key of four bytes, most significant first.
-fn key(alloc: Global, number: u32) -> Result<Bytes, AllocError> {
-    Bytes::from_slice(alloc, &number.to_be_bytes())
-}
-
-// Sets of the rows of numbers below 100,000.
-fn sets(alloc: Global) -> Result<Vec<RowOp>, AllocError> {
-    let mut ops = Vec::new(alloc);
+// Operations on the rows of numbers below 100,000 whose keys are the numbers, most significant byte first: what stands before and behind each
+// key, and whether each hundredth is left out.
+fn many(alloc: Global, before: &[u8], behind: &[u8], some: bool) -> Result<Vec<u8>, AllocError> {
+    let mut bytes = Vec::new(alloc);
     for number in 0..100_000u32 {
-        let value = Bytes::new(alloc);
-        ops.push(RowOp::Set {
-            key: key(alloc, number)?,
-            value,
-        })?;
-    }
-    Ok(ops)
-}
-
-// Drops of the same rows, but for each hundredth.
-fn drops(alloc: Global) -> Result<Vec<RowOp>, AllocError> {
-    let mut ops = Vec::new(alloc);
-    for number in 0..100_000u32 {
-        if number % 100 != 0 {
-            ops.push(RowOp::Drop {
-                key: key(alloc, number)?,
-            })?;
+        if !some || number % 100 != 0 {
+            bytes.extend_from_slice(before)?;
+            bytes.extend_from_slice(&number.to_be_bytes())?;
+            bytes.extend_from_slice(behind)?;
         }
     }
-    Ok(ops)
+    Ok(bytes)
 }
 
-// How many chunks there are, with and without rows, as the table's debug text shows them.
-fn chunks(alloc: Global, rows: &RowTable) -> Result<usize, AllocError> {
+// How many chunks there are then, with and without rows, as the table's debug text shows them.
+fn chunks_after(alloc: Global, batches: &[Batch]) -> Result<usize, AllocError> {
+    let rows = rows_after(alloc, batches)?;
     let text = format!(in alloc; "{rows:?}")?;
     Ok(text.as_str().matches("Chunk {").count())
 }
 
-// At most 32 of them are spare.
-#[test]
-fn few_rows_have_few_chunks(rt: HostRuntime) -> Result<(), Fail> {
-    let mut rows = RowTable::new(rt.alloc());
-    apply(&mut rows, sets(rt.alloc())?, 0)?;
-    apply(&mut rows, drops(rt.alloc())?, 0)?;
-    apply(&mut rows, Vec::new(rt.alloc()), 0)?;
-    let count = chunks(rt.alloc(), &rows)?;
-    assert!(rt; count <= 1000 * 2 / 65 + 1 + 32, "{count}");
-    Ok(())
+// Those of 100,000 rows of which 1000 stay.
+fn chunks_of_few(alloc: Global) -> Result<usize, AllocError> {
+    let sets = many(alloc, b"\x01\x04\0", b"\0\0\0\0", false)?;
+    let drops = many(alloc, b"\x02\x04\0", b"", true)?;
+    chunks_after(alloc, &[(&sets, 0), (&drops, 0), (b"", 0)])
 }
 
-#[test]
-fn spare_chunks_are_given_back(rt: HostRuntime) -> Result<(), Fail> {
-    let mut rows = RowTable::new(rt.alloc());
-    apply(&mut rows, decoded(rt.alloc(), EARLIER)?, 100_000)?;
-    assert!(rt; chunks(rt.alloc(), &rows)? > 3000);
-    apply(&mut rows, Vec::new(rt.alloc()), 0)?;
-    assert!(rt; chunks(rt.alloc(), &rows)? <= 1 + 32);
-    Ok(())
+/// Which comes out otherwise: the rows of a batch, the chunks of few rows, or those where there is much room, and where there was.
+///
+/// At most 32 chunks are spare, and a chunk has at most 128 rows.
+pub fn first_wrong(alloc: Global) -> Result<Option<usize>, AllocError> {
+    let few = chunks_of_few(alloc)?;
+    Ok(first_false(&[
+        are_later(alloc)?,
+        8 <= few,
+        few <= 1000 * 2 / 65 + 1 + 32,
+        chunks_after(alloc, &[(EARLIER, 100_000)])? > 3000,
+        chunks_after(alloc, &[(EARLIER, 100_000), (b"", 0)])? <= 1 + 32,
+    ]))
 }

@@ -1,7 +1,7 @@
 //! Free units that are taken and held, few of them and many.
 
+use crate::cases::first_false;
 use std::alloc::{AllocError, Global};
-use std::test::*;
 use unit_allocator::{Allocator, Run};
 use unit_fields::{UnitNo, UnitSet};
 
@@ -14,30 +14,38 @@ fn few(alloc: Global) -> Result<Allocator, AllocError> {
     Allocator::new(alloc, UnitNo::new(18), UnitNo::new(31), &busy)
 }
 
-// A run by its first unit and its count.
-fn run(first: u32, count: u32) -> Run {
-    let first = UnitNo::new(first);
-    Run { first, count }
+// The runs of so many free units, or None where they aren't taken.
+fn take(alloc: Global, space: &mut Allocator, n: u32) -> Option<Vec<Run>> {
+    match space.take(alloc, n) {
+        Ok(runs) => Some(runs),
+        Err(_) => None,
+    }
 }
 
-// The runs are as long as they get.
-#[test]
-fn lowest_first(rt: HostRuntime) -> Result<(), Fail> {
-    let mut space = few(rt.alloc())?;
-    let runs = space.take(rt.alloc(), 3)?;
-    assert_eq!(rt; runs.as_slice(), [run(18, 1), run(20, 2)].as_slice());
-    Ok(())
+// Whether these runs, of a first unit and a count, are the only ones.
+fn are_runs(runs: &[Run], wanted: &[(u32, u32)]) -> bool {
+    for (run, (first, count)) in runs.iter().zip(wanted) {
+        if run.first.number() != *first || run.count != *count {
+            return false;
+        }
+    }
+    runs.len() == wanted.len()
 }
 
-fn is_held(space: &mut Allocator, unit: UnitNo) -> bool {
-    space.contains(unit) && space.hold(unit).is_ok()
+// Whether the three lowest units come in runs as long as they get.
+fn are_lowest(alloc: Global) -> Result<bool, AllocError> {
+    let mut space = few(alloc)?;
+    match take(alloc, &mut space, 3) {
+        Some(runs) => Ok(are_runs(&runs, &[(18, 1), (20, 2)])),
+        None => Ok(false),
+    }
 }
 
-#[test]
-fn a_hold(rt: HostRuntime) -> Result<(), Fail> {
-    let mut space = few(rt.alloc())?;
-    assert!(rt; is_held(&mut space, UnitNo::new(20)));
-    Ok(())
+// Whether one of them can be held.
+fn is_held(alloc: Global) -> Result<bool, AllocError> {
+    let mut space = few(alloc)?;
+    let unit = UnitNo::new(20);
+    Ok(space.contains(unit) && space.hold(unit).is_ok())
 }
 
 // As many units as a store has at most: none of them busy but the first 18 and each hundredth.
@@ -49,19 +57,14 @@ fn largest(alloc: Global) -> Result<Allocator, AllocError> {
     Allocator::new(alloc, UnitNo::new(18), UnitNo::new(1_048_576), &busy)
 }
 
-// Gives a unit back, if it may be given.
-fn give(space: &mut Allocator, unit: u32) {
-    let first = UnitNo::new(unit);
-    if unit < u32::MAX && space.contains(first) && !space.is_free(first) {
-        space.give(Run { first, count: 1 });
-    }
-}
-
-// Gives each unit of a run back.
-fn give_run(space: &mut Allocator, run: &Run) {
+// Gives each unit of a run back that may be given.
+fn give(space: &mut Allocator, run: &Run) {
     let first = run.first.number();
     for unit in first..first.saturating_add(run.count) {
-        give(space, unit);
+        let first = UnitNo::new(unit);
+        if unit < u32::MAX && space.contains(first) && !space.is_free(first) {
+            space.give(Run { first, count: 1 });
+        }
     }
 }
 
@@ -69,23 +72,30 @@ fn give_run(space: &mut Allocator, run: &Run) {
 fn give_every_other(space: &mut Allocator, runs: &[Run]) {
     for (place, run) in runs.iter().enumerate() {
         if place % 2 == 0 {
-            give_run(space, run);
+            give(space, run);
         }
     }
 }
 
 // How many units are free and how many runs are taken then, once 100,000 units were taken, every other run was given back, and 50,005
-// units more were taken.
-fn after_a_million(alloc: Global) -> Result<(u32, usize), Fail> {
+// units more were taken; or None where units aren't taken.
+fn after_a_million(alloc: Global) -> Result<Option<(u32, usize)>, AllocError> {
     let mut space = largest(alloc)?;
-    let runs = space.take(alloc, 100_000)?;
-    give_every_other(&mut space, &runs);
+    if let Some(runs) = take(alloc, &mut space, 100_000) {
+        give_every_other(&mut space, &runs);
+    }
     let free = space.free_count();
-    Ok((free, space.take(alloc, 50_005)?.len()))
+    match take(alloc, &mut space, 50_005) {
+        Some(runs) => Ok(Some((free, runs.len()))),
+        None => Ok(None),
+    }
 }
 
-#[test]
-fn a_million_units(rt: HostRuntime) -> Result<(), Fail> {
-    assert_eq!(rt; after_a_million(rt.alloc())?, (988_078, 506));
-    Ok(())
+/// Which comes out otherwise: the lowest units, a hold, or many units.
+pub fn first_wrong(alloc: Global) -> Result<Option<usize>, AllocError> {
+    Ok(first_false(&[
+        are_lowest(alloc)?,
+        is_held(alloc)?,
+        after_a_million(alloc)? == Some((988_078, 506)),
+    ]))
 }

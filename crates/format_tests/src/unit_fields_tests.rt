@@ -1,8 +1,7 @@
-//! Names of collections, and numbers spelled by hand.
+//! Names of collections.
 
 use std::alloc::{AllocError, Global};
-use std::test::*;
-use unit_fields::{CollName, push_u16_le, push_u32_be, push_u32_le, push_u64_be, push_u64_le};
+use unit_fields::CollName;
 
 static NAMES: [(&str, bool); 13] = [
     ("1.0_head", true),
@@ -20,30 +19,12 @@ static NAMES: [(&str, bool); 13] = [
     ("meta", false),
 ];
 
-#[test]
-fn names_of_collections(rt: HostRuntime) -> Result<(), Fail> {
-    for (text, is_name) in &NAMES {
-        let found = CollName::read(rt.alloc(), text.as_bytes())?;
-        assert_eq!(rt; found.is_some(), *is_name, "{text}");
+/// The place of the first case that comes out otherwise.
+pub fn first_wrong(alloc: Global) -> Result<Option<usize>, AllocError> {
+    for (i, (text, is_name)) in NAMES.iter().enumerate() {
+        if CollName::read(alloc, text.as_bytes())?.is_some() != *is_name {
+            return Ok(Some(i));
+        }
     }
-    Ok(())
-}
-
-fn written(alloc: Global) -> Result<Vec<u8>, AllocError> {
-    let mut out = Vec::new(alloc);
-    push_u16_le(&mut out, 0x0102)?;
-    push_u32_le(&mut out, 0x01020304)?;
-    push_u64_le(&mut out, 0x0102030405060708)?;
-    push_u32_be(&mut out, 0x01020304)?;
-    push_u64_be(&mut out, 0x0102030405060708)?;
-    Ok(out)
-}
-
-const WRITTEN: &[u8] =
-    b"\x02\x01\x04\x03\x02\x01\x08\x07\x06\x05\x04\x03\x02\x01\x01\x02\x03\x04\x01\x02\x03\x04\x05\x06\x07\x08";
-
-#[test]
-fn numbers_by_hand(rt: HostRuntime) -> Result<(), Fail> {
-    assert_eq!(rt; written(rt.alloc())?.as_slice(), WRITTEN);
-    Ok(())
+    Ok(None)
 }

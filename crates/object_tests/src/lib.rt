@@ -5,7 +5,7 @@
 #[cfg(test)]
 mod bitmap_freelist_tests;
 #[cfg(test)]
-mod blob_map_tests;
+mod cases;
 #[cfg(test)]
 mod extent_shards_tests;
 #[cfg(test)]

@@ -8,19 +8,18 @@ ghost use Rattle.read_facts.specs.Prelude.{IsKnownRead};
 ghost use Rattle.write_buffers.specs.Prelude.{memory_in};
 ghost use Rattle.object_reader.specs.Readable.{IsReadable};
 
-use crate::rows::{COLL, ONODE_A, SHARD_A0, shard_values, superblock, table_of};
+use crate::rows::{COLL, ONODE_A, SHARD_A0, name_of, set, shard_values, superblock, table_of};
 use blob_map::{PageMap, Place};
 use block_device::{Device, Kind, MemoryDevice};
 use byte_maps::Bytes;
 use bytes::Bytes as SharedBytes;
 use crc32c_csum::crc32c;
-use meta_rows::{RowOp, RowTable};
+use meta_rows::RowTable;
 use object_model::{Answer, Command};
 use object_reader::{ReadFail, answer};
 use row_check::find_bad_row;
 use std::alloc::{AllocError, Global};
-use std::test::Fail;
-use unit_fields::{CollName, Name, UnitNo, Width};
+use unit_fields::{CollName, UnitNo, Width};
 use write_buffers::WriteBuffers;
 
 // A page on a unit.
@@ -75,9 +74,8 @@ fn rows_of(alloc: Global, object: &Object) -> Result<RowTable, AllocError> {
     let (size, pieces) = *object;
     let mut rows = table_of(alloc, &[COLL, (ONODE_A, size)])?;
     if !pieces.is_empty() {
-        let key = Bytes::from_slice(alloc, SHARD_A0)?;
         let value = shard_value(alloc, pieces)?;
-        rows.apply_all(alloc, vec![in alloc; RowOp::Set { key, value }]?)?;
+        set(alloc, &mut rows, SHARD_A0, value.as_slice())?;
     }
     Ok(rows)
 }
@@ -115,17 +113,16 @@ fn is_readable(
 }
 
 // What is asked: the whole object, or its sum.
-#[derive(Clone, Copy)]
 enum Asked {
     Read,
     Sum,
 }
 
-fn command(alloc: Global, asked: Asked) -> Result<Command, Fail>
+fn command(alloc: Global, asked: &Asked) -> Result<Command, AllocError>
     ensures { IfOk result IsKnownRead }
 {
     let coll = CollName::new(alloc, 1, 0)?;
-    let object = Name::read(alloc, b"a")?.ok_or("a name")?;
+    let object = name_of(alloc, b"a")?;
     Ok(match asked {
         Asked::Read => Command::Read {
             coll,
@@ -180,68 +177,120 @@ const ONE: Object = (b"\xa0\x0f\0\0\0\0\0\0", &[(0, 40, 1)]);
 
 const HOLES: Object = (b"\x88\x13\0\0\0\0\0\0", &[]);
 
-// An object, what is asked, the read of the device that fails, if one does, and what is answered.
-type Case = (Object, Asked, Option<u64>, Told);
+// An object, the unit whose bytes are in memory, if one's are, what is asked, the read of the device that fails, if one does, and what is
+// answered.
+struct Case {
+    object: Object,
+    written: Option<u32>,
+    asked: Asked,
+    fails: Option<u64>,
+    told: Told,
+}
 
-static CASES: [Case; 8] = [
-    (SOME, Asked::Read, None, Ok(Some((12388, 0x888dd568)))),
-    (SOME, Asked::Sum, None, Ok(Some((12388, 0x888dd568)))),
+static CASES: [Case; 12] = [
+    Case {
+        object: SOME,
+        written: None,
+        asked: Asked::Read,
+        fails: None,
+        told: Ok(Some((12388, 0x888dd568))),
+    },
+    Case {
+        object: SOME,
+        written: None,
+        asked: Asked::Sum,
+        fails: None,
+        told: Ok(Some((12388, 0x888dd568))),
+    },
     // no reads, and three
-    (HOLES, Asked::Sum, Some(0), Ok(Some((5000, 0xe68075d0)))),
-    (LONG, Asked::Sum, Some(2), Err(ReadFail::Fault)),
-    (LONG, Asked::Sum, Some(3), Ok(Some((614400, 0xaedce209)))),
-    (LONG, Asked::Read, Some(2), Err(ReadFail::Fault)),
-    (SCATTERED, Asked::Sum, Some(2), Err(ReadFail::Fault)),
-    (
-        SCATTERED,
-        Asked::Sum,
-        Some(3),
-        Ok(Some((12288, 0xc44ebf93))),
-    ),
+    Case {
+        object: HOLES,
+        written: None,
+        asked: Asked::Sum,
+        fails: Some(0),
+        told: Ok(Some((5000, 0xe68075d0))),
+    },
+    Case {
+        object: LONG,
+        written: None,
+        asked: Asked::Sum,
+        fails: Some(2),
+        told: Err(ReadFail::Fault),
+    },
+    Case {
+        object: LONG,
+        written: None,
+        asked: Asked::Sum,
+        fails: Some(3),
+        told: Ok(Some((614400, 0xaedce209))),
+    },
+    Case {
+        object: LONG,
+        written: None,
+        asked: Asked::Read,
+        fails: Some(2),
+        told: Err(ReadFail::Fault),
+    },
+    Case {
+        object: SCATTERED,
+        written: None,
+        asked: Asked::Sum,
+        fails: Some(2),
+        told: Err(ReadFail::Fault),
+    },
+    Case {
+        object: SCATTERED,
+        written: None,
+        asked: Asked::Sum,
+        fails: Some(3),
+        told: Ok(Some((12288, 0xc44ebf93))),
+    },
+    // no read of the device
+    Case {
+        object: ONE,
+        written: Some(40),
+        asked: Asked::Read,
+        fails: Some(0),
+        told: Ok(Some((4000, 0x3c2b5819))),
+    },
+    // two, of the pages before the one in memory and behind it
+    Case {
+        object: FOUR,
+        written: Some(42),
+        asked: Asked::Read,
+        fails: Some(2),
+        told: Ok(Some((16384, 0x4f955b6c))),
+    },
+    Case {
+        object: FOUR,
+        written: Some(42),
+        asked: Asked::Sum,
+        fails: Some(2),
+        told: Ok(Some((16384, 0x4f955b6c))),
+    },
+    Case {
+        object: FOUR,
+        written: Some(42),
+        asked: Asked::Sum,
+        fails: Some(1),
+        told: Err(ReadFail::Fault),
+    },
 ];
 
-fn told_of(alloc: Global, case: &Case, written: Option<u32>) -> Result<Told, Fail> {
-    let (object, asked, fails, _) = case;
-    let command = command(alloc, *asked)?;
-    let rows = rows_of(alloc, object)?;
-    let mut device = device(alloc, *fails)?;
-    let buffers = buffers(alloc, written)?;
+fn told_of(alloc: Global, case: &Case) -> Result<Told, AllocError> {
+    let command = command(alloc, &case.asked)?;
+    let rows = rows_of(alloc, &case.object)?;
+    let mut device = device(alloc, case.fails)?;
+    let buffers = buffers(alloc, case.written)?;
     Ok(answered(alloc, &mut device, &buffers, &rows, &command))
 }
 
-#[test]
-fn answers(rt: HostRuntime) -> Result<(), Fail> {
+/// The place of the first case in which something else is answered.
+pub fn first_wrong(alloc: Global) -> Result<Option<usize>, AllocError> {
     for (i, case) in CASES.iter().enumerate() {
-        let told = told_of(rt.alloc(), case, None)?;
-        assert!(rt; told == case.3, "case {i}");
+        if told_of(alloc, case)? != case.told {
+            return Ok(Some(i));
+        }
     }
-    Ok(())
-}
-
-// The same with the bytes of this unit in memory.
-static WRITTEN: [(u32, Case); 4] = [
-    // no read of the device
-    (
-        40,
-        (ONE, Asked::Read, Some(0), Ok(Some((4000, 0x3c2b5819)))),
-    ),
-    // two, of the pages before it and behind it
-    (
-        42,
-        (FOUR, Asked::Read, Some(2), Ok(Some((16384, 0x4f955b6c)))),
-    ),
-    (
-        42,
-        (FOUR, Asked::Sum, Some(2), Ok(Some((16384, 0x4f955b6c)))),
-    ),
-    (42, (FOUR, Asked::Sum, Some(1), Err(ReadFail::Fault))),
-];
-
-#[test]
-fn answers_from_memory(rt: HostRuntime) -> Result<(), Fail> {
-    for (i, (unit, case)) in WRITTEN.iter().enumerate() {
-        let told = told_of(rt.alloc(), case, Some(*unit))?;
-        assert!(rt; told == case.3, "case {i}");
-    }
-    Ok(())
+    Ok(None)
 }

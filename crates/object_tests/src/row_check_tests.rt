@@ -1,11 +1,9 @@
 //! Tables of rows, and the least bad row of each.
 
-use crate::rows::{COLL, Entry, ONODE_A, SHARD_A0, superblock, table_of};
-use byte_maps::Bytes;
-use meta_rows::RowOp;
+use crate::rows::{COLL, Entry, ONODE_A, SHARD_A0, set, superblock, table_of};
+use meta_rows::RowTable;
 use row_check::find_bad_row;
 use std::alloc::{AllocError, Global};
-use std::test::Fail;
 
 const EMPTY: &[u8] = b"";
 
@@ -90,9 +88,8 @@ const BITS_18_99: &[u8] = b"\0\0\x04\0\0\0\0\0\0\0\0\0\x08\0\0\0";
 const BIT_100: &[u8] = b"\0\0\0\0\0\0\0\0\0\0\0\0\x10\0\0\0";
 
 // Whether this is the least key of a bad row of a store whose data units are 18 to 99, or there is none.
-fn is_least_bad(alloc: Global, rows: &[Entry], key: Option<&[u8]>) -> Result<bool, AllocError> {
-    let table = table_of(alloc, rows)?;
-    let found = find_bad_row(alloc, &superblock(100), &table)?;
+fn is_least_bad(alloc: Global, rows: &RowTable, key: Option<&[u8]>) -> Result<bool, AllocError> {
+    let found = find_bad_row(alloc, &superblock(100), rows)?;
     Ok(match &found {
         Some(least) => Some(least.as_slice()) == key,
         None => key.is_none(),
@@ -298,24 +295,14 @@ static JUDGED: [Judged; 33] = [
     ),
 ];
 
-#[test]
-fn bad_rows(rt: HostRuntime) -> Result<(), Fail> {
-    for (what, rows, key) in &JUDGED {
-        assert!(rt; is_least_bad(rt.alloc(), rows, *key)?, "{what}");
+/// The place of the first rows that are judged otherwise.
+pub fn first_wrong(alloc: Global) -> Result<Option<usize>, AllocError> {
+    for (i, (_, rows, key)) in JUDGED.iter().enumerate() {
+        if !is_least_bad(alloc, &table_of(alloc, rows)?, *key)? {
+            return Ok(Some(i));
+        }
     }
-    Ok(())
-}
-
-// Whether no row is bad of the object `a` and one more of it, whose key ends in a name of so many bytes and whose value has so many.
-fn are_good(alloc: Global, front: &[u8], name: usize, value: usize) -> Result<bool, AllocError> {
-    let mut key = Vec::new(alloc);
-    key.extend_from_slice(front)?;
-    key.extend_from_slice(&vec![in alloc; b'n'; name]?)?;
-    let key = Bytes::from_vec(key);
-    let value = Bytes::from_vec(vec![in alloc; b'v'; value]?);
-    let mut rows = table_of(alloc, &[COLL, (ONODE_A, ONE_PAGE)])?;
-    rows.apply_all(alloc, vec![in alloc; RowOp::Set { key, value }]?)?;
-    Ok(find_bad_row(alloc, &superblock(100), &rows)?.is_none())
+    Ok(None)
 }
 
 // How a key begins, how long its name and its value are, and whether the row is good.
@@ -332,14 +319,24 @@ static SIZED: [Sized; 8] = [
     (PAIRS_A, 1, 65536, false),
 ];
 
-#[test]
-fn lengths_of_names_and_values(rt: HostRuntime) -> Result<(), Fail> {
-    for (front, name, value, good) in &SIZED {
-        assert_eq!(rt;
-            are_good(rt.alloc(), front, *name, *value)?,
-            *good,
-            "{name} {value}"
-        );
+// The object `a` and one more row of it, whose key ends in a name of so many bytes and whose value has so many.
+fn rows_with(alloc: Global, sized: &Sized) -> Result<RowTable, AllocError> {
+    let (front, name, value, _) = *sized;
+    let mut key = vec![in alloc; b'n'; front.len().saturating_add(name)]?;
+    for (byte, first) in key.iter_mut().zip(front) {
+        *byte = *first;
     }
-    Ok(())
+    let mut rows = table_of(alloc, &[COLL, (ONODE_A, ONE_PAGE)])?;
+    set(alloc, &mut rows, &key, &vec![in alloc; b'v'; value]?)?;
+    Ok(rows)
+}
+
+/// The place of the first row of such a length that is judged otherwise.
+pub fn first_wrong_size(alloc: Global) -> Result<Option<usize>, AllocError> {
+    for (i, sized) in SIZED.iter().enumerate() {
+        if is_least_bad(alloc, &rows_with(alloc, sized)?, None)? != sized.3 {
+            return Ok(Some(i));
+        }
+    }
+    Ok(None)
 }

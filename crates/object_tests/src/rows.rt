@@ -8,7 +8,7 @@ use extent_shards::split;
 use meta_log::Super;
 use meta_rows::{RowOp, RowTable};
 use std::alloc::{AllocError, Global};
-use unit_fields::Width;
+use unit_fields::{Name, Width};
 
 /// A key and a value.
 pub type Entry = (&'static [u8], &'static [u8]);
@@ -38,21 +38,25 @@ pub fn superblock(units: u32) -> Super
     }
 }
 
-fn set_op(alloc: Global, entry: &Entry) -> Result<RowOp, AllocError> {
-    let key = Bytes::from_slice(alloc, entry.0)?;
-    let value = Bytes::from_slice(alloc, entry.1)?;
-    Ok(RowOp::Set { key, value })
+/// Sets a row.
+pub fn set(alloc: Global, rows: &mut RowTable, key: &[u8], value: &[u8]) -> Result<(), AllocError> {
+    let key = Bytes::from_slice(alloc, key)?;
+    let value = Bytes::from_slice(alloc, value)?;
+    rows.apply_all(alloc, vec![in alloc; RowOp::Set { key, value }]?)
 }
 
 /// The rows with these keys and values.
 pub fn table_of(alloc: Global, entries: &[Entry]) -> Result<RowTable, AllocError> {
-    let mut ops = Vec::new(alloc);
-    for entry in entries {
-        ops.push(set_op(alloc, entry)?)?;
-    }
     let mut rows = RowTable::new(alloc);
-    rows.apply_all(alloc, ops)?;
+    for (key, value) in entries {
+        set(alloc, &mut rows, key, value)?;
+    }
     Ok(rows)
+}
+
+/// A name, where the bytes are one; else it comes to the same as where there is no memory.
+pub fn name_of(alloc: Global, bytes: &[u8]) -> Result<Name, AllocError> {
+    Name::read(alloc, bytes)?.ok_or(AllocError)
 }
 
 /// The values of the rows of a map's shards, split by a bound on their bytes, if there is one.

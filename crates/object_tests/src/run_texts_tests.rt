@@ -1,16 +1,16 @@
 //! Texts of answers that no command of a script asks for yet, over a sink in memory, and a sink that fails. The other texts are cases of
 //! the program `store_cases`.
 
+use crate::cases::first_false;
+use crate::rows::name_of;
 use byte_maps::Bytes;
 use end_points::MemorySink;
 use object_model::{Answer, Book, Command, Entry};
 use run_texts::{Status, WorkEnd, report_step};
-use std::alloc::Global;
-use std::test::Fail;
-use unit_fields::{CollName, Name};
+use std::alloc::{AllocError, Global};
+use unit_fields::CollName;
 
 // What a client asks of an object.
-#[derive(Clone, Copy)]
 enum Asked {
     Read,
     GetAttr,
@@ -18,8 +18,11 @@ enum Asked {
     OmapHeader,
 }
 
-fn command(asked: Asked, coll: CollName, object: Name, key: Name) -> Command {
-    match asked {
+fn command(alloc: Global, asked: &Asked) -> Result<Command, AllocError> {
+    let coll = CollName::new(alloc, 1, 0)?;
+    let object = name_of(alloc, b"a")?;
+    let key = name_of(alloc, b"a")?;
+    Ok(match asked {
         Asked::Read => Command::Read {
             coll,
             object,
@@ -33,106 +36,107 @@ fn command(asked: Asked, coll: CollName, object: Name, key: Name) -> Command {
         },
         Asked::OmapGet => Command::OmapGet { coll, object, key },
         Asked::OmapHeader => Command::OmapHeader { coll, object },
-    }
+    })
 }
 
-fn name(alloc: Global) -> Result<Name, Fail> {
-    Ok(Name::read(alloc, b"a")?.ok_or("a name")?)
-}
+// A client, its command on line 70, and the bytes that it is answered by.
+type Reply = (u32, Asked, &'static [u8]);
 
-// An entry of a client, whose command is answered by these bytes.
-fn entry_of(alloc: Global, client: u32, asked: Asked, bytes: Vec<u8>) -> Result<Entry, Fail> {
-    let coll = CollName::new(alloc, 1, 0)?;
-    let command = command(asked, coll, name(alloc)?, name(alloc)?);
+fn entry_of(alloc: Global, reply: &Reply) -> Result<Entry, AllocError> {
+    let bytes = Bytes::from_slice(alloc, reply.2)?;
     Ok(Entry {
-        client,
+        client: reply.0,
         line: 70,
-        command,
-        answer: Answer::Bytes(Bytes::from_vec(bytes)),
+        command: command(alloc, &reply.1)?,
+        answer: Answer::Bytes(bytes),
         acks: 0,
     })
 }
 
-// The book of a run with one command, which is answered by these bytes.
-fn book_of(alloc: Global, asked: Asked, bytes: Vec<u8>) -> Result<Book, Fail> {
+// The book of a run with these commands, one behind another.
+fn book_of(alloc: Global, replies: &[Reply]) -> Result<Book, AllocError> {
     let mut book = Book::new(alloc);
-    book.entries.push(entry_of(alloc, 3, asked, bytes)?)?;
+    for reply in replies {
+        book.entries.push(entry_of(alloc, reply)?)?;
+    }
     Ok(book)
 }
 
-static REPLIES: [(Asked, &[u8], &str); 6] = [
+// Whether this is printed of such a run that ended so, into a sink that takes so many bytes a call.
+fn is_text(
+    alloc: Global,
+    replies: &[Reply],
+    end: &WorkEnd,
+    step: u32,
+    wanted: &str,
+) -> Result<bool, AllocError> {
+    let book = book_of(alloc, replies)?;
+    let mut sink = MemorySink::new(alloc, 4096, step.max(1), Vec::new(alloc))?;
+    report_step(alloc, &book, end, &mut sink);
+    Ok(sink.text() == wanted.as_bytes())
+}
+
+static REPLIES: [(&[Reply], &str); 6] = [
     (
-        Asked::Read,
-        b"\x00\xff\x1a",
+        &[(3, Asked::Read, b"\x00\xff\x1a")],
         "3:70 data 00ff1a\nstopped 3\n",
     ),
-    (Asked::GetAttr, b"az", "3:70 attr 617a\nstopped 3\n"),
-    (Asked::GetAttr, b"", "3:70 attr -\nstopped 3\n"),
-    (Asked::OmapGet, b"\xa0", "3:70 omap a0\nstopped 3\n"),
-    (Asked::OmapHeader, b"\n", "3:70 header 0a\nstopped 3\n"),
-    (Asked::OmapHeader, b"", "3:70 header -\nstopped 3\n"),
+    (&[(3, Asked::GetAttr, b"az")], "3:70 attr 617a\nstopped 3\n"),
+    (&[(3, Asked::GetAttr, b"")], "3:70 attr -\nstopped 3\n"),
+    (&[(3, Asked::OmapGet, b"\xa0")], "3:70 omap a0\nstopped 3\n"),
+    (
+        &[(3, Asked::OmapHeader, b"\n")],
+        "3:70 header 0a\nstopped 3\n",
+    ),
+    (&[(3, Asked::OmapHeader, b"")], "3:70 header -\nstopped 3\n"),
 ];
 
-// What is printed of a run that the device stopped, whose book has one command, into a sink that takes seven bytes a call.
-fn step_text(alloc: Global, asked: Asked, bytes: &[u8]) -> Result<MemorySink, Fail> {
-    let book = book_of(alloc, asked, Vec::from_slice(alloc, bytes)?)?;
-    let mut sink = MemorySink::new(alloc, 4096, 7, Vec::new(alloc))?;
-    report_step(alloc, &book, &WorkEnd::DeviceFault, &mut sink);
-    Ok(sink)
-}
-
-#[test]
-fn replies(rt: HostRuntime) -> Result<(), Fail> {
-    for (asked, bytes, wanted) in &REPLIES {
-        let sink = step_text(rt.alloc(), *asked, bytes)?;
-        assert_eq!(rt; sink.text(), wanted.as_bytes());
+/// The place of the first that is printed otherwise, of a run that the device stopped.
+pub fn first_wrong(alloc: Global) -> Result<Option<usize>, AllocError> {
+    for (i, (replies, wanted)) in REPLIES.iter().enumerate() {
+        if !is_text(alloc, replies, &WorkEnd::DeviceFault, 7, wanted)? {
+            return Ok(Some(i));
+        }
     }
-    Ok(())
+    Ok(None)
 }
 
-// What comes of a read of 20000 bytes 5A, whose text goes to a sink that fails at its second call: the status, and how much is there.
-fn long_read(alloc: Global) -> Result<(Status, usize), Fail> {
-    let book = book_of(alloc, Asked::Read, vec![in alloc; 0x5au8; 20_000]?)?;
+// Commands of some clients, each answered by the byte of its place.
+static OF_CLIENTS: [Reply; 7] = [
+    (63, Asked::Read, b"\x00"),
+    (2, Asked::Read, b"\x01"),
+    (0, Asked::Read, b"\x02"),
+    (2, Asked::Read, b"\x03"),
+    (63, Asked::Read, b"\x04"),
+    (0, Asked::Read, b"\x05"),
+    (2, Asked::Read, b"\x06"),
+];
+
+// The replies of each client come together, in the order of the clients' numbers.
+const IN_ORDER: &str =
+    "0:70 data 02\n0:70 data 05\n2:70 data 01\n2:70 data 03\n2:70 data 06\n63:70 data 00\n63:70 data 04\nscript 7 line 19\nstopped 2\n";
+
+// Whether they do where the script of client 7 has a bad line.
+fn are_in_order(alloc: Global) -> Result<bool, AllocError> {
+    let end = WorkEnd::BadLine { script: 7, n: 19 };
+    is_text(alloc, &OF_CLIENTS, &end, 4096, IN_ORDER)
+}
+
+// A read of 20000 bytes 5A.
+static LONG: [Reply; 1] = [(3, Asked::Read, &[0x5a; 20_000])];
+
+// What comes of it where the text goes to a sink that fails at its second call: the status, and how much is there.
+fn long_read(alloc: Global) -> Result<(Status, usize), AllocError> {
+    let book = book_of(alloc, &LONG)?;
     let mut sink = MemorySink::new(alloc, 65536, 65536, vec![in alloc; 1u64]?)?;
     let status = report_step(alloc, &book, &WorkEnd::BayFault, &mut sink);
     Ok((status, sink.text().len()))
 }
 
-// The sink keeps the first piece, and nothing goes to it after that.
-#[test]
-fn a_sink_that_fails(rt: HostRuntime) -> Result<(), Fail> {
-    assert_eq!(rt; long_read(rt.alloc())?, (Status::SinkFault, 16384));
-    Ok(())
-}
-
-// The book of a run with a command of each of these clients, one behind another, which reads the byte of its place.
-fn book_of_clients(alloc: Global, clients: &[u32]) -> Result<Book, Fail> {
-    let mut book = Book::new(alloc);
-    let mut place = 0u8;
-    for client in clients {
-        let bytes = vec![in alloc; place; 1]?;
-        book.entries
-            .push(entry_of(alloc, *client, Asked::Read, bytes)?)?;
-        place = place.wrapping_add(1);
-    }
-    Ok(book)
-}
-
-// What is printed of such a run in which the script of client 7 has a bad line.
-fn clients_text(alloc: Global, clients: &[u32]) -> Result<MemorySink, Fail> {
-    let book = book_of_clients(alloc, clients)?;
-    let mut sink = MemorySink::new(alloc, 4096, 4096, Vec::new(alloc))?;
-    let end = WorkEnd::BadLine { script: 7, n: 19 };
-    report_step(alloc, &book, &end, &mut sink);
-    Ok(sink)
-}
-
-// The replies of each client come together, in the order of the clients' numbers.
-#[test]
-fn clients_one_behind_another(rt: HostRuntime) -> Result<(), Fail> {
-    let sink = clients_text(rt.alloc(), &[63, 2, 0, 2, 63, 0, 2])?;
-    let wanted =
-        "0:70 data 02\n0:70 data 05\n2:70 data 01\n2:70 data 03\n2:70 data 06\n63:70 data 00\n63:70 data 04\nscript 7 line 19\nstopped 2\n";
-    assert_eq!(rt; sink.text(), wanted.as_bytes());
-    Ok(())
+/// Which comes out otherwise: the order of replies, or a sink that fails. That keeps the first piece, and nothing goes to it after that.
+pub fn first_wrong_run(alloc: Global) -> Result<Option<usize>, AllocError> {
+    Ok(first_false(&[
+        are_in_order(alloc)?,
+        long_read(alloc)? == (Status::SinkFault, 16384),
+    ]))
 }

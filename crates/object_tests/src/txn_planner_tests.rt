@@ -4,17 +4,16 @@ ghost use Rattle.unit_fields.specs.declared.width.Width.TheVariants.{FourBytes};
 ghost use Rattle.onode_state.specs.Objects.{AreRowsOfWidth};
 ghost use Rattle.plan_rows.specs.Prelude.{IsKnown, AreReadAt};
 
-use crate::rows::{COLL, Entry, ONODE_A, SHARD_A0, superblock, table_of};
+use crate::rows::{COLL, Entry, ONODE_A, SHARD_A0, name_of, superblock, table_of};
 use blob_map::Place;
 use byte_maps::{Bytes as Value, Items};
 use bytes::Bytes;
 use crc32c_csum::crc32c;
 use meta_rows::{RowOp, RowTable};
 use object_model::{Op, Pair, Refusal, Transaction};
-use plan_rows::{Plan, ReadUnit};
+use plan_rows::{FreshUnit, Plan, ReadUnit};
 use row_check::find_bad_row;
 use std::alloc::{AllocError, Global};
-use std::test::Fail;
 use txn_planner::{PlanFail, begin};
 use unit_allocator::Allocator;
 use unit_fields::{CollName, Name, UnitNo, UnitSet, Width};
@@ -34,14 +33,14 @@ const TWO_ON_40: Entry = (SHARD_A0, b"\0\0\0\0\x02\0\0\x28\0\0\0ccccdddd");
 
 const ONE_ON_50: Entry = (SHARD_A5, b"\x05\0\0\0\x01\0\0\x32\0\0\0ffff");
 
-// The rows with these keys and values, of which none is bad.
-fn good_rows(alloc: Global, entries: &[Entry]) -> Result<RowTable, Fail>
+// The rows with these keys and values, of which none is bad; else it comes to the same as where there is no memory, which nothing expects.
+fn good_rows(alloc: Global, entries: &[Entry]) -> Result<RowTable, AllocError>
     ensures { IfOk result (λ rows. AreRowsOfWidth FourBytes rows.rows) }
 {
     let rows = table_of(alloc, entries)?;
     let sup = superblock(800);
     match find_bad_row(alloc, &sup, &rows)? {
-        Some(_) => Err("a bad row".into()),
+        Some(_) => Err(AllocError),
         None => Ok(rows),
     }
 }
@@ -62,7 +61,6 @@ type KeyValue = (&'static [u8], &'static [u8]);
 
 // What a transaction does: it makes a collection or takes it away, or changes the object `a`. A write, of bytes 07, and zeros begin at an offset
 // and are so long.
-#[derive(Clone, Copy)]
 enum Change {
     MkColl,
     RmColl,
@@ -81,24 +79,21 @@ enum Change {
     OmapHeader(&'static [u8]),
 }
 
-fn name_of(alloc: Global, bytes: &[u8]) -> Result<Name, Fail> {
-    match Name::read(alloc, bytes)? {
-        Some(name) => Ok(name),
-        None => Err("no name".into()),
-    }
+fn pair_of(alloc: Global, key: &[u8], value: &[u8]) -> Result<Pair, AllocError> {
+    let key = name_of(alloc, key)?;
+    let value = Value::from_slice(alloc, value)?;
+    Ok(Pair { key, value })
 }
 
-fn pairs_of(alloc: Global, pairs: &[KeyValue]) -> Result<Items<Pair>, Fail> {
+fn pairs_of(alloc: Global, pairs: &[KeyValue]) -> Result<Items<Pair>, AllocError> {
     let mut made = Items::new(alloc);
     for (key, value) in pairs {
-        let key = name_of(alloc, key)?;
-        let value = Value::from_slice(alloc, value)?;
-        made.push(Pair { key, value })?;
+        made.push(pair_of(alloc, key, value)?)?;
     }
     Ok(made)
 }
 
-fn names_of(alloc: Global, keys: &[&[u8]]) -> Result<Items<Name>, Fail> {
+fn names_of(alloc: Global, keys: &[&[u8]]) -> Result<Items<Name>, AllocError> {
     let mut names = Items::new(alloc);
     for key in keys {
         names.push(name_of(alloc, key)?)?;
@@ -106,55 +101,30 @@ fn names_of(alloc: Global, keys: &[&[u8]]) -> Result<Items<Name>, Fail> {
     Ok(names)
 }
 
-fn op_of(alloc: Global, change: Change, object: Name) -> Result<Op, Fail> {
-    Ok(match change {
-        Change::MkColl => Op::MkColl,
-        Change::RmColl => Op::RmColl,
-        Change::Touch => Op::Touch { object },
-        Change::Write(off, len) => Op::Write {
-            object,
-            off,
-            bytes: Bytes::from_vec(vec![in alloc; 7u8; len]?)?,
-        },
-        Change::Zero(off, len) => Op::Zero { object, off, len },
-        Change::Truncate(size) => Op::Truncate { object, size },
-        Change::Remove => Op::Remove { object },
-        _ => value_op(alloc, change, object)?,
+// A write of so many bytes 07.
+fn write_of(alloc: Global, object: Name, off: u64, len: usize) -> Result<Op, AllocError> {
+    let bytes = Bytes::from_vec(vec![in alloc; 7u8; len]?)?;
+    Ok(Op::Write { object, off, bytes })
+}
+
+// An attribute that is set.
+fn attr_of(alloc: Global, object: Name, name: &[u8], value: &[u8]) -> Result<Op, AllocError> {
+    let Pair { key, value } = pair_of(alloc, name, value)?;
+    Ok(Op::SetAttr {
+        object,
+        name: key,
+        value,
     })
 }
 
-// An operation on the object's values.
-fn value_op(alloc: Global, change: Change, object: Name) -> Result<Op, Fail> {
-    Ok(match change {
-        Change::SetAttr(name, value) => Op::SetAttr {
-            object,
-            name: name_of(alloc, name)?,
-            value: Value::from_slice(alloc, value)?,
-        },
-        Change::RmAttr(name) => Op::RmAttr {
-            object,
-            name: name_of(alloc, name)?,
-        },
-        Change::RmAttrs => Op::RmAttrs { object },
-        Change::OmapSet(pairs) => Op::OmapSet {
-            object,
-            pairs: pairs_of(alloc, pairs)?,
-        },
-        Change::OmapRm(keys) => Op::OmapRm {
-            object,
-            keys: names_of(alloc, keys)?,
-        },
-        Change::OmapRmRange(first, last) => Op::OmapRmRange {
-            object,
-            first: name_of(alloc, first)?,
-            last: name_of(alloc, last)?,
-        },
-        Change::OmapClear => Op::OmapClear { object },
-        Change::OmapHeader(value) => Op::OmapHeader {
-            object,
-            value: Value::from_slice(alloc, value)?,
-        },
-        _ => return Err("an operation on no value".into()),
+// What drops a range of keys.
+fn range_of(alloc: Global, object: Name, first: &[u8], last: &[u8]) -> Result<Op, AllocError> {
+    let first = name_of(alloc, first)?;
+    let last = name_of(alloc, last)?;
+    Ok(Op::OmapRmRange {
+        object,
+        first,
+        last,
     })
 }
 
@@ -168,13 +138,63 @@ fn is_known(txn: &Transaction) -> bool
     }
 }
 
+fn op_of(alloc: Global, change: &Change, object: Name) -> Result<Op, AllocError> {
+    match change {
+        Change::MkColl => Ok(Op::MkColl),
+        Change::RmColl => Ok(Op::RmColl),
+        Change::Touch => Ok(Op::Touch { object }),
+        Change::Write(off, len) => write_of(alloc, object, *off, *len),
+        Change::Zero(off, len) => Ok(Op::Zero {
+            object,
+            off: *off,
+            len: *len,
+        }),
+        Change::Truncate(size) => Ok(Op::Truncate {
+            object,
+            size: *size,
+        }),
+        Change::Remove => Ok(Op::Remove { object }),
+        _ => value_op(alloc, change, object),
+    }
+}
+
+// An operation on the object's values.
+fn value_op(alloc: Global, change: &Change, object: Name) -> Result<Op, AllocError> {
+    match change {
+        Change::SetAttr(name, value) => attr_of(alloc, object, name, value),
+        Change::RmAttr(name) => Ok(Op::RmAttr {
+            object,
+            name: name_of(alloc, name)?,
+        }),
+        Change::RmAttrs => Ok(Op::RmAttrs { object }),
+        Change::OmapSet(pairs) => Ok(Op::OmapSet {
+            object,
+            pairs: pairs_of(alloc, pairs)?,
+        }),
+        Change::OmapRm(keys) => Ok(Op::OmapRm {
+            object,
+            keys: names_of(alloc, keys)?,
+        }),
+        Change::OmapRmRange(first, last) => range_of(alloc, object, first, last),
+        Change::OmapClear => Ok(Op::OmapClear { object }),
+        Change::OmapHeader(value) => Ok(Op::OmapHeader {
+            object,
+            value: Value::from_slice(alloc, value)?,
+        }),
+        _ => Err(AllocError),
+    }
+}
+
 // A transaction on the collection `1.0_head`.
-fn transaction(alloc: Global, change: Change) -> Result<Transaction, Fail> {
+fn transaction(alloc: Global, change: &Change) -> Result<Transaction, AllocError> {
     let coll = CollName::new(alloc, 1, 0)?;
-    let object = name_of(alloc, b"a")?;
-    match Transaction::new(alloc, coll, op_of(alloc, change, object)?) {
+    let op = op_of(alloc, change, name_of(alloc, b"a")?)?;
+    match Transaction::new(alloc, coll, op) {
         Ok(txn) => Ok(txn),
-        Err(_) => Err("no memory".into()),
+        Err(back) => {
+            drop(back);
+            Err(AllocError)
+        }
     }
 }
 
@@ -190,7 +210,7 @@ fn old_bytes(alloc: Global, unit: UnitNo) -> Result<ReadUnit, AllocError>
 }
 
 // What the units of these places held.
-fn read_at(alloc: Global, places: &[Place]) -> Result<Items<ReadUnit>, Fail>
+fn read_at(alloc: Global, places: &[Place]) -> Result<Items<ReadUnit>, AllocError>
     ensures { IfOk result (λ read. AreReadAt places.now read) }
 {
     let mut read = Items::new(alloc);
@@ -201,37 +221,26 @@ fn read_at(alloc: Global, places: &[Place]) -> Result<Items<ReadUnit>, Fail>
             read.push(old_bytes(alloc, first.unit)?)?;
             read.push(old_bytes(alloc, last.unit)?)?;
         }
-        _ => return Err("more than two places".into()),
+        _ => return Err(AllocError),
     }
     Ok(read)
 }
 
-// What is planned of a change, or why nothing is.
-fn planned(
-    alloc: Global,
-    rows: &RowTable,
-    txn: &Transaction,
-) -> Result<Result<Plan, PlanFail>, Fail>
+// What is planned of a transaction, or why nothing is.
+fn planned(alloc: Global, rows: &RowTable, txn: &Transaction) -> Result<Plan, PlanFail>
     requires { AreRowsOfWidth FourBytes rows.now.rows }
 {
     if !is_known(txn) {
-        return Err("a transaction of another kind".into());
+        return Err(PlanFail::Memory);
     }
     let space = space(alloc)?;
-    let draft = match begin(alloc, Width::FourBytes, rows, &space, txn) {
-        Ok(draft) => draft,
-        Err(fail) => return Ok(Err(fail)),
-    };
+    let draft = begin(alloc, Width::FourBytes, rows, &space, txn)?;
     let read = read_at(alloc, draft.places())?;
-    Ok(Ok(draft.finish(alloc, Width::FourBytes, rows, &space, txn, read)?))
+    Ok(draft.finish(alloc, Width::FourBytes, rows, &space, txn, read)?)
 }
 
 // What is planned of a change over rows with these keys and values.
-fn planned_over(
-    alloc: Global,
-    entries: &[Entry],
-    change: Change,
-) -> Result<Result<Plan, PlanFail>, Fail> {
+fn planned_over(alloc: Global, entries: &[Entry], change: &Change) -> Result<Plan, PlanFail> {
     let rows = good_rows(alloc, entries)?;
     planned(alloc, &rows, &transaction(alloc, change)?)
 }
@@ -332,17 +341,17 @@ static CASES: [Case; 44] = [
     (THREE, Change::OmapHeader(b""), Ok((0, 0, 0))),
 ];
 
-#[test]
-fn plans(rt: HostRuntime) -> Result<(), Fail> {
+/// The place of the first case in which something else is planned.
+pub fn first_wrong(alloc: Global) -> Option<usize> {
     for (i, (entries, change, wanted)) in CASES.iter().enumerate() {
-        let planned = planned_over(rt.alloc(), entries, *change)?;
-        assert_eq!(rt; counts(&planned), *wanted, "case {i}");
+        if counts(&planned_over(alloc, entries, change)) != *wanted {
+            return Some(i);
+        }
     }
-    Ok(())
+    None
 }
 
 // A row operation: its key, and its value or mask.
-#[derive(Clone, Copy)]
 enum Row {
     Set(&'static [u8], &'static [u8]),
     Drop(&'static [u8]),
@@ -369,36 +378,46 @@ fn are_rows(ops: &[RowOp], rows: &[Row]) -> bool {
     ops.len() == rows.len()
 }
 
-// The units that a plan takes, each with the checksum of its bytes.
-fn taken(alloc: Global, plan: &Plan) -> Result<Vec<(u32, u32)>, AllocError> {
-    let mut taken = Vec::new(alloc);
-    for fresh in plan.fresh.as_slice() {
-        taken.push((fresh.unit.number(), crc32c(fresh.bytes.as_slice())))?;
+// Whether these units are taken, each with the checksum of its bytes.
+fn are_taken(taken: &[FreshUnit], wanted: &[(u32, u32)]) -> bool {
+    for (fresh, (unit, sum)) in taken.iter().zip(wanted) {
+        if fresh.unit.number() != *unit || crc32c(fresh.bytes.as_slice()) != *sum {
+            return false;
+        }
     }
-    Ok(taken)
+    taken.len() == wanted.len()
 }
 
-// The units that it releases, and then those whose old bytes are in it.
-fn left(alloc: Global, plan: &Plan) -> Result<(Vec<u32>, Vec<u32>), AllocError> {
-    let mut released = Vec::new(alloc);
-    for unit in plan.released.as_slice() {
-        released.push(unit.number())?;
+// Whether these are released.
+fn are_released(released: &[UnitNo], wanted: &[u32]) -> bool {
+    for (unit, number) in released.iter().zip(wanted) {
+        if unit.number() != *number {
+            return false;
+        }
     }
-    let mut read = Vec::new(alloc);
-    for old in plan.read.as_slice() {
-        read.push(old.unit.number())?;
-    }
-    Ok((released, read))
+    released.len() == wanted.len()
 }
 
-// What is planned of a change of rows: the units that are taken, each with the checksum of its bytes, those that are released, those whose old
-// bytes are read, and the operations.
+// Whether the old bytes of these are in the plan.
+fn were_read(read: &[ReadUnit], wanted: &[u32]) -> bool {
+    for (old, number) in read.iter().zip(wanted) {
+        if old.unit.number() != *number {
+            return false;
+        }
+    }
+    read.len() == wanted.len()
+}
+
+// The units that are taken, each with the checksum of its bytes, those that are released, and those whose old bytes are read.
+type Units = (&'static [(u32, u32)], &'static [u32], &'static [u32]);
+
+const NO_UNITS: Units = (&[], &[], &[]);
+
+// What is planned of a change of rows: the units and the operations.
 struct Edit {
     entries: &'static [Entry],
-    change: Change,
-    taken: &'static [(u32, u32)],
-    released: &'static [u32],
-    read: &'static [u32],
+    change: &'static Change,
+    units: Units,
     ops: &'static [Row],
 }
 
@@ -497,10 +516,8 @@ static EDITS: [Edit; 6] = [
     // The last byte of page 0.
     Edit {
         entries: THREE,
-        change: Change::Write(4095, 1),
-        taken: &[(18, 0x0e828fae)],
-        released: &[40],
-        read: &[40],
+        change: &Change::Write(4095, 1),
+        units: (&[(18, 0x0e828fae)], &[40], &[40]),
         ops: &[
             Row::Set(
                 SHARD_A0,
@@ -512,10 +529,8 @@ static EDITS: [Edit; 6] = [
     // The same of page 1 and the first byte of page 2.
     Edit {
         entries: THREE,
-        change: Change::Write(8191, 2),
-        taken: &[(18, 0x2608265b), (20, 0x2a537df2)],
-        released: &[41, 42],
-        read: &[41, 42],
+        change: &Change::Write(8191, 2),
+        units: (&[(18, 0x2608265b), (20, 0x2a537df2)], &[41, 42], &[41, 42]),
         ops: &[
             Row::Set(
                 SHARD_A0,
@@ -527,10 +542,12 @@ static EDITS: [Edit; 6] = [
     // Zeros in pages 0 and 2, and over page 1.
     Edit {
         entries: THREE,
-        change: Change::Zero(1000, 10000),
-        taken: &[(18, 0x40593537), (20, 0x71355987)],
-        released: &[40, 41, 42],
-        read: &[40, 42],
+        change: &Change::Zero(1000, 10000),
+        units: (
+            &[(18, 0x40593537), (20, 0x71355987)],
+            &[40, 41, 42],
+            &[40, 42],
+        ),
         ops: &[
             Row::Set(
                 SHARD_A0,
@@ -542,10 +559,8 @@ static EDITS: [Edit; 6] = [
     // A cut in page 1.
     Edit {
         entries: THREE,
-        change: Change::Truncate(5000),
-        taken: &[(18, 0x065a6b5d)],
-        released: &[41, 42],
-        read: &[41],
+        change: &Change::Truncate(5000),
+        units: (&[(18, 0x065a6b5d)], &[41, 42], &[41]),
         ops: &[
             Row::Set(ONODE_A, b"\x88\x13\0\0\0\0\0\0"),
             Row::Set(
@@ -557,10 +572,8 @@ static EDITS: [Edit; 6] = [
     },
     Edit {
         entries: THREE,
-        change: Change::Remove,
-        taken: &[],
-        released: &[40, 41, 42],
-        read: &[],
+        change: &Change::Remove,
+        units: (&[], &[40, 41, 42], &[]),
         ops: &[
             Row::Drop(ONODE_A),
             Row::Drop(SHARD_A0),
@@ -570,10 +583,8 @@ static EDITS: [Edit; 6] = [
     // The first of two shards stays as it is, and isn't set.
     Edit {
         entries: SIX,
-        change: Change::Truncate(8192),
-        taken: &[],
-        released: &[50],
-        read: &[],
+        change: &Change::Truncate(8192),
+        units: (&[], &[50], &[]),
         ops: &[
             Row::Set(ONODE_A, b"\0\x20\0\0\0\0\0\0"),
             Row::Drop(SHARD_A5),
@@ -582,36 +593,43 @@ static EDITS: [Edit; 6] = [
     },
 ];
 
-// Whether the plan is as it is said there.
-fn is_edit(alloc: Global, plan: &Plan, edit: &Edit) -> Result<bool, AllocError> {
-    let taken = taken(alloc, plan)?;
-    let (released, read) = left(alloc, plan)?;
-    Ok(
-        taken.as_slice() == edit.taken
-            && released.as_slice() == edit.released
-            && read.as_slice() == edit.read
-            && are_rows(plan.ops.as_slice(), edit.ops),
-    )
+fn is_plan(plan: &Plan, units: &Units, ops: &[Row]) -> bool {
+    are_taken(plan.fresh.as_slice(), units.0)
+        && are_released(plan.released.as_slice(), units.1)
+        && were_read(plan.read.as_slice(), units.2)
+        && are_rows(plan.ops.as_slice(), ops)
 }
 
-#[test]
-fn edits(rt: HostRuntime) -> Result<(), Fail> {
+// Whether this is planned of a change.
+fn is_planned(
+    alloc: Global,
+    entries: &[Entry],
+    change: &Change,
+    units: &Units,
+    ops: &[Row],
+) -> bool {
+    match planned_over(alloc, entries, change) {
+        Ok(plan) => is_plan(&plan, units, ops),
+        Err(_) => false,
+    }
+}
+
+/// The place of the first edit of which something else is planned.
+pub fn first_wrong_edit(alloc: Global) -> Option<usize> {
     for (i, edit) in EDITS.iter().enumerate() {
-        match planned_over(rt.alloc(), edit.entries, edit.change)? {
-            Ok(plan) => assert!(rt; is_edit(rt.alloc(), &plan, edit)?, "edit {i}"),
-            Err(_) => return Err("no plan".into()),
+        if !is_planned(alloc, edit.entries, edit.change, &edit.units, edit.ops) {
+            return Some(i);
         }
     }
-    Ok(())
+    None
 }
 
-#[test]
-fn values(rt: HostRuntime) -> Result<(), Fail> {
+/// The place of the first change of values of which something else is planned.
+pub fn first_wrong_value(alloc: Global) -> Option<usize> {
     for (i, (change, ops)) in ON_VALUES.iter().enumerate() {
-        match planned_over(rt.alloc(), VALUES, *change)? {
-            Ok(plan) => assert!(rt; are_rows(plan.ops.as_slice(), ops), "change {i}"),
-            Err(_) => return Err("no plan".into()),
+        if !is_planned(alloc, VALUES, change, &NO_UNITS, ops) {
+            return Some(i);
         }
     }
-    Ok(())
+    None
 }

@@ -1,0 +1,79 @@
+//! The one test of the crate: it names the first case that comes out otherwise than it is written down. It is one since a test has to be proved,
+//! and costs the more the more it calls.
+
+use crate::{
+    crc32c_csum_tests, meta_log_tests, meta_rows_tests, meta_store_tests, onode_codec_tests,
+    script_text_tests, unit_allocator_tests, unit_fields_tests,
+};
+use std::alloc::{AllocError, Global};
+use std::test::*;
+
+/// The place of the first of these that doesn't hold.
+pub fn first_false(held: &[bool]) -> Option<usize> {
+    for (i, holds) in held.iter().enumerate() {
+        if !*holds {
+            return Some(i);
+        }
+    }
+    None
+}
+
+// The place that is said, or the largest number where memory ran out.
+fn place(found: Result<Option<usize>, AllocError>) -> Option<usize> {
+    found.unwrap_or(Some(usize::MAX))
+}
+
+// What comes out otherwise than it is written down, and the place of the case.
+type Wrong = (&'static str, usize);
+
+fn first_wrong(alloc: Global) -> Option<Wrong> {
+    let found = [
+        ("checksums", crc32c_csum_tests::first_wrong()),
+        (
+            "a slot and a record",
+            place(meta_log_tests::first_wrong(alloc)),
+        ),
+        (
+            "torn records",
+            place(meta_log_tests::first_wrong_torn(alloc)),
+        ),
+        ("rows", place(meta_rows_tests::first_wrong(alloc))),
+        ("a full log", place(meta_store_tests::first_wrong(alloc))),
+        ("keys", place(onode_codec_tests::first_wrong(alloc))),
+        (
+            "reads that fail",
+            place(script_text_tests::first_wrong_read(alloc)),
+        ),
+        (
+            "long scripts",
+            place(script_text_tests::first_wrong_long(alloc)),
+        ),
+        (
+            "good lines",
+            place(script_text_tests::first_wrong_good(alloc)),
+        ),
+        (
+            "bad lines",
+            place(script_text_tests::first_wrong_bad(alloc)),
+        ),
+        (
+            "free units",
+            place(unit_allocator_tests::first_wrong(alloc)),
+        ),
+        (
+            "names of collections",
+            place(unit_fields_tests::first_wrong(alloc)),
+        ),
+    ];
+    for (what, place) in &found {
+        if let Some(place) = place {
+            return Some((*what, *place));
+        }
+    }
+    None
+}
+
+#[test]
+fn cases(rt: HostRuntime) {
+    assert_eq!(rt; first_wrong(rt.alloc()), None);
+}

@@ -6,7 +6,7 @@ use Rattle.std.specs.Prelude.{◌||◌}
 use Rattle.object_model.specs.declared.command.Answer.TheVariants as answer
 use Rattle.object_model.specs.declared.command.Command.TheVariants as ask
 use Rattle.read_facts.specs.Prelude.{IsHeldAt, HasReadNames, IsAnswerOf}
-use Rattle.plan_rows.specs.Prelude.{most_units, AsksAreFew}
+use Rattle.plan_drafts.specs.Prelude.{most_units, AsksAreFew}
 use Rattle.store_steps.specs.Prelude.{Call, submitting, reading, stepping, Calls, IsRun, State, free_count, IsCause, memory_of}
 use Rattle.run_facts.specs.Prelude.{IsKept}
 use Rattle.book_facts.specs.Prelude.{taken_by, units_asked, demanded_by, is_no_space, any_no_space}

@@ -2,7 +2,7 @@
 use Rattle.std.proofs.Common.{ℕ, Contains}
 use Rattle.run_facts.proofs.Common.{Disk, IsSuper, Change, names_of, free_units, Plan, IsGood, PlansKeep, IsKnown}
 use Rattle.store_image.specs.Prelude.{IsMarked}
-use Rattle.plan_rows.specs.Prelude.{fresh_units, Suits, PlanKeeps, PlanMakes, PlanTakes}
+use Rattle.plan_drafts.specs.Prelude.{fresh_units, Suits, PlanKeeps, PlanMakes, PlanTakes}
 use Rattle.plan_rows.proofs.Agreeing.{agree_itself}
 use Rattle.store_steps.specs.Prelude.{State, Accepts, rows_part}
 use Rattle.run_facts.specs.Prelude.{IsKept, IsSpaceOf, AreRowsKept}

@@ -8,7 +8,7 @@ use Rattle.object_model.specs.declared.command.Answer.{Answer}
 use Rattle.object_model.specs.declared.command.Answer.TheVariants as answer
 use Rattle.object_model.specs.declared.command.Command.{Command}
 use Rattle.object_model.specs.declared.command.Command.TheVariants as ask
-use Rattle.plan_rows.specs.Prelude.{most_units}
+use Rattle.plan_drafts.specs.Prelude.{most_units}
 use Rattle.store_steps.specs.Prelude.{Call, submitting, reading, stepping, Submits, IsRun, State, need_of}
 
 -- the units that transactions take at most

@@ -6,7 +6,7 @@ ghost use Rattle.object_model.specs.Prelude.{Objects, Change, is_named, OneName}
 ghost use Rattle.object_model.specs.declared.command.Answer.TheVariants as answer;
 ghost use Rattle.store_image.specs.Prelude.{IsShape};
 ghost use Rattle.unit_allocator.specs.Prelude.{Space};
-ghost use Rattle.plan_rows.specs.Prelude.{PlansKeep, AsksAreFew, IsKnown};
+ghost use Rattle.plan_drafts.specs.Prelude.{PlansKeep, AsksAreFew, IsKnown};
 ghost use Rattle.read_facts.specs.Prelude.{IsLegalButBytes};
 ghost use Rattle.store_steps.specs.declared.context.Context.{Context};
 ghost use Rattle.store_steps.specs.declared.step.Step.{Step};

@@ -1,6 +1,6 @@
 -- A walk over a mounted store leaves the device as the mount left it, and shows what the contents stood for.
-use Rattle.std.proofs.Common.{◌≡◌, ℕ, ◌≤◌, true, List, [], length, Option, Some, None, unwrap_or, Result, Ok, Err, refl, sym, ap, subst, ◌∙◌, arith}
-use Rattle.std.specs.Prelude.{IfErr, OnOk}
+use Rattle.std.proofs.Common.{◌≡◌, ℕ, ◌≤◌, Bool, true, false, List, [], length, Option, Some, None, unwrap_or, Result, Ok, Err, refl, sym, ap, subst, ◌∙◌, arith}
+use Rattle.std.specs.Prelude.{IfErr}
 use Rattle.std.specs.List.{AllByRecursion}
 use Rattle.unit_fields.specs.declared.width.Width.{Width}
 use Rattle.block_device.specs.Prelude.{last, HasNoBadDone, last_at, Disk, History, IsFresh, Rose}
@@ -24,8 +24,8 @@ use Rattle.mount_replay.specs.Mounting as mounting
 use Rattle.mount_replay.specs.Mounting.{IsOpenedOn, IsReapedTo}
 use Rattle.run_texts.specs.declared.work_end.WorkEnd.{WorkEnd}
 use Rattle.run_texts.specs.declared.work_end.WorkEnd.TheVariants.{Done, BadLine, NoSuper, BadRow, NotExact, WornOut}
-use Rattle.run_texts.specs.declared.work_end.WorkEnd.TheVariants.{DeviceFault, OutOfMemory, BayFault}
-use Rattle.bstore_top.specs.Prelude.{IsOfUp, end_of_walk, Walked, WalksStore, Shows, ShowsObjects, StaysDurable, empty_book, FailsToMount, HasCounted}
+use Rattle.run_texts.specs.declared.work_end.WorkEnd.TheVariants.{DeviceFault, OutOfMemory, BayFault, SinkFault}
+use Rattle.bstore_top.specs.Prelude.{IsOfUp, end_of_walk, AtEnd, Walked, WalksStore, Shows, ShowsObjects, StaysDurable, empty_book, FailsToMount, HasCounted}
 use Rattle.bstore_top.proofs.RunLaws.{log_empty, clean_of_none, start_durable, no_reap}
 
 -- ---- a device on which nothing was mounted
@@ -54,6 +54,7 @@ shows_none WornOut given before now objects fails = tt
 shows_none DeviceFault given before now objects fails = tt
 shows_none OutOfMemory given before now objects fails = tt
 shows_none BayFault given before now objects fails = tt
+shows_none SinkFault given before now objects fails = tt
 
 -- so it is of a device on which nothing was mounted
 pub unmounted_shows : (end : WorkEnd) (given : Disk) (before now : ℕ) (colls : List CollView) → FailsToMount end given before now → colls ≡ []
@@ -63,22 +64,32 @@ unmounted_shows end given before now colls fails none h objects told stands =
 
 -- ---- how a walk ended
 
--- a walk of a kernel that is up has come to its end, or to where it failed
-walked_as : (w : Width) (r : Result (Unit {0}) WalkFail) (free : ℕ) (d : Disk) (rows : Rows) (colls : List CollView) → IfErr r IsOfUp
-    → WalksTo w no_memory (IsHeldAt d) rows colls
-    → OnOk r (WalksAll w no_memory (IsHeldAt d) rows colls) → Walked w (end_of_walk r free) d rows colls
-walked_as w (Ok u) free d rows colls up so_far all = all
-walked_as w (Err walk.Memory) free d rows colls up so_far all = so_far
-walked_as w (Err walk.DeviceRead) free d rows colls up so_far all = so_far
-walked_as w (Err (walk.Down ticket)) free d rows colls up so_far all = absurd up
+-- a walk of a kernel that is up has come to its end, or to where it or the sink failed
+walked_as : (w : Width) (r : Result (Unit {0}) WalkFail) (failed : Bool) (free : ℕ) (d : Disk) (rows : Rows) (colls : List CollView)
+    → IfErr r IsOfUp → WalksTo w no_memory (IsHeldAt d) rows colls
+    → AtEnd r failed (WalksAll w no_memory (IsHeldAt d) rows colls) → Walked w (end_of_walk r failed free) d rows colls
+walked_as w (Ok u) true free d rows colls up so_far all = so_far
+walked_as w (Ok u) false free d rows colls up so_far all = all refl
+walked_as w (Err walk.Memory) failed free d rows colls up so_far all = so_far
+walked_as w (Err walk.DeviceRead) failed free d rows colls up so_far all = so_far
+walked_as w (Err (walk.Down ticket)) failed free d rows colls up so_far all = absurd up
+
+-- the sink alone ends a walk so
+pub cut_by_sink : (r : Result (Unit {0}) WalkFail) (failed : Bool) (free : ℕ) → end_of_walk r failed free ≡ SinkFault → failed ≡ true
+cut_by_sink (Ok u) true free is = refl
+cut_by_sink (Ok u) false free is = absurd cc
+cut_by_sink (Err walk.Memory) failed free is = absurd cc
+cut_by_sink (Err walk.DeviceRead) failed free is = absurd cc
+cut_by_sink (Err (walk.Down ticket)) failed free is = absurd cc
 
 -- a read that failed is counted
-pub walk_counted : (r : Result (Unit {0}) WalkFail) (free before a b now : ℕ) → IfErr r IsOfUp → (r ≡ Err walk.DeviceRead → Rose a b) → before ≤ a
-    → b ≤ now → HasCounted (end_of_walk r free) before now
-walk_counted (Ok u) free before a b now up cause first last = tt
-walk_counted (Err walk.Memory) free before a b now up cause first last = tt
-walk_counted (Err walk.DeviceRead) free before a b now up cause first last = omega (arith, cause refl, first, last)
-walk_counted (Err (walk.Down ticket)) free before a b now up cause first last = absurd up
+pub walk_counted : (r : Result (Unit {0}) WalkFail) (failed : Bool) (free before a b now : ℕ) → IfErr r IsOfUp
+    → (r ≡ Err walk.DeviceRead → Rose a b) → before ≤ a → b ≤ now → HasCounted (end_of_walk r failed free) before now
+walk_counted (Ok u) true free before a b now up cause first last = tt
+walk_counted (Ok u) false free before a b now up cause first last = tt
+walk_counted (Err walk.Memory) failed free before a b now up cause first last = tt
+walk_counted (Err walk.DeviceRead) failed free before a b now up cause first last = omega (arith, cause refl, first, last)
+walk_counted (Err (walk.Down ticket)) failed free before a b now up cause first last = absurd up
 
 -- ---- a mounted store
 
@@ -119,17 +130,18 @@ module _ (given : Disk) (f : Found) (space : Space) (start : Disk) (s : State) (
     durable_unmounted fresh stays = subst (StaysDurable given empty_book) (sym device_same) (stays_durable given start fresh stays)
 
     -- what came of the walk
-    pub store_walked : (r : Result (Unit {0}) WalkFail) (free : ℕ) (colls : List CollView) → IfErr r IsOfUp
+    pub store_walked : (r : Result (Unit {0}) WalkFail) (failed : Bool) (free : ℕ) (colls : List CollView) → IfErr r IsOfUp
         → WalksTo (width_of s'.log.sup) no_memory (IsHeldAt start) s.submitted colls
-        → OnOk r (WalksAll (width_of s'.log.sup) no_memory (IsHeldAt start) s.submitted colls) → WalksStore given (end_of_walk r free) colls disk
-    store_walked r free colls up so_far all = record {
+        → AtEnd r failed (WalksAll (width_of s'.log.sup) no_memory (IsHeldAt start) s.submitted colls)
+        → WalksStore given (end_of_walk r failed free) colls disk
+    store_walked r failed free colls up so_far all = record {
       found = f;
       space = space;
       first = s;
       mounted = subst (λ (x : Disk). IsOpenedOn given f space x s) (sym device_same) mounted;
-      walked = subst (λ (x : Disk). Walked (width_of s'.log.sup) (end_of_walk r free) x f.rows colls) (sym device_same)
-          (subst (λ (rows : Rows). Walked (width_of s'.log.sup) (end_of_walk r free) start rows colls) rows_are
-          (walked_as (width_of s'.log.sup) r free start s.submitted colls up so_far all));
+      walked = subst (λ (x : Disk). Walked (width_of s'.log.sup) (end_of_walk r failed free) x f.rows colls) (sym device_same)
+          (subst (λ (rows : Rows). Walked (width_of s'.log.sup) (end_of_walk r failed free) start rows colls) rows_are
+          (walked_as (width_of s'.log.sup) r failed free start s.submitted colls up so_far all));
     }
 
   -- ---- what it shows
@@ -174,10 +186,12 @@ module _ (given : Disk) (f : Found) (space : Space) (start : Disk) (s : State) (
         (λ unit. refl) objects stand colls so_far
 
     -- so it is of the walk, whatever its end
-    pub walk_shows : (r : Result (Unit {0}) WalkFail) (free : ℕ) (colls : List CollView)
+    pub walk_shows : (r : Result (Unit {0}) WalkFail) (failed : Bool) (free : ℕ) (colls : List CollView)
         → WalksTo (width_of s.log.sup) no_memory (IsHeldAt start) s.submitted colls
-        → OnOk r (WalksAll (width_of s.log.sup) no_memory (IsHeldAt start) s.submitted colls) → Shows (end_of_walk r free) objects colls
-    walk_shows (Ok u) free colls so_far all = (shows_all colls all, shows_good colls so_far)
-    walk_shows (Err walk.Memory) free colls so_far all = shows_good colls so_far
-    walk_shows (Err walk.DeviceRead) free colls so_far all = shows_good colls so_far
-    walk_shows (Err (walk.Down ticket)) free colls so_far all = shows_good colls so_far
+        → AtEnd r failed (WalksAll (width_of s.log.sup) no_memory (IsHeldAt start) s.submitted colls)
+        → Shows (end_of_walk r failed free) objects colls
+    walk_shows (Ok u) true free colls so_far all = shows_good colls so_far
+    walk_shows (Ok u) false free colls so_far all = (shows_all colls (all refl), shows_good colls so_far)
+    walk_shows (Err walk.Memory) failed free colls so_far all = shows_good colls so_far
+    walk_shows (Err walk.DeviceRead) failed free colls so_far all = shows_good colls so_far
+    walk_shows (Err (walk.Down ticket)) failed free colls so_far all = shows_good colls so_far

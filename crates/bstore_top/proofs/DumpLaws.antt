@@ -20,9 +20,9 @@ use Rattle.read_facts.specs.Prelude.{HasGoodViews, IsGoodView, views_of}
 use Rattle.command_words.specs.declared.command_line.CommandLine.TheVariants.{Dump}
 use Rattle.run_texts.specs.declared.work_end.WorkEnd.{WorkEnd}
 use Rattle.run_texts.specs.declared.work_end.WorkEnd.TheVariants.{Done, BadLine, NoSuper, BadRow, NotExact, WornOut}
-use Rattle.run_texts.specs.declared.work_end.WorkEnd.TheVariants.{DeviceFault, OutOfMemory, BayFault}
+use Rattle.run_texts.specs.declared.work_end.WorkEnd.TheVariants.{DeviceFault, OutOfMemory, BayFault, SinkFault}
 use Rattle.bstore_top.specs.Prelude.{Walked, DumpsOn, Shows, ShowsObjects, FailsUnopened, DumpsOpened, IsDumpDone, RanDump, Dumped, IsGoodStore, HasNoFault, IsDurableFrom, StaysDurable, EachCrashLeavesPrefix, Seen, seen, empty_book, HasCounted}
-use Rattle.run_texts.specs.Prelude.{is_bad, has_bad_view, dump_text, dump_number, Output, TookAll, ReportsDump}
+use Rattle.run_texts.specs.Prelude.{is_bad, has_bad_view, dump_text, dump_number, Output, TookAll, FailedToPrint, ReportsDump}
 use Rattle.bstore_top.proofs.RunLaws.{printed_well, EndsWell, ends_well}
 use Rattle.bstore_top.proofs.GoodStarts.{EndsInOrder, told_start, unmounted_ends, reported, in_order}
 
@@ -100,20 +100,22 @@ shows_good WornOut objects colls shows = shows
 shows_good DeviceFault objects colls shows = shows
 shows_good OutOfMemory objects colls shows = shows
 shows_good BayFault objects colls shows = shows
+shows_good SinkFault objects colls shows = shows
 
 -- a walk over a store, with no fault, has come to its end or was stopped for want of memory
-walk_ends : (w : Width) (end : WorkEnd) (d : Disk) (rows : Rows) (colls : List CollView) (now : ℕ) → now ≡ 0 → HasCounted end 0 now
-    → Walked w end d rows colls
+walk_ends : (w : Width) (end : WorkEnd) (d : Disk) (rows : Rows) (colls : List CollView) (now : ℕ) → now ≡ 0 → ¬ (end ≡ SinkFault)
+    → HasCounted end 0 now → Walked w end d rows colls
     → EndsInOrder end
-walk_ends w (Done free) d rows colls now none counted walked = inl refl
-walk_ends w (BadLine script n) d rows colls now none counted walked = absurd walked
-walk_ends w NoSuper d rows colls now none counted walked = absurd walked
-walk_ends w (BadRow key) d rows colls now none counted walked = absurd walked
-walk_ends w (NotExact unit) d rows colls now none counted walked = absurd walked
-walk_ends w WornOut d rows colls now none counted walked = absurd walked
-walk_ends w DeviceFault d rows colls now none counted walked = absurd (omega (arith, counted, none))
-walk_ends w OutOfMemory d rows colls now none counted walked = inr refl
-walk_ends w BayFault d rows colls now none counted walked = absurd walked
+walk_ends w (Done free) d rows colls now none uncut counted walked = inl refl
+walk_ends w (BadLine script n) d rows colls now none uncut counted walked = absurd walked
+walk_ends w NoSuper d rows colls now none uncut counted walked = absurd walked
+walk_ends w (BadRow key) d rows colls now none uncut counted walked = absurd walked
+walk_ends w (NotExact unit) d rows colls now none uncut counted walked = absurd walked
+walk_ends w WornOut d rows colls now none uncut counted walked = absurd walked
+walk_ends w DeviceFault d rows colls now none uncut counted walked = absurd (omega (arith, counted, none))
+walk_ends w OutOfMemory d rows colls now none uncut counted walked = inr refl
+walk_ends w BayFault d rows colls now none uncut counted walked = absurd walked
+walk_ends w SinkFault d rows colls now none uncut counted walked = absurd (uncut refl)
 
 -- so was a run that opened no device
 unopened_ends : (end : WorkEnd) (before now : ℕ) → ¬ Rose before now → FailsUnopened end before now → EndsInOrder end
@@ -126,13 +128,15 @@ unopened_ends WornOut before now same fails = absurd fails
 unopened_ends DeviceFault before now same fails = absurd fails
 unopened_ends OutOfMemory before now same fails = inr refl
 unopened_ends BayFault before now same fails = absurd (same fails)
+unopened_ends SinkFault before now same fails = absurd fails
 
 module _ (dev : List ℕ) (bay : BayView) (start : IsGoodStore dev bay) (end : WorkEnd) (colls : List CollView) (seen : Seen) (bay_new : BayView)
-    (before now : ℕ) (old new : Output) (none : HasNoFault seen before now old new) where
+    (before now : ℕ) (old new : Output) (none : HasNoFault seen before now old new) (uncut : ¬ (end ≡ SinkFault)) where
   opened_ends : (e : DumpsOpened dev end colls seen bay bay_new) → EndsInOrder end
   opened_ends e = elim e.dumps [
     | inl failed ↦ unmounted_ends dev start.names start.store end e.given e.faults no_fault told failed.0
-    | inr walked ↦ walk_ends (width_of walked.1.found.sup) end e.disk walked.1.found.rows colls e.faults no_fault walked.0 walked.1.walked
+    | inr walked ↦ walk_ends (width_of walked.1.found.sup) end e.disk walked.1.found.rows colls e.faults no_fault uncut walked.0
+        walked.1.walked
   ]
     where
       no_fault : e.faults ≡ 0
@@ -155,7 +159,8 @@ pub good_dump : (dev : List ℕ) (status : ℕ) (seen : Seen) (bay_old bay_new :
     → RanDump dev status seen bay_old bay_new before now old new → IsGoodStore dev bay_old → HasNoFault seen before now old new
     → (status ≡ 0) ⊎ (status ≡ 5)
 good_dump dev status seen bay_old bay_new before now old new ran start none =
-    let course = dump_ends dev bay_old start ran.end ran.colls seen bay_new before now old new none ran.course in
+    let uncut : ¬ (ran.end ≡ SinkFault) = λ is. none.sink (ran.cut is).1.rose in
+    let course = dump_ends dev bay_old start ran.end ran.colls seen bay_new before now old new none uncut ran.course in
     reported (dump_number ran.colls ran.end) (dump_text ran.colls ran.end) status old new none.sink
     (in_order (has_bad_view ran.colls) ran.end course.0 course.1) ran.printed
 
@@ -186,8 +191,9 @@ module _ (dev : List ℕ) (end : WorkEnd) (colls : List CollView) (disk : Option
     (bay_old bay_new : BayView) (before now : ℕ) (none : source_faults ≡ []) (empty : book ≡ empty_book)
     (done : IsDumpDone dev end colls (seen disk faults [] empty_book) bay_old bay_new before now) where
   pub ran_dump : (status : ℕ) (old new : Output) → ReportsDump colls end status old new
+      → (end ≡ SinkFault → FailedToPrint (dump_text colls end) status old new)
       → RanDump dev status (seen disk faults source_faults book) bay_old bay_new before now old new
-  ran_dump status old new printed = record {
+  ran_dump status old new printed cut = record {
     end = end;
     colls = colls;
     no_book = empty;
@@ -195,6 +201,7 @@ module _ (dev : List ℕ) (end : WorkEnd) (colls : List CollView) (disk : Option
     course = subst (λ (l : List ℕ). IsDumpDone dev end colls (seen disk faults l book) bay_old bay_new before now) (sym none)
         (subst (λ (b : Book). IsDumpDone dev end colls (seen disk faults [] b) bay_old bay_new before now) (sym empty) done);
     printed = printed;
+    cut = cut;
   }
 
   -- so it is of the device and the book of the outcome

@@ -38,7 +38,7 @@ use Rattle.run_texts.specs.Prelude.{Output, as_text, object_lines, coll_lines, i
 use Rattle.run_texts.specs.DumpTexts.{has_bad_object}
 use Rattle.run_texts.proofs.TextLemmas.{as_text-append}
 use Rattle.run_texts.proofs.Adding.{both, said, nothing}
-use Rattle.bstore_top.specs.Prelude.{PrintsColl, PrintsWalk}
+use Rattle.bstore_top.specs.Prelude.{AtEnd, PrintsColl, PrintsWalk}
 
 -- ---- the rows above a name
 
@@ -332,6 +332,12 @@ module _ (w : Width) (d : Disk) (rows : Rows) where
     part_printed c last why done =
         record { view = done.view; of_coll = done.of_coll; viewed = done.viewed; whole = tt; printed = done.printed }
 
+    -- or whose sink has
+    pub cut_printed : (c : List ℕ) (last : Option (List ℕ)) (u : Unit {0}) → q.text.failed ≡ true → PrintedObjects c last
+        → PrintsColl w d rows c (Ok u) p q o1 o2
+    cut_printed c last u failed done =
+        record { view = done.view; of_coll = done.of_coll; viewed = done.viewed; whole = λ good. absurd cc; printed = done.printed }
+
     -- all are where none comes next
     pub whole_printed : (c : List ℕ) (last : Option (List ℕ)) (u : Unit {0}) → PrintedObjects c last → IsPast (IsObject rows c) last
         → PrintsColl w d rows c (Ok u) p q o1 o2
@@ -339,7 +345,7 @@ module _ (w : Width) (d : Disk) (rows : Rows) where
       view = done.view;
       of_coll = done.of_coll;
       viewed = done.viewed;
-      whole = record {
+      whole = λ good. record {
         viewed = done.viewed;
         past = subst (λ (x : List ℕ). IsPast (IsObject rows x) (last_of None (object_names done.view.objects))) (sym done.of_coll)
             (subst (IsPast (IsObject rows c)) (sym done.last_is) past);
@@ -365,13 +371,18 @@ module _ (w : Width) (d : Disk) (rows : Rows) where
     walk_ended last u done past = record {
       colls = done.colls;
       walked = so_far done.colls done.walked;
-      all = all_walked done.colls done.walked (subst (IsPast (IsCollection rows)) (sym done.last_is) past);
+      all = λ good. all_walked done.colls done.walked (subst (IsPast (IsCollection rows)) (sym done.last_is) past);
       printed = done.printed;
     }
 
   -- so far none are
   pub no_colls : (p : DumpSoFar) (o : Output) → PrintedColls p p o o None
   no_colls p o = record { colls = []; walked = none_walked [] refl; last_is = refl; there = tt; printed = no_walk p o }
+
+  -- a walk that came to no end says nothing of it
+  no_end : (failed : Bool) (P : Type 0) (x : Result (Unit {0}) WalkFail) → AtEnd x failed ⊥ → AtEnd x failed P
+  no_end failed P (Ok u) never = λ good. absurd (never good)
+  no_end failed P (Err why) never = tt
 
   module _ {p q r : DumpSoFar} {o1 o2 o3 : Output} where
     -- one object more
@@ -396,30 +407,34 @@ module _ (w : Width) (d : Disk) (rows : Rows) where
 
     -- one collection more
     pub coll_printed : (last : Option (List ℕ)) (c : List ℕ) (u : Unit {0}) → PrintedColls p q o1 o2 last → IsNextOf (IsCollection rows) last c
-        → PrintsColl w d rows c (Ok u) q r o2 o3 → PrintedColls p r o1 o3 (Some c)
-    coll_printed last c u done next coll =
+        → r.text.failed ≡ false → PrintsColl w d rows c (Ok u) q r o2 o3 → PrintedColls p r o1 o3 (Some c)
+    coll_printed last c u done next good coll =
         let v : CollView = coll.view in
         let names : coll_names (done.colls ++ v ∷ []) ≡ coll_names done.colls ++ v.coll ∷ [] =
         map-append (λ (x : CollView). x.coll) done.colls (v ∷ []) in
         record {
           colls = done.colls ++ v ∷ [];
-          walked = one_walked done.colls (done.colls ++ v ∷ []) v refl done.walked (next_view last c done.colls v done.last_is coll.of_coll next) coll.whole;
+          walked = one_walked done.colls (done.colls ++ v ∷ []) v refl done.walked (next_view last c done.colls v done.last_is coll.of_coll next) (coll.whole good);
           last_is = ap (last_of None) names ∙ last_appended None (coll_names done.colls) v.coll ∙ ap (λ (x : List ℕ). Some x) coll.of_coll;
           there = next.is;
           printed = walk_both done.colls (v ∷ []) done.printed coll.printed;
         }
 
     -- or a part of one
-    pub last_printed : (last : Option (List ℕ)) (c : List ℕ) (why : WalkFail) → PrintedColls p q o1 o2 last → IsNextOf (IsCollection rows) last c
-        → PrintsColl w d rows c (Err why) q r o2 o3 → PrintsWalk w d rows (Err why) p r o1 o3
-    last_printed last c why done next coll =
+    pub last_printed : (last : Option (List ℕ)) (c : List ℕ) (x : Result (Unit {0}) WalkFail) → AtEnd x r.text.failed ⊥ → PrintedColls p q o1 o2 last
+        → IsNextOf (IsCollection rows) last c → PrintsColl w d rows c x q r o2 o3 → PrintsWalk w d rows x p r o1 o3
+    last_printed last c x never done next coll =
         let v : CollView = coll.view in
         record {
           colls = done.colls ++ v ∷ [];
           walked = part_walked done.colls (done.colls ++ v ∷ []) v refl done.walked (next_view last c done.colls v done.last_is coll.of_coll next) coll.viewed;
-          all = tt;
+          all = no_end r.text.failed (WalksAll w no_memory (IsHeldAt d) rows (done.colls ++ v ∷ [])) x never;
           printed = walk_both done.colls (v ∷ []) done.printed coll.printed;
         }
+
+-- the sink has failed, or not, said otherwise
+pub at_end_by : (P : Type 0) (r : Result (Unit {0}) WalkFail) (a b : Bool) → a ≡ b → AtEnd r b P → AtEnd r a P
+at_end_by P r a b same all = subst (λ (x : Bool). AtEnd r x P) (sym same) all
 
 -- what was printed of a collection of a kernel that is in this state
 pub coll_at : (s later : State) (d e : Disk) (c : List ℕ) (r : Result (Unit {0}) WalkFail) (p q : DumpSoFar) (o1 o2 : Output) → later ≡ s → e ≡ d

@@ -27,7 +27,7 @@ use Rattle.log_replay.specs.Prelude.{IsAbout, IsFoundIn, IsUnopenable}
 use Rattle.log_replay.specs.declared.opening.MountFail.TheVariants as fail
 use Rattle.run_texts.specs.declared.work_end.WorkEnd.{WorkEnd}
 use Rattle.run_texts.specs.declared.work_end.WorkEnd.TheVariants.{Done, BadLine, NoSuper, BadRow, NotExact, WornOut}
-use Rattle.run_texts.specs.declared.work_end.WorkEnd.TheVariants.{DeviceFault, OutOfMemory, BayFault}
+use Rattle.run_texts.specs.declared.work_end.WorkEnd.TheVariants.{DeviceFault, OutOfMemory, BayFault, SinkFault}
 use Rattle.bstore_top.specs.Prelude.{HasGoodStore, IsScriptUnder, IsGoodStart, HasNoFault, end_of_run, Seen, FailsBefore, FailsToMount, HasCounted, EndsOpened, IsStepDone, RanStep}
 use Rattle.run_texts.specs.Prelude.{Output, Printed, has_csum, end_status, step_number, step_text}
 use Rattle.bstore_top.proofs.RunLaws.{clean_of_none}
@@ -134,6 +134,7 @@ module _ (dev : List ℕ) (names : Names) (start : HasGoodStore names dev) where
   unmounted_ends DeviceFault given now none begins fails = absurd (omega (arith, fails, none))
   unmounted_ends OutOfMemory given now none begins fails = inr refl
   unmounted_ends BayFault given now none begins fails = absurd fails
+  unmounted_ends SinkFault given now none begins fails = absurd fails
 
 -- ---- a run of scripts
 
@@ -184,6 +185,7 @@ module _ (dev : List ℕ) (files : List (List ℕ)) (bay : BayView) (start : IsG
   unopened_ends OutOfMemory sources before now none same fails = inr refl
   unopened_ends BayFault sources before now none same (inl fault) = absurd (no_fault sources before now none same fault)
   unopened_ends BayFault sources before now none same (inr opening) = absurd (same opening.rose)
+  unopened_ends SinkFault sources before now none same fails = absurd fails
 
   module _ (seed : ℕ) (end : WorkEnd) (seen : Seen) (bay_new : BayView) (before now : ℕ) (old new : Output)
       (none : HasNoFault seen before now old new) where

@@ -9,7 +9,7 @@ use Rattle.object_model.specs.declared.command.Command.TheVariants as ask
 use Rattle.object_model.specs.Prelude.{Change}
 use Rattle.meta_log.specs.Prelude.{width_of}
 use Rattle.meta_store.specs.Store.{room_of}
-use Rattle.object_rows.proofs.PlansKeep.{plans_keep}
+use Rattle.draft_rows.proofs.PlanLaws.{plans_keep}
 use Rattle.read_facts.specs.Prelude.{IsHeldAt, HasReadNames, IsAnswerOf}
 use Rattle.store_steps.specs.Prelude.{State, Call, submitting, reading, stepping, Refuses, memory_of}
 use Rattle.run_facts.specs.Prelude.{IsKept}

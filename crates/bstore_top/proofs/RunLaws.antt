@@ -30,7 +30,7 @@ use Rattle.store_steps.specs.declared.context.Context.{Context}
 use Rattle.run_facts.specs.Prelude.{AcksAre, IsKept}
 use Rattle.run_facts.proofs.Prelude.{none_ready, idle_pending, idle_acked, kept_run}
 use Rattle.unit_facts.proofs.Runs.{drained_clean}
-use Rattle.object_rows.proofs.PlansKeep.{plans_keep}
+use Rattle.draft_rows.proofs.PlanLaws.{plans_keep}
 use Rattle.book_facts.specs.Prelude.{KnownOfBook, AreQueued, IsInOrder}
 use Rattle.book_facts.proofs.Prelude.{book_opened, known_legal, book_run, order_run, order_opened, one_if, count_cons}
 use Rattle.crash_facts.specs.Store.{KnownOfStore, IsDurable, KeepsDurable}
@@ -41,7 +41,7 @@ use Rattle.log_replay.specs.Prelude.{Told, GoesOn}
 use Rattle.mount_replay.specs.Mounting.{IsOpenedOn, WasOpened}
 use Rattle.run_texts.specs.declared.work_end.WorkEnd.{WorkEnd}
 use Rattle.run_texts.specs.declared.work_end.WorkEnd.TheVariants.{Done, BadLine, NoSuper, BadRow, NotExact, WornOut}
-use Rattle.run_texts.specs.declared.work_end.WorkEnd.TheVariants.{DeviceFault, OutOfMemory, BayFault}
+use Rattle.run_texts.specs.declared.work_end.WorkEnd.TheVariants.{DeviceFault, OutOfMemory, BayFault, SinkFault}
 use Rattle.bstore_top.specs.Prelude.{end_of_run, Seen, RunsScripts, WorksOn, EndsOpened, IsStepDone, RanStep, HasFree, IsFinished, IsComplete, KeepsStore, FinishesOn, AreAllAsked, Succeeded}
 use Rattle.run_texts.specs.Prelude.{Output, TookAll, Printed, is_csum, has_csum, end_status, step_number, step_text}
 use Rattle.bstore_top.proofs.FreeLemmas.{drained_free}
@@ -355,6 +355,7 @@ ends_well false WornOut is = absurd (omega (arith, is))
 ends_well false DeviceFault is = absurd (omega (arith, is))
 ends_well false OutOfMemory is = absurd (omega (arith, is))
 ends_well false BayFault is = absurd (omega (arith, is))
+ends_well false SinkFault is = absurd (omega (arith, is))
 
 -- where the bay tells names, the device that it gave began with what the bay has under its name, and the run has finished on it
 finishes : (dev : List ℕ) (free : ℕ) (given disk : Disk) (book : Book) (names : Option Names) → KeepsStore given (Done free) book disk

@@ -23,7 +23,7 @@ use Rattle.run_facts.specs.Prelude.{AcksAre, IsKept}
 use Rattle.run_facts.proofs.Prelude.{kept_call}
 use Rattle.book_facts.specs.Prelude.{commit_places}
 use Rattle.book_facts.proofs.Prelude.{places_acknowledged}
-use Rattle.object_rows.proofs.PlansKeep.{plans_keep}
+use Rattle.draft_rows.proofs.PlanLaws.{plans_keep}
 use Rattle.object_model.specs.Prelude.{is_acknowledged}
 use Rattle.client_runs.specs.Prelude.{Ask, asks_of, is_accepted_of, unacked_from, unacked, may_ask, call_of, next_call, client_calls, ready_list, behind, asks_after, Position, calls_at, Draws, IsDrawnRun, command_sum, Asked, asked_in, asked_by, entries_of, EachAskedUpTo, at_position, IsNew, EndsRun, RunsUpTo}
 use Rattle.client_runs.specs.declared.run_fail.RunFail.{RunFail}

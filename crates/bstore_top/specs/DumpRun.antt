@@ -16,8 +16,8 @@ use Rattle.unit_allocator.specs.Prelude.{Space}
 use Rattle.store_steps.specs.Prelude.{State, Found}
 use Rattle.mount_replay.specs.Mounting.{IsOpenedOn}
 use Rattle.run_texts.specs.declared.work_end.WorkEnd.{WorkEnd}
-use Rattle.run_texts.specs.declared.work_end.WorkEnd.TheVariants.{Done, DeviceFault, OutOfMemory, BayFault}
-use Rattle.run_texts.specs.Prelude.{dump_text, Output, TookAll, ReportsDump}
+use Rattle.run_texts.specs.declared.work_end.WorkEnd.TheVariants.{Done, DeviceFault, OutOfMemory, BayFault, SinkFault}
+use Rattle.run_texts.specs.Prelude.{dump_text, Output, TookAll, FailedToPrint, ReportsDump}
 use Rattle.bstore_top.specs.Keeping.{StaysDurable}
 use Rattle.bstore_top.specs.StepRun.{Seen, empty_book, FailsToMount, HasCounted, LeftByMount}
 
@@ -26,6 +26,7 @@ abbrev pub Walked : Width → WorkEnd → Disk → Rows → List CollView → Ty
 Walked w (Done free) d rows colls = WalksAll w no_memory (IsHeldAt d) rows colls
 Walked w DeviceFault d rows colls = WalksTo w no_memory (IsHeldAt d) rows colls
 Walked w OutOfMemory d rows colls = WalksTo w no_memory (IsHeldAt d) rows colls
+Walked w SinkFault d rows colls = WalksTo w no_memory (IsHeldAt d) rows colls
 Walked w end d rows colls = ⊥
 
 -- A store was mounted, and a walk went over its objects. Nothing else was done: the device is as the mount left it.
@@ -79,7 +80,8 @@ abbrev pub IsDumpDone : List ℕ → WorkEnd → List CollView → Seen → BayV
 IsDumpDone dev end colls seen bay_old bay_new before now =
     DumpsUnopened end colls seen before now ⊎ DumpsOpened dev end colls seen bay_old bay_new
 
--- A run of `dump`: how far it came, and the text of that. Its book is empty, and it opens no script.
+-- A run of `dump`: how far it came, and the text of that. Its book is empty, and it opens no script. A walk ends for the sink only where that has
+-- failed at the text.
 pub record RanDump (dev : List ℕ) (status : ℕ) (seen : Seen) (bay_old bay_new : BayView) (before now : ℕ) (old new : Output) : Type 0 where
   pub end : WorkEnd
   pub colls : List CollView
@@ -87,6 +89,7 @@ pub record RanDump (dev : List ℕ) (status : ℕ) (seen : Seen) (bay_old bay_ne
   pub no_source : seen.source_faults ≡ []
   pub course : IsDumpDone dev end colls seen bay_old bay_new before now
   pub printed : ReportsDump colls end status old new
+  pub cut : end ≡ SinkFault → FailedToPrint (dump_text colls end) status old new
 
 -- ---- what a run has shown that returns 0
 

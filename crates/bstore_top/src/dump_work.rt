@@ -31,7 +31,7 @@ pub struct DumpWork<D> {
 }
 
 /// Prints a collection, and goes over its objects, from the first one on, of which one at a time is in memory. What was seen is
-/// printed, also where it fails.
+/// printed, also where it fails. Once the sink has failed it goes no further.
 fn walk_coll<D: Device, K: Sink>(
     alloc: Global,
     kernel: &mut Kernel<D>,
@@ -51,14 +51,18 @@ fn walk_coll<D: Device, K: Sink>(
 {
     text.push_coll(out, coll);
     let mut last: Option<Name> = None;
-    'objects: while let Some(object) = kernel.next_object(alloc, coll, last.as_ref())? {
+    'objects: while !text.has_failed() {
+        let Some(object) = kernel.next_object(alloc, coll, last.as_ref())? else {
+            return Ok(());
+        };
         text.push_object(out, &object);
         last = Some(object.name);
     }
     Ok(())
 }
 
-/// Goes over all collections and their objects, and prints them. What was seen is printed, also where it fails.
+/// Goes over all collections and their objects, and prints them. What was seen is printed, also where it fails. Once the sink has
+/// failed it goes no further.
 fn walk_store<D: Device, K: Sink>(
     alloc: Global,
     kernel: &mut Kernel<D>,
@@ -78,17 +82,22 @@ fn walk_store<D: Device, K: Sink>(
     let mut last: Option<CollName> = None;
     'colls: while let Some(coll) = kernel.next_collection(alloc, last.as_ref())? {
         walk_coll(alloc, kernel, &coll, text, out)?;
+        if text.has_failed() {
+            return Ok(());
+        }
         last = Some(coll);
     }
     Ok(())
 }
 
-/// How a run ends whose walk ended so, with so many units free. A kernel that was just mounted isn't down.
-fn ended(walked: Result<(), WalkFail>, free: u32) -> WorkEnd
+/// How a run ends whose walk ended so, and whose sink has failed by then, or not, with so many units free. A kernel that was just
+/// mounted isn't down.
+fn ended(walked: Result<(), WalkFail>, failed: bool, free: u32) -> WorkEnd
     requires { IfErr walked IsOfUp }
-    ensures { result ≡ end_of_walk walked free }
+    ensures { result ≡ end_of_walk walked failed free }
 {
     match walked {
+        Ok(()) if failed => WorkEnd::SinkFault,
         Ok(()) => WorkEnd::Done { free },
         Err(WalkFail::Memory) => WorkEnd::OutOfMemory,
         Err(WalkFail::DeviceRead) => WorkEnd::DeviceFault,
@@ -115,7 +124,7 @@ fn dump_on<D: Device, K: Sink>(
     };
     kernel.facts();
     let walked = walk_store(alloc, &mut kernel, text, out);
-    let end = ended(walked, kernel.free_units());
+    let end = ended(walked, text.has_failed(), kernel.free_units());
     let (dev, _) = unmount(alloc, kernel);
     (end, dev)
 }

@@ -22,4 +22,4 @@ pub use named::{Named, bytes_of, put};
 pub use printing::{print_bytes, print_piece, print_text};
 pub use setup::Setup;
 pub use text::Text;
-pub use words::{Words, kind_of, look_up, number, read_hex, small};
+pub use words::{Words, byte, kind_of, look_up, number, read_hex, small};

@@ -152,6 +152,7 @@ pub fn small(word: &str) -> Result<u32, CaseError> {
     }
 }
 
+/// A byte of two digits of base 16.
 pub fn byte(word: &str) -> Result<u8, CaseError> {
     match byte_of(word.as_bytes()) {
         Some(byte) => Ok(byte),

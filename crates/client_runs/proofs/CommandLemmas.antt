@@ -2,6 +2,7 @@
 use Rattle.std.proofs.Common.{◌≡◌, inl, inr, ℕ, ◌<◌, Bool, true, false, List, [], ◌∷◌, ◌++◌, length, Some, None}
 use Rattle.std.proofs.Common.{Result, Ok, Err, OnOk, IfErr, MatchResult, ap, ◌∙◌, sym, refl, subst, arith}
 use Rattle.std.specs.Prelude.{is_some, ◌&&◌}
+use Rattle.std.specs.List.{AllByRecursion}
 use Rattle.std.proofs.lemmas.Bool.{eq-eqb}
 use Rattle.block_device.specs.Prelude.{Disk}
 use Rattle.block_device.specs.declared.device.Ticket.{Ticket}
@@ -14,10 +15,10 @@ use Rattle.object_model.specs.declared.command.Answer.TheVariants as answer
 use Rattle.object_model.specs.declared.command.Command.{Command}
 use Rattle.object_model.specs.declared.command.Command.TheVariants as command
 use Rattle.object_model.specs.declared.book.Entry.{Entry}
-use Rattle.script_text.specs.Prelude.{FitsWhat, IsKnownChange}
+use Rattle.script_text.specs.Prelude.{FitsWhat, IsKnownChange, IsKnownChangeOp}
 use Rattle.script_text.specs.declared.line.What.TheVariants as what
 use Rattle.store_steps.specs.Prelude.{State, entered, Accepts, Refuses, IsDownBy, IsBookFull, Call, reading, AnswersRead, Calls}
-use Rattle.plan_rows.specs.Prelude.{IsKnown}
+use Rattle.plan_drafts.specs.Prelude.{IsKnown, IsKnownOp}
 use Rattle.read_facts.specs.Prelude.{IsKnownRead}
 use Rattle.store_kernel.specs.Submitting.{RefusesBy, IsReadFail}
 use Rattle.store_kernel.specs.Reading.{UnansweredBy, IsDeviceRead}
@@ -31,12 +32,19 @@ use Rattle.client_runs.specs.Prelude.{call_of, IsNoted, IsNotNoted, IsNotTurnedA
 
 -- ---- what the store knows
 
+known_op : (o : Op) → IsKnownChangeOp o → IsKnownOp o
+known_op (op.Clone o to) known = absurd known
+known_op (op.CloneRange o to src len dst) known = absurd known
+known_op o known = tt
+
+each_known : (ops : List Op) → AllByRecursion IsKnownChangeOp ops → IsKnown ops
+each_known [] known = tt
+each_known (o ∷ ops) known = (known_op o known.0, each_known ops known.1)
+
 -- operations that scripts can have are known to the store
 pub known_ops : (ops : List Op) → IsKnownChange ops → IsKnown ops
-known_ops (op.Clone o to ∷ []) known = absurd known
-known_ops (op.CloneRange o to src len dst ∷ []) known = absurd known
-known_ops (o ∷ []) known = tt
-known_ops ops known = absurd known
+known_ops [] known = absurd known
+known_ops (o ∷ ops) known = (known_op o known.0, each_known ops known.1)
 
 -- the command is no transaction
 abbrev pub IsNoChange : Command → Type 0

@@ -15,7 +15,7 @@ use Rattle.store_steps.specs.Prelude.{State, is_ready, Does, Call, stepping, Cal
 use Rattle.store_kernel.specs.declared.step_fail.StepFail.{StepFail}
 use Rattle.run_facts.specs.Prelude.{IsKept}
 use Rattle.run_facts.proofs.Prelude.{ready_by_table, finish_ready, all_left}
-use Rattle.object_rows.proofs.PlansKeep.{plans_keep}
+use Rattle.draft_rows.proofs.PlanLaws.{plans_keep}
 use Rattle.book_facts.specs.Prelude.{commit_places, places, IsInOrder}
 use Rattle.book_facts.proofs.Prelude.{order_run}
 use Rattle.client_runs.specs.declared.client.Client.{Client}

@@ -11,7 +11,7 @@ use Rattle.object_model.specs.Prelude.{Objects}
 use Rattle.store_image.specs.Prelude.{StandsFor, IsStart, EachCutStands}
 use Rattle.unit_allocator.specs.Prelude.{Space}
 use Rattle.store_steps.specs.Prelude.{State, Found, opened, Call, Calls, Touch, nothing, ends, flushes, on_data, on_half, Adds, events_of, run_write, Footprint}
-use Rattle.plan_rows.specs.Prelude.{PlansKeep}
+use Rattle.plan_drafts.specs.Prelude.{PlansKeep}
 use Rattle.run_facts.specs.Prelude.{IsKept}
 use Rattle.run_facts.proofs.Prelude.{GoesDown, down_call, footprint_of}
 use Rattle.crash_facts.specs.Store.{IsDurable, KeepsDurable, IsMounted}

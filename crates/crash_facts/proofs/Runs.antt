@@ -17,7 +17,7 @@ use Rattle.log_facts.proofs.Crashes.{log_reads, log_stands}
 use Rattle.log_facts.proofs.Cuts.{exact_image}
 use Rattle.unit_allocator.specs.Prelude.{Space}
 use Rattle.store_steps.specs.Prelude.{State, is_drained, Found, opened, intents, book_part, after, Footprint, Call, Calls, IsRun, uncommitted, second_flush}
-use Rattle.plan_rows.specs.Prelude.{PlansKeep}
+use Rattle.plan_drafts.specs.Prelude.{PlansKeep}
 use Rattle.run_facts.specs.Prelude.{IsKept}
 use Rattle.run_facts.proofs.Prelude.{IsIdle, known_idle, kept_call, kept_run, footprint_of, was_up, Ends, IsStill, not_both, down_call}
 use Rattle.book_facts.specs.Prelude.{KnownOfBook}

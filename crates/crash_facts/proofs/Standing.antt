@@ -22,7 +22,7 @@ use Rattle.store_steps.specs.BookGoes as book
 use Rattle.run_facts.specs.Prelude.{IsKept, IsSpaceOf, AreRowsKept}
 use Rattle.run_facts.proofs.Prelude.{accepted_makes, accepted_joins, batch_written, given_of_all, all_left, all_right}
 use Rattle.plan_rows.specs.declared.plan.Plan.{Plan}
-use Rattle.plan_rows.specs.Prelude.{HoldsRead, PlansKeep}
+use Rattle.plan_drafts.specs.Prelude.{HoldsRead, PlansKeep}
 use Rattle.space_facts.proofs.Prelude.{selection_good, each_named}
 use Rattle.plan_rows.proofs.OnData.{owned_on_data}
 use Rattle.book_facts.specs.Prelude.{IsOfEntry, KnownOfBook, IsFairSelection, applied_changes, changes_of, SelectionsStand}

@@ -7,7 +7,7 @@ ghost use Rattle.store_image.specs.Prelude.{HasPage, ObjectsStand, StandsFor, St
 ghost use Rattle.read_facts.specs.Prelude.{IsNoCsum};
 ghost use Rattle.unit_allocator.specs.Prelude.{Space};
 ghost use Rattle.store_steps.specs.Prelude.{State, is_drained, Found, opened, Call, Calls, IsRun, memory_of};
-ghost use Rattle.plan_rows.specs.Prelude.{PlansKeep};
+ghost use Rattle.plan_drafts.specs.Prelude.{PlansKeep};
 ghost use Rattle.run_facts.specs.Prelude.{IsKept};
 ghost use Rattle.crash_facts.specs.Store.{contents_at, KnownOfStore, IsDurable, KeepsDurable, IsMounted};
 ghost use Rattle.meta_log.specs.Prelude.{width_of};

@@ -1,5 +1,5 @@
 -- The operations of a difference have spellings.
-use Rattle.std.proofs.Common.{◌≡◌, inl, inr, ℕ, ◌<◌, ◌≤◌, ◌^◌, Bool, true, false, cond, List, [], ◌∷◌, length, Option, Some, None, sym, ap, subst, ◌∙◌, arith}
+use Rattle.std.proofs.Common.{◌≡◌, inl, inr, ℕ, ◌≤◌, Bool, true, false, cond, List, [], ◌∷◌, length, Option, Some, None, sym, ap, subst, ◌∙◌, arith}
 use Rattle.std.specs.Prelude.{unwrap_or}
 use Rattle.std.specs.Option.{option_map}
 use Rattle.std.specs.List.{AllByRecursion, flat_map}
@@ -27,17 +27,17 @@ module _ (s : Super) (rows : Rows) (ops : List RowOp) (c : List ℕ) (layouts : 
   abbrev layout_now : List ℕ → Option Layout
   layout_now o = now s rows after c layouts units held y a o
 
-  key_fits : (key : List ℕ) → IsKeyOfColl c key → IsKey key
+  pub key_fits : (key : List ℕ) → IsKeyOfColl c key → IsKey key
   key_fits key (inl e) = subst IsKey (sym e) (coll_fits c a.coll)
   key_fits key (inr (o, name, inl (inl e))) = subst IsKey (sym e) (onode_fits c o a.coll name)
   key_fits key (inr (o, name, inl (inr p))) = subst IsKey (sym p.2) (shard_fits c o a.coll name p.0)
   key_fits key (inr (o, name, inr its)) = subst IsKey (sym its.is) (value_fits c o a.coll name its.of its.named)
 
-  abbrev IsShort : List ℕ → Type 0
-  IsShort value = length value < 2 ^ 32
+  abbrev pub IsShort : List ℕ → Type 0
+  IsShort value = length value ≤ 491520
 
   -- what stands under a key after the operations, and didn't before, is short
-  value_is_short : (key value : List ℕ) → IsKeyOfColl c key → finite.get after key ≡ Some value → ¬ (finite.get rows key ≡ Some value) → IsShort value
+  pub value_is_short : (key value : List ℕ) → IsKeyOfColl c key → finite.get after key ≡ Some value → ¬ (finite.get rows key ≡ Some value) → IsShort value
   value_is_short key value (inl e) is not = by y.there (sym is ∙ ap (finite.get after) e ∙ a.gets.coll)
     where
       by : (b : Bool) → Some value ≡ cond b (Some []) None → IsShort value
@@ -81,7 +81,7 @@ module _ (s : Super) (rows : Rows) (ops : List RowOp) (c : List ℕ) (layouts : 
 
   -- each operation
   op_fits : (op : RowOp) → IsKeyOfColl c (key_of op) → Changes rows op → SaysAfter after op → FitsRowOp op
-  op_fits (Set key value) its changes said = (key_fits key its, value_is_short key value its said changes)
+  op_fits (Set key value) its changes said = (key_fits key its, omega (arith, value_is_short key value its said changes))
   op_fits (Drop key) its changes said = key_fits key its
   op_fits (Flip key mask) its changes said = absurd changes
 

@@ -24,7 +24,9 @@ pub mod DraftStand
 pub mod Takings
 pub mod Elsewhere
 pub mod Fits
+pub mod RecordLengths
 pub mod PlansKeep
 pub mod Layouts
 pub mod EditFacts
 pub mod Replies
+pub mod PlanLaws

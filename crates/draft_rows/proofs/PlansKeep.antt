@@ -1,14 +1,15 @@
 -- Each plan keeps and makes what is asked of a plan.
-use Rattle.std.proofs.Common.{◌≡◌, inl, inr, ℕ, zero, suc, ◌+◌, ◌*◌, ◌<◌, ◌≤◌, ◌^◌, false, List, [], ◌∷◌, length, map, take, Contains, Option, Ok, refl, sym, ap, subst, ◌∙◌, arith}
+use Rattle.std.proofs.Common.{◌≡◌, inl, inr, ℕ, zero, suc, ◌+◌, ◌*◌, ◌<◌, ◌≤◌, ◌^◌, false, List, [], ◌∷◌, length, map, take, Contains, Option, Ok, refl, sym, ap, subst, ◌∙◌, arith, length-append}
 use Rattle.std.specs.Prelude.{slice_index, sum_by, nat_lt}
 use Rattle.std.specs.List.{AllByRecursion}
 use Rattle.std.specs.FinMap as finite
 use Rattle.std.specs.Ordering.{nat_cmp}
 use Rattle.std.proofs.lemmas.Bool.{or_parts, cases_lt}
 use Rattle.std.proofs.lemmas.Bool.Decides.{nat_tests}
+use Rattle.std.proofs.lemmas.Grind.{flat_map-append}
 use Rattle.std.proofs.lemmas.List.Sums.{sum_by-cons}
 use Rattle.crc32c_csum.specs.Prelude.{crc32c}
-use Rattle.meta_rows.specs.Prelude.{Rows, rows_after, key_of, FitsRowOp, AllFit}
+use Rattle.meta_rows.specs.Prelude.{Rows, rows_after, rows_size, key_of, op_bytes, ops_bytes, FitsRowOp, AllFit}
 use Rattle.meta_rows.specs.declared.row_op.RowOp.{RowOp}
 use Rattle.meta_rows.proofs.Folds.{rows_after-append}
 use Rattle.meta_log.specs.declared.slot.Super.{Super}
@@ -19,7 +20,7 @@ use Rattle.object_model.proofs.Names.{is_own}
 use Rattle.unit_fields.specs.Prelude.{Ascends}
 use Rattle.store_image.specs.Prelude.{HasPage, NoBadRow, page_of, Owns, IsDataUnit, IsOwned, IsMarked, IsExactAs, IsShape, ObjectsStand}
 use Rattle.bitmap_freelist.proofs.Alike.{alike_shape, alike_stand}
-use Rattle.bitmap_freelist.proofs.Records.{flips_fit}
+use Rattle.bitmap_freelist.proofs.Records.{flips_fit, flips_size, flips_count}
 use Rattle.unit_allocator.specs.Prelude.{Space, free_units}
 use Rattle.unit_allocator.proofs.FreeUnits.{free_units_ascend}
 use Rattle.unit_allocator.proofs.Lists.{Contains-map, Contains-from_map}
@@ -37,6 +38,7 @@ use Rattle.draft_rows.proofs.Fits.{difference_fits}
 use Rattle.draft_rows.proofs.Lists.{all_in, all_append}
 use Rattle.draft_rows.proofs.Matches.{LengthLaw, Matches, AllLead, all_lead, transaction_lead}
 use Rattle.draft_rows.proofs.Reached.{EditLaws, IsReached, reached}
+use Rattle.draft_rows.proofs.RecordLengths.{difference_short}
 use Rattle.draft_rows.proofs.Takings.{is_among, of_front, rises, units_ascend, few, filled_units, filled_count, filled_all, filled_each, all_listed}
 
 -- ---- lists
@@ -345,6 +347,22 @@ module _ (laws : EditLaws) (lengths : LengthLaw) (bytes : ByteLaws) (counts : Co
     owns = owns_units;
   }
 
+  -- the bytes of its operations in a record
+  pub short : length (ops_bytes plan.ops) ≤ 2 ^ 40 + rows_size view
+  short =
+      let both = both_false change p.small in
+      omega (
+        arith,
+        ap (λ ops. length (ops_bytes ops)) p.makes.ops_are,
+        ap length (flat_map-append op_bytes difference p.makes.flips),
+        length-append (ops_bytes difference) (ops_bytes p.makes.flips),
+        difference_short s view difference c p.layouts units held change.ops p.start p.begins (drafted view suits_itself good) p.taken
+            (not_above 256 (length change.ops) both.0) (not_above payload_limit (sum_by payload_of change.ops) both.1) p.makes.in_order p.makes.changes
+            (keys_named c view view (λ key its. refl) difference p.makes.in_order p.makes.changes (width_of s) p.layouts units held y p.makes.gets),
+        flips_size p.makes.turns.units p.makes.flips p.makes.turns.are_flips,
+        flips_count p.makes.turns.units p.makes.flips p.makes.turns.are_flips,
+      )
+
   makes : PlanMakes s change view plan
   makes = record {
     accepts = λ rows o suits over shape. (_, effect rows suits over o shape);
@@ -373,6 +391,10 @@ module _ (laws : EditLaws) (lengths : LengthLaw) (bytes : ByteLaws) (counts : Co
 pub plans_keep_by : EditLaws → LengthLaw → ByteLaws → CountLaws → PlansKeep
 plans_keep_by laws lengths bytes counts s view space change plan good free known plans =
     all_three laws lengths bytes counts s view good space free change plan plans
+
+pub short_by : EditLaws → LengthLaw → ByteLaws → CountLaws → (s : Super) (view : Rows) (space : Space) (change : Change) (plan : Plan) → IsGood s view
+    → AreFreeOver s view space → Plans (width_of s) change view space plan → length (ops_bytes plan.ops) ≤ 2 ^ 40 + rows_size view
+short_by laws lengths bytes counts s view space change plan good free plans = short laws lengths bytes counts s view good space free change plan plans
 
 pub asks_are_few_by : CountLaws → AsksAreFew
 asks_are_few_by counts w change rows need places asks =

@@ -6,4 +6,4 @@ mod laws;
 mod plans;
 
 pub use laws::{object_by_shards, objects_have_layouts};
-pub use plans::{asks_are_few, plans_keep, replies_by_drafts};
+pub use plans::{asks_are_few, plans_keep, records_are_short, replies_by_drafts};

@@ -1,18 +1,26 @@
 //! What plans come to. Each function has laws for its contract and does nothing.
-ghost use Rattle.std.specs.Prelude.{Option, Err, IsOk, true, false, ◌≡◌, ℕ, List};
+ghost use Rattle.std.specs.Prelude.{Option, Err, IsOk, true, false, ◌≡◌, ◌≤◌, ◌+◌, ◌^◌, ℕ, List, length};
 ghost use Rattle.meta_log.specs.declared.slot.Super.{Super};
 ghost use Rattle.meta_log.specs.Prelude.{width_of};
-ghost use Rattle.meta_rows.specs.Prelude.{Rows};
+ghost use Rattle.meta_rows.specs.Prelude.{Rows, rows_size, ops_bytes};
 ghost use Rattle.object_model.specs.declared.op.Refusal.{Refusal};
 ghost use Rattle.object_model.specs.declared.op.Refusal.TheVariants.{TooBig};
 ghost use Rattle.object_model.specs.Prelude.{Objects, Change, transaction_effect, submitted_effect, is_too_large};
 ghost use Rattle.unit_fields.specs.Prelude.{IsCollName};
 ghost use Rattle.store_image.specs.Prelude.{NoBadRow, IsShape};
-ghost use Rattle.plan_drafts.specs.Prelude.{Layout, CollDraft, AreTaken, AreRefused, Begins, PlansKeep, AsksAreFew};
+ghost use Rattle.unit_allocator.specs.Prelude.{Space};
+ghost use Rattle.plan_rows.specs.declared.plan.Plan.{Plan};
+ghost use Rattle.plan_drafts.specs.Prelude.{Layout, CollDraft, AreTaken, AreRefused, Begins, IsGood, AreFreeOver, Plans, PlansKeep, AsksAreFew};
 
 /// Each plan that the planner may make keeps and makes what is asked of a plan, and takes free units.
 pub fn plans_keep()
     ensures { PlansKeep }
+{}
+
+/// The operations of a plan take few bytes in a record, and no more than the rows that may go.
+pub fn records_are_short()
+    ensures { (s : Super) (view : Rows) (space : Space) (change : Change) (plan : Plan) → IsGood s view → AreFreeOver s view space
+        → Plans (width_of s) change view space plan → length (ops_bytes plan.ops) ≤ 2 ^ 40 + rows_size view }
 {}
 
 /// Before it is planned, a transaction asks for no more units than its operations ask for at most.

@@ -56,6 +56,15 @@ fn first_wrong(alloc: Global) -> Option<Wrong> {
             "bad lines",
             place(script_text_tests::first_wrong_bad(alloc)),
         ),
+        ("blocks", place(script_text_tests::first_wrong_block(alloc))),
+        (
+            "bad lines of blocks",
+            place(script_text_tests::first_wrong_bad_block(alloc)),
+        ),
+        (
+            "full scripts",
+            place(script_text_tests::first_wrong_full(alloc)),
+        ),
         (
             "free units",
             place(unit_allocator_tests::first_wrong(alloc)),

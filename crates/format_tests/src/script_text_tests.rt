@@ -1,8 +1,9 @@
-//! Reads of a script that fail, scripts whose data written out would take much memory, and lines of attributes, omaps and collections that
-//! go. Which other scripts are good, and which line of another one is bad, are cases of the program `store_cases`.
+//! Reads of a script that fail, scripts whose data written out would take much memory, lines of attributes, omaps and collections that
+//! go, and blocks. Which other scripts are good, and which line of another one is bad, are cases of the program `store_cases`.
 
 use end_points::MemorySource;
-use script_text::{ScriptFail, read_script};
+use object_model::Command;
+use script_text::{Line, ScriptFail, What, read_script};
 use std::alloc::{AllocError, Global};
 
 // What is said in the place of a number of lines, which is smaller.
@@ -159,4 +160,150 @@ pub fn first_wrong_good(alloc: Global) -> Result<Option<usize>, AllocError> {
 /// The place of the first line that is good and should be bad.
 pub fn first_wrong_bad(alloc: Global) -> Result<Option<usize>, AllocError> {
     first_other(alloc, &BAD, BAD_LINE)
+}
+
+// A line's number, and how many operations its command has: 0 for a read and for `wait`.
+type Made = (u32, usize);
+
+// Scripts with blocks, and what they make.
+static BLOCKS: [(&str, &[Made]); 5] = [
+    ("begin\ntouch 1.a_head a\nend\n", &[(1, 1)]),
+    ("begin\ntouch 1.a_head a\nend", &[(1, 1)]),
+    (
+        "#\nbegin\n\ntouch 1.a_head a\n# b\nremove 1.a_head b\n\nend\nlist 1.a_head\n",
+        &[(2, 2), (9, 0)],
+    ),
+    (
+        "wait\nbegin\nmkcoll 1.a_head\nend\nbegin\ntouch 1.b_head a\nend\nwait\nwait\ntouch 1.a_head a",
+        &[(1, 0), (2, 1), (5, 1), (8, 0), (10, 1)],
+    ),
+    // each operation
+    (
+        "begin\n\
+        mkcoll 1.a_head\n\
+        touch 1.a_head o\n\
+        write 1.a_head o 0 fill:61:70000\n\
+        zero 1.a_head o 1 2\n\
+        truncate 1.a_head o 3\n\
+        setattr 1.a_head o n hex:01\n\
+        rmattr 1.a_head o n\n\
+        rmattrs 1.a_head o\n\
+        omapset 1.a_head o k hex:00 l fill:00:3\n\
+        omaprm 1.a_head o k l\n\
+        omaprmrange 1.a_head o k l\n\
+        omapheader 1.a_head o hex:\n\
+        omapclear 1.a_head o\n\
+        remove 1.a_head o\n\
+        rmcoll 1.a_head\n\
+        end\n",
+        &[(1, 15)],
+    ),
+];
+
+fn ops_of(alloc: Global, line: Line) -> Result<usize, AllocError> {
+    match line.what.into_what(alloc)? {
+        What::Command(Command::Change(change)) => Ok(change.ops().len()),
+        _ => Ok(0),
+    }
+}
+
+// What a text makes; line 0 alone where it is no script.
+fn made_by(alloc: Global, text: &str) -> Result<Vec<Made>, AllocError> {
+    let text = Vec::from_slice(alloc, text.as_bytes())?;
+    let mut source = MemorySource::new(text, 7, Vec::new(alloc));
+    let mut made = Vec::new(alloc);
+    match read_script(alloc, &mut source) {
+        Ok(lines) => {
+            for line in lines {
+                made.push((line.line, ops_of(alloc, line)?))?;
+            }
+        }
+        Err(ScriptFail::Memory) => return Err(AllocError),
+        Err(_) => made.push((0, 0))?,
+    }
+    Ok(made)
+}
+
+/// The place of the first of these that comes out otherwise.
+pub fn first_wrong_block(alloc: Global) -> Result<Option<usize>, AllocError> {
+    for (i, (text, wanted)) in BLOCKS.iter().enumerate() {
+        if made_by(alloc, text)?.as_slice() != *wanted {
+            return Ok(Some(i));
+        }
+    }
+    Ok(None)
+}
+
+// Texts and their first bad lines. A block that isn't ended makes that the line behind the last one, unless there is one before.
+static BAD_BLOCKS: [(&str, u32); 24] = [
+    ("begin\nend\n", 2),
+    ("begin\n\n# end\nend\n", 4),
+    ("end\n", 1),
+    ("touch 1.a_head a\nend\n", 2),
+    ("begin\ntouch 1.a_head a\nend\nend\n", 4),
+    ("begin\nbegin\n", 2),
+    ("begin\ntouch 1.a_head a\nbegin\n", 3),
+    ("begin\nread 1.a_head a 0 1\nend\n", 2),
+    ("begin\ntouch 1.a_head a\nlist 1.a_head\nend\n", 3),
+    ("begin\ntouch 1.a_head a\nwait\nend\n", 3),
+    ("begin\ntouch 1.a_head a\n\ntouch 1.b_head a\nend\n", 4),
+    ("begin\ntouch 1.a_head a\nclone 1.a_head a b\nend\n", 3),
+    ("begin \ntouch 1.a_head a\nend\n", 1),
+    ("begin 1.a_head\ntouch 1.a_head a\nend\n", 1),
+    ("begin\ntouch 1.a_head a\nend 1\n", 3),
+    (" begin\n", 1),
+    ("begin", 2),
+    ("begin\n", 2),
+    ("begin\ntouch 1.a_head a", 3),
+    ("begin\ntouch 1.a_head a\n", 3),
+    ("begin\ntouch 1.a_head a\n#", 4),
+    ("begin\ntouch 1.a_head a\n\n", 4),
+    ("begin\ntouch 1.a_head a\nend\nbegin", 5),
+    ("begin\ntouch 1.a_head a\nstat 1.a_head a", 3),
+];
+
+// The first bad line, or None of a script.
+fn bad_line_of(alloc: Global, text: Vec<u8>) -> Result<Option<u32>, AllocError> {
+    let mut source = MemorySource::new(text, 4096, Vec::new(alloc));
+    match read_script(alloc, &mut source) {
+        Ok(_) => Ok(None),
+        Err(ScriptFail::Line { n }) => Ok(Some(n)),
+        Err(_) => Err(AllocError),
+    }
+}
+
+/// The place of the first of these that has another bad line.
+pub fn first_wrong_bad_block(alloc: Global) -> Result<Option<usize>, AllocError> {
+    for (i, (text, wanted)) in BAD_BLOCKS.iter().enumerate() {
+        let text = Vec::from_slice(alloc, text.as_bytes())?;
+        if bad_line_of(alloc, text)? != Some(*wanted) {
+            return Ok(Some(i));
+        }
+    }
+    Ok(None)
+}
+
+// What stands behind one command less than a script may have, and the bad line. A block is one command, and counted at its `begin`.
+static FULL: [(&str, Option<u32>); 3] = [
+    (
+        "begin\ntouch 1.a_head a\ntouch 1.a_head b\nend\nwait\n",
+        None,
+    ),
+    (
+        "begin\ntouch 1.a_head a\ntouch 1.a_head b\nend\nwait\ntouch 1.a_head a\n",
+        Some(16389),
+    ),
+    ("touch 1.a_head a\nbegin\n", Some(16385)),
+];
+
+/// The place of the first of these that has another bad line.
+pub fn first_wrong_full(alloc: Global) -> Result<Option<usize>, AllocError> {
+    for (i, (last, wanted)) in FULL.iter().enumerate() {
+        let mut text = text_of(alloc, "", "touch 1.a_head a\n", 16383)?;
+        text.extend_from_slice(last.as_bytes())?;
+        if bad_line_of(alloc, text)? != *wanted {
+            return Ok(Some(i));
+        }
+    }
+    Ok(None)
 }

@@ -6,6 +6,7 @@ mod lines;
 mod operations;
 mod questions;
 mod reading;
+mod transactions;
 
 pub use lines::ObjectLines;
-pub use operations::operation;
+pub use transactions::transaction;

@@ -1,15 +1,12 @@
 //! The lines of a case: reads, and transactions whose operations have semicolons between them.
 
 use crate::answers::print_answer;
-use crate::operations::operation;
 use crate::questions::{question, the_collection};
-use case_text::{CaseError, Follow, Text, Words};
-use object_model::{Answer, Command, Op, Transaction};
+use crate::transactions::transaction;
+use case_text::{CaseError, Follow, Text};
+use object_model::{Answer, Command};
 use plain_store::{ArgFault, Plain};
 use std::alloc::Global;
-
-/// The most operations that a line repeats.
-const MOST_REPEATS: u32 = 1000;
 
 /// The objects of a case.
 #[derive(Drop)]
@@ -18,71 +15,14 @@ pub struct ObjectLines {
     plain: Plain,
 }
 
-/// The transaction with an operation more, or of this one alone.
-fn with_operation(
-    alloc: Global,
-    made: Option<Transaction>,
-    op: Op,
-) -> Result<Transaction, CaseError> {
-    let Some(mut change) = made else {
-        return match Transaction::new(alloc, the_collection(alloc)?, op) {
-            Ok(change) => Ok(change),
-            Err(back) => {
-                drop(back);
-                Err(CaseError::OutOfMemory)
-            }
-        };
-    };
-    change.push(op)?;
-    Ok(change)
-}
-
-/// Adds the operation of a text, so many times.
-fn add(
-    alloc: Global,
-    made: Option<Transaction>,
-    text: &str,
-    times: u32,
-) -> Result<Option<Transaction>, CaseError> {
-    let mut made = made;
-    for _ in 0..times {
-        let op = operation(alloc, text)?;
-        made = Some(with_operation(alloc, made, op)?);
-    }
-    Ok(made)
-}
-
-/// Adds a part of a line. An operation behind `repeat COUNT` comes so many times.
-fn add_part(
-    alloc: Global,
-    made: Option<Transaction>,
-    part: &str,
-) -> Result<Option<Transaction>, CaseError> {
-    let mut words = Words::new(part);
-    if words.next()? != "repeat" {
-        return add(alloc, made, part, 1);
-    }
-    let times = words.small()?.min(MOST_REPEATS);
-    add(alloc, made, words.text(), times)
-}
-
-/// The transaction of a line.
-fn transaction(alloc: Global, line: &str) -> Result<Transaction, CaseError> {
-    let mut made = None;
-    for part in line.split("; ") {
-        made = add_part(alloc, made, part)?;
-    }
-    match made {
-        Some(change) => Ok(change),
-        None => Err(CaseError::Line("no operation")),
-    }
-}
-
 /// The command of a line.
 fn command(alloc: Global, line: &str) -> Result<Command, CaseError> {
     match question(alloc, line)? {
         Some(command) => Ok(command),
-        None => Ok(Command::Change(transaction(alloc, line)?)),
+        None => {
+            let coll = the_collection(alloc)?;
+            Ok(Command::Change(transaction(alloc, &coll, line)?))
+        }
     }
 }
 

@@ -1,7 +1,7 @@
 //! The names and the bytes that words spell.
 
 use byte_maps::{Bytes, Items};
-use case_text::{CaseError, Words, number};
+use case_text::{CaseError, Words, byte, number};
 use object_model::Pair;
 use plain_reader::name_of;
 use std::alloc::Global;
@@ -17,23 +17,27 @@ pub fn last_name(alloc: Global, words: Words<'_>) -> Result<Name, CaseError> {
     name_of(alloc, words.last()?.as_bytes())
 }
 
-/// The most zeros of a word.
-const MOST_ZEROS: u64 = 1 << 24;
+/// The most bytes that a word fills.
+const MOST_FILLED: u64 = 1 << 24;
 
-fn zeros(alloc: Global, count: u64) -> Result<Bytes, CaseError> {
-    if count > MOST_ZEROS {
-        return Err(CaseError::Line("too many zeros"));
+/// So many bytes of one value.
+fn filled(alloc: Global, count: u64, value: u8) -> Result<Bytes, CaseError> {
+    if count > MOST_FILLED {
+        return Err(CaseError::Line("too many bytes"));
     }
-    Ok(Bytes::from_vec(vec![in alloc; 0u8; count as usize]?))
+    Ok(Bytes::from_vec(vec![in alloc; value; count as usize]?))
 }
 
-/// The bytes of a word: none for `-`, so many zeros for `fill:COUNT`, else the word's own.
+/// The bytes of a word: none for `-`, so many zeros for `fill:COUNT`, so many bytes of one value for `fill:COUNT:BYTE`, else the word's own.
 fn bytes(alloc: Global, word: &str) -> Result<Bytes, CaseError> {
     if word == "-" {
         return Ok(Bytes::new(alloc));
     }
     match word.strip_prefix("fill:") {
-        Some(count) => zeros(alloc, number(count)?),
+        Some(text) => match text.split_once(':') {
+            Some((count, value)) => filled(alloc, number(count)?, byte(value)?),
+            None => filled(alloc, number(text)?, 0),
+        },
         None => Ok(Bytes::from_slice(alloc, word.as_bytes())?),
     }
 }

@@ -18,7 +18,7 @@ use Rattle.store_image.specs.Prelude.{HasKey, HasOnode, IsPageAt, HasPage}
 use Rattle.store_image.proofs.Prelude.{in_place, on_own}
 use Rattle.page_lookup.specs.Prelude.{place_found, FindPagesOf}
 use Rattle.plan_rows.specs.Prelude.{IsSizeOf, missing, there}
-use Rattle.object_rows.proofs.GoodPages.{good_page}
+use Rattle.draft_rows.proofs.GoodPages.{good_page}
 use Rattle.onode_state.specs.Objects.{AreRowsOfAStore, AreRowsOfWidth}
 use Rattle.read_facts.specs.declared.view.BadSum.{BadSum}
 use Rattle.read_facts.specs.declared.view.ValueView.{ValueView}

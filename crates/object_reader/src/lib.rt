@@ -14,5 +14,5 @@ mod view;
 
 pub use answering::answer;
 pub use fail::ReadFail;
-pub use names::next_collection;
+pub use names::{next_collection, next_name};
 pub use view::next_object;

@@ -1,8 +1,8 @@
 //! Plans over rows that are spelled by hand. The store's data units are 18 to 799.
-ghost use Rattle.std.specs.Prelude.{◌≡◌, length, IsTrue, IfOk};
+ghost use Rattle.std.specs.Prelude.{◌≡◌, ◌↔◌, length, IsTrue, IfOk};
 ghost use Rattle.unit_fields.specs.declared.width.Width.TheVariants.{FourBytes};
 ghost use Rattle.onode_state.specs.Objects.{AreRowsOfWidth};
-ghost use Rattle.plan_rows.specs.Prelude.{IsKnown, AreReadAt};
+ghost use Rattle.plan_drafts.specs.Prelude.{IsKnownOp, IsKnown, AreReadAt};
 
 use crate::rows::{COLL, Entry, ONODE_A, SHARD_A0, name_of, superblock, table_of};
 use blob_map::Place;
@@ -59,7 +59,7 @@ fn space(alloc: Global) -> Result<Allocator, AllocError> {
 // A key of the omap and its value.
 type KeyValue = (&'static [u8], &'static [u8]);
 
-// What a transaction does: it makes a collection or takes it away, or changes the object `a`. A write, of bytes 07, and zeros begin at an offset
+// What an operation does: it makes the collection or takes it away, or changes the object `a`. A write, of bytes 07, and zeros begin at an offset
 // and are so long.
 enum Change {
     MkColl,
@@ -128,14 +128,19 @@ fn range_of(alloc: Global, object: Name, first: &[u8], last: &[u8]) -> Result<Op
     })
 }
 
-fn is_known(txn: &Transaction) -> bool
-    ensures { IsTrue result → IsKnown txn.now.ops }
+fn is_known(op: &Op) -> bool
+    ensures { IsTrue result ↔ IsKnownOp op.now }
 {
-    match txn.ops() {
-        [Op::Clone { .. }] | [Op::CloneRange { .. }] => false,
-        [_] => true,
-        _ => false,
+    match op {
+        Op::Clone { .. } | Op::CloneRange { .. } => false,
+        _ => true,
     }
+}
+
+fn are_known(ops: &[Op]) -> bool
+    ensures { IsTrue result ↔ IsKnown ops.now }
+{
+    ops.iter().all(is_known)
 }
 
 fn op_of(alloc: Global, change: &Change, object: Name) -> Result<Op, AllocError> {
@@ -185,10 +190,10 @@ fn value_op(alloc: Global, change: &Change, object: Name) -> Result<Op, AllocErr
     }
 }
 
-// A transaction on the collection `1.0_head`.
-fn transaction(alloc: Global, change: &Change) -> Result<Transaction, AllocError> {
+// A transaction on the collection `1.0_head`, of one operation so far.
+fn begun(alloc: Global, first: &Change) -> Result<Transaction, AllocError> {
     let coll = CollName::new(alloc, 1, 0)?;
-    let op = op_of(alloc, change, name_of(alloc, b"a")?)?;
+    let op = op_of(alloc, first, name_of(alloc, b"a")?)?;
     match Transaction::new(alloc, coll, op) {
         Ok(txn) => Ok(txn),
         Err(back) => {
@@ -196,6 +201,19 @@ fn transaction(alloc: Global, change: &Change) -> Result<Transaction, AllocError
             Err(AllocError)
         }
     }
+}
+
+// A transaction of these operations. Of none it comes to the same as where there is no memory.
+fn transaction(alloc: Global, changes: &[Change]) -> Result<Transaction, AllocError> {
+    let Some((first, others)) = changes.split_first() else {
+        return Err(AllocError);
+    };
+    let mut txn = begun(alloc, first)?;
+    for change in others {
+        let object = name_of(alloc, b"a")?;
+        txn.push(op_of(alloc, change, object)?)?;
+    }
+    Ok(txn)
 }
 
 // What a unit held: its number in every byte.
@@ -230,7 +248,7 @@ fn read_at(alloc: Global, places: &[Place]) -> Result<Items<ReadUnit>, AllocErro
 fn planned(alloc: Global, rows: &RowTable, txn: &Transaction) -> Result<Plan, PlanFail>
     requires { AreRowsOfWidth FourBytes rows.now.rows }
 {
-    if !is_known(txn) {
+    if !are_known(txn.ops()) {
         return Err(PlanFail::Memory);
     }
     let space = space(alloc)?;
@@ -239,10 +257,10 @@ fn planned(alloc: Global, rows: &RowTable, txn: &Transaction) -> Result<Plan, Pl
     Ok(draft.finish(alloc, Width::FourBytes, rows, &space, txn, read)?)
 }
 
-// What is planned of a change over rows with these keys and values.
-fn planned_over(alloc: Global, entries: &[Entry], change: &Change) -> Result<Plan, PlanFail> {
+// What is planned of operations over rows with these keys and values.
+fn planned_over(alloc: Global, entries: &[Entry], changes: &[Change]) -> Result<Plan, PlanFail> {
     let rows = good_rows(alloc, entries)?;
-    planned(alloc, &rows, &transaction(alloc, change)?)
+    planned(alloc, &rows, &transaction(alloc, changes)?)
 }
 
 // The number of row operations, of fresh units and of released ones.
@@ -255,8 +273,12 @@ fn counts(planned: &Result<Plan, PlanFail>) -> Result<Counts, PlanFail> {
     }
 }
 
-// The rows, and what is planned of a change, or why nothing is.
-type Case = (&'static [Entry], Change, Result<Counts, PlanFail>);
+// The rows, and what is planned of operations, or why nothing is.
+type Case = (
+    &'static [Entry],
+    &'static [Change],
+    Result<Counts, PlanFail>,
+);
 
 const TOO_BIG: Result<Counts, PlanFail> = Err(PlanFail::Refusal(Refusal::TooBig));
 
@@ -278,73 +300,133 @@ const NO_OBJECT: Result<Counts, PlanFail> = Err(PlanFail::Refusal(Refusal::NoObj
 
 const NOT_EMPTY: Result<Counts, PlanFail> = Err(PlanFail::Refusal(Refusal::NotEmpty));
 
-static CASES: [Case; 44] = [
-    (&[], Change::MkColl, Ok((1, 0, 0))),
-    (MISSING, Change::Touch, Ok((1, 0, 0))),
-    (MISSING, Change::Write(0, 12288), Ok((3, 3, 0))),
-    (THREE, Change::Write(4096, 8192), Ok((2, 2, 2))),
+static CASES: [Case; 54] = [
+    (&[], &[Change::MkColl], Ok((1, 0, 0))),
+    (MISSING, &[Change::Touch], Ok((1, 0, 0))),
+    (MISSING, &[Change::Write(0, 12288)], Ok((3, 3, 0))),
+    (THREE, &[Change::Write(4096, 8192)], Ok((2, 2, 2))),
     // Without bytes the object is made, and its size stays.
-    (MISSING, Change::Write(9, 0), Ok((1, 0, 0))),
-    (MISSING, Change::Zero(9, 0), Ok((1, 0, 0))),
-    (THREE, Change::Write(20000, 0), Ok((0, 0, 0))),
-    (THREE, Change::Zero(20000, 0), Ok((0, 0, 0))),
+    (MISSING, &[Change::Write(9, 0)], Ok((1, 0, 0))),
+    (MISSING, &[Change::Zero(9, 0)], Ok((1, 0, 0))),
+    (THREE, &[Change::Write(20000, 0)], Ok((0, 0, 0))),
+    (THREE, &[Change::Zero(20000, 0)], Ok((0, 0, 0))),
     // Holes stay holes.
-    (MISSING, Change::Zero(1, 9000), Ok((1, 0, 0))),
-    (THREE, Change::Zero(12288, 4097), Ok((1, 0, 0))),
+    (MISSING, &[Change::Zero(1, 9000)], Ok((1, 0, 0))),
+    (THREE, &[Change::Zero(12288, 4097)], Ok((1, 0, 0))),
     // A missing object stays missing.
-    (MISSING, Change::Truncate(1), Ok((0, 0, 0))),
-    (MISSING, Change::Remove, Ok((0, 0, 0))),
+    (MISSING, &[Change::Truncate(1)], Ok((0, 0, 0))),
+    (MISSING, &[Change::Remove], Ok((0, 0, 0))),
     // An object stays as long as it is, gets longer, and loses whole pages.
-    (THREE, Change::Truncate(12288), Ok((0, 0, 0))),
-    (THREE, Change::Truncate(12289), Ok((1, 0, 0))),
-    (THREE, Change::Truncate(4096), Ok((3, 0, 2))),
-    (THREE, Change::Truncate(0), Ok((3, 0, 3))),
+    (THREE, &[Change::Truncate(12288)], Ok((0, 0, 0))),
+    (THREE, &[Change::Truncate(12289)], Ok((1, 0, 0))),
+    (THREE, &[Change::Truncate(4096)], Ok((3, 0, 2))),
+    (THREE, &[Change::Truncate(0)], Ok((3, 0, 3))),
     // The size of the transaction decides first, then the collection, then the object's limit, and then the free units.
-    (&[], Change::Write(0, 1048577), TOO_BIG),
-    (&[], Change::Write(134217728, 1), NO_COLLECTION),
-    (&[], Change::Truncate(134217729), NO_COLLECTION),
-    (MISSING, Change::Write(134217727, 12289), TOO_BIG),
-    (MISSING, Change::Zero(134217728, 1), TOO_BIG),
-    (MISSING, Change::Truncate(134217729), TOO_BIG),
-    (MISSING, Change::Write(4095, 8194), NO_SPACE),
-    (&[], Change::Touch, NO_COLLECTION),
-    (&[], Change::Remove, NO_COLLECTION),
+    (&[], &[Change::Write(0, 1048577)], TOO_BIG),
+    (&[], &[Change::Write(134217728, 1)], NO_COLLECTION),
+    (&[], &[Change::Truncate(134217729)], NO_COLLECTION),
+    (MISSING, &[Change::Write(134217727, 12289)], TOO_BIG),
+    (MISSING, &[Change::Zero(134217728, 1)], TOO_BIG),
+    (MISSING, &[Change::Truncate(134217729)], TOO_BIG),
+    (MISSING, &[Change::Write(4095, 8194)], NO_SPACE),
+    (&[], &[Change::Touch], NO_COLLECTION),
+    (&[], &[Change::Remove], NO_COLLECTION),
     (
         MISSING,
-        Change::MkColl,
+        &[Change::MkColl],
         Err(PlanFail::Refusal(Refusal::CollectionExists)),
     ),
     // A collection goes where it is there and has no object.
-    (&[], Change::RmColl, NO_COLLECTION),
-    (MISSING, Change::RmColl, Ok((1, 0, 0))),
-    (THREE, Change::RmColl, NOT_EMPTY),
+    (&[], &[Change::RmColl], NO_COLLECTION),
+    (MISSING, &[Change::RmColl], Ok((1, 0, 0))),
+    (THREE, &[Change::RmColl], NOT_EMPTY),
     // A value's limit is tried before its object is looked for. What takes all values passes over a missing object.
-    (&[], Change::SetAttr(b"x", LONG), NO_COLLECTION),
-    (MISSING, Change::SetAttr(b"x", LONG), TOO_BIG),
-    (MISSING, Change::OmapHeader(LONG), TOO_BIG),
+    (&[], &[Change::SetAttr(b"x", LONG)], NO_COLLECTION),
+    (MISSING, &[Change::SetAttr(b"x", LONG)], TOO_BIG),
+    (MISSING, &[Change::OmapHeader(LONG)], TOO_BIG),
     (
         MISSING,
-        Change::OmapSet(&[(b"k", b""), (b"l", LONG)]),
+        &[Change::OmapSet(&[(b"k", b""), (b"l", LONG)])],
         TOO_BIG,
     ),
-    (MISSING, Change::SetAttr(b"x", b"1"), NO_OBJECT),
-    (MISSING, Change::RmAttr(b"x"), NO_OBJECT),
-    (MISSING, Change::OmapSet(&[]), NO_OBJECT),
-    (MISSING, Change::OmapRm(&[]), NO_OBJECT),
-    (MISSING, Change::OmapRmRange(b"k", b"l"), NO_OBJECT),
-    (MISSING, Change::OmapHeader(b""), NO_OBJECT),
-    (MISSING, Change::RmAttrs, Ok((0, 0, 0))),
-    (MISSING, Change::OmapClear, Ok((0, 0, 0))),
+    (MISSING, &[Change::SetAttr(b"x", b"1")], NO_OBJECT),
+    (MISSING, &[Change::RmAttr(b"x")], NO_OBJECT),
+    (MISSING, &[Change::OmapSet(&[])], NO_OBJECT),
+    (MISSING, &[Change::OmapRm(&[])], NO_OBJECT),
+    (MISSING, &[Change::OmapRmRange(b"k", b"l")], NO_OBJECT),
+    (MISSING, &[Change::OmapHeader(b"")], NO_OBJECT),
+    (MISSING, &[Change::RmAttrs], Ok((0, 0, 0))),
+    (MISSING, &[Change::OmapClear], Ok((0, 0, 0))),
     // An object without values.
-    (THREE, Change::RmAttrs, Ok((0, 0, 0))),
-    (THREE, Change::OmapClear, Ok((0, 0, 0))),
-    (THREE, Change::OmapHeader(b""), Ok((0, 0, 0))),
+    (THREE, &[Change::RmAttrs], Ok((0, 0, 0))),
+    (THREE, &[Change::OmapClear], Ok((0, 0, 0))),
+    (THREE, &[Change::OmapHeader(b"")], Ok((0, 0, 0))),
+    // Of several operations the size of all decides first, then each of them, after those before it, and then the free units.
+    (
+        &[],
+        &[Change::Write(0, 524288), Change::Write(0, 524289)],
+        TOO_BIG,
+    ),
+    (
+        MISSING,
+        &[Change::Write(0, 12289), Change::MkColl],
+        Err(PlanFail::Refusal(Refusal::CollectionExists)),
+    ),
+    (
+        &[],
+        &[Change::MkColl, Change::RmColl, Change::Touch],
+        NO_COLLECTION,
+    ),
+    (MISSING, &[Change::Touch, Change::RmColl], NOT_EMPTY),
+    (
+        THREE,
+        &[Change::Remove, Change::Truncate(1), Change::RmAttr(b"x")],
+        NO_OBJECT,
+    ),
+    (
+        MISSING,
+        &[Change::Truncate(134217728), Change::Zero(134217728, 1)],
+        TOO_BIG,
+    ),
+    (
+        MISSING,
+        &[Change::SetAttr(b"x", b"1"), Change::SetAttr(b"x", LONG)],
+        NO_OBJECT,
+    ),
+    // A page that was put is changed where it is, and one that was cleared takes a unit again.
+    (
+        MISSING,
+        &[
+            Change::Write(0, 12288),
+            Change::Zero(0, 4096),
+            Change::Write(1, 1),
+        ],
+        NO_SPACE,
+    ),
+    (
+        THREE,
+        &[
+            Change::Write(0, 12288),
+            Change::Remove,
+            Change::Write(0, 4097),
+        ],
+        Err(PlanFail::NoSpace { need: 5, free: 3 }),
+    ),
+    (
+        THREE,
+        &[
+            Change::Zero(4095, 2),
+            Change::Truncate(4097),
+            Change::Write(8192, 8192),
+        ],
+        NO_SPACE,
+    ),
 ];
 
 /// The place of the first case in which something else is planned.
 pub fn first_wrong(alloc: Global) -> Option<usize> {
-    for (i, (entries, change, wanted)) in CASES.iter().enumerate() {
-        if counts(&planned_over(alloc, entries, change)) != *wanted {
+    for (i, (entries, changes, wanted)) in CASES.iter().enumerate() {
+        if counts(&planned_over(alloc, entries, changes)) != *wanted {
             return Some(i);
         }
     }
@@ -413,10 +495,10 @@ type Units = (&'static [(u32, u32)], &'static [u32], &'static [u32]);
 
 const NO_UNITS: Units = (&[], &[], &[]);
 
-// What is planned of a change of rows: the units and the operations.
+// What is planned of operations over rows: the units and the row operations.
 struct Edit {
     entries: &'static [Entry],
-    change: &'static Change,
+    changes: &'static [Change],
     units: Units,
     ops: &'static [Row],
 }
@@ -452,41 +534,41 @@ const VALUES: &[Entry] = &[
     (b"M1.0_head\0a.\0.k", b"7"),
 ];
 
-// What is planned of a change of the values of `a`: it takes no unit.
-type OnValues = (Change, &'static [Row]);
+// What is planned of changes of the values of `a`: they take no unit.
+type OnValues = (&'static [Change], &'static [Row]);
 
-static ON_VALUES: [OnValues; 18] = [
+static ON_VALUES: [OnValues; 23] = [
     // An equal value is no operation. An empty one is a value.
-    (Change::SetAttr(b"x", b"1"), &[]),
-    (Change::SetAttr(b"y", b""), &[]),
-    (Change::SetAttr(b"x", b""), &[Row::Set(ATTR_X, b"")]),
-    (Change::SetAttr(b"y", b"2"), &[Row::Set(ATTR_Y, b"2")]),
-    (Change::RmAttr(b"x"), &[Row::Drop(ATTR_X)]),
-    (Change::RmAttr(b"z"), &[]),
-    (Change::RmAttrs, &[Row::Drop(ATTR_X), Row::Drop(ATTR_Y)]),
+    (&[Change::SetAttr(b"x", b"1")], &[]),
+    (&[Change::SetAttr(b"y", b"")], &[]),
+    (&[Change::SetAttr(b"x", b"")], &[Row::Set(ATTR_X, b"")]),
+    (&[Change::SetAttr(b"y", b"2")], &[Row::Set(ATTR_Y, b"2")]),
+    (&[Change::RmAttr(b"x")], &[Row::Drop(ATTR_X)]),
+    (&[Change::RmAttr(b"z")], &[]),
+    (&[Change::RmAttrs], &[Row::Drop(ATTR_X), Row::Drop(ATTR_Y)]),
     // Of two values for a key the later counts, also where it is the one that is there. They are set in the order of their keys.
     (
-        Change::OmapSet(&[(b"l", b"8"), (b"k", b"5"), (b"l", b"9"), (b"m", b"0")]),
+        &[Change::OmapSet(&[(b"l", b"8"), (b"k", b"5"), (b"l", b"9"), (b"m", b"0")])],
         &[
             Row::Set(PAIR_K, b"5"),
             Row::Set(PAIR_L, b"9"),
             Row::Set(b"M1.0_head\0a\0.m", b"0"),
         ],
     ),
-    (Change::OmapSet(&[(b"k", b"5"), (b"k", b"4")]), &[]),
+    (&[Change::OmapSet(&[(b"k", b"5"), (b"k", b"4")])], &[]),
     (
-        Change::OmapRm(&[b"l\xff", b"m", b"k", b"l\xff"]),
+        &[Change::OmapRm(&[b"l\xff", b"m", b"k", b"l\xff"])],
         &[Row::Drop(PAIR_K), Row::Drop(PAIR_LL)],
     ),
     // The end of a range stays.
     (
-        Change::OmapRmRange(b"k", b"l\xff"),
+        &[Change::OmapRmRange(b"k", b"l\xff")],
         &[Row::Drop(PAIR_K), Row::Drop(PAIR_L)],
     ),
-    (Change::OmapRmRange(b"l", b"l"), &[]),
-    (Change::OmapRmRange(b"l", b"k"), &[]),
+    (&[Change::OmapRmRange(b"l", b"l")], &[]),
+    (&[Change::OmapRmRange(b"l", b"k")], &[]),
     (
-        Change::OmapClear,
+        &[Change::OmapClear],
         &[
             Row::Drop(HEADER),
             Row::Drop(PAIR_K),
@@ -495,11 +577,11 @@ static ON_VALUES: [OnValues; 18] = [
         ],
     ),
     // An empty header is none.
-    (Change::OmapHeader(b""), &[Row::Drop(HEADER)]),
-    (Change::OmapHeader(b"h"), &[]),
-    (Change::OmapHeader(b"i"), &[Row::Set(HEADER, b"i")]),
+    (&[Change::OmapHeader(b"")], &[Row::Drop(HEADER)]),
+    (&[Change::OmapHeader(b"h")], &[]),
+    (&[Change::OmapHeader(b"i")], &[Row::Set(HEADER, b"i")]),
     (
-        Change::Remove,
+        &[Change::Remove],
         &[
             Row::Drop(ATTR_X),
             Row::Drop(ATTR_Y),
@@ -510,13 +592,61 @@ static ON_VALUES: [OnValues; 18] = [
             Row::Drop(ONODE_A),
         ],
     ),
+    // Of two operations that set a key the later counts, also where it sets the value that is there.
+    (
+        &[
+            Change::OmapSet(&[(b"l", b"8"), (b"k", b"5"), (b"l", b"9"), (b"m", b"0")]),
+            Change::OmapSet(&[(b"k", b"4")]),
+        ],
+        &[Row::Set(PAIR_L, b"9"), Row::Set(b"M1.0_head\0a\0.m", b"0")],
+    ),
+    // What the transaction set in a range goes too.
+    (
+        &[
+            Change::OmapSet(&[(b"kk", b"5"), (b"m", b"5")]),
+            Change::OmapRmRange(b"k", b"l\xff"),
+            Change::OmapRm(&[b"m", b"n"]),
+        ],
+        &[Row::Drop(PAIR_K), Row::Drop(PAIR_L)],
+    ),
+    // What is set again as it was is no operation.
+    (
+        &[
+            Change::OmapClear,
+            Change::OmapSet(&[(b"k", b"4"), (b"m", b"1")]),
+            Change::OmapHeader(b"h"),
+        ],
+        &[
+            Row::Drop(PAIR_L),
+            Row::Drop(PAIR_LL),
+            Row::Set(b"M1.0_head\0a\0.m", b"1"),
+        ],
+    ),
+    (
+        &[
+            Change::OmapHeader(b""),
+            Change::RmAttrs,
+            Change::SetAttr(b"x", b""),
+        ],
+        &[Row::Set(ATTR_X, b""), Row::Drop(ATTR_Y), Row::Drop(HEADER)],
+    ),
+    (
+        &[Change::Remove, Change::Touch, Change::SetAttr(b"y", b"")],
+        &[
+            Row::Drop(ATTR_X),
+            Row::Drop(HEADER),
+            Row::Drop(PAIR_K),
+            Row::Drop(PAIR_L),
+            Row::Drop(PAIR_LL),
+        ],
+    ),
 ];
 
-static EDITS: [Edit; 6] = [
+static EDITS: [Edit; 12] = [
     // The last byte of page 0.
     Edit {
         entries: THREE,
-        change: &Change::Write(4095, 1),
+        changes: &[Change::Write(4095, 1)],
         units: (&[(18, 0x0e828fae)], &[40], &[40]),
         ops: &[
             Row::Set(
@@ -529,7 +659,7 @@ static EDITS: [Edit; 6] = [
     // The same of page 1 and the first byte of page 2.
     Edit {
         entries: THREE,
-        change: &Change::Write(8191, 2),
+        changes: &[Change::Write(8191, 2)],
         units: (&[(18, 0x2608265b), (20, 0x2a537df2)], &[41, 42], &[41, 42]),
         ops: &[
             Row::Set(
@@ -542,7 +672,7 @@ static EDITS: [Edit; 6] = [
     // Zeros in pages 0 and 2, and over page 1.
     Edit {
         entries: THREE,
-        change: &Change::Zero(1000, 10000),
+        changes: &[Change::Zero(1000, 10000)],
         units: (
             &[(18, 0x40593537), (20, 0x71355987)],
             &[40, 41, 42],
@@ -559,7 +689,7 @@ static EDITS: [Edit; 6] = [
     // A cut in page 1.
     Edit {
         entries: THREE,
-        change: &Change::Truncate(5000),
+        changes: &[Change::Truncate(5000)],
         units: (&[(18, 0x065a6b5d)], &[41, 42], &[41]),
         ops: &[
             Row::Set(ONODE_A, b"\x88\x13\0\0\0\0\0\0"),
@@ -572,7 +702,7 @@ static EDITS: [Edit; 6] = [
     },
     Edit {
         entries: THREE,
-        change: &Change::Remove,
+        changes: &[Change::Remove],
         units: (&[], &[40, 41, 42], &[]),
         ops: &[
             Row::Drop(ONODE_A),
@@ -583,12 +713,95 @@ static EDITS: [Edit; 6] = [
     // The first of two shards stays as it is, and isn't set.
     Edit {
         entries: SIX,
-        change: &Change::Truncate(8192),
+        changes: &[Change::Truncate(8192)],
         units: (&[], &[50], &[]),
         ops: &[
             Row::Set(ONODE_A, b"\0\x20\0\0\0\0\0\0"),
             Row::Drop(SHARD_A5),
             Row::Flip(BITS, b"\0\0\0\0\0\0\x04\0\0\0\0\0\0\0\0\0"),
+        ],
+    },
+    // Page 0 is changed twice, and read once.
+    Edit {
+        entries: THREE,
+        changes: &[
+            Change::Write(4095, 1),
+            Change::Write(0, 1),
+            Change::Write(4096, 1),
+        ],
+        units: (&[(18, 0x6474f658), (20, 0x029ed80a)], &[40, 41], &[40, 41]),
+        ops: &[
+            Row::Set(
+                SHARD_A0,
+                b"\0\0\0\0\x01\0\0\x12\0\0\0\x58\xf6\x74\x64\x01\0\0\0\x01\0\0\x14\0\0\0\x0a\xd8\x9e\x02\x02\0\0\0\x01\0\0\x2a\0\0\0eeee",
+            ),
+            Row::Flip(BITS, b"\0\0\x14\0\0\x03\0\0\0\0\0\0\0\0\0\0"),
+        ],
+    },
+    // Unit 18 was taken, and no page stands on it.
+    Edit {
+        entries: THREE,
+        changes: &[
+            Change::Write(0, 4096),
+            Change::Zero(0, 4096),
+            Change::Write(0, 1),
+        ],
+        units: (&[(20, 0xde59aff1)], &[40], &[]),
+        ops: &[
+            Row::Set(
+                SHARD_A0,
+                b"\0\0\0\0\x01\0\0\x14\0\0\0\xf1\xaf\x59\xde\x01\0\0\0\x02\0\0\x29\0\0\0ddddeeee",
+            ),
+            Row::Flip(BITS, b"\0\0\x10\0\0\x01\0\0\0\0\0\0\0\0\0\0"),
+        ],
+    },
+    // Removed and made again.
+    Edit {
+        entries: THREE,
+        changes: &[
+            Change::Remove,
+            Change::Write(0, 1),
+            Change::SetAttr(b"x", b"1"),
+        ],
+        units: (&[(18, 0xde59aff1)], &[40, 41, 42], &[]),
+        ops: &[
+            Row::Set(ATTR_X, b"1"),
+            Row::Set(ONODE_A, b"\x01\0\0\0\0\0\0\0"),
+            Row::Set(SHARD_A0, b"\0\0\0\0\x01\0\0\x12\0\0\0\xf1\xaf\x59\xde"),
+            Row::Flip(BITS, b"\0\0\x04\0\0\x07\0\0\0\0\0\0\0\0\0\0"),
+        ],
+    },
+    // Made and removed.
+    Edit {
+        entries: MISSING,
+        changes: &[
+            Change::Write(0, 4096),
+            Change::SetAttr(b"x", b"1"),
+            Change::Remove,
+        ],
+        units: NO_UNITS,
+        ops: &[],
+    },
+    // The collection comes with an object.
+    Edit {
+        entries: &[],
+        changes: &[Change::MkColl, Change::Touch, Change::OmapHeader(b"h")],
+        units: NO_UNITS,
+        ops: &[
+            Row::Set(b"C1.0_head", b""),
+            Row::Set(HEADER, b"h"),
+            Row::Set(ONODE_A, b"\0\0\0\0\0\0\0\0"),
+        ],
+    },
+    // It goes and comes again.
+    Edit {
+        entries: THREE,
+        changes: &[Change::Remove, Change::RmColl, Change::MkColl],
+        units: (&[], &[40, 41, 42], &[]),
+        ops: &[
+            Row::Drop(ONODE_A),
+            Row::Drop(SHARD_A0),
+            Row::Flip(BITS, b"\0\0\0\0\0\x07\0\0\0\0\0\0\0\0\0\0"),
         ],
     },
 ];
@@ -600,15 +813,15 @@ fn is_plan(plan: &Plan, units: &Units, ops: &[Row]) -> bool {
         && are_rows(plan.ops.as_slice(), ops)
 }
 
-// Whether this is planned of a change.
+// Whether this is planned of operations.
 fn is_planned(
     alloc: Global,
     entries: &[Entry],
-    change: &Change,
+    changes: &[Change],
     units: &Units,
     ops: &[Row],
 ) -> bool {
-    match planned_over(alloc, entries, change) {
+    match planned_over(alloc, entries, changes) {
         Ok(plan) => is_plan(&plan, units, ops),
         Err(_) => false,
     }
@@ -617,17 +830,17 @@ fn is_planned(
 /// The place of the first edit of which something else is planned.
 pub fn first_wrong_edit(alloc: Global) -> Option<usize> {
     for (i, edit) in EDITS.iter().enumerate() {
-        if !is_planned(alloc, edit.entries, edit.change, &edit.units, edit.ops) {
+        if !is_planned(alloc, edit.entries, edit.changes, &edit.units, edit.ops) {
             return Some(i);
         }
     }
     None
 }
 
-/// The place of the first change of values of which something else is planned.
+/// The place of the first changes of values of which something else is planned.
 pub fn first_wrong_value(alloc: Global) -> Option<usize> {
-    for (i, (change, ops)) in ON_VALUES.iter().enumerate() {
-        if !is_planned(alloc, VALUES, change, &NO_UNITS, ops) {
+    for (i, (changes, ops)) in ON_VALUES.iter().enumerate() {
+        if !is_planned(alloc, VALUES, changes, &NO_UNITS, ops) {
             return Some(i);
         }
     }

@@ -22,7 +22,7 @@ use Rattle.row_format.proofs.Prelude.{same_head, same_place, same_shard, coll_no
 use Rattle.row_reading.proofs.KeyOrder.{after_front, has_front, lesser_page, onode_before}
 use Rattle.row_reading.proofs.Entries.{AreRows, all_rows, are_rows}
 use Rattle.store_image.specs.Prelude.{HasRow, HasShard, IsGoodRow, NoBadRow}
-use Rattle.object_rows.specs.Prelude.{Rise, AreShardsOf}
+use Rattle.draft_rows.specs.Prelude.{Rise, AreShardsOf}
 
 abbrev Entry : Type 0
 Entry = List ℕ × List ℕ

@@ -11,10 +11,10 @@ use Rattle.onode_codec.proofs.Again.{same_onode as same_size}
 use Rattle.store_image.specs.Prelude.{HasKey, HasOnode}
 use Rattle.store_image.proofs.Prelude.{in_place}
 use Rattle.blob_map.specs.Prelude.{PageMap, HasNumbers}
-use Rattle.object_rows.specs.Prelude.{AreShards, AreShardsOf, extents_in, first_pages}
+use Rattle.draft_rows.specs.Prelude.{AreShards, AreShardsOf, extents_in, first_pages}
 use Rattle.plan_rows.specs.Prelude.{IsMapOf, IsSizeOf, missing, there}
-use Rattle.object_rows.proofs.LayoutOf.{climb_ascends, keys_there, map_by_shards, onode_under as onode_found}
-use Rattle.object_rows.proofs.Shards.{shard_under, by_shards_numbers, by_shards_present, first_pages_climb}
+use Rattle.draft_rows.proofs.LayoutOf.{climb_ascends, keys_there, map_by_shards, onode_under as onode_found}
+use Rattle.draft_rows.proofs.Shards.{shard_under, by_shards_numbers, by_shards_present, first_pages_climb}
 use Rattle.onode_state.specs.Objects.{AreRowsOfAStore}
 use Rattle.onode_state.specs.Objects.{HasShards, IsSizeAt, IsStateOf}
 

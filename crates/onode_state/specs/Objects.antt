@@ -10,7 +10,7 @@ use Rattle.unit_fields.specs.declared.width.Width.{Width}
 use Rattle.row_format.specs.Prelude.{onode_key, shard_key, Extent}
 use Rattle.store_image.specs.Prelude.{HasKey, HasOnode, NoBadRow}
 use Rattle.blob_map.specs.Prelude.{PageMap, extent_pages, with_pages}
-use Rattle.object_rows.specs.Prelude.{AreShards, AreShardsOf, extents_in, first_pages}
+use Rattle.draft_rows.specs.Prelude.{AreShards, AreShardsOf, extents_in, first_pages}
 use Rattle.plan_rows.specs.Prelude.{Layout, HasLayout, or_empty, size_at}
 
 -- no row is bad, for the sizes of some superblock

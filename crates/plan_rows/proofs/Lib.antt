@@ -2,4 +2,3 @@ pub mod Alike
 pub mod Apart
 pub mod Agreeing
 pub mod OnData
-pub mod Reading

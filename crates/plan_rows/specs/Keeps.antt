@@ -1,5 +1,5 @@
 -- What each plan keeps and makes, whatever its operations are: all that is known of a plan above this crate.
-use Rattle.std.specs.Prelude.{◌≡◌, ◌⊎◌, ℕ, ◌≤◌, List, length, Contains, Ok}
+use Rattle.std.specs.Prelude.{◌≡◌, ◌⊎◌, ℕ, List, length, Contains, Ok}
 use Rattle.std.specs.List.{AllByRecursion}
 use Rattle.unit_fields.specs.Prelude.{Ascends}
 use Rattle.unit_fields.specs.declared.width.Width.{Width}
@@ -7,13 +7,10 @@ use Rattle.meta_rows.specs.Prelude.{Rows, rows_after, AllFit}
 use Rattle.meta_log.specs.declared.slot.Super.{Super}
 use Rattle.meta_log.specs.Prelude.{width_of}
 use Rattle.object_model.specs.Prelude.{Objects, Change, names_of, transaction_effect}
-use Rattle.row_format.specs.Prelude.{Place}
 use Rattle.store_image.specs.Prelude.{HasPage, NoBadRow, IsDataUnit, IsOwned, IsMarked, IsExactAs, IsShape, ObjectsStand}
-use Rattle.unit_allocator.specs.Prelude.{Space, free_units}
 use Rattle.plan_rows.specs.declared.plan.FreshUnit.{FreshUnit}
 use Rattle.plan_rows.specs.declared.plan.Plan.{Plan}
-use Rattle.plan_rows.specs.Plans.{IsKnown, AreFreeOver, Plans, HoldsFresh, StandsOnce, fresh_units, most_units}
-use Rattle.plan_rows.specs.Asks.{AsksFor}
+use Rattle.plan_rows.specs.Plans.{HoldsFresh, StandsOnce, fresh_units}
 use Rattle.plan_rows.specs.Names.{AgreeOn, AreOf, IsOwnedBy}
 
 -- no row is bad, and the bitmap is exactly the owned units and what is leaked
@@ -68,20 +65,3 @@ pub record PlanMakes (s : Super) (change : Change) (view : Rows) (plan : Plan) :
       → ObjectsStand (width_of s) at rows o → transaction_effect change o ≡ Ok after → HoldsRead at plan → HoldsFresh later_at plan
       → ((unit : ℕ) → HasPage (width_of s) rows unit → later_at unit ≡ at unit)
       → ObjectsStand (width_of s) later_at (rows_after rows plan.ops) after
-
--- The units that it takes are free, and no more than the transaction asks for at most.
-pub record PlanTakes (space : Space) (change : Change) (plan : Plan) : Type 0 where
-  pub free : AllByRecursion (λ u. Contains (free_units space) u) (fresh_units plan)
-  pub within : length plan.fresh ≤ most_units change.ops
-  pub few : most_units change.ops ≤ 1048576
-
--- So is each plan that the planner may make, over good rows and units that are free over them.
-abbrev pub PlansKeep : Type 0
-PlansKeep = (s : Super) (view : Rows) (space : Space) (change : Change) (plan : Plan) → IsGood s view → AreFreeOver s view space
-    → IsKnown change.ops → Plans (width_of s) change.coll change.ops view space plan
-    → PlanKeeps s (names_of change) view plan × (PlanMakes s change view plan × PlanTakes space change plan)
-
--- And what a transaction asks for is no more than its operations ask for at most, whatever the rows are.
-abbrev pub AsksAreFew : Type 0
-AsksAreFew = (w : Width) (change : Change) (rows : Rows) (need : ℕ) (places : List Place) → AsksFor w change rows need places
-    → need ≤ most_units change.ops

@@ -1,17 +1,13 @@
 -- The values of an object beside its bytes: its attributes, its omap header and the values of its omap's pairs; and what an operation makes of them.
-use Rattle.std.specs.Prelude.{◌≡◌, ◌⊎◌, ℕ, Bool, false, ◌||◌, List, [], ◌∷◌, Option, Some, None, if◌then◌else◌}
-use Rattle.std.specs.List.{list_any, AllByRecursion}
-use Rattle.std.specs.FinMap as finite
+use Rattle.std.specs.Prelude.{◌≡◌, ℕ, Bool, List, [], ◌∷◌, Option, Some, None, if◌then◌else◌}
+use Rattle.std.specs.List.{list_any}
 use Rattle.byte_maps.specs.ByteMap.{in_range}
 use Rattle.unit_fields.specs.Prelude.{IsName}
 use Rattle.object_model.specs.declared.op.Op.{Op}
 use Rattle.object_model.specs.declared.op.Op.TheVariants.{Remove, SetAttr, RmAttr, RmAttrs, OmapSet, OmapRm, OmapRmRange, OmapClear, OmapHeader}
 use Rattle.object_model.specs.declared.op.Pair.{Pair}
 use Rattle.object_model.specs.Prelude.{is_same}
-use Rattle.meta_rows.specs.Prelude.{Rows, rows_after}
-use Rattle.meta_rows.specs.declared.row_op.RowOp.{RowOp}
 use Rattle.row_format.specs.Prelude.{attr_key, header_key, omap_key}
-use Rattle.plan_rows.specs.Difference.{Changes, KeysAscend}
 
 -- what a value of an object is of: an attribute, the omap's header, or a pair of the omap
 pub data ValueKey : Type 0 where
@@ -64,14 +60,3 @@ value_after (OmapClear o) header old = None
 value_after (OmapClear o) (pair key) old = None
 value_after (OmapHeader o value) header old = not_empty value
 value_after op k old = old
-
--- The rows after: each value of the object is what the operation makes of it, and each row that is none is as it was.
-pub record GetsValues (op : Op) (rows after : Rows) (c o : List ℕ) : Type 0 where
-  pub own : (k : ValueKey) → IsValueKey k → finite.get after (value_key c o k) ≡ value_after op k (finite.get rows (value_key c o k))
-  pub others : (key : List ℕ) → IsKeyOfValue c o key ⊎ (finite.get after key ≡ finite.get rows key)
-
--- Operations that make of the object's values what the operation does, in the order of their keys, none of which could be left out.
-pub record ChangesValues (op : Op) (rows : Rows) (c o : List ℕ) (ops : List RowOp) : Type 0 where
-  pub in_order : KeysAscend ops
-  pub changes : AllByRecursion (Changes rows) ops
-  pub gets : GetsValues op rows (rows_after rows ops) c o

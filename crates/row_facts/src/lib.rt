@@ -2,7 +2,7 @@
 //!
 //! The laws are of no rows, of rows after a collection is made, of the objects that are there by the rows of their onodes, of the rows
 //! of attributes and omaps, and of the reply that the making of a collection gets. What comes of an object's onode and extents is in
-//! the crate `object_rows`, whose proofs stand on the lemmas here: of a row that is put in, of maps, and of objects under their names.
+//! the crate `draft_rows`, whose proofs stand on the lemmas here: of a row that is put in, of maps, and of objects under their names.
 #![tactic(auto)]
 
 mod laws;

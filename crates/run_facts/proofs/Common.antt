@@ -11,6 +11,6 @@ pub use Rattle.object_model.specs.declared.command.Command.{Command}
 pub use Rattle.meta_log.specs.Prelude.{width_of}
 pub use Rattle.meta_log.specs.declared.slot.Super.{Super}
 pub use Rattle.store_image.specs.Prelude.{IsDataUnit}
-pub use Rattle.plan_rows.specs.Prelude.{IsGood, IsKnown, PlansKeep}
+pub use Rattle.plan_drafts.specs.Prelude.{IsGood, IsKnown, PlansKeep}
 pub use Rattle.plan_rows.specs.declared.plan.Plan.{Plan}
 pub use Rattle.unit_allocator.specs.Prelude.{IsWithin, Space, free_units, given, given_one, is_free, taken, taken_one}

@@ -4,7 +4,7 @@ use Rattle.unit_fields.specs.declared.width.Width.{Width}
 use Rattle.run_facts.proofs.Common.{Disk, IsSuper, width_of, Super, Change, names_of, IsKnown, IsGood, PlansKeep}
 use Rattle.meta_rows.specs.Prelude.{Rows, rows_after}
 use Rattle.plan_rows.specs.declared.plan.Plan.{Plan}
-use Rattle.plan_rows.specs.Prelude.{AreFreeOver, Suits, OwnsItsUnits, PlanKeeps, PlanMakes, PlanTakes}
+use Rattle.plan_drafts.specs.Prelude.{AreFreeOver, Suits, OwnsItsUnits, PlanKeeps, PlanMakes, PlanTakes}
 use Rattle.selections.proofs.Selecting.{fair_all}
 use Rattle.store_steps.specs.Prelude.{State, context_of, Accepts, Intent, intent_of, intents, is_in, CanJoin, uncommitted, rows_part}
 use Rattle.space_facts.proofs.Prelude.{selection_good, free_over, free_joins}

@@ -9,7 +9,7 @@ ghost use Rattle.meta_log.specs.Prelude.{unit_count, active_unit, width_of};
 ghost use Rattle.object_model.specs.Prelude.{Change};
 ghost use Rattle.store_image.specs.Prelude.{HasPage};
 ghost use Rattle.plan_rows.specs.declared.plan.Plan.{Plan};
-ghost use Rattle.plan_rows.specs.Prelude.{PlansKeep, IsKnown};
+ghost use Rattle.plan_drafts.specs.Prelude.{PlansKeep, IsKnown};
 ghost use Rattle.object_model.specs.declared.command.Command.{Command};
 ghost use Rattle.object_model.specs.declared.command.Answer.{Answer};
 ghost use Rattle.unit_allocator.specs.Prelude.{Space, free_units};

@@ -1,11 +1,11 @@
 -- The lines of objects and of walks, one behind the other.
-use Rattle.std.proofs.Common.{◌≡◌, ◌≢◌, ℕ, List, [], ◌∷◌, ◌++◌, Bool, codes, refl, ap, subst, ◌∙◌, append_assoc, sym}
+use Rattle.std.proofs.Common.{◌≡◌, ◌≢◌, ℕ, List, [], ◌∷◌, ◌++◌, Bool, true, codes, refl, ap, subst, ◌∙◌, append_assoc, append-nil, sym}
 use Rattle.read_facts.specs.declared.view.CollView.{CollView}
 use Rattle.read_facts.specs.declared.view.ValueView.{ValueView}
 use Rattle.run_texts.specs.declared.work_end.WorkEnd.{WorkEnd}
 use Rattle.run_texts.specs.Prelude.{as_text, hex_text, value_line, value_lines, header_lines, walk_lines, has_bad_view, last_lines, dump_text}
-use Rattle.run_texts.specs.Prelude.{Output, Waiting, PrintedSoFar, Adds, DumpSoFar, nothing_dumped, AddsWalk}
-use Rattle.run_texts.proofs.Adding.{both, said, from_nothing}
+use Rattle.run_texts.specs.Prelude.{Output, TookFront, Waiting, HasStopped, PrintedSoFar, Adds, DumpSoFar, nothing_dumped, AddsWalk}
+use Rattle.run_texts.proofs.Adding.{both, said, from_nothing, stopped_in}
 use Rattle.run_texts.proofs.TextLemmas.{as_text-append}
 
 -- the text of values
@@ -40,3 +40,20 @@ whole_dump {text} {rest} {bad} {o1} {o2} colls end so_far start walked same note
     subst (λ (w : Waiting). Adds (as_text (last_lines (has_bad_view colls) end)) w rest o1 o2) same
     (said (ap (λ (b : Bool). as_text (last_lines b end)) (noted ∙ walked.noted)) last) in
     from_nothing refl (said (sym (as_text-append (walk_lines colls) (last_lines (has_bad_view colls) end))) (both walked.adds lines))
+
+-- where the sink has failed at the lines of a walk, it took a front of the whole text
+pub stopped_dump : (colls : List CollView) (end : WorkEnd) (so_far : DumpSoFar) (start now : Output) → AddsWalk colls nothing_dumped so_far start now
+    → so_far.text.failed ≡ true → TookFront (dump_text colls end) start now
+stopped_dump colls end so_far start now walked failed =
+    let walk : List ℕ = as_text (walk_lines colls) in
+    let last : List ℕ = as_text (last_lines (has_bad_view colls) end) in
+    let stopped : HasStopped start walk now =
+    subst (λ (b : Bool). PrintedSoFar b start walk so_far.text.bytes now) failed (from_nothing refl walked.adds) in
+    stopped_in start now (dump_text colls end) (record {
+      front = stopped.front;
+      rest = stopped.rest ++ last;
+      all = append-nil (dump_text colls end) ∙ as_text-append (walk_lines colls) (last_lines (has_bad_view colls) end)
+          ∙ ap (λ (t : List ℕ). t ++ last) stopped.all ∙ append_assoc stopped.front stopped.rest last;
+      written = stopped.written;
+      rose = stopped.rose;
+    })

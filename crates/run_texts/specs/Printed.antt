@@ -23,6 +23,10 @@ pub record TookFront (text : List ℕ) (old new : Output) : Type 0 where
   pub written : new.written ≡ with_bytes old.written (take count text)
   pub rose : Rose old.faults new.faults
 
--- the text was printed and the run has this end, or the sink failed and it has status 6
+-- the sink failed at the text, and the run has status 6
+abbrev pub FailedToPrint : List ℕ → ℕ → Output → Output → Type 0
+FailedToPrint text status old new = (status ≡ 6) × TookFront text old new
+
+-- the text was printed and the run has this end, or the sink failed
 abbrev pub Printed : ℕ → List ℕ → ℕ → Output → Output → Type 0
-Printed end text status old new = ((status ≡ end) × TookAll text old new) ⊎ ((status ≡ 6) × TookFront text old new)
+Printed end text status old new = ((status ≡ end) × TookAll text old new) ⊎ FailedToPrint text status old new

@@ -1,26 +1,29 @@
 -- What a run of `step` prints: a function of its book and its end.
-use Rattle.std.specs.Prelude.{ℕ, Bool, true, false, List, [], ◌∷◌, ◌++◌, Option, Some, None, codes, decimal}
+use Rattle.std.specs.Prelude.{ℕ, Bool, true, false, List, [], ◌∷◌, ◌++◌, codes, decimal}
 use Rattle.object_model.specs.declared.book.Book.{Book}
 use Rattle.run_texts.specs.declared.status.Stop.{Stop}
 use Rattle.run_texts.specs.declared.status.Stop.TheVariants as stop
 use Rattle.run_texts.specs.declared.work_end.WorkEnd.{WorkEnd}
-use Rattle.run_texts.specs.declared.work_end.WorkEnd.TheVariants.{Done, BadLine, NoSuper, BadRow, NotExact, WornOut, DeviceFault, OutOfMemory, BayFault}
-use Rattle.run_texts.specs.Status.{end_number}
+use Rattle.run_texts.specs.declared.work_end.WorkEnd.TheVariants.{Done, BadLine, NoSuper, BadRow, NotExact, WornOut, DeviceFault, OutOfMemory, BayFault, SinkFault}
+use Rattle.run_texts.specs.declared.status.Status.{Status}
+use Rattle.run_texts.specs.declared.status.Status.TheVariants as status
+use Rattle.run_texts.specs.Status.{number}
 use Rattle.run_texts.specs.Texts.{as_text, stopped_line}
 use Rattle.run_texts.specs.Replies.{reply_lines, done_line, has_csum}
 use Rattle.run_texts.specs.Hex.{hex_text}
 
--- what the run stopped for, if its work wasn't done
-abbrev pub stop_of : WorkEnd → Option Stop
-stop_of (Done free) = None
-stop_of (BadLine script n) = Some stop.BadScript
-stop_of NoSuper = Some stop.Refused
-stop_of (BadRow key) = Some stop.Refused
-stop_of (NotExact unit) = Some stop.Refused
-stop_of WornOut = Some stop.Refused
-stop_of DeviceFault = Some stop.DeviceFault
-stop_of OutOfMemory = Some stop.OutOfMemory
-stop_of BayFault = Some stop.BayFault
+-- how a run has ended whose work ended so, unless it has met a bad unit
+abbrev pub work_status : WorkEnd → Status
+work_status (Done free) = status.Done
+work_status (BadLine script n) = status.Stopped stop.BadScript
+work_status NoSuper = status.Stopped stop.Refused
+work_status (BadRow key) = status.Stopped stop.Refused
+work_status (NotExact unit) = status.Stopped stop.Refused
+work_status WornOut = status.Stopped stop.Refused
+work_status DeviceFault = status.Stopped stop.DeviceFault
+work_status OutOfMemory = status.Stopped stop.OutOfMemory
+work_status BayFault = status.Stopped stop.BayFault
+work_status SinkFault = status.SinkFault
 
 -- The first cause in time: a bad unit that was met comes before what ended the run.
 abbrev pub first_cause : Bool → Stop → Stop
@@ -30,7 +33,7 @@ first_cause false late = late
 -- a run that has met a bad unit, or not, has this status
 abbrev pub end_status : Bool → WorkEnd → ℕ
 end_status true end = 4
-end_status false end = end_number (stop_of end)
+end_status false end = number (work_status end)
 
 -- the exit status of a run of `step`
 abbrev pub step_number : Book → WorkEnd → ℕ
@@ -59,6 +62,7 @@ fail_lines bad WornOut = codes "mount WornOut" ∷ stopped_line stop.Refused ∷
 fail_lines bad DeviceFault = stopped_line (first_cause bad stop.DeviceFault) ∷ []
 fail_lines bad OutOfMemory = stopped_line (first_cause bad stop.OutOfMemory) ∷ []
 fail_lines bad BayFault = stopped_line (first_cause bad stop.BayFault) ∷ []
+fail_lines bad SinkFault = []
 
 -- the lines behind the replies
 abbrev pub end_lines : Book → WorkEnd → List (List ℕ)

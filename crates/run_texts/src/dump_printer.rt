@@ -1,15 +1,15 @@
 //! The text of `dump` on its way to a sink, object by object.
-ghost use Rattle.std.specs.Prelude.{◌≡◌, [], ◌∷◌, List, false};
+ghost use Rattle.std.specs.Prelude.{◌≡◌, [], ◌∷◌, List, true, false};
 ghost use Rattle.read_facts.specs.declared.view.CollView.{CollView};
 ghost use Rattle.run_texts.specs.Status.{number};
-ghost use Rattle.run_texts.specs.Printed.{Output, output};
-ghost use Rattle.run_texts.specs.DumpTexts.{object_lines, coll_lines, is_bad};
+ghost use Rattle.run_texts.specs.Printed.{Output, output, FailedToPrint};
+ghost use Rattle.run_texts.specs.DumpTexts.{object_lines, coll_lines, is_bad, dump_text};
 ghost use Rattle.run_texts.specs.Dumping.{nothing_dumped, AddsLines, AddsWalk};
 ghost use Rattle.run_texts.specs.Reports.{ReportsDump};
 
 use crate::dump_texts::{is_bad, push_coll, push_last, push_object};
 use crate::printer::Printer;
-use crate::reports::{print_rest, run_stop, status_of};
+use crate::reports::{print_rest, run_status};
 use crate::{Status, WorkEnd};
 use end_points::Sink;
 use read_facts::ObjectView;
@@ -60,13 +60,27 @@ impl DumpPrinter {
         self.bad |= is_bad(&view.sum);
     }
 
+    /// Whether the sink has failed, so that nothing more is printed.
+    pub fn has_failed(&self) -> bool
+        ensures { result ≡ self.now.text.failed }
+    {
+        self.text.has_failed()
+    }
+
     /// Adds the last lines of a run that ended so, prints what still waits, and says how the run has ended.
     pub fn report<K: Sink>(self, end: &WorkEnd, out: &mut K) -> Status
-        ensures { (start : Output) (colls : List CollView) → AddsWalk colls nothing_dumped self start (output (K.written out.old) (K.faults out.old)) →
+        ensures printed { (start : Output) (colls : List CollView) →
+            AddsWalk colls nothing_dumped self start (output (K.written out.old) (K.faults out.old)) →
             ReportsDump colls end.now (number result) start (output (K.written out.new) (K.faults out.new)) }
+        ensures failed { self.text.failed ≡ true → (start : Output) (colls : List CollView) →
+            AddsWalk colls nothing_dumped self start (output (K.written out.old) (K.faults out.old)) →
+            FailedToPrint (dump_text colls end.now) (number result) start (output (K.written out.new) (K.faults out.new)) }
     {
+        if self.has_failed() {
+            return Status::SinkFault;
+        }
         let mut text = self.text;
         push_last(&mut text, out, self.bad, end);
-        print_rest(text, out, status_of(run_stop(self.bad, end)))
+        print_rest(text, out, run_status(self.bad, end))
     }
 }

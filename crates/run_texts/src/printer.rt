@@ -51,6 +51,13 @@ impl Printer {
         }
     }
 
+    /// Whether the sink has failed.
+    pub fn has_failed(&self) -> bool
+        ensures { result ≡ self.now.failed }
+    {
+        self.failed
+    }
+
     /// Writes what waits, and says whether the sink has failed at it or before.
     fn write_waiting<K: Sink>(&self, out: &mut K) -> bool
         ensures { Adds [] self.now (record { bytes = []; failed = result })

@@ -17,7 +17,7 @@ use object_model::Book;
 use std::alloc::Global;
 
 /// How a run has ended whose work was done, or stopped for this.
-pub fn status_of(stop: Option<Stop>) -> Status
+fn status_of(stop: Option<Stop>) -> Status
     ensures { number result ≡ end_number stop }
 {
     match stop {
@@ -63,11 +63,15 @@ pub fn report_mkfs<K: Sink>(half: u32, units: u32, stop: Option<Stop>, out: &mut
     print_rest(text, out, status_of(stop))
 }
 
-/// What a run stopped for that has met a bad unit, or not, if its work wasn't done or the store showed a bad unit.
-pub fn run_stop(bad: bool, end: &WorkEnd) -> Option<Stop>
-    ensures { end_number result ≡ end_status bad end.now }
+/// How a run has ended that has met a bad unit, or not.
+pub fn run_status(bad: bool, end: &WorkEnd) -> Status
+    ensures { number result ≡ end_status bad end.now }
 {
-    if bad { Some(Stop::Refused) } else { end.stop() }
+    if bad {
+        Status::Stopped(Stop::Refused)
+    } else {
+        end.status()
+    }
 }
 
 /// Prints what came of a run of `step`, and says how the run has ended. Memory is taken for speed alone: where there is none,
@@ -78,8 +82,8 @@ pub fn report_step<K: Sink>(alloc: Global, book: &Book, end: &WorkEnd, out: &mut
 {
     let mut text = Printer::new();
     push_step(alloc, &mut text, out, book, end);
-    let stop = run_stop(has_csum(book.entries.as_slice()), end);
-    print_rest(text, out, status_of(stop))
+    let status = run_status(has_csum(book.entries.as_slice()), end);
+    print_rest(text, out, status)
 }
 
 /// Prints how the program is called.

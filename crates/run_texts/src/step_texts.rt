@@ -68,7 +68,7 @@ fn push_not_exact<K: Sink>(text: &mut Printer, out: &mut K, unit: u32)
 }
 
 /// Adds the last lines of a run that stopped before its work was done, and that has met a bad unit, or not: nothing, if it
-/// was done.
+/// was done or the sink has failed.
 pub fn push_fail<K: Sink>(text: &mut Printer, out: &mut K, bad: bool, end: &WorkEnd)
     ensures { Adds (as_text (fail_lines bad end.now)) text.old text.new
         (output (K.written out.old) (K.faults out.old)) (output (K.written out.new) (K.faults out.new)) }
@@ -83,6 +83,7 @@ pub fn push_fail<K: Sink>(text: &mut Printer, out: &mut K, bad: bool, end: &Work
         WorkEnd::DeviceFault => push_stopped(text, out, first_cause(bad, Stop::DeviceFault)),
         WorkEnd::OutOfMemory => push_stopped(text, out, first_cause(bad, Stop::OutOfMemory)),
         WorkEnd::BayFault => push_stopped(text, out, first_cause(bad, Stop::BayFault)),
+        WorkEnd::SinkFault => text.push_str(out, ""),
     }
 }
 

@@ -1,8 +1,8 @@
 //! How the work of a command that mounts a store ends.
 ghost use Rattle.std.specs.Prelude.{◌≡◌};
-ghost use Rattle.run_texts.specs.StepTexts.{stop_of};
+ghost use Rattle.run_texts.specs.StepTexts.{work_status};
 
-use crate::Stop;
+use crate::{Status, Stop};
 use byte_maps::Bytes;
 
 /// How the work of `step` or of `dump` ended, before anything of it was printed.
@@ -38,23 +38,26 @@ pub enum WorkEnd {
     OutOfMemory,
     /// The bay failed, or the source of a script did.
     BayFault,
+    /// The sink failed, and the walk went no further.
+    SinkFault,
 }
 
 impl WorkEnd {
-    /// What the run stopped for, if its work wasn't done.
-    pub fn stop(&self) -> Option<Stop>
-        ensures { result ≡ stop_of self.now }
+    /// How a run has ended whose work ended so, unless it has met a bad unit.
+    pub fn status(&self) -> Status
+        ensures { result ≡ work_status self.now }
     {
         match self {
-            WorkEnd::Done { .. } => None,
-            WorkEnd::BadLine { .. } => Some(Stop::BadScript),
+            WorkEnd::Done { .. } => Status::Done,
+            WorkEnd::BadLine { .. } => Status::Stopped(Stop::BadScript),
             WorkEnd::NoSuper
             | WorkEnd::BadRow { .. }
             | WorkEnd::NotExact { .. }
-            | WorkEnd::WornOut => Some(Stop::Refused),
-            WorkEnd::DeviceFault => Some(Stop::DeviceFault),
-            WorkEnd::OutOfMemory => Some(Stop::OutOfMemory),
-            WorkEnd::BayFault => Some(Stop::BayFault),
+            | WorkEnd::WornOut => Status::Stopped(Stop::Refused),
+            WorkEnd::DeviceFault => Status::Stopped(Stop::DeviceFault),
+            WorkEnd::OutOfMemory => Status::Stopped(Stop::OutOfMemory),
+            WorkEnd::BayFault => Status::Stopped(Stop::BayFault),
+            WorkEnd::SinkFault => Status::SinkFault,
         }
     }
 }

@@ -744,7 +744,7 @@ write_say coll object off holds c o n bytes what is named names offset spelled s
         whole = refl;
         about = record { object_word = object; off_word = off; data_word = holds; words = refl; names = names; offset = offset; holds = spelled };
       },
-      tt,
+      (tt, tt),
     )
 
 -- a line of `write` has four words behind it

@@ -12,6 +12,8 @@ pub mod ReadForms
 pub mod ValueForms
 pub mod Lists
 pub mod Scripts
+pub mod Parsing
+pub mod Groups
 pub mod Lines
 pub mod Readers
 pub mod Sources

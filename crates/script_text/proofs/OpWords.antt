@@ -14,7 +14,7 @@ use Rattle.script_text.proofs.DataWords.{same_data}
 pub known_args : (op : Op) (args : List (List ℕ)) → AreArgs args op → IsKnownChange (op ∷ [])
 known_args (Clone o to) args are = absurd are
 known_args (CloneRange o to src len dst) args are = absurd are
-known_args op args are = tt
+known_args op args are = (tt, tt)
 
 -- ---- the operation of a word
 

@@ -1,49 +1,50 @@
 -- What a reader keeps.
 use Rattle.std.proofs.Common.{◌≡◌, ◌≢◌, inl, inr, ℕ, ◌+◌, ◌<◌, ◌≤◌, Bool, true, false, List, [], ◌∷◌, ◌++◌}
 use Rattle.std.proofs.Common.{length, Option, Some, None, MatchOption, refl, sym, ap, subst, ◌∙◌, arith, append_assoc, append-nil, length-append}
-use Rattle.std.specs.Prelude.{is_some, OnOk, Result, Ok, Err}
-use Rattle.script_text.specs.Prelude.{HasNo, IsLineOf, IsPassedOver, command_count, script_limit, line_limit, lines_of, ended, kept_behind, AreGood, IsScript, IsOutside, IsBadAt, HasSaid, IsBadBehind, Ends, IsWithin, IsAfter, Takes, HasTaken, IsDone, ends_in_wait}
+use Rattle.std.specs.Prelude.{is_some, IsSome, IsNone, OnOk, Result, Ok, Err}
+use Rattle.script_text.specs.Prelude.{HasNo, script_limit, line_limit, lines_of, ended, Says, Parse, next, AreGood, IsScript, IsOutside, IsBadAt, Becomes, IsBadBehind, Ends, IsWithin, IsAfter, Takes, HasTaken, AreAllGood, IsAtEnd}
+use Rattle.script_text.specs.declared.grammar.Statement.{Statement}
 use Rattle.script_text.specs.declared.line.Line.{Line}
-use Rattle.script_text.specs.declared.line.What.{What}
 use Rattle.script_text.specs.declared.reader.Reader.{Reader}
 use Rattle.script_text.proofs.Splits.{has_no-append}
-use Rattle.script_text.proofs.Scripts.{good-push, kept_none, kept_some, length_says, commands-append}
+use Rattle.script_text.proofs.Scripts.{good-push}
 use Rattle.script_text.proofs.Lines.{lines_behind, lines_of_ended, lines_of_last, first_line, ended-push, feeds-push}
 
-pub kept_passed : (texts : List (List ℕ)) (text : List ℕ) (lines : List Line) (room : ℕ) → HasSaid texts lines room → length text ≤ line_limit
-    → IsPassedOver text → HasSaid (texts ++ (text ∷ [])) lines room
-kept_passed texts text lines room has le passed = record {
-  said = has.said ++ (None ∷ []);
-  good = good-push texts text has.said None has.good passed le (omega (arith, has.left));
-  numbers = has.numbers ∙ sym (kept_none has.said);
-  left = omega (arith, has.left, commands-append has.said (None ∷ []));
-}
+-- ---- a line more
 
-pub kept_line : (texts : List (List ℕ)) (text : List ℕ) (old new : List Line) (room left n : ℕ) (what : What) → HasSaid texts old room
-    → length text ≤ line_limit → IsLineOf text what
-    → left + command_count what ≡ room → n ≡ length texts + 1 → new ≡ old ++ kept_behind (ends_in_wait false old) (record { line = n; what = what })
-    → HasSaid (texts ++ (text ∷ [])) new left
-kept_line texts text old new room left n what has le line rest number pushed = record {
-  said = has.said ++ (Some what ∷ []);
-  good = good-push texts text has.said (Some what) has.good line le (omega (arith, has.left, rest));
-  numbers = pushed ∙ ap (λ (l : List Line). l ++ kept_behind (ends_in_wait false l) (record { line = n; what = what })) has.numbers
-      ∙ sym (kept_some n has.said what (omega (arith, number, length_says texts has.said has.good.says)));
-  left = omega (arith, has.left, rest, commands-append has.said (Some what ∷ []));
-}
+-- a line that was read, by what becomes of it
+pub line_goes : (texts : List (List ℕ)) (text : List ℕ) (p q : Parse) (n : ℕ) (s : Statement) → AreGood texts p → length text ≤ line_limit → Says text s
+    → n ≡ length texts + 1 → Becomes (next n p s) true q → AreGood (texts ++ (text ∷ [])) q
+line_goes texts text p q n s good le says number becomes =
+    good-push texts text p q s good says le (ap (λ (k : ℕ). next k p s) (sym number) ∙ by (next n p s) becomes)
+  where
+    by : (o : Option Parse) → Becomes o true q → o ≡ Some q
+    by None becomes = let never : true ≡ false = becomes in cc
+    by (Some r) becomes = ap (λ (x : Parse). Some x) (sym becomes.1)
 
-pub bad_line : (texts : List (List ℕ)) (text : List ℕ) (lines : List Line) (room n : ℕ) (what : What) → HasSaid texts lines room → IsLineOf text what
-    → room < command_count what → n ≡ length texts + 1
-    → IsBadBehind texts text n
-bad_line texts text lines room n what has line few number = record {
-  said = has.said;
-  good = has.good;
+pub line_misplaced : (texts : List (List ℕ)) (text : List ℕ) (p q : Parse) (n : ℕ) (s : Statement) → AreGood texts p → Says text s
+    → n ≡ length texts + 1 → Becomes (next n p s) false q → IsBadBehind texts text n
+line_misplaced texts text p q n s good says number becomes = record {
+  parse = p;
+  good = good;
   number = number;
-  bad = inr (record { what = what; line = line; full = omega (arith, has.left, few) });
+  bad = inr (record { statement = s; says = says; unfit = ap (λ (k : ℕ). next k p s) (sym number) ∙ by (next n p s) becomes });
 }
+  where
+    by : (o : Option Parse) → Becomes o false q → o ≡ None
+    by None becomes = refl
+    by (Some r) becomes = let never : false ≡ true = becomes.0 in absurd cc
 
-pub bad_outside : (texts : List (List ℕ)) (text : List ℕ) (lines : List Line) (room n : ℕ) → HasSaid texts lines room → IsOutside text → n ≡ length texts + 1
+pub line_outside : (texts : List (List ℕ)) (text : List ℕ) (p : Parse) (n : ℕ) → AreGood texts p → IsOutside text → n ≡ length texts + 1
     → IsBadBehind texts text n
-bad_outside texts text lines room n has outside number = record { said = has.said; good = has.good; number = number; bad = inl outside }
+line_outside texts text p n good outside number = record { parse = p; good = good; number = number; bad = inl outside }
+
+-- nothing is bad, and the line is kept
+pub kept_good : (texts : List (List ℕ)) (text : List ℕ) (r new : Reader) → new ≡ r → r.bad ≡ None → AreGood (texts ++ (text ∷ [])) r.parser
+    → MatchOption new.bad (AreGood (texts ++ (text ∷ [])) new.parser) (IsBadBehind texts text)
+kept_good texts text r new is none good =
+    subst (λ (x : Reader). MatchOption x.bad (AreGood (texts ++ (text ∷ [])) x.parser) (IsBadBehind texts text)) (sym is)
+    (subst (λ (o : Option ℕ). MatchOption o (AreGood (texts ++ (text ∷ [])) r.parser) (IsBadBehind texts text)) (sym none) good)
 
 -- ---- the bytes that a reader has taken
 
@@ -66,26 +67,26 @@ ended_size bytes r w = ap length w.whole ∙ length-append (ended w.texts) r.tex
 -- a line that is bad by itself or as a command
 pub bad_behind : (bytes whole text : List ℕ) (behind : List (List ℕ)) (r : Reader) (n : ℕ) (w : IsWithin bytes r)
     → lines_of whole ≡ w.texts ++ (text ∷ behind) → IsBadBehind w.texts text n → IsBadAt whole n
-bad_behind bytes whole text behind r n w lines bad = record {
+bad_behind bytes whole text behind r n w lines bad = inl (record {
   front = w.texts;
   text = text;
   behind = behind;
   lines = lines;
   number = bad.number;
-  said = bad.said;
+  parse = bad.parse;
   good = bad.good;
   within = omega (arith, ended_size bytes r w, w.small);
-  bad = elim bad.bad [ inl outside ↦ inl outside | inr many ↦ inr (inr (inl many)) ];
-}
+  bad = elim bad.bad [ inl outside ↦ inl outside | inr misplaced ↦ inr (inr (inl misplaced)) ];
+})
 
 -- a line feed
 fed : (bytes : List ℕ) (old new : Reader) (w : IsWithin bytes old) → length (bytes ++ (10 ∷ [])) ≤ script_limit → new.text.items ≡ []
     → new.count ≡ old.count + 1 → (o : Option ℕ)
-    → MatchOption o (HasSaid (w.texts ++ (old.text.items ∷ [])) new.lines.items new.commands_left) (IsBadBehind w.texts old.text.items)
+    → MatchOption o (AreGood (w.texts ++ (old.text.items ∷ [])) new.parser) (IsBadBehind w.texts old.text.items)
     → MatchOption o (IsWithin (bytes ++ (10 ∷ [])) new) (λ n. (more : List ℕ) → IsBadAt (bytes ++ (10 ∷ []) ++ more) n)
-fed bytes old new w small empty count None has = record {
+fed bytes old new w small empty count None good = record {
   texts = w.texts ++ (old.text.items ∷ []);
-  has_said = has;
+  good = good;
   count = count ∙ omega (arith, w.count, length-append w.texts (old.text.items ∷ []));
   whole = ap (λ (l : List ℕ). l ++ (10 ∷ [])) w.whole ∙ append_assoc (ended w.texts) old.text.items (10 ∷ []) ∙ sym (ended-push w.texts old.text.items)
       ∙ sym (append-nil (ended (w.texts ++ (old.text.items ∷ [])))) ∙ ap (λ (l : List ℕ). ended (w.texts ++ (old.text.items ∷ [])) ++ l) (sym empty);
@@ -103,7 +104,7 @@ pub takes_feed : (old new : Reader) → old.bad ≡ None → new.text.items ≡ 
     → Takes (10 ∷ []) old new
 takes_feed old new none empty count ends bytes small after =
     let w = is_within bytes old none after in
-    fed bytes old new w small empty count new.bad (ends w.texts old.text.items w.has_said w.count none w.short refl)
+    fed bytes old new w small empty count new.bad (ends w.texts old.text.items w.good w.count none w.short refl)
 
 -- bytes that make the line too long
 pub too_long : (bytes piece : List ℕ) (r : Reader) → r.bad ≡ None → HasNo 10 piece → line_limit < length r.text.items + length piece → IsAfter bytes r
@@ -114,18 +115,18 @@ too_long bytes piece r none feeds long after more =
     let size : length line ≡ length r.text.items + length piece = length-append r.text.items piece in
     let some : line ++ more ≢ [] = λ is. absurd (omega (arith, size, long, length-append line more, ap length is)) in
     let first = first_line line more (has_no-append 10 r.text.items piece w.unended feeds) some in
-    record {
+    inl (record {
       front = w.texts;
       text = first.text;
       behind = first.behind;
-      said = w.has_said.said;
-      good = w.has_said.good;
+      parse = r.parser;
+      good = w.good;
       lines = ap (λ (l : List ℕ). lines_of l) (append_assoc bytes piece more) ∙ lines_with bytes (piece ++ more) r w
           ∙ ap (λ (l : List ℕ). w.texts ++ lines_of l) (sym (append_assoc r.text.items piece more)) ∙ ap (λ (l : List (List ℕ)). w.texts ++ l) first.whole;
       number = omega (arith, w.count);
       within = omega (arith, ended_size bytes r w, w.small);
       bad = inr (inl (omega (arith, size, long, first.longer)));
-    }
+    })
 
 -- a byte past the limit
 pub past_limit : (bytes piece : List ℕ) (r : Reader) → r.bad ≡ None → length bytes ≡ script_limit → 0 < length piece → IsAfter bytes r → (more : List ℕ)
@@ -136,12 +137,12 @@ past_limit bytes piece r none full byte after more =
     let size : length rest ≡ length piece + length more = length-append piece more in
     let some : r.text.items ++ rest ≢ [] = λ is. absurd (omega (arith, size, byte, length-append r.text.items rest, ap length is)) in
     let first = first_line r.text.items rest w.unended some in
-    record {
+    inl (record {
       front = w.texts;
       text = first.text;
       behind = first.behind;
-      said = w.has_said.said;
-      good = w.has_said.good;
+      parse = r.parser;
+      good = w.good;
       lines = ap (λ (l : List ℕ). lines_of l) (append_assoc bytes piece more) ∙ lines_with bytes rest r w
           ∙ ap (λ (l : List (List ℕ)). w.texts ++ l) first.whole;
       number = omega (arith, w.count);
@@ -150,7 +151,7 @@ past_limit bytes piece r none full byte after more =
         larger = omega (arith, full, byte, length-append (bytes ++ piece) more, length-append bytes piece);
         holds = omega (arith, full, ended_size bytes r w, first.longer);
       })));
-    }
+    })
 
 -- two pieces, one after the other
 pub takes_both : (a b : List ℕ) (r s t : Reader) → Takes a r s → Takes b s t → Takes (a ++ b) r t
@@ -183,41 +184,61 @@ taken_all piece rest old r s so_far takes =
 
 -- ---- the end of a script
 
-pub done_bad : (bytes : List ℕ) (lines : List Line) (W : Type 0) (o : Option ℕ) (r : Bool) → r ≡ is_some o → r ≡ true
-    → MatchOption o W (λ n. (more : List ℕ) → IsBadAt (bytes ++ more) n) → IsDone bytes lines o
-done_bad bytes lines W None r is test after = let never : false ≡ true = sym is ∙ test in absurd (cc)
-done_bad bytes lines W (Some n) r is test after = subst (λ (l : List ℕ). IsBadAt l n) (append-nil bytes) (after [])
+pub done_bad : (bytes : List ℕ) (W V : Type 0) (o : Option ℕ) (r : Bool) → r ≡ is_some o → r ≡ true
+    → MatchOption o W (λ n. (more : List ℕ) → IsBadAt (bytes ++ more) n) → MatchOption o V (IsBadAt bytes)
+done_bad bytes W V None r is test after = let never : false ≡ true = sym is ∙ test in absurd (cc)
+done_bad bytes W V (Some n) r is test after = subst (λ (l : List ℕ). IsBadAt l n) (append-nil bytes) (after [])
 
-script_of : (bytes : List ℕ) (texts : List (List ℕ)) (lines : List Line) (room : ℕ) → lines_of bytes ≡ texts → HasSaid texts lines room
-    → length bytes ≤ script_limit → IsScript bytes lines
-script_of bytes texts lines room is has small = record {
-  said = has.said;
-  good = subst (λ (l : List (List ℕ)). AreGood l has.said) (sym is) has.good;
-  numbers
-      = has.numbers;
-  small = small;
-}
-
-pub done_ended : (bytes : List ℕ) (r : Reader) → r.bad ≡ None → r.text.items ≡ [] → IsAfter bytes r → IsDone bytes r.lines.items r.bad
+pub done_ended : (bytes : List ℕ) (r : Reader) → r.bad ≡ None → r.text.items ≡ [] → IsAfter bytes r → IsAtEnd bytes r
 done_ended bytes r none empty after =
     let w = is_within bytes r none after in
     let lines : lines_of bytes ≡ w.texts =
     ap (λ (l : List ℕ). lines_of l) (sym (append-nil bytes)) ∙ lines_with bytes [] r w ∙ ap (λ (l : List ℕ). w.texts ++ lines_of (l ++ [])) empty
     ∙ append-nil w.texts in
-    subst (λ (o : Option ℕ). IsDone bytes r.lines.items o) (sym none) (script_of bytes w.texts r.lines.items r.commands_left lines w.has_said w.small)
+    subst (λ (o : Option ℕ). MatchOption o (AreAllGood bytes r) (IsBadAt bytes)) (sym none) (record {
+      good = subst (λ (l : List (List ℕ)). AreGood l r.parser) (sym lines) w.good;
+      count = w.count ∙ ap length (sym lines);
+      small = w.small;
+    })
 
-done_by : (bytes : List ℕ) (old new : Reader) (w : IsWithin bytes old) → lines_of bytes ≡ w.texts ++ (old.text.items ∷ []) → (o : Option ℕ)
-    → MatchOption o (HasSaid (w.texts ++ (old.text.items ∷ [])) new.lines.items new.commands_left) (IsBadBehind w.texts old.text.items)
-    → IsDone bytes new.lines.items o
-done_by bytes old new w lines None has = script_of bytes (w.texts ++ (old.text.items ∷ [])) new.lines.items new.commands_left lines has w.small
-done_by bytes old new w lines (Some n) bad = bad_behind bytes bytes old.text.items [] old n w lines bad
+done_by : (bytes : List ℕ) (old new : Reader) (w : IsWithin bytes old) → lines_of bytes ≡ w.texts ++ (old.text.items ∷ []) → new.count ≡ old.count + 1
+    → (o : Option ℕ) → MatchOption o (AreGood (w.texts ++ (old.text.items ∷ [])) new.parser) (IsBadBehind w.texts old.text.items)
+    → MatchOption o (AreAllGood bytes new) (IsBadAt bytes)
+done_by bytes old new w lines count None good = record {
+  good = subst (λ (l : List (List ℕ)). AreGood l new.parser) (sym lines) good;
+  count = omega (arith, count, w.count, ap length lines, length-append w.texts (old.text.items ∷ []));
+  small = w.small;
+}
+done_by bytes old new w lines count (Some n) bad = bad_behind bytes bytes old.text.items [] old n w lines bad
 
-pub done_last : (bytes : List ℕ) (old new : Reader) → old.bad ≡ None → old.text.items ≢ [] → Ends (λ text. text ≡ old.text.items) old new → IsAfter bytes old
-    → IsDone bytes new.lines.items new.bad
-done_last bytes old new none some ends after =
+pub done_last : (bytes : List ℕ) (old new : Reader) → old.bad ≡ None → old.text.items ≢ [] → new.count ≡ old.count + 1
+    → Ends (λ text. text ≡ old.text.items) old new → IsAfter bytes old → IsAtEnd bytes new
+done_last bytes old new none some count ends after =
     let w = is_within bytes old none after in
     let lines : lines_of bytes ≡ w.texts ++ (old.text.items ∷ []) =
     ap (λ (l : List ℕ). lines_of l) (sym (append-nil bytes)) ∙ lines_with bytes [] old w
     ∙ ap (λ (l : List ℕ). w.texts ++ lines_of l) (append-nil old.text.items)
     ∙ ap (λ (l : List (List ℕ)). w.texts ++ l) (lines_of_last old.text.items w.unended some) in
-    done_by bytes old new w lines new.bad (ends w.texts old.text.items w.has_said w.count none w.short refl)
+    done_by bytes old new w lines count new.bad (ends w.texts old.text.items w.good w.count none w.short refl)
+
+-- ---- what the end says
+
+pub all_good : (bytes : List ℕ) (r : Reader) → r.bad ≡ None → IsAtEnd bytes r → AreAllGood bytes r
+all_good bytes r none end = subst (λ (o : Option ℕ). MatchOption o (AreAllGood bytes r) (IsBadAt bytes)) none end
+
+pub bad_at : (bytes : List ℕ) (n : ℕ) (r : Reader) → r.bad ≡ Some n → IsAtEnd bytes r → IsBadAt bytes n
+bad_at bytes n r some end = subst (λ (o : Option ℕ). MatchOption o (AreAllGood bytes r) (IsBadAt bytes)) some end
+
+pub script_of : (bytes : List ℕ) (r : Reader) (lines : List Line) → AreAllGood bytes r → IsNone r.parser.block → lines ≡ r.parser.lines
+    → IsScript bytes lines
+script_of bytes r lines good ended said = record {
+  parse = r.parser;
+  good = good.good;
+  said = said;
+  ended = none_of r.parser.block false (sym ended) refl;
+  small = good.small;
+}
+
+pub unended_at : (bytes : List ℕ) (r : Reader) (n : ℕ) → AreAllGood bytes r → IsSome r.parser.block → n ≡ r.count + 1 → IsBadAt bytes n
+unended_at bytes r n good unended number =
+    inr (record { parse = r.parser; good = good.good; unended = unended; small = good.small; number = omega (arith, number, good.count) })

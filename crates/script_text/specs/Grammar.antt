@@ -297,10 +297,10 @@ IsKnownChangeOp (Clone object to) = ⊥
 IsKnownChangeOp (CloneRange object to src len dst) = ⊥
 IsKnownChangeOp op = Unit {0}
 
--- the transactions that it can do so far, each of one operation
+-- the transactions that it can do so far
 abbrev pub IsKnownChange : List Op → Type 0
-IsKnownChange (op ∷ []) = IsKnownChangeOp op
-IsKnownChange ops = ⊥
+IsKnownChange [] = ⊥
+IsKnownChange (op ∷ ops) = IsKnownChangeOp op × AllByRecursion IsKnownChangeOp ops
 
 -- what the kernel can do so far, and each read: any other line is a bad one
 abbrev pub FitsWhat : What → Type 0

@@ -1,5 +1,6 @@
 pub mod Grammar
 pub mod Kept
+pub mod Blocks
 pub mod Script
 pub mod Reading
 pub mod Prelude

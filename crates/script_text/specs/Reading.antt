@@ -3,14 +3,13 @@ use Rattle.std.specs.Prelude.{◌≡◌, ◌≢◌, ◌⊎◌, slice_index, code
 use Rattle.std.specs.List.{AllByRecursion}
 use Rattle.unit_fields.specs.Prelude.{IsCollName}
 use Rattle.object_model.specs.declared.op.Pair.{Pair}
-use Rattle.script_text.specs.Grammar.{HasNo, in_words, IsNameWord, IsDataWord, AreRangeArgs, AreSizeArgs, AreNameArgs, AreDataArgs, AreAttrArgs, AreKeyRangeArgs, AreKeysArgs, ArePairsArgs, AreKeyWords, ArePairWords, AreWordsOf, FitsWhat, IsLineOf, IsPassedOver, is_wait}
-use Rattle.script_text.specs.Script.{script_limit, line_limit, command_limit, ended, commands, kept_lines}
-use Rattle.script_text.specs.Script.{AreGood, IsOutside, IsOneTooMany, IsScript, IsBadAt, IsTextOf}
+use Rattle.script_text.specs.Grammar.{HasNo, in_words, IsNameWord, IsDataWord, AreRangeArgs, AreSizeArgs, AreNameArgs, AreDataArgs, AreAttrArgs, AreKeyRangeArgs, AreKeysArgs, ArePairsArgs, AreKeyWords, ArePairWords, AreWordsOf, FitsWhat, IsLineOf}
+use Rattle.script_text.specs.Blocks.{Says, Parse}
+use Rattle.script_text.specs.Script.{script_limit, line_limit, lines_of, ended}
+use Rattle.script_text.specs.Script.{AreGood, IsOutside, IsMisplaced, IsBadAt, IsTextOf}
 use Rattle.script_text.specs.declared.fail.ScriptFail.{ScriptFail}
 use Rattle.script_text.specs.declared.fail.ScriptFail.TheVariants as fail
-use Rattle.script_text.specs.declared.grammar.Reading.{Reading}
-use Rattle.script_text.specs.declared.grammar.Reading.TheVariants as reading
-use Rattle.script_text.specs.declared.line.Line.{Line}
+use Rattle.script_text.specs.declared.grammar.Statement.{Statement}
 use Rattle.script_text.specs.declared.line.What.{What}
 use Rattle.script_text.specs.declared.reader.Reader.{Reader}
 use Rattle.block_device.specs.declared.device.Failed.{Failed}
@@ -119,42 +118,33 @@ pub record IsLaterWord (word : List ℕ) : Type 0 where
   pub no_stat : word ≢ codes "stat"
   pub no_list : word ≢ codes "list"
 
--- what a line was found to be
-abbrev pub IsReading : List ℕ → Reading → Type 0
-IsReading text reading.PassedOver = IsPassedOver text
-IsReading text (reading.Says what) = IsLineOf text what
-IsReading text reading.Outside = IsOutside text
+-- what a line was found to be; None where it is outside the grammar
+abbrev pub IsReading : List ℕ → Option Statement → Type 0
+IsReading text found = MatchOption found (IsOutside text) (Says text)
 
--- the last of these lines is a `wait`; where there is none, the one before them is
-abbrev pub ends_in_wait : Bool → List Line → Bool
-ends_in_wait waits [] = waits
-ends_in_wait waits (l ∷ ls) = ends_in_wait (is_wait l.what) ls
+-- where something fits, this is what is there now
+abbrev pub Becomes : Option Parse → Bool → Parse → Type 0
+Becomes None fits new = fits ≡ false
+Becomes (Some p) fits new = (fits ≡ true) × (new ≡ p)
 
--- the texts are good, give these lines, and leave room for so many commands
-pub record HasSaid (texts : List (List ℕ)) (lines : List Line) (room : ℕ) : Type 0 where
-  pub said : List (Option What)
-  pub good : AreGood texts said
-  pub numbers : lines ≡ kept_lines said
-  pub left : room + commands said ≡ command_limit
-
--- the text behind these is the first bad line, by itself or as a command
+-- the text behind these is the first bad line, by itself or as one that can't stand there
 pub record IsBadBehind (texts : List (List ℕ)) (text : List ℕ) (n : ℕ) : Type 0 where
-  pub said : List (Option What)
-  pub good : AreGood texts said
+  pub parse : Parse
+  pub good : AreGood texts parse
   pub number : n ≡ length texts + 1
-  pub bad : IsOutside text ⊎ IsOneTooMany said text
+  pub bad : IsOutside text ⊎ IsMisplaced texts parse text
 
 -- where the texts so far were good, one more that has P is kept, or is the bad one
 abbrev pub Ends : (List ℕ → Type 0) → Reader → Reader → Type 0
-Ends P old new = (texts : List (List ℕ)) (text : List ℕ) → HasSaid texts old.lines.items old.commands_left
+Ends P old new = (texts : List (List ℕ)) (text : List ℕ) → AreGood texts old.parser
     → old.count ≡ length texts → old.bad ≡ None
     → length text ≤ line_limit → P text
-    → MatchOption new.bad (HasSaid (texts ++ (text ∷ [])) new.lines.items new.commands_left) (IsBadBehind texts text)
+    → MatchOption new.bad (AreGood (texts ++ (text ∷ [])) new.parser) (IsBadBehind texts text)
 
 -- the bytes are good lines, and a last one that isn't ended
 pub record IsWithin (bytes : List ℕ) (r : Reader) : Type 0 where
   pub texts : List (List ℕ)
-  pub has_said : HasSaid texts r.lines.items r.commands_left
+  pub good : AreGood texts r.parser
   pub count : r.count ≡ length texts
   pub whole : bytes ≡ ended texts ++ r.text.items
   pub no_feeds : AllByRecursion (λ text. HasNo 10 text) texts
@@ -211,6 +201,16 @@ pub record WasRead (old new : Option (List ℕ)) (r : Reader) : Type 0 where
   pub after : IsAfter text r
   pub through : new ≡ without_first 1073741825 old
 
+-- the bytes' lines are good, but for a block that isn't ended
+pub record AreAllGood (bytes : List ℕ) (r : Reader) : Type 0 where
+  pub good : AreGood (lines_of bytes) r.parser
+  pub count : r.count ≡ length (lines_of bytes)
+  pub small : length bytes ≤ script_limit
+
+-- a reader that has taken all bytes of a script, and has ended the last line
+abbrev pub IsAtEnd : List ℕ → Reader → Type 0
+IsAtEnd bytes r = MatchOption r.bad (AreAllGood bytes r) (IsBadAt bytes)
+
 -- where the failure names a line
 abbrev pub IfLine : ScriptFail → (ℕ → Type 0) → Type 0
 IfLine (fail.Line n) P = P n
@@ -220,7 +220,3 @@ IfLine f P = Unit {0}
 abbrev pub of_source : Failed → ScriptFail
 of_source failed.Memory = fail.Memory
 of_source failed.Fault = fail.ReadFault
-
--- the lines and the first bad line, where there is one, of a script of these bytes
-abbrev pub IsDone : List ℕ → List Line → Option ℕ → Type 0
-IsDone bytes lines bad = MatchOption bad (IsScript bytes lines) (IsBadAt bytes)

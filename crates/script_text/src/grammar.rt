@@ -3,10 +3,10 @@ ghost use Rattle.std.specs.Prelude.{◌↔◌, ◌++◌, ◌∷◌, [], ℕ, Lis
 ghost use Rattle.script_text.specs.Grammar.{HasNo, IsPassedOver};
 ghost use Rattle.script_text.specs.Reading.{IsReading, NamesObject, NamesRange, NamesSize, Reads, ReadsWords};
 
+use crate::change::KeptOp;
 use crate::data::read_data;
 use crate::escape::read_name;
 use crate::number::read_number;
-use crate::said::change;
 use crate::split::{four_words, split_once, three_words, two_words};
 use crate::values::read_value_words;
 use crate::{Said, What};
@@ -14,14 +14,15 @@ use object_model::{Command, Op};
 use std::alloc::{AllocError, Global};
 use unit_fields::{CollName, Name};
 
-/// What a line is.
+/// What a line is by itself.
 #[derive(Drop)]
-pub enum Reading {
+pub enum Statement {
     /// An empty line, or a comment.
     PassedOver,
+    /// The lines from here to the next `end` are one transaction.
+    Begin,
+    End,
     Says(Said),
-    /// It is outside the grammar.
-    Outside,
 }
 
 /// `mkcoll C`: what a line says that has this behind its first word.
@@ -31,8 +32,7 @@ fn read_mkcoll(alloc: Global, rest: &[u8]) -> Result<Option<Said>, AllocError>
     let Some(coll) = CollName::read(alloc, rest)? else {
         return Ok(None);
     };
-    let what = change(alloc, coll, Op::MkColl)?;
-    Ok(Some(Said::of(what)))
+    Ok(Some(Said::op(alloc, coll, Op::MkColl)))
 }
 
 /// `C O`: the names of a collection and of an object in it.
@@ -59,8 +59,8 @@ fn read_touch(alloc: Global, rest: &[u8]) -> Result<Option<Said>, AllocError>
     let Some((coll, object)) = read_object(alloc, rest)? else {
         return Ok(None);
     };
-    let what = change(alloc, coll, Op::Touch { object })?;
-    Ok(Some(Said::of(what)))
+    let op = Op::Touch { object };
+    Ok(Some(Said::op(alloc, coll, op)))
 }
 
 /// `remove C O`: what a line says that has this behind its first word.
@@ -70,8 +70,8 @@ fn read_remove(alloc: Global, rest: &[u8]) -> Result<Option<Said>, AllocError>
     let Some((coll, object)) = read_object(alloc, rest)? else {
         return Ok(None);
     };
-    let what = change(alloc, coll, Op::Remove { object })?;
-    Ok(Some(Said::of(what)))
+    let op = Op::Remove { object };
+    Ok(Some(Said::op(alloc, coll, op)))
 }
 
 /// `sum C O`: what a line says that has this behind its first word.
@@ -169,8 +169,8 @@ fn read_zero(alloc: Global, rest: &[u8]) -> Result<Option<Said>, AllocError>
     let Some((coll, object, off, len)) = read_range(alloc, rest)? else {
         return Ok(None);
     };
-    let what = change(alloc, coll, Op::Zero { object, off, len })?;
-    Ok(Some(Said::of(what)))
+    let op = Op::Zero { object, off, len };
+    Ok(Some(Said::op(alloc, coll, op)))
 }
 
 /// `truncate C O NUM`: what a line says that has this behind its first word.
@@ -180,8 +180,8 @@ fn read_truncate(alloc: Global, rest: &[u8]) -> Result<Option<Said>, AllocError>
     let Some((coll, object, size)) = read_size(alloc, rest)? else {
         return Ok(None);
     };
-    let what = change(alloc, coll, Op::Truncate { object, size })?;
-    Ok(Some(Said::of(what)))
+    let op = Op::Truncate { object, size };
+    Ok(Some(Said::op(alloc, coll, op)))
 }
 
 /// What the words of a write say. The data are read last, once all else is known to be good.
@@ -206,7 +206,8 @@ fn write_of(
     let Some(bytes) = read_data(alloc, data_word)? else {
         return Ok(None);
     };
-    Ok(Some(Said::write(coll, object, off, bytes)))
+    let op = KeptOp::write(object, off, bytes);
+    Ok(Some(Said::kept_op(alloc, coll, op)))
 }
 
 /// `write C O NUM DATA`: what a line says that has this behind its first word.
@@ -269,15 +270,21 @@ fn is_passed_over(text: &[u8]) -> bool
     }
 }
 
-/// Reads the text of a line, without its line feed.
-pub fn reading_of(alloc: Global, text: &[u8]) -> Result<Reading, AllocError>
+/// Reads the text of a line, without its line feed. It gives None for one outside the grammar.
+pub fn read_statement(alloc: Global, text: &[u8]) -> Result<Option<Statement>, AllocError>
     ensures { IfOk result (IsReading text.now) }
 {
     if is_passed_over(text) {
-        return Ok(Reading::PassedOver);
+        return Ok(Some(Statement::PassedOver));
+    }
+    if text == b"begin".as_slice() {
+        return Ok(Some(Statement::Begin));
+    }
+    if text == b"end".as_slice() {
+        return Ok(Some(Statement::End));
     }
     match read_line(alloc, text)? {
-        Some(what) => Ok(Reading::Says(what)),
-        None => Ok(Reading::Outside),
+        Some(said) => Ok(Some(Statement::Says(said))),
+        None => Ok(None),
     }
 }

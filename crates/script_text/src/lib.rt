@@ -1,6 +1,7 @@
 //! Scripts: the lines of one client, as commands with their line numbers; and names as scripts spell them.
 #![tactic(auto)]
 
+mod change;
 mod data;
 mod escape;
 mod fail;
@@ -10,6 +11,7 @@ mod laws;
 mod line;
 mod number;
 mod pair;
+mod parser;
 mod reader;
 mod said;
 mod script;
@@ -19,8 +21,8 @@ mod values;
 pub use escape::spell_byte;
 pub use fail::ScriptFail;
 pub use laws::{
-    one_bad_line, one_data, one_meaning, one_name, one_number, one_script, one_word_for_a_name,
-    script_or_bad,
+    each_line_fits, few_commands, one_bad_line, one_data, one_meaning, one_name, one_number,
+    one_script, one_word_for_a_name, script_or_bad,
 };
 pub use line::{Line, What};
 pub use said::Said;

@@ -1,7 +1,4 @@
 //! What the lines of a script say.
-ghost use Rattle.std.specs.Prelude.{◌≡◌};
-ghost use Rattle.script_text.specs.Grammar.{command_count};
-
 use crate::Said;
 use object_model::Command;
 
@@ -20,16 +17,4 @@ pub enum What {
     Command(Command),
     /// The client goes on once all its accepted transactions are acknowledged.
     Wait,
-}
-
-impl What {
-    /// 1 for a command, and 0 for `wait`.
-    pub fn command_count(&self) -> u32
-        ensures { result ≡ command_count self.now }
-    {
-        match self {
-            What::Command(_) => 1,
-            What::Wait => 0,
-        }
-    }
 }

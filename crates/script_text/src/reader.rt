@@ -1,50 +1,29 @@
 //! A script that comes in pieces.
-ghost use Rattle.std.specs.Prelude.{◌≡◌, ◌+◌, ◌<◌, ◌≤◌, ◌++◌, ◌∷◌, ◌&&◌, [], ℕ, List, false, length, OnOk, IfOk, IfErr, IsErrOf};
-ghost use Rattle.script_text.specs.Grammar.{HasNo, IsLineOf, is_wait};
+ghost use Rattle.std.specs.Prelude.{◌≡◌, ◌+◌, ◌<◌, ◌≤◌, ◌++◌, ◌∷◌, [], ℕ, List, length, OnOk, IfOk, IfErr, IsErrOf};
+ghost use Rattle.script_text.specs.Grammar.{HasNo};
 ghost use Rattle.script_text.specs.Script.{script_limit, IsScript, IsBadAt};
-ghost use Rattle.script_text.specs.Reading.{IsReading, Ends, Takes, IsAfter, IsDone, IfLine, ends_in_wait};
+ghost use Rattle.script_text.specs.Reading.{IsReading, Ends, Takes, IsAfter, IsAtEnd, IfLine};
 
-use crate::grammar::{Reading, reading_of};
+use crate::grammar::{Statement, read_statement};
+use crate::parser::Parser;
 use crate::split::split_once;
-use crate::{Line, Said, ScriptFail};
+use crate::{Line, ScriptFail};
 use std::alloc::{AllocError, Global};
 
 /// The most bytes of a line.
 const LINE_LIMIT: usize = 4194304;
 
-/// The most commands of a script.
-const COMMAND_LIMIT: u32 = 16384;
-
 /// What was read of a script so far. Once a line is bad, nothing more is kept.
 #[derive(Drop)]
 pub struct Reader {
-    /// What the ended lines say: of `wait`s one behind another only the first is here.
-    lines: Vec<Line>,
-    /// How many more commands may come.
-    commands_left: u32,
+    /// What the ended lines say.
+    parser: Parser,
     /// The number of ended lines.
     count: u32,
     /// The line that isn't ended.
     text: Vec<u8>,
     /// The number of the first bad line.
     bad: Option<u32>,
-}
-
-/// Whether the last of these lines is a `wait`.
-fn is_waiting(lines: &[Line]) -> bool
-    ensures { result ≡ ends_in_wait false lines.now }
-{
-    match lines.last() {
-        Some(line) => line.what.is_wait(),
-        None => false,
-    }
-}
-
-/// Whether what is said behind these lines is a `wait` right behind another.
-fn repeats_wait(lines: &[Line], what: &Said) -> bool
-    ensures { result ≡ (ends_in_wait false lines.now && is_wait what.now) }
-{
-    is_waiting(lines) && what.is_wait()
 }
 
 impl Reader {
@@ -54,49 +33,28 @@ impl Reader {
         ensures count { result.count ≡ 0 }
     {
         Reader {
-            lines: Vec::new(alloc),
-            commands_left: COMMAND_LIMIT,
+            parser: Parser::new(alloc),
             count: 0,
             text: Vec::new(alloc),
             bad: None,
         }
     }
 
-    /// Keeps what the next line says, unless it is one command too many, or a `wait` right behind another.
-    fn keep(&mut self, what: Said) -> Result<(), AllocError>
+    /// Takes what the next line was found to be.
+    fn take_reading(&mut self, found: Option<Statement>) -> Result<(), AllocError>
         requires { self.old.count ≤ script_limit }
         ensures count { OnOk result (self.new.count ≡ self.old.count) }
-        ensures ends { OnOk result (Ends (λ text. IsLineOf text what) self.old self.new) }
+        ensures ends { OnOk result (Ends (λ text. IsReading text found) self.old self.new) }
     {
-        let Some(left) = self.commands_left.checked_sub(what.command_count()) else {
-            self.bad = Some(self.count + 1);
-            drop(what);
-            return Ok(());
-        };
-        if repeats_wait(self.lines.as_slice(), &what) {
-            drop(what);
-            return Ok(());
-        }
         let line = self.count + 1;
-        self.lines.push(Line { line, what })?;
-        self.commands_left = left;
-        Ok(())
-    }
-
-    /// Goes by what the next line was found to be.
-    fn take_reading(&mut self, reading: Reading) -> Result<(), AllocError>
-        requires { self.old.count ≤ script_limit }
-        ensures count { OnOk result (self.new.count ≡ self.old.count) }
-        ensures ends { OnOk result (Ends (λ text. IsReading text reading) self.old self.new) }
-    {
-        match reading {
-            Reading::PassedOver => Ok(()),
-            Reading::Says(what) => self.keep(what),
-            Reading::Outside => {
-                self.bad = Some(self.count + 1);
-                Ok(())
-            }
+        let fits = match found {
+            Some(statement) => self.parser.take(line, statement)?,
+            None => false,
+        };
+        if !fits {
+            self.bad = Some(line);
         }
+        Ok(())
     }
 
     /// Ends the line.
@@ -106,8 +64,8 @@ impl Reader {
         ensures text { OnOk result (self.new.text.items ≡ []) }
         ensures ends { OnOk result (Ends (λ text. text ≡ self.old.text.items) self.old self.new) }
     {
-        let reading = reading_of(alloc, self.text.as_slice())?;
-        self.take_reading(reading)?;
+        let found = read_statement(alloc, self.text.as_slice())?;
+        self.take_reading(found)?;
         self.count += 1;
         self.text.clear();
         Ok(())
@@ -177,7 +135,8 @@ impl Reader {
     /// Ends the last line, where it isn't ended.
     fn end_last(&mut self, alloc: Global) -> Result<(), AllocError>
         requires { self.old.count ≤ script_limit }
-        ensures { OnOk result ((bytes : List ℕ) → IsAfter bytes self.old → IsDone bytes self.new.lines.items self.new.bad) }
+        ensures count { OnOk result (self.new.count ≤ self.old.count + 1) }
+        ensures end { OnOk result ((bytes : List ℕ) → IsAfter bytes self.old → IsAtEnd bytes self.new) }
     {
         if self.bad.is_some() || self.text.is_empty() {
             return Ok(());
@@ -186,17 +145,38 @@ impl Reader {
         Ok(())
     }
 
-    /// The lines of the whole script, or its first bad line.
+    /// The commands and `wait`s of the whole script, or its first bad line.
     pub fn finish(mut self, alloc: Global) -> Result<Vec<Line>, ScriptFail>
         requires { self.count ≤ script_limit }
         ensures ok { IfOk result (λ lines. (bytes : List ℕ) → IsAfter bytes self → IsScript bytes lines.items) }
         ensures bad { IfErr result (λ e. IfLine e (λ n. (bytes : List ℕ) → IsAfter bytes self → IsBadAt bytes n)) }
         ensures read { ¬ (IsErrOf result ScriptFail.ReadFault) }
     {
-        self.end_last(alloc)?;
-        match self.bad {
-            None => Ok(self.lines),
-            Some(n) => Err(ScriptFail::Line { n }),
+        match self.end_last(alloc) {
+            Ok(()) => self.said(),
+            Err(e) => {
+                drop(self);
+                Err(ScriptFail::from(e))
+            }
+        }
+    }
+
+    /// The commands and `wait`s, or the first bad line, once the last line is ended.
+    fn said(self) -> Result<Vec<Line>, ScriptFail>
+        requires { self.count ≤ script_limit + 1 }
+        ensures ok { IfOk result (λ lines. (bytes : List ℕ) → IsAtEnd bytes self → IsScript bytes lines.items) }
+        ensures bad { IfErr result (λ e. IfLine e (λ n. (bytes : List ℕ) → IsAtEnd bytes self → IsBadAt bytes n)) }
+        ensures read { ¬ (IsErrOf result ScriptFail.ReadFault) }
+    {
+        if let Some(n) = self.bad {
+            drop(self);
+            return Err(ScriptFail::Line { n });
+        }
+        let n = self.count + 1;
+        drop(self.text);
+        match self.parser.finish() {
+            Some(lines) => Ok(lines),
+            None => Err(ScriptFail::Line { n }),
         }
     }
 }

@@ -1,49 +1,27 @@
-//! What a line says, as it is kept until it is used.
-ghost use Rattle.std.specs.Prelude.{◌≡◌, IfOk};
-ghost use Rattle.object_model.specs.declared.op.Op.TheVariants.{Write, SetAttr, OmapHeader, OmapSet};
-ghost use Rattle.script_text.specs.Grammar.{command_count, is_wait, op_line};
+//! What a line or a block says, as it is kept until it is used.
+ghost use Rattle.std.specs.Prelude.{◌≡◌, IfOk, MatchOption};
+ghost use Rattle.object_model.specs.declared.command.Command.TheVariants.{Change};
+ghost use Rattle.script_text.specs.declared.line.What.TheVariants.{Command as Commands};
+ghost use Rattle.script_text.specs.Grammar.{is_wait, op_line};
+ghost use Rattle.script_text.specs.Kept.{IsNoChange};
 
 use crate::What;
-use crate::data::Data;
-use crate::pair::{KeptPair, written_out};
-use byte_maps::Items;
-use bytes::Bytes as SharedBytes;
-use object_model::{Command, Op, Transaction};
+use crate::change::{KeptChange, KeptOp};
+use object_model::{Command, Op};
 use std::alloc::{AllocError, Global};
 use std::marker::Model;
-use unit_fields::{CollName, Name};
+use unit_fields::CollName;
 
-/// What a line says, in memory in proportion to the line: the bytes of a `fill` aren't there before `into_what`.
+/// What a line or a block says, in memory in proportion to its text: the bytes of a `fill` aren't there before `into_what`.
 #[derive(Drop)]
 pub struct Said {
     kept: Kept,
 }
 
-/// Something with its data as they are spelled, or anything else.
+/// A transaction with its data as they are spelled, or anything else.
 #[derive(Drop)]
 enum Kept {
-    Write {
-        coll: CollName,
-        object: Name,
-        off: u64,
-        bytes: Data,
-    },
-    SetAttr {
-        coll: CollName,
-        object: Name,
-        name: Name,
-        value: Data,
-    },
-    OmapHeader {
-        coll: CollName,
-        object: Name,
-        value: Data,
-    },
-    OmapSet {
-        coll: CollName,
-        object: Name,
-        pairs: Items<KeptPair>,
-    },
+    Change(KeptChange),
     Other(What),
 }
 
@@ -52,49 +30,17 @@ impl Model for Said {
 
     ghost Value = { What };
 
-    ghost use Rattle.script_text.specs.Kept.{kept_what};
+    ghost use Rattle.script_text.specs.Kept.{kept_what, IsKeptWhole};
 
     ghost view = { λ a. kept_what a.kept };
-}
 
-/// A transaction of one operation.
-pub fn change(alloc: Global, coll: CollName, op: Op) -> Result<What, AllocError>
-    ensures { IfOk result (λ what. what ≡ op_line coll op) }
-{
-    match Transaction::new(alloc, coll, op) {
-        Ok(change) => Ok(What::Command(Command::Change(change))),
-        Err(back) => {
-            drop(back);
-            Err(AllocError)
-        }
-    }
-}
-
-/// A transaction that sets an attribute to a value, which is written out.
-fn attr_set(
-    alloc: Global,
-    coll: CollName,
-    object: Name,
-    name: Name,
-    value: Data,
-) -> Result<What, AllocError>
-    ensures { IfOk result (λ what. what ≡ op_line coll (SetAttr object name value)) }
-{
-    let value = value.into_bytes(alloc)?;
-    change(
-        alloc,
-        coll,
-        Op::SetAttr {
-            object,
-            name,
-            value,
-        },
-    )
+    ghost invariant = { λ a. IsKeptWhole a.kept };
 }
 
 impl Said {
-    /// What is said as it is.
+    /// A read or a `wait`.
     pub fn of(what: What) -> Said
+        requires { IsNoChange what }
         ensures { result ≡ what }
     {
         Said {
@@ -102,71 +48,27 @@ impl Said {
         }
     }
 
-    /// A write of these bytes.
-    pub fn write(coll: CollName, object: Name, off: u64, bytes: Data) -> Said
-        ensures { result ≡ op_line coll (Write object off bytes) }
+    /// A transaction.
+    pub fn change(change: KeptChange) -> Said
+        ensures { result ≡ Commands (Change change) }
     {
         Said {
-            kept: Kept::Write {
-                coll,
-                object,
-                off,
-                bytes,
-            },
+            kept: Kept::Change(change),
         }
     }
 
-    /// An attribute that is set to this value.
-    pub fn set_attr(coll: CollName, object: Name, name: Name, value: Data) -> Said
-        ensures { result ≡ op_line coll (SetAttr object name value) }
+    /// A transaction of an operation that is kept so.
+    pub fn kept_op(alloc: Global, coll: CollName, op: KeptOp) -> Said
+        ensures { result ≡ op_line coll op }
     {
-        Said {
-            kept: Kept::SetAttr {
-                coll,
-                object,
-                name,
-                value,
-            },
-        }
+        Said::change(KeptChange::new(alloc, coll, op))
     }
 
-    /// A header that is set to this value.
-    pub fn omap_header(coll: CollName, object: Name, value: Data) -> Said
-        ensures { result ≡ op_line coll (OmapHeader object value) }
+    /// A transaction of this operation.
+    pub fn op(alloc: Global, coll: CollName, op: Op) -> Said
+        ensures { result ≡ op_line coll op }
     {
-        Said {
-            kept: Kept::OmapHeader {
-                coll,
-                object,
-                value,
-            },
-        }
-    }
-
-    /// Pairs that are set.
-    pub fn omap_set(coll: CollName, object: Name, pairs: Items<KeptPair>) -> Said
-        ensures { result ≡ op_line coll (OmapSet object pairs) }
-    {
-        Said {
-            kept: Kept::OmapSet {
-                coll,
-                object,
-                pairs,
-            },
-        }
-    }
-
-    /// 1 for a command, and 0 for `wait`.
-    pub fn command_count(&self) -> u32
-        ensures { result ≡ command_count self.now }
-    {
-        match &self.kept {
-            Kept::Write { .. }
-            | Kept::SetAttr { .. }
-            | Kept::OmapHeader { .. }
-            | Kept::OmapSet { .. } => 1,
-            Kept::Other(what) => what.command_count(),
-        }
+        Said::kept_op(alloc, coll, KeptOp::of(op))
     }
 
     /// Whether it is a `wait`.
@@ -176,41 +78,24 @@ impl Said {
         matches!(&self.kept, Kept::Other(What::Wait))
     }
 
+    /// The transaction, if it is one.
+    pub fn into_change(self) -> Option<KeptChange>
+        ensures { MatchOption result (IsNoChange self) (λ change. self ≡ Commands (Change change)) }
+    {
+        match self.kept {
+            Kept::Change(change) => Some(change),
+            Kept::Other(_) => None,
+        }
+    }
+
     /// What it says, with its data written out: this takes their memory.
     pub fn into_what(self, alloc: Global) -> Result<What, AllocError>
         ensures { IfOk result (λ what. what ≡ self) }
     {
         match self.kept {
-            Kept::Write {
-                coll,
-                object,
-                off,
-                bytes,
-            } => {
-                let bytes = SharedBytes::from_vec(bytes.into_bytes(alloc)?.into_vec(alloc)?)?;
-                change(alloc, coll, Op::Write { object, off, bytes })
-            }
-            Kept::SetAttr {
-                coll,
-                object,
-                name,
-                value,
-            } => attr_set(alloc, coll, object, name, value),
-            Kept::OmapHeader {
-                coll,
-                object,
-                value,
-            } => {
-                let value = value.into_bytes(alloc)?;
-                change(alloc, coll, Op::OmapHeader { object, value })
-            }
-            Kept::OmapSet {
-                coll,
-                object,
-                pairs,
-            } => {
-                let pairs = written_out(alloc, pairs)?;
-                change(alloc, coll, Op::OmapSet { object, pairs })
+            Kept::Change(change) => {
+                let change = change.into_transaction(alloc)?;
+                Ok(What::Command(Command::Change(change)))
             }
             Kept::Other(what) => Ok(what),
         }

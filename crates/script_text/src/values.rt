@@ -4,11 +4,11 @@ ghost use Rattle.object_model.specs.declared.op.Pair.{Pair};
 ghost use Rattle.script_text.specs.Grammar.{HasNo};
 ghost use Rattle.script_text.specs.Reading.{IsLaterWord, NamesAttr, NamesHeader, NamesKeyRange, NamesKeys, NamesPairs, NamesValue, Reads};
 
+use crate::change::KeptOp;
 use crate::data::{Data, read_data};
 use crate::escape::read_name;
 use crate::grammar::read_object;
 use crate::pair::{KeptPair, read_keys, read_pairs};
-use crate::said::change;
 use crate::split::{four_words, three_words, words_before};
 use crate::{Said, What};
 use byte_maps::Items;
@@ -158,8 +158,7 @@ fn read_rmcoll(alloc: Global, rest: &[u8]) -> Result<Option<Said>, AllocError>
     let Some(coll) = CollName::read(alloc, rest)? else {
         return Ok(None);
     };
-    let what = change(alloc, coll, Op::RmColl)?;
-    Ok(Some(Said::of(what)))
+    Ok(Some(Said::op(alloc, coll, Op::RmColl)))
 }
 
 /// `setattr C O NAME DATA`: what a line says that has this behind its first word.
@@ -169,7 +168,8 @@ fn read_setattr(alloc: Global, rest: &[u8]) -> Result<Option<Said>, AllocError>
     let Some((coll, object, name, value)) = read_attr(alloc, rest)? else {
         return Ok(None);
     };
-    Ok(Some(Said::set_attr(coll, object, name, value)))
+    let op = KeptOp::set_attr(object, name, value);
+    Ok(Some(Said::kept_op(alloc, coll, op)))
 }
 
 /// `rmattr C O NAME`: what a line says that has this behind its first word.
@@ -179,8 +179,8 @@ fn read_rmattr(alloc: Global, rest: &[u8]) -> Result<Option<Said>, AllocError>
     let Some((coll, object, name)) = read_value(alloc, rest)? else {
         return Ok(None);
     };
-    let what = change(alloc, coll, Op::RmAttr { object, name })?;
-    Ok(Some(Said::of(what)))
+    let op = Op::RmAttr { object, name };
+    Ok(Some(Said::op(alloc, coll, op)))
 }
 
 /// `rmattrs C O`: what a line says that has this behind its first word.
@@ -190,8 +190,8 @@ fn read_rmattrs(alloc: Global, rest: &[u8]) -> Result<Option<Said>, AllocError>
     let Some((coll, object)) = read_object(alloc, rest)? else {
         return Ok(None);
     };
-    let what = change(alloc, coll, Op::RmAttrs { object })?;
-    Ok(Some(Said::of(what)))
+    let op = Op::RmAttrs { object };
+    Ok(Some(Said::op(alloc, coll, op)))
 }
 
 /// `omapset C O NAME DATA ..`: what a line says that has this behind its first word.
@@ -201,7 +201,8 @@ fn read_omapset(alloc: Global, rest: &[u8]) -> Result<Option<Said>, AllocError>
     let Some((coll, object, pairs)) = read_pair_list(alloc, rest)? else {
         return Ok(None);
     };
-    Ok(Some(Said::omap_set(coll, object, pairs)))
+    let op = KeptOp::omap_set(object, pairs);
+    Ok(Some(Said::kept_op(alloc, coll, op)))
 }
 
 /// `omaprm C O NAME ..`: what a line says that has this behind its first word.
@@ -211,8 +212,8 @@ fn read_omaprm(alloc: Global, rest: &[u8]) -> Result<Option<Said>, AllocError>
     let Some((coll, object, keys)) = read_key_list(alloc, rest)? else {
         return Ok(None);
     };
-    let what = change(alloc, coll, Op::OmapRm { object, keys })?;
-    Ok(Some(Said::of(what)))
+    let op = Op::OmapRm { object, keys };
+    Ok(Some(Said::op(alloc, coll, op)))
 }
 
 /// `omaprmrange C O NAME NAME`: what a line says that has this behind its first word.
@@ -222,16 +223,12 @@ fn read_omaprmrange(alloc: Global, rest: &[u8]) -> Result<Option<Said>, AllocErr
     let Some((coll, object, first, last)) = read_key_range(alloc, rest)? else {
         return Ok(None);
     };
-    let what = change(
-        alloc,
-        coll,
-        Op::OmapRmRange {
-            object,
-            first,
-            last,
-        },
-    )?;
-    Ok(Some(Said::of(what)))
+    let op = Op::OmapRmRange {
+        object,
+        first,
+        last,
+    };
+    Ok(Some(Said::op(alloc, coll, op)))
 }
 
 /// `omapclear C O`: what a line says that has this behind its first word.
@@ -241,8 +238,8 @@ fn read_omapclear(alloc: Global, rest: &[u8]) -> Result<Option<Said>, AllocError
     let Some((coll, object)) = read_object(alloc, rest)? else {
         return Ok(None);
     };
-    let what = change(alloc, coll, Op::OmapClear { object })?;
-    Ok(Some(Said::of(what)))
+    let op = Op::OmapClear { object };
+    Ok(Some(Said::op(alloc, coll, op)))
 }
 
 /// `omapheader C O DATA`: what a line says that has this behind its first word.
@@ -252,7 +249,8 @@ fn read_omapheader(alloc: Global, rest: &[u8]) -> Result<Option<Said>, AllocErro
     let Some((coll, object, value)) = read_header(alloc, rest)? else {
         return Ok(None);
     };
-    Ok(Some(Said::omap_header(coll, object, value)))
+    let op = KeptOp::omap_header(object, value);
+    Ok(Some(Said::kept_op(alloc, coll, op)))
 }
 
 /// `getattr C O NAME`: what a line says that has this behind its first word.

@@ -9,8 +9,7 @@ use Rattle.object_model.specs.declared.book.Commit.{Commit}
 use Rattle.object_model.specs.declared.book.Entry.{Entry}
 use Rattle.object_model.specs.declared.command.Command.TheVariants as ask
 use Rattle.object_model.specs.declared.command.Answer.TheVariants as answer
-use Rattle.unit_fields.specs.Prelude.{Ascends}
-use Rattle.meta_rows.specs.Prelude.{Rows, rows_after, rows_size, ops_bytes, AllFit}
+use Rattle.meta_rows.specs.Prelude.{Rows, rows_after, rows_size, ops_bytes}
 use Rattle.meta_log.specs.Prelude.{width_of}
 use Rattle.meta_store.specs.Store as meta
 use Rattle.unit_allocator.specs.Prelude.{Space, free_units, taken}
@@ -18,11 +17,8 @@ use Rattle.unit_allocator.proofs.FreeUnits.{listed_is_free}
 use Rattle.plan_rows.specs.declared.plan.FreshUnit.{FreshUnit}
 use Rattle.plan_rows.specs.declared.plan.Plan.{Plan}
 use Rattle.plan_rows.specs.declared.plan.ReadUnit.{ReadUnit}
-use Rattle.plan_rows.specs.Prelude.{IsKnown, AreFreeOver, IsGood, PlanKeeps, PlanTakes}
-use Rattle.object_rows.specs.Prelude.{IsPlanned}
-use Rattle.object_rows.proofs.Planned.{plan_facts}
-use Rattle.object_rows.proofs.PlansKeep.{plans_keep}
-use Rattle.object_rows.proofs.Taking.{units_of, planned}
+use Rattle.plan_drafts.specs.Prelude.{IsKnown, fresh_units, PlanKeeps, PlanTakes}
+use Rattle.draft_rows.proofs.PlanLaws.{plans_keep, plans_short}
 use Rattle.store_steps.specs.declared.context.Context.{Context}
 use Rattle.store_steps.specs.declared.flight.Flying.{Flying}
 use Rattle.store_steps.specs.Prelude.{State, CanNote, Accepts, accepted_with, need_of, memory_of}
@@ -33,10 +29,10 @@ use Rattle.read_facts.specs.Prelude.{IsHeldAt, IsFound}
 use Rattle.page_sources.specs.Prelude.{IsPlacesFail}
 use Rattle.page_sources.specs.declared.parts.PartFail.{PartFail}
 use Rattle.page_sources.specs.declared.parts.PartFail.TheVariants as part
-use Rattle.txn_planner.specs.declared.planning.Draft.{Draft}
-use Rattle.txn_planner.specs.declared.planning.PlanFail.{PlanFail}
-use Rattle.txn_planner.specs.declared.planning.PlanFail.TheVariants as fail
-use Rattle.txn_planner.specs.Drafts.{places_of, IsDraftFor}
+use Rattle.txn_planner.specs.declared.drafts.Draft.{Draft}
+use Rattle.txn_planner.specs.declared.fails.PlanFail.{PlanFail}
+use Rattle.txn_planner.specs.declared.fails.PlanFail.TheVariants as fail
+use Rattle.txn_planner.specs.Drafts.{places_in, IsDraftFor}
 use Rattle.txn_planner.specs.PlanFails.{IsPlanFor, IsPlanFail}
 use Rattle.store_kernel.specs.declared.batch.OpenBatch.{OpenBatch}
 use Rattle.store_kernel.specs.declared.prepared.Prepared.{Prepared}
@@ -81,15 +77,15 @@ no_draft s d change fail.Memory fails = tt
 
 -- why old bytes weren't read
 pub not_read : (s : State) (d : Disk) (change : Change) (memory : ℕ → Option (List ℕ)) (draft : Draft) (why : PartFail) → memory ≡ memory_of s
-    → IsDraftFor (width_of s.log.sup) change s.submitted s.space draft → IsPlacesFail memory d (places_of draft) why
+    → IsDraftFor (width_of s.log.sup) change s.submitted s.space draft → IsPlacesFail memory d (places_in draft) why
     → IsCauseOf (cause_of_read why) change s d
 not_read s d change memory draft (part.BadPage bad) same is fails = record {
   not_refused = is.not_refused;
-  need = is.need;
-  places = places_of draft;
+  need = draft.planning.taken;
+  places = places_in draft;
   asks = is.asks;
   enough = is.enough;
-  first_bad = subst (λ (m : ℕ → Option (List ℕ)). IsPlacesFail m d (places_of draft) (part.BadPage bad)) same fails;
+  first_bad = subst (λ (m : ℕ → Option (List ℕ)). IsPlacesFail m d (places_in draft) (part.BadPage bad)) same fails;
 }
 not_read s d change memory draft part.Fault same is fails = tt
 not_read s d change memory draft part.Memory same is fails = tt
@@ -100,29 +96,20 @@ pub handed_on : {T : Type 0} (P : Cause → Type 0) (result : Result T Cause) (w
 handed_on P (Ok x) why is holds = tt
 handed_on P (Err e) why is holds = subst P (sym is.1) holds
 
--- A plan's operations have spellings, which are short enough for a record, and its units ascend.
-pub record PlanFits (plan : Plan) : Type 0 where
-  pub fit : AllFit plan.ops
-  pub short : length (ops_bytes plan.ops) < 2 ^ 32
-  pub ascend : Ascends (units_of plan.fresh)
+-- what is known of each plan: its operations have spellings, and its units ascend
+pub planned_keeps : (s : State) (d : Disk) (change : Change) (plan : Plan) → IsKept s d → CanNote s → IsKnown change.ops
+    → IsPlanOf change s d plan → PlanKeeps s.log.sup (names_of change) s.submitted plan
+planned_keeps s d change plan kept can known is =
+    (plans_keep s.log.sup s.submitted s.space change plan (kept_submitted s d kept can.up) (kept_free s d kept can.up) known is.plans).0
 
-pub planned_fits : (s : State) (d : Disk) (change : Change) (plan : Plan) → IsKept s d → CanNote s → IsKnown change.ops
-    → IsPlanOf change s d plan → PlanFits plan
-planned_fits s d change plan kept can known is =
-    let good : IsGood s.log.sup s.submitted = kept_submitted s d kept can.up in
-    let free : AreFreeOver s.log.sup s.submitted s.space = kept_free s d kept can.up in
-    let keeps : PlanKeeps s.log.sup (names_of change) s.submitted plan =
-    (plans_keep s.log.sup s.submitted s.space change plan good free known is.plans).0 in
-    let one : IsPlanned s.log.sup s.submitted change plan =
-    (planned s.log.sup s.submitted s.space free good.good change.coll change.ops plan known is.plans).0 in
-    record {
-      fit = keeps.fit;
-      short = within (length (ops_bytes plan.ops)) (rows_size s.submitted) (plan_facts s.log.sup s.submitted one good.good).short
-          (submitted_short s d kept can.up);
-      ascend = keeps.ascend;
-    }
+-- and they are short enough for a record
+pub planned_short : (s : State) (d : Disk) (change : Change) (plan : Plan) → IsKept s d → CanNote s → IsPlanOf change s d plan
+    → length (ops_bytes plan.ops) < 2 ^ 43
+planned_short s d change plan kept can is = within (length (ops_bytes plan.ops)) (rows_size s.submitted)
+    (plans_short s.log.sup s.submitted s.space change plan (kept_submitted s d kept can.up) (kept_free s d kept can.up) is.plans)
+    (submitted_short s d kept can.up)
   where
-    within : (bytes rows : ℕ) → bytes ≤ 2 ^ 31 + rows → rows ≤ 2 ^ 28 → bytes < 2 ^ 32
+    within : (bytes rows : ℕ) → bytes ≤ 2 ^ 40 + rows → rows ≤ 2 ^ 28 → bytes < 2 ^ 43
     within bytes rows le few = omega (arith, le, few)
 
 -- a record that fits into the room that was counted fits into the log
@@ -154,19 +141,17 @@ free_units_are space (u ∷ us) all =
 
 -- the units that a plan takes are free
 pub fresh_is_free : (s : State) (d : Disk) (change : Change) (plan : Plan) → IsKept s d → CanNote s → IsKnown change.ops → IsPlanOf change s d plan
-    → CanBeTaken (units_of plan.fresh) s.space
+    → CanBeTaken (fresh_units plan) s.space
 fresh_is_free s d change plan kept can known is =
     let takes : PlanTakes s.space change plan =
     (plans_keep s.log.sup s.submitted s.space change plan (kept_submitted s d kept can.up) (kept_free s d kept can.up) known is.plans).1.1 in
-    free_units_are s.space (units_of plan.fresh) takes.free
+    free_units_are s.space (fresh_units plan) takes.free
 
 -- they are few
 pub fresh_are_few : (s : State) (d : Disk) (change : Change) (plan : Plan) → IsKept s d → CanNote s → IsKnown change.ops → IsPlanOf change s d plan
     → length plan.fresh < 2 ^ 32
 fresh_are_few s d change plan kept can known is =
-    let free : AreFreeOver s.log.sup s.submitted s.space = kept_free s d kept can.up in
-    let keeps : PlanKeeps s.log.sup (names_of change) s.submitted plan =
-    (plans_keep s.log.sup s.submitted s.space change plan (kept_submitted s d kept can.up) free known is.plans).0 in
+    let keeps : PlanKeeps s.log.sup (names_of change) s.submitted plan = planned_keeps s d change plan kept can known is in
     few (length plan.fresh) s.log.sup.units (few_between 0 s.log.sup.units plan.fresh (omega arith) (low plan.fresh) (below plan.fresh keeps.fresh.on_data) keeps.ascend)
     kept.always.limits.units_most
   where

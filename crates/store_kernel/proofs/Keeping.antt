@@ -5,10 +5,10 @@ use Rattle.block_device.specs.Prelude.{Disk, IsSound}
 use Rattle.object_model.specs.Prelude.{Change}
 use Rattle.object_model.specs.declared.command.Command.{Command}
 use Rattle.object_model.specs.declared.command.Answer.{Answer}
-use Rattle.object_rows.proofs.PlansKeep.{plans_keep}
+use Rattle.draft_rows.proofs.PlanLaws.{plans_keep}
 use Rattle.store_steps.specs.declared.step.Step.{Step}
 use Rattle.store_steps.specs.Prelude.{State, is_ready, Accepts, Refuses, submitting, reading, stepping, DoesOrFails, Submits, AnswersRead, memory_of}
-use Rattle.plan_rows.specs.Prelude.{IsKnown}
+use Rattle.plan_drafts.specs.Prelude.{IsKnown}
 use Rattle.read_facts.specs.Prelude.{IsKnownRead}
 use Rattle.write_buffers.specs.declared.buffers.WriteBuffers.{WriteBuffers}
 use Rattle.write_buffers.specs.Prelude.{memory_in}

@@ -6,7 +6,7 @@ use Rattle.meta_log.specs.Prelude.{width_of}
 use Rattle.object_model.specs.Prelude.{Change}
 use Rattle.row_format.specs.Prelude.{Place, own}
 use Rattle.store_image.specs.Prelude.{HasPage, IsDataUnit}
-use Rattle.plan_rows.specs.Prelude.{own_units, AsksFor}
+use Rattle.plan_drafts.specs.Prelude.{own_units, AsksFor}
 use Rattle.page_sources.specs.Prelude.{CanReadPlace, CanReadPlaces}
 use Rattle.store_steps.specs.Prelude.{State, memory_of}
 use Rattle.run_facts.specs.Prelude.{IsKept}

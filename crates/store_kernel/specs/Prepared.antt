@@ -8,13 +8,13 @@ use Rattle.read_facts.specs.Prelude.{IsNotRefused}
 use Rattle.plan_rows.specs.declared.plan.Plan.{Plan}
 use Rattle.store_steps.specs.Prelude.{State, need_of, IsReadNow}
 use Rattle.meta_store.specs.Store.{room_of}
-use Rattle.plan_rows.specs.Prelude.{Plans}
+use Rattle.plan_drafts.specs.Prelude.{Plans}
 use Rattle.store_kernel.specs.declared.prepared.Prepared.{Prepared}
 
 -- plain objects of the submitted rows' shape don't refuse the transaction, and this is its plan, over old bytes that its units give
 pub record IsPlanOf (change : Change) (s : State) (d : Disk) (plan : Plan) : Type 0 where
   pub not_refused : IsNotRefused s.submitted (ask.Change change)
-  pub plans : Plans (width_of s.log.sup) change.coll change.ops s.submitted s.space plan
+  pub plans : Plans (width_of s.log.sup) change s.submitted s.space plan
   pub read : IsReadNow s d plan
 
 -- what it needs fits, and the copies are copies

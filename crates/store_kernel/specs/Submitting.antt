@@ -4,8 +4,8 @@ use Rattle.block_device.specs.Prelude.{Disk}
 use Rattle.store_steps.specs.Prelude.{State, IsCause, Refuses, IsDownBy, IsBookFull}
 use Rattle.object_model.specs.Prelude.{Change}
 use Rattle.object_model.specs.declared.command.Answer.TheVariants as answer
-use Rattle.txn_planner.specs.declared.planning.PlanFail.{PlanFail}
-use Rattle.txn_planner.specs.declared.planning.PlanFail.TheVariants as fail
+use Rattle.txn_planner.specs.declared.fails.PlanFail.{PlanFail}
+use Rattle.txn_planner.specs.declared.fails.PlanFail.TheVariants as fail
 use Rattle.page_sources.specs.declared.parts.PartFail.{PartFail}
 use Rattle.page_sources.specs.declared.parts.PartFail.TheVariants as part
 use Rattle.store_kernel.specs.declared.refused.Cause.{Cause}

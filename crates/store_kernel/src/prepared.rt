@@ -47,7 +47,7 @@ impl Prepared {
 
 /// How many units a record of these operations alone takes, whatever its number is.
 pub fn units_needed(ops: &[RowOp]) -> u32
-    requires { length (ops_bytes ops.now) < 2 ^ 32 }
+    requires { length (ops_bytes ops.now) < 2 ^ 43 }
     ensures { (number : ℕ) → result ≡ unit_count number ops.now }
 {
     ((HEAD_BYTES + encoded_len(ops) + (UNIT_BYTES - 1)) / UNIT_BYTES) as u32

@@ -9,7 +9,7 @@ use Rattle.store_steps.specs.declared.step.Step.TheVariants.{Take, Commit, Finis
 use Rattle.store_steps.specs.State.{State}
 use Rattle.store_steps.specs.Ready.{is_ready}
 use Rattle.store_steps.specs.Steps.{DoesTake, DoesCommit, DoesFinish}
-use Rattle.plan_rows.specs.Prelude.{IsKnown}
+use Rattle.plan_drafts.specs.Prelude.{IsKnown}
 use Rattle.store_steps.specs.Submit.{Accepts, Refuses}
 use Rattle.store_steps.specs.Runs.{AnswersRead}
 use Rattle.store_steps.specs.Parts.{RowsPart, BookPart, rows_part, data_part, half_part, book_part}

@@ -13,7 +13,7 @@ use Rattle.store_steps.specs.State.{State}
 use Rattle.store_steps.specs.Ready.{is_ready}
 use Rattle.store_steps.specs.Steps.{Does, Takes}
 use Rattle.store_steps.specs.UnderWay.{memory_of}
-use Rattle.plan_rows.specs.Prelude.{IsKnown}
+use Rattle.plan_drafts.specs.Prelude.{IsKnown}
 use Rattle.store_steps.specs.Submit.{CanNote, entered, Accepts, Refuses, IsDownBy, IsBookFull}
 
 -- a call of the kernel that changes it

@@ -18,7 +18,7 @@ use Rattle.store_steps.specs.declared.context.Context.{Context}
 use Rattle.meta_store.specs.Store.{Meta, room_of}
 use Rattle.store_steps.specs.State.{State}
 use Rattle.store_steps.specs.UnderWay.{memory_of}
-use Rattle.plan_rows.specs.Prelude.{Plans, AsksFor}
+use Rattle.plan_drafts.specs.Prelude.{Plans, AsksFor}
 
 -- the units of the log that the record of these operations alone takes: they are as many for each number
 abbrev pub need_of : Meta → Plan → ℕ
@@ -79,7 +79,7 @@ pub record Accepts (client line : ℕ) (change : Change) (s : State) (d : Disk) 
   pub can_note : CanNote s
   pub not_refused : IsNotRefused s.submitted (ask.Change change)
   pub plan : Plan
-  pub plans : Plans (width_of s.log.sup) change.coll change.ops s.submitted s.space plan
+  pub plans : Plans (width_of s.log.sup) change s.submitted s.space plan
   pub read : IsReadNow s d plan
   pub fits : need_of s.log plan ≤ room_of s.log
   pub after : s' ≡ accepted_with client line change plan s
@@ -103,7 +103,7 @@ IsCause (answer.NoSpace need free) change s d =
 IsCause (answer.Csum unit kept found) change s d = MeetsBadUnit change s d unit kept found
 IsCause (answer.MetaFull need room) change s d =
     IsNotRefused s.submitted (ask.Change change)
-    × ((plan : Plan) × (Plans (width_of s.log.sup) change.coll change.ops s.submitted s.space plan × (need ≡ need_of s.log plan) × IsReadNow s d plan))
+    × ((plan : Plan) × (Plans (width_of s.log.sup) change s.submitted s.space plan × (need ≡ need_of s.log plan) × IsReadNow s d plan))
     × (room ≡ room_of s.log) × (room < need)
 IsCause a change s d = ⊥
 

@@ -8,7 +8,7 @@ use Rattle.std.proofs.lemmas.List.{get_or_default}
 use Rattle.meta_rows.specs.declared.row_op.RowOp.{RowOp}
 use Rattle.bitmap_freelist.specs.Bitmap.{Units, Has, AreFlips}
 use Rattle.bitmap_freelist.proofs.Reading.{has_insert}
-use Rattle.plan_rows.specs.Prelude.{TurnsBits}
+use Rattle.plan_drafts.specs.Prelude.{TurnsBits}
 use Rattle.txn_planner.specs.Turns.{AddsUnits}
 
 -- the set got the first i of these units, and no others

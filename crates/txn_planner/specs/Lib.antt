@@ -1,5 +1,9 @@
+pub mod Touching
+pub mod Planning
+pub mod Steps
 pub mod PlanFails
-pub mod Operations
 pub mod Drafts
-pub mod Parts
 pub mod Turns
+pub mod Laying
+pub mod Standing
+pub mod Finishing

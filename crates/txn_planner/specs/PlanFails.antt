@@ -10,16 +10,23 @@ use Rattle.row_format.specs.Prelude.{Place}
 use Rattle.read_facts.specs.Prelude.{IsRefusedBy, IsNotRefused}
 use Rattle.plan_rows.specs.declared.plan.Plan.{Plan}
 use Rattle.unit_allocator.specs.Prelude.{Space}
-use Rattle.plan_rows.specs.Prelude.{AreFreeOver, Plans, AsksFor}
+use Rattle.unit_allocator.specs.declared.allocator.TakeFail.{TakeFail}
+use Rattle.unit_allocator.specs.declared.allocator.TakeFail.TheVariants as take
+use Rattle.plan_drafts.specs.Prelude.{AreFreeOver, Plans, AsksFor}
 use Rattle.store_steps.specs.Prelude.{free_count}
-use Rattle.txn_planner.specs.declared.planning.PlanFail.{PlanFail}
-use Rattle.txn_planner.specs.declared.planning.PlanFail.TheVariants as fail
+use Rattle.txn_planner.specs.declared.fails.PlanFail.{PlanFail}
+use Rattle.txn_planner.specs.declared.fails.PlanFail.TheVariants as fail
+
+-- why there is no plan, where the units aren't found
+abbrev pub fail_of : TakeFail → PlanFail
+fail_of (take.NoSpace need free) = fail.NoSpace need free
+fail_of take.Memory = fail.Memory
 
 -- Plain objects of the rows' shape don't refuse the transaction. This is its plan where no row is bad and the free units are owned by nobody: then
 -- its operations are the difference of the rows.
 pub record IsPlanFor (w : Width) (change : Change) (rows : Rows) (space : Space) (plan : Plan) : Type 0 where
   pub not_refused : IsNotRefused rows (ask.Change change)
-  pub plans : (s : Super) → width_of s ≡ w → AreFreeOver s rows space → Plans w change.coll change.ops rows space plan
+  pub plans : (s : Super) → width_of s ≡ w → AreFreeOver s rows space → Plans w change rows space plan
 
 -- why there is no plan; want of memory comes of nothing that a clause sees
 abbrev pub IsPlanFail : Width → Change → Rows → Space → PlanFail → Type 0

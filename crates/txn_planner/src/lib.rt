@@ -1,19 +1,23 @@
-//! A transaction's plan: the row operations that it is turned into, the units that it takes and those that it releases, over the submitted
-//! rows and the free units. It changes nothing.
+//! What a transaction is turned into before it is accepted: the row operations, the units that it takes and those that it releases.
 //!
-//! Planning has two parts, since pages that change in part need their old bytes, which somebody else reads: a draft says where these stand,
-//! and becomes the plan where they were read.
+//! Its operations are taken one after the other, each over what those before it made of the collection. The rows in memory stay as they are
+//! meanwhile, and the difference to them is taken at the end, so that each row is named once. Two passes: the first finds what is refused,
+//! counts units and finds which old bytes are needed, and the second, once these are read, makes the bytes of pages.
 //!
-//! In Ceph's BlueStore `_txc_add_transaction` and what it calls (`_touch`, `_write`, `_do_write`, `_zero`, `_truncate`, `_remove`) do this
-//! work, and write into the onodes as they go.
+//! In Ceph's BlueStore this is the work of `_txc_add_transaction` on onodes that it changes as it goes, of `_txc_write_nodes` and of
+//! `_txc_finalize_kv`. An operation that fails there has the process end; here the transaction is refused and nothing was changed.
 #![tactic(auto)]
 
-mod edits;
-mod object_change;
+mod drafts;
+mod fails;
+mod finishing;
+mod laying;
+mod operations;
 mod planning;
-mod plans;
-mod presence;
-mod taking;
+mod standing;
+mod steps;
+mod touched;
 mod turns;
 
-pub use planning::{Draft, PlanFail, begin};
+pub use drafts::{Draft, begin};
+pub use fails::PlanFail;

@@ -1,268 +1,186 @@
-//! What a transaction is turned into before it is accepted: its plan, by way of a draft, or why there is none.
-ghost use Rattle.std.specs.Prelude.{◌≡◌, [], ◌∷◌, false, IfOk, IfErr, OnOk};
-ghost use Rattle.object_model.specs.Prelude.{is_too_large};
-ghost use Rattle.object_model.specs.declared.command.Command.TheVariants as ask;
-ghost use Rattle.meta_rows.specs.Prelude.{Rows};
-ghost use Rattle.read_facts.specs.Prelude.{IsNotRefused};
-ghost use Rattle.row_facts.specs.Operations.{coll_change};
-ghost use Rattle.object_rows.specs.Prelude.{op_change, no_coll_change};
-ghost use Rattle.plan_rows.specs.Prelude.{IsKnown, IsTaken, AreReadAt};
-ghost use Rattle.unit_allocator.specs.Prelude.{Space};
+//! What a transaction is known to do after some of its operations.
+ghost use Rattle.std.specs.Prelude.{◌≡◌, ◌⊎◌, ℕ, List, Option, Some, None, true, false, [], is_some, IfOk, OnOk};
+ghost use Rattle.std.specs.Option.{option_map};
+ghost use Rattle.std.specs.FinMap as finite;
+ghost use Rattle.unit_fields.specs.Prelude.{IsName};
+ghost use Rattle.row_format.specs.Prelude.{coll_key, onode_key};
+ghost use Rattle.store_image.specs.Prelude.{HasKey};
+ghost use Rattle.plan_drafts.specs.Prelude.{Layout, HasLayout, draft_of, HasSome, IsBare, CollDraft};
+ghost use Rattle.onode_state.specs.Objects.{AreRowsOfAStore, AreRowsOfWidth};
 ghost use Rattle.unit_fields.specs.declared.width.Width.{Width};
-ghost use Rattle.onode_state.specs.Objects.{AreRowsOfWidth};
-ghost use Rattle.txn_planner.specs.Drafts.{places_of, IsDraftFor};
-ghost use Rattle.object_rows.specs.Prelude.{IsOnObject};
-ghost use Rattle.txn_planner.specs.Operations.{fail_of, IsOfBytes};
-ghost use Rattle.txn_planner.specs.PlanFails.{IsPlanFor, IsPlanFail};
-ghost use Rattle.txn_planner.specs.declared.planning.PlanFail.TheVariants.{Memory};
-ghost use Rattle.txn_planner.specs.declared.planning.Work.TheVariants.{Planned};
+ghost use Rattle.txn_planner.specs.Touching.{IsTouched};
+ghost use Rattle.txn_planner.specs.Planning.{IsStateOf, first_draft, any_there, HasUntouched, AllTouched};
 
-use crate::edits::{object_in, places_needed, stays_missing, units_needed};
-use crate::plans::{collection_gone, collection_made, edited, removed, touched, unchanged, valued};
-use crate::presence::{has_collection, has_objects};
-use crate::taking::check_taken;
+use crate::touched::{Touched, load};
 use blob_map::Place;
-use byte_maps::Items;
+use byte_maps::{ByteMap, Bytes};
 use meta_rows::RowTable;
-use object_model::{Op, Refusal, Transaction};
-use onode_state::{ObjectState, coll_name_is_one, object_state};
-use plan_rows::ReadUnit;
+use object_reader::next_name;
+use onode_codec::{coll_key, onode_key};
+use page_edits::PageWrite;
+use row_changes::RowChanges;
 use std::alloc::{AllocError, Global};
-use store_steps::Plan;
-use unit_allocator::{Allocator, TakeFail};
-use unit_fields::{CollName, UnitNo, Width};
+use unit_fields::{CollName, Name, UnitNo, Width};
 
-/// Why there is no plan.
-#[derive(Clone, Copy, Debug, PartialEq, Eq)]
-pub enum PlanFail {
-    /// The submitted rows refuse the transaction, or it is too large as a whole.
-    Refusal(Refusal),
-    /// It takes more units than are free (ENOSPC).
-    NoSpace { need: u32, free: u32 },
-    /// Memory ran out.
-    Memory,
+/// What the operations so far come to. The rows stay as they are.
+#[derive(Drop)]
+pub struct Planning {
+    /// Whether the collection is there.
+    pub there: bool,
+    /// The objects whose layout an operation has looked at, by name. All others stand as their rows say.
+    pub objects: ByteMap<Touched>,
+    /// The values that were changed, by the keys of their rows.
+    pub values: RowChanges,
+    /// The writes of pages, in order.
+    pub writes: Vec<PageWrite>,
+    /// Where the pages stand whose old bytes these need, in order.
+    pub places: Vec<Place>,
+    /// The units that pages have left on which they stood.
+    pub left: Vec<UnitNo>,
+    /// How many units were taken.
+    pub taken: u32,
 }
 
-impl From<AllocError> for PlanFail {
-    ghost from_gives = { λ _ e. e ≡ Memory };
+/// Whether the collection has a row.
+pub fn has_collection(alloc: Global, rows: &RowTable, coll: &CollName) -> Result<bool, AllocError>
+    ensures { IfOk result (λ there. there ≡ finite.contains_key rows.now.rows (coll_key coll.now)) }
+{
+    let key = coll_key(alloc, coll)?;
+    Ok(rows.get(key.as_slice()).is_some())
+}
 
-    fn from(_e: AllocError) -> PlanFail {
-        PlanFail::Memory
+// Whether the object has an onode.
+fn has_onode(
+    alloc: Global,
+    rows: &RowTable,
+    coll: &CollName,
+    object: &Name,
+) -> Result<bool, AllocError>
+    ensures { IfOk result (λ there. there ≡ finite.contains_key rows.now.rows (onode_key coll.now object.now)) }
+{
+    let key = onode_key(alloc, coll, object)?;
+    Ok(rows.get(key.as_slice()).is_some())
+}
+
+impl Planning {
+    /// Before the first operation.
+    pub fn new(alloc: Global, rows: &RowTable, coll: &CollName) -> Result<Planning, AllocError>
+        ensures state { IfOk result (λ p. (layouts : List ℕ → Option Layout) → IsStateOf rows.now.rows coll.now layouts
+            (first_draft rows.now.rows coll.now layouts) p) }
+        ensures writes { IfOk result (λ p. p.writes.items ≡ []) }
+        ensures places { IfOk result (λ p. p.places.items ≡ []) }
+        ensures taken { IfOk result (λ p. p.taken ≡ 0) }
+    {
+        let there = has_collection(alloc, rows, coll)?;
+        Ok(Planning {
+            there,
+            objects: ByteMap::new(alloc),
+            values: RowChanges::new(alloc),
+            writes: Vec::new(alloc),
+            places: Vec::new(alloc),
+            left: Vec::new(alloc),
+            taken: 0,
+        })
     }
-}
 
-impl From<TakeFail> for PlanFail {
-    ghost from_gives = { λ why e. e ≡ fail_of why };
-
-    fn from(why: TakeFail) -> PlanFail {
-        match why {
-            TakeFail::NoSpace { need, free } => PlanFail::NoSpace { need, free },
-            TakeFail::Memory => PlanFail::Memory,
+    /// Whether an object is there. Where no operation has looked at it, only its onode is looked up.
+    pub fn has_object(
+        &self,
+        alloc: Global,
+        rows: &RowTable,
+        coll: &CollName,
+        object: &Name,
+    ) -> Result<bool, AllocError>
+        ensures { IfOk result (λ there. (width : Width) (layouts : List ℕ → Option Layout) (d : CollDraft)
+            → IsStateOf rows.now.rows coll.now layouts d self.now → HasLayout width rows.now.rows coll.now object.now (layouts object.now)
+            → there ≡ is_some (d.layout object.now)) }
+    {
+        match self.objects.get(object.as_slice()) {
+            Some(touched) => Ok(touched.now.is_some()),
+            None => has_onode(alloc, rows, coll, object),
         }
     }
-}
 
-// What is left to do for a plan.
-#[derive(Drop)]
-enum Work {
-    // Nothing: this is it.
-    Planned(Plan),
-    // An object that stands so is edited, whose pages get these units where they get new bytes.
-    Edits(ObjectState, Vec<UnitNo>),
-}
-
-/// A transaction that can be planned once old bytes are there.
-#[derive(Drop)]
-pub struct Draft {
-    work: Work,
-    places: Items<Place>,
-}
-
-impl Draft {
-    // That of a plan which needs no old bytes.
-    fn planned(alloc: Global, plan: Plan) -> Draft
-        ensures work { result.work ≡ Planned plan }
-        ensures places { result.places ≡ [] }
-    {
-        Draft {
-            work: Work::Planned(plan),
-            places: Items::new(alloc),
-        }
-    }
-
-    /// Where the pages stand whose old bytes the plan needs: at most two, the first and the last page of what is edited.
-    pub fn places(&self) -> &[Place]
-        ensures { result.now ≡ places_of self.now }
-    {
-        self.places.as_slice()
-    }
-
-    /// The plan, where these old bytes were read, each unit whole, in the order of their places.
-    ///
-    /// Each page that gets new bytes takes the lowest free unit that is left, and the units are released on which changed pages stood. The bits
-    /// of all these in the freelist are turned by the last operations. The bytes of whole pages aren't copied.
-    pub fn finish(
-        self,
+    /// Takes an object out of those that were looked at, or reads it from its rows.
+    pub fn take_object(
+        &mut self,
         alloc: Global,
         width: Width,
         rows: &RowTable,
-        space: &Allocator,
-        txn: &Transaction,
-        read: Items<ReadUnit>,
-    ) -> Result<Plan, AllocError>
-        requires good { AreRowsOfWidth width rows.now.rows }
-        requires draft { IsDraftFor width txn.now rows.now.rows space.now self }
-        requires read { AreReadAt (places_of self) read }
-        ensures ok { IfOk result (IsPlanFor width txn.now rows.now.rows space.now) }
-        ensures read { IfOk result (λ plan. plan.read ≡ read) }
+        coll: &CollName,
+        object: &Name,
+    ) -> Result<Touched, AllocError>
+        requires { AreRowsOfWidth width rows.now.rows }
+        ensures object { IfOk result (λ t. (layouts : List ℕ → Option Layout) (d : CollDraft) → IsStateOf rows.now.rows coll.now layouts d self.old
+            → HasLayout width rows.now.rows coll.now object.now (layouts object.now)
+            → IsTouched rows.now.rows coll.now object.now (layouts object.now) (d.layout object.now) t) }
+        ensures same { self.new ≡ record self.old { objects = finite.remove self.old.objects object.now } }
     {
-        let Draft { work, .. } = self;
-        match work {
-            Work::Planned(plan) => Ok(plan),
-            Work::Edits(object, units) => match txn.ops() {
-                [op] => edited(
-                    alloc,
-                    width,
-                    rows,
-                    space,
-                    txn.coll(),
-                    op,
-                    object,
-                    &units,
-                    read,
-                ),
-                _ => unreachable!(),
-            },
+        match self.objects.take(object.as_slice()) {
+            Some(touched) => Ok(touched),
+            None => load(alloc, width, rows, coll, object),
         }
     }
-}
 
-/// The draft of a transaction over the submitted rows, which have checksums of this width, and the free units. `submit` calls it before
-/// it changes anything.
-pub fn begin(
-    alloc: Global,
-    width: Width,
-    rows: &RowTable,
-    space: &Allocator,
-    txn: &Transaction,
-) -> Result<Draft, PlanFail>
-    requires known { IsKnown txn.now.ops }
-    requires good { AreRowsOfWidth width rows.now.rows }
-    ensures ok { IfOk result (IsDraftFor width txn.now rows.now.rows space.now) }
-    ensures fail { IfErr result (IsPlanFail width txn.now rows.now.rows space.now) }
-{
-    if txn.is_too_large() {
-        return Err(PlanFail::Refusal(Refusal::TooBig));
+    /// Puts an object back, as it stands now.
+    pub fn put_object(
+        &mut self,
+        alloc: Global,
+        object: &Name,
+        touched: Touched,
+    ) -> Result<(), AllocError>
+        ensures { OnOk result (self.new ≡ record self.old { objects = finite.insert self.old.objects object.now touched }) }
+    {
+        let name = Bytes::from_slice(alloc, object.as_slice())?;
+        self.objects.insert(name, touched)
     }
-    match txn.ops() {
-        [Op::MkColl] => begin_collection(alloc, width, rows, space, txn.coll()),
-        [Op::RmColl] => begin_no_collection(alloc, width, rows, space, txn.coll()),
-        [op] => begin_on_object(alloc, width, rows, space, txn.coll(), op),
-        _ => unreachable!(),
-    }
-}
 
-fn begin_collection(
-    alloc: Global,
-    width: Width,
-    rows: &RowTable,
-    space: &Allocator,
-    coll: &CollName,
-) -> Result<Draft, PlanFail>
-    ensures ok { IfOk result (IsDraftFor width (coll_change coll.now) rows.now.rows space.now) }
-    ensures fail { IfErr result (IsPlanFail width (coll_change coll.now) rows.now.rows space.now) }
-{
-    coll_name_is_one(coll);
-    if has_collection(alloc, rows, coll)? {
-        return Err(PlanFail::Refusal(Refusal::CollectionExists));
+    // Whether one of the objects that were looked at is there.
+    fn has_touched(&self) -> bool
+        ensures { result ≡ any_there (finite.entries self.now.objects) }
+    {
+        self.objects
+            .entries()
+            .iter()
+            .any(|entry| entry.1.now.is_some())
     }
-    let plan = collection_made(alloc, coll)?;
-    Ok(Draft::planned(alloc, plan))
-}
 
-fn begin_no_collection(
-    alloc: Global,
-    width: Width,
-    rows: &RowTable,
-    space: &Allocator,
-    coll: &CollName,
-) -> Result<Draft, PlanFail>
-    requires good { AreRowsOfWidth width rows.now.rows }
-    ensures ok { IfOk result (IsDraftFor width (no_coll_change coll.now) rows.now.rows space.now) }
-    ensures fail { IfErr result (IsPlanFail width (no_coll_change coll.now) rows.now.rows space.now) }
-{
-    coll_name_is_one(coll);
-    if !has_collection(alloc, rows, coll)? {
-        return Err(PlanFail::Refusal(Refusal::NoCollection));
-    }
-    if has_objects(alloc, width, rows, coll)? {
-        return Err(PlanFail::Refusal(Refusal::NotEmpty));
-    }
-    let plan = collection_gone(alloc, coll)?;
-    Ok(Draft::planned(alloc, plan))
-}
-
-// The draft of a transaction of one operation on an object, which isn't too large.
-fn begin_on_object(
-    alloc: Global,
-    width: Width,
-    rows: &RowTable,
-    space: &Allocator,
-    coll: &CollName,
-    op: &Op,
-) -> Result<Draft, PlanFail>
-    requires small { is_too_large (op_change coll.now op.now) ≡ false }
-    requires on { IsOnObject op.now }
-    requires good { AreRowsOfWidth width rows.now.rows }
-    ensures ok { IfOk result (IsDraftFor width (op_change coll.now op.now) rows.now.rows space.now) }
-    ensures fail { IfErr result (IsPlanFail width (op_change coll.now op.now) rows.now.rows space.now) }
-{
-    check_taken(alloc, rows, coll, op)?;
-    match op {
-        Op::Touch { object } => {
-            let plan = touched(alloc, width, rows, space, coll, object)?;
-            Ok(Draft::planned(alloc, plan))
+    // Whether an object is there that no operation has looked at. The objects are gone through by their names up to the first such one.
+    fn has_untouched(
+        &self,
+        alloc: Global,
+        rows: &RowTable,
+        coll: &CollName,
+    ) -> Result<bool, AllocError>
+        requires { AreRowsOfAStore rows.now.rows }
+        ensures some { IfOk result (λ some. some ≡ true → HasUntouched rows.now.rows coll.now self.now) }
+        ensures none { IfOk result (λ some. some ≡ false → AllTouched rows.now.rows coll.now self.now) }
+    {
+        let mut last: Option<Name> = None;
+        'names: while let Some(name) = next_name(alloc, rows, coll, last.as_ref())? {
+            if !self.objects.contains_key(name.as_slice()) {
+                return Ok(true);
+            }
+            last = Some(name);
         }
-        Op::Remove { object } => {
-            let plan = removed(alloc, width, rows, space, coll, object)?;
-            Ok(Draft::planned(alloc, plan))
-        }
-        Op::Write { .. } | Op::Zero { .. } | Op::Truncate { .. } => {
-            begin_edit(alloc, width, rows, space, coll, op)
-        }
-        _ => {
-            let plan = valued(alloc, width, rows, space, coll, op)?;
-            Ok(Draft::planned(alloc, plan))
-        }
+        Ok(false)
     }
-}
 
-// The draft of an operation on the bytes of an object, which is taken.
-fn begin_edit(
-    alloc: Global,
-    width: Width,
-    rows: &RowTable,
-    space: &Allocator,
-    coll: &CollName,
-    op: &Op,
-) -> Result<Draft, PlanFail>
-    requires bytes { IsOfBytes op.now }
-    requires good { AreRowsOfWidth width rows.now.rows }
-    requires taken { IsTaken rows.now.rows coll.now op.now }
-    requires not_refused { IsNotRefused rows.now.rows (ask.Change (op_change coll.now op.now)) }
-    ensures ok { IfOk result (IsDraftFor width (op_change coll.now op.now) rows.now.rows space.now) }
-    ensures fail { IfErr result (IsPlanFail width (op_change coll.now op.now) rows.now.rows space.now) }
-{
-    let object = object_state(alloc, width, rows, coll, object_in(op))?;
-    if stays_missing(op, object.size) {
-        return Ok(Draft::planned(alloc, unchanged(alloc)?));
+    /// Whether there is an object in the collection.
+    pub fn has_objects(
+        &self,
+        alloc: Global,
+        rows: &RowTable,
+        coll: &CollName,
+    ) -> Result<bool, AllocError>
+        requires { AreRowsOfAStore rows.now.rows }
+        ensures some { IfOk result (λ some. some ≡ true → (w : Width) (layouts : List ℕ → Option Layout) (d : CollDraft)
+            → IsStateOf rows.now.rows coll.now layouts d self.now
+            → ((o : List ℕ) → IsName o → HasLayout w rows.now.rows coll.now o (layouts o)) → HasSome d) }
+        ensures none { IfOk result (λ some. some ≡ false → (w : Width) (layouts : List ℕ → Option Layout) (d : CollDraft)
+            → IsStateOf rows.now.rows coll.now layouts d self.now
+            → ((o : List ℕ) → IsName o → HasLayout w rows.now.rows coll.now o (layouts o)) → IsBare d) }
+    {
+        Ok(self.has_touched() || self.has_untouched(alloc, rows, coll)?)
     }
-    let size = object.size.unwrap_or(0);
-    let need = units_needed(op, size, &object.pages);
-    let units = space.lowest_units(alloc, need)?;
-    let places = places_needed(alloc, op, size, &object.pages)?;
-    Ok(Draft {
-        work: Work::Edits(object, units),
-        places,
-    })
 }

@@ -2,7 +2,7 @@
 //!
 //! In Ceph's BlueStore `_txc_finalize_kv` calls `allocate` and `release` of the freelist for the units of a transaction.
 ghost use Rattle.std.specs.Prelude.{IfOk, OnOk};
-ghost use Rattle.plan_rows.specs.Prelude.{TurnsBits};
+ghost use Rattle.plan_drafts.specs.Prelude.{TurnsBits};
 ghost use Rattle.txn_planner.specs.Turns.{AddsUnits};
 
 use bitmap_freelist::flip_ops;
@@ -10,8 +10,8 @@ use meta_rows::RowOp;
 use std::alloc::{AllocError, Global};
 use unit_fields::{UnitNo, UnitSet};
 
-// Puts these units in the set, in whichever order they come.
-fn insert_all(set: &mut UnitSet, units: &[UnitNo]) -> Result<(), AllocError>
+/// Puts these units in the set, in whichever order they come.
+pub fn insert_all(set: &mut UnitSet, units: &[UnitNo]) -> Result<(), AllocError>
     ensures { OnOk result (AddsUnits units.now set.old set.new) }
 {
     for unit in units {

@@ -6,7 +6,7 @@ use Rattle.meta_rows.specs.declared.row_op.RowOp.{RowOp}
 use Rattle.meta_rows.specs.Prelude.{Rows}
 use Rattle.meta_log.specs.declared.slot.Super.{Super}
 use Rattle.meta_log.specs.Prelude.{active_unit}
-use Rattle.plan_rows.specs.Prelude.{PlansKeep}
+use Rattle.plan_drafts.specs.Prelude.{PlansKeep}
 use Rattle.store_steps.specs.declared.context.Context.{Context}
 use Rattle.meta_store.specs.Store.{Begun}
 use Rattle.store_steps.specs.Prelude.{State, is_drained, Call, IsRun, uncommitted, given_fresh, begun_ops, submitted_from, second_flush}

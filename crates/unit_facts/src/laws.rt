@@ -4,7 +4,7 @@ ghost use Rattle.block_device.specs.Prelude.{IsClean, Disk, History};
 ghost use Rattle.meta_rows.specs.declared.row_op.RowOp.{RowOp};
 ghost use Rattle.log_facts.specs.Prelude.{not_sent, SlotsStand, ActiveHalfStands};
 ghost use Rattle.unit_allocator.specs.Prelude.{Space};
-ghost use Rattle.plan_rows.specs.Prelude.{PlansKeep};
+ghost use Rattle.plan_drafts.specs.Prelude.{PlansKeep};
 ghost use Rattle.store_steps.specs.Prelude.{State, is_drained, Found, opened, Call, Calls, IsRun};
 ghost use Rattle.run_facts.specs.Prelude.{IsKept};
 ghost use Rattle.unit_facts.specs.Known.{IsAnsweredSince, KnownOfUnits, Knows};

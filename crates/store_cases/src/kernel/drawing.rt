@@ -55,64 +55,77 @@ impl Draws {
         page.wrapping_add(end).wrapping_add(self.below(2))
     }
 
-    /// The line of a transaction on some bytes of an object, or on all of it: it may change pages in part.
-    fn edit(
-        &mut self,
-        alloc: Global,
-        coll: &str,
-        name: &str,
-        byte: u64,
-    ) -> Result<String, CaseError> {
+    /// An operation on some bytes of an object, or on all of it: it may change pages in part.
+    fn edit(&mut self, alloc: Global, name: &str, byte: u64) -> Result<String, CaseError> {
         let off = self.place();
         match self.below(4) {
-            0 => Ok(format!(in alloc; "remove {coll} {name}")?),
-            1 => Ok(format!(in alloc; "truncate {coll} {name} {off}")?),
+            0 => Ok(format!(in alloc; "remove {name}")?),
+            1 => Ok(format!(in alloc; "truncate {name} {off}")?),
             2 => {
                 let len = self.below(9000);
-                Ok(format!(in alloc; "zero {coll} {name} {off} {len}")?)
+                Ok(format!(in alloc; "zero {name} {off} {len}")?)
             }
-            _ => Ok(format!(in alloc; "bytes {coll} {name} {off} {byte:02x}{byte:02x}{byte:02x}")?),
+            _ => Ok(format!(in alloc; "write {name} {off} fill:3:{byte:02x}")?),
         }
     }
 
-    /// The line of a transaction on the values of an object, or on a collection that may go.
-    fn values(
-        &mut self,
-        alloc: Global,
-        coll: &str,
-        name: &str,
-        byte: u64,
-    ) -> Result<String, CaseError> {
+    /// An operation on the values of an object.
+    fn values(&mut self, alloc: Global, name: &str, byte: u64) -> Result<String, CaseError> {
         let key = self.word(&["k", "l", "m"]);
         let other = self.word(&["k", "l", "m"]);
-        match self.below(9) {
-            0 => Ok(format!(in alloc; "on {coll} setattr {name} {key} {byte:02x}")?),
-            1 => Ok(format!(in alloc; "on {coll} rmattr {name} {key}")?),
-            2 => Ok(format!(in alloc; "on {coll} rmattrs {name}")?),
-            3 => Ok(format!(in alloc; "on {coll} omaprm {name} {key}")?),
-            4 => Ok(format!(in alloc; "on {coll} omaprmrange {name} {key} {other}")?),
-            5 => Ok(format!(in alloc; "on {coll} omapclear {name}")?),
-            6 => Ok(format!(in alloc; "on {coll} omapheader {name} {byte:02x}")?),
-            7 => Ok(format!(in alloc; "rmcoll {coll}")?),
-            _ => Ok(format!(in alloc; "on {coll} omapset {name} {key} {byte:02x} {other} -")?),
+        match self.below(8) {
+            0 => Ok(format!(in alloc; "setattr {name} {key} {byte:02x}")?),
+            1 => Ok(format!(in alloc; "rmattr {name} {key}")?),
+            2 => Ok(format!(in alloc; "rmattrs {name}")?),
+            3 => Ok(format!(in alloc; "omaprm {name} {key}")?),
+            4 => Ok(format!(in alloc; "omaprmrange {name} {key} {other}")?),
+            5 => Ok(format!(in alloc; "omapclear {name}")?),
+            6 => Ok(format!(in alloc; "omapheader {name} {byte:02x}")?),
+            _ => Ok(format!(in alloc; "omapset {name} {key} {byte:02x} {other} -")?),
         }
     }
 
-    /// The line of a transaction: a write of one to three pages, an edit of bytes or of values, an object, or a collection that there is.
+    /// An operation on an object: a write of one to three pages, or an edit of bytes or of values.
+    fn on_object(&mut self, alloc: Global, name: &str) -> Result<String, CaseError> {
+        let byte = self.below(256);
+        match self.below(10) {
+            0 => Ok(format!(in alloc; "touch {name}")?),
+            1 | 2 | 3 => self.edit(alloc, name, byte),
+            4 | 5 | 6 => self.values(alloc, name, byte),
+            _ => {
+                let off = self.below(3).wrapping_mul(4096);
+                let len = self.below(3).wrapping_add(1).wrapping_mul(4096);
+                Ok(format!(in alloc; "write {name} {off} fill:{len}:{byte:02x}")?)
+            }
+        }
+    }
+
+    /// Two to six operations on two objects, so that one meets what those before it made. At times the collection goes and comes again.
+    fn several(&mut self, alloc: Global, name: &str) -> Result<String, CaseError> {
+        let other = self.word(&NAMES);
+        let mut ops = format!(in alloc; "touch {name}")?;
+        for _ in 0..self.below(5).wrapping_add(1) {
+            let on = if self.below(3) < 2 { name } else { other };
+            let op = self.on_object(alloc, on)?;
+            ops = format!(in alloc; "{ops}; {op}")?;
+        }
+        match self.below(12) {
+            0 => Ok(format!(in alloc; "{ops}; remove {name}; rmcoll; mkcoll; touch {other}")?),
+            1 => Ok(format!(in alloc; "{ops}; setattr {other} k 01")?),
+            _ => Ok(ops),
+        }
+    }
+
+    /// The words of a transaction on a collection: on an object, or on the collection itself.
     pub fn transaction(&mut self, alloc: Global) -> Result<String, CaseError> {
         let coll = self.word(&COLLS);
         let name = self.word(&NAMES);
-        let byte = self.below(256);
-        match self.below(11) {
-            0 => Ok(format!(in alloc; "mkcoll {coll}")?),
-            1 => Ok(format!(in alloc; "touch {coll} {name}")?),
-            2 | 3 | 4 => self.edit(alloc, coll, name, byte),
-            5 | 6 | 7 => self.values(alloc, coll, name, byte),
-            _ => {
-                let first = self.below(3);
-                let count = self.below(3).wrapping_add(1);
-                Ok(format!(in alloc; "write {coll} {name} {first} {count} {byte:02x}")?)
-            }
-        }
+        let ops = match self.below(12) {
+            0 => String::from_str(alloc, "mkcoll")?,
+            1 => String::from_str(alloc, "rmcoll")?,
+            2 | 3 | 4 => self.several(alloc, name)?,
+            _ => self.on_object(alloc, name)?,
+        };
+        Ok(format!(in alloc; "on {coll} {ops}")?)
     }
 }

@@ -29,6 +29,7 @@ const MOST_LISTS: u64 = 1_000_000;
 #[derive(Clone, Copy)]
 struct Met {
     overtaken: bool,
+    several: bool,
     down: bool,
     no_space: bool,
     meta_full: bool,
@@ -40,6 +41,7 @@ impl Met {
     fn nothing() -> Met {
         Met {
             overtaken: false,
+            several: false,
             down: false,
             no_space: false,
             meta_full: false,
@@ -69,6 +71,7 @@ impl Met {
         out.print("met");
         for (is_met, what) in [
             (self.overtaken, "overtaking"),
+            (self.several, "several operations"),
             (self.down, "Down"),
             (self.no_space, "NoSpace"),
             (self.meta_full, "MetaFull"),
@@ -119,9 +122,11 @@ impl List {
     fn submit(&mut self) -> Result<(), CaseError> {
         let line = self.draws.transaction(self.alloc)?;
         let txn = transaction(self.alloc, Words::new(line.as_str()))?;
+        let is_several = 1 < txn.ops().len();
         let kernel = &mut self.mounted.kernel;
         match submitted(self.alloc, kernel, txn) {
             Ok(place) => {
+                self.met.several = self.met.several || is_several;
                 let entry = kernel.entries().get(place as usize);
                 apply(self.alloc, &mut self.accepted, entry)
             }

@@ -1,11 +1,11 @@
 //! Transactions that are submitted.
-ghost use Rattle.std.specs.Prelude.{◌≡◌, true, [], ◌∷◌, IfOk};
-ghost use Rattle.plan_rows.specs.Prelude.{IsKnownOp, IsKnown};
+ghost use Rattle.std.specs.Prelude.{◌≡◌, ◌↔◌, [], ◌∷◌, IsTrue, IfOk};
+ghost use Rattle.plan_drafts.specs.Prelude.{IsKnownOp, IsKnown};
 
 use block_device::MemoryDevice;
 use bytes::Bytes;
 use case_text::{CaseError, Text, Words, look_up, read_hex};
-use object_lines::operation;
+use object_lines::transaction as transaction_of;
 use object_model::{Op, Transaction};
 use plain_reader::{coll_of, name_of};
 use std::alloc::Global;
@@ -76,7 +76,7 @@ fn write_bytes(
 
 /// Whether the store knows the operation.
 fn is_known(op: &Op) -> bool
-    ensures { result ≡ true → IsKnownOp op.now }
+    ensures { IsTrue result ↔ IsKnownOp op.now }
 {
     match op {
         Op::Clone { .. } | Op::CloneRange { .. } => false,
@@ -84,15 +84,21 @@ fn is_known(op: &Op) -> bool
     }
 }
 
-/// An operation in the words of the reference store's cases.
-fn operation_of(alloc: Global, coll: CollName, words: Words<'_>) -> Result<Transaction, CaseError>
+fn are_known(ops: &[Op]) -> bool
+    ensures { IsTrue result ↔ IsKnown ops.now }
+{
+    ops.iter().all(is_known)
+}
+
+/// One of several operations in the words of the reference store's cases, with semicolons between them.
+fn of_several(alloc: Global, coll: &CollName, words: Words<'_>) -> Result<Transaction, CaseError>
     ensures { IfOk result (λ t. IsKnown t.ops) }
 {
-    let op = operation(alloc, words.text())?;
-    if is_known(&op) {
-        one(alloc, coll, op)
+    let txn = transaction_of(alloc, coll, words.text())?;
+    if are_known(txn.ops()) {
+        Ok(txn)
     } else {
-        drop(op);
+        drop(txn);
         Err(CaseError::Line("an operation that isn't known"))
     }
 }
@@ -104,7 +110,7 @@ enum TransactionKind {
     MkColl,
     /// `rmcoll COLL`
     RmColl,
-    /// `on COLL OPERATION`
+    /// `on COLL OPERATION; OPERATION ..`
     On,
     /// `WORD COLL NAME ..`: something on an object.
     Object(ObjectChange),
@@ -182,7 +188,7 @@ pub fn transaction(alloc: Global, mut words: Words<'_>) -> Result<Transaction, C
     match kind {
         TransactionKind::MkColl => one(alloc, coll, Op::MkColl),
         TransactionKind::RmColl => one(alloc, coll, Op::RmColl),
-        TransactionKind::On => operation_of(alloc, coll, words),
+        TransactionKind::On => of_several(alloc, &coll, words),
         TransactionKind::Object(kind) => {
             let object = name_of(alloc, words.next()?.as_bytes())?;
             change(alloc, kind, coll, object, words)

@@ -3,7 +3,7 @@ ghost use Rattle.std.specs.Prelude.{◌≡◌, ◌≤◌, ◌<◌, ◌^◌, leng
 ghost use Rattle.block_device.specs.Prelude.{Rose};
 ghost use Rattle.meta_rows.specs.Prelude.{ops_bytes, AllFit};
 ghost use Rattle.store_steps.specs.Prelude.{IsCause, CanNote, Accepts, Refuses};
-ghost use Rattle.plan_rows.specs.Prelude.{IsKnown};
+ghost use Rattle.plan_drafts.specs.Prelude.{IsKnown};
 ghost use Rattle.store_kernel.specs.Prepared.{IsPlanOf, IsPrepared};
 ghost use Rattle.store_kernel.specs.Submitting.{IsCauseOf, RefusesBy, IsReadFail};
 
@@ -24,8 +24,7 @@ use unit_fields::limits::BOOK_LIMIT;
 impl<D: Device> Kernel<D> {
     /// Accepts a transaction, or refuses it for a cause. Either makes an entry of the book, into which the transaction is moved;
     /// an accepted one is committed by the steps that follow. A kernel that is down, or whose book is full, turns it away without
-    /// an entry, and a read that the device fails leaves none. For now a transaction is of one operation, which may be any but a
-    /// clone.
+    /// an entry, and a read that the device fails leaves none. For now each of its operations may be any but a clone.
     ///
     /// Of pages that change in part the old bytes are read, once the transaction is known to be taken and units suffice for it:
     /// from memory where an accepted transaction isn't committed yet, and else from the device, with their checksum.
@@ -92,7 +91,7 @@ impl<D: Device> Kernel<D> {
         requires can_note { CanNote self.old.state }
         ensures ok { IfOk result (IsPlanOf txn.now self.old.state (D.disk self.old.device)) }
         ensures fit { IfOk result (λ plan. AllFit plan.ops) }
-        ensures short { IfOk result (λ plan. length (ops_bytes plan.ops) < 2 ^ 32) }
+        ensures short { IfOk result (λ plan. length (ops_bytes plan.ops) < 2 ^ 43) }
         ensures err { IfErr result (λ cause. IsCauseOf cause txn.now self.old.state (D.disk self.old.device)) }
         ensures same { self.new.state ≡ self.old.state }
         ensures disk { D.disk self.new.device ≡ D.disk self.old.device }

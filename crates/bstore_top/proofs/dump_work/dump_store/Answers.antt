@@ -9,4 +9,5 @@ returns-clause-prints g c =
       course = dump_opened c.args.dev.now _ _ _ _ _ _ _ _ _ _ (rw c.as_str.ensures at c.in-Ok.ensures.ok) c.units.ensures.sound seen.dumps
           seen.shows c.dump_on-end.ensures.durable;
       printed = seen.printed;
+      cut = seen.cut;
     }

@@ -1,8 +1,8 @@
-use Rattle.std.proofs.Common.{refl, arith, ap, ◌∙◌}
+use Rattle.std.proofs.Common.{refl, arith, ap, sym, ◌∙◌}
 use Rattle.std.specs.Option.{option_copied}
 use Rattle.meta_log.specs.Prelude.{width_of}
 use Rattle.store_steps.specs.Prelude.{memory_of}
-use Rattle.bstore_top.proofs.DumpWalks.{view_found, no_objects, object_printed, fewer_objects}
+use Rattle.bstore_top.proofs.DumpWalks.{view_found, no_objects, object_printed, cut_printed, fewer_objects}
 use Rattle.bstore_top.proofs.dump_work.walk_coll.Goals as goal
 
 pub objects-init : goal.objects-init
@@ -40,3 +40,8 @@ objects-smaller g c =
     (ap memory_of inv.same ∙ c.requires.nothing) inv.disk (ap (λ s. s.submitted) inv.same) c.as_ref.ensures.value c.in-Some.is
     c.in_ok-object.ensures.ok in
     fewer_objects rows c.args.coll.now c.objects.last c.in-Some.object.name inv.printed.there next.next
+
+pub returns-clause-prints : goal.returns-clause-prints
+returns-clause-prints g c =
+    cut_printed (width_of c.args.kernel.now.state.log.sup) (g.D.Device.disk c.args.kernel.now.device) c.args.kernel.now.state.submitted _ _ _ _
+    c.args.coll.now c.objects.last _ (sym c.has_failed.ensures ∙ c.objects-test.false) c.objects.invariant.printed

@@ -1,4 +1,4 @@
-use Rattle.std.proofs.Common.{refl, arith, ap, ◌∙◌}
+use Rattle.std.proofs.Common.{refl, arith, ap, sym, ◌∙◌}
 use Rattle.std.specs.Option.{option_copied}
 use Rattle.std.proofs.lemmas.Result.{err_from_is_err_and}
 use Rattle.meta_log.specs.Prelude.{width_of}
@@ -30,7 +30,7 @@ colls-preserved g c =
       disk = c.walk_coll.ensures.disk ∙ inv.disk;
       faults = omega (arith, inv.faults, c.walk_coll.ensures.later);
       printed = coll_printed (width_of s.log.sup) d s.submitted c.colls.last c.in-Some.coll _ inv.printed next
-          (coll_at s _ d _ c.in-Some.coll _ _ _ _ _ inv.same inv.disk c.in_ok-walk_coll.ensures.prints);
+          (sym c.has_failed.ensures ∙ c.if-has_failed.false) (coll_at s _ d _ c.in-Some.coll _ _ _ _ _ inv.same inv.disk c.in_ok-walk_coll.ensures.prints);
     }
 
 pub colls-smaller : goal.colls-smaller
@@ -49,7 +49,7 @@ returns-in_err-walk_coll-clause-prints g c =
     let next = coll_found s.submitted _ c.in_ok-coll.field-0 (option_copied c.as_ref.result) c.colls.last c.in-Some.coll
     (ap (λ s. s.submitted) inv.same) c.as_ref.ensures.value c.in-Some.is c.in_ok-coll.ensures.ok in
     let p = err_from_is_err_and c.from_residual-in_err-walk_coll.result c.from_residual-in_err-walk_coll.ensures.1 in
-    rw (p.1, p.2) (last_printed (width_of s.log.sup) d s.submitted c.colls.last c.in-Some.coll c.in_err-walk_coll.field-0.0 inv.printed next
+    rw (p.1, p.2) (last_printed (width_of s.log.sup) d s.submitted c.colls.last c.in-Some.coll _ tt inv.printed next
     (coll_at s _ d _ c.in-Some.coll _ _ _ _ _ inv.same inv.disk c.in_err-walk_coll.ensures.prints))
 
 pub returns-in_err-coll-clause-prints : goal.returns-in_err-coll-clause-prints
@@ -65,3 +65,14 @@ returns-clause-prints g c =
     walk_ended (width_of s.log.sup) (g.D.Device.disk c.args.kernel.now.device) s.submitted _ _ _ _ c.colls.last _ inv.printed
     (none_behind s.submitted _ c.in_ok-coll.field-0 (option_copied c.as_ref.result) c.colls.last (ap (λ s. s.submitted) inv.same)
     c.as_ref.ensures.value c.in_default.is c.in_ok-coll.ensures.ok)
+
+pub returns-then-has_failed-clause-prints : goal.returns-then-has_failed-clause-prints
+returns-then-has_failed-clause-prints g c =
+    let inv = c.colls.invariant in
+    let s = c.args.kernel.now.state in
+    let d = g.D.Device.disk c.args.kernel.now.device in
+    let next = coll_found s.submitted _ c.in_ok-coll.field-0 (option_copied c.as_ref.result) c.colls.last c.in-Some.coll
+    (ap (λ s. s.submitted) inv.same) c.as_ref.ensures.value c.in-Some.is c.in_ok-coll.ensures.ok in
+    let failed = sym c.has_failed.ensures ∙ c.if-has_failed.true in
+    last_printed (width_of s.log.sup) d s.submitted c.colls.last c.in-Some.coll _ (λ good. absurd cc) inv.printed next
+    (coll_at s _ d _ c.in-Some.coll _ _ _ _ _ inv.same inv.disk c.in_ok-walk_coll.ensures.prints)

@@ -3,7 +3,7 @@ use Rattle.std.specs.List.{AllByRecursion}
 use Rattle.meta_rows.specs.Prelude.{rows_from_to}
 use Rattle.meta_rows.proofs.RangeLemmas.{left_more, left_none}
 use Rattle.row_format.specs.Prelude.{object_key, shard_key}
-use Rattle.object_rows.specs.Prelude.{AreShardsOf}
+use Rattle.draft_rows.specs.Prelude.{AreShardsOf}
 use Rattle.onode_state.proofs.ShardRows.{IsShardEntry, range_is_shards, range_has_all}
 use Rattle.onode_state.proofs.ReadShards.{AreRead, none_read, shards_by_entries, value_at, read_more, all_read}
 use Rattle.onode_state.proofs.States.{numbers_of}

@@ -6,4 +6,4 @@ use Rattle.run_texts.proofs.reports.report_step.Goals as goal
 
 pub returns : goal.returns
 returns g c =
-    with_end (c.status_of.ensures ∙ c.run_stop-stop.ensures ∙ ap (λ (bad : Bool). end_status bad c.args.end.now) (c.has_csum.ensures ∙ ap (λ (es : List Entry). has_csum es) c.as_slice.ensures)) (c.print_rest.ensures _ _ (from_nothing c.new-text.ensures c.push_step.ensures))
+    with_end (c.run_status-status.ensures ∙ ap (λ (bad : Bool). end_status bad c.args.end.now) (c.has_csum.ensures ∙ ap (λ (es : List Entry). has_csum es) c.as_slice.ensures)) (c.print_rest.ensures _ _ (from_nothing c.new-text.ensures c.push_step.ensures))

@@ -1,4 +1,3 @@
-use Rattle.std.proofs.Common.{◌∙◌}
 use Rattle.script_text.proofs.Forms.{mkcoll_says, mkcoll_line}
 use Rattle.script_text.proofs.grammar.read_mkcoll.Goals as goal
 
@@ -10,4 +9,4 @@ returns-in_default c what line =
 pub returns : goal.returns
 returns c =
     let coll = rw c.in-Some.is at c.in_ok-coll.ensures in
-    mkcoll_line c.args.rest.now c.in-Some.coll c.of.result coll.0 coll.1 (c.of.ensures ∙ c.in_ok-what.ensures)
+    mkcoll_line c.args.rest.now c.in-Some.coll c.op.result coll.0 coll.1 c.op.ensures

@@ -1,4 +1,3 @@
-use Rattle.std.proofs.Common.{◌∙◌}
 use Rattle.script_text.proofs.Forms.{remove_says, remove_line}
 use Rattle.script_text.proofs.grammar.read_remove.Goals as goal
 
@@ -11,4 +10,4 @@ returns-in_default c what line =
 pub returns : goal.returns
 returns c =
     let names = rw c.in-Some.is at c.in_ok-coll.ensures in
-    remove_line c.args.rest.now c.in-Some.coll c.in-Some.object c.of.result names (c.of.ensures ∙ c.in_ok-what.ensures)
+    remove_line c.args.rest.now c.in-Some.coll c.in-Some.object c.op.result names c.op.ensures

@@ -1,4 +1,3 @@
-use Rattle.std.proofs.Common.{◌∙◌}
 use Rattle.script_text.proofs.Forms.{truncate_says, truncate_line}
 use Rattle.script_text.proofs.grammar.read_truncate.Goals as goal
 
@@ -11,4 +10,4 @@ returns-in_default c what line =
 pub returns : goal.returns
 returns c =
     let names = rw c.in-Some.is at c.in_ok-coll.ensures in
-    truncate_line c.args.rest.now c.in-Some.coll c.in-Some.object c.in-Some.size c.of.result names (c.of.ensures ∙ c.in_ok-what.ensures)
+    truncate_line c.args.rest.now c.in-Some.coll c.in-Some.object c.in-Some.size c.op.result names c.op.ensures

@@ -1,4 +1,3 @@
-use Rattle.std.proofs.Common.{◌∙◌}
 use Rattle.script_text.proofs.Forms.{zero_says, zero_line}
 use Rattle.script_text.proofs.grammar.read_zero.Goals as goal
 
@@ -11,4 +10,4 @@ returns-in_default c what line =
 pub returns : goal.returns
 returns c =
     let names = rw c.in-Some.is at c.in_ok-coll.ensures in
-    zero_line c.args.rest.now c.in-Some.coll c.in-Some.object c.in-Some.off c.in-Some.len c.of.result names (c.of.ensures ∙ c.in_ok-what.ensures)
+    zero_line c.args.rest.now c.in-Some.coll c.in-Some.object c.in-Some.off c.in-Some.len c.op.result names c.op.ensures

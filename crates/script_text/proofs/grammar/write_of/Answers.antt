@@ -1,4 +1,6 @@
-use Rattle.std.proofs.Common.{◌≡◌, None, Some}
+use Rattle.std.proofs.Common.{◌≡◌, None, Some, ap, ◌∙◌}
+use Rattle.object_model.specs.declared.op.Op.{Op}
+use Rattle.script_text.specs.Prelude.{op_line}
 use Rattle.script_text.proofs.Forms.{write_words, write_say}
 use Rattle.script_text.proofs.grammar.write_of.Goals as goal
 
@@ -14,4 +16,5 @@ returns c =
     let object = rw c.in-Some-3.is at c.in_ok-object.ensures in
     let spelled = rw c.in-Some-4.is at c.in_ok-bytes.ensures.spelled in
     write_say c.args.coll.now c.args.object.now c.args.off.now c.args.data_word.now c.in-Some-2.coll c.in-Some-3.object c.in-Some.off c.in-Some-4.bytes
-    c.write.result coll.0 coll.1 object c.in-Some.ensures spelled c.write.ensures
+    c.kept_op.result coll.0 coll.1 object c.in-Some.ensures spelled
+    (c.kept_op.ensures ∙ ap (λ (o : Op). op_line c.in-Some-2.coll o) c.write-op.ensures)

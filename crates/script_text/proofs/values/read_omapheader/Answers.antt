@@ -1,3 +1,6 @@
+use Rattle.std.proofs.Common.{ap, ◌∙◌}
+use Rattle.object_model.specs.declared.op.Op.{Op}
+use Rattle.script_text.specs.Prelude.{op_line}
 use Rattle.script_text.proofs.ValueForms.{omapheader_none, omapheader_line}
 use Rattle.script_text.proofs.values.read_omapheader.Goals as goal
 
@@ -7,4 +10,5 @@ returns-in_default c what line = omapheader_none c.args.rest.now what (rw c.in_d
 pub returns : goal.returns
 returns c =
     let names = rw c.in-Some.is at c.in_ok-coll.ensures in
-    omapheader_line c.args.rest.now c.in-Some.coll c.in-Some.object c.in-Some.value c.omap_header.result names c.omap_header.ensures
+    omapheader_line c.args.rest.now c.in-Some.coll c.in-Some.object c.in-Some.value c.kept_op.result names
+    (c.kept_op.ensures ∙ ap (λ (o : Op). op_line c.in-Some.coll o) c.omap_header-op.ensures)

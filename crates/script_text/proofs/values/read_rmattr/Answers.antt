@@ -1,4 +1,3 @@
-use Rattle.std.proofs.Common.{◌∙◌}
 use Rattle.script_text.proofs.ValueForms.{rmattr_none, rmattr_line}
 use Rattle.script_text.proofs.values.read_rmattr.Goals as goal
 
@@ -8,4 +7,4 @@ returns-in_default c what line = rmattr_none c.args.rest.now what (rw c.in_defau
 pub returns : goal.returns
 returns c =
     let names = rw c.in-Some.is at c.in_ok-coll.ensures in
-    rmattr_line c.args.rest.now c.in-Some.coll c.in-Some.object c.in-Some.name c.of.result names (c.of.ensures ∙ c.in_ok-what.ensures)
+    rmattr_line c.args.rest.now c.in-Some.coll c.in-Some.object c.in-Some.name c.op.result names c.op.ensures

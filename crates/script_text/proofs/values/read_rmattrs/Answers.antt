@@ -1,4 +1,3 @@
-use Rattle.std.proofs.Common.{◌∙◌}
 use Rattle.script_text.proofs.ValueForms.{rmattrs_none, rmattrs_line}
 use Rattle.script_text.proofs.values.read_rmattrs.Goals as goal
 
@@ -8,4 +7,4 @@ returns-in_default c what line = rmattrs_none c.args.rest.now what (rw c.in_defa
 pub returns : goal.returns
 returns c =
     let names = rw c.in-Some.is at c.in_ok-coll.ensures in
-    rmattrs_line c.args.rest.now c.in-Some.coll c.in-Some.object c.of.result names (c.of.ensures ∙ c.in_ok-what.ensures)
+    rmattrs_line c.args.rest.now c.in-Some.coll c.in-Some.object c.op.result names c.op.ensures

@@ -1,4 +1,3 @@
-use Rattle.std.proofs.Common.{◌∙◌}
 use Rattle.script_text.proofs.Forms.{rmcoll_says, rmcoll_line}
 use Rattle.script_text.proofs.values.read_rmcoll.Goals as goal
 
@@ -10,4 +9,4 @@ returns-in_default c what line =
 pub returns : goal.returns
 returns c =
     let coll = rw c.in-Some.is at c.in_ok-coll.ensures in
-    rmcoll_line c.args.rest.now c.in-Some.coll c.of.result coll.0 coll.1 (c.of.ensures ∙ c.in_ok-what.ensures)
+    rmcoll_line c.args.rest.now c.in-Some.coll c.op.result coll.0 coll.1 c.op.ensures

@@ -1,6 +1,6 @@
 use Rattle.std.proofs.lemmas.Result.{IfOk-weaker}
 use Rattle.bitmap_freelist.specs.Bitmap.{AreFlips}
-use Rattle.plan_rows.specs.Prelude.{TurnsBits}
+use Rattle.plan_drafts.specs.Prelude.{TurnsBits}
 use Rattle.txn_planner.proofs.Turned.{turns_both}
 use Rattle.txn_planner.proofs.turns.turned_bits.Goals as goal
 

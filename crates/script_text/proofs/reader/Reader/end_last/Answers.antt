@@ -4,9 +4,9 @@ use Rattle.script_text.proofs.Readers.{none_of, done_bad, done_ended, done_last}
 use Rattle.script_text.proofs.reader.Reader.end_last.Goals as goal
 use Rattle.script_text.proofs.reader.Reader.end_last.Goals.{then-is_some-via-then-is_some, then-is_some-via-else-is_some+then-is_empty}
 
-pub returns-then-is_some : goal.returns-then-is_some
-returns-then-is_some c bytes after = elim c.then-is_some.branch [
-  | then-is_some-via-then-is_some w ↦ done_bad bytes c.args.self.now.lines.items _ c.args.self.now.bad c.is_some.result c.is_some.ensures w.if-is_some.true
+pub returns-then-is_some-clause-end : goal.returns-then-is_some-clause-end
+returns-then-is_some-clause-end c bytes after = elim c.then-is_some.branch [
+  | then-is_some-via-then-is_some w ↦ done_bad bytes _ _ c.args.self.now.bad c.is_some.result c.is_some.ensures w.if-is_some.true
       after
   | then-is_some-via-else-is_some+then-is_empty w ↦
       let none = none_of c.args.self.now.bad c.is_some.result c.is_some.ensures w.if-is_some.false in
@@ -15,8 +15,8 @@ returns-then-is_some c bytes after = elim c.then-is_some.branch [
       done_ended bytes c.args.self.now none empty after
 ]
 
-pub returns : goal.returns
-returns c bytes =
+pub returns-clause-end : goal.returns-clause-end
+returns-clause-end c bytes =
     let none = none_of c.args.self.now.bad c.is_some.result c.is_some.ensures c.if-is_some.false in
     let some : c.args.self.now.text.items ≢ [] = search rules in
-    done_last bytes c.args.self.now c.end_line.new.self none some c.in_ok-end_line.ensures.ends
+    done_last bytes c.args.self.now c.end_line.new.self none some c.in_ok-end_line.ensures.count c.in_ok-end_line.ensures.ends

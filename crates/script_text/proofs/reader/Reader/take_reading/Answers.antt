@@ -1,7 +1,18 @@
-use Rattle.script_text.proofs.Readers.{kept_passed}
+use Rattle.std.proofs.Common.{◌≡◌, ◌+◌, Bool, true, false, sym, subst, ◌∙◌, arith}
+use Rattle.script_text.specs.Prelude.{Says, next, Becomes}
+use Rattle.script_text.proofs.Readers.{line_goes, kept_good}
 use Rattle.script_text.proofs.reader.Reader.take_reading.Goals as goal
+use Rattle.script_text.proofs.reader.Reader.take_reading.Goals.{in-Some+in_ok-fits-in-Some, in-None}
 
-pub returns-in-PassedOver-clause-ends : goal.returns-in-PassedOver-clause-ends
-returns-in-PassedOver-clause-ends c texts text has count good le reading =
-    let passed = rw c.in-PassedOver.is at reading in
-    rw good (kept_passed texts text c.args.self.now.lines.items c.args.self.now.commands_left has le passed)
+pub returns-else-not-fits-clause-ends : goal.returns-else-not-fits-clause-ends
+returns-else-not-fits-clause-ends c texts text good count none short reading = elim c.match-found.branch [
+  | in-Some+in_ok-fits-in-Some w ↦
+      let n = c.args.self.now.count + 1 in
+      let old = c.args.self.now.parser in
+      let new = w.take.new.self in
+      let s = w.in-Some.statement in
+      let says : Says text s = rw w.in-Some.is at reading in
+      let becomes = subst (λ (b : Bool). Becomes (next n old s) b new) (sym w.fits-is ∙ c.if-not-fits.false) w.in_ok-fits-in-Some.ensures in
+      kept_good texts text _ c.match-found.self w.self-is none (line_goes texts text old new n s good short says (omega (arith, count)) becomes)
+  | in-None w ↦ let never : true ≡ false = sym c.if-not-fits.false ∙ w.fits-is in absurd cc
+]

@@ -5,7 +5,7 @@ use Rattle.unit_allocator.specs.Prelude.{taken}
 use Rattle.write_buffers.specs.Prelude.{memory_in}
 use Rattle.store_kernel.proofs.Keeping.{known_accept, known_same}
 use Rattle.store_kernel.proofs.Memories.{accept_memory}
-use Rattle.store_kernel.proofs.Admitting.{planned_fits, fresh_is_free, fresh_are_few, fresh_absent, found_added, added_is_found, accepted_state, accepted}
+use Rattle.store_kernel.proofs.Admitting.{planned_keeps, fresh_is_free, fresh_are_few, fresh_absent, found_added, added_is_found, accepted_state, accepted}
 use Rattle.store_kernel.proofs.kernel.Kernel.accept.Goals as goal
 
 pub split-context-requires : goal.split-context-requires
@@ -26,7 +26,7 @@ enter-requires-clause-ascend g c =
     let can = rw (← c.self.view_is) at c.requires.can_note in
     let prepared = rw (← c.self.view_is) at c.requires.prepared in
     rw c.split-context.ensures.context
-    (planned_fits _ _ c.args.txn c.args.ready.plan c.self.invariant.kept can c.requires.known prepared.plan).ascend
+    (planned_keeps _ _ c.args.txn c.args.ready.plan c.self.invariant.kept can c.requires.known prepared.plan).ascend
 
 pub unreachable-requires-in_default-get : goal.unreachable-requires-in_default-get
 unreachable-requires-in_default-get g c =
@@ -46,7 +46,7 @@ take_fresh-requires-clause-ascend g c =
     found_added _ _ c.enter.new.contexts c.split-context.result.0 c.in-Some.added.now c.len-place.result c.self.invariant.kept can entry place c.in-Ok.ensures.waits
     c.in-Some.ensures in
     rw (c.fresh.ensures, added, c.split-context.ensures.context)
-    (planned_fits _ _ c.args.txn c.args.ready.plan c.self.invariant.kept can c.requires.known prepared.plan).ascend
+    (planned_keeps _ _ c.args.txn c.args.ready.plan c.self.invariant.kept can c.requires.known prepared.plan).ascend
 
 pub take_fresh-requires-clause-free : goal.take_fresh-requires-clause-free
 take_fresh-requires-clause-free g c =

@@ -2,7 +2,7 @@ use Rattle.std.proofs.Common.{sym, subst}
 use Rattle.write_buffers.specs.Prelude.{memory_in}
 use Rattle.page_sources.specs.Prelude.{CanReadPlaces, IsPlacesFail}
 use Rattle.store_kernel.specs.Submitting.{cause_of_plan, cause_of_read, IsCauseOf}
-use Rattle.store_kernel.proofs.Admitting.{rows_of_width, given, planned_fits, no_draft, not_read, handed_on}
+use Rattle.store_kernel.proofs.Admitting.{rows_of_width, given, planned_keeps, planned_short, no_draft, not_read, handed_on}
 use Rattle.store_kernel.proofs.Reading.{can_read_places}
 use Rattle.store_kernel.proofs.kernel.Kernel.planned.Goals as goal
 
@@ -24,7 +24,7 @@ read_places-requires g c =
     let disk = g.D.Device.disk c.self.inside.device in
     let draft = rw (c.width-width.ensures) at c.in_ok-draft.ensures.ok in
     record {
-      can = rw (c.places.ensures) (can_read_places _ disk (memory_in c.self.inside.buffers) c.args.txn.now draft.need _ c.self.invariant.kept can.up
+      can = rw (c.places.ensures) (can_read_places _ disk (memory_in c.self.inside.buffers) c.args.txn.now c.in_ok-draft.draft.planning.taken _ c.self.invariant.kept can.up
           c.self.invariant.memory draft.asks);
     }
 
@@ -54,7 +54,7 @@ pub returns-clause-fit : goal.returns-clause-fit
 returns-clause-fit g c =
     let can = rw (← c.self.view_is) at c.requires.can_note in
     let disk = g.D.Device.disk c.self.inside.device in
-    (planned_fits _ disk c.args.txn.now c.in_ok-plan.plan c.self.invariant.kept can c.requires.known
+    (planned_keeps _ disk c.args.txn.now c.in_ok-plan.plan c.self.invariant.kept can c.requires.known
     (given _ disk c.args.txn.now c.in_ok-plan.plan (memory_in c.self.inside.buffers) c.in_ok-read.read c.self.invariant.kept can c.self.invariant.memory
     (rw (c.width-width.ensures) at c.in_ok-plan.ensures.ok) c.in_ok-plan.ensures.read c.in_ok-read.ensures.found)).fit
 
@@ -62,6 +62,6 @@ pub returns-clause-short : goal.returns-clause-short
 returns-clause-short g c =
     let can = rw (← c.self.view_is) at c.requires.can_note in
     let disk = g.D.Device.disk c.self.inside.device in
-    (planned_fits _ disk c.args.txn.now c.in_ok-plan.plan c.self.invariant.kept can c.requires.known
+    planned_short _ disk c.args.txn.now c.in_ok-plan.plan c.self.invariant.kept can
     (given _ disk c.args.txn.now c.in_ok-plan.plan (memory_in c.self.inside.buffers) c.in_ok-read.read c.self.invariant.kept can c.self.invariant.memory
-    (rw (c.width-width.ensures) at c.in_ok-plan.ensures.ok) c.in_ok-plan.ensures.read c.in_ok-read.ensures.found)).short
+    (rw (c.width-width.ensures) at c.in_ok-plan.ensures.ok) c.in_ok-plan.ensures.read c.in_ok-read.ensures.found)

@@ -1,0 +1,212 @@
+-- What is seen through the changes at the end of planning are the rows of the draft.
+use Rattle.std.proofs.Common.{◌≡◌, ◌⊎◌, inl, inr, ℕ, ◌<◌, ◌≤◌, ◌^◌, Bool, true, false, cond, List, [], length, Option, Some, None, is_some, refl, sym, ap, subst, ◌∙◌, arith}
+use Rattle.std.specs.Prelude.{unwrap_or, ◌||◌}
+use Rattle.std.specs.Option.{option_map}
+use Rattle.std.specs.Ordering.{nat_cmp}
+use Rattle.std.specs.FinMap as finite
+use Rattle.std.proofs.lemmas.Bool.{cases_Bool}
+use Rattle.unit_fields.specs.Prelude.{IsName, IsCollName}
+use Rattle.unit_fields.specs.declared.width.Width.{Width}
+use Rattle.meta_rows.specs.Prelude.{Rows}
+use Rattle.row_format.specs.Prelude.{coll_key, onode_key, shard_key, BeginsAt, Place}
+use Rattle.row_facts.proofs.Maps.{get_same, get_other}
+use Rattle.row_changes.specs.Prelude.{ChangeMap, seen}
+use Rattle.store_image.specs.Prelude.{pages_of}
+use Rattle.store_image.proofs.Prelude.{equal_or_not}
+use Rattle.plan_drafts.specs.declared.draft.Draft.{Draft}
+use Rattle.plan_drafts.specs.Prelude.{Held, is_there, Layout, or_empty, IsKeyOf, size_at, extents_at, AreReplaced, GetsLayout, stays, replaces, ValueKey, value_key, IsValueKey, CollDraft, laid, laid_at, IsKeyOfColl, GetsDraft}
+use Rattle.draft_rows.proofs.Laid.{laid_cases, StandsAt, by_taking, as_before}
+use Rattle.draft_rows.proofs.Reached.{IsReached}
+use Rattle.txn_planner.specs.declared.planning.Planning.{Planning}
+use Rattle.txn_planner.specs.declared.touched.Touched.{Touched}
+use Rattle.txn_planner.specs.Planning.{IsStateOf}
+use Rattle.txn_planner.specs.Touching.{IsTouched}
+use Rattle.txn_planner.specs.Laying.{differs, is_changed, TakesBelow, AllTakeBelow, AllNamed, laid_now, with_objects, with_rows, AreNew, HaveNumbers, IsChangesOf}
+use Rattle.page_edits.proofs.Lists.{contains_in}
+use Rattle.txn_planner.proofs.ObjectNames.{among_keys}
+use Rattle.txn_planner.proofs.SameLayouts.{begins_stands, laid_again, same_layout, other_layout}
+use Rattle.txn_planner.proofs.ObjectRows.{coll_apart, value_apart, value_no_coll, IsAnew, AreSound, Keeps, objects_others, objects_kept, objects_anew}
+
+-- what a page that stands somewhere is in one of the draft's maps
+stands_there : (units : List ℕ) (held : Held) (x : Draft) (page : ℕ) (place : Place) → StandsAt units held x page place → is_there x page ≡ true
+stands_there units held x page _ (by_taking taking put) =
+    ap (λ (z : Option ℕ). finite.contains_key x.kept page || is_some z) put ∙ or_true (finite.contains_key x.kept page)
+  where
+    or_true : (b : Bool) → (b || true) ≡ true
+    or_true true = refl
+    or_true false = refl
+stands_there units held x page place (as_before _ none kept) = ap (λ (z : Option Place). is_some z || finite.contains_key x.puts page) kept
+
+module _ (w : Width) (rows : Rows) (c : List ℕ) (coll : IsCollName c) (p : Planning) (units : List ℕ) (held : Held)
+    (below : AllTakeBelow (length units) p.objects) (layouts : List ℕ → Option Layout) (d : CollDraft) (state : IsStateOf rows c layouts d p)
+    (new : AreNew layouts units) (numbers : HaveNumbers d) where
+  abbrev changes : ChangeMap
+  changes = with_objects w c units held (finite.keys p.objects) p.objects p.values
+
+  abbrev coll_row : Option (List ℕ)
+  coll_row = cond p.there (Some []) None
+
+  begins_below : (o : List ℕ) (t : Touched) → finite.get p.objects o ≡ Some t → (page : ℕ) → BeginsAt page (extents_at (laid_now units held t))
+      → page < 2 ^ 32
+  begins_below o t is page begins =
+      let stands = begins_stands (or_empty (laid_now units held t)).pages page begins in by t.now refl stands.0 stands.1
+    where
+      by : (z : Option Draft) → t.now ≡ z → (place : Place) → finite.get (or_empty (option_map (laid units held) z)).pages page ≡ Some place
+          → page < 2 ^ 32
+      by None q place found = absurd (let none = sym (finite.get-empty nat_cmp page) ∙ found in cc)
+      by (Some x) q place found =
+          let touched = state.touched o t is in
+          numbers o x touched.named (sym touched.now_is ∙ q) page (stands_there units held x page place (laid_cases units held x page place found))
+
+  sound : AreSound units held p.objects
+  sound = record {
+    named = λ o t is. (state.touched o t is).named;
+    below = λ o t is. (state.touched o t is).shards.below;
+    numbers = begins_below;
+  }
+
+  -- no onode and no shard is among the values
+  no_value : (o key : List ℕ) → IsKeyOf c o key → finite.get p.values key ≡ None
+  no_value o key of = by (finite.get p.values key) refl
+    where
+      by : (z : Option (Option (List ℕ))) → finite.get p.values key ≡ z → z ≡ None
+      by None q = refl
+      by (Some v) q = let its = state.of_values key (ap is_some q) in absurd (value_apart c o its.0 key of its.2)
+
+  -- a value's key is as it was
+  value_kept : (o : List ℕ) (k : ValueKey) → IsValueKey k → finite.get changes (value_key c o k) ≡ finite.get p.values (value_key c o k)
+  value_kept o k named = elim (objects_others w c coll units held (finite.keys p.objects) p.objects p.values sound (value_key c o k)) [
+    | inl its ↦ absurd (value_apart c its.0 o (value_key c o k) its.2 (record { of = k; named = named; is = refl }))
+    | inr same ↦ same
+  ]
+
+  module _ (after : Rows) (are : (key : List ℕ) → finite.get after key ≡ seen rows (with_rows w c units held p) key) where
+    abbrev seen_as : List ℕ → Option (Option (List ℕ)) → Option (List ℕ)
+    seen_as key z = unwrap_or z (finite.get rows key)
+
+    coll_after : finite.get after (coll_key c) ≡ cond d.there (Some []) None
+    coll_after = are (coll_key c) ∙ ap (seen_as (coll_key c)) (get_same changes (coll_key c) coll_row) ∙ ap (λ b. cond b (Some []) None) state.there
+
+    seen_by : (key : List ℕ) → (key ≡ coll_key c → ⊥) → finite.get after key ≡ seen_as key (finite.get changes key)
+    seen_by key apart = are key ∙ ap (seen_as key) (get_other changes (coll_key c) coll_row key apart)
+
+    seen_object : (o key : List ℕ) → IsKeyOf c o key → finite.get after key ≡ seen_as key (finite.get changes key)
+    seen_object o key of = seen_by key (coll_apart c o key of)
+
+    -- ---- an object
+
+    module _ (o : List ℕ) (name : IsName o) where
+      rows_stay : Keeps p.objects o → (key : List ℕ) → IsKeyOf c o key → finite.get after key ≡ finite.get rows key
+      rows_stay keeps key of = seen_object o key of ∙ ap (seen_as key)
+          (objects_kept w c coll units held (finite.keys p.objects) p.objects p.values o name sound keeps key of ∙ no_value o key of)
+
+      -- one that no operation has looked at
+      untouched_same : finite.get p.objects o ≡ None → layouts o ≡ laid_at units held d o
+      untouched_same is = laid_again units held (layouts o) ∙ ap (option_map (laid units held)) (sym (state.untouched o name is))
+
+      -- one that some have
+      module _ (t : Touched) (is : finite.get p.objects o ≡ Some t) where
+        abbrev touched : IsTouched rows c o (layouts o) (d.layout o) t
+        touched = state.touched o t is
+
+        now_laid : laid_now units held t ≡ laid_at units held d o
+        now_laid = ap (option_map (laid units held)) touched.now_is
+
+        as_draft : is_changed t ≡ differs (size_at (layouts o)) t.left (d.layout o)
+        as_draft = λ i. differs (touched.before i) t.left (touched.now_is i)
+
+        takes : TakesBelow (length units) (d.layout o)
+        takes = subst (TakesBelow (length units)) touched.now_is (below o t is)
+
+        keeps_it : is_changed t ≡ false → Keeps p.objects o
+        keeps_it same u found = let one : Some u ≡ Some t = sym found ∙ is in let e : u ≡ t = cc in ap is_changed e ∙ same
+
+        touched_same : is_changed t ≡ false → layouts o ≡ laid_at units held d o
+        touched_same same = same_layout units held (layouts o) t.left (d.layout o) touched.kept (sym as_draft ∙ same)
+
+        touched_other : is_changed t ≡ true → layouts o ≡ laid_at units held d o → ⊥
+        touched_other changed = other_layout units held (layouts o) (λ page unit csum. new o page unit csum name) t.left (d.layout o) touched.gone takes
+            (sym as_draft ∙ changed)
+
+        replaced : is_changed t ≡ true → AreReplaced w after c o (size_at (laid_now units held t)) (extents_at (laid_now units held t))
+        replaced changed = record {
+          onode = seen_object o (onode_key c o) (inl refl) ∙ ap (seen_as (onode_key c o)) anew.onode;
+          shard = λ page begins. seen_object o (shard_key c o page) (inr (page, begins_below o t is page begins, refl))
+              ∙ ap (seen_as (shard_key c o page)) (anew.shard page begins);
+          no_other = λ page lt not. seen_object o (shard_key c o page) (inr (page, lt, refl)) ∙ none page lt not (finite.get rows (shard_key c o page)) refl;
+        }
+          where
+            anew : IsAnew w c o t.shards.items (laid_now units held t) p.values changes
+            anew = objects_anew w c coll units held (finite.keys p.objects) p.objects p.values o t name sound (among_keys p.objects o t is) is changed
+
+            -- a shard that was there is gone, and one that wasn't is none
+            none : (page : ℕ) → page < 2 ^ 32 → (BeginsAt page (extents_at (laid_now units held t)) → ⊥) → (z : Option (List ℕ))
+                → finite.get rows (shard_key c o page) ≡ z → seen_as (shard_key c o page) (finite.get changes (shard_key c o page)) ≡ None
+            none page lt not (Some value) q =
+                ap (seen_as (shard_key c o page)) (anew.gone page lt not (contains_in t.shards.items page (touched.shards.all page lt (ap is_some q))))
+            none page lt not None q = elim (anew.other page lt not) [
+              | inl gone ↦ ap (seen_as (shard_key c o page)) gone
+              | inr same ↦ ap (seen_as (shard_key c o page)) (same ∙ no_value o (shard_key c o page) (inr (page, lt, refl))) ∙ q
+            ]
+
+        gets_touched : GetsLayout w rows after c o (layouts o) (laid_at units held d o)
+        gets_touched = elim (cases_Bool (is_changed t)) [
+          | inl changed ↦ replaces (touched_other changed) (subst (λ z. AreReplaced w after c o (size_at z) (extents_at z)) now_laid (replaced changed))
+          | inr same ↦ stays (touched_same same) (rows_stay (keeps_it same))
+        ]
+
+      gets_object : GetsLayout w rows after c o (layouts o) (laid_at units held d o)
+      gets_object = by (finite.get p.objects o) refl
+        where
+          by : (z : Option Touched) → finite.get p.objects o ≡ z → GetsLayout w rows after c o (layouts o) (laid_at units held d o)
+          by None q = stays (untouched_same q) (rows_stay (λ t is. absurd (let none = sym q ∙ is in cc)))
+          by (Some t) q = gets_touched t q
+
+    -- ---- values, and all other rows
+
+    gets_value : (o : List ℕ) (k : ValueKey) → IsName o → IsValueKey k → finite.get after (value_key c o k) ≡ d.value o k
+    gets_value o k name named = seen_by (value_key c o k) (value_no_coll c o k) ∙ ap (seen_as (value_key c o k)) (value_kept o k named)
+        ∙ state.values o k name named
+
+    others : (key : List ℕ) → IsKeyOfColl c key ⊎ (finite.get after key ≡ finite.get rows key)
+    others key = elim (equal_or_not key (coll_key c)) [
+      | inl e ↦ inl (inl e)
+      | inr apart ↦ elim (objects_others w c coll units held (finite.keys p.objects) p.objects p.values sound key) [
+        | inl its ↦ inl (inr (its.0, its.1, inl its.2))
+        | inr same ↦ by apart same (finite.get p.values key) refl
+      ]
+    ]
+      where
+        by : (key ≡ coll_key c → ⊥) → finite.get changes key ≡ finite.get p.values key → (z : Option (Option (List ℕ))) → finite.get p.values key ≡ z
+            → IsKeyOfColl c key ⊎ (finite.get after key ≡ finite.get rows key)
+        by apart same None q = inr (seen_by key apart ∙ ap (seen_as key) (same ∙ q))
+        by apart same (Some v) q = let its = state.of_values key (ap is_some q) in inl (inr (its.0, its.1, inr its.2))
+
+    pub gets_draft : GetsDraft w rows after c layouts units held d
+    gets_draft = record { coll = coll_after; objects = gets_object; values = gets_value; others = others }
+
+-- the changes at the end are those of the state
+pub are_changes : (w : Width) (rows : Rows) (c : List ℕ) → IsCollName c → (p : Planning) (units : List ℕ) (held : Held)
+    → AllTakeBelow (length units) p.objects → IsChangesOf w rows c p units held (with_rows w c units held p)
+are_changes w rows c coll p units held below layouts d state new numbers after are =
+    gets_draft w rows c coll p units held below layouts d state new numbers after are
+
+-- ---- what a caller knows of a draft that operations have led to
+
+module _ (layouts : List ℕ → Option Layout) (d : CollDraft) (reached : IsReached layouts d) where
+  pub numbers_fit : HaveNumbers d
+  numbers_fit o x name is page there =
+      let r = reached.objects o x name is in
+      let few : pages_of x.size ≤ 2 ^ 32 = omega (arith, r.most) in
+      omega (arith, r.ends page there, few)
+
+  module _ (rows : Rows) (c : List ℕ) (p : Planning) (state : IsStateOf rows c layouts d p) where
+    pub all_named : AllNamed p.objects
+    all_named o t is = (state.touched o t is).named
+
+    -- the takings are those of the draft, of which there are no more than so many
+    pub all_taken : (n : ℕ) → d.taken ≤ n → AllTakeBelow n p.objects
+    all_taken n most o t is x page taking there put =
+        let touched = state.touched o t is in
+        let below : taking < d.taken = (reached.objects o x touched.named (sym touched.now_is ∙ there)).below page taking put in
+        omega (arith, below, most)

@@ -1,0 +1,106 @@
+use Rattle.std.proofs.Common.{◌≡◌, ◌↔◌, ℕ, ◌<◌, List, Contains, length, map, refl, sym, ap, subst, ◌∙◌}
+use Rattle.std.specs.List.{AllByRecursion}
+use Rattle.meta_rows.specs.declared.row_op.RowOp.{RowOp}
+use Rattle.plan_drafts.specs.Prelude.{filled, none_held}
+use Rattle.plan_rows.specs.declared.plan.FreshUnit.{FreshUnit}
+use Rattle.page_edits.specs.Writes.{CanBeMade, after_writes, held_in}
+use Rattle.txn_planner.specs.Finishing.{AreRowOps}
+use Rattle.txn_planner.specs.Laying.{AllTakeBelow, IsChangesOf}
+use Rattle.txn_planner.proofs.Finished.{can_be_made, as_many, named, below, all_below, is_plan}
+use Rattle.txn_planner.proofs.drafts.Draft.finish.Goals as goal
+
+pub contents-requires-clause-can : goal.contents-requires-clause-can
+contents-requires-clause-can c =
+    let p = c.args.self.planning in
+    subst (λ ops. AllByRecursion (CanBeMade ops p.taken) c.deref.result.now) (sym c.ops.ensures.operations)
+    (subst (AllByRecursion (CanBeMade c.args.txn.now.ops p.taken)) (sym c.deref.ensures.value)
+    (can_be_made c.args.width c.args.txn.now c.args.rows.now.rows c.args.space.now c.args.self c.requires.good c.requires.draft))
+
+pub fresh_units-requires-clause-units : goal.fresh_units-requires-clause-units
+fresh_units-requires-clause-units c =
+    let w = c.args.width in
+    let change = c.args.txn.now in
+    let rows = c.args.rows.now.rows in
+    let space = c.args.space.now in
+    let draft = c.args.self in
+    let takings : List ℕ = c.in_ok-takings.takings.items in
+    let many : draft.planning.taken ≡ length c.deref-3.result.now =
+    sym (as_many w change rows space draft c.requires.good c.requires.draft) ∙ ap (λ (us : List ℕ). length us) (sym c.deref-3.ensures.value) in
+    subst (λ n. AllByRecursion (λ t. t < n) c.deref-2.result.now) many
+    (subst (AllByRecursion (λ t. t < draft.planning.taken)) (sym c.deref-2.ensures.value)
+    (all_below w change rows space draft c.requires.good c.requires.draft takings c.in_ok-takings.ensures.put))
+
+pub fresh_units-requires-clause-contents : goal.fresh_units-requires-clause-contents
+fresh_units-requires-clause-contents c =
+    let w = c.args.width in
+    let change = c.args.txn.now in
+    let rows = c.args.rows.now.rows in
+    let space = c.args.space.now in
+    let draft = c.args.self in
+    let takings : List ℕ = c.in_ok-takings.takings.items in
+    let many : draft.planning.taken ≡ length c.as_slice-2.result.now =
+    sym c.in_ok-held.ensures.count ∙ ap (λ (l : List (List ℕ)). length l) (sym c.as_slice-2.ensures) in
+    subst (λ n. AllByRecursion (λ t. t < n) c.deref-2.result.now) many
+    (subst (AllByRecursion (λ t. t < draft.planning.taken)) (sym c.deref-2.ensures.value)
+    (all_below w change rows space draft c.requires.good c.requires.draft takings c.in_ok-takings.ensures.put))
+
+pub changed_rows-requires-clause-named : goal.changed_rows-requires-clause-named
+changed_rows-requires-clause-named c =
+    named c.args.width c.args.txn.now c.args.rows.now.rows c.args.space.now c.args.self c.requires.good c.requires.draft
+
+pub changed_rows-requires-clause-units : goal.changed_rows-requires-clause-units
+changed_rows-requires-clause-units c =
+    let w = c.args.width in
+    let change = c.args.txn.now in
+    let rows = c.args.rows.now.rows in
+    let space = c.args.space.now in
+    let draft = c.args.self in
+    let many : draft.planning.taken ≡ length c.deref-5.result.now =
+    sym (as_many w change rows space draft c.requires.good c.requires.draft) ∙ ap (λ (us : List ℕ). length us) (sym c.deref-5.ensures.value) in
+    subst (λ n. AllTakeBelow n draft.planning.objects) many (below w change rows space draft c.requires.good c.requires.draft)
+
+pub changed_rows-requires-clause-contents : goal.changed_rows-requires-clause-contents
+changed_rows-requires-clause-contents c =
+    let draft = c.args.self in
+    let many : draft.planning.taken ≡ length c.as_slice-3.result.now =
+    sym c.in_ok-held.ensures.count ∙ ap (λ (l : List (List ℕ)). length l) (sym c.as_slice-3.ensures) in
+    subst (λ n. AllTakeBelow n draft.planning.objects) many
+    (below c.args.width c.args.txn.now c.args.rows.now.rows c.args.space.now draft c.requires.good c.requires.draft)
+
+pub returns-clause-ok : goal.returns-clause-ok
+returns-clause-ok c =
+    let w = c.args.width in
+    let change = c.args.txn.now in
+    let rows = c.args.rows.now.rows in
+    let draft = c.args.self in
+    let p = draft.planning in
+    let contents : List (List ℕ) = c.in_ok-held.held in
+    let fresh : List FreshUnit = c.in_ok-fresh.fresh in
+    let released : List ℕ = c.in_ok-released.released in
+    let ops : List RowOp = c.in_ok-ops.ops in
+    is_plan w change rows c.args.space.now draft c.requires.good c.requires.draft c.args.read c.requires.read
+    (record { ops = ops; fresh = fresh; released = released; read = c.args.read })
+    (record {
+      read_is = refl;
+      contents = contents;
+      held = c.in_ok-held.ensures.held
+          ∙ (λ i. after_writes (c.ops.ensures.operations i) (c.as_slice.ensures i) (c.deref.ensures.value i) none_held);
+      takings = c.in_ok-takings.takings.items;
+      ascend = c.in_ok-takings.ensures.ascend;
+      are_put = c.in_ok-takings.ensures.put;
+      fresh = c.in_ok-fresh.ensures.filled
+          ∙ (λ i. filled (c.deref-3.ensures.value i) (held_in (c.as_slice-2.ensures i)) (c.deref-2.ensures.value i));
+      csums = c.in_ok-fresh.ensures.csums;
+      are_left = subst (λ (l : List ℕ). (unit : ℕ) → Contains released unit ↔ Contains l unit) c.deref-4.ensures.value c.in_ok-released.ensures.left;
+      left_ascend = c.in_ok-released.ensures.ascend;
+      changes = c.in_ok-changes.changes;
+      are_changes = λ table.
+          let changes = c.in_ok-changes.changes in
+          subst (λ (l : List (List ℕ)). IsChangesOf w table change.coll p draft.units.items (held_in l) changes) c.as_slice-3.ensures
+          (subst (λ (us : List ℕ). IsChangesOf w table change.coll p us (held_in c.as_slice-3.result.now) changes) c.deref-5.ensures.value
+          (subst (λ coll. IsChangesOf w table coll p c.deref-5.result.now (held_in c.as_slice-3.result.now) changes) c.coll.ensures
+          (c.in_ok-changes.ensures table)));
+      ops = subst (λ (l : List ℕ). AreRowOps rows c.in_ok-changes.changes (map (λ (f : FreshUnit). f.unit) fresh) l ops) c.as_slice-5.ensures
+          (subst (λ (l : List FreshUnit). AreRowOps rows c.in_ok-changes.changes (map (λ (f : FreshUnit). f.unit) l) c.as_slice-5.result.now ops)
+          c.as_slice-4.ensures c.in_ok-ops.ensures);
+    })

@@ -1,0 +1,6 @@
+use Rattle.std.proofs.Common.{◌≡◌, drop}
+use Rattle.txn_planner.specs.Laying.{without_shards}
+use Rattle.txn_planner.proofs.laying.drop_shards.Given as goal
+
+abbrev pub invariant-loop-page : goal.invariant-loop-page
+invariant-loop-page l = without_shards l.coll l.object (drop l.page-index l.pages) l.changes ≡ without_shards l.coll l.object l.pages l.fn.changes

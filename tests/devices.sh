@@ -140,6 +140,33 @@ script_drops_pages() {
         sed -E 's/^[0-9]+ +//; s/.*DONTNEED.*/drop/; s/\(.*//' | uniq | tr '\n' ' ')" = 'fdatasync drop fsync pread64 '
 }
 
+# dump_to FILE: dumps the store MANY into this file, with its reads of the device in the file 'trace', and counts them in 'reads'.
+dump_to() {
+    timeout 60 strace -qq -o trace -e trace=pread64 "$program" dump MANY >"$1" 2>complaints </dev/null
+    status=$?
+    reads=$(grep -c '^pread64' trace)
+}
+
+# A dump whose output has failed reads no object more: each of 300 has a page, and the text of its pair alone has 2000 bytes.
+full_output() {
+    local it reads whole
+    run mkfs MANY --half 1024 --units 2400
+    {
+        echo 'mkcoll 1.0_head'
+        for it in {1..300}; do
+            printf 'write 1.0_head o%d 0 fill:5a:4096\nomapset 1.0_head o%d k fill:5b:1000\n' "$it" "$it"
+        done
+    } >many
+    run step MANY --seed 1 many
+    says 'a full output: a store of 300 objects' is_one_of 0
+    dump_to output
+    says 'a full output: the whole dump' test "$status:$(grep -c '^object ' output)" = 0:300
+    whole=$reads
+    dump_to /dev/full
+    says 'a full output: the status of a dump' is_one_of 6
+    says 'a full output: it reads far fewer objects' test $((whole - reads)) -gt 250
+}
+
 # ---- calls that fail
 
 # stops STATUS: the last run ended with this status and said so in its last line, and no reply came early.
@@ -278,7 +305,7 @@ two_programs() {
     held_up 'a dump at its first read' pread64 dump FIRST
 }
 
-for it in calls_of_good_runs calls_of_seeds script_drops_pages failing_writes_and_flushes failing_openings killed_runs two_programs; do
+for it in calls_of_good_runs calls_of_seeds script_drops_pages full_output failing_writes_and_flushes failing_openings killed_runs two_programs; do
     if [ "$can_trace" = yes ]; then
         "$it"
     else

@@ -23,6 +23,7 @@ from functools import partial
 UNIT = 4096
 OBJECT_LIMIT = 134217728
 TRANSACTION_LIMIT = 1048576
+OPERATION_LIMIT = 256
 VALUE_LIMIT = 65535
 ROW_UNITS = 128
 RUN_PAGES = 256
@@ -75,11 +76,17 @@ class Object:
         return held[first % UNIT : first % UNIT + max(end - first, 0)]
 
     def rows(self, coll, name):
-        """The rows of its attributes, its header and its omap: keys and values."""
+        """Its rows: keys and values. No checksum stands in its shard, since pages of the same unit have the same bytes."""
         owner = coll + b"\0" + name + b"\0"
-        rows = {b"A" + owner + attr: value for attr, value in self.attrs.items()}
+        rows = {b"O" + owner + b"o": struct.pack("<Q", self.size)}
+        rows |= {b"A" + owner + attr: value for attr, value in self.attrs.items()}
         rows |= {b"M" + owner + b"." + key: value for key, value in self.omap.items()}
-        return rows | ({b"M" + owner + b"-": self.header} if self.header else {})
+        rows |= {b"M" + owner + b"-": self.header} if self.header else {}
+        shard = b"".join(struct.pack("<IHBI", *run, 0) + bytes(4 * run[1]) for run in self.extents())
+        return rows | ({b"O" + owner + b"o" + struct.pack(">I", min(self.pages)) + b"x": shard} if self.pages else {})
+
+    def units(self):
+        return {unit for unit, _ in self.pages.values()}
 
     def extents(self):
         """Its pages as runs [first page, pages, first unit]: both consecutive, at most 256 at a time."""
@@ -166,146 +173,37 @@ class Store:
             return "E1 NoCollection"
         return "E4 NoObject" if name is not None and name not in self.colls[coll] else None
 
-    def accept(self, body, coll, objects, taken=(), released=()):
-        """Accepts a transaction whose record has a body of so many bytes, or says why there is no room for it. What it releases isn't
-        free before it is committed."""
+    def change(self, coll, operations):
+        """Accepts a transaction of these operations, or says why it is refused: then nothing has changed. What it releases isn't free before
+        it is committed."""
+        if len(operations) > OPERATION_LIMIT or sum(payload(*it) for it in operations) > TRANSACTION_LIMIT:
+            return "E8 TooBig"
+        draft, free = Draft(self.colls.get(coll)), len(self.free)
+        try:
+            for operation in operations:
+                draft.take_effect(*operation)
+        except Refused as why:
+            return str(why)
+        if draft.takings > free:
+            return f"E9 NoSpace need={draft.takings} free={free}"
+        draft.lay(sorted(self.free)[: draft.takings])
+        return self.accept(coll, draft.objects)
+
+    def accept(self, coll, objects):
+        """Gives a collection these objects, where the log has room for the difference of the rows. With None it goes."""
+        before, after = self.colls.get(coll), objects
+        old, new = Rows(), Rows()
+        old.add_other(coll, before, after)
+        new.add_other(coll, after, before)
+        body = difference(old.rows, new.rows) + turned(old.units ^ new.units)
         need, room = units_in(24 + body), self.half - self.tail
         if room < need:
             return f"E10 MetaFull need={need} room={room}"
         self.tail += need
-        self.free -= set(taken)
+        self.free -= new.units - old.units
         self.put(coll, objects)
-        self.accepted = Transaction(coll, objects, list(taken), list(released), need)
+        self.accepted = Transaction(coll, objects, sorted(new.units - old.units), sorted(old.units - new.units), need)
         return "ok"
-
-    def mkcoll(self, coll):
-        if coll in self.colls:
-            return "E2 CollectionExists"
-        return self.accept(7 + 1 + len(coll), coll, {})
-
-    def rmcoll(self, coll):
-        refused = self.refusal(coll)
-        if refused:
-            return refused
-        if self.colls[coll]:
-            return "E3 NotEmpty"
-        return self.accept(3 + 1 + len(coll), coll, None)
-
-    def touch(self, coll, name):
-        refused = self.refusal(coll)
-        if refused:
-            return refused
-        if name in self.colls[coll]:
-            return self.accept(0, coll, self.colls[coll])
-        return self.accept(7 + len(onode_key(coll, name)) + 8, coll, {**self.colls[coll], name: Object()})
-
-    def write(self, coll, name, offset, word):
-        data = data_of(word)
-        if len(data) > TRANSACTION_LIMIT:
-            return "E8 TooBig"
-        old, end = self.colls.get(coll, {}).get(name, Object()), offset + len(data)
-        refused = self.refusal(coll) or too_big(end)
-        if refused:
-            return refused
-        pages = {}
-        for page in range(offset // UNIT, units_in(end)) if data else ():
-            start = page * UNIT
-            front, back = max(offset - start, 0), max(end - start, 0)
-            held = old.page(page)
-            pages[page] = held[:front] + data[max(start - offset, 0) : start + UNIT - offset] + held[back:]
-        return self.change(coll, name, max(old.size, end) if data else old.size, pages)
-
-    def zero(self, coll, name, offset, length):
-        refused = self.refusal(coll) or too_big(offset + length)
-        if refused:
-            return refused
-        old, end = self.colls[coll].get(name, Object()), offset + length
-        return self.change(coll, name, max(old.size, end) if length else old.size, cleared(old, offset, end))
-
-    def truncate(self, coll, name, size):
-        refused = self.refusal(coll) or too_big(size)
-        if refused:
-            return refused
-        old = self.colls[coll].get(name)
-        if old is None:
-            return self.accept(0, coll, self.colls[coll])
-        return self.change(coll, name, size, cleared(old, size, OBJECT_LIMIT) if size < old.size else {})
-
-    def change(self, coll, name, size, pages):
-        """Gives an object this size and these bytes of pages: each goes to the lowest free unit, and one that is None becomes a hole."""
-        need, old = sum(data is not None for data in pages.values()), self.colls[coll].get(name)
-        if need > len(self.free):
-            return f"E9 NoSpace need={need} free={len(self.free)}"
-        taken, before = sorted(self.free)[:need], old or Object()
-        units, after = iter(taken), replace(before, size=size, pages=dict(before.pages))
-        released = [after.pages.pop(page)[0] for page in sorted(pages) if page in before.pages]
-        after.pages.update((page, (next(units), pages[page])) for page in sorted(pages) if pages[page] is not None)
-
-        key, body = len(onode_key(coll, name)), turned(taken + released)
-        if old is None or size != old.size:
-            body += 7 + key + 8
-        if before.pages and min(before.pages) != min(after.pages, default=None):
-            body += 3 + key + 5
-        if after.pages and pages:
-            body += 7 + key + 5 + sum(11 + 4 * count for _, count, _ in after.extents())
-        return self.accept(body, coll, {**self.colls[coll], name: after}, taken, released)
-
-    def remove(self, coll, name):
-        refused = self.refusal(coll)
-        if refused:
-            return refused
-        others = {other: it for other, it in self.colls[coll].items() if other != name}
-        if name not in self.colls[coll]:
-            return self.accept(0, coll, others)
-        pages = self.colls[coll][name].pages
-        released = [pages[page][0] for page in sorted(pages)]
-        key = len(onode_key(coll, name))
-        values = difference(self.colls[coll][name].rows(coll, name), {})
-        return self.accept(3 + key + (3 + key + 5 if pages else 0) + values + turned(released), coll, others, (), released)
-
-    def change_values(self, coll, name, values, names=(), is_passed_over=False, **parts):
-        """Gives an object the attributes, the header or the omap that functions make of it, by these values and names of values. Where it
-        is missing it is passed over, or the transaction refused."""
-        if sum(map(len, (*values, *names))) > TRANSACTION_LIMIT:
-            return "E8 TooBig"
-        is_long = any(len(value) > VALUE_LIMIT for value in values)
-        refused = self.refusal(coll) or ("E8 TooBig" if is_long else None) or self.refusal(coll, None if is_passed_over else name)
-        if refused:
-            return refused
-        old = self.colls[coll].get(name)
-        if old is None:
-            return self.accept(0, coll, self.colls[coll])
-        new = replace(old, **{part: made(old) for part, made in parts.items()})
-        return self.accept(difference(old.rows(coll, name), new.rows(coll, name)), coll, {**self.colls[coll], name: new})
-
-    def setattr(self, coll, name, attr, word):
-        value = data_of(word)
-        return self.change_values(coll, name, [value], [attr], attrs=lambda it: {**it.attrs, attr: value})
-
-    def rmattr(self, coll, name, attr):
-        return self.change_values(coll, name, [], [attr], attrs=lambda it: without(it.attrs, [attr]))
-
-    def rmattrs(self, coll, name):
-        return self.change_values(coll, name, [], is_passed_over=True, attrs=lambda it: {})
-
-    def omapset(self, coll, name, *words):
-        keys, values = words[::2], [data_of(word) for word in words[1::2]]
-        return self.change_values(coll, name, values, keys, omap=lambda it: {**it.omap, **dict(zip(keys, values))})
-
-    def omaprm(self, coll, name, *keys):
-        return self.change_values(coll, name, [], keys, omap=lambda it: without(it.omap, keys))
-
-    def omaprmrange(self, coll, name, first, last):
-        return self.change_values(
-            coll, name, [], [first, last], omap=lambda it: without(it.omap, [key for key in it.omap if first <= key < last])
-        )
-
-    def omapclear(self, coll, name):
-        return self.change_values(coll, name, [], is_passed_over=True, header=lambda it: b"", omap=lambda it: {})
-
-    def omapheader(self, coll, name, word):
-        value = data_of(word)
-        return self.change_values(coll, name, [value], header=lambda it: value)
 
     def getattr(self, coll, name, attr):
         return self.refusal(coll, name) or value_reply("attr", self.colls[coll][name].attrs.get(attr))
@@ -346,8 +244,142 @@ class Store:
         return [*lines, "end"]
 
 
-def too_big(end):
-    return "E8 TooBig" if end > OBJECT_LIMIT else None
+class Rows:
+    """The rows of a collection that may differ between two states of it, and the units of their objects."""
+
+    def __init__(self):
+        self.rows, self.units = {}, set()
+
+    def add_other(self, coll, objects, others):
+        """Adds those of a collection's objects that aren't the same in the other state."""
+        if objects is None:
+            return
+        self.rows[b"C" + coll] = b""
+        for name, it in objects.items():
+            if (others or {}).get(name) is not it:
+                self.rows |= it.rows(coll, name)
+                self.units |= it.units()
+
+
+class Refused(Exception):
+    """Why a transaction is refused, as it is printed."""
+
+
+def refuse(holds, why):
+    if holds:
+        raise Refused(why)
+
+
+class Draft:
+    """The objects of a collection while the operations of a transaction take effect, one behind the other; None where the collection is
+    missing. A page that the transaction has put has a number below zero for its unit, by how many were taken; they are replaced at the end."""
+
+    def __init__(self, objects):
+        self.objects, self.takings = None if objects is None else dict(objects), 0
+
+    def take_effect(self, kind, *words):
+        refuse(self.objects is None and kind != "mkcoll", "E1 NoCollection")
+        getattr(self, kind)(*words)
+
+    def lay(self, units):
+        """Puts the page of each taking on the unit of that number. A page that was put and cleared has had its taking all the same."""
+        for name, it in (self.objects or {}).items():
+            if any(unit < 0 for unit, _ in it.pages.values()):
+                laid = {page: (units[-1 - unit] if unit < 0 else unit, held) for page, (unit, held) in it.pages.items()}
+                self.objects[name] = replace(it, pages=laid)
+
+    def mkcoll(self):
+        refuse(self.objects is not None, "E2 CollectionExists")
+        self.objects = {}
+
+    def rmcoll(self):
+        refuse(self.objects, "E3 NotEmpty")
+        self.objects = None
+
+    def touch(self, name):
+        self.objects.setdefault(name, Object())
+
+    def write(self, name, offset, word):
+        data = data_of(word)
+        old, end = self.objects.get(name, Object()), offset + len(data)
+        refuse(end > OBJECT_LIMIT, "E8 TooBig")
+        pages = {}
+        for page in range(offset // UNIT, units_in(end)) if data else ():
+            start = page * UNIT
+            front, back = max(offset - start, 0), max(end - start, 0)
+            held = old.page(page)
+            pages[page] = held[:front] + data[max(start - offset, 0) : start + UNIT - offset] + held[back:]
+        self.put(name, max(old.size, end) if data else old.size, pages)
+
+    def zero(self, name, offset, length):
+        old, end = self.objects.get(name, Object()), offset + length
+        refuse(end > OBJECT_LIMIT, "E8 TooBig")
+        self.put(name, max(old.size, end) if length else old.size, cleared(old, offset, end))
+
+    def truncate(self, name, size):
+        refuse(size > OBJECT_LIMIT, "E8 TooBig")
+        old = self.objects.get(name)
+        if old is not None:
+            self.put(name, size, cleared(old, size, OBJECT_LIMIT) if size < old.size else {})
+
+    def put(self, name, size, pages):
+        """Gives an object this size and these bytes of pages, where None is a hole. A page that was put before is changed where it is, and
+        each other one takes a unit."""
+        after = replace(self.objects.get(name, Object()), size=size)
+        after.pages = dict(after.pages)
+        for page in sorted(pages):
+            unit, _ = after.pages.pop(page, (0, None))
+            if pages[page] is None:
+                continue
+            if unit >= 0:
+                self.takings += 1
+                unit = -self.takings
+            after.pages[page] = unit, pages[page]
+        self.objects[name] = after
+
+    def remove(self, name):
+        self.objects.pop(name, None)
+
+    def change_values(self, name, values=(), is_passed_over=False, **parts):
+        """Gives an object the attributes, the header or the omap that functions make of it, by these values. Where it is missing it is passed
+        over, or the transaction refused."""
+        refuse(any(len(value) > VALUE_LIMIT for value in values), "E8 TooBig")
+        old = self.objects.get(name)
+        refuse(old is None and not is_passed_over, "E4 NoObject")
+        if old is not None:
+            self.objects[name] = replace(old, **{part: made(old) for part, made in parts.items()})
+
+    def setattr(self, name, attr, word):
+        value = data_of(word)
+        self.change_values(name, [value], attrs=lambda it: {**it.attrs, attr: value})
+
+    def rmattr(self, name, attr):
+        self.change_values(name, attrs=lambda it: without(it.attrs, [attr]))
+
+    def rmattrs(self, name):
+        self.change_values(name, is_passed_over=True, attrs=lambda it: {})
+
+    def omapset(self, name, *words):
+        keys, values = words[::2], [data_of(word) for word in words[1::2]]
+        self.change_values(name, values, omap=lambda it: {**it.omap, **dict(zip(keys, values))})
+
+    def omaprm(self, name, *keys):
+        self.change_values(name, omap=lambda it: without(it.omap, keys))
+
+    def omaprmrange(self, name, first, last):
+        self.change_values(name, omap=lambda it: without(it.omap, [key for key in it.omap if first <= key < last]))
+
+    def omapclear(self, name):
+        self.change_values(name, is_passed_over=True, header=lambda it: b"", omap=lambda it: {})
+
+    def omapheader(self, name, word):
+        value = data_of(word)
+        self.change_values(name, [value], header=lambda it: value)
+
+
+def payload(_kind, _name=None, *words):
+    """How many bytes of an operation count: those of attributes, keys and values, and of data."""
+    return sum(len(it) if isinstance(it, bytes) else len(data_of(it)) for it in words if not isinstance(it, int))
 
 
 def data_of(word):
@@ -388,10 +420,6 @@ def cleared(old, first, end):
 def turned(units):
     """The bytes of the operations that turn these units' bits in the bitmap."""
     return (7 + 5 + 16) * len({unit // ROW_UNITS for unit in units})
-
-
-def onode_key(coll, name):
-    return b"O" + coll + b"\0" + name + b"\0o"
 
 
 def sum_of(it):
@@ -745,14 +773,39 @@ def drawn_value_words(dice, kind):
     return ()
 
 
+READS = ("read", "sum", "stat", "list", "getattr", "omapget", "omaphdr")
+COLLS = [b"1.0_head", b"1.1_head", b"22.ff_head"]
+# What changes objects where there is one, whose operations stand in transactions of several.
+CHANGES = [kind for kind in WEIGHTS if kind not in (*READS, "mkcoll", "rmcoll")]
+
+
+def drawn_name(dice):
+    return dice.choice([b"a", b"b", b"a b", b"ab", b"\xff\x01", b"x" * dice.choice([1, 40, 255])])
+
+
 def drawn_command(dice, most):
     """A command of the model, with its arguments."""
-    coll = dice.choice([b"1.0_head", b"1.1_head", b"22.ff_head"])
-    name = dice.choice([b"a", b"b", b"a b", b"ab", b"\xff\x01", b"x" * dice.choice([1, 40, 255])])
+    coll, name = dice.choice(COLLS), drawn_name(dice)
     kind = dice.choices([*WEIGHTS], [*WEIGHTS.values()])[0]
-    if kind in ("mkcoll", "rmcoll", "list"):
-        return kind, coll
-    return kind, coll, name, *drawn_words(dice, kind, most)
+    words = () if kind in ("mkcoll", "rmcoll", "list") else (name, *drawn_words(dice, kind, most))
+    return (kind, coll, *words) if kind in READS else ("change", coll, [(kind, *words)])
+
+
+def drawn_block(dice, most):
+    """A transaction of several operations on few objects, so that they meet: what was put is changed and cleared, objects and collections go and
+    are made again. Few have more operations than may be, or just as many."""
+    names = [drawn_name(dice) for _ in range(dice.choice([1, 1, 2, 3]))]
+    kinds = dice.choice([CHANGES, CHANGES, ["write", "zero", "truncate", "write", "remove"], ["omapset", "omaprm", "omapclear", "setattr"]])
+    operations = [("mkcoll",)] if dice.random() < 0.1 else []
+    operations += [("touch", name) for name in names if dice.random() < 0.8]
+    for _ in range(dice.choice([1, 2, 2, 4, 8, 20])):
+        kind = dice.choices(kinds, [WEIGHTS[kind] for kind in kinds])[0]
+        operations.append((kind, dice.choice(names), *drawn_words(dice, kind, most)))
+    if dice.random() < 0.1:
+        operations += [*(("remove", name) for name in names), ("rmcoll",), ("mkcoll",), ("touch", names[0])]
+    if dice.random() < 0.02:
+        operations += [("touch", names[0])] * (dice.choice([OPERATION_LIMIT, OPERATION_LIMIT + 1]) - len(operations))
+    return "change", dice.choice(COLLS), operations
 
 
 def spelled(kind, coll, *words):
@@ -760,17 +813,29 @@ def spelled(kind, coll, *words):
     return " ".join([kind, coll.decode(), *(escaped(it) if isinstance(it, bytes) else str(it) for it in words)])
 
 
+def lines_of(dice, kind, coll, *words):
+    """The lines of a command: one, or a block."""
+    if kind != "change":
+        return [spelled(kind, coll, *words)]
+    operations = [spelled(kind, coll, *rest) for kind, *rest in words[0]]
+    if len(operations) == 1 and dice.random() < 0.9:
+        return operations
+    noted = [line for it in operations for line in ([it] if dice.random() < 0.9 else [dice.choice(["", "# a note"]), it])]
+    return ["begin", *noted, *dice.choice([[], [], [], [""]]), "end"]
+
+
 def drawn_script(dice):
     """The lines of a script, and its commands, each with its line: None for a `wait`."""
     lines, commands = [], []
     for _ in range(dice.choice([0, 5, 30, 120])):
-        command = drawn_command(dice, dice.choice([3, 12, 300]))
+        most = dice.choice([3, 12, 300])
+        command = drawn_block(dice, min(most, 40)) if dice.random() < 0.25 else drawn_command(dice, most)
         if dice.random() < 0.1:
             lines.append(dice.choice(["wait", "", "# a note"]))
             if lines[-1] == "wait":
                 commands.append((len(lines), None))
-        lines.append(spelled(*command))
-        commands.append((len(lines), command))
+        commands.append((len(lines) + 1, command))
+        lines += lines_of(dice, *command)
     return lines, commands
 
 
@@ -830,13 +895,29 @@ def play(program, seed):
 # ---- the model's own checks
 
 
-def read_command(line):
-    """A command as a script spells it, without names that are escaped."""
-    kind, *words = line.split()
-    if kind == "wait":
-        return None
-    coll, *rest = words
-    return kind, coll.encode(), *(it.encode() for it in rest[:1]), *(read_word(it) for it in rest[1:])
+def read_script(lines):
+    """The commands of a script, each with its line. No names are escaped."""
+    commands, block = [], None
+    for at, line in enumerate(lines):
+        kind, *words = line.split()
+        if kind == "begin":
+            block = []
+            commands.append((at + 1, ("change", block)))
+        elif kind == "end":
+            commands[-1] = commands[-1][0], ("change", block[0][0], [operation for _, operation in block])
+            block = None
+        elif kind == "wait":
+            commands.append((at + 1, None))
+        else:
+            coll, *rest = words
+            read = kind, *(it.encode() for it in rest[:1]), *(read_word(it) for it in rest[1:])
+            if block is not None:
+                block.append((coll.encode(), read))
+            elif kind in READS:
+                commands.append((at + 1, (kind, coll.encode(), *read[1:])))
+            else:
+                commands.append((at + 1, ("change", coll.encode(), [read])))
+    return commands
 
 
 def read_word(word):
@@ -897,6 +978,35 @@ EMPTY_AGAIN = [
 ]
 OF_EMPTY_AGAIN = ("0:1 ok, 0:2 ok, 0:3 E3 NotEmpty, 0:4 ok, 0:5 ok, 0:6 E1 NoCollection, 0:7 E1 NoCollection, "
                   "done accepted=4 refused=3 reads=0 commits=4 free=46")
+# The pages of the first transaction stand on the first unit and on the third, and one was taken for each of three.
+PAGES_IN_ONE = [
+    ["mkcoll 1.0_head", "begin", "write 1.0_head a 0 fill:61:8192", "write 1.0_head a 4095 hex:7a7a", "zero 1.0_head a 4096 4096",
+     "write 1.0_head a 8191 hex:62", "end", "begin", "write 1.0_head b 0 fill:63:4096", "remove 1.0_head b", "end", "wait",
+     "read 1.0_head a 4094 4", "read 1.0_head a 8190 2", "list 1.0_head", "begin", "touch 1.0_head q", "setattr 1.0_head missing n hex:01",
+     "end", "wait", "stat 1.0_head q"],
+]
+OF_PAGES_IN_ONE = ("0:1 ok, 0:2 ok, 0:8 ok, 0:13 data 617a0000, 0:14 data 0062, 0:15 objects a, 0:16 E4 NoObject, 0:21 E4 NoObject, "
+                   "done accepted=3 refused=2 reads=3 commits=3 free=44")
+CLEARED_IN_ONE = [
+    ["mkcoll 1.0_head", "begin", "write 1.0_head a 0 fill:61:4096", "zero 1.0_head a 0 4096", "write 1.0_head a 0 hex:62", "end", "begin",
+     "write 1.0_head a 0 fill:61:4096", "write 1.0_head a 0 hex:62", "end", "wait", "read 1.0_head a 0 2", "begin", "remove 1.0_head a",
+     "write 1.0_head a 0 hex:63", "end"],
+]
+OF_CLEARED_IN_ONE = ("0:1 ok, 0:2 E9 NoSpace need=2 free=1, 0:7 ok, 0:12 data 6261, 0:13 E9 NoSpace need=1 free=0, "
+                     "done accepted=2 refused=2 reads=1 commits=2 free=0")
+VALUES_IN_ONE = [
+    ["mkcoll 1.0_head", "begin", "touch 1.0_head o", "omapheader 1.0_head o hex:77", "omapset 1.0_head o k hex:01", "end", "wait", "begin",
+     "omapset 1.0_head o k2 hex:02", "omapclear 1.0_head o", "omapset 1.0_head o k3 hex:03 k3 hex:04", "end", "wait", "omapget 1.0_head o k",
+     "omapget 1.0_head o k2", "omapget 1.0_head o k3", "omaphdr 1.0_head o", "begin", "remove 1.0_head o", "rmcoll 1.0_head", "mkcoll 1.0_head",
+     "end", "wait", "list 1.0_head"],
+]
+OF_VALUES_IN_ONE = ("0:1 ok, 0:2 ok, 0:8 ok, 0:14 E5 NoAttr, 0:15 E5 NoAttr, 0:16 omap 04, 0:17 header -, 0:18 ok, 0:24 objects, "
+                    "done accepted=4 refused=2 reads=3 commits=4 free=46")
+MOST_IN_ONE = [
+    ["begin", *["touch 1.0_head o"] * 257, "end", "mkcoll 1.0_head", "begin", *["touch 1.0_head o"] * 256, "end",
+     "begin", *["touch 1.0_head o"] * 257, "end", "list 1.0_head"],
+]
+OF_MOST_IN_ONE = "0:1 E8 TooBig, 0:260 ok, 0:261 ok, 0:519 E8 TooBig, 0:778 objects o, done accepted=2 refused=2 reads=1 commits=2 free=46"
 NO_SPACE, NO_COLL = "E9 NoSpace need=1 free=0", "E1 NoCollection"
 # The units of a store with halves of 8, its scripts, the seed, and what is printed.
 CHECKS = [(64, PAGES_OF_TWO, seed, NO_TOUCH) for seed in range(8)] + [
@@ -915,14 +1025,14 @@ CHECKS = [(64, PAGES_OF_TWO, seed, NO_TOUCH) for seed in range(8)] + [
     *((20, NO_UNIT, seed, OF_NO_UNIT) for seed in range(4)),
     *((64, *of, seed, told) for seed in range(2) for *of, told in (
         (VALUES_OF_OMAPS, OF_OMAPS), (VALUES_OF_ATTRS, OF_ATTRS), (FULL_LOG, OF_FULL_LOG), (OVERFULL_LOG, OF_OVERFULL_LOG),
-        (EMPTY_AGAIN, OF_EMPTY_AGAIN))),
+        (EMPTY_AGAIN, OF_EMPTY_AGAIN), (PAGES_IN_ONE, OF_PAGES_IN_ONE), (VALUES_IN_ONE, OF_VALUES_IN_ONE), (MOST_IN_ONE, OF_MOST_IN_ONE))),
+    *((19, CLEARED_IN_ONE, seed, OF_CLEARED_IN_ONE) for seed in range(2)),
 ]
 
 
 def check(units, scripts, seed, wanted):
-    commands = [[(at + 1, read_command(line)) for at, line in enumerate(script)] for script in scripts]
     store = Store(units, 8)
-    found, commits = run(store, commands, seed)
+    found, commits = run(store, [read_script(script) for script in scripts], seed)
     expect_same(found, wanted.split(", "), f"seed {seed}")
     expect(commits[-1].colls == store.colls and commits[-1].free == store.free, f"seed {seed}: the last commit leaves another store")
 

@@ -413,6 +413,148 @@ run step RANGES --seed 1 over
 says 'ranges: a changed byte' ended 4 "0:1 $bad" "0:2 $bad" "0:3 $bad" '0:4 ok' '0:5 ok' 'done accepted=2 refused=3 reads=0 commits=2 free=45'
 says 'ranges: a changed byte: it is gone' has_object 4096 6174a978
 
+# ---- transactions of several operations. The checksums were made apart, bit by bit.
+
+# Page 0 stands on unit 130. What was put on unit 131 is cleared, and its page is put again, on unit 132.
+lines begin 'write 1.0_head a 0 fill:61:8192' 'write 1.0_head a 4095 hex:7a7a' 'zero 1.0_head a 4096 4096' 'write 1.0_head a 8191 hex:62' end \
+    'read 1.0_head a 4094 4' 'read 1.0_head a 8190 2'
+on_new ranges 64 256
+says 'blocks: writes of the same pages' ended 0 '0:1 ok' '0:2 ok' '0:8 data 617a0000' '0:9 data 0062' \
+    'done accepted=2 refused=0 reads=2 commits=2 free=124'
+says 'blocks: writes of the same pages: the first' holds 130 61:4095 7a:1
+says 'blocks: writes of the same pages: the one that was cleared' holds 131 00:4096
+says 'blocks: writes of the same pages: the last' holds 132 00:4095 62:1
+says 'blocks: writes of the same pages: the record' has_record RANGES 1 "$(onode 61 8192)" \
+    "01${shard_key}1e0000000000000001000082000000f62010af01000000010000840000001ca20418" "03050062000000011000000014$zeros15"
+says 'blocks: writes of the same pages: the object' has_object 8192 bfdf6233
+
+# What an object had goes with it, and nothing of it is written.
+lines begin 'write 1.0_head b 0 fill:63:4096' 'remove 1.0_head b' end 'write 1.0_head a 0 hex:64' 'list 1.0_head'
+on_new ranges 64 256
+says 'blocks: an object that comes and goes' ended 0 '0:1 ok' '0:2 ok' '0:6 ok' '0:7 objects a' \
+    'done accepted=3 refused=0 reads=1 commits=3 free=125'
+says 'blocks: an object that comes and goes: the record' has_record RANGES 1
+says 'blocks: an object that comes and goes: its unit has another page' holds 130 64:1 00:4095
+
+# A page that is cleared and put again takes two units, and one that is changed takes one.
+lines begin 'write 1.0_head a 0 fill:61:4096' 'zero 1.0_head a 0 4096' 'write 1.0_head a 0 hex:62' end
+on_new ranges 8 19
+says 'blocks: a unit for each taking' ended 0 '0:1 ok' '0:2 E9 NoSpace need=2 free=1' 'done accepted=1 refused=1 reads=0 commits=1 free=1'
+lines begin 'write 1.0_head a 0 fill:61:4096' 'write 1.0_head a 0 hex:62' end 'read 1.0_head a 0 2'
+on_new ranges 8 19
+says 'blocks: a page that is changed' ended 0 '0:1 ok' '0:2 ok' '0:6 data 6261' 'done accepted=2 refused=0 reads=1 commits=2 free=0'
+says 'blocks: a page that is changed: its unit' holds 18 62:1 61:4095
+
+# The first refusal is that of the whole, and nothing of it is left.
+lines begin 'touch 1.0_head q' 'setattr 1.0_head missing n hex:01' 'setattr 1.0_head q n fill:00:65536' end 'stat 1.0_head q' 'list 1.0_head'
+on_new ranges 8 64
+says 'blocks: nothing of one that is refused' ended 0 '0:1 ok' '0:2 E4 NoObject' '0:7 E4 NoObject' '0:8 objects' \
+    'done accepted=1 refused=2 reads=1 commits=1 free=46'
+
+# touches COLLECTION COUNT: a block of so many.
+touches() {
+    local n
+    echo begin
+    for ((n = 1; n <= $2; n++)); do echo "touch $1 o$n"; done
+    echo end
+}
+
+# A block with too many operations is refused before its collection is looked for.
+{ touches 1.0_head 257; echo 'mkcoll 1.0_head'; touches 1.0_head 257; touches 1.0_head 256; } >ranges
+on_new ranges 8 64
+says 'blocks: the most operations' ended 0 '0:1 E8 TooBig' '0:260 ok' '0:261 E8 TooBig' '0:520 ok' \
+    'done accepted=2 refused=2 reads=0 commits=2 free=46'
+lines 'write 1.0_head a 0 fill:61:1048576' 'write 1.0_head a 0 fill:61:1048577' begin 'write 1.0_head a 0 fill:61:1048575' \
+    'write 1.0_head b 0 hex:61' end begin 'write 1.0_head a 0 fill:61:1048575' 'write 1.0_head b 0 hex:6161' end
+on_new ranges 64 256
+says 'blocks: the most bytes' ended 0 '0:1 ok' '0:2 E9 NoSpace need=256 free=126' '0:3 E8 TooBig' '0:4 E9 NoSpace need=257 free=126' \
+    '0:8 E8 TooBig' 'done accepted=1 refused=4 reads=0 commits=1 free=126'
+
+# Of the values only how they differ at the end is in the record. The keys of object `o`.
+header_key=0d004d312e305f68656164006f002d
+pair_key=0e004d312e305f68656164006f002e6b
+third_key=0f004d312e305f68656164006f002e6b33
+lines begin 'touch 1.0_head o' 'omapheader 1.0_head o hex:77' 'omapset 1.0_head o k hex:01' end \
+    begin 'omapset 1.0_head o k2 hex:02' 'omapclear 1.0_head o' 'omapset 1.0_head o k3 hex:03 k3 hex:04' end
+on_new ranges 8 64
+says 'blocks: values' ended 0 '0:1 ok' '0:2 ok' '0:7 ok' 'done accepted=3 refused=0 reads=0 commits=3 free=46'
+says 'blocks: values: the record' has_record RANGES 2 "02$header_key" "02$pair_key" "01${third_key}0100000004"
+run dump RANGES
+says 'blocks: values: what is left' ended 0 'coll 1.0_head' 'object o size 0 crc 00000000' 'omap k3 04' 'end'
+
+# A collection that goes and comes in a block stays.
+printf '%s\n' begin 'mkcoll 1.0_head' 'touch 1.0_head a' end begin 'remove 1.0_head a' 'rmcoll 1.0_head' 'mkcoll 1.0_head' end \
+    'rmcoll 1.0_head' 'touch 1.0_head a' >ranges
+on_new ranges 8 64
+says 'blocks: a collection that goes and comes' ended 0 '0:1 ok' '0:5 ok' '0:10 ok' '0:11 E1 NoCollection' \
+    'done accepted=3 refused=1 reads=0 commits=3 free=46'
+says 'blocks: a collection that goes and comes: the first record' has_record RANGES 0 01090043312e305f6865616400000000 "$(onode 61 0)"
+says 'blocks: a collection that goes and comes: the second record' has_record RANGES 1 "02$onode_key"
+says 'blocks: a collection that goes and comes: the third record' has_record RANGES 2 02090043312e305f68656164
+
+# is_bad LINE TEXT: this is the first bad line of the script, also where its last line has no end.
+is_bad() {
+    local same=yes
+    printf '%s\n' "$2" >bad
+    run step ABSENT --seed 1 bad
+    ended 2 "script 0 line $1" 'stopped 2' || same=no
+    printf '%s' "$2" >bad
+    run step ABSENT --seed 1 bad
+    ended 2 "script 0 line $1" 'stopped 2' && [ "$same" = yes ]
+}
+
+touch_a='touch 1.0_head a'
+says 'a bad block: no operation' is_bad 3 $'mkcoll 1.0_head\nbegin\nend'
+says 'a bad block: no operation, but a note' is_bad 4 $'begin\n\n# a note\nend\ntouch'
+says 'a bad block: an end alone' is_bad 2 "$touch_a"$'\nend'
+says 'a bad block: a second end' is_bad 4 $'begin\n'"$touch_a"$'\nend\nend'
+says 'a bad block: a begin inside' is_bad 3 $'begin\n'"$touch_a"$'\nbegin'
+says 'a bad block: a read inside' is_bad 3 $'begin\n'"$touch_a"$'\nstat 1.0_head a\nend'
+says 'a bad block: a wait inside' is_bad 2 $'begin\nwait\n'"$touch_a"$'\nend'
+says 'a bad block: another collection' is_bad 4 $'begin\n'"$touch_a"$'\n\ntouch 1.1_head a\nend'
+says 'a bad block: a line of no command' is_bad 3 $'begin\n'"$touch_a"$'\ntuoch 1.0_head b\nend'
+says 'a bad block: a word behind its begin' is_bad 2 $'#\nbegin 1.0_head\n'"$touch_a"$'\nend'
+says 'a bad block: a word behind its end' is_bad 3 $'begin\n'"$touch_a"$'\nend 1.0_head'
+says 'a bad block: a space behind its begin' is_bad 1 $'begin \n'"$touch_a"$'\nend'
+says 'a bad block: a space behind its end' is_bad 3 $'begin\n'"$touch_a"$'\nend '
+says 'a bad block: no end' is_bad 3 $'begin\n'"$touch_a"
+says 'a bad block: no end behind a begin' is_bad 2 begin
+says 'a bad block: no end of the second' is_bad 6 $'begin\n'"$touch_a"$'\nend\nbegin\n'"$touch_a"
+printf 'begin\n%s\n\n' "$touch_a" >bad
+run step ABSENT --seed 1 bad
+says 'a bad block: no end behind an empty line' ended 2 'script 0 line 4' 'stopped 2'
+printf 'mkcoll 1.0_head\nbegin\n\n%s\n# a note\n%s\n\nend\nlist 1.0_head' "$touch_a" "$touch_a" >ranges
+on_new ranges 8 64
+says 'blocks: lines that are passed over' ended 0 '0:1 ok' '0:2 ok' '0:9 objects a' 'done accepted=2 refused=0 reads=1 commits=2 free=46'
+
+# Runs that are killed amid many blocks, each of which puts its number on two objects, in their bytes and in their values. Whatever moment it
+# was, both have the same one, or none of them is there.
+run mkfs BLOCKS --half 16384 --units 36000
+{
+    echo 'mkcoll 1.0_head'
+    for ((i = 0; i < 2000; i++)); do
+        printf -v n %02x $((i % 256))
+        printf '%s\n' begin "write 1.0_head a 0 fill:$n:4096" "setattr 1.0_head a n hex:$n" "write 1.0_head b 0 fill:$n:4096" \
+            "omapset 1.0_head b n hex:$n" end
+    done
+} >blocks
+whole=yes
+cut=no
+for ((i = 1; i <= 20; i++)); do
+    "$program" step BLOCKS --seed "$i" blocks >long_output 2>&1 </dev/null &
+    victim=$!
+    sleep "0.$(printf %02d $((3 * i)))"
+    kill -9 "$victim" 2>/dev/null
+    wait "$victim" 2>/dev/null
+    run dump BLOCKS
+    [ "$status" = 0 ] || whole=no
+    sed '/^coll/d; /^end/d; s/^object [ab]/object/; s/^attr/value/; s/^omap/value/' output | sort | uniq -c | sed 's/^ *//; s/ [^ ]*$//' >counted
+    [ ! -s counted ] || cmp -s counted <(printf '%s\n' '2 object size 4096 crc' '2 value n') || whole=no
+    [ ! -s counted ] || cut=yes
+done
+says 'blocks: runs that were killed' test "$whole" = yes
+says 'blocks: they had begun' test "$cut" = yes
+
 # ---- reads and dump. The checksums were made apart, bit by bit.
 
 cp T BEFORE_READS

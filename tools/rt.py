@@ -3,7 +3,8 @@
 
 With the words `below NAME --jobs N` it proves the libraries that a crate stands on, each as soon as those below it are proved, at
 most N at a time: rt gives each one processor, or does one after the other. Those with the longest chains of crates above them may
-use all N processors, since nothing is done before these chains are, and those that can wait give way to them.
+use all N processors, since nothing is done before these chains are, and those that can wait give way to them. What another clone on
+this machine has built of the same text is taken over.
 
 With `program NAME --jobs N` it proves a program and all that it stands on as the gate does, and builds it: from nothing, each crate over
 the statements of those below it and not over their proofs, which takes half as long; but a crate that changes is proved anew as a whole
@@ -88,7 +89,11 @@ def named(crates, name):
 
 def prove_below(kit, name, most):
     """Proves what a crate stands on, as libraries over which a check goes on."""
+    kit.share_work(True)
     todo = named(kit.rtlib.crates_below(os.getcwd()), name).below()
+    for crate in todo:
+        if crate.is_built():
+            kit.offer(crate, crate.stamp())
     return prove_all(kit, todo, most, lambda crate, flags: crate.build_rlib(flags, anew=False))
 
 

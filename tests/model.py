@@ -82,7 +82,7 @@ class Object:
         rows |= {b"A" + owner + attr: value for attr, value in self.attrs.items()}
         rows |= {b"M" + owner + b"." + key: value for key, value in self.omap.items()}
         rows |= {b"M" + owner + b"-": self.header} if self.header else {}
-        shard = b"".join(struct.pack("<IHBI", *run, 0) + bytes(4 * run[1]) for run in self.extents())
+        shard = b"".join(struct.pack("<IHBI", first, count, 0, unit) + bytes(4 * count) for first, count, unit in self.extents())
         return rows | ({b"O" + owner + b"o" + struct.pack(">I", min(self.pages)) + b"x": shard} if self.pages else {})
 
     def units(self):

@@ -23,9 +23,6 @@ value=fill:5a:100
 
 now() { date +%s%N; }
 
-# ended OUTPUT WANTED: the last line of what a run printed begins so.
-ended() { [[ "$(tail -n 1 "$1")" == "$2"* ]] || { tail -n 2 "$1" >&2; exit 1; }; }
-
 # ---- transactions on the disk
 
 half=$((count + 8))

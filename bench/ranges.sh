@@ -20,16 +20,6 @@ trap 'rm -rf "$made"' EXIT
 gcc -O2 -o "$made/loop" "$here/ranges.c"
 about
 
-# wanted NAME VALUE 'at least'|'at most' BOUND
-wanted() {
-  awk -v name="$1" -v value="$2" -v how="$3" -v bound="$4" 'BEGIN {
-    good = how == "at most" ? value <= bound : value >= bound
-    printf "%-62s %.2f, %s %s: %s\n", name, value, how, bound, good ? "within" : "BEYOND"
-  }' | tee -a "$made/told"
-}
-
-ratio() { awk -v a="$1" -v b="$2" 'BEGIN { print a / b }'; }
-
 # made_of PAGES: the lines that make an object of so many pages.
 made_of() {
   local left at=0
@@ -75,12 +65,6 @@ for ((turn = 1; turn <= turns; turn++)); do
     echo "loop-$pages $("$made/loop" "$made/file" "$count" "$pages")" >>"$made/times"
   done
 done
-
-# middle NAME: the middle one of its times.
-middle() {
-  awk -v name="$1" '$1 == name { print $2 }' "$made/times" | sort -n |
-    awk '{ all[NR] = $1 } END { printf "%d\n", (all[int((NR + 1) / 2)] + all[int(NR / 2) + 1]) / 2 }'
-}
 
 for pages in 16 1024; do
   ours=$(($(middle "script-$pages") - $(middle "refused-$pages")))

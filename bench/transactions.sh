@@ -20,25 +20,6 @@ trap 'rm -rf "$made" "$fast"' EXIT
 : >"$fast/empty"
 about
 
-# wanted NAME VALUE 'at least'|'at most' BOUND
-wanted() {
-  awk -v name="$1" -v value="$2" -v how="$3" -v bound="$4" 'BEGIN {
-    good = how == "at most" ? value <= bound : value >= bound
-    printf "%-62s %.2f, %s %s: %s\n", name, value, how, bound, good ? "within" : "BEYOND"
-  }' | tee -a "$made/told"
-}
-
-ratio() { awk -v a="$1" -v b="$2" 'BEGIN { print a / b }'; }
-
-# ended OUTPUT WANTED: the last line of what a run printed begins so.
-ended() { [[ "$(tail -n 1 "$1")" == "$2"* ]] || { tail -n 2 "$1" >&2; exit 1; }; }
-
-# middle NAME: the middle one of its times.
-middle() {
-  awk -v name="$1" '$1 == name { print $2 }' "$made/times" | sort -n |
-    awk '{ all[NR] = $1 } END { printf "%d\n", (all[int((NR + 1) / 2)] + all[int(NR / 2) + 1]) / 2 }'
-}
-
 # ---- small operations, on the disk
 
 operations=$((256 * rounds))

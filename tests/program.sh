@@ -4,6 +4,15 @@
 
 . "$(dirname -- "$0")/cases.sh"
 
+# killed_after SECONDS WORDS: begins a step with these words, and kills it then.
+killed_after() {
+    "$program" step "${@:2}" >long_output 2>&1 </dev/null &
+    local victim=$!
+    sleep "$1"
+    kill -9 "$victim" 2>/dev/null
+    wait "$victim" 2>/dev/null
+}
+
 run mkfs FRESH "${small[@]}"
 says 'a new file: its line' ended 0 "$made"
 says 'a new file: 64 units' is_long FRESH 262144
@@ -541,11 +550,7 @@ run mkfs BLOCKS --half 16384 --units 36000
 whole=yes
 cut=no
 for ((i = 1; i <= 20; i++)); do
-    "$program" step BLOCKS --seed "$i" blocks >long_output 2>&1 </dev/null &
-    victim=$!
-    sleep "0.$(printf %02d $((3 * i)))"
-    kill -9 "$victim" 2>/dev/null
-    wait "$victim" 2>/dev/null
+    killed_after "0.$(printf %02d $((3 * i)))" BLOCKS --seed "$i" blocks
     run dump BLOCKS
     [ "$status" = 0 ] || whole=no
     sed '/^coll/d; /^end/d; s/^object [ab]/object/; s/^attr/value/; s/^omap/value/' output | sort | uniq -c | sed 's/^ *//; s/ [^ ]*$//' >counted
@@ -652,11 +657,7 @@ run mkfs KILLED --half 16384 --units 36000
 { echo 'mkcoll 1.0_head'; for ((i = 0; i < 3000; i++)); do printf 'write 1.0_head o%d 0 fill:%02x:4096\nwait\n' $((i % 50)) $((i % 256)); done; } >long
 killed=yes
 for ((i = 1; i <= 20; i++)); do
-    "$program" step KILLED --seed "$i" long >long_output 2>&1 </dev/null &
-    victim=$!
-    sleep "0.0$((i % 10))"
-    kill -9 "$victim" 2>/dev/null
-    wait "$victim" 2>/dev/null
+    killed_after "0.0$((i % 10))" KILLED --seed "$i" long
     run step KILLED --seed "$i" more
     [ "$status" = 0 ] && [ "$(tail -n 1 output | cut -d' ' -f1-2)" = 'done accepted=2' ] || [ "$i" = 1 ] || killed=no
     run dump KILLED

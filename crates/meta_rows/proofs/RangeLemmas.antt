@@ -11,8 +11,9 @@ use Rattle.std.specs.FinMap as map
 use Rattle.std.specs.FinMap.{is_sorted, entries-from_sorted}
 use Rattle.std.specs.FinMap.Entries.{where_key, below_all}
 use Rattle.byte_maps.specs.ByteMap.{byte_order, in_range}
-use Rattle.byte_maps.proofs.Prelude.{same_bytes, both_first, both_second}
+use Rattle.byte_maps.proofs.Prelude.{same_bytes, both_first, both_second, below_more}
 use Rattle.meta_rows.specs.Prelude.{NoneBelow, is_from_to, rows_from_to, StartsAt, EndsAt, Rows}
+use Rattle.meta_rows.proofs.PartLemmas.{less}
 use Rattle.std.proofs.Math.Seq.{drop-nil, take-nil}
 use Rattle.std.proofs.lemmas.List.{drop-take, take_all}
 
@@ -58,6 +59,32 @@ module _ (key : List ℕ) where
       let later : StartsAt key es j = starts_there es j (both_second _ _ h) (omega arith) (λ d. is d) in
       let less = subst (λ k. T (is_lt (byte_order e.0 k))) (same_bytes _ key (is e)) (below e.0 es j e (both_first _ _ h) (omega arith)) in
       (omega (arith, later.0), (so _ less, later.1), later.2)
+
+  -- rows behind one that isn't below the key
+  none_behind : (o : Ordering) (f : List ℕ × List ℕ) (es : List (List ℕ × List ℕ)) → byte_order f.0 key ≡ o → is_lt o ≡ false → T (below_all byte_order f.0 es)
+      → NoneBelow key es
+  none_behind Less f es is high h = absurd cc
+  none_behind Equal f es is high h = all_from es (subst (λ (k : List ℕ). T (below_all byte_order k es)) (same_bytes f.0 key is) h)
+  none_behind Greater f es is high h = all_from es (below_more key f.0 es (nat_list_cmp_total.antisymm key f.0 ∙ ap ordering_reverse is) h)
+
+  -- and one before a row that is
+  less_too : (x e : List ℕ) → T (is_lt (byte_order x e)) → is_lt (byte_order e key) ≡ true → is_lt (byte_order x key) ≡ true
+  less_too x e p q = ap is_lt (nat_list_cmp_total.trans x e key (less _ (so _ p)) (less _ q))
+
+  -- the last row below the key, and the one behind it
+  pub starts_behind : (es : List (List ℕ × List ℕ)) (at : ℕ) (d : List ℕ × List ℕ) → T (is_sorted byte_order es) → suc at < length es
+      → is_lt (byte_order (get_or es at d).0 key) ≡ true → is_lt (byte_order (get_or es (suc at) d).0 key) ≡ false → StartsAt key es (suc at)
+  starts_behind [] at d h l low high = absurd (omega arith)
+  starts_behind (e ∷ []) at d h l low high = absurd (omega arith)
+  starts_behind (e ∷ f ∷ es) zero d h l low high =
+      (omega arith, (low, tt), (high, none_behind (byte_order f.0 key) f es refl high (both_first _ _ (both_second _ _ h))))
+  starts_behind (e ∷ f ∷ es) (suc j) d h l low high =
+      let long : suc (suc j) ≤ length (e ∷ f ∷ es) = omega arith in
+      let within : suc j < length (f ∷ es) = omega arith in
+      let here : j < length (f ∷ es) = omega arith in
+      let less_here = less_too e.0 (get_or (f ∷ es) j d).0 (below e.0 (f ∷ es) j d (both_first _ _ h) here) low in
+      let later : StartsAt key (f ∷ es) (suc j) = starts_behind (f ∷ es) j d (both_second _ _ h) within low high in
+      (long, (less_here, later.1), later.2)
 
 -- what a test makes of an entry and of the rest
 passed : (p : List ℕ → Bool) (e : List ℕ × List ℕ) (es left : List (List ℕ × List ℕ)) → p e.0 ≡ true → where_key byte_order p es ≡ left → where_key byte_order p (e ∷ es) ≡ e ∷ left

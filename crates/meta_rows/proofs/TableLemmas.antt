@@ -2,12 +2,12 @@
 use Rattle.std.proofs.Common.{◌≡◌, ℕ, zero, suc, ◌+◌, ◌-◌, ◌<◌, ◌≤◌, T, List, [], ◌∷◌, ◌++◌, length, get_or, take, drop, Option, Some, None, refl, sym, ap, ap₂, subst, ◌∙◌, arith, append_assoc}
 use Rattle.std.specs.Ordering.{is_lt}
 use Rattle.std.specs.FinMap.{is_sorted}
-use Rattle.std.proofs.lemmas.List.{length-append, length-take-le, take_at, get_or-drop, take-append-le, drop-append-le, drop_all}
+use Rattle.std.proofs.lemmas.List.{length-append, length-take-le, take_at, get_or-drop, get_or_read, get_or-append-add, get_or_append_left, take-append-le, drop-append-le, drop_all}
 use Rattle.std.specs.Prelude.{true, false}
 use Rattle.byte_maps.specs.ByteMap.{byte_order}
-use Rattle.meta_rows.specs.Prelude.{AllBelow, NoneBelow, StartsAt, EndsAt, Entry, joined, NoneEmpty, BelongsIn, IsPlace, rows_before}
+use Rattle.meta_rows.specs.Prelude.{AllBelow, NoneBelow, StartsAt, IsLastBelow, EndsAt, Entry, joined, NoneEmpty, BelongsIn, IsPlace, rows_before}
 use Rattle.meta_rows.proofs.PartLemmas.{sorted_front, sorted_back}
-use Rattle.meta_rows.proofs.RangeLemmas.{all_from, range_none}
+use Rattle.meta_rows.proofs.RangeLemmas.{all_from, starts_behind, range_none}
 use Rattle.meta_rows.proofs.ChunkLemmas.{cut, joined-append, all_both, front_is, chunk_is, parts_are}
 
 module _ {X : Type 0} where
@@ -57,6 +57,46 @@ module _ (key : List ℕ) (chunks : List (List Entry)) (at p : ℕ) (rows : List
       let same = ap length rows_are in
       let held = ap length (chunk_is b []) in
       (omega (arith, many, b.place), omega (arith, starts.0, same, held))
+
+-- a row of a chunk among all
+module _ (chunks : List (List Entry)) (at p : ℕ) (within : at < length chunks) (some : p < length (get_or chunks at [])) where
+  parts_at : joined chunks ≡ joined (take at chunks) ++ (get_or chunks at [] ++ joined (drop (suc at) chunks))
+  parts_at = ap joined (cut chunks at [] within) ∙ joined-append (take at chunks) (get_or chunks at [] ∷ drop (suc at) chunks)
+
+  joined_at : (d : Entry) → get_or (joined chunks) (rows_before chunks (at, p)) d ≡ get_or (get_or chunks at []) p d
+  joined_at d =
+      ap (λ (l : List Entry). get_or l (length (joined (take at chunks)) + p) d) parts_at
+      ∙ get_or-append-add (joined (take at chunks)) (get_or chunks at [] ++ joined (drop (suc at) chunks)) p d
+      ∙ get_or_append_left (get_or chunks at []) (joined (drop (suc at) chunks)) d p some
+
+  joined_within : rows_before chunks (at, p) < length (joined chunks)
+  joined_within =
+      let all = ap length parts_at ∙ length-append (joined (take at chunks)) (get_or chunks at [] ++ joined (drop (suc at) chunks)) in
+      let rest = length-append (get_or chunks at []) (joined (drop (suc at) chunks)) in
+      omega (arith, all, rest, some)
+
+-- the last row below a key, of which the chunk has another one behind it
+module _ (key : List ℕ) (chunks : List (List Entry)) (at p : ℕ) (rows : List Entry) (within : at < length chunks) (here : rows ≡ get_or chunks at rows)
+    (last : IsLastBelow key rows p) where
+  held : rows ≡ get_or chunks at []
+  held = get_or_read chunks at rows within here []
+
+  pub ends_behind : T (is_sorted byte_order (joined chunks)) → StartsAt key (joined chunks) (rows_before chunks (at, p + 1))
+  ends_behind order =
+      let d : Entry = ([], []) in
+      let n = rows_before chunks (at, p) in
+      let on : rows_before chunks (at, p + 1) ≡ suc n = omega arith in
+      let first : p < length (get_or chunks at []) = omega (arith, last.0, ap length held) in
+      let second : p + 1 < length (get_or chunks at []) = omega (arith, last.0, ap length held) in
+      let one = joined_at chunks at p within first d ∙ ap (λ (l : List Entry). get_or l p d) (sym held) in
+      let two =
+      ap (λ k. get_or (joined chunks) k d) (sym on)
+      ∙ joined_at chunks at (p + 1) within second d
+      ∙ ap (λ (l : List Entry). get_or l (p + 1) d) (sym held) in
+      let low = ap (λ (row : Entry). is_lt (byte_order row.0 key)) one ∙ last.1 d in
+      let high = ap (λ (row : Entry). is_lt (byte_order row.0 key)) two ∙ last.2 d in
+      let long : suc n < length (joined chunks) = omega (arith, joined_within chunks at (p + 1) within second) in
+      subst (StartsAt key (joined chunks)) (sym on) (starts_behind key (joined chunks) n d order long low high)
 
 pub ends_last : (chunks : List (List Entry)) (rows : List Entry) → 0 < length chunks → rows ≡ get_or chunks (length chunks - 1) rows
     → rows_before chunks (length chunks - 1, length rows) ≡ length (joined chunks)

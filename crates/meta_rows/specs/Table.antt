@@ -1,5 +1,5 @@
 -- The rows in memory.
-use Rattle.std.specs.Prelude.{◌≡◌, ℕ, ◌+◌, ◌≤◌, Bool, true, false, not, Option, Some, None, List, [], unwrap_or, if◌then◌else◌, length, take, drop, set, get_or, ◌%◌, ◌^◌, refl}
+use Rattle.std.specs.Prelude.{◌≡◌, ℕ, ◌+◌, ◌<◌, ◌≤◌, Bool, true, false, not, Option, Some, None, List, [], unwrap_or, if◌then◌else◌, length, take, drop, set, get_or, ◌%◌, ◌^◌, refl}
 use Rattle.std.specs.List.{AllByRecursion, filter, insert, remove}
 use Rattle.std.specs.Ordering.{is_lt, eq_by_cmp}
 use Rattle.std.specs.FinMap as map
@@ -47,6 +47,12 @@ NoneBelow key rows = AllByRecursion (λ row. is_lt (byte_order row.0 key) ≡ fa
 -- in rows in order, those from this place on are those whose keys are at least `key`
 abbrev pub StartsAt : List ℕ → List (List ℕ × List ℕ) → ℕ → Type 0
 StartsAt key es at = (at ≤ length es) × AllBelow key (take at es) × NoneBelow key (drop at es)
+
+-- the row at a place is below `key`, and the one behind it is there and isn't
+abbrev pub IsLastBelow : List ℕ → List (List ℕ × List ℕ) → ℕ → Type 0
+IsLastBelow key es at =
+    (at + 1 < length es) × ((d : List ℕ × List ℕ) → is_lt (byte_order (get_or es at d).0 key) ≡ true)
+    × ((d : List ℕ × List ℕ) → is_lt (byte_order (get_or es (at + 1) d).0 key) ≡ false)
 
 -- those whose keys are below `end` are those before this place; without an end all are
 abbrev pub EndsAt : Option (List ℕ) → List (List ℕ × List ℕ) → ℕ → Type 0

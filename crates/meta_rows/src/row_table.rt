@@ -3,7 +3,7 @@ ghost use Rattle.std.specs.Prelude.{◌≡◌, ◌↔◌, ◌+◌, ◌*◌, ◌^
 ghost use Rattle.std.specs.FinMap as map;
 ghost use Rattle.byte_maps.specs.ByteMap.{byte_order};
 ghost use Rattle.meta_rows.specs.Rows.{Rows, row_after, rows_after};
-ghost use Rattle.meta_rows.specs.Table.{rows_size, rows_from_to, StartsAt, EndsAt};
+ghost use Rattle.meta_rows.specs.Table.{rows_size, rows_from_to, StartsAt, IsLastBelow, EndsAt};
 ghost use Rattle.meta_rows.specs.Filling.{Rises};
 ghost use Rattle.meta_rows.specs.Chunks.{joined, NoneEmpty, IsPlace, rows_before};
 
@@ -78,6 +78,34 @@ fn end_of(chunks: &[Chunk], end: Option<&[u8]>) -> (usize, usize)
             (last, chunks[last].rows().len())
         }
     }
+}
+
+// Whether the row at a place is below a key, and the one behind it is there and isn't.
+fn ends_behind(rows: &[(Bytes, Bytes)], at: usize, key: &[u8]) -> bool
+    ensures { IsTrue result → IsLastBelow key.now rows.now at }
+{
+    if rows.len().saturating_sub(at) < 2 {
+        return false;
+    }
+    rows[at].0.as_slice().cmp(key).is_lt() && !rows[at + 1].0.as_slice().cmp(key).is_lt()
+}
+
+// Where the keys end that are below this one, for rows from a place on. Where the row at that place is the last one below it, and not
+// the last one of its chunk, two comparisons tell.
+fn end_from(chunks: &[Chunk], from: (usize, usize), end: Option<&[u8]>) -> (usize, usize)
+    requires some { 0 < length chunks.now }
+    requires none_empty { NoneEmpty chunks.now }
+    requires order { T (map.is_sorted byte_order (joined chunks.now)) }
+    requires from { IsPlace chunks.now from }
+    ensures place { IsPlace chunks.now result }
+    ensures ends { EndsAt (option_copied end.entry) (joined chunks.now) (rows_before chunks.now result) }
+{
+    if let Some(key) = end {
+        if ends_behind(chunks[from.0].rows(), from.1, key) {
+            return (from.0, from.1 + 1);
+        }
+    }
+    end_of(chunks, end)
 }
 
 // The spare chunks that stay where no operation needs them, so that small batches don't make and give back the same ones over and over.
@@ -201,8 +229,8 @@ impl RowTable {
     }
 
     /// The rows whose keys are at least `first` and below `end`, in the order of their keys; up to the last one where there is no
-    /// end. It bisects twice, and lends them one after the other. (Ceph: a RocksDB iterator, from its lower bound up to its upper
-    /// bound.)
+    /// end. It bisects once, and for an end a second time unless the range is one row, and not the last one of its chunk. It lends
+    /// them one after the other. (Ceph: a RocksDB iterator, from its lower bound up to its upper bound.)
     pub fn range<'a>(&'a self, first: &[u8], end: Option<&[u8]>) -> RowRange<'a>
         ensures { result ≡ rows_from_to self.now.rows first.now (option_copied end.entry) }
     {
@@ -210,7 +238,8 @@ impl RowTable {
         if chunks.is_empty() {
             return RowRange::new(&[], &[], &[]);
         }
-        between(chunks, begin_of(chunks, first), end_of(chunks, end))
+        let from = begin_of(chunks, first);
+        between(chunks, from, end_from(chunks, from, end))
     }
 
     /// How many bytes the rows have, each spelled as an operation that sets it: the body of the record that a switch of the log's

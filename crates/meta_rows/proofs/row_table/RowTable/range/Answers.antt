@@ -19,4 +19,4 @@ pub returns : goal.returns
 returns c =
     c.between.ensures
     ∙ sym (range_rows c.args.self.now.rows (joined c.self.inside.all.list.items) (joined c.as_slice-chunks.result.now) c.args.first.now _ _ _ c.self.invariant.0.order
-    (ap (λ t. t.rows) c.self.view_is) (ap joined c.as_slice-chunks.ensures.value) c.begin_of.ensures.begins c.end_of.ensures.ends)
+    (ap (λ t. t.rows) c.self.view_is) (ap joined c.as_slice-chunks.ensures.value) c.begin_of-from.ensures.begins c.end_from.ensures.ends)

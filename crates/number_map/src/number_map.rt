@@ -7,6 +7,7 @@ ghost use Rattle.std.specs.FinMap.Entries.{where_key};
 
 use std::alloc::{AllocError, Global};
 use std::marker::Model;
+use std::mem::replace;
 
 /// A map from numbers below 2^32, seen as a finite map: pages to places, units to bytes, and the like.
 ///
@@ -171,23 +172,29 @@ fn span<V>(entries: &[(u32, V)], from: u32, end: u32) -> (usize, usize)
     (at, to)
 }
 
-// The entries in a range of keys, and the others.
-fn parts<V: Copy + Drop>(
+// Takes out the entries from one place on that are before another. Of a single one only what stands behind it is moved.
+fn remove_between<V: Copy + Drop>(
     alloc: Global,
-    entries: &[(u32, V)],
-    from: u32,
-    end: u32,
-) -> Result<(Vec<(u32, V)>, Vec<(u32, V)>), AllocError>
-    requires order { from ≤ end }
-    requires sorted { T (map.is_sorted nat_cmp entries.now) }
-    ensures cut { IfOk result (λ v. v.0.items ≡ where_key nat_cmp (is_in from end) entries.now) }
-    ensures rest { IfOk result (λ v. v.1.items ≡ where_key nat_cmp (λ k. not (is_in from end k)) entries.now) }
+    entries: &mut Vec<(u32, V)>,
+    at: usize,
+    to: usize,
+) -> Result<(), AllocError>
+    requires order { at ≤ to }
+    requires within { to ≤ length entries.old.items }
+    ensures ok { OnOk result (entries.new.items ≡ take at entries.old.items ++ drop to entries.old.items) }
+    ensures err { OnErr result (entries.new ≡ entries.old) }
 {
-    let (at, to) = span(entries, from, end);
-    let cut = Vec::from_slice(alloc, &entries[at..to])?;
+    if at == to {
+        return Ok(());
+    }
+    if at + 1 == to {
+        entries.remove(at);
+        return Ok(());
+    }
     let mut rest = Vec::from_slice(alloc, &entries[..at])?;
     rest.extend_from_slice(&entries[to..])?;
-    Ok((cut, rest))
+    drop(replace(entries, rest));
+    Ok(())
 }
 
 impl<V: Copy + Drop> NumberMap<V> {
@@ -199,8 +206,9 @@ impl<V: Copy + Drop> NumberMap<V> {
         ensures cut { IfOk result (λ v. v.items ≡ where_key nat_cmp (is_in from end) (map.entries self.old)) }
         ensures err { OnErr result (self.new ≡ self.old) }
     {
-        let (cut, rest) = parts(alloc, &self.entries, from, end)?;
-        self.entries = rest;
+        let (at, to) = span(&self.entries, from, end);
+        let cut = Vec::from_slice(alloc, &self.entries[at..to])?;
+        remove_between(alloc, &mut self.entries, at, to)?;
         Ok(cut)
     }
 

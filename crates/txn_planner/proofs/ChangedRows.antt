@@ -1,12 +1,15 @@
 -- What is seen through the changes at the end of planning are the rows of the draft.
-use Rattle.std.proofs.Common.{◌≡◌, ◌⊎◌, inl, inr, ℕ, ◌<◌, ◌≤◌, ◌^◌, Bool, true, false, cond, List, [], length, Option, Some, None, is_some, refl, sym, ap, subst, ◌∙◌, arith}
+use Rattle.std.proofs.Common.{◌≡◌, ◌⊎◌, inl, inr, ℕ, ◌<◌, ◌≤◌, ◌^◌, Bool, true, false, cond, List, length, Option, Some, None, is_some, refl, sym, ap, subst, ◌∙◌, arith}
 use Rattle.std.specs.Prelude.{unwrap_or, ◌||◌}
+use Rattle.std.specs.Int.{w64, to_le_bytes}
+use Rattle.std.specs.List.{list_any}
 use Rattle.std.specs.Option.{option_map}
 use Rattle.std.specs.Ordering.{nat_cmp}
 use Rattle.std.specs.FinMap as finite
 use Rattle.std.proofs.lemmas.Bool.{cases_Bool}
 use Rattle.unit_fields.specs.Prelude.{IsName, IsCollName}
 use Rattle.unit_fields.specs.declared.width.Width.{Width}
+use Rattle.object_model.specs.Prelude.{Change}
 use Rattle.meta_rows.specs.Prelude.{Rows}
 use Rattle.row_format.specs.Prelude.{coll_key, onode_key, shard_key, BeginsAt, Place}
 use Rattle.row_facts.proofs.Maps.{get_same, get_other}
@@ -14,14 +17,14 @@ use Rattle.row_changes.specs.Prelude.{ChangeMap, seen}
 use Rattle.store_image.specs.Prelude.{pages_of}
 use Rattle.store_image.proofs.Prelude.{equal_or_not}
 use Rattle.plan_drafts.specs.declared.draft.Draft.{Draft}
-use Rattle.plan_drafts.specs.Prelude.{Held, is_there, Layout, or_empty, IsKeyOf, size_at, extents_at, AreReplaced, GetsLayout, stays, replaces, ValueKey, value_key, IsValueKey, CollDraft, laid, laid_at, IsKeyOfColl, GetsDraft}
+use Rattle.plan_drafts.specs.Prelude.{Held, is_there, Layout, HasLayout, or_empty, IsKeyOf, size_at, extents_at, AreReplaced, GetsLayout, stays, replaces, ValueKey, value_key, IsValueKey, CollDraft, laid, laid_at, IsKeyOfColl, GetsDraft}
 use Rattle.draft_rows.proofs.Laid.{laid_cases, StandsAt, by_taking, as_before}
 use Rattle.draft_rows.proofs.Reached.{IsReached}
 use Rattle.txn_planner.specs.declared.planning.Planning.{Planning}
 use Rattle.txn_planner.specs.declared.touched.Touched.{Touched}
 use Rattle.txn_planner.specs.Planning.{IsStateOf}
 use Rattle.txn_planner.specs.Touching.{IsTouched}
-use Rattle.txn_planner.specs.Laying.{differs, is_changed, TakesBelow, AllTakeBelow, AllNamed, laid_now, with_objects, with_rows, AreNew, HaveNumbers, IsChangesOf}
+use Rattle.txn_planner.specs.Laying.{differs, is_changed, TakesBelow, AllTakeBelow, AllNamed, laid_now, with_objects, coll_row, is_on_coll, with_rows, HasCollRow, AreNew, HaveNumbers, IsChangesOf}
 use Rattle.page_edits.proofs.Lists.{contains_in}
 use Rattle.txn_planner.proofs.ObjectNames.{among_keys}
 use Rattle.txn_planner.proofs.SameLayouts.{begins_stands, laid_again, same_layout, other_layout}
@@ -37,14 +40,19 @@ stands_there units held x page _ (by_taking taking put) =
     or_true false = refl
 stands_there units held x page place (as_before _ none kept) = ap (λ (z : Option Place). is_some z || finite.contains_key x.puts page) kept
 
-module _ (w : Width) (rows : Rows) (c : List ℕ) (coll : IsCollName c) (p : Planning) (units : List ℕ) (held : Held)
-    (below : AllTakeBelow (length units) p.objects) (layouts : List ℕ → Option Layout) (d : CollDraft) (state : IsStateOf rows c layouts d p)
+module _ (w : Width) (rows : Rows) (change : Change) (coll : IsCollName change.coll) (p : Planning) (units : List ℕ) (held : Held)
+    (below : AllTakeBelow (length units) p.objects) (layouts : List ℕ → Option Layout) (d : CollDraft) (state : IsStateOf rows change.coll layouts d p)
+    (has : (o : List ℕ) → IsName o → HasLayout w rows change.coll o (layouts o)) (had_coll : HasCollRow rows change d)
     (new : AreNew layouts units) (numbers : HaveNumbers d) where
+  abbrev c : List ℕ
+  c = change.coll
+
   abbrev changes : ChangeMap
   changes = with_objects w c units held (finite.keys p.objects) p.objects p.values
 
-  abbrev coll_row : Option (List ℕ)
-  coll_row = cond p.there (Some []) None
+  -- the changes, where an operation is on the collection or none is
+  abbrev either_rows : Bool → ChangeMap
+  either_rows b = cond b (finite.insert changes (coll_key c) (coll_row p.there)) changes
 
   begins_below : (o : List ℕ) (t : Touched) → finite.get p.objects o ≡ Some t → (page : ℕ) → BeginsAt page (extents_at (laid_now units held t))
       → page < 2 ^ 32
@@ -80,15 +88,45 @@ module _ (w : Width) (rows : Rows) (c : List ℕ) (coll : IsCollName c) (p : Pla
     | inr same ↦ same
   ]
 
-  module _ (after : Rows) (are : (key : List ℕ) → finite.get after key ≡ seen rows (with_rows w c units held p) key) where
+  -- nor is the row of the collection
+  no_coll : finite.get changes (coll_key c) ≡ None
+  no_coll = elim (objects_others w c coll units held (finite.keys p.objects) p.objects p.values sound (coll_key c)) [
+    | inl its ↦ absurd (coll_apart c its.0 (coll_key c) its.2 refl)
+    | inr same ↦ same ∙ by (finite.get p.values (coll_key c)) refl
+  ]
+    where
+      by : (z : Option (Option (List ℕ))) → finite.get p.values (coll_key c) ≡ z → z ≡ None
+      by None q = refl
+      by (Some v) q = let its = state.of_values (coll_key c) (ap is_some q) in absurd (value_no_coll c its.0 its.2.of (sym its.2.is))
+
+  rows_others : (key : List ℕ) → (key ≡ coll_key c → ⊥) → finite.get (with_rows w change units held p) key ≡ finite.get changes key
+  rows_others key apart = elim (cases_Bool (list_any is_on_coll change.ops)) [
+    | inl on ↦ ap (λ b. finite.get (either_rows b) key) on ∙ get_other changes (coll_key c) (coll_row p.there) key apart
+    | inr none ↦ ap (λ b. finite.get (either_rows b) key) none
+  ]
+
+  -- its onode says of an object how long it is
+  onode_had : (o : List ℕ) → IsName o → finite.get rows (onode_key c o) ≡ option_map (to_le_bytes w64) (size_at (layouts o))
+  onode_had o name = by (layouts o) (has o name)
+    where
+      by : (l : Option Layout) → HasLayout w rows c o l → finite.get rows (onode_key c o) ≡ option_map (to_le_bytes w64) (size_at l)
+      by None none = none
+      by (Some l) there = there.0.stands
+
+  module _ (after : Rows) (are : (key : List ℕ) → finite.get after key ≡ seen rows (with_rows w change units held p) key) where
     abbrev seen_as : List ℕ → Option (Option (List ℕ)) → Option (List ℕ)
     seen_as key z = unwrap_or z (finite.get rows key)
 
-    coll_after : finite.get after (coll_key c) ≡ cond d.there (Some []) None
-    coll_after = are (coll_key c) ∙ ap (seen_as (coll_key c)) (get_same changes (coll_key c) coll_row) ∙ ap (λ b. cond b (Some []) None) state.there
+    coll_after : finite.get after (coll_key c) ≡ coll_row d.there
+    coll_after = are (coll_key c) ∙ elim (cases_Bool (list_any is_on_coll change.ops)) [
+      | inl on ↦ ap (λ b. seen_as (coll_key c) (finite.get (either_rows b) (coll_key c))) on
+          ∙ ap (seen_as (coll_key c)) (get_same changes (coll_key c) (coll_row p.there)) ∙ ap coll_row state.there
+      | inr none ↦ ap (λ b. seen_as (coll_key c) (finite.get (either_rows b) (coll_key c))) none
+          ∙ ap (seen_as (coll_key c)) no_coll ∙ had_coll none
+    ]
 
     seen_by : (key : List ℕ) → (key ≡ coll_key c → ⊥) → finite.get after key ≡ seen_as key (finite.get changes key)
-    seen_by key apart = are key ∙ ap (seen_as key) (get_other changes (coll_key c) coll_row key apart)
+    seen_by key apart = are key ∙ ap (seen_as key) (rows_others key apart)
 
     seen_object : (o key : List ℕ) → IsKeyOf c o key → finite.get after key ≡ seen_as key (finite.get changes key)
     seen_object o key of = seen_by key (coll_apart c o key of)
@@ -130,13 +168,17 @@ module _ (w : Width) (rows : Rows) (c : List ℕ) (coll : IsCollName c) (p : Pla
 
         replaced : is_changed t ≡ true → AreReplaced w after c o (size_at (laid_now units held t)) (extents_at (laid_now units held t))
         replaced changed = record {
-          onode = seen_object o (onode_key c o) (inl refl) ∙ ap (seen_as (onode_key c o)) anew.onode;
+          onode = seen_object o (onode_key c o) (inl refl) ∙ elim anew.onode [
+            | inl says ↦ ap (seen_as (onode_key c o)) says
+            | inr kept ↦ ap (seen_as (onode_key c o)) (kept.1 ∙ no_value o (onode_key c o) (inl refl)) ∙ onode_had o name
+                ∙ ap (option_map (to_le_bytes w64)) (sym touched.before ∙ kept.0)
+          ];
           shard = λ page begins. seen_object o (shard_key c o page) (inr (page, begins_below o t is page begins, refl))
               ∙ ap (seen_as (shard_key c o page)) (anew.shard page begins);
           no_other = λ page lt not. seen_object o (shard_key c o page) (inr (page, lt, refl)) ∙ none page lt not (finite.get rows (shard_key c o page)) refl;
         }
           where
-            anew : IsAnew w c o t.shards.items (laid_now units held t) p.values changes
+            anew : IsAnew w c o t.before t.shards.items (laid_now units held t) p.values changes
             anew = objects_anew w c coll units held (finite.keys p.objects) p.objects p.values o t name sound (among_keys p.objects o t is) is changed
 
             -- a shard that was there is gone, and one that wasn't is none
@@ -186,10 +228,10 @@ module _ (w : Width) (rows : Rows) (c : List ℕ) (coll : IsCollName c) (p : Pla
     gets_draft = record { coll = coll_after; objects = gets_object; values = gets_value; others = others }
 
 -- the changes at the end are those of the state
-pub are_changes : (w : Width) (rows : Rows) (c : List ℕ) → IsCollName c → (p : Planning) (units : List ℕ) (held : Held)
-    → AllTakeBelow (length units) p.objects → IsChangesOf w rows c p units held (with_rows w c units held p)
-are_changes w rows c coll p units held below layouts d state new numbers after are =
-    gets_draft w rows c coll p units held below layouts d state new numbers after are
+pub are_changes : (w : Width) (rows : Rows) (change : Change) → IsCollName change.coll → (p : Planning) (units : List ℕ) (held : Held)
+    → AllTakeBelow (length units) p.objects → IsChangesOf w rows change p units held (with_rows w change units held p)
+are_changes w rows change coll p units held below layouts d state has had new numbers after are =
+    gets_draft w rows change coll p units held below layouts d state has had new numbers after are
 
 -- ---- what a caller knows of a draft that operations have led to
 

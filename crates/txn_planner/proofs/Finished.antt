@@ -1,25 +1,28 @@
 -- The plan of a transaction of which all operations are planned.
-use Rattle.std.proofs.Common.{◌≡◌, ◌↔◌, ℕ, zero, suc, ◌<◌, ◌^◌, List, [], ◌∷◌, length, take, Contains, Option, Some, None, refl, sym, ap, subst, ◌∙◌, arith, inl, inr}
+use Rattle.std.proofs.Common.{◌≡◌, ◌↔◌, Bool, true, false, not, is_some, ℕ, zero, suc, ◌<◌, ◌^◌, List, [], ◌∷◌, length, take, Contains, Option, Some, None, refl, sym, ap, subst, ◌∙◌, arith, inl, inr}
 use Rattle.std.specs.Option.{option_map}
-use Rattle.std.specs.List.{AllByRecursion}
+use Rattle.std.specs.List.{AllByRecursion, list_any}
 use Rattle.std.specs.Ordering.{nat_cmp}
 use Rattle.std.specs.FinMap as finite
+use Rattle.std.proofs.lemmas.Bool.{or_parts}
 use Rattle.std.proofs.lemmas.List.{length-take-le}
 use Rattle.crc32c_csum.specs.Prelude.{crc32c}
+use Rattle.object_model.specs.declared.op.Op.{Op}
 use Rattle.object_model.specs.Prelude.{Change}
 use Rattle.meta_rows.specs.Prelude.{Rows, rows_after}
 use Rattle.meta_log.specs.declared.slot.Super.{Super}
 use Rattle.meta_log.specs.Prelude.{width_of}
 use Rattle.unit_fields.specs.Prelude.{Ascends}
 use Rattle.unit_fields.specs.declared.width.Width.{Width}
-use Rattle.row_format.specs.Prelude.{own}
-use Rattle.store_image.specs.Prelude.{page_of}
+use Rattle.row_format.specs.Prelude.{own, coll_key, Row, collection, onode, shard, attribute, omap_header, omap_pair, bitmap, row_key, row_value}
+use Rattle.row_format.proofs.Prelude.{same_head, coll_no_object}
+use Rattle.store_image.specs.Prelude.{page_of, NoBadRow}
 use Rattle.unit_allocator.specs.Prelude.{Space, free_units}
 use Rattle.unit_allocator.proofs.Lists.{Contains-head, Contains-tail, Contains-cases}
 use Rattle.plan_rows.specs.declared.plan.Plan.{Plan}
 use Rattle.plan_rows.specs.declared.plan.ReadUnit.{ReadUnit}
 use Rattle.plan_drafts.specs.declared.draft.Draft as object
-use Rattle.plan_drafts.specs.Prelude.{Held, Layout, HasLayout, CollDraft, with_ops, places_of, held_by, none_held, AreTaken, draft_of, AreReadAt, Stands, filled, fresh_units, AreFreeOver, MakesDraft, Plans}
+use Rattle.plan_drafts.specs.Prelude.{Held, Layout, HasLayout, there_after, CollDraft, with_op, with_ops, places_of, held_by, none_held, AreTaken, draft_of, AreReadAt, Stands, filled, fresh_units, AreFreeOver, MakesDraft, Plans}
 use Rattle.draft_rows.proofs.DraftOwners.{layout_pages}
 use Rattle.draft_rows.proofs.Reached.{IsReached}
 use Rattle.draft_rows.proofs.Takings.{all_listed}
@@ -31,12 +34,13 @@ use Rattle.txn_planner.specs.declared.planning.Planning.{Planning}
 use Rattle.txn_planner.specs.declared.touched.Touched.{Touched}
 use Rattle.txn_planner.specs.Drafts.{places_in, IsDraftFor}
 use Rattle.txn_planner.specs.Finishing.{AreRowOps}
-use Rattle.txn_planner.specs.Laying.{AllTakeBelow, AllNamed, AreNew, HaveNumbers, IsChangesOf}
+use Rattle.txn_planner.specs.Laying.{AllTakeBelow, AllNamed, coll_row, is_on_coll, HasCollRow, AreNew, HaveNumbers, IsChangesOf}
 use Rattle.txn_planner.specs.PlanFails.{IsPlanFor}
 use Rattle.txn_planner.specs.Planning.{IsStateOf, first_draft, IsGround, IsPlannedTo}
 use Rattle.txn_planner.specs.Standing.{IsPutIn}
 use Rattle.txn_planner.proofs.Fronts.{all_taken}
 use Rattle.txn_planner.proofs.Grounds.{begins, reached_by}
+use Rattle.txn_planner.proofs.SameLayouts.{turned_false}
 
 -- what stands in a list's front stands in the list
 in_front : (n : ℕ) (us : List ℕ) (v : ℕ) → Contains (take n us) v → Contains us v
@@ -53,6 +57,37 @@ none_put None x page taking is put = cc
 none_put (Some l) x page taking is put =
     let same : draft_of l ≡ x = cc in
     let t = sym (finite.get-empty nat_cmp page) ∙ ap (λ (z : object.Draft). finite.get z.puts page) same ∙ put in cc
+
+-- ---- the row of the collection
+
+-- that of a collection has no bytes
+coll_empty : (w : Width) (c value : List ℕ) (row : Row) → coll_key c ≡ row_key row → value ≡ row_value w row → value ≡ []
+coll_empty w c value (collection d) key is = is
+coll_empty w c value (onode d o size) key is = absurd (coll_no_object c d o _ key)
+coll_empty w c value (shard d o page extents) key is = absurd (coll_no_object c d o _ key)
+coll_empty w c value (attribute d o name v) key is = absurd (omega (arith, same_head _ _ _ _ key))
+coll_empty w c value (omap_header d o v) key is = absurd (omega (arith, same_head _ _ _ _ key))
+coll_empty w c value (omap_pair d o k v) key is = absurd (omega (arith, same_head _ _ _ _ key))
+coll_empty w c value (bitmap r bits) key is = absurd (omega (arith, same_head _ _ _ _ key))
+
+coll_rows : (s : Super) (rows : Rows) → NoBadRow s rows → (c : List ℕ)
+    → finite.get rows (coll_key c) ≡ coll_row (finite.contains_key rows (coll_key c))
+coll_rows s rows good c = by (finite.get rows (coll_key c)) refl
+  where
+    by : (z : Option (List ℕ)) → finite.get rows (coll_key c) ≡ z → z ≡ coll_row (is_some z)
+    by None q = refl
+    by (Some value) q = let g = good (coll_key c) value q in ap Some (coll_empty (width_of s) c value g.row g.key_is g.value_is)
+
+-- operations of which none is on the collection leave it there or not, as it was
+same_after : (op : Op) (b : Bool) → is_on_coll op ≡ false → there_after op b ≡ b
+same_after op true is = turned_false (there_after op true) (or_parts (there_after op false) (not (there_after op true)) is).1
+same_after op false is = (or_parts (there_after op false) (not (there_after op true)) is).0
+
+same_there : (ops : List Op) (d : CollDraft) → list_any is_on_coll ops ≡ false → (with_ops ops d).there ≡ d.there
+same_there [] d none = refl
+same_there (op ∷ ops) d none =
+    let parts = or_parts (is_on_coll op) (list_any is_on_coll ops) none in
+    same_there ops (with_op op d) parts.1 ∙ same_after op d.there parts.0
 
 module _ (w : Width) (change : Change) (rows : Rows) (space : Space) (draft : Draft) (good : AreRowsOfWidth w rows)
     (is : IsDraftFor w change rows space draft) where
@@ -112,6 +147,10 @@ module _ (w : Width) (change : Change) (rows : Rows) (space : Space) (draft : Dr
       let of = all_reached.objects o x name there in
       omega (arith, of.ends page stands, of.most)
 
+  -- where no operation is on the collection it is there or not as it was, and its row has no bytes
+  had_coll : HasCollRow rows change y
+  had_coll none = coll_rows good.store.sup rows good.store.good c ∙ sym (ap coll_row (same_there change.ops start none))
+
   -- the pages that were put are those of the objects that were looked at
   stands_by : (taking : ℕ) → IsPutIn p.objects taking ↔ Stands y taking
   stands_by taking = (
@@ -153,7 +192,7 @@ module _ (w : Width) (change : Change) (rows : Rows) (space : Space) (draft : Dr
     pub are_left : (unit : ℕ) → Contains plan.released unit ↔ Contains p.left.items unit
     pub left_ascend : Ascends plan.released
     pub changes : ChangeMap
-    pub are_changes : (table : Rows) → IsChangesOf w table c p draft.units.items (held_in contents) changes
+    pub are_changes : (table : Rows) → IsChangesOf w table change p draft.units.items (held_in contents) changes
     pub ops : AreRowOps rows changes (fresh_units plan) plan.released plan.ops
 
   module _ (read : List ReadUnit) (at : AreReadAt (places_in draft) read) (plan : Plan) (m : IsMade read plan) where
@@ -184,7 +223,7 @@ module _ (w : Width) (change : Change) (rows : Rows) (space : Space) (draft : Dr
         ops_are = m.ops.ops_are;
         in_order = m.ops.by_changes.in_order;
         changes = m.ops.by_changes.changes;
-        gets = m.are_changes rows layouts y state are_new numbers (rows_after rows m.ops.difference) m.ops.by_changes.makes;
+        gets = m.are_changes rows layouts y state is.asks.begins.has had_coll are_new numbers (rows_after rows m.ops.difference) m.ops.by_changes.makes;
         takings = m.takings;
         ascend = m.ascend;
         are_standing = λ t. (λ k. (stands_by t).0 ((m.are_put t).0 k), λ st. (m.are_put t).1 ((stands_by t).1 st));

@@ -26,11 +26,11 @@ pub turned_true : (b : Bool) → not b ≡ true → b ≡ false
 turned_true true e = absurd cc
 turned_true false e = refl
 
-turned_false : (b : Bool) → not b ≡ false → b ≡ true
+pub turned_false : (b : Bool) → not b ≡ false → b ≡ true
 turned_false true e = refl
 turned_false false e = absurd cc
 
-tested : (a b : ℕ) → (a == b) ≡ true → a ≡ b
+pub tested : (a b : ℕ) → (a == b) ≡ true → a ≡ b
 tested a b is = grind (arith, nat_tests)
 
 not_tested : (a b : ℕ) → (a == b) ≡ false → a ≡ b → ⊥

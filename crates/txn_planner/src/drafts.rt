@@ -69,9 +69,9 @@ impl Draft {
             planning.taken,
         )?;
         let takings = standing(alloc, &planning.objects)?;
-        let fresh = fresh_units(alloc, &takings, &units, held.as_slice())?;
+        let fresh = fresh_units(alloc, takings.as_slice(), &units, held.as_slice())?;
         let released = released_units(alloc, &planning.left)?;
-        let changes = changed_rows(alloc, width, txn.coll(), planning, &units, held.as_slice())?;
+        let changes = changed_rows(alloc, width, txn, planning, &units, held.as_slice())?;
         let ops = row_ops(alloc, rows, changes, fresh.as_slice(), released.as_slice())?;
         Ok(Plan {
             ops,

@@ -1,14 +1,11 @@
 //! The rows of the objects whose layouts a transaction has changed, once its units are taken.
 //!
 //! An object that is as it was keeps its rows. Of each other the onode and all shards are written anew, whichever of its pages have changed.
-ghost use Rattle.std.specs.Prelude.{◌≡◌, ℕ, Option, None, length, IfOk, OnOk};
-ghost use Rattle.std.specs.Int.{w64, to_le_bytes};
+ghost use Rattle.std.specs.Prelude.{◌≡◌, ℕ, Option, length, IfOk, OnOk};
 ghost use Rattle.std.specs.Option.{option_map};
 ghost use Rattle.std.specs.FinMap as finite;
 ghost use Rattle.meta_rows.specs.Prelude.{Rows};
-ghost use Rattle.row_format.specs.Prelude.{onode_key};
-ghost use Rattle.blob_map.specs.Prelude.{extents_of};
-ghost use Rattle.extent_shards.specs.Prelude.{shards_of};
+ghost use Rattle.row_format.specs.Prelude.{coll_key};
 ghost use Rattle.plan_drafts.specs.Prelude.{or_empty, laid};
 ghost use Rattle.page_edits.specs.Writes.{held_in};
 ghost use Rattle.txn_planner.specs.Laying.{
@@ -16,20 +13,27 @@ ghost use Rattle.txn_planner.specs.Laying.{
   AllTakeBelow,
   AllNamed,
   laid_now,
+  opening,
+  without_shard,
   without_shards,
+  is_as_long,
+  with_onode,
   with_shards,
   with_object,
   with_touched,
   with_objects,
+  coll_row,
   IsChangesOf,
 };
 
+use crate::operations::is_any_on_coll;
 use crate::planning::Planning;
 use crate::touched::Touched;
 use blob_map::PageMap;
 use byte_maps::{ByteMap, Bytes};
 use bytes::Bytes as SharedBytes;
-use extent_shards::split;
+use extent_shards::{Shard, split};
+use object_model::Transaction;
 use onode_codec::{Onode, coll_key, onode_key, shard_key};
 use onode_state::coll_name_is_one;
 use page_edits::lay;
@@ -57,33 +61,75 @@ fn lay_pages(
     }
 }
 
-// The shards that begin at these pages go.
+// Where the first of its shards begins.
+fn opening(shards: &[Shard]) -> Option<u32>
+    ensures { result ≡ opening shards.now }
+{
+    match shards.first() {
+        Some(shard) => Some(shard.first_page()),
+        None => None,
+    }
+}
+
+// The shard that begins at this page goes, but for one that comes anew.
+fn drop_shard(
+    alloc: Global,
+    coll: &CollName,
+    object: &Name,
+    anew: Option<u32>,
+    page: u32,
+    changes: &mut RowChanges,
+) -> Result<(), AllocError>
+    ensures { OnOk result (changes.new ≡ without_shard coll.now object.now anew page changes.old) }
+{
+    match anew {
+        Some(first) if first == page => Ok(()),
+        _ => changes.set(shard_key(alloc, coll, object, page)?, None),
+    }
+}
+
+// So do those that begin at these pages.
 fn drop_shards(
     alloc: Global,
     coll: &CollName,
     object: &Name,
+    anew: Option<u32>,
     pages: &[u32],
     changes: &mut RowChanges,
 ) -> Result<(), AllocError>
-    ensures { OnOk result (changes.new ≡ without_shards coll.now object.now pages.now changes.old) }
+    ensures { OnOk result (changes.new ≡ without_shards coll.now object.now anew pages.now changes.old) }
 {
     for page in pages {
-        let key = shard_key(alloc, coll, object, *page)?;
-        changes.set(key, None)?;
+        drop_shard(alloc, coll, object, anew, *page, changes)?;
     }
     Ok(())
 }
 
-// Its onode says this size, or goes where there is none.
+// Whether the object is as long as it was, or missing as it was.
+fn is_as_long(before: Option<u64>, size: Option<u64>) -> bool
+    ensures { result ≡ is_as_long before size }
+{
+    match (before, size) {
+        (Some(before), Some(size)) => before == size,
+        (None, None) => true,
+        _ => false,
+    }
+}
+
+// Its onode says this size, or goes where there is none. One that says it already stays.
 fn put_onode(
     alloc: Global,
     coll: &CollName,
     object: &Name,
+    before: Option<u64>,
     size: Option<u64>,
     changes: &mut RowChanges,
 ) -> Result<(), AllocError>
-    ensures { OnOk result (changes.new ≡ finite.insert changes.old (onode_key coll.now object.now) (option_map (to_le_bytes w64) size)) }
+    ensures { OnOk result (changes.new ≡ with_onode coll.now object.now before size changes.old) }
 {
+    if is_as_long(before, size) {
+        return Ok(());
+    }
     let key = onode_key(alloc, coll, object)?;
     match size {
         Some(size) => {
@@ -94,20 +140,18 @@ fn put_onode(
     }
 }
 
-// The shards of its pages come. There is no bound on their bytes, so there is one, or none without pages.
+// These shards come.
 fn put_shards(
     alloc: Global,
     width: Width,
     coll: &CollName,
     object: &Name,
-    pages: &PageMap,
+    shards: &[Shard],
     changes: &mut RowChanges,
 ) -> Result<(), AllocError>
-    ensures { OnOk result (changes.new
-        ≡ with_shards width coll.now object.now (shards_of width None (extents_of (finite.entries pages.now))) changes.old) }
+    ensures { OnOk result (changes.new ≡ with_shards width coll.now object.now shards.now changes.old) }
 {
-    let shards = split(alloc, width, pages, None)?;
-    for shard in shards.as_slice() {
+    for shard in shards {
         let key = shard_key(alloc, coll, object, shard.first_page())?;
         let value = shard.encode(alloc, width)?;
         changes.set(key, Some(value))?;
@@ -115,7 +159,8 @@ fn put_shards(
     Ok(())
 }
 
-// Its onode and all its shards are written anew.
+// All its shards are written anew, and its onode where it is longer or shorter. There is no bound on the bytes of a shard, so there is one, or none
+// without pages.
 fn put_object(
     alloc: Global,
     width: Width,
@@ -129,19 +174,20 @@ fn put_object(
     requires units { TakesBelow (length units.now) touched.now }
     requires contents { TakesBelow (length contents.now) touched.now }
     ensures { OnOk result (changes.new
-        ≡ with_object width coll.now object.now touched.shards.items (laid_now units.now (held_in contents.now) touched) changes.old) }
+        ≡ with_object width coll.now object.now touched.before touched.shards.items (laid_now units.now (held_in contents.now) touched) changes.old) }
 {
     let Touched {
-        before: _,
+        before,
         shards,
         now,
         left: _,
     } = touched;
     let size = now.as_ref().map(|draft| draft.size);
     let pages = lay_pages(alloc, now, units, contents)?;
-    drop_shards(alloc, coll, object, &shards, changes)?;
-    put_onode(alloc, coll, object, size, changes)?;
-    put_shards(alloc, width, coll, object, &pages, changes)
+    let anew = split(alloc, width, &pages, None)?;
+    drop_shards(alloc, coll, object, opening(&anew), &shards, changes)?;
+    put_onode(alloc, coll, object, before, size, changes)?;
+    put_shards(alloc, width, coll, object, &anew, changes)
 }
 
 // The same of an object that was looked at, where it isn't what it was.
@@ -210,12 +256,25 @@ fn put_objects(
     Ok(())
 }
 
+// The row of a collection that is there, or none.
+fn put_collection(
+    alloc: Global,
+    coll: &CollName,
+    there: bool,
+    changes: &mut RowChanges,
+) -> Result<(), AllocError>
+    ensures { OnOk result (changes.new ≡ finite.insert changes.old (coll_key coll.now) (coll_row there)) }
+{
+    let row = if there { Some(Bytes::new(alloc)) } else { None };
+    changes.set(coll_key(alloc, coll)?, row)
+}
+
 /// The changes of rows that a planned transaction comes to, where it has taken these units and they are to hold these bytes: those of values,
-/// the onode and the shards of each object whose layout isn't what it was, and the row of the collection.
+/// the onode and the shards of each object whose layout isn't what it was, and the row of the collection where an operation was on that.
 pub fn changed_rows(
     alloc: Global,
     width: Width,
-    coll: &CollName,
+    txn: &Transaction,
     planning: Planning,
     units: &[UnitNo],
     contents: &[SharedBytes],
@@ -223,17 +282,19 @@ pub fn changed_rows(
     requires named { AllNamed planning.objects }
     requires units { AllTakeBelow (length units.now) planning.objects }
     requires contents { AllTakeBelow (length contents.now) planning.objects }
-    ensures { IfOk result (λ changes. (rows : Rows) → IsChangesOf width rows coll.now planning units.now (held_in contents.now) changes) }
+    ensures { IfOk result (λ changes. (rows : Rows) → IsChangesOf width rows txn.now planning units.now (held_in contents.now) changes) }
 {
-    coll_name_is_one(coll);
+    coll_name_is_one(txn.coll());
     let Planning {
         there,
         objects,
         values: mut changes,
         ..
     } = planning;
+    let coll = txn.coll();
     put_objects(alloc, width, coll, objects, units, contents, &mut changes)?;
-    let row = if there { Some(Bytes::new(alloc)) } else { None };
-    changes.set(coll_key(alloc, coll)?, row)?;
+    if is_any_on_coll(txn.ops()) {
+        put_collection(alloc, coll, there, &mut changes)?;
+    }
     Ok(changes)
 }

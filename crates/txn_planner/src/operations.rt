@@ -1,15 +1,29 @@
 //! Operations, each by itself: the object that it is on, its limits, and what it asks of its object.
 ghost use Rattle.std.specs.Prelude.{◌≡◌, nat_lt, length};
-ghost use Rattle.std.specs.List.{AllByRecursion};
+ghost use Rattle.std.specs.List.{AllByRecursion, list_any};
 ghost use Rattle.object_model.specs.Prelude.{any_value_long};
 ghost use Rattle.object_model.specs.Effect.{value_limit};
 ghost use Rattle.unit_fields.specs.Prelude.{IsName};
 ghost use Rattle.plan_drafts.specs.Prelude.{IsOnObject, object_of, is_beyond, needs_object, HasNames};
+ghost use Rattle.txn_planner.specs.Laying.{is_on_coll};
 
 use byte_maps::Bytes;
 use object_model::{Op, Pair, ends_too_far};
 use onode_state::name_is_one;
 use unit_fields::Name;
+
+fn is_on_coll(op: &Op) -> bool
+    ensures { result ≡ is_on_coll op.now }
+{
+    matches!(op, Op::MkColl | Op::RmColl)
+}
+
+/// Whether one of the operations makes the collection or takes it away.
+pub fn is_any_on_coll(ops: &[Op]) -> bool
+    ensures { result ≡ list_any is_on_coll ops.now }
+{
+    ops.iter().any(is_on_coll)
+}
 
 /// The object that an operation is on.
 pub fn object_in(op: &Op) -> &Name

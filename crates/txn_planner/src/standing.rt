@@ -2,6 +2,7 @@
 //!
 //! Where a page went again that the transaction had put, the unit that was taken for it isn't written and stays free.
 ghost use Rattle.std.specs.Prelude.{◌≡◌, ◌↔◌, ◌<◌, ◌^◌, ℕ, Contains, length, IfOk, OnOk};
+ghost use Rattle.bitmap_freelist.specs.Bitmap.{Has};
 ghost use Rattle.std.specs.List.{AllByRecursion};
 ghost use Rattle.unit_fields.specs.Prelude.{Ascends};
 ghost use Rattle.crc32c_csum.specs.Prelude.{crc32c};
@@ -38,16 +39,15 @@ fn insert_puts_of(takings: &mut UnitSet, touched: &Touched) -> Result<(), AllocE
     }
 }
 
-/// The numbers of the takings on whose units pages of these objects stand, in ascending order.
-pub fn standing(alloc: Global, objects: &ByteMap<Touched>) -> Result<Vec<u32>, AllocError>
-    ensures ascend { IfOk result (λ takings. Ascends takings.items) }
-    ensures put { IfOk result (λ takings. (taking : ℕ) → Contains takings.items taking ↔ IsPutIn objects.now taking) }
+/// The numbers of the takings on whose units pages of these objects stand.
+pub fn standing(alloc: Global, objects: &ByteMap<Touched>) -> Result<UnitSet, AllocError>
+    ensures { IfOk result (λ takings. (taking : ℕ) → Has takings taking ↔ IsPutIn objects.now taking) }
 {
     let mut takings = UnitSet::new(alloc);
     for entry in objects.entries() {
         insert_puts_of(&mut takings, &entry.1)?;
     }
-    Vec::from_slice(alloc, takings.as_slice())
+    Ok(takings)
 }
 
 // The checksum of bytes fits its field. It does nothing, for proofs alone.

@@ -23,9 +23,10 @@ use meta_rows::RowTable;
 use number_map::NumberMap;
 use object_model::{Op, Refusal, Transaction};
 use onode_state::{coll_name_is_one, name_is_one};
-use page_edits::{Edited, edit, left_by_removal};
+use page_edits::{Edited, PageWrite, edit, left_by_removal};
 use plan_drafts::Draft;
 use std::alloc::{AllocError, Global};
+use std::mem::replace;
 use unit_fields::{CollName, Name, UnitNo, Width};
 use value_changes::change_values;
 
@@ -102,6 +103,17 @@ fn add_left(left: &mut Vec<UnitNo>, pages: &[(u32, Place)]) -> Result<(), AllocE
     Ok(())
 }
 
+// Adds writes. Where there were none nothing is copied.
+fn add_writes(writes: &mut Vec<PageWrite>, mut more: Vec<PageWrite>) -> Result<(), AllocError>
+    ensures { OnOk result (writes.new.items ≡ writes.old.items ++ more.items) }
+{
+    if writes.is_empty() {
+        drop(replace(writes, more));
+        return Ok(());
+    }
+    writes.append(&mut more)
+}
+
 // Adds what an edit tells.
 fn add_edit(p: &mut Planning, edited: Edited) -> Result<(), AllocError>
     ensures adds { OnOk result (AddsEdit edited p.old p.new) }
@@ -115,7 +127,7 @@ fn add_edit(p: &mut Planning, edited: Edited) -> Result<(), AllocError>
         left,
         taken,
     } = edited;
-    p.writes.append(&mut writes.into_vec())?;
+    add_writes(&mut p.writes, writes.into_vec())?;
     p.places.append(&mut places.into_vec())?;
     add_left(&mut p.left, left.as_slice())?;
     p.taken = taken;

@@ -1,12 +1,13 @@
 //! The operations on the freelist's bitmap that go with a write.
 //!
 //! In Ceph's BlueStore `_txc_finalize_kv` calls `allocate` and `release` of the freelist for the units of a transaction.
-ghost use Rattle.std.specs.Prelude.{IfOk, OnOk};
+ghost use Rattle.std.specs.Prelude.{map, IfOk, OnOk};
 ghost use Rattle.plan_drafts.specs.Prelude.{TurnsBits};
 ghost use Rattle.txn_planner.specs.Turns.{AddsUnits};
 
 use bitmap_freelist::flip_ops;
 use meta_rows::RowOp;
+use plan_rows::FreshUnit;
 use std::alloc::{AllocError, Global};
 use unit_fields::{UnitNo, UnitSet};
 
@@ -20,16 +21,26 @@ pub fn insert_all(set: &mut UnitSet, units: &[UnitNo]) -> Result<(), AllocError>
     Ok(())
 }
 
+// Puts the units of these in the set.
+fn insert_fresh(set: &mut UnitSet, fresh: &[FreshUnit]) -> Result<(), AllocError>
+    ensures { OnOk result (AddsUnits (map (λ f. f.unit) fresh.now) set.old set.new) }
+{
+    for one in fresh {
+        set.insert(one.unit.number())?;
+    }
+    Ok(())
+}
+
 /// The operations that turn the bits of the units that a write takes and of those that it releases, each bit once.
 pub fn turned_bits(
     alloc: Global,
-    taken: &[UnitNo],
+    fresh: &[FreshUnit],
     released: &[UnitNo],
 ) -> Result<Vec<RowOp>, AllocError>
-    ensures { IfOk result (λ flips. TurnsBits taken.now released.now flips.items) }
+    ensures { IfOk result (λ flips. TurnsBits (map (λ f. f.unit) fresh.now) released.now flips.items) }
 {
     let mut units = UnitSet::new(alloc);
-    insert_all(&mut units, taken)?;
+    insert_fresh(&mut units, fresh)?;
     insert_all(&mut units, released)?;
     flip_ops(alloc, &units)
 }

@@ -1,28 +1,35 @@
-use Rattle.std.proofs.Common.{◌≡◌, cond, List, ℕ, [], Some, None, sym, ap, subst, ◌∙◌}
+use Rattle.std.proofs.Common.{◌≡◌, cond, Bool, List, ℕ, sym, ap, subst, ◌∙◌}
+use Rattle.std.specs.List.{list_any}
 use Rattle.std.specs.FinMap as finite
+use Rattle.object_model.specs.declared.op.Op.{Op}
+use Rattle.unit_fields.specs.Prelude.{IsCollName}
 use Rattle.row_format.specs.Prelude.{coll_key}
 use Rattle.row_changes.specs.Prelude.{ChangeMap}
 use Rattle.plan_drafts.specs.Prelude.{Held}
 use Rattle.page_edits.specs.Writes.{held_in}
-use Rattle.txn_planner.specs.Laying.{with_objects, with_rows, IsChangesOf}
+use Rattle.txn_planner.specs.Laying.{with_objects, coll_row, is_on_coll, with_rows, IsChangesOf}
 use Rattle.txn_planner.proofs.ChangedRows.{are_changes}
-use Rattle.txn_planner.proofs.laying.changed_rows.Goals.{then-there, else-there}
+use Rattle.txn_planner.proofs.laying.changed_rows.Goals.{then-is_any_on_coll+in_ok-put_collection, else-is_any_on_coll}
 use Rattle.txn_planner.proofs.laying.changed_rows.Goals as goal
 
 pub returns : goal.returns
 returns c rows =
     let width = c.args.width in
-    let coll : List ℕ = c.args.coll.now in
+    let change = c.args.txn.now in
     let p = c.args.planning in
     let units : List ℕ = c.args.units.now in
     let held : Held = held_in c.args.contents.now in
-    let objects : ChangeMap = with_objects width coll units held (finite.keys p.objects) p.objects p.values in
-    let row : c.if-there.row ≡ cond p.there (Some []) None = elim c.if-there.branch [
-      | then-there w ↦ w.row-is ∙ ap Some w.new.ensures ∙ sym (ap (λ b. cond b (Some []) None) w.if-there.true)
-      | else-there w ↦ w.row-is ∙ sym (ap (λ b. cond b (Some []) None) w.if-there.false)
+    let by : List ℕ → ChangeMap = λ coll. with_objects width coll units held (finite.keys p.objects) p.objects p.values in
+    let objects : ChangeMap = by change.coll in
+    let either : Bool → ChangeMap = λ b. cond b (finite.insert objects (coll_key change.coll) (coll_row p.there)) objects in
+    let put : c.put_objects.new.changes ≡ objects = c.in_ok-put_objects.ensures ∙ ap by c.coll-coll.ensures in
+    let on : c.is_any_on_coll.result ≡ list_any is_on_coll change.ops =
+    c.is_any_on_coll.ensures ∙ ap (λ (ops : List Op). list_any is_on_coll ops) c.ops.ensures.operations in
+    let made : c.if-is_any_on_coll.changes ≡ with_rows width change units held p = elim c.if-is_any_on_coll.branch [
+      | then-is_any_on_coll+in_ok-put_collection w ↦ w.changes-is ∙ w.in_ok-put_collection.ensures
+          ∙ (λ i. finite.insert (put i) (coll_key (c.coll-coll.ensures i)) (coll_row p.there))
+          ∙ sym (ap either (sym on ∙ w.if-is_any_on_coll.true))
+      | else-is_any_on_coll w ↦ w.changes-is ∙ put ∙ sym (ap either (sym on ∙ w.if-is_any_on_coll.false))
     ] in
-    let made : c.set.new.self ≡ with_rows width coll units held p = c.in_ok-set.ensures.ok
-    ∙ ap (λ m. finite.insert m c.in_ok-coll_key.field-0 c.if-there.row) c.in_ok-put_objects.ensures
-    ∙ ap (λ k. finite.insert objects k c.if-there.row) c.in_ok-coll_key.ensures.key
-    ∙ ap (finite.insert objects (coll_key coll)) row in
-    subst (IsChangesOf width rows coll p units held) (sym made) (are_changes width rows coll c.coll_name_is_one.ensures p units held c.requires.units)
+    subst (IsChangesOf width rows change p units held) (sym made)
+    (are_changes width rows change (subst IsCollName c.coll.ensures c.coll_name_is_one.ensures) p units held c.requires.units)

@@ -121,6 +121,10 @@ pub becomes_none : (f : Parse → Parse) (o : Option Parse) (p q : Parse) → Be
 becomes_none f None p q becomes = refl
 becomes_none f (Some r) p q becomes = let never : false ≡ true = becomes.0 in absurd cc
 
+-- a block was put where none was
+pub with_put : (b : Block) (p q : Parse) (z : Option Block) → z ≡ Some b → p ≡ q → record p { block = z } ≡ with_block b q
+with_put b p q z put same = ap (λ (y : Option Block). record p { block = y }) put ∙ ap (with_block b) same
+
 -- a block is begun
 pub begun : (n : ℕ) (p q r : Parse) → Becomes (one_more p) true q → r ≡ with_block (record { line = n; change = None }) q → Becomes (outside n p Begin) true r
 begun n p q r becomes is =

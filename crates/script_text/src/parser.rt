@@ -131,7 +131,7 @@ impl Parser {
         if !self.count_command() {
             return false;
         }
-        self.block = Some(Block { line, change: None });
+        drop(self.block.replace(Block { line, change: None }));
         true
     }
 
@@ -154,7 +154,7 @@ impl Parser {
     {
         match statement {
             Statement::PassedOver => {
-                self.block = Some(block);
+                drop(self.block.replace(block));
                 Ok(true)
             }
             Statement::Begin => {
@@ -195,7 +195,7 @@ impl Parser {
             return Ok(false);
         };
         let change = Some(both);
-        self.block = Some(Block { line, change });
+        drop(self.block.replace(Block { line, change }));
         Ok(true)
     }
 

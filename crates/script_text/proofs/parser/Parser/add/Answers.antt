@@ -1,6 +1,5 @@
-use Rattle.std.proofs.Common.{Some, sym, ap, ◌∙◌}
-use Rattle.script_text.specs.Prelude.{Parse, with_block}
-use Rattle.script_text.proofs.Parsing.{longer_block, other_block}
+use Rattle.std.proofs.Common.{Some, sym, ◌∙◌}
+use Rattle.script_text.proofs.Parsing.{with_put, longer_block, other_block}
 use Rattle.script_text.proofs.parser.Parser.add.Goals as goal
 
 pub returns-in_default : goal.returns-in_default
@@ -10,4 +9,4 @@ returns-in_default c =
 pub returns : goal.returns
 returns c =
     longer_block c.args.self.now _ c.args.block c.args.change c.in-Some.both (sym c.in-Some.is ∙ c.in_ok-both.ensures)
-    (ap (λ (p : Parse). with_block (record { line = c.args.block.line; change = Some c.in-Some.both }) p) c.self.view_is)
+    (with_put (record { line = c.args.block.line; change = Some c.in-Some.both }) _ _ c.replace.new.self c.replace.ensures.after c.self.view_is)

@@ -1,6 +1,5 @@
-use Rattle.std.proofs.Common.{None, ap}
-use Rattle.script_text.specs.Prelude.{Parse, with_block}
-use Rattle.script_text.proofs.Parsing.{begun, not_begun}
+use Rattle.std.proofs.Common.{None}
+use Rattle.script_text.proofs.Parsing.{with_put, begun, not_begun}
 use Rattle.script_text.proofs.parser.Parser.begin.Goals as goal
 
 pub returns-then-not-count_command : goal.returns-then-not-count_command
@@ -10,4 +9,4 @@ returns-then-not-count_command c =
 pub returns : goal.returns
 returns c =
     begun c.args.line c.args.self.now c.count_command.new.self _ c.if-not-count_command.ensures
-    (ap (λ (p : Parse). with_block (record { line = c.args.line; change = None }) p) c.self.view_is)
+    (with_put (record { line = c.args.line; change = None }) _ _ c.replace.new.self c.replace.ensures.after c.self.view_is)

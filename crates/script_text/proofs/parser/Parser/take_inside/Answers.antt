@@ -1,7 +1,7 @@
 use Rattle.std.proofs.Common.{ap, ◌∙◌}
 use Rattle.script_text.specs.Prelude.{Parse, with_block, inside}
 use Rattle.script_text.specs.declared.grammar.Statement.{Statement}
-use Rattle.script_text.proofs.Parsing.{inside_passed, inside_begin, inside_other, some_fits, none_fits_there}
+use Rattle.script_text.proofs.Parsing.{with_put, inside_passed, inside_begin, inside_other, some_fits, none_fits_there}
 use Rattle.script_text.proofs.parser.Parser.take_inside.Goals as goal
 
 pub returns-in-PassedOver : goal.returns-in-PassedOver
@@ -9,7 +9,7 @@ returns-in-PassedOver c =
     let p = c.args.self.now in
     let b = c.args.block in
     some_fits (inside p b c.args.statement) (with_block b p) _
-    (ap (λ (s : Statement). inside p b s) c.in-PassedOver.is ∙ inside_passed p b) (ap (λ (q : Parse). with_block b q) c.self.view_is)
+    (ap (λ (s : Statement). inside p b s) c.in-PassedOver.is ∙ inside_passed p b) (with_put b _ _ c.replace.new.self c.replace.ensures.after c.self.view_is)
 
 pub returns-in-Begin : goal.returns-in-Begin
 returns-in-Begin c =

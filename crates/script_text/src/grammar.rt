@@ -1,6 +1,7 @@
 //! What a line says.
-ghost use Rattle.std.specs.Prelude.{◌↔◌, ◌++◌, ◌∷◌, [], ℕ, List, IfOk, MatchOption, IsTrue, codes};
-ghost use Rattle.script_text.specs.Grammar.{HasNo, IsPassedOver};
+ghost use Rattle.std.specs.Prelude.{◌≡◌, ◌↔◌, ◌++◌, ◌∷◌, [], ℕ, List, IfOk, MatchOption, IsTrue, codes};
+ghost use Rattle.unit_fields.specs.Prelude.{IsCollName};
+ghost use Rattle.script_text.specs.Grammar.{HasNo, IsNameWord, IsPassedOver};
 ghost use Rattle.script_text.specs.Reading.{IsReading, NamesObject, NamesRange, NamesSize, Reads, ReadsWords};
 
 use crate::change::KeptOp;
@@ -35,6 +36,24 @@ fn read_mkcoll(alloc: Global, rest: &[u8]) -> Result<Option<Said>, AllocError>
     Ok(Some(Said::op(alloc, coll, Op::MkColl)))
 }
 
+/// The names of a collection and of an object in it, if these words spell them.
+pub fn read_names(
+    alloc: Global,
+    coll: &[u8],
+    object: &[u8],
+) -> Result<Option<(CollName, Name)>, AllocError>
+    ensures { IfOk result (λ found. MatchOption found ((name : List ℕ) → IsCollName coll.now → ¬ (IsNameWord object.now name))
+        (λ x. (x.0 ≡ coll.now) × IsCollName coll.now × IsNameWord object.now x.1)) }
+{
+    let Some(coll) = CollName::read(alloc, coll)? else {
+        return Ok(None);
+    };
+    let Some(object) = read_name(alloc, object)? else {
+        return Ok(None);
+    };
+    Ok(Some((coll, object)))
+}
+
 /// `C O`: the names of a collection and of an object in it.
 pub fn read_object(alloc: Global, text: &[u8]) -> Result<Option<(CollName, Name)>, AllocError>
     ensures { IfOk result (λ found. MatchOption found ((coll object : List ℕ) → ¬ (NamesObject text.now coll object))
@@ -43,10 +62,7 @@ pub fn read_object(alloc: Global, text: &[u8]) -> Result<Option<(CollName, Name)
     let Some((coll, object)) = two_words(text) else {
         return Ok(None);
     };
-    let Some(coll) = CollName::read(alloc, coll)? else {
-        return Ok(None);
-    };
-    let Some(object) = read_name(alloc, object)? else {
+    let Some((coll, object)) = read_names(alloc, coll, object)? else {
         return Ok(None);
     };
     Ok(Some((coll, object)))
@@ -118,10 +134,7 @@ fn read_range(alloc: Global, text: &[u8]) -> Result<Option<(CollName, Name, u64,
     let Some(len) = read_number(len) else {
         return Ok(None);
     };
-    let Some(coll) = CollName::read(alloc, coll)? else {
-        return Ok(None);
-    };
-    let Some(object) = read_name(alloc, object)? else {
+    let Some((coll, object)) = read_names(alloc, coll, object)? else {
         return Ok(None);
     };
     Ok(Some((coll, object, off, len)))
@@ -138,10 +151,7 @@ fn read_size(alloc: Global, text: &[u8]) -> Result<Option<(CollName, Name, u64)>
     let Some(size) = read_number(size) else {
         return Ok(None);
     };
-    let Some(coll) = CollName::read(alloc, coll)? else {
-        return Ok(None);
-    };
-    let Some(object) = read_name(alloc, object)? else {
+    let Some((coll, object)) = read_names(alloc, coll, object)? else {
         return Ok(None);
     };
     Ok(Some((coll, object, size)))
@@ -197,10 +207,7 @@ fn write_of(
     let Some(off) = read_number(off) else {
         return Ok(None);
     };
-    let Some(coll) = CollName::read(alloc, coll)? else {
-        return Ok(None);
-    };
-    let Some(object) = read_name(alloc, object)? else {
+    let Some((coll, object)) = read_names(alloc, coll, object)? else {
         return Ok(None);
     };
     let Some(bytes) = read_data(alloc, data_word)? else {

@@ -7,7 +7,7 @@ ghost use Rattle.script_text.specs.Reading.{IsLaterWord, NamesAttr, NamesHeader,
 use crate::change::KeptOp;
 use crate::data::{Data, read_data};
 use crate::escape::read_name;
-use crate::grammar::read_object;
+use crate::grammar::{read_names, read_object};
 use crate::pair::{KeptPair, read_keys, read_pairs};
 use crate::split::{four_words, three_words, words_before};
 use crate::{Said, What};
@@ -24,10 +24,7 @@ fn read_value(alloc: Global, text: &[u8]) -> Result<Option<(CollName, Name, Name
     let Some((coll, object, name)) = three_words(text) else {
         return Ok(None);
     };
-    let Some(coll) = CollName::read(alloc, coll)? else {
-        return Ok(None);
-    };
-    let Some(object) = read_name(alloc, object)? else {
+    let Some((coll, object)) = read_names(alloc, coll, object)? else {
         return Ok(None);
     };
     let Some(name) = read_name(alloc, name)? else {
@@ -44,10 +41,7 @@ fn read_header(alloc: Global, text: &[u8]) -> Result<Option<(CollName, Name, Dat
     let Some((coll, object, value)) = three_words(text) else {
         return Ok(None);
     };
-    let Some(coll) = CollName::read(alloc, coll)? else {
-        return Ok(None);
-    };
-    let Some(object) = read_name(alloc, object)? else {
+    let Some((coll, object)) = read_names(alloc, coll, object)? else {
         return Ok(None);
     };
     let Some(value) = read_data(alloc, value)? else {
@@ -64,10 +58,7 @@ fn read_attr(alloc: Global, text: &[u8]) -> Result<Option<(CollName, Name, Name,
     let Some((coll, object, name, value)) = four_words(text) else {
         return Ok(None);
     };
-    let Some(coll) = CollName::read(alloc, coll)? else {
-        return Ok(None);
-    };
-    let Some(object) = read_name(alloc, object)? else {
+    let Some((coll, object)) = read_names(alloc, coll, object)? else {
         return Ok(None);
     };
     let Some(name) = read_name(alloc, name)? else {
@@ -90,10 +81,7 @@ fn read_key_range(
     let Some((coll, object, first, last)) = four_words(text) else {
         return Ok(None);
     };
-    let Some(coll) = CollName::read(alloc, coll)? else {
-        return Ok(None);
-    };
-    let Some(object) = read_name(alloc, object)? else {
+    let Some((coll, object)) = read_names(alloc, coll, object)? else {
         return Ok(None);
     };
     let Some(first) = read_name(alloc, first)? else {
@@ -116,10 +104,7 @@ fn read_key_list(
     let Some((coll, object, rest)) = words_before(text) else {
         return Ok(None);
     };
-    let Some(coll) = CollName::read(alloc, coll)? else {
-        return Ok(None);
-    };
-    let Some(object) = read_name(alloc, object)? else {
+    let Some((coll, object)) = read_names(alloc, coll, object)? else {
         return Ok(None);
     };
     let Some(keys) = read_keys(alloc, rest)? else {
@@ -139,10 +124,7 @@ fn read_pair_list(
     let Some((coll, object, rest)) = words_before(text) else {
         return Ok(None);
     };
-    let Some(coll) = CollName::read(alloc, coll)? else {
-        return Ok(None);
-    };
-    let Some(object) = read_name(alloc, object)? else {
+    let Some((coll, object)) = read_names(alloc, coll, object)? else {
         return Ok(None);
     };
     let Some(pairs) = read_pairs(alloc, rest)? else {

@@ -7,9 +7,5 @@ returns-in_default c coll object is = no_names c.args.text.now coll object c.in_
 pub returns-in_default-2 : goal.returns-in_default-2
 returns-in_default-2 c coll object is =
     let unnamed = rw c.in_default-2.is at c.in_ok-coll.ensures in
-    unnamed (two_names c.args.text.now c.in-Some.coll.now c.in-Some.object.now coll object c.in-Some.ensures.0 c.in-Some.ensures.1 is).0
-
-pub returns-in_default-3 : goal.returns-in_default-3
-returns-in_default-3 c coll object is =
-    let unnamed = rw c.in_default-3.is at c.in_ok-object.ensures in
-    unnamed object (two_names c.args.text.now c.in-Some.coll.now c.in-Some.object.now coll object c.in-Some.ensures.0 c.in-Some.ensures.1 is).1
+    let words = two_names c.args.text.now c.in-Some.coll.now c.in-Some.object.now coll object c.in-Some.ensures.0 c.in-Some.ensures.1 is in
+    unnamed object words.0 words.1

@@ -12,18 +12,12 @@ returns-in_default-read_number c coll object size is =
 pub returns-in_default-2 : goal.returns-in_default-2
 returns-in_default-2 c coll object size is =
     let unnamed = rw c.in_default-2.is at c.in_ok-coll.ensures in
-    unnamed (size_words c.args.text.now c.in-Some.coll.now c.in-Some.object.now c.in-Some.size.now coll object size
-    c.in-Some.ensures.0 c.in-Some.ensures.1 is).named
-
-pub returns-in_default-3 : goal.returns-in_default-3
-returns-in_default-3 c coll object size is =
-    let unnamed = rw c.in_default-3.is at c.in_ok-object.ensures in
-    unnamed object (size_words c.args.text.now c.in-Some.coll.now c.in-Some.object.now c.in-Some.size.now coll object size
-    c.in-Some.ensures.0 c.in-Some.ensures.1 is).names
+    let words = size_words c.args.text.now c.in-Some.coll.now c.in-Some.object.now c.in-Some.size.now coll object size
+    c.in-Some.ensures.0 c.in-Some.ensures.1 is in
+    unnamed object words.named words.names
 
 pub returns : goal.returns
 returns c =
-    let coll = rw c.in-Some-2.is at c.in_ok-coll.ensures in
-    let object = rw c.in-Some-3.is at c.in_ok-object.ensures in
-    size_named c.args.text.now c.in-Some.coll.now c.in-Some.object.now c.in-Some.size.now c.in-Some-2.coll c.in-Some-3.object c.in-Some-read_number.size
-    c.in-Some.ensures.1 coll.0 coll.1 object c.in-Some-read_number.ensures
+    let both = rw c.in-Some-2.is at c.in_ok-coll.ensures in
+    size_named c.args.text.now c.in-Some.coll.now c.in-Some.object.now c.in-Some.size.now c.in-Some-2.coll c.in-Some-2.object c.in-Some-read_number.size
+    c.in-Some.ensures.1 both.0 both.1 both.2 c.in-Some-read_number.ensures

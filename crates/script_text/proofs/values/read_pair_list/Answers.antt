@@ -8,22 +8,17 @@ returns-in_default c coll object pairs is = c.in_default.ensures coll is.are.obj
 pub returns-in_default-2 : goal.returns-in_default-2
 returns-in_default-2 c coll object pairs is =
     let unnamed = rw c.in_default-2.is at c.in_ok-coll.ensures in
-    unnamed (pairs_parts c.args.text.now c.in-Some.coll.now c.in-Some.object.now c.in-Some.rest.now coll object pairs c.in-Some.ensures is).named
+    let words = pairs_parts c.args.text.now c.in-Some.coll.now c.in-Some.object.now c.in-Some.rest.now coll object pairs c.in-Some.ensures is in
+    unnamed object words.named words.names
 
 pub returns-in_default-3 : goal.returns-in_default-3
 returns-in_default-3 c coll object pairs is =
-    let unnamed = rw c.in_default-3.is at c.in_ok-object.ensures in
-    unnamed object (pairs_parts c.args.text.now c.in-Some.coll.now c.in-Some.object.now c.in-Some.rest.now coll object pairs c.in-Some.ensures is).names
-
-pub returns-in_default-4 : goal.returns-in_default-4
-returns-in_default-4 c coll object pairs is =
-    let unread = rw c.in_default-4.is at c.in_ok-pairs.ensures in
+    let unread = rw c.in_default-3.is at c.in_ok-pairs.ensures in
     unread pairs (pairs_parts c.args.text.now c.in-Some.coll.now c.in-Some.object.now c.in-Some.rest.now coll object pairs c.in-Some.ensures is).spells
 
 pub returns : goal.returns
 returns c =
-    let coll = rw c.in-Some-2.is at c.in_ok-coll.ensures in
-    let object = rw c.in-Some-3.is at c.in_ok-object.ensures in
-    let pairs = rw c.in-Some-4.is at c.in_ok-pairs.ensures in
-    pairs_named c.args.text.now c.in-Some.coll.now c.in-Some.object.now c.in-Some.rest.now c.in-Some-2.coll c.in-Some-3.object c.in-Some-4.pairs
-    c.in-Some.ensures coll.0 coll.1 object pairs
+    let both = rw c.in-Some-2.is at c.in_ok-coll.ensures in
+    let pairs = rw c.in-Some-3.is at c.in_ok-pairs.ensures in
+    pairs_named c.args.text.now c.in-Some.coll.now c.in-Some.object.now c.in-Some.rest.now c.in-Some-2.coll c.in-Some-2.object c.in-Some-3.pairs
+    c.in-Some.ensures both.0 both.1 both.2 pairs

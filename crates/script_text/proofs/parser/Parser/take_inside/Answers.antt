@@ -1,5 +1,5 @@
 use Rattle.std.proofs.Common.{ap, ◌∙◌}
-use Rattle.script_text.specs.Prelude.{Parse, with_block, inside}
+use Rattle.script_text.specs.Prelude.{with_block, inside}
 use Rattle.script_text.specs.declared.grammar.Statement.{Statement}
 use Rattle.script_text.proofs.Parsing.{with_put, inside_passed, inside_begin, inside_other, some_fits, none_fits_there}
 use Rattle.script_text.proofs.parser.Parser.take_inside.Goals as goal

@@ -84,7 +84,10 @@ impl Said {
     {
         match self.kept {
             Kept::Change(change) => Some(change),
-            Kept::Other(_) => None,
+            Kept::Other(what) => {
+                drop(what);
+                None
+            }
         }
     }
 

@@ -98,6 +98,11 @@ pub fn read_script<S: Source>(alloc: Global, source: &mut S) -> Result<Vec<Line>
     ensures cause { IsErrOf result ScriptFail.ReadFault → Rose (S.faults source.old) (S.faults source.new) }
 {
     let mut reader = Reader::new(alloc);
-    read_through(alloc, source, &mut reader)?;
-    reader.finish(alloc)
+    match read_through(alloc, source, &mut reader) {
+        Ok(()) => reader.finish(alloc),
+        Err(e) => {
+            drop(reader);
+            Err(e)
+        }
+    }
 }

@@ -20,7 +20,7 @@ unfolding digits
 digits-most base upper n = omega (arith, digits_onto-most 64 base upper n [])
 
 -- a collection's name is far shorter than a key may be
-coll_name-most : (c : List ℕ) → IsCollName c → length c ≤ 134
+pub coll_name-most : (c : List ℕ) → IsCollName c → length c ≤ 134
 coll_name-most c is =
     subst (λ (l : List ℕ). length l ≤ 134) (sym is.spelled) (omega (
       arith,

@@ -1,5 +1,6 @@
 //! Keys of rows, each made in memory of its own.
-ghost use Rattle.std.specs.Prelude.{◌≡◌, ◌≤◌, [], ◌∷◌, ◌++◌, length, IfOk, IfSome, OnOk};
+ghost use Rattle.std.specs.Prelude.{◌≡◌, ◌+◌, ◌<◌, ◌≤◌, [], ◌∷◌, ◌++◌, length, IfOk, IfSome};
+ghost use Rattle.arrayvec.specs.ArrayVec.{array_vec_len};
 ghost use Rattle.std.specs.Int.{w64, to_be_bytes};
 ghost use Rattle.std.specs.Option.{option_copied};
 ghost use Rattle.unit_fields.specs.Prelude.{IsName};
@@ -18,9 +19,10 @@ ghost use Rattle.row_format.specs.Keys.{
 };
 ghost use Rattle.onode_codec.specs.Fronts.{colls_first, objects_first, objects_end};
 
+use arrayvec::ArrayVec;
 use byte_maps::Bytes;
 use std::alloc::{AllocError, Global};
-use unit_fields::{CollName, Name, push_u32_be, push_u64_be};
+use unit_fields::{CollName, Name};
 
 // The first byte of a key: the kind of its row.
 const COLLECTION: u8 = b'C';
@@ -46,12 +48,31 @@ const END: u8 = 0;
 // The least byte above it.
 const BEHIND_END: u8 = 1;
 
-// Writes a name, and what ends it.
-fn push_name(key: &mut Vec<u8>, name: &[u8]) -> Result<(), AllocError>
-    ensures { OnOk result (key.new.items ≡ key.old.items ++ (name.now ++ 0 ∷ [])) }
+// The most bytes of a key, which a buffer on the stack has room for.
+const ROOM: usize = 648;
+
+// A key that is being made. It takes no memory, and `Bytes` takes none for a short one.
+type KeyBuffer = ArrayVec<u8, ROOM>;
+
+// Writes bytes, for which there is room.
+fn push_bytes(key: &mut KeyBuffer, bytes: &[u8])
+    requires { array_vec_len key.old + length bytes.now ≤ 648 }
+    ensures items { key.new.items ≡ key.old.items ++ bytes.now }
+    ensures len { array_vec_len key.new ≡ array_vec_len key.old + length bytes.now }
 {
-    key.extend_from_slice(name)?;
-    Ok(key.push(END)?)
+    if key.try_extend_from_slice(bytes).is_err() {
+        unreachable!()
+    }
+}
+
+// Writes a name, and what ends it.
+fn push_name(key: &mut KeyBuffer, name: &[u8])
+    requires { array_vec_len key.old + length name.now < 648 }
+    ensures items { key.new.items ≡ key.old.items ++ (name.now ++ 0 ∷ []) }
+    ensures len { array_vec_len key.new ≡ array_vec_len key.old + length name.now + 1 }
+{
+    push_bytes(key, name);
+    key.push(END);
 }
 
 // A kind, the names of a collection and of an object in it, and what stands behind.
@@ -68,12 +89,12 @@ fn object_key(
 {
     let coll = coll.as_slice();
     let object = object.as_slice();
-    let mut key = Vec::with_capacity(alloc, coll.len() + object.len() + rest.len() + 3)?;
-    key.push(kind)?;
-    push_name(&mut key, coll)?;
-    push_name(&mut key, object)?;
-    key.extend_from_slice(rest)?;
-    Ok(Bytes::from_vec(key))
+    let mut key = KeyBuffer::new();
+    key.push(kind);
+    push_name(&mut key, coll);
+    push_name(&mut key, object);
+    push_bytes(&mut key, rest);
+    Bytes::from_slice(alloc, key.as_slice())
 }
 
 // A kind and one number.
@@ -81,10 +102,10 @@ fn of_number(alloc: Global, kind: u8, number: u64) -> Result<Bytes, AllocError>
     ensures key { IfOk result (λ key. key ≡ kind ∷ to_be_bytes w64 number) }
     ensures size { IfOk result IsKey }
 {
-    let mut key = Vec::new(alloc);
-    key.push(kind)?;
-    push_u64_be(&mut key, number)?;
-    Ok(Bytes::from_vec(key))
+    let mut key = KeyBuffer::new();
+    key.push(kind);
+    push_bytes(&mut key, &number.to_be_bytes());
+    Bytes::from_slice(alloc, key.as_slice())
 }
 
 /// The key of a collection's row. The row is there exactly where the collection is, and its value is empty.
@@ -92,23 +113,22 @@ pub fn coll_key(alloc: Global, coll: &CollName) -> Result<Bytes, AllocError>
     ensures key { IfOk result (λ key. key ≡ coll_key coll.now) }
     ensures size { IfOk result IsKey }
 {
-    let coll = coll.as_slice();
-    let mut key = Vec::with_capacity(alloc, coll.len() + 1)?;
-    key.push(COLLECTION)?;
-    key.extend_from_slice(coll)?;
-    Ok(Bytes::from_vec(key))
+    let mut key = KeyBuffer::new();
+    key.push(COLLECTION);
+    push_bytes(&mut key, coll.as_slice());
+    Bytes::from_slice(alloc, key.as_slice())
 }
 
 /// Where the keys of the collections begin that are behind another one in byte order, or of all.
 pub fn colls_first(alloc: Global, after: Option<&CollName>) -> Result<Bytes, AllocError>
     ensures { IfOk result (λ key. key ≡ colls_first (option_copied after.entry)) }
 {
-    let mut key = Vec::new(alloc);
-    key.push(COLLECTION)?;
+    let mut key = KeyBuffer::new();
+    key.push(COLLECTION);
     if let Some(coll) = after {
-        push_name(&mut key, coll.as_slice())?;
+        push_name(&mut key, coll.as_slice());
     }
-    Ok(Bytes::from_vec(key))
+    Bytes::from_slice(alloc, key.as_slice())
 }
 
 /// The key of an object's onode.
@@ -146,11 +166,11 @@ pub fn shards_end(alloc: Global, coll: &CollName, object: &Name) -> Result<Bytes
 fn objects_front(alloc: Global, coll: &CollName, behind: u8) -> Result<Bytes, AllocError>
     ensures { IfOk result (λ key. key ≡ 0x4f ∷ (coll.now ++ behind ∷ [])) }
 {
-    let mut key = Vec::new(alloc);
-    key.push(OBJECT)?;
-    key.extend_from_slice(coll.as_slice())?;
-    key.push(behind)?;
-    Ok(Bytes::from_vec(key))
+    let mut key = KeyBuffer::new();
+    key.push(OBJECT);
+    push_bytes(&mut key, coll.as_slice());
+    key.push(behind);
+    Bytes::from_slice(alloc, key.as_slice())
 }
 
 /// Where the keys of a collection's objects begin that are behind another one in byte order, or of all: behind all shards of that one.
@@ -209,10 +229,10 @@ pub fn omap_key(
     ensures key { IfOk result (λ made. made ≡ omap_key coll.now object.now key.now) }
     ensures size { IfOk result IsKey }
 {
-    let mut rest = Vec::new(alloc);
-    rest.push(b'.')?;
-    rest.extend_from_slice(key.as_slice())?;
-    object_key(alloc, OMAP, coll, object, &rest)
+    let mut rest = KeyBuffer::new();
+    rest.push(b'.');
+    push_bytes(&mut rest, key.as_slice());
+    object_key(alloc, OMAP, coll, object, rest.as_slice())
 }
 
 /// The key of a deferred write, by its sequence number.
@@ -236,8 +256,7 @@ pub fn bitmap_key(alloc: Global, row: u32) -> Result<Bytes, AllocError>
     ensures key { IfOk result (λ key. key ≡ bitmap_key row) }
     ensures size { IfOk result IsKey }
 {
-    let mut key = Vec::new(alloc);
-    key.push(BITMAP)?;
-    push_u32_be(&mut key, row)?;
-    Ok(Bytes::from_vec(key))
+    let mut key = [BITMAP, 0, 0, 0, 0];
+    key[1..].copy_from_slice(&row.to_be_bytes());
+    Bytes::from_slice(alloc, &key)
 }

@@ -5,7 +5,7 @@ ghost use Rattle.onode_codec.specs.Reading.{SpellsOnode};
 
 use byte_maps::Bytes;
 use std::alloc::{AllocError, Global};
-use unit_fields::{Fields, push_u64_le};
+use unit_fields::Fields;
 
 /// What an object's own row says (Ceph's `bluestore_onode_t`; the attributes have rows of their own here).
 #[derive(Clone, Copy, Debug, PartialEq, Eq)]
@@ -19,9 +19,7 @@ impl Onode {
     pub fn encode(&self, alloc: Global) -> Result<Bytes, AllocError>
         ensures { IfOk result (λ bytes. bytes ≡ to_le_bytes w64 self.now.size) }
     {
-        let mut bytes = Vec::new(alloc);
-        push_u64_le(&mut bytes, self.size)?;
-        Ok(Bytes::from_vec(bytes))
+        Bytes::from_slice(alloc, &self.size.to_le_bytes())
     }
 
     /// The onode that these bytes spell. Whether its size is one that an object may have is for the caller to see.

@@ -2,3 +2,4 @@ pub mod ShardRows
 pub mod ReadShards
 pub mod States
 pub mod FoundPages
+pub mod OnodeRows

@@ -17,7 +17,7 @@ use Rattle.meta_log.specs.declared.slot.Super.{Super}
 use Rattle.meta_log.specs.Prelude.{width_of}
 use Rattle.unit_fields.specs.Prelude.{IsName, IsCollName}
 use Rattle.unit_fields.specs.declared.width.Width.{Width}
-use Rattle.row_format.specs.Prelude.{object_key, onode_key, shard_key, attr_key, header_key, omap_key, bitmap_key, Extent, extent_bytes, Row, collection, onode, shard, attribute, omap_header, omap_pair, bitmap, row_key, row_value, FitsShard}
+use Rattle.row_format.specs.Prelude.{object_key, onode_key, shard_key, Extent, extent_bytes, Row, collection, onode, shard, attribute, omap_header, omap_pair, bitmap, row_key, row_value, FitsShard}
 use Rattle.row_format.proofs.Prelude.{same_head, same_place, same_shard, coll_no_object, bitmap_no_object, extents-same}
 use Rattle.row_reading.proofs.KeyOrder.{after_front, has_front, lesser_page, onode_before}
 use Rattle.row_reading.proofs.Entries.{AreRows, all_rows, are_rows}
@@ -45,11 +45,11 @@ pub record IsShardEntry (w : Width) (c o : List ℕ) (entry : List ℕ × List �
 -- ---- lists of entries
 
 -- the list has the entry
-abbrev In : List Entry → Entry → Type 0
+abbrev pub In : List Entry → Entry → Type 0
 In [] x = ⊥
 In (e ∷ es) x = (e ≡ x) ⊎ In es x
 
-at_in : (es : List Entry) (x : Entry) (k : ℕ) → k < length es → ((d : Entry) → get_or es k d ≡ x) → In es x
+pub at_in : (es : List Entry) (x : Entry) (k : ℕ) → k < length es → ((d : Entry) → get_or es k d ≡ x) → In es x
 at_in [] x k lt is = absurd (omega (arith, lt))
 at_in (e ∷ es) x zero lt is = inl (is e)
 at_in (e ∷ es) x (suc k) lt is = inr (at_in es x k (omega (arith, lt)) is)
@@ -59,7 +59,7 @@ all_at P [] each = tt
 all_at P (e ∷ es) each = (each 0 e (omega arith), all_at P es (λ k d lt. each (suc k) d (omega (arith, lt))))
 
 -- the keys ascend
-abbrev KeysRise : List Entry → Type 0
+abbrev pub KeysRise : List Entry → Type 0
 KeysRise [] = Unit {0}
 KeysRise (e ∷ es) = AllByRecursion (λ later. byte_order e.0 later.0 ≡ Less) es × KeysRise es
 
@@ -72,7 +72,7 @@ all_below : (key : List ℕ) (es : List Entry) → T (below_all byte_order key e
 all_below key [] h = tt
 all_below key (e ∷ es) h = (is_less (byte_order key e.0) (both_first _ _ h), all_below key es (both_second _ _ h))
 
-sorted_rise : (es : List Entry) → T (is_sorted byte_order es) → KeysRise es
+pub sorted_rise : (es : List Entry) → T (is_sorted byte_order es) → KeysRise es
 sorted_rise [] h = tt
 sorted_rise (e ∷ es) h = (all_below e.0 es (both_first _ _ h), sorted_rise es (both_second _ _ h))
 
@@ -80,7 +80,7 @@ module _ (p : Entry → Bool) where
   abbrev front : Entry → List Entry → Bool → List Entry
   front e es b = cond b (e ∷ filter p es) (filter p es)
 
-  filtered_all : (P Q : Entry → Type 0) → ((e : Entry) → P e → p e ≡ true → Q e) → (es : List Entry) → AllByRecursion P es
+  pub filtered_all : (P Q : Entry → Type 0) → ((e : Entry) → P e → p e ≡ true → Q e) → (es : List Entry) → AllByRecursion P es
       → AllByRecursion Q (filter p es)
   filtered_all P Q f [] all = tt
   filtered_all P Q f (e ∷ es) all = elim (cases_Bool (p e)) [
@@ -88,7 +88,7 @@ module _ (p : Entry → Bool) where
     | inr is ↦ subst (λ b. AllByRecursion Q (front e es b)) (sym is) (filtered_all P Q f es all.1)
   ]
 
-  in_filtered : (es : List Entry) (x : Entry) → p x ≡ true → In es x → In (filter p es) x
+  pub in_filtered : (es : List Entry) (x : Entry) → p x ≡ true → In es x → In (filter p es) x
   in_filtered [] x is there = there
   in_filtered (e ∷ es) x is (inl same) = subst (λ b. In (front e es b) x) (sym (ap p same ∙ is)) (inl same)
   in_filtered (e ∷ es) x is (inr later) = elim (cases_Bool (p e)) [
@@ -96,7 +96,7 @@ module _ (p : Entry → Bool) where
     | inr f ↦ subst (λ b. In (front e es b) x) (sym f) (in_filtered es x is later)
   ]
 
-  filtered_rise : (es : List Entry) → KeysRise es → KeysRise (filter p es)
+  pub filtered_rise : (es : List Entry) → KeysRise es → KeysRise (filter p es)
   filtered_rise [] rise = tt
   filtered_rise (e ∷ es) rise = elim (cases_Bool (p e)) [
     | inl is ↦ subst (λ b. KeysRise (front e es b)) (sym is) (
@@ -108,7 +108,7 @@ module _ (p : Entry → Bool) where
 
 -- ---- keys in the range
 
-not_less : (r : Ordering) (b : Bool) → (not (is_lt r) && b) ≡ true → r ≢ Less
+pub not_less : (r : Ordering) (b : Bool) → (not (is_lt r) && b) ≡ true → r ≢ Less
 not_less Less b h e = absurd cc
 not_less Equal b h e = absurd cc
 not_less Greater b h e = absurd cc
@@ -129,20 +129,20 @@ both_so Greater q apart is = ap is_lt is
 
 module _ (w : Width) (c o : List ℕ) where
   -- what the keys of an object have in common
-  abbrev names_front : List ℕ
+  abbrev pub names_front : List ℕ
   names_front = 0x4f ∷ (c ++ 0 ∷ (o ++ 0 ∷ []))
 
-  fronted : (rest : List ℕ) → names_front ++ rest ≡ object_key 0x4f c o rest
+  pub fronted : (rest : List ℕ) → names_front ++ rest ≡ object_key 0x4f c o rest
   fronted rest = ap (λ (l : List ℕ). 0x4f ∷ l)
       (append_assoc c (0 ∷ (o ++ 0 ∷ [])) rest ∙ ap (λ (l : List ℕ). c ++ 0 ∷ l) (append_assoc o (0 ∷ []) rest))
 
-  abbrev shards_first : List ℕ
+  abbrev pub shards_first : List ℕ
   shards_first = shard_key c o 0
 
-  abbrev shards_end : List ℕ
+  abbrev pub shards_end : List ℕ
   shards_end = object_key 0x4f c o (0x70 ∷ [])
 
-  abbrev is_between : List ℕ → Bool
+  abbrev pub is_between : List ℕ → Bool
   is_between key = in_range shards_first shards_end key
 
   -- a key between is one of the object
@@ -158,37 +158,41 @@ module _ (w : Width) (c o : List ℕ) where
 
   module _ (coll : IsCollName c) (name : IsName o) where
     -- each shard's key is between
-    shard_between : (page : ℕ) → page < 2 ^ 32 → is_between (shard_key c o page) ≡ true
+    pub shard_between : (page : ℕ) → page < 2 ^ 32 → is_between (shard_key c o page) ≡ true
     shard_between page lt = both_so (byte_order (shard_key c o page) shards_first) (byte_order (shard_key c o page) shards_end)
         (λ less. omega (arith, lesser_page c o coll name page 0 lt (omega arith) less))
         ((λ i. byte_order (sym (fronted (0x6f ∷ to_be_bytes w32 page ++ 0x78 ∷ [])) i) (sym (fronted (0x70 ∷ [])) i))
         ∙ after_front names_front (0x6f ∷ to_be_bytes w32 page ++ 0x78 ∷ []) (0x70 ∷ []))
 
-    -- the rows there are shards
-    row_between : (r : Row) (rows : Rows) → HasRow w rows r → is_between (row_key r) ≡ true → IsShardEntry w c o (row_key r, row_value w r)
-    row_between (collection d) rows has is = let key = of_this (row_key (collection d)) is in absurd (coll_no_object d c o key.0 key.1)
-    row_between (onode d u size) rows has is =
-        let key = of_this (onode_key d u) is in
-        let same = same_place 0x4f d u c o (0x6f ∷ []) key.0 has.fits.0 has.fits.1 coll name key.1 in
-        let own : onode_key d u ≡ onode_key c o = λ i. onode_key (same.0 i) (same.1 i) in
-        absurd (not_less (byte_order (onode_key d u) shards_first) (is_lt (byte_order (onode_key d u) shards_end)) is
-        (ap (λ k. byte_order k shards_first) own ∙ onode_before c o coll name 0))
-    row_between (shard d u page es) rows has is =
-        let key = of_this (shard_key d u page) is in
-        let same = same_place 0x4f d u c o (0x6f ∷ to_be_bytes w32 page ++ 0x78 ∷ []) key.0 has.fits.coll_name has.fits.object_name coll name key.1 in
-        record {
+    -- a row of one of the object's keys is its onode or a shard
+    row_of : (r : Row) (rows : Rows) → HasRow w rows r → (rest : List ℕ) → row_key r ≡ object_key 0x4f c o rest
+        → (row_key r ≡ onode_key c o) ⊎ IsShardEntry w c o (row_key r, row_value w r)
+    row_of (collection d) rows has rest is = absurd (coll_no_object d c o rest is)
+    row_of (onode d u size) rows has rest is =
+        let same = same_place 0x4f d u c o (0x6f ∷ []) rest has.fits.0 has.fits.1 coll name is in
+        inl (λ i. onode_key (same.0 i) (same.1 i))
+    row_of (shard d u page es) rows has rest is =
+        let same = same_place 0x4f d u c o (0x6f ∷ to_be_bytes w32 page ++ 0x78 ∷ []) rest has.fits.coll_name has.fits.object_name coll name is in
+        inr (record {
           page = page;
           extents = es;
           fits = subst (λ x. FitsShard w x o page es) same.0 (subst (λ x. FitsShard w d x page es) same.1 has.fits);
           is = λ i. (shard_key (same.0 i) (same.1 i) page, flat_map (extent_bytes w) es);
-        }
-    row_between (attribute d u n value) rows has is =
-        let key = of_this (attr_key d u n) is in absurd (omega (arith, same_head _ _ _ _ key.1))
-    row_between (omap_header d u value) rows has is =
-        let key = of_this (header_key d u) is in absurd (omega (arith, same_head _ _ _ _ key.1))
-    row_between (omap_pair d u k value) rows has is =
-        let key = of_this (omap_key d u k) is in absurd (omega (arith, same_head _ _ _ _ key.1))
-    row_between (bitmap r bits) rows has is = let key = of_this (bitmap_key r) is in absurd (bitmap_no_object r c o key.0 key.1)
+        })
+    row_of (attribute d u n value) rows has rest is = absurd (omega (arith, same_head _ _ _ _ is))
+    row_of (omap_header d u value) rows has rest is = absurd (omega (arith, same_head _ _ _ _ is))
+    row_of (omap_pair d u k value) rows has rest is = absurd (omega (arith, same_head _ _ _ _ is))
+    row_of (bitmap r bits) rows has rest is = absurd (bitmap_no_object r c o rest is)
+
+    -- the rows there are shards
+    row_between : (r : Row) (rows : Rows) → HasRow w rows r → is_between (row_key r) ≡ true → IsShardEntry w c o (row_key r, row_value w r)
+    row_between r rows has is =
+        let key = of_this (row_key r) is in
+        elim (row_of r rows has key.0 key.1) [
+          | inl own ↦ absurd (not_less (byte_order (row_key r) shards_first) (is_lt (byte_order (row_key r) shards_end)) is
+              (ap (λ k. byte_order k shards_first) own ∙ onode_before c o coll name 0))
+          | inr its ↦ its
+        ]
 
     -- ---- shards by their entries
 
@@ -213,20 +217,30 @@ module _ (w : Width) (c o : List ℕ) where
     shards_rise (x ∷ xs) fit rise = (later_pages x fit.0 xs fit.1 rise.0, shards_rise xs fit.1 rise.1)
 
     module _ (s : Super) (rows : Rows) (good : NoBadRow s rows) (wide : width_of s ≡ w) where
-      abbrev range : List Entry
+      abbrev pub range : List Entry
       range = rows_from_to rows shards_first (Some shards_end)
 
-      abbrev StandsIn : Entry → Type 0
+      abbrev pub StandsIn : Entry → Type 0
       StandsIn e = finite.get rows e.0 ≡ Some e.1
 
-      entries_are : AreRows rows (entries rows)
+      pub entries_are : AreRows rows (entries rows)
       entries_are = subst (AreRows rows) (all_rows rows) (are_rows rows (rows_from_to rows [] None) refl)
 
-      all_stand : AllByRecursion StandsIn (entries rows)
+      pub all_stand : AllByRecursion StandsIn (entries rows)
       all_stand = all_at StandsIn (entries rows) (λ k d lt. entries_are.has k d lt)
 
       range_stands : AllByRecursion StandsIn range
       range_stands = filtered_all (λ e. is_between e.0) StandsIn StandsIn (λ e there is. there) (entries rows) all_stand
+
+      -- a row of one of the object's keys, as it stands
+      pub entry_of : (e : Entry) → StandsIn e → (rest : List ℕ) → e.0 ≡ object_key 0x4f c o rest → (e.0 ≡ onode_key c o) ⊎ IsShardEntry w c o e
+      entry_of e there rest is =
+          let g : IsGoodRow s rows e.0 e.1 = good e.0 e.1 there in
+          let stands = ap (finite.get rows) (sym g.key_is) ∙ there ∙ ap Some g.value_is in
+          let has : HasRow w rows g.row = subst (λ v. HasRow v rows g.row) wide (record { fits = g.fits; stands = stands }) in
+          let value : e.1 ≡ row_value w g.row = g.value_is ∙ ap (λ v. row_value v g.row) wide in
+          subst (λ (x : Entry). (x.0 ≡ onode_key c o) ⊎ IsShardEntry w c o x) (λ i. (sym g.key_is i, sym value i))
+          (row_of g.row rows has rest (sym g.key_is ∙ is))
 
       entry_between : (e : Entry) → StandsIn e → is_between e.0 ≡ true → IsShardEntry w c o e
       entry_between e there is =

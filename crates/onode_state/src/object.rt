@@ -105,28 +105,8 @@ pub fn object_pages<'a>(
     Ok(ShardPages::new(width, shards))
 }
 
-// The shards of an object, joined.
-fn shards_of(
-    alloc: Global,
-    width: Width,
-    rows: &RowTable,
-    coll: &CollName,
-    object: &Name,
-) -> Result<JoinedShards, AllocError>
-    requires { AreRowsOfWidth width rows.now.rows }
-    ensures { IfOk result (λ shards. HasShards width rows.now.rows coll.now object.now shards.firsts.items shards.pages) }
-{
-    coll_name_is_one(coll);
-    name_is_one(object);
-    let mut shards = JoinedShards::new(alloc);
-    for (_, value) in shard_rows(alloc, rows, coll, object)? {
-        shards.add(width, value.as_slice())?;
-    }
-    Ok(shards)
-}
-
-/// The object as the rows have it. One range of rows has its shards, and each is read once, straight into the map. Those of a missing object
-/// aren't looked for.
+/// The object as the rows have it. One range of rows begins with its onode and has its shards behind, and each is read once, straight into
+/// the map.
 pub fn object_state(
     alloc: Global,
     width: Width,
@@ -139,15 +119,17 @@ pub fn object_state(
 {
     coll_name_is_one(coll);
     name_is_one(object);
-    let size = size_if_there(alloc, rows, coll, object)?;
-    if size.is_none() {
-        return Ok(ObjectState {
-            size,
-            pages: PageMap::new(alloc),
-            shards: Vec::new(alloc),
-        });
+    let onode = onode_key(alloc, coll, object)?;
+    let mut size = None;
+    let mut shards = JoinedShards::new(alloc);
+    for (key, value) in rows.range(onode.as_slice(), None) {
+        match key.as_slice().strip_prefix(onode.as_slice()) {
+            Some([]) => size = Some(size_in(value.as_slice())),
+            Some(_) => shards.add(width, value.as_slice())?,
+            None => break,
+        }
     }
-    let JoinedShards { firsts, pages } = shards_of(alloc, width, rows, coll, object)?;
+    let JoinedShards { firsts, pages } = shards;
     Ok(ObjectState {
         size,
         pages,

@@ -3,3 +3,4 @@ pub mod Puts
 pub mod Sorted
 pub mod Ranges
 pub mod Logs
+pub mod Ahead

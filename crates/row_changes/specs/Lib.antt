@@ -1,3 +1,4 @@
 pub mod Seen
 pub mod Log
+pub mod Ahead
 pub mod Prelude

@@ -33,8 +33,11 @@ op_to key (Some value) = Set key value
 op_to key None = Drop key
 
 -- none where it is so
+abbrev pub op_at : Option (List ℕ) → RowChange → List RowOp
+op_at held c = if is_value held c.value then [] else op_to c.key c.value ∷ []
+
 abbrev pub op_of : Rows → RowChange → List RowOp
-op_of rows c = if is_value (finite.get rows c.key) c.value then [] else op_to c.key c.value ∷ []
+op_of rows c = op_at (finite.get rows c.key) c
 
 abbrev pub ops_of : Rows → List RowChange → List RowOp
 ops_of rows [] = []

@@ -1,12 +1,15 @@
 //! The difference that logged changes make to rows.
-ghost use Rattle.std.specs.Prelude.{◌≡◌, ◌++◌, List, ℕ, Option, option_copied, IfOk, OnOk};
+ghost use Rattle.std.specs.Prelude.{◌≡◌, ◌++◌, List, ℕ, Option, None, T, option_copied, IfOk, IfSome, OnOk};
 ghost use Rattle.std.specs.FinMap as map;
+ghost use Rattle.std.specs.FinMap.{find};
+ghost use Rattle.byte_maps.specs.ByteMap.{byte_order};
+ghost use Rattle.row_changes.specs.Ahead.{IsFirstBelow, AreLeft, LieAhead, LieAheadOf};
 ghost use Rattle.row_changes.specs.Seen.{IsDifferenceBy};
 ghost use Rattle.row_changes.specs.Log.{
   logged,
   last_for,
   is_value,
-  op_of,
+  op_at,
   ops_of,
   kept_of,
   lasts,
@@ -15,7 +18,7 @@ ghost use Rattle.row_changes.specs.Log.{
 
 use crate::row_change::RowChange;
 use byte_maps::{Bytes, Items};
-use meta_rows::{RowOp, RowTable};
+use meta_rows::{RowOp, RowRange, RowTable};
 use std::alloc::{AllocError, Global};
 use std::cmp::Ordering;
 
@@ -30,12 +33,83 @@ fn is_value(held: Option<&Bytes>, value: Option<&Bytes>) -> bool
     }
 }
 
+// The value of a row by the first of the rows from some key on. Where that one is below it, it goes, and there is no answer.
+fn value_by_first<'a>(ahead: &mut RowRange<'a>, key: &[u8]) -> Option<Option<&'a Bytes>>
+    requires { T (map.is_sorted byte_order ahead.old) }
+    ensures value { IfSome result (λ value. option_copied value ≡ find byte_order key.now ahead.old) }
+    ensures below { result ≡ None → IsFirstBelow key.now ahead.old }
+    ensures left { AreLeft key.now ahead.old ahead.new }
+{
+    let mut rest = ahead.again();
+    let Some((first, value)) = rest.next() else {
+        return Some(None);
+    };
+    match first.as_slice().cmp(key) {
+        Ordering::Less => {
+            *ahead = rest;
+            None
+        }
+        Ordering::Equal => Some(Some(value)),
+        Ordering::Greater => Some(None),
+    }
+}
+
+// The same by the first two.
+fn value_near<'a>(ahead: &mut RowRange<'a>, key: &[u8]) -> Option<Option<&'a Bytes>>
+    requires { T (map.is_sorted byte_order ahead.old) }
+    ensures value { IfSome result (λ value. option_copied value ≡ find byte_order key.now ahead.old) }
+    ensures left { AreLeft key.now ahead.old ahead.new }
+{
+    match value_by_first(ahead, key) {
+        Some(value) => Some(value),
+        None => value_by_first(ahead, key),
+    }
+}
+
+// The value of a row, looked for among the rows from the last key on first. Where it isn't one of the first two the table is bisected.
+fn value_of<'a>(
+    rows: &'a RowTable,
+    ahead: &mut Option<RowRange<'a>>,
+    key: &[u8],
+) -> Option<&'a Bytes>
+    requires { LieAhead rows.now.rows ahead.old key.now }
+    ensures value { option_copied result ≡ map.get rows.now.rows key.now }
+    ensures ahead { LieAhead rows.now.rows ahead.new key.now }
+{
+    if let Some(near) = ahead {
+        if let Some(value) = value_near(near, key) {
+            return value;
+        }
+    }
+    let mut found = rows.range(key, None);
+    let value = value_by_first(&mut found, key);
+    *ahead = Some(found);
+    value.flatten()
+}
+
+// The same of the last row that is asked for.
+fn last_value_of<'a>(
+    rows: &'a RowTable,
+    ahead: Option<RowRange<'a>>,
+    key: &[u8],
+) -> Option<&'a Bytes>
+    requires { LieAhead rows.now.rows ahead key.now }
+    ensures { option_copied result ≡ map.get rows.now.rows key.now }
+{
+    if let Some(mut near) = ahead {
+        if let Some(value) = value_near(&mut near, key) {
+            return value;
+        }
+    }
+    rows.get(key)
+}
+
 // Adds the operation by which the row becomes so, where it isn't so.
-fn put(ops: &mut Items<RowOp>, rows: &RowTable, change: RowChange) -> Result<(), AllocError>
-    ensures { OnOk result (ops.new ≡ ops.old ++ op_of rows.now.rows change) }
+fn put(ops: &mut Items<RowOp>, held: Option<&Bytes>, change: RowChange) -> Result<(), AllocError>
+    ensures { OnOk result (ops.new ≡ ops.old ++ op_at (option_copied held.entry) change) }
 {
     let RowChange { key, value } = change;
-    if is_value(rows.get(key.as_slice()), value.as_ref()) {
+    if is_value(held, value.as_ref()) {
         return Ok(());
     }
     match value {
@@ -55,17 +129,21 @@ fn by_key(log: Vec<RowChange>) -> Result<Vec<RowChange>, AllocError>
 }
 
 // Adds the operation of a change, if there is one, unless the next one has its key.
-fn put_before(
+fn put_before<'a>(
     ops: &mut Items<RowOp>,
-    rows: &RowTable,
+    rows: &'a RowTable,
+    ahead: &mut Option<RowRange<'a>>,
     held: Option<RowChange>,
     next: &RowChange,
 ) -> Result<(), AllocError>
-    ensures { OnOk result (ops.new ≡ ops.old ++ ops_of rows.now.rows (kept_of held next.now)) }
+    requires { LieAheadOf rows.now.rows ahead.old held }
+    ensures ops { OnOk result (ops.new ≡ ops.old ++ ops_of rows.now.rows (kept_of held next.now)) }
+    ensures ahead { OnOk result (LieAheadOf rows.now.rows ahead.new held) }
 {
     match held {
         Some(change) if change.key.as_slice().cmp(next.key.as_slice()) != Ordering::Equal => {
-            put(ops, rows, change)
+            let value = value_of(rows, ahead, change.key.as_slice());
+            put(ops, value, change)
         }
         _ => Ok(()),
     }
@@ -77,16 +155,19 @@ fn put_lasts(
     rows: &RowTable,
     sorted: Vec<RowChange>,
 ) -> Result<Items<RowOp>, AllocError>
+    requires { Rise sorted.items }
     ensures { IfOk result (λ ops. ops ≡ ops_of rows.now.rows (lasts sorted.items)) }
 {
     let mut ops = Items::new(alloc);
     let mut held = None;
+    let mut ahead = None;
     for change in sorted {
-        put_before(&mut ops, rows, held, &change)?;
+        put_before(&mut ops, rows, &mut ahead, held, &change)?;
         held = Some(change);
     }
     if let Some(last) = held {
-        put(&mut ops, rows, last)?;
+        let value = last_value_of(rows, ahead, last.key.as_slice());
+        put(&mut ops, value, last)?;
     }
     Ok(ops)
 }

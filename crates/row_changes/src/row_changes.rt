@@ -85,9 +85,9 @@ impl RowChanges {
         Ok(())
     }
 
-    /// The operations that make of the table's rows what is seen. Each changed row is looked up once; values are moved, and not copied. The
-    /// changes are brought into the order of their keys by as many comparisons as there are changes where they came in it, else by as
-    /// many for each as their number has bits.
+    /// The operations that make of the table's rows what is seen. Each changed row is looked up once: at the place of the one before or
+    /// behind it, and where it isn't there by bisecting the table; values are moved, and not copied. The changes are brought into the order
+    /// of their keys by as many comparisons as there are changes where they came in it, else by as many for each as their number has bits.
     pub fn difference(self, alloc: Global, rows: &RowTable) -> Result<Items<RowOp>, AllocError>
         ensures { IfOk result (IsDifferenceBy rows.now.rows self) }
     {

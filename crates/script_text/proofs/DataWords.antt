@@ -1,8 +1,10 @@
 -- Data as they are spelled.
-use Rattle.std.proofs.Common.{◌≡◌, ◌≢◌, inl, inr, ℕ, ◌<◌, ◌≤◌, List, ◌∷◌, ◌++◌, replicate, Option, Some, None, MatchOption}
+use Rattle.std.proofs.Common.{◌≡◌, ◌≢◌, inl, inr, ℕ, ◌<◌, ◌≤◌, List, ◌∷◌, ◌++◌, replicate, Result}
 use Rattle.std.proofs.Common.{refl, sym, ap, subst, ◌∙◌, arith}
 use Rattle.std.specs.Prelude.{codes, decimal}
-use Rattle.script_text.specs.Prelude.{HasNo, EachIsByte, IsDataWord, IsFill, IsNumber, hex_pair, spelled_by}
+use Rattle.script_text.specs.Prelude.{HasNo, EachIsByte, IsDataWord, IsFill, IsNumber, Finds, hex_pair, spelled_by}
+use Rattle.script_text.specs.declared.fail.WordFail.{WordFail}
+use Rattle.script_text.proofs.Finding.{found_as}
 use Rattle.script_text.proofs.Splits.{has_no-append, has_none}
 use Rattle.script_text.proofs.Spelled.{spelled-has_no, spelled_same}
 use Rattle.script_text.proofs.Digits.{pair_code, pair_no, pair_parts}
@@ -68,13 +70,12 @@ hex_behind word digits bytes cut (inl hex) = (hex.are_bytes, (let e : codes "hex
 hex_behind word digits bytes cut (inr fill) = absurd (hex_or_fill digits fill.text (sym cut ∙ fill.spelled))
 
 -- what was read behind `hex:` is the data
-pub hex_read : (word digits : List ℕ) (o : Option (List ℕ)) → word ≡ codes "hex:" ++ digits
-    → MatchOption o ((bytes : List ℕ) → EachIsByte bytes → digits ≢ spelled_by (hex_pair 0x61) bytes) (λ bytes. EachIsByte bytes × (digits ≡ spelled_by (hex_pair 0x61) bytes))
-    → (bytes : List ℕ) → IsDataWord word bytes → o ≡ Some bytes
-hex_read word digits None cut none bytes is = let hex = hex_behind word digits bytes cut is in absurd (none bytes hex.0 hex.1)
-hex_read word digits (Some read) cut found bytes is =
-    let hex = hex_behind word digits bytes cut is in
-    ap (λ (l : List ℕ). Some l) (spelled_same (hex_pair 0x61) (pair_code 0x61 (omega arith)) read bytes (sym found.1 ∙ hex.1))
+pub hex_read : (word digits : List ℕ) (r : Result (List ℕ) WordFail) → word ≡ codes "hex:" ++ digits
+    → Finds (λ bytes. EachIsByte bytes × (digits ≡ spelled_by (hex_pair 0x61) bytes)) r → Finds (IsDataWord word) r
+hex_read word digits r cut =
+    found_as (λ bytes. EachIsByte bytes × (digits ≡ spelled_by (hex_pair 0x61) bytes)) (IsDataWord word) r
+    (λ bytes is. inl (record { are_bytes = is.0; spelled = cut ∙ ap (λ (l : List ℕ). codes "hex:" ++ l) is.1 }))
+    (λ bytes is. (bytes, hex_behind word digits bytes cut is))
 
 -- a fill of these bytes
 pub record IsFillOf (text bytes : List ℕ) : Type 0 where
@@ -88,6 +89,10 @@ fill_behind word text bytes cut (inl hex) = absurd (hex_or_fill _ text (sym hex.
 fill_behind word text bytes cut (inr fill) =
     let texts : fill.text ≡ text = (let e : codes "fill:" ++ fill.text ≡ codes "fill:" ++ text = sym fill.spelled ∙ cut in cc) in
     record { byte = fill.byte; count = fill.count; fill = subst (λ (l : List ℕ). IsFill l fill.byte fill.count) texts fill.fill; filled = fill.filled }
+
+-- a fill behind `fill:` is the data
+pub data_filled : (word text : List ℕ) (b n : ℕ) (bytes : List ℕ) → word ≡ codes "fill:" ++ text → IsFill text b n → bytes ≡ replicate n b → IsDataWord word bytes
+data_filled word text b n bytes cut fill filled = inr (record { text = text; byte = b; count = n; fill = fill; spelled = cut; filled = filled })
 
 pub no_form : (word bytes : List ℕ) → ((rest : List ℕ) → word ≢ codes "hex:" ++ rest) → ((rest : List ℕ) → word ≢ codes "fill:" ++ rest) → ¬ (IsDataWord word bytes)
 no_form word bytes no_hex no_fill (inl hex) = no_hex _ hex.spelled

@@ -1,5 +1,5 @@
 -- What the words of a line say.
-use Rattle.std.proofs.Common.{◌≡◌, ◌≢◌, ℕ, ◌≤◌, true, false, List, [], ◌∷◌, ◌++◌, Option, Some, None, Result, Ok, Err}
+use Rattle.std.proofs.Common.{◌≡◌, ◌≢◌, ℕ, ◌≤◌, true, false, List, [], ◌∷◌, ◌++◌, Result, Ok, Err}
 use Rattle.std.proofs.Common.{refl, sym, ap, subst, ◌∙◌, arith}
 use Rattle.std.specs.Prelude.{codes, IfOk, decimal}
 use Rattle.std.specs.Fmt.{digits}
@@ -10,9 +10,11 @@ use Rattle.object_model.specs.declared.op.Op.{Op}
 use Rattle.object_model.specs.declared.op.Op.TheVariants.{MkColl, RmColl, Touch, Write, Zero, Truncate, Remove, SetAttr, RmAttr, RmAttrs, OmapSet, OmapRm, OmapRmRange, OmapClear, OmapHeader}
 use Rattle.object_model.specs.declared.op.Pair.{Pair}
 use Rattle.object_model.specs.declared.command.Command.TheVariants as command
-use Rattle.script_text.specs.Prelude.{HasNo, AreWords, in_words, IsNameWord, IsNumber, IsDataWord, op_word, AreObjectArgs, AreWriteArgs, AreRangeArgs, AreSizeArgs, AreNameArgs, AreDataArgs, AreAttrArgs, AreKeyRangeArgs, AreKeyWords, ArePairWords, AreKeysArgs, ArePairsArgs, AreArgs, AreChangeWords, AreReadWords, AreObjectWords, AreValueWords, AreListWords, AreWordsOf, FitsWhat, IsLineOf, op_line, IsPassedOver, NamesObject, NamesRange, NamesSize, Reads, ReadsWords}
+use Rattle.script_text.specs.Prelude.{HasNo, AreWords, in_words, IsNameWord, IsNumber, IsDataWord, op_word, AreObjectArgs, AreWriteArgs, AreRangeArgs, AreSizeArgs, AreNameArgs, AreDataArgs, AreAttrArgs, AreKeyRangeArgs, AreKeyWords, ArePairWords, AreKeysArgs, ArePairsArgs, AreArgs, AreChangeWords, AreReadWords, AreObjectWords, AreValueWords, AreListWords, AreWordsOf, FitsWhat, IsLineOf, op_line, IsPassedOver, Finds, AreGoodWords, NamesObject, NamesRange, NamesSize}
 use Rattle.script_text.specs.declared.line.What.{What}
 use Rattle.script_text.specs.declared.line.What.TheVariants.{Command, Wait}
+use Rattle.script_text.specs.declared.fail.WordFail.{WordFail}
+use Rattle.script_text.proofs.Finding.{found_as}
 use Rattle.script_text.proofs.Splits.{parts, no_part, has_no-append, lacks, has_none}
 use Rattle.script_text.proofs.Numbers.{no_space_digits, number_no_space}
 use Rattle.script_text.proofs.Names.{name_no_space}
@@ -448,22 +450,26 @@ op_said rest coll op args what named whole about says =
       fits = known_args op args about;
     })
 
--- ---- `mkcoll`
+-- ---- `mkcoll` and `rmcoll`
 
-pub mkcoll_says : (rest : List ℕ) (what : What) → IsLineOf (codes "mkcoll" ++ (0x20 ∷ rest)) what → IsCollName rest
+-- the text is a collection's name
+abbrev pub HasColl : List ℕ → Type 0
+HasColl text = (name : List ℕ) × ((name ≡ text) × IsCollName text)
+
+pub mkcoll_says : (rest : List ℕ) (what : What) → IsLineOf (codes "mkcoll" ++ (0x20 ∷ rest)) what → HasColl rest
 mkcoll_says rest what line =
     let of = op_says (codes "mkcoll") rest what refl refl line in
     let none = (mkcoll_only of.op of.args of.word_is of.about).1 in
-    subst IsCollName (sym (of.whole ∙ ap (λ (l : List (List ℕ)). in_words (of.coll ∷ l)) none)) of.named
+    (rest, (refl, subst IsCollName (sym (of.whole ∙ ap (λ (l : List (List ℕ)). in_words (of.coll ∷ l)) none)) of.named))
 
 pub mkcoll_line : (rest coll : List ℕ) (what : What) → coll ≡ rest → IsCollName rest → what ≡ op_line coll MkColl → IsLineOf (codes "mkcoll" ++ (0x20 ∷ rest)) what
 mkcoll_line rest coll what is named says = op_said rest coll MkColl [] what (subst IsCollName (sym is) named) (sym is) refl says
 
-pub rmcoll_says : (rest : List ℕ) (what : What) → IsLineOf (codes "rmcoll" ++ (0x20 ∷ rest)) what → IsCollName rest
+pub rmcoll_says : (rest : List ℕ) (what : What) → IsLineOf (codes "rmcoll" ++ (0x20 ∷ rest)) what → HasColl rest
 rmcoll_says rest what line =
     let of = op_says (codes "rmcoll") rest what refl refl line in
     let none = (rmcoll_only of.op of.args of.word_is of.about).1 in
-    subst IsCollName (sym (of.whole ∙ ap (λ (l : List (List ℕ)). in_words (of.coll ∷ l)) none)) of.named
+    (rest, (refl, subst IsCollName (sym (of.whole ∙ ap (λ (l : List (List ℕ)). in_words (of.coll ∷ l)) none)) of.named))
 
 pub rmcoll_line : (rest coll : List ℕ) (what : What) → coll ≡ rest → IsCollName rest → what ≡ op_line coll RmColl → IsLineOf (codes "rmcoll" ++ (0x20 ∷ rest)) what
 rmcoll_line rest coll what is named says = op_said rest coll RmColl [] what (subst IsCollName (sym is) named) (sym is) refl says
@@ -471,10 +477,8 @@ rmcoll_line rest coll what is named says = op_said rest coll RmColl [] what (sub
 -- ---- `touch` and `remove`
 
 -- the text names an object
-pub record HasObject (text : List ℕ) : Type 0 where
-  pub coll : List ℕ
-  pub object : List ℕ
-  pub names : NamesObject text coll object
+abbrev pub HasObject : List ℕ → Type 0
+HasObject text = (x : List ℕ × List ℕ) × NamesObject text x.0 x.1
 
 -- where the words of a line are a known one, and the names of a collection and of an object
 pub names_behind : (word n : List ℕ) (ws : List (List ℕ)) (rest coll object object_word : List ℕ) → rest ≡ in_words (n ∷ ws)
@@ -502,7 +506,7 @@ pub touch_says : (rest : List ℕ) (what : What) → IsLineOf (codes "touch" ++ 
 touch_says rest what line =
     let of = op_says (codes "touch") rest what refl refl line in
     let only = touch_only of.op of.args of.word_is of.about in
-    record { coll = of.coll; object = only.object; names = objects_of rest of.coll only.object of.args of.named of.whole only.are }
+    ((of.coll, only.object), objects_of rest of.coll only.object of.args of.named of.whole only.are)
 
 -- a text that names an object behind `touch`
 pub touch_line : (rest c o : List ℕ) (what : What) → NamesObject rest c o → what ≡ op_line c (Touch o) → IsLineOf (codes "touch" ++ (0x20 ∷ rest)) what
@@ -513,7 +517,7 @@ pub remove_says : (rest : List ℕ) (what : What) → IsLineOf (codes "remove" +
 remove_says rest what line =
     let of = op_says (codes "remove") rest what refl refl line in
     let only = remove_only of.op of.args of.word_is of.about in
-    record { coll = of.coll; object = only.object; names = objects_of rest of.coll only.object of.args of.named of.whole only.are }
+    ((of.coll, only.object), objects_of rest of.coll only.object of.args of.named of.whole only.are)
 
 -- a text that names an object behind `remove`
 pub remove_line : (rest c o : List ℕ) (what : What) → NamesObject rest c o → what ≡ op_line c (Remove o) → IsLineOf (codes "remove" ++ (0x20 ∷ rest)) what
@@ -534,6 +538,16 @@ two_names text a b coll object are whole is =
     let colls : coll ≡ a = cc in
     let words : is.object_word ≡ b = cc in
     (subst IsCollName colls is.named, subst (λ (w : List ℕ). IsNameWord w object) words is.names)
+
+-- two good words name an object
+pub object_named : (text a b coll object : List ℕ) → text ≡ in_words (a ∷ b ∷ []) → coll ≡ a → IsCollName a → IsNameWord b object
+    → NamesObject text coll object
+object_named text a b coll object whole is named names = record {
+  object_word = b;
+  named = subst IsCollName (sym is) named;
+  whole = whole ∙ ap (λ (l : List ℕ). in_words (l ∷ b ∷ [])) (sym is);
+  names = names;
+}
 
 -- ---- a range, and a size
 
@@ -582,25 +596,15 @@ range_named text a b c d coll object off len whole is named names offset count =
 }
 
 -- the text names a range
-pub record HasRange (text : List ℕ) : Type 0 where
-  pub coll : List ℕ
-  pub object : List ℕ
-  pub off : ℕ
-  pub len : ℕ
-  pub names : NamesRange text coll object off len
+abbrev pub HasRange : List ℕ → Type 0
+HasRange text = (x : List ℕ × List ℕ × ℕ × ℕ) × NamesRange text x.0 x.1 x.2 x.3
 
 -- a line of `zero` names a range
 pub zero_says : (rest : List ℕ) (what : What) → IsLineOf (codes "zero" ++ (0x20 ∷ rest)) what → HasRange rest
 zero_says rest what line =
     let of = op_says (codes "zero") rest what refl refl line in
     let only = zero_only of.op of.args of.word_is of.about in
-    record {
-      coll = of.coll;
-      object = only.object;
-      off = only.off;
-      len = only.len;
-      names = record { named = of.named; args = of.args; whole = of.whole; are = only.are };
-    }
+    ((of.coll, only.object, only.off, only.len), record { named = of.named; args = of.args; whole = of.whole; are = only.are })
 
 -- a text that names a range behind `zero`
 pub zero_line : (rest c o : List ℕ) (off len : ℕ) (what : What) → NamesRange rest c o off len → what ≡ op_line c (Zero o off len)
@@ -649,23 +653,15 @@ size_named text a b c coll object size whole is named names sized = record {
 }
 
 -- the text names a size
-pub record HasSize (text : List ℕ) : Type 0 where
-  pub coll : List ℕ
-  pub object : List ℕ
-  pub size : ℕ
-  pub names : NamesSize text coll object size
+abbrev pub HasSize : List ℕ → Type 0
+HasSize text = (x : List ℕ × List ℕ × ℕ) × NamesSize text x.0 x.1 x.2
 
 -- a line of `truncate` names a size
 pub truncate_says : (rest : List ℕ) (what : What) → IsLineOf (codes "truncate" ++ (0x20 ∷ rest)) what → HasSize rest
 truncate_says rest what line =
     let of = op_says (codes "truncate") rest what refl refl line in
     let only = truncate_only of.op of.args of.word_is of.about in
-    record {
-      coll = of.coll;
-      object = only.object;
-      size = only.size;
-      names = record { named = of.named; args = of.args; whole = of.whole; are = only.are };
-    }
+    ((of.coll, only.object, only.size), record { named = of.named; args = of.args; whole = of.whole; are = only.are })
 
 -- a text that names a size behind `truncate`
 pub truncate_line : (rest c o : List ℕ) (size : ℕ) (what : What) → NamesSize rest c o size → what ≡ op_line c (Truncate o size)
@@ -757,14 +753,11 @@ no_four rest what none line =
     (subst (λ (l : List (List ℕ)). AreWords (behind.next ∷ l)) of.four behind.no_spaces)
     (behind.whole ∙ ap (λ (l : List (List ℕ)). in_words (behind.next ∷ l)) of.four)
 
--- from words to the text
-pub words_read : (w : List ℕ) (ws : List (List ℕ)) (text : List ℕ) (o : Option What) → AreWords (w ∷ ws) → text ≡ in_words (w ∷ ws) → ReadsWords (w ∷ ws) o
-    → Reads text o
-words_read w ws text None are is none = λ what line. none what (line_words w ws text what are is line) line.fits
-words_read w ws text (Some what) are is say = record { words = w ∷ ws; whole = is; say = say.0; fits = say.1 }
-
--- the same of a word and four behind it
-pub four_read : (word rest a b c d : List ℕ) (o : Option What) → HasNo 0x20 word → AreWords (a ∷ b ∷ c ∷ d ∷ [])
-    → rest ≡ in_words (a ∷ b ∷ c ∷ d ∷ []) → ReadsWords (word ∷ a ∷ b ∷ c ∷ d ∷ []) o → Reads (word ++ (0x20 ∷ rest)) o
-four_read word rest a b c d o none are is found =
-    words_read word (a ∷ b ∷ c ∷ d ∷ []) (word ++ (0x20 ∷ rest)) o (none, are) (ap (λ (l : List ℕ). word ++ (0x20 ∷ l)) is) found
+-- a word and four behind it say what the text does
+pub four_read : (word rest a b c d : List ℕ) (r : Result What WordFail) → HasNo 0x20 word → AreWords (a ∷ b ∷ c ∷ d ∷ [])
+    → rest ≡ in_words (a ∷ b ∷ c ∷ d ∷ []) → Finds (AreGoodWords (word ∷ a ∷ b ∷ c ∷ d ∷ [])) r → Finds (IsLineOf (word ++ (0x20 ∷ rest))) r
+four_read word rest a b c d r none are is =
+    let whole : word ++ (0x20 ∷ rest) ≡ in_words (word ∷ a ∷ b ∷ c ∷ d ∷ []) = ap (λ (l : List ℕ). word ++ (0x20 ∷ l)) is in
+    found_as (AreGoodWords (word ∷ a ∷ b ∷ c ∷ d ∷ [])) (IsLineOf (word ++ (0x20 ∷ rest))) r
+    (λ what say. record { words = word ∷ a ∷ b ∷ c ∷ d ∷ []; whole = whole; say = say.0; fits = say.1 })
+    (λ what line. (what, (line_words word (a ∷ b ∷ c ∷ d ∷ []) (word ++ (0x20 ∷ rest)) what (none, are) whole line, line.fits)))

@@ -1,3 +1,4 @@
+pub mod Finding
 pub mod Splits
 pub mod Spelled
 pub mod Digits

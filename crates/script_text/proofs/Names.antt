@@ -1,9 +1,9 @@
 -- Names as they are spelled.
 use Rattle.std.proofs.Common.{◌≡◌, ◌≢◌, inl, inr, ℕ, ◌≤◌, Bool, true, false, cond, List}
-use Rattle.std.proofs.Common.{[], ◌∷◌, ◌++◌, length, Option, Some, None, MatchOption, sym, ap, subst, ◌∙◌, arith}
+use Rattle.std.proofs.Common.{[], ◌∷◌, ◌++◌, length, sym, ap, subst, ◌∙◌, arith}
 use Rattle.std.proofs.lemmas.Bool.{cases_Bool}
 use Rattle.unit_fields.specs.Prelude.{IsName}
-use Rattle.script_text.specs.Prelude.{HasNo, EachIsByte, IsNameWord, is_plain, hex_pair, escape, escaped}
+use Rattle.script_text.specs.Prelude.{HasNo, IsNameWord, is_plain, hex_pair, escape, escaped}
 use Rattle.script_text.proofs.Spelled.{IsCode, spelled-has_no, spelled_same, length-spelled-le}
 use Rattle.script_text.proofs.Digits.{pair_parts, pair_no, length-pair}
 
@@ -111,14 +111,6 @@ plain_pair first tail b c rest more text plain also test fails front pair too ho
     let same = pair_parts 0x41 c b more rest (omega arith) (sym pair ∙ other.2) in
     let never : true ≡ false = sym holds ∙ too ∙ ap is_plain same.0 ∙ other.1 in cc
 
--- the bytes that a word spells are a name, or no name has this spelling
-pub name_found : (word bytes : List ℕ) (o : Option (List ℕ)) → word ≡ escaped bytes → EachIsByte bytes
-    → MatchOption o (¬ (IsName bytes)) (λ name. (name ≡ bytes) × IsName bytes)
-    → MatchOption o ((name : List ℕ) → ¬ (IsNameWord word name)) (IsNameWord word)
-name_found word bytes None spelled fits none = λ name is.
-    none (subst IsName (spelled_same escape escape_code name bytes (sym is.spelled ∙ spelled)) is.named)
-name_found word bytes (Some name) spelled fits found = record {
-  named = subst IsName (sym found.0) found.1;
-  are_bytes = subst EachIsByte (sym found.0) fits;
-  spelled = spelled ∙ ap escaped (sym found.0);
-}
+-- the bytes that a word spells are no name, so it spells none
+pub name_missing : (word bytes name : List ℕ) → word ≡ escaped bytes → ¬ (IsName bytes) → ¬ (IsNameWord word name)
+name_missing word bytes name spelled none is = none (subst IsName (spelled_same escape escape_code name bytes (sym is.spelled ∙ spelled)) is.named)

@@ -9,18 +9,15 @@ use Rattle.script_text.specs.declared.line.What.{What}
 use Rattle.script_text.specs.declared.line.What.TheVariants.{Command}
 use Rattle.script_text.proofs.Splits.{has_none}
 use Rattle.script_text.proofs.FirstWords.{IsObjectLine, read_only, sum_only, stat_only, list_only}
-use Rattle.script_text.proofs.Forms.{behind_first, HasObject, names_behind, HasRange, range_named}
+use Rattle.script_text.proofs.Forms.{behind_first, HasColl, HasObject, names_behind, HasRange, range_named}
 
 -- ---- `sum` and `stat`
 
 -- the words of such a line name an object
 object_words : (word n : List ℕ) (ws : List (List ℕ)) (form : List ℕ → List ℕ → Asked) (rest : List ℕ) (what : What) → rest ≡ in_words (n ∷ ws)
     → IsObjectLine word form (word ∷ n ∷ ws) what → HasObject rest
-object_words word n ws form rest what is of = record {
-  coll = of.coll;
-  object = of.object;
-  names = names_behind word n ws rest of.coll of.object of.are.object_word is of.are.whole of.are.named of.are.names;
-}
+object_words word n ws form rest what is of =
+    ((of.coll, of.object), names_behind word n ws rest of.coll of.object of.are.object_word is of.are.whole of.are.named of.are.names)
 
 -- a line of `sum` names an object
 pub sum_says : (rest : List ℕ) (what : What) → IsLineOf (codes "sum" ++ (0x20 ∷ rest)) what → HasObject rest
@@ -61,13 +58,13 @@ stat_line rest c o is = record {
 -- ---- `list`
 
 -- a line of `list` has a collection's name behind its first word
-pub list_says : (rest : List ℕ) (what : What) → IsLineOf (codes "list" ++ (0x20 ∷ rest)) what → IsCollName rest
+pub list_says : (rest : List ℕ) (what : What) → IsLineOf (codes "list" ++ (0x20 ∷ rest)) what → HasColl rest
 list_says rest what line =
     let behind = behind_first (codes "list") rest what (has_none 0x20 (codes "list") refl) line in
     let of = list_only (codes "list" ∷ behind.next ∷ behind.words) (behind.next ∷ behind.words) what refl behind.say in
     let both : codes "list" ∷ behind.next ∷ behind.words ≡ codes "list" ∷ of.coll ∷ [] = of.are.whole in
     let tails : behind.next ∷ behind.words ≡ of.coll ∷ [] = cc in
-    subst IsCollName (sym (behind.whole ∙ ap in_words tails)) of.are.named
+    (rest, (refl, subst IsCollName (sym (behind.whole ∙ ap in_words tails)) of.are.named))
 
 -- a collection's name behind `list`
 pub list_line : (rest coll : List ℕ) → coll ≡ rest → IsCollName rest → IsLineOf (codes "list" ++ (0x20 ∷ rest)) (Command (command.List coll))
@@ -87,15 +84,11 @@ read_says rest what line =
     let of = read_only (codes "read" ∷ behind.next ∷ behind.words) (behind.next ∷ behind.words) what refl behind.say in
     let are = of.are in
     let both : codes "read" ∷ behind.next ∷ behind.words ≡ codes "read" ∷ of.coll ∷ are.object_word ∷ are.off_word ∷ are.len_word ∷ [] = are.whole in
-    let tails : behind.next ∷ behind.words ≡ of.coll ∷ are.object_word ∷ are.off_word ∷ are.len_word ∷ [] = cc in
-    record {
-      coll = of.coll;
-      object = of.object;
-      off = of.off;
-      len = of.len;
-      names = range_named rest of.coll are.object_word are.off_word are.len_word of.coll of.object of.off of.len (behind.whole ∙ ap in_words tails) refl
-          are.named are.names are.offset are.size;
-    }
+    let tails : behind.next ∷ behind.words ≡ of.coll ∷ are.object_word ∷ are.off_word ∷ are.len_word ∷ [] = cc in (
+      (of.coll, of.object, of.off, of.len),
+      range_named rest of.coll are.object_word are.off_word are.len_word of.coll of.object of.off of.len (behind.whole ∙ ap in_words tails) refl
+          are.named are.names are.offset are.size,
+    )
 
 -- a text that names a range behind `read`
 pub read_line : (rest c o : List ℕ) (off len : ℕ) → NamesRange rest c o off len → IsLineOf (codes "read" ++ (0x20 ∷ rest)) (Command (command.Read c o off len))

@@ -12,7 +12,7 @@ use Rattle.script_text.proofs.Splits.{has_none}
 use Rattle.script_text.proofs.Words.{same_words}
 use Rattle.script_text.proofs.OpWords.{setattr_only, rmattr_only, rmattrs_only, omapset_only, omaprm_only, omaprmrange_only, omapclear_only, omapheader_only}
 use Rattle.script_text.proofs.FirstWords.{getattr_only, omapget_only, omaphdr_only}
-use Rattle.script_text.proofs.Forms.{coll_no_space, behind_first, op_says, op_said, objects_of, object_args, names_behind, name_args_words, data_args_words, attr_args_words, key_range_args_words}
+use Rattle.script_text.proofs.Forms.{coll_no_space, behind_first, op_says, op_said, objects_of, object_args, names_behind, HasObject, name_args_words, data_args_words, attr_args_words, key_range_args_words}
 
 -- ---- three and four words
 
@@ -147,84 +147,105 @@ key_range_named text a b c d coll o n m whole is named names begins ends = recor
   are = record { object_word = b; first_word = c; last_word = d; words = refl; names = names; begins = begins; ends = ends };
 }
 
+-- ---- what the lines say
+
+-- the text has such words
+abbrev pub HasValue : List ℕ → Type 0
+HasValue text = (x : (List ℕ × List ℕ) × List ℕ) × NamesValue text x.0.0 x.0.1 x.1
+
+abbrev pub HasHeader : List ℕ → Type 0
+HasHeader text = (x : (List ℕ × List ℕ) × List ℕ) × NamesHeader text x.0.0 x.0.1 x.1
+
+abbrev pub HasAttr : List ℕ → Type 0
+HasAttr text = (x : (List ℕ × List ℕ) × Pair) × NamesAttr text x.0.0 x.0.1 x.1.key x.1.value
+
+abbrev pub HasKeyRange : List ℕ → Type 0
+HasKeyRange text = (x : (List ℕ × List ℕ) × (List ℕ × List ℕ)) × NamesKeyRange text x.0.0 x.0.1 x.1.0 x.1.1
+
+abbrev pub HasKeys : List ℕ → Type 0
+HasKeys text = (x : (List ℕ × List ℕ) × List (List ℕ)) × NamesKeys text x.0.0 x.0.1 x.1
+
+abbrev pub HasPairs : List ℕ → Type 0
+HasPairs text = (x : (List ℕ × List ℕ) × List Pair) × NamesPairs text x.0.0 x.0.1 x.1
+
 -- ---- the lines of transactions
 
 -- behind `setattr`
-pub setattr_none : (rest : List ℕ) (what : What) → ((coll o n x : List ℕ) → ¬ (NamesAttr rest coll o n x)) → ¬ (IsLineOf (codes "setattr" ++ (0x20 ∷ rest)) what)
-setattr_none rest what none line =
+pub setattr_says : (rest : List ℕ) (what : What) → IsLineOf (codes "setattr" ++ (0x20 ∷ rest)) what → HasAttr rest
+setattr_says rest what line =
     let of = op_says (codes "setattr") rest what refl refl line in
     let only = setattr_only of.op of.args of.word_is of.about in
-    none of.coll only.object only.name only.value (record { named = of.named; args = of.args; whole = of.whole; are = only.are })
+    (((of.coll, only.object), record { key = only.name; value = only.value }), record { named = of.named; args = of.args; whole = of.whole; are = only.are })
 
 pub setattr_line : (rest c o n x : List ℕ) (what : What) → NamesAttr rest c o n x → what ≡ op_line c (SetAttr o n x) → IsLineOf (codes "setattr" ++ (0x20 ∷ rest)) what
 setattr_line rest c o n x what is says = op_said rest c (SetAttr o n x) is.args what is.named is.whole is.are says
 
 -- behind `rmattr`
-pub rmattr_none : (rest : List ℕ) (what : What) → ((coll o n : List ℕ) → ¬ (NamesValue rest coll o n)) → ¬ (IsLineOf (codes "rmattr" ++ (0x20 ∷ rest)) what)
-rmattr_none rest what none line =
+pub rmattr_says : (rest : List ℕ) (what : What) → IsLineOf (codes "rmattr" ++ (0x20 ∷ rest)) what → HasValue rest
+rmattr_says rest what line =
     let of = op_says (codes "rmattr") rest what refl refl line in
     let only = rmattr_only of.op of.args of.word_is of.about in
-    none of.coll only.object only.name (record { named = of.named; args = of.args; whole = of.whole; are = only.are })
+    (((of.coll, only.object), only.name), record { named = of.named; args = of.args; whole = of.whole; are = only.are })
 
 pub rmattr_line : (rest c o n : List ℕ) (what : What) → NamesValue rest c o n → what ≡ op_line c (RmAttr o n) → IsLineOf (codes "rmattr" ++ (0x20 ∷ rest)) what
 rmattr_line rest c o n what is says = op_said rest c (RmAttr o n) is.args what is.named is.whole is.are says
 
 -- behind `omaprmrange`
-pub omaprmrange_none : (rest : List ℕ) (what : What) → ((coll o n m : List ℕ) → ¬ (NamesKeyRange rest coll o n m)) → ¬ (IsLineOf (codes "omaprmrange" ++ (0x20 ∷ rest)) what)
-omaprmrange_none rest what none line =
+pub omaprmrange_says : (rest : List ℕ) (what : What) → IsLineOf (codes "omaprmrange" ++ (0x20 ∷ rest)) what → HasKeyRange rest
+omaprmrange_says rest what line =
     let of = op_says (codes "omaprmrange") rest what refl refl line in
     let only = omaprmrange_only of.op of.args of.word_is of.about in
-    none of.coll only.object only.first only.last (record { named = of.named; args = of.args; whole = of.whole; are = only.are })
+    (((of.coll, only.object), (only.first, only.last)), record { named = of.named; args = of.args; whole = of.whole; are = only.are })
 
 pub omaprmrange_line : (rest c o n m : List ℕ) (what : What) → NamesKeyRange rest c o n m → what ≡ op_line c (OmapRmRange o n m) → IsLineOf (codes "omaprmrange" ++ (0x20 ∷ rest)) what
 omaprmrange_line rest c o n m what is says = op_said rest c (OmapRmRange o n m) is.args what is.named is.whole is.are says
 
 -- behind `omapheader`
-pub omapheader_none : (rest : List ℕ) (what : What) → ((coll o x : List ℕ) → ¬ (NamesHeader rest coll o x)) → ¬ (IsLineOf (codes "omapheader" ++ (0x20 ∷ rest)) what)
-omapheader_none rest what none line =
+pub omapheader_says : (rest : List ℕ) (what : What) → IsLineOf (codes "omapheader" ++ (0x20 ∷ rest)) what → HasHeader rest
+omapheader_says rest what line =
     let of = op_says (codes "omapheader") rest what refl refl line in
     let only = omapheader_only of.op of.args of.word_is of.about in
-    none of.coll only.object only.value (record { named = of.named; args = of.args; whole = of.whole; are = only.are })
+    (((of.coll, only.object), only.value), record { named = of.named; args = of.args; whole = of.whole; are = only.are })
 
 pub omapheader_line : (rest c o x : List ℕ) (what : What) → NamesHeader rest c o x → what ≡ op_line c (OmapHeader o x) → IsLineOf (codes "omapheader" ++ (0x20 ∷ rest)) what
 omapheader_line rest c o x what is says = op_said rest c (OmapHeader o x) is.args what is.named is.whole is.are says
 
 -- behind `omaprm`
-pub omaprm_none : (rest : List ℕ) (what : What) → ((coll o : List ℕ) (keys : List (List ℕ)) → ¬ (NamesKeys rest coll o keys)) → ¬ (IsLineOf (codes "omaprm" ++ (0x20 ∷ rest)) what)
-omaprm_none rest what none line =
+pub omaprm_says : (rest : List ℕ) (what : What) → IsLineOf (codes "omaprm" ++ (0x20 ∷ rest)) what → HasKeys rest
+omaprm_says rest what line =
     let of = op_says (codes "omaprm") rest what refl refl line in
     let only = omaprm_only of.op of.args of.word_is of.about in
-    none of.coll only.object only.keys (record { named = of.named; args = of.args; whole = of.whole; are = only.are })
+    (((of.coll, only.object), only.keys), record { named = of.named; args = of.args; whole = of.whole; are = only.are })
 
 pub omaprm_line : (rest c o : List ℕ) (keys : List (List ℕ)) (what : What) → NamesKeys rest c o keys → what ≡ op_line c (OmapRm o keys) → IsLineOf (codes "omaprm" ++ (0x20 ∷ rest)) what
 omaprm_line rest c o keys what is says = op_said rest c (OmapRm o keys) is.args what is.named is.whole is.are says
 
 -- behind `omapset`
-pub omapset_none : (rest : List ℕ) (what : What) → ((coll o : List ℕ) (pairs : List Pair) → ¬ (NamesPairs rest coll o pairs)) → ¬ (IsLineOf (codes "omapset" ++ (0x20 ∷ rest)) what)
-omapset_none rest what none line =
+pub omapset_says : (rest : List ℕ) (what : What) → IsLineOf (codes "omapset" ++ (0x20 ∷ rest)) what → HasPairs rest
+omapset_says rest what line =
     let of = op_says (codes "omapset") rest what refl refl line in
     let only = omapset_only of.op of.args of.word_is of.about in
-    none of.coll only.object only.pairs (record { named = of.named; args = of.args; whole = of.whole; are = only.are })
+    (((of.coll, only.object), only.pairs), record { named = of.named; args = of.args; whole = of.whole; are = only.are })
 
 pub omapset_line : (rest c o : List ℕ) (pairs : List Pair) (what : What) → NamesPairs rest c o pairs → what ≡ op_line c (OmapSet o pairs) → IsLineOf (codes "omapset" ++ (0x20 ∷ rest)) what
 omapset_line rest c o pairs what is says = op_said rest c (OmapSet o pairs) is.args what is.named is.whole is.are says
 
 -- behind `rmattrs`
-pub rmattrs_none : (rest : List ℕ) (what : What) → ((coll o : List ℕ) → ¬ (NamesObject rest coll o)) → ¬ (IsLineOf (codes "rmattrs" ++ (0x20 ∷ rest)) what)
-rmattrs_none rest what none line =
+pub rmattrs_says : (rest : List ℕ) (what : What) → IsLineOf (codes "rmattrs" ++ (0x20 ∷ rest)) what → HasObject rest
+rmattrs_says rest what line =
     let of = op_says (codes "rmattrs") rest what refl refl line in
     let only = rmattrs_only of.op of.args of.word_is of.about in
-    none of.coll only.object (objects_of rest of.coll only.object of.args of.named of.whole only.are)
+    ((of.coll, only.object), objects_of rest of.coll only.object of.args of.named of.whole only.are)
 
 pub rmattrs_line : (rest c o : List ℕ) (what : What) → NamesObject rest c o → what ≡ op_line c (RmAttrs o) → IsLineOf (codes "rmattrs" ++ (0x20 ∷ rest)) what
 rmattrs_line rest c o what is says = op_said rest c (RmAttrs o) (is.object_word ∷ []) what is.named is.whole (object_args rest c o is) says
 
 -- behind `omapclear`
-pub omapclear_none : (rest : List ℕ) (what : What) → ((coll o : List ℕ) → ¬ (NamesObject rest coll o)) → ¬ (IsLineOf (codes "omapclear" ++ (0x20 ∷ rest)) what)
-omapclear_none rest what none line =
+pub omapclear_says : (rest : List ℕ) (what : What) → IsLineOf (codes "omapclear" ++ (0x20 ∷ rest)) what → HasObject rest
+omapclear_says rest what line =
     let of = op_says (codes "omapclear") rest what refl refl line in
     let only = omapclear_only of.op of.args of.word_is of.about in
-    none of.coll only.object (objects_of rest of.coll only.object of.args of.named of.whole only.are)
+    ((of.coll, only.object), objects_of rest of.coll only.object of.args of.named of.whole only.are)
 
 pub omapclear_line : (rest c o : List ℕ) (what : What) → NamesObject rest c o → what ≡ op_line c (OmapClear o) → IsLineOf (codes "omapclear" ++ (0x20 ∷ rest)) what
 omapclear_line rest c o what is says = op_said rest c (OmapClear o) (is.object_word ∷ []) what is.named is.whole (object_args rest c o is) says
@@ -232,15 +253,17 @@ omapclear_line rest c o what is says = op_said rest c (OmapClear o) (is.object_w
 -- ---- the lines of reads
 
 -- behind `getattr`
-pub getattr_none : (rest : List ℕ) (what : What) → ((coll o n : List ℕ) → ¬ (NamesValue rest coll o n)) → ¬ (IsLineOf (codes "getattr" ++ (0x20 ∷ rest)) what)
-getattr_none rest what none line =
+pub getattr_says : (rest : List ℕ) (what : What) → IsLineOf (codes "getattr" ++ (0x20 ∷ rest)) what → HasValue rest
+getattr_says rest what line =
     let behind = behind_first (codes "getattr") rest what (has_none 0x20 (codes "getattr") refl) line in
     let of = getattr_only (codes "getattr" ∷ behind.next ∷ behind.words) (behind.next ∷ behind.words) what refl behind.say in
     let are = of.are in
     let both : codes "getattr" ∷ behind.next ∷ behind.words ≡ codes "getattr" ∷ of.coll ∷ are.object_word ∷ are.name_word ∷ [] = are.whole in
-    let tails : behind.next ∷ behind.words ≡ of.coll ∷ are.object_word ∷ are.name_word ∷ [] = cc in
-    none of.coll of.object of.name (value_named rest of.coll are.object_word are.name_word of.coll of.object of.name (behind.whole ∙ ap in_words tails) refl
-    are.named are.names are.called)
+    let tails : behind.next ∷ behind.words ≡ of.coll ∷ are.object_word ∷ are.name_word ∷ [] = cc in (
+      ((of.coll, of.object), of.name),
+      value_named rest of.coll are.object_word are.name_word of.coll of.object of.name (behind.whole ∙ ap in_words tails) refl
+          are.named are.names are.called,
+    )
 
 pub getattr_line : (rest c o n : List ℕ) → NamesValue rest c o n → IsLineOf (codes "getattr" ++ (0x20 ∷ rest)) (Command (command.GetAttr c o n))
 getattr_line rest c o n is = record {
@@ -258,15 +281,17 @@ getattr_line rest c o n is = record {
 }
 
 -- behind `omapget`
-pub omapget_none : (rest : List ℕ) (what : What) → ((coll o n : List ℕ) → ¬ (NamesValue rest coll o n)) → ¬ (IsLineOf (codes "omapget" ++ (0x20 ∷ rest)) what)
-omapget_none rest what none line =
+pub omapget_says : (rest : List ℕ) (what : What) → IsLineOf (codes "omapget" ++ (0x20 ∷ rest)) what → HasValue rest
+omapget_says rest what line =
     let behind = behind_first (codes "omapget") rest what (has_none 0x20 (codes "omapget") refl) line in
     let of = omapget_only (codes "omapget" ∷ behind.next ∷ behind.words) (behind.next ∷ behind.words) what refl behind.say in
     let are = of.are in
     let both : codes "omapget" ∷ behind.next ∷ behind.words ≡ codes "omapget" ∷ of.coll ∷ are.object_word ∷ are.name_word ∷ [] = are.whole in
-    let tails : behind.next ∷ behind.words ≡ of.coll ∷ are.object_word ∷ are.name_word ∷ [] = cc in
-    none of.coll of.object of.name (value_named rest of.coll are.object_word are.name_word of.coll of.object of.name (behind.whole ∙ ap in_words tails) refl
-    are.named are.names are.called)
+    let tails : behind.next ∷ behind.words ≡ of.coll ∷ are.object_word ∷ are.name_word ∷ [] = cc in (
+      ((of.coll, of.object), of.name),
+      value_named rest of.coll are.object_word are.name_word of.coll of.object of.name (behind.whole ∙ ap in_words tails) refl
+          are.named are.names are.called,
+    )
 
 pub omapget_line : (rest c o n : List ℕ) → NamesValue rest c o n → IsLineOf (codes "omapget" ++ (0x20 ∷ rest)) (Command (command.OmapGet c o n))
 omapget_line rest c o n is = record {
@@ -284,12 +309,14 @@ omapget_line rest c o n is = record {
 }
 
 -- behind `omaphdr`
-pub omaphdr_none : (rest : List ℕ) (what : What) → ((coll o : List ℕ) → ¬ (NamesObject rest coll o)) → ¬ (IsLineOf (codes "omaphdr" ++ (0x20 ∷ rest)) what)
-omaphdr_none rest what none line =
+pub omaphdr_says : (rest : List ℕ) (what : What) → IsLineOf (codes "omaphdr" ++ (0x20 ∷ rest)) what → HasObject rest
+omaphdr_says rest what line =
     let behind = behind_first (codes "omaphdr") rest what (has_none 0x20 (codes "omaphdr") refl) line in
-    let of = omaphdr_only (codes "omaphdr" ∷ behind.next ∷ behind.words) (behind.next ∷ behind.words) what refl behind.say in
-    none of.coll of.object (names_behind (codes "omaphdr") behind.next behind.words rest of.coll of.object of.are.object_word behind.whole of.are.whole
-    of.are.named of.are.names)
+    let of = omaphdr_only (codes "omaphdr" ∷ behind.next ∷ behind.words) (behind.next ∷ behind.words) what refl behind.say in (
+      (of.coll, of.object),
+      names_behind (codes "omaphdr") behind.next behind.words rest of.coll of.object of.are.object_word behind.whole of.are.whole
+          of.are.named of.are.names,
+    )
 
 pub omaphdr_line : (rest c o : List ℕ) → NamesObject rest c o → IsLineOf (codes "omaphdr" ++ (0x20 ∷ rest)) (Command (command.OmapHeader c o))
 omaphdr_line rest c o is = record {

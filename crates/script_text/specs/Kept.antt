@@ -20,7 +20,7 @@ spelled_bytes (Fill byte count) = replicate count byte
 -- the operation whose data aren't written out
 abbrev pub spelled_op : SpelledOp → Op
 spelled_op (spelled.Write object off bytes) = op.Write object off bytes
-spelled_op (spelled.SetAttr object name value) = op.SetAttr object name value
+spelled_op (spelled.SetAttr object pair) = op.SetAttr object pair.key pair.value
 spelled_op (spelled.OmapHeader object value) = op.OmapHeader object value
 spelled_op (spelled.OmapSet object pairs) = op.OmapSet object pairs
 spelled_op (spelled.Other o) = o

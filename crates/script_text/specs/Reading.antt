@@ -1,14 +1,16 @@
 -- What is known of a reader of a script that has taken some of it.
-use Rattle.std.specs.Prelude.{◌≡◌, ◌≢◌, ◌⊎◌, slice_index, codes, ℕ, ◌+◌, ◌<◌, ◌≤◌, Bool, true, false, List, [], ◌∷◌, ◌++◌, length, Option, Some, None, MatchOption, IfSome}
+use Rattle.std.specs.Prelude.{◌≡◌, ◌≢◌, ◌⊎◌, slice_index, codes, ℕ, ◌+◌, ◌<◌, ◌≤◌, Bool, true, false, List, [], ◌∷◌, ◌++◌, length, Option, Some, None, Result, MatchOption, MatchResult, IfSome}
 use Rattle.std.specs.List.{AllByRecursion}
 use Rattle.unit_fields.specs.Prelude.{IsCollName}
 use Rattle.object_model.specs.declared.op.Pair.{Pair}
-use Rattle.script_text.specs.Grammar.{HasNo, in_words, IsNameWord, IsDataWord, AreRangeArgs, AreSizeArgs, AreNameArgs, AreDataArgs, AreAttrArgs, AreKeyRangeArgs, AreKeysArgs, ArePairsArgs, AreKeyWords, ArePairWords, AreWordsOf, FitsWhat, IsLineOf}
+use Rattle.script_text.specs.Grammar.{HasNo, in_words, IsNameWord, IsDataWord, AreRangeArgs, AreSizeArgs, AreNameArgs, AreDataArgs, AreAttrArgs, AreKeyRangeArgs, AreKeysArgs, ArePairsArgs, AreKeyWords, ArePairWords, AreWordsOf, FitsWhat}
 use Rattle.script_text.specs.Blocks.{Says, Parse}
 use Rattle.script_text.specs.Script.{script_limit, line_limit, lines_of, ended}
 use Rattle.script_text.specs.Script.{AreGood, IsOutside, IsMisplaced, IsBadAt, IsTextOf}
 use Rattle.script_text.specs.declared.fail.ScriptFail.{ScriptFail}
 use Rattle.script_text.specs.declared.fail.ScriptFail.TheVariants as fail
+use Rattle.script_text.specs.declared.fail.WordFail.{WordFail}
+use Rattle.script_text.specs.declared.fail.WordFail.TheVariants.{NotSpelled}
 use Rattle.script_text.specs.declared.grammar.Statement.{Statement}
 use Rattle.script_text.specs.declared.line.What.{What}
 use Rattle.script_text.specs.declared.reader.Reader.{Reader}
@@ -20,13 +22,13 @@ use Rattle.end_points.specs.Source.{without_first}
 abbrev pub IsPlainNumber : List ℕ → Type 0
 IsPlainNumber word = (word ≡ 0x30 ∷ []) ⊎ ((0x31 ≤ slice_index word 0) × (slice_index word 0 ≤ 0x39))
 
--- what a text was found to say; None where it says nothing
-abbrev pub Reads : List ℕ → Option What → Type 0
-Reads text found = MatchOption found ((what : What) → ¬ (IsLineOf text what)) (IsLineOf text)
+-- such a thing was found, or there is none, or memory ran out
+abbrev pub Finds : {X : Type 0} → (X → Type 0) → Result X WordFail → Type 0
+Finds {X} IsSuch result = MatchResult result IsSuch (λ why. why ≡ NotSpelled → (x : X) → ¬ (IsSuch x))
 
--- what words were found to say
-abbrev pub ReadsWords : List (List ℕ) → Option What → Type 0
-ReadsWords words found = MatchOption found ((what : What) → AreWordsOf words what → ¬ (FitsWhat what)) (λ what. AreWordsOf words what × FitsWhat what)
+-- the words say this, as a line can
+abbrev pub AreGoodWords : List (List ℕ) → What → Type 0
+AreGoodWords words what = AreWordsOf words what × FitsWhat what
 
 -- the text is a collection's name and a word of an object's name
 pub record NamesObject (text coll object : List ℕ) : Type 0 where

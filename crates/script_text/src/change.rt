@@ -4,6 +4,7 @@ ghost use Rattle.object_model.specs.Effect.{is_same};
 ghost use Rattle.object_model.specs.declared.op.Op.TheVariants.{Write, SetAttr, OmapHeader, OmapSet};
 ghost use Rattle.script_text.specs.Blocks.{together};
 
+use crate::both::both;
 use crate::data::Data;
 use crate::pair::{KeptPair, written_out};
 use byte_maps::Items;
@@ -30,8 +31,7 @@ enum SpelledOp {
     },
     SetAttr {
         object: Name,
-        name: Name,
-        value: Data,
+        pair: KeptPair,
     },
     OmapHeader {
         object: Name,
@@ -73,16 +73,12 @@ impl KeptOp {
         }
     }
 
-    /// An attribute that is set to this value.
-    pub fn set_attr(object: Name, name: Name, value: Data) -> KeptOp
-        ensures { result ≡ SetAttr object name value }
+    /// An attribute that is set to a value.
+    pub fn set_attr(object: Name, pair: KeptPair) -> KeptOp
+        ensures { result ≡ SetAttr object pair.key pair.value }
     {
         KeptOp {
-            spelled: SpelledOp::SetAttr {
-                object,
-                name,
-                value,
-            },
+            spelled: SpelledOp::SetAttr { object, pair },
         }
     }
 
@@ -110,32 +106,37 @@ impl KeptOp {
     {
         match self.spelled {
             SpelledOp::Write { object, off, bytes } => {
-                let bytes = SharedBytes::from_vec(bytes.into_bytes(alloc)?.into_vec(alloc)?)?;
+                let (object, bytes) = both(object, shared(alloc, bytes))?;
                 Ok(Op::Write { object, off, bytes })
             }
-            SpelledOp::SetAttr {
-                object,
-                name,
-                value,
-            } => {
-                let value = value.into_bytes(alloc)?;
+            SpelledOp::SetAttr { object, pair } => {
+                let (object, pair) = both(object, pair.into_pair(alloc))?;
                 Ok(Op::SetAttr {
                     object,
-                    name,
-                    value,
+                    name: pair.key,
+                    value: pair.value,
                 })
             }
             SpelledOp::OmapHeader { object, value } => {
-                let value = value.into_bytes(alloc)?;
+                let (object, value) = both(object, value.into_bytes(alloc))?;
                 Ok(Op::OmapHeader { object, value })
             }
             SpelledOp::OmapSet { object, pairs } => {
-                let pairs = written_out(alloc, pairs)?;
+                let (object, pairs) = both(object, written_out(alloc, pairs))?;
                 Ok(Op::OmapSet { object, pairs })
             }
             SpelledOp::Other(op) => Ok(op),
         }
     }
+}
+
+/// Data, written out as they are shared.
+fn shared(alloc: Global, spelled: Data) -> Result<SharedBytes, AllocError>
+    ensures { IfOk result (λ bytes. bytes ≡ spelled) }
+{
+    let bytes = spelled.into_bytes(alloc)?;
+    let bytes = bytes.into_vec(alloc)?;
+    Ok(SharedBytes::from_vec(bytes)?)
 }
 
 /// Moves operations behind others.
@@ -219,18 +220,28 @@ impl KeptChange {
     fn append(&mut self, next: KeptChange) -> Result<(), AllocError>
         ensures { OnOk result (self.new ≡ record self.old { ops = self.old.ops ++ next.ops }) }
     {
-        self.more.push(next.first)?;
-        push_all(&mut self.more, next.more)
+        drop(next.coll);
+        match self.more.push(next.first) {
+            Ok(()) => push_all(&mut self.more, next.more),
+            Err(e) => {
+                drop(next.more);
+                Err(e)
+            }
+        }
     }
 
     /// The transaction, with its data written out: this takes their memory.
     pub fn into_transaction(self, alloc: Global) -> Result<Transaction, AllocError>
         ensures { IfOk result (λ made. made ≡ self) }
     {
-        let first = self.first.into_op(alloc)?;
-        let mut made = transaction_of(alloc, self.coll, first)?;
-        add_all(alloc, &mut made, self.more)?;
-        Ok(made)
+        let (more, mut made) = both(self.more, transaction_of(alloc, self.coll, self.first))?;
+        match add_all(alloc, &mut made, more) {
+            Ok(()) => Ok(made),
+            Err(e) => {
+                drop(made);
+                Err(e)
+            }
+        }
     }
 }
 
@@ -241,10 +252,11 @@ fn is_same(a: &CollName, b: &CollName) -> bool
     a.as_slice().cmp(b.as_slice()) == Ordering::Equal
 }
 
-/// A transaction of one operation.
-fn transaction_of(alloc: Global, coll: CollName, first: Op) -> Result<Transaction, AllocError>
+/// A transaction of one operation, with its data written out.
+fn transaction_of(alloc: Global, coll: CollName, first: KeptOp) -> Result<Transaction, AllocError>
     ensures { IfOk result (λ made. made ≡ record { coll = coll; ops = first ∷ [] }) }
 {
+    let (coll, first) = both(coll, first.into_op(alloc))?;
     match Transaction::new(alloc, coll, first) {
         Ok(made) => Ok(made),
         Err(back) => {

@@ -1,7 +1,9 @@
 //! Data as it is spelled.
-ghost use Rattle.std.specs.Prelude.{◌≡◌, ◌≢◌, ℕ, List, Some, replicate, IfOk, IfSome, MatchOption};
+ghost use Rattle.std.specs.Prelude.{◌≡◌, ℕ, List, replicate, IfOk, MatchOption};
 ghost use Rattle.script_text.specs.Grammar.{EachIsByte, hex_pair, spelled_by, IsDataWord, IsFill};
+ghost use Rattle.script_text.specs.Reading.{Finds};
 
+use crate::fail::WordFail;
 use crate::hex::{read_hex, split_pair};
 use crate::number::read_number;
 use crate::split::{split_first, split_front};
@@ -91,29 +93,25 @@ fn read_fill(text: &[u8]) -> Option<(u8, u64)>
 }
 
 /// The data that digits spell.
-fn read_digits(alloc: Global, digits: &[u8]) -> Result<Option<Data>, AllocError>
-    ensures { IfOk result (λ found. MatchOption found ((bytes : List ℕ) → EachIsByte bytes → digits.now ≢ spelled_by (hex_pair 0x61) bytes)
-        (λ bytes. EachIsByte bytes × (digits.now ≡ spelled_by (hex_pair 0x61) bytes))) }
+fn read_digits(alloc: Global, digits: &[u8]) -> Result<Data, WordFail>
+    ensures { Finds (λ bytes. EachIsByte bytes × (digits.now ≡ spelled_by (hex_pair 0x61) bytes)) result }
 {
-    match read_hex(alloc, digits)? {
-        Some(bytes) => Ok(Some(Data::hex(bytes))),
-        None => Ok(None),
-    }
+    let bytes = read_hex(alloc, digits)?;
+    Ok(Data::hex(bytes))
 }
 
 /// The data that a word spells.
-pub fn read_data(alloc: Global, word: &[u8]) -> Result<Option<Data>, AllocError>
-    ensures read { IfOk result (λ found. (bytes : List ℕ) → IsDataWord word.now bytes → found ≡ Some bytes) }
-    ensures spelled { IfOk result (λ found. IfSome found (IsDataWord word.now)) }
+pub fn read_data(alloc: Global, word: &[u8]) -> Result<Data, WordFail>
+    ensures { Finds (IsDataWord word.now) result }
 {
     if let Some(digits) = split_front(word, b"hex:") {
         return read_digits(alloc, digits);
     }
     let Some(text) = split_front(word, b"fill:") else {
-        return Ok(None);
+        return Err(WordFail::NotSpelled);
     };
     let Some((byte, count)) = read_fill(text) else {
-        return Ok(None);
+        return Err(WordFail::NotSpelled);
     };
-    Ok(Some(Data::fill(byte, count)))
+    Ok(Data::fill(byte, count))
 }

@@ -1,7 +1,10 @@
 //! Names as they are spelled.
-ghost use Rattle.std.specs.Prelude.{◌≡◌, ◌≢◌, ◌++◌, ◌<◌, ℕ, List, IfOk, MatchOption};
+ghost use Rattle.std.specs.Prelude.{◌≡◌, ◌≢◌, ◌++◌, ◌<◌, ℕ, List, MatchOption, MatchResult};
 ghost use Rattle.script_text.specs.Grammar.{EachIsByte, IsNameWord, is_plain, hex_digit_from, escape, escaped};
+ghost use Rattle.script_text.specs.Reading.{Finds};
+ghost use Rattle.script_text.specs.declared.fail.WordFail.TheVariants.{NotSpelled};
 
+use crate::fail::WordFail;
 use crate::hex::split_pair;
 use crate::split::split_first;
 use arrayvec::ArrayVec;
@@ -43,9 +46,9 @@ fn split_byte(text: &[u8]) -> Option<(u8, &[u8])>
 }
 
 /// The bytes that a word spells.
-fn unescaped(alloc: Global, word: &[u8]) -> Result<Option<Vec<u8>>, AllocError>
-    ensures { IfOk result (λ found. MatchOption found ((bytes : List ℕ) → EachIsByte bytes → word.now ≢ escaped bytes)
-        (λ bytes. EachIsByte bytes.items × (word.now ≡ escaped bytes.items))) }
+fn unescaped(alloc: Global, word: &[u8]) -> Result<Vec<u8>, WordFail>
+    ensures { MatchResult result (λ bytes. EachIsByte bytes.items × (word.now ≡ escaped bytes.items))
+        (λ why. why ≡ NotSpelled → (bytes : List ℕ) → EachIsByte bytes → word.now ≢ escaped bytes) }
 {
     let mut bytes = Vec::new(alloc);
     let mut rest = word;
@@ -54,22 +57,24 @@ fn unescaped(alloc: Global, word: &[u8]) -> Result<Option<Vec<u8>>, AllocError>
         rest = behind;
     }
     if !rest.is_empty() {
-        return Ok(None);
+        return Err(WordFail::NotSpelled);
     }
-    Ok(Some(bytes))
+    Ok(bytes)
 }
 
 /// The name that a word spells.
-pub fn read_name(alloc: Global, word: &[u8]) -> Result<Option<Name>, AllocError>
-    ensures { IfOk result (λ found. MatchOption found ((name : List ℕ) → ¬ (IsNameWord word.now name)) (IsNameWord word.now)) }
+pub fn read_name(alloc: Global, word: &[u8]) -> Result<Name, WordFail>
+    ensures { Finds (IsNameWord word.now) result }
 {
     if WORD_LIMIT < word.len() {
-        return Ok(None);
+        return Err(WordFail::NotSpelled);
     }
-    let Some(bytes) = unescaped(alloc, word)? else {
-        return Ok(None);
-    };
-    Name::read(alloc, bytes.as_slice())
+    let bytes = unescaped(alloc, word)?;
+    match Name::read(alloc, bytes.as_slice()) {
+        Ok(Some(name)) => Ok(name),
+        Ok(None) => Err(WordFail::NotSpelled),
+        Err(AllocError) => Err(WordFail::Memory),
+    }
 }
 
 /// A digit of sixteen, where those from ten on are capital letters.

@@ -1,10 +1,11 @@
-//! Why a script was not read.
+//! Why a script was not read, and why words weren't.
 ghost use Rattle.std.specs.Prelude.{◌≡◌};
 ghost use Rattle.script_text.specs.declared.fail.ScriptFail.TheVariants.{Memory};
+ghost use Rattle.script_text.specs.declared.fail.WordFail.TheVariants.{Memory as NoMemory};
 ghost use Rattle.script_text.specs.Reading.{of_source};
 
 use block_device::Failed;
-use std::alloc::AllocError;
+use std::alloc::{AllocError, AllocFailed};
 use thiserror::Error;
 
 /// Why a script was not read.
@@ -37,5 +38,30 @@ impl From<Failed> for ScriptFail {
             Failed::Memory => ScriptFail::Memory,
             Failed::Fault => ScriptFail::ReadFault,
         }
+    }
+}
+
+/// Why words weren't read.
+#[derive(Drop)]
+pub enum WordFail {
+    /// Memory ran out.
+    Memory,
+    /// They don't spell what was looked for.
+    NotSpelled,
+}
+
+impl From<AllocError> for WordFail {
+    ghost from_gives = { λ _ e. e ≡ NoMemory };
+
+    fn from(_e: AllocError) -> WordFail {
+        WordFail::Memory
+    }
+}
+
+impl<T: Drop> From<AllocFailed<T>> for WordFail {
+    ghost from_gives = { λ _ e. e ≡ NoMemory };
+
+    fn from(_e: AllocFailed<T>) -> WordFail {
+        WordFail::Memory
     }
 }

@@ -1,14 +1,16 @@
 //! What a line says.
-ghost use Rattle.std.specs.Prelude.{◌≡◌, ◌↔◌, ◌++◌, ◌∷◌, [], ℕ, List, IfOk, MatchOption, IsTrue, codes};
+ghost use Rattle.std.specs.Prelude.{◌≡◌, ◌↔◌, ◌++◌, ◌∷◌, [], IfOk, IsTrue, codes};
 ghost use Rattle.unit_fields.specs.Prelude.{IsCollName};
-ghost use Rattle.script_text.specs.Grammar.{HasNo, IsNameWord, IsPassedOver};
-ghost use Rattle.script_text.specs.Reading.{IsReading, NamesObject, NamesRange, NamesSize, Reads, ReadsWords};
+ghost use Rattle.script_text.specs.Grammar.{HasNo, IsDataWord, IsLineOf, IsNameWord, IsPassedOver};
+ghost use Rattle.script_text.specs.Reading.{AreGoodWords, Finds, IsReading, NamesObject, NamesRange, NamesSize};
 
+use crate::both::both;
 use crate::change::KeptOp;
-use crate::data::read_data;
+use crate::data::{Data, read_data};
 use crate::escape::read_name;
+use crate::fail::WordFail;
 use crate::number::read_number;
-use crate::split::{four_words, split_once, three_words, two_words};
+use crate::split::{four_words, is_text, split_once, three_words, two_words};
 use crate::values::read_value_words;
 use crate::{Said, What};
 use object_model::{Command, Op};
@@ -26,231 +28,213 @@ pub enum Statement {
     Says(Said),
 }
 
-/// `mkcoll C`: what a line says that has this behind its first word.
-fn read_mkcoll(alloc: Global, rest: &[u8]) -> Result<Option<Said>, AllocError>
-    ensures { IfOk result (Reads (codes "mkcoll" ++ (0x20 ∷ rest.now))) }
+/// The name of a collection that a word spells.
+pub fn read_coll(alloc: Global, word: &[u8]) -> Result<CollName, WordFail>
+    ensures { Finds (λ name. (name ≡ word.now) × IsCollName word.now) result }
 {
-    let Some(coll) = CollName::read(alloc, rest)? else {
-        return Ok(None);
-    };
-    Ok(Some(Said::op(alloc, coll, Op::MkColl)))
+    match CollName::read(alloc, word) {
+        Ok(Some(name)) => Ok(name),
+        Ok(None) => Err(WordFail::NotSpelled),
+        Err(AllocError) => Err(WordFail::Memory),
+    }
+}
+
+/// `mkcoll C`: what a line says that has this behind its first word.
+fn read_mkcoll(alloc: Global, rest: &[u8]) -> Result<Said, WordFail>
+    ensures { Finds (IsLineOf (codes "mkcoll" ++ (0x20 ∷ rest.now))) result }
+{
+    let coll = read_coll(alloc, rest)?;
+    Ok(Said::op(alloc, coll, Op::MkColl))
 }
 
 /// The names of a collection and of an object in it, if these words spell them.
-pub fn read_names(
+pub fn read_names(alloc: Global, coll: &[u8], object: &[u8]) -> Result<(CollName, Name), WordFail>
+    ensures { Finds (λ x. (x.0 ≡ coll.now) × IsCollName coll.now × IsNameWord object.now x.1) result }
+{
+    let coll = read_coll(alloc, coll)?;
+    both(coll, read_name(alloc, object))
+}
+
+/// The names of a collection and of an object in it, and data, if these words spell them. The data are read last, once all
+/// else is known to be good.
+pub fn read_names_and_data(
     alloc: Global,
     coll: &[u8],
     object: &[u8],
-) -> Result<Option<(CollName, Name)>, AllocError>
-    ensures { IfOk result (λ found. MatchOption found ((name : List ℕ) → IsCollName coll.now → ¬ (IsNameWord object.now name))
-        (λ x. (x.0 ≡ coll.now) × IsCollName coll.now × IsNameWord object.now x.1)) }
+    data_word: &[u8],
+) -> Result<((CollName, Name), Data), WordFail>
+    ensures { Finds (λ x. (x.0.0 ≡ coll.now) × IsCollName coll.now × IsNameWord object.now x.0.1 × IsDataWord data_word.now x.1) result }
 {
-    let Some(coll) = CollName::read(alloc, coll)? else {
-        return Ok(None);
-    };
-    let Some(object) = read_name(alloc, object)? else {
-        return Ok(None);
-    };
-    Ok(Some((coll, object)))
+    let names = read_names(alloc, coll, object)?;
+    both(names, read_data(alloc, data_word))
 }
 
 /// `C O`: the names of a collection and of an object in it.
-pub fn read_object(alloc: Global, text: &[u8]) -> Result<Option<(CollName, Name)>, AllocError>
-    ensures { IfOk result (λ found. MatchOption found ((coll object : List ℕ) → ¬ (NamesObject text.now coll object))
-        (λ x. NamesObject text.now x.0 x.1)) }
+pub fn read_object(alloc: Global, text: &[u8]) -> Result<(CollName, Name), WordFail>
+    ensures { Finds (λ x. NamesObject text.now x.0 x.1) result }
 {
     let Some((coll, object)) = two_words(text) else {
-        return Ok(None);
+        return Err(WordFail::NotSpelled);
     };
-    let Some((coll, object)) = read_names(alloc, coll, object)? else {
-        return Ok(None);
-    };
-    Ok(Some((coll, object)))
+    read_names(alloc, coll, object)
 }
 
 /// `touch C O`: what a line says that has this behind its first word.
-fn read_touch(alloc: Global, rest: &[u8]) -> Result<Option<Said>, AllocError>
-    ensures { IfOk result (Reads (codes "touch" ++ (0x20 ∷ rest.now))) }
+fn read_touch(alloc: Global, rest: &[u8]) -> Result<Said, WordFail>
+    ensures { Finds (IsLineOf (codes "touch" ++ (0x20 ∷ rest.now))) result }
 {
-    let Some((coll, object)) = read_object(alloc, rest)? else {
-        return Ok(None);
-    };
+    let (coll, object) = read_object(alloc, rest)?;
     let op = Op::Touch { object };
-    Ok(Some(Said::op(alloc, coll, op)))
+    Ok(Said::op(alloc, coll, op))
 }
 
 /// `remove C O`: what a line says that has this behind its first word.
-fn read_remove(alloc: Global, rest: &[u8]) -> Result<Option<Said>, AllocError>
-    ensures { IfOk result (Reads (codes "remove" ++ (0x20 ∷ rest.now))) }
+fn read_remove(alloc: Global, rest: &[u8]) -> Result<Said, WordFail>
+    ensures { Finds (IsLineOf (codes "remove" ++ (0x20 ∷ rest.now))) result }
 {
-    let Some((coll, object)) = read_object(alloc, rest)? else {
-        return Ok(None);
-    };
+    let (coll, object) = read_object(alloc, rest)?;
     let op = Op::Remove { object };
-    Ok(Some(Said::op(alloc, coll, op)))
+    Ok(Said::op(alloc, coll, op))
 }
 
 /// `sum C O`: what a line says that has this behind its first word.
-fn read_sum(alloc: Global, rest: &[u8]) -> Result<Option<Said>, AllocError>
-    ensures { IfOk result (Reads (codes "sum" ++ (0x20 ∷ rest.now))) }
+fn read_sum(alloc: Global, rest: &[u8]) -> Result<Said, WordFail>
+    ensures { Finds (IsLineOf (codes "sum" ++ (0x20 ∷ rest.now))) result }
 {
-    let Some((coll, object)) = read_object(alloc, rest)? else {
-        return Ok(None);
-    };
-    Ok(Some(Said::of(What::Command(Command::Sum { coll, object }))))
+    let (coll, object) = read_object(alloc, rest)?;
+    Ok(Said::of(What::Command(Command::Sum { coll, object })))
 }
 
 /// `stat C O`: what a line says that has this behind its first word.
-fn read_stat(alloc: Global, rest: &[u8]) -> Result<Option<Said>, AllocError>
-    ensures { IfOk result (Reads (codes "stat" ++ (0x20 ∷ rest.now))) }
+fn read_stat(alloc: Global, rest: &[u8]) -> Result<Said, WordFail>
+    ensures { Finds (IsLineOf (codes "stat" ++ (0x20 ∷ rest.now))) result }
 {
-    let Some((coll, object)) = read_object(alloc, rest)? else {
-        return Ok(None);
-    };
-    Ok(Some(Said::of(What::Command(Command::Stat { coll, object }))))
+    let (coll, object) = read_object(alloc, rest)?;
+    Ok(Said::of(What::Command(Command::Stat { coll, object })))
 }
 
 /// `list C`: what a line says that has this behind its first word.
-fn read_list(alloc: Global, rest: &[u8]) -> Result<Option<Said>, AllocError>
-    ensures { IfOk result (Reads (codes "list" ++ (0x20 ∷ rest.now))) }
+fn read_list(alloc: Global, rest: &[u8]) -> Result<Said, WordFail>
+    ensures { Finds (IsLineOf (codes "list" ++ (0x20 ∷ rest.now))) result }
 {
-    let Some(coll) = CollName::read(alloc, rest)? else {
-        return Ok(None);
-    };
-    Ok(Some(Said::of(What::Command(Command::List { coll }))))
+    let coll = read_coll(alloc, rest)?;
+    Ok(Said::of(What::Command(Command::List { coll })))
 }
 
 /// `C O NUM NUM`: the names of a collection and of an object in it, an offset and a length.
-fn read_range(alloc: Global, text: &[u8]) -> Result<Option<(CollName, Name, u64, u64)>, AllocError>
-    ensures { IfOk result (λ found. MatchOption found ((coll object : List ℕ) (off len : ℕ) → ¬ (NamesRange text.now coll object off len))
-        (λ x. NamesRange text.now x.0 x.1 x.2 x.3)) }
+fn read_range(alloc: Global, text: &[u8]) -> Result<(CollName, Name, u64, u64), WordFail>
+    ensures { Finds (λ x. NamesRange text.now x.0 x.1 x.2 x.3) result }
 {
     let Some((coll, object, off, len)) = four_words(text) else {
-        return Ok(None);
+        return Err(WordFail::NotSpelled);
     };
     let Some(off) = read_number(off) else {
-        return Ok(None);
+        return Err(WordFail::NotSpelled);
     };
     let Some(len) = read_number(len) else {
-        return Ok(None);
+        return Err(WordFail::NotSpelled);
     };
-    let Some((coll, object)) = read_names(alloc, coll, object)? else {
-        return Ok(None);
-    };
-    Ok(Some((coll, object, off, len)))
+    let (coll, object) = read_names(alloc, coll, object)?;
+    Ok((coll, object, off, len))
 }
 
 /// `C O NUM`: the names of a collection and of an object in it, and a size.
-fn read_size(alloc: Global, text: &[u8]) -> Result<Option<(CollName, Name, u64)>, AllocError>
-    ensures { IfOk result (λ found. MatchOption found ((coll object : List ℕ) (size : ℕ) → ¬ (NamesSize text.now coll object size))
-        (λ x. NamesSize text.now x.0 x.1 x.2)) }
+fn read_size(alloc: Global, text: &[u8]) -> Result<(CollName, Name, u64), WordFail>
+    ensures { Finds (λ x. NamesSize text.now x.0 x.1 x.2) result }
 {
     let Some((coll, object, size)) = three_words(text) else {
-        return Ok(None);
+        return Err(WordFail::NotSpelled);
     };
     let Some(size) = read_number(size) else {
-        return Ok(None);
+        return Err(WordFail::NotSpelled);
     };
-    let Some((coll, object)) = read_names(alloc, coll, object)? else {
-        return Ok(None);
-    };
-    Ok(Some((coll, object, size)))
+    let (coll, object) = read_names(alloc, coll, object)?;
+    Ok((coll, object, size))
 }
 
 /// `read C O NUM NUM`: what a line says that has this behind its first word.
-fn read_read(alloc: Global, rest: &[u8]) -> Result<Option<Said>, AllocError>
-    ensures { IfOk result (Reads (codes "read" ++ (0x20 ∷ rest.now))) }
+fn read_read(alloc: Global, rest: &[u8]) -> Result<Said, WordFail>
+    ensures { Finds (IsLineOf (codes "read" ++ (0x20 ∷ rest.now))) result }
 {
-    let Some((coll, object, off, len)) = read_range(alloc, rest)? else {
-        return Ok(None);
-    };
-    Ok(Some(Said::of(What::Command(Command::Read {
+    let (coll, object, off, len) = read_range(alloc, rest)?;
+    Ok(Said::of(What::Command(Command::Read {
         coll,
         object,
         off,
         len,
-    }))))
+    })))
 }
 
 /// `zero C O NUM NUM`: what a line says that has this behind its first word.
-fn read_zero(alloc: Global, rest: &[u8]) -> Result<Option<Said>, AllocError>
-    ensures { IfOk result (Reads (codes "zero" ++ (0x20 ∷ rest.now))) }
+fn read_zero(alloc: Global, rest: &[u8]) -> Result<Said, WordFail>
+    ensures { Finds (IsLineOf (codes "zero" ++ (0x20 ∷ rest.now))) result }
 {
-    let Some((coll, object, off, len)) = read_range(alloc, rest)? else {
-        return Ok(None);
-    };
+    let (coll, object, off, len) = read_range(alloc, rest)?;
     let op = Op::Zero { object, off, len };
-    Ok(Some(Said::op(alloc, coll, op)))
+    Ok(Said::op(alloc, coll, op))
 }
 
 /// `truncate C O NUM`: what a line says that has this behind its first word.
-fn read_truncate(alloc: Global, rest: &[u8]) -> Result<Option<Said>, AllocError>
-    ensures { IfOk result (Reads (codes "truncate" ++ (0x20 ∷ rest.now))) }
+fn read_truncate(alloc: Global, rest: &[u8]) -> Result<Said, WordFail>
+    ensures { Finds (IsLineOf (codes "truncate" ++ (0x20 ∷ rest.now))) result }
 {
-    let Some((coll, object, size)) = read_size(alloc, rest)? else {
-        return Ok(None);
-    };
+    let (coll, object, size) = read_size(alloc, rest)?;
     let op = Op::Truncate { object, size };
-    Ok(Some(Said::op(alloc, coll, op)))
+    Ok(Said::op(alloc, coll, op))
 }
 
-/// What the words of a write say. The data are read last, once all else is known to be good.
+/// What the words of a write say.
 fn write_of(
     alloc: Global,
     coll: &[u8],
     object: &[u8],
     off: &[u8],
     data_word: &[u8],
-) -> Result<Option<Said>, AllocError>
-    ensures { IfOk result (ReadsWords (codes "write" ∷ coll.now ∷ object.now ∷ off.now ∷ data_word.now ∷ [])) }
+) -> Result<Said, WordFail>
+    ensures { Finds (AreGoodWords (codes "write" ∷ coll.now ∷ object.now ∷ off.now ∷ data_word.now ∷ [])) result }
 {
     let Some(off) = read_number(off) else {
-        return Ok(None);
+        return Err(WordFail::NotSpelled);
     };
-    let Some((coll, object)) = read_names(alloc, coll, object)? else {
-        return Ok(None);
-    };
-    let Some(bytes) = read_data(alloc, data_word)? else {
-        return Ok(None);
-    };
+    let ((coll, object), bytes) = read_names_and_data(alloc, coll, object, data_word)?;
     let op = KeptOp::write(object, off, bytes);
-    Ok(Some(Said::kept_op(alloc, coll, op)))
+    Ok(Said::kept_op(alloc, coll, op))
 }
 
 /// `write C O NUM DATA`: what a line says that has this behind its first word.
-fn read_write(alloc: Global, rest: &[u8]) -> Result<Option<Said>, AllocError>
-    ensures { IfOk result (Reads (codes "write" ++ (0x20 ∷ rest.now))) }
+fn read_write(alloc: Global, rest: &[u8]) -> Result<Said, WordFail>
+    ensures { Finds (IsLineOf (codes "write" ++ (0x20 ∷ rest.now))) result }
 {
     let Some((coll, object, off, data)) = four_words(rest) else {
-        return Ok(None);
+        return Err(WordFail::NotSpelled);
     };
     write_of(alloc, coll, object, off, data)
 }
 
 /// What a line of several words says.
-fn read_words(alloc: Global, word: &[u8], rest: &[u8]) -> Result<Option<Said>, AllocError>
+fn read_words(alloc: Global, word: &[u8], rest: &[u8]) -> Result<Said, WordFail>
     requires { HasNo 0x20 word.now }
-    ensures { IfOk result (Reads (word.now ++ (0x20 ∷ rest.now))) }
+    ensures { Finds (IsLineOf (word.now ++ (0x20 ∷ rest.now))) result }
 {
-    if word == b"mkcoll".as_slice() {
+    if is_text(word, b"mkcoll") {
         read_mkcoll(alloc, rest)
-    } else if word == b"touch".as_slice() {
+    } else if is_text(word, b"touch") {
         read_touch(alloc, rest)
-    } else if word == b"write".as_slice() {
+    } else if is_text(word, b"write") {
         read_write(alloc, rest)
-    } else if word == b"zero".as_slice() {
+    } else if is_text(word, b"zero") {
         read_zero(alloc, rest)
-    } else if word == b"truncate".as_slice() {
+    } else if is_text(word, b"truncate") {
         read_truncate(alloc, rest)
-    } else if word == b"remove".as_slice() {
+    } else if is_text(word, b"remove") {
         read_remove(alloc, rest)
-    } else if word == b"read".as_slice() {
+    } else if is_text(word, b"read") {
         read_read(alloc, rest)
-    } else if word == b"sum".as_slice() {
+    } else if is_text(word, b"sum") {
         read_sum(alloc, rest)
-    } else if word == b"stat".as_slice() {
+    } else if is_text(word, b"stat") {
         read_stat(alloc, rest)
-    } else if word == b"list".as_slice() {
+    } else if is_text(word, b"list") {
         read_list(alloc, rest)
     } else {
         read_value_words(alloc, word, rest)
@@ -258,13 +242,13 @@ fn read_words(alloc: Global, word: &[u8], rest: &[u8]) -> Result<Option<Said>, A
 }
 
 /// What a line says.
-fn read_line(alloc: Global, text: &[u8]) -> Result<Option<Said>, AllocError>
-    ensures { IfOk result (Reads text.now) }
+fn read_line(alloc: Global, text: &[u8]) -> Result<Said, WordFail>
+    ensures { Finds (IsLineOf text.now) result }
 {
     match split_once(text, b' ') {
         Some((word, rest)) => read_words(alloc, word, rest),
-        None if text == b"wait".as_slice() => Ok(Some(Said::of(What::Wait))),
-        None => Ok(None),
+        None if is_text(text, b"wait") => Ok(Said::of(What::Wait)),
+        None => Err(WordFail::NotSpelled),
     }
 }
 
@@ -284,14 +268,15 @@ pub fn read_statement(alloc: Global, text: &[u8]) -> Result<Option<Statement>, A
     if is_passed_over(text) {
         return Ok(Some(Statement::PassedOver));
     }
-    if text == b"begin".as_slice() {
+    if is_text(text, b"begin") {
         return Ok(Some(Statement::Begin));
     }
-    if text == b"end".as_slice() {
+    if is_text(text, b"end") {
         return Ok(Some(Statement::End));
     }
-    match read_line(alloc, text)? {
-        Some(said) => Ok(Some(Statement::Says(said))),
-        None => Ok(None),
+    match read_line(alloc, text) {
+        Ok(said) => Ok(Some(Statement::Says(said))),
+        Err(WordFail::NotSpelled) => Ok(None),
+        Err(WordFail::Memory) => Err(AllocError),
     }
 }

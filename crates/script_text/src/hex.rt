@@ -1,10 +1,12 @@
 //! Bytes as pairs of hexadecimal digits.
-ghost use Rattle.std.specs.Prelude.{◌≡◌, ◌≢◌, ◌++◌, ◌<◌, ◌≤◌, ℕ, List, IfOk, MatchOption};
+ghost use Rattle.std.specs.Prelude.{◌≡◌, ◌≢◌, ◌++◌, ◌<◌, ◌≤◌, ℕ, List, MatchOption};
 ghost use Rattle.script_text.specs.Grammar.{EachIsByte, hex_digit_from, hex_pair, spelled_by};
+ghost use Rattle.script_text.specs.Reading.{Finds};
 
+use crate::fail::WordFail;
 use crate::split::split_first;
 use byte_maps::Bytes;
-use std::alloc::{AllocError, Global};
+use std::alloc::Global;
 
 /// The value of a hexadecimal digit, where the letter for ten is `A` or `a`.
 fn digit_of(ten: u8, byte: u8) -> Option<u8>
@@ -42,9 +44,8 @@ pub fn split_pair(ten: u8, text: &[u8]) -> Option<(u8, &[u8])>
 }
 
 /// The bytes that pairs of digits with small letters spell.
-pub fn read_hex(alloc: Global, digits: &[u8]) -> Result<Option<Bytes>, AllocError>
-    ensures { IfOk result (λ found. MatchOption found ((bytes : List ℕ) → EachIsByte bytes → digits.now ≢ spelled_by (hex_pair 0x61) bytes)
-        (λ bytes. EachIsByte bytes × (digits.now ≡ spelled_by (hex_pair 0x61) bytes))) }
+pub fn read_hex(alloc: Global, digits: &[u8]) -> Result<Bytes, WordFail>
+    ensures { Finds (λ bytes. EachIsByte bytes × (digits.now ≡ spelled_by (hex_pair 0x61) bytes)) result }
 {
     let mut bytes = Vec::with_capacity(alloc, digits.len() / 2)?;
     let mut rest = digits;
@@ -53,7 +54,7 @@ pub fn read_hex(alloc: Global, digits: &[u8]) -> Result<Option<Bytes>, AllocErro
         rest = behind;
     }
     if !rest.is_empty() {
-        return Ok(None);
+        return Err(WordFail::NotSpelled);
     }
-    Ok(Some(Bytes::from_vec(bytes)))
+    Ok(Bytes::from_vec(bytes))
 }

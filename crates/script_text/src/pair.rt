@@ -1,10 +1,10 @@
 //! Omap keys and pairs, one behind another in a line.
-ghost use Rattle.std.specs.Prelude.{◌≡◌, ℕ, List, IfOk, MatchOption};
-ghost use Rattle.object_model.specs.declared.op.Pair.{Pair as OmapPair};
-ghost use Rattle.script_text.specs.Reading.{SpellsKeys, SpellsPair, SpellsPairs};
+ghost use Rattle.std.specs.Prelude.{◌≡◌, IfOk};
+ghost use Rattle.script_text.specs.Reading.{Finds, SpellsKeys, SpellsPair, SpellsPairs};
 
 use crate::data::{Data, read_data};
 use crate::escape::read_name;
+use crate::fail::WordFail;
 use crate::split::{split_once, two_words, words_before};
 use byte_maps::Items;
 use object_model::Pair;
@@ -29,7 +29,7 @@ impl Model for KeptPair {
 
 impl KeptPair {
     /// The pair, with its value written out.
-    fn into_pair(self, alloc: Global) -> Result<Pair, AllocError>
+    pub fn into_pair(self, alloc: Global) -> Result<Pair, AllocError>
         ensures { IfOk result (λ made. made ≡ self) }
     {
         let value = self.value.into_bytes(alloc)?;
@@ -53,57 +53,50 @@ pub fn written_out(alloc: Global, pairs: Items<KeptPair>) -> Result<Items<Pair>,
 }
 
 /// The keys that a text spells, one at least.
-pub fn read_keys(alloc: Global, text: &[u8]) -> Result<Option<Items<Name>>, AllocError>
-    ensures { IfOk result (λ found. MatchOption found ((keys : List (List ℕ)) → ¬ (SpellsKeys text.now keys)) (SpellsKeys text.now)) }
+pub fn read_keys(alloc: Global, text: &[u8]) -> Result<Items<Name>, WordFail>
+    ensures { Finds (SpellsKeys text.now) result }
 {
     let mut keys = Items::new(alloc);
     let mut rest = text;
     'keys: while let Some((word, behind)) = split_once(rest, b' ') {
-        let Some(key) = read_name(alloc, word)? else {
-            return Ok(None);
-        };
+        let key = read_name(alloc, word)?;
         keys.push(key)?;
         rest = behind;
     }
-    let Some(last) = read_name(alloc, rest)? else {
-        return Ok(None);
-    };
+    let last = read_name(alloc, rest)?;
     keys.push(last)?;
-    Ok(Some(keys))
+    Ok(keys)
 }
 
 /// The pair that two words spell.
-fn read_pair(alloc: Global, key: &[u8], value: &[u8]) -> Result<Option<KeptPair>, AllocError>
-    ensures { IfOk result (λ found. MatchOption found ((p : OmapPair) → ¬ (SpellsPair key.now value.now p)) (SpellsPair key.now value.now)) }
+pub fn read_pair(alloc: Global, key: &[u8], value: &[u8]) -> Result<KeptPair, WordFail>
+    ensures { Finds (SpellsPair key.now value.now) result }
 {
-    let Some(key) = read_name(alloc, key)? else {
-        return Ok(None);
-    };
-    let Some(value) = read_data(alloc, value)? else {
-        return Ok(None);
-    };
-    Ok(Some(KeptPair { key, value }))
+    let key = read_name(alloc, key)?;
+    match read_data(alloc, value) {
+        Ok(value) => Ok(KeptPair { key, value }),
+        Err(why) => {
+            drop(key);
+            Err(why)
+        }
+    }
 }
 
 /// The pairs that a text spells, one at least.
-pub fn read_pairs(alloc: Global, text: &[u8]) -> Result<Option<Items<KeptPair>>, AllocError>
-    ensures { IfOk result (λ found. MatchOption found ((pairs : List OmapPair) → ¬ (SpellsPairs text.now pairs)) (SpellsPairs text.now)) }
+pub fn read_pairs(alloc: Global, text: &[u8]) -> Result<Items<KeptPair>, WordFail>
+    ensures { Finds (SpellsPairs text.now) result }
 {
     let mut pairs = Items::new(alloc);
     let mut rest = text;
     'pairs: while let Some((key, value, behind)) = words_before(rest) {
-        let Some(pair) = read_pair(alloc, key, value)? else {
-            return Ok(None);
-        };
+        let pair = read_pair(alloc, key, value)?;
         pairs.push(pair)?;
         rest = behind;
     }
     let Some((key, value)) = two_words(rest) else {
-        return Ok(None);
+        return Err(WordFail::NotSpelled);
     };
-    let Some(last) = read_pair(alloc, key, value)? else {
-        return Ok(None);
-    };
+    let last = read_pair(alloc, key, value)?;
     pairs.push(last)?;
-    Ok(Some(pairs))
+    Ok(pairs)
 }

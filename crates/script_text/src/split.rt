@@ -39,6 +39,13 @@ pub fn split_once(text: &[u8], at: u8) -> Option<(&[u8], &[u8])>
     Some((&text[..place], &text[place + 1..]))
 }
 
+/// Whether a text is this one.
+pub fn is_text(text: &[u8], other: &[u8]) -> bool
+    ensures { IsTrue result ↔ (text.now ≡ other.now) }
+{
+    text == other
+}
+
 /// Whether a text is one word.
 fn is_word(text: &[u8]) -> bool
     ensures { IsTrue result ↔ HasNo 0x20 text.now }

@@ -1,301 +1,237 @@
 //! What the lines about attributes, omaps and collections that go say.
-ghost use Rattle.std.specs.Prelude.{◌++◌, ◌∷◌, ℕ, List, IfOk, MatchOption, codes};
-ghost use Rattle.object_model.specs.declared.op.Pair.{Pair};
-ghost use Rattle.script_text.specs.Grammar.{HasNo};
-ghost use Rattle.script_text.specs.Reading.{IsLaterWord, NamesAttr, NamesHeader, NamesKeyRange, NamesKeys, NamesPairs, NamesValue, Reads};
+ghost use Rattle.std.specs.Prelude.{◌++◌, ◌∷◌, codes};
+ghost use Rattle.script_text.specs.Grammar.{HasNo, IsLineOf, IsNameWord};
+ghost use Rattle.script_text.specs.Reading.{Finds, IsLaterWord, NamesAttr, NamesHeader, NamesKeyRange, NamesKeys, NamesPairs, NamesValue};
 
+use crate::both::both;
 use crate::change::KeptOp;
-use crate::data::{Data, read_data};
+use crate::data::Data;
 use crate::escape::read_name;
-use crate::grammar::{read_names, read_object};
-use crate::pair::{KeptPair, read_keys, read_pairs};
-use crate::split::{four_words, three_words, words_before};
+use crate::fail::WordFail;
+use crate::grammar::{read_coll, read_names, read_names_and_data, read_object};
+use crate::pair::{KeptPair, read_keys, read_pair, read_pairs};
+use crate::split::{four_words, is_text, three_words, words_before};
 use crate::{Said, What};
 use byte_maps::Items;
 use object_model::{Command, Op};
-use std::alloc::{AllocError, Global};
+use std::alloc::Global;
 use unit_fields::{CollName, Name};
 
 /// `C O NAME`: the names of a collection, of an object in it and of a value of that.
-fn read_value(alloc: Global, text: &[u8]) -> Result<Option<(CollName, Name, Name)>, AllocError>
-    ensures { IfOk result (λ found. MatchOption found ((coll object name : List ℕ) → ¬ (NamesValue text.now coll object name))
-        (λ x. NamesValue text.now x.0 x.1 x.2)) }
+fn read_value(alloc: Global, text: &[u8]) -> Result<((CollName, Name), Name), WordFail>
+    ensures { Finds (λ x. NamesValue text.now x.0.0 x.0.1 x.1) result }
 {
     let Some((coll, object, name)) = three_words(text) else {
-        return Ok(None);
+        return Err(WordFail::NotSpelled);
     };
-    let Some((coll, object)) = read_names(alloc, coll, object)? else {
-        return Ok(None);
-    };
-    let Some(name) = read_name(alloc, name)? else {
-        return Ok(None);
-    };
-    Ok(Some((coll, object, name)))
+    let names = read_names(alloc, coll, object)?;
+    both(names, read_name(alloc, name))
 }
 
 /// `C O DATA`: the names of a collection and of an object in it, and data.
-fn read_header(alloc: Global, text: &[u8]) -> Result<Option<(CollName, Name, Data)>, AllocError>
-    ensures { IfOk result (λ found. MatchOption found ((coll object value : List ℕ) → ¬ (NamesHeader text.now coll object value))
-        (λ x. NamesHeader text.now x.0 x.1 x.2)) }
+fn read_header(alloc: Global, text: &[u8]) -> Result<((CollName, Name), Data), WordFail>
+    ensures { Finds (λ x. NamesHeader text.now x.0.0 x.0.1 x.1) result }
 {
     let Some((coll, object, value)) = three_words(text) else {
-        return Ok(None);
+        return Err(WordFail::NotSpelled);
     };
-    let Some((coll, object)) = read_names(alloc, coll, object)? else {
-        return Ok(None);
-    };
-    let Some(value) = read_data(alloc, value)? else {
-        return Ok(None);
-    };
-    Ok(Some((coll, object, value)))
+    read_names_and_data(alloc, coll, object, value)
 }
 
 /// `C O NAME DATA`: the names of a collection, of an object in it and of an attribute of that, and data.
-fn read_attr(alloc: Global, text: &[u8]) -> Result<Option<(CollName, Name, Name, Data)>, AllocError>
-    ensures { IfOk result (λ found. MatchOption found ((coll object name value : List ℕ) → ¬ (NamesAttr text.now coll object name value))
-        (λ x. NamesAttr text.now x.0 x.1 x.2 x.3)) }
+fn read_attr(alloc: Global, text: &[u8]) -> Result<((CollName, Name), KeptPair), WordFail>
+    ensures { Finds (λ x. NamesAttr text.now x.0.0 x.0.1 x.1.key x.1.value) result }
 {
     let Some((coll, object, name, value)) = four_words(text) else {
-        return Ok(None);
+        return Err(WordFail::NotSpelled);
     };
-    let Some((coll, object)) = read_names(alloc, coll, object)? else {
-        return Ok(None);
-    };
-    let Some(name) = read_name(alloc, name)? else {
-        return Ok(None);
-    };
-    let Some(value) = read_data(alloc, value)? else {
-        return Ok(None);
-    };
-    Ok(Some((coll, object, name, value)))
+    let names = read_names(alloc, coll, object)?;
+    both(names, read_pair(alloc, name, value))
+}
+
+/// The keys that two words spell.
+fn read_two_keys(alloc: Global, first: &[u8], last: &[u8]) -> Result<(Name, Name), WordFail>
+    ensures { Finds (λ x. IsNameWord first.now x.0 × IsNameWord last.now x.1) result }
+{
+    let first = read_name(alloc, first)?;
+    both(first, read_name(alloc, last))
 }
 
 /// `C O NAME NAME`: the names of a collection and of an object in it, and two keys.
-fn read_key_range(
-    alloc: Global,
-    text: &[u8],
-) -> Result<Option<(CollName, Name, Name, Name)>, AllocError>
-    ensures { IfOk result (λ found. MatchOption found ((coll object first last : List ℕ) → ¬ (NamesKeyRange text.now coll object first last))
-        (λ x. NamesKeyRange text.now x.0 x.1 x.2 x.3)) }
+fn read_key_range(alloc: Global, text: &[u8]) -> Result<((CollName, Name), (Name, Name)), WordFail>
+    ensures { Finds (λ x. NamesKeyRange text.now x.0.0 x.0.1 x.1.0 x.1.1) result }
 {
     let Some((coll, object, first, last)) = four_words(text) else {
-        return Ok(None);
+        return Err(WordFail::NotSpelled);
     };
-    let Some((coll, object)) = read_names(alloc, coll, object)? else {
-        return Ok(None);
-    };
-    let Some(first) = read_name(alloc, first)? else {
-        return Ok(None);
-    };
-    let Some(last) = read_name(alloc, last)? else {
-        return Ok(None);
-    };
-    Ok(Some((coll, object, first, last)))
+    let names = read_names(alloc, coll, object)?;
+    both(names, read_two_keys(alloc, first, last))
 }
 
 /// `C O` and one or more NAME: the names of a collection and of an object in it, and keys.
-fn read_key_list(
-    alloc: Global,
-    text: &[u8],
-) -> Result<Option<(CollName, Name, Items<Name>)>, AllocError>
-    ensures { IfOk result (λ found. MatchOption found ((coll object : List ℕ) (keys : List (List ℕ)) → ¬ (NamesKeys text.now coll object keys))
-        (λ x. NamesKeys text.now x.0 x.1 x.2)) }
+fn read_key_list(alloc: Global, text: &[u8]) -> Result<((CollName, Name), Items<Name>), WordFail>
+    ensures { Finds (λ x. NamesKeys text.now x.0.0 x.0.1 x.1) result }
 {
     let Some((coll, object, rest)) = words_before(text) else {
-        return Ok(None);
+        return Err(WordFail::NotSpelled);
     };
-    let Some((coll, object)) = read_names(alloc, coll, object)? else {
-        return Ok(None);
-    };
-    let Some(keys) = read_keys(alloc, rest)? else {
-        return Ok(None);
-    };
-    Ok(Some((coll, object, keys)))
+    let names = read_names(alloc, coll, object)?;
+    both(names, read_keys(alloc, rest))
 }
 
 /// `C O` and one or more `NAME DATA`: the names of a collection and of an object in it, and pairs.
 fn read_pair_list(
     alloc: Global,
     text: &[u8],
-) -> Result<Option<(CollName, Name, Items<KeptPair>)>, AllocError>
-    ensures { IfOk result (λ found. MatchOption found ((coll object : List ℕ) (pairs : List Pair) → ¬ (NamesPairs text.now coll object pairs))
-        (λ x. NamesPairs text.now x.0 x.1 x.2)) }
+) -> Result<((CollName, Name), Items<KeptPair>), WordFail>
+    ensures { Finds (λ x. NamesPairs text.now x.0.0 x.0.1 x.1) result }
 {
     let Some((coll, object, rest)) = words_before(text) else {
-        return Ok(None);
+        return Err(WordFail::NotSpelled);
     };
-    let Some((coll, object)) = read_names(alloc, coll, object)? else {
-        return Ok(None);
-    };
-    let Some(pairs) = read_pairs(alloc, rest)? else {
-        return Ok(None);
-    };
-    Ok(Some((coll, object, pairs)))
+    let names = read_names(alloc, coll, object)?;
+    both(names, read_pairs(alloc, rest))
 }
 
 /// `rmcoll C`: what a line says that has this behind its first word.
-fn read_rmcoll(alloc: Global, rest: &[u8]) -> Result<Option<Said>, AllocError>
-    ensures { IfOk result (Reads (codes "rmcoll" ++ (0x20 ∷ rest.now))) }
+fn read_rmcoll(alloc: Global, rest: &[u8]) -> Result<Said, WordFail>
+    ensures { Finds (IsLineOf (codes "rmcoll" ++ (0x20 ∷ rest.now))) result }
 {
-    let Some(coll) = CollName::read(alloc, rest)? else {
-        return Ok(None);
-    };
-    Ok(Some(Said::op(alloc, coll, Op::RmColl)))
+    let coll = read_coll(alloc, rest)?;
+    Ok(Said::op(alloc, coll, Op::RmColl))
 }
 
 /// `setattr C O NAME DATA`: what a line says that has this behind its first word.
-fn read_setattr(alloc: Global, rest: &[u8]) -> Result<Option<Said>, AllocError>
-    ensures { IfOk result (Reads (codes "setattr" ++ (0x20 ∷ rest.now))) }
+fn read_setattr(alloc: Global, rest: &[u8]) -> Result<Said, WordFail>
+    ensures { Finds (IsLineOf (codes "setattr" ++ (0x20 ∷ rest.now))) result }
 {
-    let Some((coll, object, name, value)) = read_attr(alloc, rest)? else {
-        return Ok(None);
-    };
-    let op = KeptOp::set_attr(object, name, value);
-    Ok(Some(Said::kept_op(alloc, coll, op)))
+    let ((coll, object), pair) = read_attr(alloc, rest)?;
+    let op = KeptOp::set_attr(object, pair);
+    Ok(Said::kept_op(alloc, coll, op))
 }
 
 /// `rmattr C O NAME`: what a line says that has this behind its first word.
-fn read_rmattr(alloc: Global, rest: &[u8]) -> Result<Option<Said>, AllocError>
-    ensures { IfOk result (Reads (codes "rmattr" ++ (0x20 ∷ rest.now))) }
+fn read_rmattr(alloc: Global, rest: &[u8]) -> Result<Said, WordFail>
+    ensures { Finds (IsLineOf (codes "rmattr" ++ (0x20 ∷ rest.now))) result }
 {
-    let Some((coll, object, name)) = read_value(alloc, rest)? else {
-        return Ok(None);
-    };
+    let ((coll, object), name) = read_value(alloc, rest)?;
     let op = Op::RmAttr { object, name };
-    Ok(Some(Said::op(alloc, coll, op)))
+    Ok(Said::op(alloc, coll, op))
 }
 
 /// `rmattrs C O`: what a line says that has this behind its first word.
-fn read_rmattrs(alloc: Global, rest: &[u8]) -> Result<Option<Said>, AllocError>
-    ensures { IfOk result (Reads (codes "rmattrs" ++ (0x20 ∷ rest.now))) }
+fn read_rmattrs(alloc: Global, rest: &[u8]) -> Result<Said, WordFail>
+    ensures { Finds (IsLineOf (codes "rmattrs" ++ (0x20 ∷ rest.now))) result }
 {
-    let Some((coll, object)) = read_object(alloc, rest)? else {
-        return Ok(None);
-    };
+    let (coll, object) = read_object(alloc, rest)?;
     let op = Op::RmAttrs { object };
-    Ok(Some(Said::op(alloc, coll, op)))
+    Ok(Said::op(alloc, coll, op))
 }
 
 /// `omapset C O NAME DATA ..`: what a line says that has this behind its first word.
-fn read_omapset(alloc: Global, rest: &[u8]) -> Result<Option<Said>, AllocError>
-    ensures { IfOk result (Reads (codes "omapset" ++ (0x20 ∷ rest.now))) }
+fn read_omapset(alloc: Global, rest: &[u8]) -> Result<Said, WordFail>
+    ensures { Finds (IsLineOf (codes "omapset" ++ (0x20 ∷ rest.now))) result }
 {
-    let Some((coll, object, pairs)) = read_pair_list(alloc, rest)? else {
-        return Ok(None);
-    };
+    let ((coll, object), pairs) = read_pair_list(alloc, rest)?;
     let op = KeptOp::omap_set(object, pairs);
-    Ok(Some(Said::kept_op(alloc, coll, op)))
+    Ok(Said::kept_op(alloc, coll, op))
 }
 
 /// `omaprm C O NAME ..`: what a line says that has this behind its first word.
-fn read_omaprm(alloc: Global, rest: &[u8]) -> Result<Option<Said>, AllocError>
-    ensures { IfOk result (Reads (codes "omaprm" ++ (0x20 ∷ rest.now))) }
+fn read_omaprm(alloc: Global, rest: &[u8]) -> Result<Said, WordFail>
+    ensures { Finds (IsLineOf (codes "omaprm" ++ (0x20 ∷ rest.now))) result }
 {
-    let Some((coll, object, keys)) = read_key_list(alloc, rest)? else {
-        return Ok(None);
-    };
+    let ((coll, object), keys) = read_key_list(alloc, rest)?;
     let op = Op::OmapRm { object, keys };
-    Ok(Some(Said::op(alloc, coll, op)))
+    Ok(Said::op(alloc, coll, op))
 }
 
 /// `omaprmrange C O NAME NAME`: what a line says that has this behind its first word.
-fn read_omaprmrange(alloc: Global, rest: &[u8]) -> Result<Option<Said>, AllocError>
-    ensures { IfOk result (Reads (codes "omaprmrange" ++ (0x20 ∷ rest.now))) }
+fn read_omaprmrange(alloc: Global, rest: &[u8]) -> Result<Said, WordFail>
+    ensures { Finds (IsLineOf (codes "omaprmrange" ++ (0x20 ∷ rest.now))) result }
 {
-    let Some((coll, object, first, last)) = read_key_range(alloc, rest)? else {
-        return Ok(None);
-    };
+    let ((coll, object), (first, last)) = read_key_range(alloc, rest)?;
     let op = Op::OmapRmRange {
         object,
         first,
         last,
     };
-    Ok(Some(Said::op(alloc, coll, op)))
+    Ok(Said::op(alloc, coll, op))
 }
 
 /// `omapclear C O`: what a line says that has this behind its first word.
-fn read_omapclear(alloc: Global, rest: &[u8]) -> Result<Option<Said>, AllocError>
-    ensures { IfOk result (Reads (codes "omapclear" ++ (0x20 ∷ rest.now))) }
+fn read_omapclear(alloc: Global, rest: &[u8]) -> Result<Said, WordFail>
+    ensures { Finds (IsLineOf (codes "omapclear" ++ (0x20 ∷ rest.now))) result }
 {
-    let Some((coll, object)) = read_object(alloc, rest)? else {
-        return Ok(None);
-    };
+    let (coll, object) = read_object(alloc, rest)?;
     let op = Op::OmapClear { object };
-    Ok(Some(Said::op(alloc, coll, op)))
+    Ok(Said::op(alloc, coll, op))
 }
 
 /// `omapheader C O DATA`: what a line says that has this behind its first word.
-fn read_omapheader(alloc: Global, rest: &[u8]) -> Result<Option<Said>, AllocError>
-    ensures { IfOk result (Reads (codes "omapheader" ++ (0x20 ∷ rest.now))) }
+fn read_omapheader(alloc: Global, rest: &[u8]) -> Result<Said, WordFail>
+    ensures { Finds (IsLineOf (codes "omapheader" ++ (0x20 ∷ rest.now))) result }
 {
-    let Some((coll, object, value)) = read_header(alloc, rest)? else {
-        return Ok(None);
-    };
+    let ((coll, object), value) = read_header(alloc, rest)?;
     let op = KeptOp::omap_header(object, value);
-    Ok(Some(Said::kept_op(alloc, coll, op)))
+    Ok(Said::kept_op(alloc, coll, op))
 }
 
 /// `getattr C O NAME`: what a line says that has this behind its first word.
-fn read_getattr(alloc: Global, rest: &[u8]) -> Result<Option<Said>, AllocError>
-    ensures { IfOk result (Reads (codes "getattr" ++ (0x20 ∷ rest.now))) }
+fn read_getattr(alloc: Global, rest: &[u8]) -> Result<Said, WordFail>
+    ensures { Finds (IsLineOf (codes "getattr" ++ (0x20 ∷ rest.now))) result }
 {
-    let Some((coll, object, name)) = read_value(alloc, rest)? else {
-        return Ok(None);
-    };
-    Ok(Some(Said::of(What::Command(Command::GetAttr { coll, object, name }))))
+    let ((coll, object), name) = read_value(alloc, rest)?;
+    Ok(Said::of(What::Command(Command::GetAttr { coll, object, name })))
 }
 
 /// `omapget C O NAME`: what a line says that has this behind its first word.
-fn read_omapget(alloc: Global, rest: &[u8]) -> Result<Option<Said>, AllocError>
-    ensures { IfOk result (Reads (codes "omapget" ++ (0x20 ∷ rest.now))) }
+fn read_omapget(alloc: Global, rest: &[u8]) -> Result<Said, WordFail>
+    ensures { Finds (IsLineOf (codes "omapget" ++ (0x20 ∷ rest.now))) result }
 {
-    let Some((coll, object, key)) = read_value(alloc, rest)? else {
-        return Ok(None);
-    };
-    Ok(Some(Said::of(What::Command(Command::OmapGet { coll, object, key }))))
+    let ((coll, object), key) = read_value(alloc, rest)?;
+    Ok(Said::of(What::Command(Command::OmapGet { coll, object, key })))
 }
 
 /// `omaphdr C O`: what a line says that has this behind its first word.
-fn read_omaphdr(alloc: Global, rest: &[u8]) -> Result<Option<Said>, AllocError>
-    ensures { IfOk result (Reads (codes "omaphdr" ++ (0x20 ∷ rest.now))) }
+fn read_omaphdr(alloc: Global, rest: &[u8]) -> Result<Said, WordFail>
+    ensures { Finds (IsLineOf (codes "omaphdr" ++ (0x20 ∷ rest.now))) result }
 {
-    let Some((coll, object)) = read_object(alloc, rest)? else {
-        return Ok(None);
-    };
-    Ok(Some(Said::of(What::Command(Command::OmapHeader { coll, object }))))
+    let (coll, object) = read_object(alloc, rest)?;
+    Ok(Said::of(What::Command(Command::OmapHeader { coll, object })))
 }
 
 /// What a line of several words says that begins with a word of attributes, of omaps or of a collection that goes.
-pub fn read_value_words(alloc: Global, word: &[u8], rest: &[u8]) -> Result<Option<Said>, AllocError>
+pub fn read_value_words(alloc: Global, word: &[u8], rest: &[u8]) -> Result<Said, WordFail>
     requires one { HasNo 0x20 word.now }
     requires later { IsLaterWord word.now }
-    ensures { IfOk result (Reads (word.now ++ (0x20 ∷ rest.now))) }
+    ensures { Finds (IsLineOf (word.now ++ (0x20 ∷ rest.now))) result }
 {
-    if word == b"rmcoll".as_slice() {
+    if is_text(word, b"rmcoll") {
         read_rmcoll(alloc, rest)
-    } else if word == b"setattr".as_slice() {
+    } else if is_text(word, b"setattr") {
         read_setattr(alloc, rest)
-    } else if word == b"rmattr".as_slice() {
+    } else if is_text(word, b"rmattr") {
         read_rmattr(alloc, rest)
-    } else if word == b"rmattrs".as_slice() {
+    } else if is_text(word, b"rmattrs") {
         read_rmattrs(alloc, rest)
-    } else if word == b"omapset".as_slice() {
+    } else if is_text(word, b"omapset") {
         read_omapset(alloc, rest)
-    } else if word == b"omaprm".as_slice() {
+    } else if is_text(word, b"omaprm") {
         read_omaprm(alloc, rest)
-    } else if word == b"omaprmrange".as_slice() {
+    } else if is_text(word, b"omaprmrange") {
         read_omaprmrange(alloc, rest)
-    } else if word == b"omapclear".as_slice() {
+    } else if is_text(word, b"omapclear") {
         read_omapclear(alloc, rest)
-    } else if word == b"omapheader".as_slice() {
+    } else if is_text(word, b"omapheader") {
         read_omapheader(alloc, rest)
-    } else if word == b"getattr".as_slice() {
+    } else if is_text(word, b"getattr") {
         read_getattr(alloc, rest)
-    } else if word == b"omapget".as_slice() {
+    } else if is_text(word, b"omapget") {
         read_omapget(alloc, rest)
-    } else if word == b"omaphdr".as_slice() {
+    } else if is_text(word, b"omaphdr") {
         read_omaphdr(alloc, rest)
     } else {
-        Ok(None)
+        Err(WordFail::NotSpelled)
     }
 }

@@ -17,7 +17,7 @@ bytes-preserved c =
     c.in-Some.ensures.0 c.in-Some.ensures.1 c.in_ok-push.ensures.items
 
 pub returns-then-not-is_empty : goal.returns-then-not-is_empty
-returns-then-not-is_empty c name are is =
+returns-then-not-is_empty c same name are is =
     let some : c.bytes.rest.now ≢ [] = search rules in
     read_no_more escape escape_code c.args.word.now c.bytes.bytes.items c.bytes.rest.now name c.bytes.invariant some c.in_default.ensures are is
 

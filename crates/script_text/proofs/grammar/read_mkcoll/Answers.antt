@@ -1,12 +1,9 @@
+use Rattle.script_text.proofs.Finding.{handed_on}
 use Rattle.script_text.proofs.Forms.{mkcoll_says, mkcoll_line}
 use Rattle.script_text.proofs.grammar.read_mkcoll.Goals as goal
 
-pub returns-in_default : goal.returns-in_default
-returns-in_default c what line =
-    let unnamed = rw c.in_default.is at c.in_ok-coll.ensures in
-    unnamed (mkcoll_says c.args.rest.now what line)
+pub returns-in_err-coll : goal.returns-in_err-coll
+returns-in_err-coll c = handed_on _ _ _ _ c.from_residual.ensures c.in_err-coll.ensures (mkcoll_says c.args.rest.now)
 
 pub returns : goal.returns
-returns c =
-    let coll = rw c.in-Some.is at c.in_ok-coll.ensures in
-    mkcoll_line c.args.rest.now c.in-Some.coll c.op.result coll.0 coll.1 c.op.ensures
+returns c = mkcoll_line c.args.rest.now c.in_ok-coll.coll c.op.result c.in_ok-coll.ensures.0 c.in_ok-coll.ensures.1 c.op.ensures

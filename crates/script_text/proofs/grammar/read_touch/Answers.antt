@@ -1,13 +1,11 @@
+use Rattle.script_text.proofs.Finding.{handed_on}
 use Rattle.script_text.proofs.Forms.{touch_says, touch_line}
 use Rattle.script_text.proofs.grammar.read_touch.Goals as goal
 
-pub returns-in_default : goal.returns-in_default
-returns-in_default c what line =
-    let unnamed = rw c.in_default.is at c.in_ok-coll.ensures in
-    let of = touch_says c.args.rest.now what line in
-    unnamed of.coll of.object of.names
+pub returns-in_err-coll : goal.returns-in_err-coll
+returns-in_err-coll c =
+    handed_on _ _ _ _ c.from_residual.ensures c.in_err-coll.ensures (touch_says c.args.rest.now)
 
 pub returns : goal.returns
 returns c =
-    let names = rw c.in-Some.is at c.in_ok-coll.ensures in
-    touch_line c.args.rest.now c.in-Some.coll c.in-Some.object c.op.result names c.op.ensures
+    touch_line c.args.rest.now c.in_ok-coll.coll c.in_ok-coll.object c.op.result c.in_ok-coll.ensures c.op.ensures

@@ -17,9 +17,9 @@ bytes-preserved c =
     c.in-Some.ensures.0 c.in-Some.ensures.1 c.in_ok-push.ensures.items
 
 pub returns-then-not-is_empty : goal.returns-then-not-is_empty
-returns-then-not-is_empty c name are is =
+returns-then-not-is_empty c same name both =
     let some : c.bytes.rest.now ≢ [] = search rules in
-    read_no_more (hex_pair 0x61) (pair_code 0x61 (omega arith)) c.args.digits.now c.bytes.bytes.items c.bytes.rest.now name c.bytes.invariant some c.in_default.ensures are is
+    read_no_more (hex_pair 0x61) (pair_code 0x61 (omega arith)) c.args.digits.now c.bytes.bytes.items c.bytes.rest.now name c.bytes.invariant some c.in_default.ensures both.0 both.1
 
 pub returns : goal.returns
 returns c =

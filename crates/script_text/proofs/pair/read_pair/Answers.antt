@@ -1,7 +1,5 @@
-use Rattle.std.proofs.Common.{◌≡◌, None, Some}
+use Rattle.script_text.proofs.Finding.{handed_on}
 use Rattle.script_text.proofs.pair.read_pair.Goals as goal
 
-pub returns-in_default-2 : goal.returns-in_default-2
-returns-in_default-2 c p is =
-    let unread = rw c.in_default-2.is at c.in_ok-value.ensures.read in
-    let never : None ≡ Some p.value = unread p.value is.holds in absurd cc
+pub returns-in_err-key : goal.returns-in_err-key
+returns-in_err-key c = handed_on _ _ _ _ c.from_residual.ensures c.in_err-key.ensures (λ p is. (p.key, is.names))

@@ -1,29 +1,20 @@
-use Rattle.std.proofs.Common.{◌≡◌, None, Some}
+use Rattle.std.proofs.Common.{refl}
+use Rattle.script_text.proofs.Finding.{handed_on, found_both}
 use Rattle.script_text.proofs.ValueForms.{no_attr, attr_words, attr_named}
 use Rattle.script_text.proofs.values.read_attr.Goals as goal
 
 pub returns-in_default : goal.returns-in_default
-returns-in_default c coll object name value is = no_attr c.args.text.now coll object name value c.in_default.ensures is
+returns-in_default c same x is = no_attr c.args.text.now x.0.0 x.0.1 x.1.key x.1.value c.in_default.ensures is
 
-pub returns-in_default-2 : goal.returns-in_default-2
-returns-in_default-2 c coll object name value is =
-    let unnamed = rw c.in_default-2.is at c.in_ok-coll.ensures in
-    let words = attr_words c.args.text.now c.in-Some.coll.now c.in-Some.object.now c.in-Some.name.now c.in-Some.value.now coll object name value c.in-Some.ensures.0 c.in-Some.ensures.1 is in
-    unnamed object words.0 words.1
-
-pub returns-in_default-3 : goal.returns-in_default-3
-returns-in_default-3 c coll object name value is =
-    let unnamed = rw c.in_default-3.is at c.in_ok-name.ensures in
-    unnamed name (attr_words c.args.text.now c.in-Some.coll.now c.in-Some.object.now c.in-Some.name.now c.in-Some.value.now coll object name value c.in-Some.ensures.0 c.in-Some.ensures.1 is).2
-
-pub returns-in_default-4 : goal.returns-in_default-4
-returns-in_default-4 c coll object name value is =
-    let unread = rw c.in_default-4.is at c.in_ok-value.ensures.read in
-    let never : None ≡ Some value = unread value (attr_words c.args.text.now c.in-Some.coll.now c.in-Some.object.now c.in-Some.name.now c.in-Some.value.now coll object name value c.in-Some.ensures.0 c.in-Some.ensures.1 is).3 in absurd cc
+pub returns-in_err-names : goal.returns-in_err-names
+returns-in_err-names c =
+    handed_on _ _ _ _ c.from_residual.ensures c.in_err-names.ensures (λ x is.
+    let words = attr_words c.args.text.now c.in-Some.coll.now c.in-Some.object.now c.in-Some.name.now c.in-Some.value.now x.0.0 x.0.1 x.1.key x.1.value c.in-Some.ensures.0 c.in-Some.ensures.1 is in
+    ((c.in-Some.coll.now, x.0.1), (refl, words.0, words.1)))
 
 pub returns : goal.returns
 returns c =
-    let both = rw c.in-Some-2.is at c.in_ok-coll.ensures in
-    let name = rw c.in-Some-3.is at c.in_ok-name.ensures in
-    let value = rw c.in-Some-4.is at c.in_ok-value.ensures.spelled in
-    attr_named c.args.text.now c.in-Some.coll.now c.in-Some.object.now c.in-Some.name.now c.in-Some.value.now c.in-Some-2.coll c.in-Some-2.object c.in-Some-3.name c.in-Some-4.value c.in-Some.ensures.1 both.0 both.1 both.2 name value
+    let both = c.in_ok-names.ensures in
+    found_both _ _ c.in_ok-names.names c.read_pair.result c.both.result c.both.ensures
+    (λ y read. attr_named c.args.text.now c.in-Some.coll.now c.in-Some.object.now c.in-Some.name.now c.in-Some.value.now c.in_ok-names.names.0 c.in_ok-names.names.1 y.key y.value c.in-Some.ensures.1 both.0 both.1 both.2 read.names read.holds)
+    (λ x is. let words = attr_words c.args.text.now c.in-Some.coll.now c.in-Some.object.now c.in-Some.name.now c.in-Some.value.now x.0.0 x.0.1 x.1.key x.1.value c.in-Some.ensures.0 c.in-Some.ensures.1 is in (x.1, record { names = words.2; holds = words.3 })) c.read_pair.ensures

@@ -1,23 +1,17 @@
-use Rattle.std.proofs.Common.{◌≡◌, None, Some}
+use Rattle.std.proofs.Common.{refl}
+use Rattle.script_text.proofs.Finding.{found_as}
 use Rattle.script_text.proofs.ValueForms.{no_header, header_words, header_named}
 use Rattle.script_text.proofs.values.read_header.Goals as goal
 
 pub returns-in_default : goal.returns-in_default
-returns-in_default c coll object value is = no_header c.args.text.now coll object value c.in_default.ensures is
-
-pub returns-in_default-2 : goal.returns-in_default-2
-returns-in_default-2 c coll object value is =
-    let unnamed = rw c.in_default-2.is at c.in_ok-coll.ensures in
-    let words = header_words c.args.text.now c.in-Some.coll.now c.in-Some.object.now c.in-Some.value.now coll object value c.in-Some.ensures.0 c.in-Some.ensures.1 is in
-    unnamed object words.0 words.1
-
-pub returns-in_default-3 : goal.returns-in_default-3
-returns-in_default-3 c coll object value is =
-    let unread = rw c.in_default-3.is at c.in_ok-value.ensures.read in
-    let never : None ≡ Some value = unread value (header_words c.args.text.now c.in-Some.coll.now c.in-Some.object.now c.in-Some.value.now coll object value c.in-Some.ensures.0 c.in-Some.ensures.1 is).2 in absurd cc
+returns-in_default c same x is = no_header c.args.text.now x.0.0 x.0.1 x.1 c.in_default.ensures is
 
 pub returns : goal.returns
 returns c =
-    let both = rw c.in-Some-2.is at c.in_ok-coll.ensures in
-    let value = rw c.in-Some-3.is at c.in_ok-value.ensures.spelled in
-    header_named c.args.text.now c.in-Some.coll.now c.in-Some.object.now c.in-Some.value.now c.in-Some-2.coll c.in-Some-2.object c.in-Some-3.value c.in-Some.ensures.1 both.0 both.1 both.2 value
+    let text = c.args.text.now in
+    let a = c.in-Some.coll.now in
+    let b = c.in-Some.object.now in
+    let v = c.in-Some.value.now in
+    found_as _ _ c.read_names_and_data.result (λ x are. header_named text a b v x.0.0 x.0.1 x.1 c.in-Some.ensures.1 are.0 are.1 are.2 are.3)
+    (λ x is. let words = header_words text a b v x.0.0 x.0.1 x.1 c.in-Some.ensures.0 c.in-Some.ensures.1 is in (((a, x.0.1), x.1), (refl, words.0, words.1, words.2)))
+    c.read_names_and_data.ensures

@@ -1,24 +1,23 @@
+use Rattle.std.proofs.Common.{refl}
 use Rattle.script_text.specs.Prelude.{in_words}
+use Rattle.script_text.proofs.Finding.{handed_on, found_both}
 use Rattle.script_text.proofs.Lists.{keys_stand, keys_parts, keys_named}
 use Rattle.script_text.proofs.values.read_key_list.Goals as goal
 
 pub returns-in_default : goal.returns-in_default
-returns-in_default c coll object keys is = c.in_default.ensures coll is.are.object_word (in_words is.are.key_words) (keys_stand c.args.text.now coll object keys is)
+returns-in_default c same x is =
+    c.in_default.ensures x.0.0 is.are.object_word (in_words is.are.key_words) (keys_stand c.args.text.now x.0.0 x.0.1 x.1 is)
 
-pub returns-in_default-2 : goal.returns-in_default-2
-returns-in_default-2 c coll object keys is =
-    let unnamed = rw c.in_default-2.is at c.in_ok-coll.ensures in
-    let words = keys_parts c.args.text.now c.in-Some.coll.now c.in-Some.object.now c.in-Some.rest.now coll object keys c.in-Some.ensures is in
-    unnamed object words.named words.names
-
-pub returns-in_default-3 : goal.returns-in_default-3
-returns-in_default-3 c coll object keys is =
-    let unread = rw c.in_default-3.is at c.in_ok-keys.ensures in
-    unread keys (keys_parts c.args.text.now c.in-Some.coll.now c.in-Some.object.now c.in-Some.rest.now coll object keys c.in-Some.ensures is).spells
+pub returns-in_err-names : goal.returns-in_err-names
+returns-in_err-names c =
+    handed_on _ _ _ _ c.from_residual.ensures c.in_err-names.ensures (λ x is.
+    let words = keys_parts c.args.text.now c.in-Some.coll.now c.in-Some.object.now c.in-Some.rest.now x.0.0 x.0.1 x.1 c.in-Some.ensures is in
+    ((c.in-Some.coll.now, x.0.1), (refl, words.named, words.names)))
 
 pub returns : goal.returns
 returns c =
-    let both = rw c.in-Some-2.is at c.in_ok-coll.ensures in
-    let keys = rw c.in-Some-3.is at c.in_ok-keys.ensures in
-    keys_named c.args.text.now c.in-Some.coll.now c.in-Some.object.now c.in-Some.rest.now c.in-Some-2.coll c.in-Some-2.object c.in-Some-3.keys
-    c.in-Some.ensures both.0 both.1 both.2 keys
+    let both = c.in_ok-names.ensures in
+    found_both _ _ c.in_ok-names.names c.read_keys.result c.both.result c.both.ensures
+    (λ y read. keys_named c.args.text.now c.in-Some.coll.now c.in-Some.object.now c.in-Some.rest.now c.in_ok-names.names.0 c.in_ok-names.names.1 y
+    c.in-Some.ensures both.0 both.1 both.2 read)
+    (λ x is. (x.1, (keys_parts c.args.text.now c.in-Some.coll.now c.in-Some.object.now c.in-Some.rest.now x.0.0 x.0.1 x.1 c.in-Some.ensures is).spells)) c.read_keys.ensures

@@ -1,28 +1,20 @@
+use Rattle.std.proofs.Common.{refl}
+use Rattle.script_text.proofs.Finding.{handed_on, found_both}
 use Rattle.script_text.proofs.ValueForms.{no_key_range, key_range_words, key_range_named}
 use Rattle.script_text.proofs.values.read_key_range.Goals as goal
 
 pub returns-in_default : goal.returns-in_default
-returns-in_default c coll object first last is = no_key_range c.args.text.now coll object first last c.in_default.ensures is
+returns-in_default c same x is = no_key_range c.args.text.now x.0.0 x.0.1 x.1.0 x.1.1 c.in_default.ensures is
 
-pub returns-in_default-2 : goal.returns-in_default-2
-returns-in_default-2 c coll object first last is =
-    let unnamed = rw c.in_default-2.is at c.in_ok-coll.ensures in
-    let words = key_range_words c.args.text.now c.in-Some.coll.now c.in-Some.object.now c.in-Some.first.now c.in-Some.last.now coll object first last c.in-Some.ensures.0 c.in-Some.ensures.1 is in
-    unnamed object words.0 words.1
-
-pub returns-in_default-3 : goal.returns-in_default-3
-returns-in_default-3 c coll object first last is =
-    let unnamed = rw c.in_default-3.is at c.in_ok-first.ensures in
-    unnamed first (key_range_words c.args.text.now c.in-Some.coll.now c.in-Some.object.now c.in-Some.first.now c.in-Some.last.now coll object first last c.in-Some.ensures.0 c.in-Some.ensures.1 is).2
-
-pub returns-in_default-4 : goal.returns-in_default-4
-returns-in_default-4 c coll object first last is =
-    let unnamed = rw c.in_default-4.is at c.in_ok-last.ensures in
-    unnamed last (key_range_words c.args.text.now c.in-Some.coll.now c.in-Some.object.now c.in-Some.first.now c.in-Some.last.now coll object first last c.in-Some.ensures.0 c.in-Some.ensures.1 is).3
+pub returns-in_err-names : goal.returns-in_err-names
+returns-in_err-names c =
+    handed_on _ _ _ _ c.from_residual.ensures c.in_err-names.ensures (λ x is.
+    let words = key_range_words c.args.text.now c.in-Some.coll.now c.in-Some.object.now c.in-Some.first.now c.in-Some.last.now x.0.0 x.0.1 x.1.0 x.1.1 c.in-Some.ensures.0 c.in-Some.ensures.1 is in
+    ((c.in-Some.coll.now, x.0.1), (refl, words.0, words.1)))
 
 pub returns : goal.returns
 returns c =
-    let both = rw c.in-Some-2.is at c.in_ok-coll.ensures in
-    let first = rw c.in-Some-3.is at c.in_ok-first.ensures in
-    let last = rw c.in-Some-4.is at c.in_ok-last.ensures in
-    key_range_named c.args.text.now c.in-Some.coll.now c.in-Some.object.now c.in-Some.first.now c.in-Some.last.now c.in-Some-2.coll c.in-Some-2.object c.in-Some-3.first c.in-Some-4.last c.in-Some.ensures.1 both.0 both.1 both.2 first last
+    let both = c.in_ok-names.ensures in
+    found_both _ _ c.in_ok-names.names c.read_two_keys.result c.both.result c.both.ensures
+    (λ y read. key_range_named c.args.text.now c.in-Some.coll.now c.in-Some.object.now c.in-Some.first.now c.in-Some.last.now c.in_ok-names.names.0 c.in_ok-names.names.1 y.0 y.1 c.in-Some.ensures.1 both.0 both.1 both.2 read.0 read.1)
+    (λ x is. let words = key_range_words c.args.text.now c.in-Some.coll.now c.in-Some.object.now c.in-Some.first.now c.in-Some.last.now x.0.0 x.0.1 x.1.0 x.1.1 c.in-Some.ensures.0 c.in-Some.ensures.1 is in (x.1, (words.2, words.3))) c.read_two_keys.ensures

@@ -1,10 +1,11 @@
-use Rattle.script_text.proofs.ValueForms.{omaphdr_none, omaphdr_line}
+use Rattle.script_text.proofs.Finding.{handed_on}
+use Rattle.script_text.proofs.ValueForms.{omaphdr_says, omaphdr_line}
 use Rattle.script_text.proofs.values.read_omaphdr.Goals as goal
 
-pub returns-in_default : goal.returns-in_default
-returns-in_default c what line = omaphdr_none c.args.rest.now what (rw c.in_default.is at c.in_ok-coll.ensures) line
+pub returns-in_err-coll : goal.returns-in_err-coll
+returns-in_err-coll c =
+    handed_on _ _ _ _ c.from_residual.ensures c.in_err-coll.ensures (omaphdr_says c.args.rest.now)
 
 pub returns : goal.returns
 returns c =
-    let names = rw c.in-Some.is at c.in_ok-coll.ensures in
-    rw c.of.ensures (omaphdr_line c.args.rest.now c.in-Some.coll c.in-Some.object names)
+    rw c.of.ensures (omaphdr_line c.args.rest.now c.in_ok-coll.coll c.in_ok-coll.object c.in_ok-coll.ensures)

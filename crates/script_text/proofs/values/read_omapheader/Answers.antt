@@ -1,14 +1,15 @@
 use Rattle.std.proofs.Common.{ap, ◌∙◌}
 use Rattle.object_model.specs.declared.op.Op.{Op}
 use Rattle.script_text.specs.Prelude.{op_line}
-use Rattle.script_text.proofs.ValueForms.{omapheader_none, omapheader_line}
+use Rattle.script_text.proofs.Finding.{handed_on}
+use Rattle.script_text.proofs.ValueForms.{omapheader_says, omapheader_line}
 use Rattle.script_text.proofs.values.read_omapheader.Goals as goal
 
-pub returns-in_default : goal.returns-in_default
-returns-in_default c what line = omapheader_none c.args.rest.now what (rw c.in_default.is at c.in_ok-coll.ensures) line
+pub returns-in_err-coll : goal.returns-in_err-coll
+returns-in_err-coll c =
+    handed_on _ _ _ _ c.from_residual.ensures c.in_err-coll.ensures (omapheader_says c.args.rest.now)
 
 pub returns : goal.returns
 returns c =
-    let names = rw c.in-Some.is at c.in_ok-coll.ensures in
-    omapheader_line c.args.rest.now c.in-Some.coll c.in-Some.object c.in-Some.value c.kept_op.result names
-    (c.kept_op.ensures ∙ ap (λ (o : Op). op_line c.in-Some.coll o) c.omap_header-op.ensures)
+    omapheader_line c.args.rest.now c.in_ok-coll.coll c.in_ok-coll.object c.in_ok-coll.value c.kept_op.result c.in_ok-coll.ensures
+    (c.kept_op.ensures ∙ ap (λ (o : Op). op_line c.in_ok-coll.coll o) c.omap_header-op.ensures)

@@ -1,24 +1,23 @@
+use Rattle.std.proofs.Common.{refl}
 use Rattle.script_text.specs.Prelude.{in_words}
+use Rattle.script_text.proofs.Finding.{handed_on, found_both}
 use Rattle.script_text.proofs.Lists.{pairs_stand, pairs_parts, pairs_named}
 use Rattle.script_text.proofs.values.read_pair_list.Goals as goal
 
 pub returns-in_default : goal.returns-in_default
-returns-in_default c coll object pairs is = c.in_default.ensures coll is.are.object_word (in_words is.are.pair_words) (pairs_stand c.args.text.now coll object pairs is)
+returns-in_default c same x is =
+    c.in_default.ensures x.0.0 is.are.object_word (in_words is.are.pair_words) (pairs_stand c.args.text.now x.0.0 x.0.1 x.1 is)
 
-pub returns-in_default-2 : goal.returns-in_default-2
-returns-in_default-2 c coll object pairs is =
-    let unnamed = rw c.in_default-2.is at c.in_ok-coll.ensures in
-    let words = pairs_parts c.args.text.now c.in-Some.coll.now c.in-Some.object.now c.in-Some.rest.now coll object pairs c.in-Some.ensures is in
-    unnamed object words.named words.names
-
-pub returns-in_default-3 : goal.returns-in_default-3
-returns-in_default-3 c coll object pairs is =
-    let unread = rw c.in_default-3.is at c.in_ok-pairs.ensures in
-    unread pairs (pairs_parts c.args.text.now c.in-Some.coll.now c.in-Some.object.now c.in-Some.rest.now coll object pairs c.in-Some.ensures is).spells
+pub returns-in_err-names : goal.returns-in_err-names
+returns-in_err-names c =
+    handed_on _ _ _ _ c.from_residual.ensures c.in_err-names.ensures (λ x is.
+    let words = pairs_parts c.args.text.now c.in-Some.coll.now c.in-Some.object.now c.in-Some.rest.now x.0.0 x.0.1 x.1 c.in-Some.ensures is in
+    ((c.in-Some.coll.now, x.0.1), (refl, words.named, words.names)))
 
 pub returns : goal.returns
 returns c =
-    let both = rw c.in-Some-2.is at c.in_ok-coll.ensures in
-    let pairs = rw c.in-Some-3.is at c.in_ok-pairs.ensures in
-    pairs_named c.args.text.now c.in-Some.coll.now c.in-Some.object.now c.in-Some.rest.now c.in-Some-2.coll c.in-Some-2.object c.in-Some-3.pairs
-    c.in-Some.ensures both.0 both.1 both.2 pairs
+    let both = c.in_ok-names.ensures in
+    found_both _ _ c.in_ok-names.names c.read_pairs.result c.both.result c.both.ensures
+    (λ y read. pairs_named c.args.text.now c.in-Some.coll.now c.in-Some.object.now c.in-Some.rest.now c.in_ok-names.names.0 c.in_ok-names.names.1 y
+    c.in-Some.ensures both.0 both.1 both.2 read)
+    (λ x is. (x.1, (pairs_parts c.args.text.now c.in-Some.coll.now c.in-Some.object.now c.in-Some.rest.now x.0.0 x.0.1 x.1 c.in-Some.ensures is).spells)) c.read_pairs.ensures

@@ -1,14 +1,15 @@
 use Rattle.std.proofs.Common.{ap, ◌∙◌}
 use Rattle.object_model.specs.declared.op.Op.{Op}
 use Rattle.script_text.specs.Prelude.{op_line}
-use Rattle.script_text.proofs.ValueForms.{setattr_none, setattr_line}
+use Rattle.script_text.proofs.Finding.{handed_on}
+use Rattle.script_text.proofs.ValueForms.{setattr_says, setattr_line}
 use Rattle.script_text.proofs.values.read_setattr.Goals as goal
 
-pub returns-in_default : goal.returns-in_default
-returns-in_default c what line = setattr_none c.args.rest.now what (rw c.in_default.is at c.in_ok-coll.ensures) line
+pub returns-in_err-coll : goal.returns-in_err-coll
+returns-in_err-coll c =
+    handed_on _ _ _ _ c.from_residual.ensures c.in_err-coll.ensures (setattr_says c.args.rest.now)
 
 pub returns : goal.returns
 returns c =
-    let names = rw c.in-Some.is at c.in_ok-coll.ensures in
-    setattr_line c.args.rest.now c.in-Some.coll c.in-Some.object c.in-Some.name c.in-Some.value c.kept_op.result names
-    (c.kept_op.ensures ∙ ap (λ (o : Op). op_line c.in-Some.coll o) c.set_attr-op.ensures)
+    setattr_line c.args.rest.now c.in_ok-coll.coll c.in_ok-coll.object c.in_ok-coll.pair.key c.in_ok-coll.pair.value c.kept_op.result c.in_ok-coll.ensures
+    (c.kept_op.ensures ∙ ap (λ (o : Op). op_line c.in_ok-coll.coll o) c.set_attr-op.ensures)

@@ -1,11 +1,10 @@
-use Rattle.std.proofs.Common.{rules, ◌≡◌, ◌≢◌, ℕ, List, ◌∷◌, ◌++◌, sym, subst}
-use Rattle.std.specs.Prelude.{codes, IfOk}
-use Rattle.script_text.specs.Prelude.{Reads}
+use Rattle.std.proofs.Common.{rules, ◌≢◌}
+use Rattle.std.specs.Prelude.{codes}
 use Rattle.script_text.proofs.Forms.{no_line}
 use Rattle.script_text.proofs.values.read_value_words.Goals as goal
 
-pub returns-else-eq-12 : goal.returns-else-eq-12
-returns-else-eq-12 c what line =
+pub returns-else-is_text-12 : goal.returns-else-is_text-12
+returns-else-is_text-12 c same what line =
     let later = c.requires.later in
     let no_rmcoll : c.args.word.now ≢ codes "rmcoll" = search rules in
     let no_setattr : c.args.word.now ≢ codes "setattr" = search rules in
@@ -45,13 +44,3 @@ returns-else-eq-12 c what line =
       no_omaphdr = no_omaphdr;
       no_list = later.no_list;
     }) line
-
-pub returns-then-eq-7 : goal.returns-then-eq-7
-returns-then-eq-7 c =
-    let is : c.args.word.now ≡ codes "omaprmrange" = search rules in
-    subst (λ (w : List ℕ). IfOk c.read_omaprmrange.result (Reads (w ++ (0x20 ∷ c.args.rest.now)))) (sym is) c.read_omaprmrange.ensures
-
-pub returns-then-eq-9 : goal.returns-then-eq-9
-returns-then-eq-9 c =
-    let is : c.args.word.now ≡ codes "omapheader" = search rules in
-    subst (λ (w : List ℕ). IfOk c.read_omapheader.result (Reads (w ++ (0x20 ∷ c.args.rest.now)))) (sym is) c.read_omapheader.ensures

@@ -1,5 +1,5 @@
 -- Operations read from the front of bytes, field by field.
-use Rattle.std.proofs.Common.{◌≡◌, ◌≢◌, ℕ, List, [], ◌∷◌, ◌++◌, length, sym, ap, ◌∙◌, subst, refl, append_assoc, arith, Result, Ok, Err, IsErr, IsErrAnd}
+use Rattle.std.proofs.Common.{◌≡◌, ◌≢◌, ℕ, List, [], ◌∷◌, ◌++◌, length, sym, ap, ◌∙◌, subst, refl, append_assoc, arith, Result, Ok, Err, IsErr, IsErrAnd, MatchResult}
 use Rattle.std.specs.List.{flat_map, AllByRecursion}
 use Rattle.unit_fields.specs.Prelude.{IsName}
 use Rattle.meta_rows.specs.Prelude.{value_bytes, IsValue, BeginsWithNo, Reads}
@@ -11,10 +11,14 @@ use Rattle.txn_codec.proofs.Fronts.{rest_of, first_of_two, name_front}
 use Rattle.txn_codec.proofs.OpFronts.{Kind, OfName, OfNumber, OfValue, OfKeys, OfPairs, kind_of, kinds_of, kinds, kinds_at, field_front, regroup, first_kind, other_kinds}
 
 -- why a part wasn't read is why the whole wasn't
+pub passed_on : {X : Type 0} (Found : X → Type 0) (Missing : Type 0) (r : Result X ReadFail) (why : ReadFail) → IsErr r × IsErrAnd r (λ e. e ≡ why)
+    → (why ≡ NotSpelled → Missing) → MatchResult r Found (λ e. e ≡ NotSpelled → Missing)
+passed_on Found Missing (Ok x) why is none = absurd is.1
+passed_on Found Missing (Err e) why is none = λ same. none (sym is.1 ∙ same)
+
 pub handed_on : {X : Type 0} (Fits : X → Type 0) (spelling : X → List ℕ) (old new : List ℕ) (r : Result X ReadFail) (why : ReadFail)
     → IsErr r × IsErrAnd r (λ e. e ≡ why) → (why ≡ NotSpelled → BeginsWithNo Fits spelling old) → Gives Fits spelling old new r
-handed_on Fits spelling old new (Ok x) why is none = absurd is.1
-handed_on Fits spelling old new (Err e) why is none = λ same. none (sym is.1 ∙ same)
+handed_on Fits spelling old new r why is none = passed_on (Reads Fits spelling old new) (BeginsWithNo Fits spelling old) r why is none
 
 -- behind a key there is no value, so no pair stands there
 pub pair_missing : (old mid key : List ℕ) → Reads IsName name_bytes old mid key → BeginsWithNo IsValue value_bytes mid

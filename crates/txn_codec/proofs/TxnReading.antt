@@ -7,7 +7,7 @@ use Rattle.unit_fields.specs.Prelude.{IsCollName}
 use Rattle.meta_rows.specs.Prelude.{BeginsWithNo, Reads}
 use Rattle.object_model.specs.Prelude.{Change}
 use Rattle.object_model.specs.declared.op.Op.{Op}
-use Rattle.txn_codec.specs.Prelude.{name_bytes, count_bytes, list_bytes, op_bytes, transaction_bytes, IsCount, FitList, FitsOp, FitsTransaction}
+use Rattle.txn_codec.specs.Prelude.{name_bytes, count_bytes, list_bytes, op_bytes, transaction_bytes, AddsOp, IsCount, FitList, FitsOp, FitsTransaction, HasNoFirst, ReadsBody, ReadsFirst}
 use Rattle.txn_codec.proofs.Fronts.{rest_of, name_front, list_missing, count_missing}
 use Rattle.txn_codec.proofs.OpFronts.{op_free}
 
@@ -19,55 +19,56 @@ ops_missing old mid coll is none t rest fits e =
     none t.ops rest fits.ops
     (name_front coll t.coll mid (list_bytes op_bytes t.ops ++ rest) (sym is ∙ body ∙ append_assoc (name_bytes t.coll) (list_bytes op_bytes t.ops) rest)).1
 
-pub no_count : (old mid coll : List ℕ) → Reads IsCollName name_bytes old mid coll → BeginsWithNo IsCount count_bytes mid
-    → BeginsWithNo FitsTransaction transaction_bytes (1 ∷ old)
-no_count old mid coll read none = ops_missing old mid coll read.spelled (count_missing FitsOp op_bytes op_free mid none)
+pub no_count : (mid : List ℕ) → BeginsWithNo IsCount count_bytes mid → HasNoFirst mid
+no_count mid none = count_missing FitsOp op_bytes op_free mid none
 
-pub no_first : (old mid behind coll : List ℕ) (count : ℕ) → Reads IsCollName name_bytes old mid coll → Reads IsCount count_bytes mid behind count
-    → BeginsWithNo FitsOp op_bytes behind → BeginsWithNo FitsTransaction transaction_bytes (1 ∷ old)
-no_first old mid behind coll count read counted none =
-    ops_missing old mid coll read.spelled
-    (list_missing FitsOp op_bytes op_free count [] mid behind behind counted.fits counted.spelled counted.fits.some tt refl none)
+pub no_first : (mid behind : List ℕ) (count : ℕ) → Reads IsCount count_bytes mid behind count → BeginsWithNo FitsOp op_bytes behind → HasNoFirst mid
+no_first mid behind count counted none =
+    list_missing FitsOp op_bytes op_free count [] mid behind behind counted.fits counted.spelled counted.fits.some tt refl none
 
--- so many operations were read
-pub record ReadsBody (old : List ℕ) (count i : ℕ) (t : Change) (left : List ℕ) : Type 0 where
-  pub coll : IsCollName t.coll
-  pub is_count : IsCount count
-  pub size : length t.ops ≡ i
-  pub fit : AllByRecursion FitsOp t.ops
-  pub spelled : old ≡ name_bytes t.coll ++ (count_bytes count ++ (flat_map op_bytes t.ops ++ left))
+pub no_begin : (old mid coll : List ℕ) → Reads IsCollName name_bytes old mid coll → HasNoFirst mid → BeginsWithNo FitsTransaction transaction_bytes (1 ∷ old)
+no_begin old mid coll read none = ops_missing old mid coll read.spelled none
+
+pub no_coll : (old : List ℕ) → BeginsWithNo IsCollName name_bytes old → BeginsWithNo FitsTransaction transaction_bytes (1 ∷ old)
+no_coll old none t rest fits e =
+    none t.coll (list_bytes op_bytes t.ops ++ rest) fits.coll
+    (rest_of 1 1 old ((name_bytes t.coll ++ list_bytes op_bytes t.ops) ++ rest) e ∙ append_assoc (name_bytes t.coll) (list_bytes op_bytes t.ops) rest)
 
 one_op : (op : Op) (left : List ℕ) → op_bytes op ++ left ≡ flat_map op_bytes (op ∷ []) ++ left
 one_op op left = ap (λ (l : List ℕ). l ++ left) (sym (flat_map-cons op_bytes op [] ∙ append-nil (op_bytes op)))
 
-pub begun : (old mid behind left coll : List ℕ) (count : ℕ) (first : Op) (t : Change) → Reads IsCollName name_bytes old mid coll
-    → Reads IsCount count_bytes mid behind count → Reads FitsOp op_bytes behind left first → t ≡ record { coll = coll; ops = first ∷ [] }
-    → ReadsBody old count 1 t left
-begun old mid behind left coll count first t named counted read is = subst (λ (s : Change). ReadsBody old count 1 s left) (sym is) (record {
-  coll = named.fits;
-  is_count = counted.fits;
-  size = refl;
-  fit = (read.fits, tt);
-  spelled = named.spelled ∙ ap (λ (l : List ℕ). name_bytes coll ++ l)
-      (counted.spelled ∙ ap (λ (l : List ℕ). count_bytes count ++ l) (read.spelled ∙ one_op first left));
-})
+pub begun : (old mid left coll : List ℕ) (count : ℕ) (first : Op) (t : Change) → Reads IsCollName name_bytes old mid coll
+    → ReadsFirst mid count first left → t ≡ record { coll = coll; ops = first ∷ [] } → ReadsBody old count 1 t left
+begun old mid left coll count first t named both is =
+    let counted = both.counted in
+    let read = both.read in
+    subst (λ (s : Change). ReadsBody old count 1 s left) (sym is) (record {
+      coll = named.fits;
+      is_count = counted.fits;
+      size = refl;
+      fit = (read.fits, tt);
+      spelled = named.spelled ∙ ap (λ (l : List ℕ). name_bytes coll ++ l)
+          (counted.spelled ∙ ap (λ (l : List ℕ). count_bytes count ++ l) (read.spelled ∙ one_op first left));
+    })
 
 fit_push : (ops : List Op) (op : Op) → AllByRecursion FitsOp ops → FitsOp op → AllByRecursion FitsOp (ops ++ op ∷ [])
 fit_push [] op all fits = (fits, tt)
 fit_push (o ∷ ops) op all fits = (all.0, fit_push ops op all.1 fits)
 
-pub one_more : (old mid left : List ℕ) (count i : ℕ) (t s : Change) (op : Op) → ReadsBody old count i t mid → Reads FitsOp op_bytes mid left op
-    → s ≡ record t { ops = t.ops ++ op ∷ [] } → ReadsBody old count (i + 1) s left
-one_more old mid left count i t s op body read is = subst (λ (u : Change). ReadsBody old count (i + 1) u left) (sym is) (record {
-  coll = body.coll;
-  is_count = body.is_count;
-  size = length_push t.ops op ∙ ap (λ (n : ℕ). n + 1) body.size;
-  fit = fit_push t.ops op body.fit read.fits;
-  spelled = body.spelled ∙ ap (λ (l : List ℕ). name_bytes t.coll ++ (count_bytes count ++ l))
-      (ap (λ (l : List ℕ). flat_map op_bytes t.ops ++ l) (read.spelled ∙ one_op op left)
-      ∙ sym (append_assoc (flat_map op_bytes t.ops) (flat_map op_bytes (op ∷ [])) left)
-      ∙ ap (λ (l : List ℕ). l ++ left) (sym (flat_map-append op_bytes t.ops (op ∷ []))));
-})
+pub one_more : (old mid left : List ℕ) (count i : ℕ) (t s : Change) → ReadsBody old count i t mid → AddsOp t mid s left → ReadsBody old count (i + 1) s left
+one_more old mid left count i t s body adds =
+    let op = adds.op in
+    let read = adds.read in
+    subst (λ (u : Change). ReadsBody old count (i + 1) u left) (sym adds.whole) (record {
+      coll = body.coll;
+      is_count = body.is_count;
+      size = length_push t.ops op ∙ ap (λ (n : ℕ). n + 1) body.size;
+      fit = fit_push t.ops op body.fit read.fits;
+      spelled = body.spelled ∙ ap (λ (l : List ℕ). name_bytes t.coll ++ (count_bytes count ++ l))
+          (ap (λ (l : List ℕ). flat_map op_bytes t.ops ++ l) (read.spelled ∙ one_op op left)
+          ∙ sym (append_assoc (flat_map op_bytes t.ops) (flat_map op_bytes (op ∷ [])) left)
+          ∙ ap (λ (l : List ℕ). l ++ left) (sym (flat_map-append op_bytes t.ops (op ∷ []))));
+    })
 
 -- where there are to be more, and none stands there
 pub no_other : (old left : List ℕ) (count i : ℕ) (t : Change) → ReadsBody old count i t left → i < count → BeginsWithNo FitsOp op_bytes left

@@ -1,15 +1,41 @@
 -- Transactions read from bytes.
-use Rattle.std.specs.Prelude.{◌≡◌, ℕ, List, ◌∷◌, ◌++◌, length, take, Result, MatchResult}
+use Rattle.std.specs.Prelude.{◌≡◌, ℕ, List, [], ◌∷◌, ◌++◌, length, take, Result, MatchResult}
 use Rattle.std.specs.List.{flat_map, AllByRecursion}
 use Rattle.meta_rows.specs.Prelude.{BeginsWithNo, Reads}
 use Rattle.object_model.specs.Prelude.{Change}
 use Rattle.txn_codec.specs.declared.fail.ReadFail.{ReadFail}
 use Rattle.txn_codec.specs.declared.fail.ReadFail.TheVariants.{NotSpelled}
-use Rattle.txn_codec.specs.Spelling.{Field, field_bytes, FitsField, transaction_bytes, FitsTransaction}
+use Rattle.unit_fields.specs.Prelude.{IsCollName}
+use Rattle.object_model.specs.declared.op.Op.{Op}
+use Rattle.txn_codec.specs.Spelling.{Field, field_bytes, name_bytes, count_bytes, list_bytes, op_bytes, IsCount, FitList, FitsField, FitsOp, transaction_bytes, FitsTransaction}
 
 -- one that fits was read from the front, or none stands there, or memory ran out
 abbrev pub Gives : {X : Type 0} → (X → Type 0) → (X → List ℕ) → List ℕ → List ℕ → Result X ReadFail → Type 0
 Gives Fits spelling old new result = MatchResult result (Reads Fits spelling old new) (λ why. why ≡ NotSpelled → BeginsWithNo Fits spelling old)
+
+-- the count of a transaction's operations and the first one were read from the front
+pub record ReadsFirst (old : List ℕ) (count : ℕ) (first : Op) (left : List ℕ) : Type 0 where
+  pub behind : List ℕ
+  pub counted : Reads IsCount count_bytes old behind count
+  pub read : Reads FitsOp op_bytes behind left first
+
+-- no operations with their count stand at the front
+abbrev pub HasNoFirst : List ℕ → Type 0
+HasNoFirst bytes = BeginsWithNo (FitList FitsOp) (list_bytes op_bytes) bytes
+
+-- so many operations of a transaction were read
+pub record ReadsBody (old : List ℕ) (count i : ℕ) (t : Change) (left : List ℕ) : Type 0 where
+  pub coll : IsCollName t.coll
+  pub is_count : IsCount count
+  pub size : length t.ops ≡ i
+  pub fit : AllByRecursion FitsOp t.ops
+  pub spelled : old ≡ name_bytes t.coll ++ (count_bytes count ++ (flat_map op_bytes t.ops ++ left))
+
+-- an operation was read from the front and put behind those of a transaction
+pub record AddsOp (t : Change) (old : List ℕ) (s : Change) (left : List ℕ) : Type 0 where
+  pub op : Op
+  pub read : Reads FitsOp op_bytes old left op
+  pub whole : s ≡ record t { ops = t.ops ++ op ∷ [] }
 
 -- one that fits was written behind what was there
 abbrev pub Adds : {X : Type 0} → (X → Type 0) → (X → List ℕ) → X → List ℕ → List ℕ → Type 0

@@ -1,4 +1,4 @@
-use Rattle.txn_codec.proofs.TxnReading.{ReadsBody}
+use Rattle.txn_codec.specs.Prelude.{ReadsBody}
 use Rattle.txn_codec.proofs.txn_reading.read_body.Given as goal
 
 abbrev pub invariant-ops : goal.invariant-ops

@@ -1,10 +1,10 @@
 -- Operations read from the front of bytes, field by field.
-use Rattle.std.proofs.Common.{◌≡◌, ◌≢◌, ℕ, List, [], ◌∷◌, ◌++◌, length, sym, ap, ◌∙◌, subst, refl, append_assoc, arith, Result, Ok, Err, IsErr, IsErrAnd, MatchResult}
+use Rattle.std.proofs.Common.{◌≡◌, ◌≢◌, inl, inr, ℕ, List, [], ◌∷◌, ◌++◌, length, sym, ap, ◌∙◌, subst, refl, append_assoc, arith, Result, Ok, Err, IsErr, IsErrAnd, MatchResult}
 use Rattle.std.specs.List.{flat_map, AllByRecursion}
 use Rattle.unit_fields.specs.Prelude.{IsName}
 use Rattle.meta_rows.specs.Prelude.{value_bytes, IsValue, BeginsWithNo, Reads}
 use Rattle.object_model.specs.declared.op.Op.{Op}
-use Rattle.txn_codec.specs.Prelude.{Field, Name, Number, Value, Keys, Pairs, code_of, fields_of, name_bytes, number_bytes, pair_bytes, list_bytes, field_bytes, op_bytes, IsNumber, Gives, FitsPair, FitList, FitsField, FitsOp}
+use Rattle.txn_codec.specs.Prelude.{Field, Name, Number, Value, Keys, Pairs, code_of, fields_of, name_bytes, number_bytes, pair_bytes, list_bytes, field_bytes, op_bytes, IsNumber, Gives, ReadsNames, LacksNames, FitsPair, FitList, FitsField, FitsOp}
 use Rattle.txn_codec.specs.declared.fail.ReadFail.{ReadFail}
 use Rattle.txn_codec.specs.declared.fail.ReadFail.TheVariants.{NotSpelled}
 use Rattle.txn_codec.proofs.Fronts.{rest_of, first_of_two, name_front}
@@ -83,6 +83,13 @@ past_name {ks} {old} {mid} {x} read none = past (Name x) ks old mid read.fits re
 pub past_number : {ks : List Kind} {old mid : List ℕ} {x : ℕ} → Reads IsNumber number_bytes old mid x → NoFields ks mid → NoFields (OfNumber ∷ ks) old
 past_number {ks} {old} {mid} {x} read none = past (Number x) ks old mid read.fits read.spelled none
 
+pub no_names : {ks : List Kind} {bytes : List ℕ} → LacksNames bytes → NoFields (OfName ∷ OfName ∷ ks) bytes
+no_names {ks} {bytes} (inl none) = no_name none
+no_names {ks} {bytes} (inr second) = past_name second.one (no_name second.none)
+
+pub past_names : {ks : List Kind} {old mid a b : List ℕ} → ReadsNames old a b mid → NoFields ks mid → NoFields (OfName ∷ OfName ∷ ks) old
+past_names {ks} {old} {mid} {a} {b} read none = past_name read.one (past_name read.other none)
+
 -- where the fields of a code are missing, no operation stands behind it
 pub no_op : (code : ℕ) (old : List ℕ) → NoFields (kinds_at code) old → BeginsWithNo FitsOp op_bytes (code ∷ old)
 no_op code old none op rest fits e =
@@ -106,6 +113,9 @@ more f fs old mid new fits is read = record {
 
 pub with_name : {fs : List Field} {old mid new : List ℕ} {x : List ℕ} → Reads IsName name_bytes old mid x → ReadsFields fs mid new → ReadsFields (Name x ∷ fs) old new
 with_name {fs} {old} {mid} {new} {x} read others = more (Name x) fs old mid new read.fits read.spelled others
+
+pub with_names : {fs : List Field} {old mid new a b : List ℕ} → ReadsNames old a b mid → ReadsFields fs mid new → ReadsFields (Name a ∷ Name b ∷ fs) old new
+with_names {fs} {old} {mid} {new} {a} {b} read others = with_name read.one (with_name read.other others)
 
 pub with_number : {fs : List Field} {old mid new : List ℕ} {x : ℕ} → Reads IsNumber number_bytes old mid x → ReadsFields fs mid new → ReadsFields (Number x ∷ fs) old new
 with_number {fs} {old} {mid} {new} {x} read others = more (Number x) fs old mid new read.fits read.spelled others

@@ -1,17 +1,34 @@
 -- Transactions read from bytes.
-use Rattle.std.specs.Prelude.{◌≡◌, ℕ, List, [], ◌∷◌, ◌++◌, length, take, Result, MatchResult}
+use Rattle.std.specs.Prelude.{◌≡◌, ◌⊎◌, ℕ, List, [], ◌∷◌, ◌++◌, length, take, Result, MatchResult}
 use Rattle.std.specs.List.{flat_map, AllByRecursion}
 use Rattle.meta_rows.specs.Prelude.{BeginsWithNo, Reads}
 use Rattle.object_model.specs.Prelude.{Change}
 use Rattle.txn_codec.specs.declared.fail.ReadFail.{ReadFail}
 use Rattle.txn_codec.specs.declared.fail.ReadFail.TheVariants.{NotSpelled}
-use Rattle.unit_fields.specs.Prelude.{IsCollName}
+use Rattle.unit_fields.specs.Prelude.{IsName, IsCollName}
 use Rattle.object_model.specs.declared.op.Op.{Op}
 use Rattle.txn_codec.specs.Spelling.{Field, field_bytes, name_bytes, count_bytes, list_bytes, op_bytes, IsCount, FitList, FitsField, FitsOp, transaction_bytes, FitsTransaction}
 
 -- one that fits was read from the front, or none stands there, or memory ran out
 abbrev pub Gives : {X : Type 0} → (X → Type 0) → (X → List ℕ) → List ℕ → List ℕ → Result X ReadFail → Type 0
 Gives Fits spelling old new result = MatchResult result (Reads Fits spelling old new) (λ why. why ≡ NotSpelled → BeginsWithNo Fits spelling old)
+
+-- two names were read from the front, one behind the other
+pub record ReadsNames (old first second left : List ℕ) : Type 0 where
+  pub mid : List ℕ
+  pub one : Reads IsName name_bytes old mid first
+  pub other : Reads IsName name_bytes mid left second
+
+-- a name stands at the front, and none behind it
+pub record LacksSecond (old : List ℕ) : Type 0 where
+  pub mid : List ℕ
+  pub first : List ℕ
+  pub one : Reads IsName name_bytes old mid first
+  pub none : BeginsWithNo IsName name_bytes mid
+
+-- no two names stand at the front
+abbrev pub LacksNames : List ℕ → Type 0
+LacksNames old = BeginsWithNo IsName name_bytes old ⊎ LacksSecond old
 
 -- the count of a transaction's operations and the first one were read from the front
 pub record ReadsFirst (old : List ℕ) (count : ℕ) (first : Op) (left : List ℕ) : Type 0 where

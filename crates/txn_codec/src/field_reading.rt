@@ -3,7 +3,7 @@ ghost use Rattle.std.specs.Prelude.{◌≡◌, ◌≢◌, ℕ, List, ◌++◌, M
 ghost use Rattle.unit_fields.specs.Prelude.{IsName, IsCollName};
 ghost use Rattle.meta_rows.specs.Prelude.{value_bytes, IsValue, BeginsWithNo, Reads};
 ghost use Rattle.txn_codec.specs.declared.fail.ReadFail.TheVariants.{NotSpelled};
-ghost use Rattle.txn_codec.specs.Prelude.{name_bytes, number_bytes, count_bytes, list_bytes, pair_bytes, IsNumber, IsCount, FitsPair, FitList, Gives};
+ghost use Rattle.txn_codec.specs.Prelude.{name_bytes, number_bytes, count_bytes, list_bytes, pair_bytes, IsNumber, IsCount, FitsPair, FitList, Gives, LacksNames, ReadsNames};
 
 use crate::fail::ReadFail;
 use byte_maps::{Bytes, Items};
@@ -78,12 +78,39 @@ pub(crate) fn read_value<'a>(fields: &mut Fields<'a>) -> Result<&'a [u8], ReadFa
     Ok(value)
 }
 
+pub(crate) fn read_bytes(alloc: Global, fields: &mut Fields) -> Result<Bytes, ReadFail>
+    ensures { Gives IsValue value_bytes fields.old fields.new result }
+{
+    let value = read_value(fields)?;
+    let bytes = Bytes::from_slice(alloc, value)?;
+    Ok(bytes)
+}
+
+// Two names, one behind the other.
+pub(crate) fn read_names(alloc: Global, fields: &mut Fields) -> Result<(Name, Name), ReadFail>
+    ensures { MatchResult result (λ x. ReadsNames fields.old x.0 x.1 fields.new) (λ why. why ≡ NotSpelled → LacksNames fields.old) }
+{
+    let first = read_name(alloc, fields)?;
+    match read_name(alloc, fields) {
+        Ok(second) => Ok((first, second)),
+        Err(why) => {
+            drop(first);
+            Err(why)
+        }
+    }
+}
+
 fn read_pair(alloc: Global, fields: &mut Fields) -> Result<Pair, ReadFail>
     ensures { Gives FitsPair pair_bytes fields.old fields.new result }
 {
     let key = read_name(alloc, fields)?;
-    let value = Bytes::from_slice(alloc, read_value(fields)?)?;
-    Ok(Pair { key, value })
+    match read_bytes(alloc, fields) {
+        Ok(value) => Ok(Pair { key, value }),
+        Err(why) => {
+            drop(key);
+            Err(why)
+        }
+    }
 }
 
 pub(crate) fn read_keys(alloc: Global, fields: &mut Fields) -> Result<Items<Name>, ReadFail>

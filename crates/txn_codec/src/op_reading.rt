@@ -7,8 +7,9 @@ use crate::codes::{
     RMATTRS, RMCOLL, SETATTR, TOUCH, TRUNCATE, WRITE, ZERO,
 };
 use crate::fail::ReadFail;
-use crate::field_reading::{read_keys, read_name, read_number, read_pairs, read_value};
-use byte_maps::Bytes;
+use crate::field_reading::{
+    read_bytes, read_keys, read_name, read_names, read_number, read_pairs, read_value,
+};
 use bytes::Bytes as SharedBytes;
 use object_model::Op;
 use std::alloc::Global;
@@ -45,37 +46,39 @@ fn read_truncate(alloc: Global, fields: &mut Fields) -> Result<Op, ReadFail>
 fn read_set_attr(alloc: Global, fields: &mut Fields) -> Result<Op, ReadFail>
     ensures { Gives FitsOp op_bytes (8 ∷ fields.old) fields.new result }
 {
-    let object = read_name(alloc, fields)?;
-    let name = read_name(alloc, fields)?;
-    let value = Bytes::from_slice(alloc, read_value(fields)?)?;
-    Ok(Op::SetAttr {
-        object,
-        name,
-        value,
-    })
+    let (object, name) = read_names(alloc, fields)?;
+    match read_bytes(alloc, fields) {
+        Ok(value) => Ok(Op::SetAttr {
+            object,
+            name,
+            value,
+        }),
+        Err(why) => {
+            drop(name);
+            drop(object);
+            Err(why)
+        }
+    }
 }
 
 fn read_rm_attr(alloc: Global, fields: &mut Fields) -> Result<Op, ReadFail>
     ensures { Gives FitsOp op_bytes (9 ∷ fields.old) fields.new result }
 {
-    let object = read_name(alloc, fields)?;
-    let name = read_name(alloc, fields)?;
+    let (object, name) = read_names(alloc, fields)?;
     Ok(Op::RmAttr { object, name })
 }
 
 fn read_clone(alloc: Global, fields: &mut Fields) -> Result<Op, ReadFail>
     ensures { Gives FitsOp op_bytes (11 ∷ fields.old) fields.new result }
 {
-    let object = read_name(alloc, fields)?;
-    let to = read_name(alloc, fields)?;
+    let (object, to) = read_names(alloc, fields)?;
     Ok(Op::Clone { object, to })
 }
 
 fn read_clone_range(alloc: Global, fields: &mut Fields) -> Result<Op, ReadFail>
     ensures { Gives FitsOp op_bytes (12 ∷ fields.old) fields.new result }
 {
-    let object = read_name(alloc, fields)?;
-    let to = read_name(alloc, fields)?;
+    let (object, to) = read_names(alloc, fields)?;
     let src = read_number(fields)?;
     let len = read_number(fields)?;
     let dst = read_number(fields)?;
@@ -107,22 +110,32 @@ fn read_omap_rm(alloc: Global, fields: &mut Fields) -> Result<Op, ReadFail>
 fn read_omap_rm_range(alloc: Global, fields: &mut Fields) -> Result<Op, ReadFail>
     ensures { Gives FitsOp op_bytes (15 ∷ fields.old) fields.new result }
 {
-    let object = read_name(alloc, fields)?;
-    let first = read_name(alloc, fields)?;
-    let last = read_name(alloc, fields)?;
-    Ok(Op::OmapRmRange {
-        object,
-        first,
-        last,
-    })
+    let (object, first) = read_names(alloc, fields)?;
+    match read_name(alloc, fields) {
+        Ok(last) => Ok(Op::OmapRmRange {
+            object,
+            first,
+            last,
+        }),
+        Err(why) => {
+            drop(first);
+            drop(object);
+            Err(why)
+        }
+    }
 }
 
 fn read_omap_header(alloc: Global, fields: &mut Fields) -> Result<Op, ReadFail>
     ensures { Gives FitsOp op_bytes (17 ∷ fields.old) fields.new result }
 {
     let object = read_name(alloc, fields)?;
-    let value = Bytes::from_slice(alloc, read_value(fields)?)?;
-    Ok(Op::OmapHeader { object, value })
+    match read_bytes(alloc, fields) {
+        Ok(value) => Ok(Op::OmapHeader { object, value }),
+        Err(why) => {
+            drop(object);
+            Err(why)
+        }
+    }
 }
 
 // The fields of the operation of this code.

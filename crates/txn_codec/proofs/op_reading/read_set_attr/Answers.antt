@@ -1,14 +1,11 @@
-use Rattle.std.proofs.Common.{◌∷◌}
-use Rattle.txn_codec.specs.Prelude.{op_bytes, FitsOp}
-use Rattle.txn_codec.proofs.FieldReading.{handed_on, no_name, no_op, no_value, past_name}
+use Rattle.txn_codec.proofs.FieldReading.{all_read, no_names, no_op, no_value, op_read, passed_on, past_names, with_names, with_value}
 use Rattle.txn_codec.proofs.op_reading.read_set_attr.Goals as goal
 
-pub returns-in_err-name : goal.returns-in_err-name
-returns-in_err-name c =
-    handed_on FitsOp op_bytes (8 ∷ c.args.fields.now) c.read_name-2.new.fields c.from_residual-in_err-name.result c.in_err-name.field-0.0
-    c.from_residual-in_err-name.ensures (λ is. no_op 8 c.args.fields.now (past_name c.in_ok-object.ensures (no_name (c.in_err-name.ensures is))))
+pub returns-in_err-object : goal.returns-in_err-object
+returns-in_err-object c = passed_on _ _ _ _ c.from_residual.ensures (λ is. no_op 8 c.args.fields.now (no_names (c.in_err-object.ensures is)))
 
-pub returns-in_err-read_value : goal.returns-in_err-read_value
-returns-in_err-read_value c =
-    handed_on FitsOp op_bytes (8 ∷ c.args.fields.now) c.read_value.new.fields c.from_residual-in_err-read_value.result c.in_err-read_value.field-0.0
-    c.from_residual-in_err-read_value.ensures (λ is. no_op 8 c.args.fields.now (past_name c.in_ok-object.ensures (past_name c.in_ok-name.ensures (no_value (c.in_err-read_value.ensures is)))))
+pub returns-in-Err : goal.returns-in-Err
+returns-in-Err c same = no_op 8 c.args.fields.now (past_names c.in_ok-object.ensures (no_value (c.in-Err.ensures same)))
+
+pub returns-in-Ok : goal.returns-in-Ok
+returns-in-Ok c = op_read _ _ _ (with_names c.in_ok-object.ensures (with_value c.in-Ok.ensures all_read))

@@ -1,4 +1,4 @@
-use Rattle.std.proofs.Common.{◌≡◌, ◌∷◌, arith}
+use Rattle.std.proofs.Common.{◌≡◌, arith}
 use Rattle.txn_codec.proofs.FieldReading.{passed_on}
 use Rattle.txn_codec.proofs.TxnReading.{one_more, no_other, body_read}
 use Rattle.txn_codec.proofs.txn_reading.read_body.Goals as goal

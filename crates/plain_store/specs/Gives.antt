@@ -1,8 +1,7 @@
 -- A call answers what a definition gives, unless memory ran out.
-use Rattle.std.specs.Prelude.{◌≡◌, Result, Ok, Err, IsOk}
+use Rattle.std.specs.Prelude.{◌≡◌, Option, Some, None, Result, Ok, Err, IsOk}
 use Rattle.object_model.specs.declared.op.Refusal.{Refusal}
-use Rattle.object_model.specs.declared.command.Answer.{Answer}
-use Rattle.object_model.specs.declared.command.Answer.TheVariants as answer
+use Rattle.object_model.specs.declared.op.Refusal.TheVariants.{NoObject}
 use Rattle.plain_store.specs.declared.fault.ArgFault.{ArgFault}
 use Rattle.plain_store.specs.declared.fault.ArgFault.TheVariants.{Memory, Refused}
 
@@ -36,8 +35,8 @@ abbrev pub Passes : {A : Type 0} → Result (Unit {0}) ArgFault → Result A Ref
 Passes (Ok done) given = IsOk given
 Passes (Err fault) given = FailsAs fault given
 
--- a call answers what is answered to a command, where a refusal is an answer too
-abbrev pub Answers : Result Answer ArgFault → Answer → Type 0
-Answers (Ok a) given = given ≡ a
-Answers (Err Memory) given = Unit {0}
-Answers (Err (Refused refusal)) given = given ≡ answer.Refused refusal
+-- a call finds what is there, and refuses where nothing is
+abbrev pub Finds : {A : Type 0} → Result A ArgFault → Option A → Type 0
+Finds (Ok x) there = there ≡ Some x
+Finds (Err Memory) there = Unit {0}
+Finds (Err (Refused refusal)) there = (there ≡ None) × (refusal ≡ NoObject)

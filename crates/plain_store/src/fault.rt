@@ -1,25 +1,17 @@
 //! Why a transaction was not applied.
 ghost use Rattle.std.specs.Prelude.{◌≡◌};
-ghost use Rattle.plain_store.specs.declared.fault.ArgFault.TheVariants.{Memory, Refused};
+ghost use Rattle.plain_store.specs.declared.fault.ArgFault.TheVariants.{Memory};
 
 use object_model::Refusal;
 use std::alloc::{AllocError, AllocFailed};
 
 /// A transaction was refused, or memory ran out before that was known.
-#[derive(Debug, Drop)]
+#[derive(Drop)]
 pub enum ArgFault {
     /// Want of memory.
     Memory,
     /// The first refusal among its operations, or `TooBig` for the whole of it.
     Refused(Refusal),
-}
-
-impl From<Refusal> for ArgFault {
-    ghost from_gives = { λ refusal e. e ≡ Refused refusal };
-
-    fn from(refusal: Refusal) -> ArgFault {
-        ArgFault::Refused(refusal)
-    }
 }
 
 impl From<AllocError> for ArgFault {

@@ -1,5 +1,6 @@
 //! One object as plain bytes and maps, and what the operations make of its parts.
-ghost use Rattle.std.specs.Prelude.{◌≡◌, ◌+◌, ◌<◌, ◌^◌, length, IfOk};
+ghost use Rattle.std.specs.Prelude.{◌≡◌, ◌+◌, ◌<◌, ◌^◌, length, IfOk, OnOk};
+ghost use Rattle.std.specs.FinMap as finite;
 ghost use Rattle.object_model.specs.Prelude.{empty_object, resized, overwritten, with_pairs, without_keys, without_range};
 
 use byte_maps::{ByteMap, Bytes, Duplicate};
@@ -87,38 +88,41 @@ pub fn overwritten(
     Ok(out)
 }
 
-/// The omap with the pairs set one after the other. Its values are copies.
-pub fn with_pairs(
+/// Sets a copy of a value under a copy of a name.
+pub fn set_value(
     alloc: Global,
-    omap: ByteMap<Bytes>,
-    pairs: &[Pair],
-) -> Result<ByteMap<Bytes>, AllocError>
-    ensures { IfOk result (λ r. r ≡ with_pairs omap pairs.now) }
+    map: &mut ByteMap<Bytes>,
+    key: &Name,
+    value: &Bytes,
+) -> Result<(), AllocError>
+    ensures { OnOk result (map.new ≡ finite.insert map.old key.now value.now) }
 {
-    let mut m = omap;
+    let key = Bytes::from_slice(alloc, key.as_slice())?;
+    map.insert(key, value.duplicate(alloc)?)
+}
+
+/// Sets copies of the pairs in the omap, one after the other.
+pub fn set_pairs(alloc: Global, omap: &mut ByteMap<Bytes>, pairs: &[Pair]) -> Result<(), AllocError>
+    ensures { OnOk result (omap.new ≡ with_pairs omap.old pairs.now) }
+{
     for pair in pairs {
-        let key = Bytes::from_slice(alloc, pair.key.as_slice())?;
-        m.insert(key, pair.value.duplicate(alloc)?)?;
+        set_value(alloc, omap, &pair.key, &pair.value)?;
     }
-    Ok(m)
+    Ok(())
 }
 
-/// The omap without these keys.
-pub fn without_keys(omap: ByteMap<Bytes>, keys: &[Name]) -> ByteMap<Bytes>
-    ensures { result ≡ without_keys omap keys.now }
+/// Takes these keys out of the omap.
+pub fn take_keys(omap: &mut ByteMap<Bytes>, keys: &[Name])
+    ensures { omap.new ≡ without_keys omap.old keys.now }
 {
-    let mut m = omap;
     for key in keys {
-        let _gone = m.take(key.as_slice());
+        drop(omap.take(key.as_slice()));
     }
-    m
 }
 
-/// The omap without the keys from `first` on and below `last`.
-pub fn without_range(omap: ByteMap<Bytes>, first: &Name, last: &Name) -> ByteMap<Bytes>
-    ensures { result ≡ without_range omap first.now last.now }
+/// Takes the keys from `first` on and below `last` out of the omap.
+pub fn take_range(omap: &mut ByteMap<Bytes>, first: &Name, last: &Name)
+    ensures { omap.new ≡ without_range omap.old first.now last.now }
 {
-    let mut m = omap;
-    m.remove_range(first.as_slice(), last.as_slice());
-    m
+    omap.remove_range(first.as_slice(), last.as_slice());
 }

@@ -41,7 +41,7 @@ fn copy_of(
 {
     match colls.get(name.as_slice()) {
         None => Ok(None),
-        Some(c) => Ok(Some(c.duplicate(alloc)?)),
+        Some(c) => c.duplicate(alloc).map(Some),
     }
 }
 
@@ -102,15 +102,13 @@ impl Plain {
         ensures applied { Applies result (transaction_effect change.now self.old) self.new }
         ensures unchanged { OnErr result (self.new ≡ self.old) }
     {
+        let name = Bytes::from_slice(alloc, change.coll().as_slice())?;
         match self.collection_after(alloc, change)? {
             None => {
-                let _gone = self.colls.take(change.coll().as_slice());
+                drop(self.colls.take(name.as_slice()));
                 Ok(())
             }
-            Some(c) => {
-                let name = Bytes::from_slice(alloc, change.coll().as_slice())?;
-                Ok(self.colls.insert(name, c)?)
-            }
+            Some(c) => self.colls.insert(name, c).map_err(ArgFault::from),
         }
     }
 

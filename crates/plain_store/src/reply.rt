@@ -2,10 +2,10 @@
 ghost use Rattle.std.specs.Prelude.{◌≡◌, ◌+◌, ◌<◌, length, take, drop, nat_lt, IfOk, if◌then◌else◌};
 ghost use Rattle.std.specs.FinMap as finite;
 ghost use Rattle.object_model.specs.declared.command.Answer.TheVariants as answer;
+ghost use Rattle.object_model.specs.declared.command.Command.TheVariants as ask;
 ghost use Rattle.object_model.specs.declared.op.Refusal.TheVariants.{BadRange};
 ghost use Rattle.crc32c_csum.specs.Prelude.{crc32c};
 ghost use Rattle.object_model.specs.Prelude.{object_limit, reply_of, value_of};
-ghost use Rattle.plain_store.specs.Gives.{Answers};
 
 use crate::collection::Collection;
 use crate::fault::ArgFault;
@@ -13,21 +13,22 @@ use crate::object::PlainObject;
 use crate::plain::Plain;
 use byte_maps::{ByteMap, Bytes, Duplicate, Items};
 use crc32c_csum::crc32c;
-use object_model::{Answer, Command, Refusal, ends_too_far};
+use object_model::{Answer, Command, Refusal, Transaction, ends_too_far};
 use std::alloc::{AllocError, Global};
-use unit_fields::{CollName, Name};
+use unit_fields::Name;
 
 // A range of an object's bytes, cut at its size.
-fn read(alloc: Global, object: &PlainObject, off: u64, len: u64) -> Result<Answer, ArgFault>
-    ensures { Answers result (if nat_lt object_limit (off + len) then answer.Refused BadRange else answer.Bytes (take len (drop off object.now.bytes))) }
+fn read(alloc: Global, object: &PlainObject, off: u64, len: u64) -> Result<Answer, AllocError>
+    ensures { IfOk result (λ a. a ≡
+        (if nat_lt object_limit (off + len) then answer.Refused BadRange else answer.Bytes (take len (drop off object.now.bytes)))) }
 {
     if ends_too_far(off, len) {
-        return Err(ArgFault::Refused(Refusal::BadRange));
+        return Ok(Answer::Refused(Refusal::BadRange));
     }
     let bytes = object.bytes.as_slice();
     let from = &bytes[bytes.len().min(off as usize)..];
     let piece = &from[..from.len().min(len as usize)];
-    Ok(Answer::Bytes(Bytes::from_slice(alloc, piece)?))
+    Bytes::from_slice(alloc, piece).map(Answer::Bytes)
 }
 
 fn sum(object: &PlainObject) -> Answer
@@ -40,59 +41,40 @@ fn sum(object: &PlainObject) -> Answer
     }
 }
 
-fn value_of(alloc: Global, map: &ByteMap<Bytes>, name: &Name) -> Result<Answer, ArgFault>
-    ensures { Answers result (value_of map.now name.now) }
+fn value_of(alloc: Global, map: &ByteMap<Bytes>, name: &Name) -> Result<Answer, AllocError>
+    ensures { IfOk result (λ a. a ≡ value_of map.now name.now) }
 {
     match map.get(name.as_slice()) {
-        Some(value) => Ok(Answer::Bytes(value.duplicate(alloc)?)),
-        None => Err(ArgFault::Refused(Refusal::NoAttr)),
+        Some(value) => value.duplicate(alloc).map(Answer::Bytes),
+        None => Ok(Answer::Refused(Refusal::NoAttr)),
     }
 }
 
-fn names(alloc: Global, c: &Collection) -> Result<Items<Bytes>, AllocError>
-    ensures { IfOk result (λ names. names ≡ finite.keys c.now) }
+fn header_of(alloc: Global, object: &PlainObject) -> Result<Answer, AllocError>
+    ensures { IfOk result (λ a. a ≡ answer.Bytes object.now.header) }
+{
+    object.header.duplicate(alloc).map(Answer::Bytes)
+}
+
+fn names(alloc: Global, c: &Collection) -> Result<Answer, AllocError>
+    ensures { IfOk result (λ a. a ≡ answer.Names (finite.keys c.now)) }
 {
     let mut names = Vec::new(alloc);
     for entry in c.entries() {
         names.push(entry.0.duplicate(alloc)?)?;
     }
-    Ok(Items::from_vec(names))
+    Ok(Answer::Names(Items::from_vec(names)))
 }
 
 impl Plain {
-    // The answer, or the refusal as a fault.
-    fn answer(&self, alloc: Global, command: &Command) -> Result<Answer, ArgFault>
-        ensures { Answers result (reply_of command.now self.now) }
+    // Whether a transaction would be accepted.
+    fn accepts(&self, alloc: Global, change: &Transaction) -> Result<Answer, AllocError>
+        ensures { IfOk result (λ a. a ≡ reply_of (ask.Change change.now) self.now) }
     {
-        match command {
-            Command::Change(change) => {
-                self.check(alloc, change)?;
-                Ok(Answer::Accepted)
-            }
-            Command::Read {
-                coll,
-                object,
-                off,
-                len,
-            } => read(alloc, self.object(coll, object)?, *off, *len),
-            Command::Sum { coll, object } => Ok(sum(self.object(coll, object)?)),
-            Command::Stat { coll, object } => Ok(Answer::Size(
-                self.object(coll, object)?.bytes.len() as u64,
-            )),
-            Command::GetAttr { coll, object, name } => value_of(
-                alloc,
-                &self.object(coll, object)?.attrs,
-                name,
-            ),
-            Command::OmapGet { coll, object, key } => value_of(
-                alloc,
-                &self.object(coll, object)?.omap,
-                key,
-            ),
-            Command::OmapHeader { coll, object } => Ok(Answer::Bytes(
-                self.object(coll, object)?.header.duplicate(alloc)?,
-            )),
-            Command::List { coll } => Ok(Answer::Names(names(alloc, self.collection(coll)?)?)),
+        match self.check(alloc, change) {
+            Ok(()) => Ok(Answer::Accepted),
+            Err(ArgFault::Refused(refusal)) => Ok(Answer::Refused(refusal)),
+            Err(ArgFault::Memory) => Err(AllocError),
         }
     }
 
@@ -100,10 +82,41 @@ impl Plain {
     pub fn reply(&self, alloc: Global, command: &Command) -> Result<Answer, AllocError>
         ensures { IfOk result (λ a. a ≡ reply_of command.now self.now) }
     {
-        match self.answer(alloc, command) {
-            Ok(answer) => Ok(answer),
-            Err(ArgFault::Refused(refusal)) => Ok(Answer::Refused(refusal)),
-            Err(ArgFault::Memory) => Err(AllocError),
+        match command {
+            Command::Change(change) => self.accepts(alloc, change),
+            Command::Read {
+                coll,
+                object,
+                off,
+                len,
+            } => match self.object(coll, object) {
+                Ok(object) => read(alloc, object, *off, *len),
+                Err(refusal) => Ok(Answer::Refused(refusal)),
+            },
+            Command::Sum { coll, object } => match self.object(coll, object) {
+                Ok(object) => Ok(sum(object)),
+                Err(refusal) => Ok(Answer::Refused(refusal)),
+            },
+            Command::Stat { coll, object } => match self.object(coll, object) {
+                Ok(object) => Ok(Answer::Size(object.bytes.len() as u64)),
+                Err(refusal) => Ok(Answer::Refused(refusal)),
+            },
+            Command::GetAttr { coll, object, name } => match self.object(coll, object) {
+                Ok(object) => value_of(alloc, &object.attrs, name),
+                Err(refusal) => Ok(Answer::Refused(refusal)),
+            },
+            Command::OmapGet { coll, object, key } => match self.object(coll, object) {
+                Ok(object) => value_of(alloc, &object.omap, key),
+                Err(refusal) => Ok(Answer::Refused(refusal)),
+            },
+            Command::OmapHeader { coll, object } => match self.object(coll, object) {
+                Ok(object) => header_of(alloc, object),
+                Err(refusal) => Ok(Answer::Refused(refusal)),
+            },
+            Command::List { coll } => match self.collection(coll) {
+                Ok(c) => names(alloc, c),
+                Err(refusal) => Ok(Answer::Refused(refusal)),
+            },
         }
     }
 }

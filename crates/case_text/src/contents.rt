@@ -2,62 +2,29 @@
 //! store writes them.
 
 use crate::CaseError;
-use crate::words::{Words, byte, look_up, number, read_hex, small};
+use crate::spelling::Spelling;
+use crate::words::{Words, byte, push_digits, read_hex, small};
 use crc32c_csum::{Digest, crc32c};
-use std::alloc::{AllocError, Global};
-
-const UNIT_BYTES: usize = 4096;
-
-/// The bytes that are changed from a place on, so many of them.
-fn place(contents: &mut [u8], at: usize, count: usize) -> Result<&mut [u8], CaseError> {
-    match contents
-        .get_mut(at..)
-        .and_then(|rest| rest.get_mut(..count))
-    {
-        Some(place) => Ok(place),
-        None => Err(CaseError::Line("outside the device")),
-    }
-}
+use std::alloc::Global;
 
 /// Lays bytes over others, from a place on.
-pub fn lay(contents: &mut [u8], at: usize, bytes: &[u8]) -> Result<(), CaseError> {
-    let place = place(contents, at, bytes.len())?;
-    for (to, from) in place.iter_mut().zip(bytes) {
-        *to = *from;
-    }
+fn lay(contents: &mut [u8], at: usize, bytes: &[u8]) -> Result<(), CaseError> {
+    let Some((_, rest)) = contents.split_at_mut_checked(at) else {
+        return Err(CaseError::Line("behind the device"));
+    };
+    let Some((place, _)) = rest.split_at_mut_checked(bytes.len()) else {
+        return Err(CaseError::Line("outside the device"));
+    };
+    place.copy_from_slice(bytes);
     Ok(())
 }
 
-/// Exclusive-or with these bytes, from a place on.
-fn turn(contents: &mut [u8], at: usize, bytes: &[u8]) -> Result<(), CaseError> {
-    let place = place(contents, at, bytes.len())?;
-    for (to, from) in place.iter_mut().zip(bytes) {
-        *to ^= *from;
+/// The exclusive-or of bytes with those that stand from a place on.
+fn turn(contents: &[u8], at: usize, bytes: &mut [u8]) {
+    let old = contents.get(at..).unwrap_or(&[]);
+    for (byte, old) in bytes.iter_mut().zip(old) {
+        *byte ^= *old;
     }
-    Ok(())
-}
-
-/// So many bytes of one value.
-pub fn filled(alloc: Global, count: u64, value: u8) -> Result<Vec<u8>, CaseError> {
-    if 1 << 30 < count {
-        return Err(CaseError::Line("too many bytes"));
-    }
-    Ok(vec![in alloc; value; count as usize]?)
-}
-
-/// Adds numbers, each by its first so many bytes, the lowest one first.
-fn push_numbers(out: &mut Vec<u8>, numbers: &[(u64, usize)]) -> Result<(), AllocError> {
-    for (number, width) in numbers {
-        let bytes = number.to_le_bytes();
-        out.extend_from_slice(&bytes[..(*width).min(8)])?;
-    }
-    Ok(())
-}
-
-/// Fills up with zeros to whole units, but for so many bytes.
-fn fill_up(out: &mut Vec<u8>, but: usize) -> Result<(), AllocError> {
-    let units = out.len().div_ceil(UNIT_BYTES);
-    out.resize(units.saturating_mul(UNIT_BYTES).saturating_sub(but), 0)
 }
 
 /// What a superblock slot says, beside version 1, and that writes of fewer than 32768 bytes are deferred.
@@ -71,77 +38,68 @@ pub struct Slot {
 }
 
 /// A superblock slot, one unit.
-pub fn spelled_slot(alloc: Global, says: &Slot) -> Result<Vec<u8>, AllocError> {
-    let mut slot = Vec::new(alloc);
-    slot.extend_from_slice(b"BSTORE01")?;
-    let sizes = [(1, 4), (says.units, 4), (says.half, 4), (32768, 4)];
-    push_numbers(&mut slot, &sizes)?;
-    push_numbers(&mut slot, &[(says.epoch, 8), (says.first, 8)])?;
-    fill_up(&mut slot, 4)?;
-    let sum = crc32c(&slot);
-    push_numbers(&mut slot, &[(u64::from(sum), 4)])?;
-    Ok(slot)
+pub fn spelled_slot(alloc: Global, says: &Slot) -> Spelling {
+    let mut slot = Spelling::new(alloc);
+    slot.push(b"BSTORE01");
+    slot.number(1, 4);
+    slot.number(says.units, 4);
+    slot.number(says.half, 4);
+    slot.number(32768, 4);
+    slot.number(says.epoch, 8);
+    slot.number(says.first, 8);
+    slot.fill_up(4);
+    let sum = crc32c(slot.as_slice());
+    slot.number(u64::from(sum), 4);
+    slot
 }
 
-/// An operation on a row: its code, its key, and a value or a mask, if it has one.
-fn push_op(
-    out: &mut Vec<u8>,
-    code: u64,
-    key: &[u8],
-    value: Option<&[u8]>,
-) -> Result<(), AllocError> {
-    push_numbers(out, &[(code, 1), (key.len() as u64, 2)])?;
-    out.extend_from_slice(key)?;
-    if let Some(value) = value {
-        push_numbers(out, &[(value.len() as u64, 4)])?;
-        out.extend_from_slice(value)?;
-    }
-    Ok(())
+/// Adds bytes in digits of base 16, their number of so many bytes in front.
+fn push_counted(out: &mut Spelling, digits: &str, width: usize) -> Result<(), CaseError> {
+    out.number(digits.len() as u64 / 2, width);
+    push_digits(out, digits)
 }
 
-/// The mask that turns the bit of a unit in its row of the bitmap, and that row's key.
-fn push_turned(out: &mut Vec<u8>, unit: u32) -> Result<(), AllocError> {
+/// Adds the operation that sets a row: `KEY:VALUE` in digits of base 16.
+fn push_set(out: &mut Spelling, pair: &str) -> Result<(), CaseError> {
+    let (key, value) = pair.split_once(':').unwrap_or((pair, ""));
+    out.number(1, 1);
+    push_counted(out, key, 2)?;
+    push_counted(out, value, 4)
+}
+
+/// Adds the operation that turns the bit of a unit in its row of the bitmap.
+fn push_turned(out: &mut Spelling, unit: u32) {
     let [a, b, c, d] = (unit / 128).to_be_bytes();
     let mut mask = [0u8; 16];
     mask[(unit % 128 / 8) as usize] = 1 << (unit % 8);
-    push_op(out, 3, &[b'b', a, b, c, d], Some(&mask))
+    out.number(3, 1);
+    out.number(5, 2);
+    out.push(&[b'b', a, b, c, d]);
+    out.number(16, 4);
+    out.push(&mask);
 }
 
-/// A key and a value or a mask, as `KEY:VALUE` in digits of base 16.
-fn push_valued(alloc: Global, out: &mut Vec<u8>, code: u64, pair: &str) -> Result<(), CaseError> {
-    let (key, value) = pair.split_once(':').unwrap_or((pair, "-"));
-    let key = read_hex(alloc, key)?;
-    let value = read_hex(alloc, value)?;
-    Ok(push_op(out, code, &key, Some(&value))?)
-}
-
-/// The operations on a row, by their words.
-#[derive(Clone, Copy)]
-enum RowOp {
-    Set,
-    Drop,
-    Flip,
-    Turn,
-}
-
-static ROW_OPS: [(&str, RowOp); 4] = [
-    ("set", RowOp::Set),
-    ("drop", RowOp::Drop),
-    ("flip", RowOp::Flip),
-    ("turn", RowOp::Turn),
-];
-
-/// An operation in words: `set:KEY:VALUE`, `drop:KEY` and `flip:KEY:MASK` in digits of base 16, and `turn:UNIT` for the bit of
-/// a unit in the bitmap.
-fn push_spelled(alloc: Global, out: &mut Vec<u8>, word: &str) -> Result<(), CaseError> {
-    let (what, rest) = word.split_once(':').unwrap_or((word, ""));
-    match look_up(&ROW_OPS, what) {
-        Some(RowOp::Set) => push_valued(alloc, out, 1, rest),
-        Some(RowOp::Drop) => Ok(push_op(out, 2, &read_hex(alloc, rest)?, None)?),
-        Some(RowOp::Flip) => push_valued(alloc, out, 3, rest),
-        Some(RowOp::Turn) => Ok(push_turned(out, small(rest)?)?),
-        None => Err(CaseError::Line("no such operation")),
+/// Adds an operation in words: `set:KEY:VALUE` in digits of base 16, and `turn:UNIT` for the bit of a unit in the bitmap.
+fn push_op(out: &mut Spelling, word: &str) -> Result<(), CaseError> {
+    if let Some(pair) = word.strip_prefix("set:") {
+        return push_set(out, pair);
     }
+    let unit = word
+        .strip_prefix("turn:")
+        .ok_or(CaseError::Line("no such operation"))
+        .and_then(small)?;
+    push_turned(out, unit);
+    Ok(())
+}
+
+/// Adds all operations, and tells how many they are.
+fn push_ops(out: &mut Spelling, words: Words<'_>) -> Result<u64, CaseError> {
+    let mut count = 0u64;
+    for word in words.text().split_terminator(' ') {
+        push_op(out, word)?;
+        count = count.wrapping_add(1);
+    }
+    Ok(count)
 }
 
 /// The checksum of a record: of what stands before it, and of the body.
@@ -153,24 +111,26 @@ fn sum_of(head: &[u8], body: &[u8]) -> u32 {
 }
 
 /// A record of so many operations, which are the body; whole units.
-fn framed(alloc: Global, own: u64, count: u64, body: &[u8]) -> Result<Vec<u8>, AllocError> {
-    let mut record = Vec::new(alloc);
-    record.extend_from_slice(b"BREC")?;
-    push_numbers(&mut record, &[(body.len() as u64, 4), (own, 8), (count, 4)])?;
-    let sum = sum_of(&record, body);
-    push_numbers(&mut record, &[(u64::from(sum), 4)])?;
-    record.extend_from_slice(body)?;
-    fill_up(&mut record, 0)?;
-    Ok(record)
+fn framed(alloc: Global, own: u64, count: u64, body: &[u8]) -> Spelling {
+    let mut record = Spelling::new(alloc);
+    record.push(b"BREC");
+    record.number(body.len() as u64, 4);
+    record.number(own, 8);
+    record.number(count, 4);
+    let sum = sum_of(record.as_slice(), body);
+    record.number(u64::from(sum), 4);
+    record.push(body);
+    record.fill_up(0);
+    record
 }
 
-/// A record with these operations.
-fn record(alloc: Global, own: u64, ops: &[&str]) -> Result<Vec<u8>, CaseError> {
-    let mut body = Vec::new(alloc);
-    for op in ops {
-        push_spelled(alloc, &mut body, op)?;
-    }
-    Ok(framed(alloc, own, ops.len() as u64, &body)?)
+/// The record of a number and operations.
+fn record_of(alloc: Global, mut words: Words<'_>) -> Result<Vec<u8>, CaseError> {
+    let own = words.number()?;
+    let mut ops = Spelling::new(alloc);
+    let count = push_ops(&mut ops, words)?;
+    let body = ops.finish()?;
+    framed(alloc, own, count, &body).finish()
 }
 
 /// How a line changes what a device holds.
@@ -188,73 +148,51 @@ pub enum Change {
     Record,
 }
 
-/// Bytes for a place.
-#[derive(Drop)]
-struct Piece {
-    at: u64,
-    bytes: Vec<u8>,
-}
-
 /// Changes contents by what stands behind the name in such a line.
 pub fn make_change(
     alloc: Global,
     how: Change,
     contents: &mut [u8],
-    words: Words<'_>,
+    mut words: Words<'_>,
 ) -> Result<(), CaseError> {
-    let Piece { at, bytes } = piece_of(alloc, how, words)?;
+    let place = words.number()?;
+    let at = match how {
+        Change::Bytes | Change::Fill | Change::Turn => place,
+        Change::Slot | Change::Record => place.saturating_mul(4096),
+    };
+    let mut bytes = bytes_of(alloc, how, words)?;
+    if let Change::Turn = how {
+        turn(contents, at as usize, &mut bytes);
+    }
+    lay(contents, at as usize, &bytes)
+}
+
+/// The bytes of a line, by what stands behind their place.
+fn bytes_of(alloc: Global, how: Change, words: Words<'_>) -> Result<Vec<u8>, CaseError> {
     match how {
-        Change::Turn => turn(contents, at as usize, &bytes),
-        _ => lay(contents, at as usize, &bytes),
+        Change::Bytes | Change::Turn => read_hex(alloc, words.last()?),
+        Change::Fill => filled(alloc, words),
+        Change::Slot => slot_of(alloc, words),
+        Change::Record => record_of(alloc, words),
     }
 }
 
-/// The bytes of a line and their place.
-fn piece_of(alloc: Global, how: Change, words: Words<'_>) -> Result<Piece, CaseError> {
-    match how {
-        Change::Bytes | Change::Turn => piece_of_digits(alloc, words),
-        Change::Fill => piece_of_one(alloc, words),
-        Change::Slot => slot_piece(alloc, words),
-        Change::Record => record_piece(alloc, words),
-    }
+/// So many bytes of one value.
+fn filled(alloc: Global, mut words: Words<'_>) -> Result<Vec<u8>, CaseError> {
+    let count = words.number()?;
+    let value = words.last().and_then(byte)?;
+    let mut bytes = Spelling::new(alloc);
+    bytes.resize(count, value);
+    bytes.finish()
 }
 
-fn piece_of_digits(alloc: Global, words: Words<'_>) -> Result<Piece, CaseError> {
-    let (at, digits) = words.last_two()?;
-    Ok(Piece {
-        at: number(at)?,
-        bytes: read_hex(alloc, digits)?,
-    })
-}
-
-fn piece_of_one(alloc: Global, mut words: Words<'_>) -> Result<Piece, CaseError> {
-    let at = words.number()?;
-    let (count, value) = words.last_two()?;
-    Ok(Piece {
-        at,
-        bytes: filled(alloc, number(count)?, byte(value)?)?,
-    })
-}
-
-fn slot_piece(alloc: Global, words: Words<'_>) -> Result<Piece, CaseError> {
-    let [unit, half, units, epoch, first] = words.numbers::<5>()?;
+fn slot_of(alloc: Global, words: Words<'_>) -> Result<Vec<u8>, CaseError> {
+    let [half, units, epoch, first] = words.numbers::<4>()?;
     let says = Slot {
         half,
         units,
         epoch,
         first,
     };
-    Ok(Piece {
-        at: unit.saturating_mul(UNIT_BYTES as u64),
-        bytes: spelled_slot(alloc, &says)?,
-    })
-}
-
-fn record_piece(alloc: Global, mut words: Words<'_>) -> Result<Piece, CaseError> {
-    let unit = words.number()?;
-    let own = words.number()?;
-    Ok(Piece {
-        at: unit.saturating_mul(UNIT_BYTES as u64),
-        bytes: record(alloc, own, &words.list(alloc)?)?,
-    })
+    spelled_slot(alloc, &says).finish()
 }

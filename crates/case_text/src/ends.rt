@@ -1,21 +1,29 @@
 //! The ends of a store in memory, of what a case has set up.
-ghost use Rattle.std.specs.Prelude.{◌≡◌, ◌≤◌, [], IfOk, All};
+ghost use Rattle.std.specs.Prelude.{◌≡◌, ◌≤◌, ◌*◌, ◌%◌, [], length, IfOk, All};
 ghost use Rattle.block_device.specs.Prelude.{disk_of};
 
-use crate::{CaseError, Fails, Named, Setup};
+use crate::{CaseError, Named, Setup};
 use block_device::MemoryDevice;
 use end_points::{BayPlan, MemoryBay, MemorySink};
 use std::alloc::Global;
 use std::mem;
 
-/// Puts contents that are whole units into a bay.
-fn put_into(alloc: Global, bay: &mut MemoryBay, device: &Named) -> Result<(), CaseError> {
-    let contents = device.bytes.to_vec(alloc)?;
+/// A copy of contents that are whole units.
+fn whole_units(alloc: Global, contents: &[u8]) -> Result<Vec<u8>, CaseError>
+    ensures whole { IfOk result (λ copy. length copy.items % 4096 ≡ 0) }
+    ensures few { IfOk result (λ copy. length copy.items ≤ 4096 * 1048576) }
+{
     if contents.len() % 4096 != 0 || 4096 * 1_048_576 < contents.len() {
         return Err(CaseError::Line("not whole units"));
     }
-    bay.put_device(device.name.as_str(), contents)?;
-    Ok(())
+    contents.to_vec(alloc).map_err(CaseError::from)
+}
+
+/// Puts contents that are whole units into a bay.
+fn put_into(alloc: Global, bay: &mut MemoryBay, device: &Named) -> Result<(), CaseError> {
+    let contents = whole_units(alloc, device.bytes.as_slice())?;
+    bay.put_device(device.name.as_str(), contents)
+        .map_err(CaseError::from)
 }
 
 /// The lags, none above 63.
@@ -34,35 +42,32 @@ impl Setup {
     pub fn device(&mut self, name: &str) -> Result<MemoryDevice, CaseError>
         ensures { IfOk result (λ d. (disk_of d).flights ≡ []) }
     {
-        let fails = mem::replace(&mut self.fails.device, Vec::new(self.alloc));
-        let contents = self.contents(name)?;
-        if contents.len() % 4096 != 0 || 4096 * 1_048_576 < contents.len() {
-            return Err(CaseError::Line("not whole units"));
-        }
+        let contents = whole_units(self.alloc, self.bytes(name)?)?;
         let lags = checked_lags(self.alloc, &self.lags)?;
-        Ok(MemoryDevice::new(self.alloc, contents, lags, fails)?)
+        let fails = mem::replace(&mut self.fails.device, Vec::new(self.alloc));
+        MemoryDevice::new(self.alloc, contents, lags, fails).map_err(CaseError::from)
     }
 
     /// A bay and a sink of what is set up. The calls that are to fail are those of these alone.
     pub fn ends(&mut self) -> Result<(MemoryBay, MemorySink), CaseError> {
-        let Fails {
-            device,
-            bay,
-            source,
-            sink,
-        } = mem::replace(&mut self.fails, Fails::new(self.alloc));
+        let step = self.sink_step.max(1);
+        let fails = mem::replace(&mut self.fails.sink, Vec::new(self.alloc));
+        let sink = MemorySink::new(self.alloc, self.room, step, fails)?;
+        Ok((self.bay()?, sink))
+    }
+
+    fn bay(&mut self) -> Result<MemoryBay, CaseError> {
+        let lags = checked_lags(self.alloc, &self.lags)?;
         let plan = BayPlan {
-            lags: checked_lags(self.alloc, &self.lags)?,
-            device_fails: device,
+            lags,
+            device_fails: mem::replace(&mut self.fails.device, Vec::new(self.alloc)),
             source_step: self.source_step.max(1),
-            source_fails: source,
-            fails: bay,
+            source_fails: mem::replace(&mut self.fails.source, Vec::new(self.alloc)),
+            fails: mem::replace(&mut self.fails.bay, Vec::new(self.alloc)),
         };
         let mut bay = MemoryBay::new(self.alloc, plan);
         self.fill_bay(&mut bay)?;
-        let step = self.sink_step.max(1);
-        let sink = MemorySink::new(self.alloc, self.room, step, sink)?;
-        Ok((bay, sink))
+        Ok(bay)
     }
 
     fn fill_bay(&self, bay: &mut MemoryBay) -> Result<(), CaseError> {
@@ -70,7 +75,8 @@ impl Setup {
             put_into(self.alloc, bay, device)?;
         }
         for script in &self.scripts {
-            bay.put_text(script.name.as_str(), script.bytes.to_vec(self.alloc)?)?;
+            let text = script.bytes.to_vec(self.alloc)?;
+            bay.put_text(script.name.as_str(), text)?;
         }
         Ok(())
     }

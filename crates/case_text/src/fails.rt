@@ -4,7 +4,7 @@ use crate::CaseError;
 use crate::words::{Words, look_up, number};
 use block_device::Kind;
 use end_points::Call;
-use std::alloc::{AllocError, Global};
+use std::alloc::Global;
 
 /// The calls of the next run that fail, by number from 0 within their kind.
 #[derive(Drop)]
@@ -36,9 +36,8 @@ static FAILING: [(&str, Failing); 7] = [
 ];
 
 /// Adds an item to a list.
-fn add<T: Drop>(all: &mut Vec<T>, item: T) -> Result<(), AllocError> {
-    all.push(item)?;
-    Ok(())
+fn add<T: Drop>(all: &mut Vec<T>, item: T) -> Result<(), CaseError> {
+    all.push(item).map_err(CaseError::from)
 }
 
 impl Fails {
@@ -53,11 +52,11 @@ impl Fails {
     }
 
     /// Has this read of a device fail.
-    pub fn fail_read(&mut self, at: u64) -> Result<(), AllocError> {
+    pub fn fail_read(&mut self, at: u64) -> Result<(), CaseError> {
         add(&mut self.device, (Kind::Read, at))
     }
 
-    fn fail(&mut self, what: Failing, at: u64) -> Result<(), AllocError> {
+    fn fail(&mut self, what: Failing, at: u64) -> Result<(), CaseError> {
         match what {
             Failing::Device(kind) => add(&mut self.device, (kind, at)),
             Failing::Bay(call) => add(&mut self.bay, (call, at)),
@@ -70,8 +69,9 @@ impl Fails {
     /// the bay, a read of a `source`, or a write of the `sink`.
     pub fn follow(&mut self, words: Words<'_>) -> Result<(), CaseError> {
         let (what, at) = words.last_two()?;
+        let at = number(at)?;
         match look_up(&FAILING, what) {
-            Some(what) => Ok(self.fail(what, number(at)?)?),
+            Some(what) => self.fail(what, at),
             None => Err(CaseError::Line("no such call")),
         }
     }

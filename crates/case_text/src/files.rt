@@ -3,7 +3,7 @@
 use crate::{CaseError, Text};
 use std::alloc::Global;
 use std::rt::Files;
-use std::{fs, io};
+use std::{fs, io, mem};
 
 /// What follows the lines of a case.
 pub trait Follow: Drop {
@@ -14,24 +14,36 @@ pub trait Follow: Drop {
     fn follow(&mut self, line: &str, out: &mut Text) -> Result<(), CaseError>;
 }
 
-/// Prints what the cases of a text come to. A line `case WORDS` begins one, with nothing set up; a line that can't be followed is
-/// printed with what is wrong with it.
-fn follow_all<F: Follow>(alloc: Global, text: &str, out: &mut Text) -> Result<(), CaseError> {
-    let mut case = F::begin(alloc)?;
-    for line in text.lines() {
-        if line.starts_with("case ") {
-            case = F::begin(alloc)?;
-            out.println(format_args!("\n{line}"));
-        } else if let Err(wrong) = case.follow(line, out) {
-            out.println(format_args!("{wrong}: {line}"));
-        }
+/// Follows a line of a text. A line `case WORDS` begins a case with nothing set up; a line that can't be followed is printed with
+/// what is wrong with it.
+fn follow_line<F: Follow>(
+    alloc: Global,
+    case: &mut F,
+    line: &str,
+    out: &mut Text,
+) -> Result<(), CaseError> {
+    if line.starts_with("case ") {
+        drop(mem::replace(case, F::begin(alloc)?));
+        out.println(format_args!("\n{line}"));
+    } else if let Err(wrong) = case.follow(line, out) {
+        out.println(format_args!("{wrong}: {line}"));
     }
     Ok(())
 }
 
-/// What the cases of a text come to.
-fn cases<F: Follow>(alloc: Global, text: &str) -> Result<String, CaseError> {
+/// Prints what the cases of a text come to.
+fn follow_all<F: Follow>(alloc: Global, text: &str, out: &mut Text) -> Result<(), CaseError> {
+    let mut case = F::begin(alloc)?;
+    for line in text.lines() {
+        follow_line(alloc, &mut case, line, out)?;
+    }
+    Ok(())
+}
+
+/// What the file at a path comes to, by the cases of its text.
+fn shown<F: Follow>(alloc: Global, path: &str, text: &str) -> Result<String, CaseError> {
     let mut out = Text::new(alloc);
+    out.println(format_args!("file {path}"));
     follow_all::<F>(alloc, text, &mut out)?;
     out.finish()
 }
@@ -39,8 +51,7 @@ fn cases<F: Follow>(alloc: Global, text: &str) -> Result<String, CaseError> {
 /// Prints what the cases of the file at a path come to.
 pub fn run_file<F: Follow, R: Files + Print + AllocGlobal>(rt: &R, path: &str) -> io::Result<()> {
     let text = fs::read_to_string(rt, path)?;
-    rt.println(format_args!("file {path}"))?;
-    match cases::<F>(rt.alloc(), text.as_str()) {
+    match shown::<F>(rt.alloc(), path, text.as_str()) {
         Ok(out) => rt.print(out.as_str()),
         Err(_) => Err(io::Error::from(io::ErrorKind::OutOfMemory)),
     }

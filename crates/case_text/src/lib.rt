@@ -12,14 +12,16 @@ mod files;
 mod named;
 mod printing;
 mod setup;
+mod spelling;
 mod text;
 mod words;
 
 pub use error::CaseError;
 pub use fails::Fails;
 pub use files::{Follow, run_file};
-pub use named::{Named, bytes_of, put};
+pub use named::{Named, bytes_of};
 pub use printing::{print_bytes, print_piece, print_text};
 pub use setup::Setup;
+pub use spelling::Spelling;
 pub use text::Text;
 pub use words::{Words, byte, kind_of, look_up, number, read_hex, small};

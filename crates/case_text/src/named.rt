@@ -1,6 +1,7 @@
 //! Bytes under names.
 
-use std::alloc::{AllocError, Global};
+use crate::CaseError;
+use std::alloc::Global;
 
 /// Bytes under a name.
 #[derive(Drop)]
@@ -25,9 +26,8 @@ pub fn put(
     all: &mut Vec<Named>,
     name: &str,
     bytes: Vec<u8>,
-) -> Result<(), AllocError> {
+) -> Result<(), CaseError> {
+    all.retain(|named| named.name.as_str() != name);
     let name = String::from_str(alloc, name)?;
-    all.retain(|named| named.name.as_str() != name.as_str());
-    all.push(Named { name, bytes })?;
-    Ok(())
+    all.push(Named { name, bytes }).map_err(CaseError::from)
 }

@@ -30,13 +30,15 @@ fn print_word(out: &mut Text, word: &[u8]) {
     print_run(out, str::from_utf8(last).unwrap_or("?"), count);
 }
 
-fn print_line(out: &mut Text, line: &str) {
+/// Shows a line between what begins and what ends it.
+fn print_line(out: &mut Text, begin: &str, line: &str, end: &str) {
     match line.rsplit_once(' ') {
         Some((front, last)) if LONG < line.len() => {
-            out.print(front);
+            out.print(format_args!("{begin}{front}"));
             print_word(out, last.as_bytes());
+            out.print(end);
         }
-        _ => out.print(line),
+        _ => out.print(format_args!("{begin}{line}{end}")),
     }
 }
 
@@ -45,16 +47,8 @@ pub fn print_text(out: &mut Text, text: &[u8]) {
     let text = str::from_utf8(text).unwrap_or("no text");
     for line in text.split_inclusive('\n') {
         match line.strip_suffix("\n") {
-            Some(line) => {
-                out.print("| ");
-                print_line(out, line);
-                out.print("\n");
-            }
-            None => {
-                out.print("> \"");
-                print_line(out, line);
-                out.print("\"\n");
-            }
+            Some(line) => print_line(out, "| ", line, "\n"),
+            None => print_line(out, "> \"", line, "\"\n"),
         }
     }
 }

@@ -1,8 +1,9 @@
 //! What a case has set up, and the lines that say it.
 
-use crate::contents::{Change, Slot, filled, lay, make_change, spelled_slot};
+use crate::contents::{Change, Slot, make_change, spelled_slot};
 use crate::named::{bytes_of, put};
-use crate::words::{Words, kind_of, read_hex, small};
+use crate::spelling::Spelling;
+use crate::words::{Words, kind_of, read_hex};
 use crate::{CaseError, Fails, Named};
 use std::alloc::Global;
 
@@ -23,7 +24,7 @@ enum LineKind {
     Line,
     /// `> "TEXT"`: adds text without an end of line to the last script.
     Text,
-    /// `repeat COUNT WORD`: adds the word so many times.
+    /// `repeat COUNT TEXT`: adds the text so many times.
     Repeat,
     /// `lines COUNT TEXT`: adds the text so many times, each with an end of line.
     Lines,
@@ -61,6 +62,16 @@ static LINE_KINDS: [(&str, LineKind); 18] = [
     ("fail", LineKind::Fail),
 ];
 
+/// A number, or the greatest one of 32 bits where it is greater.
+fn at_most_32_bits(number: u64) -> u32 {
+    u32::try_from(number).unwrap_or(u32::MAX)
+}
+
+/// How many reaps a submission waits, in decimal.
+fn lag_of(word: &str) -> Result<u8, CaseError> {
+    word.parse::<u8>().ok().ok_or(CaseError::Line("no lag"))
+}
+
 /// What a case has set up. At first there is no device and no script; submissions wait for two reaps, a read of a script gives
 /// 7 bytes, and the sink has room for 4000 bytes, of which a call takes at most 50.
 #[derive(Drop)]
@@ -97,10 +108,7 @@ impl Setup {
             return Ok(true);
         }
         match kind_of(&LINE_KINDS, line) {
-            Some((kind, words)) => {
-                self.set(kind, words)?;
-                Ok(true)
-            }
+            Some((kind, words)) => self.set(kind, words).and(Ok(true)),
             None => Ok(false),
         }
     }
@@ -112,10 +120,10 @@ impl Setup {
             LineKind::Copy => self.set_copy(words),
             LineKind::Change(how) => self.set_changed(how, words),
             LineKind::Script => self.set_script(words),
-            LineKind::Line => self.add_text(words.text(), "\n"),
-            LineKind::Text => self.add_text(words.quoted()?, ""),
-            LineKind::Repeat => self.add_repeated(words),
-            LineKind::Lines => self.add_lines(words),
+            LineKind::Line => self.repeat(1, words.text(), "\n"),
+            LineKind::Text => self.repeat(1, words.quoted()?, ""),
+            LineKind::Repeat => self.add_repeated(words, ""),
+            LineKind::Lines => self.add_repeated(words, "\n"),
             LineKind::Digits => self.add_digits(words),
             LineKind::Lags => self.set_lags(words),
             LineKind::Source => self.set_source(words),
@@ -124,36 +132,43 @@ impl Setup {
         }
     }
 
+    /// The contents under a name.
+    pub fn bytes(&self, name: &str) -> Result<&[u8], CaseError> {
+        bytes_of(&self.devices, name).ok_or(CaseError::Line("no such device"))
+    }
+
     /// A copy of the contents under a name.
     pub fn contents(&self, name: &str) -> Result<Vec<u8>, CaseError> {
-        match bytes_of(&self.devices, name) {
-            Some(bytes) => Ok(bytes.to_vec(self.alloc)?),
-            None => Err(CaseError::Line("no such device")),
-        }
+        let bytes = self.bytes(name)?;
+        bytes.to_vec(self.alloc).map_err(CaseError::from)
     }
 
     /// Puts a device of these contents under a name.
     pub fn put_device(&mut self, name: &str, contents: Vec<u8>) -> Result<(), CaseError> {
-        Ok(put(self.alloc, &mut self.devices, name, contents)?)
+        put(self.alloc, &mut self.devices, name, contents)
     }
 
     /// Puts a script of this text under a name.
     pub fn put_script(&mut self, name: &str, text: &[u8]) -> Result<(), CaseError> {
         let text = text.to_vec(self.alloc)?;
-        Ok(put(self.alloc, &mut self.scripts, name, text)?)
+        put(self.alloc, &mut self.scripts, name, text)
     }
 
-    /// A device of so many units of zeros, with a slot at its front if there is one.
-    fn make_device(&mut self, name: &str, units: u64, front: &[u8]) -> Result<(), CaseError> {
-        let mut contents = filled(self.alloc, units.saturating_mul(4096), 0)?;
-        lay(&mut contents, 0, front)?;
-        self.put_device(name, contents)
+    /// Puts a device of so many units under a name, which begins with this and is zeros from there on.
+    fn put_spelled(
+        &mut self,
+        name: &str,
+        units: u64,
+        mut front: Spelling,
+    ) -> Result<(), CaseError> {
+        front.resize(units.saturating_mul(4096), 0);
+        self.put_device(name, front.finish()?)
     }
 
     fn set_device(&mut self, mut words: Words<'_>) -> Result<(), CaseError> {
         let name = words.next()?;
         let [units] = words.numbers::<1>()?;
-        self.make_device(name, units, &[])
+        self.put_spelled(name, units, Spelling::new(self.alloc))
     }
 
     fn set_store(&mut self, mut words: Words<'_>) -> Result<(), CaseError> {
@@ -165,12 +180,13 @@ impl Setup {
             epoch,
             first: 0,
         };
-        self.make_device(name, units, &spelled_slot(self.alloc, &says)?)
+        self.put_spelled(name, units, spelled_slot(self.alloc, &says))
     }
 
-    fn set_copy(&mut self, mut words: Words<'_>) -> Result<(), CaseError> {
-        let contents = self.contents(words.next()?)?;
-        self.put_device(words.last()?, contents)
+    fn set_copy(&mut self, words: Words<'_>) -> Result<(), CaseError> {
+        let (from, to) = words.last_two()?;
+        let contents = self.contents(from)?;
+        self.put_device(to, contents)
     }
 
     fn set_changed(&mut self, how: Change, mut words: Words<'_>) -> Result<(), CaseError> {
@@ -184,63 +200,54 @@ impl Setup {
         self.put_script(words.last()?, &[])
     }
 
-    /// The text of the last script.
-    fn last_script(&mut self) -> Result<&mut Vec<u8>, CaseError> {
+    /// Adds bytes to the text of the last script.
+    fn add(&mut self, bytes: &[u8]) -> Result<(), CaseError> {
         match self.scripts.last_mut() {
-            Some(script) => Ok(&mut script.bytes),
+            Some(script) => script
+                .bytes
+                .extend_from_slice(bytes)
+                .map_err(CaseError::from),
             None => Err(CaseError::Line("no script")),
         }
     }
 
-    /// Adds text and an end to the last script.
-    fn add_text(&mut self, text: &str, end: &str) -> Result<(), CaseError> {
-        let script = self.last_script()?;
-        script.extend_from_slice(text.as_bytes())?;
-        Ok(script.extend_from_slice(end.as_bytes())?)
-    }
-
+    /// Adds text and an end to the last script, so many times.
     fn repeat(&mut self, count: u32, text: &str, end: &str) -> Result<(), CaseError> {
         for _ in 0..count {
-            self.add_text(text, end)?;
+            self.add(text.as_bytes())?;
+            self.add(end.as_bytes())?;
         }
         Ok(())
     }
 
-    fn add_repeated(&mut self, mut words: Words<'_>) -> Result<(), CaseError> {
+    fn add_repeated(&mut self, mut words: Words<'_>, end: &str) -> Result<(), CaseError> {
         let count = words.small()?;
-        self.repeat(count, words.last()?, "")
-    }
-
-    fn add_lines(&mut self, mut words: Words<'_>) -> Result<(), CaseError> {
-        let count = words.small()?;
-        self.repeat(count, words.text(), "\n")
+        self.repeat(count, words.text(), end)
     }
 
     fn add_digits(&mut self, words: Words<'_>) -> Result<(), CaseError> {
         let bytes = read_hex(self.alloc, words.last()?)?;
-        Ok(self.last_script()?.extend_from_slice(&bytes)?)
+        self.add(&bytes)
     }
 
     fn set_lags(&mut self, words: Words<'_>) -> Result<(), CaseError> {
-        let mut lags = Vec::new(self.alloc);
-        for word in words.list(self.alloc)? {
-            match word.parse::<u8>() {
-                Ok(lag) => lags.push(lag)?,
-                Err(_) => return Err(CaseError::Line("no lag")),
-            }
+        self.lags.clear();
+        for word in words.text().split(' ') {
+            self.lags.push(lag_of(word)?)?;
         }
-        self.lags = lags;
         Ok(())
     }
 
     fn set_source(&mut self, words: Words<'_>) -> Result<(), CaseError> {
-        self.source_step = small(words.last()?)?;
+        let [step] = words.numbers::<1>()?;
+        self.source_step = at_most_32_bits(step);
         Ok(())
     }
 
-    fn set_sink(&mut self, mut words: Words<'_>) -> Result<(), CaseError> {
-        self.room = words.small()? as usize;
-        self.sink_step = small(words.last()?)?;
+    fn set_sink(&mut self, words: Words<'_>) -> Result<(), CaseError> {
+        let [room, step] = words.numbers::<2>()?;
+        self.room = room as usize;
+        self.sink_step = at_most_32_bits(step);
         Ok(())
     }
 }

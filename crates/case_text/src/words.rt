@@ -1,6 +1,7 @@
 //! The words of a line, taken one after another, and the numbers and bytes that they spell.
 
 use crate::CaseError;
+use crate::spelling::Spelling;
 use std::alloc::Global;
 
 /// The words of a line that aren't taken yet, with one space between two. The word `''` is the empty one.
@@ -36,16 +37,23 @@ impl<'a> Words<'a> {
     }
 
     /// The last word.
-    pub fn last(mut self) -> Result<&'a str, CaseError> {
-        let word = self.next()?;
-        self.end()?;
-        Ok(word)
+    pub fn last(self) -> Result<&'a str, CaseError> {
+        let (word, rest) = cut(self.rest);
+        if self.rest.is_empty() {
+            return Err(CaseError::Line("words are missing"));
+        }
+        if rest.is_empty() {
+            Ok(unquoted(word))
+        } else {
+            Err(CaseError::Line("words are left"))
+        }
     }
 
     /// The last two words.
-    pub fn last_two(mut self) -> Result<(&'a str, &'a str), CaseError> {
-        let first = self.next()?;
-        Ok((first, self.last()?))
+    pub fn last_two(self) -> Result<(&'a str, &'a str), CaseError> {
+        let (first, rest) = cut(self.rest);
+        let last = Words { rest }.last()?;
+        Ok((unquoted(first), last))
     }
 
     /// The words that are left, as so many numbers in decimal.
@@ -79,23 +87,16 @@ impl<'a> Words<'a> {
 
     /// The text that is left, between two quotation marks.
     pub fn quoted(&self) -> Result<&'a str, CaseError> {
-        match self
-            .rest
+        self.rest
             .strip_prefix('"')
             .and_then(|text| text.strip_suffix('"'))
-        {
-            Some(text) => Ok(text),
-            None => Err(CaseError::Line("no end of the text")),
-        }
+            .ok_or(CaseError::Line("no end of the text"))
     }
 
     /// The words that are left.
     pub fn list(&self, alloc: Global) -> Result<Vec<&'a str>, CaseError> {
         let mut words = Vec::new(alloc);
-        if self.rest.is_empty() {
-            return Ok(words);
-        }
-        for word in self.rest.split(' ') {
+        for word in self.rest.split_terminator(' ') {
             words.push(unquoted(word))?;
         }
         Ok(words)
@@ -103,17 +104,17 @@ impl<'a> Words<'a> {
 
     /// The next word, as a number in decimal.
     pub fn number(&mut self) -> Result<u64, CaseError> {
-        number(self.next()?)
+        self.next().and_then(number)
     }
 
     /// The next word, as a number of 32 bits in decimal.
     pub fn small(&mut self) -> Result<u32, CaseError> {
-        small(self.next()?)
+        self.next().and_then(small)
     }
 
     /// The next word, as a byte of two digits of base 16.
     pub fn byte(&mut self) -> Result<u8, CaseError> {
-        byte(self.next()?)
+        self.next().and_then(byte)
     }
 }
 
@@ -138,26 +139,19 @@ pub fn kind_of<'a, K: Copy>(table: &[(&str, K)], line: &'a str) -> Option<(K, Wo
 
 /// A number in decimal.
 pub fn number(word: &str) -> Result<u64, CaseError> {
-    match word.parse::<u64>() {
-        Ok(number) => Ok(number),
-        Err(_) => Err(CaseError::Line("no number")),
-    }
+    word.parse::<u64>().ok().ok_or(CaseError::Line("no number"))
 }
 
 /// A number of 32 bits in decimal.
 pub fn small(word: &str) -> Result<u32, CaseError> {
-    match word.parse::<u32>() {
-        Ok(number) => Ok(number),
-        Err(_) => Err(CaseError::Line("no small number")),
-    }
+    word.parse::<u32>()
+        .ok()
+        .ok_or(CaseError::Line("no small number"))
 }
 
 /// A byte of two digits of base 16.
 pub fn byte(word: &str) -> Result<u8, CaseError> {
-    match byte_of(word.as_bytes()) {
-        Some(byte) => Ok(byte),
-        None => Err(CaseError::Line("no byte")),
-    }
+    byte_of(word.as_bytes()).ok_or(CaseError::Line("no byte"))
 }
 
 /// The number that a digit of base 16 is.
@@ -177,15 +171,22 @@ fn byte_of(digits: &[u8]) -> Option<u8> {
     }
 }
 
+/// Adds bytes that stand as digits of base 16, two for each.
+pub fn push_digits(out: &mut Spelling, digits: &str) -> Result<(), CaseError> {
+    for pair in digits.as_bytes().chunks(2) {
+        match byte_of(pair) {
+            Some(byte) => out.push(&[byte]),
+            None => return Err(CaseError::Line("no digits of bytes")),
+        }
+    }
+    Ok(())
+}
+
 /// Bytes as digits of base 16, two for each; `-` is none.
 pub fn read_hex(alloc: Global, word: &str) -> Result<Vec<u8>, CaseError> {
-    let mut bytes = Vec::new(alloc);
-    let digits = if word == "-" { "" } else { word };
-    for pair in digits.as_bytes().chunks(2) {
-        let Some(byte) = byte_of(pair) else {
-            return Err(CaseError::Line("no digits of bytes"));
-        };
-        bytes.push(byte)?;
+    let mut bytes = Spelling::new(alloc);
+    if word != "-" {
+        push_digits(&mut bytes, word)?;
     }
-    Ok(bytes)
+    bytes.finish()
 }

@@ -1,6 +1,6 @@
 //! What the rows say of each data unit: its bit in the freelist's bitmap, and the pages that stand on it.
 
-use crate::object::{is_shard_key, read_head};
+use crate::object::{is_shard_key, read_extent};
 use crate::reader::Reader;
 use byte_maps::Bytes;
 use std::alloc::{AllocError, Global};
@@ -31,10 +31,9 @@ fn mark_row(marks: &mut [bool], first: u32, number: u32, bits: &[u8]) -> Option<
 
 /// Takes away the marks of an extent's units.
 fn unmark_extent(marks: &mut [bool], first: u32, fields: &mut Reader<'_>) -> Option<()> {
-    let head = read_head(fields)?;
-    let _sums = fields.bytes(4 * head.count as usize)?;
-    for i in 0..head.count {
-        turn(marks, first, head.unit.checked_add(i as u32)?, false)?;
+    let extent = read_extent(fields)?;
+    for i in 0..extent.count {
+        turn(marks, first, extent.unit.saturating_add(i as u32), false)?;
     }
     Some(())
 }
@@ -74,6 +73,19 @@ fn compare(marks: &mut [bool], first: u32, rows: &[(Bytes, Bytes)]) -> Option<()
     Some(())
 }
 
+/// The units that are marked, ascending.
+fn marked(alloc: Global, marks: &[bool], first: u32) -> Result<Vec<u32>, AllocError> {
+    let mut units = Vec::new(alloc);
+    let mut unit = first;
+    for mark in marks {
+        if *mark {
+            units.push(unit)?;
+        }
+        unit = unit.wrapping_add(1);
+    }
+    Ok(units)
+}
+
 /// Of so many data units from the first one on, those whose bit is 1 and on which no page stands, ascending. None where a bit is 1 that is
 /// of no data unit, or a page stands on a unit whose bit is 0, or on one on which another page stands.
 pub fn leaked_units(
@@ -86,13 +98,5 @@ pub fn leaked_units(
     if compare(&mut marks, first, rows).is_none() {
         return Ok(None);
     }
-    let mut leaked = Vec::new(alloc);
-    let mut unit = first;
-    for mark in marks.iter() {
-        if *mark {
-            leaked.push(unit)?;
-        }
-        unit = unit.wrapping_add(1);
-    }
-    Ok(Some(leaked))
+    Ok(Some(marked(alloc, &marks, first)?))
 }

@@ -3,9 +3,9 @@
 use crate::bitmap::{leaked_units, row_number};
 use crate::object::{Object, read_object};
 use crate::reader::{are_zeros, number_at, small_at};
-use crate::record::{Rows, make_all, read_record, value_of};
+use crate::record::{Rows, make_all, read_record};
 use crate::values::is_value;
-use byte_maps::Bytes;
+use byte_maps::{ByteMap, Bytes};
 use crc32c_csum::crc32c;
 use std::alloc::{AllocError, Global};
 
@@ -80,7 +80,7 @@ fn active_slot(image: &[u8]) -> Option<Slot> {
 
 /// The rows that the records of the active half make.
 fn read_rows(alloc: Global, image: &[u8], slot: &Slot) -> Result<Rows, AllocError> {
-    let mut rows = Vec::new(alloc);
+    let mut rows = ByteMap::new(alloc);
     let half = slot.half as usize;
     let start = 2 + half * (slot.epoch % 2) as usize;
     let mut left = image
@@ -120,7 +120,7 @@ impl Found {
             return Ok(None);
         };
         let rows = read_rows(alloc, image, &slot)?;
-        if !rows.iter().all(is_known) {
+        if !rows.entries().iter().all(is_known) {
             return Ok(None);
         }
         let first = slot.half.wrapping_mul(2).wrapping_add(2);
@@ -128,10 +128,15 @@ impl Found {
         Ok(Some(Found { rows, first, count }))
     }
 
+    /// All rows, by their keys.
+    pub fn rows(&self) -> &[(Bytes, Bytes)] {
+        self.rows.entries()
+    }
+
     /// How many rows there are of collections, of objects, of shards and of values together.
     pub fn len(&self) -> usize {
         let mut count = 0usize;
-        for row in &self.rows {
+        for row in self.rows.entries() {
             if row_number(row.0.as_slice()).is_none() {
                 count = count.wrapping_add(1);
             }
@@ -142,18 +147,18 @@ impl Found {
     /// Whether the bitmap has the row of this number.
     pub fn has_bitmap_row(&self, number: u32) -> bool {
         let [a, b, c, d] = number.to_be_bytes();
-        value_of(self.rows.as_slice(), &[b'b', a, b, c, d]).is_some()
+        self.rows.contains_key(&[b'b', a, b, c, d])
     }
 
     /// The units that the bitmap marks and on which no page stands, ascending. None where the bitmap isn't exact but for these: a bit is 1
     /// that is of no data unit, or a page stands on a unit whose bit is 0, or on one on which another page stands.
     pub fn leaked(&self, alloc: Global) -> Result<Option<Vec<u32>>, AllocError> {
-        leaked_units(alloc, self.rows.as_slice(), self.first, self.count)
+        leaked_units(alloc, self.rows.entries(), self.first, self.count)
     }
 
     /// Whether there is this collection.
     pub fn has_collection(&self, coll: &[u8]) -> bool {
-        for row in &self.rows {
+        for row in self.rows.entries() {
             match row.0.as_slice() {
                 [b'C', name @ ..] if name == coll => return true,
                 _ => {}
@@ -170,6 +175,6 @@ impl Found {
         coll: &[u8],
         name: &[u8],
     ) -> Result<Object, AllocError> {
-        read_object(alloc, image, self.rows.as_slice(), coll, name)
+        read_object(alloc, image, self.rows.entries(), coll, name)
     }
 }

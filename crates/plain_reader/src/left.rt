@@ -8,8 +8,9 @@ use crate::image::Found;
 use crate::object::Object;
 use crate::spelling::{NAMES, spelled};
 use crate::tears::TEARS;
-use crate::values::Values;
+use crate::values::value_place;
 use block_device::{MemoryDevice, Tear};
+use byte_maps::Bytes;
 use case_text::{CaseError, Text, number};
 use crc32c_csum::crc32c;
 use object_model::Book;
@@ -34,7 +35,15 @@ impl Left {
         if self.dev.events() < cut {
             return Err(CaseError::Line("the log is shorter"));
         }
-        Ok(self.dev.image(cut, tear)?)
+        self.dev.image(cut, tear).map_err(CaseError::from)
+    }
+
+    /// The units that the device had leaked before the mount.
+    fn leaked_before(&self, alloc: Global) -> Result<Vec<u32>, CaseError> {
+        let start = self.image(0, Tear::Old)?;
+        let found = Found::read(alloc, &start)?.ok_or(CaseError::Line("there is no store"))?;
+        let leaked = found.leaked(alloc)?;
+        leaked.ok_or(CaseError::Line("the store isn't exact"))
     }
 
     /// The place of a cut: a number of events, or `end`.
@@ -49,11 +58,8 @@ impl Left {
     pub fn dumped(&self, alloc: Global, cut: u64, tear: Tear) -> Result<Vec<u8>, CaseError> {
         let image = self.image(cut, tear)?;
         let mut out = Text::new(alloc);
-        match Found::read(alloc, &image)? {
-            Some(found) => print_found(alloc, &found, &image, &mut out)?,
-            None => out.println("no store"),
-        }
-        Ok(out.finish()?.as_bytes().to_vec(alloc)?)
+        print_store(alloc, &image, &mut out)?;
+        out.finish().map(String::into_bytes)
     }
 }
 
@@ -80,14 +86,29 @@ fn print_value(word: &str, name: &[u8], value: &[u8], out: &mut Text) {
 }
 
 /// Shows the values of an object.
-fn print_values(values: &Values, out: &mut Text) {
-    for entry in values.entries() {
-        let value = entry.1.as_slice();
-        match entry.0.as_slice() {
-            [b'A', name @ ..] => print_value("attr", name, value, out),
-            [b'M', b'-'] => print_value("header", b"", value, out),
-            [b'M', b'.', key @ ..] => print_value("omap", key, value, out),
-            _ => out.println("no value"),
+fn print_values(rows: &[(Bytes, Bytes)], coll: &str, name: &str, out: &mut Text) {
+    for row in rows {
+        let value = row.1.as_slice();
+        match value_place(row.0.as_slice(), coll.as_bytes(), name.as_bytes()) {
+            Some((b'A', name)) => print_value("attr", name, value, out),
+            Some((b'M', [b'-'])) => print_value("header", b"", value, out),
+            Some((b'M', [b'.', key @ ..])) => print_value("omap", key, value, out),
+            Some(_) => out.println("no value"),
+            None => {}
+        }
+    }
+}
+
+/// Shows an object that was found.
+fn print_object(found: &Found, object: &Object, coll: &str, name: &str, out: &mut Text) {
+    match object {
+        Object::Missing => {}
+        Object::Damaged => out.println(format_args!("object {name} damaged")),
+        Object::Whole(bytes, _shards) => {
+            let size = bytes.len();
+            let sum = crc32c(bytes);
+            out.println(format_args!("object {name} size {size} crc {sum:08x}"));
+            print_values(found.rows(), coll, name, out);
         }
     }
 }
@@ -103,30 +124,22 @@ fn print_collection(
     if found.has_collection(coll.as_bytes()) {
         out.println(format_args!("coll {coll}"));
     }
-    for name in NAMES {
-        match found.object(alloc, image, coll.as_bytes(), name.as_bytes())? {
-            Object::Missing => {}
-            Object::Damaged => out.println(format_args!("object {name} damaged")),
-            Object::Whole(bytes, _shards, values) => {
-                let size = bytes.len();
-                let sum = crc32c(&bytes);
-                out.println(format_args!("object {name} size {size} crc {sum:08x}"));
-                print_values(&values, out);
-            }
-        }
+    for name in &NAMES {
+        let object = found.object(alloc, image, coll.as_bytes(), name.as_bytes())?;
+        print_object(found, &object, coll, name, out);
+        drop(object);
     }
     Ok(())
 }
 
-/// Shows all collections that were found.
-fn print_found(
-    alloc: Global,
-    found: &Found,
-    image: &[u8],
-    out: &mut Text,
-) -> Result<(), CaseError> {
-    for coll in COLLS {
-        print_collection(alloc, found, image, coll, out)?;
+/// Shows all collections that are found in an image.
+fn print_store(alloc: Global, image: &[u8], out: &mut Text) -> Result<(), CaseError> {
+    let Some(found) = Found::read(alloc, image)? else {
+        out.println("no store");
+        return Ok(());
+    };
+    for coll in &COLLS {
+        print_collection(alloc, &found, image, coll, out)?;
     }
     out.println("end");
     Ok(())
@@ -152,14 +165,8 @@ impl Judge {
         history: &[Past],
         earlier: u64,
     ) -> Result<Judge, CaseError> {
+        let leaked = left.leaked_before(alloc)?;
         let before = objects_behind(alloc, history)?;
-        let start = left.image(0, Tear::Old)?;
-        let Some(found) = Found::read(alloc, &start)? else {
-            return Err(CaseError::Line("there is no store"));
-        };
-        let Some(leaked) = found.leaked(alloc)? else {
-            return Err(CaseError::Line("the store isn't exact"));
-        };
         Ok(Judge {
             alloc,
             states: states(alloc, before, &left.book, COLL_COUNT)?,
@@ -168,14 +175,21 @@ impl Judge {
         })
     }
 
+    /// Whether the bitmap is exact but for what was leaked before.
+    fn is_exact(&self, found: &Found) -> Result<bool, CaseError> {
+        match found.leaked(self.alloc)? {
+            Some(units) => Ok(units == self.leaked),
+            None => Ok(false),
+        }
+    }
+
     /// Whether an image is of one of the states from this place on, and its bitmap exact but for what was leaked before.
     fn is_of(&self, image: &[u8], least: usize) -> Result<bool, CaseError> {
         let Some(found) = Found::read(self.alloc, image)? else {
             return Ok(false);
         };
-        match found.leaked(self.alloc)? {
-            Some(units) if units == self.leaked => {}
-            _ => return Ok(false),
+        if !self.is_exact(&found)? {
+            return Ok(false);
         }
         match spelled(self.alloc, &found, image, COLL_COUNT)? {
             Some(objects) => Ok(has_from(&self.states, least, &objects)),
@@ -187,9 +201,9 @@ impl Judge {
     fn judge_cut(&self, left: &Left, cut: u64, counts: &mut Counts) -> Result<(), CaseError> {
         let least = acknowledged(&left.book, cut, self.earlier);
         counts.cuts = counts.cuts.wrapping_add(1);
-        for tear in TEARS {
-            let good = self.is_of(&left.image(cut, tear)?, least)?;
-            counts.count(cut, tear, good);
+        for tear in &TEARS {
+            let good = self.is_of(&left.image(cut, *tear)?, least)?;
+            counts.count(cut, *tear, good);
         }
         Ok(())
     }

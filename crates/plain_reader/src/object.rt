@@ -1,9 +1,8 @@
 //! The bytes of an object, of its rows and its pages.
 
 use crate::image::unit;
-use crate::reader::{Reader, number_at};
-use crate::record::value_of;
-use crate::values::{Values, behind_name, values_of};
+use crate::reader::{Reader, number_at, small_at};
+use crate::values::{behind_name, behind_names};
 use byte_maps::Bytes;
 use crc32c_csum::crc32c;
 use std::alloc::{AllocError, Global};
@@ -15,20 +14,8 @@ pub enum Object {
     Missing,
     /// A row says what no row says, or a page has another checksum than its row keeps.
     Damaged,
-    /// Its bytes, zeros where it has no page, how many shards it has, and its values.
-    Whole(Vec<u8>, usize, Values),
-}
-
-/// `O`, both names, and `o`: the key of the onode, and the front of those of its shards.
-fn onode_key(alloc: Global, coll: &[u8], name: &[u8]) -> Result<Vec<u8>, AllocError> {
-    let mut key = Vec::new(alloc);
-    key.push(b'O')?;
-    key.extend_from_slice(coll)?;
-    key.push(0)?;
-    key.extend_from_slice(name)?;
-    key.push(0)?;
-    key.push(b'o')?;
-    Ok(key)
+    /// Its bytes, zeros where it has no page, and how many shards it has.
+    Whole(Vec<u8>, usize),
 }
 
 /// Whether a key is that of a shard of any object: `O`, two names that zero bytes end, `o`, the page, and `x`.
@@ -42,12 +29,22 @@ pub fn is_shard_key(key: &[u8]) -> bool {
     }
 }
 
-/// Whether the row is a shard of the onode of this key.
-fn is_shard(row: &(Bytes, Bytes), onode: &[u8]) -> bool {
-    match row.0.as_slice().strip_prefix(onode) {
-        Some([_, _, _, _, b'x']) => true,
+/// Whether the row is a shard of this object.
+fn is_shard(key: &[u8], coll: &[u8], name: &[u8]) -> bool {
+    match behind_names(key, coll, name) {
+        Some((b'O', [b'o', _, _, _, _, b'x'])) => true,
         _ => false,
     }
+}
+
+/// The value of an object's onode.
+fn onode_of<'a>(rows: &'a [(Bytes, Bytes)], coll: &[u8], name: &[u8]) -> Option<&'a [u8]> {
+    for row in rows {
+        if let Some((b'O', [b'o'])) = behind_names(row.0.as_slice(), coll, name) {
+            return Some(row.1.as_slice());
+        }
+    }
+    None
 }
 
 /// Lays a page over the bytes, cut at their end.
@@ -58,37 +55,45 @@ fn lay(bytes: &mut [u8], page: u32, unit: &[u8]) -> Option<()> {
     Some(())
 }
 
-/// What stands before the checksums of an extent.
+/// An extent of a shard.
 #[derive(Clone, Copy)]
-pub struct Head {
+pub struct Extent<'a> {
     page: u32,
-    /// How many pages it has, and so how many units and checksums.
+    /// How many pages it has, and so how many units.
     pub count: u16,
     /// The first of its units.
     pub unit: u32,
+    /// The checksum of each page.
+    sums: &'a [u8],
 }
 
-/// The head of an extent.
-pub fn read_head(fields: &mut Reader<'_>) -> Option<Head> {
-    let page = fields.u32()?;
-    let count = fields.u16()?;
-    let kind = fields.u8()?;
-    let unit = fields.u32()?;
-    if kind != 0 || count == 0 || 256 < count {
+/// The next extent.
+pub fn read_extent<'a>(fields: &mut Reader<'a>) -> Option<Extent<'a>> {
+    let [p0, p1, p2, p3, c0, c1, 0, u0, u1, u2, u3] = fields.bytes(11)? else {
+        return None;
+    };
+    let count = u16::from_le_bytes([*c0, *c1]);
+    let sums = fields.bytes(4 * count as usize)?;
+    if count == 0 || 256 < count {
         return None;
     }
-    Some(Head { page, count, unit })
+    Some(Extent {
+        page: u32::from_le_bytes([*p0, *p1, *p2, *p3]),
+        count,
+        unit: u32::from_le_bytes([*u0, *u1, *u2, *u3]),
+        sums,
+    })
 }
 
-/// Lays the pages of an extent over the bytes: its head, and a checksum for each page.
+/// Lays the pages of an extent over the bytes.
 fn lay_extent(image: &[u8], fields: &mut Reader<'_>, bytes: &mut [u8]) -> Option<()> {
-    let head = read_head(fields)?;
-    for i in 0..head.count {
-        let found = unit(image, head.unit.checked_add(i as u32)?)?;
-        if fields.u32()? != crc32c(found) {
+    let extent = read_extent(fields)?;
+    for i in 0..extent.count {
+        let found = unit(image, extent.unit.saturating_add(i as u32))?;
+        if small_at(extent.sums, 4 * i as usize) != crc32c(found) {
             return None;
         }
-        lay(bytes, head.page.checked_add(i as u32)?, found)?;
+        lay(bytes, extent.page.saturating_add(i as u32), found)?;
     }
     Some(())
 }
@@ -105,16 +110,17 @@ fn lay_shard(image: &[u8], shard: &[u8], bytes: &mut [u8]) -> Option<()> {
     if fields.is_empty() { Some(()) } else { None }
 }
 
-/// Lays the pages of all shards of an onode over the bytes, and counts the shards.
+/// Lays the pages of all shards of an object over its bytes, and counts the shards.
 fn lay_shards(
     image: &[u8],
     rows: &[(Bytes, Bytes)],
-    onode: &[u8],
+    coll: &[u8],
+    name: &[u8],
     bytes: &mut [u8],
 ) -> Option<usize> {
     let mut shards = 0usize;
     for row in rows {
-        if is_shard(row, onode) {
+        if is_shard(row.0.as_slice(), coll, name) {
             lay_shard(image, row.1.as_slice(), bytes)?;
             shards = shards.wrapping_add(1);
         }
@@ -140,19 +146,15 @@ pub fn read_object(
     coll: &[u8],
     name: &[u8],
 ) -> Result<Object, AllocError> {
-    let key = onode_key(alloc, coll, name)?;
-    let Some(onode) = value_of(rows, &key) else {
+    let Some(onode) = onode_of(rows, coll, name) else {
         return Ok(Object::Missing);
     };
     let Some(size) = size_of(onode) else {
         return Ok(Object::Damaged);
     };
     let mut bytes = vec![in alloc; 0u8; size]?;
-    match lay_shards(image, rows, &key, &mut bytes) {
-        Some(shards) => {
-            let values = values_of(alloc, rows, coll, name)?;
-            Ok(Object::Whole(bytes, shards, values))
-        }
+    match lay_shards(image, rows, coll, name, &mut bytes) {
+        Some(shards) => Ok(Object::Whole(bytes, shards)),
         None => Ok(Object::Damaged),
     }
 }

@@ -1,12 +1,12 @@
 //! Records of the log, and the rows that their operations make.
 
 use crate::reader::{Reader, are_zeros, number_at, small_at};
-use byte_maps::Bytes;
+use byte_maps::{ByteMap, Bytes};
 use crc32c_csum::Digest;
 use std::alloc::{AllocError, Global};
 
-/// Rows by their keys, in no order.
-pub type Rows = Vec<(Bytes, Bytes)>;
+/// Rows by their keys.
+pub type Rows = ByteMap<Bytes>;
 
 /// The body of a valid record.
 #[derive(Clone, Copy)]
@@ -31,10 +31,13 @@ fn read_change<'a>(fields: &mut Reader<'a>) -> Option<Change<'a>> {
     if key.is_empty() || 1024 < key.len() {
         return None;
     }
+    if code == 2 {
+        return Some(Change::Drop(key));
+    }
+    let value = fields.long()?;
     match code {
-        1 => Some(Change::Set(key, fields.long()?)),
-        2 => Some(Change::Drop(key)),
-        3 => Some(Change::Flip(key, fields.long()?)),
+        1 => Some(Change::Set(key, value)),
+        3 => Some(Change::Flip(key, value)),
         _ => None,
     }
 }
@@ -82,55 +85,48 @@ pub fn read_record(bytes: &[u8], number: u64) -> Option<Record<'_>> {
     }
 }
 
-/// The value of a row.
-pub fn value_of<'a>(rows: &'a [(Bytes, Bytes)], key: &[u8]) -> Option<&'a [u8]> {
-    for row in rows {
-        if row.0.as_slice() == key {
-            return Some(row.1.as_slice());
-        }
-    }
-    None
-}
-
-fn set(alloc: Global, rows: &mut Rows, key: &[u8], value: Bytes) -> Result<(), AllocError> {
-    remove(rows, key);
-    rows.push((Bytes::from_slice(alloc, key)?, value))?;
-    Ok(())
-}
-
-fn remove(rows: &mut Rows, key: &[u8]) {
-    rows.retain(|row| row.0.as_slice() != key);
+/// Puts copies of a key and its value into the rows.
+fn put(alloc: Global, rows: &mut Rows, key: &[u8], value: &[u8]) -> Result<(), AllocError> {
+    let key = Bytes::from_slice(alloc, key)?;
+    rows.insert(key, Bytes::from_slice(alloc, value)?)
 }
 
 /// The exclusive-or, the shorter filled up with zeros.
-fn xored(alloc: Global, one: &[u8], other: &[u8]) -> Result<Bytes, AllocError> {
-    let mut bytes = Bytes::new(alloc);
-    for i in 0..one.len().max(other.len()) {
-        let a = one.get(i).copied().unwrap_or(0);
-        let b = other.get(i).copied().unwrap_or(0);
-        bytes.push(a ^ b)?;
+fn xored(alloc: Global, one: &[u8], other: &[u8]) -> Result<Vec<u8>, AllocError> {
+    let (short, long) = if one.len() < other.len() {
+        (one, other)
+    } else {
+        (other, one)
+    };
+    let mut bytes = long.to_vec(alloc)?;
+    for (byte, with) in bytes.iter_mut().zip(short) {
+        *byte ^= *with;
     }
     Ok(bytes)
 }
 
+/// The value of a row after its bits that a mask names are turned.
+fn flipped(alloc: Global, rows: &Rows, key: &[u8], mask: &[u8]) -> Result<Vec<u8>, AllocError> {
+    match rows.get(key) {
+        Some(old) => xored(alloc, old.as_slice(), mask),
+        None => mask.to_vec(alloc),
+    }
+}
+
 fn flip(alloc: Global, rows: &mut Rows, key: &[u8], mask: &[u8]) -> Result<(), AllocError> {
-    let old = value_of(rows.as_slice(), key).unwrap_or(&[]);
-    let value = xored(alloc, old, mask)?;
-    if are_zeros(value.as_slice(), 0) {
-        remove(rows, key);
+    let value = flipped(alloc, rows, key, mask)?;
+    if are_zeros(&value, 0) {
+        drop(rows.take(key));
         return Ok(());
     }
-    set(alloc, rows, key, value)
+    put(alloc, rows, key, &value)
 }
 
 fn make(alloc: Global, rows: &mut Rows, change: Change<'_>) -> Result<(), AllocError> {
     match change {
-        Change::Set(key, value) => {
-            let value = Bytes::from_slice(alloc, value)?;
-            set(alloc, rows, key, value)
-        }
+        Change::Set(key, value) => put(alloc, rows, key, value),
         Change::Drop(key) => {
-            remove(rows, key);
+            drop(rows.take(key));
             Ok(())
         }
         Change::Flip(key, mask) => flip(alloc, rows, key, mask),

@@ -17,8 +17,5 @@ static TEAR_NAMES: [(&str, Tear); 5] = [
 
 /// The tear of this name.
 pub fn tear_of(word: &str) -> Result<Tear, CaseError> {
-    match look_up(&TEAR_NAMES, word) {
-        Some(tear) => Ok(tear),
-        None => Err(CaseError::Line("no tear")),
-    }
+    look_up(&TEAR_NAMES, word).ok_or(CaseError::Line("no tear"))
 }

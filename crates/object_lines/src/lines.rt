@@ -17,43 +17,39 @@ pub struct ObjectLines {
 
 /// The command of a line.
 fn command(alloc: Global, line: &str) -> Result<Command, CaseError> {
-    match question(alloc, line)? {
-        Some(command) => Ok(command),
-        None => {
-            let coll = the_collection(alloc)?;
-            Ok(Command::Change(transaction(alloc, &coll, line)?))
-        }
+    if let Some(command) = question(alloc, line)? {
+        return Ok(command);
     }
+    let coll = the_collection(alloc)?;
+    transaction(alloc, &coll, line).map(Command::Change)
 }
 
 impl ObjectLines {
-    /// The answer to a command. A transaction that is accepted is applied.
-    fn answer(&mut self, command: &Command) -> Result<Answer, CaseError> {
-        let Ok(answer) = self.plain.reply(self.alloc, command) else {
-            return Err(CaseError::OutOfMemory);
+    /// Applies the transaction of a command that was accepted.
+    fn apply(&mut self, command: &Command) -> Result<(), CaseError> {
+        let Command::Change(change) = command else {
+            return Ok(());
         };
-        if let (Command::Change(change), Answer::Accepted) = (command, &answer) {
-            match self.plain.apply(self.alloc, change) {
-                Ok(()) => {}
-                Err(ArgFault::Refused(_)) => {
-                    drop(answer);
-                    return Err(CaseError::Line("refused after all"));
-                }
-                Err(ArgFault::Memory) => {
-                    drop(answer);
-                    return Err(CaseError::OutOfMemory);
-                }
-            }
+        match self.plain.apply(self.alloc, change) {
+            Ok(()) => Ok(()),
+            Err(ArgFault::Refused(_)) => Err(CaseError::Line("refused after all")),
+            Err(ArgFault::Memory) => Err(CaseError::OutOfMemory),
         }
-        Ok(answer)
     }
 
-    /// The answer to the command of a line.
-    fn reply(&mut self, line: &str) -> Result<Answer, CaseError> {
+    /// Shows the answer to the command of a line. A transaction that is accepted is applied.
+    fn reply(&mut self, line: &str, out: &mut Text) -> Result<(), CaseError> {
         let command = command(self.alloc, line)?;
-        let answer = self.answer(&command);
+        let answer = self.plain.reply(self.alloc, &command)?;
+        out.println(line);
+        print_answer(&answer, out);
+        let applied = match answer {
+            Answer::Accepted => self.apply(&command),
+            _ => Ok(()),
+        };
+        drop(answer);
         drop(command);
-        answer
+        applied
     }
 }
 
@@ -71,10 +67,6 @@ impl Follow for ObjectLines {
         if line.is_empty() || line.starts_with('#') {
             return Ok(());
         }
-        let answer = self.reply(line)?;
-        out.println(line);
-        print_answer(&answer, out);
-        drop(answer);
-        Ok(())
+        self.reply(line, out)
     }
 }

@@ -1,6 +1,6 @@
 //! Operations of a transaction.
 
-use crate::reading::{keys, last_bytes, last_name, next_name, pairs};
+use crate::reading::{keys, last_bytes, last_name, next_name, pairs, two_names};
 use bytes::Bytes as SharedBytes;
 use case_text::{CaseError, Words, kind_of};
 use object_model::Op;
@@ -10,37 +10,54 @@ use unit_fields::Name;
 /// The operations, by what stands behind their words.
 #[derive(Clone, Copy)]
 enum OpKind {
-    /// `mkcoll`
-    MkColl,
-    /// `rmcoll`
-    RmColl,
-    /// `WORD NAME ..`: an operation on an object.
+    /// `WORD`: of the whole collection.
+    Coll(CollOp),
+    /// `WORD NAME`
+    Alone(AloneOp),
+    /// `WORD NAME NAME`
+    Pair(PairOp),
+    /// `WORD NAME ..`
     Object(ObjectOp),
 }
 
-/// The operations on an object.
+/// The operations of a whole collection.
+#[derive(Clone, Copy)]
+enum CollOp {
+    Make,
+    Remove,
+}
+
+/// The operations that take nothing beside an object's name.
+#[derive(Clone, Copy)]
+enum AloneOp {
+    Touch,
+    Remove,
+    RmAttrs,
+    OmapClear,
+}
+
+/// The operations that take one more name.
+#[derive(Clone, Copy)]
+enum PairOp {
+    /// `clone NAME TO`
+    Clone,
+    /// `rmattr NAME ATTR`
+    RmAttr,
+}
+
+/// The other operations on an object.
 #[derive(Clone, Copy)]
 enum ObjectOp {
-    /// `touch NAME`
-    Touch,
     /// `write NAME OFF BYTES`
     Write,
     /// `zero NAME OFF LEN`
     Zero,
     /// `truncate NAME SIZE`
     Truncate,
-    /// `remove NAME`
-    Remove,
-    /// `clone NAME TO`
-    Clone,
     /// `clonerange NAME TO SRC LEN DST`
     CloneRange,
     /// `setattr NAME ATTR BYTES`
     SetAttr,
-    /// `rmattr NAME ATTR`
-    RmAttr,
-    /// `rmattrs NAME`
-    RmAttrs,
     /// `omapset NAME KEY BYTES ..`
     OmapSet,
     /// `omaprm NAME KEY ..`
@@ -49,42 +66,63 @@ enum ObjectOp {
     OmapRmRange,
     /// `omapheader NAME BYTES`
     OmapHeader,
-    /// `omapclear NAME`
-    OmapClear,
 }
 
 static OPERATIONS: [(&str, OpKind); 17] = [
-    ("mkcoll", OpKind::MkColl),
-    ("rmcoll", OpKind::RmColl),
-    ("touch", OpKind::Object(ObjectOp::Touch)),
+    ("mkcoll", OpKind::Coll(CollOp::Make)),
+    ("rmcoll", OpKind::Coll(CollOp::Remove)),
+    ("touch", OpKind::Alone(AloneOp::Touch)),
     ("write", OpKind::Object(ObjectOp::Write)),
     ("zero", OpKind::Object(ObjectOp::Zero)),
     ("truncate", OpKind::Object(ObjectOp::Truncate)),
-    ("remove", OpKind::Object(ObjectOp::Remove)),
-    ("clone", OpKind::Object(ObjectOp::Clone)),
+    ("remove", OpKind::Alone(AloneOp::Remove)),
+    ("clone", OpKind::Pair(PairOp::Clone)),
     ("clonerange", OpKind::Object(ObjectOp::CloneRange)),
     ("setattr", OpKind::Object(ObjectOp::SetAttr)),
-    ("rmattr", OpKind::Object(ObjectOp::RmAttr)),
-    ("rmattrs", OpKind::Object(ObjectOp::RmAttrs)),
+    ("rmattr", OpKind::Pair(PairOp::RmAttr)),
+    ("rmattrs", OpKind::Alone(AloneOp::RmAttrs)),
     ("omapset", OpKind::Object(ObjectOp::OmapSet)),
     ("omaprm", OpKind::Object(ObjectOp::OmapRm)),
     ("omaprmrange", OpKind::Object(ObjectOp::OmapRmRange)),
     ("omapheader", OpKind::Object(ObjectOp::OmapHeader)),
-    ("omapclear", OpKind::Object(ObjectOp::OmapClear)),
+    ("omapclear", OpKind::Alone(AloneOp::OmapClear)),
 ];
 
-/// The object, where no words are left.
-fn alone(object: Name, words: Words<'_>) -> Result<Name, CaseError> {
-    words.end()?;
-    Ok(object)
+/// An operation of a whole collection.
+fn on_coll(kind: CollOp) -> Op {
+    match kind {
+        CollOp::Make => Op::MkColl,
+        CollOp::Remove => Op::RmColl,
+    }
+}
+
+/// An operation that takes nothing beside an object's name.
+fn on_name(kind: AloneOp, object: Name) -> Op {
+    match kind {
+        AloneOp::Touch => Op::Touch { object },
+        AloneOp::Remove => Op::Remove { object },
+        AloneOp::RmAttrs => Op::RmAttrs { object },
+        AloneOp::OmapClear => Op::OmapClear { object },
+    }
+}
+
+/// An operation that takes one more name.
+fn on_names(kind: PairOp, object: Name, name: Name) -> Op {
+    match kind {
+        PairOp::Clone => Op::Clone { object, to: name },
+        PairOp::RmAttr => Op::RmAttr { object, name },
+    }
+}
+
+/// The bytes of the last word, as an operation shares them.
+fn shared_bytes(alloc: Global, words: Words<'_>) -> Result<SharedBytes, CaseError> {
+    let bytes = last_bytes(alloc, words)?.into_vec(alloc)?;
+    SharedBytes::from_vec(bytes).map_err(CaseError::from)
 }
 
 fn write(alloc: Global, object: Name, mut words: Words<'_>) -> Result<Op, CaseError> {
     let off = words.number()?;
-    let bytes = last_bytes(alloc, words)?.into_vec(alloc)?;
-    let Ok(bytes) = SharedBytes::from_vec(bytes) else {
-        return Err(CaseError::OutOfMemory);
-    };
+    let bytes = shared_bytes(alloc, words)?;
     Ok(Op::Write { object, off, bytes })
 }
 
@@ -96,11 +134,6 @@ fn zero(object: Name, words: Words<'_>) -> Result<Op, CaseError> {
 fn truncate(object: Name, words: Words<'_>) -> Result<Op, CaseError> {
     let [size] = words.numbers::<1>()?;
     Ok(Op::Truncate { object, size })
-}
-
-fn clone(alloc: Global, object: Name, words: Words<'_>) -> Result<Op, CaseError> {
-    let to = last_name(alloc, words)?;
-    Ok(Op::Clone { object, to })
 }
 
 fn clone_range(alloc: Global, object: Name, mut words: Words<'_>) -> Result<Op, CaseError> {
@@ -123,11 +156,6 @@ fn set_attr(alloc: Global, object: Name, mut words: Words<'_>) -> Result<Op, Cas
         name,
         value,
     })
-}
-
-fn rm_attr(alloc: Global, object: Name, words: Words<'_>) -> Result<Op, CaseError> {
-    let name = last_name(alloc, words)?;
-    Ok(Op::RmAttr { object, name })
 }
 
 fn omap_set(alloc: Global, object: Name, words: Words<'_>) -> Result<Op, CaseError> {
@@ -163,41 +191,28 @@ fn on_object(
     words: Words<'_>,
 ) -> Result<Op, CaseError> {
     match kind {
-        ObjectOp::Touch => Ok(Op::Touch {
-            object: alone(object, words)?,
-        }),
         ObjectOp::Write => write(alloc, object, words),
         ObjectOp::Zero => zero(object, words),
         ObjectOp::Truncate => truncate(object, words),
-        ObjectOp::Remove => Ok(Op::Remove {
-            object: alone(object, words)?,
-        }),
-        ObjectOp::Clone => clone(alloc, object, words),
         ObjectOp::CloneRange => clone_range(alloc, object, words),
         ObjectOp::SetAttr => set_attr(alloc, object, words),
-        ObjectOp::RmAttr => rm_attr(alloc, object, words),
-        ObjectOp::RmAttrs => Ok(Op::RmAttrs {
-            object: alone(object, words)?,
-        }),
         ObjectOp::OmapSet => omap_set(alloc, object, words),
         ObjectOp::OmapRm => omap_rm(alloc, object, words),
         ObjectOp::OmapRmRange => omap_rm_range(alloc, object, words),
         ObjectOp::OmapHeader => omap_header(alloc, object, words),
-        ObjectOp::OmapClear => Ok(Op::OmapClear {
-            object: alone(object, words)?,
-        }),
     }
 }
 
 fn of_kind(alloc: Global, kind: OpKind, mut words: Words<'_>) -> Result<Op, CaseError> {
     match kind {
-        OpKind::MkColl => {
+        OpKind::Coll(kind) => {
             words.end()?;
-            Ok(Op::MkColl)
+            Ok(on_coll(kind))
         }
-        OpKind::RmColl => {
-            words.end()?;
-            Ok(Op::RmColl)
+        OpKind::Alone(kind) => Ok(on_name(kind, last_name(alloc, words)?)),
+        OpKind::Pair(kind) => {
+            let (object, name) = two_names(alloc, words)?;
+            Ok(on_names(kind, object, name))
         }
         OpKind::Object(kind) => {
             let object = next_name(alloc, &mut words)?;

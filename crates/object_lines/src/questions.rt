@@ -1,38 +1,48 @@
 //! Reads.
 
-use crate::reading::{last_name, next_name};
+use crate::reading::{last_name, two_names};
 use case_text::{CaseError, Words, kind_of};
 use object_model::Command;
+use plain_reader::name_of;
 use std::alloc::{AllocError, Global};
 use unit_fields::CollName;
 
-/// The reads.
+/// The reads, by what stands behind their words.
 #[derive(Clone, Copy)]
 enum ReadKind {
     /// `list`
     List,
     /// `read NAME OFF LEN`
     Read,
-    /// `sum NAME`
+    /// `WORD NAME`
+    Object(ObjectRead),
+    /// `WORD NAME NAME`
+    Value(ValueRead),
+}
+
+/// The reads that take an object's name.
+#[derive(Clone, Copy)]
+enum ObjectRead {
     Sum,
-    /// `stat NAME`
     Stat,
-    /// `getattr NAME ATTR`
-    GetAttr,
-    /// `omapget NAME KEY`
-    OmapGet,
-    /// `omapgetheader NAME`
     OmapHeader,
+}
+
+/// The reads that take the name of one of its values too.
+#[derive(Clone, Copy)]
+enum ValueRead {
+    Attr,
+    Omap,
 }
 
 static READ_KINDS: [(&str, ReadKind); 7] = [
     ("list", ReadKind::List),
     ("read", ReadKind::Read),
-    ("sum", ReadKind::Sum),
-    ("stat", ReadKind::Stat),
-    ("getattr", ReadKind::GetAttr),
-    ("omapget", ReadKind::OmapGet),
-    ("omapgetheader", ReadKind::OmapHeader),
+    ("sum", ReadKind::Object(ObjectRead::Sum)),
+    ("stat", ReadKind::Object(ObjectRead::Stat)),
+    ("getattr", ReadKind::Value(ValueRead::Attr)),
+    ("omapget", ReadKind::Value(ValueRead::Omap)),
+    ("omapgetheader", ReadKind::Object(ObjectRead::OmapHeader)),
 ];
 
 /// The collection of all cases.
@@ -40,14 +50,17 @@ pub fn the_collection(alloc: Global) -> Result<CollName, AllocError> {
     CollName::new(alloc, 1, 0)
 }
 
-fn list(coll: CollName, words: Words<'_>) -> Result<Command, CaseError> {
+fn list(alloc: Global, words: Words<'_>) -> Result<Command, CaseError> {
     words.end()?;
+    let coll = the_collection(alloc)?;
     Ok(Command::List { coll })
 }
 
-fn read(alloc: Global, coll: CollName, mut words: Words<'_>) -> Result<Command, CaseError> {
-    let object = next_name(alloc, &mut words)?;
+fn read(alloc: Global, mut words: Words<'_>) -> Result<Command, CaseError> {
+    let object = words.next()?;
     let [off, len] = words.numbers::<2>()?;
+    let object = name_of(alloc, object.as_bytes())?;
+    let coll = the_collection(alloc)?;
     Ok(Command::Read {
         coll,
         object,
@@ -56,51 +69,43 @@ fn read(alloc: Global, coll: CollName, mut words: Words<'_>) -> Result<Command, 
     })
 }
 
-fn get_attr(alloc: Global, coll: CollName, mut words: Words<'_>) -> Result<Command, CaseError> {
-    let object = next_name(alloc, &mut words)?;
-    let name = last_name(alloc, words)?;
-    Ok(Command::GetAttr { coll, object, name })
-}
-
-fn omap_get(alloc: Global, coll: CollName, mut words: Words<'_>) -> Result<Command, CaseError> {
-    let object = next_name(alloc, &mut words)?;
-    let key = last_name(alloc, words)?;
-    Ok(Command::OmapGet { coll, object, key })
-}
-
-fn sum(alloc: Global, coll: CollName, words: Words<'_>) -> Result<Command, CaseError> {
+fn of_object(alloc: Global, kind: ObjectRead, words: Words<'_>) -> Result<Command, CaseError> {
     let object = last_name(alloc, words)?;
-    Ok(Command::Sum { coll, object })
+    let coll = the_collection(alloc)?;
+    Ok(match kind {
+        ObjectRead::Sum => Command::Sum { coll, object },
+        ObjectRead::Stat => Command::Stat { coll, object },
+        ObjectRead::OmapHeader => Command::OmapHeader { coll, object },
+    })
 }
 
-fn stat(alloc: Global, coll: CollName, words: Words<'_>) -> Result<Command, CaseError> {
-    let object = last_name(alloc, words)?;
-    Ok(Command::Stat { coll, object })
-}
-
-fn omap_header(alloc: Global, coll: CollName, words: Words<'_>) -> Result<Command, CaseError> {
-    let object = last_name(alloc, words)?;
-    Ok(Command::OmapHeader { coll, object })
+fn of_value(alloc: Global, kind: ValueRead, words: Words<'_>) -> Result<Command, CaseError> {
+    let (object, name) = two_names(alloc, words)?;
+    let coll = the_collection(alloc)?;
+    Ok(match kind {
+        ValueRead::Attr => Command::GetAttr { coll, object, name },
+        ValueRead::Omap => Command::OmapGet {
+            coll,
+            object,
+            key: name,
+        },
+    })
 }
 
 /// A read, from its second word on.
 fn asked(alloc: Global, kind: ReadKind, words: Words<'_>) -> Result<Command, CaseError> {
-    let coll = the_collection(alloc)?;
     match kind {
-        ReadKind::List => list(coll, words),
-        ReadKind::Read => read(alloc, coll, words),
-        ReadKind::Sum => sum(alloc, coll, words),
-        ReadKind::Stat => stat(alloc, coll, words),
-        ReadKind::GetAttr => get_attr(alloc, coll, words),
-        ReadKind::OmapGet => omap_get(alloc, coll, words),
-        ReadKind::OmapHeader => omap_header(alloc, coll, words),
+        ReadKind::List => list(alloc, words),
+        ReadKind::Read => read(alloc, words),
+        ReadKind::Object(kind) => of_object(alloc, kind, words),
+        ReadKind::Value(kind) => of_value(alloc, kind, words),
     }
 }
 
 /// The read of a line, where it is one.
 pub fn question(alloc: Global, line: &str) -> Result<Option<Command>, CaseError> {
     match kind_of(&READ_KINDS, line) {
-        Some((kind, words)) => Ok(Some(asked(alloc, kind, words)?)),
+        Some((kind, words)) => asked(alloc, kind, words).map(Some),
         None => Ok(None),
     }
 }

@@ -17,6 +17,14 @@ pub fn last_name(alloc: Global, words: Words<'_>) -> Result<Name, CaseError> {
     name_of(alloc, words.last()?.as_bytes())
 }
 
+/// The names that the last two words are.
+pub fn two_names(alloc: Global, words: Words<'_>) -> Result<(Name, Name), CaseError> {
+    let (first, second) = words.last_two()?;
+    let first = name_of(alloc, first.as_bytes())?;
+    let second = name_of(alloc, second.as_bytes())?;
+    Ok((first, second))
+}
+
 /// The most bytes that a word fills.
 const MOST_FILLED: u64 = 1 << 24;
 
@@ -34,11 +42,11 @@ fn bytes(alloc: Global, word: &str) -> Result<Bytes, CaseError> {
         return Ok(Bytes::new(alloc));
     }
     match word.strip_prefix("fill:") {
-        Some(text) => match text.split_once(':') {
-            Some((count, value)) => filled(alloc, number(count)?, byte(value)?),
-            None => filled(alloc, number(text)?, 0),
-        },
-        None => Ok(Bytes::from_slice(alloc, word.as_bytes())?),
+        Some(text) => {
+            let (count, value) = text.split_once(':').unwrap_or((text, "00"));
+            filled(alloc, number(count)?, byte(value)?)
+        }
+        None => Bytes::from_slice(alloc, word.as_bytes()).map_err(CaseError::from),
     }
 }
 
@@ -53,24 +61,35 @@ fn pair(alloc: Global, key: &str, value: &str) -> Result<Pair, CaseError> {
     Ok(Pair { key, value })
 }
 
-/// Keys and values, one behind the other.
-pub fn pairs(alloc: Global, words: Words<'_>) -> Result<Items<Pair>, CaseError> {
-    let mut pairs = Items::new(alloc);
-    let words = words.list(alloc)?;
+fn push_pairs(alloc: Global, pairs: &mut Items<Pair>, words: &[&str]) -> Result<(), CaseError> {
     for two in words.chunks(2) {
         let [key, value] = two else {
             return Err(CaseError::Line("a key without a value"));
         };
         pairs.push(pair(alloc, key, value)?)?;
     }
+    Ok(())
+}
+
+/// Keys and values, one behind the other.
+pub fn pairs(alloc: Global, words: Words<'_>) -> Result<Items<Pair>, CaseError> {
+    let words = words.list(alloc)?;
+    let mut pairs = Items::new(alloc);
+    push_pairs(alloc, &mut pairs, &words)?;
     Ok(pairs)
+}
+
+fn push_keys(alloc: Global, keys: &mut Items<Name>, words: &[&str]) -> Result<(), CaseError> {
+    for word in words {
+        keys.push(name_of(alloc, word.as_bytes())?)?;
+    }
+    Ok(())
 }
 
 /// The keys of all words.
 pub fn keys(alloc: Global, words: Words<'_>) -> Result<Items<Name>, CaseError> {
+    let words = words.list(alloc)?;
     let mut keys = Items::new(alloc);
-    for word in words.list(alloc)? {
-        keys.push(name_of(alloc, word.as_bytes())?)?;
-    }
+    push_keys(alloc, &mut keys, &words)?;
     Ok(keys)
 }

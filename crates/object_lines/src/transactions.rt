@@ -9,24 +9,30 @@ use unit_fields::CollName;
 /// The most operations that a line repeats.
 const MOST_REPEATS: u32 = 1000;
 
-/// The transaction with an operation more, or of this one alone.
-fn with_operation(
+/// The transaction of a collection and one operation.
+fn of_one(alloc: Global, coll: &CollName, op: Op) -> Result<Transaction, CaseError> {
+    let coll = coll.copy(alloc)?;
+    match Transaction::new(alloc, coll, op) {
+        Ok(change) => Ok(change),
+        Err(back) => {
+            drop(back);
+            Err(CaseError::OutOfMemory)
+        }
+    }
+}
+
+/// Adds an operation to the transaction, or begins it.
+fn push(
     alloc: Global,
     coll: &CollName,
-    made: Option<Transaction>,
+    made: &mut Option<Transaction>,
     op: Op,
-) -> Result<Transaction, CaseError> {
-    let Some(mut change) = made else {
-        return match Transaction::new(alloc, coll.copy(alloc)?, op) {
-            Ok(change) => Ok(change),
-            Err(back) => {
-                drop(back);
-                Err(CaseError::OutOfMemory)
-            }
-        };
-    };
-    change.push(op)?;
-    Ok(change)
+) -> Result<(), CaseError> {
+    if let Some(change) = made {
+        return change.push(op).map_err(CaseError::from);
+    }
+    drop(made.replace(of_one(alloc, coll, op)?));
+    Ok(())
 }
 
 /// The operation of a text at its so many-th time, which is the number in the place of `#`.
@@ -44,25 +50,24 @@ fn numbered(alloc: Global, text: &str, time: u32) -> Result<Op, CaseError> {
 fn add(
     alloc: Global,
     coll: &CollName,
-    made: Option<Transaction>,
+    made: &mut Option<Transaction>,
     text: &str,
     times: u32,
-) -> Result<Option<Transaction>, CaseError> {
-    let mut made = made;
+) -> Result<(), CaseError> {
     for time in 0..times {
         let op = numbered(alloc, text, time.wrapping_add(1))?;
-        made = Some(with_operation(alloc, coll, made, op)?);
+        push(alloc, coll, made, op)?;
     }
-    Ok(made)
+    Ok(())
 }
 
 /// Adds a part of a line. An operation behind `repeat COUNT` comes so many times.
 fn add_part(
     alloc: Global,
     coll: &CollName,
-    made: Option<Transaction>,
+    made: &mut Option<Transaction>,
     part: &str,
-) -> Result<Option<Transaction>, CaseError> {
+) -> Result<(), CaseError> {
     let mut words = Words::new(part);
     if words.next()? != "repeat" {
         return add(alloc, coll, made, part, 1);
@@ -71,14 +76,22 @@ fn add_part(
     add(alloc, coll, made, words.text(), times)
 }
 
+/// Adds all parts of a line.
+fn add_parts(
+    alloc: Global,
+    coll: &CollName,
+    made: &mut Option<Transaction>,
+    line: &str,
+) -> Result<(), CaseError> {
+    for part in line.split("; ") {
+        add_part(alloc, coll, made, part)?;
+    }
+    Ok(())
+}
+
 /// The transaction on a collection whose operations stand in a line.
 pub fn transaction(alloc: Global, coll: &CollName, line: &str) -> Result<Transaction, CaseError> {
     let mut made = None;
-    for part in line.split("; ") {
-        made = add_part(alloc, coll, made, part)?;
-    }
-    match made {
-        Some(change) => Ok(change),
-        None => Err(CaseError::Line("no operation")),
-    }
+    add_parts(alloc, coll, &mut made, line)?;
+    made.ok_or(CaseError::Line("no operation"))
 }

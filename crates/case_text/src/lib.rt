@@ -5,6 +5,7 @@
 #![tactic(auto)]
 
 mod contents;
+mod devices;
 mod ends;
 mod error;
 mod fails;
@@ -16,6 +17,7 @@ mod spelling;
 mod text;
 mod words;
 
+pub use devices::last_written;
 pub use error::CaseError;
 pub use fails::Fails;
 pub use files::{Follow, run_file};

@@ -2,15 +2,15 @@
 //! what its cases are. What must come is in the file `stdout`, written by hand from what the commands promise.
 #![tactic(auto)]
 
-mod crashes;
-mod kernel;
-mod runs;
-
+use block_device::MemoryDevice;
+use bstore_top::{Outcome, top};
 use case_text::{look_up, run_file};
-use crashes::Sweep;
-use kernel::KernelLines;
+use crash_lines::Sweep;
+use end_points::{Bay, MemoryBay, MemorySink, MemorySource, OpenGate};
+use kernel_lines::KernelLines;
 use object_lines::ObjectLines;
-use runs::Case;
+use run_lines::{Case, Commands, Ran};
+use std::alloc::Global;
 use std::{env, io};
 
 /// What the cases of a file are.
@@ -40,13 +40,56 @@ fn kind_of_file(path: &str) -> Option<CaseKind> {
     look_up(&CASE_KINDS, folders.rsplit('/').next()?)
 }
 
+/// What a run of the program's one call leaves of it.
+fn ran(left: Outcome<MemoryDevice, MemorySource>) -> Ran {
+    let Outcome {
+        status,
+        dev,
+        sources,
+        book,
+        turns,
+    } = left;
+    let scripts = sources.len();
+    drop(sources);
+    drop(turns);
+    Ran {
+        status,
+        dev,
+        scripts,
+        book,
+    }
+}
+
+/// Runs command lines by the program's one call.
+#[derive(Drop)]
+struct Top;
+
+impl Commands for Top {
+    fn new() -> Top {
+        Top
+    }
+
+    fn run(
+        &self,
+        alloc: Global,
+        words: &Vec<String>,
+        bay: &mut MemoryBay,
+        sink: &mut MemorySink,
+    ) -> Option<Ran> {
+        if bay.given() != 0 {
+            return None;
+        }
+        Some(ran(top(alloc, words, bay, sink, &OpenGate)))
+    }
+}
+
 /// Prints what the cases of a file come to.
 fn follow_file(rt: &HostRuntime, path: &str) -> io::Result<()> {
     match kind_of_file(path) {
         Some(CaseKind::Objects) => run_file::<ObjectLines, HostRuntime>(rt, path),
-        Some(CaseKind::Commands) => run_file::<Case, HostRuntime>(rt, path),
+        Some(CaseKind::Commands) => run_file::<Case<Top>, HostRuntime>(rt, path),
         Some(CaseKind::Kernel) => run_file::<KernelLines, HostRuntime>(rt, path),
-        Some(CaseKind::Crashes) => run_file::<Sweep, HostRuntime>(rt, path),
+        Some(CaseKind::Crashes) => run_file::<Sweep<Top>, HostRuntime>(rt, path),
         None => Err(io::Error::from(io::ErrorKind::InvalidInput)),
     }
 }

@@ -1,12 +1,12 @@
 //! Runs of commands over what a case has set up.
 
-use crate::runs::Case;
-use crate::runs::case::{LineKind, RunKind};
-use block_device::{Device, MemoryDevice, Tear};
-use bstore_top::{Outcome, top};
-use case_text::{CaseError, Setup, Text, Words, print_text};
-use end_points::{Bay, MemoryBay, MemorySink, MemorySource, OpenGate};
+use crate::case::{LineKind, RunKind};
+use crate::{Case, Commands, Ran};
+use block_device::{Device, MemoryDevice};
+use case_text::{CaseError, Setup, Text, Words, last_written, print_text};
+use end_points::MemorySink;
 use std::alloc::{AllocError, Global};
+use std::mem;
 
 /// What `step` prints where the first line of its script is bad.
 const BAD_LINE: &str = "script 0 line 1\nstopped 2\n";
@@ -25,38 +25,17 @@ fn print_ended(status: u8, dev: Option<&MemoryDevice>, out: &mut Text) {
     }
 }
 
-/// The bytes that a device was last written.
-pub fn last_written(dev: &MemoryDevice) -> Result<Vec<u8>, AllocError> {
-    dev.image(dev.events(), Tear::New)
-}
-
-/// What a run leaves.
-type Left = Outcome<MemoryDevice, MemorySource>;
-
-/// Runs a command line over these ends, of which nothing was asked yet.
-fn run_over(
-    alloc: Global,
-    words: &Vec<String>,
-    bay: &mut MemoryBay,
-    sink: &mut MemorySink,
-) -> Result<Left, CaseError> {
-    if bay.given() != 0 {
-        return Err(CaseError::Line("a new bay has given something"));
-    }
-    Ok(top(alloc, words, bay, sink, &OpenGate))
-}
-
 /// A copy of what a sink took.
 fn taken(alloc: Global, sink: &MemorySink) -> Result<Vec<u8>, AllocError> {
     sink.text().to_vec(alloc)
 }
 
-impl Case {
+impl<C: Commands> Case<C> {
     /// Runs a command line over what is set up, and keeps what came. The calls that were to fail are those of this run alone.
     pub fn run(&mut self, words: &Vec<String>) -> Result<(), CaseError> {
         let (mut bay, mut sink) = self.setup.ends()?;
-        let left = run_over(self.alloc, words, &mut bay, &mut sink)?;
-        self.outcome = Some(left);
+        let ran = self.commands.run(self.alloc, words, &mut bay, &mut sink);
+        drop(mem::replace(&mut self.ran, ran));
         self.text = taken(self.alloc, &sink)?;
         Ok(())
     }
@@ -71,11 +50,11 @@ impl Case {
     }
 }
 
-impl Case {
+impl<C: Commands> Case<C> {
     /// Shows the status of the last run, and how many units the device has that came back.
     fn print_status(&self, out: &mut Text) {
-        match &self.outcome {
-            Some(outcome) => print_ended(outcome.status, outcome.dev.as_ref(), out),
+        match &self.ran {
+            Some(ran) => print_ended(ran.status, ran.dev.as_ref(), out),
             None => out.println("no run"),
         }
     }
@@ -158,16 +137,16 @@ impl Case {
 
     /// Whether the last run had this status.
     pub fn has_status(&self, status: u8) -> bool {
-        match &self.outcome {
-            Some(outcome) => outcome.status == status,
+        match &self.ran {
+            Some(ran) => ran.status == status,
             None => false,
         }
     }
 
     /// Whether the last run had this status, and no device came back.
     fn has_ended_with(&self, status: u8) -> bool {
-        match &self.outcome {
-            Some(outcome) => outcome.status == status && outcome.dev.is_none(),
+        match &self.ran {
+            Some(ran) => ran.status == status && ran.dev.is_none(),
             None => false,
         }
     }
@@ -196,8 +175,8 @@ impl Case {
 
     /// The bytes that the device that came back was last written.
     pub fn left(&self) -> Result<Vec<u8>, CaseError> {
-        match &self.outcome {
-            Some(Outcome { dev: Some(dev), .. }) => Ok(last_written(dev)?),
+        match &self.ran {
+            Some(Ran { dev: Some(dev), .. }) => Ok(last_written(dev)?),
             _ => Err(CaseError::Line("no device came back")),
         }
     }
@@ -234,7 +213,7 @@ impl Case {
 
     /// Whether a device is mounted though the read of this number fails.
     fn mounts_behind(&self, name: &str, number: u64) -> Result<bool, CaseError> {
-        let mut other = Case::of(self.setup_of_a_mount(name, number)?);
+        let mut other = Case::<C>::of(self.setup_of_a_mount(name, number)?);
         other.run_line(&STEP_WORDS)?;
         Ok(other.has_status(0))
     }

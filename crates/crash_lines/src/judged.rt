@@ -1,12 +1,13 @@
 //! What a device is of, judged by the last run; and the crashes that a case goes on from.
 
-use crate::crashes::sweep::Sweep;
+use crate::sweep::Sweep;
 use case_text::{CaseError, Text, Words, small};
 use object_model::Book;
 use plain_reader::{Found, Past, acknowledged, spelled, tear_of};
+use run_lines::Commands;
 use std::mem;
 
-impl Sweep {
+impl<C: Commands> Sweep<C> {
     /// The objects in contents, spelled; None where there is no store, or it has something else.
     pub fn objects_in(&self, contents: &[u8]) -> Result<Option<Vec<u8>>, CaseError> {
         match Found::read(self.alloc, contents)? {
@@ -26,10 +27,10 @@ impl Sweep {
     /// Takes the last run's first commits into the history.
     pub fn remember(&mut self, count: usize) -> Result<(), CaseError> {
         let none = Book::new(self.alloc);
-        let Some(outcome) = &mut self.case.outcome else {
+        let Some(ran) = &mut self.case.ran else {
             return Err(CaseError::Line("there was no run"));
         };
-        let book = mem::replace(&mut outcome.book, none);
+        let book = mem::replace(&mut ran.book, none);
         Ok(self.history.push(Past { book, count })?)
     }
 

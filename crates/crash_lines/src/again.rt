@@ -1,10 +1,11 @@
 //! Stores that are opened after each crash of a run, and every cut of what is done then.
 
-use crate::crashes::sweep::Sweep;
+use crate::sweep::Sweep;
 use block_device::Tear;
 use case_text::{CaseError, Setup, Text, Words, bytes_of, number};
 use plain_reader::{Counts, apply_front, objects_behind, tear_of};
 use plain_store::Plain;
+use run_lines::Commands;
 use std::alloc::Global;
 
 /// What is done after each crash: a script with a seed.
@@ -59,7 +60,7 @@ fn last_line(text: &str) -> &str {
     }
 }
 
-impl Sweep {
+impl<C: Commands> Sweep<C> {
     /// The objects after a crash that leaves this image.
     fn objects_after(&self, image: &[u8]) -> Result<Plain, CaseError> {
         let Some(count) = self.commits_in(image)? else {
@@ -83,11 +84,11 @@ impl Sweep {
     }
 
     /// A run on what a crash of the last run leaves.
-    fn after(&self, cut: u64, tear: Tear, next: &Next<'_>) -> Result<Sweep, CaseError> {
+    fn after(&self, cut: u64, tear: Tear, next: &Next<'_>) -> Result<Sweep<C>, CaseError> {
         let image = self.image(cut, tear)?;
         let plain = self.objects_after(&image)?;
         let setup = self.second_setup(image, next.script)?;
-        let mut second = Sweep::of(setup, self.colls);
+        let mut second = Sweep::<C>::of(setup, self.colls);
         second.step_from(next.seed, &["script"], plain)?;
         Ok(second)
     }

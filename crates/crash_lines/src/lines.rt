@@ -1,7 +1,8 @@
 //! The lines of a case.
 
-use crate::crashes::sweep::Sweep;
+use crate::sweep::Sweep;
 use case_text::{CaseError, Follow, Setup, Text, Words, kind_of};
+use run_lines::Commands;
 use std::alloc::Global;
 
 /// The kinds of lines that are no lines of `Case`.
@@ -59,7 +60,7 @@ static LINE_KINDS: [(&str, LineKind); 13] = [
     ("rows", LineKind::Rows),
 ];
 
-impl Sweep {
+impl<C: Commands> Sweep<C> {
     /// Follows a line, of which the first word is taken.
     fn act(
         &mut self,
@@ -101,8 +102,8 @@ impl Sweep {
     }
 }
 
-impl Follow for Sweep {
-    fn begin(alloc: Global) -> Result<Sweep, CaseError> {
+impl<C: Commands> Follow for Sweep<C> {
+    fn begin(alloc: Global) -> Result<Sweep<C>, CaseError> {
         Ok(Sweep::of(Setup::new(alloc)?, 1))
     }
 

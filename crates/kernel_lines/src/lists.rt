@@ -2,13 +2,13 @@
 ghost use Rattle.std.specs.Prelude.{◌≡◌, [], IfOk};
 ghost use Rattle.block_device.specs.Prelude.{disk_of};
 
-use crate::kernel::asking::{answered, question};
-use crate::kernel::devices::opened;
-use crate::kernel::drawing::Draws;
-use crate::kernel::lines::KernelLines;
-use crate::kernel::mounted::Mounted;
-use crate::kernel::stepping::{settle_in_order, step_if_ready};
-use crate::kernel::submitting::{submitted, transaction};
+use crate::asking::{answered, question};
+use crate::devices::opened;
+use crate::drawing::Draws;
+use crate::lines::KernelLines;
+use crate::mounted::Mounted;
+use crate::stepping::{settle_in_order, step_if_ready};
+use crate::submitting::{submitted, transaction};
 use block_device::MemoryDevice;
 use case_text::{CaseError, Setup, Text, Words};
 use crc32c_csum::crc32c;

@@ -1,6 +1,6 @@
 //! The lines of a case, and what they work on.
 
-use crate::kernel::mounted::{KernelCall, Mounted};
+use crate::mounted::{KernelCall, Mounted};
 use case_text::{CaseError, Follow, Setup, Text, Words, kind_of};
 use plain_reader::{Left, Past};
 use std::alloc::Global;

@@ -1,7 +1,7 @@
 //! Many transactions at a time.
 
-use crate::kernel::stepping::step_if_ready;
-use crate::kernel::submitting::{print_refused, submitted, transaction};
+use crate::stepping::step_if_ready;
+use crate::submitting::{print_refused, submitted, transaction};
 use block_device::MemoryDevice;
 use case_text::{CaseError, Text, Words};
 use plain_reader::COLLS;

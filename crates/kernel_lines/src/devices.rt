@@ -2,11 +2,10 @@
 ghost use Rattle.std.specs.Prelude.{◌≡◌, ◌≤◌, [], IfOk};
 ghost use Rattle.block_device.specs.Prelude.{disk_of};
 
-use crate::kernel::lines::KernelLines;
-use crate::kernel::mounted::Mounted;
-use crate::runs::last_written;
+use crate::lines::KernelLines;
+use crate::mounted::Mounted;
 use block_device::{Device, MemoryDevice};
-use case_text::{CaseError, Text, Words, print_piece};
+use case_text::{CaseError, Text, Words, last_written, print_piece};
 use mount_replay::{MkfsFail, MountFail, mkfs, mount};
 use object_model::Book;
 use plain_reader::Left;

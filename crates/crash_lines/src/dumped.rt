@@ -1,7 +1,6 @@
 //! What `dump` shows of each image that a crash leaves: plain objects after a front of the commits, as they print.
 
-use crate::crashes::sweep::Sweep;
-use crate::runs::Case;
+use crate::sweep::Sweep;
 use case_text::{CaseError, Setup, Text, Words};
 use crc32c_csum::crc32c;
 use plain_reader::{
@@ -9,6 +8,7 @@ use plain_reader::{
     objects_behind,
 };
 use plain_store::Plain;
+use run_lines::{Case, Commands};
 use std::alloc::Global;
 
 /// What `dump` is to print of plain objects.
@@ -29,7 +29,7 @@ fn shown(alloc: Global, plain: &Plain) -> Result<Vec<u8>, CaseError> {
     Ok(out.finish()?.as_bytes().to_vec(alloc)?)
 }
 
-impl Sweep {
+impl<C: Commands> Sweep<C> {
     /// What `dump` is to print after each number of commits of the last run.
     fn shown_texts(&self) -> Result<Vec<Vec<u8>>, CaseError> {
         let book = self.book()?;
@@ -47,7 +47,7 @@ impl Sweep {
     fn dumped(&self, contents: Vec<u8>) -> Result<Option<Vec<u8>>, CaseError> {
         let mut setup = Setup::new(self.alloc)?;
         setup.put_device("dev", contents)?;
-        let mut case = Case::of(setup);
+        let mut case = Case::<C>::of(setup);
         case.run_line(&["bstore", "dump", "dev"])?;
         let good = case.has_status(0);
         Ok(if good { Some(case.text) } else { None })

@@ -1,4 +1,6 @@
-//! Calls of the kernel over devices in memory, step by step, with making stores, mounting and unmounting them.
+//! Calls of the kernel over devices in memory, step by step, with making stores, mounting and unmounting them. A program
+//! of cases follows them.
+#![tactic(auto)]
 
 mod asking;
 mod crowding;

@@ -1,18 +1,18 @@
 //! What the lines of a case work on.
 
-use crate::runs::Case;
 use block_device::{MemoryDevice, Tear};
 use case_text::{CaseError, Setup, Text, Words, number};
 use object_model::Book;
 use plain_reader::{Found, Past, objects_behind, states};
 use plain_store::Plain;
+use run_lines::{Case, Commands};
 use std::alloc::Global;
 
 /// A case whose runs of `step`, on the store `dev`, are compared with plain objects.
 #[derive(Drop)]
-pub struct Sweep {
+pub struct Sweep<C: Commands> {
     pub alloc: Global,
-    pub case: Case,
+    pub case: Case<C>,
     /// How many collections are looked at, from `1.0_head` on.
     pub colls: u32,
     /// The runs before the last one.
@@ -23,9 +23,9 @@ pub struct Sweep {
     pub states: Vec<Vec<u8>>,
 }
 
-impl Sweep {
+impl<C: Commands> Sweep<C> {
     /// A case with this set up, before its first run, in which so many collections are looked at.
-    pub fn of(setup: Setup, colls: u32) -> Sweep {
+    pub fn of(setup: Setup, colls: u32) -> Sweep<C> {
         let alloc = setup.alloc;
         Sweep {
             alloc,
@@ -39,8 +39,8 @@ impl Sweep {
 
     /// The book of the last run.
     pub fn book(&self) -> Result<&Book, CaseError> {
-        match &self.case.outcome {
-            Some(outcome) => Ok(&outcome.book),
+        match &self.case.ran {
+            Some(ran) => Ok(&ran.book),
             None => Err(CaseError::Line("there was no run")),
         }
     }
@@ -93,10 +93,10 @@ impl Sweep {
 
     /// The device that came back from the last run.
     fn device(&self) -> Result<&MemoryDevice, CaseError> {
-        let Some(outcome) = &self.case.outcome else {
+        let Some(ran) = &self.case.ran else {
             return Err(CaseError::Line("there was no run"));
         };
-        match &outcome.dev {
+        match &ran.dev {
             Some(dev) => Ok(dev),
             None => Err(CaseError::Line("no device came back")),
         }

@@ -1,12 +1,12 @@
 //! A store that is mounted, and what it is called for.
 
-use crate::kernel::asking::ask;
-use crate::kernel::crowding::{crowd, wait_beside};
-use crate::kernel::stepping::{
+use crate::asking::ask;
+use crate::crowding::{crowd, wait_beside};
+use crate::stepping::{
     drain, print_acked, print_commits, print_ready, print_state, settle, step,
 };
-use crate::kernel::submitting::submit;
-use crate::kernel::walking::walk;
+use crate::submitting::submit;
+use crate::walking::walk;
 use block_device::MemoryDevice;
 use case_text::{CaseError, Text, Words};
 use mount_replay::unmount;

@@ -1,6 +1,6 @@
 //! What crashes of the last mount leave.
 
-use crate::kernel::lines::KernelLines;
+use crate::lines::KernelLines;
 use case_text::{CaseError, Text, Words, number, print_text};
 use plain_reader::{Counts, Judge, Left, Past, TEARS, tear_of};
 use std::alloc::Global;

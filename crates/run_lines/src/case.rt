@@ -1,9 +1,7 @@
 //! What a case has set up, and what its last run left.
 
-use block_device::MemoryDevice;
-use bstore_top::Outcome;
+use crate::{Commands, Ran};
 use case_text::{CaseError, Follow, Setup, Text, kind_of};
-use end_points::MemorySource;
 use std::alloc::Global;
 
 /// The kinds of lines that run something or show more of the last run.
@@ -45,29 +43,31 @@ static LINE_KINDS: [(&str, LineKind); 7] = [
 
 /// What a case has set up, and what its last run left.
 #[derive(Drop)]
-pub struct Case {
+pub struct Case<C: Commands> {
     pub alloc: Global,
+    pub commands: C,
     pub setup: Setup,
     /// What the last run left, and what it printed.
-    pub outcome: Option<Outcome<MemoryDevice, MemorySource>>,
+    pub ran: Option<Ran>,
     pub text: Vec<u8>,
 }
 
-impl Case {
+impl<C: Commands> Case<C> {
     /// A case with this set up, before its first run.
-    pub fn of(setup: Setup) -> Case {
+    pub fn of(setup: Setup) -> Case<C> {
         let alloc = setup.alloc;
         Case {
             alloc,
+            commands: C::new(),
             setup,
-            outcome: None,
+            ran: None,
             text: Vec::new(alloc),
         }
     }
 }
 
-impl Follow for Case {
-    fn begin(alloc: Global) -> Result<Case, CaseError> {
+impl<C: Commands> Follow for Case<C> {
+    fn begin(alloc: Global) -> Result<Case<C>, CaseError> {
         Ok(Case::of(Setup::new(alloc)?))
     }
 

@@ -1,6 +1,6 @@
 //! What is shown of a run beside its text.
 
-use crate::runs::Case;
+use crate::{Case, Commands};
 use block_device::MemoryDevice;
 use case_text::{CaseError, Text, Words, look_up, print_piece};
 
@@ -38,20 +38,20 @@ fn show_count(what: &str, count: usize, out: &mut Text) {
     out.println(format_args!("{what} {count}"));
 }
 
-impl Case {
+impl<C: Commands> Case<C> {
     /// Follows a line that shows more of the last run, from its second word on.
     pub fn show(&self, mut words: Words<'_>, out: &mut Text) -> Result<(), CaseError> {
         let Some(what) = look_up(&SHOWN, words.next()?) else {
             return Err(CaseError::Line("no such line"));
         };
-        let Some(outcome) = &self.outcome else {
+        let Some(ran) = &self.ran else {
             return Err(CaseError::Line("there was no run"));
         };
         match what {
-            Shown::Events => show_events(outcome.dev.as_ref(), out),
-            Shown::Entries => show_count("entries", outcome.book.entries.len(), out),
-            Shown::Commits => show_count("commits", outcome.book.commits.len(), out),
-            Shown::Scripts => show_count("scripts", outcome.sources.len(), out),
+            Shown::Events => show_events(ran.dev.as_ref(), out),
+            Shown::Entries => show_count("entries", ran.book.entries.len(), out),
+            Shown::Commits => show_count("commits", ran.book.commits.len(), out),
+            Shown::Scripts => show_count("scripts", ran.scripts, out),
             Shown::Bytes => return self.show_bytes(words, out),
         }
         Ok(())

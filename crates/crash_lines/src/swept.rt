@@ -1,10 +1,11 @@
 //! Every cut of a run, torn in each way: is it of a front of the commits, with all that were acknowledged?
 
-use crate::crashes::sweep::Sweep;
+use crate::sweep::Sweep;
 use case_text::{CaseError, Text, Words, number};
 use plain_reader::{Counts, TEARS, acknowledged, has_from};
+use run_lines::Commands;
 
-impl Sweep {
+impl<C: Commands> Sweep<C> {
     /// Whether the image is that of a front of the commits, with all that were acknowledged by the cut, and its bitmap is exact
     /// but for what was leaked before the run.
     fn is_front(&self, image: &[u8], cut: u64, earlier: u64) -> Result<bool, CaseError> {

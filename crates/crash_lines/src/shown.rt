@@ -1,9 +1,10 @@
 //! What the plain reader finds in a device.
 
-use crate::crashes::sweep::Sweep;
+use crate::sweep::Sweep;
 use block_device::Tear;
 use case_text::{CaseError, Text, Words};
 use plain_reader::Found;
+use run_lines::Commands;
 
 fn print_leaked(units: &[u32], out: &mut Text) {
     out.print("leaked");
@@ -13,7 +14,7 @@ fn print_leaked(units: &[u32], out: &mut Text) {
     out.print("\n");
 }
 
-impl Sweep {
+impl<C: Commands> Sweep<C> {
     /// Follows `leaks NAME`, from its second word on: shows the units that a device has leaked.
     pub fn show_leaks(&self, words: Words<'_>, out: &mut Text) -> Result<(), CaseError> {
         let contents = self.case.setup.contents(words.last()?)?;

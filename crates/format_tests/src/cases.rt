@@ -2,8 +2,9 @@
 //! and costs the more the more it calls.
 
 use crate::{
-    crc32c_csum_tests, meta_log_tests, meta_rows_tests, meta_store_tests, onode_codec_tests,
-    script_text_tests, unit_allocator_tests, unit_fields_tests,
+    bitmap_freelist_tests, crc32c_csum_tests, extent_shards_tests, meta_log_tests, meta_rows_tests,
+    meta_store_tests, onode_codec_tests, row_check_tests, script_text_tests, txn_codec_tests,
+    unit_allocator_tests, unit_fields_tests,
 };
 use std::alloc::{AllocError, Global};
 use std::test::*;
@@ -28,6 +29,10 @@ type Wrong = (&'static str, usize);
 
 fn first_wrong(alloc: Global) -> Option<Wrong> {
     let found = [
+        (
+            "bits that are turned",
+            place(bitmap_freelist_tests::first_wrong(alloc)),
+        ),
         ("checksums", crc32c_csum_tests::first_wrong()),
         (
             "a slot and a record",
@@ -39,6 +44,15 @@ fn first_wrong(alloc: Global) -> Option<Wrong> {
         ),
         ("rows", place(meta_rows_tests::first_wrong(alloc))),
         ("a full log", place(meta_store_tests::first_wrong(alloc))),
+        (
+            "a shard by hand",
+            place(extent_shards_tests::first_wrong_value(alloc)),
+        ),
+        ("shards", place(extent_shards_tests::first_wrong(alloc))),
+        (
+            "lengths of names and values",
+            place(row_check_tests::first_wrong(alloc)),
+        ),
         ("keys", place(onode_codec_tests::first_wrong(alloc))),
         (
             "reads that fail",
@@ -48,22 +62,10 @@ fn first_wrong(alloc: Global) -> Option<Wrong> {
             "long scripts",
             place(script_text_tests::first_wrong_long(alloc)),
         ),
+        ("operations", place(txn_codec_tests::first_wrong(alloc))),
         (
-            "good lines",
-            place(script_text_tests::first_wrong_good(alloc)),
-        ),
-        (
-            "bad lines",
-            place(script_text_tests::first_wrong_bad(alloc)),
-        ),
-        ("blocks", place(script_text_tests::first_wrong_block(alloc))),
-        (
-            "bad lines of blocks",
-            place(script_text_tests::first_wrong_bad_block(alloc)),
-        ),
-        (
-            "full scripts",
-            place(script_text_tests::first_wrong_full(alloc)),
+            "fronts of transactions",
+            place(txn_codec_tests::first_wrong_front(alloc)),
         ),
         (
             "free units",

@@ -3,9 +3,13 @@
 #![tactic(auto)]
 
 #[cfg(test)]
+mod bitmap_freelist_tests;
+#[cfg(test)]
 mod cases;
 #[cfg(test)]
 mod crc32c_csum_tests;
+#[cfg(test)]
+mod extent_shards_tests;
 #[cfg(test)]
 mod meta_log_tests;
 #[cfg(test)]
@@ -14,6 +18,8 @@ mod meta_rows_tests;
 mod meta_store_tests;
 #[cfg(test)]
 mod onode_codec_tests;
+#[cfg(test)]
+mod row_check_tests;
 #[cfg(test)]
 mod script_text_tests;
 #[cfg(test)]

@@ -1,11 +1,24 @@
 //! The values of shards' rows spelled by hand, and maps split by a bound on the bytes of a shard.
 
 use crate::cases::first_false;
-use crate::rows::shard_values;
 use blob_map::{PageMap, Place};
 use byte_maps::Bytes;
+use extent_shards::split;
 use std::alloc::{AllocError, Global};
-use unit_fields::UnitNo;
+use unit_fields::{UnitNo, Width};
+
+// The values of the rows of a map's shards, split by a bound on their bytes, if there is one.
+fn shard_values(
+    alloc: Global,
+    pages: &PageMap,
+    bound: Option<u32>,
+) -> Result<Vec<Bytes>, AllocError> {
+    let mut values = Vec::new(alloc);
+    for shard in split(alloc, Width::FourBytes, pages, bound)?.as_slice() {
+        values.push(shard.encode(alloc, Width::FourBytes)?)?;
+    }
+    Ok(values)
+}
 
 // The values of the shards of the map of these pages, each with its unit, split by a bound.
 fn values_of(

@@ -171,8 +171,11 @@ fn byte_of(digits: &[u8]) -> Option<u8> {
     }
 }
 
-/// Adds bytes that stand as digits of base 16, two for each.
+/// Adds bytes that stand as digits of base 16, two for each; `-` is none.
 pub fn push_digits(out: &mut Spelling, digits: &str) -> Result<(), CaseError> {
+    if digits == "-" {
+        return Ok(());
+    }
     for pair in digits.as_bytes().chunks(2) {
         match byte_of(pair) {
             Some(byte) => out.push(&[byte]),
@@ -185,8 +188,6 @@ pub fn push_digits(out: &mut Spelling, digits: &str) -> Result<(), CaseError> {
 /// Bytes as digits of base 16, two for each; `-` is none.
 pub fn read_hex(alloc: Global, word: &str) -> Result<Vec<u8>, CaseError> {
     let mut bytes = Spelling::new(alloc);
-    if word != "-" {
-        push_digits(&mut bytes, word)?;
-    }
+    push_digits(&mut bytes, word)?;
     bytes.finish()
 }

@@ -2,9 +2,7 @@
 
 use crate::asking::ask;
 use crate::crowding::{crowd, wait_beside};
-use crate::stepping::{
-    drain, print_acked, print_commits, print_ready, print_state, settle, step,
-};
+use crate::stepping::{drain, print_acked, print_commits, print_ready, print_state, settle, step};
 use crate::submitting::submit;
 use crate::walking::walk;
 use block_device::MemoryDevice;

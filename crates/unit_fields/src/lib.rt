@@ -17,4 +17,4 @@ pub use name::Name;
 pub use unit::UnitNo;
 pub use unit_set::UnitSet;
 pub use width::Width;
-pub use writing::{push_u16_le, push_u32_be, push_u32_le, push_u64_be, push_u64_le};
+pub use writing::{push_u16_le, push_u32_le, push_u64_le};

@@ -1,6 +1,6 @@
-//! Numbers written behind bytes: little-endian as in values, big-endian as in keys.
+//! Numbers written behind bytes, little-endian as in values.
 ghost use Rattle.std.specs.Prelude.{◌≡◌, ◌++◌, OnOk, OnErr};
-ghost use Rattle.std.specs.Int.{w16, w32, w64, to_le_bytes, to_be_bytes};
+ghost use Rattle.std.specs.Int.{w16, w32, w64, to_le_bytes};
 
 use std::alloc::AllocError;
 
@@ -26,20 +26,4 @@ pub fn push_u64_le(out: &mut Vec<u8>, n: u64) -> Result<(), AllocError>
     ensures err { OnErr result (out.new.items ≡ out.old.items) }
 {
     out.extend_from_slice(&n.to_le_bytes())
-}
-
-/// Writes a big-endian number of four bytes.
-pub fn push_u32_be(out: &mut Vec<u8>, n: u32) -> Result<(), AllocError>
-    ensures ok { OnOk result (out.new.items ≡ out.old.items ++ to_be_bytes w32 n) }
-    ensures err { OnErr result (out.new.items ≡ out.old.items) }
-{
-    out.extend_from_slice(&n.to_be_bytes())
-}
-
-/// Writes a big-endian number of eight bytes.
-pub fn push_u64_be(out: &mut Vec<u8>, n: u64) -> Result<(), AllocError>
-    ensures ok { OnOk result (out.new.items ≡ out.old.items ++ to_be_bytes w64 n) }
-    ensures err { OnErr result (out.new.items ≡ out.old.items) }
-{
-    out.extend_from_slice(&n.to_be_bytes())
 }

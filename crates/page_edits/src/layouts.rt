@@ -1,17 +1,14 @@
-//! The pages of an object once its units are taken, and the units that it leaves.
+//! The pages of an object once its units are taken.
 ghost use Rattle.std.specs.Prelude.{◌≡◌, ◌<◌, ℕ, Some, length, IfOk};
-ghost use Rattle.std.specs.List.{flat_map};
 ghost use Rattle.std.specs.FinMap as finite;
-ghost use Rattle.plan_drafts.specs.Edits.{own_units};
 ghost use Rattle.plan_drafts.specs.Plans.{laid};
 ghost use Rattle.page_edits.specs.Writes.{held_in};
 
 use blob_map::{PageMap, Place};
-use byte_maps::Items;
 use bytes::Bytes as SharedBytes;
 use crc32c_csum::crc32c;
 use plan_drafts::Draft;
-use std::alloc::{AllocError, Global};
+use std::alloc::AllocError;
 use unit_fields::UnitNo;
 
 /// The pages of an object, with the pages that were put on the units that were taken. Each page that was put has its checksum reckoned here.
@@ -31,15 +28,4 @@ pub fn lay(draft: Draft, units: &[UnitNo], contents: &[SharedBytes]) -> Result<P
         kept.set(*page, Place { unit, csum })?;
     }
     Ok(kept)
-}
-
-/// The units that an object leaves when it goes: those of all pages that stand where they stood, in order.
-pub fn left_by_removal(alloc: Global, kept: &PageMap) -> Result<Items<UnitNo>, AllocError>
-    ensures { IfOk result (λ units. units ≡ flat_map (λ p. own_units p.1) (finite.entries kept.now)) }
-{
-    let mut units = Items::new(alloc);
-    for entry in kept.pages() {
-        units.push(entry.1.unit)?;
-    }
-    Ok(units)
 }

@@ -17,6 +17,6 @@ pub use edits::{Edited, edit};
 pub use laws::{
     an_edit_makes_bytes, an_edit_moves_pages, an_edit_takes_few_units, writes_make_contents,
 };
-pub use layouts::{lay, left_by_removal};
+pub use layouts::lay;
 pub use page_bytes::contents;
 pub use writes::{OldBytes, PageWrite};

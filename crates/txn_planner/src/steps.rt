@@ -23,7 +23,7 @@ use meta_rows::RowTable;
 use number_map::NumberMap;
 use object_model::{Op, Refusal, Transaction};
 use onode_state::{coll_name_is_one, name_is_one};
-use page_edits::{Edited, PageWrite, edit, left_by_removal};
+use page_edits::{Edited, PageWrite, edit};
 use plan_drafts::Draft;
 use std::alloc::{AllocError, Global};
 use std::mem::replace;

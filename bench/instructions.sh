@@ -34,7 +34,7 @@ for ((i = 0; i < 400; i++)); do echo 'mkcoll 1.0_head'; done | each 'a line that
   for ((i = 0; i < 100; i++)); do printf 'write 1.0_head o%d 0 fill:%02x:4096\n' "$i" "$i"; done
 } | set_up 4096 12000
 for ((i = 0; i < 400; i++)); do printf 'write 1.0_head o%d 0 fill:%02x:4096\n' $((i % 100)) $((i % 256)); done |
-  each 'a page over a page, 100 objects' 46800 400
+  each 'a page over a page, 100 objects' 44300 400
 
 for many in 2000 40000; do
   {
@@ -42,7 +42,7 @@ for many in 2000 40000; do
     for ((i = 0; i < many; i++)); do printf 'write 1.0_head o%06d 0 fill:%02x:4096\n' $((i * 37 % many * 10)) $((i % 256)); done
   } | set_up 65536 200000
   for ((i = 0; i < 200; i++)); do printf 'write 1.0_head o%06d 0 fill:%02x:4096\n' $((i * 97 * many / 2000 % many * 10 + 5)) "$i"; done |
-    each "a page of a new object, among $many" 56500 200
+    each "a page of a new object, among $many" 54200 200
 done
 
 {
@@ -50,7 +50,7 @@ done
   for ((i = 0; i < 512; i++)); do printf 'write 1.0_head a %d fill:%02x:4096\n' $((i * 211 % 512 * 4096)) $((i % 256)); done
 } | set_up 4096 12000
 for ((i = 0; i < 100; i++)); do printf 'write 1.0_head a %d fill:%02x:4096\n' $((i * 131 % 512 * 4096)) "$i"; done |
-  each 'a page over a page of 512 scattered ones' 140300 100
+  each 'a page over a page of 512 scattered ones' 139600 100
 
 set_up 4096 24000 <<<'mkcoll 1.0_head'
 for ((i = 0; i < 12; i++)); do printf 'write 1.0_head o%d 0 fill:%02x:1044480\n' "$i" "$i"; done |

@@ -17,7 +17,7 @@ use std::marker::Model;
 use unit_fields::Width;
 
 /// Where each page of an object stands that stands anywhere, seen as a finite map from pages to places. The other pages are holes.
-#[derive(Debug, Drop)]
+#[derive(Drop)]
 pub struct PageMap {
     pages: NumberMap<Place>,
 }

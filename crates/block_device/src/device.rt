@@ -7,14 +7,14 @@ use std::alloc::AllocError;
 
 /// Names a write or a flush from its submission to its `Done`. Of a device that tells its log it is
 /// the event's place there.
-#[derive(Clone, Copy, Debug, PartialEq, Eq)]
+#[derive(Clone, Copy, PartialEq, Eq)]
 pub struct Ticket {
     pub place: u64,
 }
 
 /// A write or a flush has ended. `ok` is false where the device failed at it: what the units of such
 /// a write hold is not known, and such a flush makes nothing stable.
-#[derive(Clone, Copy, Debug, PartialEq, Eq)]
+#[derive(Clone, Copy, PartialEq, Eq)]
 pub struct Done {
     pub ticket: Ticket,
     pub ok: bool,

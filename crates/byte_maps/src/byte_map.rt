@@ -11,7 +11,7 @@ use std::marker::Model;
 /// A map from byte strings, seen as a finite map: names to objects, keys to rows, and the like.
 ///
 /// It is a list of entries sorted by key, so that a look-up bisects, an insert or a removal moves the entries behind it, and a listing is in byte order.
-#[derive(Debug, Drop)]
+#[derive(Drop)]
 pub struct ByteMap<V> {
     entries: Vec<(Bytes, V)>,
 }

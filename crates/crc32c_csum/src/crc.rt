@@ -115,7 +115,7 @@ pub fn crc32c(bytes: &[u8]) -> u32
 
 /// A checksum in the making, for bytes that come in several parts, as the head of a record and then its body.
 /// What it is seen as is the remainder of the bytes so far.
-#[derive(Clone, Copy, Debug)]
+#[derive(Clone, Copy)]
 pub struct Digest {
     state: u32,
 }

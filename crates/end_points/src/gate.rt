@@ -3,7 +3,7 @@ ghost use Rattle.std.specs.Prelude.{◌≡◌};
 ghost use Rattle.end_points.specs.declared.gate.Pass.TheVariants.{Go};
 
 /// Whose turn it would be: a client, by its number, or one of the three workers.
-#[derive(Clone, Copy, Debug, PartialEq, Eq)]
+#[derive(Clone, Copy, PartialEq, Eq)]
 pub enum Role {
     /// Submits the commands of one script.
     Client(u32),
@@ -16,7 +16,7 @@ pub enum Role {
 }
 
 /// What the gate says.
-#[derive(Clone, Copy, Debug, PartialEq, Eq)]
+#[derive(Clone, Copy, PartialEq, Eq)]
 pub enum Pass {
     /// Take the turn.
     Go,
@@ -32,7 +32,7 @@ pub trait Gate {
 }
 
 /// The gate that always lets go on.
-#[derive(Clone, Copy, Debug)]
+#[derive(Clone, Copy)]
 pub struct OpenGate;
 
 impl Gate for OpenGate {

@@ -40,7 +40,7 @@ fn is_of_bitmap(key: &[u8]) -> bool
 
 /// Rows, and operations of records behind those that made them: those on rows of the bitmap apart from the others. Names of objects and
 /// the units that they got often ascend both, so that apart each list is sorted already, and many units have their bits in one row.
-#[derive(Debug, Drop)]
+#[derive(Drop)]
 pub(crate) struct Gathered {
     rows: RowTable,
     others: Vec<RowOp>,

@@ -15,7 +15,7 @@ use meta_rows::RowTable;
 use std::alloc::Global;
 
 /// The rows that the records of a log make, and where the next record goes.
-#[derive(Debug, Drop)]
+#[derive(Drop)]
 pub struct Replayed {
     /// The rows after all records.
     pub rows: RowTable,
@@ -26,7 +26,7 @@ pub struct Replayed {
 }
 
 /// A store as its superblock and its log tell it.
-#[derive(Debug, Drop)]
+#[derive(Drop)]
 pub struct FoundStore {
     /// What the active slot says.
     pub sup: Super,

@@ -19,7 +19,7 @@ use unit_fields::limits::UNIT_BYTES;
 const SUMMED_HEAD: usize = 20;
 
 /// A record that was found at the front of bytes.
-#[derive(Debug, Drop)]
+#[derive(Drop)]
 pub struct FoundRecord {
     /// Its operations, in order.
     pub ops: Items<RowOp>,
@@ -28,7 +28,7 @@ pub struct FoundRecord {
 }
 
 /// What was found in a half of the log.
-#[derive(Debug, Drop)]
+#[derive(Drop)]
 pub struct FoundLog {
     /// The operations of each record, in the order of their numbers. The rows are those that they make of none, record by record.
     pub records: Items<Items<RowOp>>,

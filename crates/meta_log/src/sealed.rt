@@ -23,7 +23,7 @@ pub(crate) const HEAD_BYTES: usize = 24;
 /// A record of the log, ready to be written: its number and its operations. It is seen as these two.
 ///
 /// In Ceph it is a record of RocksDB's write-ahead log, for one synchronized write batch.
-#[derive(Debug, Drop)]
+#[derive(Drop)]
 pub struct SealedRecord {
     number: u64,
     ops: Vec<RowOp>,

@@ -22,7 +22,7 @@ pub(crate) const NUMBER_LIMIT: u64 = 1 << 62;
 
 /// The fields of a superblock slot. Slot 0 is unit 0 of the device, slot 1 is unit 1; a super of epoch e is written to slot
 /// e modulo 2, and its records are in half e modulo 2.
-#[derive(Clone, Copy, Debug, PartialEq, Eq)]
+#[derive(Clone, Copy, PartialEq, Eq)]
 pub struct Super {
     /// The device's units of 4096 bytes.
     pub units: u32,

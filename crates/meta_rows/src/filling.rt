@@ -22,7 +22,7 @@ use std::cmp::Ordering;
 const FILLED: usize = 96;
 
 /// Rows of ascending keys in chunks, and the last of them apart from the others, since more operations of its key may come.
-#[derive(Debug, Drop)]
+#[derive(Drop)]
 pub struct Filling {
     /// The chunks, and spare ones.
     pub all: ChunkList,

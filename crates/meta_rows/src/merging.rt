@@ -14,7 +14,7 @@ use byte_maps::Bytes;
 use std::cmp::Ordering;
 
 /// Rows that were merged, and the operations that are left.
-#[derive(Debug, Drop)]
+#[derive(Drop)]
 pub struct Merging {
     filling: Filling,
     // The last one first.

@@ -8,7 +8,7 @@ use std::marker::Model;
 
 /// The rows of a range that are still to come, lent one after the other in the order of their keys, and seen as their list.
 /// (Ceph: a RocksDB iterator.)
-#[derive(Debug, Drop)]
+#[derive(Drop)]
 pub struct RowRange<'a> {
     // Of the chunk that it stands in.
     here: &'a [(Bytes, Bytes)],

@@ -12,7 +12,7 @@ use std::marker::Model;
 use unit_fields::UnitNo;
 
 // A record that is being written, and how many of its pieces were given and are written.
-#[derive(Debug, Drop)]
+#[derive(Drop)]
 struct BegunRecord {
     sealed: SealedRecord,
     given: u32,
@@ -21,7 +21,7 @@ struct BegunRecord {
 
 /// The committed rows of a store, and where its log stands. It is seen as the superblock, the rows, the tail (the units of the records in the
 /// active half), the next record's number, the units set aside, and the record that is being written, with the pieces given and written.
-#[derive(Debug, Drop)]
+#[derive(Drop)]
 pub struct MetaStore {
     sup: Super,
     rows: RowTable,

@@ -13,7 +13,7 @@ use std::mem::replace;
 ///
 /// It is a list of entries in ascending order: a look-up bisects it, and an insert or a removal moves the entries behind. A key above all
 /// others is put behind them at once.
-#[derive(Debug, Drop)]
+#[derive(Drop)]
 pub struct NumberMap<V> {
     entries: Vec<(u32, V)>,
 }

@@ -16,14 +16,14 @@ use unit_fields::{Fields, UnitNo, Width, push_u16_le, push_u32_le};
 const PRIVATE: u8 = 0;
 
 /// Where the pages of an extent stand (Ceph's blob).
-#[derive(Debug, Drop)]
+#[derive(Drop)]
 pub enum Body {
     /// On consecutive units of the object's own, from `unit` on. There is one checksum for each page, in the pages' order.
     Private { unit: UnitNo, csums: Items<u32> },
 }
 
 /// Consecutive pages of an object, and where they stand. There are as many pages as the body says.
-#[derive(Debug, Drop)]
+#[derive(Drop)]
 pub struct Extent {
     /// The first page: page p is the bytes from 4096 times p on.
     pub first: u32,
@@ -41,7 +41,7 @@ impl Model for Extent {
 }
 
 /// The fields of an extent on units of the object's own, in front of its checksums.
-#[derive(Clone, Copy, Debug, PartialEq, Eq)]
+#[derive(Clone, Copy, PartialEq, Eq)]
 pub struct Head {
     /// The first page.
     pub first: u32,

@@ -28,7 +28,7 @@ const ZEROS_SUM: u32 = 0x98f9_4189;
 pub type Sums = [u32; 64];
 
 /// Why pages weren't read.
-#[derive(Clone, Copy, Debug, PartialEq, Eq)]
+#[derive(Clone, Copy, PartialEq, Eq)]
 pub enum PartFail {
     /// Memory ran out.
     Memory,

@@ -16,7 +16,7 @@ use std::marker::Model;
 /// The changes are logged as they come, and of two for one key the later counts. So a change takes its place at the end of the log, whatever
 /// its key is, and the log is brought into the order of its keys once, when the difference to the table is taken. (Ceph: the RocksDB write
 /// batch of a transaction.)
-#[derive(Debug, Drop)]
+#[derive(Drop)]
 pub struct RowChanges {
     log: Vec<RowChange>,
 }

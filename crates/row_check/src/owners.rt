@@ -16,7 +16,7 @@ use unit_fields::{UnitSet, Width};
 const ONODE_BYTES: usize = 8;
 
 /// The units that the rows own, and those of them that have two owners or more.
-#[derive(Debug, Drop)]
+#[derive(Drop)]
 pub(crate) struct OwnedUnits {
     /// A page stands on each of these.
     pub(crate) owned: UnitSet,

@@ -34,7 +34,7 @@ const PAIR: u8 = b'.';
 const BIT_ROWS: u32 = 33554432;
 
 /// Which row of an object's own a key names.
-#[derive(Debug, Drop)]
+#[derive(Drop)]
 pub enum Part {
     /// The onode.
     Onode,
@@ -49,7 +49,7 @@ pub enum Part {
 }
 
 /// What the key of a row names.
-#[derive(Debug, Drop)]
+#[derive(Drop)]
 pub enum RowKey {
     /// A collection.
     Collection {

@@ -18,7 +18,7 @@ const ROW_BYTES: usize = 16;
 
 /// A row by what it says. The bytes that an attribute, an omap header or a pair gives stay in the value that the row was read from: they are
 /// only measured.
-#[derive(Debug, Drop)]
+#[derive(Drop)]
 pub enum Row {
     /// There is a collection.
     Collection {

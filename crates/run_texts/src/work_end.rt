@@ -6,7 +6,7 @@ use crate::{Status, Stop};
 use byte_maps::Bytes;
 
 /// How the work of `step` or of `dump` ended, before anything of it was printed.
-#[derive(Debug, Drop)]
+#[derive(Drop)]
 pub enum WorkEnd {
     /// The scripts have ended and the kernel is drained, or the walk has come to its end.
     Done {

@@ -17,7 +17,7 @@ pub enum Unanswered {
 }
 
 /// Why a walk can't go on.
-#[derive(Clone, Copy, Debug, PartialEq, Eq)]
+#[derive(Clone, Copy, PartialEq, Eq)]
 pub enum WalkFail {
     /// The kernel is down, since the submission with this ticket ended badly.
     Down { ticket: Ticket },

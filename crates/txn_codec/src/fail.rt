@@ -5,7 +5,7 @@ ghost use Rattle.txn_codec.specs.declared.fail.ReadFail.TheVariants.{Memory};
 use std::alloc::{AllocError, AllocFailed};
 
 /// Why nothing was read.
-#[derive(Debug, Drop)]
+#[derive(Drop)]
 pub enum ReadFail {
     /// Memory ran out.
     Memory,

@@ -15,7 +15,7 @@ use std::marker::Model;
 use unit_fields::{UnitNo, UnitSet};
 
 /// Units one after the other: Ceph's physical extent, counted in units and not in bytes.
-#[derive(Clone, Copy, Debug, PartialEq, Eq)]
+#[derive(Clone, Copy, PartialEq, Eq)]
 pub struct Run {
     /// The lowest of the units.
     pub first: UnitNo,
@@ -24,7 +24,7 @@ pub struct Run {
 }
 
 /// Why units weren't taken. The allocator is as it was.
-#[derive(Debug, Drop, PartialEq, Eq)]
+#[derive(Drop, PartialEq, Eq)]
 pub enum TakeFail {
     /// Fewer units are free than are needed (ENOSPC).
     NoSpace {

@@ -9,7 +9,7 @@ use std::marker::Model;
 /// A collection's name, seen as the list of its bytes: `<pool>.<seed>_head`, as the placement group that it holds is named.
 ///
 /// The pool is a decimal u64, the seed a lower-case hexadecimal u32, neither with leading zeros.
-#[derive(Debug, Drop)]
+#[derive(Drop)]
 pub struct CollName {
     bytes: Bytes,
 }

@@ -8,7 +8,7 @@ use std::marker::Model;
 /// What is left of bytes that are read from the front, seen as the list of the bytes left.
 ///
 /// Values, records and slots have little-endian numbers. Keys have big-endian ones, so that the order of keys is that of the numbers.
-#[derive(Debug, Drop)]
+#[derive(Drop)]
 pub struct Fields<'a> {
     left: &'a [u8],
 }

@@ -9,7 +9,7 @@ use std::marker::Model;
 /// A set of units, seen as a finite set of numbers: the units of a bitmap, of a half that isn't zero, and the like.
 ///
 /// It is a list in ascending order: a look-up bisects it, an insert or a removal moves what stands behind.
-#[derive(Debug, Drop)]
+#[derive(Drop)]
 pub struct UnitSet {
     units: Vec<u32>,
 }

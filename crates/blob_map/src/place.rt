@@ -4,7 +4,7 @@ use std::marker::Model;
 use unit_fields::UnitNo;
 
 /// Where a page stands, and the checksum that is kept for it: on a unit of the object's own.
-#[derive(Clone, Copy, PartialEq, Eq)]
+#[derive(Clone, Copy)]
 pub struct Place {
     /// The unit that holds the page.
     pub unit: UnitNo,

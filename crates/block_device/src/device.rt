@@ -14,7 +14,7 @@ pub struct Ticket {
 
 /// A write or a flush has ended. `ok` is false where the device failed at it: what the units of such
 /// a write hold is not known, and such a flush makes nothing stable.
-#[derive(Clone, Copy, PartialEq, Eq)]
+#[derive(Clone, Copy)]
 pub struct Done {
     pub ticket: Ticket,
     pub ok: bool,

@@ -11,7 +11,7 @@ use std::alloc::{AllocError, Global};
 
 /// Which of the images of a crash is made: what dirty units hold. A write is stable once a flush
 /// that was submitted after its good end has a good end itself.
-#[derive(Clone, Copy, Debug, PartialEq, Eq)]
+#[derive(Clone, Copy, Debug)]
 pub enum Tear {
     /// Dirty units are as before the first write of theirs that isn't stable.
     Old,

@@ -9,7 +9,7 @@ use store_kernel::Kernel;
 use store_steps::{ALL_STEPS, Step};
 
 /// What was drawn: a client goes on, or the kernel makes a step.
-#[derive(Clone, Copy, PartialEq, Eq)]
+#[derive(Clone, Copy)]
 pub enum Drawn {
     Client(u32),
     Step(Step),

@@ -1,7 +1,7 @@
 //! Why a run of scripts ended early.
 
 /// Why a run ended before all commands of its scripts were made and the kernel was drained.
-#[derive(Clone, Copy, PartialEq, Eq)]
+#[derive(Clone, Copy)]
 pub enum RunFail {
     /// Memory ran out.
     Memory,

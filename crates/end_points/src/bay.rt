@@ -7,7 +7,7 @@ use crate::Source;
 use block_device::{Device, Failed};
 
 /// How a device is asked for.
-#[derive(Clone, Copy, PartialEq, Eq)]
+#[derive(Clone, Copy)]
 pub enum How {
     /// Make it: a device of exactly so many units. What stood under the name is kept, cut or filled
     /// up with zeros.

@@ -3,7 +3,7 @@ ghost use Rattle.std.specs.Prelude.{◌≡◌};
 ghost use Rattle.end_points.specs.declared.gate.Pass.TheVariants.{Go};
 
 /// Whose turn it would be: a client, by its number, or one of the three workers.
-#[derive(Clone, Copy, PartialEq, Eq)]
+#[derive(Clone, Copy)]
 pub enum Role {
     /// Submits the commands of one script.
     Client(u32),
@@ -16,7 +16,7 @@ pub enum Role {
 }
 
 /// What the gate says.
-#[derive(Clone, Copy, PartialEq, Eq)]
+#[derive(Clone, Copy)]
 pub enum Pass {
     /// Take the turn.
     Go,

@@ -3,7 +3,7 @@
 use thiserror::Error;
 
 /// More units of the log were asked for than are free.
-#[derive(Clone, Copy, Debug, PartialEq, Eq, Error)]
+#[derive(Clone, Copy, Debug, Error)]
 #[error("{need} units of the log are needed, and {room} are free")]
 pub struct MetaFull {
     /// The units that were asked for.

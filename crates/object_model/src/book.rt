@@ -21,7 +21,7 @@ pub struct Entry {
 }
 
 /// An accepted transaction that was put into a batch of the log.
-#[derive(Clone, Copy, PartialEq, Eq)]
+#[derive(Clone, Copy)]
 pub struct Commit {
     /// The place of its entry in the book.
     pub place: u32,

@@ -101,7 +101,7 @@ pub enum Op {
 }
 
 /// Why an operation or a read is refused.
-#[derive(Clone, Copy, Debug, PartialEq, Eq)]
+#[derive(Clone, Copy, Debug)]
 pub enum Refusal {
     /// The collection is missing.
     NoCollection,

@@ -5,7 +5,7 @@ ghost use Rattle.object_reader.specs.declared.fail.ReadFail.TheVariants.{Memory}
 use std::alloc::AllocError;
 
 /// Why a read gave nothing.
-#[derive(Clone, Copy, PartialEq, Eq)]
+#[derive(Clone, Copy)]
 pub enum ReadFail {
     /// Memory ran out.
     Memory,

@@ -41,7 +41,7 @@ impl Model for Extent {
 }
 
 /// The fields of an extent on units of the object's own, in front of its checksums.
-#[derive(Clone, Copy, PartialEq, Eq)]
+#[derive(Clone, Copy)]
 pub struct Head {
     /// The first page.
     pub first: u32,

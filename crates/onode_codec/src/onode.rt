@@ -8,7 +8,7 @@ use std::alloc::{AllocError, Global};
 use unit_fields::Fields;
 
 /// What an object's own row says (Ceph's `bluestore_onode_t`; the attributes have rows of their own here).
-#[derive(Clone, Copy, PartialEq, Eq)]
+#[derive(Clone, Copy)]
 pub struct Onode {
     /// The object's bytes.
     pub size: u64,

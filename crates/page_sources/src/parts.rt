@@ -28,7 +28,7 @@ const ZEROS_SUM: u32 = 0x98f9_4189;
 pub type Sums = [u32; 64];
 
 /// Why pages weren't read.
-#[derive(Clone, Copy, PartialEq, Eq)]
+#[derive(Clone, Copy)]
 pub enum PartFail {
     /// Memory ran out.
     Memory,

@@ -4,7 +4,7 @@ use byte_maps::{Bytes, Items};
 use unit_fields::{CollName, Name, UnitNo};
 
 /// A unit of an object holds bytes whose CRC-32C isn't the one that is kept for its page. (Ceph: a `bad csum` of a blob, EIO.)
-#[derive(Clone, Copy, PartialEq, Eq)]
+#[derive(Clone, Copy)]
 pub struct BadSum {
     pub unit: UnitNo,
     /// The checksum that the object's extents keep.

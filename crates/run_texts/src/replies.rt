@@ -200,7 +200,7 @@ pub fn push_replies<K: Sink>(alloc: Global, text: &mut Printer, out: &mut K, boo
 }
 
 /// A kind of answers that are counted together.
-#[derive(Clone, Copy, PartialEq, Eq)]
+#[derive(Clone, Copy)]
 enum Kind {
     /// A transaction was accepted.
     Accepted,

@@ -3,7 +3,7 @@ ghost use Rattle.std.specs.Prelude.{◌≡◌};
 ghost use Rattle.run_texts.specs.Status.{number, stop_number};
 
 /// Why a run stopped before its work was done: the first cause in time.
-#[derive(Clone, Copy, PartialEq, Eq)]
+#[derive(Clone, Copy)]
 pub enum Stop {
     /// A script has a line outside the grammar.
     BadScript = 2,
@@ -28,7 +28,7 @@ impl Stop {
 }
 
 /// How a run ended.
-#[derive(Clone, Copy, PartialEq, Eq)]
+#[derive(Clone, Copy)]
 pub enum Status {
     /// The work was done.
     Done,

@@ -33,7 +33,7 @@ pub enum Refused {
 }
 
 /// Why no context was made for a transaction.
-#[derive(Clone, Copy, PartialEq, Eq)]
+#[derive(Clone, Copy)]
 pub enum Cause {
     Refusal(Refusal),
     NoSpace { need: u32, free: u32 },

@@ -1,7 +1,7 @@
 //! Why a step wasn't made, or ended badly.
 
 /// Why a step didn't do what it does.
-#[derive(Clone, Copy, PartialEq, Eq)]
+#[derive(Clone, Copy)]
 pub enum StepFail {
     /// Memory ran out, and nothing was done.
     Memory,

@@ -17,7 +17,7 @@ pub enum Unanswered {
 }
 
 /// Why a walk can't go on.
-#[derive(Clone, Copy, PartialEq, Eq)]
+#[derive(Clone, Copy)]
 pub enum WalkFail {
     /// The kernel is down, since the submission with this ticket ended badly.
     Down { ticket: Ticket },

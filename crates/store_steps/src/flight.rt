@@ -3,7 +3,7 @@
 use block_device::Ticket;
 
 /// How far a flush is.
-#[derive(Clone, Copy, PartialEq, Eq)]
+#[derive(Clone, Copy)]
 pub enum FlushState {
     NotSent,
     /// It is in flight.
@@ -13,7 +13,7 @@ pub enum FlushState {
 }
 
 /// What a submission is for.
-#[derive(Clone, Copy, PartialEq, Eq)]
+#[derive(Clone, Copy)]
 pub enum Job {
     /// A data write of so many units, of the context at this place of the book.
     Data { place: u32, count: u32 },
@@ -26,7 +26,7 @@ pub enum Job {
 }
 
 /// A submission in flight.
-#[derive(Clone, Copy, PartialEq, Eq)]
+#[derive(Clone, Copy)]
 pub struct Flying {
     pub ticket: Ticket,
     pub job: Job,

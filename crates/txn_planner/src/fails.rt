@@ -8,7 +8,7 @@ use std::alloc::AllocError;
 use unit_allocator::TakeFail;
 
 /// Why there is no plan.
-#[derive(Clone, Copy, PartialEq, Eq)]
+#[derive(Clone, Copy)]
 pub enum PlanFail {
     /// The submitted rows refuse the transaction, or it is too large as a whole.
     Refusal(Refusal),

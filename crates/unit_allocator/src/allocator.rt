@@ -15,7 +15,7 @@ use std::marker::Model;
 use unit_fields::{UnitNo, UnitSet};
 
 /// Units one after the other: Ceph's physical extent, counted in units and not in bytes.
-#[derive(Clone, Copy, PartialEq, Eq)]
+#[derive(Clone, Copy)]
 pub struct Run {
     /// The lowest of the units.
     pub first: UnitNo,
@@ -24,7 +24,7 @@ pub struct Run {
 }
 
 /// Why units weren't taken. The allocator is as it was.
-#[derive(Drop, PartialEq, Eq)]
+#[derive(Drop)]
 pub enum TakeFail {
     /// Fewer units are free than are needed (ENOSPC).
     NoSpace {

@@ -3,7 +3,7 @@ ghost use Rattle.std.specs.Prelude.{◌≡◌, ◌≤◌, ◌*◌};
 ghost use Rattle.unit_fields.specs.Widths.{bytes_of};
 
 /// How wide the checksum of a page is where its extent keeps it. No row tells it.
-#[derive(Clone, Copy, PartialEq, Eq)]
+#[derive(Clone, Copy)]
 pub enum Width {
     /// Four bytes: all of a CRC-32C.
     FourBytes,

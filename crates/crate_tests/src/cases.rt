@@ -1,4 +1,4 @@
-//! The one test of the crate: it names the first case that comes out otherwise than it is written down. It is one since a test has to be proved,
+//! The one test of all cases in memory: it names the first case that comes out otherwise than it is written down. It is one since a test has to be proved,
 //! and costs the more the more it calls.
 
 use crate::{

@@ -1,5 +1,5 @@
-//! Tests of the crates below the store's objects: what no clause of theirs says. Each module is of the crate that it is named after, and makes
-//! its public calls. They stand here and not in those crates, since a crate that has tests is proved twice.
+//! Tests of the crates below the store: what no clause of theirs says, in memory and over real files. Each module is of the crate that it is
+//! named after, and makes its public calls. They stand here and not in those crates, since a crate that has tests is proved twice.
 #![tactic(auto)]
 
 #[cfg(test)]
@@ -9,7 +9,11 @@ mod cases;
 #[cfg(test)]
 mod crc32c_csum_tests;
 #[cfg(test)]
+mod device_file_tests;
+#[cfg(test)]
 mod extent_shards_tests;
+#[cfg(test)]
+mod file_ends_tests;
 #[cfg(test)]
 mod meta_log_tests;
 #[cfg(test)]

@@ -1,102 +1,30 @@
 //! Reads that the kernel answers.
-ghost use Rattle.std.specs.Prelude.{◌≡◌, IfOk};
+ghost use Rattle.std.specs.Prelude.{◌↔◌, IsTrue, IfOk};
 ghost use Rattle.read_facts.specs.Prelude.{IsKnownRead};
 
 use block_device::MemoryDevice;
-use case_text::{CaseError, Text, Words, look_up, print_bytes};
+use case_text::{CaseError, Text, Words, print_bytes};
+use object_lines::question as question_of;
 use object_model::{Answer, Command};
-use plain_reader::{coll_of, name_of};
+use plain_reader::coll_of;
 use std::alloc::Global;
 use store_kernel::{Kernel, Unanswered};
-use unit_fields::CollName;
 
-/// What a read asks for.
-#[derive(Clone, Copy)]
-enum ReadKind {
-    /// `read COLL NAME OFF LEN`
-    Bytes,
-    /// `sum COLL NAME`
-    Sum,
-    /// `stat COLL NAME`
-    Stat,
-    /// `list COLL`
-    List,
-    /// `getattr COLL NAME ATTR`
-    Attr,
-    /// `omapget COLL NAME KEY`
-    Pair,
-    /// `omaphdr COLL NAME`
-    Header,
+fn is_read(command: &Command) -> bool
+    ensures { IsTrue result ↔ IsKnownRead command.now }
+{
+    !matches!(command, Command::Change(_))
 }
 
-static READ_KINDS: [(&str, ReadKind); 7] = [
-    ("getattr", ReadKind::Attr),
-    ("omapget", ReadKind::Pair),
-    ("omaphdr", ReadKind::Header),
-    ("read", ReadKind::Bytes),
-    ("sum", ReadKind::Sum),
-    ("stat", ReadKind::Stat),
-    ("list", ReadKind::List),
-];
-
-/// The read of these words.
+/// The read of these words: a collection, and a read in the words of the reference store's cases.
 pub fn question(alloc: Global, mut words: Words<'_>) -> Result<Command, CaseError>
     ensures { IfOk result (λ command. IsKnownRead command) }
 {
-    let Some(kind) = look_up(&READ_KINDS, words.next()?) else {
-        return Err(CaseError::Line("no read"));
-    };
     let coll = coll_of(alloc, words.next()?.as_bytes())?;
-    match kind {
-        ReadKind::Bytes => bytes_question(alloc, coll, words),
-        ReadKind::Sum => Ok(Command::Sum {
-            coll,
-            object: name_of(alloc, words.last()?.as_bytes())?,
-        }),
-        ReadKind::Stat => Ok(Command::Stat {
-            coll,
-            object: name_of(alloc, words.last()?.as_bytes())?,
-        }),
-        ReadKind::List => Ok(Command::List { coll }),
-        ReadKind::Attr | ReadKind::Pair => value_question(alloc, kind, coll, words),
-        ReadKind::Header => Ok(Command::OmapHeader {
-            coll,
-            object: name_of(alloc, words.last()?.as_bytes())?,
-        }),
+    match question_of(alloc, &coll, words.text())? {
+        Some(command) if is_read(&command) => Ok(command),
+        _ => Err(CaseError::Line("no read")),
     }
-}
-
-fn value_question(
-    alloc: Global,
-    kind: ReadKind,
-    coll: CollName,
-    mut words: Words<'_>,
-) -> Result<Command, CaseError>
-    ensures { IfOk result (λ command. IsKnownRead command) }
-{
-    let object = name_of(alloc, words.next()?.as_bytes())?;
-    let name = name_of(alloc, words.last()?.as_bytes())?;
-    match kind {
-        ReadKind::Attr => Ok(Command::GetAttr { coll, object, name }),
-        _ => Ok(Command::OmapGet {
-            coll,
-            object,
-            key: name,
-        }),
-    }
-}
-
-fn bytes_question(alloc: Global, coll: CollName, mut words: Words<'_>) -> Result<Command, CaseError>
-    ensures { IfOk result (λ command. IsKnownRead command) }
-{
-    let object = name_of(alloc, words.next()?.as_bytes())?;
-    let [off, len] = words.numbers::<2>()?;
-    Ok(Command::Read {
-        coll,
-        object,
-        off,
-        len,
-    })
 }
 
 fn print_answer(answer: &Answer, out: &mut Text) {
@@ -152,7 +80,7 @@ pub fn answered(
     kernel.ask(alloc, 3, 7, command)
 }
 
-/// Follows `ask READ`, from its second word on.
+/// Follows `ask COLL READ`, from its second word on.
 pub fn ask(
     alloc: Global,
     kernel: &mut Kernel<MemoryDevice>,

@@ -47,7 +47,7 @@ pub fn crowd(
 ) -> Result<(), CaseError> {
     let coll = words.last()?;
     for count in 0..MOST_OBJECTS {
-        let line = format!(in alloc; "touch {coll} crowd{count}")?;
+        let line = format!(in alloc; "{coll} touch crowd{count}")?;
         if let Err(why) = submit_line(alloc, kernel, line.as_str())? {
             out.print(format_args!("{count} accepted, then "));
             print_refused(&why, out);
@@ -68,7 +68,7 @@ fn submit_page(
         return Err(CaseError::Line("no such collection"));
     };
     let (object, byte) = (number % 100, number % 251);
-    let line = format!(in alloc; "write {coll} o{object} 0 1 {byte:02x}")?;
+    let line = format!(in alloc; "{coll} write o{object} 0 fill:4096:{byte:02x}")?;
     match submit_line(alloc, kernel, line.as_str())? {
         Ok(_) => Ok(()),
         Err(why) => {

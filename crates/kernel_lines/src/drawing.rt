@@ -126,6 +126,6 @@ impl Draws {
             2 | 3 | 4 => self.several(alloc, name)?,
             _ => self.on_object(alloc, name)?,
         };
-        Ok(format!(in alloc; "on {coll} {ops}")?)
+        Ok(format!(in alloc; "{coll} {ops}")?)
     }
 }

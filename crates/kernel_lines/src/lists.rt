@@ -153,7 +153,7 @@ impl List {
     fn ask(&mut self) -> Result<(), CaseError> {
         let coll = self.draws.word(&COLLS);
         let name = self.draws.word(&NAMES);
-        let line = format!(in self.alloc; "sum {coll} {name}")?;
+        let line = format!(in self.alloc; "{coll} sum {name}")?;
         let command = question(self.alloc, Words::new(line.as_str()))?;
         match answered(self.alloc, &mut self.mounted.kernel, command) {
             Ok(place) => self.note(place, coll, name),

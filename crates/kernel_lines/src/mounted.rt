@@ -15,9 +15,9 @@ use store_kernel::Kernel;
 /// What a line calls the kernel for.
 #[derive(Clone, Copy)]
 pub enum KernelCall {
-    /// `submit TRANSACTION`: shows the transaction's place in the book.
+    /// `submit COLL OPERATION; OPERATION ..`: shows the transaction's place in the book.
     Submit,
-    /// `ask READ`
+    /// `ask COLL READ`
     Ask,
     /// `step NAME ..`: does each step that is ready when its turn comes.
     Step,

@@ -9,4 +9,5 @@ mod reading;
 mod transactions;
 
 pub use lines::ObjectLines;
+pub use questions::question;
 pub use transactions::transaction;

@@ -1,27 +1,28 @@
 //! The lines of a case: reads, and transactions whose operations have semicolons between them.
 
 use crate::answers::print_answer;
-use crate::questions::{question, the_collection};
+use crate::questions::question;
 use crate::transactions::transaction;
 use case_text::{CaseError, Follow, Text};
 use object_model::{Answer, Command};
 use plain_store::{ArgFault, Plain};
 use std::alloc::Global;
+use unit_fields::CollName;
 
-/// The objects of a case.
+/// The objects of a case, all of one collection.
 #[derive(Drop)]
 pub struct ObjectLines {
     alloc: Global,
+    coll: CollName,
     plain: Plain,
 }
 
-/// The command of a line.
-fn command(alloc: Global, line: &str) -> Result<Command, CaseError> {
-    if let Some(command) = question(alloc, line)? {
-        return Ok(command);
+/// The command of a line on a collection.
+fn command(alloc: Global, coll: CollName, line: &str) -> Result<Command, CaseError> {
+    match question(alloc, &coll, line)? {
+        Some(command) => Ok(command),
+        None => transaction(alloc, coll, line).map(Command::Change),
     }
-    let coll = the_collection(alloc)?;
-    transaction(alloc, &coll, line).map(Command::Change)
 }
 
 impl ObjectLines {
@@ -37,19 +38,17 @@ impl ObjectLines {
         }
     }
 
-    /// Shows the answer to the command of a line. A transaction that is accepted is applied.
-    fn reply(&mut self, line: &str, out: &mut Text) -> Result<(), CaseError> {
-        let command = command(self.alloc, line)?;
-        let answer = self.plain.reply(self.alloc, &command)?;
-        out.println(line);
+    /// Shows the answer to a command. A transaction that is accepted is applied.
+    fn answer(&mut self, command: &Command, out: &mut Text) -> Result<(), CaseError> {
+        let answer = self.plain.reply(self.alloc, command)?;
         print_answer(&answer, out);
-        let applied = match answer {
-            Answer::Accepted => self.apply(&command),
-            _ => Ok(()),
-        };
+        let is_accepted = matches!(&answer, Answer::Accepted);
         drop(answer);
-        drop(command);
-        applied
+        if is_accepted {
+            self.apply(command)
+        } else {
+            Ok(())
+        }
     }
 }
 
@@ -58,6 +57,7 @@ impl Follow for ObjectLines {
     fn begin(alloc: Global) -> Result<ObjectLines, CaseError> {
         Ok(ObjectLines {
             alloc,
+            coll: CollName::new(alloc, 1, 0)?,
             plain: Plain::new(alloc),
         })
     }
@@ -67,6 +67,9 @@ impl Follow for ObjectLines {
         if line.is_empty() || line.starts_with('#') {
             return Ok(());
         }
-        self.reply(line, out)
+        let coll = self.coll.copy(self.alloc)?;
+        let command = command(self.alloc, coll, line)?;
+        out.println(line);
+        self.answer(&command, out)
     }
 }

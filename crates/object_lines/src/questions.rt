@@ -4,7 +4,7 @@ use crate::reading::{last_name, two_names};
 use case_text::{CaseError, Words, kind_of};
 use object_model::Command;
 use plain_reader::name_of;
-use std::alloc::{AllocError, Global};
+use std::alloc::Global;
 use unit_fields::CollName;
 
 /// The reads, by what stands behind their words.
@@ -45,22 +45,17 @@ static READ_KINDS: [(&str, ReadKind); 7] = [
     ("omapgetheader", ReadKind::Object(ObjectRead::OmapHeader)),
 ];
 
-/// The collection of all cases.
-pub fn the_collection(alloc: Global) -> Result<CollName, AllocError> {
-    CollName::new(alloc, 1, 0)
-}
-
-fn list(alloc: Global, words: Words<'_>) -> Result<Command, CaseError> {
+fn list(alloc: Global, coll: &CollName, words: Words<'_>) -> Result<Command, CaseError> {
     words.end()?;
-    let coll = the_collection(alloc)?;
+    let coll = coll.copy(alloc)?;
     Ok(Command::List { coll })
 }
 
-fn read(alloc: Global, mut words: Words<'_>) -> Result<Command, CaseError> {
+fn read(alloc: Global, coll: &CollName, mut words: Words<'_>) -> Result<Command, CaseError> {
     let object = words.next()?;
     let [off, len] = words.numbers::<2>()?;
     let object = name_of(alloc, object.as_bytes())?;
-    let coll = the_collection(alloc)?;
+    let coll = coll.copy(alloc)?;
     Ok(Command::Read {
         coll,
         object,
@@ -69,9 +64,14 @@ fn read(alloc: Global, mut words: Words<'_>) -> Result<Command, CaseError> {
     })
 }
 
-fn of_object(alloc: Global, kind: ObjectRead, words: Words<'_>) -> Result<Command, CaseError> {
+fn of_object(
+    alloc: Global,
+    coll: &CollName,
+    kind: ObjectRead,
+    words: Words<'_>,
+) -> Result<Command, CaseError> {
     let object = last_name(alloc, words)?;
-    let coll = the_collection(alloc)?;
+    let coll = coll.copy(alloc)?;
     Ok(match kind {
         ObjectRead::Sum => Command::Sum { coll, object },
         ObjectRead::Stat => Command::Stat { coll, object },
@@ -79,9 +79,14 @@ fn of_object(alloc: Global, kind: ObjectRead, words: Words<'_>) -> Result<Comman
     })
 }
 
-fn of_value(alloc: Global, kind: ValueRead, words: Words<'_>) -> Result<Command, CaseError> {
+fn of_value(
+    alloc: Global,
+    coll: &CollName,
+    kind: ValueRead,
+    words: Words<'_>,
+) -> Result<Command, CaseError> {
     let (object, name) = two_names(alloc, words)?;
-    let coll = the_collection(alloc)?;
+    let coll = coll.copy(alloc)?;
     Ok(match kind {
         ValueRead::Attr => Command::GetAttr { coll, object, name },
         ValueRead::Omap => Command::OmapGet {
@@ -93,19 +98,24 @@ fn of_value(alloc: Global, kind: ValueRead, words: Words<'_>) -> Result<Command,
 }
 
 /// A read, from its second word on.
-fn asked(alloc: Global, kind: ReadKind, words: Words<'_>) -> Result<Command, CaseError> {
+fn asked(
+    alloc: Global,
+    coll: &CollName,
+    kind: ReadKind,
+    words: Words<'_>,
+) -> Result<Command, CaseError> {
     match kind {
-        ReadKind::List => list(alloc, words),
-        ReadKind::Read => read(alloc, words),
-        ReadKind::Object(kind) => of_object(alloc, kind, words),
-        ReadKind::Value(kind) => of_value(alloc, kind, words),
+        ReadKind::List => list(alloc, coll, words),
+        ReadKind::Read => read(alloc, coll, words),
+        ReadKind::Object(kind) => of_object(alloc, coll, kind, words),
+        ReadKind::Value(kind) => of_value(alloc, coll, kind, words),
     }
 }
 
-/// The read of a line, where it is one.
-pub fn question(alloc: Global, line: &str) -> Result<Option<Command>, CaseError> {
+/// The read of a collection that a line asks for, where it is one.
+pub fn question(alloc: Global, coll: &CollName, line: &str) -> Result<Option<Command>, CaseError> {
     match kind_of(&READ_KINDS, line) {
-        Some((kind, words)) => asked(alloc, kind, words).map(Some),
+        Some((kind, words)) => asked(alloc, coll, kind, words).map(Some),
         None => Ok(None),
     }
 }

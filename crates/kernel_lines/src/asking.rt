@@ -23,7 +23,10 @@ pub fn question(alloc: Global, mut words: Words<'_>) -> Result<Command, CaseErro
     let coll = coll_of(alloc, words.next()?.as_bytes())?;
     match question_of(alloc, &coll, words.text())? {
         Some(command) if is_read(&command) => Ok(command),
-        _ => Err(CaseError::Line("no read")),
+        other => {
+            drop(other);
+            Err(CaseError::Line("no read"))
+        }
     }
 }
 

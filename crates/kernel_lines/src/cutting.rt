@@ -53,6 +53,14 @@ impl KernelLines {
         }
     }
 
+    /// Counts the images of each cut of a log, torn in each way, where each commit counts as acknowledged so many events too early.
+    pub fn judge(&self, left: &Left, earlier: u64, counts: &mut Counts) -> Result<(), CaseError> {
+        let judge = Judge::new(self.alloc, left, &self.history, earlier)?;
+        let judged = judge.judge_all(left, counts);
+        drop(judge);
+        judged
+    }
+
     /// Follows `cuts`: looks at each cut of the log, torn in each way, and shows the images that are of no front of the commits with all
     /// that were acknowledged; and `cuts BY`, where each commit counts as acknowledged so many events too early.
     pub fn cuts(&self, words: Words<'_>, out: &mut Text) -> Result<(), CaseError> {
@@ -63,7 +71,7 @@ impl KernelLines {
         };
         let left = self.left()?;
         let mut counts = Counts::new(self.alloc);
-        Judge::new(self.alloc, left, &self.history, earlier)?.judge_all(left, &mut counts)?;
+        self.judge(left, earlier, &mut counts)?;
         counts.print(None, out);
         Ok(())
     }

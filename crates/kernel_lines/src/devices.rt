@@ -118,7 +118,9 @@ impl KernelLines {
         let dev = self.setup.device(name)?;
         let dev = make_store(self.alloc, dev, half, out);
         print_device(&dev, out);
-        self.keep(name, &dev)
+        let kept = self.keep(name, &dev);
+        drop(dev);
+        kept
     }
 
     /// Follows `mount NAME`, from its second word on.
@@ -136,18 +138,22 @@ impl KernelLines {
             }
             Err((fail, dev)) => {
                 print_mount_fail(&fail, out);
+                drop(fail);
                 print_device(&dev, out);
-                self.keep(name, &dev)
+                let kept = self.keep(name, &dev);
+                drop(dev);
+                kept
             }
         }
     }
 
     fn keep_mounted(&mut self, kernel: Kernel<MemoryDevice>, out: &mut Text) {
         let free = kernel.free_units();
-        self.mounted = Some(Mounted {
+        let mounted = Mounted {
             alloc: self.alloc,
             kernel,
-        });
+        };
+        drop(self.mounted.replace(mounted));
         out.println(format_args!("mounted free={free}"));
     }
 
@@ -160,9 +166,9 @@ impl KernelLines {
         let (dev, book) = mounted.close();
         print_device(&dev, out);
         print_book(&book, out);
-        self.keep(name, &dev)?;
-        self.left = Some(Left { dev, book });
-        Ok(())
+        let kept = self.keep(name, &dev);
+        drop(self.left.replace(Left { dev, book }));
+        kept
     }
 
     /// Follows `see NAME AT COUNT`, from its second word on: shows bytes of a device, as runs of equal ones.

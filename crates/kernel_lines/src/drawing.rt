@@ -2,7 +2,7 @@
 
 use case_text::CaseError;
 use plain_reader::{COLLS, NAMES};
-use std::alloc::Global;
+use std::alloc::{AllocError, Global};
 
 /// A linear congruential generator modulo 2^64.
 #[derive(Clone, Copy)]
@@ -56,52 +56,52 @@ impl Draws {
     }
 
     /// An operation on some bytes of an object, or on all of it: it may change pages in part.
-    fn edit(&mut self, alloc: Global, name: &str, byte: u64) -> Result<String, CaseError> {
+    fn edit(&mut self, alloc: Global, name: &str, byte: u64) -> Result<String, AllocError> {
         let off = self.place();
         match self.below(4) {
-            0 => Ok(format!(in alloc; "remove {name}")?),
-            1 => Ok(format!(in alloc; "truncate {name} {off}")?),
+            0 => format!(in alloc; "remove {name}"),
+            1 => format!(in alloc; "truncate {name} {off}"),
             2 => {
                 let len = self.below(9000);
-                Ok(format!(in alloc; "zero {name} {off} {len}")?)
+                format!(in alloc; "zero {name} {off} {len}")
             }
-            _ => Ok(format!(in alloc; "write {name} {off} fill:3:{byte:02x}")?),
+            _ => format!(in alloc; "write {name} {off} fill:3:{byte:02x}"),
         }
     }
 
     /// An operation on the values of an object.
-    fn values(&mut self, alloc: Global, name: &str, byte: u64) -> Result<String, CaseError> {
+    fn values(&mut self, alloc: Global, name: &str, byte: u64) -> Result<String, AllocError> {
         let key = self.word(&["k", "l", "m"]);
         let other = self.word(&["k", "l", "m"]);
         match self.below(8) {
-            0 => Ok(format!(in alloc; "setattr {name} {key} {byte:02x}")?),
-            1 => Ok(format!(in alloc; "rmattr {name} {key}")?),
-            2 => Ok(format!(in alloc; "rmattrs {name}")?),
-            3 => Ok(format!(in alloc; "omaprm {name} {key}")?),
-            4 => Ok(format!(in alloc; "omaprmrange {name} {key} {other}")?),
-            5 => Ok(format!(in alloc; "omapclear {name}")?),
-            6 => Ok(format!(in alloc; "omapheader {name} {byte:02x}")?),
-            _ => Ok(format!(in alloc; "omapset {name} {key} {byte:02x} {other} -")?),
+            0 => format!(in alloc; "setattr {name} {key} {byte:02x}"),
+            1 => format!(in alloc; "rmattr {name} {key}"),
+            2 => format!(in alloc; "rmattrs {name}"),
+            3 => format!(in alloc; "omaprm {name} {key}"),
+            4 => format!(in alloc; "omaprmrange {name} {key} {other}"),
+            5 => format!(in alloc; "omapclear {name}"),
+            6 => format!(in alloc; "omapheader {name} {byte:02x}"),
+            _ => format!(in alloc; "omapset {name} {key} {byte:02x} {other} -"),
         }
     }
 
     /// An operation on an object: a write of one to three pages, or an edit of bytes or of values.
-    fn on_object(&mut self, alloc: Global, name: &str) -> Result<String, CaseError> {
+    fn on_object(&mut self, alloc: Global, name: &str) -> Result<String, AllocError> {
         let byte = self.below(256);
         match self.below(10) {
-            0 => Ok(format!(in alloc; "touch {name}")?),
+            0 => format!(in alloc; "touch {name}"),
             1 | 2 | 3 => self.edit(alloc, name, byte),
             4 | 5 | 6 => self.values(alloc, name, byte),
             _ => {
                 let off = self.below(3).wrapping_mul(4096);
                 let len = self.below(3).wrapping_add(1).wrapping_mul(4096);
-                Ok(format!(in alloc; "write {name} {off} fill:{len}:{byte:02x}")?)
+                format!(in alloc; "write {name} {off} fill:{len}:{byte:02x}")
             }
         }
     }
 
     /// Two to six operations on two objects, so that one meets what those before it made. At times the collection goes and comes again.
-    fn several(&mut self, alloc: Global, name: &str) -> Result<String, CaseError> {
+    fn several(&mut self, alloc: Global, name: &str) -> Result<String, AllocError> {
         let other = self.word(&NAMES);
         let mut ops = format!(in alloc; "touch {name}")?;
         for _ in 0..self.below(5).wrapping_add(1) {
@@ -110,14 +110,14 @@ impl Draws {
             ops = format!(in alloc; "{ops}; {op}")?;
         }
         match self.below(12) {
-            0 => Ok(format!(in alloc; "{ops}; remove {name}; rmcoll; mkcoll; touch {other}")?),
-            1 => Ok(format!(in alloc; "{ops}; setattr {other} k 01")?),
+            0 => format!(in alloc; "{ops}; remove {name}; rmcoll; mkcoll; touch {other}"),
+            1 => format!(in alloc; "{ops}; setattr {other} k 01"),
             _ => Ok(ops),
         }
     }
 
     /// The words of a transaction on a collection: on an object, or on the collection itself.
-    pub fn transaction(&mut self, alloc: Global) -> Result<String, CaseError> {
+    pub fn transaction(&mut self, alloc: Global) -> Result<String, AllocError> {
         let coll = self.word(&COLLS);
         let name = self.word(&NAMES);
         let ops = match self.below(12) {
@@ -126,6 +126,6 @@ impl Draws {
             2 | 3 | 4 => self.several(alloc, name)?,
             _ => self.on_object(alloc, name)?,
         };
-        Ok(format!(in alloc; "{coll} {ops}")?)
+        format!(in alloc; "{coll} {ops}")
     }
 }

@@ -13,7 +13,7 @@ use block_device::MemoryDevice;
 use case_text::{CaseError, Setup, Text, Words};
 use crc32c_csum::crc32c;
 use object_model::{Answer, Book};
-use plain_reader::{COLLS, Counts, Judge, Left, NAMES, apply, coll_of, name_of, objects_behind};
+use plain_reader::{COLLS, Counts, Left, NAMES, apply, coll_of, name_of, objects_behind};
 use plain_store::Plain;
 use std::alloc::Global;
 use store_kernel::Refused;
@@ -244,6 +244,26 @@ impl KernelLines {
         setup.device("dev")
     }
 
+    /// A list of this seed, and the store that it is for.
+    fn drawn_list(&self, name: &str, seed: u64, met: Met) -> Result<List, CaseError> {
+        let mut draws = Draws::of(seed);
+        let dev = self.drawn_device(name, &mut draws)?;
+        let mounted = mounted(self.alloc, dev)?;
+        match objects_behind(self.alloc, &self.history) {
+            Ok(accepted) => Ok(List {
+                alloc: self.alloc,
+                draws,
+                mounted,
+                accepted,
+                met,
+            }),
+            Err(error) => {
+                drop(mounted);
+                Err(error)
+            }
+        }
+    }
+
     /// Makes the calls of a list, and looks at each image of what it leaves.
     fn judge_list(
         &self,
@@ -252,19 +272,12 @@ impl KernelLines {
         met: Met,
         counts: &mut Counts,
     ) -> Result<Met, CaseError> {
-        let mut draws = Draws::of(seed);
-        let dev = self.drawn_device(name, &mut draws)?;
-        let mut list = List {
-            alloc: self.alloc,
-            draws,
-            mounted: mounted(self.alloc, dev)?,
-            accepted: objects_behind(self.alloc, &self.history)?,
-            met,
-        };
-        list.run()?;
+        let mut list = self.drawn_list(name, seed, met)?;
+        let ran = list.run();
         let (left, met) = list.close();
-        Judge::new(self.alloc, &left, &self.history, 0)?.judge_all(&left, counts)?;
-        Ok(met)
+        let judged = ran.and_then(|()| self.judge(&left, 0, counts));
+        drop(left);
+        judged.map(|()| met)
     }
 
     /// Judges a list for each seed from this one on, until there were more images than these.

@@ -70,6 +70,8 @@ impl Follow for ObjectLines {
         let coll = self.coll.copy(self.alloc)?;
         let command = command(self.alloc, coll, line)?;
         out.println(line);
-        self.answer(&command, out)
+        let answered = self.answer(&command, out);
+        drop(command);
+        answered
     }
 }

@@ -1,10 +1,14 @@
 -- Names as they are spelled.
 use Rattle.std.proofs.Common.{◌≡◌, ◌≢◌, inl, inr, ℕ, ◌≤◌, Bool, true, false, cond, List}
-use Rattle.std.proofs.Common.{[], ◌∷◌, ◌++◌, length, sym, ap, subst, ◌∙◌, arith}
+use Rattle.std.proofs.Common.{[], ◌∷◌, ◌++◌, length, sym, ap, subst, ◌∙◌, arith, rules, Result}
+use Rattle.std.specs.Prelude.{◌<◌, nat_lt}
+use Rattle.std.specs.List.{AllByRecursion}
 use Rattle.std.proofs.lemmas.Bool.{cases_Bool}
 use Rattle.unit_fields.specs.Prelude.{IsName}
-use Rattle.script_text.specs.Prelude.{HasNo, IsNameWord, is_plain, hex_pair, escape, escaped}
-use Rattle.script_text.proofs.Spelled.{IsCode, spelled-has_no, spelled_same, length-spelled-le}
+use Rattle.script_text.specs.Prelude.{HasNo, EachIsByte, IsNameWord, is_plain, hex_pair, escape, escaped, Finds}
+use Rattle.script_text.specs.declared.fail.WordFail.{WordFail}
+use Rattle.script_text.proofs.Finding.{found_as}
+use Rattle.script_text.proofs.Spelled.{IsCode, spelled-has_no, spelled_same, spelled_nil, spelled_more, length-spelled-le}
 use Rattle.script_text.proofs.Digits.{pair_parts, pair_no, length-pair}
 
 -- a byte that stands for itself
@@ -111,6 +115,29 @@ plain_pair first tail b c rest more text plain also test fails front pair too ho
     let same = pair_parts 0x41 c b more rest (omega arith) (sym pair ∙ other.2) in
     let never : true ≡ false = sym holds ∙ too ∙ ap is_plain same.0 ∙ other.1 in cc
 
--- the bytes that a word spells are no name, so it spells none
-pub name_missing : (word bytes name : List ℕ) → word ≡ escaped bytes → ¬ (IsName bytes) → ¬ (IsNameWord word name)
-name_missing word bytes name spelled none is = none (subst IsName (spelled_same escape escape_code name bytes (sym is.spelled ∙ spelled)) is.named)
+plain_byte : (b : ℕ) → is_plain b ≡ true → b < 256
+plain_byte b plain = elim (cases_Bool (nat_lt b 256)) [
+  | inl lt ↦ search rules
+  | inr ge ↦ search rules
+]
+
+-- a word of bytes that stand for themselves spells itself
+pub plain_spelled : (word : List ℕ) → AllByRecursion (λ b. is_plain b ≡ true) word → EachIsByte word × (word ≡ escaped word)
+plain_spelled [] plain = (tt, sym (spelled_nil escape))
+plain_spelled (b ∷ bs) plain =
+    let rest = plain_spelled bs plain.1 in (
+      (plain_byte b plain.0, rest.0),
+      ap (λ (l : List ℕ). b ∷ l) rest.1 ∙ sym (spelled_more escape b bs ∙ ap (λ (l : List ℕ). l ++ escaped bs) (escape_plain b plain.0)),
+    )
+
+-- a word spells a name where the bytes that it spells are one
+pub name_read : (word bytes : List ℕ) (r : Result (List ℕ) WordFail) → EachIsByte bytes → word ≡ escaped bytes
+    → Finds (λ name. (name ≡ bytes) × IsName bytes) r → Finds (IsNameWord word) r
+name_read word bytes r are spelled = found_as (λ (name : List ℕ). (name ≡ bytes) × IsName bytes) (IsNameWord word) r
+    (λ name is. record {
+      named = subst IsName (sym is.0) is.1;
+      are_bytes = subst EachIsByte (sym is.0) are;
+      spelled = spelled ∙ ap escaped (sym is.0);
+    })
+    (λ name is.
+    let same : name ≡ bytes = spelled_same escape escape_code name bytes (sym is.spelled ∙ spelled) in (name, (same, subst IsName same is.named)))

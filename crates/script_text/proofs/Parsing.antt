@@ -197,12 +197,9 @@ together_own so_far first more both a b r some a_is b_is test own is =
 
 -- ---- where the block was taken out
 
--- a line outside of a block
-pub outside_now : (n : ℕ) (p q new : Parse) (s : Statement) (o : Option Block) (fits : Bool) → p ≡ q → p.block ≡ None → o ≡ None
-    → Becomes (outside n (record p { block = o }) s) fits new → Becomes (next n q s) fits new
-outside_now n p q new s o fits same none taken becomes =
-    becomes_same (next n q s) (outside n (record p { block = o }) s) fits new
-    (ap (λ (r : Parse). next n r s) (sym same) ∙ next_outside n p s none ∙ ap (λ (x : Option Block). outside n (record p { block = x }) s) (none ∙ sym taken)) becomes
+-- a line behind others, where no block isn't ended
+pub outside_now : (n : ℕ) (p new : Parse) (s : Statement) (fits : Bool) → p.block ≡ None → Becomes (outside n p s) fits new → Becomes (next n p s) fits new
+outside_now n p new s fits none becomes = becomes_same (next n p s) (outside n p s) fits new (next_outside n p s none) becomes
 
 -- a line in this block
 pub inside_now : (n : ℕ) (p q new : Parse) (s : Statement) (b : Block) (o : Option Block) (fits : Bool) → p ≡ q → p.block ≡ Some b

@@ -120,10 +120,6 @@ pub record IsLaterWord (word : List ℕ) : Type 0 where
   pub no_stat : word ≢ codes "stat"
   pub no_list : word ≢ codes "list"
 
--- what a line was found to be; None where it is outside the grammar
-abbrev pub IsReading : List ℕ → Option Statement → Type 0
-IsReading text found = MatchOption found (IsOutside text) (Says text)
-
 -- where something fits, this is what is there now
 abbrev pub Becomes : Option Parse → Bool → Parse → Type 0
 Becomes None fits new = fits ≡ false

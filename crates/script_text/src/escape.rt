@@ -1,5 +1,7 @@
 //! Names as they are spelled.
-ghost use Rattle.std.specs.Prelude.{◌≡◌, ◌≢◌, ◌++◌, ◌<◌, ℕ, List, MatchOption, MatchResult};
+ghost use Rattle.std.specs.Prelude.{◌≡◌, ◌≢◌, ◌↔◌, ◌++◌, ◌<◌, ℕ, List, MatchOption, MatchResult, true, IsTrue};
+ghost use Rattle.std.specs.List.{AllByRecursion};
+ghost use Rattle.unit_fields.specs.Prelude.{IsName};
 ghost use Rattle.script_text.specs.Grammar.{EachIsByte, IsNameWord, is_plain, hex_digit_from, escape, escaped};
 ghost use Rattle.script_text.specs.Reading.{Finds};
 ghost use Rattle.script_text.specs.declared.fail.WordFail.TheVariants.{NotSpelled};
@@ -62,19 +64,36 @@ fn unescaped(alloc: Global, word: &[u8]) -> Result<Vec<u8>, WordFail>
     Ok(bytes)
 }
 
-/// The name that a word spells.
+/// Whether each byte of a word stands for itself.
+fn is_plain_word(word: &[u8]) -> bool
+    ensures { IsTrue result ↔ AllByRecursion (λ b. is_plain b ≡ true) word.now }
+{
+    word.iter().all(|byte| is_plain_byte(*byte))
+}
+
+/// The name with these bytes.
+fn name_of(alloc: Global, bytes: &[u8]) -> Result<Name, WordFail>
+    ensures { Finds (λ name. (name ≡ bytes.now) × IsName bytes.now) result }
+{
+    match Name::read(alloc, bytes) {
+        Ok(Some(name)) => Ok(name),
+        Ok(None) => Err(WordFail::NotSpelled),
+        Err(AllocError) => Err(WordFail::Memory),
+    }
+}
+
+/// The name that a word spells. Most words are their names: such a one is not written anew.
 pub fn read_name(alloc: Global, word: &[u8]) -> Result<Name, WordFail>
     ensures { Finds (IsNameWord word.now) result }
 {
     if WORD_LIMIT < word.len() {
         return Err(WordFail::NotSpelled);
     }
-    let bytes = unescaped(alloc, word)?;
-    match Name::read(alloc, bytes.as_slice()) {
-        Ok(Some(name)) => Ok(name),
-        Ok(None) => Err(WordFail::NotSpelled),
-        Err(AllocError) => Err(WordFail::Memory),
+    if is_plain_word(word) {
+        return name_of(alloc, word);
     }
+    let bytes = unescaped(alloc, word)?;
+    name_of(alloc, bytes.as_slice())
 }
 
 /// A digit of sixteen, where those from ten on are capital letters.

@@ -1,8 +1,9 @@
 //! What a line says.
-ghost use Rattle.std.specs.Prelude.{◌≡◌, ◌↔◌, ◌++◌, ◌∷◌, [], IfOk, IsTrue, codes};
+ghost use Rattle.std.specs.Prelude.{◌≡◌, ◌↔◌, ◌++◌, ◌∷◌, [], IsTrue, codes};
 ghost use Rattle.unit_fields.specs.Prelude.{IsCollName};
 ghost use Rattle.script_text.specs.Grammar.{HasNo, IsDataWord, IsLineOf, IsNameWord, IsPassedOver};
-ghost use Rattle.script_text.specs.Reading.{AreGoodWords, Finds, IsReading, NamesObject, NamesRange, NamesSize};
+ghost use Rattle.script_text.specs.Blocks.{Says};
+ghost use Rattle.script_text.specs.Reading.{AreGoodWords, Finds, NamesObject, NamesRange, NamesSize};
 
 use crate::both::both;
 use crate::change::KeptOp;
@@ -217,28 +218,36 @@ fn read_words(alloc: Global, word: &[u8], rest: &[u8]) -> Result<Said, WordFail>
     ensures { Finds (IsLineOf (word.now ++ (0x20 ∷ rest.now))) result }
 {
     if is_text(word, b"mkcoll") {
-        read_mkcoll(alloc, rest)
-    } else if is_text(word, b"touch") {
-        read_touch(alloc, rest)
-    } else if is_text(word, b"write") {
-        read_write(alloc, rest)
-    } else if is_text(word, b"zero") {
-        read_zero(alloc, rest)
-    } else if is_text(word, b"truncate") {
-        read_truncate(alloc, rest)
-    } else if is_text(word, b"remove") {
-        read_remove(alloc, rest)
-    } else if is_text(word, b"read") {
-        read_read(alloc, rest)
-    } else if is_text(word, b"sum") {
-        read_sum(alloc, rest)
-    } else if is_text(word, b"stat") {
-        read_stat(alloc, rest)
-    } else if is_text(word, b"list") {
-        read_list(alloc, rest)
-    } else {
-        read_value_words(alloc, word, rest)
+        return read_mkcoll(alloc, rest);
     }
+    if is_text(word, b"touch") {
+        return read_touch(alloc, rest);
+    }
+    if is_text(word, b"write") {
+        return read_write(alloc, rest);
+    }
+    if is_text(word, b"zero") {
+        return read_zero(alloc, rest);
+    }
+    if is_text(word, b"truncate") {
+        return read_truncate(alloc, rest);
+    }
+    if is_text(word, b"remove") {
+        return read_remove(alloc, rest);
+    }
+    if is_text(word, b"read") {
+        return read_read(alloc, rest);
+    }
+    if is_text(word, b"sum") {
+        return read_sum(alloc, rest);
+    }
+    if is_text(word, b"stat") {
+        return read_stat(alloc, rest);
+    }
+    if is_text(word, b"list") {
+        return read_list(alloc, rest);
+    }
+    read_value_words(alloc, word, rest)
 }
 
 /// What a line says.
@@ -261,22 +270,21 @@ fn is_passed_over(text: &[u8]) -> bool
     }
 }
 
-/// Reads the text of a line, without its line feed. It gives None for one outside the grammar.
-pub fn read_statement(alloc: Global, text: &[u8]) -> Result<Option<Statement>, AllocError>
-    ensures { IfOk result (IsReading text.now) }
+/// Reads the text of a line, without its line feed.
+pub fn read_statement(alloc: Global, text: &[u8]) -> Result<Statement, WordFail>
+    ensures { Finds (Says text.now) result }
 {
     if is_passed_over(text) {
-        return Ok(Some(Statement::PassedOver));
+        return Ok(Statement::PassedOver);
     }
     if is_text(text, b"begin") {
-        return Ok(Some(Statement::Begin));
+        return Ok(Statement::Begin);
     }
     if is_text(text, b"end") {
-        return Ok(Some(Statement::End));
+        return Ok(Statement::End);
     }
     match read_line(alloc, text) {
-        Ok(said) => Ok(Some(Statement::Says(said))),
-        Err(WordFail::NotSpelled) => Ok(None),
-        Err(WordFail::Memory) => Err(AllocError),
+        Ok(said) => Ok(Statement::Says(said)),
+        Err(why) => Err(why),
     }
 }

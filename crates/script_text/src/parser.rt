@@ -1,5 +1,5 @@
 //! The lines of a script, grouped into commands and `wait`s.
-ghost use Rattle.std.specs.Prelude.{◌≡◌, ◌&&◌, false, OnOk, IfOk, MatchOption, IsSome, IsNone};
+ghost use Rattle.std.specs.Prelude.{◌≡◌, ◌&&◌, false, OnOk, IfOk, MatchOption, IsSome, IsNone, ℕ};
 ghost use Rattle.object_model.specs.declared.command.Command.TheVariants.{Change};
 ghost use Rattle.script_text.specs.declared.grammar.Statement.TheVariants.{Begin, End, Says};
 ghost use Rattle.script_text.specs.declared.line.What.TheVariants.{Command as Commands};
@@ -199,14 +199,26 @@ impl Parser {
         Ok(true)
     }
 
+    /// Takes a line of the block that isn't ended.
+    #[inline(never)]
+    fn take_in_block(&mut self, statement: Statement) -> Result<bool, AllocError>
+        requires { IsSome self.old.block }
+        ensures { IfOk result (λ fits. (n : ℕ) → Becomes (next n self.old statement) fits self.new) }
+    {
+        match self.block.take() {
+            Some(block) => self.take_inside(block, statement),
+            None => unreachable!(),
+        }
+    }
+
     /// Takes what the line of this number is. False if it can't stand there.
     pub fn take(&mut self, line: u32, statement: Statement) -> Result<bool, AllocError>
         ensures { IfOk result (λ fits. Becomes (next line self.old statement) fits self.new) }
     {
-        match self.block.take() {
-            None => self.take_outside(line, statement),
-            Some(block) => self.take_inside(block, statement),
+        if self.block.is_none() {
+            return self.take_outside(line, statement);
         }
+        self.take_in_block(statement)
     }
 
     /// The commands and `wait`s; None while a block isn't ended.

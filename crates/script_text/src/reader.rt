@@ -2,8 +2,10 @@
 ghost use Rattle.std.specs.Prelude.{◌≡◌, ◌+◌, ◌<◌, ◌≤◌, ◌++◌, ◌∷◌, [], ℕ, List, length, OnOk, IfOk, IfErr, IsErrOf};
 ghost use Rattle.script_text.specs.Grammar.{HasNo};
 ghost use Rattle.script_text.specs.Script.{script_limit, IsScript, IsBadAt};
-ghost use Rattle.script_text.specs.Reading.{IsReading, Ends, Takes, IsAfter, IsAtEnd, IfLine};
+ghost use Rattle.script_text.specs.Blocks.{Says};
+ghost use Rattle.script_text.specs.Reading.{Finds, Ends, Takes, IsAfter, IsAtEnd, IfLine};
 
+use crate::fail::WordFail;
 use crate::grammar::{Statement, read_statement};
 use crate::parser::Parser;
 use crate::split::split_once;
@@ -41,15 +43,16 @@ impl Reader {
     }
 
     /// Takes what the next line was found to be.
-    fn take_reading(&mut self, found: Option<Statement>) -> Result<(), AllocError>
+    fn take_reading(&mut self, found: Result<Statement, WordFail>) -> Result<(), AllocError>
         requires { self.old.count ≤ script_limit }
         ensures count { OnOk result (self.new.count ≡ self.old.count) }
-        ensures ends { OnOk result (Ends (λ text. IsReading text found) self.old self.new) }
+        ensures ends { OnOk result (Ends (λ text. Finds (Says text) found) self.old self.new) }
     {
         let line = self.count + 1;
         let fits = match found {
-            Some(statement) => self.parser.take(line, statement)?,
-            None => false,
+            Ok(statement) => self.parser.take(line, statement)?,
+            Err(WordFail::NotSpelled) => false,
+            Err(WordFail::Memory) => return Err(AllocError),
         };
         if !fits {
             self.bad = Some(line);
@@ -64,7 +67,7 @@ impl Reader {
         ensures text { OnOk result (self.new.text.items ≡ []) }
         ensures ends { OnOk result (Ends (λ text. text ≡ self.old.text.items) self.old self.new) }
     {
-        let found = read_statement(alloc, self.text.as_slice())?;
+        let found = read_statement(alloc, self.text.as_slice());
         self.take_reading(found)?;
         self.count += 1;
         self.text.clear();

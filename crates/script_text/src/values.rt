@@ -208,30 +208,40 @@ pub fn read_value_words(alloc: Global, word: &[u8], rest: &[u8]) -> Result<Said,
     ensures { Finds (IsLineOf (word.now ++ (0x20 ∷ rest.now))) result }
 {
     if is_text(word, b"rmcoll") {
-        read_rmcoll(alloc, rest)
-    } else if is_text(word, b"setattr") {
-        read_setattr(alloc, rest)
-    } else if is_text(word, b"rmattr") {
-        read_rmattr(alloc, rest)
-    } else if is_text(word, b"rmattrs") {
-        read_rmattrs(alloc, rest)
-    } else if is_text(word, b"omapset") {
-        read_omapset(alloc, rest)
-    } else if is_text(word, b"omaprm") {
-        read_omaprm(alloc, rest)
-    } else if is_text(word, b"omaprmrange") {
-        read_omaprmrange(alloc, rest)
-    } else if is_text(word, b"omapclear") {
-        read_omapclear(alloc, rest)
-    } else if is_text(word, b"omapheader") {
-        read_omapheader(alloc, rest)
-    } else if is_text(word, b"getattr") {
-        read_getattr(alloc, rest)
-    } else if is_text(word, b"omapget") {
-        read_omapget(alloc, rest)
-    } else if is_text(word, b"omaphdr") {
-        read_omaphdr(alloc, rest)
-    } else {
-        Err(WordFail::NotSpelled)
+        return read_rmcoll(alloc, rest);
     }
+    if is_text(word, b"setattr") {
+        return read_setattr(alloc, rest);
+    }
+    if is_text(word, b"rmattr") {
+        return read_rmattr(alloc, rest);
+    }
+    if is_text(word, b"rmattrs") {
+        return read_rmattrs(alloc, rest);
+    }
+    if is_text(word, b"omapset") {
+        return read_omapset(alloc, rest);
+    }
+    if is_text(word, b"omaprm") {
+        return read_omaprm(alloc, rest);
+    }
+    if is_text(word, b"omaprmrange") {
+        return read_omaprmrange(alloc, rest);
+    }
+    if is_text(word, b"omapclear") {
+        return read_omapclear(alloc, rest);
+    }
+    if is_text(word, b"omapheader") {
+        return read_omapheader(alloc, rest);
+    }
+    if is_text(word, b"getattr") {
+        return read_getattr(alloc, rest);
+    }
+    if is_text(word, b"omapget") {
+        return read_omapget(alloc, rest);
+    }
+    if is_text(word, b"omaphdr") {
+        return read_omaphdr(alloc, rest);
+    }
+    Err(WordFail::NotSpelled)
 }

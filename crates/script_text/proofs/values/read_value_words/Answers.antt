@@ -3,8 +3,8 @@ use Rattle.std.specs.Prelude.{codes}
 use Rattle.script_text.proofs.Forms.{no_line}
 use Rattle.script_text.proofs.values.read_value_words.Goals as goal
 
-pub returns-else-is_text-12 : goal.returns-else-is_text-12
-returns-else-is_text-12 c same what line =
+pub returns : goal.returns
+returns c same what line =
     let later = c.requires.later in
     let no_rmcoll : c.args.word.now ≢ codes "rmcoll" = search rules in
     let no_setattr : c.args.word.now ≢ codes "setattr" = search rules in
